@@ -1,0 +1,4 @@
+pub mod Answers
+pub mod CutLists
+pub mod Jobs
+pub mod Numbers
