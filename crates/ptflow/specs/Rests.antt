@@ -1,20 +1,18 @@
 -- What a tool that works block by block writes, told for every continuation of the input.
-use Rattle.std.specs.Prelude.{◌≡◌, ℕ, ◌+◌, ◌==◌, List, [], ◌∷◌, ◌++◌, if◌then◌else◌}
-use Rattle.std.specs.List.{flat_map}
+use Rattle.std.specs.Prelude.{◌≡◌, ℕ, ◌+◌, ◌==◌, List, [], ◌∷◌, ◌++◌, Bool, map, if◌then◌else◌}
 use Rattle.ptlines.specs.Text.{text, lines}
 use Rattle.ptlines.specs.Inputs.{Begins}
 use Rattle.ptlines.specs.Outputs.{Output, Wrote}
-use Rattle.ptlangs.specs.Jobs.{Cut}
-use Rattle.ptflow.specs.Cuts.{chosen_from, cut_line}
+use Rattle.ptflow.specs.Cuts.{chosen_from}
 
--- what `cut` writes of lines, of the first of which `before` bytes stand in front
-abbrev pub rest_of_lines : ℕ → Cut → ℕ → List (List ℕ) → List ℕ
-rest_of_lines end job before [] = if before == 0 then [] else end ∷ []
-rest_of_lines end job before (line ∷ more) = chosen_from job.selected (before + 1) line ++ end ∷ text end (flat_map (cut_line job) more)
+-- the selected bytes of each line, and behind them the end, for lines of the first of which `before` bytes stand in front
+abbrev pub rest_of_lines : ℕ → (ℕ → Bool) → ℕ → List (List ℕ) → List ℕ
+rest_of_lines end selected before [] = if before == 0 then [] else end ∷ []
+rest_of_lines end selected before (line ∷ more) = chosen_from selected (before + 1) line ++ end ∷ text end (map (chosen_from selected 1) more)
 
--- what `cut` writes of the rest of a text, of whose first line `before` bytes stand in front
-abbrev pub cut_rest : ℕ → Cut → ℕ → List ℕ → List ℕ
-cut_rest end job before rest = rest_of_lines end job before (lines end rest)
+-- the same for the lines of the rest of a text
+abbrev pub cut_rest : ℕ → (ℕ → Bool) → ℕ → List ℕ → List ℕ
+cut_rest end selected before rest = rest_of_lines end selected before (lines end rest)
 
 -- Bytes of an input were taken, and what was pushed of them stands in front of whatever is written of the rest.
 -- `rest_from x` is what is written of a rest that comes in the state x.

@@ -1,4 +1,4 @@
-ghost use Rattle.std.specs.Prelude.{◌≡◌, ◌≢◌, ◌<◌, ◌≤◌, ◌+◌, ◌^◌, ℕ, length, take, drop, true, false, None, [], ◌∷◌, ◌++◌, Err, OnOk, OnErr, IfOk, MatchResult};
+ghost use Rattle.std.specs.Prelude.{◌≡◌, ◌≢◌, ◌<◌, ◌≤◌, ◌+◌, ◌^◌, ℕ, length, take, drop, true, false, None, [], ◌∷◌, ◌++◌, Err, OnOk, OnErr, IfOk, ◌==◌, if◌then◌else◌};
 ghost use Rattle.ptlines.specs.Outputs.{Wrote};
 ghost use Rattle.ptlines.specs.Slots.{total};
 ghost use Rattle.ptlines.specs.Text.{longest_line};
@@ -18,7 +18,13 @@ use std::alloc::Allocator;
 
 // Pushes the selected bytes of a piece of a line, the first `count` of these bytes, and then all the other bytes:
 // the one that ends the line, or none. In front of the piece stand `before` bytes of the line.
-fn push_selected<W: Sink>(selected: &[Interval], before: u64, count: usize, bytes: &[u8], out: &mut Out<W>) -> Result<(), WriteFault>
+fn push_selected<W: Sink>(
+    selected: &[Interval],
+    before: u64,
+    count: usize,
+    bytes: &[u8],
+    out: &mut Out<W>,
+) -> Result<(), WriteFault>
     requires apart { AreApart 0 selected.now }
     requires within { count ≤ length bytes.now }
     requires short { before + count < 2 ^ 63 }
@@ -43,21 +49,25 @@ fn push_selected<W: Sink>(selected: &[Interval], before: u64, count: usize, byte
 
 // Pushes what is written of a block, of whose first line `before` bytes came earlier. The answer is how many bytes
 // have come of the line that goes on behind the block.
-fn push_block<W: Sink>(selected: &[Interval], ending: u8, before: u64, block: &[u8], out: &mut Out<W>) -> Result<u64, WriteFault>
-    ghost job: { Cut }
-    requires is_job { job.selected ≡ is_selected selected.now }
+fn push_block<W: Sink>(
+    selected: &[Interval],
+    ending: u8,
+    before: u64,
+    block: &[u8],
+    out: &mut Out<W>,
+) -> Result<u64, WriteFault>
     requires apart { AreApart 0 selected.now }
     requires short { before + length block.now < 2 ^ 63 }
     requires clean { out.old.faulted ≡ false }
-    ensures passes { IfOk result (λ after. Passes (cut_rest ending job) before after block.now out.old out.new) }
+    ensures passes { IfOk result (λ after. Passes (cut_rest ending (is_selected selected.now)) before after block.now out.old out.new) }
     ensures bound { IfOk result (λ after. after ≤ before + length block.now) }
-    ensures halts { OnErr result (Halts (cut_rest ending job) before block.now out.old out.new) }
+    ensures halts { OnErr result (Halts (cut_rest ending (is_selected selected.now)) before block.now out.old out.new) }
     ensures clean { OnOk result (out.new.faulted ≡ false) }
     ensures fault { OnErr result (out.new.faulted ≡ true) }
 {
     let mut before = before;
     let mut rest = block;
-    while let Some(at) = memchr(ending, rest) {
+    'lines: while let Some(at) = memchr(ending, rest) {
         push_selected(selected, before, at, &rest[..at + 1], out)?;
         before = 0;
         rest = &rest[at + 1..];
@@ -68,9 +78,8 @@ fn push_block<W: Sink>(selected: &[Interval], ending: u8, before: u64, block: &[
 
 // Ends the last line, if one goes on.
 fn push_end<W: Sink>(ending: u8, before: u64, out: &mut Out<W>) -> Result<(), WriteFault>
-    ghost job: { Cut }
     requires { out.old.faulted ≡ false }
-    ensures wrote { Wrote out.old out.new (cut_rest ending job before []) }
+    ensures wrote { Wrote out.old out.new (if before == 0 then [] else ending ∷ []) }
     ensures clean { OnOk result (out.new.faulted ≡ false) }
     ensures fault { OnErr result (out.new.faulted ≡ true) }
 {
@@ -85,7 +94,12 @@ fn push_end<W: Sink>(ending: u8, before: u64, out: &mut Out<W>) -> Result<(), Wr
 /// stays as it was, and what was selected is pushed before the next read.
 /// # Errors
 /// `Read` or `Write` where a read or a write failed.
-pub fn cut<A: Allocator + Copy, S: Source, R: Source, W: Sink>(job: &CutJob<A>, reader: &mut LineReader<S, R>, store: &mut Store<A>, out: &mut Out<W>) -> Result<(), FlowFault>
+pub fn cut<A: Allocator + Copy, S: Source, R: Source, W: Sink>(
+    job: &CutJob<A>,
+    reader: &mut LineReader<S, R>,
+    store: &mut Store<A>,
+    out: &mut Out<W>,
+) -> Result<(), FlowFault>
     requires by_bytes { job.now.fields ≡ false }
     requires opened { reader.old.refused ≡ false }
     requires readable { reader.old.fault ≡ None }
@@ -100,7 +114,7 @@ pub fn cut<A: Allocator + Copy, S: Source, R: Source, W: Sink>(job: &CutJob<A>, 
     let ending = reader.ending();
     let selected = job.list.intervals();
     let mut before = 0;
-    'blocks: loop {
+    'turns: loop {
         let count = match reader.block() {
             Ok(block) => {
                 if block.is_empty() {
