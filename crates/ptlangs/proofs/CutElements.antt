@@ -14,7 +14,7 @@ use Rattle.ptlangs.specs.Numbers.{is_nothing}
 no_dash : (b : ℕ) → is_ascii_digit b ≡ true → is_dash b ≡ false
 no_dash b h = grind (arith, nat_tests)
 
-end_is_one_piece : (m : List ℕ) → is_end m ≡ true → slice_split is_dash m ≡ m ∷ []
+pub end_is_one_piece : (m : List ℕ) → is_end m ≡ true → slice_split is_dash m ≡ m ∷ []
 end_is_one_piece [] h = refl
 end_is_one_piece (b ∷ bs) h =
     slice_split_none is_dash (b ∷ bs) (λ k d below. no_dash (get_or (b ∷ bs) k d) (AllPass-from_list_all is_ascii_digit (b ∷ bs) h k d below))

@@ -1,4 +1,6 @@
 pub mod CutElements
+pub mod CutGrammar
+pub mod CutListRows
 pub mod Decimals
 pub mod Elements
 pub mod Merging

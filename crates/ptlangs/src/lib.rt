@@ -5,3 +5,5 @@
 pub mod jobs;
 pub mod numbers;
 pub mod ranges;
+#[cfg(test)]
+mod refusing;
