@@ -1,9 +1,14 @@
 -- A tool that works block by block: what it has pushed stands in front of what is written of the rest, whatever the rest is.
-use Rattle.std.proofs.Common.{◌≡◌, ℕ, Bool, true, false, List, [], ◌++◌, refl, sym, ◌∙◌, ap, append_assoc}
+use Rattle.std.proofs.Common.{◌≡◌, ℕ, ◌+◌, ◌≤◌, false, List, [], ◌++◌, None, length, take, drop, refl, sym, ◌∙◌, ap, subst, arith, append_assoc}
+use Rattle.std.proofs.lemmas.List.{take_all}
+use Rattle.ptlines.proofs.Known.{prepend_known-nil}
+use Rattle.ptlines.proofs.Filling.{goes_trans}
+use Rattle.ptlines.proofs.Scanned.{goes_front}
 use Rattle.std.proofs.lemmas.Bool.{false≢true}
 use Rattle.ptlines.specs.Inputs.{Begins}
 use Rattle.ptlines.specs.Outputs.{Output, Wrote}
 use Rattle.ptlines.proofs.Pushed.{wrote_nothing, wrote_trans}
+use Rattle.ptlines.specs.Readers.{Reader, Goes, IsSound, unread}
 use Rattle.ptflow.specs.Rests.{Passes, Halts}
 
 -- amid a block, of which these bytes are still to come
@@ -50,3 +55,51 @@ module _ {X : Type 0} (rest_from : X → List ℕ → List ℕ) (start : X) wher
         is = a.on more ∙ ap (λ (l : List ℕ). a.pushed ++ l) b.is ∙ sym (append_assoc a.pushed bytes b.rest);
       };
     }
+
+-- These bytes were given and passed on.
+pub record Passing {X : Type 0} (rest_from : X → List ℕ → List ℕ) (start now : X) (old reader : Reader) (was is : Output) : Type 0 where
+  pub given : List ℕ
+  pub goes : Goes old reader given
+  pub passes : Passes rest_from start now given was is
+  pub clean : is.faulted ≡ false
+
+-- nothing was given yet
+pub goes_nothing : (r : Reader) → r.fault ≡ None → Goes r r []
+goes_nothing r clean = record {
+  reads = record { moved = sym (prepend_known-nil (unread r)); count = omega arith; refused = refl; ending = refl; still = λ ended. (refl, ended); end = λ h. h };
+  fault = clean;
+  failed = refl;
+  short = λ h. h;
+}
+
+module _ {X : Type 0} (rest_from : X → List ℕ → List ℕ) (start : X) where
+  pub passing_starts : (old : Reader) (was : Output) → old.fault ≡ None → was.faulted ≡ false → Passing rest_from start start old old was was
+  passing_starts old was clean writable = record {
+    given = [];
+    goes = goes_nothing old clean;
+    passes = record { pushed = []; wrote = wrote_nothing was (λ fault. absurd (false≢true (sym writable ∙ fault))); on = λ rest. refl };
+    clean = writable;
+  }
+
+  module _ (now next : X) (old reader mid new : Reader) (block : List ℕ) (was is is' : Output) (p : Passing rest_from start now old reader was is) (shown : Goes reader mid []) (held : mid.held ≡ block) where
+    -- all that came is counted
+    pub passing_counts : IsSound old → length p.given + length block ≤ mid.pulled
+    passing_counts sound = omega (arith, p.goes.reads.count, shown.reads.count, ap length held, sound.count)
+
+    -- the block was passed on and consumed
+    unfoldable pub passing_more : new ≡ record mid { held = drop (length block) mid.held } → Passes rest_from now next block is is' → is'.faulted ≡ false → Passing rest_from start next old new was is'
+    passing_more consumed b clean = record {
+      given = p.given ++ block;
+      goes = goes_trans old reader new p.given block p.goes whole;
+      passes = record {
+        pushed = p.passes.pushed ++ b.pushed;
+        wrote = wrote_trans was is is' p.passes.pushed b.pushed p.clean p.passes.wrote b.wrote;
+        on = λ rest. ap (rest_from start) (append_assoc p.given block rest) ∙ p.passes.on (block ++ rest) ∙ ap (λ (l : List ℕ). p.passes.pushed ++ l) (b.on rest) ∙ sym (append_assoc p.passes.pushed b.pushed (rest_from next rest));
+      };
+      clean = clean;
+    }
+      where
+        whole : Goes reader new block
+        whole =
+            let all : take (length block) mid.held ≡ block = ap (λ (h : List ℕ). take (length block) h) held ∙ take_all (length block) block (omega arith) in
+            goes_trans reader mid new [] block shown (subst (λ (b : List ℕ). Goes mid new b) all (goes_front mid new (length block) shown.fault (omega (arith, ap length held)) consumed))

@@ -1,5 +1,5 @@
 -- What a run of a tool over one reader is.
-use Rattle.std.specs.Prelude.{◌≡◌, ◌≤◌, ◌<◌, ◌^◌, ℕ, Bool, true, false, List, None, Result, Ok, Err, max}
+use Rattle.std.specs.Prelude.{◌≡◌, ◌≤◌, ◌<◌, ◌^◌, ℕ, true, false, List, None, Result, Ok, Err, max}
 use Rattle.ptlines.specs.Readers.{Reader, IsDone, HasReadCause}
 use Rattle.ptlines.specs.Inputs.{Given, Begins, Agrees, Came}
 use Rattle.ptlines.specs.Outputs.{Output, Wrote}

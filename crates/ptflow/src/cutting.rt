@@ -118,12 +118,10 @@ pub fn cut<A: Allocator + Copy, S: Source, R: Source, W: Sink>(
         let count = match reader.block() {
             Ok(block) => {
                 if block.is_empty() {
-                    return push_end(ending, before, out).map_err(|_| FlowFault::Write);
+                    push_end(ending, before, out)?;
+                    return Ok(());
                 }
-                match push_block(selected, ending, before, block, out) {
-                    Ok(after) => before = after,
-                    Err(_) => return Err(FlowFault::Write),
-                }
+                before = push_block(selected, ending, before, block, out)?;
                 block.len()
             }
             Err(_) => return Err(FlowFault::Read(0)),

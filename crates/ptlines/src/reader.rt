@@ -109,7 +109,8 @@ impl<S: Source, R: Source> LineReader<S, R> {
 
     /// The byte that ends a line.
     pub fn ending(&self) -> u8
-        ensures { result ≡ self.now.ending }
+        ensures ending { result ≡ self.now.ending }
+        ensures sound { IsSound self.now }
     {
         self.ending
     }

@@ -1,6 +1,4 @@
-use Rattle.std.proofs.Common.{◌≡◌, ◌+◌, ℕ, false, List, ◌++◌, take, drop}
-use Rattle.ptlines.specs.Outputs.{Output, Wrote}
-use Rattle.ptlangs.specs.CutLists.{is_selected, AreApart}
+use Rattle.std.proofs.Common.{◌+◌, take, drop}
 use Rattle.ptflow.proofs.Chosen.{Choosing}
 use Rattle.ptflow.proofs.cutting.push_selected.Given as goal
 
