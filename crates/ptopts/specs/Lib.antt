@@ -1,0 +1,3 @@
+pub mod Words
+pub mod Faults
+pub mod Laws
