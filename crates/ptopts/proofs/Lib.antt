@@ -1,2 +1,5 @@
 pub mod Spelled
 pub mod Read
+pub mod Seen
+pub mod Groups
+pub mod Readings

@@ -1,8 +1,8 @@
 -- What is spelled is read.
 use Rattle.std.proofs.Common.{◌≡◌, ℕ, ◌==◌, List, [], ◌∷◌, ◌++◌, Bool, true, false, refl, ap, sym, ◌∙◌, subst, map, append_assoc, not, Option, Some, ⊎_elim}
-use Rattle.std.specs.Prelude.{IsTrue, slice_get}
+use Rattle.std.specs.Prelude.{IsTrue, slice_get, nat_lt, ◌<◌}
 use Rattle.std.specs.List.{list_all}
-use Rattle.std.proofs.lemmas.Bool.{and_parts, eqb-true, or_cases, not-true, ne_eqb, cases_Bool}
+use Rattle.std.proofs.lemmas.Bool.{and_parts, eqb-true, or_cases, not-true, ne_eqb, cases_Bool, ltb-true}
 use Rattle.ptopts.specs.declared.tool.Tool.{Tool}
 use Rattle.ptopts.specs.declared.tool.Tool.TheVariants.{Cut, Paste, Uniq, Comm, Join, Tr}
 use Rattle.ptopts.specs.Words.{flags, valued, has_letter, is_flag, takes_value, GivenOption, flag, with_value, AreFlags, Spells, OperandsAlone, EndOfOptions, Flags, ValueAttached, ValueNext, Event, Given, events_in, takes_next, Reading, reading_from, behind, begins_with_operand}
@@ -151,3 +151,15 @@ spelled tool (ValueNext fs l value words options operands a t s) =
     (events_in-flags tool word (Some value) fs (l ∷ []) a ∙ ap (λ (es : List Event). map Given (map flag fs) ++ es) (value_next tool word value l t))
     (takes_next-flags tool fs (l ∷ []) a ∙ takes_one tool l t)
     ∙ (ap (behind (map Given (map flag fs) ++ Given (with_value l value) ∷ [])) (spelled tool s) ∙ join_group fs (with_value l value) options operands))
+
+-- the letters are ASCII
+valued_are_ascii : (tool : Tool) → list_all (λ l. nat_lt l 128) (valued tool) ≡ true
+valued_are_ascii Cut = refl
+valued_are_ascii Paste = refl
+valued_are_ascii Uniq = refl
+valued_are_ascii Comm = refl
+valued_are_ascii Join = refl
+valued_are_ascii Tr = refl
+
+pub valued_is_ascii : (tool : Tool) (l : ℕ) → takes_value tool l ≡ true → l < 128
+valued_is_ascii tool l h = ltb-true l 128 (all_of (λ x. nat_lt x 128) (valued tool) l (valued_are_ascii tool) h)

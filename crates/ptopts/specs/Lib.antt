@@ -1,3 +1,4 @@
 pub mod Words
 pub mod Faults
 pub mod Laws
+pub mod Answers

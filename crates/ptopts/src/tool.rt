@@ -1,7 +1,8 @@
 //! The tools, and the letters that each of them takes.
 
 ghost use Rattle.std.specs.Prelude.{◌≡◌, Bool};
-ghost use Rattle.ptopts.specs.Words.{tool_named, flags, valued, is_flag, takes_value};
+ghost use Rattle.ptopts.specs.Words.{tool_named, flags, valued, is_flag, takes_value, has_letter};
+ghost use Rattle.ptopts.specs.Faults.{repeatable};
 
 /// One of the six tools.
 #[derive(Clone, Copy, Debug, PartialEq, Eq)]
@@ -70,5 +71,13 @@ impl Tool {
         ensures { result ≡ takes_value self letter }
     {
         self.valued().contains(&letter)
+    }
+
+    /// Whether the letter may be given with several values (POSIX.1-2017, XCU, `join`, for `-a`; this
+    /// project's own choice for `-v`).
+    pub fn may_repeat(self, letter: u8) -> bool
+        ensures { result ≡ has_letter letter (repeatable self) }
+    {
+        self == Tool::Join && (letter == b'a' || letter == b'v')
     }
 }
