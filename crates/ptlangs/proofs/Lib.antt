@@ -1,0 +1,7 @@
+pub mod CutElements
+pub mod CutGrammar
+pub mod CutListRows
+pub mod Decimals
+pub mod Elements
+pub mod Merging
+pub mod Reading
