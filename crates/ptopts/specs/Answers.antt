@@ -27,6 +27,11 @@ abbrev pub Finds : {A : Type 0} → Result A UseFault → Option Fault → Type 
 Finds (Ok x) fault = fault ≡ None
 Finds (Err e) fault = IsSome (meant e) × (meant e ≡ fault)
 
+-- the same of a step that memory can be refused to
+abbrev pub FindsUnlessRefused : {A : Type 0} → Result A UseFault → Option Fault → Type 0
+FindsUnlessRefused (Ok x) fault = fault ≡ None
+FindsUnlessRefused (Err e) fault = OnSome (meant e) (meant e ≡ fault)
+
 abbrev pub option_seen : given.GivenOption → GivenOption
 option_seen o = record { letter = o.letter; value = option_map (λ v. v.now) o.value }
 

@@ -1,4 +1,5 @@
 pub mod Words
 pub mod Faults
 pub mod Laws
+pub mod Commands
 pub mod Answers

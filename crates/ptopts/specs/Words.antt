@@ -1,5 +1,5 @@
 -- How the words of a command are options and operands (POSIX.1-2017, XBD 12.2).
-use Rattle.std.specs.Prelude.{ℕ, ◌==◌, ◌&&◌, List, [], ◌∷◌, ◌++◌, Bool, true, false, not, Option, Some, None, if◌then◌else◌, map, filter_map, drop, codes, bytes_eq, IsTrue, slice_get, find, option_map}
+use Rattle.std.specs.Prelude.{ℕ, ◌==◌, ◌&&◌, List, [], ◌∷◌, ◌++◌, Bool, true, false, not, Option, Some, None, if◌then◌else◌, map, filter_map, drop, codes, bytes_eq, IsTrue, slice_get, find, option_map, option_and_then}
 use Rattle.std.specs.List.{list_all, list_any}
 use Rattle.std.specs.Option.{option_map_or}
 use Rattle.ptopts.specs.declared.tool.Tool.{Tool}
@@ -147,3 +147,7 @@ options reading = filter_map option_in reading.events
 -- the letter was given
 abbrev pub has : ℕ → List GivenOption → Bool
 has letter options = list_any (λ o. o.letter == letter) options
+
+-- the value of a letter that is given once
+abbrev pub value_of : ℕ → List GivenOption → Option (List ℕ)
+value_of letter options = option_and_then (λ o. o.value) (find (λ o. o.letter == letter) options)
