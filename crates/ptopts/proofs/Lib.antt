@@ -3,3 +3,4 @@ pub mod Read
 pub mod Seen
 pub mod Groups
 pub mod Readings
+pub mod Chosen

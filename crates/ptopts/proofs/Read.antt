@@ -2,11 +2,12 @@
 use Rattle.std.proofs.Common.{◌≡◌, ℕ, ◌==◌, List, [], ◌∷◌, ◌++◌, Bool, true, false, refl, ap, sym, ◌∙◌, subst, map, append_assoc, Option, Some, None, ◌&&◌, ⊎_elim, codes}
 use Rattle.std.specs.Prelude.{slice_get, is_some, filter_map}
 use Rattle.std.specs.List.{list_all}
+use Rattle.std.specs.Option.{option_or}
 use Rattle.std.proofs.lemmas.Bool.{and_from, eqb-true, cases_Bool, not_from_false}
 use Rattle.std.proofs.lemmas.Slice.Eq.{bytes_eq-Decides}
 use Rattle.ptopts.specs.declared.tool.Tool.{Tool}
 use Rattle.ptopts.specs.Words.{is_flag, takes_value, is_empty, is_dashed, is_end_of_options, GivenOption, flag, with_value, AreFlags, Spells, OperandsAlone, EndOfOptions, Flags, ValueAttached, ValueNext, Event, Given, Wanting, Stranger, valued_event, events_in, takes_next, Reading, reading_from, option_in, options}
-use Rattle.ptopts.specs.Faults.{Twice, NeedsValue, is_spent, or_else, event_fault, reading_fault}
+use Rattle.ptopts.specs.Faults.{Twice, NeedsValue, is_spent, event_fault, reading_fault}
 use Rattle.ptopts.specs.Laws.{ReadAsSpelled, SpelledOneWay, SpelledUnlessFaulty}
 use Rattle.ptopts.proofs.Spelled.{spelled, read_as, events_in-flags, events_in-all_flags, takes_next-flags, takes_next-all_flags}
 
@@ -168,9 +169,9 @@ spelled_one_way tool words os os' operands operands' s s' =
     let same : read_as os operands ≡ read_as os' operands' = sym (spelled tool s) ∙ spelled tool s' in
     (sym (options-map os) ∙ (ap options same ∙ options-map os'), ap (λ (r : Reading). r.operands) same)
 
-pub or_else-none : {A : Type 0} (o p : Option A) → or_else o p ≡ None → (o ≡ None) × (p ≡ None)
-or_else-none None p none = (refl, none)
-or_else-none (Some x) p none = cc
+pub option_or-none : {A : Type 0} (o p : Option A) → option_or o p ≡ None → (o ≡ None) × (p ≡ None)
+option_or-none None p none = (refl, none)
+option_or-none (Some x) p none = cc
 
 wanting_is_faulty : (tool : Tool) (before : List GivenOption) (letter : ℕ) → event_fault tool before (Wanting letter) ≡ None → ⊥
 wanting_is_faulty tool before letter none = ⊎_elim (λ t. let bad : Some (Twice letter) ≡ None = rw t at none in cc) (λ t. let bad : Some (NeedsValue letter) ≡ None = rw t at none in cc) (cases_Bool (is_spent tool before letter))
@@ -179,9 +180,9 @@ wanting_is_faulty tool before letter none = ⊎_elim (λ t. let bad : Some (Twic
 all_given_unless_faulty : (tool : Tool) (before : List GivenOption) (events : List Event) → reading_fault tool before events ≡ None → all_given events ≡ true
 all_given_unless_faulty tool before [] none = refl
 all_given_unless_faulty tool before (Given o ∷ events) none =
-    all_given_unless_faulty tool (before ++ o ∷ []) events (or_else-none (event_fault tool before (Given o)) (reading_fault tool (before ++ o ∷ []) events) none).1
+    all_given_unless_faulty tool (before ++ o ∷ []) events (option_or-none (event_fault tool before (Given o)) (reading_fault tool (before ++ o ∷ []) events) none).1
 all_given_unless_faulty tool before (Wanting letter ∷ events) none =
-    absurd (wanting_is_faulty tool before letter (or_else-none (event_fault tool before (Wanting letter)) (reading_fault tool before events) none).0)
+    absurd (wanting_is_faulty tool before letter (option_or-none (event_fault tool before (Wanting letter)) (reading_fault tool before events) none).0)
 all_given_unless_faulty tool before (Stranger word ∷ events) none = cc
 
 pub spelled_unless_faulty : SpelledUnlessFaulty

@@ -1,10 +1,10 @@
 -- What the words of a command mean: a command, or the first fault.
-use Rattle.std.specs.Prelude.{ℕ, List, [], ◌∷◌, Bool, false, Option, Some, None, Result, Ok, Err, option_and_then, slice_get, unwrap_or, codes}
+use Rattle.std.specs.Prelude.{ℕ, List, [], ◌∷◌, Bool, false, Option, Some, None, Result, Ok, Err, option_and_then, slice_get, unwrap_or, option_map, codes}
 use Rattle.std.specs.Result.{result_unwrap_or}
 use Rattle.std.specs.Str.{byte}
 use Rattle.ptlangs.specs.CutLists.{selection}
 use Rattle.ptopts.specs.declared.tool.Tool.{Tool}
-use Rattle.ptopts.specs.declared.tool.Tool.TheVariants.{Cut, Paste, Uniq, Comm, Join, Tr}
+use Rattle.ptopts.specs.declared.tool.Tool.TheVariants.{Cut}
 use Rattle.ptopts.specs.Words.{GivenOption, tool_named, Reading, reading, options, has, value_of}
 use Rattle.ptopts.specs.Faults.{Fault, NoTool, first_of, list_given, reading_fault, combination_fault, values_fault, operands_fault}
 
@@ -19,15 +19,19 @@ pub record CutJob : Type 0 where
 pub data Command : Type 0 where
   RunCut : CutJob → List (List ℕ) → Command
 
--- the one byte of a letter's value, or a default
-abbrev pub byte_given : ℕ → List GivenOption → ℕ → ℕ
-byte_given letter os default = unwrap_or (option_and_then (λ value. slice_get value 0) (value_of letter os)) default
+-- the set that a list says
+abbrev pub set_of : List ℕ → ℕ → Bool
+set_of text = result_unwrap_or (selection text) (λ n. false)
+
+-- the one byte of a letter's value
+abbrev pub byte_given : ℕ → List GivenOption → Option ℕ
+byte_given letter os = option_and_then (λ value. slice_get value 0) (value_of letter os)
 
 abbrev pub cut_job : List GivenOption → CutJob
 cut_job os = record {
   fields = has (byte "f") os;
-  list = result_unwrap_or (selection (unwrap_or (list_given os) [])) (λ n. false);
-  delim = byte_given (byte "d") os 9;
+  list = unwrap_or (option_map set_of (list_given os)) (λ n. false);
+  delim = unwrap_or (byte_given (byte "d") os) 9;
   only = has (byte "s") os;
 }
 
@@ -44,6 +48,10 @@ command _ os operands = Err NoTool
 abbrev pub unless : {A E : Type 0} → Option E → Result A E → Result A E
 unless None result = result
 unless (Some e) result = Err e
+
+-- the command of options that go together, or the first fault of their values and of the operands
+abbrev pub judged : Tool → List GivenOption → List (List ℕ) → Result Command Fault
+judged tool os operands = unless (first_of (values_fault tool os ∷ operands_fault tool os operands ∷ [])) (command tool os operands)
 
 -- the faults in their order: those of the reading, of combinations, of values, of operands
 abbrev pub first_fault : Tool → Reading → Option Fault

@@ -1,6 +1,7 @@
 -- What is wrong with the words of a command, and which fault is the first (this project's own order).
 use Rattle.std.specs.Prelude.{ℕ, ◌==◌, ◌&&◌, List, [], ◌∷◌, ◌++◌, Bool, true, false, not, Option, Some, None, if◌then◌else◌, map, length, nat_le, codes, bytes_eq, is_some, is_ok, option_and_then}
-use Rattle.std.specs.List.{list_all, list_any}
+use Rattle.std.specs.List.{list_all}
+use Rattle.std.specs.Option.{option_or}
 use Rattle.std.specs.Str.{byte}
 use Rattle.ptlangs.specs.CutLists.{selection}
 use Rattle.ptopts.specs.declared.tool.Tool.{Tool}
@@ -18,14 +19,10 @@ pub data Fault : Type 0 where
   StandardTwice : Fault
   NeedsList : Fault
 
-abbrev pub or_else : {A : Type 0} → Option A → Option A → Option A
-or_else (Some x) other = Some x
-or_else None other = other
-
 -- the first there is
 abbrev pub first_of : {A : Type 0} → List (Option A) → Option A
 first_of [] = None
-first_of (o ∷ os) = or_else o (first_of os)
+first_of (o ∷ os) = option_or o (first_of os)
 
 -- ---- reading faults
 
@@ -56,7 +53,7 @@ onto before (Stranger word) = before
 -- the leftmost, after these options
 abbrev pub reading_fault : Tool → List GivenOption → List Event → Option Fault
 reading_fault tool before [] = None
-reading_fault tool before (event ∷ events) = or_else (event_fault tool before event) (reading_fault tool (onto before event) events)
+reading_fault tool before (event ∷ events) = option_or (event_fault tool before event) (reading_fault tool (onto before event) events)
 
 -- ---- combinations
 
@@ -70,7 +67,7 @@ first_together options pairs = first_of (map (together options) pairs)
 
 -- the list of cut, which one of three letters takes
 abbrev pub list_given : List GivenOption → Option (List ℕ)
-list_given options = or_else (value_of (byte "b") options) (or_else (value_of (byte "c") options) (value_of (byte "f") options))
+list_given options = option_or (value_of (byte "b") options) (option_or (value_of (byte "c") options) (value_of (byte "f") options))
 
 abbrev pub needs_list : List GivenOption → Option Fault
 needs_list options = if is_some (list_given options) then None else Some NeedsList

@@ -3,3 +3,5 @@ pub mod Faults
 pub mod Laws
 pub mod Commands
 pub mod Answers
+pub mod Inputs
+pub mod Meant

@@ -1,4 +1,4 @@
-use Rattle.std.proofs.Common.{◌≡◌, ◌==◌, rules, ◌∙◌, tests, sym, option_map, rules, find, Option, List, ℕ, ap}
+use Rattle.std.proofs.Common.{◌==◌, rules, ◌∙◌, tests, sym, option_map, rules, List, ℕ, ap}
 use Rattle.std.specs.Prelude.{option_and_then}
 use Rattle.std.specs.Borrow.{Bor}
 use Rattle.std.proofs.lemmas.Iterator.{YieldsList-from_slice}
