@@ -1,0 +1,6 @@
+pub mod Spelled
+pub mod Read
+pub mod Seen
+pub mod Groups
+pub mod Readings
+pub mod Chosen
