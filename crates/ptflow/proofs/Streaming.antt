@@ -24,6 +24,7 @@ came_of old new bytes reads = record {
   count = omega (arith, reads.count, length-append bytes new.held);
   ended = refl;
   refused = reads.refused;
+  ending = reads.ending;
   still = reads.still;
   end = reads.end;
 }

@@ -10,7 +10,7 @@ mod source;
 mod std_ends;
 mod store;
 
-pub use out::{Out, WriteFault};
+pub use out::{Out, WriteFault, send};
 pub use reader::LineReader;
 pub use sink::{Failed, Sink};
 pub use source::Source;

@@ -17,15 +17,15 @@ use Rattle.ptlines.specs.Inputs as one
 use Rattle.ptflow.specs.declared.faults.FlowFault.{FlowFault}
 use Rattle.ptflow.specs.declared.faults.FlowFault.TheVariants.{Read, Write, Memory}
 use Rattle.ptrun.specs.Worlds.{World, Reading, at, AgreesAt, Agrees, reader_at, CameAt, IsReading, IsNew, IsFresh, HasFailed, IsTooLong, TellsAt, TellsWorld}
-use Rattle.ptrun.specs.Sayings.{Tells, failure}
+use Rattle.ptrun.specs.Sayings.{Tells}
+use Rattle.ptrun.specs.Messages.{failure}
 use Rattle.ptrun.specs.Meanings.{Meaning}
 use Rattle.ptrun.specs.Reports.{Cause, IsWhole, IsStopped, WentTo, Went, Stop, IsBroken, EndsAs, IsRun, IsExact, Headline, Finishes, Concludes}
 use Rattle.ptrun.proofs.Told.{tells_trans, tells_nothing}
 use Rattle.ptrun.proofs.Passing.{nothing_read, nothing_long, reading_of}
-use Rattle.ptrun.specs.Each.{use_meaning, use_message, use_status}
+use Rattle.ptrun.specs.Asked.{saying}
 use Rattle.ptrun.specs.Worlds.{no_reader}
 use Rattle.ptrun.specs.Reports.{IsNamed}
-use Rattle.ptrun.specs.declared.running.UseFault.{UseFault}
 use Rattle.std.proofs.Common.{zero, suc}
 
 -- ---- what reached the sink
@@ -141,21 +141,21 @@ not_started m named old fresh first told heard fine tells = record {
   bounded = λ w agrees. omega arith;
 }
 
--- the words were refused
-pub words_refused : (fault : UseFault) (old : List Reader) → ((q : ℕ) → IsFresh (reader_at old q)) → (first told heard : SinkState) (status : ℕ) → first.failed ≡ false → Tells told heard (use_message fault) → status ≡ use_status fault
-    → IsRun (use_meaning fault) old old first first told heard status 0 false
-words_refused fault old fresh first told heard status fine tells is = record {
+-- nothing was read or written, and this was said
+pub only_said : (text : List ℕ) (is : ℕ) (old : List Reader) → ((q : ℕ) → IsFresh (reader_at old q)) → (first told heard : SinkState) (status : ℕ) → first.failed ≡ false → Tells told heard text → status ≡ is
+    → IsRun (saying text is) old old first first told heard status 0 false
+only_said text is old fresh first told heard status fine tells status_is = record {
   reading = map reading_of old;
   came = nothing_read old fresh;
   written = [];
   took = sym (append_known-nil first.taken);
-  said = use_message fault;
+  said = text;
   tells = tells;
   stop = None;
   ends = record {
     out = λ w agrees. refl;
     messages = λ w agrees. refl;
-    status_is = λ w agrees. is;
+    status_is = λ w agrees. status_is;
     written = fine;
     roomy = refl;
     read = λ q. ⊎_elim (λ failed. none_failed old fresh q failed) (λ long. nothing_long old fresh q long);

@@ -8,10 +8,10 @@ use Rattle.std.proofs.lemmas.List.Elements.{filter_map-append}
 use Rattle.std.proofs.lemmas.List.Folds.{list_any-append}
 use Rattle.std.proofs.lemmas.Bool.Decides.{nat_tests, eqb_tells}
 use Rattle.std.proofs.lemmas.Bool.{false≢true}
-use Rattle.ptlines.specs.Inputs.{Given}
-use Rattle.ptrun.specs.Worlds.{World, Reading, at, is_refused, is_in, found, founds, opened, sources, nothing_left}
+use Rattle.ptlines.specs.Inputs.{Given, nothing_left}
+use Rattle.ptrun.specs.Worlds.{World, Reading, at, is_refused, is_in, found, founds, opened, sources}
 use Rattle.ptrun.specs.Each.{Tool, greatest, up_to_open, refusals, each_out, each_bound, each_decided}
-use Rattle.ptrun.specs.Sayings.{not_opened}
+use Rattle.ptrun.specs.Messages.{not_opened}
 
 -- ---- membership
 

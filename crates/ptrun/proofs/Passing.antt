@@ -15,17 +15,18 @@ use Rattle.ptlines.specs.Sinks.{SinkState}
 use Rattle.ptlines.proofs.Known.{prepend_known-append, prepend_known-nil}
 use Rattle.ptlines.proofs.Refilled.{unread_empty}
 use Rattle.ptlines.proofs.Pushed.{wrote_trans, wrote_nothing}
-use Rattle.ptlines.specs.Inputs.{Given}
+use Rattle.ptlines.specs.Inputs.{Given, nothing_left}
 use Rattle.ptlines.specs.Inputs.{Begins, Came}
 use Rattle.ptflow.specs.Runs.{Ends, IsRun}
 use Rattle.ptlines.specs.Inputs as one
 use Rattle.ptflow.specs.Runs as run
 use Rattle.ptflow.specs.declared.faults.FlowFault.{FlowFault}
 use Rattle.ptflow.specs.declared.faults.FlowFault.TheVariants.{Read, Write, Memory}
-use Rattle.ptrun.specs.Worlds.{World, Reading, at, is_refused, AgreesAt, Agrees, is_in, found, founds, opened, sources, nothing_left, reader_at, no_reader, CameAt, IsReading, IsNew, IsFresh, HasFailed, IsTooLong}
-use Rattle.ptrun.specs.Sayings.{Tells, not_opened}
+use Rattle.ptrun.specs.Worlds.{World, Reading, at, is_refused, AgreesAt, Agrees, is_in, found, founds, opened, sources, reader_at, no_reader, CameAt, IsReading, IsNew, IsFresh, HasFailed, IsTooLong}
+use Rattle.ptrun.specs.Sayings.{Tells}
+use Rattle.ptrun.specs.Messages.{not_opened}
 use Rattle.ptrun.specs.Each.{Tool, greatest, up_to_open, refusals, each_out, each_bound, each_decided, one_by_one}
-use Rattle.ptrun.specs.Reports.{Cause, IsWhole, IsStopped, WentTo, Went}
+use Rattle.ptrun.specs.Reports.{blame, Cause, IsWhole, IsStopped, WentTo, Went}
 use Rattle.ptrun.proofs.Told.{tells_trans, tells_nothing}
 use Rattle.ptrun.proofs.Finding.{is_in-same, is_in-other, same_or_other, at_each, sources_at, sources_opened, sources_refused, refusals_more, refusals_same, any_same, any_more, greatest-append, EndedAt, least, at-least, bytes_at, decided_founds}
 
@@ -81,6 +82,7 @@ came_nothing r new = record {
   count = omega (arith, ap length new.held);
   ended = sym new.ended;
   refused = refl;
+  ending = refl;
   still = λ ended. (refl, ended);
   end = λ h. h;
 }
@@ -91,6 +93,7 @@ came_trans a b c g h p q empty = record {
   count = omega (arith, p.count, q.count, ap length empty, length-append g.bytes h.bytes);
   ended = q.ended;
   refused = q.refused ∙ p.refused;
+  ending = q.ending ∙ p.ending;
   still = λ ended. let first = p.still ended in let second = q.still first.1 in (second.0 ∙ first.0, second.1);
   end = λ h. q.end (p.end h);
 }
@@ -111,10 +114,11 @@ pub record Ready (seen : Bool) (old now : Reader) (o : Option Given) : Type 0 wh
   pub held : now.held ≡ []
   pub fault : now.fault ≡ None
   pub failed : now.failed ≡ false
+  pub ending : now.ending ≡ 10
 
 pub ready_of : (seen : Bool) (old now : Reader) (o : Option Given) → IsFresh old → now.refused ≡ false → PlaceIs seen old now o → Ready seen old now o
 ready_of seen old now None fresh opened k = absurd (false≢true (sym opened ∙ place_refused seen old now None k ∙ k.0))
-ready_of true old now (Some g) fresh opened k = record { g = g; is = refl; opened = k.0; if_seen = k.1; came = k.1.0; held = k.1.1.done.held; fault = k.1.1.fault; failed = k.1.1.failed }
+ready_of true old now (Some g) fresh opened k = record { g = g; is = refl; opened = k.0; if_seen = k.1; came = k.1.0; held = k.1.1.done.held; fault = k.1.1.fault; failed = k.1.1.failed; ending = k.1.0.ending ∙ (fresh k.0).ending }
 ready_of false old now (Some g) fresh opened k =
     let new = fresh k.0 in
     let same = k.1.0 in
@@ -127,6 +131,7 @@ ready_of false old now (Some g) fresh opened k =
       held = ap (λ (r : Reader). r.held) same ∙ new.held;
       fault = ap (λ (r : Reader). r.fault) same ∙ new.fault;
       failed = ap (λ (r : Reader). r.failed) same ∙ new.failed;
+      ending = ap (λ (r : Reader). r.ending) same ∙ new.ending;
     }
 
 came_at : (seen : Bool) (old now : Reader) (o : Option Given) → IsFresh old → PlaceIs seen old now o → CameAt old now o
@@ -202,12 +207,6 @@ nothing_long old fresh q = not_long false (reader_at old q) (reader_at old q) (a
 pub nothing_read : (old : List Reader) → ((q : ℕ) → IsFresh (reader_at old q)) → IsReading old old (map reading_of old)
 nothing_read old fresh q = came_at false (reader_at old q) (reader_at old q) (at (map reading_of old) q) (fresh q)
     (subst (λ (o : Option Given). PlaceIs false (reader_at old q) (reader_at old q) o) (sym (get_or-map reading_of old q no_reader)) (start_place (reader_at old q)))
-
--- the failure of a call is that of its operand
-abbrev pub blame : ℕ → FlowFault → FlowFault
-blame p (Read place) = Read p
-blame p Write = Write
-blame p Memory = Memory
 
 unseen_of : (seen : Bool) (old now new : Reader) (g e : Given) → IfSeen seen old now g → Came now new e → new.ended ≡ false → (seen ≡ false) × (g ≡ nothing_yet)
 unseen_of true old now new g e k came going = absurd (false≢true (sym going ∙ (came.still k.1.done.ended).1))
@@ -456,7 +455,7 @@ module _ (t : Tool) (name : ℕ → List ℕ) (old : List Reader) (fresh : (q : 
     cause_of more (Read place) r = (
       nth_here done more p,
       ap (λ (l : List ℕ). is_in l p) (take-append_seam done (p ∷ more))
-      ∙ ⊎_elim (λ f. (unseen_of (is_in done p) (reader_at old p) (reader_at now p) new y.g e.given y.if_seen e.came f.2).0) (λ l. not_seen_long (is_in done p) (reader_at old p) (reader_at now p) new y.g e.given y.if_seen e.came l.0) r.cause,
+          ∙ ⊎_elim (λ f. (unseen_of (is_in done p) (reader_at old p) (reader_at now p) new y.g e.given y.if_seen e.came f.2).0) (λ l. not_seen_long (is_in done p) (reader_at old p) (reader_at now p) new y.g e.given y.if_seen e.came l.0) r.cause,
       ⊎_elim (λ f. inl (ap (λ (n : Reader). n.refused) reader_here ∙ new_open, ap (λ (n : Reader). n.failed) reader_here ∙ f.0))
           (λ l. inr (subst IsTooLong (sym gave_here) (let first = fresh p y.opened in omega (arith, l.0, came_here.count, ap length first.held, first.pulled)))) r.cause,
       r.clean,

@@ -1,16 +1,15 @@
 -- A tool that goes over its inputs one by one; those that could not be opened are named and passed over.
-use Rattle.std.specs.Prelude.{ℕ, ◌+◌, List, [], ◌∷◌, ◌++◌, Bool, true, false, map, flat_map, fold, max, take, if◌then◌else◌, codes, Result, Ok, Err}
+use Rattle.std.specs.Prelude.{ℕ, ◌+◌, List, [], ◌∷◌, ◌++◌, Bool, map, flat_map, max, take, if◌then◌else◌, codes}
 use Rattle.std.specs.List.{list_any}
-use Rattle.ptlines.specs.Inputs.{Given}
-use Rattle.ptflow.specs.Cuts.{has, cut_text, cut_decided, line_size}
-use Rattle.ptrun.specs.Worlds.{World, Reading, is_refused, sources, nothing_left}
-use Rattle.ptrun.specs.Meanings.{Meaning}
-use Rattle.ptrun.specs.Sayings.{name_of, not_opened, line_of}
-use Rattle.ptflow.specs.declared.cutting.CutJob.{CutJob}
+use Rattle.ptlines.specs.Text.{longest_line}
+use Rattle.ptlines.specs.Inputs.{Given, nothing_left}
+use Rattle.ptlangs.specs.Jobs.{Cut}
 use Rattle.ptopts.specs.declared.inputs.Input.{Input}
 use Rattle.ptopts.specs.declared.inputs.Input.TheVariants.{Standard, File}
-use Rattle.ptrun.specs.declared.running.UseFault.{UseFault}
-use Rattle.ptrun.specs.declared.running.UseFault.TheVariants.{Operands, Memory}
+use Rattle.ptflow.specs.Cuts.{cut, cut_decided}
+use Rattle.ptrun.specs.Worlds.{World, Reading, is_refused, sources}
+use Rattle.ptrun.specs.Meanings.{Meaning}
+use Rattle.ptrun.specs.Messages.{not_opened, name_of}
 
 pub record Tool : Type 0 where
   pub name : List ℕ
@@ -55,13 +54,15 @@ one_by_one t name places = record {
 
 -- ---- cut
 
-abbrev pub cut_tool : List (ℕ × ℕ) → Tool
-cut_tool list = record {
+abbrev pub cut_tool : Cut → Tool
+cut_tool job = record {
   name = codes "cut";
-  text = cut_text (has list);
-  decided = cut_decided (has list);
-  size = line_size;
+  text = cut 10 job;
+  decided = cut_decided 10 job;
+  size = longest_line 10;
 }
+
+-- ---- operands, as places
 
 abbrev pub place : Input → ℕ
 place Standard = 0
@@ -70,34 +71,5 @@ place (File index) = index + 1
 abbrev pub places : List Input → List ℕ
 places order = map place order
 
-abbrev pub cut_meaning : List (ℕ × ℕ) → List (List ℕ) → List Input → Meaning
-cut_meaning list names order = one_by_one (cut_tool list) (name_of names) (places order)
-
--- ---- words that were refused
-
-abbrev pub use_message : UseFault → List ℕ
-use_message Operands = line_of (codes "cut: wrong number of operands" ∷ [])
-use_message Memory = line_of (codes "cut: out of memory" ∷ [])
-
-abbrev pub use_status : UseFault → ℕ
-use_status Operands = 2
-use_status Memory = 1
-
-abbrev pub use_meaning : UseFault → Meaning
-use_meaning fault = record {
-  out = λ w. [];
-  messages = λ w. use_message fault;
-  status = λ w. use_status fault;
-  bound = λ w. 0;
-  decided = λ r. [];
-  named = λ w n. [];
-  places = [];
-  tool = codes "cut";
-  name = λ p. [];
-}
-
--- ---- a command, or why its words were refused
-
-abbrev pub meaning_of : Result CutJob UseFault → List (List ℕ) → List Input → Meaning
-meaning_of (Ok job) names order = cut_meaning job.list.parts.items names order
-meaning_of (Err fault) names order = use_meaning fault
+abbrev pub cut_meaning : Cut → List (List ℕ) → List Input → Meaning
+cut_meaning job names order = one_by_one (cut_tool job) (name_of names) (places order)

@@ -10,7 +10,14 @@ use Rattle.ptflow.specs.declared.faults.FlowFault.{FlowFault}
 use Rattle.ptflow.specs.declared.faults.FlowFault.TheVariants.{Read, Write, Memory}
 use Rattle.ptrun.specs.Worlds.{World, Reading, at, Agrees, is_in, IsReading, HasFailed, IsTooLong, TellsWorld}
 use Rattle.ptrun.specs.Meanings.{Meaning}
-use Rattle.ptrun.specs.Sayings.{Tells, failure}
+use Rattle.ptrun.specs.Sayings.{Tells}
+use Rattle.ptrun.specs.Messages.{failure}
+
+-- the failure of a call is that of its operand
+abbrev pub blame : ℕ → FlowFault → FlowFault
+blame p (Read place) = Read p
+blame p Write = Write
+blame p Memory = Memory
 
 -- The failure was one, and no other. A read failed at the place of the next operand, which is no earlier operand's.
 abbrev pub Cause : Meaning → Reading → List Reader → Bool → Bool → ℕ → FlowFault → Type 0

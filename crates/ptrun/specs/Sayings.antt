@@ -1,10 +1,8 @@
--- What is said to a sink, and the messages.
-use Rattle.std.specs.Prelude.{◌≡◌, ℕ, ◌<◌, ◌-◌, ◌==◌, Bool, true, false, List, [], ◌∷◌, ◌++◌, length, map, flat_map, codes, if◌then◌else◌, slice_index_or}
+-- What is said to a sink.
+use Rattle.std.specs.Prelude.{◌≡◌, ℕ, ◌<◌, Bool, true, false, List, [], ◌∷◌, ◌++◌, length, map, flat_map}
 use Rattle.std.specs.Io.KnownBytes.{append_known}
 use Rattle.std.specs.Borrow.{Bor}
 use Rattle.ptlines.specs.Sinks.{SinkState}
-use Rattle.ptflow.specs.declared.faults.FlowFault.{FlowFault}
-use Rattle.ptflow.specs.declared.faults.FlowFault.TheVariants.{Read, Write, Memory}
 
 -- a `&[&str]`
 abbrev pub texts : List (Bor (List ℕ)) → List (List ℕ)
@@ -31,16 +29,3 @@ pub record Tells (old new : SinkState) (text : List ℕ) : Type 0 where
   pub taken : new.taken ≡ append_known old.taken front
   pub whole : new.failed ≡ false → rest ≡ []
   pub stays : old.failed ≡ true → new ≡ old
-
--- the name of the input at a place
-abbrev pub name_of : List (List ℕ) → ℕ → List ℕ
-name_of names place = if place == 0 then codes "standard input" else slice_index_or names (place - 1) []
-
-abbrev pub not_opened : List ℕ → List ℕ → List ℕ
-not_opened tool name = line_of (tool ∷ codes ": " ∷ name ∷ codes ": cannot be opened" ∷ [])
-
--- the one message of a failure
-abbrev pub failure : List ℕ → (ℕ → List ℕ) → FlowFault → List ℕ
-failure tool name (Read place) = line_of (tool ∷ codes ": " ∷ name place ∷ codes ": read failed" ∷ [])
-failure tool name Write = line_of (tool ∷ codes ": output: write failed" ∷ [])
-failure tool name Memory = line_of (tool ∷ codes ": out of memory" ∷ [])

@@ -2,8 +2,7 @@
 use Rattle.std.specs.Prelude.{◌≡◌, ℕ, ◌==◌, ◌<◌, ◌≤◌, ◌^◌, List, [], ◌∷◌, ◌++◌, Bool, true, false, Option, Some, None, if◌then◌else◌, slice_index_or, option_map, filter_map, is_none, length, ⊤, ◌⊎◌}
 use Rattle.std.specs.List.{list_any}
 use Rattle.ptlines.specs.Readers.{Reader, unread}
-use Rattle.ptlines.specs.Inputs.{Given}
-use Rattle.ptlines.specs.Inputs.{Came}
+use Rattle.ptlines.specs.Inputs.{Given, Came}
 use Rattle.ptlines.specs.Inputs as one
 
 -- The bytes of each input by its place, or nothing where it could not be opened. Standard input is at 0, and then the files in order.
@@ -51,15 +50,11 @@ opened os = filter_map (λ o. o) os
 abbrev pub sources : {X : Type 0} → X → List (Option X) → List ℕ → List X
 sources rest xs places = opened (founds rest xs [] places)
 
--- nothing, and the end
-abbrev pub nothing_left : Given
-nothing_left = record { bytes = []; ended = true }
-
 -- ---- readers
 
 -- a place where there is no reader
 abbrev pub no_reader : Reader
-no_reader = record { held = []; left = None; ended = false; failed = false; pulled = 0; fault = None; refused = true }
+no_reader = record { held = []; left = None; ended = false; failed = false; pulled = 0; fault = None; refused = true; ending = 10 }
 
 abbrev pub reader_at : List Reader → ℕ → Reader
 reader_at readers place = slice_index_or readers place no_reader
@@ -73,13 +68,14 @@ CameAt old new (Some g) = (old.refused ≡ false) × Came old new g
 abbrev pub IsReading : List Reader → List Reader → Reading → Type 0
 IsReading old new r = (place : ℕ) → CameAt (reader_at old place) (reader_at new place) (at r place)
 
--- nothing was read of it yet
+-- nothing was read of it yet, and its lines end with newline
 pub record IsNew (r : Reader) : Type 0 where
   pub held : r.held ≡ []
   pub ended : r.ended ≡ false
   pub failed : r.failed ≡ false
   pub pulled : r.pulled ≡ 0
   pub fault : r.fault ≡ None
+  pub ending : r.ending ≡ 10
 
 -- opened and not yet read, or refused
 abbrev pub IsFresh : Reader → Type 0

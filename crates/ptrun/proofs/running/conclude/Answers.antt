@@ -1,8 +1,9 @@
-use Rattle.ptflow.specs.declared.faults.FlowFault.{FlowFault}
 use Rattle.std.proofs.Common.{◌≡◌, ℕ, List, [], ◌∷◌, Err, refl, sym, ◌∙◌, ap, subst}
 use Rattle.std.specs.Prelude.{codes}
+use Rattle.ptflow.specs.declared.faults.FlowFault.{FlowFault}
 use Rattle.ptrun.specs.Reports.{Concludes}
-use Rattle.ptrun.specs.Sayings.{Tells, line_of, texts, name_of}
+use Rattle.ptrun.specs.Sayings.{Tells, line_of, texts}
+use Rattle.ptrun.specs.Messages.{name_of}
 use Rattle.ptrun.proofs.running.conclude.Goals as goal
 
 pub returns-in-Err-Read : goal.returns-in-Err-Read
