@@ -3,5 +3,6 @@ pub mod CutGrammar
 pub mod CutListRows
 pub mod Decimals
 pub mod Elements
+pub mod ListGrammar
 pub mod Merging
 pub mod Reading
