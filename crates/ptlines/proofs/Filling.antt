@@ -1,0 +1,136 @@
+-- A line that comes in pieces.
+use Rattle.std.proofs.Common.{◌≡◌, ℕ, ◌^◌, ◌<◌, ◌≤◌, Bool, List, [], ◌∷◌, ◌++◌, Option, length, set, max, refl, sym, ◌∙◌, ap, subst, arith, append_assoc, length-append}
+use Rattle.std.proofs.lemmas.Bool.Decides.{nat_tests}
+use Rattle.std.proofs.lemmas.List.{append-nil, set-set, length-set, get_or-set_same}
+use Rattle.std.specs.Io.KnownBytes.{prepend_known}
+use Rattle.ptlines.specs.Slots.{Slots, line, total, with_line, with_denied}
+use Rattle.std.proofs.Common.{false, not, ◌==◌, inl, inr, ⊎_elim, Ok, Err}
+use Rattle.ptlines.specs.declared.store.LineFault.{LineFault}
+use Rattle.ptlines.specs.declared.store.LineFault.TheVariants.{Read, Memory}
+use Rattle.ptlines.specs.Text.{IsLine}
+use Rattle.ptlines.specs.Readers.{Reader, unread, Reads, Goes, IsDone, budget}
+use Rattle.ptlines.specs.Fills.{GivesPiece, GivesEnd, GivesLine, Stops, Fills, Grows}
+use Rattle.ptlines.proofs.Known.{prepend_known-append}
+use Rattle.ptlines.proofs.Counted.{total_set}
+use Rattle.ptlines.proofs.Scanned.{IsLine-append}
+
+pub reads_trans : (a b c : Reader) (xs ys : List ℕ) → Reads a b xs → Reads b c ys → Reads a c (xs ++ ys)
+reads_trans a b c xs ys p q = record {
+  moved = p.moved ∙ ap (λ (t : Option (List ℕ)). prepend_known xs t) q.moved ∙ prepend_known-append xs ys (unread c);
+  ending = q.ending ∙ p.ending;
+  count = omega (arith, p.count, q.count, length-append xs ys);
+  refused = q.refused ∙ p.refused;
+  still = λ ended. let first = p.still ended in let second = q.still first.1 in (second.0 ∙ first.0, second.1);
+  end = λ h. q.end (p.end h);
+}
+
+pub goes_trans : (a b c : Reader) (xs ys : List ℕ) → Goes a b xs → Goes b c ys → Goes a c (xs ++ ys)
+goes_trans a b c xs ys p q = record {
+  reads = reads_trans a b c xs ys p.reads q.reads;
+  fault = q.fault;
+  failed = q.failed ∙ p.failed;
+  short = λ h. q.short (p.short h);
+}
+
+-- one line after another in a slot is the last
+pub with_line_again : (s : Slots) (slot : ℕ) (xs ys : List ℕ) → slot < length s.lines → length xs ≤ length ys → with_line (with_line s slot xs) slot ys ≡ with_line s slot ys
+with_line_again s slot xs ys within longer =
+    let same = set-set s.lines slot xs ys in
+    let grows : total (set s.lines slot xs) ≤ total (set s.lines slot ys) = omega (arith, total_set s.lines slot xs within, total_set s.lines slot ys within) in
+    let peak : max (max s.peak (total (set s.lines slot xs))) (total (set (set s.lines slot xs) slot ys)) ≡ max s.peak (total (set s.lines slot ys)) =
+    ap (λ (l : List (List ℕ)). max (max s.peak (total (set s.lines slot xs))) (total l)) same ∙ (omega arith) in
+    λ i. record { lines = same i; peak = peak i; denied = s.denied }
+
+pub line_of : (s : Slots) (slot : ℕ) (xs : List ℕ) → slot < length s.lines → line (with_line s slot xs) slot ≡ xs
+line_of s slot xs within = get_or-set_same s.lines slot xs [] within
+
+pub grows_more : (s t u : Slots) (slot : ℕ) (xs ys : List ℕ) → slot < length s.lines → t ≡ with_line s slot xs → Grows t u slot ys → u ≡ with_line s slot (xs ++ ys)
+grows_more s t u slot xs ys within is grows =
+    grows ∙ ap (λ (v : Slots). with_line v slot (line v slot ++ ys)) is ∙ ap (λ (l : List ℕ). with_line (with_line s slot xs) slot (l ++ ys)) (line_of s slot xs within)
+    ∙ with_line_again s slot xs (xs ++ ys) within (omega (arith, length-append xs ys))
+
+-- so far these bytes of the line have come
+pub record Filling (old now : Reader) (before so_far : Slots) (slot : ℕ) : Type 0 where
+  pub piece : List ℕ
+  pub goes : Goes old now piece
+  pub whole : IsLine old.ending piece
+  pub stored : so_far ≡ with_line before slot piece
+
+pub filling_slots : (old now : Reader) (before so_far : Slots) (slot : ℕ) → Filling old now before so_far slot → length so_far.lines ≡ length before.lines
+filling_slots old now before so_far slot f = ap (λ (s : Slots). length s.lines) f.stored ∙ length-set before.lines slot f.piece
+
+pub filling_more : (old now new : Reader) (before so_far after : Slots) (slot : ℕ) → slot < length before.lines → Filling old now before so_far slot → GivesPiece now new so_far after slot → Filling old new before after slot
+filling_more old now new before so_far after slot within f p = record {
+  piece = f.piece ++ p.piece;
+  goes = goes_trans old now new f.piece p.piece f.goes p.goes;
+  whole = IsLine-append old.ending f.piece p.piece f.whole (subst (λ (end : ℕ). IsLine end p.piece) f.goes.reads.ending p.whole);
+  stored = grows_more before so_far after slot f.piece p.piece within f.stored p.grows;
+}
+
+spends : (old new : Reader) (bytes : List ℕ) → Goes old new bytes → 0 < length bytes → old.pulled < 2 ^ 63 → budget new < budget old
+spends old new bytes goes some short =
+    let new_short : new.pulled < 2 ^ 63 = goes.short short in
+    omega (arith, goes.reads.count)
+
+pub line_done : (old now new : Reader) (before so_far after : Slots) (slot : ℕ) → slot < length before.lines → old.pulled < 2 ^ 63 → Filling old now before so_far slot → GivesEnd now new so_far after slot → GivesLine old new before after slot
+line_done old now new before so_far after slot within short f e = record {
+  less = spends old new ((f.piece ++ e.piece) ++ old.ending ∷ []) all (omega (arith, length-append (f.piece ++ e.piece) (old.ending ∷ []))) short;
+  line = f.piece ++ e.piece;
+  ending = old.ending ∷ [];
+  goes = all;
+  whole = IsLine-append old.ending f.piece e.piece f.whole (subst (λ (end : ℕ). IsLine end e.piece) same e.whole);
+  ends = inl refl;
+  stored = grows_more before so_far after slot f.piece e.piece within f.stored e.grows;
+}
+  where
+    same : now.ending ≡ old.ending
+    same = f.goes.reads.ending
+
+    all : Goes old new ((f.piece ++ e.piece) ++ old.ending ∷ [])
+    all = subst (λ (b : List ℕ). Goes old new b) (ap (λ (end : ℕ). f.piece ++ (e.piece ++ end ∷ [])) same ∙ sym (append_assoc f.piece e.piece (old.ending ∷ [])))
+        (goes_trans old now new f.piece (e.piece ++ now.ending ∷ []) f.goes e.goes)
+
+not_empty : (n : ℕ) → 0 < n → (n == 0) ≡ false
+not_empty n some = grind (arith, nat_tests)
+
+pub end_done : (old now new : Reader) (before so_far after : Slots) (slot : ℕ) (empty : Bool) → slot < length before.lines → old.pulled < 2 ^ 63 → Filling old now before so_far slot → Goes now new [] → IsDone new → after ≡ so_far
+    → empty ≡ (length (line after slot) == 0) → Fills old new before after slot (Ok (not empty))
+end_done old now new before so_far after slot empty within short f goes done same is =
+    let whole : Goes old new f.piece = subst (λ (b : List ℕ). Goes old new b) (append-nil f.piece) (goes_trans old now new f.piece [] f.goes goes) in
+    let held : line after slot ≡ f.piece = ap (λ (s : Slots). line s slot) (same ∙ f.stored) ∙ line_of before slot f.piece within in
+    let test : empty ≡ (length f.piece == 0) = is ∙ ap (λ (l : List ℕ). length l == 0) held in
+    by_piece f.piece whole f.whole (same ∙ f.stored) test
+  where
+    by_piece : (piece : List ℕ) → Goes old new piece → IsLine old.ending piece → after ≡ with_line before slot piece → empty ≡ (length piece == 0) → Fills old new before after slot (Ok (not empty))
+    by_piece [] g w s t = subst (λ (b : Bool). Fills old new before after slot (Ok (not b))) (sym t) (g, done, s)
+    by_piece (x ∷ piece) g w s t = let some : 0 < length (x ∷ piece) = omega arith in subst (λ (b : Bool). Fills old new before after slot (Ok (not b))) (sym (t ∙ not_empty (length (x ∷ piece)) some)) (record {
+      line = x ∷ piece;
+      ending = [];
+      goes = subst (λ (b : List ℕ). Goes old new b) (sym (append-nil (x ∷ piece))) g;
+      whole = w;
+      ends = inr (refl, some, done);
+      stored = s;
+      less = spends old new (x ∷ piece) g some short;
+    })
+
+pub stop_done : (old now new : Reader) (before so_far after : Slots) (slot : ℕ) (fault : LineFault) → Filling old now before so_far slot → Stops now new so_far after fault → Fills old new before after slot (Err fault)
+stop_done old now new before so_far after slot Read f s = record {
+  piece = f.piece;
+  faults = record {
+    reads = subst (λ (b : List ℕ). Reads old new b) (append-nil f.piece) (reads_trans old now new f.piece [] f.goes.reads s.0.reads);
+    whole = f.whole;
+    is = s.0.is;
+  };
+  cause = ⊎_elim (λ failed. inl failed) (λ long. inr (long.0, long.1 ∙ f.goes.failed)) s.1;
+  stored = s.2 ∙ f.stored;
+}
+stop_done old now new before so_far after slot Memory f s = record {
+  piece = f.piece;
+  faults = record {
+    reads = subst (λ (b : List ℕ). Reads old new b) (append-nil f.piece) (reads_trans old now new f.piece [] f.goes.reads s.0.reads);
+    whole = f.whole;
+    is = s.0.is;
+  };
+  failed = s.1 ∙ f.goes.failed;
+  stored = s.2 ∙ ap with_denied f.stored;
+}

@@ -1,0 +1,120 @@
+-- What was pushed, one call after another.
+use Rattle.std.proofs.Common.{◌≡◌, ℕ, true, false, List, [], ◌++◌, Option, refl, sym, ◌∙◌, ap, subst, append_assoc}
+use Rattle.std.proofs.Common.{Result, Ok, Err, OnOk, OnErr}
+use Rattle.std.proofs.lemmas.Bool.{false≢true}
+use Rattle.std.proofs.lemmas.List.{append-nil}
+use Rattle.ptlines.specs.declared.out.WriteFault.{WriteFault}
+use Rattle.std.specs.Io.KnownBytes.{append_known}
+use Rattle.ptlines.specs.Outputs.{Output, text, Extends, Wrote, Breaks}
+use Rattle.ptlines.proofs.Known.{append_known-append, append_known-nil}
+
+pub extends_same : (known : Option (List ℕ)) → Extends known known
+extends_same known = record { front = []; is = sym (append_known-nil known) }
+
+pub extends_by : (known : Option (List ℕ)) (bytes : List ℕ) → Extends known (append_known known bytes)
+extends_by known bytes = record { front = bytes; is = refl }
+
+pub extends_trans : {a b c : Option (List ℕ)} → Extends a b → Extends b c → Extends a c
+extends_trans {a} p q = record {
+  front = p.front ++ q.front;
+  is = q.is ∙ ap (λ t. append_known t q.front) p.is ∙ append_known-append a p.front q.front;
+}
+
+extends_more : {a b : Option (List ℕ)} (bytes : List ℕ) → Extends a b → Extends a (append_known b bytes)
+extends_more {a} {b} bytes p = extends_trans p (extends_by b bytes)
+
+-- nothing was pushed
+pub wrote_nothing : (o : Output) → (o.faulted ≡ true → o.failed ≡ true) → Wrote o o []
+wrote_nothing o cause = record {
+  kept = extends_same o.taken;
+  beginning = extends_by (text o) [];
+  whole = λ _. sym (append_known-nil (text o));
+  cause = cause;
+  no_cause = λ _. refl;
+}
+
+-- after a fault nothing more is sent
+pub wrote_past : (a b : Output) (xs ys : List ℕ) → b.faulted ≡ true → Wrote a b xs → Wrote a b (xs ++ ys)
+wrote_past a b xs ys fault w = record {
+  kept = w.kept;
+  beginning = subst (λ t. Extends (text b) t) (append_known-append (text a) xs ys) (extends_more ys w.beginning);
+  whole = λ clean. absurd (false≢true (sym clean ∙ fault));
+  cause = w.cause;
+  no_cause = w.no_cause;
+}
+
+pub wrote_after_fault : (o : Output) (bytes : List ℕ) → o.faulted ≡ true → (o.faulted ≡ true → o.failed ≡ true) → Wrote o o bytes
+wrote_after_fault o bytes fault cause = wrote_past o o [] bytes fault (wrote_nothing o cause)
+
+-- one push after another
+pub wrote_trans : (a b c : Output) (xs ys : List ℕ) → b.faulted ≡ false → Wrote a b xs → Wrote b c ys → Wrote a c (xs ++ ys)
+wrote_trans a b c xs ys clean p q =
+    let joined : append_known (text b) ys ≡ append_known (text a) (xs ++ ys) = ap (λ t. append_known t ys) (p.whole clean) ∙ append_known-append (text a) xs ys in
+    record {
+      kept = extends_trans p.kept q.kept;
+      beginning = subst (λ t. Extends (text c) t) joined q.beginning;
+      whole = λ still. q.whole still ∙ joined;
+      cause = q.cause;
+      no_cause = λ still. q.no_cause still ∙ p.no_cause clean;
+    }
+
+-- the bytes were staged
+pub wrote_staged : (old new : Output) (bytes : List ℕ) → old.faulted ≡ false → new ≡ record old { staged = old.staged ++ bytes } → Wrote old new bytes
+wrote_staged old new bytes clean is = subst (λ o. Wrote old o bytes) (sym is) (record {
+  kept = extends_same old.taken;
+  beginning = subst (λ t. Extends t (append_known (text old) bytes)) (append_known-append old.taken old.staged bytes) (extends_same (append_known (text old) bytes));
+  whole = λ _. sym (append_known-append old.taken old.staged bytes);
+  cause = λ fault. absurd (false≢true (sym clean ∙ fault));
+  no_cause = λ _. refl;
+})
+
+-- what was staged was sent
+pub wrote_sent : (old new : Output) → new ≡ record { taken = text old; failed = old.failed; staged = []; faulted = false } → Wrote old new []
+wrote_sent old new is = subst (λ o. Wrote old o []) (sym is) (record {
+  kept = extends_by old.taken old.staged;
+  beginning = extends_same (append_known (text old) []);
+  whole = λ _. refl;
+  cause = λ fault. absurd (false≢true fault);
+  no_cause = λ _. refl;
+})
+
+-- the bytes were sent past the empty block
+pub wrote_direct : (old new : Output) (bytes : List ℕ) → old.faulted ≡ false → old.staged ≡ [] → new ≡ record old { taken = append_known old.taken bytes } → Wrote old new bytes
+wrote_direct old new bytes clean empty is =
+    let text_old : text old ≡ old.taken = ap (λ s. append_known old.taken s) empty ∙ append_known-nil old.taken in
+    let text_new : append_known (append_known old.taken bytes) old.staged ≡ append_known (text old) bytes =
+    ap (λ s. append_known (append_known old.taken bytes) s) empty ∙ append_known-nil (append_known old.taken bytes) ∙ ap (λ t. append_known t bytes) (sym text_old) in
+    subst (λ o. Wrote old o bytes) (sym is) (record {
+      kept = extends_by old.taken bytes;
+      beginning = subst (λ t. Extends t (append_known (text old) bytes)) (sym text_new) (extends_same (append_known (text old) bytes));
+      whole = λ _. text_new;
+      cause = λ fault. absurd (false≢true (sym clean ∙ fault));
+      no_cause = λ _. refl;
+    })
+
+-- the sink failed while it was sent these: what was staged, and then some of the bytes
+pub wrote_broken : (old new : Output) (sent bytes more : List ℕ) → old.staged ++ bytes ≡ sent ++ more → Breaks old new sent → Wrote old new bytes
+wrote_broken old new sent bytes more is b =
+    let text_new : text new ≡ append_known old.taken b.front =
+    ap (λ s. append_known new.taken s) b.staged ∙ append_known-nil new.taken ∙ b.taken in
+    let all : append_known (text old) bytes ≡ append_known (text new) (b.rest ++ more) =
+    append_known-append old.taken old.staged bytes
+    ∙ ap (λ s. append_known old.taken s) (is ∙ ap (λ s. s ++ more) b.split ∙ append_assoc b.front b.rest more)
+    ∙ sym (append_known-append old.taken b.front (b.rest ++ more))
+    ∙ ap (λ t. append_known t (b.rest ++ more)) (sym text_new) in
+    record {
+      kept = record { front = b.front; is = b.taken };
+      beginning = record { front = b.rest ++ more; is = all };
+      whole = λ clean. absurd (false≢true (sym clean ∙ b.faulted));
+      cause = λ _. b.failed;
+      no_cause = λ clean. absurd (false≢true (sym clean ∙ b.faulted));
+    }
+
+-- past the empty block, all of the bytes or some
+pub wrote_past_block : (old new : Output) (bytes : List ℕ) (r : Result (Unit {0}) WriteFault) → old.faulted ≡ false → old.staged ≡ [] → OnOk r (new ≡ record old { taken = append_known old.taken bytes }) → OnErr r (Breaks old new bytes) → Wrote old new bytes
+wrote_past_block old new bytes (Ok u) clean empty ok err = wrote_direct old new bytes clean empty ok
+wrote_past_block old new bytes (Err e) clean empty ok err = wrote_broken old new bytes bytes [] (ap (λ s. s ++ bytes) empty ∙ sym (append-nil bytes)) err
+
+pub wrote_flushed : (old new : Output) (r : Result (Unit {0}) WriteFault) → old.faulted ≡ false → old.staged ≡ [] → OnOk r (new ≡ old) → OnErr r (Breaks old new []) → Wrote old new []
+wrote_flushed old new (Ok u) clean empty ok err = subst (λ o. Wrote old o []) (sym ok) (wrote_nothing old (λ fault. absurd (false≢true (sym clean ∙ fault))))
+wrote_flushed old new (Err e) clean empty ok err = wrote_broken old new [] [] [] (ap (λ s. s ++ []) empty) err

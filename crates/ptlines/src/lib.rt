@@ -1,0 +1,24 @@
+//! Lines of a source, a counted store of lines, and a block of output before a sink.
+#![tactic(auto)]
+
+ghost use Rattle.ptlines.specs.Text.{LinesAreUnique};
+
+mod out;
+mod reader;
+mod sink;
+mod source;
+mod std_ends;
+mod store;
+
+pub use out::{Out, WriteFault};
+pub use reader::LineReader;
+pub use sink::{Failed, Sink};
+pub use source::Source;
+pub use std_ends::{FromRead, FromWrite};
+pub use store::{LineFault, Store};
+
+/// The lines of a text, as the contracts define them, are the one list of pieces without the ending byte
+/// whose text it is. The call does nothing: its contract is the law.
+pub fn lines_are_unique()
+    ensures { LinesAreUnique }
+{}

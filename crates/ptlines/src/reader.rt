@@ -1,0 +1,300 @@
+ghost use Rattle.std.specs.Prelude.{◌≡◌, ◌<◌, ◌≤◌, ℕ, true, false, None, [], IfSome, length, take, drop, if◌then◌else◌};
+ghost use Rattle.std.specs.Borrow.{sem};
+ghost use Rattle.std.specs.Io.KnownBytes.{IsAtEnd};
+ghost use Rattle.std.specs.Io.BufRead.{Rests};
+ghost use Rattle.ptlines.specs.Origins.{origin_state, is_refused};
+ghost use Rattle.ptlines.specs.Sources.{refused_state};
+ghost use Rattle.ptlines.specs.Readers.{Refills, IsSound, new_reader};
+ghost use Rattle.ptlines.specs.Fills.{Moves, Steps, Fills, Blocks};
+ghost use Rattle.ptlines.specs.contracts.reader.LineReader.{the_row};
+
+use crate::source::{Origin, Source};
+use crate::store::{LineFault, Store};
+use memchr::memchr;
+use std::alloc::Allocator;
+use std::marker::Model;
+
+// What one look at the block gave: a piece of a line, the end of a line, or nothing at the end of the source.
+enum Step {
+    More,
+    Line,
+    End,
+}
+
+/// Gives the lines of a source, or its bytes, through a block of 8,192 bytes. A line ends with newline, or
+/// with byte 0 after [`set_ending`](LineReader::set_ending); a last piece without that byte is a line too, unless it is empty.
+/// Whatever call was made last, at most 8,192 bytes are held that were not given.
+#[derive(Drop)]
+pub struct LineReader<S: Source, R: Source> {
+    origin: Origin<S, R>,
+    block: [u8; 8192],
+    start: usize,
+    end: usize,
+    pulled: u64,
+    ended: bool,
+    fault: Option<LineFault>,
+    ending: u8,
+}
+
+impl<S: Source, R: Source> Model for LineReader<S, R> {
+    ghost use Rattle.std.specs.Prelude.{◌≡◌, ◌≤◌, slice_range};
+    ghost use Rattle.ptlines.specs.Readers.{Reader, IsSound, reader_of};
+
+    ghost Value = { Reader };
+
+    ghost use Rattle.ptlines.specs.Origins.{origin_state, is_refused};
+
+    ghost view = { λ r. reader_of (origin_state S.state R.state r.origin) (slice_range r.block r.start r.end) r.pulled r.fault (is_refused r.origin) r.ending };
+
+    ghost invariant = { λ r. (r.start ≤ r.end) × (r.end ≤ 8192) × (r.ended ≡ (origin_state S.state R.state r.origin).ended)
+        × IsSound (reader_of (origin_state S.state R.state r.origin) (slice_range r.block r.start r.end) r.pulled r.fault (is_refused r.origin) r.ending) };
+}
+
+impl<S: Source, R: Source> LineReader<S, R> {
+    fn over(origin: Origin<S, R>) -> Self
+        requires { (origin_state S.state R.state origin).ended ≡ false }
+        ensures { result ≡ new_reader (origin_state S.state R.state origin) (is_refused origin) }
+    {
+        LineReader {
+            origin,
+            block: [0; 8192],
+            start: 0,
+            end: 0,
+            pulled: 0,
+            ended: false,
+            fault: None,
+            ending: b'\n',
+        }
+    }
+
+    /// A reader of standard input, which has neither ended nor failed.
+    pub fn standard(source: S) -> Self
+        requires unfailed { (S.state source).failed ≡ false }
+        requires unended { (S.state source).ended ≡ false }
+        ensures { result ≡ new_reader (S.state source) false }
+    {
+        Self::over(Origin::Standard(source))
+    }
+
+    /// A reader of a file, which has neither ended nor failed.
+    pub fn file(source: R) -> Self
+        requires unfailed { (R.state source).failed ≡ false }
+        requires unended { (R.state source).ended ≡ false }
+        ensures { result ≡ new_reader (R.state source) false }
+    {
+        Self::over(Origin::File(source))
+    }
+
+    /// A file that could not be opened. It is not read.
+    pub fn refused() -> Self
+        ensures { result ≡ new_reader refused_state true }
+    {
+        Self::over(Origin::Refused)
+    }
+
+    /// Whether the file could not be opened.
+    pub fn is_refused(&self) -> bool
+        ensures refused { result ≡ self.now.refused }
+        ensures sound { IsSound self.now }
+    {
+        matches!(&self.origin, Origin::Refused)
+    }
+
+    /// From now on lines end with byte 0, or else with newline.
+    pub fn set_ending(&mut self, zero: bool)
+        ensures { self.new ≡ record self.old { ending = if zero then 0 else 10 } }
+    {
+        self.ending = if zero { 0 } else { b'\n' };
+    }
+
+    /// The byte that ends a line.
+    pub fn ending(&self) -> u8
+        ensures { result ≡ self.now.ending }
+    {
+        self.ending
+    }
+
+    // The bytes that the block holds.
+    fn held(&self) -> &[u8]
+        ensures held { result.now ≡ self.now.held }
+        ensures sound { IsSound self.now }
+    {
+        &self.block[self.start..self.end]
+    }
+
+    // The fault that was answered, if there was one.
+    fn fault(&self) -> Option<LineFault>
+        ensures fault { result ≡ self.now.fault }
+        ensures sound { IsSound self.now }
+    {
+        self.fault
+    }
+
+    // Whether the source has said its end.
+    fn has_ended(&self) -> bool
+        ensures ended { result ≡ self.now.ended }
+        ensures end { self.now.ended ≡ true → IsAtEnd self.now.left }
+    {
+        self.ended
+    }
+
+    /// Moves past bytes of the block: at most as many as [`block`](LineReader::block) shows.
+    pub fn consume(&mut self, count: usize)
+        requires { count ≤ length self.old.held }
+        ensures consumed { self.new ≡ record self.old { held = drop count self.old.held } }
+        ensures sound { IsSound self.new }
+    {
+        self.start += count;
+    }
+
+    // Fills the block, which is empty, by one read. False is that the source has said its end.
+    fn refill(&mut self) -> Result<bool, LineFault>
+        requires empty { self.old.held ≡ [] }
+        requires clean { self.old.fault ≡ None }
+        requires going { self.old.ended ≡ false }
+        ensures refills { Refills self.old self.new result }
+        ensures sound { IsSound self.new }
+    {
+        // A source that fails may still have written to the block.
+        self.start = 0;
+        self.end = 0;
+        match self.origin.pull(&mut self.block) {
+            Ok(count) => {
+                if count == 0 {
+                    self.ended = true;
+                    return Ok(false);
+                }
+                self.end = count;
+                self.pulled += count as u64;
+                if self.pulled >= 1 << 63 {
+                    self.fault = Some(LineFault::Read);
+                    return Err(LineFault::Read);
+                }
+                Ok(true)
+            }
+            Err(_) => {
+                self.fault = Some(LineFault::Read);
+                Err(LineFault::Read)
+            }
+        }
+    }
+
+    // Gives the first `count` bytes of the block to a slot.
+    fn give<A: Allocator + Copy>(
+        &mut self,
+        store: &mut Store<A>,
+        slot: usize,
+        count: usize,
+    ) -> Result<(), LineFault>
+        requires within { count ≤ length self.old.held }
+        requires in_store { slot < length store.old.lines }
+        ensures moves { Moves self.old self.new store.old store.new slot count result }
+        ensures slots { length store.new.lines ≡ length store.old.lines }
+    {
+        let from = self.start;
+        let to = from + count;
+        match store.append(slot, &self.block[from..to]) {
+            Ok(()) => {
+                self.start = to;
+                Ok(())
+            }
+            Err(fault) => {
+                self.fault = Some(fault);
+                Err(fault)
+            }
+        }
+    }
+
+    // Gives the held bytes up to the first end of a line to a slot, and passes that end.
+    fn scan<A: Allocator + Copy>(
+        &mut self,
+        store: &mut Store<A>,
+        slot: usize,
+    ) -> Result<Step, LineFault>
+        requires clean { self.old.fault ≡ None }
+        requires some { 0 < length self.old.held }
+        requires in_store { slot < length store.old.lines }
+        ensures steps { Steps self.old self.new store.old store.new slot result }
+        ensures slots { length store.new.lines ≡ length store.old.lines }
+    {
+        match memchr(self.ending(), self.held()) {
+            Some(at) => {
+                self.give(store, slot, at)?;
+                self.consume(1);
+                Ok(Step::Line)
+            }
+            None => {
+                let count = self.held().len();
+                self.give(store, slot, count)?;
+                Ok(Step::More)
+            }
+        }
+    }
+
+    // Gives the next piece of a line to a slot.
+    fn step<A: Allocator + Copy>(
+        &mut self,
+        store: &mut Store<A>,
+        slot: usize,
+    ) -> Result<Step, LineFault>
+        requires clean { self.old.fault ≡ None }
+        requires in_store { slot < length store.old.lines }
+        ensures steps { Steps self.old self.new store.old store.new slot result }
+        ensures slots { length store.new.lines ≡ length store.old.lines }
+    {
+        if !self.held().is_empty() {
+            return self.scan(store, slot);
+        }
+        if self.has_ended() {
+            return Ok(Step::End);
+        }
+        if !self.refill()? {
+            return Ok(Step::End);
+        }
+        self.scan(store, slot)
+    }
+
+    /// Puts the next line into a slot, without the byte that ends it. False is the end, and the slot is then empty.
+    /// The line is given once that byte was read, or the source has said its end.
+    /// # Errors
+    /// `Read` where a read failed, or 2^63 bytes or more came; `Memory` where the slot could not grow, and the
+    /// store is then denied. The slot then has a beginning of the line. Later calls answer the same and do nothing.
+    pub fn fill<A: Allocator + Copy>(
+        &mut self,
+        store: &mut Store<A>,
+        slot: usize,
+    ) -> Result<bool, LineFault>
+        requires { slot < length store.old.lines }
+        ensures fills { self.old.fault ≡ None → Fills self.old self.new store.old store.new slot result }
+        ensures slots { length store.new.lines ≡ length store.old.lines }
+        ensures stays { IfSome self.old.fault (λ fault. (result ≡ Err fault) × (self.new ≡ self.old) × (store.new ≡ store.old)) }
+        ensures was_sound { IsSound self.old }
+    {
+        if let Some(fault) = self.fault() {
+            return Err(fault);
+        }
+        store.clear(slot);
+        'pieces: loop {
+            match self.step(store, slot)? {
+                Step::More => {}
+                Step::Line => return Ok(true),
+                Step::End => return Ok(!store.line(slot).is_empty()),
+            }
+        }
+    }
+
+    /// The bytes of the block that were not given, after one read where there were none; an empty slice is the end.
+    /// # Errors
+    /// `Read` where the read failed, or 2^63 bytes or more came. Later calls answer the same and read nothing.
+    pub fn block(&mut self) -> Result<&[u8], LineFault>
+        ensures* after { sem 𝓛 (Rests (the_row S.row R.row S.Source R.Source) self.entry (λ new. Blocks self.old new result)) }
+    {
+        if let Some(fault) = self.fault() {
+            return Err(fault);
+        }
+        if self.held().is_empty() && !self.has_ended() {
+            self.refill()?;
+        }
+        Ok(self.held())
+    }
+}

@@ -1,0 +1,22 @@
+ghost use Rattle.std.specs.Prelude.{length, ◌<◌};
+ghost use Rattle.ptlines.specs.Sinks.{SinkState, Puts, Flushes};
+
+/// A read, a write or a flush failed.
+#[derive(Clone, Copy, Debug, PartialEq, Eq)]
+pub struct Failed;
+
+/// What bytes are written to, as a file or a pipe.
+pub trait Sink: Drop {
+    /// The bytes that were taken, where the sink tells them, and whether it has failed.
+    ghost state: { Self → SinkState };
+
+    /// Takes some of the bytes, which are not empty, from the first on. The answer is how many they are;
+    /// none at all is a failure.
+    fn put(&mut self, bytes: &[u8]) -> Result<usize, Failed>
+        requires { 0 < length bytes.now }
+        ensures { Puts (state self.old) (state self.new) bytes.now result };
+
+    /// Sends on what was taken.
+    fn flush(&mut self) -> Result<(), Failed>
+        ensures { Flushes (state self.old) (state self.new) result };
+}

@@ -1,0 +1,207 @@
+ghost use Rattle.std.specs.Prelude.{◌≡◌, ℕ, ◌<◌, ◌≤◌, ◌≢◌, true, false, [], ◌∷◌, ◌++◌, length, replicate, swap, slice_set, slice_index_or, IfOk, OnOk, OnErr};
+ghost use Rattle.ptlines.specs.Slots.{line, contents, total, with_line, with_added, with_denied};
+
+use std::alloc::{AllocError, Allocator, Global};
+use std::marker::Model;
+use std::mem;
+
+/// Why no line was given. It is final.
+#[derive(Clone, Copy, Debug, PartialEq, Eq)]
+pub enum LineFault {
+    /// A read failed, or 2^63 bytes or more came from one reader.
+    Read = 1,
+    /// A growth was refused.
+    Memory = 2,
+}
+
+/// Numbered slots, each of which holds the bytes of a line. The bytes are counted, the slots are not.
+#[derive(Drop)]
+pub struct Store<A: Allocator + Copy = Global> {
+    slots: Vec<Vec<u8, A>, A>,
+    held: u128,
+    peak: u128,
+    denied: bool,
+    alloc: A,
+}
+
+impl<A: Allocator + Copy> Model for Store<A> {
+    ghost use Rattle.std.specs.Prelude.{◌≡◌, ◌≤◌, map, sum_by, vec_len};
+    ghost use Rattle.ptlines.specs.Slots.{Slots};
+
+    ghost Value = { Slots };
+
+    ghost view = { λ s. record {
+      lines = map (λ v. v.items) s.slots.items;
+      peak = s.peak;
+      denied = s.denied;
+    } };
+
+    ghost invariant = { λ s. (s.held ≡ sum_by (λ v. vec_len v) s.slots.items) × (s.held ≤ s.peak) };
+}
+
+// Puts the bytes of one slot behind those of another, which is taken out while it grows.
+fn extend_from_slot<A: Allocator + Copy>(
+    slots: &mut Vec<Vec<u8, A>, A>,
+    alloc: A,
+    from: usize,
+    to: usize,
+) -> Result<(), AllocError>
+    requires from_in { from < length slots.old.items }
+    requires to_in { to < length slots.old.items }
+    requires differ { from ≢ to }
+    ensures ok { OnOk result (contents slots.new.items ≡ slice_set (contents slots.old.items) to (slice_index_or (contents slots.old.items) to [] ++ slice_index_or (contents slots.old.items) from [])) }
+    ensures err { OnErr result (contents slots.new.items ≡ contents slots.old.items) }
+    ensures count { length slots.new.items ≡ length slots.old.items }
+{
+    let mut target = mem::replace(&mut slots[to], Vec::new(alloc));
+    let extended = target.extend_from_slice(&slots[from]);
+    slots[to] = target;
+    extended
+}
+
+impl<A: Allocator + Copy> Store<A> {
+    /// A store of so many empty slots.
+    /// # Errors
+    /// `Memory` where a growth was refused.
+    pub fn new(alloc: A, slots: usize) -> Result<Self, LineFault>
+        ensures made { IfOk result (λ s. s ≡ record { lines = replicate slots []; peak = 0; denied = false }) }
+        ensures memory { OnErr result (result ≡ Err LineFault.Memory) }
+    {
+        let mut made = Vec::new(alloc);
+        for _i in 0..slots {
+            match made.push(Vec::new(alloc)) {
+                Ok(()) => {}
+                Err(_) => return Err(LineFault::Memory),
+            }
+        }
+        Ok(Store {
+            slots: made,
+            held: 0,
+            peak: 0,
+            denied: false,
+            alloc,
+        })
+    }
+
+    /// Adds an empty slot, and says its number.
+    /// # Errors
+    /// `Memory` where the growth was refused: then the store is denied, and nothing else changes.
+    pub fn add(&mut self) -> Result<usize, LineFault>
+        ensures added { IfOk result (λ slot. slot ≡ length self.old.lines) }
+        ensures ok { OnOk result (self.new ≡ with_added self.old) }
+        ensures err { OnErr result (self.new ≡ with_denied self.old) }
+        ensures memory { OnErr result (result ≡ Err LineFault.Memory) }
+    {
+        let slot = self.slots.len();
+        match self.slots.push(Vec::new(self.alloc)) {
+            Ok(()) => Ok(slot),
+            Err(_) => {
+                self.denied = true;
+                Err(LineFault::Memory)
+            }
+        }
+    }
+
+    /// How many slots there are.
+    pub fn slots(&self) -> usize
+        ensures { result ≡ length self.now.lines }
+    {
+        self.slots.len()
+    }
+
+    /// The bytes in a slot.
+    pub fn line(&self, slot: usize) -> &[u8]
+        requires { slot < length self.now.lines }
+        ensures { result.now ≡ line self.now slot }
+    {
+        self.slots[slot].as_slice()
+    }
+
+    /// Empties a slot.
+    pub fn clear(&mut self, slot: usize)
+        requires { slot < length self.old.lines }
+        ensures { self.new ≡ with_line self.old slot [] }
+    {
+        let count = self.slots[slot].len();
+        self.slots[slot].clear();
+        self.held -= count as u128;
+    }
+
+    /// Puts bytes behind those of a slot.
+    /// # Errors
+    /// `Memory` where the growth was refused: then the store is denied, and nothing else changes.
+    pub fn append(&mut self, slot: usize, bytes: &[u8]) -> Result<(), LineFault>
+        requires { slot < length self.old.lines }
+        ensures ok { OnOk result (self.new ≡ with_line self.old slot (line self.old slot ++ bytes.now)) }
+        ensures err { OnErr result (self.new ≡ with_denied self.old) }
+        ensures memory { OnErr result (result ≡ Err LineFault.Memory) }
+    {
+        match self.slots[slot].extend_from_slice(bytes) {
+            Ok(()) => {
+                self.held += bytes.len() as u128;
+                self.peak = self.peak.max(self.held);
+                Ok(())
+            }
+            Err(_) => {
+                self.denied = true;
+                Err(LineFault::Memory)
+            }
+        }
+    }
+
+    /// Makes the slot `to` hold the bytes of another slot, `from`.
+    /// # Errors
+    /// `Memory` where the growth was refused: then the store is denied, `to` is empty, and nothing else changes.
+    pub fn copy(&mut self, from: usize, to: usize) -> Result<(), LineFault>
+        requires from_in { from < length self.old.lines }
+        requires to_in { to < length self.old.lines }
+        requires differ { from ≢ to }
+        ensures ok { OnOk result (self.new ≡ with_line self.old to (line self.old from)) }
+        ensures err { OnErr result (self.new ≡ with_denied (with_line self.old to [])) }
+        ensures memory { OnErr result (result ≡ Err LineFault.Memory) }
+    {
+        self.clear(to);
+        match extend_from_slot(&mut self.slots, self.alloc, from, to) {
+            Ok(()) => {
+                self.held += self.slots[from].len() as u128;
+                self.peak = self.peak.max(self.held);
+                Ok(())
+            }
+            Err(_) => {
+                self.denied = true;
+                Err(LineFault::Memory)
+            }
+        }
+    }
+
+    /// Exchanges two slots.
+    pub fn swap(&mut self, a: usize, b: usize)
+        requires a_in { a < length self.old.lines }
+        requires b_in { b < length self.old.lines }
+        ensures { self.new ≡ record self.old { lines = swap self.old.lines a b } }
+    {
+        self.slots.swap(a, b);
+    }
+
+    /// How many bytes the slots hold.
+    pub fn now(&self) -> u128
+        ensures now { result ≡ total self.now.lines }
+        ensures below { result ≤ self.now.peak }
+    {
+        self.held
+    }
+
+    /// The most that the slots ever held.
+    pub fn peak(&self) -> u128
+        ensures { result ≡ self.now.peak }
+    {
+        self.peak
+    }
+
+    /// Whether a growth was refused.
+    pub fn denied(&self) -> bool
+        ensures { result ≡ self.now.denied }
+    {
+        self.denied
+    }
+}
