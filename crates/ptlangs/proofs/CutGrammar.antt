@@ -7,10 +7,11 @@ use Rattle.std.proofs.lemmas.Bool.Decides.{nat_tests}
 use Rattle.std.proofs.lemmas.List.Sums.{AllPass-from_list_all}
 use Rattle.std.proofs.lemmas.List.Elements.{All-cons, All-append}
 use Rattle.std.proofs.lemmas.List.Splits.{slice_split_none, slice_split_at}
+use Rattle.ptlangs.proofs.ListGrammar.{digits_fail, digit_no_separator, IsSplit, Whole, Cut, splits, Accepts, from_grammar, to_grammar}
 use Rattle.ptlangs.proofs.CutElements.{said_behind_dash, end_is_one_piece}
 use Rattle.ptlangs.proofs.Reading.{judged_proper}
-use Rattle.ptlangs.specs.CutLists.{ListFault, IsProper, IsElement, One, FromTo, UpTo, From, IsCutList, Last, More, ends, said, judged, is_dash, element, cut_list, AcceptsTheGrammar}
-use Rattle.ptlangs.specs.Numbers.{greatest, is_nothing, is_number, value, is_separator, elements, and_then, put_first, each}
+use Rattle.ptlangs.specs.CutLists.{ListFault, IsProper, IsElement, One, FromTo, UpTo, From, IsProperElement, ends, said, judged, is_dash, element, AcceptsTheGrammar}
+use Rattle.ptlangs.specs.Numbers.{greatest, is_nothing, is_number, value, is_separator}
 use Rattle.ptlangs.specs.declared.ranges.Interval.{Interval}
 
 -- ---- from the grammar
@@ -22,16 +23,8 @@ judged_ok r proper =
     let falls : ltb r.last r.first ≡ false = le-ltb r.last r.first proper.ascending in
     rw (large, zero, falls) refl
 
--- bytes of digits pass no test that digits fail
-digits_fail : (p : ℕ → Bool) → ((b : ℕ) → is_ascii_digit b ≡ true → p b ≡ false) → (n : List ℕ) → is_number n ≡ true → All (λ b. p b ≡ false) n
-digits_fail p fails [] h = cc
-digits_fail p fails (b ∷ bs) h = λ k d below. fails (get_or (b ∷ bs) k d) (AllPass-from_list_all is_ascii_digit (b ∷ bs) h k d below)
-
 digit_no_dash : (b : ℕ) → is_ascii_digit b ≡ true → is_dash b ≡ false
 digit_no_dash b h = grind (arith, nat_tests)
-
-digit_no_separator : (b : ℕ) → is_ascii_digit b ≡ true → is_separator b ≡ false
-digit_no_separator b h = grind (arith, nat_tests)
 
 said_of : (bs : List ℕ) (r : Interval) → IsElement bs r → (is_nothing bs ≡ false) × (said (slice_split is_dash bs) ≡ Some r)
 said_of bs r (One [] h) = cc
@@ -59,29 +52,7 @@ no_separator bs r (UpTo m h) = All-cons (λ b. is_separator b ≡ false) 45 m re
 no_separator bs r (From n h) =
     All-append (λ b. is_separator b ≡ false) n (45 ∷ []) (digits_fail is_separator digit_no_separator n h) (All-cons (λ b. is_separator b ≡ false) 45 [] refl (λ k d below. absurd (omega arith)))
 
-accepts : (bs : List ℕ) (rs : List Interval) → IsCutList bs rs → cut_list bs ≡ Ok rs
-accepts bs rs (Last e r is proper) = rw (slice_split_none is_separator e (no_separator e r is), accepts_element e r is proper) refl
-accepts bs rs (More e s others r rs' is proper sep list) =
-    rw (slice_split_at is_separator e s others (no_separator e r is) sep, accepts_element e r is proper, accepts others rs' list) refl
-
 -- ---- to the grammar
-
--- the parts of a list, and where it is cut
-data IsSplit (p : ℕ → Bool) : List ℕ → List (List ℕ) → Type 0 where
-  Whole : (bs : List ℕ) → IsSplit p bs (bs ∷ [])
-  Cut : (e : List ℕ) (s : ℕ) (bs : List ℕ) (parts : List (List ℕ)) → p s ≡ true → IsSplit p bs parts → IsSplit p (e ++ s ∷ bs) (e ∷ parts)
-
-onto : (p : ℕ → Bool) (b : ℕ) (bs : List ℕ) (parts : List (List ℕ)) → IsSplit p bs parts → IsSplit p (b ∷ bs) (onto_first b parts)
-onto p b bs parts (Whole xs) = Whole (b ∷ xs)
-onto p b bs parts (Cut e s xs rest cut split) = Cut (b ∷ e) s xs rest cut split
-
-splits_at : (p : ℕ → Bool) (b : ℕ) (bs : List ℕ) (parts : List (List ℕ)) (t : Bool) → p b ≡ t → IsSplit p bs parts → IsSplit p (b ∷ bs) (cond t ([] ∷ parts) (onto_first b parts))
-splits_at p b bs parts true e split = Cut [] b bs parts e split
-splits_at p b bs parts false e split = onto p b bs parts split
-
-splits : (p : ℕ → Bool) (bs : List ℕ) → IsSplit p bs (slice_split p bs)
-splits p [] = Whole []
-splits p (b ∷ bs) = splits_at p b bs (slice_split p bs) (p b) refl (splits p bs)
 
 none≢some : (r : Interval) → None ≡ Some r → ⊥
 none≢some r e = cc
@@ -123,35 +94,18 @@ spelled : (bs : List ℕ) (parts : List (List ℕ)) (r : Interval) → IsSplit i
 spelled bs parts r (Whole xs) e = spelled_one xs r e
 spelled bs parts r (Cut n s xs rest cut split) e = spelled_cut n s xs rest r (eqb-true s 45 cut) split e
 
-reads_element : (bs : List ℕ) (r : Interval) → element bs ≡ Ok r → IsElement bs r × IsProper r
+reads_element : (bs : List ℕ) (r : Interval) → element bs ≡ Ok r → IsProperElement bs r
 reads_element [] r h = cc
 reads_element (b ∷ bs) r h =
     let j = judged_proper (said (slice_split is_dash (b ∷ bs))) r h in
     (spelled (b ∷ bs) (slice_split is_dash (b ∷ bs)) r (splits is_dash (b ∷ bs)) j.0, j.1)
 
--- the first element is read, and then the others
-record ReadsFirst (first : Result Interval ListFault) (others : Result (List Interval) ListFault) (rs : List Interval) : Type 0 where
-  head : Interval
-  tail : List Interval
-  read : first ≡ Ok head
-  rest : others ≡ Ok tail
-  all : head ∷ tail ≡ rs
-
-reads_first : (first : Result Interval ListFault) (others : Result (List Interval) ListFault) (rs : List Interval) → and_then first (λ y. put_first y others) ≡ Ok rs → ReadsFirst first others rs
-reads_first (Err f) others rs h = cc
-reads_first (Ok y) (Err f) rs h = cc
-reads_first (Ok y) (Ok ys) rs h = record { head = y; tail = ys; read = refl; rest = refl; all = cc }
-
-reads_parts : (bs : List ℕ) (parts : List (List ℕ)) (rs : List Interval) → IsSplit is_separator bs parts → each element parts ≡ Ok rs → IsCutList bs rs
-reads_parts bs parts rs (Whole xs) h =
-    let f = reads_first (element xs) (Ok []) rs h in
-    let one : f.head ∷ [] ≡ rs = cc in
-    let e = reads_element xs f.head f.read in
-    subst (IsCutList xs) one (Last xs f.head e.0 e.1)
-reads_parts bs parts rs (Cut e s xs rest cut split) h =
-    let f = reads_first (element e) (each element rest) rs h in
-    let i = reads_element e f.head f.read in
-    subst (IsCutList (e ++ s ∷ xs)) f.all (More e s xs f.head f.tail i.0 i.1 cut (reads_parts xs rest f.tail split f.rest))
+accepts_elements : Accepts element IsProperElement
+accepts_elements = record {
+  from = λ e r h. accepts_element e r h.0 h.1;
+  to = reads_element;
+  whole = λ e r h. no_separator e r h.0;
+}
 
 pub accepts_the_grammar : AcceptsTheGrammar
-accepts_the_grammar bs rs = (accepts bs rs, λ h. reads_parts bs (elements bs) rs (splits is_separator bs) h)
+accepts_the_grammar bs rs = (from_grammar element IsProperElement accepts_elements bs rs, to_grammar element IsProperElement accepts_elements bs rs)

@@ -44,7 +44,7 @@ behind_nothing : {A E : Type 0} (r : Result (List A) E) → behind [] r ≡ r
 behind_nothing (Ok ys) = refl
 behind_nothing (Err e) = refl
 
-behind-put_first : {A E : Type 0} (xs : List A) (y : A) (r : Result (List A) E) → behind xs (put_first y r) ≡ behind (xs ++ y ∷ []) r
+pub behind-put_first : {A E : Type 0} (xs : List A) (y : A) (r : Result (List A) E) → behind xs (put_first y r) ≡ behind (xs ++ y ∷ []) r
 behind-put_first xs y (Ok ys) = ap Ok (sym (append_assoc xs (y ∷ []) ys))
 behind-put_first xs y (Err e) = refl
 

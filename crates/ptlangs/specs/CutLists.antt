@@ -1,7 +1,7 @@
 -- The list of `cut`.
 use Rattle.std.specs.Prelude.{ℕ, ◌+◌, ◌<◌, ◌≤◌, ◌==◌, ◌≡◌, ◌↔◌, ◌||◌, ◌&&◌, List, [], ◌∷◌, ◌++◌, Bool, true, not, Option, Some, None, Result, Ok, Err, if◌then◌else◌, nat_lt, nat_le}
 use Rattle.std.specs.List.{slice_split, list_any}
-use Rattle.ptlangs.specs.Numbers.{greatest, is_nothing, is_number, value, is_separator, elements, and_then, each}
+use Rattle.ptlangs.specs.Numbers.{greatest, is_nothing, is_number, value, elements, and_then, each, IsListOf}
 use Rattle.ptlangs.specs.declared.ranges.Interval.{Interval}
 use Rattle.ptlangs.specs.declared.ranges.ListFault as code
 use Rattle.ptlangs.specs.declared.ranges.ListFault.TheVariants as answer
@@ -92,10 +92,12 @@ pub data IsElement : List ℕ → Interval → Type 0 where
   UpTo : (m : List ℕ) → is_number m ≡ true → IsElement (45 ∷ m) (record { first = 1; last = value m })
   From : (n : List ℕ) → is_number n ≡ true → IsElement (n ++ 45 ∷ []) (record { first = value n; last = greatest })
 
--- proper elements between single separators
-pub data IsCutList : List ℕ → List Interval → Type 0 where
-  Last : (e : List ℕ) (r : Interval) → IsElement e r → IsProper r → IsCutList e (r ∷ [])
-  More : (e : List ℕ) (s : ℕ) (bs : List ℕ) (r : Interval) (rs : List Interval) → IsElement e r → IsProper r → is_separator s ≡ true → IsCutList bs rs → IsCutList (e ++ s ∷ bs) (r ∷ rs)
+-- an element with proper numbers
+abbrev pub IsProperElement : List ℕ → Interval → Type 0
+IsProperElement e r = IsElement e r × IsProper r
+
+abbrev pub IsCutList : List ℕ → List Interval → Type 0
+IsCutList = IsListOf IsProperElement
 
 -- the readings that `cut_list` accepts are those of the grammar
 abbrev pub AcceptsTheGrammar : Type 0

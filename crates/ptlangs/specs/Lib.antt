@@ -1,4 +1,5 @@
 pub mod Answers
 pub mod CutLists
+pub mod DelimLists
 pub mod Jobs
 pub mod Numbers

@@ -1,5 +1,5 @@
 -- Decimal numbers, and the elements of a list.
-use Rattle.std.specs.Prelude.{ℕ, ◌==◌, ◌||◌, ◌&&◌, List, [], ◌∷◌, Bool, true, false, not, Option, Some, None, Result, Ok, Err, if◌then◌else◌, nat_le}
+use Rattle.std.specs.Prelude.{ℕ, ◌==◌, ◌||◌, ◌&&◌, List, [], ◌∷◌, ◌++◌, ◌≡◌, Bool, true, false, not, Option, Some, None, Result, Ok, Err, if◌then◌else◌, nat_le}
 use Rattle.std.specs.Char.{is_ascii_digit}
 use Rattle.std.specs.List.{list_all, slice_split}
 use Rattle.std.specs.Str.Parse.{digits_value}
@@ -43,3 +43,8 @@ put_first x (Err e) = Err e
 abbrev pub each : {A B E : Type 0} → (A → Result B E) → List A → Result (List B) E
 each read [] = Ok []
 each read (x ∷ xs) = and_then (read x) (λ y. put_first y (each read xs))
+
+-- The same as a grammar: elements between single separators, where `Says` tells what an element says.
+pub data IsListOf {A : Type 0} (Says : List ℕ → A → Type 0) : List ℕ → List A → Type 0 where
+  Last : (e : List ℕ) (x : A) → Says e x → IsListOf Says e (x ∷ [])
+  More : (e : List ℕ) (s : ℕ) (bs : List ℕ) (x : A) (xs : List A) → Says e x → is_separator s ≡ true → IsListOf Says bs xs → IsListOf Says (e ++ s ∷ bs) (x ∷ xs)

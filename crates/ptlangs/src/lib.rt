@@ -2,6 +2,7 @@
 //! jobs that these options say.
 #![tactic(auto)]
 
+pub mod delims;
 pub mod jobs;
 pub mod numbers;
 pub mod ranges;

@@ -4,3 +4,4 @@ pub mod Seen
 pub mod Groups
 pub mod Readings
 pub mod Chosen
+mod CutRows

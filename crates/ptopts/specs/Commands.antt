@@ -3,21 +3,15 @@ use Rattle.std.specs.Prelude.{ℕ, List, [], ◌∷◌, Bool, false, Option, Som
 use Rattle.std.specs.Result.{result_unwrap_or}
 use Rattle.std.specs.Str.{byte}
 use Rattle.ptlangs.specs.CutLists.{selection}
+use Rattle.ptlangs.specs.Jobs as jobs
 use Rattle.ptopts.specs.declared.tool.Tool.{Tool}
 use Rattle.ptopts.specs.declared.tool.Tool.TheVariants.{Cut}
 use Rattle.ptopts.specs.Words.{GivenOption, tool_named, Reading, reading, options, has, value_of}
 use Rattle.ptopts.specs.Faults.{Fault, NoTool, first_of, list_given, reading_fault, combination_fault, values_fault, operands_fault}
 
--- cut: what is selected, as the set of its numbers; the delimiter; and whether lines without one are left out
-pub record CutJob : Type 0 where
-  pub fields : Bool
-  pub list : ℕ → Bool
-  pub delim : ℕ
-  pub only : Bool
-
 -- a command, with its input operands
 pub data Command : Type 0 where
-  RunCut : CutJob → List (List ℕ) → Command
+  RunCut : jobs.Cut → List (List ℕ) → Command
 
 -- the set that a list says
 abbrev pub set_of : List ℕ → ℕ → Bool
@@ -27,11 +21,11 @@ set_of text = result_unwrap_or (selection text) (λ n. false)
 abbrev pub byte_given : ℕ → List GivenOption → Option ℕ
 byte_given letter os = option_and_then (λ value. slice_get value 0) (value_of letter os)
 
-abbrev pub cut_job : List GivenOption → CutJob
+abbrev pub cut_job : List GivenOption → jobs.Cut
 cut_job os = record {
   fields = has (byte "f") os;
-  list = unwrap_or (option_map set_of (list_given os)) (λ n. false);
-  delim = unwrap_or (byte_given (byte "d") os) 9;
+  selected = unwrap_or (option_map set_of (list_given os)) (λ n. false);
+  delimiter = unwrap_or (byte_given (byte "d") os) 9;
   only = has (byte "s") os;
 }
 

@@ -1,24 +1,20 @@
 -- What a command is, beside what its words mean.
 use Rattle.std.specs.Prelude.{◌≡◌, ℕ, List, [], ◌∷◌, None, Result, Ok, Err, IsSome}
 use Rattle.ptlangs.specs.Answers.{IsFault}
-use Rattle.ptlangs.specs.CutLists.{is_selected}
-use Rattle.ptlangs.specs.declared.jobs.CutJob as job
+use Rattle.ptlangs.specs.Jobs as jobs
 use Rattle.ptopts.specs.declared.command.Command as code
 use Rattle.ptopts.specs.declared.command.Command.TheVariants.{Cut}
 use Rattle.ptopts.specs.declared.fault.UseFault.{UseFault}
 use Rattle.ptopts.specs.declared.inputs.Inputs.{Inputs}
 use Rattle.ptopts.specs.Words.{tool_named}
 use Rattle.ptopts.specs.Faults.{Fault}
-use Rattle.ptopts.specs.Commands.{CutJob, Command, RunCut}
+use Rattle.ptopts.specs.Commands.{Command, RunCut}
 use Rattle.ptopts.specs.Answers.{meant}
 use Rattle.ptopts.specs.Inputs.{IsInputs}
 
-abbrev pub cut_job_seen : {A : Type 0} → job.CutJob A → CutJob
-cut_job_seen j = record { fields = j.fields; list = is_selected j.list; delim = j.delim; only = j.only }
-
 -- a command is the one that is meant
 abbrev pub IsCommand : {A : Type 0} → code.Command A → Command → Type 0
-IsCommand (Cut j inputs) (RunCut job operands) = (cut_job_seen j ≡ job) × IsInputs inputs operands None
+IsCommand (Cut j inputs) (RunCut job operands) = (jobs.cut_job j ≡ job) × IsInputs inputs operands None
 
 -- what is answered is what the words mean, unless memory was refused
 abbrev pub IsMeant : {A : Type 0} → Result (code.Command A) UseFault → Result Command Fault → Type 0

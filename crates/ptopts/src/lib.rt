@@ -8,6 +8,10 @@ mod grammar;
 mod inputs;
 mod operands;
 mod reading;
+#[cfg(test)]
+mod refusing;
+#[cfg(test)]
+mod tests;
 mod tool;
 mod values;
 
@@ -15,4 +19,3 @@ pub use command::Command;
 pub use fault::UseFault;
 pub use grammar::words_have_one_reading;
 pub use inputs::{Input, Inputs};
-pub use tool::Tool;

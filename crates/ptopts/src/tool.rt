@@ -6,7 +6,7 @@ ghost use Rattle.ptopts.specs.Faults.{repeatable};
 
 /// One of the six tools.
 #[derive(Clone, Copy, Debug, PartialEq, Eq)]
-pub enum Tool {
+pub(crate) enum Tool {
     Cut,
     Paste,
     Uniq,
@@ -17,7 +17,7 @@ pub enum Tool {
 
 impl Tool {
     /// The tool of this name, if there is one.
-    pub fn named(name: &str) -> Option<Tool>
+    pub(crate) fn named(name: &str) -> Option<Tool>
         ensures { result ≡ tool_named name.now }
     {
         match name {
@@ -32,7 +32,7 @@ impl Tool {
     }
 
     /// The letters that stand alone (POSIX.1-2017, XCU, the synopsis of each utility).
-    pub fn flags(self) -> &'static [u8]
+    fn flags(self) -> &'static [u8]
         ensures { result.now ≡ flags self }
     {
         match self {
@@ -46,7 +46,7 @@ impl Tool {
     }
 
     /// The letters that take a value (POSIX.1-2017, XCU, the synopsis of each utility).
-    pub fn valued(self) -> &'static [u8]
+    fn valued(self) -> &'static [u8]
         ensures { result.now ≡ valued self }
     {
         match self {
@@ -60,14 +60,14 @@ impl Tool {
     }
 
     /// Whether the letter stands alone.
-    pub fn has_flag(self, letter: u8) -> bool
+    pub(crate) fn has_flag(self, letter: u8) -> bool
         ensures { result ≡ is_flag self letter }
     {
         self.flags().contains(&letter)
     }
 
     /// Whether the letter takes a value.
-    pub fn takes_value(self, letter: u8) -> bool
+    pub(crate) fn takes_value(self, letter: u8) -> bool
         ensures { result ≡ takes_value self letter }
     {
         self.valued().contains(&letter)
@@ -75,7 +75,7 @@ impl Tool {
 
     /// Whether the letter may be given with several values (POSIX.1-2017, XCU, `join`, for `-a`; this
     /// project's own choice for `-v`).
-    pub fn may_repeat(self, letter: u8) -> bool
+    pub(crate) fn may_repeat(self, letter: u8) -> bool
         ensures { result ≡ has_letter letter (repeatable self) }
     {
         self == Tool::Join && (letter == b'a' || letter == b'v')

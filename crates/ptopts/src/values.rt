@@ -2,6 +2,7 @@
 
 ghost use Rattle.std.specs.Prelude.{◌≡◌, IsSome, IfOk, option_map};
 ghost use Rattle.ptlangs.specs.CutLists.{is_selected};
+ghost use Rattle.ptlangs.specs.Jobs as jobs;
 ghost use Rattle.ptopts.specs.declared.tool.Tool.TheVariants.{Cut};
 ghost use Rattle.ptopts.specs.Words.{value_of};
 ghost use Rattle.ptopts.specs.Faults as faults;
@@ -9,7 +10,6 @@ ghost use Rattle.ptopts.specs.Faults.{value_fault, values_fault, is_delimiter, i
 ghost use Rattle.ptopts.specs.Commands as commands;
 ghost use Rattle.ptopts.specs.Commands.{byte_given, set_of};
 ghost use Rattle.ptopts.specs.Answers.{Finds, FindsUnlessRefused, options_seen};
-ghost use Rattle.ptopts.specs.Meant.{cut_job_seen};
 
 use crate::fault::UseFault;
 use crate::reading::{GivenOption, has_letter};
@@ -73,7 +73,7 @@ pub(crate) fn cut_job<'a, A: Allocator + Copy>(
 ) -> Result<CutJob<A>, UseFault<'a>>
     requires { IsSome (faults.list_given (options_seen options.now)) }
     ensures fault { FindsUnlessRefused result (values_fault Cut (options_seen options.now)) }
-    ensures job { IfOk result (λ j. cut_job_seen j ≡ commands.cut_job (options_seen options.now)) }
+    ensures job { IfOk result (λ j. jobs.cut_job j ≡ commands.cut_job (options_seen options.now)) }
 {
     let bytes = cut_list(alloc, options, b'b')?;
     let characters = cut_list(alloc, options, b'c')?;
