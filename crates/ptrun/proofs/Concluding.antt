@@ -1,30 +1,27 @@
 -- What a whole run has done, once a tool has gone over its inputs.
-use Rattle.std.proofs.Common.{◌≡◌, ◌≢◌, ◌⊎◌, ⊎_elim, inl, inr, ℕ, ◌+◌, ◌<◌, ◌≤◌, ◌^◌, Bool, true, false, cond, List, [], ◌∷◌, ◌++◌, Option, Some, None, Result, Ok, Err, length, map, take, get_or, max, refl, sym, ◌∙◌, ap, subst, arith, append_assoc, length-append}
-use Rattle.std.specs.Prelude.{is_none, slice_get}
+use Rattle.std.proofs.Common.{◌≡◌, ⊎_elim, ℕ, ◌+◌, ◌<◌, ◌≤◌, Bool, true, false, List, [], ◌∷◌, ◌++◌, Option, Some, None, Result, Ok, Err, length, map, refl, sym, ◌∙◌, ap, subst, arith, append_assoc, length-append}
 use Rattle.std.specs.Io.KnownBytes.{append_known, prepend_known, IsAtEnd}
 use Rattle.std.proofs.lemmas.List.{append-nil, append_cancel_left, append_cancel_right, nil_from_length}
-use Rattle.std.proofs.Math.Seq.{take-length}
 use Rattle.std.proofs.lemmas.Bool.{false≢true}
-use Rattle.ptlines.specs.Readers.{Reader, unread}
+use Rattle.ptlines.specs.Readers.{Reader}
 use Rattle.ptlines.specs.Outputs.{Output, text, Wrote}
 use Rattle.ptlines.specs.Slots.{Slots}
 use Rattle.ptlines.specs.Sinks.{SinkState}
-use Rattle.ptlines.proofs.Known.{append_known-append, append_known-nil}
-use Rattle.ptlines.proofs.Pushed.{wrote_trans, wrote_nothing}
+use Rattle.ptlines.proofs.Known.{append_known-nil}
+use Rattle.ptlines.proofs.Pushed.{wrote_trans}
 use Rattle.ptlines.specs.Inputs.{Given}
 use Rattle.ptlines.specs.Inputs.{Begins, Came}
 use Rattle.ptlines.specs.Inputs as one
 use Rattle.ptflow.specs.declared.faults.FlowFault.{FlowFault}
 use Rattle.ptflow.specs.declared.faults.FlowFault.TheVariants.{Read, Write, Memory}
-use Rattle.ptrun.specs.Worlds.{World, Reading, at, AgreesAt, Agrees, reader_at, CameAt, IsReading, IsNew, IsFresh, HasFailed, IsTooLong, TellsAt, TellsWorld}
+use Rattle.ptrun.specs.Worlds.{World, Reading, at, AgreesAt, Agrees, reader_at, CameAt, IsReading, IsFresh, HasFailed, IsTooLong, TellsAt, TellsWorld}
 use Rattle.ptrun.specs.Sayings.{Tells}
 use Rattle.ptrun.specs.Messages.{failure}
 use Rattle.ptrun.specs.Meanings.{Meaning}
-use Rattle.ptrun.specs.Reports.{Cause, IsWhole, IsStopped, WentTo, Went, Stop, IsBroken, EndsAs, IsRun, IsExact, Headline, Finishes, Concludes}
-use Rattle.ptrun.proofs.Told.{tells_trans, tells_nothing}
+use Rattle.ptrun.specs.Reports.{Cause, WentTo, Went, Stop, EndsAs, IsRun, IsExact, Headline, Finishes, Concludes}
+use Rattle.ptrun.proofs.Told.{tells_trans}
 use Rattle.ptrun.proofs.Passing.{nothing_read, nothing_long, reading_of}
 use Rattle.ptrun.specs.Asked.{saying}
-use Rattle.ptrun.specs.Worlds.{no_reader}
 use Rattle.ptrun.specs.Reports.{IsNamed}
 use Rattle.std.proofs.Common.{zero, suc}
 

@@ -1,6 +1,6 @@
 -- A tool that goes over its operands, one after another.
-use Rattle.std.proofs.Common.{◌≡◌, ◌≢◌, ◌⊎◌, ⊎_elim, inl, inr, ℕ, ◌+◌, ◌<◌, ◌≤◌, ◌^◌, ◌==◌, ◌||◌, Bool, true, false, cond, List, [], ◌∷◌, ◌++◌, Option, Some, None, Result, Ok, Err, length, map, take, get_or, set, max, refl, sym, ◌∙◌, ap, subst, arith, append_assoc, length-append, length-set}
-use Rattle.std.specs.Prelude.{flat_map, filter_map, option_map, is_none, slice_get}
+use Rattle.std.proofs.Common.{◌≡◌, ◌≢◌, ⊎_elim, inl, inr, ℕ, ◌<◌, ◌≤◌, ◌^◌, ◌||◌, Bool, true, false, cond, List, [], ◌∷◌, ◌++◌, Option, Some, None, Result, Ok, Err, length, map, set, max, refl, sym, ◌∙◌, ap, subst, arith, append_assoc, length-append, length-set}
+use Rattle.std.specs.Prelude.{flat_map, option_map, is_none, slice_get}
 use Rattle.std.specs.List.{list_any}
 use Rattle.std.specs.Io.KnownBytes.{prepend_known}
 use Rattle.std.proofs.lemmas.List.{append-nil, map-append, get_or-set_same, get_or-set_other, nil_from_length, length-map}
@@ -8,11 +8,11 @@ use Rattle.std.proofs.Math.ListN.{get_or-map}
 use Rattle.std.proofs.Math.Seq.{take-append_seam}
 use Rattle.std.proofs.lemmas.List.Concat.{flat_map-append}
 use Rattle.std.proofs.lemmas.Bool.{false≢true}
-use Rattle.ptlines.specs.Readers.{Reader, unread, IsDone, HasReadCause}
+use Rattle.ptlines.specs.Readers.{Reader, IsDone}
 use Rattle.ptlines.specs.Outputs.{Output, Wrote}
 use Rattle.ptlines.specs.Slots.{Slots, total}
 use Rattle.ptlines.specs.Sinks.{SinkState}
-use Rattle.ptlines.proofs.Known.{prepend_known-append, prepend_known-nil}
+use Rattle.ptlines.proofs.Known.{prepend_known-append}
 use Rattle.ptlines.proofs.Refilled.{unread_empty}
 use Rattle.ptlines.proofs.Pushed.{wrote_trans, wrote_nothing}
 use Rattle.ptlines.specs.Inputs.{Given, nothing_left}
@@ -26,7 +26,7 @@ use Rattle.ptrun.specs.Worlds.{World, Reading, at, is_refused, AgreesAt, Agrees,
 use Rattle.ptrun.specs.Sayings.{Tells}
 use Rattle.ptrun.specs.Messages.{not_opened}
 use Rattle.ptrun.specs.Each.{Tool, greatest, up_to_open, refusals, each_out, each_bound, each_decided, one_by_one}
-use Rattle.ptrun.specs.Reports.{blame, Cause, IsWhole, IsStopped, WentTo, Went}
+use Rattle.ptrun.specs.Reports.{blame, Cause, Went}
 use Rattle.ptrun.proofs.Told.{tells_trans, tells_nothing}
 use Rattle.ptrun.proofs.Finding.{is_in-same, is_in-other, same_or_other, at_each, sources_at, sources_opened, sources_refused, refusals_more, refusals_same, any_same, any_more, greatest-append, EndedAt, least, at-least, bytes_at, decided_founds}
 

@@ -1,6 +1,6 @@
 -- One turn of the loop over the operands.
-use Rattle.std.proofs.Common.{◌≡◌, ℕ, zero, suc, ◌+◌, ◌<◌, ◌≤◌, Bool, true, false, cond, List, [], ◌∷◌, ◌++◌, length, map, take, drop, get_or, refl, sym, ◌∙◌, ap, subst, arith, append_assoc, take-append-drop}
-use Rattle.std.proofs.lemmas.List.{take_more, get_or-map, length-map, get_or_default, take_all}
+use Rattle.std.proofs.Common.{◌≡◌, ℕ, zero, suc, ◌+◌, ◌<◌, ◌≤◌, Bool, true, false, cond, List, [], ◌∷◌, ◌++◌, length, take, drop, get_or, sym, ◌∙◌, ap, subst, arith, append_assoc, take-append-drop}
+use Rattle.std.proofs.lemmas.List.{take_more, get_or-map, length-map, take_all}
 use Rattle.std.proofs.lemmas.Bool.{false≢true}
 use Rattle.ptlines.specs.Readers.{Reader}
 use Rattle.ptlines.specs.Text.{text, lines, ended_lines, longest_line}
@@ -15,7 +15,7 @@ use Rattle.std.specs.List.{flat_map}
 use Rattle.ptflow.specs.Cuts.{cut_line, cut, cut_decided}
 use Rattle.ptrun.specs.Worlds.{reader_at, no_reader, IsFresh}
 use Rattle.ptrun.specs.Each.{place, places, cut_tool}
-use Rattle.std.specs.Prelude.{All, not, filter}
+use Rattle.std.specs.Prelude.{All, not}
 use Rattle.std.proofs.lemmas.List.Elements.{All-nil, All-cons}
 use Rattle.ptopts.specs.Faults.{is_standard}
 use Rattle.ptopts.specs.Inputs.{file_names, order_from}

@@ -1,5 +1,5 @@
 -- A tool that goes over its inputs one by one; those that could not be opened are named and passed over.
-use Rattle.std.specs.Prelude.{ℕ, ◌+◌, List, [], ◌∷◌, ◌++◌, Bool, map, flat_map, max, take, if◌then◌else◌, codes}
+use Rattle.std.specs.Prelude.{ℕ, ◌+◌, List, [], ◌∷◌, Bool, map, flat_map, max, take, if◌then◌else◌, codes}
 use Rattle.std.specs.List.{list_any}
 use Rattle.ptlines.specs.Text.{longest_line}
 use Rattle.ptlines.specs.Inputs.{Given, nothing_left}

@@ -3,8 +3,6 @@ use Rattle.std.specs.Prelude.{ℕ, ◌-◌, ◌==◌, List, [], ◌∷◌, Optio
 use Rattle.ptflow.specs.declared.faults.FlowFault.{FlowFault}
 use Rattle.ptflow.specs.declared.faults.FlowFault.TheVariants.{Read, Write, Memory}
 use Rattle.ptopts.specs.Faults.{Fault, NoTool, Unknown, NeedsValue, Twice, Together, Value, Operands, StandardTwice, NeedsList}
-use Rattle.ptopts.specs.Answers.{meant}
-use Rattle.ptopts.specs.declared.fault.UseFault.{UseFault}
 use Rattle.ptrun.specs.Sayings.{line_of}
 
 -- why the words of a tool were refused

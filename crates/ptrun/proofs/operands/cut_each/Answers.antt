@@ -1,11 +1,8 @@
-use Rattle.std.proofs.Common.{◌≡◌, ◌<◌, ℕ, true, false, Bool, List, [], ◌∷◌, ◌++◌, Result, Ok, Err, ◌+◌, length, take, drop, get_or, set, refl, sym, ◌∙◌, ap, subst, arith}
+use Rattle.std.proofs.Common.{◌<◌, ℕ, List, [], ◌∷◌, Ok, Err, ◌+◌, length, take, drop, get_or, set, sym, ◌∙◌, ap, subst}
 use Rattle.std.specs.Prelude.{codes}
 use Rattle.std.proofs.lemmas.List.{get_or_default, set-get_or}
 use Rattle.ptlines.specs.Readers.{Reader}
-use Rattle.ptflow.specs.Runs.{IsRun}
 use Rattle.ptlangs.specs.Jobs.{cut_job}
-use Rattle.ptflow.specs.declared.faults.FlowFault.{FlowFault}
-use Rattle.ptflow.specs.declared.faults.FlowFault.TheVariants.{Read, Write, Memory}
 use Rattle.ptrun.specs.Worlds.{reader_at, no_reader, is_in, at}
 use Rattle.ptrun.specs.Sayings.{Tells, line_of, texts}
 use Rattle.ptrun.specs.Messages.{name_of}

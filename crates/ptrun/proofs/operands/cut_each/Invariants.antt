@@ -1,4 +1,4 @@
-use Rattle.std.proofs.Common.{◌≡◌, ℕ, List, ◌++◌, take, length}
+use Rattle.std.proofs.Common.{take}
 use Rattle.ptlangs.specs.Jobs.{cut_job}
 use Rattle.ptrun.specs.Sayings.{texts}
 use Rattle.ptrun.specs.Messages.{name_of}

@@ -1,4 +1,4 @@
-use Rattle.std.proofs.Common.{◌≡◌, ℕ, List, [], ◌∷◌, ◌∙◌, ap, subst}
+use Rattle.std.proofs.Common.{ℕ, List, [], ◌∷◌, ◌∙◌, ap, subst}
 use Rattle.std.specs.Prelude.{codes, encode_utf8}
 use Rattle.ptrun.specs.Sayings.{Tells, line_of}
 use Rattle.ptrun.proofs.refusing.refuse.Goals as goal
