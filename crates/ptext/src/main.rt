@@ -7,9 +7,8 @@ use performing::{perform, report_no_memory};
 use ptlines::{FromRead, FromWrite};
 use ptrun::Report;
 use std::alloc::{AllocError, Allocator, Global};
-use std::env;
-use std::io;
 use std::process::ExitCode;
+use std::{env, io};
 
 fn main(rt: HostRuntime) -> ExitCode {
     let standard = FromRead::new(rt.stdin());

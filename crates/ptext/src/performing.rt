@@ -2,10 +2,11 @@
 
 ghost use Rattle.std.specs.Prelude.{◌≡◌, ◌+◌, false, length, All, IfOk, vec_len};
 ghost use Rattle.ptlines.specs.Readers.{Reader};
+ghost use Rattle.ptrun.specs.Asked.{count_of};
 ghost use Rattle.ptrun.specs.Worlds.{IsFresh};
 
 use ptlines::{FromRead, LineReader, Sink, Source};
-use ptopts::Command;
+use ptopts::{Command, UseFault};
 use ptrun::{Report, run, say};
 use std::alloc::{AllocError, Allocator};
 use std::fs::{self, Files};
@@ -13,10 +14,10 @@ use std::fs::{self, Files};
 /// Runs the command of these words: opens the files that it names, in order, before anything is read, and hands
 /// the report of the run back. A file that cannot be opened is named by the run when its turn comes.
 /// The source has neither ended nor failed, and neither sink has failed.
-pub fn perform<R: Files, A: Allocator + Copy, S: Source, W: Sink, E: Sink>(
+pub fn perform<'a, R: Files, A: Allocator + Copy, S: Source, W: Sink, E: Sink>(
     rt: &R,
     alloc: A,
-    words: &[&str],
+    words: &'a [&'a str],
     standard: S,
     out: W,
     messages: E,
@@ -27,13 +28,27 @@ pub fn perform<R: Files, A: Allocator + Copy, S: Source, W: Sink, E: Sink>(
     requires heard { (E.state messages).failed ≡ false }
 {
     let command = Command::read(alloc, words);
-    let names = match &command {
-        Ok(command) => command.names(),
-        Err(_) => &[],
-    };
-    match open_inputs(rt, alloc, names, standard) {
+    match inputs_of(rt, alloc, &command, standard) {
         Ok(mut inputs) => run(alloc, command, words, &mut inputs, out, messages),
         Err(_) => report_no_memory(out, messages),
+    }
+}
+
+// The readers of the inputs of a command; standard input alone where the words were refused.
+fn inputs_of<R: Files, A: Allocator + Copy, S: Source>(
+    rt: &R,
+    alloc: A,
+    command: &Result<Command<'_, A>, UseFault<'_>>,
+    standard: S,
+) -> Result<Vec<LineReader<S, FromRead<R::File>>, A>, AllocError>
+    requires unended { (S.state standard).ended ≡ false }
+    requires unfailed { (S.state standard).failed ≡ false }
+    ensures count { IfOk result (λ inputs. vec_len inputs ≡ count_of command.now + 1) }
+    ensures fresh { IfOk result (λ inputs. All IsFresh inputs.items) }
+{
+    match command {
+        Ok(command) => open_inputs(rt, alloc, command.names(), standard),
+        Err(_) => open_inputs(rt, alloc, &[], standard),
     }
 }
 
