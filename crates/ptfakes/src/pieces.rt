@@ -7,7 +7,7 @@ use ptlines::{Failed, Source};
 use std::marker::Model;
 
 /// A source that gives a text in pieces, and tells what is left of it.
-/// It writes over the whole of each buffer that it is lent, also where it gives less, or fails.
+/// It writes over the front of each buffer that it is lent, also where it gives less, or fails.
 #[derive(Drop)]
 pub struct Pieces<'a> {
     left: &'a [u8],
@@ -77,7 +77,8 @@ impl Source for Pieces<'_> {
         ensures pulled { Pulls (source_of self.old) (source_of self.new) into.new result }
         ensures fed { Feeds self.old self.new into.new result }
     {
-        into.fill(b'?');
+        let front = into.len().min(16);
+        into[..front].fill(b'?');
         if !self.calls.passes() {
             self.failed = true;
             return Err(Failed);
