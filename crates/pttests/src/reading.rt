@@ -25,6 +25,11 @@ fn current<'a, A: Allocator + Copy>(rt: &impl Abort, store: &'a Store<A>) -> &'a
     store.line(0)
 }
 
+// How many bytes the block shows.
+fn shows<S: Source, R: Source>(reader: &mut LineReader<S, R>) -> Result<usize, LineFault> {
+    Ok(reader.block()?.len())
+}
+
 const LENGTHS: &[&[usize]] = &[
     &[],
     &[0],
@@ -152,21 +157,26 @@ const TEXTS: &[Text] = &[
     },
 ];
 
+fn reads_text(rt: &impl Abort, alloc: Global, row: &Text, size: usize) -> Result<(), Fail> {
+    let source = Pieces::new(row.text, size, u64::MAX);
+    let mut reader: LineReader<Pieces<'_>, Pieces<'_>> = LineReader::file(source);
+    assert!(rt; !reader.is_refused());
+    reader.set_ending(row.zero);
+    let mut store = Store::new(alloc, 1)?;
+    for line in row.lines {
+        assert_eq!(rt; next(rt, &mut reader, &mut store), Ok(true));
+        assert_eq!(rt; current(rt, &store), *line);
+    }
+    assert_eq!(rt; next(rt, &mut reader, &mut store), Ok(false));
+    assert_eq!(rt; current(rt, &store).len(), 0);
+    Ok(())
+}
+
 #[test]
 fn bytes_in_lines(rt: HostRuntime) -> Result<(), Fail> {
     for row in TEXTS {
-        for size in [1, 2, 3, 100] {
-            let source = Pieces::new(row.text, size, u64::MAX);
-            let mut reader: LineReader<Pieces<'_>, Pieces<'_>> = LineReader::file(source);
-            assert!(rt; !reader.is_refused());
-            reader.set_ending(row.zero);
-            let mut store = Store::new(rt.alloc(), 1)?;
-            for line in row.lines {
-                assert_eq!(rt; next(&rt, &mut reader, &mut store), Ok(true));
-                assert_eq!(rt; current(&rt, &store), *line);
-            }
-            assert_eq!(rt; next(&rt, &mut reader, &mut store), Ok(false));
-            assert_eq!(rt; current(&rt, &store).len(), 0);
+        for size in SIZES {
+            reads_text(&rt, rt.alloc(), row, *size)?;
         }
     }
     Ok(())
@@ -240,27 +250,29 @@ const FAILING: &[Failing] = &[
     },
 ];
 
+fn fails(rt: &impl Abort, alloc: Global, row: &Failing) -> Result<(), Fail> {
+    let pulls = Cell::new(0);
+    let source = Watched::new(Pieces::new(b"ab\ncd\nef", 2, row.passing), &pulls);
+    let mut reader: Reader<'_> = LineReader::standard(source);
+    let mut store = Store::new(alloc, 1)?;
+    for line in row.lines {
+        assert_eq!(rt; next(rt, &mut reader, &mut store), Ok(true));
+        assert_eq!(rt; current(rt, &store), *line);
+    }
+    for _ in 0..3 {
+        assert_eq!(rt; next(rt, &mut reader, &mut store), Err(LineFault::Read));
+        assert_eq!(rt; current(rt, &store), row.beginning);
+        assert_eq!(rt; shows(&mut reader), Err(LineFault::Read));
+        assert_eq!(rt; pulls.get(), row.passing.saturating_add(1));
+    }
+    assert!(rt; !store.denied());
+    Ok(())
+}
+
 #[test]
 fn each_pull_fails(rt: HostRuntime) -> Result<(), Fail> {
     for row in FAILING {
-        let pulls = Cell::new(0);
-        let source = Watched::new(Pieces::new(b"ab\ncd\nef", 2, row.passing), &pulls);
-        let mut reader: Reader<'_> = LineReader::standard(source);
-        let mut store = Store::new(rt.alloc(), 1)?;
-        for line in row.lines {
-            assert_eq!(rt; next(&rt, &mut reader, &mut store), Ok(true));
-            assert_eq!(rt; current(&rt, &store), *line);
-        }
-        for _ in 0..3 {
-            assert_eq!(rt; next(&rt, &mut reader, &mut store), Err(LineFault::Read));
-            assert_eq!(rt; current(&rt, &store), row.beginning);
-            assert_eq!(rt;
-                reader.block().map(|bytes| bytes.len()),
-                Err(LineFault::Read)
-            );
-            assert_eq!(rt; pulls.get(), row.passing.saturating_add(1));
-        }
-        assert!(rt; !store.denied());
+        fails(&rt, rt.alloc(), row)?;
     }
     Ok(())
 }
@@ -271,10 +283,7 @@ fn a_refused_file_fails(rt: HostRuntime) -> Result<(), Fail> {
     assert!(rt; reader.is_refused());
     let mut store = Store::new(rt.alloc(), 1)?;
     assert_eq!(rt; next(&rt, &mut reader, &mut store), Err(LineFault::Read));
-    assert_eq!(rt;
-        reader.block().map(|bytes| bytes.len()),
-        Err(LineFault::Read)
-    );
+    assert_eq!(rt; shows(&mut reader), Err(LineFault::Read));
     assert_eq!(rt; next(&rt, &mut reader, &mut store), Err(LineFault::Read));
     assert!(rt; reader.is_refused());
     Ok(())
@@ -370,10 +379,7 @@ fn each_growth_refused(rt: HostRuntime) -> Result<(), Fail> {
             for _ in 0..2 {
                 assert_eq!(rt; filled, Err(LineFault::Memory));
                 assert_eq!(rt; next(&rt, &mut reader, &mut store), Err(LineFault::Memory));
-                assert_eq!(rt;
-                    reader.block().map(|bytes| bytes.len()),
-                    Err(LineFault::Memory)
-                );
+                assert_eq!(rt; shows(&mut reader), Err(LineFault::Memory));
                 assert_eq!(rt; current(&rt, &store).len(), count);
                 assert_eq!(rt; pulls.get(), pulled);
             }

@@ -23,8 +23,16 @@ fn slots_hold_lines(rt: HostRuntime) -> Result<(), Fail> {
     swap(&rt, &mut store, 1, 2);
     expect(&rt, &store, &[b"", b"xy", b""], 6, false);
     swap(&rt, &mut store, 1, 1);
+    expect(&rt, &store, &[b"", b"xy", b""], 6, false);
+    Ok(())
+}
+
+#[test]
+fn slots_are_copied_and_added(rt: HostRuntime) -> Result<(), Fail> {
+    let mut store = Store::new(rt.alloc(), 3)?;
+    append(&rt, &mut store, 1, b"xy")?;
     copy(&rt, &mut store, 1, 0)?;
-    expect(&rt, &store, &[b"xy", b"xy", b""], 6, false);
+    expect(&rt, &store, &[b"xy", b"xy", b""], 4, false);
     append(&rt, &mut store, 0, b"z")?;
     copy(&rt, &mut store, 0, 1)?;
     expect(&rt, &store, &[b"xyz", b"xyz", b""], 6, false);
