@@ -5,6 +5,7 @@ ghost use Rattle.ptlines.specs.Text.{LinesAreUnique};
 
 mod out;
 mod reader;
+mod search;
 mod sink;
 mod source;
 mod std_ends;
@@ -12,6 +13,7 @@ mod store;
 
 pub use out::{Out, WriteFault, send};
 pub use reader::LineReader;
+pub use search::find_near;
 pub use sink::{Failed, Sink};
 pub use source::Source;
 pub use std_ends::{FromRead, FromWrite};
