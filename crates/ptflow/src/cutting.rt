@@ -10,10 +10,9 @@ ghost use Rattle.ptflow.specs.Rests.{cut_rest, Passes, Halts};
 ghost use Rattle.ptflow.specs.Runs.{IsRun};
 
 use crate::faults::FlowFault;
-use memchr::memchr;
 use ptlangs::jobs::CutJob;
 use ptlangs::ranges::Interval;
-use ptlines::{LineReader, Out, Sink, Source, Store, WriteFault};
+use ptlines::{LineReader, Out, Sink, Source, Store, WriteFault, find_near};
 use std::alloc::Allocator;
 
 // Pushes the selected bytes of a piece of a line, the first `count` of these bytes, and then all the other bytes:
@@ -67,7 +66,7 @@ fn push_block<W: Sink>(
 {
     let mut before = before;
     let mut rest = block;
-    'lines: while let Some(at) = memchr(ending, rest) {
+    'lines: while let Some(at) = find_near(ending, rest) {
         push_selected(selected, before, at, &rest[..at + 1], out)?;
         before = 0;
         rest = &rest[at + 1..];
