@@ -1,0 +1,81 @@
+-- What some whole commands are to write, say and answer, from their words.
+use Rattle.std.proofs.Common.{◌≡◌, ℕ, List, [], ◌∷◌, Some, None, refl, codes, false}
+use Rattle.ptrun.specs.Worlds.{World, Reading}
+use Rattle.ptrun.specs.Asked.{asked}
+
+record Outcome : Type 0 where
+  out : List ℕ
+  messages : List ℕ
+  status : ℕ
+
+abbrev outcome : List (List ℕ) → World → Outcome
+outcome words w = record { out = (asked words).out w; messages = (asked words).messages w; status = (asked words).status w }
+
+abbrev cut : List (List ℕ) → World → Outcome
+cut words w = outcome (codes "cut" ∷ words) w
+
+abbrev writes : List ℕ → Outcome
+writes out = record { out = out; messages = []; status = 0 }
+
+abbrev refuses : List ℕ → Outcome
+refuses messages = record { out = []; messages = messages; status = 2 }
+
+abbrev input : List ℕ → World
+input bytes = Some bytes ∷ []
+
+list_out_of_order : cut (codes "-c" ∷ codes "3-,1" ∷ []) (input (codes "abcd\n")) ≡ writes (codes "acd\n")
+list_out_of_order = refl
+
+last_line_without_newline : cut (codes "-b" ∷ codes "-2" ∷ []) (input (codes "abc")) ≡ writes (codes "ab\n")
+last_line_without_newline = refl
+
+places_beyond_every_line : cut (codes "-b" ∷ codes "18446744073709551615-" ∷ []) (input (codes "abc\n")) ≡ writes (codes "\n")
+places_beyond_every_line = refl
+
+place_too_large : cut (codes "-b" ∷ codes "18446744073709551616" ∷ []) (input []) ≡ refuses (codes "cut: wrong value for option -b: 18446744073709551616\n")
+unfolding lib.Utf8.encode
+place_too_large = refl
+
+empty_input : cut (codes "-c" ∷ codes "1" ∷ []) (input []) ≡ writes []
+empty_input = refl
+
+empty_line : cut (codes "-c" ∷ codes "1" ∷ []) (input (codes "\n")) ≡ writes (codes "\n")
+empty_line = refl
+
+list_with_a_blank : cut (codes "-b" ∷ codes "2 4,1" ∷ []) (input (codes "abcd\n")) ≡ writes (codes "abd\n")
+list_with_a_blank = refl
+
+line_shorter_than_the_list : cut (codes "-b" ∷ codes "2-" ∷ []) (input (codes "a\nbcd")) ≡ writes (codes "\ncd\n")
+line_shorter_than_the_list = refl
+
+descending_range : cut (codes "-b" ∷ codes "1,3-2" ∷ []) (input (codes "abc\n")) ≡ refuses (codes "cut: wrong value for option -b: 1,3-2\n")
+unfolding lib.Utf8.encode
+descending_range = refl
+
+empty_element : cut (codes "-b" ∷ codes "1,,2" ∷ []) (input (codes "abc\n")) ≡ refuses (codes "cut: wrong value for option -b: 1,,2\n")
+unfolding lib.Utf8.encode
+empty_element = refl
+
+one_input_refused : cut (codes "-c" ∷ codes "1" ∷ codes "f" ∷ codes "g" ∷ codes "h" ∷ []) (Some [] ∷ Some (codes "ab\n") ∷ None ∷ Some (codes "cd\n") ∷ []) ≡ record { out = codes "a\nc\n"; messages = codes "cut: g: cannot be opened\n"; status = 1 }
+one_input_refused = refl
+
+no_words : outcome [] (input []) ≡ refuses (codes "ptext: first word: cut, paste, join, comm, uniq or tr\n")
+no_words = refl
+
+no_list : cut [] (input []) ≡ refuses (codes "cut: one of -b, -c and -f is needed\n")
+no_list = refl
+
+unknown_option : cut (codes "-xb" ∷ []) (input []) ≡ refuses (codes "cut: unknown option in -xb\n")
+unknown_option = refl
+
+given_twice : cut (codes "-b" ∷ codes "1" ∷ codes "-b" ∷ codes "2" ∷ []) (input []) ≡ refuses (codes "cut: option -b is given twice\n")
+unfolding lib.Utf8.encode
+given_twice = refl
+
+bytes_and_fields : cut (codes "-b" ∷ codes "1" ∷ codes "-f" ∷ codes "1" ∷ []) (input []) ≡ refuses (codes "cut: options -b and -f do not go together\n")
+unfolding lib.Utf8.encode
+bytes_and_fields = refl
+
+-- a read fails behind the first line: it was decided, and what came of the second was not
+decided_before_a_failed_read : (asked (codes "cut" ∷ codes "-c" ∷ codes "1-3" ∷ [])).decided (Some (record { bytes = codes "abcd\nab"; ended = false }) ∷ []) ≡ codes "abc\n"
+decided_before_a_failed_read = refl
