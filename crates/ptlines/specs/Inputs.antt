@@ -34,6 +34,7 @@ pub record Came (old new : Reader) (given : Given) : Type 0 where
   pub count : new.pulled + length old.held ≡ old.pulled + length given.bytes
   pub ended : given.ended ≡ new.ended
   pub refused : new.refused ≡ old.refused
+  pub ending : new.ending ≡ old.ending
   -- a source that has said its end is not read again
   pub still : old.ended ≡ true → (new.pulled ≡ old.pulled) × (new.ended ≡ true)
   -- and has nothing left

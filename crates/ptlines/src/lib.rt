@@ -5,13 +5,15 @@ ghost use Rattle.ptlines.specs.Text.{LinesAreUnique};
 
 mod out;
 mod reader;
+mod search;
 mod sink;
 mod source;
 mod std_ends;
 mod store;
 
-pub use out::{Out, WriteFault};
+pub use out::{Out, WriteFault, send};
 pub use reader::LineReader;
+pub use search::find_near;
 pub use sink::{Failed, Sink};
 pub use source::Source;
 pub use std_ends::{FromRead, FromWrite};

@@ -107,6 +107,14 @@ impl<S: Source, R: Source> LineReader<S, R> {
         self.ending = if zero { 0 } else { b'\n' };
     }
 
+    /// The byte that ends a line.
+    pub fn ending(&self) -> u8
+        ensures ending { result ≡ self.now.ending }
+        ensures sound { IsSound self.now }
+    {
+        self.ending
+    }
+
     // The bytes that the block holds.
     fn held(&self) -> &[u8]
         ensures held { result.now ≡ self.now.held }
@@ -222,13 +230,6 @@ impl<S: Source, R: Source> LineReader<S, R> {
                 Ok(Step::More)
             }
         }
-    }
-
-    // The byte that ends a line.
-    fn ending(&self) -> u8
-        ensures { result ≡ self.now.ending }
-    {
-        self.ending
     }
 
     // Gives the next piece of a line to a slot.

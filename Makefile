@@ -1,0 +1,34 @@
+# make                      proves everything below the program, builds it, and leaves build/ptext
+# make test                 the gate: every proof from nothing, the must-fail edits, all tests, the built program
+# make bench                ratios to the system's tools, measured side by side
+# make install PREFIX=..    copies build/ptext to PREFIX/bin (/usr/local unless it is given)
+# make uninstall PREFIX=..  takes it away again
+
+PREFIX ?= /usr/local
+BIN := $(DESTDIR)$(PREFIX)/bin
+
+.PHONY: all test bench install uninstall clean
+
+all: build/ptext
+
+build/ptext: crates.txt $(shell find crates -path '*/src/*.rt' -o -path '*/specs/*.antt' -o -path '*/proofs/*.antt')
+	cd crates/ptext && rt run -- cut -c 1 </dev/null >/dev/null
+	mkdir -p build
+	cp crates/ptext/out/ptext build/ptext
+
+test: build/ptext
+	sh tests/program.sh build/ptext
+	rt ci
+
+bench: build/ptext
+	sh bench/run.sh build/ptext
+
+install: build/ptext
+	mkdir -p $(BIN)
+	install -m 755 build/ptext $(BIN)/ptext
+
+uninstall:
+	rm -f $(BIN)/ptext
+
+clean:
+	rm -rf build crates/*/out

@@ -1,0 +1,37 @@
+-- What `cut` writes. `end` is the byte that ends a line.
+use Rattle.std.specs.Prelude.{ℕ, ◌+◌, ◌==◌, List, [], ◌∷◌, Bool, if◌then◌else◌}
+use Rattle.std.specs.List.{flat_map, list_any, slice_split, join_with_byte}
+use Rattle.ptlines.specs.Text.{text, lines}
+use Rattle.ptlines.specs.Inputs.{Given, whole_lines}
+use Rattle.ptlangs.specs.Jobs.{Cut}
+
+-- the items whose numbers, counted on from n, pass the test
+abbrev pub chosen_from : {X : Type 0} → (ℕ → Bool) → ℕ → List X → List X
+chosen_from test n [] = []
+chosen_from test n (x ∷ xs) = if test n then x ∷ chosen_from test (n + 1) xs else chosen_from test (n + 1) xs
+
+-- the bytes of a line whose numbers, counted from 1, are selected
+abbrev pub cut_bytes : Cut → List ℕ → List ℕ
+cut_bytes job line = chosen_from job.selected 1 line
+
+abbrev pub is_delimiter : Cut → ℕ → Bool
+is_delimiter job b = b == job.delimiter
+
+-- the fields whose numbers, counted from 1, are selected, joined by the delimiter
+abbrev pub cut_fields : Cut → List ℕ → List ℕ
+cut_fields job line = join_with_byte job.delimiter (chosen_from job.selected 1 (slice_split (is_delimiter job) line))
+
+-- what is written of a line: one line, or none
+abbrev pub cut_line : Cut → List ℕ → List (List ℕ)
+cut_line job line =
+    if job.fields
+    then (if list_any (is_delimiter job) line then cut_fields job line ∷ [] else (if job.only then [] else line ∷ []))
+    else cut_bytes job line ∷ []
+
+-- what is written of a text
+abbrev pub cut : ℕ → Cut → List ℕ → List ℕ
+cut end job bytes = text end (flat_map (cut_line job) (lines end bytes))
+
+-- what is decided once a part of the text came: what is written of its whole lines
+abbrev pub cut_decided : ℕ → Cut → Given → List ℕ
+cut_decided end job given = text end (flat_map (cut_line job) (whole_lines end given))

@@ -1,0 +1,23 @@
+use ptlines::WriteFault;
+
+/// Why a tool stopped. Nothing that was pushed before has to be taken back.
+#[derive(Clone, Copy, Debug, PartialEq, Eq)]
+pub enum FlowFault {
+    /// A read failed, or 2^63 bytes or more came. The number is the reader's place among those that were handed in.
+    Read(usize),
+    /// A write failed.
+    Write,
+    /// A growth of the store was refused; the store is denied.
+    Memory,
+}
+
+impl From<WriteFault> for FlowFault {
+    ghost use Rattle.std.specs.Prelude.{◌≡◌};
+    ghost use Rattle.ptflow.specs.declared.faults.FlowFault.TheVariants.{Write};
+
+    ghost from_gives = { λ _ fault. fault ≡ Write };
+
+    fn from(_fault: WriteFault) -> FlowFault {
+        FlowFault::Write
+    }
+}

@@ -1,0 +1,68 @@
+-- The parts of a list, and reading them in turn.
+use Rattle.std.proofs.Common.{◌≡◌, ℕ, ◌+◌, ◌-◌, ◌≤◌, Bool, true, false, ltb, cond, List, [], ◌∷◌, ◌++◌, length, take, drop, Option, Some, None, Result, Ok, Err, refl, sym, ◌∙◌, ap, arith, append_assoc, append-nil}
+use Rattle.std.specs.List.{slice_split, position, position_or_len}
+use Rattle.std.proofs.lemmas.Bool.{ltb-false, ltb-true}
+use Rattle.std.proofs.lemmas.List.{take_all, length-drop}
+use Rattle.std.proofs.lemmas.List.Splits.{slice_split_none, slice_split_first}
+use Rattle.std.proofs.lemmas.List.Sums.{fails_before_first}
+use Rattle.ptlangs.specs.Answers.{IsFault}
+use Rattle.ptlangs.specs.Numbers.{and_then, put_first, each}
+
+-- ---- the parts between bytes
+
+none_since : (b : Bool) (i : ℕ) → cond b (Some i) None ≡ None → b ≡ false
+none_since true i h = cc
+none_since false i h = refl
+
+some_since : (b : Bool) (i j : ℕ) → cond b (Some i) None ≡ Some j → (b ≡ true) × (i ≡ j)
+some_since true i j h = (refl, cc)
+some_since false i j h = cc
+
+position_none : {X : Type 0} (p : X → Bool) (xs : List X) → position p xs ≡ None → length xs ≤ position_or_len p xs
+position_none p xs h = ltb-false (position_or_len p xs) (length xs) (none_since (ltb (position_or_len p xs) (length xs)) (position_or_len p xs) h)
+
+pub split_whole : {X : Type 0} (p : X → Bool) (xs : List X) → position p xs ≡ None → slice_split p xs ≡ xs ∷ []
+split_whole p xs h = slice_split_none p xs (λ k d below. fails_before_first p xs k d (omega (arith, position_none p xs h)))
+
+-- the last argument is what `&xs[i + 1..]` gives
+pub split_around : {X : Type 0} (p : X → Bool) (xs : List X) (i : ℕ) → position p xs ≡ Some i → slice_split p xs ≡ take i xs ∷ slice_split p (take (length xs - (i + 1)) (drop (i + 1) xs))
+split_around p [] i h = cc
+split_around p (x ∷ xs) i h =
+    let since = some_since (ltb (position_or_len p (x ∷ xs)) (length (x ∷ xs))) (position_or_len p (x ∷ xs)) i h in
+    let first = slice_split_first p (x ∷ xs) x (ltb-true _ _ since.0) in
+    let rest : take (length (x ∷ xs) - (i + 1)) (drop (i + 1) (x ∷ xs)) ≡ drop (i + 1) (x ∷ xs) = take_all (length (x ∷ xs) - (i + 1)) (drop (i + 1) (x ∷ xs)) (omega (arith, length-drop (i + 1) (x ∷ xs))) in
+    rw rest (first ∙ ap (λ k. take k (x ∷ xs) ∷ slice_split p (drop (k + 1) (x ∷ xs))) since.1)
+
+-- ---- reading them in turn
+
+-- what was read already, and then what comes of the rest
+abbrev pub behind : {A E : Type 0} → List A → Result (List A) E → Result (List A) E
+behind xs (Ok ys) = Ok (xs ++ ys)
+behind xs (Err e) = Err e
+
+behind_nothing : {A E : Type 0} (r : Result (List A) E) → behind [] r ≡ r
+behind_nothing (Ok ys) = refl
+behind_nothing (Err e) = refl
+
+pub behind-put_first : {A E : Type 0} (xs : List A) (y : A) (r : Result (List A) E) → behind xs (put_first y r) ≡ behind (xs ++ y ∷ []) r
+behind-put_first xs y (Ok ys) = ap Ok (sym (append_assoc xs (y ∷ []) ys))
+behind-put_first xs y (Err e) = refl
+
+-- at first nothing is read
+pub each_starts : {A B E : Type 0} (read : A → Result B E) (all : List A) → each read all ≡ behind [] (each read all)
+each_starts read all = sym (behind_nothing (each read all))
+
+-- one more element is read
+pub each_more : {A B E : Type 0} (read : A → Result B E) (x : A) (y : B) (all rest : List A) (xs : List B) (r : Result (List B) E) → r ≡ behind xs (each read all) → all ≡ x ∷ rest → read x ≡ Ok y → r ≡ behind (xs ++ y ∷ []) (each read rest)
+each_more read x y all rest xs r e at ok =
+    e ∙ ap (λ l. behind xs (each read l)) at ∙ ap (λ v. behind xs (and_then v (λ y'. put_first y' (each read rest)))) ok ∙ behind-put_first xs y (each read rest)
+
+-- the last element is read
+pub each_ends : {A B E : Type 0} (read : A → Result B E) (x : A) (y : B) (all : List A) (xs : List B) (r : Result (List B) E) → r ≡ behind xs (each read all) → all ≡ x ∷ [] → read x ≡ Ok y → r ≡ Ok (xs ++ y ∷ [])
+each_ends read x y all xs r e at ok = each_more read x y all [] xs r e at ok ∙ ap Ok (append-nil (xs ++ y ∷ []))
+
+-- an element is refused
+pub each_fails : {A B E : Type 0} (read : A → Result B E) (x : A) (fault : Option E) (all rest : List A) (xs : List B) (r : Result (List B) E) → r ≡ behind xs (each read all) → all ≡ x ∷ rest → IsFault fault (read x) → IsFault fault r
+each_fails read x None all rest xs r e at h = tt
+each_fails read x (Some f) all rest xs r e at h =
+    e ∙ ap (λ l. behind xs (each read l)) at ∙ ap (λ v. behind xs (and_then v (λ y'. put_first y' (each read rest)))) h

@@ -1,0 +1,12 @@
+pub mod CutElements
+pub mod CutGrammar
+pub mod CutListRows
+pub mod Decimals
+pub mod DelimGrammar
+pub mod DelimListRows
+pub mod Elements
+pub mod ListGrammar
+pub mod Merging
+pub mod OutGrammar
+pub mod OutListRows
+pub mod Reading

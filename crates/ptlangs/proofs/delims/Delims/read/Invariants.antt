@@ -1,0 +1,10 @@
+use Rattle.std.proofs.Common.{◌≡◌, length}
+use Rattle.ptlangs.specs.DelimLists.{delim_list}
+use Rattle.ptlangs.proofs.Elements.{behind}
+use Rattle.ptlangs.proofs.delims.Delims.read.Given as goal
+
+abbrev pub invariant-loop-kept : goal.invariant-loop-kept
+invariant-loop-kept g l = delim_list l.text ≡ behind l.kept.items (delim_list l.left)
+
+abbrev pub decreases-loop-kept : goal.decreases-loop-kept
+decreases-loop-kept g l = length l.left

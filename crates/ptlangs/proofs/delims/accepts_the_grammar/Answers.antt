@@ -1,0 +1,5 @@
+use Rattle.ptlangs.proofs.DelimGrammar.{accepts_the_grammar}
+use Rattle.ptlangs.proofs.delims.accepts_the_grammar.Goals as goal
+
+pub returns : goal.returns
+returns c = accepts_the_grammar

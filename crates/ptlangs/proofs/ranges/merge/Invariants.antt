@@ -1,0 +1,6 @@
+use Rattle.std.proofs.Common.{drop}
+use Rattle.ptlangs.proofs.Merging.{Merges}
+use Rattle.ptlangs.proofs.ranges.merge.Given as goal
+
+abbrev pub invariant-loop-next : goal.invariant-loop-next
+invariant-loop-next g l = Merges l.sorted l.kept.items l.current (drop l.next-index l.others)

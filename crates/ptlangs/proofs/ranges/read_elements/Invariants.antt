@@ -1,0 +1,11 @@
+use Rattle.std.proofs.Common.{◌≡◌, length}
+use Rattle.ptlangs.specs.CutLists.{element, cut_list}
+use Rattle.ptlangs.specs.Numbers.{elements, each}
+use Rattle.ptlangs.proofs.Elements.{behind}
+use Rattle.ptlangs.proofs.ranges.read_elements.Given as goal
+
+abbrev pub invariant-loop-listed : goal.invariant-loop-listed
+invariant-loop-listed g l = cut_list l.text ≡ behind l.listed.items (each element (elements l.left))
+
+abbrev pub decreases-loop-listed : goal.decreases-loop-listed
+decreases-loop-listed g l = length l.left

@@ -1,0 +1,82 @@
+//! Decimal numbers, and the elements of a list.
+ghost use Rattle.std.specs.Prelude.{◌≡◌, ◌∷◌, [], ◌<◌, length, MatchOption};
+ghost use Rattle.ptlangs.specs.Numbers.{is_number, number, is_separator, elements};
+
+/// Whether the text is a decimal number: one digit or more, and nothing else. Leading zeros are
+/// allowed (this project's own choice).
+pub fn is_decimal(text: &[u8]) -> bool
+    ensures { result ≡ is_number text.now }
+{
+    !text.is_empty() && text.iter().all(|byte| byte.is_ascii_digit())
+}
+
+/// The number that the text is in decimal, or `None` if it is no decimal number or is above
+/// `u64::MAX`.
+pub fn decimal(text: &[u8]) -> Option<u64>
+    ensures { result ≡ number text.now }
+{
+    if text.is_empty() {
+        return None;
+    }
+    let mut value: u64 = 0;
+    for byte in text {
+        if !byte.is_ascii_digit() {
+            return None;
+        }
+        value = value.checked_mul(10)?.checked_add(u64::from(*byte - b'0'))?;
+    }
+    Some(value)
+}
+
+/// The first element of a list, and what stands behind the comma, space or tab that ends it, or
+/// `None` if nothing ends it.
+pub(crate) fn first_element(text: &[u8]) -> (&[u8], Option<&[u8]>)
+    ensures first { MatchOption result.1 (elements text.now ≡ result.0.now ∷ []) (λ behind. elements text.now ≡ result.0.now ∷ elements behind.now) }
+    ensures shorter { MatchOption result.1 (result.0.now ≡ text.now) (λ behind. length behind.now < length text.now) }
+{
+    match text.iter().position(|byte| is_separator(*byte)) {
+        None => (text, None),
+        Some(end) => (&text[..end], Some(&text[end + 1..])),
+    }
+}
+
+/// Whether the byte stands between elements.
+fn is_separator(byte: u8) -> bool
+    ensures { result ≡ is_separator byte }
+{
+    matches!(byte, b',' | b' ' | b'\t')
+}
+
+#[cfg(test)]
+mod tests {
+    use super::*;
+
+    const ROWS: &[(&[u8], Option<u64>)] = &[
+        (b"0", Some(0)),
+        (b"7", Some(7)),
+        (b"00012", Some(12)),
+        (b"18446744073709551615", Some(u64::MAX)),
+        (b"0018446744073709551615", Some(u64::MAX)),
+        (b"18446744073709551616", None),
+        (b"99999999999999999999", None),
+        (b"184467440737095516150", None),
+        (b"", None),
+        (b"+1", None),
+        (b"1 ", None),
+        (b"1a", None),
+    ];
+
+    #[test]
+    fn reads_decimal_numbers(rt: HostRuntime) {
+        for (text, number) in ROWS {
+            assert_eq!(rt; decimal(text), *number);
+        }
+    }
+
+    #[test]
+    fn tells_decimal_numbers(rt: HostRuntime) {
+        assert!(rt; is_decimal(b"18446744073709551616"));
+        assert!(rt; !is_decimal(b""));
+        assert!(rt; !is_decimal(b"1-"));
+    }
+}

@@ -1,0 +1,7 @@
+pub mod Spelled
+pub mod Read
+pub mod Seen
+pub mod Groups
+pub mod Readings
+pub mod Chosen
+mod CutRows

@@ -1,0 +1,13 @@
+use Rattle.std.proofs.Common.{rules, ◌∙◌, tests, List, ℕ, sym}
+use Rattle.std.specs.Borrow.{Bor}
+use Rattle.std.proofs.lemmas.Iterator.{YieldsList-from_slice}
+use Rattle.std.proofs.lemmas.Iterator.Search.{all_from_yields_List}
+use Rattle.std.proofs.lemmas.List.Folds.{list_all-map}
+use Rattle.ptopts.specs.Faults.{is_standard}
+use Rattle.ptopts.proofs.operands.all_standard.Goals as goal
+
+pub returns : goal.returns
+returns c =
+    let all = c.args.operands.now in
+    all_from_yields_List (λ (w : Bor (List ℕ)). is_standard w.now) _ _ c.all.result c.all.ensures.ran (YieldsList-from_slice all cc) (λ x b q k. search (rules, tests))
+    ∙ sym (list_all-map is_standard (λ (w : Bor (List ℕ)). w.now) all)

@@ -1,0 +1,8 @@
+use Rattle.std.proofs.Common.{drop, option_map}
+use Rattle.ptopts.specs.Answers.{options_seen}
+use Rattle.ptopts.proofs.Groups.{Ahead}
+use Rattle.ptopts.proofs.reading.read_group.Given as goal
+
+abbrev pub invariant-loop-place : goal.invariant-loop-place
+invariant-loop-place g l =
+    Ahead l.tool l.word (option_map (λ w. w.now) l.next) (options_seen l.fn.options.items) (options_seen l.options.items) (drop l.place l.word)

@@ -1,0 +1,136 @@
+-- What is wrong with the words of a command, and which fault is the first (this project's own order).
+use Rattle.std.specs.Prelude.{ℕ, ◌==◌, ◌&&◌, List, [], ◌∷◌, ◌++◌, Bool, true, false, not, Option, Some, None, if◌then◌else◌, map, length, nat_le, codes, bytes_eq, is_some, is_ok, option_and_then}
+use Rattle.std.specs.List.{list_all}
+use Rattle.std.specs.Option.{option_or}
+use Rattle.std.specs.Str.{byte}
+use Rattle.ptlangs.specs.CutLists.{selection}
+use Rattle.ptopts.specs.declared.tool.Tool.{Tool}
+use Rattle.ptopts.specs.declared.tool.Tool.TheVariants.{Cut, Paste, Uniq, Comm, Join, Tr}
+use Rattle.ptopts.specs.Words.{GivenOption, Event, Given, Wanting, Stranger, has, has_letter, value_of}
+
+pub data Fault : Type 0 where
+  NoTool : Fault
+  Unknown : List ℕ → Fault
+  NeedsValue : ℕ → Fault
+  Twice : ℕ → Fault
+  Together : ℕ → ℕ → Fault
+  Value : ℕ → List ℕ → Fault
+  Operands : Fault
+  StandardTwice : Fault
+  NeedsList : Fault
+
+-- the first there is
+abbrev pub first_of : {A : Type 0} → List (Option A) → Option A
+first_of [] = None
+first_of (o ∷ os) = option_or o (first_of os)
+
+-- ---- reading faults
+
+-- the letters with a value that may be given again
+abbrev pub repeatable : Tool → List ℕ
+repeatable Cut = []
+repeatable Paste = []
+repeatable Uniq = []
+repeatable Comm = []
+repeatable Join = codes "av"
+repeatable Tr = []
+
+-- the letter was given, and may not be again
+abbrev pub is_spent : Tool → List GivenOption → ℕ → Bool
+is_spent tool before letter = has letter before && not (has_letter letter (repeatable tool))
+
+-- the fault of what stands at a letter, after these options
+abbrev pub event_fault : Tool → List GivenOption → Event → Option Fault
+event_fault tool before (Given o) = if is_some o.value && is_spent tool before o.letter then Some (Twice o.letter) else None
+event_fault tool before (Wanting letter) = if is_spent tool before letter then Some (Twice letter) else Some (NeedsValue letter)
+event_fault tool before (Stranger word) = Some (Unknown word)
+
+abbrev pub onto : List GivenOption → Event → List GivenOption
+onto before (Given o) = before ++ o ∷ []
+onto before (Wanting letter) = before
+onto before (Stranger word) = before
+
+-- the leftmost, after these options
+abbrev pub reading_fault : Tool → List GivenOption → List Event → Option Fault
+reading_fault tool before [] = None
+reading_fault tool before (event ∷ events) = option_or (event_fault tool before event) (reading_fault tool (onto before event) events)
+
+-- ---- combinations
+
+-- both letters were given
+abbrev pub together : List GivenOption → ℕ × ℕ → Option Fault
+together options (a, b) = if has a options && has b options then Some (Together a b) else None
+
+-- the first pair of which both were given
+abbrev pub first_together : List GivenOption → List (ℕ × ℕ) → Option Fault
+first_together options pairs = first_of (map (together options) pairs)
+
+-- the list of cut, which one of three letters takes
+abbrev pub list_given : List GivenOption → Option (List ℕ)
+list_given options = option_or (value_of (byte "b") options) (option_or (value_of (byte "c") options) (value_of (byte "f") options))
+
+abbrev pub needs_list : List GivenOption → Option Fault
+needs_list options = if is_some (list_given options) then None else Some NeedsList
+
+abbrev pub combination_fault : Tool → List GivenOption → Option Fault
+combination_fault Cut options = first_of (
+    first_together options ((byte "b", byte "c") ∷ (byte "b", byte "f") ∷ (byte "c", byte "f") ∷ [])
+    ∷ needs_list options
+    ∷ first_together options ((byte "c", byte "n") ∷ (byte "f", byte "n") ∷ (byte "b", byte "d") ∷ (byte "c", byte "d") ∷ (byte "b", byte "s") ∷ (byte "c", byte "s") ∷ [])
+    ∷ [])
+combination_fault Paste options = None
+combination_fault Uniq options = first_together options ((byte "c", byte "d") ∷ (byte "c", byte "u") ∷ (byte "d", byte "u") ∷ [])
+combination_fault Comm options = None
+combination_fault Join options = first_together options ((byte "a", byte "v") ∷ [])
+combination_fault Tr options = first_together options ((byte "c", byte "C") ∷ [])
+
+-- ---- values
+
+-- the value of a letter is refused by this test
+abbrev pub value_fault : List GivenOption → ℕ × (List ℕ → Bool) → Option Fault
+value_fault options (letter, is_good) = option_and_then (λ value. if is_good value then None else Some (Value letter value)) (value_of letter options)
+
+abbrev pub is_cut_list : List ℕ → Bool
+is_cut_list value = is_ok (selection value)
+
+-- one byte that is no newline
+abbrev pub is_delimiter : List ℕ → Bool
+is_delimiter (b ∷ []) = not (b == 10)
+is_delimiter _ = false
+
+-- the first value that is refused
+abbrev pub values_fault : Tool → List GivenOption → Option Fault
+values_fault Cut options = first_of (map (value_fault options) ((byte "b", is_cut_list) ∷ (byte "c", is_cut_list) ∷ (byte "f", is_cut_list) ∷ (byte "d", is_delimiter) ∷ []))
+values_fault _ options = None
+
+-- ---- operands
+
+abbrev pub is_between : ℕ → ℕ → ℕ → Bool
+is_between low high n = nat_le low n && nat_le n high
+
+-- tr has two operands, or with one of -d and -s one (for -s two as well)
+abbrev pub tr_operands : Bool → Bool → ℕ → Bool
+tr_operands deletes squeezes n =
+    if deletes && not squeezes then n == 1 else (if squeezes && not deletes then is_between 1 2 n else n == 2)
+
+abbrev pub has_right_number : Tool → List GivenOption → ℕ → Bool
+has_right_number Cut options n = nat_le n 512
+has_right_number Paste options n = is_between 1 512 n
+has_right_number Uniq options n = nat_le n 2
+has_right_number Comm options n = n == 2
+has_right_number Join options n = n == 2
+has_right_number Tr options n = tr_operands (has (byte "d") options) (has (byte "s") options) n
+
+abbrev pub is_standard : List ℕ → Bool
+is_standard word = bytes_eq word (codes "-")
+
+-- the tools that read two files, and standard input for one of them at most
+abbrev pub merges : Tool → Bool
+merges Comm = true
+merges Join = true
+merges _ = false
+
+abbrev pub operands_fault : Tool → List GivenOption → List (List ℕ) → Option Fault
+operands_fault tool options operands =
+    if not (has_right_number tool options (length operands)) then Some Operands
+    else (if merges tool && list_all is_standard operands then Some StandardTwice else None)

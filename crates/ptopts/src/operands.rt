@@ -1,0 +1,69 @@
+//! The operands of a command.
+
+ghost use Rattle.std.specs.Prelude.{◌≡◌};
+ghost use Rattle.std.specs.List.{list_all};
+ghost use Rattle.ptopts.specs.Faults as faults;
+ghost use Rattle.ptopts.specs.Faults.{operands_fault};
+ghost use Rattle.ptopts.specs.Answers.{Finds, options_seen, words_seen};
+
+use crate::fault::UseFault;
+use crate::reading::{GivenOption, has_letter};
+use crate::tool::Tool;
+
+/// The most operands that a command may have.
+const MOST: usize = 512;
+
+/// Whether the tool takes these operands.
+pub(crate) fn check_operands<'a>(
+    tool: Tool,
+    options: &[GivenOption<'a>],
+    operands: &[&'a str],
+) -> Result<(), UseFault<'a>>
+    ensures { Finds result (operands_fault tool (options_seen options.now) (words_seen operands.now)) }
+{
+    if !has_right_number(tool, options, operands.len()) {
+        return Err(UseFault::Operands);
+    }
+    if merges(tool) && all_standard(operands) {
+        return Err(UseFault::StandardTwice);
+    }
+    Ok(())
+}
+
+/// Whether the tool takes as many operands.
+fn has_right_number(tool: Tool, options: &[GivenOption], count: usize) -> bool
+    ensures { result ≡ faults.has_right_number tool (options_seen options.now) count }
+{
+    match tool {
+        Tool::Cut => count <= MOST,
+        Tool::Paste => 1 <= count && count <= MOST,
+        Tool::Uniq => count <= 2,
+        Tool::Comm | Tool::Join => count == 2,
+        Tool::Tr => match (has_letter(options, b'd'), has_letter(options, b's')) {
+            (true, false) => count == 1,
+            (false, true) => 1 <= count && count <= 2,
+            _ => count == 2,
+        },
+    }
+}
+
+/// Whether the tool reads two files, of which one at most may be standard input.
+fn merges(tool: Tool) -> bool
+    ensures { result ≡ faults.merges tool }
+{
+    matches!(tool, Tool::Comm | Tool::Join)
+}
+
+/// Whether the operand is standard input.
+pub(crate) fn is_standard(operand: &str) -> bool
+    ensures { result ≡ faults.is_standard operand.now }
+{
+    operand == "-"
+}
+
+/// Whether each operand is standard input.
+fn all_standard(operands: &[&str]) -> bool
+    ensures { result ≡ list_all faults.is_standard (words_seen operands.now) }
+{
+    operands.iter().all(|operand| is_standard(operand))
+}

@@ -1,0 +1,56 @@
+-- What is asked for by words, as the command that was read of them says it.
+use Rattle.std.proofs.Common.{◌≡◌, ℕ, ◌+◌, ◌<◌, false, cond, List, Option, Some, None, Result, Ok, Err, length, refl, sym, ◌∙◌, ap, subst, arith}
+use Rattle.std.specs.Prelude.{All, codes, is_none}
+use Rattle.ptlangs.specs.Jobs as jobs
+use Rattle.ptopts.specs.declared.fault.UseFault.{UseFault}
+use Rattle.ptopts.specs.declared.inputs.Input.{Input}
+use Rattle.ptopts.specs.declared.command.Command as code
+use Rattle.ptopts.specs.declared.command.Command.TheVariants.{Cut}
+use Rattle.ptopts.specs.Faults.{Fault}
+use Rattle.ptopts.specs.Commands.{Command, RunCut, meaning}
+use Rattle.ptopts.specs.Inputs.{file_names}
+use Rattle.ptopts.specs.Answers.{meant}
+use Rattle.ptopts.specs.Meant.{IsMeant, inputs_of}
+use Rattle.ptrun.specs.Meanings.{Meaning}
+use Rattle.ptrun.specs.Messages.{said_of, status_of, not_built}
+use Rattle.ptrun.specs.Each.{place, cut_meaning}
+use Rattle.ptrun.specs.Asked.{saying, command_as, meaning_in, tool_word, asked, asked_as, is_refused_memory}
+use Rattle.std.proofs.lemmas.List.{length-map}
+use Rattle.ptlangs.specs.Answers.{IsFault}
+use Rattle.ptrun.proofs.Turning.{places_within}
+
+as_meant : {A : Type 0} (tool : List ℕ) (m : Result Command Fault) (command : code.Command A) → IsMeant (Ok command) m → meaning_in tool m ≡ command_as command
+as_meant tool (Ok (RunCut j operands)) (Cut job inputs) (same, is) = λ i. command_meaning_at (sym same i) (sym is.names i) (sym is.order i)
+  where
+    command_meaning_at : jobs.Cut → List (List ℕ) → List Input → Meaning
+    command_meaning_at j names order = cond j.fields (saying (not_built (codes "cut")) 1) (cut_meaning j names order)
+as_meant tool (Err fault) command none = absurd none
+
+-- words that were read as this command
+pub asked_ok : {A : Type 0} (command : Result (code.Command A) UseFault) (words : List (List ℕ)) (c : code.Command A) → command ≡ Ok c → IsMeant command (meaning words) → asked_as command words ≡ command_as c
+asked_ok command words c is m = rw is (as_meant (tool_word words) (meaning words) c (subst (λ r. IsMeant r (meaning words)) is m))
+
+refused_in : (words : List (List ℕ)) (f : Option Fault) → IsFault f (meaning words)
+    → cond (is_none f) (saying (said_of (tool_word words) None) 1) (asked words) ≡ saying (said_of (tool_word words) f) (status_of f)
+refused_in words None m = refl
+refused_in words (Some f) m = ap (meaning_in (tool_word words)) m
+
+-- words that were refused
+pub asked_refused : {A : Type 0} (command : Result (code.Command A) UseFault) (words : List (List ℕ)) (fault : UseFault) → command ≡ Err fault → IsMeant command (meaning words)
+    → asked_as command words ≡ saying (said_of (tool_word words) (meant fault)) (status_of (meant fault))
+asked_refused command words fault is m = rw is (refused_in words (meant fault) (subst (λ r. IsMeant r (meaning words)) is m))
+
+-- each operand has a reader
+fits_in : {A : Type 0} (m : Result Command Fault) (command : code.Command A) → IsMeant (Ok command) m → All (λ o. place o < length (inputs_of command).names.items + 1) (inputs_of command).order.items
+fits_in (Ok (RunCut j operands)) (Cut job inputs) (same, is) =
+    let many : length inputs.names.items ≡ length (file_names operands) = sym (length-map inputs.names.items (λ w. w.now)) ∙ ap length is.names in
+    subst (λ (n : ℕ). All (λ o. place o < n + 1) inputs.order.items) (sym many) (subst (λ (l : List Input). All (λ o. place o < length (file_names operands) + 1) l) (sym is.order) (λ k d within. omega (arith, places_within 0 operands k d within)))
+fits_in (Err fault) command none = absurd none
+
+pub operands_fit : {A : Type 0} (command : Result (code.Command A) UseFault) (words : List (List ℕ)) (c : code.Command A) → command ≡ Ok c → IsMeant command (meaning words)
+    → All (λ o. place o < length (inputs_of c).names.items + 1) (inputs_of c).order.items
+operands_fit command words c is m = fits_in (meaning words) c (subst (λ r. IsMeant r (meaning words)) is m)
+
+-- where memory was not refused, it is what the words ask for
+pub as_asked : {A : Type 0} (command : Result (code.Command A) UseFault) (words : List (List ℕ)) → is_refused_memory command ≡ false → asked_as command words ≡ asked words
+as_asked command words roomy = rw roomy refl

@@ -1,0 +1,67 @@
+-- One turn of the loop over the operands.
+use Rattle.std.proofs.Common.{◌≡◌, ℕ, zero, suc, ◌+◌, ◌<◌, ◌≤◌, Bool, true, false, cond, List, [], ◌∷◌, ◌++◌, length, take, drop, get_or, sym, ◌∙◌, ap, subst, arith, append_assoc, take-append-drop}
+use Rattle.std.proofs.lemmas.List.{take_more, get_or-map, length-map, take_all}
+use Rattle.std.proofs.lemmas.Bool.{false≢true}
+use Rattle.ptlines.specs.Readers.{Reader}
+use Rattle.ptlines.specs.Text.{text, lines, ended_lines, longest_line}
+use Rattle.ptlines.specs.Outputs.{Output}
+use Rattle.ptlines.specs.Slots.{Slots}
+use Rattle.ptflow.specs.Runs.{IsRun}
+use Rattle.ptflow.specs.declared.faults.FlowFault.{FlowFault}
+use Rattle.std.proofs.Common.{Result}
+use Rattle.ptlines.specs.Inputs.{Given}
+use Rattle.ptlangs.specs.Jobs.{Cut}
+use Rattle.std.specs.List.{flat_map}
+use Rattle.ptflow.specs.Cuts.{cut_line, cut, cut_decided}
+use Rattle.ptrun.specs.Worlds.{reader_at, no_reader, IsFresh}
+use Rattle.ptrun.specs.Each.{place, places, cut_tool}
+use Rattle.std.specs.Prelude.{All, not}
+use Rattle.std.proofs.lemmas.List.Elements.{All-nil, All-cons}
+use Rattle.ptopts.specs.Faults.{is_standard}
+use Rattle.ptopts.specs.Inputs.{file_names, order_from}
+use Rattle.ptopts.specs.declared.inputs.Input.{Input}
+use Rattle.ptopts.specs.declared.inputs.Input.TheVariants.{Standard, File}
+
+-- each place has a fresh reader, or none
+pub fresh_all : (readers : List Reader) → ((k : ℕ) (d : Reader) → k < length readers → IsFresh (get_or readers k d)) → (q : ℕ) → IsFresh (reader_at readers q)
+fresh_all [] h q = λ opened. absurd (false≢true (sym opened))
+fresh_all (r ∷ readers) h zero = h zero no_reader (omega arith)
+fresh_all (r ∷ readers) h (suc q) = fresh_all readers (λ k d within. h (suc k) d (omega (arith, within))) q
+
+-- the operands before the i-th, it, and those behind
+pub places_next : (order : List Input) (i : ℕ) (d : Input) (p : ℕ) → i < length order → p ≡ place (get_or order i d) → take (i + 1) (places order) ≡ take i (places order) ++ p ∷ []
+places_next order i d p within is =
+    take_more (places order) i 0 (omega (arith, within, length-map order place))
+    ∙ ap (λ (n : ℕ). take i (places order) ++ n ∷ []) (get_or-map place order i d 0 within ∙ sym is)
+
+pub places_split : (order : List Input) (i : ℕ) (d : Input) (p : ℕ) → i < length order → p ≡ place (get_or order i d) → take i (places order) ++ p ∷ drop (i + 1) (places order) ≡ places order
+places_split order i d p within is =
+    sym (append_assoc (take i (places order)) (p ∷ []) (drop (i + 1) (places order))) ∙ ap (λ (l : List ℕ). l ++ drop (i + 1) (places order)) (sym (places_next order i d p within is))
+    ∙ take-append-drop (i + 1) (places order)
+
+pub places_end : (order : List Input) (i : ℕ) → length order ≤ i → take i (places order) ≡ places order
+places_end order i all = take_all i (places order) (omega (arith, all, length-map order place))
+
+-- where the end was said, all is decided
+pub cut_law : (job : Cut) (g : Given) → g.ended ≡ true → cut_decided 10 job g ≡ cut 10 job g.bytes
+cut_law job g ended = ap (λ (b : Bool). text 10 (flat_map (cut_line job) (cond b (lines 10 g.bytes) (ended_lines 10 g.bytes)))) ended
+
+-- a run over a reader whose lines end with newline is one of the tool
+pub cut_run : (job : Cut) (first reader new : Reader) (was is : Output) (before store : Slots) (result : Result (Unit {0}) FlowFault) → first ≡ reader → reader.ending ≡ 10
+    → IsRun (cut first.ending job) (cut_decided first.ending job) (longest_line first.ending) first new was is before store result
+    → IsRun (cut_tool job).text (cut_tool job).decided (cut_tool job).size reader new was is before store result
+cut_run job first reader new was is before store result same ends run =
+    subst (λ (e : ℕ). IsRun (cut e job) (cut_decided e job) (longest_line e) reader new was is before store result) ends
+    (subst (λ (r : Reader). IsRun (cut r.ending job) (cut_decided r.ending job) (longest_line r.ending) r new was is before store result) same run)
+
+-- ---- the operands of words
+
+-- each operand has a reader
+pub places_within : (n : ℕ) (operands : List (List ℕ)) → All (λ o. place o < n + length (file_names operands) + 1) (order_from n operands)
+places_within n [] = All-nil (λ (o : Input). place o < n + 0 + 1)
+places_within n (operand ∷ operands) = by_test (is_standard operand) (places_within n operands) (places_within (n + 1) operands)
+  where
+    by_test : (t : Bool) → All (λ o. place o < n + length (file_names operands) + 1) (order_from n operands) → All (λ o. place o < n + 1 + length (file_names operands) + 1) (order_from (n + 1) operands)
+        → All (λ o. place o < n + length (cond (not t) (operand ∷ file_names operands) (file_names operands)) + 1) (cond t (Standard ∷ order_from n operands) (File n ∷ order_from (n + 1) operands))
+    by_test true here later = All-cons (λ (o : Input). place o < n + length (file_names operands) + 1) Standard (order_from n operands) (omega arith) here
+    by_test false here later = All-cons (λ (o : Input). place o < n + length (operand ∷ file_names operands) + 1) (File n) (order_from (n + 1) operands) (omega arith) (λ k d within. omega (arith, later k d within))

@@ -1,0 +1,104 @@
+use Rattle.std.proofs.Common.{◌<◌, ℕ, List, [], ◌∷◌, Ok, Err, ◌+◌, length, take, drop, get_or, set, sym, ◌∙◌, ap, subst}
+use Rattle.std.specs.Prelude.{codes}
+use Rattle.std.proofs.lemmas.List.{get_or_default, set-get_or}
+use Rattle.ptlines.specs.Readers.{Reader}
+use Rattle.ptlangs.specs.Jobs.{cut_job}
+use Rattle.ptrun.specs.Worlds.{reader_at, no_reader, is_in, at}
+use Rattle.ptrun.specs.Sayings.{Tells, line_of, texts}
+use Rattle.ptrun.specs.Messages.{name_of}
+use Rattle.ptrun.specs.Each.{cut_tool, places, one_by_one}
+use Rattle.ptrun.specs.Reports.{blame, Went}
+use Rattle.ptrun.proofs.Passing.{pass_nothing, pass_all, pass_refused, pass_done, pass_stopped, ready_of}
+use Rattle.ptrun.proofs.Turning.{fresh_all, places_next, places_split, places_end, cut_law, cut_run}
+use Rattle.ptrun.proofs.operands.cut_each.Goals as goal
+use Rattle.ptrun.proofs.operands.cut_each.Goals.{then-is_refused, else-is_refused+in-Ok}
+
+pub loop-input-init : goal.loop-input-init
+loop-input-init g c =
+    pass_nothing (cut_tool (cut_job c.args.job.now)) (name_of (texts c.args.names.now)) c.args.inputs.now (fresh_all c.args.inputs.now c.requires.fresh) c.args.out.now c.args.voice.now c.args.store.now
+    c.requires.writable c.requires.roomy c.requires.empty
+
+pub cut-requires-clause-readable : goal.cut-requires-clause-readable
+cut-requires-clause-readable g c =
+    let p = c.place_of-place.result in
+    let now = c.loop-input.inputs in
+    let k = c.loop-input.invariant in
+    let in_old = subst (λ (n : ℕ). n < length c.args.inputs.now) (sym c.place_of-place.ensures) (c.requires.fits c.loop-input.input-index _ c.loop-input-test.true) in
+    let within : p < length now = subst (λ (n : ℕ). p < n) (sym k.same_length) in_old in
+    let here = get_or_default now p c.index-inputs-place.result no_reader within in
+    let opened = ap (λ (r : Reader). r.refused) (sym here) ∙ sym c.is_refused.ensures.refused ∙ c.if-is_refused.false in
+    ap (λ (r : Reader). r.fault) here ∙ (ready_of _ _ _ _ (fresh_all c.args.inputs.now c.requires.fresh p) opened (k.places p)).fault
+
+pub cut-requires-clause-unfailed : goal.cut-requires-clause-unfailed
+cut-requires-clause-unfailed g c =
+    let p = c.place_of-place.result in
+    let now = c.loop-input.inputs in
+    let k = c.loop-input.invariant in
+    let in_old = subst (λ (n : ℕ). n < length c.args.inputs.now) (sym c.place_of-place.ensures) (c.requires.fits c.loop-input.input-index _ c.loop-input-test.true) in
+    let within : p < length now = subst (λ (n : ℕ). p < n) (sym k.same_length) in_old in
+    let here = get_or_default now p c.index-inputs-place.result no_reader within in
+    let opened = ap (λ (r : Reader). r.refused) (sym here) ∙ sym c.is_refused.ensures.refused ∙ c.if-is_refused.false in
+    ap (λ (r : Reader). r.failed) here ∙ (ready_of _ _ _ _ (fresh_all c.args.inputs.now c.requires.fresh p) opened (k.places p)).failed
+
+pub loop-input-preserved : goal.loop-input-preserved
+loop-input-preserved g c =
+    let t = cut_tool (cut_job c.args.job.now) in
+    let name = name_of (texts c.args.names.now) in
+    let old = c.args.inputs.now in
+    let p = c.place_of-place.result in
+    let i = c.loop-input.input-index in
+    let done = take i (places c.args.order.now) in
+    let now = c.loop-input.inputs in
+    let k = c.loop-input.invariant in
+    let fresh = fresh_all old c.requires.fresh in
+    let in_old = subst (λ (n : ℕ). n < length old) (sym c.place_of-place.ensures) (c.requires.fits i _ c.loop-input-test.true) in
+    let within : p < length now = subst (λ (n : ℕ). p < n) (sym k.same_length) in_old in
+    let here = get_or_default now p c.index-inputs-place.result no_reader within in
+    let refused = ap (λ (r : Reader). r.refused) (sym here) ∙ sym c.is_refused.ensures.refused in
+    let next = places_next c.args.order.now i _ p c.loop-input-test.true c.place_of-place.ensures in
+    elim c.if-is_refused.branch [
+      | then-is_refused w ↦
+          let says = subst (λ (n : List ℕ). Tells c.loop-input.voice w.say.new.self (line_of (codes "cut" ∷ codes ": " ∷ n ∷ codes ": cannot be opened" ∷ []))) w.name_at.ensures w.say.ensures in
+          rw (w.inputs-is, set-get_or now p c.index-inputs-place.result, w.store-is, w.out-is, w.voice-is, w.refused-is, next)
+          (pass_refused t name old fresh c.args.out.now c.args.voice.now c.args.store.now now c.loop-input.out c.loop-input.voice w.say.new.self c.loop-input.store done c.loop-input.refused p k (refused ∙ w.if-is_refused.true) says)
+      | else-is_refused+in-Ok w ↦
+          let ready = ready_of (is_in done p) (reader_at old p) (reader_at now p) (at k.gave p) (fresh p) (refused ∙ w.if-is_refused.false) (k.places p) in
+          let run = cut_run (cut_job c.args.job.now) (get_or now p c.index-inputs-place.result) (reader_at now p) w.cut.new.reader c.loop-input.out w.cut.new.out c.loop-input.store w.cut.new.store w.cut.result here ready.ending w.cut.ensures.run in
+          rw (w.inputs-is, w.store-is, w.out-is, w.voice-is, w.refused-is, next)
+          (pass_done t name old fresh c.args.out.now c.args.voice.now c.args.store.now now c.loop-input.out w.cut.new.out c.loop-input.voice c.loop-input.store w.cut.new.store done c.loop-input.refused p w.cut.new.reader w.cut.result
+          k in_old (refused ∙ w.if-is_refused.false) run w.in-Ok.is)
+    ]
+
+pub returns-in-Err : goal.returns-in-Err
+returns-in-Err g c =
+    let t = cut_tool (cut_job c.args.job.now) in
+    let name = name_of (texts c.args.names.now) in
+    let old = c.args.inputs.now in
+    let p = c.place_of-place.result in
+    let i = c.loop-input.input-index in
+    let order = c.args.order.now in
+    let done = take i (places order) in
+    let more = drop (i + 1) (places order) in
+    let now = c.loop-input.inputs in
+    let k = c.loop-input.invariant in
+    let fresh = fresh_all old c.requires.fresh in
+    let in_old = subst (λ (n : ℕ). n < length old) (sym c.place_of-place.ensures) (c.requires.fits i _ c.loop-input-test.true) in
+    let within : p < length now = subst (λ (n : ℕ). p < n) (sym k.same_length) in_old in
+    let here = get_or_default now p c.index-inputs-place.result no_reader within in
+    let opened = ap (λ (r : Reader). r.refused) (sym here) ∙ sym c.is_refused.ensures.refused ∙ c.if-is_refused.false in
+    let ready = ready_of (is_in done p) (reader_at old p) (reader_at now p) (at k.gave p) (fresh p) opened (k.places p) in
+    let run = cut_run (cut_job c.args.job.now) (get_or now p c.index-inputs-place.result) (reader_at now p) c.cut.new.reader c.loop-input.out c.cut.new.out c.loop-input.store c.cut.new.store c.cut.result here ready.ending c.cut.ensures.run in
+    rw c.at_operand.ensures
+    (subst (λ (o : List ℕ). Went (one_by_one t name o) old (set now p c.cut.new.reader) c.args.out.now c.cut.new.out c.args.voice.now c.loop-input.voice c.args.store.now c.cut.new.store (Err (blame p c.in-Err.fault)))
+    (places_split order i _ p c.loop-input-test.true c.place_of-place.ensures)
+    (pass_stopped t name old fresh c.args.out.now c.args.voice.now c.args.store.now now c.loop-input.out c.cut.new.out c.loop-input.voice c.loop-input.store c.cut.new.store done c.loop-input.refused p c.cut.new.reader c.cut.result
+    k in_old opened run (cut_law (cut_job c.args.job.now)) more c.in-Err.fault c.in-Err.is))
+
+pub returns : goal.returns
+returns g c =
+    let t = cut_tool (cut_job c.args.job.now) in
+    let name = name_of (texts c.args.names.now) in
+    subst (λ (o : List ℕ). Went (one_by_one t name o) c.args.inputs.now c.loop-input.inputs c.args.out.now c.loop-input.out c.args.voice.now c.loop-input.voice c.args.store.now c.loop-input.store (Ok c.loop-input.refused))
+    (places_end c.args.order.now c.loop-input.input-index c.loop-input-test.false)
+    (pass_all t name c.args.inputs.now (fresh_all c.args.inputs.now c.requires.fresh) c.args.out.now c.args.voice.now c.args.store.now c.loop-input.inputs c.loop-input.out c.loop-input.voice c.loop-input.store
+    (take c.loop-input.input-index (places c.args.order.now)) c.loop-input.refused c.loop-input.invariant)

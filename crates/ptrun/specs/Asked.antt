@@ -1,0 +1,77 @@
+-- What the words of a command ask for.
+use Rattle.std.specs.Prelude.{ℕ, List, [], Bool, true, false, Some, None, Result, Ok, Err, codes, length, slice_index_or, is_none, if◌then◌else◌}
+use Rattle.ptlangs.specs.Jobs.{cut_job}
+use Rattle.ptlangs.specs.declared.jobs.CutJob.{CutJob}
+use Rattle.ptopts.specs.declared.inputs.Inputs.{Inputs}
+use Rattle.ptopts.specs.Faults.{Fault}
+use Rattle.ptopts.specs.Commands.{Command, RunCut, meaning}
+use Rattle.ptopts.specs.Inputs.{file_names, order_from}
+use Rattle.ptopts.specs.Answers.{meant, words_seen}
+use Rattle.ptopts.specs.Meant.{inputs_of}
+use Rattle.ptopts.specs.declared.fault.UseFault.{UseFault}
+use Rattle.ptopts.specs.declared.command.Command as code
+use Rattle.ptopts.specs.declared.command.Command.TheVariants as code_command
+use Rattle.ptrun.specs.Meanings.{Meaning}
+use Rattle.ptrun.specs.Messages.{said_of, not_built}
+use Rattle.ptrun.specs.Each.{cut_meaning}
+
+-- nothing is read or written, and this is said
+abbrev pub saying : List ℕ → ℕ → Meaning
+saying text status = record {
+  out = λ w. [];
+  messages = λ w. text;
+  status = λ w. status;
+  bound = λ w. 0;
+  decided = λ r. [];
+  named = λ w n. [];
+  places = [];
+  tool = [];
+  name = λ p. [];
+}
+
+-- what a command asks for; fields are not built yet
+abbrev pub command_meaning : Command → Meaning
+command_meaning (RunCut job operands) =
+    if job.fields then saying (not_built (codes "cut")) 1 else cut_meaning job (file_names operands) (order_from 0 operands)
+
+abbrev pub tool_word : List (List ℕ) → List ℕ
+tool_word words = slice_index_or words 0 []
+
+abbrev pub meaning_in : List ℕ → Result Command Fault → Meaning
+meaning_in tool (Ok command) = command_meaning command
+meaning_in tool (Err fault) = saying (said_of tool (Some fault)) 2
+
+-- what these words ask for
+abbrev pub asked : List (List ℕ) → Meaning
+asked words = meaning_in (tool_word words) (meaning words)
+
+-- reading the words was refused for want of memory
+abbrev pub is_refused_memory : {A : Type 0} → Result (code.Command A) UseFault → Bool
+is_refused_memory (Ok command) = false
+is_refused_memory (Err fault) = is_none (meant fault)
+
+-- what is asked for by words that were read so
+abbrev pub asked_as : {A : Type 0} → Result (code.Command A) UseFault → List (List ℕ) → Meaning
+asked_as command words = if is_refused_memory command then saying (said_of (tool_word words) None) 1 else asked words
+
+-- what `cut` is asked for; fields are not built yet
+abbrev pub cut_as : {A : Type 0} → CutJob A → Inputs A → Meaning
+cut_as job inputs =
+    if job.fields then saying (not_built (codes "cut")) 1 else cut_meaning (cut_job job) (words_seen inputs.names.items) inputs.order.items
+
+-- what a command that was read asks for
+abbrev pub command_as : {A : Type 0} → code.Command A → Meaning
+command_as (code_command.Cut job inputs) = cut_as job inputs
+
+-- nothing is read or written for this command
+abbrev pub is_quiet_command : {A : Type 0} → code.Command A → Bool
+is_quiet_command (code_command.Cut job inputs) = job.fields
+
+abbrev pub is_quiet : {A : Type 0} → Result (code.Command A) UseFault → Bool
+is_quiet (Ok command) = is_quiet_command command
+is_quiet (Err fault) = true
+
+-- how many inputs there are beside standard input
+abbrev pub count_of : {A : Type 0} → Result (code.Command A) UseFault → ℕ
+count_of (Ok command) = length ((inputs_of command).names.items)
+count_of (Err fault) = 0

@@ -1,0 +1,46 @@
+-- The messages. Each ends with newline.
+use Rattle.std.specs.Prelude.{ℕ, ◌-◌, ◌==◌, List, [], ◌∷◌, Option, Some, None, codes, encode_utf8, if◌then◌else◌, slice_index_or}
+use Rattle.ptflow.specs.declared.faults.FlowFault.{FlowFault}
+use Rattle.ptflow.specs.declared.faults.FlowFault.TheVariants.{Read, Write, Memory}
+use Rattle.ptopts.specs.Faults.{Fault, NoTool, Unknown, NeedsValue, Twice, Together, Value, Operands, StandardTwice, NeedsList}
+use Rattle.ptrun.specs.Sayings.{line_of}
+
+-- why the words of a tool were refused
+abbrev pub refusal : List ℕ → Fault → List ℕ
+refusal tool NoTool = line_of (codes "ptext: first word: cut, paste, join, comm, uniq or tr" ∷ [])
+refusal tool (Unknown word) = line_of (tool ∷ codes ": unknown option in " ∷ word ∷ [])
+refusal tool (NeedsValue l) = line_of (tool ∷ codes ": option -" ∷ encode_utf8 l ∷ codes " needs a value" ∷ [])
+refusal tool (Twice l) = line_of (tool ∷ codes ": option -" ∷ encode_utf8 l ∷ codes " is given twice" ∷ [])
+refusal tool (Together a b) = line_of (tool ∷ codes ": options -" ∷ encode_utf8 a ∷ codes " and -" ∷ encode_utf8 b ∷ codes " do not go together" ∷ [])
+refusal tool (Value l value) = line_of (tool ∷ codes ": wrong value for option -" ∷ encode_utf8 l ∷ codes ": " ∷ value ∷ [])
+refusal tool Operands = line_of (tool ∷ codes ": wrong number of operands" ∷ [])
+refusal tool StandardTwice = line_of (tool ∷ codes ": standard input is named twice" ∷ [])
+refusal tool NeedsList = line_of (codes "cut: one of -b, -c and -f is needed" ∷ [])
+
+abbrev pub out_of_memory : List ℕ → List ℕ
+out_of_memory tool = line_of (tool ∷ codes ": out of memory" ∷ [])
+
+abbrev pub not_built : List ℕ → List ℕ
+not_built tool = line_of (tool ∷ codes ": not built yet" ∷ [])
+
+-- what is said of refused words, and of want of memory in reading them
+abbrev pub said_of : List ℕ → Option Fault → List ℕ
+said_of tool None = out_of_memory tool
+said_of tool (Some fault) = refusal tool fault
+
+abbrev pub status_of : Option Fault → ℕ
+status_of None = 1
+status_of (Some fault) = 2
+
+-- the name of the input at a place
+abbrev pub name_of : List (List ℕ) → ℕ → List ℕ
+name_of names place = if place == 0 then codes "standard input" else slice_index_or names (place - 1) []
+
+abbrev pub not_opened : List ℕ → List ℕ → List ℕ
+not_opened tool name = line_of (tool ∷ codes ": " ∷ name ∷ codes ": cannot be opened" ∷ [])
+
+-- the one message of a failure
+abbrev pub failure : List ℕ → (ℕ → List ℕ) → FlowFault → List ℕ
+failure tool name (Read place) = line_of (tool ∷ codes ": " ∷ name place ∷ codes ": read failed" ∷ [])
+failure tool name Write = line_of (tool ∷ codes ": output: write failed" ∷ [])
+failure tool name Memory = out_of_memory tool

@@ -1,0 +1,64 @@
+//! What is said of words that are no command.
+
+ghost use Rattle.std.specs.Prelude.{◌≡◌};
+ghost use Rattle.ptopts.specs.Answers.{meant};
+ghost use Rattle.ptrun.specs.Sayings.{Tells};
+ghost use Rattle.ptrun.specs.Messages.{said_of, status_of};
+
+use crate::voice::Voice;
+use ptlines::Sink;
+use ptopts::UseFault;
+
+// Says why the words of a tool were refused. The answer is the status.
+pub(crate) fn refuse<E: Sink>(tool: &str, fault: UseFault<'_>, voice: &mut Voice<E>) -> u8
+    ensures said { Tells voice.old voice.new (said_of tool.now (meant fault.entry)) }
+    ensures status { result ≡ status_of (meant fault.entry) }
+{
+    match fault {
+        UseFault::Tool => voice.say(&["ptext: first word: cut, paste, join, comm, uniq or tr"]),
+        UseFault::Unknown(word) => voice.say(&[tool, ": unknown option in ", word]),
+        UseFault::NeedsValue(letter) => {
+            voice.say(&[
+                tool,
+                ": option -",
+                char::from(letter).encode_utf8(&mut [0; 4]),
+                " needs a value",
+            ]);
+        }
+        UseFault::Twice(letter) => {
+            voice.say(&[
+                tool,
+                ": option -",
+                char::from(letter).encode_utf8(&mut [0; 4]),
+                " is given twice",
+            ]);
+        }
+        UseFault::Together(first, second) => {
+            voice.say(&[
+                tool,
+                ": options -",
+                char::from(first).encode_utf8(&mut [0; 4]),
+                " and -",
+                char::from(second).encode_utf8(&mut [0; 4]),
+                " do not go together",
+            ]);
+        }
+        UseFault::Value(letter, value) => {
+            voice.say(&[
+                tool,
+                ": wrong value for option -",
+                char::from(letter).encode_utf8(&mut [0; 4]),
+                ": ",
+                value,
+            ]);
+        }
+        UseFault::Operands => voice.say(&[tool, ": wrong number of operands"]),
+        UseFault::StandardTwice => voice.say(&[tool, ": standard input is named twice"]),
+        UseFault::NeedsList => voice.say(&["cut: one of -b, -c and -f is needed"]),
+        UseFault::Memory => {
+            voice.say(&[tool, ": out of memory"]);
+            return 1;
+        }
+    }
+    2
+}

@@ -1,0 +1,116 @@
+#!/bin/sh
+# Tests the built program from outside: what no proof speaks of, as real files, pipes and devices.
+# usage: tests/program.sh PROGRAM
+set -u
+program=$(cd "$(dirname "$1")" && pwd)/$(basename "$1")
+room=$(mktemp -d)
+trap 'rm -rf "$room"' EXIT
+cd "$room" || exit 1
+count=0
+bad=0
+
+# same NAME STATUS: the files out, messages and status against want.out, want.messages and STATUS
+same() {
+    count=$((count + 1))
+    if cmp -s out want.out && cmp -s messages want.messages && [ "$status" = "$2" ]; then
+        return
+    fi
+    bad=$((bad + 1))
+    echo "FAILED: $1 (status $status, wanted $2)"
+    diff out want.out | head -5
+    diff messages want.messages | head -5
+}
+
+# want OUT MESSAGES: what is wanted, as printf writes it
+want() {
+    printf "$1" >want.out
+    printf "$2" >want.messages
+}
+
+# run INPUT WORDS..: runs the program on the file INPUT
+run() {
+    input=$1
+    shift
+    "$program" "$@" <"$input" >out 2>messages
+    status=$?
+}
+
+printf 'abcd\n' >abcd
+want 'acd\n' ''
+run abcd cut -c 3-,1
+same "bytes in the order of the line" 0
+
+: >empty
+want '' ''
+run empty cut -c 1
+same "an empty input" 0
+
+want '' 'cut: wrong value for option -b: 18446744073709551616\n'
+run abcd cut -b 18446744073709551616
+same "a number that is too large" 2
+
+want '' 'ptext: first word: cut, paste, join, comm, uniq or tr\n'
+run abcd
+same "no words" 2
+
+want '' 'ptext: first word: cut, paste, join, comm, uniq or tr\n'
+run abcd "$(printf 'cut\377')"
+same "a word that is not UTF-8" 2
+
+mkdir folder
+want '' 'cut: standard input: read failed\n'
+run folder cut -c 1
+same "a folder as standard input" 1
+
+want '' ''
+"$program" cut -c 1 <abcd >/dev/full 2>messages
+status=$?
+: >out
+want '' 'cut: output: write failed\n'
+same "a full device" 1
+
+if [ -e /proc/self/fd ]; then
+    "$program" cut -c 1 <abcd 2>messages >&-
+    status=$?
+    : >out
+    want '' 'cut: output: write failed\n'
+    same "a closed output" 1
+fi
+
+# A closed pipe ends the run with the message of a failed write.
+head -c 4000000 /dev/zero | tr '\0' 'a' >many
+(
+    "$program" cut -b 1- <many 2>messages
+    echo $? >ended
+) | head -c 1 >out
+status=$(cat ended)
+want 'a' 'cut: output: write failed\n'
+same "a closed pipe" 1
+
+# Two outputs that are both gone: nothing is said, and the status stays.
+"$program" cut -c 1 <abcd >/dev/full 2>/dev/full
+status=$?
+: >out
+: >messages
+want '' ''
+same "both sinks full" 1
+
+# A long line takes no memory: with little of it the run still ends well.
+head -c 64000000 /dev/zero | tr '\0' 'b' >long
+(
+    ulimit -v 65536
+    "$program" cut -b 2-4 <long >out 2>messages
+    echo $? >ended
+)
+status=$(cat ended)
+want 'bbb\n' ''
+same "a line of 64 MB in 64 MiB of memory" 0
+
+printf 'ab\n' >f
+printf 'cd\n' >h
+want 'a\nc\n' 'cut: g: cannot be opened\n'
+run empty cut -c 1 f g h
+same "a file that cannot be opened" 1
+
+echo "$((count - bad)) of $count runs of the program as wanted"
+[ "$bad" = 0 ]
