@@ -1,7 +1,7 @@
 -- The first of the places that a search gives is the first place.
-use Rattle.std.proofs.Common.{◌≡◌, ℕ, zero, suc, ◌+◌, ◌-◌, ◌<◌, ◌≤◌, true, false, cond, Bool, List, [], ◌∷◌, Option, None, Some, length, get_or, sym, ◌∙◌, ap, subst, arith, refl}
+use Rattle.std.proofs.Common.{◌≡◌, ℕ, zero, suc, ◌+◌, ◌-◌, ◌≤◌, true, false, cond, Bool, List, [], ◌∷◌, Option, None, Some, length, get_or, sym, ◌∙◌, ap, subst, arith, refl}
 use Rattle.std.proofs.lemmas.Bool.{false≢true}
-use Rattle.memchr.specs.Find.{IsFirst, IsFirstByte, NoneBefore, Passes, TakesFirst, places_from, places}
+use Rattle.memchr.specs.Find.{IsFirst, IsFirstByte, Passes, TakesFirst, places_from, places}
 
 -- a place that does not pass stands in front of the first
 skipped : (test : ℕ → Bool) (hay : List ℕ) (i n : ℕ) (r : Option ℕ) → test (get_or hay i 0) ≡ false → IsFirst (Passes test hay) (i + 1) (i + 1 + n) r → IsFirst (Passes test hay) i (i + suc n) r

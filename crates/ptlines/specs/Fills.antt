@@ -90,5 +90,7 @@ Repeats old new (Some fault) result = (result ≡ Err fault) × (new ≡ old)
 pub record Blocks (old new : Reader) (result : Result (Bor (List ℕ)) LineFault) : Type 0 where
   pub shows : old.fault ≡ None → Shows old new result
   pub repeats : Repeats old new old.fault result
+  -- nothing is read while bytes are held
+  pub held : 0 < length old.held → new ≡ old
   pub was_sound : IsSound old
   pub is_sound : IsSound new

@@ -2,7 +2,7 @@
 
 use crate::texts::{is_line, lines_of, text_of};
 use ptfakes::{Pieces, Refusing, Repeated, Watched};
-use ptlines::{LineFault, LineReader, Source, Store};
+use ptlines::{LineFault, LineReader, Source, Store, find_near};
 use std::alloc::{Allocator, Global};
 use std::cell::Cell;
 use std::process::Abort;
@@ -189,10 +189,13 @@ fn the_ending_is_set_and_set_back(rt: HostRuntime) -> Result<(), Fail> {
     let mut store = Store::new(rt.alloc(), 1)?;
     assert_eq!(rt; next(&rt, &mut reader, &mut store), Ok(true));
     assert_eq!(rt; current(&rt, &store), b"a".as_slice());
+    assert_eq!(rt; reader.ending(), b'\n');
     reader.set_ending(true);
+    assert_eq!(rt; reader.ending(), 0);
     assert_eq!(rt; next(&rt, &mut reader, &mut store), Ok(true));
     assert_eq!(rt; current(&rt, &store), b"b".as_slice());
     reader.set_ending(false);
+    assert_eq!(rt; reader.ending(), b'\n');
     assert_eq!(rt; next(&rt, &mut reader, &mut store), Ok(true));
     assert_eq!(rt; current(&rt, &store), b"c".as_slice());
     assert_eq!(rt; next(&rt, &mut reader, &mut store), Ok(true));
@@ -404,5 +407,25 @@ fn a_very_long_line(rt: HostRuntime) -> Result<(), Fail> {
     assert_eq!(rt; next(&rt, &mut reader, &mut store), Ok(false));
     assert_eq!(rt; store.peak(), 1_000_000);
     assert_eq!(rt; store.now(), 0);
+    Ok(())
+}
+
+// One byte among others, at each of these places.
+fn finds(rt: &impl Abort, alloc: Global, place: usize) -> Result<(), Fail> {
+    let mut bytes = text_of(alloc, &[place], b'\n', true)?;
+    assert_eq!(rt; find_near(b'\n', &bytes), Some(place));
+    assert_eq!(rt; find_near(0, &bytes), None, "{place}");
+    bytes.extend_from_slice(b"\n\0\n")?;
+    assert_eq!(rt; find_near(b'\n', &bytes), Some(place));
+    assert_eq!(rt; find_near(0, &bytes), Some(place.saturating_add(2)));
+    Ok(())
+}
+
+#[test]
+fn a_byte_is_found(rt: HostRuntime) -> Result<(), Fail> {
+    assert_eq!(rt; find_near(b'\n', b""), None);
+    for place in [0, 1, 15, 16, 29, 30, 31, 32, 33, 63, 64, 65, 8191, 20000] {
+        finds(&rt, rt.alloc(), place)?;
+    }
     Ok(())
 }

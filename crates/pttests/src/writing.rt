@@ -2,7 +2,7 @@
 
 use crate::texts::{is_line, text_of};
 use ptfakes::{Fixed, Kept};
-use ptlines::{Out, Sink, WriteFault};
+use ptlines::{Out, Sink, WriteFault, send};
 use std::alloc::Global;
 use std::process::Abort;
 use std::test::Fail;
@@ -218,4 +218,32 @@ fn a_sink_with_no_memory(rt: HostRuntime) {
     // 5 and 5 bytes, 5 and 1, none, and two flushes.
     assert_eq!(rt; fixed.calls(), 7);
     assert_eq!(rt; fixed.flushes(), 2);
+}
+
+// Sends a text to a sink with room for so many bytes, and looks at what it has then.
+fn sends(
+    rt: &impl Abort,
+    alloc: Global,
+    room: usize,
+    passing: u64,
+    answer: Result<(), WriteFault>,
+) -> usize {
+    let mut sink = Kept::limited(alloc, 2, room, passing);
+    assert_eq!(rt; send(&mut sink, b"abcde"), answer);
+    assert!(rt; b"abcde".starts_with(sink.bytes()));
+    assert_eq!(rt; sink.flushes(), 0);
+    sink.bytes().len()
+}
+
+#[test]
+fn bytes_are_sent_at_once(rt: HostRuntime) {
+    assert_eq!(rt; sends(&rt, rt.alloc(), 9, 9, Ok(())), 5);
+    assert_eq!(rt; sends(&rt, rt.alloc(), 5, 3, Ok(())), 5);
+    assert_eq!(rt; sends(&rt, rt.alloc(), 4, 9, Err(WriteFault::Write)), 4);
+    assert_eq!(rt; sends(&rt, rt.alloc(), 9, 2, Err(WriteFault::Write)), 4);
+    assert_eq!(rt; sends(&rt, rt.alloc(), 9, 0, Err(WriteFault::Write)), 0);
+    assert_eq!(rt; sends(&rt, rt.alloc(), 0, 9, Err(WriteFault::Write)), 0);
+    let mut sink = Kept::new(rt.alloc());
+    assert_eq!(rt; send(&mut sink, b""), Ok(()));
+    assert_eq!(rt; sink.calls(), 0);
 }

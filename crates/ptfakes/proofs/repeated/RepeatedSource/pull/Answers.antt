@@ -1,6 +1,6 @@
 use Rattle.std.proofs.Common.{◌≡◌, ◌<◌, ◌-◌, length, min, replicate, arith, rules, ap}
 use Rattle.std.specs.Prelude.{◌||◌, ◌==◌}
-use Rattle.ptfakes.specs.Feeds.{Feed, FeedsPiece}
+use Rattle.ptfakes.specs.Feeds.{Feed}
 use Rattle.ptfakes.proofs.Repeating.{feeds_repeated, feeds_gives}
 use Rattle.ptfakes.proofs.repeated.RepeatedSource.pull.Goals as goal
 
