@@ -21,7 +21,7 @@ test: build/ptext
 	rt ci
 
 bench: build/ptext
-	sh bench/run.sh build/ptext
+	python3 bench/run.py build/ptext
 
 install: build/ptext
 	mkdir -p $(BIN)

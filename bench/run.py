@@ -1,0 +1,119 @@
+#!/usr/bin/env python3
+"""Ratios of ptext to the system's tools, by user and system time, measured side by side in one run.
+
+Usage: bench/run.py PTEXT [NAME..]
+
+Each case gives both the same 64 MB, in turn and RUNS times, and the best of each counts. The outputs are compared
+first. Below the table stands the least address space in which an empty line and a line of 64 MB are cut.
+"""
+
+import os
+import resource
+import subprocess
+import sys
+import tempfile
+
+SIZE = 64 << 20
+RUNS = 5
+
+WORDS = [
+    ["cut", "-c", "3-,1"],
+    ["cut", "-b", "5-20,40-60"],
+]
+
+
+def log_line(number):
+    return (
+        f"2026-11-22T10:{number // 60 % 60:02}:{number % 60:02}Z host{number % 17} web[{number % 9973}]: "
+        f"GET /items/{number} {200 + number % 5} {number * 7919 % 65536}\n"
+    )
+
+
+# 64 MB of log-like lines, of lines of 4 bytes, of lines of 10,000 bytes, and one line.
+INPUTS = {
+    "log": lambda: "".join(log_line(number) for number in range(20000)),
+    "short": lambda: "abcd\n",
+    "long": lambda: "0123456789" * 1000 + "\n",
+    "one line": lambda: "0123456789" * 1000,
+}
+
+
+def write_input(path, piece):
+    with open(path, "wb") as file:
+        left = SIZE
+        while left > 0:
+            left -= file.write(piece[:left])
+
+
+def measure(command, path, output):
+    """Seconds of user and system time."""
+    with open(path, "rb") as standard, open(output, "wb") as out:
+        child = subprocess.Popen(command, stdin=standard, stdout=out, env={**os.environ, "LC_ALL": "C"})
+        _, status, usage = os.wait4(child.pid, 0)
+        child.returncode = os.waitstatus_to_exitcode(status)
+    if child.returncode != 0:
+        sys.exit(f"{command} ended with {child.returncode}")
+    return usage.ru_utime + usage.ru_stime
+
+
+def same(one, other):
+    return subprocess.run(["cmp", "-s", one, other], check=False).returncode == 0
+
+
+def compare(folder, path, ptext, words):
+    """The best seconds of ptext and of the system's tool."""
+    ours, theirs = [], []
+    ours_out, theirs_out = os.path.join(folder, "ours"), os.path.join(folder, "theirs")
+    measure([ptext, *words], path, ours_out)
+    measure(words, path, theirs_out)
+    if not same(ours_out, theirs_out):
+        sys.exit(f"{words}: the outputs differ")
+    for _ in range(RUNS):
+        ours.append(measure([ptext, *words], path, os.devnull))
+        theirs.append(measure(words, path, os.devnull))
+    return min(ours), min(theirs)
+
+
+def runs_within(command, path, size):
+    """Whether the command runs in so many KiB of address space."""
+
+    def limit():
+        resource.setrlimit(resource.RLIMIT_AS, (size << 10, size << 10))
+
+    with open(path, "rb") as standard:
+        ended = subprocess.run(
+            command, stdin=standard, stdout=subprocess.DEVNULL, stderr=subprocess.DEVNULL, preexec_fn=limit, check=False
+        )
+    return ended.returncode == 0
+
+
+def least_space(command, path):
+    """The least address space in KiB, to 4 KiB."""
+    low, high = 0, 1 << 20
+    while high - low > 4:
+        middle = (low + high) // 2
+        low, high = (low, middle) if runs_within(command, path, middle) else (middle, high)
+    return high
+
+
+def main():
+    ptext = os.path.abspath(sys.argv[1])
+    names = sys.argv[2:] or list(INPUTS)
+    with tempfile.TemporaryDirectory() as folder:
+        print(f"{'input':10} {'words':32} {'ptext s':>8} {'system s':>8} {'ratio':>6}")
+        for name in names:
+            path = os.path.join(folder, name)
+            write_input(path, INPUTS[name]().encode())
+            for words in WORDS:
+                ours, theirs = compare(folder, path, ptext, words)
+                print(f"{name:10} {' '.join(words):32} {ours:8.3f} {theirs:8.3f} {ours / theirs:6.2f}")
+        empty, line = os.path.join(folder, "empty"), os.path.join(folder, "one line")
+        write_input(line, INPUTS["one line"]().encode())
+        with open(empty, "wb") as file:
+            file.write(b"\n")
+        for name, path in [("an empty line", empty), ("a line of 64 MB", line)]:
+            print(f"{name}: {least_space([ptext, 'cut', '-c', '2'], path)} KiB")
+
+
+if __name__ == "__main__":
+    main()
