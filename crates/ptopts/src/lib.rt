@@ -19,3 +19,4 @@ pub use command::Command;
 pub use fault::UseFault;
 pub use grammar::words_have_one_reading;
 pub use inputs::{Input, Inputs};
+pub use values::tr::TrStrings;
