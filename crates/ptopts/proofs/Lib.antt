@@ -1,5 +1,6 @@
 pub mod Spelled
 pub mod Read
+pub mod Accepted
 pub mod Seen
 pub mod Groups
 pub mod Readings
