@@ -6,3 +6,8 @@ pub mod Groups
 pub mod Readings
 pub mod Chosen
 mod CutRows
+mod PasteRows
+mod UniqRows
+mod CommRows
+mod JoinRows
+mod TrRows
