@@ -1,7 +1,13 @@
 pub mod Spelled
 pub mod Read
+pub mod Accepted
 pub mod Seen
 pub mod Groups
 pub mod Readings
 pub mod Chosen
 mod CutRows
+mod PasteRows
+mod UniqRows
+mod CommRows
+mod JoinRows
+mod TrRows

@@ -23,7 +23,7 @@ all_given-behind : (os : List GivenOption) (events : List Event) → all_given (
 all_given-behind [] events = refl
 all_given-behind (o ∷ os) events = all_given-behind os events
 
-options-map : (os : List GivenOption) → filter_map option_in (map Given os) ≡ os
+pub options-map : (os : List GivenOption) → filter_map option_in (map Given os) ≡ os
 options-map [] = refl
 options-map (o ∷ os) = ap (λ (xs : List GivenOption). o ∷ xs) (options-map os)
 

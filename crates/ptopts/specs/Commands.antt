@@ -1,17 +1,41 @@
 -- What the words of a command mean: a command, or the first fault.
-use Rattle.std.specs.Prelude.{ℕ, List, [], ◌∷◌, Bool, false, Option, Some, None, Result, Ok, Err, option_and_then, slice_get, unwrap_or, option_map, codes}
+use Rattle.std.specs.Prelude.{ℕ, ◌||◌, List, [], ◌∷◌, Bool, false, not, Option, Some, None, Result, Ok, Err, if◌then◌else◌, option_and_then, slice_get, slice_index_or, unwrap_or, option_map, codes, bytes_eq}
+use Rattle.std.specs.List.{list_any}
 use Rattle.std.specs.Result.{result_unwrap_or}
 use Rattle.std.specs.Str.{byte}
 use Rattle.ptlangs.specs.CutLists.{selection}
+use Rattle.ptlangs.specs.DelimLists.{delim_list}
+use Rattle.ptlangs.specs.OutLists.{out_list}
+use Rattle.ptlangs.specs.Numbers.{number}
 use Rattle.ptlangs.specs.Jobs as jobs
+use Rattle.ptlangs.specs.declared.jobs.Show.{Show}
+use Rattle.ptlangs.specs.declared.jobs.Show.TheVariants.{All, Counts, Repeated, Single}
+use Rattle.ptlangs.specs.declared.outlist.OutField.{OutField}
 use Rattle.ptopts.specs.declared.tool.Tool.{Tool}
-use Rattle.ptopts.specs.declared.tool.Tool.TheVariants.{Cut}
-use Rattle.ptopts.specs.Words.{GivenOption, tool_named, Reading, reading, options, has, value_of}
-use Rattle.ptopts.specs.Faults.{Fault, NoTool, first_of, list_given, reading_fault, combination_fault, values_fault, operands_fault}
+use Rattle.ptopts.specs.declared.tool.Tool.TheVariants.{Cut, Paste, Uniq, Comm, Join, Tr}
+use Rattle.ptopts.specs.Words.{GivenOption, tool_named, Reading, reading, options, has, value_of, values_of}
+use Rattle.ptopts.specs.Faults.{Fault, NoTool, first_of, list_given, reading_fault, combination_fault, values_fault, operands_fault, is_standard}
+
+-- what the strings of tr are judged with
+pub record Strings : Type 0 where
+  pub deletes : Bool
+  pub squeezes : Bool
+  pub complement : Bool
+  pub string1 : List ℕ
+  pub string2 : Option (List ℕ)
 
 -- a command, with its input operands
 pub data Command : Type 0 where
   RunCut : jobs.Cut → List (List ℕ) → Command
+  RunPaste : jobs.Paste → List (List ℕ) → Command
+  -- one input, and an output if that is a file
+  RunUniq : jobs.Uniq → List ℕ → Option (List ℕ) → Command
+  RunComm : jobs.Comm → List (List ℕ) → Command
+  RunJoin : jobs.Join → List (List ℕ) → Command
+  -- standard input
+  RunTr : Strings → Command
+
+-- ---- the jobs that options say
 
 -- the set that a list says
 abbrev pub set_of : List ℕ → ℕ → Bool
@@ -21,6 +45,10 @@ set_of text = result_unwrap_or (selection text) (λ n. false)
 abbrev pub byte_given : ℕ → List GivenOption → Option ℕ
 byte_given letter os = option_and_then (λ value. slice_get value 0) (value_of letter os)
 
+-- the number that is a letter's value
+abbrev pub number_given : ℕ → List GivenOption → Option ℕ
+number_given letter os = option_and_then number (value_of letter os)
+
 abbrev pub cut_job : List GivenOption → jobs.Cut
 cut_job os = record {
   fields = has (byte "f") os;
@@ -29,15 +57,90 @@ cut_job os = record {
   only = has (byte "s") os;
 }
 
+-- the delimiters that a list says
+abbrev pub delimiters_of : List ℕ → List (Option ℕ)
+delimiters_of text = result_unwrap_or (delim_list text) []
+
+abbrev pub paste_job : List GivenOption → jobs.Paste
+paste_job os = record {
+  serial = has (byte "s") os;
+  delimiters = unwrap_or (option_map delimiters_of (value_of (byte "d") os)) (Some 9 ∷ []);
+}
+
+abbrev pub show : List GivenOption → Show
+show os =
+    if has (byte "c") os then Counts
+    else (if has (byte "d") os then Repeated
+    else (if has (byte "u") os then Single else All))
+
+abbrev pub uniq_job : List GivenOption → jobs.Uniq
+uniq_job os = record {
+  show = show os;
+  fields = unwrap_or (number_given (byte "f") os) 0;
+  chars = unwrap_or (number_given (byte "s") os) 0;
+}
+
+abbrev pub comm_job : List GivenOption → jobs.Comm
+comm_job os = record { hide1 = has (byte "1") os; hide2 = has (byte "2") os; hide3 = has (byte "3") os }
+
+-- some value of the letter names this file
+abbrev pub names_file : List ℕ → ℕ → List GivenOption → Bool
+names_file file letter os = list_any (bytes_eq file) (values_of letter os)
+
+-- the unpairable lines of this file are asked for
+abbrev pub asks_unpaired : List ℕ → List GivenOption → Bool
+asks_unpaired file os = names_file file (byte "a") os || names_file file (byte "v") os
+
+-- the fields that a list says
+abbrev pub fields_of : List ℕ → List OutField
+fields_of text = result_unwrap_or (out_list text) []
+
+abbrev pub join_job : List GivenOption → jobs.Join
+join_job os = record {
+  pairs = not (has (byte "v") os);
+  unpaired1 = asks_unpaired (codes "1") os;
+  unpaired2 = asks_unpaired (codes "2") os;
+  empty = unwrap_or (value_of (byte "e") os) [];
+  list = option_map fields_of (value_of (byte "o") os);
+  separator = byte_given (byte "t") os;
+  field1 = unwrap_or (number_given (byte "1") os) 1;
+  field2 = unwrap_or (number_given (byte "2") os) 1;
+}
+
+abbrev pub strings : List GivenOption → List (List ℕ) → Strings
+strings os operands = record {
+  deletes = has (byte "d") os;
+  squeezes = has (byte "s") os;
+  complement = has (byte "c") os || has (byte "C") os;
+  string1 = slice_index_or operands 0 [];
+  string2 = slice_get operands 1;
+}
+
+-- ---- commands
+
 -- the inputs where no operand means standard input
 abbrev pub or_standard : List (List ℕ) → List (List ℕ)
 or_standard [] = codes "-" ∷ []
 or_standard (word ∷ words) = word ∷ words
 
+-- the one input of uniq
+abbrev pub input_of : List (List ℕ) → List ℕ
+input_of [] = codes "-"
+input_of (input ∷ more) = input
+
+-- the output of uniq, if it is a file
+abbrev pub output_of : List (List ℕ) → Option (List ℕ)
+output_of (input ∷ output ∷ more) = if is_standard output then None else Some output
+output_of _ = None
+
 -- the command of words without a fault
 abbrev pub command : Tool → List GivenOption → List (List ℕ) → Result Command Fault
 command Cut os operands = Ok (RunCut (cut_job os) (or_standard operands))
-command _ os operands = Err NoTool
+command Paste os operands = Ok (RunPaste (paste_job os) operands)
+command Uniq os operands = Ok (RunUniq (uniq_job os) (input_of operands) (output_of operands))
+command Comm os operands = Ok (RunComm (comm_job os) operands)
+command Join os operands = Ok (RunJoin (join_job os) operands)
+command Tr os operands = Ok (RunTr (strings os operands))
 
 abbrev pub unless : {A E : Type 0} → Option E → Result A E → Result A E
 unless None result = result

@@ -1,12 +1,15 @@
 -- What is wrong with the words of a command, and which fault is the first (this project's own order).
-use Rattle.std.specs.Prelude.{ℕ, ◌==◌, ◌&&◌, List, [], ◌∷◌, ◌++◌, Bool, true, false, not, Option, Some, None, if◌then◌else◌, map, length, nat_le, codes, bytes_eq, is_some, is_ok, option_and_then}
+use Rattle.std.specs.Prelude.{ℕ, ◌==◌, ◌&&◌, ◌||◌, List, [], ◌∷◌, ◌++◌, Bool, true, false, not, Option, Some, None, if◌then◌else◌, map, find, length, nat_le, codes, bytes_eq, is_some, is_ok, option_map, option_and_then}
 use Rattle.std.specs.List.{list_all}
-use Rattle.std.specs.Option.{option_or}
+use Rattle.std.specs.Option.{option_or, option_map_or}
 use Rattle.std.specs.Str.{byte}
 use Rattle.ptlangs.specs.CutLists.{selection}
+use Rattle.ptlangs.specs.DelimLists.{delim_list}
+use Rattle.ptlangs.specs.OutLists.{out_list}
+use Rattle.ptlangs.specs.Numbers.{number}
 use Rattle.ptopts.specs.declared.tool.Tool.{Tool}
 use Rattle.ptopts.specs.declared.tool.Tool.TheVariants.{Cut, Paste, Uniq, Comm, Join, Tr}
-use Rattle.ptopts.specs.Words.{GivenOption, Event, Given, Wanting, Stranger, has, has_letter, value_of}
+use Rattle.ptopts.specs.Words.{GivenOption, Event, Given, Wanting, Stranger, has, has_letter, value_of, values_of}
 
 pub data Fault : Type 0 where
   NoTool : Fault
@@ -90,18 +93,47 @@ combination_fault Tr options = first_together options ((byte "c", byte "C") ∷ 
 abbrev pub value_fault : List GivenOption → ℕ × (List ℕ → Bool) → Option Fault
 value_fault options (letter, is_good) = option_and_then (λ value. if is_good value then None else Some (Value letter value)) (value_of letter options)
 
+-- the first value of a letter that is refused by this test
+abbrev pub each_value_fault : List GivenOption → ℕ × (List ℕ → Bool) → Option Fault
+each_value_fault options (letter, is_good) = option_map (Value letter) (find (λ value. not (is_good value)) (values_of letter options))
+
 abbrev pub is_cut_list : List ℕ → Bool
 is_cut_list value = is_ok (selection value)
+
+abbrev pub is_delimiter_list : List ℕ → Bool
+is_delimiter_list value = is_ok (delim_list value)
+
+abbrev pub is_output_list : List ℕ → Bool
+is_output_list value = is_ok (out_list value)
 
 -- one byte that is no newline
 abbrev pub is_delimiter : List ℕ → Bool
 is_delimiter (b ∷ []) = not (b == 10)
 is_delimiter _ = false
 
+-- a number, 0 too
+abbrev pub is_count : List ℕ → Bool
+is_count value = is_some (number value)
+
+-- a number, counted from 1
+abbrev pub is_field_number : List ℕ → Bool
+is_field_number value = option_map_or (λ n. not (n == 0)) (number value) false
+
+-- one of two files
+abbrev pub is_file_number : List ℕ → Bool
+is_file_number value = bytes_eq value (codes "1") || bytes_eq value (codes "2")
+
 -- the first value that is refused
 abbrev pub values_fault : Tool → List GivenOption → Option Fault
 values_fault Cut options = first_of (map (value_fault options) ((byte "b", is_cut_list) ∷ (byte "c", is_cut_list) ∷ (byte "f", is_cut_list) ∷ (byte "d", is_delimiter) ∷ []))
-values_fault _ options = None
+values_fault Paste options = value_fault options (byte "d", is_delimiter_list)
+values_fault Uniq options = first_of (map (value_fault options) ((byte "f", is_count) ∷ (byte "s", is_count) ∷ []))
+values_fault Comm options = None
+values_fault Join options = first_of (
+    each_value_fault options (byte "a", is_file_number)
+    ∷ each_value_fault options (byte "v", is_file_number)
+    ∷ map (value_fault options) ((byte "o", is_output_list) ∷ (byte "t", is_delimiter) ∷ (byte "1", is_field_number) ∷ (byte "2", is_field_number) ∷ []))
+values_fault Tr options = None
 
 -- ---- operands
 

@@ -151,3 +151,7 @@ has letter options = list_any (λ o. o.letter == letter) options
 -- the value of a letter that is given once
 abbrev pub value_of : ℕ → List GivenOption → Option (List ℕ)
 value_of letter options = option_and_then (λ o. o.value) (find (λ o. o.letter == letter) options)
+
+-- the values of a letter that may be given again, in order
+abbrev pub values_of : ℕ → List GivenOption → List (List ℕ)
+values_of letter options = filter_map (λ o. if o.letter == letter then o.value else None) options

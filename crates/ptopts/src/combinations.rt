@@ -6,7 +6,7 @@ ghost use Rattle.ptopts.specs.Answers.{Finds, options_seen};
 use crate::fault::UseFault;
 use crate::reading::{GivenOption, has_letter};
 use crate::tool::Tool;
-use crate::values::list_given;
+use crate::values::cut::list_given;
 
 /// Whether the options stand in the tool's synopsis together.
 pub(crate) fn check_combinations<'a>(

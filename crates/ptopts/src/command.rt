@@ -1,8 +1,8 @@
 //! The command that words mean.
 
-ghost use Rattle.std.specs.Prelude.{◌≡◌, IfOk};
+ghost use Rattle.std.specs.Prelude.{◌≡◌, IfOk, [], ◌∷◌};
 ghost use Rattle.ptopts.specs.Faults.{combination_fault};
-ghost use Rattle.ptopts.specs.Commands.{judged, meaning, or_standard};
+ghost use Rattle.ptopts.specs.Commands.{judged, meaning, or_standard, input_of, output_of};
 ghost use Rattle.ptopts.specs.Answers.{options_seen, words_seen};
 ghost use Rattle.ptopts.specs.Inputs.{IsInputs};
 ghost use Rattle.ptopts.specs.Meant.{IsMeant, NamesTool, inputs_of};
@@ -10,17 +10,27 @@ ghost use Rattle.ptopts.specs.Meant.{IsMeant, NamesTool, inputs_of};
 use crate::combinations::check_combinations;
 use crate::fault::UseFault;
 use crate::inputs::Inputs;
-use crate::operands::check_operands;
+use crate::operands::{check_operands, is_standard};
 use crate::reading::{GivenOption, Reading, read_words};
 use crate::tool::Tool;
-use crate::values::cut_job;
-use ptlangs::jobs::CutJob;
+use crate::values::comm::comm_job;
+use crate::values::cut::cut_job;
+use crate::values::join::join_job;
+use crate::values::paste::paste_job;
+use crate::values::tr::{TrStrings, tr_strings};
+use crate::values::uniq::uniq_job;
+use ptlangs::jobs::{CommJob, CutJob, JoinJob, PasteJob, UniqJob};
 use std::alloc::{AllocError, Allocator, Global};
 
 /// What words mean: a tool's job, and its inputs.
 #[derive(Drop)]
 pub enum Command<'a, A: Allocator = Global> {
     Cut(CutJob<A>, Inputs<'a, A>),
+    Paste(PasteJob<A>, Inputs<'a, A>),
+    Uniq(UniqJob, Inputs<'a, A>),
+    Comm(CommJob, Inputs<'a, A>),
+    Join(JoinJob<A>, Inputs<'a, A>),
+    Tr(TrStrings<'a>, Inputs<'a, A>),
 }
 
 impl<'a, A: Allocator + Copy> Command<'a, A> {
@@ -45,10 +55,11 @@ impl<'a, A: Allocator + Copy> Command<'a, A> {
         check_combinations(tool, &options)?;
         match tool {
             Tool::Cut => read_cut(alloc, &options, operands),
-            _ => {
-                check_operands(tool, &options, operands)?;
-                Err(UseFault::Tool)
-            }
+            Tool::Paste => read_paste(alloc, &options, operands),
+            Tool::Uniq => read_uniq(alloc, &options, operands),
+            Tool::Comm => read_comm(alloc, &options, operands),
+            Tool::Join => read_join(alloc, &options, operands),
+            Tool::Tr => read_tr(alloc, &options, operands),
         }
     }
 }
@@ -59,7 +70,12 @@ impl<'a, A: Allocator> Command<'a, A> {
         ensures { result.now ≡ inputs_of self.now }
     {
         match self {
-            Command::Cut(_, inputs) => inputs,
+            Command::Cut(_, inputs)
+            | Command::Paste(_, inputs)
+            | Command::Uniq(_, inputs)
+            | Command::Comm(_, inputs)
+            | Command::Join(_, inputs)
+            | Command::Tr(_, inputs) => inputs,
         }
     }
 
@@ -93,6 +109,70 @@ fn read_cut<'a, A: Allocator + Copy>(
     Ok(Command::Cut(job, inputs_or_standard(alloc, operands)?))
 }
 
+/// The command `paste`.
+fn read_paste<'a, A: Allocator + Copy>(
+    alloc: A,
+    options: &[GivenOption<'a>],
+    operands: &[&'a str],
+) -> Result<Command<'a, A>, UseFault<'a>>
+    ensures { IsMeant result (judged Tool.Paste (options_seen options.now) (words_seen operands.now)) }
+{
+    let job = paste_job(alloc, options)?;
+    check_operands(Tool::Paste, options, operands)?;
+    Ok(Command::Paste(job, Inputs::of(alloc, operands, None)?))
+}
+
+/// The command `uniq`.
+fn read_uniq<'a, A: Allocator + Copy>(
+    alloc: A,
+    options: &[GivenOption<'a>],
+    operands: &[&'a str],
+) -> Result<Command<'a, A>, UseFault<'a>>
+    ensures { IsMeant result (judged Tool.Uniq (options_seen options.now) (words_seen operands.now)) }
+{
+    let job = uniq_job(options)?;
+    check_operands(Tool::Uniq, options, operands)?;
+    Ok(Command::Uniq(job, input_and_output(alloc, operands)?))
+}
+
+/// The command `comm`.
+fn read_comm<'a, A: Allocator + Copy>(
+    alloc: A,
+    options: &[GivenOption<'a>],
+    operands: &[&'a str],
+) -> Result<Command<'a, A>, UseFault<'a>>
+    ensures { IsMeant result (judged Tool.Comm (options_seen options.now) (words_seen operands.now)) }
+{
+    check_operands(Tool::Comm, options, operands)?;
+    Ok(Command::Comm(comm_job(options), Inputs::of(alloc, operands, None)?))
+}
+
+/// The command `join`.
+fn read_join<'a, A: Allocator + Copy>(
+    alloc: A,
+    options: &[GivenOption<'a>],
+    operands: &[&'a str],
+) -> Result<Command<'a, A>, UseFault<'a>>
+    ensures { IsMeant result (judged Tool.Join (options_seen options.now) (words_seen operands.now)) }
+{
+    let job = join_job(alloc, options)?;
+    check_operands(Tool::Join, options, operands)?;
+    Ok(Command::Join(job, Inputs::of(alloc, operands, None)?))
+}
+
+/// The command `tr`.
+fn read_tr<'a, A: Allocator + Copy>(
+    alloc: A,
+    options: &[GivenOption<'a>],
+    operands: &[&'a str],
+) -> Result<Command<'a, A>, UseFault<'a>>
+    ensures { IsMeant result (judged Tool.Tr (options_seen options.now) (words_seen operands.now)) }
+{
+    check_operands(Tool::Tr, options, operands)?;
+    let strings = tr_strings(options, operands);
+    Ok(Command::Tr(strings, Inputs::standard(alloc)?))
+}
+
 /// The inputs that these operands name; standard input without an operand.
 fn inputs_or_standard<'a, A: Allocator + Copy>(
     alloc: A,
@@ -104,5 +184,22 @@ fn inputs_or_standard<'a, A: Allocator + Copy>(
         Inputs::standard(alloc)
     } else {
         Inputs::of(alloc, operands, None)
+    }
+}
+
+/// The one input of `uniq`, and its output: standard input without an operand (POSIX.1-2017, XCU, `uniq`), and
+/// no file where the second operand is `-` (this project's own choice).
+fn input_and_output<'a, A: Allocator + Copy>(
+    alloc: A,
+    operands: &[&'a str],
+) -> Result<Inputs<'a, A>, AllocError>
+    ensures { IfOk result (λ i. IsInputs i (input_of (words_seen operands.now) ∷ []) (output_of (words_seen operands.now))) }
+{
+    match operands {
+        [] => Inputs::standard(alloc),
+        [input, output, ..] if !is_standard(output) => {
+            Inputs::of(alloc, &[*input], Some(*output))
+        }
+        [input, ..] => Inputs::of(alloc, &[*input], None),
     }
 }

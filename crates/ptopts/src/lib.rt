@@ -17,5 +17,6 @@ mod values;
 
 pub use command::Command;
 pub use fault::UseFault;
-pub use grammar::words_have_one_reading;
+pub use grammar::{commands_are_spelled, words_have_one_reading};
 pub use inputs::{Input, Inputs};
+pub use values::tr::TrStrings;

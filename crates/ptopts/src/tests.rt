@@ -1,6 +1,9 @@
 use super::*;
 use crate::refusing::Refusing;
+use ptlangs::jobs::{CommJob, Show, UniqJob};
+use ptlangs::outlist::{File, OutField};
 use ptlangs::ranges::Interval;
+use std::process::Abort;
 use std::test::Fail;
 
 const REFUSED: &[(&[&str], UseFault)] = &[
@@ -61,6 +64,92 @@ const REFUSED: &[(&[&str], UseFault)] = &[
     (&["cut", "-d", "::", "-f1"], UseFault::Value(b'd', "::")),
     (&["cut", "-d", "é", "-f1"], UseFault::Value(b'd', "é")),
     (&["cut", "-f1", "-d", "\n"], UseFault::Value(b'd', "\n")),
+    (&["paste", "-sz", "f"], UseFault::Unknown("-sz")),
+    (&["paste", "-d"], UseFault::NeedsValue(b'd')),
+    (&["paste", "-d,", "-d;", "f"], UseFault::Twice(b'd')),
+    (&["paste", "-d", "a\\", "f"], UseFault::Value(b'd', "a\\")),
+    (&["paste", "-d", "\\q", "f"], UseFault::Value(b'd', "\\q")),
+    (&["paste", "-d", "", "f"], UseFault::Value(b'd', "")),
+    (&["paste", "-sd", ""], UseFault::Value(b'd', "")),
+    (&["paste"], UseFault::Operands),
+    (&["paste", "-s", "--"], UseFault::Operands),
+    (&["uniq", "-1"], UseFault::Unknown("-1")),
+    (&["uniq", "-f"], UseFault::NeedsValue(b'f')),
+    (&["uniq", "-s", "1", "-s1"], UseFault::Twice(b's')),
+    (&["uniq", "-dc"], UseFault::Together(b'c', b'd')),
+    (&["uniq", "-u", "-c"], UseFault::Together(b'c', b'u')),
+    (&["uniq", "-ud"], UseFault::Together(b'd', b'u')),
+    (&["uniq", "-ducfx"], UseFault::Together(b'c', b'd')),
+    (&["uniq", "-f", "-1"], UseFault::Value(b'f', "-1")),
+    (&["uniq", "-f", ""], UseFault::Value(b'f', "")),
+    (&["uniq", "-s+1"], UseFault::Value(b's', "+1")),
+    (
+        &["uniq", "-s", "18446744073709551616"],
+        UseFault::Value(b's', "18446744073709551616"),
+    ),
+    (&["uniq", "-sx", "-fy"], UseFault::Value(b'f', "y")),
+    (&["uniq", "-sx", "a", "b", "c"], UseFault::Value(b's', "x")),
+    (&["uniq", "--", "-c", "a", "b"], UseFault::Operands),
+    (&["comm", "-4", "f", "g"], UseFault::Unknown("-4")),
+    (&["comm", "f"], UseFault::Operands),
+    (&["comm", "-", "-", "-"], UseFault::Operands),
+    (&["comm", "-", "-"], UseFault::StandardTwice),
+    (&["comm", "-12", "--", "-", "-"], UseFault::StandardTwice),
+    (&["join", "-i", "f", "g"], UseFault::Unknown("-i")),
+    (&["join", "-a1", "-a"], UseFault::NeedsValue(b'a')),
+    (&["join", "-12", "-1", "2", "f", "g"], UseFault::Twice(b'1')),
+    (&["join", "-ex", "-e"], UseFault::Twice(b'e')),
+    (
+        &["join", "-a", "3", "-v", "1", "f", "g"],
+        UseFault::Together(b'a', b'v'),
+    ),
+    (
+        &["join", "-o", "1.0", "-a", "3", "f"],
+        UseFault::Value(b'a', "3"),
+    ),
+    (
+        &["join", "-a1", "-a0", "-a3", "f", "g"],
+        UseFault::Value(b'a', "0"),
+    ),
+    (
+        &["join", "-v", "", "-v3", "f", "g"],
+        UseFault::Value(b'v', ""),
+    ),
+    (
+        &["join", "-v12", "-o", "x", "f", "g"],
+        UseFault::Value(b'v', "12"),
+    ),
+    (
+        &["join", "-t", "", "-o", "0,1.0", "f", "g"],
+        UseFault::Value(b'o', "0,1.0"),
+    ),
+    (
+        &["join", "-10", "-t", "::", "f", "g"],
+        UseFault::Value(b't', "::"),
+    ),
+    (&["join", "-t", "\n", "f", "g"], UseFault::Value(b't', "\n")),
+    (
+        &["join", "-2", "x", "-1", "0", "f", "g"],
+        UseFault::Value(b'1', "0"),
+    ),
+    (
+        &["join", "-2", "18446744073709551616", "f"],
+        UseFault::Value(b'2', "18446744073709551616"),
+    ),
+    (&["join", "-2", "", "f", "g"], UseFault::Value(b'2', "")),
+    (&["join", "f"], UseFault::Operands),
+    (&["join", "f", "g", "h"], UseFault::Operands),
+    (&["join", "-v1", "-", "-"], UseFault::StandardTwice),
+    (&["tr", "-z", "a", "b"], UseFault::Unknown("-z")),
+    (&["tr", "-cC", "a", "b"], UseFault::Together(b'c', b'C')),
+    (&["tr", "-Ccd"], UseFault::Together(b'c', b'C')),
+    (&["tr", "-c", "a"], UseFault::Operands),
+    (&["tr", "a", "b", "c"], UseFault::Operands),
+    (&["tr", "-s"], UseFault::Operands),
+    (&["tr", "-s", "a", "b", "c"], UseFault::Operands),
+    (&["tr", "-d"], UseFault::Operands),
+    (&["tr", "-d", "a", "b"], UseFault::Operands),
+    (&["tr", "-ds", "a"], UseFault::Operands),
 ];
 
 #[test]
@@ -147,7 +236,9 @@ fn the_words_of_cut(rt: HostRuntime) -> Result<(), Fail> {
         let command = Command::read(rt.alloc(), row.words)?;
         assert_eq!(rt; command.names(), row.names);
         assert_eq!(rt; command.output(), None);
-        let Command::Cut(job, inputs) = &command;
+        let Command::Cut(job, inputs) = &command else {
+            return Ok(assert!(rt; false));
+        };
         assert_eq!(rt; inputs.order.as_slice(), row.order);
         assert_eq!(rt; job.list.intervals(), row.list);
         assert_eq!(rt;
@@ -175,24 +266,351 @@ fn at_most_512_operands(rt: HostRuntime) -> Result<(), Fail> {
     words[1] = "-b1";
     words.truncate(514);
     let command = Command::read(rt.alloc(), words.as_slice())?;
-    let Command::Cut(_, inputs) = &command;
+    let Command::Cut(_, inputs) = &command else {
+        return Ok(assert!(rt; false));
+    };
     assert_eq!(rt; inputs.order.len(), 512);
     Ok(())
 }
 
 #[test]
-fn each_growth_refused_in_turn(rt: HostRuntime) {
-    let words = ["cut", "-s", "-d,", "-f", "1,3", "f", "-", "g"];
+fn at_least_one_operand_of_paste(rt: HostRuntime) -> Result<(), Fail> {
+    let mut words = vec![in rt.alloc(); "-"; 514]?;
+    words[0] = "paste";
+    match Command::read(rt.alloc(), words.as_slice()) {
+        Ok(_) => assert!(rt; false),
+        Err(fault) => assert_eq!(rt; fault, UseFault::Operands),
+    }
+    words.truncate(513);
+    let most = Command::read(rt.alloc(), words.as_slice())?;
+    assert_eq!(rt; most.inputs().order.len(), 512);
+    let least = Command::read(rt.alloc(), &words[..2])?;
+    assert_eq!(rt;
+        least.inputs().order.as_slice(),
+        [Input::Standard].as_slice()
+    );
+    Ok(())
+}
+
+#[test]
+fn the_words_of_paste(rt: HostRuntime) -> Result<(), Fail> {
+    let words = ["paste", "-d", "\\0,", "-s", "f", "-", "-s"];
+    let command = Command::read(rt.alloc(), &words)?;
+    assert_eq!(rt; command.names(), ["f", "-s"].as_slice());
+    assert_eq!(rt; command.output(), None);
+    assert_eq!(rt;
+        command.inputs().order.as_slice(),
+        [Input::File(0), Input::Standard, Input::File(1)].as_slice()
+    );
+    let Command::Paste(job, _) = &command else {
+        return Ok(assert!(rt; false));
+    };
+    assert!(rt; job.serial);
+    assert_eq!(rt; job.delims.at(0), None);
+    assert_eq!(rt; job.delims.at(1), Some(b','));
+    assert_eq!(rt; job.delims.at(2), None);
+    let words = ["paste", "f"];
+    let Command::Paste(job, _) = Command::read(rt.alloc(), &words)? else {
+        return Ok(assert!(rt; false));
+    };
+    assert!(rt; !job.serial);
+    assert_eq!(rt; job.delims.at(3), Some(b'\t'));
+    Ok(())
+}
+
+struct Uniq {
+    words: &'static [&'static str],
+    job: UniqJob,
+    order: &'static [Input],
+    names: &'static [&'static str],
+    output: Option<&'static str>,
+}
+
+const UNIQS: &[Uniq] = &[
+    Uniq {
+        words: &["uniq"],
+        job: UniqJob {
+            show: Show::All,
+            fields: 0,
+            chars: 0,
+        },
+        order: &[Input::Standard],
+        names: &[],
+        output: None,
+    },
+    Uniq {
+        words: &["uniq", "-cc", "f"],
+        job: UniqJob {
+            show: Show::Counts,
+            fields: 0,
+            chars: 0,
+        },
+        order: &[Input::File(0)],
+        names: &["f"],
+        output: None,
+    },
+    Uniq {
+        words: &["uniq", "-df1", "-s", "007", "-", "-"],
+        job: UniqJob {
+            show: Show::Repeated,
+            fields: 1,
+            chars: 7,
+        },
+        order: &[Input::Standard],
+        names: &[],
+        output: None,
+    },
+    Uniq {
+        words: &["uniq", "-us", "18446744073709551615", "f", "f"],
+        job: UniqJob {
+            show: Show::Single,
+            fields: 0,
+            chars: u64::MAX,
+        },
+        order: &[Input::File(0)],
+        names: &["f"],
+        output: Some("f"),
+    },
+    Uniq {
+        words: &["uniq", "-f0", "--", "-", "-c"],
+        job: UniqJob {
+            show: Show::All,
+            fields: 0,
+            chars: 0,
+        },
+        order: &[Input::Standard],
+        names: &[],
+        output: Some("-c"),
+    },
+];
+
+#[test]
+fn the_words_of_uniq(rt: HostRuntime) -> Result<(), Fail> {
+    for row in UNIQS {
+        let command = Command::read(rt.alloc(), row.words)?;
+        assert_eq!(rt; command.names(), row.names);
+        assert_eq!(rt; command.output(), row.output);
+        let Command::Uniq(job, inputs) = &command else {
+            return Ok(assert!(rt; false));
+        };
+        assert_eq!(rt; *job, row.job);
+        assert_eq!(rt; inputs.order.as_slice(), row.order);
+    }
+    Ok(())
+}
+
+const COMMS: &[(&[&str], CommJob)] = &[
+    (&["comm", "f", "-"], CommJob { hide: [false; 3] }),
+    (
+        &["comm", "-1", "f", "-"],
+        CommJob {
+            hide: [true, false, false],
+        },
+    ),
+    (
+        &["comm", "-32", "-3", "f", "-"],
+        CommJob {
+            hide: [false, true, true],
+        },
+    ),
+];
+
+#[test]
+fn the_words_of_comm(rt: HostRuntime) -> Result<(), Fail> {
+    for (words, hides) in COMMS {
+        let command = Command::read(rt.alloc(), words)?;
+        assert_eq!(rt; command.names(), ["f"].as_slice());
+        let Command::Comm(job, inputs) = &command else {
+            return Ok(assert!(rt; false));
+        };
+        assert_eq!(rt; job, hides);
+        assert_eq!(rt;
+            inputs.order.as_slice(),
+            [Input::File(0), Input::Standard].as_slice()
+        );
+    }
+    Ok(())
+}
+
+struct Join {
+    words: &'static [&'static str],
+    pairs: bool,
+    unpaired: [bool; 2],
+    empty: &'static [u8],
+    list: Option<&'static [OutField]>,
+    sep: Option<u8>,
+    field: [u64; 2],
+}
+
+const JOINS: &[Join] = &[
+    Join {
+        words: &["join", "-", "g"],
+        pairs: true,
+        unpaired: [false, false],
+        empty: b"",
+        list: None,
+        sep: None,
+        field: [1, 1],
+    },
+    Join {
+        words: &["join", "-a", "2", "-e", "-", "-o", "0,1.2 2.2", "-", "g"],
+        pairs: true,
+        unpaired: [false, true],
+        empty: b"-",
+        list: Some(&[
+            OutField::Join,
+            OutField::Field(File::First, 2),
+            OutField::Field(File::Second, 2),
+        ]),
+        sep: None,
+        field: [1, 1],
+    },
+    Join {
+        words: &["join", "-t", ",", "-v", "1", "-v1", "-e", "", "-", "g"],
+        pairs: false,
+        unpaired: [true, false],
+        empty: b"",
+        list: None,
+        sep: Some(b','),
+        field: [1, 1],
+    },
+    Join {
+        words: &[
+            "join",
+            "-t\t",
+            "-a1",
+            "-a2",
+            "-13",
+            "-2",
+            "18446744073709551615",
+            "-eé",
+            "--",
+            "-",
+            "g",
+        ],
+        pairs: true,
+        unpaired: [true, true],
+        empty: b"\xc3\xa9",
+        list: None,
+        sep: Some(b'\t'),
+        field: [3, u64::MAX],
+    },
+];
+
+#[test]
+fn the_words_of_join(rt: HostRuntime) -> Result<(), Fail> {
+    for row in JOINS {
+        let command = Command::read(rt.alloc(), row.words)?;
+        assert_eq!(rt; command.names(), ["g"].as_slice());
+        let Command::Join(job, inputs) = &command else {
+            return Ok(assert!(rt; false));
+        };
+        assert_eq!(rt;
+            inputs.order.as_slice(),
+            [Input::Standard, Input::File(0)].as_slice()
+        );
+        assert_eq!(rt; (job.pairs, job.sep), (row.pairs, row.sep));
+        assert_eq!(rt; job.unpaired, row.unpaired);
+        assert_eq!(rt; job.empty.as_slice(), row.empty);
+        assert_eq!(rt; job.list.as_ref().map(|list| list.fields()), row.list);
+        assert_eq!(rt; job.field, row.field);
+    }
+    Ok(())
+}
+
+const STRINGS: &[(&[&str], TrStrings)] = &[
+    (
+        &["tr", "a-c", "-"],
+        TrStrings {
+            deletes: false,
+            squeezes: false,
+            complement: false,
+            string1: "a-c",
+            string2: Some("-"),
+        },
+    ),
+    (
+        &["tr", "-Cs", "a"],
+        TrStrings {
+            deletes: false,
+            squeezes: true,
+            complement: true,
+            string1: "a",
+            string2: None,
+        },
+    ),
+    (
+        &["tr", "-ss", "--", "-d", ""],
+        TrStrings {
+            deletes: false,
+            squeezes: true,
+            complement: false,
+            string1: "-d",
+            string2: Some(""),
+        },
+    ),
+    (
+        &["tr", "-d", "-c", "[:alpha:]"],
+        TrStrings {
+            deletes: true,
+            squeezes: false,
+            complement: true,
+            string1: "[:alpha:]",
+            string2: None,
+        },
+    ),
+    (
+        &["tr", "-ds", "0-9", "ab"],
+        TrStrings {
+            deletes: true,
+            squeezes: true,
+            complement: false,
+            string1: "0-9",
+            string2: Some("ab"),
+        },
+    ),
+];
+
+#[test]
+fn the_words_of_tr(rt: HostRuntime) -> Result<(), Fail> {
+    for (words, given) in STRINGS {
+        let command = Command::read(rt.alloc(), words)?;
+        assert_eq!(rt; command.names().len(), 0);
+        let Command::Tr(strings, inputs) = &command else {
+            return Ok(assert!(rt; false));
+        };
+        assert_eq!(rt; strings, given);
+        assert_eq!(rt; inputs.order.as_slice(), [Input::Standard].as_slice());
+    }
+    Ok(())
+}
+
+/// How many growths of reading these words can be refused, each in turn.
+fn growths(rt: &(impl Abort + Alloc), words: &[&str], names: &[&str]) -> u64 {
     let mut refused = 0u64;
-    for passed in 0..12u64 {
+    for passed in 0..16u64 {
         let alloc = Refusing::after(rt.alloc(), passed);
-        match Command::read(&alloc, &words) {
-            Ok(command) => assert_eq!(rt; command.names().len(), 2),
+        match Command::read(&alloc, words) {
+            Ok(command) => assert_eq!(rt; command.names(), names),
             Err(fault) => {
-                assert_eq!(rt; fault, UseFault::Memory);
+                assert_eq!(rt; (fault, refused), (UseFault::Memory, passed));
                 refused = refused.wrapping_add(1);
             }
         }
     }
-    assert_eq!(rt; refused, 5);
+    refused
+}
+
+#[test]
+fn each_growth_refused_in_turn(rt: HostRuntime) {
+    let cut = ["cut", "-s", "-d,", "-f", "1,3", "f", "-", "g"];
+    assert_eq!(rt; growths(&rt, &cut, &["f", "g"]), 5);
+    let paste = ["paste", "-s", "-d,;", "f", "-"];
+    assert_eq!(rt; growths(&rt, &paste, &["f"]), 4);
+    assert_eq!(rt; growths(&rt, &["paste", "f"], &["f"]), 3);
+    assert_eq!(rt; growths(&rt, &["uniq", "-c", "f", "out"], &["f"]), 3);
+    assert_eq!(rt; growths(&rt, &["comm", "-1", "f", "g"], &["f", "g"]), 3);
+    let join = ["join", "-o", "0", "-ex", "f", "-"];
+    assert_eq!(rt; growths(&rt, &join, &["f"]), 5);
+    assert_eq!(rt; growths(&rt, &["tr", "-d", "a"], &[]), 2);
 }

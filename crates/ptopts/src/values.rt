@@ -1,36 +1,27 @@
 //! The values of options.
 
-ghost use Rattle.std.specs.Prelude.{◌≡◌, IsSome, IfOk, option_map};
-ghost use Rattle.ptlangs.specs.CutLists.{is_selected};
-ghost use Rattle.ptlangs.specs.Jobs as jobs;
-ghost use Rattle.ptopts.specs.declared.tool.Tool.TheVariants.{Cut};
+ghost use Rattle.std.specs.Prelude.{◌≡◌, IfOk, option_map};
 ghost use Rattle.ptopts.specs.Words.{value_of};
-ghost use Rattle.ptopts.specs.Faults as faults;
-ghost use Rattle.ptopts.specs.Faults.{value_fault, values_fault, is_delimiter, is_cut_list};
-ghost use Rattle.ptopts.specs.Commands as commands;
-ghost use Rattle.ptopts.specs.Commands.{byte_given, set_of};
-ghost use Rattle.ptopts.specs.Answers.{Finds, FindsUnlessRefused, options_seen};
+ghost use Rattle.ptopts.specs.Faults.{value_fault, is_delimiter, is_count};
+ghost use Rattle.ptopts.specs.Commands.{byte_given, number_given};
+ghost use Rattle.ptopts.specs.Answers.{Finds, options_seen};
+
+pub(crate) mod comm;
+pub(crate) mod cut;
+pub(crate) mod join;
+pub(crate) mod paste;
+pub(crate) mod tr;
+pub(crate) mod uniq;
 
 use crate::fault::UseFault;
-use crate::reading::{GivenOption, has_letter};
-use ptlangs::jobs::CutJob;
-use ptlangs::ranges::{ListFault, Ranges};
-use std::alloc::Allocator;
+use crate::reading::GivenOption;
+use ptlangs::numbers;
 
 /// The value of a letter that is given once.
-pub(crate) fn value<'a>(options: &[GivenOption<'a>], letter: u8) -> Option<&'a str>
+fn value<'a>(options: &[GivenOption<'a>], letter: u8) -> Option<&'a str>
     ensures { option_map (λ v. v.now) result ≡ value_of letter (options_seen options.now) }
 {
     options.iter().find(|option| option.letter == letter)?.value
-}
-
-/// The list of `cut`.
-pub(crate) fn list_given<'a>(options: &[GivenOption<'a>]) -> Option<&'a str>
-    ensures { option_map (λ v. v.now) result ≡ faults.list_given (options_seen options.now) }
-{
-    value(options, b'b')
-        .or(value(options, b'c'))
-        .or(value(options, b'f'))
 }
 
 /// The one byte of a letter's value: no newline (this project's own choice).
@@ -47,42 +38,16 @@ fn delimiter<'a>(options: &[GivenOption<'a>], letter: u8) -> Result<Option<u8>, 
     }
 }
 
-/// The numbers that a letter's list selects.
-fn cut_list<'a, A: Allocator + Copy>(
-    alloc: A,
-    options: &[GivenOption<'a>],
-    letter: u8,
-) -> Result<Option<Ranges<A>>, UseFault<'a>>
-    ensures fault { FindsUnlessRefused result (value_fault (options_seen options.now) (letter, is_cut_list)) }
-    ensures list { IfOk result (λ r. option_map is_selected r ≡ option_map set_of (value_of letter (options_seen options.now))) }
+/// The number that is a letter's value, 0 too (this project's own choice).
+fn number<'a>(options: &[GivenOption<'a>], letter: u8) -> Result<Option<u64>, UseFault<'a>>
+    ensures fault { Finds result (value_fault (options_seen options.now) (letter, is_count)) }
+    ensures number { IfOk result (λ n. n ≡ number_given letter (options_seen options.now)) }
 {
     let Some(text) = value(options, letter) else {
         return Ok(None);
     };
-    match Ranges::read(alloc, text.as_bytes()) {
-        Ok(ranges) => Ok(Some(ranges)),
-        Err(ListFault::Memory) => Err(UseFault::Memory),
-        Err(_) => Err(UseFault::Value(letter, text)),
+    match numbers::decimal(text.as_bytes()) {
+        Some(number) => Ok(Some(number)),
+        None => Err(UseFault::Value(letter, text)),
     }
-}
-
-/// The job of `cut`.
-pub(crate) fn cut_job<'a, A: Allocator + Copy>(
-    alloc: A,
-    options: &[GivenOption<'a>],
-) -> Result<CutJob<A>, UseFault<'a>>
-    requires { IsSome (faults.list_given (options_seen options.now)) }
-    ensures fault { FindsUnlessRefused result (values_fault Cut (options_seen options.now)) }
-    ensures job { IfOk result (λ j. jobs.cut_job j ≡ commands.cut_job (options_seen options.now)) }
-{
-    let bytes = cut_list(alloc, options, b'b')?;
-    let characters = cut_list(alloc, options, b'c')?;
-    let fields = cut_list(alloc, options, b'f')?;
-    let delim = delimiter(options, b'd')?.unwrap_or(b'\t');
-    Ok(CutJob {
-        fields: has_letter(options, b'f'),
-        list: bytes.or(characters).or(fields).unwrap(),
-        delim,
-        only: has_letter(options, b's'),
-    })
 }

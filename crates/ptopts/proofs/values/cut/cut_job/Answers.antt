@@ -2,7 +2,7 @@ use Rattle.std.proofs.Common.{false, ◌∙◌, sym, refl, ℕ, Bool}
 use Rattle.ptlangs.specs.CutLists.{is_selected}
 use Rattle.ptopts.specs.Commands.{set_of}
 use Rattle.ptopts.proofs.Chosen.{first_chosen}
-use Rattle.ptopts.proofs.values.cut_job.Goals as goal
+use Rattle.ptopts.proofs.values.cut.cut_job.Goals as goal
 
 pub returns-clause-job : goal.returns-clause-job
 returns-clause-job g c =

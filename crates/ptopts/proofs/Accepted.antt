@@ -1,0 +1,94 @@
+-- What is spelled and allowed is meant, and nothing else is.
+use Rattle.std.proofs.Common.{◌≡◌, ℕ, List, [], ◌∷◌, ◌++◌, Bool, true, false, refl, ap, sym, ◌∙◌, subst, map, append_assoc, append-nil, Option, Some, None, ◌&&◌, Result, Ok, Err, ⊎_elim}
+use Rattle.std.specs.Prelude.{is_some, IsTrue, if◌then◌else◌}
+use Rattle.std.specs.Option.{option_or}
+use Rattle.std.proofs.lemmas.Bool.{cases_Bool}
+use Rattle.ptopts.specs.declared.tool.Tool.{Tool}
+use Rattle.ptopts.specs.Words.{GivenOption, Given, Spells, Reading, reading, options, tool_named}
+use Rattle.ptopts.specs.Faults.{Fault, Twice, NoTool, first_of, is_spent, event_fault, reading_fault, combination_fault, values_fault, operands_fault}
+use Rattle.ptopts.specs.Commands.{Command, command, unless, first_fault, meaning, meaning_for}
+use Rattle.ptopts.specs.Laws.{GivenOnce, AreAllowed, SpellsCommand, Spelled, MeantAsSpelled}
+use Rattle.ptopts.proofs.Spelled.{spelled, read_as}
+use Rattle.ptopts.proofs.Read.{options-map, option_or-none, read_as_spelled, spelled_unless_faulty}
+
+-- the same behind other options
+abbrev GivenOnceBehind : Tool → List GivenOption → List GivenOption → Type 0
+GivenOnceBehind tool first os = (before after : List GivenOption) (o : GivenOption)
+    → os ≡ before ++ o ∷ after → IsTrue (is_some o.value) → is_spent tool (first ++ before) o.letter ≡ false
+
+blamed : (some spent : Bool) (fault : Fault) → (if some && spent then Some fault else None) ≡ None → some ≡ true → spent ≡ false
+blamed true true fault none is = cc
+blamed true false fault none is = refl
+blamed false spent fault none is = cc
+
+unspent : (tool : Tool) (first : List GivenOption) (o : GivenOption) → event_fault tool first (Given o) ≡ None → is_some o.value ≡ true → is_spent tool first o.letter ≡ false
+unspent tool first o none some = blamed (is_some o.value) (is_spent tool first o.letter) (Twice o.letter) none some
+
+once_from : (tool : Tool) (first os : List GivenOption) → reading_fault tool first (map Given os) ≡ None → GivenOnceBehind tool first os
+once_from tool first [] none [] after o is some = cc
+once_from tool first [] none (b ∷ before) after o is some = cc
+once_from tool first (x ∷ os) none [] after o is some =
+    let here : event_fault tool first (Given x) ≡ None = (option_or-none (event_fault tool first (Given x)) (reading_fault tool (first ++ x ∷ []) (map Given os)) none).0 in
+    let same : x ≡ o = cc in
+    rw append-nil (unspent tool first o (subst (λ (y : GivenOption). event_fault tool first (Given y) ≡ None) same here) some)
+once_from tool first (x ∷ os) none (b ∷ before) after o is some =
+    let later = (option_or-none (event_fault tool first (Given x)) (reading_fault tool (first ++ x ∷ []) (map Given os)) none).1 in
+    let same : x ≡ b = cc in
+    let rest : os ≡ before ++ o ∷ after = cc in
+    subst (λ (y : GivenOption). is_spent tool (first ++ y ∷ before) o.letter ≡ false) same
+    (subst (λ (ys : List GivenOption). is_spent tool ys o.letter ≡ false) (append_assoc first (x ∷ []) before) (once_from tool (first ++ x ∷ []) os later before after o rest some))
+
+fresh : (tool : Tool) (first : List GivenOption) (o : GivenOption) → (is_some o.value ≡ true → is_spent tool first o.letter ≡ false) → event_fault tool first (Given o) ≡ None
+fresh tool first o once = ⊎_elim (λ some. let unspent : is_spent tool first o.letter ≡ false = once some in rw (some, unspent) refl) (λ none. rw none refl) (cases_Bool (is_some o.value))
+
+once_to : (tool : Tool) (first os : List GivenOption) → GivenOnceBehind tool first os → reading_fault tool first (map Given os) ≡ None
+once_to tool first [] once = refl
+once_to tool first (x ∷ os) once =
+    let here : event_fault tool first (Given x) ≡ None =
+    fresh tool first x (λ some. subst (λ (ys : List GivenOption). is_spent tool ys x.letter ≡ false) (append-nil first) (once [] os x refl some)) in
+    rw here (once_to tool (first ++ x ∷ []) os (λ before after o is some.
+    subst (λ (ys : List GivenOption). is_spent tool ys o.letter ≡ false) (sym (append_assoc first (x ∷ []) before)) (once (x ∷ before) after o (ap (λ (ys : List GivenOption). x ∷ ys) is) some)))
+
+-- the first of four, where there is none
+none_of : {A : Type 0} (a b c d : Option A) → first_of (a ∷ b ∷ c ∷ d ∷ []) ≡ None → (a ≡ None) × (b ≡ None) × (c ≡ None) × (d ≡ None)
+none_of a b c d none =
+    let p = option_or-none a _ none in
+    let q = option_or-none b _ p.1 in
+    let r = option_or-none c _ q.1 in
+    let s = option_or-none d None r.1 in
+    (p.0, q.0, r.0, s.0)
+
+unless_ok : {A E : Type 0} (e : Option E) (r : Result A E) (x : A) → unless e r ≡ Ok x → (e ≡ None) × (r ≡ Ok x)
+unless_ok None r x is = (refl, is)
+unless_ok (Some e) r x is = cc
+
+meant_if_spelled : (tool : Tool) (words : List (List ℕ)) (os : List GivenOption) (operands : List (List ℕ)) (c : Command)
+    → Spells tool words os operands → AreAllowed tool os operands → command tool os operands ≡ Ok c → meaning_for (Some tool) words ≡ Ok c
+meant_if_spelled tool words os operands c s a is =
+    subst (λ (r : Reading). unless (first_fault tool r) (command tool (options r) r.operands) ≡ Ok c) (sym (spelled tool s))
+    (rw (options-map os, once_to tool [] os a.once, a.together, a.values, a.inputs) is)
+
+spelled_if_meant : (name : List ℕ) (words : List (List ℕ)) (tool : Tool) (c : Command) → tool_named name ≡ Some tool → meaning_for (Some tool) words ≡ Ok c → SpellsCommand (name ∷ words) c
+spelled_if_meant name words tool c named is =
+    let r : Reading = reading tool words in
+    let os : List GivenOption = options r in
+    let both = unless_ok (first_fault tool r) (command tool os r.operands) c is in
+    let none = none_of (reading_fault tool [] r.events) (combination_fault tool os) (values_fault tool os) (operands_fault tool os r.operands) both.0 in
+    let s : Spells tool words os r.operands = spelled_unless_faulty tool words none.0 in
+    let events : reading_fault tool [] (map Given os) ≡ None = subst (λ (q : Reading). reading_fault tool [] q.events ≡ None) (spelled tool s) none.0 in
+    Spelled name words tool os r.operands c named s (record { once = once_from tool [] os events; together = none.1; values = none.2; inputs = none.3 }) both.1
+
+named_if_meant : (name : List ℕ) (words : List (List ℕ)) (c : Command) (found : Option Tool) → tool_named name ≡ found → meaning_for found words ≡ Ok c → SpellsCommand (name ∷ words) c
+named_if_meant name words c None named is = cc
+named_if_meant name words c (Some tool) named is = spelled_if_meant name words tool c named is
+
+meant_from : (words : List (List ℕ)) (c : Command) → SpellsCommand words c → meaning words ≡ Ok c
+meant_from words c (Spelled name rest tool os operands d named s a is) =
+    rw named (meant_if_spelled tool rest os operands d s a is)
+
+spelled_from : (words : List (List ℕ)) (c : Command) → meaning words ≡ Ok c → SpellsCommand words c
+spelled_from [] c is = cc
+spelled_from (name ∷ words) c is = named_if_meant name words c (tool_named name) refl is
+
+pub meant_as_spelled : MeantAsSpelled
+meant_as_spelled words c = (meant_from words c, spelled_from words c)

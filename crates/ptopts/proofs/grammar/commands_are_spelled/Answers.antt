@@ -1,0 +1,5 @@
+use Rattle.ptopts.proofs.Accepted.{meant_as_spelled}
+use Rattle.ptopts.proofs.grammar.commands_are_spelled.Goals as goal
+
+pub returns : goal.returns
+returns c = meant_as_spelled

@@ -1,0 +1,12 @@
+use Rattle.std.proofs.Common.{◌≡◌, ◌||◌, drop, codes}
+use Rattle.ptopts.specs.Faults.{each_value_fault, is_file_number}
+use Rattle.ptopts.specs.Commands.{names_file}
+use Rattle.ptopts.specs.Answers.{options_seen}
+use Rattle.ptopts.proofs.values.join.files_named.Given as goal
+
+abbrev pub invariant-loop-option : goal.invariant-loop-option
+invariant-loop-option l = record {
+  faults : each_value_fault (options_seen l.options) (l.letter, is_file_number) ≡ each_value_fault (options_seen (drop l.option-index l.options)) (l.letter, is_file_number);
+  named1 : names_file (codes "1") l.letter (options_seen l.options) ≡ (l.first || names_file (codes "1") l.letter (options_seen (drop l.option-index l.options)));
+  named2 : names_file (codes "2") l.letter (options_seen l.options) ≡ (l.second || names_file (codes "2") l.letter (options_seen (drop l.option-index l.options)));
+}

@@ -1,0 +1,68 @@
+//! The job of `cut`.
+
+ghost use Rattle.std.specs.Prelude.{◌≡◌, IsSome, IfOk, option_map};
+ghost use Rattle.ptlangs.specs.CutLists.{is_selected};
+ghost use Rattle.ptlangs.specs.Jobs as jobs;
+ghost use Rattle.ptopts.specs.declared.tool.Tool.TheVariants.{Cut};
+ghost use Rattle.ptopts.specs.Words.{value_of};
+ghost use Rattle.ptopts.specs.Faults as faults;
+ghost use Rattle.ptopts.specs.Faults.{value_fault, values_fault, is_cut_list};
+ghost use Rattle.ptopts.specs.Commands as commands;
+ghost use Rattle.ptopts.specs.Commands.{set_of};
+ghost use Rattle.ptopts.specs.Answers.{FindsUnlessRefused, options_seen};
+
+use crate::fault::UseFault;
+use crate::reading::{GivenOption, has_letter};
+use crate::values::{delimiter, value};
+use ptlangs::jobs::CutJob;
+use ptlangs::ranges::{ListFault, Ranges};
+use std::alloc::Allocator;
+
+/// The list of `cut`.
+pub(crate) fn list_given<'a>(options: &[GivenOption<'a>]) -> Option<&'a str>
+    ensures { option_map (λ v. v.now) result ≡ faults.list_given (options_seen options.now) }
+{
+    value(options, b'b')
+        .or(value(options, b'c'))
+        .or(value(options, b'f'))
+}
+
+/// The numbers that a letter's list selects.
+fn cut_list<'a, A: Allocator + Copy>(
+    alloc: A,
+    options: &[GivenOption<'a>],
+    letter: u8,
+) -> Result<Option<Ranges<A>>, UseFault<'a>>
+    ensures fault { FindsUnlessRefused result (value_fault (options_seen options.now) (letter, is_cut_list)) }
+    ensures list { IfOk result (λ r. option_map is_selected r ≡ option_map set_of (value_of letter (options_seen options.now))) }
+{
+    let Some(text) = value(options, letter) else {
+        return Ok(None);
+    };
+    match Ranges::read(alloc, text.as_bytes()) {
+        Ok(ranges) => Ok(Some(ranges)),
+        Err(ListFault::Memory) => Err(UseFault::Memory),
+        Err(_) => Err(UseFault::Value(letter, text)),
+    }
+}
+
+/// The job of `cut`.
+pub(crate) fn cut_job<'a, A: Allocator + Copy>(
+    alloc: A,
+    options: &[GivenOption<'a>],
+) -> Result<CutJob<A>, UseFault<'a>>
+    requires { IsSome (faults.list_given (options_seen options.now)) }
+    ensures fault { FindsUnlessRefused result (values_fault Cut (options_seen options.now)) }
+    ensures job { IfOk result (λ j. jobs.cut_job j ≡ commands.cut_job (options_seen options.now)) }
+{
+    let bytes = cut_list(alloc, options, b'b')?;
+    let characters = cut_list(alloc, options, b'c')?;
+    let fields = cut_list(alloc, options, b'f')?;
+    let delim = delimiter(options, b'd')?.unwrap_or(b'\t');
+    Ok(CutJob {
+        fields: has_letter(options, b'f'),
+        list: bytes.or(characters).or(fields).unwrap(),
+        delim,
+        only: has_letter(options, b's'),
+    })
+}

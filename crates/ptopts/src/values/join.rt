@@ -1,0 +1,110 @@
+//! The job of `join`.
+
+ghost use Rattle.std.specs.Prelude.{◌≡◌, IfOk, slice_index_or, false, unwrap_or, codes, option_map, []};
+ghost use Rattle.std.specs.Str.{byte};
+ghost use Rattle.ptlangs.specs.Jobs as jobs;
+ghost use Rattle.ptopts.specs.declared.tool.Tool.TheVariants.{Join};
+ghost use Rattle.ptopts.specs.Words.{value_of};
+ghost use Rattle.ptopts.specs.Faults.{value_fault, each_value_fault, values_fault, is_file_number, is_field_number, is_output_list};
+ghost use Rattle.ptopts.specs.Commands as commands;
+ghost use Rattle.ptopts.specs.Commands.{names_file, number_given, fields_of};
+ghost use Rattle.ptopts.specs.Answers.{Finds, FindsUnlessRefused, options_seen};
+
+use crate::fault::UseFault;
+use crate::reading::{GivenOption, has_letter};
+use crate::values::{delimiter, value};
+use ptlangs::jobs::JoinJob;
+use ptlangs::numbers;
+use ptlangs::outlist::{OutFault, OutList};
+use std::alloc::{AllocError, Allocator};
+
+/// For each of the two files, whether some value of the letter names it.
+fn files_named<'a>(options: &[GivenOption<'a>], letter: u8) -> Result<[bool; 2], UseFault<'a>>
+    ensures fault { Finds result (each_value_fault (options_seen options.now) (letter, is_file_number)) }
+    ensures first { IfOk result (λ named. slice_index_or named 0 false ≡ names_file (codes "1") letter (options_seen options.now)) }
+    ensures second { IfOk result (λ named. slice_index_or named 1 false ≡ names_file (codes "2") letter (options_seen options.now)) }
+{
+    let mut first = false;
+    let mut second = false;
+    for option in options {
+        if option.letter != letter {
+            continue;
+        }
+        match option.value {
+            None => {}
+            Some("1") => first = true,
+            Some("2") => second = true,
+            Some(text) => return Err(UseFault::Value(letter, text)),
+        }
+    }
+    Ok([first, second])
+}
+
+/// The number of a join field, counted from 1. The default is 1.
+fn field_number<'a>(options: &[GivenOption<'a>], letter: u8) -> Result<u64, UseFault<'a>>
+    ensures fault { Finds result (value_fault (options_seen options.now) (letter, is_field_number)) }
+    ensures number { IfOk result (λ n. n ≡ unwrap_or (number_given letter (options_seen options.now)) 1) }
+{
+    let Some(text) = value(options, letter) else {
+        return Ok(1);
+    };
+    match numbers::decimal(text.as_bytes()) {
+        None | Some(0) => Err(UseFault::Value(letter, text)),
+        Some(number) => Ok(number),
+    }
+}
+
+/// The output list, if one is given.
+fn output_list<'a, A: Allocator + Copy>(
+    alloc: A,
+    options: &[GivenOption<'a>],
+) -> Result<Option<OutList<A>>, UseFault<'a>>
+    ensures fault { FindsUnlessRefused result (value_fault (options_seen options.now) (byte "o", is_output_list)) }
+    ensures list { IfOk result (λ l. l ≡ option_map fields_of (value_of (byte "o") (options_seen options.now))) }
+{
+    let Some(text) = value(options, b'o') else {
+        return Ok(None);
+    };
+    match OutList::read(alloc, text.as_bytes()) {
+        Ok(list) => Ok(Some(list)),
+        Err(OutFault::Memory) => Err(UseFault::Memory),
+        Err(_) => Err(UseFault::Value(b'o', text)),
+    }
+}
+
+/// What stands for an empty field. The default is nothing.
+fn empty_field<A: Allocator + Copy>(
+    alloc: A,
+    options: &[GivenOption],
+) -> Result<Vec<u8, A>, AllocError>
+    ensures { IfOk result (λ v. v.items ≡ unwrap_or (value_of (byte "e") (options_seen options.now)) []) }
+{
+    match value(options, b'e') {
+        None => Ok(Vec::new(alloc)),
+        Some(text) => text.as_bytes().to_vec(alloc),
+    }
+}
+
+/// The job of `join`.
+pub(crate) fn join_job<'a, A: Allocator + Copy>(
+    alloc: A,
+    options: &[GivenOption<'a>],
+) -> Result<JoinJob<A>, UseFault<'a>>
+    ensures fault { FindsUnlessRefused result (values_fault Join (options_seen options.now)) }
+    ensures job { IfOk result (λ j. jobs.join_job j ≡ commands.join_job (options_seen options.now)) }
+{
+    let [also1, also2] = files_named(options, b'a')?;
+    let [only1, only2] = files_named(options, b'v')?;
+    let list = output_list(alloc, options)?;
+    let sep = delimiter(options, b't')?;
+    let field1 = field_number(options, b'1')?;
+    let field2 = field_number(options, b'2')?;
+    Ok(JoinJob {
+        pairs: !has_letter(options, b'v'),
+        unpaired: [also1 || only1, also2 || only2],
+        empty: empty_field(alloc, options)?,
+        list,
+        sep,
+        field: [field1, field2],
+    })
+}
