@@ -1,20 +1,21 @@
 -- What is asked for by words, as the command that was read of them says it.
-use Rattle.std.proofs.Common.{◌≡◌, ℕ, ◌+◌, ◌<◌, false, cond, List, Option, Some, None, Result, Ok, Err, length, refl, sym, ◌∙◌, ap, subst, arith}
+use Rattle.std.proofs.Common.{◌≡◌, ℕ, ◌+◌, ◌<◌, false, cond, List, [], ◌∷◌, Option, Some, None, Result, Ok, Err, length, refl, sym, ◌∙◌, ap, subst, arith}
 use Rattle.std.specs.Prelude.{All, codes, is_none}
 use Rattle.ptlangs.specs.Jobs as jobs
 use Rattle.ptopts.specs.declared.fault.UseFault.{UseFault}
 use Rattle.ptopts.specs.declared.inputs.Input.{Input}
 use Rattle.ptopts.specs.declared.command.Command as code
-use Rattle.ptopts.specs.declared.command.Command.TheVariants.{Cut}
+use Rattle.ptopts.specs.declared.command.Command.TheVariants.{Cut, Paste, Uniq, Comm, Join, Tr}
 use Rattle.ptopts.specs.Faults.{Fault}
-use Rattle.ptopts.specs.Commands.{Command, RunCut, meaning}
-use Rattle.ptopts.specs.Inputs.{file_names}
+use Rattle.ptopts.specs.Commands.{Command, RunCut, RunPaste, RunUniq, RunComm, RunJoin, RunTr, meaning}
+use Rattle.ptopts.specs.Inputs.{IsInputs, file_names}
+use Rattle.ptopts.specs.declared.inputs.Inputs.{Inputs}
 use Rattle.ptopts.specs.Answers.{meant}
 use Rattle.ptopts.specs.Meant.{IsMeant, inputs_of}
 use Rattle.ptrun.specs.Meanings.{Meaning}
-use Rattle.ptrun.specs.Messages.{said_of, status_of, not_built}
+use Rattle.ptrun.specs.Messages.{said_of, status_of}
 use Rattle.ptrun.specs.Each.{place, cut_meaning}
-use Rattle.ptrun.specs.Asked.{saying, command_as, meaning_in, tool_word, asked, asked_as, is_refused_memory}
+use Rattle.ptrun.specs.Asked.{saying, not_yet, command_as, meaning_in, tool_word, asked, asked_as, is_refused_memory}
 use Rattle.std.proofs.lemmas.List.{length-map}
 use Rattle.ptlangs.specs.Answers.{IsFault}
 use Rattle.ptrun.proofs.Turning.{places_within}
@@ -23,7 +24,13 @@ as_meant : {A : Type 0} (tool : List ℕ) (m : Result Command Fault) (command : 
 as_meant tool (Ok (RunCut j operands)) (Cut job inputs) (same, is) = λ i. command_meaning_at (sym same i) (sym is.names i) (sym is.order i)
   where
     command_meaning_at : jobs.Cut → List (List ℕ) → List Input → Meaning
-    command_meaning_at j names order = cond j.fields (saying (not_built (codes "cut")) 1) (cut_meaning j names order)
+    command_meaning_at j names order = cond j.fields (not_yet (codes "cut")) (cut_meaning j names order)
+as_meant tool (Ok (RunPaste j operands)) (Paste job inputs) is = refl
+as_meant tool (Ok (RunUniq j input output)) (Uniq job inputs) is = refl
+as_meant tool (Ok (RunComm j operands)) (Comm job inputs) is = refl
+as_meant tool (Ok (RunJoin j operands)) (Join job inputs) is = refl
+as_meant tool (Ok (RunTr s)) (Tr strings inputs) is = refl
+as_meant tool (Ok _) _ none = absurd none
 as_meant tool (Err fault) command none = absurd none
 
 -- words that were read as this command
@@ -41,10 +48,19 @@ pub asked_refused : {A : Type 0} (command : Result (code.Command A) UseFault) (w
 asked_refused command words fault is m = rw is (refused_in words (meant fault) (subst (λ r. IsMeant r (meaning words)) is m))
 
 -- each operand has a reader
-fits_in : {A : Type 0} (m : Result Command Fault) (command : code.Command A) → IsMeant (Ok command) m → All (λ o. place o < length (inputs_of command).names.items + 1) (inputs_of command).order.items
-fits_in (Ok (RunCut j operands)) (Cut job inputs) (same, is) =
+inputs_fit : {A : Type 0} (inputs : Inputs A) (operands : List (List ℕ)) (output : Option (List ℕ)) → IsInputs inputs operands output → All (λ o. place o < length inputs.names.items + 1) inputs.order.items
+inputs_fit inputs operands output is =
     let many : length inputs.names.items ≡ length (file_names operands) = sym (length-map inputs.names.items (λ w. w.now)) ∙ ap length is.names in
     subst (λ (n : ℕ). All (λ o. place o < n + 1) inputs.order.items) (sym many) (subst (λ (l : List Input). All (λ o. place o < length (file_names operands) + 1) l) (sym is.order) (λ k d within. omega (arith, places_within 0 operands k d within)))
+
+fits_in : {A : Type 0} (m : Result Command Fault) (command : code.Command A) → IsMeant (Ok command) m → All (λ o. place o < length (inputs_of command).names.items + 1) (inputs_of command).order.items
+fits_in (Ok (RunCut j operands)) (Cut job inputs) (same, is) = inputs_fit inputs operands None is
+fits_in (Ok (RunPaste j operands)) (Paste job inputs) (same, is) = inputs_fit inputs operands None is
+fits_in (Ok (RunUniq j input output)) (Uniq job inputs) (same, is) = inputs_fit inputs (input ∷ []) output is
+fits_in (Ok (RunComm j operands)) (Comm job inputs) (same, is) = inputs_fit inputs operands None is
+fits_in (Ok (RunJoin j operands)) (Join job inputs) (same, is) = inputs_fit inputs operands None is
+fits_in (Ok (RunTr s)) (Tr strings inputs) (same, is) = inputs_fit inputs (codes "-" ∷ []) None is
+fits_in (Ok _) _ none = absurd none
 fits_in (Err fault) command none = absurd none
 
 pub operands_fit : {A : Type 0} (command : Result (code.Command A) UseFault) (words : List (List ℕ)) (c : code.Command A) → command ≡ Ok c → IsMeant command (meaning words)
