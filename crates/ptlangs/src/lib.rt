@@ -1,0 +1,7 @@
+//! The small languages of the words of the text tools: what a value or an operand means.
+#![tactic(auto)]
+
+mod faults;
+mod units;
+
+pub use faults::{SetFault, SetFaultKind, SetString};
