@@ -1,1 +1,3 @@
+pub mod TrBehind
+pub mod TrCounts
 pub mod TrNumbers

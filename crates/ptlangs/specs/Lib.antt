@@ -1,1 +1,3 @@
+pub mod TrClasses
+pub mod TrParts
 pub mod TrUnits

@@ -1,0 +1,65 @@
+//! The classes of characters (POSIX.1-2017, XBD, 7.3.1), in the POSIX locale over ASCII: bytes
+//! above 127 are in no class.
+ghost use Rattle.std.specs.Prelude.{◌≡◌, ℕ};
+ghost use Rattle.std.specs.List.{flat_map};
+ghost use Rattle.ptlangs.specs.TrClasses.{span, class_bytes, class_named};
+
+/// A class of characters.
+#[derive(Clone, Copy, PartialEq, Eq)]
+pub(crate) enum CharClass {
+    Alnum,
+    Alpha,
+    Blank,
+    Cntrl,
+    Digit,
+    Graph,
+    Lower,
+    Print,
+    Punct,
+    Space,
+    Upper,
+    Xdigit,
+}
+
+impl CharClass {
+    /// The class of this name, if there is one.
+    pub(crate) fn named(name: &[u8]) -> Option<CharClass>
+        ensures { result ≡ class_named name.now }
+    {
+        match name {
+            b"alnum" => Some(CharClass::Alnum),
+            b"alpha" => Some(CharClass::Alpha),
+            b"blank" => Some(CharClass::Blank),
+            b"cntrl" => Some(CharClass::Cntrl),
+            b"digit" => Some(CharClass::Digit),
+            b"graph" => Some(CharClass::Graph),
+            b"lower" => Some(CharClass::Lower),
+            b"print" => Some(CharClass::Print),
+            b"punct" => Some(CharClass::Punct),
+            b"space" => Some(CharClass::Space),
+            b"upper" => Some(CharClass::Upper),
+            b"xdigit" => Some(CharClass::Xdigit),
+            _ => None,
+        }
+    }
+
+    /// The bytes of the class, ascending: each pair is a first and a last byte.
+    pub(crate) fn ranges(self) -> &'static [(u8, u8)]
+        ensures { flat_map (λ (r : ℕ × ℕ). span r.0 r.1) result.now ≡ class_bytes self }
+    {
+        match self {
+            CharClass::Alnum => &[(b'0', b'9'), (b'A', b'Z'), (b'a', b'z')],
+            CharClass::Alpha => &[(b'A', b'Z'), (b'a', b'z')],
+            CharClass::Blank => &[(b'\t', b'\t'), (b' ', b' ')],
+            CharClass::Cntrl => &[(0, 31), (127, 127)],
+            CharClass::Digit => &[(b'0', b'9')],
+            CharClass::Graph => &[(b'!', b'~')],
+            CharClass::Lower => &[(b'a', b'z')],
+            CharClass::Print => &[(b' ', b'~')],
+            CharClass::Punct => &[(b'!', b'/'), (b':', b'@'), (b'[', b'`'), (b'{', b'~')],
+            CharClass::Space => &[(b'\t', b'\r'), (b' ', b' ')],
+            CharClass::Upper => &[(b'A', b'Z')],
+            CharClass::Xdigit => &[(b'0', b'9'), (b'A', b'F'), (b'a', b'f')],
+        }
+    }
+}
