@@ -1,3 +1,4 @@
 pub mod TrBehind
 pub mod TrCounts
 pub mod TrNumbers
+pub mod TrForms

@@ -5,7 +5,7 @@ use Rattle.std.specs.Option.{option_and_then, option_or}
 use Rattle.std.specs.Char.{is_ascii_digit, is_ascii_lowercase}
 use Rattle.std.specs.Str.Parse.{digits_value}
 use Rattle.ptlangs.specs.declared.faults.SetFaultKind.{SetFaultKind}
-use Rattle.ptlangs.specs.declared.faults.SetFaultKind.TheVariants.{Descending}
+use Rattle.ptlangs.specs.declared.faults.SetFaultKind.TheVariants.{Empty, Descending}
 use Rattle.ptlangs.specs.declared.units.SetUnit.{SetUnit}
 use Rattle.ptlangs.specs.declared.units.SetUnit.TheVariants.{Plain, Escaped, Faulty}
 use Rattle.ptlangs.specs.declared.parts.Part.{Part}
@@ -150,9 +150,10 @@ abbrev pub or_unit : Option (Part × List SetUnit) → SetUnit → List SetUnit 
 or_unit (Some found) u us = Ok found
 or_unit None u us = from_unit (byte_of u) us
 
--- the part that begins with this unit, and the rest behind it
-abbrev pub part_at : SetUnit → List SetUnit → Result (Part × List SetUnit) SetFaultKind
-part_at u us = or_unit (form_at (u ∷ us)) u us
+-- the part in front of these units, and the rest behind it
+abbrev pub first_part : List SetUnit → Result (Part × List SetUnit) SetFaultKind
+first_part [] = Err Empty
+first_part (u ∷ us) = or_unit (form_at (u ∷ us)) u us
 
 -- the parts in order, up to and with the first fault
 abbrev pub parts_from : Result (Part × List SetUnit) SetFaultKind → (List SetUnit → List (Result Part SetFaultKind)) → List (Result Part SetFaultKind)
@@ -162,7 +163,7 @@ parts_from (Err k) more = Err k ∷ []
 -- the parts of the units behind the first `skip`
 abbrev pub parts_behind : List SetUnit → ℕ → List (Result Part SetFaultKind)
 parts_behind [] skip = []
-parts_behind (u ∷ us) zero = parts_from (part_at u us) (λ rest. parts_behind us (length us - length rest))
+parts_behind (u ∷ us) zero = parts_from (first_part (u ∷ us)) (λ rest. parts_behind us (length us - length rest))
 parts_behind (u ∷ us) (suc skip) = parts_behind us skip
 
 abbrev pub parts : List SetUnit → List (Result Part SetFaultKind)

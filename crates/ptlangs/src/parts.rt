@@ -1,11 +1,12 @@
 //! The parts of a string of `tr`: single bytes, ranges, and the forms in brackets
 //! (POSIX.1-2017, XCU, tr, "EXTENDED DESCRIPTION").
-ghost use Rattle.std.specs.Prelude.{◌≡◌, ◌≢◌, ◌+◌, ◌<◌, ◌≤◌, ◌∷◌, ℕ, List, length, drop, option_map, IfSome, IfOk, slice_range};
+ghost use Rattle.std.specs.Prelude.{◌≡◌, ◌≢◌, ◌+◌, ◌<◌, ◌≤◌, ◌∷◌, [], ℕ, List, Some, length, drop, option_map, IfSome, IfOk, slice_range};
 ghost use Rattle.std.specs.List.{take_while, list_all, AllPass};
 ghost use Rattle.std.specs.Result.{result_map_both};
 ghost use Rattle.std.specs.Char.{is_ascii_digit, is_ascii_lowercase};
+ghost use Rattle.ptlangs.specs.declared.faults.SetFaultKind.{SetFaultKind};
 ghost use Rattle.ptlangs.specs.TrUnits.{is_octal_digit, units};
-ghost use Rattle.ptlangs.specs.TrParts.{byte_of, behind, behind_two, behind_run, plain_run, repeat_at, class_at, equivalence_at, form_inside, form_at, part_at, range_to, count_in, repeat_count, found_in};
+ghost use Rattle.ptlangs.specs.TrParts.{byte_of, behind, behind_two, behind_run, plain_run, repeat_at, class_at, equivalence_at, form_inside, form_at, first_part, from_byte, repeat_count, found_in};
 
 use crate::classes::CharClass;
 use crate::faults::SetFaultKind;
@@ -149,4 +150,87 @@ fn repeat(text: &[u8], at: usize) -> Option<(Part, usize)>
     let end = behind_digits(text, digits);
     let next = behind_byte(text, end, b']')?;
     Some((Part::Repeat(byte, count_of(&text[digits..end])), next))
+}
+
+/// A class, from behind its bracket, and the place behind it.
+fn class(text: &[u8], at: usize) -> Option<(Part, usize)>
+    requires { at ≤ length text.now }
+    ensures reads { option_map (found_in text.now) result ≡ class_at (units (drop at text.now)) }
+    ensures onward { IfSome result (λ r. at < r.1) }
+    ensures within { IfSome result (λ r. r.1 ≤ length text.now) }
+{
+    let name = behind_byte(text, at, b':')?;
+    let end = behind_letters(text, name);
+    if end == name {
+        return None;
+    }
+    let next = behind_bytes(text, end, b':', b']')?;
+    Some((Part::Class(CharClass::named(&text[name..end])), next))
+}
+
+/// An equivalence, from behind its bracket, and the place behind it.
+fn equivalence(text: &[u8], at: usize) -> Option<(Part, usize)>
+    requires { at ≤ length text.now }
+    ensures reads { option_map (found_in text.now) result ≡ equivalence_at (units (drop at text.now)) }
+    ensures onward { IfSome result (λ r. at < r.1) }
+    ensures within { IfSome result (λ r. r.1 ≤ length text.now) }
+{
+    let start = behind_byte(text, at, b'=')?;
+    if start == text.len() {
+        return None;
+    }
+    let (unit, end) = unit(text, start);
+    let byte = unit.byte().ok()?;
+    let next = behind_bytes(text, end, b'=', b']')?;
+    Some((Part::Equivalence(byte), next))
+}
+
+/// A form in brackets at this place, and the place behind it.
+fn form(text: &[u8], at: usize) -> Option<(Part, usize)>
+    requires { at ≤ length text.now }
+    ensures reads { option_map (found_in text.now) result ≡ form_at (units (drop at text.now)) }
+    ensures onward { IfSome result (λ r. at < r.1) }
+    ensures within { IfSome result (λ r. r.1 ≤ length text.now) }
+{
+    let inside = behind_byte(text, at, b'[')?;
+    if let Some(found) = repeat(text, inside) {
+        return Some(found);
+    }
+    if let Some(found) = class(text, inside) {
+        return Some(found);
+    }
+    equivalence(text, inside)
+}
+
+/// The part at this place, and the place behind it.
+pub(crate) fn part_at(text: &[u8], at: usize) -> Result<(Part, usize), SetFaultKind>
+    requires { at < length text.now }
+    ensures reads { result_map_both (found_in text.now) (λ (k : SetFaultKind). k) result ≡ first_part (units (drop at text.now)) }
+    ensures onward { IfOk result (λ r. at < r.1) }
+    ensures within { IfOk result (λ r. r.1 ≤ length text.now) }
+{
+    if let Some(found) = form(text, at) {
+        return Ok(found);
+    }
+    let (unit, next) = unit(text, at);
+    let first = unit.byte()?;
+    match behind_byte(text, next, b'-') {
+        Some(upper) if upper < text.len() => range(text, first, upper),
+        _ => Ok((Part::Single(first), next)),
+    }
+}
+
+/// The range from this byte up to the unit at this place, and the place behind it.
+fn range(text: &[u8], first: u8, at: usize) -> Result<(Part, usize), SetFaultKind>
+    requires { at < length text.now }
+    ensures reads { result_map_both (found_in text.now) (λ (k : SetFaultKind). k) result ≡ from_byte first [] (Some (units (drop at text.now))) }
+    ensures onward { IfOk result (λ r. at < r.1) }
+    ensures within { IfOk result (λ r. r.1 ≤ length text.now) }
+{
+    let (unit, next) = unit(text, at);
+    let last = unit.byte()?;
+    if last < first {
+        return Err(SetFaultKind::Descending);
+    }
+    Ok((Part::Range(first, last), next))
 }
