@@ -2,3 +2,4 @@ pub mod TrBehind
 pub mod TrCounts
 pub mod TrNumbers
 pub mod TrForms
+pub mod TrGrammar
