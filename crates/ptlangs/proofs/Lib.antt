@@ -3,3 +3,4 @@ pub mod TrCounts
 pub mod TrNumbers
 pub mod TrForms
 pub mod TrGrammar
+pub mod TrPieces

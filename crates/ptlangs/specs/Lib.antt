@@ -1,3 +1,4 @@
 pub mod TrClasses
 pub mod TrParts
+pub mod TrPlan
 pub mod TrUnits

@@ -1,5 +1,5 @@
 -- The parts of a string of `tr`, over its units.
-use Rattle.std.specs.Prelude.{◌≡◌, ◌≤◌, ℕ, zero, suc, ◌-◌, ◌==◌, List, [], ◌∷◌, ◌++◌, Bool, false, Option, Some, None, Result, Ok, Err, if◌then◌else◌, nat_le, nat_lt, map, length, drop, option_map, IsTrue}
+use Rattle.std.specs.Prelude.{◌≡◌, ◌↔◌, ◌≤◌, ℕ, zero, suc, ◌-◌, ◌==◌, List, [], ◌∷◌, ◌++◌, Bool, false, Option, Some, None, Result, Ok, Err, if◌then◌else◌, nat_le, nat_lt, map, length, drop, option_map, IsTrue}
 use Rattle.std.specs.List.{list_all}
 use Rattle.std.specs.Option.{option_and_then, option_or}
 use Rattle.std.specs.Char.{is_ascii_digit, is_ascii_lowercase}
@@ -172,3 +172,7 @@ parts us = parts_behind us 0
 -- a part that code found, and the units from the place behind it
 abbrev pub found_in : List ℕ → Part × ℕ → Part × List SetUnit
 found_in text found = (found.0, units (drop found.1 text))
+
+-- what is computed is the grammar: just these parts, and each without a fault
+abbrev pub IsGrammar : Type 0
+IsGrammar = (us : List SetUnit) (ps : List Part) → AreParts us ps ↔ (parts us ≡ map Ok ps)

@@ -4,6 +4,9 @@
 mod classes;
 mod faults;
 mod parts;
+mod pieces;
+mod plan;
 mod units;
 
+pub use parts::parts_are_of_the_grammar;
 pub use faults::{SetFault, SetFaultKind, SetString};

@@ -6,7 +6,7 @@ ghost use Rattle.std.specs.Result.{result_map_both};
 ghost use Rattle.std.specs.Char.{is_ascii_digit, is_ascii_lowercase};
 ghost use Rattle.ptlangs.specs.declared.faults.SetFaultKind.{SetFaultKind};
 ghost use Rattle.ptlangs.specs.TrUnits.{is_octal_digit, units};
-ghost use Rattle.ptlangs.specs.TrParts.{byte_of, behind, behind_two, behind_run, plain_run, repeat_at, class_at, equivalence_at, form_inside, form_at, first_part, from_byte, repeat_count, found_in};
+ghost use Rattle.ptlangs.specs.TrParts.{byte_of, behind, behind_two, behind_run, plain_run, repeat_at, class_at, equivalence_at, form_inside, form_at, first_part, from_byte, repeat_count, found_in, IsGrammar};
 
 use crate::classes::CharClass;
 use crate::faults::SetFaultKind;
@@ -233,4 +233,11 @@ fn range(text: &[u8], first: u8, at: usize) -> Result<(Part, usize), SetFaultKin
         return Err(SetFaultKind::Descending);
     }
     Ok((Part::Range(first, last), next))
+}
+
+/// The parts that are read are those of the grammar of POSIX.1-2017 (XCU, tr), as
+/// `specs/TrParts.antt` states it case by case.
+pub fn parts_are_of_the_grammar()
+    ensures { IsGrammar }
+{
 }
