@@ -4,3 +4,6 @@ pub mod TrNumbers
 pub mod TrForms
 pub mod TrGrammar
 pub mod TrPieces
+mod TrRows
+mod TrClassRows
+pub mod TrPlaces

@@ -9,6 +9,10 @@ use Rattle.ptlangs.specs.declared.classes.CharClass.TheVariants.{Alnum, Alpha, B
 abbrev pub span : ℕ → ℕ → List ℕ
 span a b = range_with_len a (b + 1 - a)
 
+-- all 256 bytes, ascending
+unfoldable pub all_bytes : List ℕ
+all_bytes = span 0 255
+
 -- the bytes of a class, ascending
 abbrev pub class_bytes : CharClass → List ℕ
 class_bytes Alnum = span 48 57 ++ span 65 90 ++ span 97 122

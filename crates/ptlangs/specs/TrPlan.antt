@@ -17,11 +17,12 @@ use Rattle.ptlangs.specs.declared.pieces.Piece.TheVariants.{Range, Class, Repeat
 use Rattle.ptlangs.specs.declared.pieces.Pieces.{Pieces}
 use Rattle.ptlangs.specs.declared.pieces.Place.{Place}
 use Rattle.ptlangs.specs.declared.pieces.Place.TheVariants.{First, Images, Squeezed}
+use Rattle.ptlangs.specs.declared.places.Places.{Places}
 use Rattle.ptlangs.specs.declared.plan.Form.{Form}
 use Rattle.ptlangs.specs.declared.plan.Form.TheVariants.{Translate, TranslateSqueeze, Squeeze, Delete, DeleteSqueeze}
 use Rattle.ptlangs.specs.TrUnits.{units}
 use Rattle.ptlangs.specs.TrParts.{parts}
-use Rattle.ptlangs.specs.TrClasses.{span, class_bytes}
+use Rattle.ptlangs.specs.TrClasses.{span, all_bytes, class_bytes}
 
 -- ---- the pieces of an array
 
@@ -69,3 +70,159 @@ pieces_of place text = pieces place false (parts (units text))
 -- the pieces that a reading has left
 abbrev pub pieces_left : Pieces → List (Result Piece SetFaultKind)
 pieces_left p = pieces p.place p.filled (parts (units (drop p.at p.text.now)))
+
+-- all of them, or the first fault
+abbrev pub collected : {A E : Type 0} → List (Result A E) → Result (List A) E
+collected [] = Ok []
+collected (Err e ∷ more) = Err e
+collected {A} {E} (Ok x ∷ more) = result_map_both (λ (xs : List A). x ∷ xs) (λ (e : E). e) (collected more)
+
+-- the pieces of a string, or its leftmost fault
+abbrev pub string_pieces : Place → List ℕ → Result (List Piece) SetFaultKind
+string_pieces place [] = Err Empty
+string_pieces place (b ∷ text) = collected (pieces_of place (b ∷ text))
+
+-- ---- arrays
+
+-- the bytes of a piece, where a fill gives n
+abbrev pub members : ℕ → Piece → List ℕ
+members n (Range a b) = span a b
+members n (Class class) = class_bytes class
+members n (Repeat b count) = replicate count b
+members n (Fill b) = replicate n b
+
+abbrev pub array : ℕ → List Piece → List ℕ
+array n ps = flat_map (members n) ps
+
+abbrev pub has_byte : ℕ → List ℕ → Bool
+has_byte c bytes = list_any (λ b. b == c) bytes
+
+-- all other bytes, ascending
+abbrev pub complement_of : List ℕ → List ℕ
+complement_of bytes = filter (λ b. not (has_byte b bytes)) all_bytes
+
+-- the array of the first string
+abbrev pub first_array : Bool → List Piece → List ℕ
+first_array complement ps = if complement then complement_of (array 0 ps) else array 0 ps
+
+-- how much a fill gives, so that the array has n members
+abbrev pub fill_count : ℕ → List Piece → ℕ
+fill_count n ps = n - length (array 0 ps)
+
+-- the classes of a string, each with the number of members before it
+abbrev pub class_places : ℕ → ℕ → List Piece → List (ℕ × CharClass)
+class_places n at [] = []
+class_places n at (Class class ∷ ps) = (at, class) ∷ class_places n (at + length (class_bytes class)) ps
+class_places n at (Range a b ∷ ps) = class_places n (at + length (span a b)) ps
+class_places n at (Repeat b count ∷ ps) = class_places n (at + count) ps
+class_places n at (Fill b ∷ ps) = class_places n (at + n) ps
+
+-- whether the two are the lower and the upper case
+abbrev pub are_cases : CharClass → CharClass → Bool
+are_cases Lower Upper = true
+are_cases Upper Lower = true
+are_cases c d = false
+
+-- each class of the second string faces its other case in the first
+abbrev pub is_paired : List (ℕ × CharClass) → List (ℕ × CharClass) → Bool
+is_paired firsts seconds = list_all (λ (s : ℕ × CharClass). list_any (λ (f : ℕ × CharClass). (f.0 == s.0) && are_cases f.1 s.1) firsts) seconds
+
+-- ---- the plan
+
+-- what `tr` does to bytes, by the arrays
+pub record Plan : Type 0 where
+  pub deleted : List ℕ
+  pub from : List ℕ
+  pub to : List ℕ
+  pub squeezed : List ℕ
+
+-- the plan of a form, from the two arrays
+abbrev pub plan_of : Form → List ℕ → List ℕ → Plan
+plan_of Translate first second = record { deleted = []; from = first; to = second; squeezed = [] }
+plan_of TranslateSqueeze first second = record { deleted = []; from = first; to = second; squeezed = second }
+plan_of Squeeze first second = record { deleted = []; from = []; to = []; squeezed = first }
+plan_of Delete first second = record { deleted = first; from = []; to = []; squeezed = [] }
+plan_of DeleteSqueeze first second = record { deleted = first; from = []; to = []; squeezed = second }
+
+-- as many bytes as n: filled up with the last one, or cut
+abbrev pub fitted : ℕ → List ℕ → List ℕ
+fitted n bytes = take n (bytes ++ flat_map (λ b. replicate n b) (option_to_list (last_or None bytes)))
+
+abbrev pub later_or : Option ℕ → Bool → Option ℕ
+later_or (Some i) here = Some (i + 1)
+later_or None here = if here then Some 0 else None
+
+-- the last place at which the byte stands
+abbrev pub last_place : ℕ → List ℕ → Option ℕ
+last_place c [] = None
+last_place c (b ∷ bytes) = later_or (last_place c bytes) (b == c)
+
+-- whether a byte is deleted
+abbrev pub deletes : Plan → ℕ → Bool
+deletes plan b = has_byte b plan.deleted
+
+-- what a byte becomes: the byte of the fitted second array at its last place in the first, else itself
+abbrev pub image : Plan → ℕ → ℕ
+image plan b = unwrap_or (option_and_then (λ i. slice_get (fitted (length plan.from) plan.to) i) (last_place b plan.from)) b
+
+-- whether repeats of a byte are squeezed
+abbrev pub squeezes : Plan → ℕ → Bool
+squeezes plan b = has_byte b plan.squeezed
+
+abbrev pub in_string : {A : Type 0} → SetString → Result A SetFaultKind → Result A SetFault
+in_string {A} string r = result_map_both (λ (x : A). x) (λ (k : SetFaultKind). record { string = string; kind = k }) r
+
+abbrev pub and_then : {A B E : Type 0} → Result A E → (A → Result B E) → Result B E
+and_then (Ok x) f = f x
+and_then (Err e) f = Err e
+
+abbrev pub second_place : Form → Place
+second_place Translate = Images
+second_place TranslateSqueeze = Images
+second_place Squeeze = Images
+second_place Delete = Images
+second_place DeleteSqueeze = Squeezed
+
+-- whether the form has a second string
+abbrev pub takes_second : Form → Bool
+takes_second Translate = true
+takes_second TranslateSqueeze = true
+takes_second Squeeze = false
+takes_second Delete = false
+takes_second DeleteSqueeze = true
+
+-- whether the classes of the second string stand where they may
+abbrev pub may_pair : Form → Bool → List (ℕ × CharClass) → List (ℕ × CharClass) → Bool
+may_pair DeleteSqueeze complement firsts seconds = true
+may_pair form true firsts [] = true
+may_pair form true firsts (s ∷ seconds) = false
+may_pair form false firsts seconds = is_paired firsts seconds
+
+-- the plan of two strings, whose first is read and has this array
+abbrev pub plan_with : Form → Bool → List Piece → List ℕ → List Piece → Result Plan SetFaultKind
+plan_with form complement firsts first seconds =
+    let n = fill_count (length first) seconds in
+    if may_pair form complement (class_places 0 0 firsts) (class_places n 0 seconds) then Ok (plan_of form first (array n seconds)) else Err ClassPlace
+
+abbrev pub plan_second : Form → Bool → List Piece → Option (List ℕ) → Result Plan SetFault
+plan_second form complement firsts None = Ok (plan_of form (first_array complement firsts) [])
+plan_second form complement firsts (Some text) =
+    in_string string.Second (and_then (string_pieces (second_place form) text) (λ seconds. plan_with form complement firsts (first_array complement firsts) seconds))
+
+-- the plan of a form, a complement or not, and the strings; else the first fault
+abbrev pub plan : Form → Bool → List ℕ → Option (List ℕ) → Result Plan SetFault
+plan form complement s1 s2 = and_then (in_string string.First (string_pieces First s1)) (λ firsts. plan_second form complement firsts s2)
+
+-- ---- the plan as tables of 256 entries, one for each byte
+
+pub record Tables : Type 0 where
+  pub deleted : List Bool
+  pub images : List ℕ
+  pub squeezed : List Bool
+
+abbrev pub tables : Plan → Tables
+tables plan = record { deleted = map (deletes plan) all_bytes; images = map (image plan) all_bytes; squeezed = map (squeezes plan) all_bytes }
+
+-- where each byte stands last in an array, and the array's length
+abbrev pub places_of : List ℕ → Places
+places_of bytes = record { last = map (λ b. last_place b bytes) all_bytes; length = length bytes }

@@ -5,6 +5,7 @@ mod classes;
 mod faults;
 mod parts;
 mod pieces;
+mod places;
 mod plan;
 mod units;
 
