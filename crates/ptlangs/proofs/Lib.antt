@@ -7,3 +7,4 @@ pub mod TrPieces
 mod TrRows
 mod TrClassRows
 pub mod TrPlaces
+pub mod TrWalks

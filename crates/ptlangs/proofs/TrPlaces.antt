@@ -1,13 +1,15 @@
 -- The last places of bytes in an array.
-use Rattle.std.proofs.Common.{◌≡◌, ◌≢◌, ◌⊎◌, inl, inr, ◌<◌, ◌≤◌, ◌+◌, ◌-◌, ◌*◌, ◌||◌, ℕ, zero, suc, Bool, true, false, cond, eqb, List, [], ◌∷◌, ◌++◌, length, drop, map, replicate, arith, refl, sym, ap, ◌∙◌, Option, Some, None}
-use Rattle.std.specs.List.{range_with_len}
+use Rattle.std.proofs.Common.{◌≡◌, ◌≢◌, ◌⊎◌, inl, inr, ◌<◌, ◌≤◌, ◌+◌, ◌-◌, ◌*◌, ◌||◌, ℕ, zero, suc, Bool, true, false, cond, eqb, List, [], ◌∷◌, ◌++◌, length, take, drop, lit≤, map, replicate, arith, refl, sym, ap, ◌∙◌, Option, Some, None}
+use Rattle.std.specs.List.{range_with_len, flat_map}
 use Rattle.std.proofs.Math.ListN.{set, get_or}
 use Rattle.std.proofs.lemmas.Bool.{cases_eq, eq-eqb, ne_eqb}
-use Rattle.std.proofs.lemmas.List.{append_assoc, map-id, same_lists, length-set, length_push, get_or-set_same, get_or-set_other, length-replicate, get_or-replicate}
+use Rattle.std.proofs.lemmas.List.{append_assoc, append-nil, map-id, same_lists, length-set, length_push, get_or-set_same, get_or-set_other, length-replicate, get_or-replicate, length-append, replicate_more}
 use Rattle.std.proofs.lemmas.List.FromFn.{length-map-range_with_len, get_or-map-range_with_len, length-range_with_len, map-range_with_len_more}
+use Rattle.ptlangs.specs.declared.classes.CharClass.{CharClass}
+use Rattle.ptlangs.specs.declared.classes.CharClass.TheVariants.{Alnum, Alpha, Blank, Cntrl, Digit, Graph, Lower, Print, Punct, Space, Upper, Xdigit}
 use Rattle.ptlangs.specs.declared.places.Places.{Places}
-use Rattle.ptlangs.specs.TrClasses.{span, all_bytes}
-use Rattle.ptlangs.specs.TrPlan.{last_place, later_or, places_of}
+use Rattle.ptlangs.specs.TrClasses.{span, all_bytes, class_bytes}
+use Rattle.ptlangs.specs.TrPlan.{last_place, later_or, places_of, members}
 
 -- a table of all bytes, entry by entry
 pub length-table : {X : Type 0} (f : ℕ → X) → length (map f all_bytes) ≡ 256
@@ -82,3 +84,63 @@ pub Puts-range : (old mid new : Places) (first byte : ℕ) → first ≤ byte �
 Puts-range old mid new first byte h p q =
     let count : byte + 1 - first ≡ byte - first + 1 = omega arith in
     rw (count, range-more first (byte - first) byte (omega arith)) (Puts-append old mid new (range_with_len first (byte - first)) (byte ∷ []) p q)
+
+-- ---- a byte, so many times
+
+pub last_place-replicate : (c b n : ℕ) (bytes : List ℕ) → last_place c (bytes ++ replicate (n + 1) b) ≡ cond (eqb b c) (Some (length bytes + n)) (last_place c bytes)
+last_place-replicate c b zero bytes = rw (last_place-push c bytes b) (choose (eqb b c))
+  where
+    choose : (t : Bool) → cond t (Some (length bytes)) (last_place c bytes) ≡ cond t (Some (length bytes + 0)) (last_place c bytes)
+    choose true = ap Some (omega arith)
+    choose false = refl
+last_place-replicate c b (suc n) bytes =
+    let split : bytes ++ replicate (suc n + 1) b ≡ (bytes ++ replicate (n + 1) b) ++ b ∷ [] =
+        let count : suc n + 1 ≡ n + 1 + 1 = omega arith in
+        ap (λ m. bytes ++ replicate m b) count ∙ ap (λ xs. bytes ++ xs) (sym (replicate_more (n + 1) b)) ∙ sym (append_assoc bytes (replicate (n + 1) b) (b ∷ [])) in
+    rw (split, last_place-push c (bytes ++ replicate (n + 1) b) b, last_place-replicate c b n bytes) (choose (eqb b c))
+  where
+    choose : (t : Bool) → cond t (Some (length (bytes ++ replicate (n + 1) b))) (cond t (Some (length bytes + n)) (last_place c bytes)) ≡ cond t (Some (length bytes + suc n)) (last_place c bytes)
+    choose true = ap Some (omega (arith, length-append bytes (replicate (n + 1) b), length-replicate (n + 1) b))
+    choose false = refl
+
+last-replicate : (bytes : List ℕ) (b n : ℕ) → b < 256 → set (map (λ c. last_place c bytes) all_bytes) b (Some (length bytes + n)) ≡ map (λ c. last_place c (bytes ++ replicate (n + 1) b)) all_bytes
+last-replicate bytes b n h =
+    set-table (λ c. last_place c bytes) (λ c. last_place c (bytes ++ replicate (n + 1) b)) b (Some (length bytes + n)) h
+    (rw (last_place-replicate b b n bytes, eq-eqb b b refl) refl)
+    (λ k m. rw (last_place-replicate k b n bytes, ne_eqb b k (λ e. m (sym e))) refl)
+
+pub Puts-replicate : (old : Places) (b count : ℕ) → b < 256 → 0 < count → Puts old (record {last = set old.last b (Some (old.length + (count - 1))); length = old.length + count}) (replicate count b)
+Puts-replicate old b count h some bytes e =
+    let more : count ≡ count - 1 + 1 = omega arith in
+    let total : length (bytes ++ replicate (count - 1 + 1) b) ≡ length bytes + count = omega (arith, length-append bytes (replicate (count - 1 + 1) b), length-replicate (count - 1 + 1) b) in
+    let table : set (map (λ c. last_place c bytes) all_bytes) b (Some (length bytes + (count - 1))) ≡ map (λ c. last_place c (bytes ++ replicate count b)) all_bytes =
+        last-replicate bytes b (count - 1) h ∙ ap (λ m. map (λ c. last_place c (bytes ++ replicate m b)) all_bytes) (sym more) in
+    let counted : length bytes + count ≡ length (bytes ++ replicate count b) = omega (arith, length-append bytes (replicate count b), length-replicate count b) in
+    rw (e, table, counted) refl
+
+pub Puts-none : (old : Places) → Puts old old []
+Puts-none old bytes e = e ∙ ap places_of (sym (append-nil bytes))
+
+pub ruleset repeat_steps = (Puts-replicate, Puts-none, length-replicate)
+
+-- ---- a class
+
+pub length-flat_map-take : {X : Type 0} (f : X → List ℕ) (xs : List X) (i : ℕ) → length (flat_map f (take i xs)) ≤ length (flat_map f xs)
+length-flat_map-take f [] zero = omega arith
+length-flat_map-take f [] (suc i) = omega arith
+length-flat_map-take f (x ∷ xs) zero = omega arith
+length-flat_map-take f (x ∷ xs) (suc i) = omega (arith, length-flat_map-take f xs i, length-append (f x) (flat_map f (take i xs)), length-append (f x) (flat_map f xs))
+
+pub class_bytes-short : (class : CharClass) → length (class_bytes class) ≤ 256
+class_bytes-short Alnum = lit≤ tt
+class_bytes-short Alpha = lit≤ tt
+class_bytes-short Blank = lit≤ tt
+class_bytes-short Cntrl = lit≤ tt
+class_bytes-short Digit = lit≤ tt
+class_bytes-short Graph = lit≤ tt
+class_bytes-short Lower = lit≤ tt
+class_bytes-short Print = lit≤ tt
+class_bytes-short Punct = lit≤ tt
+class_bytes-short Space = lit≤ tt
+class_bytes-short Upper = lit≤ tt
+class_bytes-short Xdigit = lit≤ tt

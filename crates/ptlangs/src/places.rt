@@ -1,7 +1,10 @@
 //! Where the bytes of an array of `tr` stand.
 ghost use Rattle.std.specs.Prelude.{◌≡◌, ◌+◌, ◌*◌, ◌^◌, ◌<◌, ◌≤◌, ◌++◌, ◌∷◌, [], ℕ, List, length, replicate};
 ghost use Rattle.ptlangs.specs.TrClasses.{span, class_bytes};
-ghost use Rattle.ptlangs.specs.TrPlan.{places_of, members};
+ghost use Rattle.std.specs.Result.{result_map_both};
+ghost use Rattle.ptlangs.specs.declared.faults.SetFaultKind.{SetFaultKind};
+ghost use Rattle.ptlangs.specs.declared.pieces.Piece.{Piece};
+ghost use Rattle.ptlangs.specs.TrPlan.{places_of, members, array, collected, pieces_of};
 
 use crate::classes::CharClass;
 use crate::faults::SetFaultKind;
@@ -46,5 +49,56 @@ impl Places {
         for byte in first..=last {
             self.push(byte);
         }
+    }
+
+    /// Puts the bytes of a class at the end of the array.
+    fn push_class(&mut self, class: CharClass)
+        requires { self.old.length < 2 ^ 125 }
+        ensures length { self.new.length ≡ self.old.length + length (class_bytes class) }
+        ensures places { (bytes : List ℕ) → self.old ≡ places_of bytes → self.new ≡ places_of (bytes ++ class_bytes class) }
+    {
+        let ranges = class.ranges();
+        for &(first, last) in ranges {
+            self.push_range(first, last);
+        }
+    }
+
+    /// Puts a byte so many times at the end of the array.
+    #[tactic(auto, using(crate::proofs::TrPlaces::repeat_steps))]
+    fn push_repeat(&mut self, byte: u8, count: u128)
+        requires { self.old.length + count < 2 ^ 127 }
+        ensures length { self.new.length ≡ self.old.length + count }
+        ensures places { (bytes : List ℕ) → self.old ≡ places_of bytes → self.new ≡ places_of (bytes ++ replicate count byte) }
+    {
+        if count > 0 {
+            self.last[usize::from(byte)] = Some(self.length + (count - 1));
+            self.length += count;
+        }
+    }
+
+    /// Puts a piece at the end of the array, where a fill gives so many bytes.
+    fn push_piece(&mut self, piece: Piece, fill: u128)
+        requires { self.old.length + fill < 2 ^ 125 }
+        ensures length { self.new.length ≡ self.old.length + length (members fill piece) }
+        ensures places { (bytes : List ℕ) → self.old ≡ places_of bytes → self.new ≡ places_of (bytes ++ members fill piece) }
+    {
+        match piece {
+            Piece::Range(first, last) => self.push_range(first, last),
+            Piece::Class(class) => self.push_class(class),
+            Piece::Repeat(byte, count) => self.push_repeat(byte, u128::from(count)),
+            Piece::Fill(byte) => self.push_repeat(byte, fill),
+        }
+    }
+
+    /// The places of a string's array, where a fill gives so many bytes.
+    pub(crate) fn read(place: Place, text: &[u8], fill: u128) -> Result<Places, SetFaultKind>
+        requires { fill < 2 ^ 100 }
+        ensures { result ≡ result_map_both (λ (ps : List Piece). places_of (array fill ps)) (λ (k : SetFaultKind). k) (collected (pieces_of place text.now)) }
+    {
+        let mut places = Places::new();
+        for piece in Pieces::new(place, text) {
+            places.push_piece(piece?, fill);
+        }
+        Ok(places)
     }
 }

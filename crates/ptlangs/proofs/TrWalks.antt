@@ -1,0 +1,98 @@
+-- A walk over the pieces of a string, piece by piece.
+use Rattle.std.proofs.Common.{◌≡◌, ◌<◌, ◌≤◌, ◌+◌, ◌-◌, ◌*◌, ◌||◌, ℕ, zero, suc, Bool, true, false, cond, List, [], ◌∷◌, ◌++◌, length, map, replicate, arith, refl, sym, ap, ◌∙◌, Option, Some, None, Result, Ok, Err}
+use Rattle.std.specs.Result.{result_map_both}
+use Rattle.std.proofs.lemmas.List.{append_assoc, append-nil, map-append, length-append, length-map, length-replicate}
+use Rattle.ptlangs.specs.declared.classes.CharClass.{CharClass}
+use Rattle.ptlangs.specs.declared.faults.SetFaultKind.{SetFaultKind}
+use Rattle.ptlangs.specs.declared.units.SetUnit.{SetUnit}
+use Rattle.ptlangs.specs.declared.parts.Part.{Part}
+use Rattle.ptlangs.specs.declared.parts.Part.TheVariants as part
+use Rattle.ptlangs.specs.declared.pieces.Piece.{Piece}
+use Rattle.ptlangs.specs.declared.pieces.Piece.TheVariants.{Range, Class, Repeat, Fill}
+use Rattle.ptlangs.specs.declared.pieces.Place.{Place}
+use Rattle.ptlangs.specs.declared.pieces.Place.TheVariants.{First, Images, Squeezed}
+use Rattle.ptlangs.specs.TrUnits.{units, units_behind, unit_at}
+use Rattle.ptlangs.specs.TrParts.{first_part, parts, parts_behind, parts_from}
+use Rattle.ptlangs.specs.TrPlan.{piece, class_piece, repeat_piece, repeated, is_fill, pieces, pieces_of, collected, members, array}
+
+-- some pieces were read, of which P holds, and the rest is still to be read
+pub record Walked (all rest : List (Result Piece SetFaultKind)) (P : List Piece → Type 0) : Type 0 where
+  pub done : List Piece
+  pub so_far : all ≡ map Ok done ++ rest
+  pub holds : P done
+
+unfoldable pub walk_start : (all : List (Result Piece SetFaultKind)) (P : List Piece → Type 0) → P [] → Walked all all P
+walk_start all P h = record { done = []; so_far = refl; holds = h }
+
+pub so_far-more : (all rest more : List (Result Piece SetFaultKind)) (done : List Piece) (x : Piece) → all ≡ map Ok done ++ rest → rest ≡ Ok x ∷ more → all ≡ map Ok (done ++ x ∷ []) ++ more
+so_far-more all rest more done x s e =
+    s ∙ ap (λ xs. map Ok done ++ xs) e ∙ sym (append_assoc (map Ok done) (Ok x ∷ []) more) ∙ ap (λ xs. xs ++ more) (sym (map-append Ok done (x ∷ [])))
+
+pub walk_more : (all rest more : List (Result Piece SetFaultKind)) (P Q : List Piece → Type 0) (x : Piece) (w : Walked all rest P) → rest ≡ Ok x ∷ more
+    → (P w.done → Q (w.done ++ x ∷ [])) → Walked all more Q
+walk_more all rest more P Q x w e h = record { done = w.done ++ x ∷ []; so_far = so_far-more all rest more w.done x w.so_far e; holds = h w.holds }
+
+pub collected-done : (done : List Piece) (rest : List (Result Piece SetFaultKind))
+    → collected (map Ok done ++ rest) ≡ result_map_both (λ (xs : List Piece). done ++ xs) (λ (k : SetFaultKind). k) (collected rest)
+collected-done [] rest = choose (collected rest)
+  where
+    choose : (r : Result (List Piece) SetFaultKind) → r ≡ result_map_both (λ (xs : List Piece). xs) (λ (k : SetFaultKind). k) r
+    choose (Ok xs) = refl
+    choose (Err k) = refl
+collected-done (x ∷ done) rest = rw (collected-done done rest) (choose (collected rest))
+  where
+    choose : (r : Result (List Piece) SetFaultKind)
+        → result_map_both (λ (xs : List Piece). x ∷ xs) (λ (k : SetFaultKind). k) (result_map_both (λ (xs : List Piece). done ++ xs) (λ (k : SetFaultKind). k) r) ≡ result_map_both (λ (xs : List Piece). x ∷ done ++ xs) (λ (k : SetFaultKind). k) r
+    choose (Ok xs) = refl
+    choose (Err k) = refl
+
+pub walk_end : (all rest : List (Result Piece SetFaultKind)) (P : List Piece → Type 0) (w : Walked all rest P) → rest ≡ [] → collected all ≡ Ok w.done
+walk_end all rest P w e =
+    ap collected (w.so_far ∙ ap (λ xs. map Ok w.done ++ xs) e) ∙ collected-done w.done [] ∙ ap Ok (append-nil w.done)
+
+pub walk_fault : (all rest more : List (Result Piece SetFaultKind)) (P : List Piece → Type 0) (k : SetFaultKind) (w : Walked all rest P) → rest ≡ Err k ∷ more → collected all ≡ Err k
+walk_fault all rest more P k w e =
+    ap collected (w.so_far ∙ ap (λ xs. map Ok w.done ++ xs) e) ∙ collected-done w.done (Err k ∷ more)
+
+-- ---- how many pieces there are
+
+pub length-units_behind : (bs : List ℕ) (skip : ℕ) → length (units_behind bs skip) ≤ length bs
+length-units_behind [] skip = omega arith
+length-units_behind (b ∷ bs) zero = omega (arith, length-units_behind bs (unit_at b bs).1)
+length-units_behind (b ∷ bs) (suc skip) = omega (arith, length-units_behind bs skip)
+
+pub length-parts_behind : (us : List SetUnit) (skip : ℕ) → length (parts_behind us skip) ≤ length us
+length-parts_behind [] skip = omega arith
+length-parts_behind (u ∷ us) zero = by_first (first_part (u ∷ us)) (λ k. length-parts_behind us k)
+  where
+    by_first : (r : Result (Part × List SetUnit) SetFaultKind) → ((k : ℕ) → length (parts_behind us k) ≤ length us)
+        → length (parts_from r (λ rest. parts_behind us (length us - length rest))) ≤ length (u ∷ us)
+    by_first (Ok found) h = omega (arith, h (length us - length found.1))
+    by_first (Err k) h = omega arith
+length-parts_behind (u ∷ us) (suc skip) = omega (arith, length-parts_behind us skip)
+
+pub length-pieces : (place : Place) (filled : Bool) (ps : List (Result Part SetFaultKind)) → length (pieces place filled ps) ≤ length ps
+length-pieces place filled [] = omega arith
+length-pieces place filled (Err k ∷ more) = omega arith
+length-pieces place filled (Ok p ∷ more) = omega (arith, length-pieces place (filled || is_fill (piece place filled p)) more)
+
+pub length-pieces_of : (place : Place) (text : List ℕ) → length (pieces_of place text) ≤ length text
+length-pieces_of place text = omega (arith, length-pieces place false (parts (units text)), length-parts_behind (units text) 0, length-units_behind text 0)
+
+-- ---- at most one piece is a fill
+
+no_second_fill : (place : Place) (p : Part) (b : ℕ) → piece place true p ≡ Ok (Fill b) → ⊥
+no_second_fill place (part.Single x) b e = cc
+no_second_fill place (part.Range x y) b e = cc
+no_second_fill place (part.Class None) b e = cc
+no_second_fill place (part.Class (Some class)) b e = cc
+no_second_fill First (part.Equivalence x) b e = cc
+no_second_fill Images (part.Equivalence x) b e = cc
+no_second_fill Squeezed (part.Equivalence x) b e = cc
+no_second_fill First (part.Repeat x count) b e = cc
+no_second_fill Images (part.Repeat x None) b e = cc
+no_second_fill Images (part.Repeat x (Some zero)) b e = cc
+no_second_fill Images (part.Repeat x (Some (suc n))) b e = cc
+no_second_fill Squeezed (part.Repeat x None) b e = cc
+no_second_fill Squeezed (part.Repeat x (Some zero)) b e = cc
+no_second_fill Squeezed (part.Repeat x (Some (suc n))) b e = cc
