@@ -7,9 +7,10 @@ use Rattle.std.proofs.lemmas.List.{append_assoc, append-nil, map-id, same_lists,
 use Rattle.std.proofs.lemmas.List.FromFn.{length-map-range_with_len, get_or-map-range_with_len, length-range_with_len, map-range_with_len_more}
 use Rattle.ptlangs.specs.declared.classes.CharClass.{CharClass}
 use Rattle.ptlangs.specs.declared.classes.CharClass.TheVariants.{Alnum, Alpha, Blank, Cntrl, Digit, Graph, Lower, Print, Punct, Space, Upper, Xdigit}
+use Rattle.ptlangs.specs.declared.pieces.Piece.{Piece}
 use Rattle.ptlangs.specs.declared.places.Places.{Places}
 use Rattle.ptlangs.specs.TrClasses.{span, all_bytes, class_bytes}
-use Rattle.ptlangs.specs.TrPlan.{last_place, later_or, places_of, members}
+use Rattle.ptlangs.specs.TrPlan.{last_place, later_or, places_of, members, array}
 
 -- a table of all bytes, entry by entry
 pub length-table : {X : Type 0} (f : ℕ → X) → length (map f all_bytes) ≡ 256
@@ -144,3 +145,24 @@ class_bytes-short Punct = lit≤ tt
 class_bytes-short Space = lit≤ tt
 class_bytes-short Upper = lit≤ tt
 class_bytes-short Xdigit = lit≤ tt
+
+-- the places are those of the pieces so far, each of which is short
+pub record HasPlaces (fill : ℕ) (places : Places) (done : List Piece) : Type 0 where
+  pub places_is : places ≡ places_of (array fill done)
+  pub short : length (array 0 done) ≤ 65535 * length done
+
+pub ruleset piece_steps = (length-range_with_len, class_bytes-short, length-replicate)
+
+pub HasPlaces-start : (fill : ℕ) (places : Places) → places ≡ places_of [] → HasPlaces fill places []
+HasPlaces-start fill places e = record { places_is = e; short = omega arith }
+
+pub array-push : (n : ℕ) (ps : List Piece) (x : Piece) → array n (ps ++ x ∷ []) ≡ array n ps ++ members n x
+array-push n [] x = append-nil (members n x)
+array-push n (p ∷ ps) x = ap (λ xs. members n p ++ xs) (array-push n ps x) ∙ sym (append_assoc (members n p) (array n ps) (members n x))
+
+pub HasPlaces-more : (fill : ℕ) (old new : Places) (done : List Piece) (x : Piece) → Puts old new (members fill x) → length (members 0 x) ≤ 65535 → HasPlaces fill old done
+    → HasPlaces fill new (done ++ x ∷ [])
+HasPlaces-more fill old new done x p s h = record {
+  places_is = p (array fill done) h.places_is ∙ ap places_of (sym (array-push fill done x));
+  short = omega (arith, h.short, ap length (array-push 0 done x), length-append (array 0 done) (members 0 x), length_push done x)
+}

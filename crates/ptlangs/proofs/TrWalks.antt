@@ -96,3 +96,41 @@ no_second_fill Images (part.Repeat x (Some (suc n))) b e = cc
 no_second_fill Squeezed (part.Repeat x None) b e = cc
 no_second_fill Squeezed (part.Repeat x (Some zero)) b e = cc
 no_second_fill Squeezed (part.Repeat x (Some (suc n))) b e = cc
+
+-- one more piece adds what a fill gives only where no fill stood before it
+fill_step : (n : ℕ) (d : Piece) (filled : Bool) (done : List Piece) → (filled ≡ true → is_fill (Ok d) ≡ true → ⊥)
+    → length (array n done) ≤ length (array 0 done) + cond (filled || is_fill (Ok d)) 0 n → length (array n (d ∷ done)) ≤ length (array 0 (d ∷ done)) + cond filled 0 n
+fill_step n (Range a b) true done h e = omega (arith, length-append (members n (Range a b)) (array n done), length-append (members 0 (Range a b)) (array 0 done))
+fill_step n (Range a b) false done h e = omega (arith, length-append (members n (Range a b)) (array n done), length-append (members 0 (Range a b)) (array 0 done))
+fill_step n (Class class) true done h e = omega (arith, length-append (members n (Class class)) (array n done), length-append (members 0 (Class class)) (array 0 done))
+fill_step n (Class class) false done h e = omega (arith, length-append (members n (Class class)) (array n done), length-append (members 0 (Class class)) (array 0 done))
+fill_step n (Repeat b count) true done h e = omega (arith, length-append (replicate count b) (array n done), length-append (replicate count b) (array 0 done))
+fill_step n (Repeat b count) false done h e = omega (arith, length-append (replicate count b) (array n done), length-append (replicate count b) (array 0 done))
+fill_step n (Fill b) true done h e = absurd (h refl refl)
+fill_step n (Fill b) false done h e = omega (arith, length-append (replicate n b) (array n done), length-replicate n b)
+
+is_not_second : (place : Place) (p : Part) (d : Piece) (filled : Bool) → piece place filled p ≡ Ok d → filled ≡ true → is_fill (Ok d) ≡ true → ⊥
+is_not_second place p (Range a b) filled e f g = cc
+is_not_second place p (Class class) filled e f g = cc
+is_not_second place p (Repeat b count) filled e f g = cc
+is_not_second place p (Fill b) filled e f g = no_second_fill place p b (rw f at e)
+
+-- a fill adds at most once what it gives
+pub one_fill : (n : ℕ) (place : Place) (filled : Bool) (ps : List (Result Part SetFaultKind)) (done : List Piece) (rest : List (Result Piece SetFaultKind))
+    → pieces place filled ps ≡ map Ok done ++ rest → length (array n done) ≤ length (array 0 done) + cond filled 0 n
+one_fill n place filled ps [] rest e = omega arith
+one_fill n place filled [] (d ∷ done) rest e = absurd (let no : ⊥ = cc in no)
+one_fill n place filled (Err k ∷ more) (d ∷ done) rest e = absurd (let no : ⊥ = cc in no)
+one_fill n place filled (Ok p ∷ more) (d ∷ done) rest e =
+    let first : piece place filled p ≡ Ok d = cc in
+    let others : pieces place (filled || is_fill (piece place filled p)) more ≡ map Ok done ++ rest = cc in
+    let less = one_fill n place (filled || is_fill (piece place filled p)) more done rest others in
+    fill_step n d filled done (is_not_second place p d filled first) (rw first at less)
+
+-- how long the array is, so far
+pub array-bound : (place : Place) (text : List ℕ) (n : ℕ) (done : List Piece) (rest : List (Result Piece SetFaultKind))
+    → pieces_of place text ≡ map Ok done ++ rest → length (array 0 done) ≤ 65535 * length done → length (array n done) ≤ 65535 * length text + n
+array-bound place text n done rest e h =
+    let count : length done + length rest ≡ length (pieces_of place text) =
+        omega (arith, ap length e, length-append (map {B = Result Piece SetFaultKind} Ok done) rest, length-map {B = Result Piece SetFaultKind} done Ok) in
+    omega (arith, one_fill n place false (parts (units text)) done rest e, length-pieces_of place text)

@@ -77,9 +77,11 @@ impl Places {
     }
 
     /// Puts a piece at the end of the array, where a fill gives so many bytes.
+    #[tactic(auto, using(crate::proofs::TrPlaces::piece_steps))]
     fn push_piece(&mut self, piece: Piece, fill: u128)
         requires { self.old.length + fill < 2 ^ 125 }
         ensures length { self.new.length ≡ self.old.length + length (members fill piece) }
+        ensures short { length (members 0 piece) ≤ 65535 }
         ensures places { (bytes : List ℕ) → self.old ≡ places_of bytes → self.new ≡ places_of (bytes ++ members fill piece) }
     {
         match piece {
