@@ -8,3 +8,4 @@ mod TrRows
 mod TrClassRows
 pub mod TrPlaces
 pub mod TrWalks
+pub mod TrComplement

@@ -1,10 +1,10 @@
 //! Where the bytes of an array of `tr` stand.
-ghost use Rattle.std.specs.Prelude.{◌≡◌, ◌+◌, ◌*◌, ◌^◌, ◌<◌, ◌≤◌, ◌++◌, ◌∷◌, [], ℕ, List, length, replicate};
-ghost use Rattle.ptlangs.specs.TrClasses.{span, class_bytes};
+ghost use Rattle.std.specs.Prelude.{◌≡◌, ◌+◌, ◌*◌, ◌^◌, ◌<◌, ◌≤◌, ◌++◌, ◌∷◌, [], ℕ, List, length, map, replicate};
+ghost use Rattle.ptlangs.specs.TrClasses.{span, all_bytes, class_bytes};
 ghost use Rattle.std.specs.Result.{result_map_both};
 ghost use Rattle.ptlangs.specs.declared.faults.SetFaultKind.{SetFaultKind};
 ghost use Rattle.ptlangs.specs.declared.pieces.Piece.{Piece};
-ghost use Rattle.ptlangs.specs.TrPlan.{places_of, members, array, collected, pieces_of};
+ghost use Rattle.ptlangs.specs.TrPlan.{places_of, members, array, collected, pieces_of, last_place, has_byte, complement_of};
 
 use crate::classes::CharClass;
 use crate::faults::SetFaultKind;
@@ -102,5 +102,43 @@ impl Places {
             places.push_piece(piece?, fill);
         }
         Ok(places)
+    }
+
+    /// How long the array is.
+    pub(crate) fn len(&self) -> u128
+        ensures { result ≡ self.now.length }
+    {
+        self.length
+    }
+
+    /// The last place of a byte, if it stands in the array.
+    pub(crate) fn last(&self, byte: u8) -> Option<u128>
+        ensures { (bytes : List ℕ) → self.now ≡ places_of bytes → result ≡ last_place byte bytes }
+    {
+        self.last[usize::from(byte)]
+    }
+
+    /// For each byte, whether it stands in the array.
+    pub(crate) fn contained(&self) -> [bool; 256]
+        ensures { (bytes : List ℕ) → self.now ≡ places_of bytes → result ≡ map (λ b. has_byte b bytes) all_bytes }
+    {
+        let mut table = [false; 256];
+        for (place, entry) in table.iter_mut().enumerate() {
+            *entry = self.last[place].is_some();
+        }
+        table
+    }
+
+    /// The places of the array of all bytes that do not stand in this one, ascending.
+    pub(crate) fn complement(&self) -> Places
+        ensures { (bytes : List ℕ) → self.now ≡ places_of bytes → result ≡ places_of (complement_of bytes) }
+    {
+        let mut others = Places::new();
+        for byte in u8::MIN..=u8::MAX {
+            if self.last[usize::from(byte)].is_none() {
+                others.push(byte);
+            }
+        }
+        others
     }
 }
