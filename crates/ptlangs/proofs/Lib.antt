@@ -9,3 +9,4 @@ mod TrClassRows
 pub mod TrPlaces
 pub mod TrWalks
 pub mod TrComplement
+pub mod TrSpans

@@ -1,8 +1,8 @@
 //! The classes of characters (POSIX.1-2017, XBD, 7.3.1), in the POSIX locale over ASCII: bytes
 //! above 127 are in no class.
-ghost use Rattle.std.specs.Prelude.{◌≡◌, ℕ};
+ghost use Rattle.std.specs.Prelude.{◌≡◌, ◌+◌, ◌<◌, length, slice_get};
 ghost use Rattle.std.specs.List.{flat_map};
-ghost use Rattle.ptlangs.specs.TrClasses.{span, class_bytes, class_named};
+ghost use Rattle.ptlangs.specs.TrClasses.{range_bytes, span, class_bytes, class_named};
 
 /// A class of characters.
 #[derive(Clone, Copy, PartialEq, Eq)]
@@ -45,7 +45,7 @@ impl CharClass {
 
     /// The bytes of the class, ascending: each pair is a first and a last byte.
     pub(crate) fn ranges(self) -> &'static [(u8, u8)]
-        ensures { flat_map (λ (r : ℕ × ℕ). span r.0 r.1) result.now ≡ class_bytes self }
+        ensures { flat_map range_bytes result.now ≡ class_bytes self }
     {
         match self {
             CharClass::Alnum => &[(b'0', b'9'), (b'A', b'Z'), (b'a', b'z')],
@@ -61,5 +61,53 @@ impl CharClass {
             CharClass::Upper => &[(b'A', b'Z')],
             CharClass::Xdigit => &[(b'0', b'9'), (b'A', b'F'), (b'a', b'f')],
         }
+    }
+
+    /// How many bytes are in the class.
+    pub(crate) fn len(self) -> u128
+        ensures { result ≡ length (class_bytes self) }
+    {
+        let ranges = self.ranges();
+        let mut count = 0;
+        for &(first, last) in ranges {
+            count += span_len(first, last);
+        }
+        count
+    }
+
+    /// The byte at a place of the class, ascending.
+    pub(crate) fn get(self, place: u128) -> Option<u8>
+        ensures { result ≡ slice_get (class_bytes self) place }
+    {
+        let ranges = self.ranges();
+        let mut left = place;
+        for &(first, last) in ranges {
+            let count = span_len(first, last);
+            if left < count {
+                return span_get(first, last, left);
+            }
+            left -= count;
+        }
+        None
+    }
+}
+
+/// How many bytes there are from one to another.
+#[tactic(auto, using(crate::proofs::TrSpans::span_steps))]
+pub(crate) fn span_len(first: u8, last: u8) -> u128
+    ensures { result ≡ length (span first last) }
+{
+    (u128::from(last) + 1).saturating_sub(u128::from(first))
+}
+
+/// The byte at a place of those from one to another.
+#[tactic(auto, using(crate::proofs::TrSpans::span_steps))]
+pub(crate) fn span_get(first: u8, last: u8, place: u128) -> Option<u8>
+    ensures { result ≡ slice_get (span first last) place }
+{
+    if place < span_len(first, last) {
+        Some(first + place as u8)
+    } else {
+        None
     }
 }

@@ -1,10 +1,10 @@
 use Rattle.std.proofs.Common.{ℕ, length, ap, arith}
-use Rattle.ptlangs.specs.TrClasses.{span}
+use Rattle.ptlangs.specs.TrClasses.{range_bytes}
 use Rattle.ptlangs.proofs.TrPlaces.{length-flat_map-take, class_bytes-short}
 use Rattle.ptlangs.proofs.places.Places.push_class.Goals as goal
 
 pub push_range-requires : goal.push_range-requires
 push_range-requires c =
     let ranges = c.ranges-ranges.result.now in
-    let shorter = length-flat_map-take (λ (r : ℕ × ℕ). span r.0 r.1) ranges c.loop-first.first-index in
+    let shorter = length-flat_map-take range_bytes ranges c.loop-first.first-index in
     omega (arith, c.loop-first.invariant.length, shorter, ap length c.ranges-ranges.ensures, class_bytes-short c.args.class)
