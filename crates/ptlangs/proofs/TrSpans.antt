@@ -2,7 +2,7 @@
 use Rattle.std.proofs.Common.{◌≡◌, ◌<◌, ◌≤◌, ◌+◌, ◌-◌, ℕ, zero, suc, Bool, true, false, cond, List, [], ◌∷◌, ◌++◌, length, take, drop, replicate, arith, refl, sym, ap, ◌∙◌, Option, Some, None, min}
 use Rattle.std.specs.List.{range_with_len, slice_get, flat_map}
 use Rattle.std.proofs.Math.ListN.{get_or}
-use Rattle.std.proofs.lemmas.List.{drop_more, length-append}
+use Rattle.std.proofs.lemmas.List.{drop_more, length-append, length-replicate}
 use Rattle.std.proofs.lemmas.List.FromFn.{length-range_with_len}
 use Rattle.ptlangs.specs.TrClasses.{span, range_bytes}
 
@@ -57,3 +57,18 @@ length-ranges [] i d h = absurd (omega arith)
 length-ranges (r ∷ rs) zero d h = omega (arith, length-append (range_bytes r) (flat_map range_bytes rs))
 length-ranges (r ∷ rs) (suc i) d h =
     omega (arith, length-ranges rs i d (omega arith), length-append (range_bytes r) (flat_map range_bytes rs), length-append (range_bytes r) (flat_map range_bytes (take i rs)))
+
+-- ---- a byte, so many times
+
+pub slice_get-replicate : (n b i : ℕ) → i < n → slice_get (replicate n b) i ≡ Some b
+slice_get-replicate zero b i h = absurd (omega arith)
+slice_get-replicate (suc n) b zero h = refl
+slice_get-replicate (suc n) b (suc i) h = slice_get-replicate n b i (omega arith)
+
+pub repeat_there : (n b i : ℕ) → i < n → Some b ≡ slice_get (replicate n b) i
+repeat_there n b i h = sym (slice_get-replicate n b i h)
+
+pub repeat_past : (n b i : ℕ) → n ≤ i → None ≡ slice_get (replicate n b) i
+repeat_past n b i h = sym (slice_get-past (replicate n b) i (omega (arith, length-replicate n b)))
+
+pub ruleset member_steps = (length-replicate, repeat_there, repeat_past)

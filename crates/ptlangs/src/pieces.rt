@@ -1,11 +1,9 @@
 //! The pieces of the array that a string of `tr` stands for.
-ghost use Rattle.std.specs.Prelude.{◌≡◌, ◌+◌, ◌<◌, ◌≤◌, ℕ, Bool, length, drop};
+ghost use Rattle.std.specs.Prelude.{◌≡◌, length, replicate, slice_get};
 ghost use Rattle.std.specs.Iterator.{YieldsFirst, item_count};
-ghost use Rattle.ptlangs.specs.TrUnits.{units};
-ghost use Rattle.ptlangs.specs.TrParts.{parts};
-ghost use Rattle.ptlangs.specs.TrPlan.{piece, repeat_piece, is_fill, pieces_of, pieces_left};
+ghost use Rattle.ptlangs.specs.TrPlan.{piece, repeat_piece, is_fill, pieces_of, pieces_left, members};
 
-use crate::classes::CharClass;
+use crate::classes::{CharClass, span_get, span_len};
 use crate::faults::SetFaultKind;
 use crate::parts::{Part, part_at};
 
@@ -61,6 +59,40 @@ impl Piece {
             (Part::Repeat(byte, count), _) => repeat(filled, byte, count),
         }
     }
+
+    /// How many bytes the piece has, where a fill has so many.
+    #[tactic(auto, using(crate::proofs::TrSpans::member_steps))]
+    pub(crate) fn len(self, fill: u128) -> u128
+        ensures { result ≡ length (members fill self) }
+    {
+        match self {
+            Piece::Range(first, last) => span_len(first, last),
+            Piece::Class(class) => class.len(),
+            Piece::Repeat(_, count) => u128::from(count),
+            Piece::Fill(_) => fill,
+        }
+    }
+
+    /// The byte at a place of the piece, where a fill has so many.
+    #[tactic(auto, using(crate::proofs::TrSpans::member_steps))]
+    pub(crate) fn get(self, fill: u128, place: u128) -> Option<u8>
+        ensures { result ≡ slice_get (members fill self) place }
+    {
+        match self {
+            Piece::Range(first, last) => span_get(first, last, place),
+            Piece::Class(class) => class.get(place),
+            Piece::Repeat(byte, count) => repeat_get(byte, u128::from(count), place),
+            Piece::Fill(byte) => repeat_get(byte, fill, place),
+        }
+    }
+}
+
+/// The byte at a place of so many equal ones.
+#[tactic(auto, using(crate::proofs::TrSpans::member_steps))]
+fn repeat_get(byte: u8, count: u128, place: u128) -> Option<u8>
+    ensures { result ≡ slice_get (replicate count byte) place }
+{
+    if place < count { Some(byte) } else { None }
 }
 
 /// Whether a fill was read.
