@@ -10,3 +10,5 @@ pub mod TrPlaces
 pub mod TrWalks
 pub mod TrComplement
 pub mod TrSpans
+pub mod TrSecond
+pub mod TrPairs

@@ -1,15 +1,14 @@
 -- The last places of bytes in an array.
-use Rattle.std.proofs.Common.{◌≡◌, ◌≢◌, ◌⊎◌, inl, inr, ◌<◌, ◌≤◌, ◌+◌, ◌-◌, ◌*◌, ◌||◌, ℕ, zero, suc, Bool, true, false, cond, eqb, List, [], ◌∷◌, ◌++◌, length, take, drop, lit≤, map, replicate, arith, refl, sym, ap, ◌∙◌, Option, Some, None}
+use Rattle.std.proofs.Common.{◌≡◌, ◌≢◌, ◌⊎◌, inl, inr, ◌<◌, ◌≤◌, ◌+◌, ◌-◌, ◌*◌, ◌||◌, ℕ, zero, suc, Bool, true, false, cond, eqb, List, [], ◌∷◌, ◌++◌, length, take, drop, map, replicate, arith, refl, sym, ap, ◌∙◌, Option, Some, None}
 use Rattle.std.specs.List.{range_with_len, flat_map}
 use Rattle.std.proofs.Math.ListN.{set, get_or}
 use Rattle.std.proofs.lemmas.Bool.{cases_eq, eq-eqb, ne_eqb}
 use Rattle.std.proofs.lemmas.List.{append_assoc, append-nil, map-id, same_lists, length-set, length_push, get_or-set_same, get_or-set_other, length-replicate, get_or-replicate, length-append, replicate_more}
 use Rattle.std.proofs.lemmas.List.FromFn.{length-map-range_with_len, get_or-map-range_with_len, length-range_with_len, map-range_with_len_more}
-use Rattle.ptlangs.specs.declared.classes.CharClass.{CharClass}
-use Rattle.ptlangs.specs.declared.classes.CharClass.TheVariants.{Alnum, Alpha, Blank, Cntrl, Digit, Graph, Lower, Print, Punct, Space, Upper, Xdigit}
 use Rattle.ptlangs.specs.declared.pieces.Piece.{Piece}
 use Rattle.ptlangs.specs.declared.places.Places.{Places}
-use Rattle.ptlangs.specs.TrClasses.{span, all_bytes, class_bytes}
+use Rattle.ptlangs.specs.TrClasses.{span, all_bytes}
+use Rattle.ptlangs.proofs.TrSpans.{class_bytes-short}
 use Rattle.ptlangs.specs.TrPlan.{last_place, later_or, places_of, members, array}
 
 -- a table of all bytes, entry by entry
@@ -131,20 +130,6 @@ length-flat_map-take f [] zero = omega arith
 length-flat_map-take f [] (suc i) = omega arith
 length-flat_map-take f (x ∷ xs) zero = omega arith
 length-flat_map-take f (x ∷ xs) (suc i) = omega (arith, length-flat_map-take f xs i, length-append (f x) (flat_map f (take i xs)), length-append (f x) (flat_map f xs))
-
-pub class_bytes-short : (class : CharClass) → length (class_bytes class) ≤ 256
-class_bytes-short Alnum = lit≤ tt
-class_bytes-short Alpha = lit≤ tt
-class_bytes-short Blank = lit≤ tt
-class_bytes-short Cntrl = lit≤ tt
-class_bytes-short Digit = lit≤ tt
-class_bytes-short Graph = lit≤ tt
-class_bytes-short Lower = lit≤ tt
-class_bytes-short Print = lit≤ tt
-class_bytes-short Punct = lit≤ tt
-class_bytes-short Space = lit≤ tt
-class_bytes-short Upper = lit≤ tt
-class_bytes-short Xdigit = lit≤ tt
 
 -- the places are those of the pieces so far, each of which is short
 pub record HasPlaces (fill : ℕ) (places : Places) (done : List Piece) : Type 0 where

@@ -1,10 +1,12 @@
 -- Places in joined lists and in runs of bytes.
-use Rattle.std.proofs.Common.{◌≡◌, ◌<◌, ◌≤◌, ◌+◌, ◌-◌, ℕ, zero, suc, Bool, true, false, cond, List, [], ◌∷◌, ◌++◌, length, take, drop, replicate, arith, refl, sym, ap, ◌∙◌, Option, Some, None, min}
+use Rattle.std.proofs.Common.{◌≡◌, ◌<◌, ◌≤◌, ◌+◌, ◌-◌, ℕ, zero, suc, Bool, true, false, cond, List, [], ◌∷◌, ◌++◌, length, take, drop, replicate, lit≤, arith, refl, sym, ap, ◌∙◌, Option, Some, None, min}
 use Rattle.std.specs.List.{range_with_len, slice_get, flat_map}
 use Rattle.std.proofs.Math.ListN.{get_or}
 use Rattle.std.proofs.lemmas.List.{drop_more, length-append, length-replicate}
 use Rattle.std.proofs.lemmas.List.FromFn.{length-range_with_len}
-use Rattle.ptlangs.specs.TrClasses.{span, range_bytes}
+use Rattle.ptlangs.specs.declared.classes.CharClass.{CharClass}
+use Rattle.ptlangs.specs.declared.classes.CharClass.TheVariants.{Alnum, Alpha, Blank, Cntrl, Digit, Graph, Lower, Print, Punct, Space, Upper, Xdigit}
+use Rattle.ptlangs.specs.TrClasses.{span, range_bytes, class_bytes}
 
 pub slice_get-range : (a n i : ℕ) → i < n → slice_get (range_with_len a n) i ≡ Some (a + i)
 slice_get-range a zero i h = absurd (omega arith)
@@ -58,6 +60,20 @@ length-ranges (r ∷ rs) zero d h = omega (arith, length-append (range_bytes r) 
 length-ranges (r ∷ rs) (suc i) d h =
     omega (arith, length-ranges rs i d (omega arith), length-append (range_bytes r) (flat_map range_bytes rs), length-append (range_bytes r) (flat_map range_bytes (take i rs)))
 
+pub class_bytes-short : (class : CharClass) → length (class_bytes class) ≤ 256
+class_bytes-short Alnum = lit≤ tt
+class_bytes-short Alpha = lit≤ tt
+class_bytes-short Blank = lit≤ tt
+class_bytes-short Cntrl = lit≤ tt
+class_bytes-short Digit = lit≤ tt
+class_bytes-short Graph = lit≤ tt
+class_bytes-short Lower = lit≤ tt
+class_bytes-short Print = lit≤ tt
+class_bytes-short Punct = lit≤ tt
+class_bytes-short Space = lit≤ tt
+class_bytes-short Upper = lit≤ tt
+class_bytes-short Xdigit = lit≤ tt
+
 -- ---- a byte, so many times
 
 pub slice_get-replicate : (n b i : ℕ) → i < n → slice_get (replicate n b) i ≡ Some b
@@ -71,4 +87,4 @@ repeat_there n b i h = sym (slice_get-replicate n b i h)
 pub repeat_past : (n b i : ℕ) → n ≤ i → None ≡ slice_get (replicate n b) i
 repeat_past n b i h = sym (slice_get-past (replicate n b) i (omega (arith, length-replicate n b)))
 
-pub ruleset member_steps = (length-replicate, repeat_there, repeat_past)
+pub ruleset member_steps = (length-replicate, length-span, class_bytes-short, repeat_there, repeat_past)

@@ -134,3 +134,40 @@ array-bound place text n done rest e h =
     let count : length done + length rest ≡ length (pieces_of place text) =
         omega (arith, ap length e, length-append (map {B = Result Piece SetFaultKind} Ok done) rest, length-map {B = Result Piece SetFaultKind} done Ok) in
     omega (arith, one_fill n place false (parts (units text)) done rest e, length-pieces_of place text)
+
+-- ---- what a walk knows of all pieces, where they have no fault
+
+pub walk_rest : (all rest : List (Result Piece SetFaultKind)) (P : List Piece → Type 0) (ps : List Piece) (w : Walked all rest P) → collected all ≡ Ok ps
+    → (more : List Piece) × (collected rest ≡ Ok more) × (ps ≡ w.done ++ more)
+walk_rest all rest P ps w e = by_rest (collected rest) refl (sym (collected-done w.done rest) ∙ ap collected (sym w.so_far) ∙ e)
+  where
+    by_rest : (r : Result (List Piece) SetFaultKind) → collected rest ≡ r → result_map_both (λ (xs : List Piece). w.done ++ xs) (λ (k : SetFaultKind). k) r ≡ Ok ps
+        → (more : List Piece) × (collected rest ≡ Ok more) × (ps ≡ w.done ++ more)
+    by_rest (Ok more) c e = (more, c, cc)
+    by_rest (Err k) c e = absurd (let no : ⊥ = cc in no)
+
+pub collected-more : (rest : List (Result Piece SetFaultKind)) (x : Piece) (ps : List Piece) → collected (Ok x ∷ rest) ≡ Ok ps → (more : List Piece) × (collected rest ≡ Ok more) × (ps ≡ x ∷ more)
+collected-more rest x ps e = by_rest (collected rest) refl e
+  where
+    by_rest : (r : Result (List Piece) SetFaultKind) → collected rest ≡ r → result_map_both (λ (xs : List Piece). x ∷ xs) (λ (k : SetFaultKind). k) r ≡ Ok ps
+        → (more : List Piece) × (collected rest ≡ Ok more) × (ps ≡ x ∷ more)
+    by_rest (Ok more) c e = (more, c, cc)
+    by_rest (Err k) c e = absurd (let no : ⊥ = cc in no)
+
+-- what stands around the piece that is read now
+pub walk_at : (all rest after : List (Result Piece SetFaultKind)) (P : List Piece → Type 0) (x : Piece) (ps : List Piece) (w : Walked all rest P) → rest ≡ Ok x ∷ after → collected all ≡ Ok ps
+    → (more : List Piece) × (collected after ≡ Ok more) × (ps ≡ w.done ++ x ∷ more)
+walk_at all rest after P x ps w e c =
+    let (tail, t, all_is) = walk_rest all rest P ps w c in
+    let (more, m, tail_is) = collected-more after x tail (ap collected (sym e) ∙ t) in
+    (more, m, all_is ∙ ap (λ xs. w.done ++ xs) tail_is)
+
+pub walk_never : {A : Type 0} (all rest after : List (Result Piece SetFaultKind)) (P : List Piece → Type 0) (k : SetFaultKind) (ps : List Piece) → Walked all rest P → rest ≡ Err k ∷ after → collected all ≡ Ok ps → A
+walk_never all rest after P k ps w e c = let fault : collected all ≡ Err k = walk_fault all rest after P k w e in absurd (let no : ⊥ = cc in no)
+
+pub walk_whole : (all rest : List (Result Piece SetFaultKind)) (P : List Piece → Type 0) (ps : List Piece) (w : Walked all rest P) → rest ≡ [] → collected all ≡ Ok ps → w.done ≡ ps
+walk_whole all rest P ps w e c = let end : collected all ≡ Ok w.done = walk_end all rest P w e in cc
+
+pub array-append : (n : ℕ) (ps qs : List Piece) → array n (ps ++ qs) ≡ array n ps ++ array n qs
+array-append n [] qs = refl
+array-append n (p ∷ ps) qs = ap (λ xs. members n p ++ xs) (array-append n ps qs) ∙ sym (append_assoc (members n p) (array n ps) (array n qs))

@@ -1,5 +1,5 @@
 -- The classes of characters, in the POSIX locale over ASCII.
-use Rattle.std.specs.Prelude.{ℕ, ◌+◌, ◌-◌, List, [], ◌∷◌, ◌++◌, Option, codes, bytes_eq}
+use Rattle.std.specs.Prelude.{ℕ, Bool, true, false, ◌+◌, ◌-◌, List, [], ◌∷◌, ◌++◌, Option, codes, bytes_eq}
 use Rattle.std.specs.List.{find, range_with_len}
 use Rattle.std.specs.Option.{option_map}
 use Rattle.ptlangs.specs.declared.classes.CharClass.{CharClass}
@@ -42,3 +42,9 @@ class_names =
 -- the class of this name, if there is one
 abbrev pub class_named : List ℕ → Option CharClass
 class_named name = option_map (λ (c : List ℕ × CharClass). c.1) (find (λ (c : List ℕ × CharClass). bytes_eq name c.0) class_names)
+
+-- whether the two are the lower and the upper case
+abbrev pub are_cases : CharClass → CharClass → Bool
+are_cases Lower Upper = true
+are_cases Upper Lower = true
+are_cases c d = false

@@ -4,7 +4,6 @@ use Rattle.std.specs.List.{flat_map, list_all, list_any, last_or}
 use Rattle.std.specs.Option.{option_and_then, option_to_list}
 use Rattle.std.specs.Result.{result_map_both}
 use Rattle.ptlangs.specs.declared.classes.CharClass.{CharClass}
-use Rattle.ptlangs.specs.declared.classes.CharClass.TheVariants.{Alnum, Alpha, Blank, Cntrl, Digit, Graph, Lower, Print, Punct, Space, Upper, Xdigit}
 use Rattle.ptlangs.specs.declared.faults.SetFaultKind.{SetFaultKind}
 use Rattle.ptlangs.specs.declared.faults.SetFaultKind.TheVariants.{Empty, UnknownClass, ClassPlace, EquivPlace, RepeatPlace, RepeatSize, SecondFill}
 use Rattle.ptlangs.specs.declared.faults.SetString.TheVariants as string
@@ -22,7 +21,7 @@ use Rattle.ptlangs.specs.declared.plan.Form.{Form}
 use Rattle.ptlangs.specs.declared.plan.Form.TheVariants.{Translate, TranslateSqueeze, Squeeze, Delete, DeleteSqueeze}
 use Rattle.ptlangs.specs.TrUnits.{units}
 use Rattle.ptlangs.specs.TrParts.{parts}
-use Rattle.ptlangs.specs.TrClasses.{span, all_bytes, class_bytes}
+use Rattle.ptlangs.specs.TrClasses.{span, all_bytes, are_cases, class_bytes}
 
 -- ---- the pieces of an array
 
@@ -117,15 +116,13 @@ class_places n at (Range a b ∷ ps) = class_places n (at + length (span a b)) p
 class_places n at (Repeat b count ∷ ps) = class_places n (at + count) ps
 class_places n at (Fill b ∷ ps) = class_places n (at + n) ps
 
--- whether the two are the lower and the upper case
-abbrev pub are_cases : CharClass → CharClass → Bool
-are_cases Lower Upper = true
-are_cases Upper Lower = true
-are_cases c d = false
+-- the other case of this class stands there
+abbrev pub stands_at : List (ℕ × CharClass) → ℕ → CharClass → Bool
+stands_at firsts at class = list_any (λ (f : ℕ × CharClass). (f.0 == at) && are_cases f.1 class) firsts
 
 -- each class of the second string faces its other case in the first
 abbrev pub is_paired : List (ℕ × CharClass) → List (ℕ × CharClass) → Bool
-is_paired firsts seconds = list_all (λ (s : ℕ × CharClass). list_any (λ (f : ℕ × CharClass). (f.0 == s.0) && are_cases f.1 s.1) firsts) seconds
+is_paired firsts seconds = list_all (λ (s : ℕ × CharClass). stands_at firsts s.0 s.1) seconds
 
 -- ---- the plan
 
@@ -191,11 +188,10 @@ takes_second Squeeze = false
 takes_second Delete = false
 takes_second DeleteSqueeze = true
 
--- whether the classes of the second string stand where they may
+-- whether the classes of the second string stand where they may: a complement has none to face
 abbrev pub may_pair : Form → Bool → List (ℕ × CharClass) → List (ℕ × CharClass) → Bool
 may_pair DeleteSqueeze complement firsts seconds = true
-may_pair form true firsts [] = true
-may_pair form true firsts (s ∷ seconds) = false
+may_pair form true firsts seconds = is_paired [] seconds
 may_pair form false firsts seconds = is_paired firsts seconds
 
 -- the plan of two strings, whose first is read and has this array

@@ -2,7 +2,7 @@
 //! above 127 are in no class.
 ghost use Rattle.std.specs.Prelude.{◌≡◌, ◌+◌, ◌<◌, length, slice_get};
 ghost use Rattle.std.specs.List.{flat_map};
-ghost use Rattle.ptlangs.specs.TrClasses.{range_bytes, span, class_bytes, class_named};
+ghost use Rattle.ptlangs.specs.TrClasses.{range_bytes, span, are_cases, class_bytes, class_named};
 
 /// A class of characters.
 #[derive(Clone, Copy, PartialEq, Eq)]
@@ -61,6 +61,16 @@ impl CharClass {
             CharClass::Upper => &[(b'A', b'Z')],
             CharClass::Xdigit => &[(b'0', b'9'), (b'A', b'F'), (b'a', b'f')],
         }
+    }
+
+    /// Whether the two are the lower and the upper case.
+    pub(crate) fn is_other_case(self, other: CharClass) -> bool
+        ensures { result ≡ are_cases self other }
+    {
+        matches!(
+            (self, other),
+            (CharClass::Lower, CharClass::Upper) | (CharClass::Upper, CharClass::Lower)
+        )
     }
 
     /// How many bytes are in the class.

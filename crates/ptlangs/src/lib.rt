@@ -7,6 +7,7 @@ mod parts;
 mod pieces;
 mod places;
 mod plan;
+mod second;
 mod units;
 
 pub use parts::parts_are_of_the_grammar;

@@ -1,5 +1,5 @@
 //! The pieces of the array that a string of `tr` stands for.
-ghost use Rattle.std.specs.Prelude.{◌≡◌, length, replicate, slice_get};
+ghost use Rattle.std.specs.Prelude.{◌≡◌, ◌≤◌, length, replicate, slice_get};
 ghost use Rattle.std.specs.Iterator.{YieldsFirst, item_count};
 ghost use Rattle.ptlangs.specs.TrPlan.{piece, repeat_piece, is_fill, pieces_of, pieces_left, members};
 
@@ -63,7 +63,8 @@ impl Piece {
     /// How many bytes the piece has, where a fill has so many.
     #[tactic(auto, using(crate::proofs::TrSpans::member_steps))]
     pub(crate) fn len(self, fill: u128) -> u128
-        ensures { result ≡ length (members fill self) }
+        ensures count { result ≡ length (members fill self) }
+        ensures short { length (members 0 self) ≤ 65535 }
     {
         match self {
             Piece::Range(first, last) => span_len(first, last),

@@ -1,6 +1,5 @@
 use Rattle.std.proofs.Common.{length, ap, arith}
-use Rattle.ptlangs.proofs.TrSpans.{length-ranges}
-use Rattle.ptlangs.proofs.TrPlaces.{class_bytes-short}
+use Rattle.ptlangs.proofs.TrSpans.{length-ranges, class_bytes-short}
 use Rattle.ptlangs.proofs.classes.CharClass.len.Goals as goal
 
 pub overflow_add-count : goal.overflow_add-count

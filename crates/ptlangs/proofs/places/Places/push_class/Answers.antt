@@ -1,6 +1,7 @@
 use Rattle.std.proofs.Common.{ℕ, length, ap, arith}
 use Rattle.ptlangs.specs.TrClasses.{range_bytes}
-use Rattle.ptlangs.proofs.TrPlaces.{length-flat_map-take, class_bytes-short}
+use Rattle.ptlangs.proofs.TrPlaces.{length-flat_map-take}
+use Rattle.ptlangs.proofs.TrSpans.{class_bytes-short}
 use Rattle.ptlangs.proofs.places.Places.push_class.Goals as goal
 
 pub push_range-requires : goal.push_range-requires

@@ -1,0 +1,7 @@
+use Rattle.ptlangs.specs.TrPlan.{pieces_of, pieces_left}
+use Rattle.ptlangs.proofs.TrWalks.{Walked}
+use Rattle.ptlangs.proofs.TrSecond.{IsBehind}
+use Rattle.ptlangs.proofs.second.Second.get.Given as goal
+
+abbrev pub invariant-loop-piece : goal.invariant-loop-piece
+invariant-loop-piece l = Walked (pieces_of l.self.place l.self.text.now) (pieces_left l.piece-iterator) (IsBehind l.self.fill l.at l.left)
