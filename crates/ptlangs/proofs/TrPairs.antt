@@ -138,3 +138,10 @@ pub paired-end : (all rest : List (Result Piece SetFaultKind)) (fill at : ℕ) (
     → is_paired (class_places 0 0 fs) (class_places fill 0 ps) ≡ true
 paired-end all rest fill at firsts w e fs ps f c =
     ap (λ qs. is_paired (class_places 0 0 fs) (class_places fill 0 qs)) (sym (walk_whole all rest (Faced fill at firsts) ps w e c)) ∙ w.holds.faced fs f
+
+-- a fill adds no more than it gives
+pub length-members : (n : ℕ) (x : Piece) → length (members n x) ≤ length (members 0 x) + n
+length-members n (Range a b) = omega arith
+length-members n (Class class) = omega arith
+length-members n (Repeat b count) = omega arith
+length-members n (Fill b) = omega (arith, length-replicate n b)

@@ -1,0 +1,8 @@
+use Rattle.ptlangs.specs.declared.pieces.Place.TheVariants.{First}
+use Rattle.ptlangs.specs.TrPlan.{pieces_of, pieces_left}
+use Rattle.ptlangs.proofs.TrWalks.{Walked}
+use Rattle.ptlangs.proofs.TrPairs.{NotYet}
+use Rattle.ptlangs.proofs.second.stands_at.Given as goal
+
+abbrev pub invariant-loop-piece : goal.invariant-loop-piece
+invariant-loop-piece l = Walked (pieces_of First l.fn.first) (pieces_left l.piece-iterator) (NotYet l.place l.at l.class)
