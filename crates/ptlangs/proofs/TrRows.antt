@@ -6,7 +6,7 @@ use Rattle.ptlangs.specs.declared.faults.SetString.TheVariants.{First, Second}
 use Rattle.ptlangs.specs.declared.faults.SetFault.{SetFault}
 use Rattle.ptlangs.specs.declared.plan.Form.TheVariants.{Translate, TranslateSqueeze, Squeeze, Delete, DeleteSqueeze}
 use Rattle.ptlangs.specs.TrClasses.{all_bytes}
-use Rattle.ptlangs.specs.TrPlan.{Plan, plan, deletes, image, squeezes}
+use Rattle.ptlangs.specs.TrPlan.{Plan, plan, is_deleted, image_of, is_squeezed}
 
 -- a byte stays, unless it equals the one before it and is to be squeezed
 abbrev stays : (ℕ → Bool) → ℕ × ℕ → Bool
@@ -18,7 +18,7 @@ squeeze test (b ∷ bs) = b ∷ map (λ (p : ℕ × ℕ). p.1) (filter (stays te
 
 -- the bytes that are left, translated, then squeezed
 abbrev tr : Plan → List ℕ → List ℕ
-tr plan bytes = squeeze (squeezes plan) (map (image plan) (filter (λ b. not (deletes plan b)) bytes))
+tr plan bytes = squeeze (is_squeezed plan) (map (image_of plan) (filter (λ b. not (is_deleted plan b)) bytes))
 
 -- what `tr` writes of some bytes
 abbrev run : Result Plan SetFault → List ℕ → Option (List ℕ)

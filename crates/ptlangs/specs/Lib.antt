@@ -1,4 +1,5 @@
 pub mod TrClasses
 pub mod TrParts
 pub mod TrPlan
+pub mod TrTables
 pub mod TrUnits

@@ -154,17 +154,19 @@ abbrev pub last_place : ℕ → List ℕ → Option ℕ
 last_place c [] = None
 last_place c (b ∷ bytes) = later_or (last_place c bytes) (b == c)
 
--- whether a byte is deleted
-abbrev pub deletes : Plan → ℕ → Bool
-deletes plan b = has_byte b plan.deleted
+-- the byte of the fitted second array at the last place of a byte in the first, else the byte itself
+abbrev pub image_by : List ℕ → List ℕ → ℕ → ℕ
+image_by from to b = unwrap_or (option_and_then (slice_get (fitted (length from) to)) (last_place b from)) b
 
--- what a byte becomes: the byte of the fitted second array at its last place in the first, else itself
-abbrev pub image : Plan → ℕ → ℕ
-image plan b = unwrap_or (option_and_then (λ i. slice_get (fitted (length plan.from) plan.to) i) (last_place b plan.from)) b
+-- whether a byte is deleted, what it becomes, and whether its repeats are squeezed
+abbrev pub is_deleted : Plan → ℕ → Bool
+is_deleted plan b = has_byte b plan.deleted
 
--- whether repeats of a byte are squeezed
-abbrev pub squeezes : Plan → ℕ → Bool
-squeezes plan b = has_byte b plan.squeezed
+abbrev pub image_of : Plan → ℕ → ℕ
+image_of plan b = image_by plan.from plan.to b
+
+abbrev pub is_squeezed : Plan → ℕ → Bool
+is_squeezed plan b = has_byte b plan.squeezed
 
 abbrev pub in_string : {A : Type 0} → SetString → Result A SetFaultKind → Result A SetFault
 in_string {A} string r = result_map_both (λ (x : A). x) (λ (k : SetFaultKind). record { string = string; kind = k }) r
@@ -208,16 +210,6 @@ plan_second form complement firsts (Some text) =
 -- the plan of a form, a complement or not, and the strings; else the first fault
 abbrev pub plan : Form → Bool → List ℕ → Option (List ℕ) → Result Plan SetFault
 plan form complement s1 s2 = and_then (in_string string.First (string_pieces First s1)) (λ firsts. plan_second form complement firsts s2)
-
--- ---- the plan as tables of 256 entries, one for each byte
-
-pub record Tables : Type 0 where
-  pub deleted : List Bool
-  pub images : List ℕ
-  pub squeezed : List Bool
-
-abbrev pub tables : Plan → Tables
-tables plan = record { deleted = map (deletes plan) all_bytes; images = map (image plan) all_bytes; squeezed = map (squeezes plan) all_bytes }
 
 -- where each byte stands last in an array, and the array's length
 abbrev pub places_of : List ℕ → Places

@@ -1,5 +1,5 @@
 //! Where the bytes of an array of `tr` stand.
-ghost use Rattle.std.specs.Prelude.{◌≡◌, ◌+◌, ◌*◌, ◌^◌, ◌<◌, ◌≤◌, ◌++◌, ◌∷◌, [], ℕ, List, length, map, replicate};
+ghost use Rattle.std.specs.Prelude.{◌≡◌, ◌+◌, ◌*◌, ◌^◌, ◌<◌, ◌≤◌, ◌++◌, ◌∷◌, [], ℕ, List, IfOk, length, map, replicate};
 ghost use Rattle.ptlangs.specs.TrClasses.{span, all_bytes, class_bytes};
 ghost use Rattle.std.specs.Result.{result_map_both};
 ghost use Rattle.ptlangs.specs.declared.faults.SetFaultKind.{SetFaultKind};
@@ -95,7 +95,8 @@ impl Places {
     /// The places of a string's array, where a fill gives so many bytes.
     pub(crate) fn read(place: Place, text: &[u8], fill: u128) -> Result<Places, SetFaultKind>
         requires { fill < 2 ^ 100 }
-        ensures { result ≡ result_map_both (λ (ps : List Piece). places_of (array fill ps)) (λ (k : SetFaultKind). k) (collected (pieces_of place text.now)) }
+        ensures places { result ≡ result_map_both (λ (ps : List Piece). places_of (array fill ps)) (λ (k : SetFaultKind). k) (collected (pieces_of place text.now)) }
+        ensures bound { IfOk result (λ p. p.length ≤ 2 ^ 80 + fill) }
     {
         let mut places = Places::new();
         for piece in Pieces::new(place, text) {
@@ -131,7 +132,8 @@ impl Places {
 
     /// The places of the array of all bytes that do not stand in this one, ascending.
     pub(crate) fn complement(&self) -> Places
-        ensures { (bytes : List ℕ) → self.now ≡ places_of bytes → result ≡ places_of (complement_of bytes) }
+        ensures places { (bytes : List ℕ) → self.now ≡ places_of bytes → result ≡ places_of (complement_of bytes) }
+        ensures bound { result.length ≤ 256 }
     {
         let mut others = Places::new();
         for byte in u8::MIN..=u8::MAX {

@@ -20,5 +20,5 @@ others_last c bytes e = elim c.if-is_none.branch [
       then-is_none w ↦ w.others-is ∙ complement-more c.args.self.now c.loop-byte.others w.push.new.self c.loop-byte.byte c.from.result (omega arith) c.from.ensures w.if-is_none.ensures c.loop-byte.invariant.places w.push.ensures.places bytes e
     | else-is_none w ↦ w.others-is ∙ complement-same c.args.self.now c.loop-byte.others c.loop-byte.byte c.from.result (omega arith) c.from.ensures w.if-is_none.ensures c.loop-byte.invariant.places bytes e ]
 
-pub returns-after-is_none : goal.returns-after-is_none
-returns-after-is_none c = λ bytes e. others_last c bytes e ∙ ap places_of (others_below-all bytes (c.loop-byte.byte + 1) (omega arith))
+pub returns-after-is_none-clause-places : goal.returns-after-is_none-clause-places
+returns-after-is_none-clause-places c = λ bytes e. others_last c bytes e ∙ ap places_of (others_below-all bytes (c.loop-byte.byte + 1) (omega arith))
