@@ -12,3 +12,7 @@ pub mod TrComplement
 pub mod TrSpans
 pub mod TrSecond
 pub mod TrPairs
+pub mod TrImages
+pub mod TrAnswers
+pub mod TrTables
+pub mod TrPlans

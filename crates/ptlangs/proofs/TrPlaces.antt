@@ -9,7 +9,7 @@ use Rattle.ptlangs.specs.declared.pieces.Piece.{Piece}
 use Rattle.ptlangs.specs.declared.places.Places.{Places}
 use Rattle.ptlangs.specs.TrClasses.{span, all_bytes}
 use Rattle.ptlangs.proofs.TrSpans.{class_bytes-short}
-use Rattle.ptlangs.specs.TrPlan.{last_place, later_or, places_of, members, array}
+use Rattle.ptlangs.specs.TrPlan.{has_byte, last_place, later_or, places_of, members, array}
 
 -- a table of all bytes, entry by entry
 pub length-table : {X : Type 0} (f : ℕ → X) → length (map f all_bytes) ≡ 256
@@ -29,6 +29,10 @@ same_table xs f n h =
 -- one entry that holds of all
 pub replicate-table : {X : Type 0} (x : X) → replicate 256 x ≡ map (λ (b : ℕ). x) all_bytes
 replicate-table x = same_table (replicate 256 x) (λ b. x) (length-replicate 256 x) (λ i d h. get_or-replicate 256 i x d h)
+
+-- no byte stands in an empty array
+pub none_contained : replicate 256 false ≡ map (λ b. has_byte b []) all_bytes
+none_contained = replicate-table false
 
 -- a write into a table
 pub set-table : {X : Type 0} (f g : ℕ → X) (i : ℕ) (v : X) → i < 256 → g i ≡ v → ((k : ℕ) → k ≢ i → g k ≡ f k) → set (map f all_bytes) i v ≡ map g all_bytes

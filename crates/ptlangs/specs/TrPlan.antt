@@ -202,14 +202,17 @@ plan_with form complement firsts first seconds =
     let n = fill_count (length first) seconds in
     if may_pair form complement (class_places 0 0 firsts) (class_places n 0 seconds) then Ok (plan_of form first (array n seconds)) else Err ClassPlace
 
-abbrev pub plan_second : Form → Bool → List Piece → Option (List ℕ) → Result Plan SetFault
-plan_second form complement firsts None = Ok (plan_of form (first_array complement firsts) [])
-plan_second form complement firsts (Some text) =
-    in_string string.Second (and_then (string_pieces (second_place form) text) (λ seconds. plan_with form complement firsts (first_array complement firsts) seconds))
+abbrev pub second_plan : Form → Bool → List Piece → List ℕ → Result Plan SetFaultKind
+second_plan form complement firsts text =
+    and_then (string_pieces (second_place form) text) (λ seconds. plan_with form complement firsts (first_array complement firsts) seconds)
+
+abbrev pub plan_from : Form → Bool → List Piece → Option (List ℕ) → Result Plan SetFault
+plan_from form complement firsts None = Ok (plan_of form (first_array complement firsts) [])
+plan_from form complement firsts (Some text) = in_string string.Second (second_plan form complement firsts text)
 
 -- the plan of a form, a complement or not, and the strings; else the first fault
 abbrev pub plan : Form → Bool → List ℕ → Option (List ℕ) → Result Plan SetFault
-plan form complement s1 s2 = and_then (in_string string.First (string_pieces First s1)) (λ firsts. plan_second form complement firsts s2)
+plan form complement s1 s2 = and_then (in_string string.First (string_pieces First s1)) (λ firsts. plan_from form complement firsts s2)
 
 -- where each byte stands last in an array, and the array's length
 abbrev pub places_of : List ℕ → Places

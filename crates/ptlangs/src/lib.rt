@@ -3,6 +3,7 @@
 
 mod classes;
 mod faults;
+mod images;
 mod parts;
 mod pieces;
 mod places;

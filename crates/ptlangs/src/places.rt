@@ -17,6 +17,14 @@ pub(crate) struct Places {
     length: u128,
 }
 
+/// The table of an empty array: no byte stands in it.
+#[tactic(auto, using(crate::proofs::TrPlaces::none_contained))]
+pub(crate) fn no_bytes() -> [bool; 256]
+    ensures { result ≡ map (λ b. has_byte b []) all_bytes }
+{
+    [false; 256]
+}
+
 impl Places {
     /// The places of an empty array.
     #[tactic(auto, using(crate::proofs::TrPlaces::places_steps))]
