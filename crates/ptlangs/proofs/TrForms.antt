@@ -8,9 +8,9 @@ use Rattle.ptlangs.specs.declared.classes.CharClass.{CharClass}
 use Rattle.ptlangs.specs.declared.units.SetUnit.{SetUnit}
 use Rattle.ptlangs.specs.declared.parts.Part.{Part}
 use Rattle.ptlangs.specs.declared.parts.Part.TheVariants.{Class}
-use Rattle.ptlangs.specs.TrUnits.{units}
+use Rattle.ptlangs.specs.TrUnits.{byte_of, units}
 use Rattle.ptlangs.specs.TrClasses.{class_named}
-use Rattle.ptlangs.specs.TrParts.{class_of, class_name, class_at, with_rest, behind, behind_two, behind_run, plain_run, byte_of, form_at, from_byte, from_unit, or_unit, first_part}
+use Rattle.ptlangs.specs.TrParts.{class_of, class_name, class_at, with_rest, behind, behind_two, behind_run, plain_run, form_at, from_byte, from_unit, or_unit, first_part}
 
 -- a class that has a name
 pub class_of-name : (name : List ℕ) (us : List SetUnit) → 0 < length name → class_of name us ≡ with_rest (Class (class_named name)) (behind_two 58 93 us)

@@ -11,8 +11,9 @@ use Rattle.ptlangs.specs.declared.units.SetUnit.{SetUnit}
 use Rattle.ptlangs.specs.declared.units.SetUnit.TheVariants.{Plain, Escaped, Faulty}
 use Rattle.ptlangs.specs.declared.parts.Part.{Part}
 use Rattle.ptlangs.specs.declared.parts.Part.TheVariants.{Single, Range, Class, Equivalence, Repeat}
+use Rattle.ptlangs.specs.TrUnits.{byte_of}
 use Rattle.ptlangs.specs.TrClasses.{class_named}
-use Rattle.ptlangs.specs.TrParts.{Means, ByItself, ByEscape, Opens, ARepeat, AClass, AnEquivalence, OpensForm, DashFollows, Begins, InBrackets, ARange, Alone, AreParts, is_plain, byte_of, behind, behind_two, plain_run, behind_run, with_rest, repeat_count, repeat_digits, repeat_of, repeat_at, class_of, class_name, class_at, equivalence_of, equivalence_unit, equivalence_at, form_inside, form_at, range_to, from_byte, from_unit, or_unit, first_part, parts_from, parts_behind, parts}
+use Rattle.ptlangs.specs.TrParts.{Means, ByItself, ByEscape, Opens, ARepeat, AClass, AnEquivalence, OpensForm, DashFollows, Begins, InBrackets, ARange, Alone, AreParts, is_plain, behind, behind_two, plain_run, behind_run, with_rest, repeat_count, repeat_digits, repeat_of, repeat_at, class_of, class_name, class_at, equivalence_of, equivalence_unit, equivalence_at, form_inside, form_at, range_to, from_byte, from_unit, or_unit, first_part, parts_from, parts_behind, parts}
 use Rattle.ptlangs.proofs.TrBehind.{list_all-plain_run}
 
 -- ---- from what is computed to the grammar

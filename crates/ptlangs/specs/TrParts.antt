@@ -10,7 +10,7 @@ use Rattle.ptlangs.specs.declared.units.SetUnit.{SetUnit}
 use Rattle.ptlangs.specs.declared.units.SetUnit.TheVariants.{Plain, Escaped, Faulty}
 use Rattle.ptlangs.specs.declared.parts.Part.{Part}
 use Rattle.ptlangs.specs.declared.parts.Part.TheVariants.{Single, Range, Class, Equivalence, Repeat}
-use Rattle.ptlangs.specs.TrUnits.{is_octal_digit, units}
+use Rattle.ptlangs.specs.TrUnits.{is_octal_digit, byte_of, units}
 use Rattle.ptlangs.specs.TrClasses.{class_named}
 
 -- the number that digits write, unless it is too large for a count
@@ -63,11 +63,6 @@ abbrev pub is_plain : ℕ → SetUnit → Bool
 is_plain c (Plain b) = b == c
 is_plain c (Escaped b) = false
 is_plain c (Faulty k) = false
-
-abbrev pub byte_of : SetUnit → Result ℕ SetFaultKind
-byte_of (Plain b) = Ok b
-byte_of (Escaped b) = Ok b
-byte_of (Faulty k) = Err k
 
 -- what follows this plain byte, if it stands in front
 abbrev pub behind : ℕ → List SetUnit → Option (List SetUnit)

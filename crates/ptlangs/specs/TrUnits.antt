@@ -1,5 +1,5 @@
 -- The units of a string of `tr`: plain bytes and escapes.
-use Rattle.std.specs.Prelude.{ℕ, zero, suc, ◌==◌, ◌&&◌, List, [], ◌∷◌, Bool, if◌then◌else◌, nat_le, nat_lt, take, take_while, length}
+use Rattle.std.specs.Prelude.{ℕ, zero, suc, ◌==◌, ◌&&◌, List, [], ◌∷◌, Bool, if◌then◌else◌, nat_le, nat_lt, take, take_while, length, Result, Ok, Err}
 use Rattle.std.specs.List.{find}
 use Rattle.std.specs.Option.{option_map_or}
 use Rattle.std.specs.Int.{is_in_range}
@@ -8,6 +8,12 @@ use Rattle.ptlangs.specs.declared.units.SetUnit.{SetUnit}
 use Rattle.ptlangs.specs.declared.units.SetUnit.TheVariants.{Plain, Escaped, Faulty}
 use Rattle.ptlangs.specs.declared.faults.SetFaultKind.{SetFaultKind}
 use Rattle.ptlangs.specs.declared.faults.SetFaultKind.TheVariants.{Octal, Escape}
+
+-- the byte of a unit, or its fault
+abbrev pub byte_of : SetUnit → Result ℕ SetFaultKind
+byte_of (Plain b) = Ok b
+byte_of (Escaped b) = Ok b
+byte_of (Faulty k) = Err k
 
 abbrev pub is_octal_digit : ℕ → Bool
 is_octal_digit b = is_in_range 48 55 b

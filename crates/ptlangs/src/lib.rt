@@ -11,5 +11,6 @@ mod plan;
 mod second;
 mod units;
 
-pub use parts::parts_are_of_the_grammar;
 pub use faults::{SetFault, SetFaultKind, SetString};
+pub use parts::parts_are_of_the_grammar;
+pub use plan::{CharPlan, Form, tables_hold_the_plan};

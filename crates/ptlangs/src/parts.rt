@@ -6,7 +6,7 @@ ghost use Rattle.std.specs.Result.{result_map_both};
 ghost use Rattle.std.specs.Char.{is_ascii_digit, is_ascii_lowercase};
 ghost use Rattle.ptlangs.specs.declared.faults.SetFaultKind.{SetFaultKind};
 ghost use Rattle.ptlangs.specs.TrUnits.{is_octal_digit, units};
-ghost use Rattle.ptlangs.specs.TrParts.{byte_of, behind, behind_two, behind_run, plain_run, repeat_at, class_at, equivalence_at, form_inside, form_at, first_part, from_byte, repeat_count, found_in, IsGrammar};
+ghost use Rattle.ptlangs.specs.TrParts.{behind, behind_two, behind_run, plain_run, repeat_at, class_at, equivalence_at, form_inside, form_at, first_part, from_byte, repeat_count, found_in, IsGrammar};
 
 use crate::classes::CharClass;
 use crate::faults::SetFaultKind;
@@ -25,18 +25,6 @@ pub(crate) enum Part {
     Equivalence(u8),
     /// `[c*n]`, the byte and the count, if the digits write one; a count of 0 is a fill.
     Repeat(u8, Option<u16>),
-}
-
-impl SetUnit {
-    /// The byte of the unit.
-    fn byte(self) -> Result<u8, SetFaultKind>
-        ensures { result ≡ byte_of self }
-    {
-        match self {
-            SetUnit::Plain(byte) | SetUnit::Escaped(byte) => Ok(byte),
-            SetUnit::Faulty(kind) => Err(kind),
-        }
-    }
 }
 
 /// The place behind this plain byte, if it stands here.

@@ -5,7 +5,7 @@ ghost use Rattle.ptlangs.specs.declared.faults.SetFault.{SetFault};
 ghost use Rattle.ptlangs.specs.declared.faults.SetFaultKind.{SetFaultKind};
 ghost use Rattle.ptlangs.specs.declared.pieces.Piece.{Piece};
 ghost use Rattle.ptlangs.specs.TrPlan.{array, collected, first_array, pieces_of, places_of, plan, plan_of, second_plan, may_pair as pairs, class_places, second_place, string_pieces, takes_second};
-ghost use Rattle.ptlangs.specs.TrTables.{tables, deletes, image, squeezes};
+ghost use Rattle.ptlangs.specs.TrTables.{tables, deletes, image, squeezes, HoldPlan};
 
 use std::marker::Model;
 
@@ -80,7 +80,7 @@ fn read_first(complement: bool, s1: &[u8]) -> Result<Places, SetFaultKind>
 
 /// What `tr` does to each byte: whether it is deleted, what it becomes, and whether its repeats are
 /// squeezed. A reading of strings takes no memory.
-#[derive(Clone, Copy)]
+#[derive(Debug, Clone, Copy, PartialEq, Eq)]
 pub struct CharPlan {
     deleted: [bool; 256],
     images: [u8; 256],
@@ -261,4 +261,11 @@ impl CharPlan {
     {
         &self.squeezed
     }
+}
+
+/// What the tables of a plan say of each byte is what the two arrays say, as `specs/TrPlan.antt`
+/// defines it.
+pub fn tables_hold_the_plan()
+    ensures { HoldPlan }
+{
 }

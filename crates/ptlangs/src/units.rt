@@ -3,7 +3,7 @@
 ghost use Rattle.std.specs.Prelude.{◌≡◌, ◌+◌, ◌*◌, ◌^◌, ◌<◌, ◌≤◌, ◌∷◌, length, drop, take, nat_le, Some, None, if◌then◌else◌, All};
 ghost use Rattle.std.specs.Char.{digit_value};
 ghost use Rattle.std.specs.Str.Parse.{digits_value};
-ghost use Rattle.ptlangs.specs.TrUnits.{units, after_backslash, escaped, is_octal_digit, octal_run};
+ghost use Rattle.ptlangs.specs.TrUnits.{byte_of, units, after_backslash, escaped, is_octal_digit, octal_run};
 
 use crate::faults::SetFaultKind;
 
@@ -16,6 +16,18 @@ pub(crate) enum SetUnit {
     Escaped(u8),
     /// An escape that stands for no byte.
     Faulty(SetFaultKind),
+}
+
+impl SetUnit {
+    /// The byte of the unit.
+    pub(crate) fn byte(self) -> Result<u8, SetFaultKind>
+        ensures { result ≡ byte_of self }
+    {
+        match self {
+            SetUnit::Plain(byte) | SetUnit::Escaped(byte) => Ok(byte),
+            SetUnit::Faulty(kind) => Err(kind),
+        }
+    }
 }
 
 /// The number that these digits write, unless it is above the limit.
