@@ -33,6 +33,7 @@ IsEscape-after_backslash (b ∷ bs) = choose (is_octal_digit b)
   where
     value : ℕ
     value = digits_value 8 (octal_run (b ∷ bs))
+
     choose : (t : Bool) → IsEscape (cond {A = SetUnit × ℕ} t (octal value, length (octal_run (b ∷ bs))) (Escaped (escaped b), 1)).0
     choose true = IsEscape-octal value
     choose false = tt

@@ -69,6 +69,7 @@ Opens-repeat (u ∷ us) p rest e = by_byte (byte_of u) refl e
     by_star v None m b e = absurd (let no : ⊥ = cc in no)
     by_star v (Some more) m b e =
         subst (λ (all : List SetUnit). Opens (Plain 91 ∷ u ∷ all) p rest) (sym (behind_is 42 us more b)) (Opens-repeat_digits u v more p rest m e)
+
     by_byte : (r : Result ℕ SetFaultKind) → byte_of u ≡ r → repeat_of r us ≡ Some (p, rest) → Opens (Plain 91 ∷ u ∷ us) p rest
     by_byte (Err k) b e = absurd (let no : ⊥ = cc in no)
     by_byte (Ok v) b e = by_star v (behind 42 us) (Means-byte_of u v b) refl e
@@ -97,7 +98,7 @@ Opens-class us p rest e = by_colon (behind 58 us) refl e
     by_colon None b e = absurd (let no : ⊥ = cc in no)
     by_colon (Some more) b e =
         let split : us ≡ Plain 58 ∷ map Plain (plain_run is_ascii_lowercase more) ++ behind_run is_ascii_lowercase more =
-            behind_is 58 us more b ∙ ap (λ xs. Plain 58 ∷ xs) (run_split is_ascii_lowercase more) in
+        behind_is 58 us more b ∙ ap (λ xs. Plain 58 ∷ xs) (run_split is_ascii_lowercase more) in
         subst (λ (all : List SetUnit). Opens (Plain 91 ∷ all) p rest) (sym split)
         (Opens-class_of (plain_run is_ascii_lowercase more) (behind_run is_ascii_lowercase more) p rest (list_all-plain_run is_ascii_lowercase more) e)
 
@@ -111,9 +112,11 @@ Opens-equivalence us p rest e = by_equals (behind 61 us) refl e
         subst (λ (q : Part). Opens (Plain 91 ∷ Plain 61 ∷ u ∷ more) q rest) found.0
         (subst (λ (xs : List SetUnit). Opens (Plain 91 ∷ Plain 61 ∷ u ∷ xs) (Equivalence v) rest) (sym (behind_two_is 61 93 more rest found.1))
         (AnEquivalence u v rest (Means-byte_of u v b)))
+
     by_unit : (more : List SetUnit) → equivalence_unit more ≡ Some (p, rest) → Opens (Plain 91 ∷ Plain 61 ∷ more) p rest
     by_unit [] e = absurd (let no : ⊥ = cc in no)
     by_unit (u ∷ more) e = by_byte u more (byte_of u) refl e
+
     by_equals : (o : Option (List SetUnit)) → behind 61 us ≡ o → option_and_then equivalence_unit o ≡ Some (p, rest) → Opens (Plain 91 ∷ us) p rest
     by_equals None b e = absurd (let no : ⊥ = cc in no)
     by_equals (Some more) b e = subst (λ (all : List SetUnit). Opens (Plain 91 ∷ all) p rest) (sym (behind_is 61 us more b)) (by_unit more e)
@@ -124,6 +127,7 @@ Opens-form_inside us p rest e = by_repeat (repeat_at us) refl e
     by_class : (o : Option (Part × List SetUnit)) → class_at us ≡ o → option_or o (equivalence_at us) ≡ Some (p, rest) → Opens (Plain 91 ∷ us) p rest
     by_class None b e = Opens-equivalence us p rest e
     by_class (Some found) b e = Opens-class us p rest (b ∙ e)
+
     by_repeat : (o : Option (Part × List SetUnit)) → repeat_at us ≡ o → option_or o (option_or (class_at us) (equivalence_at us)) ≡ Some (p, rest) → Opens (Plain 91 ∷ us) p rest
     by_repeat None b e = by_class (class_at us) refl e
     by_repeat (Some found) b e = Opens-repeat us p rest (b ∙ e)
@@ -193,8 +197,10 @@ Begins-first_part (u ∷ us) p rest e = by_form (form_at (u ∷ us)) refl e
   where
     no_dash : behind 45 us ≡ None → ¬ DashFollows us
     no_dash e (v, more, d) = let no : behind 45 (Plain 45 ∷ v ∷ more) ≡ None = subst (λ (xs : List SetUnit). behind 45 xs ≡ None) d e in cc
+
     dash_last : behind 45 us ≡ Some [] → ¬ DashFollows us
     dash_last e (v, more, d) = let no : behind 45 (Plain 45 ∷ v ∷ more) ≡ Some [] = subst (λ (xs : List SetUnit). behind 45 xs ≡ Some []) d e in cc
+
     in_order : (n : ¬ OpensForm (u ∷ us)) (v : SetUnit) (more : List SetUnit) (a b : ℕ) → Means u a → us ≡ Plain 45 ∷ v ∷ more → Means v b → (t : Bool) → nat_lt b a ≡ t
         → cond {A = Result (Part × List SetUnit) SetFaultKind} t (Err Descending) (Ok (Range a b, more)) ≡ Ok (p, rest) → Begins (u ∷ us) p rest
     in_order n v more a b m d w true t e = absurd (let no : ⊥ = cc in no)
@@ -202,17 +208,21 @@ Begins-first_part (u ∷ us) p rest e = by_form (form_at (u ∷ us)) refl e
         let open_not : ¬ OpensForm (u ∷ Plain 45 ∷ v ∷ more) = subst (λ (xs : List SetUnit). ¬ OpensForm (u ∷ xs)) d n in
         same_part (λ (q : Part) (xs : List SetUnit). Begins (u ∷ us) q xs) e
         (subst (λ (xs : List SetUnit). Begins (u ∷ xs) (Range a b) more) (sym d) (ARange u v a b more open_not m w (ltb-false b a t)))
+
     by_upper : ¬ OpensForm (u ∷ us) → (v : SetUnit) (more : List SetUnit) (a : ℕ) → Means u a → us ≡ Plain 45 ∷ v ∷ more → (r : Result ℕ SetFaultKind) → byte_of v ≡ r
         → range_to a r more ≡ Ok (p, rest) → Begins (u ∷ us) p rest
     by_upper n v more a m d (Err k) b e = absurd (let no : ⊥ = cc in no)
     by_upper n v more a m d (Ok w) b e = in_order n v more a w m d (Means-byte_of v w b) (nat_lt w a) refl e
+
     by_dash : ¬ OpensForm (u ∷ us) → (a : ℕ) → Means u a → (o : Option (List SetUnit)) → behind 45 us ≡ o → from_byte a us o ≡ Ok (p, rest) → Begins (u ∷ us) p rest
     by_dash n a m None d e = same_part (λ (q : Part) (xs : List SetUnit). Begins (u ∷ us) q xs) e (Alone u a us n (no_dash d) m)
     by_dash n a m (Some []) d e = same_part (λ (q : Part) (xs : List SetUnit). Begins (u ∷ us) q xs) e (Alone u a us n (dash_last d) m)
     by_dash n a m (Some (v ∷ more)) d e = by_upper n v more a m (behind_is 45 us (v ∷ more) d) (byte_of v) refl e
+
     by_unit : ¬ OpensForm (u ∷ us) → (r : Result ℕ SetFaultKind) → byte_of u ≡ r → from_unit r us ≡ Ok (p, rest) → Begins (u ∷ us) p rest
     by_unit n (Err k) b e = absurd (let no : ⊥ = cc in no)
     by_unit n (Ok a) b e = by_dash n a (Means-byte_of u a b) (behind 45 us) refl e
+
     by_form : (o : Option (Part × List SetUnit)) → form_at (u ∷ us) ≡ o → or_unit o u us ≡ Ok (p, rest) → Begins (u ∷ us) p rest
     by_form None f e = by_unit (form_at-none (u ∷ us) f) (byte_of u) refl e
     by_form (Some found) f e =
@@ -241,12 +251,16 @@ abbrev pub IsFront : List SetUnit → List SetUnit → Type 0
 IsFront us rest = (front : List SetUnit) × (us ≡ front ++ rest) × (0 < length front)
 
 pub Opens-front : (us : List SetUnit) (p : Part) (rest : List SetUnit) → Opens us p rest → IsFront us rest
-Opens-front us p rest (ARepeat u v digits more m t) =
-    (Plain 91 ∷ u ∷ Plain 42 ∷ map Plain digits ++ Plain 93 ∷ [],
-    ap (λ xs. Plain 91 ∷ u ∷ Plain 42 ∷ xs) (sym (append_assoc (map Plain digits) (Plain 93 ∷ []) more)), omega arith)
-Opens-front us p rest (AClass c name more t) =
-    (Plain 91 ∷ Plain 58 ∷ map Plain (c ∷ name) ++ Plain 58 ∷ Plain 93 ∷ [],
-    ap (λ xs. Plain 91 ∷ Plain 58 ∷ xs) (sym (append_assoc (map Plain (c ∷ name)) (Plain 58 ∷ Plain 93 ∷ []) more)), omega arith)
+Opens-front us p rest (ARepeat u v digits more m t) = (
+  Plain 91 ∷ u ∷ Plain 42 ∷ map Plain digits ++ Plain 93 ∷ [],
+  ap (λ xs. Plain 91 ∷ u ∷ Plain 42 ∷ xs) (sym (append_assoc (map Plain digits) (Plain 93 ∷ []) more)),
+  omega arith,
+)
+Opens-front us p rest (AClass c name more t) = (
+  Plain 91 ∷ Plain 58 ∷ map Plain (c ∷ name) ++ Plain 58 ∷ Plain 93 ∷ [],
+  ap (λ xs. Plain 91 ∷ Plain 58 ∷ xs) (sym (append_assoc (map Plain (c ∷ name)) (Plain 58 ∷ Plain 93 ∷ []) more)),
+  omega arith,
+)
 Opens-front us p rest (AnEquivalence u v more m) = (Plain 91 ∷ Plain 61 ∷ u ∷ Plain 61 ∷ Plain 93 ∷ [], refl, omega arith)
 
 pub Begins-front : (us : List SetUnit) (p : Part) (rest : List SetUnit) → Begins us p rest → IsFront us rest

@@ -48,6 +48,7 @@ fitted-get n i (b ∷ bytes) h = by_last (last_or None (b ∷ bytes)) refl
         ∙ slice_get-left (replicate n z) [] (i - length (b ∷ bytes)) (omega (arith, length-replicate n z))
         ∙ slice_get-replicate n z (i - length (b ∷ bytes)) (omega arith)
         ∙ sym l ∙ last_or-is None b bytes ∙ ap (slice_get (b ∷ bytes)) place
+
     by_last : (o : Option ℕ) → last_or None (b ∷ bytes) ≡ o
         → slice_get (take n ((b ∷ bytes) ++ flat_map (λ (z : ℕ). replicate n z) (option_to_list o))) i ≡ slice_get (b ∷ bytes) (min i (length (b ∷ bytes) - 1))
     by_last None l = absurd (omega (arith, slice_get-none (b ∷ bytes) (length bytes) (sym l ∙ last_or-is None b bytes)))

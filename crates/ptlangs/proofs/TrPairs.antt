@@ -75,7 +75,7 @@ stands-more all rest after place at count class x w e here n short =
           ap (list_any (λ (f : ℕ × CharClass). eqb f.0 at && are_cases f.1 class)) (class_places-push 0 w.done x place h.place_is)
           ∙ list_any-append (λ (f : ℕ × CharClass). eqb f.0 at && are_cases f.1 class) (class_places 0 0 w.done) (class_places 0 place (x ∷ []))
           ∙ neither (stands_at (class_places 0 0 w.done) at class) (stands_at (class_places 0 place (x ∷ [])) at class) h.none here;
-      short = omega (arith, h.short, short, length_push w.done x, ap length (array-append 0 w.done (x ∷ [])), length-append (array 0 w.done) (array 0 (x ∷ [])), length-append (members 0 x) [])
+      short = omega (arith, h.short, short, length_push w.done x, ap length (array-append 0 w.done (x ∷ [])), length-append (array 0 w.done) (array 0 (x ∷ [])), length-append (members 0 x) []);
     })
   where
     neither : (a b : Bool) → a ≡ false → b ≡ false → (a || b) ≡ false
@@ -127,7 +127,7 @@ paired-more all rest after fill at count firsts x w e here n short =
           ap (list_all (λ (s : ℕ × CharClass). stands_at (class_places 0 0 fs) s.0 s.1)) (class_places-push fill w.done x at h.at_is)
           ∙ list_all-append (λ (s : ℕ × CharClass). stands_at (class_places 0 0 fs) s.0 s.1) (class_places fill 0 w.done) (class_places fill at (x ∷ []))
           ∙ both (is_paired (class_places 0 0 fs) (class_places fill 0 w.done)) (is_paired (class_places 0 0 fs) (class_places fill at (x ∷ []))) (h.faced fs f) (here fs f);
-      short = omega (arith, h.short, short, length_push w.done x, ap length (array-append 0 w.done (x ∷ [])), length-append (array 0 w.done) (array 0 (x ∷ [])), length-append (members 0 x) [])
+      short = omega (arith, h.short, short, length_push w.done x, ap length (array-append 0 w.done (x ∷ [])), length-append (array 0 w.done) (array 0 (x ∷ [])), length-append (members 0 x) []);
     })
   where
     both : (a b : Bool) → a ≡ true → b ≡ true → (a && b) ≡ true

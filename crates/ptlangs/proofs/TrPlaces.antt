@@ -62,10 +62,10 @@ last-push bytes b h =
     (λ k n. rw (last_place-push k bytes b, ne_eqb b k (λ e. n (sym e))) refl)
 
 pub places-push : (old : Places) (bytes : List ℕ) (b : ℕ) → b < 256 → old ≡ places_of bytes
-    → record {last = set old.last b (Some old.length); length = old.length + 1} ≡ places_of (bytes ++ b ∷ [])
+    → record { last = set old.last b (Some old.length); length = old.length + 1 } ≡ places_of (bytes ++ b ∷ [])
 places-push old bytes b h e = rw (e, last-push bytes b h, length_push bytes b) refl
 
-pub places-new : record {last = replicate 256 None; length = 0} ≡ places_of []
+pub places-new : record { last = replicate 256 None; length = 0 } ≡ places_of []
 places-new = rw (replicate-table {X = Option ℕ} None) refl
 
 pub ruleset places_steps = (places-push, places-new)
@@ -99,8 +99,8 @@ last_place-replicate c b zero bytes = rw (last_place-push c bytes b) (choose (eq
     choose false = refl
 last_place-replicate c b (suc n) bytes =
     let split : bytes ++ replicate (suc n + 1) b ≡ (bytes ++ replicate (n + 1) b) ++ b ∷ [] =
-        let count : suc n + 1 ≡ n + 1 + 1 = omega arith in
-        ap (λ m. bytes ++ replicate m b) count ∙ ap (λ xs. bytes ++ xs) (sym (replicate_more (n + 1) b)) ∙ sym (append_assoc bytes (replicate (n + 1) b) (b ∷ [])) in
+    let count : suc n + 1 ≡ n + 1 + 1 = omega arith in
+    ap (λ m. bytes ++ replicate m b) count ∙ ap (λ xs. bytes ++ xs) (sym (replicate_more (n + 1) b)) ∙ sym (append_assoc bytes (replicate (n + 1) b) (b ∷ [])) in
     rw (split, last_place-push c (bytes ++ replicate (n + 1) b) b, last_place-replicate c b n bytes) (choose (eqb b c))
   where
     choose : (t : Bool) → cond t (Some (length (bytes ++ replicate (n + 1) b))) (cond t (Some (length bytes + n)) (last_place c bytes)) ≡ cond t (Some (length bytes + suc n)) (last_place c bytes)
@@ -113,12 +113,12 @@ last-replicate bytes b n h =
     (rw (last_place-replicate b b n bytes, eq-eqb b b refl) refl)
     (λ k m. rw (last_place-replicate k b n bytes, ne_eqb b k (λ e. m (sym e))) refl)
 
-pub Puts-replicate : (old : Places) (b count : ℕ) → b < 256 → 0 < count → Puts old (record {last = set old.last b (Some (old.length + (count - 1))); length = old.length + count}) (replicate count b)
+pub Puts-replicate : (old : Places) (b count : ℕ) → b < 256 → 0 < count → Puts old (record { last = set old.last b (Some (old.length + (count - 1))); length = old.length + count }) (replicate count b)
 Puts-replicate old b count h some bytes e =
     let more : count ≡ count - 1 + 1 = omega arith in
     let total : length (bytes ++ replicate (count - 1 + 1) b) ≡ length bytes + count = omega (arith, length-append bytes (replicate (count - 1 + 1) b), length-replicate (count - 1 + 1) b) in
     let table : set (map (λ c. last_place c bytes) all_bytes) b (Some (length bytes + (count - 1))) ≡ map (λ c. last_place c (bytes ++ replicate count b)) all_bytes =
-        last-replicate bytes b (count - 1) h ∙ ap (λ m. map (λ c. last_place c (bytes ++ replicate m b)) all_bytes) (sym more) in
+    last-replicate bytes b (count - 1) h ∙ ap (λ m. map (λ c. last_place c (bytes ++ replicate m b)) all_bytes) (sym more) in
     let counted : length bytes + count ≡ length (bytes ++ replicate count b) = omega (arith, length-append bytes (replicate count b), length-replicate count b) in
     rw (e, table, counted) refl
 
@@ -153,5 +153,5 @@ pub HasPlaces-more : (fill : ℕ) (old new : Places) (done : List Piece) (x : Pi
     → HasPlaces fill new (done ++ x ∷ [])
 HasPlaces-more fill old new done x p s h = record {
   places_is = p (array fill done) h.places_is ∙ ap places_of (sym (array-push fill done x));
-  short = omega (arith, h.short, ap length (array-push 0 done x), length-append (array 0 done) (members 0 x), length_push done x)
+  short = omega (arith, h.short, ap length (array-push 0 done x), length-append (array 0 done) (members 0 x), length_push done x);
 }

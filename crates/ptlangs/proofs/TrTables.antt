@@ -8,7 +8,7 @@ use Rattle.ptlangs.specs.TrTables.{Tables, tables}
 
 pub tables_are : (p : Plan) (deleted : List Bool) (images : List ℕ) (squeezed : List Bool)
     → deleted ≡ map (is_deleted p) all_bytes → images ≡ map (image_of p) all_bytes → squeezed ≡ map (is_squeezed p) all_bytes
-    → record {deleted = deleted; images = images; squeezed = squeezed} ≡ tables p
+    → record { deleted = deleted; images = images; squeezed = squeezed } ≡ tables p
 tables_are p deleted images squeezed d i s = rw (d, i, s) refl
 
 -- ---- the forms that an arm for all others stands for

@@ -132,7 +132,7 @@ pub array-bound : (place : Place) (text : List ℕ) (n : ℕ) (done : List Piece
     → pieces_of place text ≡ map Ok done ++ rest → length (array 0 done) ≤ 65535 * length done → length (array n done) ≤ 65535 * length text + n
 array-bound place text n done rest e h =
     let count : length done + length rest ≡ length (pieces_of place text) =
-        omega (arith, ap length e, length-append (map {B = Result Piece SetFaultKind} Ok done) rest, length-map {B = Result Piece SetFaultKind} done Ok) in
+    omega (arith, ap length e, length-append (map {B = Result Piece SetFaultKind} Ok done) rest, length-map {B = Result Piece SetFaultKind} done Ok) in
     omega (arith, one_fill n place false (parts (units text)) done rest e, length-pieces_of place text)
 
 -- ---- what a walk knows of all pieces, where they have no fault

@@ -21,11 +21,7 @@ pub(crate) fn same() -> [u8; 256]
 
 /// For each byte, what it becomes: the byte of the second array, whose length is given, at its last
 /// place in the first.
-pub(crate) fn images(
-    first: &Places,
-    second: &Second,
-    len: u128,
-) -> Result<[u8; 256], SetFaultKind>
+pub(crate) fn images(first: &Places, second: &Second, len: u128) -> Result<[u8; 256], SetFaultKind>
     ensures { (from : List ℕ) (ps : List Piece) → first.now ≡ places_of from → collected (pieces_of second.now.place second.now.text.now) ≡ Ok ps → len ≡ length (array second.now.fill ps)
         → result ≡ Ok (map (image_by from (array second.now.fill ps)) all_bytes) }
 {

@@ -60,10 +60,7 @@ fn behind_bytes(text: &[u8], at: usize, first: u8, second: u8) -> Option<usize>
 fn digits_len(bytes: &[u8]) -> usize
     ensures { result ≡ length (take_while is_ascii_digit bytes.now) }
 {
-    bytes
-        .iter()
-        .take_while(|b| (**b).is_ascii_digit())
-        .count()
+    bytes.iter().take_while(|b| (**b).is_ascii_digit()).count()
 }
 
 /// How many lower-case letters these bytes begin with.
@@ -227,5 +224,4 @@ fn range(text: &[u8], first: u8, at: usize) -> Result<(Part, usize), SetFaultKin
 /// `specs/TrParts.antt` states it case by case.
 pub fn parts_are_of_the_grammar()
     ensures { IsGrammar }
-{
-}
+{}

@@ -7,13 +7,12 @@ ghost use Rattle.ptlangs.specs.declared.pieces.Piece.{Piece};
 ghost use Rattle.ptlangs.specs.TrPlan.{array, collected, first_array, pieces_of, places_of, plan, plan_of, second_plan, may_pair as pairs, class_places, second_place, string_pieces, takes_second};
 ghost use Rattle.ptlangs.specs.TrTables.{tables, deletes, image, squeezes, HoldPlan};
 
-use std::marker::Model;
-
 use crate::faults::{SetFault, SetFaultKind, SetString};
 use crate::images::{images, same};
 use crate::pieces::Place;
 use crate::places::{Places, no_bytes};
 use crate::second::Second;
+use std::marker::Model;
 
 /// What `tr` is asked to do, by its flags and the count of its operands.
 #[derive(Debug, Clone, Copy, PartialEq, Eq)]
@@ -31,6 +30,16 @@ pub enum Form {
 }
 
 impl Form {
+    /// Whether the form has a second string.
+    pub fn takes_second(self) -> bool
+        ensures { result ≡ takes_second self }
+    {
+        match self {
+            Form::Translate | Form::TranslateSqueeze | Form::DeleteSqueeze => true,
+            Form::Squeeze | Form::Delete => false,
+        }
+    }
+
     /// Where the second string stands.
     fn second_place(self) -> Place
         ensures { result ≡ second_place self }
@@ -44,12 +53,7 @@ impl Form {
     /// Whether the classes of the second string stand where they may. Bytes that are squeezed alone
     /// may be any class; else each class faces its other case in the first string, where a
     /// complement has none.
-    fn may_pair(
-        self,
-        complement: bool,
-        s1: &[u8],
-        second: &Second,
-    ) -> Result<bool, SetFaultKind>
+    fn may_pair(self, complement: bool, s1: &[u8], second: &Second) -> Result<bool, SetFaultKind>
         requires { second.now.fill < 2 ^ 100 }
         ensures { (firsts ps : List Piece) → string_pieces Place.First s1.now ≡ Ok firsts → collected (pieces_of second.now.place second.now.text.now) ≡ Ok ps
             → result ≡ Ok (pairs self complement (class_places 0 0 firsts) (class_places second.now.fill 0 ps)) }
@@ -267,5 +271,7 @@ impl CharPlan {
 /// defines it.
 pub fn tables_hold_the_plan()
     ensures { HoldPlan }
-{
-}
+{}
+
+#[cfg(test)]
+mod tests;

@@ -38,8 +38,8 @@ pub(crate) fn number(digits: &[u8], base: u32, limit: u32) -> Option<u32>
     requires limit { limit < 2 ^ 24 }
     ensures { result
         ≡ (if nat_le (digits_value base digits.now) limit
-           then Some (digits_value base digits.now)
-           else None) }
+        then Some (digits_value base digits.now)
+        else None) }
 {
     let mut value = 0;
     for &digit in digits {
@@ -78,11 +78,7 @@ pub(crate) fn is_octal(byte: u8) -> bool
 fn octal_len(bytes: &[u8]) -> usize
     ensures { result ≡ length (octal_run bytes.now) }
 {
-    bytes
-        .iter()
-        .take(3)
-        .take_while(|b| is_octal(**b))
-        .count()
+    bytes.iter().take(3).take_while(|b| is_octal(**b)).count()
 }
 
 /// The unit that a backslash before these bytes makes, and how many of them it takes.

@@ -6,5 +6,5 @@ use Rattle.ptlangs.proofs.places.Places.complement.Given as goal
 abbrev pub invariant-loop-byte : goal.invariant-loop-byte
 invariant-loop-byte l = record {
   short : l.others.length ≤ l.byte;
-  places : (bytes : List ℕ) → l.fn.self ≡ places_of bytes → l.others ≡ places_of (others_below bytes l.byte)
+  places : (bytes : List ℕ) → l.fn.self ≡ places_of bytes → l.others ≡ places_of (others_below bytes l.byte);
 }

@@ -11,7 +11,7 @@ pub loop-byte-preserved : goal.loop-byte-preserved
 loop-byte-preserved c = record {
   length = omega arith;
   puts = Puts-range c.args.self.now c.loop-byte.self c.push.new.self c.args.first c.loop-byte.byte (omega arith) c.loop-byte.invariant.puts c.push.ensures.places;
-  empty = λ h. absurd (omega arith)
+  empty = λ h. absurd (omega arith);
 }
 
 pub returns-clause-length : goal.returns-clause-length

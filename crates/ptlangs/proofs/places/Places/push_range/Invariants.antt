@@ -7,5 +7,5 @@ abbrev pub invariant-loop-byte : goal.invariant-loop-byte
 invariant-loop-byte l = record {
   length : l.self.length ≡ l.fn.self.length + (l.byte - l.first);
   puts : Puts l.fn.self l.self (range_with_len l.first (l.byte - l.first));
-  empty : l.last < l.first → l.byte ≡ l.first
+  empty : l.last < l.first → l.byte ≡ l.first;
 }

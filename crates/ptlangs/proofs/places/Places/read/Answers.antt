@@ -12,8 +12,8 @@ pub returns-in_err-piece-clause-places : goal.returns-in_err-piece-clause-places
 returns-in_err-piece-clause-places c =
     let p = err_from_is_err_and c.from_residual.result c.from_residual.ensures.1 in
     let fault : collected (pieces_of c.args.place c.args.text.now) ≡ Err c.in_err-piece.field-0.0 =
-        walk_fault _ (pieces_left c.loop-piece.piece-iterator) (pieces_left c.next.new.self) (HasPlaces c.args.fill c.loop-piece.places) c.in_err-piece.field-0.0 c.loop-piece.invariant
-        (c.in-Some.ensures.steps ∙ ap (λ (x : Result Piece SetFaultKind). x ∷ pieces_left c.next.new.self) c.in_err-piece.was) in
+    walk_fault _ (pieces_left c.loop-piece.piece-iterator) (pieces_left c.next.new.self) (HasPlaces c.args.fill c.loop-piece.places) c.in_err-piece.field-0.0 c.loop-piece.invariant
+    (c.in-Some.ensures.steps ∙ ap (λ (x : Result Piece SetFaultKind). x ∷ pieces_left c.next.new.self) c.in_err-piece.was) in
     rw (p.1, p.2, fault) refl
 
 pub push_piece-requires : goal.push_piece-requires
@@ -26,9 +26,9 @@ push_piece-requires c =
 pub loop-piece-preserved : goal.loop-piece-preserved
 loop-piece-preserved c =
     walk_more (pieces_of c.args.place c.args.text.now) (pieces_left c.loop-piece.piece-iterator) (pieces_left c.next.new.self)
-        (HasPlaces c.args.fill c.loop-piece.places) (HasPlaces c.args.fill c.push_piece.new.self) c.in_ok-piece.field-0 c.loop-piece.invariant
-        (c.in-Some.ensures.steps ∙ ap (λ (x : Result Piece SetFaultKind). x ∷ pieces_left c.next.new.self) c.in_ok-piece.was)
-        (HasPlaces-more c.args.fill c.loop-piece.places c.push_piece.new.self c.loop-piece.invariant.done c.in_ok-piece.field-0 c.push_piece.ensures.places c.push_piece.ensures.short)
+    (HasPlaces c.args.fill c.loop-piece.places) (HasPlaces c.args.fill c.push_piece.new.self) c.in_ok-piece.field-0 c.loop-piece.invariant
+    (c.in-Some.ensures.steps ∙ ap (λ (x : Result Piece SetFaultKind). x ∷ pieces_left c.next.new.self) c.in_ok-piece.was)
+    (HasPlaces-more c.args.fill c.loop-piece.places c.push_piece.new.self c.loop-piece.invariant.done c.in_ok-piece.field-0 c.push_piece.ensures.places c.push_piece.ensures.short)
 
 pub returns-clause-places : goal.returns-clause-places
 returns-clause-places c =

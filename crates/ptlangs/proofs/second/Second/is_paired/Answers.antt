@@ -17,7 +17,7 @@ pub returns-in_err-piece : goal.returns-in_err-piece
 returns-in_err-piece c = λ fs ps f e.
     let s = c.args.self.now in
     walk_never (pieces_of s.place s.text.now) (pieces_left c.loop-piece.piece-iterator) (pieces_left c.next.new.self) (Faced s.fill c.loop-piece.at (collected (pieces_of First c.args.first.now))) c.in_err-piece.field-0.0 ps
-        c.loop-piece.invariant (c.in-Some.ensures.steps ∙ ap (λ (x : Result Piece SetFaultKind). x ∷ pieces_left c.next.new.self) c.in_err-piece.was) e
+    c.loop-piece.invariant (c.in-Some.ensures.steps ∙ ap (λ (x : Result Piece SetFaultKind). x ∷ pieces_left c.next.new.self) c.in_err-piece.was) e
 
 pub returns-in_err-is_faced : goal.returns-in_err-is_faced
 returns-in_err-is_faced c = λ fs ps f e. never c.in_err-is_faced.field-0.0 _ (c.in_err-is_faced.ensures 0 fs f)
@@ -26,9 +26,9 @@ pub returns-then-not-branch : goal.returns-then-not-branch
 returns-then-not-branch c = λ fs ps f e.
     let s = c.args.self.now in
     let unfaced : is_paired (class_places 0 0 fs) (class_places s.fill c.loop-piece.at (c.in_ok-piece.piece ∷ [])) ≡ false =
-        sym (same_bool c.is_faced.result _ _ c.in_ok-is_faced.was (c.is_faced.ensures s.fill fs f)) ∙ c.if-not-branch.true in
+    sym (same_bool c.is_faced.result _ _ c.in_ok-is_faced.was (c.is_faced.ensures s.fill fs f)) ∙ c.if-not-branch.true in
     ap Ok (sym (paired-unfaced (pieces_of s.place s.text.now) (pieces_left c.loop-piece.piece-iterator) (pieces_left c.next.new.self) s.fill c.loop-piece.at (collected (pieces_of First c.args.first.now)) c.in_ok-piece.piece
-        c.loop-piece.invariant (c.in-Some.ensures.steps ∙ ap (λ (x : Result Piece SetFaultKind). x ∷ pieces_left c.next.new.self) c.in_ok-piece.was) fs ps f unfaced e))
+    c.loop-piece.invariant (c.in-Some.ensures.steps ∙ ap (λ (x : Result Piece SetFaultKind). x ∷ pieces_left c.next.new.self) c.in_ok-piece.was) fs ps f unfaced e))
 
 pub overflow_add-at : goal.overflow_add-at
 overflow_add-at c =
@@ -41,9 +41,9 @@ pub loop-piece-preserved : goal.loop-piece-preserved
 loop-piece-preserved c =
     let s = c.args.self.now in
     paired-more (pieces_of s.place s.text.now) (pieces_left c.loop-piece.piece-iterator) (pieces_left c.next.new.self) s.fill c.loop-piece.at c.len.result (collected (pieces_of First c.args.first.now)) c.in_ok-piece.piece
-        c.loop-piece.invariant (c.in-Some.ensures.steps ∙ ap (λ (x : Result Piece SetFaultKind). x ∷ pieces_left c.next.new.self) c.in_ok-piece.was)
-        (λ fs f. sym (same_bool c.is_faced.result _ _ c.in_ok-is_faced.was (c.is_faced.ensures s.fill fs f)) ∙ c.if-not-branch.false)
-        c.len.ensures.count c.len.ensures.short
+    c.loop-piece.invariant (c.in-Some.ensures.steps ∙ ap (λ (x : Result Piece SetFaultKind). x ∷ pieces_left c.next.new.self) c.in_ok-piece.was)
+    (λ fs f. sym (same_bool c.is_faced.result _ _ c.in_ok-is_faced.was (c.is_faced.ensures s.fill fs f)) ∙ c.if-not-branch.false)
+    c.len.ensures.count c.len.ensures.short
 
 pub returns : goal.returns
 returns c = λ fs ps f e.
