@@ -9,31 +9,34 @@ pub enum SetString {
     Second,
 }
 
-/// Why a string of `tr` stands for no array of bytes. All of these are refusals of this project's
-/// own choice: POSIX.1-2017 (XCU, tr) leaves such strings undefined or unspecified.
+/// Why a string of `tr` stands for no array of bytes (POSIX.1-2017, XCU, tr, "EXTENDED
+/// DESCRIPTION"). That a string is refused, where the standard leaves its meaning open, is this
+/// project's own choice, and so is which fault counts first: the leftmost, and `ClassPlace` last.
 #[derive(Debug, Clone, Copy, PartialEq, Eq)]
 pub enum SetFaultKind {
-    /// The string is empty.
+    /// The string is empty. This project's own choice.
     Empty,
-    /// An octal escape is above 255.
+    /// An octal escape is above 255. This project's own choice.
     Octal,
-    /// A backslash ends the string.
+    /// A backslash ends the string. This project's own choice.
     Escape,
-    /// The first end of a range is above its second.
+    /// The first end of a range is above its second. This project's own choice.
     Descending,
     /// `[:name:]` names no class of characters.
     UnknownClass,
-    /// A class stands in `string2` where it does not face its other case in `string1`.
+    /// A class stands in a `string2` that translates, and does not face its other case in
+    /// `string1`. That a complement has none to face is this project's own choice.
     ClassPlace,
     /// `[=c=]` stands in a `string2` that translates.
     EquivPlace,
     /// `[c*n]` stands in `string1`.
     RepeatPlace,
-    /// The count of `[c*n]` is no number of its base, or above 65535.
+    /// The count of `[c*n]` has a digit 8 or 9 behind a leading zero, or is above 65535. This
+    /// project's own choice.
     RepeatSize,
-    /// A second `[c*]` stands in `string2`.
+    /// A second `[c*]` or `[c*0]` stands in `string2`. This project's own choice.
     SecondFill,
-    /// Memory ran out. The reading of a string takes none, and never answers this.
+    /// Memory ran out. The reading of strings takes none, and never answers this.
     Memory,
 }
 
