@@ -6,8 +6,9 @@ use Rattle.std.proofs.Math.ListN.{get_or}
 use Rattle.std.proofs.lemmas.List.{get_or_default, append-nil}
 use Rattle.ptlangs.specs.declared.places.Places.{Places}
 use Rattle.ptlangs.specs.TrClasses.{all_bytes}
-use Rattle.ptlangs.specs.TrPlan.{last_place, later_or, has_byte, complement_of, places_of}
-use Rattle.ptlangs.proofs.TrPlaces.{get_or-table, same_table, range-more, Puts}
+use Rattle.ptlangs.specs.TrPlan.{last_place, later_or, has_byte, complement_of}
+use Rattle.ptlangs.proofs.TrPlaces.{get_or-table, same_table, range-more}
+use Rattle.ptlangs.specs.TrReading.{places_of, Puts}
 
 pub is_some-last_place : (c : ℕ) (bytes : List ℕ) → is_some (last_place c bytes) ≡ has_byte c bytes
 is_some-last_place c [] = refl

@@ -9,7 +9,8 @@ use Rattle.ptlangs.specs.declared.pieces.Piece.{Piece}
 use Rattle.ptlangs.specs.declared.places.Places.{Places}
 use Rattle.ptlangs.specs.TrClasses.{span, all_bytes}
 use Rattle.ptlangs.proofs.TrSpans.{class_bytes-short}
-use Rattle.ptlangs.specs.TrPlan.{has_byte, last_place, later_or, places_of, members, array}
+use Rattle.ptlangs.specs.TrPlan.{has_byte, last_place, later_or, members, array}
+use Rattle.ptlangs.specs.TrReading.{places_of, Puts}
 
 -- a table of all bytes, entry by entry
 pub length-table : {X : Type 0} (f : ℕ → X) → length (map f all_bytes) ≡ 256
@@ -75,10 +76,6 @@ pub ruleset places_steps = (places-push, places-new)
 pub range-more : (a n j : ℕ) → a + n ≡ j → range_with_len a (n + 1) ≡ range_with_len a n ++ j ∷ []
 range-more a n j e =
     sym (map-id (range_with_len a (n + 1))) ∙ map-range_with_len_more (λ (x : ℕ). x) a n j e ∙ ap (λ xs. xs ++ j ∷ []) (map-id (range_with_len a n))
-
--- what some bytes make of the places of any array
-abbrev pub Puts : Places → Places → List ℕ → Type 0
-Puts old new more = (bytes : List ℕ) → old ≡ places_of bytes → new ≡ places_of (bytes ++ more)
 
 pub Puts-append : (old mid new : Places) (xs ys : List ℕ) → Puts old mid xs → Puts mid new ys → Puts old new (xs ++ ys)
 Puts-append old mid new xs ys p q bytes e = q (bytes ++ xs) (p bytes e) ∙ ap places_of (append_assoc bytes xs ys)

@@ -14,7 +14,8 @@ use Rattle.ptlangs.specs.declared.plan.Form.{Form}
 use Rattle.ptlangs.specs.declared.plan.Form.TheVariants.{Translate, TranslateSqueeze, Squeeze, Delete, DeleteSqueeze}
 use Rattle.ptlangs.specs.declared.classes.CharClass.{CharClass}
 use Rattle.ptlangs.specs.TrTables.{tables}
-use Rattle.ptlangs.specs.TrPlan.{Plan, and_then, array, class_places, collected, fill_count, first_array, in_string, is_paired, may_pair, pieces_of, places_of, plan, plan_of, plan_with, second_plan, second_place, string_pieces}
+use Rattle.ptlangs.specs.TrPlan.{Plan, and_then, array, class_places, collected, fill_count, first_array, in_string, is_paired, may_pair, pieces_of, plan, plan_of, plan_with, second_plan, second_place, string_pieces}
+use Rattle.ptlangs.specs.TrReading.{places_of}
 
 -- a string that is not empty has the pieces that are read
 pub string_pieces-some : (place : Place) (text : List ℕ) → 0 < length text → string_pieces place text ≡ collected (pieces_of place text)

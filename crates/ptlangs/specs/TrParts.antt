@@ -164,10 +164,6 @@ parts_behind (u ∷ us) (suc skip) = parts_behind us skip
 abbrev pub parts : List SetUnit → List (Result Part SetFaultKind)
 parts us = parts_behind us 0
 
--- a part that code found, and the units from the place behind it
-abbrev pub found_in : List ℕ → Part × ℕ → Part × List SetUnit
-found_in text found = (found.0, units (drop found.1 text))
-
 -- what is computed is the grammar: just these parts, and each without a fault
 abbrev pub IsGrammar : Type 0
 IsGrammar = (us : List SetUnit) (ps : List Part) → AreParts us ps ↔ (parts us ≡ map Ok ps)

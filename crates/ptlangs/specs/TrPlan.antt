@@ -66,10 +66,6 @@ pieces place filled (Ok p ∷ more) = piece place filled p ∷ pieces place (fil
 abbrev pub pieces_of : Place → List ℕ → List (Result Piece SetFaultKind)
 pieces_of place text = pieces place false (parts (units text))
 
--- the pieces that a reading has left
-abbrev pub pieces_left : Pieces → List (Result Piece SetFaultKind)
-pieces_left p = pieces p.place p.filled (parts (units (drop p.at p.text.now)))
-
 -- all of them, or the first fault
 abbrev pub collected : {A E : Type 0} → List (Result A E) → Result (List A) E
 collected [] = Ok []
@@ -213,7 +209,3 @@ plan_from form complement firsts (Some text) = in_string string.Second (second_p
 -- the plan of a form, a complement or not, and the strings; else the first fault
 abbrev pub plan : Form → Bool → List ℕ → Option (List ℕ) → Result Plan SetFault
 plan form complement s1 s2 = and_then (in_string string.First (string_pieces First s1)) (λ firsts. plan_from form complement firsts s2)
-
--- where each byte stands last in an array, and the array's length
-abbrev pub places_of : List ℕ → Places
-places_of bytes = record { last = map (λ b. last_place b bytes) all_bytes; length = length bytes }

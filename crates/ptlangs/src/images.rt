@@ -2,7 +2,8 @@
 ghost use Rattle.std.specs.Prelude.{◌≡◌, [], ℕ, List, Ok, length, map};
 ghost use Rattle.ptlangs.specs.declared.pieces.Piece.{Piece};
 ghost use Rattle.ptlangs.specs.TrClasses.{all_bytes};
-ghost use Rattle.ptlangs.specs.TrPlan.{array, collected, image_by, pieces_of, places_of};
+ghost use Rattle.ptlangs.specs.TrPlan.{array, collected, image_by, pieces_of};
+ghost use Rattle.ptlangs.specs.TrReading.{places_of};
 
 use crate::faults::SetFaultKind;
 use crate::places::Places;

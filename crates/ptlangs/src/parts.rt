@@ -6,7 +6,8 @@ ghost use Rattle.std.specs.Result.{result_map_both};
 ghost use Rattle.std.specs.Char.{is_ascii_digit, is_ascii_lowercase};
 ghost use Rattle.ptlangs.specs.declared.faults.SetFaultKind.{SetFaultKind};
 ghost use Rattle.ptlangs.specs.TrUnits.{is_octal_digit, units};
-ghost use Rattle.ptlangs.specs.TrParts.{behind, behind_two, behind_run, plain_run, repeat_at, class_at, equivalence_at, form_inside, form_at, first_part, from_byte, repeat_count, found_in, IsGrammar};
+ghost use Rattle.ptlangs.specs.TrParts.{behind, behind_two, behind_run, plain_run, repeat_at, class_at, equivalence_at, form_inside, form_at, first_part, from_byte, repeat_count, IsGrammar};
+ghost use Rattle.ptlangs.specs.TrReading.{found_in};
 
 use crate::classes::CharClass;
 use crate::faults::SetFaultKind;

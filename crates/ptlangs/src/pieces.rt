@@ -1,7 +1,8 @@
 //! The pieces of the array that a string of `tr` stands for.
 ghost use Rattle.std.specs.Prelude.{◌≡◌, ◌≤◌, length, replicate, slice_get};
 ghost use Rattle.std.specs.Iterator.{YieldsFirst, item_count};
-ghost use Rattle.ptlangs.specs.TrPlan.{piece, repeat_piece, is_fill, pieces_of, pieces_left, members};
+ghost use Rattle.ptlangs.specs.TrPlan.{piece, repeat_piece, is_fill, pieces_of, members};
+ghost use Rattle.ptlangs.specs.TrReading.{pieces_left};
 
 use crate::classes::{CharClass, span_get, span_len};
 use crate::faults::SetFaultKind;

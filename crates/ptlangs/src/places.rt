@@ -4,7 +4,8 @@ ghost use Rattle.ptlangs.specs.TrClasses.{span, all_bytes, class_bytes};
 ghost use Rattle.std.specs.Result.{result_map_both};
 ghost use Rattle.ptlangs.specs.declared.faults.SetFaultKind.{SetFaultKind};
 ghost use Rattle.ptlangs.specs.declared.pieces.Piece.{Piece};
-ghost use Rattle.ptlangs.specs.TrPlan.{places_of, members, array, collected, pieces_of, last_place, has_byte, complement_of};
+ghost use Rattle.ptlangs.specs.TrPlan.{members, array, collected, pieces_of, last_place, has_byte, complement_of};
+ghost use Rattle.ptlangs.specs.TrReading.{places_of};
 
 use crate::classes::CharClass;
 use crate::faults::SetFaultKind;

@@ -4,8 +4,9 @@ ghost use Rattle.std.specs.Result.{result_map_both};
 ghost use Rattle.ptlangs.specs.declared.faults.SetFault.{SetFault};
 ghost use Rattle.ptlangs.specs.declared.faults.SetFaultKind.{SetFaultKind};
 ghost use Rattle.ptlangs.specs.declared.pieces.Piece.{Piece};
-ghost use Rattle.ptlangs.specs.TrPlan.{array, collected, first_array, pieces_of, places_of, plan, plan_of, second_plan, may_pair as pairs, class_places, second_place, string_pieces, takes_second};
+ghost use Rattle.ptlangs.specs.TrPlan.{array, collected, first_array, pieces_of, plan, plan_of, second_plan, may_pair as pairs, class_places, second_place, string_pieces, takes_second};
 ghost use Rattle.ptlangs.specs.TrTables.{tables, deletes, image, squeezes, HoldPlan};
+ghost use Rattle.ptlangs.specs.TrReading.{places_of};
 
 use crate::faults::{SetFault, SetFaultKind, SetString};
 use crate::images::{images, same};

@@ -1,7 +1,7 @@
 use Rattle.std.proofs.Common.{◌≡◌, ◌≤◌, ℕ, List}
-use Rattle.ptlangs.specs.TrPlan.{places_of}
 use Rattle.ptlangs.proofs.TrComplement.{others_below}
 use Rattle.ptlangs.proofs.places.Places.complement.Given as goal
+use Rattle.ptlangs.specs.TrReading.{places_of}
 
 abbrev pub invariant-loop-byte : goal.invariant-loop-byte
 invariant-loop-byte l = record {

@@ -1,8 +1,8 @@
 use Rattle.std.proofs.Common.{◌≡◌, ◌+◌, ℕ, length, take}
 use Rattle.std.specs.List.{flat_map}
 use Rattle.ptlangs.specs.TrClasses.{range_bytes}
-use Rattle.ptlangs.proofs.TrPlaces.{Puts}
 use Rattle.ptlangs.proofs.places.Places.push_class.Given as goal
+use Rattle.ptlangs.specs.TrReading.{Puts}
 
 abbrev pub invariant-loop-first : goal.invariant-loop-first
 invariant-loop-first l = record {

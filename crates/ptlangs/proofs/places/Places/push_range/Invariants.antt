@@ -1,7 +1,7 @@
 use Rattle.std.proofs.Common.{◌≡◌, ◌<◌, ◌+◌, ◌-◌}
 use Rattle.std.specs.List.{range_with_len}
-use Rattle.ptlangs.proofs.TrPlaces.{Puts}
 use Rattle.ptlangs.proofs.places.Places.push_range.Given as goal
+use Rattle.ptlangs.specs.TrReading.{Puts}
 
 abbrev pub invariant-loop-byte : goal.invariant-loop-byte
 invariant-loop-byte l = record {

@@ -5,11 +5,12 @@ use Rattle.ptlangs.specs.declared.faults.SetFaultKind.TheVariants.{ClassPlace}
 use Rattle.ptlangs.specs.declared.pieces.Piece.{Piece}
 use Rattle.ptlangs.specs.declared.pieces.Place.{Place}
 use Rattle.ptlangs.specs.declared.places.Places.{Places}
-use Rattle.ptlangs.specs.TrPlan.{Plan, array, collected, first_array, pieces_of, places_of, plan_of}
+use Rattle.ptlangs.specs.TrPlan.{Plan, array, collected, first_array, pieces_of, plan_of}
 use Rattle.ptlangs.specs.TrTables.{Tables, tables}
 use Rattle.ptlangs.proofs.TrAnswers.{same_answer, no_answer}
 use Rattle.ptlangs.proofs.TrPlans.{mapped_ok, mapped_at, string_pieces-read, fill_is, second_plan-pairs}
 use Rattle.ptlangs.proofs.plan.CharPlan.of_two.Goals as goal
+use Rattle.ptlangs.specs.TrReading.{places_of}
 
 abbrev answer_of : Result Plan SetFaultKind → Result Tables SetFaultKind
 answer_of r = result_map_both tables (λ (k : SetFaultKind). k) r

@@ -2,10 +2,11 @@ use Rattle.std.proofs.Common.{◌≡◌, ◌∷◌, ◌≤◌, ◌+◌, ◌∙�
 use Rattle.ptlangs.specs.declared.faults.SetFaultKind.{SetFaultKind}
 use Rattle.ptlangs.specs.declared.pieces.Piece.{Piece}
 use Rattle.ptlangs.specs.declared.pieces.Place.TheVariants.{First}
-use Rattle.ptlangs.specs.TrPlan.{collected, pieces_of, pieces_left, class_places, is_paired, members}
+use Rattle.ptlangs.specs.TrPlan.{collected, pieces_of, class_places, is_paired, members}
 use Rattle.ptlangs.proofs.TrWalks.{walk_never, array-bound}
 use Rattle.ptlangs.proofs.TrPairs.{Faced, paired-unfaced, paired-more, paired-end, length-members}
 use Rattle.ptlangs.proofs.second.Second.is_paired.Goals as goal
+use Rattle.ptlangs.specs.TrReading.{pieces_left}
 
 never : {A : Type 0} (k : SetFaultKind) (b : Bool) → Err k ≡ Ok b → A
 never k b e = absurd (let no : ⊥ = cc in no)
