@@ -1,9 +1,9 @@
 -- What is computed of parts is the grammar.
-use Rattle.std.proofs.Common.{◌≡◌, ◌≢◌, ◌<◌, ◌≤◌, ◌+◌, ◌-◌, ℕ, zero, suc, Bool, true, false, ◌&&◌, cond, eqb, List, [], ◌∷◌, ◌++◌, length, drop, map, arith, refl, sym, ap, subst, ◌∙◌, Option, Some, None, Result, Ok, Err, IsTrue, tests, rules, nat_lt}
+use Rattle.std.proofs.Common.{◌≡◌, ◌<◌, ◌-◌, ℕ, zero, suc, Bool, true, false, ◌&&◌, cond, eqb, List, [], ◌∷◌, ◌++◌, length, drop, map, arith, refl, sym, ap, subst, ◌∙◌, Option, Some, None, Result, Ok, Err, nat_lt}
 use Rattle.std.specs.List.{list_all}
 use Rattle.std.specs.Option.{option_and_then, option_or}
 use Rattle.std.specs.Char.{is_ascii_digit, is_ascii_lowercase}
-use Rattle.std.proofs.lemmas.Bool.{false≢true, ltb-false, le-ltb, eqb-true, eq-eqb, ne_eqb}
+use Rattle.std.proofs.lemmas.Bool.{false≢true, ltb-false, le-ltb, eqb-true, ne_eqb}
 use Rattle.std.proofs.lemmas.List.{length-map, length-append, append_assoc, drop_at, drop_all}
 use Rattle.ptlangs.specs.declared.faults.SetFaultKind.{SetFaultKind}
 use Rattle.ptlangs.specs.declared.faults.SetFaultKind.TheVariants.{Descending}

@@ -10,8 +10,7 @@ use Rattle.std.proofs.lemmas.Str.{digit_value_digit}
 use Rattle.std.proofs.lemmas.List.{drop_more, drop_all, drop-drop, take-take, length-take, get_or-take}
 use Rattle.std.proofs.lemmas.List.Folds.{length-prefix_len}
 use Rattle.std.proofs.lemmas.List.Sums.{prefix_len-le-length, prefix_len_passes}
-use Rattle.std.proofs.lemmas.Grind.{common_steps}
-use Rattle.ptlangs.specs.TrUnits.{is_octal_digit, octal_run, octal, escaped, units, units_behind, unit_at, after_backslash}
+use Rattle.ptlangs.specs.TrUnits.{is_octal_digit, octal_run, octal, units, units_behind, unit_at, after_backslash}
 use Rattle.ptlangs.specs.declared.faults.SetFaultKind.TheVariants.{Octal}
 use Rattle.ptlangs.specs.declared.units.SetUnit.{SetUnit}
 use Rattle.ptlangs.specs.declared.units.SetUnit.TheVariants.{Plain, Escaped, Faulty}

@@ -1,5 +1,5 @@
 -- The plan of two strings, step by step.
-use Rattle.std.proofs.Common.{◌≡◌, ◌≢◌, ◌<◌, ◌-◌, ℕ, Bool, true, false, cond, eqb, List, [], ◌∷◌, length, arith, refl, sym, ap, ◌∙◌, Option, Some, None, Result, Ok, Err}
+use Rattle.std.proofs.Common.{◌≡◌, ◌<◌, ◌-◌, ℕ, Bool, true, false, cond, eqb, List, [], ◌∷◌, length, arith, refl, sym, ap, ◌∙◌, Some, Result, Ok, Err}
 use Rattle.std.specs.Result.{result_map_both}
 use Rattle.std.proofs.lemmas.Bool.{eqb-false}
 use Rattle.ptlangs.specs.declared.faults.SetFaultKind.{SetFaultKind}
@@ -14,7 +14,7 @@ use Rattle.ptlangs.specs.declared.plan.Form.{Form}
 use Rattle.ptlangs.specs.declared.plan.Form.TheVariants.{Translate, TranslateSqueeze, Squeeze, Delete, DeleteSqueeze}
 use Rattle.ptlangs.specs.declared.classes.CharClass.{CharClass}
 use Rattle.ptlangs.specs.TrTables.{tables}
-use Rattle.ptlangs.specs.TrPlan.{Plan, and_then, array, class_places, collected, fill_count, first_array, in_string, is_paired, may_pair, pieces_of, plan, plan_of, plan_with, second_plan, second_place, string_pieces}
+use Rattle.ptlangs.specs.TrPlan.{Plan, array, class_places, collected, fill_count, first_array, in_string, is_paired, may_pair, pieces_of, plan, plan_of, second_plan, second_place, string_pieces}
 use Rattle.ptlangs.specs.TrReading.{places_of}
 
 -- a string that is not empty has the pieces that are read

@@ -1,5 +1,5 @@
 -- Places in joined lists and in runs of bytes.
-use Rattle.std.proofs.Common.{◌≡◌, ◌<◌, ◌≤◌, ◌+◌, ◌-◌, ℕ, zero, suc, Bool, true, false, cond, List, [], ◌∷◌, ◌++◌, length, take, drop, replicate, lit≤, arith, refl, sym, ap, ◌∙◌, Option, Some, None, min}
+use Rattle.std.proofs.Common.{◌≡◌, ◌<◌, ◌≤◌, ◌+◌, ◌-◌, ℕ, zero, suc, List, [], ◌∷◌, ◌++◌, length, take, drop, replicate, lit≤, arith, refl, sym, ap, ◌∙◌, Option, Some, None}
 use Rattle.std.specs.List.{range_with_len, slice_get, flat_map}
 use Rattle.std.proofs.Math.ListN.{get_or}
 use Rattle.std.proofs.lemmas.List.{drop_more, length-append, length-replicate}

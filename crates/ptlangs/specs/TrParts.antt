@@ -10,7 +10,7 @@ use Rattle.ptlangs.specs.declared.units.SetUnit.{SetUnit}
 use Rattle.ptlangs.specs.declared.units.SetUnit.TheVariants.{Plain, Escaped, Faulty}
 use Rattle.ptlangs.specs.declared.parts.Part.{Part}
 use Rattle.ptlangs.specs.declared.parts.Part.TheVariants.{Single, Range, Class, Equivalence, Repeat}
-use Rattle.ptlangs.specs.TrUnits.{is_octal_digit, byte_of, units}
+use Rattle.ptlangs.specs.TrUnits.{is_octal_digit, byte_of}
 use Rattle.ptlangs.specs.TrClasses.{class_named}
 
 -- the number that digits write, unless it is too large for a count

@@ -1,5 +1,5 @@
 -- What the strings of `tr` mean: arrays, and what is deleted, translated and squeezed.
-use Rattle.std.specs.Prelude.{◌≡◌, ℕ, zero, suc, ◌+◌, ◌-◌, ◌==◌, ◌&&◌, ◌||◌, List, [], ◌∷◌, ◌++◌, Bool, true, false, not, Option, Some, None, Result, Ok, Err, if◌then◌else◌, length, take, drop, map, filter, replicate, unwrap_or, option_map, slice_get}
+use Rattle.std.specs.Prelude.{ℕ, zero, suc, ◌+◌, ◌-◌, ◌==◌, ◌&&◌, ◌||◌, List, [], ◌∷◌, ◌++◌, Bool, true, false, not, Option, Some, None, Result, Ok, Err, if◌then◌else◌, length, take, filter, replicate, unwrap_or, slice_get}
 use Rattle.std.specs.List.{flat_map, list_all, list_any, last_or}
 use Rattle.std.specs.Option.{option_and_then, option_to_list}
 use Rattle.std.specs.Result.{result_map_both}
@@ -13,10 +13,8 @@ use Rattle.ptlangs.specs.declared.parts.Part.{Part}
 use Rattle.ptlangs.specs.declared.parts.Part.TheVariants as part
 use Rattle.ptlangs.specs.declared.pieces.Piece.{Piece}
 use Rattle.ptlangs.specs.declared.pieces.Piece.TheVariants.{Range, Class, Repeat, Fill}
-use Rattle.ptlangs.specs.declared.pieces.Pieces.{Pieces}
 use Rattle.ptlangs.specs.declared.pieces.Place.{Place}
 use Rattle.ptlangs.specs.declared.pieces.Place.TheVariants.{First, Images, Squeezed}
-use Rattle.ptlangs.specs.declared.places.Places.{Places}
 use Rattle.ptlangs.specs.declared.plan.Form.{Form}
 use Rattle.ptlangs.specs.declared.plan.Form.TheVariants.{Translate, TranslateSqueeze, Squeeze, Delete, DeleteSqueeze}
 use Rattle.ptlangs.specs.TrUnits.{units}

@@ -3,7 +3,7 @@ ghost use Rattle.std.specs.Prelude.{◌≡◌, [], ℕ, List, Ok, length, map};
 ghost use Rattle.ptlangs.specs.declared.pieces.Piece.{Piece};
 ghost use Rattle.ptlangs.specs.TrClasses.{all_bytes};
 ghost use Rattle.ptlangs.specs.TrPlan.{array, collected, image_by, pieces_of};
-ghost use Rattle.ptlangs.specs.TrReading.{places_of};
+ghost use Rattle.ptlangs.specs.TrReading.{SecondHas, places_of, second_array};
 
 use crate::faults::SetFaultKind;
 use crate::places::Places;
@@ -23,8 +23,9 @@ pub(crate) fn same() -> [u8; 256]
 /// For each byte, what it becomes: the byte of the second array, whose length is given, at its last
 /// place in the first.
 pub(crate) fn images(first: &Places, second: &Second, len: u128) -> Result<[u8; 256], SetFaultKind>
-    ensures { (from : List ℕ) (ps : List Piece) → first.now ≡ places_of from → collected (pieces_of second.now.place second.now.text.now) ≡ Ok ps → len ≡ length (array second.now.fill ps)
-        → result ≡ Ok (map (image_by from (array second.now.fill ps)) all_bytes) }
+    ensures { (from : List ℕ) (ps : List Piece) → first.now ≡ places_of from
+        → SecondHas second.now ps → len ≡ length (second_array second.now ps)
+        → result ≡ Ok (map (image_by from (second_array second.now ps)) all_bytes) }
 {
     let mut table = [0; 256];
     for (byte, entry) in table.iter_mut().enumerate() {
@@ -35,8 +36,9 @@ pub(crate) fn images(first: &Places, second: &Second, len: u128) -> Result<[u8; 
 
 /// What one byte becomes.
 fn image(first: &Places, second: &Second, len: u128, byte: u8) -> Result<u8, SetFaultKind>
-    ensures { (from : List ℕ) (ps : List Piece) → first.now ≡ places_of from → collected (pieces_of second.now.place second.now.text.now) ≡ Ok ps → len ≡ length (array second.now.fill ps)
-        → result ≡ Ok (image_by from (array second.now.fill ps) byte) }
+    ensures { (from : List ℕ) (ps : List Piece) → first.now ≡ places_of from
+        → SecondHas second.now ps → len ≡ length (second_array second.now ps)
+        → result ≡ Ok (image_by from (second_array second.now ps) byte) }
 {
     let Some(place) = first.last(byte) else {
         return Ok(byte);

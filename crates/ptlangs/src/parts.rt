@@ -7,7 +7,7 @@ ghost use Rattle.std.specs.Char.{is_ascii_digit, is_ascii_lowercase};
 ghost use Rattle.ptlangs.specs.declared.faults.SetFaultKind.{SetFaultKind};
 ghost use Rattle.ptlangs.specs.TrUnits.{is_octal_digit, units};
 ghost use Rattle.ptlangs.specs.TrParts.{behind, behind_two, behind_run, plain_run, repeat_at, class_at, equivalence_at, form_inside, form_at, first_part, from_byte, repeat_count, IsGrammar};
-ghost use Rattle.ptlangs.specs.TrReading.{found_in};
+ghost use Rattle.ptlangs.specs.TrReading.{found_in, ok_map, units_from};
 
 use crate::classes::CharClass;
 use crate::faults::SetFaultKind;
@@ -33,7 +33,7 @@ pub(crate) enum Part {
 fn behind_byte(text: &[u8], at: usize, byte: u8) -> Option<usize>
     requires plain { byte ≢ 92 }
     requires within { at ≤ length text.now }
-    ensures reads { option_map (λ (i : ℕ). units (drop i text.now)) result ≡ behind byte (units (drop at text.now)) }
+    ensures reads { option_map (units_from text.now) result ≡ behind byte (units_from text.now at) }
     ensures next { IfSome result (λ i. i ≡ at + 1) }
     ensures within { IfSome result (λ i. i ≤ length text.now) }
 {
@@ -49,7 +49,8 @@ fn behind_bytes(text: &[u8], at: usize, first: u8, second: u8) -> Option<usize>
     requires plain { first ≢ 92 }
     requires plain_second { second ≢ 92 }
     requires within { at ≤ length text.now }
-    ensures reads { option_map (λ (i : ℕ). units (drop i text.now)) result ≡ behind_two first second (units (drop at text.now)) }
+    ensures reads { option_map (units_from text.now) result
+        ≡ behind_two first second (units_from text.now at) }
     ensures onward { IfSome result (λ i. at < i) }
     ensures within { IfSome result (λ i. i ≤ length text.now) }
 {
@@ -77,8 +78,10 @@ fn letters_len(bytes: &[u8]) -> usize
 /// The place behind the digits that stand here.
 fn behind_digits(text: &[u8], at: usize) -> usize
     requires { at ≤ length text.now }
-    ensures run { slice_range text.now at result ≡ plain_run is_ascii_digit (units (drop at text.now)) }
-    ensures reads { units (drop result text.now) ≡ behind_run is_ascii_digit (units (drop at text.now)) }
+    ensures run { slice_range text.now at result
+        ≡ plain_run is_ascii_digit (units_from text.now at) }
+    ensures reads { units_from text.now result
+        ≡ behind_run is_ascii_digit (units_from text.now at) }
     ensures onward { at ≤ result }
     ensures within { result ≤ length text.now }
 {
@@ -88,8 +91,10 @@ fn behind_digits(text: &[u8], at: usize) -> usize
 /// The place behind the lower-case letters that stand here.
 fn behind_letters(text: &[u8], at: usize) -> usize
     requires { at ≤ length text.now }
-    ensures run { slice_range text.now at result ≡ plain_run is_ascii_lowercase (units (drop at text.now)) }
-    ensures reads { units (drop result text.now) ≡ behind_run is_ascii_lowercase (units (drop at text.now)) }
+    ensures run { slice_range text.now at result
+        ≡ plain_run is_ascii_lowercase (units_from text.now at) }
+    ensures reads { units_from text.now result
+        ≡ behind_run is_ascii_lowercase (units_from text.now at) }
     ensures onward { at ≤ result }
     ensures within { result ≤ length text.now }
 {
@@ -123,7 +128,7 @@ fn count_of(digits: &[u8]) -> Option<u16>
 /// A repeat, from behind its bracket, and the place behind it.
 fn repeat(text: &[u8], at: usize) -> Option<(Part, usize)>
     requires { at ≤ length text.now }
-    ensures reads { option_map (found_in text.now) result ≡ repeat_at (units (drop at text.now)) }
+    ensures reads { option_map (found_in text.now) result ≡ repeat_at (units_from text.now at) }
     ensures onward { IfSome result (λ r. at < r.1) }
     ensures within { IfSome result (λ r. r.1 ≤ length text.now) }
 {
@@ -141,7 +146,7 @@ fn repeat(text: &[u8], at: usize) -> Option<(Part, usize)>
 /// A class, from behind its bracket, and the place behind it.
 fn class(text: &[u8], at: usize) -> Option<(Part, usize)>
     requires { at ≤ length text.now }
-    ensures reads { option_map (found_in text.now) result ≡ class_at (units (drop at text.now)) }
+    ensures reads { option_map (found_in text.now) result ≡ class_at (units_from text.now at) }
     ensures onward { IfSome result (λ r. at < r.1) }
     ensures within { IfSome result (λ r. r.1 ≤ length text.now) }
 {
@@ -157,7 +162,8 @@ fn class(text: &[u8], at: usize) -> Option<(Part, usize)>
 /// An equivalence, from behind its bracket, and the place behind it.
 fn equivalence(text: &[u8], at: usize) -> Option<(Part, usize)>
     requires { at ≤ length text.now }
-    ensures reads { option_map (found_in text.now) result ≡ equivalence_at (units (drop at text.now)) }
+    ensures reads { option_map (found_in text.now) result
+        ≡ equivalence_at (units_from text.now at) }
     ensures onward { IfSome result (λ r. at < r.1) }
     ensures within { IfSome result (λ r. r.1 ≤ length text.now) }
 {
@@ -174,7 +180,7 @@ fn equivalence(text: &[u8], at: usize) -> Option<(Part, usize)>
 /// A form in brackets at this place, and the place behind it.
 fn form(text: &[u8], at: usize) -> Option<(Part, usize)>
     requires { at ≤ length text.now }
-    ensures reads { option_map (found_in text.now) result ≡ form_at (units (drop at text.now)) }
+    ensures reads { option_map (found_in text.now) result ≡ form_at (units_from text.now at) }
     ensures onward { IfSome result (λ r. at < r.1) }
     ensures within { IfSome result (λ r. r.1 ≤ length text.now) }
 {
@@ -191,7 +197,7 @@ fn form(text: &[u8], at: usize) -> Option<(Part, usize)>
 /// The part at this place, and the place behind it.
 pub(crate) fn part_at(text: &[u8], at: usize) -> Result<(Part, usize), SetFaultKind>
     requires { at < length text.now }
-    ensures reads { result_map_both (found_in text.now) (λ (k : SetFaultKind). k) result ≡ first_part (units (drop at text.now)) }
+    ensures reads { ok_map (found_in text.now) result ≡ first_part (units_from text.now at) }
     ensures onward { IfOk result (λ r. at < r.1) }
     ensures within { IfOk result (λ r. r.1 ≤ length text.now) }
 {
@@ -209,7 +215,8 @@ pub(crate) fn part_at(text: &[u8], at: usize) -> Result<(Part, usize), SetFaultK
 /// The range from this byte up to the unit at this place, and the place behind it.
 fn range(text: &[u8], first: u8, at: usize) -> Result<(Part, usize), SetFaultKind>
     requires { at < length text.now }
-    ensures reads { result_map_both (found_in text.now) (λ (k : SetFaultKind). k) result ≡ from_byte first [] (Some (units (drop at text.now))) }
+    ensures reads { ok_map (found_in text.now) result
+        ≡ from_byte first [] (Some (units_from text.now at)) }
     ensures onward { IfOk result (λ r. at < r.1) }
     ensures within { IfOk result (λ r. r.1 ≤ length text.now) }
 {

@@ -5,7 +5,7 @@ ghost use Rattle.std.specs.Result.{result_map_both};
 ghost use Rattle.ptlangs.specs.declared.faults.SetFaultKind.{SetFaultKind};
 ghost use Rattle.ptlangs.specs.declared.pieces.Piece.{Piece};
 ghost use Rattle.ptlangs.specs.TrPlan.{members, array, collected, pieces_of, last_place, has_byte, complement_of};
-ghost use Rattle.ptlangs.specs.TrReading.{places_of};
+ghost use Rattle.ptlangs.specs.TrReading.{Puts, ok_map, places_of};
 
 use crate::classes::CharClass;
 use crate::faults::SetFaultKind;
@@ -43,7 +43,7 @@ impl Places {
     fn push(&mut self, byte: u8)
         requires { self.old.length < 2 ^ 127 }
         ensures length { self.new.length ≡ self.old.length + 1 }
-        ensures places { (bytes : List ℕ) → self.old ≡ places_of bytes → self.new ≡ places_of (bytes ++ byte ∷ []) }
+        ensures places { Puts self.old self.new (byte ∷ []) }
     {
         self.last[usize::from(byte)] = Some(self.length);
         self.length += 1;
@@ -53,7 +53,7 @@ impl Places {
     fn push_range(&mut self, first: u8, last: u8)
         requires { self.old.length < 2 ^ 126 }
         ensures length { self.new.length ≡ self.old.length + length (span first last) }
-        ensures places { (bytes : List ℕ) → self.old ≡ places_of bytes → self.new ≡ places_of (bytes ++ span first last) }
+        ensures places { Puts self.old self.new (span first last) }
     {
         for byte in first..=last {
             self.push(byte);
@@ -64,7 +64,7 @@ impl Places {
     fn push_class(&mut self, class: CharClass)
         requires { self.old.length < 2 ^ 125 }
         ensures length { self.new.length ≡ self.old.length + length (class_bytes class) }
-        ensures places { (bytes : List ℕ) → self.old ≡ places_of bytes → self.new ≡ places_of (bytes ++ class_bytes class) }
+        ensures places { Puts self.old self.new (class_bytes class) }
     {
         let ranges = class.ranges();
         for &(first, last) in ranges {
@@ -77,7 +77,7 @@ impl Places {
     fn push_repeat(&mut self, byte: u8, count: u128)
         requires { self.old.length + count < 2 ^ 127 }
         ensures length { self.new.length ≡ self.old.length + count }
-        ensures places { (bytes : List ℕ) → self.old ≡ places_of bytes → self.new ≡ places_of (bytes ++ replicate count byte) }
+        ensures places { Puts self.old self.new (replicate count byte) }
     {
         if count > 0 {
             self.last[usize::from(byte)] = Some(self.length + (count - 1));
@@ -91,7 +91,7 @@ impl Places {
         requires { self.old.length + fill < 2 ^ 125 }
         ensures length { self.new.length ≡ self.old.length + length (members fill piece) }
         ensures short { length (members 0 piece) ≤ 65535 }
-        ensures places { (bytes : List ℕ) → self.old ≡ places_of bytes → self.new ≡ places_of (bytes ++ members fill piece) }
+        ensures places { Puts self.old self.new (members fill piece) }
     {
         match piece {
             Piece::Range(first, last) => self.push_range(first, last),
@@ -104,7 +104,9 @@ impl Places {
     /// The places of a string's array, where a fill gives so many bytes.
     pub(crate) fn read(place: Place, text: &[u8], fill: u128) -> Result<Places, SetFaultKind>
         requires { fill < 2 ^ 100 }
-        ensures places { result ≡ result_map_both (λ (ps : List Piece). places_of (array fill ps)) (λ (k : SetFaultKind). k) (collected (pieces_of place text.now)) }
+        ensures places { result
+            ≡ ok_map (λ (ps : List Piece). places_of (array fill ps))
+            (collected (pieces_of place text.now)) }
         ensures bound { IfOk result (λ p. p.length ≤ 2 ^ 80 + fill) }
     {
         let mut places = Places::new();
@@ -130,7 +132,8 @@ impl Places {
 
     /// For each byte, whether it stands in the array.
     pub(crate) fn contained(&self) -> [bool; 256]
-        ensures { (bytes : List ℕ) → self.now ≡ places_of bytes → result ≡ map (λ b. has_byte b bytes) all_bytes }
+        ensures { (bytes : List ℕ) → self.now ≡ places_of bytes
+            → result ≡ map (λ b. has_byte b bytes) all_bytes }
     {
         let mut table = [false; 256];
         for (place, entry) in table.iter_mut().enumerate() {
@@ -141,7 +144,8 @@ impl Places {
 
     /// The places of the array of all bytes that do not stand in this one, ascending.
     pub(crate) fn complement(&self) -> Places
-        ensures places { (bytes : List ℕ) → self.now ≡ places_of bytes → result ≡ places_of (complement_of bytes) }
+        ensures places { (bytes : List ℕ) → self.now ≡ places_of bytes
+            → result ≡ places_of (complement_of bytes) }
         ensures bound { result.length ≤ 256 }
     {
         let mut others = Places::new();

@@ -6,7 +6,7 @@ ghost use Rattle.ptlangs.specs.declared.faults.SetFaultKind.{SetFaultKind};
 ghost use Rattle.ptlangs.specs.declared.pieces.Piece.{Piece};
 ghost use Rattle.ptlangs.specs.TrPlan.{array, collected, first_array, pieces_of, plan, plan_of, second_plan, may_pair as pairs, class_places, second_place, string_pieces, takes_second};
 ghost use Rattle.ptlangs.specs.TrTables.{tables, deletes, image, squeezes, HoldPlan};
-ghost use Rattle.ptlangs.specs.TrReading.{places_of};
+ghost use Rattle.ptlangs.specs.TrReading.{SecondHas, ok_map, places_of, second_array};
 
 use crate::faults::{SetFault, SetFaultKind, SetString};
 use crate::images::{images, same};
@@ -56,8 +56,11 @@ impl Form {
     /// complement has none.
     fn may_pair(self, complement: bool, s1: &[u8], second: &Second) -> Result<bool, SetFaultKind>
         requires { second.now.fill < 2 ^ 100 }
-        ensures { (firsts ps : List Piece) → string_pieces Place.First s1.now ≡ Ok firsts → collected (pieces_of second.now.place second.now.text.now) ≡ Ok ps
-            → result ≡ Ok (pairs self complement (class_places 0 0 firsts) (class_places second.now.fill 0 ps)) }
+        ensures { (firsts ps : List Piece) → string_pieces Place.First s1.now ≡ Ok firsts
+            → SecondHas second.now ps
+            → result ≡ Ok (pairs self complement
+            (class_places 0 0 firsts)
+            (class_places second.now.fill 0 ps)) }
     {
         match self {
             Form::DeleteSqueeze => Ok(true),
@@ -69,7 +72,9 @@ impl Form {
 
 /// The places of the first string's array.
 fn read_first(complement: bool, s1: &[u8]) -> Result<Places, SetFaultKind>
-    ensures places { result ≡ result_map_both (λ (ps : List Piece). places_of (first_array complement ps)) (λ (k : SetFaultKind). k) (string_pieces Place.First s1.now) }
+    ensures places { result
+        ≡ ok_map (λ (ps : List Piece). places_of (first_array complement ps))
+        (string_pieces Place.First s1.now) }
     ensures bound { IfOk result (λ p. p.length < 2 ^ 90) }
 {
     if s1.is_empty() {
@@ -99,7 +104,8 @@ impl Model for CharPlan {
 
     ghost view = { λ p. record { deleted = p.deleted; images = p.images; squeezed = p.squeezed } };
 
-    ghost inverse = { λ t. record { deleted = t.deleted; images = t.images; squeezed = t.squeezed } };
+    ghost inverse = { λ t.
+        record { deleted = t.deleted; images = t.images; squeezed = t.squeezed } };
 }
 
 impl CharPlan {
@@ -123,7 +129,8 @@ impl CharPlan {
         s2: Option<&[u8]>,
     ) -> Result<CharPlan, SetFault>
         requires { takes_second form ≡ is_some s2 }
-        ensures { result ≡ result_map_both tables (λ (f : SetFault). f) (plan form complement s1.now (option_copied s2.entry)) }
+        ensures { result
+            ≡ ok_map tables (plan form complement s1.now (option_copied s2.entry)) }
     {
         let first = match read_first(complement, s1) {
             Ok(first) => first,
@@ -149,7 +156,8 @@ impl CharPlan {
     /// The plan of one string, whose array has these places.
     fn of_one(form: Form, first: &Places) -> CharPlan
         requires { takes_second form ≡ false }
-        ensures { (bytes : List ℕ) → first.now ≡ places_of bytes → result ≡ tables (plan_of form bytes []) }
+        ensures { (bytes : List ℕ) → first.now ≡ places_of bytes
+            → result ≡ tables (plan_of form bytes []) }
     {
         match form {
             Form::Delete => CharPlan {
@@ -175,8 +183,9 @@ impl CharPlan {
     ) -> Result<CharPlan, SetFaultKind>
         requires form { takes_second form ≡ true }
         requires bound { first.now.length < 2 ^ 90 }
-        ensures { (firsts : List Piece) → string_pieces Place.First s1.now ≡ Ok firsts → first.now ≡ places_of (first_array complement firsts)
-            → result ≡ result_map_both tables (λ (k : SetFaultKind). k) (second_plan form complement firsts s2.now) }
+        ensures { (firsts : List Piece) → string_pieces Place.First s1.now ≡ Ok firsts
+            → first.now ≡ places_of (first_array complement firsts)
+            → result ≡ ok_map tables (second_plan form complement firsts s2.now) }
     {
         if s2.is_empty() {
             return Err(SetFaultKind::Empty);
@@ -203,8 +212,9 @@ impl CharPlan {
         places: &Places,
     ) -> Result<CharPlan, SetFaultKind>
         requires { takes_second form ≡ true }
-        ensures { (bytes : List ℕ) (ps : List Piece) → first.now ≡ places_of bytes → collected (pieces_of second.now.place second.now.text.now) ≡ Ok ps → places.now ≡ places_of (array second.now.fill ps)
-            → result ≡ Ok (tables (plan_of form bytes (array second.now.fill ps))) }
+        ensures { (bytes : List ℕ) (ps : List Piece) → first.now ≡ places_of bytes
+            → SecondHas second.now ps → places.now ≡ places_of (second_array second.now ps)
+            → result ≡ Ok (tables (plan_of form bytes (second_array second.now ps))) }
     {
         match form {
             Form::DeleteSqueeze => Ok(CharPlan {

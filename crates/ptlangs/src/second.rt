@@ -2,6 +2,7 @@
 ghost use Rattle.std.specs.Prelude.{◌≡◌, ◌+◌, ◌^◌, ◌<◌, ◌≤◌, ◌∷◌, [], ℕ, List, Ok, slice_get};
 ghost use Rattle.ptlangs.specs.declared.pieces.Piece.{Piece};
 ghost use Rattle.ptlangs.specs.TrPlan.{array, collected, pieces_of, class_places, stands_at as stands, is_paired as paired};
+ghost use Rattle.ptlangs.specs.TrReading.{HasPieces, SecondHas, second_array};
 
 use crate::classes::CharClass;
 use crate::faults::SetFaultKind;
@@ -18,7 +19,8 @@ pub(crate) struct Second<'a> {
 impl<'a> Second<'a> {
     /// The byte at a place of the array, if there is one.
     pub(crate) fn get(&self, at: u128) -> Result<Option<u8>, SetFaultKind>
-        ensures { (ps : List Piece) → collected (pieces_of self.now.place self.now.text.now) ≡ Ok ps → result ≡ Ok (slice_get (array self.now.fill ps) at) }
+        ensures { (ps : List Piece) → SecondHas self.now ps
+            → result ≡ Ok (slice_get (second_array self.now ps) at) }
     {
         let mut left = at;
         for piece in Pieces::new(self.place, self.text) {
@@ -35,7 +37,7 @@ impl<'a> Second<'a> {
     /// before it.
     pub(crate) fn is_paired(&self, first: &[u8]) -> Result<bool, SetFaultKind>
         requires { self.now.fill < 2 ^ 100 }
-        ensures { (fs ps : List Piece) → collected (pieces_of Place.First first.now) ≡ Ok fs → collected (pieces_of self.now.place self.now.text.now) ≡ Ok ps
+        ensures { (fs ps : List Piece) → HasPieces Place.First first.now fs → SecondHas self.now ps
             → result ≡ Ok (paired (class_places 0 0 fs) (class_places self.now.fill 0 ps)) }
     {
         let mut at = 0;
@@ -53,7 +55,8 @@ impl<'a> Second<'a> {
 /// Whether a piece of the second string with so many members before it is no class, or faces its
 /// other case in the first string.
 fn is_faced(first: &[u8], at: u128, piece: Piece) -> Result<bool, SetFaultKind>
-    ensures { (n : ℕ) (fs : List Piece) → collected (pieces_of Place.First first.now) ≡ Ok fs → result ≡ Ok (paired (class_places 0 0 fs) (class_places n at (piece ∷ []))) }
+    ensures { (n : ℕ) (fs : List Piece) → HasPieces Place.First first.now fs
+        → result ≡ Ok (paired (class_places 0 0 fs) (class_places n at (piece ∷ []))) }
 {
     match piece {
         Piece::Class(class) => stands_at(first, at, class),
@@ -63,7 +66,8 @@ fn is_faced(first: &[u8], at: u128, piece: Piece) -> Result<bool, SetFaultKind>
 
 /// Whether the other case of a class stands in the first string with so many members before it.
 fn stands_at(first: &[u8], at: u128, class: CharClass) -> Result<bool, SetFaultKind>
-    ensures { (fs : List Piece) → collected (pieces_of Place.First first.now) ≡ Ok fs → result ≡ Ok (stands (class_places 0 0 fs) at class) }
+    ensures { (fs : List Piece) → HasPieces Place.First first.now fs
+        → result ≡ Ok (stands (class_places 0 0 fs) at class) }
 {
     let mut place = 0;
     for piece in Pieces::new(Place::First, first) {

@@ -4,6 +4,7 @@ ghost use Rattle.std.specs.Prelude.{◌≡◌, ◌+◌, ◌*◌, ◌^◌, ◌<�
 ghost use Rattle.std.specs.Char.{digit_value};
 ghost use Rattle.std.specs.Str.Parse.{digits_value};
 ghost use Rattle.ptlangs.specs.TrUnits.{byte_of, units, after_backslash, escaped, is_octal_digit, octal_run};
+ghost use Rattle.ptlangs.specs.TrReading.{units_from};
 
 use crate::faults::SetFaultKind;
 
@@ -105,7 +106,7 @@ fn escape(bytes: &[u8]) -> (SetUnit, usize)
 #[tactic(auto, using(crate::proofs::TrNumbers::unit_steps))]
 pub(crate) fn unit(text: &[u8], at: usize) -> (SetUnit, usize)
     requires { at < length text.now }
-    ensures reads { units (drop at text.now) ≡ result.0 ∷ units (drop result.1 text.now) }
+    ensures reads { units_from text.now at ≡ result.0 ∷ units_from text.now result.1 }
     ensures onward { at < result.1 }
     ensures within { result.1 ≤ length text.now }
 {

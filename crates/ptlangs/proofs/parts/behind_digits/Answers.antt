@@ -1,6 +1,6 @@
 use Rattle.std.proofs.Common.{refl}
 use Rattle.std.specs.Char.{is_ascii_digit}
-use Rattle.ptlangs.proofs.TrBehind.{run_range, run_rest, run_within}
+use Rattle.ptlangs.proofs.TrBehind.{run_range, run_rest}
 use Rattle.ptlangs.proofs.parts.behind_digits.Goals as goal
 
 pub returns-clause-run : goal.returns-clause-run

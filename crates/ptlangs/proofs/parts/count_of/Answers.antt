@@ -1,4 +1,4 @@
-use Rattle.std.proofs.Common.{Some, arith, rules}
+use Rattle.std.proofs.Common.{Some, rules}
 use Rattle.ptlangs.proofs.TrCounts.{repeat_count-octal}
 use Rattle.ptlangs.proofs.parts.count_of.Goals as goal
 

@@ -1,4 +1,4 @@
-use Rattle.std.proofs.Common.{◌≡◌, ◌∷◌, ◌≤◌, ◌+◌, ◌∙◌, length, ap, sym, arith, refl, Result, Ok, Err}
+use Rattle.std.proofs.Common.{◌∷◌, ◌∙◌, ap, sym, arith, Result, Ok}
 use Rattle.ptlangs.specs.declared.faults.SetFaultKind.{SetFaultKind}
 use Rattle.ptlangs.specs.declared.pieces.Piece.{Piece}
 use Rattle.ptlangs.specs.declared.pieces.Place.TheVariants.{First}

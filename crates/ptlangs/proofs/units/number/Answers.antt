@@ -1,8 +1,6 @@
-use Rattle.std.proofs.Common.{arith, ◌≡◌, ◌≤◌, ◌<◌, ◌+◌, get_or, take, false, nat_le}
+use Rattle.std.proofs.Common.{arith, ◌≡◌, ◌<◌, ◌+◌, get_or, false, nat_le}
 use Rattle.std.specs.Char.{digit_value}
 use Rattle.std.specs.Str.Parse.{digits_value}
-use Rattle.std.proofs.lemmas.Int.Digits.{digits_value_more}
-use Rattle.std.proofs.lemmas.Str.Parse.{digit_from_value}
 use Rattle.ptlangs.proofs.TrNumbers.{too_large, number_step}
 use Rattle.ptlangs.proofs.units.number.Goals as goal
 

@@ -1,7 +1,6 @@
-use Rattle.std.proofs.Common.{◌≡◌, ◌∷◌, ◌||◌, length, arith, refl, rules, ap, drop, Bool, Ok, Err}
+use Rattle.std.proofs.Common.{◌≡◌, ◌∷◌, ◌||◌, length, arith, refl, ap, drop, Err}
 use Rattle.ptlangs.specs.TrUnits.{units}
-use Rattle.ptlangs.specs.TrPlan.{pieces, is_fill}
-use Rattle.ptlangs.specs.TrParts.{parts}
+use Rattle.ptlangs.specs.TrPlan.{is_fill}
 use Rattle.ptlangs.proofs.TrPieces.{pieces-part, pieces-fault}
 use Rattle.ptlangs.proofs.pieces.PiecesIterator.next.Goals as goal
 use Rattle.ptlangs.proofs.pieces.PiecesIterator.next.Goals.{then-self-2, else-self-2}

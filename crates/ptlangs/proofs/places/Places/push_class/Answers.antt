@@ -1,4 +1,4 @@
-use Rattle.std.proofs.Common.{ℕ, length, ap, arith}
+use Rattle.std.proofs.Common.{length, ap, arith}
 use Rattle.ptlangs.specs.TrClasses.{range_bytes}
 use Rattle.ptlangs.proofs.TrPlaces.{length-flat_map-take}
 use Rattle.ptlangs.proofs.TrSpans.{class_bytes-short}

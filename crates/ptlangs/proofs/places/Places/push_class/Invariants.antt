@@ -1,4 +1,4 @@
-use Rattle.std.proofs.Common.{◌≡◌, ◌+◌, ℕ, length, take}
+use Rattle.std.proofs.Common.{◌≡◌, ◌+◌, length, take}
 use Rattle.std.specs.List.{flat_map}
 use Rattle.ptlangs.specs.TrClasses.{range_bytes}
 use Rattle.ptlangs.proofs.places.Places.push_class.Given as goal

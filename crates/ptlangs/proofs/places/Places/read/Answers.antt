@@ -1,13 +1,12 @@
-use Rattle.std.proofs.Common.{◌≡◌, ◌∷◌, ◌≤◌, ◌<◌, ◌+◌, ◌*◌, ◌∙◌, List, length, refl, ap, arith, Result, Ok, Err}
+use Rattle.std.proofs.Common.{◌≡◌, ◌∷◌, ◌∙◌, length, refl, ap, arith, Result, Err}
 use Rattle.std.proofs.lemmas.Result.{err_from_is_err_and}
-use Rattle.std.specs.Result.{result_map_both}
 use Rattle.ptlangs.specs.declared.faults.SetFaultKind.{SetFaultKind}
 use Rattle.ptlangs.specs.declared.pieces.Piece.{Piece}
 use Rattle.ptlangs.specs.TrPlan.{pieces_of, array, collected}
-use Rattle.ptlangs.proofs.TrWalks.{Walked, walk_start, walk_more, walk_end, walk_fault, array-bound}
-use Rattle.ptlangs.proofs.TrPlaces.{HasPlaces, HasPlaces-start, HasPlaces-more}
+use Rattle.ptlangs.proofs.TrWalks.{walk_more, walk_end, walk_fault, array-bound}
+use Rattle.ptlangs.proofs.TrPlaces.{HasPlaces, HasPlaces-more}
 use Rattle.ptlangs.proofs.places.Places.read.Goals as goal
-use Rattle.ptlangs.specs.TrReading.{pieces_left, places_of}
+use Rattle.ptlangs.specs.TrReading.{pieces_left}
 
 pub returns-in_err-piece-clause-places : goal.returns-in_err-piece-clause-places
 returns-in_err-piece-clause-places c =

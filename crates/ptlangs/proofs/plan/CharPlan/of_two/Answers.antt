@@ -1,10 +1,7 @@
-use Rattle.std.proofs.Common.{◌≡◌, ◌-◌, arith, Bool, true, false, cond, List, length, ap, sym, ◌∙◌, Result, Ok, Err}
+use Rattle.std.proofs.Common.{◌≡◌, ◌-◌, arith, cond, ap, sym, ◌∙◌, Result, Ok, Err}
 use Rattle.std.specs.Result.{result_map_both}
 use Rattle.ptlangs.specs.declared.faults.SetFaultKind.{SetFaultKind}
 use Rattle.ptlangs.specs.declared.faults.SetFaultKind.TheVariants.{ClassPlace}
-use Rattle.ptlangs.specs.declared.pieces.Piece.{Piece}
-use Rattle.ptlangs.specs.declared.pieces.Place.{Place}
-use Rattle.ptlangs.specs.declared.places.Places.{Places}
 use Rattle.ptlangs.specs.TrPlan.{Plan, array, collected, first_array, pieces_of, plan_of}
 use Rattle.ptlangs.specs.TrTables.{Tables, tables}
 use Rattle.ptlangs.proofs.TrAnswers.{same_answer, no_answer}

@@ -1,8 +1,8 @@
-use Rattle.std.proofs.Common.{◌≡◌, ◌∷◌, ◌≤◌, ◌+◌, ◌∙◌, [], Bool, true, false, length, ap, sym, arith, refl, Result, Ok, Err}
+use Rattle.std.proofs.Common.{◌≡◌, ◌∷◌, ◌∙◌, [], Bool, false, ap, sym, arith, Result, Ok, Err}
 use Rattle.ptlangs.specs.declared.faults.SetFaultKind.{SetFaultKind}
 use Rattle.ptlangs.specs.declared.pieces.Piece.{Piece}
 use Rattle.ptlangs.specs.declared.pieces.Place.TheVariants.{First}
-use Rattle.ptlangs.specs.TrPlan.{collected, pieces_of, class_places, is_paired, members}
+use Rattle.ptlangs.specs.TrPlan.{collected, pieces_of, class_places, is_paired}
 use Rattle.ptlangs.proofs.TrWalks.{walk_never, array-bound}
 use Rattle.ptlangs.proofs.TrPairs.{Faced, paired-unfaced, paired-more, paired-end, length-members}
 use Rattle.ptlangs.proofs.second.Second.is_paired.Goals as goal
