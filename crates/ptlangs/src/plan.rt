@@ -113,10 +113,12 @@ impl CharPlan {
     /// complement the array of `s1` is that of all other bytes, ascending by value.
     ///
     /// The strings are read as POSIX.1-2017 says (XCU, tr, "EXTENDED DESCRIPTION"), in the POSIX
-    /// locale over ASCII. Where it leaves a choice, this is this project's own: a second array that
-    /// is shorter than the first is filled up with its last byte; a byte that stands twice in the
-    /// first array becomes what its last place says; a class in a second string that translates is
-    /// `[:lower:]` or `[:upper:]` and faces the other case in the first.
+    /// locale over ASCII: one byte is one character, and order is by value. Where the standard
+    /// leaves a choice, these are this project's own: a second array that is shorter than the first
+    /// is filled up with its last byte, and what is longer is not used to translate; a byte that
+    /// stands twice in the first array becomes what its last place says; squeezing looks at the
+    /// whole of the second array; `[c*]` fills up to the first array's length in every form; no
+    /// class is looked for at the upper end of a range; a complement has no class to face.
     ///
     /// # Errors
     ///
