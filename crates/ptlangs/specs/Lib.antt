@@ -4,3 +4,9 @@ pub mod DelimLists
 pub mod Jobs
 pub mod Numbers
 pub mod OutLists
+pub mod TrClasses
+pub mod TrParts
+pub mod TrPlan
+pub mod TrReading
+pub mod TrTables
+pub mod TrUnits

@@ -1,11 +1,24 @@
-//! The small languages of the options of `cut`, `paste`, `uniq`, `comm`, `join` and `tr`, and the
-//! jobs that these options say.
+//! The small languages of the options and operands of `cut`, `paste`, `uniq`, `comm`, `join` and `tr`, and the
+//! jobs that they say.
 #![tactic(auto)]
 
+mod classes;
 pub mod delims;
+mod faults;
+mod images;
 pub mod jobs;
 pub mod numbers;
 pub mod outlist;
+mod parts;
+mod pieces;
+mod places;
+mod plan;
 pub mod ranges;
 #[cfg(test)]
 mod refusing;
+mod second;
+mod units;
+
+pub use faults::{SetFault, SetFaultKind, SetString};
+pub use parts::parts_are_of_the_grammar;
+pub use plan::{CharPlan, Form, tables_hold_the_plan};

@@ -1,0 +1,98 @@
+-- Digits, the numbers that they write, and the units of a string at a place.
+use Rattle.std.proofs.Common.{◌≡◌, ◌≤◌, ◌<◌, ◌+◌, ◌-◌, ◌*◌, ℕ, zero, suc, Bool, true, false, cond, eqb, List, [], ◌∷◌, length, take, drop, get_or, arith, refl, sym, ap, ◌∙◌, rules, tests, All, nat_le, Option, Some, None}
+use Rattle.std.specs.List.{prefix_len, slice_get}
+use Rattle.std.specs.Int.{IsInRange}
+use Rattle.std.specs.Char.{digit_value}
+use Rattle.std.specs.Str.Parse.{digits_value}
+use Rattle.std.proofs.lemmas.Int.Digits.{digits_value_more}
+use Rattle.std.proofs.lemmas.Str.Parse.{digits_value-take-le, digit_from_value}
+use Rattle.std.proofs.lemmas.Str.{digit_value_digit}
+use Rattle.std.proofs.lemmas.List.{drop_more, drop_all, drop-drop, take-take, length-take, get_or-take}
+use Rattle.std.proofs.lemmas.List.Folds.{length-prefix_len}
+use Rattle.std.proofs.lemmas.List.Sums.{prefix_len-le-length, prefix_len_passes}
+use Rattle.ptlangs.specs.TrUnits.{is_octal_digit, octal_run, octal, units, units_behind, unit_at, after_backslash}
+use Rattle.ptlangs.specs.declared.faults.SetFaultKind.TheVariants.{Octal}
+use Rattle.ptlangs.specs.declared.units.SetUnit.{SetUnit}
+use Rattle.ptlangs.specs.declared.units.SetUnit.TheVariants.{Plain, Escaped, Faulty}
+
+pub ruleset number_steps = (digits_value_more, digits_value-take-le, digit_from_value)
+
+-- the unit of an octal escape whose number was read
+abbrev pub unit_of_octal : Option ℕ → SetUnit
+unit_of_octal None = Faulty Octal
+unit_of_octal (Some v) = Escaped v
+
+-- a number whose first digits are above the limit is above it
+pub too_large : (base limit : ℕ) (ds : List ℕ) (i : ℕ) → 1 ≤ base → limit < digits_value base (take i ds) → nat_le (digits_value base ds) limit ≡ false
+too_large base limit ds i one h = grind (arith, tests, digits_value-take-le base ds i one)
+
+-- one more digit
+pub number_step : (base : ℕ) (ds : List ℕ) (i value digit : ℕ) → i < length ds → base ≤ 10 → digit_value (get_or ds i 0) < base → value ≡ digits_value base (take i ds)
+    → digit ≡ get_or ds i 0 - 48 → value * base + digit ≡ digits_value base (take (i + 1) ds)
+number_step base ds i value digit h ten below v d =
+    let digits : IsInRange 48 57 (get_or ds i 0) = digit_from_value (get_or ds i 0) (omega arith) in
+    let same : digit ≡ digit_value (get_or ds i 0) = omega (arith, digit_value_digit (get_or ds i 0) digits) in
+    rw (digits_value_more base ds i h, v, same) refl
+
+pub length-octal_run : (bs : List ℕ) → length (octal_run bs) ≤ length bs
+length-octal_run bs =
+    omega (arith, length-prefix_len is_octal_digit (take 3 bs), prefix_len-le-length is_octal_digit (take 3 bs), length-take 3 bs)
+
+pub take-octal_run : (bs : List ℕ) → take (length (octal_run bs)) bs ≡ octal_run bs
+take-octal_run bs =
+    let n = prefix_len is_octal_digit (take 3 bs) in
+    let e : length (octal_run bs) ≡ n = length-prefix_len is_octal_digit (take 3 bs) in
+    let short : n ≤ 3 = omega (arith, prefix_len-le-length is_octal_digit (take 3 bs), length-take 3 bs) in
+    ap (λ m. take m bs) e ∙ sym (take-take n 3 bs short)
+
+pub octal_value : (b : ℕ) → is_octal_digit b ≡ true → digit_value b < 8
+octal_value b h = grind (arith, tests, rules)
+
+pub octal_digits : (bs : List ℕ) → All (λ d. digit_value d < 8) (take (length (octal_run bs)) bs)
+octal_digits bs k d h =
+    let n = prefix_len is_octal_digit (take 3 bs) in
+    let e : length (octal_run bs) ≡ n = length-prefix_len is_octal_digit (take 3 bs) in
+    let within : k < n = omega (arith, length-take (length (octal_run bs)) bs) in
+    octal_value (get_or (take (length (octal_run bs)) bs) k d) (rw take-octal_run (rw (get_or-take n (take 3 bs) k d within) (prefix_len_passes is_octal_digit (take 3 bs) k d within)))
+
+pub octal_from_number : (n : ℕ) (o : Option ℕ) → o ≡ cond (nat_le n 255) (Some n) None → unit_of_octal o ≡ octal n
+octal_from_number n o e = rw e (choose (nat_le n 255))
+  where
+    choose : (fits : Bool) → unit_of_octal (cond fits (Some n) None) ≡ cond fits (Escaped n) (Faulty Octal)
+    choose true = refl
+    choose false = refl
+
+-- a backslash before an octal digit
+pub after_backslash-octal : (bs : List ℕ) (c : ℕ) → Some c ≡ slice_get bs 0 → is_octal_digit c ≡ true
+    → after_backslash bs ≡ (octal (digits_value 8 (octal_run bs)), length (octal_run bs))
+after_backslash-octal [] c e t = cc
+after_backslash-octal (b ∷ bs) c e t = let test : is_octal_digit b ≡ true = cc in rw test refl
+
+pub octal_unit : (bs : List ℕ) (c count : ℕ) (o : Option ℕ) → Some c ≡ slice_get bs 0 → is_octal_digit c ≡ true → count ≡ length (octal_run bs)
+    → o ≡ cond (nat_le (digits_value 8 (take count bs)) 255) (Some (digits_value 8 (take count bs))) None → unit_of_octal o ≡ (after_backslash bs).0
+octal_unit bs c count o e t n v =
+    let same : take count bs ≡ octal_run bs = ap (λ m. take m bs) n ∙ take-octal_run bs in
+    octal_from_number _ o (rw same at v) ∙ sym (ap (λ (p : SetUnit × ℕ). p.0) (after_backslash-octal bs c e t))
+
+-- the units behind some bytes are those of the rest
+pub units_behind_is : (bs : List ℕ) (skip : ℕ) → units_behind bs skip ≡ units (drop skip bs)
+units_behind_is [] skip = ap units (sym (drop_all skip [] (omega arith)))
+units_behind_is (b ∷ bs) zero = refl
+units_behind_is (b ∷ bs) (suc skip) = units_behind_is bs skip
+
+pub units-cons : (b : ℕ) (bs : List ℕ) → units (b ∷ bs) ≡ (unit_at b bs).0 ∷ units (drop (unit_at b bs).1 bs)
+units-cons b bs = ap (λ us. (unit_at b bs).0 ∷ us) (units_behind_is bs (unit_at b bs).1)
+
+pub units_plain : (bs : List ℕ) (i b : ℕ) → i < length bs → get_or bs i 0 ≡ b → (b ≡ 92 → ⊥) → units (drop i bs) ≡ Plain b ∷ units (drop (i + 1) bs)
+units_plain bs i b h e n =
+    let not_escape : eqb b 92 ≡ false = grind (arith, tests) in
+    rw (drop_more bs i 0 h, e, units-cons b (drop (i + 1) bs), not_escape) refl
+
+pub units_escape : (bs : List ℕ) (i : ℕ) → i < length bs → get_or bs i 0 ≡ 92
+    → units (drop i bs) ≡ (after_backslash (drop (i + 1) bs)).0 ∷ units (drop (i + 1 + (after_backslash (drop (i + 1) bs)).1) bs)
+units_escape bs i h e =
+    rw (drop_more bs i 0 h, e, units-cons 92 (drop (i + 1) bs), drop-drop) refl
+
+pub ruleset unit_steps = (units_plain, units_escape)
+
+pub ruleset octal_steps = (length-octal_run, take-octal_run, octal_digits)

@@ -1,0 +1,90 @@
+-- Places in joined lists and in runs of bytes.
+use Rattle.std.proofs.Common.{◌≡◌, ◌<◌, ◌≤◌, ◌+◌, ◌-◌, ℕ, zero, suc, List, [], ◌∷◌, ◌++◌, length, take, drop, replicate, lit≤, arith, refl, sym, ap, ◌∙◌, Option, Some, None}
+use Rattle.std.specs.List.{range_with_len, slice_get, flat_map}
+use Rattle.std.proofs.Math.ListN.{get_or}
+use Rattle.std.proofs.lemmas.List.{drop_more, length-append, length-replicate}
+use Rattle.std.proofs.lemmas.List.FromFn.{length-range_with_len}
+use Rattle.ptlangs.specs.declared.classes.CharClass.{CharClass}
+use Rattle.ptlangs.specs.declared.classes.CharClass.TheVariants.{Alnum, Alpha, Blank, Cntrl, Digit, Graph, Lower, Print, Punct, Space, Upper, Xdigit}
+use Rattle.ptlangs.specs.TrClasses.{span, range_bytes, class_bytes}
+
+pub slice_get-range : (a n i : ℕ) → i < n → slice_get (range_with_len a n) i ≡ Some (a + i)
+slice_get-range a zero i h = absurd (omega arith)
+slice_get-range a (suc n) zero h = ap Some (omega arith)
+slice_get-range a (suc n) (suc i) h = slice_get-range (a + 1) n i (omega arith) ∙ ap Some (omega arith)
+
+pub slice_get-past : {X : Type 0} (xs : List X) (i : ℕ) → length xs ≤ i → slice_get xs i ≡ None
+slice_get-past [] i h = refl
+slice_get-past (x ∷ xs) zero h = absurd (omega arith)
+slice_get-past (x ∷ xs) (suc i) h = slice_get-past xs i (omega arith)
+
+pub slice_get-left : {X : Type 0} (xs ys : List X) (i : ℕ) → i < length xs → slice_get (xs ++ ys) i ≡ slice_get xs i
+slice_get-left [] ys i h = absurd (omega arith)
+slice_get-left (x ∷ xs) ys zero h = refl
+slice_get-left (x ∷ xs) ys (suc i) h = slice_get-left xs ys i (omega arith)
+
+pub slice_get-right : {X : Type 0} (xs ys : List X) (i j : ℕ) → i ≡ length xs + j → slice_get (xs ++ ys) i ≡ slice_get ys j
+slice_get-right [] ys i j e = ap (slice_get ys) (omega arith)
+slice_get-right (x ∷ xs) ys zero j e = absurd (omega arith)
+slice_get-right (x ∷ xs) ys (suc i) j e = slice_get-right xs ys i j (omega arith)
+
+pub span_there : (first last place : ℕ) → place < length (span first last) → Some (first + place) ≡ slice_get (span first last) place
+span_there first last place h = sym (slice_get-range first (last + 1 - first) place (omega (arith, length-range_with_len first (last + 1 - first))))
+
+pub span_past : (first last place : ℕ) → length (span first last) ≤ place → None ≡ slice_get (span first last) place
+span_past first last place h = sym (slice_get-past (span first last) place h)
+
+pub length-span : (first last : ℕ) → length (span first last) ≡ last + 1 - first
+length-span first last = length-range_with_len first (last + 1 - first)
+
+pub ruleset span_steps = (span_there, span_past, length-span)
+
+-- ---- a place in joined runs, looked for run by run
+
+pub ranges_found : (rs : List (ℕ × ℕ)) (i left : ℕ) (d : ℕ × ℕ) (o : Option ℕ) → i < length rs → left < length (range_bytes (get_or rs i d)) → o ≡ slice_get (range_bytes (get_or rs i d)) left
+    → o ≡ slice_get (flat_map range_bytes (drop i rs)) left
+ranges_found rs i left d o h under e =
+    e ∙ sym (slice_get-left (range_bytes (get_or rs i d)) (flat_map range_bytes (drop (i + 1) rs)) left under)
+    ∙ ap (λ xs. slice_get (flat_map range_bytes xs) left) (sym (drop_more rs i d h))
+
+pub ranges_next : (rs : List (ℕ × ℕ)) (i left count : ℕ) (d : ℕ × ℕ) → i < length rs → count ≡ length (range_bytes (get_or rs i d)) → count ≤ left
+    → slice_get (flat_map range_bytes (drop (i + 1) rs)) (left - count) ≡ slice_get (flat_map range_bytes (drop i rs)) left
+ranges_next rs i left count d h e past =
+    sym (slice_get-right (range_bytes (get_or rs i d)) (flat_map range_bytes (drop (i + 1) rs)) left (left - count) (omega arith))
+    ∙ ap (λ xs. slice_get (flat_map range_bytes xs) left) (sym (drop_more rs i d h))
+
+pub length-ranges : (rs : List (ℕ × ℕ)) (i : ℕ) (d : ℕ × ℕ) → i < length rs
+    → length (flat_map range_bytes (take i rs)) + length (range_bytes (get_or rs i d)) ≤ length (flat_map range_bytes rs)
+length-ranges [] i d h = absurd (omega arith)
+length-ranges (r ∷ rs) zero d h = omega (arith, length-append (range_bytes r) (flat_map range_bytes rs))
+length-ranges (r ∷ rs) (suc i) d h =
+    omega (arith, length-ranges rs i d (omega arith), length-append (range_bytes r) (flat_map range_bytes rs), length-append (range_bytes r) (flat_map range_bytes (take i rs)))
+
+pub class_bytes-short : (class : CharClass) → length (class_bytes class) ≤ 256
+class_bytes-short Alnum = lit≤ tt
+class_bytes-short Alpha = lit≤ tt
+class_bytes-short Blank = lit≤ tt
+class_bytes-short Cntrl = lit≤ tt
+class_bytes-short Digit = lit≤ tt
+class_bytes-short Graph = lit≤ tt
+class_bytes-short Lower = lit≤ tt
+class_bytes-short Print = lit≤ tt
+class_bytes-short Punct = lit≤ tt
+class_bytes-short Space = lit≤ tt
+class_bytes-short Upper = lit≤ tt
+class_bytes-short Xdigit = lit≤ tt
+
+-- ---- a byte, so many times
+
+pub slice_get-replicate : (n b i : ℕ) → i < n → slice_get (replicate n b) i ≡ Some b
+slice_get-replicate zero b i h = absurd (omega arith)
+slice_get-replicate (suc n) b zero h = refl
+slice_get-replicate (suc n) b (suc i) h = slice_get-replicate n b i (omega arith)
+
+pub repeat_there : (n b i : ℕ) → i < n → Some b ≡ slice_get (replicate n b) i
+repeat_there n b i h = sym (slice_get-replicate n b i h)
+
+pub repeat_past : (n b i : ℕ) → n ≤ i → None ≡ slice_get (replicate n b) i
+repeat_past n b i h = sym (slice_get-past (replicate n b) i (omega (arith, length-replicate n b)))
+
+pub ruleset member_steps = (length-replicate, length-span, class_bytes-short, repeat_there, repeat_past)

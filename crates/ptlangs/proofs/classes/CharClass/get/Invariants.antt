@@ -1,0 +1,7 @@
+use Rattle.std.proofs.Common.{◌≡◌, drop}
+use Rattle.std.specs.List.{flat_map, slice_get}
+use Rattle.ptlangs.specs.TrClasses.{range_bytes}
+use Rattle.ptlangs.proofs.classes.CharClass.get.Given as goal
+
+abbrev pub invariant-loop-first : goal.invariant-loop-first
+invariant-loop-first l = slice_get (flat_map range_bytes (drop l.first-index l.ranges)) l.left ≡ slice_get (flat_map range_bytes l.ranges) l.place

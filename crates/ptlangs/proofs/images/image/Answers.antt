@@ -1,0 +1,11 @@
+use Rattle.std.proofs.Common.{◌∙◌, min, ap, Ok}
+use Rattle.ptlangs.specs.TrPlan.{array}
+use Rattle.ptlangs.proofs.TrAnswers.{same_answer}
+use Rattle.ptlangs.proofs.TrImages.{image-found}
+use Rattle.ptlangs.proofs.images.image.Goals as goal
+
+pub returns : goal.returns
+returns c = λ from ps f e n.
+    ap Ok (image-found from (array c.args.second.now.fill ps) c.args.byte c.in-Some.place c.min.result c.args.len c.unwrap_or.result c.in_ok-image.image c.unwrap_or.ensures
+    (same_answer c.get.result c.in_ok-image.image _ c.in_ok-image.was (c.get.ensures ps e))
+    (c.min.ensures ∙ ap (min c.in-Some.place) c.saturating_sub.ensures) n (c.in-Some.ensures from f))

@@ -1,0 +1,12 @@
+use Rattle.std.proofs.Common.{ap, arith, Ok}
+use Rattle.ptlangs.specs.TrPlan.{array}
+use Rattle.ptlangs.proofs.TrAnswers.{no_answer}
+use Rattle.ptlangs.proofs.TrImages.{image-table}
+use Rattle.ptlangs.proofs.images.images.Goals as goal
+
+pub returns-in_err-entry : goal.returns-in_err-entry
+returns-in_err-entry c = λ from ps f e n. no_answer c.image.result c.in_err-entry.field-0.0 _ c.in_err-entry.was (c.image.ensures from ps f e n)
+
+pub returns : goal.returns
+returns c = λ from ps f e n.
+    ap Ok (image-table c.loop-byte.entry-items from (array c.args.second.now.fill ps) c.loop-byte-test.array_long (λ k h. c.loop-byte.invariant from ps f e n k (omega arith)))

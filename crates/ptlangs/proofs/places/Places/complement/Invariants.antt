@@ -1,0 +1,10 @@
+use Rattle.std.proofs.Common.{◌≡◌, ◌≤◌, ℕ, List}
+use Rattle.ptlangs.proofs.TrComplement.{others_below}
+use Rattle.ptlangs.proofs.places.Places.complement.Given as goal
+use Rattle.ptlangs.specs.TrReading.{places_of}
+
+abbrev pub invariant-loop-byte : goal.invariant-loop-byte
+invariant-loop-byte l = record {
+  short : l.others.length ≤ l.byte;
+  places : (bytes : List ℕ) → l.fn.self ≡ places_of bytes → l.others ≡ places_of (others_below bytes l.byte);
+}

@@ -1,0 +1,6 @@
+use Rattle.std.proofs.Common.{◌≡◌, ◌<◌, ℕ, false, get_or, None}
+use Rattle.std.specs.Prelude.{is_some}
+use Rattle.ptlangs.proofs.places.Places.contained.Given as goal
+
+abbrev pub invariant-loop-place : goal.invariant-loop-place
+invariant-loop-place l = (k : ℕ) → k < l.place → get_or l.entry-items k false ≡ is_some (get_or l.self.last k None)

@@ -1,0 +1,11 @@
+use Rattle.std.proofs.Common.{◌≡◌, ◌+◌, length, take}
+use Rattle.std.specs.List.{flat_map}
+use Rattle.ptlangs.specs.TrClasses.{range_bytes}
+use Rattle.ptlangs.proofs.places.Places.push_class.Given as goal
+use Rattle.ptlangs.specs.TrReading.{Puts}
+
+abbrev pub invariant-loop-first : goal.invariant-loop-first
+invariant-loop-first l = record {
+  length : l.self.length ≡ l.fn.self.length + length (flat_map range_bytes (take l.first-index l.ranges));
+  puts : Puts l.fn.self l.self (flat_map range_bytes (take l.first-index l.ranges));
+}

@@ -1,0 +1,11 @@
+use Rattle.std.proofs.Common.{◌≡◌, ◌<◌, ◌+◌, ◌-◌}
+use Rattle.std.specs.List.{range_with_len}
+use Rattle.ptlangs.proofs.places.Places.push_range.Given as goal
+use Rattle.ptlangs.specs.TrReading.{Puts}
+
+abbrev pub invariant-loop-byte : goal.invariant-loop-byte
+invariant-loop-byte l = record {
+  length : l.self.length ≡ l.fn.self.length + (l.byte - l.first);
+  puts : Puts l.fn.self l.self (range_with_len l.first (l.byte - l.first));
+  empty : l.last < l.first → l.byte ≡ l.first;
+}

@@ -1,0 +1,29 @@
+use Rattle.std.proofs.Common.{ap, sym, ◌∙◌, Ok}
+use Rattle.ptlangs.specs.declared.places.Places.{Places}
+use Rattle.ptlangs.specs.declared.plan.Form.{Form}
+use Rattle.ptlangs.specs.declared.plan.Form.TheVariants.{Translate, TranslateSqueeze, DeleteSqueeze}
+use Rattle.ptlangs.specs.TrPlan.{array, plan_of}
+use Rattle.ptlangs.specs.TrTables.{tables}
+use Rattle.ptlangs.proofs.TrAnswers.{same_answer}
+use Rattle.ptlangs.proofs.TrTables.{tables_are, is_translate}
+use Rattle.ptlangs.proofs.plan.CharPlan.of_arrays.Goals as goal
+
+pub returns-in-DeleteSqueeze : goal.returns-in-DeleteSqueeze
+returns-in-DeleteSqueeze c = λ bytes ps f e p.
+    let second = array c.args.second.now.fill ps in
+    ap Ok (tables_are (plan_of DeleteSqueeze bytes second) _ _ _ (c.contained.ensures bytes f) c.same.ensures (c.contained-in-DeleteSqueeze.ensures second p)
+    ∙ ap (λ (form : Form). tables (plan_of form bytes second)) (sym c.in-DeleteSqueeze.is))
+
+pub returns-in_ok-images-in-TranslateSqueeze : goal.returns-in_ok-images-in-TranslateSqueeze
+returns-in_ok-images-in-TranslateSqueeze c = λ bytes ps f e p.
+    let second = array c.args.second.now.fill ps in
+    let images = same_answer c.images.result _ _ c.in_ok-images-in-TranslateSqueeze.was (c.images.ensures bytes ps f e (c.len.ensures ∙ ap (λ (q : Places). q.length) p)) in
+    ap Ok (tables_are (plan_of TranslateSqueeze bytes second) _ _ _ c.no_bytes.ensures images (c.contained-in-TranslateSqueeze.ensures second p)
+    ∙ ap (λ (form : Form). tables (plan_of form bytes second)) (sym c.in-TranslateSqueeze.is))
+
+pub returns-in_ok-images-in_default : goal.returns-in_ok-images-in_default
+returns-in_ok-images-in_default c = λ bytes ps f e p.
+    let second = array c.args.second.now.fill ps in
+    let images = same_answer c.images-in_default.result _ _ c.in_ok-images-in_default.was (c.images-in_default.ensures bytes ps f e (c.len-in_default.ensures ∙ ap (λ (q : Places). q.length) p)) in
+    ap Ok (tables_are (plan_of Translate bytes second) _ _ _ c.no_bytes-in_default.ensures images c.no_bytes-in_default-2.ensures
+    ∙ ap (λ (form : Form). tables (plan_of form bytes second)) (sym (is_translate c.args.form c.requires c.in_default.not-DeleteSqueeze c.in_default.not-TranslateSqueeze)))

@@ -1,0 +1,17 @@
+use Rattle.std.proofs.Common.{[], ap, sym, ◌∙◌}
+use Rattle.ptlangs.specs.declared.plan.Form.{Form}
+use Rattle.ptlangs.specs.declared.plan.Form.TheVariants.{Squeeze, Delete}
+use Rattle.ptlangs.specs.TrPlan.{plan_of}
+use Rattle.ptlangs.specs.TrTables.{tables}
+use Rattle.ptlangs.proofs.TrTables.{tables_are, is_squeeze}
+use Rattle.ptlangs.proofs.plan.CharPlan.of_one.Goals as goal
+
+pub returns-in-Delete : goal.returns-in-Delete
+returns-in-Delete c = λ bytes e.
+    tables_are (plan_of Delete bytes []) _ _ _ (c.contained.ensures bytes e) c.same.ensures c.no_bytes.ensures
+    ∙ ap (λ (f : Form). tables (plan_of f bytes [])) (sym c.in-Delete.is)
+
+pub returns-in_default : goal.returns-in_default
+returns-in_default c = λ bytes e.
+    tables_are (plan_of Squeeze bytes []) _ _ _ c.no_bytes-in_default.ensures c.same-in_default.ensures (c.contained-in_default.ensures bytes e)
+    ∙ ap (λ (f : Form). tables (plan_of f bytes [])) (sym (is_squeeze c.args.form c.requires c.in_default.not-Delete))

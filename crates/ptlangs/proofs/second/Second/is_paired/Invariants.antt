@@ -1,0 +1,10 @@
+use Rattle.ptlangs.specs.declared.pieces.Place.TheVariants.{First}
+use Rattle.ptlangs.specs.TrPlan.{collected, pieces_of}
+use Rattle.ptlangs.proofs.TrWalks.{Walked}
+use Rattle.ptlangs.proofs.TrPairs.{Faced}
+use Rattle.ptlangs.proofs.second.Second.is_paired.Given as goal
+use Rattle.ptlangs.specs.TrReading.{pieces_left}
+
+abbrev pub invariant-loop-piece : goal.invariant-loop-piece
+invariant-loop-piece l =
+    Walked (pieces_of l.self.place l.self.text.now) (pieces_left l.piece-iterator) (Faced l.self.fill l.at (collected (pieces_of First l.fn.first)))

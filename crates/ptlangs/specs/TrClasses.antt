@@ -1,0 +1,50 @@
+-- The classes of characters, in the POSIX locale over ASCII.
+use Rattle.std.specs.Prelude.{ℕ, Bool, true, false, ◌+◌, ◌-◌, List, [], ◌∷◌, ◌++◌, Option, codes, bytes_eq}
+use Rattle.std.specs.List.{find, range_with_len}
+use Rattle.std.specs.Option.{option_map}
+use Rattle.ptlangs.specs.declared.classes.CharClass.{CharClass}
+use Rattle.ptlangs.specs.declared.classes.CharClass.TheVariants.{Alnum, Alpha, Blank, Cntrl, Digit, Graph, Lower, Print, Punct, Space, Upper, Xdigit}
+
+-- the bytes from a to b
+abbrev pub span : ℕ → ℕ → List ℕ
+span a b = range_with_len a (b + 1 - a)
+
+-- the same of a pair
+abbrev pub range_bytes : ℕ × ℕ → List ℕ
+range_bytes r = span r.0 r.1
+
+-- all 256 bytes, ascending
+unfoldable pub all_bytes : List ℕ
+all_bytes = span 0 255
+
+-- the bytes of a class, ascending
+abbrev pub class_bytes : CharClass → List ℕ
+class_bytes Alnum = span 48 57 ++ span 65 90 ++ span 97 122
+class_bytes Alpha = span 65 90 ++ span 97 122
+class_bytes Blank = 9 ∷ 32 ∷ []
+class_bytes Cntrl = span 0 31 ++ 127 ∷ []
+class_bytes Digit = span 48 57
+class_bytes Graph = span 33 126
+class_bytes Lower = span 97 122
+class_bytes Print = span 32 126
+class_bytes Punct = span 33 47 ++ span 58 64 ++ span 91 96 ++ span 123 126
+class_bytes Space = span 9 13 ++ 32 ∷ []
+class_bytes Upper = span 65 90
+class_bytes Xdigit = span 48 57 ++ span 65 70 ++ span 97 102
+
+abbrev pub class_names : List (List ℕ × CharClass)
+class_names =
+    (codes "alnum", Alnum) ∷ (codes "alpha", Alpha) ∷ (codes "blank", Blank) ∷ (codes "cntrl", Cntrl)
+    ∷ (codes "digit", Digit) ∷ (codes "graph", Graph) ∷ (codes "lower", Lower) ∷ (codes "print", Print)
+    ∷ (codes "punct", Punct) ∷ (codes "space", Space) ∷ (codes "upper", Upper) ∷ (codes "xdigit", Xdigit)
+    ∷ []
+
+-- the class of this name, if there is one
+abbrev pub class_named : List ℕ → Option CharClass
+class_named name = option_map (λ (c : List ℕ × CharClass). c.1) (find (λ (c : List ℕ × CharClass). bytes_eq name c.0) class_names)
+
+-- whether the two are the lower and the upper case
+abbrev pub are_cases : CharClass → CharClass → Bool
+are_cases Lower Upper = true
+are_cases Upper Lower = true
+are_cases c d = false

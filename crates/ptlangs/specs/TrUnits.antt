@@ -1,0 +1,53 @@
+-- The units of a string of `tr`: plain bytes and escapes.
+use Rattle.std.specs.Prelude.{ℕ, zero, suc, ◌==◌, List, [], ◌∷◌, Bool, if◌then◌else◌, nat_le, take, take_while, length, Result, Ok, Err}
+use Rattle.std.specs.List.{find}
+use Rattle.std.specs.Option.{option_map_or}
+use Rattle.std.specs.Int.{is_in_range}
+use Rattle.std.specs.Str.Parse.{digits_value}
+use Rattle.ptlangs.specs.declared.units.SetUnit.{SetUnit}
+use Rattle.ptlangs.specs.declared.units.SetUnit.TheVariants.{Plain, Escaped, Faulty}
+use Rattle.ptlangs.specs.declared.faults.SetFaultKind.{SetFaultKind}
+use Rattle.ptlangs.specs.declared.faults.SetFaultKind.TheVariants.{Octal, Escape}
+
+-- the byte of a unit, or its fault
+abbrev pub byte_of : SetUnit → Result ℕ SetFaultKind
+byte_of (Plain b) = Ok b
+byte_of (Escaped b) = Ok b
+byte_of (Faulty k) = Err k
+
+abbrev pub is_octal_digit : ℕ → Bool
+is_octal_digit b = is_in_range 48 55 b
+
+-- the escapes by a letter: a, b, f, n, r, t, v
+abbrev pub letters : List (ℕ × ℕ)
+letters = (97, 7) ∷ (98, 8) ∷ (102, 12) ∷ (110, 10) ∷ (114, 13) ∷ (116, 9) ∷ (118, 11) ∷ []
+
+-- the byte that a backslash before c stands for: c itself, unless it is one of the letters
+abbrev pub escaped : ℕ → ℕ
+escaped c = option_map_or (λ (p : ℕ × ℕ). p.1) (find (λ (p : ℕ × ℕ). p.0 == c) letters) c
+
+-- the octal digits behind a backslash: at most three
+abbrev pub octal_run : List ℕ → List ℕ
+octal_run bs = take_while is_octal_digit (take 3 bs)
+
+abbrev pub octal : ℕ → SetUnit
+octal value = if nat_le value 255 then Escaped value else Faulty Octal
+
+-- the unit of a backslash before these bytes, and how many of them it takes
+abbrev pub after_backslash : List ℕ → SetUnit × ℕ
+after_backslash [] = (Faulty Escape, 0)
+after_backslash (c ∷ bs) =
+    if is_octal_digit c then (octal (digits_value 8 (octal_run (c ∷ bs))), length (octal_run (c ∷ bs))) else (Escaped (escaped c), 1)
+
+-- the unit that begins with this byte, and how many further bytes it takes
+abbrev pub unit_at : ℕ → List ℕ → SetUnit × ℕ
+unit_at b bs = if b == 92 then after_backslash bs else (Plain b, 0)
+
+-- the units of the bytes behind the first `skip`
+abbrev pub units_behind : List ℕ → ℕ → List SetUnit
+units_behind [] skip = []
+units_behind (b ∷ bs) zero = (unit_at b bs).0 ∷ units_behind bs (unit_at b bs).1
+units_behind (b ∷ bs) (suc skip) = units_behind bs skip
+
+abbrev pub units : List ℕ → List SetUnit
+units bs = units_behind bs 0

@@ -1,0 +1,123 @@
+//! The classes of characters (POSIX.1-2017, XBD, 7.3.1), in the POSIX locale over ASCII: bytes
+//! above 127 are in no class.
+ghost use Rattle.std.specs.Prelude.{◌≡◌, ◌+◌, ◌<◌, length, slice_get};
+ghost use Rattle.std.specs.List.{flat_map};
+ghost use Rattle.ptlangs.specs.TrClasses.{range_bytes, span, are_cases, class_bytes, class_named};
+
+/// A class of characters.
+#[derive(Clone, Copy, PartialEq, Eq)]
+pub(crate) enum CharClass {
+    Alnum,
+    Alpha,
+    Blank,
+    Cntrl,
+    Digit,
+    Graph,
+    Lower,
+    Print,
+    Punct,
+    Space,
+    Upper,
+    Xdigit,
+}
+
+impl CharClass {
+    /// The class of this name, if there is one.
+    pub(crate) fn named(name: &[u8]) -> Option<CharClass>
+        ensures { result ≡ class_named name.now }
+    {
+        match name {
+            b"alnum" => Some(CharClass::Alnum),
+            b"alpha" => Some(CharClass::Alpha),
+            b"blank" => Some(CharClass::Blank),
+            b"cntrl" => Some(CharClass::Cntrl),
+            b"digit" => Some(CharClass::Digit),
+            b"graph" => Some(CharClass::Graph),
+            b"lower" => Some(CharClass::Lower),
+            b"print" => Some(CharClass::Print),
+            b"punct" => Some(CharClass::Punct),
+            b"space" => Some(CharClass::Space),
+            b"upper" => Some(CharClass::Upper),
+            b"xdigit" => Some(CharClass::Xdigit),
+            _ => None,
+        }
+    }
+
+    /// The bytes of the class, ascending: each pair is a first and a last byte.
+    pub(crate) fn ranges(self) -> &'static [(u8, u8)]
+        ensures { flat_map range_bytes result.now ≡ class_bytes self }
+    {
+        match self {
+            CharClass::Alnum => &[(b'0', b'9'), (b'A', b'Z'), (b'a', b'z')],
+            CharClass::Alpha => &[(b'A', b'Z'), (b'a', b'z')],
+            CharClass::Blank => &[(b'\t', b'\t'), (b' ', b' ')],
+            CharClass::Cntrl => &[(0, 31), (127, 127)],
+            CharClass::Digit => &[(b'0', b'9')],
+            CharClass::Graph => &[(b'!', b'~')],
+            CharClass::Lower => &[(b'a', b'z')],
+            CharClass::Print => &[(b' ', b'~')],
+            CharClass::Punct => &[(b'!', b'/'), (b':', b'@'), (b'[', b'`'), (b'{', b'~')],
+            CharClass::Space => &[(b'\t', b'\r'), (b' ', b' ')],
+            CharClass::Upper => &[(b'A', b'Z')],
+            CharClass::Xdigit => &[(b'0', b'9'), (b'A', b'F'), (b'a', b'f')],
+        }
+    }
+
+    /// Whether the two are the lower and the upper case.
+    pub(crate) fn is_other_case(self, other: CharClass) -> bool
+        ensures { result ≡ are_cases self other }
+    {
+        matches!(
+            (self, other),
+            (CharClass::Lower, CharClass::Upper) | (CharClass::Upper, CharClass::Lower)
+        )
+    }
+
+    /// How many bytes are in the class.
+    pub(crate) fn len(self) -> u128
+        ensures { result ≡ length (class_bytes self) }
+    {
+        let ranges = self.ranges();
+        let mut count = 0;
+        for &(first, last) in ranges {
+            count += span_len(first, last);
+        }
+        count
+    }
+
+    /// The byte at a place of the class, ascending.
+    pub(crate) fn get(self, place: u128) -> Option<u8>
+        ensures { result ≡ slice_get (class_bytes self) place }
+    {
+        let ranges = self.ranges();
+        let mut left = place;
+        for &(first, last) in ranges {
+            let count = span_len(first, last);
+            if left < count {
+                return span_get(first, last, left);
+            }
+            left -= count;
+        }
+        None
+    }
+}
+
+/// How many bytes there are from one to another.
+#[tactic(auto, using(crate::proofs::TrSpans::span_steps))]
+pub(crate) fn span_len(first: u8, last: u8) -> u128
+    ensures { result ≡ length (span first last) }
+{
+    (u128::from(last) + 1).saturating_sub(u128::from(first))
+}
+
+/// The byte at a place of those from one to another.
+#[tactic(auto, using(crate::proofs::TrSpans::span_steps))]
+pub(crate) fn span_get(first: u8, last: u8, place: u128) -> Option<u8>
+    ensures { result ≡ slice_get (span first last) place }
+{
+    if place < span_len(first, last) {
+        Some(first + place as u8)
+    } else {
+        None
+    }
+}

@@ -1,0 +1,50 @@
+//! Why a string of `tr` is refused.
+
+/// Which of the two strings of `tr`.
+#[derive(Debug, Clone, Copy, PartialEq, Eq)]
+pub enum SetString {
+    /// The first operand, `string1`.
+    First,
+    /// The second operand, `string2`.
+    Second,
+}
+
+/// Why a string of `tr` stands for no array of bytes (POSIX.1-2017, XCU, tr, "EXTENDED
+/// DESCRIPTION"). That a string is refused, where the standard leaves its meaning open, is this
+/// project's own choice, and so is which fault counts first: the leftmost, and `ClassPlace` last.
+#[derive(Debug, Clone, Copy, PartialEq, Eq)]
+pub enum SetFaultKind {
+    /// The string is empty. This project's own choice.
+    Empty,
+    /// An octal escape is above 255. This project's own choice.
+    Octal,
+    /// A backslash ends the string. This project's own choice.
+    Escape,
+    /// The first end of a range is above its second. This project's own choice.
+    Descending,
+    /// `[:name:]` names no class of characters.
+    UnknownClass,
+    /// A class stands in a `string2` that translates, and does not face its other case in
+    /// `string1`. That a complement has none to face is this project's own choice.
+    ClassPlace,
+    /// `[=c=]` stands in a `string2` that translates.
+    EquivPlace,
+    /// `[c*n]` stands in `string1`.
+    RepeatPlace,
+    /// The count of `[c*n]` has a digit 8 or 9 behind a leading zero, or is above 65535. This
+    /// project's own choice.
+    RepeatSize,
+    /// A second `[c*]` or `[c*0]` stands in `string2`. This project's own choice.
+    SecondFill,
+    /// Memory ran out. The reading of strings takes none, and never answers this.
+    Memory,
+}
+
+/// Which string of `tr` is refused, and why.
+#[derive(Debug, Clone, Copy, PartialEq, Eq)]
+pub struct SetFault {
+    /// The string that is refused.
+    pub string: SetString,
+    /// Why it is refused.
+    pub kind: SetFaultKind,
+}
