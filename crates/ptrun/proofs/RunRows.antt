@@ -1,6 +1,6 @@
 -- What some whole commands are to write, say and answer, from their words.
 use Rattle.std.proofs.Common.{◌≡◌, ℕ, List, [], ◌∷◌, Some, None, refl, codes, false}
-use Rattle.ptrun.specs.Worlds.{World, Reading}
+use Rattle.ptrun.specs.Worlds.{World}
 use Rattle.ptrun.specs.Asked.{asked}
 
 record Outcome : Type 0 where

@@ -10,6 +10,8 @@ mod faking;
 #[cfg(test)]
 mod reading;
 #[cfg(test)]
+mod refusals;
+#[cfg(test)]
 mod slots;
 #[cfg(test)]
 mod storing;
