@@ -25,11 +25,17 @@ use std::alloc::{AllocError, Allocator, Global};
 /// What words mean: a tool's job, and its inputs.
 #[derive(Drop)]
 pub enum Command<'a, A: Allocator = Global> {
+    /// `cut`, with any number of inputs.
     Cut(CutJob<A>, Inputs<'a, A>),
+    /// `paste`, with one input or more.
     Paste(PasteJob<A>, Inputs<'a, A>),
+    /// `uniq`, with one input, and perhaps a file as its output.
     Uniq(UniqJob, Inputs<'a, A>),
+    /// `comm`, with two inputs, of which one at most is standard input.
     Comm(CommJob, Inputs<'a, A>),
+    /// `join`, with two inputs, of which one at most is standard input.
     Join(JoinJob<A>, Inputs<'a, A>),
+    /// `tr`, which reads standard input. Its strings are not judged here.
     Tr(TrStrings<'a>, Inputs<'a, A>),
 }
 

@@ -3,14 +3,36 @@ use crate::refusing::Refusing;
 use ptlangs::jobs::{CommJob, Show, UniqJob};
 use ptlangs::outlist::{File, OutField};
 use ptlangs::ranges::Interval;
+use std::alloc::Global;
 use std::process::Abort;
 use std::test::Fail;
 
-const REFUSED: &[(&[&str], UseFault)] = &[
+/// Words, and the fault that is found in them.
+type Refused<'a> = (&'a [&'a str], UseFault<'a>);
+
+/// Whether each row's words are refused by its fault.
+fn are_refused<'a>(rt: &impl Abort, alloc: Global, rows: &'a [Refused<'a>]) {
+    for (words, fault) in rows {
+        match Command::read(alloc, words) {
+            Ok(_) => assert!(rt; false, "{words:?} is refused"),
+            Err(found) => assert_eq!(rt; found, *fault, "of {words:?}"),
+        }
+    }
+}
+
+const NO_TOOL: &[Refused] = &[
     (&[], UseFault::Tool),
     (&["cat", "f"], UseFault::Tool),
     (&["Cut", "-b1"], UseFault::Tool),
     (&["", "-b1"], UseFault::Tool),
+];
+
+#[test]
+fn words_of_no_tool(rt: HostRuntime) {
+    are_refused(&rt, rt.alloc(), NO_TOOL);
+}
+
+const REFUSED_CUT: &[Refused] = &[
     (&["cut", "-xb"], UseFault::Unknown("-xb")),
     (&["cut", "-b1", "-sx"], UseFault::Unknown("-sx")),
     (&["cut", "--x"], UseFault::Unknown("--x")),
@@ -64,6 +86,14 @@ const REFUSED: &[(&[&str], UseFault)] = &[
     (&["cut", "-d", "::", "-f1"], UseFault::Value(b'd', "::")),
     (&["cut", "-d", "é", "-f1"], UseFault::Value(b'd', "é")),
     (&["cut", "-f1", "-d", "\n"], UseFault::Value(b'd', "\n")),
+];
+
+#[test]
+fn the_first_fault_of_cut(rt: HostRuntime) {
+    are_refused(&rt, rt.alloc(), REFUSED_CUT);
+}
+
+const REFUSED_PASTE: &[Refused] = &[
     (&["paste", "-sz", "f"], UseFault::Unknown("-sz")),
     (&["paste", "-d"], UseFault::NeedsValue(b'd')),
     (&["paste", "-d,", "-d;", "f"], UseFault::Twice(b'd')),
@@ -73,6 +103,14 @@ const REFUSED: &[(&[&str], UseFault)] = &[
     (&["paste", "-sd", ""], UseFault::Value(b'd', "")),
     (&["paste"], UseFault::Operands),
     (&["paste", "-s", "--"], UseFault::Operands),
+];
+
+#[test]
+fn the_first_fault_of_paste(rt: HostRuntime) {
+    are_refused(&rt, rt.alloc(), REFUSED_PASTE);
+}
+
+const REFUSED_UNIQ: &[Refused] = &[
     (&["uniq", "-1"], UseFault::Unknown("-1")),
     (&["uniq", "-f"], UseFault::NeedsValue(b'f')),
     (&["uniq", "-s", "1", "-s1"], UseFault::Twice(b's')),
@@ -90,11 +128,27 @@ const REFUSED: &[(&[&str], UseFault)] = &[
     (&["uniq", "-sx", "-fy"], UseFault::Value(b'f', "y")),
     (&["uniq", "-sx", "a", "b", "c"], UseFault::Value(b's', "x")),
     (&["uniq", "--", "-c", "a", "b"], UseFault::Operands),
+];
+
+#[test]
+fn the_first_fault_of_uniq(rt: HostRuntime) {
+    are_refused(&rt, rt.alloc(), REFUSED_UNIQ);
+}
+
+const REFUSED_COMM: &[Refused] = &[
     (&["comm", "-4", "f", "g"], UseFault::Unknown("-4")),
     (&["comm", "f"], UseFault::Operands),
     (&["comm", "-", "-", "-"], UseFault::Operands),
     (&["comm", "-", "-"], UseFault::StandardTwice),
     (&["comm", "-12", "--", "-", "-"], UseFault::StandardTwice),
+];
+
+#[test]
+fn the_first_fault_of_comm(rt: HostRuntime) {
+    are_refused(&rt, rt.alloc(), REFUSED_COMM);
+}
+
+const REFUSED_JOIN: &[Refused] = &[
     (&["join", "-i", "f", "g"], UseFault::Unknown("-i")),
     (&["join", "-a1", "-a"], UseFault::NeedsValue(b'a')),
     (&["join", "-12", "-1", "2", "f", "g"], UseFault::Twice(b'1')),
@@ -140,6 +194,14 @@ const REFUSED: &[(&[&str], UseFault)] = &[
     (&["join", "f"], UseFault::Operands),
     (&["join", "f", "g", "h"], UseFault::Operands),
     (&["join", "-v1", "-", "-"], UseFault::StandardTwice),
+];
+
+#[test]
+fn the_first_fault_of_join(rt: HostRuntime) {
+    are_refused(&rt, rt.alloc(), REFUSED_JOIN);
+}
+
+const REFUSED_TR: &[Refused] = &[
     (&["tr", "-z", "a", "b"], UseFault::Unknown("-z")),
     (&["tr", "-cC", "a", "b"], UseFault::Together(b'c', b'C')),
     (&["tr", "-Ccd"], UseFault::Together(b'c', b'C')),
@@ -153,13 +215,8 @@ const REFUSED: &[(&[&str], UseFault)] = &[
 ];
 
 #[test]
-fn the_first_fault_is_answered(rt: HostRuntime) {
-    for (words, fault) in REFUSED {
-        match Command::read(rt.alloc(), words) {
-            Ok(_) => assert!(rt; false, "{words:?} is refused"),
-            Err(found) => assert_eq!(rt; found, *fault, "of {words:?}"),
-        }
-    }
+fn the_first_fault_of_tr(rt: HostRuntime) {
+    are_refused(&rt, rt.alloc(), REFUSED_TR);
 }
 
 struct Cut {
@@ -586,11 +643,11 @@ fn the_words_of_tr(rt: HostRuntime) -> Result<(), Fail> {
 }
 
 /// How many growths of reading these words can be refused, each in turn.
-fn growths(rt: &(impl Abort + Alloc), words: &[&str], names: &[&str]) -> u64 {
+fn growths<'a>(rt: &impl Abort, alloc: Global, words: &'a [&'a str], names: &[&str]) -> u64 {
     let mut refused = 0u64;
     for passed in 0..16u64 {
-        let alloc = Refusing::after(rt.alloc(), passed);
-        match Command::read(&alloc, words) {
+        let refusing = Refusing::after(alloc, passed);
+        match Command::read(&refusing, words) {
             Ok(command) => assert_eq!(rt; command.names(), names),
             Err(fault) => {
                 assert_eq!(rt; (fault, refused), (UseFault::Memory, passed));
@@ -604,13 +661,19 @@ fn growths(rt: &(impl Abort + Alloc), words: &[&str], names: &[&str]) -> u64 {
 #[test]
 fn each_growth_refused_in_turn(rt: HostRuntime) {
     let cut = ["cut", "-s", "-d,", "-f", "1,3", "f", "-", "g"];
-    assert_eq!(rt; growths(&rt, &cut, &["f", "g"]), 5);
+    assert_eq!(rt; growths(&rt, rt.alloc(), &cut, &["f", "g"]), 5);
     let paste = ["paste", "-s", "-d,;", "f", "-"];
-    assert_eq!(rt; growths(&rt, &paste, &["f"]), 4);
-    assert_eq!(rt; growths(&rt, &["paste", "f"], &["f"]), 3);
-    assert_eq!(rt; growths(&rt, &["uniq", "-c", "f", "out"], &["f"]), 3);
-    assert_eq!(rt; growths(&rt, &["comm", "-1", "f", "g"], &["f", "g"]), 3);
+    assert_eq!(rt; growths(&rt, rt.alloc(), &paste, &["f"]), 4);
+    assert_eq!(rt; growths(&rt, rt.alloc(), &["paste", "f"], &["f"]), 3);
+    assert_eq!(rt;
+        growths(&rt, rt.alloc(), &["uniq", "-c", "f", "out"], &["f"]),
+        3
+    );
+    assert_eq!(rt;
+        growths(&rt, rt.alloc(), &["comm", "-1", "f", "g"], &["f", "g"]),
+        3
+    );
     let join = ["join", "-o", "0", "-ex", "f", "-"];
-    assert_eq!(rt; growths(&rt, &join, &["f"]), 5);
-    assert_eq!(rt; growths(&rt, &["tr", "-d", "a"], &[]), 2);
+    assert_eq!(rt; growths(&rt, rt.alloc(), &join, &["f"]), 5);
+    assert_eq!(rt; growths(&rt, rt.alloc(), &["tr", "-d", "a"], &[]), 2);
 }

@@ -16,7 +16,9 @@ pub struct TrStrings<'a> {
     pub squeezes: bool,
     /// Whether the first string stands for the bytes that are not in it (`-c`, `-C`).
     pub complement: bool,
+    /// The first operand.
     pub string1: &'a str,
+    /// The second operand, if there is one.
     pub string2: Option<&'a str>,
 }
 
