@@ -1,16 +1,15 @@
 -- The lists that are accepted are those of the grammar.
-use Rattle.std.proofs.Common.{◌≡◌, ℕ, Bool, true, false, ◌||◌, ◌&&◌, ltb, eqb, cond, List, [], ◌∷◌, ◌++◌, get_or, Some, None, Result, Ok, Err, refl, sym, ◌∙◌, ap, subst, arith}
+use Rattle.std.proofs.Common.{◌≡◌, ℕ, Bool, true, false, ◌||◌, ◌&&◌, ltb, eqb, cond, List, [], ◌∷◌, ◌++◌, Some, None, Ok, refl, sym, ◌∙◌, ap, subst, arith}
 use Rattle.std.specs.Char.{is_ascii_digit}
-use Rattle.std.specs.List.{All, slice_split, onto_first}
+use Rattle.std.specs.List.{All, slice_split}
 use Rattle.std.proofs.lemmas.Bool.{le-ltb, ne_eqb, or_from, cond-true, and_parts, eqb-true}
 use Rattle.std.proofs.lemmas.Bool.Decides.{nat_tests}
-use Rattle.std.proofs.lemmas.List.Sums.{AllPass-from_list_all}
 use Rattle.std.proofs.lemmas.List.Elements.{All-cons, All-append}
-use Rattle.std.proofs.lemmas.List.Splits.{slice_split_none, slice_split_at}
+use Rattle.std.proofs.lemmas.List.Splits.{slice_split_at}
 use Rattle.ptlangs.proofs.ListGrammar.{digits_fail, digit_no_separator, IsSplit, Whole, Cut, splits, Accepts, from_grammar, to_grammar}
 use Rattle.ptlangs.proofs.CutElements.{said_behind_dash, end_is_one_piece}
 use Rattle.ptlangs.proofs.Reading.{judged_proper}
-use Rattle.ptlangs.specs.CutLists.{ListFault, IsProper, IsElement, One, FromTo, UpTo, From, IsProperElement, ends, said, judged, is_dash, element, AcceptsTheGrammar}
+use Rattle.ptlangs.specs.CutLists.{IsProper, IsElement, One, FromTo, UpTo, From, IsProperElement, ends, said, judged, is_dash, element, AcceptsTheGrammar}
 use Rattle.ptlangs.specs.Numbers.{greatest, is_nothing, is_number, value, is_separator}
 use Rattle.ptlangs.specs.declared.ranges.Interval.{Interval}
 

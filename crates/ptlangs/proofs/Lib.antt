@@ -7,4 +7,6 @@ pub mod DelimListRows
 pub mod Elements
 pub mod ListGrammar
 pub mod Merging
+pub mod OutGrammar
+pub mod OutListRows
 pub mod Reading

@@ -1,7 +1,14 @@
 -- What the tools are told by their options.
-use Rattle.std.specs.Prelude.{ℕ, Bool}
+use Rattle.std.specs.Prelude.{ℕ, List, [], ◌∷◌, Bool, true, false, Option, Some, None, slice_index, slice_index_or}
 use Rattle.ptlangs.specs.CutLists.{is_selected}
 use Rattle.ptlangs.specs.declared.jobs.CutJob.{CutJob}
+use Rattle.ptlangs.specs.declared.jobs.PasteJob.{PasteJob}
+use Rattle.ptlangs.specs.declared.jobs.Show.{Show}
+use Rattle.ptlangs.specs.declared.jobs.Show.TheVariants.{All}
+use Rattle.ptlangs.specs.declared.jobs.UniqJob.{UniqJob}
+use Rattle.ptlangs.specs.declared.jobs.CommJob.{CommJob}
+use Rattle.ptlangs.specs.declared.jobs.JoinJob.{JoinJob}
+use Rattle.ptlangs.specs.declared.outlist.OutField.{OutField}
 
 -- what `cut` is told
 pub record Cut : Type 0 where
@@ -15,3 +22,77 @@ pub record Cut : Type 0 where
 
 abbrev pub cut_job : {A : Type 0} → CutJob A → Cut
 cut_job job = record { fields = job.fields; selected = is_selected job.list; delimiter = job.delim; only = job.only }
+
+-- what `paste` is told
+pub record Paste : Type 0 where
+  -- the lines of one file in a row
+  pub serial : Bool
+  -- used in turn: a byte, or nothing
+  pub delimiters : List (Option ℕ)
+
+abbrev pub paste_job : {A : Type 0} → PasteJob A → Paste
+paste_job job = record { serial = job.serial; delimiters = job.delims }
+
+-- one line of each file in a row, with tabs
+abbrev pub default_paste : Paste
+default_paste = record { serial = false; delimiters = Some 9 ∷ [] }
+
+-- what `uniq` is told
+pub record Uniq : Type 0 where
+  pub show : Show
+  -- how many fields, and then how many bytes, are not compared
+  pub fields : ℕ
+  pub chars : ℕ
+
+abbrev pub uniq_job : UniqJob → Uniq
+uniq_job job = record { show = job.show; fields = job.fields; chars = job.chars }
+
+-- one of each run of equal lines
+abbrev pub default_uniq : Uniq
+default_uniq = record { show = All; fields = 0; chars = 0 }
+
+-- what `comm` is told: the columns that are left out
+pub record Comm : Type 0 where
+  pub hide1 : Bool
+  pub hide2 : Bool
+  pub hide3 : Bool
+
+abbrev pub comm_job : CommJob → Comm
+comm_job job = record { hide1 = slice_index_or job.hide 0 false; hide2 = slice_index_or job.hide 1 false; hide3 = slice_index_or job.hide 2 false }
+
+-- all three columns
+abbrev pub default_comm : Comm
+default_comm = record { hide1 = false; hide2 = false; hide3 = false }
+
+-- what `join` is told
+pub record Join : Type 0 where
+  -- pairs of lines are written
+  pub pairs : Bool
+  -- lines of the file that pair with none are written
+  pub unpaired1 : Bool
+  pub unpaired2 : Bool
+  -- stands for an empty field that the output list names
+  pub empty : List ℕ
+  -- the fields that are written, or none for the join field and then the others
+  pub list : Option (List OutField)
+  -- the byte between fields, or none for blanks
+  pub separator : Option ℕ
+  -- the number of the join field, counted from 1
+  pub field1 : ℕ
+  pub field2 : ℕ
+
+abbrev pub join_job : {A : Type 0} → JoinJob A → Join
+join_job job = record {
+  pairs = job.pairs;
+  unpaired1 = slice_index_or job.unpaired 0 false;
+  unpaired2 = slice_index_or job.unpaired 1 false;
+  empty = job.empty.items;
+  list = job.list;
+  separator = job.sep;
+  field1 = slice_index job.field 0;
+  field2 = slice_index job.field 1;
+}
+
+-- the pairs of lines with equal first fields
+abbrev pub default_join : Join
+default_join = record { pairs = true; unpaired1 = false; unpaired2 = false; empty = []; list = None; separator = None; field1 = 1; field2 = 1 }

@@ -3,3 +3,4 @@ pub mod CutLists
 pub mod DelimLists
 pub mod Jobs
 pub mod Numbers
+pub mod OutLists

@@ -1,7 +1,11 @@
 //! What each tool is told by its options, with its defaults.
+ghost use Rattle.std.specs.Prelude.{◌≡◌, IfOk};
+ghost use Rattle.ptlangs.specs.Jobs.{paste_job, default_paste, join_job, default_join};
 
+use crate::delims::Delims;
+use crate::outlist::OutList;
 use crate::ranges::Ranges;
-use std::alloc::{Allocator, Global};
+use std::alloc::{AllocError, Allocator, Global};
 
 /// What `cut` is to do.
 #[derive(Drop)]
@@ -14,4 +18,162 @@ pub struct CutJob<A: Allocator = Global> {
     pub delim: u8,
     /// Whether a line without the delimiter is dropped (`-s`), and not passed on.
     pub only: bool,
+}
+
+/// What `paste` is to do.
+#[derive(Drop)]
+pub struct PasteJob<A: Allocator = Global> {
+    /// Whether the lines of one file at a time are put in a row (`-s`), and not one line of each.
+    pub serial: bool,
+    /// What stands between the columns (`-d`). The default is a tab.
+    pub delims: Delims<A>,
+}
+
+impl<A: Allocator> PasteJob<A> {
+    /// The job without options: lines side by side, with a tab between them.
+    ///
+    /// # Errors
+    ///
+    /// A growth of memory was refused.
+    pub fn new(alloc: A) -> Result<PasteJob<A>, AllocError>
+        ensures { IfOk result (λ job. paste_job job ≡ default_paste) }
+    {
+        Ok(PasteJob {
+            serial: false,
+            delims: Delims::tab(alloc)?,
+        })
+    }
+}
+
+/// Which lines `uniq` writes.
+#[derive(Clone, Copy, Debug, PartialEq, Eq)]
+pub enum Show {
+    /// One line of each run of equal ones.
+    All,
+    /// The same, with the length of the run before it (`-c`).
+    Counts,
+    /// Only those of runs of two lines or more (`-d`).
+    Repeated,
+    /// Only lines that stand alone (`-u`).
+    Single,
+}
+
+/// What `uniq` is to do.
+#[derive(Clone, Copy, Debug, PartialEq, Eq)]
+pub struct UniqJob {
+    /// Which lines are written.
+    pub show: Show,
+    /// How many fields are passed over before lines are compared (`-f`). The default is 0.
+    pub fields: u64,
+    /// How many bytes are passed over behind these fields (`-s`). The default is 0.
+    pub chars: u64,
+}
+
+impl Default for UniqJob {
+    ghost use Rattle.std.specs.Prelude.{◌≡◌};
+    ghost use Rattle.ptlangs.specs.Jobs.{uniq_job, default_uniq};
+
+    ghost is_default = { λ job. uniq_job job ≡ default_uniq };
+
+    fn default() -> UniqJob {
+        UniqJob {
+            show: Show::All,
+            fields: 0,
+            chars: 0,
+        }
+    }
+}
+
+/// What `comm` is to do.
+#[derive(Clone, Copy, Debug, PartialEq, Eq)]
+pub struct CommJob {
+    /// For each of the three columns, whether it is left out (`-1`, `-2`, `-3`). By default none is.
+    pub hide: [bool; 3],
+}
+
+impl Default for CommJob {
+    ghost use Rattle.std.specs.Prelude.{◌≡◌};
+    ghost use Rattle.ptlangs.specs.Jobs.{comm_job, default_comm};
+
+    ghost is_default = { λ job. comm_job job ≡ default_comm };
+
+    fn default() -> CommJob {
+        CommJob { hide: [false; 3] }
+    }
+}
+
+/// What `join` is to do.
+#[derive(Drop)]
+pub struct JoinJob<A: Allocator = Global> {
+    /// Whether the pairs of lines with equal join fields are written. By default they are; `-v`
+    /// leaves them out.
+    pub pairs: bool,
+    /// For each of the two files, whether its lines that pair with none are written (`-a`, `-v`).
+    /// By default they are not.
+    pub unpaired: [bool; 2],
+    /// What stands for an empty field that the output list names (`-e`). The default is nothing.
+    pub empty: Vec<u8, A>,
+    /// Which fields are written (`-o`), or `None` for the join field and then the others.
+    pub list: Option<OutList<A>>,
+    /// The byte between fields (`-t`), or `None` for blanks between them, and a space in the output.
+    pub sep: Option<u8>,
+    /// The number of the join field in each of the two files (`-1`, `-2`). The default is 1.
+    pub field: [u64; 2],
+}
+
+impl<A: Allocator> JoinJob<A> {
+    /// The job without options: the pairs of lines with equal first fields.
+    pub fn new(alloc: A) -> JoinJob<A>
+        ensures { join_job result ≡ default_join }
+    {
+        JoinJob {
+            pairs: true,
+            unpaired: [false; 2],
+            empty: Vec::new(alloc),
+            list: None,
+            sep: None,
+            field: [1; 2],
+        }
+    }
+}
+
+#[cfg(test)]
+mod tests {
+    use super::*;
+    use crate::refusing::Refusing;
+    use std::test::Fail;
+
+    #[test]
+    fn pastes_with_tabs_by_default(rt: HostRuntime) -> Result<(), Fail> {
+        let job = PasteJob::new(rt.alloc())?;
+        assert!(rt; !job.serial);
+        assert_eq!(rt; job.delims.at(1), Some(b'\t'));
+        Ok(())
+    }
+
+    #[test]
+    fn the_default_of_paste_refused(rt: HostRuntime) {
+        let alloc = Refusing::after(rt.alloc(), 0);
+        assert!(rt; PasteJob::new(&alloc).is_err());
+    }
+
+    #[test]
+    fn joins_pairs_by_their_first_fields_by_default(rt: HostRuntime) {
+        let job = JoinJob::new(rt.alloc());
+        assert!(rt; job.pairs);
+        assert_eq!(rt; job.unpaired, [false, false]);
+        assert!(rt; job.empty.is_empty());
+        assert!(rt; job.list.is_none());
+        assert_eq!(rt; job.sep, None);
+        assert_eq!(rt; job.field, [1, 1]);
+    }
+
+    #[test]
+    fn shows_all_by_default(rt: HostRuntime) {
+        let job = UniqJob::default();
+        assert_eq!(rt; job.show, Show::All);
+        assert_eq!(rt; job.fields, 0);
+        assert_eq!(rt; job.chars, 0);
+        assert_eq!(rt; CommJob::default().hide, [false, false, false]);
+    }
 }

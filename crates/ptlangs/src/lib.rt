@@ -5,6 +5,7 @@
 pub mod delims;
 pub mod jobs;
 pub mod numbers;
+pub mod outlist;
 pub mod ranges;
 #[cfg(test)]
 mod refusing;

@@ -1,0 +1,40 @@
+//! The program: `ptext TOOL WORDS...` over the standard streams and real files.
+#![tactic(auto)]
+
+mod performing;
+
+use performing::{perform, report_no_memory};
+use ptlines::{FromRead, FromWrite};
+use ptrun::Report;
+use std::alloc::{AllocError, Allocator, Global};
+use std::process::ExitCode;
+use std::{env, io};
+
+fn main(rt: HostRuntime) -> ExitCode {
+    let standard = FromRead::new(rt.stdin());
+    let out = FromWrite::new(rt.stdout());
+    let messages = FromWrite::new(rt.stderr());
+    let report = match command_words(&rt) {
+        Ok(args) => match borrowed(rt.alloc(), &args) {
+            Ok(words) => perform(&rt, rt.alloc(), &words, standard, out, messages),
+            Err(_) => report_no_memory(out, messages),
+        },
+        Err(error) if error.kind() == io::ErrorKind::OutOfMemory => report_no_memory(out, messages),
+        // A word that is no text leaves the command with none.
+        Err(_) => perform(&rt, rt.alloc(), &[], standard, out, messages),
+    };
+    ExitCode::from(report.status)
+}
+
+// The words behind the program's own name.
+fn command_words(rt: &HostRuntime) -> io::Result<Vec<String>> {
+    Ok(env::args(rt)?.skip(1).collect(rt.alloc())?)
+}
+
+fn borrowed<A: Allocator + Copy>(alloc: A, args: &[String]) -> Result<Vec<&str, A>, AllocError> {
+    let mut words = Vec::new(alloc);
+    for arg in args {
+        words.push(arg.as_str())?;
+    }
+    Ok(words)
+}

@@ -1,0 +1,93 @@
+//! A command over real files.
+
+ghost use Rattle.std.specs.Prelude.{◌≡◌, ◌+◌, false, length, All, IfOk, vec_len};
+ghost use Rattle.ptlines.specs.Readers.{Reader};
+ghost use Rattle.ptrun.specs.Asked.{count_of};
+ghost use Rattle.ptrun.specs.Worlds.{IsFresh};
+
+use ptlines::{FromRead, LineReader, Sink, Source};
+use ptopts::{Command, UseFault};
+use ptrun::{Report, run, say};
+use std::alloc::{AllocError, Allocator};
+use std::fs::{self, Files};
+
+/// Runs the command of these words: opens the files that it names, in order, before anything is read, and hands
+/// the report of the run back. A file that cannot be opened is named by the run when its turn comes.
+/// The source has neither ended nor failed, and neither sink has failed.
+pub fn perform<'a, R: Files, A: Allocator + Copy, S: Source, W: Sink, E: Sink>(
+    rt: &R,
+    alloc: A,
+    words: &'a [&'a str],
+    standard: S,
+    out: W,
+    messages: E,
+) -> Report<W, E>
+    requires unended { (S.state standard).ended ≡ false }
+    requires unfailed { (S.state standard).failed ≡ false }
+    requires writable { (W.state out).failed ≡ false }
+    requires heard { (E.state messages).failed ≡ false }
+{
+    let command = Command::read(alloc, words);
+    match inputs_of(rt, alloc, &command, standard) {
+        Ok(mut inputs) => run(alloc, command, words, &mut inputs, out, messages),
+        Err(_) => report_no_memory(out, messages),
+    }
+}
+
+// The readers of the inputs of a command; standard input alone where the words were refused.
+fn inputs_of<R: Files, A: Allocator + Copy, S: Source>(
+    rt: &R,
+    alloc: A,
+    command: &Result<Command<'_, A>, UseFault<'_>>,
+    standard: S,
+) -> Result<Vec<LineReader<S, FromRead<R::File>>, A>, AllocError>
+    requires unended { (S.state standard).ended ≡ false }
+    requires unfailed { (S.state standard).failed ≡ false }
+    ensures count { IfOk result (λ inputs. vec_len inputs ≡ count_of command.now + 1) }
+    ensures fresh { IfOk result (λ inputs. All IsFresh inputs.items) }
+{
+    match command {
+        Ok(command) => open_inputs(rt, alloc, command.names(), standard),
+        Err(_) => open_inputs(rt, alloc, &[], standard),
+    }
+}
+
+// Standard input, and then a reader for each of these files, opened or refused.
+fn open_inputs<R: Files, A: Allocator + Copy, S: Source>(
+    rt: &R,
+    alloc: A,
+    names: &[&str],
+    standard: S,
+) -> Result<Vec<LineReader<S, FromRead<R::File>>, A>, AllocError>
+    requires unended { (S.state standard).ended ≡ false }
+    requires unfailed { (S.state standard).failed ≡ false }
+    ensures count { IfOk result (λ inputs. vec_len inputs ≡ length names.now + 1) }
+    ensures fresh { IfOk result (λ inputs. All IsFresh inputs.items) }
+{
+    let mut inputs = Vec::new(alloc);
+    inputs.push(LineReader::standard(standard))?;
+    for name in names {
+        let reader = match fs::open(rt, *name) {
+            Ok(file) => LineReader::file(FromRead::new(file)),
+            Err(_) => LineReader::refused(),
+        };
+        inputs.push(reader)?;
+    }
+    Ok(inputs)
+}
+
+/// Says that memory for the program's own lists was refused, and reports status 1.
+pub fn report_no_memory<W: Sink, E: Sink>(out: W, messages: E) -> Report<W, E>
+    requires { (E.state messages).failed ≡ false }
+    ensures { result.status ≡ 1 }
+{
+    let mut messages = messages;
+    let _ = say(&mut messages, &["ptext: out of memory"]);
+    Report {
+        status: 1,
+        peak: 0,
+        denied: false,
+        out,
+        messages,
+    }
+}

@@ -1,0 +1,3 @@
+pub mod Calls
+pub mod Feeds
+pub mod Keeps

@@ -1,0 +1,11 @@
+use Rattle.std.proofs.Common.{◌≡◌, length}
+use Rattle.ptlangs.specs.Numbers.{elements, each}
+use Rattle.ptlangs.specs.OutLists.{element, out_list}
+use Rattle.ptlangs.proofs.Elements.{behind}
+use Rattle.ptlangs.proofs.outlist.OutList.read.Given as goal
+
+abbrev pub invariant-loop-kept : goal.invariant-loop-kept
+invariant-loop-kept g l = out_list l.text ≡ behind l.kept.items (each element (elements l.left))
+
+abbrev pub decreases-loop-kept : goal.decreases-loop-kept
+decreases-loop-kept g l = length l.left

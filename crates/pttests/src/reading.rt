@@ -1,0 +1,408 @@
+//! Lines and blocks of a source in pieces.
+
+use crate::texts::{is_line, lines_of, text_of};
+use ptfakes::{Pieces, Refusing, Repeated, Watched};
+use ptlines::{LineFault, LineReader, Source, Store};
+use std::alloc::{Allocator, Global};
+use std::cell::Cell;
+use std::process::Abort;
+use std::test::Fail;
+
+type Reader<'a> = LineReader<Watched<'a, Pieces<'a>>, Pieces<'a>>;
+
+// The next line, in the one slot of the store.
+fn next<S: Source, R: Source, A: Allocator + Copy>(
+    rt: &impl Abort,
+    reader: &mut LineReader<S, R>,
+    store: &mut Store<A>,
+) -> Result<bool, LineFault> {
+    assert!(rt; store.slots() == 1);
+    reader.fill(store, 0)
+}
+
+fn current<'a, A: Allocator + Copy>(rt: &impl Abort, store: &'a Store<A>) -> &'a [u8] {
+    assert!(rt; store.slots() == 1);
+    store.line(0)
+}
+
+// How many bytes the block shows.
+fn shows<S: Source, R: Source>(reader: &mut LineReader<S, R>) -> Result<usize, LineFault> {
+    Ok(reader.block()?.len())
+}
+
+const LENGTHS: &[&[usize]] = &[
+    &[],
+    &[0],
+    &[1],
+    &[8191],
+    &[8192],
+    &[8193],
+    &[20000],
+    &[0, 0, 0],
+    &[0, 1, 8191, 8192, 8193, 20000],
+    &[20000, 8193, 8192, 8191, 1, 0],
+];
+
+const SIZES: &[usize] = &[1, 7, usize::MAX];
+
+// Reads the lines of a text in pieces of a size, and then its end, twice.
+fn reads(
+    rt: &impl Abort,
+    alloc: Global,
+    lengths: &[usize],
+    size: usize,
+    ended: bool,
+    zero: bool,
+) -> Result<(), Fail> {
+    let text = text_of(alloc, lengths, if zero { 0 } else { b'\n' }, ended)?;
+    let pulls = Cell::new(0);
+    let source = Watched::new(Pieces::new(&text, size, u64::MAX), &pulls);
+    let mut reader: Reader<'_> = LineReader::standard(source);
+    if zero {
+        reader.set_ending(true);
+    }
+    let mut store = Store::new(alloc, 1)?;
+    for length in lines_of(lengths, ended) {
+        assert_eq!(rt;
+            next(rt, &mut reader, &mut store),
+            Ok(true),
+            "{length} by {size}"
+        );
+        assert!(rt; is_line(current(rt, &store), *length), "{length} by {size}");
+    }
+    // One pull for each piece, and one for the end.
+    let all = text.len().div_ceil(size.clamp(1, 8192)) as u64 + 1;
+    for _ in 0..2 {
+        assert_eq!(rt; next(rt, &mut reader, &mut store), Ok(false), "by {size}");
+        assert_eq!(rt; current(rt, &store).len(), 0);
+        assert_eq!(rt; pulls.get(), all, "by {size}");
+    }
+    Ok(())
+}
+
+#[test]
+fn lines_in_pieces(rt: HostRuntime) -> Result<(), Fail> {
+    for lengths in LENGTHS {
+        for size in SIZES {
+            reads(&rt, rt.alloc(), lengths, *size, true, false)?;
+            reads(&rt, rt.alloc(), lengths, *size, false, false)?;
+            reads(&rt, rt.alloc(), lengths, *size, true, true)?;
+            reads(&rt, rt.alloc(), lengths, *size, false, true)?;
+        }
+    }
+    Ok(())
+}
+
+struct Text {
+    text: &'static [u8],
+    zero: bool,
+    lines: &'static [&'static [u8]],
+}
+
+const TEXTS: &[Text] = &[
+    Text {
+        text: b"",
+        zero: false,
+        lines: &[],
+    },
+    Text {
+        text: b"",
+        zero: true,
+        lines: &[],
+    },
+    Text {
+        text: b"\n",
+        zero: false,
+        lines: &[b""],
+    },
+    Text {
+        text: b"\n",
+        zero: true,
+        lines: &[b"\n"],
+    },
+    Text {
+        text: b"\0",
+        zero: true,
+        lines: &[b""],
+    },
+    Text {
+        text: b"\0",
+        zero: false,
+        lines: &[b"\0"],
+    },
+    Text {
+        text: b"a\0b\n\0\n",
+        zero: false,
+        lines: &[b"a\0b", b"\0"],
+    },
+    Text {
+        text: b"a\0b\n\0\n",
+        zero: true,
+        lines: &[b"a", b"b\n", b"\n"],
+    },
+    Text {
+        text: b"a\nb\0\n",
+        zero: false,
+        lines: &[b"a", b"b\0"],
+    },
+    Text {
+        text: b"\n\nx",
+        zero: false,
+        lines: &[b"", b"", b"x"],
+    },
+    Text {
+        text: b"\xff\x80\r\n\x0b",
+        zero: false,
+        lines: &[b"\xff\x80\r", b"\x0b"],
+    },
+];
+
+fn reads_text(rt: &impl Abort, alloc: Global, row: &Text, size: usize) -> Result<(), Fail> {
+    let source = Pieces::new(row.text, size, u64::MAX);
+    let mut reader: LineReader<Pieces<'_>, Pieces<'_>> = LineReader::file(source);
+    assert!(rt; !reader.is_refused());
+    reader.set_ending(row.zero);
+    let mut store = Store::new(alloc, 1)?;
+    for line in row.lines {
+        assert_eq!(rt; next(rt, &mut reader, &mut store), Ok(true));
+        assert_eq!(rt; current(rt, &store), *line);
+    }
+    assert_eq!(rt; next(rt, &mut reader, &mut store), Ok(false));
+    assert_eq!(rt; current(rt, &store).len(), 0);
+    Ok(())
+}
+
+#[test]
+fn bytes_in_lines(rt: HostRuntime) -> Result<(), Fail> {
+    for row in TEXTS {
+        for size in SIZES {
+            reads_text(&rt, rt.alloc(), row, *size)?;
+        }
+    }
+    Ok(())
+}
+
+#[test]
+fn the_ending_is_set_and_set_back(rt: HostRuntime) -> Result<(), Fail> {
+    let source = Pieces::whole(b"a\nb\0c\nd\0\n");
+    let mut reader: LineReader<Pieces<'_>, Pieces<'_>> = LineReader::standard(source);
+    let mut store = Store::new(rt.alloc(), 1)?;
+    assert_eq!(rt; next(&rt, &mut reader, &mut store), Ok(true));
+    assert_eq!(rt; current(&rt, &store), b"a".as_slice());
+    reader.set_ending(true);
+    assert_eq!(rt; next(&rt, &mut reader, &mut store), Ok(true));
+    assert_eq!(rt; current(&rt, &store), b"b".as_slice());
+    reader.set_ending(false);
+    assert_eq!(rt; next(&rt, &mut reader, &mut store), Ok(true));
+    assert_eq!(rt; current(&rt, &store), b"c".as_slice());
+    assert_eq!(rt; next(&rt, &mut reader, &mut store), Ok(true));
+    assert_eq!(rt; current(&rt, &store), b"d\0".as_slice());
+    assert_eq!(rt; next(&rt, &mut reader, &mut store), Ok(false));
+    Ok(())
+}
+
+#[test]
+fn a_line_is_given_at_its_end(rt: HostRuntime) -> Result<(), Fail> {
+    let pulls = Cell::new(0);
+    let source = Watched::new(Pieces::new(b"ab\n\ncd", 1, u64::MAX), &pulls);
+    let mut reader: Reader<'_> = LineReader::standard(source);
+    let mut store = Store::new(rt.alloc(), 1)?;
+    for (line, pulled) in [(b"ab".as_slice(), 3), (b"", 4), (b"cd", 7)] {
+        assert_eq!(rt; next(&rt, &mut reader, &mut store), Ok(true));
+        assert_eq!(rt; current(&rt, &store), line);
+        assert_eq!(rt; pulls.get(), pulled);
+    }
+    Ok(())
+}
+
+struct Failing {
+    passing: u64,
+    lines: &'static [&'static [u8]],
+    beginning: &'static [u8],
+}
+
+// "ab\ncd\nef" comes in four pieces of two bytes; the fifth pull is the end.
+const FAILING: &[Failing] = &[
+    Failing {
+        passing: 0,
+        lines: &[],
+        beginning: b"",
+    },
+    Failing {
+        passing: 1,
+        lines: &[],
+        beginning: b"ab",
+    },
+    Failing {
+        passing: 2,
+        lines: &[b"ab"],
+        beginning: b"c",
+    },
+    Failing {
+        passing: 3,
+        lines: &[b"ab", b"cd"],
+        beginning: b"",
+    },
+    Failing {
+        passing: 4,
+        lines: &[b"ab", b"cd"],
+        beginning: b"ef",
+    },
+];
+
+fn fails(rt: &impl Abort, alloc: Global, row: &Failing) -> Result<(), Fail> {
+    let pulls = Cell::new(0);
+    let source = Watched::new(Pieces::new(b"ab\ncd\nef", 2, row.passing), &pulls);
+    let mut reader: Reader<'_> = LineReader::standard(source);
+    let mut store = Store::new(alloc, 1)?;
+    for line in row.lines {
+        assert_eq!(rt; next(rt, &mut reader, &mut store), Ok(true));
+        assert_eq!(rt; current(rt, &store), *line);
+    }
+    for _ in 0..3 {
+        assert_eq!(rt; next(rt, &mut reader, &mut store), Err(LineFault::Read));
+        assert_eq!(rt; current(rt, &store), row.beginning);
+        assert_eq!(rt; shows(&mut reader), Err(LineFault::Read));
+        assert_eq!(rt; pulls.get(), row.passing.saturating_add(1));
+    }
+    assert!(rt; !store.denied());
+    Ok(())
+}
+
+#[test]
+fn each_pull_fails(rt: HostRuntime) -> Result<(), Fail> {
+    for row in FAILING {
+        fails(&rt, rt.alloc(), row)?;
+    }
+    Ok(())
+}
+
+#[test]
+fn a_refused_file_fails(rt: HostRuntime) -> Result<(), Fail> {
+    let mut reader: Reader<'_> = LineReader::refused();
+    assert!(rt; reader.is_refused());
+    let mut store = Store::new(rt.alloc(), 1)?;
+    assert_eq!(rt; next(&rt, &mut reader, &mut store), Err(LineFault::Read));
+    assert_eq!(rt; shows(&mut reader), Err(LineFault::Read));
+    assert_eq!(rt; next(&rt, &mut reader, &mut store), Err(LineFault::Read));
+    assert!(rt; reader.is_refused());
+    Ok(())
+}
+
+// Passes a text block by block, at most `step` bytes at a time, and keeps what was shown.
+fn shown<'a>(
+    rt: &impl Abort,
+    alloc: Global,
+    reader: &mut Reader<'a>,
+    step: usize,
+) -> Result<Vec<u8>, Fail> {
+    let mut all = Vec::new(alloc);
+    for _ in 0..100_000 {
+        let block = reader.block()?;
+        if block.is_empty() {
+            return Ok(all);
+        }
+        assert!(rt; block.len() <= 8192);
+        let count = block.len().min(step);
+        all.extend_from_slice(&block[..count])?;
+        reader.consume(count);
+    }
+    Err("no end")?
+}
+
+#[test]
+fn blocks_in_pieces(rt: HostRuntime) -> Result<(), Fail> {
+    for length in [0, 1, 8191, 8192, 8193, 20000] {
+        let text = text_of(rt.alloc(), &[length], b'\n', false)?;
+        for size in SIZES {
+            for step in [1, 5, usize::MAX] {
+                let pulls = Cell::new(0);
+                let source = Watched::new(Pieces::new(&text, *size, u64::MAX), &pulls);
+                let mut reader: Reader<'_> = LineReader::standard(source);
+                let all = shown(&rt, rt.alloc(), &mut reader, step)?;
+                assert!(rt; is_line(&all, length), "{length} by {size}");
+                assert_eq!(rt; reader.block()?.len(), 0);
+                let pieces = length.div_ceil((*size).clamp(1, 8192)) as u64 + 1;
+                assert_eq!(rt; pulls.get(), pieces, "{length} by {size}");
+            }
+        }
+    }
+    Ok(())
+}
+
+#[test]
+fn lines_and_blocks_in_turn(rt: HostRuntime) -> Result<(), Fail> {
+    let source = Pieces::new(b"ab\ncd\nef", 4, u64::MAX);
+    let mut reader: LineReader<Pieces<'_>, Pieces<'_>> = LineReader::standard(source);
+    let mut store = Store::new(rt.alloc(), 1)?;
+    assert_eq!(rt; next(&rt, &mut reader, &mut store), Ok(true));
+    assert_eq!(rt; reader.block()?, b"c".as_slice());
+    assert_eq!(rt; reader.block()?, b"c".as_slice());
+    reader.consume(0);
+    assert_eq!(rt; next(&rt, &mut reader, &mut store), Ok(true));
+    assert_eq!(rt; current(&rt, &store), b"cd".as_slice());
+    let block = reader.block()?;
+    assert_eq!(rt; block, b"ef".as_slice());
+    reader.consume(1);
+    assert_eq!(rt; next(&rt, &mut reader, &mut store), Ok(true));
+    assert_eq!(rt; current(&rt, &store), b"f".as_slice());
+    assert_eq!(rt; reader.block()?.len(), 0);
+    assert_eq!(rt; next(&rt, &mut reader, &mut store), Ok(false));
+    Ok(())
+}
+
+#[test]
+fn each_growth_refused(rt: HostRuntime) -> Result<(), Fail> {
+    let text = text_of(rt.alloc(), &[20000], b'\n', true)?;
+    let mut refused = 0u32;
+    for passing in 0..30 {
+        let alloc = Refusing::after(rt.alloc(), passing);
+        let pulls = Cell::new(0);
+        let source = Watched::new(Pieces::whole(&text), &pulls);
+        let mut reader: Reader<'_> = LineReader::standard(source);
+        let mut store = match Store::new(&alloc, 1) {
+            Ok(store) => store,
+            Err(fault) => {
+                assert_eq!(rt; fault, LineFault::Memory);
+                assert!(rt; alloc.refused());
+                continue;
+            }
+        };
+        let filled = next(&rt, &mut reader, &mut store);
+        let count = current(&rt, &store).len();
+        assert!(rt; is_line(current(&rt, &store), count));
+        assert_eq!(rt; store.denied(), alloc.refused());
+        if alloc.refused() {
+            refused = refused.saturating_add(1);
+            assert!(rt; count < 20000);
+            let pulled = pulls.get();
+            for _ in 0..2 {
+                assert_eq!(rt; filled, Err(LineFault::Memory));
+                assert_eq!(rt; next(&rt, &mut reader, &mut store), Err(LineFault::Memory));
+                assert_eq!(rt; shows(&mut reader), Err(LineFault::Memory));
+                assert_eq!(rt; current(&rt, &store).len(), count);
+                assert_eq!(rt; pulls.get(), pulled);
+            }
+        } else {
+            assert_eq!(rt; filled, Ok(true));
+            assert_eq!(rt; count, 20000);
+        }
+    }
+    assert!(rt; refused > 1 && refused < 29, "{refused}");
+    Ok(())
+}
+
+#[test]
+fn a_very_long_line(rt: HostRuntime) -> Result<(), Fail> {
+    let source = Repeated::new(b'a', 1_000_000, usize::MAX, u64::MAX);
+    let mut reader: LineReader<Repeated, Repeated> = LineReader::file(source);
+    let mut store = Store::new(rt.alloc(), 1)?;
+    assert_eq!(rt; next(&rt, &mut reader, &mut store), Ok(true));
+    assert_eq!(rt; current(&rt, &store).len(), 1_000_000);
+    assert!(rt; current(&rt, &store).iter().all(|byte| *byte == b'a'));
+    assert_eq!(rt; store.peak(), 1_000_000);
+    assert_eq!(rt; next(&rt, &mut reader, &mut store), Ok(false));
+    assert_eq!(rt; store.peak(), 1_000_000);
+    assert_eq!(rt; store.now(), 0);
+    Ok(())
+}

@@ -1,0 +1,67 @@
+//! Calls of a store whose slots a test knows to be there.
+
+use ptlines::{LineFault, Store};
+use std::alloc::Allocator;
+use std::process::Abort;
+
+/// The bytes in a slot.
+pub fn line<'a, A: Allocator + Copy>(
+    rt: &impl Abort,
+    store: &'a Store<A>,
+    slot: usize,
+) -> &'a [u8] {
+    assert!(rt; slot < store.slots());
+    store.line(slot)
+}
+
+pub fn append<A: Allocator + Copy>(
+    rt: &impl Abort,
+    store: &mut Store<A>,
+    slot: usize,
+    bytes: &[u8],
+) -> Result<(), LineFault> {
+    assert!(rt; slot < store.slots());
+    store.append(slot, bytes)
+}
+
+pub fn copy<A: Allocator + Copy>(
+    rt: &impl Abort,
+    store: &mut Store<A>,
+    from: usize,
+    to: usize,
+) -> Result<(), LineFault> {
+    assert!(rt; from < store.slots());
+    assert!(rt; to < store.slots());
+    assert!(rt; from != to);
+    store.copy(from, to)
+}
+
+pub fn clear<A: Allocator + Copy>(rt: &impl Abort, store: &mut Store<A>, slot: usize) {
+    assert!(rt; slot < store.slots());
+    store.clear(slot);
+}
+
+pub fn swap<A: Allocator + Copy>(rt: &impl Abort, store: &mut Store<A>, a: usize, b: usize) {
+    assert!(rt; a < store.slots());
+    assert!(rt; b < store.slots());
+    store.swap(a, b);
+}
+
+/// Asserts that the store has these lines, that it held this many bytes at most, and whether it is denied.
+pub fn expect<A: Allocator + Copy>(
+    rt: &impl Abort,
+    store: &Store<A>,
+    lines: &[&[u8]],
+    peak: u128,
+    denied: bool,
+) {
+    assert_eq!(rt; store.slots(), lines.len());
+    let mut now = 0u128;
+    for (slot, expected) in lines.iter().enumerate() {
+        assert!(rt; line(rt, store, slot) == *expected, "slot {slot}");
+        now = now.saturating_add(expected.len() as u128);
+    }
+    assert_eq!(rt; store.now(), now);
+    assert_eq!(rt; store.peak(), peak);
+    assert_eq!(rt; store.denied(), denied);
+}

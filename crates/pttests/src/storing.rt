@@ -1,0 +1,137 @@
+//! Numbered slots, what they hold and held, and refused growths.
+
+use crate::slots::{append, clear, copy, expect, line, swap};
+use ptfakes::Refusing;
+use ptlines::{LineFault, Store};
+use std::alloc::{Allocator, Global};
+use std::process::Abort;
+use std::test::Fail;
+
+#[test]
+fn slots_hold_lines(rt: HostRuntime) -> Result<(), Fail> {
+    let mut store = Store::new(rt.alloc(), 3)?;
+    expect(&rt, &store, &[b"", b"", b""], 0, false);
+    append(&rt, &mut store, 0, b"abc")?;
+    append(&rt, &mut store, 2, b"xy")?;
+    expect(&rt, &store, &[b"abc", b"", b"xy"], 5, false);
+    append(&rt, &mut store, 0, b"d")?;
+    append(&rt, &mut store, 1, b"")?;
+    expect(&rt, &store, &[b"abcd", b"", b"xy"], 6, false);
+    clear(&rt, &mut store, 0);
+    expect(&rt, &store, &[b"", b"", b"xy"], 6, false);
+    clear(&rt, &mut store, 0);
+    swap(&rt, &mut store, 1, 2);
+    expect(&rt, &store, &[b"", b"xy", b""], 6, false);
+    swap(&rt, &mut store, 1, 1);
+    expect(&rt, &store, &[b"", b"xy", b""], 6, false);
+    Ok(())
+}
+
+#[test]
+fn slots_are_copied_and_added(rt: HostRuntime) -> Result<(), Fail> {
+    let mut store = Store::new(rt.alloc(), 3)?;
+    append(&rt, &mut store, 1, b"xy")?;
+    copy(&rt, &mut store, 1, 0)?;
+    expect(&rt, &store, &[b"xy", b"xy", b""], 4, false);
+    append(&rt, &mut store, 0, b"z")?;
+    copy(&rt, &mut store, 0, 1)?;
+    expect(&rt, &store, &[b"xyz", b"xyz", b""], 6, false);
+    copy(&rt, &mut store, 2, 1)?;
+    expect(&rt, &store, &[b"xyz", b"", b""], 6, false);
+    assert_eq!(rt; store.add()?, 3);
+    append(&rt, &mut store, 3, b"\0\n\xff\x80")?;
+    expect(&rt, &store, &[b"xyz", b"", b"", b"\0\n\xff\x80"], 7, false);
+    Ok(())
+}
+
+#[test]
+fn a_store_of_no_slots(rt: HostRuntime) -> Result<(), Fail> {
+    let mut store = Store::new(rt.alloc(), 0)?;
+    expect(&rt, &store, &[], 0, false);
+    assert_eq!(rt; store.add()?, 0);
+    expect(&rt, &store, &[b""], 0, false);
+    Ok(())
+}
+
+// The call whose growth was refused, or none.
+#[derive(Clone, Copy, Debug, PartialEq, Eq)]
+enum Stopped {
+    New,
+    Append,
+    Copy,
+    Add,
+    Nowhere,
+}
+
+const LONG: &[u8] = b"0123456789012345678901234567890123456789012345678901234567890123456789";
+
+// Grows a store in each way, and looks at what a refusal leaves.
+fn grow<A: Allocator + Copy>(rt: &impl Abort, alloc: A) -> Stopped {
+    let mut store = match Store::new(alloc, 2) {
+        Ok(store) => store,
+        Err(fault) => {
+            assert_eq!(rt; fault, LineFault::Memory);
+            return Stopped::New;
+        }
+    };
+    expect(rt, &store, &[b"", b""], 0, false);
+    if append(rt, &mut store, 0, LONG) == Err(LineFault::Memory) {
+        expect(rt, &store, &[b"", b""], 0, true);
+        // Only one growth is refused, and the store stays denied.
+        assert_eq!(rt; append(rt, &mut store, 0, LONG), Ok(()));
+        expect(rt, &store, &[LONG, b""], 70, true);
+        return Stopped::Append;
+    }
+    expect(rt, &store, &[LONG, b""], 70, false);
+    if append(rt, &mut store, 1, b"b") == Err(LineFault::Memory) {
+        expect(rt, &store, &[LONG, b""], 70, true);
+        return Stopped::Append;
+    }
+    expect(rt, &store, &[LONG, b"b"], 71, false);
+    if copy(rt, &mut store, 0, 1) == Err(LineFault::Memory) {
+        expect(rt, &store, &[LONG, b""], 71, true);
+        return Stopped::Copy;
+    }
+    expect(rt, &store, &[LONG, LONG], 140, false);
+    for slot in 2..40usize {
+        match store.add() {
+            Ok(added) => assert_eq!(rt; added, slot),
+            Err(fault) => {
+                assert_eq!(rt; fault, LineFault::Memory);
+                assert_eq!(rt; store.slots(), slot);
+                assert!(rt; line(rt, &store, 1) == LONG);
+                assert!(rt; store.denied());
+                return Stopped::Add;
+            }
+        }
+    }
+    assert!(rt; !store.denied());
+    Stopped::Nowhere
+}
+
+// How many of the first growths, refused in turn, stop the store at this call.
+fn stops(rt: &impl Abort, alloc: Global, stopped: Stopped) -> u32 {
+    let mut count = 0u32;
+    for passing in 0..40u64 {
+        let refusing = Refusing::after(alloc, passing);
+        let ended = grow(rt, &refusing);
+        assert_eq!(rt;
+            refusing.refused(),
+            ended != Stopped::Nowhere,
+            "at {passing}"
+        );
+        if ended == stopped {
+            count = count.saturating_add(1);
+        }
+    }
+    count
+}
+
+#[test]
+fn each_growth_refused(rt: HostRuntime) {
+    for stopped in [Stopped::New, Stopped::Append, Stopped::Copy, Stopped::Add] {
+        assert!(rt; stops(&rt, rt.alloc(), stopped) > 0, "{stopped:?}");
+    }
+    // At last no growth is left to be refused.
+    assert!(rt; stops(&rt, rt.alloc(), Stopped::Nowhere) > 20);
+}

@@ -1,0 +1,221 @@
+//! A block of output before sinks that take little, or fail.
+
+use crate::texts::{is_line, text_of};
+use ptfakes::{Fixed, Kept};
+use ptlines::{Out, Sink, WriteFault};
+use std::alloc::Global;
+use std::process::Abort;
+use std::test::Fail;
+
+const PUSHES: &[&[usize]] = &[
+    &[],
+    &[0],
+    &[1],
+    &[8191],
+    &[8192],
+    &[8193],
+    &[20000],
+    &[8191, 1],
+    &[8192, 1],
+    &[8191, 2],
+    &[1, 8192],
+    &[4000, 4192, 1],
+    &[5, 20000, 0, 5],
+    &[3000, 3000, 3000, 3000, 3000, 3000],
+];
+
+// How many bytes these are.
+fn total(lengths: &[usize]) -> usize {
+    let mut total = 0usize;
+    for length in lengths {
+        total = total.saturating_add(*length);
+    }
+    total
+}
+
+// Pushes stretches of these lengths, which together are one line of known bytes, and says how many went well.
+fn push_all<W: Sink>(rt: &impl Abort, out: &mut Out<W>, text: &[u8], lengths: &[usize]) -> usize {
+    let mut from = 0usize;
+    let mut pushed = 0usize;
+    for length in lengths {
+        let to = from.saturating_add(*length);
+        assert!(rt; from <= to && to <= text.len());
+        if out.push(&text[from..to]).is_err() {
+            return pushed;
+        }
+        from = to;
+        pushed = pushed.saturating_add(1);
+    }
+    pushed
+}
+
+#[test]
+fn all_is_sent(rt: HostRuntime) -> Result<(), Fail> {
+    for lengths in PUSHES {
+        let all = total(lengths);
+        let text = text_of(rt.alloc(), &[all], b'\n', false)?;
+        for size in [1, 7, 8192, usize::MAX] {
+            let mut out = Out::new(Kept::limited(rt.alloc(), size, usize::MAX, u64::MAX));
+            assert_eq!(rt; push_all(&rt, &mut out, &text, lengths), lengths.len());
+            assert_eq!(rt; out.finish(), Ok(()));
+            let kept = out.into_sink();
+            assert!(rt; is_line(kept.bytes(), all), "{lengths:?} by {size}");
+            assert_eq!(rt; kept.flushes(), 1);
+        }
+    }
+    Ok(())
+}
+
+struct Staged {
+    lengths: &'static [usize],
+    // The bytes that the sink has before the end, and its calls at the end with one flush.
+    taken: usize,
+    calls: u64,
+}
+
+// A block of 8,192 bytes is sent when it would overflow, and what is larger than a block past it.
+const STAGED: &[Staged] = &[
+    Staged {
+        lengths: &[],
+        taken: 0,
+        calls: 1,
+    },
+    Staged {
+        lengths: &[1],
+        taken: 0,
+        calls: 2,
+    },
+    Staged {
+        lengths: &[8191],
+        taken: 0,
+        calls: 2,
+    },
+    Staged {
+        lengths: &[8192],
+        taken: 0,
+        calls: 2,
+    },
+    Staged {
+        lengths: &[8193],
+        taken: 8193,
+        calls: 2,
+    },
+    Staged {
+        lengths: &[8191, 1],
+        taken: 0,
+        calls: 2,
+    },
+    Staged {
+        lengths: &[8191, 2],
+        taken: 8191,
+        calls: 3,
+    },
+    Staged {
+        lengths: &[5, 20000, 5],
+        taken: 20005,
+        calls: 4,
+    },
+];
+
+#[test]
+fn a_block_is_staged(rt: HostRuntime) -> Result<(), Fail> {
+    for row in STAGED {
+        let lengths = row.lengths;
+        let all = total(lengths);
+        let text = text_of(rt.alloc(), &[all], b'\n', false)?;
+        let mut out = Out::new(Kept::new(rt.alloc()));
+        assert_eq!(rt; push_all(&rt, &mut out, &text, lengths), lengths.len());
+        let kept = out.into_sink();
+        assert!(rt; is_line(kept.bytes(), row.taken), "{lengths:?}");
+        let mut out = Out::new(Kept::new(rt.alloc()));
+        assert_eq!(rt; push_all(&rt, &mut out, &text, lengths), lengths.len());
+        assert_eq!(rt; out.finish(), Ok(()));
+        let kept = out.into_sink();
+        assert_eq!(rt; kept.calls(), row.calls, "{lengths:?}");
+        assert!(rt; is_line(kept.bytes(), all), "{lengths:?}");
+    }
+    Ok(())
+}
+
+// After a fault each call answers it, and nothing more is sent.
+fn stays_faulted(rt: &impl Abort, out: &mut Out<Kept>) {
+    assert_eq!(rt; out.push(b"more"), Err(WriteFault::Write));
+    assert_eq!(rt; out.push(b""), Err(WriteFault::Write));
+    assert_eq!(rt; out.finish(), Err(WriteFault::Write));
+}
+
+// With a sink that fails at each of its calls in turn, the sink has a beginning.
+fn fails(rt: &impl Abort, alloc: Global, lengths: &[usize], size: usize) -> Result<(), Fail> {
+    let all = total(lengths);
+    let text = text_of(alloc, &[all], b'\n', false)?;
+    for passing in 0..40000u64 {
+        let mut out = Out::new(Kept::limited(alloc, size, usize::MAX, passing));
+        let pushed = push_all(rt, &mut out, &text, lengths);
+        if pushed == lengths.len() && out.finish().is_ok() {
+            let kept = out.into_sink();
+            assert_eq!(rt; kept.calls(), passing, "the first that is not reached");
+            assert!(rt; is_line(kept.bytes(), all));
+            return Ok(());
+        }
+        stays_faulted(rt, &mut out);
+        let kept = out.into_sink();
+        assert_eq!(rt;
+            kept.calls(),
+            passing.saturating_add(1),
+            "none after the failed one"
+        );
+        let taken = kept.bytes().len();
+        assert!(rt; taken <= all && is_line(kept.bytes(), taken), "{passing}");
+    }
+    Err("each call fails")?
+}
+
+#[test]
+fn each_call_fails(rt: HostRuntime) -> Result<(), Fail> {
+    for lengths in PUSHES {
+        fails(&rt, rt.alloc(), lengths, usize::MAX)?;
+        fails(&rt, rt.alloc(), lengths, 1000)?;
+    }
+    fails(&rt, rt.alloc(), &[3, 0, 4], 1)?;
+    Ok(())
+}
+
+// A sink that takes no more bytes answers 0, which is a failure.
+#[test]
+fn nothing_taken_is_a_fault(rt: HostRuntime) -> Result<(), Fail> {
+    for lengths in PUSHES {
+        let all = total(lengths);
+        let text = text_of(rt.alloc(), &[all], b'\n', false)?;
+        for room in [0, 1, 8191, 8192, 8193, 19999] {
+            let mut out = Out::new(Kept::limited(rt.alloc(), 3000, room, u64::MAX));
+            let pushed = push_all(&rt, &mut out, &text, lengths);
+            let finished = pushed == lengths.len() && out.finish().is_ok();
+            assert_eq!(rt; finished, all <= room, "{lengths:?} in {room}");
+            if !finished {
+                stays_faulted(&rt, &mut out);
+            }
+            let kept = out.into_sink();
+            assert!(rt;
+                is_line(kept.bytes(), all.min(room)),
+                "{lengths:?} in {room}"
+            );
+        }
+    }
+    Ok(())
+}
+
+#[test]
+fn a_sink_with_no_memory(rt: HostRuntime) {
+    let mut out = Out::new(Fixed::<16>::new(5, u64::MAX));
+    assert_eq!(rt; out.push(b"0123456789"), Ok(()));
+    assert_eq!(rt; out.finish(), Ok(()));
+    assert_eq!(rt; out.push(b"abcdef"), Ok(()));
+    assert_eq!(rt; out.finish(), Ok(()));
+    assert_eq!(rt; out.push(b"!"), Ok(()));
+    assert_eq!(rt; out.finish(), Err(WriteFault::Write));
+    let fixed = out.into_sink();
+    assert_eq!(rt; fixed.bytes(), b"0123456789abcdef".as_slice());
+    // 5 and 5 bytes, 5 and 1, none, and two flushes.
+    assert_eq!(rt; fixed.calls(), 7);
+    assert_eq!(rt; fixed.flushes(), 2);
+}
