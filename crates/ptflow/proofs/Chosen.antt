@@ -64,6 +64,14 @@ pub chosen_first : {X : Type 0} (r : Interval) (rs : List Interval) (n : ℕ) (x
 chosen_first r rs n [] apart = refl
 chosen_first r rs n (x ∷ xs) apart = chosen_step r rs n x xs apart (chosen_first r rs (n + 1) xs apart)
 
+-- the first items are not chosen
+pub chosen_skip : {X : Type 0} (test : ℕ → Bool) (n count : ℕ) (xs : List X) → ((k : ℕ) → n ≤ k → k < n + count → test k ≡ false) → chosen test n xs ≡ chosen test (n + count) (drop count xs)
+chosen_skip test n zero xs out = let same : n + 0 ≡ n = omega arith in rw same refl
+chosen_skip test n (suc count) [] out = refl
+chosen_skip test n (suc count) (x ∷ xs) out =
+    let same : n + suc count ≡ (n + 1) + count = omega arith in
+    rw (out n (omega arith) (omega arith), same) (chosen_skip test (n + 1) count xs (λ k low high. out k (omega arith) (omega arith)))
+
 take-nil : {X : Type 0} (k : ℕ) → (let none : List X = [] in take k none ≡ none)
 take-nil zero = refl
 take-nil (suc k) = refl

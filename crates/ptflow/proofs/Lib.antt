@@ -1,5 +1,7 @@
 pub mod Chosen
 pub mod CutLaws
 pub mod CutRests
+pub mod FieldPlaces
+pub mod FieldWalks
 pub mod Passing
 pub mod Streaming

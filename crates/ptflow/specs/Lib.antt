@@ -1,4 +1,4 @@
 pub mod Cuts
-pub mod Fields
+pub mod FieldPlaces
 pub mod Rests
 pub mod Runs

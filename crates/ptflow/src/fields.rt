@@ -5,13 +5,14 @@ ghost use Rattle.ptlines.specs.Slots.{total};
 ghost use Rattle.ptlines.specs.Text.{text, ended_lines, longest_line};
 ghost use Rattle.ptlangs.specs.Jobs.{cut_job};
 ghost use Rattle.ptflow.specs.Cuts.{cut_fields, cut_line, is_kept, cut, cut_decided};
-ghost use Rattle.ptflow.specs.Fields.{fields, StartsAt};
+ghost use Rattle.ptflow.specs.FieldPlaces.{fields, StartsAt};
 ghost use Rattle.ptflow.specs.Runs.{IsRun};
 
 use crate::faults::FlowFault;
 use crate::slots::need_slots;
 use memchr::memchr;
 use ptlangs::jobs::CutJob;
+use ptlangs::ranges::Interval;
 use ptlines::{LineFault, LineReader, Out, Sink, Source, Store, WriteFault};
 use std::alloc::Allocator;
 
@@ -21,8 +22,9 @@ fn field_start(delimiter: u8, line: &[u8], count: u64) -> Option<usize>
     ensures { MatchOption result (length (fields delimiter line.now) ≤ count) (λ at. StartsAt delimiter count line.now at) }
 {
     let mut at = 0;
-    for _passed in 0..count {
-        at += memchr(delimiter, &line[at..])? + 1;
+    for _field in 0..count {
+        let passed = memchr(delimiter, &line[at..])?;
+        at += passed + 1;
     }
     Some(at)
 }
@@ -42,22 +44,24 @@ fn push_fields<A: Allocator + Copy, W: Sink>(
     ensures clean { OnOk result (out.new.faulted ≡ false) }
     ensures fault { OnErr result (out.new.faulted ≡ true) }
 {
+    let selected = job.list.intervals();
     let line = &bytes[..count];
     let mut at = 0;
     let mut number = 1;
     let mut lead = 0;
-    for interval in job.list.intervals() {
-        let Some(skipped) = field_start(job.delim, &line[at..], interval.first - number) else {
+    for interval in selected {
+        let Interval { first, last } = *interval;
+        let Some(skipped) = field_start(job.delim, &line[at..], first - number) else {
             return out.push(&bytes[count..]);
         };
         let from = at + skipped;
-        let size = interval.last - interval.first + 1;
+        let size = last - first + 1;
         let Some(passed) = field_start(job.delim, &line[from..], size) else {
             return out.push(&bytes[from - lead..]);
         };
         at = from + passed;
         out.push(&line[from - lead..at - 1])?;
-        number = interval.last + 1;
+        number = last + 1;
         lead = 1;
     }
     out.push(&bytes[count..])
