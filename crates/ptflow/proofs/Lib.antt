@@ -4,5 +4,7 @@ pub mod CutRests
 pub mod FieldLines
 pub mod FieldPlaces
 pub mod FieldWalks
+pub mod LineLaws
+pub mod LineRuns
 pub mod Passing
 pub mod Streaming

@@ -1,0 +1,1 @@
+use Rattle.ptflow.proofs.slots.need_slots.Goals as goal
