@@ -1,9 +1,8 @@
 -- That what `cut` writes byte by byte is what it is to write of whole lines.
-use Rattle.std.proofs.Common.{◌≡◌, ℕ, ◌==◌, Bool, true, false, cond, List, [], ◌∷◌, ◌++◌, map, refl, sym, ◌∙◌, ap, subst, append_assoc}
+use Rattle.std.proofs.Common.{◌≡◌, ℕ, false, List, [], ◌∷◌, ◌++◌, map, refl, sym, ◌∙◌, ap, append_assoc}
 use Rattle.std.specs.List.{flat_map}
-use Rattle.std.proofs.lemmas.Bool.{eqb-true, eqb-false}
 use Rattle.std.proofs.lemmas.List.{append-nil, append_cancel_right, map-append}
-use Rattle.ptlines.specs.Text.{text, lines, ended_lines, onto_line, IsLine, AreLines}
+use Rattle.ptlines.specs.Text.{text, lines, ended_lines}
 use Rattle.ptlines.specs.Inputs.{Begins}
 use Rattle.ptlines.proofs.TextLaws.{lines_first, lines_of_text, text-append}
 use Rattle.ptlangs.specs.Jobs.{Cut}

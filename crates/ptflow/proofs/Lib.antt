@@ -6,5 +6,7 @@ pub mod FieldPlaces
 pub mod FieldWalks
 pub mod LineLaws
 pub mod LineRuns
+pub mod LineStops
+pub mod Lining
 pub mod Passing
 pub mod Streaming

@@ -1,95 +1,23 @@
--- A tool that works line by line: what has come and was pushed, and what it has done when it stops.
-use Rattle.std.proofs.Common.{◌≡◌, ◌⊎◌, ⊎_elim, inl, inr, ℕ, ◌+◌, ◌<◌, ◌≤◌, Bool, true, false, List, [], ◌∷◌, ◌++◌, None, Some, Result, Ok, Err, length, take, drop, get_or, set, max, ◌-◌, refl, sym, ◌∙◌, ap, subst, arith, append_assoc, length-append}
-use Rattle.std.specs.List.{flat_map}
+-- A tool that works line by line: what has come of a reader, and was pushed.
+use Rattle.std.proofs.Common.{◌≡◌, ◌⊎◌, ⊎_elim, inl, inr, ℕ, ◌+◌, ◌<◌, ◌≤◌, true, false, List, [], ◌∷◌, ◌++◌, None, length, take, drop, set, max, refl, sym, ◌∙◌, ap, subst, arith, append_assoc, length-append}
 use Rattle.std.proofs.lemmas.Bool.{false≢true}
-use Rattle.std.proofs.lemmas.List.{append-nil, nil_from_length, take_at, length-set, get_or-set_same}
-use Rattle.std.proofs.lemmas.List.Concat.{flat_map-append}
+use Rattle.std.proofs.lemmas.List.{append-nil, nil_from_length, length-set, get_or-set_same}
 use Rattle.std.proofs.lemmas.List.Sums.{get_or-le-sum_by}
-use Rattle.memchr.specs.Find.{IsFirstByte, is_byte}
 use Rattle.ptlines.specs.Text.{text, lines, ended_lines, IsLine, AreLines, longest, longest_line}
-use Rattle.ptlines.specs.Inputs.{Given, whole_lines, Begins, Agrees, Came}
+use Rattle.ptlines.specs.Inputs.{Given, Begins, Agrees}
 use Rattle.ptlines.specs.Outputs.{Output, Wrote}
-use Rattle.ptlines.specs.Readers.{Reader, Reads, Goes, IsDone, HasReadCause}
-use Rattle.ptlines.specs.Slots.{Slots, line, total, with_line, with_denied}
-use Rattle.ptlines.specs.Fills.{GivesLine, BreaksRead, BreaksMemory}
-use Rattle.ptlines.proofs.Known.{prepend_known-nil}
+use Rattle.ptlines.specs.Readers.{Reader, Reads, Goes, IsDone}
+use Rattle.ptlines.specs.Slots.{Slots, line, total, with_line}
+use Rattle.ptlines.specs.Fills.{GivesLine}
 use Rattle.ptlines.proofs.Counted.{total_set}
-use Rattle.ptlines.proofs.Filling.{reads_trans, goes_trans}
-use Rattle.ptlines.proofs.Pushed.{wrote_nothing, wrote_trans, wrote_past}
-use Rattle.ptlines.proofs.Scanned.{before_end, goes_front}
-use Rattle.ptlines.proofs.TextLaws.{lines_of_text, lines_last, text-append, text_push, AreLines_push, ended_of_text}
-use Rattle.ptflow.specs.Runs.{IsRun, Ends}
-use Rattle.ptflow.specs.declared.faults.FlowFault.{FlowFault}
-use Rattle.ptflow.specs.declared.faults.FlowFault.TheVariants.{Read, Write, Memory}
-use Rattle.ptflow.proofs.CutRests.{split_of}
-use Rattle.ptflow.proofs.LineLaws.{Parts, parts_of, ended_more, AreLines-append, longest-append, longest_front}
+use Rattle.ptlines.proofs.Filling.{goes_trans}
+use Rattle.ptlines.proofs.Pushed.{wrote_nothing, wrote_trans}
+use Rattle.ptlines.proofs.Scanned.{goes_front}
+use Rattle.ptlines.proofs.TextLaws.{lines_of_text, lines_last, text-append, text_push, AreLines_push}
+use Rattle.ptflow.proofs.LineLaws.{Parts, parts_of, AreLines-append, longest-append}
+use Rattle.ptflow.proofs.Lining.{made, made-append, made_push}
 use Rattle.ptflow.proofs.Passing.{goes_nothing}
-use Rattle.ptflow.proofs.Streaming.{given_of, came_of}
-
--- what is written of lines, where `f` gives what is written of each
-abbrev pub made : ℕ → (List ℕ → List (List ℕ)) → List (List ℕ) → List ℕ
-made end f ls = text end (flat_map f ls)
-
-pub made-append : (end : ℕ) (f : List ℕ → List (List ℕ)) (xs ys : List (List ℕ)) → made end f (xs ++ ys) ≡ made end f xs ++ made end f ys
-made-append end f xs ys = ap (text end) (flat_map-append f xs ys) ∙ text-append end (flat_map f xs) (flat_map f ys)
-
-made_push : (end : ℕ) (f : List ℕ → List (List ℕ)) (xs : List (List ℕ)) (l : List ℕ) → made end f (xs ++ l ∷ []) ≡ made end f xs ++ text end (f l)
-made_push end f xs l = made-append end f xs (l ∷ []) ∙ ap (λ (o : List (List ℕ)). made end f xs ++ text end o) (append-nil (f l))
-
--- ---- the lines of a block
-
--- these lines of a block were passed on, and this is the rest
-pub record Lining (end : ℕ) (f : List ℕ → List (List ℕ)) (block rest : List ℕ) (was is : Output) : Type 0 where
-  pub passed : List (List ℕ)
-  pub split : block ≡ text end passed ++ rest
-  pub whole : AreLines end passed
-  pub wrote : Wrote was is (made end f passed)
-  pub clean : is.faulted ≡ false
-
-module _ (end : ℕ) (f : List ℕ → List (List ℕ)) (block : List ℕ) (was : Output) where
-  pub lining_starts : was.faulted ≡ false → Lining end f block block was was
-  lining_starts clean = record { passed = []; split = refl; whole = tt; wrote = wrote_nothing was (λ fault. absurd (false≢true (sym clean ∙ fault))); clean = clean }
-
-  module _ (rest : List ℕ) (is : Output) (k : Lining end f block rest was is) where
-    module _ (at : ℕ) (first : IsFirstByte (is_byte end) rest (Some at)) (is' : Output) (wrote : Wrote is is' (text end (f (take at rest)))) where
-      abbrev next : List (List ℕ)
-      next = k.passed ++ take at rest ∷ []
-
-      next_split : block ≡ text end next ++ drop (at + 1) rest
-      next_split =
-          k.split ∙ ap (λ (l : List ℕ). text end k.passed ++ l) (split_of end rest at first ∙ sym (append_assoc (take at rest) (end ∷ []) (drop (at + 1) rest)))
-          ∙ sym (append_assoc (text end k.passed) (take at rest ++ end ∷ []) (drop (at + 1) rest)) ∙ ap (λ (l : List ℕ). l ++ drop (at + 1) rest) (sym (text_push end k.passed (take at rest)))
-
-      next_whole : AreLines end next
-      next_whole = AreLines_push end k.passed (take at rest) k.whole (before_end end rest at first)
-
-      next_wrote : Wrote was is' (made end f next)
-      next_wrote = subst (λ (b : List ℕ). Wrote was is' b) (sym (made_push end f k.passed (take at rest))) (wrote_trans was is is' (made end f k.passed) (text end (f (take at rest))) k.clean k.wrote wrote)
-
-      pub lining_more : is'.faulted ≡ false → Lining end f block (drop (at + 1) rest) was is'
-      lining_more clean = record { passed = next; split = next_split; whole = next_whole; wrote = next_wrote; clean = clean }
-
-      -- a write failed
-      pub lining_fails : is'.faulted ≡ true → Wrote was is' (made end f (ended_lines end block))
-      lining_fails fault =
-          let more = ended_lines end (drop (at + 1) rest) in
-          subst (λ (b : List ℕ). Wrote was is' b) (sym (made-append end f next more) ∙ ap (made end f) (sym (ap (ended_lines end) next_split ∙ ended_more end next (drop (at + 1) rest) next_whole)))
-          (wrote_past was is' (made end f next) (made end f more) fault next_wrote)
-
-    -- no line more
-    module _ (none : IsLine end rest) where
-      all_passed : ended_lines end block ≡ k.passed
-      all_passed = ap (ended_lines end) k.split ∙ ended_of_text end k.passed rest k.whole none
-
-      pub lining_done : Wrote was is (made end f (ended_lines end block))
-      lining_done = subst (λ (ls : List (List ℕ)). Wrote was is (made end f ls)) (sym all_passed) k.wrote
-
-      pub lining_count : take (length block - length rest) block ≡ text end (ended_lines end block)
-      lining_count =
-          let size : length block - length rest ≡ length (text end k.passed) = omega (arith, ap length k.split, length-append (text end k.passed) rest) in
-          (λ i. take (size i) (k.split i)) ∙ take_at (text end k.passed) rest (length (text end k.passed)) refl ∙ ap (text end) (sym all_passed)
-
--- ---- a run over the lines of a reader
+use Rattle.ptflow.proofs.Streaming.{given_of}
 
 -- lines stand in front of these bytes
 pub record Front (end : ℕ) (bytes : List ℕ) (ls : List (List ℕ)) : Type 0 where
@@ -124,7 +52,7 @@ pub record Keeps (before store : Slots) (most : ℕ) : Type 0 where
   pub only : total store.lines ≡ length (line store 0)
   pub peak : store.peak ≤ max before.peak most
 
-pub keeps_starts : (before store : Slots) → 1 ≤ length store.lines → store.denied ≡ false → total store.lines ≡ total before.lines → total before.lines ≡ 0 → store.peak ≡ before.peak → Keeps before store 0
+keeps_starts : (before store : Slots) → 1 ≤ length store.lines → store.denied ≡ false → total store.lines ≡ total before.lines → total before.lines ≡ 0 → store.peak ≡ before.peak → Keeps before store 0
 keeps_starts before store some denied same empty peak = record {
   denied = denied;
   slot = omega (arith, some);
@@ -147,6 +75,12 @@ keeps_line before store new most bytes k is = record {
     all : total (set store.lines 0 bytes) ≡ length bytes
     all = omega (arith, total_set store.lines 0 bytes k.slot, k.only)
 
+keeps_push : (before store new : Slots) (ls : List (List ℕ)) (bytes : List ℕ) → Keeps before store (longest ls) → new ≡ with_line store 0 bytes → Keeps before new (longest (ls ++ bytes ∷ []))
+keeps_push before store new ls bytes k is = keeps_more before new (max (longest ls) (length bytes)) (longest (ls ++ bytes ∷ [])) (omega (arith, longest-append ls (bytes ∷ []))) (keeps_line before store new (longest ls) bytes k is)
+
+pub keeps_lines : (before store : Slots) (ls more : List (List ℕ)) → Keeps before store (longest ls) → Keeps before store (longest (ls ++ more))
+keeps_lines before store ls more k = keeps_more before store (longest ls) (longest (ls ++ more)) (omega (arith, longest-append ls more)) k
+
 -- These lines were read, and what is written of them was pushed: all whole so far, or the last one at the end of the source.
 pub record Ran (f : List ℕ → List (List ℕ)) (old now : Reader) (was is : Output) : Type 0 where
   pub given : List ℕ
@@ -156,7 +90,7 @@ pub record Ran (f : List ℕ → List (List ℕ)) (old now : Reader) (was is : O
   pub wrote : Wrote was is (made old.ending f ls)
 
 -- where nothing can come any more, nothing came
-done_gives_nothing : (now new : Reader) (bytes : List ℕ) → IsDone now → Reads now new bytes → (bytes ≡ []) × (new.held ≡ []) × (new.ended ≡ true)
+pub done_gives_nothing : (now new : Reader) (bytes : List ℕ) → IsDone now → Reads now new bytes → (bytes ≡ []) × (new.held ≡ []) × (new.ended ≡ true)
 done_gives_nothing now new bytes done reads =
     let still = reads.still done.ended in
     let none : length bytes + length new.held ≡ 0 = omega (arith, reads.count, still.0, ap length done.held) in
@@ -166,7 +100,7 @@ module _ (f : List ℕ → List (List ℕ)) (old : Reader) (was : Output) where
   abbrev end : ℕ
   end = old.ending
 
-  pub ran_nothing : old.fault ≡ None → was.faulted ≡ false → Ran f old old was was
+  ran_nothing : old.fault ≡ None → was.faulted ≡ false → Ran f old old was was
   ran_nothing clean writable = record {
     given = [];
     ls = [];
@@ -189,7 +123,7 @@ module _ (f : List ℕ → List (List ℕ)) (old : Reader) (was : Output) where
             inr (ap (lines end) ((λ i. (r.given ++ none.0 i) ++ none.1 i) ∙ append-nil (r.given ++ []) ∙ append-nil r.given) ∙ k.0, none.2)
 
     -- a line more
-    unfoldable pub ran_line : (new : Reader) (before after : Slots) (slot : ℕ) (is' : Output) (e : GivesLine now new before after slot) → is.faulted ≡ false → Wrote is is' (text end (f e.line)) → Ran f old new was is'
+    ran_line : (new : Reader) (before after : Slots) (slot : ℕ) (is' : Output) (e : GivesLine now new before after slot) → is.faulted ≡ false → Wrote is is' (text end (f e.line)) → Ran f old new was is'
     ran_line new before after slot is' e clean wrote = record {
       given = r.given ++ (e.line ++ e.ending);
       ls = r.ls ++ e.line ∷ [];
@@ -226,17 +160,17 @@ module _ (f : List ℕ → List (List ℕ)) (old : Reader) (was : Output) where
       abbrev next : List (List ℕ)
       next = r.ls ++ ended_lines end block
 
-      next_wrote : Wrote was is' (made end f next)
+      pub next_wrote : Wrote was is' (made end f next)
       next_wrote = subst (λ (b : List ℕ). Wrote was is' b) (sym (made-append end f r.ls (ended_lines end block))) (wrote_trans was is is' (made end f r.ls) (made end f (ended_lines end block)) clean r.wrote wrote)
 
-      parts : Parts end block
+      pub parts : Parts end block
       parts = parts_of end block
 
       -- nothing is shown at the end
-      none_shown : IsDone now → block ≡ []
+      pub none_shown : IsDone now → block ≡ []
       none_shown done = sym held ∙ (done_gives_nothing now shown [] done goes.reads).1
 
-      same_lines : block ≡ [] → next ≡ r.ls
+      pub same_lines : block ≡ [] → next ≡ r.ls
       same_lines none = ap (λ (b : List ℕ). r.ls ++ ended_lines end b) none ∙ append-nil r.ls
 
       -- what is known amid the block
@@ -258,7 +192,7 @@ module _ (f : List ℕ → List (List ℕ)) (old : Reader) (was : Output) where
               inr (ap (lines end) (ap (λ (l : List ℕ). (r.given ++ []) ++ l) nothing.1 ∙ append-nil (r.given ++ []) ∙ append-nil r.given) ∙ k.0 ∙ sym (same_lines (none_shown k.1)), nothing.2)
 
       -- they were passed
-      unfoldable pub ran_block : (new : Reader) (count : ℕ) → count ≤ length block → take count block ≡ text end (ended_lines end block) → new ≡ record shown { held = drop count shown.held } → Ran f old new was is'
+      ran_block : (new : Reader) (count : ℕ) → count ≤ length block → take count block ≡ text end (ended_lines end block) → new ≡ record shown { held = drop count shown.held } → Ran f old new was is'
       ran_block new count fits passed consumed = record {
         given = r.given ++ text end (ended_lines end block);
         ls = next;
@@ -280,7 +214,33 @@ module _ (f : List ℕ → List (List ℕ)) (old : Reader) (was : Output) where
 
           closed : (lines end r.given ≡ r.ls) × IsDone now
               → ((r.given ++ text end (ended_lines end block) ≡ text end next) × AreLines end next) ⊎ ((lines end (r.given ++ text end (ended_lines end block)) ≡ next) × IsDone new)
-          closed k = inr (
+          closed k = let nothing = done_gives_nothing now new (text end (ended_lines end block)) k.1 front.reads in inr (
             ap (lines end) (ap (λ (b : List ℕ). r.given ++ text end (ended_lines end b)) (none_shown k.1) ∙ append-nil r.given) ∙ k.0 ∙ sym (same_lines (none_shown k.1)),
-            ?,
+            record { ended = nothing.2; held = nothing.1; left = front.reads.end (λ ended. k.1.left) nothing.2 },
           )
+
+-- nothing has come, and the slot is there
+pub run_starts : (f : List ℕ → List (List ℕ)) (old : Reader) (was : Output) (before store : Slots) → old.fault ≡ None → was.faulted ≡ false → 1 ≤ length store.lines → store.denied ≡ false → total store.lines ≡ total before.lines → total before.lines ≡ 0 → store.peak ≡ before.peak
+    → (r : Ran f old old was was) × Keeps before store (longest r.ls)
+unfolding ran_nothing
+run_starts f old was before store readable writable some denied same empty peak = (ran_nothing f old was readable writable, keeps_starts before store some denied same empty peak)
+
+-- A line came by way of the first slot, and what is written of it was pushed.
+pub line_came : (f : List ℕ → List (List ℕ)) (old now new : Reader) (was is is' : Output) (before store after : Slots) (ending : ℕ) (seen : List ℕ) → (r : Ran f old now was is) → Keeps before store (longest r.ls) → is.faulted ≡ false → GivesLine now new store after 0
+    → ending ≡ old.ending → seen ≡ line after 0 → Wrote is is' (text ending (f seen)) → (r' : Ran f old new was is') × Keeps before after (longest r'.ls)
+unfolding ran_line
+line_came f old now new was is is' before store after ending seen r k clean e end_is seen_is wrote =
+    let same : seen ≡ e.line = seen_is ∙ ap (λ (s : Slots). line s 0) e.stored ∙ get_or-set_same store.lines 0 e.line [] k.slot in (
+      ran_line f old was now is r new store after 0 is' e clean (subst (λ (b : List ℕ). Wrote is is' b) (λ i. text (end_is i) (f (same i))) wrote),
+      keeps_push before store after r.ls e.line k e.stored,
+    )
+
+-- The whole lines of a block came, and what is written of them was pushed.
+pub block_came : (f : List ℕ → List (List ℕ)) (old now shown new : Reader) (was is is' : Output) (before store : Slots) (block : List ℕ) (count : ℕ) → (r : Ran f old now was is) → Keeps before store (longest r.ls) → is.faulted ≡ false
+    → Goes now shown [] → shown.held ≡ block → Wrote is is' (made old.ending f (ended_lines old.ending block)) → count ≤ length block → take count block ≡ text old.ending (ended_lines old.ending block) → new ≡ record shown { held = drop count shown.held }
+    → (r' : Ran f old new was is') × Keeps before store (longest r'.ls)
+unfolding ran_block
+block_came f old now shown new was is is' before store block count r k clean goes held wrote fits passed consumed = (
+  ran_block f old was now is r shown block goes held is' clean wrote new count fits passed consumed,
+  keeps_lines before store r.ls (ended_lines old.ending block) k,
+)

@@ -1,10 +1,8 @@
-use Rattle.std.proofs.Common.{◌≡◌, refl, false, ◌||◌, not, ℕ, List, take, drop, take-append-drop, sym, ◌∙◌, subst}
-use Rattle.std.specs.List.{list_any}
+use Rattle.std.proofs.Common.{refl, ℕ, List, take, drop, take-append-drop, sym, ◌∙◌, subst}
 use Rattle.std.proofs.lemmas.Bool.{false≢true}
 use Rattle.ptlines.specs.Outputs.{Wrote}
 use Rattle.ptlines.proofs.Pushed.{wrote_nothing}
 use Rattle.ptlangs.specs.Jobs.{cut_job}
-use Rattle.ptflow.specs.Cuts.{is_delimiter}
 use Rattle.ptflow.proofs.FieldLines.{found, written_dropped, written_whole}
 use Rattle.ptflow.proofs.fields.push_line.Goals as goal
 

@@ -1,4 +1,4 @@
-use Rattle.std.proofs.Common.{◌+◌, ◌++◌, ℕ, List, length, drop, take, sym, ap, subst, arith, length-append}
+use Rattle.std.proofs.Common.{◌++◌, ℕ, List, length, ap, subst, arith, length-append}
 use Rattle.std.specs.List.{flat_map}
 use Rattle.std.proofs.lemmas.List.{take_rest}
 use Rattle.ptlines.specs.Outputs.{Wrote}
@@ -7,7 +7,7 @@ use Rattle.ptlines.proofs.Scanned.{no_end}
 use Rattle.ptlangs.specs.Jobs.{cut_job}
 use Rattle.ptflow.specs.Cuts.{cut_line}
 use Rattle.ptflow.proofs.CutRests.{line_of, end_of}
-use Rattle.ptflow.proofs.LineRuns.{lining_starts, lining_more, lining_fails, lining_done, lining_count}
+use Rattle.ptflow.proofs.Lining.{lining_starts, lining_more, lining_fails, lining_done, lining_count}
 use Rattle.ptflow.proofs.fields.push_lines.Goals as goal
 
 pub lines-init : goal.lines-init

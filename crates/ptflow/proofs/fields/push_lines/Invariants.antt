@@ -1,7 +1,7 @@
 use Rattle.std.proofs.Common.{length}
 use Rattle.ptlangs.specs.Jobs.{cut_job}
 use Rattle.ptflow.specs.Cuts.{cut_line}
-use Rattle.ptflow.proofs.LineRuns.{Lining}
+use Rattle.ptflow.proofs.Lining.{Lining}
 use Rattle.ptflow.proofs.fields.push_lines.Given as goal
 
 abbrev pub invariant-lines : goal.invariant-lines

@@ -1,1 +1,0 @@
-use Rattle.ptflow.proofs.slots.need_slots.Goals as goal
