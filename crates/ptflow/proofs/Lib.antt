@@ -1,6 +1,7 @@
 pub mod Chosen
 pub mod CutLaws
 pub mod CutRests
+pub mod CutRows
 pub mod FieldLines
 pub mod FieldPlaces
 pub mod FieldWalks

@@ -46,8 +46,9 @@ fn push_fields<A: Allocator + Copy, W: Sink>(
 {
     let selected = job.list.intervals();
     let line = &bytes[..count];
-    let mut at = 0;
+    // The field of this number starts at this place, and so many delimiters stand in front of the next slice.
     let mut number = 1;
+    let mut at = 0;
     let mut lead = 0;
     for interval in selected {
         let Interval { first, last } = *interval;
