@@ -15,7 +15,7 @@ use Rattle.ptflow.specs.Cuts.{chosen_from}
 abbrev pub lies_in : Interval → ℕ → Bool
 lies_in r n = nat_le r.first n && nat_le n r.last
 
-abbrev pub chosen : (ℕ → Bool) → ℕ → List ℕ → List ℕ
+abbrev pub chosen : {X : Type 0} → (ℕ → Bool) → ℕ → List X → List X
 chosen test n xs = chosen_from test n xs
 
 inside : (r : Interval) (n : ℕ) → r.first ≤ n → n ≤ r.last → lies_in r n ≡ true
@@ -33,50 +33,58 @@ not_selected [] low n apart out = refl
 not_selected (r ∷ rs) low n apart out = rw (below r n (omega (arith, apart.0))) (not_selected rs (r.last + 1) n apart.2 (omega (arith, apart.0, apart.1)))
 
 -- none of the items is chosen
-pub chosen_none : (test : ℕ → Bool) (n : ℕ) (xs : List ℕ) → ((k : ℕ) → n ≤ k → k < n + length xs → test k ≡ false) → chosen test n xs ≡ []
+pub chosen_none : {X : Type 0} (test : ℕ → Bool) (n : ℕ) (xs : List X) → ((k : ℕ) → n ≤ k → k < n + length xs → test k ≡ false) → chosen test n xs ≡ []
 chosen_none test n [] out = refl
 chosen_none test n (x ∷ xs) out = rw (out n (omega arith) (omega arith)) (chosen_none test (n + 1) xs (λ k low high. out k (omega arith) (omega arith)))
 
-pub chosen_past : (r : Interval) (n : ℕ) (xs : List ℕ) → r.last < n → chosen (lies_in r) n xs ≡ []
+pub chosen_past : {X : Type 0} (r : Interval) (n : ℕ) (xs : List X) → r.last < n → chosen (lies_in r) n xs ≡ []
 chosen_past r n xs past = chosen_none (lies_in r) n xs (λ k low high. above r k (omega arith))
 
 -- the first interval chooses, and then the others; here for one item more
-chosen_step : (r : Interval) (rs : List Interval) (n x : ℕ) (xs : List ℕ) → AreApart (r.last + 1) rs
+chosen_step : {X : Type 0} (r : Interval) (rs : List Interval) (n : ℕ) (x : X) (xs : List X) → AreApart (r.last + 1) rs
     → chosen (is_selected (r ∷ rs)) (n + 1) xs ≡ chosen (lies_in r) (n + 1) xs ++ chosen (is_selected rs) (n + 1) xs
     → chosen (is_selected (r ∷ rs)) n (x ∷ xs) ≡ chosen (lies_in r) n (x ∷ xs) ++ chosen (is_selected rs) n (x ∷ xs)
-chosen_step r rs n x xs apart more = ⊎_elim (λ is. early (omega (arith, is))) (λ h. ⊎_elim (λ low. early (omega (arith, low))) late h) (cases_order n r.last)
+chosen_step {X} r rs n x xs apart more = ⊎_elim (λ is. early (omega (arith, is))) (λ h. ⊎_elim (λ low. early (omega (arith, low))) late h) (cases_order n r.last)
   where
     by_first : (a : Bool) → cond (a || false) (x ∷ chosen (is_selected (r ∷ rs)) (n + 1) xs) (chosen (is_selected (r ∷ rs)) (n + 1) xs) ≡ cond a (x ∷ chosen (lies_in r) (n + 1) xs) (chosen (lies_in r) (n + 1) xs) ++ chosen (is_selected rs) (n + 1) xs
-    by_first true = ap (λ (l : List ℕ). x ∷ l) more
+    by_first true = ap (λ (l : List X). x ∷ l) more
     by_first false = more
 
     early : n ≤ r.last → chosen (is_selected (r ∷ rs)) n (x ∷ xs) ≡ chosen (lies_in r) n (x ∷ xs) ++ chosen (is_selected rs) n (x ∷ xs)
     early low = rw (not_selected rs (r.last + 1) n apart (omega arith)) (by_first (lies_in r n))
 
     by_others : (b : Bool) → chosen (lies_in r) (n + 1) xs ≡ [] → cond b (x ∷ chosen (is_selected (r ∷ rs)) (n + 1) xs) (chosen (is_selected (r ∷ rs)) (n + 1) xs) ≡ chosen (lies_in r) (n + 1) xs ++ cond b (x ∷ chosen (is_selected rs) (n + 1) xs) (chosen (is_selected rs) (n + 1) xs)
-    by_others true none = ap (λ (l : List ℕ). x ∷ l) (more ∙ ap (λ (l : List ℕ). l ++ chosen (is_selected rs) (n + 1) xs) none) ∙ ap (λ (l : List ℕ). l ++ x ∷ chosen (is_selected rs) (n + 1) xs) (sym none)
+    by_others true none = ap (λ (l : List X). x ∷ l) (more ∙ ap (λ (l : List X). l ++ chosen (is_selected rs) (n + 1) xs) none) ∙ ap (λ (l : List X). l ++ x ∷ chosen (is_selected rs) (n + 1) xs) (sym none)
     by_others false none = more
 
     late : r.last < n → chosen (is_selected (r ∷ rs)) n (x ∷ xs) ≡ chosen (lies_in r) n (x ∷ xs) ++ chosen (is_selected rs) n (x ∷ xs)
     late high = rw (above r n high) (by_others (is_selected rs n) (chosen_past r (n + 1) xs (omega arith)))
 
-pub chosen_first : (r : Interval) (rs : List Interval) (n : ℕ) (xs : List ℕ) → AreApart (r.last + 1) rs → chosen (is_selected (r ∷ rs)) n xs ≡ chosen (lies_in r) n xs ++ chosen (is_selected rs) n xs
+pub chosen_first : {X : Type 0} (r : Interval) (rs : List Interval) (n : ℕ) (xs : List X) → AreApart (r.last + 1) rs → chosen (is_selected (r ∷ rs)) n xs ≡ chosen (lies_in r) n xs ++ chosen (is_selected rs) n xs
 chosen_first r rs n [] apart = refl
 chosen_first r rs n (x ∷ xs) apart = chosen_step r rs n x xs apart (chosen_first r rs (n + 1) xs apart)
 
-take-nil : (k : ℕ) → (let none : List ℕ = [] in take k none ≡ none)
+-- the first items are not chosen
+pub chosen_skip : {X : Type 0} (test : ℕ → Bool) (n count : ℕ) (xs : List X) → ((k : ℕ) → n ≤ k → k < n + count → test k ≡ false) → chosen test n xs ≡ chosen test (n + count) (drop count xs)
+chosen_skip test n zero xs out = let same : n + 0 ≡ n = omega arith in rw same refl
+chosen_skip test n (suc count) [] out = refl
+chosen_skip test n (suc count) (x ∷ xs) out =
+    let same : n + suc count ≡ (n + 1) + count = omega arith in
+    rw (out n (omega arith) (omega arith), same) (chosen_skip test (n + 1) count xs (λ k low high. out k (omega arith) (omega arith)))
+
+take-nil : {X : Type 0} (k : ℕ) → (let none : List X = [] in take k none ≡ none)
 take-nil zero = refl
 take-nil (suc k) = refl
 
 -- what one interval chooses is a slice, from the item i up to the item j
-pub chosen_slice : (r : Interval) (n : ℕ) (xs : List ℕ) (i j : ℕ) → i ≡ r.first - n → j ≡ r.last + 1 - n → chosen (lies_in r) n xs ≡ take (j - i) (drop i xs)
+pub chosen_slice : {X : Type 0} (r : Interval) (n : ℕ) (xs : List X) (i j : ℕ) → i ≡ r.first - n → j ≡ r.last + 1 - n → chosen (lies_in r) n xs ≡ take (j - i) (drop i xs)
 chosen_slice r n [] zero j is js = sym (take-nil (j - 0))
 chosen_slice r n [] (suc i) j is js = sym (take-nil (j - suc i))
 chosen_slice r n (x ∷ xs) i zero is js = chosen_past r n (x ∷ xs) (omega (arith, js)) ∙ (let none : 0 - i ≡ 0 = omega arith in rw none refl)
-chosen_slice r n (x ∷ xs) zero (suc j) is js =
+chosen_slice {X} r n (x ∷ xs) zero (suc j) is js =
     let whole : suc j - 0 ≡ suc j = omega arith in
     let rest : j - 0 ≡ j = omega arith in
-    rw (inside r n (omega (arith, is)) (omega (arith, js)), whole) (ap (λ (l : List ℕ). x ∷ l) (chosen_slice r (n + 1) xs zero j (omega (arith, is)) (omega (arith, js)) ∙ ap (λ (k : ℕ). take k xs) rest))
+    rw (inside r n (omega (arith, is)) (omega (arith, js)), whole) (ap (λ (l : List X). x ∷ l) (chosen_slice r (n + 1) xs zero j (omega (arith, is)) (omega (arith, js)) ∙ ap (λ (k : ℕ). take k xs) rest))
 chosen_slice r n (x ∷ xs) (suc i) (suc j) is js =
     let same : suc j - suc i ≡ j - i = omega arith in
     rw (below r n (omega (arith, is)), same) (chosen_slice r (n + 1) xs i j (omega (arith, is)) (omega (arith, js)))

@@ -1,55 +1,15 @@
 -- That what `cut` writes byte by byte is what it is to write of whole lines.
-use Rattle.std.proofs.Common.{◌≡◌, ℕ, ◌==◌, Bool, true, false, cond, List, [], ◌∷◌, ◌++◌, map, refl, sym, ◌∙◌, ap, subst, append_assoc}
+use Rattle.std.proofs.Common.{◌≡◌, ℕ, false, List, [], ◌∷◌, ◌++◌, map, refl, sym, ◌∙◌, ap, append_assoc}
 use Rattle.std.specs.List.{flat_map}
-use Rattle.std.proofs.lemmas.Bool.{eqb-true, eqb-false}
 use Rattle.std.proofs.lemmas.List.{append-nil, append_cancel_right, map-append}
-use Rattle.ptlines.specs.Text.{text, lines, ended_lines, onto_line, IsLine, AreLines}
+use Rattle.ptlines.specs.Text.{text, lines, ended_lines}
 use Rattle.ptlines.specs.Inputs.{Begins}
 use Rattle.ptlines.proofs.TextLaws.{lines_first, lines_of_text, text-append}
 use Rattle.ptlangs.specs.Jobs.{Cut}
 use Rattle.ptflow.specs.Cuts.{chosen_from, cut_line, cut, cut_decided}
 use Rattle.ptflow.specs.Rests.{cut_rest}
 use Rattle.ptflow.proofs.CutRests.{cut_text, rest_of_all, rest_line}
-
--- the whole lines of a text, and the piece behind them
-pub record Parts (end : ℕ) (bytes : List ℕ) : Type 0 where
-  pub piece : List ℕ
-  pub is : bytes ≡ text end (ended_lines end bytes) ++ piece
-  pub whole : AreLines end (ended_lines end bytes)
-  pub line : IsLine end piece
-
-parts_more : (end b : ℕ) (bytes : List ℕ) → Parts end bytes → Parts end (b ∷ bytes)
-parts_more end b bytes p = by_test (b == end) refl
-  where
-    at_end : (b == end) ≡ true → Parts end (b ∷ bytes)
-    at_end same = record {
-      piece = p.piece;
-      is = (λ i. eqb-true b end same i ∷ p.is i) ∙ ap (λ (t : Bool). text end (cond t ([] ∷ ended_lines end bytes) (onto_line b (ended_lines end bytes))) ++ p.piece) (sym same);
-      whole = subst (λ (t : Bool). AreLines end (cond t ([] ∷ ended_lines end bytes) (onto_line b (ended_lines end bytes)))) (sym same) (tt, p.whole);
-      line = p.line;
-    }
-
-    onto : (ls : List (List ℕ)) → bytes ≡ text end ls ++ p.piece → AreLines end ls → (b == end) ≡ false
-        → (piece : List ℕ) × (b ∷ bytes ≡ text end (onto_line b ls) ++ piece) × AreLines end (onto_line b ls) × IsLine end piece
-    onto [] is whole other = (b ∷ p.piece, ap (λ (l : List ℕ). b ∷ l) is, tt, (eqb-false b end other, p.line))
-    onto (l ∷ ls) is whole other = (p.piece, ap (λ (l : List ℕ). b ∷ l) is, ((eqb-false b end other, whole.0), whole.1), p.line)
-
-    inside : (b == end) ≡ false → Parts end (b ∷ bytes)
-    inside other =
-        let o = onto (ended_lines end bytes) p.is p.whole other in record {
-          piece = o.0;
-          is = o.1 ∙ ap (λ (t : Bool). text end (cond t ([] ∷ ended_lines end bytes) (onto_line b (ended_lines end bytes))) ++ o.0) (sym other);
-          whole = subst (λ (t : Bool). AreLines end (cond t ([] ∷ ended_lines end bytes) (onto_line b (ended_lines end bytes)))) (sym other) o.2;
-          line = o.3;
-        }
-
-    by_test : (t : Bool) → (b == end) ≡ t → Parts end (b ∷ bytes)
-    by_test true same = at_end same
-    by_test false other = inside other
-
-pub parts_of : (end : ℕ) (bytes : List ℕ) → Parts end bytes
-parts_of end [] = record { piece = []; is = refl; whole = tt; line = tt }
-parts_of end (b ∷ bytes) = parts_more end b bytes (parts_of end bytes)
+use Rattle.ptflow.proofs.LineLaws.{Parts, parts_of}
 
 module _ (end : ℕ) (job : Cut) (by_bytes : job.fields ≡ false) where
   -- each line gives one

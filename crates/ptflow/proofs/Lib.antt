@@ -1,5 +1,13 @@
 pub mod Chosen
 pub mod CutLaws
 pub mod CutRests
+pub mod CutRows
+pub mod FieldLines
+pub mod FieldPlaces
+pub mod FieldWalks
+pub mod LineLaws
+pub mod LineRuns
+pub mod LineStops
+pub mod Lining
 pub mod Passing
 pub mod Streaming

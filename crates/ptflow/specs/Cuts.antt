@@ -1,5 +1,5 @@
 -- What `cut` writes. `end` is the byte that ends a line.
-use Rattle.std.specs.Prelude.{ℕ, ◌+◌, ◌==◌, List, [], ◌∷◌, Bool, if◌then◌else◌}
+use Rattle.std.specs.Prelude.{ℕ, ◌+◌, ◌==◌, ◌||◌, List, [], ◌∷◌, Bool, not, if◌then◌else◌}
 use Rattle.std.specs.List.{flat_map, list_any, slice_split, join_with_byte}
 use Rattle.ptlines.specs.Text.{text, lines}
 use Rattle.ptlines.specs.Inputs.{Given, whole_lines}
@@ -20,6 +20,10 @@ is_delimiter job b = b == job.delimiter
 -- the fields whose numbers, counted from 1, are selected, joined by the delimiter
 abbrev pub cut_fields : Cut → List ℕ → List ℕ
 cut_fields job line = join_with_byte job.delimiter (chosen_from job.selected 1 (slice_split (is_delimiter job) line))
+
+-- of a line that is cut by fields something is written: it has the delimiter, or such lines are not dropped
+abbrev pub is_kept : Cut → List ℕ → Bool
+is_kept job line = list_any (is_delimiter job) line || not job.only
 
 -- what is written of a line: one line, or none
 abbrev pub cut_line : Cut → List ℕ → List (List ℕ)

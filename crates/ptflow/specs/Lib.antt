@@ -1,3 +1,4 @@
 pub mod Cuts
+pub mod FieldPlaces
 pub mod Rests
 pub mod Runs

@@ -1,5 +1,5 @@
 -- What some words of paste mean.
-use Rattle.std.proofs.Common.{◌≡◌, [], ◌∷◌, Some, None, Ok, Err, refl, codes, replicate, true, false}
+use Rattle.std.proofs.Common.{◌≡◌, [], ◌∷◌, Some, None, Ok, Err, refl, codes, replicate, true}
 use Rattle.std.specs.Str.{byte}
 use Rattle.ptlangs.specs.Jobs.{default_paste}
 use Rattle.ptopts.specs.Faults.{Unknown, NeedsValue, Twice, Value, Operands}

@@ -1,7 +1,6 @@
 -- What is asked for by words, as the command that was read of them says it.
 use Rattle.std.proofs.Common.{◌≡◌, ℕ, ◌+◌, ◌<◌, false, cond, List, [], ◌∷◌, Option, Some, None, Result, Ok, Err, length, refl, sym, ◌∙◌, ap, subst, arith}
 use Rattle.std.specs.Prelude.{All, codes, is_none}
-use Rattle.ptlangs.specs.Jobs as jobs
 use Rattle.ptopts.specs.declared.fault.UseFault.{UseFault}
 use Rattle.ptopts.specs.declared.inputs.Input.{Input}
 use Rattle.ptopts.specs.declared.command.Command as code
@@ -12,19 +11,15 @@ use Rattle.ptopts.specs.Inputs.{IsInputs, file_names}
 use Rattle.ptopts.specs.declared.inputs.Inputs.{Inputs}
 use Rattle.ptopts.specs.Answers.{meant}
 use Rattle.ptopts.specs.Meant.{IsMeant, inputs_of}
-use Rattle.ptrun.specs.Meanings.{Meaning}
 use Rattle.ptrun.specs.Messages.{said_of, status_of}
 use Rattle.ptrun.specs.Each.{place, cut_meaning}
-use Rattle.ptrun.specs.Asked.{saying, not_yet, command_as, meaning_in, tool_word, asked, asked_as, is_refused_memory}
+use Rattle.ptrun.specs.Asked.{saying, command_as, meaning_in, tool_word, asked, asked_as, is_refused_memory}
 use Rattle.std.proofs.lemmas.List.{length-map}
 use Rattle.ptlangs.specs.Answers.{IsFault}
 use Rattle.ptrun.proofs.Turning.{places_within}
 
 as_meant : {A : Type 0} (tool : List ℕ) (m : Result Command Fault) (command : code.Command A) → IsMeant (Ok command) m → meaning_in tool m ≡ command_as command
-as_meant tool (Ok (RunCut j operands)) (Cut job inputs) (same, is) = λ i. command_meaning_at (sym same i) (sym is.names i) (sym is.order i)
-  where
-    command_meaning_at : jobs.Cut → List (List ℕ) → List Input → Meaning
-    command_meaning_at j names order = cond j.fields (not_yet (codes "cut")) (cut_meaning j names order)
+as_meant tool (Ok (RunCut j operands)) (Cut job inputs) (same, is) = λ i. cut_meaning (sym same i) (sym is.names i) (sym is.order i)
 as_meant tool (Ok (RunPaste j operands)) (Paste job inputs) is = refl
 as_meant tool (Ok (RunUniq j input output)) (Uniq job inputs) is = refl
 as_meant tool (Ok (RunComm j operands)) (Comm job inputs) is = refl

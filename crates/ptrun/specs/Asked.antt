@@ -1,8 +1,6 @@
 -- What the words of a command ask for.
 use Rattle.std.specs.Prelude.{ℕ, List, [], Bool, true, false, Some, None, Result, Ok, Err, codes, length, slice_index_or, is_none, if◌then◌else◌}
 use Rattle.ptlangs.specs.Jobs.{cut_job}
-use Rattle.ptlangs.specs.declared.jobs.CutJob.{CutJob}
-use Rattle.ptopts.specs.declared.inputs.Inputs.{Inputs}
 use Rattle.ptopts.specs.Faults.{Fault}
 use Rattle.ptopts.specs.Commands.{Command, RunCut, RunPaste, RunUniq, RunComm, RunJoin, RunTr, meaning}
 use Rattle.ptopts.specs.Inputs.{file_names, order_from}
@@ -35,8 +33,7 @@ not_yet tool = saying (not_built tool) 1
 
 -- what a command asks for
 abbrev pub command_meaning : Command → Meaning
-command_meaning (RunCut job operands) =
-    if job.fields then not_yet (codes "cut") else cut_meaning job (file_names operands) (order_from 0 operands)
+command_meaning (RunCut job operands) = cut_meaning job (file_names operands) (order_from 0 operands)
 command_meaning (RunPaste job operands) = not_yet (codes "paste")
 command_meaning (RunUniq job input output) = not_yet (codes "uniq")
 command_meaning (RunComm job operands) = not_yet (codes "comm")
@@ -63,14 +60,9 @@ is_refused_memory (Err fault) = is_none (meant fault)
 abbrev pub asked_as : {A : Type 0} → Result (code.Command A) UseFault → List (List ℕ) → Meaning
 asked_as command words = if is_refused_memory command then saying (said_of (tool_word words) None) 1 else asked words
 
--- what `cut` is asked for
-abbrev pub cut_as : {A : Type 0} → CutJob A → Inputs A → Meaning
-cut_as job inputs =
-    if job.fields then not_yet (codes "cut") else cut_meaning (cut_job job) (words_seen inputs.names.items) inputs.order.items
-
 -- what a command that was read asks for
 abbrev pub command_as : {A : Type 0} → code.Command A → Meaning
-command_as (code_command.Cut job inputs) = cut_as job inputs
+command_as (code_command.Cut job inputs) = cut_meaning (cut_job job) (words_seen inputs.names.items) inputs.order.items
 command_as (code_command.Paste job inputs) = not_yet (codes "paste")
 command_as (code_command.Uniq job inputs) = not_yet (codes "uniq")
 command_as (code_command.Comm job inputs) = not_yet (codes "comm")
@@ -79,7 +71,7 @@ command_as (code_command.Tr strings inputs) = not_yet (codes "tr")
 
 -- nothing is read or written for this command
 abbrev pub is_quiet_command : {A : Type 0} → code.Command A → Bool
-is_quiet_command (code_command.Cut job inputs) = job.fields
+is_quiet_command (code_command.Cut job inputs) = false
 is_quiet_command _ = true
 
 abbrev pub is_quiet : {A : Type 0} → Result (code.Command A) UseFault → Bool

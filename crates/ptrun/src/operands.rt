@@ -60,7 +60,6 @@ pub(crate) fn cut_each<A: Allocator + Copy, S: Source, R: Source, W: Sink, E: Si
     out: &mut Out<W>,
     voice: &mut Voice<E>,
 ) -> Result<bool, FlowFault>
-    requires by_bytes { job.now.fields ≡ false }
     requires fresh { All IsFresh inputs.old }
     requires count { length inputs.old ≡ length names.now + 1 }
     requires fits { All (λ o. place o < length inputs.old) order.now }

@@ -1,11 +1,22 @@
+use Rattle.std.proofs.Common.{◌≡◌, subst}
 use Rattle.std.specs.Prelude.{codes}
+use Rattle.ptlangs.specs.Jobs.{cut_job}
+use Rattle.ptopts.specs.Answers.{words_seen}
+use Rattle.ptrun.specs.Meanings.{Meaning}
+use Rattle.ptrun.specs.Each.{cut_meaning}
+use Rattle.ptrun.specs.Reports.{IsRun}
 use Rattle.ptrun.specs.Messages.{not_built}
 use Rattle.ptrun.proofs.Concluding.{only_said}
 use Rattle.ptrun.proofs.Turning.{fresh_all}
 use Rattle.ptrun.proofs.running.run_command.Goals as goal
 
-pub returns-in-Cut-clause-quiet : goal.returns-in-Cut-clause-quiet
-returns-in-Cut-clause-quiet g c = rw c.in-Cut.is c.cut_command.ensures.quiet
+pub returns-in-Cut-clause-run : goal.returns-in-Cut-clause-run
+returns-in-Cut-clause-run g c =
+    let job = cut_job c.in-Cut.job in
+    let inputs = c.in-Cut.operands in
+    let asked : cut_meaning job (words_seen c.deref-in-Cut.result.now) c.deref.result.now ≡ cut_meaning job (words_seen inputs.names.items) inputs.order.items =
+    λ i. cut_meaning job (words_seen (c.deref-in-Cut.ensures.value i)) (c.deref.ensures.value i) in
+    rw c.in-Cut.is (subst (λ (m : Meaning). IsRun m c.args.inputs.now c.run_cut.new.inputs (g.W.Sink.state c.args.out) (g.W.Sink.state c.run_cut.result.out) c.args.voice (g.E.Sink.state c.run_cut.result.messages) c.run_cut.result.status c.run_cut.result.peak c.run_cut.result.denied) asked c.run_cut.ensures)
 
 pub returns-in-Paste-clause-run : goal.returns-in-Paste-clause-run
 returns-in-Paste-clause-run g c =

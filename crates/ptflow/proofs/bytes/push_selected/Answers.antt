@@ -3,8 +3,8 @@ use Rattle.std.proofs.lemmas.List.{length-take-le, take_rest}
 use Rattle.ptlangs.specs.declared.ranges.Interval.{Interval}
 use Rattle.ptlines.specs.Outputs.{Wrote}
 use Rattle.ptflow.proofs.Chosen.{Choosing, choosing_starts, choosing_more, choosing_past, choosing_fails, choosing_ends, choosing_done, at_place, none_left, slice_is, rest_is}
-use Rattle.ptflow.proofs.cutting.push_selected.Goals as goal
-use Rattle.ptflow.proofs.cutting.push_selected.Goals.{then-before-interval+in_ok-push, else-before-interval}
+use Rattle.ptflow.proofs.bytes.push_selected.Goals as goal
+use Rattle.ptflow.proofs.bytes.push_selected.Goals.{then-before-interval+in_ok-push, else-before-interval}
 
 pub loop-interval-init : goal.loop-interval-init
 loop-interval-init g c = choosing_starts c.args.selected.now (c.args.before + 1) (take c.args.count c.args.bytes.now) c.args.out.now c.requires.clean c.requires.apart

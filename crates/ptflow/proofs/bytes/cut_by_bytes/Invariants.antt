@@ -3,7 +3,7 @@ use Rattle.ptlangs.specs.CutLists.{is_selected}
 use Rattle.ptflow.specs.Rests.{cut_rest}
 use Rattle.ptflow.proofs.Passing.{Passing}
 use Rattle.std.proofs.Common.{◌≤◌, length}
-use Rattle.ptflow.proofs.cutting.cut.Given as goal
+use Rattle.ptflow.proofs.bytes.cut_by_bytes.Given as goal
 
 abbrev pub invariant-turns : goal.invariant-turns
 invariant-turns g l = record {

@@ -5,7 +5,7 @@ use Rattle.ptlines.proofs.Scanned.{no_end}
 use Rattle.ptflow.specs.Rests.{cut_rest}
 use Rattle.ptflow.proofs.CutRests.{line_on, piece_on}
 use Rattle.ptflow.proofs.Passing.{amid_more, amid_done, amid_halts}
-use Rattle.ptflow.proofs.cutting.push_block.Goals as goal
+use Rattle.ptflow.proofs.bytes.push_block.Goals as goal
 
 on_err : {T E : Type 0} (r : Result T E) {P : Type 0} → P → OnErr r P
 on_err (Ok u) p = tt

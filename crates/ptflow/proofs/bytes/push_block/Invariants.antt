@@ -2,7 +2,7 @@ use Rattle.std.proofs.Common.{◌+◌, ◌≤◌, length}
 use Rattle.ptlangs.specs.CutLists.{is_selected}
 use Rattle.ptflow.specs.Rests.{cut_rest}
 use Rattle.ptflow.proofs.Passing.{Amid}
-use Rattle.ptflow.proofs.cutting.push_block.Given as goal
+use Rattle.ptflow.proofs.bytes.push_block.Given as goal
 
 abbrev pub invariant-lines : goal.invariant-lines
 invariant-lines g l = record {

@@ -14,7 +14,7 @@ use Rattle.ptflow.specs.Rests.{cut_rest}
 use Rattle.ptflow.proofs.CutLaws.{rest_is_cut, rest_is_decided}
 use Rattle.ptflow.proofs.Passing.{passing_starts, passing_more, passing_counts}
 use Rattle.ptflow.proofs.Streaming.{streaming_read, streaming_write, streaming_done, streaming_unended}
-use Rattle.ptflow.proofs.cutting.cut.Goals as goal
+use Rattle.ptflow.proofs.bytes.cut_by_bytes.Goals as goal
 
 pub turns-init : goal.turns-init
 turns-init g c = record {
