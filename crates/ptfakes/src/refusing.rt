@@ -11,7 +11,7 @@ pub struct Refusing<B: Allocator> {
 }
 
 impl<B: Allocator> Refusing<B> {
-    /// Refuses the growth that comes after `passed` others.
+    /// Refuses the growth that comes after `passing` others; with `u64::MAX` none.
     pub fn after(inner: B, passing: u64) -> Self {
         Refusing {
             inner,
