@@ -79,3 +79,31 @@ bytes_and_fields = refl
 -- a read fails behind the first line: it was decided, and what came of the second was not
 decided_before_a_failed_read : (asked (codes "cut" ∷ codes "-c" ∷ codes "1-3" ∷ [])).decided (Some (record { bytes = codes "abcd\nab"; ended = false }) ∷ []) ≡ codes "abc\n"
 decided_before_a_failed_read = refl
+
+fields_in_their_order : cut (codes "-d" ∷ codes ":" ∷ codes "-f" ∷ codes "2,2,1" ∷ []) (input (codes "a:b:c\nxyz\n")) ≡ writes (codes "a:b\nxyz\n")
+fields_in_their_order = refl
+
+only_delimited_lines : cut (codes "-s" ∷ codes "-d" ∷ codes ":" ∷ codes "-f" ∷ codes "5" ∷ []) (input (codes "a:b\nxyz\n")) ≡ writes (codes "\n")
+only_delimited_lines = refl
+
+standard_input_between_files : cut (codes "-d" ∷ codes "," ∷ codes "-f" ∷ codes "2-" ∷ codes "f" ∷ codes "-" ∷ codes "g" ∷ []) (Some (codes "x\n") ∷ Some (codes "a,b,c\n") ∷ Some (codes ",\n") ∷ []) ≡ writes (codes "b,c\nx\n\n")
+standard_input_between_files = refl
+
+standard_input_twice : cut (codes "-f" ∷ codes "1" ∷ codes "-" ∷ codes "-" ∷ []) (input (codes "a\tb")) ≡ writes (codes "a\n")
+standard_input_twice = refl
+
+empty_lines : cut (codes "-f" ∷ codes "1" ∷ []) (input (codes "\n\n")) ≡ writes (codes "\n\n")
+empty_lines = refl
+
+empty_lines_are_not_delimited : cut (codes "-s" ∷ codes "-f" ∷ codes "1" ∷ []) (input (codes "\n\n")) ≡ writes []
+empty_lines_are_not_delimited = refl
+
+fields_decided_before_a_failed_read : (asked (codes "cut" ∷ codes "-d" ∷ codes ":" ∷ codes "-f" ∷ codes "1" ∷ [])).decided (Some (record { bytes = codes "a:b\nc:d"; ended = false }) ∷ []) ≡ codes "a\n"
+fields_decided_before_a_failed_read = refl
+
+-- before a failed read of the second operand, the first was refused
+said_of_the_first_operand : (asked (codes "cut" ∷ codes "-c" ∷ codes "1" ∷ codes "g" ∷ codes "f" ∷ codes "h" ∷ [])).named (Some [] ∷ None ∷ Some (codes "x") ∷ None ∷ []) 1 ≡ codes "cut: g: cannot be opened\n"
+said_of_the_first_operand = refl
+
+not_built_yet : outcome (codes "uniq" ∷ codes "-c" ∷ []) (input (codes "a\n")) ≡ record { out = []; messages = codes "uniq: not built yet\n"; status = 1 }
+not_built_yet = refl

@@ -8,6 +8,8 @@ mod cuts;
 #[cfg(test)]
 mod faking;
 #[cfg(test)]
+mod fields;
+#[cfg(test)]
 mod reading;
 #[cfg(test)]
 mod refusals;
