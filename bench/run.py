@@ -9,6 +9,7 @@ first. Below the table stands the least address space in which an empty line and
 
 import os
 import resource
+import statistics
 import subprocess
 import sys
 import tempfile
@@ -16,10 +17,8 @@ import tempfile
 SIZE = 64 << 20
 RUNS = 5
 
-WORDS = [
-    ["cut", "-c", "3-,1"],
-    ["cut", "-b", "5-20,40-60"],
-]
+BYTES = [["cut", "-c", "3-,1"], ["cut", "-b", "5-20,40-60"]]
+FIELDS = [["cut", "-d,", "-f1,3"], ["cut", "-d,", "-f7-"], ["cut", "-f2"]]
 
 
 def log_line(number):
@@ -29,12 +28,20 @@ def log_line(number):
     )
 
 
-# 64 MB of log-like lines, of lines of 4 bytes, of lines of 10,000 bytes, and one line.
+def table_line(number, separator):
+    return separator.join(str(number * factor % 65536) for factor in range(3, 13)) + "\n"
+
+
+# What is repeated to 64 MB, and what is cut of it.
 INPUTS = {
-    "log": lambda: "".join(log_line(number) for number in range(20000)),
-    "short": lambda: "abcd\n",
-    "long": lambda: "0123456789" * 1000 + "\n",
-    "one line": lambda: "0123456789" * 1000,
+    "log": (lambda: "".join(log_line(number) for number in range(20000)), BYTES),
+    "short": (lambda: "abcd\n", BYTES),
+    "long": (lambda: "0123456789" * 1000 + "\n", BYTES),
+    "one line": (lambda: "0123456789" * 1000, BYTES),
+    "commas": (lambda: "".join(table_line(number, ",") for number in range(20000)), FIELDS),
+    "tabs": (lambda: "".join(table_line(number, "\t") for number in range(20000)), FIELDS[2:]),
+    "long,": (lambda: "0123456789," * 1000 + "\n", FIELDS),
+    "one line,": (lambda: "0123456789,", FIELDS),
 }
 
 
@@ -101,14 +108,18 @@ def main():
     names = sys.argv[2:] or list(INPUTS)
     with tempfile.TemporaryDirectory() as folder:
         print(f"{'input':10} {'words':32} {'ptext s':>8} {'system s':>8} {'ratio':>6}")
+        ratios = []
         for name in names:
             path = os.path.join(folder, name)
-            write_input(path, INPUTS[name]().encode())
-            for words in WORDS:
+            piece, commands = INPUTS[name]
+            write_input(path, piece().encode())
+            for words in commands:
                 ours, theirs = compare(folder, path, ptext, words)
+                ratios.append(ours / theirs)
                 print(f"{name:10} {' '.join(words):32} {ours:8.3f} {theirs:8.3f} {ours / theirs:6.2f}")
+        print(f"geometric mean of the ratios: {statistics.geometric_mean(ratios):.2f}")
         empty, line = os.path.join(folder, "empty"), os.path.join(folder, "one line")
-        write_input(line, INPUTS["one line"]().encode())
+        write_input(line, INPUTS["one line"][0]().encode())
         with open(empty, "wb") as file:
             file.write(b"\n")
         for name, path in [("an empty line", empty), ("a line of 64 MB", line)]:

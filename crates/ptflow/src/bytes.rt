@@ -17,6 +17,7 @@ use std::alloc::Allocator;
 
 // Pushes the selected bytes of a piece of a line, the first `count` of these bytes, and then all the other bytes:
 // the one that ends the line, or none. In front of the piece stand `before` bytes of the line.
+#[inline(always)]
 fn push_selected<W: Sink>(
     selected: &[Interval],
     before: u64,
