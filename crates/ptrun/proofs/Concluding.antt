@@ -17,7 +17,7 @@ use Rattle.ptflow.specs.declared.faults.FlowFault.TheVariants.{Read, Write, Memo
 use Rattle.ptrun.specs.Worlds.{World, Reading, at, AgreesAt, Agrees, reader_at, CameAt, IsReading, IsFresh, HasFailed, IsTooLong, TellsAt, TellsWorld}
 use Rattle.ptrun.specs.Sayings.{Tells}
 use Rattle.ptrun.specs.Messages.{failure}
-use Rattle.ptrun.specs.Meanings.{Meaning}
+use Rattle.ptrun.specs.Meanings.{Meaning, messages}
 use Rattle.ptrun.specs.Reports.{Cause, WentTo, Went, Stop, EndsAs, IsRun, IsExact, Headline, Finishes, Concludes}
 use Rattle.ptrun.proofs.Told.{tells_trans}
 use Rattle.ptrun.proofs.Passing.{nothing_read, nothing_long, reading_of}
@@ -194,9 +194,12 @@ named_of m old new was is is' told heard before store went ended count long k f 
 
 -- ---- the end of a run
 
-module _ (m : Meaning) (all_named : (w : World) → m.messages w ≡ m.named w (length m.places)) (old new : List Reader) (was is is' : Output) (first last : SinkState) (told heard heard' : SinkState) (before store : Slots) (went ended : Result Bool FlowFault) (status : ℕ)
+module _ (m : Meaning) (none_behind : (w : World) → m.closing w ≡ []) (old new : List Reader) (was is is' : Output) (first last : SinkState) (told heard heard' : SinkState) (before store : Slots) (went ended : Result Bool FlowFault) (status : ℕ)
     (k : Went m old new was is told heard before store went) (f : Finishes is is' went ended) (c : Concludes m.tool m.name heard heard' status ended)
     (empty : was.staged ≡ []) (taken : was.taken ≡ first.taken) (unfailed : was.failed ≡ false) (last_taken : last.taken ≡ is'.taken) (last_failed : last.failed ≡ is'.failed) (low : before.peak ≡ 0) where
+  all_named : (w : World) → messages m w ≡ m.named w (length m.places)
+  all_named w = ap (λ (l : List ℕ). m.named w (length m.places) ++ l) (none_behind w) ∙ append-nil (m.named w (length m.places))
+
   wrote_all : (b : Bool) → is.faulted ≡ b → Wrote was is' k.pushed
   wrote_all true faulted = subst (λ (o : Output). Wrote was o k.pushed) (sym (f.stays faulted)) k.wrote
   wrote_all false clean = subst (λ (l : List ℕ). Wrote was is' l) (append-nil k.pushed) (wrote_trans was is is' k.pushed [] clean k.wrote f.wrote)

@@ -1,11 +1,11 @@
 -- A tool that goes over its operands, one after another.
-use Rattle.std.proofs.Common.{◌≡◌, ◌≢◌, ⊎_elim, inl, inr, ℕ, ◌<◌, ◌≤◌, ◌^◌, ◌||◌, Bool, true, false, cond, List, [], ◌∷◌, ◌++◌, Option, Some, None, Result, Ok, Err, length, map, set, max, refl, sym, ◌∙◌, ap, subst, arith, append_assoc, length-append, length-set}
+use Rattle.std.proofs.Common.{◌≡◌, ◌≢◌, ⊎_elim, inl, inr, ℕ, ◌<◌, ◌≤◌, ◌^◌, ◌||◌, Bool, true, false, cond, List, [], ◌∷◌, ◌++◌, Option, Some, None, Result, Ok, Err, length, take, map, set, max, refl, sym, ◌∙◌, ap, subst, arith, append_assoc, length-append, length-set}
 use Rattle.std.specs.Prelude.{flat_map, option_map, is_none, slice_get}
 use Rattle.std.specs.List.{list_any}
 use Rattle.std.specs.Io.KnownBytes.{prepend_known}
 use Rattle.std.proofs.lemmas.List.{append-nil, map-append, get_or-set_same, get_or-set_other, nil_from_length, length-map}
 use Rattle.std.proofs.Math.ListN.{get_or-map}
-use Rattle.std.proofs.Math.Seq.{take-append_seam}
+use Rattle.std.proofs.Math.Seq.{take-append_seam, take-length}
 use Rattle.std.proofs.lemmas.List.Concat.{flat_map-append}
 use Rattle.std.proofs.lemmas.Bool.{false≢true}
 use Rattle.ptlines.specs.Readers.{Reader, IsDone}
@@ -24,6 +24,7 @@ use Rattle.ptflow.specs.declared.faults.FlowFault.{FlowFault}
 use Rattle.ptflow.specs.declared.faults.FlowFault.TheVariants.{Read, Write, Memory}
 use Rattle.ptrun.specs.Worlds.{World, Reading, at, is_refused, AgreesAt, Agrees, is_in, found, founds, opened, sources, reader_at, no_reader, CameAt, IsReading, IsNew, IsFresh, HasFailed, IsTooLong}
 use Rattle.ptrun.specs.Sayings.{Tells}
+use Rattle.ptrun.specs.Meanings.{messages}
 use Rattle.ptrun.specs.Messages.{not_opened}
 use Rattle.ptrun.specs.Each.{Tool, greatest, up_to_open, refusals, each_out, each_bound, each_decided, one_by_one}
 use Rattle.ptrun.specs.Reports.{blame, Cause, Went}
@@ -231,6 +232,10 @@ nth_here : (done more : List ℕ) (p : ℕ) → slice_get (done ++ p ∷ more) (
 nth_here [] more p = refl
 nth_here (q ∷ done) more p = nth_here done more p
 
+-- behind the operands nothing is said
+all_said : (t : Tool) (name : ℕ → List ℕ) (order : List ℕ) (w : World) → messages (one_by_one t name order) w ≡ refusals t.name name (is_refused w) order
+all_said t name order w = append-nil (refusals t.name name (is_refused w) (take (length order) order)) ∙ ap (refusals t.name name (is_refused w)) (take-length order)
+
 module _ (t : Tool) (name : ℕ → List ℕ) (old : List Reader) (fresh : (q : ℕ) → IsFresh (reader_at old q)) (was : Output) (told : SinkState) (before : Slots) where
   pub pass_nothing : was.faulted ≡ false → before.denied ≡ false → total before.lines ≡ 0 → Pass t name old old was was told told before before [] false
   pass_nothing clean roomy empty = record {
@@ -260,7 +265,7 @@ module _ (t : Tool) (name : ℕ → List ℕ) (old : List Reader) (fresh : (q : 
     tells = k.tells;
     ends = record {
       out = k.out;
-      messages = λ w agrees. refusals_same t.name name (λ q. (reader_at old q).refused) (is_refused w) order (refused_same old now k.gave w came agrees);
+      messages = λ w agrees. refusals_same t.name name (λ q. (reader_at old q).refused) (is_refused w) order (refused_same old now k.gave w came agrees) ∙ sym (all_said t name order w);
       status_is = λ w agrees. ap (λ (b : Bool). cond b 1 0) (k.any_is ∙ any_same (λ q. (reader_at old q).refused) (is_refused w) order (refused_same old now k.gave w came agrees));
       written = k.clean;
       roomy = k.roomy;

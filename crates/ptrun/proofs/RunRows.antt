@@ -1,6 +1,7 @@
 -- What some whole commands are to write, say and answer, from their words.
 use Rattle.std.proofs.Common.{◌≡◌, ℕ, List, [], ◌∷◌, Some, None, refl, codes, false}
 use Rattle.ptrun.specs.Worlds.{World}
+use Rattle.ptrun.specs.Meanings.{messages}
 use Rattle.ptrun.specs.Asked.{asked}
 
 record Outcome : Type 0 where
@@ -9,7 +10,7 @@ record Outcome : Type 0 where
   status : ℕ
 
 abbrev outcome : List (List ℕ) → World → Outcome
-outcome words w = record { out = (asked words).out w; messages = (asked words).messages w; status = (asked words).status w }
+outcome words w = record { out = (asked words).out w; messages = messages (asked words) w; status = (asked words).status w }
 
 abbrev cut : List (List ℕ) → World → Outcome
 cut words w = outcome (codes "cut" ∷ words) w

@@ -14,7 +14,7 @@ use Rattle.ptlangs.specs.Jobs.{Cut}
 use Rattle.std.specs.List.{flat_map}
 use Rattle.ptflow.specs.Cuts.{cut_line, cut, cut_decided}
 use Rattle.ptrun.specs.Worlds.{reader_at, no_reader, IsFresh}
-use Rattle.ptrun.specs.Each.{place, places, cut_tool}
+use Rattle.ptrun.specs.Each.{Tool, place, places}
 use Rattle.std.specs.Prelude.{All, not}
 use Rattle.std.proofs.lemmas.List.Elements.{All-nil, All-cons}
 use Rattle.ptopts.specs.Faults.{is_standard}
@@ -42,17 +42,10 @@ places_split order i d p within is =
 pub places_end : (order : List Input) (i : ℕ) → length order ≤ i → take i (places order) ≡ places order
 places_end order i all = take_all i (places order) (omega (arith, all, length-map order place))
 
--- where the end was said, all is decided
-pub cut_law : (job : Cut) (g : Given) → g.ended ≡ true → cut_decided 10 job g ≡ cut 10 job g.bytes
-cut_law job g ended = ap (λ (b : Bool). text 10 (flat_map (cut_line job) (cond b (lines 10 g.bytes) (ended_lines 10 g.bytes)))) ended
-
--- a run over a reader whose lines end with newline is one of the tool
-pub cut_run : (job : Cut) (first reader new : Reader) (was is : Output) (before store : Slots) (result : Result (Unit {0}) FlowFault) → first ≡ reader → reader.ending ≡ 10
-    → IsRun (cut first.ending job) (cut_decided first.ending job) (longest_line first.ending) first new was is before store result
-    → IsRun (cut_tool job).text (cut_tool job).decided (cut_tool job).size reader new was is before store result
-cut_run job first reader new was is before store result same ends run =
-    subst (λ (e : ℕ). IsRun (cut e job) (cut_decided e job) (longest_line e) reader new was is before store result) ends
-    (subst (λ (r : Reader). IsRun (cut r.ending job) (cut_decided r.ending job) (longest_line r.ending) r new was is before store result) same run)
+-- a run over a reader is one over the same reader
+pub run_here : (t : Tool) (first reader new : Reader) (was is : Output) (before store : Slots) (result : Result (Unit {0}) FlowFault) → first ≡ reader
+    → IsRun t.text t.decided t.size first new was is before store result → IsRun t.text t.decided t.size reader new was is before store result
+run_here t first reader new was is before store result same run = subst (λ (r : Reader). IsRun t.text t.decided t.size r new was is before store result) same run
 
 -- ---- the operands of words
 

@@ -17,11 +17,11 @@ use Rattle.ptrun.specs.Each.{cut_meaning}
 abbrev pub saying : List ℕ → ℕ → Meaning
 saying text status = record {
   out = λ w. [];
-  messages = λ w. text;
   status = λ w. status;
   bound = λ w. 0;
   decided = λ r. [];
   named = λ w n. [];
+  closing = λ w. text;
   places = [];
   tool = [];
   name = λ p. [];

@@ -42,11 +42,11 @@ each_decided t r places = flat_map t.decided (up_to_open (sources nothing_left r
 abbrev pub one_by_one : Tool → (ℕ → List ℕ) → List ℕ → Meaning
 one_by_one t name places = record {
   out = λ w. each_out t w places;
-  messages = λ w. refusals t.name name (is_refused w) places;
   status = λ w. if list_any (is_refused w) places then 1 else 0;
   bound = λ w. each_bound t w places;
   decided = λ r. each_decided t r places;
   named = λ w n. refusals t.name name (is_refused w) (take n places);
+  closing = λ w. [];
   places = places;
   tool = t.name;
   name = name;

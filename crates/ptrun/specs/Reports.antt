@@ -9,7 +9,7 @@ use Rattle.ptlines.specs.Inputs.{Begins}
 use Rattle.ptflow.specs.declared.faults.FlowFault.{FlowFault}
 use Rattle.ptflow.specs.declared.faults.FlowFault.TheVariants.{Read, Write, Memory}
 use Rattle.ptrun.specs.Worlds.{World, Reading, at, Agrees, is_in, IsReading, HasFailed, IsTooLong, TellsWorld}
-use Rattle.ptrun.specs.Meanings.{Meaning}
+use Rattle.ptrun.specs.Meanings.{Meaning, messages}
 use Rattle.ptrun.specs.Sayings.{Tells}
 use Rattle.ptrun.specs.Messages.{failure}
 
@@ -28,7 +28,7 @@ Cause m r new failed denied n Memory = (denied ≡ true) × (failed ≡ false)
 -- all was done
 pub record IsWhole (m : Meaning) (r : Reading) (new : List Reader) (pushed said : List ℕ) (status : ℕ) (failed denied : Bool) : Type 0 where
   pub out : (w : World) → Agrees r w → pushed ≡ m.out w
-  pub messages : (w : World) → Agrees r w → said ≡ m.messages w
+  pub messages : (w : World) → Agrees r w → said ≡ messages m w
   pub status_is : (w : World) → Agrees r w → status ≡ m.status w
   pub written : failed ≡ false
   pub roomy : denied ≡ false
@@ -97,7 +97,7 @@ pub record IsRun (m : Meaning) (old new : List Reader) (was is told heard : Sink
 -- where nothing failed, the run is what the world that the readers tell asks for
 pub record IsExact (m : Meaning) (w : World) (was is told heard : SinkState) (status peak : ℕ) : Type 0 where
   pub out : is.taken ≡ append_known was.taken (m.out w)
-  pub messages : heard.failed ≡ false → heard.taken ≡ append_known told.taken (m.messages w)
+  pub messages : heard.failed ≡ false → heard.taken ≡ append_known told.taken (messages m w)
   pub status_is : status ≡ m.status w
   pub bounded : peak ≤ m.bound w
 

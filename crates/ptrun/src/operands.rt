@@ -2,16 +2,15 @@
 
 ghost use Rattle.std.specs.Prelude.{◌≡◌, ◌<◌, ◌+◌, ◌≤◌, false, length, All};
 ghost use Rattle.ptlines.specs.Slots.{total};
-ghost use Rattle.ptlangs.specs.Jobs.{cut_job};
 ghost use Rattle.ptrun.specs.Worlds.{IsFresh};
-ghost use Rattle.ptrun.specs.Each.{place, cut_meaning};
+ghost use Rattle.ptrun.specs.Each.{place, places, one_by_one};
 ghost use Rattle.ptrun.specs.Reports.{blame, Went};
 ghost use Rattle.ptrun.specs.Sayings.{texts};
 ghost use Rattle.ptrun.specs.Messages.{name_of};
 
+use crate::tools::OneByOne;
 use crate::voice::Voice;
-use ptflow::{FlowFault, cut};
-use ptlangs::jobs::CutJob;
+use ptflow::FlowFault;
 use ptlines::{LineReader, Out, Sink, Source, Store};
 use ptopts::Input;
 use std::alloc::Allocator;
@@ -50,9 +49,16 @@ fn at_operand(fault: FlowFault, place: usize) -> FlowFault
     }
 }
 
-// Cuts each operand in turn; true is that one was refused.
-pub(crate) fn cut_each<A: Allocator + Copy, S: Source, R: Source, W: Sink, E: Sink>(
-    job: &CutJob<A>,
+// Goes over each operand in turn; true is that one was refused.
+pub(crate) fn go_over_each<
+    A: Allocator + Copy,
+    T: OneByOne<A>,
+    S: Source,
+    R: Source,
+    W: Sink,
+    E: Sink,
+>(
+    tool: &T,
     order: &[Input],
     names: &[&str],
     inputs: &mut [LineReader<S, R>],
@@ -66,17 +72,17 @@ pub(crate) fn cut_each<A: Allocator + Copy, S: Source, R: Source, W: Sink, E: Si
     requires writable { out.old.faulted ≡ false }
     requires roomy { store.old.denied ≡ false }
     requires empty { total store.old.lines ≡ 0 }
-    ensures { Went (cut_meaning (cut_job job.now) (texts names.now) order.now) inputs.old inputs.new out.old out.new voice.old voice.new store.old store.new result }
+    ensures { Went (one_by_one (T.tool tool.now) (name_of (texts names.now)) (places order.now)) inputs.old inputs.new out.old out.new voice.old voice.new store.old store.new result }
 {
     let mut refused = false;
     for input in order {
         let place = place_of(*input);
         let reader = &mut inputs[place];
         if reader.is_refused() {
-            voice.say(&["cut", ": ", name_at(names, place), ": cannot be opened"]);
+            voice.say(&[tool.name(), ": ", name_at(names, place), ": cannot be opened"]);
             refused = true;
         } else {
-            match cut(job, reader, store, out) {
+            match tool.go_over(reader, store, out) {
                 Ok(()) => {}
                 Err(fault) => return Err(at_operand(fault, place)),
             }

@@ -16,7 +16,7 @@ returns-in-Cut-clause-run g c =
     let inputs = c.in-Cut.operands in
     let asked : cut_meaning job (words_seen c.deref-in-Cut.result.now) c.deref.result.now ≡ cut_meaning job (words_seen inputs.names.items) inputs.order.items =
     λ i. cut_meaning job (words_seen (c.deref-in-Cut.ensures.value i)) (c.deref.ensures.value i) in
-    rw c.in-Cut.is (subst (λ (m : Meaning). IsRun m c.args.inputs.now c.run_cut.new.inputs (g.W.Sink.state c.args.out) (g.W.Sink.state c.run_cut.result.out) c.args.voice (g.E.Sink.state c.run_cut.result.messages) c.run_cut.result.status c.run_cut.result.peak c.run_cut.result.denied) asked c.run_cut.ensures)
+    rw c.in-Cut.is (subst (λ (m : Meaning). IsRun m c.args.inputs.now c.run_each.new.inputs (g.W.Sink.state c.args.out) (g.W.Sink.state c.run_each.result.out) c.args.voice (g.E.Sink.state c.run_each.result.messages) c.run_each.result.status c.run_each.result.peak c.run_each.result.denied) asked c.run_each.ensures)
 
 pub returns-in-Paste-clause-run : goal.returns-in-Paste-clause-run
 returns-in-Paste-clause-run g c =

@@ -1,0 +1,64 @@
+//! The tools that go over their inputs one by one.
+
+ghost use Rattle.std.specs.Prelude.{◌≡◌, true, false, None};
+ghost use Rattle.ptlines.specs.Inputs.{Given};
+ghost use Rattle.ptlines.specs.Slots.{total};
+ghost use Rattle.ptflow.specs.Runs.{IsRun};
+ghost use Rattle.ptrun.specs.Each.{Tool};
+
+use ptflow::{FlowFault, cut};
+use ptlangs::jobs::CutJob;
+use ptlines::{LineReader, Out, Sink, Source, Store};
+use std::alloc::Allocator;
+
+/// What a tool does with each of its inputs.
+pub(crate) trait OneByOne<A: Allocator + Copy>: Drop {
+    /// What it is to do.
+    ghost tool: { Self → Tool };
+
+    /// The word that names it.
+    fn name(&self) -> &str
+        ensures { result.now ≡ (tool self.now).name };
+
+    /// Goes over one input.
+    fn go_over<S: Source, R: Source, W: Sink>(
+        &self,
+        reader: &mut LineReader<S, R>,
+        store: &mut Store<A>,
+        out: &mut Out<W>,
+    ) -> Result<(), FlowFault>
+        requires opened { reader.old.refused ≡ false }
+        requires readable { reader.old.fault ≡ None }
+        requires unfailed { reader.old.failed ≡ false }
+        requires ending { reader.old.ending ≡ 10 }
+        requires writable { out.old.faulted ≡ false }
+        requires roomy { store.old.denied ≡ false }
+        requires empty { total store.old.lines ≡ 0 }
+        ensures { IsRun (tool self.now).text (tool self.now).decided (tool self.now).size reader.old reader.new out.old out.new store.old store.new result };
+
+    /// Where the end of an input was said, all of it is decided.
+    ghost all_decided: { (s : Self) (g : Given) → g.ended ≡ true → (tool s).decided g ≡ (tool s).text g.bytes };
+}
+
+impl<A: Allocator + Copy> OneByOne<A> for CutJob<A> {
+    ghost use Rattle.ptlangs.specs.Jobs.{cut_job};
+    ghost use Rattle.ptrun.specs.Each.{cut_tool};
+    ghost use Rattle.ptrun.specs.Laws.{cut_all_decided};
+
+    ghost tool = { λ job. cut_tool (cut_job job) };
+
+    ghost all_decided = { λ job. cut_all_decided (cut_job job) };
+
+    fn name(&self) -> &str {
+        "cut"
+    }
+
+    fn go_over<S: Source, R: Source, W: Sink>(
+        &self,
+        reader: &mut LineReader<S, R>,
+        store: &mut Store<A>,
+        out: &mut Out<W>,
+    ) -> Result<(), FlowFault> {
+        cut(self, reader, store, out)
+    }
+}
