@@ -4,7 +4,7 @@ use Rattle.std.specs.Prelude.{is_some, IsTrue, if◌then◌else◌}
 use Rattle.std.proofs.lemmas.Bool.{cases_Bool}
 use Rattle.ptopts.specs.declared.tool.Tool.{Tool}
 use Rattle.ptopts.specs.Words.{GivenOption, Given, Spells, Reading, reading, options, tool_named}
-use Rattle.ptopts.specs.Faults.{Fault, Twice, first_of, is_spent, event_fault, reading_fault, combination_fault, values_fault, operands_fault}
+use Rattle.ptopts.specs.Faults.{Fault, Twice, first_of, is_spent, event_fault, reading_fault, combination_fault, values_fault, operands_fault, strings_fault}
 use Rattle.ptopts.specs.Commands.{Command, command, unless, first_fault, meaning, meaning_for}
 use Rattle.ptopts.specs.Laws.{AreAllowed, SpellsCommand, Spelled, MeantAsSpelled}
 use Rattle.ptopts.proofs.Spelled.{spelled}
@@ -48,42 +48,44 @@ once_to tool first (x ∷ os) once =
     rw here (once_to tool (first ++ x ∷ []) os (λ before after o is some.
     subst (λ (ys : List GivenOption). is_spent tool ys o.letter ≡ false) (sym (append_assoc first (x ∷ []) before)) (once (x ∷ before) after o (ap (λ (ys : List GivenOption). x ∷ ys) is) some)))
 
--- the first of four, where there is none
-none_of : {A : Type 0} (a b c d : Option A) → first_of (a ∷ b ∷ c ∷ d ∷ []) ≡ None → (a ≡ None) × (b ≡ None) × (c ≡ None) × (d ≡ None)
-none_of a b c d none =
+-- the first of five, where there is none
+none_of : {A : Type 0} (a b c d e : Option A) → first_of (a ∷ b ∷ c ∷ d ∷ e ∷ []) ≡ None → (a ≡ None) × (b ≡ None) × (c ≡ None) × (d ≡ None) × (e ≡ None)
+none_of a b c d e none =
     let p = option_or-none a _ none in
     let q = option_or-none b _ p.1 in
     let r = option_or-none c _ q.1 in
-    let s = option_or-none d None r.1 in
-    (p.0, q.0, r.0, s.0)
+    let s = option_or-none d _ r.1 in
+    let t = option_or-none e None s.1 in
+    (p.0, q.0, r.0, s.0, t.0)
 
-unless_ok : {A E : Type 0} (e : Option E) (r : Result A E) (x : A) → unless e r ≡ Ok x → (e ≡ None) × (r ≡ Ok x)
-unless_ok None r x is = (refl, is)
-unless_ok (Some e) r x is = cc
+unless_ok : {A E : Type 0} (e : Option E) (x y : A) → unless e x ≡ Ok y → (e ≡ None) × (x ≡ y)
+unless_ok None x y is = (refl, cc)
+unless_ok (Some e) x y is = cc
 
-meant_if_spelled : (tool : Tool) (words : List (List ℕ)) (os : List GivenOption) (operands : List (List ℕ)) (c : Command)
-    → Spells tool words os operands → AreAllowed tool os operands → command tool os operands ≡ Ok c → meaning_for (Some tool) words ≡ Ok c
-meant_if_spelled tool words os operands c s a is =
-    subst (λ (r : Reading). unless (first_fault tool r) (command tool (options r) r.operands) ≡ Ok c) (sym (spelled tool s))
-    (rw (options-map os, once_to tool [] os a.once, a.together, a.values, a.inputs) is)
+meant_if_spelled : (tool : Tool) (words : List (List ℕ)) (os : List GivenOption) (operands : List (List ℕ))
+    → Spells tool words os operands → AreAllowed tool os operands → meaning_for (Some tool) words ≡ Ok (command tool os operands)
+meant_if_spelled tool words os operands s a =
+    subst (λ (r : Reading). unless (first_fault tool r) (command tool (options r) r.operands) ≡ Ok (command tool os operands)) (sym (spelled tool s))
+    (rw (options-map os, once_to tool [] os a.once, a.together, a.values, a.inputs, a.strings) refl)
 
 spelled_if_meant : (name : List ℕ) (words : List (List ℕ)) (tool : Tool) (c : Command) → tool_named name ≡ Some tool → meaning_for (Some tool) words ≡ Ok c → SpellsCommand (name ∷ words) c
 spelled_if_meant name words tool c named is =
     let r : Reading = reading tool words in
     let os : List GivenOption = options r in
     let both = unless_ok (first_fault tool r) (command tool os r.operands) c is in
-    let none = none_of (reading_fault tool [] r.events) (combination_fault tool os) (values_fault tool os) (operands_fault tool os r.operands) both.0 in
+    let none = none_of (reading_fault tool [] r.events) (combination_fault tool os) (values_fault tool os) (operands_fault tool os r.operands) (strings_fault tool os r.operands) both.0 in
     let s : Spells tool words os r.operands = spelled_unless_faulty tool words none.0 in
     let events : reading_fault tool [] (map Given os) ≡ None = subst (λ (q : Reading). reading_fault tool [] q.events ≡ None) (spelled tool s) none.0 in
-    Spelled name words tool os r.operands c named s (record { once = once_from tool [] os events; together = none.1; values = none.2; inputs = none.3 }) both.1
+    subst (SpellsCommand (name ∷ words)) both.1
+    (Spelled name words tool os r.operands named s (record { once = once_from tool [] os events; together = none.1; values = none.2; inputs = none.3; strings = none.4 }))
 
 named_if_meant : (name : List ℕ) (words : List (List ℕ)) (c : Command) (found : Option Tool) → tool_named name ≡ found → meaning_for found words ≡ Ok c → SpellsCommand (name ∷ words) c
 named_if_meant name words c None named is = cc
 named_if_meant name words c (Some tool) named is = spelled_if_meant name words tool c named is
 
 meant_from : (words : List (List ℕ)) (c : Command) → SpellsCommand words c → meaning words ≡ Ok c
-meant_from words c (Spelled name rest tool os operands d named s a is) =
-    rw named (meant_if_spelled tool rest os operands d s a is)
+meant_from words c (Spelled name rest tool os operands named s a) =
+    rw named (meant_if_spelled tool rest os operands s a)
 
 spelled_from : (words : List (List ℕ)) (c : Command) → meaning words ≡ Ok c → SpellsCommand words c
 spelled_from [] c is = cc

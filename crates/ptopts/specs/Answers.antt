@@ -3,7 +3,7 @@ use Rattle.std.specs.Prelude.{◌≡◌, ℕ, List, [], ◌∷◌, ◌++◌, Boo
 use Rattle.std.specs.Borrow.{Bor}
 use Rattle.ptopts.specs.declared.tool.Tool.{Tool}
 use Rattle.ptopts.specs.declared.fault.UseFault.{UseFault}
-use Rattle.ptopts.specs.declared.fault.UseFault.TheVariants.{Tool as ToolFault, Unknown, NeedsValue, Twice, Together, Value, Operands, StandardTwice, NeedsList, Memory}
+use Rattle.ptopts.specs.declared.fault.UseFault.TheVariants.{Tool as ToolFault, Unknown, NeedsValue, Twice, Together, Value, Operands, StandardTwice, NeedsList, String, Memory}
 use Rattle.ptopts.specs.declared.reading.GivenOption as given
 use Rattle.ptopts.specs.Words.{GivenOption, Event, option_in, events_of, takes_next, reading, options}
 use Rattle.ptopts.specs.Faults as faults
@@ -20,6 +20,7 @@ meant (Value letter value) = Some (faults.Value letter value.now)
 meant Operands = Some faults.Operands
 meant StandardTwice = Some faults.StandardTwice
 meant NeedsList = Some faults.NeedsList
+meant (String fault) = Some (faults.InString fault)
 meant Memory = None
 
 -- a step passes exactly where it finds no fault, and else answers the fault

@@ -1,5 +1,5 @@
 -- What the words of a command mean: a command, or the first fault.
-use Rattle.std.specs.Prelude.{ℕ, ◌||◌, List, [], ◌∷◌, Bool, false, not, Option, Some, None, Result, Ok, Err, if◌then◌else◌, option_and_then, slice_get, slice_index_or, unwrap_or, option_map, codes, bytes_eq}
+use Rattle.std.specs.Prelude.{ℕ, ◌||◌, List, [], ◌∷◌, Bool, false, not, Option, Some, None, Result, Ok, Err, if◌then◌else◌, option_and_then, slice_get, unwrap_or, option_map, codes, bytes_eq}
 use Rattle.std.specs.List.{list_any}
 use Rattle.std.specs.Result.{result_unwrap_or}
 use Rattle.std.specs.Str.{byte}
@@ -7,6 +7,8 @@ use Rattle.ptlangs.specs.CutLists.{selection}
 use Rattle.ptlangs.specs.DelimLists.{delim_list}
 use Rattle.ptlangs.specs.OutLists.{out_list}
 use Rattle.ptlangs.specs.Numbers.{number}
+use Rattle.ptlangs.specs.TrPlan.{Plan}
+use Rattle.ptlangs.specs.TrTables.{Tables, tables}
 use Rattle.ptlangs.specs.Jobs as jobs
 use Rattle.ptlangs.specs.declared.jobs.Show.{Show}
 use Rattle.ptlangs.specs.declared.jobs.Show.TheVariants.{All, Counts, Repeated, Single}
@@ -14,15 +16,7 @@ use Rattle.ptlangs.specs.declared.outlist.OutField.{OutField}
 use Rattle.ptopts.specs.declared.tool.Tool.{Tool}
 use Rattle.ptopts.specs.declared.tool.Tool.TheVariants.{Cut, Paste, Uniq, Comm, Join, Tr}
 use Rattle.ptopts.specs.Words.{GivenOption, tool_named, Reading, reading, options, has, value_of, values_of}
-use Rattle.ptopts.specs.Faults.{Fault, NoTool, first_of, list_given, reading_fault, combination_fault, values_fault, operands_fault, is_standard}
-
--- what the strings of tr are judged with
-pub record Strings : Type 0 where
-  pub deletes : Bool
-  pub squeezes : Bool
-  pub complement : Bool
-  pub string1 : List ℕ
-  pub string2 : Option (List ℕ)
+use Rattle.ptopts.specs.Faults.{Fault, NoTool, first_of, list_given, reading_fault, combination_fault, values_fault, operands_fault, strings_fault, plan_given, is_standard}
 
 -- a command, with its input operands
 pub data Command : Type 0 where
@@ -32,8 +26,8 @@ pub data Command : Type 0 where
   RunUniq : jobs.Uniq → List ℕ → Option (List ℕ) → Command
   RunComm : jobs.Comm → List (List ℕ) → Command
   RunJoin : jobs.Join → List (List ℕ) → Command
-  -- standard input
-  RunTr : Strings → Command
+  -- standard input, by what each byte is
+  RunTr : Tables → Command
 
 -- ---- the jobs that options say
 
@@ -107,14 +101,12 @@ join_job os = record {
   field2 = unwrap_or (number_given (byte "2") os) 1;
 }
 
-abbrev pub strings : List GivenOption → List (List ℕ) → Strings
-strings os operands = record {
-  deletes = has (byte "d") os;
-  squeezes = has (byte "s") os;
-  complement = has (byte "c") os || has (byte "C") os;
-  string1 = slice_index_or operands 0 [];
-  string2 = slice_get operands 1;
-}
+-- the plan by which each byte stays
+abbrev pub plan_of_nothing : Plan
+plan_of_nothing = record { deleted = []; from = []; to = []; squeezed = [] }
+
+abbrev pub char_tables : List GivenOption → List (List ℕ) → Tables
+char_tables os operands = tables (result_unwrap_or (plan_given os operands) plan_of_nothing)
 
 -- ---- commands
 
@@ -134,27 +126,29 @@ output_of (input ∷ output ∷ more) = if is_standard output then None else Som
 output_of _ = None
 
 -- the command of words without a fault
-abbrev pub command : Tool → List GivenOption → List (List ℕ) → Result Command Fault
-command Cut os operands = Ok (RunCut (cut_job os) (or_standard operands))
-command Paste os operands = Ok (RunPaste (paste_job os) operands)
-command Uniq os operands = Ok (RunUniq (uniq_job os) (input_of operands) (output_of operands))
-command Comm os operands = Ok (RunComm (comm_job os) operands)
-command Join os operands = Ok (RunJoin (join_job os) operands)
-command Tr os operands = Ok (RunTr (strings os operands))
+abbrev pub command : Tool → List GivenOption → List (List ℕ) → Command
+command Cut os operands = RunCut (cut_job os) (or_standard operands)
+command Paste os operands = RunPaste (paste_job os) operands
+command Uniq os operands = RunUniq (uniq_job os) (input_of operands) (output_of operands)
+command Comm os operands = RunComm (comm_job os) operands
+command Join os operands = RunJoin (join_job os) operands
+command Tr os operands = RunTr (char_tables os operands)
 
-abbrev pub unless : {A E : Type 0} → Option E → Result A E → Result A E
-unless None result = result
-unless (Some e) result = Err e
+abbrev pub unless : {A E : Type 0} → Option E → A → Result A E
+unless None x = Ok x
+unless (Some e) x = Err e
 
--- the command of options that go together, or the first fault of their values and of the operands
+-- the command of options that go together, or the first fault of their values, of the operands and of strings
 abbrev pub judged : Tool → List GivenOption → List (List ℕ) → Result Command Fault
-judged tool os operands = unless (first_of (values_fault tool os ∷ operands_fault tool os operands ∷ [])) (command tool os operands)
+judged tool os operands = unless (first_of (values_fault tool os ∷ operands_fault tool os operands ∷ strings_fault tool os operands ∷ [])) (command tool os operands)
 
--- the faults in their order: those of the reading, of combinations, of values, of operands
+-- the faults in their order: those of the reading, of combinations, of values, of operands, of strings
 abbrev pub first_fault : Tool → Reading → Option Fault
 first_fault tool r =
     let os = options r in
-    first_of (reading_fault tool [] r.events ∷ combination_fault tool os ∷ values_fault tool os ∷ operands_fault tool os r.operands ∷ [])
+    first_of (
+        reading_fault tool [] r.events ∷ combination_fault tool os ∷ values_fault tool os
+        ∷ operands_fault tool os r.operands ∷ strings_fault tool os r.operands ∷ [])
 
 abbrev pub meaning_for : Option Tool → List (List ℕ) → Result Command Fault
 meaning_for None words = Err NoTool

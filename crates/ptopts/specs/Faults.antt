@@ -1,12 +1,17 @@
 -- What is wrong with the words of a command, and which fault is the first (this project's own order).
-use Rattle.std.specs.Prelude.{ℕ, ◌==◌, ◌&&◌, ◌||◌, List, [], ◌∷◌, ◌++◌, Bool, true, false, not, Option, Some, None, if◌then◌else◌, map, find, length, nat_le, codes, bytes_eq, is_some, is_ok, option_map, option_and_then}
+use Rattle.std.specs.Prelude.{ℕ, ◌==◌, ◌&&◌, ◌||◌, List, [], ◌∷◌, ◌++◌, Bool, true, false, not, Option, Some, None, Result, if◌then◌else◌, map, find, length, nat_le, codes, bytes_eq, is_some, is_ok, option_map, option_and_then, slice_get, slice_index_or}
 use Rattle.std.specs.List.{list_all}
 use Rattle.std.specs.Option.{option_or, option_map_or}
+use Rattle.std.specs.Result.{result_err}
 use Rattle.std.specs.Str.{byte}
 use Rattle.ptlangs.specs.CutLists.{selection}
 use Rattle.ptlangs.specs.DelimLists.{delim_list}
 use Rattle.ptlangs.specs.OutLists.{out_list}
 use Rattle.ptlangs.specs.Numbers.{number}
+use Rattle.ptlangs.specs.TrPlan.{Plan, plan}
+use Rattle.ptlangs.specs.declared.faults.SetFault.{SetFault}
+use Rattle.ptlangs.specs.declared.plan.Form.{Form}
+use Rattle.ptlangs.specs.declared.plan.Form.TheVariants.{Translate, TranslateSqueeze, Squeeze, Delete, DeleteSqueeze}
 use Rattle.ptopts.specs.declared.tool.Tool.{Tool}
 use Rattle.ptopts.specs.declared.tool.Tool.TheVariants.{Cut, Paste, Uniq, Comm, Join, Tr}
 use Rattle.ptopts.specs.Words.{GivenOption, Event, Given, Wanting, Stranger, has, has_letter, value_of, values_of}
@@ -21,6 +26,8 @@ pub data Fault : Type 0 where
   Operands : Fault
   StandardTwice : Fault
   NeedsList : Fault
+  -- of one of the strings of tr
+  InString : SetFault → Fault
 
 -- the first there is
 abbrev pub first_of : {A : Type 0} → List (Option A) → Option A
@@ -166,3 +173,26 @@ abbrev pub operands_fault : Tool → List GivenOption → List (List ℕ) → Op
 operands_fault tool options operands =
     if not (has_right_number tool options (length operands)) then Some Operands
     else (if merges tool && list_all is_standard operands then Some StandardTwice else None)
+
+-- ---- strings
+
+-- what tr is asked to do, by -d, by -s, and by the number of its strings
+abbrev pub form : Bool → Bool → ℕ → Form
+form false false n = Translate
+form false true n = if n == 1 then Squeeze else TranslateSqueeze
+form true false n = Delete
+form true true n = DeleteSqueeze
+
+abbrev pub form_given : List GivenOption → List (List ℕ) → Form
+form_given options operands = form (has (byte "d") options) (has (byte "s") options) (length operands)
+
+abbrev pub is_complemented : List GivenOption → Bool
+is_complemented options = has (byte "c") options || has (byte "C") options
+
+-- what the strings of tr say
+abbrev pub plan_given : List GivenOption → List (List ℕ) → Result Plan SetFault
+plan_given options operands = plan (form_given options operands) (is_complemented options) (slice_index_or operands 0 []) (slice_get operands 1)
+
+abbrev pub strings_fault : Tool → List GivenOption → List (List ℕ) → Option Fault
+strings_fault Tr options operands = option_map InString (result_err (plan_given options operands))
+strings_fault _ options operands = None

@@ -2,7 +2,7 @@
 use Rattle.std.specs.Prelude.{◌≡◌, ◌↔◌, ℕ, List, [], ◌∷◌, ◌++◌, map, false, Some, None, Ok, IsTrue, is_some}
 use Rattle.ptopts.specs.declared.tool.Tool.{Tool}
 use Rattle.ptopts.specs.Words.{GivenOption, Given, Spells, tool_named, reading, options}
-use Rattle.ptopts.specs.Faults.{is_spent, reading_fault, combination_fault, values_fault, operands_fault}
+use Rattle.ptopts.specs.Faults.{is_spent, reading_fault, combination_fault, values_fault, operands_fault, strings_fault}
 use Rattle.ptopts.specs.Commands.{Command, command, meaning}
 
 -- words spell options and operands exactly where they are read so
@@ -26,18 +26,19 @@ abbrev pub GivenOnce : Tool → List GivenOption → Type 0
 GivenOnce tool os = (before after : List GivenOption) (o : GivenOption)
     → os ≡ before ++ o ∷ after → IsTrue (is_some o.value) → is_spent tool before o.letter ≡ false
 
--- the options go together, and so do their values and the operands
+-- the options go together, and nothing is wrong with their values, the operands and the strings
 pub record AreAllowed (tool : Tool) (os : List GivenOption) (operands : List (List ℕ)) : Type 0 where
   pub once : GivenOnce tool os
   pub together : combination_fault tool os ≡ None
   pub values : values_fault tool os ≡ None
   pub inputs : operands_fault tool os operands ≡ None
+  pub strings : strings_fault tool os operands ≡ None
 
 -- a tool's name, and words that spell allowed options and operands, spell their command
 pub data SpellsCommand : List (List ℕ) → Command → Type 0 where
-  Spelled : (name : List ℕ) (words : List (List ℕ)) (tool : Tool) (os : List GivenOption) (operands : List (List ℕ)) (c : Command)
-      → tool_named name ≡ Some tool → Spells tool words os operands → AreAllowed tool os operands → command tool os operands ≡ Ok c
-      → SpellsCommand (name ∷ words) c
+  Spelled : (name : List ℕ) (words : List (List ℕ)) (tool : Tool) (os : List GivenOption) (operands : List (List ℕ))
+      → tool_named name ≡ Some tool → Spells tool words os operands → AreAllowed tool os operands
+      → SpellsCommand (name ∷ words) (command tool os operands)
 
 -- words mean a command exactly where they spell it
 abbrev pub MeantAsSpelled : Type 0

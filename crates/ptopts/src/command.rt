@@ -17,8 +17,9 @@ use crate::values::comm::comm_job;
 use crate::values::cut::cut_job;
 use crate::values::join::join_job;
 use crate::values::paste::paste_job;
-use crate::values::tr::{TrStrings, tr_strings};
+use crate::values::tr::char_plan;
 use crate::values::uniq::uniq_job;
+use ptlangs::CharPlan;
 use ptlangs::jobs::{CommJob, CutJob, JoinJob, PasteJob, UniqJob};
 use std::alloc::{AllocError, Allocator, Global};
 
@@ -35,14 +36,15 @@ pub enum Command<'a, A: Allocator = Global> {
     Comm(CommJob, Inputs<'a, A>),
     /// `join`, with two inputs, of which one at most is standard input.
     Join(JoinJob<A>, Inputs<'a, A>),
-    /// `tr`, which reads standard input. Its strings are not judged here.
-    Tr(TrStrings<'a>, Inputs<'a, A>),
+    /// `tr`, which reads standard input.
+    Tr(CharPlan, Inputs<'a, A>),
 }
 
 impl<'a, A: Allocator + Copy> Command<'a, A> {
     /// Reads the words of a command, the tool's name first (POSIX.1-2017, XBD 12.2, and XCU, the page of each
     /// tool). What is refused, and which fault is the first, is this project's own choice: faults of the
-    /// reading from left to right, then of combinations of options, of values, of operands.
+    /// reading from left to right, then of combinations of options, of values, of operands, and of the
+    /// strings of `tr`.
     ///
     /// # Errors
     ///
@@ -175,8 +177,8 @@ fn read_tr<'a, A: Allocator + Copy>(
     ensures { IsMeant result (judged Tool.Tr (options_seen options.now) (words_seen operands.now)) }
 {
     check_operands(Tool::Tr, options, operands)?;
-    let strings = tr_strings(options, operands);
-    Ok(Command::Tr(strings, Inputs::standard(alloc)?))
+    let plan = char_plan(options, operands)?;
+    Ok(Command::Tr(plan, Inputs::standard(alloc)?))
 }
 
 /// The inputs that these operands name; standard input without an operand.

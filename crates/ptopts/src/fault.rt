@@ -2,6 +2,7 @@
 
 ghost use Rattle.std.specs.Prelude.{◌≡◌};
 
+use ptlangs::SetFault;
 use std::alloc::{AllocError, AllocFailed};
 
 /// Why words are no command. Which fault is the first is this project's own choice.
@@ -25,6 +26,8 @@ pub enum UseFault<'a> {
     StandardTwice,
     /// `cut` has no list.
     NeedsList,
+    /// A string of `tr` is refused: which of the two, and why. The kind is never `SetFaultKind::Memory`.
+    String(SetFault),
     /// Memory was refused.
     Memory,
 }
@@ -46,5 +49,15 @@ impl<'a, T: Drop> From<AllocFailed<T>> for UseFault<'a> {
 
     fn from(_error: AllocFailed<T>) -> UseFault<'a> {
         UseFault::Memory
+    }
+}
+
+impl<'a> From<SetFault> for UseFault<'a> {
+    ghost use Rattle.ptopts.specs.declared.fault.UseFault.TheVariants.{String};
+
+    ghost from_gives = { λ fault e. e ≡ String fault };
+
+    fn from(fault: SetFault) -> UseFault<'a> {
+        UseFault::String(fault)
     }
 }

@@ -3,6 +3,7 @@ use crate::refusing::Refusing;
 use ptlangs::jobs::{CommJob, Show, UniqJob};
 use ptlangs::outlist::{File, OutField};
 use ptlangs::ranges::Interval;
+use ptlangs::{SetFault, SetFaultKind, SetString};
 use std::alloc::Global;
 use std::process::Abort;
 use std::test::Fail;
@@ -212,11 +213,87 @@ const REFUSED_TR: &[Refused] = &[
     (&["tr", "-d"], UseFault::Operands),
     (&["tr", "-d", "a", "b"], UseFault::Operands),
     (&["tr", "-ds", "a"], UseFault::Operands),
+    (&["tr", "-d", "\\400", "b"], UseFault::Operands),
+];
+
+/// Words, and what is wrong with which of their strings.
+const REFUSED_STRINGS: &[(&[&str], SetString, SetFaultKind)] = &[
+    (&["tr", "", "b"], SetString::First, SetFaultKind::Empty),
+    (
+        &["tr", "-d", "\\400"],
+        SetString::First,
+        SetFaultKind::Octal,
+    ),
+    (
+        &["tr", "-s", "a\\"],
+        SetString::First,
+        SetFaultKind::Escape,
+    ),
+    (
+        &["tr", "-d", "z-a"],
+        SetString::First,
+        SetFaultKind::Descending,
+    ),
+    (
+        &["tr", "-d", "[:letter:]"],
+        SetString::First,
+        SetFaultKind::UnknownClass,
+    ),
+    (
+        &["tr", "[a*3]", "b"],
+        SetString::First,
+        SetFaultKind::RepeatPlace,
+    ),
+    (
+        &["tr", "z-a", ""],
+        SetString::First,
+        SetFaultKind::Descending,
+    ),
+    (&["tr", "a", ""], SetString::Second, SetFaultKind::Empty),
+    (
+        &["tr", "[:lower:]", "[:lower:]"],
+        SetString::Second,
+        SetFaultKind::ClassPlace,
+    ),
+    (
+        &["tr", "-c", "[:lower:]", "[:upper:]"],
+        SetString::Second,
+        SetFaultKind::ClassPlace,
+    ),
+    (
+        &["tr", "-s", "a", "[=b=]"],
+        SetString::Second,
+        SetFaultKind::EquivPlace,
+    ),
+    (
+        &["tr", "a", "[b*08]"],
+        SetString::Second,
+        SetFaultKind::RepeatSize,
+    ),
+    (
+        &["tr", "-ds", "a", "[b*][c*]"],
+        SetString::Second,
+        SetFaultKind::SecondFill,
+    ),
 ];
 
 #[test]
 fn the_first_fault_of_tr(rt: HostRuntime) {
     are_refused(&rt, rt.alloc(), REFUSED_TR);
+}
+
+#[test]
+fn the_first_fault_of_the_strings_of_tr(rt: HostRuntime) {
+    for (words, string, kind) in REFUSED_STRINGS {
+        let fault = UseFault::String(SetFault {
+            string: *string,
+            kind: *kind,
+        });
+        match Command::read(rt.alloc(), words) {
+            Ok(_) => assert!(rt; false, "{words:?} is refused"),
+            Err(found) => assert_eq!(rt; found, fault, "of {words:?}"),
+        }
+    }
 }
 
 struct Cut {
@@ -575,68 +652,66 @@ fn the_words_of_join(rt: HostRuntime) -> Result<(), Fail> {
     Ok(())
 }
 
-const STRINGS: &[(&[&str], TrStrings)] = &[
-    (
-        &["tr", "a-c", "-"],
-        TrStrings {
-            deletes: false,
-            squeezes: false,
-            complement: false,
-            string1: "a-c",
-            string2: Some("-"),
-        },
-    ),
-    (
-        &["tr", "-Cs", "a"],
-        TrStrings {
-            deletes: false,
-            squeezes: true,
-            complement: true,
-            string1: "a",
-            string2: None,
-        },
-    ),
-    (
-        &["tr", "-ss", "--", "-d", ""],
-        TrStrings {
-            deletes: false,
-            squeezes: true,
-            complement: false,
-            string1: "-d",
-            string2: Some(""),
-        },
-    ),
-    (
-        &["tr", "-d", "-c", "[:alpha:]"],
-        TrStrings {
-            deletes: true,
-            squeezes: false,
-            complement: true,
-            string1: "[:alpha:]",
-            string2: None,
-        },
-    ),
-    (
-        &["tr", "-ds", "0-9", "ab"],
-        TrStrings {
-            deletes: true,
-            squeezes: true,
-            complement: false,
-            string1: "0-9",
-            string2: Some("ab"),
-        },
-    ),
+/// Words, some bytes, what becomes of each, and whether what it becomes is squeezed.
+struct Tr {
+    words: &'static [&'static str],
+    bytes: &'static [u8],
+    images: &'static [Option<u8>],
+    squeezed: &'static [bool],
+}
+
+const TRS: &[Tr] = &[
+    Tr {
+        words: &["tr", "a-c", "-"],
+        bytes: b"abd",
+        images: &[Some(b'-'), Some(b'-'), Some(b'd')],
+        squeezed: &[false, false, false],
+    },
+    Tr {
+        words: &["tr", "-ss", "--", "-d", "xy"],
+        bytes: b"-d",
+        images: &[Some(b'x'), Some(b'y')],
+        squeezed: &[true, true],
+    },
+    Tr {
+        words: &["tr", "-Cs", "a"],
+        bytes: b"ab",
+        images: &[Some(b'a'), Some(b'b')],
+        squeezed: &[false, true],
+    },
+    Tr {
+        words: &["tr", "-d", "-c", "[:alpha:]"],
+        bytes: b"a1",
+        images: &[Some(b'a'), None],
+        squeezed: &[false, false],
+    },
+    Tr {
+        words: &["tr", "-ds", "0-9", "ab"],
+        bytes: b"a1c",
+        images: &[Some(b'a'), None, Some(b'c')],
+        squeezed: &[true, false, false],
+    },
 ];
 
 #[test]
 fn the_words_of_tr(rt: HostRuntime) -> Result<(), Fail> {
-    for (words, given) in STRINGS {
-        let command = Command::read(rt.alloc(), words)?;
+    for row in TRS {
+        let command = Command::read(rt.alloc(), row.words)?;
         assert_eq!(rt; command.names().len(), 0);
-        let Command::Tr(strings, inputs) = &command else {
+        let Command::Tr(plan, inputs) = &command else {
             return Ok(assert!(rt; false));
         };
-        assert_eq!(rt; strings, given);
+        for (place, byte) in row.bytes.iter().enumerate() {
+            let image = if plan.deletes(*byte) {
+                None
+            } else {
+                Some(plan.image(*byte))
+            };
+            assert_eq!(rt; Some(&image), row.images.get(place));
+            if let Some(image) = image {
+                assert_eq!(rt; Some(&plan.squeezes(image)), row.squeezed.get(place));
+            }
+        }
         assert_eq!(rt; inputs.order.as_slice(), [Input::Standard].as_slice());
     }
     Ok(())

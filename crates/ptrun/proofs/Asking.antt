@@ -24,7 +24,7 @@ as_meant tool (Ok (RunPaste j operands)) (Paste job inputs) is = refl
 as_meant tool (Ok (RunUniq j input output)) (Uniq job inputs) is = refl
 as_meant tool (Ok (RunComm j operands)) (Comm job inputs) is = refl
 as_meant tool (Ok (RunJoin j operands)) (Join job inputs) is = refl
-as_meant tool (Ok (RunTr s)) (Tr strings inputs) is = refl
+as_meant tool (Ok (RunTr tables)) (Tr plan inputs) is = refl
 as_meant tool (Ok _) _ none = absurd none
 as_meant tool (Err fault) command none = absurd none
 
@@ -54,7 +54,7 @@ fits_in (Ok (RunPaste j operands)) (Paste job inputs) (same, is) = inputs_fit in
 fits_in (Ok (RunUniq j input output)) (Uniq job inputs) (same, is) = inputs_fit inputs (input ∷ []) output is
 fits_in (Ok (RunComm j operands)) (Comm job inputs) (same, is) = inputs_fit inputs operands None is
 fits_in (Ok (RunJoin j operands)) (Join job inputs) (same, is) = inputs_fit inputs operands None is
-fits_in (Ok (RunTr s)) (Tr strings inputs) (same, is) = inputs_fit inputs (codes "-" ∷ []) None is
+fits_in (Ok (RunTr tables)) (Tr plan inputs) (same, is) = inputs_fit inputs (codes "-" ∷ []) None is
 fits_in (Ok _) _ none = absurd none
 fits_in (Err fault) command none = absurd none
 

@@ -193,3 +193,36 @@ standard_input_twice_of_join = refl
 
 too_many_operands : asked (codes "paste" ∷ replicate 513 (codes "-")) ≡ refuses (codes "paste: wrong number of operands")
 too_many_operands = refl
+
+empty_string : asked (codes "tr" ∷ codes "" ∷ codes "b" ∷ []) ≡ refuses (codes "tr: wrong string1: empty")
+empty_string = refl
+
+octal_above_a_byte : asked (codes "tr" ∷ codes "-d" ∷ codes "\\400" ∷ []) ≡ refuses (codes "tr: wrong string1: octal")
+octal_above_a_byte = refl
+
+lone_backslash_of_tr : asked (codes "tr" ∷ codes "-s" ∷ codes "a\\" ∷ []) ≡ refuses (codes "tr: wrong string1: escape")
+lone_backslash_of_tr = refl
+
+descending_range_of_tr : asked (codes "tr" ∷ codes "-d" ∷ codes "z-a" ∷ []) ≡ refuses (codes "tr: wrong string1: descending")
+descending_range_of_tr = refl
+
+no_such_class : asked (codes "tr" ∷ codes "-d" ∷ codes "[:letter:]" ∷ []) ≡ refuses (codes "tr: wrong string1: class")
+no_such_class = refl
+
+same_case : asked (codes "tr" ∷ codes "[:lower:]" ∷ codes "[:lower:]" ∷ []) ≡ refuses (codes "tr: wrong string2: pairing")
+same_case = refl
+
+equivalence_in_the_second_string : asked (codes "tr" ∷ codes "-s" ∷ codes "a" ∷ codes "[=b=]" ∷ []) ≡ refuses (codes "tr: wrong string2: equivalence")
+equivalence_in_the_second_string = refl
+
+repeat_in_the_first_string : asked (codes "tr" ∷ codes "[a*3]" ∷ codes "b" ∷ []) ≡ refuses (codes "tr: wrong string1: repeat")
+repeat_in_the_first_string = refl
+
+count_of_no_octal_digit : asked (codes "tr" ∷ codes "a" ∷ codes "[b*08]" ∷ []) ≡ refuses (codes "tr: wrong string2: size")
+count_of_no_octal_digit = refl
+
+filled_twice : asked (codes "tr" ∷ codes "-ds" ∷ codes "a" ∷ codes "[b*][c*]" ∷ []) ≡ refuses (codes "tr: wrong string2: fill")
+filled_twice = refl
+
+operands_before_strings : asked (codes "tr" ∷ codes "-d" ∷ codes "\\400" ∷ codes "b" ∷ []) ≡ refuses (codes "tr: wrong number of operands")
+operands_before_strings = refl

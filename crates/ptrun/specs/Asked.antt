@@ -38,7 +38,7 @@ command_meaning (RunPaste job operands) = not_yet (codes "paste")
 command_meaning (RunUniq job input output) = not_yet (codes "uniq")
 command_meaning (RunComm job operands) = not_yet (codes "comm")
 command_meaning (RunJoin job operands) = not_yet (codes "join")
-command_meaning (RunTr strings) = not_yet (codes "tr")
+command_meaning (RunTr tables) = not_yet (codes "tr")
 
 abbrev pub tool_word : List (List ℕ) → List ℕ
 tool_word words = slice_index_or words 0 []
@@ -67,7 +67,7 @@ command_as (code_command.Paste job inputs) = not_yet (codes "paste")
 command_as (code_command.Uniq job inputs) = not_yet (codes "uniq")
 command_as (code_command.Comm job inputs) = not_yet (codes "comm")
 command_as (code_command.Join job inputs) = not_yet (codes "join")
-command_as (code_command.Tr strings inputs) = not_yet (codes "tr")
+command_as (code_command.Tr plan inputs) = not_yet (codes "tr")
 
 -- nothing is read or written for this command
 abbrev pub is_quiet_command : {A : Type 0} → code.Command A → Bool

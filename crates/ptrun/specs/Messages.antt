@@ -1,9 +1,31 @@
 -- The messages. Each ends with newline.
 use Rattle.std.specs.Prelude.{ℕ, ◌-◌, ◌==◌, List, [], ◌∷◌, Option, Some, None, codes, encode_utf8, if◌then◌else◌, slice_index_or}
+use Rattle.ptlangs.specs.declared.faults.SetString.{SetString}
+use Rattle.ptlangs.specs.declared.faults.SetString.TheVariants as string
+use Rattle.ptlangs.specs.declared.faults.SetFaultKind.{SetFaultKind}
+use Rattle.ptlangs.specs.declared.faults.SetFaultKind.TheVariants as kind
 use Rattle.ptflow.specs.declared.faults.FlowFault.{FlowFault}
 use Rattle.ptflow.specs.declared.faults.FlowFault.TheVariants.{Read, Write, Memory}
-use Rattle.ptopts.specs.Faults.{Fault, NoTool, Unknown, NeedsValue, Twice, Together, Value, Operands, StandardTwice, NeedsList}
+use Rattle.ptopts.specs.Faults.{Fault, NoTool, Unknown, NeedsValue, Twice, Together, Value, Operands, StandardTwice, NeedsList, InString}
 use Rattle.ptrun.specs.Sayings.{line_of}
+
+abbrev pub string_word : SetString → List ℕ
+string_word string.First = codes "string1"
+string_word string.Second = codes "string2"
+
+-- why a string was refused, in one word; for want of memory none is
+abbrev pub kind_word : SetFaultKind → List ℕ
+kind_word kind.Empty = codes "empty"
+kind_word kind.Octal = codes "octal"
+kind_word kind.Escape = codes "escape"
+kind_word kind.Descending = codes "descending"
+kind_word kind.UnknownClass = codes "class"
+kind_word kind.ClassPlace = codes "pairing"
+kind_word kind.EquivPlace = codes "equivalence"
+kind_word kind.RepeatPlace = codes "repeat"
+kind_word kind.RepeatSize = codes "size"
+kind_word kind.SecondFill = codes "fill"
+kind_word kind.Memory = codes "memory"
 
 -- why the words of a tool were refused
 abbrev pub refusal : List ℕ → Fault → List ℕ
@@ -16,6 +38,7 @@ refusal tool (Value l value) = line_of (tool ∷ codes ": wrong value for option
 refusal tool Operands = line_of (tool ∷ codes ": wrong number of operands" ∷ [])
 refusal tool StandardTwice = line_of (tool ∷ codes ": standard input is named twice" ∷ [])
 refusal tool NeedsList = line_of (codes "cut: one of -b, -c and -f is needed" ∷ [])
+refusal tool (InString fault) = line_of (tool ∷ codes ": wrong " ∷ string_word fault.string ∷ codes ": " ∷ kind_word fault.kind ∷ [])
 
 abbrev pub out_of_memory : List ℕ → List ℕ
 out_of_memory tool = line_of (tool ∷ codes ": out of memory" ∷ [])

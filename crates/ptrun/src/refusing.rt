@@ -3,9 +3,11 @@
 ghost use Rattle.std.specs.Prelude.{◌≡◌};
 ghost use Rattle.ptopts.specs.Answers.{meant};
 ghost use Rattle.ptrun.specs.Sayings.{Tells};
+ghost use Rattle.ptrun.specs.Messages as messages;
 ghost use Rattle.ptrun.specs.Messages.{said_of, status_of};
 
 use crate::voice::Voice;
+use ptlangs::{SetFaultKind, SetString};
 use ptlines::Sink;
 use ptopts::UseFault;
 
@@ -55,10 +57,48 @@ pub(crate) fn refuse<E: Sink>(tool: &str, fault: UseFault<'_>, voice: &mut Voice
         UseFault::Operands => voice.say(&[tool, ": wrong number of operands"]),
         UseFault::StandardTwice => voice.say(&[tool, ": standard input is named twice"]),
         UseFault::NeedsList => voice.say(&["cut: one of -b, -c and -f is needed"]),
+        UseFault::String(fault) => {
+            voice.say(&[
+                tool,
+                ": wrong ",
+                string_word(fault.string),
+                ": ",
+                kind_word(fault.kind),
+            ]);
+        }
         UseFault::Memory => {
             voice.say(&[tool, ": out of memory"]);
             return 1;
         }
     }
     2
+}
+
+// The string, as the synopsis of `tr` names it.
+fn string_word(string: SetString) -> &'static str
+    ensures { result.now ≡ messages.string_word string }
+{
+    match string {
+        SetString::First => "string1",
+        SetString::Second => "string2",
+    }
+}
+
+// Why a string was refused, in one word.
+fn kind_word(kind: SetFaultKind) -> &'static str
+    ensures { result.now ≡ messages.kind_word kind }
+{
+    match kind {
+        SetFaultKind::Empty => "empty",
+        SetFaultKind::Octal => "octal",
+        SetFaultKind::Escape => "escape",
+        SetFaultKind::Descending => "descending",
+        SetFaultKind::UnknownClass => "class",
+        SetFaultKind::ClassPlace => "pairing",
+        SetFaultKind::EquivPlace => "equivalence",
+        SetFaultKind::RepeatPlace => "repeat",
+        SetFaultKind::RepeatSize => "size",
+        SetFaultKind::SecondFill => "fill",
+        SetFaultKind::Memory => "memory",
+    }
 }
