@@ -8,6 +8,7 @@ first. Below the table stands the least address space in which an empty line and
 """
 
 import os
+import random
 import resource
 import statistics
 import subprocess
@@ -19,6 +20,14 @@ RUNS = 5
 
 BYTES = [["cut", "-c", "3-,1"], ["cut", "-b", "5-20,40-60"]]
 FIELDS = [["cut", "-d,", "-f1,3"], ["cut", "-d,", "-f7-"], ["cut", "-f2"]]
+TEXT = [
+    ["tr", "a-z", "A-Z"],
+    ["tr", "A-Za-z", "N-ZA-Mn-za-m"],
+    ["tr", "-d", "0-9"],
+    ["tr", "-s", " "],
+    ["tr", "-cs", "[:alpha:]", "[\\n*]"],
+]
+BINARY = [["tr", "\\000-\\177", "\\200-\\377"], ["tr", "-cd", "0-9"]]
 
 
 def log_line(number):
@@ -32,9 +41,9 @@ def table_line(number, separator):
     return separator.join(str(number * factor % 65536) for factor in range(3, 13)) + "\n"
 
 
-# What is repeated to 64 MB, and what is cut of it.
+# What is repeated to 64 MB, and the commands that are run over it.
 INPUTS = {
-    "log": (lambda: "".join(log_line(number) for number in range(20000)), BYTES),
+    "log": (lambda: "".join(log_line(number) for number in range(20000)), BYTES + TEXT),
     "short": (lambda: "abcd\n", BYTES),
     "long": (lambda: "0123456789" * 1000 + "\n", BYTES),
     "one line": (lambda: "0123456789" * 1000, BYTES),
@@ -42,6 +51,7 @@ INPUTS = {
     "tabs": (lambda: "".join(table_line(number, "\t") for number in range(20000)), FIELDS[2:]),
     "long,": (lambda: "0123456789," * 1000 + "\n", FIELDS),
     "one line,": (lambda: "0123456789,", FIELDS),
+    "random": (lambda: random.Random(1).randbytes(1 << 20).decode("latin-1"), BINARY),
 }
 
 
@@ -112,14 +122,14 @@ def main():
         for name in names:
             path = os.path.join(folder, name)
             piece, commands = INPUTS[name]
-            write_input(path, piece().encode())
+            write_input(path, piece().encode("latin-1"))
             for words in commands:
                 ours, theirs = compare(folder, path, ptext, words)
                 ratios.append(ours / theirs)
                 print(f"{name:10} {' '.join(words):32} {ours:8.3f} {theirs:8.3f} {ours / theirs:6.2f}")
         print(f"geometric mean of the ratios: {statistics.geometric_mean(ratios):.2f}")
         empty, line = os.path.join(folder, "empty"), os.path.join(folder, "one line")
-        write_input(line, INPUTS["one line"][0]().encode())
+        write_input(line, INPUTS["one line"][0]().encode("latin-1"))
         with open(empty, "wb") as file:
             file.write(b"\n")
         for name, path in [("an empty line", empty), ("a line of 64 MB", line)]:

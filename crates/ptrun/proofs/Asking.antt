@@ -12,19 +12,19 @@ use Rattle.ptopts.specs.declared.inputs.Inputs.{Inputs}
 use Rattle.ptopts.specs.Answers.{meant}
 use Rattle.ptopts.specs.Meant.{IsMeant, inputs_of}
 use Rattle.ptrun.specs.Messages.{said_of, status_of}
-use Rattle.ptrun.specs.Each.{place, cut_meaning}
+use Rattle.ptrun.specs.Each.{place, cut_tool, tr_tool, over_operands}
 use Rattle.ptrun.specs.Asked.{saying, command_as, meaning_in, tool_word, asked, asked_as, is_refused_memory}
 use Rattle.std.proofs.lemmas.List.{length-map}
 use Rattle.ptlangs.specs.Answers.{IsFault}
 use Rattle.ptrun.proofs.Turning.{places_within}
 
 as_meant : {A : Type 0} (tool : List ℕ) (m : Result Command Fault) (command : code.Command A) → IsMeant (Ok command) m → meaning_in tool m ≡ command_as command
-as_meant tool (Ok (RunCut j operands)) (Cut job inputs) (same, is) = λ i. cut_meaning (sym same i) (sym is.names i) (sym is.order i)
+as_meant tool (Ok (RunCut j operands)) (Cut job inputs) (same, is) = λ i. over_operands (cut_tool (sym same i)) (sym is.names i) (sym is.order i)
 as_meant tool (Ok (RunPaste j operands)) (Paste job inputs) is = refl
 as_meant tool (Ok (RunUniq j input output)) (Uniq job inputs) is = refl
 as_meant tool (Ok (RunComm j operands)) (Comm job inputs) is = refl
 as_meant tool (Ok (RunJoin j operands)) (Join job inputs) is = refl
-as_meant tool (Ok (RunTr tables)) (Tr plan inputs) is = refl
+as_meant tool (Ok (RunTr tables)) (Tr plan inputs) (same, is) = λ i. over_operands (tr_tool (sym same i)) (sym is.names i) (sym is.order i)
 as_meant tool (Ok _) _ none = absurd none
 as_meant tool (Err fault) command none = absurd none
 

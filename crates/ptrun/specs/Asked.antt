@@ -1,5 +1,5 @@
 -- What the words of a command ask for.
-use Rattle.std.specs.Prelude.{ℕ, List, [], Bool, true, false, Some, None, Result, Ok, Err, codes, length, slice_index_or, is_none, if◌then◌else◌}
+use Rattle.std.specs.Prelude.{ℕ, List, [], ◌∷◌, Bool, true, false, Some, None, Result, Ok, Err, codes, length, slice_index_or, is_none, if◌then◌else◌}
 use Rattle.ptlangs.specs.Jobs.{cut_job}
 use Rattle.ptopts.specs.Faults.{Fault}
 use Rattle.ptopts.specs.Commands.{Command, RunCut, RunPaste, RunUniq, RunComm, RunJoin, RunTr, meaning}
@@ -7,11 +7,12 @@ use Rattle.ptopts.specs.Inputs.{file_names, order_from}
 use Rattle.ptopts.specs.Answers.{meant, words_seen}
 use Rattle.ptopts.specs.Meant.{inputs_of}
 use Rattle.ptopts.specs.declared.fault.UseFault.{UseFault}
+use Rattle.ptopts.specs.declared.inputs.Input.TheVariants.{Standard}
 use Rattle.ptopts.specs.declared.command.Command as code
 use Rattle.ptopts.specs.declared.command.Command.TheVariants as code_command
 use Rattle.ptrun.specs.Meanings.{Meaning}
 use Rattle.ptrun.specs.Messages.{said_of, not_built}
-use Rattle.ptrun.specs.Each.{cut_meaning}
+use Rattle.ptrun.specs.Each.{cut_tool, tr_tool, over_operands}
 
 -- nothing is read or written, and this is said
 abbrev pub saying : List ℕ → ℕ → Meaning
@@ -33,12 +34,12 @@ not_yet tool = saying (not_built tool) 1
 
 -- what a command asks for
 abbrev pub command_meaning : Command → Meaning
-command_meaning (RunCut job operands) = cut_meaning job (file_names operands) (order_from 0 operands)
+command_meaning (RunCut job operands) = over_operands (cut_tool job) (file_names operands) (order_from 0 operands)
 command_meaning (RunPaste job operands) = not_yet (codes "paste")
 command_meaning (RunUniq job input output) = not_yet (codes "uniq")
 command_meaning (RunComm job operands) = not_yet (codes "comm")
 command_meaning (RunJoin job operands) = not_yet (codes "join")
-command_meaning (RunTr tables) = not_yet (codes "tr")
+command_meaning (RunTr tables) = over_operands (tr_tool tables) [] (Standard ∷ [])
 
 abbrev pub tool_word : List (List ℕ) → List ℕ
 tool_word words = slice_index_or words 0 []
@@ -62,16 +63,17 @@ asked_as command words = if is_refused_memory command then saying (said_of (tool
 
 -- what a command that was read asks for
 abbrev pub command_as : {A : Type 0} → code.Command A → Meaning
-command_as (code_command.Cut job inputs) = cut_meaning (cut_job job) (words_seen inputs.names.items) inputs.order.items
+command_as (code_command.Cut job inputs) = over_operands (cut_tool (cut_job job)) (words_seen inputs.names.items) inputs.order.items
 command_as (code_command.Paste job inputs) = not_yet (codes "paste")
 command_as (code_command.Uniq job inputs) = not_yet (codes "uniq")
 command_as (code_command.Comm job inputs) = not_yet (codes "comm")
 command_as (code_command.Join job inputs) = not_yet (codes "join")
-command_as (code_command.Tr plan inputs) = not_yet (codes "tr")
+command_as (code_command.Tr plan inputs) = over_operands (tr_tool plan) (words_seen inputs.names.items) inputs.order.items
 
 -- nothing is read or written for this command
 abbrev pub is_quiet_command : {A : Type 0} → code.Command A → Bool
 is_quiet_command (code_command.Cut job inputs) = false
+is_quiet_command (code_command.Tr plan inputs) = false
 is_quiet_command _ = true
 
 abbrev pub is_quiet : {A : Type 0} → Result (code.Command A) UseFault → Bool

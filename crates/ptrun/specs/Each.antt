@@ -6,7 +6,9 @@ use Rattle.ptlines.specs.Inputs.{Given, nothing_left}
 use Rattle.ptlangs.specs.Jobs.{Cut}
 use Rattle.ptopts.specs.declared.inputs.Input.{Input}
 use Rattle.ptopts.specs.declared.inputs.Input.TheVariants.{Standard, File}
+use Rattle.ptlangs.specs.TrTables.{Tables}
 use Rattle.ptflow.specs.Cuts.{cut, cut_decided}
+use Rattle.ptflow.specs.Translating.{tr, tr_decided}
 use Rattle.ptrun.specs.Worlds.{World, Reading, is_refused, sources}
 use Rattle.ptrun.specs.Meanings.{Meaning}
 use Rattle.ptrun.specs.Messages.{not_opened, name_of}
@@ -62,6 +64,16 @@ cut_tool job = record {
   size = longest_line 10;
 }
 
+-- ---- tr
+
+abbrev pub tr_tool : Tables → Tool
+tr_tool tables = record {
+  name = codes "tr";
+  text = tr tables;
+  decided = tr_decided tables;
+  size = λ bytes. 0;
+}
+
 -- ---- operands, as places
 
 abbrev pub place : Input → ℕ
@@ -71,5 +83,6 @@ place (File index) = index + 1
 abbrev pub places : List Input → List ℕ
 places order = map place order
 
-abbrev pub cut_meaning : Cut → List (List ℕ) → List Input → Meaning
-cut_meaning job names order = one_by_one (cut_tool job) (name_of names) (places order)
+-- what a tool does with these operands, whose files have these names
+abbrev pub over_operands : Tool → List (List ℕ) → List Input → Meaning
+over_operands t names order = one_by_one t (name_of names) (places order)

@@ -6,7 +6,8 @@ ghost use Rattle.ptlines.specs.Slots.{total};
 ghost use Rattle.ptflow.specs.Runs.{IsRun};
 ghost use Rattle.ptrun.specs.Each.{Tool};
 
-use ptflow::{FlowFault, cut};
+use ptflow::{FlowFault, cut, tr};
+use ptlangs::CharPlan;
 use ptlangs::jobs::CutJob;
 use ptlines::{LineReader, Out, Sink, Source, Store};
 use std::alloc::Allocator;
@@ -60,5 +61,28 @@ impl<A: Allocator + Copy> OneByOne<A> for CutJob<A> {
         out: &mut Out<W>,
     ) -> Result<(), FlowFault> {
         cut(self, reader, store, out)
+    }
+}
+
+impl<A: Allocator + Copy> OneByOne<A> for CharPlan {
+    ghost use Rattle.std.specs.Prelude.{refl};
+    ghost use Rattle.ptrun.specs.Each.{tr_tool};
+
+    ghost tool = { tr_tool };
+
+    ghost all_decided = { λ plan g ended. refl };
+
+    fn name(&self) -> &str {
+        "tr"
+    }
+
+    // No line is kept.
+    fn go_over<S: Source, R: Source, W: Sink>(
+        &self,
+        reader: &mut LineReader<S, R>,
+        _store: &mut Store<A>,
+        out: &mut Out<W>,
+    ) -> Result<(), FlowFault> {
+        tr(self, reader, out)
     }
 }
