@@ -3,16 +3,11 @@ use Rattle.std.proofs.Common.{◌≡◌, ℕ, zero, suc, ◌+◌, ◌<◌, ◌�
 use Rattle.std.proofs.lemmas.List.{take_more, get_or-map, length-map, take_all}
 use Rattle.std.proofs.lemmas.Bool.{false≢true}
 use Rattle.ptlines.specs.Readers.{Reader}
-use Rattle.ptlines.specs.Text.{text, lines, ended_lines, longest_line}
 use Rattle.ptlines.specs.Outputs.{Output}
 use Rattle.ptlines.specs.Slots.{Slots}
 use Rattle.ptflow.specs.Runs.{IsRun}
 use Rattle.ptflow.specs.declared.faults.FlowFault.{FlowFault}
 use Rattle.std.proofs.Common.{Result}
-use Rattle.ptlines.specs.Inputs.{Given}
-use Rattle.ptlangs.specs.Jobs.{Cut}
-use Rattle.std.specs.List.{flat_map}
-use Rattle.ptflow.specs.Cuts.{cut_line, cut, cut_decided}
 use Rattle.ptrun.specs.Worlds.{reader_at, no_reader, IsFresh}
 use Rattle.ptrun.specs.Each.{Tool, place, places}
 use Rattle.std.specs.Prelude.{All, not}

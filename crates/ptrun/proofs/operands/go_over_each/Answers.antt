@@ -39,6 +39,17 @@ go_over-requires-clause-unfailed g c =
     let opened = ap (λ (r : Reader). r.refused) (sym here) ∙ sym c.is_refused.ensures.refused ∙ c.if-is_refused.false in
     ap (λ (r : Reader). r.failed) here ∙ (ready_of _ _ _ _ (fresh_all c.args.inputs.now c.requires.fresh p) opened (k.places p)).failed
 
+pub go_over-requires-clause-ending : goal.go_over-requires-clause-ending
+go_over-requires-clause-ending g c =
+    let p = c.place_of-place.result in
+    let now = c.loop-input.inputs in
+    let k = c.loop-input.invariant in
+    let in_old = subst (λ (n : ℕ). n < length c.args.inputs.now) (sym c.place_of-place.ensures) (c.requires.fits c.loop-input.input-index _ c.loop-input-test.true) in
+    let within : p < length now = subst (λ (n : ℕ). p < n) (sym k.same_length) in_old in
+    let here = get_or_default now p c.index-inputs-place.result no_reader within in
+    let opened = ap (λ (r : Reader). r.refused) (sym here) ∙ sym c.is_refused.ensures.refused ∙ c.if-is_refused.false in
+    ap (λ (r : Reader). r.ending) here ∙ (ready_of _ _ _ _ (fresh_all c.args.inputs.now c.requires.fresh p) opened (k.places p)).ending
+
 pub loop-input-preserved : goal.loop-input-preserved
 loop-input-preserved g c =
     let t = g.T.OneByOne.tool c.args.tool.now in
@@ -57,7 +68,7 @@ loop-input-preserved g c =
     let next = places_next c.args.order.now i _ p c.loop-input-test.true c.place_of-place.ensures in
     elim c.if-is_refused.branch [
       | then-is_refused w ↦
-          let says = subst (λ (n : List ℕ). Tells c.loop-input.voice w.say.new.self (line_of (t.name ∷ codes ": " ∷ n ∷ codes ": cannot be opened" ∷ []))) w.name_at.ensures w.say.ensures in
+          let says = subst (λ (l : List ℕ). Tells c.loop-input.voice w.say.new.self l) (λ j. line_of (w.name.ensures j ∷ codes ": " ∷ w.name_at.ensures j ∷ codes ": cannot be opened" ∷ [])) w.say.ensures in
           rw (w.inputs-is, set-get_or now p c.index-inputs-place.result, w.store-is, w.out-is, w.voice-is, w.refused-is, next)
           (pass_refused t name old fresh c.args.out.now c.args.voice.now c.args.store.now now c.loop-input.out c.loop-input.voice w.say.new.self c.loop-input.store done c.loop-input.refused p k (refused ∙ w.if-is_refused.true) says)
       | else-is_refused+in-Ok w ↦
@@ -91,7 +102,7 @@ returns-in-Err g c =
     (subst (λ (o : List ℕ). Went (one_by_one t name o) old (set now p c.go_over.new.reader) c.args.out.now c.go_over.new.out c.args.voice.now c.loop-input.voice c.args.store.now c.go_over.new.store (Err (blame p c.in-Err.fault)))
     (places_split order i _ p c.loop-input-test.true c.place_of-place.ensures)
     (pass_stopped t name old fresh c.args.out.now c.args.voice.now c.args.store.now now c.loop-input.out c.go_over.new.out c.loop-input.voice c.loop-input.store c.go_over.new.store done c.loop-input.refused p c.go_over.new.reader c.go_over.result
-    k in_old opened run (g.T.OneByOne.all_decided c.args.tool.now) more c.in-Err.fault c.in-Err.is))
+    k in_old opened run (g.met.T.OneByOne.all_decided c.args.tool.now) more c.in-Err.fault c.in-Err.is))
 
 pub returns : goal.returns
 returns g c =
