@@ -1,5 +1,5 @@
 -- What is spelled and allowed is meant, and nothing else is.
-use Rattle.std.proofs.Common.{◌≡◌, ℕ, List, [], ◌∷◌, ◌++◌, Bool, true, false, refl, ap, sym, subst, map, append_assoc, append-nil, Option, Some, None, ◌&&◌, Result, Ok, ⊎_elim}
+use Rattle.std.proofs.Common.{◌≡◌, ℕ, List, [], ◌∷◌, ◌++◌, Bool, true, false, refl, ap, sym, subst, map, append_assoc, append-nil, Option, Some, None, ◌&&◌, Ok, ⊎_elim}
 use Rattle.std.specs.Prelude.{is_some, IsTrue, if◌then◌else◌}
 use Rattle.std.proofs.lemmas.Bool.{cases_Bool}
 use Rattle.ptopts.specs.declared.tool.Tool.{Tool}

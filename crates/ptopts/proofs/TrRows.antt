@@ -1,7 +1,6 @@
 -- What some words of tr mean.
 use Rattle.std.proofs.Common.{◌≡◌, [], ◌∷◌, Ok, Err, refl, codes}
 use Rattle.std.specs.Str.{byte}
-use Rattle.ptlangs.specs.declared.faults.SetFault.{SetFault}
 use Rattle.ptlangs.specs.declared.faults.SetFaultKind.{SetFaultKind}
 use Rattle.ptlangs.specs.declared.faults.SetFaultKind.TheVariants.{Empty, Octal, Escape, Descending, UnknownClass, ClassPlace, EquivPlace, RepeatPlace, RepeatSize, SecondFill}
 use Rattle.ptlangs.specs.declared.faults.SetString.TheVariants.{First, Second}

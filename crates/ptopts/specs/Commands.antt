@@ -147,8 +147,8 @@ abbrev pub first_fault : Tool → Reading → Option Fault
 first_fault tool r =
     let os = options r in
     first_of (
-        reading_fault tool [] r.events ∷ combination_fault tool os ∷ values_fault tool os
-        ∷ operands_fault tool os r.operands ∷ strings_fault tool os r.operands ∷ [])
+    reading_fault tool [] r.events ∷ combination_fault tool os ∷ values_fault tool os
+    ∷ operands_fault tool os r.operands ∷ strings_fault tool os r.operands ∷ [])
 
 abbrev pub meaning_for : Option Tool → List (List ℕ) → Result Command Fault
 meaning_for None words = Err NoTool

@@ -224,11 +224,7 @@ const REFUSED_STRINGS: &[(&[&str], SetString, SetFaultKind)] = &[
         SetString::First,
         SetFaultKind::Octal,
     ),
-    (
-        &["tr", "-s", "a\\"],
-        SetString::First,
-        SetFaultKind::Escape,
-    ),
+    (&["tr", "-s", "a\\"], SetString::First, SetFaultKind::Escape),
     (
         &["tr", "-d", "z-a"],
         SetString::First,

@@ -1,5 +1,6 @@
 -- The messages. Each ends with newline.
 use Rattle.std.specs.Prelude.{ℕ, ◌-◌, ◌==◌, List, [], ◌∷◌, Option, Some, None, codes, encode_utf8, if◌then◌else◌, slice_index_or}
+use Rattle.ptlangs.specs.declared.faults.SetFault.{SetFault}
 use Rattle.ptlangs.specs.declared.faults.SetString.{SetString}
 use Rattle.ptlangs.specs.declared.faults.SetString.TheVariants as string
 use Rattle.ptlangs.specs.declared.faults.SetFaultKind.{SetFaultKind}
@@ -27,6 +28,9 @@ kind_word kind.RepeatSize = codes "size"
 kind_word kind.SecondFill = codes "fill"
 kind_word kind.Memory = codes "memory"
 
+abbrev pub string_refusal : SetFault → List ℕ
+string_refusal fault = line_of (codes "tr: wrong " ∷ string_word fault.string ∷ codes ": " ∷ kind_word fault.kind ∷ [])
+
 -- why the words of a tool were refused
 abbrev pub refusal : List ℕ → Fault → List ℕ
 refusal tool NoTool = line_of (codes "ptext: first word: cut, paste, join, comm, uniq or tr" ∷ [])
@@ -38,7 +42,7 @@ refusal tool (Value l value) = line_of (tool ∷ codes ": wrong value for option
 refusal tool Operands = line_of (tool ∷ codes ": wrong number of operands" ∷ [])
 refusal tool StandardTwice = line_of (tool ∷ codes ": standard input is named twice" ∷ [])
 refusal tool NeedsList = line_of (codes "cut: one of -b, -c and -f is needed" ∷ [])
-refusal tool (InString fault) = line_of (tool ∷ codes ": wrong " ∷ string_word fault.string ∷ codes ": " ∷ kind_word fault.kind ∷ [])
+refusal tool (InString fault) = string_refusal fault
 
 abbrev pub out_of_memory : List ℕ → List ℕ
 out_of_memory tool = line_of (tool ∷ codes ": out of memory" ∷ [])

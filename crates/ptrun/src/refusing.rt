@@ -4,10 +4,10 @@ ghost use Rattle.std.specs.Prelude.{◌≡◌};
 ghost use Rattle.ptopts.specs.Answers.{meant};
 ghost use Rattle.ptrun.specs.Sayings.{Tells};
 ghost use Rattle.ptrun.specs.Messages as messages;
-ghost use Rattle.ptrun.specs.Messages.{said_of, status_of};
+ghost use Rattle.ptrun.specs.Messages.{said_of, status_of, string_refusal};
 
 use crate::voice::Voice;
-use ptlangs::{SetFaultKind, SetString};
+use ptlangs::{SetFault, SetFaultKind, SetString};
 use ptlines::Sink;
 use ptopts::UseFault;
 
@@ -57,21 +57,22 @@ pub(crate) fn refuse<E: Sink>(tool: &str, fault: UseFault<'_>, voice: &mut Voice
         UseFault::Operands => voice.say(&[tool, ": wrong number of operands"]),
         UseFault::StandardTwice => voice.say(&[tool, ": standard input is named twice"]),
         UseFault::NeedsList => voice.say(&["cut: one of -b, -c and -f is needed"]),
-        UseFault::String(fault) => {
-            voice.say(&[
-                tool,
-                ": wrong ",
-                string_word(fault.string),
-                ": ",
-                kind_word(fault.kind),
-            ]);
-        }
+        UseFault::String(fault) => refuse_string(fault, voice),
         UseFault::Memory => {
             voice.say(&[tool, ": out of memory"]);
             return 1;
         }
     }
     2
+}
+
+// Says why a string of `tr` was refused.
+fn refuse_string<E: Sink>(fault: SetFault, voice: &mut Voice<E>)
+    ensures { Tells voice.old voice.new (string_refusal fault) }
+{
+    let string = string_word(fault.string);
+    let kind = kind_word(fault.kind);
+    voice.say(&["tr: wrong ", string, ": ", kind]);
 }
 
 // The string, as the synopsis of `tr` names it.

@@ -21,8 +21,3 @@ returns-in-Operands-clause-said g c = rw (c.in-Operands.is) c.say-in-Operands.en
 
 pub returns-in-StandardTwice-clause-said : goal.returns-in-StandardTwice-clause-said
 returns-in-StandardTwice-clause-said g c = rw (c.in-StandardTwice.is) c.say-in-StandardTwice.ensures
-
-pub returns-in-String-clause-said : goal.returns-in-String-clause-said
-returns-in-String-clause-said g c =
-    let says : List ℕ → List ℕ → List ℕ = λ s k. line_of (c.args.tool.now ∷ codes ": wrong " ∷ s ∷ codes ": " ∷ k ∷ []) in
-    rw (c.in-String.is) (subst (λ (text : List ℕ). Tells c.args.voice.now c.say-in-String.new.self text) (λ i. says (c.string_word.ensures i) (c.kind_word.ensures i)) c.say-in-String.ensures)

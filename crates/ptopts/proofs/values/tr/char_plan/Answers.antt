@@ -1,0 +1,53 @@
+use Rattle.std.proofs.Common.{◌≡◌, ℕ, List, [], ◌∷◌, Bool, Option, Some, None, Result, Ok, Err, refl, ap, ◌∙◌, option_map, slice_get}
+use Rattle.std.specs.Prelude.{slice_index_or}
+use Rattle.std.specs.Borrow.{Bor}
+use Rattle.std.specs.Result.{result_err, result_unwrap_or}
+use Rattle.std.proofs.lemmas.Result.{err_from_is_err_and}
+use Rattle.std.proofs.Math.ListN.{get_or}
+use Rattle.ptlangs.specs.declared.faults.SetFault.{SetFault}
+use Rattle.ptlangs.specs.declared.plan.Form.{Form}
+use Rattle.ptlangs.specs.TrPlan.{Plan, plan}
+use Rattle.ptlangs.specs.TrTables.{Tables, tables}
+use Rattle.ptlangs.specs.TrReading.{ok_map}
+use Rattle.ptopts.specs.Words.{GivenOption}
+use Rattle.ptopts.specs.Faults.{InString, form_given, is_complemented, plan_given}
+use Rattle.ptopts.specs.Commands.{plan_of_nothing}
+use Rattle.ptopts.specs.Answers.{options_seen, words_seen}
+use Rattle.ptopts.proofs.values.tr.char_plan.Goals as goal
+
+first_word : (words : List (Bor (List ℕ))) (d : Bor (List ℕ)) → d.now ≡ [] → (get_or words 0 d).now ≡ slice_index_or (words_seen words) 0 []
+first_word [] d none = none
+first_word (w ∷ words) d none = refl
+
+-- what was read of strings is what they say
+read_is : (os : List GivenOption) (words : List (List ℕ)) (r : Result Tables SetFault) (f : Form) (b : Bool) (s1 : List ℕ) (s2 : Option (List ℕ))
+    → f ≡ form_given os words → b ≡ is_complemented os → s1 ≡ slice_index_or words 0 [] → s2 ≡ slice_get words 1
+    → r ≡ ok_map tables (plan f b s1 s2) → r ≡ ok_map tables (plan_given os words)
+read_is os words r f b s1 s2 forms complements firsts seconds is = is ∙ (λ i. ok_map tables (plan (forms i) (complements i) (firsts i) (seconds i)))
+
+read_plan : (p : Result Plan SetFault) (r : Result Tables SetFault) (t : Tables) → r ≡ ok_map tables p → r ≡ Ok t → (result_err p ≡ None) × (t ≡ tables (result_unwrap_or p plan_of_nothing))
+read_plan (Ok x) r t is read = (refl, cc)
+read_plan (Err e) r t is read = cc
+
+read_fault : (p : Result Plan SetFault) (r : Result Tables SetFault) (e : SetFault) → r ≡ ok_map tables p → r ≡ Err e → result_err p ≡ Some e
+read_fault (Ok x) r e is read = cc
+read_fault (Err d) r e is read = cc
+
+pub returns-in_err-plan-clause-fault : goal.returns-in_err-plan-clause-fault
+returns-in_err-plan-clause-fault c =
+    let p = err_from_is_err_and c.from_residual.result c.from_residual.ensures.1 in
+    let first = c.as_bytes.ensures.value ∙ first_word c.args.strings.now _ refl in
+    let is = read_is (options_seen c.args.options.now) (words_seen c.args.strings.now) c.read.result _ _ _ _ c.form.ensures c.is_complemented.ensures first c.second.ensures c.read.ensures in
+    rw (p.1, p.2, read_fault _ c.read.result _ is c.in_err-plan.was) (refl, refl)
+
+pub returns-clause-fault : goal.returns-clause-fault
+returns-clause-fault c =
+    let first = c.as_bytes.ensures.value ∙ first_word c.args.strings.now _ refl in
+    let is = read_is (options_seen c.args.options.now) (words_seen c.args.strings.now) c.read.result _ _ _ _ c.form.ensures c.is_complemented.ensures first c.second.ensures c.read.ensures in
+    ap (option_map InString) (read_plan _ c.read.result c.in_ok-plan.plan is c.in_ok-plan.was).0
+
+pub returns-clause-plan : goal.returns-clause-plan
+returns-clause-plan c =
+    let first = c.as_bytes.ensures.value ∙ first_word c.args.strings.now _ refl in
+    let is = read_is (options_seen c.args.options.now) (words_seen c.args.strings.now) c.read.result _ _ _ _ c.form.ensures c.is_complemented.ensures first c.second.ensures c.read.ensures in
+    (read_plan _ c.read.result c.in_ok-plan.plan is c.in_ok-plan.was).1
