@@ -11,3 +11,5 @@ pub mod LineStops
 pub mod Lining
 pub mod Passing
 pub mod Streaming
+pub mod TrRests
+pub mod TrRows

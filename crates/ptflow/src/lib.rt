@@ -1,4 +1,4 @@
-//! `cut`, over one input.
+//! `cut` and `tr`, each over one input.
 #![tactic(auto)]
 
 mod bytes;
@@ -6,6 +6,8 @@ mod cutting;
 mod faults;
 mod fields;
 mod slots;
+mod translating;
 
 pub use cutting::cut;
 pub use faults::FlowFault;
+pub use translating::tr;

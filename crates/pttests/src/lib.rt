@@ -14,4 +14,6 @@ mod texts;
 #[cfg(test)]
 mod through_std;
 #[cfg(test)]
+mod translating;
+#[cfg(test)]
 mod writing;

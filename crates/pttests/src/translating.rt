@@ -1,0 +1,95 @@
+//! `tr` over an input in pieces.
+
+use ptfakes::{Kept, Pieces};
+use ptflow::{FlowFault, tr};
+use ptlangs::{CharPlan, Form, SetFault};
+use ptlines::{LineReader, Out};
+use std::alloc::{AllocError, Global};
+use std::process::Abort;
+use std::test::Fail;
+
+type Reader<'a> = LineReader<Pieces<'a>, Pieces<'a>>;
+
+fn squeezing_a() -> Result<CharPlan, SetFault> {
+    CharPlan::read(Form::Squeeze, false, b"a", None)
+}
+
+// What is written of a text that comes in pieces of this size.
+fn writes(rt: &impl Abort, alloc: Global, plan: &CharPlan, text: &[u8], size: usize, all: &[u8]) {
+    let mut reader: Reader<'_> = LineReader::standard(Pieces::new(text, size, u64::MAX));
+    let mut out = Out::new(Kept::new(alloc));
+    assert_eq!(rt; tr(plan, &mut reader, &mut out), Ok(()), "by {size}");
+    assert_eq!(rt; out.finish(), Ok(()));
+    assert_eq!(rt; out.into_sink().bytes(), all, "by {size}");
+}
+
+#[test]
+fn a_run_across_pieces(rt: HostRuntime) -> Result<(), Fail> {
+    let plan = squeezing_a()?;
+    for size in 1..6usize {
+        writes(&rt, rt.alloc(), &plan, b"aabaa", size, b"aba");
+    }
+    Ok(())
+}
+
+#[test]
+fn each_form_in_pieces(rt: HostRuntime) -> Result<(), Fail> {
+    let words = CharPlan::read(
+        Form::TranslateSqueeze,
+        true,
+        b"[:alpha:]",
+        Some(b"[\\n*]"),
+    )?;
+    let digits = CharPlan::read(Form::Delete, true, b"0-9", None)?;
+    let both = CharPlan::read(Form::DeleteSqueeze, false, b"0-9", Some(b"ab"))?;
+    let upper = CharPlan::read(Form::Translate, false, b"a-c", Some(b"x-y"))?;
+    for size in [1, 2, usize::MAX] {
+        writes(&rt, rt.alloc(), &words, b"one, two.\n", size, b"one\ntwo\n");
+        writes(&rt, rt.alloc(), &digits, b"a1b2\n", size, b"12");
+        writes(&rt, rt.alloc(), &both, b"a1ab2bb", size, b"ab");
+        writes(&rt, rt.alloc(), &upper, b"abcd", size, b"xyyd");
+    }
+    Ok(())
+}
+
+// So many times the same bytes.
+fn repeated(alloc: Global, bytes: &[u8], count: usize) -> Result<Vec<u8>, AllocError> {
+    let mut text = Vec::new(alloc);
+    for _ in 0..count {
+        text.extend_from_slice(bytes)?;
+    }
+    Ok(text)
+}
+
+#[test]
+fn a_long_text_in_pieces(rt: HostRuntime) -> Result<(), Fail> {
+    let plan = squeezing_a()?;
+    let text = repeated(rt.alloc(), b"aaaab", 4000)?;
+    let all = repeated(rt.alloc(), b"ab", 4000)?;
+    for size in [1, 7, usize::MAX] {
+        writes(&rt, rt.alloc(), &plan, &text, size, &all);
+    }
+    Ok(())
+}
+
+#[test]
+fn a_read_fails(rt: HostRuntime) -> Result<(), Fail> {
+    let plan = squeezing_a()?;
+    let mut reader: Reader<'_> = LineReader::standard(Pieces::new(b"aabaa", 3, 1));
+    let mut out = Out::new(Kept::new(rt.alloc()));
+    assert_eq!(rt; tr(&plan, &mut reader, &mut out), Err(FlowFault::Read(0)));
+    assert_eq!(rt; out.finish(), Ok(()));
+    assert_eq!(rt; out.into_sink().bytes(), b"ab".as_slice());
+    Ok(())
+}
+
+#[test]
+fn a_write_fails(rt: HostRuntime) -> Result<(), Fail> {
+    let plan = squeezing_a()?;
+    let text = repeated(rt.alloc(), b"b", 20000)?;
+    let mut reader: Reader<'_> = LineReader::standard(Pieces::whole(&text));
+    let mut out = Out::new(Kept::limited(rt.alloc(), 5000, usize::MAX, 1));
+    assert_eq!(rt; tr(&plan, &mut reader, &mut out), Err(FlowFault::Write));
+    assert_eq!(rt; out.into_sink().bytes().len(), 5000);
+    Ok(())
+}
