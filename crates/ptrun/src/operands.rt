@@ -79,7 +79,12 @@ pub(crate) fn go_over_each<
         let place = place_of(*input);
         let reader = &mut inputs[place];
         if reader.is_refused() {
-            voice.say(&[tool.name(), ": ", name_at(names, place), ": cannot be opened"]);
+            voice.say(&[
+                tool.name(),
+                ": ",
+                name_at(names, place),
+                ": cannot be opened",
+            ]);
             refused = true;
         } else {
             match tool.go_over(reader, store, out) {

@@ -1,10 +1,4 @@
-use Rattle.std.proofs.Common.{◌≡◌, subst}
 use Rattle.std.specs.Prelude.{codes}
-use Rattle.ptlangs.specs.Jobs.{cut_job}
-use Rattle.ptopts.specs.Answers.{words_seen}
-use Rattle.ptrun.specs.Meanings.{Meaning}
-use Rattle.ptrun.specs.Each.{cut_meaning}
-use Rattle.ptrun.specs.Reports.{IsRun}
 use Rattle.ptrun.specs.Messages.{not_built}
 use Rattle.ptrun.proofs.Concluding.{only_said}
 use Rattle.ptrun.proofs.Turning.{fresh_all}
