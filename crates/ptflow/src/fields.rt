@@ -100,7 +100,8 @@ fn push_line<A: Allocator + Copy, W: Sink>(
 }
 
 // Pushes what is written of the lines whose end is in the block. The answer is how many bytes these lines are, their
-// ends included.
+// ends included. Apart, so that what the loop needs stays in registers.
+#[inline(never)]
 fn push_lines<A: Allocator + Copy, W: Sink>(
     job: &CutJob<A>,
     ending: u8,
