@@ -48,7 +48,8 @@ fn push_selected<W: Sink>(
 }
 
 // Pushes what is written of a block, of whose first line `before` bytes came earlier. The answer is how many bytes
-// have come of the line that goes on behind the block.
+// have come of the line that goes on behind the block. Apart, so that what the loop needs stays in registers.
+#[inline(never)]
 fn push_block<W: Sink>(
     selected: &[Interval],
     ending: u8,

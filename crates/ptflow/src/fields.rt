@@ -20,6 +20,10 @@ fn field_start(delimiter: u8, line: &[u8], count: u64) -> Option<usize>
     requires { length line.now < 2 ^ 63 }
     ensures { MatchOption result (length (fields delimiter line.now) ≤ count) (λ at. StartsAt delimiter count line.now at) }
 {
+    // A line has at most one field more than bytes.
+    if count > line.len() as u64 {
+        return None;
+    }
     let mut at = 0;
     for _field in 0..count {
         let passed = find_near(delimiter, &line[at..])?;
@@ -96,7 +100,8 @@ fn push_line<A: Allocator + Copy, W: Sink>(
 }
 
 // Pushes what is written of the lines whose end is in the block. The answer is how many bytes these lines are, their
-// ends included.
+// ends included. Apart, so that what the loop needs stays in registers.
+#[inline(never)]
 fn push_lines<A: Allocator + Copy, W: Sink>(
     job: &CutJob<A>,
     ending: u8,

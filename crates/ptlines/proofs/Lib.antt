@@ -6,4 +6,4 @@ pub mod Given
 pub mod Scanned
 pub mod Filling
 pub mod TextLaws
-pub mod Places
+pub mod Masks

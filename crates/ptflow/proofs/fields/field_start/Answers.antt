@@ -1,11 +1,18 @@
-use Rattle.std.proofs.Common.{◌≡◌, ◌≤◌, None, Some, ℕ, List, drop, length, subst, arith}
+use Rattle.std.proofs.Common.{◌≡◌, ◌≤◌, ◌==◌, None, Some, ℕ, List, drop, length, subst, arith}
 use Rattle.std.proofs.lemmas.List.{take_rest}
+use Rattle.std.proofs.lemmas.List.Sums.{count_by-le-length}
+use Rattle.std.proofs.lemmas.List.Splits.{length-slice_split}
 use Rattle.memchr.specs.Find.{IsFirstByte, is_byte}
 use Rattle.ptflow.proofs.FieldPlaces.{starts_first, starts_next, no_more}
 use Rattle.ptlines.specs.Text.{IsLine}
 use Rattle.ptlines.proofs.Scanned.{no_end}
 use Rattle.ptflow.specs.FieldPlaces.{fields, StartsAt}
 use Rattle.ptflow.proofs.fields.field_start.Goals as goal
+
+pub returns-then-count-line : goal.returns-then-count-line
+returns-then-count-line c =
+    let ends = λ (b : ℕ). b == c.args.delimiter in
+    omega (arith, length-slice_split ends c.args.line.now, count_by-le-length ends c.args.line.now, c.if-count-line.true)
 
 pub loop-field-init : goal.loop-field-init
 loop-field-init c = starts_first c.args.delimiter c.args.line.now
