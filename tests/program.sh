@@ -112,5 +112,44 @@ want 'a\nc\n' 'cut: g: cannot be opened\n'
 run empty cut -c 1 f g h
 same "a file that cannot be opened" 1
 
+printf 'xy\n' >in
+want 'a\nx\nc\n' ''
+run in cut -c 1 f - h
+same "files and standard input in their order" 0
+
+want 'x\na\na\n' ''
+run in cut -c 1 - f - f
+same "a file that is named twice is read twice, and standard input once" 0
+
+want 'a\n' 'cut: folder: read failed\n'
+run empty cut -c 1 f folder h
+same "a folder opens, and its first read fails" 1
+
+want 'c\n' 'cut: f/none: cannot be opened\ncut: none: cannot be opened\n'
+run empty cut -c 1 f/none h none
+same "files that cannot be there and are not there" 1
+
+: >secret
+chmod 000 secret
+if [ ! -r secret ]; then
+    want 'c\n' 'cut: secret: cannot be opened\n'
+    run empty cut -c 1 secret h
+    same "a file that may not be read" 1
+fi
+
+# As many operands as there may be, and one more.
+set --
+while [ $# -lt 512 ]; do
+    set -- "$@" f
+done
+want '' ''
+yes a | head -n 512 >want.out
+run empty cut -c 1 "$@"
+same "512 operands" 0
+
+want '' 'cut: wrong number of operands\n'
+run empty cut -c 1 "$@" f
+same "513 operands" 2
+
 echo "$((count - bad)) of $count runs of the program as wanted"
 [ "$bad" = 0 ]

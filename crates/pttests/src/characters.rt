@@ -1,10 +1,9 @@
 //! `tr`, from its words.
 
 use crate::commands::{
-    Case, FREE, Input, Limits, Row, assert_left, expect, expect_rows, over_standard, refuses,
-    run_over, writes,
+    Case, Expected, FREE, Input, Limits, Row, assert_left, expect, expect_rows, over_standard,
+    refuses, run_over, writes,
 };
-use crate::commands::Expected;
 use std::test::Fail;
 
 const TRANSLATED: &[Row] = &[
@@ -40,7 +39,11 @@ const SQUEEZED: &[Row] = &[
     (&["tr", "-s", "a"], "aabaa", "aba"),
     (&["tr", "-s", "ab", "x"], "abba", "x"),
     (&["tr", "-cs", "a", "x"], "abba\n", "axax"),
-    (&["tr", "-cs", "[:alpha:]", "[\\n*]"], "one, two.\n", "one\ntwo\n"),
+    (
+        &["tr", "-cs", "[:alpha:]", "[\\n*]"],
+        "one, two.\n",
+        "one\ntwo\n",
+    ),
     (&["tr", "-ds", "0-9", "ab"], "a1ab2bb", "ab"),
     (&["tr", "-ds", "[:digit:]", "[:space:]"], "1  2\n\n", " \n"),
 ];
@@ -51,11 +54,20 @@ const REFUSED: &[(&[&str], &str)] = &[
     (&["tr", "-d", "\\400"], "tr: wrong string1: octal\n"),
     (&["tr", "a", "b\\"], "tr: wrong string2: escape\n"),
     (&["tr", "z-a", "b"], "tr: wrong string1: descending\n"),
-    (&["tr", "-d", "a-[:digit:]"], "tr: wrong string1: descending\n"),
+    (
+        &["tr", "-d", "a-[:digit:]"],
+        "tr: wrong string1: descending\n",
+    ),
     (&["tr", "[:foo:]", "a"], "tr: wrong string1: class\n"),
     (&["tr", "a-z", "[:upper:]"], "tr: wrong string2: pairing\n"),
-    (&["tr", "[:lower:]", "[:lower:]"], "tr: wrong string2: pairing\n"),
-    (&["tr", "-c", "[:alpha:]", "[:upper:]"], "tr: wrong string2: pairing\n"),
+    (
+        &["tr", "[:lower:]", "[:lower:]"],
+        "tr: wrong string2: pairing\n",
+    ),
+    (
+        &["tr", "-c", "[:alpha:]", "[:upper:]"],
+        "tr: wrong string2: pairing\n",
+    ),
     (&["tr", "0", "[=x=]"], "tr: wrong string2: equivalence\n"),
     (&["tr", "[a*3]", "b"], "tr: wrong string1: repeat\n"),
     (&["tr", "abc", "[x*08]"], "tr: wrong string2: size\n"),

@@ -2,9 +2,19 @@
 #![tactic(auto)]
 
 #[cfg(test)]
+mod characters;
+#[cfg(test)]
+mod commands;
+#[cfg(test)]
+mod cuts;
+#[cfg(test)]
 mod faking;
 #[cfg(test)]
+mod fields;
+#[cfg(test)]
 mod reading;
+#[cfg(test)]
+mod refusals;
 #[cfg(test)]
 mod slots;
 #[cfg(test)]

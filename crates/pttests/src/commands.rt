@@ -1,0 +1,243 @@
+//! Whole commands over sources and sinks of the tests.
+
+ghost use Rattle.std.specs.Prelude.{◌≡◌, ◌+◌, false, All, IfOk, IfSome, vec_len};
+ghost use Rattle.ptrun.specs.Asked.{count_of};
+ghost use Rattle.ptrun.specs.Worlds.{IsFresh};
+
+use ptfakes::{Kept, Pieces};
+use ptlines::LineReader;
+use ptopts::{Command, UseFault};
+use ptrun::{Report, run};
+use std::alloc::{AllocError, Allocator, Global};
+use std::process::Abort;
+use std::test::Fail;
+
+/// An input of a command.
+#[derive(Clone, Copy)]
+pub enum Input<'a> {
+    /// In pieces as large as the buffers.
+    Whole(&'a [u8]),
+    /// In pieces of so many bytes.
+    Pieces(&'a [u8], usize),
+    /// In pieces of so many bytes; so many reads pass, and every later one fails.
+    Failing(&'a [u8], usize, u64),
+    /// A file that cannot be opened.
+    Refused,
+}
+
+/// What a sink takes: so many bytes a call and so many in all at most, and so many calls.
+#[derive(Clone, Copy)]
+pub struct Limits {
+    pub size: usize,
+    pub room: usize,
+    pub passing: u64,
+}
+
+/// A sink takes all.
+pub const FREE: Limits = Limits {
+    size: usize::MAX,
+    room: usize::MAX,
+    passing: u64::MAX,
+};
+
+/// A command, and what it is run over.
+#[derive(Clone, Copy)]
+pub struct Case<'a> {
+    pub words: &'a [&'a str],
+    pub standard: Input<'a>,
+    pub files: &'a [Input<'a>],
+    pub out: Limits,
+    pub messages: Limits,
+}
+
+/// What a command is to leave.
+#[derive(Clone, Copy)]
+pub struct Expected<'a> {
+    pub out: &'a str,
+    pub messages: &'a str,
+    pub status: u8,
+}
+
+/// The command writes this, says nothing and succeeds.
+pub fn writes(out: &str) -> Expected<'_> {
+    Expected {
+        out,
+        messages: "",
+        status: 0,
+    }
+}
+
+/// The words are refused with this message.
+pub fn refuses(messages: &str) -> Expected<'_> {
+    Expected {
+        out: "",
+        messages,
+        status: 2,
+    }
+}
+
+/// A command over standard input, in pieces of so many bytes.
+pub fn over_standard<'a>(words: &'a [&'a str], text: &'a [u8], size: usize) -> Case<'a> {
+    Case {
+        words,
+        standard: Input::Pieces(text, size),
+        files: &[],
+        out: FREE,
+        messages: FREE,
+    }
+}
+
+/// A command over files. Standard input is empty.
+pub fn over_files<'a>(words: &'a [&'a str], files: &'a [Input<'a>]) -> Case<'a> {
+    Case {
+        words,
+        standard: Input::Whole(b""),
+        files,
+        out: FREE,
+        messages: FREE,
+    }
+}
+
+type Reader<'a> = LineReader<Pieces<'a>, Pieces<'a>>;
+
+// What gives an input; nothing for a file that cannot be opened.
+fn source_of<'a>(input: Input<'a>) -> Option<Pieces<'a>>
+    ensures unended { IfSome result (λ source. source.ended ≡ false) }
+    ensures unfailed { IfSome result (λ source. source.failed ≡ false) }
+{
+    match input {
+        Input::Whole(text) => Some(Pieces::whole(text)),
+        Input::Pieces(text, size) => Some(Pieces::new(text, size, u64::MAX)),
+        Input::Failing(text, size, passing) => Some(Pieces::new(text, size, passing)),
+        Input::Refused => None,
+    }
+}
+
+fn file_of(input: Input<'_>) -> Reader<'_>
+    ensures { IsFresh result }
+{
+    match source_of(input) {
+        Some(source) => LineReader::file(source),
+        None => LineReader::refused(),
+    }
+}
+
+fn standard_of(input: Input<'_>) -> Reader<'_>
+    ensures { IsFresh result }
+{
+    match source_of(input) {
+        Some(source) => LineReader::standard(source),
+        None => LineReader::refused(),
+    }
+}
+
+// How many files a command names.
+fn files_named<A: Allocator>(command: &Result<Command<'_, A>, UseFault<'_>>) -> usize
+    ensures { result ≡ count_of command.now }
+{
+    match command {
+        Ok(command) => command.names().len(),
+        Err(_) => 0,
+    }
+}
+
+// The file at a place; one that cannot be opened where there is none.
+fn file_at<'a>(files: &[Input<'a>], place: usize) -> Reader<'a>
+    ensures { IsFresh result }
+{
+    match files.get(place) {
+        Some(file) => file_of(*file),
+        None => LineReader::refused(),
+    }
+}
+
+// Standard input, and then so many files.
+fn readers<'a>(
+    alloc: Global,
+    standard: Input<'a>,
+    files: &[Input<'a>],
+    count: usize,
+) -> Result<Vec<Reader<'a>>, AllocError>
+    ensures count { IfOk result (λ inputs. vec_len inputs ≡ count + 1) }
+    ensures fresh { IfOk result (λ inputs. All IsFresh inputs.items) }
+{
+    let mut inputs = Vec::new(alloc);
+    inputs.push(standard_of(standard))?;
+    for place in 0..count {
+        inputs.push(file_at(files, place))?;
+    }
+    Ok(inputs)
+}
+
+fn sink_of(alloc: Global, limits: Limits) -> Kept
+    ensures { result.failed ≡ false }
+{
+    Kept::limited(alloc, limits.size, limits.room, limits.passing)
+}
+
+/// Runs a command, and hands the report back. `alloc` is the command's, and `own` that of its inputs and sinks.
+pub fn run_over<A: Allocator + Copy>(
+    rt: &impl Abort,
+    alloc: A,
+    own: Global,
+    case: &Case<'_>,
+) -> Result<Report<Kept, Kept>, Fail> {
+    let command = Command::read(alloc, case.words);
+    let count = files_named(&command);
+    assert!(rt;
+        command.is_err() || case.files.len() == count,
+        "{:?}",
+        case.words
+    );
+    let mut inputs = readers(own, case.standard, case.files, count)?;
+    let out = sink_of(own, case.out);
+    let messages = sink_of(own, case.messages);
+    Ok(run(alloc, command, case.words, &mut inputs, out, messages))
+}
+
+/// Runs a command, and looks at what was written and said, and at the status.
+pub fn expect(
+    rt: &impl Abort,
+    alloc: Global,
+    case: &Case<'_>,
+    expected: &Expected<'_>,
+) -> Result<(), Fail> {
+    let report = run_over(rt, alloc, alloc, case)?;
+    assert_left(rt, case, &report, expected);
+    assert!(rt; !report.denied);
+    Ok(())
+}
+
+/// Looks at what was written and said, and at the status.
+pub fn assert_left(
+    rt: &impl Abort,
+    case: &Case<'_>,
+    report: &Report<Kept, Kept>,
+    expected: &Expected<'_>,
+) {
+    let words = case.words;
+    assert_eq!(rt; report.out.bytes(), expected.out.as_bytes(), "{words:?}");
+    assert_eq!(rt;
+        report.messages.bytes(),
+        expected.messages.as_bytes(),
+        "{words:?}"
+    );
+    assert_eq!(rt; report.status, expected.status, "{words:?}");
+}
+
+/// Words, standard input, and what is written.
+pub type Row = (&'static [&'static str], &'static str, &'static str);
+
+/// Runs each row with standard input in pieces of 1 byte, of 7 and whole.
+pub fn expect_rows(rt: &impl Abort, alloc: Global, rows: &[Row]) -> Result<(), Fail> {
+    for (words, standard, out) in rows {
+        for size in SIZES {
+            let case = over_standard(words, standard.as_bytes(), *size);
+            expect(rt, alloc, &case, &writes(out))?;
+        }
+    }
+    Ok(())
+}
+
+/// The sizes of pieces.
+pub const SIZES: &[usize] = &[1, 7, usize::MAX];

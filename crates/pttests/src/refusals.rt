@@ -1,0 +1,385 @@
+//! What is said of words that are no command: the message of each fault of each tool, and status 2.
+
+use crate::commands::{expect, over_standard, refuses, writes};
+use std::alloc::Global;
+use std::process::Abort;
+use std::test::Fail;
+
+// Words, and the message.
+type Refusal = (&'static [&'static str], &'static str);
+
+const NO_TOOL: &str = "ptext: first word: cut, paste, join, comm, uniq or tr\n";
+
+const TOOLS: &[Refusal] = &[
+    (&[], NO_TOOL),
+    (&["cat"], NO_TOOL),
+    (&["Cut", "-b1"], NO_TOOL),
+    (&["", "-b1"], NO_TOOL),
+];
+
+const UNKNOWN: &[Refusal] = &[
+    (&["cut", "-xb"], "cut: unknown option in -xb\n"),
+    (&["cut", "-b1", "-s-"], "cut: unknown option in -s-\n"),
+    (&["cut", "-b1", "-sé"], "cut: unknown option in -sé\n"),
+    (&["paste", "-d,", "-z"], "paste: unknown option in -z\n"),
+    (&["uniq", "-x"], "uniq: unknown option in -x\n"),
+    (&["comm", "-4", "f", "g"], "comm: unknown option in -4\n"),
+    (&["join", "-x", "f", "g"], "join: unknown option in -x\n"),
+    (&["tr", "-x", "a", "b"], "tr: unknown option in -x\n"),
+];
+
+const NEEDS_VALUE: &[Refusal] = &[
+    (&["cut", "-b"], "cut: option -b needs a value\n"),
+    (&["cut", "-c"], "cut: option -c needs a value\n"),
+    (&["cut", "-sf"], "cut: option -f needs a value\n"),
+    (&["cut", "-b1", "-d"], "cut: option -d needs a value\n"),
+    (&["paste", "-d"], "paste: option -d needs a value\n"),
+    (&["uniq", "-f"], "uniq: option -f needs a value\n"),
+    (&["uniq", "-cs"], "uniq: option -s needs a value\n"),
+    (&["join", "-a"], "join: option -a needs a value\n"),
+    (&["join", "-v"], "join: option -v needs a value\n"),
+    (&["join", "-e"], "join: option -e needs a value\n"),
+    (&["join", "-o"], "join: option -o needs a value\n"),
+    (&["join", "-t"], "join: option -t needs a value\n"),
+    (&["join", "-1"], "join: option -1 needs a value\n"),
+    (&["join", "-2"], "join: option -2 needs a value\n"),
+];
+
+const TWICE: &[Refusal] = &[
+    (
+        &["cut", "-b", "1", "-b", "2"],
+        "cut: option -b is given twice\n",
+    ),
+    (
+        &["cut", "-b1", "-c2", "-b3"],
+        "cut: option -b is given twice\n",
+    ),
+    (&["cut", "-b", "1", "-b"], "cut: option -b is given twice\n"),
+    (&["cut", "-c1", "-c2"], "cut: option -c is given twice\n"),
+    (&["cut", "-f1", "-f1"], "cut: option -f is given twice\n"),
+    (&["cut", "-d:", "-d:"], "cut: option -d is given twice\n"),
+    (
+        &["paste", "-d,", "-d,", "f"],
+        "paste: option -d is given twice\n",
+    ),
+    (&["uniq", "-f1", "-f1"], "uniq: option -f is given twice\n"),
+    (&["uniq", "-s1", "-s2"], "uniq: option -s is given twice\n"),
+    (&["join", "-ea", "-eb"], "join: option -e is given twice\n"),
+    (&["join", "-o0", "-o0"], "join: option -o is given twice\n"),
+    (&["join", "-t,", "-t,"], "join: option -t is given twice\n"),
+    (&["join", "-11", "-12"], "join: option -1 is given twice\n"),
+    (&["join", "-21", "-22"], "join: option -2 is given twice\n"),
+];
+
+const TOGETHER: &[Refusal] = &[
+    (
+        &["cut", "-b", "0", "-c", "1"],
+        "cut: options -b and -c do not go together\n",
+    ),
+    (
+        &["cut", "-b", "1", "-f", "1"],
+        "cut: options -b and -f do not go together\n",
+    ),
+    (
+        &["cut", "-f1", "-c1"],
+        "cut: options -c and -f do not go together\n",
+    ),
+    (
+        &["cut", "-nc1"],
+        "cut: options -c and -n do not go together\n",
+    ),
+    (
+        &["cut", "-f1", "-n"],
+        "cut: options -f and -n do not go together\n",
+    ),
+    (
+        &["cut", "-b1", "-d:"],
+        "cut: options -b and -d do not go together\n",
+    ),
+    (
+        &["cut", "-d:", "-c1"],
+        "cut: options -c and -d do not go together\n",
+    ),
+    (
+        &["cut", "-sb1"],
+        "cut: options -b and -s do not go together\n",
+    ),
+    (
+        &["cut", "-c1", "-s"],
+        "cut: options -c and -s do not go together\n",
+    ),
+    (
+        &["uniq", "-cd"],
+        "uniq: options -c and -d do not go together\n",
+    ),
+    (
+        &["uniq", "-u", "-c"],
+        "uniq: options -c and -u do not go together\n",
+    ),
+    (
+        &["uniq", "-du"],
+        "uniq: options -d and -u do not go together\n",
+    ),
+    (
+        &["join", "-a", "3", "-v", "1", "f", "g"],
+        "join: options -a and -v do not go together\n",
+    ),
+    (
+        &["tr", "-cC", "a", "b"],
+        "tr: options -c and -C do not go together\n",
+    ),
+];
+
+const NEEDS_LIST: &[Refusal] = &[
+    (&["cut"], "cut: one of -b, -c and -f is needed\n"),
+    (
+        &["cut", "-d", "::", "-s"],
+        "cut: one of -b, -c and -f is needed\n",
+    ),
+    (&["cut", "-n", "f"], "cut: one of -b, -c and -f is needed\n"),
+];
+
+const VALUES_OF_CUT: &[Refusal] = &[
+    (&["cut", "-f", "0"], "cut: wrong value for option -f: 0\n"),
+    (&["cut", "-b", ""], "cut: wrong value for option -b: \n"),
+    (
+        &["cut", "-b", "1,3-2"],
+        "cut: wrong value for option -b: 1,3-2\n",
+    ),
+    (
+        &["cut", "-b", "1,,2"],
+        "cut: wrong value for option -b: 1,,2\n",
+    ),
+    (&["cut", "-c", "-"], "cut: wrong value for option -c: -\n"),
+    (&["cut", "-c", "a"], "cut: wrong value for option -c: a\n"),
+    (
+        &["cut", "-b", "18446744073709551616"],
+        "cut: wrong value for option -b: 18446744073709551616\n",
+    ),
+    (&["cut", "-b", "--"], "cut: wrong value for option -b: --\n"),
+    (
+        &["cut", "-f1", "-d", "::"],
+        "cut: wrong value for option -d: ::\n",
+    ),
+    (
+        &["cut", "-f1", "-d", ""],
+        "cut: wrong value for option -d: \n",
+    ),
+    (
+        &["cut", "-f1", "-d", "\n"],
+        "cut: wrong value for option -d: \n\n",
+    ),
+    (
+        &["cut", "-d", "::", "-f", "x"],
+        "cut: wrong value for option -f: x\n",
+    ),
+];
+
+const VALUES_OF_OTHERS: &[Refusal] = &[
+    (
+        &["paste", "-d", "", "f"],
+        "paste: wrong value for option -d: \n",
+    ),
+    (
+        &["paste", "-d", "a\\", "f"],
+        "paste: wrong value for option -d: a\\\n",
+    ),
+    (
+        &["paste", "-d", "\\x", "f"],
+        "paste: wrong value for option -d: \\x\n",
+    ),
+    (
+        &["uniq", "-f", "-1"],
+        "uniq: wrong value for option -f: -1\n",
+    ),
+    (&["uniq", "-s", ""], "uniq: wrong value for option -s: \n"),
+    (
+        &["uniq", "-s", "x", "-f", "y"],
+        "uniq: wrong value for option -f: y\n",
+    ),
+    (
+        &["uniq", "-f", "18446744073709551616"],
+        "uniq: wrong value for option -f: 18446744073709551616\n",
+    ),
+];
+
+const VALUES_OF_JOIN: &[Refusal] = &[
+    (
+        &["join", "-o", "1.0", "-a", "3", "f"],
+        "join: wrong value for option -a: 3\n",
+    ),
+    (
+        &["join", "-a1", "-a", "12", "f", "g"],
+        "join: wrong value for option -a: 12\n",
+    ),
+    (
+        &["join", "-v", "0", "f", "g"],
+        "join: wrong value for option -v: 0\n",
+    ),
+    (
+        &["join", "-t", "ab", "-o", "1.0", "f", "g"],
+        "join: wrong value for option -o: 1.0\n",
+    ),
+    (
+        &["join", "-o", "0,3.1", "f", "g"],
+        "join: wrong value for option -o: 0,3.1\n",
+    ),
+    (
+        &["join", "-1", "0", "-t", "ab", "f", "g"],
+        "join: wrong value for option -t: ab\n",
+    ),
+    (
+        &["join", "-2", "x", "-1", "0", "f", "g"],
+        "join: wrong value for option -1: 0\n",
+    ),
+    (
+        &["join", "-2", "x", "f", "g"],
+        "join: wrong value for option -2: x\n",
+    ),
+];
+
+const OPERANDS: &[Refusal] = &[
+    (&["paste"], "paste: wrong number of operands\n"),
+    (
+        &["uniq", "--", "-c", "a", "b"],
+        "uniq: wrong number of operands\n",
+    ),
+    (&["comm"], "comm: wrong number of operands\n"),
+    (&["comm", "f"], "comm: wrong number of operands\n"),
+    (&["comm", "-", "-", "-"], "comm: wrong number of operands\n"),
+    (&["join", "f"], "join: wrong number of operands\n"),
+    (
+        &["join", "f", "g", "-a1"],
+        "join: wrong number of operands\n",
+    ),
+    (&["tr"], "tr: wrong number of operands\n"),
+    (&["tr", "a"], "tr: wrong number of operands\n"),
+    (&["tr", "a", "b", "c"], "tr: wrong number of operands\n"),
+    (&["tr", "-s"], "tr: wrong number of operands\n"),
+    (
+        &["tr", "-s", "a", "b", "c"],
+        "tr: wrong number of operands\n",
+    ),
+    (&["tr", "-cd"], "tr: wrong number of operands\n"),
+    (&["tr", "-d", "a", "b"], "tr: wrong number of operands\n"),
+    (&["tr", "-ds", "a"], "tr: wrong number of operands\n"),
+    (&["comm", "-", "-"], "comm: standard input is named twice\n"),
+    (
+        &["join", "-a1", "-", "-"],
+        "join: standard input is named twice\n",
+    ),
+];
+
+// Each fault of an earlier step comes before those of later ones, and of the reading the leftmost is the first.
+const FIRST: &[Refusal] = &[
+    (&["cut", "-x", "-b1", "-b"], "cut: unknown option in -x\n"),
+    (
+        &["cut", "-b1", "-b1", "-x"],
+        "cut: option -b is given twice\n",
+    ),
+    (
+        &["cut", "-b1", "-c1", "-d"],
+        "cut: option -d needs a value\n",
+    ),
+    (
+        &["join", "-a3", "-v1", "f"],
+        "join: options -a and -v do not go together\n",
+    ),
+    (
+        &["uniq", "-f", "x", "a", "b", "c"],
+        "uniq: wrong value for option -f: x\n",
+    ),
+    (
+        &["join", "-1", "0", "-", "-"],
+        "join: wrong value for option -1: 0\n",
+    ),
+];
+
+// Runs these words, and looks for the message.
+fn expect_refusal(
+    rt: &impl Abort,
+    alloc: Global,
+    words: &[&str],
+    message: &str,
+) -> Result<(), Fail> {
+    let case = over_standard(words, b"never read\n", usize::MAX);
+    expect(rt, alloc, &case, &refuses(message))
+}
+
+fn expect_refusals(rt: &impl Abort, alloc: Global, rows: &[Refusal]) -> Result<(), Fail> {
+    for (words, message) in rows {
+        expect_refusal(rt, alloc, words, message)?;
+    }
+    Ok(())
+}
+
+#[test]
+fn words_of_no_tool(rt: HostRuntime) -> Result<(), Fail> {
+    expect_refusals(&rt, rt.alloc(), TOOLS)
+}
+
+#[test]
+fn unknown_options(rt: HostRuntime) -> Result<(), Fail> {
+    expect_refusals(&rt, rt.alloc(), UNKNOWN)
+}
+
+#[test]
+fn options_without_a_value(rt: HostRuntime) -> Result<(), Fail> {
+    expect_refusals(&rt, rt.alloc(), NEEDS_VALUE)
+}
+
+#[test]
+fn options_given_twice(rt: HostRuntime) -> Result<(), Fail> {
+    expect_refusals(&rt, rt.alloc(), TWICE)
+}
+
+#[test]
+fn options_that_do_not_go_together(rt: HostRuntime) -> Result<(), Fail> {
+    expect_refusals(&rt, rt.alloc(), TOGETHER)
+}
+
+#[test]
+fn cut_without_a_list(rt: HostRuntime) -> Result<(), Fail> {
+    expect_refusals(&rt, rt.alloc(), NEEDS_LIST)
+}
+
+#[test]
+fn values_of_cut(rt: HostRuntime) -> Result<(), Fail> {
+    expect_refusals(&rt, rt.alloc(), VALUES_OF_CUT)
+}
+
+#[test]
+fn values_of_paste_and_uniq(rt: HostRuntime) -> Result<(), Fail> {
+    expect_refusals(&rt, rt.alloc(), VALUES_OF_OTHERS)
+}
+
+#[test]
+fn values_of_join(rt: HostRuntime) -> Result<(), Fail> {
+    expect_refusals(&rt, rt.alloc(), VALUES_OF_JOIN)
+}
+
+#[test]
+fn numbers_of_operands(rt: HostRuntime) -> Result<(), Fail> {
+    expect_refusals(&rt, rt.alloc(), OPERANDS)
+}
+
+#[test]
+fn the_first_fault_is_said(rt: HostRuntime) -> Result<(), Fail> {
+    expect_refusals(&rt, rt.alloc(), FIRST)
+}
+
+#[test]
+fn at_most_512_operands(rt: HostRuntime) -> Result<(), Fail> {
+    let mut words = vec![in rt.alloc(); "-"; 515]?;
+    words[0] = "cut";
+    words[1] = "-b1";
+    let message = "cut: wrong number of operands\n";
+    expect_refusal(&rt, rt.alloc(), &words, message)?;
+    words.truncate(514);
+    let case = over_standard(&words, b"ab\n", usize::MAX);
+    expect(&rt, rt.alloc(), &case, &writes("a\n"))?;
+    words[0] = "paste";
+    words[1] = "-";
+    let message = "paste: wrong number of operands\n";
+    expect_refusal(&rt, rt.alloc(), &words, message)
+}
