@@ -34,12 +34,7 @@ fn a_run_across_pieces(rt: HostRuntime) -> Result<(), Fail> {
 
 #[test]
 fn each_form_in_pieces(rt: HostRuntime) -> Result<(), Fail> {
-    let words = CharPlan::read(
-        Form::TranslateSqueeze,
-        true,
-        b"[:alpha:]",
-        Some(b"[\\n*]"),
-    )?;
+    let words = CharPlan::read(Form::TranslateSqueeze, true, b"[:alpha:]", Some(b"[\\n*]"))?;
     let digits = CharPlan::read(Form::Delete, true, b"0-9", None)?;
     let both = CharPlan::read(Form::DeleteSqueeze, false, b"0-9", Some(b"ab"))?;
     let upper = CharPlan::read(Form::Translate, false, b"a-c", Some(b"x-y"))?;
