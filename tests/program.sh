@@ -49,6 +49,10 @@ want '' 'cut: wrong value for option -b: 18446744073709551616\n'
 run abcd cut -b 18446744073709551616
 same "a number that is too large" 2
 
+want '' 'tr: wrong string1: octal\n'
+run abcd tr -d '\400'
+same "an escape of tr above a byte" 2
+
 want '' 'ptext: first word: cut, paste, join, comm, uniq or tr\n'
 run abcd
 same "no words" 2

@@ -26,7 +26,7 @@ pub data Command : Type 0 where
   RunUniq : jobs.Uniq → List ℕ → Option (List ℕ) → Command
   RunComm : jobs.Comm → List (List ℕ) → Command
   RunJoin : jobs.Join → List (List ℕ) → Command
-  -- standard input, by what each byte is
+  -- standard input, and what is done to each byte
   RunTr : Tables → Command
 
 -- ---- the jobs that options say

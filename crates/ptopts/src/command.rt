@@ -36,7 +36,7 @@ pub enum Command<'a, A: Allocator = Global> {
     Comm(CommJob, Inputs<'a, A>),
     /// `join`, with two inputs, of which one at most is standard input.
     Join(JoinJob<A>, Inputs<'a, A>),
-    /// `tr`, which reads standard input.
+    /// `tr`, by what it does to each byte of standard input.
     Tr(CharPlan, Inputs<'a, A>),
 }
 

@@ -14,7 +14,7 @@ abbrev pub string_word : SetString → List ℕ
 string_word string.First = codes "string1"
 string_word string.Second = codes "string2"
 
--- why a string was refused, in one word; for want of memory none is
+-- why a string was refused, in one word; want of memory is never why
 abbrev pub kind_word : SetFaultKind → List ℕ
 kind_word kind.Empty = codes "empty"
 kind_word kind.Octal = codes "octal"
