@@ -57,7 +57,7 @@ want '' 'ptext: first word: cut, paste, join, comm, uniq or tr\n'
 run abcd
 same "no words" 2
 
-want '' 'ptext: first word: cut, paste, join, comm, uniq or tr\n'
+want '' 'ptext: a word is not UTF-8\n'
 run abcd "$(printf 'cut\377')"
 same "a word that is not UTF-8" 2
 
