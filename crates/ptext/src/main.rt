@@ -2,6 +2,8 @@
 #![tactic(auto)]
 
 mod performing;
+#[cfg(test)]
+mod tests;
 
 use performing::{perform, report_no_memory, report_no_text};
 use ptlines::{FromRead, FromWrite};
