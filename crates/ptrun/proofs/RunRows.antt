@@ -1,7 +1,7 @@
 -- What some whole commands are to write, say and answer, from their words.
 use Rattle.std.proofs.Common.{◌≡◌, ℕ, List, [], ◌∷◌, Some, None, refl, codes, false}
 use Rattle.ptrun.specs.Worlds.{World}
-use Rattle.ptrun.specs.Meanings.{messages}
+use Rattle.ptrun.specs.Meanings.{named, messages}
 use Rattle.ptrun.specs.Asked.{asked}
 
 record Outcome : Type 0 where
@@ -103,7 +103,7 @@ fields_decided_before_a_failed_read : (asked (codes "cut" ∷ codes "-d" ∷ cod
 fields_decided_before_a_failed_read = refl
 
 -- before a failed read of the second operand, the first was refused
-said_of_the_first_operand : (asked (codes "cut" ∷ codes "-c" ∷ codes "1" ∷ codes "g" ∷ codes "f" ∷ codes "h" ∷ [])).named (Some [] ∷ None ∷ Some (codes "x") ∷ None ∷ []) 1 ≡ codes "cut: g: cannot be opened\n"
+said_of_the_first_operand : named (asked (codes "cut" ∷ codes "-c" ∷ codes "1" ∷ codes "g" ∷ codes "f" ∷ codes "h" ∷ [])) (Some [] ∷ None ∷ Some (codes "x") ∷ None ∷ []) 1 ≡ codes "cut: g: cannot be opened\n"
 said_of_the_first_operand = refl
 
 not_built_yet : outcome (codes "uniq" ∷ codes "-c" ∷ []) (input (codes "a\n")) ≡ record { out = []; messages = codes "uniq: not built yet\n"; status = 1 }

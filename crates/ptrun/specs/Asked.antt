@@ -12,7 +12,7 @@ use Rattle.ptopts.specs.declared.command.Command as code
 use Rattle.ptopts.specs.declared.command.Command.TheVariants as code_command
 use Rattle.ptrun.specs.Meanings.{Meaning}
 use Rattle.ptrun.specs.Messages.{said_of, not_built}
-use Rattle.ptrun.specs.Each.{cut_tool, tr_tool, over_operands}
+use Rattle.ptrun.specs.Operands.{cut_over, tr_over}
 
 -- nothing is read or written, and this is said
 abbrev pub saying : List ℕ → ℕ → Meaning
@@ -21,11 +21,11 @@ saying text status = record {
   status = λ w. status;
   bound = λ w. 0;
   decided = λ r. [];
-  named = λ w n. [];
   closing = λ w. text;
   places = [];
+  begun = λ n. [];
   tool = [];
-  name = λ p. [];
+  names = [];
 }
 
 -- what is not built yet says so
@@ -34,12 +34,12 @@ not_yet tool = saying (not_built tool) 1
 
 -- what a command asks for
 abbrev pub command_meaning : Command → Meaning
-command_meaning (RunCut job operands) = over_operands (cut_tool job) (file_names operands) (order_from 0 operands)
+command_meaning (RunCut job operands) = cut_over job (file_names operands) (order_from 0 operands)
 command_meaning (RunPaste job operands) = not_yet (codes "paste")
 command_meaning (RunUniq job input output) = not_yet (codes "uniq")
 command_meaning (RunComm job operands) = not_yet (codes "comm")
 command_meaning (RunJoin job operands) = not_yet (codes "join")
-command_meaning (RunTr tables) = over_operands (tr_tool tables) [] (Standard ∷ [])
+command_meaning (RunTr tables) = tr_over tables [] (Standard ∷ [])
 
 abbrev pub tool_word : List (List ℕ) → List ℕ
 tool_word words = slice_index_or words 0 []
@@ -52,23 +52,23 @@ meaning_in tool (Err fault) = saying (said_of tool (Some fault)) 2
 abbrev pub asked : List (List ℕ) → Meaning
 asked words = meaning_in (tool_word words) (meaning words)
 
--- reading the words was refused for want of memory
-abbrev pub is_refused_memory : {A : Type 0} → Result (code.Command A) UseFault → Bool
-is_refused_memory (Ok command) = false
-is_refused_memory (Err fault) = is_none (meant fault)
+-- memory for the reading of the words was denied
+abbrev pub is_denied : {A : Type 0} → Result (code.Command A) UseFault → Bool
+is_denied (Ok command) = false
+is_denied (Err fault) = is_none (meant fault)
 
 -- what is asked for by words that were read so
 abbrev pub asked_as : {A : Type 0} → Result (code.Command A) UseFault → List (List ℕ) → Meaning
-asked_as command words = if is_refused_memory command then saying (said_of (tool_word words) None) 1 else asked words
+asked_as command words = if is_denied command then saying (said_of (tool_word words) None) 1 else asked words
 
 -- what a command that was read asks for
 abbrev pub command_as : {A : Type 0} → code.Command A → Meaning
-command_as (code_command.Cut job inputs) = over_operands (cut_tool (cut_job job)) (words_seen inputs.names.items) inputs.order.items
+command_as (code_command.Cut job inputs) = cut_over (cut_job job) (words_seen inputs.names.items) inputs.order.items
 command_as (code_command.Paste job inputs) = not_yet (codes "paste")
 command_as (code_command.Uniq job inputs) = not_yet (codes "uniq")
 command_as (code_command.Comm job inputs) = not_yet (codes "comm")
 command_as (code_command.Join job inputs) = not_yet (codes "join")
-command_as (code_command.Tr plan inputs) = over_operands (tr_tool plan) (words_seen inputs.names.items) inputs.order.items
+command_as (code_command.Tr plan inputs) = tr_over plan (words_seen inputs.names.items) inputs.order.items
 
 -- nothing is read or written for this command
 abbrev pub is_quiet_command : {A : Type 0} → code.Command A → Bool

@@ -1,10 +1,10 @@
 //! The tools that go over their inputs one by one.
 
-ghost use Rattle.std.specs.Prelude.{◌≡◌, true, false, None};
+ghost use Rattle.std.specs.Prelude.{◌≡◌, ℕ, List, true, false, None};
 ghost use Rattle.ptlines.specs.Inputs.{Given};
 ghost use Rattle.ptlines.specs.Slots.{total};
 ghost use Rattle.ptflow.specs.Runs.{IsRun};
-ghost use Rattle.ptrun.specs.Each.{Tool};
+ghost use Rattle.ptrun.specs.Operands.{Tool};
 
 use ptflow::{FlowFault, cut, tr};
 use ptlangs::CharPlan;
@@ -18,8 +18,10 @@ pub(crate) trait OneByOne<A: Allocator + Copy>: Drop {
     ghost tool: { Self → Tool };
 
     /// The word that names it.
+    ghost word: { Self → List ℕ };
+
     fn name(&self) -> &str
-        ensures { result.now ≡ (tool self.now).name };
+        ensures { result.now ≡ word self.now };
 
     /// Goes over one input.
     fn go_over<S: Source, R: Source, W: Sink>(
@@ -42,11 +44,14 @@ pub(crate) trait OneByOne<A: Allocator + Copy>: Drop {
 }
 
 impl<A: Allocator + Copy> OneByOne<A> for CutJob<A> {
+    ghost use Rattle.std.specs.Prelude.{codes};
     ghost use Rattle.ptlangs.specs.Jobs.{cut_job};
-    ghost use Rattle.ptrun.specs.Each.{cut_tool};
+    ghost use Rattle.ptrun.specs.Operands.{cut_tool};
     ghost use Rattle.ptrun.specs.Laws.{cut_all_decided};
 
     ghost tool = { λ job. cut_tool (cut_job job) };
+
+    ghost word = { λ job. codes "cut" };
 
     ghost all_decided = { λ job. cut_all_decided (cut_job job) };
 
@@ -65,10 +70,12 @@ impl<A: Allocator + Copy> OneByOne<A> for CutJob<A> {
 }
 
 impl<A: Allocator + Copy> OneByOne<A> for CharPlan {
-    ghost use Rattle.std.specs.Prelude.{refl};
-    ghost use Rattle.ptrun.specs.Each.{tr_tool};
+    ghost use Rattle.std.specs.Prelude.{refl, codes};
+    ghost use Rattle.ptrun.specs.Operands.{tr_tool};
 
     ghost tool = { tr_tool };
+
+    ghost word = { λ plan. codes "tr" };
 
     ghost all_decided = { λ plan g ended. refl };
 

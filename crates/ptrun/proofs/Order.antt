@@ -1,5 +1,5 @@
--- One turn of the loop over the operands.
-use Rattle.std.proofs.Common.{◌≡◌, ℕ, zero, suc, ◌+◌, ◌<◌, ◌≤◌, Bool, true, false, cond, List, [], ◌∷◌, ◌++◌, length, take, drop, get_or, sym, ◌∙◌, ap, subst, arith, append_assoc, take-append-drop}
+-- The operands of a command in their order, as places.
+use Rattle.std.proofs.Common.{◌≡◌, ℕ, zero, suc, ◌+◌, ◌<◌, ◌≤◌, Bool, true, false, cond, List, [], ◌∷◌, ◌++◌, Result, length, take, drop, get_or, sym, ◌∙◌, ap, subst, arith, append_assoc, take-append-drop}
 use Rattle.std.proofs.lemmas.List.{take_more, get_or-map, length-map, take_all}
 use Rattle.std.proofs.lemmas.Bool.{false≢true}
 use Rattle.ptlines.specs.Readers.{Reader}
@@ -7,11 +7,13 @@ use Rattle.ptlines.specs.Outputs.{Output}
 use Rattle.ptlines.specs.Slots.{Slots}
 use Rattle.ptflow.specs.Runs.{IsRun}
 use Rattle.ptflow.specs.declared.faults.FlowFault.{FlowFault}
-use Rattle.std.proofs.Common.{Result}
-use Rattle.ptrun.specs.Worlds.{reader_at, no_reader, IsFresh}
-use Rattle.ptrun.specs.Each.{Tool, place, places}
+use Rattle.ptrun.specs.Worlds.{reader_at, no_reader, IsFresh, AreFresh}
+use Rattle.ptrun.specs.Operands.{Tool, place, places, one_by_one}
 use Rattle.std.specs.Prelude.{All, not}
-use Rattle.std.proofs.lemmas.List.Elements.{All-nil, All-cons}
+use Rattle.std.proofs.lemmas.List.Elements.{All-nil, All-cons, All-map}
+use Rattle.std.specs.Borrow.{Bor}
+use Rattle.ptopts.specs.Answers.{words_seen}
+use Rattle.ptrun.specs.Engines.{AreGiven}
 use Rattle.ptopts.specs.Faults.{is_standard}
 use Rattle.ptopts.specs.Inputs.{file_names, order_from}
 use Rattle.ptopts.specs.declared.inputs.Input.{Input}
@@ -22,6 +24,18 @@ pub fresh_all : (readers : List Reader) → ((k : ℕ) (d : Reader) → k < leng
 fresh_all [] h q = λ opened. absurd (false≢true (sym opened))
 fresh_all (r ∷ readers) h zero = h zero no_reader (omega arith)
 fresh_all (r ∷ readers) h (suc q) = fresh_all readers (λ k d within. h (suc k) d (omega (arith, within))) q
+
+pub place_fits : (order : List Input) (n i : ℕ) (d : Input) → All (λ p. p < n) (places order) → i < length order → place (get_or order i d) < n
+place_fits order n i d fits within = subst (λ (k : ℕ). k < n) (get_or-map place order i d 0 within) (fits i 0 (omega (arith, within, length-map order place)))
+
+-- each operand has a reader, and each file has a name
+pub given_of : (word : List ℕ) (t : Tool) (inputs : List Reader) (names : List (Bor (List ℕ))) (order : List Input) → AreFresh (length names) inputs → All (λ o. place o < length inputs) order
+    → AreGiven (one_by_one word t (words_seen names) (places order)) inputs
+given_of word t inputs names order fresh fits = record {
+  fresh = fresh.1;
+  fits = All-map (λ (p : ℕ). p < length inputs) place order fits;
+  named = fresh.0 ∙ ap (λ (n : ℕ). n + 1) (sym (length-map names (λ (w : Bor (List ℕ)). w.now)));
+}
 
 -- the operands before the i-th, it, and those behind
 pub places_next : (order : List Input) (i : ℕ) (d : Input) (p : ℕ) → i < length order → p ≡ place (get_or order i d) → take (i + 1) (places order) ≡ take i (places order) ++ p ∷ []

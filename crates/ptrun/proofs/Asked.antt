@@ -12,19 +12,24 @@ use Rattle.ptopts.specs.declared.inputs.Inputs.{Inputs}
 use Rattle.ptopts.specs.Answers.{meant}
 use Rattle.ptopts.specs.Meant.{IsMeant, inputs_of}
 use Rattle.ptrun.specs.Messages.{said_of, status_of}
-use Rattle.ptrun.specs.Each.{place, cut_tool, tr_tool, over_operands}
-use Rattle.ptrun.specs.Asked.{saying, command_as, meaning_in, tool_word, asked, asked_as, is_refused_memory}
+use Rattle.ptrun.specs.Operands.{place, cut_over, tr_over}
+use Rattle.ptrun.specs.Asked.{saying, command_as, meaning_in, tool_word, asked, asked_as, is_denied}
 use Rattle.std.proofs.lemmas.List.{length-map}
 use Rattle.ptlangs.specs.Answers.{IsFault}
-use Rattle.ptrun.proofs.Turning.{places_within}
+use Rattle.ptlines.specs.Readers.{Reader}
+use Rattle.ptrun.specs.Meanings.{Meaning}
+use Rattle.ptrun.specs.Worlds.{IsFresh}
+use Rattle.ptrun.specs.Runs.{Sinks, Outcome, IsRun, Headline}
+use Rattle.ptrun.proofs.Order.{places_within}
+use Rattle.ptrun.proofs.Runs.{headline_of}
 
 as_meant : {A : Type 0} (tool : List ℕ) (m : Result Command Fault) (command : code.Command A) → IsMeant (Ok command) m → meaning_in tool m ≡ command_as command
-as_meant tool (Ok (RunCut j operands)) (Cut job inputs) (same, is) = λ i. over_operands (cut_tool (sym same i)) (sym is.names i) (sym is.order i)
+as_meant tool (Ok (RunCut j operands)) (Cut job inputs) (same, is) = λ i. cut_over (sym same i) (sym is.names i) (sym is.order i)
 as_meant tool (Ok (RunPaste j operands)) (Paste job inputs) is = refl
 as_meant tool (Ok (RunUniq j input output)) (Uniq job inputs) is = refl
 as_meant tool (Ok (RunComm j operands)) (Comm job inputs) is = refl
 as_meant tool (Ok (RunJoin j operands)) (Join job inputs) is = refl
-as_meant tool (Ok (RunTr tables)) (Tr plan inputs) (same, is) = λ i. over_operands (tr_tool (sym same i)) (sym is.names i) (sym is.order i)
+as_meant tool (Ok (RunTr tables)) (Tr plan inputs) (same, is) = λ i. tr_over (sym same i) (sym is.names i) (sym is.order i)
 as_meant tool (Ok _) _ none = absurd none
 as_meant tool (Err fault) command none = absurd none
 
@@ -62,6 +67,9 @@ pub operands_fit : {A : Type 0} (command : Result (code.Command A) UseFault) (wo
     → All (λ o. place o < length (inputs_of c).names.items + 1) (inputs_of c).order.items
 operands_fit command words c is m = fits_in (meaning words) c (subst (λ r. IsMeant r (meaning words)) is m)
 
--- where memory was not refused, it is what the words ask for
-pub as_asked : {A : Type 0} (command : Result (code.Command A) UseFault) (words : List (List ℕ)) → is_refused_memory command ≡ false → asked_as command words ≡ asked words
-as_asked command words roomy = rw roomy refl
+-- where memory was not denied, the run is what the words ask for
+pub headline_asked : {A : Type 0} (command : Result (code.Command A) UseFault) (words : List (List ℕ)) (old new : List Reader) (before : Sinks) (o : Outcome) → All IsFresh old → IsRun (asked_as command words) old new before o
+    → is_denied command ≡ false → Headline (asked words) old new before o
+headline_asked command words old new before o fresh run roomy =
+    let same : asked_as command words ≡ asked words = rw roomy refl in
+    subst (λ (m : Meaning). Headline m old new before o) same (headline_of (asked_as command words) old new before o fresh run)

@@ -1,9 +1,9 @@
 -- A tool that goes over its operands, one after another.
-use Rattle.std.proofs.Common.{◌≡◌, ◌≢◌, ⊎_elim, inl, inr, ℕ, ◌<◌, ◌≤◌, ◌^◌, ◌||◌, Bool, true, false, cond, List, [], ◌∷◌, ◌++◌, Option, Some, None, Result, Ok, Err, length, take, map, set, max, refl, sym, ◌∙◌, ap, subst, arith, append_assoc, length-append, length-set}
+use Rattle.std.proofs.Common.{◌≡◌, ◌≢◌, ⊎_elim, inl, inr, ℕ, ◌<◌, ◌≤◌, ◌^◌, ◌||◌, Bool, true, false, cond, List, [], ◌∷◌, ◌++◌, Option, Some, None, Result, Ok, Err, ◌+◌, length, map, set, max, refl, sym, ◌∙◌, ap, subst, arith, append_assoc, length-append, length-set}
 use Rattle.std.specs.Prelude.{flat_map, option_map, is_none, slice_get}
 use Rattle.std.specs.List.{list_any}
 use Rattle.std.specs.Io.KnownBytes.{prepend_known}
-use Rattle.std.proofs.lemmas.List.{append-nil, map-append, get_or-set_same, get_or-set_other, nil_from_length, length-map}
+use Rattle.std.proofs.lemmas.List.{append-nil, take_all, map-append, get_or-set_same, get_or-set_other, nil_from_length, length-map}
 use Rattle.std.proofs.Math.ListN.{get_or-map}
 use Rattle.std.proofs.Math.Seq.{take-append_seam, take-length}
 use Rattle.std.proofs.lemmas.List.Concat.{flat_map-append}
@@ -22,14 +22,17 @@ use Rattle.ptlines.specs.Inputs as one
 use Rattle.ptflow.specs.Runs as run
 use Rattle.ptflow.specs.declared.faults.FlowFault.{FlowFault}
 use Rattle.ptflow.specs.declared.faults.FlowFault.TheVariants.{Read, Write, Memory}
-use Rattle.ptrun.specs.Worlds.{World, Reading, at, is_refused, AgreesAt, Agrees, is_in, found, founds, opened, sources, reader_at, no_reader, CameAt, IsReading, IsNew, IsFresh, HasFailed, IsTooLong}
+use Rattle.ptrun.specs.Worlds.{World, Received, at, is_unopened, AllowsAt, Allows, is_in, found, founds, opened, sources, reader_at, no_reader, CameAt, IsReceived, IsNew, IsFresh, HasFailed, IsTooLong}
 use Rattle.ptrun.specs.Sayings.{Tells}
-use Rattle.ptrun.specs.Meanings.{messages}
-use Rattle.ptrun.specs.Messages.{not_opened}
-use Rattle.ptrun.specs.Each.{Tool, greatest, up_to_open, refusals, each_out, each_bound, each_decided, one_by_one}
-use Rattle.ptrun.specs.Reports.{blame, Cause, Went}
-use Rattle.ptrun.proofs.Told.{tells_trans, tells_nothing}
-use Rattle.ptrun.proofs.Finding.{is_in-same, is_in-other, same_or_other, at_each, sources_at, sources_opened, sources_refused, refusals_more, refusals_same, any_same, any_more, greatest-append, EndedAt, least, at-least, bytes_at, decided_founds}
+use Rattle.ptrun.specs.Meanings.{unopened}
+use Rattle.ptrun.specs.Messages.{not_opened, name_of}
+use Rattle.ptrun.specs.Operands.{Tool, largest, up_to_open, each_out, each_bound, each_decided, one_by_one}
+use Rattle.ptrun.specs.declared.engine.Done.{Done}
+use Rattle.ptrun.specs.declared.engine.Done.TheVariants.{Whole, Unopened}
+use Rattle.ptrun.specs.Runs.{Cause}
+use Rattle.ptrun.specs.Engines.{blame, last_words, status_after, IsWithin, Went}
+use Rattle.ptrun.proofs.Sayings.{tells_trans, tells_nothing}
+use Rattle.ptrun.proofs.Sources.{is_in-same, is_in-other, same_or_other, at_each, sources_at, sources_opened, sources_refused, unopened_more, unopened_same, any_same, any_more, largest-append, take_with, EndedAt, least, at-least, bytes_at, decided_founds}
 
 -- its source has said its end, and it can be asked again
 pub record IsSpent (r : Reader) : Type 0 where
@@ -50,21 +53,28 @@ abbrev pub PlaceIs : Bool → Reader → Reader → Option Given → Type 0
 PlaceIs seen old now None = (old.refused ≡ true) × (now ≡ old)
 PlaceIs seen old now (Some g) = (old.refused ≡ false) × IfSeen seen old now g
 
+-- which inputs could not be opened
+abbrev pub shut : List Reader → ℕ → Bool
+shut readers place = (reader_at readers place).refused
+
+abbrev pub done_with : Bool → Done
+done_with any = cond any Unopened Whole
+
 -- the operands that are done
-pub record Pass (t : Tool) (name : ℕ → List ℕ) (old now : List Reader) (was is : Output) (told heard : SinkState) (before store : Slots) (done : List ℕ) (any : Bool) : Type 0 where
-  pub gave : Reading
+pub record Pass (word : List ℕ) (t : Tool) (names : List (List ℕ)) (old now : List Reader) (was is : Output) (told heard : SinkState) (before store : Slots) (done : List ℕ) (so_far : Done) : Type 0 where
+  pub gave : Received
   pub same_length : length now ≡ length old
   pub long : length gave ≡ length old
   pub places : (q : ℕ) → PlaceIs (is_in done q) (reader_at old q) (reader_at now q) (at gave q)
   pub pushed : List ℕ
   pub wrote : Wrote was is pushed
-  pub out : (w : World) → Agrees gave w → pushed ≡ each_out t w done
-  pub tells : Tells told heard (refusals t.name name (λ q. (reader_at old q).refused) done)
-  pub any_is : any ≡ list_any (λ q. (reader_at old q).refused) done
+  pub out : (w : World) → Allows gave w → pushed ≡ each_out t w done
+  pub tells : Tells told heard (unopened word names (shut old) done)
+  pub so_far_is : so_far ≡ done_with (list_any (shut old) done)
   pub clean : is.faulted ≡ false
   pub roomy : store.denied ≡ false
   pub empty : total store.lines ≡ 0
-  pub peak : (w : World) → Agrees gave w → store.peak ≤ max before.peak (each_bound t w done)
+  pub peak : (w : World) → Allows gave w → store.peak ≤ max before.peak (each_bound t w done)
 
 -- ---- one place
 
@@ -135,6 +145,11 @@ ready_of false old now (Some g) fresh opened k =
       ending = ap (λ (r : Reader). r.ending) same ∙ new.ending;
     }
 
+unseen_same : (seen : Bool) (old now : Reader) (o : Option Given) → seen ≡ false → PlaceIs seen old now o → now ≡ old
+unseen_same seen old now None is k = k.1
+unseen_same true old now (Some g) is k = absurd (false≢true (sym is))
+unseen_same false old now (Some g) is k = k.1.0
+
 came_at : (seen : Bool) (old now : Reader) (o : Option Given) → IsFresh old → PlaceIs seen old now o → CameAt old now o
 came_at seen old now None fresh k = k
 came_at seen old now (Some g) fresh k = (k.0, subst (λ (h : Given). Came old now h) (some_same (sym y.is)) y.came)
@@ -146,13 +161,13 @@ came_at seen old now (Some g) fresh k = (k.0, subst (λ (h : Given). Came old no
     some_same is = cc
 
 -- the same are refused
-refused_at : (old now : Reader) (o : Option Given) (v : Option (List ℕ)) → CameAt old now o → AgreesAt o v → old.refused ≡ is_none v
+refused_at : (old now : Reader) (o : Option Given) (v : Option (List ℕ)) → CameAt old now o → AllowsAt o v → old.refused ≡ is_none v
 refused_at old now None None k a = k.0
 refused_at old now None (Some b) k a = absurd a
 refused_at old now (Some g) None k a = absurd a
 refused_at old now (Some g) (Some b) k a = k.0
 
-pub refused_same : (old now : List Reader) (r : Reading) (w : World) → IsReading old now r → Agrees r w → (q : ℕ) → (reader_at old q).refused ≡ is_refused w q
+pub refused_same : (old now : List Reader) (r : Received) (w : World) → IsReceived old now r → Allows r w → (q : ℕ) → (reader_at old q).refused ≡ is_unopened w q
 refused_same old now r w reading agrees q = refused_at (reader_at old q) (reader_at now q) (at r q) (at w q) (reading q) (agrees q)
 
 none_of : (v : Option (List ℕ)) → is_none v ≡ true → v ≡ None
@@ -161,7 +176,7 @@ none_of (Some b) is = absurd (false≢true is)
 
 -- ---- what an operand finds
 
-agreed : (o : Option Given) (v : Option (List ℕ)) (g : Given) → o ≡ Some g → AgreesAt o v → (b : List ℕ) × (v ≡ Some b) × one.Agrees g b
+agreed : (o : Option Given) (v : Option (List ℕ)) (g : Given) → o ≡ Some g → AllowsAt o v → (b : List ℕ) × (v ≡ Some b) × one.Agrees g b
 agreed None v g is a = cc
 agreed (Some h) None g is a = absurd a
 agreed (Some h) (Some b) g is a = let same : h ≡ g = cc in (b, refl, subst (λ (k : Given). one.Agrees k b) same a)
@@ -179,15 +194,15 @@ agrees_before g e b still a = record {
   whole = λ ended. let k = still ended in λ i. k.0 i ++ a.whole k.1 i;
 }
 
-agrees_some : (o : Option Given) (v : Option (List ℕ)) (g : Given) → o ≡ Some g → ((b : List ℕ) → v ≡ Some b → one.Agrees g b) → (b : List ℕ) → v ≡ Some b → AgreesAt o v
-agrees_some o v g is_o given b is_v = subst (λ (x : Option Given). AgreesAt x v) (sym is_o) (subst (λ (y : Option (List ℕ)). AgreesAt (Some g) y) (sym is_v) (given b is_v))
+agrees_some : (o : Option Given) (v : Option (List ℕ)) (g : Given) → o ≡ Some g → ((b : List ℕ) → v ≡ Some b → one.Agrees g b) → (b : List ℕ) → v ≡ Some b → AllowsAt o v
+agrees_some o v g is_o given b is_v = subst (λ (x : Option Given). AllowsAt x v) (sym is_o) (subst (λ (y : Option (List ℕ)). AllowsAt (Some g) y) (sym is_v) (given b is_v))
 
 -- ---- before the first operand, and at the end
 
-abbrev pub reading_of : Reader → Option Given
-reading_of r = cond r.refused None (Some nothing_yet)
+abbrev pub received_of : Reader → Option Given
+received_of r = cond r.refused None (Some nothing_yet)
 
-start_place : (r : Reader) → PlaceIs false r r (reading_of r)
+start_place : (r : Reader) → PlaceIs false r r (received_of r)
 start_place r = by_refused r.refused refl
   where
     by_refused : (b : Bool) → r.refused ≡ b → PlaceIs false r r (cond b None (Some nothing_yet))
@@ -200,14 +215,14 @@ not_long seen old now None fresh k long = long
 not_long true old now (Some g) fresh k long = let new = fresh k.0 in omega (arith, k.1.0.count, k.1.1.short, ap length new.held, new.pulled, long)
 not_long false old now (Some g) fresh k long = let none : length g.bytes ≡ 0 = ap (λ (h : Given). length h.bytes) k.1.1 in absurd (omega (arith, none, long))
 
-pub nothing_long : (old : List Reader) → ((q : ℕ) → IsFresh (reader_at old q)) → (q : ℕ) → IsTooLong (at (map reading_of old) q) → ⊥
-nothing_long old fresh q = not_long false (reader_at old q) (reader_at old q) (at (map reading_of old) q) (fresh q)
-    (subst (λ (o : Option Given). PlaceIs false (reader_at old q) (reader_at old q) o) (sym (get_or-map reading_of old q no_reader)) (start_place (reader_at old q)))
+pub nothing_long : (old : List Reader) → ((q : ℕ) → IsFresh (reader_at old q)) → (q : ℕ) → IsTooLong (at (map received_of old) q) → ⊥
+nothing_long old fresh q = not_long false (reader_at old q) (reader_at old q) (at (map received_of old) q) (fresh q)
+    (subst (λ (o : Option Given). PlaceIs false (reader_at old q) (reader_at old q) o) (sym (get_or-map received_of old q no_reader)) (start_place (reader_at old q)))
 
 -- nothing was read
-pub nothing_read : (old : List Reader) → ((q : ℕ) → IsFresh (reader_at old q)) → IsReading old old (map reading_of old)
-nothing_read old fresh q = came_at false (reader_at old q) (reader_at old q) (at (map reading_of old) q) (fresh q)
-    (subst (λ (o : Option Given). PlaceIs false (reader_at old q) (reader_at old q) o) (sym (get_or-map reading_of old q no_reader)) (start_place (reader_at old q)))
+pub nothing_read : (old : List Reader) → ((q : ℕ) → IsFresh (reader_at old q)) → IsReceived old old (map received_of old)
+nothing_read old fresh q = came_at false (reader_at old q) (reader_at old q) (at (map received_of old) q) (fresh q)
+    (subst (λ (o : Option Given). PlaceIs false (reader_at old q) (reader_at old q) o) (sym (get_or-map received_of old q no_reader)) (start_place (reader_at old q)))
 
 unseen_of : (seen : Bool) (old now new : Reader) (g e : Given) → IfSeen seen old now g → Came now new e → new.ended ≡ false → (seen ≡ false) × (g ≡ nothing_yet)
 unseen_of true old now new g e k came going = absurd (false≢true (sym going ∙ (came.still k.1.done.ended).1))
@@ -217,12 +232,12 @@ not_seen_long : (seen : Bool) (old now new : Reader) (g e : Given) → IfSeen se
 not_seen_long true old now new g e k came long = absurd (omega (arith, k.1.short, (came.still k.1.done.ended).0, long))
 not_seen_long false old now new g e k came long = refl
 
-agrees_least_at : (o : Option Given) → AgreesAt o (bytes_at o)
+agrees_least_at : (o : Option Given) → AllowsAt o (bytes_at o)
 agrees_least_at None = tt
 agrees_least_at (Some g) = record { rest = []; is = sym (append-nil g.bytes); whole = λ _. refl }
 
-agrees_least : (r : Reading) → Agrees r (least r)
-agrees_least r q = subst (λ (v : Option (List ℕ)). AgreesAt (at r q) v) (sym (at-least r q)) (agrees_least_at (at r q))
+agrees_least : (r : Received) → Allows r (least r)
+agrees_least r q = subst (λ (v : Option (List ℕ)). AllowsAt (at r q) v) (sym (at-least r q)) (agrees_least_at (at r q))
 
 ended_at : (old now : Reader) (o : Option Given) → PlaceIs true old now o → EndedAt o
 ended_at old now None k = tt
@@ -232,62 +247,73 @@ nth_here : (done more : List ℕ) (p : ℕ) → slice_get (done ++ p ∷ more) (
 nth_here [] more p = refl
 nth_here (q ∷ done) more p = nth_here done more p
 
--- behind the operands nothing is said
-all_said : (t : Tool) (name : ℕ → List ℕ) (order : List ℕ) (w : World) → messages (one_by_one t name order) w ≡ refusals t.name name (is_refused w) order
-all_said t name order w = append-nil (refusals t.name name (is_refused w) (take (length order) order)) ∙ ap (refusals t.name name (is_refused w)) (take-length order)
-
-module _ (t : Tool) (name : ℕ → List ℕ) (old : List Reader) (fresh : (q : ℕ) → IsFresh (reader_at old q)) (was : Output) (told : SinkState) (before : Slots) where
-  pub pass_nothing : was.faulted ≡ false → before.denied ≡ false → total before.lines ≡ 0 → Pass t name old old was was told told before before [] false
+module _ (word : List ℕ) (t : Tool) (names : List (List ℕ)) (old : List Reader) (fresh : (q : ℕ) → IsFresh (reader_at old q)) (was : Output) (told : SinkState) (before : Slots) where
+  pub pass_nothing : was.faulted ≡ false → before.denied ≡ false → total before.lines ≡ 0 → Pass word t names old old was was told told before before [] Whole
   pass_nothing clean roomy empty = record {
-    gave = map reading_of old;
+    gave = map received_of old;
     same_length = refl;
-    long = length-map old reading_of;
-    places = λ q. subst (λ (o : Option Given). PlaceIs false (reader_at old q) (reader_at old q) o) (sym (get_or-map reading_of old q no_reader)) (start_place (reader_at old q));
+    long = length-map old received_of;
+    places = λ q. subst (λ (o : Option Given). PlaceIs false (reader_at old q) (reader_at old q) o) (sym (get_or-map received_of old q no_reader)) (start_place (reader_at old q));
     pushed = [];
     wrote = wrote_nothing was (λ fault. absurd (false≢true (sym clean ∙ fault)));
     out = λ w agrees. refl;
     tells = tells_nothing told;
-    any_is = refl;
+    so_far_is = refl;
     clean = clean;
     roomy = roomy;
     empty = empty;
     peak = λ w agrees. omega arith;
   }
 
-  pub pass_all : (now : List Reader) (is : Output) (heard : SinkState) (store : Slots) (order : List ℕ) (any : Bool)
-      → Pass t name old now was is told heard before store order any → Went (one_by_one t name order) old now was is told heard before store (Ok any)
-  pass_all now is heard store order any k = record {
-    reading = k.gave;
+  pub pass_all : (now : List Reader) (is : Output) (heard : SinkState) (store : Slots) (order : List ℕ) (so_far : Done)
+      → Pass word t names old now was is told heard before store order so_far → Went (one_by_one word t names order) old now was is told heard before store (Ok so_far)
+  pass_all now is heard store order so_far k = record {
+    received = k.gave;
     came = came;
     pushed = k.pushed;
     wrote = k.wrote;
-    said = refusals t.name name (λ q. (reader_at old q).refused) order;
+    behind = length order;
+    within = omega arith;
+    said = unopened word names (shut old) order;
     tells = k.tells;
-    ends = record {
-      out = k.out;
-      messages = λ w agrees. refusals_same t.name name (λ q. (reader_at old q).refused) (is_refused w) order (refused_same old now k.gave w came agrees) ∙ sym (all_said t name order w);
-      status_is = λ w agrees. ap (λ (b : Bool). cond b 1 0) (k.any_is ∙ any_same (λ q. (reader_at old q).refused) (is_refused w) order (refused_same old now k.gave w came agrees));
-      written = k.clean;
-      roomy = k.roomy;
-      read = λ q. ⊎_elim (λ failed. none q failed) (λ long. not_long (is_in order q) (reader_at old q) (reader_at now q) (at k.gave q) (fresh q) (k.places q) long);
-    };
+    names = λ w agrees. unopened_same word names (shut old) (is_unopened w) order (refused_same old now k.gave w came agrees) ∙ ap (unopened word names (is_unopened w)) (sym (take-length order));
+    ends = (
+      record {
+        all = refl;
+        out = k.out;
+        written = k.clean;
+        roomy = k.roomy;
+        read = λ q. ⊎_elim (λ failed. none q failed) (λ long. not_long (is_in order q) (reader_at old q) (reader_at now q) (at k.gave q) (fresh q) (k.places q) long);
+      },
+      λ w agrees. ends_with so_far (list_any (shut old) order) (list_any (is_unopened w) order) k.so_far_is (any_same (shut old) (is_unopened w) order (refused_same old now k.gave w came agrees)),
+    );
+    place = within_any so_far (list_any (shut old) order) k.so_far_is;
+    untouched = λ q other. unseen_same (is_in order q) (reader_at old q) (reader_at now q) (at k.gave q) (ap (λ (l : List ℕ). is_in l q) (sym (take_all (length order + 1) order (omega arith))) ∙ other) (k.places q);
     true_so_far = λ w agrees. record { rest = []; is = sym (k.out w agrees) ∙ sym (append-nil k.pushed) };
+    told_read = λ q failed clean. absurd (none q failed);
     sure = λ q failed clean. absurd (none q failed);
-    failed = λ q failed clean. absurd (none q failed);
     peak = k.peak;
   }
     where
-      came : IsReading old now k.gave
+      came : IsReceived old now k.gave
       came q = came_at (is_in order q) (reader_at old q) (reader_at now q) (at k.gave q) (fresh q) (k.places q)
 
       none : (q : ℕ) → HasFailed now q → ⊥
       none q failed = false≢true (sym (ready_of (is_in order q) (reader_at old q) (reader_at now q) (at k.gave q) (fresh q) failed.0 (k.places q)).failed ∙ failed.1)
 
-  -- ---- a refused operand
+      ends_with : (done : Done) (any closed : Bool) → done ≡ done_with any → any ≡ closed → (last_words word names (Ok done) ≡ []) × (status_after (Ok done) ≡ cond closed 1 0)
+      ends_with done true closed is same = rw (is, sym same) (refl, refl)
+      ends_with done false closed is same = rw (is, sym same) (refl, refl)
 
-  pub pass_refused : (now : List Reader) (is : Output) (heard heard' : SinkState) (store : Slots) (done : List ℕ) (any : Bool) (p : ℕ)
-      → Pass t name old now was is told heard before store done any → (reader_at now p).refused ≡ true → Tells heard heard' (not_opened t.name (name p)) → Pass t name old now was is told heard' before store (done ++ p ∷ []) true
-  pass_refused now is heard heard' store done any p k refused says = record {
+      within_any : (done : Done) (any : Bool) → done ≡ done_with any → IsWithin (length old) (Ok done)
+      within_any done true is = rw is tt
+      within_any done false is = rw is tt
+
+  -- ---- an operand that could not be opened
+
+  pub pass_unopened : (now : List Reader) (is : Output) (heard heard' : SinkState) (store : Slots) (done : List ℕ) (so_far : Done) (p : ℕ)
+      → Pass word t names old now was is told heard before store done so_far → (reader_at now p).refused ≡ true → Tells heard heard' (not_opened word (name_of names p)) → Pass word t names old now was is told heard' before store (done ++ p ∷ []) Unopened
+  pass_unopened now is heard heard' store done so_far p k refused says = record {
     gave = k.gave;
     same_length = k.same_length;
     long = k.long;
@@ -295,12 +321,12 @@ module _ (t : Tool) (name : ℕ → List ℕ) (old : List Reader) (fresh : (q : 
     pushed = k.pushed;
     wrote = k.wrote;
     out = λ w agrees. k.out w agrees ∙ ap (λ (l : List (List ℕ)). flat_map t.text l) (sym (nothing w agrees));
-    tells = subst (λ (l : List ℕ). Tells told heard' l) (sym (refusals_more t.name name (λ q. (reader_at old q).refused) done p ∙ ap (λ (b : Bool). refusals t.name name (λ q. (reader_at old q).refused) done ++ cond b (not_opened t.name (name p)) []) old_refused)) (tells_trans told heard heard' (refusals t.name name (λ q. (reader_at old q).refused) done) (not_opened t.name (name p)) k.tells says);
-    any_is = sym (any_more (λ q. (reader_at old q).refused) done p ∙ ap (λ (b : Bool). list_any (λ q. (reader_at old q).refused) done || b) old_refused ∙ or_true (list_any (λ q. (reader_at old q).refused) done));
+    tells = subst (λ (l : List ℕ). Tells told heard' l) (sym (unopened_more word names (shut old) done p ∙ ap (λ (b : Bool). unopened word names (shut old) done ++ cond b (not_opened word (name_of names p)) []) old_refused)) (tells_trans told heard heard' (unopened word names (shut old) done) (not_opened word (name_of names p)) k.tells says);
+    so_far_is = sym (ap done_with (any_more (shut old) done p ∙ ap (λ (b : Bool). list_any (shut old) done || b) old_refused ∙ or_true (list_any (shut old) done)));
     clean = k.clean;
     roomy = k.roomy;
     empty = k.empty;
-    peak = λ w agrees. subst (λ (l : List (List ℕ)). store.peak ≤ max before.peak (greatest (map t.size l))) (sym (nothing w agrees)) (k.peak w agrees);
+    peak = λ w agrees. subst (λ (l : List (List ℕ)). store.peak ≤ max before.peak (largest (map t.size l))) (sym (nothing w agrees)) (k.peak w agrees);
   }
     where
       or_true : (b : Bool) → (b || true) ≡ true
@@ -314,15 +340,15 @@ module _ (t : Tool) (name : ℕ → List ℕ) (old : List Reader) (fresh : (q : 
       places q = ⊎_elim (λ same. any_seen (is_in done q) (is_in (done ++ p ∷ []) q) (reader_at old q) (reader_at now q) (at k.gave q) (ap (λ (n : ℕ). (reader_at old n).refused) (sym same) ∙ old_refused) (k.places q))
           (λ other. subst (λ (b : Bool). PlaceIs b (reader_at old q) (reader_at now q) (at k.gave q)) (sym (is_in-other done p q other)) (k.places q)) (same_or_other p q)
 
-      nothing : (w : World) → Agrees k.gave w → sources [] w (done ++ p ∷ []) ≡ sources [] w done
+      nothing : (w : World) → Allows k.gave w → sources [] w (done ++ p ∷ []) ≡ sources [] w done
       nothing w agrees =
           let none = none_of (at w p) (sym (refused_at (reader_at old p) (reader_at now p) (at k.gave p) (at w p) (came_at (is_in done p) (reader_at old p) (reader_at now p) (at k.gave p) (fresh p) (k.places p)) (agrees p)) ∙ old_refused) in
           sources_refused [] w done p (ap (λ (v : Option (List ℕ)). option_map (λ (b : List ℕ). cond (is_in done p) [] b) v) none)
 
   -- ---- an operand that was opened
 
-  module _ (now : List Reader) (is is' : Output) (heard : SinkState) (store store' : Slots) (done : List ℕ) (any : Bool) (p : ℕ) (new : Reader) (result : Result (Unit {0}) FlowFault)
-      (k : Pass t name old now was is told heard before store done any) (within : p < length old) (is_open : (reader_at now p).refused ≡ false)
+  module _ (now : List Reader) (is is' : Output) (heard : SinkState) (store store' : Slots) (done : List ℕ) (so_far : Done) (p : ℕ) (new : Reader) (result : Result (Unit {0}) FlowFault)
+      (k : Pass word t names old now was is told heard before store done so_far) (within : p < length old) (is_open : (reader_at now p).refused ≡ false)
       (e : IsRun t.text t.decided t.size (reader_at now p) new is is' store store' result) where
     abbrev pub y : Ready (is_in done p) (reader_at old p) (reader_at now p) (at k.gave p)
     y = ready_of (is_in done p) (reader_at old p) (reader_at now p) (at k.gave p) (fresh p) is_open (k.places p)
@@ -339,7 +365,7 @@ module _ (t : Tool) (name : ℕ → List ℕ) (old : List Reader) (fresh : (q : 
     given' : Given
     given' = given_now y.g
 
-    abbrev pub gave' : Reading
+    abbrev pub gave' : Received
     gave' = set k.gave p (Some (given_now y.g))
 
     abbrev pub now' : List Reader
@@ -354,29 +380,29 @@ module _ (t : Tool) (name : ℕ → List ℕ) (old : List Reader) (fresh : (q : 
     came_here : Came (reader_at old p) new (given_now y.g)
     came_here = came_trans (reader_at old p) (reader_at now p) new y.g e.given y.came e.came y.held
 
-    pub reading' : IsReading old now' gave'
-    reading' = at_each (λ (q : ℕ) (r : Reader) (o : Option Given). CameAt (reader_at old q) r o) now k.gave p new _ (Some (given_now y.g)) None in_now in_gave
+    pub received' : IsReceived old now' gave'
+    received' = at_each (λ (q : ℕ) (r : Reader) (o : Option Given). CameAt (reader_at old q) r o) now k.gave p new _ (Some (given_now y.g)) None in_now in_gave
         (λ q other. came_at (is_in done q) (reader_at old q) (reader_at now q) (at k.gave q) (fresh q) (k.places q)) (y.opened, came_here)
 
     still : y.g.ended ≡ true → (e.given.bytes ≡ []) × (e.given.ended ≡ true)
     still ended = ended_gives_nothing (reader_at now p) new e.given e.came y.held (sym y.came.ended ∙ ended)
 
     -- the world agrees with what came before
-    pub back : (w : World) → Agrees gave' w → Agrees k.gave w
+    pub back : (w : World) → Allows gave' w → Allows k.gave w
     back w agrees q = ⊎_elim same other (same_or_other p q)
       where
         here : (b : List ℕ) × (at w p ≡ Some b) × one.Agrees (given_now y.g) b
         here = agreed (at gave' p) (at w p) (given_now y.g) gave_here (agrees p)
 
-        same : p ≡ q → AgreesAt (at k.gave q) (at w q)
-        same is_q = subst (λ (n : ℕ). AgreesAt (at k.gave n) (at w n)) is_q
+        same : p ≡ q → AllowsAt (at k.gave q) (at w q)
+        same is_q = subst (λ (n : ℕ). AllowsAt (at k.gave n) (at w n)) is_q
             (agrees_some (at k.gave p) (at w p) y.g y.is (λ b is_b. agrees_before y.g e.given b still (subst (λ (c : List ℕ). one.Agrees (given_now y.g) c) (some_same (sym here.1 ∙ is_b)) here.2)) here.0 here.1)
           where
             some_same : {a b : List ℕ} → Some a ≡ Some b → a ≡ b
             some_same is_same = cc
 
-        other : p ≢ q → AgreesAt (at k.gave q) (at w q)
-        other differs = subst (λ (o : Option Given). AgreesAt o (at w q)) (get_or-set_other k.gave p q (Some (given_now y.g)) None (λ is_p. differs (sym is_p))) (agrees q)
+        other : p ≢ q → AllowsAt (at k.gave q) (at w q)
+        other differs = subst (λ (o : Option Given). AllowsAt o (at w q)) (get_or-set_other k.gave p q (Some (given_now y.g)) None (λ is_p. differs (sym is_p))) (agrees q)
 
     -- what the operand finds in a world, which agrees with what came in the call
     pub record Finds (w : World) : Type 0 where
@@ -384,7 +410,7 @@ module _ (t : Tool) (name : ℕ → List ℕ) (old : List Reader) (fresh : (q : 
       pub is_found : found [] w done p ≡ Some bytes
       pub agrees : one.Agrees e.given bytes
 
-    pub finds : (w : World) → Agrees gave' w → Finds w
+    pub finds : (w : World) → Allows gave' w → Finds w
     finds w agrees =
         let here = agreed (at gave' p) (at w p) (given_now y.g) gave_here (agrees p) in
         record {
@@ -401,18 +427,18 @@ module _ (t : Tool) (name : ℕ → List ℕ) (old : List Reader) (fresh : (q : 
 
     bound_here : (w : World) (more : List ℕ) (f : Finds w) → max (each_bound t w done) (t.size f.bytes) ≤ each_bound t w (done ++ p ∷ more)
     bound_here w more f =
-        let all : each_bound t w (done ++ p ∷ more) ≡ greatest (map t.size (sources [] w done) ++ map t.size (f.bytes ∷ opened (founds [] w (done ++ p ∷ []) more))) =
-        ap (λ (l : List (List ℕ)). greatest (map t.size l)) (sources_here w more f) ∙ ap greatest (map-append t.size (sources [] w done) (f.bytes ∷ opened (founds [] w (done ++ p ∷ []) more))) in
-        omega (arith, all, greatest-append (map t.size (sources [] w done)) (map t.size (f.bytes ∷ opened (founds [] w (done ++ p ∷ []) more))))
+        let all : each_bound t w (done ++ p ∷ more) ≡ largest (map t.size (sources [] w done) ++ map t.size (f.bytes ∷ opened (founds [] w (done ++ p ∷ []) more))) =
+        ap (λ (l : List (List ℕ)). largest (map t.size l)) (sources_here w more f) ∙ ap largest (map-append t.size (sources [] w done) (f.bytes ∷ opened (founds [] w (done ++ p ∷ []) more))) in
+        omega (arith, all, largest-append (map t.size (sources [] w done)) (map t.size (f.bytes ∷ opened (founds [] w (done ++ p ∷ []) more))))
 
-    peak_here : (w : World) (more : List ℕ) → Agrees gave' w → store'.peak ≤ max before.peak (each_bound t w (done ++ p ∷ more))
+    peak_here : (w : World) (more : List ℕ) → Allows gave' w → store'.peak ≤ max before.peak (each_bound t w (done ++ p ∷ more))
     peak_here w more agrees = let f = finds w agrees in omega (arith, bound_here w more f, e.peak f.bytes f.agrees, k.peak w (back w agrees))
 
     wrote_here : Wrote was is' (k.pushed ++ e.pushed)
     wrote_here = wrote_trans was is is' k.pushed e.pushed k.clean k.wrote e.wrote
 
     -- it was read to its end
-    pub pass_done : result ≡ Ok tt → Pass t name old now' was is' told heard before store' (done ++ p ∷ []) any
+    pub pass_done : result ≡ Ok tt → Pass word t names old now' was is' told heard before store' (done ++ p ∷ []) so_far
     pass_done ok = record {
       gave = gave';
       same_length = length-set now p new ∙ k.same_length;
@@ -424,8 +450,8 @@ module _ (t : Tool) (name : ℕ → List ℕ) (old : List Reader) (fresh : (q : 
       wrote = wrote_here;
       out = λ w agrees. let f = finds w agrees in
           (λ i. k.out w (back w agrees) i ++ (e.whole ok ∙ ap t.text (sym (all f.bytes f.agrees)) ∙ sym (append-nil (t.text f.bytes))) i) ∙ sym (out_here w [] f);
-      tells = subst (λ (l : List ℕ). Tells told heard l) (sym (refusals_more t.name name (λ q. (reader_at old q).refused) done p ∙ ap (λ (b : Bool). refusals t.name name (λ q. (reader_at old q).refused) done ++ cond b (not_opened t.name (name p)) []) y.opened ∙ append-nil (refusals t.name name (λ q. (reader_at old q).refused) done))) k.tells;
-      any_is = k.any_is ∙ sym (any_more (λ q. (reader_at old q).refused) done p ∙ ap (λ (b : Bool). list_any (λ q. (reader_at old q).refused) done || b) y.opened ∙ or_false (list_any (λ q. (reader_at old q).refused) done));
+      tells = subst (λ (l : List ℕ). Tells told heard l) (sym (unopened_more word names (shut old) done p ∙ ap (λ (b : Bool). unopened word names (shut old) done ++ cond b (not_opened word (name_of names p)) []) y.opened ∙ append-nil (unopened word names (shut old) done))) k.tells;
+      so_far_is = k.so_far_is ∙ sym (ap done_with (any_more (shut old) done p ∙ ap (λ (b : Bool). list_any (shut old) done || b) y.opened ∙ or_false (list_any (shut old) done)));
       clean = end.clean;
       roomy = end.denied;
       empty = end.empty;
@@ -456,7 +482,7 @@ module _ (t : Tool) (name : ℕ → List ℕ) (old : List Reader) (fresh : (q : 
         let open_q : (reader_at now q).refused ≡ false = ap (λ (r : Reader). r.refused) (sym same) ∙ failed.0 in
         false≢true (sym (ready_of (is_in done q) (reader_at old q) (reader_at now q) (at k.gave q) (fresh q) open_q (k.places q)).failed ∙ ap (λ (r : Reader). r.failed) (sym same) ∙ failed.1)
 
-    cause_of : (more : List ℕ) (fault : FlowFault) → Ends (reader_at now p) new is' store' (Err fault) → Cause (one_by_one t name (done ++ p ∷ more)) gave' now' is'.faulted store'.denied (length done) (blame p fault)
+    cause_of : (more : List ℕ) (fault : FlowFault) → Ends (reader_at now p) new is' store' (Err fault) → Cause (one_by_one word t names (done ++ p ∷ more)) gave' now' is'.faulted store'.denied (length done) (blame p fault)
     cause_of more (Read place) r = (
       nth_here done more p,
       ap (λ (l : List ℕ). is_in l p) (take-append_seam done (p ∷ more))
@@ -520,22 +546,20 @@ module _ (t : Tool) (name : ℕ → List ℕ) (old : List Reader) (fresh : (q : 
               ∙ decided_founds t law gave' [] done (opened (found nothing_left gave' done p ∷ founds nothing_left gave' (done ++ p ∷ []) more)) ended_before
               ∙ (λ i. sym (k.out (least gave') (back (least gave') (agrees_least gave'))) i ++ later_is i)
 
-      pub pass_stopped : (fault : FlowFault) → result ≡ Err fault → Went (one_by_one t name (done ++ p ∷ more)) old now' was is' told heard before store' (Err (blame p fault))
+      pub pass_stopped : (fault : FlowFault) → result ≡ Err fault → Went (one_by_one word t names (done ++ p ∷ more)) old now' was is' told heard before store' (Err (blame p fault))
       pass_stopped fault is_err = record {
-        reading = gave';
-        came = reading';
+        received = gave';
+        came = received';
         pushed = k.pushed ++ e.pushed;
         wrote = wrote_here;
-        said = refusals t.name name (λ q. (reader_at old q).refused) done;
+        behind = length done;
+        within = omega (arith, length-append done (p ∷ more));
+        said = unopened word names (shut old) done;
         tells = k.tells;
-        ends = (
-          length done,
-          record {
-            within = omega (arith, length-append done (p ∷ more));
-            messages = λ w agrees. refusals_same t.name name (λ q. (reader_at old q).refused) (is_refused w) done (refused_same old now' gave' w reading' agrees) ∙ ap (refusals t.name name (is_refused w)) (sym (take-append_seam done (p ∷ more)));
-            cause = cause_of more fault end;
-          },
-        );
+        names = λ w agrees. unopened_same word names (shut old) (is_unopened w) done (refused_same old now' gave' w received' agrees) ∙ ap (unopened word names (is_unopened w)) (sym (take-append_seam done (p ∷ more)));
+        ends = cause_of more fault end;
+        place = named_within fault;
+        untouched = λ q other. untouched_at q (ap (λ (l : List ℕ). is_in l q) (sym (take_with done p more)) ∙ other);
         true_so_far = λ w agrees. let f = finds w agrees in let b = e.true_so_far f.bytes f.agrees in record {
           rest = b.rest ++ flat_map t.text (opened (founds [] w (done ++ p ∷ []) more));
           is = out_here w more f ∙ (λ i. sym (k.out w (back w agrees)) i ++ (b.is i ++ flat_map t.text (opened (founds [] w (done ++ p ∷ []) more))))
@@ -543,7 +567,7 @@ module _ (t : Tool) (name : ℕ → List ℕ) (old : List Reader) (fresh : (q : 
               ∙ sym (append_assoc k.pushed e.pushed (b.rest ++ flat_map t.text (opened (founds [] w (done ++ p ∷ []) more))));
         };
         sure = λ q failed clean. let here = blamed q failed in sure_here here clean (failing fault end here).0;
-        failed = λ q failed clean. let is_q = place_of q failed in ap (λ (f : FlowFault). Err f) ((failing fault end (blamed q failed)).1 ∙ ap (λ (n : ℕ). Read n) is_q);
+        told_read = λ q failed clean. let is_q = place_of q failed in ap (λ (f : FlowFault). Err f) ((failing fault end (blamed q failed)).1 ∙ ap (λ (n : ℕ). Read n) is_q);
         peak = λ w agrees. peak_here w more agrees;
       }
         where
@@ -555,3 +579,14 @@ module _ (t : Tool) (name : ℕ → List ℕ) (old : List Reader) (fresh : (q : 
 
           blamed : (q : ℕ) → HasFailed now' q → new.failed ≡ true
           blamed q failed = ap (λ (r : Reader). r.failed) (sym reader_here) ∙ ap (λ (n : ℕ). (reader_at now' n).failed) (place_of q failed) ∙ failed.1
+
+          named_within : (f : FlowFault) → IsWithin (length old) (Err (blame p f))
+          named_within (Read place) = within
+          named_within Write = tt
+          named_within Memory = tt
+
+          untouched_at : (q : ℕ) → is_in (done ++ p ∷ []) q ≡ false → reader_at now' q ≡ reader_at old q
+          untouched_at q unseen = ⊎_elim (λ same. absurd (false≢true (sym unseen ∙ ap (is_in (done ++ p ∷ [])) (sym same) ∙ is_in-same done p))) other (same_or_other p q)
+            where
+              other : p ≢ q → reader_at now' q ≡ reader_at old q
+              other differs = get_or-set_other now p q new no_reader (λ is_p. differs (sym is_p)) ∙ unseen_same (is_in done q) (reader_at old q) (reader_at now q) (at k.gave q) (sym (is_in-other done p q differs) ∙ unseen) (k.places q)

@@ -1,5 +1,5 @@
 -- What the operands find, one more operand at a time.
-use Rattle.std.proofs.Common.{◌≡◌, ◌≢◌, ◌⊎◌, ⊎_elim, inl, inr, ℕ, zero, suc, ◌<◌, ◌==◌, ◌||◌, Bool, true, false, cond, List, [], ◌∷◌, ◌++◌, Option, Some, None, length, map, get_or, set, max, refl, sym, ◌∙◌, ap, subst, arith, append_assoc}
+use Rattle.std.proofs.Common.{◌≡◌, ◌≢◌, ◌⊎◌, ⊎_elim, inl, inr, ℕ, zero, suc, ◌<◌, ◌==◌, ◌||◌, Bool, true, false, cond, List, [], ◌∷◌, ◌++◌, Option, Some, None, ◌+◌, length, take, map, get_or, set, max, refl, sym, ◌∙◌, ap, subst, arith, append_assoc, add-one}
 use Rattle.std.specs.Prelude.{flat_map, option_map}
 use Rattle.std.specs.List.{list_any}
 use Rattle.std.proofs.lemmas.List.{append-nil, get_or-set_same, get_or-set_other}
@@ -8,9 +8,10 @@ use Rattle.std.proofs.lemmas.List.Elements.{filter_map-append}
 use Rattle.std.proofs.lemmas.List.Folds.{list_any-append}
 use Rattle.std.proofs.lemmas.Bool.Decides.{nat_tests, eqb_tells}
 use Rattle.ptlines.specs.Inputs.{Given, nothing_left}
-use Rattle.ptrun.specs.Worlds.{World, Reading, at, is_in, found, founds, opened, sources}
-use Rattle.ptrun.specs.Each.{Tool, greatest, up_to_open, refusals}
-use Rattle.ptrun.specs.Messages.{not_opened}
+use Rattle.ptrun.specs.Worlds.{World, Received, at, is_in, found, founds, opened, sources}
+use Rattle.ptrun.specs.Operands.{Tool, largest, up_to_open}
+use Rattle.ptrun.specs.Meanings.{unopened}
+use Rattle.ptrun.specs.Messages.{not_opened, name_of}
 
 -- ---- membership
 
@@ -25,6 +26,14 @@ is_in-same (q ∷ done) p = later (q == p) (is_in-same done p)
 pub is_in-other : (done : List ℕ) (p q : ℕ) → p ≢ q → is_in (done ++ p ∷ []) q ≡ is_in done q
 is_in-other [] p q differs = grind (arith, nat_tests)
 is_in-other (x ∷ done) p q differs = ap (λ (b : Bool). (x == q) || b) (is_in-other done p q differs)
+
+-- the places up to one and with it
+pub take_with : (done : List ℕ) (p : ℕ) (more : List ℕ) → take (length done + 1) (done ++ p ∷ more) ≡ done ++ p ∷ []
+take_with done p more = ap (λ (n : ℕ). take n (done ++ p ∷ more)) (add-one (length done)) ∙ by_parts done
+  where
+    by_parts : (ps : List ℕ) → take (suc (length ps)) (ps ++ p ∷ more) ≡ ps ++ p ∷ []
+    by_parts [] = refl
+    by_parts (q ∷ ps) = ap (λ (l : List ℕ). q ∷ l) (by_parts ps)
 
 -- a place is this one, or another
 pub same_or_other : (p q : ℕ) → (p ≡ q) ⊎ (p ≢ q)
@@ -63,13 +72,13 @@ module _ {X : Type 0} (rest : X) (xs : List (Option X)) where
 
 -- ---- names
 
-pub refusals_more : (tool : List ℕ) (name : ℕ → List ℕ) (refused : ℕ → Bool) (done : List ℕ) (p : ℕ) → refusals tool name refused (done ++ p ∷ []) ≡ refusals tool name refused done ++ (cond (refused p) (not_opened tool (name p)) [])
-refusals_more tool name refused done p =
-    flat_map-append (λ (q : ℕ). cond (refused q) (not_opened tool (name q)) []) done (p ∷ []) ∙ ap (λ (l : List ℕ). refusals tool name refused done ++ l) (append-nil (cond (refused p) (not_opened tool (name p)) []))
+pub unopened_more : (tool : List ℕ) (names : List (List ℕ)) (test : ℕ → Bool) (done : List ℕ) (p : ℕ) → unopened tool names test (done ++ p ∷ []) ≡ unopened tool names test done ++ (cond (test p) (not_opened tool (name_of names p)) [])
+unopened_more tool names test done p =
+    flat_map-append (λ (q : ℕ). cond (test q) (not_opened tool (name_of names q)) []) done (p ∷ []) ∙ ap (λ (l : List ℕ). unopened tool names test done ++ l) (append-nil (cond (test p) (not_opened tool (name_of names p)) []))
 
-pub refusals_same : (tool : List ℕ) (name : ℕ → List ℕ) (f g : ℕ → Bool) (ps : List ℕ) → ((p : ℕ) → f p ≡ g p) → refusals tool name f ps ≡ refusals tool name g ps
-refusals_same tool name f g [] same = refl
-refusals_same tool name f g (p ∷ ps) same = λ i. cond (same p i) (not_opened tool (name p)) [] ++ refusals_same tool name f g ps same i
+pub unopened_same : (tool : List ℕ) (names : List (List ℕ)) (f g : ℕ → Bool) (ps : List ℕ) → ((p : ℕ) → f p ≡ g p) → unopened tool names f ps ≡ unopened tool names g ps
+unopened_same tool names f g [] same = refl
+unopened_same tool names f g (p ∷ ps) same = λ i. cond (same p i) (not_opened tool (name_of names p)) [] ++ unopened_same tool names f g ps same i
 
 pub any_same : (f g : ℕ → Bool) (ps : List ℕ) → ((p : ℕ) → f p ≡ g p) → list_any f ps ≡ list_any g ps
 any_same f g [] same = refl
@@ -82,11 +91,11 @@ any_more f done p = list_any-append f done (p ∷ []) ∙ ap (λ (b : Bool). lis
     or_false true = refl
     or_false false = refl
 
--- ---- the greatest
+-- ---- the largest
 
-pub greatest-append : (xs ys : List ℕ) → greatest (xs ++ ys) ≡ max (greatest xs) (greatest ys)
-greatest-append [] ys = omega arith
-greatest-append (x ∷ xs) ys = omega (arith, greatest-append xs ys)
+pub largest-append : (xs ys : List ℕ) → largest (xs ++ ys) ≡ max (largest xs) (largest ys)
+largest-append [] ys = omega arith
+largest-append (x ∷ xs) ys = omega (arith, largest-append xs ys)
 
 -- ---- what is decided
 
@@ -100,15 +109,15 @@ bytes_at None = None
 bytes_at (Some g) = Some (g.bytes)
 
 -- the world of which no more is than came
-abbrev pub least : Reading → World
+abbrev pub least : Received → World
 least r = map bytes_at r
 
-pub at-least : (r : Reading) (p : ℕ) → at (least r) p ≡ bytes_at (at r p)
+pub at-least : (r : Received) (p : ℕ) → at (least r) p ≡ bytes_at (at r p)
 at-least [] p = refl
 at-least (o ∷ r) zero = refl
 at-least (o ∷ r) (suc p) = at-least r p
 
-module _ (t : Tool) (law : (g : Given) → g.ended ≡ true → t.decided g ≡ t.text g.bytes) (r : Reading) where
+module _ (t : Tool) (law : (g : Given) → g.ended ≡ true → t.decided g ≡ t.text g.bytes) (r : Received) where
   -- operands whose inputs have ended decide all of what they give, and leave the next open
   pub decided_founds : (before ps : List ℕ) (later : List Given) → ((q : ℕ) → is_in ps q ≡ true → EndedAt (at r q))
       → flat_map t.decided (up_to_open (opened (founds nothing_left r before ps) ++ later)) ≡ flat_map t.text (opened (founds [] (least r) before ps)) ++ flat_map t.decided (up_to_open later)
