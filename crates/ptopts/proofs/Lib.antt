@@ -5,6 +5,7 @@ pub mod Seen
 pub mod Groups
 pub mod Readings
 pub mod Chosen
+pub mod Judged
 mod CutRows
 mod PasteRows
 mod UniqRows
