@@ -1,5 +1,5 @@
 -- The command where nothing is wrong.
-use Rattle.std.proofs.Common.{◌≡◌, ℕ, List, None, Ok, refl, ap, sym, ◌∙◌}
+use Rattle.std.proofs.Common.{◌≡◌, ℕ, List, None, Ok, ap, sym, ◌∙◌}
 use Rattle.ptopts.specs.declared.tool.Tool.{Tool}
 use Rattle.ptopts.specs.declared.inputs.Inputs.{Inputs}
 use Rattle.ptopts.specs.Words.{GivenOption}

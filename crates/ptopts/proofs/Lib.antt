@@ -6,9 +6,6 @@ pub mod Groups
 pub mod Readings
 pub mod Chosen
 pub mod Judged
-mod CutRows
-mod PasteRows
-mod UniqRows
-mod CommRows
-mod JoinRows
-mod TrRows
+pub mod RowWords
+mod RefusedRows
+mod MeantRows

@@ -1,11 +1,11 @@
 -- What the steps of reading a command answer: for the contracts of private functions alone.
-use Rattle.std.specs.Prelude.{◌≡◌, ℕ, List, [], ◌∷◌, ◌++◌, Bool, true, false, Option, Some, None, Result, Ok, Err, IsSome, OnSome, option_map, map, filter_map, drop}
+use Rattle.std.specs.Prelude.{◌≡◌, ℕ, List, [], ◌∷◌, ◌++◌, Bool, true, false, Option, None, Result, Ok, Err, IsSome, OnSome, option_map, map, filter_map, drop}
 use Rattle.ptopts.specs.declared.tool.Tool.{Tool}
 use Rattle.ptopts.specs.declared.fault.UseFault.{UseFault}
 use Rattle.ptopts.specs.declared.inputs.Inputs.{Inputs}
 use Rattle.ptopts.specs.declared.reading.GivenOption as given
 use Rattle.ptopts.specs.Words.{GivenOption, Event, option_in, events_of, takes_next, reading, options}
-use Rattle.ptopts.specs.Faults.{Fault, event_fault, reading_fault}
+use Rattle.ptopts.specs.Faults.{Fault, reading_fault}
 use Rattle.ptopts.specs.Commands.{Job, over}
 use Rattle.ptopts.specs.Meant.{meant, beside}
 
