@@ -7,7 +7,7 @@ use Rattle.ptopts.specs.declared.reading.GivenOption as given
 use Rattle.ptopts.specs.declared.tool.Tool.{Tool}
 use Rattle.ptopts.specs.Words.{is_flag, takes_value, is_empty, GivenOption, flag, Event, Given, Stranger, valued_event, events_in, events_of, takes_next}
 use Rattle.ptopts.specs.Faults.{Fault, event_fault, reading_fault}
-use Rattle.ptopts.specs.Answers.{options_among, option_seen, options_seen, ReadsGroup}
+use Rattle.ptopts.specs.Steps.{options_among, option_seen, options_seen, ReadsGroup}
 
 -- what was read of a word, and what stands before these letters of it, are the whole
 pub record Ahead (tool : Tool) (word : List ℕ) (next : Option (List ℕ)) (before os : List GivenOption) (letters : List ℕ) : Type 0 where

@@ -5,7 +5,7 @@ use Rattle.std.proofs.lemmas.List.Elements.{filter_map-append}
 use Rattle.ptopts.specs.declared.tool.Tool.{Tool}
 use Rattle.ptopts.specs.Words.{is_dashed, is_end_of_options, GivenOption, Event, events_of, takes_next, Reading, reading, reading_from, behind, option_in, options}
 use Rattle.ptopts.specs.Faults.{Fault, reading_fault}
-use Rattle.ptopts.specs.Answers.{options_among, behind_taken, ReadsGroup, ReadsWords}
+use Rattle.ptopts.specs.Steps.{options_among, behind_taken, ReadsGroup, ReadsWords}
 
 -- what was read of the words, and what these words behind it are, are the whole
 pub record Reads (tool : Tool) (words : List (List ℕ)) (os : List GivenOption) (left : List (List ℕ)) : Type 0 where

@@ -4,6 +4,7 @@ use Rattle.std.specs.List.{list_all, list_any}
 use Rattle.std.specs.Option.{option_map_or}
 use Rattle.ptopts.specs.declared.tool.Tool.{Tool}
 use Rattle.ptopts.specs.declared.tool.Tool.TheVariants.{Cut, Paste, Uniq, Comm, Join, Tr}
+use Rattle.ptopts.specs.Syntax.{syntax}
 
 abbrev pub tools : List (List ℕ × Tool)
 tools = (codes "cut", Cut) ∷ (codes "paste", Paste) ∷ (codes "uniq", Uniq) ∷ (codes "comm", Comm) ∷ (codes "join", Join) ∷ (codes "tr", Tr) ∷ []
@@ -11,33 +12,15 @@ tools = (codes "cut", Cut) ∷ (codes "paste", Paste) ∷ (codes "uniq", Uniq) �
 abbrev pub tool_named : List ℕ → Option Tool
 tool_named name = option_map (λ (t : List ℕ × Tool). t.1) (find (λ (t : List ℕ × Tool). bytes_eq name t.0) tools)
 
--- the letters that stand alone
-abbrev pub flags : Tool → List ℕ
-flags Cut = codes "ns"
-flags Paste = codes "s"
-flags Uniq = codes "cdu"
-flags Comm = codes "123"
-flags Join = []
-flags Tr = codes "cCds"
-
--- the letters with a value
-abbrev pub valued : Tool → List ℕ
-valued Cut = codes "bcfd"
-valued Paste = codes "d"
-valued Uniq = codes "fs"
-valued Comm = []
-valued Join = codes "aveot12"
-valued Tr = []
-
 -- the letter is among these
 abbrev pub has_letter : ℕ → List ℕ → Bool
 has_letter letter letters = list_any (λ l. l == letter) letters
 
 abbrev pub is_flag : Tool → ℕ → Bool
-is_flag tool letter = has_letter letter (flags tool)
+is_flag tool letter = has_letter letter (syntax tool).flags
 
 abbrev pub takes_value : Tool → ℕ → Bool
-takes_value tool letter = has_letter letter (valued tool)
+takes_value tool letter = has_letter letter (syntax tool).valued
 
 abbrev pub is_empty : {X : Type 0} → List X → Bool
 is_empty [] = true

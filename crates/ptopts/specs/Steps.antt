@@ -1,27 +1,13 @@
--- What the steps of reading a command answer, beside what its words mean.
-use Rattle.std.specs.Prelude.{◌≡◌, ℕ, List, [], ◌∷◌, ◌++◌, Bool, true, false, Option, Some, None, Result, Ok, Err, IsSome, OnSome, option_map, map, filter_map, drop}
-use Rattle.std.specs.Borrow.{Bor}
+-- What the steps of reading a command answer: for the contracts of private functions alone.
+use Rattle.std.specs.Prelude.{◌≡◌, ℕ, List, [], ◌∷◌, ◌++◌, Bool, true, false, Option, None, Result, Ok, Err, IsSome, OnSome, option_map, map, filter_map, drop}
 use Rattle.ptopts.specs.declared.tool.Tool.{Tool}
 use Rattle.ptopts.specs.declared.fault.UseFault.{UseFault}
-use Rattle.ptopts.specs.declared.fault.UseFault.TheVariants.{Tool as ToolFault, Unknown, NeedsValue, Twice, Together, Value, Operands, StandardTwice, NeedsList, String, Memory}
+use Rattle.ptopts.specs.declared.inputs.Inputs.{Inputs}
 use Rattle.ptopts.specs.declared.reading.GivenOption as given
 use Rattle.ptopts.specs.Words.{GivenOption, Event, option_in, events_of, takes_next, reading, options}
-use Rattle.ptopts.specs.Faults as faults
-use Rattle.ptopts.specs.Faults.{Fault, event_fault, reading_fault}
-
--- the fault that is meant, if it is not want of memory
-abbrev pub meant : UseFault → Option Fault
-meant ToolFault = Some faults.NoTool
-meant (Unknown word) = Some (faults.Unknown word.now)
-meant (NeedsValue letter) = Some (faults.NeedsValue letter)
-meant (Twice letter) = Some (faults.Twice letter)
-meant (Together a b) = Some (faults.Together a b)
-meant (Value letter value) = Some (faults.Value letter value.now)
-meant Operands = Some faults.Operands
-meant StandardTwice = Some faults.StandardTwice
-meant NeedsList = Some faults.NeedsList
-meant (String fault) = Some (faults.InString fault)
-meant Memory = None
+use Rattle.ptopts.specs.Faults.{Fault, reading_fault}
+use Rattle.ptopts.specs.Commands.{Job, over}
+use Rattle.ptopts.specs.Meant.{meant, beside}
 
 -- a step passes exactly where it finds no fault, and else answers the fault
 abbrev pub Finds : {A : Type 0} → Result A UseFault → Option Fault → Type 0
@@ -62,11 +48,12 @@ pub record ReadsWords (tool : Tool) (words : List (List ℕ)) (os : List GivenOp
 abbrev pub FailsWords : Tool → List (List ℕ) → UseFault → Type 0
 FailsWords tool words e = OnSome (meant e) (reading_fault tool [] (reading tool words).events ≡ meant e)
 
-abbrev pub words_seen : List (Bor (List ℕ)) → List (List ℕ)
-words_seen words = map (λ w. w.now) words
-
 -- the words behind a group that took the next one, or did not
 abbrev pub behind_taken : Bool → List (List ℕ) → List (List ℕ)
 behind_taken true [] = []
 behind_taken true (word ∷ words) = words
 behind_taken false words = words
+
+-- the inputs are those of these operands, beside this output
+abbrev pub AreInputs : {A : Type 0} → List (List ℕ) → Option (List ℕ) → Inputs A → Type 0
+AreInputs operands output inputs = (job : Job) → beside job inputs ≡ over job operands output
