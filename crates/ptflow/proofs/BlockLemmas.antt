@@ -49,18 +49,18 @@ module _ {X : Type 0} (rest_from : X → List ℕ → List ℕ) (start : X) wher
         whole : Goes reader new block
         whole = subst (λ (b : List ℕ). Goes reader new b) (take_all (length block) block (omega arith)) (goes_past reader shown new block (length block) goes held (omega arith) consumed)
 
-module _ {X : Type 0} (tool : Tool) (rest_from : X → List ℕ → List ℕ) (start : X) (b : IsBlockTool tool rest_from start) (now : X) (old reader new : Reader) (was is : Output) (store : Slots)
+module _ {X : Type 0} (tool : Tool) (rest_from : X → List ℕ → List ℕ) (Holds : X → X → Type 0) (start : X) (b : IsBlockTool tool rest_from Holds start) (now : X) (old reader new : Reader) (was is : Output) (store : Slots)
     (m : Midway rest_from start now old reader was is) (ready : IsReady old store) (sound : IsSound reader) (reads : Reads reader new []) where
   stored : Stored tool store store (given_of (m.given ++ []) new)
   stored = stored_nothing tool store (given_of (m.given ++ []) new) b.slots
 
-  pub block_read : HasReadCause reader new → IsPass tool old new was is store store (Err (Read 0))
-  block_read cause = pass_read rest_from start tool b.text now old reader new was is store store m ready sound [] reads stored cause ready.roomy decided
+  pub block_read : Holds start now → HasReadCause reader new → IsPass tool old new was is store store (Err (Read 0))
+  block_read holds cause = pass_read rest_from start tool b.text now old reader new was is store store m ready sound [] reads stored cause ready.roomy decided
     where
       decided : new.held ≡ [] → new.ended ≡ false → Begins (tool.decided (given_of (m.given ++ []) new)) m.pushed
       decided empty going =
           subst (λ (g : Given). Begins (tool.decided g) m.pushed) (λ i. record { bytes = (sym (append-nil m.given) ∙ sym (append-nil (m.given ++ [])) ∙ ap (λ (l : List ℕ). (m.given ++ []) ++ l) (sym empty)) i; ended = sym going i })
-          (b.decided m.given m.pushed now (λ rest. m.on rest (λ done. absurd (false≢true (sym going ∙ (reads.still done.ended).1)))))
+          (b.decided m.given m.pushed now holds (λ rest. m.on rest (λ done. absurd (false≢true (sym going ∙ (reads.still done.ended).1)))))
 
   -- a write failed amid the block that is held
   pub block_write : (is' : Output) (block : List ℕ) → new.held ≡ block → Halts rest_from now block is is' → is'.faulted ≡ true → new.failed ≡ reader.failed → IsPass tool old new was is' store store (Err Write)

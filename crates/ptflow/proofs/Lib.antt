@@ -1,4 +1,9 @@
 pub mod BlockLemmas
+pub mod Chosen
 pub mod Continuations
+pub mod CutLaws
+pub mod CutRests
+pub mod LineLaws
 pub mod PassLemmas
 pub mod ReaderFacts
+pub mod TrRests

@@ -19,18 +19,18 @@ pub(crate) trait BlockTool: Drop {
     /// How many bytes it may have counted.
     ghost counted: { Self → ℕ };
 
-    /// What else is true of it.
-    ghost Holds: { Self → Type 0 };
+    /// What is true of it, where it was the first at the start.
+    ghost Holds: { Self → Self → Type 0 };
 
     /// Pushes what is written of a block.
     fn push_block<W: Sink>(&mut self, block: &[u8], out: &mut Out<W>) -> Result<(), WriteFault>
         requires room { length block.now ≤ 8192 }
         requires short { counted self.old + length block.now < 2 ^ 63 }
-        requires holds { Holds self.old }
+        requires holds { (start : Self) × Holds start self.old }
         requires clean { out.old.faulted ≡ false }
         ensures continues { OnOk result (Continues rest self.old self.new block.now out.old out.new) }
         ensures counts { counted self.new ≤ counted self.old + length block.now }
-        ensures holds { Holds self.new }
+        ensures holds { (start : Self) → Holds start self.old → Holds start self.new }
         ensures halts { OnErr result (Halts rest self.old block.now out.old out.new) }
         ensures clean { OnOk result (out.new.faulted ≡ false) }
         ensures fault { OnErr result (out.new.faulted ≡ true) };
@@ -50,10 +50,10 @@ pub(crate) fn over_blocks<T: BlockTool, S: Source, R: Source, W: Sink>(
     out: &mut Out<W>,
 ) -> Result<(), FlowFault>
     requires fresh { T.counted tool.old ≡ 0 }
-    requires holds { T.Holds tool.old }
+    requires holds { T.Holds tool.old tool.old }
     requires readable { reader.old.fault ≡ None }
     requires clean { out.old.faulted ≡ false }
-    ensures { (t : Tool) (store : Slots) → IsBlockTool t T.rest tool.old → IsReady reader.old store → IsPass t reader.old reader.new out.old out.new store store result }
+    ensures { (t : Tool) (store : Slots) → IsBlockTool t T.rest T.Holds tool.old → IsReady reader.old store → IsPass t reader.old reader.new out.old out.new store store result }
 {
     'turns: loop {
         let count = match reader.block() {

@@ -89,6 +89,7 @@ struct ByteCut<'a> {
 }
 
 impl<'a> BlockTool for ByteCut<'a> {
+    ghost use Rattle.std.specs.Prelude.{◌≡◌};
     ghost use Rattle.ptlangs.specs.CutLists.{AreApart};
     ghost use Rattle.ptflow.specs.Workings.ByteRests.{rest_by};
 
@@ -96,7 +97,7 @@ impl<'a> BlockTool for ByteCut<'a> {
 
     ghost counted = { λ t. t.before };
 
-    ghost Holds = { λ t. AreApart 0 t.selected.now };
+    ghost Holds = { λ s t. AreApart 0 t.selected.now × (t.selected.now ≡ s.selected.now) × (t.ending ≡ s.ending) };
 
     fn push_block<W: Sink>(&mut self, block: &[u8], out: &mut Out<W>) -> Result<(), WriteFault> {
         self.before = push_pieces(self.selected, self.ending, self.before, block, out)?;

@@ -90,7 +90,7 @@ impl<'a> BlockTool for Translator<'a> {
 
     ghost counted = { λ t. 0 };
 
-    ghost Holds = { λ t. (t.deleting ≡ false → (b : ℕ) → deletes t.plan.now b ≡ false) × (t.squeezing ≡ false → (b : ℕ) → squeezes t.plan.now b ≡ false) };
+    ghost Holds = { λ s t. (t.plan.now ≡ s.plan.now) × (t.deleting ≡ false → (b : ℕ) → deletes t.plan.now b ≡ false) × (t.squeezing ≡ false → (b : ℕ) → squeezes t.plan.now b ≡ false) };
 
     fn push_block<W: Sink>(&mut self, block: &[u8], out: &mut Out<W>) -> Result<(), WriteFault> {
         let count = translate_by(self.plan, self.deleting, self.squeezing, self.last, block, &mut self.into);

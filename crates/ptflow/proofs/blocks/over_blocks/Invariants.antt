@@ -6,7 +6,7 @@ use Rattle.ptflow.proofs.blocks.over_blocks.Given as goal
 abbrev pub invariant-turns : goal.invariant-turns
 invariant-turns g l = record {
   midway : Midway g.T.BlockTool.rest l.fn.tool l.tool l.fn.reader l.reader l.fn.out l.out;
-  holds : g.T.BlockTool.Holds l.tool;
+  holds : g.T.BlockTool.Holds l.fn.tool l.tool;
   counted : g.T.BlockTool.counted l.tool ≤ l.reader.pulled - length l.reader.held;
 }
 

@@ -1,0 +1,141 @@
+-- What `tr` writes of the rest of a text, byte by byte and block by block.
+use Rattle.std.proofs.Common.{◌≡◌, ℕ, ◌+◌, ◌-◌, ◌<◌, ◌≤◌, ◌==◌, ◌&&◌, ◌||◌, not, eqb, Bool, true, false, cond, List, [], ◌∷◌, ◌++◌, Option, None, Some, map, length, take, set, refl, sym, ◌∙◌, ap, arith, subst, append_assoc}
+use Rattle.std.specs.Prelude.{filter, zip, slice_get}
+use Rattle.std.specs.List.{last_or}
+use Rattle.std.specs.Option.{option_eq, option_or}
+use mir.Val.{bool_byte}
+use Rattle.std.proofs.lemmas.Bool.{eqb-true}
+use Rattle.std.proofs.lemmas.List.{append-nil, map-append, take-set, take_more_set}
+use Rattle.std.proofs.lemmas.List.Elements.{filter-append}
+use Rattle.ptlines.specs.Inputs.{Begins}
+use Rattle.ptlangs.specs.TrTables.{Tables, deletes, image, squeezes}
+use Rattle.ptflow.specs.Translations.{stays, squeeze_behind, translated, tr, tr_decided}
+use Rattle.ptflow.specs.Workings.TrRests.{squeeze_from, tr_rest}
+
+module _ (squeezed : ℕ → Bool) where
+  behind_one : (last b : ℕ) (bytes : List ℕ) → squeeze_behind squeezed last (b ∷ bytes) ≡ cond (stays squeezed (last, b)) (b ∷ squeeze_behind squeezed b bytes) (squeeze_behind squeezed b bytes)
+  behind_one last b bytes = by_test (stays squeezed (last, b)) (filter (stays squeezed) (zip (b ∷ bytes) bytes))
+    where
+      by_test : (s : Bool) (ps : List (ℕ × ℕ)) → map (λ (p : ℕ × ℕ). p.1) (cond s ((last, b) ∷ ps) ps) ≡ cond s (b ∷ map (λ (p : ℕ × ℕ). p.1) ps) (map (λ (p : ℕ × ℕ). p.1) ps)
+      by_test true ps = refl
+      by_test false ps = refl
+
+  from_one : (last : Option ℕ) (b : ℕ) (bytes : List ℕ) → squeeze_from squeezed last (b ∷ bytes)
+      ≡ cond (not (option_eq eqb last (Some b) && squeezed b)) (b ∷ squeeze_behind squeezed b bytes) (squeeze_behind squeezed b bytes)
+  from_one None b bytes = refl
+  from_one (Some last) b bytes = behind_one last b bytes
+
+  -- a byte that does not stay is the last one again
+  repeats : (last b : ℕ) → stays squeezed (last, b) ≡ false → last ≡ b
+  repeats last b h = eqb-true last b (both (last == b) (squeezed b) h)
+    where
+      both : (x y : Bool) → not (x && y) ≡ false → x ≡ true
+      both true y h = refl
+      both false y h = cc
+
+  behind_append : (last : ℕ) (xs ys : List ℕ) → squeeze_behind squeezed last (xs ++ ys) ≡ squeeze_behind squeezed last xs ++ squeeze_from squeezed (last_or (Some last) (squeeze_behind squeezed last xs)) ys
+  behind_append last [] ys = refl
+  behind_append last (b ∷ xs) ys =
+      behind_one last b (xs ++ ys) ∙ by_test (behind_append b xs ys) (stays squeezed (last, b)) (repeats last b)
+      ∙ ap (λ (l : List ℕ). l ++ squeeze_from squeezed (last_or (Some last) l) ys) (sym (behind_one last b xs))
+    where
+      done : List ℕ
+      done = squeeze_behind squeezed b xs
+
+      by_test : squeeze_behind squeezed b (xs ++ ys) ≡ done ++ squeeze_from squeezed (last_or (Some b) done) ys → (s : Bool) → (s ≡ false → last ≡ b)
+          → cond s (b ∷ squeeze_behind squeezed b (xs ++ ys)) (squeeze_behind squeezed b (xs ++ ys)) ≡ cond s (b ∷ done) done ++ squeeze_from squeezed (last_or (Some last) (cond s (b ∷ done) done)) ys
+      by_test more true h = ap (λ (l : List ℕ). b ∷ l) more
+      by_test more false h = more ∙ ap (λ (n : ℕ). done ++ squeeze_from squeezed (last_or (Some n) done) ys) (sym (h refl))
+
+  from_append : (last : Option ℕ) (xs ys : List ℕ) → squeeze_from squeezed last (xs ++ ys) ≡ squeeze_from squeezed last xs ++ squeeze_from squeezed (last_or last (squeeze_from squeezed last xs)) ys
+  from_append None [] ys = refl
+  from_append None (b ∷ xs) ys = ap (λ (l : List ℕ). b ∷ l) (behind_append b xs ys)
+  from_append (Some last) xs ys = behind_append last xs ys
+
+-- ---- the byte that was written last
+
+at_end : (b : ℕ) (bytes : List ℕ) → slice_get (b ∷ bytes) (length bytes) ≡ last_or (Some b) bytes
+at_end b [] = refl
+at_end b (c ∷ bytes) = at_end c bytes
+
+some_last : (last : Option ℕ) (b : ℕ) (bytes : List ℕ) → option_or (last_or (Some b) bytes) last ≡ last_or (Some b) bytes
+some_last last b [] = refl
+some_last last b (c ∷ bytes) = some_last last c bytes
+
+last_is : (last : Option ℕ) (bytes : List ℕ) → option_or (slice_get bytes (length bytes - 1)) last ≡ last_or last bytes
+last_is last [] = refl
+last_is last (b ∷ bytes) =
+    let less : length (b ∷ bytes) - 1 ≡ length bytes = omega arith in
+    ap (λ (n : ℕ). option_or (slice_get (b ∷ bytes) n) last) less ∙ ap (λ (o : Option ℕ). option_or o last) (at_end b bytes) ∙ some_last last b bytes
+
+-- ---- a block
+
+module _ (t : Tables) where
+  pub rest_nothing : (last : Option ℕ) → tr_rest t last [] ≡ []
+  rest_nothing None = refl
+  rest_nothing (Some last) = refl
+
+  translated_append : (xs ys : List ℕ) → translated t (xs ++ ys) ≡ translated t xs ++ translated t ys
+  translated_append xs ys = ap (map (image t)) (filter-append (λ b. not (deletes t b)) xs ys) ∙ map-append (image t) (filter (λ b. not (deletes t b)) xs) (filter (λ b. not (deletes t b)) ys)
+
+  -- what is written of a block stands in front
+  pub front_on : (last : Option ℕ) (block rest : List ℕ) → tr_rest t last (block ++ rest) ≡ tr_rest t last block ++ tr_rest t (last_or last (tr_rest t last block)) rest
+  front_on last block rest = ap (squeeze_from (squeezes t) last) (translated_append block rest) ∙ from_append (squeezes t) last (translated t block) (translated t rest)
+
+  -- the last of what is written of a block was written last then
+  pub block_on : (last after : Option ℕ) (block written rest : List ℕ) → written ≡ tr_rest t last block → after ≡ option_or (slice_get written (length written - 1)) last → tr_rest t last (block ++ rest) ≡ written ++ tr_rest t after rest
+  block_on last after block written rest made end = front_on last block rest ∙ (λ i. sym made i ++ tr_rest t (sym (end ∙ last_is last written ∙ ap (last_or last) made) i) rest)
+
+  pub rest_decided : (given pushed : List ℕ) (now : Option ℕ) → ((rest : List ℕ) → tr_rest t None (given ++ rest) ≡ pushed ++ tr_rest t now rest) → Begins (tr_decided t (record { bytes = given; ended = false })) pushed
+  rest_decided given pushed now on = record {
+    rest = [];
+    is = sym (append-nil pushed) ∙ ap (λ (l : List ℕ). pushed ++ l) (sym (rest_nothing now)) ∙ sym (on []) ∙ ap (tr t) (append-nil given) ∙ sym (append-nil (tr t given));
+  }
+
+  -- ---- a block, byte by byte
+
+  -- the bytes put down so far, and what is written of the rest
+  pub record Written (into : List ℕ) (count : ℕ) (last : Option ℕ) (rest whole : List ℕ) : Type 0 where
+    pub is : take count into ++ tr_rest t last rest ≡ whole
+
+  pub written_all : (into : List ℕ) (count : ℕ) (last : Option ℕ) (whole : List ℕ) → Written into count last [] whole → take count into ≡ whole
+  written_all into count last whole w = sym (append-nil (take count into)) ∙ ap (λ (l : List ℕ). take count into ++ l) (sym (rest_nothing last)) ∙ w.is
+
+  rest_one : (last : Option ℕ) (b : ℕ) (rest : List ℕ) (gone : Bool) → gone ≡ deletes t b
+      → squeeze_from (squeezes t) last (map (image t) (cond (not gone) (b ∷ filter (λ b. not (deletes t b)) rest) (filter (λ b. not (deletes t b)) rest))) ≡ tr_rest t last (b ∷ rest)
+  rest_one last b rest gone d = ap (λ (d : Bool). squeeze_from (squeezes t) last (map (image t) (cond (not d) (b ∷ filter (λ b. not (deletes t b)) rest) (filter (λ b. not (deletes t b)) rest)))) d
+
+  rest_kept : (last : Option ℕ) (b : ℕ) (rest : List ℕ) (again : Bool) → false ≡ deletes t b → again ≡ (option_eq eqb last (Some (image t b)) && squeezes t (image t b))
+      → cond (not again) (image t b ∷ tr_rest t (Some (image t b)) rest) (tr_rest t (Some (image t b)) rest) ≡ tr_rest t last (b ∷ rest)
+  rest_kept last b rest again d s =
+      ap (λ (a : Bool). cond (not a) (image t b ∷ tr_rest t (Some (image t b)) rest) (tr_rest t (Some (image t b)) rest)) s
+      ∙ sym (from_one (squeezes t) last (image t b) (translated t rest)) ∙ rest_one last b rest false d
+
+  step : (into : List ℕ) (count : ℕ) (last : Option ℕ) (b : ℕ) (rest : List ℕ) (gone again : Bool) → count < length into
+      → gone ≡ deletes t b → again ≡ (option_eq eqb last (Some (image t b)) && squeezes t (image t b))
+      → take (count + bool_byte (not (gone || again))) (set into count (image t b)) ++ tr_rest t (cond gone last (Some (image t b))) rest ≡ take count into ++ tr_rest t last (b ∷ rest)
+  step into count last b rest true again room d s =
+      let same : count + 0 ≡ count = omega arith in
+      ap (λ (l : List ℕ). l ++ tr_rest t last rest) (rw same (take-set into count (image t b))) ∙ ap (λ (l : List ℕ). take count into ++ l) (rest_one last b rest true d)
+  step into count last b rest false true room d s =
+      let same : count + 0 ≡ count = omega arith in
+      ap (λ (l : List ℕ). l ++ tr_rest t (Some (image t b)) rest) (rw same (take-set into count (image t b))) ∙ ap (λ (l : List ℕ). take count into ++ l) (rest_kept last b rest true d s)
+  step into count last b rest false false room d s =
+      ap (λ (l : List ℕ). l ++ tr_rest t (Some (image t b)) rest) (take_more_set into count (image t b) room)
+      ∙ append_assoc (take count into) (image t b ∷ []) (tr_rest t (Some (image t b)) rest) ∙ ap (λ (l : List ℕ). take count into ++ l) (rest_kept last b rest false d s)
+
+  -- one byte more
+  pub written_step : (into into' : List ℕ) (count count' : ℕ) (last last' : Option ℕ) (b : ℕ) (front rest whole : List ℕ) (gone again : Bool) → Written into count last front whole → count < length into
+      → front ≡ b ∷ rest → gone ≡ deletes t b → again ≡ (option_eq eqb last (Some (image t b)) && squeezes t (image t b))
+      → into' ≡ set into count (image t b) → count' ≡ count + bool_byte (not (gone || again)) → last' ≡ cond gone last (Some (image t b)) → Written into' count' last' rest whole
+  written_step into into' count count' last last' b front rest whole gone again w room f d s i n l = record {
+    is = (λ k. take (n k) (i k) ++ tr_rest t (l k) rest) ∙ step into count last b rest gone again room d s ∙ ap (λ (l : List ℕ). take count into ++ tr_rest t last l) (sym f) ∙ w.is;
+  }
+
+pub small : (b : Bool) → bool_byte b ≤ 1
+small true = omega arith
+small false = omega arith
+
+pub not_both : (x y : Bool) → y ≡ false → false ≡ (x && y)
+not_both true y h = sym h
+not_both false y h = refl
