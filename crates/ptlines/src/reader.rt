@@ -105,14 +105,14 @@ impl<S: Source, R: Source> LineReader<S, R> {
     pub fn set_ending(&mut self, zero: bool)
         ensures set { self.new ≡ record self.old { ending = if zero then 0 else 10 } }
         ensures was_sound { IsSound self.old }
+        ensures is_sound { IsSound self.new }
     {
         self.ending = if zero { 0 } else { b'\n' };
     }
 
     /// The byte that ends a line.
     pub fn ending(&self) -> u8
-        ensures ending { result ≡ self.now.ending }
-        ensures sound { IsSound self.now }
+        ensures { result ≡ self.now.ending }
     {
         self.ending
     }
@@ -145,7 +145,7 @@ impl<S: Source, R: Source> LineReader<S, R> {
     pub fn consume(&mut self, count: usize)
         requires { count ≤ length self.old.held }
         ensures consumed { self.new ≡ record self.old { held = drop count self.old.held } }
-        ensures sound { IsSound self.new }
+        ensures is_sound { IsSound self.new }
     {
         self.start += count;
     }
