@@ -1,15 +1,30 @@
-use super::*;
-use crate::refusing::Refusing;
+//! Words of all tools.
+
+use ptfakes::Refusing;
 use ptlangs::jobs::{CommJob, Show, UniqJob};
 use ptlangs::outlist::{File, OutField};
 use ptlangs::ranges::Interval;
 use ptlangs::{SetFault, SetFaultKind, SetString};
+use ptopts::{Command, Input, UseFault};
 use std::alloc::Global;
 use std::process::Abort;
 use std::test::Fail;
 
 /// Words, and the fault that is found in them.
 type Refused<'a> = (&'a [&'a str], UseFault<'a>);
+
+/// Whether a command has these inputs in this order, and this output.
+fn has_files(
+    rt: &impl Abort,
+    command: &Command,
+    order: &[Input],
+    names: &[&str],
+    output: Option<&str>,
+) {
+    assert_eq!(rt; command.inputs().order.as_slice(), order);
+    assert_eq!(rt; command.names(), names);
+    assert_eq!(rt; command.output(), output);
+}
 
 /// Whether each row's words are refused by its fault.
 fn are_refused<'a>(rt: &impl Abort, alloc: Global, rows: &'a [Refused<'a>]) {
@@ -360,91 +375,108 @@ const CUTS: &[Cut] = &[
     },
 ];
 
+fn is_cut(rt: &impl Abort, command: &Command, row: &Cut) {
+    let Command::Cut(job, _) = command else {
+        return assert!(rt; false);
+    };
+    assert_eq!(rt; job.list.intervals(), row.list);
+    assert_eq!(rt;
+        (job.fields, job.delim, job.only),
+        (row.fields, row.delim, row.only)
+    );
+}
+
 #[test]
 fn the_words_of_cut(rt: HostRuntime) -> Result<(), Fail> {
     for row in CUTS {
         let command = Command::read(rt.alloc(), row.words)?;
-        assert_eq!(rt; command.names(), row.names);
-        assert_eq!(rt; command.output(), None);
-        let Command::Cut(job, inputs) = &command else {
-            return Ok(assert!(rt; false));
-        };
-        assert_eq!(rt; inputs.order.as_slice(), row.order);
-        assert_eq!(rt; job.list.intervals(), row.list);
-        assert_eq!(rt;
-            (job.fields, job.delim, job.only),
-            (row.fields, row.delim, row.only)
-        );
+        has_files(&rt, &command, row.order, row.names, None);
+        is_cut(&rt, &command, row);
     }
+    Ok(())
+}
+
+/// Whether these words are refused by this fault.
+fn is_refused(rt: &impl Abort, alloc: Global, words: &[&str], fault: UseFault) {
+    match Command::read(alloc, words) {
+        Ok(_) => assert!(rt; false),
+        Err(found) => assert_eq!(rt; found, fault),
+    }
+}
+
+/// Whether these words name so many inputs.
+fn are_accepted(rt: &impl Abort, alloc: Global, words: &[&str], inputs: usize) -> Result<(), Fail> {
+    let Ok(command) = Command::read(alloc, words) else {
+        return Err(Fail::from("words are refused"));
+    };
+    assert_eq!(rt; command.inputs().order.len(), inputs);
     Ok(())
 }
 
 #[test]
 fn at_most_512_operands(rt: HostRuntime) -> Result<(), Fail> {
-    let mut words = vec![in rt.alloc(); "-"; 515]?;
+    let mut words = ["-"; 515];
     words[0] = "cut";
     words[1] = "-b1";
-    match Command::read(rt.alloc(), words.as_slice()) {
-        Ok(_) => assert!(rt; false),
-        Err(fault) => assert_eq!(rt; fault, UseFault::Operands),
-    }
+    is_refused(&rt, rt.alloc(), &words, UseFault::Operands);
+    are_accepted(&rt, rt.alloc(), &words[..514], 512)?;
     words[1] = "-b0";
-    match Command::read(rt.alloc(), words.as_slice()) {
-        Ok(_) => assert!(rt; false),
-        Err(fault) => assert_eq!(rt; fault, UseFault::Value(b'b', "0")),
-    }
-    words[1] = "-b1";
-    words.truncate(514);
-    let command = Command::read(rt.alloc(), words.as_slice())?;
-    let Command::Cut(_, inputs) = &command else {
-        return Ok(assert!(rt; false));
-    };
-    assert_eq!(rt; inputs.order.len(), 512);
+    is_refused(&rt, rt.alloc(), &words, UseFault::Value(b'b', "0"));
     Ok(())
 }
 
 #[test]
 fn at_least_one_operand_of_paste(rt: HostRuntime) -> Result<(), Fail> {
-    let mut words = vec![in rt.alloc(); "-"; 514]?;
+    let mut words = ["-"; 514];
     words[0] = "paste";
-    match Command::read(rt.alloc(), words.as_slice()) {
-        Ok(_) => assert!(rt; false),
-        Err(fault) => assert_eq!(rt; fault, UseFault::Operands),
-    }
-    words.truncate(513);
-    let most = Command::read(rt.alloc(), words.as_slice())?;
-    assert_eq!(rt; most.inputs().order.len(), 512);
-    let least = Command::read(rt.alloc(), &words[..2])?;
+    is_refused(&rt, rt.alloc(), &words, UseFault::Operands);
+    are_accepted(&rt, rt.alloc(), &words[..513], 512)?;
+    are_accepted(&rt, rt.alloc(), &words[..2], 1)
+}
+
+struct Paste {
+    words: &'static [&'static str],
+    serial: bool,
+    delims: [Option<u8>; 3],
+    order: &'static [Input],
+    names: &'static [&'static str],
+}
+
+const PASTES: &[Paste] = &[
+    Paste {
+        words: &["paste", "-d", "\\0,", "-s", "f", "-", "-s"],
+        serial: true,
+        delims: [None, Some(b','), None],
+        order: &[Input::File(0), Input::Standard, Input::File(1)],
+        names: &["f", "-s"],
+    },
+    Paste {
+        words: &["paste", "f"],
+        serial: false,
+        delims: [Some(b'\t'); 3],
+        order: &[Input::File(0)],
+        names: &["f"],
+    },
+];
+
+fn is_paste(rt: &impl Abort, command: &Command, row: &Paste) {
+    let Command::Paste(job, _) = command else {
+        return assert!(rt; false);
+    };
+    assert_eq!(rt; job.serial, row.serial);
     assert_eq!(rt;
-        least.inputs().order.as_slice(),
-        [Input::Standard].as_slice()
+        [job.delims.at(0), job.delims.at(1), job.delims.at(2)],
+        row.delims
     );
-    Ok(())
 }
 
 #[test]
 fn the_words_of_paste(rt: HostRuntime) -> Result<(), Fail> {
-    let words = ["paste", "-d", "\\0,", "-s", "f", "-", "-s"];
-    let command = Command::read(rt.alloc(), &words)?;
-    assert_eq!(rt; command.names(), ["f", "-s"].as_slice());
-    assert_eq!(rt; command.output(), None);
-    assert_eq!(rt;
-        command.inputs().order.as_slice(),
-        [Input::File(0), Input::Standard, Input::File(1)].as_slice()
-    );
-    let Command::Paste(job, _) = &command else {
-        return Ok(assert!(rt; false));
-    };
-    assert!(rt; job.serial);
-    assert_eq!(rt; job.delims.at(0), None);
-    assert_eq!(rt; job.delims.at(1), Some(b','));
-    assert_eq!(rt; job.delims.at(2), None);
-    let words = ["paste", "f"];
-    let Command::Paste(job, _) = Command::read(rt.alloc(), &words)? else {
-        return Ok(assert!(rt; false));
-    };
-    assert!(rt; !job.serial);
-    assert_eq!(rt; job.delims.at(3), Some(b'\t'));
+    for row in PASTES {
+        let command = Command::read(rt.alloc(), row.words)?;
+        has_files(&rt, &command, row.order, row.names, None);
+        is_paste(&rt, &command, row);
+    }
     Ok(())
 }
 
@@ -514,17 +546,19 @@ const UNIQS: &[Uniq] = &[
     },
 ];
 
+fn is_uniq(rt: &impl Abort, command: &Command, wanted: UniqJob) {
+    match command {
+        Command::Uniq(job, _) => assert_eq!(rt; *job, wanted),
+        _ => assert!(rt; false),
+    }
+}
+
 #[test]
 fn the_words_of_uniq(rt: HostRuntime) -> Result<(), Fail> {
     for row in UNIQS {
         let command = Command::read(rt.alloc(), row.words)?;
-        assert_eq!(rt; command.names(), row.names);
-        assert_eq!(rt; command.output(), row.output);
-        let Command::Uniq(job, inputs) = &command else {
-            return Ok(assert!(rt; false));
-        };
-        assert_eq!(rt; *job, row.job);
-        assert_eq!(rt; inputs.order.as_slice(), row.order);
+        has_files(&rt, &command, row.order, row.names, row.output);
+        is_uniq(&rt, &command, row.job);
     }
     Ok(())
 }
@@ -545,19 +579,20 @@ const COMMS: &[(&[&str], CommJob)] = &[
     ),
 ];
 
+fn is_comm(rt: &impl Abort, command: &Command, wanted: CommJob) {
+    match command {
+        Command::Comm(job, _) => assert_eq!(rt; *job, wanted),
+        _ => assert!(rt; false),
+    }
+}
+
 #[test]
 fn the_words_of_comm(rt: HostRuntime) -> Result<(), Fail> {
-    for (words, hides) in COMMS {
+    for (words, job) in COMMS {
         let command = Command::read(rt.alloc(), words)?;
-        assert_eq!(rt; command.names(), ["f"].as_slice());
-        let Command::Comm(job, inputs) = &command else {
-            return Ok(assert!(rt; false));
-        };
-        assert_eq!(rt; job, hides);
-        assert_eq!(rt;
-            inputs.order.as_slice(),
-            [Input::File(0), Input::Standard].as_slice()
-        );
+        let order = [Input::File(0), Input::Standard];
+        has_files(&rt, &command, &order, &["f"], None);
+        is_comm(&rt, &command, *job);
     }
     Ok(())
 }
@@ -627,23 +662,24 @@ const JOINS: &[Join] = &[
     },
 ];
 
+fn is_join(rt: &impl Abort, command: &Command, row: &Join) {
+    let Command::Join(job, _) = command else {
+        return assert!(rt; false);
+    };
+    assert_eq!(rt; (job.pairs, job.sep), (row.pairs, row.sep));
+    assert_eq!(rt; job.unpaired, row.unpaired);
+    assert_eq!(rt; job.empty.as_slice(), row.empty);
+    assert_eq!(rt; job.list.as_ref().map(|list| list.fields()), row.list);
+    assert_eq!(rt; job.field, row.field);
+}
+
 #[test]
 fn the_words_of_join(rt: HostRuntime) -> Result<(), Fail> {
     for row in JOINS {
         let command = Command::read(rt.alloc(), row.words)?;
-        assert_eq!(rt; command.names(), ["g"].as_slice());
-        let Command::Join(job, inputs) = &command else {
-            return Ok(assert!(rt; false));
-        };
-        assert_eq!(rt;
-            inputs.order.as_slice(),
-            [Input::Standard, Input::File(0)].as_slice()
-        );
-        assert_eq!(rt; (job.pairs, job.sep), (row.pairs, row.sep));
-        assert_eq!(rt; job.unpaired, row.unpaired);
-        assert_eq!(rt; job.empty.as_slice(), row.empty);
-        assert_eq!(rt; job.list.as_ref().map(|list| list.fields()), row.list);
-        assert_eq!(rt; job.field, row.field);
+        let order = [Input::Standard, Input::File(0)];
+        has_files(&rt, &command, &order, &["g"], None);
+        is_join(&rt, &command, row);
     }
     Ok(())
 }
@@ -689,26 +725,29 @@ const TRS: &[Tr] = &[
     },
 ];
 
+fn is_tr(rt: &impl Abort, command: &Command, row: &Tr) {
+    let Command::Tr(plan, _) = command else {
+        return assert!(rt; false);
+    };
+    for (place, byte) in row.bytes.iter().enumerate() {
+        let image = if plan.deletes(*byte) {
+            None
+        } else {
+            Some(plan.image(*byte))
+        };
+        assert_eq!(rt; Some(&image), row.images.get(place));
+        if let Some(image) = image {
+            assert_eq!(rt; Some(&plan.squeezes(image)), row.squeezed.get(place));
+        }
+    }
+}
+
 #[test]
 fn the_words_of_tr(rt: HostRuntime) -> Result<(), Fail> {
     for row in TRS {
         let command = Command::read(rt.alloc(), row.words)?;
-        assert_eq!(rt; command.names().len(), 0);
-        let Command::Tr(plan, inputs) = &command else {
-            return Ok(assert!(rt; false));
-        };
-        for (place, byte) in row.bytes.iter().enumerate() {
-            let image = if plan.deletes(*byte) {
-                None
-            } else {
-                Some(plan.image(*byte))
-            };
-            assert_eq!(rt; Some(&image), row.images.get(place));
-            if let Some(image) = image {
-                assert_eq!(rt; Some(&plan.squeezes(image)), row.squeezed.get(place));
-            }
-        }
-        assert_eq!(rt; inputs.order.as_slice(), [Input::Standard].as_slice());
+        has_files(&rt, &command, &[Input::Standard], &[], None);
+        is_tr(&rt, &command, row);
     }
     Ok(())
 }

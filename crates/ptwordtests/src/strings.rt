@@ -1,5 +1,9 @@
 //! Worked strings of `tr`.
-use super::*;
+
+use ptlangs::{
+    CharPlan, Form, SetFault, SetFaultKind, SetString, parts_are_of_the_grammar,
+    tables_hold_the_plan,
+};
 use std::alloc::{AllocError, Global};
 use std::test::Fail;
 
@@ -395,7 +399,7 @@ fn tables_are_lent(rt: HostRuntime) -> Result<(), Fail> {
     assert_eq!(rt; plan.images()[120], 120);
     assert!(rt; plan.squeezed()[120] && !plan.squeezed()[97]);
     assert!(rt; !plan.deleted()[97]);
-    crate::parts_are_of_the_grammar();
+    parts_are_of_the_grammar();
     tables_hold_the_plan();
     Ok(())
 }
