@@ -2,9 +2,8 @@
 use Rattle.std.proofs.Common.{◌≡◌, ℕ, false, List, [], ◌++◌, refl, sym, ◌∙◌, ap, append_assoc}
 use Rattle.ptlines.specs.Inputs.{Begins}
 use Rattle.ptlines.specs.Outputs.{Output, Wrote}
-use Rattle.ptlines.proofs.Pushed.{wrote_trans}
+use Rattle.ptlines.proofs.Pushed.{wrote_nothing, wrote_trans}
 use Rattle.ptflow.specs.Workings.Continuations.{Continues, Halts}
-use Rattle.ptflow.proofs.ReaderFacts.{nothing_pushed}
 
 -- amid some items, of which the rest is still to come
 pub record Amid {X Y : Type 0} (rest_from : X → List Y → List ℕ) (start now : X) (items rest : List Y) (was is : Output) : Type 0 where
@@ -15,7 +14,7 @@ pub record Amid {X Y : Type 0} (rest_from : X → List Y → List ℕ) (start no
 
 module _ {X Y : Type 0} (rest_from : X → List Y → List ℕ) (start : X) where
   pub amid_starts : (items : List Y) (was : Output) → was.faulted ≡ false → Amid rest_from start start items items was was
-  amid_starts items was clean = record { pushed = []; wrote = nothing_pushed was clean; clean = clean; on = λ more. refl }
+  amid_starts items was clean = record { pushed = []; wrote = wrote_nothing was; clean = clean; on = λ more. refl }
 
   module _ (now next : X) (items rest : List Y) (bytes : List ℕ) (was is is' : Output) (a : Amid rest_from start now items rest was is) (wrote : Wrote is is' bytes) where
     all_pushed : Wrote was is' (a.pushed ++ bytes)

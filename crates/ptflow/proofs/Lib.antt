@@ -6,4 +6,5 @@ pub mod CutRests
 pub mod LineLaws
 pub mod PassLemmas
 pub mod ReaderFacts
+pub mod SlotFacts
 pub mod TrRests
