@@ -102,7 +102,7 @@ pub record Choosing (all others : List Interval) (n : ℕ) (piece : List ℕ) (w
 pub choosing_starts : (all : List Interval) (n : ℕ) (piece : List ℕ) (was : Output) → was.faulted ≡ false → AreApart 0 all → Choosing all all n piece was was
 choosing_starts all n piece was clean apart = record {
   pushed = [];
-  wrote = wrote_nothing was (λ fault. absurd (false≢true (sym clean ∙ fault)));
+  wrote = wrote_nothing was;
   clean = clean;
   split = refl;
   low = 0;
