@@ -3,18 +3,19 @@ use Rattle.std.specs.Prelude.{ℕ, ◌==◌, ◌||◌, ◌&&◌, List, [], ◌�
 use Rattle.std.specs.Char.{is_ascii_digit}
 use Rattle.std.specs.List.{list_all, slice_split}
 use Rattle.std.specs.Str.Parse.{digits_value}
+use Rattle.std.specs.Str.{byte}
 
 -- the greatest number of 64 bits
 abbrev pub greatest : ℕ
 greatest = 18446744073709551615
 
-abbrev pub is_nothing : {X : Type 0} → List X → Bool
-is_nothing [] = true
-is_nothing (x ∷ xs) = false
+abbrev pub is_empty : {X : Type 0} → List X → Bool
+is_empty [] = true
+is_empty (x ∷ xs) = false
 
 -- one digit or more, and nothing else
 abbrev pub is_number : List ℕ → Bool
-is_number bs = not (is_nothing bs) && list_all is_ascii_digit bs
+is_number bs = not (is_empty bs) && list_all is_ascii_digit bs
 
 abbrev pub value : List ℕ → ℕ
 value bs = digits_value 10 bs
@@ -25,7 +26,7 @@ number bs = if is_number bs && nat_le (value bs) greatest then Some (value bs) e
 
 -- the elements between single commas, spaces and tabs
 abbrev pub is_separator : ℕ → Bool
-is_separator b = (b == 44) || (b == 32) || (b == 9)
+is_separator b = (b == byte ",") || (b == byte " ") || (b == 9)
 
 abbrev pub elements : List ℕ → List (List ℕ)
 elements bs = slice_split is_separator bs

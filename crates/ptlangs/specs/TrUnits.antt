@@ -4,6 +4,7 @@ use Rattle.std.specs.List.{find}
 use Rattle.std.specs.Option.{option_map_or}
 use Rattle.std.specs.Int.{is_in_range}
 use Rattle.std.specs.Str.Parse.{digits_value}
+use Rattle.std.specs.Str.{byte}
 use Rattle.ptlangs.specs.declared.units.SetUnit.{SetUnit}
 use Rattle.ptlangs.specs.declared.units.SetUnit.TheVariants.{Plain, Escaped, Faulty}
 use Rattle.ptlangs.specs.declared.faults.SetFaultKind.{SetFaultKind}
@@ -16,11 +17,11 @@ byte_of (Escaped b) = Ok b
 byte_of (Faulty k) = Err k
 
 abbrev pub is_octal_digit : ℕ → Bool
-is_octal_digit b = is_in_range 48 55 b
+is_octal_digit b = is_in_range (byte "0") (byte "7") b
 
--- the escapes by a letter: a, b, f, n, r, t, v
+-- the escapes by a letter
 abbrev pub letters : List (ℕ × ℕ)
-letters = (97, 7) ∷ (98, 8) ∷ (102, 12) ∷ (110, 10) ∷ (114, 13) ∷ (116, 9) ∷ (118, 11) ∷ []
+letters = (byte "a", 7) ∷ (byte "b", 8) ∷ (byte "f", 12) ∷ (byte "n", 10) ∷ (byte "r", 13) ∷ (byte "t", 9) ∷ (byte "v", 11) ∷ []
 
 -- the byte that a backslash before c stands for: c itself, unless it is one of the letters
 abbrev pub escaped : ℕ → ℕ
@@ -41,7 +42,7 @@ after_backslash (c ∷ bs) =
 
 -- the unit that begins with this byte, and how many further bytes it takes
 abbrev pub unit_at : ℕ → List ℕ → SetUnit × ℕ
-unit_at b bs = if b == 92 then after_backslash bs else (Plain b, 0)
+unit_at b bs = if b == byte "\\" then after_backslash bs else (Plain b, 0)
 
 -- the units of the bytes behind the first `skip`
 abbrev pub units_behind : List ℕ → ℕ → List SetUnit
