@@ -17,16 +17,17 @@ use Rattle.ptlines.proofs.Refilled.{unread_empty}
 use Rattle.ptlines.proofs.Pushed.{wrote_trans, wrote_nothing}
 use Rattle.ptlines.specs.Inputs.{Given, nothing_left}
 use Rattle.ptlines.specs.Inputs.{Begins, Came}
-use Rattle.ptflow.specs.Runs.{Ends, IsRun}
+use Rattle.ptflow.specs.Passes.{Ends, IsPass}
+use Rattle.ptflow.specs.Tools.{Tool}
 use Rattle.ptlines.specs.Inputs as one
-use Rattle.ptflow.specs.Runs as run
+use Rattle.ptflow.specs.Passes as pass
 use Rattle.ptflow.specs.declared.faults.FlowFault.{FlowFault}
 use Rattle.ptflow.specs.declared.faults.FlowFault.TheVariants.{Read, Write, Memory}
 use Rattle.ptrun.specs.Worlds.{World, Received, at, is_unopened, AllowsAt, Allows, is_in, found, founds, opened, sources, reader_at, no_reader, CameAt, IsReceived, IsNew, IsFresh, HasFailed, IsTooLong}
 use Rattle.ptrun.specs.Sayings.{Tells}
 use Rattle.ptrun.specs.Meanings.{unopened}
 use Rattle.ptrun.specs.Messages.{not_opened, name_of}
-use Rattle.ptrun.specs.Operands.{Tool, largest, up_to_open, each_out, each_bound, each_decided, one_by_one}
+use Rattle.ptrun.specs.Operands.{largest, up_to_open, each_out, each_bound, each_decided, one_by_one}
 use Rattle.ptrun.specs.declared.engine.Done.{Done}
 use Rattle.ptrun.specs.declared.engine.Done.TheVariants.{Whole, Unopened}
 use Rattle.ptrun.specs.Runs.{Cause}
@@ -93,7 +94,6 @@ came_nothing r new = record {
   count = omega (arith, ap length new.held);
   ended = sym new.ended;
   refused = refl;
-  ending = refl;
   still = λ ended. (refl, ended);
   end = λ h. h;
 }
@@ -104,7 +104,6 @@ came_trans a b c g h p q empty = record {
   count = omega (arith, p.count, q.count, ap length empty, length-append g.bytes h.bytes);
   ended = q.ended;
   refused = q.refused ∙ p.refused;
-  ending = q.ending ∙ p.ending;
   still = λ ended. let first = p.still ended in let second = q.still first.1 in (second.0 ∙ first.0, second.1);
   end = λ h. q.end (p.end h);
 }
@@ -124,12 +123,10 @@ pub record Ready (seen : Bool) (old now : Reader) (o : Option Given) : Type 0 wh
   pub came : Came old now g
   pub held : now.held ≡ []
   pub fault : now.fault ≡ None
-  pub failed : now.failed ≡ false
-  pub ending : now.ending ≡ 10
 
 pub ready_of : (seen : Bool) (old now : Reader) (o : Option Given) → IsFresh old → now.refused ≡ false → PlaceIs seen old now o → Ready seen old now o
 ready_of seen old now None fresh opened k = absurd (false≢true (sym opened ∙ place_refused seen old now None k ∙ k.0))
-ready_of true old now (Some g) fresh opened k = record { g = g; is = refl; opened = k.0; if_seen = k.1; came = k.1.0; held = k.1.1.done.held; fault = k.1.1.fault; failed = k.1.1.failed; ending = k.1.0.ending ∙ (fresh k.0).ending }
+ready_of true old now (Some g) fresh opened k = record { g = g; is = refl; opened = k.0; if_seen = k.1; came = k.1.0; held = k.1.1.done.held; fault = k.1.1.fault }
 ready_of false old now (Some g) fresh opened k =
     let new = fresh k.0 in
     let same = k.1.0 in
@@ -141,9 +138,13 @@ ready_of false old now (Some g) fresh opened k =
       came = subst (λ (r : Reader). Came old r g) (sym same) (subst (λ (h : Given). Came old old h) (sym k.1.1) (came_nothing old new));
       held = ap (λ (r : Reader). r.held) same ∙ new.held;
       fault = ap (λ (r : Reader). r.fault) same ∙ new.fault;
-      failed = ap (λ (r : Reader). r.failed) same ∙ new.failed;
-      ending = ap (λ (r : Reader). r.ending) same ∙ new.ending;
     }
+
+-- no read of it has failed
+place_unfailed : (seen : Bool) (old now : Reader) (o : Option Given) → old.failed ≡ false → PlaceIs seen old now o → now.failed ≡ false
+place_unfailed seen old now None calm k = ap (λ (r : Reader). r.failed) k.1 ∙ calm
+place_unfailed true old now (Some g) calm k = k.1.1.failed
+place_unfailed false old now (Some g) calm k = ap (λ (r : Reader). r.failed) k.1.0 ∙ calm
 
 unseen_same : (seen : Bool) (old now : Reader) (o : Option Given) → seen ≡ false → PlaceIs seen old now o → now ≡ old
 unseen_same seen old now None is k = k.1
@@ -255,7 +256,7 @@ module _ (word : List ℕ) (t : Tool) (names : List (List ℕ)) (old : List Read
     long = length-map old received_of;
     places = λ q. subst (λ (o : Option Given). PlaceIs false (reader_at old q) (reader_at old q) o) (sym (get_or-map received_of old q no_reader)) (start_place (reader_at old q));
     pushed = [];
-    wrote = wrote_nothing was (λ fault. absurd (false≢true (sym clean ∙ fault)));
+    wrote = wrote_nothing was;
     out = λ w agrees. refl;
     tells = tells_nothing told;
     so_far_is = refl;
@@ -298,8 +299,8 @@ module _ (word : List ℕ) (t : Tool) (names : List (List ℕ)) (old : List Read
       came : IsReceived old now k.gave
       came q = came_at (is_in order q) (reader_at old q) (reader_at now q) (at k.gave q) (fresh q) (k.places q)
 
-      none : (q : ℕ) → HasFailed now q → ⊥
-      none q failed = false≢true (sym (ready_of (is_in order q) (reader_at old q) (reader_at now q) (at k.gave q) (fresh q) failed.0 (k.places q)).failed ∙ failed.1)
+      none : (q : ℕ) → HasFailed old now q → ⊥
+      none q failed = false≢true (sym (place_unfailed (is_in order q) (reader_at old q) (reader_at now q) (at k.gave q) failed.1 (k.places q)) ∙ failed.2)
 
       ends_with : (done : Done) (any closed : Bool) → done ≡ done_with any → any ≡ closed → (last_words word names (Ok done) ≡ []) × (status_after (Ok done) ≡ cond closed 1 0)
       ends_with done true closed is same = rw (is, sym same) (refl, refl)
@@ -348,8 +349,8 @@ module _ (word : List ℕ) (t : Tool) (names : List (List ℕ)) (old : List Read
   -- ---- an operand that was opened
 
   module _ (now : List Reader) (is is' : Output) (heard : SinkState) (store store' : Slots) (done : List ℕ) (so_far : Done) (p : ℕ) (new : Reader) (result : Result (Unit {0}) FlowFault)
-      (k : Pass word t names old now was is told heard before store done so_far) (within : p < length old) (is_open : (reader_at now p).refused ≡ false)
-      (e : IsRun t.text t.decided t.size (reader_at now p) new is is' store store' result) where
+      (k : Pass word t names old now was is told heard before store done so_far) (within : p < length old) (is_open : (reader_at now p).refused ≡ false) (calm : (reader_at now p).failed ≡ false)
+      (e : IsPass t (reader_at now p) new is is' store store' result) where
     abbrev pub y : Ready (is_in done p) (reader_at old p) (reader_at now p) (at k.gave p)
     y = ready_of (is_in done p) (reader_at old p) (reader_at now p) (at k.gave p) (fresh p) is_open (k.places p)
 
@@ -462,32 +463,31 @@ module _ (word : List ℕ) (t : Tool) (names : List (List ℕ)) (old : List Read
         or_false true = refl
         or_false false = refl
 
-        end : run.Finished (reader_at now p) new is' store'
+        end : pass.Finished (reader_at now p) new is' store'
         end = subst (λ (r : Result (Unit {0}) FlowFault). Ends (reader_at now p) new is' store' r) ok e.ends
 
         spent : IsSpent new
-        spent = record { done = end.done; fault = end.fault; failed = end.failed ∙ y.failed; short = end.short }
+        spent = record { done = end.done; fault = end.fault; failed = end.failed ∙ calm; short = end.short }
 
         all : (b : List ℕ) → one.Agrees e.given b → b ≡ e.given.bytes
         all b a = a.is ∙ ap (λ (l : List ℕ). e.given.bytes ++ l) (a.whole (e.came.ended ∙ end.done.ended)) ∙ append-nil e.given.bytes
 
     -- ---- it stopped in this operand
 
-    new_open : new.refused ≡ false
-    new_open = e.came.refused ∙ is_open
-
-    other_failed : (q : ℕ) → p ≢ q → HasFailed now' q → ⊥
+    other_failed : (q : ℕ) → p ≢ q → HasFailed old now' q → ⊥
     other_failed q differs failed =
         let same = get_or-set_other now p q new no_reader (λ is_p. differs (sym is_p)) in
-        let open_q : (reader_at now q).refused ≡ false = ap (λ (r : Reader). r.refused) (sym same) ∙ failed.0 in
-        false≢true (sym (ready_of (is_in done q) (reader_at old q) (reader_at now q) (at k.gave q) (fresh q) open_q (k.places q)).failed ∙ ap (λ (r : Reader). r.failed) (sym same) ∙ failed.1)
+        false≢true (sym (place_unfailed (is_in done q) (reader_at old q) (reader_at now q) (at k.gave q) failed.1 (k.places q)) ∙ ap (λ (r : Reader). r.failed) (sym same) ∙ failed.2)
 
-    cause_of : (more : List ℕ) (fault : FlowFault) → Ends (reader_at now p) new is' store' (Err fault) → Cause (one_by_one word t names (done ++ p ∷ more)) gave' now' is'.faulted store'.denied (length done) (blame p fault)
+    old_calm : is_in done p ≡ false → (reader_at old p).failed ≡ false
+    old_calm unseen = ap (λ (r : Reader). r.failed) (sym (unseen_same (is_in done p) (reader_at old p) (reader_at now p) (at k.gave p) unseen (k.places p))) ∙ calm
+
+    cause_of : (more : List ℕ) (fault : FlowFault) → Ends (reader_at now p) new is' store' (Err fault) → Cause (one_by_one word t names (done ++ p ∷ more)) gave' old now' is'.faulted store'.denied (length done) (blame p fault)
     cause_of more (Read place) r = (
       nth_here done more p,
       ap (λ (l : List ℕ). is_in l p) (take-append_seam done (p ∷ more))
           ∙ ⊎_elim (λ f. (unseen_of (is_in done p) (reader_at old p) (reader_at now p) new y.g e.given y.if_seen e.came f.2).0) (λ l. not_seen_long (is_in done p) (reader_at old p) (reader_at now p) new y.g e.given y.if_seen e.came l.0) r.cause,
-      ⊎_elim (λ f. inl (ap (λ (n : Reader). n.refused) reader_here ∙ new_open, ap (λ (n : Reader). n.failed) reader_here ∙ f.0))
+      ⊎_elim (λ f. inl (y.opened, old_calm (unseen_of (is_in done p) (reader_at old p) (reader_at now p) new y.g e.given y.if_seen e.came f.2).0, ap (λ (n : Reader). n.failed) reader_here ∙ f.0))
           (λ l. inr (subst IsTooLong (sym gave_here) (let first = fresh p y.opened in omega (arith, l.0, came_here.count, ap length first.held, first.pulled)))) r.cause,
       r.clean,
       r.denied,
@@ -496,9 +496,9 @@ module _ (word : List ℕ) (t : Tool) (names : List (List ℕ)) (old : List Read
     cause_of more Memory r = (r.denied, r.clean)
 
     failing : (fault : FlowFault) → Ends (reader_at now p) new is' store' (Err fault) → new.failed ≡ true → (new.ended ≡ false) × (blame p fault ≡ Read p)
-    failing (Read place) r failed = ⊎_elim (λ f. (f.2, refl)) (λ l. absurd (false≢true (sym (l.1 ∙ y.failed) ∙ failed))) r.cause
-    failing Write r failed = absurd (false≢true (sym (r.failed ∙ y.failed) ∙ failed))
-    failing Memory r failed = absurd (false≢true (sym (r.failed ∙ y.failed) ∙ failed))
+    failing (Read place) r failed = ⊎_elim (λ f. (f.2, refl)) (λ l. absurd (false≢true (sym (l.1 ∙ calm) ∙ failed))) r.cause
+    failing Write r failed = absurd (false≢true (sym (r.failed ∙ calm) ∙ failed))
+    failing Memory r failed = absurd (false≢true (sym (r.failed ∙ calm) ∙ failed))
 
     ended_before : (q : ℕ) → is_in done q ≡ true → EndedAt (at gave' q)
     ended_before q seen = ⊎_elim same other (same_or_other p q)
@@ -574,11 +574,11 @@ module _ (word : List ℕ) (t : Tool) (names : List (List ℕ)) (old : List Read
           end : Ends (reader_at now p) new is' store' (Err fault)
           end = subst (λ (r : Result (Unit {0}) FlowFault). Ends (reader_at now p) new is' store' r) is_err e.ends
 
-          place_of : (q : ℕ) → HasFailed now' q → p ≡ q
+          place_of : (q : ℕ) → HasFailed old now' q → p ≡ q
           place_of q failed = ⊎_elim (λ same. same) (λ other. absurd (other_failed q other failed)) (same_or_other p q)
 
-          blamed : (q : ℕ) → HasFailed now' q → new.failed ≡ true
-          blamed q failed = ap (λ (r : Reader). r.failed) (sym reader_here) ∙ ap (λ (n : ℕ). (reader_at now' n).failed) (place_of q failed) ∙ failed.1
+          blamed : (q : ℕ) → HasFailed old now' q → new.failed ≡ true
+          blamed q failed = ap (λ (r : Reader). r.failed) (sym reader_here) ∙ ap (λ (n : ℕ). (reader_at now' n).failed) (place_of q failed) ∙ failed.2
 
           named_within : (f : FlowFault) → IsWithin (length old) (Err (blame p f))
           named_within (Read place) = within

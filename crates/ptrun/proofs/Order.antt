@@ -5,17 +5,16 @@ use Rattle.std.proofs.lemmas.Bool.{false≢true}
 use Rattle.ptlines.specs.Readers.{Reader}
 use Rattle.ptlines.specs.Outputs.{Output}
 use Rattle.ptlines.specs.Slots.{Slots}
-use Rattle.ptflow.specs.Runs.{IsRun}
+use Rattle.ptflow.specs.Tools.{Tool}
+use Rattle.ptflow.specs.Passes.{IsPass}
 use Rattle.ptflow.specs.declared.faults.FlowFault.{FlowFault}
 use Rattle.ptrun.specs.Worlds.{reader_at, no_reader, IsFresh, AreFresh}
-use Rattle.ptrun.specs.Operands.{Tool, place, places, one_by_one}
+use Rattle.ptrun.specs.Operands.{place, places, one_by_one}
 use Rattle.std.specs.Prelude.{All, not}
 use Rattle.std.proofs.lemmas.List.Elements.{All-nil, All-cons, All-map}
-use Rattle.std.specs.Borrow.{Bor}
-use Rattle.ptopts.specs.Answers.{words_seen}
 use Rattle.ptrun.specs.Engines.{AreGiven}
 use Rattle.ptopts.specs.Faults.{is_standard}
-use Rattle.ptopts.specs.Inputs.{file_names, order_from}
+use Rattle.ptopts.specs.Commands.{file_names, order_from}
 use Rattle.ptopts.specs.declared.inputs.Input.{Input}
 use Rattle.ptopts.specs.declared.inputs.Input.TheVariants.{Standard, File}
 
@@ -29,12 +28,12 @@ pub place_fits : (order : List Input) (n i : ℕ) (d : Input) → All (λ p. p <
 place_fits order n i d fits within = subst (λ (k : ℕ). k < n) (get_or-map place order i d 0 within) (fits i 0 (omega (arith, within, length-map order place)))
 
 -- each operand has a reader, and each file has a name
-pub given_of : (word : List ℕ) (t : Tool) (inputs : List Reader) (names : List (Bor (List ℕ))) (order : List Input) → AreFresh (length names) inputs → All (λ o. place o < length inputs) order
-    → AreGiven (one_by_one word t (words_seen names) (places order)) inputs
+pub given_of : (word : List ℕ) (t : Tool) (inputs : List Reader) (names : List (List ℕ)) (order : List Input) → AreFresh (length names) inputs → All (λ o. place o < length inputs) order
+    → AreGiven (one_by_one word t names (places order)) inputs
 given_of word t inputs names order fresh fits = record {
   fresh = fresh.1;
   fits = All-map (λ (p : ℕ). p < length inputs) place order fits;
-  named = fresh.0 ∙ ap (λ (n : ℕ). n + 1) (sym (length-map names (λ (w : Bor (List ℕ)). w.now)));
+  named = fresh.0;
 }
 
 -- the operands before the i-th, it, and those behind
@@ -51,10 +50,10 @@ places_split order i d p within is =
 pub places_end : (order : List Input) (i : ℕ) → length order ≤ i → take i (places order) ≡ places order
 places_end order i all = take_all i (places order) (omega (arith, all, length-map order place))
 
--- a run over a reader is one over the same reader
-pub run_here : (t : Tool) (first reader new : Reader) (was is : Output) (before store : Slots) (result : Result (Unit {0}) FlowFault) → first ≡ reader
-    → IsRun t.text t.decided t.size first new was is before store result → IsRun t.text t.decided t.size reader new was is before store result
-run_here t first reader new was is before store result same run = subst (λ (r : Reader). IsRun t.text t.decided t.size r new was is before store result) same run
+-- a pass over a reader is one over the same reader
+pub pass_here : (t : Tool) (first reader new : Reader) (was is : Output) (before store : Slots) (result : Result (Unit {0}) FlowFault) → first ≡ reader
+    → IsPass t first new was is before store result → IsPass t reader new was is before store result
+pass_here t first reader new was is before store result same pass = subst (λ (r : Reader). IsPass t r new was is before store result) same pass
 
 -- ---- the operands of words
 

@@ -102,12 +102,12 @@ headline_of m old new before o fresh k w tells none fine roomy = by_fault k.faul
     agrees : Allows k.received w
     agrees = told_agrees old new k.received w (fresh_all old fresh) k.came tells
 
-    unfailed : (n : ℕ) (fault : FlowFault) → Cause m k.received new o.out.failed o.denied n fault → ⊥
+    unfailed : (n : ℕ) (fault : FlowFault) → Cause m k.received old new o.out.failed o.denied n fault → ⊥
     unfailed n (Read p) c = ⊎_elim (λ failed. none p failed) (λ long. too_long (at k.received p) (at w p) (reader_at old p) (agrees p) (tells p) long) c.2
     unfailed n Write c = false≢true (sym fine ∙ c)
     unfailed n Memory c = false≢true (sym roomy ∙ c.0)
 
-    by_fault : (fault : Option FlowFault) → EndsAs m k.received new k.written k.said o k.behind fault → IsExact m w before o
+    by_fault : (fault : Option FlowFault) → EndsAs m k.received old new k.written k.said o k.behind fault → IsExact m w before o
     by_fault None e = record {
       out = k.took ∙ ap (λ (l : List ℕ). append_known before.out.taken l) (e.0.out w agrees);
       messages = λ heard_all. k.tells.taken ∙ ap (λ (l : List ℕ). append_known before.messages.taken l) (sym (append-nil k.tells.front) ∙ ap (λ (l : List ℕ). k.tells.front ++ l) (sym (k.tells.whole heard_all)) ∙ sym k.tells.split ∙ (e.1 w agrees).0);
@@ -118,12 +118,12 @@ headline_of m old new before o fresh k w tells none fine roomy = by_fault k.faul
 
 -- ---- a run that reads nothing
 
-none_failed : (old : List Reader) → ((q : ℕ) → IsFresh (reader_at old q)) → (q : ℕ) → HasFailed old q → ⊥
-none_failed old fresh q failed = false≢true (sym (fresh q failed.0).failed ∙ failed.1)
+none_failed : (old : List Reader) (q : ℕ) → HasFailed old old q → ⊥
+none_failed old q failed = false≢true (sym failed.1 ∙ failed.2)
 
 -- Memory for the store was denied, or nothing was to be read; in both cases the output is left alone.
 module _ (m : Meaning) (old : List Reader) (fresh : All IsFresh old) (out told heard : SinkState) (fine : out.failed ≡ false) (text : List ℕ) (tells : Tells told heard text) where
-  unread : (o : Outcome) → o.out ≡ out → o.messages ≡ heard → o.peak ≡ 0 → (fault : Option FlowFault) → EndsAs m (map received_of old) old [] text o 0 fault → IsRun m old old (sinks out told) o
+  unread : (o : Outcome) → o.out ≡ out → o.messages ≡ heard → o.peak ≡ 0 → (fault : Option FlowFault) → EndsAs m (map received_of old) old old [] text o 0 fault → IsRun m old old (sinks out told) o
   unread o same said none fault ends = record {
     received = map received_of old;
     came = nothing_read old (fresh_all old fresh);
@@ -136,8 +136,8 @@ module _ (m : Meaning) (old : List Reader) (fresh : All IsFresh old) (out told h
     ends = ends;
     untouched = λ q other. refl;
     true_so_far = λ w agrees. record { rest = m.out w; is = refl };
-    told = λ q failed clean. absurd (none_failed old (fresh_all old fresh) q failed);
-    sure = λ q failed clean. absurd (none_failed old (fresh_all old fresh) q failed);
+    told = λ q failed clean. absurd (none_failed old q failed);
+    sure = λ q failed clean. absurd (none_failed old q failed);
     bounded = λ w agrees. omega (arith, none);
   }
 
@@ -157,7 +157,7 @@ only_said text is old fresh out told heard status fine tells status_is =
         out = λ w agrees. refl;
         written = fine;
         roomy = refl;
-        read = λ q. ⊎_elim (λ failed. none_failed old (fresh_all old fresh) q failed) (λ long. nothing_long old (fresh_all old fresh) q long);
+        read = λ q. ⊎_elim (λ failed. none_failed old q failed) (λ long. nothing_long old (fresh_all old fresh) q long);
       },
       λ w agrees. (refl, status_is),
     )
@@ -175,10 +175,10 @@ named_of m old new was is is' told heard before store went ended k f = by_fault 
 
 module _ (m : Meaning) (old new : List Reader) (was is is' : Output) (told heard : SinkState) (before store : Slots) (went ended : Result Done FlowFault) (out : SinkState) (o : Outcome)
     (k : Went m old new was is told heard before store went) (f : Finishes is is' went ended) (says : Tells heard o.messages (last_words m.tool m.names ended)) (status_is : o.status ≡ status_after ended)
-    (made : was ≡ record { taken = out.taken; failed = out.failed; staged = []; faulted = false }) (unfailed : out.failed ≡ false) (last_taken : o.out.taken ≡ is'.taken) (last_failed : o.out.failed ≡ is'.failed)
+    (made : was ≡ record { taken = out.taken; staged = []; faulted = false }) (last_taken : o.out.taken ≡ is'.taken) (last_failed : o.out.failed ≡ is'.faulted)
     (low : before.peak ≡ 0) (peak_is : o.peak ≡ store.peak) (denied_is : o.denied ≡ store.denied) where
   wrote_all : (b : Bool) → is.faulted ≡ b → Wrote was is' k.pushed
-  wrote_all true faulted = subst (λ (o : Output). Wrote was o k.pushed) (sym (f.stays faulted)) k.wrote
+  wrote_all true faulted = subst (λ (o : Output). Wrote was o k.pushed) (sym (f.wrote.stays faulted)) k.wrote
   wrote_all false clean = subst (λ (l : List ℕ). Wrote was is' l) (append-nil k.pushed) (wrote_trans was is is' k.pushed [] clean k.wrote f.wrote)
 
   wrote : Wrote was is' k.pushed
@@ -193,17 +193,6 @@ module _ (m : Meaning) (old new : List Reader) (was is is' : Output) (told heard
     is = b.is ∙ ap (λ (l : List ℕ). l ++ b.rest) reached.split ∙ append_assoc reached.front reached.rest b.rest;
   }
 
-  -- the sink has failed exactly where the block is at fault
-  not_faulted : o.out.failed ≡ false → is'.faulted ≡ false
-  not_faulted fine = by_fault is'.faulted refl
-    where
-      by_fault : (b : Bool) → is'.faulted ≡ b → is'.faulted ≡ false
-      by_fault true faulted = absurd (false≢true (sym (sym last_failed ∙ fine) ∙ wrote.cause faulted))
-      by_fault false clean = clean
-
-  not_failed : is'.faulted ≡ false → o.out.failed ≡ false
-  not_failed clean = last_failed ∙ wrote.no_cause clean ∙ ap (λ (o : Output). o.failed) made ∙ unfailed
-
   all_front : is'.faulted ≡ false → reached.front ≡ k.pushed
   all_front clean = sym (reached.split ∙ ap (λ (l : List ℕ). reached.front ++ l) (reached.whole clean (f.clean clean).1) ∙ append-nil reached.front)
 
@@ -212,10 +201,10 @@ module _ (m : Meaning) (old new : List Reader) (was is is' : Output) (told heard
 
   record Ending : Type 0 where
     fault : Option FlowFault
-    ends : EndsAs m k.received new reached.front (k.said ++ last) o k.behind fault
-    told_read : (place : ℕ) → HasFailed new place → o.out.failed ≡ false → fault ≡ Some (Read place)
+    ends : EndsAs m k.received old new reached.front (k.said ++ last) o k.behind fault
+    told_read : (place : ℕ) → HasFailed old new place → o.out.failed ≡ false → fault ≡ Some (Read place)
 
-  stopped : (fault : FlowFault) → ended ≡ Err fault → Cause m k.received new o.out.failed o.denied k.behind fault → ((place : ℕ) → HasFailed new place → o.out.failed ≡ false → ended ≡ Err (Read place)) → Ending
+  stopped : (fault : FlowFault) → ended ≡ Err fault → Cause m k.received old new o.out.failed o.denied k.behind fault → ((place : ℕ) → HasFailed old new place → o.out.failed ≡ false → ended ≡ Err (Read place)) → Ending
   stopped fault is_err cause reads = record {
     fault = Some fault;
     ends = record {
@@ -230,14 +219,14 @@ module _ (m : Meaning) (old new : List Reader) (was is is' : Output) (told heard
       same_fault : (a b : FlowFault) → (let r : Result Done FlowFault = Err a in r ≡ Err b) → Some a ≡ Some b
       same_fault a b same = cc
 
-  clean_ending : (r : Result Done FlowFault) → went ≡ r → WentTo m k.received new k.pushed is.faulted store.denied k.behind r → is'.faulted ≡ false → Ending
+  clean_ending : (r : Result Done FlowFault) → went ≡ r → WentTo m k.received old new k.pushed is.faulted store.denied k.behind r → is'.faulted ≡ false → Ending
   clean_ending (Ok done) is_ok e clean = record {
     fault = None;
     ends = (
       record {
         all = e.0.all;
         out = λ w agrees. all_front clean ∙ e.0.out w agrees;
-        written = not_failed clean;
+        written = last_failed ∙ clean;
         roomy = denied_is ∙ e.0.roomy;
         read = e.0.read;
       },
@@ -253,12 +242,12 @@ module _ (m : Meaning) (old new : List Reader) (was is is' : Output) (told heard
       same = (f.clean clean).0 ∙ is_ok
   clean_ending (Err fault) is_err e clean =
       stopped fault ((f.clean clean).0 ∙ is_err)
-      (subst (λ (b : Bool). Cause m k.received new b o.denied k.behind fault) ((f.clean clean).2 ∙ sym (not_failed clean)) (subst (λ (b : Bool). Cause m k.received new is.faulted b k.behind fault) (sym denied_is) e))
+      (subst (λ (b : Bool). Cause m k.received old new b o.denied k.behind fault) ((f.clean clean).2 ∙ sym (last_failed ∙ clean)) (subst (λ (b : Bool). Cause m k.received old new is.faulted b k.behind fault) (sym denied_is) e))
       (λ place failed fine. (f.clean clean).0 ∙ k.told_read place failed (f.clean clean).2)
 
   ending : (b : Bool) → is'.faulted ≡ b → Ending
   ending true faulted =
-      stopped Write (f.broken faulted) (last_failed ∙ wrote.cause faulted) (λ place failed fine. absurd (false≢true (sym (not_faulted fine) ∙ faulted)))
+      stopped Write (f.broken faulted) (last_failed ∙ faulted) (λ place failed fine. absurd (false≢true (sym (sym last_failed ∙ fine) ∙ faulted)))
   ending false clean = clean_ending went refl k.ends clean
 
   pub run_of : IsRun m old new (sinks out told) o
@@ -275,6 +264,6 @@ module _ (m : Meaning) (old new : List Reader) (was is is' : Output) (told heard
     untouched = k.untouched;
     true_so_far = begins;
     told = e.told_read;
-    sure = λ place failed fine. let clean = not_faulted fine in let b = k.sure place failed (f.clean clean).2 in record { rest = b.rest; is = all_front clean ∙ b.is };
+    sure = λ place failed fine. let clean = sym last_failed ∙ fine in let b = k.sure place failed (f.clean clean).2 in record { rest = b.rest; is = all_front clean ∙ b.is };
     bounded = λ w agrees. omega (arith, k.peak w agrees, low, peak_is);
   }

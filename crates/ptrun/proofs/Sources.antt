@@ -9,7 +9,8 @@ use Rattle.std.proofs.lemmas.List.Folds.{list_any-append}
 use Rattle.std.proofs.lemmas.Bool.Decides.{nat_tests, eqb_tells}
 use Rattle.ptlines.specs.Inputs.{Given, nothing_left}
 use Rattle.ptrun.specs.Worlds.{World, Received, at, is_in, found, founds, opened, sources}
-use Rattle.ptrun.specs.Operands.{Tool, largest, up_to_open}
+use Rattle.ptflow.specs.Tools.{Tool}
+use Rattle.ptrun.specs.Operands.{largest, up_to_open}
 use Rattle.ptrun.specs.Meanings.{unopened}
 use Rattle.ptrun.specs.Messages.{not_opened, name_of}
 

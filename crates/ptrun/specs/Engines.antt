@@ -52,7 +52,6 @@ pub record Finishes (old new : Output) (went ended : Result Done FlowFault) : Ty
   pub wrote : Wrote old new []
   pub clean : new.faulted ≡ false → (ended ≡ went) × (new.staged ≡ []) × (old.faulted ≡ false)
   pub broken : new.faulted ≡ true → ended ≡ Err Write
-  pub stays : old.faulted ≡ true → new ≡ old
 
 -- ---- a tool over all its inputs
 
@@ -62,13 +61,15 @@ blame p (Read place) = Read p
 blame p Write = Write
 blame p Memory = Memory
 
-abbrev pub WentTo : Meaning → Received → List Reader → List ℕ → Bool → Bool → ℕ → Result Done FlowFault → Type 0
-WentTo m r new pushed failed denied n (Ok done) =
-    IsWhole m r new pushed failed denied n × ((w : World) → Allows r w → (last_words m.tool m.names (Ok done) ≡ m.closing w) × (status_after (Ok done) ≡ m.status w))
-WentTo m r new pushed failed denied n (Err fault) = Cause m r new failed denied n fault
+abbrev pub WentTo : Meaning → Received → List Reader → List Reader → List ℕ → Bool → Bool → ℕ → Result Done FlowFault → Type 0
+WentTo m r old new pushed failed denied n (Ok done) =
+    IsWhole m r old new pushed failed denied n
+    × ((w : World) → Allows r w → (last_words m.tool m.names (Ok done) ≡ m.closing w) × (status_after (Ok done) ≡ m.status w))
+WentTo m r old new pushed failed denied n (Err fault) = Cause m r old new failed denied n fault
 
 -- All of a run but its last words: what is staged is not yet sent.
-pub record Went (m : Meaning) (old new : List Reader) (was is : Output) (told heard : SinkState) (before store : Slots) (result : Result Done FlowFault) : Type 0 where
+pub record Went (m : Meaning) (old new : List Reader) (was is : Output) (told heard : SinkState)
+    (before store : Slots) (result : Result Done FlowFault) : Type 0 where
   pub received : Received
   pub came : IsReceived old new received
   pub pushed : List ℕ
@@ -78,10 +79,10 @@ pub record Went (m : Meaning) (old new : List Reader) (was is : Output) (told he
   pub said : List ℕ
   pub tells : Tells told heard said
   pub names : (w : World) → Allows received w → said ≡ named m w behind
-  pub ends : WentTo m received new pushed is.faulted store.denied behind result
+  pub ends : WentTo m received old new pushed is.faulted store.denied behind result
   pub place : IsWithin (length old) result
   pub untouched : (place : ℕ) → is_in (m.begun behind) place ≡ false → reader_at new place ≡ reader_at old place
   pub true_so_far : (w : World) → Allows received w → Begins pushed (m.out w)
-  pub told_read : (place : ℕ) → HasFailed new place → is.faulted ≡ false → result ≡ Err (Read place)
-  pub sure : (place : ℕ) → HasFailed new place → is.faulted ≡ false → Begins (m.decided received) pushed
+  pub told_read : (place : ℕ) → HasFailed old new place → is.faulted ≡ false → result ≡ Err (Read place)
+  pub sure : (place : ℕ) → HasFailed old new place → is.faulted ≡ false → Begins (m.decided received) pushed
   pub peak : (w : World) → Allows received w → store.peak ≤ max before.peak (m.bound w)

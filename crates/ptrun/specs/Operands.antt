@@ -1,21 +1,12 @@
 -- A tool that goes over its inputs one by one; those that could not be opened are named and passed over.
-use Rattle.std.specs.Prelude.{ℕ, ◌+◌, List, [], ◌∷◌, map, flat_map, max, take, if◌then◌else◌, codes}
+use Rattle.std.specs.Prelude.{ℕ, ◌+◌, List, [], ◌∷◌, map, flat_map, max, take, if◌then◌else◌}
 use Rattle.std.specs.List.{list_any}
-use Rattle.ptlines.specs.Text.{longest_line}
 use Rattle.ptlines.specs.Inputs.{Given, nothing_left}
-use Rattle.ptlangs.specs.Jobs.{Cut}
-use Rattle.ptlangs.specs.TrTables.{Tables}
 use Rattle.ptopts.specs.declared.inputs.Input.{Input}
 use Rattle.ptopts.specs.declared.inputs.Input.TheVariants.{Standard, File}
-use Rattle.ptflow.specs.Cuts.{cut, cut_decided}
-use Rattle.ptflow.specs.Translating.{tr, tr_decided}
+use Rattle.ptflow.specs.Tools.{Tool}
 use Rattle.ptrun.specs.Worlds.{World, Received, is_unopened, sources}
 use Rattle.ptrun.specs.Meanings.{Meaning}
-
-pub record Tool : Type 0 where
-  pub text : List ℕ → List ℕ
-  pub decided : Given → List ℕ
-  pub size : List ℕ → ℕ
 
 -- the inputs up to and with the first whose end was not said
 abbrev pub up_to_open : List Given → List Given
@@ -56,17 +47,3 @@ place (File index) = index + 1
 
 abbrev pub places : List Input → List ℕ
 places order = map place order
-
--- ---- the tools
-
-abbrev pub cut_tool : Cut → Tool
-cut_tool job = record { text = cut 10 job; decided = cut_decided 10 job; size = longest_line 10 }
-
-abbrev pub tr_tool : Tables → Tool
-tr_tool tables = record { text = tr tables; decided = tr_decided tables; size = λ bytes. 0 }
-
-abbrev pub cut_over : Cut → List (List ℕ) → List Input → Meaning
-cut_over job names order = one_by_one (codes "cut") (cut_tool job) names (places order)
-
-abbrev pub tr_over : Tables → List (List ℕ) → List Input → Meaning
-tr_over tables names order = one_by_one (codes "tr") (tr_tool tables) names (places order)

@@ -29,34 +29,39 @@ pub record Outcome : Type 0 where
   pub denied : Bool
 
 abbrev pub outcome : {W E : Type 0} → (W → SinkState) → (E → SinkState) → Report W E → Outcome
-outcome out messages r = record { out = out r.out; messages = messages r.messages; status = r.status; peak = r.peak; denied = r.denied }
+outcome out messages r =
+    record { out = out r.out; messages = messages r.messages; status = r.status; peak = r.peak; denied = r.denied }
 
 -- ---- how a run ended
 
 -- all was done
-pub record IsWhole (m : Meaning) (r : Received) (new : List Reader) (pushed : List ℕ) (failed denied : Bool) (behind : ℕ) : Type 0 where
+pub record IsWhole (m : Meaning) (r : Received) (old new : List Reader) (pushed : List ℕ)
+    (failed denied : Bool) (behind : ℕ) : Type 0 where
   pub all : behind ≡ length m.places
   pub out : (w : World) → Allows r w → pushed ≡ m.out w
   pub written : failed ≡ false
   pub roomy : denied ≡ false
-  pub read : (place : ℕ) → HasFailed new place ⊎ IsTooLong (at r place) → ⊥
+  pub read : (place : ℕ) → HasFailed old new place ⊎ IsTooLong (at r place) → ⊥
 
 -- The failure was one, and no other. A read failed at the place of the next operand, which is no earlier operand's.
-abbrev pub Cause : Meaning → Received → List Reader → Bool → Bool → ℕ → FlowFault → Type 0
-Cause m r new failed denied n (Read p) = (slice_get m.places n ≡ Some p) × (is_in (take n m.places) p ≡ false) × (HasFailed new p ⊎ IsTooLong (at r p)) × (failed ≡ false) × (denied ≡ false)
-Cause m r new failed denied n Write = failed ≡ true
-Cause m r new failed denied n Memory = (denied ≡ true) × (failed ≡ false)
+abbrev pub Cause : Meaning → Received → List Reader → List Reader → Bool → Bool → ℕ → FlowFault → Type 0
+Cause m r old new failed denied n (Read p) =
+    (slice_get m.places n ≡ Some p) × (is_in (take n m.places) p ≡ false) × (HasFailed old new p ⊎ IsTooLong (at r p)) × (failed ≡ false) × (denied ≡ false)
+Cause m r old new failed denied n Write = failed ≡ true
+Cause m r old new failed denied n Memory = (denied ≡ true) × (failed ≡ false)
 
 -- It stopped behind n operands: of those it had said what there is to say, and then it told the failure.
-pub record IsStopped (m : Meaning) (r : Received) (new : List Reader) (said : List ℕ) (o : Outcome) (n : ℕ) (fault : FlowFault) : Type 0 where
+pub record IsStopped (m : Meaning) (r : Received) (old new : List Reader) (said : List ℕ)
+    (o : Outcome) (n : ℕ) (fault : FlowFault) : Type 0 where
   pub within : n ≤ length m.places
   pub messages : (w : World) → Allows r w → said ≡ named m w n ++ failure m.tool m.names fault
-  pub cause : Cause m r new o.out.failed o.denied n fault
+  pub cause : Cause m r old new o.out.failed o.denied n fault
   pub status_is : o.status ≡ 1
 
-abbrev pub EndsAs : Meaning → Received → List Reader → List ℕ → List ℕ → Outcome → ℕ → Option FlowFault → Type 0
-EndsAs m r new written said o n None = IsWhole m r new written o.out.failed o.denied n × ((w : World) → Allows r w → (said ≡ messages m w) × (o.status ≡ m.status w))
-EndsAs m r new written said o n (Some fault) = IsStopped m r new said o n fault
+abbrev pub EndsAs : Meaning → Received → List Reader → List Reader → List ℕ → List ℕ → Outcome → ℕ → Option FlowFault → Type 0
+EndsAs m r old new written said o n None =
+    IsWhole m r old new written o.out.failed o.denied n × ((w : World) → Allows r w → (said ≡ messages m w) × (o.status ≡ m.status w))
+EndsAs m r old new written said o n (Some fault) = IsStopped m r old new said o n fault
 
 -- ---- a run
 
@@ -71,14 +76,14 @@ pub record IsRun (m : Meaning) (old new : List Reader) (before : Sinks) (o : Out
   -- how many operands were done, and what stopped it there
   pub behind : ℕ
   pub fault : Option FlowFault
-  pub ends : EndsAs m received new written said o behind fault
+  pub ends : EndsAs m received old new written said o behind fault
   -- no other inputs were touched
   pub untouched : (place : ℕ) → is_in (m.begun behind) place ≡ false → reader_at new place ≡ reader_at old place
   -- nothing is written that would have to be taken back
   pub true_so_far : (w : World) → Allows received w → Begins written (m.out w)
   -- a read that failed is told, and nothing decided is kept back
-  pub told : (place : ℕ) → HasFailed new place → o.out.failed ≡ false → fault ≡ Some (Read place)
-  pub sure : (place : ℕ) → HasFailed new place → o.out.failed ≡ false → Begins (m.decided received) written
+  pub told : (place : ℕ) → HasFailed old new place → o.out.failed ≡ false → fault ≡ Some (Read place)
+  pub sure : (place : ℕ) → HasFailed old new place → o.out.failed ≡ false → Begins (m.decided received) written
   pub bounded : (w : World) → Allows received w → o.peak ≤ m.bound w
 
 -- Where nothing failed, the run is what the world that the readers tell asks for.
@@ -90,7 +95,8 @@ pub record IsExact (m : Meaning) (w : World) (before : Sinks) (o : Outcome) : Ty
 
 abbrev pub Headline : Meaning → List Reader → List Reader → Sinks → Outcome → Type 0
 Headline m old new before o =
-    (w : World) → TellsWorld old w → ((place : ℕ) → HasFailed new place → ⊥) → o.out.failed ≡ false → o.denied ≡ false → IsExact m w before o
+    (w : World) → TellsWorld old w → ((place : ℕ) → HasFailed old new place → ⊥)
+    → o.out.failed ≡ false → o.denied ≡ false → IsExact m w before o
 
 -- nothing was written, and no memory was asked for
 abbrev pub IsQuiet : SinkState → Outcome → Type 0

@@ -68,14 +68,12 @@ CameAt old new (Some g) = (old.refused ≡ false) × Came old new g
 abbrev pub IsReceived : List Reader → List Reader → Received → Type 0
 IsReceived old new r = (place : ℕ) → CameAt (reader_at old place) (reader_at new place) (at r place)
 
--- nothing was read of it yet, and its lines end with newline
+-- nothing was read of it yet
 pub record IsNew (r : Reader) : Type 0 where
   pub held : r.held ≡ []
   pub ended : r.ended ≡ false
-  pub failed : r.failed ≡ false
   pub pulled : r.pulled ≡ 0
   pub fault : r.fault ≡ None
-  pub ending : r.ending ≡ 10
 
 -- opened and not yet read, or not opened
 abbrev pub IsFresh : Reader → Type 0
@@ -85,9 +83,10 @@ IsFresh r = r.refused ≡ false → IsNew r
 abbrev pub AreFresh : ℕ → List Reader → Type 0
 AreFresh files readers = (length readers ≡ files + 1) × All IsFresh readers
 
--- the source of a reader that was opened answered an error
-abbrev pub HasFailed : List Reader → ℕ → Type 0
-HasFailed readers place = ((reader_at readers place).refused ≡ false) × ((reader_at readers place).failed ≡ true)
+-- a read of an input that was opened has failed
+abbrev pub HasFailed : List Reader → List Reader → ℕ → Type 0
+HasFailed old new place =
+    ((reader_at old place).refused ≡ false) × ((reader_at old place).failed ≡ false) × ((reader_at new place).failed ≡ true)
 
 -- too much came of it
 abbrev pub IsTooLong : Option Given → Type 0

@@ -48,7 +48,8 @@ pub(crate) trait Engine<A: Allocator + Copy>: Drop {
         voice: &mut Voice<E>,
     ) -> Result<Done, FlowFault>
         requires { IsStart (meaning self.now) inputs.old out.old store.old }
-        ensures { Went (meaning self.now) inputs.old inputs.new out.old out.new voice.old voice.new store.old store.new result };
+        ensures { Went (meaning self.now) inputs.old inputs.new out.old out.new voice.old voice.new
+            store.old store.new result };
 }
 
 // Runs a tool.
@@ -61,7 +62,8 @@ pub(crate) fn run_engine<A: Allocator + Copy, G: Engine<A>, S: Source, R: Source
 ) -> Report<W, E>
     requires given { AreGiven (G.meaning engine.now) inputs.old }
     requires writable { (W.state out).failed ≡ false }
-    ensures { IsRun (G.meaning engine.now) inputs.old inputs.new (sinks (W.state out) voice) (outcome W.state E.state result) }
+    ensures { IsRun (G.meaning engine.now) inputs.old inputs.new (sinks (W.state out) voice)
+        (outcome W.state E.state result) }
 {
     let mut voice = voice;
     match Store::new(alloc, 0) {
@@ -102,7 +104,8 @@ fn conclude<A: Allocator + Copy, G: Engine<A>, E: Sink>(
     voice: &mut Voice<E>,
 ) -> u8
     requires { IsWithin (length (G.meaning engine.now).names + 1) ended }
-    ensures said { Tells voice.old voice.new (last_words (G.meaning engine.now).tool (G.meaning engine.now).names ended) }
+    ensures said { Tells voice.old voice.new
+        (last_words (G.meaning engine.now).tool (G.meaning engine.now).names ended) }
     ensures status { result ≡ status_after ended }
 {
     let tool = engine.tool();

@@ -2,7 +2,7 @@
 
 ghost use Rattle.std.specs.Prelude.{◌≡◌, ◌<◌, ◌+◌, ◌≤◌, false, length, All};
 ghost use Rattle.ptlines.specs.Slots.{total};
-ghost use Rattle.ptopts.specs.Answers.{words_seen};
+ghost use Rattle.ptopts.specs.Meant.{words_seen};
 ghost use Rattle.ptrun.specs.Engines.{blame, Went};
 ghost use Rattle.ptrun.specs.Worlds.{IsFresh};
 ghost use Rattle.ptrun.specs.Messages.{name_of};
@@ -24,10 +24,11 @@ pub(crate) struct InTurn<'a, A: Allocator + Copy, T: OneByOne<A>> {
 }
 
 impl<'a, A: Allocator + Copy, T: OneByOne<A>> Engine<A> for InTurn<'a, A, T> {
-    ghost use Rattle.ptopts.specs.Answers.{words_seen};
+    ghost use Rattle.ptopts.specs.Meant.{words_seen};
     ghost use Rattle.ptrun.specs.Operands.{places, one_by_one};
 
-    ghost meaning = { λ e. one_by_one (T.word e.tool) (T.tool e.tool) (words_seen e.operands.names.items) (places e.operands.order.items) };
+    ghost meaning = { λ e. one_by_one (T.word e.tool) (T.tool e.tool)
+        (words_seen e.operands.names.items) (places e.operands.order.items) };
 
     fn tool(&self) -> &str {
         self.tool.name()

@@ -32,7 +32,7 @@ pub(crate) fn report_of<A: Allocator + Copy, W: Sink, E: Sink>(
 ) -> Report<W, E>
     ensures store { (result.peak ≡ store.now.peak) × (result.denied ≡ store.now.denied) }
     ensures status { result.status ≡ status }
-    ensures out { ((W.state result.out).taken ≡ out.taken) × ((W.state result.out).failed ≡ out.failed) }
+    ensures out { ((W.state result.out).taken ≡ out.taken) × ((W.state result.out).failed ≡ out.faulted) }
     ensures messages { E.state result.messages ≡ voice }
 {
     Report {
@@ -46,7 +46,8 @@ pub(crate) fn report_of<A: Allocator + Copy, W: Sink, E: Sink>(
 
 // What is reported where nothing was read or written.
 pub(crate) fn quiet_report<W: Sink, E: Sink>(status: u8, out: W, voice: Voice<E>) -> Report<W, E>
-    ensures { outcome W.state E.state result ≡ record { out = W.state out; messages = voice; status = status; peak = 0; denied = false } }
+    ensures { outcome W.state E.state result
+        ≡ record { out = W.state out; messages = voice; status = status; peak = 0; denied = false } }
 {
     Report {
         status,

@@ -1,10 +1,9 @@
 //! The tools that go over their inputs one by one.
 
-ghost use Rattle.std.specs.Prelude.{◌≡◌, ℕ, List, true, false, None};
+ghost use Rattle.std.specs.Prelude.{◌≡◌, ℕ, List, true};
 ghost use Rattle.ptlines.specs.Inputs.{Given};
-ghost use Rattle.ptlines.specs.Slots.{total};
-ghost use Rattle.ptflow.specs.Runs.{IsRun};
-ghost use Rattle.ptrun.specs.Operands.{Tool};
+ghost use Rattle.ptflow.specs.Passes.{IsReady, IsPass};
+ghost use Rattle.ptflow.specs.Tools.{Tool};
 
 use ptflow::{FlowFault, cut, tr};
 use ptlangs::CharPlan;
@@ -30,14 +29,8 @@ pub(crate) trait OneByOne<A: Allocator + Copy>: Drop {
         store: &mut Store<A>,
         out: &mut Out<W>,
     ) -> Result<(), FlowFault>
-        requires opened { reader.old.refused ≡ false }
-        requires readable { reader.old.fault ≡ None }
-        requires unfailed { reader.old.failed ≡ false }
-        requires ending { reader.old.ending ≡ 10 }
-        requires writable { out.old.faulted ≡ false }
-        requires roomy { store.old.denied ≡ false }
-        requires empty { total store.old.lines ≡ 0 }
-        ensures { IsRun (tool self.now).text (tool self.now).decided (tool self.now).size reader.old reader.new out.old out.new store.old store.new result };
+        requires { IsReady reader.old store.old }
+        ensures { IsPass (tool self.now) reader.old reader.new out.old out.new store.old store.new result };
 
     /// Where the end of an input was said, all of it is decided.
     ghost all_decided: { (s : Self) (g : Given) → g.ended ≡ true → (tool s).decided g ≡ (tool s).text g.bytes };
@@ -46,7 +39,7 @@ pub(crate) trait OneByOne<A: Allocator + Copy>: Drop {
 impl<A: Allocator + Copy> OneByOne<A> for CutJob<A> {
     ghost use Rattle.std.specs.Prelude.{codes};
     ghost use Rattle.ptlangs.specs.Jobs.{cut_job};
-    ghost use Rattle.ptrun.specs.Operands.{cut_tool};
+    ghost use Rattle.ptflow.specs.Cuts.{cut_tool};
     ghost use Rattle.ptrun.specs.Laws.{cut_all_decided};
 
     ghost tool = { λ job. cut_tool (cut_job job) };
@@ -71,7 +64,7 @@ impl<A: Allocator + Copy> OneByOne<A> for CutJob<A> {
 
 impl<A: Allocator + Copy> OneByOne<A> for CharPlan {
     ghost use Rattle.std.specs.Prelude.{refl, codes};
-    ghost use Rattle.ptrun.specs.Operands.{tr_tool};
+    ghost use Rattle.ptflow.specs.Translations.{tr_tool};
 
     ghost tool = { tr_tool };
 

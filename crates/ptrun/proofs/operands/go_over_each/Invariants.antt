@@ -1,5 +1,5 @@
 use Rattle.std.proofs.Common.{take}
-use Rattle.ptopts.specs.Answers.{words_seen}
+use Rattle.ptopts.specs.Meant.{words_seen}
 use Rattle.ptrun.specs.Operands.{places}
 use Rattle.ptrun.proofs.InTurn.{Pass}
 use Rattle.ptrun.proofs.operands.go_over_each.Given as goal

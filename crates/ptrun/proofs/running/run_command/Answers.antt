@@ -1,16 +1,18 @@
 use Rattle.std.specs.Prelude.{codes}
 use Rattle.ptlangs.specs.Jobs.{cut_job}
-use Rattle.ptrun.specs.Operands.{cut_tool, tr_tool}
+use Rattle.ptflow.specs.Cuts.{cut_tool}
+use Rattle.ptflow.specs.Translations.{tr_tool}
+use Rattle.ptopts.specs.Meant.{words_seen}
 use Rattle.ptrun.proofs.Order.{given_of}
 use Rattle.ptrun.proofs.running.run_command.Goals as goal
 
 pub run_engine-requires-clause-given : goal.run_engine-requires-clause-given
 run_engine-requires-clause-given g c =
-    given_of (codes "cut") (cut_tool (cut_job c.in-Cut.tool)) c.args.inputs.now c.in-Cut.operands.names.items c.in-Cut.operands.order.items (rw c.in-Cut.is at c.requires.fresh) (rw c.in-Cut.is at c.requires.fits)
+    given_of (codes "cut") (cut_tool (cut_job c.in-Cut.tool)) c.args.inputs.now (words_seen c.in-Cut.operands.names.items) c.in-Cut.operands.order.items (rw c.in-Cut.is at c.requires.fresh) (rw c.in-Cut.is at c.requires.fits)
 
 pub run_engine-requires-in-Tr-clause-given : goal.run_engine-requires-in-Tr-clause-given
 run_engine-requires-in-Tr-clause-given g c =
-    given_of (codes "tr") (tr_tool c.in-Tr.tool) c.args.inputs.now c.in-Tr.operands.names.items c.in-Tr.operands.order.items (rw c.in-Tr.is at c.requires.fresh) (rw c.in-Tr.is at c.requires.fits)
+    given_of (codes "tr") (tr_tool c.in-Tr.tool) c.args.inputs.now (words_seen c.in-Tr.operands.names.items) c.in-Tr.operands.order.items (rw c.in-Tr.is at c.requires.fresh) (rw c.in-Tr.is at c.requires.fits)
 
 pub returns-in-Cut-clause-run : goal.returns-in-Cut-clause-run
 returns-in-Cut-clause-run g c = rw c.in-Cut.is c.run_engine.ensures
