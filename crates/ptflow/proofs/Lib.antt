@@ -3,7 +3,12 @@ pub mod Chosen
 pub mod Continuations
 pub mod CutLaws
 pub mod CutRests
+pub mod EndedLines
+pub mod FieldLines
+pub mod FieldPlaces
+pub mod FieldWalks
 pub mod LineLaws
+pub mod LineLemmas
 pub mod PassLemmas
 pub mod ReaderFacts
 pub mod SlotFacts
