@@ -2,7 +2,9 @@ pub mod BlockLemmas
 pub mod Chosen
 pub mod Continuations
 pub mod CutLaws
+pub mod CutLines
 pub mod CutRests
+pub mod CutRows
 pub mod EndedLines
 pub mod FieldLines
 pub mod FieldPlaces
@@ -13,3 +15,4 @@ pub mod PassLemmas
 pub mod ReaderFacts
 pub mod SlotFacts
 pub mod TrRests
+pub mod TrRows

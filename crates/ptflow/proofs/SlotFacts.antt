@@ -75,3 +75,12 @@ keeps_line width most before store new slot bytes k within fits is = record {
 
     others : total (drop width new.lines) ≡ 0
     others = ap (λ (s : Slots). total (drop width s.lines)) is ∙ ap total (drop-set-lt width store.lines slot bytes within) ∙ k.others
+
+-- the only slot was emptied
+pub emptied : (store new : Slots) → 0 < length store.lines → new ≡ with_line store 0 [] → total (drop 1 new.lines) ≡ 0 → total new.lines ≡ 0
+emptied store new some is others = omega (arith, kept_total 1 0 new.lines short others)
+  where
+    short : (k : ℕ) → k < 1 → length (get_or new.lines k []) ≤ 0
+    short k low =
+        let first : k ≡ 0 = omega arith in
+        omega (arith, ap length (ap (λ (s : Slots). get_or s.lines k []) is ∙ ap (λ (n : ℕ). get_or (set store.lines 0 []) n []) first ∙ get_or-set_same store.lines 0 [] [] some))

@@ -2,6 +2,7 @@
 
 ghost use Rattle.std.specs.Prelude.{◌≡◌, ◌<◌, ◌≤◌, ◌^◌, length, take, true, false, [], ◌∷◌, IfOk, OnOk, OnErr, MatchOption};
 ghost use Rattle.ptlines.specs.Outputs.{Wrote};
+ghost use Rattle.ptlines.specs.Readers.{IsSound};
 ghost use Rattle.ptlines.specs.Text.{text, ended_lines};
 ghost use Rattle.ptlangs.specs.Jobs.{cut_job};
 ghost use Rattle.ptflow.specs.Cuts.{cut_lines, is_kept, cut_tool};
@@ -162,12 +163,13 @@ pub(crate) fn cut_by_fields<A: Allocator + Copy, S: Source, R: Source, W: Sink>(
 ) -> Result<(), FlowFault>
     requires by_fields { job.now.fields ≡ true }
     requires ending { reader.old.ending ≡ (cut_job job.now).end }
+    requires sound { IsSound reader.old }
     requires ready { IsReady reader.old store.old }
     requires clean { out.old.faulted ≡ false }
     ensures { IsPass (cut_tool (cut_job job.now)) reader.old reader.new out.old out.new store.old store.new result }
 {
-    let ending = reader.ending();
     need_slots(store, 1)?;
+    let ending = reader.ending();
     'turns: loop {
         match reader.fill(store, 0) {
             Ok(true) => push_kept(job, ending, store.line(0), out)?,
