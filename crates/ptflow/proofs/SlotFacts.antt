@@ -1,10 +1,10 @@
 -- What a tool that works line by line keeps in the store: in each of its slots a line at most, and in the others nothing.
-use Rattle.std.proofs.Common.{◌≡◌, ℕ, zero, suc, ◌+◌, ◌*◌, ◌<◌, ◌≤◌, false, true, List, [], ◌∷◌, length, take, drop, set, get_or, max, refl, sym, ◌∙◌, ap, arith, ⊎_elim, take-append-drop}
+use Rattle.std.proofs.Common.{◌≡◌, ℕ, zero, suc, ◌+◌, ◌*◌, ◌<◌, ◌≤◌, false, List, [], ◌∷◌, length, take, drop, set, get_or, max, sym, ◌∙◌, ap, arith, ⊎_elim, take-append-drop}
 use Rattle.std.proofs.Math.Nat.{mul-le-mul_left}
-use Rattle.std.proofs.lemmas.Bool.{cases_eq, false≢true}
+use Rattle.std.proofs.lemmas.Bool.{cases_eq}
 use Rattle.std.proofs.lemmas.List.{length-set, drop-set-lt, get_or-set_same, get_or-set_other}
 use Rattle.std.proofs.lemmas.List.Sums.{sum_by-cons, sum_by-append, get_or-le-sum_by}
-use Rattle.ptlines.specs.Slots.{Slots, line, total, with_line, with_denied}
+use Rattle.ptlines.specs.Slots.{Slots, total, with_line}
 use Rattle.ptflow.specs.Passes.{Adds}
 
 -- each of the first `width` slots holds at most `most` bytes, and the others hold nothing

@@ -2,11 +2,10 @@
 
 ghost use Rattle.std.specs.Prelude.{◌≡◌, ◌<◌, ◌≤◌, ◌+◌, ◌^◌, ℕ, length, true, false, None, [], ◌∷◌, OnOk, OnErr, IfOk, ◌==◌, if◌then◌else◌};
 ghost use Rattle.ptlines.specs.Outputs.{Wrote};
-ghost use Rattle.ptlines.specs.Slots.{Slots};
 ghost use Rattle.ptlangs.specs.CutLists.{AreApart};
 ghost use Rattle.ptlangs.specs.Jobs.{cut_job};
 ghost use Rattle.ptflow.specs.Cuts.{cut_tool};
-ghost use Rattle.ptflow.specs.Passes.{IsReady, IsPass};
+ghost use Rattle.ptflow.specs.Passes.{IsBarePass};
 ghost use Rattle.ptflow.specs.Workings.ByteRests.{rest_by};
 ghost use Rattle.ptflow.specs.Workings.Continuations.{Continues, Halts};
 ghost use Rattle.ptflow.specs.Workings.Pieces.{chosen_piece};
@@ -124,7 +123,7 @@ pub(crate) fn cut_by_bytes<A: Allocator + Copy, S: Source, R: Source, W: Sink>(
     requires ending { reader.old.ending ≡ (cut_job job.now).end }
     requires readable { reader.old.fault ≡ None }
     requires clean { out.old.faulted ≡ false }
-    ensures { (store : Slots) → IsReady reader.old store → IsPass (cut_tool (cut_job job.now)) reader.old reader.new out.old out.new store store result }
+    ensures { IsBarePass (cut_tool (cut_job job.now)) reader.old reader.new out.old out.new result }
 {
     let mut tool = ByteCut {
         selected: job.list.intervals(),

@@ -1,9 +1,8 @@
 //! `tr`.
 
 ghost use Rattle.std.specs.Prelude.{◌≡◌, ◌≢◌, ◌≤◌, ℕ, length, take, false, Err};
-ghost use Rattle.ptlines.specs.Slots.{Slots};
 ghost use Rattle.ptlangs.specs.TrTables.{deletes, squeezes};
-ghost use Rattle.ptflow.specs.Passes.{IsReady, IsPass, no_slots};
+ghost use Rattle.ptflow.specs.Passes.{IsReady, IsBarePass, no_slots};
 ghost use Rattle.ptflow.specs.Translations.{tr_tool};
 ghost use Rattle.ptflow.specs.Workings.TrRests.{tr_rest};
 
@@ -93,7 +92,14 @@ impl<'a> BlockTool for Translator<'a> {
     ghost Holds = { λ s t. (t.plan.now ≡ s.plan.now) × (t.deleting ≡ false → (b : ℕ) → deletes t.plan.now b ≡ false) × (t.squeezing ≡ false → (b : ℕ) → squeezes t.plan.now b ≡ false) };
 
     fn push_block<W: Sink>(&mut self, block: &[u8], out: &mut Out<W>) -> Result<(), WriteFault> {
-        let count = translate_by(self.plan, self.deleting, self.squeezing, self.last, block, &mut self.into);
+        let count = translate_by(
+            self.plan,
+            self.deleting,
+            self.squeezing,
+            self.last,
+            block,
+            &mut self.into,
+        );
         let written = &self.into[..count];
         out.push(written)?;
         self.last = written.last().copied().or(self.last);
@@ -119,7 +125,7 @@ pub fn tr<S: Source, R: Source, W: Sink>(
     out: &mut Out<W>,
 ) -> Result<(), FlowFault>
     requires { IsReady reader.old no_slots }
-    ensures pass { (store : Slots) → IsReady reader.old store → IsPass (tr_tool plan.now) reader.old reader.new out.old out.new store store result }
+    ensures pass { IsBarePass (tr_tool plan.now) reader.old reader.new out.old out.new result }
     ensures no_memory { result ≢ Err FlowFault.Memory }
 {
     if out.has_failed() {

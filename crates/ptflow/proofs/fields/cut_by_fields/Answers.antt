@@ -1,8 +1,5 @@
-use Rattle.std.proofs.Common.{◌≡◌, ℕ, [], ◌∷◌, length, take, max, refl, sym, ◌∙◌, ap, subst, arith}
-use Rattle.std.proofs.lemmas.List.{get_or-set_same}
-use Rattle.std.proofs.lemmas.List.Sums.{sum_by-cons}
+use Rattle.std.proofs.Common.{◌≡◌, ℕ, [], take, max, ◌∙◌, subst, arith}
 use Rattle.std.proofs.lemmas.Result.{err_from_is_err_and}
-use Rattle.ptlines.specs.Slots.{Slots, line}
 use Rattle.ptlines.specs.Text.{text, lines, ended_lines, longest, IsLine}
 use Rattle.ptlines.proofs.Pushed.{wrote_nothing}
 use Rattle.ptlangs.specs.Jobs.{cut_job}
@@ -115,6 +112,6 @@ turns-preserved g c =
     let passed = subst (λ (b : ℕ). take c.in_ok-count-in-Ok.count block ≡ text b (ended_lines b block)) end c.in_ok-count-in-Ok.ensures.passed in
     record {
       run = run_block (cut_from job) job.end tt tt c.args.reader.now c.fill.new.self c.args.out.now c.push_kept.new.out run c.block.follows.lender-at-none block shows.0 shows.1
-      tt c.consume.new.self c.push_lines.new.out c.in_ok-count-in-Ok.count c.in_ok-count-in-Ok.ensures.within passed c.consume.ensures.consumed more c.in_ok-count-in-Ok.ensures.clean;
+          tt c.consume.new.self c.push_lines.new.out c.in_ok-count-in-Ok.count c.in_ok-count-in-Ok.ensures.within passed c.consume.ensures.consumed more c.in_ok-count-in-Ok.ensures.clean;
       keeps = keeps_passed (cut_from job) job.end tt tt c.args.reader.now c.fill.new.self c.args.out.now c.push_kept.new.out run c.block.follows.lender-at-none block shows.0 shows.1 1 c.args.store.now c.fill.new.store kept;
     }
