@@ -2,9 +2,7 @@
 
 ghost use Rattle.std.specs.Prelude.{◌≡◌, ◌<◌, ◌≤◌, ◌+◌, ◌^◌, ℕ, List, [], length, false, true, None, OnOk, OnErr};
 ghost use Rattle.ptlines.specs.Outputs.{Wrote};
-ghost use Rattle.ptflow.specs.Passes.{IsBarePass};
-ghost use Rattle.ptflow.specs.Tools.{Tool};
-ghost use Rattle.ptflow.specs.Workings.Blocks.{IsBlockTool};
+ghost use Rattle.ptflow.specs.Workings.Blocks.{GoesOver};
 ghost use Rattle.ptflow.specs.Workings.Continuations.{Continues, Halts};
 
 use crate::faults::FlowFault;
@@ -52,7 +50,7 @@ pub(crate) fn over_blocks<T: BlockTool, S: Source, R: Source, W: Sink>(
     requires holds { T.Holds tool.old tool.old }
     requires readable { reader.old.fault ≡ None }
     requires clean { out.old.faulted ≡ false }
-    ensures { (t : Tool) → IsBlockTool t T.rest T.Holds tool.old → IsBarePass t reader.old reader.new out.old out.new result }
+    ensures { GoesOver T.rest T.Holds tool.old reader.old reader.new out.old out.new result }
 {
     'turns: loop {
         let count = match reader.block() {

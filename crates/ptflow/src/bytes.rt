@@ -62,8 +62,8 @@ fn push_pieces<W: Sink>(
     requires apart { AreApart 0 selected.now }
     requires short { before + length block.now < 2 ^ 63 }
     requires clean { out.old.faulted ≡ false }
-    ensures continues { IfOk result (λ after. Continues (rest_by ending selected.now) before after block.now out.old out.new) }
-    ensures bound { IfOk result (λ after. after ≤ before + length block.now) }
+    ensures continues { IfOk result (λ n. Continues (rest_by ending selected.now) before n block.now out.old out.new) }
+    ensures bound { IfOk result (λ n. n ≤ before + length block.now) }
     ensures halts { OnErr result (Halts (rest_by ending selected.now) before block.now out.old out.new) }
     ensures clean { OnOk result (out.new.faulted ≡ false) }
     ensures fault { OnErr result (out.new.faulted ≡ true) }

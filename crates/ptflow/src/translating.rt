@@ -4,7 +4,7 @@ ghost use Rattle.std.specs.Prelude.{◌≡◌, ◌≢◌, ◌≤◌, ℕ, length
 ghost use Rattle.ptlangs.specs.TrTables.{deletes, squeezes};
 ghost use Rattle.ptflow.specs.Passes.{IsReady, IsBarePass, no_slots};
 ghost use Rattle.ptflow.specs.Translations.{tr_tool};
-ghost use Rattle.ptflow.specs.Workings.TrRests.{tr_rest};
+ghost use Rattle.ptflow.specs.Workings.TrRests.{Covers, tr_rest};
 
 use crate::blocks::{BlockTool, over_blocks};
 use crate::faults::FlowFault;
@@ -24,8 +24,8 @@ fn translate(
     block: &[u8],
     into: &mut [u8; 8192],
 ) -> usize
-    requires deleting { deleting ≡ false → (b : ℕ) → deletes plan.now b ≡ false }
-    requires squeezing { squeezing ≡ false → (b : ℕ) → squeezes plan.now b ≡ false }
+    requires deleting { Covers deleting (deletes plan.now) }
+    requires squeezing { Covers squeezing (squeezes plan.now) }
     requires room { length block.now ≤ 8192 }
     ensures written { take result into.new ≡ tr_rest plan.now last block.now }
     ensures within { result ≤ 8192 }
@@ -55,8 +55,8 @@ fn translate_by(
     block: &[u8],
     into: &mut [u8; 8192],
 ) -> usize
-    requires deleting { deleting ≡ false → (b : ℕ) → deletes plan.now b ≡ false }
-    requires squeezing { squeezing ≡ false → (b : ℕ) → squeezes plan.now b ≡ false }
+    requires deleting { Covers deleting (deletes plan.now) }
+    requires squeezing { Covers squeezing (squeezes plan.now) }
     requires room { length block.now ≤ 8192 }
     ensures written { take result into.new ≡ tr_rest plan.now last block.now }
     ensures within { result ≤ 8192 }
@@ -81,15 +81,15 @@ struct Translator<'a> {
 }
 
 impl<'a> BlockTool for Translator<'a> {
-    ghost use Rattle.std.specs.Prelude.{◌≡◌, ℕ, false};
+    ghost use Rattle.std.specs.Prelude.{◌≡◌};
     ghost use Rattle.ptlangs.specs.TrTables.{deletes, squeezes};
-    ghost use Rattle.ptflow.specs.Workings.TrRests.{tr_rest};
+    ghost use Rattle.ptflow.specs.Workings.TrRests.{Covers, tr_rest};
 
     ghost rest = { λ t. tr_rest t.plan.now t.last };
 
     ghost counted = { λ t. 0 };
 
-    ghost Holds = { λ s t. (t.plan.now ≡ s.plan.now) × (t.deleting ≡ false → (b : ℕ) → deletes t.plan.now b ≡ false) × (t.squeezing ≡ false → (b : ℕ) → squeezes t.plan.now b ≡ false) };
+    ghost Holds = { λ s t. (t.plan.now ≡ s.plan.now) × Covers t.deleting (deletes t.plan.now) × Covers t.squeezing (squeezes t.plan.now) };
 
     fn push_block<W: Sink>(&mut self, block: &[u8], out: &mut Out<W>) -> Result<(), WriteFault> {
         let count = translate_by(
