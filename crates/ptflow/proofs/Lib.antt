@@ -2,9 +2,17 @@ pub mod BlockLemmas
 pub mod Chosen
 pub mod Continuations
 pub mod CutLaws
+pub mod CutLines
 pub mod CutRests
+pub mod CutRows
+pub mod EndedLines
+pub mod FieldLines
+pub mod FieldPlaces
+pub mod FieldWalks
 pub mod LineLaws
+pub mod LineLemmas
 pub mod PassLemmas
 pub mod ReaderFacts
 pub mod SlotFacts
 pub mod TrRests
+pub mod TrRows

@@ -3,5 +3,6 @@ pub mod Blocks
 pub mod ByteRests
 pub mod Continuations
 pub mod FieldPlaces
+pub mod FieldRests
 pub mod Pieces
 pub mod TrRests
