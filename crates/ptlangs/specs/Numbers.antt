@@ -2,6 +2,7 @@
 use Rattle.std.specs.Prelude.{ℕ, ◌==◌, ◌||◌, ◌&&◌, List, [], ◌∷◌, ◌++◌, ◌≡◌, Bool, true, false, not, Option, Some, None, Result, Ok, Err, if◌then◌else◌, nat_le}
 use Rattle.std.specs.Char.{is_ascii_digit}
 use Rattle.std.specs.List.{list_all, slice_split}
+use Rattle.std.specs.Result.{result_map_both}
 use Rattle.std.specs.Str.Parse.{digits_value}
 use Rattle.std.specs.Str.{byte}
 
@@ -37,8 +38,7 @@ and_then (Ok x) f = f x
 and_then (Err e) f = Err e
 
 abbrev pub put_first : {A E : Type 0} → A → Result (List A) E → Result (List A) E
-put_first x (Ok xs) = Ok (x ∷ xs)
-put_first x (Err e) = Err e
+put_first {A} {E} x r = result_map_both (λ (xs : List A). x ∷ xs) (λ (e : E). e) r
 
 -- each item read; the first faulty one decides
 abbrev pub each : {A B E : Type 0} → (A → Result B E) → List A → Result (List B) E

@@ -1,5 +1,5 @@
 -- The parts of a string of `tr`, over its units.
-use Rattle.std.specs.Prelude.{◌≡◌, ◌↔◌, ◌≤◌, ℕ, zero, suc, ◌-◌, ◌==◌, List, [], ◌∷◌, ◌++◌, Bool, false, Option, Some, None, Result, Ok, Err, if◌then◌else◌, nat_le, nat_lt, map, length, drop, option_map, IsTrue}
+use Rattle.std.specs.Prelude.{◌≡◌, ◌↔◌, ◌≤◌, ◌<◌, ℕ, zero, suc, ◌-◌, ◌==◌, List, [], ◌∷◌, ◌++◌, Bool, false, Option, Some, None, Result, Ok, Err, if◌then◌else◌, nat_le, nat_lt, map, length, drop, option_map, IsTrue}
 use Rattle.std.specs.List.{list_all}
 use Rattle.std.specs.Option.{option_and_then, option_or}
 use Rattle.std.specs.Char.{is_ascii_digit, is_ascii_lowercase}
@@ -52,6 +52,14 @@ pub data Begins : List SetUnit → Part → List SetUnit → Type 0 where
   ARange : (u v : SetUnit) (a b : ℕ) (rest : List SetUnit) → ¬ OpensForm (u ∷ Plain (byte "-") ∷ v ∷ rest) → Means u a → Means v b → a ≤ b
       → Begins (u ∷ Plain (byte "-") ∷ v ∷ rest) (Range a b) rest
   Alone : (u : SetUnit) (a : ℕ) (rest : List SetUnit) → ¬ OpensForm (u ∷ rest) → ¬ DashFollows rest → Means u a → Begins (u ∷ rest) (Single a) rest
+
+-- the units begin with no part, for this fault
+pub data BeginsFaulty : List SetUnit → SetFaultKind → Type 0 where
+  AFaultyUnit : (k : SetFaultKind) (rest : List SetUnit) → BeginsFaulty (Faulty k ∷ rest) k
+  AFaultyEnd : (u : SetUnit) (a : ℕ) (k : SetFaultKind) (rest : List SetUnit) → ¬ OpensForm (u ∷ Plain (byte "-") ∷ Faulty k ∷ rest) → Means u a
+      → BeginsFaulty (u ∷ Plain (byte "-") ∷ Faulty k ∷ rest) k
+  ADescendingRange : (u v : SetUnit) (a b : ℕ) (rest : List SetUnit) → ¬ OpensForm (u ∷ Plain (byte "-") ∷ v ∷ rest) → Means u a → Means v b → b < a
+      → BeginsFaulty (u ∷ Plain (byte "-") ∷ v ∷ rest) Descending
 
 -- the units are these parts in order
 abbrev pub AreParts : List SetUnit → List Part → Type 0

@@ -5,7 +5,8 @@ use Rattle.std.proofs.lemmas.Bool.{cases_Bool, cases_eq, eq-eqb, ne_eqb}
 use Rattle.std.proofs.lemmas.List.{map-append}
 use Rattle.ptopts.specs.declared.reading.GivenOption as given
 use Rattle.ptopts.specs.declared.tool.Tool.{Tool}
-use Rattle.ptopts.specs.Words.{is_flag, takes_value, is_empty, GivenOption, flag, Event, Given, Stranger, valued_event, events_in, events_of, takes_next}
+use Rattle.ptlangs.specs.Numbers.{is_empty}
+use Rattle.ptopts.specs.Words.{is_flag, takes_value, GivenOption, flag, Event, Given, Stranger, valued_event, events_in, events_of, takes_next}
 use Rattle.ptopts.specs.Faults.{Fault, event_fault, reading_fault}
 use Rattle.ptopts.specs.Steps.{options_among, option_seen, options_seen, ReadsGroup}
 
