@@ -4,7 +4,6 @@ use Rattle.std.specs.Prelude.{nat_le}
 use Rattle.std.proofs.lemmas.Bool.{cases_order}
 use Rattle.std.proofs.lemmas.Bool.Decides.{nat_tests}
 use Rattle.std.proofs.lemmas.List.{append-nil, take_all, drop_all, take-take, drop-take, drop_more, length-take-le, take-append-drop, drop-append-le}
-use Rattle.std.proofs.lemmas.Bool.{false≢true}
 use Rattle.ptlines.proofs.Pushed.{wrote_nothing, wrote_trans, wrote_past}
 use Rattle.ptlangs.specs.CutLists.{is_selected, AreApart}
 use Rattle.ptlangs.specs.declared.ranges.Interval.{Interval}
@@ -102,7 +101,7 @@ pub record Choosing (all others : List Interval) (n : ℕ) (piece : List ℕ) (w
 pub choosing_starts : (all : List Interval) (n : ℕ) (piece : List ℕ) (was : Output) → was.faulted ≡ false → AreApart 0 all → Choosing all all n piece was was
 choosing_starts all n piece was clean apart = record {
   pushed = [];
-  wrote = wrote_nothing was (λ fault. absurd (false≢true (sym clean ∙ fault)));
+  wrote = wrote_nothing was;
   clean = clean;
   split = refl;
   low = 0;

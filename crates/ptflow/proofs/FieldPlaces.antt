@@ -10,7 +10,7 @@ use Rattle.memchr.specs.Find.{IsFirstByte, is_byte}
 use Rattle.ptlines.specs.Text.{IsLine}
 use Rattle.ptlines.proofs.TextLaws.{same_byte, other_byte}
 use Rattle.ptlines.proofs.Scanned.{before_end, drop_end}
-use Rattle.ptflow.specs.FieldPlaces.{fields, led, StartsAt}
+use Rattle.ptflow.specs.Workings.FieldPlaces.{fields, led, StartsAt}
 
 module _ (d : ℕ) where
   -- the fields in front of a delimiter, and those behind it

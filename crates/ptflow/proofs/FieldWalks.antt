@@ -1,12 +1,11 @@
 -- The selected fields of a line, which is walked once.
 use Rattle.std.proofs.Common.{◌≡◌, ℕ, zero, suc, ◌+◌, ◌-◌, ◌≤◌, true, false, List, [], ◌∷◌, ◌++◌, length, take, drop, refl, sym, ◌∙◌, ap, subst, arith, append_assoc, length-drop, take-append-drop}
-use Rattle.std.proofs.lemmas.Bool.{false≢true}
 use Rattle.std.proofs.lemmas.List.{append-nil, take_all, drop_all, drop-drop, drop-take, drop-append-le, length-take-le}
 use Rattle.ptlines.specs.Outputs.{Output, Wrote}
 use Rattle.ptlines.proofs.Pushed.{wrote_nothing, wrote_trans, wrote_past}
 use Rattle.ptlangs.specs.CutLists.{is_selected, AreApart}
 use Rattle.ptlangs.specs.declared.ranges.Interval.{Interval}
-use Rattle.ptflow.specs.FieldPlaces.{fields, led, StartsAt}
+use Rattle.ptflow.specs.Workings.FieldPlaces.{fields, led, StartsAt}
 use Rattle.ptflow.proofs.Chosen.{chosen, not_selected, chosen_none, chosen_first, chosen_slice, chosen_skip}
 use Rattle.ptflow.proofs.FieldPlaces.{led-append, led_fields}
 
@@ -32,7 +31,7 @@ pub record Walking (d : ℕ) (all others : List Interval) (line : List ℕ) (num
 pub walking_starts : (d : ℕ) (all : List Interval) (line : List ℕ) (was : Output) → was.faulted ≡ false → AreApart 0 all → Walking d all all line 1 0 0 was was
 walking_starts d all line was clean apart = record {
   pushed = [];
-  wrote = wrote_nothing was (λ fault. absurd (false≢true (sym clean ∙ fault)));
+  wrote = wrote_nothing was;
   clean = clean;
   split = refl;
   fits = omega arith;

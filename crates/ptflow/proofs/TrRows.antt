@@ -5,7 +5,7 @@ use Rattle.ptlangs.specs.declared.plan.Form.TheVariants.{Translate, TranslateSqu
 use Rattle.ptlangs.specs.TrClasses.{all_bytes}
 use Rattle.ptlangs.specs.TrPlan.{Plan, plan}
 use Rattle.ptlangs.specs.TrTables.{tables}
-use Rattle.ptflow.specs.Translating.{tr}
+use Rattle.ptflow.specs.Translations.{tr}
 
 -- what `tr` writes of some bytes
 abbrev run : Result Plan SetFault → List ℕ → Option (List ℕ)

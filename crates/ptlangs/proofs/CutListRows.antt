@@ -1,6 +1,7 @@
 -- Worked lists.
 use Rattle.std.proofs.Common.{◌≡◌, ℕ, [], ◌∷◌, refl, codes, Ok, Err}
-use Rattle.ptlangs.specs.CutLists.{cut_list, Empty, Zero, Descending, TooLarge, Malformed}
+use Rattle.ptlangs.specs.declared.ranges.ListFault.TheVariants.{Empty, Zero, Descending, TooLarge, Malformed}
+use Rattle.ptlangs.specs.CutLists.{cut_list}
 use Rattle.ptlangs.specs.declared.ranges.Interval.{Interval}
 
 abbrev from_to : ℕ → ℕ → Interval

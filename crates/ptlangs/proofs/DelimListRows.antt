@@ -1,6 +1,7 @@
 -- Worked lists of `paste`.
 use Rattle.std.proofs.Common.{◌≡◌, [], ◌∷◌, refl, codes, Some, None, Ok, Err}
-use Rattle.ptlangs.specs.DelimLists.{delim_list, delim_at, Empty, Escape}
+use Rattle.ptlangs.specs.declared.delims.DelimFault.TheVariants.{Empty, Escape}
+use Rattle.ptlangs.specs.DelimLists.{delim_list, delim_at}
 
 nothing_and_a_comma : delim_list (codes "\\0,") ≡ Ok (None ∷ Some 44 ∷ [])
 nothing_and_a_comma = refl

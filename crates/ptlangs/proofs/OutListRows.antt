@@ -1,6 +1,7 @@
 -- Worked output lists.
 use Rattle.std.proofs.Common.{◌≡◌, [], ◌∷◌, refl, codes, Some, None, Ok, Err}
-use Rattle.ptlangs.specs.OutLists.{out_list, field_at, Empty, Malformed, Zero, TooLarge}
+use Rattle.ptlangs.specs.declared.outlist.OutFault.TheVariants.{Empty, Malformed, Zero, TooLarge}
+use Rattle.ptlangs.specs.OutLists.{out_list, field_at}
 use Rattle.ptlangs.specs.declared.outlist.File.TheVariants.{First, Second}
 use Rattle.ptlangs.specs.declared.outlist.OutField.TheVariants.{Join, Field}
 

@@ -1,7 +1,7 @@
 //! The list of `paste`: what stands between the columns of a line.
-ghost use Rattle.std.specs.Prelude.{◌≡◌, ◌<◌, [], ◌∷◌, length, IfOk, MatchResult};
-ghost use Rattle.ptlangs.specs.Answers.{Gives, IsFault};
-ghost use Rattle.ptlangs.specs.DelimLists.{AcceptsTheGrammar, fault_meant, escape, delims, delim_list, delim_at};
+ghost use Rattle.std.specs.Prelude.{◌≡◌, ◌<◌, [], ◌∷◌, length, Err, IfOk, MatchResult};
+ghost use Rattle.ptlangs.specs.Answers.{Gives};
+ghost use Rattle.ptlangs.specs.DelimLists.{AcceptsTheGrammar, fault_of, escape, delims, delim_list, delim_at};
 ghost use Rattle.ptlangs.specs.Numbers.{put_first};
 
 use std::alloc::{AllocError, AllocFailed, Allocator, Global};
@@ -11,11 +11,11 @@ use std::marker::Model;
 #[derive(Clone, Copy, Debug, PartialEq, Eq)]
 pub enum DelimFault {
     /// The list is empty.
-    Empty,
+    Empty = 1,
     /// A backslash stands at the end, or before a byte that is none of `n`, `t`, `\` and `0`.
-    Escape,
+    Escape = 2,
     /// A growth of memory was refused.
-    Memory,
+    Memory = 3,
 }
 
 impl From<AllocError> for DelimFault {
@@ -65,7 +65,7 @@ impl<A: Allocator> Delims<A> {
     ///
     /// The fault of the first faulty element, or `Memory`.
     pub fn read(alloc: A, text: &[u8]) -> Result<Delims<A>, DelimFault>
-        ensures { Gives (λ d. d) fault_meant result (delim_list text.now) }
+        ensures { Gives (λ d. d) fault_of result (delim_list text.now) }
     {
         let mut kept = Vec::new(alloc);
         let mut left = text;
@@ -109,7 +109,7 @@ pub fn accepts_the_grammar()
 
 /// The first delimiter of a list, and what stands behind it.
 fn first_delim(text: &[u8]) -> Result<(Option<u8>, &[u8]), DelimFault>
-    ensures first { MatchResult result (λ found. delim_list text.now ≡ put_first found.0 (delims found.1.now)) (λ fault. IsFault (fault_meant fault) (delim_list text.now)) }
+    ensures first { MatchResult result (λ found. delim_list text.now ≡ put_first found.0 (delims found.1.now)) (λ fault. delim_list text.now ≡ Err fault) }
     ensures shorter { IfOk result (λ found. length found.1.now < length text.now) }
 {
     match text {
@@ -122,7 +122,7 @@ fn first_delim(text: &[u8]) -> Result<(Option<u8>, &[u8]), DelimFault>
 
 /// What a backslash and this byte stand for.
 fn escape(byte: u8) -> Result<Option<u8>, DelimFault>
-    ensures { Gives (λ d. d) fault_meant result (escape byte) }
+    ensures { result ≡ escape byte }
 {
     match byte {
         b'n' => Ok(Some(b'\n')),
@@ -130,95 +130,5 @@ fn escape(byte: u8) -> Result<Option<u8>, DelimFault>
         b'\\' => Ok(Some(b'\\')),
         b'0' => Ok(None),
         _ => Err(DelimFault::Escape),
-    }
-}
-
-#[cfg(test)]
-mod tests {
-    use super::*;
-    use crate::refusing::Refusing;
-    use std::test::Fail;
-
-    const ACCEPTED: &[(&[u8], &[Option<u8>])] = &[
-        (b",", &[Some(b',')]),
-        (b"\\0,", &[None, Some(b',')]),
-        (
-            b"\\n\\t\\\\\\0",
-            &[Some(b'\n'), Some(b'\t'), Some(b'\\'), None],
-        ),
-        (b"\\012", &[None, Some(b'1'), Some(b'2')]),
-        (b"\\\\n", &[Some(b'\\'), Some(b'n')]),
-        (b"\xff\n\0", &[Some(0xff), Some(b'\n'), Some(0)]),
-    ];
-
-    const REFUSED: &[(&[u8], DelimFault)] = &[
-        (b"", DelimFault::Empty),
-        (b"\\", DelimFault::Escape),
-        (b"a\\", DelimFault::Escape),
-        (b"\\\\\\", DelimFault::Escape),
-        (b"a\\q,", DelimFault::Escape),
-        (b"\\1", DelimFault::Escape),
-        (b"\\\n", DelimFault::Escape),
-    ];
-
-    #[test]
-    fn keeps_the_delimiters(rt: HostRuntime) -> Result<(), Fail> {
-        for (list, delims) in ACCEPTED {
-            let read = Delims::read(rt.alloc(), list)?;
-            assert_eq!(rt; read.kept.as_slice(), *delims);
-        }
-        Ok(())
-    }
-
-    #[test]
-    fn refuses_by_the_first_faulty_element(rt: HostRuntime) {
-        for (list, fault) in REFUSED {
-            match Delims::read(rt.alloc(), list) {
-                Ok(_) => assert!(rt; false),
-                Err(found) => assert_eq!(rt; found, *fault),
-            }
-        }
-    }
-
-    #[test]
-    fn begins_again_behind_the_last(rt: HostRuntime) -> Result<(), Fail> {
-        let delims = Delims::read(rt.alloc(), b"\\0,;")?;
-        assert_eq!(rt; delims.at(0), None);
-        assert_eq!(rt; delims.at(1), Some(b','));
-        assert_eq!(rt; delims.at(2), Some(b';'));
-        assert_eq!(rt; delims.at(3), None);
-        assert_eq!(rt; delims.at(4), Some(b','));
-        assert_eq!(rt; delims.at(u64::MAX), None);
-        Ok(())
-    }
-
-    #[test]
-    fn is_a_tab_by_default(rt: HostRuntime) -> Result<(), Fail> {
-        let delims = Delims::tab(rt.alloc())?;
-        assert_eq!(rt; delims.at(0), Some(b'\t'));
-        assert_eq!(rt; delims.at(7), Some(b'\t'));
-        Ok(())
-    }
-
-    #[test]
-    fn each_growth_refused_in_turn(rt: HostRuntime) {
-        let mut refused = 0u64;
-        for passed in 0..8u64 {
-            let alloc = Refusing::after(rt.alloc(), passed);
-            match Delims::read(&alloc, b"abcdefghi") {
-                Ok(delims) => assert_eq!(rt; delims.at(8), Some(b'i')),
-                Err(fault) => {
-                    assert_eq!(rt; fault, DelimFault::Memory);
-                    refused = refused.wrapping_add(1);
-                }
-            }
-        }
-        assert_eq!(rt; refused, 3);
-    }
-
-    #[test]
-    fn the_tab_refused(rt: HostRuntime) {
-        let alloc = Refusing::after(rt.alloc(), 0);
-        assert!(rt; Delims::tab(&alloc).is_err());
     }
 }

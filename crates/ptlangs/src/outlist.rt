@@ -1,7 +1,7 @@
 //! The output list of `join`: which fields of a pair of lines are written.
 ghost use Rattle.std.specs.Prelude.{◌≡◌};
 ghost use Rattle.ptlangs.specs.Answers.{Gives};
-ghost use Rattle.ptlangs.specs.OutLists.{AcceptsTheGrammar, fault_meant, field_of, element, out_list, field_at};
+ghost use Rattle.ptlangs.specs.OutLists.{AcceptsTheGrammar, fault_of, field_of, element, out_list, field_at};
 
 use crate::numbers::{decimal, first_element, is_decimal};
 use std::alloc::{AllocError, AllocFailed, Allocator, Global};
@@ -10,8 +10,8 @@ use std::marker::Model;
 /// One of the two files of `join`.
 #[derive(Clone, Copy, Debug, PartialEq, Eq)]
 pub enum File {
-    First,
-    Second,
+    First = 1,
+    Second = 2,
 }
 
 /// What one element of an output list stands for.
@@ -27,15 +27,15 @@ pub enum OutField {
 #[derive(Clone, Copy, Debug, PartialEq, Eq)]
 pub enum OutFault {
     /// An element is empty. So is the only element of an empty list.
-    Empty,
+    Empty = 1,
     /// An element is none of `0`, `1.n` and `2.n`.
-    Malformed,
+    Malformed = 2,
     /// The number of a field is zero; fields count from 1.
-    Zero,
+    Zero = 3,
     /// The number of a field is above `u64::MAX`.
-    TooLarge,
+    TooLarge = 4,
     /// A growth of memory was refused.
-    Memory,
+    Memory = 5,
 }
 
 impl From<AllocError> for OutFault {
@@ -84,7 +84,7 @@ impl<A: Allocator> OutList<A> {
     ///
     /// The fault of the first faulty element, or `Memory`.
     pub fn read(alloc: A, text: &[u8]) -> Result<OutList<A>, OutFault>
-        ensures { Gives (λ l. l) fault_meant result (out_list text.now) }
+        ensures { Gives (λ l. l) fault_of result (out_list text.now) }
     {
         let mut kept = Vec::new(alloc);
         let mut left = text;
@@ -126,7 +126,7 @@ pub fn accepts_the_grammar()
 
 /// The field that one element stands for.
 fn read_element(text: &[u8]) -> Result<OutField, OutFault>
-    ensures { Gives (λ f. f) fault_meant result (element text.now) }
+    ensures { result ≡ element text.now }
 {
     match text {
         [] => Err(OutFault::Empty),
@@ -139,7 +139,7 @@ fn read_element(text: &[u8]) -> Result<OutField, OutFault>
 
 /// The field of a file with this number.
 fn read_field(file: File, number: &[u8]) -> Result<OutField, OutFault>
-    ensures { Gives (λ f. f) fault_meant result (field_of file number.now) }
+    ensures { result ≡ field_of file number.now }
 {
     if !is_decimal(number) {
         return Err(OutFault::Malformed);
@@ -148,100 +148,5 @@ fn read_field(file: File, number: &[u8]) -> Result<OutField, OutFault>
         None => Err(OutFault::TooLarge),
         Some(0) => Err(OutFault::Zero),
         Some(number) => Ok(OutField::Field(file, number)),
-    }
-}
-
-#[cfg(test)]
-mod tests {
-    use super::*;
-    use crate::refusing::Refusing;
-    use std::test::Fail;
-
-    const ACCEPTED: &[(&[u8], &[OutField])] = &[
-        (
-            b"0,1.2,2.2",
-            &[
-                OutField::Join,
-                OutField::Field(File::First, 2),
-                OutField::Field(File::Second, 2),
-            ],
-        ),
-        (b"0", &[OutField::Join]),
-        (
-            b"2.18446744073709551615\t1.007 0",
-            &[
-                OutField::Field(File::Second, u64::MAX),
-                OutField::Field(File::First, 7),
-                OutField::Join,
-            ],
-        ),
-        (b"0 0", &[OutField::Join, OutField::Join]),
-    ];
-
-    const REFUSED: &[(&[u8], OutFault)] = &[
-        (b"", OutFault::Empty),
-        (b"0,,1.1", OutFault::Empty),
-        (b"1.1,", OutFault::Empty),
-        (b" 0", OutFault::Empty),
-        (b"1.0", OutFault::Zero),
-        (b"2.000", OutFault::Zero),
-        (b"1.", OutFault::Malformed),
-        (b"1", OutFault::Malformed),
-        (b"12", OutFault::Malformed),
-        (b"00", OutFault::Malformed),
-        (b"0.1", OutFault::Malformed),
-        (b"3.1", OutFault::Malformed),
-        (b"1.x", OutFault::Malformed),
-        (b"1.-1", OutFault::Malformed),
-        (b"1.2.3", OutFault::Malformed),
-        (b"1.99999999999999999999x", OutFault::Malformed),
-        (b"2.18446744073709551616", OutFault::TooLarge),
-        (b"0,1.0,x", OutFault::Zero),
-    ];
-
-    #[test]
-    fn keeps_the_fields(rt: HostRuntime) -> Result<(), Fail> {
-        for (list, fields) in ACCEPTED {
-            let read = OutList::read(rt.alloc(), list)?;
-            assert_eq!(rt; read.fields(), *fields);
-        }
-        Ok(())
-    }
-
-    #[test]
-    fn refuses_by_the_first_faulty_element(rt: HostRuntime) {
-        for (list, fault) in REFUSED {
-            match OutList::read(rt.alloc(), list) {
-                Ok(_) => assert!(rt; false),
-                Err(found) => assert_eq!(rt; found, *fault),
-            }
-        }
-    }
-
-    #[test]
-    fn tells_the_fields_as_numbers(rt: HostRuntime) -> Result<(), Fail> {
-        let list = OutList::read(rt.alloc(), b"0,1.2,2.3")?;
-        assert_eq!(rt; list.at(0), Some((0, 0)));
-        assert_eq!(rt; list.at(1), Some((1, 2)));
-        assert_eq!(rt; list.at(2), Some((2, 3)));
-        assert_eq!(rt; list.at(3), None);
-        assert_eq!(rt; list.at(usize::MAX), None);
-        Ok(())
-    }
-
-    #[test]
-    fn each_growth_refused_in_turn(rt: HostRuntime) {
-        let mut refused = 0u64;
-        for passed in 0..8u64 {
-            let alloc = Refusing::after(rt.alloc(), passed);
-            match OutList::read(&alloc, b"0,1.1,1.2,1.3,2.1,2.2") {
-                Ok(list) => assert_eq!(rt; list.at(5), Some((2, 2))),
-                Err(fault) => {
-                    assert_eq!(rt; fault, OutFault::Memory);
-                    refused = refused.wrapping_add(1);
-                }
-            }
-        }
-        assert_eq!(rt; refused, 2);
     }
 }

@@ -1,7 +1,7 @@
 //! The list of `cut`: which bytes, characters or fields of a line are selected.
 ghost use Rattle.std.specs.Prelude.{◌≡◌, ◌≤◌, ◌<◌, IfOk, IsTrue, MatchResult};
 ghost use Rattle.ptlangs.specs.Answers.{Gives};
-ghost use Rattle.ptlangs.specs.CutLists.{AcceptsTheGrammar, fault_meant, is_end, value_or, ends, judged, element, cut_list, is_selected, selection, AreApart, AreInOrder};
+ghost use Rattle.ptlangs.specs.CutLists.{AcceptsTheGrammar, fault_of, is_end, value_or, ends, checked, element, cut_list, is_selected, selection, AreApart, AreInOrder};
 ghost use Rattle.ptlangs.specs.Numbers.{greatest};
 
 use crate::numbers::{decimal, first_element, is_decimal};
@@ -19,17 +19,17 @@ pub struct Interval {
 #[derive(Clone, Copy, Debug, PartialEq, Eq)]
 pub enum ListFault {
     /// An element is empty. So is the only element of an empty list.
-    Empty,
+    Empty = 1,
     /// A number is zero; numbers count from 1.
-    Zero,
+    Zero = 2,
     /// The first number of an element is above the second.
-    Descending,
+    Descending = 3,
     /// A number is above `u64::MAX`.
-    TooLarge,
+    TooLarge = 4,
     /// An element is none of `n`, `n-m`, `-m` and `n-`.
-    Malformed,
+    Malformed = 5,
     /// A growth of memory was refused.
-    Memory,
+    Memory = 6,
 }
 
 impl From<AllocError> for ListFault {
@@ -81,7 +81,7 @@ impl<A: Allocator + Copy> Ranges<A> {
     ///
     /// The fault of the first faulty element, or `Memory`.
     pub fn read(alloc: A, text: &[u8]) -> Result<Ranges<A>, ListFault>
-        ensures { Gives is_selected fault_meant result (selection text.now) }
+        ensures { Gives is_selected fault_of result (selection text.now) }
     {
         let mut listed = read_elements(alloc, text)?;
         listed.sort_unstable_by_key(|interval| interval.first);
@@ -116,7 +116,7 @@ pub fn accepts_the_grammar()
 
 /// The intervals of the list's elements, in their order.
 fn read_elements<A: Allocator>(alloc: A, text: &[u8]) -> Result<Vec<Interval, A>, ListFault>
-    ensures { Gives (λ v. v.items) fault_meant result (cut_list text.now) }
+    ensures { Gives (λ v. v.items) fault_of result (cut_list text.now) }
 {
     let mut listed = Vec::new(alloc);
     let mut left = text;
@@ -132,7 +132,7 @@ fn read_elements<A: Allocator>(alloc: A, text: &[u8]) -> Result<Vec<Interval, A>
 
 /// The interval of one element.
 fn read_element(text: &[u8]) -> Result<Interval, ListFault>
-    ensures { Gives (λ r. r) fault_meant result (element text.now) }
+    ensures { result ≡ element text.now }
 {
     if text.is_empty() {
         return Err(ListFault::Empty);
@@ -145,7 +145,7 @@ fn read_element(text: &[u8]) -> Result<Interval, ListFault>
 
 /// The interval from the first number to the last.
 fn read_ends(first: &[u8], last: &[u8]) -> Result<Interval, ListFault>
-    ensures { Gives (λ r. r) fault_meant result (judged (ends first.now last.now)) }
+    ensures { result ≡ checked (ends first.now last.now) }
 {
     if !is_end(first) || !is_end(last) || (first.is_empty() && last.is_empty()) {
         return Err(ListFault::Malformed);
@@ -201,151 +201,4 @@ fn merge<A: Allocator>(alloc: A, sorted: &[Interval]) -> Result<Vec<Interval, A>
     }
     kept.push(current)?;
     Ok(kept)
-}
-
-#[cfg(test)]
-mod tests {
-    use super::*;
-    use crate::refusing::Refusing;
-    use std::test::Fail;
-
-    struct Accepted {
-        list: &'static [u8],
-        kept: &'static [Interval],
-    }
-
-    const ACCEPTED: &[Accepted] = &[
-        Accepted {
-            list: b"3-,1",
-            kept: &[
-                Interval { first: 1, last: 1 },
-                Interval {
-                    first: 3,
-                    last: u64::MAX,
-                },
-            ],
-        },
-        Accepted {
-            list: b"2,2,1",
-            kept: &[Interval { first: 1, last: 2 }],
-        },
-        Accepted {
-            list: b"5",
-            kept: &[Interval { first: 5, last: 5 }],
-        },
-        Accepted {
-            list: b"-2",
-            kept: &[Interval { first: 1, last: 2 }],
-        },
-        Accepted {
-            list: b"7-9 1-3\t2-5",
-            kept: &[
-                Interval { first: 1, last: 5 },
-                Interval { first: 7, last: 9 },
-            ],
-        },
-        Accepted {
-            list: b"4-6,1-3",
-            kept: &[Interval { first: 1, last: 6 }],
-        },
-        Accepted {
-            list: b"1-9,3-4,20-",
-            kept: &[
-                Interval { first: 1, last: 9 },
-                Interval {
-                    first: 20,
-                    last: u64::MAX,
-                },
-            ],
-        },
-        Accepted {
-            list: b"00012-013",
-            kept: &[Interval {
-                first: 12,
-                last: 13,
-            }],
-        },
-        Accepted {
-            list: b"18446744073709551615",
-            kept: &[Interval {
-                first: u64::MAX,
-                last: u64::MAX,
-            }],
-        },
-        Accepted {
-            list: b"2-,18446744073709551615-,-1",
-            kept: &[Interval {
-                first: 1,
-                last: u64::MAX,
-            }],
-        },
-    ];
-
-    const REFUSED: &[(&[u8], ListFault)] = &[
-        (b"", ListFault::Empty),
-        (b"1,,2", ListFault::Empty),
-        (b"1,", ListFault::Empty),
-        (b" 1", ListFault::Empty),
-        (b"0", ListFault::Zero),
-        (b"0-3", ListFault::Zero),
-        (b"-0", ListFault::Zero),
-        (b"3-0", ListFault::Zero),
-        (b"3-1", ListFault::Descending),
-        (b"1,3-2,0", ListFault::Descending),
-        (b"18446744073709551616", ListFault::TooLarge),
-        (b"0-18446744073709551616", ListFault::TooLarge),
-        (b"-", ListFault::Malformed),
-        (b"1-2-3", ListFault::Malformed),
-        (b"a", ListFault::Malformed),
-        (b"99999999999999999999-x", ListFault::Malformed),
-        (b"1--", ListFault::Malformed),
-        (b"+1", ListFault::Malformed),
-        (b"1;2", ListFault::Malformed),
-    ];
-
-    #[test]
-    fn keeps_the_selected_numbers(rt: HostRuntime) -> Result<(), Fail> {
-        for row in ACCEPTED {
-            let ranges = Ranges::read(rt.alloc(), row.list)?;
-            assert_eq!(rt; ranges.intervals(), row.kept);
-        }
-        Ok(())
-    }
-
-    #[test]
-    fn refuses_by_the_first_faulty_element(rt: HostRuntime) {
-        for (list, fault) in REFUSED {
-            match Ranges::read(rt.alloc(), list) {
-                Ok(_) => assert!(rt; false),
-                Err(found) => assert_eq!(rt; found, *fault),
-            }
-        }
-    }
-
-    #[test]
-    fn tells_selected_numbers(rt: HostRuntime) -> Result<(), Fail> {
-        let ranges = Ranges::read(rt.alloc(), b"3-,1")?;
-        assert!(rt; ranges.contains(1));
-        assert!(rt; !ranges.contains(2));
-        assert!(rt; ranges.contains(3));
-        assert!(rt; ranges.contains(u64::MAX));
-        assert!(rt; !ranges.contains(0));
-        Ok(())
-    }
-
-    #[test]
-    fn each_growth_refused_in_turn(rt: HostRuntime) {
-        let mut refused = 0u64;
-        for passed in 0..8u64 {
-            let alloc = Refusing::after(rt.alloc(), passed);
-            match Ranges::read(&alloc, b"1,3,5,7,9,11") {
-                Ok(ranges) => assert!(rt; ranges.contains(11)),
-                Err(fault) => {
-                    assert_eq!(rt; fault, ListFault::Memory);
-                    refused = refused.wrapping_add(1);
-                }
-            }
-        }
-        assert_eq!(rt; refused, 4);
-    }
 }

@@ -3,7 +3,8 @@
 ghost use Rattle.std.specs.Prelude.{◌≡◌, ◌<◌, ◌+◌, length, drop, slice_index, IfOk, IfErr, option_map};
 ghost use Rattle.ptopts.specs.Words.{is_dashed, has, is_flag, valued_event, Given};
 ghost use Rattle.ptopts.specs.Faults.{is_spent, event_fault};
-ghost use Rattle.ptopts.specs.Answers.{Finds, option_seen, options_seen, words_seen, behind_taken, ReadsGroup, FailsGroup, ReadsWords, FailsWords};
+ghost use Rattle.ptopts.specs.Meant.{words_seen};
+ghost use Rattle.ptopts.specs.Steps.{Finds, option_seen, options_seen, behind_taken, ReadsGroup, FailsGroup, ReadsWords, FailsWords};
 
 use crate::fault::UseFault;
 use crate::tool::Tool;

@@ -8,7 +8,7 @@ ghost use Rattle.ptopts.specs.Words.{value_of};
 ghost use Rattle.ptopts.specs.Faults.{value_fault, each_value_fault, values_fault, is_file_number, is_field_number, is_output_list};
 ghost use Rattle.ptopts.specs.Commands as commands;
 ghost use Rattle.ptopts.specs.Commands.{names_file, number_given, fields_of};
-ghost use Rattle.ptopts.specs.Answers.{Finds, FindsUnlessRefused, options_seen};
+ghost use Rattle.ptopts.specs.Steps.{Finds, FindsUnlessRefused, options_seen};
 
 use crate::fault::UseFault;
 use crate::reading::{GivenOption, has_letter};
@@ -106,5 +106,7 @@ pub(crate) fn join_job<'a, A: Allocator + Copy>(
         list,
         sep,
         field: [field1, field2],
+        zero: has_letter(options, b'z'),
+        descending: has_letter(options, b'r'),
     })
 }

@@ -4,7 +4,7 @@ use Rattle.std.proofs.lemmas.List.{take_rest}
 use Rattle.ptlangs.specs.CutLists.{is_selected}
 use Rattle.ptlangs.specs.declared.ranges.Interval.{Interval}
 use Rattle.ptlines.specs.Outputs.{Output, Wrote}
-use Rattle.ptflow.specs.FieldPlaces.{fields, StartsAt}
+use Rattle.ptflow.specs.Workings.FieldPlaces.{fields, StartsAt}
 use Rattle.ptflow.proofs.Chosen.{chosen, at_place, none_left}
 use Rattle.ptflow.proofs.FieldPlaces.{join_led}
 use Rattle.ptflow.proofs.FieldWalks.{Walking, laid, walking_starts, walking_short, walking_more, walking_fails, walking_ends, walking_done, slice_is}

@@ -1,5 +1,4 @@
 use Rattle.std.proofs.Common.{refl, ℕ, List, take, drop, take-append-drop, sym, ◌∙◌, subst}
-use Rattle.std.proofs.lemmas.Bool.{false≢true}
 use Rattle.ptlines.specs.Outputs.{Wrote}
 use Rattle.ptlines.proofs.Pushed.{wrote_nothing}
 use Rattle.ptlangs.specs.Jobs.{cut_job}
@@ -12,7 +11,7 @@ returns-then-job-clause-wrote g c =
     let line = take c.args.count c.args.bytes.now in
     let none = found c.args.job.now.delim line c.find_near.result c.find_near.ensures ∙ sym c.if-is_some.ensures in
     rw (written_dropped job c.requires.by_fields line (drop c.args.count c.args.bytes.now) none c.if-job.true)
-    (wrote_nothing c.args.out.now (λ fault. absurd (false≢true (sym c.requires.clean ∙ fault))))
+    (wrote_nothing c.args.out.now)
 
 pub returns-then-job-clause-kept : goal.returns-then-job-clause-kept
 returns-then-job-clause-kept g c =

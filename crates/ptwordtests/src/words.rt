@@ -1,0 +1,600 @@
+//! Words of all tools.
+
+use ptfakes::Refusing;
+use ptlangs::jobs::{CommJob, Show, UniqJob};
+use ptlangs::outlist::{File, OutField};
+use ptlangs::ranges::Interval;
+use ptlangs::{SetFault, SetFaultKind, SetString};
+use ptopts::{Command, Input, UseFault};
+use std::alloc::Global;
+use std::process::Abort;
+use std::test::Fail;
+
+/// Words, and the fault that is found in them.
+type Refused<'a> = (&'a [&'a str], UseFault<'a>);
+
+/// Whether a command has these inputs in this order, and this output.
+fn has_files(
+    rt: &impl Abort,
+    command: &Command,
+    order: &[Input],
+    names: &[&str],
+    output: Option<&str>,
+) {
+    assert_eq!(rt; command.inputs().order.as_slice(), order);
+    assert_eq!(rt; command.names(), names);
+    assert_eq!(rt; command.output(), output);
+}
+
+/// One row for each fault; all others are proved in ptopts, and the built program is run on them.
+const REFUSED: &[Refused] = &[
+    (&[], UseFault::Tool),
+    (&["cut", "-sé"], UseFault::Unknown("-sé")),
+    (&["tr", "-z", "a", "b"], UseFault::Unknown("-z")),
+    (&["cut", "-r"], UseFault::Unknown("-r")),
+    (&["cut", "-snd"], UseFault::NeedsValue(b'd')),
+    (&["cut", "-b", "1", "-b", "2"], UseFault::Twice(b'b')),
+    (&["uniq", "-ud"], UseFault::Together(b'd', b'u')),
+    (&["cut", "-d", "\n", "-f2"], UseFault::Value(b'd', "\n")),
+    (&["cut", "-d", "\0", "-zf2"], UseFault::Value(b'd', "\0")),
+    (&["join", "f"], UseFault::Operands),
+    (&["comm", "-", "-"], UseFault::StandardTwice),
+    (&["cut", "-n"], UseFault::NeedsList),
+    (
+        &["tr", "-d", "\\400"],
+        UseFault::String(SetFault {
+            string: SetString::First,
+            kind: SetFaultKind::Octal,
+        }),
+    ),
+    (
+        &["tr", "a", ""],
+        UseFault::String(SetFault {
+            string: SetString::Second,
+            kind: SetFaultKind::Empty,
+        }),
+    ),
+];
+
+#[test]
+fn refused_words(rt: HostRuntime) {
+    for (words, fault) in REFUSED {
+        is_refused(&rt, rt.alloc(), words, *fault);
+    }
+}
+
+struct Cut {
+    words: &'static [&'static str],
+    fields: bool,
+    list: &'static [Interval],
+    delim: u8,
+    only: bool,
+    order: &'static [Input],
+    names: &'static [&'static str],
+}
+
+/// Words, whether lines end with byte 0, and whether they stand in descending order.
+const ENDS_AND_ORDERS: &[(&[&str], bool, bool)] = &[
+    (&["cut", "-b1"], false, false),
+    (&["cut", "-zzb1"], true, false),
+    (&["cut", "-d", "\n", "-f", "2", "-z"], true, false),
+    (&["paste", "-sz", "f"], true, false),
+    (&["uniq", "-zc"], true, false),
+    (&["comm", "f", "g"], false, false),
+    (&["comm", "-z1", "f", "g"], true, false),
+    (&["comm", "-r", "f", "g"], false, true),
+    (&["join", "-t", "\n", "-z", "f", "g"], true, false),
+    (&["join", "-rz", "f", "g"], true, true),
+    (&["join", "-r", "-t", ",", "-a", "1", "f", "g"], false, true),
+];
+
+fn ends_and_orders(command: &Command) -> (bool, bool) {
+    match command {
+        Command::Cut(job, _) => (job.zero, false),
+        Command::Paste(job, _) => (job.zero, false),
+        Command::Uniq(job, _) => (job.zero, false),
+        Command::Comm(job, _) => (job.zero, job.descending),
+        Command::Join(job, _) => (job.zero, job.descending),
+        Command::Tr(_, _) => (false, false),
+    }
+}
+
+#[test]
+fn lines_that_end_with_zero_and_descend(rt: HostRuntime) -> Result<(), Fail> {
+    for (words, zero, descending) in ENDS_AND_ORDERS {
+        let command = Command::read(rt.alloc(), words)?;
+        assert_eq!(rt;
+            ends_and_orders(&command),
+            (*zero, *descending),
+            "of {words:?}"
+        );
+    }
+    Ok(())
+}
+
+const FROM_SECOND: &[Interval] = &[Interval {
+    first: 2,
+    last: u64::MAX,
+}];
+
+const CUTS: &[Cut] = &[
+    Cut {
+        words: &["cut", "-b", "2-"],
+        fields: false,
+        list: FROM_SECOND,
+        delim: b'\t',
+        only: false,
+        order: &[Input::Standard],
+        names: &[],
+    },
+    Cut {
+        words: &["cut", "-nb", "2-"],
+        fields: false,
+        list: FROM_SECOND,
+        delim: b'\t',
+        only: false,
+        order: &[Input::Standard],
+        names: &[],
+    },
+    Cut {
+        words: &["cut", "-c2-", "--", "-s", "f"],
+        fields: false,
+        list: FROM_SECOND,
+        delim: b'\t',
+        only: false,
+        order: &[Input::File(0), Input::File(1)],
+        names: &["-s", "f"],
+    },
+    Cut {
+        words: &["cut", "-ssd,", "-f", "2-", "f", "-", "f", "-d:"],
+        fields: true,
+        list: FROM_SECOND,
+        delim: b',',
+        only: true,
+        order: &[
+            Input::File(0),
+            Input::Standard,
+            Input::File(1),
+            Input::File(2),
+        ],
+        names: &["f", "f", "-d:"],
+    },
+    Cut {
+        words: &["cut", "-sf2-", "-d", "-", "-"],
+        fields: true,
+        list: FROM_SECOND,
+        delim: b'-',
+        only: true,
+        order: &[Input::Standard],
+        names: &[],
+    },
+];
+
+fn is_cut(rt: &impl Abort, command: &Command, row: &Cut) {
+    let Command::Cut(job, _) = command else {
+        return assert!(rt; false);
+    };
+    assert_eq!(rt; job.list.intervals(), row.list);
+    assert_eq!(rt;
+        (job.fields, job.delim, job.only),
+        (row.fields, row.delim, row.only)
+    );
+}
+
+#[test]
+fn the_words_of_cut(rt: HostRuntime) -> Result<(), Fail> {
+    for row in CUTS {
+        let command = Command::read(rt.alloc(), row.words)?;
+        has_files(&rt, &command, row.order, row.names, None);
+        is_cut(&rt, &command, row);
+    }
+    Ok(())
+}
+
+/// Whether these words are refused by this fault.
+fn is_refused(rt: &impl Abort, alloc: Global, words: &[&str], fault: UseFault) {
+    match Command::read(alloc, words) {
+        Ok(_) => assert!(rt; false),
+        Err(found) => assert_eq!(rt; found, fault),
+    }
+}
+
+/// Whether these words name so many inputs.
+fn are_accepted(rt: &impl Abort, alloc: Global, words: &[&str], inputs: usize) -> Result<(), Fail> {
+    let Ok(command) = Command::read(alloc, words) else {
+        return Err(Fail::from("words are refused"));
+    };
+    assert_eq!(rt; command.inputs().order.len(), inputs);
+    Ok(())
+}
+
+#[test]
+fn at_most_512_operands(rt: HostRuntime) -> Result<(), Fail> {
+    let mut words = ["-"; 515];
+    words[0] = "cut";
+    words[1] = "-b1";
+    is_refused(&rt, rt.alloc(), &words, UseFault::Operands);
+    are_accepted(&rt, rt.alloc(), &words[..514], 512)?;
+    words[1] = "-b0";
+    is_refused(&rt, rt.alloc(), &words, UseFault::Value(b'b', "0"));
+    Ok(())
+}
+
+#[test]
+fn at_least_one_operand_of_paste(rt: HostRuntime) -> Result<(), Fail> {
+    let mut words = ["-"; 514];
+    words[0] = "paste";
+    is_refused(&rt, rt.alloc(), &words, UseFault::Operands);
+    are_accepted(&rt, rt.alloc(), &words[..513], 512)?;
+    are_accepted(&rt, rt.alloc(), &words[..2], 1)
+}
+
+struct Paste {
+    words: &'static [&'static str],
+    serial: bool,
+    delims: [Option<u8>; 3],
+    order: &'static [Input],
+    names: &'static [&'static str],
+}
+
+const PASTES: &[Paste] = &[
+    Paste {
+        words: &["paste", "-d", "\\0,", "-s", "f", "-", "-s"],
+        serial: true,
+        delims: [None, Some(b','), None],
+        order: &[Input::File(0), Input::Standard, Input::File(1)],
+        names: &["f", "-s"],
+    },
+    Paste {
+        words: &["paste", "f"],
+        serial: false,
+        delims: [Some(b'\t'); 3],
+        order: &[Input::File(0)],
+        names: &["f"],
+    },
+];
+
+fn is_paste(rt: &impl Abort, command: &Command, row: &Paste) {
+    let Command::Paste(job, _) = command else {
+        return assert!(rt; false);
+    };
+    assert_eq!(rt; job.serial, row.serial);
+    assert_eq!(rt;
+        [job.delims.at(0), job.delims.at(1), job.delims.at(2)],
+        row.delims
+    );
+}
+
+#[test]
+fn the_words_of_paste(rt: HostRuntime) -> Result<(), Fail> {
+    for row in PASTES {
+        let command = Command::read(rt.alloc(), row.words)?;
+        has_files(&rt, &command, row.order, row.names, None);
+        is_paste(&rt, &command, row);
+    }
+    Ok(())
+}
+
+struct Uniq {
+    words: &'static [&'static str],
+    job: UniqJob,
+    order: &'static [Input],
+    names: &'static [&'static str],
+    output: Option<&'static str>,
+}
+
+const UNIQS: &[Uniq] = &[
+    Uniq {
+        words: &["uniq"],
+        job: UniqJob {
+            show: Show::All,
+            fields: 0,
+            chars: 0,
+            zero: false,
+        },
+        order: &[Input::Standard],
+        names: &[],
+        output: None,
+    },
+    Uniq {
+        words: &["uniq", "-cc", "f"],
+        job: UniqJob {
+            show: Show::Counts,
+            fields: 0,
+            chars: 0,
+            zero: false,
+        },
+        order: &[Input::File(0)],
+        names: &["f"],
+        output: None,
+    },
+    Uniq {
+        words: &["uniq", "-df1", "-s", "007", "-", "-"],
+        job: UniqJob {
+            show: Show::Repeated,
+            fields: 1,
+            chars: 7,
+            zero: false,
+        },
+        order: &[Input::Standard],
+        names: &[],
+        output: None,
+    },
+    Uniq {
+        words: &["uniq", "-us", "18446744073709551615", "f", "f"],
+        job: UniqJob {
+            show: Show::Single,
+            fields: 0,
+            chars: u64::MAX,
+            zero: false,
+        },
+        order: &[Input::File(0)],
+        names: &["f"],
+        output: Some("f"),
+    },
+    Uniq {
+        words: &["uniq", "-f0", "--", "-", "-c"],
+        job: UniqJob {
+            show: Show::All,
+            fields: 0,
+            chars: 0,
+            zero: false,
+        },
+        order: &[Input::Standard],
+        names: &[],
+        output: Some("-c"),
+    },
+];
+
+fn is_uniq(rt: &impl Abort, command: &Command, wanted: UniqJob) {
+    match command {
+        Command::Uniq(job, _) => assert_eq!(rt; *job, wanted),
+        _ => assert!(rt; false),
+    }
+}
+
+#[test]
+fn the_words_of_uniq(rt: HostRuntime) -> Result<(), Fail> {
+    for row in UNIQS {
+        let command = Command::read(rt.alloc(), row.words)?;
+        has_files(&rt, &command, row.order, row.names, row.output);
+        is_uniq(&rt, &command, row.job);
+    }
+    Ok(())
+}
+
+const COMMS: &[(&[&str], CommJob)] = &[
+    (
+        &["comm", "f", "-"],
+        CommJob {
+            hide: [false; 3],
+            zero: false,
+            descending: false,
+        },
+    ),
+    (
+        &["comm", "-1", "f", "-"],
+        CommJob {
+            hide: [true, false, false],
+            zero: false,
+            descending: false,
+        },
+    ),
+    (
+        &["comm", "-32", "-3", "f", "-"],
+        CommJob {
+            hide: [false, true, true],
+            zero: false,
+            descending: false,
+        },
+    ),
+];
+
+fn is_comm(rt: &impl Abort, command: &Command, wanted: CommJob) {
+    match command {
+        Command::Comm(job, _) => assert_eq!(rt; *job, wanted),
+        _ => assert!(rt; false),
+    }
+}
+
+#[test]
+fn the_words_of_comm(rt: HostRuntime) -> Result<(), Fail> {
+    for (words, job) in COMMS {
+        let command = Command::read(rt.alloc(), words)?;
+        let order = [Input::File(0), Input::Standard];
+        has_files(&rt, &command, &order, &["f"], None);
+        is_comm(&rt, &command, *job);
+    }
+    Ok(())
+}
+
+struct Join {
+    words: &'static [&'static str],
+    pairs: bool,
+    unpaired: [bool; 2],
+    empty: &'static [u8],
+    list: Option<&'static [OutField]>,
+    sep: Option<u8>,
+    field: [u64; 2],
+}
+
+const JOINS: &[Join] = &[
+    Join {
+        words: &["join", "-", "g"],
+        pairs: true,
+        unpaired: [false, false],
+        empty: b"",
+        list: None,
+        sep: None,
+        field: [1, 1],
+    },
+    Join {
+        words: &["join", "-a", "2", "-e", "-", "-o", "0,1.2 2.2", "-", "g"],
+        pairs: true,
+        unpaired: [false, true],
+        empty: b"-",
+        list: Some(&[
+            OutField::Join,
+            OutField::Field(File::First, 2),
+            OutField::Field(File::Second, 2),
+        ]),
+        sep: None,
+        field: [1, 1],
+    },
+    Join {
+        words: &["join", "-t", ",", "-v", "1", "-v1", "-e", "", "-", "g"],
+        pairs: false,
+        unpaired: [true, false],
+        empty: b"",
+        list: None,
+        sep: Some(b','),
+        field: [1, 1],
+    },
+    Join {
+        words: &[
+            "join",
+            "-t\t",
+            "-a1",
+            "-a2",
+            "-13",
+            "-2",
+            "18446744073709551615",
+            "-eé",
+            "--",
+            "-",
+            "g",
+        ],
+        pairs: true,
+        unpaired: [true, true],
+        empty: b"\xc3\xa9",
+        list: None,
+        sep: Some(b'\t'),
+        field: [3, u64::MAX],
+    },
+];
+
+fn is_join(rt: &impl Abort, command: &Command, row: &Join) {
+    let Command::Join(job, _) = command else {
+        return assert!(rt; false);
+    };
+    assert_eq!(rt; (job.pairs, job.sep), (row.pairs, row.sep));
+    assert_eq!(rt; job.unpaired, row.unpaired);
+    assert_eq!(rt; job.empty.as_slice(), row.empty);
+    assert_eq!(rt; job.list.as_ref().map(|list| list.fields()), row.list);
+    assert_eq!(rt; job.field, row.field);
+}
+
+#[test]
+fn the_words_of_join(rt: HostRuntime) -> Result<(), Fail> {
+    for row in JOINS {
+        let command = Command::read(rt.alloc(), row.words)?;
+        let order = [Input::Standard, Input::File(0)];
+        has_files(&rt, &command, &order, &["g"], None);
+        is_join(&rt, &command, row);
+    }
+    Ok(())
+}
+
+/// Words, some bytes, what becomes of each, and whether what it becomes is squeezed.
+struct Tr {
+    words: &'static [&'static str],
+    bytes: &'static [u8],
+    images: &'static [Option<u8>],
+    squeezed: &'static [bool],
+}
+
+const TRS: &[Tr] = &[
+    Tr {
+        words: &["tr", "a-c", "-"],
+        bytes: b"abd",
+        images: &[Some(b'-'), Some(b'-'), Some(b'd')],
+        squeezed: &[false, false, false],
+    },
+    Tr {
+        words: &["tr", "-ss", "--", "-d", "xy"],
+        bytes: b"-d",
+        images: &[Some(b'x'), Some(b'y')],
+        squeezed: &[true, true],
+    },
+    Tr {
+        words: &["tr", "-Cs", "a"],
+        bytes: b"ab",
+        images: &[Some(b'a'), Some(b'b')],
+        squeezed: &[false, true],
+    },
+    Tr {
+        words: &["tr", "-d", "-c", "[:alpha:]"],
+        bytes: b"a1",
+        images: &[Some(b'a'), None],
+        squeezed: &[false, false],
+    },
+    Tr {
+        words: &["tr", "-ds", "0-9", "ab"],
+        bytes: b"a1c",
+        images: &[Some(b'a'), None, Some(b'c')],
+        squeezed: &[true, false, false],
+    },
+];
+
+fn is_tr(rt: &impl Abort, command: &Command, row: &Tr) {
+    let Command::Tr(plan, _) = command else {
+        return assert!(rt; false);
+    };
+    for (place, byte) in row.bytes.iter().enumerate() {
+        let image = if plan.deletes(*byte) {
+            None
+        } else {
+            Some(plan.image(*byte))
+        };
+        assert_eq!(rt; Some(&image), row.images.get(place));
+        if let Some(image) = image {
+            assert_eq!(rt; Some(&plan.squeezes(image)), row.squeezed.get(place));
+        }
+    }
+}
+
+#[test]
+fn the_words_of_tr(rt: HostRuntime) -> Result<(), Fail> {
+    for row in TRS {
+        let command = Command::read(rt.alloc(), row.words)?;
+        has_files(&rt, &command, &[Input::Standard], &[], None);
+        is_tr(&rt, &command, row);
+    }
+    Ok(())
+}
+
+/// How many growths of reading these words can be refused, each in turn.
+fn growths<'a>(rt: &impl Abort, alloc: Global, words: &'a [&'a str], names: &[&str]) -> u64 {
+    let mut refused = 0u64;
+    for passed in 0..16u64 {
+        let refusing = Refusing::after(alloc, passed);
+        match Command::read(&refusing, words) {
+            Ok(command) => assert_eq!(rt; command.names(), names),
+            Err(fault) => {
+                assert_eq!(rt; (fault, refused), (UseFault::Memory, passed));
+                refused = refused.wrapping_add(1);
+            }
+        }
+    }
+    refused
+}
+
+#[test]
+fn each_growth_refused_in_turn(rt: HostRuntime) {
+    let cut = ["cut", "-s", "-d,", "-f", "1,3", "f", "-", "g"];
+    assert_eq!(rt; growths(&rt, rt.alloc(), &cut, &["f", "g"]), 5);
+    let paste = ["paste", "-s", "-d,;", "f", "-"];
+    assert_eq!(rt; growths(&rt, rt.alloc(), &paste, &["f"]), 4);
+    assert_eq!(rt; growths(&rt, rt.alloc(), &["paste", "f"], &["f"]), 3);
+    assert_eq!(rt;
+        growths(&rt, rt.alloc(), &["uniq", "-c", "f", "out"], &["f"]),
+        3
+    );
+    assert_eq!(rt;
+        growths(&rt, rt.alloc(), &["comm", "-1", "f", "g"], &["f", "g"]),
+        3
+    );
+    let join = ["join", "-o", "0", "-ex", "f", "-"];
+    assert_eq!(rt; growths(&rt, rt.alloc(), &join, &["f"]), 5);
+    assert_eq!(rt; growths(&rt, rt.alloc(), &["tr", "-d", "a"], &[]), 2);
+}
