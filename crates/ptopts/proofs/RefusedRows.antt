@@ -1,14 +1,12 @@
 -- Words that are refused, and the first fault of each: one row for each.
-use Prim.Native.String.{String}
-use Rattle.std.proofs.Common.{◌≡◌, ◌==◌, ℕ, List, [], ◌∷◌, ◌++◌, Err, refl, codes, map, replicate}
-use Rattle.std.specs.Prelude.{if◌then◌else◌}
+use Rattle.std.proofs.Common.{◌≡◌, ℕ, List, [], ◌∷◌, ◌++◌, Err, refl, codes, map, replicate}
 use Rattle.std.specs.Str.{byte}
 use Rattle.ptlangs.specs.declared.faults.SetFaultKind.{SetFaultKind}
 use Rattle.ptlangs.specs.declared.faults.SetFaultKind.TheVariants.{Empty, Octal, Escape, Descending, UnknownClass, ClassPlace, EquivPlace, RepeatPlace, RepeatSize, SecondFill}
 use Rattle.ptlangs.specs.declared.faults.SetString.{SetString}
 use Rattle.ptlangs.specs.declared.faults.SetString.TheVariants.{First, Second}
 use Rattle.ptopts.specs.Faults.{Fault, NoTool, Unknown, NeedsValue, Twice, Together, Value, Operands, StandardTwice, NeedsList, InString}
-use Rattle.ptopts.specs.Commands.{Command, meaning}
+use Rattle.ptopts.specs.Commands.{meaning}
 use Rattle.ptopts.proofs.RowWords.{words}
 
 abbrev refused : SetString → SetFaultKind → Fault
