@@ -9,6 +9,7 @@ pub mod EndedLines
 pub mod FieldLines
 pub mod FieldPlaces
 pub mod FieldWalks
+pub mod Fronts
 pub mod LineLaws
 pub mod LineLemmas
 pub mod PassLemmas
