@@ -3,7 +3,7 @@ use Rattle.std.proofs.Common.{◌≡◌, ⊎_elim, ℕ, zero, suc, ◌+◌, ◌-
 use Rattle.std.specs.Prelude.{nat_le}
 use Rattle.std.proofs.lemmas.Bool.{cases_order}
 use Rattle.std.proofs.lemmas.Bool.Decides.{nat_tests}
-use Rattle.std.proofs.lemmas.List.{append-nil, take_all, drop_all, take-take, drop-take, drop_more, length-take-le, take-append-drop, drop-append-le}
+use Rattle.std.proofs.lemmas.List.{take_all, drop_all, take-take, drop-take, drop_more, length-take-le, take-append-drop, drop-append-le}
 use Rattle.ptflow.proofs.Fronts.{Front, front_starts, front_same, front_more, front_fails, front_ends}
 use Rattle.ptlangs.specs.CutLists.{is_selected, AreApart}
 use Rattle.ptlangs.specs.declared.ranges.Interval.{Interval}

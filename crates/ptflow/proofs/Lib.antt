@@ -1,11 +1,8 @@
 pub mod BlockLemmas
+pub mod ByteRests
 pub mod Chosen
 pub mod Continuations
-pub mod CutLaws
-pub mod CutLines
-pub mod CutRests
 pub mod CutRows
-pub mod EndedLines
 pub mod FieldLines
 pub mod FieldPlaces
 pub mod FieldWalks

@@ -1,5 +1,5 @@
 use Rattle.std.proofs.Common.{◌+◌, take, drop}
-use Rattle.ptflow.specs.Workings.Pieces.{chosen_piece}
+use Rattle.ptflow.specs.Workings.CutRests.{chosen_piece}
 use Rattle.ptflow.proofs.Chosen.{Choosing}
 use Rattle.ptflow.proofs.bytes.push_selected.Given as goal
 

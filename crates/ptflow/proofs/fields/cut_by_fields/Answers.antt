@@ -4,9 +4,9 @@ use Rattle.ptlines.specs.Text.{text, lines, ended_lines, longest, IsLine}
 use Rattle.ptlines.proofs.Pushed.{wrote_nothing}
 use Rattle.ptlangs.specs.Jobs.{cut_job}
 use Rattle.ptflow.specs.Cuts.{cut_tool, cut_lines}
-use Rattle.ptflow.specs.Workings.FieldRests.{cut_from, GoesOn, BreaksOff}
-use Rattle.ptflow.proofs.CutLines.{cut_line_tool, cut_sure, line_continues, line_halts}
-use Rattle.ptflow.proofs.LineLemmas.{LineRun, run_starts, run_line, run_block, run_unslotted, run_read, run_memory, run_done, run_write_line, run_write_block, keeps_piece}
+use Rattle.ptflow.specs.Workings.CutRests.{cut_from, GoesOn, BreaksOff}
+use Rattle.ptflow.proofs.FieldLines.{cut_line_tool, cut_sure, line_continues, line_halts}
+use Rattle.ptflow.proofs.LineLemmas.{run_starts, run_line, run_block, run_unslotted, run_read, run_memory, run_done, run_write_line, run_write_block, keeps_piece}
 use Rattle.ptflow.proofs.SlotFacts.{keeps_starts, keeps_more, keeps_line, emptied}
 use Rattle.ptflow.proofs.fields.cut_by_fields.Goals as goal
 

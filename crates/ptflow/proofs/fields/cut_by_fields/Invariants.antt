@@ -1,6 +1,6 @@
 use Rattle.ptlines.specs.Readers.{budget}
 use Rattle.ptlangs.specs.Jobs.{cut_job}
-use Rattle.ptflow.specs.Workings.FieldRests.{cut_from}
+use Rattle.ptflow.specs.Workings.CutRests.{cut_from}
 use Rattle.ptflow.proofs.LineLemmas.{LineRun}
 use Rattle.ptflow.proofs.fields.cut_by_fields.Given as goal
 

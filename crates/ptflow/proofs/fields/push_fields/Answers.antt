@@ -1,4 +1,4 @@
-use Rattle.std.proofs.Common.{◌≡◌, ◌+◌, ◌-◌, ◌++◌, ℕ, List, refl, take, drop, sym, ◌∙◌, ap, subst}
+use Rattle.std.proofs.Common.{◌++◌, ℕ, List, refl, take, drop, sym, ◌∙◌, ap, subst}
 use Rattle.std.proofs.lemmas.List.{take_rest}
 use Rattle.std.specs.List.{join_with_byte}
 use Rattle.ptlangs.specs.CutLists.{is_selected}
@@ -6,7 +6,7 @@ use Rattle.ptlangs.specs.Jobs.{cut_job}
 use Rattle.ptlangs.specs.declared.ranges.Interval.{Interval}
 use Rattle.ptlines.specs.Outputs.{Wrote}
 use Rattle.ptflow.specs.Workings.FieldPlaces.{fields}
-use Rattle.ptflow.specs.Workings.Pieces.{fields_piece}
+use Rattle.ptflow.specs.Workings.CutRests.{fields_piece}
 use Rattle.ptflow.proofs.Chosen.{chosen}
 use Rattle.ptflow.proofs.FieldPlaces.{join_led}
 use Rattle.ptflow.proofs.FieldWalks.{walking_starts, walking_short, walking_more, walking_fails, walking_ends, walking_done, slice_is}

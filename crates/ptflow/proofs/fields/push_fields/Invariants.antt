@@ -1,6 +1,6 @@
 use Rattle.std.proofs.Common.{take, drop}
 use Rattle.ptlangs.specs.Jobs.{cut_job}
-use Rattle.ptflow.specs.Workings.Pieces.{fields_piece}
+use Rattle.ptflow.specs.Workings.CutRests.{fields_piece}
 use Rattle.ptflow.proofs.FieldWalks.{Walking}
 use Rattle.ptflow.proofs.fields.push_fields.Given as goal
 
