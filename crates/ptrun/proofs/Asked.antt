@@ -1,5 +1,5 @@
 -- What is asked for by words, as the command that was read of them says it.
-use Rattle.std.proofs.Common.{◌≡◌, ℕ, ◌+◌, ◌<◌, false, cond, List, [], ◌∷◌, Option, Some, None, Result, Ok, Err, length, refl, sym, ◌∙◌, ap, subst, arith}
+use Rattle.std.proofs.Common.{◌≡◌, ℕ, ◌+◌, ◌<◌, false, cond, List, [], ◌∷◌, Option, Some, None, Result, Ok, Err, length, refl, ap, subst, arith}
 use Rattle.std.specs.Prelude.{All, is_none}
 use Rattle.ptlangs.specs.Answers.{IsFault}
 use Rattle.ptlines.specs.Readers.{Reader}

@@ -1,7 +1,6 @@
 -- What is said of words that are refused, by each tool and for each reason: one row for each.
 use Rattle.std.proofs.Common.{◌≡◌, ℕ, List, [], ◌∷◌, ◌++◌, refl, codes, map, replicate}
 use Rattle.ptopts.proofs.RowWords.{words}
-use Rattle.ptrun.specs.Meanings.{Meaning}
 use Rattle.ptrun.specs.Asked.{asked, saying}
 
 abbrev rows : List (List (List ℕ) × List ℕ)

@@ -46,6 +46,12 @@ rows =
     ∷ (words "cut -f 1 - -", input (codes "a\tb"), writes (codes "a\n"))
     ∷ (words "cut -f 1", input (codes "\n\n"), writes (codes "\n\n"))
     ∷ (words "cut -s -f 1", input (codes "\n\n"), writes [])
+    ∷ (words "cut -z -c 1", input (codes "ab" ++ 0 ∷ codes "\ncd"), writes (codes "a" ++ 0 ∷ codes "\n" ++ 0 ∷ []))
+    ∷ (words "cut -d \n -f 2 -z", input (codes "a\nb" ++ 0 ∷ []), writes (codes "b" ++ 0 ∷ []))
+    ∷ (words "cut -d \n -f 2", input [], refuses (codes "cut: wrong value for option -d: \n\n"))
+    ∷ ((words "cut -z -f 2 -d" ++ (0 ∷ []) ∷ []), input [], refuses (codes "cut: wrong value for option -d: " ++ 0 ∷ codes "\n"))
+    ∷ (words "cut -zf1 - - f", Some (codes "a\tb" ++ 0 ∷ codes "c") ∷ None ∷ [], record { out = codes "a" ++ 0 ∷ codes "c" ++ 0 ∷ []; messages = codes "cut: f: cannot be opened\n"; status = 1 })
+    ∷ (words "tr -z a b", input [], refuses (codes "tr: unknown option in -z\n"))
     ∷ (words "uniq -c", input (codes "a\n"), record { out = []; messages = codes "uniq: not built yet\n"; status = 1 })
     ∷ []
 
@@ -63,3 +69,7 @@ fields_decided_before_a_failed_read = refl
 -- before a failed read of the second operand, the first was refused
 said_of_the_first_operand : named (asked (codes "cut" ∷ codes "-c" ∷ codes "1" ∷ codes "g" ∷ codes "f" ∷ codes "h" ∷ [])) (Some [] ∷ None ∷ Some (codes "x") ∷ None ∷ []) 1 ≡ codes "cut: g: cannot be opened\n"
 said_of_the_first_operand = refl
+
+-- a read fails behind the first line that byte 0 ends
+decided_of_lines_that_byte_0_ends : (asked (words "cut -z -c 1")).decided (Some (record { bytes = codes "ab" ++ 0 ∷ codes "\nc"; ended = false }) ∷ []) ≡ codes "a" ++ 0 ∷ []
+decided_of_lines_that_byte_0_ends = refl

@@ -1,5 +1,5 @@
 -- What some commands of tr are to write, from their words: one row for each.
-use Rattle.std.proofs.Common.{◌≡◌, ℕ, List, [], ◌∷◌, ◌++◌, Some, refl, codes, false, map}
+use Rattle.std.proofs.Common.{◌≡◌, ℕ, List, [], ◌∷◌, Some, refl, codes, false, map}
 use Rattle.ptlangs.specs.TrClasses.{all_bytes}
 use Rattle.ptopts.proofs.RowWords.{words}
 use Rattle.ptrun.specs.Asked.{asked}
