@@ -1,4 +1,5 @@
--- The items of a list that intervals choose.
+-- The items of a list that intervals choose. Intervals that lie apart choose one behind another, and each chooses a
+-- slice; so what all choose is the slices in a row.
 use Rattle.std.proofs.Common.{◌≡◌, ⊎_elim, ℕ, zero, suc, ◌+◌, ◌-◌, ◌<◌, ◌≤◌, Bool, true, false, cond, ◌&&◌, ◌||◌, List, [], ◌∷◌, ◌++◌, length, take, drop, get_or, min, append_assoc, length-drop, subst, refl, sym, ◌∙◌, ap, arith}
 use Rattle.std.specs.Prelude.{nat_le}
 use Rattle.std.proofs.lemmas.Bool.{cases_order}

@@ -1,5 +1,6 @@
--- What `cut` by fields writes of a line, and that it is a tool that works line by line.
-use Rattle.std.proofs.Common.{◌≡◌, ℕ, ◌+◌, ◌==◌, Bool, true, false, cond, not, ◌||◌, length, take, drop, arith, List, [], ◌∷◌, ◌++◌, refl, sym, ◌∙◌, ap, Option, None, Some, subst}
+-- What `cut` by fields writes of a line, by whether the delimiter is in it; and that it is a tool that works line by
+-- line. It carries nothing, so what is written of some lines and of others is what is written of both.
+use Rattle.std.proofs.Common.{◌≡◌, ℕ, ◌+◌, ◌==◌, Bool, true, false, cond, not, ◌||◌, length, take, drop, arith, List, [], ◌∷◌, ◌++◌, refl, sym, ◌∙◌, ap, Option, None, Some, subst, take-append-drop}
 use Rattle.std.specs.Option.{is_some}
 use Rattle.std.specs.List.{flat_map, list_any}
 use Rattle.std.proofs.lemmas.List.Folds.{list_any_at}
@@ -42,11 +43,8 @@ module _ (job : Cut) (by_fields : job.fields ≡ true) (line : List ℕ) where
   pub written_dropped : (tail : List ℕ) → list_any (is_delimiter job) line ≡ false → job.only ≡ true → written job line tail ≡ []
   written_dropped tail none only = rw (by_fields, none, only) refl
 
-  pub written_whole : (tail : List ℕ) → list_any (is_delimiter job) line ≡ false → job.only ≡ false → written job line tail ≡ line ++ tail
+  written_whole : (tail : List ℕ) → list_any (is_delimiter job) line ≡ false → job.only ≡ false → written job line tail ≡ line ++ tail
   written_whole tail none keeps = rw (by_fields, none, keeps) (append-nil (line ++ tail))
-
-  pub written_fields : (tail : List ℕ) → list_any (is_delimiter job) line ≡ true → written job line tail ≡ cut_fields job line ++ tail
-  written_fields tail some = rw (by_fields, some) (append-nil (cut_fields job line ++ tail))
 
   -- the line with its end, if it is written
   pub written_end : cut_lines job (line ∷ []) ≡ written job line [] ++ cond (is_kept job line) (job.end ∷ []) []
@@ -57,6 +55,10 @@ module _ (job : Cut) (by_fields : job.fields ≡ true) (line : List ℕ) where
       by_tests true only = rw by_fields (one job.end (cut_fields job line))
       by_tests false true = rw by_fields refl
       by_tests false false = rw by_fields (one job.end line)
+
+-- a line without the delimiter is written as it is
+pub piece_whole : (job : Cut) (count : ℕ) (bytes : List ℕ) → job.fields ≡ true → list_any (is_delimiter job) (take count bytes) ≡ false → job.only ≡ false → bytes ≡ line_piece job count bytes
+piece_whole job count bytes by_fields none keeps = sym (written_whole job by_fields (take count bytes) (drop count bytes) none keeps ∙ take-append-drop count bytes)
 
 -- what is written of a line that is all of these bytes
 pub written_all : (job : Cut) (bytes : List ℕ) → written job (take (length bytes) bytes) (drop (length bytes) bytes) ≡ written job bytes []

@@ -1,4 +1,5 @@
--- Laws of the lines of a text: whole lines and the piece behind them, the longest, and those of a block one by one.
+-- Laws of the lines of a text: whole lines and the piece behind them, the longest line, and the lines of a block one by
+-- one. All of them go by the first end in some bytes, in front of which no other stands.
 use Rattle.std.proofs.Common.{◌≡◌, ℕ, ◌+◌, ◌≤◌, ◌==◌, Bool, true, false, cond, List, [], ◌∷◌, ◌++◌, length, max, refl, sym, ◌∙◌, ap, subst, arith, take-append-drop, ◌-◌, Some, take, drop, append_assoc, length-append}
 use Rattle.std.specs.List.{onto_first}
 use Rattle.std.proofs.lemmas.Bool.{eqb-true, eqb-false}
