@@ -2,7 +2,7 @@
 -- slice; so what all choose is the slices in a row.
 use Rattle.std.proofs.Common.{◌≡◌, ⊎_elim, ℕ, zero, suc, ◌+◌, ◌-◌, ◌<◌, ◌≤◌, Bool, true, false, cond, ◌&&◌, ◌||◌, List, [], ◌∷◌, ◌++◌, length, take, drop, get_or, min, append_assoc, length-drop, subst, refl, sym, ◌∙◌, ap, arith}
 use Rattle.std.specs.Prelude.{nat_le}
-use Rattle.std.proofs.lemmas.Bool.{cases_order}
+use Rattle.std.proofs.lemmas.Bool.{cases_order, false≢true}
 use Rattle.std.proofs.lemmas.Bool.Decides.{nat_tests}
 use Rattle.std.proofs.lemmas.List.{take_all, drop_all, take-take, drop-take, drop_more, length-take-le, take-append-drop, drop-append-le}
 use Rattle.ptflow.proofs.Fronts.{Front, front_starts, front_same, front_more, front_fails, front_ends}
@@ -24,6 +24,9 @@ inside r n low high = grind (arith, nat_tests)
 below : (r : Interval) (n : ℕ) → n < r.first → lies_in r n ≡ false
 below r n low = grind (arith, nat_tests)
 
+last_of : (r : Interval) (n : ℕ) → lies_in r n ≡ true → n ≤ r.last
+last_of r n inside = grind (arith, nat_tests)
+
 above : (r : Interval) (n : ℕ) → r.last < n → lies_in r n ≡ false
 above r n high = grind (arith, nat_tests)
 
@@ -40,29 +43,27 @@ chosen_none test n (x ∷ xs) out = rw (out n (omega arith) (omega arith)) (chos
 pub chosen_past : {X : Type 0} (r : Interval) (n : ℕ) (xs : List X) → r.last < n → chosen (lies_in r) n xs ≡ []
 chosen_past r n xs past = chosen_none (lies_in r) n xs (λ k low high. above r k (omega arith))
 
--- the first interval chooses, and then the others; here for one item more
-chosen_step : {X : Type 0} (r : Interval) (rs : List Interval) (n : ℕ) (x : X) (xs : List X) → AreApart (r.last + 1) rs
-    → chosen (is_selected (r ∷ rs)) (n + 1) xs ≡ chosen (lies_in r) (n + 1) xs ++ chosen (is_selected rs) (n + 1) xs
-    → chosen (is_selected (r ∷ rs)) n (x ∷ xs) ≡ chosen (lies_in r) n (x ∷ xs) ++ chosen (is_selected rs) n (x ∷ xs)
-chosen_step {X} r rs n x xs apart more = ⊎_elim (λ is. early (omega (arith, is))) (λ h. ⊎_elim (λ low. early (omega (arith, low))) late h) (cases_order n r.last)
-  where
-    by_first : (a : Bool) → cond (a || false) (x ∷ chosen (is_selected (r ∷ rs)) (n + 1) xs) (chosen (is_selected (r ∷ rs)) (n + 1) xs) ≡ cond a (x ∷ chosen (lies_in r) (n + 1) xs) (chosen (lies_in r) (n + 1) xs) ++ chosen (is_selected rs) (n + 1) xs
-    by_first true = ap (λ (l : List X). x ∷ l) more
-    by_first false = more
+-- one item more: the others do not choose it where the first does, and where they do, the first chooses nothing more
+chosen_step : {X : Type 0} (x : X) (all first others : List X) (a b : Bool) → (a ≡ true → b ≡ false) → (b ≡ true → first ≡ []) → all ≡ first ++ others
+    → cond (a || b) (x ∷ all) all ≡ cond a (x ∷ first) first ++ cond b (x ∷ others) others
+chosen_step x all first others true true apart none more = absurd (false≢true (sym (apart refl)))
+chosen_step {X} x all first others true false apart none more = ap (λ (l : List X). x ∷ l) more
+chosen_step {X} x all first others false true apart none more = ap (λ (l : List X). x ∷ l) (more ∙ ap (λ (l : List X). l ++ others) (none refl)) ∙ ap (λ (l : List X). l ++ x ∷ others) (sym (none refl))
+chosen_step x all first others false false apart none more = more
 
-    early : n ≤ r.last → chosen (is_selected (r ∷ rs)) n (x ∷ xs) ≡ chosen (lies_in r) n (x ∷ xs) ++ chosen (is_selected rs) n (x ∷ xs)
-    early low = rw (not_selected rs (r.last + 1) n apart (omega arith)) (by_first (lies_in r n))
-
-    by_others : (b : Bool) → chosen (lies_in r) (n + 1) xs ≡ [] → cond b (x ∷ chosen (is_selected (r ∷ rs)) (n + 1) xs) (chosen (is_selected (r ∷ rs)) (n + 1) xs) ≡ chosen (lies_in r) (n + 1) xs ++ cond b (x ∷ chosen (is_selected rs) (n + 1) xs) (chosen (is_selected rs) (n + 1) xs)
-    by_others true none = ap (λ (l : List X). x ∷ l) (more ∙ ap (λ (l : List X). l ++ chosen (is_selected rs) (n + 1) xs) none) ∙ ap (λ (l : List X). l ++ x ∷ chosen (is_selected rs) (n + 1) xs) (sym none)
-    by_others false none = more
-
-    late : r.last < n → chosen (is_selected (r ∷ rs)) n (x ∷ xs) ≡ chosen (lies_in r) n (x ∷ xs) ++ chosen (is_selected rs) n (x ∷ xs)
-    late high = rw (above r n high) (by_others (is_selected rs n) (chosen_past r (n + 1) xs (omega arith)))
-
+-- the first interval chooses, and then the others
 pub chosen_first : {X : Type 0} (r : Interval) (rs : List Interval) (n : ℕ) (xs : List X) → AreApart (r.last + 1) rs → chosen (is_selected (r ∷ rs)) n xs ≡ chosen (lies_in r) n xs ++ chosen (is_selected rs) n xs
 chosen_first r rs n [] apart = refl
-chosen_first r rs n (x ∷ xs) apart = chosen_step r rs n x xs apart (chosen_first r rs (n + 1) xs apart)
+chosen_first {X} r rs n (x ∷ xs) apart = chosen_step x (chosen (is_selected (r ∷ rs)) (n + 1) xs) (chosen (lies_in r) (n + 1) xs) (chosen (is_selected rs) (n + 1) xs) (lies_in r n) (is_selected rs n) here there (chosen_first r rs (n + 1) xs apart)
+  where
+    late : (n ≤ r.last → ⊥) → r.last < n
+    late not = ⊎_elim (λ is. absurd (not (omega (arith, is)))) (λ h. ⊎_elim (λ low. absurd (not (omega (arith, low)))) (λ high. high) h) (cases_order n r.last)
+
+    here : lies_in r n ≡ true → is_selected rs n ≡ false
+    here inside = not_selected rs (r.last + 1) n apart (omega (arith, last_of r n inside))
+
+    there : is_selected rs n ≡ true → chosen (lies_in r) (n + 1) xs ≡ []
+    there other = chosen_past r (n + 1) xs (omega (arith, late (λ low. false≢true (sym (not_selected rs (r.last + 1) n apart (omega (arith, low))) ∙ other))))
 
 -- the first items are not chosen
 pub chosen_skip : {X : Type 0} (test : ℕ → Bool) (n count : ℕ) (xs : List X) → ((k : ℕ) → n ≤ k → k < n + count → test k ≡ false) → chosen test n xs ≡ chosen test (n + count) (drop count xs)

@@ -1,6 +1,6 @@
 -- Laws of the lines of a text: whole lines and the piece behind them, the longest line, and the lines of a block one by
 -- one. All of them go by the first end in some bytes, in front of which no other stands.
-use Rattle.std.proofs.Common.{◌≡◌, ℕ, ◌+◌, ◌≤◌, ◌==◌, Bool, true, false, cond, List, [], ◌∷◌, ◌++◌, length, max, refl, sym, ◌∙◌, ap, subst, arith, take-append-drop, ◌-◌, Some, take, drop, append_assoc, length-append}
+use Rattle.std.proofs.Common.{◌≡◌, ℕ, ◌+◌, ◌≤◌, ◌==◌, Bool, true, false, cond, List, [], ◌∷◌, ◌++◌, length, max, refl, sym, ◌∙◌, ap, arith, take-append-drop, ◌-◌, Some, take, drop, append_assoc, length-append}
 use Rattle.std.specs.List.{onto_first}
 use Rattle.std.proofs.lemmas.Bool.{eqb-true, eqb-false}
 use Rattle.ptlines.specs.Text.{text, lines, ended_lines, onto_line, IsLine, AreLines, longest}
@@ -16,38 +16,19 @@ pub record Parts (end : ℕ) (bytes : List ℕ) : Type 0 where
   pub whole : AreLines end (ended_lines end bytes)
   pub line : IsLine end piece
 
-parts_more : (end b : ℕ) (bytes : List ℕ) → Parts end bytes → Parts end (b ∷ bytes)
-parts_more end b bytes p = by_test (b == end) refl
-  where
-    at_end : (b == end) ≡ true → Parts end (b ∷ bytes)
-    at_end same = record {
-      piece = p.piece;
-      is = (λ i. eqb-true b end same i ∷ p.is i) ∙ ap (λ (t : Bool). text end (cond t ([] ∷ ended_lines end bytes) (onto_line b (ended_lines end bytes))) ++ p.piece) (sym same);
-      whole = subst (λ (t : Bool). AreLines end (cond t ([] ∷ ended_lines end bytes) (onto_line b (ended_lines end bytes)))) (sym same) (tt, p.whole);
-      line = p.line;
-    }
-
-    onto : (ls : List (List ℕ)) → bytes ≡ text end ls ++ p.piece → AreLines end ls → (b == end) ≡ false
-        → (piece : List ℕ) × (b ∷ bytes ≡ text end (onto_line b ls) ++ piece) × AreLines end (onto_line b ls) × IsLine end piece
-    onto [] is whole other = (b ∷ p.piece, ap (λ (l : List ℕ). b ∷ l) is, tt, (eqb-false b end other, p.line))
-    onto (l ∷ ls) is whole other = (p.piece, ap (λ (l : List ℕ). b ∷ l) is, ((eqb-false b end other, whole.0), whole.1), p.line)
-
-    inside : (b == end) ≡ false → Parts end (b ∷ bytes)
-    inside other =
-        let o = onto (ended_lines end bytes) p.is p.whole other in record {
-          piece = o.0;
-          is = o.1 ∙ ap (λ (t : Bool). text end (cond t ([] ∷ ended_lines end bytes) (onto_line b (ended_lines end bytes))) ++ o.0) (sym other);
-          whole = subst (λ (t : Bool). AreLines end (cond t ([] ∷ ended_lines end bytes) (onto_line b (ended_lines end bytes)))) (sym other) o.2;
-          line = o.3;
-        }
-
-    by_test : (t : Bool) → (b == end) ≡ t → Parts end (b ∷ bytes)
-    by_test true same = at_end same
-    by_test false other = inside other
+-- one byte more in front
+parts_step : (end b : ℕ) (bytes piece : List ℕ) (t : Bool) (ls : List (List ℕ)) → (b == end) ≡ t → bytes ≡ text end ls ++ piece → AreLines end ls → IsLine end piece
+    → (rest : List ℕ) × (b ∷ bytes ≡ text end (cond t ([] ∷ ls) (onto_line b ls)) ++ rest) × AreLines end (cond t ([] ∷ ls) (onto_line b ls)) × IsLine end rest
+parts_step end b bytes piece true ls same is whole line = (piece, (λ i. eqb-true b end same i ∷ is i), (tt, whole), line)
+parts_step end b bytes piece false [] other is whole line = (b ∷ piece, ap (λ (l : List ℕ). b ∷ l) is, tt, (eqb-false b end other, line))
+parts_step end b bytes piece false (l ∷ ls) other is whole line = (piece, ap (λ (l : List ℕ). b ∷ l) is, ((eqb-false b end other, whole.0), whole.1), line)
 
 pub parts_of : (end : ℕ) (bytes : List ℕ) → Parts end bytes
 parts_of end [] = record { piece = []; is = refl; whole = tt; line = tt }
-parts_of end (b ∷ bytes) = parts_more end b bytes (parts_of end bytes)
+parts_of end (b ∷ bytes) =
+    let p = parts_of end bytes in
+    let q = parts_step end b bytes p.piece (b == end) (ended_lines end bytes) refl p.is p.whole p.line in
+    record { piece = q.0; is = q.1; whole = q.2; line = q.3 }
 
 -- ---- the longest line
 
