@@ -1,8 +1,8 @@
 //! `tr`, from its words.
 
 use crate::commands::{
-    Case, Expected, FREE, Input, Limits, Row, assert_left, expect, expect_rows, over_standard,
-    expect_refused, expect_without_growth, run_over, writes,
+    Case, Expected, FREE, Input, Limits, Row, assert_left, expect, expect_refused, expect_rows,
+    expect_without_growth, over_standard, run_over, writes,
 };
 use crate::texts::text_of;
 use std::test::Fail;

@@ -235,7 +235,11 @@ pub fn expect_refused(
     let report = run(alloc, command, words, &mut [standard], out, messages);
     assert_eq!(rt; report.messages.bytes(), message.as_bytes(), "{words:?}");
     assert_eq!(rt; report.status, 2, "{words:?}");
-    assert_eq!(rt; (report.out.calls(), report.messages.flushes(), pulls.get()), (0, 0, 0), "{words:?}");
+    assert_eq!(rt;
+        (report.out.calls(), report.messages.flushes(), pulls.get()),
+        (0, 0, 0),
+        "{words:?}"
+    );
     Ok(())
 }
 

@@ -109,7 +109,10 @@ fn cut_across_blocks(
     for size in SIZES {
         let case = over_standard(&words, &text, *size);
         let report = run_over(rt, alloc, alloc, &case)?;
-        assert_eq!(rt; report.out.bytes(), [other, ending, b'd', b'\t', ending].as_slice());
+        assert_eq!(rt;
+            report.out.bytes(),
+            [other, ending, b'd', b'\t', ending].as_slice()
+        );
         assert_eq!(rt; report.status, 0);
         assert!(rt; report.peak <= longest, "{length} by {size}");
     }
