@@ -49,16 +49,20 @@ DashFollows us = (u : SetUnit) × (rest : List SetUnit) × (us ≡ Plain (byte "
 -- the units begin with the part, and the rest follows it
 pub data Begins : List SetUnit → Part → List SetUnit → Type 0 where
   InBrackets : (us : List SetUnit) (p : Part) (rest : List SetUnit) → Opens us p rest → Begins us p rest
-  ARange : (u v : SetUnit) (a b : ℕ) (rest : List SetUnit) → ¬ OpensForm (u ∷ Plain (byte "-") ∷ v ∷ rest) → Means u a → Means v b → a ≤ b
+  ARange : (u v : SetUnit) (a b : ℕ) (rest : List SetUnit) → ¬ OpensForm (u ∷ Plain (byte "-") ∷ v ∷ rest)
+      → Means u a → Means v b → a ≤ b
       → Begins (u ∷ Plain (byte "-") ∷ v ∷ rest) (Range a b) rest
-  Alone : (u : SetUnit) (a : ℕ) (rest : List SetUnit) → ¬ OpensForm (u ∷ rest) → ¬ DashFollows rest → Means u a → Begins (u ∷ rest) (Single a) rest
+  Alone : (u : SetUnit) (a : ℕ) (rest : List SetUnit) → ¬ OpensForm (u ∷ rest) → ¬ DashFollows rest → Means u a
+      → Begins (u ∷ rest) (Single a) rest
 
 -- the units begin with no part, for this fault
 pub data BeginsFaulty : List SetUnit → SetFaultKind → Type 0 where
   AFaultyUnit : (k : SetFaultKind) (rest : List SetUnit) → BeginsFaulty (Faulty k ∷ rest) k
-  AFaultyEnd : (u : SetUnit) (a : ℕ) (k : SetFaultKind) (rest : List SetUnit) → ¬ OpensForm (u ∷ Plain (byte "-") ∷ Faulty k ∷ rest) → Means u a
+  AFaultyEnd : (u : SetUnit) (a : ℕ) (k : SetFaultKind) (rest : List SetUnit)
+      → ¬ OpensForm (u ∷ Plain (byte "-") ∷ Faulty k ∷ rest) → Means u a
       → BeginsFaulty (u ∷ Plain (byte "-") ∷ Faulty k ∷ rest) k
-  ADescendingRange : (u v : SetUnit) (a b : ℕ) (rest : List SetUnit) → ¬ OpensForm (u ∷ Plain (byte "-") ∷ v ∷ rest) → Means u a → Means v b → b < a
+  ADescendingRange : (u v : SetUnit) (a b : ℕ) (rest : List SetUnit) → ¬ OpensForm (u ∷ Plain (byte "-") ∷ v ∷ rest)
+      → Means u a → Means v b → b < a
       → BeginsFaulty (u ∷ Plain (byte "-") ∷ v ∷ rest) Descending
 
 -- the units are these parts in order

@@ -78,9 +78,10 @@ string_pieces place (b ∷ text) = collected (pieces_of place (b ∷ text))
 -- the first part of these units that gives no piece, where a fill stood before them or not, has this fault
 pub data FirstFault (place : Place) : Bool → List SetUnit → SetFaultKind → Type 0 where
   NoPart : (filled : Bool) (us : List SetUnit) (k : SetFaultKind) → BeginsFaulty us k → FirstFault place filled us k
-  NoPiece : (filled : Bool) (us rest : List SetUnit) (p : Part) (k : SetFaultKind) → Begins us p rest → piece place filled p ≡ Err k → FirstFault place filled us k
-  Later : (filled : Bool) (us rest : List SetUnit) (p : Part) (x : Piece) (k : SetFaultKind) → Begins us p rest → piece place filled p ≡ Ok x
-      → FirstFault place (filled || is_fill (Ok x)) rest k → FirstFault place filled us k
+  NoPiece : (filled : Bool) (us rest : List SetUnit) (p : Part) (k : SetFaultKind) → Begins us p rest
+      → piece place filled p ≡ Err k → FirstFault place filled us k
+  Later : (filled : Bool) (us rest : List SetUnit) (p : Part) (x : Piece) (k : SetFaultKind) → Begins us p rest
+      → piece place filled p ≡ Ok x → FirstFault place (filled || is_fill (Ok x)) rest k → FirstFault place filled us k
 
 -- a string is refused for the fault of its first faulty part
 abbrev pub FaultsAreFirst : Type 0

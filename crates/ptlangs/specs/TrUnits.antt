@@ -21,7 +21,8 @@ is_octal_digit b = is_in_range (byte "0") (byte "7") b
 
 -- the escapes by a letter
 abbrev pub letters : List (ℕ × ℕ)
-letters = (byte "a", 7) ∷ (byte "b", 8) ∷ (byte "f", 12) ∷ (byte "n", 10) ∷ (byte "r", 13) ∷ (byte "t", 9) ∷ (byte "v", 11) ∷ []
+letters =
+    (byte "a", 7) ∷ (byte "b", 8) ∷ (byte "f", 12) ∷ (byte "n", 10) ∷ (byte "r", 13) ∷ (byte "t", 9) ∷ (byte "v", 11) ∷ []
 
 -- the byte that a backslash before c stands for: c itself, unless it is one of the letters
 abbrev pub escaped : ℕ → ℕ
@@ -36,20 +37,26 @@ begins_octal (b ∷ bs) = is_octal_digit b
 -- the octal digits of an escape, as many as there are up to three, before the rest
 pub data IsOctalRun : List ℕ → List ℕ → Type 0 where
   OneDigit : (a : ℕ) (rest : List ℕ) → is_octal_digit a ≡ true → begins_octal rest ≡ false → IsOctalRun (a ∷ []) rest
-  TwoDigits : (a b : ℕ) (rest : List ℕ) → is_octal_digit a ≡ true → is_octal_digit b ≡ true → begins_octal rest ≡ false → IsOctalRun (a ∷ b ∷ []) rest
-  ThreeDigits : (a b c : ℕ) (rest : List ℕ) → is_octal_digit a ≡ true → is_octal_digit b ≡ true → is_octal_digit c ≡ true → IsOctalRun (a ∷ b ∷ c ∷ []) rest
+  TwoDigits : (a b : ℕ) (rest : List ℕ) → is_octal_digit a ≡ true → is_octal_digit b ≡ true → begins_octal rest ≡ false
+      → IsOctalRun (a ∷ b ∷ []) rest
+  ThreeDigits : (a b c : ℕ) (rest : List ℕ) → is_octal_digit a ≡ true → is_octal_digit b ≡ true → is_octal_digit c ≡ true
+      → IsOctalRun (a ∷ b ∷ c ∷ []) rest
 
 -- the bytes begin with the unit, and the rest follows it
 pub data SpellsUnit : List ℕ → SetUnit → List ℕ → Type 0 where
   APlainByte : (b : ℕ) (rest : List ℕ) → b ≢ byte "\\" → SpellsUnit (b ∷ rest) (Plain b) rest
-  AnOctal : (digits rest : List ℕ) → IsOctalRun digits rest → digits_value 8 digits ≤ 255 → SpellsUnit (byte "\\" ∷ digits ++ rest) (Escaped (digits_value 8 digits)) rest
-  ALargeOctal : (digits rest : List ℕ) → IsOctalRun digits rest → 255 < digits_value 8 digits → SpellsUnit (byte "\\" ∷ digits ++ rest) (Faulty Octal) rest
-  AnEscape : (b : ℕ) (rest : List ℕ) → is_octal_digit b ≡ false → SpellsUnit (byte "\\" ∷ b ∷ rest) (Escaped (escaped b)) rest
+  AnOctal : (digits rest : List ℕ) → IsOctalRun digits rest → digits_value 8 digits ≤ 255
+      → SpellsUnit (byte "\\" ∷ digits ++ rest) (Escaped (digits_value 8 digits)) rest
+  ALargeOctal : (digits rest : List ℕ) → IsOctalRun digits rest → 255 < digits_value 8 digits
+      → SpellsUnit (byte "\\" ∷ digits ++ rest) (Faulty Octal) rest
+  AnEscape : (b : ℕ) (rest : List ℕ) → is_octal_digit b ≡ false
+      → SpellsUnit (byte "\\" ∷ b ∷ rest) (Escaped (escaped b)) rest
   ALoneBackslash : SpellsUnit (byte "\\" ∷ []) (Faulty Escape) []
 
 pub data SpellsUnits : List ℕ → List SetUnit → Type 0 where
   NoUnit : SpellsUnits [] []
-  AUnit : (bs rest : List ℕ) (u : SetUnit) (us : List SetUnit) → SpellsUnit bs u rest → SpellsUnits rest us → SpellsUnits bs (u ∷ us)
+  AUnit : (bs rest : List ℕ) (u : SetUnit) (us : List SetUnit) → SpellsUnit bs u rest → SpellsUnits rest us
+      → SpellsUnits bs (u ∷ us)
 
 -- ---- the same, computed
 

@@ -109,7 +109,9 @@ pub fn accepts_the_grammar()
 
 /// The first delimiter of a list, and what stands behind it.
 fn first_delim(text: &[u8]) -> Result<(Option<u8>, &[u8]), DelimFault>
-    ensures first { MatchResult result (λ found. delim_list text.now ≡ put_first found.0 (delims found.1.now)) (λ fault. delim_list text.now ≡ Err fault) }
+    ensures first { MatchResult result
+        (λ found. delim_list text.now ≡ put_first found.0 (delims found.1.now))
+        (λ fault. delim_list text.now ≡ Err fault) }
     ensures shorter { IfOk result (λ found. length found.1.now < length text.now) }
 {
     match text {

@@ -171,7 +171,9 @@ fn is_end(text: &[u8]) -> bool
 /// The number beside a dash, or the one that stands for nothing there.
 fn read_end(text: &[u8], default: u64) -> Result<u64, ListFault>
     requires { IsTrue (is_end text.now) }
-    ensures { MatchResult result (λ n. (n ≡ value_or default text.now) × (n ≤ greatest)) (λ e. (e ≡ ListFault.TooLarge) × (greatest < value_or default text.now)) }
+    ensures { MatchResult result
+        (λ n. (n ≡ value_or default text.now) × (n ≤ greatest))
+        (λ e. (e ≡ ListFault.TooLarge) × (greatest < value_or default text.now)) }
 {
     if text.is_empty() {
         return Ok(default);

@@ -1,14 +1,12 @@
 -- Words that are refused, and the first fault of each: one row for each.
-use Prim.Native.String.{String}
-use Rattle.std.proofs.Common.{◌≡◌, ◌==◌, ℕ, List, [], ◌∷◌, ◌++◌, Err, refl, codes, map, replicate}
-use Rattle.std.specs.Prelude.{if◌then◌else◌}
+use Rattle.std.proofs.Common.{◌≡◌, ℕ, List, [], ◌∷◌, ◌++◌, Err, refl, codes, map, replicate}
 use Rattle.std.specs.Str.{byte}
 use Rattle.ptlangs.specs.declared.faults.SetFaultKind.{SetFaultKind}
 use Rattle.ptlangs.specs.declared.faults.SetFaultKind.TheVariants.{Empty, Octal, Escape, Descending, UnknownClass, ClassPlace, EquivPlace, RepeatPlace, RepeatSize, SecondFill}
 use Rattle.ptlangs.specs.declared.faults.SetString.{SetString}
 use Rattle.ptlangs.specs.declared.faults.SetString.TheVariants.{First, Second}
 use Rattle.ptopts.specs.Faults.{Fault, NoTool, Unknown, NeedsValue, Twice, Together, Value, Operands, StandardTwice, NeedsList, InString}
-use Rattle.ptopts.specs.Commands.{Command, meaning}
+use Rattle.ptopts.specs.Commands.{meaning}
 use Rattle.ptopts.proofs.RowWords.{words}
 
 abbrev refused : SetString → SetFaultKind → Fault
@@ -158,10 +156,13 @@ rows =
     ∷ (words "tr" ++ [] ∷ words "b", refused First Empty)
     ∷ (words "tr a" ++ [] ∷ [], refused Second Empty)
     ∷ (words "tr -d \\400", refused First Octal)
+    ∷ (words "tr -d \\", refused First Escape)
     ∷ (words "tr -s a\\", refused First Escape)
     ∷ (words "tr a b\\", refused Second Escape)
     ∷ (words "tr z-a b", refused First Descending)
     ∷ (words "tr z-a" ++ [] ∷ [], refused First Descending)
+    ∷ (words "tr z-a \\", refused First Descending)
+    ∷ (words "tr ab [:upper:]z-a", refused Second Descending)
     ∷ (words "tr a-[:digit:] b", refused First Descending)
     ∷ (words "tr -d [:letter:]", refused First UnknownClass)
     ∷ (words "tr [:foo:] a", refused First UnknownClass)
@@ -172,9 +173,11 @@ rows =
     ∷ (words "tr 0 [=x=]", refused Second EquivPlace)
     ∷ (words "tr -s a [=b=]", refused Second EquivPlace)
     ∷ (words "tr [a*3] b", refused First RepeatPlace)
+    ∷ (words "tr -d [x*99999999]", refused First RepeatPlace)
     ∷ (words "tr abc [x*08]", refused Second RepeatSize)
     ∷ (words "tr a [b*65536]", refused Second RepeatSize)
     ∷ (words "tr a [x*][y*]", refused Second SecondFill)
+    ∷ (words "tr ab [x*][y*0]", refused Second SecondFill)
     ∷ (words "tr -ds a [b*][c*]", refused Second SecondFill)
     ∷ (words "cut -b1" ++ replicate 513 (codes "-"), Operands)
     ∷ (words "cut -b0" ++ replicate 513 (codes "-"), Value (byte "b") (codes "0"))

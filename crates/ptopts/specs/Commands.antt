@@ -168,7 +168,12 @@ order_from n (operand ∷ operands) =
 
 -- a job over these operands
 abbrev pub over : Job → List (List ℕ) → Option (List ℕ) → Command
-over job operands output = record { job = job; order = order_from 0 operands; names = file_names operands; output = output }
+over job operands output = record {
+  job = job;
+  order = order_from 0 operands;
+  names = file_names operands;
+  output = output;
+}
 
 -- ---- commands
 
@@ -182,7 +187,9 @@ unless (Some e) x = Err e
 
 -- the command of options that go together, or the first fault of their values, of the operands and of strings
 abbrev pub judged : Tool → List GivenOption → List (List ℕ) → Result Command Fault
-judged tool os operands = unless (first_of (values_fault tool os ∷ operands_fault tool os operands ∷ strings_fault tool os operands ∷ [])) (command tool os operands)
+judged tool os operands = unless
+    (first_of (values_fault tool os ∷ operands_fault tool os operands ∷ strings_fault tool os operands ∷ []))
+    (command tool os operands)
 
 -- the faults in their order: those of the reading, of combinations, of values, of operands, of strings
 abbrev pub first_fault : Tool → Reading → Option Fault
@@ -194,7 +201,8 @@ first_fault tool r =
 
 abbrev pub meaning_for : Option Tool → List (List ℕ) → Result Command Fault
 meaning_for None words = Err NoTool
-meaning_for (Some tool) words = let r = reading tool words in unless (first_fault tool r) (command tool (options r) r.operands)
+meaning_for (Some tool) words =
+    let r = reading tool words in unless (first_fault tool r) (command tool (options r) r.operands)
 
 -- what the words mean
 abbrev pub meaning : List (List ℕ) → Result Command Fault

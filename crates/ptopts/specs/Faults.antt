@@ -120,14 +120,18 @@ is_file_number value = bytes_eq value (codes "1") || bytes_eq value (codes "2")
 
 -- the first value that is refused
 abbrev pub values_fault : Tool → List GivenOption → Option Fault
-values_fault Cut options = first_of (map (value_fault options) ((byte "b", is_cut_list) ∷ (byte "c", is_cut_list) ∷ (byte "f", is_cut_list) ∷ (byte "d", is_delimiter (end_given options)) ∷ []))
+values_fault Cut options = first_of (map (value_fault options) (
+    (byte "b", is_cut_list) ∷ (byte "c", is_cut_list) ∷ (byte "f", is_cut_list)
+    ∷ (byte "d", is_delimiter (end_given options)) ∷ []))
 values_fault Paste options = value_fault options (byte "d", is_delimiter_list)
 values_fault Uniq options = first_of (map (value_fault options) ((byte "f", is_count) ∷ (byte "s", is_count) ∷ []))
 values_fault Comm options = None
 values_fault Join options = first_of (
     each_value_fault options (byte "a", is_file_number)
     ∷ each_value_fault options (byte "v", is_file_number)
-    ∷ map (value_fault options) ((byte "o", is_output_list) ∷ (byte "t", is_delimiter (end_given options)) ∷ (byte "1", is_field_number) ∷ (byte "2", is_field_number) ∷ []))
+    ∷ map (value_fault options) (
+    (byte "o", is_output_list) ∷ (byte "t", is_delimiter (end_given options))
+    ∷ (byte "1", is_field_number) ∷ (byte "2", is_field_number) ∷ []))
 values_fault Tr options = None
 
 -- ---- operands

@@ -1,10 +1,11 @@
 -- What the steps of reading a command answer: for the contracts of private functions alone.
-use Rattle.std.specs.Prelude.{◌≡◌, ℕ, List, [], ◌∷◌, ◌++◌, Bool, true, false, Option, None, Result, Ok, Err, IsSome, OnSome, option_map, map, filter_map, drop}
+use Rattle.std.specs.Prelude.{◌≡◌, ℕ, List, [], ◌∷◌, ◌++◌, Bool, true, false, Option, None, Result, Ok, Err, IsSome, OnSome, option_map, map, filter_map, drop, slice_index, ◌+◌}
+use Rattle.std.specs.Borrow.{Bor}
 use Rattle.ptopts.specs.declared.tool.Tool.{Tool}
 use Rattle.ptopts.specs.declared.fault.UseFault.{UseFault}
 use Rattle.ptopts.specs.declared.inputs.Inputs.{Inputs}
 use Rattle.ptopts.specs.declared.reading.GivenOption as given
-use Rattle.ptopts.specs.Words.{GivenOption, Event, option_in, events_of, takes_next, reading, options}
+use Rattle.ptopts.specs.Words.{GivenOption, Event, option_in, events_of, valued_event, takes_next, reading, options}
 use Rattle.ptopts.specs.Faults.{Fault, reading_fault}
 use Rattle.ptopts.specs.Commands.{Job, over}
 use Rattle.ptopts.specs.Meant.{meant, beside}
@@ -24,6 +25,13 @@ option_seen o = record { letter = o.letter; value = option_map (λ v. v.now) o.v
 
 abbrev pub options_seen : List given.GivenOption → List GivenOption
 options_seen os = map option_seen os
+
+abbrev pub next_seen : Option (Bor (List ℕ)) → Option (List ℕ)
+next_seen next = option_map (λ w. w.now) next
+
+-- what stands at this place of a word, where no flag does, before a next word
+abbrev pub event_at : Tool → List ℕ → ℕ → Option (List ℕ) → Event
+event_at tool word place next = valued_event tool word (slice_index word place) (drop (place + 1) word) next
 
 -- the options among events
 abbrev pub options_among : List Event → List GivenOption

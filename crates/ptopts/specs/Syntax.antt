@@ -32,63 +32,34 @@ apart letters = Apart (slice_index (codes letters) 0) (slice_index (codes letter
 abbrev pub one_of : String → Combination
 one_of letters = OneOf (slice_index (codes letters) 0) (slice_index (codes letters) 1) (slice_index (codes letters) 2)
 
+-- flags, letters with a value, those that may be given again, combinations, and operands
+abbrev pub row : String → String → String → List Combination → ℕ → ℕ → Bool → Syntax
+row flags valued repeatable combinations least most once = record {
+  flags = codes flags;
+  valued = codes valued;
+  repeatable = codes repeatable;
+  combinations = combinations;
+  least = least;
+  most = most;
+  once = once;
+}
+
+abbrev pub combinations : Tool → List Combination
+combinations Cut =
+    apart "bc" ∷ apart "bf" ∷ apart "cf" ∷ one_of "bcf"
+    ∷ apart "cn" ∷ apart "fn" ∷ apart "bd" ∷ apart "cd" ∷ apart "bs" ∷ apart "cs" ∷ []
+combinations Uniq = apart "cd" ∷ apart "cu" ∷ apart "du" ∷ []
+combinations Join = apart "av" ∷ []
+combinations Tr = apart "cC" ∷ []
+combinations _ = []
+
 abbrev pub syntax : Tool → Syntax
-syntax Cut = record {
-  flags = codes "nsz";
-  valued = codes "bcfd";
-  repeatable = [];
-  combinations =
-      apart "bc" ∷ apart "bf" ∷ apart "cf" ∷ one_of "bcf"
-      ∷ apart "cn" ∷ apart "fn" ∷ apart "bd" ∷ apart "cd" ∷ apart "bs" ∷ apart "cs" ∷ [];
-  least = 0;
-  most = 512;
-  once = false;
-}
-syntax Paste = record {
-  flags = codes "sz";
-  valued = codes "d";
-  repeatable = [];
-  combinations = [];
-  least = 1;
-  most = 512;
-  once = false;
-}
-syntax Uniq = record {
-  flags = codes "cduz";
-  valued = codes "fs";
-  repeatable = [];
-  combinations = apart "cd" ∷ apart "cu" ∷ apart "du" ∷ [];
-  least = 0;
-  most = 2;
-  once = false;
-}
-syntax Comm = record {
-  flags = codes "123rz";
-  valued = [];
-  repeatable = [];
-  combinations = [];
-  least = 2;
-  most = 2;
-  once = true;
-}
-syntax Join = record {
-  flags = codes "rz";
-  valued = codes "aveot12";
-  repeatable = codes "av";
-  combinations = apart "av" ∷ [];
-  least = 2;
-  most = 2;
-  once = true;
-}
-syntax Tr = record {
-  flags = codes "cCds";
-  valued = [];
-  repeatable = [];
-  combinations = apart "cC" ∷ [];
-  least = 1;
-  most = 2;
-  once = false;
-}
+syntax Cut = row "nsz" "bcfd" "" (combinations Cut) 0 512 false
+syntax Paste = row "sz" "d" "" (combinations Paste) 1 512 false
+syntax Uniq = row "cduz" "fs" "" (combinations Uniq) 0 2 false
+syntax Comm = row "123rz" "" "" (combinations Comm) 2 2 true
+syntax Join = row "rz" "aveot12" "av" (combinations Join) 2 2 true
+syntax Tr = row "cCds" "" "" (combinations Tr) 1 2 false
 
 -- a row of the code
 abbrev pub row_seen : code.Syntax → Syntax

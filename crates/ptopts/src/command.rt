@@ -142,8 +142,10 @@ fn read_inputs<'a, A: Allocator + Copy>(
     options: &[GivenOption<'a>],
     operands: &[&'a str],
 ) -> Result<Inputs<'a, A>, UseFault<'a>>
-    ensures fault { FindsUnlessRefused result (operands_fault tool (options_seen options.now) (words_seen operands.now)) }
-    ensures inputs { IfOk result (AreInputs (inputs tool (words_seen operands.now)) (output tool (words_seen operands.now))) }
+    ensures fault { FindsUnlessRefused result
+        (operands_fault tool (options_seen options.now) (words_seen operands.now)) }
+    ensures inputs { IfOk result
+        (AreInputs (inputs tool (words_seen operands.now)) (output tool (words_seen operands.now))) }
 {
     check_operands(tool, options, operands)?;
     Ok(inputs_named(alloc, tool, operands)?)
@@ -156,7 +158,8 @@ fn inputs_named<'a, A: Allocator + Copy>(
     tool: Tool,
     operands: &[&'a str],
 ) -> Result<Inputs<'a, A>, AllocError>
-    ensures { IfOk result (AreInputs (inputs tool (words_seen operands.now)) (output tool (words_seen operands.now))) }
+    ensures { IfOk result
+        (AreInputs (inputs tool (words_seen operands.now)) (output tool (words_seen operands.now))) }
 {
     match (tool, operands) {
         (Tool::Tr, _) | (Tool::Cut | Tool::Uniq, []) => Inputs::standard(alloc),

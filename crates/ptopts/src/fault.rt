@@ -27,8 +27,8 @@ pub enum UseFault<'a> {
     StandardTwice,
     /// Fault 9. `cut` has no list.
     NeedsList,
-    /// Fault 10 for the first string of `tr`, fault 11 for the second: which of the two is refused, and why. The kind is
-    /// never `SetFaultKind::Memory`.
+    /// Fault 10 for the first string of `tr`, fault 11 for the second: which of them is refused, and why. The kind
+    /// is never `SetFaultKind::Memory`.
     String(SetFault),
     /// Fault 12. A growth of memory was refused.
     Memory,

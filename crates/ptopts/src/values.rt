@@ -33,7 +33,8 @@ fn end(options: &[GivenOption]) -> u8
 
 /// The one byte of a letter's value, which ends no line (this project's own choice).
 fn delimiter<'a>(options: &[GivenOption<'a>], letter: u8) -> Result<Option<u8>, UseFault<'a>>
-    ensures fault { Finds result (value_fault (options_seen options.now) (letter, is_delimiter (end_given (options_seen options.now)))) }
+    ensures fault { let os = options_seen options.now in
+        Finds result (value_fault os (letter, is_delimiter (end_given os))) }
     ensures byte { IfOk result (λ b. b ≡ byte_given letter (options_seen options.now)) }
 {
     let Some(text) = value(options, letter) else {

@@ -24,7 +24,8 @@ fn cut_list<'a, A: Allocator + Copy>(
     letter: u8,
 ) -> Result<Option<Ranges<A>>, UseFault<'a>>
     ensures fault { FindsUnlessRefused result (value_fault (options_seen options.now) (letter, is_cut_list)) }
-    ensures list { IfOk result (λ r. option_map is_selected r ≡ option_map set_of (value_of letter (options_seen options.now))) }
+    ensures list { IfOk result
+        (λ r. option_map is_selected r ≡ option_map set_of (value_of letter (options_seen options.now))) }
 {
     let Some(text) = value(options, letter) else {
         return Ok(None);
