@@ -1,14 +1,12 @@
 pub mod BlockLemmas
+pub mod ByteRests
 pub mod Chosen
 pub mod Continuations
-pub mod CutLaws
-pub mod CutLines
-pub mod CutRests
 pub mod CutRows
-pub mod EndedLines
 pub mod FieldLines
 pub mod FieldPlaces
 pub mod FieldWalks
+pub mod Fronts
 pub mod LineLaws
 pub mod LineLemmas
 pub mod PassLemmas

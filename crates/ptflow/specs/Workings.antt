@@ -1,8 +1,6 @@
 -- What only private functions and proofs speak of.
 pub mod Blocks
-pub mod ByteRests
 pub mod Continuations
+pub mod CutRests
 pub mod FieldPlaces
-pub mod FieldRests
-pub mod Pieces
 pub mod TrRests
