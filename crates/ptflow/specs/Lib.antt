@@ -1,5 +1,5 @@
 pub mod Cuts
-pub mod FieldPlaces
-pub mod Rests
-pub mod Runs
-pub mod Translating
+pub mod Passes
+pub mod Tools
+pub mod Translations
+pub mod Workings

@@ -18,6 +18,8 @@ pub struct CutJob<A: Allocator = Global> {
     pub delim: u8,
     /// Whether a line without the delimiter is dropped (`-s`), and not passed on.
     pub only: bool,
+    /// Whether lines end with byte 0 (`-z`), and not with newline. This project's own option.
+    pub zero: bool,
 }
 
 /// What `paste` is to do.
@@ -27,6 +29,8 @@ pub struct PasteJob<A: Allocator = Global> {
     pub serial: bool,
     /// What stands between the columns (`-d`). The default is a tab.
     pub delims: Delims<A>,
+    /// Whether lines end with byte 0 (`-z`), and not with newline. This project's own option.
+    pub zero: bool,
 }
 
 impl<A: Allocator> PasteJob<A> {
@@ -41,6 +45,7 @@ impl<A: Allocator> PasteJob<A> {
         Ok(PasteJob {
             serial: false,
             delims: Delims::tab(alloc)?,
+            zero: false,
         })
     }
 }
@@ -67,6 +72,8 @@ pub struct UniqJob {
     pub fields: u64,
     /// How many bytes are passed over behind these fields (`-s`). The default is 0.
     pub chars: u64,
+    /// Whether lines end with byte 0 (`-z`), and not with newline. This project's own option.
+    pub zero: bool,
 }
 
 impl Default for UniqJob {
@@ -80,6 +87,7 @@ impl Default for UniqJob {
             show: Show::All,
             fields: 0,
             chars: 0,
+            zero: false,
         }
     }
 }
@@ -89,6 +97,10 @@ impl Default for UniqJob {
 pub struct CommJob {
     /// For each of the three columns, whether it is left out (`-1`, `-2`, `-3`). By default none is.
     pub hide: [bool; 3],
+    /// Whether lines end with byte 0 (`-z`), and not with newline. This project's own option.
+    pub zero: bool,
+    /// Whether the lines stand in descending order (`-r`), and not in ascending order. This project's own option.
+    pub descending: bool,
 }
 
 impl Default for CommJob {
@@ -98,7 +110,11 @@ impl Default for CommJob {
     ghost is_default = { λ job. comm_job job ≡ default_comm };
 
     fn default() -> CommJob {
-        CommJob { hide: [false; 3] }
+        CommJob {
+            hide: [false; 3],
+            zero: false,
+            descending: false,
+        }
     }
 }
 
@@ -119,6 +135,11 @@ pub struct JoinJob<A: Allocator = Global> {
     pub sep: Option<u8>,
     /// The number of the join field in each of the two files (`-1`, `-2`). The default is 1.
     pub field: [u64; 2],
+    /// Whether lines end with byte 0 (`-z`), and not with newline. This project's own option.
+    pub zero: bool,
+    /// Whether the join fields stand in descending order (`-r`), and not in ascending order. This project's own
+    /// option.
+    pub descending: bool,
 }
 
 impl<A: Allocator> JoinJob<A> {
@@ -133,6 +154,8 @@ impl<A: Allocator> JoinJob<A> {
             list: None,
             sep: None,
             field: [1; 2],
+            zero: false,
+            descending: false,
         }
     }
 }

@@ -6,7 +6,7 @@ use Rattle.memchr.specs.Find.{IsFirstByte, is_byte}
 use Rattle.ptflow.proofs.FieldPlaces.{starts_first, starts_next, no_more}
 use Rattle.ptlines.specs.Text.{IsLine}
 use Rattle.ptlines.proofs.Scanned.{no_end}
-use Rattle.ptflow.specs.FieldPlaces.{fields, StartsAt}
+use Rattle.ptflow.specs.Workings.FieldPlaces.{fields, StartsAt}
 use Rattle.ptflow.proofs.fields.field_start.Goals as goal
 
 pub returns-then-count-line : goal.returns-then-count-line

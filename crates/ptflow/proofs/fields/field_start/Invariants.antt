@@ -1,4 +1,4 @@
-use Rattle.ptflow.specs.FieldPlaces.{StartsAt}
+use Rattle.ptflow.specs.Workings.FieldPlaces.{StartsAt}
 use Rattle.ptflow.proofs.fields.field_start.Given as goal
 
 abbrev pub invariant-loop-field : goal.invariant-loop-field

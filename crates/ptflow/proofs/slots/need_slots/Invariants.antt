@@ -1,4 +1,4 @@
-use Rattle.std.proofs.Common.{◌≡◌, ◌-◌, false, length}
+use Rattle.std.proofs.Common.{◌≡◌, ◌≤◌, ◌-◌, false, length, max}
 use Rattle.ptlines.specs.Slots.{total}
 use Rattle.ptflow.proofs.slots.need_slots.Given as goal
 
@@ -7,6 +7,8 @@ invariant-loop-store g l = record {
   allowed : l.store.denied ≡ false;
   same_total : total l.store.lines ≡ total l.fn.store.lines;
   same_peak : l.store.peak ≡ l.fn.store.peak;
+  least : length l.fn.store.lines ≤ length l.store.lines;
+  most : length l.store.lines ≤ max (length l.fn.store.lines) l.count;
 }
 
 abbrev pub decreases-loop-store : goal.decreases-loop-store

@@ -1,0 +1,6 @@
+-- What only private functions and proofs speak of.
+pub mod Blocks
+pub mod Continuations
+pub mod CutRests
+pub mod FieldPlaces
+pub mod TrRests

@@ -1,0 +1,19 @@
+-- The fields of a line.
+use Rattle.std.specs.Prelude.{◌≡◌, ℕ, ◌≤◌, ◌==◌, List, ◌∷◌, length, take, drop}
+use Rattle.std.specs.List.{flat_map, slice_split}
+
+-- a line is split at every delimiter
+abbrev pub fields : ℕ → List ℕ → List (List ℕ)
+fields delimiter line = slice_split (λ b. b == delimiter) line
+
+-- each field, and a delimiter in front of it
+abbrev pub led : ℕ → List (List ℕ) → List ℕ
+led delimiter fs = flat_map (λ field. delimiter ∷ field) fs
+
+-- With one more delimiter in front of a line, its first n fields end where the delimiter in front of this place stands.
+pub record StartsAt (delimiter n : ℕ) (line : List ℕ) (at : ℕ) : Type 0 where
+  pub fits : at ≤ length line
+  pub count : n ≤ at
+  pub front : take at (delimiter ∷ line) ≡ led delimiter (take n (fields delimiter line))
+  pub behind : drop at (delimiter ∷ line) ≡ delimiter ∷ drop at line
+  pub later : drop n (fields delimiter line) ≡ fields delimiter (drop at line)
