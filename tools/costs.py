@@ -119,7 +119,8 @@ def slow(rt, crates, count):
             copied(rt, crate, room)
             words = [rt.rtlib.RATTLE, "check", *crate.words(["--jobs", "1"], keeps=False), "--progress"]
             found, before = [], 0.0
-            with subprocess.Popen(words, cwd=room, stdin=subprocess.DEVNULL, stdout=subprocess.PIPE, text=True) as ran:
+            pipes = {"stdin": subprocess.DEVNULL, "stdout": subprocess.PIPE, "stderr": subprocess.STDOUT}
+            with subprocess.Popen(words, cwd=room, text=True, **pipes) as ran:
                 for line in ran.stdout:
                     done = re.match(r"checked (.*), \d+ of \d+$", line)
                     now = used_by(ran.pid)
