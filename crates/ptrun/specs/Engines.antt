@@ -61,7 +61,8 @@ blame p (Read place) = Read p
 blame p Write = Write
 blame p Memory = Memory
 
-abbrev pub WentTo : Meaning → Received → List Reader → List Reader → List ℕ → Bool → Bool → ℕ → Result Done FlowFault → Type 0
+abbrev pub WentTo : Meaning → Received → List Reader → List Reader → List ℕ → Bool → Bool → ℕ
+    → Result Done FlowFault → Type 0
 WentTo m r old new pushed failed denied n (Ok done) =
     IsWhole m r old new pushed failed denied n
     × ((w : World) → Allows r w → (last_words m.tool m.names (Ok done) ≡ m.closing w) × (status_after (Ok done) ≡ m.status w))

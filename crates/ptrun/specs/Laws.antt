@@ -7,4 +7,5 @@ use Rattle.ptflow.specs.Cuts.{cut_lines, cut, cut_decided}
 
 -- where the end was said, all is decided
 pub cut_all_decided : (job : Cut) (g : Given) → g.ended ≡ true → cut_decided job g ≡ cut job g.bytes
-cut_all_decided job g ended = ap (λ (b : Bool). cut_lines job (cond b (lines job.end g.bytes) (ended_lines job.end g.bytes))) ended
+cut_all_decided job g ended =
+    ap (λ (b : Bool). cut_lines job (cond b (lines job.end g.bytes) (ended_lines job.end g.bytes))) ended

@@ -68,7 +68,8 @@ not_opened tool name = line_of (tool ∷ codes ": " ∷ name ∷ codes ": cannot
 
 -- lines are counted from 1
 abbrev pub out_of_order : List ℕ → List (List ℕ) → ℕ → ℕ → List ℕ
-out_of_order tool names place line = line_of (tool ∷ codes ": " ∷ name_of names place ∷ codes ": line " ∷ decimal line ∷ codes " is out of order" ∷ [])
+out_of_order tool names place line =
+    line_of (tool ∷ codes ": " ∷ name_of names place ∷ codes ": line " ∷ decimal line ∷ codes " is out of order" ∷ [])
 
 -- the one message of a failure
 abbrev pub failure : List ℕ → List (List ℕ) → FlowFault → List ℕ

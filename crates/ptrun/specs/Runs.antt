@@ -46,7 +46,8 @@ pub record IsWhole (m : Meaning) (r : Received) (old new : List Reader) (pushed 
 -- The failure was one, and no other. A read failed at the place of the next operand, which is no earlier operand's.
 abbrev pub Cause : Meaning → Received → List Reader → List Reader → Bool → Bool → ℕ → FlowFault → Type 0
 Cause m r old new failed denied n (Read p) =
-    (slice_get m.places n ≡ Some p) × (is_in (take n m.places) p ≡ false) × (HasFailed old new p ⊎ IsTooLong (at r p)) × (failed ≡ false) × (denied ≡ false)
+    (slice_get m.places n ≡ Some p) × (is_in (take n m.places) p ≡ false)
+    × (HasFailed old new p ⊎ IsTooLong (at r p)) × (failed ≡ false) × (denied ≡ false)
 Cause m r old new failed denied n Write = failed ≡ true
 Cause m r old new failed denied n Memory = (denied ≡ true) × (failed ≡ false)
 
@@ -58,9 +59,11 @@ pub record IsStopped (m : Meaning) (r : Received) (old new : List Reader) (said 
   pub cause : Cause m r old new o.out.failed o.denied n fault
   pub status_is : o.status ≡ 1
 
-abbrev pub EndsAs : Meaning → Received → List Reader → List Reader → List ℕ → List ℕ → Outcome → ℕ → Option FlowFault → Type 0
+abbrev pub EndsAs : Meaning → Received → List Reader → List Reader → List ℕ → List ℕ → Outcome → ℕ
+    → Option FlowFault → Type 0
 EndsAs m r old new written said o n None =
-    IsWhole m r old new written o.out.failed o.denied n × ((w : World) → Allows r w → (said ≡ messages m w) × (o.status ≡ m.status w))
+    IsWhole m r old new written o.out.failed o.denied n
+    × ((w : World) → Allows r w → (said ≡ messages m w) × (o.status ≡ m.status w))
 EndsAs m r old new written said o n (Some fault) = IsStopped m r old new said o n fault
 
 -- ---- a run

@@ -5,7 +5,8 @@ use Rattle.ptlines.specs.Readers.{Reader, unread}
 use Rattle.ptlines.specs.Inputs.{Given, Came}
 use Rattle.ptlines.specs.Inputs as one
 
--- The bytes of each input by its place, or nothing where it could not be opened. Standard input is at 0, and then the files in order.
+-- The bytes of each input by its place, or nothing where it could not be opened. Standard input is at 0, and then come
+-- the files in order.
 abbrev pub World : Type 0
 World = List (Option (List ℕ))
 
@@ -26,7 +27,8 @@ AllowsAt None (Some bytes) = ⊥
 AllowsAt (Some g) None = ⊥
 AllowsAt (Some g) (Some bytes) = one.Agrees g bytes
 
--- What was received allows this world: the same inputs could not be opened, and each other one agrees with what came of it.
+-- What was received allows this world: the same inputs could not be opened, and each other one agrees with what came
+-- of it.
 abbrev pub Allows : Received → World → Type 0
 Allows r w = (place : ℕ) → AllowsAt (at r place) (at w place)
 
@@ -86,7 +88,8 @@ AreFresh files readers = (length readers ≡ files + 1) × All IsFresh readers
 -- a read of an input that was opened has failed
 abbrev pub HasFailed : List Reader → List Reader → ℕ → Type 0
 HasFailed old new place =
-    ((reader_at old place).refused ≡ false) × ((reader_at old place).failed ≡ false) × ((reader_at new place).failed ≡ true)
+    ((reader_at old place).refused ≡ false) × ((reader_at old place).failed ≡ false)
+    × ((reader_at new place).failed ≡ true)
 
 -- too much came of it
 abbrev pub IsTooLong : Option Given → Type 0
