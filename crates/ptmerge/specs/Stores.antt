@@ -1,0 +1,16 @@
+-- The slots that a merge needs of a store.
+use Rattle.std.specs.Prelude.{◌≡◌, true, length, max}
+use Rattle.ptlines.specs.Slots.{Slots, total}
+
+-- the slots that were missing of the first four were added, and nothing else happened
+pub record HasFour (before after : Slots) : Type 0 where
+  pub slots : length after.lines ≡ max (length before.lines) 4
+  pub total : total after.lines ≡ total before.lines
+  pub peak : after.peak ≡ before.peak
+  pub denied : after.denied ≡ before.denied
+
+-- memory for a slot was refused, and the lines are what they were
+pub record HasNoSlots (before after : Slots) : Type 0 where
+  pub total : total after.lines ≡ total before.lines
+  pub peak : after.peak ≡ before.peak
+  pub denied : after.denied ≡ true
