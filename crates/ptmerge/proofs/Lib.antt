@@ -1,2 +1,11 @@
+pub mod Bounds
+pub mod Got
+pub mod Least
+pub mod LineLaws
+pub mod Passing
 pub mod Orders
+pub mod Pairs
 pub mod Slotted
+pub mod Splitting
+pub mod Standing
+pub mod Stopping

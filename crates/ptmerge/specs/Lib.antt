@@ -1,4 +1,7 @@
+pub mod Comm
 pub mod Exact
+pub mod Keyed
+pub mod Merges
 pub mod Orders
 pub mod Places
 pub mod Sides

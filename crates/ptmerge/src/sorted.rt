@@ -43,7 +43,7 @@ impl Sorted {
         ensures place { result ≡ fresh side }
         ensures sound { IsSound reader.now }
     {
-        let _ending = reader.ending();
+        let _refused = reader.is_refused();
         let previous = match side {
             Side::First => 0,
             Side::Second => 2,
