@@ -9,3 +9,4 @@ pub mod Slotted
 pub mod Splitting
 pub mod Standing
 pub mod Stopping
+pub mod Turning
