@@ -1,4 +1,7 @@
 pub mod Bounds
+pub mod CommEntries
+pub mod CommStarts
+pub mod CommTurns
 pub mod Got
 pub mod Least
 pub mod LineLaws

@@ -3,6 +3,7 @@ pub mod Exact
 pub mod Keyed
 pub mod Merges
 pub mod Orders
+pub mod Passes
 pub mod Places
 pub mod Sides
 pub mod Steps

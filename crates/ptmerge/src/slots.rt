@@ -1,5 +1,5 @@
-ghost use Rattle.std.specs.Prelude.{◌≡◌, false, OnOk, OnErr, length};
-ghost use Rattle.ptmerge.specs.Stores.{HasFour, HasNoSlots};
+ghost use Rattle.std.specs.Prelude.{◌≡◌, ◌≤◌, false, OnOk, OnErr, length};
+ghost use Rattle.ptmerge.specs.Stores.{HasFour, HasNoSlots, IsCleared};
 
 use ptlines::{LineFault, Store};
 use std::alloc::Allocator;
@@ -15,4 +15,15 @@ pub(crate) fn need_four<A: Allocator + Copy>(store: &mut Store<A>) -> Result<(),
         store.add()?;
     }
     Ok(())
+}
+
+// Empties the first four slots.
+pub(crate) fn clear_four<A: Allocator + Copy>(store: &mut Store<A>)
+    requires { 4 ≤ length store.old.lines }
+    ensures { IsCleared store.old store.new }
+{
+    store.clear(0);
+    store.clear(1);
+    store.clear(2);
+    store.clear(3);
 }
