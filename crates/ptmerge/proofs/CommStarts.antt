@@ -20,7 +20,7 @@ use Rattle.ptmerge.specs.Sides.{both, put, other}
 use Rattle.ptmerge.specs.Steps.{Begins, Inputs, StartBreaks, Starts, BreaksFirst, BreaksSecond, IsUnslotted}
 use Rattle.ptmerge.specs.Stores.{HasFour}
 use Rattle.ptmerge.proofs.Bounds.{Bound, Free, begun_none}
-use Rattle.ptmerge.proofs.CommTurns.{Running, bounded}
+use Rattle.ptmerge.proofs.CommTurns.{Running, bounded, breaks_slots}
 use Rattle.ptmerge.proofs.Got.{More, got_none, reads_nothing}
 use Rattle.ptmerge.proofs.Orders.{IsKeyOrder}
 use Rattle.ptmerge.proofs.Pairs.{both_each, put_same}
@@ -122,3 +122,10 @@ module _ (job : Comm) (cmp : Cmp) (key : Side → Key) (o : IsKeyOrder cmp) (old
   starts_badly new1 new2 after fault (inl u) = unslotted (record { reader = both new1 new2; store = after }) fault u
   starts_badly new1 new2 after fault (inr (inl f)) = subst (λ r. IsMerge (comm_by job cmp key) old (record { reader = both new1 r; out = old.out; store = after }) (Err fault)) (sym f.unread) (first_breaks new1 f.made after fault f.four f.breaks)
   starts_badly new1 new2 after fault (inr (inr f)) = second_breaks f.begins.made f.begins.mid f.begins.four new1 f.first f.begins.came new2 after fault f.begins.later
+
+  -- how many slots there are where `comm` could not start
+  pub start_slots : (new1 new2 : Reader) (after : Slots) (fault : MergeFault) → StartBreaks key cmp (record { reader = old.reader; store = old.store }) (record { reader = both new1 new2; store = after }) fault → after.denied ≡ false → length after.lines ≡ max (length old.store.lines) 4
+  start_slots new1 new2 after fault (inl u) allowed = absurd (false≢true (sym allowed ∙ u.slots.denied))
+  start_slots new1 new2 after fault (inr (inl f)) allowed = breaks_slots First (fresh First) (old.reader First) new1 f.made after fault (max (length old.store.lines) 4) f.four.slots f.breaks allowed
+  start_slots new1 new2 after fault (inr (inr f)) allowed =
+      breaks_slots Second (fresh Second) (old.reader Second) new2 f.begins.mid after fault (max (length old.store.lines) 4) (half_keeps f.begins.made f.begins.mid f.begins.four new1 f.first f.begins.came).slots f.begins.later allowed

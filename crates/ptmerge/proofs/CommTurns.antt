@@ -16,11 +16,12 @@ use Rattle.ptmerge.specs.declared.sorted.Sorted.{Sorted}
 use Rattle.ptmerge.specs.declared.sorted.Stand.TheVariants.{Head, Ended}
 use Rattle.ptmerge.specs.Comm.{comm_by}
 use Rattle.ptmerge.specs.Keyed.{Lines, Tool, by_keys, with_key}
-use Rattle.ptmerge.specs.Merges.{State, IsMerge, Ends}
+use Rattle.ptmerge.specs.Merges.{State, IsMerge, IsReady, Ends}
+use Rattle.ptmerge.specs.Passes.{Passes}
 use Rattle.ptmerge.specs.Orders.{Cmp, Key}
 use Rattle.ptmerge.specs.Places.{Breaks, Comes, HasSlots, fresh}
 use Rattle.ptmerge.specs.Sides.{both, put, other}
-use Rattle.ptmerge.specs.Steps.{Inputs, AreEqual, IsAlone, IsDecided, StartBreaks, Starts, BreaksFirst, BreaksSecond, IsUnslotted}
+use Rattle.ptmerge.specs.Steps.{Inputs, AreEqual, IsPlaced, IsAlone, IsDecided, StartBreaks, Starts, BreaksFirst, BreaksSecond, IsUnslotted}
 use Rattle.ptmerge.specs.Stores.{HasFour, IsCleared}
 use Rattle.ptmerge.proofs.Bounds.{Bound, Free, From, Over, Coming, Under, Begun, begun_none}
 use Rattle.ptmerge.proofs.CommEntries.{entries_both, entries_none, line_by_line}
@@ -43,6 +44,49 @@ pub record Running (tool : Tool) (old now : State) (place : Side → Sorted) : T
   pub sides : Sides tool old.reader now.reader place now.store ls p b
   pub merging : Merging tool b p old.out now.out
   pub keeps : Keeps old.store now.store (λ side. longest (ls side))
+
+-- nothing was read of this input
+same_reader : (s : Side) (reader : Reader) (f : Side → Reader) → reader ≡ f s → f ≡ put s reader f
+same_reader s reader f same = λ i side. each s same side i
+  where
+    each : (t : Side) → reader ≡ f t → (side : Side) → f side ≡ put t reader f side
+    each First e First = sym e
+    each First e Second = refl
+    each Second e First = refl
+    each Second e Second = sym e
+
+-- no source has failed whose reader is sound
+pub unfailed_of : (first second : Reader) (store : Slots) → IsReady first second store → IsSound first × IsSound second → (side : Side) → (both first second side).failed ≡ false
+unfailed_of first second store ready sound First = sound.0.unfailed ready.opened1 ready.readable1
+unfailed_of first second store ready sound Second = sound.1.unfailed ready.opened2 ready.readable2
+
+pub readable_of : (first second : Reader) (store : Slots) → IsReady first second store → (side : Side) → (both first second side).fault ≡ None
+readable_of first second store ready First = ready.readable1
+readable_of first second store ready Second = ready.readable2
+
+pub slots_of : (one two : Sorted) (store : Slots) → IsPlaced one two store → (side : Side) → HasSlots side (both one two side)
+slots_of one two store placed First = placed.first
+slots_of one two store placed Second = placed.second
+
+-- what was pushed, with the byte that ends a line
+pub wrote_as : (end e : ℕ) (xs ys : Lines) (was is : Output) → e ≡ end → ys ≡ xs → Wrote was is (text e xs) → Wrote was is (text end ys)
+wrote_as end e xs ys was is same list wrote = subst (λ (l : Lines). Wrote was is (text end l)) (sym list) (subst (λ (b : ℕ). Wrote was is (text b xs)) same wrote)
+
+-- how many slots there are at the next line
+pub comes_slots : (key : Key) (cmp : Cmp) (place next : Sorted) (was is : Reader) (before after : Slots) → Comes key cmp place next was is before after → length after.lines ≡ length before.lines
+comes_slots key cmp place next was is before after (inl e) = ap (λ (t : Slots). length t.lines) e.gives.stored ∙ length-set before.lines place.previous e.gives.line
+comes_slots key cmp place next was is before after (inr e) = ap (λ (t : Slots). length t.lines) e.empty ∙ length-set before.lines place.previous []
+
+-- how many slots there are where a line could not be read
+pub breaks_slots : (s : Side) (place : Sorted) (was is : Reader) (before after : Slots) (fault : MergeFault) (n : ℕ) → length before.lines ≡ n → Breaks s place was is before after fault → after.denied ≡ false → length after.lines ≡ n
+breaks_slots s place was is before after (Read file) n count e allowed = ap (λ (t : Slots). length t.lines) e.0.stored ∙ length-set before.lines place.previous e.0.piece ∙ count
+breaks_slots s place was is before after Write n count e allowed = absurd e
+breaks_slots s place was is before after Memory n count e allowed = absurd (false≢true (sym allowed ∙ ap (λ (t : Slots). t.denied) e.stored))
+breaks_slots s place was is before after (faults.Disorder file number) n count e allowed = absurd e
+
+pub passes_slots : (key : Key) (cmp : Cmp) (s : Side) (place next : Sorted) (was is : Reader) (before after : Slots) (out : Output) (fault : MergeFault) (n : ℕ) → length before.lines ≡ n → Passes key cmp s place next was is before after out (Err fault) → after.denied ≡ false → length after.lines ≡ n
+passes_slots key cmp s place next was is before after out fault n count (inl e) allowed = ap (λ (t : Slots). length t.lines) e.1.store ∙ count
+passes_slots key cmp s place next was is before after out fault n count (inr e) allowed = breaks_slots s place was is before after fault n count e.1 allowed
 
 -- a line that both inputs have is passed
 pass_both : (job : Comm) (cmp : Cmp) (key : Side → Key) (o : IsKeyOrder cmp) (b : Side → Bound) (p q : Side → Lines) (was is new : Output) → is.faulted ≡ false → Merging (comm_by job cmp key) b p was is → (x y : List ℕ) → key First x ≡ key Second y → b First ≡ From (key First x) → b Second ≡ From (key Second y)
@@ -197,6 +241,14 @@ module _ (job : Comm) (cmp : Cmp) (key : Side → Key) (o : IsKeyOrder cmp) (old
           unread now place r.ls r.p r.b r.sides r.keeps slots s step.stands (put s (r.ls s) r.p) new fine merging_alone (put_same s (r.ls s) r.p)
           (subst (λ (l : Lines). Gone job.end cmp (key (other s)) (old.reader (other s)) (now.reader (other s)) (now.reader (other s)) [] (r.ls (other s)) l (r.b (other s))) (sym (put_other s (r.ls s) r.p)) (stand (other s))) reader after fault moves
 
+      -- the turn could not be ended
+      pub alone_stops : (reader : Reader) (next : Sorted) (after : Slots) (fault : MergeFault) → Passes (key s) cmp s (place s) next (now.reader s) reader now.store after new (Err fault)
+          → IsMerge (comm_by job cmp key) old (record { reader = put s reader now.reader; out = new; store = after }) (Err fault)
+      alone_stops reader next after fault (inl e) = subst (IsMerge (comm_by job cmp key) old (record { reader = put s reader now.reader; out = new; store = after })) (λ i. Err (sym e.0 i))
+          (subst (λ (f : Side → Reader). IsMerge (comm_by job cmp key) old (record { reader = f; out = new; store = after }) (Err Write)) (same_reader s reader now.reader e.1.unread)
+          (subst (λ t. IsMerge (comm_by job cmp key) old (record { reader = now.reader; out = new; store = t }) (Err Write)) (sym e.1.store) (alone_unwritten e.1.faulted)))
+      alone_stops reader next after fault (inr e) = alone_unread e.0 reader after fault e.1
+
     -- ---- a line that both inputs have
 
     module _ (step : AreEqual cmp key place now.store) (new : Output)
@@ -222,6 +274,14 @@ module _ (job : Comm) (cmp : Cmp) (key : Side → Key) (o : IsKeyOrder cmp) (old
       pub both_unread : new.faulted ≡ false → (reader : Reader) (after : Slots) (fault : MergeFault) → Breaks First (place First) (now.reader First) reader now.store after fault → IsMerge (comm_by job cmp key) old (record { reader = put First reader now.reader; out = new; store = after }) (Err fault)
       both_unread fine reader after fault moves =
           unread now place r.ls r.p r.b r.sides r.keeps slots First (step.stands First) (both (r.ls First) (r.ls Second)) new fine merging_both refl (passing_now now place r.ls r.p r.b r.sides r.keeps slots Second (step.stands Second)) reader after fault moves
+
+      -- the turn could not be gone on with
+      pub both_stops : (reader : Reader) (next : Sorted) (after : Slots) (fault : MergeFault) → Passes (key First) cmp First (place First) next (now.reader First) reader now.store after new (Err fault)
+          → IsMerge (comm_by job cmp key) old (record { reader = put First reader now.reader; out = new; store = after }) (Err fault)
+      both_stops reader next after fault (inl e) = subst (IsMerge (comm_by job cmp key) old (record { reader = put First reader now.reader; out = new; store = after })) (λ i. Err (sym e.0 i))
+          (subst (λ (f : Side → Reader). IsMerge (comm_by job cmp key) old (record { reader = f; out = new; store = after }) (Err Write)) (same_reader First reader now.reader e.1.unread)
+          (subst (λ t. IsMerge (comm_by job cmp key) old (record { reader = now.reader; out = new; store = t }) (Err Write)) (sym e.1.store) (both_unwritten e.1.faulted)))
+      both_stops reader next after fault (inr e) = both_unread e.0 reader after fault e.1
 
       module _ (fine : new.faulted ≡ false) (reader : Reader) (next : Sorted) (mid : Slots) (w : Midway reader next mid) (slots' : (side : Side) → HasSlots side (put First next place side)) where
         abbrev between : State

@@ -209,7 +209,7 @@ module _ (end : ℕ) (cmp : Cmp) (o : IsKeyOrder cmp) (key : Key) (old now new :
       by false h = subst Goal (sym (place_is false h)) (at_head e.gives within got number begun h)
   goes_next within apart got number begun is (inr e) = subst Goal (sym e.place) (at_end e got number begun)
 
-  -- each step leaves less to do
-  pub goes_less : place.stand ≡ Head → Comes key cmp place next now new before after → budget new + alive next.stand < budget now + alive place.stand
-  goes_less head (inl e) = omega (arith, e.gives.less, alive_most next.stand, ap alive head)
-  goes_less head (inr e) = omega (arith, e.goes.reads.count, ap (λ (q : Sorted). alive q.stand) e.place, ap alive head)
+-- each step leaves less to do
+pub comes_less : (key : Key) (cmp : Cmp) (place next : Sorted) (now new : Reader) (before after : Slots) → place.stand ≡ Head → Comes key cmp place next now new before after → budget new + alive next.stand < budget now + alive place.stand
+comes_less key cmp place next now new before after head (inl e) = omega (arith, e.gives.less, alive_most next.stand, ap alive head)
+comes_less key cmp place next now new before after head (inr e) = omega (arith, e.goes.reads.count, ap (λ (q : Sorted). alive q.stand) e.place, ap alive head)
