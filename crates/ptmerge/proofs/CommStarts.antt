@@ -1,13 +1,13 @@
 -- How `comm` starts.
-use Rattle.std.proofs.Common.{◌≡◌, ◌≢◌, ⊎_elim, inl, inr, ℕ, ◌+◌, ◌*◌, ◌≤◌, ◌<◌, false, true, List, [], ◌∷◌, None, Result, Ok, Err, length, max, refl, sym, ◌∙◌, ap, subst, arith}
+use Rattle.std.proofs.Common.{◌≡◌, ◌≢◌, ⊎_elim, inl, inr, ℕ, ◌+◌, ◌*◌, ◌≤◌, ◌<◌, Bool, false, true, cond, List, [], ◌∷◌, None, Result, Ok, Err, length, max, refl, sym, ◌∙◌, ap, subst, arith}
 use Rattle.std.proofs.lemmas.Bool.{false≢true}
-use Rattle.ptlangs.specs.Jobs.{Comm}
+use Rattle.ptlangs.specs.Jobs.{Comm, ending}
 use Rattle.ptlines.specs.Outputs.{Output}
 use Rattle.ptlines.specs.Readers.{Reader, Reads}
 use Rattle.ptlines.specs.Slots.{Slots, line, total}
 use Rattle.ptlines.specs.Text.{IsLine, longest}
 use Rattle.ptmerge.specs.declared.faults.MergeFault.{MergeFault}
-use Rattle.ptmerge.specs.declared.faults.MergeFault.TheVariants.{Memory}
+use Rattle.ptmerge.specs.declared.faults.MergeFault.TheVariants.{Memory, Write}
 use Rattle.ptmerge.specs.declared.order.Side.{Side}
 use Rattle.ptmerge.specs.declared.order.Side.TheVariants.{First, Second}
 use Rattle.ptmerge.specs.declared.sorted.Sorted.{Sorted}
@@ -129,3 +129,23 @@ module _ (job : Comm) (cmp : Cmp) (key : Side → Key) (o : IsKeyOrder cmp) (old
   start_slots new1 new2 after fault (inr (inl f)) allowed = breaks_slots First (fresh First) (old.reader First) new1 f.made after fault (max (length old.store.lines) 4) f.four.slots f.breaks allowed
   start_slots new1 new2 after fault (inr (inr f)) allowed =
       breaks_slots Second (fresh Second) (old.reader Second) new2 f.begins.mid after fault (max (length old.store.lines) 4) (half_keeps f.begins.made f.begins.mid f.begins.four new1 f.first f.begins.came).slots f.begins.later allowed
+
+-- ---- before the start
+
+-- a fault was answered before, and nothing is read
+pub unstarted : (job : Comm) (cmp : Cmp) (key : Side → Key) (o : IsKeyOrder cmp) (old : State) → ((side : Side) → (old.reader side).fault ≡ None) → ((side : Side) → (old.reader side).ending ≡ job.end) → ((side : Side) → (old.reader side).failed ≡ false)
+    → old.store.denied ≡ false → old.out.faulted ≡ true → IsMerge (comm_by job cmp key) old old (Err Write)
+unstarted job cmp key o old readable ending unfailed allowed fault =
+    stops (comm_by job cmp key) o old old old.reader (λ side. []) (λ side. []) (λ side. []) (λ side. Free)
+    (λ side. gone_free job.end cmp (key side) (old.reader side) (old.reader side) [] (readable side) (ending side) (reads_nothing (old.reader side)) tt) (merging_none (comm_by job cmp key) old.out) (Err Write)
+    (record { faulted = fault; failed = λ side. refl; denied = allowed }) (λ side fail. absurd (false≢true (sym (unfailed side) ∙ fail))) tt (λ all w. omega arith)
+
+-- the byte that ends a line
+pub ending_is : (zero : Bool) → cond zero 0 10 ≡ ending zero
+ending_is true = refl
+ending_is false = refl
+
+-- the ending of two readers was set
+pub set_is : (first second set1 set2 : Reader) (zero : Bool) → set1 ≡ record first { ending = cond zero 0 10 } → set2 ≡ record second { ending = cond zero 0 10 } → (side : Side) → both set1 set2 side ≡ record (both first second side) { ending = ending zero }
+set_is first second set1 set2 zero is1 is2 First = is1 ∙ (λ i. record first { ending = ending_is zero i })
+set_is first second set1 set2 zero is1 is2 Second = is2 ∙ (λ i. record second { ending = ending_is zero i })

@@ -6,8 +6,9 @@ use Rattle.std.specs.declared.cmp.Ordering.{Ordering}
 use Rattle.std.specs.declared.cmp.Ordering.TheVariants.{Less, Equal, Greater}
 use Rattle.std.specs.Ordering.{is_gt, is_le, is_lt, ordering_reverse}
 use Rattle.std.specs.Cmp.Lexicographic.{bytes_decides}
-use Rattle.std.proofs.lemmas.Cmp.{tied_itself, upto}
-use Rattle.ptmerge.specs.Orders.{Cmp}
+use Rattle.std.proofs.lemmas.Cmp.{back_total, nat_list_cmp_total, tied_itself, upto}
+use Rattle.ptmerge.specs.Exact.{same_back, same_bytes}
+use Rattle.ptmerge.specs.Orders.{Cmp, byte_cmp, line_cmp}
 
 pub record IsKeyOrder (cmp : Cmp) : Type 0 where
   pub total : IsTotalOrder cmp
@@ -101,3 +102,8 @@ module _ (cmp : Cmp) (o : IsKeyOrder cmp) where
 
   pub above_not_le : (a b : List ℕ) → cmp a b ≡ Greater → is_le (cmp a b) ≡ false
   above_not_le a b g = ap is_le g
+
+-- both orders of lines are orders of keys
+pub line_order : (descending : Bool) → IsKeyOrder (line_cmp descending)
+line_order true = record { total = back_total nat_list_cmp_total; exact = same_back byte_cmp same_bytes }
+line_order false = record { total = nat_list_cmp_total; exact = same_bytes }
