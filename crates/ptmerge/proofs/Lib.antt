@@ -1,5 +1,6 @@
 pub mod Bounds
 pub mod CommEntries
+pub mod CommRows
 pub mod CommStarts
 pub mod CommTurns
 pub mod Got
