@@ -3,9 +3,8 @@ use Rattle.std.proofs.lemmas.Bool.Decides.{nat_tests}
 use Rattle.std.proofs.Common.{◌≡◌, ℕ, suc, ◌+◌, List, [], ◌∷◌, ◌++◌, Bool, true, false, cond, Option, Some, None, length, refl, ap, sym, ◌∙◌, subst, map, append_assoc, arith}
 use Rattle.std.specs.Prelude.{nat_lt, unwrap_or, if◌then◌else◌}
 use Rattle.std.specs.List.{last_or}
-use Rattle.std.specs.declared.cmp.Ordering.{Ordering}
 use Rattle.std.specs.Ordering.{is_gt}
-use Rattle.std.proofs.lemmas.List.{append-nil, length_push}
+use Rattle.std.proofs.lemmas.List.{length_push}
 use Rattle.ptmerge.specs.Keyed.{Lines, ordered_part, fall, Fall}
 use Rattle.ptmerge.specs.Orders.{Cmp, Key}
 use Rattle.ptmerge.proofs.Orders.{IsKeyOrder, AtMost, at_most_trans, self_at_most}
@@ -149,28 +148,36 @@ reaches_free cmp key = record { future = λ w _. (ordered_part cmp key w, refl, 
 
 -- all lines that came are passed
 pub reaches_passed : (cmp : Cmp) (o : IsKeyOrder cmp) (key : Key) (ls : Lines) (k : List ℕ) → Begun cmp key ls (Some k) → Reaches cmp key ls ls (From k)
-reaches_passed cmp o key ls k g = record { future = λ w _.
-    let a = after_from cmp o key k (length ls) w in (ordered_after cmp key (Some k) w, g.ordered w, a.0, subst (FallFrom cmp k) (sym (g.falling w)) a.1) }
+reaches_passed cmp o key ls k g = record {
+  future = λ w _.
+      let a = after_from cmp o key k (length ls) w in (ordered_after cmp key (Some k) w, g.ordered w, a.0, subst (FallFrom cmp k) (sym (g.falling w)) a.1);
+}
 
 pub reaches_over : (cmp : Cmp) (key : Key) (ls : Lines) (last : Option (List ℕ)) → Begun cmp key ls last → Reaches cmp key ls ls Over
-reaches_over cmp key ls last g = record { future = λ w none.
-    ([], ap (λ l. ordered_part cmp key (ls ++ l)) none ∙ g.ordered [], refl, ap (λ l. fall cmp key (ls ++ l)) none ∙ g.falling []) }
+reaches_over cmp key ls last g = record {
+  future = λ w none.
+      ([], ap (λ l. ordered_part cmp key (ls ++ l)) none ∙ g.ordered [], refl, ap (λ l. fall cmp key (ls ++ l)) none ∙ g.falling []);
+}
 
 -- a line stands
 pub reaches_head : (cmp : Cmp) (o : IsKeyOrder cmp) (key : Key) (p : Lines) (x : List ℕ) → Begun cmp key (p ++ x ∷ []) (Some (key x)) → Reaches cmp key (p ++ x ∷ []) p (From (key x))
-reaches_head cmp o key p x g = record { future = λ w _.
-    let a = after_from cmp o key (key x) (length (p ++ x ∷ [])) w in (
-      x ∷ ordered_after cmp key (Some (key x)) w,
-      g.ordered w ∙ append_assoc p (x ∷ []) (ordered_after cmp key (Some (key x)) w),
-      (self_at_most cmp o (key x), a.0),
-      subst (FallFrom cmp (key x)) (sym (g.falling w)) a.1,
-    ) }
+reaches_head cmp o key p x g = record {
+  future = λ w _.
+      let a = after_from cmp o key (key x) (length (p ++ x ∷ [])) w in (
+        x ∷ ordered_after cmp key (Some (key x)) w,
+        g.ordered w ∙ append_assoc p (x ∷ []) (ordered_after cmp key (Some (key x)) w),
+        (self_at_most cmp o (key x), a.0),
+        subst (FallFrom cmp (key x)) (sym (g.falling w)) a.1,
+      );
+}
 
 -- a line that falls
 pub reaches_fallen : (cmp : Cmp) (key : Key) (p : Lines) (k x : List ℕ) → Begun cmp key p (Some k) → is_gt (cmp k (key x)) ≡ true → Reaches cmp key (p ++ x ∷ []) p (Fallen (record { last_key = k; line = length p + 1 }))
-reaches_fallen cmp key p k x g falls = record { future = λ w _. (
-      [],
-      ap (ordered_part cmp key) (append_assoc p (x ∷ []) w) ∙ g.ordered (x ∷ w) ∙ ap (λ t. p ++ cond t [] (x ∷ ordered_after cmp key (Some (key x)) w)) falls,
-      refl,
-      ap (fall cmp key) (append_assoc p (x ∷ []) w) ∙ g.falling (x ∷ w) ∙ ap (λ t. cond t (Some (fall_at (Some k) (length p))) (fall_after cmp key (Some (key x)) (length p + 1) w)) falls,
-    ) }
+reaches_fallen cmp key p k x g falls = record {
+  future = λ w _. (
+    [],
+    ap (ordered_part cmp key) (append_assoc p (x ∷ []) w) ∙ g.ordered (x ∷ w) ∙ ap (λ t. p ++ cond t [] (x ∷ ordered_after cmp key (Some (key x)) w)) falls,
+    refl,
+    ap (fall cmp key) (append_assoc p (x ∷ []) w) ∙ g.falling (x ∷ w) ∙ ap (λ t. cond t (Some (fall_at (Some k) (length p))) (fall_after cmp key (Some (key x)) (length p + 1) w)) falls,
+  );
+}

@@ -1,5 +1,5 @@
 -- Worked examples of `comm`.
-use Rattle.std.proofs.Common.{◌≡◌, ℕ, List, Option, Some, None, Bool, true, false, refl}
+use Rattle.std.proofs.Common.{◌≡◌, ℕ, List, Option, Some, Bool, true, false, refl}
 use Rattle.std.specs.Prelude.{codes}
 use Rattle.ptlangs.specs.Jobs.{Comm, default_comm}
 use Rattle.ptmerge.specs.declared.order.Side.TheVariants.{First, Second}

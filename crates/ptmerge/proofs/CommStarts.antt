@@ -1,8 +1,7 @@
 -- How `comm` starts.
-use Rattle.std.proofs.Common.{◌≡◌, ◌≢◌, ⊎_elim, inl, inr, ℕ, ◌+◌, ◌*◌, ◌≤◌, ◌<◌, Bool, false, true, cond, List, [], ◌∷◌, None, Result, Ok, Err, length, max, refl, sym, ◌∙◌, ap, subst, arith}
+use Rattle.std.proofs.Common.{◌≡◌, inl, inr, ℕ, ◌≤◌, ◌<◌, Bool, false, true, cond, List, [], None, Err, length, max, refl, sym, ◌∙◌, ap, subst, arith}
 use Rattle.std.proofs.lemmas.Bool.{false≢true}
 use Rattle.ptlangs.specs.Jobs.{Comm, ending}
-use Rattle.ptlines.specs.Outputs.{Output}
 use Rattle.ptlines.specs.Readers.{Reader, Reads}
 use Rattle.ptlines.specs.Slots.{Slots, line, total}
 use Rattle.ptlines.specs.Text.{IsLine, longest}
@@ -16,14 +15,14 @@ use Rattle.ptmerge.specs.Keyed.{Lines}
 use Rattle.ptmerge.specs.Merges.{State, IsMerge}
 use Rattle.ptmerge.specs.Orders.{Cmp, Key}
 use Rattle.ptmerge.specs.Places.{Breaks, Comes, HasSlots, fresh, slot_of}
-use Rattle.ptmerge.specs.Sides.{both, put, other}
-use Rattle.ptmerge.specs.Steps.{Begins, Inputs, StartBreaks, Starts, BreaksFirst, BreaksSecond, IsUnslotted}
+use Rattle.ptmerge.specs.Sides.{both}
+use Rattle.ptmerge.specs.Steps.{Inputs, StartBreaks, Starts, IsUnslotted}
 use Rattle.ptmerge.specs.Stores.{HasFour}
-use Rattle.ptmerge.proofs.Bounds.{Bound, Free, begun_none}
+use Rattle.ptmerge.proofs.Bounds.{Free, begun_none}
 use Rattle.ptmerge.proofs.CommTurns.{Running, bounded, breaks_slots}
-use Rattle.ptmerge.proofs.Got.{More, got_none, reads_nothing}
+use Rattle.ptmerge.proofs.Got.{got_none, reads_nothing}
 use Rattle.ptmerge.proofs.Orders.{IsKeyOrder}
-use Rattle.ptmerge.proofs.Pairs.{both_each, put_same}
+use Rattle.ptmerge.proofs.Pairs.{both_each}
 use Rattle.ptmerge.proofs.Passing.{Merging, merging_none, settles}
 use Rattle.ptmerge.proofs.Slotted.{Keeps, has_lines_total, keeps_line, keeps_none, line_other}
 use Rattle.ptmerge.proofs.Standing.{Next, goes_next, sided_keeps}

@@ -1,10 +1,10 @@
 -- What each turn of `comm` does, and each way out of it.
-use Rattle.std.proofs.Common.{◌≡◌, ◌≢◌, ◌⊎◌, ⊎_elim, inl, inr, ℕ, ◌+◌, ◌*◌, ◌≤◌, ◌<◌, Bool, true, false, List, [], ◌∷◌, ◌++◌, Option, Some, None, Result, Ok, Err, length, max, refl, sym, ◌∙◌, ap, subst, arith}
+use Rattle.std.proofs.Common.{◌≡◌, inl, inr, ℕ, ◌+◌, ◌*◌, ◌≤◌, Bool, true, false, List, [], ◌∷◌, ◌++◌, Some, None, Result, Ok, Err, length, max, refl, sym, ◌∙◌, ap, subst, arith}
 use Rattle.std.proofs.lemmas.Bool.{false≢true}
-use Rattle.std.proofs.lemmas.List.{append-nil, length-set}
+use Rattle.std.proofs.lemmas.List.{length-set}
 use Rattle.ptlangs.specs.Jobs.{Comm}
 use Rattle.ptlines.specs.Outputs.{Output, Wrote}
-use Rattle.ptlines.specs.Readers.{Reader, Reads, IsDone, IsSound}
+use Rattle.ptlines.specs.Readers.{Reader, Reads, IsSound}
 use Rattle.ptlines.specs.Slots.{Slots, line, total, with_line}
 use Rattle.ptlines.specs.Text.{text, IsLine, longest}
 use Rattle.ptmerge.specs.declared.faults.MergeFault.{MergeFault}
@@ -19,22 +19,22 @@ use Rattle.ptmerge.specs.Keyed.{Lines, Tool, by_keys, with_key}
 use Rattle.ptmerge.specs.Merges.{State, IsMerge, IsReady, Ends}
 use Rattle.ptmerge.specs.Passes.{Passes}
 use Rattle.ptmerge.specs.Orders.{Cmp, Key}
-use Rattle.ptmerge.specs.Places.{Breaks, Comes, HasSlots, fresh}
+use Rattle.ptmerge.specs.Places.{Breaks, Comes, HasSlots}
 use Rattle.ptmerge.specs.Sides.{both, put, other}
-use Rattle.ptmerge.specs.Steps.{Inputs, AreEqual, IsPlaced, IsAlone, IsDecided, StartBreaks, Starts, BreaksFirst, BreaksSecond, IsUnslotted}
-use Rattle.ptmerge.specs.Stores.{HasFour, IsCleared}
-use Rattle.ptmerge.proofs.Bounds.{Bound, Free, From, Over, Coming, Under, Begun, begun_none}
+use Rattle.ptmerge.specs.Steps.{AreEqual, IsPlaced, IsAlone, IsDecided}
+use Rattle.ptmerge.specs.Stores.{IsCleared}
+use Rattle.ptmerge.proofs.Bounds.{Bound, From, Coming, Under, Begun}
 use Rattle.ptmerge.proofs.CommEntries.{entries_both, entries_none, line_by_line}
-use Rattle.ptmerge.proofs.Got.{More, got_none, reads_nothing}
+use Rattle.ptmerge.proofs.Got.{reads_nothing}
 use Rattle.ptmerge.proofs.Least.{EachKey, front_first}
 use Rattle.ptmerge.proofs.Orders.{IsKeyOrder, AtMost, self_at_most}
-use Rattle.ptmerge.proofs.Pairs.{both_each, put_each, put_other, put_same, side_case}
-use Rattle.ptmerge.proofs.Passing.{Merging, StopsAt, merging_none, passes, settles}
-use Rattle.ptmerge.proofs.Slotted.{Keeps, has_lines_total, keeps_line, keeps_none, line_other}
+use Rattle.ptmerge.proofs.Pairs.{put_each, put_other, put_same}
+use Rattle.ptmerge.proofs.Passing.{Merging, passes}
+use Rattle.ptmerge.proofs.Slotted.{Keeps, has_lines_total, keeps_line}
 use Rattle.ptmerge.proofs.Splitting.{all_keys}
-use Rattle.ptmerge.proofs.Standing.{Sided, Next, Passed, goes_next, passed, sided_keeps}
-use Rattle.ptmerge.proofs.Stopping.{Concludes, Fails, Gone, gone_free, gone_passed, gone_standing, stops}
-use Rattle.ptmerge.proofs.Turning.{Sides, IsAbove, ahead, all_ended, alone, breaks, merging_on, next_at, own_slots, pass_one, passed_at, sides_on, stops_at}
+use Rattle.ptmerge.proofs.Standing.{Next, passed}
+use Rattle.ptmerge.proofs.Stopping.{Concludes, Gone, gone_passed, gone_standing, stops}
+use Rattle.ptmerge.proofs.Turning.{Sides, ahead, all_ended, alone, breaks, merging_on, next_at, pass_one, passed_at, sides_on, stops_at}
 
 -- where `comm` stands between two turns
 pub record Running (tool : Tool) (old now : State) (place : Side → Sorted) : Type 0 where

@@ -10,7 +10,7 @@ use Rattle.ptlines.specs.Text.{text, lines, ended_lines, IsLine, AreLines, longe
 use Rattle.ptlines.proofs.Coming.{given_of}
 use Rattle.ptlines.proofs.Filling.{goes_trans}
 use Rattle.ptlines.proofs.Known.{prepend_known-nil}
-use Rattle.ptlines.proofs.TextLaws.{lines_of_text, lines_last, lines-text, text_push, AreLines_push, ended_none}
+use Rattle.ptlines.proofs.TextLaws.{lines_of_text, lines_last, text_push, AreLines_push, ended_none}
 use Rattle.ptmerge.proofs.LineLaws.{ended_more, longest-append, piece_longest}
 
 -- these are the lines of what came: all whole so far, or the last one at the end of the source

@@ -1,9 +1,7 @@
 -- The entries of a least key come first, and then those of the lines of other keys.
 use Rattle.std.proofs.Common.{◌≡◌, ◌⊎◌, inl, inr, ℕ, List, [], ◌∷◌, ◌++◌, Bool, true, false, cond, refl, ap, sym, ◌∙◌, subst, map, append_assoc}
 use Rattle.std.proofs.lemmas.List.{append-nil}
-use Rattle.std.proofs.lemmas.List.Concat.{flat_map-append}
 use Rattle.std.specs.Prelude.{filter, bytes_eq, flat_map}
-use Rattle.std.specs.declared.cmp.Ordering.{Ordering}
 use Rattle.std.specs.declared.cmp.Ordering.TheVariants.{Less, Equal, Greater}
 use Rattle.std.specs.Ordering.{match_ordering}
 use Rattle.std.specs.Cmp.Lexicographic.{bytes_decides}
@@ -47,10 +45,10 @@ Each-keys P key1 key2 (x ∷ xs) ys e f = (e.0, Each-keys P key1 key2 xs ys e.1 
 pub Each-insert : (cmp : Cmp) (P : List ℕ → Type 0) (k : List ℕ) (xs : Lines) → P k → Each P xs → Each P (insert_key cmp k xs)
 Each-insert cmp P k [] h e = (h, tt)
 Each-insert cmp P k (x ∷ xs) h e = elim (cmp k x) as (λ r. Each P (match_ordering r (k ∷ x ∷ xs) (x ∷ xs) (x ∷ insert_key cmp k xs))) [
-    | Less ↦ (h, e)
-    | Equal ↦ e
-    | Greater ↦ (e.0, Each-insert cmp P k xs h e.1)
-  ]
+  | Less ↦ (h, e)
+  | Equal ↦ e
+  | Greater ↦ (e.0, Each-insert cmp P k xs h e.1)
+]
 
 pub Each-distinct : (cmp : Cmp) (P : List ℕ → Type 0) (xs : Lines) → Each P xs → Each P (distinct cmp xs)
 Each-distinct cmp P [] e = tt

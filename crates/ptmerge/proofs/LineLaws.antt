@@ -1,8 +1,8 @@
 -- Laws of the lines of a text, and of their lengths.
-use Rattle.std.proofs.Common.{◌≡◌, ℕ, ◌+◌, ◌≤◌, List, [], ◌∷◌, ◌++◌, length, max, refl, sym, ◌∙◌, ap, arith, append_assoc}
+use Rattle.std.proofs.Common.{◌≡◌, ℕ, ◌+◌, ◌≤◌, List, [], ◌∷◌, ◌++◌, length, max, refl, ◌∙◌, ap, arith, append_assoc}
 use Rattle.std.specs.List.{onto_first}
 use Rattle.ptlines.specs.Text.{text, lines, ended_lines, IsLine, AreLines, longest}
-use Rattle.ptlines.proofs.TextLaws.{other_byte, lines_of_text, ended_first}
+use Rattle.ptlines.proofs.TextLaws.{other_byte, ended_first}
 
 -- whole lines, and then those of the rest whose end is there
 pub ended_more : (end : ℕ) (ls : List (List ℕ)) (bytes : List ℕ) → AreLines end ls → ended_lines end (text end ls ++ bytes) ≡ ls ++ ended_lines end bytes

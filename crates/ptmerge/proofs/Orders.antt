@@ -1,5 +1,5 @@
 -- What follows from the laws of an order of keys.
-use Rattle.std.proofs.Common.{◌≡◌, ◌⊎◌, inl, inr, ℕ, List, [], ◌∷◌, Bool, true, false, refl, sym, ◌∙◌, ap, subst}
+use Rattle.std.proofs.Common.{◌≡◌, ◌⊎◌, inl, inr, ℕ, List, Bool, true, false, refl, sym, ◌∙◌, ap, subst}
 use Rattle.std.specs.Prelude.{bytes_eq}
 use Rattle.std.specs.Cmp.{IsTotalOrder}
 use Rattle.std.specs.declared.cmp.Ordering.{Ordering}
@@ -71,9 +71,9 @@ module _ (cmp : Cmp) (o : IsKeyOrder cmp) where
 
   pub above_not_same : (k y : List ℕ) → cmp y k ≡ Greater → bytes_eq y k ≡ false
   above_not_same k y g = elim (bytes_eq y k) as (λ b. (b ≡ true → y ≡ k) → b ≡ false) [
-        | true ↦ λ f. (let bad : Greater ≡ Equal = sym g ∙ ap (λ z. cmp z k) (f refl) ∙ tied_itself o.total k in cc)
-        | false ↦ λ f. refl
-      ] (bytes_decides y k).0
+    | true ↦ λ f. (let bad : Greater ≡ Equal = sym g ∙ ap (λ z. cmp z k) (f refl) ∙ tied_itself o.total k in cc)
+    | false ↦ λ f. refl
+  ] (bytes_decides y k).0
 
   -- a ≤ b < c
   pub above_trans : (a b c : List ℕ) → AtMost cmp a b → cmp c b ≡ Greater → cmp c a ≡ Greater

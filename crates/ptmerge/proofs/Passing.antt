@@ -1,5 +1,5 @@
 -- What was pushed of two inputs: the entries of the lines that are passed, which come first whatever is still to come.
-use Rattle.std.proofs.Common.{◌≡◌, ◌⊎◌, ⊎_elim, inl, inr, ℕ, ◌≤◌, ◌&&◌, ◌||◌, Bool, true, false, cond, List, [], ◌∷◌, ◌++◌, Option, Some, None, Result, Ok, Err, map, length, max, refl, sym, ◌∙◌, ap, subst, arith}
+use Rattle.std.proofs.Common.{◌≡◌, ◌⊎◌, inl, inr, ℕ, ◌&&◌, ◌||◌, Bool, true, false, cond, List, [], ◌∷◌, ◌++◌, Option, Some, None, map, refl, sym, ◌∙◌, ap, subst}
 use Rattle.std.specs.Prelude.{is_some}
 use Rattle.std.specs.List.{last_or}
 use Rattle.std.specs.declared.cmp.Ordering.{Ordering}
@@ -13,10 +13,10 @@ use Rattle.ptlines.proofs.Pushed.{wrote_trans, wrote_nothing}
 use Rattle.ptlines.proofs.TextLaws.{text-append}
 use Rattle.ptmerge.specs.declared.order.Side.{Side}
 use Rattle.ptmerge.specs.declared.order.Side.TheVariants.{First, Second}
-use Rattle.ptmerge.specs.Keyed.{Lines, Tool, Disorder, by_keys, disorder, disorder_of, fall, is_below, is_decided, is_past, merged_entries, decided_entries, ordered, ordered_part, up_to}
+use Rattle.ptmerge.specs.Keyed.{Lines, Tool, Disorder, by_keys, disorder, fall, is_below, is_decided, is_past, merged_entries, decided_entries, ordered_part, up_to}
 use Rattle.ptmerge.specs.Merges.{Names}
 use Rattle.ptmerge.specs.Orders.{Cmp, Key}
-use Rattle.ptmerge.specs.Sides.{put, other}
+use Rattle.ptmerge.specs.Sides.{put}
 use Rattle.ptmerge.proofs.Bounds.{Bound, Free, From, Fallen, Over, Coming, Falling, Follows, Under, Begun, coming_none}
 use Rattle.ptmerge.proofs.Least.{EachKey, EachKey-append, EachKey-weaker}
 use Rattle.ptmerge.proofs.Orders.{IsKeyOrder, AtMost, at_most_trans, at_most_is_le, above_trans, greater_flips, is_le_at_most, less_flips}
@@ -185,8 +185,8 @@ module _ (tool : Tool) (o : IsKeyOrder tool.cmp) (b : Side → Bound) (p : Side 
       let dec = is_decided tool ended ls in
       let rest = down_begins tool o dec (down_decided tool o ended ls) p in
       let none : by_keys tool dec s.r ≡ [] = none_wanted tool dec s.r (λ side.
-          EachKey-weaker (λ k. is_below tool.cmp k (last_or None (map (tool.key of) (p of))) ≡ false) (λ k. dec k ≡ false)
-          (λ k h. not_decided tool o ended ls of k (past k ∙ h)) (tool.key side) (s.r side) (past_none tool.cmp o (tool.key of) (tool.key side) (b side) (p of) (s.r side) (m.under side of) (s.coming side))) in
+      EachKey-weaker (λ k. is_below tool.cmp k (last_or None (map (tool.key of) (p of))) ≡ false) (λ k. dec k ≡ false)
+      (λ k h. not_decided tool o ended ls of k (past k ∙ h)) (tool.key side) (s.r side) (past_none tool.cmp o (tool.key of) (tool.key side) (b side) (p of) (s.r side) (m.under side of) (s.coming side))) in
       let known : decided_entries tool ended ls ≡ by_keys tool dec p =
       (λ i. by_keys tool dec (λ side. s.parts side i)) ∙ m.splits.split dec s.r s.coming ∙ ap (λ l. by_keys tool dec p ++ l) none ∙ append-nil (by_keys tool dec p) in
       record { rest = text tool.end rest.0; is = ap (text tool.end) (rest.1 ∙ ap (λ l. l ++ rest.0) (sym known)) ∙ text-append tool.end (decided_entries tool ended ls) rest.0 }

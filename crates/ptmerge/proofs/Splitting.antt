@@ -1,16 +1,16 @@
 -- What is written of the lines that are passed, and what is written of all that may come.
-use Rattle.std.proofs.Common.{◌≡◌, ◌⊎◌, inl, inr, ⊎_elim, ℕ, List, [], ◌∷◌, ◌++◌, Bool, true, false, cond, Option, Some, None, refl, ap, sym, ◌∙◌, subst, map, append_assoc}
+use Rattle.std.proofs.Common.{◌≡◌, ℕ, List, [], ◌∷◌, ◌++◌, Bool, true, false, cond, Option, Some, None, refl, ap, sym, ◌∙◌, subst, append_assoc}
 use Rattle.std.proofs.lemmas.List.{append-nil}
 use Rattle.std.proofs.lemmas.List.Concat.{flat_map-append}
 use Rattle.std.specs.Prelude.{filter, flat_map}
 use Rattle.std.specs.declared.cmp.Ordering.{Ordering}
 use Rattle.std.specs.declared.cmp.Ordering.TheVariants.{Less, Equal, Greater}
-use Rattle.std.specs.Ordering.{is_lt, is_le, is_gt, match_ordering}
+use Rattle.std.specs.Ordering.{is_lt, is_gt, match_ordering}
 use Rattle.ptmerge.specs.declared.order.Side.{Side}
 use Rattle.ptmerge.specs.declared.order.Side.TheVariants.{First, Second}
-use Rattle.ptmerge.specs.Keyed.{Lines, Tool, insert_key, distinct, keys, entries_of, by_keys, Fall, Disorder, disorder_of, up_to}
+use Rattle.ptmerge.specs.Keyed.{Lines, Tool, insert_key, distinct, keys, entries_of, by_keys, Fall, disorder_of, up_to}
 use Rattle.ptmerge.specs.Orders.{Cmp}
-use Rattle.ptmerge.proofs.Orders.{IsKeyOrder, AtMost, Above, at_most_trans, at_most_is_le, above_trans, above_up, greater_flips, less_flips}
+use Rattle.ptmerge.proofs.Orders.{IsKeyOrder, Above, at_most_trans, at_most_is_le, above_trans, less_flips}
 use Rattle.ptmerge.proofs.Least.{Each, EachKey, Each-weaker, Each-insert, Each-distinct, Each-keys}
 use Rattle.ptmerge.proofs.Bounds.{Bound, Free, From, Fallen, Over, Coming, Falling, Under, FallFrom, coming_none}
 
@@ -123,8 +123,10 @@ module _ (tool : Tool) where
   -- lines are passed whose entries come first of all that may come
   pub splits_step : (b d : Side → Bound) (p f : Side → Lines) → Splits b p → ((side : Side) (r : Lines) → Coming tool.cmp (tool.key side) (d side) r → Coming tool.cmp (tool.key side) (b side) (f side ++ r))
       → ((w : List ℕ → Bool) (r : Side → Lines) → MayCome d r → by_keys tool w (λ side. f side ++ r side) ≡ by_keys tool w f ++ by_keys tool w r) → Splits d (λ side. p side ++ f side)
-  splits_step b d p f s u front = record { split = λ w r c.
-      let passed : by_keys tool w (λ side. p side ++ f side) ≡ by_keys tool w p ++ by_keys tool w f =
-      s.split w f (λ side. subst (Coming tool.cmp (tool.key side) (b side)) (append-nil (f side)) (u side [] (coming_none tool.cmp (tool.key side) (d side)))) in
-      (λ i. by_keys tool w (λ side. append_assoc (p side) (f side) (r side) i)) ∙ s.split w (λ side. f side ++ r side) (λ side. u side (r side) (c side))
-      ∙ ap (λ l. by_keys tool w p ++ l) (front w r c) ∙ sym (append_assoc (by_keys tool w p) (by_keys tool w f) (by_keys tool w r)) ∙ ap (λ l. l ++ by_keys tool w r) (sym passed) }
+  splits_step b d p f s u front = record {
+    split = λ w r c.
+        let passed : by_keys tool w (λ side. p side ++ f side) ≡ by_keys tool w p ++ by_keys tool w f =
+        s.split w f (λ side. subst (Coming tool.cmp (tool.key side) (b side)) (append-nil (f side)) (u side [] (coming_none tool.cmp (tool.key side) (d side)))) in
+        (λ i. by_keys tool w (λ side. append_assoc (p side) (f side) (r side) i)) ∙ s.split w (λ side. f side ++ r side) (λ side. u side (r side) (c side))
+        ∙ ap (λ l. by_keys tool w p ++ l) (front w r c) ∙ sym (append_assoc (by_keys tool w p) (by_keys tool w f) (by_keys tool w r)) ∙ ap (λ l. l ++ by_keys tool w r) (sym passed);
+  }

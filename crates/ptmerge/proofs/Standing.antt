@@ -1,5 +1,5 @@
 -- Where an input of a merge stands, and what is still to come of it.
-use Rattle.std.proofs.Common.{◌≡◌, ◌≢◌, ◌⊎◌, ⊎_elim, inl, inr, ℕ, ◌+◌, ◌^◌, ◌<◌, ◌≤◌, ◌&&◌, Bool, true, false, cond, List, [], ◌∷◌, ◌++◌, Option, Some, None, length, refl, sym, ◌∙◌, ap, subst, arith}
+use Rattle.std.proofs.Common.{◌≡◌, ◌≢◌, inl, inr, ℕ, ◌+◌, ◌<◌, ◌≤◌, ◌&&◌, Bool, true, false, cond, List, [], ◌∷◌, ◌++◌, Option, Some, None, length, refl, sym, ◌∙◌, ap, subst, arith}
 use Rattle.std.specs.Prelude.{nat_lt}
 use Rattle.std.specs.Ordering.{is_gt}
 use Rattle.std.proofs.lemmas.Bool.{false≢true}
@@ -13,7 +13,7 @@ use Rattle.ptlines.proofs.Filling.{line_of}
 use Rattle.ptmerge.specs.declared.sorted.Sorted.{Sorted}
 use Rattle.ptmerge.specs.declared.sorted.Stand.{Stand}
 use Rattle.ptmerge.specs.declared.sorted.Stand.TheVariants.{Head, Ended, Disorder}
-use Rattle.ptmerge.specs.Keyed.{Lines, Fall}
+use Rattle.ptmerge.specs.Keyed.{Lines}
 use Rattle.ptmerge.specs.Orders.{Cmp, Key}
 use Rattle.ptmerge.specs.Places.{stand_at, Comes, Closes}
 use Rattle.ptmerge.proofs.Bounds.{Bound, Free, From, Fallen, Over, Coming, Under, Begun, begun_more, falls, Reaches, reaches_head, reaches_over, reaches_fallen}

@@ -1,10 +1,9 @@
 -- What a tool over two inputs has done when it stops.
-use Rattle.std.proofs.Common.{◌≡◌, ◌⊎◌, ⊎_elim, inl, inr, ℕ, ◌≤◌, true, false, List, [], ◌++◌, Option, Some, None, Result, Ok, Err, length, max, refl, sym, ◌∙◌, ap, subst, arith}
-use Rattle.std.proofs.lemmas.Bool.{false≢true}
+use Rattle.std.proofs.Common.{◌≡◌, ℕ, ◌≤◌, true, false, List, [], ◌++◌, Option, Some, None, Result, Ok, Err, length, max, sym, ◌∙◌, ap, subst}
 use Rattle.std.proofs.lemmas.List.{append-nil}
-use Rattle.ptlines.specs.Inputs.{Given, Begins, Agrees, whole_lines}
-use Rattle.ptlines.specs.Readers.{Reader, Reads, IsDone, HasReadCause}
-use Rattle.ptlines.specs.Slots.{Slots, with_line, with_denied}
+use Rattle.ptlines.specs.Inputs.{Given, whole_lines}
+use Rattle.ptlines.specs.Readers.{Reader, Reads, IsDone}
+use Rattle.ptlines.specs.Slots.{Slots}
 use Rattle.ptlines.specs.Text.{text, lines, IsLine, longest}
 use Rattle.ptlines.proofs.Coming.{given_of, came_of, came_set, cause_set}
 use Rattle.ptlines.proofs.Filling.{reads_trans}
@@ -20,12 +19,10 @@ use Rattle.ptmerge.specs.declared.sorted.Stand.TheVariants.{Head, Ended, Disorde
 use Rattle.ptmerge.specs.Keyed.{Lines, Tool, by_keys, disorder, disorder_of, fall, lines_of, merged_entries, ordered_part, up_to}
 use Rattle.ptmerge.specs.Merges.{State, Agree, Ends, IsMerge, IsWhole}
 use Rattle.ptmerge.specs.Orders.{Cmp, Key}
-use Rattle.ptmerge.specs.Places.{Breaks}
-use Rattle.ptmerge.specs.Sides.{both, put, other}
-use Rattle.ptmerge.proofs.Bounds.{Bound, Free, From, Fallen, Over, Coming, Falling, Begun, Reaches, reaches_free, reaches_passed}
+use Rattle.ptmerge.specs.Sides.{other}
+use Rattle.ptmerge.proofs.Bounds.{Bound, Free, From, Over, Coming, Falling, Begun, Reaches, reaches_free, reaches_passed}
 use Rattle.ptmerge.proofs.Got.{Got, More, Known, got_known, got_lines, got_none, reads_nothing}
 use Rattle.ptmerge.proofs.Orders.{IsKeyOrder}
-use Rattle.ptmerge.proofs.Pairs.{side_case}
 use Rattle.ptmerge.proofs.Passing.{Merging, Seen, StopsAt, decided_begins, follows, seen_all}
 use Rattle.ptmerge.proofs.Splitting.{all_keys}
 use Rattle.ptmerge.proofs.Standing.{Sided, Stands}

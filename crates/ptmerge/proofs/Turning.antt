@@ -1,9 +1,8 @@
 -- How a merge goes on from a line that was passed, and how it stops there.
-use Rattle.std.proofs.Common.{◌≡◌, ◌≢◌, ◌⊎◌, ⊎_elim, inl, inr, ℕ, ◌+◌, ◌≤◌, ◌<◌, Bool, true, false, List, [], ◌∷◌, ◌++◌, Option, Some, None, Result, Ok, Err, length, max, refl, sym, ◌∙◌, ap, subst, arith}
+use Rattle.std.proofs.Common.{◌≡◌, ◌≢◌, ⊎_elim, inl, inr, ℕ, ◌+◌, ◌≤◌, ◌<◌, Bool, true, false, List, [], ◌∷◌, ◌++◌, Option, Some, None, Err, length, max, refl, sym, ◌∙◌, ap, subst, arith}
 use Rattle.std.specs.Ordering.{is_gt, is_lt, is_le}
 use Rattle.std.proofs.lemmas.Bool.{false≢true}
 use Rattle.std.proofs.lemmas.List.{append-nil}
-use Rattle.ptlines.specs.Fills.{BreaksRead, BreaksMemory}
 use Rattle.ptlines.specs.Outputs.{Output, Wrote}
 use Rattle.ptlines.specs.Readers.{Reader, Reads, IsDone, HasReadCause}
 use Rattle.ptlines.specs.Slots.{Slots, line, with_line}
@@ -20,9 +19,9 @@ use Rattle.ptmerge.specs.Keyed.{Lines, Tool, Fall, by_keys, disorder, disorder_o
 use Rattle.ptmerge.specs.Merges.{State, IsMerge, Names}
 use Rattle.ptmerge.specs.Orders.{Cmp, Key}
 use Rattle.ptmerge.specs.Places.{Breaks, Comes, HasSlots, slot_of}
-use Rattle.ptmerge.specs.Sides.{both, put, other}
-use Rattle.ptmerge.specs.Steps.{GoesBefore, IsAlone, IsDecided, IsNamed, head_key, last_key}
-use Rattle.ptmerge.proofs.Bounds.{Bound, Free, From, Fallen, Over, Coming, Falling, FallFrom, Under, Begun}
+use Rattle.ptmerge.specs.Sides.{put, other}
+use Rattle.ptmerge.specs.Steps.{GoesBefore, IsDecided, IsNamed, last_key}
+use Rattle.ptmerge.proofs.Bounds.{Bound, From, Fallen, Over, Coming, Falling, FallFrom, Under, Begun}
 use Rattle.ptmerge.proofs.Got.{More}
 use Rattle.ptmerge.proofs.Least.{EachKey, EachKey-weaker, front_first, with_key-above}
 use Rattle.ptmerge.proofs.Orders.{IsKeyOrder, AtMost, Above, above_at_most, above_not_le, above_up, greater_flips, is_greater, is_less, less_flips, self_at_most}
@@ -31,7 +30,7 @@ use Rattle.ptmerge.proofs.Passing.{Merging, StopsAt, passes, settles}
 use Rattle.ptmerge.proofs.Slotted.{line_other}
 use Rattle.ptmerge.proofs.Splitting.{all_keys, none_wanted}
 use Rattle.ptmerge.proofs.Standing.{Sided, Stands, Next, Passed, goes_next, passed, sided_keeps}
-use Rattle.ptmerge.proofs.Stopping.{Concludes, Fails, Gone, stops}
+use Rattle.ptmerge.proofs.Stopping.{Fails, Gone, stops}
 
 -- ---- slots
 

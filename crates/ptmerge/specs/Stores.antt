@@ -1,5 +1,5 @@
 -- The slots that a merge needs of a store.
-use Rattle.std.specs.Prelude.{◌≡◌, ◌≤◌, ◌+◌, ℕ, true, length, max}
+use Rattle.std.specs.Prelude.{◌≡◌, ◌≤◌, ◌+◌, true, length, max}
 use Rattle.ptlines.specs.Slots.{Slots, line, total}
 
 -- the slots that were missing of the first four were added, and nothing else happened

@@ -68,16 +68,12 @@ fn pass<K: KeyOrder, A: Allocator + Copy, S: Source, R: Source, W: Sink>(
     requires stands { (both merge.old.first merge.old.second side).stand ≡ stands.Head }
     requires lent { IsLent (both merge.old.first merge.old.second side) reader.old }
     requires clean { out.old.faulted ≡ false }
-    ensures wrote {
-      let standing = line store.old (both merge.old.first merge.old.second side).standing in
-      Wrote out.old out.new (text ending (entries_in hidden lead.now 1 standing))
-    }
-    ensures passes {
-      let was = both merge.old.first merge.old.second side in
-      let is = both merge.new.first merge.new.second side in
-      let key = K.key_of merge.old.order side in
-      Passes key (K.order merge.old.order) side was is reader.old reader.new store.old store.new out.new result
-    }
+    ensures wrote { let standing = line store.old (both merge.old.first merge.old.second side).standing in
+        Wrote out.old out.new (text ending (entries_in hidden lead.now 1 standing)) }
+    ensures passes { let was = both merge.old.first merge.old.second side in
+        let is = both merge.new.first merge.new.second side in
+        let key = K.key_of merge.old.order side in
+        Passes key (K.order merge.old.order) side was is reader.old reader.new store.old store.new out.new result }
     ensures others { both merge.new.first merge.new.second (other side) ≡ both merge.old.first merge.old.second (other side) }
     ensures order { merge.new.order ≡ merge.old.order }
     ensures placed { OnOk result (IsPlaced merge.new.first merge.new.second store.new) }
@@ -104,11 +100,9 @@ fn comm_in_order<K: KeyOrder, A: Allocator + Copy, S: Source, R: Source, W: Sink
     requires sound { IsSound first.old × IsSound second.old }
     requires ending { (first.old.ending ≡ (comm_job job.now).end) × (second.old.ending ≡ (comm_job job.now).end) }
     requires writable { out.old.faulted ≡ false }
-    ensures merged {
-      let tool = comm_by (comm_job job.now) (K.order order) (K.key_of order) in
-      let was = seen first.old second.old out.old store.old in
-      IsMerge tool was (seen first.new second.new out.new store.new) result
-    }
+    ensures merged { let tool = comm_by (comm_job job.now) (K.order order) (K.key_of order) in
+        let was = seen first.old second.old out.old store.old in
+        IsMerge tool was (seen first.new second.new out.new store.new) result }
     ensures slots { store.new.denied ≡ false → length store.new.lines ≡ max (length store.old.lines) 4 }
 {
     let ending = first.ending();
@@ -118,10 +112,37 @@ fn comm_in_order<K: KeyOrder, A: Allocator + Copy, S: Source, R: Source, W: Sink
     let mut merge = Merge::start(order, first, second, store)?;
     'steps: loop {
         match merge.step(store) {
-            Step::First => pass(&mut merge, Side::First, hide1, b"", ending, first, store, out)?,
-            Step::Second => pass(&mut merge, Side::Second, hide2, lead2, ending, second, store, out)?,
+            Step::First => pass(
+                &mut merge,
+                Side::First,
+                hide1,
+                b"",
+                ending,
+                first,
+                store,
+                out,
+            )?,
+            Step::Second => pass(
+                &mut merge,
+                Side::Second,
+                hide2,
+                lead2,
+                ending,
+                second,
+                store,
+                out,
+            )?,
             Step::Both => {
-                pass(&mut merge, Side::First, hide3, lead3, ending, first, store, out)?;
+                pass(
+                    &mut merge,
+                    Side::First,
+                    hide3,
+                    lead3,
+                    ending,
+                    first,
+                    store,
+                    out,
+                )?;
                 merge.advance(Side::Second, second, store)?;
             }
             Step::End => {
@@ -156,10 +177,8 @@ pub fn comm<A: Allocator + Copy, S: Source, R: Source, W: Sink>(
     out: &mut Out<W>,
 ) -> Result<(), MergeFault>
     requires { IsReady first.old second.old store.old }
-    ensures merged {
-      let was = seen first.old second.old out.old store.old in
-      IsMerge (comm_tool (comm_job job.now)) was (seen first.new second.new out.new store.new) result
-    }
+    ensures merged { let was = seen first.old second.old out.old store.old in
+        IsMerge (comm_tool (comm_job job.now)) was (seen first.new second.new out.new store.new) result }
     ensures slots { out.old.faulted ≡ false → store.new.denied ≡ false → length store.new.lines ≡ max (length store.old.lines) 4 }
 {
     first.set_ending(job.zero);

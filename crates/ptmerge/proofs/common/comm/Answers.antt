@@ -1,14 +1,14 @@
 use Rattle.std.proofs.Common.{◌≡◌, false, None, Err, sym, ◌∙◌, ap, subst}
 use Rattle.ptmerge.specs.declared.faults.MergeFault.TheVariants.{Write}
-use Rattle.ptlangs.specs.Jobs.{comm_job, ending}
+use Rattle.ptlangs.specs.Jobs.{comm_job}
 use Rattle.ptlines.specs.Readers.{Reader}
 use Rattle.ptmerge.specs.declared.order.Side.{Side}
 use Rattle.ptmerge.specs.Comm.{comm_by, comm_tool}
 use Rattle.ptmerge.specs.Merges.{IsMerge, seen}
-use Rattle.ptmerge.specs.Orders.{Cmp, byte_cmp, line_cmp, whole_line}
+use Rattle.ptmerge.specs.Orders.{line_cmp, whole_line}
 use Rattle.ptmerge.specs.Sides.{both}
 use Rattle.ptmerge.proofs.CommStarts.{set_is, unstarted}
-use Rattle.ptmerge.proofs.Orders.{IsKeyOrder, line_order}
+use Rattle.ptmerge.proofs.Orders.{line_order}
 use Rattle.ptmerge.proofs.Pairs.{both_each}
 use Rattle.ptmerge.proofs.Stopping.{merge_set}
 use Rattle.ptmerge.proofs.common.comm.Goals as goal

@@ -1,4 +1,4 @@
-use Rattle.std.proofs.Common.{◌≡◌, ℕ, Bool, true, false, List, [], ◌∷◌, ◌++◌, refl, sym, ◌∙◌, subst, append_assoc}
+use Rattle.std.proofs.Common.{◌≡◌, ℕ, Bool, true, false, List, [], ◌∷◌, ◌++◌, sym, ◌∙◌, subst, append_assoc}
 use Rattle.ptlines.specs.Outputs.{Wrote}
 use Rattle.ptlines.specs.Text.{text}
 use Rattle.ptlines.proofs.Pushed.{wrote_trans, wrote_past}
