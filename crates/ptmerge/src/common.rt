@@ -9,6 +9,7 @@ ghost use Rattle.ptmerge.specs.Merges.{IsMerge, IsReady, seen};
 ghost use Rattle.ptmerge.specs.Passes.{Passes};
 ghost use Rattle.ptmerge.specs.Sides.{both, other};
 ghost use Rattle.ptmerge.specs.Steps.{IsPlaced, IsLent};
+ghost use Rattle.ptmerge.specs.Stores.{GetsFour};
 ghost use Rattle.ptmerge.specs.declared.order.Side.{Side as Of};
 ghost use Rattle.ptmerge.specs.declared.sorted.Stand.TheVariants as stands;
 
@@ -74,7 +75,8 @@ fn pass<K: KeyOrder, A: Allocator + Copy, S: Source, R: Source, W: Sink>(
         let is = both merge.new.first merge.new.second side in
         let key = K.key_of merge.old.order side in
         Passes key (K.order merge.old.order) side was is reader.old reader.new store.old store.new out.new result }
-    ensures others { both merge.new.first merge.new.second (other side) ≡ both merge.old.first merge.old.second (other side) }
+    ensures others { let was = both merge.old.first merge.old.second (other side) in
+        both merge.new.first merge.new.second (other side) ≡ was }
     ensures order { merge.new.order ≡ merge.old.order }
     ensures placed { OnOk result (IsPlaced merge.new.first merge.new.second store.new) }
     ensures lent { OnOk result (IsLent (both merge.new.first merge.new.second side) reader.new) }
@@ -103,7 +105,7 @@ fn comm_in_order<K: KeyOrder, A: Allocator + Copy, S: Source, R: Source, W: Sink
     ensures merged { let tool = comm_by (comm_job job.now) (K.order order) (K.key_of order) in
         let was = seen first.old second.old out.old store.old in
         IsMerge tool was (seen first.new second.new out.new store.new) result }
-    ensures slots { store.new.denied ≡ false → length store.new.lines ≡ max (length store.old.lines) 4 }
+    ensures slots { GetsFour store.old store.new }
 {
     let ending = first.ending();
     let [hide1, hide2, hide3] = job.hide;
@@ -179,7 +181,7 @@ pub fn comm<A: Allocator + Copy, S: Source, R: Source, W: Sink>(
     requires { IsReady first.old second.old store.old }
     ensures merged { let was = seen first.old second.old out.old store.old in
         IsMerge (comm_tool (comm_job job.now)) was (seen first.new second.new out.new store.new) result }
-    ensures slots { out.old.faulted ≡ false → store.new.denied ≡ false → length store.new.lines ≡ max (length store.old.lines) 4 }
+    ensures slots { out.old.faulted ≡ false → GetsFour store.old store.new }
 {
     first.set_ending(job.zero);
     second.set_ending(job.zero);

@@ -164,8 +164,10 @@ impl<K: KeyOrder> Merge<K> {
         requires lent { IsLent (both self.old.first self.old.second side) reader.old }
         ensures moves { let was = both self.old.first self.old.second side in
             let is = both self.new.first self.new.second side in
-            Advances (K.key_of self.old.order side) (K.order self.old.order) side was is reader.old reader.new store.old store.new result }
-        ensures others { both self.new.first self.new.second (other side) ≡ both self.old.first self.old.second (other side) }
+            let key = K.key_of self.old.order side in
+            Advances key (K.order self.old.order) side was is reader.old reader.new store.old store.new result }
+        ensures others { let was = both self.old.first self.old.second (other side) in
+            both self.new.first self.new.second (other side) ≡ was }
         ensures order { self.new.order ≡ self.old.order }
         ensures placed { OnOk result (IsPlaced self.new.first self.new.second store.new) }
         ensures lent { OnOk result (IsLent (both self.new.first self.new.second side) reader.new) }

@@ -69,7 +69,8 @@ impl Sorted {
         requires apart { self.old.standing ≢ self.old.previous }
         requires clean { reader.old.fault ≡ None }
         requires counted { self.old.number + budget reader.old ≤ 2 ^ 63 }
-        ensures moves { Advances (K.key_of order.now side) (K.order order.now) side self.old self.new reader.old reader.new store.old store.new result }
+        ensures moves { let key = K.key_of order.now side in
+            Advances key (K.order order.now) side self.old self.new reader.old reader.new store.old store.new result }
         ensures slots { length store.new.lines ≡ length store.old.lines }
     {
         let last = self.standing;
