@@ -1,0 +1,16 @@
+pub mod Bounds
+pub mod CommEntries
+pub mod CommRows
+pub mod CommStarts
+pub mod CommTurns
+pub mod Got
+pub mod Least
+pub mod LineLaws
+pub mod Passing
+pub mod Orders
+pub mod Pairs
+pub mod Slotted
+pub mod Splitting
+pub mod Standing
+pub mod Stopping
+pub mod Turning

@@ -1,0 +1,109 @@
+-- What follows from the laws of an order of keys.
+use Rattle.std.proofs.Common.{◌≡◌, ◌⊎◌, inl, inr, ℕ, List, Bool, true, false, refl, sym, ◌∙◌, ap, subst}
+use Rattle.std.specs.Prelude.{bytes_eq}
+use Rattle.std.specs.Cmp.{IsTotalOrder}
+use Rattle.std.specs.declared.cmp.Ordering.{Ordering}
+use Rattle.std.specs.declared.cmp.Ordering.TheVariants.{Less, Equal, Greater}
+use Rattle.std.specs.Ordering.{is_gt, is_le, is_lt, ordering_reverse}
+use Rattle.std.specs.Cmp.Lexicographic.{bytes_decides}
+use Rattle.std.proofs.lemmas.Cmp.{back_total, nat_list_cmp_total, tied_itself, upto}
+use Rattle.ptmerge.specs.Exact.{same_back, same_bytes}
+use Rattle.ptmerge.specs.Orders.{Cmp, byte_cmp, line_cmp}
+
+pub record IsKeyOrder (cmp : Cmp) : Type 0 where
+  pub total : IsTotalOrder cmp
+  pub exact : (a b : List ℕ) → cmp a b ≡ Equal → a ≡ b
+
+-- a is not behind b
+abbrev pub AtMost : Cmp → List ℕ → List ℕ → Type 0
+AtMost cmp a b = is_gt (cmp a b) ≡ false
+
+-- y is behind k
+abbrev pub Above : Cmp → List ℕ → List ℕ → Type 0
+Above cmp k y = cmp y k ≡ Greater
+
+pub is_less : (r : Ordering) → is_lt r ≡ true → r ≡ Less
+is_less Less h = refl
+is_less Equal h = cc
+is_less Greater h = cc
+
+pub is_greater : (r : Ordering) → is_gt r ≡ true → r ≡ Greater
+is_greater Less h = cc
+is_greater Equal h = cc
+is_greater Greater h = refl
+
+module _ (cmp : Cmp) (o : IsKeyOrder cmp) where
+  pub self_at_most : (a : List ℕ) → AtMost cmp a a
+  self_at_most a = ap is_gt (tied_itself o.total a)
+
+  pub at_most_trans : (a b c : List ℕ) → AtMost cmp a b → AtMost cmp b c → AtMost cmp a c
+  at_most_trans a b c p q = upto o.total a b c p q
+
+  pub greater_flips : (a b : List ℕ) → cmp a b ≡ Greater → cmp b a ≡ Less
+  greater_flips a b g = o.total.antisymm b a ∙ ap ordering_reverse g
+
+  pub less_flips : (a b : List ℕ) → cmp a b ≡ Less → cmp b a ≡ Greater
+  less_flips a b l = o.total.antisymm b a ∙ ap ordering_reverse l
+
+  pub less_at_most : (a b : List ℕ) → cmp a b ≡ Less → AtMost cmp a b
+  less_at_most a b l = ap is_gt l
+
+  pub same_at_most : (a b : List ℕ) → cmp a b ≡ Equal → AtMost cmp a b
+  same_at_most a b e = ap is_gt e
+
+  -- k is y, or before it
+  pub least_or_above : (k y : List ℕ) → AtMost cmp k y → ((bytes_eq y k ≡ true) × (y ≡ k)) ⊎ ((bytes_eq y k ≡ false) × (cmp y k ≡ Greater))
+  least_or_above k y h = by (cmp k y) refl h
+    where
+      apart : cmp k y ≡ Less → bytes_eq y k ≡ false
+      apart l = elim (bytes_eq y k) as (λ b. (b ≡ true → y ≡ k) → b ≡ false) [
+        | true ↦ λ f. (let bad : Less ≡ Equal = sym l ∙ ap (λ z. cmp k z) (f refl) ∙ tied_itself o.total k in cc)
+        | false ↦ λ f. refl
+      ] (bytes_decides y k).0
+
+      by : (r : Ordering) → cmp k y ≡ r → is_gt r ≡ false → ((bytes_eq y k ≡ true) × (y ≡ k)) ⊎ ((bytes_eq y k ≡ false) × (cmp y k ≡ Greater))
+      by Less l g = inr (apart l, less_flips k y l)
+      by Equal e g = let same = sym (o.exact k y e) in inl ((bytes_decides y k).1 same, same)
+      by Greater l g = cc
+
+  pub above_at_most : (k y : List ℕ) → cmp y k ≡ Greater → AtMost cmp k y
+  above_at_most k y g = less_at_most k y (greater_flips y k g)
+
+  pub above_not_same : (k y : List ℕ) → cmp y k ≡ Greater → bytes_eq y k ≡ false
+  above_not_same k y g = elim (bytes_eq y k) as (λ b. (b ≡ true → y ≡ k) → b ≡ false) [
+    | true ↦ λ f. (let bad : Greater ≡ Equal = sym g ∙ ap (λ z. cmp z k) (f refl) ∙ tied_itself o.total k in cc)
+    | false ↦ λ f. refl
+  ] (bytes_decides y k).0
+
+  -- a ≤ b < c
+  pub above_trans : (a b c : List ℕ) → AtMost cmp a b → cmp c b ≡ Greater → cmp c a ≡ Greater
+  above_trans a b c p g = by (least_or_above a b p)
+    where
+      by : ((bytes_eq b a ≡ true) × (b ≡ a)) ⊎ ((bytes_eq b a ≡ false) × (cmp b a ≡ Greater)) → cmp c a ≡ Greater
+      by (inl e) = subst (λ z. cmp c z ≡ Greater) e.1 g
+      by (inr h) = less_flips a c (o.total.trans a b c (greater_flips b a h.1) (greater_flips c b g))
+
+  -- a < b ≤ c
+  pub above_up : (a b c : List ℕ) → cmp b a ≡ Greater → AtMost cmp b c → cmp c a ≡ Greater
+  above_up a b c g p = by (least_or_above b c p)
+    where
+      by : ((bytes_eq c b ≡ true) × (c ≡ b)) ⊎ ((bytes_eq c b ≡ false) × (cmp c b ≡ Greater)) → cmp c a ≡ Greater
+      by (inl e) = subst (λ z. cmp z a ≡ Greater) (sym e.1) g
+      by (inr h) = less_flips a c (o.total.trans a b c (greater_flips b a g) (greater_flips c b h.1))
+
+  pub is_le_at_most : (a b : List ℕ) → is_le (cmp a b) ≡ true → AtMost cmp a b
+  is_le_at_most a b = elim (cmp a b) as (λ r. is_le r ≡ true → is_gt r ≡ false) [ Less ↦ λ h. refl | Equal ↦ λ h. refl | Greater ↦ λ h. cc ]
+
+  pub at_most_is_le : (a b : List ℕ) → AtMost cmp a b → is_le (cmp a b) ≡ true
+  at_most_is_le a b = elim (cmp a b) as (λ r. is_gt r ≡ false → is_le r ≡ true) [ Less ↦ λ h. refl | Equal ↦ λ h. refl | Greater ↦ λ h. cc ]
+
+  pub not_le_above : (a b : List ℕ) → is_le (cmp a b) ≡ false → cmp a b ≡ Greater
+  not_le_above a b = elim (cmp a b) as (λ r. is_le r ≡ false → r ≡ Greater) [ Less ↦ λ h. cc | Equal ↦ λ h. cc | Greater ↦ λ h. refl ]
+
+  pub above_not_le : (a b : List ℕ) → cmp a b ≡ Greater → is_le (cmp a b) ≡ false
+  above_not_le a b g = ap is_le g
+
+-- both orders of lines are orders of keys
+pub line_order : (descending : Bool) → IsKeyOrder (line_cmp descending)
+line_order true = record { total = back_total nat_list_cmp_total; exact = same_back byte_cmp same_bytes }
+line_order false = record { total = nat_list_cmp_total; exact = same_bytes }

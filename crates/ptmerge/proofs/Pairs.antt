@@ -1,0 +1,32 @@
+-- What holds of each of two inputs.
+use Rattle.std.proofs.Common.{◌≡◌, refl}
+use Rattle.ptmerge.specs.declared.order.Side.{Side}
+use Rattle.ptmerge.specs.declared.order.Side.TheVariants.{First, Second}
+use Rattle.ptmerge.specs.Sides.{both, put, other}
+
+module _ {X : Type 0} (P : Side → X → Type 0) where
+  pub both_each : (x y : X) → P First x → P Second y → (side : Side) → P side (both x y side)
+  both_each x y p q First = p
+  both_each x y p q Second = q
+
+  -- one was changed
+  pub put_each : (s : Side) (x : X) (f : Side → X) → P s x → ((side : Side) → P side (f side)) → (side : Side) → P side (put s x f side)
+  put_each First x f p q First = p
+  put_each First x f p q Second = q Second
+  put_each Second x f p q First = q First
+  put_each Second x f p q Second = p
+
+pub put_same : {X : Type 0} (s : Side) (x : X) (f : Side → X) → put s x f s ≡ x
+put_same First x f = refl
+put_same Second x f = refl
+
+pub put_other : {X : Type 0} (s : Side) (x : X) (f : Side → X) → put s x f (other s) ≡ f (other s)
+put_other First x f = refl
+put_other Second x f = refl
+
+-- it holds of this one and of the other
+pub side_case : (Q : Side → Type 0) (s : Side) → Q s → Q (other s) → (side : Side) → Q side
+side_case Q First p q First = p
+side_case Q First p q Second = q
+side_case Q Second p q First = q
+side_case Q Second p q Second = p

@@ -1,0 +1,10 @@
+pub mod Comm
+pub mod Exact
+pub mod Keyed
+pub mod Merges
+pub mod Orders
+pub mod Passes
+pub mod Places
+pub mod Sides
+pub mod Steps
+pub mod Stores

@@ -1,0 +1,14 @@
+//! Two inputs in order, taken together by their keys, and `comm`.
+#![tactic(auto)]
+
+mod common;
+mod faults;
+mod merging;
+mod order;
+mod slots;
+mod sorted;
+
+pub use common::comm;
+pub use faults::MergeFault;
+pub use merging::{Merge, Step};
+pub use order::{Descending, KeyOrder, Side, WholeLine};

@@ -1,0 +1,180 @@
+ghost use Rattle.std.specs.Prelude.{◌≡◌, false, length, None, Result, OnOk, IfOk, IfErr};
+ghost use Rattle.ptlines.specs.Readers.{IsSound};
+ghost use Rattle.ptlines.specs.Slots.{line};
+ghost use Rattle.ptmerge.specs.Places.{Advances};
+ghost use Rattle.ptmerge.specs.Sides.{both, other};
+ghost use Rattle.ptmerge.specs.Steps.{inputs, IsPlaced, IsLent, IsNext, Starts, StartBreaks};
+
+use crate::faults::MergeFault;
+use crate::order::{KeyOrder, Side};
+use crate::slots::need_four;
+use crate::sorted::{Sorted, Stand};
+use ptlines::{LineReader, Source, Store};
+use std::alloc::Allocator;
+
+/// Which standing lines have the least key, or why none comes next.
+#[derive(Clone, Copy, Debug, PartialEq, Eq)]
+pub enum Step {
+    /// That of the first input alone.
+    First,
+    /// That of the second input alone.
+    Second,
+    /// Those of both inputs, whose keys are equal.
+    Both,
+    /// There are no more lines.
+    End,
+    /// This input is out of order at the line of this number, counted from 1, and no standing line has a key that is
+    /// at most its last one in order. Of two inputs that are out of order it is the one with the lesser last key, or
+    /// else the first.
+    Stop(Side, u64),
+}
+
+/// Two inputs in order, taken together by their keys. The line at which each stands is in the store, in one of the
+/// slots 0 to 3: from `start` on these slots are left as they are, and each input is lent its own reader. After a fault
+/// no call is made any more.
+#[derive(Drop)]
+pub struct Merge<K: KeyOrder> {
+    order: K,
+    first: Sorted,
+    second: Sorted,
+}
+
+impl<K: KeyOrder> Merge<K> {
+    ghost use Rattle.ptmerge.specs.declared.sorted.Stand.TheVariants as stands;
+
+    /// Adds the slots that are missing of the first four, and reads the first line of each input.
+    /// # Errors
+    /// `Read` where a read failed; `Memory` where a growth of the store was refused, and the store is then denied.
+    pub fn start<A: Allocator + Copy, S: Source, R: Source>(
+        order: K,
+        first: &mut LineReader<S, R>,
+        second: &mut LineReader<S, R>,
+        store: &mut Store<A>,
+    ) -> Result<Self, MergeFault>
+        requires first { first.old.fault ≡ None }
+        requires second { second.old.fault ≡ None }
+        requires allowed { store.old.denied ≡ false }
+        ensures starts { let was = inputs first.old second.old store.old in
+            let is = inputs first.new second.new store.new in
+            IfOk result (λ m. Starts (K.key_of order) (K.order order) (both m.first m.second) was is) }
+        ensures breaks { let was = inputs first.old second.old store.old in
+            let is = inputs first.new second.new store.new in
+            IfErr result (λ fault. StartBreaks (K.key_of order) (K.order order) was is fault) }
+        ensures placed { IfOk result (λ m. IsPlaced m.first m.second store.new) }
+        ensures lent { IfOk result (λ m. IsLent m.first first.new × IsLent m.second second.new) }
+        ensures order { IfOk result (λ m. m.order ≡ order) }
+    {
+        let mut one = Sorted::unread(Side::First, first);
+        let mut two = Sorted::unread(Side::Second, second);
+        match need_four(store) {
+            Ok(()) => {}
+            Err(_) => return Err(MergeFault::Memory),
+        }
+        one.next(&order, Side::First, first, store)?;
+        two.next(&order, Side::Second, second, store)?;
+        Ok(Merge {
+            order,
+            first: one,
+            second: two,
+        })
+    }
+
+    /// Which standing lines come next.
+    pub fn step<A: Allocator + Copy>(&self, store: &Store<A>) -> Step
+        requires { IsPlaced self.now.first self.now.second store.now }
+        ensures { let place = both self.now.first self.now.second in
+            IsNext (K.order self.now.order) (K.key_of self.now.order) place store.now result }
+    {
+        match (self.first.stand, self.second.stand) {
+            (Stand::Head, Stand::Head) => {
+                let a = self.order.key(Side::First, store.line(self.first.standing));
+                let b = self
+                    .order
+                    .key(Side::Second, store.line(self.second.standing));
+                match self.order.cmp(a, b) {
+                    std::cmp::Ordering::Less => Step::First,
+                    std::cmp::Ordering::Equal => Step::Both,
+                    std::cmp::Ordering::Greater => Step::Second,
+                }
+            }
+            (Stand::Head, Stand::Ended) => Step::First,
+            (Stand::Head, Stand::Disorder(number)) => {
+                let a = self.order.key(Side::First, store.line(self.first.standing));
+                let last = self
+                    .order
+                    .key(Side::Second, store.line(self.second.previous));
+                if self.order.cmp(a, last).is_gt() {
+                    Step::Stop(Side::Second, number)
+                } else {
+                    Step::First
+                }
+            }
+            (Stand::Ended, Stand::Head) => Step::Second,
+            (Stand::Ended, Stand::Ended) => Step::End,
+            (Stand::Ended, Stand::Disorder(number)) => Step::Stop(Side::Second, number),
+            (Stand::Disorder(number), Stand::Head) => {
+                let b = self
+                    .order
+                    .key(Side::Second, store.line(self.second.standing));
+                let last = self.order.key(Side::First, store.line(self.first.previous));
+                if self.order.cmp(b, last).is_gt() {
+                    Step::Stop(Side::First, number)
+                } else {
+                    Step::Second
+                }
+            }
+            (Stand::Disorder(number), Stand::Ended) => Step::Stop(Side::First, number),
+            (Stand::Disorder(first), Stand::Disorder(second)) => {
+                let a = self.order.key(Side::First, store.line(self.first.previous));
+                let b = self
+                    .order
+                    .key(Side::Second, store.line(self.second.previous));
+                if self.order.cmp(a, b).is_gt() {
+                    Step::Stop(Side::Second, second)
+                } else {
+                    Step::Stop(Side::First, first)
+                }
+            }
+        }
+    }
+
+    /// The line at which an input stands.
+    pub fn head<'a, A: Allocator + Copy>(&self, side: Side, store: &'a Store<A>) -> &'a [u8]
+        requires placed { IsPlaced self.now.first self.now.second store.now }
+        requires stands { (both self.now.first self.now.second side).stand ≡ stands.Head }
+        ensures { result.now ≡ line store.now (both self.now.first self.now.second side).standing }
+    {
+        match side {
+            Side::First => store.line(self.first.standing),
+            Side::Second => store.line(self.second.standing),
+        }
+    }
+
+    /// Goes to the next line of an input that stands at one, by its own reader.
+    /// # Errors
+    /// `Read` where a read failed; `Memory` where a growth of the store was refused, and the store is then denied.
+    pub fn advance<A: Allocator + Copy, S: Source, R: Source>(
+        &mut self,
+        side: Side,
+        reader: &mut LineReader<S, R>,
+        store: &mut Store<A>,
+    ) -> Result<(), MergeFault>
+        requires placed { IsPlaced self.old.first self.old.second store.old }
+        requires stands { (both self.old.first self.old.second side).stand ≡ stands.Head }
+        requires lent { IsLent (both self.old.first self.old.second side) reader.old }
+        ensures moves { let was = both self.old.first self.old.second side in
+            let is = both self.new.first self.new.second side in
+            let key = K.key_of self.old.order side in
+            Advances key (K.order self.old.order) side was is reader.old reader.new store.old store.new result }
+        ensures others { let was = both self.old.first self.old.second (other side) in
+            both self.new.first self.new.second (other side) ≡ was }
+        ensures order { self.new.order ≡ self.old.order }
+        ensures placed { OnOk result (IsPlaced self.new.first self.new.second store.new) }
+        ensures lent { OnOk result (IsLent (both self.new.first self.new.second side) reader.new) }
+    {
+        match side {
+            Side::First => self.first.next(&self.order, side, reader, store),
+            Side::Second => self.second.next(&self.order, side, reader, store),
+        }
+    }
+}

@@ -1,0 +1,94 @@
+ghost use Rattle.std.specs.Prelude.{◌≡◌, ℕ, List};
+ghost use Rattle.std.specs.Cmp.{IsTotalOrder};
+ghost use Rattle.std.specs.declared.cmp.Ordering.TheVariants.{Equal};
+ghost use Rattle.ptmerge.specs.Orders.{Cmp, Key};
+ghost use Rattle.ptmerge.specs.declared.order.Side.{Side as Of};
+
+use std::cmp::Ordering;
+
+/// One of two inputs.
+#[derive(Clone, Copy, Debug, PartialEq, Eq)]
+pub enum Side {
+    /// The one that is named first.
+    First = 1,
+    /// The other one.
+    Second = 2,
+}
+
+/// By what lines are ordered: each has a key, and the keys are compared. What comes first is the least.
+pub trait KeyOrder: Drop {
+    /// The keys of the lines of each input.
+    ghost key_of: { Self → Of → Key };
+
+    /// How two keys stand to each other.
+    ghost order: { Self → Cmp };
+
+    /// The key of a line of an input.
+    fn key<'a>(&self, side: Side, line: &'a [u8]) -> &'a [u8]
+        ensures { result.now ≡ key_of self.now side line.now };
+
+    /// Compares two keys.
+    fn cmp(&self, a: &[u8], b: &[u8]) -> Ordering
+        ensures { result ≡ order self.now a.now b.now };
+
+    /// It is a total order.
+    ghost total: { (s : Self) → IsTotalOrder (order s) };
+
+    /// Keys that it does not tell apart are the same bytes.
+    ghost exact: { (s : Self) (a b : List ℕ) → order s a b ≡ Equal → a ≡ b };
+}
+
+/// A line is its own key. Keys are compared byte by byte, and a proper beginning comes before the longer one.
+#[derive(Drop)]
+pub struct WholeLine;
+
+impl KeyOrder for WholeLine {
+    ghost use Rattle.std.specs.Cmp.Lexicographic.{nat_list_cmp_total};
+    ghost use Rattle.ptmerge.specs.Orders.{byte_cmp, whole_line};
+    ghost use Rattle.ptmerge.specs.Exact.{same_bytes};
+
+    ghost key_of = { λ s. whole_line };
+
+    ghost order = { λ s. byte_cmp };
+
+    fn key<'a>(&self, _side: Side, line: &'a [u8]) -> &'a [u8] {
+        line
+    }
+
+    fn cmp(&self, a: &[u8], b: &[u8]) -> Ordering {
+        a.cmp(b)
+    }
+
+    ghost total = { λ s. nat_list_cmp_total };
+
+    ghost exact = { λ s. same_bytes };
+}
+
+/// The reverse of an order: the same keys, the greatest first.
+#[derive(Drop)]
+pub struct Descending<K: KeyOrder> {
+    /// The order that is reversed.
+    pub of: K,
+}
+
+impl<K: KeyOrder> KeyOrder for Descending<K> {
+    ghost use Rattle.std.specs.Ordering.{flip_args};
+    ghost use Rattle.std.proofs.lemmas.Cmp.{back_total};
+    ghost use Rattle.ptmerge.specs.Exact.{same_back};
+
+    ghost key_of = { λ s. K.key_of s.of };
+
+    ghost order = { λ s. flip_args (K.order s.of) };
+
+    fn key<'a>(&self, side: Side, line: &'a [u8]) -> &'a [u8] {
+        self.of.key(side, line)
+    }
+
+    fn cmp(&self, a: &[u8], b: &[u8]) -> Ordering {
+        self.of.cmp(b, a)
+    }
+
+    ghost total = { λ s. back_total (K.total s.of) };
+
+    ghost exact = { λ s. same_back (K.order s.of) (K.exact s.of) };
+}

@@ -1,0 +1,145 @@
+//! `comm` over sources and sinks of the tests.
+
+use ptfakes::{Kept, Pieces, Refusing};
+use ptlangs::jobs::CommJob;
+use ptlines::{LineReader, Out, Store};
+use ptmerge::{MergeFault, Side, comm};
+use std::alloc::{Allocator, Global};
+use std::process::Abort;
+use std::test::Fail;
+
+// Two inputs and a sink: so many bytes a pull, how many pulls of each input pass, and what the sink takes.
+#[derive(Clone, Copy)]
+struct Case<'a> {
+    job: CommJob,
+    first: &'a [u8],
+    second: &'a [u8],
+    size: usize,
+    passing: [u64; 2],
+    room: usize,
+}
+
+fn case<'a>(first: &'a [u8], second: &'a [u8]) -> Case<'a> {
+    Case {
+        job: CommJob::default(),
+        first,
+        second,
+        size: 2,
+        passing: [u64::MAX, u64::MAX],
+        room: usize::MAX,
+    }
+}
+
+type Reader<'a> = LineReader<Pieces<'a>, Pieces<'a>>;
+
+// What `comm` answered, the sink, and the most that the store held.
+fn run<A: Allocator + Copy>(
+    alloc: Global,
+    lines: A,
+    case: &Case<'_>,
+) -> Result<(Result<(), MergeFault>, Kept, u128), Fail> {
+    let mut first: Reader<'_> = LineReader::standard(Pieces::new(case.first, case.size, case.passing[0]));
+    let mut second: Reader<'_> = LineReader::file(Pieces::new(case.second, case.size, case.passing[1]));
+    let mut store = Store::new(lines, 0)?;
+    let mut out = Out::new(Kept::limited(alloc, usize::MAX, case.room, u64::MAX));
+    let result = comm(&case.job, &mut first, &mut second, &mut store, &mut out);
+    let _ = out.finish();
+    Ok((result, out.into_sink(), store.peak()))
+}
+
+fn expect(
+    rt: &impl Abort,
+    alloc: Global,
+    case: &Case<'_>,
+    expected: Result<(), MergeFault>,
+    bytes: &[u8],
+) -> Result<(), Fail> {
+    let (result, kept, _peak) = run(alloc, alloc, case)?;
+    assert_eq!(rt; result, expected);
+    assert!(rt; kept.bytes() == bytes);
+    Ok(())
+}
+
+#[test]
+fn common_lines_come_first(rt: HostRuntime) -> Result<(), Fail> {
+    let mut lines = case(b"a\na\nb\n", b"a\nc\n");
+    expect(&rt, rt.alloc(), &lines, Ok(()), b"\t\ta\na\nb\n\tc\n")?;
+    lines.job.hide = [true, true, false];
+    expect(&rt, rt.alloc(), &lines, Ok(()), b"a\n")
+}
+
+#[test]
+fn an_input_out_of_order(rt: HostRuntime) -> Result<(), Fail> {
+    let lines = case(b"b\na\nc\n", b"a\nb\nb\nd\n");
+    let fault = Err(MergeFault::Disorder(Side::First, 2));
+    expect(&rt, rt.alloc(), &lines, fault, b"\ta\n\t\tb\n\tb\n")
+}
+
+#[test]
+fn lines_that_end_with_zero_in_descending_order(rt: HostRuntime) -> Result<(), Fail> {
+    let mut lines = case(b"b\0a\0a\0", b"c\0a\0");
+    lines.job.zero = true;
+    lines.job.descending = true;
+    expect(&rt, rt.alloc(), &lines, Ok(()), b"\tc\0b\0\t\ta\0a\0")
+}
+
+#[test]
+fn a_read_that_fails(rt: HostRuntime) -> Result<(), Fail> {
+    let mut lines = case(b"a\nc\n", b"b\n");
+    lines.passing = [u64::MAX, 1];
+    let fault = Err(MergeFault::Read(Side::Second));
+    expect(&rt, rt.alloc(), &lines, fault, b"a\n\tb\n")?;
+    let mut falls = case(b"a\nb\na\n", b"a\nb\n");
+    falls.passing = [u64::MAX, 2];
+    expect(&rt, rt.alloc(), &falls, fault, b"\t\ta\n\t\tb\n")
+}
+
+#[test]
+fn a_write_that_fails(rt: HostRuntime) -> Result<(), Fail> {
+    let mut lines = case(b"a\na\nb\n", b"a\nc\n");
+    for room in 0..13usize {
+        lines.room = room;
+        let (_result, kept, _peak) = run(rt.alloc(), rt.alloc(), &lines)?;
+        assert!(rt; b"\t\ta\na\nb\n\tc\n".starts_with(kept.bytes()));
+    }
+    Ok(())
+}
+
+#[test]
+fn each_read_fails_in_turn(rt: HostRuntime) -> Result<(), Fail> {
+    for passing in 0..8u64 {
+        let mut lines = case(b"a\na\nb\n", b"a\nc\n");
+        lines.size = 1;
+        lines.passing = [passing, u64::MAX];
+        let (result, kept, _peak) = run(rt.alloc(), rt.alloc(), &lines)?;
+        assert!(rt; b"\t\ta\na\nb\n\tc\n".starts_with(kept.bytes()));
+        if passing < 7 {
+            assert_eq!(rt; result, Err(MergeFault::Read(Side::First)));
+        } else {
+            assert_eq!(rt; result, Ok(()));
+        }
+    }
+    Ok(())
+}
+
+#[test]
+fn each_growth_refused_in_turn(rt: HostRuntime) -> Result<(), Fail> {
+    let lines = case(b"a\na\nb\n", b"a\nc\n");
+    let mut reached = 0u64;
+    for passing in 0..20u64 {
+        let alloc = Refusing::after(rt.alloc(), passing);
+        let (result, kept, peak) = run(rt.alloc(), &alloc, &lines)?;
+        assert!(rt; peak <= 4);
+        if alloc.refused() {
+            reached = passing + 1;
+            assert_eq!(rt; result, Err(MergeFault::Memory));
+            assert!(rt; b"\t\ta\na\nb\n\tc\n".starts_with(kept.bytes()));
+        } else {
+            assert_eq!(rt; result, Ok(()));
+            assert!(rt; kept.bytes() == b"\t\ta\na\nb\n\tc\n".as_slice());
+        }
+    }
+    assert!(rt; reached > 0);
+    assert!(rt; reached < 20);
+    Ok(())
+}

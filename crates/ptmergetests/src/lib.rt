@@ -1,0 +1,7 @@
+//! Tests of two inputs in order.
+#![tactic(auto)]
+
+#[cfg(test)]
+mod comm;
+#[cfg(test)]
+mod orders;
