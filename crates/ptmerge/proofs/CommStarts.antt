@@ -1,12 +1,12 @@
 -- How `comm` starts.
-use Rattle.std.proofs.Common.{◌≡◌, inl, inr, ℕ, ◌≤◌, ◌<◌, Bool, false, true, cond, List, [], None, Err, length, max, refl, sym, ◌∙◌, ap, subst, arith}
+use Rattle.std.proofs.Common.{◌≡◌, inl, inr, ℕ, ◌≤◌, ◌<◌, Bool, false, true, cond, List, [], None, Err, length, refl, sym, ◌∙◌, ap, subst, arith}
 use Rattle.std.proofs.lemmas.Bool.{false≢true}
 use Rattle.ptlangs.specs.Jobs.{Comm, ending}
 use Rattle.ptlines.specs.Readers.{Reader, Reads}
 use Rattle.ptlines.specs.Slots.{Slots, line, total}
 use Rattle.ptlines.specs.Text.{IsLine, longest}
 use Rattle.ptmerge.specs.declared.faults.MergeFault.{MergeFault}
-use Rattle.ptmerge.specs.declared.faults.MergeFault.TheVariants.{Memory, Write}
+use Rattle.ptmerge.specs.declared.faults.MergeFault.TheVariants.{Memory}
 use Rattle.ptmerge.specs.declared.order.Side.{Side}
 use Rattle.ptmerge.specs.declared.order.Side.TheVariants.{First, Second}
 use Rattle.ptmerge.specs.declared.sorted.Sorted.{Sorted}
@@ -14,12 +14,12 @@ use Rattle.ptmerge.specs.Comm.{comm_by}
 use Rattle.ptmerge.specs.Keyed.{Lines}
 use Rattle.ptmerge.specs.Merges.{State, IsMerge}
 use Rattle.ptmerge.specs.Orders.{Cmp, Key}
-use Rattle.ptmerge.specs.Places.{Breaks, Comes, HasSlots, fresh, slot_of}
+use Rattle.ptmerge.specs.Places.{CannotRead, Comes, HasSlots, fresh, slot_of}
 use Rattle.ptmerge.specs.Sides.{both}
-use Rattle.ptmerge.specs.Steps.{Inputs, StartBreaks, Starts, IsUnslotted}
-use Rattle.ptmerge.specs.Stores.{HasFour}
+use Rattle.ptmerge.specs.Steps.{Inputs, CannotStart, Starts, IsUnslotted}
+use Rattle.ptmerge.specs.Stores.{Adds, HasFour}
 use Rattle.ptmerge.proofs.Bounds.{Free, begun_none}
-use Rattle.ptmerge.proofs.CommTurns.{Running, bounded, breaks_slots}
+use Rattle.ptmerge.proofs.CommTurns.{Running, adds_of, bounded, breaks_slots}
 use Rattle.ptmerge.proofs.Got.{got_none, reads_nothing}
 use Rattle.ptmerge.proofs.Orders.{IsKeyOrder}
 use Rattle.ptmerge.proofs.Pairs.{both_each}
@@ -93,7 +93,7 @@ module _ (job : Comm) (cmp : Cmp) (key : Side → Key) (o : IsKeyOrder cmp) (old
               (elim [ First ↦ omega arith | Second ↦ omega arith ]) k.fits k.stored;
         }
 
-    pub second_breaks : (new2 : Reader) (after : Slots) (fault : MergeFault) → Breaks Second (fresh Second) (old.reader Second) new2 mid after fault → IsMerge (comm_by job cmp key) old (record { reader = both new1 new2; out = old.out; store = after }) (Err fault)
+    pub second_breaks : (new2 : Reader) (after : Slots) (fault : MergeFault) → CannotRead Second (fresh Second) (old.reader Second) new2 mid after fault → IsMerge (comm_by job cmp key) old (record { reader = both new1 new2; out = old.out; store = after }) (Err fault)
     second_breaks new2 after fault moves =
         breaks (comm_by job cmp key) o old (record { reader = both new1 (old.reader Second); out = old.out; store = mid }) (both n.now_ls []) no_lines (both n.bound Free) half_merging unfailed (elim [ First ↦ n.sided.got.goes.failed | Second ↦ refl ]) writable
         Second (fresh Second) new2 after fault (free Second) refl None (begun_none cmp (key Second)) (gone_standing job.end cmp (key First) (old.reader First) new1 first mid n.now_ls [] n.bound n.sided) half_keeps.denied
@@ -103,7 +103,7 @@ module _ (job : Comm) (cmp : Cmp) (key : Side → Key) (o : IsKeyOrder cmp) (old
       → Running (comm_by job cmp key) old (record { reader = both (new.reader First) (new.reader Second); out = old.out; store = new.store }) (both (place First) (place Second))
   starts_well new place slots s = both_stand s.made s.mid s.four (new.reader First) (place First) s.came slots (new.reader Second) (place Second) new.store s.later
 
-  first_breaks : (new1 : Reader) (made after : Slots) (fault : MergeFault) → HasFour old.store made → Breaks First (fresh First) (old.reader First) new1 made after fault → IsMerge (comm_by job cmp key) old (record { reader = both new1 (old.reader Second); out = old.out; store = after }) (Err fault)
+  first_breaks : (new1 : Reader) (made after : Slots) (fault : MergeFault) → HasFour old.store made → CannotRead First (fresh First) (old.reader First) new1 made after fault → IsMerge (comm_by job cmp key) old (record { reader = both new1 (old.reader Second); out = old.out; store = after }) (Err fault)
   first_breaks new1 made after fault four moves =
       let k = made_keeps made four in
       breaks (comm_by job cmp key) o old (record { reader = old.reader; out = old.out; store = made }) no_lines no_lines (λ side. Free) (merging_none (comm_by job cmp key) old.out) unfailed (λ side. refl) writable
@@ -117,27 +117,17 @@ module _ (job : Comm) (cmp : Cmp) (key : Side → Key) (o : IsKeyOrder cmp) (old
       (stops (comm_by job cmp key) o old (record { reader = new.reader; out = old.out; store = new.store }) old.reader (λ side. []) no_lines no_lines (λ side. Free) (λ side. free side (new.reader side) [] (subst (λ r. Reads (old.reader side) r []) (sym (u.unread side)) (reads_nothing (old.reader side))) tt)
       (merging_none (comm_by job cmp key) old.out) (Err Memory) (record { denied = u.slots.denied; failed = same; clean = writable }) (λ side fail. absurd (false≢true (sym (same side ∙ unfailed side) ∙ fail))) tt (λ all w. omega (arith, u.slots.peak)))
 
-  pub starts_badly : (new1 new2 : Reader) (after : Slots) (fault : MergeFault) → StartBreaks key cmp (record { reader = old.reader; store = old.store }) (record { reader = both new1 new2; store = after }) fault → IsMerge (comm_by job cmp key) old (record { reader = both new1 new2; out = old.out; store = after }) (Err fault)
+  pub starts_badly : (new1 new2 : Reader) (after : Slots) (fault : MergeFault) → CannotStart key cmp (record { reader = old.reader; store = old.store }) (record { reader = both new1 new2; store = after }) fault → IsMerge (comm_by job cmp key) old (record { reader = both new1 new2; out = old.out; store = after }) (Err fault)
   starts_badly new1 new2 after fault (inl u) = unslotted (record { reader = both new1 new2; store = after }) fault u
   starts_badly new1 new2 after fault (inr (inl f)) = subst (λ r. IsMerge (comm_by job cmp key) old (record { reader = both new1 r; out = old.out; store = after }) (Err fault)) (sym f.unread) (first_breaks new1 f.made after fault f.four f.breaks)
   starts_badly new1 new2 after fault (inr (inr f)) = second_breaks f.begins.made f.begins.mid f.begins.four new1 f.first f.begins.came new2 after fault f.begins.later
 
   -- how many slots there are where `comm` could not start
-  pub start_slots : (new1 new2 : Reader) (after : Slots) (fault : MergeFault) → StartBreaks key cmp (record { reader = old.reader; store = old.store }) (record { reader = both new1 new2; store = after }) fault → after.denied ≡ false → length after.lines ≡ max (length old.store.lines) 4
-  start_slots new1 new2 after fault (inl u) allowed = absurd (false≢true (sym allowed ∙ u.slots.denied))
-  start_slots new1 new2 after fault (inr (inl f)) allowed = breaks_slots First (fresh First) (old.reader First) new1 f.made after fault (max (length old.store.lines) 4) f.four.slots f.breaks allowed
-  start_slots new1 new2 after fault (inr (inr f)) allowed =
-      breaks_slots Second (fresh Second) (old.reader Second) new2 f.begins.mid after fault (max (length old.store.lines) 4) (half_keeps f.begins.made f.begins.mid f.begins.four new1 f.first f.begins.came).slots f.begins.later allowed
-
--- ---- before the start
-
--- a fault was answered before, and nothing is read
-pub unstarted : (job : Comm) (cmp : Cmp) (key : Side → Key) (o : IsKeyOrder cmp) (old : State) → ((side : Side) → (old.reader side).fault ≡ None) → ((side : Side) → (old.reader side).ending ≡ job.end) → ((side : Side) → (old.reader side).failed ≡ false)
-    → old.store.denied ≡ false → old.out.faulted ≡ true → IsMerge (comm_by job cmp key) old old (Err Write)
-unstarted job cmp key o old readable ending unfailed allowed fault =
-    stops (comm_by job cmp key) o old old old.reader (λ side. []) (λ side. []) (λ side. []) (λ side. Free)
-    (λ side. gone_free job.end cmp (key side) (old.reader side) (old.reader side) [] (readable side) (ending side) (reads_nothing (old.reader side)) tt) (merging_none (comm_by job cmp key) old.out) (Err Write)
-    (record { faulted = fault; failed = λ side. refl; denied = allowed }) (λ side fail. absurd (false≢true (sym (unfailed side) ∙ fail))) tt (λ all w. omega arith)
+  pub start_slots : (new1 new2 : Reader) (after : Slots) (fault : MergeFault) → CannotStart key cmp (record { reader = old.reader; store = old.store }) (record { reader = both new1 new2; store = after }) fault → Adds old.store after 4
+  start_slots new1 new2 after fault (inl u) = record { least = u.slots.least; most = u.slots.most; all = λ allowed. absurd (false≢true (sym allowed ∙ u.slots.denied)) }
+  start_slots new1 new2 after fault (inr (inl f)) = adds_of old.store after (breaks_slots First (fresh First) (old.reader First) new1 f.made after fault f.breaks ∙ f.four.slots)
+  start_slots new1 new2 after fault (inr (inr f)) =
+      adds_of old.store after (breaks_slots Second (fresh Second) (old.reader Second) new2 f.begins.mid after fault f.begins.later ∙ (half_keeps f.begins.made f.begins.mid f.begins.four new1 f.first f.begins.came).slots)
 
 -- the byte that ends a line
 pub ending_is : (zero : Bool) → cond zero 0 10 ≡ ending zero

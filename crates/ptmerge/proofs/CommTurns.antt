@@ -17,12 +17,12 @@ use Rattle.ptmerge.specs.declared.sorted.Stand.TheVariants.{Head, Ended}
 use Rattle.ptmerge.specs.Comm.{comm_by}
 use Rattle.ptmerge.specs.Keyed.{Lines, Tool, by_keys, with_key}
 use Rattle.ptmerge.specs.Merges.{State, IsMerge, IsReady, Ends}
-use Rattle.ptmerge.specs.Passes.{Passes}
+use Rattle.ptmerge.specs.LinePasses.{PassesLine}
 use Rattle.ptmerge.specs.Orders.{Cmp, Key}
-use Rattle.ptmerge.specs.Places.{Breaks, Comes, HasSlots}
+use Rattle.ptmerge.specs.Places.{CannotRead, Comes, HasSlots}
 use Rattle.ptmerge.specs.Sides.{both, put, other}
 use Rattle.ptmerge.specs.Steps.{AreEqual, IsPlaced, IsAlone, IsDecided}
-use Rattle.ptmerge.specs.Stores.{IsCleared}
+use Rattle.ptmerge.specs.Stores.{Adds, IsCleared}
 use Rattle.ptmerge.proofs.Bounds.{Bound, From, Coming, Under, Begun}
 use Rattle.ptmerge.proofs.CommEntries.{entries_both, entries_none, line_by_line}
 use Rattle.ptmerge.proofs.Got.{reads_nothing}
@@ -34,14 +34,14 @@ use Rattle.ptmerge.proofs.Slotted.{Keeps, has_lines_total, keeps_line}
 use Rattle.ptmerge.proofs.Splitting.{all_keys}
 use Rattle.ptmerge.proofs.Standing.{Next, passed}
 use Rattle.ptmerge.proofs.Stopping.{Concludes, Gone, gone_passed, gone_standing, stops}
-use Rattle.ptmerge.proofs.Turning.{Sides, ahead, all_ended, alone, breaks, merging_on, next_at, pass_one, passed_at, sides_on, stops_at}
+use Rattle.ptmerge.proofs.Turning.{BothStand, ahead, all_ended, alone, breaks, merging_on, next_at, pass_one, passed_at, sides_on, stops_at}
 
 -- where `comm` stands between two turns
 pub record Running (tool : Tool) (old now : State) (place : Side → Sorted) : Type 0 where
   pub ls : Side → Lines
   pub p : Side → Lines
   pub b : Side → Bound
-  pub sides : Sides tool old.reader now.reader place now.store ls p b
+  pub sides : BothStand tool old.reader now.reader place now.store ls p b
   pub merging : Merging tool b p old.out now.out
   pub keeps : Keeps old.store now.store (λ side. longest (ls side))
 
@@ -78,15 +78,19 @@ comes_slots key cmp place next was is before after (inl e) = ap (λ (t : Slots).
 comes_slots key cmp place next was is before after (inr e) = ap (λ (t : Slots). length t.lines) e.empty ∙ length-set before.lines place.previous []
 
 -- how many slots there are where a line could not be read
-pub breaks_slots : (s : Side) (place : Sorted) (was is : Reader) (before after : Slots) (fault : MergeFault) (n : ℕ) → length before.lines ≡ n → Breaks s place was is before after fault → after.denied ≡ false → length after.lines ≡ n
-breaks_slots s place was is before after (Read file) n count e allowed = ap (λ (t : Slots). length t.lines) e.0.stored ∙ length-set before.lines place.previous e.0.piece ∙ count
-breaks_slots s place was is before after Write n count e allowed = absurd e
-breaks_slots s place was is before after Memory n count e allowed = absurd (false≢true (sym allowed ∙ ap (λ (t : Slots). t.denied) e.stored))
-breaks_slots s place was is before after (faults.Disorder file number) n count e allowed = absurd e
+pub breaks_slots : (s : Side) (place : Sorted) (was is : Reader) (before after : Slots) (fault : MergeFault) → CannotRead s place was is before after fault → length after.lines ≡ length before.lines
+breaks_slots s place was is before after (Read file) e = ap (λ (t : Slots). length t.lines) e.0.stored ∙ length-set before.lines place.previous e.0.piece
+breaks_slots s place was is before after Write e = absurd e
+breaks_slots s place was is before after Memory e = ap (λ (t : Slots). length t.lines) e.stored ∙ length-set before.lines place.previous e.piece
+breaks_slots s place was is before after (faults.Disorder file number) e = absurd e
 
-pub passes_slots : (key : Key) (cmp : Cmp) (s : Side) (place next : Sorted) (was is : Reader) (before after : Slots) (out : Output) (fault : MergeFault) (n : ℕ) → length before.lines ≡ n → Passes key cmp s place next was is before after out (Err fault) → after.denied ≡ false → length after.lines ≡ n
-passes_slots key cmp s place next was is before after out fault n count (inl e) allowed = ap (λ (t : Slots). length t.lines) e.1.store ∙ count
-passes_slots key cmp s place next was is before after out fault n count (inr e) allowed = breaks_slots s place was is before after fault n count e.1 allowed
+pub passes_slots : (key : Key) (cmp : Cmp) (s : Side) (place next : Sorted) (was is : Reader) (before after : Slots) (out : Output) (fault : MergeFault) → PassesLine key cmp s place next was is before after out (Err fault) → length after.lines ≡ length before.lines
+passes_slots key cmp s place next was is before after out fault (inl e) = ap (λ (t : Slots). length t.lines) e.1.store
+passes_slots key cmp s place next was is before after out fault (inr e) = breaks_slots s place was is before after fault e.1
+
+-- all slots that were missing are there
+pub adds_of : (before after : Slots) → length after.lines ≡ max (length before.lines) 4 → Adds before after 4
+adds_of before after count = record { least = omega (arith, count); most = omega (arith, count); all = λ _. count }
 
 -- a line that both inputs have is passed
 pass_both : (job : Comm) (cmp : Cmp) (key : Side → Key) (o : IsKeyOrder cmp) (b : Side → Bound) (p q : Side → Lines) (was is new : Output) → is.faulted ≡ false → Merging (comm_by job cmp key) b p was is → (x y : List ℕ) → key First x ≡ key Second y → b First ≡ From (key First x) → b Second ≡ From (key Second y)
@@ -145,7 +149,7 @@ module _ (job : Comm) (cmp : Cmp) (key : Side → Key) (o : IsKeyOrder cmp) (old
       → (with_line store place.previous piece).peak ≤ max old.store.peak (2 * longest (all First) + 2 * longest (all Second))
   bounded store after s place ls all piece slots k up fits = (keeps_line old.store store (with_line store place.previous piece) s place (λ side. longest (ls side)) (λ side. longest (all side)) piece slots k up fits refl).peak
 
-  module _ (now : State) (place : Side → Sorted) (ls p : Side → Lines) (b : Side → Bound) (sides : Sides (comm_by job cmp key) old.reader now.reader place now.store ls p b) (keeps : Keeps old.store now.store (λ side. longest (ls side)))
+  module _ (now : State) (place : Side → Sorted) (ls p : Side → Lines) (b : Side → Bound) (sides : BothStand (comm_by job cmp key) old.reader now.reader place now.store ls p b) (keeps : Keeps old.store now.store (λ side. longest (ls side)))
       (slots : (side : Side) → HasSlots side (place side)) where
     four : 4 ≤ length now.store.lines
     four = (has_lines_total now.store.lines (λ side. longest (ls side)) 0 keeps.lines).0
@@ -176,7 +180,7 @@ module _ (job : Comm) (cmp : Cmp) (key : Side → Key) (o : IsKeyOrder cmp) (old
 
     -- the next line of an input could not be read
     pub unread : (s : Side) → (place s).stand ≡ Head → (q : Side → Lines) (out : Output) → out.faulted ≡ false → Merging (comm_by job cmp key) b q old.out out → q s ≡ ls s → GoneBy (other s) (q (other s)) → (new : Reader) (after : Slots) (fault : MergeFault)
-        → Breaks s (place s) (now.reader s) new now.store after fault → Done (record { reader = put s new now.reader; out = out; store = after }) (Err fault)
+        → CannotRead s (place s) (now.reader s) new now.store after fault → Done (record { reader = put s new now.reader; out = out; store = after }) (Err fault)
     unread s head q out clean m same rest new after fault moves =
         let h = passed_at (comm_by job cmp key) o old.reader now.reader place now.store ls p b sides slots four s head in
         breaks (comm_by job cmp key) o old (record { reader = now.reader; out = out; store = now.store }) ls q b m unfailed went clean s (place s) new after fault
@@ -194,7 +198,7 @@ module _ (job : Comm) (cmp : Cmp) (key : Side → Key) (o : IsKeyOrder cmp) (old
       keeps_on = keeps_line old.store now.store after s (place s) (λ side. longest (ls side)) (λ side. longest (put s n.now_ls ls side)) n.bytes (slots s) keeps
           (put_each (λ side (l : Lines). longest (ls side) ≤ longest l) s n.now_ls ls n.longer (λ side. omega arith)) (subst (λ (l : Lines). length n.bytes ≤ longest l) (sym (put_same s n.now_ls ls)) n.fits) n.stored
 
-      pub sides_go : Sides (comm_by job cmp key) old.reader (put s new now.reader) (put s next place) after (put s n.now_ls ls) (put s (ls s) p) (put s n.bound b)
+      pub sides_go : BothStand (comm_by job cmp key) old.reader (put s new now.reader) (put s next place) after (put s n.now_ls ls) (put s (ls s) p) (put s n.bound b)
       sides_go = sides_on (comm_by job cmp key) o old.reader now.reader place now.store ls p b sides slots four s head new next after n
 
       pub merging_go : (q : Side → Lines) (out : Output) → Merging (comm_by job cmp key) b q old.out out → Merging (comm_by job cmp key) (put s n.bound b) q old.out out
@@ -236,13 +240,13 @@ module _ (job : Comm) (cmp : Cmp) (key : Side → Key) (o : IsKeyOrder cmp) (old
           unwritten now place r.ls r.p r.b r.sides r.keeps slots (put s (r.ls s) r.p) new merging_alone
           (put_each (λ side (l : Lines). Gone job.end cmp (key side) (old.reader side) (now.reader side) (now.reader side) [] (r.ls side) l (r.b side)) s (r.ls s) r.p (passing_now now place r.ls r.p r.b r.sides r.keeps slots s step.stands) stand) fault
 
-      pub alone_unread : new.faulted ≡ false → (reader : Reader) (after : Slots) (fault : MergeFault) → Breaks s (place s) (now.reader s) reader now.store after fault → IsMerge (comm_by job cmp key) old (record { reader = put s reader now.reader; out = new; store = after }) (Err fault)
+      pub alone_unread : new.faulted ≡ false → (reader : Reader) (after : Slots) (fault : MergeFault) → CannotRead s (place s) (now.reader s) reader now.store after fault → IsMerge (comm_by job cmp key) old (record { reader = put s reader now.reader; out = new; store = after }) (Err fault)
       alone_unread fine reader after fault moves =
           unread now place r.ls r.p r.b r.sides r.keeps slots s step.stands (put s (r.ls s) r.p) new fine merging_alone (put_same s (r.ls s) r.p)
           (subst (λ (l : Lines). Gone job.end cmp (key (other s)) (old.reader (other s)) (now.reader (other s)) (now.reader (other s)) [] (r.ls (other s)) l (r.b (other s))) (sym (put_other s (r.ls s) r.p)) (stand (other s))) reader after fault moves
 
       -- the turn could not be ended
-      pub alone_stops : (reader : Reader) (next : Sorted) (after : Slots) (fault : MergeFault) → Passes (key s) cmp s (place s) next (now.reader s) reader now.store after new (Err fault)
+      pub alone_stops : (reader : Reader) (next : Sorted) (after : Slots) (fault : MergeFault) → PassesLine (key s) cmp s (place s) next (now.reader s) reader now.store after new (Err fault)
           → IsMerge (comm_by job cmp key) old (record { reader = put s reader now.reader; out = new; store = after }) (Err fault)
       alone_stops reader next after fault (inl e) = subst (IsMerge (comm_by job cmp key) old (record { reader = put s reader now.reader; out = new; store = after })) (λ i. Err (sym e.0 i))
           (subst (λ (f : Side → Reader). IsMerge (comm_by job cmp key) old (record { reader = f; out = new; store = after }) (Err Write)) (same_reader s reader now.reader e.1.unread)
@@ -271,12 +275,12 @@ module _ (job : Comm) (cmp : Cmp) (key : Side → Key) (o : IsKeyOrder cmp) (old
           unwritten now place r.ls r.p r.b r.sides r.keeps slots (both (r.ls First) (r.ls Second)) new merging_both
           (elim [ First ↦ passing_now now place r.ls r.p r.b r.sides r.keeps slots First (step.stands First) | Second ↦ passing_now now place r.ls r.p r.b r.sides r.keeps slots Second (step.stands Second) ]) fault
 
-      pub both_unread : new.faulted ≡ false → (reader : Reader) (after : Slots) (fault : MergeFault) → Breaks First (place First) (now.reader First) reader now.store after fault → IsMerge (comm_by job cmp key) old (record { reader = put First reader now.reader; out = new; store = after }) (Err fault)
+      pub both_unread : new.faulted ≡ false → (reader : Reader) (after : Slots) (fault : MergeFault) → CannotRead First (place First) (now.reader First) reader now.store after fault → IsMerge (comm_by job cmp key) old (record { reader = put First reader now.reader; out = new; store = after }) (Err fault)
       both_unread fine reader after fault moves =
           unread now place r.ls r.p r.b r.sides r.keeps slots First (step.stands First) (both (r.ls First) (r.ls Second)) new fine merging_both refl (passing_now now place r.ls r.p r.b r.sides r.keeps slots Second (step.stands Second)) reader after fault moves
 
       -- the turn could not be gone on with
-      pub both_stops : (reader : Reader) (next : Sorted) (after : Slots) (fault : MergeFault) → Passes (key First) cmp First (place First) next (now.reader First) reader now.store after new (Err fault)
+      pub both_stops : (reader : Reader) (next : Sorted) (after : Slots) (fault : MergeFault) → PassesLine (key First) cmp First (place First) next (now.reader First) reader now.store after new (Err fault)
           → IsMerge (comm_by job cmp key) old (record { reader = put First reader now.reader; out = new; store = after }) (Err fault)
       both_stops reader next after fault (inl e) = subst (IsMerge (comm_by job cmp key) old (record { reader = put First reader now.reader; out = new; store = after })) (λ i. Err (sym e.0 i))
           (subst (λ (f : Side → Reader). IsMerge (comm_by job cmp key) old (record { reader = f; out = new; store = after }) (Err Write)) (same_reader First reader now.reader e.1.unread)
@@ -290,7 +294,7 @@ module _ (job : Comm) (cmp : Cmp) (key : Side → Key) (o : IsKeyOrder cmp) (old
         abbrev ls1 : Side → Lines
         ls1 = put First w.n.now_ls r.ls
 
-        sides1 : Sides (comm_by job cmp key) old.reader (put First reader now.reader) (put First next place) mid (put First w.n.now_ls r.ls) (put First (r.ls First) r.p) (put First w.n.bound r.b)
+        sides1 : BothStand (comm_by job cmp key) old.reader (put First reader now.reader) (put First next place) mid (put First w.n.now_ls r.ls) (put First (r.ls First) r.p) (put First w.n.bound r.b)
         sides1 = sides_go now place r.ls r.p r.b r.sides r.keeps slots First (step.stands First) reader next mid w.n
 
         keeps1 : Keeps old.store mid (λ side. longest (put First w.n.now_ls r.ls side))
@@ -312,7 +316,7 @@ module _ (job : Comm) (cmp : Cmp) (key : Side → Key) (o : IsKeyOrder cmp) (old
               keeps = keeps_on (record { reader = put First reader now.reader; out = new; store = mid }) (put First next place) (put First w.n.now_ls r.ls) (put First (r.ls First) r.p) (put First w.n.bound r.b) sides1 keeps1 slots' Second (step.stands Second) reader2 next2 after n;
             }
 
-        pub both_unread_second : (reader2 : Reader) (after : Slots) (fault : MergeFault) → Breaks Second (place Second) (now.reader Second) reader2 mid after fault → IsMerge (comm_by job cmp key) old (record { reader = both reader reader2; out = new; store = after }) (Err fault)
+        pub both_unread_second : (reader2 : Reader) (after : Slots) (fault : MergeFault) → CannotRead Second (place Second) (now.reader Second) reader2 mid after fault → IsMerge (comm_by job cmp key) old (record { reader = both reader reader2; out = new; store = after }) (Err fault)
         both_unread_second reader2 after fault moves =
             unread (record { reader = put First reader now.reader; out = new; store = mid }) (put First next place) (put First w.n.now_ls r.ls) (put First (r.ls First) r.p) (put First w.n.bound r.b) sides1 keeps1 slots' Second (step.stands Second) (both (r.ls First) (r.ls Second)) new fine merging1 refl
             (standing (record { reader = put First reader now.reader; out = new; store = mid }) (put First next place) (put First w.n.now_ls r.ls) (put First (r.ls First) r.p) (put First w.n.bound r.b) sides1 keeps1 slots' First) reader2 after fault moves

@@ -1,5 +1,6 @@
 -- What a tool over two inputs has done when it stops.
-use Rattle.std.proofs.Common.{◌≡◌, ℕ, ◌≤◌, true, false, List, [], ◌++◌, Option, Some, None, Result, Ok, Err, length, max, sym, ◌∙◌, ap, subst}
+use Rattle.std.proofs.Common.{arith, refl, ◌≡◌, ℕ, ◌≤◌, true, false, List, [], ◌++◌, Option, Some, None, Result, Ok, Err, length, max, sym, ◌∙◌, ap, subst}
+use Rattle.std.proofs.lemmas.Bool.{false≢true}
 use Rattle.std.proofs.lemmas.List.{append-nil}
 use Rattle.ptlines.specs.Inputs.{Given, whole_lines}
 use Rattle.ptlines.specs.Readers.{Reader, Reads, IsDone}
@@ -7,6 +8,7 @@ use Rattle.ptlines.specs.Slots.{Slots}
 use Rattle.ptlines.specs.Text.{text, lines, IsLine, longest}
 use Rattle.ptlines.proofs.Coming.{given_of, came_of, came_set, cause_set}
 use Rattle.ptlines.proofs.Filling.{reads_trans}
+use Rattle.ptlines.proofs.Pushed.{wrote_nothing}
 use Rattle.ptlines.proofs.TextLaws.{text-append}
 use Rattle.ptmerge.specs.declared.faults.MergeFault.{MergeFault}
 use Rattle.ptmerge.specs.declared.faults.MergeFault.TheVariants.{Read, Write, Memory}
@@ -16,7 +18,7 @@ use Rattle.ptmerge.specs.declared.order.Side.TheVariants.{First, Second}
 use Rattle.ptmerge.specs.declared.sorted.Sorted.{Sorted}
 use Rattle.ptmerge.specs.declared.sorted.Stand.{Stand}
 use Rattle.ptmerge.specs.declared.sorted.Stand.TheVariants.{Head, Ended, Disorder}
-use Rattle.ptmerge.specs.Keyed.{Lines, Tool, by_keys, disorder, disorder_of, fall, lines_of, merged_entries, ordered_part, up_to}
+use Rattle.ptmerge.specs.Keyed.{Lines, Tool, by_keys, disorder, disorder_of, fall, lines_of, merged, merged_entries, ordered_part, up_to}
 use Rattle.ptmerge.specs.Merges.{State, Agree, Ends, IsMerge, IsWhole}
 use Rattle.ptmerge.specs.Orders.{Cmp, Key}
 use Rattle.ptmerge.specs.Sides.{other}
@@ -159,3 +161,19 @@ module _ (old new : State) (set : Side → Reader) (end : ℕ) (is : (side : Sid
     peak = m.peak;
     whole = m.whole;
   }
+
+-- ---- before the start
+
+-- the output had failed, and nothing was done
+pub merge_halted : (tool : Tool) (old : State) → old.store.denied ≡ false → old.out.faulted ≡ true → IsMerge tool old old (Err Write)
+merge_halted tool old allowed fault = record {
+  given = λ side. given_of [] (old.reader side);
+  came = λ side. came_of (old.reader side) (old.reader side) [] (reads_nothing (old.reader side));
+  pushed = [];
+  wrote = wrote_nothing old.out;
+  ends = record { faulted = fault; failed = λ side. refl; denied = allowed };
+  true_so_far = λ input a. record { rest = merged tool input; is = refl };
+  sure = λ side fail clean. absurd (false≢true (sym clean ∙ fault));
+  peak = λ input a. omega arith;
+  whole = λ input a. tt;
+}

@@ -18,7 +18,7 @@ use Rattle.ptmerge.specs.declared.sorted.Stand.TheVariants.{Head, Ended, Disorde
 use Rattle.ptmerge.specs.Keyed.{Lines, Tool, Fall, by_keys, disorder, disorder_of, entries_of, fall, up_to, with_key}
 use Rattle.ptmerge.specs.Merges.{State, IsMerge, Names}
 use Rattle.ptmerge.specs.Orders.{Cmp, Key}
-use Rattle.ptmerge.specs.Places.{Breaks, Comes, HasSlots, slot_of}
+use Rattle.ptmerge.specs.Places.{CannotRead, Comes, HasSlots, slot_of}
 use Rattle.ptmerge.specs.Sides.{put, other}
 use Rattle.ptmerge.specs.Steps.{GoesBefore, IsDecided, IsNamed, last_key}
 use Rattle.ptmerge.proofs.Bounds.{Bound, From, Fallen, Over, Coming, Falling, FallFrom, Under, Begun}
@@ -124,10 +124,10 @@ pass_one tool o laws s x b p was is new clean m at above under wrote =
 -- ---- where both inputs stand
 
 -- where both inputs of a merge stand
-abbrev pub Sides : Tool → (Side → Reader) → (Side → Reader) → (Side → Sorted) → Slots → (Side → Lines) → (Side → Lines) → (Side → Bound) → Type 0
-Sides tool old now place store ls p b = (side : Side) → Sided tool.end tool.cmp (tool.key side) (old side) (now side) (place side) store (ls side) (p side) (b side)
+abbrev pub BothStand : Tool → (Side → Reader) → (Side → Reader) → (Side → Sorted) → Slots → (Side → Lines) → (Side → Lines) → (Side → Bound) → Type 0
+BothStand tool old now place store ls p b = (side : Side) → Sided tool.end tool.cmp (tool.key side) (old side) (now side) (place side) store (ls side) (p side) (b side)
 
-module _ (tool : Tool) (o : IsKeyOrder tool.cmp) (old now : Side → Reader) (place : Side → Sorted) (store : Slots) (ls p : Side → Lines) (b : Side → Bound) (sides : Sides tool old now place store ls p b)
+module _ (tool : Tool) (o : IsKeyOrder tool.cmp) (old now : Side → Reader) (place : Side → Sorted) (store : Slots) (ls p : Side → Lines) (b : Side → Bound) (sides : BothStand tool old now place store ls p b)
     (slots : (side : Side) → HasSlots side (place side)) (four : 4 ≤ length store.lines) (s : Side) (head : (place s).stand ≡ Head) where
   pub passed_at : Passed tool.cmp (tool.key s) (place s) store (ls s) (p s) (b s)
   passed_at = passed tool.end tool.cmp (tool.key s) (old s) (now s) (place s) store (ls s) (p s) (b s) head (sides s)
@@ -154,11 +154,11 @@ module _ (tool : Tool) (o : IsKeyOrder tool.cmp) (old now : Side → Reader) (pl
         (ap (λ (t : Slots). line t (place (other s)).standing) n.stored ∙ line_other store (place s).previous (place (other s)).standing n.bytes apart.0)
         (ap (λ (t : Slots). line t (place (other s)).previous) n.stored ∙ line_other store (place s).previous (place (other s)).previous n.bytes apart.1) (sides (other s))
 
-    pub sides_on : Sides tool old (put s new now) (put s next place) after (put s n.now_ls ls) (put s (ls s) p) (put s n.bound b)
+    pub sides_on : BothStand tool old (put s new now) (put s next place) after (put s n.now_ls ls) (put s (ls s) p) (put s n.bound b)
     sides_on = by s n.sided other_stays
       where
         by : (t : Side) → {l : Lines} {q : Lines} {d : Bound} → Sided tool.end tool.cmp (tool.key t) (old t) new next after l q d → Sided tool.end tool.cmp (tool.key (other t)) (old (other t)) (now (other t)) (place (other t)) after (ls (other t)) (p (other t)) (b (other t))
-            → Sides tool old (put t new now) (put t next place) after (put t l ls) (put t q p) (put t d b)
+            → BothStand tool old (put t new now) (put t next place) after (put t l ls) (put t q p) (put t d b)
         by First x y First = x
         by First x y Second = y
         by Second x y First = y
@@ -172,7 +172,7 @@ module _ (tool : Tool) (o : IsKeyOrder tool.cmp) (old now : Side → Reader) (pl
 -- ---- the end
 
 -- both inputs have ended
-pub all_ended : (tool : Tool) (old now : Side → Reader) (place : Side → Sorted) (store : Slots) (ls p : Side → Lines) (b : Side → Bound) → Sides tool old now place store ls p b → ((side : Side) → (place side).stand ≡ Ended) → (side : Side) → (b side ≡ Over) × IsDone (now side)
+pub all_ended : (tool : Tool) (old now : Side → Reader) (place : Side → Sorted) (store : Slots) (ls p : Side → Lines) (b : Side → Bound) → BothStand tool old now place store ls p b → ((side : Side) → (place side).stand ≡ Ended) → (side : Side) → (b side ≡ Over) × IsDone (now side)
 all_ended tool old now place store ls p b sides ended side =
     subst (λ t. Stands tool.cmp (tool.key side) t (place side) store (now side) (ls side) (p side) (b side)) (ended side) (sides side).stands
 
@@ -240,7 +240,7 @@ module _ (cmp : Cmp) (o : IsKeyOrder cmp) (key : Key) (s : Side) (l : List ℕ) 
       by Second h = ap is_lt (greater_flips cmp o (key (line store place.previous)) l (is_greater (cmp (key (line store place.previous)) l) h))
 
 -- an input is out of order, and nothing that may come is wanted
-pub stops_at : (tool : Tool) (o : IsKeyOrder tool.cmp) (old now : Side → Reader) (place : Side → Sorted) (store : Slots) (ls p : Side → Lines) (b : Side → Bound) → Sides tool old now place store ls p b
+pub stops_at : (tool : Tool) (o : IsKeyOrder tool.cmp) (old now : Side → Reader) (place : Side → Sorted) (store : Slots) (ls p : Side → Lines) (b : Side → Bound) → BothStand tool old now place store ls p b
     → (s : Side) (n : ℕ) → IsDecided tool.cmp tool.key place store s n → StopsAt tool b s n
 stops_at tool o old now place store ls p b sides s n dec l r c f =
     (none_wanted tool (up_to tool.cmp (disorder tool l)) r (λ side. subst (λ d. EachKey (λ k. up_to tool.cmp d k ≡ false) (tool.key side) (r side)) (sym is) (unwanted side)), subst (λ d. Names d s n) (sym is) (refl, refl))
@@ -271,9 +271,6 @@ module _ (tool : Tool) (o : IsKeyOrder tool.cmp) (old now : State) (ls q : Side 
   Holds peak piece = (all : Side → Lines) → ((side : Side) → More (now.reader side) (ls side) (all side) × (max (longest (ls side)) (length (piece side)) ≤ longest (all side))) → peak ≤ max old.store.peak (tool.size all)
 
   module _ (s : Side) (reader : Side → Reader) (piece : Side → List ℕ) (after : Slots) (g : (side : Side) → GoneOf side (reader side) (piece side)) (others : reader (other s) ≡ now.reader (other s)) (peak : Holds after.peak piece) where
-    abbrev new : State
-    new = record { reader = reader; out = now.out; store = after }
-
     other_failed : (reader (other s)).failed ≡ (old.reader (other s)).failed
     other_failed = ap (λ (r : Reader). r.failed) others ∙ went (other s)
 
@@ -296,7 +293,7 @@ module _ (tool : Tool) (o : IsKeyOrder tool.cmp) (old now : State) (ls q : Side 
 
   -- the next line of an input could not be read
   pub breaks : (s : Side) (place : Sorted) (new : Reader) (after : Slots) (fault : MergeFault) → ((r : Reader) (piece : List ℕ) → Reads (now.reader s) r piece → IsLine (now.reader s).ending piece → GoneOf s r piece) → ls s ≡ q s → (last : Option (List ℕ)) → Begun tool.cmp (tool.key s) (q s) last
-      → GoneOf (other s) (now.reader (other s)) [] → now.store.denied ≡ false → ((piece : List ℕ) → Holds (with_line now.store place.previous piece).peak (put s piece (λ side. []))) → Breaks s place (now.reader s) new now.store after fault
+      → GoneOf (other s) (now.reader (other s)) [] → now.store.denied ≡ false → ((piece : List ℕ) → Holds (with_line now.store place.previous piece).peak (put s piece (λ side. []))) → CannotRead s place (now.reader s) new now.store after fault
       → IsMerge tool old (record { reader = put s new now.reader; out = now.out; store = after }) (Err fault)
   breaks s place new after (Read file) gone all last begun rest roomy peak moves =
       let e = moves.0 in

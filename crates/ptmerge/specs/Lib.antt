@@ -1,9 +1,9 @@
 pub mod Comm
 pub mod Exact
 pub mod Keyed
+pub mod LinePasses
 pub mod Merges
 pub mod Orders
-pub mod Passes
 pub mod Places
 pub mod Sides
 pub mod Steps

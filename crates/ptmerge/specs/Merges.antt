@@ -79,6 +79,13 @@ Ends old new (Err Write) = WriteBroke old new
 Ends old new (Err Memory) = MemoryBroke old new
 Ends old new (Err (faults.Disorder side number)) = OrderBroke old new
 
+-- nothing was read, pushed or stored
+pub record Untouched (old new : State) (result : Result (Unit {0}) MergeFault) : Type 0 where
+  pub told : result ≡ Err Write
+  pub same_readers : (side : Side) → new.reader side ≡ old.reader side
+  pub same_output : new.out ≡ old.out
+  pub same_store : new.store ≡ old.store
+
 -- ---- what it does
 
 -- two texts that may be the inputs of which this came

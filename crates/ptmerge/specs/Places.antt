@@ -54,13 +54,13 @@ abbrev pub Comes : Key → Cmp → Sorted → Sorted → Reader → Reader → S
 Comes key cmp old new was is before after = Arrives key cmp old new was is before after ⊎ Closes old new was is before after
 
 -- the next line of an input could not be read
-abbrev pub Breaks : Side → Sorted → Reader → Reader → Slots → Slots → MergeFault → Type 0
-Breaks side old was is before after (Read file) = BreaksRead was is before after old.previous × (file ≡ side)
-Breaks side old was is before after Write = ⊥
-Breaks side old was is before after Memory = BreaksMemory was is before after old.previous
-Breaks side old was is before after (faults.Disorder file number) = ⊥
+abbrev pub CannotRead : Side → Sorted → Reader → Reader → Slots → Slots → MergeFault → Type 0
+CannotRead side old was is before after (Read file) = BreaksRead was is before after old.previous × (file ≡ side)
+CannotRead side old was is before after Write = ⊥
+CannotRead side old was is before after Memory = BreaksMemory was is before after old.previous
+CannotRead side old was is before after (faults.Disorder file number) = ⊥
 
 -- what going to the next line does
 abbrev pub Advances : Key → Cmp → Side → Sorted → Sorted → Reader → Reader → Slots → Slots → Result (Unit {0}) MergeFault → Type 0
 Advances key cmp side old new was is before after (Ok u) = Comes key cmp old new was is before after
-Advances key cmp side old new was is before after (Err fault) = Breaks side old was is before after fault
+Advances key cmp side old new was is before after (Err fault) = CannotRead side old was is before after fault

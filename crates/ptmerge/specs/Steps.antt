@@ -13,7 +13,7 @@ use Rattle.ptmerge.specs.declared.sorted.Sorted.{Sorted}
 use Rattle.ptmerge.specs.declared.sorted.Stand.{Stand}
 use Rattle.ptmerge.specs.declared.sorted.Stand.TheVariants.{Head, Ended, Disorder}
 use Rattle.ptmerge.specs.Orders.{Cmp, Key}
-use Rattle.ptmerge.specs.Places.{HasSlots, Comes, Breaks, fresh}
+use Rattle.ptmerge.specs.Places.{HasSlots, Comes, CannotRead, fresh}
 use Rattle.ptmerge.specs.Sides.{both, other}
 use Rattle.ptmerge.specs.Stores.{HasFour, HasNoSlots}
 
@@ -61,12 +61,6 @@ IsNamed cmp First l (Disorder n) head last = is_gt (cmp l last) ≡ false
 IsNamed cmp Second l (Disorder n) head last = is_gt (cmp last l) ≡ true
 
 module _ (cmp : Cmp) (key : Side → Key) (place : Side → Sorted) (store : Slots) where
-  abbrev head : Side → List ℕ
-  head = head_key key place store
-
-  abbrev last : Side → List ℕ
-  last = last_key key place store
-
   -- the line of this input has the least key, alone
   pub record IsAlone (side : Side) : Type 0 where
     pub stands : (place side).stand ≡ Head
@@ -93,7 +87,7 @@ module _ (cmp : Cmp) (key : Side → Key) (place : Side → Sorted) (store : Slo
 -- ---- how a merge starts
 
 -- the slots are there, the first input has come to its first line, and then this happened
-pub record Begins (key : Side → Key) (cmp : Cmp) (first : Sorted) (old new : Inputs) (Then : Slots → Type 0) : Type 0 where
+pub record FirstCame (key : Side → Key) (cmp : Cmp) (first : Sorted) (old new : Inputs) (Then : Slots → Type 0) : Type 0 where
   pub made : Slots
   pub mid : Slots
   pub four : HasFour old.store made
@@ -102,7 +96,7 @@ pub record Begins (key : Side → Key) (cmp : Cmp) (first : Sorted) (old new : I
 
 -- both inputs have come to their first lines, or their ends
 abbrev pub Starts : (Side → Key) → Cmp → (Side → Sorted) → Inputs → Inputs → Type 0
-Starts key cmp place old new = Begins key cmp (place First) old new (λ mid. Comes (key Second) cmp (fresh Second) (place Second) (old.reader Second) (new.reader Second) mid new.store)
+Starts key cmp place old new = FirstCame key cmp (place First) old new (λ mid. Comes (key Second) cmp (fresh Second) (place Second) (old.reader Second) (new.reader Second) mid new.store)
 
 -- a slot was refused, and nothing was read
 pub record IsUnslotted (old new : Inputs) (fault : MergeFault) : Type 0 where
@@ -111,17 +105,17 @@ pub record IsUnslotted (old new : Inputs) (fault : MergeFault) : Type 0 where
   pub memory : fault ≡ faults.Memory
 
 -- the first line of the first input could not be read, and nothing of the second was
-pub record BreaksFirst (old new : Inputs) (fault : MergeFault) : Type 0 where
+pub record FirstNotRead (old new : Inputs) (fault : MergeFault) : Type 0 where
   pub made : Slots
   pub four : HasFour old.store made
-  pub breaks : Breaks First (fresh First) (old.reader First) (new.reader First) made new.store fault
+  pub breaks : CannotRead First (fresh First) (old.reader First) (new.reader First) made new.store fault
   pub unread : new.reader Second ≡ old.reader Second
 
 -- the first line of the second input could not be read
-pub record BreaksSecond (key : Side → Key) (cmp : Cmp) (old new : Inputs) (fault : MergeFault) : Type 0 where
+pub record SecondNotRead (key : Side → Key) (cmp : Cmp) (old new : Inputs) (fault : MergeFault) : Type 0 where
   pub first : Sorted
-  pub begins : Begins key cmp first old new (λ mid. Breaks Second (fresh Second) (old.reader Second) (new.reader Second) mid new.store fault)
+  pub begins : FirstCame key cmp first old new (λ mid. CannotRead Second (fresh Second) (old.reader Second) (new.reader Second) mid new.store fault)
 
 -- why a merge could not start
-abbrev pub StartBreaks : (Side → Key) → Cmp → Inputs → Inputs → MergeFault → Type 0
-StartBreaks key cmp old new fault = IsUnslotted old new fault ⊎ (BreaksFirst old new fault ⊎ BreaksSecond key cmp old new fault)
+abbrev pub CannotStart : (Side → Key) → Cmp → Inputs → Inputs → MergeFault → Type 0
+CannotStart key cmp old new fault = IsUnslotted old new fault ⊎ (FirstNotRead old new fault ⊎ SecondNotRead key cmp old new fault)

@@ -1,5 +1,5 @@
 -- The slots that a merge needs of a store.
-use Rattle.std.specs.Prelude.{◌≡◌, ◌≤◌, ◌+◌, true, false, length, max}
+use Rattle.std.specs.Prelude.{◌≡◌, ◌≤◌, ◌+◌, ℕ, true, false, length, max}
 use Rattle.ptlines.specs.Slots.{Slots, line, total}
 
 -- the slots that were missing of the first four were added, and nothing else happened
@@ -9,12 +9,16 @@ pub record HasFour (before after : Slots) : Type 0 where
   pub peak : after.peak ≡ before.peak
   pub denied : after.denied ≡ before.denied
 
--- the slots that were missing of the first four were added, unless memory was refused
-abbrev pub GetsFour : Slots → Slots → Type 0
-GetsFour before after = after.denied ≡ false → length after.lines ≡ max (length before.lines) 4
+-- The slots that were missing were added, and no others; where a growth was refused, perhaps not all of them.
+pub record Adds (before store : Slots) (slots : ℕ) : Type 0 where
+  pub least : length before.lines ≤ length store.lines
+  pub most : length store.lines ≤ max (length before.lines) slots
+  pub all : store.denied ≡ false → length store.lines ≡ max (length before.lines) slots
 
 -- memory for a slot was refused, and the lines are what they were
 pub record HasNoSlots (before after : Slots) : Type 0 where
+  pub least : length before.lines ≤ length after.lines
+  pub most : length after.lines ≤ max (length before.lines) 4
   pub total : total after.lines ≡ total before.lines
   pub peak : after.peak ≡ before.peak
   pub denied : after.denied ≡ true

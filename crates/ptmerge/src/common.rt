@@ -5,11 +5,11 @@ ghost use Rattle.ptlines.specs.Readers.{IsSound};
 ghost use Rattle.ptlines.specs.Slots.{line};
 ghost use Rattle.ptlines.specs.Text.{text};
 ghost use Rattle.ptmerge.specs.Comm.{comm_by, comm_tool, tab_unless, entries_in};
-ghost use Rattle.ptmerge.specs.Merges.{IsMerge, IsReady, seen};
-ghost use Rattle.ptmerge.specs.Passes.{Passes};
+ghost use Rattle.ptmerge.specs.Merges.{IsMerge, IsReady, Untouched, seen};
+ghost use Rattle.ptmerge.specs.LinePasses.{PassesLine};
 ghost use Rattle.ptmerge.specs.Sides.{both, other};
 ghost use Rattle.ptmerge.specs.Steps.{IsPlaced, IsLent};
-ghost use Rattle.ptmerge.specs.Stores.{GetsFour};
+ghost use Rattle.ptmerge.specs.Stores.{Adds};
 ghost use Rattle.ptmerge.specs.declared.order.Side.{Side as Of};
 ghost use Rattle.ptmerge.specs.declared.sorted.Stand.TheVariants as stands;
 
@@ -74,7 +74,7 @@ fn pass<K: KeyOrder, A: Allocator + Copy, S: Source, R: Source, W: Sink>(
     ensures passes { let was = both merge.old.first merge.old.second side in
         let is = both merge.new.first merge.new.second side in
         let key = K.key_of merge.old.order side in
-        Passes key (K.order merge.old.order) side was is reader.old reader.new store.old store.new out.new result }
+        PassesLine key (K.order merge.old.order) side was is reader.old reader.new store.old store.new out.new result }
     ensures others { let was = both merge.old.first merge.old.second (other side) in
         both merge.new.first merge.new.second (other side) ≡ was }
     ensures order { merge.new.order ≡ merge.old.order }
@@ -105,7 +105,7 @@ fn comm_in_order<K: KeyOrder, A: Allocator + Copy, S: Source, R: Source, W: Sink
     ensures merged { let tool = comm_by (comm_job job.now) (K.order order) (K.key_of order) in
         let was = seen first.old second.old out.old store.old in
         IsMerge tool was (seen first.new second.new out.new store.new) result }
-    ensures slots { GetsFour store.old store.new }
+    ensures slots { Adds store.old store.new 4 }
 {
     let ending = first.ending();
     let [hide1, hide2, hide3] = job.hide;
@@ -165,8 +165,8 @@ fn comm_in_order<K: KeyOrder, A: Allocator + Copy, S: Source, R: Source, W: Sink
 /// the reverse of byte order, and with `-z` lines end with byte 0 (its own options).
 ///
 /// The slots 0 to 3 of the store are used; those that are missing are added before the first read, and after `Ok` and
-/// `Disorder` they are empty. An entry is pushed before a line behind its own lines is read. Where a fault was answered
-/// by `out` before, nothing is read.
+/// `Disorder` they are empty. An entry is pushed before a line behind its own lines is read. On an output
+/// that has failed nothing is done.
 /// # Errors
 /// `Read`, with the input, or `Write` where a read or a write failed; `Memory` where a growth of the store was refused,
 /// and the store is then denied; `Disorder`, with the input and the line, where an input is out of order: then all
@@ -181,13 +181,15 @@ pub fn comm<A: Allocator + Copy, S: Source, R: Source, W: Sink>(
     requires { IsReady first.old second.old store.old }
     ensures merged { let was = seen first.old second.old out.old store.old in
         IsMerge (comm_tool (comm_job job.now)) was (seen first.new second.new out.new store.new) result }
-    ensures slots { out.old.faulted ≡ false → GetsFour store.old store.new }
+    ensures slots { out.old.faulted ≡ false → Adds store.old store.new 4 }
+    ensures halted { let was = seen first.old second.old out.old store.old in
+        out.old.faulted ≡ true → Untouched was (seen first.new second.new out.new store.new) result }
 {
-    first.set_ending(job.zero);
-    second.set_ending(job.zero);
     if out.has_failed() {
         return Err(MergeFault::Write);
     }
+    first.set_ending(job.zero);
+    second.set_ending(job.zero);
     if job.descending {
         return comm_in_order(Descending { of: WholeLine }, job, first, second, store, out);
     }

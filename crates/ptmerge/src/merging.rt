@@ -3,7 +3,7 @@ ghost use Rattle.ptlines.specs.Readers.{IsSound};
 ghost use Rattle.ptlines.specs.Slots.{line};
 ghost use Rattle.ptmerge.specs.Places.{Advances};
 ghost use Rattle.ptmerge.specs.Sides.{both, other};
-ghost use Rattle.ptmerge.specs.Steps.{inputs, IsPlaced, IsLent, IsNext, Starts, StartBreaks};
+ghost use Rattle.ptmerge.specs.Steps.{inputs, IsPlaced, IsLent, IsNext, Starts, CannotStart};
 
 use crate::faults::MergeFault;
 use crate::order::{KeyOrder, Side};
@@ -59,7 +59,7 @@ impl<K: KeyOrder> Merge<K> {
             IfOk result (λ m. Starts (K.key_of order) (K.order order) (both m.first m.second) was is) }
         ensures breaks { let was = inputs first.old second.old store.old in
             let is = inputs first.new second.new store.new in
-            IfErr result (λ fault. StartBreaks (K.key_of order) (K.order order) was is fault) }
+            IfErr result (λ fault. CannotStart (K.key_of order) (K.order order) was is fault) }
         ensures placed { IfOk result (λ m. IsPlaced m.first m.second store.new) }
         ensures lent { IfOk result (λ m. IsLent m.first first.new × IsLent m.second second.new) }
         ensures order { IfOk result (λ m. m.order ≡ order) }

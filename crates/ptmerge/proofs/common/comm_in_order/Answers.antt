@@ -18,7 +18,7 @@ use Rattle.ptmerge.specs.Sides.{both}
 use Rattle.ptmerge.specs.Steps.{IsLent, inputs}
 use Rattle.ptmerge.proofs.CommEntries.{written_first, written_second, written_both}
 use Rattle.ptmerge.proofs.CommStarts.{starts_well, starts_badly, start_slots}
-use Rattle.ptmerge.proofs.CommTurns.{Running, alone_on, alone_stops, both_on, both_stops, both_unread_second, breaks_slots, comes_slots, ended, fallen, midway, passes_slots, readable_of, slots_of, unfailed_of, wrote_as}
+use Rattle.ptmerge.proofs.CommTurns.{Running, adds_of, alone_on, alone_stops, both_on, both_stops, both_unread_second, breaks_slots, comes_slots, ended, fallen, midway, passes_slots, readable_of, slots_of, unfailed_of, wrote_as}
 use Rattle.ptmerge.proofs.Orders.{IsKeyOrder}
 use Rattle.ptmerge.proofs.Pairs.{both_each}
 use Rattle.ptmerge.proofs.Splitting.{all_keys}
@@ -204,7 +204,7 @@ returns-in_err-pass-in-First-clause-merged g c =
 
 pub returns-in_err-pass-in-First-clause-slots : goal.returns-in_err-pass-in-First-clause-slots
 returns-in_err-pass-in-First-clause-slots g c =
-    passes_slots (g.K.KeyOrder.key_of c.steps.merge.order sides.First) (g.K.KeyOrder.order c.steps.merge.order) sides.First c.steps.merge.first c.pass.new.merge.first c.steps.first c.pass.new.reader c.steps.store c.pass.new.store c.pass.new.out c.in_err-pass-in-First.field-0.0 (max (length c.args.store.now.lines) 4) c.steps.invariant.running.keeps.slots c.in_err-pass-in-First.ensures.passes
+    adds_of c.args.store.now c.pass.new.store (passes_slots (g.K.KeyOrder.key_of c.steps.merge.order sides.First) (g.K.KeyOrder.order c.steps.merge.order) sides.First c.steps.merge.first c.pass.new.merge.first c.steps.first c.pass.new.reader c.steps.store c.pass.new.store c.pass.new.out c.in_err-pass-in-First.field-0.0 c.in_err-pass-in-First.ensures.passes ∙ c.steps.invariant.running.keeps.slots)
 
 pub returns-in_err-pass-in-Second-clause-merged : goal.returns-in_err-pass-in-Second-clause-merged
 returns-in_err-pass-in-Second-clause-merged g c =
@@ -226,7 +226,7 @@ returns-in_err-pass-in-Second-clause-merged g c =
 
 pub returns-in_err-pass-in-Second-clause-slots : goal.returns-in_err-pass-in-Second-clause-slots
 returns-in_err-pass-in-Second-clause-slots g c =
-    passes_slots (g.K.KeyOrder.key_of c.steps.merge.order sides.Second) (g.K.KeyOrder.order c.steps.merge.order) sides.Second c.steps.merge.second c.pass-in-Second.new.merge.second c.steps.second c.pass-in-Second.new.reader c.steps.store c.pass-in-Second.new.store c.pass-in-Second.new.out c.in_err-pass-in-Second.field-0.0 (max (length c.args.store.now.lines) 4) c.steps.invariant.running.keeps.slots c.in_err-pass-in-Second.ensures.passes
+    adds_of c.args.store.now c.pass-in-Second.new.store (passes_slots (g.K.KeyOrder.key_of c.steps.merge.order sides.Second) (g.K.KeyOrder.order c.steps.merge.order) sides.Second c.steps.merge.second c.pass-in-Second.new.merge.second c.steps.second c.pass-in-Second.new.reader c.steps.store c.pass-in-Second.new.store c.pass-in-Second.new.out c.in_err-pass-in-Second.field-0.0 c.in_err-pass-in-Second.ensures.passes ∙ c.steps.invariant.running.keeps.slots)
 
 pub returns-in_err-pass-in-Both-clause-merged : goal.returns-in_err-pass-in-Both-clause-merged
 returns-in_err-pass-in-Both-clause-merged g c =
@@ -248,7 +248,7 @@ returns-in_err-pass-in-Both-clause-merged g c =
 
 pub returns-in_err-pass-in-Both-clause-slots : goal.returns-in_err-pass-in-Both-clause-slots
 returns-in_err-pass-in-Both-clause-slots g c =
-    passes_slots (g.K.KeyOrder.key_of c.steps.merge.order sides.First) (g.K.KeyOrder.order c.steps.merge.order) sides.First c.steps.merge.first c.pass-in-Both.new.merge.first c.steps.first c.pass-in-Both.new.reader c.steps.store c.pass-in-Both.new.store c.pass-in-Both.new.out c.in_err-pass-in-Both.field-0.0 (max (length c.args.store.now.lines) 4) c.steps.invariant.running.keeps.slots c.in_err-pass-in-Both.ensures.passes
+    adds_of c.args.store.now c.pass-in-Both.new.store (passes_slots (g.K.KeyOrder.key_of c.steps.merge.order sides.First) (g.K.KeyOrder.order c.steps.merge.order) sides.First c.steps.merge.first c.pass-in-Both.new.merge.first c.steps.first c.pass-in-Both.new.reader c.steps.store c.pass-in-Both.new.store c.pass-in-Both.new.out c.in_err-pass-in-Both.field-0.0 c.in_err-pass-in-Both.ensures.passes ∙ c.steps.invariant.running.keeps.slots)
 
 pub steps-preserved : goal.steps-preserved
 steps-preserved g c =
@@ -304,7 +304,7 @@ returns-in_err-advance-in-Both-clause-merged g c =
 pub returns-in_err-advance-in-Both-clause-slots : goal.returns-in_err-advance-in-Both-clause-slots
 returns-in_err-advance-in-Both-clause-slots g c =
     let count : length c.pass-in-Both.new.store.lines ≡ max (length c.args.store.now.lines) 4 = comes_slots (g.K.KeyOrder.key_of c.steps.merge.order sides.First) (g.K.KeyOrder.order c.steps.merge.order) c.steps.merge.first c.pass-in-Both.new.merge.first c.steps.first c.pass-in-Both.new.reader c.steps.store c.pass-in-Both.new.store c.in_ok-pass-in-Both.ensures.passes.1 ∙ c.steps.invariant.running.keeps.slots in
-    breaks_slots sides.Second c.pass-in-Both.new.merge.second c.steps.second c.advance.new.reader c.pass-in-Both.new.store c.advance.new.store c.in_err-advance-in-Both.field-0.0 (max (length c.args.store.now.lines) 4) count c.in_err-advance-in-Both.ensures.moves
+    adds_of c.args.store.now c.advance.new.store (breaks_slots sides.Second c.pass-in-Both.new.merge.second c.steps.second c.advance.new.reader c.pass-in-Both.new.store c.advance.new.store c.in_err-advance-in-Both.field-0.0 c.in_err-advance-in-Both.ensures.moves ∙ count)
 
 pub steps-smaller : goal.steps-smaller
 steps-smaller g c =
@@ -332,7 +332,7 @@ returns-in-End-clause-merged g c =
 
 pub returns-in-End-clause-slots : goal.returns-in-End-clause-slots
 returns-in-End-clause-slots g c =
-    λ allowed. c.clear_four.ensures.slots ∙ c.steps.invariant.running.keeps.slots
+    adds_of c.args.store.now c.clear_four.new.store (c.clear_four.ensures.slots ∙ c.steps.invariant.running.keeps.slots)
 
 pub returns-in-Stop-clause-merged : goal.returns-in-Stop-clause-merged
 returns-in-Stop-clause-merged g c =
@@ -352,4 +352,4 @@ returns-in-Stop-clause-merged g c =
 
 pub returns-in-Stop-clause-slots : goal.returns-in-Stop-clause-slots
 returns-in-Stop-clause-slots g c =
-    λ allowed. c.clear_four-in-Stop.ensures.slots ∙ c.steps.invariant.running.keeps.slots
+    adds_of c.args.store.now c.clear_four-in-Stop.new.store (c.clear_four-in-Stop.ensures.slots ∙ c.steps.invariant.running.keeps.slots)

@@ -8,7 +8,7 @@ use Rattle.ptmerge.specs.declared.faults.MergeFault.TheVariants.{Write}
 use Rattle.ptmerge.specs.declared.order.Side.{Side}
 use Rattle.ptmerge.specs.declared.sorted.Sorted.{Sorted}
 use Rattle.ptmerge.specs.Orders.{Cmp, Key}
-use Rattle.ptmerge.specs.Places.{Comes, Breaks}
+use Rattle.ptmerge.specs.Places.{Comes, CannotRead}
 
 -- a write failed, and nothing more was read
 pub record IsUnwritten (was is : Reader) (before after : Slots) (out : Output) : Type 0 where
@@ -17,6 +17,6 @@ pub record IsUnwritten (was is : Reader) (before after : Slots) (out : Output) :
   pub store : after ≡ before
 
 -- what was to be written was pushed, and the input went to its next line
-abbrev pub Passes : Key → Cmp → Side → Sorted → Sorted → Reader → Reader → Slots → Slots → Output → Result (Unit {0}) MergeFault → Type 0
-Passes key cmp side old new was is before after out (Ok u) = (out.faulted ≡ false) × Comes key cmp old new was is before after
-Passes key cmp side old new was is before after out (Err fault) = ((fault ≡ Write) × IsUnwritten was is before after out) ⊎ ((out.faulted ≡ false) × Breaks side old was is before after fault)
+abbrev pub PassesLine : Key → Cmp → Side → Sorted → Sorted → Reader → Reader → Slots → Slots → Output → Result (Unit {0}) MergeFault → Type 0
+PassesLine key cmp side old new was is before after out (Ok u) = (out.faulted ≡ false) × Comes key cmp old new was is before after
+PassesLine key cmp side old new was is before after out (Err fault) = ((fault ≡ Write) × IsUnwritten was is before after out) ⊎ ((out.faulted ≡ false) × CannotRead side old was is before after fault)
