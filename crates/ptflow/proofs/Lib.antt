@@ -10,6 +10,9 @@ pub mod LineRuns
 pub mod LineStops
 pub mod Lining
 pub mod Passing
+pub mod PasteRows
 pub mod Streaming
 pub mod TrRests
 pub mod TrRows
+pub mod UniqKeys
+pub mod UniqRows

@@ -5,6 +5,8 @@ mod bytes;
 mod cutting;
 mod faults;
 mod fields;
+mod keys;
+mod repeats;
 mod slots;
 mod translating;
 
