@@ -7,3 +7,4 @@ pub mod Scanned
 pub mod Filling
 pub mod TextLaws
 pub mod Masks
+pub mod Coming

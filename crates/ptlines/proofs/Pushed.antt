@@ -24,13 +24,12 @@ extends_more : {a b : Option (List ℕ)} (bytes : List ℕ) → Extends a b → 
 extends_more {a} {b} bytes p = extends_trans p (extends_by b bytes)
 
 -- nothing was pushed
-pub wrote_nothing : (o : Output) → (o.faulted ≡ true → o.failed ≡ true) → Wrote o o []
-wrote_nothing o cause = record {
+pub wrote_nothing : (o : Output) → Wrote o o []
+wrote_nothing o = record {
   kept = extends_same o.taken;
   beginning = extends_by (text o) [];
   whole = λ _. sym (append_known-nil (text o));
-  cause = cause;
-  no_cause = λ _. refl;
+  stays = λ _. refl;
 }
 
 -- after a fault nothing more is sent
@@ -39,12 +38,11 @@ wrote_past a b xs ys fault w = record {
   kept = w.kept;
   beginning = subst (λ t. Extends (text b) t) (append_known-append (text a) xs ys) (extends_more ys w.beginning);
   whole = λ clean. absurd (false≢true (sym clean ∙ fault));
-  cause = w.cause;
-  no_cause = w.no_cause;
+  stays = w.stays;
 }
 
-pub wrote_after_fault : (o : Output) (bytes : List ℕ) → o.faulted ≡ true → (o.faulted ≡ true → o.failed ≡ true) → Wrote o o bytes
-wrote_after_fault o bytes fault cause = wrote_past o o [] bytes fault (wrote_nothing o cause)
+pub wrote_after_fault : (o : Output) (bytes : List ℕ) → o.faulted ≡ true → Wrote o o bytes
+wrote_after_fault o bytes fault = wrote_past o o [] bytes fault (wrote_nothing o)
 
 -- one push after another
 pub wrote_trans : (a b c : Output) (xs ys : List ℕ) → b.faulted ≡ false → Wrote a b xs → Wrote b c ys → Wrote a c (xs ++ ys)
@@ -54,8 +52,7 @@ wrote_trans a b c xs ys clean p q =
       kept = extends_trans p.kept q.kept;
       beginning = subst (λ t. Extends (text c) t) joined q.beginning;
       whole = λ still. q.whole still ∙ joined;
-      cause = q.cause;
-      no_cause = λ still. q.no_cause still ∙ p.no_cause clean;
+      stays = λ fault. absurd (false≢true (sym clean ∙ ap (λ (o : Output). o.faulted) (p.stays fault) ∙ fault));
     }
 
 -- the bytes were staged
@@ -64,18 +61,16 @@ wrote_staged old new bytes clean is = subst (λ o. Wrote old o bytes) (sym is) (
   kept = extends_same old.taken;
   beginning = subst (λ t. Extends t (append_known (text old) bytes)) (append_known-append old.taken old.staged bytes) (extends_same (append_known (text old) bytes));
   whole = λ _. sym (append_known-append old.taken old.staged bytes);
-  cause = λ fault. absurd (false≢true (sym clean ∙ fault));
-  no_cause = λ _. refl;
+  stays = λ fault. absurd (false≢true (sym clean ∙ fault));
 })
 
 -- what was staged was sent
-pub wrote_sent : (old new : Output) → new ≡ record { taken = text old; failed = old.failed; staged = []; faulted = false } → Wrote old new []
-wrote_sent old new is = subst (λ o. Wrote old o []) (sym is) (record {
+pub wrote_sent : (old new : Output) → old.faulted ≡ false → new ≡ record { taken = text old; staged = []; faulted = false } → Wrote old new []
+wrote_sent old new clean is = subst (λ o. Wrote old o []) (sym is) (record {
   kept = extends_by old.taken old.staged;
   beginning = extends_same (append_known (text old) []);
   whole = λ _. refl;
-  cause = λ fault. absurd (false≢true fault);
-  no_cause = λ _. refl;
+  stays = λ fault. absurd (false≢true (sym clean ∙ fault));
 })
 
 -- the bytes were sent past the empty block
@@ -88,13 +83,12 @@ wrote_direct old new bytes clean empty is =
       kept = extends_by old.taken bytes;
       beginning = subst (λ t. Extends t (append_known (text old) bytes)) (sym text_new) (extends_same (append_known (text old) bytes));
       whole = λ _. text_new;
-      cause = λ fault. absurd (false≢true (sym clean ∙ fault));
-      no_cause = λ _. refl;
+      stays = λ fault. absurd (false≢true (sym clean ∙ fault));
     })
 
 -- the sink failed while it was sent these: what was staged, and then some of the bytes
-pub wrote_broken : (old new : Output) (sent bytes more : List ℕ) → old.staged ++ bytes ≡ sent ++ more → Breaks old new sent → Wrote old new bytes
-wrote_broken old new sent bytes more is b =
+pub wrote_broken : (old new : Output) (sent bytes more : List ℕ) → old.faulted ≡ false → old.staged ++ bytes ≡ sent ++ more → Breaks old new sent → Wrote old new bytes
+wrote_broken old new sent bytes more clean is b =
     let text_new : text new ≡ append_known old.taken b.front =
     ap (λ s. append_known new.taken s) b.staged ∙ append_known-nil new.taken ∙ b.taken in
     let all : append_known (text old) bytes ≡ append_known (text new) (b.rest ++ more) =
@@ -105,16 +99,15 @@ wrote_broken old new sent bytes more is b =
     record {
       kept = record { front = b.front; is = b.taken };
       beginning = record { front = b.rest ++ more; is = all };
-      whole = λ clean. absurd (false≢true (sym clean ∙ b.faulted));
-      cause = λ _. b.failed;
-      no_cause = λ clean. absurd (false≢true (sym clean ∙ b.faulted));
+      whole = λ still. absurd (false≢true (sym still ∙ b.faulted));
+      stays = λ fault. absurd (false≢true (sym clean ∙ fault));
     }
 
 -- past the empty block, all of the bytes or some
 pub wrote_past_block : (old new : Output) (bytes : List ℕ) (r : Result (Unit {0}) WriteFault) → old.faulted ≡ false → old.staged ≡ [] → OnOk r (new ≡ record old { taken = append_known old.taken bytes }) → OnErr r (Breaks old new bytes) → Wrote old new bytes
 wrote_past_block old new bytes (Ok u) clean empty ok err = wrote_direct old new bytes clean empty ok
-wrote_past_block old new bytes (Err e) clean empty ok err = wrote_broken old new bytes bytes [] (ap (λ s. s ++ bytes) empty ∙ sym (append-nil bytes)) err
+wrote_past_block old new bytes (Err e) clean empty ok err = wrote_broken old new bytes bytes [] clean (ap (λ s. s ++ bytes) empty ∙ sym (append-nil bytes)) err
 
 pub wrote_flushed : (old new : Output) (r : Result (Unit {0}) WriteFault) → old.faulted ≡ false → old.staged ≡ [] → OnOk r (new ≡ old) → OnErr r (Breaks old new []) → Wrote old new []
-wrote_flushed old new (Ok u) clean empty ok err = subst (λ o. Wrote old o []) (sym ok) (wrote_nothing old (λ fault. absurd (false≢true (sym clean ∙ fault))))
-wrote_flushed old new (Err e) clean empty ok err = wrote_broken old new [] [] [] (ap (λ s. s ++ []) empty) err
+wrote_flushed old new (Ok u) clean empty ok err = subst (λ o. Wrote old o []) (sym ok) (wrote_nothing old)
+wrote_flushed old new (Err e) clean empty ok err = wrote_broken old new [] [] [] clean (ap (λ s. s ++ []) empty) err

@@ -4,7 +4,7 @@ use Rattle.std.specs.List.{onto_first}
 use Rattle.std.proofs.lemmas.Bool.{eq-eqb, eqb-true, eqb-false, cases_Bool}
 use Rattle.std.proofs.lemmas.Bool.Decides.{nat_tests}
 use Rattle.std.proofs.lemmas.List.{append-nil}
-use Rattle.ptlines.specs.Text.{text, lines, onto_line, ended_lines, IsLine, AreLines, AreLinesOf, EndsWithByte, LinesAreUnique}
+use Rattle.ptlines.specs.Text.{text, lines, onto_line, ended_lines, IsLine, AreLines, AreLinesOf, EndsWithByte, LinesAreUnique, EndedLinesAreLines}
 
 pub same_byte : (end : ℕ) → (end == end) ≡ true
 same_byte end = eq-eqb end end refl
@@ -120,3 +120,13 @@ text-lines end (b ∷ c ∷ bytes) = put (b == end) refl (text-lines end (c ∷ 
 
 pub the_lines : LinesAreUnique
 the_lines end bytes = ((lines_are end bytes, text-lines end bytes), lines-only end bytes)
+
+-- up to the last end
+ended_up_to : (end : ℕ) (front rest : List ℕ) → IsLine end rest → ended_lines end (front ++ end ∷ rest) ≡ lines end (front ++ end ∷ [])
+ended_up_to end front rest free =
+    let all : List ℕ = front ++ end ∷ [] in
+    let whole : text end (lines end all) ≡ all = ⊎_elim (λ e. e) (λ e. absurd (e.1 (front, refl))) (text-lines end all) in
+    ap (ended_lines end) (sym (append_assoc front (end ∷ []) rest) ∙ ap (λ (l : List ℕ). l ++ rest) (sym whole)) ∙ ended_of_text end (lines end all) rest (lines_are end all) free
+
+pub the_ended_lines : EndedLinesAreLines
+the_ended_lines end rest free = (ended_none end rest free, λ front. ended_up_to end front rest free)

@@ -28,13 +28,12 @@ pub record Agrees (given : Given) (input : List ℕ) : Type 0 where
   pub is : input ≡ given.bytes ++ rest
   pub whole : given.ended ≡ true → rest ≡ []
 
--- What came of a reader's source; the bytes that the reader held before stand in front.
+-- What came of a reader's source; the bytes that the reader held before stand in front. It doesn't matter which byte ends a line.
 pub record Came (old new : Reader) (given : Given) : Type 0 where
   pub moved : unread old ≡ prepend_known given.bytes new.left
   pub count : new.pulled + length old.held ≡ old.pulled + length given.bytes
   pub ended : given.ended ≡ new.ended
   pub refused : new.refused ≡ old.refused
-  pub ending : new.ending ≡ old.ending
   -- a source that has said its end is not read again
   pub still : old.ended ≡ true → (new.pulled ≡ old.pulled) × (new.ended ≡ true)
   -- and has nothing left

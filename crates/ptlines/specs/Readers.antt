@@ -45,6 +45,8 @@ pub record IsSound (r : Reader) : Type 0 where
   pub count : length r.held ≤ r.pulled
   pub end : r.ended ≡ true → IsAtEnd r.left
   pub long : r.fault ≡ None → r.pulled < 2 ^ 63
+  -- a source that has failed is known by the fault that was answered
+  pub unfailed : r.refused ≡ false → r.fault ≡ None → r.failed ≡ false
 
 -- these bytes were given, and nothing else happened
 pub record Reads (old new : Reader) (bytes : List ℕ) : Type 0 where

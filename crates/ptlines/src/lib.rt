@@ -1,7 +1,7 @@
 //! Lines of a source, a counted store of lines, and a block of output before a sink.
 #![tactic(auto)]
 
-ghost use Rattle.ptlines.specs.Text.{LinesAreUnique};
+ghost use Rattle.ptlines.specs.Text.{LinesAreUnique, EndedLinesAreLines};
 
 mod out;
 mod reader;
@@ -20,7 +20,9 @@ pub use std_ends::{FromRead, FromWrite};
 pub use store::{LineFault, Store};
 
 /// The lines of a text, as the contracts define them, are the one list of pieces without the ending byte
-/// whose text it is. The call does nothing: its contract is the law.
+/// whose text it is, and those whose end came are the lines up to the last end.
+/// The call does nothing: its contract is the law.
 pub fn lines_are_unique()
-    ensures { LinesAreUnique }
+    ensures unique { LinesAreUnique }
+    ensures ended { EndedLinesAreLines }
 {}

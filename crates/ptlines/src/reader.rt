@@ -52,7 +52,8 @@ impl<S: Source, R: Source> Model for LineReader<S, R> {
 
 impl<S: Source, R: Source> LineReader<S, R> {
     fn over(origin: Origin<S, R>) -> Self
-        requires { (origin_state S.state R.state origin).ended ≡ false }
+        requires unended { (origin_state S.state R.state origin).ended ≡ false }
+        requires unfailed { is_refused origin ≡ false → (origin_state S.state R.state origin).failed ≡ false }
         ensures { result ≡ new_reader (origin_state S.state R.state origin) (is_refused origin) }
     {
         LineReader {
@@ -102,15 +103,16 @@ impl<S: Source, R: Source> LineReader<S, R> {
 
     /// From now on lines end with byte 0, or else with newline.
     pub fn set_ending(&mut self, zero: bool)
-        ensures { self.new ≡ record self.old { ending = if zero then 0 else 10 } }
+        ensures set { self.new ≡ record self.old { ending = if zero then 0 else 10 } }
+        ensures was_sound { IsSound self.old }
+        ensures is_sound { IsSound self.new }
     {
         self.ending = if zero { 0 } else { b'\n' };
     }
 
     /// The byte that ends a line.
     pub fn ending(&self) -> u8
-        ensures ending { result ≡ self.now.ending }
-        ensures sound { IsSound self.now }
+        ensures { result ≡ self.now.ending }
     {
         self.ending
     }
@@ -143,7 +145,7 @@ impl<S: Source, R: Source> LineReader<S, R> {
     pub fn consume(&mut self, count: usize)
         requires { count ≤ length self.old.held }
         ensures consumed { self.new ≡ record self.old { held = drop count self.old.held } }
-        ensures sound { IsSound self.new }
+        ensures is_sound { IsSound self.new }
     {
         self.start += count;
     }
@@ -191,6 +193,7 @@ impl<S: Source, R: Source> LineReader<S, R> {
         requires in_store { slot < length store.old.lines }
         ensures moves { Moves self.old self.new store.old store.new slot count result }
         ensures slots { length store.new.lines ≡ length store.old.lines }
+        ensures sound { IsSound self.new }
     {
         let from = self.start;
         let to = from + count;
@@ -217,6 +220,7 @@ impl<S: Source, R: Source> LineReader<S, R> {
         requires in_store { slot < length store.old.lines }
         ensures steps { Steps self.old self.new store.old store.new slot result }
         ensures slots { length store.new.lines ≡ length store.old.lines }
+        ensures sound { IsSound self.new }
     {
         match memchr(self.ending(), self.held()) {
             Some(at) => {
@@ -242,6 +246,7 @@ impl<S: Source, R: Source> LineReader<S, R> {
         requires in_store { slot < length store.old.lines }
         ensures steps { Steps self.old self.new store.old store.new slot result }
         ensures slots { length store.new.lines ≡ length store.old.lines }
+        ensures sound { IsSound self.new }
     {
         if !self.held().is_empty() {
             return self.scan(store, slot);
@@ -270,6 +275,7 @@ impl<S: Source, R: Source> LineReader<S, R> {
         ensures slots { length store.new.lines ≡ length store.old.lines }
         ensures stays { IfSome self.old.fault (λ fault. (result ≡ Err fault) × (self.new ≡ self.old) × (store.new ≡ store.old)) }
         ensures was_sound { IsSound self.old }
+        ensures is_sound { IsSound self.new }
     {
         if let Some(fault) = self.fault() {
             return Err(fault);

@@ -1,4 +1,4 @@
-ghost use Rattle.std.specs.Prelude.{length, ◌<◌};
+ghost use Rattle.std.specs.Prelude.{◌≡◌, false, length, ◌<◌};
 ghost use Rattle.ptlines.specs.Sinks.{SinkState, Puts, Flushes};
 
 /// A read, a write or a flush failed.
@@ -11,12 +11,14 @@ pub trait Sink: Drop {
     ghost state: { Self → SinkState };
 
     /// Takes some of the bytes, which are not empty, from the first on. The answer is how many they are;
-    /// none at all is a failure.
+    /// none at all is a failure. A sink that has failed is not called again.
     fn put(&mut self, bytes: &[u8]) -> Result<usize, Failed>
-        requires { 0 < length bytes.now }
+        requires some { 0 < length bytes.now }
+        requires unfailed { (state self.old).failed ≡ false }
         ensures { Puts (state self.old) (state self.new) bytes.now result };
 
-    /// Sends on what was taken.
+    /// Sends on what was taken. A sink that has failed is not called again.
     fn flush(&mut self) -> Result<(), Failed>
+        requires { (state self.old).failed ≡ false }
         ensures { Flushes (state self.old) (state self.new) result };
 }

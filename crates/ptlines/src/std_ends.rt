@@ -1,11 +1,12 @@
-ghost use Rattle.std.specs.Prelude.{◌≡◌, None, false};
+ghost use Rattle.std.specs.Prelude.{◌≡◌, false};
 
 use crate::sink::{Failed, Sink};
 use crate::source::Source;
 use std::io::{Read, Write};
 use std::marker::Model;
 
-/// A reader of std as a source. It tells no bytes, and keeps whether the reader has ended or failed.
+/// A reader of std as a source. It keeps whether the reader has ended or failed. As a source it tells no bytes;
+/// the contract of `pull` passes on what std tells of the bytes that the reader has left.
 #[derive(Drop)]
 pub struct FromRead<R: Read> {
     reader: R,
@@ -14,18 +15,17 @@ pub struct FromRead<R: Read> {
 }
 
 impl<R: Read> Model for FromRead<R> {
-    ghost use Rattle.std.specs.Prelude.{None};
     ghost use Rattle.ptlines.specs.Sources.{SourceState};
 
     ghost Value = { SourceState };
 
-    ghost view = { λ s. record { left = None; ended = s.ended; failed = s.failed } };
+    ghost view = { λ s. record { left = R.remaining s.reader; ended = s.ended; failed = s.failed } };
 }
 
 impl<R: Read> FromRead<R> {
     /// A source that has neither ended nor failed.
     pub fn new(reader: R) -> Self
-        ensures { result ≡ record { left = None; ended = false; failed = false } }
+        ensures { result ≡ record { left = R.remaining reader; ended = false; failed = false } }
     {
         FromRead {
             reader,
@@ -36,9 +36,17 @@ impl<R: Read> FromRead<R> {
 }
 
 impl<R: Read + Drop> Source for FromRead<R> {
-    ghost state = { λ s. s };
+    ghost use Rattle.std.specs.Prelude.{◌<◌, length};
+    ghost use Rattle.std.specs.Io.KnownBytes.{ReadConsumes};
+    ghost use Rattle.ptlines.specs.Sources.{Pulls, telling_none};
 
-    fn pull(&mut self, into: &mut [u8]) -> Result<usize, Failed> {
+    ghost state = { telling_none };
+
+    fn pull(&mut self, into: &mut [u8]) -> Result<usize, Failed>
+        requires { 0 < length into.old }
+        ensures pulled { Pulls (telling_none self.old) (telling_none self.new) into.new result }
+        ensures bytes { ReadConsumes self.old.left self.new.left result into.new }
+    {
         match self.reader.read(into) {
             Ok(count) => {
                 if count == 0 {
@@ -54,7 +62,8 @@ impl<R: Read + Drop> Source for FromRead<R> {
     }
 }
 
-/// A writer of std as a sink. It tells no bytes, and keeps whether the writer has failed.
+/// A writer of std as a sink. It keeps whether the writer has failed. As a sink it tells no bytes;
+/// the contract of `put` passes on what std tells of the bytes that the writer holds.
 #[derive(Drop)]
 pub struct FromWrite<W: Write> {
     writer: W,
@@ -62,18 +71,17 @@ pub struct FromWrite<W: Write> {
 }
 
 impl<W: Write> Model for FromWrite<W> {
-    ghost use Rattle.std.specs.Prelude.{None};
     ghost use Rattle.ptlines.specs.Sinks.{SinkState};
 
     ghost Value = { SinkState };
 
-    ghost view = { λ s. record { taken = None; failed = s.failed } };
+    ghost view = { λ s. record { taken = W.contents s.writer; failed = s.failed } };
 }
 
 impl<W: Write> FromWrite<W> {
     /// A sink that has not failed.
     pub fn new(writer: W) -> Self
-        ensures { result ≡ record { taken = None; failed = false } }
+        ensures { result ≡ record { taken = W.contents writer; failed = false } }
     {
         FromWrite {
             writer,
@@ -83,9 +91,18 @@ impl<W: Write> FromWrite<W> {
 }
 
 impl<W: Write + Drop> Sink for FromWrite<W> {
-    ghost state = { λ s. s };
+    ghost use Rattle.std.specs.Prelude.{◌≡◌, ◌<◌, false, length};
+    ghost use Rattle.std.specs.Io.KnownBytes.{Keeps, WriteAppends};
+    ghost use Rattle.ptlines.specs.Sinks.{Puts, Flushes, telling_none};
 
-    fn put(&mut self, bytes: &[u8]) -> Result<usize, Failed> {
+    ghost state = { telling_none };
+
+    fn put(&mut self, bytes: &[u8]) -> Result<usize, Failed>
+        requires some { 0 < length bytes.now }
+        requires unfailed { self.old.failed ≡ false }
+        ensures put { Puts (telling_none self.old) (telling_none self.new) bytes.now result }
+        ensures bytes { WriteAppends self.old.taken self.new.taken result bytes.now }
+    {
         match self.writer.write(bytes) {
             Ok(count) => {
                 if count == 0 {
@@ -100,7 +117,11 @@ impl<W: Write + Drop> Sink for FromWrite<W> {
         }
     }
 
-    fn flush(&mut self) -> Result<(), Failed> {
+    fn flush(&mut self) -> Result<(), Failed>
+        requires { self.old.failed ≡ false }
+        ensures flushed { Flushes (telling_none self.old) (telling_none self.new) result }
+        ensures bytes { Keeps self.old.taken self.new.taken }
+    {
         match self.writer.flush() {
             Ok(()) => Ok(()),
             Err(_) => {

@@ -127,10 +127,8 @@ impl<A: Allocator + Copy> Store<A> {
         self.held -= count as u128;
     }
 
-    /// Puts bytes behind those of a slot.
-    /// # Errors
-    /// `Memory` where the growth was refused: then the store is denied, and nothing else changes.
-    pub fn append(&mut self, slot: usize, bytes: &[u8]) -> Result<(), LineFault>
+    // Puts bytes behind those of a slot. Where the growth is refused the store is denied, and nothing else changes.
+    pub(crate) fn append(&mut self, slot: usize, bytes: &[u8]) -> Result<(), LineFault>
         requires { slot < length self.old.lines }
         ensures ok { OnOk result (self.new ≡ with_line self.old slot (line self.old slot ++ bytes.now)) }
         ensures err { OnErr result (self.new ≡ with_denied self.old) }

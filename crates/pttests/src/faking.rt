@@ -2,7 +2,7 @@
 
 use ptfakes::{Kept, Pieces, Refusing, Repeated, Watched};
 use ptlines::{Failed, Sink, Source};
-use std::alloc::Global;
+use std::alloc::{Allocator, Global};
 use std::cell::Cell;
 use std::process::Abort;
 use std::test::Fail;
@@ -14,12 +14,22 @@ fn pulls<S: Source>(rt: &impl Abort, source: &mut S, answer: Result<usize, Faile
     assert!(rt; into.starts_with(given), "{given:?}");
 }
 
-fn puts<W: Sink>(rt: &impl Abort, sink: &mut W, bytes: &[u8], answer: Result<usize, Failed>) {
+// These sinks may be called after a failure too, and count that call.
+fn puts<A: Allocator + Drop>(
+    rt: &impl Abort,
+    sink: &mut Kept<A>,
+    bytes: &[u8],
+    answer: Result<usize, Failed>,
+) {
     assert!(rt; !bytes.is_empty());
     assert_eq!(rt; sink.put(bytes), answer);
 }
 
-fn flushes<W: Sink>(rt: &impl Abort, sink: &mut W, answer: Result<(), Failed>) {
+fn flushes<A: Allocator + Drop>(
+    rt: &impl Abort,
+    sink: &mut Kept<A>,
+    answer: Result<(), Failed>,
+) {
     assert_eq!(rt; sink.flush(), answer);
 }
 

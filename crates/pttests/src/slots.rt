@@ -1,6 +1,7 @@
 //! Calls of a store whose slots a test knows to be there.
 
-use ptlines::{LineFault, Store};
+use ptfakes::Pieces;
+use ptlines::{LineFault, LineReader, Store};
 use std::alloc::Allocator;
 use std::process::Abort;
 
@@ -14,14 +15,18 @@ pub fn line<'a, A: Allocator + Copy>(
     store.line(slot)
 }
 
-pub fn append<A: Allocator + Copy>(
+/// Reads a line, which has no newline in it, into a slot.
+pub fn hold<A: Allocator + Copy>(
     rt: &impl Abort,
     store: &mut Store<A>,
     slot: usize,
-    bytes: &[u8],
+    line: &[u8],
 ) -> Result<(), LineFault> {
     assert!(rt; slot < store.slots());
-    store.append(slot, bytes)
+    let mut reader: LineReader<Pieces<'_>, Pieces<'_>> = LineReader::standard(Pieces::whole(line));
+    let given = reader.fill(store, slot)?;
+    assert_eq!(rt; given, !line.is_empty());
+    Ok(())
 }
 
 pub fn copy<A: Allocator + Copy>(

@@ -1,6 +1,6 @@
 //! Numbered slots, what they hold and held, and refused growths.
 
-use crate::slots::{append, clear, copy, expect, line, swap};
+use crate::slots::{clear, copy, expect, hold, line, swap};
 use ptfakes::Refusing;
 use ptlines::{LineFault, Store};
 use std::alloc::{Allocator, Global};
@@ -11,11 +11,11 @@ use std::test::Fail;
 fn slots_hold_lines(rt: HostRuntime) -> Result<(), Fail> {
     let mut store = Store::new(rt.alloc(), 3)?;
     expect(&rt, &store, &[b"", b"", b""], 0, false);
-    append(&rt, &mut store, 0, b"abc")?;
-    append(&rt, &mut store, 2, b"xy")?;
+    hold(&rt, &mut store, 0, b"abc")?;
+    hold(&rt, &mut store, 2, b"xy")?;
     expect(&rt, &store, &[b"abc", b"", b"xy"], 5, false);
-    append(&rt, &mut store, 0, b"d")?;
-    append(&rt, &mut store, 1, b"")?;
+    hold(&rt, &mut store, 0, b"abcd")?;
+    hold(&rt, &mut store, 1, b"")?;
     expect(&rt, &store, &[b"abcd", b"", b"xy"], 6, false);
     clear(&rt, &mut store, 0);
     expect(&rt, &store, &[b"", b"", b"xy"], 6, false);
@@ -30,17 +30,17 @@ fn slots_hold_lines(rt: HostRuntime) -> Result<(), Fail> {
 #[test]
 fn slots_are_copied_and_added(rt: HostRuntime) -> Result<(), Fail> {
     let mut store = Store::new(rt.alloc(), 3)?;
-    append(&rt, &mut store, 1, b"xy")?;
+    hold(&rt, &mut store, 1, b"xy")?;
     copy(&rt, &mut store, 1, 0)?;
     expect(&rt, &store, &[b"xy", b"xy", b""], 4, false);
-    append(&rt, &mut store, 0, b"z")?;
+    hold(&rt, &mut store, 0, b"xyz")?;
     copy(&rt, &mut store, 0, 1)?;
     expect(&rt, &store, &[b"xyz", b"xyz", b""], 6, false);
     copy(&rt, &mut store, 2, 1)?;
     expect(&rt, &store, &[b"xyz", b"", b""], 6, false);
     assert_eq!(rt; store.add()?, 3);
-    append(&rt, &mut store, 3, b"\0\n\xff\x80")?;
-    expect(&rt, &store, &[b"xyz", b"", b"", b"\0\n\xff\x80"], 7, false);
+    hold(&rt, &mut store, 3, b"\0\r\xff\x80")?;
+    expect(&rt, &store, &[b"xyz", b"", b"", b"\0\r\xff\x80"], 7, false);
     Ok(())
 }
 
@@ -57,7 +57,7 @@ fn a_store_of_no_slots(rt: HostRuntime) -> Result<(), Fail> {
 #[derive(Clone, Copy, Debug, PartialEq, Eq)]
 enum Stopped {
     New,
-    Append,
+    Hold,
     Copy,
     Add,
     Nowhere,
@@ -75,17 +75,17 @@ fn grow<A: Allocator + Copy>(rt: &impl Abort, alloc: A) -> Stopped {
         }
     };
     expect(rt, &store, &[b"", b""], 0, false);
-    if append(rt, &mut store, 0, LONG) == Err(LineFault::Memory) {
+    if hold(rt, &mut store, 0, LONG) == Err(LineFault::Memory) {
         expect(rt, &store, &[b"", b""], 0, true);
         // Only one growth is refused, and the store stays denied.
-        assert_eq!(rt; append(rt, &mut store, 0, LONG), Ok(()));
+        assert_eq!(rt; hold(rt, &mut store, 0, LONG), Ok(()));
         expect(rt, &store, &[LONG, b""], 70, true);
-        return Stopped::Append;
+        return Stopped::Hold;
     }
     expect(rt, &store, &[LONG, b""], 70, false);
-    if append(rt, &mut store, 1, b"b") == Err(LineFault::Memory) {
+    if hold(rt, &mut store, 1, b"b") == Err(LineFault::Memory) {
         expect(rt, &store, &[LONG, b""], 70, true);
-        return Stopped::Append;
+        return Stopped::Hold;
     }
     expect(rt, &store, &[LONG, b"b"], 71, false);
     if copy(rt, &mut store, 0, 1) == Err(LineFault::Memory) {
@@ -129,7 +129,7 @@ fn stops(rt: &impl Abort, alloc: Global, stopped: Stopped) -> u32 {
 
 #[test]
 fn each_growth_refused(rt: HostRuntime) {
-    for stopped in [Stopped::New, Stopped::Append, Stopped::Copy, Stopped::Add] {
+    for stopped in [Stopped::New, Stopped::Hold, Stopped::Copy, Stopped::Add] {
         assert!(rt; stops(&rt, rt.alloc(), stopped) > 0, "{stopped:?}");
     }
     // At last no growth is left to be refused.

@@ -142,5 +142,10 @@ fn answers_as_std_does(rt: HostRuntime) {
     });
     assert_eq!(rt; sink.put(b"ab"), Ok(1));
     assert_eq!(rt; sink.put(b"b"), Ok(0));
-    assert_eq!(rt; sink.flush(), Err(Failed));
+    let mut other = FromWrite::new(Narrow {
+        bytes: &mut bytes,
+        room: 0,
+        flushes: false,
+    });
+    assert_eq!(rt; other.flush(), Err(Failed));
 }
