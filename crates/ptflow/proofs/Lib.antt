@@ -1,4 +1,5 @@
 pub mod Chosen
+pub mod Continuations
 pub mod CutLaws
 pub mod CutRests
 pub mod CutRows
@@ -9,8 +10,11 @@ pub mod LineLaws
 pub mod LineRuns
 pub mod LineStops
 pub mod Lining
+pub mod OpenRuns
+pub mod PassLemmas
 pub mod Passing
 pub mod PasteRows
+pub mod ReaderFacts
 pub mod Streaming
 pub mod TrRests
 pub mod TrRows

@@ -1,8 +1,10 @@
 pub mod Cuts
 pub mod FieldPlaces
-pub mod OpenRuns
+pub mod Passes
 pub mod Pastes
 pub mod Rests
 pub mod Runs
+pub mod Tools
 pub mod Translating
 pub mod Uniqs
+pub mod Workings

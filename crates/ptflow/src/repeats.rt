@@ -1,9 +1,8 @@
-ghost use Rattle.std.specs.Prelude.{◌≡◌, ◌<◌, ◌^◌, ◌&&◌, true, false, [], ◌∷◌, ◌++◌, OnOk, OnErr, nat_lt, decimal};
-ghost use Rattle.std.specs.List.{flat_map};
+ghost use Rattle.std.specs.Prelude.{◌≡◌, ◌<◌, ◌^◌, ◌&&◌, true, false, ◌++◌, OnOk, OnErr, nat_lt};
 ghost use Rattle.ptlines.specs.Outputs.{Wrote};
 ghost use Rattle.ptlangs.specs.Jobs.{uniq_job};
-ghost use Rattle.ptflow.specs.Uniqs.{is_same, entries};
-ghost use Rattle.ptflow.specs.OpenRuns.{open_run};
+ghost use Rattle.ptflow.specs.Uniqs.{is_same};
+ghost use Rattle.ptflow.specs.Workings.OpenRuns.{is_shown, lead, run_text};
 
 use crate::keys::key;
 use itoa::Buffer;
@@ -17,53 +16,51 @@ fn goes_on(job: &UniqJob, count: u64, first: &[u8], line: &[u8]) -> bool
     count > 0 && key(job, first) == key(job, line)
 }
 
-// Pushes a line with its end.
-fn push_line<W: Sink>(line: &[u8], ending: u8, out: &mut Out<W>) -> Result<(), WriteFault>
-    requires { out.old.faulted ≡ false }
-    ensures wrote { Wrote out.old out.new (line.now ++ ending ∷ []) }
-    ensures clean { OnOk result (out.new.faulted ≡ false) }
-    ensures fault { OnErr result (out.new.faulted ≡ true) }
+// Whether something is written of a run of so many lines.
+fn is_shown(show: Show, count: u64) -> bool
+    ensures { result ≡ is_shown show count }
 {
-    out.push(line)?;
-    out.push(&[ending])
-}
-
-// Pushes a count and the space behind it.
-fn push_count<W: Sink>(count: u64, out: &mut Out<W>) -> Result<(), WriteFault>
-    requires { out.old.faulted ≡ false }
-    ensures wrote { Wrote out.old out.new (decimal count ++ 32 ∷ []) }
-    ensures clean { OnOk result (out.new.faulted ≡ false) }
-    ensures fault { OnErr result (out.new.faulted ≡ true) }
-{
-    let mut buffer = Buffer::new();
-    out.push(buffer.format(count).as_bytes())?;
-    out.push(b" ")
-}
-
-// Pushes what is written of the run of so many lines whose first line this is; of no lines nothing is written.
-fn push_run<W: Sink>(
-    job: &UniqJob,
-    count: u64,
-    line: &[u8],
-    ending: u8,
-    out: &mut Out<W>,
-) -> Result<(), WriteFault>
-    requires ending { ending ≡ (uniq_job job.now).end }
-    requires clean { out.old.faulted ≡ false }
-    ensures wrote { Wrote out.old out.new (entries (uniq_job job.now) (open_run (record { line = line.now; count = count }))) }
-    ensures clean { OnOk result (out.new.faulted ≡ false) }
-    ensures fault { OnErr result (out.new.faulted ≡ true) }
-{
-    let shown = match job.show {
+    match show {
         Show::All | Show::Counts => count > 0,
         Show::Repeated => count > 1,
         Show::Single => count == 1,
-    };
-    if !shown {
+    }
+}
+
+// Pushes what stands in front of a run's line.
+fn push_lead<W: Sink>(show: Show, count: u64, out: &mut Out<W>) -> Result<(), WriteFault>
+    requires { out.old.faulted ≡ false }
+    ensures wrote { Wrote out.old out.new (lead show count) }
+    ensures clean { OnOk result (out.new.faulted ≡ false) }
+    ensures fault { OnErr result (out.new.faulted ≡ true) }
+{
+    match show {
+        Show::Counts => {
+            let mut buffer = Buffer::new();
+            out.push(buffer.format(count).as_bytes())?;
+            out.push(b" ")
+        }
+        Show::All | Show::Repeated | Show::Single => out.push(b""),
+    }
+}
+
+// Pushes what is written of a run of so many lines. These are the bytes of its first line, and behind them its end.
+fn push_run<W: Sink>(
+    show: Show,
+    count: u64,
+    bytes: &[u8],
+    behind: &[u8],
+    out: &mut Out<W>,
+) -> Result<(), WriteFault>
+    requires { out.old.faulted ≡ false }
+    ensures wrote { Wrote out.old out.new (run_text show count (bytes.now ++ behind.now)) }
+    ensures clean { OnOk result (out.new.faulted ≡ false) }
+    ensures fault { OnErr result (out.new.faulted ≡ true) }
+{
+    if !is_shown(show, count) {
         return out.push(b"");
     }
-    if job.show == Show::Counts {
-        push_count(count, out)?;
-    }
-    push_line(line, ending, out)
+    push_lead(show, count, out)?;
+    out.push(bytes)?;
+    out.push(behind)
 }

@@ -1,0 +1,65 @@
+-- Facts about readers and outputs that each engine starts from.
+use Rattle.std.proofs.Common.{◌≡◌, ℕ, ◌+◌, ◌≤◌, false, true, List, [], ◌++◌, None, length, take, drop, refl, sym, ◌∙◌, ap, subst, arith, length-append}
+use Rattle.std.proofs.lemmas.Bool.{false≢true}
+use Rattle.std.proofs.lemmas.List.{nil_from_length, take_all}
+use Rattle.ptlines.specs.Inputs.{Given, Came}
+use Rattle.ptlines.specs.Outputs.{Output, Wrote}
+use Rattle.ptlines.specs.Readers.{Reader, Reads, Goes, IsDone, IsSound, unread}
+use Rattle.ptlines.specs.Slots.{Slots}
+use Rattle.ptlines.proofs.Filling.{goes_trans}
+use Rattle.ptlines.proofs.Known.{prepend_known-nil, prepend_known-append}
+use Rattle.ptlines.proofs.Pushed.{wrote_nothing}
+use Rattle.ptlines.proofs.Scanned.{goes_front}
+use Rattle.ptflow.specs.Passes.{IsReady}
+
+pub nothing_pushed : (o : Output) → o.faulted ≡ false → Wrote o o []
+nothing_pushed o clean = wrote_nothing o
+
+-- nothing was given yet
+pub goes_nothing : (r : Reader) → r.fault ≡ None → Goes r r []
+goes_nothing r clean = record {
+  reads = record { moved = sym (prepend_known-nil (unread r)); count = omega arith; refused = refl; ending = refl; still = λ ended. (refl, ended); end = λ h. h };
+  fault = clean;
+  failed = refl;
+  short = λ h. h;
+}
+
+-- what came of a reader that has given these bytes
+abbrev pub given_of : List ℕ → Reader → Given
+given_of bytes reader = record { bytes = bytes ++ reader.held; ended = reader.ended }
+
+pub came_of : (old new : Reader) (bytes : List ℕ) → Reads old new bytes → Came old new (given_of bytes new)
+came_of old new bytes reads = record {
+  moved = reads.moved ∙ prepend_known-append bytes new.held new.left;
+  count = omega (arith, reads.count, length-append bytes new.held);
+  ended = refl;
+  refused = reads.refused;
+  still = reads.still;
+  end = reads.end;
+}
+
+-- where nothing can come any more, nothing came
+pub done_gives_nothing : (now new : Reader) (bytes : List ℕ) → IsDone now → Reads now new bytes → (bytes ≡ []) × (new.held ≡ []) × (new.ended ≡ true)
+done_gives_nothing now new bytes done reads =
+    let still = reads.still done.ended in
+    let none : length bytes + length new.held ≡ 0 = omega (arith, reads.count, still.0, ap length done.held) in
+    (nil_from_length bytes (omega (arith, none)), nil_from_length new.held (omega (arith, none)), still.1)
+
+pub stays_done : (now new : Reader) (bytes : List ℕ) → IsDone now → Reads now new bytes → IsDone new
+stays_done now new bytes done reads =
+    let none = done_gives_nothing now new bytes done reads in
+    record { ended = none.2; held = none.1; left = reads.end (λ ended. done.left) none.2 }
+
+-- what can come of a reader, where this is what can come of it later
+pub may_come : (now new : Reader) (bytes rest : List ℕ) → Reads now new bytes → (IsDone new → rest ≡ []) → IsDone now → bytes ++ rest ≡ []
+may_come now new bytes rest reads may done = λ i. (done_gives_nothing now new bytes done reads).0 i ++ may (stays_done now new bytes done reads) i
+
+-- a sound reader that can be read has not failed
+pub never_failed : (old reader : Reader) (store : Slots) (bytes : List ℕ) → IsReady old store → Goes old reader bytes → IsSound reader → reader.failed ≡ false
+never_failed old reader store bytes ready goes sound = goes.failed ∙ ready.unfailed
+
+-- the first bytes of a block that was shown were consumed
+pub goes_past : (now shown new : Reader) (block : List ℕ) (count : ℕ) → Goes now shown [] → shown.held ≡ block → count ≤ length block → new ≡ record shown { held = drop count shown.held } → Goes now new (take count block)
+goes_past now shown new block count goes held fits consumed =
+    goes_trans now shown new [] (take count block) goes
+    (subst (λ (b : List ℕ). Goes shown new b) (ap (take count) held) (goes_front shown new count goes.fault (omega (arith, fits, ap length held)) consumed))
