@@ -7,11 +7,14 @@ use Rattle.ptlines.specs.Inputs.{Begins}
 use Rattle.ptlines.proofs.TextLaws.{lines_first, lines_of_text, text-append}
 use Rattle.ptlangs.specs.Jobs.{Cut}
 use Rattle.ptflow.specs.Cuts.{chosen_from, cut_line, cut, cut_decided}
-use Rattle.ptflow.specs.Rests.{cut_rest}
+use Rattle.ptflow.specs.Workings.ByteRests.{cut_rest}
 use Rattle.ptflow.proofs.CutRests.{cut_text, rest_of_all, rest_line}
 use Rattle.ptflow.proofs.LineLaws.{Parts, parts_of}
 
-module _ (end : ℕ) (job : Cut) (by_bytes : job.fields ≡ false) where
+module _ (job : Cut) (by_bytes : job.fields ≡ false) where
+  abbrev end : ℕ
+  end = job.end
+
   -- each line gives one
   pub made_is : (ls : List (List ℕ)) → text end (flat_map (cut_line job) ls) ≡ cut_text end job.selected ls
   made_is ls = ap (text end) (one_each ls)
@@ -20,12 +23,12 @@ module _ (end : ℕ) (job : Cut) (by_bytes : job.fields ≡ false) where
       one_each [] = refl
       one_each (x ∷ xs) = rw by_bytes (ap (λ (l : List (List ℕ)). chosen_from job.selected 1 x ∷ l) (one_each xs))
 
-  pub rest_is_cut : (bytes : List ℕ) → cut_rest end job.selected 0 bytes ≡ cut end job bytes
+  pub rest_is_cut : (bytes : List ℕ) → cut_rest end job.selected 0 bytes ≡ cut job bytes
   rest_is_cut bytes = rest_of_all end job.selected (lines end bytes) ∙ sym (made_is (lines end bytes))
 
   -- what was pushed of these bytes has what is written of their whole lines in front
   pub rest_is_decided : (given pushed : List ℕ) (now : ℕ) → ((rest : List ℕ) → cut_rest end job.selected 0 (given ++ rest) ≡ pushed ++ cut_rest end job.selected now rest)
-      → Begins (cut_decided end job (record { bytes = given; ended = false })) pushed
+      → Begins (cut_decided job (record { bytes = given; ended = false })) pushed
   rest_is_decided given pushed now on = record {
     rest = chosen_from job.selected 1 p.piece;
     is = append_cancel_right pushed (text end (flat_map (cut_line job) ls) ++ chosen_from job.selected 1 p.piece) (end ∷ []) (sym pushed_side ∙ whole_side);

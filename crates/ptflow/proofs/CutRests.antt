@@ -7,10 +7,8 @@ use Rattle.memchr.specs.Find.{IsFirstByte, is_byte}
 use Rattle.ptlines.specs.Text.{text, lines, IsLine}
 use Rattle.ptlines.proofs.TextLaws.{lines_first, other_byte}
 use Rattle.ptlines.proofs.Scanned.{before_end, take_end, drop_end}
-use Rattle.ptlangs.specs.CutLists.{is_selected}
-use Rattle.ptlangs.specs.declared.ranges.Interval.{Interval}
 use Rattle.ptflow.specs.Cuts.{chosen_from}
-use Rattle.ptflow.specs.Rests.{rest_of_lines, cut_rest}
+use Rattle.ptflow.specs.Workings.ByteRests.{rest_of_lines, cut_rest}
 
 module _ (end : ℕ) (selected : ℕ → Bool) where
   -- what is written of lines
@@ -87,6 +85,3 @@ piece_on end selected before bytes whole more =
     let none : drop (length bytes) bytes ≡ [] = drop_all (length bytes) bytes (omega arith) in
     rest_piece end selected before bytes more whole ∙ ap (λ (l : List ℕ). l ++ cut_rest end selected (before + length bytes) more)
     (sym (append-nil (chosen_from selected (before + 1) bytes)) ∙ (λ i. chosen_from selected (before + 1) (sym all i) ++ sym none i))
-
-pub same_rest : (a b : ℕ) (xs ys : List Interval) → a ≡ b → xs ≡ ys → cut_rest a (is_selected xs) ≡ cut_rest b (is_selected ys)
-same_rest a b xs ys end_is same = λ i. cut_rest (end_is i) (is_selected (same i))

@@ -13,7 +13,7 @@ use Rattle.ptlines.proofs.Scanned.{goes_front}
 use Rattle.ptflow.specs.Passes.{IsReady}
 
 pub nothing_pushed : (o : Output) → o.faulted ≡ false → Wrote o o []
-nothing_pushed o clean = wrote_nothing o
+nothing_pushed o clean = wrote_nothing o (λ fault. absurd (false≢true (sym clean ∙ fault)))
 
 -- nothing was given yet
 pub goes_nothing : (r : Reader) → r.fault ≡ None → Goes r r []
@@ -34,6 +34,7 @@ came_of old new bytes reads = record {
   count = omega (arith, reads.count, length-append bytes new.held);
   ended = refl;
   refused = reads.refused;
+  ending = reads.ending;
   still = reads.still;
   end = reads.end;
 }

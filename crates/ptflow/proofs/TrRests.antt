@@ -8,10 +8,9 @@ use Rattle.std.proofs.lemmas.Bool.{eqb-true}
 use Rattle.std.proofs.lemmas.List.{append-nil, map-append, take-set, take_more_set}
 use Rattle.std.proofs.lemmas.List.Elements.{filter-append}
 use Rattle.ptlines.specs.Inputs.{Begins}
-use Rattle.ptlines.specs.Outputs.{Output, Wrote}
 use Rattle.ptlangs.specs.TrTables.{Tables, deletes, image, squeezes}
-use Rattle.ptflow.specs.Rests.{Passes, Halts}
-use Rattle.ptflow.specs.Translating.{stays, squeeze_behind, squeeze_from, translated, tr, tr_decided, tr_rest}
+use Rattle.ptflow.specs.Translations.{stays, squeeze_behind, translated, tr, tr_decided}
+use Rattle.ptflow.specs.Workings.TrRests.{squeeze_from, tr_rest}
 
 module _ (squeezed : ℕ → Bool) where
   behind_one : (last b : ℕ) (bytes : List ℕ) → squeeze_behind squeezed last (b ∷ bytes) ≡ cond (stays squeezed (last, b)) (b ∷ squeeze_behind squeezed b bytes) (squeeze_behind squeezed b bytes)
@@ -80,27 +79,12 @@ module _ (t : Tables) where
   translated_append xs ys = ap (map (image t)) (filter-append (λ b. not (deletes t b)) xs ys) ∙ map-append (image t) (filter (λ b. not (deletes t b)) xs) (filter (λ b. not (deletes t b)) ys)
 
   -- what is written of a block stands in front
-  block_on : (last : Option ℕ) (block rest : List ℕ) → tr_rest t last (block ++ rest) ≡ tr_rest t last block ++ tr_rest t (last_or last (tr_rest t last block)) rest
-  block_on last block rest = ap (squeeze_from (squeezes t) last) (translated_append block rest) ∙ from_append (squeezes t) last (translated t block) (translated t rest)
+  pub front_on : (last : Option ℕ) (block rest : List ℕ) → tr_rest t last (block ++ rest) ≡ tr_rest t last block ++ tr_rest t (last_or last (tr_rest t last block)) rest
+  front_on last block rest = ap (squeeze_from (squeezes t) last) (translated_append block rest) ∙ from_append (squeezes t) last (translated t block) (translated t rest)
 
-  module _ (last : Option ℕ) (block written : List ℕ) (was is : Output) (made : written ≡ tr_rest t last block) (wrote : Wrote was is written) where
-    all_wrote : Wrote was is (tr_rest t last block)
-    all_wrote = subst (λ (b : List ℕ). Wrote was is b) made wrote
-
-    -- what is written of a block was pushed; behind it the last of these bytes was written last
-    pub block_passes : (after : Option ℕ) → after ≡ option_or (slice_get written (length written - 1)) last → Passes (tr_rest t) last after block was is
-    block_passes after end = record {
-      pushed = tr_rest t last block;
-      wrote = all_wrote;
-      on = λ rest. block_on last block rest ∙ ap (λ (o : Option ℕ). tr_rest t last block ++ tr_rest t o rest) (sym (end ∙ last_is last written ∙ ap (last_or last) made));
-    }
-
-    pub block_halts : Halts (tr_rest t) last block was is
-    block_halts = record {
-      pushed = tr_rest t last block;
-      wrote = all_wrote;
-      true_so_far = λ rest. record { rest = tr_rest t (last_or last (tr_rest t last block)) rest; is = block_on last block rest };
-    }
+  -- the last of what is written of a block was written last then
+  pub block_on : (last after : Option ℕ) (block written rest : List ℕ) → written ≡ tr_rest t last block → after ≡ option_or (slice_get written (length written - 1)) last → tr_rest t last (block ++ rest) ≡ written ++ tr_rest t after rest
+  block_on last after block written rest made end = front_on last block rest ∙ (λ i. sym made i ++ tr_rest t (sym (end ∙ last_is last written ∙ ap (last_or last) made) i) rest)
 
   pub rest_decided : (given pushed : List ℕ) (now : Option ℕ) → ((rest : List ℕ) → tr_rest t None (given ++ rest) ≡ pushed ++ tr_rest t now rest) → Begins (tr_decided t (record { bytes = given; ended = false })) pushed
   rest_decided given pushed now on = record {

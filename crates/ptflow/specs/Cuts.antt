@@ -1,9 +1,10 @@
--- What `cut` writes. `end` is the byte that ends a line.
+-- What `cut` writes.
 use Rattle.std.specs.Prelude.{ℕ, ◌+◌, ◌==◌, ◌||◌, List, [], ◌∷◌, Bool, not, if◌then◌else◌}
 use Rattle.std.specs.List.{flat_map, list_any, slice_split, join_with_byte}
-use Rattle.ptlines.specs.Text.{text, lines}
+use Rattle.ptlines.specs.Text.{text, lines, longest_line}
 use Rattle.ptlines.specs.Inputs.{Given, whole_lines}
 use Rattle.ptlangs.specs.Jobs.{Cut}
+use Rattle.ptflow.specs.Tools.{Tool}
 
 -- the items whose numbers, counted on from n, pass the test
 abbrev pub chosen_from : {X : Type 0} → (ℕ → Bool) → ℕ → List X → List X
@@ -32,10 +33,18 @@ cut_line job line =
     then (if list_any (is_delimiter job) line then cut_fields job line ∷ [] else (if job.only then [] else line ∷ []))
     else cut_bytes job line ∷ []
 
+-- what is written of lines
+abbrev pub cut_lines : Cut → List (List ℕ) → List ℕ
+cut_lines job ls = text job.end (flat_map (cut_line job) ls)
+
 -- what is written of a text
-abbrev pub cut : ℕ → Cut → List ℕ → List ℕ
-cut end job bytes = text end (flat_map (cut_line job) (lines end bytes))
+abbrev pub cut : Cut → List ℕ → List ℕ
+cut job bytes = cut_lines job (lines job.end bytes)
 
 -- what is decided once a part of the text came: what is written of its whole lines
-abbrev pub cut_decided : ℕ → Cut → Given → List ℕ
-cut_decided end job given = text end (flat_map (cut_line job) (whole_lines end given))
+abbrev pub cut_decided : Cut → Given → List ℕ
+cut_decided job given = cut_lines job (whole_lines job.end given)
+
+-- a line of fields goes through a slot; bytes are not kept
+abbrev pub cut_tool : Cut → Tool
+cut_tool job = record { text = cut job; decided = cut_decided job; size = longest_line job.end; slots = if job.fields then 1 else 0 }

@@ -1,10 +1,7 @@
 pub mod Cuts
-pub mod FieldPlaces
 pub mod Passes
-pub mod Pastes
-pub mod Rests
-pub mod Runs
 pub mod Tools
-pub mod Translating
-pub mod Uniqs
+pub mod Translations
 pub mod Workings
+pub mod Pastes
+pub mod Uniqs

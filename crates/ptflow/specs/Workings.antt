@@ -1,3 +1,8 @@
 -- What only private functions and proofs speak of.
+pub mod Blocks
+pub mod ByteRests
 pub mod Continuations
+pub mod FieldPlaces
+pub mod Pieces
+pub mod TrRests
 pub mod OpenRuns

@@ -1,18 +1,21 @@
-ghost use Rattle.std.specs.Prelude.{◌≡◌, ◌≢◌, ◌<◌, ◌≤◌, ◌+◌, ◌^◌, ℕ, length, take, drop, true, false, None, [], ◌∷◌, ◌++◌, Err, OnOk, OnErr, IfOk, ◌==◌, if◌then◌else◌};
-ghost use Rattle.ptlines.specs.Outputs.{Wrote};
-ghost use Rattle.ptlines.specs.Slots.{total};
-ghost use Rattle.ptlines.specs.Text.{longest_line};
-ghost use Rattle.ptlangs.specs.CutLists.{is_selected, AreApart};
-ghost use Rattle.ptlangs.specs.Jobs.{cut_job};
-ghost use Rattle.ptlangs.specs.Jobs.{Cut};
-ghost use Rattle.ptflow.specs.Cuts.{chosen_from, cut, cut_decided};
-ghost use Rattle.ptflow.specs.Rests.{cut_rest, Passes, Halts};
-ghost use Rattle.ptflow.specs.Runs.{IsRun};
+//! `cut` by bytes.
 
+ghost use Rattle.std.specs.Prelude.{◌≡◌, ◌<◌, ◌≤◌, ◌+◌, ◌^◌, ℕ, length, true, false, None, [], ◌∷◌, OnOk, OnErr, IfOk, ◌==◌, if◌then◌else◌};
+ghost use Rattle.ptlines.specs.Outputs.{Wrote};
+ghost use Rattle.ptlines.specs.Slots.{Slots};
+ghost use Rattle.ptlangs.specs.CutLists.{AreApart};
+ghost use Rattle.ptlangs.specs.Jobs.{cut_job};
+ghost use Rattle.ptflow.specs.Cuts.{cut_tool};
+ghost use Rattle.ptflow.specs.Passes.{IsReady, IsPass};
+ghost use Rattle.ptflow.specs.Workings.ByteRests.{rest_by};
+ghost use Rattle.ptflow.specs.Workings.Continuations.{Continues, Halts};
+ghost use Rattle.ptflow.specs.Workings.Pieces.{chosen_piece};
+
+use crate::blocks::{BlockTool, over_blocks};
 use crate::faults::FlowFault;
 use ptlangs::jobs::CutJob;
 use ptlangs::ranges::Interval;
-use ptlines::{LineReader, Out, Sink, Source, Store, WriteFault, find_near};
+use ptlines::{LineReader, Out, Sink, Source, WriteFault, find_near};
 use std::alloc::Allocator;
 
 // Pushes the selected bytes of a piece of a line, the first `count` of these bytes, and then all the other bytes:
@@ -29,7 +32,7 @@ fn push_selected<W: Sink>(
     requires within { count ≤ length bytes.now }
     requires short { before + count < 2 ^ 63 }
     requires clean { out.old.faulted ≡ false }
-    ensures wrote { Wrote out.old out.new (chosen_from (is_selected selected.now) (before + 1) (take count bytes.now) ++ drop count bytes.now) }
+    ensures wrote { Wrote out.old out.new (chosen_piece selected.now before count bytes.now) }
     ensures clean { OnOk result (out.new.faulted ≡ false) }
     ensures fault { OnErr result (out.new.faulted ≡ true) }
 {
@@ -50,7 +53,7 @@ fn push_selected<W: Sink>(
 // Pushes what is written of a block, of whose first line `before` bytes came earlier. The answer is how many bytes
 // have come of the line that goes on behind the block. Apart, so that what the loop needs stays in registers.
 #[inline(never)]
-fn push_block<W: Sink>(
+fn push_pieces<W: Sink>(
     selected: &[Interval],
     ending: u8,
     before: u64,
@@ -60,9 +63,9 @@ fn push_block<W: Sink>(
     requires apart { AreApart 0 selected.now }
     requires short { before + length block.now < 2 ^ 63 }
     requires clean { out.old.faulted ≡ false }
-    ensures passes { IfOk result (λ after. Passes (cut_rest ending (is_selected selected.now)) before after block.now out.old out.new) }
+    ensures continues { IfOk result (λ after. Continues (rest_by ending selected.now) before after block.now out.old out.new) }
     ensures bound { IfOk result (λ after. after ≤ before + length block.now) }
-    ensures halts { OnErr result (Halts (cut_rest ending (is_selected selected.now)) before block.now out.old out.new) }
+    ensures halts { OnErr result (Halts (rest_by ending selected.now) before block.now out.old out.new) }
     ensures clean { OnOk result (out.new.faulted ≡ false) }
     ensures fault { OnErr result (out.new.faulted ≡ true) }
 {
@@ -77,17 +80,37 @@ fn push_block<W: Sink>(
     Ok(before + rest.len() as u64)
 }
 
-// Ends the last line, if one goes on.
-fn push_end<W: Sink>(ending: u8, before: u64, out: &mut Out<W>) -> Result<(), WriteFault>
-    requires { out.old.faulted ≡ false }
-    ensures wrote { Wrote out.old out.new (if before == 0 then [] else ending ∷ []) }
-    ensures clean { OnOk result (out.new.faulted ≡ false) }
-    ensures fault { OnErr result (out.new.faulted ≡ true) }
-{
-    if before == 0 {
-        return out.push(b"");
+/// What is selected of each line, the byte that ends a line, and how many bytes have come of the line that goes on.
+#[derive(Drop)]
+struct ByteCut<'a> {
+    selected: &'a [Interval],
+    ending: u8,
+    before: u64,
+}
+
+impl<'a> BlockTool for ByteCut<'a> {
+    ghost use Rattle.std.specs.Prelude.{◌≡◌};
+    ghost use Rattle.ptlangs.specs.CutLists.{AreApart};
+    ghost use Rattle.ptflow.specs.Workings.ByteRests.{rest_by};
+
+    ghost rest = { λ t. rest_by t.ending t.selected.now t.before };
+
+    ghost counted = { λ t. t.before };
+
+    ghost Holds = { λ s t. AreApart 0 t.selected.now × (t.selected.now ≡ s.selected.now) × (t.ending ≡ s.ending) };
+
+    fn push_block<W: Sink>(&mut self, block: &[u8], out: &mut Out<W>) -> Result<(), WriteFault> {
+        self.before = push_pieces(self.selected, self.ending, self.before, block, out)?;
+        Ok(())
     }
-    out.push(&[ending])
+
+    // Ends the last line, if one goes on.
+    fn push_end<W: Sink>(&self, out: &mut Out<W>) -> Result<(), WriteFault> {
+        if self.before == 0 {
+            return out.push(b"");
+        }
+        out.push(&[self.ending])
+    }
 }
 
 // Writes the selected bytes of each line of a reader, and behind each line the byte that ends it. No line is kept:
@@ -95,35 +118,18 @@ fn push_end<W: Sink>(ending: u8, before: u64, out: &mut Out<W>) -> Result<(), Wr
 pub(crate) fn cut_by_bytes<A: Allocator + Copy, S: Source, R: Source, W: Sink>(
     job: &CutJob<A>,
     reader: &mut LineReader<S, R>,
-    store: &mut Store<A>,
     out: &mut Out<W>,
 ) -> Result<(), FlowFault>
     requires by_bytes { job.now.fields ≡ false }
-    requires opened { reader.old.refused ≡ false }
+    requires ending { reader.old.ending ≡ (cut_job job.now).end }
     requires readable { reader.old.fault ≡ None }
-    requires unfailed { reader.old.failed ≡ false }
-    requires writable { out.old.faulted ≡ false }
-    requires roomy { store.old.denied ≡ false }
-    requires empty { total store.old.lines ≡ 0 }
-    ensures run { IsRun (cut reader.old.ending (cut_job job.now)) (cut_decided reader.old.ending (cut_job job.now)) (longest_line reader.old.ending) reader.old reader.new out.old out.new store.old store.new result }
-    ensures nothing_kept { store.new ≡ store.old }
-    ensures no_memory { result ≢ Err FlowFault.Memory }
+    requires clean { out.old.faulted ≡ false }
+    ensures { (store : Slots) → IsReady reader.old store → IsPass (cut_tool (cut_job job.now)) reader.old reader.new out.old out.new store store result }
 {
-    let ending = reader.ending();
-    let selected = job.list.intervals();
-    let mut before = 0;
-    'turns: loop {
-        let count = match reader.block() {
-            Ok(block) => {
-                if block.is_empty() {
-                    push_end(ending, before, out)?;
-                    return Ok(());
-                }
-                before = push_block(selected, ending, before, block, out)?;
-                block.len()
-            }
-            Err(_) => return Err(FlowFault::Read(0)),
-        };
-        reader.consume(count);
-    }
+    let mut tool = ByteCut {
+        selected: job.list.intervals(),
+        ending: reader.ending(),
+        before: 0,
+    };
+    over_blocks(&mut tool, reader, out)
 }

@@ -1,9 +1,8 @@
-ghost use Rattle.std.specs.Prelude.{◌≡◌, ◌≢◌, true, false, None, Err};
-ghost use Rattle.ptlines.specs.Slots.{total};
-ghost use Rattle.ptlines.specs.Text.{longest_line};
+//! `cut`.
+
 ghost use Rattle.ptlangs.specs.Jobs.{cut_job};
-ghost use Rattle.ptflow.specs.Cuts.{cut, cut_decided};
-ghost use Rattle.ptflow.specs.Runs.{IsRun};
+ghost use Rattle.ptflow.specs.Cuts.{cut_tool};
+ghost use Rattle.ptflow.specs.Passes.{IsReady, IsPass};
 
 use crate::bytes::cut_by_bytes;
 use crate::faults::FlowFault;
@@ -12,13 +11,14 @@ use ptlangs::jobs::CutJob;
 use ptlines::{LineReader, Out, Sink, Source, Store};
 use std::alloc::Allocator;
 
-/// Writes the selected parts of each line of a reader, and behind each line the byte that ends it (XCU, `cut`). A
-/// byte is a character, and `-n` changes nothing. Fields are written behind one another with the delimiter between
-/// them; a line without the delimiter is written whole, or not at all with `-s`. A line of which no field is
-/// selected is written as an empty line (this project's own choice).
+/// Writes the selected parts of each line of a reader, and behind each line the byte that ends it (XCU, `cut`): newline,
+/// or byte 0 with `-z` (this project's own choice). A byte is a character, and `-n` changes nothing. Fields are written
+/// behind one another with the delimiter between them; a line without the delimiter is written whole, or not at all with
+/// `-s`. A line of which no field is selected is written as an empty line (this project's own choice).
 ///
 /// For bytes nothing is kept, and the store stays as it was. For fields the first slot, which is added if the store
-/// has none, holds a line at a time. What is written of the lines that came is pushed before the next read.
+/// has none, holds a line at a time. What is written of the lines that came is pushed before the next read. On an output
+/// that has faulted nothing is read.
 /// # Errors
 /// `Read` or `Write` where a read or a write failed; `Memory` where a growth of the store was refused, and the store
 /// is then denied.
@@ -28,18 +28,15 @@ pub fn cut<A: Allocator + Copy, S: Source, R: Source, W: Sink>(
     store: &mut Store<A>,
     out: &mut Out<W>,
 ) -> Result<(), FlowFault>
-    requires opened { reader.old.refused ≡ false }
-    requires readable { reader.old.fault ≡ None }
-    requires unfailed { reader.old.failed ≡ false }
-    requires writable { out.old.faulted ≡ false }
-    requires roomy { store.old.denied ≡ false }
-    requires empty { total store.old.lines ≡ 0 }
-    ensures run { IsRun (cut reader.old.ending (cut_job job.now)) (cut_decided reader.old.ending (cut_job job.now)) (longest_line reader.old.ending) reader.old reader.new out.old out.new store.old store.new result }
-    ensures nothing_kept { job.now.fields ≡ false → store.new ≡ store.old }
-    ensures no_memory { job.now.fields ≡ false → result ≢ Err FlowFault.Memory }
+    requires { IsReady reader.old store.old }
+    ensures { IsPass (cut_tool (cut_job job.now)) reader.old reader.new out.old out.new store.old store.new result }
 {
+    if out.has_failed() {
+        return Err(FlowFault::Write);
+    }
+    reader.set_ending(job.zero);
     if job.fields {
         return cut_by_fields(job, reader, store, out);
     }
-    cut_by_bytes(job, reader, store, out)
+    cut_by_bytes(job, reader, out)
 }

@@ -1,13 +1,15 @@
+//! Why an engine stopped.
+
 use ptlines::WriteFault;
 
-/// Why a tool stopped. Nothing that was pushed before has to be taken back.
+/// Why an engine stopped. Nothing that was pushed before has to be taken back.
 #[derive(Clone, Copy, Debug, PartialEq, Eq)]
 pub enum FlowFault {
-    /// A read failed, or 2^63 bytes or more came. The number is the reader's place among those that were handed in.
+    /// 1: a read failed, or 2^63 bytes or more came. With it the reader's place among those that were handed in.
     Read(usize),
-    /// A write failed.
+    /// 2: a write failed.
     Write,
-    /// A growth of the store was refused; the store is denied.
+    /// 3: a growth of the store was refused; the store is denied.
     Memory,
 }
 

@@ -1,12 +1,13 @@
-ghost use Rattle.std.specs.Prelude.{◌≡◌, ◌<◌, ◌≤◌, ◌^◌, ◌++◌, length, take, drop, true, false, None, IfOk, OnOk, OnErr, MatchOption};
-ghost use Rattle.std.specs.List.{flat_map};
+//! `cut` by fields.
+
+ghost use Rattle.std.specs.Prelude.{◌≡◌, ◌<◌, ◌≤◌, ◌^◌, length, take, true, false, [], ◌∷◌, IfOk, OnOk, OnErr, MatchOption};
 ghost use Rattle.ptlines.specs.Outputs.{Wrote};
-ghost use Rattle.ptlines.specs.Slots.{total};
-ghost use Rattle.ptlines.specs.Text.{text, ended_lines, longest_line};
+ghost use Rattle.ptlines.specs.Text.{text, ended_lines};
 ghost use Rattle.ptlangs.specs.Jobs.{cut_job};
-ghost use Rattle.ptflow.specs.Cuts.{cut_fields, cut_line, is_kept, cut, cut_decided};
-ghost use Rattle.ptflow.specs.FieldPlaces.{fields, StartsAt};
-ghost use Rattle.ptflow.specs.Runs.{IsRun};
+ghost use Rattle.ptflow.specs.Cuts.{cut_lines, is_kept, cut_tool};
+ghost use Rattle.ptflow.specs.Passes.{IsReady, IsPass};
+ghost use Rattle.ptflow.specs.Workings.FieldPlaces.{fields, StartsAt};
+ghost use Rattle.ptflow.specs.Workings.Pieces.{fields_piece, line_piece};
 
 use crate::faults::FlowFault;
 use crate::slots::need_slots;
@@ -43,7 +44,7 @@ fn push_fields<A: Allocator + Copy, W: Sink>(
     requires within { count ≤ length bytes.now }
     requires short { length bytes.now < 2 ^ 63 }
     requires clean { out.old.faulted ≡ false }
-    ensures wrote { Wrote out.old out.new (cut_fields (cut_job job.now) (take count bytes.now) ++ drop count bytes.now) }
+    ensures wrote { Wrote out.old out.new (fields_piece (cut_job job.now) count bytes.now) }
     ensures clean { OnOk result (out.new.faulted ≡ false) }
     ensures fault { OnErr result (out.new.faulted ≡ true) }
 {
@@ -83,7 +84,7 @@ fn push_line<A: Allocator + Copy, W: Sink>(
     requires within { count ≤ length bytes.now }
     requires short { length bytes.now < 2 ^ 63 }
     requires clean { out.old.faulted ≡ false }
-    ensures wrote { Wrote out.old out.new (flat_map (λ line. line ++ drop count bytes.now) (cut_line (cut_job job.now) (take count bytes.now))) }
+    ensures wrote { Wrote out.old out.new (line_piece (cut_job job.now) count bytes.now) }
     ensures kept { IfOk result (λ kept. kept ≡ is_kept (cut_job job.now) (take count bytes.now)) }
     ensures clean { OnOk result (out.new.faulted ≡ false) }
     ensures fault { OnErr result (out.new.faulted ≡ true) }
@@ -109,9 +110,10 @@ fn push_lines<A: Allocator + Copy, W: Sink>(
     out: &mut Out<W>,
 ) -> Result<usize, WriteFault>
     requires by_fields { job.now.fields ≡ true }
+    requires ending { ending ≡ (cut_job job.now).end }
     requires short { length block.now < 2 ^ 63 }
     requires clean { out.old.faulted ≡ false }
-    ensures wrote { Wrote out.old out.new (text ending (flat_map (cut_line (cut_job job.now)) (ended_lines ending block.now))) }
+    ensures wrote { Wrote out.old out.new (cut_lines (cut_job job.now) (ended_lines ending block.now)) }
     ensures within { IfOk result (λ count. count ≤ length block.now) }
     ensures passed { IfOk result (λ count. take count block.now ≡ text ending (ended_lines ending block.now)) }
     ensures clean { OnOk result (out.new.faulted ≡ false) }
@@ -133,9 +135,10 @@ fn push_kept<A: Allocator + Copy, W: Sink>(
     out: &mut Out<W>,
 ) -> Result<(), WriteFault>
     requires by_fields { job.now.fields ≡ true }
+    requires ending { ending ≡ (cut_job job.now).end }
     requires short { length line.now < 2 ^ 63 }
     requires clean { out.old.faulted ≡ false }
-    ensures wrote { Wrote out.old out.new (text ending (cut_line (cut_job job.now) line.now)) }
+    ensures wrote { Wrote out.old out.new (cut_lines (cut_job job.now) (line.now ∷ [])) }
     ensures clean { OnOk result (out.new.faulted ≡ false) }
     ensures fault { OnErr result (out.new.faulted ≡ true) }
 {
@@ -155,13 +158,10 @@ pub(crate) fn cut_by_fields<A: Allocator + Copy, S: Source, R: Source, W: Sink>(
     out: &mut Out<W>,
 ) -> Result<(), FlowFault>
     requires by_fields { job.now.fields ≡ true }
-    requires opened { reader.old.refused ≡ false }
-    requires readable { reader.old.fault ≡ None }
-    requires unfailed { reader.old.failed ≡ false }
-    requires writable { out.old.faulted ≡ false }
-    requires roomy { store.old.denied ≡ false }
-    requires empty { total store.old.lines ≡ 0 }
-    ensures { IsRun (cut reader.old.ending (cut_job job.now)) (cut_decided reader.old.ending (cut_job job.now)) (longest_line reader.old.ending) reader.old reader.new out.old out.new store.old store.new result }
+    requires ending { reader.old.ending ≡ (cut_job job.now).end }
+    requires ready { IsReady reader.old store.old }
+    requires clean { out.old.faulted ≡ false }
+    ensures { IsPass (cut_tool (cut_job job.now)) reader.old reader.new out.old out.new store.old store.new result }
 {
     need_slots(store, 1)?;
     let ending = reader.ending();

@@ -1,6 +1,7 @@
-//! `cut` and `tr`, each over one input.
+//! The engines: what each tool does with one input. `cut` and `tr` so far.
 #![tactic(auto)]
 
+mod blocks;
 mod bytes;
 mod cutting;
 mod faults;

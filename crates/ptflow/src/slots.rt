@@ -1,5 +1,8 @@
-ghost use Rattle.std.specs.Prelude.{◌≡◌, ◌≤◌, length, true, false, Err, OnOk, OnErr};
+//! The slots that an engine uses.
+
+ghost use Rattle.std.specs.Prelude.{◌≡◌, true, false, Err, OnOk, OnErr};
 ghost use Rattle.ptlines.specs.Slots.{total};
+ghost use Rattle.ptflow.specs.Passes.{Adds};
 
 use crate::faults::FlowFault;
 use ptlines::Store;
@@ -11,7 +14,7 @@ pub(crate) fn need_slots<A: Allocator + Copy>(
     count: usize,
 ) -> Result<(), FlowFault>
     requires { store.old.denied ≡ false }
-    ensures ok { OnOk result (count ≤ length store.new.lines) }
+    ensures adds { Adds store.old store.new count }
     ensures allowed { OnOk result (store.new.denied ≡ false) }
     ensures err { OnErr result (result ≡ Err FlowFault.Memory) }
     ensures denied { OnErr result (store.new.denied ≡ true) }

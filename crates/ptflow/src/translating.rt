@@ -1,11 +1,13 @@
-ghost use Rattle.std.specs.Prelude.{◌≡◌, ◌≢◌, ◌≤◌, ℕ, length, take, true, false, None, Err, IfOk, OnOk, OnErr};
-ghost use Rattle.std.specs.List.{last_or};
-ghost use Rattle.ptlines.specs.Slots.{Slots, total};
-ghost use Rattle.ptlangs.specs.TrTables.{deletes, squeezes};
-ghost use Rattle.ptflow.specs.Rests.{Passes, Halts};
-ghost use Rattle.ptflow.specs.Runs.{IsRun};
-ghost use Rattle.ptflow.specs.Translating.{tr, tr_decided, tr_rest};
+//! `tr`.
 
+ghost use Rattle.std.specs.Prelude.{◌≡◌, ◌≢◌, ◌≤◌, ℕ, length, take, false, Err};
+ghost use Rattle.ptlines.specs.Slots.{Slots};
+ghost use Rattle.ptlangs.specs.TrTables.{deletes, squeezes};
+ghost use Rattle.ptflow.specs.Passes.{IsReady, IsPass, no_slots};
+ghost use Rattle.ptflow.specs.Translations.{tr_tool};
+ghost use Rattle.ptflow.specs.Workings.TrRests.{tr_rest};
+
+use crate::blocks::{BlockTool, over_blocks};
 use crate::faults::FlowFault;
 use ptlangs::CharPlan;
 use ptlines::{LineReader, Out, Sink, Source, WriteFault};
@@ -68,35 +70,47 @@ fn translate_by(
     }
 }
 
-// Pushes what is written of a block. The answer is the byte that was then written last, if any was.
-fn push_block<W: Sink>(
-    plan: &CharPlan,
+/// The plan, whether it deletes and whether it squeezes, the byte that was written last, if any was, and room for
+/// what is written of a block.
+#[derive(Drop)]
+struct Translator<'a> {
+    plan: &'a CharPlan,
     deleting: bool,
     squeezing: bool,
     last: Option<u8>,
-    block: &[u8],
-    into: &mut [u8; 8192],
-    out: &mut Out<W>,
-) -> Result<Option<u8>, WriteFault>
-    requires deleting { deleting ≡ false → (b : ℕ) → deletes plan.now b ≡ false }
-    requires squeezing { squeezing ≡ false → (b : ℕ) → squeezes plan.now b ≡ false }
-    requires room { length block.now ≤ 8192 }
-    requires clean { out.old.faulted ≡ false }
-    ensures passes { IfOk result (λ after. Passes (tr_rest plan.now) last after block.now out.old out.new) }
-    ensures halts { OnErr result (Halts (tr_rest plan.now) last block.now out.old out.new) }
-    ensures clean { OnOk result (out.new.faulted ≡ false) }
-    ensures fault { OnErr result (out.new.faulted ≡ true) }
-{
-    let count = translate_by(plan, deleting, squeezing, last, block, into);
-    let written = &into[..count];
-    out.push(written)?;
-    Ok(written.last().copied().or(last))
+    into: [u8; 8192],
+}
+
+impl<'a> BlockTool for Translator<'a> {
+    ghost use Rattle.std.specs.Prelude.{◌≡◌, ℕ, false};
+    ghost use Rattle.ptlangs.specs.TrTables.{deletes, squeezes};
+    ghost use Rattle.ptflow.specs.Workings.TrRests.{tr_rest};
+
+    ghost rest = { λ t. tr_rest t.plan.now t.last };
+
+    ghost counted = { λ t. 0 };
+
+    ghost Holds = { λ s t. (t.plan.now ≡ s.plan.now) × (t.deleting ≡ false → (b : ℕ) → deletes t.plan.now b ≡ false) × (t.squeezing ≡ false → (b : ℕ) → squeezes t.plan.now b ≡ false) };
+
+    fn push_block<W: Sink>(&mut self, block: &[u8], out: &mut Out<W>) -> Result<(), WriteFault> {
+        let count = translate_by(self.plan, self.deleting, self.squeezing, self.last, block, &mut self.into);
+        let written = &self.into[..count];
+        out.push(written)?;
+        self.last = written.last().copied().or(self.last);
+        Ok(())
+    }
+
+    // Nothing is left to write.
+    fn push_end<W: Sink>(&self, out: &mut Out<W>) -> Result<(), WriteFault> {
+        out.push(b"")
+    }
 }
 
 /// Writes each byte of a reader as the plan says (XCU, `tr`): the bytes that are not deleted, each replaced by its
 /// image, and of each run of one byte whose repeats are squeezed only the first. A byte is a character.
 ///
-/// No memory is taken. What is written of the bytes that came is pushed before the next read.
+/// No memory is taken. What is written of the bytes that came is pushed before the next read. On an output that has
+/// faulted nothing is read.
 /// # Errors
 /// `Read` or `Write` where a read or a write failed.
 pub fn tr<S: Source, R: Source, W: Sink>(
@@ -104,28 +118,19 @@ pub fn tr<S: Source, R: Source, W: Sink>(
     reader: &mut LineReader<S, R>,
     out: &mut Out<W>,
 ) -> Result<(), FlowFault>
-    requires opened { reader.old.refused ≡ false }
-    requires readable { reader.old.fault ≡ None }
-    requires unfailed { reader.old.failed ≡ false }
-    requires writable { out.old.faulted ≡ false }
-    ensures run { (store : Slots) → store.denied ≡ false → total store.lines ≡ 0 → IsRun (tr plan.now) (tr_decided plan.now) (λ text. 0) reader.old reader.new out.old out.new store store result }
+    requires { IsReady reader.old no_slots }
+    ensures pass { (store : Slots) → IsReady reader.old store → IsPass (tr_tool plan.now) reader.old reader.new out.old out.new store store result }
     ensures no_memory { result ≢ Err FlowFault.Memory }
 {
-    let deleting = plan.deleted().contains(&true);
-    let squeezing = plan.squeezed().contains(&true);
-    let mut into = [0; 8192];
-    let mut last = None;
-    'turns: loop {
-        let count = match reader.block() {
-            Ok(block) => {
-                if block.is_empty() {
-                    return Ok(());
-                }
-                last = push_block(plan, deleting, squeezing, last, block, &mut into, out)?;
-                block.len()
-            }
-            Err(_) => return Err(FlowFault::Read(0)),
-        };
-        reader.consume(count);
+    if out.has_failed() {
+        return Err(FlowFault::Write);
     }
+    let mut tool = Translator {
+        plan,
+        deleting: plan.deleted().contains(&true),
+        squeezing: plan.squeezed().contains(&true),
+        last: None,
+        into: [0; 8192],
+    };
+    over_blocks(&mut tool, reader, out)
 }

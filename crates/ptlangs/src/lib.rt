@@ -14,8 +14,6 @@ mod pieces;
 mod places;
 mod plan;
 pub mod ranges;
-#[cfg(test)]
-mod refusing;
 mod second;
 mod units;
 

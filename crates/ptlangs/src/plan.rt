@@ -285,6 +285,3 @@ impl CharPlan {
 pub fn tables_hold_the_plan()
     ensures { HoldPlan }
 {}
-
-#[cfg(test)]
-mod tests;

@@ -8,10 +8,6 @@ mod grammar;
 mod inputs;
 mod operands;
 mod reading;
-#[cfg(test)]
-mod refusing;
-#[cfg(test)]
-mod tests;
 mod tool;
 mod values;
 

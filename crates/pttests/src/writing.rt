@@ -139,6 +139,7 @@ fn a_block_is_staged(rt: HostRuntime) -> Result<(), Fail> {
 
 // After a fault each call answers it, and nothing more is sent.
 fn stays_faulted(rt: &impl Abort, out: &mut Out<Kept>) {
+    assert!(rt; out.has_failed());
     assert_eq!(rt; out.push(b"more"), Err(WriteFault::Write));
     assert_eq!(rt; out.push(b""), Err(WriteFault::Write));
     assert_eq!(rt; out.finish(), Err(WriteFault::Write));
@@ -212,6 +213,7 @@ fn a_sink_with_no_memory(rt: HostRuntime) {
     assert_eq!(rt; out.push(b"abcdef"), Ok(()));
     assert_eq!(rt; out.finish(), Ok(()));
     assert_eq!(rt; out.push(b"!"), Ok(()));
+    assert!(rt; !out.has_failed());
     assert_eq!(rt; out.finish(), Err(WriteFault::Write));
     let fixed = out.into_sink();
     assert_eq!(rt; fixed.bytes(), b"0123456789abcdef".as_slice());

@@ -3,7 +3,7 @@ use Rattle.std.specs.Option.{option_eq}
 use Rattle.std.proofs.Math.ListN.{length-set}
 use Rattle.std.proofs.lemmas.List.{drop_all}
 use Rattle.ptlangs.specs.TrTables.{deletes, image, squeezes}
-use Rattle.ptflow.specs.Translating.{tr_rest}
+use Rattle.ptflow.specs.Workings.TrRests.{tr_rest}
 use Rattle.ptflow.proofs.TrRests.{Written, written_step, written_all, small, not_both}
 use Rattle.ptflow.proofs.translating.translate.Goals as goal
 use Rattle.ptflow.proofs.translating.translate.Goals.{then-deleting, else-deleting, then-squeezing, else-squeezing, then-gone, else-gone}

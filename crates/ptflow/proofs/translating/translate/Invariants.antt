@@ -1,5 +1,5 @@
 use Rattle.std.proofs.Common.{◌≡◌, ◌≤◌, length, drop}
-use Rattle.ptflow.specs.Translating.{tr_rest}
+use Rattle.ptflow.specs.Workings.TrRests.{tr_rest}
 use Rattle.ptflow.proofs.TrRests.{Written}
 use Rattle.ptflow.proofs.translating.translate.Given as goal
 

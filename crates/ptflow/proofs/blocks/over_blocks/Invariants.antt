@@ -1,0 +1,14 @@
+use Rattle.std.proofs.Common.{◌≤◌, ◌-◌, length}
+use Rattle.ptlines.specs.Readers.{budget}
+use Rattle.ptflow.proofs.PassLemmas.{Midway}
+use Rattle.ptflow.proofs.blocks.over_blocks.Given as goal
+
+abbrev pub invariant-turns : goal.invariant-turns
+invariant-turns g l = record {
+  midway : Midway g.T.BlockTool.rest l.fn.tool l.tool l.fn.reader l.reader l.fn.out l.out;
+  holds : g.T.BlockTool.Holds l.fn.tool l.tool;
+  counted : g.T.BlockTool.counted l.tool ≤ l.reader.pulled - length l.reader.held;
+}
+
+abbrev pub decreases-turns : goal.decreases-turns
+decreases-turns g l = budget l.reader

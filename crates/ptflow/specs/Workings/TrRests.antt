@@ -1,0 +1,13 @@
+-- What `tr` writes of the rest of a text.
+use Rattle.std.specs.Prelude.{ℕ, List, Bool, Option, None, Some}
+use Rattle.ptlangs.specs.TrTables.{Tables, squeezes}
+use Rattle.ptflow.specs.Translations.{squeeze_behind, squeeze, translated}
+
+-- the bytes that stay, where `last` stands in front, if there is such a byte
+abbrev pub squeeze_from : (ℕ → Bool) → Option ℕ → List ℕ → List ℕ
+squeeze_from squeezed None bytes = squeeze squeezed bytes
+squeeze_from squeezed (Some last) bytes = squeeze_behind squeezed last bytes
+
+-- what is written of the rest of a text, where `last` was written last, if anything was
+abbrev pub tr_rest : Tables → Option ℕ → List ℕ → List ℕ
+tr_rest tables last rest = squeeze_from (squeezes tables) last (translated tables rest)

@@ -1,0 +1,72 @@
+//! The loop of the tools that work block by block, and keep nothing in a store.
+
+ghost use Rattle.std.specs.Prelude.{◌≡◌, ◌<◌, ◌≤◌, ◌+◌, ◌^◌, ℕ, List, [], length, false, true, None, OnOk, OnErr};
+ghost use Rattle.ptlines.specs.Outputs.{Wrote};
+ghost use Rattle.ptlines.specs.Slots.{Slots};
+ghost use Rattle.ptflow.specs.Passes.{IsReady, IsPass};
+ghost use Rattle.ptflow.specs.Tools.{Tool};
+ghost use Rattle.ptflow.specs.Workings.Blocks.{IsBlockTool};
+ghost use Rattle.ptflow.specs.Workings.Continuations.{Continues, Halts};
+
+use crate::faults::FlowFault;
+use ptlines::{LineReader, Out, Sink, Source, WriteFault};
+
+/// Such a tool, with what it carries from block to block.
+pub(crate) trait BlockTool: Drop {
+    /// What is written of the rest of an input.
+    ghost rest: { Self → List ℕ → List ℕ };
+
+    /// How many bytes it may have counted.
+    ghost counted: { Self → ℕ };
+
+    /// What is true of it, where it was the first at the start.
+    ghost Holds: { Self → Self → Type 0 };
+
+    /// Pushes what is written of a block.
+    fn push_block<W: Sink>(&mut self, block: &[u8], out: &mut Out<W>) -> Result<(), WriteFault>
+        requires room { length block.now ≤ 8192 }
+        requires short { counted self.old + length block.now < 2 ^ 63 }
+        requires holds { (start : Self) × Holds start self.old }
+        requires clean { out.old.faulted ≡ false }
+        ensures continues { OnOk result (Continues rest self.old self.new block.now out.old out.new) }
+        ensures counts { counted self.new ≤ counted self.old + length block.now }
+        ensures holds { (start : Self) → Holds start self.old → Holds start self.new }
+        ensures halts { OnErr result (Halts rest self.old block.now out.old out.new) }
+        ensures clean { OnOk result (out.new.faulted ≡ false) }
+        ensures fault { OnErr result (out.new.faulted ≡ true) };
+
+    /// Pushes what is written at the end.
+    fn push_end<W: Sink>(&self, out: &mut Out<W>) -> Result<(), WriteFault>
+        requires { out.old.faulted ≡ false }
+        ensures wrote { Wrote out.old out.new (rest self.now []) }
+        ensures clean { OnOk result (out.new.faulted ≡ false) }
+        ensures fault { OnErr result (out.new.faulted ≡ true) };
+}
+
+/// Goes over the blocks of a reader.
+pub(crate) fn over_blocks<T: BlockTool, S: Source, R: Source, W: Sink>(
+    tool: &mut T,
+    reader: &mut LineReader<S, R>,
+    out: &mut Out<W>,
+) -> Result<(), FlowFault>
+    requires fresh { T.counted tool.old ≡ 0 }
+    requires holds { T.Holds tool.old tool.old }
+    requires readable { reader.old.fault ≡ None }
+    requires clean { out.old.faulted ≡ false }
+    ensures { (t : Tool) (store : Slots) → IsBlockTool t T.rest T.Holds tool.old → IsReady reader.old store → IsPass t reader.old reader.new out.old out.new store store result }
+{
+    'turns: loop {
+        let count = match reader.block() {
+            Ok(block) => {
+                if block.is_empty() {
+                    tool.push_end(out)?;
+                    return Ok(());
+                }
+                tool.push_block(block, out)?;
+                block.len()
+            }
+            Err(_) => return Err(FlowFault::Read(0)),
+        };
+        reader.consume(count);
+    }
+}

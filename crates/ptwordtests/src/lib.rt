@@ -1,0 +1,17 @@
+//! Tests of the words of commands, and of what stands in them.
+#![tactic(auto)]
+
+#[cfg(test)]
+mod delims;
+#[cfg(test)]
+mod jobs;
+#[cfg(test)]
+mod numbers;
+#[cfg(test)]
+mod outlist;
+#[cfg(test)]
+mod ranges;
+#[cfg(test)]
+mod strings;
+#[cfg(test)]
+mod words;

@@ -1,0 +1,93 @@
+//! Output lists of `join`.
+
+use ptfakes::Refusing;
+use ptlangs::outlist::{File, OutFault, OutField, OutList};
+use std::test::Fail;
+
+const ACCEPTED: &[(&[u8], &[OutField])] = &[
+    (
+        b"0,1.2,2.2",
+        &[
+            OutField::Join,
+            OutField::Field(File::First, 2),
+            OutField::Field(File::Second, 2),
+        ],
+    ),
+    (b"0", &[OutField::Join]),
+    (
+        b"2.18446744073709551615\t1.007 0",
+        &[
+            OutField::Field(File::Second, u64::MAX),
+            OutField::Field(File::First, 7),
+            OutField::Join,
+        ],
+    ),
+    (b"0 0", &[OutField::Join, OutField::Join]),
+];
+
+const REFUSED: &[(&[u8], OutFault)] = &[
+    (b"", OutFault::Empty),
+    (b"0,,1.1", OutFault::Empty),
+    (b"1.1,", OutFault::Empty),
+    (b" 0", OutFault::Empty),
+    (b"1.0", OutFault::Zero),
+    (b"2.000", OutFault::Zero),
+    (b"1.", OutFault::Malformed),
+    (b"1", OutFault::Malformed),
+    (b"12", OutFault::Malformed),
+    (b"00", OutFault::Malformed),
+    (b"0.1", OutFault::Malformed),
+    (b"3.1", OutFault::Malformed),
+    (b"1.x", OutFault::Malformed),
+    (b"1.-1", OutFault::Malformed),
+    (b"1.2.3", OutFault::Malformed),
+    (b"1.99999999999999999999x", OutFault::Malformed),
+    (b"2.18446744073709551616", OutFault::TooLarge),
+    (b"0,1.0,x", OutFault::Zero),
+];
+
+#[test]
+fn keeps_the_fields(rt: HostRuntime) -> Result<(), Fail> {
+    for (list, fields) in ACCEPTED {
+        let read = OutList::read(rt.alloc(), list)?;
+        assert_eq!(rt; read.fields(), *fields);
+    }
+    Ok(())
+}
+
+#[test]
+fn refuses_by_the_first_faulty_element(rt: HostRuntime) {
+    for (list, fault) in REFUSED {
+        match OutList::read(rt.alloc(), list) {
+            Ok(_) => assert!(rt; false),
+            Err(found) => assert_eq!(rt; found, *fault),
+        }
+    }
+}
+
+#[test]
+fn tells_the_fields_as_numbers(rt: HostRuntime) -> Result<(), Fail> {
+    let list = OutList::read(rt.alloc(), b"0,1.2,2.3")?;
+    assert_eq!(rt; list.at(0), Some((0, 0)));
+    assert_eq!(rt; list.at(1), Some((1, 2)));
+    assert_eq!(rt; list.at(2), Some((2, 3)));
+    assert_eq!(rt; list.at(3), None);
+    assert_eq!(rt; list.at(usize::MAX), None);
+    Ok(())
+}
+
+#[test]
+fn each_growth_refused_in_turn(rt: HostRuntime) {
+    let mut refused = 0u64;
+    for passed in 0..8u64 {
+        let alloc = Refusing::after(rt.alloc(), passed);
+        match OutList::read(&alloc, b"0,1.1,1.2,1.3,2.1,2.2") {
+            Ok(list) => assert_eq!(rt; list.at(5), Some((2, 2))),
+            Err(fault) => {
+                assert_eq!(rt; fault, OutFault::Memory);
+                refused = refused.wrapping_add(1);
+            }
+        }
+    }
+    assert_eq!(rt; refused, 2);
+}

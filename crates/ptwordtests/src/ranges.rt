@@ -1,0 +1,145 @@
+//! Lists of `cut`.
+
+use ptfakes::Refusing;
+use ptlangs::ranges::{Interval, ListFault, Ranges};
+use std::test::Fail;
+
+struct Accepted {
+    list: &'static [u8],
+    kept: &'static [Interval],
+}
+
+const ACCEPTED: &[Accepted] = &[
+    Accepted {
+        list: b"3-,1",
+        kept: &[
+            Interval { first: 1, last: 1 },
+            Interval {
+                first: 3,
+                last: u64::MAX,
+            },
+        ],
+    },
+    Accepted {
+        list: b"2,2,1",
+        kept: &[Interval { first: 1, last: 2 }],
+    },
+    Accepted {
+        list: b"5",
+        kept: &[Interval { first: 5, last: 5 }],
+    },
+    Accepted {
+        list: b"-2",
+        kept: &[Interval { first: 1, last: 2 }],
+    },
+    Accepted {
+        list: b"7-9 1-3\t2-5",
+        kept: &[
+            Interval { first: 1, last: 5 },
+            Interval { first: 7, last: 9 },
+        ],
+    },
+    Accepted {
+        list: b"4-6,1-3",
+        kept: &[Interval { first: 1, last: 6 }],
+    },
+    Accepted {
+        list: b"1-9,3-4,20-",
+        kept: &[
+            Interval { first: 1, last: 9 },
+            Interval {
+                first: 20,
+                last: u64::MAX,
+            },
+        ],
+    },
+    Accepted {
+        list: b"00012-013",
+        kept: &[Interval {
+            first: 12,
+            last: 13,
+        }],
+    },
+    Accepted {
+        list: b"18446744073709551615",
+        kept: &[Interval {
+            first: u64::MAX,
+            last: u64::MAX,
+        }],
+    },
+    Accepted {
+        list: b"2-,18446744073709551615-,-1",
+        kept: &[Interval {
+            first: 1,
+            last: u64::MAX,
+        }],
+    },
+];
+
+const REFUSED: &[(&[u8], ListFault)] = &[
+    (b"", ListFault::Empty),
+    (b"1,,2", ListFault::Empty),
+    (b"1,", ListFault::Empty),
+    (b" 1", ListFault::Empty),
+    (b"0", ListFault::Zero),
+    (b"0-3", ListFault::Zero),
+    (b"-0", ListFault::Zero),
+    (b"3-0", ListFault::Zero),
+    (b"3-1", ListFault::Descending),
+    (b"1,3-2,0", ListFault::Descending),
+    (b"18446744073709551616", ListFault::TooLarge),
+    (b"0-18446744073709551616", ListFault::TooLarge),
+    (b"-", ListFault::Malformed),
+    (b"1-2-3", ListFault::Malformed),
+    (b"a", ListFault::Malformed),
+    (b"99999999999999999999-x", ListFault::Malformed),
+    (b"1--", ListFault::Malformed),
+    (b"+1", ListFault::Malformed),
+    (b"1;2", ListFault::Malformed),
+];
+
+#[test]
+fn keeps_the_selected_numbers(rt: HostRuntime) -> Result<(), Fail> {
+    for row in ACCEPTED {
+        let ranges = Ranges::read(rt.alloc(), row.list)?;
+        assert_eq!(rt; ranges.intervals(), row.kept);
+    }
+    Ok(())
+}
+
+#[test]
+fn refuses_by_the_first_faulty_element(rt: HostRuntime) {
+    for (list, fault) in REFUSED {
+        match Ranges::read(rt.alloc(), list) {
+            Ok(_) => assert!(rt; false),
+            Err(found) => assert_eq!(rt; found, *fault),
+        }
+    }
+}
+
+#[test]
+fn tells_selected_numbers(rt: HostRuntime) -> Result<(), Fail> {
+    let ranges = Ranges::read(rt.alloc(), b"3-,1")?;
+    assert!(rt; ranges.contains(1));
+    assert!(rt; !ranges.contains(2));
+    assert!(rt; ranges.contains(3));
+    assert!(rt; ranges.contains(u64::MAX));
+    assert!(rt; !ranges.contains(0));
+    Ok(())
+}
+
+#[test]
+fn each_growth_refused_in_turn(rt: HostRuntime) {
+    let mut refused = 0u64;
+    for passed in 0..8u64 {
+        let alloc = Refusing::after(rt.alloc(), passed);
+        match Ranges::read(&alloc, b"1,3,5,7,9,11") {
+            Ok(ranges) => assert!(rt; ranges.contains(11)),
+            Err(fault) => {
+                assert_eq!(rt; fault, ListFault::Memory);
+                refused = refused.wrapping_add(1);
+            }
+        }
+    }
+    assert_eq!(rt; refused, 4);
+}
