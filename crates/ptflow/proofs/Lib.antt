@@ -11,3 +11,6 @@ pub mod PasteRows
 pub mod UniqRows
 pub mod UniqKeys
 pub mod OpenRuns
+pub mod LinesCame
+pub mod TwoSlots
+pub mod UniqPasses

@@ -1,7 +1,8 @@
 -- The runs of lines, from the first line on.
-use Rattle.std.proofs.Common.{◌≡◌, ℕ, zero, suc, ◌+◌, ◌==◌, ◌<◌, ◌&&◌, Bool, true, false, cond, List, [], ◌∷◌, ◌++◌, refl, sym, ◌∙◌, ap, append_assoc, add-one}
+use Rattle.std.proofs.Common.{◌≡◌, ℕ, zero, suc, ◌+◌, ◌==◌, ◌&&◌, Bool, true, false, cond, List, [], ◌∷◌, ◌++◌, refl, sym, ◌∙◌, ap, append_assoc, arith}
 use Rattle.std.specs.Prelude.{bytes_eq, nat_lt, decimal}
 use Rattle.std.specs.List.{flat_map}
+use Rattle.std.proofs.lemmas.Bool.Decides.{nat_tests}
 use Rattle.std.proofs.lemmas.List.{append-nil}
 use Rattle.std.proofs.lemmas.List.Concat.{flat_map-append}
 use Rattle.std.proofs.lemmas.Slice.Eq.{bytes_eq-Decides}
@@ -13,6 +14,12 @@ use Rattle.ptlangs.specs.declared.jobs.Show.{Show}
 use Rattle.ptlangs.specs.declared.jobs.Show.TheVariants.{All, Counts, Repeated, Single}
 use Rattle.ptflow.specs.Uniqs.{Run, key, is_same, onto_runs, runs, shown, entries, all_but_last}
 use Rattle.ptflow.specs.Workings.OpenRuns.{open_run, runs_from, runs_behind, is_shown, lead, run_text}
+
+some_lines : (n : ℕ) → nat_lt 0 (n + 1) ≡ true
+some_lines n = grind (arith, nat_tests)
+
+some_line : (n : ℕ) → nat_lt 0 (suc n) ≡ true
+some_line n = grind (arith, nat_tests)
 
 abbrev pub run_of : List ℕ → ℕ → Run
 run_of line count = record { line = line; count = count }
@@ -58,20 +65,20 @@ module _ (job : Uniq) where
   -- ---- one line more
 
   pub behind_more : (run : Run) (line : List ℕ) (more : List (List ℕ)) → (nat_lt 0 run.count && is_same job run.line line) ≡ true → runs_behind job run (line ∷ more) ≡ runs_behind job (run_of run.line (run.count + 1)) more
-  behind_more run line more goes = by_count run.count goes
+  behind_more run line more goes = by_tests (nat_lt 0 run.count) (is_same job run.line line) goes ∙ ap (λ (t : Bool). cond t (runs_from job (run_of run.line (run.count + 1)) more) (runs job more)) (sym (some_lines run.count))
     where
-      by_count : (n : ℕ) → (nat_lt 0 n && is_same job run.line line) ≡ true
-          → cond (n == 0) (runs job (line ∷ more)) (chosen line more run.line n (is_same job run.line line)) ≡ runs_behind job (run_of run.line (n + 1)) more
-      by_count zero goes = cc
-      by_count (suc n) goes = ap (chosen line more run.line (suc n)) goes ∙ rw add-one refl
+      by_tests : (t s : Bool) → (t && s) ≡ true → cond t (chosen line more run.line run.count s) (runs job (line ∷ more)) ≡ runs_from job (run_of run.line (run.count + 1)) more
+      by_tests true true goes = refl
+      by_tests true false goes = cc
+      by_tests false s goes = cc
 
   pub behind_turn : (run : Run) (line : List ℕ) (more : List (List ℕ)) → (nat_lt 0 run.count && is_same job run.line line) ≡ false → runs_behind job run (line ∷ more) ≡ open_run run ++ runs_behind job (run_of line 1) more
-  behind_turn run line more turns = by_count run.count turns
+  behind_turn run line more turns = by_tests (nat_lt 0 run.count) (is_same job run.line line) turns
     where
-      by_count : (n : ℕ) → (nat_lt 0 n && is_same job run.line line) ≡ false
-          → cond (n == 0) (runs job (line ∷ more)) (chosen line more run.line n (is_same job run.line line)) ≡ cond (n == 0) [] (run_of run.line n ∷ []) ++ runs_from job (run_of line 1) more
-      by_count zero turns = runs_are line more
-      by_count (suc n) turns = ap (chosen line more run.line (suc n)) turns
+      by_tests : (t s : Bool) → (t && s) ≡ false → cond t (chosen line more run.line run.count s) (runs job (line ∷ more)) ≡ cond t (run ∷ []) [] ++ runs_from job (run_of line 1) more
+      by_tests true true turns = cc
+      by_tests true false turns = refl
+      by_tests false s turns = runs_are line more
 
   -- ---- what is written
 
@@ -86,16 +93,22 @@ open_is job run = by_show job.show run.count
     by_test true = append-nil (run.line ++ job.end ∷ [])
     by_test false = refl
 
-    by_show : (show : Show) (n : ℕ) → text job.end (flat_map (shown show) (cond (n == 0) [] (run_of run.line n ∷ []))) ≡ cond (is_shown show n) (lead show n ++ (run.line ++ job.end ∷ [])) []
-    by_show All zero = refl
-    by_show All (suc n) = append-nil (run.line ++ job.end ∷ [])
-    by_show Counts zero = refl
-    by_show Counts (suc n) =
-        append-nil ((decimal (suc n) ++ 32 ∷ run.line) ++ job.end ∷ []) ∙ append_assoc (decimal (suc n)) (32 ∷ run.line) (job.end ∷ []) ∙ sym (append_assoc (decimal (suc n)) (32 ∷ []) (run.line ++ job.end ∷ []))
+    one : (n : ℕ) (t : Bool) → text job.end (flat_map (shown All) (cond t (run_of run.line n ∷ []) [])) ≡ cond t (run.line ++ job.end ∷ []) []
+    one n true = append-nil (run.line ++ job.end ∷ [])
+    one n false = refl
+
+    counted : (n : ℕ) (t : Bool) → text job.end (flat_map (shown Counts) (cond t (run_of run.line n ∷ []) [])) ≡ cond t ((decimal n ++ 32 ∷ []) ++ (run.line ++ job.end ∷ [])) []
+    counted n true =
+        append-nil ((decimal n ++ 32 ∷ run.line) ++ job.end ∷ []) ∙ append_assoc (decimal n) (32 ∷ run.line) (job.end ∷ []) ∙ sym (append_assoc (decimal n) (32 ∷ []) (run.line ++ job.end ∷ []))
+    counted n false = refl
+
+    by_show : (show : Show) (n : ℕ) → text job.end (flat_map (shown show) (cond (nat_lt 0 n) (run_of run.line n ∷ []) [])) ≡ cond (is_shown show n) (lead show n ++ (run.line ++ job.end ∷ [])) []
+    by_show All n = one n (nat_lt 0 n)
+    by_show Counts n = counted n (nat_lt 0 n)
     by_show Repeated zero = refl
-    by_show Repeated (suc n) = by_test (nat_lt 1 (suc n))
+    by_show Repeated (suc n) = rw (some_line n) (by_test (nat_lt 1 (suc n)))
     by_show Single zero = refl
-    by_show Single (suc n) = by_test (suc n == 1)
+    by_show Single (suc n) = rw (some_line n) (by_test (suc n == 1))
 
 -- ---- all but the last
 
@@ -111,14 +124,14 @@ but_front (r ∷ q ∷ rs) = let f = but_front (q ∷ rs) in (f.0, ap (λ (l : L
 
 -- all runs but an open one were passed, or all but the last of them
 pub but_open : (job : Uniq) (passed : List Run) (run : Run) → Begins (entries job (all_but_last (passed ++ open_run run))) (entries job passed)
-but_open job passed run = by_test (run.count == 0)
+but_open job passed run = by_test (nat_lt 0 run.count)
   where
-    by_test : (t : Bool) → Begins (entries job (all_but_last (passed ++ cond t [] (run ∷ [])))) (entries job passed)
-    by_test true = let f = but_front passed in record {
+    by_test : (t : Bool) → Begins (entries job (all_but_last (passed ++ cond t (run ∷ []) []))) (entries job passed)
+    by_test false = let f = but_front passed in record {
       rest = entries job f.0;
       is = ap (entries job) f.1 ∙ entries-append job (all_but_last passed) f.0 ∙ ap (λ (l : List Run). entries job (all_but_last l) ++ entries job f.0) (sym (append-nil passed));
     }
-    by_test false = record {
+    by_test true = record {
       rest = [];
       is = sym (append-nil (entries job passed)) ∙ ap (λ (l : List Run). entries job l ++ []) (sym (but_push passed run));
     }

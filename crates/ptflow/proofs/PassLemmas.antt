@@ -1,6 +1,6 @@
 -- How a pass of any tool over one input ends. Midway, what was pushed stands in front of what is written of the rest,
 -- whatever comes; exactness, the beginning for each agreeing input, and what is decided are three readings of that.
-use Rattle.std.proofs.Common.{◌≡◌, ⊎_elim, inl, inr, ℕ, ◌≤◌, ◌<◌, ◌^◌, true, false, List, [], ◌++◌, None, Result, Ok, Err, length, max, refl, sym, ◌∙◌, ap, arith, append_assoc}
+use Rattle.std.proofs.Common.{◌≡◌, ⊎_elim, inl, inr, ℕ, ◌≤◌, ◌<◌, ◌^◌, true, false, List, [], ◌++◌, None, Result, Ok, Err, length, max, refl, sym, ◌∙◌, ap, subst, arith, append_assoc}
 use Rattle.std.proofs.lemmas.List.{append-nil}
 use Rattle.std.proofs.lemmas.Bool.{false≢true}
 use Rattle.ptlines.specs.Readers.{Reader, Reads, Goes, IsDone, IsSound, HasReadCause}
@@ -8,22 +8,21 @@ use Rattle.ptlines.specs.Inputs.{Given, Begins, Agrees}
 use Rattle.ptlines.specs.Outputs.{Output, Wrote}
 use Rattle.ptlines.specs.Slots.{Slots, total}
 use Rattle.ptlines.proofs.Filling.{reads_trans}
-use Rattle.ptlines.proofs.Pushed.{wrote_trans}
+use Rattle.ptlines.proofs.Pushed.{wrote_nothing, wrote_trans}
 use Rattle.ptflow.specs.Tools.{Tool}
 use Rattle.ptflow.specs.Passes.{IsReady, Ends, Adds, IsPass}
 use Rattle.ptflow.specs.declared.faults.FlowFault.{FlowFault}
 use Rattle.ptflow.specs.declared.faults.FlowFault.TheVariants.{Read, Write, Memory}
-use Rattle.ptflow.proofs.ReaderFacts.{nothing_pushed, goes_nothing, given_of, came_of, done_gives_nothing, never_failed}
+use Rattle.ptflow.proofs.ReaderFacts.{goes_nothing, given_of, came_of, done_gives_nothing, never_failed}
 
 -- these bytes were given, and those pushed
 pub record Reached (old reader : Reader) (was is : Output) (given pushed : List ℕ) : Type 0 where
   pub goes : Goes old reader given
   pub wrote : Wrote was is pushed
-  pub writable : was.faulted ≡ false
   pub clean : is.faulted ≡ false
 
 pub reached_nothing : (old : Reader) (was : Output) → old.fault ≡ None → was.faulted ≡ false → Reached old old was was [] []
-reached_nothing old was readable clean = record { goes = goes_nothing old readable; wrote = nothing_pushed was clean; writable = clean; clean = clean }
+reached_nothing old was readable clean = record { goes = goes_nothing old readable; wrote = wrote_nothing was; clean = clean }
 
 -- Midway through an input: after the end of it nothing can come, and else anything.
 pub record Midway {X : Type 0} (rest_from : X → List ℕ → List ℕ) (start now : X) (old reader : Reader) (was is : Output) : Type 0 where
@@ -47,12 +46,12 @@ stored_nothing tool store given none = record {
 }
 
 -- on an output that has faulted nothing is done
-pub pass_halted : (tool : Tool) (old : Reader) (was : Output) (before : Slots) → IsReady old before → Wrote was was [] → was.faulted ≡ true → IsPass tool old old was was before before (Err Write)
-pass_halted tool old was before ready wrote fault = record {
+pub pass_halted : (tool : Tool) (old : Reader) (was : Output) (before : Slots) → IsReady old before → was.faulted ≡ true → IsPass tool old old was was before before (Err Write)
+pass_halted tool old was before ready fault = record {
   given = given_of [] old;
   came = came_of old old [] (goes_nothing old ready.readable).reads;
   pushed = [];
-  wrote = wrote;
+  wrote = wrote_nothing was;
   ends = record { faulted = fault; failed = refl; denied = ready.roomy };
   true_so_far = λ input a. record { rest = tool.text input; is = refl };
   sure = λ failed clean. absurd (false≢true (sym clean ∙ fault));
@@ -62,6 +61,12 @@ pass_halted tool old was before ready wrote fault = record {
   unused = λ none. refl;
   halted = λ h. record { told = refl; same_reader = refl; same_output = refl; same_store = refl };
 }
+
+-- a tool that is lent a store that is not denied, and leaves it alone, tells no want of memory
+pub never_memory : (tool : Tool) (old new : Reader) (was is : Output) (store : Slots) (result : Result (Unit {0}) FlowFault) → store.denied ≡ false → IsPass tool old new was is store store result → result ≡ Err Memory → ⊥
+never_memory tool old new was is store result roomy p e =
+    let ends : Ends old new is store (Err Memory) = subst (λ (r : Result (Unit {0}) FlowFault). Ends old new is store r) e p.ends in
+    false≢true (sym roomy ∙ ends.denied)
 
 ends_from_ending : (old new : Reader) (is : Output) (store : Slots) (result : Result (Unit {0}) FlowFault) (end : ℕ) → Ends (record old { ending = end }) new is store result → Ends old new is store result
 ends_from_ending old new is store (Ok u) end e = record { done = e.done; fault = e.fault; failed = e.failed; clean = e.clean; denied = e.denied; empty = e.empty; short = e.short }
@@ -121,7 +126,7 @@ module _ {X : Type 0} (rest_from : X → List ℕ → List ℕ) (start : X) (too
     peak = stored.peak;
     slots = λ clean. stored.adds;
     unused = stored.unused;
-    halted = λ fault. absurd (false≢true (sym m.reached.writable ∙ fault));
+    halted = λ fault. absurd (false≢true (sym m.reached.clean ∙ ap (λ (o : Output). o.faulted) (m.reached.wrote.stays fault) ∙ fault));
   }
 
   begins : (input : List ℕ) → Agrees (given_of (m.given ++ piece) new) input → Begins m.pushed (tool.text input)

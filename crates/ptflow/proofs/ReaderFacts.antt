@@ -12,9 +12,6 @@ use Rattle.ptlines.proofs.Pushed.{wrote_nothing}
 use Rattle.ptlines.proofs.Scanned.{goes_front}
 use Rattle.ptflow.specs.Passes.{IsReady}
 
-pub nothing_pushed : (o : Output) → o.faulted ≡ false → Wrote o o []
-nothing_pushed o clean = wrote_nothing o (λ fault. absurd (false≢true (sym clean ∙ fault)))
-
 -- nothing was given yet
 pub goes_nothing : (r : Reader) → r.fault ≡ None → Goes r r []
 goes_nothing r clean = record {
@@ -34,7 +31,6 @@ came_of old new bytes reads = record {
   count = omega (arith, reads.count, length-append bytes new.held);
   ended = refl;
   refused = reads.refused;
-  ending = reads.ending;
   still = reads.still;
   end = reads.end;
 }
@@ -57,7 +53,7 @@ may_come now new bytes rest reads may done = λ i. (done_gives_nothing now new b
 
 -- a sound reader that can be read has not failed
 pub never_failed : (old reader : Reader) (store : Slots) (bytes : List ℕ) → IsReady old store → Goes old reader bytes → IsSound reader → reader.failed ≡ false
-never_failed old reader store bytes ready goes sound = goes.failed ∙ ready.unfailed
+never_failed old reader store bytes ready goes sound = sound.unfailed (goes.reads.refused ∙ ready.opened) goes.fault
 
 -- the first bytes of a block that was shown were consumed
 pub goes_past : (now shown new : Reader) (block : List ℕ) (count : ℕ) → Goes now shown [] → shown.held ≡ block → count ≤ length block → new ≡ record shown { held = drop count shown.held } → Goes now new (take count block)

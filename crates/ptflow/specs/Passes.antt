@@ -12,7 +12,6 @@ use Rattle.ptflow.specs.declared.faults.FlowFault.TheVariants.{Read, Write, Memo
 pub record IsReady (reader : Reader) (store : Slots) : Type 0 where
   pub opened : reader.refused ≡ false
   pub readable : reader.fault ≡ None
-  pub unfailed : reader.failed ≡ false
   pub roomy : store.denied ≡ false
   pub empty : total store.lines ≡ 0
 

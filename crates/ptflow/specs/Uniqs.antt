@@ -7,6 +7,7 @@ use Rattle.ptlines.specs.Inputs.{Given, whole_lines}
 use Rattle.ptlangs.specs.declared.jobs.Show.{Show}
 use Rattle.ptlangs.specs.declared.jobs.Show.TheVariants.{All, Counts, Repeated, Single}
 use Rattle.ptlangs.specs.Jobs.{Uniq}
+use Rattle.ptflow.specs.Tools.{Tool}
 
 -- a space or a tab
 abbrev pub is_blank : ℕ → Bool
@@ -77,5 +78,5 @@ abbrev pub uniq_decided : Uniq → Given → List ℕ
 uniq_decided job given = entries job (all_but_last (runs job (whole_lines job.end given)))
 
 -- the store holds the first line of a run and the line behind it
-abbrev pub uniq_size : Uniq → List ℕ → ℕ
-uniq_size job bytes = 2 * longest_line job.end bytes
+abbrev pub uniq_tool : Uniq → Tool
+uniq_tool job = record { text = uniq job; decided = uniq_decided job; size = λ bytes. 2 * longest_line job.end bytes; slots = 2 }

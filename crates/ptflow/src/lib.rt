@@ -13,4 +13,5 @@ mod translating;
 
 pub use cutting::cut;
 pub use faults::FlowFault;
+pub use repeats::uniq;
 pub use translating::tr;

@@ -3,11 +3,11 @@ use Rattle.std.specs.Prelude.{ℕ, ◌+◌, ◌==◌, List, [], ◌∷◌, ◌++
 use Rattle.ptlangs.specs.declared.jobs.Show.{Show}
 use Rattle.ptlangs.specs.declared.jobs.Show.TheVariants.{All, Counts, Repeated, Single}
 use Rattle.ptlangs.specs.Jobs.{Uniq}
-use Rattle.ptflow.specs.Uniqs.{Run, is_same, runs, entries}
+use Rattle.ptflow.specs.Uniqs.{Run, is_same, runs}
 
 -- the run, if it has a line
 abbrev pub open_run : Run → List Run
-open_run run = if run.count == 0 then [] else run ∷ []
+open_run run = if nat_lt 0 run.count then run ∷ [] else []
 
 -- the runs of lines that come behind the lines of a run
 abbrev pub runs_from : Uniq → Run → List (List ℕ) → List Run
@@ -18,7 +18,7 @@ runs_from job run (line ∷ more) =
 
 -- the same where the run may have no line yet
 abbrev pub runs_behind : Uniq → Run → List (List ℕ) → List Run
-runs_behind job run ls = if run.count == 0 then runs job ls else runs_from job run ls
+runs_behind job run ls = if nat_lt 0 run.count then runs_from job run ls else runs job ls
 
 -- of a run of so many lines something is written
 abbrev pub is_shown : Show → ℕ → Bool
