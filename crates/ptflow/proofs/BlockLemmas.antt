@@ -38,7 +38,6 @@ module _ {X : Type 0} (rest_from : X → List ℕ → List ℕ) (start : X) wher
       reached = record {
         goes = goes_trans old reader new m.given block m.reached.goes whole;
         wrote = wrote_trans was is is' m.pushed c.pushed m.reached.clean m.reached.wrote c.wrote;
-        writable = m.reached.writable;
         clean = clean;
       };
       on = λ rest may.

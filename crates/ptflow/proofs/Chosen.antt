@@ -5,8 +5,7 @@ use Rattle.std.proofs.lemmas.Bool.{cases_order}
 use Rattle.std.proofs.lemmas.Bool.Decides.{nat_tests}
 use Rattle.std.proofs.lemmas.List.{append-nil, take_all, drop_all, take-take, drop-take, drop_more, length-take-le, take-append-drop, drop-append-le}
 use Rattle.std.proofs.lemmas.Bool.{false≢true}
-use Rattle.ptlines.proofs.Pushed.{wrote_trans, wrote_past}
-use Rattle.ptflow.proofs.ReaderFacts.{nothing_pushed}
+use Rattle.ptlines.proofs.Pushed.{wrote_nothing, wrote_trans, wrote_past}
 use Rattle.ptlangs.specs.CutLists.{is_selected, AreApart}
 use Rattle.ptlangs.specs.declared.ranges.Interval.{Interval}
 use Rattle.ptlines.specs.Outputs.{Output, Wrote}
@@ -103,7 +102,7 @@ pub record Choosing (all others : List Interval) (n : ℕ) (piece : List ℕ) (w
 pub choosing_starts : (all : List Interval) (n : ℕ) (piece : List ℕ) (was : Output) → was.faulted ≡ false → AreApart 0 all → Choosing all all n piece was was
 choosing_starts all n piece was clean apart = record {
   pushed = [];
-  wrote = nothing_pushed was clean;
+  wrote = wrote_nothing was;
   clean = clean;
   split = refl;
   low = 0;

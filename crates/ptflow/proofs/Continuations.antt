@@ -2,9 +2,8 @@
 use Rattle.std.proofs.Common.{◌≡◌, ℕ, false, List, [], ◌++◌, refl, sym, ◌∙◌, ap, append_assoc}
 use Rattle.ptlines.specs.Inputs.{Begins}
 use Rattle.ptlines.specs.Outputs.{Output, Wrote}
-use Rattle.ptlines.proofs.Pushed.{wrote_trans}
+use Rattle.ptlines.proofs.Pushed.{wrote_nothing, wrote_trans}
 use Rattle.ptflow.specs.Workings.Continuations.{Continues, Halts}
-use Rattle.ptflow.proofs.ReaderFacts.{nothing_pushed}
 
 -- amid some items, of which the rest is still to come
 pub record Amid {X Y : Type 0} (rest_from : X → List Y → List ℕ) (start now : X) (items rest : List Y) (was is : Output) : Type 0 where
@@ -15,33 +14,25 @@ pub record Amid {X Y : Type 0} (rest_from : X → List Y → List ℕ) (start no
 
 module _ {X Y : Type 0} (rest_from : X → List Y → List ℕ) (start : X) where
   pub amid_starts : (items : List Y) (was : Output) → was.faulted ≡ false → Amid rest_from start start items items was was
-  amid_starts items was clean = record { pushed = []; wrote = nothing_pushed was clean; clean = clean; on = λ more. refl }
+  amid_starts items was clean = record { pushed = []; wrote = wrote_nothing was; clean = clean; on = λ more. refl }
 
-  module _ (now next : X) (items rest : List Y) (bytes : List ℕ) (was is is' : Output) (a : Amid rest_from start now items rest was is) (wrote : Wrote is is' bytes) where
-    all_pushed : Wrote was is' (a.pushed ++ bytes)
-    all_pushed = wrote_trans was is is' a.pushed bytes a.clean a.wrote wrote
+  -- all items were taken
+  pub amid_over : (now : X) (items rest : List Y) (was is : Output) → Amid rest_from start now items rest was is → rest ≡ [] → Continues rest_from start now items was is
+  amid_over now items rest was is a none = record { pushed = a.pushed; wrote = a.wrote; on = λ more. a.on more ∙ ap (λ (l : List Y). a.pushed ++ rest_from now (l ++ more)) none }
 
-    pub amid_more : (rest' : List Y) → is'.faulted ≡ false → ((more : List Y) → rest_from now (rest ++ more) ≡ bytes ++ rest_from next (rest' ++ more)) → Amid rest_from start next items rest' was is'
-    amid_more rest' clean on = record {
+  -- some items more, of which these bytes were pushed
+  module _ (now next : X) (items rest rest' : List Y) (bytes : List ℕ) (was is is' : Output) (a : Amid rest_from start now items rest was is) (wrote : Wrote is is' bytes)
+      (on : (more : List Y) → rest_from now (rest ++ more) ≡ bytes ++ rest_from next (rest' ++ more)) where
+    all_on : (more : List Y) → rest_from start (items ++ more) ≡ (a.pushed ++ bytes) ++ rest_from next (rest' ++ more)
+    all_on more = a.on more ∙ ap (λ (l : List ℕ). a.pushed ++ l) (on more) ∙ sym (append_assoc a.pushed bytes (rest_from next (rest' ++ more)))
+
+    pub amid_more : is'.faulted ≡ false → Amid rest_from start next items rest' was is'
+    amid_more clean = record { pushed = a.pushed ++ bytes; wrote = wrote_trans was is is' a.pushed bytes a.clean a.wrote wrote; clean = clean; on = all_on }
+
+    -- a write failed
+    pub amid_halts : Halts rest_from start items was is'
+    amid_halts = record {
       pushed = a.pushed ++ bytes;
-      wrote = all_pushed;
-      clean = clean;
-      on = λ more. a.on more ∙ ap (λ (l : List ℕ). a.pushed ++ l) (on more) ∙ sym (append_assoc a.pushed bytes (rest_from next (rest' ++ more)));
-    }
-
-    pub amid_done : ((more : List Y) → rest_from now (rest ++ more) ≡ bytes ++ rest_from next more) → Continues rest_from start next items was is'
-    amid_done on = record {
-      pushed = a.pushed ++ bytes;
-      wrote = all_pushed;
-      on = λ more. a.on more ∙ ap (λ (l : List ℕ). a.pushed ++ l) (on more) ∙ sym (append_assoc a.pushed bytes (rest_from next more));
-    }
-
-    pub amid_halts : ((more : List Y) → Begins bytes (rest_from now (rest ++ more))) → Halts rest_from start items was is'
-    amid_halts on = record {
-      pushed = a.pushed ++ bytes;
-      wrote = all_pushed;
-      true_so_far = λ more. let b = on more in record {
-        rest = b.rest;
-        is = a.on more ∙ ap (λ (l : List ℕ). a.pushed ++ l) b.is ∙ sym (append_assoc a.pushed bytes b.rest);
-      };
+      wrote = wrote_trans was is is' a.pushed bytes a.clean a.wrote wrote;
+      true_so_far = λ more. record { rest = rest_from next (rest' ++ more); is = all_on more };
     }

@@ -3,9 +3,15 @@ pub mod Chosen
 pub mod Continuations
 pub mod CutLaws
 pub mod CutRests
+pub mod EndedLines
+pub mod FieldLines
+pub mod FieldPlaces
+pub mod FieldWalks
 pub mod LineLaws
+pub mod LineLemmas
 pub mod PassLemmas
 pub mod ReaderFacts
+pub mod SlotFacts
 pub mod TrRests
 pub mod PasteRows
 pub mod UniqRows

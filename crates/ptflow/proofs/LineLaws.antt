@@ -45,17 +45,6 @@ pub parts_of : (end : ℕ) (bytes : List ℕ) → Parts end bytes
 parts_of end [] = record { piece = []; is = refl; whole = tt; line = tt }
 parts_of end (b ∷ bytes) = parts_more end b bytes (parts_of end bytes)
 
--- whole lines, and then those of the rest whose end is there
-pub ended_more : (end : ℕ) (ls : List (List ℕ)) (bytes : List ℕ) → AreLines end ls → ended_lines end (text end ls ++ bytes) ≡ ls ++ ended_lines end bytes
-ended_more end [] bytes w = refl
-ended_more end (line ∷ ls) bytes w =
-    ap (ended_lines end) (append_assoc (line ++ end ∷ []) (text end ls) bytes ∙ append_assoc line (end ∷ []) (text end ls ++ bytes)) ∙ ended_first end line (text end ls ++ bytes) w.0
-    ∙ ap (λ (l : List (List ℕ)). line ∷ l) (ended_more end ls bytes w.1)
-
-pub AreLines-append : (end : ℕ) (xs ys : List (List ℕ)) → AreLines end xs → AreLines end ys → AreLines end (xs ++ ys)
-AreLines-append end [] ys p q = q
-AreLines-append end (x ∷ xs) ys p q = (p.0, AreLines-append end xs ys p.1 q)
-
 -- ---- the longest line
 
 pub longest-append : (xs ys : List (List ℕ)) → longest (xs ++ ys) ≡ max (longest xs) (longest ys)
@@ -80,7 +69,6 @@ first_piece : (end : ℕ) (piece rest : List ℕ) → IsLine end piece → lengt
 first_piece end [] rest free = omega arith
 first_piece end (b ∷ piece) rest free = rw (other_byte end b free.0) (omega (arith, first_onto b (lines end (piece ++ rest)), first_piece end piece rest free.1))
 
--- whole lines and the beginning of one are no longer than the longest line
-pub longest_front : (end : ℕ) (ls : List (List ℕ)) (piece rest : List ℕ) → AreLines end ls → IsLine end piece → max (longest ls) (length piece) ≤ longest (lines end (text end ls ++ (piece ++ rest)))
-longest_front end ls piece rest whole free =
-    omega (arith, ap longest (lines_of_text end ls (piece ++ rest) whole) ∙ longest-append ls (lines end (piece ++ rest)), first_piece end piece rest free, first_longest (lines end (piece ++ rest)))
+-- the beginning of a line is no longer than the longest line
+pub longest_piece : (end : ℕ) (piece rest : List ℕ) → IsLine end piece → length piece ≤ longest (lines end (piece ++ rest))
+longest_piece end piece rest free = omega (arith, first_piece end piece rest free, first_longest (lines end (piece ++ rest)))

@@ -79,12 +79,15 @@ module _ (t : Tables) where
   translated_append xs ys = ap (map (image t)) (filter-append (λ b. not (deletes t b)) xs ys) ∙ map-append (image t) (filter (λ b. not (deletes t b)) xs) (filter (λ b. not (deletes t b)) ys)
 
   -- what is written of a block stands in front
-  pub front_on : (last : Option ℕ) (block rest : List ℕ) → tr_rest t last (block ++ rest) ≡ tr_rest t last block ++ tr_rest t (last_or last (tr_rest t last block)) rest
+  front_on : (last : Option ℕ) (block rest : List ℕ) → tr_rest t last (block ++ rest) ≡ tr_rest t last block ++ tr_rest t (last_or last (tr_rest t last block)) rest
   front_on last block rest = ap (squeeze_from (squeezes t) last) (translated_append block rest) ∙ from_append (squeezes t) last (translated t block) (translated t rest)
 
   -- the last of what is written of a block was written last then
   pub block_on : (last after : Option ℕ) (block written rest : List ℕ) → written ≡ tr_rest t last block → after ≡ option_or (slice_get written (length written - 1)) last → tr_rest t last (block ++ rest) ≡ written ++ tr_rest t after rest
   block_on last after block written rest made end = front_on last block rest ∙ (λ i. sym made i ++ tr_rest t (sym (end ∙ last_is last written ∙ ap (last_or last) made) i) rest)
+
+  pub block_begins : (last : Option ℕ) (block written rest : List ℕ) → written ≡ tr_rest t last block → Begins written (tr_rest t last (block ++ rest))
+  block_begins last block written rest made = record { rest = tr_rest t (last_or last (tr_rest t last block)) rest; is = front_on last block rest ∙ ap (λ (l : List ℕ). l ++ tr_rest t (last_or last (tr_rest t last block)) rest) (sym made) }
 
   pub rest_decided : (given pushed : List ℕ) (now : Option ℕ) → ((rest : List ℕ) → tr_rest t None (given ++ rest) ≡ pushed ++ tr_rest t now rest) → Begins (tr_decided t (record { bytes = given; ended = false })) pushed
   rest_decided given pushed now on = record {

@@ -3,6 +3,7 @@ pub mod Blocks
 pub mod ByteRests
 pub mod Continuations
 pub mod FieldPlaces
+pub mod FieldRests
 pub mod Pieces
 pub mod TrRests
 pub mod OpenRuns

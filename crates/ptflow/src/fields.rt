@@ -6,7 +6,9 @@ ghost use Rattle.ptlines.specs.Text.{text, ended_lines};
 ghost use Rattle.ptlangs.specs.Jobs.{cut_job};
 ghost use Rattle.ptflow.specs.Cuts.{cut_lines, is_kept, cut_tool};
 ghost use Rattle.ptflow.specs.Passes.{IsReady, IsPass};
+ghost use Rattle.ptflow.specs.Workings.Continuations.{Continues, Halts};
 ghost use Rattle.ptflow.specs.Workings.FieldPlaces.{fields, StartsAt};
+ghost use Rattle.ptflow.specs.Workings.FieldRests.{cut_from};
 ghost use Rattle.ptflow.specs.Workings.Pieces.{fields_piece, line_piece};
 
 use crate::faults::FlowFault;
@@ -113,7 +115,8 @@ fn push_lines<A: Allocator + Copy, W: Sink>(
     requires ending { ending ≡ (cut_job job.now).end }
     requires short { length block.now < 2 ^ 63 }
     requires clean { out.old.faulted ≡ false }
-    ensures wrote { Wrote out.old out.new (cut_lines (cut_job job.now) (ended_lines ending block.now)) }
+    ensures continues { OnOk result (Continues (cut_from (cut_job job.now)) tt tt (ended_lines ending block.now) out.old out.new) }
+    ensures halts { OnErr result (Halts (cut_from (cut_job job.now)) tt (ended_lines ending block.now) out.old out.new) }
     ensures within { IfOk result (λ count. count ≤ length block.now) }
     ensures passed { IfOk result (λ count. take count block.now ≡ text ending (ended_lines ending block.now)) }
     ensures clean { OnOk result (out.new.faulted ≡ false) }
@@ -163,8 +166,8 @@ pub(crate) fn cut_by_fields<A: Allocator + Copy, S: Source, R: Source, W: Sink>(
     requires clean { out.old.faulted ≡ false }
     ensures { IsPass (cut_tool (cut_job job.now)) reader.old reader.new out.old out.new store.old store.new result }
 {
-    need_slots(store, 1)?;
     let ending = reader.ending();
+    need_slots(store, 1)?;
     'turns: loop {
         match reader.fill(store, 0) {
             Ok(true) => push_kept(job, ending, store.line(0), out)?,

@@ -1,12 +1,11 @@
 use Rattle.std.proofs.Common.{◌+◌, ◌≤◌, length}
-use Rattle.ptlangs.specs.CutLists.{is_selected}
-use Rattle.ptflow.specs.Workings.ByteRests.{cut_rest}
+use Rattle.ptflow.specs.Workings.ByteRests.{rest_by}
 use Rattle.ptflow.proofs.Continuations.{Amid}
 use Rattle.ptflow.proofs.bytes.push_pieces.Given as goal
 
 abbrev pub invariant-lines : goal.invariant-lines
 invariant-lines g l = record {
-  amid : Amid (cut_rest l.ending (is_selected l.selected)) l.fn.before l.before l.block l.rest l.fn.out l.out;
+  amid : Amid (rest_by l.ending l.selected) l.fn.before l.before l.block l.rest l.fn.out l.out;
   bound : l.before + length l.rest ≤ l.fn.before + length l.block;
 }
 

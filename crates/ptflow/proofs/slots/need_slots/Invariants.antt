@@ -1,14 +1,14 @@
-use Rattle.std.proofs.Common.{◌≡◌, ◌-◌, ◌≤◌, max, false, length}
+use Rattle.std.proofs.Common.{◌≡◌, ◌≤◌, ◌-◌, false, length, max}
 use Rattle.ptlines.specs.Slots.{total}
 use Rattle.ptflow.proofs.slots.need_slots.Given as goal
 
 abbrev pub invariant-loop-store : goal.invariant-loop-store
 invariant-loop-store g l = record {
-  least : length l.fn.store.lines ≤ length l.store.lines;
-  most : length l.store.lines ≤ max (length l.fn.store.lines) l.count;
   allowed : l.store.denied ≡ false;
   same_total : total l.store.lines ≡ total l.fn.store.lines;
   same_peak : l.store.peak ≡ l.fn.store.peak;
+  least : length l.fn.store.lines ≤ length l.store.lines;
+  most : length l.store.lines ≤ max (length l.fn.store.lines) l.count;
 }
 
 abbrev pub decreases-loop-store : goal.decreases-loop-store

@@ -1,0 +1,38 @@
+use Rattle.std.proofs.Common.{refl, ℕ, List, take, drop, take-append-drop, sym, ◌∙◌, subst}
+use Rattle.std.proofs.lemmas.Bool.{false≢true}
+use Rattle.ptlines.specs.Outputs.{Wrote}
+use Rattle.ptlines.proofs.Pushed.{wrote_nothing}
+use Rattle.ptlangs.specs.Jobs.{cut_job}
+use Rattle.ptflow.proofs.FieldLines.{found, written_dropped, written_whole}
+use Rattle.ptflow.proofs.fields.push_line.Goals as goal
+
+pub returns-then-job-clause-wrote : goal.returns-then-job-clause-wrote
+returns-then-job-clause-wrote g c =
+    let job = cut_job c.args.job.now in
+    let line = take c.args.count c.args.bytes.now in
+    let none = found c.args.job.now.delim line c.find_near.result c.find_near.ensures ∙ sym c.if-is_some.ensures in
+    rw (written_dropped job c.requires.by_fields line (drop c.args.count c.args.bytes.now) none c.if-job.true)
+    (wrote_nothing c.args.out.now)
+
+pub returns-then-job-clause-kept : goal.returns-then-job-clause-kept
+returns-then-job-clause-kept g c =
+    let none = found c.args.job.now.delim (take c.args.count c.args.bytes.now) c.find_near.result c.find_near.ensures ∙ sym c.if-is_some.ensures in
+    rw (none, c.if-job.true) refl
+
+pub returns-in_err-push-clause-wrote : goal.returns-in_err-push-clause-wrote
+returns-in_err-push-clause-wrote g c =
+    let job = cut_job c.args.job.now in
+    let bytes = c.args.bytes.now in
+    let line = take c.args.count bytes in
+    let none = found c.args.job.now.delim line c.find_near.result c.find_near.ensures ∙ sym c.if-is_some.ensures in
+    rw (written_whole job c.requires.by_fields line (drop c.args.count bytes) none c.if-job.false)
+    (subst (λ (b : List ℕ). Wrote c.args.out.now c.push.new.self b) (sym (take-append-drop c.args.count bytes)) c.push.ensures.wrote)
+
+pub returns-clause-wrote : goal.returns-clause-wrote
+returns-clause-wrote g c =
+    let job = cut_job c.args.job.now in
+    let bytes = c.args.bytes.now in
+    let line = take c.args.count bytes in
+    let none = found c.args.job.now.delim line c.find_near.result c.find_near.ensures ∙ sym c.if-is_some.ensures in
+    rw (written_whole job c.requires.by_fields line (drop c.args.count bytes) none c.if-job.false)
+    (subst (λ (b : List ℕ). Wrote c.args.out.now c.push.new.self b) (sym (take-append-drop c.args.count bytes)) c.push.ensures.wrote)
