@@ -20,3 +20,5 @@ pub mod OpenRuns
 pub mod LinesCame
 pub mod TwoSlots
 pub mod UniqPasses
+pub mod SerialRests
+pub mod Endings

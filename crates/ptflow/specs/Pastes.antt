@@ -6,26 +6,31 @@ use Rattle.ptlines.specs.Inputs.{Given, whole_lines, nothing_left}
 use Rattle.ptlangs.specs.DelimLists.{delim_at}
 use Rattle.ptlangs.specs.Jobs.{Paste}
 use Rattle.ptflow.specs.Cuts.{chosen_from}
+use Rattle.ptflow.specs.Tools.{Tool}
 
 -- what stands between the cells c and c + 1: a byte or nothing
-abbrev pub delimiter : Paste → ℕ → List ℕ
-delimiter job c = option_to_list (delim_at job.delimiters c)
+abbrev pub delimiter : List (Option ℕ) → ℕ → List ℕ
+delimiter delims c = option_to_list (delim_at delims c)
 
 -- the cells from number c on, with the delimiters between them
-abbrev pub glued_from : Paste → ℕ → List (List ℕ) → List ℕ
-glued_from job c [] = []
-glued_from job c (x ∷ []) = x
-glued_from job c (x ∷ y ∷ more) = x ++ delimiter job c ++ glued_from job (c + 1) (y ∷ more)
+abbrev pub glued_from : List (Option ℕ) → ℕ → List (List ℕ) → List ℕ
+glued_from delims c [] = []
+glued_from delims c (x ∷ []) = x
+glued_from delims c (x ∷ y ∷ more) = x ++ delimiter delims c ++ glued_from delims (c + 1) (y ∷ more)
 
 -- ---- the lines of one input in a row
 
 -- what is written of a text
 abbrev pub paste_serial : Paste → List ℕ → List ℕ
-paste_serial job bytes = glued_from job 0 (lines job.end bytes) ++ job.end ∷ []
+paste_serial job bytes = glued_from job.delimiters 0 (lines job.end bytes) ++ job.end ∷ []
 
 -- what is decided once a part of the text came: its whole lines, and the end of the row where the end of the text was said
 abbrev pub serial_decided : Paste → Given → List ℕ
-serial_decided job given = glued_from job 0 (whole_lines job.end given) ++ (if given.ended then job.end ∷ [] else [])
+serial_decided job given = glued_from job.delimiters 0 (whole_lines job.end given) ++ (if given.ended then job.end ∷ [] else [])
+
+-- no line is kept
+abbrev pub serial_tool : Paste → Tool
+serial_tool job = record { text = paste_serial job; decided = serial_decided job; size = longest_line job.end; slots = 0 }
 
 -- ---- the lines of several inputs side by side
 
@@ -51,7 +56,7 @@ rows cols = map (row cols) (range_with_len 0 (height cols))
 
 -- what is written of rows
 abbrev pub sheet : Paste → List (List (List ℕ)) → List ℕ
-sheet job rs = text job.end (map (glued_from job 0) rs)
+sheet job rs = text job.end (map (glued_from job.delimiters 0) rs)
 
 -- what is written of texts, where each cell names one of them
 abbrev pub paste : Paste → List ℕ → List (List ℕ) → List ℕ

@@ -7,3 +7,4 @@ pub mod FieldRests
 pub mod Pieces
 pub mod TrRests
 pub mod OpenRuns
+pub mod SerialRests

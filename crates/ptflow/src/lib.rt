@@ -8,10 +8,12 @@ mod faults;
 mod fields;
 mod keys;
 mod repeats;
+mod serial;
 mod slots;
 mod translating;
 
 pub use cutting::cut;
 pub use faults::FlowFault;
 pub use repeats::uniq;
+pub use serial::paste_serial;
 pub use translating::tr;
