@@ -1,5 +1,5 @@
 -- A tool that works block by block, over its turns.
-use Rattle.std.proofs.Common.{◌≡◌, ℕ, ◌+◌, ◌-◌, ◌≤◌, ◌<◌, ◌^◌, true, false, List, [], ◌++◌, None, Ok, Err, length, take, drop, refl, sym, ◌∙◌, ap, subst, arith, append_assoc, length-drop}
+use Rattle.std.proofs.Common.{◌≡◌, ℕ, ◌+◌, ◌-◌, ◌≤◌, ◌<◌, ◌^◌, true, false, List, [], ◌++◌, None, Ok, Err, length, drop, refl, sym, ◌∙◌, ap, subst, arith, append_assoc, length-drop}
 use Rattle.std.proofs.lemmas.Bool.{false≢true}
 use Rattle.std.proofs.lemmas.List.{append-nil, take_all}
 use Rattle.ptlines.specs.Readers.{Reader, Reads, Goes, IsDone, IsSound, HasReadCause}
@@ -41,8 +41,8 @@ module _ {X : Type 0} (rest_from : X → List ℕ → List ℕ) (start : X) wher
         clean = clean;
       };
       on = λ rest may.
-      ap (rest_from start) (append_assoc m.given block rest) ∙ m.on (block ++ rest) (may_come reader new block rest whole.reads may)
-      ∙ ap (λ (l : List ℕ). m.pushed ++ l) (c.on rest) ∙ sym (append_assoc m.pushed c.pushed (rest_from next rest));
+          ap (rest_from start) (append_assoc m.given block rest) ∙ m.on (block ++ rest) (may_come reader new block rest whole.reads may)
+          ∙ ap (λ (l : List ℕ). m.pushed ++ l) (c.on rest) ∙ sym (append_assoc m.pushed c.pushed (rest_from next rest));
     }
       where
         whole : Goes reader new block

@@ -4,7 +4,6 @@ use Rattle.std.specs.Prelude.{nat_le}
 use Rattle.std.proofs.lemmas.Bool.{cases_order}
 use Rattle.std.proofs.lemmas.Bool.Decides.{nat_tests}
 use Rattle.std.proofs.lemmas.List.{append-nil, take_all, drop_all, take-take, drop-take, drop_more, length-take-le, take-append-drop, drop-append-le}
-use Rattle.std.proofs.lemmas.Bool.{false≢true}
 use Rattle.ptlines.proofs.Pushed.{wrote_nothing, wrote_trans, wrote_past}
 use Rattle.ptlangs.specs.CutLists.{is_selected, AreApart}
 use Rattle.ptlangs.specs.declared.ranges.Interval.{Interval}

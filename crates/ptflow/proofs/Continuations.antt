@@ -1,6 +1,5 @@
 -- Amid some items, bytes of a block or lines of it: what was pushed stands in front of what is written of the rest, whatever comes.
 use Rattle.std.proofs.Common.{◌≡◌, ℕ, false, List, [], ◌++◌, refl, sym, ◌∙◌, ap, append_assoc}
-use Rattle.ptlines.specs.Inputs.{Begins}
 use Rattle.ptlines.specs.Outputs.{Output, Wrote}
 use Rattle.ptlines.proofs.Pushed.{wrote_nothing, wrote_trans}
 use Rattle.ptflow.specs.Workings.Continuations.{Continues, Halts}

@@ -1,9 +1,9 @@
 -- Laws of the lines of a text, and of their lengths.
-use Rattle.std.proofs.Common.{◌≡◌, ℕ, ◌+◌, ◌≤◌, ◌==◌, Bool, true, false, cond, List, [], ◌∷◌, ◌++◌, length, max, refl, sym, ◌∙◌, ap, subst, arith, append_assoc}
+use Rattle.std.proofs.Common.{◌≡◌, ℕ, ◌+◌, ◌≤◌, ◌==◌, Bool, true, false, cond, List, [], ◌∷◌, ◌++◌, length, max, refl, sym, ◌∙◌, ap, subst, arith}
 use Rattle.std.specs.List.{onto_first}
 use Rattle.std.proofs.lemmas.Bool.{eqb-true, eqb-false}
 use Rattle.ptlines.specs.Text.{text, lines, ended_lines, onto_line, IsLine, AreLines, longest}
-use Rattle.ptlines.proofs.TextLaws.{other_byte, lines_of_text, ended_first}
+use Rattle.ptlines.proofs.TextLaws.{other_byte}
 
 -- the whole lines of a text, and the piece behind them
 pub record Parts (end : ℕ) (bytes : List ℕ) : Type 0 where

@@ -1,26 +1,26 @@
 -- A tool that works line by line, with a state. What was pushed of the lines that came, and what is written of the lines
 -- to come in the state now, is the whole, whatever comes; so midway it is what PassLemmas asks for.
-use Rattle.std.proofs.Common.{◌≡◌, ◌⊎◌, ⊎_elim, inl, inr, ℕ, ◌+◌, ◌*◌, ◌<◌, ◌≤◌, ◌^◌, true, false, List, [], ◌∷◌, ◌++◌, None, Ok, Err, length, take, drop, max, refl, sym, ◌∙◌, ap, subst, arith, append_assoc, length-append}
+use Rattle.std.proofs.Common.{◌≡◌, ◌⊎◌, ⊎_elim, inl, inr, ℕ, ◌*◌, ◌<◌, ◌≤◌, ◌^◌, true, false, List, [], ◌∷◌, ◌++◌, None, Ok, Err, length, take, drop, max, refl, sym, ◌∙◌, ap, subst, arith, append_assoc, length-append}
 use Rattle.std.proofs.Math.Nat.{mul-le-mul_left}
 use Rattle.std.proofs.lemmas.Bool.{false≢true}
 use Rattle.std.proofs.lemmas.List.{append-nil}
-use Rattle.ptlines.specs.Text.{text, lines, ended_lines, IsLine, AreLines, longest, longest_line}
+use Rattle.ptlines.specs.Text.{text, lines, ended_lines, IsLine, longest, longest_line}
 use Rattle.ptlines.specs.Inputs.{Given, whole_lines, Begins, Agrees}
 use Rattle.ptlines.specs.Outputs.{Output, Wrote}
-use Rattle.ptlines.specs.Readers.{Reader, Reads, Goes, Faults, IsDone, IsSound, HasReadCause}
+use Rattle.ptlines.specs.Readers.{Reader, Reads, Goes, IsDone, IsSound, HasReadCause}
 use Rattle.ptlines.specs.Slots.{Slots, total, with_line, with_denied}
-use Rattle.ptlines.specs.Fills.{GivesLine, BreaksRead, BreaksMemory}
+use Rattle.ptlines.specs.Fills.{GivesLine}
 use Rattle.ptlines.proofs.Filling.{goes_trans}
 use Rattle.ptlines.proofs.Pushed.{wrote_trans}
-use Rattle.ptlines.proofs.TextLaws.{lines_first, lines_last, lines_of_text, lines-text, lines_are, text-append, text_push, AreLines_push, ended_of_text}
+use Rattle.ptlines.proofs.TextLaws.{lines_first, lines_last, lines_of_text, lines-text, lines_are, text-append, text_push, ended_of_text}
 use Rattle.ptflow.specs.Tools.{Tool}
 use Rattle.ptflow.specs.Passes.{IsReady, IsPass, Adds}
 use Rattle.ptflow.specs.declared.faults.FlowFault.TheVariants.{Read, Write, Memory}
 use Rattle.ptflow.specs.Workings.Continuations.{Continues, Halts}
-use Rattle.ptflow.proofs.LineLaws.{Parts, parts_of, longest-append, longest_piece}
+use Rattle.ptflow.proofs.LineLaws.{parts_of, longest-append, longest_piece}
 use Rattle.ptflow.proofs.ReaderFacts.{goes_nothing, given_of, done_gives_nothing, stays_done, may_come, goes_past}
 use Rattle.ptflow.proofs.PassLemmas.{Reached, reached_nothing, Midway, Stored, pass_read, pass_memory, pass_write, pass_done}
-use Rattle.ptflow.proofs.SlotFacts.{Keeps, keeps_more, keeps_line, kept_total}
+use Rattle.ptflow.proofs.SlotFacts.{Keeps, keeps_more, keeps_line}
 
 -- What is written of lines that come in the state x is `lines_from x`, and so is all that this tool writes in the state
 -- `start`. `decided` is what is decided of whole lines; the tool uses `width` slots, for a line each.
@@ -99,12 +99,12 @@ module _ {X : Type 0} (lines_from : X → List (List ℕ) → List ℕ) (end : �
         reached = record { goes = goes_trans old reader new r.given came r.reached.goes e.goes; wrote = wrote_trans was is is' r.pushed c.pushed r.reached.clean r.reached.wrote c.wrote; clean = clean };
         ending = e.goes.reads.ending ∙ r.ending;
         on = λ more.
-        ap (λ (l : List (List ℕ)). lines_from start (l ++ more)) lines_now ∙ ap (lines_from start) (append_assoc (lines end r.given) (e.line ∷ []) more) ∙ r.on (e.line ∷ more)
-        ∙ ap (λ (l : List ℕ). r.pushed ++ l) (c.on more) ∙ sym (append_assoc r.pushed c.pushed (lines_from next more));
+            ap (λ (l : List (List ℕ)). lines_from start (l ++ more)) lines_now ∙ ap (lines_from start) (append_assoc (lines end r.given) (e.line ∷ []) more) ∙ r.on (e.line ∷ more)
+            ∙ ap (λ (l : List ℕ). r.pushed ++ l) (c.on more) ∙ sym (append_assoc r.pushed c.pushed (lines_from next more));
         whole = elim e.ends [
           | inl ends ↦ inl (
-            (λ i. still_open i ++ (e.line ++ (ends ∙ ap (λ (b : ℕ). b ∷ []) r.ending) i)) ∙ sym (text_push end (lines end r.given) e.line) ∙ ap (text end) (sym lines_now)
-          )
+              (λ i. still_open i ++ (e.line ++ (ends ∙ ap (λ (b : ℕ). b ∷ []) r.ending) i)) ∙ sym (text_push end (lines end r.given) e.line) ∙ ap (text end) (sym lines_now)
+              )
           | inr last ↦ inr last.2
         ];
       }
@@ -138,8 +138,8 @@ module _ {X : Type 0} (lines_from : X → List (List ℕ) → List ℕ) (end : �
         reached = record { goes = goes_trans old reader new r.given (text end ended) r.reached.goes front; wrote = wrote_trans was is is' r.pushed c.pushed r.reached.clean r.reached.wrote c.wrote; clean = clean };
         ending = front.reads.ending ∙ r.ending;
         on = λ more.
-        ap (λ (l : List (List ℕ)). lines_from start (l ++ more)) lines_passed ∙ ap (lines_from start) (append_assoc (lines end r.given) ended more) ∙ r.on (ended ++ more)
-        ∙ ap (λ (l : List ℕ). r.pushed ++ l) (c.on more) ∙ sym (append_assoc r.pushed c.pushed (lines_from next more));
+            ap (λ (l : List (List ℕ)). lines_from start (l ++ more)) lines_passed ∙ ap (lines_from start) (append_assoc (lines end r.given) ended more) ∙ r.on (ended ++ more)
+            ∙ ap (λ (l : List ℕ). r.pushed ++ l) (c.on more) ∙ sym (append_assoc r.pushed c.pushed (lines_from next more));
         whole = ⊎_elim (λ o. inl (ap (λ (l : List ℕ). l ++ text end ended) o ∙ sym (text-append end (lines end r.given) ended) ∙ ap (text end) (sym lines_passed))) (λ done. inr (stays_done reader new (text end ended) done front.reads)) r.whole;
       }
         where

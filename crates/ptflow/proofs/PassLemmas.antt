@@ -1,6 +1,6 @@
 -- How a pass of any tool over one input ends. Midway, what was pushed stands in front of what is written of the rest,
 -- whatever comes; exactness, the beginning for each agreeing input, and what is decided are three readings of that.
-use Rattle.std.proofs.Common.{◌≡◌, ⊎_elim, inl, inr, ℕ, ◌≤◌, ◌<◌, ◌^◌, true, false, List, [], ◌++◌, None, Result, Ok, Err, length, max, refl, sym, ◌∙◌, ap, subst, arith, append_assoc}
+use Rattle.std.proofs.Common.{◌≡◌, ⊎_elim, inl, inr, ℕ, ◌≤◌, ◌<◌, ◌^◌, true, false, List, [], ◌++◌, None, Result, Ok, Err, max, refl, sym, ◌∙◌, ap, subst, arith, append_assoc}
 use Rattle.std.proofs.lemmas.List.{append-nil}
 use Rattle.std.proofs.lemmas.Bool.{false≢true}
 use Rattle.ptlines.specs.Readers.{Reader, Reads, Goes, IsDone, IsSound, HasReadCause}
@@ -67,29 +67,6 @@ pub never_memory : (tool : Tool) (old new : Reader) (was is : Output) (store : S
 never_memory tool old new was is store result roomy p e =
     let ends : Ends old new is store (Err Memory) = subst (λ (r : Result (Unit {0}) FlowFault). Ends old new is store r) e p.ends in
     false≢true (sym roomy ∙ ends.denied)
-
-ends_from_ending : (old new : Reader) (is : Output) (store : Slots) (result : Result (Unit {0}) FlowFault) (end : ℕ) → Ends (record old { ending = end }) new is store result → Ends old new is store result
-ends_from_ending old new is store (Ok u) end e = record { done = e.done; fault = e.fault; failed = e.failed; clean = e.clean; denied = e.denied; empty = e.empty; short = e.short }
-ends_from_ending old new is store (Err (Read place)) end e = record { cause = e.cause; clean = e.clean; denied = e.denied; only = e.only }
-ends_from_ending old new is store (Err Write) end e = record { faulted = e.faulted; failed = e.failed; denied = e.denied }
-ends_from_ending old new is store (Err Memory) end e = record { denied = e.denied; failed = e.failed; clean = e.clean }
-
--- the byte that ends a line is no part of what a pass says of the reader before
-pub pass_from_ending : (tool : Tool) (old new : Reader) (was is : Output) (before store : Slots) (result : Result (Unit {0}) FlowFault) (end : ℕ) → was.faulted ≡ false → IsPass tool (record old { ending = end }) new was is before store result → IsPass tool old new was is before store result
-pass_from_ending tool old new was is before store result end clean p = record {
-  given = p.given;
-  came = record { moved = p.came.moved; count = p.came.count; ended = p.came.ended; refused = p.came.refused; still = p.came.still; end = p.came.end };
-  pushed = p.pushed;
-  wrote = p.wrote;
-  ends = ends_from_ending old new is store result end p.ends;
-  true_so_far = p.true_so_far;
-  sure = p.sure;
-  whole = p.whole;
-  peak = p.peak;
-  slots = p.slots;
-  unused = p.unused;
-  halted = λ fault. absurd (false≢true (sym clean ∙ fault));
-}
 
 module _ {X : Type 0} (rest_from : X → List ℕ → List ℕ) (start : X) (tool : Tool) (is_text : (bytes : List ℕ) → rest_from start bytes ≡ tool.text bytes)
     (now : X) (old reader new : Reader) (was is : Output) (before store : Slots) (m : Midway rest_from start now old reader was is) (ready : IsReady old before) (sound : IsSound reader)

@@ -1,14 +1,11 @@
 -- Facts about readers and outputs that each engine starts from.
 use Rattle.std.proofs.Common.{◌≡◌, ℕ, ◌+◌, ◌≤◌, false, true, List, [], ◌++◌, None, length, take, drop, refl, sym, ◌∙◌, ap, subst, arith, length-append}
-use Rattle.std.proofs.lemmas.Bool.{false≢true}
-use Rattle.std.proofs.lemmas.List.{nil_from_length, take_all}
+use Rattle.std.proofs.lemmas.List.{nil_from_length}
 use Rattle.ptlines.specs.Inputs.{Given, Came}
-use Rattle.ptlines.specs.Outputs.{Output, Wrote}
 use Rattle.ptlines.specs.Readers.{Reader, Reads, Goes, IsDone, IsSound, unread}
 use Rattle.ptlines.specs.Slots.{Slots}
 use Rattle.ptlines.proofs.Filling.{goes_trans}
 use Rattle.ptlines.proofs.Known.{prepend_known-nil, prepend_known-append}
-use Rattle.ptlines.proofs.Pushed.{wrote_nothing}
 use Rattle.ptlines.proofs.Scanned.{goes_front}
 use Rattle.ptflow.specs.Passes.{IsReady}
 

@@ -1,10 +1,10 @@
 -- What a tool that works line by line keeps in the store: in each of its slots a line at most, and in the others nothing.
-use Rattle.std.proofs.Common.{◌≡◌, ℕ, zero, suc, ◌+◌, ◌*◌, ◌<◌, ◌≤◌, false, true, List, [], ◌∷◌, length, take, drop, set, get_or, max, refl, sym, ◌∙◌, ap, arith, ⊎_elim, take-append-drop}
+use Rattle.std.proofs.Common.{◌≡◌, ℕ, zero, suc, ◌+◌, ◌*◌, ◌<◌, ◌≤◌, false, List, [], ◌∷◌, length, take, drop, set, get_or, max, sym, ◌∙◌, ap, arith, ⊎_elim, take-append-drop}
 use Rattle.std.proofs.Math.Nat.{mul-le-mul_left}
-use Rattle.std.proofs.lemmas.Bool.{cases_eq, false≢true}
+use Rattle.std.proofs.lemmas.Bool.{cases_eq}
 use Rattle.std.proofs.lemmas.List.{length-set, drop-set-lt, get_or-set_same, get_or-set_other}
 use Rattle.std.proofs.lemmas.List.Sums.{sum_by-cons, sum_by-append, get_or-le-sum_by}
-use Rattle.ptlines.specs.Slots.{Slots, line, total, with_line, with_denied}
+use Rattle.ptlines.specs.Slots.{Slots, total, with_line}
 use Rattle.ptflow.specs.Passes.{Adds}
 
 -- each of the first `width` slots holds at most `most` bytes, and the others hold nothing
@@ -75,3 +75,12 @@ keeps_line width most before store new slot bytes k within fits is = record {
 
     others : total (drop width new.lines) ≡ 0
     others = ap (λ (s : Slots). total (drop width s.lines)) is ∙ ap total (drop-set-lt width store.lines slot bytes within) ∙ k.others
+
+-- the only slot was emptied
+pub emptied : (store new : Slots) → 0 < length store.lines → new ≡ with_line store 0 [] → total (drop 1 new.lines) ≡ 0 → total new.lines ≡ 0
+emptied store new some is others = omega (arith, kept_total 1 0 new.lines short others)
+  where
+    short : (k : ℕ) → k < 1 → length (get_or new.lines k []) ≤ 0
+    short k low =
+        let first : k ≡ 0 = omega arith in
+        omega (arith, ap length (ap (λ (s : Slots). get_or s.lines k []) is ∙ ap (λ (n : ℕ). get_or (set store.lines 0 []) n []) first ∙ get_or-set_same store.lines 0 [] [] some))

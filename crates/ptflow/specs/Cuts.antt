@@ -47,4 +47,5 @@ cut_decided job given = cut_lines job (whole_lines job.end given)
 
 -- a line of fields goes through a slot; bytes are not kept
 abbrev pub cut_tool : Cut → Tool
-cut_tool job = record { text = cut job; decided = cut_decided job; size = longest_line job.end; slots = if job.fields then 1 else 0 }
+cut_tool job =
+    record { text = cut job; decided = cut_decided job; size = longest_line job.end; slots = if job.fields then 1 else 0 }

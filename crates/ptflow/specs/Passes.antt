@@ -88,3 +88,7 @@ pub record IsPass (tool : Tool) (old new : Reader) (was is : Output) (before sto
   pub unused : tool.slots ≡ 0 → store ≡ before
   -- on an output that has faulted nothing is done
   pub halted : was.faulted ≡ true → Untouched old new was is before store result
+
+-- An engine that is lent no store went over one input: whatever store there is, it was left alone.
+abbrev pub IsBarePass : Tool → Reader → Reader → Output → Output → Result (Unit {0}) FlowFault → Type 0
+IsBarePass tool old new was is result = (store : Slots) → IsReady old store → IsPass tool old new was is store store result

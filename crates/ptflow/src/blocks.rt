@@ -2,10 +2,7 @@
 
 ghost use Rattle.std.specs.Prelude.{◌≡◌, ◌<◌, ◌≤◌, ◌+◌, ◌^◌, ℕ, List, [], length, false, true, None, OnOk, OnErr};
 ghost use Rattle.ptlines.specs.Outputs.{Wrote};
-ghost use Rattle.ptlines.specs.Slots.{Slots};
-ghost use Rattle.ptflow.specs.Passes.{IsReady, IsPass};
-ghost use Rattle.ptflow.specs.Tools.{Tool};
-ghost use Rattle.ptflow.specs.Workings.Blocks.{IsBlockTool};
+ghost use Rattle.ptflow.specs.Workings.Blocks.{GoesOver};
 ghost use Rattle.ptflow.specs.Workings.Continuations.{Continues, Halts};
 
 use crate::faults::FlowFault;
@@ -53,7 +50,7 @@ pub(crate) fn over_blocks<T: BlockTool, S: Source, R: Source, W: Sink>(
     requires holds { T.Holds tool.old tool.old }
     requires readable { reader.old.fault ≡ None }
     requires clean { out.old.faulted ≡ false }
-    ensures { (t : Tool) (store : Slots) → IsBlockTool t T.rest T.Holds tool.old → IsReady reader.old store → IsPass t reader.old reader.new out.old out.new store store result }
+    ensures { GoesOver T.rest T.Holds tool.old reader.old reader.new out.old out.new result }
 {
     'turns: loop {
         let count = match reader.block() {

@@ -2,11 +2,10 @@
 
 ghost use Rattle.std.specs.Prelude.{◌≡◌, ◌<◌, ◌≤◌, ◌+◌, ◌^◌, ℕ, length, true, false, None, [], ◌∷◌, OnOk, OnErr, IfOk, ◌==◌, if◌then◌else◌};
 ghost use Rattle.ptlines.specs.Outputs.{Wrote};
-ghost use Rattle.ptlines.specs.Slots.{Slots};
 ghost use Rattle.ptlangs.specs.CutLists.{AreApart};
 ghost use Rattle.ptlangs.specs.Jobs.{cut_job};
 ghost use Rattle.ptflow.specs.Cuts.{cut_tool};
-ghost use Rattle.ptflow.specs.Passes.{IsReady, IsPass};
+ghost use Rattle.ptflow.specs.Passes.{IsBarePass};
 ghost use Rattle.ptflow.specs.Workings.ByteRests.{rest_by};
 ghost use Rattle.ptflow.specs.Workings.Continuations.{Continues, Halts};
 ghost use Rattle.ptflow.specs.Workings.Pieces.{chosen_piece};
@@ -63,8 +62,8 @@ fn push_pieces<W: Sink>(
     requires apart { AreApart 0 selected.now }
     requires short { before + length block.now < 2 ^ 63 }
     requires clean { out.old.faulted ≡ false }
-    ensures continues { IfOk result (λ after. Continues (rest_by ending selected.now) before after block.now out.old out.new) }
-    ensures bound { IfOk result (λ after. after ≤ before + length block.now) }
+    ensures continues { IfOk result (λ n. Continues (rest_by ending selected.now) before n block.now out.old out.new) }
+    ensures bound { IfOk result (λ n. n ≤ before + length block.now) }
     ensures halts { OnErr result (Halts (rest_by ending selected.now) before block.now out.old out.new) }
     ensures clean { OnOk result (out.new.faulted ≡ false) }
     ensures fault { OnErr result (out.new.faulted ≡ true) }
@@ -124,7 +123,7 @@ pub(crate) fn cut_by_bytes<A: Allocator + Copy, S: Source, R: Source, W: Sink>(
     requires ending { reader.old.ending ≡ (cut_job job.now).end }
     requires readable { reader.old.fault ≡ None }
     requires clean { out.old.faulted ≡ false }
-    ensures { (store : Slots) → IsReady reader.old store → IsPass (cut_tool (cut_job job.now)) reader.old reader.new out.old out.new store store result }
+    ensures { IsBarePass (cut_tool (cut_job job.now)) reader.old reader.new out.old out.new result }
 {
     let mut tool = ByteCut {
         selected: job.list.intervals(),

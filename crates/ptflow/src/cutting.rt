@@ -11,14 +11,14 @@ use ptlangs::jobs::CutJob;
 use ptlines::{LineReader, Out, Sink, Source, Store};
 use std::alloc::Allocator;
 
-/// Writes the selected parts of each line of a reader, and behind each line the byte that ends it (XCU, `cut`): newline,
-/// or byte 0 with `-z` (this project's own choice). A byte is a character, and `-n` changes nothing. Fields are written
-/// behind one another with the delimiter between them; a line without the delimiter is written whole, or not at all with
-/// `-s`. A line of which no field is selected is written as an empty line (this project's own choice).
+/// Writes the selected parts of each line of a reader, and behind each line the byte that ends it (XCU, `cut`), which is
+/// byte 0 with `-z` (this project's own choice). A byte is a character, and `-n` changes nothing. Fields are written
+/// behind one another with the delimiter between them; a line without the delimiter is written whole, or not at all
+/// with `-s`. A line of which no field is selected is written as an empty line (this project's own choice).
 ///
 /// For bytes nothing is kept, and the store stays as it was. For fields the first slot, which is added if the store
-/// has none, holds a line at a time. What is written of the lines that came is pushed before the next read. On an output
-/// that has faulted nothing is read.
+/// has none, holds a line at a time. What is written of the lines that came is pushed before the next read. On an
+/// output that has faulted nothing is read.
 /// # Errors
 /// `Read` or `Write` where a read or a write failed; `Memory` where a growth of the store was refused, and the store
 /// is then denied.

@@ -2,13 +2,13 @@
 
 ghost use Rattle.std.specs.Prelude.{◌≡◌, ◌<◌, ◌≤◌, ◌^◌, length, take, true, false, [], ◌∷◌, IfOk, OnOk, OnErr, MatchOption};
 ghost use Rattle.ptlines.specs.Outputs.{Wrote};
+ghost use Rattle.ptlines.specs.Readers.{IsSound};
 ghost use Rattle.ptlines.specs.Text.{text, ended_lines};
 ghost use Rattle.ptlangs.specs.Jobs.{cut_job};
 ghost use Rattle.ptflow.specs.Cuts.{cut_lines, is_kept, cut_tool};
 ghost use Rattle.ptflow.specs.Passes.{IsReady, IsPass};
-ghost use Rattle.ptflow.specs.Workings.Continuations.{Continues, Halts};
 ghost use Rattle.ptflow.specs.Workings.FieldPlaces.{fields, StartsAt};
-ghost use Rattle.ptflow.specs.Workings.FieldRests.{cut_from};
+ghost use Rattle.ptflow.specs.Workings.FieldRests.{GoesOn, BreaksOff};
 ghost use Rattle.ptflow.specs.Workings.Pieces.{fields_piece, line_piece};
 
 use crate::faults::FlowFault;
@@ -21,7 +21,7 @@ use std::alloc::Allocator;
 // Where the field starts that so many fields stand in front of, or `None` if the line has no more than these.
 fn field_start(delimiter: u8, line: &[u8], count: u64) -> Option<usize>
     requires { length line.now < 2 ^ 63 }
-    ensures { MatchOption result (length (fields delimiter line.now) ≤ count) (λ at. StartsAt delimiter count line.now at) }
+    ensures { MatchOption result (length (fields delimiter line.now) ≤ count) (StartsAt delimiter count line.now) }
 {
     // A line has at most one field more than bytes.
     if count > line.len() as u64 {
@@ -115,8 +115,8 @@ fn push_lines<A: Allocator + Copy, W: Sink>(
     requires ending { ending ≡ (cut_job job.now).end }
     requires short { length block.now < 2 ^ 63 }
     requires clean { out.old.faulted ≡ false }
-    ensures continues { OnOk result (Continues (cut_from (cut_job job.now)) tt tt (ended_lines ending block.now) out.old out.new) }
-    ensures halts { OnErr result (Halts (cut_from (cut_job job.now)) tt (ended_lines ending block.now) out.old out.new) }
+    ensures continues { OnOk result (GoesOn (cut_job job.now) (ended_lines ending block.now) out.old out.new) }
+    ensures halts { OnErr result (BreaksOff (cut_job job.now) (ended_lines ending block.now) out.old out.new) }
     ensures within { IfOk result (λ count. count ≤ length block.now) }
     ensures passed { IfOk result (λ count. take count block.now ≡ text ending (ended_lines ending block.now)) }
     ensures clean { OnOk result (out.new.faulted ≡ false) }
@@ -162,12 +162,13 @@ pub(crate) fn cut_by_fields<A: Allocator + Copy, S: Source, R: Source, W: Sink>(
 ) -> Result<(), FlowFault>
     requires by_fields { job.now.fields ≡ true }
     requires ending { reader.old.ending ≡ (cut_job job.now).end }
+    requires sound { IsSound reader.old }
     requires ready { IsReady reader.old store.old }
     requires clean { out.old.faulted ≡ false }
     ensures { IsPass (cut_tool (cut_job job.now)) reader.old reader.new out.old out.new store.old store.new result }
 {
-    let ending = reader.ending();
     need_slots(store, 1)?;
+    let ending = reader.ending();
     'turns: loop {
         match reader.fill(store, 0) {
             Ok(true) => push_kept(job, ending, store.line(0), out)?,

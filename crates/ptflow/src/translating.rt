@@ -1,11 +1,10 @@
 //! `tr`.
 
 ghost use Rattle.std.specs.Prelude.{◌≡◌, ◌≢◌, ◌≤◌, ℕ, length, take, false, Err};
-ghost use Rattle.ptlines.specs.Slots.{Slots};
 ghost use Rattle.ptlangs.specs.TrTables.{deletes, squeezes};
-ghost use Rattle.ptflow.specs.Passes.{IsReady, IsPass, no_slots};
+ghost use Rattle.ptflow.specs.Passes.{IsReady, IsBarePass, no_slots};
 ghost use Rattle.ptflow.specs.Translations.{tr_tool};
-ghost use Rattle.ptflow.specs.Workings.TrRests.{tr_rest};
+ghost use Rattle.ptflow.specs.Workings.TrRests.{Covers, tr_rest};
 
 use crate::blocks::{BlockTool, over_blocks};
 use crate::faults::FlowFault;
@@ -25,8 +24,8 @@ fn translate(
     block: &[u8],
     into: &mut [u8; 8192],
 ) -> usize
-    requires deleting { deleting ≡ false → (b : ℕ) → deletes plan.now b ≡ false }
-    requires squeezing { squeezing ≡ false → (b : ℕ) → squeezes plan.now b ≡ false }
+    requires deleting { Covers deleting (deletes plan.now) }
+    requires squeezing { Covers squeezing (squeezes plan.now) }
     requires room { length block.now ≤ 8192 }
     ensures written { take result into.new ≡ tr_rest plan.now last block.now }
     ensures within { result ≤ 8192 }
@@ -56,8 +55,8 @@ fn translate_by(
     block: &[u8],
     into: &mut [u8; 8192],
 ) -> usize
-    requires deleting { deleting ≡ false → (b : ℕ) → deletes plan.now b ≡ false }
-    requires squeezing { squeezing ≡ false → (b : ℕ) → squeezes plan.now b ≡ false }
+    requires deleting { Covers deleting (deletes plan.now) }
+    requires squeezing { Covers squeezing (squeezes plan.now) }
     requires room { length block.now ≤ 8192 }
     ensures written { take result into.new ≡ tr_rest plan.now last block.now }
     ensures within { result ≤ 8192 }
@@ -82,18 +81,25 @@ struct Translator<'a> {
 }
 
 impl<'a> BlockTool for Translator<'a> {
-    ghost use Rattle.std.specs.Prelude.{◌≡◌, ℕ, false};
+    ghost use Rattle.std.specs.Prelude.{◌≡◌};
     ghost use Rattle.ptlangs.specs.TrTables.{deletes, squeezes};
-    ghost use Rattle.ptflow.specs.Workings.TrRests.{tr_rest};
+    ghost use Rattle.ptflow.specs.Workings.TrRests.{Covers, tr_rest};
 
     ghost rest = { λ t. tr_rest t.plan.now t.last };
 
     ghost counted = { λ t. 0 };
 
-    ghost Holds = { λ s t. (t.plan.now ≡ s.plan.now) × (t.deleting ≡ false → (b : ℕ) → deletes t.plan.now b ≡ false) × (t.squeezing ≡ false → (b : ℕ) → squeezes t.plan.now b ≡ false) };
+    ghost Holds = { λ s t. (t.plan.now ≡ s.plan.now) × Covers t.deleting (deletes t.plan.now) × Covers t.squeezing (squeezes t.plan.now) };
 
     fn push_block<W: Sink>(&mut self, block: &[u8], out: &mut Out<W>) -> Result<(), WriteFault> {
-        let count = translate_by(self.plan, self.deleting, self.squeezing, self.last, block, &mut self.into);
+        let count = translate_by(
+            self.plan,
+            self.deleting,
+            self.squeezing,
+            self.last,
+            block,
+            &mut self.into,
+        );
         let written = &self.into[..count];
         out.push(written)?;
         self.last = written.last().copied().or(self.last);
@@ -119,7 +125,7 @@ pub fn tr<S: Source, R: Source, W: Sink>(
     out: &mut Out<W>,
 ) -> Result<(), FlowFault>
     requires { IsReady reader.old no_slots }
-    ensures pass { (store : Slots) → IsReady reader.old store → IsPass (tr_tool plan.now) reader.old reader.new out.old out.new store store result }
+    ensures pass { IsBarePass (tr_tool plan.now) reader.old reader.new out.old out.new result }
     ensures no_memory { result ≢ Err FlowFault.Memory }
 {
     if out.has_failed() {

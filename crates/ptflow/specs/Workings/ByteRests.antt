@@ -1,5 +1,5 @@
 -- What `cut` by bytes writes of the rest of a text.
-use Rattle.std.specs.Prelude.{ℕ, ◌+◌, ◌==◌, List, [], ◌∷◌, ◌++◌, Bool, map, take, drop, if◌then◌else◌}
+use Rattle.std.specs.Prelude.{ℕ, ◌+◌, ◌==◌, List, [], ◌∷◌, ◌++◌, Bool, map, if◌then◌else◌}
 use Rattle.ptlines.specs.Text.{text, lines}
 use Rattle.ptlangs.specs.CutLists.{is_selected}
 use Rattle.ptlangs.specs.declared.ranges.Interval.{Interval}

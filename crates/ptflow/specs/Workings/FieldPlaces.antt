@@ -10,7 +10,7 @@ fields delimiter line = slice_split (λ b. b == delimiter) line
 abbrev pub led : ℕ → List (List ℕ) → List ℕ
 led delimiter fs = flat_map (λ field. delimiter ∷ field) fs
 
--- In a line with one more delimiter in front of it, the first n fields end where the delimiter in front of this place stands.
+-- With one more delimiter in front of a line, its first n fields end where the delimiter in front of this place stands.
 pub record StartsAt (delimiter n : ℕ) (line : List ℕ) (at : ℕ) : Type 0 where
   pub fits : at ≤ length line
   pub count : n ≤ at

@@ -1,4 +1,4 @@
--- What is pushed of a piece of a line, the first `count` of some bytes; all the others, the line's end or none, follow it.
+-- What is pushed of a piece of a line, the first `count` of some bytes, and behind it: the line's end, or nothing.
 use Rattle.std.specs.Prelude.{ℕ, ◌+◌, List, ◌++◌, take, drop}
 use Rattle.std.specs.List.{flat_map}
 use Rattle.ptlangs.specs.CutLists.{is_selected}

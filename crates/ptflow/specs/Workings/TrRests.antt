@@ -1,7 +1,11 @@
 -- What `tr` writes of the rest of a text.
-use Rattle.std.specs.Prelude.{ℕ, List, Bool, Option, None, Some}
+use Rattle.std.specs.Prelude.{◌≡◌, ℕ, List, Bool, false, Option, None, Some}
 use Rattle.ptlangs.specs.TrTables.{Tables, squeezes}
 use Rattle.ptflow.specs.Translations.{squeeze_behind, squeeze, translated}
+
+-- if the flag is false, the test holds for no byte
+abbrev pub Covers : Bool → (ℕ → Bool) → Type 0
+Covers flag test = flag ≡ false → (b : ℕ) → test b ≡ false
 
 -- the bytes that stay, where `last` stands in front, if there is such a byte
 abbrev pub squeeze_from : (ℕ → Bool) → Option ℕ → List ℕ → List ℕ

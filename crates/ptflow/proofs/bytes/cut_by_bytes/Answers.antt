@@ -1,5 +1,4 @@
-use Rattle.std.proofs.Common.{◌≡◌, ℕ, List, ◌++◌, refl, sym, ◌∙◌, ap, cond}
-use Rattle.ptlangs.specs.declared.ranges.Interval.{Interval}
+use Rattle.std.proofs.Common.{◌++◌, sym, ◌∙◌, ap, cond}
 use Rattle.ptlangs.specs.Jobs.{cut_job}
 use Rattle.ptflow.specs.Cuts.{cut_tool}
 use Rattle.ptflow.specs.Workings.ByteRests.{rest_by}
@@ -12,12 +11,12 @@ returns g c =
     let end = c.ending.ensures ∙ c.requires.ending in
     let list = c.intervals.ensures.kept in
     λ store ready.
-    c.over_blocks.ensures (cut_tool job) store
+    c.over_blocks.ensures (cut_tool job)
     (record {
       text = λ bytes. (λ i. rest_by (end i) (list i) 0 bytes) ∙ rest_is_cut job c.requires.by_bytes bytes;
       decided = λ given pushed now holds on.
-      rest_is_decided job c.requires.by_bytes given pushed now.before
-      (λ rest. (λ i. rest_by (sym end i) (sym list i) 0 (given ++ rest)) ∙ on rest ∙ (λ i. pushed ++ rest_by ((holds.2 ∙ end) i) ((holds.1 ∙ list) i) now.before rest));
+          rest_is_decided job c.requires.by_bytes given pushed now.before
+          (λ rest. (λ i. rest_by (sym end i) (sym list i) 0 (given ++ rest)) ∙ on rest ∙ (λ i. pushed ++ rest_by ((holds.2 ∙ end) i) ((holds.1 ∙ list) i) now.before rest));
       slots = ap (λ b. cond b 1 0) c.requires.by_bytes;
     })
-    ready
+    store ready

@@ -1,7 +1,7 @@
-use Rattle.std.proofs.Common.{◌≡◌, refl, sym, ◌∙◌}
+use Rattle.std.proofs.Common.{sym, ◌∙◌}
 use Rattle.ptlangs.specs.Jobs.{cut_job}
 use Rattle.ptflow.specs.Cuts.{cut_tool}
-use Rattle.ptflow.proofs.PassLemmas.{pass_halted, pass_from_ending}
+use Rattle.ptflow.proofs.PassLemmas.{pass_halted}
 use Rattle.ptflow.proofs.cutting.cut.Goals as goal
 
 pub returns-then-has_failed : goal.returns-then-has_failed

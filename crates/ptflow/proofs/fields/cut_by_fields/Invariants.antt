@@ -1,4 +1,3 @@
-use Rattle.std.proofs.Common.{◌≡◌, List, ℕ}
 use Rattle.ptlines.specs.Readers.{budget}
 use Rattle.ptlines.specs.Text.{lines, longest}
 use Rattle.ptlangs.specs.Jobs.{cut_job}

@@ -1,5 +1,4 @@
 use Rattle.std.proofs.Common.{refl, ℕ, List, take, drop, take-append-drop, sym, ◌∙◌, subst}
-use Rattle.std.proofs.lemmas.Bool.{false≢true}
 use Rattle.ptlines.specs.Outputs.{Wrote}
 use Rattle.ptlines.proofs.Pushed.{wrote_nothing}
 use Rattle.ptlangs.specs.Jobs.{cut_job}

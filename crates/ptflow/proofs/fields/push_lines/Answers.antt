@@ -1,4 +1,4 @@
-use Rattle.std.proofs.Common.{◌+◌, ◌++◌, length, take, drop, Result, Ok, Err, OnErr, ap, arith, length-append}
+use Rattle.std.proofs.Common.{◌+◌, length, take, drop, Result, Ok, Err, OnErr, ap, arith, length-append}
 use Rattle.std.proofs.lemmas.List.{take_rest}
 use Rattle.ptlines.specs.Text.{ended_lines}
 use Rattle.ptlines.proofs.Scanned.{no_end}

@@ -1,4 +1,4 @@
-use Rattle.std.proofs.Common.{◌≡◌, ℕ, List, ◌++◌, refl, sym, ◌∙◌, ap, Err}
+use Rattle.std.proofs.Common.{◌++◌, refl, sym, ◌∙◌, ap}
 use Rattle.ptlangs.specs.TrTables.{Tables}
 use Rattle.ptflow.specs.Passes.{no_slots}
 use Rattle.ptflow.specs.Translations.{tr_tool}
@@ -14,13 +14,13 @@ pub returns-clause-pass : goal.returns-clause-pass
 returns-clause-pass g c =
     let t = c.args.plan.now in
     λ store ready.
-    c.over_blocks.ensures (tr_tool t) store
+    c.over_blocks.ensures (tr_tool t)
     (record {
       text = λ bytes. refl;
       decided = λ given pushed now holds on. rest_decided t given pushed now.last (λ rest. on rest ∙ ap (λ (p : Tables). pushed ++ tr_rest p now.last rest) holds.0);
       slots = refl;
     })
-    ready
+    store ready
 
 pub returns-clause-no_memory : goal.returns-clause-no_memory
 returns-clause-no_memory g c = never_memory (tr_tool c.args.plan.now) c.args.reader.now c.over_blocks.new.reader c.args.out.now c.over_blocks.new.out no_slots c.over_blocks.result refl (returns-clause-pass g c no_slots c.requires)

@@ -21,5 +21,5 @@ returns-clause-continues g c =
       pushed = written;
       wrote = c.push.ensures.wrote;
       on = λ rest. block_on t.plan.now t.last c.or-self.result c.args.block.now written rest c.translate_by-count.ensures.written
-      (c.or-self.ensures ∙ ap (λ (o : Option ℕ). option_or o t.last) (c.copied.ensures ∙ c.last.ensures.value));
+          (c.or-self.ensures ∙ ap (λ (o : Option ℕ). option_or o t.last) (c.copied.ensures ∙ c.last.ensures.value));
     }

@@ -1,0 +1,40 @@
+-- Worked examples of `tr`, from its strings.
+use Rattle.std.proofs.Common.{◌≡◌, ℕ, List, [], true, false, refl, codes, Option, Some, None, Result, Ok, Err}
+use Rattle.ptlangs.specs.declared.faults.SetFault.{SetFault}
+use Rattle.ptlangs.specs.declared.plan.Form.TheVariants.{Translate, TranslateSqueeze, Squeeze, Delete, DeleteSqueeze}
+use Rattle.ptlangs.specs.TrClasses.{all_bytes}
+use Rattle.ptlangs.specs.TrPlan.{Plan, plan}
+use Rattle.ptlangs.specs.TrTables.{tables}
+use Rattle.ptflow.specs.Translations.{tr}
+
+-- what `tr` writes of some bytes
+abbrev run : Result Plan SetFault → List ℕ → Option (List ℕ)
+run (Ok p) bytes = Some (tr (tables p) bytes)
+run (Err fault) bytes = None
+
+words_on_lines : run (plan TranslateSqueeze true (codes "[:alpha:]") (Some (codes "[\\n*]"))) (codes "one, two.\n") ≡ Some (codes "one\ntwo\n")
+unfolding all_bytes
+words_on_lines = refl
+
+second_filled_with_its_last : run (plan Translate false (codes "a-c") (Some (codes "x-y"))) (codes "abcd") ≡ Some (codes "xyyd")
+unfolding all_bytes
+second_filled_with_its_last = refl
+
+deleted_then_squeezed : run (plan DeleteSqueeze false (codes "0-9") (Some (codes "ab"))) (codes "a1ab2bb") ≡ Some (codes "ab")
+unfolding all_bytes
+deleted_then_squeezed = refl
+
+octal_escape_and_count : run (plan Translate false (codes "\\055a-b") (Some (codes "x[y*02]z"))) (codes "-ab") ≡ Some (codes "xyy")
+unfolding all_bytes
+octal_escape_and_count = refl
+
+complement_deleted : run (plan Delete true (codes "0-9") None) (codes "a1b2\n") ≡ Some (codes "12")
+unfolding all_bytes
+complement_deleted = refl
+
+repeats_squeezed : run (plan Squeeze false (codes "a") None) (codes "aabaa") ≡ Some (codes "aba")
+unfolding all_bytes
+repeats_squeezed = refl
+
+nothing_of_nothing : run (plan TranslateSqueeze false (codes "a") (Some (codes "b"))) [] ≡ Some []
+nothing_of_nothing = refl
