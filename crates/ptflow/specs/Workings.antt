@@ -6,3 +6,5 @@ pub mod FieldPlaces
 pub mod FieldRests
 pub mod Pieces
 pub mod TrRests
+pub mod OpenRuns
+pub mod SerialRests
