@@ -6,7 +6,6 @@ pub mod CutLines
 pub mod CutRests
 pub mod CutRows
 pub mod EndedLines
-pub mod Endings
 pub mod FieldLines
 pub mod FieldPlaces
 pub mod FieldWalks
