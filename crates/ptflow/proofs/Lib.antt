@@ -9,8 +9,16 @@ pub mod FieldWalks
 pub mod Fronts
 pub mod LineLaws
 pub mod LineLemmas
+pub mod LinesCame
+pub mod OpenRuns
 pub mod PassLemmas
+pub mod PasteRows
 pub mod ReaderFacts
+pub mod SerialRests
 pub mod SlotFacts
 pub mod TrRests
 pub mod TrRows
+pub mod TwoSlots
+pub mod UniqKeys
+pub mod UniqPasses
+pub mod UniqRows

@@ -3,3 +3,5 @@ pub mod Passes
 pub mod Tools
 pub mod Translations
 pub mod Workings
+pub mod Pastes
+pub mod Uniqs

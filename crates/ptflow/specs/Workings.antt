@@ -4,3 +4,5 @@ pub mod Continuations
 pub mod CutRests
 pub mod FieldPlaces
 pub mod TrRests
+pub mod OpenRuns
+pub mod SerialRests

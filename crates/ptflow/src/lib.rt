@@ -6,9 +6,14 @@ mod bytes;
 mod cutting;
 mod faults;
 mod fields;
+mod keys;
+mod repeats;
+mod serial;
 mod slots;
 mod translating;
 
 pub use cutting::cut;
 pub use faults::FlowFault;
+pub use repeats::uniq;
+pub use serial::paste_serial;
 pub use translating::tr;

@@ -1,11 +1,12 @@
-pub mod Spelled
-pub mod Read
 pub mod Accepted
-pub mod Seen
-pub mod Groups
-pub mod Readings
 pub mod Chosen
+pub mod Groups
 pub mod Judged
-pub mod RowWords
-mod RefusedRows
 mod MeantRows
+pub mod Read
+pub mod Readings
+mod RefusedRows
+pub mod RowWords
+pub mod Seen
+pub mod SoleInputs
+pub mod Spelled

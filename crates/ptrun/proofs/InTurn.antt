@@ -23,7 +23,7 @@ use Rattle.ptlines.specs.Inputs as one
 use Rattle.ptflow.specs.Passes as pass
 use Rattle.ptflow.specs.declared.faults.FlowFault.{FlowFault}
 use Rattle.ptflow.specs.declared.faults.FlowFault.TheVariants.{Read, Write, Memory}
-use Rattle.ptrun.specs.Worlds.{World, Received, at, is_unopened, AllowsAt, Allows, is_in, found, founds, opened, sources, reader_at, no_reader, CameAt, IsReceived, IsNew, IsFresh, HasFailed, IsTooLong}
+use Rattle.ptrun.specs.Worlds.{World, Received, at, is_unopened, AllowsAt, Allows, is_in, found, founds, opened, sources, reader_at, no_reader, shut, CameAt, IsReceived, IsNew, IsFresh, HasFailed, IsTooLong}
 use Rattle.ptrun.specs.Sayings.{Tells}
 use Rattle.ptrun.specs.Meanings.{unopened}
 use Rattle.ptrun.specs.Messages.{not_opened, name_of}
@@ -53,10 +53,6 @@ IfSeen false old now g = (now ≡ old) × (g ≡ nothing_yet)
 abbrev pub PlaceIs : Bool → Reader → Reader → Option Given → Type 0
 PlaceIs seen old now None = (old.refused ≡ true) × (now ≡ old)
 PlaceIs seen old now (Some g) = (old.refused ≡ false) × IfSeen seen old now g
-
--- which inputs could not be opened
-abbrev pub shut : List Reader → ℕ → Bool
-shut readers place = (reader_at readers place).refused
 
 abbrev pub done_with : Bool → Done
 done_with any = cond any Unopened Whole
@@ -500,7 +496,7 @@ module _ (word : List ℕ) (t : Tool) (names : List (List ℕ)) (old : List Read
     failing Write r failed = absurd (false≢true (sym (r.failed ∙ calm) ∙ failed))
     failing Memory r failed = absurd (false≢true (sym (r.failed ∙ calm) ∙ failed))
 
-    ended_before : (q : ℕ) → is_in done q ≡ true → EndedAt (at gave' q)
+    pub ended_before : (q : ℕ) → is_in done q ≡ true → EndedAt (at gave' q)
     ended_before q seen = ⊎_elim same other (same_or_other p q)
       where
         same : p ≡ q → EndedAt (at gave' q)
@@ -514,7 +510,14 @@ module _ (word : List ℕ) (t : Tool) (names : List (List ℕ)) (old : List Read
         other differs = subst EndedAt (sym (get_or-set_other k.gave p q (Some (given_now y.g)) None (λ is_p. differs (sym is_p))))
             (ended_at (reader_at old q) (reader_at now q) (at k.gave q) (subst (λ (b : Bool). PlaceIs b (reader_at old q) (reader_at now q) (at k.gave q)) seen (k.places q)))
 
-    module _ (law : (g : Given) → g.ended ≡ true → t.decided g ≡ t.text g.bytes) (more : List ℕ) where
+    -- the operands that are done decided all of what they give
+    abbrev pub Decided : Type 0
+    Decided = (later : List Given) → flat_map t.decided (up_to_open (opened (founds nothing_left gave' [] done) ++ later)) ≡ flat_map t.text (opened (founds [] (least gave') [] done)) ++ flat_map t.decided (up_to_open later)
+
+    pub decided_by_law : ((g : Given) → g.ended ≡ true → t.decided g ≡ t.text g.bytes) → Decided
+    decided_by_law law later = decided_founds t law gave' [] done later ended_before
+
+    module _ (decided : Decided) (more : List ℕ) where
       sure_here : new.failed ≡ true → is'.faulted ≡ false → new.ended ≡ false → Begins (each_decided t gave' (done ++ p ∷ more)) (k.pushed ++ e.pushed)
       sure_here failed clean going = record {
         rest = s.rest;
@@ -543,7 +546,7 @@ module _ (word : List ℕ) (t : Tool) (names : List (List ℕ)) (old : List Read
           all : each_decided t gave' (done ++ p ∷ more) ≡ k.pushed ++ t.decided e.given
           all =
               ap (λ (l : List Given). flat_map t.decided (up_to_open l)) (sources_at nothing_left gave' done p more)
-              ∙ decided_founds t law gave' [] done (opened (found nothing_left gave' done p ∷ founds nothing_left gave' (done ++ p ∷ []) more)) ended_before
+              ∙ decided (opened (found nothing_left gave' done p ∷ founds nothing_left gave' (done ++ p ∷ []) more))
               ∙ (λ i. sym (k.out (least gave') (back (least gave') (agrees_least gave'))) i ++ later_is i)
 
       pub pass_stopped : (fault : FlowFault) → result ≡ Err fault → Went (one_by_one word t names (done ++ p ∷ more)) old now' was is' told heard before store' (Err (blame p fault))

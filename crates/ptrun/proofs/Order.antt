@@ -9,7 +9,8 @@ use Rattle.ptflow.specs.Tools.{Tool}
 use Rattle.ptflow.specs.Passes.{IsPass}
 use Rattle.ptflow.specs.declared.faults.FlowFault.{FlowFault}
 use Rattle.ptrun.specs.Worlds.{reader_at, no_reader, IsFresh, AreFresh}
-use Rattle.ptrun.specs.Operands.{place, places, one_by_one}
+use Rattle.ptrun.specs.Meanings.{Meaning}
+use Rattle.ptrun.specs.Operands.{place, places}
 use Rattle.std.specs.Prelude.{All, not}
 use Rattle.std.proofs.lemmas.List.Elements.{All-nil, All-cons, All-map}
 use Rattle.ptrun.specs.Engines.{AreGiven}
@@ -28,11 +29,10 @@ pub place_fits : (order : List Input) (n i : ℕ) (d : Input) → All (λ p. p <
 place_fits order n i d fits within = subst (λ (k : ℕ). k < n) (get_or-map place order i d 0 within) (fits i 0 (omega (arith, within, length-map order place)))
 
 -- each operand has a reader, and each file has a name
-pub given_of : (word : List ℕ) (t : Tool) (inputs : List Reader) (names : List (List ℕ)) (order : List Input) → AreFresh (length names) inputs → All (λ o. place o < length inputs) order
-    → AreGiven (one_by_one word t names (places order)) inputs
-given_of word t inputs names order fresh fits = record {
+pub given_of : (m : Meaning) (inputs : List Reader) (order : List Input) → m.places ≡ places order → AreFresh (length m.names) inputs → All (λ o. place o < length inputs) order → AreGiven m inputs
+given_of m inputs order same fresh fits = record {
   fresh = fresh.1;
-  fits = All-map (λ (p : ℕ). p < length inputs) place order fits;
+  fits = subst (λ (l : List ℕ). All (λ (p : ℕ). p < length inputs) l) (sym same) (All-map (λ (p : ℕ). p < length inputs) place order fits);
   named = fresh.0;
 }
 

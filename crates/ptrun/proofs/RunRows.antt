@@ -1,5 +1,6 @@
 -- What some whole commands are to write, say and answer, from their words.
 use Rattle.std.proofs.Common.{◌≡◌, ℕ, List, [], ◌∷◌, Some, None, refl, codes, false, ◌++◌, map}
+use Rattle.std.specs.Fmt.{digits}
 use Rattle.ptopts.proofs.RowWords.{words}
 use Rattle.ptrun.specs.Worlds.{World}
 use Rattle.ptrun.specs.Meanings.{named, messages}
@@ -52,11 +53,22 @@ rows =
     ∷ ((words "cut -z -f 2 -d" ++ (0 ∷ []) ∷ []), input [], refuses (codes "cut: wrong value for option -d: " ++ 0 ∷ codes "\n"))
     ∷ (words "cut -zf1 - - f", Some (codes "a\tb" ++ 0 ∷ codes "c") ∷ None ∷ [], record { out = codes "a" ++ 0 ∷ codes "c" ++ 0 ∷ []; messages = codes "cut: f: cannot be opened\n"; status = 1 })
     ∷ (words "tr -z a b", input [], refuses (codes "tr: unknown option in -z\n"))
-    ∷ (words "uniq -c", input (codes "a\n"), record { out = []; messages = codes "uniq: not built yet\n"; status = 1 })
+    ∷ (words "uniq -c", input (codes "a\na\nb\na"), writes (codes "2 a\n1 b\n1 a\n"))
+    ∷ (words "uniq -f 1 -s 1", input (codes " x 1a\ny 1a\n"), writes (codes " x 1a\n"))
+    ∷ (words "uniq -c", input [], writes [])
+    ∷ (words "uniq -c -f 1", input (codes "1 x\n2 x\n3 y"), writes (codes "2 1 x\n1 3 y\n"))
+    ∷ (words "uniq -f 2", input (codes "a b\nc\n"), writes (codes "a b\n"))
+    ∷ (words "uniq -s 18446744073709551615", input (codes "a\nb\n"), writes (codes "a\n"))
+    ∷ (words "uniq -d", input (codes "a\na\nb\n"), writes (codes "a\n"))
+    ∷ (words "uniq -u", input (codes "a\na\nb\n"), writes (codes "b\n"))
+    ∷ (words "uniq g out", Some (codes "a\n") ∷ None ∷ [], record { out = []; messages = codes "uniq: g: cannot be opened\n"; status = 1 })
+    ∷ (words "uniq f -", Some (codes "x\n") ∷ Some (codes "a\na\n") ∷ [], writes (codes "a\n"))
+    ∷ (words "uniq -zc", input (codes "a" ++ 0 ∷ codes "a" ++ 0 ∷ codes "b"), writes (codes "2 a" ++ 0 ∷ codes "1 b" ++ 0 ∷ []))
+    ∷ (words "comm f g", Some [] ∷ Some [] ∷ Some [] ∷ [], record { out = []; messages = codes "comm: not built yet\n"; status = 1 })
     ∷ []
 
 are_left : map (λ (row : List (List ℕ) × World × Outcome). outcome row.0 row.1) rows ≡ map (λ (row : List (List ℕ) × World × Outcome). row.2) rows
-unfolding lib.Utf8.encode
+unfolding lib.Utf8.encode digits
 are_left = refl
 
 -- a read fails behind the first line: it was decided, and what came of the second was not
@@ -73,3 +85,12 @@ said_of_the_first_operand = refl
 -- a read fails behind the first line that byte 0 ends
 decided_of_lines_that_byte_0_ends : (asked (words "cut -z -c 1")).decided (Some (record { bytes = codes "ab" ++ 0 ∷ codes "\nc"; ended = false }) ∷ []) ≡ codes "a" ++ 0 ∷ []
 decided_of_lines_that_byte_0_ends = refl
+
+-- a read fails, and nothing of the last run is decided
+nothing_of_the_last_run : map (λ (row : List (List ℕ) × List ℕ). (asked row.0).decided (Some (record { bytes = row.1; ended = false }) ∷ [])) ((words "uniq", codes "a\na\nb") ∷ (words "uniq -c", codes "a\nb\nc") ∷ []) ≡ [] ∷ codes "1 a\n" ∷ []
+unfolding digits
+nothing_of_the_last_run = refl
+
+-- twice the longest line is held
+held_by_uniq : (asked (words "uniq")).bound (Some (codes "abc\nd\n") ∷ []) ≡ 6
+held_by_uniq = refl

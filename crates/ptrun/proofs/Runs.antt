@@ -8,6 +8,7 @@ use Rattle.std.specs.Prelude.{All}
 use Rattle.std.specs.Io.KnownBytes.{append_known, prepend_known, IsAtEnd}
 use Rattle.std.proofs.lemmas.List.{append-nil, append_cancel_left, nil_from_length}
 use Rattle.std.proofs.lemmas.Bool.{false≢true}
+use Rattle.std.proofs.Math.Seq.{take-length}
 use Rattle.ptlines.specs.Readers.{Reader}
 use Rattle.ptlines.specs.Outputs.{Output, text, Wrote}
 use Rattle.ptlines.specs.Slots.{Slots}
@@ -20,16 +21,17 @@ use Rattle.ptlines.specs.Inputs as one
 use Rattle.ptflow.specs.declared.faults.FlowFault.{FlowFault}
 use Rattle.ptflow.specs.declared.faults.FlowFault.TheVariants.{Read, Write, Memory}
 use Rattle.ptrun.specs.declared.engine.Done.{Done}
-use Rattle.ptrun.specs.Worlds.{World, Received, at, AllowsAt, Allows, reader_at, CameAt, IsReceived, IsFresh, HasFailed, IsTooLong, TellsAt, TellsWorld}
+use Rattle.ptrun.specs.Worlds.{World, Received, at, AllowsAt, Allows, reader_at, shut, is_unopened, CameAt, IsReceived, IsFresh, HasFailed, IsTooLong, TellsAt, TellsWorld}
 use Rattle.ptrun.specs.Sayings.{Tells}
 use Rattle.ptrun.specs.Messages.{failure}
-use Rattle.ptrun.specs.Meanings.{Meaning, named}
+use Rattle.ptrun.specs.Meanings.{Meaning, named, unopened}
 use Rattle.ptrun.specs.Runs.{Sinks, sinks, Outcome, Cause, EndsAs, IsRun, IsExact, Headline}
 use Rattle.ptrun.specs.Engines.{WentTo, Went, Finishes, last_words, status_after, IsWithin}
 use Rattle.ptrun.specs.Asked.{saying}
 use Rattle.ptrun.proofs.Sayings.{tells_trans}
 use Rattle.ptrun.proofs.Order.{fresh_all}
-use Rattle.ptrun.proofs.InTurn.{nothing_read, nothing_long, received_of}
+use Rattle.ptrun.proofs.Sources.{unopened_same}
+use Rattle.ptrun.proofs.InTurn.{nothing_read, nothing_long, received_of, refused_same}
 
 -- ---- what reached the sink
 
@@ -123,15 +125,15 @@ none_failed old q failed = false≢true (sym failed.1 ∙ failed.2)
 
 -- Memory for the store was denied, or nothing was to be read; in both cases the output is left alone.
 module _ (m : Meaning) (old : List Reader) (fresh : All IsFresh old) (out told heard : SinkState) (fine : out.failed ≡ false) (text : List ℕ) (tells : Tells told heard text) where
-  unread : (o : Outcome) → o.out ≡ out → o.messages ≡ heard → o.peak ≡ 0 → (fault : Option FlowFault) → EndsAs m (map received_of old) old old [] text o 0 fault → IsRun m old old (sinks out told) o
-  unread o same said none fault ends = record {
+  unread : (o : Outcome) → o.out ≡ out → o.messages ≡ heard → o.peak ≡ 0 → (n : ℕ) (fault : Option FlowFault) → EndsAs m (map received_of old) old old [] text o n fault → IsRun m old old (sinks out told) o
+  unread o same said none n fault ends = record {
     received = map received_of old;
     came = nothing_read old (fresh_all old fresh);
     written = [];
     took = ap (λ (s : SinkState). s.taken) same ∙ sym (append_known-nil out.taken);
     said = text;
     tells = subst (λ (s : SinkState). Tells told s text) (sym said) tells;
-    behind = 0;
+    behind = n;
     fault = fault;
     ends = ends;
     untouched = λ q other. refl;
@@ -144,14 +146,14 @@ module _ (m : Meaning) (old : List Reader) (fresh : All IsFresh old) (out told h
 pub not_started : (m : Meaning) (old : List Reader) → All IsFresh old → (out told heard : SinkState) → out.failed ≡ false → Tells told heard (failure m.tool m.names Memory) → (status : ℕ) → status ≡ 1
     → IsRun m old old (sinks out told) (record { out = out; messages = heard; status = status; peak = 0; denied = true })
 not_started m old fresh out told heard fine tells status is =
-    unread m old fresh out told heard fine (failure m.tool m.names Memory) tells (record { out = out; messages = heard; status = status; peak = 0; denied = true }) refl refl refl (Some Memory)
+    unread m old fresh out told heard fine (failure m.tool m.names Memory) tells (record { out = out; messages = heard; status = status; peak = 0; denied = true }) refl refl refl 0 (Some Memory)
     (record { within = omega arith; messages = λ w agrees. refl; cause = (refl, fine); status_is = is })
 
 -- nothing was read or written, and this was said
 pub only_said : (text : List ℕ) (is : ℕ) (old : List Reader) → All IsFresh old → (out told heard : SinkState) (status : ℕ) → out.failed ≡ false → Tells told heard text → status ≡ is
     → IsRun (saying text is) old old (sinks out told) (record { out = out; messages = heard; status = status; peak = 0; denied = false })
 only_said text is old fresh out told heard status fine tells status_is =
-    unread (saying text is) old fresh out told heard fine text tells (record { out = out; messages = heard; status = status; peak = 0; denied = false }) refl refl refl None (
+    unread (saying text is) old fresh out told heard fine text tells (record { out = out; messages = heard; status = status; peak = 0; denied = false }) refl refl refl 0 None (
       record {
         all = refl;
         out = λ w agrees. refl;
@@ -161,6 +163,48 @@ only_said text is old fresh out told heard status fine tells status_is =
       },
       λ w agrees. (refl, status_is),
     )
+
+-- Inputs are lacking, those that could not be opened were named, and there is nothing else to do.
+pub lacking : (m : Meaning) (old : List Reader) → All IsFresh old → (out told heard : SinkState) → out.failed ≡ false → Tells told heard (unopened m.tool m.names (shut old) m.places)
+    → ((w : World) → ((q : ℕ) → shut old q ≡ is_unopened w q) → (m.out w ≡ []) × (m.closing w ≡ []) × (m.status w ≡ 1))
+    → IsRun m old old (sinks out told) (record { out = out; messages = heard; status = 1; peak = 0; denied = false })
+lacking m old fresh out told heard fine tells nothing =
+    unread m old fresh out told heard fine (unopened m.tool m.names (shut old) m.places) tells (record { out = out; messages = heard; status = 1; peak = 0; denied = false }) refl refl refl (length m.places) None (
+      record {
+        all = refl;
+        out = λ w agrees. sym (nothing w (same w agrees)).0;
+        written = fine;
+        roomy = refl;
+        read = λ q. ⊎_elim (λ failed. none_failed old q failed) (λ long. nothing_long old (fresh_all old fresh) q long);
+      },
+      λ w agrees. (
+        unopened_same m.tool m.names (shut old) (is_unopened w) m.places (same w agrees) ∙ ap (unopened m.tool m.names (is_unopened w)) (sym (take-length m.places)) ∙ sym (append-nil (named m w (length m.places)))
+            ∙ ap (λ (l : List ℕ). named m w (length m.places) ++ l) (sym (nothing w (same w agrees)).1),
+        sym (nothing w (same w agrees)).2,
+      ),
+    )
+  where
+    same : (w : World) → Allows (map received_of old) w → (q : ℕ) → shut old q ≡ is_unopened w q
+    same w agrees = refused_same old old (map received_of old) w (nothing_read old (fresh_all old fresh)) agrees
+
+-- nothing was said in front of a run
+pub run_behind : (m : Meaning) (old new : List Reader) (out a b : SinkState) (o : Outcome) → Tells a b [] → IsRun m old new (sinks out b) o → IsRun m old new (sinks out a) o
+run_behind m old new out a b o none k = record {
+  received = k.received;
+  came = k.came;
+  written = k.written;
+  took = k.took;
+  said = k.said;
+  tells = tells_trans a b o.messages [] k.said none k.tells;
+  behind = k.behind;
+  fault = k.fault;
+  ends = k.ends;
+  untouched = k.untouched;
+  true_so_far = k.true_so_far;
+  told = k.told;
+  sure = k.sure;
+  bounded = k.bounded;
+}
 
 -- ---- the end of a run
 

@@ -2,6 +2,7 @@
 use Rattle.std.specs.Prelude.{ℕ, List, [], Bool, true, false, Some, None, Result, Ok, Err, codes, length, slice_index_or, is_none, if◌then◌else◌}
 use Rattle.ptflow.specs.Cuts.{cut_tool}
 use Rattle.ptflow.specs.Translations.{tr_tool}
+use Rattle.ptflow.specs.Uniqs.{uniq_tool}
 use Rattle.ptopts.specs.Faults.{Fault}
 use Rattle.ptopts.specs.Commands.{Command, Job, RunCut, RunPaste, RunUniq, RunComm, RunJoin, RunTr, meaning}
 use Rattle.ptopts.specs.Meant.{meant, seen}
@@ -10,6 +11,7 @@ use Rattle.ptopts.specs.declared.command.Command as code
 use Rattle.ptrun.specs.Meanings.{Meaning}
 use Rattle.ptrun.specs.Messages.{said_of, not_built}
 use Rattle.ptrun.specs.Operands.{places, one_by_one}
+use Rattle.ptrun.specs.Together.{of_one, together}
 
 -- nothing is read or written, and this is said
 abbrev pub saying : List ℕ → ℕ → Meaning
@@ -19,6 +21,7 @@ saying text status = record {
   bound = λ w. 0;
   decided = λ r. [];
   closing = λ w. text;
+  quiet = λ is_shut. true;
   places = [];
   begun = λ n. [];
   tool = [];
@@ -33,10 +36,15 @@ not_yet tool = saying (not_built tool) 1
 abbrev pub job_meaning : Job → List (List ℕ) → List ℕ → Meaning
 job_meaning (RunCut job) names places = one_by_one (codes "cut") (cut_tool job) names places
 job_meaning (RunPaste job) names places = not_yet (codes "paste")
-job_meaning (RunUniq job) names places = not_yet (codes "uniq")
+job_meaning (RunUniq job) names places = together (codes "uniq") (of_one (uniq_tool job)) names places
 job_meaning (RunComm job) names places = not_yet (codes "comm")
 job_meaning (RunJoin job) names places = not_yet (codes "join")
 job_meaning (RunTr tables) names places = one_by_one (codes "tr") (tr_tool tables) names places
+
+-- whether the tool takes operands at these places
+abbrev pub is_taking : Job → List ℕ → Bool
+is_taking (RunUniq job) places = (of_one (uniq_tool job)).takes places
+is_taking _ places = true
 
 abbrev pub command_meaning : Command → Meaning
 command_meaning c = job_meaning c.job c.names (places c.order)
@@ -60,16 +68,6 @@ is_denied (Err fault) = is_none (meant fault)
 -- what is asked for by words that were read so
 abbrev pub asked_as : {A : Type 0} → Result (code.Command A) UseFault → List (List ℕ) → Meaning
 asked_as command words = if is_denied command then saying (said_of (tool_word words) None) 1 else asked words
-
--- nothing is read or written for this job
-abbrev pub is_quiet_job : Job → Bool
-is_quiet_job (RunCut job) = false
-is_quiet_job (RunTr tables) = false
-is_quiet_job _ = true
-
-abbrev pub is_quiet : {A : Type 0} → Result (code.Command A) UseFault → Bool
-is_quiet (Ok command) = is_quiet_job (seen command).job
-is_quiet (Err fault) = true
 
 -- how many inputs there are beside standard input
 abbrev pub count_of : {A : Type 0} → Result (code.Command A) UseFault → ℕ

@@ -1,5 +1,6 @@
 -- What stands between a tool and the run around it.
-use Rattle.std.specs.Prelude.{◌≡◌, ℕ, ◌+◌, ◌<◌, ◌≤◌, Bool, true, false, List, [], All, Result, Ok, Err, length, max}
+use Rattle.std.specs.Prelude.{◌≡◌, ℕ, ◌+◌, ◌<◌, ◌≤◌, ◌⊎◌, Bool, true, false, List, [], All, Option, Some, None, Result, Ok, Err, length, max, if◌then◌else◌}
+use Rattle.std.specs.List.{list_any}
 use Rattle.ptlines.specs.Readers.{Reader}
 use Rattle.ptlines.specs.Outputs.{Output, Wrote}
 use Rattle.ptlines.specs.Slots.{Slots, total}
@@ -9,8 +10,9 @@ use Rattle.ptflow.specs.declared.faults.FlowFault.{FlowFault}
 use Rattle.ptflow.specs.declared.faults.FlowFault.TheVariants.{Read, Write, Memory}
 use Rattle.ptrun.specs.declared.engine.Done.{Done}
 use Rattle.ptrun.specs.declared.engine.Done.TheVariants.{Whole, Unopened, Disorder}
-use Rattle.ptrun.specs.Worlds.{World, Received, Allows, is_in, reader_at, IsReceived, IsFresh, HasFailed}
-use Rattle.ptrun.specs.Meanings.{Meaning, named}
+use Rattle.ptrun.specs.Worlds.{World, Received, at, Allows, is_in, is_unopened, reader_at, shut, IsReceived, IsFresh, HasFailed, IsTooLong}
+use Rattle.ptrun.specs.Meanings.{Meaning, named, unopened}
+use Rattle.ptrun.specs.Together.{JointTool, text_in, given_in}
 use Rattle.ptrun.specs.Sayings.{Tells}
 use Rattle.ptrun.specs.Messages.{failure, out_of_order}
 use Rattle.ptrun.specs.Runs.{IsWhole, Cause}
@@ -21,9 +23,17 @@ pub record AreGiven (m : Meaning) (inputs : List Reader) : Type 0 where
   pub fits : All (λ p. p < length inputs) m.places
   pub named : length inputs ≡ length m.names + 1
 
+-- Whether inputs are lacking, so that nothing is read or written; if so, those that could not be opened were named, and there is nothing else to do.
+pub record Checks (m : Meaning) (inputs : List Reader) (told heard : SinkState) (lacking : Bool) : Type 0 where
+  pub is : lacking ≡ m.quiet (shut inputs)
+  pub tells : Tells told heard (if lacking then unopened m.tool m.names (shut inputs) m.places else [])
+  pub nothing : lacking ≡ true → (w : World) → ((place : ℕ) → shut inputs place ≡ is_unopened w place)
+      → (m.out w ≡ []) × (m.closing w ≡ []) × (m.status w ≡ 1)
+
 -- how a tool finds things
 pub record IsStart (m : Meaning) (inputs : List Reader) (out : Output) (store : Slots) : Type 0 where
   pub given : AreGiven m inputs
+  pub complete : m.quiet (shut inputs) ≡ false
   pub writable : out.faulted ≡ false
   pub roomy : store.denied ≡ false
   pub empty : total store.lines ≡ 0
@@ -87,3 +97,48 @@ pub record Went (m : Meaning) (old new : List Reader) (was is : Output) (told he
   pub told_read : (place : ℕ) → HasFailed old new place → is.faulted ≡ false → result ≡ Err (Read place)
   pub sure : (place : ℕ) → HasFailed old new place → is.faulted ≡ false → Begins (m.decided received) pushed
   pub peak : (w : World) → Allows received w → store.peak ≤ max before.peak (m.bound w)
+
+-- ---- a tool that takes all its inputs together
+
+-- how such a tool finds things: each operand was opened and not yet read
+pub record AreReady (t : JointTool) (places : List ℕ) (inputs : List Reader) (out : Output) (store : Slots) : Type 0 where
+  pub taken : t.takes places ≡ true
+  pub fresh : All IsFresh inputs
+  pub fits : All (λ p. p < length inputs) places
+  pub opened : list_any (shut inputs) places ≡ false
+  pub writable : out.faulted ≡ false
+  pub roomy : store.denied ≡ false
+  pub empty : total store.lines ≡ 0
+
+abbrev pub done_of : Option (ℕ × ℕ) → Done
+done_of None = Whole
+done_of (Some found) = Disorder found.0 found.1
+
+-- all was read and pushed, up to a disorder
+pub record JointWhole (t : JointTool) (places : List ℕ) (r : Received) (old new : List Reader) (pushed : List ℕ) (failed denied : Bool) (done : Done) : Type 0 where
+  pub out : (w : World) → Allows r w → pushed ≡ t.text places (text_in w)
+  pub is_done : (w : World) → Allows r w → done ≡ done_of (t.disorder places (text_in w))
+  pub written : failed ≡ false
+  pub roomy : denied ≡ false
+  pub read : (place : ℕ) → HasFailed old new place ⊎ IsTooLong (at r place) → ⊥
+
+-- how it ended, and which failure is told: one that was, and no other
+abbrev pub JointEnds : JointTool → List ℕ → Received → List Reader → List Reader → List ℕ → Bool → Bool → Result Done FlowFault → Type 0
+JointEnds t places r old new pushed failed denied (Ok done) = JointWhole t places r old new pushed failed denied done
+JointEnds t places r old new pushed failed denied (Err (Read p)) = (is_in places p ≡ true) × (HasFailed old new p ⊎ IsTooLong (at r p)) × (failed ≡ false) × (denied ≡ false)
+JointEnds t places r old new pushed failed denied (Err Write) = failed ≡ true
+JointEnds t places r old new pushed failed denied (Err Memory) = (denied ≡ true) × (failed ≡ false)
+
+-- Such a tool went over its inputs.
+pub record IsJointPass (t : JointTool) (places : List ℕ) (old new : List Reader) (was is : Output) (before store : Slots) (result : Result Done FlowFault) : Type 0 where
+  pub received : Received
+  pub came : IsReceived old new received
+  pub pushed : List ℕ
+  pub wrote : Wrote was is pushed
+  pub ends : JointEnds t places received old new pushed is.faulted store.denied result
+  pub place : IsWithin (length old) result
+  pub untouched : (place : ℕ) → is_in places place ≡ false → reader_at new place ≡ reader_at old place
+  pub true_so_far : (w : World) → Allows received w → Begins pushed (t.text places (text_in w))
+  pub told_read : (place : ℕ) → HasFailed old new place → is.faulted ≡ false → result ≡ Err (Read place)
+  pub sure : (place : ℕ) → HasFailed old new place → is.faulted ≡ false → Begins (t.decided places (given_in received)) pushed
+  pub peak : (w : World) → Allows received w → store.peak ≤ max before.peak (t.size places (text_in w))

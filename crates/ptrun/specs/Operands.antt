@@ -1,5 +1,5 @@
 -- A tool that goes over its inputs one by one; those that could not be opened are named and passed over.
-use Rattle.std.specs.Prelude.{ℕ, ◌+◌, List, [], ◌∷◌, map, flat_map, max, take, if◌then◌else◌}
+use Rattle.std.specs.Prelude.{ℕ, ◌+◌, false, List, [], ◌∷◌, map, flat_map, max, take, if◌then◌else◌}
 use Rattle.std.specs.List.{list_any}
 use Rattle.ptlines.specs.Inputs.{Given, nothing_left}
 use Rattle.ptopts.specs.declared.inputs.Input.{Input}
@@ -34,6 +34,7 @@ one_by_one word t names places = record {
   bound = λ w. each_bound t w places;
   decided = λ r. each_decided t r places;
   closing = λ w. [];
+  quiet = λ is_shut. false;
   places = places;
   begun = λ n. take (n + 1) places;
   tool = word;

@@ -61,6 +61,10 @@ no_reader = record { held = []; left = None; ended = false; failed = false; pull
 abbrev pub reader_at : List Reader → ℕ → Reader
 reader_at readers place = slice_index_or readers place no_reader
 
+-- the input at a place could not be opened
+abbrev pub shut : List Reader → ℕ → Bool
+shut readers place = (reader_at readers place).refused
+
 -- what came of a reader; one that could not be opened is left alone
 abbrev pub CameAt : Reader → Reader → Option Given → Type 0
 CameAt old new None = (old.refused ≡ true) × (new ≡ old)

@@ -1,13 +1,14 @@
 //! A tool over all its inputs, and the run around it.
 
-ghost use Rattle.std.specs.Prelude.{◌≡◌, ◌<◌, ◌+◌, ◌≤◌, false, length};
-ghost use Rattle.ptrun.specs.Engines.{AreGiven, IsStart, Went, Finishes, IsWithin, last_words, status_after};
+ghost use Rattle.std.specs.Prelude.{◌≡◌, ◌<◌, ◌+◌, ◌≤◌, Bool, true, false, length};
+ghost use Rattle.ptrun.specs.Engines.{AreGiven, Checks, IsStart, Went, Finishes, IsWithin, last_words, status_after};
 ghost use Rattle.ptrun.specs.Meanings.{Meaning};
 ghost use Rattle.ptrun.specs.Messages.{name_of};
-ghost use Rattle.ptrun.specs.Runs.{IsRun, sinks, outcome};
+ghost use Rattle.ptrun.specs.Runs.{IsRun, IsQuiet, sinks, outcome};
 ghost use Rattle.ptrun.specs.Sayings.{Tells};
+ghost use Rattle.ptrun.specs.Worlds.{shut};
 
-use crate::report::{Report, report_of};
+use crate::report::{Report, quiet_report, report_of};
 use crate::voice::Voice;
 use itoa::Buffer;
 use ptflow::FlowFault;
@@ -30,6 +31,9 @@ pub(crate) trait Engine<A: Allocator + Copy>: Drop {
     /// What it is to do.
     ghost meaning: { Self → Meaning };
 
+    /// Whether its operands are such as the tool takes.
+    ghost suits: { Self → Bool };
+
     /// The word that names the tool.
     fn tool(&self) -> &str
         ensures { result.now ≡ (meaning self.now).tool };
@@ -39,6 +43,15 @@ pub(crate) trait Engine<A: Allocator + Copy>: Drop {
         requires { place ≤ length (meaning self.now).names }
         ensures { result.now ≡ name_of (meaning self.now).names place };
 
+    /// Whether inputs are lacking without which nothing is read or written; if so, they were named.
+    fn lacks_inputs<S: Source, R: Source, E: Sink>(
+        &self,
+        inputs: &[LineReader<S, R>],
+        voice: &mut Voice<E>,
+    ) -> bool
+        requires { AreGiven (meaning self.now) inputs.now }
+        ensures { Checks (meaning self.now) inputs.now voice.old voice.new result };
+
     /// Reads the inputs and pushes what is to be written. Inputs that could not be opened are named.
     fn go<S: Source, R: Source, W: Sink, E: Sink>(
         &self,
@@ -47,7 +60,8 @@ pub(crate) trait Engine<A: Allocator + Copy>: Drop {
         out: &mut Out<W>,
         voice: &mut Voice<E>,
     ) -> Result<Done, FlowFault>
-        requires { IsStart (meaning self.now) inputs.old out.old store.old }
+        requires start { IsStart (meaning self.now) inputs.old out.old store.old }
+        requires taken { suits self.now ≡ true }
         ensures { Went (meaning self.now) inputs.old inputs.new out.old out.new voice.old voice.new
             store.old store.new result };
 }
@@ -61,11 +75,17 @@ pub(crate) fn run_engine<A: Allocator + Copy, G: Engine<A>, S: Source, R: Source
     voice: Voice<E>,
 ) -> Report<W, E>
     requires given { AreGiven (G.meaning engine.now) inputs.old }
+    requires taken { G.suits engine.now ≡ true }
     requires writable { (W.state out).failed ≡ false }
-    ensures { IsRun (G.meaning engine.now) inputs.old inputs.new (sinks (W.state out) voice)
+    ensures run { IsRun (G.meaning engine.now) inputs.old inputs.new (sinks (W.state out) voice)
         (outcome W.state E.state result) }
+    ensures quiet { (G.meaning engine.now).quiet (shut inputs.old) ≡ true →
+        (inputs.new ≡ inputs.old) × IsQuiet (W.state out) (outcome W.state E.state result) }
 {
     let mut voice = voice;
+    if engine.lacks_inputs(inputs, &mut voice) {
+        return quiet_report(1, out, voice);
+    }
     match Store::new(alloc, 0) {
         Ok(mut store) => {
             let mut out = Out::new(out);

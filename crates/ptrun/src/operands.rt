@@ -24,11 +24,14 @@ pub(crate) struct InTurn<'a, A: Allocator + Copy, T: OneByOne<A>> {
 }
 
 impl<'a, A: Allocator + Copy, T: OneByOne<A>> Engine<A> for InTurn<'a, A, T> {
+    ghost use Rattle.std.specs.Prelude.{true};
     ghost use Rattle.ptopts.specs.Meant.{words_seen};
     ghost use Rattle.ptrun.specs.Operands.{places, one_by_one};
 
     ghost meaning = { λ e. one_by_one (T.word e.tool) (T.tool e.tool)
         (words_seen e.operands.names.items) (places e.operands.order.items) };
+
+    ghost suits = { λ e. true };
 
     fn tool(&self) -> &str {
         self.tool.name()
@@ -36,6 +39,15 @@ impl<'a, A: Allocator + Copy, T: OneByOne<A>> Engine<A> for InTurn<'a, A, T> {
 
     fn name_at(&self, place: usize) -> &str {
         name_at(&self.operands.names, place)
+    }
+
+    // An input that could not be opened is named when its turn comes.
+    fn lacks_inputs<S: Source, R: Source, E: Sink>(
+        &self,
+        _inputs: &[LineReader<S, R>],
+        _voice: &mut Voice<E>,
+    ) -> bool {
+        false
     }
 
     fn go<S: Source, R: Source, W: Sink, E: Sink>(
@@ -55,7 +67,7 @@ impl<'a, A: Allocator + Copy, T: OneByOne<A>> Engine<A> for InTurn<'a, A, T> {
 }
 
 // Where the reader of an input is.
-fn place_of(input: Input) -> usize
+pub(crate) fn place_of(input: Input) -> usize
     requires { place input < usize.MAX }
     ensures { result ≡ place input }
 {
@@ -66,7 +78,7 @@ fn place_of(input: Input) -> usize
 }
 
 // The name of the input at a place.
-fn name_at<'a>(names: &[&'a str], place: usize) -> &'a str
+pub(crate) fn name_at<'a>(names: &[&'a str], place: usize) -> &'a str
     requires { place ≤ length names.now }
     ensures { result.now ≡ name_of (words_seen names.now) place }
 {
@@ -78,7 +90,7 @@ fn name_at<'a>(names: &[&'a str], place: usize) -> &'a str
 }
 
 // The failure of a call that had one reader, the one at this place.
-fn at_operand(fault: FlowFault, place: usize) -> FlowFault
+pub(crate) fn at_operand(fault: FlowFault, place: usize) -> FlowFault
     ensures { result ≡ blame place fault }
 {
     match fault {

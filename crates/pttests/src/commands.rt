@@ -277,3 +277,43 @@ pub fn expect_rows(rt: &impl Abort, alloc: Global, rows: &[Row]) -> Result<(), F
 
 /// The sizes of pieces.
 pub const SIZES: &[usize] = &[1, 7, usize::MAX];
+
+// Refuses the growth behind so many, and says whether there was such a one.
+fn is_growth_refused(
+    rt: &impl Abort,
+    own: Global,
+    case: &Case<'_>,
+    expected: &Expected<'_>,
+    message: &str,
+    passing: u64,
+) -> Result<bool, Fail> {
+    let alloc = Refusing::after(own, passing);
+    let report = run_over(rt, &alloc, own, case)?;
+    if !alloc.refused() {
+        assert_left(rt, case, &report, expected);
+        return Ok(false);
+    }
+    let out = expected.out.as_bytes();
+    assert!(rt; out.starts_with(report.out.bytes()), "{passing}");
+    assert_eq!(rt; report.messages.bytes(), message.as_bytes(), "{passing}");
+    assert_eq!(rt; report.status, 1, "{passing}");
+    Ok(true)
+}
+
+/// Refuses each growth of a command in turn, of fewer than 40. Then this message is said.
+pub fn expect_growths_refused(
+    rt: &impl Abort,
+    own: Global,
+    case: &Case<'_>,
+    expected: &Expected<'_>,
+    message: &str,
+) -> Result<(), Fail> {
+    let mut count = 0u64;
+    for passing in 0..40u64 {
+        if is_growth_refused(rt, own, case, expected, message, passing)? {
+            count = count.saturating_add(1);
+        }
+    }
+    assert!(rt; count > 0 && count < 40, "{count}");
+    Ok(())
+}

@@ -16,6 +16,8 @@ mod reading;
 #[cfg(test)]
 mod refusals;
 #[cfg(test)]
+mod repeats;
+#[cfg(test)]
 mod slots;
 #[cfg(test)]
 mod storing;

@@ -7,7 +7,7 @@ use Rattle.ptrun.specs.Worlds.{reader_at, no_reader, is_in, at}
 use Rattle.ptrun.specs.Sayings.{Tells, line_of}
 use Rattle.ptrun.specs.Operands.{places, one_by_one}
 use Rattle.ptrun.specs.Engines.{blame, Went}
-use Rattle.ptrun.proofs.InTurn.{pass_nothing, pass_all, pass_unopened, pass_done, pass_stopped, ready_of}
+use Rattle.ptrun.proofs.InTurn.{pass_nothing, pass_all, pass_unopened, pass_done, pass_stopped, decided_by_law, ready_of}
 use Rattle.ptrun.proofs.Order.{fresh_all, places_next, places_split, places_end, pass_here}
 use Rattle.ptrun.proofs.operands.go_over_each.Goals as goal
 use Rattle.ptrun.proofs.operands.go_over_each.Goals.{then-is_refused, else-is_refused+in-Ok}
@@ -89,7 +89,10 @@ returns-in-Err g c =
     (subst (λ (o : List ℕ). Went (one_by_one word t names o) old (set now p c.go_over.new.reader) c.args.out.now c.go_over.new.out c.args.voice.now c.loop-input.voice c.args.store.now c.go_over.new.store (Err (blame p c.in-Err.fault)))
     (places_split order i _ p c.loop-input-test.true c.place_of-place.ensures)
     (pass_stopped word t names old fresh c.args.out.now c.args.voice.now c.args.store.now now c.loop-input.out c.go_over.new.out c.loop-input.voice c.loop-input.store c.go_over.new.store done c.loop-input.done p c.go_over.new.reader c.go_over.result
-    k in_old opened calm run (g.met.T.OneByOne.all_decided c.args.tool.now) more c.in-Err.fault c.in-Err.is))
+    k in_old opened calm run
+    (decided_by_law word t names old fresh c.args.out.now c.args.voice.now c.args.store.now now c.loop-input.out c.go_over.new.out c.loop-input.voice c.loop-input.store c.go_over.new.store done c.loop-input.done p c.go_over.new.reader c.go_over.result
+    k in_old opened calm run (g.met.T.OneByOne.all_decided c.args.tool.now))
+    more c.in-Err.fault c.in-Err.is))
 
 pub returns : goal.returns
 returns g c =

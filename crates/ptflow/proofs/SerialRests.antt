@@ -1,0 +1,114 @@
+-- What `paste` in series writes of the rest of a text, byte by byte and block by block.
+use Rattle.std.proofs.Common.{◌≡◌, ◌≢◌, ℕ, ◌+◌, ◌==◌, ◌<◌, ◌≤◌, Bool, true, false, cond, List, [], ◌∷◌, ◌++◌, Option, None, Some, length, take, drop, refl, sym, ◌∙◌, ap, arith, append_assoc}
+use Rattle.std.specs.List.{onto_first}
+use Rattle.std.proofs.lemmas.List.{append-nil, append_cancel_right}
+use Rattle.memchr.specs.Find.{IsFirstByte, is_byte}
+use Rattle.ptlines.specs.Text.{text, lines, ended_lines, IsLine}
+use Rattle.ptlines.specs.Inputs.{Begins}
+use Rattle.ptlines.specs.Outputs.{Output, Wrote}
+use Rattle.ptlines.proofs.Scanned.{before_end}
+use Rattle.ptlines.proofs.TextLaws.{lines_first, lines_of_text, other_byte}
+use Rattle.ptlangs.specs.Jobs.{Paste}
+use Rattle.ptflow.specs.Pastes.{delimiter, glued_from, paste_serial, serial_decided}
+use Rattle.ptflow.specs.Workings.SerialRests.{row_rest, serial_rest, begun, lead}
+use Rattle.ptflow.specs.declared.serial.Cell.{Cell}
+use Rattle.ptflow.proofs.Continuations.{Amid, amid_more}
+use Rattle.ptflow.proofs.CutRests.{split_of}
+use Rattle.ptflow.proofs.LineLaws.{Parts, parts_of}
+
+pub begun_number : (cell : Cell) → (begun cell).number ≤ cell.number + 1
+begun_number cell = by_ended cell.ended
+  where
+    by_ended : (t : Bool) → cond t (cell.number + 1) cell.number ≤ cell.number + 1
+    by_ended true = omega arith
+    by_ended false = omega arith
+
+module _ (end : ℕ) (delims : List (Option ℕ)) where
+  -- a line, and then what follows its cell
+  row_line : (number : ℕ) (line : List ℕ) (more : List (List ℕ)) → row_rest end delims number false (line ∷ more) ≡ line ++ row_rest end delims number true more
+  row_line number line [] = refl
+  row_line number line (l ∷ more) =
+      append_assoc (line ++ delimiter delims number) (glued_from delims (number + 1) (l ∷ more)) (end ∷ []) ∙ append_assoc line (delimiter delims number) (glued_from delims (number + 1) (l ∷ more) ++ end ∷ [])
+
+  -- one more byte of the first line
+  row_byte : (number b : ℕ) (ls : List (List ℕ)) → row_rest end delims number false (onto_first b ls) ≡ b ∷ row_rest end delims number false ls
+  row_byte number b [] = refl
+  row_byte number b (l ∷ []) = refl
+  row_byte number b (l ∷ m ∷ ls) = refl
+
+  -- the cell to which the next line belongs
+  row_begun : (cell : Cell) (line : List ℕ) (more : List (List ℕ)) → row_rest end delims cell.number cell.ended (line ∷ more) ≡ lead delims cell ++ row_rest end delims (begun cell).number false (line ∷ more)
+  row_begun cell line more = by_ended cell.ended
+    where
+      by_ended : (t : Bool) → row_rest end delims cell.number t (line ∷ more) ≡ cond t (delimiter delims cell.number) [] ++ row_rest end delims (cond t (cell.number + 1) cell.number) false (line ∷ more)
+      by_ended true = refl
+      by_ended false = refl
+
+  begun_lines : (cell : Cell) (ls : List (List ℕ)) → ls ≢ [] → row_rest end delims cell.number cell.ended ls ≡ lead delims cell ++ row_rest end delims (begun cell).number false ls
+  begun_lines cell [] some = absurd (some refl)
+  begun_lines cell (l ∷ ls) some = row_begun cell l ls
+
+  some_lines : (b : ℕ) (bytes : List ℕ) → lines end (b ∷ bytes) ≢ []
+  some_lines b bytes = by_test (b == end) (lines end bytes)
+    where
+      by_test : (t : Bool) (ls : List (List ℕ)) → cond t ([] ∷ ls) (onto_first b ls) ≢ []
+      by_test true ls e = cc
+      by_test false [] e = cc
+      by_test false (l ∷ ls) e = cc
+
+  -- some bytes more belong to the cell that begins
+  pub begun_on : (cell : Cell) (rest : List ℕ) → 0 < length rest → (more : List ℕ) → serial_rest end delims cell (rest ++ more) ≡ lead delims cell ++ serial_rest end delims (begun cell) (rest ++ more)
+  begun_on cell [] some more = absurd (omega arith)
+  begun_on cell (b ∷ rest) some more = begun_lines cell (lines end (b ∷ rest ++ more)) (some_lines b (rest ++ more))
+
+  pub begins : (start cell : Cell) (block rest : List ℕ) (was is is' : Output) → Amid (serial_rest end delims) start cell block rest was is → 0 < length rest → Wrote is is' (lead delims cell) → is'.faulted ≡ false → Amid (serial_rest end delims) start (begun cell) block rest was is'
+  begins start cell block rest was is is' a some wrote clean = amid_more (serial_rest end delims) start cell (begun cell) block rest rest (lead delims cell) was is is' a wrote (begun_on cell rest some) clean
+
+  -- a line of the cell, up to its end
+  pub cell_on : (number : ℕ) (rest : List ℕ) (at : ℕ) → IsFirstByte (is_byte end) rest (Some at) → (more : List ℕ)
+      → serial_rest end delims (record { number = number; ended = false }) (rest ++ more) ≡ take at rest ++ serial_rest end delims (record { number = number; ended = true }) (drop (at + 1) rest ++ more)
+  cell_on number rest at first more =
+      ap (λ (l : List ℕ). row_rest end delims number false (lines end l)) (ap (λ (l : List ℕ). l ++ more) (split_of end rest at first) ∙ append_assoc (take at rest) (end ∷ drop (at + 1) rest) more)
+      ∙ ap (row_rest end delims number false) (lines_first end (take at rest) (drop (at + 1) rest ++ more) (before_end end rest at first)) ∙ row_line number (take at rest) (lines end (drop (at + 1) rest ++ more))
+
+  -- a piece of a line of the cell
+  pub piece_on : (number : ℕ) (piece : List ℕ) → IsLine end piece → (more : List ℕ) → row_rest end delims number false (lines end (piece ++ more)) ≡ piece ++ row_rest end delims number false (lines end more)
+  piece_on number [] free more = refl
+  piece_on number (b ∷ piece) free more =
+      ap (λ (t : Bool). row_rest end delims number false (cond t ([] ∷ lines end (piece ++ more)) (onto_first b (lines end (piece ++ more))))) (other_byte end b free.0)
+      ∙ row_byte number b (lines end (piece ++ more)) ∙ ap (λ (l : List ℕ). b ∷ l) (piece_on number piece free.1 more)
+
+  -- ---- what is decided
+
+  glued_begins : (number : ℕ) (xs ys : List (List ℕ)) → Begins (glued_from delims number xs) (glued_from delims number (xs ++ ys))
+  glued_begins number [] ys = record { rest = glued_from delims number ys; is = refl }
+  glued_begins number (x ∷ []) [] = record { rest = []; is = sym (append-nil x) }
+  glued_begins number (x ∷ []) (y ∷ ys) = record { rest = delimiter delims number ++ glued_from delims (number + 1) (y ∷ ys); is = append_assoc x (delimiter delims number) (glued_from delims (number + 1) (y ∷ ys)) }
+  glued_begins number (x ∷ z ∷ xs) ys =
+      let b = glued_begins (number + 1) (z ∷ xs) ys in record {
+        rest = b.rest;
+        is = ap (λ (l : List ℕ). (x ++ delimiter delims number) ++ l) b.is ∙ sym (append_assoc (x ++ delimiter delims number) (glued_from delims (number + 1) (z ∷ xs)) b.rest);
+      }
+
+  row_end : (cell : Cell) → serial_rest end delims cell [] ≡ end ∷ []
+  row_end cell = by_ended cell.ended
+    where
+      by_ended : (t : Bool) → row_rest end delims cell.number t [] ≡ end ∷ []
+      by_ended true = refl
+      by_ended false = refl
+
+-- what was pushed of these bytes has their whole lines in front
+pub serial_is_decided : (job : Paste) (given pushed : List ℕ) (now : Cell) → ((rest : List ℕ) → serial_rest job.end job.delimiters (record { number = 0; ended = false }) (given ++ rest) ≡ pushed ++ serial_rest job.end job.delimiters now rest)
+    → Begins (serial_decided job (record { bytes = given; ended = false })) pushed
+serial_is_decided job given pushed now on =
+    let p = parts_of job.end given in
+    let ls = ended_lines job.end given in
+    let all : lines job.end given ≡ ls ++ lines job.end p.piece = ap (lines job.end) p.is ∙ lines_of_text job.end ls p.piece p.whole in
+    let pushed_is : glued_from job.delimiters 0 (lines job.end given) ≡ pushed =
+    append_cancel_right (glued_from job.delimiters 0 (lines job.end given)) pushed (job.end ∷ []) (
+      ap (λ (l : List ℕ). glued_from job.delimiters 0 (lines job.end l) ++ job.end ∷ []) (sym (append-nil given)) ∙ on [] ∙ ap (λ (l : List ℕ). pushed ++ l) (row_end job.end job.delimiters now)
+    ) in
+    let b = glued_begins job.end job.delimiters 0 ls (lines job.end p.piece) in record {
+      rest = b.rest;
+      is = sym pushed_is ∙ ap (glued_from job.delimiters 0) all ∙ b.is ∙ ap (λ (l : List ℕ). l ++ b.rest) (sym (append-nil (glued_from job.delimiters 0 ls)));
+    }

@@ -1,0 +1,42 @@
+use Rattle.std.proofs.Common.{◌<◌, ℕ, List, [], ◌∷◌, length, take, refl, sym, ◌∙◌, ap, subst}
+use Rattle.std.specs.Prelude.{codes}
+use Rattle.std.proofs.lemmas.List.{get_or_default}
+use Rattle.ptlines.specs.Readers.{Reader}
+use Rattle.ptopts.specs.Meant.{words_seen}
+use Rattle.ptrun.specs.Operands.{places}
+use Rattle.ptrun.specs.Sayings.{Tells, line_of}
+use Rattle.ptrun.specs.Worlds.{no_reader, shut}
+use Rattle.ptrun.proofs.Sayings.{tells_nothing}
+use Rattle.ptrun.proofs.Order.{places_next}
+use Rattle.ptrun.proofs.JointPasses.{named_more, named_same, any_now, any_before}
+use Rattle.ptrun.proofs.together.name_unopened.Goals as goal
+use Rattle.ptrun.proofs.together.name_unopened.Goals.{then-is_refused, else-is_refused}
+
+pub loop-input-init : goal.loop-input-init
+loop-input-init g c = record { said = tells_nothing c.args.voice.now; any_is = refl }
+
+pub loop-input-preserved : goal.loop-input-preserved
+loop-input-preserved g c =
+    let tool = c.args.tool.now in
+    let names = words_seen c.args.names.now in
+    let inputs = c.args.inputs.now in
+    let p = c.place_of-place.result in
+    let i = c.loop-input.input-index in
+    let done = take i (places c.args.order.now) in
+    let k = c.loop-input.invariant in
+    let within : p < length inputs = subst (λ (n : ℕ). n < length inputs) (sym c.place_of-place.ensures) (c.requires.fits i _ c.loop-input-test.true) in
+    let here = get_or_default inputs p c.index-inputs-place.result no_reader within in
+    let refused = ap (λ (r : Reader). r.refused) (sym here) ∙ ap (λ (r : Reader). r.refused) (sym c.index-inputs-place.is) ∙ sym c.is_refused.ensures.refused in
+    let next = places_next c.args.order.now i _ p c.loop-input-test.true c.place_of-place.ensures in
+    elim c.if-is_refused.branch [
+      | then-is_refused w ↦
+          let says = subst (λ (l : List ℕ). Tells c.loop-input.voice w.say.new.self l) (λ j. line_of (tool ∷ codes ": " ∷ w.name_at.ensures j ∷ codes ": cannot be opened" ∷ [])) w.say.ensures in
+          rw (w.voice-is, w.any-is, next) (record {
+            said = named_more tool names (shut inputs) done p c.args.voice.now c.loop-input.voice w.say.new.self k.said (refused ∙ w.if-is_refused.true) says;
+            any_is = sym (any_now tool names (shut inputs) done p (refused ∙ w.if-is_refused.true));
+          })
+      | else-is_refused w ↦ rw (w.voice-is, w.any-is, next) (record {
+        said = subst (λ (l : List ℕ). Tells c.args.voice.now c.loop-input.voice l) (sym (named_same tool names (shut inputs) done p (refused ∙ w.if-is_refused.false))) k.said;
+        any_is = k.any_is ∙ sym (any_before tool names (shut inputs) done p (refused ∙ w.if-is_refused.false));
+      })
+    ]

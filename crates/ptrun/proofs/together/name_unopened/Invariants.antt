@@ -1,0 +1,14 @@
+use Rattle.std.proofs.Common.{◌≡◌, take}
+use Rattle.std.specs.List.{list_any}
+use Rattle.ptopts.specs.Meant.{words_seen}
+use Rattle.ptrun.specs.Worlds.{shut}
+use Rattle.ptrun.specs.Meanings.{unopened}
+use Rattle.ptrun.specs.Sayings.{Tells}
+use Rattle.ptrun.specs.Operands.{places}
+use Rattle.ptrun.proofs.together.name_unopened.Given as goal
+
+abbrev pub invariant-loop-input : goal.invariant-loop-input
+invariant-loop-input g l = record {
+  said : Tells l.fn.voice l.voice (unopened l.tool (words_seen l.names) (shut l.inputs) (take l.input-index (places l.order)));
+  any_is : l.any ≡ list_any (shut l.inputs) (take l.input-index (places l.order));
+}

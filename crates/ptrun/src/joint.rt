@@ -1,0 +1,70 @@
+//! The tools that take all their inputs together.
+
+ghost use Rattle.std.specs.Prelude.{◌≡◌, ℕ, List};
+ghost use Rattle.ptrun.specs.Engines.{AreReady, IsJointPass};
+ghost use Rattle.ptrun.specs.Operands.{places};
+ghost use Rattle.ptrun.specs.Together.{JointTool};
+
+use crate::engine::Done;
+use crate::operands::{at_operand, place_of};
+use ptflow::{FlowFault, uniq};
+use ptlangs::jobs::UniqJob;
+use ptlines::{LineReader, Out, Sink, Source, Store};
+use ptopts::Input;
+use std::alloc::Allocator;
+
+/// What a tool does with all its inputs.
+pub(crate) trait Together<A: Allocator + Copy>: Drop {
+    /// What it is to do.
+    ghost tool: { Self → JointTool };
+
+    /// The word that names it.
+    ghost word: { Self → List ℕ };
+
+    fn name(&self) -> &str
+        ensures { result.now ≡ word self.now };
+
+    /// Goes over its inputs, each of which was opened.
+    fn go_over<S: Source, R: Source, W: Sink>(
+        &self,
+        order: &[Input],
+        inputs: &mut [LineReader<S, R>],
+        store: &mut Store<A>,
+        out: &mut Out<W>,
+    ) -> Result<Done, FlowFault>
+        requires { AreReady (tool self.now) (places order.now) inputs.old out.old store.old }
+        ensures { IsJointPass (tool self.now) (places order.now) inputs.old inputs.new out.old out.new
+            store.old store.new result };
+}
+
+impl<A: Allocator + Copy> Together<A> for UniqJob {
+    ghost use Rattle.std.specs.Prelude.{codes};
+    ghost use Rattle.ptlangs.specs.Jobs.{uniq_job};
+    ghost use Rattle.ptflow.specs.Uniqs.{uniq_tool};
+    ghost use Rattle.ptrun.specs.Together.{of_one};
+
+    ghost tool = { λ job. of_one (uniq_tool (uniq_job job)) };
+
+    ghost word = { λ job. codes "uniq" };
+
+    fn name(&self) -> &str {
+        "uniq"
+    }
+
+    fn go_over<S: Source, R: Source, W: Sink>(
+        &self,
+        order: &[Input],
+        inputs: &mut [LineReader<S, R>],
+        store: &mut Store<A>,
+        out: &mut Out<W>,
+    ) -> Result<Done, FlowFault> {
+        let place = place_of(order[0]);
+        let reader = &mut inputs[place];
+        let refused = reader.is_refused();
+        prove!(!refused);
+        match uniq(self, reader, store, out) {
+            Ok(()) => Ok(Done::Whole),
+            Err(fault) => Err(at_operand(fault, place)),
+        }
+    }
+}

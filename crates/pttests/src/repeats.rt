@@ -1,0 +1,171 @@
+//! `uniq`.
+
+use crate::commands::{
+    Expected, Input, Limits, Row, SIZES, assert_left, expect, expect_growths_refused, expect_rows,
+    over_files, over_standard, run_over, writes,
+};
+use std::alloc::Global;
+use std::process::Abort;
+use std::test::Fail;
+
+const ROWS: &[Row] = &[
+    (&["uniq", "-c"], "a\na\nb\na", "2 a\n1 b\n1 a\n"),
+    (&["uniq", "-f", "1", "-s", "1"], " x 1a\ny 1a\n", " x 1a\n"),
+    (
+        &["uniq", "-c", "-f", "1"],
+        "1 x\n2 x\n3 y",
+        "2 1 x\n1 3 y\n",
+    ),
+    // Fewer fields or bytes than are passed over: the keys are empty.
+    (&["uniq", "-f", "2"], "a b\nc\n", "a b\n"),
+    (
+        &["uniq", "-s", "18446744073709551615"],
+        "a\nb\n",
+        "a\n",
+    ),
+    (&["uniq", "-d"], "a\na\nb\n", "a\n"),
+    (&["uniq", "-u"], "a\na\nb\n", "b\n"),
+    (&["uniq", "-"], "a\na\n", "a\n"),
+    (&["uniq"], "\n\n", "\n"),
+    (&["uniq", "-c"], "", ""),
+    (&["uniq", "-zc"], "a\x00a\x00b", "2 a\x001 b\x00"),
+    (&["uniq", "-z"], "a\nb\x00a\nb\x00a\x00", "a\nb\x00a\x00"),
+];
+
+#[test]
+fn runs_of_equal_lines(rt: HostRuntime) -> Result<(), Fail> {
+    expect_rows(&rt, rt.alloc(), ROWS)
+}
+
+#[test]
+fn a_file_and_an_output(rt: HostRuntime) -> Result<(), Fail> {
+    let files = [Input::Pieces(b"a\na\nb\n", 1)];
+    let case = over_files(&["uniq", "-d", "f", "out"], &files);
+    expect(&rt, rt.alloc(), &case, &writes("a\n"))
+}
+
+// Nothing is written, and the sink, which would fail, is not flushed.
+#[test]
+fn a_refused_input(rt: HostRuntime) -> Result<(), Fail> {
+    let files = [Input::Refused];
+    let mut case = over_files(&["uniq", "g", "out"], &files);
+    case.standard = Input::Whole(b"a\n");
+    case.out = Limits {
+        size: usize::MAX,
+        room: usize::MAX,
+        passing: 0,
+    };
+    let expected = Expected {
+        out: "",
+        messages: "uniq: g: cannot be opened\n",
+        status: 1,
+    };
+    expect(&rt, rt.alloc(), &case, &expected)
+}
+
+// Words, what comes in reads of two bytes, how many of them pass, and what is written.
+const UNREAD: &[(&[&str], &[u8], u64, &str)] = &[
+    (&["uniq", "-c"], b"a\na\nb\nb\nc", 0, ""),
+    (&["uniq", "-c"], b"a\na\nb\nb\nc", 1, ""),
+    (&["uniq", "-c"], b"a\na\nb\nb\nc", 2, ""),
+    (&["uniq", "-c"], b"a\na\nb\nb\nc", 3, "2 a\n"),
+    (&["uniq", "-c"], b"a\na\nb\nb\nc", 4, "2 a\n"),
+    (&["uniq", "-c"], b"a\na\nb\nb\nc", 5, "2 a\n"),
+    (&["uniq"], b"a\na\nb", 3, ""),
+    (&["uniq", "-c"], b"a\nb\nc", 3, "1 a\n"),
+];
+
+// Nothing of the last run is written.
+#[test]
+fn each_read_fails(rt: HostRuntime) -> Result<(), Fail> {
+    for (words, text, passing, out) in UNREAD {
+        let mut case = over_standard(words, b"", 1);
+        case.standard = Input::Failing(text, 2, *passing);
+        let expected = Expected {
+            out,
+            messages: "uniq: standard input: read failed\n",
+            status: 1,
+        };
+        expect(&rt, rt.alloc(), &case, &expected)?;
+    }
+    Ok(())
+}
+
+const LINES: &[u8] = b"ab\nab\ncd\n";
+
+const ONCE: &str = "ab\ncd\n";
+
+// How many bytes a call takes, how many in all, how many calls pass, and what is written. The last call is a flush.
+const UNWRITTEN: &[(usize, usize, u64, &str)] = &[
+    (2, usize::MAX, 0, ""),
+    (2, usize::MAX, 1, "ab"),
+    (2, usize::MAX, 2, "ab\nc"),
+    (2, usize::MAX, 3, ONCE),
+    (usize::MAX, 5, u64::MAX, "ab\ncd"),
+];
+
+#[test]
+fn each_write_and_the_flush_fail(rt: HostRuntime) -> Result<(), Fail> {
+    for (size, room, passing, out) in UNWRITTEN {
+        let mut case = over_standard(&["uniq"], LINES, 1);
+        case.out = Limits {
+            size: *size,
+            room: *room,
+            passing: *passing,
+        };
+        let expected = Expected {
+            out,
+            messages: "uniq: output: write failed\n",
+            status: 1,
+        };
+        expect(&rt, rt.alloc(), &case, &expected)?;
+    }
+    Ok(())
+}
+
+#[test]
+fn each_growth_is_refused(rt: HostRuntime) -> Result<(), Fail> {
+    let case = over_standard(&["uniq", "-c"], b"a\na\nbc\na", 1);
+    expect_growths_refused(
+        &rt,
+        rt.alloc(),
+        &case,
+        &writes("2 a\n1 bc\n1 a\n"),
+        "uniq: out of memory\n",
+    )
+}
+
+// Twice a line of this length.
+fn repeat_of(alloc: Global, length: usize) -> Result<Vec<u8>, Fail> {
+    let mut text = Vec::new(alloc);
+    for _ in 0..2 {
+        for _ in 0..length {
+            text.push(b'a')?;
+        }
+        text.push(b'\n')?;
+    }
+    Ok(text)
+}
+
+const LENGTHS: &[usize] = &[0, 1, 8190, 8191, 8192, 8193, 20000];
+
+// Two lines at most are held.
+fn expect_one(rt: &impl Abort, alloc: Global, length: usize) -> Result<(), Fail> {
+    let text = repeat_of(alloc, length)?;
+    let longest = length as u128;
+    for size in SIZES {
+        let case = over_standard(&["uniq", "-u"], &text, *size);
+        let report = run_over(rt, alloc, alloc, &case)?;
+        assert_left(rt, &case, &report, &writes(""));
+        assert!(rt; report.peak <= longest.saturating_mul(2), "{length} by {size}");
+    }
+    Ok(())
+}
+
+#[test]
+fn lines_across_blocks(rt: HostRuntime) -> Result<(), Fail> {
+    for length in LENGTHS {
+        expect_one(&rt, rt.alloc(), *length)?;
+    }
+    Ok(())
+}
