@@ -20,6 +20,8 @@ const ROWS: &[Row] = &[
     (&["cut", "-c", "1"], "", ""),
     (&["cut", "-c", "1"], "\n\na", "\n\na\n"),
     (&["cut", "-b", "18446744073709551615-"], "abc\n", "\n"),
+    // Lines that end with byte 0.
+    (&["cut", "-z", "-c", "1"], "ab\0\ncd", "a\0\n\0"),
 ];
 
 #[test]

@@ -38,6 +38,9 @@ const ROWS: &[Row] = &[
         "\n",
     ),
     (&["cut", "-f", "2"], "", ""),
+    // Lines that end with byte 0.
+    (&["cut", "-d", "\n", "-f", "2", "-z"], "a\nb\0", "b\0"),
+    (&["cut", "-zf1", "-", "-"], "a\tb\0\n\tc", "a\0\n\0"),
 ];
 
 #[test]

@@ -21,11 +21,13 @@ const UNKNOWN: &[Refusal] = &[
     (&["cut", "-xb"], "cut: unknown option in -xb\n"),
     (&["cut", "-b1", "-s-"], "cut: unknown option in -s-\n"),
     (&["cut", "-b1", "-sé"], "cut: unknown option in -sé\n"),
-    (&["paste", "-d,", "-z"], "paste: unknown option in -z\n"),
+    (&["cut", "-b1", "-r"], "cut: unknown option in -r\n"),
+    (&["paste", "-d,", "-zr"], "paste: unknown option in -zr\n"),
     (&["uniq", "-x"], "uniq: unknown option in -x\n"),
     (&["comm", "-4", "f", "g"], "comm: unknown option in -4\n"),
     (&["join", "-x", "f", "g"], "join: unknown option in -x\n"),
     (&["tr", "-x", "a", "b"], "tr: unknown option in -x\n"),
+    (&["tr", "-z", "a", "b"], "tr: unknown option in -z\n"),
 ];
 
 const NEEDS_VALUE: &[Refusal] = &[
