@@ -28,6 +28,7 @@ const UNKNOWN: &[Refusal] = &[
     (&["comm", "-4", "f", "g"], "comm: unknown option in -4\n"),
     (&["join", "-x", "f", "g"], "join: unknown option in -x\n"),
     (&["tr", "-x", "a", "b"], "tr: unknown option in -x\n"),
+    (&["tr", "-z", "a", "b"], "tr: unknown option in -z\n"),
 ];
 
 const NEEDS_VALUE: &[Refusal] = &[
