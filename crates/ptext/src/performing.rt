@@ -2,6 +2,7 @@
 
 ghost use Rattle.std.specs.Prelude.{◌≡◌, ◌+◌, false, length, All, IfOk, vec_len};
 ghost use Rattle.ptlines.specs.Readers.{Reader};
+ghost use Rattle.ptopts.specs.Meant.{words_seen};
 ghost use Rattle.ptrun.specs.Asked.{count_of};
 ghost use Rattle.ptrun.specs.Worlds.{IsFresh};
 
@@ -61,7 +62,7 @@ fn open_inputs<R: Files, A: Allocator + Copy, S: Source>(
 ) -> Result<Vec<LineReader<S, FromRead<R::File>>, A>, AllocError>
     requires unended { (S.state standard).ended ≡ false }
     requires unfailed { (S.state standard).failed ≡ false }
-    ensures count { IfOk result (λ inputs. vec_len inputs ≡ length names.now + 1) }
+    ensures count { IfOk result (λ inputs. vec_len inputs ≡ length (words_seen names.now) + 1) }
     ensures fresh { IfOk result (λ inputs. All IsFresh inputs.items) }
 {
     let mut inputs = Vec::new(alloc);

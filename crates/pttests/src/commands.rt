@@ -230,10 +230,11 @@ pub fn expect_refused(
     let pulls = Cell::new(0);
     let source = Watched::new(Pieces::whole(b"never read\n"), &pulls);
     let standard: LineReader<Watched<'_, Pieces<'_>>, Pieces<'_>> = LineReader::standard(source);
-    let command = Command::read(alloc, words);
-    assert!(rt; command.is_err(), "{words:?}");
+    let command = Command::read(alloc, &*words);
+    let named = files_named(&command);
+    assert!(rt; command.is_err() && named == 0, "{words:?}");
     let (out, messages) = (Kept::new(alloc), Kept::new(alloc));
-    let report = run(alloc, command, words, &mut [standard], out, messages);
+    let report = run(alloc, command, &*words, &mut [standard], out, messages);
     assert_eq!(rt; report.messages.bytes(), message.as_bytes(), "{words:?}");
     assert_eq!(rt; report.status, 2, "{words:?}");
     assert_eq!(rt;
