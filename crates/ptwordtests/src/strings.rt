@@ -1,6 +1,5 @@
 //! Worked strings of `tr`.
 
-use crate::comparing::same;
 use ptlangs::{
     CharPlan, Form, SetFault, SetFaultKind, SetString, parts_are_of_the_grammar,
     tables_hold_the_plan,
@@ -396,8 +395,7 @@ fn tables_are_lent(rt: HostRuntime) -> Result<(), Fail> {
     let Ok(plan) = plan else {
         return Err(Fail::from("a string is refused"));
     };
-    same(&rt, &plan.images()[97], &120);
-    same(&rt, &plan.images()[120], &120);
+    assert!(rt; plan.images()[97] == 120 && plan.images()[120] == 120);
     assert!(rt; plan.squeezed()[120] && !plan.squeezed()[97]);
     assert!(rt; !plan.deleted()[97]);
     parts_are_of_the_grammar();
