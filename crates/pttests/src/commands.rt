@@ -4,6 +4,7 @@ ghost use Rattle.std.specs.Prelude.{◌≡◌, ◌+◌, false, All, IfOk, IfSome
 ghost use Rattle.ptrun.specs.Asked.{count_of};
 ghost use Rattle.ptrun.specs.Worlds.{IsFresh};
 
+use crate::comparing::same;
 use ptfakes::{Kept, Pieces, Refusing, Watched};
 use ptlines::LineReader;
 use ptopts::{Command, UseFault};
@@ -214,7 +215,7 @@ pub fn expect_without_growth(
     let report = run_over(rt, &refusing, alloc, case)?;
     assert!(rt; !refusing.refused(), "{:?}", case.words);
     assert!(rt; !report.denied);
-    assert_eq!(rt; report.peak, 0);
+    same(rt, &report.peak, &0);
     assert_left(rt, case, &report, expected);
     Ok(())
 }

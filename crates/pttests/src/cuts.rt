@@ -4,6 +4,7 @@ use crate::commands::{
     Expected, Input, Limits, Row, SIZES, assert_left, expect, expect_rows, expect_without_growth,
     over_files, over_standard, run_over, writes,
 };
+use crate::comparing::same;
 use crate::texts::{ENDINGS, text_of, text_with};
 use ptfakes::Refusing;
 use std::alloc::Global;
@@ -90,9 +91,9 @@ fn cut_across_blocks(
     for size in SIZES {
         let case = over_standard(&words, &text, *size);
         let report = run_over(rt, alloc, alloc, &case)?;
-        assert_eq!(rt; report.status, 0);
+        same(rt, &report.status, &0);
         assert!(rt; report.out.bytes() == cut.as_slice(), "{length} by {size}");
-        assert_eq!(rt; report.peak, 0);
+        same(rt, &report.peak, &0);
     }
     Ok(())
 }
@@ -202,7 +203,7 @@ fn as_many_calls_as_it_takes(rt: HostRuntime) -> Result<(), Fail> {
         case.out.passing = *passing;
         let report = run_over(&rt, rt.alloc(), rt.alloc(), &case)?;
         assert_left(&rt, &case, &report, &CUT);
-        assert_eq!(rt; report.out.calls(), *passing);
+        same(&rt, &report.out.calls(), passing);
     }
     Ok(())
 }
@@ -227,7 +228,7 @@ fn refused_growth(rt: &impl Abort, own: Global, passing: u64) -> Result<bool, Fa
     let refused = alloc.refused();
     let expected = if refused { &NO_MEMORY } else { &CUT };
     assert_left(rt, &case, &report, expected);
-    assert_eq!(rt; report.peak, 0);
+    same(rt, &report.peak, &0);
     Ok(refused)
 }
 

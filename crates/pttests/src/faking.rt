@@ -1,5 +1,6 @@
 //! The sources, sinks and the allocator of the tests themselves.
 
+use crate::comparing::same;
 use ptfakes::{Kept, Pieces, Refusing, Repeated, Watched};
 use ptlines::{Failed, Sink, Source};
 use std::alloc::{Allocator, Global};
@@ -10,7 +11,7 @@ use std::test::Fail;
 // Pulls into four bytes, and looks at the answer and at the bytes given.
 fn pulls<S: Source>(rt: &impl Abort, source: &mut S, answer: Result<usize, Failed>, given: &[u8]) {
     let mut into = [0u8; 4];
-    assert_eq!(rt; source.pull(&mut into), answer);
+    same(rt, &source.pull(&mut into), &answer);
     assert!(rt; into.starts_with(given), "{given:?}");
 }
 
@@ -22,11 +23,11 @@ fn puts<A: Allocator + Drop>(
     answer: Result<usize, Failed>,
 ) {
     assert!(rt; !bytes.is_empty());
-    assert_eq!(rt; sink.put(bytes), answer);
+    same(rt, &sink.put(bytes), &answer);
 }
 
 fn flushes<A: Allocator + Drop>(rt: &impl Abort, sink: &mut Kept<A>, answer: Result<(), Failed>) {
-    assert_eq!(rt; sink.flush(), answer);
+    same(rt, &sink.flush(), &answer);
 }
 
 #[test]
@@ -38,12 +39,12 @@ fn pieces_of_a_text(rt: HostRuntime) {
     pulls(&rt, &mut source, Ok(0), b"");
     pulls(&rt, &mut source, Err(Failed), b"");
     pulls(&rt, &mut source, Err(Failed), b"");
-    assert_eq!(rt; source.pulls(), 6);
+    same(&rt, &source.pulls(), &6);
     let mut whole = Pieces::whole(b"abcde");
     pulls(&rt, &mut whole, Ok(4), b"abcd");
     pulls(&rt, &mut whole, Ok(1), b"e");
     pulls(&rt, &mut whole, Ok(0), b"");
-    assert_eq!(rt; whole.pulls(), 3);
+    same(&rt, &whole.pulls(), &3);
 }
 
 #[test]
@@ -54,10 +55,10 @@ fn one_byte_repeated(rt: HostRuntime) {
     pulls(&rt, &mut source, Ok(2), b"xx");
     pulls(&rt, &mut source, Ok(0), b"");
     pulls(&rt, &mut source, Err(Failed), b"");
-    assert_eq!(rt; seen.get(), 4);
+    same(&rt, &seen.get(), &4);
     let mut other = Repeated::new(b'y', 1, 0, 0);
     pulls(&rt, &mut other, Err(Failed), b"");
-    assert_eq!(rt; other.pulls(), 1);
+    same(&rt, &other.pulls(), &1);
 }
 
 #[test]
@@ -69,9 +70,9 @@ fn a_sink_with_limits(rt: HostRuntime) {
     puts(&rt, &mut sink, b"f", Ok(0));
     puts(&rt, &mut sink, b"f", Err(Failed));
     flushes(&rt, &mut sink, Err(Failed));
-    assert_eq!(rt; sink.bytes(), b"abcde".as_slice());
-    assert_eq!(rt; sink.calls(), 6);
-    assert_eq!(rt; sink.flushes(), 2);
+    same(&rt, &sink.bytes(), &b"abcde".as_slice());
+    same(&rt, &sink.calls(), &6);
+    same(&rt, &sink.flushes(), &2);
 }
 
 #[test]
@@ -80,14 +81,14 @@ fn a_sink_without_memory(rt: HostRuntime) {
     let mut sink = Kept::new(&alloc);
     puts(&rt, &mut sink, b"a", Err(Failed));
     puts(&rt, &mut sink, b"a", Ok(1));
-    assert_eq!(rt; sink.bytes(), b"a".as_slice());
+    same(&rt, &sink.bytes(), &b"a".as_slice());
 }
 
 // Six lists grow once each.
 fn one_of_six(rt: &impl Abort, alloc: Global, passing: u64) {
     let alloc = Refusing::after(alloc, passing);
     for growth in 0..6u64 {
-        assert_eq!(rt; alloc.refused(), growth > passing);
+        same(rt, &alloc.refused(), &(growth > passing));
         let mut list = Vec::new(&alloc);
         assert_eq!(rt;
             list.push(7u8).is_ok(),
@@ -109,11 +110,11 @@ fn a_list_keeps_what_it_has(rt: HostRuntime) -> Result<(), Fail> {
     let alloc = Refusing::after(rt.alloc(), 1);
     let mut list = Vec::new(&alloc);
     list.extend_from_slice(b"0123456789")?;
-    assert_eq!(rt; alloc.left(), 0);
+    same(&rt, &alloc.left(), &0);
     assert!(rt; list.extend_from_slice(&[b'x'; 100]).is_err());
     assert!(rt; alloc.refused());
-    assert_eq!(rt; list.as_slice(), b"0123456789".as_slice());
+    same(&rt, &list.as_slice(), &b"0123456789".as_slice());
     list.extend_from_slice(&[b'x'; 100])?;
-    assert_eq!(rt; list.len(), 110);
+    same(&rt, &list.len(), &110);
     Ok(())
 }

@@ -4,6 +4,7 @@ use crate::commands::{
     Expected, Input, Limits, Row, SIZES, assert_left, expect, expect_rows, over_files,
     over_standard, run_over, writes,
 };
+use crate::comparing::same;
 use crate::texts::ENDINGS;
 use ptfakes::Refusing;
 use std::alloc::Global;
@@ -110,11 +111,12 @@ fn cut_across_blocks(
     for size in SIZES {
         let case = over_standard(&words, &text, *size);
         let report = run_over(rt, alloc, alloc, &case)?;
-        assert_eq!(rt;
-            report.out.bytes(),
-            [other, ending, b'd', b'\t', ending].as_slice()
+        same(
+            rt,
+            &report.out.bytes(),
+            &[other, ending, b'd', b'\t', ending].as_slice(),
         );
-        assert_eq!(rt; report.status, 0);
+        same(rt, &report.status, &0);
         assert!(rt; report.peak <= longest, "{length} by {size}");
     }
     Ok(())
@@ -207,8 +209,12 @@ fn refused_growth(rt: &impl Abort, own: Global, passing: u64) -> Result<bool, Fa
         return Ok(false);
     }
     assert!(rt; CUT.as_bytes().starts_with(report.out.bytes()), "{passing}");
-    assert_eq!(rt; report.messages.bytes(), b"cut: out of memory\n".as_slice());
-    assert_eq!(rt; report.status, 1);
+    same(
+        rt,
+        &report.messages.bytes(),
+        &b"cut: out of memory\n".as_slice(),
+    );
+    same(rt, &report.status, &1);
     Ok(true)
 }
 

@@ -6,6 +6,8 @@ mod characters;
 #[cfg(test)]
 mod commands;
 #[cfg(test)]
+mod comparing;
+#[cfg(test)]
 mod cuts;
 #[cfg(test)]
 mod faking;

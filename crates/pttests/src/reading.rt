@@ -1,5 +1,6 @@
 //! Lines and blocks of a source in pieces.
 
+use crate::comparing::same;
 use crate::texts::{is_line, lines_of, text_of};
 use ptfakes::{Pieces, Refusing, Repeated, Watched};
 use ptlines::{LineFault, LineReader, Source, Store, find_near};
@@ -32,8 +33,8 @@ fn gives<S: Source, R: Source, A: Allocator + Copy>(
     store: &mut Store<A>,
     line: &[u8],
 ) {
-    assert_eq!(rt; next(rt, reader, store), Ok(true));
-    assert_eq!(rt; current(rt, store), line);
+    same(rt, &next(rt, reader, store), &Ok(true));
+    same(rt, &current(rt, store), &line);
 }
 
 // There is no line any more.
@@ -42,8 +43,8 @@ fn ends<S: Source, R: Source, A: Allocator + Copy>(
     reader: &mut LineReader<S, R>,
     store: &mut Store<A>,
 ) {
-    assert_eq!(rt; next(rt, reader, store), Ok(false));
-    assert_eq!(rt; current(rt, store).len(), 0);
+    same(rt, &next(rt, reader, store), &Ok(false));
+    same(rt, &current(rt, store).len(), &0);
 }
 
 // Each of the next calls answers this fault, and leaves so many bytes in the slot.
@@ -55,9 +56,9 @@ fn stays_at<S: Source, R: Source, A: Allocator + Copy>(
     count: usize,
 ) {
     for _ in 0..2 {
-        assert_eq!(rt; next(rt, reader, store), Err(fault));
-        assert_eq!(rt; shows(reader), Err(fault));
-        assert_eq!(rt; current(rt, store).len(), count);
+        same(rt, &next(rt, reader, store), &Err(fault));
+        same(rt, &shows(reader), &Err(fault));
+        same(rt, &current(rt, store).len(), &count);
     }
 }
 
@@ -99,7 +100,7 @@ fn reads(
     }
     let mut store = Store::new(alloc, 1)?;
     for length in lines_of(lengths, ended) {
-        assert_eq!(rt; next(rt, &mut reader, &mut store), Ok(true));
+        same(rt, &next(rt, &mut reader, &mut store), &Ok(true));
         assert!(rt; is_line(current(rt, &store), *length), "{length} by {size}");
     }
     // One pull for each piece, and one for the end.
@@ -223,7 +224,7 @@ fn the_ending_is_set_and_set_back(rt: HostRuntime) -> Result<(), Fail> {
         (false, b"d\0"),
     ] {
         reader.set_ending(zero);
-        assert_eq!(rt; reader.ending() == 0, zero);
+        same(&rt, &(reader.ending() == 0), &zero);
         gives(&rt, &mut reader, &mut store, line);
     }
     ends(&rt, &mut reader, &mut store);
@@ -238,7 +239,7 @@ fn a_line_is_given_at_its_end(rt: HostRuntime) -> Result<(), Fail> {
     let mut store = Store::new(rt.alloc(), 1)?;
     for (line, pulled) in [(b"ab".as_slice(), 3), (b"", 4), (b"cd", 7)] {
         gives(&rt, &mut reader, &mut store, line);
-        assert_eq!(rt; pulls.get(), pulled);
+        same(&rt, &pulls.get(), &pulled);
     }
     Ok(())
 }
@@ -293,8 +294,8 @@ fn fails(rt: &impl Abort, alloc: Global, row: &Failing) -> Result<(), Fail> {
         LineFault::Read,
         row.beginning.len(),
     );
-    assert_eq!(rt; current(rt, &store), row.beginning);
-    assert_eq!(rt; pulls.get(), row.passing.saturating_add(1));
+    same(rt, &current(rt, &store), &row.beginning);
+    same(rt, &pulls.get(), &row.passing.saturating_add(1));
     assert!(rt; !store.denied());
     Ok(())
 }
@@ -349,7 +350,7 @@ fn blocks_in_pieces(rt: HostRuntime) -> Result<(), Fail> {
                 let mut reader: Reader<'_> = LineReader::standard(source);
                 let all = shown(&rt, rt.alloc(), &mut reader, step)?;
                 assert!(rt; is_line(&all, length), "{length} by {size}");
-                assert_eq!(rt; reader.block()?.len(), 0);
+                same(&rt, &reader.block()?.len(), &0);
                 let pieces = length.div_ceil((*size).clamp(1, 8192)) as u64 + 1;
                 assert_eq!(rt; pulls.get(), pieces, "{length} by {size}");
             }
@@ -377,12 +378,12 @@ fn lines_and_blocks_in_turn(rt: HostRuntime) -> Result<(), Fail> {
     let mut reader: LineReader<Pieces<'_>, Pieces<'_>> = LineReader::standard(source);
     let mut store = Store::new(rt.alloc(), 1)?;
     gives(&rt, &mut reader, &mut store, b"ab");
-    assert_eq!(rt; passed(&mut reader, b"c", 0), Ok(true));
-    assert_eq!(rt; passed(&mut reader, b"c", 0), Ok(true));
+    same(&rt, &passed(&mut reader, b"c", 0), &Ok(true));
+    same(&rt, &passed(&mut reader, b"c", 0), &Ok(true));
     gives(&rt, &mut reader, &mut store, b"cd");
-    assert_eq!(rt; passed(&mut reader, b"ef", 1), Ok(true));
+    same(&rt, &passed(&mut reader, b"ef", 1), &Ok(true));
     gives(&rt, &mut reader, &mut store, b"f");
-    assert_eq!(rt; passed(&mut reader, b"", 0), Ok(true));
+    same(&rt, &passed(&mut reader, b"", 0), &Ok(true));
     ends(&rt, &mut reader, &mut store);
     Ok(())
 }
@@ -403,14 +404,14 @@ fn is_refused_after(
     let count = current(rt, &store).len();
     let pulled = pulls.get();
     assert!(rt; is_line(current(rt, &store), count));
-    assert_eq!(rt; store.denied(), alloc.refused());
+    same(rt, &store.denied(), &alloc.refused());
     if alloc.refused() {
         assert!(rt; count < 20000);
-        assert_eq!(rt; filled, Err(LineFault::Memory));
+        same(rt, &filled, &Err(LineFault::Memory));
         stays_at(rt, &mut reader, &mut store, LineFault::Memory, count);
-        assert_eq!(rt; pulls.get(), pulled);
+        same(rt, &pulls.get(), &pulled);
     } else {
-        assert_eq!(rt; (filled, count), (Ok(true), 20000));
+        same(rt, &(filled, count), &(Ok(true), 20000));
     }
     Ok(alloc.refused())
 }
@@ -423,7 +424,7 @@ fn each_growth_refused(rt: HostRuntime) -> Result<(), Fail> {
         match is_refused_after(&rt, rt.alloc(), &text, passing) {
             Ok(true) => refused = refused.saturating_add(1),
             Ok(false) => assert!(rt; passing > 1),
-            Err(fault) => assert_eq!(rt; (fault, passing), (LineFault::Memory, 0)),
+            Err(fault) => same(&rt, &(fault, passing), &(LineFault::Memory, 0)),
         }
     }
     assert!(rt; refused > 1 && refused < 29, "{refused}");
@@ -435,28 +436,28 @@ fn a_very_long_line(rt: HostRuntime) -> Result<(), Fail> {
     let source = Repeated::new(b'a', 1_000_000, usize::MAX, u64::MAX);
     let mut reader: LineReader<Repeated, Repeated> = LineReader::file(source);
     let mut store = Store::new(rt.alloc(), 1)?;
-    assert_eq!(rt; next(&rt, &mut reader, &mut store), Ok(true));
-    assert_eq!(rt; current(&rt, &store).len(), 1_000_000);
+    same(&rt, &next(&rt, &mut reader, &mut store), &Ok(true));
+    same(&rt, &current(&rt, &store).len(), &1_000_000);
     assert!(rt; current(&rt, &store).iter().all(|byte| *byte == b'a'));
     ends(&rt, &mut reader, &mut store);
-    assert_eq!(rt; (store.peak(), store.now()), (1_000_000, 0));
+    same(&rt, &(store.peak(), store.now()), &(1_000_000, 0));
     Ok(())
 }
 
 // One byte among others, at each of these places.
 fn finds(rt: &impl Abort, alloc: Global, place: usize) -> Result<(), Fail> {
     let mut bytes = text_of(alloc, &[place], b'\n', true)?;
-    assert_eq!(rt; find_near(b'\n', &bytes), Some(place));
+    same(rt, &find_near(b'\n', &bytes), &Some(place));
     assert_eq!(rt; find_near(0, &bytes), None, "{place}");
     bytes.extend_from_slice(b"\n\0\n")?;
-    assert_eq!(rt; find_near(b'\n', &bytes), Some(place));
-    assert_eq!(rt; find_near(0, &bytes), Some(place.saturating_add(2)));
+    same(rt, &find_near(b'\n', &bytes), &Some(place));
+    same(rt, &find_near(0, &bytes), &Some(place.saturating_add(2)));
     Ok(())
 }
 
 #[test]
 fn a_byte_is_found(rt: HostRuntime) -> Result<(), Fail> {
-    assert_eq!(rt; find_near(b'\n', b""), None);
+    same(&rt, &find_near(b'\n', b""), &None);
     for place in [0, 1, 15, 16, 29, 30, 31, 32, 33, 63, 64, 65, 8191, 20000] {
         finds(&rt, rt.alloc(), place)?;
     }

@@ -1,5 +1,6 @@
 //! Calls of a store whose slots a test knows to be there.
 
+use crate::comparing::same;
 use ptfakes::Pieces;
 use ptlines::{LineFault, LineReader, Store};
 use std::alloc::Allocator;
@@ -25,7 +26,7 @@ pub fn hold<A: Allocator + Copy>(
     assert!(rt; slot < store.slots());
     let mut reader: LineReader<Pieces<'_>, Pieces<'_>> = LineReader::standard(Pieces::whole(line));
     let given = reader.fill(store, slot)?;
-    assert_eq!(rt; given, !line.is_empty());
+    same(rt, &given, &!line.is_empty());
     Ok(())
 }
 

@@ -1,5 +1,6 @@
 //! Numbered slots, what they hold and held, and refused growths.
 
+use crate::comparing::same;
 use crate::slots::{clear, copy, expect, hold, line, swap};
 use ptfakes::Refusing;
 use ptlines::{LineFault, Store};
@@ -38,7 +39,7 @@ fn slots_are_copied_and_added(rt: HostRuntime) -> Result<(), Fail> {
     expect(&rt, &store, &[b"xyz", b"xyz", b""], 6, false);
     copy(&rt, &mut store, 2, 1)?;
     expect(&rt, &store, &[b"xyz", b"", b""], 6, false);
-    assert_eq!(rt; store.add()?, 3);
+    same(&rt, &store.add()?, &3);
     hold(&rt, &mut store, 3, b"\0\r\xff\x80")?;
     expect(&rt, &store, &[b"xyz", b"", b"", b"\0\r\xff\x80"], 7, false);
     Ok(())
@@ -48,7 +49,7 @@ fn slots_are_copied_and_added(rt: HostRuntime) -> Result<(), Fail> {
 fn a_store_of_no_slots(rt: HostRuntime) -> Result<(), Fail> {
     let mut store = Store::new(rt.alloc(), 0)?;
     expect(&rt, &store, &[], 0, false);
-    assert_eq!(rt; store.add()?, 0);
+    same(&rt, &store.add()?, &0);
     expect(&rt, &store, &[b""], 0, false);
     Ok(())
 }
@@ -70,7 +71,7 @@ fn grow<A: Allocator + Copy>(rt: &impl Abort, alloc: A) -> Stopped {
     let mut store = match Store::new(alloc, 2) {
         Ok(store) => store,
         Err(fault) => {
-            assert_eq!(rt; fault, LineFault::Memory);
+            same(rt, &fault, &LineFault::Memory);
             return Stopped::New;
         }
     };
@@ -78,7 +79,7 @@ fn grow<A: Allocator + Copy>(rt: &impl Abort, alloc: A) -> Stopped {
     if hold(rt, &mut store, 0, LONG) == Err(LineFault::Memory) {
         expect(rt, &store, &[b"", b""], 0, true);
         // Only one growth is refused, and the store stays denied.
-        assert_eq!(rt; hold(rt, &mut store, 0, LONG), Ok(()));
+        same(rt, &hold(rt, &mut store, 0, LONG), &Ok(()));
         expect(rt, &store, &[LONG, b""], 70, true);
         return Stopped::Hold;
     }
@@ -95,10 +96,10 @@ fn grow<A: Allocator + Copy>(rt: &impl Abort, alloc: A) -> Stopped {
     expect(rt, &store, &[LONG, LONG], 140, false);
     for slot in 2..40usize {
         match store.add() {
-            Ok(added) => assert_eq!(rt; added, slot),
+            Ok(added) => same(rt, &added, &slot),
             Err(fault) => {
-                assert_eq!(rt; fault, LineFault::Memory);
-                assert_eq!(rt; store.slots(), slot);
+                same(rt, &fault, &LineFault::Memory);
+                same(rt, &store.slots(), &slot);
                 assert!(rt; line(rt, &store, 1) == LONG);
                 assert!(rt; store.denied());
                 return Stopped::Add;

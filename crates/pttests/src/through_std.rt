@@ -1,5 +1,6 @@
 //! Readers and writers of std as sources and sinks.
 
+use crate::comparing::same;
 use ptlines::{
     Failed, FromRead, FromWrite, LineFault, LineReader, Out, Sink, Source, Store, WriteFault,
 };
@@ -75,11 +76,11 @@ fn reads_to_the_end(rt: HostRuntime) -> Result<(), Fail> {
     let mut reader: Through<&[u8]> = LineReader::standard(FromRead::new(b"ab\n\ncd".as_slice()));
     let mut store = Store::new(rt.alloc(), 1)?;
     for line in [b"ab".as_slice(), b"", b"cd"] {
-        assert_eq!(rt; next(&rt, &mut reader, &mut store), Ok(true));
-        assert_eq!(rt; current(&rt, &store), line);
+        same(&rt, &next(&rt, &mut reader, &mut store), &Ok(true));
+        same(&rt, &current(&rt, &store), &line);
     }
-    assert_eq!(rt; next(&rt, &mut reader, &mut store), Ok(false));
-    assert_eq!(rt; next(&rt, &mut reader, &mut store), Ok(false));
+    same(&rt, &next(&rt, &mut reader, &mut store), &Ok(false));
+    same(&rt, &next(&rt, &mut reader, &mut store), &Ok(false));
     Ok(())
 }
 
@@ -87,11 +88,19 @@ fn reads_to_the_end(rt: HostRuntime) -> Result<(), Fail> {
 fn a_failed_read_is_a_fault(rt: HostRuntime) -> Result<(), Fail> {
     let mut reader: Through<Broken<'_>> = LineReader::file(FromRead::new(Broken(b"ab\ncd")));
     let mut store = Store::new(rt.alloc(), 1)?;
-    assert_eq!(rt; next(&rt, &mut reader, &mut store), Ok(true));
-    assert_eq!(rt; current(&rt, &store), b"ab".as_slice());
-    assert_eq!(rt; next(&rt, &mut reader, &mut store), Err(LineFault::Read));
-    assert_eq!(rt; current(&rt, &store), b"cd".as_slice());
-    assert_eq!(rt; next(&rt, &mut reader, &mut store), Err(LineFault::Read));
+    same(&rt, &next(&rt, &mut reader, &mut store), &Ok(true));
+    same(&rt, &current(&rt, &store), &b"ab".as_slice());
+    same(
+        &rt,
+        &next(&rt, &mut reader, &mut store),
+        &Err(LineFault::Read),
+    );
+    same(&rt, &current(&rt, &store), &b"cd".as_slice());
+    same(
+        &rt,
+        &next(&rt, &mut reader, &mut store),
+        &Err(LineFault::Read),
+    );
     Ok(())
 }
 
@@ -113,12 +122,12 @@ fn writes_all_or_a_beginning(rt: HostRuntime) {
     for room in 0..8usize {
         let mut bytes = Vec::new(rt.alloc());
         let written = writes(&mut bytes, room, true);
-        assert_eq!(rt; written.is_ok(), room >= 5);
+        same(&rt, &written.is_ok(), &(room >= 5));
         assert!(rt; bytes.as_slice() == &b"abcde"[..room.min(5)]);
     }
     let mut bytes = Vec::new(rt.alloc());
-    assert_eq!(rt; writes(&mut bytes, 9, false), Err(WriteFault::Write));
-    assert_eq!(rt; bytes.as_slice(), b"abcde".as_slice());
+    same(&rt, &writes(&mut bytes, 9, false), &Err(WriteFault::Write));
+    same(&rt, &bytes.as_slice(), &b"abcde".as_slice());
 }
 
 // What a source or a sink over std answers, at each kind of answer that the reader or writer has.
@@ -126,26 +135,26 @@ fn writes_all_or_a_beginning(rt: HostRuntime) {
 fn answers_as_std_does(rt: HostRuntime) {
     let mut source = FromRead::new(Broken(b"abc"));
     let mut into = [0u8; 3];
-    assert_eq!(rt; source.pull(&mut into), Ok(2));
-    assert_eq!(rt; into, *b"ab\0");
-    assert_eq!(rt; source.pull(&mut into), Ok(1));
-    assert_eq!(rt; into, *b"cb\0");
-    assert_eq!(rt; source.pull(&mut into), Err(Failed));
+    same(&rt, &source.pull(&mut into), &Ok(2));
+    same(&rt, &into, &*b"ab\0");
+    same(&rt, &source.pull(&mut into), &Ok(1));
+    same(&rt, &into, &*b"cb\0");
+    same(&rt, &source.pull(&mut into), &Err(Failed));
     let mut ended = FromRead::new(b"x".as_slice());
-    assert_eq!(rt; ended.pull(&mut into), Ok(1));
-    assert_eq!(rt; ended.pull(&mut into), Ok(0));
+    same(&rt, &ended.pull(&mut into), &Ok(1));
+    same(&rt, &ended.pull(&mut into), &Ok(0));
     let mut bytes = Vec::new(rt.alloc());
     let mut sink = FromWrite::new(Narrow {
         bytes: &mut bytes,
         room: 1,
         flushes: false,
     });
-    assert_eq!(rt; sink.put(b"ab"), Ok(1));
-    assert_eq!(rt; sink.put(b"b"), Ok(0));
+    same(&rt, &sink.put(b"ab"), &Ok(1));
+    same(&rt, &sink.put(b"b"), &Ok(0));
     let mut other = FromWrite::new(Narrow {
         bytes: &mut bytes,
         room: 0,
         flushes: false,
     });
-    assert_eq!(rt; other.flush(), Err(Failed));
+    same(&rt, &other.flush(), &Err(Failed));
 }

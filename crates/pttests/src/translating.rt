@@ -1,5 +1,6 @@
 //! `tr` over an input in pieces.
 
+use crate::comparing::same;
 use ptfakes::{Kept, Pieces};
 use ptflow::{FlowFault, tr};
 use ptlangs::{CharPlan, Form, SetFault};
@@ -83,7 +84,7 @@ fn a_long_text_in_pieces(rt: HostRuntime) -> Result<(), Fail> {
 fn a_read_fails(rt: HostRuntime) -> Result<(), Fail> {
     let plan = squeezing_a()?;
     let (answer, kept) = translated(rt.alloc(), &plan, b"aabaa", 3, 1);
-    assert_eq!(rt; answer, Err(FlowFault::Read(0)));
+    same(&rt, &answer, &Err(FlowFault::Read(0)));
     assert!(rt; kept.bytes() == b"ab".as_slice());
     Ok(())
 }
@@ -94,7 +95,11 @@ fn a_write_fails(rt: HostRuntime) -> Result<(), Fail> {
     let text = repeated(rt.alloc(), b"b", 20000)?;
     let mut reader: Reader<'_> = LineReader::standard(Pieces::whole(&text));
     let mut out = Out::new(Kept::limited(rt.alloc(), 5000, usize::MAX, 1));
-    assert_eq!(rt; tr(&plan, &mut reader, &mut out), Err(FlowFault::Write));
-    assert_eq!(rt; out.into_sink().bytes().len(), 5000);
+    same(
+        &rt,
+        &tr(&plan, &mut reader, &mut out),
+        &Err(FlowFault::Write),
+    );
+    same(&rt, &out.into_sink().bytes().len(), &5000);
     Ok(())
 }

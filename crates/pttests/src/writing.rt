@@ -1,5 +1,6 @@
 //! A block of output before sinks that take little, or fail.
 
+use crate::comparing::same;
 use crate::texts::{is_line, text_of};
 use ptfakes::{Fixed, Kept};
 use ptlines::{Out, Sink, WriteFault, send};
@@ -56,11 +57,15 @@ fn all_is_sent(rt: HostRuntime) -> Result<(), Fail> {
         let text = text_of(rt.alloc(), &[all], b'\n', false)?;
         for size in [1, 7, 8192, usize::MAX] {
             let mut out = Out::new(Kept::limited(rt.alloc(), size, usize::MAX, u64::MAX));
-            assert_eq!(rt; push_all(&rt, &mut out, &text, lengths), lengths.len());
-            assert_eq!(rt; out.finish(), Ok(()));
+            same(
+                &rt,
+                &push_all(&rt, &mut out, &text, lengths),
+                &lengths.len(),
+            );
+            same(&rt, &out.finish(), &Ok(()));
             let kept = out.into_sink();
             assert!(rt; is_line(kept.bytes(), all), "{lengths:?} by {size}");
-            assert_eq!(rt; kept.flushes(), 1);
+            same(&rt, &kept.flushes(), &1);
         }
     }
     Ok(())
@@ -124,12 +129,20 @@ fn a_block_is_staged(rt: HostRuntime) -> Result<(), Fail> {
         let all = total(lengths);
         let text = text_of(rt.alloc(), &[all], b'\n', false)?;
         let mut out = Out::new(Kept::new(rt.alloc()));
-        assert_eq!(rt; push_all(&rt, &mut out, &text, lengths), lengths.len());
+        same(
+            &rt,
+            &push_all(&rt, &mut out, &text, lengths),
+            &lengths.len(),
+        );
         let kept = out.into_sink();
         assert!(rt; is_line(kept.bytes(), row.taken), "{lengths:?}");
         let mut out = Out::new(Kept::new(rt.alloc()));
-        assert_eq!(rt; push_all(&rt, &mut out, &text, lengths), lengths.len());
-        assert_eq!(rt; out.finish(), Ok(()));
+        same(
+            &rt,
+            &push_all(&rt, &mut out, &text, lengths),
+            &lengths.len(),
+        );
+        same(&rt, &out.finish(), &Ok(()));
         let kept = out.into_sink();
         assert_eq!(rt; kept.calls(), row.calls, "{lengths:?}");
         assert!(rt; is_line(kept.bytes(), all), "{lengths:?}");
@@ -140,9 +153,9 @@ fn a_block_is_staged(rt: HostRuntime) -> Result<(), Fail> {
 // After a fault each call answers it, and nothing more is sent.
 fn stays_faulted(rt: &impl Abort, out: &mut Out<Kept>) {
     assert!(rt; out.has_failed());
-    assert_eq!(rt; out.push(b"more"), Err(WriteFault::Write));
-    assert_eq!(rt; out.push(b""), Err(WriteFault::Write));
-    assert_eq!(rt; out.finish(), Err(WriteFault::Write));
+    same(rt, &out.push(b"more"), &Err(WriteFault::Write));
+    same(rt, &out.push(b""), &Err(WriteFault::Write));
+    same(rt, &out.finish(), &Err(WriteFault::Write));
 }
 
 // With a sink that fails at each of its calls in turn, the sink has a beginning.
@@ -220,18 +233,18 @@ fn nothing_taken_is_a_fault(rt: HostRuntime) -> Result<(), Fail> {
 #[test]
 fn a_sink_with_no_memory(rt: HostRuntime) {
     let mut out = Out::new(Fixed::<16>::new(5, u64::MAX));
-    assert_eq!(rt; out.push(b"0123456789"), Ok(()));
-    assert_eq!(rt; out.finish(), Ok(()));
-    assert_eq!(rt; out.push(b"abcdef"), Ok(()));
-    assert_eq!(rt; out.finish(), Ok(()));
-    assert_eq!(rt; out.push(b"!"), Ok(()));
+    same(&rt, &out.push(b"0123456789"), &Ok(()));
+    same(&rt, &out.finish(), &Ok(()));
+    same(&rt, &out.push(b"abcdef"), &Ok(()));
+    same(&rt, &out.finish(), &Ok(()));
+    same(&rt, &out.push(b"!"), &Ok(()));
     assert!(rt; !out.has_failed());
-    assert_eq!(rt; out.finish(), Err(WriteFault::Write));
+    same(&rt, &out.finish(), &Err(WriteFault::Write));
     let fixed = out.into_sink();
-    assert_eq!(rt; fixed.bytes(), b"0123456789abcdef".as_slice());
+    same(&rt, &fixed.bytes(), &b"0123456789abcdef".as_slice());
     // 5 and 5 bytes, 5 and 1, none, and two flushes.
-    assert_eq!(rt; fixed.calls(), 7);
-    assert_eq!(rt; fixed.flushes(), 2);
+    same(&rt, &fixed.calls(), &7);
+    same(&rt, &fixed.flushes(), &2);
 }
 
 // Sends a text to a sink with room for so many bytes, and looks at what it has then.
@@ -243,21 +256,37 @@ fn sends(
     answer: Result<(), WriteFault>,
 ) -> usize {
     let mut sink = Kept::limited(alloc, 2, room, passing);
-    assert_eq!(rt; send(&mut sink, b"abcde"), answer);
+    same(rt, &send(&mut sink, b"abcde"), &answer);
     assert!(rt; b"abcde".starts_with(sink.bytes()));
-    assert_eq!(rt; sink.flushes(), 0);
+    same(rt, &sink.flushes(), &0);
     sink.bytes().len()
 }
 
 #[test]
 fn bytes_are_sent_at_once(rt: HostRuntime) {
-    assert_eq!(rt; sends(&rt, rt.alloc(), 9, 9, Ok(())), 5);
-    assert_eq!(rt; sends(&rt, rt.alloc(), 5, 3, Ok(())), 5);
-    assert_eq!(rt; sends(&rt, rt.alloc(), 4, 9, Err(WriteFault::Write)), 4);
-    assert_eq!(rt; sends(&rt, rt.alloc(), 9, 2, Err(WriteFault::Write)), 4);
-    assert_eq!(rt; sends(&rt, rt.alloc(), 9, 0, Err(WriteFault::Write)), 0);
-    assert_eq!(rt; sends(&rt, rt.alloc(), 0, 9, Err(WriteFault::Write)), 0);
+    same(&rt, &sends(&rt, rt.alloc(), 9, 9, Ok(())), &5);
+    same(&rt, &sends(&rt, rt.alloc(), 5, 3, Ok(())), &5);
+    same(
+        &rt,
+        &sends(&rt, rt.alloc(), 4, 9, Err(WriteFault::Write)),
+        &4,
+    );
+    same(
+        &rt,
+        &sends(&rt, rt.alloc(), 9, 2, Err(WriteFault::Write)),
+        &4,
+    );
+    same(
+        &rt,
+        &sends(&rt, rt.alloc(), 9, 0, Err(WriteFault::Write)),
+        &0,
+    );
+    same(
+        &rt,
+        &sends(&rt, rt.alloc(), 0, 9, Err(WriteFault::Write)),
+        &0,
+    );
     let mut sink = Kept::new(rt.alloc());
-    assert_eq!(rt; send(&mut sink, b""), Ok(()));
-    assert_eq!(rt; sink.calls(), 0);
+    same(&rt, &send(&mut sink, b""), &Ok(()));
+    same(&rt, &sink.calls(), &0);
 }

@@ -1,5 +1,6 @@
 //! Lists of `paste`.
 
+use crate::comparing::same;
 use ptfakes::Refusing;
 use ptlangs::delims::{DelimFault, Delims};
 use std::test::Fail;
@@ -31,7 +32,7 @@ fn keeps_the_delimiters(rt: HostRuntime) -> Result<(), Fail> {
     for (list, delims) in ACCEPTED {
         let read = Delims::read(rt.alloc(), list)?;
         for (column, delim) in delims.iter().chain(delims.iter()).enumerate() {
-            assert_eq!(rt; read.at(column as u64), *delim);
+            same(&rt, &read.at(column as u64), delim);
         }
     }
     Ok(())
@@ -42,7 +43,7 @@ fn refuses_by_the_first_faulty_element(rt: HostRuntime) {
     for (list, fault) in REFUSED {
         match Delims::read(rt.alloc(), list) {
             Ok(_) => assert!(rt; false),
-            Err(found) => assert_eq!(rt; found, *fault),
+            Err(found) => same(&rt, &found, fault),
         }
     }
 }
@@ -50,20 +51,20 @@ fn refuses_by_the_first_faulty_element(rt: HostRuntime) {
 #[test]
 fn begins_again_behind_the_last(rt: HostRuntime) -> Result<(), Fail> {
     let delims = Delims::read(rt.alloc(), b"\\0,;")?;
-    assert_eq!(rt; delims.at(0), None);
-    assert_eq!(rt; delims.at(1), Some(b','));
-    assert_eq!(rt; delims.at(2), Some(b';'));
-    assert_eq!(rt; delims.at(3), None);
-    assert_eq!(rt; delims.at(4), Some(b','));
-    assert_eq!(rt; delims.at(u64::MAX), None);
+    same(&rt, &delims.at(0), &None);
+    same(&rt, &delims.at(1), &Some(b','));
+    same(&rt, &delims.at(2), &Some(b';'));
+    same(&rt, &delims.at(3), &None);
+    same(&rt, &delims.at(4), &Some(b','));
+    same(&rt, &delims.at(u64::MAX), &None);
     Ok(())
 }
 
 #[test]
 fn is_a_tab_by_default(rt: HostRuntime) -> Result<(), Fail> {
     let delims = Delims::tab(rt.alloc())?;
-    assert_eq!(rt; delims.at(0), Some(b'\t'));
-    assert_eq!(rt; delims.at(7), Some(b'\t'));
+    same(&rt, &delims.at(0), &Some(b'\t'));
+    same(&rt, &delims.at(7), &Some(b'\t'));
     Ok(())
 }
 
@@ -73,14 +74,14 @@ fn each_growth_refused_in_turn(rt: HostRuntime) {
     for passed in 0..8u64 {
         let alloc = Refusing::after(rt.alloc(), passed);
         match Delims::read(&alloc, b"abcdefghi") {
-            Ok(delims) => assert_eq!(rt; delims.at(8), Some(b'i')),
+            Ok(delims) => same(&rt, &delims.at(8), &Some(b'i')),
             Err(fault) => {
-                assert_eq!(rt; fault, DelimFault::Memory);
+                same(&rt, &fault, &DelimFault::Memory);
                 refused = refused.wrapping_add(1);
             }
         }
     }
-    assert_eq!(rt; refused, 3);
+    same(&rt, &refused, &3);
 }
 
 #[test]

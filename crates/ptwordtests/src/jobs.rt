@@ -1,5 +1,6 @@
 //! What each tool does without options.
 
+use crate::comparing::same;
 use ptfakes::Refusing;
 use ptlangs::jobs::{CommJob, JoinJob, PasteJob, Show, UniqJob};
 use std::test::Fail;
@@ -8,7 +9,7 @@ use std::test::Fail;
 fn pastes_with_tabs_by_default(rt: HostRuntime) -> Result<(), Fail> {
     let job = PasteJob::new(rt.alloc())?;
     assert!(rt; !job.serial && !job.zero);
-    assert_eq!(rt; job.delims.at(1), Some(b'\t'));
+    same(&rt, &job.delims.at(1), &Some(b'\t'));
     Ok(())
 }
 
@@ -22,22 +23,22 @@ fn the_default_of_paste_refused(rt: HostRuntime) {
 fn joins_pairs_by_their_first_fields_by_default(rt: HostRuntime) {
     let job = JoinJob::new(rt.alloc());
     assert!(rt; job.pairs);
-    assert_eq!(rt; job.unpaired, [false, false]);
+    same(&rt, &job.unpaired, &[false, false]);
     assert!(rt; job.empty.is_empty());
     assert!(rt; job.list.is_none());
-    assert_eq!(rt; job.sep, None);
-    assert_eq!(rt; job.field, [1, 1]);
+    same(&rt, &job.sep, &None);
+    same(&rt, &job.field, &[1, 1]);
     assert!(rt; !job.zero && !job.descending);
 }
 
 #[test]
 fn shows_all_by_default(rt: HostRuntime) {
     let job = UniqJob::default();
-    assert_eq!(rt; job.show, Show::All);
-    assert_eq!(rt; job.fields, 0);
-    assert_eq!(rt; job.chars, 0);
+    same(&rt, &job.show, &Show::All);
+    same(&rt, &job.fields, &0);
+    same(&rt, &job.chars, &0);
     assert!(rt; !job.zero);
     let job = CommJob::default();
-    assert_eq!(rt; job.hide, [false, false, false]);
+    same(&rt, &job.hide, &[false, false, false]);
     assert!(rt; !job.zero && !job.descending);
 }

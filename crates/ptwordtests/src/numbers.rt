@@ -1,5 +1,6 @@
 //! Decimal numbers.
 
+use crate::comparing::same;
 use ptlangs::numbers::{decimal, is_decimal};
 
 const ROWS: &[(&[u8], Option<u64>)] = &[
@@ -20,7 +21,7 @@ const ROWS: &[(&[u8], Option<u64>)] = &[
 #[test]
 fn reads_decimal_numbers(rt: HostRuntime) {
     for (text, number) in ROWS {
-        assert_eq!(rt; decimal(text), *number);
+        same(&rt, &decimal(text), number);
     }
 }
 

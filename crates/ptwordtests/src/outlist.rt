@@ -1,5 +1,6 @@
 //! Output lists of `join`.
 
+use crate::comparing::same;
 use ptfakes::Refusing;
 use ptlangs::outlist::{File, OutFault, OutField, OutList};
 use std::test::Fail;
@@ -50,7 +51,7 @@ const REFUSED: &[(&[u8], OutFault)] = &[
 fn keeps_the_fields(rt: HostRuntime) -> Result<(), Fail> {
     for (list, fields) in ACCEPTED {
         let read = OutList::read(rt.alloc(), list)?;
-        assert_eq!(rt; read.fields(), *fields);
+        same(&rt, &read.fields(), fields);
     }
     Ok(())
 }
@@ -60,7 +61,7 @@ fn refuses_by_the_first_faulty_element(rt: HostRuntime) {
     for (list, fault) in REFUSED {
         match OutList::read(rt.alloc(), list) {
             Ok(_) => assert!(rt; false),
-            Err(found) => assert_eq!(rt; found, *fault),
+            Err(found) => same(&rt, &found, fault),
         }
     }
 }
@@ -68,11 +69,11 @@ fn refuses_by_the_first_faulty_element(rt: HostRuntime) {
 #[test]
 fn tells_the_fields_as_numbers(rt: HostRuntime) -> Result<(), Fail> {
     let list = OutList::read(rt.alloc(), b"0,1.2,2.3")?;
-    assert_eq!(rt; list.at(0), Some((0, 0)));
-    assert_eq!(rt; list.at(1), Some((1, 2)));
-    assert_eq!(rt; list.at(2), Some((2, 3)));
-    assert_eq!(rt; list.at(3), None);
-    assert_eq!(rt; list.at(usize::MAX), None);
+    same(&rt, &list.at(0), &Some((0, 0)));
+    same(&rt, &list.at(1), &Some((1, 2)));
+    same(&rt, &list.at(2), &Some((2, 3)));
+    same(&rt, &list.at(3), &None);
+    same(&rt, &list.at(usize::MAX), &None);
     Ok(())
 }
 
@@ -82,12 +83,12 @@ fn each_growth_refused_in_turn(rt: HostRuntime) {
     for passed in 0..8u64 {
         let alloc = Refusing::after(rt.alloc(), passed);
         match OutList::read(&alloc, b"0,1.1,1.2,1.3,2.1,2.2") {
-            Ok(list) => assert_eq!(rt; list.at(5), Some((2, 2))),
+            Ok(list) => same(&rt, &list.at(5), &Some((2, 2))),
             Err(fault) => {
-                assert_eq!(rt; fault, OutFault::Memory);
+                same(&rt, &fault, &OutFault::Memory);
                 refused = refused.wrapping_add(1);
             }
         }
     }
-    assert_eq!(rt; refused, 2);
+    same(&rt, &refused, &2);
 }

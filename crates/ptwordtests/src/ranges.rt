@@ -1,5 +1,6 @@
 //! Lists of `cut`.
 
+use crate::comparing::same;
 use ptfakes::Refusing;
 use ptlangs::ranges::{Interval, ListFault, Ranges};
 use std::test::Fail;
@@ -102,7 +103,7 @@ const REFUSED: &[(&[u8], ListFault)] = &[
 fn keeps_the_selected_numbers(rt: HostRuntime) -> Result<(), Fail> {
     for row in ACCEPTED {
         let ranges = Ranges::read(rt.alloc(), row.list)?;
-        assert_eq!(rt; ranges.intervals(), row.kept);
+        same(&rt, &ranges.intervals(), &row.kept);
     }
     Ok(())
 }
@@ -112,7 +113,7 @@ fn refuses_by_the_first_faulty_element(rt: HostRuntime) {
     for (list, fault) in REFUSED {
         match Ranges::read(rt.alloc(), list) {
             Ok(_) => assert!(rt; false),
-            Err(found) => assert_eq!(rt; found, *fault),
+            Err(found) => same(&rt, &found, fault),
         }
     }
 }
@@ -136,10 +137,10 @@ fn each_growth_refused_in_turn(rt: HostRuntime) {
         match Ranges::read(&alloc, b"1,3,5,7,9,11") {
             Ok(ranges) => assert!(rt; ranges.contains(11)),
             Err(fault) => {
-                assert_eq!(rt; fault, ListFault::Memory);
+                same(&rt, &fault, &ListFault::Memory);
                 refused = refused.wrapping_add(1);
             }
         }
     }
-    assert_eq!(rt; refused, 4);
+    same(&rt, &refused, &4);
 }

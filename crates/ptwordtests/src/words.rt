@@ -1,5 +1,6 @@
 //! Words of all tools.
 
+use crate::comparing::same;
 use ptfakes::Refusing;
 use ptlangs::jobs::{CommJob, Show, UniqJob};
 use ptlangs::outlist::{File, OutField};
@@ -21,9 +22,9 @@ fn has_files(
     names: &[&str],
     output: Option<&str>,
 ) {
-    assert_eq!(rt; command.inputs().order.as_slice(), order);
-    assert_eq!(rt; command.names(), names);
-    assert_eq!(rt; command.output(), output);
+    same(rt, &command.inputs().order.as_slice(), &order);
+    same(rt, &command.names(), &names);
+    same(rt, &command.output(), &output);
 }
 
 /// One row for each fault; all others are proved in ptopts, and the built program is run on them.
@@ -174,10 +175,11 @@ fn is_cut(rt: &impl Abort, command: &Command, row: &Cut) {
     let Command::Cut(job, _) = command else {
         return assert!(rt; false);
     };
-    assert_eq!(rt; job.list.intervals(), row.list);
-    assert_eq!(rt;
-        (job.fields, job.delim, job.only),
-        (row.fields, row.delim, row.only)
+    same(rt, &job.list.intervals(), &row.list);
+    same(
+        rt,
+        &(job.fields, job.delim, job.only),
+        &(row.fields, row.delim, row.only),
     );
 }
 
@@ -195,7 +197,7 @@ fn the_words_of_cut(rt: HostRuntime) -> Result<(), Fail> {
 fn is_refused(rt: &impl Abort, alloc: Global, words: &[&str], fault: UseFault) {
     match Command::read(alloc, words) {
         Ok(_) => assert!(rt; false),
-        Err(found) => assert_eq!(rt; found, fault),
+        Err(found) => same(rt, &found, &fault),
     }
 }
 
@@ -204,7 +206,7 @@ fn are_accepted(rt: &impl Abort, alloc: Global, words: &[&str], inputs: usize) -
     let Ok(command) = Command::read(alloc, words) else {
         return Err(Fail::from("words are refused"));
     };
-    assert_eq!(rt; command.inputs().order.len(), inputs);
+    same(rt, &command.inputs().order.len(), &inputs);
     Ok(())
 }
 
@@ -258,10 +260,11 @@ fn is_paste(rt: &impl Abort, command: &Command, row: &Paste) {
     let Command::Paste(job, _) = command else {
         return assert!(rt; false);
     };
-    assert_eq!(rt; job.serial, row.serial);
-    assert_eq!(rt;
-        [job.delims.at(0), job.delims.at(1), job.delims.at(2)],
-        row.delims
+    same(rt, &job.serial, &row.serial);
+    same(
+        rt,
+        &[job.delims.at(0), job.delims.at(1), job.delims.at(2)],
+        &row.delims,
     );
 }
 
@@ -348,7 +351,7 @@ const UNIQS: &[Uniq] = &[
 
 fn is_uniq(rt: &impl Abort, command: &Command, wanted: UniqJob) {
     match command {
-        Command::Uniq(job, _) => assert_eq!(rt; *job, wanted),
+        Command::Uniq(job, _) => same(rt, job, &wanted),
         _ => assert!(rt; false),
     }
 }
@@ -392,7 +395,7 @@ const COMMS: &[(&[&str], CommJob)] = &[
 
 fn is_comm(rt: &impl Abort, command: &Command, wanted: CommJob) {
     match command {
-        Command::Comm(job, _) => assert_eq!(rt; *job, wanted),
+        Command::Comm(job, _) => same(rt, job, &wanted),
         _ => assert!(rt; false),
     }
 }
@@ -477,11 +480,11 @@ fn is_join(rt: &impl Abort, command: &Command, row: &Join) {
     let Command::Join(job, _) = command else {
         return assert!(rt; false);
     };
-    assert_eq!(rt; (job.pairs, job.sep), (row.pairs, row.sep));
-    assert_eq!(rt; job.unpaired, row.unpaired);
-    assert_eq!(rt; job.empty.as_slice(), row.empty);
-    assert_eq!(rt; job.list.as_ref().map(|list| list.fields()), row.list);
-    assert_eq!(rt; job.field, row.field);
+    same(rt, &(job.pairs, job.sep), &(row.pairs, row.sep));
+    same(rt, &job.unpaired, &row.unpaired);
+    same(rt, &job.empty.as_slice(), &row.empty);
+    same(rt, &job.list.as_ref().map(|list| list.fields()), &row.list);
+    same(rt, &job.field, &row.field);
 }
 
 #[test]
@@ -546,9 +549,9 @@ fn is_tr(rt: &impl Abort, command: &Command, row: &Tr) {
         } else {
             Some(plan.image(*byte))
         };
-        assert_eq!(rt; Some(&image), row.images.get(place));
+        same(rt, &Some(&image), &row.images.get(place));
         if let Some(image) = image {
-            assert_eq!(rt; Some(&plan.squeezes(image)), row.squeezed.get(place));
+            same(rt, &Some(&plan.squeezes(image)), &row.squeezed.get(place));
         }
     }
 }
@@ -569,9 +572,9 @@ fn growths<'a>(rt: &impl Abort, alloc: Global, words: &'a [&'a str], names: &[&s
     for passed in 0..16u64 {
         let refusing = Refusing::after(alloc, passed);
         match Command::read(&refusing, words) {
-            Ok(command) => assert_eq!(rt; command.names(), names),
+            Ok(command) => same(rt, &command.names(), &names),
             Err(fault) => {
-                assert_eq!(rt; (fault, refused), (UseFault::Memory, passed));
+                same(rt, &(fault, refused), &(UseFault::Memory, passed));
                 refused = refused.wrapping_add(1);
             }
         }
@@ -582,19 +585,21 @@ fn growths<'a>(rt: &impl Abort, alloc: Global, words: &'a [&'a str], names: &[&s
 #[test]
 fn each_growth_refused_in_turn(rt: HostRuntime) {
     let cut = ["cut", "-s", "-d,", "-f", "1,3", "f", "-", "g"];
-    assert_eq!(rt; growths(&rt, rt.alloc(), &cut, &["f", "g"]), 5);
+    same(&rt, &growths(&rt, rt.alloc(), &cut, &["f", "g"]), &5);
     let paste = ["paste", "-s", "-d,;", "f", "-"];
-    assert_eq!(rt; growths(&rt, rt.alloc(), &paste, &["f"]), 4);
-    assert_eq!(rt; growths(&rt, rt.alloc(), &["paste", "f"], &["f"]), 3);
-    assert_eq!(rt;
-        growths(&rt, rt.alloc(), &["uniq", "-c", "f", "out"], &["f"]),
-        3
+    same(&rt, &growths(&rt, rt.alloc(), &paste, &["f"]), &4);
+    same(&rt, &growths(&rt, rt.alloc(), &["paste", "f"], &["f"]), &3);
+    same(
+        &rt,
+        &growths(&rt, rt.alloc(), &["uniq", "-c", "f", "out"], &["f"]),
+        &3,
     );
-    assert_eq!(rt;
-        growths(&rt, rt.alloc(), &["comm", "-1", "f", "g"], &["f", "g"]),
-        3
+    same(
+        &rt,
+        &growths(&rt, rt.alloc(), &["comm", "-1", "f", "g"], &["f", "g"]),
+        &3,
     );
     let join = ["join", "-o", "0", "-ex", "f", "-"];
-    assert_eq!(rt; growths(&rt, rt.alloc(), &join, &["f"]), 5);
-    assert_eq!(rt; growths(&rt, rt.alloc(), &["tr", "-d", "a"], &[]), 2);
+    same(&rt, &growths(&rt, rt.alloc(), &join, &["f"]), &5);
+    same(&rt, &growths(&rt, rt.alloc(), &["tr", "-d", "a"], &[]), &2);
 }
