@@ -6,7 +6,7 @@ ghost use Rattle.ptopts.specs.Meant.{words_seen};
 ghost use Rattle.ptrun.specs.Asked.{count_of};
 ghost use Rattle.ptrun.specs.Worlds.{IsFresh};
 
-use ptlines::{FromRead, LineReader, Sink, Source};
+use ptlines::{FromRead, FromWrite, LineReader, Sink, Source};
 use ptopts::{Command, UseFault};
 use ptrun::{Report, run, say};
 use std::alloc::{AllocError, Allocator};
@@ -14,6 +14,10 @@ use std::fs::{self, Files};
 
 /// Runs the command of these words: opens the files that it names, in order, before anything is read, and hands
 /// the report of the run back. A file that cannot be opened is named by the run when its turn comes.
+///
+/// The output file of `uniq` is created, or emptied, once the input was opened, and not where the input could not be
+/// opened or the words were refused; then, and where the output is no file, `out` is what the run writes to. Else `out`
+/// is handed back as it came. A file that is input and output is emptied before it is read (POSIX leaves it open).
 /// The source has neither ended nor failed, and neither sink has failed.
 pub fn perform<'a, R: Files, A: Allocator + Copy, S: Source, W: Sink, E: Sink>(
     rt: &R,
@@ -29,9 +33,57 @@ pub fn perform<'a, R: Files, A: Allocator + Copy, S: Source, W: Sink, E: Sink>(
     requires heard { (E.state messages).failed ≡ false }
 {
     let command = Command::read(alloc, words);
-    match inputs_of(rt, alloc, &command, standard) {
-        Ok(mut inputs) => run(alloc, command, words, &mut inputs, out, messages),
-        Err(_) => report_no_memory(out, messages),
+    let Ok(mut inputs) = inputs_of(rt, alloc, &command, standard) else {
+        return report_no_memory(out, messages);
+    };
+    let Some(name) = output_of(&command, &inputs) else {
+        return run(alloc, command, words, &mut inputs, out, messages);
+    };
+    match fs::create(rt, name) {
+        Ok(file) => {
+            let sink = FromWrite::new(file);
+            let report = run(alloc, command, words, &mut inputs, sink, messages);
+            with_output(report, out)
+        }
+        Err(_) => report_no_output(name, out, messages),
+    }
+}
+
+// The name of the file that the command writes to, if all its inputs were opened.
+fn output_of<'a, A: Allocator, S: Source, R: Source>(
+    command: &Result<Command<'a, A>, UseFault<'a>>,
+    inputs: &[LineReader<S, R>],
+) -> Option<&'a str> {
+    let Ok(command) = command else {
+        return None;
+    };
+    for input in inputs {
+        if input.is_refused() {
+            return None;
+        }
+    }
+    command.output()
+}
+
+// The report of a run that wrote to a file, with the output that it left alone.
+fn with_output<F: Sink, W: Sink, E: Sink>(report: Report<F, E>, out: W) -> Report<W, E>
+    ensures status { result.status ≡ report.status }
+    ensures out { result.out ≡ out }
+    ensures messages { result.messages ≡ report.messages }
+{
+    let Report {
+        status,
+        peak,
+        denied,
+        out: _file,
+        messages,
+    } = report;
+    Report {
+        status,
+        peak,
+        denied,
+        out,
+        messages,
     }
 }
 
@@ -77,14 +129,14 @@ fn open_inputs<R: Files, A: Allocator + Copy, S: Source>(
     Ok(inputs)
 }
 
-// Says `ptext: ` and why nothing was run, and reports this status. The output is handed back as it came.
-fn report_unrun<W: Sink, E: Sink>(status: u8, why: &str, out: W, messages: E) -> Report<W, E>
+// Says why nothing was run, and reports this status. The output is handed back as it came.
+fn report_unrun<W: Sink, E: Sink>(status: u8, parts: &[&str], out: W, messages: E) -> Report<W, E>
     requires { (E.state messages).failed ≡ false }
     ensures status { result.status ≡ status }
     ensures out { result.out ≡ out }
 {
     let mut messages = messages;
-    let _ = say(&mut messages, &["ptext: ", why]);
+    let _ = say(&mut messages, parts);
     Report {
         status,
         peak: 0,
@@ -94,20 +146,29 @@ fn report_unrun<W: Sink, E: Sink>(status: u8, why: &str, out: W, messages: E) ->
     }
 }
 
+// Says that `uniq`'s output file could not be created, and reports status 1.
+fn report_no_output<W: Sink, E: Sink>(name: &str, out: W, messages: E) -> Report<W, E>
+    requires { (E.state messages).failed ≡ false }
+    ensures status { result.status ≡ 1 }
+    ensures out { result.out ≡ out }
+{
+    report_unrun(1, &["uniq: ", name, ": cannot be opened"], out, messages)
+}
+
 /// Says that memory for the program's own lists was refused, and reports status 1.
 pub fn report_no_memory<W: Sink, E: Sink>(out: W, messages: E) -> Report<W, E>
     requires { (E.state messages).failed ≡ false }
     ensures status { result.status ≡ 1 }
     ensures out { result.out ≡ out }
 {
-    report_unrun(1, "out of memory", out, messages)
+    report_unrun(1, &["ptext: out of memory"], out, messages)
 }
 
-/// Says that the words hold bytes that are no UTF-8 text, and reports status 2: such words are never read.
+/// Says that a word is no UTF-8 text, and reports status 2: such words are never read.
 pub fn report_no_text<W: Sink, E: Sink>(out: W, messages: E) -> Report<W, E>
     requires { (E.state messages).failed ≡ false }
     ensures status { result.status ≡ 2 }
     ensures out { result.out ≡ out }
 {
-    report_unrun(2, "a word is not UTF-8", out, messages)
+    report_unrun(2, &["ptext: a word is not UTF-8"], out, messages)
 }
