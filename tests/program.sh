@@ -171,5 +171,55 @@ want '' 'paste: wrong number of operands\n'
 run empty paste "$@" -
 same "513 operands of paste" 2
 
+# uniq, and its output file: created or emptied once the input was opened, and not else.
+printf 'a\na\nb\na' >runs
+want '2 a\n1 b\n1 a\n' ''
+run runs uniq -c
+same "counts of runs" 0
+
+run runs uniq -c - counts
+cp counts out
+same "uniq writes to its output file" 0
+
+want '' 'uniq: none: cannot be opened\n'
+run empty uniq none unmade
+[ -e unmade ] && echo made >>out
+same "no output file where the input cannot be opened" 1
+
+want '' 'uniq: none/unmade: cannot be opened\n'
+run runs uniq - none/unmade
+same "an output file that cannot be created" 1
+
+want '' 'uniq: options -c and -d do not go together\n'
+run runs uniq -cd - unmade
+[ -e unmade ] && echo made >>out
+same "no output file where the words are refused" 2
+
+want '2 a\n1 b\n1 a\n' ''
+run runs uniq -c - -
+same "a dash as the output is standard output" 0
+
+cp runs self
+run runs uniq self self
+cp self out
+want '' ''
+same "a file that is input and output is emptied first" 0
+
+want '' 'uniq: output: write failed\n'
+"$program" uniq runs /dev/full 2>messages
+status=$?
+: >out
+same "an output file on a full device" 1
+
+# One line of 64 MB, which uniq keeps twice at most, in 192 MB of address space.
+(
+    ulimit -v 196608
+    "$program" uniq -d <long >out 2>messages
+    echo $? >ended
+)
+status=$(cat ended)
+want '' ''
+same "uniq over one line of 64 MB" 0
+
 echo "$((count - bad)) of $count runs of the program as wanted"
 [ "$bad" = 0 ]
