@@ -72,7 +72,10 @@ fn expect(
 fn common_lines_come_first(rt: HostRuntime) -> Result<(), Fail> {
     let mut lines = inputs(b"a\na\nb\n", b"a\nc\n");
     expect(&rt, rt.alloc(), &lines, Ok(()), b"\t\ta\na\nb\n\tc\n")?;
-    lines.job.hide = [true, true, false];
+    lines.job = CommJob {
+        hide: [true, true, false],
+        ..CommJob::default()
+    };
     expect(&rt, rt.alloc(), &lines, Ok(()), b"a\n")
 }
 

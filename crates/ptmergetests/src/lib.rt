@@ -3,5 +3,3 @@
 
 #[cfg(test)]
 mod comm;
-#[cfg(test)]
-mod orders;
