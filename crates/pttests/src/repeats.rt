@@ -18,11 +18,7 @@ const ROWS: &[Row] = &[
     ),
     // Fewer fields or bytes than are passed over: the keys are empty.
     (&["uniq", "-f", "2"], "a b\nc\n", "a b\n"),
-    (
-        &["uniq", "-s", "18446744073709551615"],
-        "a\nb\n",
-        "a\n",
-    ),
+    (&["uniq", "-s", "18446744073709551615"], "a\nb\n", "a\n"),
     (&["uniq", "-d"], "a\na\nb\n", "a\n"),
     (&["uniq", "-u"], "a\na\nb\n", "b\n"),
     (&["uniq", "-"], "a\na\n", "a\n"),
@@ -157,7 +153,10 @@ fn expect_one(rt: &impl Abort, alloc: Global, length: usize) -> Result<(), Fail>
         let case = over_standard(&["uniq", "-u"], &text, *size);
         let report = run_over(rt, alloc, alloc, &case)?;
         assert_left(rt, &case, &report, &writes(""));
-        assert!(rt; report.peak <= longest.saturating_mul(2), "{length} by {size}");
+        assert!(rt;
+            report.peak <= longest.saturating_mul(2),
+            "{length} by {size}"
+        );
     }
     Ok(())
 }
