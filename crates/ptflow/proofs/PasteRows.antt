@@ -1,6 +1,5 @@
 -- Worked examples of `paste`.
 use Rattle.std.proofs.Common.{◌≡◌, ℕ, List, [], ◌∷◌, true, false, refl, codes, Option, Some, None}
-use Rattle.ptlines.specs.Inputs.{Given}
 use Rattle.ptlangs.specs.Jobs.{Paste}
 use Rattle.ptflow.specs.Pastes.{paste, paste_serial, paste_decided, serial_decided, paste_size}
 
