@@ -6,10 +6,10 @@ pub mod CutLines
 pub mod CutRests
 pub mod CutRows
 pub mod EndedLines
-pub mod Endings
 pub mod FieldLines
 pub mod FieldPlaces
 pub mod FieldWalks
+pub mod Grids
 pub mod LineLaws
 pub mod LineLemmas
 pub mod LinesCame
@@ -19,9 +19,13 @@ pub mod PasteRows
 pub mod ReaderFacts
 pub mod SerialRests
 pub mod SlotFacts
+pub mod Takes
 pub mod TrRests
 pub mod TrRows
 pub mod TwoSlots
 pub mod UniqKeys
 pub mod UniqPasses
 pub mod UniqRows
+pub mod SheetRows
+pub mod RowTurns
+pub mod CellSlots

@@ -9,15 +9,12 @@ use Rattle.ptlines.specs.Readers.{Reader, Reads, IsDone}
 use Rattle.ptlines.specs.Slots.{Slots}
 use Rattle.ptlines.specs.Fills.{GivesLine}
 use Rattle.ptlines.proofs.TextLaws.{lines_of_text, lines_last, lines_first, lines-text, text_push, AreLines_push, ended_of_text}
+use Rattle.ptflow.specs.Workings.TakenLines.{LinesCame}
 use Rattle.ptflow.proofs.LineLaws.{longest_piece, longest-append}
 use Rattle.ptflow.proofs.ReaderFacts.{given_of, done_gives_nothing}
 
 longest_front : (end : ℕ) (ls : List (List ℕ)) (piece rest : List ℕ) → AreLines end ls → IsLine end piece → max (longest ls) (length piece) ≤ longest (lines end (text end ls ++ (piece ++ rest)))
 longest_front end ls piece rest whole free = omega (arith, ap longest (lines_of_text end ls (piece ++ rest) whole) ∙ longest-append ls (lines end (piece ++ rest)), longest_piece end piece rest free)
-
--- these are the lines of what was given: all whole so far, or the last one at the end of the source
-pub record LinesCame (end : ℕ) (reader : Reader) (given : List ℕ) (ls : List (List ℕ)) : Type 0 where
-  pub so_far : ((given ≡ text end ls) × AreLines end ls) ⊎ ((lines end given ≡ ls) × IsDone reader)
 
 pub lines_none : (end : ℕ) (reader : Reader) → LinesCame end reader [] []
 lines_none end reader = record { so_far = inl (refl, tt) }

@@ -10,7 +10,7 @@ use Rattle.ptlines.proofs.Scanned.{before_end}
 use Rattle.ptlines.proofs.TextLaws.{lines_first, lines_of_text, other_byte}
 use Rattle.ptlangs.specs.Jobs.{Paste}
 use Rattle.ptflow.specs.Pastes.{delimiter, glued_from, paste_serial, serial_decided}
-use Rattle.ptflow.specs.Workings.SerialRests.{row_rest, serial_rest, begun, lead}
+use Rattle.ptflow.specs.Workings.SerialRests.{row_rest, row_from, serial_rest, begun, lead}
 use Rattle.ptflow.specs.declared.serial.Cell.{Cell}
 use Rattle.ptflow.proofs.Continuations.{Amid, amid_more}
 use Rattle.ptflow.proofs.CutRests.{split_of}
@@ -25,7 +25,7 @@ begun_number cell = by_ended cell.ended
 
 module _ (end : ℕ) (delims : List (Option ℕ)) where
   -- a line, and then what follows its cell
-  row_line : (number : ℕ) (line : List ℕ) (more : List (List ℕ)) → row_rest end delims number false (line ∷ more) ≡ line ++ row_rest end delims number true more
+  pub row_line : (number : ℕ) (line : List ℕ) (more : List (List ℕ)) → row_rest end delims number false (line ∷ more) ≡ line ++ row_rest end delims number true more
   row_line number line [] = refl
   row_line number line (l ∷ more) =
       append_assoc (line ++ delimiter delims number) (glued_from delims (number + 1) (l ∷ more)) (end ∷ []) ∙ append_assoc line (delimiter delims number) (glued_from delims (number + 1) (l ∷ more) ++ end ∷ [])
@@ -37,7 +37,7 @@ module _ (end : ℕ) (delims : List (Option ℕ)) where
   row_byte number b (l ∷ m ∷ ls) = refl
 
   -- the cell to which the next line belongs
-  row_begun : (cell : Cell) (line : List ℕ) (more : List (List ℕ)) → row_rest end delims cell.number cell.ended (line ∷ more) ≡ lead delims cell ++ row_rest end delims (begun cell).number false (line ∷ more)
+  pub row_begun : (cell : Cell) (line : List ℕ) (more : List (List ℕ)) → row_rest end delims cell.number cell.ended (line ∷ more) ≡ lead delims cell ++ row_rest end delims (begun cell).number false (line ∷ more)
   row_begun cell line more = by_ended cell.ended
     where
       by_ended : (t : Bool) → row_rest end delims cell.number t (line ∷ more) ≡ cond t (delimiter delims cell.number) [] ++ row_rest end delims (cond t (cell.number + 1) cell.number) false (line ∷ more)
@@ -90,7 +90,7 @@ module _ (end : ℕ) (delims : List (Option ℕ)) where
         is = ap (λ (l : List ℕ). (x ++ delimiter delims number) ++ l) b.is ∙ sym (append_assoc (x ++ delimiter delims number) (glued_from delims (number + 1) (z ∷ xs)) b.rest);
       }
 
-  row_end : (cell : Cell) → serial_rest end delims cell [] ≡ end ∷ []
+  pub row_end : (cell : Cell) → row_from end delims cell [] ≡ end ∷ []
   row_end cell = by_ended cell.ended
     where
       by_ended : (t : Bool) → row_rest end delims cell.number t [] ≡ end ∷ []

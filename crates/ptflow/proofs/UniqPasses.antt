@@ -17,7 +17,8 @@ use Rattle.ptflow.specs.Uniqs.{Run, is_same, runs, entries, all_but_last, uniq_t
 use Rattle.ptflow.specs.Workings.OpenRuns.{open_run, runs_behind, run_text}
 use Rattle.ptflow.specs.declared.faults.FlowFault.TheVariants.{Read, Write, Memory}
 use Rattle.ptflow.proofs.LineLaws.{longest-append}
-use Rattle.ptflow.proofs.LinesCame.{LinesCame, lines_none, lines_few, lines_on, lines_more, line_front, came_longest, piece_longest, whole_before}
+use Rattle.ptflow.specs.Workings.TakenLines.{LinesCame}
+use Rattle.ptflow.proofs.LinesCame.{lines_none, lines_few, lines_on, lines_more, line_front, came_longest, piece_longest, whole_before}
 use Rattle.ptflow.proofs.OpenRuns.{run_of, behind_more, behind_turn, entries-append, open_is, but_open}
 use Rattle.ptflow.proofs.PassLemmas.{Reached, reached_nothing, Midway, Stored, pass_read, pass_memory, pass_write, pass_done, pass_unended}
 use Rattle.ptflow.proofs.ReaderFacts.{given_of, goes_nothing}

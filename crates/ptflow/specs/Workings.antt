@@ -8,3 +8,5 @@ pub mod Pieces
 pub mod TrRests
 pub mod OpenRuns
 pub mod SerialRests
+pub mod TakenLines
+pub mod RowTurns

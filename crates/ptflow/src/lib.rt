@@ -7,6 +7,7 @@ mod cutting;
 mod faults;
 mod fields;
 mod keys;
+mod pasting;
 mod repeats;
 mod serial;
 mod slots;
@@ -14,6 +15,7 @@ mod translating;
 
 pub use cutting::cut;
 pub use faults::FlowFault;
+pub use pasting::paste;
 pub use repeats::uniq;
 pub use serial::paste_serial;
 pub use translating::tr;

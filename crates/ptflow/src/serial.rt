@@ -1,9 +1,9 @@
 //! `paste -s`.
 
-ghost use Rattle.std.specs.Prelude.{◌≡◌, ◌≢◌, ◌<◌, ◌≤◌, ◌+◌, ◌^◌, length, true, false, Err, OnOk, OnErr, IfOk};
+ghost use Rattle.std.specs.Prelude.{◌≡◌, ◌<◌, ◌≤◌, ◌+◌, ◌^◌, length, true, false, None, OnOk, OnErr, IfOk};
 ghost use Rattle.ptlines.specs.Outputs.{Wrote};
 ghost use Rattle.ptlangs.specs.Jobs.{paste_job};
-ghost use Rattle.ptflow.specs.Passes.{IsReady, IsPass};
+ghost use Rattle.ptflow.specs.Passes.{IsReady, IsPass, IsBarePass};
 ghost use Rattle.ptflow.specs.Pastes.{delimiter, serial_tool};
 ghost use Rattle.ptflow.specs.Workings.Continuations.{Continues, Halts};
 ghost use Rattle.ptflow.specs.Workings.SerialRests.{serial_rest, begun, lead};
@@ -17,9 +17,9 @@ use std::alloc::Allocator;
 
 /// A cell of a row: its number, and whether it has ended, so that a delimiter stands in front of what follows.
 #[derive(Clone, Copy)]
-struct Cell {
-    number: u64,
-    ended: bool,
+pub(crate) struct Cell {
+    pub number: u64,
+    pub ended: bool,
 }
 
 // Pushes what stands behind the cell of this number.
@@ -40,7 +40,7 @@ pub(crate) fn push_delimiter<A: Allocator, W: Sink>(
 }
 
 // Goes to the cell to which the next byte belongs.
-fn begin_cell<A: Allocator, W: Sink>(
+pub(crate) fn begin_cell<A: Allocator, W: Sink>(
     delims: &Delims<A>,
     cell: Cell,
     out: &mut Out<W>,
@@ -127,6 +127,29 @@ impl<'a, A: Allocator> BlockTool for SerialPaste<'a, A> {
     }
 }
 
+// Writes the lines of a reader in one row. No line is kept: what is written of the bytes that came is pushed before
+// the next read.
+fn over_row<A: Allocator, S: Source, R: Source, W: Sink>(
+    job: &PasteJob<A>,
+    reader: &mut LineReader<S, R>,
+    out: &mut Out<W>,
+) -> Result<(), FlowFault>
+    requires ending { reader.old.ending ≡ (paste_job job.now).end }
+    requires readable { reader.old.fault ≡ None }
+    requires clean { out.old.faulted ≡ false }
+    ensures { IsBarePass (serial_tool (paste_job job.now)) reader.old reader.new out.old out.new result }
+{
+    let mut tool = SerialPaste {
+        delims: &job.delims,
+        ending: reader.ending(),
+        cell: Cell {
+            number: 0,
+            ended: false,
+        },
+    };
+    over_blocks(&mut tool, reader, out)
+}
+
 /// Writes the lines of a reader in one row, with the delimiters of the list between them, the first behind the first
 /// line (XCU, `paste`, option `-s`). The row ends with newline, or with byte 0 with `-z` (this project's own choice). A
 /// reader without lines is an empty row (this project's own choice).
@@ -148,13 +171,11 @@ pub fn paste_serial<A: Allocator + Copy, S: Source, R: Source, W: Sink>(
         return Err(FlowFault::Write);
     }
     reader.set_ending(job.zero);
-    let mut tool = SerialPaste {
-        delims: &job.delims,
-        ending: reader.ending(),
-        cell: Cell {
-            number: 0,
-            ended: false,
-        },
-    };
-    over_blocks(&mut tool, reader, out)
+    over_row(job, reader, out)
+}
+
+fn probe() -> bool
+    ensures { result ≡ true }
+{
+    true
 }
