@@ -1,10 +1,11 @@
--- The items of a list that intervals choose.
+-- The items of a list that intervals choose. Intervals that lie apart choose one behind another, and each chooses a
+-- slice; so what all choose is the slices in a row.
 use Rattle.std.proofs.Common.{◌≡◌, ⊎_elim, ℕ, zero, suc, ◌+◌, ◌-◌, ◌<◌, ◌≤◌, Bool, true, false, cond, ◌&&◌, ◌||◌, List, [], ◌∷◌, ◌++◌, length, take, drop, get_or, min, append_assoc, length-drop, subst, refl, sym, ◌∙◌, ap, arith}
 use Rattle.std.specs.Prelude.{nat_le}
-use Rattle.std.proofs.lemmas.Bool.{cases_order}
+use Rattle.std.proofs.lemmas.Bool.{cases_order, false≢true}
 use Rattle.std.proofs.lemmas.Bool.Decides.{nat_tests}
-use Rattle.std.proofs.lemmas.List.{append-nil, take_all, drop_all, take-take, drop-take, drop_more, length-take-le, take-append-drop, drop-append-le}
-use Rattle.ptlines.proofs.Pushed.{wrote_nothing, wrote_trans, wrote_past}
+use Rattle.std.proofs.lemmas.List.{take_all, drop_all, take-take, drop-take, drop_more, length-take-le, take-append-drop, drop-append-le}
+use Rattle.ptflow.proofs.Fronts.{Front, front_starts, front_same, front_more, front_fails, front_ends}
 use Rattle.ptlangs.specs.CutLists.{is_selected, AreApart}
 use Rattle.ptlangs.specs.declared.ranges.Interval.{Interval}
 use Rattle.ptlines.specs.Outputs.{Output, Wrote}
@@ -23,6 +24,9 @@ inside r n low high = grind (arith, nat_tests)
 below : (r : Interval) (n : ℕ) → n < r.first → lies_in r n ≡ false
 below r n low = grind (arith, nat_tests)
 
+last_of : (r : Interval) (n : ℕ) → lies_in r n ≡ true → n ≤ r.last
+last_of r n inside = grind (arith, nat_tests)
+
 above : (r : Interval) (n : ℕ) → r.last < n → lies_in r n ≡ false
 above r n high = grind (arith, nat_tests)
 
@@ -39,29 +43,27 @@ chosen_none test n (x ∷ xs) out = rw (out n (omega arith) (omega arith)) (chos
 pub chosen_past : {X : Type 0} (r : Interval) (n : ℕ) (xs : List X) → r.last < n → chosen (lies_in r) n xs ≡ []
 chosen_past r n xs past = chosen_none (lies_in r) n xs (λ k low high. above r k (omega arith))
 
--- the first interval chooses, and then the others; here for one item more
-chosen_step : {X : Type 0} (r : Interval) (rs : List Interval) (n : ℕ) (x : X) (xs : List X) → AreApart (r.last + 1) rs
-    → chosen (is_selected (r ∷ rs)) (n + 1) xs ≡ chosen (lies_in r) (n + 1) xs ++ chosen (is_selected rs) (n + 1) xs
-    → chosen (is_selected (r ∷ rs)) n (x ∷ xs) ≡ chosen (lies_in r) n (x ∷ xs) ++ chosen (is_selected rs) n (x ∷ xs)
-chosen_step {X} r rs n x xs apart more = ⊎_elim (λ is. early (omega (arith, is))) (λ h. ⊎_elim (λ low. early (omega (arith, low))) late h) (cases_order n r.last)
-  where
-    by_first : (a : Bool) → cond (a || false) (x ∷ chosen (is_selected (r ∷ rs)) (n + 1) xs) (chosen (is_selected (r ∷ rs)) (n + 1) xs) ≡ cond a (x ∷ chosen (lies_in r) (n + 1) xs) (chosen (lies_in r) (n + 1) xs) ++ chosen (is_selected rs) (n + 1) xs
-    by_first true = ap (λ (l : List X). x ∷ l) more
-    by_first false = more
+-- one item more: the others do not choose it where the first does, and where they do, the first chooses nothing more
+chosen_step : {X : Type 0} (x : X) (all first others : List X) (a b : Bool) → (a ≡ true → b ≡ false) → (b ≡ true → first ≡ []) → all ≡ first ++ others
+    → cond (a || b) (x ∷ all) all ≡ cond a (x ∷ first) first ++ cond b (x ∷ others) others
+chosen_step x all first others true true apart none more = absurd (false≢true (sym (apart refl)))
+chosen_step {X} x all first others true false apart none more = ap (λ (l : List X). x ∷ l) more
+chosen_step {X} x all first others false true apart none more = ap (λ (l : List X). x ∷ l) (more ∙ ap (λ (l : List X). l ++ others) (none refl)) ∙ ap (λ (l : List X). l ++ x ∷ others) (sym (none refl))
+chosen_step x all first others false false apart none more = more
 
-    early : n ≤ r.last → chosen (is_selected (r ∷ rs)) n (x ∷ xs) ≡ chosen (lies_in r) n (x ∷ xs) ++ chosen (is_selected rs) n (x ∷ xs)
-    early low = rw (not_selected rs (r.last + 1) n apart (omega arith)) (by_first (lies_in r n))
-
-    by_others : (b : Bool) → chosen (lies_in r) (n + 1) xs ≡ [] → cond b (x ∷ chosen (is_selected (r ∷ rs)) (n + 1) xs) (chosen (is_selected (r ∷ rs)) (n + 1) xs) ≡ chosen (lies_in r) (n + 1) xs ++ cond b (x ∷ chosen (is_selected rs) (n + 1) xs) (chosen (is_selected rs) (n + 1) xs)
-    by_others true none = ap (λ (l : List X). x ∷ l) (more ∙ ap (λ (l : List X). l ++ chosen (is_selected rs) (n + 1) xs) none) ∙ ap (λ (l : List X). l ++ x ∷ chosen (is_selected rs) (n + 1) xs) (sym none)
-    by_others false none = more
-
-    late : r.last < n → chosen (is_selected (r ∷ rs)) n (x ∷ xs) ≡ chosen (lies_in r) n (x ∷ xs) ++ chosen (is_selected rs) n (x ∷ xs)
-    late high = rw (above r n high) (by_others (is_selected rs n) (chosen_past r (n + 1) xs (omega arith)))
-
+-- the first interval chooses, and then the others
 pub chosen_first : {X : Type 0} (r : Interval) (rs : List Interval) (n : ℕ) (xs : List X) → AreApart (r.last + 1) rs → chosen (is_selected (r ∷ rs)) n xs ≡ chosen (lies_in r) n xs ++ chosen (is_selected rs) n xs
 chosen_first r rs n [] apart = refl
-chosen_first r rs n (x ∷ xs) apart = chosen_step r rs n x xs apart (chosen_first r rs (n + 1) xs apart)
+chosen_first {X} r rs n (x ∷ xs) apart = chosen_step x (chosen (is_selected (r ∷ rs)) (n + 1) xs) (chosen (lies_in r) (n + 1) xs) (chosen (is_selected rs) (n + 1) xs) (lies_in r n) (is_selected rs n) here there (chosen_first r rs (n + 1) xs apart)
+  where
+    late : (n ≤ r.last → ⊥) → r.last < n
+    late not = ⊎_elim (λ is. absurd (not (omega (arith, is)))) (λ h. ⊎_elim (λ low. absurd (not (omega (arith, low)))) (λ high. high) h) (cases_order n r.last)
+
+    here : lies_in r n ≡ true → is_selected rs n ≡ false
+    here inside = not_selected rs (r.last + 1) n apart (omega (arith, last_of r n inside))
+
+    there : is_selected rs n ≡ true → chosen (lies_in r) (n + 1) xs ≡ []
+    there other = chosen_past r (n + 1) xs (omega (arith, late (λ low. false≢true (sym (not_selected rs (r.last + 1) n apart (omega (arith, low))) ∙ other))))
 
 -- the first items are not chosen
 pub chosen_skip : {X : Type 0} (test : ℕ → Bool) (n count : ℕ) (xs : List X) → ((k : ℕ) → n ≤ k → k < n + count → test k ≡ false) → chosen test n xs ≡ chosen test (n + count) (drop count xs)
@@ -88,79 +90,69 @@ chosen_slice r n (x ∷ xs) (suc i) (suc j) is js =
     let same : suc j - suc i ≡ j - i = omega arith in
     rw (below r n (omega (arith, is)), same) (chosen_slice r (n + 1) xs i j (omega (arith, is)) (omega (arith, js)))
 
--- What the intervals so far choose was pushed, and what is still to come is chosen by the others.
-pub record Choosing (all others : List Interval) (n : ℕ) (piece : List ℕ) (was is : Output) : Type 0 where
-  pub pushed : List ℕ
-  pub wrote : Wrote was is pushed
-  pub clean : is.faulted ≡ false
-  pub split : chosen (is_selected all) n piece ≡ pushed ++ chosen (is_selected others) n piece
+-- What the intervals so far choose of a piece was pushed, and what is still to come is chosen by the others; behind it comes the tail.
+pub record Choosing (whole : List ℕ) (others : List Interval) (n : ℕ) (piece tail : List ℕ) (was is : Output) : Type 0 where
+  pub front : Front whole (chosen (is_selected others) n piece ++ tail) was is
   pub low : ℕ
   pub apart : AreApart low others
 
--- nothing was pushed yet
-pub choosing_starts : (all : List Interval) (n : ℕ) (piece : List ℕ) (was : Output) → was.faulted ≡ false → AreApart 0 all → Choosing all all n piece was was
-choosing_starts all n piece was clean apart = record {
-  pushed = [];
-  wrote = wrote_nothing was;
-  clean = clean;
-  split = refl;
-  low = 0;
-  apart = apart;
-}
+module _ (all : List Interval) (n : ℕ) (piece tail : List ℕ) (was : Output) where
+  abbrev whole : List ℕ
+  whole = chosen (is_selected all) n piece ++ tail
 
-module _ (all rs : List Interval) (r : Interval) (n : ℕ) (piece : List ℕ) (was is is' : Output) (k : Choosing all (r ∷ rs) n piece was is) where
-  split_here : chosen (is_selected all) n piece ≡ (k.pushed ++ chosen (lies_in r) n piece) ++ chosen (is_selected rs) n piece
-  split_here = k.split ∙ ap (λ (l : List ℕ). k.pushed ++ l) (chosen_first r rs n piece k.apart.2) ∙ sym (append_assoc k.pushed (chosen (lies_in r) n piece) (chosen (is_selected rs) n piece))
+  pub choosing_starts : was.faulted ≡ false → AreApart 0 all → Choosing whole all n piece tail was was
+  choosing_starts clean apart = record { front = front_starts whole whole was refl clean; low = 0; apart = apart }
 
-  -- what the interval chooses was pushed
-  pub choosing_more : Wrote is is' (chosen (lies_in r) n piece) → is'.faulted ≡ false → Choosing all rs n piece was is'
-  choosing_more wrote clean = record {
-    pushed = k.pushed ++ chosen (lies_in r) n piece;
-    wrote = wrote_trans was is is' k.pushed (chosen (lies_in r) n piece) k.clean k.wrote wrote;
-    clean = clean;
-    split = split_here;
-    low = r.last + 1;
-    apart = k.apart.2;
-  }
+  module _ (i : ℕ) (is is' : Output) (k : Choosing whole (drop i all) n piece tail was is) where
+    abbrev to_come : List ℕ
+    to_come = chosen (is_selected (drop i all)) n piece ++ tail
 
-  -- the interval lies in front of the piece
-  pub choosing_past : r.last < n → Choosing all rs n piece was is
-  choosing_past past = record {
-    pushed = k.pushed;
-    wrote = k.wrote;
-    clean = k.clean;
-    split = split_here ∙ ap (λ (l : List ℕ). l ++ chosen (is_selected rs) n piece) (ap (λ (l : List ℕ). k.pushed ++ l) (chosen_past r n piece past) ∙ append-nil k.pushed);
-    low = r.last + 1;
-    apart = k.apart.2;
-  }
+    -- no interval is left
+    pub choosing_done : length all ≤ i → Wrote is is' tail → Wrote was is' whole
+    choosing_done past wrote =
+        front_ends whole to_come was is k.front is' tail
+        (ap (λ (l : List Interval). chosen (is_selected l) n piece ++ tail) (drop_all i all past) ∙ ap (λ (l : List ℕ). l ++ tail) (chosen_none (is_selected []) n piece (λ m low high. refl))) wrote
 
-  -- a write failed
-  pub choosing_fails : (tail : List ℕ) → Wrote is is' (chosen (lies_in r) n piece) → is'.faulted ≡ true → Wrote was is' (chosen (is_selected all) n piece ++ tail)
-  choosing_fails tail wrote fault =
-      subst (λ (b : List ℕ). Wrote was is' b) (sym (append_assoc (k.pushed ++ chosen (lies_in r) n piece) (chosen (is_selected rs) n piece) tail) ∙ ap (λ (l : List ℕ). l ++ tail) (sym split_here))
-      (wrote_past was is' (k.pushed ++ chosen (lies_in r) n piece) (chosen (is_selected rs) n piece ++ tail) fault (wrote_trans was is is' k.pushed (chosen (lies_in r) n piece) k.clean k.wrote wrote))
+    module _ (within : i < length all) where
+      abbrev r : Interval
+      r = get_or all i (record { first = 0; last = 0 })
 
-  -- the interval reaches the end of the piece
-  pub choosing_ends : (tail : List ℕ) → n + length piece ≤ r.last + 1 → Wrote is is' (chosen (lies_in r) n piece ++ tail) → Wrote was is' (chosen (is_selected all) n piece ++ tail)
-  choosing_ends tail reaches wrote =
-      let others : chosen (is_selected rs) n piece ≡ [] = chosen_none (is_selected rs) n piece (λ m low high. not_selected rs (r.last + 1) m k.apart.2 (omega arith)) in
-      let same : chosen (is_selected all) n piece ≡ k.pushed ++ chosen (lies_in r) n piece = split_here ∙ ap (λ (l : List ℕ). (k.pushed ++ chosen (lies_in r) n piece) ++ l) others ∙ append-nil (k.pushed ++ chosen (lies_in r) n piece) in
-      subst (λ (b : List ℕ). Wrote was is' b) (sym (append_assoc k.pushed (chosen (lies_in r) n piece) tail) ∙ ap (λ (l : List ℕ). l ++ tail) (sym same))
-      (wrote_trans was is is' k.pushed (chosen (lies_in r) n piece ++ tail) k.clean k.wrote wrote)
+      abbrev rs : List Interval
+      rs = drop (i + 1) all
 
--- no interval is left
-pub choosing_done : (all : List Interval) (n : ℕ) (piece tail : List ℕ) (was is is' : Output) → Choosing all [] n piece was is → Wrote is is' tail → Wrote was is' (chosen (is_selected all) n piece ++ tail)
-choosing_done all n piece tail was is is' k wrote =
-    let other : chosen (is_selected []) n piece ≡ [] = chosen_none (is_selected []) n piece (λ m low high. refl) in
-    let same : chosen (is_selected all) n piece ≡ k.pushed = k.split ∙ ap (λ (l : List ℕ). k.pushed ++ l) other ∙ append-nil k.pushed in
-    subst (λ (l : List ℕ). Wrote was is' (l ++ tail)) (sym same) (wrote_trans was is is' k.pushed tail k.clean k.wrote wrote)
+      apart : AreApart k.low (r ∷ rs)
+      apart = subst (λ (l : List Interval). AreApart k.low l) (drop_more all i (record { first = 0; last = 0 }) within) k.apart
 
--- the interval at a place, and those behind it
-pub at_place : (all : List Interval) (i : ℕ) (default : Interval) → i < length all → drop i all ≡ get_or all i default ∷ drop (i + 1) all
-at_place all i default within = drop_more all i default within
+      next : chosen (is_selected (drop i all)) n piece ++ tail ≡ chosen (lies_in r) n piece ++ (chosen (is_selected rs) n piece ++ tail)
+      next =
+          ap (λ (l : List Interval). chosen (is_selected l) n piece ++ tail) (drop_more all i (record { first = 0; last = 0 }) within) ∙ ap (λ (l : List ℕ). l ++ tail) (chosen_first r rs n piece apart.2)
+          ∙ append_assoc (chosen (lies_in r) n piece) (chosen (is_selected rs) n piece) tail
 
-pub none_left : (all : List Interval) (i : ℕ) → length all ≤ i → drop i all ≡ []
-none_left all i past = drop_all i all past
+      -- what the interval chooses was pushed
+      pub choosing_more : Wrote is is' (chosen (lies_in r) n piece) → is'.faulted ≡ false → Choosing whole rs n piece tail was is'
+      choosing_more wrote clean = record {
+        front = front_more whole to_come was is k.front is' (chosen (lies_in r) n piece) (chosen (is_selected rs) n piece ++ tail) next wrote clean;
+        low = r.last + 1;
+        apart = apart.2;
+      }
+
+      -- the interval lies in front of the piece
+      pub choosing_past : r.last < n → Choosing whole rs n piece tail was is
+      choosing_past past = record {
+        front = front_same whole to_come was is k.front (chosen (is_selected rs) n piece ++ tail) (next ∙ ap (λ (l : List ℕ). l ++ (chosen (is_selected rs) n piece ++ tail)) (chosen_past r n piece past));
+        low = r.last + 1;
+        apart = apart.2;
+      }
+
+      -- a write failed
+      pub choosing_fails : Wrote is is' (chosen (lies_in r) n piece) → is'.faulted ≡ true → Wrote was is' whole
+      choosing_fails = front_fails whole to_come was is k.front is' (chosen (lies_in r) n piece) (chosen (is_selected rs) n piece ++ tail) next
+
+      -- the interval reaches the end of the piece
+      pub choosing_ends : n + length piece ≤ r.last + 1 → Wrote is is' (chosen (lies_in r) n piece ++ tail) → Wrote was is' whole
+      choosing_ends reaches =
+          front_ends whole to_come was is k.front is' (chosen (lies_in r) n piece ++ tail)
+          (next ∙ ap (λ (l : List ℕ). chosen (lies_in r) n piece ++ (l ++ tail)) (chosen_none (is_selected rs) n piece (λ m low high. not_selected rs (r.last + 1) m apart.2 (omega arith))))
 
 -- a slice of the bytes, which lies in the piece in front of them
 pub slice_is : (r : Interval) (before count : ℕ) (bytes : List ℕ) → count ≤ length bytes → before < r.last → r.last < before + count

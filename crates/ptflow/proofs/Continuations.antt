@@ -1,8 +1,12 @@
 -- Amid some items, bytes of a block or lines of it: what was pushed stands in front of what is written of the rest, whatever comes.
-use Rattle.std.proofs.Common.{◌≡◌, ℕ, false, List, [], ◌++◌, refl, sym, ◌∙◌, ap, append_assoc}
+use Rattle.std.proofs.Common.{◌≡◌, ℕ, false, List, [], ◌++◌, Result, Ok, Err, OnErr, refl, sym, ◌∙◌, ap, append_assoc}
 use Rattle.ptlines.specs.Outputs.{Output, Wrote}
 use Rattle.ptlines.proofs.Pushed.{wrote_nothing, wrote_trans}
 use Rattle.ptflow.specs.Workings.Continuations.{Continues, Halts}
+
+pub on_err : {T E : Type 0} (r : Result T E) {P : Type 0} → P → OnErr r P
+on_err (Ok u) p = tt
+on_err (Err e) p = p
 
 -- amid some items, of which the rest is still to come
 pub record Amid {X Y : Type 0} (rest_from : X → List Y → List ℕ) (start now : X) (items rest : List Y) (was is : Output) : Type 0 where

@@ -1,20 +1,27 @@
--- What is written of a line that is cut by fields.
-use Rattle.std.proofs.Common.{◌≡◌, ℕ, ◌+◌, ◌==◌, Bool, true, false, cond, not, ◌||◌, length, take, drop, arith, List, [], ◌∷◌, ◌++◌, refl, sym, ◌∙◌, ap}
-use Rattle.std.proofs.Common.{Option, None, Some}
+-- What `cut` by fields writes of a line, by whether the delimiter is in it; and that it is a tool that works line by
+-- line. It carries nothing, so what is written of some lines and of others is what is written of both.
+use Rattle.std.proofs.Common.{◌≡◌, ℕ, ◌+◌, ◌==◌, Bool, true, false, cond, not, ◌||◌, length, take, drop, arith, List, [], ◌∷◌, ◌++◌, refl, sym, ◌∙◌, ap, Option, None, Some, subst, take-append-drop}
 use Rattle.std.specs.Option.{is_some}
 use Rattle.std.specs.List.{flat_map, list_any}
 use Rattle.std.proofs.lemmas.List.Folds.{list_any_at}
 use Rattle.memchr.specs.Find.{IsFirstByte, is_byte}
 use Rattle.ptlines.proofs.Scanned.{no_end}
-use Rattle.std.proofs.lemmas.List.{append-nil, take_all, drop_all}
+use Rattle.std.proofs.lemmas.List.{append-nil, take_all, drop_all, get_or-set_same}
 use Rattle.std.proofs.lemmas.List.Concat.{flat_map-append}
 use Rattle.ptlines.specs.Text.{text, ended_lines, IsLine}
 use Rattle.ptlines.proofs.TextLaws.{other_byte, text-append}
 use Rattle.ptlangs.specs.Jobs.{Cut}
-use Rattle.ptflow.specs.Cuts.{chosen_from, is_delimiter, cut_fields, cut_line, cut_lines, is_kept}
-use Rattle.ptflow.specs.Workings.Pieces.{line_piece}
-use Rattle.ptflow.proofs.CutRests.{line_of, end_of}
-use Rattle.ptflow.proofs.EndedLines.{ended_next}
+use Rattle.ptflow.specs.Cuts.{chosen_from, is_delimiter, cut_fields, cut_line, cut_lines, is_kept, cut_tool}
+use Rattle.ptflow.specs.Workings.CutRests.{line_piece, cut_from}
+use Rattle.ptflow.proofs.LineLaws.{line_of, end_of, ended_next}
+use Rattle.ptlines.specs.Fills.{GivesLine}
+use Rattle.ptlines.specs.Inputs.{Begins}
+use Rattle.ptlines.specs.Outputs.{Output, Wrote}
+use Rattle.ptlines.specs.Readers.{Reader}
+use Rattle.ptlines.specs.Slots.{Slots, line}
+use Rattle.ptflow.specs.Workings.Continuations.{Continues, Halts}
+use Rattle.ptflow.proofs.LineLemmas.{IsLineTool}
+use Rattle.ptflow.proofs.SlotFacts.{Keeps}
 
 none_of : (d : ℕ) (line : List ℕ) → IsLine d line → list_any (λ b. b == d) line ≡ false
 none_of d [] free = refl
@@ -36,11 +43,8 @@ module _ (job : Cut) (by_fields : job.fields ≡ true) (line : List ℕ) where
   pub written_dropped : (tail : List ℕ) → list_any (is_delimiter job) line ≡ false → job.only ≡ true → written job line tail ≡ []
   written_dropped tail none only = rw (by_fields, none, only) refl
 
-  pub written_whole : (tail : List ℕ) → list_any (is_delimiter job) line ≡ false → job.only ≡ false → written job line tail ≡ line ++ tail
+  written_whole : (tail : List ℕ) → list_any (is_delimiter job) line ≡ false → job.only ≡ false → written job line tail ≡ line ++ tail
   written_whole tail none keeps = rw (by_fields, none, keeps) (append-nil (line ++ tail))
-
-  pub written_fields : (tail : List ℕ) → list_any (is_delimiter job) line ≡ true → written job line tail ≡ cut_fields job line ++ tail
-  written_fields tail some = rw (by_fields, some) (append-nil (cut_fields job line ++ tail))
 
   -- the line with its end, if it is written
   pub written_end : cut_lines job (line ∷ []) ≡ written job line [] ++ cond (is_kept job line) (job.end ∷ []) []
@@ -51,6 +55,10 @@ module _ (job : Cut) (by_fields : job.fields ≡ true) (line : List ℕ) where
       by_tests true only = rw by_fields (one job.end (cut_fields job line))
       by_tests false true = rw by_fields refl
       by_tests false false = rw by_fields (one job.end line)
+
+-- a line without the delimiter is written as it is
+pub piece_whole : (job : Cut) (count : ℕ) (bytes : List ℕ) → job.fields ≡ true → list_any (is_delimiter job) (take count bytes) ≡ false → job.only ≡ false → bytes ≡ line_piece job count bytes
+piece_whole job count bytes by_fields none keeps = sym (written_whole job by_fields (take count bytes) (drop count bytes) none keeps ∙ take-append-drop count bytes)
 
 -- what is written of a line that is all of these bytes
 pub written_all : (job : Cut) (bytes : List ℕ) → written job (take (length bytes) bytes) (drop (length bytes) bytes) ≡ written job bytes []
@@ -65,3 +73,26 @@ line_on job end bytes at same first more =
     ap (λ (l : List (List ℕ)). cut_lines job (l ++ more)) (ended_next end bytes at first) ∙ ap (text job.end) (flat_map-append (cut_line job) (line ∷ []) next) ∙ text-append job.end (flat_map (cut_line job) (line ∷ [])) (flat_map (cut_line job) next)
     ∙ ap (λ (l : List ℕ). l ++ cut_lines job next)
     (ap (text job.end) (append-nil (cut_line job line)) ∙ (λ i. flat_map (λ l. l ++ sym same i ∷ []) (cut_line job line)) ∙ (λ i. flat_map (λ l. l ++ sym (end_of end bytes at first) i) (cut_line job (sym (line_of end bytes at first) i))))
+
+module _ (job : Cut) where
+  pub cut_line_tool : job.fields ≡ true → IsLineTool (cut_tool job) (cut_from job) (cut_lines job) job.end 1 tt
+  cut_line_tool by_fields = record { text = λ bytes. refl; decided_is = λ given. refl; size = λ bytes. omega arith; slots = ap (λ b. cond b 1 0) by_fields; some = omega arith }
+
+  cut_lines-append : (xs ys : List (List ℕ)) → cut_lines job (xs ++ ys) ≡ cut_lines job xs ++ cut_lines job ys
+  cut_lines-append xs ys = ap (λ (ls : List (List ℕ)). flat_map (λ l. l ++ job.end ∷ []) ls) (flat_map-append (cut_line job) xs ys) ∙ text-append job.end (flat_map (cut_line job) xs) (flat_map (cut_line job) ys)
+
+  -- all that was pushed is decided
+  pub cut_sure : (ls : List (List ℕ)) (pushed : List ℕ) → cut_lines job (ls ++ []) ≡ pushed ++ cut_lines job [] → Begins (cut_lines job ls) pushed
+  cut_sure ls pushed on = record { rest = []; is = sym (append-nil pushed) ∙ sym on ∙ ap (cut_lines job) (append-nil ls) ∙ sym (append-nil (cut_lines job ls)) }
+
+  -- a line that came by way of the first slot
+  module _ (now new : Reader) (is is' : Output) (first store after : Slots) (most : ℕ) (k : Keeps 1 most first store) (e : GivesLine now new store after 0) (seen : List ℕ) (seen_is : seen ≡ line after 0) (wrote : Wrote is is' (cut_lines job (seen ∷ []))) where
+    wrote_line : Wrote is is' (cut_lines job (e.line ∷ []))
+    wrote_line = subst (λ (l : List ℕ). Wrote is is' (cut_lines job (l ∷ [])))
+        (seen_is ∙ ap (λ (s : Slots). line s 0) e.stored ∙ get_or-set_same store.lines 0 e.line [] (omega (arith, k.adds.all k.denied))) wrote
+
+    pub line_continues : Continues (cut_from job) tt tt (e.line ∷ []) is is'
+    line_continues = record { pushed = cut_lines job (e.line ∷ []); wrote = wrote_line; on = λ rest. cut_lines-append (e.line ∷ []) rest }
+
+    pub line_halts : Halts (cut_from job) tt (e.line ∷ []) is is'
+    line_halts = record { pushed = cut_lines job (e.line ∷ []); wrote = wrote_line; true_so_far = λ rest. record { rest = cut_lines job rest; is = cut_lines-append (e.line ∷ []) rest } }

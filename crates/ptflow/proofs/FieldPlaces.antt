@@ -1,4 +1,5 @@
--- The fields of a line, and where they start.
+-- The fields of a line, and where they start. In front of each delimiter one field ends, so the place behind the n-th
+-- is where the fields behind the first n start.
 use Rattle.std.proofs.Common.{◌≡◌, ℕ, suc, ◌+◌, ◌<◌, ◌==◌, Bool, true, false, cond, List, [], ◌∷◌, ◌++◌, Some, length, take, drop, refl, sym, ◌∙◌, ap, arith, length-drop, take-append-drop}
 use Rattle.std.specs.List.{onto_first, join_with_byte}
 use Rattle.std.proofs.Math.Seq.{take-add}

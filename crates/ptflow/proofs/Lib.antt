@@ -1,14 +1,13 @@
 pub mod BlockLemmas
+pub mod ByteRests
+pub mod CellSlots
 pub mod Chosen
 pub mod Continuations
-pub mod CutLaws
-pub mod CutLines
-pub mod CutRests
 pub mod CutRows
-pub mod EndedLines
 pub mod FieldLines
 pub mod FieldPlaces
 pub mod FieldWalks
+pub mod Fronts
 pub mod Grids
 pub mod LineLaws
 pub mod LineLemmas
@@ -17,7 +16,9 @@ pub mod OpenRuns
 pub mod PassLemmas
 pub mod PasteRows
 pub mod ReaderFacts
+pub mod RowTurns
 pub mod SerialRests
+pub mod SheetRows
 pub mod SlotFacts
 pub mod Takes
 pub mod TrRests
@@ -26,6 +27,3 @@ pub mod TwoSlots
 pub mod UniqKeys
 pub mod UniqPasses
 pub mod UniqRows
-pub mod SheetRows
-pub mod RowTurns
-pub mod CellSlots

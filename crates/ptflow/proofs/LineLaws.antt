@@ -1,9 +1,13 @@
--- Laws of the lines of a text, and of their lengths.
-use Rattle.std.proofs.Common.{◌≡◌, ℕ, ◌+◌, ◌≤◌, ◌==◌, Bool, true, false, cond, List, [], ◌∷◌, ◌++◌, length, max, refl, sym, ◌∙◌, ap, subst, arith}
+-- Laws of the lines of a text: whole lines and the piece behind them, the longest line, and the lines of a block one by
+-- one. All of them go by the first end in some bytes, in front of which no other stands.
+use Rattle.std.proofs.Common.{◌≡◌, ℕ, ◌+◌, ◌≤◌, ◌==◌, Bool, true, false, cond, List, [], ◌∷◌, ◌++◌, length, max, refl, sym, ◌∙◌, ap, arith, take-append-drop, ◌-◌, Some, take, drop, append_assoc, length-append}
 use Rattle.std.specs.List.{onto_first}
 use Rattle.std.proofs.lemmas.Bool.{eqb-true, eqb-false}
 use Rattle.ptlines.specs.Text.{text, lines, ended_lines, onto_line, IsLine, AreLines, longest}
-use Rattle.ptlines.proofs.TextLaws.{other_byte}
+use Rattle.ptlines.proofs.TextLaws.{other_byte, ended_none, ended_first}
+use Rattle.std.proofs.lemmas.List.{append-nil, take_at, take-append-le, drop-append-le, take_all, drop_all, length-take-le}
+use Rattle.memchr.specs.Find.{IsFirstByte, is_byte}
+use Rattle.ptlines.proofs.Scanned.{before_end, take_end, drop_end}
 
 -- the whole lines of a text, and the piece behind them
 pub record Parts (end : ℕ) (bytes : List ℕ) : Type 0 where
@@ -12,38 +16,19 @@ pub record Parts (end : ℕ) (bytes : List ℕ) : Type 0 where
   pub whole : AreLines end (ended_lines end bytes)
   pub line : IsLine end piece
 
-parts_more : (end b : ℕ) (bytes : List ℕ) → Parts end bytes → Parts end (b ∷ bytes)
-parts_more end b bytes p = by_test (b == end) refl
-  where
-    at_end : (b == end) ≡ true → Parts end (b ∷ bytes)
-    at_end same = record {
-      piece = p.piece;
-      is = (λ i. eqb-true b end same i ∷ p.is i) ∙ ap (λ (t : Bool). text end (cond t ([] ∷ ended_lines end bytes) (onto_line b (ended_lines end bytes))) ++ p.piece) (sym same);
-      whole = subst (λ (t : Bool). AreLines end (cond t ([] ∷ ended_lines end bytes) (onto_line b (ended_lines end bytes)))) (sym same) (tt, p.whole);
-      line = p.line;
-    }
-
-    onto : (ls : List (List ℕ)) → bytes ≡ text end ls ++ p.piece → AreLines end ls → (b == end) ≡ false
-        → (piece : List ℕ) × (b ∷ bytes ≡ text end (onto_line b ls) ++ piece) × AreLines end (onto_line b ls) × IsLine end piece
-    onto [] is whole other = (b ∷ p.piece, ap (λ (l : List ℕ). b ∷ l) is, tt, (eqb-false b end other, p.line))
-    onto (l ∷ ls) is whole other = (p.piece, ap (λ (l : List ℕ). b ∷ l) is, ((eqb-false b end other, whole.0), whole.1), p.line)
-
-    inside : (b == end) ≡ false → Parts end (b ∷ bytes)
-    inside other =
-        let o = onto (ended_lines end bytes) p.is p.whole other in record {
-          piece = o.0;
-          is = o.1 ∙ ap (λ (t : Bool). text end (cond t ([] ∷ ended_lines end bytes) (onto_line b (ended_lines end bytes))) ++ o.0) (sym other);
-          whole = subst (λ (t : Bool). AreLines end (cond t ([] ∷ ended_lines end bytes) (onto_line b (ended_lines end bytes)))) (sym other) o.2;
-          line = o.3;
-        }
-
-    by_test : (t : Bool) → (b == end) ≡ t → Parts end (b ∷ bytes)
-    by_test true same = at_end same
-    by_test false other = inside other
+-- one byte more in front
+parts_step : (end b : ℕ) (bytes piece : List ℕ) (t : Bool) (ls : List (List ℕ)) → (b == end) ≡ t → bytes ≡ text end ls ++ piece → AreLines end ls → IsLine end piece
+    → (rest : List ℕ) × (b ∷ bytes ≡ text end (cond t ([] ∷ ls) (onto_line b ls)) ++ rest) × AreLines end (cond t ([] ∷ ls) (onto_line b ls)) × IsLine end rest
+parts_step end b bytes piece true ls same is whole line = (piece, (λ i. eqb-true b end same i ∷ is i), (tt, whole), line)
+parts_step end b bytes piece false [] other is whole line = (b ∷ piece, ap (λ (l : List ℕ). b ∷ l) is, tt, (eqb-false b end other, line))
+parts_step end b bytes piece false (l ∷ ls) other is whole line = (piece, ap (λ (l : List ℕ). b ∷ l) is, ((eqb-false b end other, whole.0), whole.1), line)
 
 pub parts_of : (end : ℕ) (bytes : List ℕ) → Parts end bytes
 parts_of end [] = record { piece = []; is = refl; whole = tt; line = tt }
-parts_of end (b ∷ bytes) = parts_more end b bytes (parts_of end bytes)
+parts_of end (b ∷ bytes) =
+    let p = parts_of end bytes in
+    let q = parts_step end b bytes p.piece (b == end) (ended_lines end bytes) refl p.is p.whole p.line in
+    record { piece = q.0; is = q.1; whole = q.2; line = q.3 }
 
 -- ---- the longest line
 
@@ -72,3 +57,48 @@ first_piece end (b ∷ piece) rest free = rw (other_byte end b free.0) (omega (a
 -- the beginning of a line is no longer than the longest line
 pub longest_piece : (end : ℕ) (piece rest : List ℕ) → IsLine end piece → length piece ≤ longest (lines end (piece ++ rest))
 longest_piece end piece rest free = omega (arith, first_piece end piece rest free, first_longest (lines end (piece ++ rest)))
+
+-- what stands in front of the first end in these bytes, and what behind it
+module _ (end : ℕ) (bytes : List ℕ) (at : ℕ) (first : IsFirstByte (is_byte end) bytes (Some at)) where
+  pub line_of : take at (take (at + 1) bytes) ≡ take at bytes
+  line_of =
+      let long : length (take at bytes) ≡ at = length-take-le at bytes (omega (arith, first.0.high)) in
+      ap (take at) (take_end end bytes at first) ∙ take-append-le at (take at bytes) (end ∷ []) (omega (arith, long)) ∙ take_all at (take at bytes) (omega (arith, long))
+
+  pub end_of : drop at (take (at + 1) bytes) ≡ end ∷ []
+  end_of =
+      let long : length (take at bytes) ≡ at = length-take-le at bytes (omega (arith, first.0.high)) in
+      ap (drop at) (take_end end bytes at first) ∙ drop-append-le at (take at bytes) (end ∷ []) (omega (arith, long)) ∙ ap (λ (l : List ℕ). l ++ end ∷ []) (drop_all at (take at bytes) (omega (arith, long)))
+
+  pub split_of : bytes ≡ take at bytes ++ end ∷ drop (at + 1) bytes
+  split_of = sym (take-append-drop at bytes) ∙ ap (λ (l : List ℕ). take at bytes ++ l) (drop_end end bytes at first)
+
+-- some of these lines were taken, and these bytes are the rest of the block
+pub record Taken (end : ℕ) (block rest : List ℕ) : Type 0 where
+  pub front : List ℕ
+  pub split : block ≡ front ++ rest
+  pub texts : text end (ended_lines end block) ≡ front ++ text end (ended_lines end rest)
+
+module _ (end : ℕ) where
+  pub taken_nothing : (block : List ℕ) → Taken end block block
+  taken_nothing block = record { front = []; split = refl; texts = refl }
+
+  module _ (rest : List ℕ) (at : ℕ) (first : IsFirstByte (is_byte end) rest (Some at)) where
+    pub ended_next : ended_lines end rest ≡ take at rest ∷ ended_lines end (drop (at + 1) rest)
+    ended_next = ap (ended_lines end) (split_of end rest at first) ∙ ended_first end (take at rest) (drop (at + 1) rest) (before_end end rest at first)
+
+    pub taken_more : (block : List ℕ) → Taken end block rest → Taken end block (drop (at + 1) rest)
+    taken_more block t =
+        let line = take at rest ++ end ∷ [] in
+        let texts = text end (ended_lines end (drop (at + 1) rest)) in record {
+          front = t.front ++ line;
+          split = t.split ∙ ap (λ (l : List ℕ). t.front ++ l) (split_of end rest at first ∙ sym (append_assoc (take at rest) (end ∷ []) (drop (at + 1) rest))) ∙ sym (append_assoc t.front line (drop (at + 1) rest));
+          texts = t.texts ∙ ap (λ (l : List (List ℕ)). t.front ++ text end l) ended_next ∙ sym (append_assoc t.front line texts);
+        }
+
+  -- no line more
+  pub taken_all : (block rest : List ℕ) → IsLine end rest → Taken end block rest → take (length block - length rest) block ≡ text end (ended_lines end block)
+  taken_all block rest none t =
+      let size : length block - length rest ≡ length t.front = omega (arith, ap length t.split, length-append t.front rest) in
+      (λ i. take (size i) (t.split i)) ∙ take_at t.front rest (length t.front) refl
+      ∙ sym (t.texts ∙ ap (λ (l : List (List ℕ)). t.front ++ text end l) (ended_none end rest none) ∙ append-nil t.front)

@@ -35,20 +35,21 @@ pub record IsLineTool {X : Type 0} (tool : Tool) (lines_from : X → List (List 
 abbrev pub bytes_from : {X : Type 0} → (X → List (List ℕ) → List ℕ) → ℕ → X → List ℕ → List ℕ
 bytes_from lines_from end x bytes = lines_from x (lines end bytes)
 
--- Midway, at the end of a line or of the input.
-pub record LineRun {X : Type 0} (lines_from : X → List (List ℕ) → List ℕ) (end : ℕ) (start now : X) (old reader : Reader) (was is : Output) : Type 0 where
+-- Midway, at the end of a line or of the input, with a line at most in each of `width` slots.
+pub record LineRun {X : Type 0} (lines_from : X → List (List ℕ) → List ℕ) (end width : ℕ) (start now : X) (old reader : Reader) (was is : Output) (before store : Slots) : Type 0 where
   pub given : List ℕ
   pub pushed : List ℕ
   pub reached : Reached old reader was is given pushed
   pub ending : reader.ending ≡ end
   pub on : (more : List (List ℕ)) → lines_from start (lines end given ++ more) ≡ pushed ++ lines_from now more
   pub whole : (given ≡ text end (lines end given)) ⊎ IsDone reader
+  pub keeps : Keeps width (longest (lines end given)) before store
 
-module _ {X : Type 0} (lines_from : X → List (List ℕ) → List ℕ) (end : ℕ) (start : X) where
-  unfoldable pub run_starts : (old : Reader) (was : Output) → old.fault ≡ None → old.ending ≡ end → was.faulted ≡ false → LineRun lines_from end start start old old was was
-  run_starts old was readable ending clean = record { given = []; pushed = []; reached = reached_nothing old was readable clean; ending = ending; on = λ more. refl; whole = inl refl }
+module _ {X : Type 0} (lines_from : X → List (List ℕ) → List ℕ) (end width : ℕ) (start : X) where
+  pub run_starts : (old : Reader) (was : Output) (before store : Slots) → old.fault ≡ None → old.ending ≡ end → was.faulted ≡ false → Keeps width 0 before store → LineRun lines_from end width start start old old was was before store
+  run_starts old was before store readable ending clean keeps = record { given = []; pushed = []; reached = reached_nothing old was readable clean; ending = ending; on = λ more. refl; whole = inl refl; keeps = keeps }
 
-  module _ (now : X) (old reader : Reader) (was is : Output) (r : LineRun lines_from end start now old reader was is) where
+  module _ (now : X) (old reader : Reader) (was is : Output) (before store : Slots) (r : LineRun lines_from end width start now old reader was is before store) where
     -- the lines so far, and those of the rest
     pub lines_so_far : (rest : List ℕ) → (IsDone reader → rest ≡ []) → lines end (r.given ++ rest) ≡ lines end r.given ++ lines end rest
     lines_so_far rest may = ⊎_elim opened closed r.whole
@@ -62,8 +63,23 @@ module _ {X : Type 0} (lines_from : X → List (List ℕ) → List ℕ) (end : �
     abbrev pub midway_of : Midway (bytes_from lines_from end) start now old reader was is
     midway_of = record { given = r.given; pushed = r.pushed; reached = r.reached; on = λ rest may. ap (lines_from start) (lines_so_far rest may) ∙ r.on (lines end rest) }
 
+    -- some lines more were given and passed on
+    run_more : (new : Reader) (after : Slots) (bytes : List ℕ) (ls : List (List ℕ)) → Goes reader new bytes → lines end (r.given ++ bytes) ≡ lines end r.given ++ ls → (r.given ++ bytes ≡ text end (lines end (r.given ++ bytes))) ⊎ IsDone new
+        → Keeps width (longest (lines end (r.given ++ bytes))) before after → (next : X) (is' : Output) → Continues lines_from now next ls is is' → is'.faulted ≡ false → LineRun lines_from end width start next old new was is' before after
+    run_more new after bytes ls goes lines_now whole keeps next is' c clean = record {
+      given = r.given ++ bytes;
+      pushed = r.pushed ++ c.pushed;
+      reached = record { goes = goes_trans old reader new r.given bytes r.reached.goes goes; wrote = wrote_trans was is is' r.pushed c.pushed r.reached.clean r.reached.wrote c.wrote; clean = clean };
+      ending = goes.reads.ending ∙ r.ending;
+      on = λ more.
+          ap (λ (l : List (List ℕ)). lines_from start (l ++ more)) lines_now ∙ ap (lines_from start) (append_assoc (lines end r.given) ls more) ∙ r.on (ls ++ more)
+          ∙ ap (λ (l : List ℕ). r.pushed ++ l) (c.on more) ∙ sym (append_assoc r.pushed c.pushed (lines_from next more));
+      whole = whole;
+      keeps = keeps;
+    }
+
     -- a line more came by way of a slot
-    module _ (new : Reader) (before after : Slots) (slot : ℕ) (e : GivesLine reader new before after slot) where
+    module _ (new : Reader) (after : Slots) (slot : ℕ) (e : GivesLine reader new store after slot) where
       free : IsLine end e.line
       free = subst (λ (b : ℕ). IsLine b e.line) r.ending e.whole
 
@@ -77,7 +93,7 @@ module _ {X : Type 0} (lines_from : X → List (List ℕ) → List ℕ) (end : �
         | inr last ↦ (λ i. lines end ((e.line ++ last.0 i) ++ may last.2 i)) ∙ ap (lines end) (append-nil (e.line ++ []) ∙ append-nil e.line) ∙ lines_last end e.line free last.1 ∙ (λ i. e.line ∷ lines end (sym (may last.2) i))
       ]
 
-      pub still_open : r.given ≡ text end (lines end r.given)
+      still_open : r.given ≡ text end (lines end r.given)
       still_open = ⊎_elim (λ o. o) (λ done. absurd (omega (arith, some, ap length (done_gives_nothing reader new came done e.goes.reads).0))) r.whole
         where
           some : 0 < length came
@@ -86,34 +102,21 @@ module _ {X : Type 0} (lines_from : X → List (List ℕ) → List ℕ) (end : �
             | inr last ↦ omega (arith, last.1, length-append e.line e.ending)
           ]
 
-      pub lines_now : lines end (r.given ++ came) ≡ lines end r.given ++ e.line ∷ []
+      lines_now : lines end (r.given ++ came) ≡ lines end r.given ++ e.line ∷ []
       lines_now =
           let first = line_first [] (λ done. refl) in
           ap (λ (l : List ℕ). lines end (l ++ came)) still_open ∙ lines_of_text end (lines end r.given) came (lines_are end r.given)
           ∙ ap (λ (l : List (List ℕ)). lines end r.given ++ l) (ap (lines end) (sym (append-nil came)) ∙ first)
 
-      unfoldable pub run_line : (next : X) (is' : Output) → Continues lines_from now next (e.line ∷ []) is is' → is'.faulted ≡ false → LineRun lines_from end start next old new was is'
-      run_line next is' c clean = record {
-        given = r.given ++ came;
-        pushed = r.pushed ++ c.pushed;
-        reached = record { goes = goes_trans old reader new r.given came r.reached.goes e.goes; wrote = wrote_trans was is is' r.pushed c.pushed r.reached.clean r.reached.wrote c.wrote; clean = clean };
-        ending = e.goes.reads.ending ∙ r.ending;
-        on = λ more.
-            ap (λ (l : List (List ℕ)). lines_from start (l ++ more)) lines_now ∙ ap (lines_from start) (append_assoc (lines end r.given) (e.line ∷ []) more) ∙ r.on (e.line ∷ more)
-            ∙ ap (λ (l : List ℕ). r.pushed ++ l) (c.on more) ∙ sym (append_assoc r.pushed c.pushed (lines_from next more));
-        whole = elim e.ends [
-          | inl ends ↦ inl (
-              (λ i. still_open i ++ (e.line ++ (ends ∙ ap (λ (b : ℕ). b ∷ []) r.ending) i)) ∙ sym (text_push end (lines end r.given) e.line) ∙ ap (text end) (sym lines_now)
-              )
-          | inr last ↦ inr last.2
-        ];
-      }
-
-      -- and it is in the store
-      pub keeps_came : (width : ℕ) (first : Slots) → slot < width → Keeps width (longest (lines end r.given)) first before → Keeps width (longest (lines end (r.given ++ came))) first after
-      keeps_came width first within k =
-          let most : longest (lines end (r.given ++ came)) ≡ max (longest (lines end r.given)) (longest (e.line ∷ [])) = ap longest lines_now ∙ longest-append (lines end r.given) (e.line ∷ []) in
-          keeps_line width (longest (lines end (r.given ++ came))) first before after slot e.line (keeps_more width (longest (lines end r.given)) (longest (lines end (r.given ++ came))) first before k (omega (arith, most))) within (omega (arith, most)) e.stored
+      pub run_line : slot < width → (next : X) (is' : Output) → Continues lines_from now next (e.line ∷ []) is is' → is'.faulted ≡ false → LineRun lines_from end width start next old new was is' before after
+      run_line within =
+          let before_it = longest (lines end r.given) in
+          let with_it = longest (lines end (r.given ++ came)) in
+          let most : with_it ≡ max before_it (longest (e.line ∷ [])) = ap longest lines_now ∙ longest-append (lines end r.given) (e.line ∷ []) in
+          run_more new after came (e.line ∷ []) e.goes lines_now (elim e.ends [
+            | inl ends ↦ inl ((λ i. still_open i ++ (e.line ++ (ends ∙ ap (λ (b : ℕ). b ∷ []) r.ending) i)) ∙ sym (text_push end (lines end r.given) e.line) ∙ ap (text end) (sym lines_now))
+            | inr last ↦ inr last.2
+          ]) (keeps_line width with_it before store after slot e.line (keeps_more width before_it with_it before store r.keeps (omega (arith, most))) within (omega (arith, most)) e.stored)
 
     -- the lines of a block whose end is in it
     module _ (shown : Reader) (block : List ℕ) (goes : Goes reader shown []) (held : shown.held ≡ block) where
@@ -127,27 +130,16 @@ module _ {X : Type 0} (lines_from : X → List (List ℕ) → List ℕ) (end : �
       pub ended_first : (rest : List ℕ) → lines end (block ++ rest) ≡ ended ++ lines end ((parts_of end block).piece ++ rest)
       ended_first rest = ap (λ (l : List ℕ). lines end (l ++ rest)) (parts_of end block).is ∙ ap (lines end) (append_assoc (text end ended) (parts_of end block).piece rest) ∙ lines_of_text end ended ((parts_of end block).piece ++ rest) (parts_of end block).whole
 
-      pub lines_passed : lines end (r.given ++ text end ended) ≡ lines end r.given ++ ended
+      lines_passed : lines end (r.given ++ text end ended) ≡ lines end r.given ++ ended
       lines_passed = lines_so_far (text end ended) (λ done. ap (λ (b : List ℕ). text end (ended_lines end b)) (none_shown done)) ∙ ap (λ (l : List (List ℕ)). lines end r.given ++ l) (lines-text end ended (parts_of end block).whole)
 
-      unfoldable pub run_block : (next : X) (new : Reader) (is' : Output) (count : ℕ) → count ≤ length block → take count block ≡ text end ended → new ≡ record shown { held = drop count shown.held }
-          → Continues lines_from now next ended is is' → is'.faulted ≡ false → LineRun lines_from end start next old new was is'
-      run_block next new is' count fits passed consumed c clean = record {
-        given = r.given ++ text end ended;
-        pushed = r.pushed ++ c.pushed;
-        reached = record { goes = goes_trans old reader new r.given (text end ended) r.reached.goes front; wrote = wrote_trans was is is' r.pushed c.pushed r.reached.clean r.reached.wrote c.wrote; clean = clean };
-        ending = front.reads.ending ∙ r.ending;
-        on = λ more.
-            ap (λ (l : List (List ℕ)). lines_from start (l ++ more)) lines_passed ∙ ap (lines_from start) (append_assoc (lines end r.given) ended more) ∙ r.on (ended ++ more)
-            ∙ ap (λ (l : List ℕ). r.pushed ++ l) (c.on more) ∙ sym (append_assoc r.pushed c.pushed (lines_from next more));
-        whole = ⊎_elim (λ o. inl (ap (λ (l : List ℕ). l ++ text end ended) o ∙ sym (text-append end (lines end r.given) ended) ∙ ap (text end) (sym lines_passed))) (λ done. inr (stays_done reader new (text end ended) done front.reads)) r.whole;
-      }
-        where
-          front : Goes reader new (text end ended)
-          front = subst (λ (b : List ℕ). Goes reader new b) passed (goes_past reader shown new block count goes held fits consumed)
-
-      pub keeps_passed : (width : ℕ) (first store : Slots) → Keeps width (longest (lines end r.given)) first store → Keeps width (longest (lines end (r.given ++ text end ended))) first store
-      keeps_passed width first store k = keeps_more width (longest (lines end r.given)) (longest (lines end (r.given ++ text end ended))) first store k (omega (arith, ap longest lines_passed ∙ longest-append (lines end r.given) ended))
+      pub run_block : (new : Reader) (count : ℕ) → count ≤ length block → take count block ≡ text end ended → new ≡ record shown { held = drop count shown.held }
+          → (next : X) (is' : Output) → Continues lines_from now next ended is is' → is'.faulted ≡ false → LineRun lines_from end width start next old new was is' before store
+      run_block new count fits passed consumed =
+          let front = subst (λ (b : List ℕ). Goes reader new b) passed (goes_past reader shown new block count goes held fits consumed) in
+          run_more new store (text end ended) ended front lines_passed
+          (⊎_elim (λ o. inl (ap (λ (l : List ℕ). l ++ text end ended) o ∙ sym (text-append end (lines end r.given) ended) ∙ ap (text end) (sym lines_passed))) (λ done. inr (stays_done reader new (text end ended) done front.reads)) r.whole)
+          (keeps_more width (longest (lines end r.given)) (longest (lines end (r.given ++ text end ended))) before store r.keeps (omega (arith, ap longest lines_passed ∙ longest-append (lines end r.given) ended)))
 
 -- ---- how it ends
 
@@ -161,25 +153,34 @@ module _ {X : Type 0} (tool : Tool) (lines_from : X → List (List ℕ) → List
     unused = λ none. absurd (omega (arith, none, t.slots, t.some));
   }
 
-  module _ (store : Slots) (r : LineRun lines_from end start now old reader was is) (k : Keeps width (longest (lines end r.given)) before store) where
+  module _ (store : Slots) (r : LineRun lines_from end width start now old reader was is before store) where
+    -- the lines so far and a beginning of the next are no longer than the longest line
+    short_front : (new : Reader) (front more : List ℕ) → Reads reader new (front ++ more) → IsLine end front → (input : List ℕ) → Agrees (given_of (r.given ++ (front ++ more)) new) input → max (longest (lines end r.given)) (length front) ≤ longest_line end input
+    short_front new front more reads free input a =
+        let rest = new.held ++ a.rest in
+        let is_lines : lines end input ≡ lines end r.given ++ lines end (front ++ (more ++ rest)) =
+        ap (lines end) (a.is ∙ append_assoc (r.given ++ (front ++ more)) new.held a.rest ∙ append_assoc r.given (front ++ more) rest)
+        ∙ lines_so_far lines_from end width start now old reader was is before store r ((front ++ more) ++ rest) (may_come reader new (front ++ more) rest reads (λ done. λ i. done.held i ++ a.whole done.ended i))
+        ∙ ap (λ (l : List ℕ). lines end r.given ++ lines end l) (append_assoc front more rest) in
+        omega (arith, ap longest is_lines ∙ longest-append (lines end r.given) (lines end (front ++ (more ++ rest))), longest_piece end front (more ++ rest) free)
+
+    keeps_next : (after : Slots) (slot : ℕ) (bytes : List ℕ) → slot < width → after ≡ with_line store slot bytes → Keeps width (max (longest (lines end r.given)) (length bytes)) before after
+    keeps_next after slot bytes within told =
+        let most = max (longest (lines end r.given)) (length bytes) in
+        keeps_line width most before store after slot bytes (keeps_more width (longest (lines end r.given)) most before store r.keeps (omega arith)) within (omega arith) told
+
     -- a beginning of a line came
     module _ (new : Reader) (piece : List ℕ) (reads : Reads reader new piece) (free : IsLine end piece) where
       short_piece : (input : List ℕ) → Agrees (given_of (r.given ++ piece) new) input → max (longest (lines end r.given)) (length piece) ≤ longest_line end input
-      short_piece input a =
-          let rest = new.held ++ a.rest in
-          let is_lines : lines end input ≡ lines end r.given ++ lines end (piece ++ rest) = ap (lines end) (a.is ∙ append_assoc (r.given ++ piece) new.held a.rest ∙ append_assoc r.given piece rest)
-          ∙ lines_so_far lines_from end start now old reader was is r (piece ++ rest) (may_come reader new piece rest reads (λ done. λ i. done.held i ++ a.whole done.ended i)) in
-          omega (arith, ap longest is_lines ∙ longest-append (lines end r.given) (lines end (piece ++ rest)), longest_piece end piece rest free)
+      short_piece input a = short_front new piece [] (subst (λ (l : List ℕ). Reads reader new l) (sym (append-nil piece)) reads) free input (subst (λ (l : List ℕ). Agrees (given_of (r.given ++ l) new) input) (sym (append-nil piece)) a)
 
       pub keeps_piece : (after : Slots) (slot : ℕ) → slot < width → after ≡ with_line store slot piece → Keeps width (max (longest (lines end r.given)) (length piece)) before after
-      keeps_piece after slot within told =
-          let most = max (longest (lines end r.given)) (length piece) in
-          keeps_line width most before store after slot piece (keeps_more width (longest (lines end r.given)) most before store k (omega arith)) within (omega arith) told
+      keeps_piece after slot = keeps_next after slot piece
 
       -- and a read failed
       pub run_read : (after : Slots) → Keeps width (max (longest (lines end r.given)) (length piece)) before after → HasReadCause reader new → Begins (decided (lines end r.given)) r.pushed → IsPass tool old new was is before after (Err (Read 0))
       run_read after kept cause sure =
-          pass_read (bytes_from lines_from end) start tool t.text now old reader new was is before after (midway_of lines_from end start now old reader was is r) ready sound piece reads
+          pass_read (bytes_from lines_from end) start tool t.text now old reader new was is before after (midway_of lines_from end width start now old reader was is before store r) ready sound piece reads
           (stored_short after (max (longest (lines end r.given)) (length piece)) (given_of (r.given ++ piece) new) kept.peak kept.adds short_piece) cause kept.denied
           (λ empty going. subst (λ (l : List ℕ). Begins l r.pushed) (sym (t.decided_is (given_of (r.given ++ piece) new) ∙ ap decided (whole empty going))) sure)
         where
@@ -194,49 +195,34 @@ module _ {X : Type 0} (tool : Tool) (lines_from : X → List (List ℕ) → List
           let kept = keeps_piece (with_line store slot piece) slot within refl in
           let denied : after.denied ≡ true = ap (λ (s : Slots). s.denied) told in
           let size : length after.lines ≡ length (with_line store slot piece).lines = ap (λ (s : Slots). length s.lines) told in
-          pass_memory (bytes_from lines_from end) start tool t.text now old reader new was is before after (midway_of lines_from end start now old reader was is r) ready sound piece reads
+          pass_memory (bytes_from lines_from end) start tool t.text now old reader new was is before after (midway_of lines_from end width start now old reader was is before store r) ready sound piece reads
           (stored_short after (max (longest (lines end r.given)) (length piece)) (given_of (r.given ++ piece) new) (omega (arith, kept.peak, ap (λ (s : Slots). s.peak) told))
           (record { least = omega (arith, size, kept.adds.least); most = omega (arith, size, kept.adds.most); all = λ allowed. absurd (false≢true (sym allowed ∙ denied)) }) short_piece) same denied
 
     -- the end was said, and what is written then was pushed
     pub run_done : (new : Reader) (after : Slots) (is' : Output) → Goes reader new [] → IsDone new → new.pulled < 2 ^ 63 → Keeps width (longest (lines end r.given)) before after → total after.lines ≡ 0 → Wrote is is' (lines_from now []) → is'.faulted ≡ false → IsPass tool old new was is' before after (Ok tt)
     run_done new after is' goes done short kept empty wrote clean =
-        pass_done (bytes_from lines_from end) start tool t.text now old reader new was is before after (midway_of lines_from end start now old reader was is r) ready sound [] goes.reads
+        pass_done (bytes_from lines_from end) start tool t.text now old reader new was is before after (midway_of lines_from end width start now old reader was is before store r) ready sound [] goes.reads
         (stored_short after (longest (lines end r.given)) (given_of (r.given ++ []) new) kept.peak kept.adds (λ input a. omega (arith, short_piece new [] goes.reads tt input a)))
         is' wrote done refl goes.failed kept.denied clean goes.fault short empty
 
     -- a write failed while what is written of a line was pushed
     pub run_write_line : (new : Reader) (after : Slots) (slot : ℕ) (e : GivesLine reader new store after slot) → slot < width → (is' : Output) → Halts lines_from now (e.line ∷ []) is is' → is'.faulted ≡ true → IsPass tool old new was is' before after (Err Write)
     run_write_line new after slot e within is' h fault =
-        pass_write (bytes_from lines_from end) start tool t.text now old reader new was is before after (midway_of lines_from end start now old reader was is r) ready sound (e.line ++ e.ending) e.goes.reads
-        (stored_short after (longest (lines end (r.given ++ (e.line ++ e.ending)))) (given_of (r.given ++ (e.line ++ e.ending)) new) kept.peak kept.adds short) is' h.pushed h.wrote fault e.goes.failed kept.denied fronts
-      where
-        kept : Keeps width (longest (lines end (r.given ++ (e.line ++ e.ending)))) before after
-        kept = keeps_came lines_from end start now old reader was is r new store after slot e width before within k
-
-        first : (rest : List ℕ) → (new.ended ≡ true → rest ≡ []) → lines end ((e.line ++ e.ending) ++ (new.held ++ rest)) ≡ e.line ∷ lines end (new.held ++ rest)
-        first rest may = line_first lines_from end start now old reader was is r new store after slot e (new.held ++ rest) (λ done. λ i. done.held i ++ may done.ended i)
-
-        fronts : (rest : List ℕ) → (new.ended ≡ true → rest ≡ []) → Begins h.pushed (lines_from now (lines end ((e.line ++ e.ending) ++ (new.held ++ rest))))
-        fronts rest may = subst (λ (l : List (List ℕ)). Begins h.pushed (lines_from now l)) (sym (first rest may)) (h.true_so_far (lines end (new.held ++ rest)))
-
-        short : (input : List ℕ) → Agrees (given_of (r.given ++ (e.line ++ e.ending)) new) input → longest (lines end (r.given ++ (e.line ++ e.ending))) ≤ longest_line end input
-        short input a =
-            let rest = new.held ++ a.rest in
-            let so_far = lines_so_far lines_from end start now old reader was is r in
-            let gone : IsDone new → rest ≡ [] = λ done. λ i. done.held i ++ a.whole done.ended i in
-            let is_lines : lines end input ≡ lines end r.given ++ (e.line ∷ lines end rest) = ap (lines end) (a.is ∙ append_assoc (r.given ++ (e.line ++ e.ending)) new.held a.rest ∙ append_assoc r.given (e.line ++ e.ending) rest)
-            ∙ so_far ((e.line ++ e.ending) ++ rest) (may_come reader new (e.line ++ e.ending) rest e.goes.reads gone) ∙ ap (λ (l : List (List ℕ)). lines end r.given ++ l) (first a.rest a.whole) in
-            let is_given : lines end (r.given ++ (e.line ++ e.ending)) ≡ lines end r.given ++ (e.line ∷ []) = lines_now lines_from end start now old reader was is r new store after slot e in
-            omega (arith, ap longest is_lines ∙ longest-append (lines end r.given) (e.line ∷ lines end rest), ap longest is_given ∙ longest-append (lines end r.given) (e.line ∷ []))
+        let kept = keeps_next after slot e.line within e.stored in
+        let free = subst (λ (b : ℕ). IsLine b e.line) r.ending e.whole in
+        pass_write (bytes_from lines_from end) start tool t.text now old reader new was is before after (midway_of lines_from end width start now old reader was is before store r) ready sound (e.line ++ e.ending) e.goes.reads
+        (stored_short after (max (longest (lines end r.given)) (length e.line)) (given_of (r.given ++ (e.line ++ e.ending)) new) kept.peak kept.adds (short_front new e.line e.ending e.goes.reads free)) is' h.pushed h.wrote fault e.goes.failed kept.denied
+        (λ rest may. subst (λ (l : List (List ℕ)). Begins h.pushed (lines_from now l))
+        (sym (line_first lines_from end width start now old reader was is before store r new after slot e (new.held ++ rest) (λ done. λ i. done.held i ++ may done.ended i))) (h.true_so_far (lines end (new.held ++ rest))))
 
     -- a write failed amid the lines of a block
     pub run_write_block : (shown : Reader) (block : List ℕ) → Goes reader shown [] → shown.held ≡ block → (is' : Output) → Halts lines_from now (ended_lines end block) is is' → is'.faulted ≡ true → IsPass tool old shown was is' before store (Err Write)
     run_write_block shown block goes held is' h fault =
-        pass_write (bytes_from lines_from end) start tool t.text now old reader shown was is before store (midway_of lines_from end start now old reader was is r) ready sound [] goes.reads
-        (stored_short store (longest (lines end r.given)) (given_of (r.given ++ []) shown) k.peak k.adds (λ input a. omega (arith, short_piece shown [] goes.reads tt input a)))
-        is' h.pushed h.wrote fault goes.failed k.denied
-        (λ rest may. subst (λ (l : List (List ℕ)). Begins h.pushed (lines_from now l)) (sym (ap (λ (l : List ℕ). lines end (l ++ rest)) held ∙ ended_first lines_from end start now old reader was is r shown block goes held rest))
+        pass_write (bytes_from lines_from end) start tool t.text now old reader shown was is before store (midway_of lines_from end width start now old reader was is before store r) ready sound [] goes.reads
+        (stored_short store (longest (lines end r.given)) (given_of (r.given ++ []) shown) r.keeps.peak r.keeps.adds (λ input a. omega (arith, short_piece shown [] goes.reads tt input a)))
+        is' h.pushed h.wrote fault goes.failed r.keeps.denied
+        (λ rest may. subst (λ (l : List (List ℕ)). Begins h.pushed (lines_from now l)) (sym (ap (λ (l : List ℕ). lines end (l ++ rest)) held ∙ ended_first lines_from end width start now old reader was is before store r shown block goes held rest))
         (h.true_so_far (lines end ((parts_of end block).piece ++ rest))))
 
 -- the slots were refused

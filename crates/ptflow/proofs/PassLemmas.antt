@@ -71,9 +71,6 @@ never_memory tool old new was is store result roomy p e =
 module _ {X : Type 0} (rest_from : X → List ℕ → List ℕ) (start : X) (tool : Tool) (is_text : (bytes : List ℕ) → rest_from start bytes ≡ tool.text bytes)
     (now : X) (old reader new : Reader) (was is : Output) (before store : Slots) (m : Midway rest_from start now old reader was is) (ready : IsReady old before) (sound : IsSound reader)
     (piece : List ℕ) (reads : Reads reader new piece) (stored : Stored tool before store (given_of (m.given ++ piece) new)) where
-  all_given : Given
-  all_given = given_of (m.given ++ piece) new
-
   same_failed : new.failed ≡ reader.failed → new.failed ≡ old.failed
   same_failed same = same ∙ m.reached.goes.failed
 

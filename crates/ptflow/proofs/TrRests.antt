@@ -1,4 +1,5 @@
--- What `tr` writes of the rest of a text, byte by byte and block by block.
+-- What `tr` writes of the rest of a text. A byte stays or goes by the byte that was written last alone, so that byte is
+-- all that is carried from block to block, and within a block from byte to byte.
 use Rattle.std.proofs.Common.{◌≡◌, ℕ, ◌+◌, ◌-◌, ◌<◌, ◌≤◌, ◌==◌, ◌&&◌, ◌||◌, not, eqb, Bool, true, false, cond, List, [], ◌∷◌, ◌++◌, Option, None, Some, map, length, take, set, refl, sym, ◌∙◌, ap, arith, append_assoc}
 use Rattle.std.specs.Prelude.{filter, zip, slice_get}
 use Rattle.std.specs.List.{last_or}

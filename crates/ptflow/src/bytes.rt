@@ -6,9 +6,8 @@ ghost use Rattle.ptlangs.specs.CutLists.{AreApart};
 ghost use Rattle.ptlangs.specs.Jobs.{cut_job};
 ghost use Rattle.ptflow.specs.Cuts.{cut_tool};
 ghost use Rattle.ptflow.specs.Passes.{IsBarePass};
-ghost use Rattle.ptflow.specs.Workings.ByteRests.{rest_by};
+ghost use Rattle.ptflow.specs.Workings.CutRests.{rest_by, chosen_piece};
 ghost use Rattle.ptflow.specs.Workings.Continuations.{Continues, Halts};
-ghost use Rattle.ptflow.specs.Workings.Pieces.{chosen_piece};
 
 use crate::blocks::{BlockTool, over_blocks};
 use crate::faults::FlowFault;
@@ -90,7 +89,7 @@ struct ByteCut<'a> {
 impl<'a> BlockTool for ByteCut<'a> {
     ghost use Rattle.std.specs.Prelude.{◌≡◌};
     ghost use Rattle.ptlangs.specs.CutLists.{AreApart};
-    ghost use Rattle.ptflow.specs.Workings.ByteRests.{rest_by};
+    ghost use Rattle.ptflow.specs.Workings.CutRests.{rest_by};
 
     ghost rest = { λ t. rest_by t.ending t.selected.now t.before };
 

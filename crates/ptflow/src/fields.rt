@@ -8,8 +8,7 @@ ghost use Rattle.ptlangs.specs.Jobs.{cut_job};
 ghost use Rattle.ptflow.specs.Cuts.{cut_lines, is_kept, cut_tool};
 ghost use Rattle.ptflow.specs.Passes.{IsReady, IsPass};
 ghost use Rattle.ptflow.specs.Workings.FieldPlaces.{fields, StartsAt};
-ghost use Rattle.ptflow.specs.Workings.FieldRests.{GoesOn, BreaksOff};
-ghost use Rattle.ptflow.specs.Workings.Pieces.{fields_piece, line_piece};
+ghost use Rattle.ptflow.specs.Workings.CutRests.{GoesOn, BreaksOff, fields_piece, line_piece};
 
 use crate::faults::FlowFault;
 use crate::slots::need_slots;

@@ -1,8 +1,8 @@
 use Rattle.std.proofs.Common.{◌++◌, sym, ◌∙◌, ap, cond}
 use Rattle.ptlangs.specs.Jobs.{cut_job}
 use Rattle.ptflow.specs.Cuts.{cut_tool}
-use Rattle.ptflow.specs.Workings.ByteRests.{rest_by}
-use Rattle.ptflow.proofs.CutLaws.{rest_is_cut, rest_is_decided}
+use Rattle.ptflow.specs.Workings.CutRests.{rest_by}
+use Rattle.ptflow.proofs.ByteRests.{rest_is_cut, rest_is_decided}
 use Rattle.ptflow.proofs.bytes.cut_by_bytes.Goals as goal
 
 pub returns : goal.returns

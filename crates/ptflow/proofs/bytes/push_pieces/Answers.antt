@@ -1,16 +1,11 @@
-use Rattle.std.proofs.Common.{◌+◌, [], length, take, drop, refl, Result, Ok, Err, OnErr, arith, length-drop}
+use Rattle.std.proofs.Common.{◌+◌, [], length, take, drop, refl, arith, length-drop}
 use Rattle.std.proofs.lemmas.List.{take_rest}
 use Rattle.ptlangs.specs.CutLists.{is_selected}
 use Rattle.ptlines.proofs.Scanned.{no_end}
-use Rattle.ptflow.specs.Workings.ByteRests.{rest_by}
-use Rattle.ptflow.specs.Workings.Pieces.{chosen_piece}
-use Rattle.ptflow.proofs.CutRests.{line_on, piece_on}
-use Rattle.ptflow.proofs.Continuations.{amid_more, amid_halts, amid_over}
+use Rattle.ptflow.specs.Workings.CutRests.{rest_by, chosen_piece}
+use Rattle.ptflow.proofs.ByteRests.{line_on, piece_on}
+use Rattle.ptflow.proofs.Continuations.{on_err, amid_more, amid_halts, amid_over}
 use Rattle.ptflow.proofs.bytes.push_pieces.Goals as goal
-
-on_err : {T E : Type 0} (r : Result T E) {P : Type 0} → P → OnErr r P
-on_err (Ok u) p = tt
-on_err (Err e) p = p
 
 pub returns-in_err-push_selected-clause-halts : goal.returns-in_err-push_selected-clause-halts
 returns-in_err-push_selected-clause-halts g c =

@@ -1,5 +1,5 @@
 use Rattle.std.proofs.Common.{◌+◌, ◌≤◌, length}
-use Rattle.ptflow.specs.Workings.ByteRests.{rest_by}
+use Rattle.ptflow.specs.Workings.CutRests.{rest_by}
 use Rattle.ptflow.proofs.Continuations.{Amid}
 use Rattle.ptflow.proofs.bytes.push_pieces.Given as goal
 

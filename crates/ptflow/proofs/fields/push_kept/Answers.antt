@@ -4,7 +4,7 @@ use Rattle.ptlines.specs.Outputs.{Output, Wrote}
 use Rattle.ptlines.proofs.Pushed.{wrote_trans, wrote_past}
 use Rattle.ptlangs.specs.Jobs.{Cut, cut_job}
 use Rattle.ptflow.specs.Cuts.{cut_lines, is_kept}
-use Rattle.ptflow.specs.Workings.Pieces.{line_piece}
+use Rattle.ptflow.specs.Workings.CutRests.{line_piece}
 use Rattle.ptflow.proofs.FieldLines.{written, written_end, written_all}
 use Rattle.ptflow.proofs.fields.push_kept.Goals as goal
 

@@ -1,19 +1,14 @@
-use Rattle.std.proofs.Common.{◌+◌, length, take, drop, Result, Ok, Err, OnErr, ap, arith, length-append}
+use Rattle.std.proofs.Common.{◌+◌, length, take, drop, ap, arith, length-append}
 use Rattle.std.proofs.lemmas.List.{take_rest}
 use Rattle.ptlines.specs.Text.{ended_lines}
 use Rattle.ptlines.proofs.Scanned.{no_end}
 use Rattle.ptlines.proofs.TextLaws.{ended_none}
 use Rattle.ptlangs.specs.Jobs.{cut_job}
-use Rattle.ptflow.specs.Workings.FieldRests.{cut_from}
-use Rattle.ptflow.specs.Workings.Pieces.{line_piece}
-use Rattle.ptflow.proofs.Continuations.{amid_starts, amid_more, amid_halts, amid_over}
-use Rattle.ptflow.proofs.EndedLines.{taken_nothing, taken_more, taken_all}
+use Rattle.ptflow.specs.Workings.CutRests.{cut_from, line_piece}
+use Rattle.ptflow.proofs.Continuations.{on_err, amid_starts, amid_more, amid_halts, amid_over}
+use Rattle.ptflow.proofs.LineLaws.{taken_nothing, taken_more, taken_all}
 use Rattle.ptflow.proofs.FieldLines.{line_on}
 use Rattle.ptflow.proofs.fields.push_lines.Goals as goal
-
-on_err : {T E : Type 0} (r : Result T E) {P : Type 0} → P → OnErr r P
-on_err (Ok u) p = tt
-on_err (Err e) p = p
 
 pub lines-init : goal.lines-init
 lines-init g c = record {

@@ -1,9 +1,9 @@
 use Rattle.std.proofs.Common.{length}
 use Rattle.ptlines.specs.Text.{ended_lines}
 use Rattle.ptlangs.specs.Jobs.{cut_job}
-use Rattle.ptflow.specs.Workings.FieldRests.{cut_from}
+use Rattle.ptflow.specs.Workings.CutRests.{cut_from}
 use Rattle.ptflow.proofs.Continuations.{Amid}
-use Rattle.ptflow.proofs.EndedLines.{Taken}
+use Rattle.ptflow.proofs.LineLaws.{Taken}
 use Rattle.ptflow.proofs.fields.push_lines.Given as goal
 
 abbrev pub invariant-lines : goal.invariant-lines

@@ -1,11 +1,8 @@
-use Rattle.std.proofs.Common.{ℕ, Option, Result, Ok, Err, OnErr, take, ◌∙◌, ap}
+use Rattle.std.proofs.Common.{ℕ, Option, take, ◌∙◌, ap}
 use Rattle.std.specs.Option.{option_or}
+use Rattle.ptflow.proofs.Continuations.{on_err}
 use Rattle.ptflow.proofs.TrRests.{block_on, block_begins}
 use Rattle.ptflow.proofs.translating.TranslatorBlockTool.push_block.Goals as goal
-
-on_err : {T E : Type 0} (r : Result T E) {P : Type 0} → P → OnErr r P
-on_err (Ok u) p = tt
-on_err (Err e) p = p
 
 pub returns-in_err-push-clause-halts : goal.returns-in_err-push-clause-halts
 returns-in_err-push-clause-halts g c =

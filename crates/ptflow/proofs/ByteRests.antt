@@ -1,14 +1,18 @@
--- What `cut` writes of the rest of a text, piece by piece.
-use Rattle.std.proofs.Common.{◌≡◌, ℕ, ◌+◌, ◌==◌, Bool, true, false, cond, List, [], ◌∷◌, ◌++◌, map, length, take, drop, Some, refl, sym, ◌∙◌, ap, arith, append_assoc, take-append-drop}
-use Rattle.std.specs.List.{onto_first}
+-- What `cut` by bytes writes of the rest of a text, a piece at a time. A piece of a line adds to the places counted, and
+-- an end of a line sets them back; from no place on this is what it is to write of whole lines.
+use Rattle.std.proofs.Common.{◌≡◌, ℕ, ◌+◌, ◌==◌, Bool, true, false, cond, List, [], ◌∷◌, ◌++◌, map, length, take, drop, Some, refl, sym, ◌∙◌, ap, arith, append_assoc}
+use Rattle.std.specs.List.{onto_first, flat_map}
 use Rattle.std.proofs.lemmas.Bool.Decides.{nat_tests}
-use Rattle.std.proofs.lemmas.List.{append-nil, take-append-le, drop-append-le, take_all, drop_all, length-take-le}
+use Rattle.std.proofs.lemmas.List.{append-nil, take_all, drop_all, append_cancel_right, map-append}
 use Rattle.memchr.specs.Find.{IsFirstByte, is_byte}
-use Rattle.ptlines.specs.Text.{text, lines, IsLine}
-use Rattle.ptlines.proofs.TextLaws.{lines_first, other_byte}
-use Rattle.ptlines.proofs.Scanned.{before_end, take_end, drop_end}
-use Rattle.ptflow.specs.Cuts.{chosen_from}
-use Rattle.ptflow.specs.Workings.ByteRests.{rest_of_lines, cut_rest}
+use Rattle.ptlines.specs.Text.{text, lines, IsLine, ended_lines}
+use Rattle.ptlines.proofs.TextLaws.{lines_first, other_byte, lines_of_text, text-append}
+use Rattle.ptlines.proofs.Scanned.{before_end}
+use Rattle.ptflow.proofs.LineLaws.{split_of, line_of, end_of, Parts, parts_of}
+use Rattle.ptflow.specs.Cuts.{chosen_from, cut_line, cut, cut_decided}
+use Rattle.ptflow.specs.Workings.CutRests.{rest_of_lines, cut_rest}
+use Rattle.ptlines.specs.Inputs.{Begins}
+use Rattle.ptlangs.specs.Jobs.{Cut}
 
 module _ (end : ℕ) (selected : ℕ → Bool) where
   -- what is written of lines
@@ -54,28 +58,14 @@ module _ (end : ℕ) (selected : ℕ → Bool) where
       ∙ ap (λ (l : List ℕ). l ++ cut_rest end selected (before + 1 + length piece) rest) (chosen_onto (before + 1) b piece)
       ∙ ap (λ (n : ℕ). chosen_from selected (before + 1) (b ∷ piece) ++ cut_rest end selected n rest) same
 
--- what stands in front of the first end in these bytes, and what behind it
+-- the selected bytes of the line in front, and its end
 module _ (end : ℕ) (bytes : List ℕ) (at : ℕ) (first : IsFirstByte (is_byte end) bytes (Some at)) where
-  pub line_of : take at (take (at + 1) bytes) ≡ take at bytes
-  line_of =
-      let long : length (take at bytes) ≡ at = length-take-le at bytes (omega (arith, first.0.high)) in
-      ap (take at) (take_end end bytes at first) ∙ take-append-le at (take at bytes) (end ∷ []) (omega (arith, long)) ∙ take_all at (take at bytes) (omega (arith, long))
-
-  pub end_of : drop at (take (at + 1) bytes) ≡ end ∷ []
-  end_of =
-      let long : length (take at bytes) ≡ at = length-take-le at bytes (omega (arith, first.0.high)) in
-      ap (drop at) (take_end end bytes at first) ∙ drop-append-le at (take at bytes) (end ∷ []) (omega (arith, long)) ∙ ap (λ (l : List ℕ). l ++ end ∷ []) (drop_all at (take at bytes) (omega (arith, long)))
-
-  pub split_of : bytes ≡ take at bytes ++ end ∷ drop (at + 1) bytes
-  split_of = sym (take-append-drop at bytes) ∙ ap (λ (l : List ℕ). take at bytes ++ l) (drop_end end bytes at first)
-
-  -- the selected bytes of the line in front, and its end
   pub line_on : (selected : ℕ → Bool) (before : ℕ) (more : List ℕ)
       → cut_rest end selected before (bytes ++ more) ≡ (chosen_from selected (before + 1) (take at (take (at + 1) bytes)) ++ drop at (take (at + 1) bytes)) ++ cut_rest end selected 0 (drop (at + 1) bytes ++ more)
   line_on selected before more =
-      ap (cut_rest end selected before) (ap (λ (l : List ℕ). l ++ more) split_of ∙ append_assoc (take at bytes) (end ∷ drop (at + 1) bytes) more)
+      ap (cut_rest end selected before) (ap (λ (l : List ℕ). l ++ more) (split_of end bytes at first) ∙ append_assoc (take at bytes) (end ∷ drop (at + 1) bytes) more)
       ∙ rest_line end selected before (take at bytes) (drop (at + 1) bytes ++ more) (before_end end bytes at first)
-      ∙ (λ i. (chosen_from selected (before + 1) (sym line_of i) ++ sym end_of i) ++ cut_rest end selected 0 (drop (at + 1) bytes ++ more))
+      ∙ (λ i. (chosen_from selected (before + 1) (sym (line_of end bytes at first) i) ++ sym (end_of end bytes at first) i) ++ cut_rest end selected 0 (drop (at + 1) bytes ++ more))
 
 -- the selected bytes of a piece of a line
 pub piece_on : (end : ℕ) (selected : ℕ → Bool) (before : ℕ) (bytes : List ℕ) → IsLine end bytes → (more : List ℕ)
@@ -85,3 +75,47 @@ piece_on end selected before bytes whole more =
     let none : drop (length bytes) bytes ≡ [] = drop_all (length bytes) bytes (omega arith) in
     rest_piece end selected before bytes more whole ∙ ap (λ (l : List ℕ). l ++ cut_rest end selected (before + length bytes) more)
     (sym (append-nil (chosen_from selected (before + 1) bytes)) ∙ (λ i. chosen_from selected (before + 1) (sym all i) ++ sym none i))
+
+module _ (job : Cut) (by_bytes : job.fields ≡ false) where
+  abbrev end : ℕ
+  end = job.end
+
+  -- each line gives one
+  pub made_is : (ls : List (List ℕ)) → text end (flat_map (cut_line job) ls) ≡ cut_text end job.selected ls
+  made_is ls = ap (text end) (one_each ls)
+    where
+      one_each : (xs : List (List ℕ)) → flat_map (cut_line job) xs ≡ map (chosen_from job.selected 1) xs
+      one_each [] = refl
+      one_each (x ∷ xs) = rw by_bytes (ap (λ (l : List (List ℕ)). chosen_from job.selected 1 x ∷ l) (one_each xs))
+
+  pub rest_is_cut : (bytes : List ℕ) → cut_rest end job.selected 0 bytes ≡ cut job bytes
+  rest_is_cut bytes = rest_of_all end job.selected (lines end bytes) ∙ sym (made_is (lines end bytes))
+
+  -- what was pushed of these bytes has what is written of their whole lines in front
+  pub rest_is_decided : (given pushed : List ℕ) (now : ℕ) → ((rest : List ℕ) → cut_rest end job.selected 0 (given ++ rest) ≡ pushed ++ cut_rest end job.selected now rest)
+      → Begins (cut_decided job (record { bytes = given; ended = false })) pushed
+  rest_is_decided given pushed now on = record {
+    rest = chosen_from job.selected 1 p.piece;
+    is = append_cancel_right pushed (text end (flat_map (cut_line job) ls) ++ chosen_from job.selected 1 p.piece) (end ∷ []) (sym pushed_side ∙ whole_side);
+  }
+    where
+      p : Parts end given
+      p = parts_of end given
+
+      ls : List (List ℕ)
+      ls = ended_lines end given
+
+      -- with one end more, the piece is a line too
+      pushed_side : cut_rest end job.selected 0 (given ++ end ∷ []) ≡ pushed ++ end ∷ []
+      pushed_side = on (end ∷ []) ∙ ap (λ (l : List ℕ). pushed ++ l) (rest_line end job.selected now [] [] tt)
+
+      all_lines : lines end (given ++ end ∷ []) ≡ ls ++ p.piece ∷ []
+      all_lines =
+          ap (λ (l : List ℕ). lines end (l ++ end ∷ [])) p.is ∙ ap (lines end) (append_assoc (text end ls) p.piece (end ∷ [])) ∙ lines_of_text end ls (p.piece ++ end ∷ []) p.whole
+          ∙ ap (λ (l : List (List ℕ)). ls ++ l) (lines_first end p.piece [] p.line)
+
+      whole_side : cut_rest end job.selected 0 (given ++ end ∷ []) ≡ (text end (flat_map (cut_line job) ls) ++ chosen_from job.selected 1 p.piece) ++ end ∷ []
+      whole_side =
+          rest_of_all end job.selected (lines end (given ++ end ∷ [])) ∙ ap (cut_text end job.selected) all_lines ∙ ap (text end) (map-append (chosen_from job.selected 1) ls (p.piece ∷ []))
+          ∙ text-append end (map (chosen_from job.selected 1) ls) (chosen_from job.selected 1 p.piece ∷ []) ∙ (λ i. sym (made_is ls) i ++ append-nil (chosen_from job.selected 1 p.piece ++ end ∷ []) i)
+          ∙ sym (append_assoc (text end (flat_map (cut_line job) ls)) (chosen_from job.selected 1 p.piece) (end ∷ []))

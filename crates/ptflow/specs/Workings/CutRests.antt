@@ -1,0 +1,52 @@
+-- What `cut` writes of the rest of a text, and of a piece of a line.
+use Rattle.std.specs.Prelude.{ℕ, ◌+◌, ◌==◌, List, [], ◌∷◌, ◌++◌, Bool, map, take, drop, if◌then◌else◌}
+use Rattle.std.specs.List.{flat_map}
+use Rattle.ptlines.specs.Outputs.{Output}
+use Rattle.ptlines.specs.Text.{text, lines}
+use Rattle.ptlangs.specs.CutLists.{is_selected}
+use Rattle.ptlangs.specs.Jobs.{Cut}
+use Rattle.ptlangs.specs.declared.ranges.Interval.{Interval}
+use Rattle.ptflow.specs.Cuts.{chosen_from, cut_fields, cut_line, cut_lines}
+use Rattle.ptflow.specs.Workings.Continuations.{Continues, Halts}
+
+-- ---- bytes: the state is how many bytes of the line that goes on have come
+
+-- the selected bytes of each line, and behind them the end, where `before` bytes stand in front of the first line
+abbrev pub rest_of_lines : ℕ → (ℕ → Bool) → ℕ → List (List ℕ) → List ℕ
+rest_of_lines end selected before [] = if before == 0 then [] else end ∷ []
+rest_of_lines end selected before (line ∷ more) =
+    chosen_from selected (before + 1) line ++ end ∷ text end (map (chosen_from selected 1) more)
+
+-- the same for the lines of the rest of a text
+abbrev pub cut_rest : ℕ → (ℕ → Bool) → ℕ → List ℕ → List ℕ
+cut_rest end selected before rest = rest_of_lines end selected before (lines end rest)
+
+abbrev pub rest_by : ℕ → List Interval → ℕ → List ℕ → List ℕ
+rest_by end list = cut_rest end (is_selected list)
+
+-- ---- fields: nothing is carried from line to line
+
+abbrev pub cut_from : Cut → Unit {0} → List (List ℕ) → List ℕ
+cut_from job u ls = cut_lines job ls
+
+-- these lines were taken
+abbrev pub GoesOn : Cut → List (List ℕ) → Output → Output → Type 0
+GoesOn job ls was is = Continues (cut_from job) tt tt ls was is
+
+-- a write failed amid these lines
+abbrev pub BreaksOff : Cut → List (List ℕ) → Output → Output → Type 0
+BreaksOff job ls was is = Halts (cut_from job) tt ls was is
+
+-- ---- a piece of a line is the first `count` of some bytes; the others, the line's end or none, come behind it
+
+-- its selected bytes, in front of which `before` bytes of the line stand
+abbrev pub chosen_piece : List Interval → ℕ → ℕ → List ℕ → List ℕ
+chosen_piece list before count bytes = chosen_from (is_selected list) (before + 1) (take count bytes) ++ drop count bytes
+
+-- its selected fields
+abbrev pub fields_piece : Cut → ℕ → List ℕ → List ℕ
+fields_piece job count bytes = cut_fields job (take count bytes) ++ drop count bytes
+
+-- what is written of it as a line, and nothing where that is nothing
+abbrev pub line_piece : Cut → ℕ → List ℕ → List ℕ
+line_piece job count bytes = flat_map (λ line. line ++ drop count bytes) (cut_line job (take count bytes))
