@@ -14,6 +14,7 @@ pub mod LineLemmas
 pub mod LinesCame
 pub mod OpenRuns
 pub mod PassLemmas
+pub mod PasteLemmas
 pub mod PasteRows
 pub mod ReaderFacts
 pub mod RowTurns

@@ -68,7 +68,7 @@ set_more end cells i old now r low within a told sound q = ⊎_elim here there (
 -- ---- the lines of a row
 
 -- what a reader that is done gives
-none_of_done : (end : ℕ) (b c : Reader) (n : ℕ) (ys : List (List ℕ)) → Took end b c n ys → IsDone b → ys ≡ []
+pub none_of_done : (end : ℕ) (b c : Reader) (n : ℕ) (ys : List (List ℕ)) → Took end b c n ys → IsDone b → ys ≡ []
 none_of_done end b c n ys t done = sym (lines_are_given end c t.bytes ys t.came) ∙ ap (lines end) (done_gives_nothing b c t.bytes done t.reads).0
 
 -- lines that were taken of one place more

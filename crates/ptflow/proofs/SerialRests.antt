@@ -13,8 +13,7 @@ use Rattle.ptflow.specs.Pastes.{delimiter, glued_from, paste_serial, serial_deci
 use Rattle.ptflow.specs.Workings.SerialRests.{row_rest, row_from, serial_rest, begun, lead}
 use Rattle.ptflow.specs.declared.serial.Cell.{Cell}
 use Rattle.ptflow.proofs.Continuations.{Amid, amid_more}
-use Rattle.ptflow.proofs.CutRests.{split_of}
-use Rattle.ptflow.proofs.LineLaws.{Parts, parts_of}
+use Rattle.ptflow.proofs.LineLaws.{Parts, parts_of, split_of}
 
 pub begun_number : (cell : Cell) → (begun cell).number ≤ cell.number + 1
 begun_number cell = by_ended cell.ended

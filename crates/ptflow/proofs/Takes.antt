@@ -17,7 +17,7 @@ AreLines-append end [] ys p q = q
 AreLines-append end (x ∷ xs) ys p q = (p.0, AreLines-append end xs ys p.1 q)
 
 -- lines came, and then more
-lines_trans : (end : ℕ) (b c : Reader) (bs cs : List ℕ) (xs ys : List (List ℕ)) → LinesCame end b bs xs → Reads b c cs → LinesCame end c cs ys → LinesCame end c (bs ++ cs) (xs ++ ys)
+pub lines_trans : (end : ℕ) (b c : Reader) (bs cs : List ℕ) (xs ys : List (List ℕ)) → LinesCame end b bs xs → Reads b c cs → LinesCame end c cs ys → LinesCame end c (bs ++ cs) (xs ++ ys)
 lines_trans end b c bs cs xs ys p reads q = record { so_far = ⊎_elim opened closed p.so_far }
   where
     opened : (bs ≡ text end xs) × AreLines end xs → ((bs ++ cs ≡ text end (xs ++ ys)) × AreLines end (xs ++ ys)) ⊎ ((lines end (bs ++ cs) ≡ xs ++ ys) × IsDone c)
@@ -32,10 +32,13 @@ lines_trans end b c bs cs xs ys p reads q = record { so_far = ⊎_elim opened cl
         let nothing : [] ≡ ys = ap (lines end) (sym none) ∙ lines_are_given end c cs ys q in
         inr (ap (λ (l : List ℕ). lines end (bs ++ l)) none ∙ ap (lines end) (append-nil bs) ∙ k.0 ∙ sym (append-nil xs) ∙ ap (λ (l : List (List ℕ)). xs ++ l) nothing, stays_done b c cs k.1 reads)
 
+pub reads_nothing : (r : Reader) → Reads r r []
+reads_nothing r = record { moved = sym (prepend_known-nil (unread r)); count = omega arith; refused = refl; ending = refl; still = λ ended. (refl, ended); end = λ h. h }
+
 pub took_nothing : (end : ℕ) (r : Reader) → Took end r r 0 []
 took_nothing end r = record {
   bytes = [];
-  reads = record { moved = sym (prepend_known-nil (unread r)); count = omega arith; refused = refl; ending = refl; still = λ ended. (refl, ended); end = λ h. h };
+  reads = reads_nothing r;
   failed = refl;
   fault = refl;
   short = λ h. h;

@@ -173,9 +173,3 @@ pub fn paste_serial<A: Allocator + Copy, S: Source, R: Source, W: Sink>(
     reader.set_ending(job.zero);
     over_row(job, reader, out)
 }
-
-fn probe() -> bool
-    ensures { result ≡ true }
-{
-    true
-}

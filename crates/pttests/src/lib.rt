@@ -8,6 +8,8 @@ mod commands;
 #[cfg(test)]
 mod cuts;
 #[cfg(test)]
+mod engines;
+#[cfg(test)]
 mod faking;
 #[cfg(test)]
 mod fields;
