@@ -34,7 +34,7 @@ returns-in_err-fill_row g c =
     let e = err_from_is_err_and c.from_residual-in_err-fill_row.result c.from_residual-in_err-fill_row.ensures.1 in
     rw (e.1, e.2)
     (paste_broke (paste_job c.args.job.now) c.args.cells.now c.args.readers.now c.set_endings.new.readers c.rows.readers c.args.out.now c.rows.out c.args.store.now c.rows.store c.rows.invariant (sym c.has_failed.ensures ∙ c.if-has_failed.false) c.requires c.set_endings.ensures
-    c.fill_row.new.readers c.fill_row.new.store c.in_err-fill_row.field-0 c.in_err-fill_row.ensures)
+    c.fill_row.new.readers c.fill_row.new.store c.in_err-fill_row.field-0.0 c.in_err-fill_row.ensures)
 
 pub returns-then-not-branch : goal.returns-then-not-branch
 returns-then-not-branch g c =
