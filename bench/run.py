@@ -1,11 +1,14 @@
 #!/usr/bin/env python3
 """Ratios of ptext to the system's tools, by user and system time, measured side by side in one run.
 
-Usage: bench/run.py PTEXT [NAME..]
+Usage: bench/run.py [--against OTHER] PTEXT [NAME..]
 
 Each case gives both the same 64 MB, in turn and RUNS times, and the best of each counts. The outputs are compared
-first. Below the table stands the least address space in which an empty line and a line of 64 MB are cut.
+first. Below the table stands the least address space in which an empty line and a line of 64 MB are cut. With
+--against, the other side is another build of ptext.
 """
+
+import argparse
 
 import os
 import random
@@ -20,6 +23,7 @@ RUNS = 5
 
 BYTES = [["cut", "-c", "3-,1"], ["cut", "-b", "5-20,40-60"]]
 FIELDS = [["cut", "-d,", "-f1,3"], ["cut", "-d,", "-f7-"], ["cut", "-f2"]]
+ZEROS = [["cut", "-z", "-c", "3-,1"], ["cut", "-z", "-d,", "-f1,3"]]
 TEXT = [
     ["tr", "a-z", "A-Z"],
     ["tr", "A-Za-z", "N-ZA-Mn-za-m"],
@@ -37,8 +41,8 @@ def log_line(number):
     )
 
 
-def table_line(number, separator):
-    return separator.join(str(number * factor % 65536) for factor in range(3, 13)) + "\n"
+def table_line(number, separator, end="\n"):
+    return separator.join(str(number * factor % 65536) for factor in range(3, 13)) + end
 
 
 # What is repeated to 64 MB, and the commands that are run over it.
@@ -49,6 +53,7 @@ INPUTS = {
     "one line": (lambda: "0123456789" * 1000, BYTES),
     "commas": (lambda: "".join(table_line(number, ",") for number in range(20000)), FIELDS),
     "tabs": (lambda: "".join(table_line(number, "\t") for number in range(20000)), FIELDS[2:]),
+    "zeros": (lambda: "".join(table_line(number, ",", "\0") for number in range(20000)), ZEROS),
     "long,": (lambda: "0123456789," * 1000 + "\n", FIELDS),
     "one line,": (lambda: "0123456789,", FIELDS),
     "random": (lambda: random.Random(1).randbytes(1 << 20).decode("latin-1"), BINARY),
@@ -77,17 +82,17 @@ def same(one, other):
     return subprocess.run(["cmp", "-s", one, other], check=False).returncode == 0
 
 
-def compare(folder, path, ptext, words):
-    """The best seconds of ptext and of the system's tool."""
+def compare(folder, path, ptext, other, words):
+    """The best seconds of ptext and of the other side."""
     ours, theirs = [], []
     ours_out, theirs_out = os.path.join(folder, "ours"), os.path.join(folder, "theirs")
     measure([ptext, *words], path, ours_out)
-    measure(words, path, theirs_out)
+    measure([*other, *words], path, theirs_out)
     if not same(ours_out, theirs_out):
         sys.exit(f"{words}: the outputs differ")
     for _ in range(RUNS):
         ours.append(measure([ptext, *words], path, os.devnull))
-        theirs.append(measure(words, path, os.devnull))
+        theirs.append(measure([*other, *words], path, os.devnull))
     return min(ours), min(theirs)
 
 
@@ -114,17 +119,23 @@ def least_space(command, path):
 
 
 def main():
-    ptext = os.path.abspath(sys.argv[1])
-    names = sys.argv[2:] or list(INPUTS)
+    parser = argparse.ArgumentParser(description="Ratios of ptext to the system's tools.")
+    parser.add_argument("--against", metavar="OTHER", help="another build of ptext, in place of the system's tools")
+    parser.add_argument("ptext", help="the program")
+    parser.add_argument("names", nargs="*", help="of the inputs, all unless some are given")
+    given = parser.parse_args()
+    ptext = os.path.abspath(given.ptext)
+    other = [os.path.abspath(given.against)] if given.against else []
+    names = given.names or list(INPUTS)
     with tempfile.TemporaryDirectory() as folder:
-        print(f"{'input':10} {'words':32} {'ptext s':>8} {'system s':>8} {'ratio':>6}")
+        print(f"{'input':10} {'words':32} {'ptext s':>8} {'other s':>8} {'ratio':>6}")
         ratios = []
         for name in names:
             path = os.path.join(folder, name)
             piece, commands = INPUTS[name]
             write_input(path, piece().encode("latin-1"))
             for words in commands:
-                ours, theirs = compare(folder, path, ptext, words)
+                ours, theirs = compare(folder, path, ptext, other, words)
                 ratios.append(ours / theirs)
                 print(f"{name:10} {' '.join(words):32} {ours:8.3f} {theirs:8.3f} {ours / theirs:6.2f}")
         print(f"geometric mean of the ratios: {statistics.geometric_mean(ratios):.2f}")

@@ -3,6 +3,7 @@
 # usage: tests/program.sh PROGRAM
 set -u
 program=$(cd "$(dirname "$1")" && pwd)/$(basename "$1")
+refused=$(cd "$(dirname "$0")" && pwd)/refused.txt
 room=$(mktemp -d)
 trap 'rm -rf "$room"' EXIT
 cd "$room" || exit 1
@@ -45,19 +46,30 @@ want '' ''
 run empty cut -c 1
 same "an empty input" 0
 
-want '' 'cut: wrong value for option -b: 18446744073709551616\n'
-run abcd cut -b 18446744073709551616
-same "a number that is too large" 2
+# Words that are refused, and what is said of them.
+while IFS= read -r row; do
+    case $row in '#'*) continue ;; esac
+    set -f
+    IFS='|'
+    set -- $row
+    unset IFS
+    set +f
+    : >want.out
+    printf '%b\n' "$1" >want.messages
+    wanted=$2
+    shift 2
+    left=$#
+    while [ "$left" -gt 0 ]; do
+        word=$(printf '%b.' "$1")
+        shift
+        set -- "$@" "${word%.}"
+        left=$((left - 1))
+    done
+    run abcd "$@"
+    same "refused words: $row" "$wanted"
+done <"$refused"
 
-want '' 'tr: wrong string1: octal\n'
-run abcd tr -d '\400'
-same "an escape of tr above a byte" 2
-
-want '' 'ptext: first word: cut, paste, join, comm, uniq or tr\n'
-run abcd
-same "no words" 2
-
-want '' 'ptext: first word: cut, paste, join, comm, uniq or tr\n'
+want '' 'ptext: a word is not UTF-8\n'
 run abcd "$(printf 'cut\377')"
 same "a word that is not UTF-8" 2
 
@@ -154,6 +166,10 @@ same "512 operands" 0
 want '' 'cut: wrong number of operands\n'
 run empty cut -c 1 "$@" f
 same "513 operands" 2
+
+want '' 'paste: wrong number of operands\n'
+run empty paste "$@" -
+same "513 operands of paste" 2
 
 echo "$((count - bad)) of $count runs of the program as wanted"
 [ "$bad" = 0 ]

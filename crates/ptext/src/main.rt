@@ -2,8 +2,10 @@
 #![tactic(auto)]
 
 mod performing;
+#[cfg(test)]
+mod tests;
 
-use performing::{perform, report_no_memory};
+use performing::{perform, report_no_memory, report_no_text};
 use ptlines::{FromRead, FromWrite};
 use ptrun::Report;
 use std::alloc::{AllocError, Allocator, Global};
@@ -19,9 +21,8 @@ fn main(rt: HostRuntime) -> ExitCode {
             Ok(words) => perform(&rt, rt.alloc(), &words, standard, out, messages),
             Err(_) => report_no_memory(out, messages),
         },
-        Err(error) if error.kind() == io::ErrorKind::OutOfMemory => report_no_memory(out, messages),
-        // A word that is no text leaves the command with none.
-        Err(_) => perform(&rt, rt.alloc(), &[], standard, out, messages),
+        Err(error) if error.kind() == io::ErrorKind::InvalidData => report_no_text(out, messages),
+        Err(_) => report_no_memory(out, messages),
     };
     ExitCode::from(report.status)
 }

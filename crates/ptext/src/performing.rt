@@ -2,6 +2,7 @@
 
 ghost use Rattle.std.specs.Prelude.{◌≡◌, ◌+◌, false, length, All, IfOk, vec_len};
 ghost use Rattle.ptlines.specs.Readers.{Reader};
+ghost use Rattle.ptopts.specs.Meant.{words_seen};
 ghost use Rattle.ptrun.specs.Asked.{count_of};
 ghost use Rattle.ptrun.specs.Worlds.{IsFresh};
 
@@ -61,7 +62,7 @@ fn open_inputs<R: Files, A: Allocator + Copy, S: Source>(
 ) -> Result<Vec<LineReader<S, FromRead<R::File>>, A>, AllocError>
     requires unended { (S.state standard).ended ≡ false }
     requires unfailed { (S.state standard).failed ≡ false }
-    ensures count { IfOk result (λ inputs. vec_len inputs ≡ length names.now + 1) }
+    ensures count { IfOk result (λ inputs. vec_len inputs ≡ length (words_seen names.now) + 1) }
     ensures fresh { IfOk result (λ inputs. All IsFresh inputs.items) }
 {
     let mut inputs = Vec::new(alloc);
@@ -76,18 +77,37 @@ fn open_inputs<R: Files, A: Allocator + Copy, S: Source>(
     Ok(inputs)
 }
 
-/// Says that memory for the program's own lists was refused, and reports status 1.
-pub fn report_no_memory<W: Sink, E: Sink>(out: W, messages: E) -> Report<W, E>
+// Says `ptext: ` and why nothing was run, and reports this status. The output is handed back as it came.
+fn report_unrun<W: Sink, E: Sink>(status: u8, why: &str, out: W, messages: E) -> Report<W, E>
     requires { (E.state messages).failed ≡ false }
-    ensures { result.status ≡ 1 }
+    ensures status { result.status ≡ status }
+    ensures out { result.out ≡ out }
 {
     let mut messages = messages;
-    let _ = say(&mut messages, &["ptext: out of memory"]);
+    let _ = say(&mut messages, &["ptext: ", why]);
     Report {
-        status: 1,
+        status,
         peak: 0,
         denied: false,
         out,
         messages,
     }
+}
+
+/// Says that memory for the program's own lists was refused, and reports status 1.
+pub fn report_no_memory<W: Sink, E: Sink>(out: W, messages: E) -> Report<W, E>
+    requires { (E.state messages).failed ≡ false }
+    ensures status { result.status ≡ 1 }
+    ensures out { result.out ≡ out }
+{
+    report_unrun(1, "out of memory", out, messages)
+}
+
+/// Says that the words hold bytes that are no UTF-8 text, and reports status 2: such words are never read.
+pub fn report_no_text<W: Sink, E: Sink>(out: W, messages: E) -> Report<W, E>
+    requires { (E.state messages).failed ≡ false }
+    ensures status { result.status ≡ 2 }
+    ensures out { result.out ≡ out }
+{
+    report_unrun(2, "a word is not UTF-8", out, messages)
 }

@@ -1,4 +1,4 @@
-//! The engines: what each tool does with one input. `cut` and `tr` so far.
+//! The engines: what `cut`, `paste`, `tr` and `uniq` do with their inputs.
 #![tactic(auto)]
 
 mod blocks;

@@ -8,7 +8,7 @@ use Rattle.std.proofs.lemmas.Bool.{and_left, and_right, cond-false, cases_Bool}
 use Rattle.std.proofs.lemmas.Bool.Decides.{nat_tests}
 use Rattle.ptlangs.proofs.Elements.{split_whole, split_around}
 use Rattle.ptlangs.specs.CutLists.{is_dash, is_end, ends, said}
-use Rattle.ptlangs.specs.Numbers.{is_nothing}
+use Rattle.ptlangs.specs.Numbers.{is_empty}
 
 -- digits have no dash
 no_dash : (b : ℕ) → is_ascii_digit b ≡ true → is_dash b ≡ false
@@ -21,7 +21,7 @@ end_is_one_piece (b ∷ bs) h =
 
 ends_refused : (n m : List ℕ) → is_end m ≡ false → ends n m ≡ None
 ends_refused n m h =
-    let some = not (is_nothing n && is_nothing m) in
+    let some = not (is_empty n && is_empty m) in
     cond-false (is_end n && is_end m && some) _ None (and_left (is_end n && is_end m) some (and_right (is_end n) (is_end m) h))
 
 refused : (n m : List ℕ) → (parts : List (List ℕ)) → 0 < length parts → join_with_byte 45 parts ≡ m → is_end m ≡ false → said (n ∷ parts) ≡ None
@@ -43,7 +43,7 @@ twice true x y = refl
 twice false x y = refl
 
 -- without a dash, the element is both ends
-pub said_whole : (bs : List ℕ) → position is_dash bs ≡ None → is_nothing bs ≡ false → said (slice_split is_dash bs) ≡ ends bs bs
+pub said_whole : (bs : List ℕ) → position is_dash bs ≡ None → is_empty bs ≡ false → said (slice_split is_dash bs) ≡ ends bs bs
 said_whole [] h some = cc
 said_whole (b ∷ bs) h some = ap said (split_whole is_dash (b ∷ bs) h) ∙ twice (list_all is_ascii_digit (b ∷ bs)) _ _
 

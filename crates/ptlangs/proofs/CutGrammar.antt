@@ -8,15 +8,15 @@ use Rattle.std.proofs.lemmas.List.Elements.{All-cons, All-append}
 use Rattle.std.proofs.lemmas.List.Splits.{slice_split_at}
 use Rattle.ptlangs.proofs.ListGrammar.{digits_fail, digit_no_separator, IsSplit, Whole, Cut, splits, Accepts, from_grammar, to_grammar}
 use Rattle.ptlangs.proofs.CutElements.{said_behind_dash, end_is_one_piece}
-use Rattle.ptlangs.proofs.Reading.{judged_proper}
-use Rattle.ptlangs.specs.CutLists.{IsProper, IsElement, One, FromTo, UpTo, From, IsProperElement, ends, said, judged, is_dash, element, AcceptsTheGrammar}
-use Rattle.ptlangs.specs.Numbers.{greatest, is_nothing, is_number, value, is_separator}
+use Rattle.ptlangs.proofs.Reading.{checked_proper}
+use Rattle.ptlangs.specs.CutLists.{IsProper, IsElement, One, FromTo, UpTo, From, IsProperElement, ends, said, checked, is_dash, element, AcceptsTheGrammar}
+use Rattle.ptlangs.specs.Numbers.{greatest, is_empty, is_number, value, is_separator}
 use Rattle.ptlangs.specs.declared.ranges.Interval.{Interval}
 
 -- ---- from the grammar
 
-judged_ok : (r : Interval) → IsProper r → judged (Some r) ≡ Ok r
-judged_ok r proper =
+checked_ok : (r : Interval) → IsProper r → checked (Some r) ≡ Ok r
+checked_ok r proper =
     let large : (ltb greatest r.first || ltb greatest r.last) ≡ false = or_from _ _ (le-ltb greatest r.first (omega (arith, proper.ascending, proper.fits))) (le-ltb greatest r.last proper.fits) in
     let zero : (eqb r.first 0 || eqb r.last 0) ≡ false = or_from _ _ (ne_eqb r.first 0 (λ e. omega (arith, proper.positive, e))) (ne_eqb r.last 0 (λ e. omega (arith, proper.positive, proper.ascending, e))) in
     let falls : ltb r.last r.first ≡ false = le-ltb r.last r.first proper.ascending in
@@ -25,7 +25,7 @@ judged_ok r proper =
 digit_no_dash : (b : ℕ) → is_ascii_digit b ≡ true → is_dash b ≡ false
 digit_no_dash b h = grind (arith, nat_tests)
 
-said_of : (bs : List ℕ) (r : Interval) → IsElement bs r → (is_nothing bs ≡ false) × (said (slice_split is_dash bs) ≡ Some r)
+said_of : (bs : List ℕ) (r : Interval) → IsElement bs r → (is_empty bs ≡ false) × (said (slice_split is_dash bs) ≡ Some r)
 said_of bs r (One [] h) = cc
 said_of bs r (One (b ∷ n) h) = (refl, ap said (end_is_one_piece (b ∷ n) h) ∙ cond-true _ _ _ h)
 said_of bs r (FromTo [] m h k) = cc
@@ -41,7 +41,7 @@ said_of bs r (From (b ∷ n) h) =
 accepts_element : (bs : List ℕ) (r : Interval) → IsElement bs r → IsProper r → element bs ≡ Ok r
 accepts_element bs r e proper =
     let s = said_of bs r e in
-    rw (s.0, s.1) (judged_ok r proper)
+    rw (s.0, s.1) (checked_ok r proper)
 
 no_separator : (bs : List ℕ) (r : Interval) → IsElement bs r → All (λ b. is_separator b ≡ false) bs
 no_separator bs r (One n h) = digits_fail is_separator digit_no_separator n h
@@ -96,7 +96,7 @@ spelled bs parts r (Cut n s xs rest cut split) e = spelled_cut n s xs rest r (eq
 reads_element : (bs : List ℕ) (r : Interval) → element bs ≡ Ok r → IsProperElement bs r
 reads_element [] r h = cc
 reads_element (b ∷ bs) r h =
-    let j = judged_proper (said (slice_split is_dash (b ∷ bs))) r h in
+    let j = checked_proper (said (slice_split is_dash (b ∷ bs))) r h in
     (spelled (b ∷ bs) (slice_split is_dash (b ∷ bs)) r (splits is_dash (b ∷ bs)) j.0, j.1)
 
 accepts_elements : Accepts element IsProperElement

@@ -1,43 +1,28 @@
--- Worked lists.
-use Rattle.std.proofs.Common.{◌≡◌, ℕ, [], ◌∷◌, refl, codes, Ok, Err}
-use Rattle.ptlangs.specs.CutLists.{cut_list, Empty, Zero, Descending, TooLarge, Malformed}
+-- Worked lists: what each says, one row for each.
+use Rattle.std.proofs.Common.{◌≡◌, ℕ, List, [], ◌∷◌, refl, codes, map, Result, Ok, Err}
+use Rattle.ptlangs.specs.CutLists.{cut_list}
 use Rattle.ptlangs.specs.declared.ranges.Interval.{Interval}
+use Rattle.ptlangs.specs.declared.ranges.ListFault.{ListFault}
+use Rattle.ptlangs.specs.declared.ranges.ListFault.TheVariants.{Empty, Zero, Descending, TooLarge, Malformed}
 
 abbrev from_to : ℕ → ℕ → Interval
 from_to a b = record { first = a; last = b }
 
-open_end_and_one : cut_list (codes "3-,1") ≡ Ok (from_to 3 18446744073709551615 ∷ from_to 1 1 ∷ [])
-open_end_and_one = refl
+abbrev rows : List (List ℕ × Result (List Interval) ListFault)
+rows =
+    (codes "3-,1", Ok (from_to 3 18446744073709551615 ∷ from_to 1 1 ∷ []))
+    ∷ (codes "2 4,1", Ok (from_to 2 2 ∷ from_to 4 4 ∷ from_to 1 1 ∷ []))
+    ∷ (codes "-2", Ok (from_to 1 2 ∷ []))
+    ∷ (codes "00012-0000000000000000000000000000000000000000000000013\t7-", Ok (from_to 12 13 ∷ from_to 7 18446744073709551615 ∷ []))
+    ∷ (codes "1,3-2", Err Descending)
+    ∷ (codes "1,,2", Err Empty)
+    ∷ ([], Err Empty)
+    ∷ (codes "0", Err Zero)
+    ∷ (codes "18446744073709551616", Err TooLarge)
+    ∷ (codes "-", Err Malformed)
+    ∷ (codes "1-2-3", Err Malformed)
+    ∷ (codes "1,3-2,0", Err Descending)
+    ∷ []
 
-mixed_separators : cut_list (codes "2 4,1") ≡ Ok (from_to 2 2 ∷ from_to 4 4 ∷ from_to 1 1 ∷ [])
-mixed_separators = refl
-
-open_beginning : cut_list (codes "-2") ≡ Ok (from_to 1 2 ∷ [])
-open_beginning = refl
-
-leading_zeros : cut_list (codes "00012-0000000000000000000000000000000000000000000000013\t7-") ≡ Ok (from_to 12 13 ∷ from_to 7 18446744073709551615 ∷ [])
-leading_zeros = refl
-
-descending : cut_list (codes "1,3-2") ≡ Err Descending
-descending = refl
-
-empty_element : cut_list (codes "1,,2") ≡ Err Empty
-empty_element = refl
-
-empty_list : cut_list [] ≡ Err Empty
-empty_list = refl
-
-zero : cut_list (codes "0") ≡ Err Zero
-zero = refl
-
-too_large : cut_list (codes "18446744073709551616") ≡ Err TooLarge
-too_large = refl
-
-lone_dash : cut_list (codes "-") ≡ Err Malformed
-lone_dash = refl
-
-three_numbers : cut_list (codes "1-2-3") ≡ Err Malformed
-three_numbers = refl
-
-first_faulty_element : cut_list (codes "1,3-2,0") ≡ Err Descending
-first_faulty_element = refl
+are_read : map (λ (row : List ℕ × Result (List Interval) ListFault). cut_list row.0) rows ≡ map (λ (row : List ℕ × Result (List Interval) ListFault). row.1) rows
+are_read = refl

@@ -16,6 +16,8 @@ pub mod TrNumbers
 pub mod TrForms
 pub mod TrGrammar
 pub mod TrPieces
+pub mod TrUnitGrammar
+pub mod TrFaults
 mod TrRows
 mod TrClassRows
 pub mod TrPlaces

@@ -5,7 +5,8 @@ use Rattle.std.proofs.lemmas.Bool.{le-ltb, ltb-false, ne_eqb, eqb-true, eqb-fals
 use Rattle.std.proofs.lemmas.List.Elements.{All-cons}
 use Rattle.ptlangs.proofs.ListGrammar.{digits_fail, digit_no_separator, Accepts, from_grammar, to_grammar}
 use Rattle.ptlangs.specs.Numbers.{greatest, is_number, value, is_separator}
-use Rattle.ptlangs.specs.OutLists.{Malformed, Zero, TooLarge, field_of, element, IsElement, TheJoinField, OfFirst, OfSecond, IsProper, IsProperElement, AcceptsTheGrammar}
+use Rattle.ptlangs.specs.declared.outlist.OutFault.TheVariants.{Malformed, Zero, TooLarge}
+use Rattle.ptlangs.specs.OutLists.{field_of, element, IsElement, TheJoinField, OfFirst, OfSecond, IsProper, IsProperElement, AcceptsTheGrammar}
 use Rattle.ptlangs.specs.declared.outlist.File.{File}
 use Rattle.ptlangs.specs.declared.outlist.File.TheVariants.{First, Second}
 use Rattle.ptlangs.specs.declared.outlist.OutField.{OutField}

@@ -5,7 +5,9 @@ use Rattle.std.specs.List.Sorted.{IsNonDecreasingBy, IsPermutation}
 use Rattle.std.proofs.lemmas.Bool.{or_parts, ltb-false, eqb-false}
 use Rattle.std.proofs.lemmas.List.Elements.{All-cons}
 use Rattle.std.proofs.lemmas.List.Sorted.{list_any-IsPermutation}
-use Rattle.ptlangs.specs.CutLists.{ListFault, TooLarge, Zero, Descending, IsProper, is_dash, said, judged, element, cut_list, is_selected, selection, AreInOrder}
+use Rattle.ptlangs.specs.declared.ranges.ListFault.{ListFault}
+use Rattle.ptlangs.specs.declared.ranges.ListFault.TheVariants.{TooLarge, Zero, Descending}
+use Rattle.ptlangs.specs.CutLists.{IsProper, is_dash, said, checked, element, cut_list, is_selected, selection, AreInOrder}
 use Rattle.ptlangs.specs.Numbers.{greatest, elements, and_then, put_first, each}
 use Rattle.ptlangs.specs.declared.ranges.Interval.{Interval}
 
@@ -15,9 +17,9 @@ chosen false true falls s r h = cc
 chosen false false true s r h = cc
 chosen false false false s r h = (refl, refl, refl, cc)
 
-pub judged_proper : (said : Option Interval) (r : Interval) → judged said ≡ Ok r → (said ≡ Some r) × IsProper r
-judged_proper None r h = cc
-judged_proper (Some s) r h =
+pub checked_proper : (said : Option Interval) (r : Interval) → checked said ≡ Ok r → (said ≡ Some r) × IsProper r
+checked_proper None r h = cc
+checked_proper (Some s) r h =
     let p = chosen (ltb greatest s.first || ltb greatest s.last) (eqb s.first 0 || eqb s.last 0) (ltb s.last s.first) s r h in
     let large = or_parts (ltb greatest s.first) (ltb greatest s.last) p.0 in
     let zero = or_parts (eqb s.first 0) (eqb s.last 0) p.1 in
@@ -30,7 +32,7 @@ judged_proper (Some s) r h =
 
 element_proper : (bs : List ℕ) (r : Interval) → element bs ≡ Ok r → IsProper r
 element_proper [] r h = cc
-element_proper (b ∷ bs) r h = (judged_proper (said (slice_split is_dash (b ∷ bs))) r h).1
+element_proper (b ∷ bs) r h = (checked_proper (said (slice_split is_dash (b ∷ bs))) r h).1
 
 each_proper_step : (x : List ℕ) (read : Result Interval ListFault) (others : Result (List Interval) ListFault) (rs : List Interval) → element x ≡ read → and_then read (λ y. put_first y others) ≡ Ok rs → ((ys : List Interval) → others ≡ Ok ys → All IsProper ys) → All IsProper rs
 each_proper_step x (Err f) others rs e h below = cc

@@ -1,9 +1,9 @@
 -- Worked strings of `tr`, and what it makes of some bytes.
+use Prim.Native.String.{String}
 use Rattle.std.proofs.Common.{◌≡◌, ℕ, List, [], ◌∷◌, Bool, true, false, not, refl, codes, Some, None, Ok, Err, Option, Result, map}
 use Rattle.std.specs.Prelude.{filter, zip, ◌==◌, ◌&&◌}
-use Rattle.ptlangs.specs.declared.faults.SetFaultKind.TheVariants.{Empty, Octal, Escape, Descending, UnknownClass, ClassPlace, EquivPlace, RepeatPlace, RepeatSize, SecondFill}
-use Rattle.ptlangs.specs.declared.faults.SetString.TheVariants.{First, Second}
 use Rattle.ptlangs.specs.declared.faults.SetFault.{SetFault}
+use Rattle.ptlangs.specs.declared.plan.Form.{Form}
 use Rattle.ptlangs.specs.declared.plan.Form.TheVariants.{Translate, TranslateSqueeze, Squeeze, Delete, DeleteSqueeze}
 use Rattle.ptlangs.specs.TrClasses.{all_bytes}
 use Rattle.ptlangs.specs.TrPlan.{Plan, plan, is_deleted, image_of, is_squeezed}
@@ -25,153 +25,47 @@ abbrev run : Result Plan SetFault → List ℕ → Option (List ℕ)
 run (Ok p) bytes = Some (tr p bytes)
 run (Err f) bytes = None
 
-words_on_lines : run (plan TranslateSqueeze true (codes "[:alpha:]") (Some (codes "[\\n*]"))) (codes "one, two.\n") ≡ Some (codes "one\ntwo\n")
+-- what one string means, or two
+abbrev one : Form → Bool → String → Result Plan SetFault
+one form complement first = plan form complement (codes first) None
+
+abbrev two : Form → Bool → String → String → Result Plan SetFault
+two form complement first second = plan form complement (codes first) (Some (codes second))
+
+-- a plan, some bytes, and what is written of them
+abbrev rows : List (Result Plan SetFault × List ℕ × List ℕ)
+rows =
+    (two TranslateSqueeze true "[:alpha:]" "[\\n*]", codes "one, two.\n", codes "one\ntwo\n")
+    ∷ (two Translate false "a-c" "x-y", codes "abcd", codes "xyyd")
+    ∷ (two DeleteSqueeze false "0-9" "ab", codes "a1ab2bb", codes "ab")
+    ∷ (two Translate false "[:lower:]" "[:upper:]", codes "ab1z\n", codes "AB1Z\n")
+    ∷ (two Translate false "\\055a-b" "x[y*02]z", codes "-ab", codes "xyy")
+    ∷ (one Delete true "0-9", codes "a1b2\n", codes "12")
+    ∷ (one Delete false "a-c", codes "abcabd\n", codes "d\n")
+    ∷ (two Translate false "a-c-e" "1-5", codes "a-e", codes "145")
+    ∷ (two Translate false "aab" "xyz", codes "ab", codes "yz")
+    ∷ (two Translate false "\\0012" "ab", codes "2", codes "b")
+    ∷ (two TranslateSqueeze false "ab" "x", codes "abba", codes "x")
+    ∷ (two TranslateSqueeze true "a" "x", codes "abba\n", codes "axax")
+    ∷ (one Squeeze false "a", codes "aabaa", codes "aba")
+    ∷ (two Translate false "[a-c]" "<1-3>", codes "[ab]", codes "<12>")
+    ∷ (two Translate false "0-9" "[x*5]y", codes "0459", codes "xxyy")
+    ∷ (two Translate false "[:lower:]1" "[:upper:]", codes "a1", codes "AZ")
+    ∷ (two DeleteSqueeze false "[:digit:]" "[:space:]", codes "1  2\n\n", codes " \n")
+    ∷ (one Delete false "[=a=]b", codes "abc", codes "c")
+    ∷ (two Translate true "\\000-\\377" "[x*]", codes "ab", codes "ab")
+    ∷ (two Translate false "a-zA-Z" "n-za-mN-ZA-M", codes "Hello", codes "Uryyb")
+    ∷ (one Delete false "--/", codes "+,-./0", codes "+,0")
+    ∷ (one Delete false "[==]", codes "[a=]b", codes "ab")
+    ∷ (one Delete false "[::]", codes "[a:]b", codes "ab")
+    ∷ (one Delete false "\\08", (0 ∷ 56 ∷ 57 ∷ []), (57 ∷ []))
+    ∷ (two Translate false "abc" "[a*x]", codes "abc", codes "[a*")
+    ∷ (two Translate false "abcde" "1[x*]2", codes "abcde", codes "1xxx2")
+    ∷ (two Translate false "ab" "12[x*]3", codes "ab", codes "12")
+    ∷ (one Delete false "+-[:digit:]", codes "*+0Z[\\]:digit9", codes "*\\")
+    ∷ (two Translate false "123[:lower:]" "[x*][:upper:]", codes "12a", codes "xxA")
+    ∷ []
+
+are_written : map (λ (row : Result Plan SetFault × List ℕ × List ℕ). run row.0 row.1) rows ≡ map (λ (row : Result Plan SetFault × List ℕ × List ℕ). Some row.2) rows
 unfolding all_bytes
-words_on_lines = refl
-
-second_filled_with_its_last : run (plan Translate false (codes "a-c") (Some (codes "x-y"))) (codes "abcd") ≡ Some (codes "xyyd")
-second_filled_with_its_last = refl
-
-deleted_then_squeezed : run (plan DeleteSqueeze false (codes "0-9") (Some (codes "ab"))) (codes "a1ab2bb") ≡ Some (codes "ab")
-deleted_then_squeezed = refl
-
-lower_to_upper : run (plan Translate false (codes "[:lower:]") (Some (codes "[:upper:]"))) (codes "ab1z\n") ≡ Some (codes "AB1Z\n")
-lower_to_upper = refl
-
-octal_escape_and_count : run (plan Translate false (codes "\\055a-b") (Some (codes "x[y*02]z"))) (codes "-ab") ≡ Some (codes "xyy")
-octal_escape_and_count = refl
-
-complement_deleted : run (plan Delete true (codes "0-9") None) (codes "a1b2\n") ≡ Some (codes "12")
-unfolding all_bytes
-complement_deleted = refl
-
-range_deleted : run (plan Delete false (codes "a-c") None) (codes "abcabd\n") ≡ Some (codes "d\n")
-range_deleted = refl
-
-dash_after_a_range : run (plan Translate false (codes "a-c-e") (Some (codes "1-5"))) (codes "a-e") ≡ Some (codes "145")
-dash_after_a_range = refl
-
-last_place_counts : run (plan Translate false (codes "aab") (Some (codes "xyz"))) (codes "ab") ≡ Some (codes "yz")
-last_place_counts = refl
-
-octal_takes_three_digits : run (plan Translate false (codes "\\0012") (Some (codes "ab"))) (codes "2") ≡ Some (codes "b")
-octal_takes_three_digits = refl
-
-translated_then_squeezed : run (plan TranslateSqueeze false (codes "ab") (Some (codes "x"))) (codes "abba") ≡ Some (codes "x")
-translated_then_squeezed = refl
-
-complement_squeezed : run (plan TranslateSqueeze true (codes "a") (Some (codes "x"))) (codes "abba\n") ≡ Some (codes "axax")
-unfolding all_bytes
-complement_squeezed = refl
-
-repeats_squeezed : run (plan Squeeze false (codes "a") None) (codes "aabaa") ≡ Some (codes "aba")
-repeats_squeezed = refl
-
-brackets_around_a_range : run (plan Translate false (codes "[a-c]") (Some (codes "<1-3>"))) (codes "[ab]") ≡ Some (codes "<12>")
-brackets_around_a_range = refl
-
-repeat_of_five : run (plan Translate false (codes "0-9") (Some (codes "[x*5]y"))) (codes "0459") ≡ Some (codes "xxyy")
-repeat_of_five = refl
-
-case_pair_and_one_more : run (plan Translate false (codes "[:lower:]1") (Some (codes "[:upper:]"))) (codes "a1") ≡ Some (codes "AZ")
-case_pair_and_one_more = refl
-
-class_squeezed : run (plan DeleteSqueeze false (codes "[:digit:]") (Some (codes "[:space:]"))) (codes "1  2\n\n") ≡ Some (codes " \n")
-class_squeezed = refl
-
-equivalence_deleted : run (plan Delete false (codes "[=a=]b") None) (codes "abc") ≡ Some (codes "c")
-equivalence_deleted = refl
-
-empty_complement : run (plan Translate true (codes "\\000-\\377") (Some (codes "[x*]"))) (codes "ab") ≡ Some (codes "ab")
-unfolding all_bytes
-empty_complement = refl
-
-rot13 : run (plan Translate false (codes "a-zA-Z") (Some (codes "n-za-mN-ZA-M"))) (codes "Hello") ≡ Some (codes "Uryyb")
-rot13 = refl
-
-refused_octal : plan Delete false (codes "\\400") None ≡ Err (record { string = First; kind = Octal })
-refused_octal = refl
-
-refused_same_case : plan Translate false (codes "[:lower:]") (Some (codes "[:lower:]")) ≡ Err (record { string = Second; kind = ClassPlace })
-refused_same_case = refl
-
-refused_descending : plan Translate false (codes "z-a") (Some (codes "b")) ≡ Err (record { string = First; kind = Descending })
-refused_descending = refl
-
-refused_last_backslash : plan Translate false (codes "a") (Some (codes "b\\")) ≡ Err (record { string = Second; kind = Escape })
-refused_last_backslash = refl
-
-refused_empty : plan Translate false (codes "") (Some (codes "b")) ≡ Err (record { string = First; kind = Empty })
-refused_empty = refl
-
-refused_unpaired : plan Translate false (codes "a-z") (Some (codes "[:upper:]")) ≡ Err (record { string = Second; kind = ClassPlace })
-refused_unpaired = refl
-
-refused_class_with_complement : plan Translate true (codes "[:alpha:]") (Some (codes "[:upper:]")) ≡ Err (record { string = Second; kind = ClassPlace })
-refused_class_with_complement = refl
-
-refused_equivalence : plan Translate false (codes "0") (Some (codes "[=x=]")) ≡ Err (record { string = Second; kind = EquivPlace })
-refused_equivalence = refl
-
-refused_repeat : plan Translate false (codes "[a*3]") (Some (codes "b")) ≡ Err (record { string = First; kind = RepeatPlace })
-refused_repeat = refl
-
-refused_count : plan Translate false (codes "abc") (Some (codes "[x*08]")) ≡ Err (record { string = Second; kind = RepeatSize })
-refused_count = refl
-
-refused_second_fill : plan Translate false (codes "a") (Some (codes "[x*][y*]")) ≡ Err (record { string = Second; kind = SecondFill })
-refused_second_fill = refl
-
-refused_class_name : plan Translate false (codes "[:foo:]") (Some (codes "a")) ≡ Err (record { string = First; kind = UnknownClass })
-refused_class_name = refl
-
-refused_dash_before_class : plan Delete false (codes "a-[:digit:]") None ≡ Err (record { string = First; kind = Descending })
-refused_dash_before_class = refl
-
-dash_in_the_middle_of_a_range : run (plan Delete false (codes "--/") None) (codes "+,-./0") ≡ Some (codes "+,0")
-dash_in_the_middle_of_a_range = refl
-
--- no unit stands between the equals signs
-equals_alone : run (plan Delete false (codes "[==]") None) (codes "[a=]b") ≡ Some (codes "ab")
-equals_alone = refl
-
--- no name stands between the colons
-colons_alone : run (plan Delete false (codes "[::]") None) (codes "[a:]b") ≡ Some (codes "ab")
-colons_alone = refl
-
-octal_then_eight : run (plan Delete false (codes "\\08") None) (0 ∷ 56 ∷ 57 ∷ []) ≡ Some (57 ∷ [])
-octal_then_eight = refl
-
-refused_last_backslash_alone : plan Delete false (codes "\\") None ≡ Err (record { string = First; kind = Escape })
-refused_last_backslash_alone = refl
-
-letter_in_a_repeat : run (plan Translate false (codes "abc") (Some (codes "[a*x]"))) (codes "abc") ≡ Some (codes "[a*")
-letter_in_a_repeat = refl
-
-fill_in_the_middle : run (plan Translate false (codes "abcde") (Some (codes "1[x*]2"))) (codes "abcde") ≡ Some (codes "1xxx2")
-fill_in_the_middle = refl
-
-fill_that_adds_none : run (plan Translate false (codes "ab") (Some (codes "12[x*]3"))) (codes "ab") ≡ Some (codes "12")
-fill_that_adds_none = refl
-
-refused_second_fill_by_zero : plan Translate false (codes "ab") (Some (codes "[x*][y*0]")) ≡ Err (record { string = Second; kind = SecondFill })
-refused_second_fill_by_zero = refl
-
--- no class is looked for at the upper end of a range
-class_at_the_upper_end : run (plan Delete false (codes "+-[:digit:]") None) (codes "*+0Z[\\]:digit9") ≡ Some (codes "*\\")
-class_at_the_upper_end = refl
-
-fault_of_the_first_string_first : plan Translate false (codes "z-a") (Some (codes "\\")) ≡ Err (record { string = First; kind = Descending })
-fault_of_the_first_string_first = refl
-
-pairing_is_judged_last : plan Translate false (codes "ab") (Some (codes "[:upper:]z-a")) ≡ Err (record { string = Second; kind = Descending })
-pairing_is_judged_last = refl
-
-pair_behind_a_fill : run (plan Translate false (codes "123[:lower:]") (Some (codes "[x*][:upper:]"))) (codes "12a") ≡ Some (codes "xxA")
-pair_behind_a_fill = refl
-
-refused_count_too_large : plan Translate false (codes "a") (Some (codes "[x*65536]")) ≡ Err (record { string = Second; kind = RepeatSize })
-refused_count_too_large = refl
-
-refused_repeat_whatever_its_count : plan Delete false (codes "[x*99999999]") None ≡ Err (record { string = First; kind = RepeatPlace })
-refused_repeat_whatever_its_count = refl
+are_written = refl

@@ -1,39 +1,28 @@
 -- The list of `cut`.
 use Rattle.std.specs.Prelude.{ℕ, ◌+◌, ◌<◌, ◌≤◌, ◌==◌, ◌≡◌, ◌↔◌, ◌||◌, ◌&&◌, List, [], ◌∷◌, ◌++◌, Bool, true, not, Option, Some, None, Result, Ok, Err, if◌then◌else◌, nat_lt, nat_le}
 use Rattle.std.specs.List.{slice_split, list_any}
-use Rattle.ptlangs.specs.Numbers.{greatest, is_nothing, is_number, value, elements, and_then, each, IsListOf}
+use Rattle.std.specs.Str.{byte}
+use Rattle.ptlangs.specs.Numbers.{greatest, is_empty, is_number, value, elements, and_then, each, IsListOf}
 use Rattle.ptlangs.specs.declared.ranges.Interval.{Interval}
-use Rattle.ptlangs.specs.declared.ranges.ListFault as code
-use Rattle.ptlangs.specs.declared.ranges.ListFault.TheVariants as answer
+use Rattle.ptlangs.specs.declared.ranges.ListFault.{ListFault}
+use Rattle.ptlangs.specs.declared.ranges.ListFault.TheVariants.{Empty, Zero, Descending, TooLarge, Malformed, Memory}
 
--- what is wrong with a list
-pub data ListFault : Type 0 where
-  Empty : ListFault
-  Zero : ListFault
-  Descending : ListFault
-  TooLarge : ListFault
-  Malformed : ListFault
-
--- the list's fault that an answer names
-abbrev pub fault_meant : code.ListFault → Option ListFault
-fault_meant answer.Empty = Some Empty
-fault_meant answer.Zero = Some Zero
-fault_meant answer.Descending = Some Descending
-fault_meant answer.TooLarge = Some TooLarge
-fault_meant answer.Malformed = Some Malformed
-fault_meant answer.Memory = None
+-- the list's fault, none for want of memory
+abbrev pub fault_of : ListFault → Option ListFault
+fault_of Memory = None
+fault_of fault = Some fault
 
 -- an end of an element: digits, or nothing for the default
 abbrev pub is_end : List ℕ → Bool
-is_end bs = is_nothing bs || is_number bs
+is_end bs = is_empty bs || is_number bs
 
 abbrev pub value_or : ℕ → List ℕ → ℕ
-value_or default bs = if is_nothing bs then default else value bs
+value_or default bs = if is_empty bs then default else value bs
 
 -- n-m, with one of n and m perhaps left out
 abbrev pub ends : List ℕ → List ℕ → Option Interval
 ends n m =
-    if is_end n && is_end m && not (is_nothing n && is_nothing m)
+    if is_end n && is_end m && not (is_empty n && is_empty m)
     then Some (record { first = value_or 1 n; last = value_or greatest m })
     else None
 
@@ -50,18 +39,18 @@ pub record IsProper (r : Interval) : Type 0 where
   pub fits : r.last ≤ greatest
 
 -- the interval, or what is wrong with its numbers
-abbrev pub judged : Option Interval → Result Interval ListFault
-judged None = Err Malformed
-judged (Some r) =
+abbrev pub checked : Option Interval → Result Interval ListFault
+checked None = Err Malformed
+checked (Some r) =
     if nat_lt greatest r.first || nat_lt greatest r.last then Err TooLarge
     else (if (r.first == 0) || (r.last == 0) then Err Zero
     else (if nat_lt r.last r.first then Err Descending else Ok r))
 
 abbrev pub is_dash : ℕ → Bool
-is_dash b = b == 45
+is_dash b = b == byte "-"
 
 abbrev pub element : List ℕ → Result Interval ListFault
-element bs = if is_nothing bs then Err Empty else judged (said (slice_split is_dash bs))
+element bs = if is_empty bs then Err Empty else checked (said (slice_split is_dash bs))
 
 -- the intervals of a list, as they stand in it, or its first fault
 abbrev pub cut_list : List ℕ → Result (List Interval) ListFault
@@ -88,9 +77,9 @@ AreInOrder low (r ∷ rs) = (low ≤ r.first) × (r.first ≤ r.last) × AreInOr
 -- The same as a grammar: what an element spells, and a list.
 pub data IsElement : List ℕ → Interval → Type 0 where
   One : (n : List ℕ) → is_number n ≡ true → IsElement n (record { first = value n; last = value n })
-  FromTo : (n m : List ℕ) → is_number n ≡ true → is_number m ≡ true → IsElement (n ++ 45 ∷ m) (record { first = value n; last = value m })
-  UpTo : (m : List ℕ) → is_number m ≡ true → IsElement (45 ∷ m) (record { first = 1; last = value m })
-  From : (n : List ℕ) → is_number n ≡ true → IsElement (n ++ 45 ∷ []) (record { first = value n; last = greatest })
+  FromTo : (n m : List ℕ) → is_number n ≡ true → is_number m ≡ true → IsElement (n ++ byte "-" ∷ m) (record { first = value n; last = value m })
+  UpTo : (m : List ℕ) → is_number m ≡ true → IsElement (byte "-" ∷ m) (record { first = 1; last = value m })
+  From : (n : List ℕ) → is_number n ≡ true → IsElement (n ++ byte "-" ∷ []) (record { first = value n; last = greatest })
 
 -- an element with proper numbers
 abbrev pub IsProperElement : List ℕ → Interval → Type 0

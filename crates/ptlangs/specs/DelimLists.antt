@@ -2,22 +2,16 @@
 use Rattle.std.specs.Prelude.{ℕ, ◌%◌, ◌==◌, ◌≡◌, ◌↔◌, List, [], ◌∷◌, ◌++◌, length, false, Option, Some, None, Result, Ok, Err, if◌then◌else◌, codes, slice_index_or}
 use Rattle.std.specs.Str.{byte}
 use Rattle.ptlangs.specs.Numbers.{and_then, put_first}
-use Rattle.ptlangs.specs.declared.delims.DelimFault as code
-use Rattle.ptlangs.specs.declared.delims.DelimFault.TheVariants as answer
+use Rattle.ptlangs.specs.declared.delims.DelimFault.{DelimFault}
+use Rattle.ptlangs.specs.declared.delims.DelimFault.TheVariants.{Empty, Escape, Memory}
 
--- what is wrong with a list
-pub data DelimFault : Type 0 where
-  Empty : DelimFault
-  Escape : DelimFault
-
--- the list's fault that an answer names
-abbrev pub fault_meant : code.DelimFault → Option DelimFault
-fault_meant answer.Empty = Some Empty
-fault_meant answer.Escape = Some Escape
-fault_meant answer.Memory = None
+-- the list's fault, none for want of memory
+abbrev pub fault_of : DelimFault → Option DelimFault
+fault_of Memory = None
+fault_of fault = Some fault
 
 abbrev pub backslash : ℕ
-backslash = 92
+backslash = byte "\\"
 
 -- what a backslash and this byte stand for: a byte, or the empty string
 abbrev pub escape : ℕ → Result (Option ℕ) DelimFault

@@ -28,7 +28,13 @@ pub record Cut : Type 0 where
   pub end : ℕ
 
 abbrev pub cut_job : {A : Type 0} → CutJob A → Cut
-cut_job job = record { fields = job.fields; selected = is_selected job.list; delimiter = job.delim; only = job.only; end = ending job.zero }
+cut_job job = record {
+  fields = job.fields;
+  selected = is_selected job.list;
+  delimiter = job.delim;
+  only = job.only;
+  end = ending job.zero;
+}
 
 -- what `paste` is told
 pub record Paste : Type 0 where

@@ -2,19 +2,21 @@
 use Rattle.std.specs.Prelude.{ℕ, ◌==◌, ◌||◌, ◌&&◌, List, [], ◌∷◌, ◌++◌, ◌≡◌, Bool, true, false, not, Option, Some, None, Result, Ok, Err, if◌then◌else◌, nat_le}
 use Rattle.std.specs.Char.{is_ascii_digit}
 use Rattle.std.specs.List.{list_all, slice_split}
+use Rattle.std.specs.Result.{result_map_both}
 use Rattle.std.specs.Str.Parse.{digits_value}
+use Rattle.std.specs.Str.{byte}
 
 -- the greatest number of 64 bits
 abbrev pub greatest : ℕ
 greatest = 18446744073709551615
 
-abbrev pub is_nothing : {X : Type 0} → List X → Bool
-is_nothing [] = true
-is_nothing (x ∷ xs) = false
+abbrev pub is_empty : {X : Type 0} → List X → Bool
+is_empty [] = true
+is_empty (x ∷ xs) = false
 
 -- one digit or more, and nothing else
 abbrev pub is_number : List ℕ → Bool
-is_number bs = not (is_nothing bs) && list_all is_ascii_digit bs
+is_number bs = not (is_empty bs) && list_all is_ascii_digit bs
 
 abbrev pub value : List ℕ → ℕ
 value bs = digits_value 10 bs
@@ -25,7 +27,7 @@ number bs = if is_number bs && nat_le (value bs) greatest then Some (value bs) e
 
 -- the elements between single commas, spaces and tabs
 abbrev pub is_separator : ℕ → Bool
-is_separator b = (b == 44) || (b == 32) || (b == 9)
+is_separator b = (b == byte ",") || (b == byte " ") || (b == 9)
 
 abbrev pub elements : List ℕ → List (List ℕ)
 elements bs = slice_split is_separator bs
@@ -36,8 +38,7 @@ and_then (Ok x) f = f x
 and_then (Err e) f = Err e
 
 abbrev pub put_first : {A E : Type 0} → A → Result (List A) E → Result (List A) E
-put_first x (Ok xs) = Ok (x ∷ xs)
-put_first x (Err e) = Err e
+put_first {A} {E} x r = result_map_both (λ (xs : List A). x ∷ xs) (λ (e : E). e) r
 
 -- each item read; the first faulty one decides
 abbrev pub each : {A B E : Type 0} → (A → Result B E) → List A → Result (List B) E

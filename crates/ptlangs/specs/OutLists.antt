@@ -6,23 +6,13 @@ use Rattle.ptlangs.specs.declared.outlist.File.{File}
 use Rattle.ptlangs.specs.declared.outlist.File.TheVariants.{First, Second}
 use Rattle.ptlangs.specs.declared.outlist.OutField.{OutField}
 use Rattle.ptlangs.specs.declared.outlist.OutField.TheVariants.{Join, Field}
-use Rattle.ptlangs.specs.declared.outlist.OutFault as code
-use Rattle.ptlangs.specs.declared.outlist.OutFault.TheVariants as answer
+use Rattle.ptlangs.specs.declared.outlist.OutFault.{OutFault}
+use Rattle.ptlangs.specs.declared.outlist.OutFault.TheVariants.{Empty, Malformed, Zero, TooLarge, Memory}
 
--- what is wrong with a list
-pub data OutFault : Type 0 where
-  Empty : OutFault
-  Malformed : OutFault
-  Zero : OutFault
-  TooLarge : OutFault
-
--- the list's fault that an answer names
-abbrev pub fault_meant : code.OutFault → Option OutFault
-fault_meant answer.Empty = Some Empty
-fault_meant answer.Malformed = Some Malformed
-fault_meant answer.Zero = Some Zero
-fault_meant answer.TooLarge = Some TooLarge
-fault_meant answer.Memory = None
+-- the list's fault, none for want of memory
+abbrev pub fault_of : OutFault → Option OutFault
+fault_of Memory = None
+fault_of fault = Some fault
 
 -- the field of a file with this number
 abbrev pub field_of : File → List ℕ → Result OutField OutFault

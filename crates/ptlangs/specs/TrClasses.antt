@@ -2,6 +2,7 @@
 use Rattle.std.specs.Prelude.{ℕ, Bool, true, false, ◌+◌, ◌-◌, List, [], ◌∷◌, ◌++◌, Option, codes, bytes_eq}
 use Rattle.std.specs.List.{find, range_with_len}
 use Rattle.std.specs.Option.{option_map}
+use Rattle.std.specs.Str.{byte}
 use Rattle.ptlangs.specs.declared.classes.CharClass.{CharClass}
 use Rattle.ptlangs.specs.declared.classes.CharClass.TheVariants.{Alnum, Alpha, Blank, Cntrl, Digit, Graph, Lower, Print, Punct, Space, Upper, Xdigit}
 
@@ -19,18 +20,18 @@ all_bytes = span 0 255
 
 -- the bytes of a class, ascending
 abbrev pub class_bytes : CharClass → List ℕ
-class_bytes Alnum = span 48 57 ++ span 65 90 ++ span 97 122
-class_bytes Alpha = span 65 90 ++ span 97 122
-class_bytes Blank = 9 ∷ 32 ∷ []
+class_bytes Alnum = span (byte "0") (byte "9") ++ span (byte "A") (byte "Z") ++ span (byte "a") (byte "z")
+class_bytes Alpha = span (byte "A") (byte "Z") ++ span (byte "a") (byte "z")
+class_bytes Blank = 9 ∷ byte " " ∷ []
 class_bytes Cntrl = span 0 31 ++ 127 ∷ []
-class_bytes Digit = span 48 57
-class_bytes Graph = span 33 126
-class_bytes Lower = span 97 122
-class_bytes Print = span 32 126
-class_bytes Punct = span 33 47 ++ span 58 64 ++ span 91 96 ++ span 123 126
-class_bytes Space = span 9 13 ++ 32 ∷ []
-class_bytes Upper = span 65 90
-class_bytes Xdigit = span 48 57 ++ span 65 70 ++ span 97 102
+class_bytes Digit = span (byte "0") (byte "9")
+class_bytes Graph = span (byte "!") (byte "~")
+class_bytes Lower = span (byte "a") (byte "z")
+class_bytes Print = span (byte " ") (byte "~")
+class_bytes Punct = span (byte "!") (byte "/") ++ span (byte ":") (byte "@") ++ span (byte "[") (byte "`") ++ span (byte "{") (byte "~")
+class_bytes Space = span 9 13 ++ byte " " ∷ []
+class_bytes Upper = span (byte "A") (byte "Z")
+class_bytes Xdigit = span (byte "0") (byte "9") ++ span (byte "A") (byte "F") ++ span (byte "a") (byte "f")
 
 abbrev pub class_names : List (List ℕ × CharClass)
 class_names =

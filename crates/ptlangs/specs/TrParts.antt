@@ -1,9 +1,10 @@
 -- The parts of a string of `tr`, over its units.
-use Rattle.std.specs.Prelude.{◌≡◌, ◌↔◌, ◌≤◌, ℕ, zero, suc, ◌-◌, ◌==◌, List, [], ◌∷◌, ◌++◌, Bool, false, Option, Some, None, Result, Ok, Err, if◌then◌else◌, nat_le, nat_lt, map, length, drop, option_map, IsTrue}
+use Rattle.std.specs.Prelude.{◌≡◌, ◌↔◌, ◌≤◌, ◌<◌, ℕ, zero, suc, ◌-◌, ◌==◌, List, [], ◌∷◌, ◌++◌, Bool, false, Option, Some, None, Result, Ok, Err, if◌then◌else◌, nat_le, nat_lt, map, length, drop, option_map, IsTrue}
 use Rattle.std.specs.List.{list_all}
 use Rattle.std.specs.Option.{option_and_then, option_or}
 use Rattle.std.specs.Char.{is_ascii_digit, is_ascii_lowercase}
 use Rattle.std.specs.Str.Parse.{digits_value}
+use Rattle.std.specs.Str.{byte}
 use Rattle.ptlangs.specs.declared.faults.SetFaultKind.{SetFaultKind}
 use Rattle.ptlangs.specs.declared.faults.SetFaultKind.TheVariants.{Empty, Descending}
 use Rattle.ptlangs.specs.declared.units.SetUnit.{SetUnit}
@@ -20,7 +21,7 @@ count_in base digits = if nat_le (digits_value base digits) 65535 then Some (dig
 -- the count of a repeat: octal after a leading zero, else decimal; 0 without digits
 abbrev pub repeat_count : List ℕ → Option ℕ
 repeat_count [] = Some 0
-repeat_count (d ∷ ds) = if d == 48 then (if list_all is_octal_digit (d ∷ ds) then count_in 8 (d ∷ ds) else None) else count_in 10 (d ∷ ds)
+repeat_count (d ∷ ds) = if d == byte "0" then (if list_all is_octal_digit (d ∷ ds) then count_in 8 (d ∷ ds) else None) else count_in 10 (d ∷ ds)
 
 -- ---- the grammar
 
@@ -32,25 +33,37 @@ pub data Means : SetUnit → ℕ → Type 0 where
 -- the units begin with a form in brackets, and the rest follows it
 pub data Opens : List SetUnit → Part → List SetUnit → Type 0 where
   ARepeat : (u : SetUnit) (v : ℕ) (digits : List ℕ) (rest : List SetUnit) → Means u v → IsTrue (list_all is_ascii_digit digits)
-      → Opens (Plain 91 ∷ u ∷ Plain 42 ∷ map Plain digits ++ Plain 93 ∷ rest) (Repeat v (repeat_count digits)) rest
+      → Opens (Plain (byte "[") ∷ u ∷ Plain (byte "*") ∷ map Plain digits ++ Plain (byte "]") ∷ rest) (Repeat v (repeat_count digits)) rest
   AClass : (c : ℕ) (name : List ℕ) (rest : List SetUnit) → IsTrue (list_all is_ascii_lowercase (c ∷ name))
-      → Opens (Plain 91 ∷ Plain 58 ∷ map Plain (c ∷ name) ++ Plain 58 ∷ Plain 93 ∷ rest) (Class (class_named (c ∷ name))) rest
+      → Opens (Plain (byte "[") ∷ Plain (byte ":") ∷ map Plain (c ∷ name) ++ Plain (byte ":") ∷ Plain (byte "]") ∷ rest) (Class (class_named (c ∷ name))) rest
   AnEquivalence : (u : SetUnit) (v : ℕ) (rest : List SetUnit) → Means u v
-      → Opens (Plain 91 ∷ Plain 61 ∷ u ∷ Plain 61 ∷ Plain 93 ∷ rest) (Equivalence v) rest
+      → Opens (Plain (byte "[") ∷ Plain (byte "=") ∷ u ∷ Plain (byte "=") ∷ Plain (byte "]") ∷ rest) (Equivalence v) rest
 
 abbrev pub OpensForm : List SetUnit → Type 0
 OpensForm us = (p : Part) × (rest : List SetUnit) × Opens us p rest
 
 -- a dash follows, and one more unit
 abbrev pub DashFollows : List SetUnit → Type 0
-DashFollows us = (u : SetUnit) × (rest : List SetUnit) × (us ≡ Plain 45 ∷ u ∷ rest)
+DashFollows us = (u : SetUnit) × (rest : List SetUnit) × (us ≡ Plain (byte "-") ∷ u ∷ rest)
 
 -- the units begin with the part, and the rest follows it
 pub data Begins : List SetUnit → Part → List SetUnit → Type 0 where
   InBrackets : (us : List SetUnit) (p : Part) (rest : List SetUnit) → Opens us p rest → Begins us p rest
-  ARange : (u v : SetUnit) (a b : ℕ) (rest : List SetUnit) → ¬ OpensForm (u ∷ Plain 45 ∷ v ∷ rest) → Means u a → Means v b → a ≤ b
-      → Begins (u ∷ Plain 45 ∷ v ∷ rest) (Range a b) rest
-  Alone : (u : SetUnit) (a : ℕ) (rest : List SetUnit) → ¬ OpensForm (u ∷ rest) → ¬ DashFollows rest → Means u a → Begins (u ∷ rest) (Single a) rest
+  ARange : (u v : SetUnit) (a b : ℕ) (rest : List SetUnit) → ¬ OpensForm (u ∷ Plain (byte "-") ∷ v ∷ rest)
+      → Means u a → Means v b → a ≤ b
+      → Begins (u ∷ Plain (byte "-") ∷ v ∷ rest) (Range a b) rest
+  Alone : (u : SetUnit) (a : ℕ) (rest : List SetUnit) → ¬ OpensForm (u ∷ rest) → ¬ DashFollows rest → Means u a
+      → Begins (u ∷ rest) (Single a) rest
+
+-- the units begin with no part, for this fault
+pub data BeginsFaulty : List SetUnit → SetFaultKind → Type 0 where
+  AFaultyUnit : (k : SetFaultKind) (rest : List SetUnit) → BeginsFaulty (Faulty k ∷ rest) k
+  AFaultyEnd : (u : SetUnit) (a : ℕ) (k : SetFaultKind) (rest : List SetUnit)
+      → ¬ OpensForm (u ∷ Plain (byte "-") ∷ Faulty k ∷ rest) → Means u a
+      → BeginsFaulty (u ∷ Plain (byte "-") ∷ Faulty k ∷ rest) k
+  ADescendingRange : (u v : SetUnit) (a b : ℕ) (rest : List SetUnit) → ¬ OpensForm (u ∷ Plain (byte "-") ∷ v ∷ rest)
+      → Means u a → Means v b → b < a
+      → BeginsFaulty (u ∷ Plain (byte "-") ∷ v ∷ rest) Descending
 
 -- the units are these parts in order
 abbrev pub AreParts : List SetUnit → List Part → Type 0
@@ -89,10 +102,10 @@ with_rest p rest = option_map (λ (us : List SetUnit). (p, us)) rest
 
 -- each form, from behind its opening bracket
 abbrev pub repeat_digits : ℕ → List SetUnit → Option (Part × List SetUnit)
-repeat_digits v us = with_rest (Repeat v (repeat_count (plain_run is_ascii_digit us))) (behind 93 (behind_run is_ascii_digit us))
+repeat_digits v us = with_rest (Repeat v (repeat_count (plain_run is_ascii_digit us))) (behind (byte "]") (behind_run is_ascii_digit us))
 
 abbrev pub repeat_of : Result ℕ SetFaultKind → List SetUnit → Option (Part × List SetUnit)
-repeat_of (Ok v) us = option_and_then (repeat_digits v) (behind 42 us)
+repeat_of (Ok v) us = option_and_then (repeat_digits v) (behind (byte "*") us)
 repeat_of (Err k) us = None
 
 abbrev pub repeat_at : List SetUnit → Option (Part × List SetUnit)
@@ -101,16 +114,16 @@ repeat_at (u ∷ us) = repeat_of (byte_of u) us
 
 abbrev pub class_of : List ℕ → List SetUnit → Option (Part × List SetUnit)
 class_of [] us = None
-class_of (c ∷ name) us = with_rest (Class (class_named (c ∷ name))) (behind_two 58 93 us)
+class_of (c ∷ name) us = with_rest (Class (class_named (c ∷ name))) (behind_two (byte ":") (byte "]") us)
 
 abbrev pub class_name : List SetUnit → Option (Part × List SetUnit)
 class_name us = class_of (plain_run is_ascii_lowercase us) (behind_run is_ascii_lowercase us)
 
 abbrev pub class_at : List SetUnit → Option (Part × List SetUnit)
-class_at us = option_and_then class_name (behind 58 us)
+class_at us = option_and_then class_name (behind (byte ":") us)
 
 abbrev pub equivalence_of : Result ℕ SetFaultKind → List SetUnit → Option (Part × List SetUnit)
-equivalence_of (Ok v) us = with_rest (Equivalence v) (behind_two 61 93 us)
+equivalence_of (Ok v) us = with_rest (Equivalence v) (behind_two (byte "=") (byte "]") us)
 equivalence_of (Err k) us = None
 
 abbrev pub equivalence_unit : List SetUnit → Option (Part × List SetUnit)
@@ -118,13 +131,13 @@ equivalence_unit [] = None
 equivalence_unit (u ∷ us) = equivalence_of (byte_of u) us
 
 abbrev pub equivalence_at : List SetUnit → Option (Part × List SetUnit)
-equivalence_at us = option_and_then equivalence_unit (behind 61 us)
+equivalence_at us = option_and_then equivalence_unit (behind (byte "=") us)
 
 abbrev pub form_inside : List SetUnit → Option (Part × List SetUnit)
 form_inside us = option_or (repeat_at us) (option_or (class_at us) (equivalence_at us))
 
 abbrev pub form_at : List SetUnit → Option (Part × List SetUnit)
-form_at us = option_and_then form_inside (behind 91 us)
+form_at us = option_and_then form_inside (behind (byte "[") us)
 
 -- a range from a up to a unit
 abbrev pub range_to : ℕ → Result ℕ SetFaultKind → List SetUnit → Result (Part × List SetUnit) SetFaultKind
@@ -138,7 +151,7 @@ from_byte a us (Some []) = Ok (Single a, us)
 from_byte a us (Some (v ∷ rest)) = range_to a (byte_of v) rest
 
 abbrev pub from_unit : Result ℕ SetFaultKind → List SetUnit → Result (Part × List SetUnit) SetFaultKind
-from_unit (Ok a) us = from_byte a us (behind 45 us)
+from_unit (Ok a) us = from_byte a us (behind (byte "-") us)
 from_unit (Err k) us = Err k
 
 abbrev pub or_unit : Option (Part × List SetUnit) → SetUnit → List SetUnit → Result (Part × List SetUnit) SetFaultKind

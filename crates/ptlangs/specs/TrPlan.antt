@@ -1,5 +1,5 @@
 -- What the strings of `tr` mean: arrays, and what is deleted, translated and squeezed.
-use Rattle.std.specs.Prelude.{ℕ, zero, suc, ◌+◌, ◌-◌, ◌==◌, ◌&&◌, ◌||◌, List, [], ◌∷◌, ◌++◌, Bool, true, false, not, Option, Some, None, Result, Ok, Err, if◌then◌else◌, length, take, filter, replicate, unwrap_or, slice_get}
+use Rattle.std.specs.Prelude.{◌≡◌, ◌↔◌, ℕ, zero, suc, ◌+◌, ◌-◌, ◌==◌, ◌&&◌, ◌||◌, List, [], ◌∷◌, ◌++◌, Bool, true, false, not, Option, Some, None, Result, Ok, Err, if◌then◌else◌, length, take, filter, replicate, unwrap_or, slice_get}
 use Rattle.std.specs.List.{flat_map, list_all, list_any, last_or}
 use Rattle.std.specs.Option.{option_and_then, option_to_list}
 use Rattle.std.specs.Result.{result_map_both}
@@ -17,8 +17,10 @@ use Rattle.ptlangs.specs.declared.pieces.Place.{Place}
 use Rattle.ptlangs.specs.declared.pieces.Place.TheVariants.{First, Images, Squeezed}
 use Rattle.ptlangs.specs.declared.plan.Form.{Form}
 use Rattle.ptlangs.specs.declared.plan.Form.TheVariants.{Translate, TranslateSqueeze, Squeeze, Delete, DeleteSqueeze}
+use Rattle.ptlangs.specs.Numbers.{and_then, each}
 use Rattle.ptlangs.specs.TrUnits.{units}
-use Rattle.ptlangs.specs.TrParts.{parts}
+use Rattle.ptlangs.specs.declared.units.SetUnit.{SetUnit}
+use Rattle.ptlangs.specs.TrParts.{Begins, BeginsFaulty, parts}
 use Rattle.ptlangs.specs.TrClasses.{span, all_bytes, are_cases, class_bytes}
 
 -- ---- the pieces of an array
@@ -66,14 +68,25 @@ pieces_of place text = pieces place false (parts (units text))
 
 -- all of them, or the first fault
 abbrev pub collected : {A E : Type 0} → List (Result A E) → Result (List A) E
-collected [] = Ok []
-collected (Err e ∷ more) = Err e
-collected {A} {E} (Ok x ∷ more) = result_map_both (λ (xs : List A). x ∷ xs) (λ (e : E). e) (collected more)
+collected rs = each (λ r. r) rs
 
 -- the pieces of a string, or its leftmost fault
 abbrev pub string_pieces : Place → List ℕ → Result (List Piece) SetFaultKind
 string_pieces place [] = Err Empty
 string_pieces place (b ∷ text) = collected (pieces_of place (b ∷ text))
+
+-- the first part of these units that gives no piece, where a fill stood before them or not, has this fault
+pub data FirstFault (place : Place) : Bool → List SetUnit → SetFaultKind → Type 0 where
+  NoPart : (filled : Bool) (us : List SetUnit) (k : SetFaultKind) → BeginsFaulty us k → FirstFault place filled us k
+  NoPiece : (filled : Bool) (us rest : List SetUnit) (p : Part) (k : SetFaultKind) → Begins us p rest
+      → piece place filled p ≡ Err k → FirstFault place filled us k
+  Later : (filled : Bool) (us rest : List SetUnit) (p : Part) (x : Piece) (k : SetFaultKind) → Begins us p rest
+      → piece place filled p ≡ Ok x → FirstFault place (filled || is_fill (Ok x)) rest k → FirstFault place filled us k
+
+-- a string is refused for the fault of its first faulty part
+abbrev pub FaultsAreFirst : Type 0
+FaultsAreFirst = (place : Place) (b : ℕ) (text : List ℕ) (k : SetFaultKind)
+    → FirstFault place false (units (b ∷ text)) k ↔ (string_pieces place (b ∷ text) ≡ Err k)
 
 -- ---- arrays
 
@@ -164,10 +177,6 @@ is_squeezed plan b = has_byte b plan.squeezed
 
 abbrev pub in_string : {A : Type 0} → SetString → Result A SetFaultKind → Result A SetFault
 in_string {A} string r = result_map_both (λ (x : A). x) (λ (k : SetFaultKind). record { string = string; kind = k }) r
-
-abbrev pub and_then : {A B E : Type 0} → Result A E → (A → Result B E) → Result B E
-and_then (Ok x) f = f x
-and_then (Err e) f = Err e
 
 abbrev pub second_place : Form → Place
 second_place Translate = Images

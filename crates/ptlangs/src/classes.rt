@@ -1,6 +1,6 @@
 //! The classes of characters (POSIX.1-2017, XBD, 7.3.1), in the POSIX locale over ASCII: bytes
 //! above 127 are in no class.
-ghost use Rattle.std.specs.Prelude.{◌≡◌, ◌+◌, ◌<◌, length, slice_get};
+ghost use Rattle.std.specs.Prelude.{◌≡◌, ◌+◌, ◌<◌, length, slice_get, bytes_eq};
 ghost use Rattle.std.specs.List.{flat_map};
 ghost use Rattle.ptlangs.specs.TrClasses.{range_bytes, span, are_cases, class_bytes, class_named};
 
@@ -21,24 +21,32 @@ pub(crate) enum CharClass {
     Xdigit,
 }
 
+/// Whether the two are the same bytes.
+fn is_same(name: &[u8], other: &[u8]) -> bool
+    ensures { result ≡ bytes_eq name.now other.now }
+{
+    name == other
+}
+
 impl CharClass {
     /// The class of this name, if there is one.
     pub(crate) fn named(name: &[u8]) -> Option<CharClass>
         ensures { result ≡ class_named name.now }
     {
+        // Each name is compared whole: the proof of a pattern of bytes goes byte by byte.
         match name {
-            b"alnum" => Some(CharClass::Alnum),
-            b"alpha" => Some(CharClass::Alpha),
-            b"blank" => Some(CharClass::Blank),
-            b"cntrl" => Some(CharClass::Cntrl),
-            b"digit" => Some(CharClass::Digit),
-            b"graph" => Some(CharClass::Graph),
-            b"lower" => Some(CharClass::Lower),
-            b"print" => Some(CharClass::Print),
-            b"punct" => Some(CharClass::Punct),
-            b"space" => Some(CharClass::Space),
-            b"upper" => Some(CharClass::Upper),
-            b"xdigit" => Some(CharClass::Xdigit),
+            _ if is_same(name, b"alnum") => Some(CharClass::Alnum),
+            _ if is_same(name, b"alpha") => Some(CharClass::Alpha),
+            _ if is_same(name, b"blank") => Some(CharClass::Blank),
+            _ if is_same(name, b"cntrl") => Some(CharClass::Cntrl),
+            _ if is_same(name, b"digit") => Some(CharClass::Digit),
+            _ if is_same(name, b"graph") => Some(CharClass::Graph),
+            _ if is_same(name, b"lower") => Some(CharClass::Lower),
+            _ if is_same(name, b"print") => Some(CharClass::Print),
+            _ if is_same(name, b"punct") => Some(CharClass::Punct),
+            _ if is_same(name, b"space") => Some(CharClass::Space),
+            _ if is_same(name, b"upper") => Some(CharClass::Upper),
+            _ if is_same(name, b"xdigit") => Some(CharClass::Xdigit),
             _ => None,
         }
     }

@@ -1,7 +1,7 @@
 //! The list of `paste`: what stands between the columns of a line.
-ghost use Rattle.std.specs.Prelude.{◌≡◌, ◌<◌, [], ◌∷◌, length, IfOk, MatchResult};
-ghost use Rattle.ptlangs.specs.Answers.{Gives, IsFault};
-ghost use Rattle.ptlangs.specs.DelimLists.{AcceptsTheGrammar, fault_meant, escape, delims, delim_list, delim_at};
+ghost use Rattle.std.specs.Prelude.{◌≡◌, ◌<◌, [], ◌∷◌, length, Err, IfOk, MatchResult};
+ghost use Rattle.ptlangs.specs.Answers.{Gives};
+ghost use Rattle.ptlangs.specs.DelimLists.{AcceptsTheGrammar, fault_of, escape, delims, delim_list, delim_at};
 ghost use Rattle.ptlangs.specs.Numbers.{put_first};
 
 use std::alloc::{AllocError, AllocFailed, Allocator, Global};
@@ -11,11 +11,11 @@ use std::marker::Model;
 #[derive(Clone, Copy, Debug, PartialEq, Eq)]
 pub enum DelimFault {
     /// The list is empty.
-    Empty,
+    Empty = 1,
     /// A backslash stands at the end, or before a byte that is none of `n`, `t`, `\` and `0`.
-    Escape,
+    Escape = 2,
     /// A growth of memory was refused.
-    Memory,
+    Memory = 3,
 }
 
 impl From<AllocError> for DelimFault {
@@ -65,7 +65,7 @@ impl<A: Allocator> Delims<A> {
     ///
     /// The fault of the first faulty element, or `Memory`.
     pub fn read(alloc: A, text: &[u8]) -> Result<Delims<A>, DelimFault>
-        ensures { Gives (λ d. d) fault_meant result (delim_list text.now) }
+        ensures { Gives (λ d. d) fault_of result (delim_list text.now) }
     {
         let mut kept = Vec::new(alloc);
         let mut left = text;
@@ -109,7 +109,9 @@ pub fn accepts_the_grammar()
 
 /// The first delimiter of a list, and what stands behind it.
 fn first_delim(text: &[u8]) -> Result<(Option<u8>, &[u8]), DelimFault>
-    ensures first { MatchResult result (λ found. delim_list text.now ≡ put_first found.0 (delims found.1.now)) (λ fault. IsFault (fault_meant fault) (delim_list text.now)) }
+    ensures first { MatchResult result
+        (λ found. delim_list text.now ≡ put_first found.0 (delims found.1.now))
+        (λ fault. delim_list text.now ≡ Err fault) }
     ensures shorter { IfOk result (λ found. length found.1.now < length text.now) }
 {
     match text {
@@ -122,7 +124,7 @@ fn first_delim(text: &[u8]) -> Result<(Option<u8>, &[u8]), DelimFault>
 
 /// What a backslash and this byte stand for.
 fn escape(byte: u8) -> Result<Option<u8>, DelimFault>
-    ensures { Gives (λ d. d) fault_meant result (escape byte) }
+    ensures { result ≡ escape byte }
 {
     match byte {
         b'n' => Ok(Some(b'\n')),

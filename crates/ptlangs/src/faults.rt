@@ -4,9 +4,9 @@
 #[derive(Debug, Clone, Copy, PartialEq, Eq)]
 pub enum SetString {
     /// The first operand, `string1`.
-    First,
+    First = 1,
     /// The second operand, `string2`.
-    Second,
+    Second = 2,
 }
 
 /// Why a string of `tr` stands for no array of bytes (POSIX.1-2017, XCU, tr, "EXTENDED
@@ -15,29 +15,29 @@ pub enum SetString {
 #[derive(Debug, Clone, Copy, PartialEq, Eq)]
 pub enum SetFaultKind {
     /// The string is empty. This project's own choice.
-    Empty,
+    Empty = 1,
     /// An octal escape is above 255. This project's own choice.
-    Octal,
+    Octal = 2,
     /// A backslash ends the string. This project's own choice.
-    Escape,
+    Escape = 3,
     /// The first end of a range is above its second. This project's own choice.
-    Descending,
+    Descending = 4,
     /// `[:name:]` names no class of characters.
-    UnknownClass,
+    UnknownClass = 5,
     /// A class stands in a `string2` that translates, and does not face its other case in
     /// `string1`. That a complement has none to face is this project's own choice.
-    ClassPlace,
+    ClassPlace = 6,
     /// `[=c=]` stands in a `string2` that translates.
-    EquivPlace,
+    EquivPlace = 7,
     /// `[c*n]` stands in `string1`.
-    RepeatPlace,
+    RepeatPlace = 8,
     /// The count of `[c*n]` has a digit 8 or 9 behind a leading zero, or is above 65535. This
     /// project's own choice.
-    RepeatSize,
+    RepeatSize = 9,
     /// A second `[c*]` or `[c*0]` stands in `string2`. This project's own choice.
-    SecondFill,
+    SecondFill = 10,
     /// Memory ran out. The reading of strings takes none, and never answers this.
-    Memory,
+    Memory = 11,
 }
 
 /// Which string of `tr` is refused, and why.

@@ -31,7 +31,9 @@ pub fn decimal(text: &[u8]) -> Option<u64>
 /// The first element of a list, and what stands behind the comma, space or tab that ends it, or
 /// `None` if nothing ends it.
 pub(crate) fn first_element(text: &[u8]) -> (&[u8], Option<&[u8]>)
-    ensures first { MatchOption result.1 (elements text.now ≡ result.0.now ∷ []) (λ behind. elements text.now ≡ result.0.now ∷ elements behind.now) }
+    ensures first { MatchOption result.1
+        (elements text.now ≡ result.0.now ∷ [])
+        (λ behind. elements text.now ≡ result.0.now ∷ elements behind.now) }
     ensures shorter { MatchOption result.1 (result.0.now ≡ text.now) (λ behind. length behind.now < length text.now) }
 {
     match text.iter().position(|byte| is_separator(*byte)) {

@@ -1,7 +1,7 @@
 //! The output list of `join`: which fields of a pair of lines are written.
 ghost use Rattle.std.specs.Prelude.{◌≡◌};
 ghost use Rattle.ptlangs.specs.Answers.{Gives};
-ghost use Rattle.ptlangs.specs.OutLists.{AcceptsTheGrammar, fault_meant, field_of, element, out_list, field_at};
+ghost use Rattle.ptlangs.specs.OutLists.{AcceptsTheGrammar, fault_of, field_of, element, out_list, field_at};
 
 use crate::numbers::{decimal, first_element, is_decimal};
 use std::alloc::{AllocError, AllocFailed, Allocator, Global};
@@ -10,8 +10,8 @@ use std::marker::Model;
 /// One of the two files of `join`.
 #[derive(Clone, Copy, Debug, PartialEq, Eq)]
 pub enum File {
-    First,
-    Second,
+    First = 1,
+    Second = 2,
 }
 
 /// What one element of an output list stands for.
@@ -27,15 +27,15 @@ pub enum OutField {
 #[derive(Clone, Copy, Debug, PartialEq, Eq)]
 pub enum OutFault {
     /// An element is empty. So is the only element of an empty list.
-    Empty,
+    Empty = 1,
     /// An element is none of `0`, `1.n` and `2.n`.
-    Malformed,
+    Malformed = 2,
     /// The number of a field is zero; fields count from 1.
-    Zero,
+    Zero = 3,
     /// The number of a field is above `u64::MAX`.
-    TooLarge,
+    TooLarge = 4,
     /// A growth of memory was refused.
-    Memory,
+    Memory = 5,
 }
 
 impl From<AllocError> for OutFault {
@@ -84,7 +84,7 @@ impl<A: Allocator> OutList<A> {
     ///
     /// The fault of the first faulty element, or `Memory`.
     pub fn read(alloc: A, text: &[u8]) -> Result<OutList<A>, OutFault>
-        ensures { Gives (λ l. l) fault_meant result (out_list text.now) }
+        ensures { Gives (λ l. l) fault_of result (out_list text.now) }
     {
         let mut kept = Vec::new(alloc);
         let mut left = text;
@@ -126,7 +126,7 @@ pub fn accepts_the_grammar()
 
 /// The field that one element stands for.
 fn read_element(text: &[u8]) -> Result<OutField, OutFault>
-    ensures { Gives (λ f. f) fault_meant result (element text.now) }
+    ensures { result ≡ element text.now }
 {
     match text {
         [] => Err(OutFault::Empty),
@@ -139,7 +139,7 @@ fn read_element(text: &[u8]) -> Result<OutField, OutFault>
 
 /// The field of a file with this number.
 fn read_field(file: File, number: &[u8]) -> Result<OutField, OutFault>
-    ensures { Gives (λ f. f) fault_meant result (field_of file number.now) }
+    ensures { result ≡ field_of file number.now }
 {
     if !is_decimal(number) {
         return Err(OutFault::Malformed);

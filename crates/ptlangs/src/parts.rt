@@ -5,8 +5,9 @@ ghost use Rattle.std.specs.List.{take_while, list_all, AllPass};
 ghost use Rattle.std.specs.Result.{result_map_both};
 ghost use Rattle.std.specs.Char.{is_ascii_digit, is_ascii_lowercase};
 ghost use Rattle.ptlangs.specs.declared.faults.SetFaultKind.{SetFaultKind};
-ghost use Rattle.ptlangs.specs.TrUnits.{is_octal_digit, units};
+ghost use Rattle.ptlangs.specs.TrUnits.{is_octal_digit, units, UnitsAreSpelled};
 ghost use Rattle.ptlangs.specs.TrParts.{behind, behind_two, behind_run, plain_run, repeat_at, class_at, equivalence_at, form_inside, form_at, first_part, from_byte, repeat_count, IsGrammar};
+ghost use Rattle.ptlangs.specs.TrPlan.{FaultsAreFirst};
 ghost use Rattle.ptlangs.specs.TrReading.{found_in, ok_map, units_from};
 
 use crate::classes::CharClass;
@@ -228,8 +229,10 @@ fn range(text: &[u8], first: u8, at: usize) -> Result<(Part, usize), SetFaultKin
     Ok((Part::Range(first, last), next))
 }
 
-/// The parts that are read are those of the grammar of POSIX.1-2017 (XCU, tr), as
-/// `specs/TrParts.antt` states it case by case.
+/// The units and parts that are read are those of the grammar of POSIX.1-2017 (XCU, tr), as `specs/TrUnits.antt` and
+/// `specs/TrParts.antt` state it case by case, and a string is refused for the fault of its first faulty part.
 pub fn parts_are_of_the_grammar()
-    ensures { IsGrammar }
+    ensures units { UnitsAreSpelled }
+    ensures parts { IsGrammar }
+    ensures faults { FaultsAreFirst }
 {}

@@ -1,7 +1,7 @@
 //! The list of `cut`: which bytes, characters or fields of a line are selected.
 ghost use Rattle.std.specs.Prelude.{◌≡◌, ◌≤◌, ◌<◌, IfOk, IsTrue, MatchResult};
 ghost use Rattle.ptlangs.specs.Answers.{Gives};
-ghost use Rattle.ptlangs.specs.CutLists.{AcceptsTheGrammar, fault_meant, is_end, value_or, ends, judged, element, cut_list, is_selected, selection, AreApart, AreInOrder};
+ghost use Rattle.ptlangs.specs.CutLists.{AcceptsTheGrammar, fault_of, is_end, value_or, ends, checked, element, cut_list, is_selected, selection, AreApart, AreInOrder};
 ghost use Rattle.ptlangs.specs.Numbers.{greatest};
 
 use crate::numbers::{decimal, first_element, is_decimal};
@@ -19,17 +19,17 @@ pub struct Interval {
 #[derive(Clone, Copy, Debug, PartialEq, Eq)]
 pub enum ListFault {
     /// An element is empty. So is the only element of an empty list.
-    Empty,
+    Empty = 1,
     /// A number is zero; numbers count from 1.
-    Zero,
+    Zero = 2,
     /// The first number of an element is above the second.
-    Descending,
+    Descending = 3,
     /// A number is above `u64::MAX`.
-    TooLarge,
+    TooLarge = 4,
     /// An element is none of `n`, `n-m`, `-m` and `n-`.
-    Malformed,
+    Malformed = 5,
     /// A growth of memory was refused.
-    Memory,
+    Memory = 6,
 }
 
 impl From<AllocError> for ListFault {
@@ -81,7 +81,7 @@ impl<A: Allocator + Copy> Ranges<A> {
     ///
     /// The fault of the first faulty element, or `Memory`.
     pub fn read(alloc: A, text: &[u8]) -> Result<Ranges<A>, ListFault>
-        ensures { Gives is_selected fault_meant result (selection text.now) }
+        ensures { Gives is_selected fault_of result (selection text.now) }
     {
         let mut listed = read_elements(alloc, text)?;
         listed.sort_unstable_by_key(|interval| interval.first);
@@ -116,7 +116,7 @@ pub fn accepts_the_grammar()
 
 /// The intervals of the list's elements, in their order.
 fn read_elements<A: Allocator>(alloc: A, text: &[u8]) -> Result<Vec<Interval, A>, ListFault>
-    ensures { Gives (λ v. v.items) fault_meant result (cut_list text.now) }
+    ensures { Gives (λ v. v.items) fault_of result (cut_list text.now) }
 {
     let mut listed = Vec::new(alloc);
     let mut left = text;
@@ -132,7 +132,7 @@ fn read_elements<A: Allocator>(alloc: A, text: &[u8]) -> Result<Vec<Interval, A>
 
 /// The interval of one element.
 fn read_element(text: &[u8]) -> Result<Interval, ListFault>
-    ensures { Gives (λ r. r) fault_meant result (element text.now) }
+    ensures { result ≡ element text.now }
 {
     if text.is_empty() {
         return Err(ListFault::Empty);
@@ -145,7 +145,7 @@ fn read_element(text: &[u8]) -> Result<Interval, ListFault>
 
 /// The interval from the first number to the last.
 fn read_ends(first: &[u8], last: &[u8]) -> Result<Interval, ListFault>
-    ensures { Gives (λ r. r) fault_meant result (judged (ends first.now last.now)) }
+    ensures { result ≡ checked (ends first.now last.now) }
 {
     if !is_end(first) || !is_end(last) || (first.is_empty() && last.is_empty()) {
         return Err(ListFault::Malformed);
@@ -171,7 +171,9 @@ fn is_end(text: &[u8]) -> bool
 /// The number beside a dash, or the one that stands for nothing there.
 fn read_end(text: &[u8], default: u64) -> Result<u64, ListFault>
     requires { IsTrue (is_end text.now) }
-    ensures { MatchResult result (λ n. (n ≡ value_or default text.now) × (n ≤ greatest)) (λ e. (e ≡ ListFault.TooLarge) × (greatest < value_or default text.now)) }
+    ensures { MatchResult result
+        (λ n. (n ≡ value_or default text.now) × (n ≤ greatest))
+        (λ e. (e ≡ ListFault.TooLarge) × (greatest < value_or default text.now)) }
 {
     if text.is_empty() {
         return Ok(default);

@@ -5,9 +5,10 @@ use Rattle.std.proofs.lemmas.Bool.{cases_Bool, cases_eq, eq-eqb, ne_eqb}
 use Rattle.std.proofs.lemmas.List.{map-append}
 use Rattle.ptopts.specs.declared.reading.GivenOption as given
 use Rattle.ptopts.specs.declared.tool.Tool.{Tool}
-use Rattle.ptopts.specs.Words.{is_flag, takes_value, is_empty, GivenOption, flag, Event, Given, Stranger, valued_event, events_in, events_of, takes_next}
+use Rattle.ptlangs.specs.Numbers.{is_empty}
+use Rattle.ptopts.specs.Words.{is_flag, takes_value, GivenOption, flag, Event, Given, Stranger, valued_event, events_in, events_of, takes_next}
 use Rattle.ptopts.specs.Faults.{Fault, event_fault, reading_fault}
-use Rattle.ptopts.specs.Answers.{options_among, option_seen, options_seen, ReadsGroup}
+use Rattle.ptopts.specs.Steps.{options_among, option_seen, options_seen, ReadsGroup}
 
 -- what was read of a word, and what stands before these letters of it, are the whole
 pub record Ahead (tool : Tool) (word : List ℕ) (next : Option (List ℕ)) (before os : List GivenOption) (letters : List ℕ) : Type 0 where

@@ -5,9 +5,7 @@ pub mod Seen
 pub mod Groups
 pub mod Readings
 pub mod Chosen
-mod CutRows
-mod PasteRows
-mod UniqRows
-mod CommRows
-mod JoinRows
-mod TrRows
+pub mod Judged
+pub mod RowWords
+mod RefusedRows
+mod MeantRows

@@ -6,7 +6,8 @@ use Rattle.std.specs.Option.{option_or}
 use Rattle.std.proofs.lemmas.Bool.{and_from, eqb-true, cases_Bool, not_from_false}
 use Rattle.std.proofs.lemmas.Slice.Eq.{bytes_eq-Decides}
 use Rattle.ptopts.specs.declared.tool.Tool.{Tool}
-use Rattle.ptopts.specs.Words.{is_flag, takes_value, is_empty, is_dashed, is_end_of_options, GivenOption, flag, with_value, AreFlags, Spells, OperandsAlone, EndOfOptions, Flags, ValueAttached, ValueNext, Event, Given, Wanting, Stranger, valued_event, events_in, takes_next, Reading, reading_from, option_in, options}
+use Rattle.ptlangs.specs.Numbers.{is_empty}
+use Rattle.ptopts.specs.Words.{is_flag, takes_value, is_dashed, is_end_of_options, GivenOption, flag, with_value, AreFlags, Spells, OperandsAlone, EndOfOptions, Flags, ValueAttached, ValueNext, Event, Given, Wanting, Stranger, valued_event, events_in, takes_next, Reading, reading_from, option_in, options}
 use Rattle.ptopts.specs.Faults.{Twice, NeedsValue, is_spent, event_fault, reading_fault}
 use Rattle.ptopts.specs.Laws.{ReadAsSpelled, SpelledOneWay, SpelledUnlessFaulty}
 use Rattle.ptopts.proofs.Spelled.{spelled, read_as, events_in-flags, events_in-all_flags, takes_next-flags, takes_next-all_flags}
@@ -19,17 +20,17 @@ all_given-map : (os : List GivenOption) → all_given (map Given os) ≡ true
 all_given-map [] = refl
 all_given-map (o ∷ os) = all_given-map os
 
-all_given-behind : (os : List GivenOption) (events : List Event) → all_given (map Given os ++ events) ≡ all_given events
-all_given-behind [] events = refl
-all_given-behind (o ∷ os) events = all_given-behind os events
+all_given-prefixed : (os : List GivenOption) (events : List Event) → all_given (map Given os ++ events) ≡ all_given events
+all_given-prefixed [] events = refl
+all_given-prefixed (o ∷ os) events = all_given-prefixed os events
 
 pub options-map : (os : List GivenOption) → filter_map option_in (map Given os) ≡ os
 options-map [] = refl
 options-map (o ∷ os) = ap (λ (xs : List GivenOption). o ∷ xs) (options-map os)
 
-options-behind : (os : List GivenOption) (events : List Event) → filter_map option_in (map Given os ++ events) ≡ os ++ filter_map option_in events
-options-behind [] events = refl
-options-behind (o ∷ os) events = ap (λ (xs : List GivenOption). o ∷ xs) (options-behind os events)
+options-prefixed : (os : List GivenOption) (events : List Event) → filter_map option_in (map Given os ++ events) ≡ os ++ filter_map option_in events
+options-prefixed [] events = refl
+options-prefixed (o ∷ os) events = ap (λ (xs : List GivenOption). o ∷ xs) (options-prefixed os events)
 
 -- letters are flags, or flags and one that is none
 data Split (tool : Tool) : List ℕ → Type 0 where
@@ -65,8 +66,8 @@ flags_spelled : (tool : Tool) (f : ℕ) (fs : List ℕ) (ws : List (List ℕ)) �
     → GroupIsSpelled tool (45 ∷ f ∷ fs) ws (map Given (map flag (f ∷ fs))) false
 flags_spelled tool f fs ws a more given =
     let r = reading_from tool false ws in
-    let s : Spells tool ws (options r) r.operands = more (sym (all_given-behind (map flag (f ∷ fs)) r.events) ∙ given) in
-    subst (λ (os : List GivenOption). Spells tool ((45 ∷ f ∷ fs) ∷ ws) os r.operands) (sym (options-behind (map flag (f ∷ fs)) r.events)) (Flags f fs ws (options r) r.operands a s)
+    let s : Spells tool ws (options r) r.operands = more (sym (all_given-prefixed (map flag (f ∷ fs)) r.events) ∙ given) in
+    subst (λ (os : List GivenOption). Spells tool ((45 ∷ f ∷ fs) ∷ ws) os r.operands) (sym (options-prefixed (map flag (f ∷ fs)) r.events)) (Flags f fs ws (options r) r.operands a s)
 
 attached_spelled : (tool : Tool) (fs : List ℕ) (l b : ℕ) (bs : List ℕ) (ws : List (List ℕ)) → AreFlags tool fs → takes_value tool l ≡ true → IsSpelled tool ws false
     → GroupIsSpelled tool (45 ∷ fs ++ l ∷ b ∷ bs) ws (map Given (map flag fs) ++ Given (with_value l (b ∷ bs)) ∷ []) false
@@ -75,9 +76,9 @@ attached_spelled tool fs l b bs ws a t more given =
     let o : GivenOption = with_value l (b ∷ bs) in
     let e : (map Given (map flag fs) ++ Given o ∷ []) ++ r.events ≡ map Given (map flag fs) ++ (Given o ∷ r.events) = append_assoc (map Given (map flag fs)) (Given o ∷ []) r.events in
     let g : all_given (map Given (map flag fs) ++ (Given o ∷ r.events)) ≡ true = subst (λ (es : List Event). all_given es ≡ true) e given in
-    let s : Spells tool ws (options r) r.operands = more (sym (all_given-behind (map flag fs) (Given o ∷ r.events)) ∙ g) in
+    let s : Spells tool ws (options r) r.operands = more (sym (all_given-prefixed (map flag fs) (Given o ∷ r.events)) ∙ g) in
     subst (λ (os : List GivenOption). Spells tool ((45 ∷ fs ++ l ∷ b ∷ bs) ∷ ws) os r.operands)
-    (sym (ap (λ (es : List Event). filter_map option_in es) e ∙ options-behind (map flag fs) (Given o ∷ r.events)))
+    (sym (ap (λ (es : List Event). filter_map option_in es) e ∙ options-prefixed (map flag fs) (Given o ∷ r.events)))
     (ValueAttached fs l b bs ws (options r) r.operands a t s)
 
 next_spelled : (tool : Tool) (fs : List ℕ) (l : ℕ) (value : List ℕ) (ws : List (List ℕ)) → AreFlags tool fs → takes_value tool l ≡ true → IsSpelled tool (value ∷ ws) true
@@ -87,9 +88,9 @@ next_spelled tool fs l value ws a t more given =
     let o : GivenOption = with_value l value in
     let e : (map Given (map flag fs) ++ Given o ∷ []) ++ r.events ≡ map Given (map flag fs) ++ (Given o ∷ r.events) = append_assoc (map Given (map flag fs)) (Given o ∷ []) r.events in
     let g : all_given (map Given (map flag fs) ++ (Given o ∷ r.events)) ≡ true = subst (λ (es : List Event). all_given es ≡ true) e given in
-    let s : Spells tool ws (options r) r.operands = more (sym (all_given-behind (map flag fs) (Given o ∷ r.events)) ∙ g) in
+    let s : Spells tool ws (options r) r.operands = more (sym (all_given-prefixed (map flag fs) (Given o ∷ r.events)) ∙ g) in
     subst (λ (os : List GivenOption). Spells tool ((45 ∷ fs ++ l ∷ []) ∷ value ∷ ws) os r.operands)
-    (sym (ap (λ (es : List Event). filter_map option_in es) e ∙ options-behind (map flag fs) (Given o ∷ r.events)))
+    (sym (ap (λ (es : List Event). filter_map option_in es) e ∙ options-prefixed (map flag fs) (Given o ∷ r.events)))
     (ValueNext fs l value ws (options r) r.operands a t s)
 
 -- an event that is no option is among these

@@ -3,9 +3,9 @@ use Rattle.std.proofs.Common.{◌≡◌, ℕ, List, [], ◌∷◌, ◌++◌, Boo
 use Rattle.std.specs.Prelude.{slice_get, OnSome}
 use Rattle.std.proofs.lemmas.List.Elements.{filter_map-append}
 use Rattle.ptopts.specs.declared.tool.Tool.{Tool}
-use Rattle.ptopts.specs.Words.{is_dashed, is_end_of_options, GivenOption, Event, events_of, takes_next, Reading, reading, reading_from, behind, option_in, options}
+use Rattle.ptopts.specs.Words.{is_dashed, is_end_of_options, GivenOption, Event, events_of, takes_next, Reading, reading, reading_from, prefixed, option_in, options}
 use Rattle.ptopts.specs.Faults.{Fault, reading_fault}
-use Rattle.ptopts.specs.Answers.{options_among, behind_taken, ReadsGroup, ReadsWords}
+use Rattle.ptopts.specs.Steps.{options_among, behind_taken, ReadsGroup, ReadsWords}
 
 -- what was read of the words, and what these words behind it are, are the whole
 pub record Reads (tool : Tool) (words : List (List ℕ)) (os : List GivenOption) (left : List (List ℕ)) : Type 0 where
@@ -44,9 +44,9 @@ module _ (tool : Tool) (words : List (List ℕ)) where
   reads_end_of_options os word more ends r = reads_end os (word ∷ more) more (rw ends refl) r
 
   reading-group : (word : List ℕ) (more : List (List ℕ)) (taken : Bool) → is_end_of_options word ≡ false → is_dashed word ≡ true → taken ≡ takes_next tool (drop 1 word)
-      → reading tool (word ∷ more) ≡ behind (events_of tool word (slice_get more 0)) (reading tool (behind_taken taken more))
+      → reading tool (word ∷ more) ≡ prefixed (events_of tool word (slice_get more 0)) (reading tool (behind_taken taken more))
   reading-group word more taken ends dashed takes =
-      rw (ends, dashed, takes) (ap (λ (r : Reading). behind (events_of tool word (slice_get more 0)) r) (reading_from-taken tool (takes_next tool (drop 1 word)) more))
+      rw (ends, dashed, takes) (ap (λ (r : Reading). prefixed (events_of tool word (slice_get more 0)) r) (reading_from-taken tool (takes_next tool (drop 1 word)) more))
 
   pub reads_group : (os os' : List GivenOption) (word : List ℕ) (more : List (List ℕ)) (taken : Bool) → is_end_of_options word ≡ false → is_dashed word ≡ true
       → ReadsGroup tool word (slice_get more 0) os os' taken

@@ -5,7 +5,7 @@ use Rattle.std.proofs.lemmas.Bool.{cases_Bool}
 use Rattle.std.specs.List.{list_any}
 use Rattle.ptopts.specs.declared.reading.GivenOption.{GivenOption}
 use Rattle.ptopts.specs.Words.{has, value_of}
-use Rattle.ptopts.specs.Answers.{options_seen}
+use Rattle.ptopts.specs.Steps.{options_seen}
 
 pub has-seen : (letter : ℕ) (os : List GivenOption) → list_any (λ o. o.letter == letter) os ≡ has letter (options_seen os)
 has-seen letter [] = refl

@@ -5,7 +5,8 @@ use Rattle.std.specs.List.{list_all}
 use Rattle.std.proofs.lemmas.Bool.{and_parts, eqb-true, or_cases, not-true, ne_eqb, cases_Bool, ltb-true}
 use Rattle.ptopts.specs.declared.tool.Tool.{Tool}
 use Rattle.ptopts.specs.declared.tool.Tool.TheVariants.{Cut, Paste, Uniq, Comm, Join, Tr}
-use Rattle.ptopts.specs.Words.{flags, valued, has_letter, is_flag, takes_value, GivenOption, flag, with_value, AreFlags, Spells, OperandsAlone, EndOfOptions, Flags, ValueAttached, ValueNext, Event, Given, events_in, takes_next, Reading, reading_from, behind, begins_with_operand}
+use Rattle.ptopts.specs.Syntax.{syntax}
+use Rattle.ptopts.specs.Words.{has_letter, is_flag, takes_value, GivenOption, flag, with_value, AreFlags, Spells, OperandsAlone, EndOfOptions, Flags, ValueAttached, ValueNext, Event, Given, events_in, takes_next, Reading, reading_from, prefixed, begins_with_operand}
 
 -- what passes for each letter of a list passes for this one
 pub all_of : (p : ℕ → Bool) (cs : List ℕ) (l : ℕ) → list_all p cs ≡ true → has_letter l cs ≡ true → p l ≡ true
@@ -15,7 +16,7 @@ all_of p (c ∷ cs) l a h =
     ⊎_elim (λ e. subst (λ x. p x ≡ true) (eqb-true c l e) both.0) (all_of p cs l both.1) (or_cases (c == l) (has_letter l cs) h)
 
 -- no letter with a value is a flag
-disjoint : (tool : Tool) → list_all (λ l. not (is_flag tool l)) (valued tool) ≡ true
+disjoint : (tool : Tool) → list_all (λ l. not (is_flag tool l)) (syntax tool).valued ≡ true
 disjoint Cut = refl
 disjoint Paste = refl
 disjoint Uniq = refl
@@ -24,7 +25,7 @@ disjoint Join = refl
 disjoint Tr = refl
 
 pub no_flag : (tool : Tool) (l : ℕ) → takes_value tool l ≡ true → is_flag tool l ≡ false
-no_flag tool l h = not-true (is_flag tool l) (all_of (λ x. not (is_flag tool x)) (valued tool) l (disjoint tool) h)
+no_flag tool l h = not-true (is_flag tool l) (all_of (λ x. not (is_flag tool x)) (syntax tool).valued l (disjoint tool) h)
 
 -- a dash is no letter
 dash_is_no_flag : (tool : Tool) → is_flag tool 45 ≡ false
@@ -75,20 +76,20 @@ takes_next-all_flags tool (f ∷ fs) a =
 -- a group is a word of options
 group_is_read : (tool : Tool) (l : ℕ) (ls : List ℕ) (ws : List (List ℕ)) → ((l ≡ 45) → ⊥)
     → reading_from tool false ((45 ∷ l ∷ ls) ∷ ws)
-    ≡ behind (events_in tool (45 ∷ l ∷ ls) (slice_get ws 0) (l ∷ ls)) (reading_from tool (takes_next tool (l ∷ ls)) ws)
+    ≡ prefixed (events_in tool (45 ∷ l ∷ ls) (slice_get ws 0) (l ∷ ls)) (reading_from tool (takes_next tool (l ∷ ls)) ws)
 group_is_read tool l ls ws n = rw (ne_eqb l 45 n) refl
 
 -- of flags and a letter with a value
 valued_group : (tool : Tool) (fs : List ℕ) (l : ℕ) (rest : List ℕ) (ws : List (List ℕ)) → AreFlags tool fs → takes_value tool l ≡ true
     → reading_from tool false ((45 ∷ fs ++ l ∷ rest) ∷ ws)
-    ≡ behind (events_in tool (45 ∷ fs ++ l ∷ rest) (slice_get ws 0) (fs ++ l ∷ rest)) (reading_from tool (takes_next tool (fs ++ l ∷ rest)) ws)
-valued_group tool [] l rest ws a t = group_is_read tool l rest ws (not_dash l (valued tool) t (dash_takes_no_value tool))
+    ≡ prefixed (events_in tool (45 ∷ fs ++ l ∷ rest) (slice_get ws 0) (fs ++ l ∷ rest)) (reading_from tool (takes_next tool (fs ++ l ∷ rest)) ws)
+valued_group tool [] l rest ws a t = group_is_read tool l rest ws (not_dash l (syntax tool).valued t (dash_takes_no_value tool))
 valued_group tool (f ∷ fs) l rest ws a t =
-    group_is_read tool f (fs ++ l ∷ rest) ws (not_dash f (flags tool) (and_parts (is_flag tool f) (list_all (is_flag tool) fs) a).0 (dash_is_no_flag tool))
+    group_is_read tool f (fs ++ l ∷ rest) ws (not_dash f (syntax tool).flags (and_parts (is_flag tool f) (list_all (is_flag tool) fs) a).0 (dash_is_no_flag tool))
 
 -- what a group is read as, once its events and what it takes are known
 group_gives : (tool : Tool) (ws : List (List ℕ)) (es es' : List Event) (t t' : Bool) → es ≡ es' → t ≡ t'
-    → behind es (reading_from tool t ws) ≡ behind es' (reading_from tool t' ws)
+    → prefixed es (reading_from tool t ws) ≡ prefixed es' (reading_from tool t' ws)
 group_gives tool ws es es' t t' e f = cc
 
 pub map-Given-append : (xs ys : List GivenOption) → map Given (xs ++ ys) ≡ map Given xs ++ map Given ys
@@ -100,11 +101,11 @@ abbrev pub read_as : List GivenOption → List (List ℕ) → Reading
 read_as options operands = record { events = map Given options; operands = operands }
 
 join_flags : (fs : List ℕ) (options : List GivenOption) (operands : List (List ℕ))
-    → behind (map Given (map flag fs)) (read_as options operands) ≡ read_as (map flag fs ++ options) operands
+    → prefixed (map Given (map flag fs)) (read_as options operands) ≡ read_as (map flag fs ++ options) operands
 join_flags fs options operands = ap (λ (es : List Event). let r : Reading = record { events = es; operands = operands } in r) (sym (map-Given-append (map flag fs) options))
 
 join_group : (fs : List ℕ) (o : GivenOption) (options : List GivenOption) (operands : List (List ℕ))
-    → behind (map Given (map flag fs) ++ Given o ∷ []) (read_as options operands) ≡ read_as (map flag fs ++ o ∷ options) operands
+    → prefixed (map Given (map flag fs) ++ Given o ∷ []) (read_as options operands) ≡ read_as (map flag fs ++ o ∷ options) operands
 join_group fs o options operands =
     ap (λ (es : List Event). let r : Reading = record { events = es; operands = operands } in r)
     (append_assoc (map Given (map flag fs)) (Given o ∷ []) (map Given options) ∙ sym (map-Given-append (map flag fs) (o ∷ options)))
@@ -134,26 +135,26 @@ pub spelled : (tool : Tool) {ws : List (List ℕ)} {options : List GivenOption} 
 spelled tool (OperandsAlone operands first) = ends_here tool operands first
 spelled tool (EndOfOptions operands) = refl
 spelled tool (Flags f fs words options operands a s) =
-    group_is_read tool f fs words (not_dash f (flags tool) (and_parts (is_flag tool f) (list_all (is_flag tool) fs) a).0 (dash_is_no_flag tool))
+    group_is_read tool f fs words (not_dash f (syntax tool).flags (and_parts (is_flag tool f) (list_all (is_flag tool) fs) a).0 (dash_is_no_flag tool))
     ∙ (group_gives tool words _ _ _ _ (events_in-all_flags tool (45 ∷ f ∷ fs) (slice_get words 0) (f ∷ fs) a) (takes_next-all_flags tool (f ∷ fs) a)
-    ∙ (ap (behind (map Given (map flag (f ∷ fs)))) (spelled tool s) ∙ join_flags (f ∷ fs) options operands))
+    ∙ (ap (prefixed (map Given (map flag (f ∷ fs)))) (spelled tool s) ∙ join_flags (f ∷ fs) options operands))
 spelled tool (ValueAttached fs l b bs words options operands a t s) =
     let word : List ℕ = 45 ∷ fs ++ l ∷ b ∷ bs in
     valued_group tool fs l (b ∷ bs) words a t
     ∙ (group_gives tool words _ _ _ _
     (events_in-flags tool word (slice_get words 0) fs (l ∷ b ∷ bs) a ∙ ap (λ (es : List Event). map Given (map flag fs) ++ es) (value_here tool word (slice_get words 0) l b bs t))
     (takes_next-flags tool fs (l ∷ b ∷ bs) a ∙ takes_none tool l b bs t)
-    ∙ (ap (behind (map Given (map flag fs) ++ Given (with_value l (b ∷ bs)) ∷ [])) (spelled tool s) ∙ join_group fs (with_value l (b ∷ bs)) options operands))
+    ∙ (ap (prefixed (map Given (map flag fs) ++ Given (with_value l (b ∷ bs)) ∷ [])) (spelled tool s) ∙ join_group fs (with_value l (b ∷ bs)) options operands))
 spelled tool (ValueNext fs l value words options operands a t s) =
     let word : List ℕ = 45 ∷ fs ++ l ∷ [] in
     valued_group tool fs l [] (value ∷ words) a t
     ∙ (group_gives tool (value ∷ words) _ _ _ _
     (events_in-flags tool word (Some value) fs (l ∷ []) a ∙ ap (λ (es : List Event). map Given (map flag fs) ++ es) (value_next tool word value l t))
     (takes_next-flags tool fs (l ∷ []) a ∙ takes_one tool l t)
-    ∙ (ap (behind (map Given (map flag fs) ++ Given (with_value l value) ∷ [])) (spelled tool s) ∙ join_group fs (with_value l value) options operands))
+    ∙ (ap (prefixed (map Given (map flag fs) ++ Given (with_value l value) ∷ [])) (spelled tool s) ∙ join_group fs (with_value l value) options operands))
 
 -- the letters are ASCII
-valued_are_ascii : (tool : Tool) → list_all (λ l. nat_lt l 128) (valued tool) ≡ true
+valued_are_ascii : (tool : Tool) → list_all (λ l. nat_lt l 128) (syntax tool).valued ≡ true
 valued_are_ascii Cut = refl
 valued_are_ascii Paste = refl
 valued_are_ascii Uniq = refl
@@ -162,4 +163,4 @@ valued_are_ascii Join = refl
 valued_are_ascii Tr = refl
 
 pub valued_is_ascii : (tool : Tool) (l : ℕ) → takes_value tool l ≡ true → l < 128
-valued_is_ascii tool l h = ltb-true l 128 (all_of (λ x. nat_lt x 128) (valued tool) l (valued_are_ascii tool) h)
+valued_is_ascii tool l h = ltb-true l 128 (all_of (λ x. nat_lt x 128) (syntax tool).valued l (valued_are_ascii tool) h)

@@ -8,12 +8,16 @@ use Rattle.ptlangs.specs.CutLists.{selection}
 use Rattle.ptlangs.specs.DelimLists.{delim_list}
 use Rattle.ptlangs.specs.OutLists.{out_list}
 use Rattle.ptlangs.specs.Numbers.{number}
+use Rattle.ptlangs.specs.Jobs.{ending}
 use Rattle.ptlangs.specs.TrPlan.{Plan, plan}
 use Rattle.ptlangs.specs.declared.faults.SetFault.{SetFault}
 use Rattle.ptlangs.specs.declared.plan.Form.{Form}
 use Rattle.ptlangs.specs.declared.plan.Form.TheVariants.{Translate, TranslateSqueeze, Squeeze, Delete, DeleteSqueeze}
 use Rattle.ptopts.specs.declared.tool.Tool.{Tool}
 use Rattle.ptopts.specs.declared.tool.Tool.TheVariants.{Cut, Paste, Uniq, Comm, Join, Tr}
+use Rattle.ptopts.specs.declared.tool.Combination.{Combination}
+use Rattle.ptopts.specs.declared.tool.Combination.TheVariants.{Apart, OneOf}
+use Rattle.ptopts.specs.Syntax.{syntax}
 use Rattle.ptopts.specs.Words.{GivenOption, Event, Given, Wanting, Stranger, has, has_letter, value_of, values_of}
 
 pub data Fault : Type 0 where
@@ -36,18 +40,9 @@ first_of (o ∷ os) = option_or o (first_of os)
 
 -- ---- reading faults
 
--- the letters with a value that may be given again
-abbrev pub repeatable : Tool → List ℕ
-repeatable Cut = []
-repeatable Paste = []
-repeatable Uniq = []
-repeatable Comm = []
-repeatable Join = codes "av"
-repeatable Tr = []
-
 -- the letter was given, and may not be again
 abbrev pub is_spent : Tool → List GivenOption → ℕ → Bool
-is_spent tool before letter = has letter before && not (has_letter letter (repeatable tool))
+is_spent tool before letter = has letter before && not (has_letter letter (syntax tool).repeatable)
 
 -- the fault of what stands at a letter, after these options
 abbrev pub event_fault : Tool → List GivenOption → Event → Option Fault
@@ -67,32 +62,21 @@ reading_fault tool before (event ∷ events) = option_or (event_fault tool befor
 
 -- ---- combinations
 
--- both letters were given
-abbrev pub together : List GivenOption → ℕ × ℕ → Option Fault
-together options (a, b) = if has a options && has b options then Some (Together a b) else None
+-- the value of the first of these letters that has one
+abbrev pub value_among : List ℕ → List GivenOption → Option (List ℕ)
+value_among letters options = first_of (map (λ letter. value_of letter options) letters)
 
--- the first pair of which both were given
-abbrev pub first_together : List GivenOption → List (ℕ × ℕ) → Option Fault
-first_together options pairs = first_of (map (together options) pairs)
+-- two letters were given that do not go together, or none of those of which one is needed
+abbrev pub combined_fault : List GivenOption → Combination → Option Fault
+combined_fault options (Apart a b) = if has a options && has b options then Some (Together a b) else None
+combined_fault options (OneOf a b c) = if is_some (value_among (a ∷ b ∷ c ∷ []) options) then None else Some NeedsList
+
+abbrev pub combination_fault : Tool → List GivenOption → Option Fault
+combination_fault tool options = first_of (map (combined_fault options) (syntax tool).combinations)
 
 -- the list of cut, which one of three letters takes
 abbrev pub list_given : List GivenOption → Option (List ℕ)
-list_given options = option_or (value_of (byte "b") options) (option_or (value_of (byte "c") options) (value_of (byte "f") options))
-
-abbrev pub needs_list : List GivenOption → Option Fault
-needs_list options = if is_some (list_given options) then None else Some NeedsList
-
-abbrev pub combination_fault : Tool → List GivenOption → Option Fault
-combination_fault Cut options = first_of (
-    first_together options ((byte "b", byte "c") ∷ (byte "b", byte "f") ∷ (byte "c", byte "f") ∷ [])
-    ∷ needs_list options
-    ∷ first_together options ((byte "c", byte "n") ∷ (byte "f", byte "n") ∷ (byte "b", byte "d") ∷ (byte "c", byte "d") ∷ (byte "b", byte "s") ∷ (byte "c", byte "s") ∷ [])
-    ∷ [])
-combination_fault Paste options = None
-combination_fault Uniq options = first_together options ((byte "c", byte "d") ∷ (byte "c", byte "u") ∷ (byte "d", byte "u") ∷ [])
-combination_fault Comm options = None
-combination_fault Join options = first_together options ((byte "a", byte "v") ∷ [])
-combination_fault Tr options = first_together options ((byte "c", byte "C") ∷ [])
+list_given options = value_among (codes "bcf") options
 
 -- ---- values
 
@@ -113,10 +97,14 @@ is_delimiter_list value = is_ok (delim_list value)
 abbrev pub is_output_list : List ℕ → Bool
 is_output_list value = is_ok (out_list value)
 
--- one byte that is no newline
-abbrev pub is_delimiter : List ℕ → Bool
-is_delimiter (b ∷ []) = not (b == 10)
-is_delimiter _ = false
+-- the byte that ends a line
+abbrev pub end_given : List GivenOption → ℕ
+end_given options = ending (has (byte "z") options)
+
+-- one byte that ends no line
+abbrev pub is_delimiter : ℕ → List ℕ → Bool
+is_delimiter end (b ∷ []) = not (b == end)
+is_delimiter end _ = false
 
 -- a number, 0 too
 abbrev pub is_count : List ℕ → Bool
@@ -132,14 +120,18 @@ is_file_number value = bytes_eq value (codes "1") || bytes_eq value (codes "2")
 
 -- the first value that is refused
 abbrev pub values_fault : Tool → List GivenOption → Option Fault
-values_fault Cut options = first_of (map (value_fault options) ((byte "b", is_cut_list) ∷ (byte "c", is_cut_list) ∷ (byte "f", is_cut_list) ∷ (byte "d", is_delimiter) ∷ []))
+values_fault Cut options = first_of (map (value_fault options) (
+    (byte "b", is_cut_list) ∷ (byte "c", is_cut_list) ∷ (byte "f", is_cut_list)
+    ∷ (byte "d", is_delimiter (end_given options)) ∷ []))
 values_fault Paste options = value_fault options (byte "d", is_delimiter_list)
 values_fault Uniq options = first_of (map (value_fault options) ((byte "f", is_count) ∷ (byte "s", is_count) ∷ []))
 values_fault Comm options = None
 values_fault Join options = first_of (
     each_value_fault options (byte "a", is_file_number)
     ∷ each_value_fault options (byte "v", is_file_number)
-    ∷ map (value_fault options) ((byte "o", is_output_list) ∷ (byte "t", is_delimiter) ∷ (byte "1", is_field_number) ∷ (byte "2", is_field_number) ∷ []))
+    ∷ map (value_fault options) (
+    (byte "o", is_output_list) ∷ (byte "t", is_delimiter (end_given options))
+    ∷ (byte "1", is_field_number) ∷ (byte "2", is_field_number) ∷ []))
 values_fault Tr options = None
 
 -- ---- operands
@@ -147,32 +139,23 @@ values_fault Tr options = None
 abbrev pub is_between : ℕ → ℕ → ℕ → Bool
 is_between low high n = nat_le low n && nat_le n high
 
--- tr has two operands, or with one of -d and -s one (for -s two as well)
-abbrev pub tr_operands : Bool → Bool → ℕ → Bool
-tr_operands deletes squeezes n =
-    if deletes && not squeezes then n == 1 else (if squeezes && not deletes then is_between 1 2 n else n == 2)
+-- tr takes one string where it only deletes, one or two where it only squeezes, and else two
+abbrev pub fits_form : Tool → List GivenOption → ℕ → Bool
+fits_form Tr options n =
+    if has (byte "d") options then (if has (byte "s") options then n == 2 else n == 1)
+    else has (byte "s") options || n == 2
+fits_form _ options n = true
 
 abbrev pub has_right_number : Tool → List GivenOption → ℕ → Bool
-has_right_number Cut options n = nat_le n 512
-has_right_number Paste options n = is_between 1 512 n
-has_right_number Uniq options n = nat_le n 2
-has_right_number Comm options n = n == 2
-has_right_number Join options n = n == 2
-has_right_number Tr options n = tr_operands (has (byte "d") options) (has (byte "s") options) n
+has_right_number tool options n = is_between (syntax tool).least (syntax tool).most n && fits_form tool options n
 
 abbrev pub is_standard : List ℕ → Bool
 is_standard word = bytes_eq word (codes "-")
 
--- the tools that read two files, and standard input for one of them at most
-abbrev pub merges : Tool → Bool
-merges Comm = true
-merges Join = true
-merges _ = false
-
 abbrev pub operands_fault : Tool → List GivenOption → List (List ℕ) → Option Fault
 operands_fault tool options operands =
     if not (has_right_number tool options (length operands)) then Some Operands
-    else (if merges tool && list_all is_standard operands then Some StandardTwice else None)
+    else (if (syntax tool).once && list_all is_standard operands then Some StandardTwice else None)
 
 -- ---- strings
 

@@ -1,40 +1,55 @@
--- What a command is, beside what its words mean.
-use Rattle.std.specs.Prelude.{◌≡◌, ℕ, List, [], ◌∷◌, None, Result, Ok, Err, IsSome, codes}
-use Rattle.ptlangs.specs.Answers.{IsFault}
+-- What is answered, beside what the words mean.
+use Rattle.std.specs.Prelude.{ℕ, List, [], ◌∷◌, Option, Some, None, Result, IsSome, map, option_map}
+use Rattle.std.specs.Borrow.{Bor}
+use Rattle.ptlangs.specs.Answers.{Gives}
 use Rattle.ptlangs.specs.Jobs as jobs
 use Rattle.ptopts.specs.declared.command.Command as code
 use Rattle.ptopts.specs.declared.command.Command.TheVariants.{Cut, Paste, Uniq, Comm, Join, Tr}
 use Rattle.ptopts.specs.declared.fault.UseFault.{UseFault}
+use Rattle.ptopts.specs.declared.fault.UseFault.TheVariants.{Tool, Unknown, NeedsValue, Twice, Together, Value, Operands, StandardTwice, NeedsList, String, Memory}
 use Rattle.ptopts.specs.declared.inputs.Inputs.{Inputs}
 use Rattle.ptopts.specs.Words.{tool_named}
+use Rattle.ptopts.specs.Faults as faults
 use Rattle.ptopts.specs.Faults.{Fault}
-use Rattle.ptopts.specs.Commands.{Command, RunCut, RunPaste, RunUniq, RunComm, RunJoin, RunTr}
-use Rattle.ptopts.specs.Answers.{meant}
-use Rattle.ptopts.specs.Inputs.{IsInputs}
+use Rattle.ptopts.specs.Commands.{Job, RunCut, RunPaste, RunUniq, RunComm, RunJoin, RunTr, Command}
 
--- a command is the one that is meant
-abbrev pub IsCommand : {A : Type 0} → code.Command A → Command → Type 0
-IsCommand (Cut j inputs) (RunCut job operands) = (jobs.cut_job j ≡ job) × IsInputs inputs operands None
-IsCommand (Paste j inputs) (RunPaste job operands) = (jobs.paste_job j ≡ job) × IsInputs inputs operands None
-IsCommand (Uniq j inputs) (RunUniq job input output) = (jobs.uniq_job j ≡ job) × IsInputs inputs (input ∷ []) output
-IsCommand (Comm j inputs) (RunComm job operands) = (jobs.comm_job j ≡ job) × IsInputs inputs operands None
-IsCommand (Join j inputs) (RunJoin job operands) = (jobs.join_job j ≡ job) × IsInputs inputs operands None
-IsCommand (Tr plan inputs) (RunTr tables) = (plan ≡ tables) × IsInputs inputs (codes "-" ∷ []) None
-IsCommand _ _ = ⊥
+abbrev pub words_seen : List (Bor (List ℕ)) → List (List ℕ)
+words_seen words = map (λ w. w.now) words
+
+-- the fault of the words that is told, none for want of memory
+abbrev pub meant : UseFault → Option Fault
+meant Tool = Some faults.NoTool
+meant (Unknown word) = Some (faults.Unknown word.now)
+meant (NeedsValue letter) = Some (faults.NeedsValue letter)
+meant (Twice letter) = Some (faults.Twice letter)
+meant (Together a b) = Some (faults.Together a b)
+meant (Value letter value) = Some (faults.Value letter value.now)
+meant Operands = Some faults.Operands
+meant StandardTwice = Some faults.StandardTwice
+meant NeedsList = Some faults.NeedsList
+meant (String fault) = Some (faults.InString fault)
+meant Memory = None
+
+abbrev pub beside : {A : Type 0} → Job → Inputs A → Command
+beside job inputs = record {
+  job = job;
+  order = inputs.order.items;
+  names = words_seen inputs.names.items;
+  output = option_map (λ w. w.now) inputs.output;
+}
+
+-- the command that is answered
+abbrev pub seen : {A : Type 0} → code.Command A → Command
+seen (Cut job inputs) = beside (RunCut (jobs.cut_job job)) inputs
+seen (Paste job inputs) = beside (RunPaste (jobs.paste_job job)) inputs
+seen (Uniq job inputs) = beside (RunUniq (jobs.uniq_job job)) inputs
+seen (Comm job inputs) = beside (RunComm (jobs.comm_job job)) inputs
+seen (Join job inputs) = beside (RunJoin (jobs.join_job job)) inputs
+seen (Tr plan inputs) = beside (RunTr plan) inputs
 
 -- what is answered is what the words mean, unless memory was refused
 abbrev pub IsMeant : {A : Type 0} → Result (code.Command A) UseFault → Result Command Fault → Type 0
-IsMeant (Ok c) (Ok command) = IsCommand c command
-IsMeant (Ok c) (Err fault) = ⊥
-IsMeant (Err e) meaning = IsFault (meant e) meaning
-
-abbrev pub inputs_of : {A : Type 0} → code.Command A → Inputs A
-inputs_of (Cut j inputs) = inputs
-inputs_of (Paste j inputs) = inputs
-inputs_of (Uniq j inputs) = inputs
-inputs_of (Comm j inputs) = inputs
-inputs_of (Join j inputs) = inputs
-inputs_of (Tr plan inputs) = inputs
+IsMeant result meaning = Gives seen meant result meaning
 
 -- the first word is a tool's name
 abbrev pub NamesTool : List (List ℕ) → Type 0

@@ -2,8 +2,11 @@
 use Rattle.std.specs.Prelude.{ℕ, ◌==◌, ◌&&◌, List, [], ◌∷◌, ◌++◌, Bool, true, false, not, Option, Some, None, if◌then◌else◌, map, filter_map, drop, codes, bytes_eq, IsTrue, slice_get, find, option_map, option_and_then}
 use Rattle.std.specs.List.{list_all, list_any}
 use Rattle.std.specs.Option.{option_map_or}
+use Rattle.std.specs.Str.{byte}
+use Rattle.ptlangs.specs.Numbers.{is_empty}
 use Rattle.ptopts.specs.declared.tool.Tool.{Tool}
 use Rattle.ptopts.specs.declared.tool.Tool.TheVariants.{Cut, Paste, Uniq, Comm, Join, Tr}
+use Rattle.ptopts.specs.Syntax.{syntax}
 
 abbrev pub tools : List (List ℕ × Tool)
 tools = (codes "cut", Cut) ∷ (codes "paste", Paste) ∷ (codes "uniq", Uniq) ∷ (codes "comm", Comm) ∷ (codes "join", Join) ∷ (codes "tr", Tr) ∷ []
@@ -11,37 +14,15 @@ tools = (codes "cut", Cut) ∷ (codes "paste", Paste) ∷ (codes "uniq", Uniq) �
 abbrev pub tool_named : List ℕ → Option Tool
 tool_named name = option_map (λ (t : List ℕ × Tool). t.1) (find (λ (t : List ℕ × Tool). bytes_eq name t.0) tools)
 
--- the letters that stand alone
-abbrev pub flags : Tool → List ℕ
-flags Cut = codes "ns"
-flags Paste = codes "s"
-flags Uniq = codes "cdu"
-flags Comm = codes "123"
-flags Join = []
-flags Tr = codes "cCds"
-
--- the letters with a value
-abbrev pub valued : Tool → List ℕ
-valued Cut = codes "bcfd"
-valued Paste = codes "d"
-valued Uniq = codes "fs"
-valued Comm = []
-valued Join = codes "aveot12"
-valued Tr = []
-
 -- the letter is among these
 abbrev pub has_letter : ℕ → List ℕ → Bool
 has_letter letter letters = list_any (λ l. l == letter) letters
 
 abbrev pub is_flag : Tool → ℕ → Bool
-is_flag tool letter = has_letter letter (flags tool)
+is_flag tool letter = has_letter letter (syntax tool).flags
 
 abbrev pub takes_value : Tool → ℕ → Bool
-takes_value tool letter = has_letter letter (valued tool)
-
-abbrev pub is_empty : {X : Type 0} → List X → Bool
-is_empty [] = true
-is_empty (x ∷ xs) = false
+takes_value tool letter = has_letter letter (syntax tool).valued
 
 -- an option as it was given
 pub record GivenOption : Type 0 where
@@ -60,7 +41,7 @@ is_end_of_options word = bytes_eq word (codes "--")
 -- a word that begins with a dash and goes on is no operand
 abbrev pub is_dashed : List ℕ → Bool
 is_dashed [] = false
-is_dashed (b ∷ bs) = (b == 45) && not (is_empty bs)
+is_dashed (b ∷ bs) = (b == byte "-") && not (is_empty bs)
 
 abbrev pub begins_with_operand : List (List ℕ) → Bool
 begins_with_operand [] = true
@@ -76,13 +57,13 @@ pub data Spells (tool : Tool) : List (List ℕ) → List GivenOption → List (L
   EndOfOptions : (operands : List (List ℕ)) → Spells tool (codes "--" ∷ operands) [] operands
   Flags : (f : ℕ) (fs : List ℕ) (words : List (List ℕ)) (options : List GivenOption) (operands : List (List ℕ))
       → AreFlags tool (f ∷ fs) → Spells tool words options operands
-      → Spells tool ((45 ∷ f ∷ fs) ∷ words) (map flag (f ∷ fs) ++ options) operands
+      → Spells tool ((byte "-" ∷ f ∷ fs) ∷ words) (map flag (f ∷ fs) ++ options) operands
   ValueAttached : (fs : List ℕ) (letter b : ℕ) (bs : List ℕ) (words : List (List ℕ)) (options : List GivenOption) (operands : List (List ℕ))
       → AreFlags tool fs → IsTrue (takes_value tool letter) → Spells tool words options operands
-      → Spells tool ((45 ∷ fs ++ letter ∷ b ∷ bs) ∷ words) (map flag fs ++ with_value letter (b ∷ bs) ∷ options) operands
+      → Spells tool ((byte "-" ∷ fs ++ letter ∷ b ∷ bs) ∷ words) (map flag fs ++ with_value letter (b ∷ bs) ∷ options) operands
   ValueNext : (fs : List ℕ) (letter : ℕ) (value : List ℕ) (words : List (List ℕ)) (options : List GivenOption) (operands : List (List ℕ))
       → AreFlags tool fs → IsTrue (takes_value tool letter) → Spells tool words options operands
-      → Spells tool ((45 ∷ fs ++ letter ∷ []) ∷ value ∷ words) (map flag fs ++ with_value letter value ∷ options) operands
+      → Spells tool ((byte "-" ∷ fs ++ letter ∷ []) ∷ value ∷ words) (map flag fs ++ with_value letter value ∷ options) operands
 
 -- ---- the same read from left to right, with what cannot be read
 
@@ -119,8 +100,8 @@ pub record Reading : Type 0 where
 abbrev pub events_of : Tool → List ℕ → Option (List ℕ) → List Event
 events_of tool word next = events_in tool word next (drop 1 word)
 
-abbrev pub behind : List Event → Reading → Reading
-behind events reading = record { events = events ++ reading.events; operands = reading.operands }
+abbrev pub prefixed : List Event → Reading → Reading
+prefixed events reading = record { events = events ++ reading.events; operands = reading.operands }
 
 -- the words read; `taken` says that the first of them is the value of an option before it
 abbrev pub reading_from : Tool → Bool → List (List ℕ) → Reading
@@ -129,7 +110,7 @@ reading_from tool true (word ∷ words) = reading_from tool false words
 reading_from tool false (word ∷ words) =
     if is_end_of_options word then record { events = []; operands = words }
     else (if not (is_dashed word) then record { events = []; operands = word ∷ words }
-    else behind (events_of tool word (slice_get words 0)) (reading_from tool (takes_next tool (drop 1 word)) words))
+    else prefixed (events_of tool word (slice_get words 0)) (reading_from tool (takes_next tool (drop 1 word)) words))
 
 abbrev pub reading : Tool → List (List ℕ) → Reading
 reading tool words = reading_from tool false words

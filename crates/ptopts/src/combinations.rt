@@ -1,53 +1,51 @@
-//! Letters that exclude one another.
+//! Letters that exclude one another, or of which one is needed.
 
-ghost use Rattle.ptopts.specs.Faults.{first_together, combination_fault};
-ghost use Rattle.ptopts.specs.Answers.{Finds, options_seen};
+ghost use Rattle.std.specs.Prelude.{option_map, ◌≡◌, ◌∷◌, []};
+ghost use Rattle.ptopts.specs.Faults.{first_of, combined_fault, combination_fault, value_among};
+ghost use Rattle.ptopts.specs.Steps.{Finds, options_seen};
 
 use crate::fault::UseFault;
 use crate::reading::{GivenOption, has_letter};
-use crate::tool::Tool;
-use crate::values::cut::list_given;
+use crate::tool::{Combination, Tool};
+use crate::values::value;
 
-/// Whether the options stand in the tool's synopsis together.
+/// Whether the options stand in the tool's synopsis together; else the first fault in the order of its row.
 pub(crate) fn check_combinations<'a>(
     tool: Tool,
     options: &[GivenOption<'a>],
 ) -> Result<(), UseFault<'a>>
     ensures { Finds result (combination_fault tool (options_seen options.now)) }
 {
-    match tool {
-        Tool::Cut => {
-            check_apart(options, &[(b'b', b'c'), (b'b', b'f'), (b'c', b'f')])?;
-            if list_given(options).is_none() {
-                return Err(UseFault::NeedsList);
-            }
-            check_apart(
-                options,
-                &[
-                    (b'c', b'n'),
-                    (b'f', b'n'),
-                    (b'b', b'd'),
-                    (b'c', b'd'),
-                    (b'b', b's'),
-                    (b'c', b's'),
-                ],
-            )
+    let combinations = tool.syntax().combinations;
+    for combination in combinations {
+        check_combination(options, *combination)?;
+    }
+    Ok(())
+}
+
+/// Whether this is met.
+fn check_combination<'a>(
+    options: &[GivenOption<'a>],
+    combination: Combination,
+) -> Result<(), UseFault<'a>>
+    ensures { Finds result (combined_fault (options_seen options.now) combination) }
+{
+    match combination {
+        Combination::Apart(a, b) if has_letter(options, a) && has_letter(options, b) => {
+            Err(UseFault::Together(a, b))
         }
-        Tool::Uniq => check_apart(options, &[(b'c', b'd'), (b'c', b'u'), (b'd', b'u')]),
-        Tool::Join => check_apart(options, &[(b'a', b'v')]),
-        Tool::Tr => check_apart(options, &[(b'c', b'C')]),
-        Tool::Paste | Tool::Comm => Ok(()),
+        Combination::OneOf(a, b, c) if value_among(options, a, b, c).is_none() => {
+            Err(UseFault::NeedsList)
+        }
+        _ => Ok(()),
     }
 }
 
-/// Whether no two letters of a pair were given; else the first such pair is the fault.
-fn check_apart<'a>(options: &[GivenOption<'a>], pairs: &[(u8, u8)]) -> Result<(), UseFault<'a>>
-    ensures { Finds result (first_together (options_seen options.now) pairs.now) }
+/// The value of the first of three letters that has one.
+pub(crate) fn value_among<'a>(options: &[GivenOption<'a>], a: u8, b: u8, c: u8) -> Option<&'a str>
+    ensures { option_map (λ v. v.now) result ≡ value_among (a ∷ b ∷ c ∷ []) (options_seen options.now) }
 {
-    for (a, b) in pairs {
-        if has_letter(options, *a) && has_letter(options, *b) {
-            return Err(UseFault::Together(*a, *b));
-        }
-    }
-    Ok(())
+    value(options, a)
+        .or(value(options, b))
+        .or(value(options, c))
 }

@@ -1,11 +1,10 @@
 //! The command that words mean.
 
-ghost use Rattle.std.specs.Prelude.{◌≡◌, IfOk, [], ◌∷◌};
-ghost use Rattle.ptopts.specs.Faults.{combination_fault};
-ghost use Rattle.ptopts.specs.Commands.{judged, meaning, or_standard, input_of, output_of};
-ghost use Rattle.ptopts.specs.Answers.{options_seen, words_seen};
-ghost use Rattle.ptopts.specs.Inputs.{IsInputs};
-ghost use Rattle.ptopts.specs.Meant.{IsMeant, NamesTool, inputs_of};
+ghost use Rattle.std.specs.Prelude.{◌≡◌, IfOk, None, option_map};
+ghost use Rattle.ptopts.specs.Faults.{combination_fault, operands_fault};
+ghost use Rattle.ptopts.specs.Commands.{judged, meaning, inputs, output};
+ghost use Rattle.ptopts.specs.Meant.{words_seen, seen, IsMeant, NamesTool};
+ghost use Rattle.ptopts.specs.Steps.{FindsUnlessRefused, AreInputs, options_seen};
 
 use crate::combinations::check_combinations;
 use crate::fault::UseFault;
@@ -61,21 +60,16 @@ impl<'a, A: Allocator + Copy> Command<'a, A> {
         };
         let Reading { options, operands } = read_words(alloc, tool, rest)?;
         check_combinations(tool, &options)?;
-        match tool {
-            Tool::Cut => read_cut(alloc, &options, operands),
-            Tool::Paste => read_paste(alloc, &options, operands),
-            Tool::Uniq => read_uniq(alloc, &options, operands),
-            Tool::Comm => read_comm(alloc, &options, operands),
-            Tool::Join => read_join(alloc, &options, operands),
-            Tool::Tr => read_tr(alloc, &options, operands),
-        }
+        read_command(alloc, tool, &options, operands)
     }
 }
 
 impl<'a, A: Allocator> Command<'a, A> {
     /// The inputs, and `uniq`'s output.
     pub fn inputs(&self) -> &Inputs<'a, A>
-        ensures { result.now ≡ inputs_of self.now }
+        ensures order { result.now.order.items ≡ (seen self.now).order }
+        ensures names { words_seen result.now.names.items ≡ (seen self.now).names }
+        ensures output { option_map (λ w. w.now) result.now.output ≡ (seen self.now).output }
     {
         match self {
             Command::Cut(_, inputs)
@@ -90,124 +84,89 @@ impl<'a, A: Allocator> Command<'a, A> {
     /// The input files to open, in order: one entry for each operand that names one. `-` and `uniq`'s output
     /// are not among them.
     pub fn names(&self) -> &[&'a str]
-        ensures { result.now ≡ (inputs_of self.now).names.items }
+        ensures { words_seen result.now ≡ (seen self.now).names }
     {
         self.inputs().names.as_slice()
     }
 
     /// `uniq`'s output file, if it is named and not `-`.
     pub fn output(&self) -> Option<&'a str>
-        ensures { result ≡ (inputs_of self.now).output }
+        ensures { option_map (λ w. w.now) result ≡ (seen self.now).output }
     {
         self.inputs().output
     }
 }
 
-/// The command `cut`.
-fn read_cut<'a, A: Allocator + Copy>(
+/// The command of a tool: its values are judged first, then its operands, then the strings of `tr`.
+fn read_command<'a, A: Allocator + Copy>(
     alloc: A,
+    tool: Tool,
     options: &[GivenOption<'a>],
     operands: &[&'a str],
 ) -> Result<Command<'a, A>, UseFault<'a>>
-    requires { combination_fault Tool.Cut (options_seen options.now) ≡ None }
-    ensures { IsMeant result (judged Tool.Cut (options_seen options.now) (words_seen operands.now)) }
+    requires { combination_fault tool (options_seen options.now) ≡ None }
+    ensures { IsMeant result (judged tool (options_seen options.now) (words_seen operands.now)) }
 {
-    let job = cut_job(alloc, options)?;
-    check_operands(Tool::Cut, options, operands)?;
-    Ok(Command::Cut(job, inputs_or_standard(alloc, operands)?))
-}
-
-/// The command `paste`.
-fn read_paste<'a, A: Allocator + Copy>(
-    alloc: A,
-    options: &[GivenOption<'a>],
-    operands: &[&'a str],
-) -> Result<Command<'a, A>, UseFault<'a>>
-    ensures { IsMeant result (judged Tool.Paste (options_seen options.now) (words_seen operands.now)) }
-{
-    let job = paste_job(alloc, options)?;
-    check_operands(Tool::Paste, options, operands)?;
-    Ok(Command::Paste(job, Inputs::of(alloc, operands, None)?))
-}
-
-/// The command `uniq`.
-fn read_uniq<'a, A: Allocator + Copy>(
-    alloc: A,
-    options: &[GivenOption<'a>],
-    operands: &[&'a str],
-) -> Result<Command<'a, A>, UseFault<'a>>
-    ensures { IsMeant result (judged Tool.Uniq (options_seen options.now) (words_seen operands.now)) }
-{
-    let job = uniq_job(options)?;
-    check_operands(Tool::Uniq, options, operands)?;
-    Ok(Command::Uniq(job, input_and_output(alloc, operands)?))
-}
-
-/// The command `comm`.
-fn read_comm<'a, A: Allocator + Copy>(
-    alloc: A,
-    options: &[GivenOption<'a>],
-    operands: &[&'a str],
-) -> Result<Command<'a, A>, UseFault<'a>>
-    ensures { IsMeant result (judged Tool.Comm (options_seen options.now) (words_seen operands.now)) }
-{
-    check_operands(Tool::Comm, options, operands)?;
-    Ok(Command::Comm(comm_job(options), Inputs::of(alloc, operands, None)?))
-}
-
-/// The command `join`.
-fn read_join<'a, A: Allocator + Copy>(
-    alloc: A,
-    options: &[GivenOption<'a>],
-    operands: &[&'a str],
-) -> Result<Command<'a, A>, UseFault<'a>>
-    ensures { IsMeant result (judged Tool.Join (options_seen options.now) (words_seen operands.now)) }
-{
-    let job = join_job(alloc, options)?;
-    check_operands(Tool::Join, options, operands)?;
-    Ok(Command::Join(job, Inputs::of(alloc, operands, None)?))
-}
-
-/// The command `tr`.
-fn read_tr<'a, A: Allocator + Copy>(
-    alloc: A,
-    options: &[GivenOption<'a>],
-    operands: &[&'a str],
-) -> Result<Command<'a, A>, UseFault<'a>>
-    ensures { IsMeant result (judged Tool.Tr (options_seen options.now) (words_seen operands.now)) }
-{
-    check_operands(Tool::Tr, options, operands)?;
-    let plan = char_plan(options, operands)?;
-    Ok(Command::Tr(plan, Inputs::standard(alloc)?))
-}
-
-/// The inputs that these operands name; standard input without an operand.
-fn inputs_or_standard<'a, A: Allocator + Copy>(
-    alloc: A,
-    operands: &[&'a str],
-) -> Result<Inputs<'a, A>, AllocError>
-    ensures { IfOk result (λ i. IsInputs i (or_standard (words_seen operands.now)) None) }
-{
-    if operands.is_empty() {
-        Inputs::standard(alloc)
-    } else {
-        Inputs::of(alloc, operands, None)
+    match tool {
+        Tool::Cut => {
+            let job = cut_job(alloc, options)?;
+            Ok(Command::Cut(job, read_inputs(alloc, tool, options, operands)?))
+        }
+        Tool::Paste => {
+            let job = paste_job(alloc, options)?;
+            Ok(Command::Paste(job, read_inputs(alloc, tool, options, operands)?))
+        }
+        Tool::Uniq => {
+            let job = uniq_job(options)?;
+            Ok(Command::Uniq(job, read_inputs(alloc, tool, options, operands)?))
+        }
+        Tool::Comm => {
+            let job = comm_job(options);
+            Ok(Command::Comm(job, read_inputs(alloc, tool, options, operands)?))
+        }
+        Tool::Join => {
+            let job = join_job(alloc, options)?;
+            Ok(Command::Join(job, read_inputs(alloc, tool, options, operands)?))
+        }
+        Tool::Tr => {
+            let inputs = read_inputs(alloc, tool, options, operands)?;
+            Ok(Command::Tr(char_plan(options, operands)?, inputs))
+        }
     }
 }
 
-/// The one input of `uniq`, and its output: standard input without an operand (POSIX.1-2017, XCU, `uniq`), and
-/// no file where the second operand is `-` (this project's own choice).
-fn input_and_output<'a, A: Allocator + Copy>(
+/// The inputs of a tool that takes these operands.
+fn read_inputs<'a, A: Allocator + Copy>(
     alloc: A,
+    tool: Tool,
+    options: &[GivenOption<'a>],
+    operands: &[&'a str],
+) -> Result<Inputs<'a, A>, UseFault<'a>>
+    ensures fault { FindsUnlessRefused result
+        (operands_fault tool (options_seen options.now) (words_seen operands.now)) }
+    ensures inputs { IfOk result
+        (AreInputs (inputs tool (words_seen operands.now)) (output tool (words_seen operands.now))) }
+{
+    check_operands(tool, options, operands)?;
+    Ok(inputs_named(alloc, tool, operands)?)
+}
+
+/// The inputs of a tool, and the output of `uniq`: standard input without an operand (POSIX.1-2017, XCU, `cut` and
+/// `uniq`), and no file where the output is `-` (this project's own choice).
+fn inputs_named<'a, A: Allocator + Copy>(
+    alloc: A,
+    tool: Tool,
     operands: &[&'a str],
 ) -> Result<Inputs<'a, A>, AllocError>
-    ensures { IfOk result (λ i. IsInputs i (input_of (words_seen operands.now) ∷ []) (output_of (words_seen operands.now))) }
+    ensures { IfOk result
+        (AreInputs (inputs tool (words_seen operands.now)) (output tool (words_seen operands.now))) }
 {
-    match operands {
-        [] => Inputs::standard(alloc),
-        [input, output, ..] if !is_standard(output) => {
+    match (tool, operands) {
+        (Tool::Tr, _) | (Tool::Cut | Tool::Uniq, []) => Inputs::standard(alloc),
+        (Tool::Uniq, [input, output, ..]) if !is_standard(output) => {
             Inputs::of(alloc, &[*input], Some(*output))
         }
-        [input, ..] => Inputs::of(alloc, &[*input], None),
+        (Tool::Uniq, [input, ..]) => Inputs::of(alloc, &[*input], None),
+        _ => Inputs::of(alloc, operands, None),
     }
 }

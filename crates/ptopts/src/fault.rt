@@ -5,30 +5,32 @@ ghost use Rattle.std.specs.Prelude.{◌≡◌};
 use ptlangs::SetFault;
 use std::alloc::{AllocError, AllocFailed};
 
-/// Why words are no command. Which fault is the first is this project's own choice.
+/// Why words are no command. Which fault is the first is this project's own choice. Each has a number, which its text
+/// says: a variant with a payload can have none of its own.
 #[derive(Clone, Copy, Debug, PartialEq, Eq)]
 pub enum UseFault<'a> {
-    /// The first word names no tool, or there is none.
+    /// Fault 1. The first word names no tool, or there is none.
     Tool,
-    /// A character of this word is no letter of the tool.
+    /// Fault 2. A character of this word is no letter of the tool.
     Unknown(&'a str),
-    /// The letter takes a value, and the words end.
+    /// Fault 3. The letter takes a value, and the words end.
     NeedsValue(u8),
-    /// The letter with a value may be given once.
+    /// Fault 4. The letter with a value may be given once.
     Twice(u8),
-    /// The two letters exclude one another.
+    /// Fault 5. The two letters exclude one another.
     Together(u8, u8),
-    /// The letter does not take this value.
+    /// Fault 6. The letter does not take this value.
     Value(u8, &'a str),
-    /// The number of operands is wrong.
+    /// Fault 7. The number of operands is wrong.
     Operands,
-    /// Both operands are standard input.
+    /// Fault 8. Both operands are standard input.
     StandardTwice,
-    /// `cut` has no list.
+    /// Fault 9. `cut` has no list.
     NeedsList,
-    /// A string of `tr` is refused: which of the two, and why. The kind is never `SetFaultKind::Memory`.
+    /// Fault 10 for the first string of `tr`, fault 11 for the second: which of them is refused, and why. The kind
+    /// is never `SetFaultKind::Memory`.
     String(SetFault),
-    /// Memory was refused.
+    /// Fault 12. A growth of memory was refused.
     Memory,
 }
 

@@ -1,8 +1,8 @@
 //! The inputs of a command, in the order of its operands.
 
 ghost use Rattle.std.specs.Prelude.{IfOk, [], ◌∷◌, codes, option_map};
-ghost use Rattle.ptopts.specs.Answers.{words_seen};
-ghost use Rattle.ptopts.specs.Inputs.{IsInputs};
+ghost use Rattle.ptopts.specs.Meant.{words_seen};
+ghost use Rattle.ptopts.specs.Steps.{AreInputs};
 
 use crate::operands::is_standard;
 use std::alloc::{AllocError, Allocator, Global};
@@ -34,7 +34,7 @@ impl<'a, A: Allocator + Copy> Inputs<'a, A> {
         operands: &[&'a str],
         output: Option<&'a str>,
     ) -> Result<Inputs<'a, A>, AllocError>
-        ensures { IfOk result (λ i. IsInputs i (words_seen operands.now) (option_map (λ w. w.now) output.entry)) }
+        ensures { IfOk result (AreInputs (words_seen operands.now) (option_map (λ w. w.now) output.entry)) }
     {
         let mut order = Vec::new(alloc);
         let mut names = Vec::new(alloc);
@@ -55,7 +55,7 @@ impl<'a, A: Allocator + Copy> Inputs<'a, A> {
 
     /// Standard input alone.
     pub(crate) fn standard(alloc: A) -> Result<Inputs<'a, A>, AllocError>
-        ensures { IfOk result (λ i. IsInputs i (codes "-" ∷ []) None) }
+        ensures { IfOk result (AreInputs (codes "-" ∷ []) None) }
     {
         let mut order = Vec::new(alloc);
         order.push(Input::Standard)?;

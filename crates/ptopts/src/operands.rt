@@ -4,14 +4,12 @@ ghost use Rattle.std.specs.Prelude.{◌≡◌};
 ghost use Rattle.std.specs.List.{list_all};
 ghost use Rattle.ptopts.specs.Faults as faults;
 ghost use Rattle.ptopts.specs.Faults.{operands_fault};
-ghost use Rattle.ptopts.specs.Answers.{Finds, options_seen, words_seen};
+ghost use Rattle.ptopts.specs.Meant.{words_seen};
+ghost use Rattle.ptopts.specs.Steps.{Finds, options_seen};
 
 use crate::fault::UseFault;
 use crate::reading::{GivenOption, has_letter};
 use crate::tool::Tool;
-
-/// The most operands that a command may have.
-const MOST: usize = 512;
 
 /// Whether the tool takes these operands.
 pub(crate) fn check_operands<'a>(
@@ -24,7 +22,7 @@ pub(crate) fn check_operands<'a>(
     if !has_right_number(tool, options, operands.len()) {
         return Err(UseFault::Operands);
     }
-    if merges(tool) && all_standard(operands) {
+    if tool.syntax().once && all_standard(operands) {
         return Err(UseFault::StandardTwice);
     }
     Ok(())
@@ -34,24 +32,22 @@ pub(crate) fn check_operands<'a>(
 fn has_right_number(tool: Tool, options: &[GivenOption], count: usize) -> bool
     ensures { result ≡ faults.has_right_number tool (options_seen options.now) count }
 {
-    match tool {
-        Tool::Cut => count <= MOST,
-        Tool::Paste => 1 <= count && count <= MOST,
-        Tool::Uniq => count <= 2,
-        Tool::Comm | Tool::Join => count == 2,
-        Tool::Tr => match (has_letter(options, b'd'), has_letter(options, b's')) {
-            (true, false) => count == 1,
-            (false, true) => 1 <= count && count <= 2,
-            _ => count == 2,
-        },
-    }
+    let syntax = tool.syntax();
+    syntax.least <= count && count <= syntax.most && fits_form(tool, options, count)
 }
 
-/// Whether the tool reads two files, of which one at most may be standard input.
-fn merges(tool: Tool) -> bool
-    ensures { result ≡ faults.merges tool }
+/// Whether `tr` takes as many strings for what its options say; true of the other tools.
+fn fits_form(tool: Tool, options: &[GivenOption], count: usize) -> bool
+    ensures { result ≡ faults.fits_form tool (options_seen options.now) count }
 {
-    matches!(tool, Tool::Comm | Tool::Join)
+    if tool != Tool::Tr {
+        return true;
+    }
+    match (has_letter(options, b'd'), has_letter(options, b's')) {
+        (true, false) => count == 1,
+        (false, true) => true,
+        _ => count == 2,
+    }
 }
 
 /// Whether the operand is standard input.

@@ -1,9 +1,11 @@
 //! The words of a command read from left to right, into options and operands.
 
-ghost use Rattle.std.specs.Prelude.{◌≡◌, ◌<◌, ◌+◌, length, drop, slice_index, IfOk, IfErr, option_map};
-ghost use Rattle.ptopts.specs.Words.{is_dashed, has, is_flag, valued_event, Given};
+ghost use Rattle.std.specs.Prelude.{◌≡◌, ◌<◌, length, IfOk, IfErr};
+ghost use Rattle.ptopts.specs.Words.{is_dashed, has, is_flag, Given};
 ghost use Rattle.ptopts.specs.Faults.{is_spent, event_fault};
-ghost use Rattle.ptopts.specs.Answers.{Finds, option_seen, options_seen, words_seen, behind_taken, ReadsGroup, FailsGroup, ReadsWords, FailsWords};
+ghost use Rattle.ptopts.specs.Meant.{words_seen};
+ghost use Rattle.ptopts.specs.Steps.{Finds, option_seen, options_seen, next_seen, event_at, behind_taken};
+ghost use Rattle.ptopts.specs.Steps.{ReadsGroup, FailsGroup, ReadsWords, FailsWords};
 
 use crate::fault::UseFault;
 use crate::tool::Tool;
@@ -46,11 +48,10 @@ fn valued_option<'a>(
     next: Option<&'a str>,
 ) -> Result<GivenOption<'a>, UseFault<'a>>
     requires { place < length word.now }
-    ensures fault { Finds result (event_fault tool (options_seen options.now)
-        (valued_event tool word.now (slice_index word.now place) (drop (place + 1) word.now) (option_map (λ w. w.now) next.entry))) }
-    ensures read { IfOk result (λ o.
-        valued_event tool word.now (slice_index word.now place) (drop (place + 1) word.now) (option_map (λ w. w.now) next.entry)
-        ≡ Given (option_seen o)) }
+    ensures fault { Finds result
+        (event_fault tool (options_seen options.now) (event_at tool word.now place (next_seen next.entry))) }
+    ensures read { IfOk result
+        (λ o. event_at tool word.now place (next_seen next.entry) ≡ Given (option_seen o)) }
 {
     let letter = word.as_bytes()[place];
     if !tool.takes_value(letter) {
@@ -79,8 +80,10 @@ fn read_group<'a, A: Allocator + Copy>(
     next: Option<&'a str>,
     options: &mut Vec<GivenOption<'a>, A>,
 ) -> Result<bool, UseFault<'a>>
-    ensures ok { IfOk result (ReadsGroup tool word.now (option_map (λ w. w.now) next.entry) (options_seen options.old.items) (options_seen options.new.items)) }
-    ensures err { IfErr result (FailsGroup tool word.now (option_map (λ w. w.now) next.entry) (options_seen options.old.items)) }
+    ensures ok { let next = next_seen next.entry in IfOk result
+        (ReadsGroup tool word.now next (options_seen options.old.items) (options_seen options.new.items)) }
+    ensures err { IfErr result
+        (FailsGroup tool word.now (next_seen next.entry) (options_seen options.old.items)) }
 {
     let letters = word.as_bytes();
     for place in 1..letters.len() {
@@ -121,7 +124,8 @@ pub(crate) fn read_words<'a, A: Allocator + Copy>(
     tool: Tool,
     words: &'a [&'a str],
 ) -> Result<Reading<'a, A>, UseFault<'a>>
-    ensures ok { IfOk result (λ r. ReadsWords tool (words_seen words.now) (options_seen r.options.items) (words_seen r.operands.now)) }
+    ensures ok { IfOk result
+        (λ r. ReadsWords tool (words_seen words.now) (options_seen r.options.items) (words_seen r.operands.now)) }
     ensures err { IfErr result (FailsWords tool (words_seen words.now)) }
 {
     let mut options = Vec::new(alloc);

@@ -2,9 +2,9 @@
 
 ghost use Rattle.std.specs.Prelude.{◌≡◌, IfOk, option_map};
 ghost use Rattle.ptopts.specs.Words.{value_of};
-ghost use Rattle.ptopts.specs.Faults.{value_fault, is_delimiter, is_count};
+ghost use Rattle.ptopts.specs.Faults.{value_fault, end_given, is_delimiter, is_count};
 ghost use Rattle.ptopts.specs.Commands.{byte_given, number_given};
-ghost use Rattle.ptopts.specs.Answers.{Finds, options_seen};
+ghost use Rattle.ptopts.specs.Steps.{Finds, options_seen};
 
 pub(crate) mod comm;
 pub(crate) mod cut;
@@ -14,26 +14,34 @@ pub(crate) mod tr;
 pub(crate) mod uniq;
 
 use crate::fault::UseFault;
-use crate::reading::GivenOption;
+use crate::reading::{GivenOption, has_letter};
 use ptlangs::numbers;
 
 /// The value of a letter that is given once.
-fn value<'a>(options: &[GivenOption<'a>], letter: u8) -> Option<&'a str>
+pub(crate) fn value<'a>(options: &[GivenOption<'a>], letter: u8) -> Option<&'a str>
     ensures { option_map (λ v. v.now) result ≡ value_of letter (options_seen options.now) }
 {
     options.iter().find(|option| option.letter == letter)?.value
 }
 
-/// The one byte of a letter's value: no newline (this project's own choice).
+/// The byte that ends a line: 0 with `-z`, which is this project's own option.
+fn end(options: &[GivenOption]) -> u8
+    ensures { result ≡ end_given (options_seen options.now) }
+{
+    if has_letter(options, b'z') { 0 } else { b'\n' }
+}
+
+/// The one byte of a letter's value, which ends no line (this project's own choice).
 fn delimiter<'a>(options: &[GivenOption<'a>], letter: u8) -> Result<Option<u8>, UseFault<'a>>
-    ensures fault { Finds result (value_fault (options_seen options.now) (letter, is_delimiter)) }
+    ensures fault { let os = options_seen options.now in
+        Finds result (value_fault os (letter, is_delimiter (end_given os))) }
     ensures byte { IfOk result (λ b. b ≡ byte_given letter (options_seen options.now)) }
 {
     let Some(text) = value(options, letter) else {
         return Ok(None);
     };
     match text.as_bytes() {
-        [byte] if *byte != b'\n' => Ok(Some(*byte)),
+        [byte] if *byte != end(options) => Ok(Some(*byte)),
         _ => Err(UseFault::Value(letter, text)),
     }
 }

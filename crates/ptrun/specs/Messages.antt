@@ -1,5 +1,5 @@
 -- The messages. Each ends with newline.
-use Rattle.std.specs.Prelude.{ℕ, ◌-◌, ◌==◌, List, [], ◌∷◌, Option, Some, None, codes, encode_utf8, if◌then◌else◌, slice_index_or}
+use Rattle.std.specs.Prelude.{ℕ, ◌-◌, ◌==◌, List, [], ◌∷◌, Option, Some, None, codes, decimal, encode_utf8, if◌then◌else◌, slice_index_or}
 use Rattle.ptlangs.specs.declared.faults.SetFault.{SetFault}
 use Rattle.ptlangs.specs.declared.faults.SetString.{SetString}
 use Rattle.ptlangs.specs.declared.faults.SetString.TheVariants as string
@@ -66,8 +66,12 @@ name_of names place = if place == 0 then codes "standard input" else slice_index
 abbrev pub not_opened : List ℕ → List ℕ → List ℕ
 not_opened tool name = line_of (tool ∷ codes ": " ∷ name ∷ codes ": cannot be opened" ∷ [])
 
+-- lines are counted from 1
+abbrev pub out_of_order : List ℕ → List (List ℕ) → ℕ → ℕ → List ℕ
+out_of_order tool names place line = line_of (tool ∷ codes ": " ∷ name_of names place ∷ codes ": line " ∷ decimal line ∷ codes " is out of order" ∷ [])
+
 -- the one message of a failure
-abbrev pub failure : List ℕ → (ℕ → List ℕ) → FlowFault → List ℕ
-failure tool name (Read place) = line_of (tool ∷ codes ": " ∷ name place ∷ codes ": read failed" ∷ [])
-failure tool name Write = line_of (tool ∷ codes ": output: write failed" ∷ [])
-failure tool name Memory = out_of_memory tool
+abbrev pub failure : List ℕ → List (List ℕ) → FlowFault → List ℕ
+failure tool names (Read place) = line_of (tool ∷ codes ": " ∷ name_of names place ∷ codes ": read failed" ∷ [])
+failure tool names Write = line_of (tool ∷ codes ": output: write failed" ∷ [])
+failure tool names Memory = out_of_memory tool

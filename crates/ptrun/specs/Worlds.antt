@@ -1,5 +1,5 @@
 -- What a command finds: its inputs by place. And what came of them.
-use Rattle.std.specs.Prelude.{◌≡◌, ℕ, ◌==◌, ◌<◌, ◌≤◌, ◌^◌, List, [], ◌∷◌, ◌++◌, Bool, true, false, Option, Some, None, if◌then◌else◌, slice_index_or, option_map, filter_map, is_none, length, ⊤}
+use Rattle.std.specs.Prelude.{◌≡◌, ℕ, ◌+◌, ◌==◌, ◌<◌, ◌≤◌, ◌^◌, List, [], ◌∷◌, ◌++◌, Bool, true, false, Option, Some, None, if◌then◌else◌, slice_index_or, option_map, filter_map, is_none, length, ⊤, All}
 use Rattle.std.specs.List.{list_any}
 use Rattle.ptlines.specs.Readers.{Reader, unread}
 use Rattle.ptlines.specs.Inputs.{Given, Came}
@@ -9,26 +9,26 @@ use Rattle.ptlines.specs.Inputs as one
 abbrev pub World : Type 0
 World = List (Option (List ℕ))
 
--- what came of each
-abbrev pub Reading : Type 0
-Reading = List (Option Given)
+-- what was received of each
+abbrev pub Received : Type 0
+Received = List (Option Given)
 
 -- what is at a place
 abbrev pub at : {X : Type 0} → List (Option X) → ℕ → Option X
 at xs place = slice_index_or xs place None
 
-abbrev pub is_refused : {X : Type 0} → List (Option X) → ℕ → Bool
-is_refused xs place = is_none (at xs place)
+abbrev pub is_unopened : {X : Type 0} → List (Option X) → ℕ → Bool
+is_unopened xs place = is_none (at xs place)
 
-abbrev pub AgreesAt : Option Given → Option (List ℕ) → Type 0
-AgreesAt None None = ⊤
-AgreesAt None (Some bytes) = ⊥
-AgreesAt (Some g) None = ⊥
-AgreesAt (Some g) (Some bytes) = one.Agrees g bytes
+abbrev pub AllowsAt : Option Given → Option (List ℕ) → Type 0
+AllowsAt None None = ⊤
+AllowsAt None (Some bytes) = ⊥
+AllowsAt (Some g) None = ⊥
+AllowsAt (Some g) (Some bytes) = one.Agrees g bytes
 
--- the same inputs are refused, and each other one agrees with what came of it
-abbrev pub Agrees : Reading → World → Type 0
-Agrees r w = (place : ℕ) → AgreesAt (at r place) (at w place)
+-- What was received allows this world: the same inputs could not be opened, and each other one agrees with what came of it.
+abbrev pub Allows : Received → World → Type 0
+Allows r w = (place : ℕ) → AllowsAt (at r place) (at w place)
 
 -- ---- operands, as places
 
@@ -59,31 +59,34 @@ no_reader = record { held = []; left = None; ended = false; failed = false; pull
 abbrev pub reader_at : List Reader → ℕ → Reader
 reader_at readers place = slice_index_or readers place no_reader
 
--- what came of a reader; a refused one is left alone
+-- what came of a reader; one that could not be opened is left alone
 abbrev pub CameAt : Reader → Reader → Option Given → Type 0
 CameAt old new None = (old.refused ≡ true) × (new ≡ old)
 CameAt old new (Some g) = (old.refused ≡ false) × Came old new g
 
--- the reading is what came of the readers
-abbrev pub IsReading : List Reader → List Reader → Reading → Type 0
-IsReading old new r = (place : ℕ) → CameAt (reader_at old place) (reader_at new place) (at r place)
+-- this came of the readers
+abbrev pub IsReceived : List Reader → List Reader → Received → Type 0
+IsReceived old new r = (place : ℕ) → CameAt (reader_at old place) (reader_at new place) (at r place)
 
--- nothing was read of it yet, and its lines end with newline
+-- nothing was read of it yet
 pub record IsNew (r : Reader) : Type 0 where
   pub held : r.held ≡ []
   pub ended : r.ended ≡ false
-  pub failed : r.failed ≡ false
   pub pulled : r.pulled ≡ 0
   pub fault : r.fault ≡ None
-  pub ending : r.ending ≡ 10
 
--- opened and not yet read, or refused
+-- opened and not yet read, or not opened
 abbrev pub IsFresh : Reader → Type 0
 IsFresh r = r.refused ≡ false → IsNew r
 
--- the source of a reader that was opened answered an error
-abbrev pub HasFailed : List Reader → ℕ → Type 0
-HasFailed readers place = ((reader_at readers place).refused ≡ false) × ((reader_at readers place).failed ≡ true)
+-- standard input and so many files
+abbrev pub AreFresh : ℕ → List Reader → Type 0
+AreFresh files readers = (length readers ≡ files + 1) × All IsFresh readers
+
+-- a read of an input that was opened has failed
+abbrev pub HasFailed : List Reader → List Reader → ℕ → Type 0
+HasFailed old new place =
+    ((reader_at old place).refused ≡ false) × ((reader_at old place).failed ≡ false) × ((reader_at new place).failed ≡ true)
 
 -- too much came of it
 abbrev pub IsTooLong : Option Given → Type 0

@@ -2,18 +2,57 @@
 
 ghost use Rattle.std.specs.Prelude.{◌≡◌, ◌<◌, ◌+◌, ◌≤◌, false, length, All};
 ghost use Rattle.ptlines.specs.Slots.{total};
+ghost use Rattle.ptopts.specs.Meant.{words_seen};
+ghost use Rattle.ptrun.specs.Engines.{blame, Went};
 ghost use Rattle.ptrun.specs.Worlds.{IsFresh};
-ghost use Rattle.ptrun.specs.Each.{place, places, one_by_one};
-ghost use Rattle.ptrun.specs.Reports.{blame, Went};
-ghost use Rattle.ptrun.specs.Sayings.{texts};
 ghost use Rattle.ptrun.specs.Messages.{name_of};
+ghost use Rattle.ptrun.specs.Operands.{place, places, one_by_one};
 
+use crate::engine::{Done, Engine};
 use crate::tools::OneByOne;
 use crate::voice::Voice;
 use ptflow::FlowFault;
 use ptlines::{LineReader, Out, Sink, Source, Store};
-use ptopts::Input;
+use ptopts::{Input, Inputs};
 use std::alloc::Allocator;
+
+/// A tool that goes over its operands in turn.
+#[derive(Drop)]
+pub(crate) struct InTurn<'a, A: Allocator + Copy, T: OneByOne<A>> {
+    pub(crate) tool: T,
+    pub(crate) operands: Inputs<'a, A>,
+}
+
+impl<'a, A: Allocator + Copy, T: OneByOne<A>> Engine<A> for InTurn<'a, A, T> {
+    ghost use Rattle.ptopts.specs.Meant.{words_seen};
+    ghost use Rattle.ptrun.specs.Operands.{places, one_by_one};
+
+    ghost meaning = { λ e. one_by_one (T.word e.tool) (T.tool e.tool)
+        (words_seen e.operands.names.items) (places e.operands.order.items) };
+
+    fn tool(&self) -> &str {
+        self.tool.name()
+    }
+
+    fn name_at(&self, place: usize) -> &str {
+        name_at(&self.operands.names, place)
+    }
+
+    fn go<S: Source, R: Source, W: Sink, E: Sink>(
+        &self,
+        inputs: &mut [LineReader<S, R>],
+        store: &mut Store<A>,
+        out: &mut Out<W>,
+        voice: &mut Voice<E>,
+    ) -> Result<Done, FlowFault> {
+        let Inputs {
+            order,
+            names,
+            output: _,
+        } = &self.operands;
+        go_over_each(&self.tool, order, names, inputs, store, out, voice)
+    }
+}
 
 // Where the reader of an input is.
 fn place_of(input: Input) -> usize
@@ -27,9 +66,9 @@ fn place_of(input: Input) -> usize
 }
 
 // The name of the input at a place.
-pub(crate) fn name_at<'a>(names: &[&'a str], place: usize) -> &'a str
+fn name_at<'a>(names: &[&'a str], place: usize) -> &'a str
     requires { place ≤ length names.now }
-    ensures { result.now ≡ name_of (texts names.now) place }
+    ensures { result.now ≡ name_of (words_seen names.now) place }
 {
     if place == 0 {
         "standard input"
@@ -49,15 +88,8 @@ fn at_operand(fault: FlowFault, place: usize) -> FlowFault
     }
 }
 
-// Goes over each operand in turn; true is that one was refused.
-pub(crate) fn go_over_each<
-    A: Allocator + Copy,
-    T: OneByOne<A>,
-    S: Source,
-    R: Source,
-    W: Sink,
-    E: Sink,
->(
+// Goes over each operand in turn.
+fn go_over_each<A: Allocator + Copy, T: OneByOne<A>, S: Source, R: Source, W: Sink, E: Sink>(
     tool: &T,
     order: &[Input],
     names: &[&str],
@@ -65,16 +97,17 @@ pub(crate) fn go_over_each<
     store: &mut Store<A>,
     out: &mut Out<W>,
     voice: &mut Voice<E>,
-) -> Result<bool, FlowFault>
+) -> Result<Done, FlowFault>
     requires fresh { All IsFresh inputs.old }
     requires count { length inputs.old ≡ length names.now + 1 }
     requires fits { All (λ o. place o < length inputs.old) order.now }
     requires writable { out.old.faulted ≡ false }
     requires roomy { store.old.denied ≡ false }
     requires empty { total store.old.lines ≡ 0 }
-    ensures { Went (one_by_one (T.tool tool.now) (name_of (texts names.now)) (places order.now)) inputs.old inputs.new out.old out.new voice.old voice.new store.old store.new result }
+    ensures { Went (one_by_one (T.word tool.now) (T.tool tool.now) (words_seen names.now) (places order.now))
+        inputs.old inputs.new out.old out.new voice.old voice.new store.old store.new result }
 {
-    let mut refused = false;
+    let mut done = Done::Whole;
     for input in order {
         let place = place_of(*input);
         let reader = &mut inputs[place];
@@ -85,7 +118,7 @@ pub(crate) fn go_over_each<
                 name_at(names, place),
                 ": cannot be opened",
             ]);
-            refused = true;
+            done = Done::Unopened;
         } else {
             match tool.go_over(reader, store, out) {
                 Ok(()) => {}
@@ -93,5 +126,5 @@ pub(crate) fn go_over_each<
             }
         }
     }
-    Ok(refused)
+    Ok(done)
 }

@@ -1,7 +1,7 @@
 //! What is said of words that are no command.
 
 ghost use Rattle.std.specs.Prelude.{◌≡◌};
-ghost use Rattle.ptopts.specs.Answers.{meant};
+ghost use Rattle.ptopts.specs.Meant.{meant};
 ghost use Rattle.ptrun.specs.Sayings.{Tells};
 ghost use Rattle.ptrun.specs.Messages as messages;
 ghost use Rattle.ptrun.specs.Messages.{said_of, status_of, string_refusal};

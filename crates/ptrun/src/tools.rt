@@ -1,10 +1,9 @@
 //! The tools that go over their inputs one by one.
 
-ghost use Rattle.std.specs.Prelude.{◌≡◌, true, false, None};
+ghost use Rattle.std.specs.Prelude.{◌≡◌, ℕ, List, true};
 ghost use Rattle.ptlines.specs.Inputs.{Given};
-ghost use Rattle.ptlines.specs.Slots.{total};
-ghost use Rattle.ptflow.specs.Runs.{IsRun};
-ghost use Rattle.ptrun.specs.Each.{Tool};
+ghost use Rattle.ptflow.specs.Passes.{IsReady, IsPass};
+ghost use Rattle.ptflow.specs.Tools.{Tool};
 
 use ptflow::{FlowFault, cut, tr};
 use ptlangs::CharPlan;
@@ -18,8 +17,10 @@ pub(crate) trait OneByOne<A: Allocator + Copy>: Drop {
     ghost tool: { Self → Tool };
 
     /// The word that names it.
+    ghost word: { Self → List ℕ };
+
     fn name(&self) -> &str
-        ensures { result.now ≡ (tool self.now).name };
+        ensures { result.now ≡ word self.now };
 
     /// Goes over one input.
     fn go_over<S: Source, R: Source, W: Sink>(
@@ -28,25 +29,22 @@ pub(crate) trait OneByOne<A: Allocator + Copy>: Drop {
         store: &mut Store<A>,
         out: &mut Out<W>,
     ) -> Result<(), FlowFault>
-        requires opened { reader.old.refused ≡ false }
-        requires readable { reader.old.fault ≡ None }
-        requires unfailed { reader.old.failed ≡ false }
-        requires ending { reader.old.ending ≡ 10 }
-        requires writable { out.old.faulted ≡ false }
-        requires roomy { store.old.denied ≡ false }
-        requires empty { total store.old.lines ≡ 0 }
-        ensures { IsRun (tool self.now).text (tool self.now).decided (tool self.now).size reader.old reader.new out.old out.new store.old store.new result };
+        requires { IsReady reader.old store.old }
+        ensures { IsPass (tool self.now) reader.old reader.new out.old out.new store.old store.new result };
 
     /// Where the end of an input was said, all of it is decided.
     ghost all_decided: { (s : Self) (g : Given) → g.ended ≡ true → (tool s).decided g ≡ (tool s).text g.bytes };
 }
 
 impl<A: Allocator + Copy> OneByOne<A> for CutJob<A> {
+    ghost use Rattle.std.specs.Prelude.{codes};
     ghost use Rattle.ptlangs.specs.Jobs.{cut_job};
-    ghost use Rattle.ptrun.specs.Each.{cut_tool};
+    ghost use Rattle.ptflow.specs.Cuts.{cut_tool};
     ghost use Rattle.ptrun.specs.Laws.{cut_all_decided};
 
     ghost tool = { λ job. cut_tool (cut_job job) };
+
+    ghost word = { λ job. codes "cut" };
 
     ghost all_decided = { λ job. cut_all_decided (cut_job job) };
 
@@ -65,10 +63,12 @@ impl<A: Allocator + Copy> OneByOne<A> for CutJob<A> {
 }
 
 impl<A: Allocator + Copy> OneByOne<A> for CharPlan {
-    ghost use Rattle.std.specs.Prelude.{refl};
-    ghost use Rattle.ptrun.specs.Each.{tr_tool};
+    ghost use Rattle.std.specs.Prelude.{refl, codes};
+    ghost use Rattle.ptflow.specs.Translations.{tr_tool};
 
     ghost tool = { tr_tool };
+
+    ghost word = { λ plan. codes "tr" };
 
     ghost all_decided = { λ plan g ended. refl };
 

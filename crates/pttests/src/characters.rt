@@ -1,9 +1,10 @@
 //! `tr`, from its words.
 
 use crate::commands::{
-    Case, Expected, FREE, Input, Limits, Row, assert_left, expect, expect_rows, over_standard,
-    refuses, run_over, writes,
+    Case, Expected, FREE, Input, Limits, Row, assert_left, expect, expect_refused, expect_rows,
+    expect_without_growth, over_standard, run_over, writes,
 };
+use crate::texts::text_of;
 use std::test::Fail;
 
 const TRANSLATED: &[Row] = &[
@@ -95,10 +96,19 @@ fn repeats_are_squeezed(rt: HostRuntime) -> Result<(), Fail> {
 #[test]
 fn strings_are_refused(rt: HostRuntime) -> Result<(), Fail> {
     for (words, message) in REFUSED {
-        let case = over_standard(words, b"never read\n", usize::MAX);
-        expect(&rt, rt.alloc(), &case, &refuses(message))?;
+        expect_refused(&rt, rt.alloc(), words, message)?;
     }
     Ok(())
+}
+
+#[test]
+fn a_long_line_takes_no_memory(rt: HostRuntime) -> Result<(), Fail> {
+    let text = text_of(rt.alloc(), &[1_000_000], b'\n', true)?;
+    let case = over_standard(&["tr", "-ds", "\n", "a-z"], &text, usize::MAX);
+    let report = run_over(&rt, rt.alloc(), rt.alloc(), &case)?;
+    assert!(rt; report.out.bytes() == &text[..text.len().saturating_sub(1)]);
+    let case = over_standard(&["tr", "-cd", "\n"], &text, usize::MAX);
+    expect_without_growth(&rt, rt.alloc(), &case, &writes("\n"))
 }
 
 #[test]

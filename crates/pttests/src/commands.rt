@@ -4,11 +4,12 @@ ghost use Rattle.std.specs.Prelude.{◌≡◌, ◌+◌, false, All, IfOk, IfSome
 ghost use Rattle.ptrun.specs.Asked.{count_of};
 ghost use Rattle.ptrun.specs.Worlds.{IsFresh};
 
-use ptfakes::{Kept, Pieces};
+use ptfakes::{Kept, Pieces, Refusing, Watched};
 use ptlines::LineReader;
 use ptopts::{Command, UseFault};
 use ptrun::{Report, run};
 use std::alloc::{AllocError, Allocator, Global};
+use std::cell::Cell;
 use std::process::Abort;
 use std::test::Fail;
 
@@ -64,15 +65,6 @@ pub fn writes(out: &str) -> Expected<'_> {
         out,
         messages: "",
         status: 0,
-    }
-}
-
-/// The words are refused with this message.
-pub fn refuses(messages: &str) -> Expected<'_> {
-    Expected {
-        out: "",
-        messages,
-        status: 2,
     }
 }
 
@@ -205,6 +197,50 @@ pub fn expect(
     let report = run_over(rt, alloc, alloc, case)?;
     assert_left(rt, case, &report, expected);
     assert!(rt; !report.denied);
+    Ok(())
+}
+
+/// Runs a command whose run is refused each growth, those behind the reading of its words: it is to ask for none.
+pub fn expect_without_growth(
+    rt: &impl Abort,
+    alloc: Global,
+    case: &Case<'_>,
+    expected: &Expected<'_>,
+) -> Result<(), Fail> {
+    let counted = Refusing::after(alloc, u64::MAX);
+    let is_read = Command::read(&counted, case.words).is_ok();
+    assert!(rt; is_read, "{:?}", case.words);
+    let refusing = Refusing::after(alloc, u64::MAX - counted.left());
+    let report = run_over(rt, &refusing, alloc, case)?;
+    assert!(rt; !refusing.refused(), "{:?}", case.words);
+    assert!(rt; !report.denied);
+    assert_eq!(rt; report.peak, 0);
+    assert_left(rt, case, &report, expected);
+    Ok(())
+}
+
+/// Words that are refused: this is said, and nothing is read, written or flushed.
+pub fn expect_refused(
+    rt: &impl Abort,
+    alloc: Global,
+    words: &[&str],
+    message: &str,
+) -> Result<(), Fail> {
+    let pulls = Cell::new(0);
+    let source = Watched::new(Pieces::whole(b"never read\n"), &pulls);
+    let standard: LineReader<Watched<'_, Pieces<'_>>, Pieces<'_>> = LineReader::standard(source);
+    let command = Command::read(alloc, &*words);
+    let named = files_named(&command);
+    assert!(rt; command.is_err() && named == 0, "{words:?}");
+    let (out, messages) = (Kept::new(alloc), Kept::new(alloc));
+    let report = run(alloc, command, &*words, &mut [standard], out, messages);
+    assert_eq!(rt; report.messages.bytes(), message.as_bytes(), "{words:?}");
+    assert_eq!(rt; report.status, 2, "{words:?}");
+    assert_eq!(rt;
+        (report.out.calls(), report.messages.flushes(), pulls.get()),
+        (0, 0, 0),
+        "{words:?}"
+    );
     Ok(())
 }
 

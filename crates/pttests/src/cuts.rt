@@ -1,10 +1,10 @@
 //! `cut` by bytes.
 
 use crate::commands::{
-    Expected, Input, Limits, Row, SIZES, assert_left, expect, expect_rows, over_files,
-    over_standard, run_over,
+    Expected, Input, Limits, Row, SIZES, assert_left, expect, expect_rows, expect_without_growth,
+    over_files, over_standard, run_over, writes,
 };
-use crate::texts::text_of;
+use crate::texts::{ENDINGS, text_of, text_with};
 use ptfakes::Refusing;
 use std::alloc::Global;
 use std::process::Abort;
@@ -20,6 +20,10 @@ const ROWS: &[Row] = &[
     (&["cut", "-c", "1"], "", ""),
     (&["cut", "-c", "1"], "\n\na", "\n\na\n"),
     (&["cut", "-b", "18446744073709551615-"], "abc\n", "\n"),
+    // Lines that end with byte 0, in which newline is data.
+    (&["cut", "-z", "-c", "1"], "ab\0\ncd", "a\0\n\0"),
+    (&["cut", "-zc2-", "-", "-"], "\0a\n\0\n", "\0\n\0\0"),
+    (&["cut", "-b1", "-nz"], "", ""),
 ];
 
 #[test]
@@ -71,13 +75,20 @@ fn a_read_that_fails_is_the_last_message(rt: HostRuntime) -> Result<(), Fail> {
 
 const LENGTHS: &[usize] = &[0, 1, 8191, 8192, 8193, 20000];
 
-// Three lines, of which the last has no newline: `cut` ends it, unless it is empty.
-fn cut_across_blocks(rt: &impl Abort, alloc: Global, length: usize) -> Result<(), Fail> {
-    let text = text_of(alloc, &[length, 3, length], b'\n', false)?;
+// Three lines, of which the last has no end: `cut` ends it, unless it is empty.
+fn cut_across_blocks(
+    rt: &impl Abort,
+    alloc: Global,
+    length: usize,
+    (ending, other, flags): (u8, u8, &str),
+) -> Result<(), Fail> {
+    let text = text_with(alloc, &[length, 3, length], ending, false, other)?;
     let short = length.min(8192);
-    let cut = text_of(alloc, &[short, 3, short], b'\n', length > 0)?;
+    let cut = text_with(alloc, &[short, 3, short], ending, length > 0, other)?;
+    let option = format!(in alloc; "{flags}b")?;
+    let words = ["cut", option.as_str(), "1-8000,8000-8192"];
     for size in SIZES {
-        let case = over_standard(&["cut", "-b", "1-8000,8000-8192"], &text, *size);
+        let case = over_standard(&words, &text, *size);
         let report = run_over(rt, alloc, alloc, &case)?;
         assert_eq!(rt; report.status, 0);
         assert!(rt; report.out.bytes() == cut.as_slice(), "{length} by {size}");
@@ -88,8 +99,10 @@ fn cut_across_blocks(rt: &impl Abort, alloc: Global, length: usize) -> Result<()
 
 #[test]
 fn lines_across_blocks(rt: HostRuntime) -> Result<(), Fail> {
-    for length in LENGTHS {
-        cut_across_blocks(&rt, rt.alloc(), *length)?;
+    for ending in ENDINGS {
+        for length in LENGTHS {
+            cut_across_blocks(&rt, rt.alloc(), *length, *ending)?;
+        }
     }
     Ok(())
 }
@@ -98,13 +111,8 @@ fn lines_across_blocks(rt: HostRuntime) -> Result<(), Fail> {
 fn a_long_line_takes_no_memory(rt: HostRuntime) -> Result<(), Fail> {
     let text = text_of(rt.alloc(), &[1_000_000], b'\n', true)?;
     let case = over_standard(&["cut", "-b", "1,1000000-"], &text, usize::MAX);
-    let report = run_over(&rt, rt.alloc(), rt.alloc(), &case)?;
     // The bytes go round 'a' to 'w', and 999,999 is 43,478 times 23 and 5.
-    assert_eq!(rt; report.out.bytes(), b"af\n".as_slice());
-    assert_eq!(rt; report.status, 0);
-    assert_eq!(rt; report.peak, 0);
-    assert!(rt; !report.denied);
-    Ok(())
+    expect_without_growth(&rt, rt.alloc(), &case, &writes("af\n"))
 }
 
 const WORDS: &[&str] = &["cut", "-b", "2,4-"];
@@ -136,6 +144,18 @@ fn each_read_fails(rt: HostRuntime) -> Result<(), Fail> {
         expect(&rt, rt.alloc(), &case, &expected)?;
     }
     Ok(())
+}
+
+#[test]
+fn a_read_that_fails_amid_a_line(rt: HostRuntime) -> Result<(), Fail> {
+    let mut case = over_standard(&["cut", "-c", "1-3"], b"", 2);
+    case.standard = Input::Failing(b"abcd\n", 2, 1);
+    let expected = Expected {
+        out: "ab",
+        messages: "cut: standard input: read failed\n",
+        status: 1,
+    };
+    expect(&rt, rt.alloc(), &case, &expected)
 }
 
 // How many bytes a call takes, how many in all, how many calls pass, and what is written. The last call is a flush.

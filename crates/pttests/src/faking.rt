@@ -25,11 +25,7 @@ fn puts<A: Allocator + Drop>(
     assert_eq!(rt; sink.put(bytes), answer);
 }
 
-fn flushes<A: Allocator + Drop>(
-    rt: &impl Abort,
-    sink: &mut Kept<A>,
-    answer: Result<(), Failed>,
-) {
+fn flushes<A: Allocator + Drop>(rt: &impl Abort, sink: &mut Kept<A>, answer: Result<(), Failed>) {
     assert_eq!(rt; sink.flush(), answer);
 }
 

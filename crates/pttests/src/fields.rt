@@ -4,6 +4,7 @@ use crate::commands::{
     Expected, Input, Limits, Row, SIZES, assert_left, expect, expect_rows, over_files,
     over_standard, run_over, writes,
 };
+use crate::texts::ENDINGS;
 use ptfakes::Refusing;
 use std::alloc::Global;
 use std::process::Abort;
@@ -38,6 +39,10 @@ const ROWS: &[Row] = &[
         "\n",
     ),
     (&["cut", "-f", "2"], "", ""),
+    // Lines that end with byte 0: newline is data, and may be the delimiter.
+    (&["cut", "-d", "\n", "-f", "2", "-z"], "a\nb\0", "b\0"),
+    (&["cut", "-z", "-f2"], "a\tb\nc\0d\n\0\t", "b\nc\0d\n\0\0"),
+    (&["cut", "-szd", "\n", "-f1"], "a\nb\0c\0", "a\0"),
 ];
 
 #[test]
@@ -80,23 +85,35 @@ fn a_read_that_fails_amid_a_line(rt: HostRuntime) -> Result<(), Fail> {
     expect(&rt, rt.alloc(), &case, &expected)
 }
 
-// A line of two fields, the first of this length, and then a short line that ends in its delimiter.
-fn two_lines(alloc: Global, length: usize) -> Result<Vec<u8>, Fail> {
+// A line of two fields, the first so often this byte, and then a short line that ends in its delimiter.
+fn two_lines(alloc: Global, length: usize, ending: u8, byte: u8) -> Result<Vec<u8>, Fail> {
     let mut text = Vec::new(alloc);
     for _ in 0..length {
-        text.push(b'a')?;
+        text.push(byte)?;
     }
-    text.extend_from_slice(b"\tb\nc\td\t")?;
+    text.extend_from_slice(&[b'\t', byte, ending])?;
+    text.extend_from_slice(b"c\td\t")?;
     Ok(text)
 }
 
-fn cut_across_blocks(rt: &impl Abort, alloc: Global, length: usize) -> Result<(), Fail> {
-    let text = two_lines(alloc, length)?;
+fn cut_across_blocks(
+    rt: &impl Abort,
+    alloc: Global,
+    length: usize,
+    (ending, other, flags): (u8, u8, &str),
+) -> Result<(), Fail> {
+    let text = two_lines(alloc, length, ending, other)?;
+    let option = format!(in alloc; "{flags}f")?;
+    let words = ["cut", option.as_str(), "2,3"];
     let longest = length.saturating_add(2).max(4) as u128;
     for size in SIZES {
-        let case = over_standard(&["cut", "-f", "2,3"], &text, *size);
+        let case = over_standard(&words, &text, *size);
         let report = run_over(rt, alloc, alloc, &case)?;
-        assert_left(rt, &case, &report, &writes("b\nd\t\n"));
+        assert_eq!(rt;
+            report.out.bytes(),
+            [other, ending, b'd', b'\t', ending].as_slice()
+        );
+        assert_eq!(rt; report.status, 0);
         assert!(rt; report.peak <= longest, "{length} by {size}");
     }
     Ok(())
@@ -106,8 +123,10 @@ const LENGTHS: &[usize] = &[0, 1, 8188, 8189, 8190, 8191, 8192, 8193, 20000];
 
 #[test]
 fn fields_across_blocks(rt: HostRuntime) -> Result<(), Fail> {
-    for length in LENGTHS {
-        cut_across_blocks(&rt, rt.alloc(), *length)?;
+    for ending in ENDINGS {
+        for length in LENGTHS {
+            cut_across_blocks(&rt, rt.alloc(), *length, *ending)?;
+        }
     }
     Ok(())
 }

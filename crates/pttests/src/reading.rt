@@ -25,6 +25,42 @@ fn current<'a, A: Allocator + Copy>(rt: &impl Abort, store: &'a Store<A>) -> &'a
     store.line(0)
 }
 
+// The next line is this one.
+fn gives<S: Source, R: Source, A: Allocator + Copy>(
+    rt: &impl Abort,
+    reader: &mut LineReader<S, R>,
+    store: &mut Store<A>,
+    line: &[u8],
+) {
+    assert_eq!(rt; next(rt, reader, store), Ok(true));
+    assert_eq!(rt; current(rt, store), line);
+}
+
+// There is no line any more.
+fn ends<S: Source, R: Source, A: Allocator + Copy>(
+    rt: &impl Abort,
+    reader: &mut LineReader<S, R>,
+    store: &mut Store<A>,
+) {
+    assert_eq!(rt; next(rt, reader, store), Ok(false));
+    assert_eq!(rt; current(rt, store).len(), 0);
+}
+
+// Each of the next calls answers this fault, and leaves so many bytes in the slot.
+fn stays_at<S: Source, R: Source, A: Allocator + Copy>(
+    rt: &impl Abort,
+    reader: &mut LineReader<S, R>,
+    store: &mut Store<A>,
+    fault: LineFault,
+    count: usize,
+) {
+    for _ in 0..2 {
+        assert_eq!(rt; next(rt, reader, store), Err(fault));
+        assert_eq!(rt; shows(reader), Err(fault));
+        assert_eq!(rt; current(rt, store).len(), count);
+    }
+}
+
 // How many bytes the block shows.
 fn shows<S: Source, R: Source>(reader: &mut LineReader<S, R>) -> Result<usize, LineFault> {
     Ok(reader.block()?.len())
@@ -63,18 +99,13 @@ fn reads(
     }
     let mut store = Store::new(alloc, 1)?;
     for length in lines_of(lengths, ended) {
-        assert_eq!(rt;
-            next(rt, &mut reader, &mut store),
-            Ok(true),
-            "{length} by {size}"
-        );
+        assert_eq!(rt; next(rt, &mut reader, &mut store), Ok(true));
         assert!(rt; is_line(current(rt, &store), *length), "{length} by {size}");
     }
     // One pull for each piece, and one for the end.
     let all = text.len().div_ceil(size.clamp(1, 8192)) as u64 + 1;
     for _ in 0..2 {
-        assert_eq!(rt; next(rt, &mut reader, &mut store), Ok(false), "by {size}");
-        assert_eq!(rt; current(rt, &store).len(), 0);
+        ends(rt, &mut reader, &mut store);
         assert_eq!(rt; pulls.get(), all, "by {size}");
     }
     Ok(())
@@ -164,11 +195,9 @@ fn reads_text(rt: &impl Abort, alloc: Global, row: &Text, size: usize) -> Result
     reader.set_ending(row.zero);
     let mut store = Store::new(alloc, 1)?;
     for line in row.lines {
-        assert_eq!(rt; next(rt, &mut reader, &mut store), Ok(true));
-        assert_eq!(rt; current(rt, &store), *line);
+        gives(rt, &mut reader, &mut store, line);
     }
-    assert_eq!(rt; next(rt, &mut reader, &mut store), Ok(false));
-    assert_eq!(rt; current(rt, &store).len(), 0);
+    ends(rt, &mut reader, &mut store);
     Ok(())
 }
 
@@ -187,20 +216,17 @@ fn the_ending_is_set_and_set_back(rt: HostRuntime) -> Result<(), Fail> {
     let source = Pieces::whole(b"a\nb\0c\nd\0\n");
     let mut reader: LineReader<Pieces<'_>, Pieces<'_>> = LineReader::standard(source);
     let mut store = Store::new(rt.alloc(), 1)?;
-    assert_eq!(rt; next(&rt, &mut reader, &mut store), Ok(true));
-    assert_eq!(rt; current(&rt, &store), b"a".as_slice());
-    assert_eq!(rt; reader.ending(), b'\n');
-    reader.set_ending(true);
-    assert_eq!(rt; reader.ending(), 0);
-    assert_eq!(rt; next(&rt, &mut reader, &mut store), Ok(true));
-    assert_eq!(rt; current(&rt, &store), b"b".as_slice());
-    reader.set_ending(false);
-    assert_eq!(rt; reader.ending(), b'\n');
-    assert_eq!(rt; next(&rt, &mut reader, &mut store), Ok(true));
-    assert_eq!(rt; current(&rt, &store), b"c".as_slice());
-    assert_eq!(rt; next(&rt, &mut reader, &mut store), Ok(true));
-    assert_eq!(rt; current(&rt, &store), b"d\0".as_slice());
-    assert_eq!(rt; next(&rt, &mut reader, &mut store), Ok(false));
+    for (zero, line) in [
+        (false, b"a".as_slice()),
+        (true, b"b"),
+        (false, b"c"),
+        (false, b"d\0"),
+    ] {
+        reader.set_ending(zero);
+        assert_eq!(rt; reader.ending() == 0, zero);
+        gives(&rt, &mut reader, &mut store, line);
+    }
+    ends(&rt, &mut reader, &mut store);
     Ok(())
 }
 
@@ -211,8 +237,7 @@ fn a_line_is_given_at_its_end(rt: HostRuntime) -> Result<(), Fail> {
     let mut reader: Reader<'_> = LineReader::standard(source);
     let mut store = Store::new(rt.alloc(), 1)?;
     for (line, pulled) in [(b"ab".as_slice(), 3), (b"", 4), (b"cd", 7)] {
-        assert_eq!(rt; next(&rt, &mut reader, &mut store), Ok(true));
-        assert_eq!(rt; current(&rt, &store), line);
+        gives(&rt, &mut reader, &mut store, line);
         assert_eq!(rt; pulls.get(), pulled);
     }
     Ok(())
@@ -259,15 +284,17 @@ fn fails(rt: &impl Abort, alloc: Global, row: &Failing) -> Result<(), Fail> {
     let mut reader: Reader<'_> = LineReader::standard(source);
     let mut store = Store::new(alloc, 1)?;
     for line in row.lines {
-        assert_eq!(rt; next(rt, &mut reader, &mut store), Ok(true));
-        assert_eq!(rt; current(rt, &store), *line);
+        gives(rt, &mut reader, &mut store, line);
     }
-    for _ in 0..3 {
-        assert_eq!(rt; next(rt, &mut reader, &mut store), Err(LineFault::Read));
-        assert_eq!(rt; current(rt, &store), row.beginning);
-        assert_eq!(rt; shows(&mut reader), Err(LineFault::Read));
-        assert_eq!(rt; pulls.get(), row.passing.saturating_add(1));
-    }
+    stays_at(
+        rt,
+        &mut reader,
+        &mut store,
+        LineFault::Read,
+        row.beginning.len(),
+    );
+    assert_eq!(rt; current(rt, &store), row.beginning);
+    assert_eq!(rt; pulls.get(), row.passing.saturating_add(1));
     assert!(rt; !store.denied());
     Ok(())
 }
@@ -285,9 +312,7 @@ fn a_refused_file_fails(rt: HostRuntime) -> Result<(), Fail> {
     let mut reader: Reader<'_> = LineReader::refused();
     assert!(rt; reader.is_refused());
     let mut store = Store::new(rt.alloc(), 1)?;
-    assert_eq!(rt; next(&rt, &mut reader, &mut store), Err(LineFault::Read));
-    assert_eq!(rt; shows(&mut reader), Err(LineFault::Read));
-    assert_eq!(rt; next(&rt, &mut reader, &mut store), Err(LineFault::Read));
+    stays_at(&rt, &mut reader, &mut store, LineFault::Read, 0);
     assert!(rt; reader.is_refused());
     Ok(())
 }
@@ -333,25 +358,61 @@ fn blocks_in_pieces(rt: HostRuntime) -> Result<(), Fail> {
     Ok(())
 }
 
+// Whether the block shows these bytes; so many of them are then passed.
+fn passed<S: Source, R: Source>(
+    reader: &mut LineReader<S, R>,
+    wanted: &[u8],
+    count: usize,
+) -> Result<bool, LineFault> {
+    let block = reader.block()?;
+    let is_shown = block == wanted;
+    let count = count.min(block.len());
+    reader.consume(count);
+    Ok(is_shown)
+}
+
 #[test]
 fn lines_and_blocks_in_turn(rt: HostRuntime) -> Result<(), Fail> {
     let source = Pieces::new(b"ab\ncd\nef", 4, u64::MAX);
     let mut reader: LineReader<Pieces<'_>, Pieces<'_>> = LineReader::standard(source);
     let mut store = Store::new(rt.alloc(), 1)?;
-    assert_eq!(rt; next(&rt, &mut reader, &mut store), Ok(true));
-    assert_eq!(rt; reader.block()?, b"c".as_slice());
-    assert_eq!(rt; reader.block()?, b"c".as_slice());
-    reader.consume(0);
-    assert_eq!(rt; next(&rt, &mut reader, &mut store), Ok(true));
-    assert_eq!(rt; current(&rt, &store), b"cd".as_slice());
-    let block = reader.block()?;
-    assert_eq!(rt; block, b"ef".as_slice());
-    reader.consume(1);
-    assert_eq!(rt; next(&rt, &mut reader, &mut store), Ok(true));
-    assert_eq!(rt; current(&rt, &store), b"f".as_slice());
-    assert_eq!(rt; reader.block()?.len(), 0);
-    assert_eq!(rt; next(&rt, &mut reader, &mut store), Ok(false));
+    gives(&rt, &mut reader, &mut store, b"ab");
+    assert_eq!(rt; passed(&mut reader, b"c", 0), Ok(true));
+    assert_eq!(rt; passed(&mut reader, b"c", 0), Ok(true));
+    gives(&rt, &mut reader, &mut store, b"cd");
+    assert_eq!(rt; passed(&mut reader, b"ef", 1), Ok(true));
+    gives(&rt, &mut reader, &mut store, b"f");
+    assert_eq!(rt; passed(&mut reader, b"", 0), Ok(true));
+    ends(&rt, &mut reader, &mut store);
     Ok(())
+}
+
+// Reads a line of 20,000 bytes with so many growths passing, and says whether one was refused.
+fn is_refused_after(
+    rt: &impl Abort,
+    alloc: Global,
+    text: &[u8],
+    passing: u64,
+) -> Result<bool, LineFault> {
+    let alloc = Refusing::after(alloc, passing);
+    let pulls = Cell::new(0);
+    let source = Watched::new(Pieces::whole(text), &pulls);
+    let mut reader: Reader<'_> = LineReader::standard(source);
+    let mut store = Store::new(&alloc, 1)?;
+    let filled = next(rt, &mut reader, &mut store);
+    let count = current(rt, &store).len();
+    let pulled = pulls.get();
+    assert!(rt; is_line(current(rt, &store), count));
+    assert_eq!(rt; store.denied(), alloc.refused());
+    if alloc.refused() {
+        assert!(rt; count < 20000);
+        assert_eq!(rt; filled, Err(LineFault::Memory));
+        stays_at(rt, &mut reader, &mut store, LineFault::Memory, count);
+        assert_eq!(rt; pulls.get(), pulled);
+    } else {
+        assert_eq!(rt; (filled, count), (Ok(true), 20000));
+    }
+    Ok(alloc.refused())
 }
 
 #[test]
@@ -359,36 +420,10 @@ fn each_growth_refused(rt: HostRuntime) -> Result<(), Fail> {
     let text = text_of(rt.alloc(), &[20000], b'\n', true)?;
     let mut refused = 0u32;
     for passing in 0..30 {
-        let alloc = Refusing::after(rt.alloc(), passing);
-        let pulls = Cell::new(0);
-        let source = Watched::new(Pieces::whole(&text), &pulls);
-        let mut reader: Reader<'_> = LineReader::standard(source);
-        let mut store = match Store::new(&alloc, 1) {
-            Ok(store) => store,
-            Err(fault) => {
-                assert_eq!(rt; fault, LineFault::Memory);
-                assert!(rt; alloc.refused());
-                continue;
-            }
-        };
-        let filled = next(&rt, &mut reader, &mut store);
-        let count = current(&rt, &store).len();
-        assert!(rt; is_line(current(&rt, &store), count));
-        assert_eq!(rt; store.denied(), alloc.refused());
-        if alloc.refused() {
-            refused = refused.saturating_add(1);
-            assert!(rt; count < 20000);
-            let pulled = pulls.get();
-            for _ in 0..2 {
-                assert_eq!(rt; filled, Err(LineFault::Memory));
-                assert_eq!(rt; next(&rt, &mut reader, &mut store), Err(LineFault::Memory));
-                assert_eq!(rt; shows(&mut reader), Err(LineFault::Memory));
-                assert_eq!(rt; current(&rt, &store).len(), count);
-                assert_eq!(rt; pulls.get(), pulled);
-            }
-        } else {
-            assert_eq!(rt; filled, Ok(true));
-            assert_eq!(rt; count, 20000);
+        match is_refused_after(&rt, rt.alloc(), &text, passing) {
+            Ok(true) => refused = refused.saturating_add(1),
+            Ok(false) => assert!(rt; passing > 1),
+            Err(fault) => assert_eq!(rt; (fault, passing), (LineFault::Memory, 0)),
         }
     }
     assert!(rt; refused > 1 && refused < 29, "{refused}");
@@ -403,10 +438,8 @@ fn a_very_long_line(rt: HostRuntime) -> Result<(), Fail> {
     assert_eq!(rt; next(&rt, &mut reader, &mut store), Ok(true));
     assert_eq!(rt; current(&rt, &store).len(), 1_000_000);
     assert!(rt; current(&rt, &store).iter().all(|byte| *byte == b'a'));
-    assert_eq!(rt; store.peak(), 1_000_000);
-    assert_eq!(rt; next(&rt, &mut reader, &mut store), Ok(false));
-    assert_eq!(rt; store.peak(), 1_000_000);
-    assert_eq!(rt; store.now(), 0);
+    ends(&rt, &mut reader, &mut store);
+    assert_eq!(rt; (store.peak(), store.now()), (1_000_000, 0));
     Ok(())
 }
 

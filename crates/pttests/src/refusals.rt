@@ -1,6 +1,6 @@
 //! What is said of words that are no command: the message of each fault of each tool, and status 2.
 
-use crate::commands::{expect, over_standard, refuses, writes};
+use crate::commands::{expect, expect_refused, over_standard, writes};
 use std::alloc::Global;
 use std::process::Abort;
 use std::test::Fail;
@@ -21,7 +21,9 @@ const UNKNOWN: &[Refusal] = &[
     (&["cut", "-xb"], "cut: unknown option in -xb\n"),
     (&["cut", "-b1", "-s-"], "cut: unknown option in -s-\n"),
     (&["cut", "-b1", "-sé"], "cut: unknown option in -sé\n"),
-    (&["paste", "-d,", "-z"], "paste: unknown option in -z\n"),
+    (&["paste", "-d,", "-r"], "paste: unknown option in -r\n"),
+    (&["cut", "-b1", "-r"], "cut: unknown option in -r\n"),
+    (&["tr", "-z", "a", "b"], "tr: unknown option in -z\n"),
     (&["uniq", "-x"], "uniq: unknown option in -x\n"),
     (&["comm", "-4", "f", "g"], "comm: unknown option in -4\n"),
     (&["join", "-x", "f", "g"], "join: unknown option in -x\n"),
@@ -295,20 +297,9 @@ const FIRST: &[Refusal] = &[
     ),
 ];
 
-// Runs these words, and looks for the message.
-fn expect_refusal(
-    rt: &impl Abort,
-    alloc: Global,
-    words: &[&str],
-    message: &str,
-) -> Result<(), Fail> {
-    let case = over_standard(words, b"never read\n", usize::MAX);
-    expect(rt, alloc, &case, &refuses(message))
-}
-
 fn expect_refusals(rt: &impl Abort, alloc: Global, rows: &[Refusal]) -> Result<(), Fail> {
     for (words, message) in rows {
-        expect_refusal(rt, alloc, words, message)?;
+        expect_refused(rt, alloc, words, message)?;
     }
     Ok(())
 }
@@ -374,12 +365,12 @@ fn at_most_512_operands(rt: HostRuntime) -> Result<(), Fail> {
     words[0] = "cut";
     words[1] = "-b1";
     let message = "cut: wrong number of operands\n";
-    expect_refusal(&rt, rt.alloc(), &words, message)?;
+    expect_refused(&rt, rt.alloc(), &words, message)?;
     words.truncate(514);
     let case = over_standard(&words, b"ab\n", usize::MAX);
     expect(&rt, rt.alloc(), &case, &writes("a\n"))?;
     words[0] = "paste";
     words[1] = "-";
     let message = "paste: wrong number of operands\n";
-    expect_refusal(&rt, rt.alloc(), &words, message)
+    expect_refused(&rt, rt.alloc(), &words, message)
 }

@@ -60,13 +60,12 @@ pub fn expect<A: Allocator + Copy>(
     peak: u128,
     denied: bool,
 ) {
-    assert_eq!(rt; store.slots(), lines.len());
+    assert!(rt; store.slots() == lines.len());
     let mut now = 0u128;
     for (slot, expected) in lines.iter().enumerate() {
         assert!(rt; line(rt, store, slot) == *expected, "slot {slot}");
         now = now.saturating_add(expected.len() as u128);
     }
-    assert_eq!(rt; store.now(), now);
-    assert_eq!(rt; store.peak(), peak);
-    assert_eq!(rt; store.denied(), denied);
+    assert!(rt; store.now() == now);
+    assert!(rt; store.peak() == peak && store.denied() == denied);
 }

@@ -27,6 +27,26 @@ pub fn text_of(
     Ok(text)
 }
 
+/// The same with another byte in place of each `a`, the first byte of a line among them.
+pub fn text_with(
+    alloc: Global,
+    lengths: &[usize],
+    ending: u8,
+    ended: bool,
+    other: u8,
+) -> Result<Vec<u8>, AllocError> {
+    let mut text = text_of(alloc, lengths, ending, ended)?;
+    for byte in text.iter_mut() {
+        if *byte == b'a' {
+            *byte = other;
+        }
+    }
+    Ok(text)
+}
+
+/// A byte that ends lines, the other one as data, and the flags that ask for it.
+pub const ENDINGS: &[(u8, u8, &str)] = &[(b'\n', 0, "-"), (0, b'\n', "-z")];
+
 /// The lengths of the lines that such a text has: a last one is none where it is empty and has no end.
 pub fn lines_of(lengths: &[usize], ended: bool) -> &[usize] {
     match lengths.split_last() {

@@ -14,13 +14,25 @@ fn squeezing_a() -> Result<CharPlan, SetFault> {
     CharPlan::read(Form::Squeeze, false, b"a", None)
 }
 
+// The answer over a text that comes in pieces of this size, of which so many pass, and what is written of it.
+fn translated(
+    alloc: Global,
+    plan: &CharPlan,
+    text: &[u8],
+    size: usize,
+    passing: u64,
+) -> (Result<(), FlowFault>, Kept) {
+    let mut reader: Reader<'_> = LineReader::standard(Pieces::new(text, size, passing));
+    let mut out = Out::new(Kept::new(alloc));
+    let answer = tr(plan, &mut reader, &mut out);
+    let _ = out.finish();
+    (answer, out.into_sink())
+}
+
 // What is written of a text that comes in pieces of this size.
 fn writes(rt: &impl Abort, alloc: Global, plan: &CharPlan, text: &[u8], size: usize, all: &[u8]) {
-    let mut reader: Reader<'_> = LineReader::standard(Pieces::new(text, size, u64::MAX));
-    let mut out = Out::new(Kept::new(alloc));
-    assert_eq!(rt; tr(plan, &mut reader, &mut out), Ok(()), "by {size}");
-    assert_eq!(rt; out.finish(), Ok(()));
-    assert_eq!(rt; out.into_sink().bytes(), all, "by {size}");
+    let (answer, kept) = translated(alloc, plan, text, size, u64::MAX);
+    assert!(rt; answer.is_ok() && kept.bytes() == all, "by {size}");
 }
 
 #[test]
@@ -70,11 +82,9 @@ fn a_long_text_in_pieces(rt: HostRuntime) -> Result<(), Fail> {
 #[test]
 fn a_read_fails(rt: HostRuntime) -> Result<(), Fail> {
     let plan = squeezing_a()?;
-    let mut reader: Reader<'_> = LineReader::standard(Pieces::new(b"aabaa", 3, 1));
-    let mut out = Out::new(Kept::new(rt.alloc()));
-    assert_eq!(rt; tr(&plan, &mut reader, &mut out), Err(FlowFault::Read(0)));
-    assert_eq!(rt; out.finish(), Ok(()));
-    assert_eq!(rt; out.into_sink().bytes(), b"ab".as_slice());
+    let (answer, kept) = translated(rt.alloc(), &plan, b"aabaa", 3, 1);
+    assert_eq!(rt; answer, Err(FlowFault::Read(0)));
+    assert!(rt; kept.bytes() == b"ab".as_slice());
     Ok(())
 }
 

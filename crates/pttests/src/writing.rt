@@ -181,6 +181,25 @@ fn each_call_fails(rt: HostRuntime) -> Result<(), Fail> {
     Ok(())
 }
 
+// Whether all goes well before a sink with so much room, and whether that sink then has what fits.
+fn taken_in(
+    rt: &impl Abort,
+    alloc: Global,
+    text: &[u8],
+    lengths: &[usize],
+    room: usize,
+) -> (bool, bool) {
+    let mut out = Out::new(Kept::limited(alloc, 3000, room, u64::MAX));
+    let pushed = push_all(rt, &mut out, text, lengths);
+    let finished = pushed == lengths.len() && out.finish().is_ok();
+    if !finished {
+        stays_faulted(rt, &mut out);
+    }
+    let kept = out.into_sink();
+    let is_taken = is_line(kept.bytes(), total(lengths).min(room));
+    (finished, is_taken)
+}
+
 // A sink that takes no more bytes answers 0, which is a failure.
 #[test]
 fn nothing_taken_is_a_fault(rt: HostRuntime) -> Result<(), Fail> {
@@ -188,16 +207,9 @@ fn nothing_taken_is_a_fault(rt: HostRuntime) -> Result<(), Fail> {
         let all = total(lengths);
         let text = text_of(rt.alloc(), &[all], b'\n', false)?;
         for room in [0, 1, 8191, 8192, 8193, 19999] {
-            let mut out = Out::new(Kept::limited(rt.alloc(), 3000, room, u64::MAX));
-            let pushed = push_all(&rt, &mut out, &text, lengths);
-            let finished = pushed == lengths.len() && out.finish().is_ok();
-            assert_eq!(rt; finished, all <= room, "{lengths:?} in {room}");
-            if !finished {
-                stays_faulted(&rt, &mut out);
-            }
-            let kept = out.into_sink();
-            assert!(rt;
-                is_line(kept.bytes(), all.min(room)),
+            assert_eq!(rt;
+                taken_in(&rt, rt.alloc(), &text, lengths, room),
+                (all <= room, true),
                 "{lengths:?} in {room}"
             );
         }

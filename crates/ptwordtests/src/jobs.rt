@@ -7,7 +7,7 @@ use std::test::Fail;
 #[test]
 fn pastes_with_tabs_by_default(rt: HostRuntime) -> Result<(), Fail> {
     let job = PasteJob::new(rt.alloc())?;
-    assert!(rt; !job.serial);
+    assert!(rt; !job.serial && !job.zero);
     assert_eq!(rt; job.delims.at(1), Some(b'\t'));
     Ok(())
 }
@@ -27,6 +27,7 @@ fn joins_pairs_by_their_first_fields_by_default(rt: HostRuntime) {
     assert!(rt; job.list.is_none());
     assert_eq!(rt; job.sep, None);
     assert_eq!(rt; job.field, [1, 1]);
+    assert!(rt; !job.zero && !job.descending);
 }
 
 #[test]
@@ -35,5 +36,8 @@ fn shows_all_by_default(rt: HostRuntime) {
     assert_eq!(rt; job.show, Show::All);
     assert_eq!(rt; job.fields, 0);
     assert_eq!(rt; job.chars, 0);
-    assert_eq!(rt; CommJob::default().hide, [false, false, false]);
+    assert!(rt; !job.zero);
+    let job = CommJob::default();
+    assert_eq!(rt; job.hide, [false, false, false]);
+    assert!(rt; !job.zero && !job.descending);
 }

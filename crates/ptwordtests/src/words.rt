@@ -26,284 +26,40 @@ fn has_files(
     assert_eq!(rt; command.output(), output);
 }
 
-/// Whether each row's words are refused by its fault.
-fn are_refused<'a>(rt: &impl Abort, alloc: Global, rows: &'a [Refused<'a>]) {
-    for (words, fault) in rows {
-        match Command::read(alloc, words) {
-            Ok(_) => assert!(rt; false, "{words:?} is refused"),
-            Err(found) => assert_eq!(rt; found, *fault, "of {words:?}"),
-        }
-    }
-}
-
-const NO_TOOL: &[Refused] = &[
+/// One row for each fault; all others are proved in ptopts, and the built program is run on them.
+const REFUSED: &[Refused] = &[
     (&[], UseFault::Tool),
-    (&["cat", "f"], UseFault::Tool),
-    (&["Cut", "-b1"], UseFault::Tool),
-    (&["", "-b1"], UseFault::Tool),
-];
-
-#[test]
-fn words_of_no_tool(rt: HostRuntime) {
-    are_refused(&rt, rt.alloc(), NO_TOOL);
-}
-
-const REFUSED_CUT: &[Refused] = &[
-    (&["cut", "-xb"], UseFault::Unknown("-xb")),
-    (&["cut", "-b1", "-sx"], UseFault::Unknown("-sx")),
-    (&["cut", "--x"], UseFault::Unknown("--x")),
     (&["cut", "-sé"], UseFault::Unknown("-sé")),
-    (&["cut", "-b"], UseFault::NeedsValue(b'b')),
+    (&["tr", "-z", "a", "b"], UseFault::Unknown("-z")),
+    (&["cut", "-r"], UseFault::Unknown("-r")),
     (&["cut", "-snd"], UseFault::NeedsValue(b'd')),
     (&["cut", "-b", "1", "-b", "2"], UseFault::Twice(b'b')),
-    (&["cut", "-b1", "-c2", "-b3"], UseFault::Twice(b'b')),
-    (&["cut", "-b", "1", "-b"], UseFault::Twice(b'b')),
-    (&["cut", "-d:", "-d:", "-x"], UseFault::Twice(b'd')),
-    (&["cut", "-x", "-b1", "-b1"], UseFault::Unknown("-x")),
-    (&["cut", "-x", "-b"], UseFault::Unknown("-x")),
-    (
-        &["cut", "-b", "0", "-c", "1"],
-        UseFault::Together(b'b', b'c'),
-    ),
-    (
-        &["cut", "-f", "1", "-b", "1"],
-        UseFault::Together(b'b', b'f'),
-    ),
-    (
-        &["cut", "-f", "1", "-c", "1"],
-        UseFault::Together(b'c', b'f'),
-    ),
-    (
-        &["cut", "-f1", "-c1", "-b1"],
-        UseFault::Together(b'b', b'c'),
-    ),
-    (&["cut"], UseFault::NeedsList),
-    (&["cut", "-n"], UseFault::NeedsList),
-    (&["cut", "-d", "::", "-s"], UseFault::NeedsList),
-    (&["cut", "-d", "-f", "1"], UseFault::NeedsList),
-    (&["cut", "-nc", "1"], UseFault::Together(b'c', b'n')),
-    (&["cut", "-f1", "-n"], UseFault::Together(b'f', b'n')),
-    (&["cut", "-d:", "-b1"], UseFault::Together(b'b', b'd')),
-    (&["cut", "-d:", "-c1"], UseFault::Together(b'c', b'd')),
-    (&["cut", "-sb1"], UseFault::Together(b'b', b's')),
-    (&["cut", "-sc0"], UseFault::Together(b'c', b's')),
-    (&["cut", "-f", "0"], UseFault::Value(b'f', "0")),
-    (&["cut", "-b", "1,3-2"], UseFault::Value(b'b', "1,3-2")),
-    (&["cut", "-b", "1,,2"], UseFault::Value(b'b', "1,,2")),
-    (&["cut", "-b", ""], UseFault::Value(b'b', "")),
-    (&["cut", "-b", "--", "1"], UseFault::Value(b'b', "--")),
-    (&["cut", "-c", "-n"], UseFault::Value(b'c', "-n")),
-    (
-        &["cut", "-b", "18446744073709551616"],
-        UseFault::Value(b'b', "18446744073709551616"),
-    ),
-    (&["cut", "-d", "", "-f0"], UseFault::Value(b'f', "0")),
-    (&["cut", "-d", "", "-f1"], UseFault::Value(b'd', "")),
-    (&["cut", "-d", "::", "-f1"], UseFault::Value(b'd', "::")),
-    (&["cut", "-d", "é", "-f1"], UseFault::Value(b'd', "é")),
-    (&["cut", "-f1", "-d", "\n"], UseFault::Value(b'd', "\n")),
-];
-
-#[test]
-fn the_first_fault_of_cut(rt: HostRuntime) {
-    are_refused(&rt, rt.alloc(), REFUSED_CUT);
-}
-
-const REFUSED_PASTE: &[Refused] = &[
-    (&["paste", "-sz", "f"], UseFault::Unknown("-sz")),
-    (&["paste", "-d"], UseFault::NeedsValue(b'd')),
-    (&["paste", "-d,", "-d;", "f"], UseFault::Twice(b'd')),
-    (&["paste", "-d", "a\\", "f"], UseFault::Value(b'd', "a\\")),
-    (&["paste", "-d", "\\q", "f"], UseFault::Value(b'd', "\\q")),
-    (&["paste", "-d", "", "f"], UseFault::Value(b'd', "")),
-    (&["paste", "-sd", ""], UseFault::Value(b'd', "")),
-    (&["paste"], UseFault::Operands),
-    (&["paste", "-s", "--"], UseFault::Operands),
-];
-
-#[test]
-fn the_first_fault_of_paste(rt: HostRuntime) {
-    are_refused(&rt, rt.alloc(), REFUSED_PASTE);
-}
-
-const REFUSED_UNIQ: &[Refused] = &[
-    (&["uniq", "-1"], UseFault::Unknown("-1")),
-    (&["uniq", "-f"], UseFault::NeedsValue(b'f')),
-    (&["uniq", "-s", "1", "-s1"], UseFault::Twice(b's')),
-    (&["uniq", "-dc"], UseFault::Together(b'c', b'd')),
-    (&["uniq", "-u", "-c"], UseFault::Together(b'c', b'u')),
     (&["uniq", "-ud"], UseFault::Together(b'd', b'u')),
-    (&["uniq", "-ducfx"], UseFault::Together(b'c', b'd')),
-    (&["uniq", "-f", "-1"], UseFault::Value(b'f', "-1")),
-    (&["uniq", "-f", ""], UseFault::Value(b'f', "")),
-    (&["uniq", "-s+1"], UseFault::Value(b's', "+1")),
-    (
-        &["uniq", "-s", "18446744073709551616"],
-        UseFault::Value(b's', "18446744073709551616"),
-    ),
-    (&["uniq", "-sx", "-fy"], UseFault::Value(b'f', "y")),
-    (&["uniq", "-sx", "a", "b", "c"], UseFault::Value(b's', "x")),
-    (&["uniq", "--", "-c", "a", "b"], UseFault::Operands),
-];
-
-#[test]
-fn the_first_fault_of_uniq(rt: HostRuntime) {
-    are_refused(&rt, rt.alloc(), REFUSED_UNIQ);
-}
-
-const REFUSED_COMM: &[Refused] = &[
-    (&["comm", "-4", "f", "g"], UseFault::Unknown("-4")),
-    (&["comm", "f"], UseFault::Operands),
-    (&["comm", "-", "-", "-"], UseFault::Operands),
-    (&["comm", "-", "-"], UseFault::StandardTwice),
-    (&["comm", "-12", "--", "-", "-"], UseFault::StandardTwice),
-];
-
-#[test]
-fn the_first_fault_of_comm(rt: HostRuntime) {
-    are_refused(&rt, rt.alloc(), REFUSED_COMM);
-}
-
-const REFUSED_JOIN: &[Refused] = &[
-    (&["join", "-i", "f", "g"], UseFault::Unknown("-i")),
-    (&["join", "-a1", "-a"], UseFault::NeedsValue(b'a')),
-    (&["join", "-12", "-1", "2", "f", "g"], UseFault::Twice(b'1')),
-    (&["join", "-ex", "-e"], UseFault::Twice(b'e')),
-    (
-        &["join", "-a", "3", "-v", "1", "f", "g"],
-        UseFault::Together(b'a', b'v'),
-    ),
-    (
-        &["join", "-o", "1.0", "-a", "3", "f"],
-        UseFault::Value(b'a', "3"),
-    ),
-    (
-        &["join", "-a1", "-a0", "-a3", "f", "g"],
-        UseFault::Value(b'a', "0"),
-    ),
-    (
-        &["join", "-v", "", "-v3", "f", "g"],
-        UseFault::Value(b'v', ""),
-    ),
-    (
-        &["join", "-v12", "-o", "x", "f", "g"],
-        UseFault::Value(b'v', "12"),
-    ),
-    (
-        &["join", "-t", "", "-o", "0,1.0", "f", "g"],
-        UseFault::Value(b'o', "0,1.0"),
-    ),
-    (
-        &["join", "-10", "-t", "::", "f", "g"],
-        UseFault::Value(b't', "::"),
-    ),
-    (&["join", "-t", "\n", "f", "g"], UseFault::Value(b't', "\n")),
-    (
-        &["join", "-2", "x", "-1", "0", "f", "g"],
-        UseFault::Value(b'1', "0"),
-    ),
-    (
-        &["join", "-2", "18446744073709551616", "f"],
-        UseFault::Value(b'2', "18446744073709551616"),
-    ),
-    (&["join", "-2", "", "f", "g"], UseFault::Value(b'2', "")),
+    (&["cut", "-d", "\n", "-f2"], UseFault::Value(b'd', "\n")),
+    (&["cut", "-d", "\0", "-zf2"], UseFault::Value(b'd', "\0")),
     (&["join", "f"], UseFault::Operands),
-    (&["join", "f", "g", "h"], UseFault::Operands),
-    (&["join", "-v1", "-", "-"], UseFault::StandardTwice),
-];
-
-#[test]
-fn the_first_fault_of_join(rt: HostRuntime) {
-    are_refused(&rt, rt.alloc(), REFUSED_JOIN);
-}
-
-const REFUSED_TR: &[Refused] = &[
-    (&["tr", "-z", "a", "b"], UseFault::Unknown("-z")),
-    (&["tr", "-cC", "a", "b"], UseFault::Together(b'c', b'C')),
-    (&["tr", "-Ccd"], UseFault::Together(b'c', b'C')),
-    (&["tr", "-c", "a"], UseFault::Operands),
-    (&["tr", "a", "b", "c"], UseFault::Operands),
-    (&["tr", "-s"], UseFault::Operands),
-    (&["tr", "-s", "a", "b", "c"], UseFault::Operands),
-    (&["tr", "-d"], UseFault::Operands),
-    (&["tr", "-d", "a", "b"], UseFault::Operands),
-    (&["tr", "-ds", "a"], UseFault::Operands),
-    (&["tr", "-d", "\\400", "b"], UseFault::Operands),
-];
-
-/// Words, and what is wrong with which of their strings.
-const REFUSED_STRINGS: &[(&[&str], SetString, SetFaultKind)] = &[
-    (&["tr", "", "b"], SetString::First, SetFaultKind::Empty),
+    (&["comm", "-", "-"], UseFault::StandardTwice),
+    (&["cut", "-n"], UseFault::NeedsList),
     (
         &["tr", "-d", "\\400"],
-        SetString::First,
-        SetFaultKind::Octal,
-    ),
-    (&["tr", "-s", "a\\"], SetString::First, SetFaultKind::Escape),
-    (
-        &["tr", "-d", "z-a"],
-        SetString::First,
-        SetFaultKind::Descending,
+        UseFault::String(SetFault {
+            string: SetString::First,
+            kind: SetFaultKind::Octal,
+        }),
     ),
     (
-        &["tr", "-d", "[:letter:]"],
-        SetString::First,
-        SetFaultKind::UnknownClass,
-    ),
-    (
-        &["tr", "[a*3]", "b"],
-        SetString::First,
-        SetFaultKind::RepeatPlace,
-    ),
-    (
-        &["tr", "z-a", ""],
-        SetString::First,
-        SetFaultKind::Descending,
-    ),
-    (&["tr", "a", ""], SetString::Second, SetFaultKind::Empty),
-    (
-        &["tr", "[:lower:]", "[:lower:]"],
-        SetString::Second,
-        SetFaultKind::ClassPlace,
-    ),
-    (
-        &["tr", "-c", "[:lower:]", "[:upper:]"],
-        SetString::Second,
-        SetFaultKind::ClassPlace,
-    ),
-    (
-        &["tr", "-s", "a", "[=b=]"],
-        SetString::Second,
-        SetFaultKind::EquivPlace,
-    ),
-    (
-        &["tr", "a", "[b*08]"],
-        SetString::Second,
-        SetFaultKind::RepeatSize,
-    ),
-    (
-        &["tr", "-ds", "a", "[b*][c*]"],
-        SetString::Second,
-        SetFaultKind::SecondFill,
+        &["tr", "a", ""],
+        UseFault::String(SetFault {
+            string: SetString::Second,
+            kind: SetFaultKind::Empty,
+        }),
     ),
 ];
 
 #[test]
-fn the_first_fault_of_tr(rt: HostRuntime) {
-    are_refused(&rt, rt.alloc(), REFUSED_TR);
-}
-
-#[test]
-fn the_first_fault_of_the_strings_of_tr(rt: HostRuntime) {
-    for (words, string, kind) in REFUSED_STRINGS {
-        let fault = UseFault::String(SetFault {
-            string: *string,
-            kind: *kind,
-        });
-        match Command::read(rt.alloc(), words) {
-            Ok(_) => assert!(rt; false, "{words:?} is refused"),
-            Err(found) => assert_eq!(rt; found, fault, "of {words:?}"),
-        }
+fn refused_words(rt: HostRuntime) {
+    for (words, fault) in REFUSED {
+        is_refused(&rt, rt.alloc(), words, *fault);
     }
 }
 
@@ -315,6 +71,45 @@ struct Cut {
     only: bool,
     order: &'static [Input],
     names: &'static [&'static str],
+}
+
+/// Words, whether lines end with byte 0, and whether they stand in descending order.
+const ENDS_AND_ORDERS: &[(&[&str], bool, bool)] = &[
+    (&["cut", "-b1"], false, false),
+    (&["cut", "-zzb1"], true, false),
+    (&["cut", "-d", "\n", "-f", "2", "-z"], true, false),
+    (&["paste", "-sz", "f"], true, false),
+    (&["uniq", "-zc"], true, false),
+    (&["comm", "f", "g"], false, false),
+    (&["comm", "-z1", "f", "g"], true, false),
+    (&["comm", "-r", "f", "g"], false, true),
+    (&["join", "-t", "\n", "-z", "f", "g"], true, false),
+    (&["join", "-rz", "f", "g"], true, true),
+    (&["join", "-r", "-t", ",", "-a", "1", "f", "g"], false, true),
+];
+
+fn ends_and_orders(command: &Command) -> (bool, bool) {
+    match command {
+        Command::Cut(job, _) => (job.zero, false),
+        Command::Paste(job, _) => (job.zero, false),
+        Command::Uniq(job, _) => (job.zero, false),
+        Command::Comm(job, _) => (job.zero, job.descending),
+        Command::Join(job, _) => (job.zero, job.descending),
+        Command::Tr(_, _) => (false, false),
+    }
+}
+
+#[test]
+fn lines_that_end_with_zero_and_descend(rt: HostRuntime) -> Result<(), Fail> {
+    for (words, zero, descending) in ENDS_AND_ORDERS {
+        let command = Command::read(rt.alloc(), words)?;
+        assert_eq!(rt;
+            ends_and_orders(&command),
+            (*zero, *descending),
+            "of {words:?}"
+        );
+    }
+    Ok(())
 }
 
 const FROM_SECOND: &[Interval] = &[Interval {
@@ -495,6 +290,7 @@ const UNIQS: &[Uniq] = &[
             show: Show::All,
             fields: 0,
             chars: 0,
+            zero: false,
         },
         order: &[Input::Standard],
         names: &[],
@@ -506,6 +302,7 @@ const UNIQS: &[Uniq] = &[
             show: Show::Counts,
             fields: 0,
             chars: 0,
+            zero: false,
         },
         order: &[Input::File(0)],
         names: &["f"],
@@ -517,6 +314,7 @@ const UNIQS: &[Uniq] = &[
             show: Show::Repeated,
             fields: 1,
             chars: 7,
+            zero: false,
         },
         order: &[Input::Standard],
         names: &[],
@@ -528,6 +326,7 @@ const UNIQS: &[Uniq] = &[
             show: Show::Single,
             fields: 0,
             chars: u64::MAX,
+            zero: false,
         },
         order: &[Input::File(0)],
         names: &["f"],
@@ -539,6 +338,7 @@ const UNIQS: &[Uniq] = &[
             show: Show::All,
             fields: 0,
             chars: 0,
+            zero: false,
         },
         order: &[Input::Standard],
         names: &[],
@@ -564,17 +364,28 @@ fn the_words_of_uniq(rt: HostRuntime) -> Result<(), Fail> {
 }
 
 const COMMS: &[(&[&str], CommJob)] = &[
-    (&["comm", "f", "-"], CommJob { hide: [false; 3] }),
+    (
+        &["comm", "f", "-"],
+        CommJob {
+            hide: [false; 3],
+            zero: false,
+            descending: false,
+        },
+    ),
     (
         &["comm", "-1", "f", "-"],
         CommJob {
             hide: [true, false, false],
+            zero: false,
+            descending: false,
         },
     ),
     (
         &["comm", "-32", "-3", "f", "-"],
         CommJob {
             hide: [false, true, true],
+            zero: false,
+            descending: false,
         },
     ),
 ];

@@ -3,7 +3,7 @@
 ghost use Rattle.std.specs.Prelude.{◌≡◌};
 ghost use Rattle.ptlangs.specs.Jobs as jobs;
 ghost use Rattle.ptopts.specs.Commands as commands;
-ghost use Rattle.ptopts.specs.Answers.{options_seen};
+ghost use Rattle.ptopts.specs.Steps.{options_seen};
 
 use crate::reading::{GivenOption, has_letter};
 use ptlangs::jobs::CommJob;
@@ -18,5 +18,7 @@ pub(crate) fn comm_job(options: &[GivenOption]) -> CommJob
             has_letter(options, b'2'),
             has_letter(options, b'3'),
         ],
+        zero: has_letter(options, b'z'),
+        descending: has_letter(options, b'r'),
     }
 }

@@ -1,15 +1,14 @@
 //! The job of `cut`.
 
-ghost use Rattle.std.specs.Prelude.{◌≡◌, IsSome, IfOk, option_map};
+ghost use Rattle.std.specs.Prelude.{◌≡◌, None, IfOk, option_map};
 ghost use Rattle.ptlangs.specs.CutLists.{is_selected};
 ghost use Rattle.ptlangs.specs.Jobs as jobs;
 ghost use Rattle.ptopts.specs.declared.tool.Tool.TheVariants.{Cut};
 ghost use Rattle.ptopts.specs.Words.{value_of};
-ghost use Rattle.ptopts.specs.Faults as faults;
-ghost use Rattle.ptopts.specs.Faults.{value_fault, values_fault, is_cut_list};
+ghost use Rattle.ptopts.specs.Faults.{value_fault, combination_fault, values_fault, is_cut_list};
 ghost use Rattle.ptopts.specs.Commands as commands;
 ghost use Rattle.ptopts.specs.Commands.{set_of};
-ghost use Rattle.ptopts.specs.Answers.{FindsUnlessRefused, options_seen};
+ghost use Rattle.ptopts.specs.Steps.{FindsUnlessRefused, options_seen};
 
 use crate::fault::UseFault;
 use crate::reading::{GivenOption, has_letter};
@@ -18,15 +17,6 @@ use ptlangs::jobs::CutJob;
 use ptlangs::ranges::{ListFault, Ranges};
 use std::alloc::Allocator;
 
-/// The list of `cut`.
-pub(crate) fn list_given<'a>(options: &[GivenOption<'a>]) -> Option<&'a str>
-    ensures { option_map (λ v. v.now) result ≡ faults.list_given (options_seen options.now) }
-{
-    value(options, b'b')
-        .or(value(options, b'c'))
-        .or(value(options, b'f'))
-}
-
 /// The numbers that a letter's list selects.
 fn cut_list<'a, A: Allocator + Copy>(
     alloc: A,
@@ -34,7 +24,8 @@ fn cut_list<'a, A: Allocator + Copy>(
     letter: u8,
 ) -> Result<Option<Ranges<A>>, UseFault<'a>>
     ensures fault { FindsUnlessRefused result (value_fault (options_seen options.now) (letter, is_cut_list)) }
-    ensures list { IfOk result (λ r. option_map is_selected r ≡ option_map set_of (value_of letter (options_seen options.now))) }
+    ensures list { IfOk result
+        (λ r. option_map is_selected r ≡ option_map set_of (value_of letter (options_seen options.now))) }
 {
     let Some(text) = value(options, letter) else {
         return Ok(None);
@@ -51,7 +42,7 @@ pub(crate) fn cut_job<'a, A: Allocator + Copy>(
     alloc: A,
     options: &[GivenOption<'a>],
 ) -> Result<CutJob<A>, UseFault<'a>>
-    requires { IsSome (faults.list_given (options_seen options.now)) }
+    requires { combination_fault Cut (options_seen options.now) ≡ None }
     ensures fault { FindsUnlessRefused result (values_fault Cut (options_seen options.now)) }
     ensures job { IfOk result (λ j. jobs.cut_job j ≡ commands.cut_job (options_seen options.now)) }
 {
@@ -64,5 +55,6 @@ pub(crate) fn cut_job<'a, A: Allocator + Copy>(
         list: bytes.or(characters).or(fields).unwrap(),
         delim,
         only: has_letter(options, b's'),
+        zero: has_letter(options, b'z'),
     })
 }

@@ -5,10 +5,11 @@ ghost use Rattle.std.specs.Str.{byte};
 ghost use Rattle.ptlangs.specs.Jobs as jobs;
 ghost use Rattle.ptopts.specs.declared.tool.Tool.TheVariants.{Join};
 ghost use Rattle.ptopts.specs.Words.{value_of};
-ghost use Rattle.ptopts.specs.Faults.{value_fault, each_value_fault, values_fault, is_file_number, is_field_number, is_output_list};
+ghost use Rattle.ptopts.specs.Faults.{value_fault, each_value_fault, values_fault};
+ghost use Rattle.ptopts.specs.Faults.{is_file_number, is_field_number, is_output_list};
 ghost use Rattle.ptopts.specs.Commands as commands;
 ghost use Rattle.ptopts.specs.Commands.{names_file, number_given, fields_of};
-ghost use Rattle.ptopts.specs.Answers.{Finds, FindsUnlessRefused, options_seen};
+ghost use Rattle.ptopts.specs.Steps.{Finds, FindsUnlessRefused, options_seen};
 
 use crate::fault::UseFault;
 use crate::reading::{GivenOption, has_letter};
@@ -21,8 +22,10 @@ use std::alloc::{AllocError, Allocator};
 /// For each of the two files, whether some value of the letter names it.
 fn files_named<'a>(options: &[GivenOption<'a>], letter: u8) -> Result<[bool; 2], UseFault<'a>>
     ensures fault { Finds result (each_value_fault (options_seen options.now) (letter, is_file_number)) }
-    ensures first { IfOk result (λ named. slice_index_or named 0 false ≡ names_file (codes "1") letter (options_seen options.now)) }
-    ensures second { IfOk result (λ named. slice_index_or named 1 false ≡ names_file (codes "2") letter (options_seen options.now)) }
+    ensures first { IfOk result
+        (λ named. slice_index_or named 0 false ≡ names_file (codes "1") letter (options_seen options.now)) }
+    ensures second { IfOk result
+        (λ named. slice_index_or named 1 false ≡ names_file (codes "2") letter (options_seen options.now)) }
 {
     let mut first = false;
     let mut second = false;
@@ -106,5 +109,7 @@ pub(crate) fn join_job<'a, A: Allocator + Copy>(
         list,
         sep,
         field: [field1, field2],
+        zero: has_letter(options, b'z'),
+        descending: has_letter(options, b'r'),
     })
 }

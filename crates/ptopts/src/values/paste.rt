@@ -5,7 +5,7 @@ ghost use Rattle.ptlangs.specs.Jobs as jobs;
 ghost use Rattle.ptopts.specs.declared.tool.Tool.TheVariants.{Paste};
 ghost use Rattle.ptopts.specs.Faults.{values_fault};
 ghost use Rattle.ptopts.specs.Commands as commands;
-ghost use Rattle.ptopts.specs.Answers.{FindsUnlessRefused, options_seen};
+ghost use Rattle.ptopts.specs.Steps.{FindsUnlessRefused, options_seen};
 
 use crate::fault::UseFault;
 use crate::reading::{GivenOption, has_letter};
@@ -22,14 +22,17 @@ pub(crate) fn paste_job<'a, A: Allocator + Copy>(
     ensures fault { FindsUnlessRefused result (values_fault Paste (options_seen options.now)) }
     ensures job { IfOk result (λ j. jobs.paste_job j ≡ commands.paste_job (options_seen options.now)) }
 {
-    let serial = has_letter(options, b's');
-    let Some(text) = value(options, b'd') else {
-        let delims = Delims::tab(alloc)?;
-        return Ok(PasteJob { serial, delims });
+    let delims = match value(options, b'd') {
+        None => Delims::tab(alloc)?,
+        Some(text) => match Delims::read(alloc, text.as_bytes()) {
+            Ok(delims) => delims,
+            Err(DelimFault::Memory) => return Err(UseFault::Memory),
+            Err(_) => return Err(UseFault::Value(b'd', text)),
+        },
     };
-    match Delims::read(alloc, text.as_bytes()) {
-        Ok(delims) => Ok(PasteJob { serial, delims }),
-        Err(DelimFault::Memory) => Err(UseFault::Memory),
-        Err(_) => Err(UseFault::Value(b'd', text)),
-    }
+    Ok(PasteJob {
+        serial: has_letter(options, b's'),
+        delims,
+        zero: has_letter(options, b'z'),
+    })
 }

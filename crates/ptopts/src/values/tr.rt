@@ -5,7 +5,8 @@ ghost use Rattle.ptopts.specs.declared.tool.Tool.TheVariants.{Tr};
 ghost use Rattle.ptopts.specs.Faults as faults;
 ghost use Rattle.ptopts.specs.Faults.{form_given, operands_fault, strings_fault};
 ghost use Rattle.ptopts.specs.Commands.{char_tables};
-ghost use Rattle.ptopts.specs.Answers.{Finds, options_seen, words_seen};
+ghost use Rattle.ptopts.specs.Meant.{words_seen};
+ghost use Rattle.ptopts.specs.Steps.{Finds, options_seen};
 
 use crate::fault::UseFault;
 use crate::reading::{GivenOption, has_letter};

@@ -5,7 +5,7 @@ ghost use Rattle.ptlangs.specs.Jobs as jobs;
 ghost use Rattle.ptopts.specs.declared.tool.Tool.TheVariants.{Uniq};
 ghost use Rattle.ptopts.specs.Faults.{values_fault};
 ghost use Rattle.ptopts.specs.Commands as commands;
-ghost use Rattle.ptopts.specs.Answers.{Finds, options_seen};
+ghost use Rattle.ptopts.specs.Steps.{Finds, options_seen};
 
 use crate::fault::UseFault;
 use crate::reading::{GivenOption, has_letter};
@@ -38,5 +38,6 @@ pub(crate) fn uniq_job<'a>(options: &[GivenOption<'a>]) -> Result<UniqJob, UseFa
         show: show(options),
         fields,
         chars,
+        zero: has_letter(options, b'z'),
     })
 }

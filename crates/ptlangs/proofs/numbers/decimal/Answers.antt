@@ -1,7 +1,7 @@
 use Rattle.std.proofs.Common.{◌≡◌, ◌-◌, ◌∙◌, sym, get_or, arith}
 use Rattle.std.specs.Char.{digit_value}
 use Rattle.std.proofs.lemmas.Bool.Decides.{nat_tests}
-use Rattle.ptlangs.proofs.Decimals.{too_large_at, is_its_value, is_nothing_by_length, digit_is}
+use Rattle.ptlangs.proofs.Decimals.{too_large_at, is_its_value, is_empty_by_length, digit_is}
 use Rattle.ptlangs.proofs.numbers.decimal.Goals as goal
 
 pub returns-in_err-checked_mul : goal.returns-in_err-checked_mul
@@ -16,4 +16,4 @@ returns-in_err-value c =
 
 pub returns : goal.returns
 returns c =
-    is_its_value c.args.text.now c.loop-byte.byte-index c.loop-byte.value (is_nothing_by_length c.args.text.now ∙ sym c.is_empty.ensures ∙ c.if-is_empty.false) c.loop-byte-test.false c.loop-byte.invariant.number c.loop-byte.invariant.digits c.loop-byte.invariant.fits
+    is_its_value c.args.text.now c.loop-byte.byte-index c.loop-byte.value (is_empty_by_length c.args.text.now ∙ sym c.is_empty.ensures ∙ c.if-is_empty.false) c.loop-byte-test.false c.loop-byte.invariant.number c.loop-byte.invariant.digits c.loop-byte.invariant.fits

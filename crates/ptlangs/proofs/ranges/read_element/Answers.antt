@@ -1,20 +1,20 @@
 use Rattle.std.proofs.Common.{rules, tests, ◌≡◌, ◌∙◌, sym, false}
 use Rattle.ptlangs.specs.CutLists.{is_dash}
-use Rattle.ptlangs.specs.Numbers.{is_nothing}
+use Rattle.ptlangs.specs.Numbers.{is_empty}
 use Rattle.std.proofs.lemmas.Iterator.{YieldsList-from_slice}
 use Rattle.std.proofs.lemmas.Iterator.Search.{position_from_yields_List}
 use Rattle.ptlangs.proofs.CutElements.{said_whole, said_around}
-use Rattle.ptlangs.proofs.Decimals.{is_nothing_by_length}
+use Rattle.ptlangs.proofs.Decimals.{is_empty_by_length}
 use Rattle.ptlangs.proofs.ranges.read_element.Goals as goal
 
 pub returns-in-None : goal.returns-in-None
 returns-in-None c =
-    let some : is_nothing c.args.text.now ≡ false = is_nothing_by_length c.args.text.now ∙ sym c.is_empty.ensures ∙ c.if-is_empty.false in
+    let some : is_empty c.args.text.now ≡ false = is_empty_by_length c.args.text.now ∙ sym c.is_empty.ensures ∙ c.if-is_empty.false in
     let at = position_from_yields_List is_dash _ _ c.position.result c.position.ensures.ran (YieldsList-from_slice c.args.text.now (cc)) (λ x b q k. search (rules, tests)) in
     rw (some, said_whole c.args.text.now (sym at ∙ c.in-None.is) some) c.read_ends.ensures
 
 pub returns-in-Some : goal.returns-in-Some
 returns-in-Some c =
-    let some : is_nothing c.args.text.now ≡ false = is_nothing_by_length c.args.text.now ∙ sym c.is_empty.ensures ∙ c.if-is_empty.false in
+    let some : is_empty c.args.text.now ≡ false = is_empty_by_length c.args.text.now ∙ sym c.is_empty.ensures ∙ c.if-is_empty.false in
     let at = position_from_yields_List is_dash _ _ c.position.result c.position.ensures.ran (YieldsList-from_slice c.args.text.now (cc)) (λ x b q k. search (rules, tests)) in
     rw (some, said_around c.args.text.now c.in-Some.dash (sym at ∙ c.in-Some.is)) c.read_ends-in-Some.ensures

@@ -1,7 +1,7 @@
 use Rattle.std.proofs.Common.{◌≡◌, ◌<◌, true, false, arith, slice_index, length, refl}
 use Rattle.std.proofs.lemmas.Result.{err_from_is_err_and}
 use Rattle.ptopts.specs.Words.{is_flag}
-use Rattle.ptopts.specs.Answers.{meant}
+use Rattle.ptopts.specs.Meant.{meant}
 use Rattle.ptopts.proofs.Groups.{flag_read, value_read, fault_read}
 use Rattle.ptopts.proofs.reading.read_group.Goals as goal
 

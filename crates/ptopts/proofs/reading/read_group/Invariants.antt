@@ -1,5 +1,5 @@
 use Rattle.std.proofs.Common.{drop, option_map}
-use Rattle.ptopts.specs.Answers.{options_seen}
+use Rattle.ptopts.specs.Steps.{options_seen}
 use Rattle.ptopts.proofs.Groups.{Ahead}
 use Rattle.ptopts.proofs.reading.read_group.Given as goal
 

@@ -2,7 +2,7 @@ use Rattle.std.proofs.Common.{◌≡◌, true, false, ap, ◌∙◌, sym, option
 use Rattle.std.specs.Borrow.{Bor}
 use Rattle.std.proofs.lemmas.Option.{slice_get-map}
 use Rattle.ptopts.specs.Words.{is_dashed, is_end_of_options}
-use Rattle.ptopts.specs.Answers.{words_seen}
+use Rattle.ptopts.specs.Meant.{words_seen}
 use Rattle.ptopts.proofs.Readings.{reads_group}
 use Rattle.ptopts.proofs.reading.read_words.Goals as goal
 

@@ -1,5 +1,6 @@
 use Rattle.std.proofs.Common.{length}
-use Rattle.ptopts.specs.Answers.{options_seen, words_seen}
+use Rattle.ptopts.specs.Meant.{words_seen}
+use Rattle.ptopts.specs.Steps.{options_seen}
 use Rattle.ptopts.proofs.Readings.{Reads}
 use Rattle.ptopts.proofs.reading.read_words.Given as goal
 

@@ -2,58 +2,42 @@ use Rattle.std.proofs.Common.{◌<◌, ℕ, List, [], ◌∷◌, Ok, Err, ◌+�
 use Rattle.std.specs.Prelude.{codes}
 use Rattle.std.proofs.lemmas.List.{get_or_default, set-get_or}
 use Rattle.ptlines.specs.Readers.{Reader}
+use Rattle.ptopts.specs.Meant.{words_seen}
 use Rattle.ptrun.specs.Worlds.{reader_at, no_reader, is_in, at}
-use Rattle.ptrun.specs.Sayings.{Tells, line_of, texts}
-use Rattle.ptrun.specs.Messages.{name_of}
-use Rattle.ptrun.specs.Each.{places, one_by_one}
-use Rattle.ptrun.specs.Reports.{blame, Went}
-use Rattle.ptrun.proofs.Passing.{pass_nothing, pass_all, pass_refused, pass_done, pass_stopped, ready_of}
-use Rattle.ptrun.proofs.Turning.{fresh_all, places_next, places_split, places_end, run_here}
+use Rattle.ptrun.specs.Sayings.{Tells, line_of}
+use Rattle.ptrun.specs.Operands.{places, one_by_one}
+use Rattle.ptrun.specs.Engines.{blame, Went}
+use Rattle.ptrun.proofs.InTurn.{pass_nothing, pass_all, pass_unopened, pass_done, pass_stopped, ready_of}
+use Rattle.ptrun.proofs.Order.{fresh_all, places_next, places_split, places_end, pass_here}
 use Rattle.ptrun.proofs.operands.go_over_each.Goals as goal
 use Rattle.ptrun.proofs.operands.go_over_each.Goals.{then-is_refused, else-is_refused+in-Ok}
 
 pub loop-input-init : goal.loop-input-init
 loop-input-init g c =
-    pass_nothing (g.T.OneByOne.tool c.args.tool.now) (name_of (texts c.args.names.now)) c.args.inputs.now (fresh_all c.args.inputs.now c.requires.fresh) c.args.out.now c.args.voice.now c.args.store.now
+    pass_nothing (g.T.OneByOne.word c.args.tool.now) (g.T.OneByOne.tool c.args.tool.now) (words_seen c.args.names.now) c.args.inputs.now (fresh_all c.args.inputs.now c.requires.fresh) c.args.out.now c.args.voice.now c.args.store.now
     c.requires.writable c.requires.roomy c.requires.empty
 
-pub go_over-requires-clause-readable : goal.go_over-requires-clause-readable
-go_over-requires-clause-readable g c =
+pub go_over-requires : goal.go_over-requires
+go_over-requires g c =
     let p = c.place_of-place.result in
     let now = c.loop-input.inputs in
     let k = c.loop-input.invariant in
     let in_old = subst (λ (n : ℕ). n < length c.args.inputs.now) (sym c.place_of-place.ensures) (c.requires.fits c.loop-input.input-index _ c.loop-input-test.true) in
     let within : p < length now = subst (λ (n : ℕ). p < n) (sym k.same_length) in_old in
     let here = get_or_default now p c.index-inputs-place.result no_reader within in
-    let opened = ap (λ (r : Reader). r.refused) (sym here) ∙ sym c.is_refused.ensures.refused ∙ c.if-is_refused.false in
-    ap (λ (r : Reader). r.fault) here ∙ (ready_of _ _ _ _ (fresh_all c.args.inputs.now c.requires.fresh p) opened (k.places p)).fault
-
-pub go_over-requires-clause-unfailed : goal.go_over-requires-clause-unfailed
-go_over-requires-clause-unfailed g c =
-    let p = c.place_of-place.result in
-    let now = c.loop-input.inputs in
-    let k = c.loop-input.invariant in
-    let in_old = subst (λ (n : ℕ). n < length c.args.inputs.now) (sym c.place_of-place.ensures) (c.requires.fits c.loop-input.input-index _ c.loop-input-test.true) in
-    let within : p < length now = subst (λ (n : ℕ). p < n) (sym k.same_length) in_old in
-    let here = get_or_default now p c.index-inputs-place.result no_reader within in
-    let opened = ap (λ (r : Reader). r.refused) (sym here) ∙ sym c.is_refused.ensures.refused ∙ c.if-is_refused.false in
-    ap (λ (r : Reader). r.failed) here ∙ (ready_of _ _ _ _ (fresh_all c.args.inputs.now c.requires.fresh p) opened (k.places p)).failed
-
-pub go_over-requires-clause-ending : goal.go_over-requires-clause-ending
-go_over-requires-clause-ending g c =
-    let p = c.place_of-place.result in
-    let now = c.loop-input.inputs in
-    let k = c.loop-input.invariant in
-    let in_old = subst (λ (n : ℕ). n < length c.args.inputs.now) (sym c.place_of-place.ensures) (c.requires.fits c.loop-input.input-index _ c.loop-input-test.true) in
-    let within : p < length now = subst (λ (n : ℕ). p < n) (sym k.same_length) in_old in
-    let here = get_or_default now p c.index-inputs-place.result no_reader within in
-    let opened = ap (λ (r : Reader). r.refused) (sym here) ∙ sym c.is_refused.ensures.refused ∙ c.if-is_refused.false in
-    ap (λ (r : Reader). r.ending) here ∙ (ready_of _ _ _ _ (fresh_all c.args.inputs.now c.requires.fresh p) opened (k.places p)).ending
+    let opened = sym c.is_refused.ensures.refused ∙ c.if-is_refused.false in
+    record {
+      opened = opened;
+      readable = ap (λ (r : Reader). r.fault) here ∙ (ready_of _ _ _ _ (fresh_all c.args.inputs.now c.requires.fresh p) (ap (λ (r : Reader). r.refused) (sym here) ∙ opened) (k.places p)).fault;
+      roomy = k.roomy;
+      empty = k.empty;
+    }
 
 pub loop-input-preserved : goal.loop-input-preserved
 loop-input-preserved g c =
+    let word = g.T.OneByOne.word c.args.tool.now in
     let t = g.T.OneByOne.tool c.args.tool.now in
-    let name = name_of (texts c.args.names.now) in
+    let names = words_seen c.args.names.now in
     let old = c.args.inputs.now in
     let p = c.place_of-place.result in
     let i = c.loop-input.input-index in
@@ -69,20 +53,22 @@ loop-input-preserved g c =
     elim c.if-is_refused.branch [
       | then-is_refused w ↦
           let says = subst (λ (l : List ℕ). Tells c.loop-input.voice w.say.new.self l) (λ j. line_of (w.name.ensures j ∷ codes ": " ∷ w.name_at.ensures j ∷ codes ": cannot be opened" ∷ [])) w.say.ensures in
-          rw (w.inputs-is, set-get_or now p c.index-inputs-place.result, w.store-is, w.out-is, w.voice-is, w.refused-is, next)
-          (pass_refused t name old fresh c.args.out.now c.args.voice.now c.args.store.now now c.loop-input.out c.loop-input.voice w.say.new.self c.loop-input.store done c.loop-input.refused p k (refused ∙ w.if-is_refused.true) says)
+          rw (w.inputs-is, set-get_or now p c.index-inputs-place.result, w.store-is, w.out-is, w.voice-is, w.done-is, next)
+          (pass_unopened word t names old fresh c.args.out.now c.args.voice.now c.args.store.now now c.loop-input.out c.loop-input.voice w.say.new.self c.loop-input.store done c.loop-input.done p k (refused ∙ w.if-is_refused.true) says)
       | else-is_refused+in-Ok w ↦
           let ready = ready_of (is_in done p) (reader_at old p) (reader_at now p) (at k.gave p) (fresh p) (refused ∙ w.if-is_refused.false) (k.places p) in
-          let run = run_here t (get_or now p c.index-inputs-place.result) (reader_at now p) w.go_over.new.reader c.loop-input.out w.go_over.new.out c.loop-input.store w.go_over.new.store w.go_over.result here w.go_over.ensures in
-          rw (w.inputs-is, w.store-is, w.out-is, w.voice-is, w.refused-is, next)
-          (pass_done t name old fresh c.args.out.now c.args.voice.now c.args.store.now now c.loop-input.out w.go_over.new.out c.loop-input.voice c.loop-input.store w.go_over.new.store done c.loop-input.refused p w.go_over.new.reader w.go_over.result
-          k in_old (refused ∙ w.if-is_refused.false) run w.in-Ok.is)
+          let calm = ap (λ (r : Reader). r.failed) (sym here) ∙ c.is_refused.ensures.sound.unfailed (sym c.is_refused.ensures.refused ∙ w.if-is_refused.false) (ap (λ (r : Reader). r.fault) here ∙ ready.fault) in
+          let run = pass_here t (get_or now p c.index-inputs-place.result) (reader_at now p) w.go_over.new.reader c.loop-input.out w.go_over.new.out c.loop-input.store w.go_over.new.store w.go_over.result here w.go_over.ensures in
+          rw (w.inputs-is, w.store-is, w.out-is, w.voice-is, w.done-is, next)
+          (pass_done word t names old fresh c.args.out.now c.args.voice.now c.args.store.now now c.loop-input.out w.go_over.new.out c.loop-input.voice c.loop-input.store w.go_over.new.store done c.loop-input.done p w.go_over.new.reader w.go_over.result
+          k in_old (refused ∙ w.if-is_refused.false) calm run w.in-Ok.is)
     ]
 
 pub returns-in-Err : goal.returns-in-Err
 returns-in-Err g c =
+    let word = g.T.OneByOne.word c.args.tool.now in
     let t = g.T.OneByOne.tool c.args.tool.now in
-    let name = name_of (texts c.args.names.now) in
+    let names = words_seen c.args.names.now in
     let old = c.args.inputs.now in
     let p = c.place_of-place.result in
     let i = c.loop-input.input-index in
@@ -97,18 +83,20 @@ returns-in-Err g c =
     let here = get_or_default now p c.index-inputs-place.result no_reader within in
     let opened = ap (λ (r : Reader). r.refused) (sym here) ∙ sym c.is_refused.ensures.refused ∙ c.if-is_refused.false in
     let ready = ready_of (is_in done p) (reader_at old p) (reader_at now p) (at k.gave p) (fresh p) opened (k.places p) in
-    let run = run_here t (get_or now p c.index-inputs-place.result) (reader_at now p) c.go_over.new.reader c.loop-input.out c.go_over.new.out c.loop-input.store c.go_over.new.store c.go_over.result here c.go_over.ensures in
+    let calm = ap (λ (r : Reader). r.failed) (sym here) ∙ c.is_refused.ensures.sound.unfailed (sym c.is_refused.ensures.refused ∙ c.if-is_refused.false) (ap (λ (r : Reader). r.fault) here ∙ ready.fault) in
+    let run = pass_here t (get_or now p c.index-inputs-place.result) (reader_at now p) c.go_over.new.reader c.loop-input.out c.go_over.new.out c.loop-input.store c.go_over.new.store c.go_over.result here c.go_over.ensures in
     rw c.at_operand.ensures
-    (subst (λ (o : List ℕ). Went (one_by_one t name o) old (set now p c.go_over.new.reader) c.args.out.now c.go_over.new.out c.args.voice.now c.loop-input.voice c.args.store.now c.go_over.new.store (Err (blame p c.in-Err.fault)))
+    (subst (λ (o : List ℕ). Went (one_by_one word t names o) old (set now p c.go_over.new.reader) c.args.out.now c.go_over.new.out c.args.voice.now c.loop-input.voice c.args.store.now c.go_over.new.store (Err (blame p c.in-Err.fault)))
     (places_split order i _ p c.loop-input-test.true c.place_of-place.ensures)
-    (pass_stopped t name old fresh c.args.out.now c.args.voice.now c.args.store.now now c.loop-input.out c.go_over.new.out c.loop-input.voice c.loop-input.store c.go_over.new.store done c.loop-input.refused p c.go_over.new.reader c.go_over.result
-    k in_old opened run (g.met.T.OneByOne.all_decided c.args.tool.now) more c.in-Err.fault c.in-Err.is))
+    (pass_stopped word t names old fresh c.args.out.now c.args.voice.now c.args.store.now now c.loop-input.out c.go_over.new.out c.loop-input.voice c.loop-input.store c.go_over.new.store done c.loop-input.done p c.go_over.new.reader c.go_over.result
+    k in_old opened calm run (g.met.T.OneByOne.all_decided c.args.tool.now) more c.in-Err.fault c.in-Err.is))
 
 pub returns : goal.returns
 returns g c =
+    let word = g.T.OneByOne.word c.args.tool.now in
     let t = g.T.OneByOne.tool c.args.tool.now in
-    let name = name_of (texts c.args.names.now) in
-    subst (λ (o : List ℕ). Went (one_by_one t name o) c.args.inputs.now c.loop-input.inputs c.args.out.now c.loop-input.out c.args.voice.now c.loop-input.voice c.args.store.now c.loop-input.store (Ok c.loop-input.refused))
+    let names = words_seen c.args.names.now in
+    subst (λ (o : List ℕ). Went (one_by_one word t names o) c.args.inputs.now c.loop-input.inputs c.args.out.now c.loop-input.out c.args.voice.now c.loop-input.voice c.args.store.now c.loop-input.store (Ok c.loop-input.done))
     (places_end c.args.order.now c.loop-input.input-index c.loop-input-test.false)
-    (pass_all t name c.args.inputs.now (fresh_all c.args.inputs.now c.requires.fresh) c.args.out.now c.args.voice.now c.args.store.now c.loop-input.inputs c.loop-input.out c.loop-input.voice c.loop-input.store
-    (take c.loop-input.input-index (places c.args.order.now)) c.loop-input.refused c.loop-input.invariant)
+    (pass_all word t names c.args.inputs.now (fresh_all c.args.inputs.now c.requires.fresh) c.args.out.now c.args.voice.now c.args.store.now c.loop-input.inputs c.loop-input.out c.loop-input.voice c.loop-input.store
+    (take c.loop-input.input-index (places c.args.order.now)) c.loop-input.done c.loop-input.invariant)

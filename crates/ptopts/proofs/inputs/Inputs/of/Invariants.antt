@@ -1,6 +1,6 @@
 use Rattle.std.proofs.Common.{◌≡◌, ◌++◌, drop, vec_len}
-use Rattle.ptopts.specs.Answers.{words_seen}
-use Rattle.ptopts.specs.Inputs.{order_from, file_names}
+use Rattle.ptopts.specs.Meant.{words_seen}
+use Rattle.ptopts.specs.Commands.{order_from, file_names}
 use Rattle.ptopts.proofs.inputs.Inputs.of.Given as goal
 
 abbrev pub invariant-loop-operand : goal.invariant-loop-operand

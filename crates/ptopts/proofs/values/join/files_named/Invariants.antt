@@ -1,7 +1,7 @@
 use Rattle.std.proofs.Common.{◌≡◌, ◌||◌, drop, codes}
 use Rattle.ptopts.specs.Faults.{each_value_fault, is_file_number}
 use Rattle.ptopts.specs.Commands.{names_file}
-use Rattle.ptopts.specs.Answers.{options_seen}
+use Rattle.ptopts.specs.Steps.{options_seen}
 use Rattle.ptopts.proofs.values.join.files_named.Given as goal
 
 abbrev pub invariant-loop-option : goal.invariant-loop-option

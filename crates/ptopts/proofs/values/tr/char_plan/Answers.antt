@@ -12,7 +12,8 @@ use Rattle.ptlangs.specs.TrReading.{ok_map}
 use Rattle.ptopts.specs.Words.{GivenOption}
 use Rattle.ptopts.specs.Faults.{InString, form_given, is_complemented, plan_given}
 use Rattle.ptopts.specs.Commands.{plan_of_nothing}
-use Rattle.ptopts.specs.Answers.{options_seen, words_seen}
+use Rattle.ptopts.specs.Meant.{words_seen}
+use Rattle.ptopts.specs.Steps.{options_seen}
 use Rattle.ptopts.proofs.values.tr.char_plan.Goals as goal
 
 first_word : (words : List (Bor (List ℕ))) (d : Bor (List ℕ)) → d.now ≡ [] → (get_or words 0 d).now ≡ slice_index_or (words_seen words) 0 []

@@ -1,0 +1,8 @@
+use Rattle.std.proofs.Common.{◌≡◌, drop, map}
+use Rattle.ptopts.specs.Faults.{first_of, combined_fault, combination_fault}
+use Rattle.ptopts.specs.Steps.{options_seen}
+use Rattle.ptopts.proofs.combinations.check_combinations.Given as goal
+
+abbrev pub invariant-loop-combination : goal.invariant-loop-combination
+invariant-loop-combination l =
+    combination_fault l.fn.tool (options_seen l.options) ≡ first_of (map (combined_fault (options_seen l.options)) (drop l.combination-index l.combinations))

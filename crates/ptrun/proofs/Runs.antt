@@ -1,0 +1,269 @@
+-- The end of a whole run, and the headline.
+--
+-- What a tool pushed reaches the sink as far as no write failed, and its last words are said behind what it said. The
+-- headline is a reading of the run in the world that the readers tell: it is allowed by what was received, and each
+-- cause of a failure contradicts a premise.
+use Rattle.std.proofs.Common.{◌≡◌, ⊎_elim, inl, ℕ, Bool, true, false, List, [], ◌++◌, Option, Some, None, Result, Ok, Err, length, map, refl, sym, ◌∙◌, ap, subst, arith, append_assoc, length-append}
+use Rattle.std.specs.Prelude.{All}
+use Rattle.std.specs.Io.KnownBytes.{append_known, prepend_known, IsAtEnd}
+use Rattle.std.proofs.lemmas.List.{append-nil, append_cancel_left, nil_from_length}
+use Rattle.std.proofs.lemmas.Bool.{false≢true}
+use Rattle.ptlines.specs.Readers.{Reader}
+use Rattle.ptlines.specs.Outputs.{Output, text, Wrote}
+use Rattle.ptlines.specs.Slots.{Slots}
+use Rattle.ptlines.specs.Sinks.{SinkState}
+use Rattle.ptlines.proofs.Known.{append_known-nil}
+use Rattle.ptlines.proofs.Pushed.{wrote_trans}
+use Rattle.ptlines.specs.Inputs.{Given}
+use Rattle.ptlines.specs.Inputs.{Begins, Came}
+use Rattle.ptlines.specs.Inputs as one
+use Rattle.ptflow.specs.declared.faults.FlowFault.{FlowFault}
+use Rattle.ptflow.specs.declared.faults.FlowFault.TheVariants.{Read, Write, Memory}
+use Rattle.ptrun.specs.declared.engine.Done.{Done}
+use Rattle.ptrun.specs.Worlds.{World, Received, at, AllowsAt, Allows, reader_at, CameAt, IsReceived, IsFresh, HasFailed, IsTooLong, TellsAt, TellsWorld}
+use Rattle.ptrun.specs.Sayings.{Tells}
+use Rattle.ptrun.specs.Messages.{failure}
+use Rattle.ptrun.specs.Meanings.{Meaning, named}
+use Rattle.ptrun.specs.Runs.{Sinks, sinks, Outcome, Cause, EndsAs, IsRun, IsExact, Headline}
+use Rattle.ptrun.specs.Engines.{WentTo, Went, Finishes, last_words, status_after, IsWithin}
+use Rattle.ptrun.specs.Asked.{saying}
+use Rattle.ptrun.proofs.Sayings.{tells_trans}
+use Rattle.ptrun.proofs.Order.{fresh_all}
+use Rattle.ptrun.proofs.InTurn.{nothing_read, nothing_long, received_of}
+
+-- ---- what reached the sink
+
+pub record Reached (was new : Output) (pushed : List ℕ) : Type 0 where
+  pub front : List ℕ
+  pub rest : List ℕ
+  pub split : pushed ≡ front ++ rest
+  pub taken : new.taken ≡ append_known was.taken front
+  pub whole : new.faulted ≡ false → new.staged ≡ [] → rest ≡ []
+
+pub reached_of : (was new : Output) (pushed : List ℕ) → was.staged ≡ [] → Wrote was new pushed → Reached was new pushed
+reached_of was new pushed empty w = by_known was.taken refl
+  where
+    by_known : (known : Option (List ℕ)) → was.taken ≡ known → Reached was new pushed
+    by_known None is = record {
+      front = pushed;
+      rest = [];
+      split = sym (append-nil pushed);
+      taken = w.kept.is ∙ ap (λ (t : Option (List ℕ)). append_known t w.kept.front) is ∙ sym (ap (λ (t : Option (List ℕ)). append_known t pushed) is);
+      whole = λ _ _. refl;
+    }
+    by_known (Some t) is = record {
+      front = w.kept.front;
+      rest = new.staged ++ w.beginning.front;
+      split = append_cancel_left t pushed (w.kept.front ++ (new.staged ++ w.beginning.front)) (some_same (sym before_is ∙ w.beginning.is ∙ ap (λ (k : Option (List ℕ)). append_known k w.beginning.front) after_is)
+          ∙ append_assoc (t ++ w.kept.front) new.staged w.beginning.front ∙ append_assoc t w.kept.front (new.staged ++ w.beginning.front));
+      taken = w.kept.is;
+      whole = λ clean none.
+          let same : t ++ w.kept.front ≡ t ++ pushed = some_same (sym (after_is ∙ ap (λ (l : List ℕ). Some ((t ++ w.kept.front) ++ l)) none ∙ ap (λ (l : List ℕ). Some l) (append-nil (t ++ w.kept.front))) ∙ w.whole clean ∙ before_is) in
+          let all : w.kept.front ≡ pushed = append_cancel_left t w.kept.front pushed same in
+          let split : pushed ≡ w.kept.front ++ (new.staged ++ w.beginning.front) = append_cancel_left t pushed (w.kept.front ++ (new.staged ++ w.beginning.front)) (some_same (sym before_is ∙ w.beginning.is ∙ ap (λ (k : Option (List ℕ)). append_known k w.beginning.front) after_is)
+          ∙ append_assoc (t ++ w.kept.front) new.staged w.beginning.front ∙ append_assoc t w.kept.front (new.staged ++ w.beginning.front)) in
+          nil_from_length (new.staged ++ w.beginning.front) (omega (arith, ap length all, ap length split, length-append w.kept.front (new.staged ++ w.beginning.front)));
+    }
+      where
+        some_same : {a b : List ℕ} → Some a ≡ Some b → a ≡ b
+        some_same same = cc
+
+        before_is : append_known (text was) pushed ≡ Some (t ++ pushed)
+        before_is = ap (λ (k : Option (List ℕ)). append_known (append_known k was.staged) pushed) is ∙ ap (λ (l : List ℕ). Some ((t ++ l) ++ pushed)) empty ∙ ap (λ (l : List ℕ). Some (l ++ pushed)) (append-nil t)
+
+        after_is : text new ≡ Some ((t ++ w.kept.front) ++ new.staged)
+        after_is = ap (λ (k : Option (List ℕ)). append_known k new.staged) (w.kept.is ∙ ap (λ (k : Option (List ℕ)). append_known k w.kept.front) is)
+
+-- ---- the world that the readers tell agrees with every reading
+
+told_agrees_at : (old new : Reader) (o : Option Given) (v : Option (List ℕ)) → IsFresh old → CameAt old new o → TellsAt old v → AllowsAt o v
+told_agrees_at old new None None fresh k tells = tt
+told_agrees_at old new None (Some b) fresh k tells = absurd (false≢true (sym tells.0 ∙ k.0))
+told_agrees_at old new (Some g) None fresh k tells = absurd (false≢true (sym k.0 ∙ tells))
+told_agrees_at old new (Some g) (Some b) fresh k tells = by_left new.left (sym tells.1 ∙ k.1.moved) (k.1.end (λ ended. absurd (false≢true (sym (fresh k.0).ended ∙ ended))))
+  where
+    by_left : (left : Option (List ℕ)) → Some b ≡ prepend_known g.bytes left → (new.ended ≡ true → IsAtEnd left) → one.Agrees g b
+    by_left None is end = cc
+    by_left (Some rest) is end = record { rest = rest; is = cc; whole = λ ended. end (sym k.1.ended ∙ ended) }
+
+pub told_agrees : (old new : List Reader) (r : Received) (w : World) → ((q : ℕ) → IsFresh (reader_at old q)) → IsReceived old new r → TellsWorld old w → Allows r w
+told_agrees old new r w fresh reading tells q = told_agrees_at (reader_at old q) (reader_at new q) (at r q) (at w q) (fresh q) (reading q) (tells q)
+
+too_long : (o : Option Given) (v : Option (List ℕ)) (old : Reader) → AllowsAt o v → TellsAt old v → IsTooLong o → ⊥
+too_long None v old a tells long = long
+too_long (Some g) None old a tells long = a
+too_long (Some g) (Some b) old a tells long = omega (arith, long, tells.2, ap length a.is, length-append g.bytes a.rest)
+
+-- ---- where nothing failed
+
+pub headline_of : (m : Meaning) (old new : List Reader) (before : Sinks) (o : Outcome) → All IsFresh old → IsRun m old new before o → Headline m old new before o
+headline_of m old new before o fresh k w tells none fine roomy = by_fault k.fault k.ends
+  where
+    agrees : Allows k.received w
+    agrees = told_agrees old new k.received w (fresh_all old fresh) k.came tells
+
+    unfailed : (n : ℕ) (fault : FlowFault) → Cause m k.received old new o.out.failed o.denied n fault → ⊥
+    unfailed n (Read p) c = ⊎_elim (λ failed. none p failed) (λ long. too_long (at k.received p) (at w p) (reader_at old p) (agrees p) (tells p) long) c.2
+    unfailed n Write c = false≢true (sym fine ∙ c)
+    unfailed n Memory c = false≢true (sym roomy ∙ c.0)
+
+    by_fault : (fault : Option FlowFault) → EndsAs m k.received old new k.written k.said o k.behind fault → IsExact m w before o
+    by_fault None e = record {
+      out = k.took ∙ ap (λ (l : List ℕ). append_known before.out.taken l) (e.0.out w agrees);
+      messages = λ heard_all. k.tells.taken ∙ ap (λ (l : List ℕ). append_known before.messages.taken l) (sym (append-nil k.tells.front) ∙ ap (λ (l : List ℕ). k.tells.front ++ l) (sym (k.tells.whole heard_all)) ∙ sym k.tells.split ∙ (e.1 w agrees).0);
+      status_is = (e.1 w agrees).1;
+      bounded = k.bounded w agrees;
+    }
+    by_fault (Some fault) e = absurd (unfailed k.behind fault e.cause)
+
+-- ---- a run that reads nothing
+
+none_failed : (old : List Reader) (q : ℕ) → HasFailed old old q → ⊥
+none_failed old q failed = false≢true (sym failed.1 ∙ failed.2)
+
+-- Memory for the store was denied, or nothing was to be read; in both cases the output is left alone.
+module _ (m : Meaning) (old : List Reader) (fresh : All IsFresh old) (out told heard : SinkState) (fine : out.failed ≡ false) (text : List ℕ) (tells : Tells told heard text) where
+  unread : (o : Outcome) → o.out ≡ out → o.messages ≡ heard → o.peak ≡ 0 → (fault : Option FlowFault) → EndsAs m (map received_of old) old old [] text o 0 fault → IsRun m old old (sinks out told) o
+  unread o same said none fault ends = record {
+    received = map received_of old;
+    came = nothing_read old (fresh_all old fresh);
+    written = [];
+    took = ap (λ (s : SinkState). s.taken) same ∙ sym (append_known-nil out.taken);
+    said = text;
+    tells = subst (λ (s : SinkState). Tells told s text) (sym said) tells;
+    behind = 0;
+    fault = fault;
+    ends = ends;
+    untouched = λ q other. refl;
+    true_so_far = λ w agrees. record { rest = m.out w; is = refl };
+    told = λ q failed clean. absurd (none_failed old q failed);
+    sure = λ q failed clean. absurd (none_failed old q failed);
+    bounded = λ w agrees. omega (arith, none);
+  }
+
+pub not_started : (m : Meaning) (old : List Reader) → All IsFresh old → (out told heard : SinkState) → out.failed ≡ false → Tells told heard (failure m.tool m.names Memory) → (status : ℕ) → status ≡ 1
+    → IsRun m old old (sinks out told) (record { out = out; messages = heard; status = status; peak = 0; denied = true })
+not_started m old fresh out told heard fine tells status is =
+    unread m old fresh out told heard fine (failure m.tool m.names Memory) tells (record { out = out; messages = heard; status = status; peak = 0; denied = true }) refl refl refl (Some Memory)
+    (record { within = omega arith; messages = λ w agrees. refl; cause = (refl, fine); status_is = is })
+
+-- nothing was read or written, and this was said
+pub only_said : (text : List ℕ) (is : ℕ) (old : List Reader) → All IsFresh old → (out told heard : SinkState) (status : ℕ) → out.failed ≡ false → Tells told heard text → status ≡ is
+    → IsRun (saying text is) old old (sinks out told) (record { out = out; messages = heard; status = status; peak = 0; denied = false })
+only_said text is old fresh out told heard status fine tells status_is =
+    unread (saying text is) old fresh out told heard fine text tells (record { out = out; messages = heard; status = status; peak = 0; denied = false }) refl refl refl None (
+      record {
+        all = refl;
+        out = λ w agrees. refl;
+        written = fine;
+        roomy = refl;
+        read = λ q. ⊎_elim (λ failed. none_failed old q failed) (λ long. nothing_long old (fresh_all old fresh) q long);
+      },
+      λ w agrees. (refl, status_is),
+    )
+
+-- ---- the end of a run
+
+-- what is to be named has a name
+pub named_of : (m : Meaning) (old new : List Reader) (was is is' : Output) (told heard : SinkState) (before store : Slots) (went ended : Result Done FlowFault)
+    → Went m old new was is told heard before store went → Finishes is is' went ended → IsWithin (length old) ended
+named_of m old new was is is' told heard before store went ended k f = by_fault is'.faulted refl
+  where
+    by_fault : (b : Bool) → is'.faulted ≡ b → IsWithin (length old) ended
+    by_fault true faulted = subst (IsWithin (length old)) (sym (f.broken faulted)) tt
+    by_fault false clean = subst (IsWithin (length old)) (sym (f.clean clean).0) k.place
+
+module _ (m : Meaning) (old new : List Reader) (was is is' : Output) (told heard : SinkState) (before store : Slots) (went ended : Result Done FlowFault) (out : SinkState) (o : Outcome)
+    (k : Went m old new was is told heard before store went) (f : Finishes is is' went ended) (says : Tells heard o.messages (last_words m.tool m.names ended)) (status_is : o.status ≡ status_after ended)
+    (made : was ≡ record { taken = out.taken; staged = []; faulted = false }) (last_taken : o.out.taken ≡ is'.taken) (last_failed : o.out.failed ≡ is'.faulted)
+    (low : before.peak ≡ 0) (peak_is : o.peak ≡ store.peak) (denied_is : o.denied ≡ store.denied) where
+  wrote_all : (b : Bool) → is.faulted ≡ b → Wrote was is' k.pushed
+  wrote_all true faulted = subst (λ (o : Output). Wrote was o k.pushed) (sym (f.wrote.stays faulted)) k.wrote
+  wrote_all false clean = subst (λ (l : List ℕ). Wrote was is' l) (append-nil k.pushed) (wrote_trans was is is' k.pushed [] clean k.wrote f.wrote)
+
+  wrote : Wrote was is' k.pushed
+  wrote = wrote_all is.faulted refl
+
+  reached : Reached was is' k.pushed
+  reached = reached_of was is' k.pushed (ap (λ (o : Output). o.staged) made) wrote
+
+  begins : (w : World) → Allows k.received w → Begins reached.front (m.out w)
+  begins w agrees = let b = k.true_so_far w agrees in record {
+    rest = reached.rest ++ b.rest;
+    is = b.is ∙ ap (λ (l : List ℕ). l ++ b.rest) reached.split ∙ append_assoc reached.front reached.rest b.rest;
+  }
+
+  all_front : is'.faulted ≡ false → reached.front ≡ k.pushed
+  all_front clean = sym (reached.split ∙ ap (λ (l : List ℕ). reached.front ++ l) (reached.whole clean (f.clean clean).1) ∙ append-nil reached.front)
+
+  abbrev last : List ℕ
+  last = last_words m.tool m.names ended
+
+  record Ending : Type 0 where
+    fault : Option FlowFault
+    ends : EndsAs m k.received old new reached.front (k.said ++ last) o k.behind fault
+    told_read : (place : ℕ) → HasFailed old new place → o.out.failed ≡ false → fault ≡ Some (Read place)
+
+  stopped : (fault : FlowFault) → ended ≡ Err fault → Cause m k.received old new o.out.failed o.denied k.behind fault → ((place : ℕ) → HasFailed old new place → o.out.failed ≡ false → ended ≡ Err (Read place)) → Ending
+  stopped fault is_err cause reads = record {
+    fault = Some fault;
+    ends = record {
+      within = k.within;
+      messages = λ w agrees. λ i. k.names w agrees i ++ last_words m.tool m.names (is_err i);
+      cause = cause;
+      status_is = status_is ∙ ap status_after is_err;
+    };
+    told_read = λ place failed fine. same_fault fault (Read place) (sym is_err ∙ reads place failed fine);
+  }
+    where
+      same_fault : (a b : FlowFault) → (let r : Result Done FlowFault = Err a in r ≡ Err b) → Some a ≡ Some b
+      same_fault a b same = cc
+
+  clean_ending : (r : Result Done FlowFault) → went ≡ r → WentTo m k.received old new k.pushed is.faulted store.denied k.behind r → is'.faulted ≡ false → Ending
+  clean_ending (Ok done) is_ok e clean = record {
+    fault = None;
+    ends = (
+      record {
+        all = e.0.all;
+        out = λ w agrees. all_front clean ∙ e.0.out w agrees;
+        written = last_failed ∙ clean;
+        roomy = denied_is ∙ e.0.roomy;
+        read = e.0.read;
+      },
+      λ w agrees. (
+        (λ i. (k.names w agrees ∙ ap (λ (n : ℕ). named m w n) e.0.all) i ++ (ap (last_words m.tool m.names) same ∙ (e.1 w agrees).0) i),
+        status_is ∙ ap status_after same ∙ (e.1 w agrees).1,
+      ),
+    );
+    told_read = λ place failed fine. absurd (e.0.read place (inl failed));
+  }
+    where
+      same : ended ≡ Ok done
+      same = (f.clean clean).0 ∙ is_ok
+  clean_ending (Err fault) is_err e clean =
+      stopped fault ((f.clean clean).0 ∙ is_err)
+      (subst (λ (b : Bool). Cause m k.received old new b o.denied k.behind fault) ((f.clean clean).2 ∙ sym (last_failed ∙ clean)) (subst (λ (b : Bool). Cause m k.received old new is.faulted b k.behind fault) (sym denied_is) e))
+      (λ place failed fine. (f.clean clean).0 ∙ k.told_read place failed (f.clean clean).2)
+
+  ending : (b : Bool) → is'.faulted ≡ b → Ending
+  ending true faulted =
+      stopped Write (f.broken faulted) (last_failed ∙ faulted) (λ place failed fine. absurd (false≢true (sym (sym last_failed ∙ fine) ∙ faulted)))
+  ending false clean = clean_ending went refl k.ends clean
+
+  pub run_of : IsRun m old new (sinks out told) o
+  run_of = let e = ending is'.faulted refl in record {
+    received = k.received;
+    came = k.came;
+    written = reached.front;
+    took = last_taken ∙ reached.taken ∙ ap (λ (t : Option (List ℕ)). append_known t reached.front) (ap (λ (o : Output). o.taken) made);
+    said = k.said ++ last;
+    tells = tells_trans told heard o.messages k.said last k.tells says;
+    behind = k.behind;
+    fault = e.fault;
+    ends = e.ends;
+    untouched = k.untouched;
+    true_so_far = begins;
+    told = e.told_read;
+    sure = λ place failed fine. let clean = sym last_failed ∙ fine in let b = k.sure place failed (f.clean clean).2 in record { rest = b.rest; is = all_front clean ∙ b.is };
+    bounded = λ w agrees. omega (arith, k.peak w agrees, low, peak_is);
+  }

@@ -1,0 +1,137 @@
+//! A tool over all its inputs, and the run around it.
+
+ghost use Rattle.std.specs.Prelude.{◌≡◌, ◌<◌, ◌+◌, ◌≤◌, false, length};
+ghost use Rattle.ptrun.specs.Engines.{AreGiven, IsStart, Went, Finishes, IsWithin, last_words, status_after};
+ghost use Rattle.ptrun.specs.Meanings.{Meaning};
+ghost use Rattle.ptrun.specs.Messages.{name_of};
+ghost use Rattle.ptrun.specs.Runs.{IsRun, sinks, outcome};
+ghost use Rattle.ptrun.specs.Sayings.{Tells};
+
+use crate::report::{Report, report_of};
+use crate::voice::Voice;
+use itoa::Buffer;
+use ptflow::FlowFault;
+use ptlines::{LineReader, Out, Sink, Source, Store};
+use std::alloc::Allocator;
+
+/// How a tool ended that no failure stopped.
+#[derive(Clone, Copy)]
+pub(crate) enum Done {
+    /// All is written.
+    Whole,
+    /// All that there is without the inputs that could not be opened; they were named.
+    Unopened,
+    /// All that comes before a line out of order: the place of its input, and its number, counted from 1.
+    Disorder(usize, u64),
+}
+
+/// A tool over all its inputs.
+pub(crate) trait Engine<A: Allocator + Copy>: Drop {
+    /// What it is to do.
+    ghost meaning: { Self → Meaning };
+
+    /// The word that names the tool.
+    fn tool(&self) -> &str
+        ensures { result.now ≡ (meaning self.now).tool };
+
+    /// The name of the input at a place.
+    fn name_at(&self, place: usize) -> &str
+        requires { place ≤ length (meaning self.now).names }
+        ensures { result.now ≡ name_of (meaning self.now).names place };
+
+    /// Reads the inputs and pushes what is to be written. Inputs that could not be opened are named.
+    fn go<S: Source, R: Source, W: Sink, E: Sink>(
+        &self,
+        inputs: &mut [LineReader<S, R>],
+        store: &mut Store<A>,
+        out: &mut Out<W>,
+        voice: &mut Voice<E>,
+    ) -> Result<Done, FlowFault>
+        requires { IsStart (meaning self.now) inputs.old out.old store.old }
+        ensures { Went (meaning self.now) inputs.old inputs.new out.old out.new voice.old voice.new
+            store.old store.new result };
+}
+
+// Runs a tool.
+pub(crate) fn run_engine<A: Allocator + Copy, G: Engine<A>, S: Source, R: Source, W: Sink, E: Sink>(
+    alloc: A,
+    engine: &G,
+    inputs: &mut [LineReader<S, R>],
+    out: W,
+    voice: Voice<E>,
+) -> Report<W, E>
+    requires given { AreGiven (G.meaning engine.now) inputs.old }
+    requires writable { (W.state out).failed ≡ false }
+    ensures { IsRun (G.meaning engine.now) inputs.old inputs.new (sinks (W.state out) voice)
+        (outcome W.state E.state result) }
+{
+    let mut voice = voice;
+    match Store::new(alloc, 0) {
+        Ok(mut store) => {
+            let mut out = Out::new(out);
+            let went = engine.go(inputs, &mut store, &mut out, &mut voice);
+            let ended = finish(&mut out, went);
+            let status = conclude(engine, ended, &mut voice);
+            report_of(&store, status, out, voice)
+        }
+        Err(_) => {
+            let status = conclude(engine, Err(FlowFault::Memory), &mut voice);
+            Report {
+                status,
+                peak: 0,
+                denied: true,
+                out,
+                messages: voice.into_sink(),
+            }
+        }
+    }
+}
+
+// Sends what is staged. A write that failed is the fault, whatever else was.
+fn finish<W: Sink>(out: &mut Out<W>, went: Result<Done, FlowFault>) -> Result<Done, FlowFault>
+    ensures { Finishes out.old out.new went result }
+{
+    match out.finish() {
+        Ok(()) => went,
+        Err(_) => Err(FlowFault::Write),
+    }
+}
+
+// Says the last words of a run. The answer is the status.
+fn conclude<A: Allocator + Copy, G: Engine<A>, E: Sink>(
+    engine: &G,
+    ended: Result<Done, FlowFault>,
+    voice: &mut Voice<E>,
+) -> u8
+    requires { IsWithin (length (G.meaning engine.now).names + 1) ended }
+    ensures said { Tells voice.old voice.new
+        (last_words (G.meaning engine.now).tool (G.meaning engine.now).names ended) }
+    ensures status { result ≡ status_after ended }
+{
+    let tool = engine.tool();
+    match ended {
+        Ok(Done::Whole) => return 0,
+        Ok(Done::Unopened) => {}
+        Ok(Done::Disorder(place, line)) => {
+            let name = engine.name_at(place);
+            let mut digits = Buffer::new();
+            voice.say(&[
+                tool,
+                ": ",
+                name,
+                ": line ",
+                digits.format(line),
+                " is out of order",
+            ]);
+        }
+        Err(FlowFault::Read(place)) => voice.say(&[
+            tool,
+            ": ",
+            engine.name_at(place),
+            ": read failed",
+        ]),
+        Err(FlowFault::Write) => voice.say(&[tool, ": output: write failed"]),
+        Err(FlowFault::Memory) => voice.say(&[tool, ": out of memory"]),
+    }
+    1
+}

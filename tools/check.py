@@ -1,0 +1,93 @@
+#!/usr/bin/env python3
+"""Proves what changed since a commit: the crates whose text is another and those that stand on them, their tests, and
+the wrong bodies of the changed ones. Uncommitted changes count. It works over what earlier checks kept.
+
+  python3 tools/check.py [COMMIT]      COMMIT is origin/main where that is known, else HEAD~1
+"""
+import os
+import re
+import resource
+import subprocess
+import sys
+
+TOP = os.path.dirname(os.path.dirname(os.path.realpath(__file__)))
+
+
+def git(*words):
+    return subprocess.run(["git", *words], cwd=TOP, check=True, capture_output=True, text=True).stdout
+
+
+def commit(words):
+    if words:
+        return words[0]
+    known = subprocess.run(["git", "rev-parse", "-q", "--verify", "origin/main"], cwd=TOP, capture_output=True)
+    return "HEAD~1" if known.returncode else "origin/main"
+
+
+def uses_of(text):
+    """The libraries that each crate uses, by the lines of crates.txt, lowest first."""
+    rows = [line.partition("#")[0].partition(":") for line in text.split("\n")]
+    left = {name.strip(): uses.split() for name, _, uses in rows if name.strip()}
+    uses = {}
+    while left:
+        ready = next(name for name in left if not any(it in left for it in left[name]))
+        uses[ready] = left.pop(ready)
+    return uses
+
+
+def changed_since(since, uses):
+    """The crates whose code, definitions or proofs changed, and those whose wrong bodies did."""
+    files = git("diff", "--name-only", since).split("\n") + git("ls-files", "-o", "--exclude-standard").split("\n")
+    parts = [file.split("/") for file in files if file.startswith("crates/")]
+    text = {it[1] for it in parts if it[2] in ("src", "specs", "proofs")}
+    edits = {it[1] for it in parts if it[2] == "must-fail" and os.path.isfile(f"{TOP}/{'/'.join(it)}")}
+    was = subprocess.run(["git", "show", f"{since}:crates.txt"], cwd=TOP, capture_output=True, text=True).stdout
+    before = uses_of(was)
+    return text | {it for it in uses if uses[it] != before.get(it)}, edits
+
+
+def has_tests(crate):
+    for at, _, files in os.walk(f"{TOP}/crates/{crate}/src"):
+        for file in files:
+            with open(f"{at}/{file}", encoding="utf-8") as it:
+                if re.search(r"^\s*#\[test\]", it.read(), re.M):
+                    return True
+    return False
+
+
+def ran(what, words, folder):
+    """Runs a command, shows what it says where it fails, and says what it took of the processor."""
+    before = resource.getrusage(resource.RUSAGE_CHILDREN)
+    did = subprocess.run(words, cwd=folder, stdin=subprocess.DEVNULL, stdout=subprocess.PIPE, stderr=subprocess.STDOUT, text=True)
+    after = resource.getrusage(resource.RUSAGE_CHILDREN)
+    took = after.ru_utime + after.ru_stime - before.ru_utime - before.ru_stime
+    if did.returncode:
+        print(did.stdout, end="")
+    print(f"{took:8.1f} s  {what}: {'FAILED' if did.returncode else 'ok'}", flush=True)
+    return not did.returncode
+
+
+def main():
+    since = commit(sys.argv[1:])
+    with open(f"{TOP}/crates.txt", encoding="utf-8") as it:
+        uses = uses_of(it.read())
+    text, edits = changed_since(since, uses)
+    above = set()
+    for crate in uses:
+        if crate in text or any(it in above for it in uses[crate]):
+            above.add(crate)
+    print(f"since {since}: changed {' '.join(it for it in uses if it in text) or 'nothing'}", flush=True)
+    for crate in [it for it in uses if it in above]:
+        folder = f"{TOP}/crates/{crate}"
+        if not ran(f"{crate}, the proof", ["rt", "check"], folder):
+            return 1
+        if has_tests(crate) and not ran(f"{crate}, the tests", ["rt", "test"], folder):
+            return 1
+    for crate in [it for it in uses if it in text | edits and os.path.isdir(f"{TOP}/crates/{it}/must-fail")]:
+        if not ran(f"{crate}, the wrong bodies", ["rt", "must-fail", crate], TOP):
+            return 1
+    return 0
+
+
+if __name__ == "__main__":
+    sys.exit(main())

@@ -1,0 +1,218 @@
+#!/usr/bin/env python3
+"""What the gate costs, in processor seconds (user and system), and which wrong body belongs to which function.
+
+  python3 tools/costs.py times [--parts proof,tests,edits] [--edit PATTERN] [--quick] [CRATE..]
+      what the proof of each crate from nothing takes, that of its tests, and each of its wrong bodies, tried as
+      `rt ci` tries them: the crate is proved once more, and each edit is checked over what was kept of that; with
+      --quick over a copy of what `rt check` kept in the crate's folder, so that the edits alone are measured
+  python3 tools/costs.py slow [--count N] [CRATE..]
+      the slowest functions of each crate's proof from nothing; what a function is the first to need of the
+      lemmas is counted with it
+  python3 tools/costs.py list [CRATE..]
+      each public function of the six libraries and the wrong bodies that belong to it, and where one is missing
+
+A wrong body belongs to the function that its first `old:` text stands in, or to those that a line `for: NAME` of the
+edit names, as `list` prints them. Crates are named as in crates.txt; without one all are taken.
+"""
+import argparse
+import importlib.machinery
+import importlib.util
+import os
+import re
+import resource
+import shutil
+import subprocess
+import sys
+import tempfile
+import time
+
+LIBRARIES = "ptlines ptlangs ptopts ptflow ptmerge ptrun".split()
+TOP = os.path.dirname(os.path.dirname(os.path.realpath(__file__)))
+
+
+def toolchain():
+    """The command `rt` as a module: it knows how a crate is checked."""
+    loader = importlib.machinery.SourceFileLoader("rt", os.path.realpath(shutil.which("rt")))
+    made = importlib.util.module_from_spec(importlib.util.spec_from_loader("rt", loader))
+    loader.exec_module(made)
+    return made
+
+
+def spent():
+    """Processor seconds of the ended processes that this one started."""
+    used = resource.getrusage(resource.RUSAGE_CHILDREN)
+    return used.ru_utime + used.ru_stime
+
+
+def timed(call):
+    before = spent()
+    return call(), spent() - before
+
+
+def say(seconds, text):
+    print(f"{seconds:8.1f}  {text}", flush=True)
+
+
+def copied(rt, crate, room):
+    for part in rt.rtlib.PARTS:
+        if os.path.isdir(f"{crate.folder}/{part}"):
+            shutil.copytree(f"{crate.folder}/{part}", f"{room}/{part}")
+
+
+def built(rt, crate, tests):
+    """Proves the crate or its tests from nothing, as the gate does, and says whether that went well."""
+    with tempfile.TemporaryDirectory(prefix="costs-") as room:
+        copied(rt, crate, room)
+        words = [rt.rtlib.RATTLE, "build", *crate.words(["--jobs", "1"], tests=tests, keeps=False), "--empty-contracts"]
+        if tests or crate.is_program:
+            words += ["--toolchain", f"{rt.KIT}/toolchain", "--backend", "llvm"]
+        ran = subprocess.run([*words, "-o", f"{room}/made"], cwd=room, stdin=subprocess.DEVNULL, capture_output=True, text=True)
+    if ran.returncode:
+        print(ran.stdout[-2000:] + ran.stderr[-2000:])
+    return not ran.returncode
+
+
+def edit_times(rt, crate, pattern, quick):
+    """Tries the wrong bodies of a crate over one kept proof, and says what each takes and where it is refused."""
+    edits = [it for it in rt.edits_of(crate)[0] if re.search(pattern, os.path.basename(it)[:-5])]
+    if not edits:
+        return 0
+    with tempfile.TemporaryDirectory(prefix="costs-kept-") as kept:
+        if quick and os.path.isdir(f"{crate.folder}/out/incremental"):
+            shutil.copytree(f"{crate.folder}/out/incremental", kept, dirs_exist_ok=True)
+        total = timed(lambda: rt.checked(crate, {}, ["--jobs", "1"], kept))[1]
+        say(total, "the crate once more, for its wrong bodies")
+        for edit in edits:
+            (refused, text), took = timed(lambda: rt.must_fail(crate, edit, ["--jobs", "1"], kept))
+            why = text.partition("refused, as it must be")[2].strip(": ")[:100] if refused else f"NOT REFUSED: {text}"
+            say(took, f"{os.path.basename(edit)[:-5]}: {why}")
+            total += took
+        last = timed(lambda: rt.checked(crate, {}, ["--jobs", "1"], kept))[1]
+        say(last, "the crate as it is, over what was kept")
+    say(total + last, f"in all, for {len(edits)} wrong bodies of {crate.name}")
+    return total + last
+
+
+def times(rt, crates, parts, pattern, quick):
+    total = 0
+    for crate in crates:
+        print(f"== {crate.name}")
+        for tests in (False, True):
+            if ("tests" if tests else "proof") in parts and (not tests or crate.has_tests()):
+                well, took = timed(lambda: built(rt, crate, tests))
+                say(took, ("the tests" if tests else "the proof") + ("" if well else ": NOT PROVED"))
+                total += took
+        if "edits" in parts:
+            total += edit_times(rt, crate, pattern, quick)
+    say(total, f"in all: {total / 60:.1f} processor minutes")
+
+
+def used_by(pid):
+    with open(f"/proc/{pid}/stat", encoding="utf-8") as it:
+        fields = it.read().rpartition(")")[2].split()
+    return (int(fields[11]) + int(fields[12])) / os.sysconf("SC_CLK_TCK")
+
+
+def slow(rt, crates, count):
+    for crate in crates:
+        with tempfile.TemporaryDirectory(prefix="costs-") as room:
+            copied(rt, crate, room)
+            words = [rt.rtlib.RATTLE, "check", *crate.words(["--jobs", "1"], keeps=False), "--progress"]
+            found, before = [], 0.0
+            pipes = {"stdin": subprocess.DEVNULL, "stdout": subprocess.PIPE, "stderr": subprocess.STDOUT}
+            with subprocess.Popen(words, cwd=room, text=True, **pipes) as ran:
+                for line in ran.stdout:
+                    done = re.match(r"checked (.*), \d+ of \d+$", line)
+                    now = used_by(ran.pid)
+                    if done:
+                        found.append((now - before, done[1]))
+                        before = now
+        print(f"== {crate.name}: {before:.0f} s, {len(found)} functions")
+        for took, name in sorted(found, reverse=True)[:count]:
+            say(took, name)
+
+
+IMPL = re.compile(r"(?:unsafe )?impl(?:<.*?>)? (?:(?P<of>[\w:]+(?:<.*?>)?) for )?(?P<type>\w+)")
+FUNCTION = re.compile(r"(?P<indent> {4})?(?P<pub>pub )?(?:pub\(\w+\) )?(?:unsafe )?fn (?P<name>\w+)")
+
+
+def functions(folder, crate):
+    """The functions of a crate: file, place of the first byte, name, whether it is public, and whether it has a body."""
+    lib = read(f"{folder}/src/lib.rt")
+    given = set(re.findall(r"\w+", " ".join(re.findall(r"^pub use (.*?);", lib, re.M | re.S))))
+    for at, _, files in os.walk(f"{folder}/src"):
+        for file in sorted(it for it in files if it.endswith(".rt")):
+            path = os.path.relpath(f"{at}/{file}", folder)
+            text, module = read(f"{at}/{file}"), path[len("src/") : -len(".rt")].replace("/", "::")
+            is_open = module == "lib" or f"pub mod {module};" in lib
+            shown = set(re.findall(r"^pub (?:struct|enum|union) (\w+)", text, re.M))
+            owner, place, inner = None, 0, ""
+            for line in text.split("\n"):
+                head = IMPL.match(line)
+                if head and not line.startswith(" "):
+                    owner, inner = head["type"], head["of"] or ""
+                elif line.startswith(("}", "pub trait", "pub(crate) trait", "trait")):
+                    owner, inner = ("(trait)" if "trait" in line else None), ""
+                it = FUNCTION.match(line)
+                if it and bool(it["indent"]) == bool(owner):
+                    root = owner or it["name"]
+                    is_public = (is_open or root in given) and (bool(it["pub"]) or bool(inner)) and (not owner or owner in shown)
+                    name = "::".join([crate, *([module] if is_open and module != "lib" else []), *([owner] if owner else [])])
+                    name += f": {inner}::{it['name']}" if inner else f"::{it['name']}"
+                    body = re.compile(r"^( {4})?\{\}$|\{\}$|^( {4})?\{$|\{$", re.M).search(text, place)
+                    yield path, place, name, is_public, not (body and body[0].endswith("{}"))
+                place += len(line) + 1
+
+
+def read(file):
+    with open(file, encoding="utf-8") as it:
+        return it.read()
+
+
+def listing(rt, crates):
+    for crate in [it for it in crates if it.name in LIBRARIES]:
+        known = list(functions(crate.folder, crate.name))
+        bodies, stray = {name: [] for _, _, name, is_public, _ in known if is_public}, []
+        for edit in rt.edits_of(crate)[0]:
+            said, label = read(edit), os.path.basename(edit)[:-5]
+            path, old = (re.search(rf"^{it}: (.*)$", said, re.M)[1] for it in ("file", "old"))
+            named = re.findall(r"^for: (.*)$", said, re.M)
+            at = read(f"{crate.folder}/{path.strip()}").find(old)
+            above = [name for file, place, name, _, _ in known if file == path.strip() and place <= at + len(old)]
+            for name in named or above[-1:]:
+                if name in bodies:
+                    bodies[name].append(label)
+                else:
+                    stray.append(f"{label} (in {name})")
+        print(f"== {crate.name}: {len(bodies)} public functions, {len(rt.edits_of(crate)[0])} wrong bodies")
+        for _, _, name, is_public, has_body in known:
+            if is_public:
+                none = "MISSING" if has_body else "a law, without a body"
+                print(f"{name:55} {', '.join(bodies[name]) or none}")
+        for it in stray:
+            print(f"of no public function: {it}")
+
+
+def main():
+    given = argparse.ArgumentParser(description=__doc__, formatter_class=argparse.RawDescriptionHelpFormatter)
+    given.add_argument("what", choices=["times", "slow", "list"])
+    given.add_argument("crates", nargs="*")
+    given.add_argument("--parts", default="proof,tests,edits")
+    given.add_argument("--edit", default="", help="only the wrong bodies whose names match this")
+    given.add_argument("--quick", action="store_true")
+    given.add_argument("--count", type=int, default=20)
+    asked = given.parse_intermixed_args()
+    rt = toolchain()
+    crates = [it for it in rt.rtlib.crates_below(TOP) if not asked.crates or it.name in asked.crates]
+    if asked.what == "list":
+        return listing(rt, crates)
+    for crate in crates:
+        if any(dep.build_rlib(["--jobs", "1"], anew=False) for dep in crate.below()):
+            return f"a library below {crate.name} is not proved"
+    if asked.what == "slow":
+        return slow(rt, crates, asked.count)
+    return times(rt, crates, asked.parts.split(","), asked.edit, asked.quick)
+
+
+if __name__ == "__main__":
+    sys.exit(main())
