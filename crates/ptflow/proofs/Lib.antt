@@ -1,5 +1,6 @@
 pub mod BlockLemmas
 pub mod ByteRests
+pub mod CellSlots
 pub mod Chosen
 pub mod Continuations
 pub mod CutRows
@@ -7,15 +8,20 @@ pub mod FieldLines
 pub mod FieldPlaces
 pub mod FieldWalks
 pub mod Fronts
+pub mod Grids
 pub mod LineLaws
 pub mod LineLemmas
 pub mod LinesCame
 pub mod OpenRuns
 pub mod PassLemmas
+pub mod PasteLemmas
 pub mod PasteRows
 pub mod ReaderFacts
+pub mod RowTurns
 pub mod SerialRests
+pub mod SheetRows
 pub mod SlotFacts
+pub mod Takes
 pub mod TrRests
 pub mod TrRows
 pub mod TwoSlots

@@ -1,23 +1,20 @@
 -- The lines that came of a reader.
-use Rattle.std.proofs.Common.{◌≡◌, ◌⊎◌, ⊎_elim, inl, inr, ℕ, ◌==◌, ◌<◌, ◌≤◌, Bool, true, false, cond, List, [], ◌∷◌, ◌++◌, length, max, refl, sym, ◌∙◌, ap, subst, arith, append_assoc, length-append}
+use Rattle.std.proofs.Common.{◌≡◌, ◌⊎◌, ⊎_elim, inl, inr, ℕ, ◌+◌, ◌==◌, ◌<◌, ◌≤◌, Bool, true, false, cond, List, [], ◌∷◌, ◌++◌, length, max, refl, sym, ◌∙◌, ap, subst, arith, append_assoc, length-append}
 use Rattle.std.specs.List.{onto_first}
 use Rattle.std.proofs.lemmas.Bool.{false≢true}
 use Rattle.std.proofs.lemmas.List.{append-nil}
 use Rattle.ptlines.specs.Text.{text, lines, ended_lines, IsLine, AreLines, longest, longest_line}
-use Rattle.ptlines.specs.Inputs.{Agrees, whole_lines}
+use Rattle.ptlines.specs.Inputs.{Given, Agrees, whole_lines}
 use Rattle.ptlines.specs.Readers.{Reader, Reads, IsDone}
 use Rattle.ptlines.specs.Slots.{Slots}
 use Rattle.ptlines.specs.Fills.{GivesLine}
 use Rattle.ptlines.proofs.TextLaws.{lines_of_text, lines_last, lines_first, lines-text, text_push, AreLines_push, ended_of_text}
+use Rattle.ptflow.specs.Workings.TakenLines.{LinesCame}
 use Rattle.ptflow.proofs.LineLaws.{longest_piece, longest-append}
 use Rattle.ptflow.proofs.ReaderFacts.{given_of, done_gives_nothing}
 
 longest_front : (end : ℕ) (ls : List (List ℕ)) (piece rest : List ℕ) → AreLines end ls → IsLine end piece → max (longest ls) (length piece) ≤ longest (lines end (text end ls ++ (piece ++ rest)))
 longest_front end ls piece rest whole free = omega (arith, ap longest (lines_of_text end ls (piece ++ rest) whole) ∙ longest-append ls (lines end (piece ++ rest)), longest_piece end piece rest free)
-
--- these are the lines of what was given: all whole so far, or the last one at the end of the source
-pub record LinesCame (end : ℕ) (reader : Reader) (given : List ℕ) (ls : List (List ℕ)) : Type 0 where
-  pub so_far : ((given ≡ text end ls) × AreLines end ls) ⊎ ((lines end given ≡ ls) × IsDone reader)
 
 pub lines_none : (end : ℕ) (reader : Reader) → LinesCame end reader [] []
 lines_none end reader = record { so_far = inl (refl, tt) }
@@ -77,9 +74,9 @@ module _ (end : ℕ) (now : Reader) (given : List ℕ) (ls : List (List ℕ)) (k
     pub whole_before : new.held ≡ [] → new.ended ≡ false → whole_lines end (given_of (given ++ piece) new) ≡ ls
     whole_before empty going =
         ⊎_elim
-        (λ o. (λ i. whole_lines end (record { bytes = (o.0 i ++ piece) ++ empty i; ended = going i })) ∙ ap (ended_lines end) (append-nil (text end ls ++ piece)) ∙ ended_of_text end ls piece o.1 free)
-        (λ c. absurd (false≢true (sym going ∙ (done_gives_nothing now new piece c.1 reads).2)))
-        k.so_far
+            (λ o. (λ i. whole_lines end (record { bytes = (o.0 i ++ piece) ++ empty i; ended = going i })) ∙ ap (ended_lines end) (append-nil (text end ls ++ piece)) ∙ ended_of_text end ls piece o.1 free)
+            (λ c. absurd (false≢true (sym going ∙ (done_gives_nothing now new piece c.1 reads).2)))
+            k.so_far
 
   -- a line came
   module _ (new : Reader) (before after : Slots) (slot : ℕ) (e : GivesLine now new before after slot) (same : now.ending ≡ end) where

@@ -1,19 +1,19 @@
 -- What `paste` in series writes of the rest of a text, byte by byte and block by block.
-use Rattle.std.proofs.Common.{◌≡◌, ◌≢◌, ℕ, ◌+◌, ◌==◌, ◌<◌, ◌≤◌, Bool, true, false, cond, List, [], ◌∷◌, ◌++◌, Option, Some, length, take, drop, refl, sym, ◌∙◌, ap, arith, append_assoc}
+use Rattle.std.proofs.Common.{◌≡◌, ◌≢◌, ℕ, ◌+◌, ◌==◌, ◌<◌, ◌≤◌, Bool, true, false, cond, List, [], ◌∷◌, ◌++◌, Option, None, Some, length, take, drop, refl, sym, ◌∙◌, ap, arith, append_assoc}
 use Rattle.std.specs.List.{onto_first}
 use Rattle.std.proofs.lemmas.List.{append-nil, append_cancel_right}
 use Rattle.memchr.specs.Find.{IsFirstByte, is_byte}
-use Rattle.ptlines.specs.Text.{lines, ended_lines, IsLine}
+use Rattle.ptlines.specs.Text.{text, lines, ended_lines, IsLine}
 use Rattle.ptlines.specs.Inputs.{Begins}
 use Rattle.ptlines.specs.Outputs.{Output, Wrote}
 use Rattle.ptlines.proofs.Scanned.{before_end}
 use Rattle.ptlines.proofs.TextLaws.{lines_first, lines_of_text, other_byte}
 use Rattle.ptlangs.specs.Jobs.{Paste}
-use Rattle.ptflow.specs.Pastes.{delimiter, glued_from, serial_decided}
-use Rattle.ptflow.specs.Workings.SerialRests.{row_rest, serial_rest, begun, lead}
+use Rattle.ptflow.specs.Pastes.{delimiter, glued_from, paste_serial, serial_decided}
+use Rattle.ptflow.specs.Workings.SerialRests.{row_rest, row_from, serial_rest, begun, lead}
 use Rattle.ptflow.specs.declared.serial.Cell.{Cell}
 use Rattle.ptflow.proofs.Continuations.{Amid, amid_more}
-use Rattle.ptflow.proofs.LineLaws.{parts_of, split_of}
+use Rattle.ptflow.proofs.LineLaws.{Parts, parts_of, split_of}
 
 pub begun_number : (cell : Cell) → (begun cell).number ≤ cell.number + 1
 begun_number cell = by_ended cell.ended
@@ -24,7 +24,7 @@ begun_number cell = by_ended cell.ended
 
 module _ (end : ℕ) (delims : List (Option ℕ)) where
   -- a line, and then what follows its cell
-  row_line : (number : ℕ) (line : List ℕ) (more : List (List ℕ)) → row_rest end delims number false (line ∷ more) ≡ line ++ row_rest end delims number true more
+  pub row_line : (number : ℕ) (line : List ℕ) (more : List (List ℕ)) → row_rest end delims number false (line ∷ more) ≡ line ++ row_rest end delims number true more
   row_line number line [] = refl
   row_line number line (l ∷ more) =
       append_assoc (line ++ delimiter delims number) (glued_from delims (number + 1) (l ∷ more)) (end ∷ []) ∙ append_assoc line (delimiter delims number) (glued_from delims (number + 1) (l ∷ more) ++ end ∷ [])
@@ -36,7 +36,7 @@ module _ (end : ℕ) (delims : List (Option ℕ)) where
   row_byte number b (l ∷ m ∷ ls) = refl
 
   -- the cell to which the next line belongs
-  row_begun : (cell : Cell) (line : List ℕ) (more : List (List ℕ)) → row_rest end delims cell.number cell.ended (line ∷ more) ≡ lead delims cell ++ row_rest end delims (begun cell).number false (line ∷ more)
+  pub row_begun : (cell : Cell) (line : List ℕ) (more : List (List ℕ)) → row_rest end delims cell.number cell.ended (line ∷ more) ≡ lead delims cell ++ row_rest end delims (begun cell).number false (line ∷ more)
   row_begun cell line more = by_ended cell.ended
     where
       by_ended : (t : Bool) → row_rest end delims cell.number t (line ∷ more) ≡ cond t (delimiter delims cell.number) [] ++ row_rest end delims (cond t (cell.number + 1) cell.number) false (line ∷ more)
@@ -89,7 +89,7 @@ module _ (end : ℕ) (delims : List (Option ℕ)) where
         is = ap (λ (l : List ℕ). (x ++ delimiter delims number) ++ l) b.is ∙ sym (append_assoc (x ++ delimiter delims number) (glued_from delims (number + 1) (z ∷ xs)) b.rest);
       }
 
-  row_end : (cell : Cell) → serial_rest end delims cell [] ≡ end ∷ []
+  pub row_end : (cell : Cell) → row_from end delims cell [] ≡ end ∷ []
   row_end cell = by_ended cell.ended
     where
       by_ended : (t : Bool) → row_rest end delims cell.number t [] ≡ end ∷ []
@@ -105,7 +105,7 @@ serial_is_decided job given pushed now on =
     let all : lines job.end given ≡ ls ++ lines job.end p.piece = ap (lines job.end) p.is ∙ lines_of_text job.end ls p.piece p.whole in
     let pushed_is : glued_from job.delimiters 0 (lines job.end given) ≡ pushed =
     append_cancel_right (glued_from job.delimiters 0 (lines job.end given)) pushed (job.end ∷ []) (
-    ap (λ (l : List ℕ). glued_from job.delimiters 0 (lines job.end l) ++ job.end ∷ []) (sym (append-nil given)) ∙ on [] ∙ ap (λ (l : List ℕ). pushed ++ l) (row_end job.end job.delimiters now)
+      ap (λ (l : List ℕ). glued_from job.delimiters 0 (lines job.end l) ++ job.end ∷ []) (sym (append-nil given)) ∙ on [] ∙ ap (λ (l : List ℕ). pushed ++ l) (row_end job.end job.delimiters now)
     ) in
     let b = glued_begins job.end job.delimiters 0 ls (lines job.end p.piece) in record {
       rest = b.rest;

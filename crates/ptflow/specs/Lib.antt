@@ -5,3 +5,4 @@ pub mod Translations
 pub mod Workings
 pub mod Pastes
 pub mod Uniqs
+pub mod PastePasses

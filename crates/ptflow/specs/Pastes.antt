@@ -1,8 +1,8 @@
 -- What `paste` writes.
-use Rattle.std.specs.Prelude.{ℕ, ◌+◌, ◌%◌, ◌==◌, ◌||◌, List, [], ◌∷◌, ◌++◌, Bool, length, take, max, map, filter, zip, fold, count_by, sum_by, nat_lt, Option, option_to_list, slice_index_or, if◌then◌else◌}
+use Rattle.std.specs.Prelude.{ℕ, zero, suc, ◌+◌, ◌%◌, ◌==◌, ◌||◌, List, [], ◌∷◌, ◌++◌, Bool, length, take, max, map, filter, zip, fold, count_by, sum_by, nat_lt, Option, None, option_to_list, slice_index_or, if◌then◌else◌}
 use Rattle.std.specs.List.{enumerate_from, range_with_len, list_all}
 use Rattle.ptlines.specs.Text.{text, lines, longest_line}
-use Rattle.ptlines.specs.Inputs.{Given, whole_lines, nothing_left}
+use Rattle.ptlines.specs.Inputs.{Given, whole_lines}
 use Rattle.ptlangs.specs.DelimLists.{delim_at}
 use Rattle.ptlangs.specs.Jobs.{Paste}
 use Rattle.ptflow.specs.Cuts.{chosen_from}
@@ -38,10 +38,13 @@ serial_tool job = record { text = paste_serial job; decided = serial_decided job
 abbrev pub every : ℕ → ℕ → List (List ℕ) → List (List ℕ)
 every k j ls = chosen_from (λ i. i % k == j) 0 ls
 
--- The column of each cell: cells that name one input take its lines in turn.
-abbrev pub columns : List ℕ → List (List (List ℕ)) → List (List (List ℕ))
-columns cells inputs =
-    map (λ (cell : ℕ × ℕ). every (count_by (λ p. p == cell.1) cells) (count_by (λ p. p == cell.1) (take cell.0 cells)) (slice_index_or inputs cell.1 [])) (enumerate_from 0 cells)
+-- how many of the cells name the input at a place
+abbrev pub times : List ℕ → ℕ → ℕ
+times cells place = count_by (λ p. p == place) cells
+
+-- The column of each cell, where the inputs are told by their places: cells that name one input take its lines in turn.
+abbrev pub columns : List ℕ → (ℕ → List (List ℕ)) → List (List (List ℕ))
+columns cells inputs = map (λ (cell : ℕ × ℕ). every (times cells cell.1) (times (take cell.0 cells) cell.1) (inputs cell.1)) (enumerate_from 0 cells)
 
 -- the number of rows: the longest column's
 abbrev pub height : List (List (List ℕ)) → ℕ
@@ -58,9 +61,9 @@ rows cols = map (row cols) (range_with_len 0 (height cols))
 abbrev pub sheet : Paste → List (List (List ℕ)) → List ℕ
 sheet job rs = text job.end (map (glued_from job.delimiters 0) rs)
 
--- what is written of texts, where each cell names one of them
-abbrev pub paste : Paste → List ℕ → List (List ℕ) → List ℕ
-paste job cells texts = sheet job (rows (columns cells (map (lines job.end) texts)))
+-- what is written of the texts at the places that the cells name
+abbrev pub paste : Paste → List ℕ → (ℕ → List ℕ) → List ℕ
+paste job cells texts = sheet job (rows (columns cells (λ place. lines job.end (texts place))))
 
 -- each cell of row r is there, or lies behind an end
 abbrev pub is_row_known : List (List (List ℕ)) → List Bool → ℕ → Bool
@@ -70,10 +73,9 @@ abbrev pub known_rows : List (List (List ℕ)) → List Bool → List (List (Lis
 known_rows cols ended = map (row cols) (filter (is_row_known cols ended) (range_with_len 0 (height cols)))
 
 -- what is decided once a part of each text came: the rows each of whose cells is known
-abbrev pub paste_decided : Paste → List ℕ → List Given → List ℕ
-paste_decided job cells given =
-    sheet job (known_rows (columns cells (map (whole_lines job.end) given)) (map (λ p. (slice_index_or given p nothing_left).ended) cells))
+abbrev pub paste_decided : Paste → List ℕ → (ℕ → Given) → List ℕ
+paste_decided job cells given = sheet job (known_rows (columns cells (λ place. whole_lines job.end (given place))) (map (λ place. (given place).ended) cells))
 
--- the store holds a line of each cell
-abbrev pub paste_size : Paste → List ℕ → List (List ℕ) → ℕ
-paste_size job cells texts = sum_by (λ p. longest_line job.end (slice_index_or texts p [])) cells
+-- the store holds a line for each cell
+abbrev pub paste_size : Paste → List ℕ → (ℕ → List ℕ) → ℕ
+paste_size job cells texts = sum_by (λ place. longest_line job.end (texts place)) cells

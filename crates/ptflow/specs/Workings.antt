@@ -6,3 +6,5 @@ pub mod FieldPlaces
 pub mod TrRests
 pub mod OpenRuns
 pub mod SerialRests
+pub mod TakenLines
+pub mod RowTurns

@@ -1,4 +1,4 @@
-//! The engines: what each tool does with one input. `cut` and `tr` so far.
+//! The engines: what `cut`, `paste`, `tr` and `uniq` do with their inputs.
 #![tactic(auto)]
 
 mod blocks;
@@ -7,6 +7,7 @@ mod cutting;
 mod faults;
 mod fields;
 mod keys;
+mod pasting;
 mod repeats;
 mod serial;
 mod slots;
@@ -14,6 +15,7 @@ mod translating;
 
 pub use cutting::cut;
 pub use faults::FlowFault;
+pub use pasting::paste;
 pub use repeats::uniq;
 pub use serial::paste_serial;
 pub use translating::tr;

@@ -10,6 +10,8 @@ mod comparing;
 #[cfg(test)]
 mod cuts;
 #[cfg(test)]
+mod engines;
+#[cfg(test)]
 mod faking;
 #[cfg(test)]
 mod fields;

@@ -10,9 +10,12 @@ row_rest end delims number false ls = glued_from delims number ls ++ end ∷ []
 row_rest end delims number true [] = end ∷ []
 row_rest end delims number true (line ∷ more) = delimiter delims number ++ (glued_from delims (number + 1) (line ∷ more) ++ end ∷ [])
 
+abbrev pub row_from : ℕ → List (Option ℕ) → Cell → List (List ℕ) → List ℕ
+row_from end delims cell ls = row_rest end delims cell.number cell.ended ls
+
 -- the same for the lines of the rest of a text
 abbrev pub serial_rest : ℕ → List (Option ℕ) → Cell → List ℕ → List ℕ
-serial_rest end delims cell rest = row_rest end delims cell.number cell.ended (lines end rest)
+serial_rest end delims cell rest = row_from end delims cell (lines end rest)
 
 -- the cell to which the next byte belongs, and what stands in front of that
 abbrev pub begun : Cell → Cell

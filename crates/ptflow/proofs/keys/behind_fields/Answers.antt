@@ -1,4 +1,4 @@
-use Rattle.std.proofs.Common.{◌≡◌, ℕ, [], sym, ◌∙◌, ap, arith}
+use Rattle.std.proofs.Common.{◌≡◌, ℕ, ◌-◌, List, length, [], take, drop, sym, ◌∙◌, ap, arith}
 use Rattle.std.proofs.lemmas.List.{take_rest, nil_from_length}
 use Rattle.ptflow.proofs.UniqKeys.{behind, behind_zero, behind_is, behind_end}
 use Rattle.ptflow.proofs.keys.behind_fields.Goals as goal

@@ -1,16 +1,12 @@
-use Rattle.std.proofs.Common.{◌≡◌, ◌+◌, ◌<◌, true, [], length, take, drop, Result, Ok, Err, OnErr, refl, ap, arith, length-drop}
+use Rattle.std.proofs.Common.{◌≡◌, ◌≢◌, ℕ, ◌+◌, ◌<◌, true, List, [], ◌++◌, length, take, drop, refl, sym, ◌∙◌, ap, arith, length-drop}
 use Rattle.std.proofs.lemmas.Bool.Decides.{nat_tests}
-use Rattle.std.proofs.lemmas.List.{take_rest}
+use Rattle.std.proofs.lemmas.List.{take_rest, append-nil, nil_from_length}
 use Rattle.ptlines.proofs.Scanned.{no_end}
 use Rattle.ptflow.specs.Workings.SerialRests.{serial_rest, begun, lead}
 use Rattle.ptflow.specs.declared.serial.Cell.{Cell}
-use Rattle.ptflow.proofs.Continuations.{amid_starts, amid_more, amid_halts, amid_over}
+use Rattle.ptflow.proofs.Continuations.{on_err, amid_starts, amid_more, amid_halts, amid_over}
 use Rattle.ptflow.proofs.SerialRests.{begun_on, cell_on, piece_on, begins, begun_number}
 use Rattle.ptflow.proofs.serial.push_cells.Goals as goal
-
-on_err : {T E : Type 0} (r : Result T E) {P : Type 0} → P → OnErr r P
-on_err (Ok u) p = tt
-on_err (Err e) p = p
 
 pub cells-init : goal.cells-init
 cells-init g c = record { amid = amid_starts (serial_rest c.args.ending c.args.delims.now) c.args.cell c.args.block.now c.args.out.now c.requires.clean; bound = omega arith }

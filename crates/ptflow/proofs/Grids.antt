@@ -1,0 +1,311 @@
+-- The columns and rows of a grid, one row after another.
+use Rattle.std.proofs.Common.{◌≡◌, ◌≢◌, ◌⊎◌, ⊎_elim, inl, inr, ℕ, zero, suc, ◌+◌, ◌-◌, ◌*◌, ◌%◌, ◌<◌, ◌≤◌, ◌==◌, ◌&&◌, ◌||◌, Bool, true, false, cond, List, [], ◌∷◌, ◌++◌, length, take, drop, get_or, map, max, refl, sym, ◌∙◌, ap, subst, arith, append_assoc, length-append, length-drop}
+use Rattle.std.specs.Prelude.{fold, filter, slice_index_or, nat_lt}
+use Rattle.std.specs.List.{enumerate_from, range_with_len}
+use Rattle.std.proofs.lemmas.Bool.{eq-eqb, cases_lt}
+use Rattle.std.proofs.lemmas.Bool.Decides.{nat_tests}
+use Rattle.std.proofs.Math.Nat.{add-mod_left, mod-eq_of_lt}
+use Rattle.std.proofs.lemmas.List.{append-nil, take_at, drop_at, drop_all, get_or_past, get_or_append_left, ext_get_or, get_or-map, length-map}
+use Rattle.std.proofs.lemmas.List.FromFn.{length-enumerate_from, get_or-enumerate_from, length-map-range_with_len, take-map-range_with_len}
+use Rattle.std.proofs.lemmas.List.Sums.{count_by_more_yes, count_by_more_no, sum_by-take-le}
+use Rattle.std.proofs.lemmas.Grind.{get_or_after_one}
+use Rattle.ptflow.specs.Cuts.{chosen_from}
+use Rattle.ptflow.specs.Pastes.{every, times, columns, height, row, rows, is_row_known, known_rows}
+
+abbrev pub Column : Type 0
+Column = List (List ℕ)
+
+-- ---- every k-th line
+
+-- whether a number is the j-th of its k
+abbrev turn : ℕ → ℕ → ℕ → Bool
+turn k j i = i % k == j
+
+module _ (k j : ℕ) (low : j < k) where
+  -- numbers that are k apart are in one turn
+  chosen_apart : (n : ℕ) (xs : Column) → chosen_from (turn k j) (k + n) xs ≡ chosen_from (turn k j) n xs
+  chosen_apart n [] = refl
+  chosen_apart n (x ∷ xs) =
+      let same : (k + n) % k ≡ n % k = add-mod_left k n in
+      let next : k + n + 1 ≡ k + (n + 1) = omega arith in
+      ap (λ (m : ℕ). cond (m == j) (x ∷ chosen_from (turn k j) (k + n + 1) xs) (chosen_from (turn k j) (k + n + 1) xs)) same
+      ∙ ap (λ (l : Column). cond (turn k j n) (x ∷ l) l) (ap (λ (m : ℕ). chosen_from (turn k j) m xs) next ∙ chosen_apart (n + 1) xs)
+
+  is_turn : (n : ℕ) → n ≡ j → turn k j n ≡ true
+  is_turn n same = let less : n % k ≡ j = mod-eq_of_lt (omega arith) ∙ same in eq-eqb (n % k) j less
+
+  no_turn : (n : ℕ) → n < k → n ≢ j → turn k j n ≡ false
+  no_turn n less other = let same : n % k ≡ n = mod-eq_of_lt less in rw same (grind (arith, nat_tests))
+
+  -- behind the j-th of the first k
+  chosen_behind : (n b : ℕ) (xs : Column) → n + b ≡ k → j < n → chosen_from (turn k j) n xs ≡ every k j (drop b xs)
+  chosen_behind n zero xs all past = let same : n ≡ k + 0 = omega arith in ap (λ (m : ℕ). chosen_from (turn k j) m xs) same ∙ chosen_apart 0 xs
+  chosen_behind n (suc b) [] all past = refl
+  chosen_behind n (suc b) (x ∷ xs) all past = rw (no_turn n (omega arith) (omega arith)) (chosen_behind (n + 1) b xs (omega arith) (omega arith))
+
+  -- in front of it, with the line there if there is one
+  chosen_front : (n a b : ℕ) (xs : Column) → n + a ≡ j → n + b ≡ k
+      → ((chosen_from (turn k j) n xs ≡ slice_index_or xs a [] ∷ every k j (drop b xs)) × (a < length xs)) ⊎ ((chosen_from (turn k j) n xs ≡ []) × (length xs ≤ a) × (drop b xs ≡ []))
+  chosen_front n a zero xs here all = absurd (omega arith)
+  chosen_front n a (suc b) [] here all = inr (refl, omega arith, refl)
+  chosen_front n zero (suc b) (x ∷ xs) here all = inl (rw (is_turn n (omega arith)) (ap (λ (l : Column). x ∷ l) (chosen_behind (n + 1) b xs (omega arith) (omega arith))), omega arith)
+  chosen_front n (suc a) (suc b) (x ∷ xs) here all = ⊎_elim
+      (λ is. inl (skip ∙ is.0, omega (arith, is.1)))
+      (λ is. inr (skip ∙ is.0, omega (arith, is.1), is.2))
+      (chosen_front (n + 1) a b xs (omega arith) (omega arith))
+    where
+      skip : chosen_from (turn k j) n (x ∷ xs) ≡ chosen_from (turn k j) (n + 1) xs
+      skip = ap (λ (t : Bool). cond t (x ∷ chosen_from (turn k j) (n + 1) xs) (chosen_from (turn k j) (n + 1) xs)) (no_turn n (omega arith) (omega arith))
+
+  -- the first line of a column, and the others
+  pub every_first : (ls : Column) → slice_index_or (every k j ls) 0 [] ≡ slice_index_or ls j []
+  every_first ls = ⊎_elim
+      (λ is. ap (λ (l : Column). slice_index_or l 0 []) is.0)
+      (λ is. ap (λ (l : Column). slice_index_or l 0 []) is.0 ∙ sym (get_or_past ls j [] is.1))
+      (chosen_front 0 j k ls (omega arith) (omega arith))
+
+  pub every_rest : (ls : Column) → drop 1 (every k j ls) ≡ every k j (drop k ls)
+  every_rest ls = ⊎_elim
+      (λ is. ap (drop 1) is.0)
+      (λ is. ap (drop 1) is.0 ∙ ap (every k j) (sym is.2))
+      (chosen_front 0 j k ls (omega arith) (omega arith))
+
+  pub every_some : (ls : Column) → j < length ls → 0 < length (every k j ls)
+  every_some ls some = ⊎_elim (λ is. omega (arith, ap length is.0)) (λ is. absurd (omega (arith, is.1))) (chosen_front 0 j k ls (omega arith) (omega arith))
+
+pub every_nil : (k j : ℕ) → every k j [] ≡ []
+every_nil k j = refl
+
+-- ---- rows
+
+rest_of : List Column → List Column
+rest_of cols = map (drop 1) cols
+
+height_from : (a : ℕ) (cols : List Column) → fold max (a - 1) (map length (map (drop 1) cols)) ≡ fold max a (map length cols) - 1
+height_from a [] = refl
+height_from a (c ∷ cols) =
+    let same : max (a - 1) (length (drop 1 c)) ≡ max a (length c) - 1 = omega (arith, length-drop 1 c) in
+    ap (λ (n : ℕ). fold max n (map length (map (drop 1) cols))) same ∙ height_from (max a (length c)) cols
+
+row_later : (cols : List Column) (r : ℕ) → row (map (drop 1) cols) r ≡ row cols (r + 1)
+row_later [] r = refl
+row_later (c ∷ cols) r =
+    let next : 1 + r ≡ r + 1 = omega arith in
+    λ i. (get_or_after_one c r [] ∙ ap (λ (n : ℕ). get_or c n []) next) i ∷ row_later cols r i
+
+rows_later : (cols : List Column) (a h : ℕ) → map (row cols) (range_with_len (a + 1) h) ≡ map (row (map (drop 1) cols)) (range_with_len a h)
+rows_later cols a zero = refl
+rows_later cols a (suc h) = λ i. sym (row_later cols a) i ∷ rows_later cols (a + 1) h i
+
+pub rows_step : (cols : List Column) → 0 < height cols → rows cols ≡ row cols 0 ∷ rows (map (drop 1) cols)
+rows_step cols some = by_height (height cols) refl some
+  where
+    by_height : (h : ℕ) → height cols ≡ h → 0 < h → map (row cols) (range_with_len 0 (height cols)) ≡ row cols 0 ∷ rows (map (drop 1) cols)
+    by_height zero is some = absurd (omega arith)
+    by_height (suc h) is some =
+        let less : h ≡ height (map (drop 1) cols) = omega (arith, height_from 0 cols, is) in
+        ap (λ (n : ℕ). map (row cols) (range_with_len 0 n)) is ∙ ap (λ (l : List Column). row cols 0 ∷ l) (rows_later cols 0 h ∙ ap (λ (n : ℕ). map (row (map (drop 1) cols)) (range_with_len 0 n)) less)
+
+height_least : (a : ℕ) (cols : List Column) → a ≤ fold max a (map length cols)
+height_least a [] = omega arith
+height_least a (c ∷ cols) = omega (arith, height_least (max a (length c)) cols)
+
+-- a column is no higher than the grid
+pub height_of : (a : ℕ) (cols : List Column) (c : ℕ) → length (get_or cols c []) ≤ fold max a (map length cols)
+height_of a [] c = omega arith
+height_of a (col ∷ cols) zero = omega (arith, height_least (max a (length col)) cols)
+height_of a (col ∷ cols) (suc c) = height_of (max a (length col)) cols c
+
+pub height_none : (cols : List Column) → ((c : ℕ) → c < length cols → get_or cols c [] ≡ []) → height cols ≡ 0
+height_none [] none = refl
+height_none (col ∷ cols) none =
+    let empty : length col ≡ 0 = ap length (none 0 (omega arith)) in
+    ap (λ (n : ℕ). fold max n (map length cols)) (omega (arith, empty)) ∙ height_none cols (λ c low. none (suc c) (omega arith))
+
+pub rows_none : (cols : List Column) → height cols ≡ 0 → rows cols ≡ []
+rows_none cols none = ap (λ (n : ℕ). map (row cols) (range_with_len 0 n)) none
+
+-- ---- the columns of cells
+
+-- two lists that are made alike of one
+map_each : {X Y : Type 0} (f g : X → Y) (xs : List X) (d : X) → ((i : ℕ) → i < length xs → f (get_or xs i d) ≡ g (get_or xs i d)) → map f xs ≡ map g xs
+map_each f g [] d same = refl
+map_each f g (x ∷ xs) d same = λ i. same 0 (omega arith) i ∷ map_each f g xs d (λ n low. same (suc n) (omega arith)) i
+
+-- of each cell, by its number and its place
+abbrev pub each : {Y : Type 0} → (ℕ → ℕ → Y) → List ℕ → List Y
+each f cells = map (λ (cell : ℕ × ℕ). f cell.0 cell.1) (enumerate_from 0 cells)
+
+pub length-each : {Y : Type 0} (f : ℕ → ℕ → Y) (cells : List ℕ) → length (each f cells) ≡ length cells
+length-each f cells = length-map (enumerate_from 0 cells) (λ (cell : ℕ × ℕ). f cell.0 cell.1) ∙ length-enumerate_from 0 cells
+
+pub get_or-each : {Y : Type 0} (f : ℕ → ℕ → Y) (cells : List ℕ) (c : ℕ) (d : Y) → c < length cells → get_or (each f cells) c d ≡ f c (get_or cells c 0)
+get_or-each {Y} f cells c d low =
+    get_or-map (λ (cell : ℕ × ℕ). f cell.0 cell.1) (enumerate_from 0 cells) c (0, 0) d (omega (arith, length-enumerate_from 0 cells))
+    ∙ ap (λ (cell : ℕ × ℕ). f cell.0 cell.1) (get_or-enumerate_from 0 cells c (0, 0) low) ∙ (let same : 0 + c ≡ c = omega arith in ap (λ (n : ℕ). f n (get_or cells c 0)) same)
+
+pub each_same : {Y : Type 0} (f g : ℕ → ℕ → Y) (cells : List ℕ) → ((c : ℕ) → c < length cells → f c (get_or cells c 0) ≡ g c (get_or cells c 0)) → each f cells ≡ each g cells
+each_same {Y} f g cells same =
+    ext_get_or (f 0 0) (each f cells) (each g cells) (length-each f cells ∙ sym (length-each g cells))
+    (λ c low. let within : c < length cells = omega (arith, low, length-each f cells) in get_or-each f cells c (f 0 0) within ∙ same c within ∙ sym (get_or-each g cells c (f 0 0) within))
+
+-- a list that has this for each cell
+pub each_is : {Y : Type 0} (f : ℕ → ℕ → Y) (cells : List ℕ) (ys : List Y) (d : Y) → length ys ≡ length cells → ((c : ℕ) → c < length cells → get_or ys c d ≡ f c (get_or cells c 0)) → ys ≡ each f cells
+each_is f cells ys d long same =
+    ext_get_or d ys (each f cells) (long ∙ sym (length-each f cells)) (λ c low. let within : c < length cells = omega (arith, low, long) in same c within ∙ sym (get_or-each f cells c d within))
+
+pub map_each_of : {Y Z : Type 0} (g : Y → Z) (f : ℕ → ℕ → Y) (cells : List ℕ) (d : Y) (e : Z) → map g (each f cells) ≡ each (λ c p. g (f c p)) cells
+map_each_of {Y} {Z} g f cells d e =
+    each_is (λ c p. g (f c p)) cells (map g (each f cells)) e (length-map (each f cells) g ∙ length-each f cells)
+    (λ c low. get_or-map g (each f cells) c d e (omega (arith, low, length-each f cells)) ∙ ap g (get_or-each f cells c d low))
+
+-- ---- how often a place is named
+
+module _ (cells : List ℕ) where
+  pub times_here : (c p : ℕ) → c < length cells → get_or cells c 0 ≡ p → times (take (c + 1) cells) p ≡ times (take c cells) p + 1
+  times_here c p low same = count_by_more_yes (λ x. x == p) cells c 0 low (eq-eqb (get_or cells c 0) p same)
+
+  pub times_other : (c p : ℕ) → c < length cells → get_or cells c 0 ≢ p → times (take (c + 1) cells) p ≡ times (take c cells) p
+  times_other c p low other = count_by_more_no (λ x. x == p) cells c 0 low (grind (arith, nat_tests))
+
+  pub times_front : (c p : ℕ) → times (take c cells) p ≤ times cells p
+  times_front c p = sum_by-take-le (λ x. cond (x == p) 1 0) cells c
+
+  pub times_below : (c : ℕ) → c < length cells → times (take c cells) (get_or cells c 0) < times cells (get_or cells c 0)
+  times_below c low = omega (arith, times_here c (get_or cells c 0) low refl, times_front (c + 1) (get_or cells c 0))
+
+  -- ---- one row of a grid
+
+  pub first_of : (ℕ → Column) → List (List ℕ)
+  first_of ins = each (λ c p. slice_index_or (ins p) (times (take c cells) p) []) cells
+
+  columns_rest : (ins : ℕ → Column) → map (drop 1) (columns cells ins) ≡ columns cells (λ p. drop (times cells p) (ins p))
+  columns_rest ins =
+      map_each_of (drop 1) (λ c p. every (times cells p) (times (take c cells) p) (ins p)) cells [] []
+      ∙ each_same (λ c p. drop 1 (every (times cells p) (times (take c cells) p) (ins p))) (λ c p. every (times cells p) (times (take c cells) p) (drop (times cells p) (ins p))) cells
+          (λ c low. every_rest (times cells (get_or cells c 0)) (times (take c cells) (get_or cells c 0)) (times_below c low) (ins (get_or cells c 0)))
+
+  columns_first : (ins : ℕ → Column) → row (columns cells ins) 0 ≡ each (λ c p. slice_index_or (ins p) (times (take c cells) p) []) cells
+  columns_first ins =
+      map_each_of (λ (col : Column). slice_index_or col 0 []) (λ c p. every (times cells p) (times (take c cells) p) (ins p)) cells [] []
+      ∙ each_same (λ c p. slice_index_or (every (times cells p) (times (take c cells) p) (ins p)) 0 []) (λ c p. slice_index_or (ins p) (times (take c cells) p) []) cells
+          (λ c low. every_first (times cells (get_or cells c 0)) (times (take c cells) (get_or cells c 0)) (times_below c low) (ins (get_or cells c 0)))
+
+  pub column_at : (ins : ℕ → Column) (c : ℕ) → c < length cells → get_or (columns cells ins) c [] ≡ every (times cells (get_or cells c 0)) (times (take c cells) (get_or cells c 0)) (ins (get_or cells c 0))
+  column_at ins c low = get_or-each (λ c p. every (times cells p) (times (take c cells) p) (ins p)) cells c [] low
+
+  pub length-columns : (ins : ℕ → Column) → length (columns cells ins) ≡ length cells
+  length-columns ins = length-each (λ c p. every (times cells p) (times (take c cells) p) (ins p)) cells
+
+  -- These lines were taken of each input: as many as cells name it, or all where there are fewer.
+  pub record Taken (got more : ℕ → Column) : Type 0 where
+    pub all : (p : ℕ) → (length (got p) ≡ times cells p) ⊎ ((more p ≡ []) × (length (got p) ≤ times cells p))
+
+  module _ (got more : ℕ → Column) (t : Taken got more) where
+    rest_is : (p : ℕ) → drop (times cells p) (got p ++ more p) ≡ more p
+    rest_is p = ⊎_elim
+        (λ same. drop_at (got p) (more p) (times cells p) same)
+        (λ few. drop_all (times cells p) (got p ++ more p) (omega (arith, few.1, ap length few.0, length-append (got p) (more p))) ∙ sym few.0)
+        (t.all p)
+
+    got_is : (p j : ℕ) → j < times cells p → slice_index_or (got p ++ more p) j [] ≡ slice_index_or (got p) j []
+    got_is p j low = ⊎_elim
+        (λ same. get_or_append_left (got p) (more p) [] j (omega (arith, same)))
+        (λ few. ap (λ (l : Column). slice_index_or (got p ++ l) j []) few.0 ∙ ap (λ (l : Column). slice_index_or l j []) (append-nil (got p)))
+        (t.all p)
+
+    pub grid_step : (c : ℕ) → c < length cells → times (take c cells) (get_or cells c 0) < length (got (get_or cells c 0))
+        → rows (columns cells (λ p. got p ++ more p)) ≡ each (λ c p. slice_index_or (got p) (times (take c cells) p) []) cells ∷ rows (columns cells more)
+    grid_step c low some =
+        let ins : ℕ → Column = λ p. got p ++ more p in
+        let place = get_or cells c 0 in
+        let high : 0 < height (columns cells ins) = omega (
+          arith,
+          height_of 0 (columns cells ins) c,
+          ap length (column_at ins c low),
+          every_some (times cells place) (times (take c cells) place) (times_below c low) (got place ++ more place) (omega (arith, some, length-append (got place) (more place))),
+        ) in
+        rows_step (columns cells ins) high
+        ∙ (λ i. (columns_first ins ∙ each_same (λ c p. slice_index_or (got p ++ more p) (times (take c cells) p) []) (λ c p. slice_index_or (got p) (times (take c cells) p) []) cells
+            (λ d within. got_is (get_or cells d 0) (times (take d cells) (get_or cells d 0)) (times_below d within))) i
+            ∷ rows ((columns_rest ins ∙ each_same (λ c p. every (times cells p) (times (take c cells) p) (drop (times cells p) (got p ++ more p))) (λ c p. every (times cells p) (times (take c cells) p) (more p)) cells
+                (λ d within. ap (every (times cells (get_or cells d 0)) (times (take d cells) (get_or cells d 0))) (rest_is (get_or cells d 0)))) i))
+
+  pub grid_none : (ins : ℕ → Column) → ((p : ℕ) → 0 < times cells p → ins p ≡ []) → rows (columns cells ins) ≡ []
+  grid_none ins none = rows_none (columns cells ins) (height_none (columns cells ins) (λ c low.
+      let within : c < length cells = omega (arith, low, length-columns ins) in
+      column_at ins c within ∙ ap (every (times cells (get_or cells c 0)) (times (take c cells) (get_or cells c 0))) (none (get_or cells c 0) (omega (arith, times_below c within)))))
+
+-- ---- how long a column is
+
+module _ (k j : ℕ) (low : j < k) where
+  pub every_long : (r : ℕ) (ls : Column) → j + r * k < length ls → r < length (every k j ls)
+  every_long zero ls some = every_some k j low ls (omega (arith, some))
+  every_long (suc r) ls some =
+      let more : suc r * k ≡ k + r * k = omega arith in
+      omega (arith, every_long r (drop k ls) (omega (arith, some, more, length-drop k ls)), ap length (every_rest k j low ls), length-drop 1 (every k j ls))
+
+  pub every_short : (r : ℕ) (ls : Column) → length ls ≤ j + r * k → length (every k j ls) ≤ r
+  every_short zero ls few = ⊎_elim
+      (λ is. absurd (omega (arith, is.1, few)))
+      (λ is. omega (arith, ap length is.0))
+      (chosen_front k j low 0 j k ls (omega arith) (omega arith))
+  every_short (suc r) ls few =
+      let more : suc r * k ≡ k + r * k = omega arith in
+      omega (arith, every_short r (drop k ls) (omega (arith, few, more, length-drop k ls)), ap length (every_rest k j low ls), length-drop 1 (every k j ls))
+
+-- ---- the rows that are known
+
+is_below : (r n : ℕ) → r < n → nat_lt r n ≡ true
+is_below r n low = grind (arith, nat_tests)
+
+not_below : (r n : ℕ) → n ≤ r → nat_lt r n ≡ false
+not_below r n high = grind (arith, nat_tests)
+
+neither : (t rest : Bool) → rest ≡ false → (t && rest) ≡ false
+neither true rest is = is
+neither false rest is = refl
+
+either : (e t rest : Bool) → t ≡ true → rest ≡ true → ((e || t) && rest) ≡ true
+either true t rest is all = all
+either false t rest is all = rw is all
+
+known_true : (cols : List Column) (ended : List Bool) (r : ℕ) → ((c : ℕ) → c < length cols → (get_or ended c true ≡ true) ⊎ (r < length (get_or cols c []))) → is_row_known cols ended r ≡ true
+known_true [] ended r known = refl
+known_true (col ∷ cols) [] r known = refl
+known_true (col ∷ cols) (e ∷ ended) r known =
+    let later = known_true cols ended r (λ c low. known (suc c) (omega arith)) in
+    ⊎_elim (λ is. rw is later) (λ some. either e (nat_lt r (length col)) (is_row_known cols ended r) (is_below r (length col) some) later) (known 0 (omega arith))
+
+known_false : (cols : List Column) (ended : List Bool) (r c : ℕ) → c < length cols → c < length ended → get_or ended c true ≡ false → length (get_or cols c []) ≤ r → is_row_known cols ended r ≡ false
+known_false [] ended r c low within going few = absurd (omega arith)
+known_false (col ∷ cols) [] r c low within going few = absurd (omega arith)
+known_false (col ∷ cols) (e ∷ ended) r zero low within going few = rw (going, not_below r (length col) few) refl
+known_false (col ∷ cols) (e ∷ ended) r (suc c) low within going few = neither (e || nat_lt r (length col)) (is_row_known cols ended r) (known_false cols ended r c (omega arith) (omega arith) going few)
+
+filter_known : (f : ℕ → Bool) (n a h : ℕ) → ((r : ℕ) → r < n → f r ≡ true) → ((r : ℕ) → n ≤ r → f r ≡ false) → n ≤ a + h → filter f (range_with_len a h) ≡ range_with_len a (n - a)
+filter_known f n a zero before beyond high = let none : n - a ≡ 0 = omega arith in rw none refl
+filter_known f n a (suc h) before beyond high = let later = filter_known f n (a + 1) h before beyond (omega arith) in ⊎_elim (here later) (past later) (cases_lt a n)
+  where
+    here : filter f (range_with_len (a + 1) h) ≡ range_with_len (a + 1) (n - (a + 1)) → a < n → filter f (range_with_len a (suc h)) ≡ range_with_len a (n - a)
+    here later low =
+        let more : n - a ≡ suc (n - (a + 1)) = omega arith in
+        rw (before a low, more) (ap (λ (l : List ℕ). a ∷ l) later)
+
+    past : filter f (range_with_len (a + 1) h) ≡ range_with_len (a + 1) (n - (a + 1)) → n ≤ a → filter f (range_with_len a (suc h)) ≡ range_with_len a (n - a)
+    past later high =
+        let none : n - a ≡ 0 = omega arith in
+        let after : n - (a + 1) ≡ 0 = omega arith in
+        rw (beyond a high) (later ∙ ap (range_with_len (a + 1)) after ∙ ap (range_with_len a) (sym none))
+
+-- the rows that were passed are those that are known
+pub known_are : (cols : List Column) (ended : List Bool) (n : ℕ) (passed more : List (List (List ℕ))) → rows cols ≡ passed ++ more → length passed ≡ n
+    → ((r : ℕ) → r < n → (c : ℕ) → c < length cols → (get_or ended c true ≡ true) ⊎ (r < length (get_or cols c [])))
+    → (c : ℕ) → c < length cols → c < length ended → get_or ended c true ≡ false → length (get_or cols c []) ≤ n → known_rows cols ended ≡ passed
+known_are cols ended n passed more is count known c low within going few =
+    let high : n ≤ height cols = omega (arith, ap length is, length-append passed more, count, length-map-range_with_len (row cols) 0 (height cols)) in
+    let less : n - 0 ≡ n = omega arith in
+    ap (map (row cols))
+    (filter_known (is_row_known cols ended) n 0 (height cols) (λ r below. known_true cols ended r (known r below)) (λ r past. known_false cols ended r c low within going (omega (arith, few, past))) (omega (arith, high))
+    ∙ ap (range_with_len 0) less)
+    ∙ sym (take-map-range_with_len (row cols) 0 (height cols) n high) ∙ ap (take n) is ∙ take_at passed more n count
