@@ -183,13 +183,13 @@ module _ (cells : List ℕ) where
   columns_rest ins =
       map_each_of (drop 1) (λ c p. every (times cells p) (times (take c cells) p) (ins p)) cells [] []
       ∙ each_same (λ c p. drop 1 (every (times cells p) (times (take c cells) p) (ins p))) (λ c p. every (times cells p) (times (take c cells) p) (drop (times cells p) (ins p))) cells
-          (λ c low. every_rest (times cells (get_or cells c 0)) (times (take c cells) (get_or cells c 0)) (times_below c low) (ins (get_or cells c 0)))
+      (λ c low. every_rest (times cells (get_or cells c 0)) (times (take c cells) (get_or cells c 0)) (times_below c low) (ins (get_or cells c 0)))
 
   columns_first : (ins : ℕ → Column) → row (columns cells ins) 0 ≡ each (λ c p. slice_index_or (ins p) (times (take c cells) p) []) cells
   columns_first ins =
       map_each_of (λ (col : Column). slice_index_or col 0 []) (λ c p. every (times cells p) (times (take c cells) p) (ins p)) cells [] []
       ∙ each_same (λ c p. slice_index_or (every (times cells p) (times (take c cells) p) (ins p)) 0 []) (λ c p. slice_index_or (ins p) (times (take c cells) p) []) cells
-          (λ c low. every_first (times cells (get_or cells c 0)) (times (take c cells) (get_or cells c 0)) (times_below c low) (ins (get_or cells c 0)))
+      (λ c low. every_first (times cells (get_or cells c 0)) (times (take c cells) (get_or cells c 0)) (times_below c low) (ins (get_or cells c 0)))
 
   pub column_at : (ins : ℕ → Column) (c : ℕ) → c < length cells → get_or (columns cells ins) c [] ≡ every (times cells (get_or cells c 0)) (times (take c cells) (get_or cells c 0)) (ins (get_or cells c 0))
   column_at ins c low = get_or-each (λ c p. every (times cells p) (times (take c cells) p) (ins p)) cells c [] low
@@ -227,9 +227,9 @@ module _ (cells : List ℕ) where
         ) in
         rows_step (columns cells ins) high
         ∙ (λ i. (columns_first ins ∙ each_same (λ c p. slice_index_or (got p ++ more p) (times (take c cells) p) []) (λ c p. slice_index_or (got p) (times (take c cells) p) []) cells
-            (λ d within. got_is (get_or cells d 0) (times (take d cells) (get_or cells d 0)) (times_below d within))) i
-            ∷ rows ((columns_rest ins ∙ each_same (λ c p. every (times cells p) (times (take c cells) p) (drop (times cells p) (got p ++ more p))) (λ c p. every (times cells p) (times (take c cells) p) (more p)) cells
-                (λ d within. ap (every (times cells (get_or cells d 0)) (times (take d cells) (get_or cells d 0))) (rest_is (get_or cells d 0)))) i))
+        (λ d within. got_is (get_or cells d 0) (times (take d cells) (get_or cells d 0)) (times_below d within))) i
+        ∷ rows ((columns_rest ins ∙ each_same (λ c p. every (times cells p) (times (take c cells) p) (drop (times cells p) (got p ++ more p))) (λ c p. every (times cells p) (times (take c cells) p) (more p)) cells
+        (λ d within. ap (every (times cells (get_or cells d 0)) (times (take d cells) (get_or cells d 0))) (rest_is (get_or cells d 0)))) i))
 
   pub grid_none : (ins : ℕ → Column) → ((p : ℕ) → 0 < times cells p → ins p ≡ []) → rows (columns cells ins) ≡ []
   grid_none ins none = rows_none (columns cells ins) (height_none (columns cells ins) (λ c low.

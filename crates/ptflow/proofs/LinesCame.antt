@@ -74,9 +74,9 @@ module _ (end : ℕ) (now : Reader) (given : List ℕ) (ls : List (List ℕ)) (k
     pub whole_before : new.held ≡ [] → new.ended ≡ false → whole_lines end (given_of (given ++ piece) new) ≡ ls
     whole_before empty going =
         ⊎_elim
-            (λ o. (λ i. whole_lines end (record { bytes = (o.0 i ++ piece) ++ empty i; ended = going i })) ∙ ap (ended_lines end) (append-nil (text end ls ++ piece)) ∙ ended_of_text end ls piece o.1 free)
-            (λ c. absurd (false≢true (sym going ∙ (done_gives_nothing now new piece c.1 reads).2)))
-            k.so_far
+        (λ o. (λ i. whole_lines end (record { bytes = (o.0 i ++ piece) ++ empty i; ended = going i })) ∙ ap (ended_lines end) (append-nil (text end ls ++ piece)) ∙ ended_of_text end ls piece o.1 free)
+        (λ c. absurd (false≢true (sym going ∙ (done_gives_nothing now new piece c.1 reads).2)))
+        k.so_far
 
   -- a line came
   module _ (new : Reader) (before after : Slots) (slot : ℕ) (e : GivesLine now new before after slot) (same : now.ending ≡ end) where

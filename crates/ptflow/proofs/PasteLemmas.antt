@@ -270,7 +270,7 @@ module _ (job : Paste) (cells : List ℕ) (old set now : List Reader) (was is : 
       rows_by =
           (λ i. rows (columns cells (λ p. lines_by p i)))
           ∙ s.on (λ p. lines job.end (extra p ++ ((reader_at new p).held ++ (a p).rest)))
-              (λ p done. ap (lines job.end) (may_come (reader_at now p) (reader_at new p) (extra p) ((reader_at new p).held ++ (a p).rest) (reads p) (may_rest p) done))
+          (λ p done. ap (lines job.end) (may_come (reader_at now p) (reader_at new p) (extra p) ((reader_at new p).held ++ (a p).rest) (reads p) (may_rest p) done))
 
       pub begins_by : Begins (sheet job s.passed) (paste job cells texts)
       begins_by = record {
@@ -363,8 +363,8 @@ module _ (job : Paste) (cells : List ℕ) (old set now : List Reader) (was is : 
             (λ i. rows (columns cells (λ p. lines_are texts a p i)))
             ∙ behind job cells set now was is first store s named_end new after got t (later texts a) (λ p done. ap (lines job.end) (may texts a p done))
             ∙ ap (λ (l : List (List (List ℕ))). s.passed ++ l) (
-              grid_step cells got (later texts a) (record { all = λ p. ⊎_elim (λ same. inl same) (λ few. inr (ap (lines job.end) (may texts a p few.0), few.1)) (took_by p).enough }) c low some
-              ∙ (λ i. sym (slots_are job cells set now was is first store s named_end new after got t c low some) i ∷ rows (columns cells (later texts a)))
+            grid_step cells got (later texts a) (record { all = λ p. ⊎_elim (λ same. inl same) (λ few. inr (ap (lines job.end) (may texts a p few.0), few.1)) (took_by p).enough }) c low some
+            ∙ (λ i. sym (slots_are job cells set now was is first store s named_end new after got t c low some) i ∷ rows (columns cells (later texts a)))
             )
 
         all : (texts : ℕ → List ℕ) (a : (p : ℕ) → Agrees (given_by new row_bytes row_reads p) (texts p))
@@ -552,22 +552,22 @@ module _ (job : Paste) (cells : List ℕ) (old set now : List Reader) (was is : 
           let k = times cells p in
           let j = times (take d cells) p in
           ⊎_elim
-              (λ same.
-                  let fits : k * (r + 1) ≤ k * s.n = mul-le-mul_left k (omega (arith, below)) in
-                  let enough : j + r * k < length (whole_by p) = omega (
-                    arith,
-                    fits,
-                    mul_comm k (r + 1),
-                    mul_comm k s.n,
-                    same,
-                    times_below cells d inside,
-                    ap length (whole_more p),
-                    length-append (s.ls p) (more_by p),
-                    (let one : (r + 1) * k ≡ r * k + k = omega arith in one),
-                  ) in
-                  inr (omega (arith, every_long k j (times_below cells d inside) r (whole_by p) enough, ap length (column_at cells whole_by d inside))))
-              (λ few. inl (end_at d inside ∙ (none_more p few.0).1))
-              (s.took p).enough
+          (λ same.
+          let fits : k * (r + 1) ≤ k * s.n = mul-le-mul_left k (omega (arith, below)) in
+          let enough : j + r * k < length (whole_by p) = omega (
+            arith,
+            fits,
+            mul_comm k (r + 1),
+            mul_comm k s.n,
+            same,
+            times_below cells d inside,
+            ap length (whole_more p),
+            length-append (s.ls p) (more_by p),
+            (let one : (r + 1) * k ≡ r * k + k = omega arith in one),
+          ) in
+          inr (omega (arith, every_long k j (times_below cells d inside) r (whole_by p) enough, ap length (column_at cells whole_by d inside))))
+          (λ few. inl (end_at d inside ∙ (none_more p few.0).1))
+          (s.took p).enough
 
       here_lines : whole_by here ≡ s.ls here ++ got here
       here_lines =
@@ -604,9 +604,9 @@ module _ (job : Paste) (cells : List ℕ) (old set now : List Reader) (was is : 
       true_so_far = begins_by new extra reads_to;
       sure = λ p some failed fine. ⊎_elim
           (λ same. ⊎_elim
-              (λ k. record { rest = []; is = sym (decided_is k.1 k.2) ∙ sym (append-nil (paste_decided job cells (given_by new extra reads_to))) })
-              (λ k. absurd (false≢true (sym (k.1 ∙ (took_to here).failed ∙ (s.took here).failed ∙ failed_set here ∙ never_failed here here_named) ∙ ap (λ (q : ℕ). (reader_at new q).failed) (sym same) ∙ failed)))
-              cause)
+          (λ k. record { rest = []; is = sym (decided_is k.1 k.2) ∙ sym (append-nil (paste_decided job cells (given_by new extra reads_to))) })
+          (λ k. absurd (false≢true (sym (k.1 ∙ (took_to here).failed ∙ (s.took here).failed ∙ failed_set here ∙ never_failed here here_named) ∙ ap (λ (q : ℕ). (reader_at new q).failed) (sym same) ∙ failed)))
+          cause)
           (λ differ. absurd (false≢true (sym (failed_by new extra reads_to p (failed_there p differ) ∙ never_failed p some) ∙ failed)))
           (cases_eq p here);
       whole = λ ok. cc;

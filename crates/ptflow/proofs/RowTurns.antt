@@ -114,10 +114,10 @@ module _ (cells : List ℕ) (n : ℕ) (old now : List Reader) (before store : Sl
           let j = times (take c cells) p in
           let under : j < times (take n cells) p = omega (arith, times_here cells c p (omega (arith, less, low)) refl, times_front (take n cells) (c + 1) p, ap (λ (l : List ℕ). times l p) (take-take (c + 1) n cells (omega (arith, less)))) in
           ⊎_elim
-              (λ all. sym (get_or_append_left (got p) ls [] j (omega (arith, all, under))))
-              (λ few. let none : ls ≡ [] = none_of_done (reader_at old (get_or cells n 0)).ending (reader_at now (get_or cells n 0)) r 1 ls took (subst (λ (p : ℕ). IsDone (reader_at now p)) same few.0) in
-                  ap (λ (l : List (List ℕ)). slice_index_or l j []) (sym (append-nil (got p)) ∙ ap (λ (l : List (List ℕ)). got p ++ l) (sym none)))
-              (t.took p).enough
+          (λ all. sym (get_or_append_left (got p) ls [] j (omega (arith, all, under))))
+          (λ few. let none : ls ≡ [] = none_of_done (reader_at old (get_or cells n 0)).ending (reader_at now (get_or cells n 0)) r 1 ls took (subst (λ (p : ℕ). IsDone (reader_at now p)) same few.0) in
+          ap (λ (l : List (List ℕ)). slice_index_or l j []) (sym (append-nil (got p)) ∙ ap (λ (l : List (List ℕ)). got p ++ l) (sym none)))
+          (t.took p).enough
           ∙ ap (λ (l : List (List ℕ)). slice_index_or l j []) (sym (more_here (get_or cells n 0) ls got p same))
 
   pub taken_more : RowTaken cells (n + 1) old (set now (get_or cells n 0) r) before after (more_at (get_or cells n 0) ls got)
@@ -127,15 +127,15 @@ module _ (cells : List ℕ) (n : ℕ) (old now : List Reader) (before store : Sl
     count = length-set now (get_or cells n 0) r ∙ t.count;
     same = ap (λ (s : Slots). length s.lines) stored ∙ length-set store.lines n bytes ∙ t.same;
     kept = λ first top k high.
-    cells_line cells top first store after n bytes (t.kept first top k (λ q. omega (arith, high q, longer q))) low (omega (arith, fits, high (get_or cells n 0), here_longest)) stored;
+        cells_line cells top first store after n bytes (t.kept first top k (λ q. omega (arith, high q, longer q))) low (omega (arith, fits, high (get_or cells n 0), here_longest)) stored;
   }
     where
       slots : (c : ℕ) → c < n + 1 → line after c ≡ slice_index_or (more_at (get_or cells n 0) ls got (get_or cells c 0)) (times (take c cells) (get_or cells c 0)) []
       slots c less = ⊎_elim
           (λ same.
-              ap (line after) same ∙ ap (λ (s : Slots). line s n) stored ∙ get_or-set_same store.lines n bytes [] room ∙ there
-              ∙ ap (λ (l : List (List ℕ)). slice_index_or l (times (take n cells) (get_or cells n 0)) []) (sym (more_here (get_or cells n 0) ls got (get_or cells n 0) refl))
-              ∙ ap (λ (d : ℕ). slice_index_or (more_at (get_or cells n 0) ls got (get_or cells d 0)) (times (take d cells) (get_or cells d 0)) []) (sym same))
+          ap (line after) same ∙ ap (λ (s : Slots). line s n) stored ∙ get_or-set_same store.lines n bytes [] room ∙ there
+          ∙ ap (λ (l : List (List ℕ)). slice_index_or l (times (take n cells) (get_or cells n 0)) []) (sym (more_here (get_or cells n 0) ls got (get_or cells n 0) refl))
+          ∙ ap (λ (d : ℕ). slice_index_or (more_at (get_or cells n 0) ls got (get_or cells d 0)) (times (take d cells) (get_or cells d 0)) []) (sym same))
           (λ differ. ap (λ (s : Slots). line s c) stored ∙ get_or-set_other store.lines n c bytes [] differ ∙ t.slots c (omega (arith, less, differ)) ∙ old_cell c (omega (arith, less, differ)))
           (cases_eq c n)
 
@@ -250,13 +250,16 @@ filling_done cells n old now before store came all f = record {
 -- what was asked of the reader of the cell failed
 pub filling_breaks : (Breaks : Reader → Reader → Slots → Slots → ℕ → Type 0) (cells : List ℕ) (n : ℕ) (old now : List Reader) (before store after : Slots) (came : Bool) (b r : Reader) → Filling cells n old now before store came → n < length cells
     → get_or cells n 0 < length now → b ≡ reader_at now (get_or cells n 0) → Breaks b r store after n → (x : RowBroken Breaks cells old (set now (get_or cells n 0) r) before after) × (get_or cells n 0 ≡ get_or cells x.column 0)
-filling_breaks Breaks cells n old now before store after came b r f low within is_read breaks = (record {
-  column = n;
-  within = low;
-  got = f.got;
-  mid = now;
-  held = store;
-  taken = f.taken;
-  breaks = subst (λ (x : Reader). Breaks x (reader_at (set now (get_or cells n 0) r) (get_or cells n 0)) store after n) is_read (subst (λ (x : Reader). Breaks b x store after n) (sym (at_same now (get_or cells n 0) r within)) breaks);
-  others = λ q differ. at_other now (get_or cells n 0) q r differ;
-}, refl)
+filling_breaks Breaks cells n old now before store after came b r f low within is_read breaks = (
+  record {
+    column = n;
+    within = low;
+    got = f.got;
+    mid = now;
+    held = store;
+    taken = f.taken;
+    breaks = subst (λ (x : Reader). Breaks x (reader_at (set now (get_or cells n 0) r) (get_or cells n 0)) store after n) is_read (subst (λ (x : Reader). Breaks b x store after n) (sym (at_same now (get_or cells n 0) r within)) breaks);
+    others = λ q differ. at_other now (get_or cells n 0) q r differ;
+  },
+  refl,
+)

@@ -105,7 +105,7 @@ serial_is_decided job given pushed now on =
     let all : lines job.end given ≡ ls ++ lines job.end p.piece = ap (lines job.end) p.is ∙ lines_of_text job.end ls p.piece p.whole in
     let pushed_is : glued_from job.delimiters 0 (lines job.end given) ≡ pushed =
     append_cancel_right (glued_from job.delimiters 0 (lines job.end given)) pushed (job.end ∷ []) (
-      ap (λ (l : List ℕ). glued_from job.delimiters 0 (lines job.end l) ++ job.end ∷ []) (sym (append-nil given)) ∙ on [] ∙ ap (λ (l : List ℕ). pushed ++ l) (row_end job.end job.delimiters now)
+    ap (λ (l : List ℕ). glued_from job.delimiters 0 (lines job.end l) ++ job.end ∷ []) (sym (append-nil given)) ∙ on [] ∙ ap (λ (l : List ℕ). pushed ++ l) (row_end job.end job.delimiters now)
     ) in
     let b = glued_begins job.end job.delimiters 0 ls (lines job.end p.piece) in record {
       rest = b.rest;

@@ -43,15 +43,18 @@ stored job first store given most bound adds peak = record { peak = λ input a. 
 
 module _ (job : Uniq) (old : Reader) (was : Output) where
   pub singling_starts : (line : List ℕ) → old.fault ≡ None → was.faulted ≡ false → (s : Singling job (run_of line 0) old old was was) × (s.ls ≡ [])
-  singling_starts line readable clean = (record {
-    given = [];
-    ls = [];
-    passed = [];
-    came = lines_none job.end old;
-    reached = reached_nothing old was readable clean;
-    on = λ more. refl;
-    count = omega arith;
-  }, refl)
+  singling_starts line readable clean = (
+    record {
+      given = [];
+      ls = [];
+      passed = [];
+      came = lines_none job.end old;
+      reached = reached_nothing old was readable clean;
+      on = λ more. refl;
+      count = omega arith;
+    },
+    refl,
+  )
 
   module _ (run : Run) (reader : Reader) (is : Output) (s : Singling job run old reader was is) where
     -- all that came is counted
@@ -64,40 +67,46 @@ module _ (job : Uniq) (old : Reader) (was : Output) where
       pushed = entries job s.passed;
       reached = s.reached;
       on = λ rest may.
-      ap (entries job) (ap (runs job) (lines_on job.end reader s.given s.ls s.came rest may) ∙ s.on (lines job.end rest)) ∙ entries-append job s.passed (runs_behind job run (lines job.end rest));
+          ap (entries job) (ap (runs job) (lines_on job.end reader s.given s.ls s.came rest may) ∙ s.on (lines job.end rest)) ∙ entries-append job s.passed (runs_behind job run (lines job.end rest));
     }
 
     module _ (new : Reader) (before after : Slots) (slot : ℕ) (e : GivesLine reader new before after slot) (same : reader.ending ≡ job.end) where
       -- the line is one more of the run
       pub singling_more : (nat_lt 0 run.count && is_same job run.line e.line) ≡ true → (n : Singling job (run_of run.line (run.count + 1)) old new was is) × (n.ls ≡ s.ls ++ e.line ∷ [])
-      singling_more goes = (record {
-        given = s.given ++ (e.line ++ e.ending);
-        ls = s.ls ++ e.line ∷ [];
-        passed = s.passed;
-        came = lines_more job.end reader s.given s.ls s.came new before after slot e same;
-        reached = record { goes = goes_trans old reader new s.given (e.line ++ e.ending) s.reached.goes e.goes; wrote = s.reached.wrote; clean = s.reached.clean };
-        on = λ more. ap (runs job) (append_assoc s.ls (e.line ∷ []) more) ∙ s.on (e.line ∷ more) ∙ ap (λ (l : List Run). s.passed ++ l) (behind_more job run e.line more goes);
-        count = omega (arith, s.count, length-append s.ls (e.line ∷ []));
-      }, refl)
+      singling_more goes = (
+        record {
+          given = s.given ++ (e.line ++ e.ending);
+          ls = s.ls ++ e.line ∷ [];
+          passed = s.passed;
+          came = lines_more job.end reader s.given s.ls s.came new before after slot e same;
+          reached = record { goes = goes_trans old reader new s.given (e.line ++ e.ending) s.reached.goes e.goes; wrote = s.reached.wrote; clean = s.reached.clean };
+          on = λ more. ap (runs job) (append_assoc s.ls (e.line ∷ []) more) ∙ s.on (e.line ∷ more) ∙ ap (λ (l : List Run). s.passed ++ l) (behind_more job run e.line more goes);
+          count = omega (arith, s.count, length-append s.ls (e.line ∷ []));
+        },
+        refl,
+      )
 
       -- another run begins with the line
       module _ (turns : (nat_lt 0 run.count && is_same job run.line e.line) ≡ false) (is' : Output) (wrote : Wrote is is' (entries job (open_run run))) where
         pub singling_turn : is'.faulted ≡ false → (n : Singling job (run_of e.line 1) old new was is') × (n.ls ≡ s.ls ++ e.line ∷ [])
-        singling_turn clean = (record {
-          given = s.given ++ (e.line ++ e.ending);
-          ls = s.ls ++ e.line ∷ [];
-          passed = s.passed ++ open_run run;
-          came = lines_more job.end reader s.given s.ls s.came new before after slot e same;
-          reached = record {
-            goes = goes_trans old reader new s.given (e.line ++ e.ending) s.reached.goes e.goes;
-            wrote = subst (λ (b : List ℕ). Wrote was is' b) (sym (entries-append job s.passed (open_run run))) (wrote_trans was is is' (entries job s.passed) (entries job (open_run run)) s.reached.clean s.reached.wrote wrote);
-            clean = clean;
-          };
-          on = λ more.
-          ap (runs job) (append_assoc s.ls (e.line ∷ []) more) ∙ s.on (e.line ∷ more) ∙ ap (λ (l : List Run). s.passed ++ l) (behind_turn job run e.line more turns)
-          ∙ sym (append_assoc s.passed (open_run run) (runs_behind job (run_of e.line 1) more));
-          count = omega (arith, length-append s.ls (e.line ∷ []));
-        }, refl)
+        singling_turn clean = (
+          record {
+            given = s.given ++ (e.line ++ e.ending);
+            ls = s.ls ++ e.line ∷ [];
+            passed = s.passed ++ open_run run;
+            came = lines_more job.end reader s.given s.ls s.came new before after slot e same;
+            reached = record {
+              goes = goes_trans old reader new s.given (e.line ++ e.ending) s.reached.goes e.goes;
+              wrote = subst (λ (b : List ℕ). Wrote was is' b) (sym (entries-append job s.passed (open_run run))) (wrote_trans was is is' (entries job s.passed) (entries job (open_run run)) s.reached.clean s.reached.wrote wrote);
+              clean = clean;
+            };
+            on = λ more.
+                ap (runs job) (append_assoc s.ls (e.line ∷ []) more) ∙ s.on (e.line ∷ more) ∙ ap (λ (l : List Run). s.passed ++ l) (behind_turn job run e.line more turns)
+                ∙ sym (append_assoc s.passed (open_run run) (runs_behind job (run_of e.line 1) more));
+            count = omega (arith, length-append s.ls (e.line ∷ []));
+          },
+          refl,
+        )
 
         -- or a write failed
         front : (rest : List ℕ) → (new.ended ≡ true → rest ≡ []) → Begins (entries job (open_run run)) (rest_behind job run ((e.line ++ e.ending) ++ (new.held ++ rest)))

@@ -16,11 +16,7 @@ use ptlines::{LineFault, LineReader, Out, Sink, Source, Store, WriteFault};
 use std::alloc::Allocator;
 
 // Lets the lines of each reader that a cell names end with the job's byte.
-fn set_endings<S: Source, R: Source>(
-    cells: &[usize],
-    zero: bool,
-    readers: &mut [LineReader<S, R>],
-)
+fn set_endings<S: Source, R: Source>(cells: &[usize], zero: bool, readers: &mut [LineReader<S, R>])
     requires { All (λ place. place < length readers.old) cells.now }
     ensures { AreSet (ending zero) cells.now readers.old readers.new }
 {
