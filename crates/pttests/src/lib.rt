@@ -10,11 +10,11 @@ mod comparing;
 #[cfg(test)]
 mod cuts;
 #[cfg(test)]
-mod engines;
-#[cfg(test)]
 mod faking;
 #[cfg(test)]
 mod fields;
+#[cfg(test)]
+mod pasting;
 #[cfg(test)]
 mod reading;
 #[cfg(test)]
