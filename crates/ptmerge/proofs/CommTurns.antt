@@ -259,8 +259,8 @@ module _ (job : Comm) (cmp : Cmp) (key : Side → Key) (o : IsKeyOrder cmp) (old
         (wrote : Wrote now.out new (text job.end (by_keys (comm_by job cmp key) all_keys (both (line now.store (place First).standing ∷ []) (line now.store (place Second).standing ∷ []))))) where
       merging_both : Merging (comm_by job cmp key) r.b (both (r.ls First) (r.ls Second)) old.out new
       merging_both =
-          let h1 = passed job.end cmp (key First) (old.reader First) (now.reader First) (place First) now.store (r.ls First) (r.p First) (r.b First) (step.stands First) (r.sides First) in
-          let h2 = passed job.end cmp (key Second) (old.reader Second) (now.reader Second) (place Second) now.store (r.ls Second) (r.p Second) (r.b Second) (step.stands Second) (r.sides Second) in
+          let h1 = passed job.end cmp (key First) (old.reader First) (now.reader First) (place First) now.store (r.ls First) (r.p First) (r.b First) step.first (r.sides First) in
+          let h2 = passed job.end cmp (key Second) (old.reader Second) (now.reader Second) (place Second) now.store (r.ls Second) (r.p Second) (r.b Second) step.second (r.sides Second) in
           pass_both job cmp key o r.b r.p (both (r.ls First) (r.ls Second)) old.out now.out new clean r.merging (line now.store (place First).standing) (line now.store (place Second).standing) step.same h1.bound h2.bound h1.all h2.all wrote
 
       -- the first input has gone to its next line
@@ -268,16 +268,16 @@ module _ (job : Comm) (cmp : Cmp) (key : Side → Key) (o : IsKeyOrder cmp) (old
         pub n : Next job.end cmp (key First) (old.reader First) reader next (place First).previous now.store mid (r.ls First) (Some (key First (line now.store (place First).standing)))
 
       pub midway : (reader : Reader) (next : Sorted) (mid : Slots) → Comes (key First) cmp (place First) next (now.reader First) reader now.store mid → Midway reader next mid
-      midway reader next mid comes = record { n = goes now place r.ls r.p r.b r.sides r.keeps slots First (step.stands First) reader next mid comes }
+      midway reader next mid comes = record { n = goes now place r.ls r.p r.b r.sides r.keeps slots First step.first reader next mid comes }
 
       pub both_unwritten : new.faulted ≡ true → IsMerge (comm_by job cmp key) old (record { reader = now.reader; out = new; store = now.store }) (Err Write)
       both_unwritten fault =
           unwritten now place r.ls r.p r.b r.sides r.keeps slots (both (r.ls First) (r.ls Second)) new merging_both
-          (elim [ First ↦ passing_now now place r.ls r.p r.b r.sides r.keeps slots First (step.stands First) | Second ↦ passing_now now place r.ls r.p r.b r.sides r.keeps slots Second (step.stands Second) ]) fault
+          (elim [ First ↦ passing_now now place r.ls r.p r.b r.sides r.keeps slots First step.first | Second ↦ passing_now now place r.ls r.p r.b r.sides r.keeps slots Second step.second ]) fault
 
       pub both_unread : new.faulted ≡ false → (reader : Reader) (after : Slots) (fault : MergeFault) → CannotRead First (place First) (now.reader First) reader now.store after fault → IsMerge (comm_by job cmp key) old (record { reader = put First reader now.reader; out = new; store = after }) (Err fault)
       both_unread fine reader after fault moves =
-          unread now place r.ls r.p r.b r.sides r.keeps slots First (step.stands First) (both (r.ls First) (r.ls Second)) new fine merging_both refl (passing_now now place r.ls r.p r.b r.sides r.keeps slots Second (step.stands Second)) reader after fault moves
+          unread now place r.ls r.p r.b r.sides r.keeps slots First step.first (both (r.ls First) (r.ls Second)) new fine merging_both refl (passing_now now place r.ls r.p r.b r.sides r.keeps slots Second step.second) reader after fault moves
 
       -- the turn could not be gone on with
       pub both_stops : (reader : Reader) (next : Sorted) (after : Slots) (fault : MergeFault) → PassesLine (key First) cmp First (place First) next (now.reader First) reader now.store after new (Err fault)
@@ -295,30 +295,30 @@ module _ (job : Comm) (cmp : Cmp) (key : Side → Key) (o : IsKeyOrder cmp) (old
         ls1 = put First w.n.now_ls r.ls
 
         sides1 : BothStand (comm_by job cmp key) old.reader (put First reader now.reader) (put First next place) mid (put First w.n.now_ls r.ls) (put First (r.ls First) r.p) (put First w.n.bound r.b)
-        sides1 = sides_go now place r.ls r.p r.b r.sides r.keeps slots First (step.stands First) reader next mid w.n
+        sides1 = sides_go now place r.ls r.p r.b r.sides r.keeps slots First step.first reader next mid w.n
 
         keeps1 : Keeps old.store mid (λ side. longest (put First w.n.now_ls r.ls side))
-        keeps1 = keeps_on now place r.ls r.p r.b r.sides r.keeps slots First (step.stands First) reader next mid w.n
+        keeps1 = keeps_on now place r.ls r.p r.b r.sides r.keeps slots First step.first reader next mid w.n
 
         merging1 : Merging (comm_by job cmp key) (put First w.n.bound r.b) (both (r.ls First) (r.ls Second)) old.out new
-        merging1 = merging_go now place r.ls r.p r.b r.sides r.keeps slots First (step.stands First) reader next mid w.n (both (r.ls First) (r.ls Second)) new merging_both
+        merging1 = merging_go now place r.ls r.p r.b r.sides r.keeps slots First step.first reader next mid w.n (both (r.ls First) (r.ls Second)) new merging_both
 
         pub both_on : (reader2 : Reader) (next2 : Sorted) (after : Slots) → Comes (key Second) cmp (place Second) next2 (now.reader Second) reader2 mid after
             → Running (comm_by job cmp key) old (record { reader = both reader reader2; out = new; store = after }) (both next next2)
         both_on reader2 next2 after comes =
-            let n = goes (record { reader = put First reader now.reader; out = new; store = mid }) (put First next place) (put First w.n.now_ls r.ls) (put First (r.ls First) r.p) (put First w.n.bound r.b) sides1 keeps1 slots' Second (step.stands Second) reader2 next2 after comes in
+            let n = goes (record { reader = put First reader now.reader; out = new; store = mid }) (put First next place) (put First w.n.now_ls r.ls) (put First (r.ls First) r.p) (put First w.n.bound r.b) sides1 keeps1 slots' Second step.second reader2 next2 after comes in
             record {
               ls = put Second n.now_ls (put First w.n.now_ls r.ls);
               p = both (r.ls First) (r.ls Second);
               b = put Second n.bound (put First w.n.bound r.b);
-              sides = sides_go (record { reader = put First reader now.reader; out = new; store = mid }) (put First next place) (put First w.n.now_ls r.ls) (put First (r.ls First) r.p) (put First w.n.bound r.b) sides1 keeps1 slots' Second (step.stands Second) reader2 next2 after n;
-              merging = merging_go (record { reader = put First reader now.reader; out = new; store = mid }) (put First next place) (put First w.n.now_ls r.ls) (put First (r.ls First) r.p) (put First w.n.bound r.b) sides1 keeps1 slots' Second (step.stands Second) reader2 next2 after n (both (r.ls First) (r.ls Second)) new merging1;
-              keeps = keeps_on (record { reader = put First reader now.reader; out = new; store = mid }) (put First next place) (put First w.n.now_ls r.ls) (put First (r.ls First) r.p) (put First w.n.bound r.b) sides1 keeps1 slots' Second (step.stands Second) reader2 next2 after n;
+              sides = sides_go (record { reader = put First reader now.reader; out = new; store = mid }) (put First next place) (put First w.n.now_ls r.ls) (put First (r.ls First) r.p) (put First w.n.bound r.b) sides1 keeps1 slots' Second step.second reader2 next2 after n;
+              merging = merging_go (record { reader = put First reader now.reader; out = new; store = mid }) (put First next place) (put First w.n.now_ls r.ls) (put First (r.ls First) r.p) (put First w.n.bound r.b) sides1 keeps1 slots' Second step.second reader2 next2 after n (both (r.ls First) (r.ls Second)) new merging1;
+              keeps = keeps_on (record { reader = put First reader now.reader; out = new; store = mid }) (put First next place) (put First w.n.now_ls r.ls) (put First (r.ls First) r.p) (put First w.n.bound r.b) sides1 keeps1 slots' Second step.second reader2 next2 after n;
             }
 
         pub both_unread_second : (reader2 : Reader) (after : Slots) (fault : MergeFault) → CannotRead Second (place Second) (now.reader Second) reader2 mid after fault → IsMerge (comm_by job cmp key) old (record { reader = both reader reader2; out = new; store = after }) (Err fault)
         both_unread_second reader2 after fault moves =
-            unread (record { reader = put First reader now.reader; out = new; store = mid }) (put First next place) (put First w.n.now_ls r.ls) (put First (r.ls First) r.p) (put First w.n.bound r.b) sides1 keeps1 slots' Second (step.stands Second) (both (r.ls First) (r.ls Second)) new fine merging1 refl
+            unread (record { reader = put First reader now.reader; out = new; store = mid }) (put First next place) (put First w.n.now_ls r.ls) (put First (r.ls First) r.p) (put First w.n.bound r.b) sides1 keeps1 slots' Second step.second (both (r.ls First) (r.ls Second)) new fine merging1 refl
             (standing (record { reader = put First reader now.reader; out = new; store = mid }) (put First next place) (put First w.n.now_ls r.ls) (put First (r.ls First) r.p) (put First w.n.bound r.b) sides1 keeps1 slots' First) reader2 after fault moves
 
     -- ---- the end

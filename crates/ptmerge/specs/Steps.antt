@@ -68,7 +68,8 @@ module _ (cmp : Cmp) (key : Side → Key) (place : Side → Sorted) (store : Slo
 
   -- the lines of both inputs have one key
   pub record AreEqual : Type 0 where
-    pub stands : (side : Side) → (place side).stand ≡ Head
+    pub first : (place First).stand ≡ Head
+    pub second : (place Second).stand ≡ Head
     pub same : head_key key place store First ≡ head_key key place store Second
 
   -- this input is out of order at the line of this number, and nothing more is decided

@@ -19,7 +19,7 @@ struct Case<'a> {
     room: usize,
 }
 
-fn inputs<'a>(first: &'a [u8], second: &'a [u8]) -> Case<'a> {
+fn over<'a>(first: &'a [u8], second: &'a [u8]) -> Case<'a> {
     Case {
         job: CommJob::default(),
         first,
@@ -70,25 +70,26 @@ fn expect(
 
 #[test]
 fn common_lines_come_first(rt: HostRuntime) -> Result<(), Fail> {
-    let mut lines = inputs(b"a\na\nb\n", b"a\nc\n");
+    let lines = over(b"a\na\nb\n", b"a\nc\n");
     expect(&rt, rt.alloc(), &lines, Ok(()), b"\t\ta\na\nb\n\tc\n")?;
-    lines.job = CommJob {
+    let job = CommJob {
         hide: [true, true, false],
         ..CommJob::default()
     };
-    expect(&rt, rt.alloc(), &lines, Ok(()), b"a\n")
+    let common = Case { job, ..lines };
+    expect(&rt, rt.alloc(), &common, Ok(()), b"a\n")
 }
 
 #[test]
 fn an_input_out_of_order(rt: HostRuntime) -> Result<(), Fail> {
-    let lines = inputs(b"b\na\nc\n", b"a\nb\nb\nd\n");
+    let lines = over(b"b\na\nc\n", b"a\nb\nb\nd\n");
     let fault = Err(MergeFault::Disorder(Side::First, 2));
     expect(&rt, rt.alloc(), &lines, fault, b"\ta\n\t\tb\n\tb\n")
 }
 
 #[test]
 fn lines_that_end_with_zero_in_descending_order(rt: HostRuntime) -> Result<(), Fail> {
-    let mut lines = inputs(b"b\0a\0a\0", b"c\0a\0");
+    let mut lines = over(b"b\0a\0a\0", b"c\0a\0");
     lines.job.zero = true;
     lines.job.descending = true;
     expect(&rt, rt.alloc(), &lines, Ok(()), b"\tc\0b\0\t\ta\0a\0")
@@ -96,18 +97,18 @@ fn lines_that_end_with_zero_in_descending_order(rt: HostRuntime) -> Result<(), F
 
 #[test]
 fn a_read_that_fails(rt: HostRuntime) -> Result<(), Fail> {
-    let mut lines = inputs(b"a\nc\n", b"b\n");
+    let mut lines = over(b"a\nc\n", b"b\n");
     lines.passing = [u64::MAX, 1];
     let fault = Err(MergeFault::Read(Side::Second));
     expect(&rt, rt.alloc(), &lines, fault, b"a\n\tb\n")?;
-    let mut falls = inputs(b"a\nb\na\n", b"a\nb\n");
+    let mut falls = over(b"a\nb\na\n", b"a\nb\n");
     falls.passing = [u64::MAX, 2];
     expect(&rt, rt.alloc(), &falls, fault, b"\t\ta\n\t\tb\n")
 }
 
 #[test]
 fn a_write_that_fails(rt: HostRuntime) -> Result<(), Fail> {
-    let mut lines = inputs(b"a\na\nb\n", b"a\nc\n");
+    let mut lines = over(b"a\na\nb\n", b"a\nc\n");
     for room in 0..13usize {
         lines.room = room;
         let (_result, kept, _peak) = run(rt.alloc(), rt.alloc(), &lines)?;
@@ -119,7 +120,7 @@ fn a_write_that_fails(rt: HostRuntime) -> Result<(), Fail> {
 #[test]
 fn each_read_fails_in_turn(rt: HostRuntime) -> Result<(), Fail> {
     for passing in 0..8u64 {
-        let mut lines = inputs(b"a\na\nb\n", b"a\nc\n");
+        let mut lines = over(b"a\na\nb\n", b"a\nc\n");
         lines.size = 1;
         lines.passing = [passing, u64::MAX];
         let (result, kept, _peak) = run(rt.alloc(), rt.alloc(), &lines)?;
@@ -135,7 +136,7 @@ fn each_read_fails_in_turn(rt: HostRuntime) -> Result<(), Fail> {
 
 #[test]
 fn each_growth_refused_in_turn(rt: HostRuntime) -> Result<(), Fail> {
-    let lines = inputs(b"a\na\nb\n", b"a\nc\n");
+    let lines = over(b"a\na\nb\n", b"a\nc\n");
     let mut reached = 0u64;
     for passing in 0..20u64 {
         let alloc = Refusing::after(rt.alloc(), passing);

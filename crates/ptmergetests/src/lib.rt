@@ -3,3 +3,5 @@
 
 #[cfg(test)]
 mod comm;
+#[cfg(test)]
+mod orders;

@@ -116,11 +116,11 @@ pass-requires-in-Both-clause-clean g c =
 
 pub pass-requires-in-Both-clause-stands : goal.pass-requires-in-Both-clause-stands
 pass-requires-in-Both-clause-stands g c =
-    c.in-Both.ensures.stands sides.First
+    c.in-Both.ensures.first
 
 pub advance-requires-clause-stands : goal.advance-requires-clause-stands
 advance-requires-clause-stands g c =
-    ap (λ (q : Sorted). q.stand) c.pass-in-Both.ensures.others ∙ c.in-Both.ensures.stands sides.Second
+    ap (λ (q : Sorted). q.stand) c.pass-in-Both.ensures.others ∙ c.in-Both.ensures.second
 
 pub advance-requires-clause-lent : goal.advance-requires-clause-lent
 advance-requires-clause-lent g c =
@@ -310,8 +310,8 @@ pub steps-smaller : goal.steps-smaller
 steps-smaller g c =
     let others : c.pass-in-Both.new.merge.second ≡ c.steps.merge.second = c.pass-in-Both.ensures.others in
     let kept : c.advance.new.self.first ≡ c.pass-in-Both.new.merge.first = c.advance.ensures.others in
-    let less1 = comes_less (g.K.KeyOrder.key_of c.steps.merge.order sides.First) (g.K.KeyOrder.order c.steps.merge.order) c.steps.merge.first c.pass-in-Both.new.merge.first c.steps.first c.pass-in-Both.new.reader c.steps.store c.pass-in-Both.new.store (c.in-Both.ensures.stands sides.First) c.in_ok-pass-in-Both.ensures.passes.1 in
-    let less2 = comes_less (g.K.KeyOrder.key_of c.pass-in-Both.new.merge.order sides.Second) (g.K.KeyOrder.order c.pass-in-Both.new.merge.order) c.pass-in-Both.new.merge.second c.advance.new.self.second c.steps.second c.advance.new.reader c.pass-in-Both.new.store c.advance.new.store (ap (λ (q : Sorted). q.stand) others ∙ c.in-Both.ensures.stands sides.Second) c.in_ok-advance-in-Both.ensures.moves in
+    let less1 = comes_less (g.K.KeyOrder.key_of c.steps.merge.order sides.First) (g.K.KeyOrder.order c.steps.merge.order) c.steps.merge.first c.pass-in-Both.new.merge.first c.steps.first c.pass-in-Both.new.reader c.steps.store c.pass-in-Both.new.store c.in-Both.ensures.first c.in_ok-pass-in-Both.ensures.passes.1 in
+    let less2 = comes_less (g.K.KeyOrder.key_of c.pass-in-Both.new.merge.order sides.Second) (g.K.KeyOrder.order c.pass-in-Both.new.merge.order) c.pass-in-Both.new.merge.second c.advance.new.self.second c.steps.second c.advance.new.reader c.pass-in-Both.new.store c.advance.new.store (ap (λ (q : Sorted). q.stand) others ∙ c.in-Both.ensures.second) c.in_ok-advance-in-Both.ensures.moves in
     omega (arith, less1, less2, ap (λ (q : Sorted). alive q.stand) others, ap (λ (q : Sorted). alive q.stand) kept)
 
 pub returns-in-End-clause-merged : goal.returns-in-End-clause-merged

@@ -1,0 +1,66 @@
+//! A merge in an order of its own.
+
+use ptfakes::Pieces;
+use ptlines::{LineReader, Store};
+use ptmerge::{KeyOrder, Merge, Side, Step};
+use std::cmp::Ordering;
+use std::test::Fail;
+
+// The key is the line without its first byte, in byte order.
+#[derive(Drop)]
+struct Behind;
+
+impl KeyOrder for Behind {
+    ghost use Rattle.std.specs.Prelude.{drop};
+    ghost use Rattle.std.specs.Cmp.Lexicographic.{nat_list_cmp_total};
+    ghost use Rattle.ptmerge.specs.Exact.{same_bytes};
+    ghost use Rattle.ptmerge.specs.Orders.{byte_cmp};
+
+    ghost key_of = { λ s side line. drop 1 line };
+
+    ghost order = { λ s. byte_cmp };
+
+    fn key<'a>(&self, _side: Side, line: &'a [u8]) -> &'a [u8] {
+        if line.is_empty() {
+            return line;
+        }
+        &line[1..]
+    }
+
+    fn cmp(&self, a: &[u8], b: &[u8]) -> Ordering {
+        a.cmp(b)
+    }
+
+    ghost total = { λ s. nat_list_cmp_total };
+
+    ghost exact = { λ s. same_bytes };
+}
+
+type Reader<'a> = LineReader<Pieces<'a>, Pieces<'a>>;
+
+#[test]
+fn keys_without_the_first_byte(rt: HostRuntime) -> Result<(), Fail> {
+    let mut first: Reader<'_> = LineReader::standard(Pieces::new(b"xa\nyc\n", 2, u64::MAX));
+    let mut second: Reader<'_> = LineReader::file(Pieces::new(b"zb\nwc\n", 1, u64::MAX));
+    let mut store = Store::new(rt.alloc(), 0)?;
+    let mut merge = Merge::start(Behind, &mut first, &mut second, &mut store)?;
+    let Step::First = merge.step(&store) else {
+        return Err("first".into());
+    };
+    assert!(rt; merge.head(Side::First, &store) == b"xa".as_slice());
+    merge.advance(Side::First, &mut first, &mut store)?;
+    let Step::Second = merge.step(&store) else {
+        return Err("second".into());
+    };
+    assert!(rt; merge.head(Side::Second, &store) == b"zb".as_slice());
+    merge.advance(Side::Second, &mut second, &mut store)?;
+    let Step::Both = merge.step(&store) else {
+        return Err("both".into());
+    };
+    assert!(rt; merge.head(Side::First, &store) == b"yc".as_slice());
+    assert!(rt; merge.head(Side::Second, &store) == b"wc".as_slice());
+    merge.advance(Side::First, &mut first, &mut store)?;
+    merge.advance(Side::Second, &mut second, &mut store)?;
+    assert_eq!(rt; merge.step(&store), Step::End);
+    Ok(())
+}
