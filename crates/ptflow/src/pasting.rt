@@ -94,7 +94,8 @@ pub fn paste<A: Allocator + Copy, S: Source, R: Source, W: Sink>(
     out: &mut Out<W>,
 ) -> Result<(), FlowFault>
     requires { AreReady cells.now readers.old store.old }
-    ensures { IsPastePass (paste_job job.now) cells.now readers.old readers.new out.old out.new store.old store.new result }
+    ensures { IsPastePass (paste_job job.now) cells.now readers.old readers.new out.old out.new
+        store.old store.new result }
 {
     if out.has_failed() {
         return Err(FlowFault::Write);

@@ -73,7 +73,8 @@ fn push_cells<A: Allocator, W: Sink>(
 ) -> Result<Cell, WriteFault>
     requires short { cell.number + length block.now < 2 ^ 63 }
     requires clean { out.old.faulted ≡ false }
-    ensures continues { IfOk result (λ after. Continues (serial_rest ending delims.now) cell after block.now out.old out.new) }
+    ensures continues { IfOk result
+        (λ after. Continues (serial_rest ending delims.now) cell after block.now out.old out.new) }
     ensures bound { IfOk result (λ after. after.number ≤ cell.number + length block.now) }
     ensures halts { OnErr result (Halts (serial_rest ending delims.now) cell block.now out.old out.new) }
     ensures clean { OnOk result (out.new.faulted ≡ false) }
@@ -165,7 +166,8 @@ pub fn paste_serial<A: Allocator + Copy, S: Source, R: Source, W: Sink>(
     out: &mut Out<W>,
 ) -> Result<(), FlowFault>
     requires { IsReady reader.old _store.old }
-    ensures { IsPass (serial_tool (paste_job job.now)) reader.old reader.new out.old out.new _store.old _store.new result }
+    ensures { IsPass (serial_tool (paste_job job.now)) reader.old reader.new out.old out.new
+        _store.old _store.new result }
 {
     if out.has_failed() {
         return Err(FlowFault::Write);

@@ -69,15 +69,13 @@ fn translate_by(
     }
 }
 
-/// The plan, whether it deletes and whether it squeezes, the byte that was written last, if any was, and room for
-/// what is written of a block.
+/// The plan, whether it deletes and whether it squeezes, and the byte that was written last, if any was.
 #[derive(Drop)]
 struct Translator<'a> {
     plan: &'a CharPlan,
     deleting: bool,
     squeezing: bool,
     last: Option<u8>,
-    into: [u8; 8192],
 }
 
 impl<'a> BlockTool for Translator<'a> {
@@ -89,18 +87,20 @@ impl<'a> BlockTool for Translator<'a> {
 
     ghost counted = { λ t. 0 };
 
-    ghost Holds = { λ s t. (t.plan.now ≡ s.plan.now) × Covers t.deleting (deletes t.plan.now) × Covers t.squeezing (squeezes t.plan.now) };
+    ghost Holds = { λ s t. (t.plan.now ≡ s.plan.now) × Covers t.deleting (deletes t.plan.now)
+        × Covers t.squeezing (squeezes t.plan.now) };
 
     fn push_block<W: Sink>(&mut self, block: &[u8], out: &mut Out<W>) -> Result<(), WriteFault> {
+        let mut into = [0; 8192];
         let count = translate_by(
             self.plan,
             self.deleting,
             self.squeezing,
             self.last,
             block,
-            &mut self.into,
+            &mut into,
         );
-        let written = &self.into[..count];
+        let written = &into[..count];
         out.push(written)?;
         self.last = written.last().copied().or(self.last);
         Ok(())
@@ -136,7 +136,6 @@ pub fn tr<S: Source, R: Source, W: Sink>(
         deleting: plan.deleted().contains(&true),
         squeezing: plan.squeezed().contains(&true),
         last: None,
-        into: [0; 8192],
     };
     over_blocks(&mut tool, reader, out)
 }

@@ -44,10 +44,13 @@ impl<S: Source, R: Source> Model for LineReader<S, R> {
 
     ghost use Rattle.ptlines.specs.Origins.{origin_state, is_refused};
 
-    ghost view = { λ r. reader_of (origin_state S.state R.state r.origin) (slice_range r.block r.start r.end) r.pulled r.fault (is_refused r.origin) r.ending };
+    ghost view = { λ r. reader_of (origin_state S.state R.state r.origin) (slice_range r.block r.start r.end)
+        r.pulled r.fault (is_refused r.origin) r.ending };
 
-    ghost invariant = { λ r. (r.start ≤ r.end) × (r.end ≤ 8192) × (r.ended ≡ (origin_state S.state R.state r.origin).ended)
-        × IsSound (reader_of (origin_state S.state R.state r.origin) (slice_range r.block r.start r.end) r.pulled r.fault (is_refused r.origin) r.ending) };
+    ghost invariant = { λ r. (r.start ≤ r.end) × (r.end ≤ 8192)
+        × (r.ended ≡ (origin_state S.state R.state r.origin).ended)
+        × IsSound (reader_of (origin_state S.state R.state r.origin) (slice_range r.block r.start r.end)
+        r.pulled r.fault (is_refused r.origin) r.ending) };
 }
 
 impl<S: Source, R: Source> LineReader<S, R> {
@@ -273,7 +276,8 @@ impl<S: Source, R: Source> LineReader<S, R> {
         requires { slot < length store.old.lines }
         ensures fills { self.old.fault ≡ None → Fills self.old self.new store.old store.new slot result }
         ensures slots { length store.new.lines ≡ length store.old.lines }
-        ensures stays { IfSome self.old.fault (λ fault. (result ≡ Err fault) × (self.new ≡ self.old) × (store.new ≡ store.old)) }
+        ensures stays { IfSome self.old.fault
+            (λ fault. (result ≡ Err fault) × (self.new ≡ self.old) × (store.new ≡ store.old)) }
         ensures was_sound { IsSound self.old }
         ensures is_sound { IsSound self.new }
     {
@@ -294,7 +298,8 @@ impl<S: Source, R: Source> LineReader<S, R> {
     /// # Errors
     /// `Read` where the read failed, or 2^63 bytes or more came. Later calls answer the same and read nothing.
     pub fn block(&mut self) -> Result<&[u8], LineFault>
-        ensures* after { sem 𝓛 (Rests (the_row S.row R.row S.Source R.Source) self.entry (λ new. Blocks self.old new result)) }
+        ensures* after { sem 𝓛 (Rests (the_row S.row R.row S.Source R.Source) self.entry
+            (λ new. Blocks self.old new result)) }
     {
         if let Some(fault) = self.fault() {
             return Err(fault);

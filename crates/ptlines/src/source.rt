@@ -32,7 +32,8 @@ impl<S: Source, R: Source> Source for Origin<S, R> {
 
     fn pull(&mut self, into: &mut [u8]) -> Result<usize, Failed>
         requires { 0 < length into.old }
-        ensures pulled { Pulls (origin_state S.state R.state self.old) (origin_state S.state R.state self.new) into.new result }
+        ensures pulled { Pulls (origin_state S.state R.state self.old) (origin_state S.state R.state self.new)
+            into.new result }
         ensures refused { is_refused self.new ≡ is_refused self.old }
     {
         match self {

@@ -49,7 +49,9 @@ fn extend_from_slot<A: Allocator + Copy>(
     requires from_in { from < length slots.old.items }
     requires to_in { to < length slots.old.items }
     requires differ { from ≢ to }
-    ensures ok { OnOk result (contents slots.new.items ≡ slice_set (contents slots.old.items) to (slice_index_or (contents slots.old.items) to [] ++ slice_index_or (contents slots.old.items) from [])) }
+    ensures ok { OnOk result (contents slots.new.items
+        ≡ slice_set (contents slots.old.items) to
+        (slice_index_or (contents slots.old.items) to [] ++ slice_index_or (contents slots.old.items) from [])) }
     ensures err { OnErr result (contents slots.new.items ≡ contents slots.old.items) }
     ensures count { length slots.new.items ≡ length slots.old.items }
 {
@@ -60,6 +62,19 @@ fn extend_from_slot<A: Allocator + Copy>(
 }
 
 impl<A: Allocator + Copy> Store<A> {
+    /// A store without slots. It takes no memory.
+    pub fn empty(alloc: A) -> Self
+        ensures { result ≡ record { lines = []; peak = 0; denied = false } }
+    {
+        Store {
+            slots: Vec::new(alloc),
+            held: 0,
+            peak: 0,
+            denied: false,
+            alloc,
+        }
+    }
+
     /// A store of so many empty slots.
     /// # Errors
     /// `Memory` where a growth was refused.
@@ -67,20 +82,11 @@ impl<A: Allocator + Copy> Store<A> {
         ensures made { IfOk result (λ s. s ≡ record { lines = replicate slots []; peak = 0; denied = false }) }
         ensures memory { OnErr result (result ≡ Err LineFault.Memory) }
     {
-        let mut made = Vec::new(alloc);
+        let mut made = Store::empty(alloc);
         for _i in 0..slots {
-            match made.push(Vec::new(alloc)) {
-                Ok(()) => {}
-                Err(_) => return Err(LineFault::Memory),
-            }
+            made.add()?;
         }
-        Ok(Store {
-            slots: made,
-            held: 0,
-            peak: 0,
-            denied: false,
-            alloc,
-        })
+        Ok(made)
     }
 
     /// Adds an empty slot, and says its number.

@@ -23,7 +23,6 @@ use Rattle.ptflow.specs.declared.faults.FlowFault.TheVariants.{Read, Write, Memo
 use Rattle.ptrun.specs.declared.engine.Done.{Done}
 use Rattle.ptrun.specs.Worlds.{World, Received, at, AllowsAt, Allows, reader_at, shut, is_unopened, CameAt, IsReceived, IsFresh, HasFailed, IsTooLong, TellsAt, TellsWorld}
 use Rattle.ptrun.specs.Sayings.{Tells}
-use Rattle.ptrun.specs.Messages.{failure}
 use Rattle.ptrun.specs.Meanings.{Meaning, named, unopened}
 use Rattle.ptrun.specs.Runs.{Sinks, sinks, Outcome, Cause, EndsAs, IsRun, IsExact, Headline}
 use Rattle.ptrun.specs.Engines.{WentTo, Went, Finishes, last_words, status_after, IsWithin}
@@ -123,7 +122,7 @@ headline_of m old new before o fresh k w tells none fine roomy = by_fault k.faul
 none_failed : (old : List Reader) (q : ℕ) → HasFailed old old q → ⊥
 none_failed old q failed = false≢true (sym failed.1 ∙ failed.2)
 
--- Memory for the store was denied, or nothing was to be read; in both cases the output is left alone.
+-- Nothing was to be read, and the output is left alone.
 module _ (m : Meaning) (old : List Reader) (fresh : All IsFresh old) (out told heard : SinkState) (fine : out.failed ≡ false) (text : List ℕ) (tells : Tells told heard text) where
   unread : (o : Outcome) → o.out ≡ out → o.messages ≡ heard → o.peak ≡ 0 → (n : ℕ) (fault : Option FlowFault) → EndsAs m (map received_of old) old old [] text o n fault → IsRun m old old (sinks out told) o
   unread o same said none n fault ends = record {
@@ -142,12 +141,6 @@ module _ (m : Meaning) (old : List Reader) (fresh : All IsFresh old) (out told h
     sure = λ q failed clean. absurd (none_failed old q failed);
     bounded = λ w agrees. omega (arith, none);
   }
-
-pub not_started : (m : Meaning) (old : List Reader) → All IsFresh old → (out told heard : SinkState) → out.failed ≡ false → Tells told heard (failure m.tool m.names Memory) → (status : ℕ) → status ≡ 1
-    → IsRun m old old (sinks out told) (record { out = out; messages = heard; status = status; peak = 0; denied = true })
-not_started m old fresh out told heard fine tells status is =
-    unread m old fresh out told heard fine (failure m.tool m.names Memory) tells (record { out = out; messages = heard; status = status; peak = 0; denied = true }) refl refl refl 0 (Some Memory)
-    (record { within = omega arith; messages = λ w agrees. refl; cause = (refl, fine); status_is = is })
 
 -- nothing was read or written, and this was said
 pub only_said : (text : List ℕ) (is : ℕ) (old : List Reader) → All IsFresh old → (out told heard : SinkState) (status : ℕ) → out.failed ≡ false → Tells told heard text → status ≡ is

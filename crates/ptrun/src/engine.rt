@@ -86,25 +86,12 @@ pub(crate) fn run_engine<A: Allocator + Copy, G: Engine<A>, S: Source, R: Source
     if engine.lacks_inputs(inputs, &mut voice) {
         return quiet_report(1, out, voice);
     }
-    match Store::new(alloc, 0) {
-        Ok(mut store) => {
-            let mut out = Out::new(out);
-            let went = engine.go(inputs, &mut store, &mut out, &mut voice);
-            let ended = finish(&mut out, went);
-            let status = conclude(engine, ended, &mut voice);
-            report_of(&store, status, out, voice)
-        }
-        Err(_) => {
-            let status = conclude(engine, Err(FlowFault::Memory), &mut voice);
-            Report {
-                status,
-                peak: 0,
-                denied: true,
-                out,
-                messages: voice.into_sink(),
-            }
-        }
-    }
+    let mut store = Store::empty(alloc);
+    let mut out = Out::new(out);
+    let went = engine.go(inputs, &mut store, &mut out, &mut voice);
+    let ended = finish(&mut out, went);
+    let status = conclude(engine, ended, &mut voice);
+    report_of(&store, status, out, voice)
 }
 
 // Sends what is staged. A write that failed is the fault, whatever else was.

@@ -8,13 +8,13 @@ use Rattle.ptrun.specs.Meanings.{unopened}
 use Rattle.ptrun.specs.Sayings.{Tells}
 use Rattle.ptrun.specs.Engines.{IsWithin}
 use Rattle.ptrun.specs.Runs.{outcome}
-use Rattle.ptrun.proofs.Runs.{run_of, run_behind, not_started, lacking, named_of}
+use Rattle.ptrun.proofs.Runs.{run_of, run_behind, lacking, named_of}
 use Rattle.ptrun.proofs.engine.run_engine.Goals as goal
 
 pub conclude-status-requires : goal.conclude-status-requires
 conclude-status-requires g c =
     subst (λ (n : ℕ). IsWithin n c.finish-ended.result) c.requires.given.named
-    (named_of (g.G.Engine.meaning c.args.engine.now) c.args.inputs.now c.go-went.new.inputs c.new-out.result c.go-went.new.out c.finish-ended.new.out c.lacks_inputs.new.voice c.go-went.new.voice c.in-Ok.store c.go-went.new.store
+    (named_of (g.G.Engine.meaning c.args.engine.now) c.args.inputs.now c.go-went.new.inputs c.new-out.result c.go-went.new.out c.finish-ended.new.out c.lacks_inputs.new.voice c.go-went.new.voice c.empty-store.result c.go-went.new.store
     c.go-went.result c.finish-ended.result c.go-went.ensures c.finish-ended.ensures)
 
 pub go-went-requires-clause-start : goal.go-went-requires-clause-start
@@ -22,8 +22,8 @@ go-went-requires-clause-start g c = record {
   given = c.requires.given;
   complete = sym c.lacks_inputs.ensures.is ∙ c.if-lacks_inputs.false;
   writable = ap (λ (o : Output). o.faulted) c.new-out.ensures;
-  roomy = ap (λ (s : Slots). s.denied) c.in-Ok.ensures.made;
-  empty = ap (λ (s : Slots). total s.lines) c.in-Ok.ensures.made;
+  roomy = ap (λ (s : Slots). s.denied) c.empty-store.ensures;
+  empty = ap (λ (s : Slots). total s.lines) c.empty-store.ensures;
 }
 
 pub returns-then-lacks_inputs-clause-run : goal.returns-then-lacks_inputs-clause-run
@@ -39,24 +39,14 @@ none_said a b text lacks is tells = subst (λ (l : Bool). Tells a b (cond l text
 absurd_quiet : {P : Type 0} → (lacks quiet : Bool) → lacks ≡ quiet → lacks ≡ false → quiet ≡ true → P
 absurd_quiet lacks quiet is opened lacking_is = absurd (false≢true (sym opened ∙ is ∙ lacking_is))
 
-pub returns-in-Ok-clause-quiet : goal.returns-in-Ok-clause-quiet
-returns-in-Ok-clause-quiet g c = λ is_lacking. absurd_quiet _ _ c.lacks_inputs.ensures.is c.if-lacks_inputs.false is_lacking
+pub returns-clause-quiet : goal.returns-clause-quiet
+returns-clause-quiet g c = λ is_lacking. absurd_quiet _ _ c.lacks_inputs.ensures.is c.if-lacks_inputs.false is_lacking
 
-pub returns-in-Err-clause-quiet : goal.returns-in-Err-clause-quiet
-returns-in-Err-clause-quiet g c = λ is_lacking. absurd_quiet _ _ c.lacks_inputs.ensures.is c.if-lacks_inputs.false is_lacking
-
-pub returns-in-Ok-clause-run : goal.returns-in-Ok-clause-run
-returns-in-Ok-clause-run g c =
+pub returns-clause-run : goal.returns-clause-run
+returns-clause-run g c =
     run_behind _ _ _ _ _ _ _ (none_said _ _ _ _ c.if-lacks_inputs.false c.lacks_inputs.ensures.tells)
-    (run_of (g.G.Engine.meaning c.args.engine.now) c.args.inputs.now c.go-went.new.inputs c.new-out.result c.go-went.new.out c.finish-ended.new.out c.lacks_inputs.new.voice c.go-went.new.voice c.in-Ok.store c.go-went.new.store
+    (run_of (g.G.Engine.meaning c.args.engine.now) c.args.inputs.now c.go-went.new.inputs c.new-out.result c.go-went.new.out c.finish-ended.new.out c.lacks_inputs.new.voice c.go-went.new.voice c.empty-store.result c.go-went.new.store
     c.go-went.result c.finish-ended.result (g.W.Sink.state c.args.out) (outcome (g.W.Sink.state) (g.E.Sink.state) c.report_of.result) c.go-went.ensures c.finish-ended.ensures
     (rw c.report_of.ensures.messages c.conclude-status.ensures.said) (c.report_of.ensures.status ∙ c.conclude-status.ensures.status)
     c.new-out.ensures c.report_of.ensures.out.0 c.report_of.ensures.out.1
-    (ap (λ (s : Slots). s.peak) c.in-Ok.ensures.made) c.report_of.ensures.store.0 c.report_of.ensures.store.1)
-
-pub returns-in-Err-clause-run : goal.returns-in-Err-clause-run
-returns-in-Err-clause-run g c =
-    rw c.into_sink.ensures
-    (run_behind _ _ _ _ _ _ _ (none_said _ _ _ _ c.if-lacks_inputs.false c.lacks_inputs.ensures.tells)
-    (not_started (g.G.Engine.meaning c.args.engine.now) c.args.inputs.now c.requires.given.fresh (g.W.Sink.state c.args.out) c.lacks_inputs.new.voice c.conclude-status-in-Err.new.voice c.requires.writable
-    c.conclude-status-in-Err.ensures.said c.conclude-status-in-Err.result c.conclude-status-in-Err.ensures.status))
+    (ap (λ (s : Slots). s.peak) c.empty-store.ensures) c.report_of.ensures.store.0 c.report_of.ensures.store.1)
