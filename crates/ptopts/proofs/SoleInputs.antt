@@ -9,9 +9,8 @@ use Rattle.ptopts.specs.declared.tool.Tool.TheVariants.{Cut, Paste, Uniq, Comm, 
 use Rattle.ptopts.specs.declared.inputs.Input.{Input}
 use Rattle.ptopts.specs.declared.inputs.Input.TheVariants.{Standard, File}
 use Rattle.ptopts.specs.Words.{GivenOption}
-use Rattle.ptopts.specs.Syntax.{syntax}
 use Rattle.ptopts.specs.Faults.{Fault, Operands, StandardTwice, is_between, is_standard, operands_fault}
-use Rattle.ptopts.specs.Commands.{RunUniq, job, inputs, or_standard, order_from}
+use Rattle.ptopts.specs.Commands.{Job, RunUniq, RunComm, RunJoin, job, inputs, or_standard, order_from}
 
 order_length : (n : ℕ) (operands : List (List ℕ)) → length (order_from n operands) ≡ length operands
 order_length n [] = refl
@@ -65,11 +64,17 @@ two_operands (a ∷ b ∷ c ∷ more) none = absurd (blamed (is_between 2 2 (len
     blamed true other is some = cc
     blamed false other is some = cc
 
+-- comm and join
+abbrev pub is_of_two : Job → Bool
+is_of_two (RunComm told) = true
+is_of_two (RunJoin told) = true
+is_of_two _ = false
+
 -- comm and join have two inputs, and standard input is one of them at most
-pub two_inputs : (tool : Tool) (os : List GivenOption) (operands : List (List ℕ)) → (syntax tool).once ≡ true → operands_fault tool os operands ≡ None → AreTwo (order_from 0 (inputs tool operands))
-two_inputs Cut os operands once none = cc
-two_inputs Paste os operands once none = cc
-two_inputs Uniq os operands once none = cc
-two_inputs Comm os operands once none = two_operands operands none
-two_inputs Join os operands once none = two_operands operands none
-two_inputs Tr os operands once none = cc
+pub two_inputs : (tool : Tool) (os : List GivenOption) (operands : List (List ℕ)) → operands_fault tool os operands ≡ None → is_of_two (job tool os operands) ≡ true → AreTwo (order_from 0 (inputs tool operands))
+two_inputs Cut os operands none is = cc
+two_inputs Paste os operands none is = cc
+two_inputs Uniq os operands none is = cc
+two_inputs Comm os operands none is = two_operands operands none
+two_inputs Join os operands none is = two_operands operands none
+two_inputs Tr os operands none is = cc
