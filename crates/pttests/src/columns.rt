@@ -196,7 +196,7 @@ fn standard_input_and_a_file(rt: HostRuntime) -> Result<(), Fail> {
 }
 
 // Two files, how many reads of each pass, what is written, and what is said.
-type Unread = ([&'static str; 2], [u64; 2], &'static str, &'static str);
+type Unread = ([&'static str; 2], u64, u64, &'static str, &'static str);
 
 const ALL: u64 = u64::MAX;
 
@@ -210,38 +210,34 @@ const G_FAILED: &str = "comm: g: read failed\n";
 
 // Each read gives a line. An entry is written before a line behind its own is asked for.
 const UNREAD: &[Unread] = &[
-    (SAME, [0, ALL], "", F_FAILED),
-    (SAME, [1, ALL], "\t\ta\n", F_FAILED),
-    (SAME, [2, ALL], "\t\ta\na\n", F_FAILED),
-    (SAME, [3, ALL], "\t\ta\na\nb\n", F_FAILED),
-    (SAME, [ALL, 0], "", G_FAILED),
-    (SAME, [ALL, 1], "\t\ta\n", G_FAILED),
-    (SAME, [ALL, 2], "\t\ta\na\nb\n\tc\n", G_FAILED),
-    (FALLS, [0, ALL], "", F_FAILED),
-    (FALLS, [1, ALL], "\ta\n\t\tb\n", F_FAILED),
-    (FALLS, [ALL, 0], "", G_FAILED),
-    (FALLS, [ALL, 1], "\ta\n", G_FAILED),
-    (FALLS, [ALL, 2], "\ta\n\t\tb\n", G_FAILED),
-    (FALLS, [ALL, 3], "\ta\n\t\tb\n\tb\n", G_FAILED),
+    (SAME, 0, ALL, "", F_FAILED),
+    (SAME, 1, ALL, "\t\ta\n", F_FAILED),
+    (SAME, 2, ALL, "\t\ta\na\n", F_FAILED),
+    (SAME, 3, ALL, "\t\ta\na\nb\n", F_FAILED),
+    (SAME, ALL, 0, "", G_FAILED),
+    (SAME, ALL, 1, "\t\ta\n", G_FAILED),
+    (SAME, ALL, 2, "\t\ta\na\nb\n\tc\n", G_FAILED),
+    (FALLS, 0, ALL, "", F_FAILED),
+    (FALLS, 1, ALL, "\ta\n\t\tb\n", F_FAILED),
+    (FALLS, ALL, 0, "", G_FAILED),
+    (FALLS, ALL, 1, "\ta\n", G_FAILED),
+    (FALLS, ALL, 2, "\ta\n\t\tb\n", G_FAILED),
+    (FALLS, ALL, 3, "\ta\n\t\tb\n\tb\n", G_FAILED),
     // The disorder is decided, and nothing behind it is read.
     (
         FALLS,
-        [2, 4],
+        2,
+        4,
         "\ta\n\t\tb\n\tb\n",
         "comm: f: line 2 is out of order\n",
     ),
-    (["a\nc\n", "b\n"], [ALL, 1], "a\n\tb\n", G_FAILED),
-    (
-        ["a\nb\na\n", "a\nb\n"],
-        [ALL, 2],
-        "\t\ta\n\t\tb\n",
-        G_FAILED,
-    ),
+    (["a\nc\n", "b\n"], ALL, 1, "a\n\tb\n", G_FAILED),
+    (["a\nb\na\n", "a\nb\n"], ALL, 2, "\t\ta\n\t\tb\n", G_FAILED),
 ];
 
 #[test]
 fn each_read_fails(rt: HostRuntime) -> Result<(), Fail> {
-    for ([first, second], [of_first, of_second], out, messages) in UNREAD {
+    for ([first, second], of_first, of_second, out, messages) in UNREAD {
         let files = [
             Input::Failing(first.as_bytes(), 2, *of_first),
             Input::Failing(second.as_bytes(), 2, *of_second),
@@ -269,28 +265,29 @@ fn both_are_read_to_their_ends(rt: HostRuntime) -> Result<(), Fail> {
     expect(&rt, rt.alloc(), &case, &tells("", F_FAILED))
 }
 
-// Two files, how many bytes a call takes, how many in all, how many calls pass, and what is written. The last call is a flush.
-type Unwritten = ([&'static str; 2], [usize; 2], u64, &'static str);
+// Two files, how many bytes a call takes, how many in all, how many calls pass, and what is written. The last call is
+// a flush.
+type Unwritten = ([&'static str; 2], usize, usize, u64, &'static str);
 
 const ROOM: usize = usize::MAX;
 
 const UNWRITTEN: &[Unwritten] = &[
-    (SAME, [4, ROOM], 0, ""),
-    (SAME, [4, ROOM], 1, "\t\ta\n"),
-    (SAME, [4, ROOM], 2, "\t\ta\na\nb\n"),
-    (SAME, [4, ROOM], 3, "\t\ta\na\nb\n\tc\n"),
-    (SAME, [ROOM, 4], ALL, "\t\ta\n"),
-    (FALLS, [4, ROOM], 0, ""),
-    (FALLS, [4, ROOM], 1, "\ta\n\t"),
-    (FALLS, [4, ROOM], 2, "\ta\n\t\tb\n\t"),
-    (FALLS, [4, ROOM], 3, "\ta\n\t\tb\n\tb\n"),
-    (FALLS, [ROOM, 7], ALL, "\ta\n\t\tb\n"),
+    (SAME, 4, ROOM, 0, ""),
+    (SAME, 4, ROOM, 1, "\t\ta\n"),
+    (SAME, 4, ROOM, 2, "\t\ta\na\nb\n"),
+    (SAME, 4, ROOM, 3, "\t\ta\na\nb\n\tc\n"),
+    (SAME, ROOM, 4, ALL, "\t\ta\n"),
+    (FALLS, 4, ROOM, 0, ""),
+    (FALLS, 4, ROOM, 1, "\ta\n\t"),
+    (FALLS, 4, ROOM, 2, "\ta\n\t\tb\n\t"),
+    (FALLS, 4, ROOM, 3, "\ta\n\t\tb\n\tb\n"),
+    (FALLS, ROOM, 7, ALL, "\ta\n\t\tb\n"),
 ];
 
 // The failed write is told in place of the disorder.
 #[test]
 fn each_write_and_the_flush_fail(rt: HostRuntime) -> Result<(), Fail> {
-    for ([first, second], [size, room], passing, out) in UNWRITTEN {
+    for ([first, second], size, room, passing, out) in UNWRITTEN {
         let files = [
             Input::Whole(first.as_bytes()),
             Input::Whole(second.as_bytes()),
