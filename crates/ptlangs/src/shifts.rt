@@ -90,7 +90,8 @@ impl Shifts {
 
     /// The first and the last byte and the shift of the stretch at a place, counted from 0; they ascend.
     pub fn stretch(&self, place: usize) -> Option<(u8, u8, u8)>
-        ensures { result ≡ option_map (λ s. (s.first, s.last, s.by)) (slice_get self.now place) }
+        ensures found { result ≡ option_map (λ s. (s.first, s.last, s.by)) (slice_get self.now place) }
+        ensures few { length self.now ≤ 4 }
     {
         if place >= self.count {
             return None;

@@ -1,0 +1,17 @@
+-- Bytes that are moved by four stretches, some of which may move none.
+use Rattle.std.specs.Prelude.{◌≡◌, ◌<◌, ℕ, ◌+◌, ◌%◌, List, Option, Some, None, slice_get}
+use Rattle.ptlangs.specs.declared.shifts.Stretch.{Stretch}
+use Rattle.ptlangs.specs.TrShifts.{added, shifted}
+use Rattle.ptflow.specs.declared.lanes.Four.{Four}
+
+-- what a stretch of this first and last byte adds to a byte
+abbrev pub added_by : ℕ × ℕ × ℕ → ℕ → ℕ
+added_by (first, last, by) b = added (record { first = first; last = last; by = by }) b
+
+-- what a byte becomes
+abbrev pub moved_by : Four → ℕ → ℕ
+moved_by s b = ((((b + added_by s.a b) % 256 + added_by s.b b) % 256 + added_by s.c b) % 256 + added_by s.d b) % 256
+
+-- they are these stretches
+abbrev pub AreOf : List Stretch → Four → Type 0
+AreOf ss four = (b : ℕ) → moved_by four b ≡ shifted ss b
