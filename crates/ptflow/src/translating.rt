@@ -1,6 +1,7 @@
 //! `tr`.
 
-ghost use Rattle.std.specs.Prelude.{◌≡◌, ◌≢◌, ◌≤◌, ℕ, length, take, false, Err};
+ghost use Rattle.std.specs.Prelude.{◌≡◌, ◌≢◌, ◌≤◌, ℕ, length, map, take, false, Err};
+ghost use Rattle.ptlangs.specs.TrShifts.{shifted};
 ghost use Rattle.ptlangs.specs.TrTables.{deletes, squeezes};
 ghost use Rattle.ptflow.specs.Passes.{IsReady, IsBarePass, no_slots};
 ghost use Rattle.ptflow.specs.Translations.{tr_tool};
@@ -8,7 +9,8 @@ ghost use Rattle.ptflow.specs.Workings.TrRests.{Covers, tr_rest};
 
 use crate::blocks::{BlockTool, over_blocks};
 use crate::faults::FlowFault;
-use ptlangs::CharPlan;
+use crate::lanes::translate;
+use ptlangs::{CharPlan, Shifts};
 use ptlines::{LineReader, Out, Sink, Source, WriteFault};
 
 // Puts what is written of a block to the front of `into`, and says how many bytes that is. `last` was written last,
@@ -16,7 +18,7 @@ use ptlines::{LineReader, Out, Sink, Source, WriteFault};
 // `deleting` is true does the plan delete, and only where `squeezing` is does it squeeze: a call with constants for
 // both pays for nothing else.
 #[inline(always)]
-fn translate(
+fn look_up(
     plan: &CharPlan,
     deleting: bool,
     squeezing: bool,
@@ -47,7 +49,7 @@ fn translate(
 }
 
 // The same, with constants for both flags.
-fn translate_by(
+fn look_up_by(
     plan: &CharPlan,
     deleting: bool,
     squeezing: bool,
@@ -62,44 +64,78 @@ fn translate_by(
     ensures within { result ≤ 8192 }
 {
     match (deleting, squeezing) {
-        (false, false) => translate(plan, false, false, last, block, into),
-        (false, true) => translate(plan, false, true, last, block, into),
-        (true, false) => translate(plan, true, false, last, block, into),
-        (true, true) => translate(plan, true, true, last, block, into),
+        (false, false) => look_up(plan, false, false, last, block, into),
+        (false, true) => look_up(plan, false, true, last, block, into),
+        (true, false) => look_up(plan, true, false, last, block, into),
+        (true, true) => look_up(plan, true, true, last, block, into),
     }
 }
 
-/// The plan, whether it deletes and whether it squeezes, and the byte that was written last, if any was.
+// Puts what bytes of a block become to the front of `into`, and says how many bytes that is.
+fn shift_block(shifts: &Shifts, block: &[u8], into: &mut [u8; 8192]) -> usize
+    requires { length block.now ≤ 8192 }
+    ensures shifted { take result into.new ≡ map (shifted shifts.now) block.now }
+    ensures within { result ≤ 8192 }
+{
+    let count = block.len();
+    translate(shifts, block, &mut into[..count]);
+    count
+}
+
+/// The plan, whether it deletes and whether it squeezes, what it adds to bytes if it does nothing else and that is few
+/// stretches, and the byte that was written last, if any was.
 #[derive(Drop)]
 struct Translator<'a> {
     plan: &'a CharPlan,
     deleting: bool,
     squeezing: bool,
+    shifts: Option<Shifts>,
     last: Option<u8>,
+}
+
+impl<'a> Translator<'a> {
+    ghost use Rattle.std.specs.Prelude.{IfSome};
+    ghost use Rattle.ptflow.specs.Workings.TrRests.{IsPlain};
+
+    // Puts what is written of a block to the front of `into`, and says how many bytes that is.
+    fn write_block(&self, block: &[u8], into: &mut [u8; 8192]) -> usize
+        requires deleting { Covers self.now.deleting (deletes self.now.plan.now) }
+        requires squeezing { Covers self.now.squeezing (squeezes self.now.plan.now) }
+        requires shifts { IfSome self.now.shifts (λ shifts. IsPlain shifts self.now.plan.now) }
+        requires room { length block.now ≤ 8192 }
+        ensures written { take result into.new ≡ tr_rest self.now.plan.now self.now.last block.now }
+        ensures within { result ≤ 8192 }
+    {
+        match &self.shifts {
+            Some(shifts) => shift_block(shifts, block, into),
+            None => look_up_by(
+                self.plan,
+                self.deleting,
+                self.squeezing,
+                self.last,
+                block,
+                into,
+            ),
+        }
+    }
 }
 
 impl<'a> BlockTool for Translator<'a> {
     ghost use Rattle.std.specs.Prelude.{◌≡◌};
     ghost use Rattle.ptlangs.specs.TrTables.{deletes, squeezes};
-    ghost use Rattle.ptflow.specs.Workings.TrRests.{Covers, tr_rest};
+    ghost use Rattle.std.specs.Prelude.{IfSome};
+    ghost use Rattle.ptflow.specs.Workings.TrRests.{Covers, IsPlain, tr_rest};
 
     ghost rest = { λ t. tr_rest t.plan.now t.last };
 
     ghost counted = { λ t. 0 };
 
     ghost Holds = { λ s t. (t.plan.now ≡ s.plan.now) × Covers t.deleting (deletes t.plan.now)
-        × Covers t.squeezing (squeezes t.plan.now) };
+        × Covers t.squeezing (squeezes t.plan.now) × IfSome t.shifts (λ shifts. IsPlain shifts t.plan.now) };
 
     fn push_block<W: Sink>(&mut self, block: &[u8], out: &mut Out<W>) -> Result<(), WriteFault> {
         let mut into = [0; 8192];
-        let count = translate_by(
-            self.plan,
-            self.deleting,
-            self.squeezing,
-            self.last,
-            block,
-            &mut into,
-        );
+        let count = self.write_block(block, &mut into);
         let written = &into[..count];
         out.push(written)?;
         self.last = written.last().copied().or(self.last);
@@ -131,10 +167,17 @@ pub fn tr<S: Source, R: Source, W: Sink>(
     if out.has_failed() {
         return Err(FlowFault::Write);
     }
+    let deleting = plan.deleted().contains(&true);
+    let squeezing = plan.squeezed().contains(&true);
     let mut tool = Translator {
         plan,
-        deleting: plan.deleted().contains(&true),
-        squeezing: plan.squeezed().contains(&true),
+        deleting,
+        squeezing,
+        shifts: if deleting || squeezing {
+            None
+        } else {
+            plan.shifts()
+        },
         last: None,
     };
     over_blocks(&mut tool, reader, out)

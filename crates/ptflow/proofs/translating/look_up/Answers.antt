@@ -5,8 +5,8 @@ use Rattle.std.proofs.lemmas.List.{drop_all}
 use Rattle.ptlangs.specs.TrTables.{deletes, image, squeezes}
 use Rattle.ptflow.specs.Workings.TrRests.{tr_rest}
 use Rattle.ptflow.proofs.TrRests.{Written, written_step, written_all, small, not_both}
-use Rattle.ptflow.proofs.translating.translate.Goals as goal
-use Rattle.ptflow.proofs.translating.translate.Goals.{then-deleting, else-deleting, then-squeezing, else-squeezing, then-gone, else-gone}
+use Rattle.ptflow.proofs.translating.look_up.Goals as goal
+use Rattle.ptflow.proofs.translating.look_up.Goals.{then-deleting, else-deleting, then-squeezing, else-squeezing, then-gone, else-gone}
 
 pub loop-byte-init : goal.loop-byte-init
 loop-byte-init c = record { room = omega arith; long = c.told-into; written = record { is = refl } }
