@@ -82,61 +82,75 @@ fn shift_block(shifts: &Shifts, block: &[u8], into: &mut [u8; 8192]) -> usize
     count
 }
 
-/// The plan, whether it deletes and whether it squeezes, what it adds to bytes if it does nothing else and that is few
-/// stretches, and the byte that was written last, if any was.
+/// The plan, whether it deletes and whether it squeezes, and what it adds to bytes if it does nothing else and that is
+/// few stretches.
 #[derive(Drop)]
-struct Translator<'a> {
+struct Translation<'a> {
     plan: &'a CharPlan,
     deleting: bool,
     squeezing: bool,
     shifts: Option<Shifts>,
-    last: Option<u8>,
 }
 
-impl<'a> Translator<'a> {
-    ghost use Rattle.std.specs.Prelude.{IfSome};
-    ghost use Rattle.ptflow.specs.Workings.TrRests.{IsPlain};
+impl<'a> Translation<'a> {
+    ghost use Rattle.ptflow.specs.Workings.TrRests.{IsOf};
 
-    // Puts what is written of a block to the front of `into`, and says how many bytes that is.
-    fn write_block(&self, block: &[u8], into: &mut [u8; 8192]) -> usize
-        requires deleting { Covers self.now.deleting (deletes self.now.plan.now) }
-        requires squeezing { Covers self.now.squeezing (squeezes self.now.plan.now) }
-        requires shifts { IfSome self.now.shifts (λ shifts. IsPlain shifts self.now.plan.now) }
+    fn new(plan: &'a CharPlan) -> Translation<'a>
+        ensures plan { result.plan.now ≡ plan.now }
+        ensures is_of { IsOf result.deleting result.squeezing result.shifts result.plan.now }
+    {
+        let deleting = plan.deleted().contains(&true);
+        let squeezing = plan.squeezed().contains(&true);
+        Translation {
+            plan,
+            deleting,
+            squeezing,
+            shifts: if deleting || squeezing {
+                None
+            } else {
+                plan.shifts()
+            },
+        }
+    }
+
+    // Puts what is written of a block to the front of `into`, where `last` was written last, if anything was, and says
+    // how many bytes that is. Apart, so that the compiler sees that `into` is no part of the plan.
+    #[inline(never)]
+    fn write_block(&self, last: Option<u8>, block: &[u8], into: &mut [u8; 8192]) -> usize
+        requires is_of { IsOf self.now.deleting self.now.squeezing self.now.shifts self.now.plan.now }
         requires room { length block.now ≤ 8192 }
-        ensures written { take result into.new ≡ tr_rest self.now.plan.now self.now.last block.now }
+        ensures written { take result into.new ≡ tr_rest self.now.plan.now last block.now }
         ensures within { result ≤ 8192 }
     {
         match &self.shifts {
             Some(shifts) => shift_block(shifts, block, into),
-            None => look_up_by(
-                self.plan,
-                self.deleting,
-                self.squeezing,
-                self.last,
-                block,
-                into,
-            ),
+            None => look_up_by(self.plan, self.deleting, self.squeezing, last, block, into),
         }
     }
 }
 
+/// What is done to each byte, the byte that was written last, if any was, and room for what is written of a block.
+#[derive(Drop)]
+struct Translator<'a> {
+    by: Translation<'a>,
+    last: Option<u8>,
+    into: [u8; 8192],
+}
+
 impl<'a> BlockTool for Translator<'a> {
     ghost use Rattle.std.specs.Prelude.{◌≡◌};
-    ghost use Rattle.ptlangs.specs.TrTables.{deletes, squeezes};
-    ghost use Rattle.std.specs.Prelude.{IfSome};
-    ghost use Rattle.ptflow.specs.Workings.TrRests.{Covers, IsPlain, tr_rest};
+    ghost use Rattle.ptflow.specs.Workings.TrRests.{IsOf, tr_rest};
 
-    ghost rest = { λ t. tr_rest t.plan.now t.last };
+    ghost rest = { λ t. tr_rest t.by.plan.now t.last };
 
     ghost counted = { λ t. 0 };
 
-    ghost Holds = { λ s t. (t.plan.now ≡ s.plan.now) × Covers t.deleting (deletes t.plan.now)
-        × Covers t.squeezing (squeezes t.plan.now) × IfSome t.shifts (λ shifts. IsPlain shifts t.plan.now) };
+    ghost Holds = { λ s t. (t.by.plan.now ≡ s.by.plan.now)
+        × IsOf t.by.deleting t.by.squeezing t.by.shifts t.by.plan.now };
 
     fn push_block<W: Sink>(&mut self, block: &[u8], out: &mut Out<W>) -> Result<(), WriteFault> {
-        let mut into = [0; 8192];
-        let count = self.write_block(block, &mut into);
-        let written = &into[..count];
+        let count = self.by.write_block(self.last, block, &mut self.into);
+        let written = &self.into[..count];
         out.push(written)?;
         self.last = written.last().copied().or(self.last);
         Ok(())
@@ -167,18 +181,10 @@ pub fn tr<S: Source, R: Source, W: Sink>(
     if out.has_failed() {
         return Err(FlowFault::Write);
     }
-    let deleting = plan.deleted().contains(&true);
-    let squeezing = plan.squeezed().contains(&true);
     let mut tool = Translator {
-        plan,
-        deleting,
-        squeezing,
-        shifts: if deleting || squeezing {
-            None
-        } else {
-            plan.shifts()
-        },
+        by: Translation::new(plan),
         last: None,
+        into: [0; 8192],
     };
     over_blocks(&mut tool, reader, out)
 }

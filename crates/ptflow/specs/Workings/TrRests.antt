@@ -1,5 +1,5 @@
 -- What `tr` writes of the rest of a text.
-use Rattle.std.specs.Prelude.{◌≡◌, ℕ, List, Bool, false, Option, None, Some}
+use Rattle.std.specs.Prelude.{◌≡◌, ℕ, List, Bool, false, Option, None, Some, IfSome}
 use Rattle.ptlangs.specs.declared.shifts.Stretch.{Stretch}
 use Rattle.ptlangs.specs.TrShifts.{Move}
 use Rattle.ptlangs.specs.TrTables.{Tables, deletes, squeezes}
@@ -21,3 +21,8 @@ tr_rest tables last rest = squeeze_from (squeezes tables) last (translated table
 -- what these stretches add to bytes is all that is done
 abbrev pub IsPlain : List Stretch → Tables → Type 0
 IsPlain shifts tables = Move shifts tables × ((b : ℕ) → deletes tables b ≡ false) × ((b : ℕ) → squeezes tables b ≡ false)
+
+-- the flags hold where something is deleted and squeezed, and stretches are given only where they are all that is done
+abbrev pub IsOf : Bool → Bool → Option (List Stretch) → Tables → Type 0
+IsOf deleting squeezing shifts tables =
+    Covers deleting (deletes tables) × Covers squeezing (squeezes tables) × IfSome shifts (λ ss. IsPlain ss tables)
