@@ -1,6 +1,7 @@
 -- What lanes do, byte by byte.
 use Rattle.std.proofs.Common.{◌≡◌, ℕ, ◌+◌, ◌≤◌, ◌%◌, ◌&&◌, Bool, true, false, List, [], ◌∷◌, Option, Some, None, map, length, replicate, cond, refl, sym, ◌∙◌, ap, arith, w8}
-use Rattle.std.specs.Prelude.{nat_le, sum_by, slice_get, option_map, unwrap_or}
+use Rattle.std.specs.Prelude.{nat_le, sum_by, slice_get, option_map, unwrap_or, is_some}
+use Rattle.std.proofs.lemmas.Bool.{false≢true}
 use Rattle.std.specs.Simd.Lanes.{sel_l, zip2, top}
 use Rattle.std.proofs.lemmas.Simd.{tops_compared, zip2_splat, zip2_splat_left}
 use Rattle.std.proofs.lemmas.List.Sums.{sum_by-cons}
@@ -41,8 +42,11 @@ both_tests false q x = refl
 -- ---- at most four stretches
 
 -- the stretch at a place, or one that moves nothing
+abbrev pub told_at : List Stretch → ℕ → Option (ℕ × ℕ × ℕ)
+told_at ss k = option_map (λ s. (s.first, s.last, s.by)) (slice_get ss k)
+
 abbrev pub at_or_none : List Stretch → ℕ → ℕ × ℕ × ℕ
-at_or_none ss k = unwrap_or (option_map (λ s. (s.first, s.last, s.by)) (slice_get ss k)) (1, 0, 0)
+at_or_none ss k = unwrap_or (told_at ss k) (1, 0, 0)
 
 nested : (b x y z w : ℕ) → ((((b + x) % 256 + y) % 256 + z) % 256 + w) % 256 ≡ (b + (x + (y + (z + w)))) % 256
 nested b x y z w = omega arith
@@ -64,7 +68,22 @@ sum_is (s ∷ t ∷ u ∷ v ∷ []) b few = omega arith
 sum_is (s ∷ t ∷ u ∷ v ∷ w ∷ more) b few = absurd (omega (arith, few))
 
 pub four_move : (ss : List Stretch) (x y z w : ℕ × ℕ × ℕ) → length ss ≤ 4 → x ≡ at_or_none ss 0 → y ≡ at_or_none ss 1 → z ≡ at_or_none ss 2 → w ≡ at_or_none ss 3
-    → (b : ℕ) → moved_by (record { a = x; b = y; c = z; d = w }) b ≡ shifted ss b
-four_move ss x y z w few ex ey ez ew b =
+    → (many : Bool) (b : ℕ) → moved_by (record { a = x; b = y; c = z; d = w; many = many }) b ≡ shifted ss b
+four_move ss x y z w few ex ey ez ew many b =
     nested b (added_by x b) (added_by y b) (added_by z b) (added_by w b)
     ∙ ap (λ (n : ℕ). (b + n) % 256) ((λ i. added_by (ex i) b + (added_by (ey i) b + (added_by (ez i) b + added_by (ew i) b))) ∙ sum_is ss b few)
+
+-- the third and the fourth move nothing where there is no third
+pub no_more_than_two : (ss : List Stretch) (z w : ℕ × ℕ × ℕ) (many : Bool) → z ≡ at_or_none ss 2 → w ≡ at_or_none ss 3
+    → many ≡ is_some (told_at ss 2) → many ≡ false → (b : ℕ) → (added_by z b ≡ 0) × (added_by w b ≡ 0)
+no_more_than_two ss z w many ez ew is few b = (ap (λ s. added_by s b) ez ∙ (none ss (sym is ∙ few)).0, ap (λ s. added_by s b) ew ∙ (none ss (sym is ∙ few)).1)
+  where
+    none : (ss : List Stretch) → is_some (told_at ss 2) ≡ false → (added_by (at_or_none ss 2) b ≡ 0) × (added_by (at_or_none ss 3) b ≡ 0)
+    none [] is = (nothing b, nothing b)
+    none (s ∷ []) is = (nothing b, nothing b)
+    none (s ∷ t ∷ []) is = (nothing b, nothing b)
+    none (s ∷ t ∷ u ∷ more) is = absurd (false≢true (sym is))
+
+-- two additions of nothing change nothing
+pub two_are_all : (s : Four) → ((b : ℕ) → (added_by s.c b ≡ 0) × (added_by s.d b ≡ 0)) → (b : ℕ) → ((b + added_by s.a b) % 256 + added_by s.b b) % 256 ≡ moved_by s b
+two_are_all s none b = omega (arith, (none b).0, (none b).1)
