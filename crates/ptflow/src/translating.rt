@@ -38,9 +38,10 @@ fn look_up(
     let mut last = last;
     let mut count = 0;
     for byte in block {
-        let image = images[usize::from(*byte)];
+        let place = usize::from(*byte);
+        let image = images[place];
         into[count] = image;
-        let gone = deleting && deleted[usize::from(*byte)];
+        let gone = deleting && deleted[place];
         let repeats = squeezing && (last == Some(image)) & squeezed[usize::from(image)];
         count += usize::from(!(gone | repeats));
         last = if gone { last } else { Some(image) };
