@@ -1,9 +1,8 @@
 //! How `tr` moves bytes: by stretches of them.
 
 ghost use Rattle.std.specs.Prelude.{◌≡◌, ◌<◌, ◌≤◌, ◌-◌, ℕ, length, true, false, IfSome, MatchOption, slice_get, slice_index, option_map, []};
-ghost use Rattle.ptlangs.specs.TrShifts.{in_front, stretches, stretches_from, added, shifted, Move};
+ghost use Rattle.ptlangs.specs.TrShifts.{in_front, stretches_from, shifted};
 
-use crate::plan::CharPlan;
 use std::marker::Model;
 
 /// A longest run of bytes in a row that are moved by one shift.
@@ -101,8 +100,8 @@ impl Shifts {
     }
 }
 
-// What is added to bytes that have these images, where that is at most four stretches.
-fn shifts_of(images: &[u8; 256]) -> Option<Shifts>
+/// What is added to bytes that have these images, where that is at most four stretches.
+pub(crate) fn shifts_of(images: &[u8; 256]) -> Option<Shifts>
     ensures found { MatchOption result (4 < length (stretches_from 0 images.now)) (λ s. s ≡ stretches_from 0 images.now) }
     ensures moves { IfSome result (λ s. (b : ℕ) → b < 256 → shifted s b ≡ slice_index images.now b) }
 {
@@ -117,15 +116,4 @@ fn shifts_of(images: &[u8; 256]) -> Option<Shifts>
         }
     }
     Some(shifts)
-}
-
-impl CharPlan {
-    /// What the plan adds to bytes, where that is at most four stretches of bytes, each moved by one shift; a byte that
-    /// becomes itself is in none. It takes no memory.
-    pub fn shifts(&self) -> Option<Shifts>
-        ensures found { MatchOption result (4 < length (stretches self.now)) (λ s. s ≡ stretches self.now) }
-        ensures moves { IfSome result (λ s. Move s self.now) }
-    {
-        shifts_of(self.images())
-    }
 }

@@ -27,11 +27,11 @@ loop-behind-preserved c =
     let next : behind ≡ behind - 1 + 1 = omega (arith, low) in (
       omega (arith, c.loop-behind.invariant.0),
       elim c.else-by-ne0.branch [
-        else-by-ne0-via-then-by-ne0+else-not-put_in_front w ↦
-          w.shifts-is ∙ w.put_in_front.ensures.put w.if-not-put_in_front.false ∙ ap (in_front (behind - 1) _) c.loop-behind.invariant.1
-          ∙ sym (moved_one (behind - 1) behind images within next w.if-by-ne0.true)
-      | else-by-ne0-via-else-by-ne0 w ↦
-          w.shifts-is ∙ c.loop-behind.invariant.1 ∙ sym (same_one (behind - 1) behind images within next w.if-by-ne0.false)
+        | else-by-ne0-via-then-by-ne0+else-not-put_in_front w ↦
+            w.shifts-is ∙ w.put_in_front.ensures.put w.if-not-put_in_front.false ∙ ap (in_front (behind - 1) _) c.loop-behind.invariant.1
+            ∙ sym (moved_one (behind - 1) behind images within next w.if-by-ne0.true)
+        | else-by-ne0-via-else-by-ne0 w ↦
+            w.shifts-is ∙ c.loop-behind.invariant.1 ∙ sym (same_one (behind - 1) behind images within next w.if-by-ne0.false)
       ],
     )
 
