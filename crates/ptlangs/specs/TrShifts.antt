@@ -1,5 +1,5 @@
 -- How a plan of `tr` moves bytes: by stretches, longest runs of bytes in a row that are moved by one shift.
-use Rattle.std.specs.Prelude.{◌≡◌, ◌<◌, ℕ, ◌+◌, ◌-◌, ◌%◌, ◌==◌, ◌&&◌, List, [], ◌∷◌, Option, Some, None, nat_le, sum_by, if◌then◌else◌}
+use Rattle.std.specs.Prelude.{◌≡◌, ◌<◌, ℕ, ◌+◌, ◌-◌, ◌%◌, ◌==◌, ◌&&◌, List, [], ◌∷◌, nat_le, sum_by, if◌then◌else◌}
 use Rattle.ptlangs.specs.TrTables.{Tables, image}
 use Rattle.ptlangs.specs.declared.shifts.Stretch.{Stretch}
 

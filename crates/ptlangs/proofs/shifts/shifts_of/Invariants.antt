@@ -1,4 +1,4 @@
-use Rattle.std.proofs.Common.{◌≡◌, ℕ, ◌≤◌, drop}
+use Rattle.std.proofs.Common.{◌≡◌, ◌≤◌, drop}
 use Rattle.ptlangs.specs.TrShifts.{stretches_from}
 use Rattle.ptlangs.proofs.shifts.shifts_of.Given as goal
 

@@ -1,4 +1,4 @@
-use Rattle.std.proofs.Common.{◌≡◌, ℕ, ◌+◌, ◌%◌, take}
+use Rattle.std.proofs.Common.{◌≡◌, ◌+◌, ◌%◌, take}
 use Rattle.std.specs.Prelude.{sum_by}
 use Rattle.ptlangs.specs.TrShifts.{added}
 use Rattle.ptlangs.proofs.shifts.Shifts.image.Given as goal
