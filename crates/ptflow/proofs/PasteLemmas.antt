@@ -596,6 +596,7 @@ module _ (job : Paste) (cells : List ℕ) (old set now : List Reader) (was is : 
       wrote = s.wrote;
       ends = record {
         named = here_named;
+        unfailed = never_failed here here_named;
         cause = ⊎_elim (λ k. inl k) (λ k. inr (k.0, k.1 ∙ (took_to here).failed ∙ (s.took here).failed ∙ failed_set here)) cause;
         others = λ q differ. failed_by new extra reads_to q (failed_there q differ);
         clean = s.clean;
