@@ -43,14 +43,11 @@ returns-in-Cut-clause-run g c = rw c.in-Cut.is c.run_engine.ensures.run
 pub returns-in-Tr-clause-run : goal.returns-in-Tr-clause-run
 returns-in-Tr-clause-run g c = rw c.in-Tr.is c.run_engine-in-Tr.ensures.run
 
-pub returns-in-Paste-clause-run : goal.returns-in-Paste-clause-run
-returns-in-Paste-clause-run g c = rw c.in-Paste.is (c.not_built.ensures.run c.args.inputs.now c.requires.fresh.1)
-
 pub returns-in-Uniq-clause-run : goal.returns-in-Uniq-clause-run
 returns-in-Uniq-clause-run g c = rw c.in-Uniq.is c.run_engine-in-Uniq.ensures.run
 
 pub returns-in-Comm-clause-run : goal.returns-in-Comm-clause-run
-returns-in-Comm-clause-run g c = rw c.in-Comm.is (c.not_built-in-Comm.ensures.run c.args.inputs.now c.requires.fresh.1)
+returns-in-Comm-clause-run g c = rw c.in-Comm.is (c.not_built.ensures.run c.args.inputs.now c.requires.fresh.1)
 
 pub returns-clause-run : goal.returns-clause-run
 returns-clause-run g c = rw c.in-Join.is (c.not_built-in-Join.ensures.run c.args.inputs.now c.requires.fresh.1)
