@@ -1,17 +1,17 @@
 -- `paste` over its operands together: what its pass says of places, as what is said of inputs.
-use Rattle.std.proofs.Common.{◌≡◌, ◌≢◌, ◌⊎◌, ⊎_elim, inl, inr, ℕ, zero, suc, ◌+◌, ◌<◌, ◌≤◌, ◌^◌, ◌==◌, Bool, true, false, cond, List, [], ◌∷◌, ◌++◌, Option, Some, None, Result, Ok, Err, length, take, get_or, map, max, refl, sym, ◌∙◌, ap, subst, arith}
-use Rattle.std.specs.Prelude.{All, sum_by, unwrap_or, nat_le}
+use Rattle.std.proofs.Common.{◌≡◌, ◌⊎◌, ⊎_elim, inl, inr, ℕ, zero, suc, ◌+◌, ◌<◌, ◌≤◌, ◌==◌, Bool, true, false, cond, List, [], ◌∷◌, ◌++◌, Option, Some, None, Result, Ok, Err, length, take, get_or, map, max, refl, sym, ◌∙◌, ap, subst, arith}
+use Rattle.std.specs.Prelude.{sum_by, unwrap_or}
 use Rattle.std.specs.List.{list_any}
-use Rattle.std.proofs.lemmas.Bool.{false≢true, eq-eqb, leb-true}
+use Rattle.std.proofs.lemmas.Bool.{false≢true, eq-eqb}
 use Rattle.std.proofs.lemmas.List.{append-nil, ext_get_or, length-map, get_or-map}
-use Rattle.std.proofs.lemmas.List.Elements.{All-get_or, All-from_get_or}
+use Rattle.std.proofs.lemmas.List.Elements.{All-from_get_or}
 use Rattle.std.proofs.lemmas.List.Folds.{list_any_at}
 use Rattle.std.proofs.lemmas.List.Sums.{sum_by-cons}
-use Rattle.ptlines.specs.Readers.{Reader, HasReadCause}
+use Rattle.ptlines.specs.Readers.{Reader}
 use Rattle.ptlines.specs.Outputs.{Output}
 use Rattle.ptlines.specs.Slots.{Slots}
 use Rattle.ptlines.specs.Text.{lines, longest_line}
-use Rattle.ptlines.specs.Inputs.{Given, nothing_left, whole_lines, Begins, Agrees, Came}
+use Rattle.ptlines.specs.Inputs.{Given, nothing_left, whole_lines, Begins, Agrees}
 use Rattle.ptlangs.specs.Jobs.{Paste}
 use Rattle.ptflow.specs.PastePasses.{IsReadable, ReadAll, RowsFinished, RowsEnd, IsPastePass}
 use Rattle.ptflow.specs.PastePasses as pass
@@ -22,7 +22,7 @@ use Rattle.ptflow.specs.declared.faults.FlowFault.{FlowFault}
 use Rattle.ptflow.specs.declared.faults.FlowFault.TheVariants.{Read, Write, Memory}
 use Rattle.ptrun.specs.declared.engine.Done.{Done}
 use Rattle.ptrun.specs.declared.engine.Done.TheVariants.{Whole}
-use Rattle.ptrun.specs.Worlds.{World, Received, at, AllowsAt, Allows, is_in, reader_at, shut, CameAt, IsReceived, IsFresh, HasFailed, IsTooLong}
+use Rattle.ptrun.specs.Worlds.{World, Received, at, Allows, is_in, reader_at, shut, CameAt, IsReceived, HasFailed, IsTooLong}
 use Rattle.ptrun.specs.Together.{of_rows, text_in, given_in}
 use Rattle.ptrun.specs.Engines.{AreReady, JointEnds, IsJointPass, IsWithin}
 use Rattle.ptrun.proofs.InTurn.{agreed}
@@ -221,8 +221,7 @@ module _ (job : Paste) (places : List ℕ) (old : List Reader) (was : Output) (b
         by_fault : (f : FlowFault) → RowsEnd places old new is store (Err f) → IsJointPass (of_rows job) places old new was is before store (Err f)
         by_fault (Read p) e =
             let open_here = is_open p e.named in
-            joint_of (Err (Read p))
-            (
+            joint_of (Err (Read p)) (
               named_is_in places p e.named,
               ⊎_elim (λ f. inl (open_here, e.unfailed, f.0)) (λ l. inr (subst IsTooLong (sym (given_at p open_here)) (omega (arith, l.0, pulled_is p open_here)))) e.cause,
               e.clean,

@@ -1,7 +1,6 @@
-use Rattle.std.proofs.Common.{◌≡◌, ℕ, ◌<◌, List, Err, length, sym, ◌∙◌, subst, arith}
+use Rattle.std.proofs.Common.{ℕ, List, length, sym, ◌∙◌, subst, arith}
 use Rattle.std.proofs.lemmas.Result.{err_from_is_err_and}
 use Rattle.ptlangs.specs.Jobs.{paste_job}
-use Rattle.ptlines.specs.Readers.{Reader}
 use Rattle.ptflow.specs.PastePasses.{IsPastePass}
 use Rattle.ptflow.specs.PastePasses as pass
 use Rattle.ptrun.specs.Operands.{places}
