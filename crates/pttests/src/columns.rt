@@ -1,7 +1,7 @@
 //! `paste` in whole runs.
 
 use crate::commands::{
-    Expected, Input, Limits, Row, SIZES, expect, expect_growths_refused, expect_rows,
+    Case, Expected, FREE, Input, Limits, Row, SIZES, expect, expect_growths_refused, expect_rows,
     expect_untouched, expect_without_growth, growths, over_files, over_standard, run_over, writes,
 };
 use crate::comparing::same;
@@ -98,8 +98,13 @@ fn expect_of_files(
 ) -> Result<(), Fail> {
     for size in SIZES {
         let files = in_pieces(alloc, texts, *size)?;
-        let mut case = over_standard(words, standard.as_bytes(), *size);
-        case.files = &files;
+        let case = Case {
+            words,
+            standard: Input::Pieces(standard.as_bytes(), *size),
+            files: &files,
+            out: FREE,
+            messages: FREE,
+        };
         expect(rt, alloc, &case, &writes(out))?;
     }
     Ok(())
