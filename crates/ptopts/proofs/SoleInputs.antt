@@ -1,12 +1,14 @@
 -- How many inputs a tool reads, as its job tells it.
-use Rattle.std.proofs.Common.{◌≡◌, ℕ, ◌+◌, Bool, true, false, cond, List, [], ◌∷◌, length, take, refl, ◌∙◌, arith}
+use Rattle.std.proofs.Common.{◌≡◌, ℕ, ◌+◌, ◌&&◌, Bool, true, false, cond, List, [], ◌∷◌, Some, None, length, take, refl, ◌∙◌, ap, arith}
+use Rattle.std.specs.Prelude.{not, nat_le}
 use Rattle.ptlangs.specs.Jobs as jobs
 use Rattle.ptopts.specs.declared.tool.Tool.{Tool}
 use Rattle.ptopts.specs.declared.tool.Tool.TheVariants.{Cut, Paste, Uniq, Comm, Join, Tr}
 use Rattle.ptopts.specs.declared.inputs.Input.TheVariants.{Standard, File}
-use Rattle.ptopts.specs.Words.{GivenOption}
-use Rattle.ptopts.specs.Faults.{is_standard}
-use Rattle.ptopts.specs.Commands.{RunUniq, job, inputs, or_standard, order_from}
+use Rattle.ptopts.specs.Words.{GivenOption, Reading, options}
+use Rattle.ptopts.specs.Faults.{Operands, reading_fault, combination_fault, values_fault, operands_fault, strings_fault, is_standard}
+use Rattle.ptopts.specs.Commands.{RunPaste, RunUniq, job, inputs, or_standard, order_from, first_fault}
+use Rattle.ptopts.proofs.Accepted.{none_of}
 
 order_length : (n : ℕ) (operands : List (List ℕ)) → length (order_from n operands) ≡ length operands
 order_length n [] = refl
@@ -29,3 +31,21 @@ sole_input Uniq os operands told is = order_length 0 (take 1 (or_standard operan
 sole_input Comm os operands told is = cc
 sole_input Join os operands told is = cc
 sole_input Tr os operands told is = cc
+
+few_of : (some few : Bool) → cond (not ((some && few) && true)) (Some Operands) None ≡ None → few ≡ true
+few_of true true none = refl
+few_of true false none = cc
+few_of false few none = cc
+
+-- paste has at most 512 inputs
+pub few_inputs : (tool : Tool) (r : Reading) (told : jobs.Paste) → first_fault tool r ≡ None → job tool (options r) r.operands ≡ RunPaste told → nat_le (length (order_from 0 (inputs tool r.operands))) 512 ≡ true
+few_inputs Cut r told none is = cc
+few_inputs Paste r told none is =
+    let os = options r in
+    let n = length r.operands in
+    ap (λ (m : ℕ). nat_le m 512) (order_length 0 r.operands)
+    ∙ few_of (nat_le 1 n) (nat_le n 512) (none_of (reading_fault Paste [] r.events) (combination_fault Paste os) (values_fault Paste os) (operands_fault Paste os r.operands) (strings_fault Paste os r.operands) none).3
+few_inputs Uniq r told none is = cc
+few_inputs Comm r told none is = cc
+few_inputs Join r told none is = cc
+few_inputs Tr r told none is = cc

@@ -1,6 +1,6 @@
 -- What is asked for by words, as the command that was read of them says it.
 use Rattle.std.proofs.Common.{◌≡◌, ℕ, ◌+◌, ◌<◌, ◌==◌, true, false, cond, List, [], ◌∷◌, Option, Some, None, Result, Ok, Err, length, refl, ◌∙◌, ap, subst, arith}
-use Rattle.std.specs.Prelude.{All, is_none}
+use Rattle.std.specs.Prelude.{All, is_none, nat_le}
 use Rattle.std.proofs.lemmas.List.{length-map}
 use Rattle.ptlangs.specs.Answers.{IsFault}
 use Rattle.ptlines.specs.Readers.{Reader}
@@ -9,7 +9,7 @@ use Rattle.ptopts.specs.declared.command.Command as code
 use Rattle.ptlangs.specs.Jobs as jobs
 use Rattle.ptopts.specs.Words.{tool_named, reading, options}
 use Rattle.ptopts.specs.declared.inputs.Input.{Input}
-use Rattle.ptopts.proofs.SoleInputs.{sole_input}
+use Rattle.ptopts.proofs.SoleInputs.{sole_input, few_inputs}
 use Rattle.ptopts.specs.Faults.{Fault}
 use Rattle.ptopts.specs.Commands.{Command, Job, RunCut, RunPaste, RunUniq, RunComm, RunJoin, RunTr, meaning, meaning_for, unless, first_fault, command, job, inputs, order_from}
 use Rattle.ptopts.specs.Meant.{meant, seen, IsMeant}
@@ -40,17 +40,17 @@ asked_refused command words fault is m = rw is (refused_in words (meant fault) (
 abbrev pub Fit : Command → Type 0
 Fit c = All (λ o. place o < length c.names + 1) c.order × (is_taking c.job (places c.order) ≡ true)
 
-fit_unless : (fault : Option Fault) (d c : Command) → Fit d → unless fault d ≡ Ok c → Fit c
-fit_unless None d c fit is = let same : d ≡ c = cc in subst Fit same fit
+fit_unless : (fault : Option Fault) (d c : Command) → (fault ≡ None → Fit d) → unless fault d ≡ Ok c → Fit c
+fit_unless None d c fit is = let same : d ≡ c = cc in subst Fit same (fit refl)
 fit_unless (Some e) d c fit is = cc
 
-takes : (told : Job) (order : List Input) → ((u : jobs.Uniq) → told ≡ RunUniq u → length order ≡ 1) → is_taking told (places order) ≡ true
-takes (RunCut u) order one = refl
-takes (RunPaste u) order one = refl
-takes (RunUniq u) order one = ap (λ (n : ℕ). n == 1) (length-map order place ∙ one u refl)
-takes (RunComm u) order one = refl
-takes (RunJoin u) order one = refl
-takes (RunTr u) order one = refl
+takes : (told : Job) (order : List Input) → ((u : jobs.Uniq) → told ≡ RunUniq u → length order ≡ 1) → ((u : jobs.Paste) → told ≡ RunPaste u → nat_le (length order) 512 ≡ true) → is_taking told (places order) ≡ true
+takes (RunCut u) order one few = refl
+takes (RunPaste u) order one few = ap (λ (n : ℕ). nat_le n 512) (length-map order place) ∙ few u refl
+takes (RunUniq u) order one few = ap (λ (n : ℕ). n == 1) (length-map order place ∙ one u refl)
+takes (RunComm u) order one few = refl
+takes (RunJoin u) order one few = refl
+takes (RunTr u) order one few = refl
 
 fit_words : (words : List (List ℕ)) (c : Command) → meaning words ≡ Ok c → Fit c
 fit_words [] c is = cc
@@ -59,7 +59,7 @@ fit_words (name ∷ words) c is =
       | None ↦ λ none. cc
       | Some tool ↦ λ some.
           let r = reading tool words in
-          fit_unless (first_fault tool r) (command tool (options r) r.operands) c (λ k d within. omega (arith, places_within 0 (inputs tool r.operands) k d within), takes (job tool (options r) r.operands) (order_from 0 (inputs tool r.operands)) (sole_input tool (options r) r.operands)) some
+          fit_unless (first_fault tool r) (command tool (options r) r.operands) c (λ none. (λ k d within. omega (arith, places_within 0 (inputs tool r.operands) k d within), takes (job tool (options r) r.operands) (order_from 0 (inputs tool r.operands)) (sole_input tool (options r) r.operands) (λ u is. few_inputs tool r u none is))) some
     ] is
 
 pub operands_fit : {A : Type 0} (command : Result (code.Command A) UseFault) (words : List (List ℕ)) (c : code.Command A) → command ≡ Ok c → IsMeant command (meaning words) → Fit (seen c)
