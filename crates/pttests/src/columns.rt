@@ -347,6 +347,18 @@ fn each_write_and_the_flush_fail(rt: HostRuntime) -> Result<(), Fail> {
     expect_unwritten(&rt, rt.alloc(), SERIES, SERIES_UNWRITTEN)
 }
 
+#[test]
+fn a_column_up_to_a_failed_write(rt: HostRuntime) -> Result<(), Fail> {
+    let mut case = over_files(&["paste", "f"], &[Input::Whole(b"ab\ncd\n")]);
+    case.out.room = 3;
+    let expected = Expected {
+        out: "ab\n",
+        messages: "paste: output: write failed\n",
+        status: 1,
+    };
+    expect(&rt, rt.alloc(), &case, &expected)
+}
+
 // A write that fails is told before a read that does.
 #[test]
 fn a_write_and_a_read_fail(rt: HostRuntime) -> Result<(), Fail> {
