@@ -49,7 +49,7 @@ once_to tool first (x ∷ os) once =
     subst (λ (ys : List GivenOption). is_spent tool ys o.letter ≡ false) (sym (append_assoc first (x ∷ []) before)) (once (x ∷ before) after o (ap (λ (ys : List GivenOption). x ∷ ys) is) some)))
 
 -- the first of five, where there is none
-pub none_of : {A : Type 0} (a b c d e : Option A) → first_of (a ∷ b ∷ c ∷ d ∷ e ∷ []) ≡ None → (a ≡ None) × (b ≡ None) × (c ≡ None) × (d ≡ None) × (e ≡ None)
+none_of : {A : Type 0} (a b c d e : Option A) → first_of (a ∷ b ∷ c ∷ d ∷ e ∷ []) ≡ None → (a ≡ None) × (b ≡ None) × (c ≡ None) × (d ≡ None) × (e ≡ None)
 none_of a b c d e none =
     let p = option_or-none a _ none in
     let q = option_or-none b _ p.1 in

@@ -5,6 +5,7 @@ use Rattle.ptflow.specs.Cuts.{cut_tool}
 use Rattle.ptflow.specs.Pastes.{serial_tool}
 use Rattle.ptflow.specs.Translations.{tr_tool}
 use Rattle.ptflow.specs.Uniqs.{uniq_tool}
+use Rattle.ptmerge.specs.Comm.{comm_tool}
 use Rattle.ptopts.specs.Faults.{Fault}
 use Rattle.ptopts.specs.Commands.{Command, Job, RunCut, RunPaste, RunUniq, RunComm, RunJoin, RunTr, meaning}
 use Rattle.ptopts.specs.Meant.{meant, seen}
@@ -13,7 +14,7 @@ use Rattle.ptopts.specs.declared.command.Command as code
 use Rattle.ptrun.specs.Meanings.{Meaning}
 use Rattle.ptrun.specs.Messages.{said_of, not_built}
 use Rattle.ptrun.specs.Operands.{places, one_by_one}
-use Rattle.ptrun.specs.Together.{of_one, of_rows, together}
+use Rattle.ptrun.specs.Together.{of_one, of_rows, of_two, together}
 
 -- nothing is read or written, and this is said
 abbrev pub saying : List ℕ → ℕ → Meaning
@@ -45,7 +46,7 @@ abbrev pub job_meaning : Job → List (List ℕ) → List ℕ → Meaning
 job_meaning (RunCut job) names places = one_by_one (codes "cut") (cut_tool job) names places
 job_meaning (RunPaste job) names places = paste_meaning job names places
 job_meaning (RunUniq job) names places = together (codes "uniq") (of_one (uniq_tool job)) names places
-job_meaning (RunComm job) names places = not_yet (codes "comm")
+job_meaning (RunComm job) names places = together (codes "comm") (of_two (comm_tool job)) names places
 job_meaning (RunJoin job) names places = not_yet (codes "join")
 job_meaning (RunTr tables) names places = one_by_one (codes "tr") (tr_tool tables) names places
 
@@ -53,6 +54,7 @@ job_meaning (RunTr tables) names places = one_by_one (codes "tr") (tr_tool table
 abbrev pub is_taking : Job → List ℕ → Bool
 is_taking (RunPaste job) places = (of_rows job).takes places
 is_taking (RunUniq job) places = (of_one (uniq_tool job)).takes places
+is_taking (RunComm job) places = (of_two (comm_tool job)).takes places
 is_taking _ places = true
 
 abbrev pub command_meaning : Command → Meaning

@@ -8,6 +8,8 @@ mod columns;
 #[cfg(test)]
 mod commands;
 #[cfg(test)]
+mod common_lines;
+#[cfg(test)]
 mod comparing;
 #[cfg(test)]
 mod cuts;
