@@ -171,6 +171,24 @@ want '' 'paste: wrong number of operands\n'
 run empty paste "$@" -
 same "513 operands of paste" 2
 
+# paste, in rows and in series, over files and standard input.
+printf '1\n2\n3\n' >numbers
+want 'ab\t1\tcd\t2\n\t3\t\t\n' ''
+run numbers paste f - h -
+same "columns of files and of standard input" 0
+
+want 'ab\n1,2,3\n\n' ''
+run numbers paste -sd, f - -
+same "lines in series" 0
+
+want '' 'paste: none: cannot be opened\npaste: gone: cannot be opened\n'
+run numbers paste none - gone
+same "no rows where a file cannot be opened" 1
+
+want 'ab\ncd\n' 'paste: none: cannot be opened\n'
+run numbers paste -s f none h
+same "series without a file that cannot be opened" 1
+
 # uniq, and its output file: created or emptied once the input was opened, and not else.
 printf 'a\na\nb\na' >runs
 want '2 a\n1 b\n1 a\n' ''

@@ -1,6 +1,6 @@
 -- How many inputs a tool reads.
-use Rattle.std.proofs.Common.{◌≡◌, ℕ, suc, ◌+◌, ◌&&◌, Bool, true, false, cond, List, [], ◌∷◌, Option, Some, None, length, take, refl, ◌∙◌, arith}
-use Rattle.std.specs.Prelude.{not}
+use Rattle.std.proofs.Common.{◌≡◌, ℕ, suc, ◌+◌, ◌&&◌, Bool, true, false, cond, List, [], ◌∷◌, Option, Some, None, length, take, refl, ◌∙◌, ap, arith}
+use Rattle.std.specs.Prelude.{not, nat_le}
 use Rattle.std.specs.List.{list_all}
 use Rattle.std.proofs.lemmas.Bool.Decides.{nat_tests}
 use Rattle.ptlangs.specs.Jobs as jobs
@@ -10,7 +10,7 @@ use Rattle.ptopts.specs.declared.inputs.Input.{Input}
 use Rattle.ptopts.specs.declared.inputs.Input.TheVariants.{Standard, File}
 use Rattle.ptopts.specs.Words.{GivenOption}
 use Rattle.ptopts.specs.Faults.{Fault, Operands, StandardTwice, is_between, is_standard, operands_fault}
-use Rattle.ptopts.specs.Commands.{Job, RunUniq, RunComm, RunJoin, job, inputs, or_standard, order_from}
+use Rattle.ptopts.specs.Commands.{Job, RunPaste, RunUniq, RunComm, RunJoin, job, inputs, or_standard, order_from}
 
 order_length : (n : ℕ) (operands : List (List ℕ)) → length (order_from n operands) ≡ length operands
 order_length n [] = refl
@@ -33,6 +33,20 @@ sole_input Uniq os operands told is = order_length 0 (take 1 (or_standard operan
 sole_input Comm os operands told is = cc
 sole_input Join os operands told is = cc
 sole_input Tr os operands told is = cc
+
+few_of : (some few : Bool) → cond (not ((some && few) && true)) (Some Operands) None ≡ None → few ≡ true
+few_of true true none = refl
+few_of true false none = cc
+few_of false few none = cc
+
+-- paste has at most 512 inputs
+pub few_inputs : (tool : Tool) (os : List GivenOption) (operands : List (List ℕ)) (told : jobs.Paste) → operands_fault tool os operands ≡ None → job tool os operands ≡ RunPaste told → nat_le (length (order_from 0 (inputs tool operands))) 512 ≡ true
+few_inputs Cut os operands told none is = cc
+few_inputs Paste os operands told none is = ap (λ (n : ℕ). nat_le n 512) (order_length 0 operands) ∙ few_of (nat_le 1 (length operands)) (nat_le (length operands) 512) none
+few_inputs Uniq os operands told none is = cc
+few_inputs Comm os operands told none is = cc
+few_inputs Join os operands told none is = cc
+few_inputs Tr os operands told none is = cc
 
 -- two inputs, which are not the same
 pub record AreTwo (order : List Input) : Type 0 where

@@ -1,6 +1,6 @@
 -- What is asked for by words, as the command that was read of them says it.
 use Rattle.std.proofs.Common.{◌≡◌, ⊎_elim, ℕ, ◌+◌, ◌<◌, ◌==◌, true, false, cond, List, Option, Some, None, Result, Ok, Err, length, refl, ◌∙◌, ap, subst, arith}
-use Rattle.std.specs.Prelude.{All, is_none, not}
+use Rattle.std.specs.Prelude.{All, is_none, not, nat_le}
 use Rattle.std.proofs.lemmas.List.{length-map}
 use Rattle.std.proofs.lemmas.Bool.Decides.{nat_tests, eqb_tells}
 use Rattle.ptlangs.specs.Answers.{IsFault}
@@ -14,7 +14,7 @@ use Rattle.ptopts.specs.declared.inputs.Input.{Input}
 use Rattle.ptopts.specs.declared.inputs.Input.TheVariants.{Standard, File}
 use Rattle.ptopts.specs.Laws.{SpellsCommand, Spelled}
 use Rattle.ptopts.proofs.Accepted.{meant_as_spelled}
-use Rattle.ptopts.proofs.SoleInputs.{AreTwo, is_of_two, sole_input, two_inputs}
+use Rattle.ptopts.proofs.SoleInputs.{AreTwo, is_of_two, sole_input, few_inputs, two_inputs}
 use Rattle.ptopts.specs.Faults.{Fault}
 use Rattle.ptopts.specs.Commands.{Command, Job, RunCut, RunPaste, RunUniq, RunComm, RunJoin, RunTr, meaning, job, inputs, order_from}
 use Rattle.ptopts.specs.Meant.{meant, seen, IsMeant}
@@ -56,17 +56,17 @@ place_differs (File i) (File j) differ = ⊎_elim (λ k. absurd (differ (let sam
 two_places : (t : Paired) (order : List Input) → AreTwo order → (of_two t).takes (places order) ≡ true
 two_places t order two = rw (two.are) (ap not (place_differs two.first two.second two.differ))
 
-takes : (told : Job) (order : List Input) → ((u : jobs.Uniq) → told ≡ RunUniq u → length order ≡ 1) → (is_of_two told ≡ true → AreTwo order) → is_taking told (places order) ≡ true
-takes (RunCut u) order one two = refl
-takes (RunPaste u) order one two = refl
-takes (RunUniq u) order one two = ap (λ (n : ℕ). n == 1) (length-map order place ∙ one u refl)
-takes (RunComm u) order one two = two_places (comm_tool u) order (two refl)
-takes (RunJoin u) order one two = refl
-takes (RunTr u) order one two = refl
+takes : (told : Job) (order : List Input) → ((u : jobs.Uniq) → told ≡ RunUniq u → length order ≡ 1) → ((u : jobs.Paste) → told ≡ RunPaste u → nat_le (length order) 512 ≡ true) → (is_of_two told ≡ true → AreTwo order) → is_taking told (places order) ≡ true
+takes (RunCut u) order one few two = refl
+takes (RunPaste u) order one few two = ap (λ (n : ℕ). nat_le n 512) (length-map order place) ∙ few u refl
+takes (RunUniq u) order one few two = ap (λ (n : ℕ). n == 1) (length-map order place ∙ one u refl)
+takes (RunComm u) order one few two = two_places (comm_tool u) order (two refl)
+takes (RunJoin u) order one few two = refl
+takes (RunTr u) order one few two = refl
 
 fit_spelled : (words : List (List ℕ)) (c : Command) → SpellsCommand words c → Fit c
 fit_spelled words c (Spelled name rest tool os operands named s allowed) =
-    (λ k d within. omega (arith, places_within 0 (inputs tool operands) k d within), takes (job tool os operands) (order_from 0 (inputs tool operands)) (sole_input tool os operands) (two_inputs tool os operands allowed.inputs))
+    (λ k d within. omega (arith, places_within 0 (inputs tool operands) k d within), takes (job tool os operands) (order_from 0 (inputs tool operands)) (sole_input tool os operands) (λ u is. few_inputs tool os operands u allowed.inputs is) (two_inputs tool os operands allowed.inputs))
 
 pub operands_fit : {A : Type 0} (command : Result (code.Command A) UseFault) (words : List (List ℕ)) (c : code.Command A) → command ≡ Ok c → IsMeant command (meaning words) → Fit (seen c)
 operands_fit command words c is m = fit_spelled words (seen c) ((meant_as_spelled words (seen c)).1 (rw is at m))

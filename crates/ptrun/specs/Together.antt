@@ -1,8 +1,10 @@
 -- A tool that takes all its inputs together: where one could not be opened, all such are named and nothing else is done.
-use Rattle.std.specs.Prelude.{ℕ, ◌==◌, ◌&&◌, Bool, List, [], Option, Some, None, length, unwrap_or, slice_index_or, option_map, not, if◌then◌else◌}
+use Rattle.std.specs.Prelude.{ℕ, ◌==◌, ◌&&◌, Bool, List, [], Option, Some, None, length, nat_le, unwrap_or, slice_index_or, option_map, not, if◌then◌else◌}
 use Rattle.std.specs.List.{list_any}
 use Rattle.ptlines.specs.Inputs.{Given, nothing_left}
+use Rattle.ptlangs.specs.Jobs.{Paste}
 use Rattle.ptflow.specs.Tools.{Tool}
+use Rattle.ptflow.specs.Pastes.{paste, paste_decided, paste_size}
 use Rattle.ptmerge.specs.declared.order.Side.{Side}
 use Rattle.ptmerge.specs.declared.order.Side.TheVariants.{First, Second}
 use Rattle.ptmerge.specs.Keyed.{merged, lines_of}
@@ -36,6 +38,16 @@ of_one t = record {
   size = λ places texts. t.size (texts (sole places));
   disorder = λ places texts. None;
   takes = λ places. length places == 1;
+}
+
+-- the rows of paste, over at most 512 operands
+abbrev pub of_rows : Paste → JointTool
+of_rows job = record {
+  text = paste job;
+  decided = paste_decided job;
+  size = paste_size job;
+  disorder = λ places texts. None;
+  takes = λ places. nat_le (length places) 512;
 }
 
 -- the first operand, or the second

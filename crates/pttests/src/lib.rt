@@ -4,6 +4,8 @@
 #[cfg(test)]
 mod characters;
 #[cfg(test)]
+mod columns;
+#[cfg(test)]
 mod commands;
 #[cfg(test)]
 mod common_lines;
