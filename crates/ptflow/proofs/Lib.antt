@@ -1,4 +1,5 @@
 pub mod BlockLemmas
+pub mod BlockRuns
 pub mod ByteRests
 pub mod CellSlots
 pub mod Chosen
@@ -12,6 +13,7 @@ pub mod Grids
 pub mod LineLaws
 pub mod LineLemmas
 pub mod LinesCame
+pub mod OpenLines
 pub mod OpenRuns
 pub mod PassLemmas
 pub mod PasteLemmas

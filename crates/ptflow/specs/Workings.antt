@@ -5,6 +5,8 @@ pub mod CutRests
 pub mod FieldPlaces
 pub mod TrRests
 pub mod OpenRuns
+pub mod BlockRuns
+pub mod OpenLines
 pub mod SerialRests
 pub mod TakenLines
 pub mod RowTurns

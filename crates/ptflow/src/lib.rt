@@ -9,6 +9,7 @@ mod fields;
 mod keys;
 mod pasting;
 mod repeats;
+mod runs;
 mod serial;
 mod slots;
 mod translating;
