@@ -3,13 +3,18 @@ use Rattle.std.proofs.Common.{◌≡◌, ◌≢◌, ℕ, zero, suc, ◌+◌, ◌
 use Rattle.std.specs.Prelude.{slice_get}
 use Rattle.std.specs.Option.{option_map_or}
 use Rattle.std.proofs.lemmas.List.{drop_more, drop_all, drop-drop}
-use Rattle.ptflow.specs.Uniqs.{ends_word, word_ends, after_fields}
+use Rattle.ptflow.specs.Uniqs.{is_blank, ends_word, word_ends, after_fields}
+use Rattle.ptflow.specs.Workings.UniqWords.{after_bytes}
 
 -- what stands behind so many more word ends of these bytes
 abbrev pub behind : ℕ → List ℕ → List ℕ
 behind n [] = []
 behind zero (b ∷ bytes) = b ∷ bytes
 behind (suc n) (b ∷ bytes) = cond (ends_word b bytes) (behind n bytes) (behind (suc n) bytes)
+
+pub behind_none : (n : ℕ) → behind n [] ≡ []
+behind_none zero = refl
+behind_none (suc n) = refl
 
 pub behind_zero : (bytes : List ℕ) → behind 0 bytes ≡ bytes
 behind_zero [] = refl
@@ -38,11 +43,55 @@ unfolding from_end
 behind_is zero line = behind_zero line
 behind_is (suc n) line = sym (from_end_is line line 0 n refl)
 
--- ---- one byte of the walk
+-- ---- field by field
 
-pub behind_end : (left : ℕ) (rest more : List ℕ) → left ≢ 0 → 0 < length rest → more ≡ drop 1 rest → ends_word (get_or rest 0 0) more ≡ true → behind (left - 1) more ≡ behind left rest
-behind_end zero rest more some long is ends = absurd (some refl)
-behind_end (suc n) [] more some long is ends = absurd (omega arith)
-behind_end (suc n) (b ∷ bytes) more some long is ends =
-    let less : suc n - 1 ≡ n = omega arith in
-    (λ i. behind (less i) (is i)) ∙ ap (λ (t : Bool). cond t (behind n bytes) (behind (suc n) bytes)) (sym (ap (ends_word b) (sym is) ∙ ends))
+-- behind a field, and then behind so many more
+behind_add : (n : ℕ) (bytes : List ℕ) → behind (suc n) bytes ≡ behind n (behind 1 bytes)
+behind_add n [] = sym (behind_none n)
+behind_add n (b ∷ bytes) = by_test (ends_word b bytes) (behind_add n bytes)
+  where
+    by_test : (t : Bool) → behind (suc n) bytes ≡ behind n (behind 1 bytes) → cond t (behind n bytes) (behind (suc n) bytes) ≡ behind n (cond t (behind 0 bytes) (behind 1 bytes))
+    by_test true later = ap (behind n) (sym (behind_zero bytes))
+    by_test false later = later
+
+-- where the first byte is a blank
+blank_ends : (b : ℕ) (bytes : List ℕ) → is_blank b ≡ true → ends_word b bytes ≡ false
+blank_ends b [] blank = rw blank refl
+blank_ends b (c ∷ bytes) blank = rw blank refl
+
+behind_blank : (b : ℕ) (bytes : List ℕ) → is_blank b ≡ true → behind 1 (b ∷ bytes) ≡ behind 1 bytes
+behind_blank b bytes blank = ap (λ (t : Bool). cond t (behind 0 bytes) (behind 1 bytes)) (blank_ends b bytes blank)
+
+-- where it is not
+behind_other : (b : ℕ) (bytes : List ℕ) → is_blank b ≡ false → behind 1 (b ∷ bytes) ≡ after_bytes bytes
+behind_other b [] other = rw other refl
+behind_other b (c ∷ bytes) other = rw other (by_test (is_blank c) (λ is. behind_other c bytes is))
+  where
+    by_test : (t : Bool) → (t ≡ false → behind 1 (c ∷ bytes) ≡ after_bytes bytes) → cond t (c ∷ bytes) (behind 1 (c ∷ bytes)) ≡ cond t (c ∷ bytes) (after_bytes bytes)
+    by_test true later = refl
+    by_test false later = later refl
+
+pub after_one : (line : List ℕ) → after_fields 1 line ≡ behind 1 line
+after_one line = sym (behind_is 1 line)
+
+pub behind_step : (n m : ℕ) (rest : List ℕ) → n ≡ m + 1 → behind n rest ≡ behind m (after_fields 1 rest)
+behind_step n m rest is =
+    let more : n ≡ suc m = omega (arith, is) in
+    ap (λ (k : ℕ). behind k rest) more ∙ behind_add m rest ∙ ap (behind m) (sym (after_one rest))
+
+-- the same by what stands in front
+pub blank_first : (rest behind_it : List ℕ) → 0 < length rest → behind_it ≡ drop 1 rest → is_blank (get_or rest 0 0) ≡ true → behind 1 rest ≡ behind 1 behind_it
+blank_first [] behind_it long is blank = absurd (omega (arith, long))
+blank_first (b ∷ bytes) behind_it long is blank = behind_blank b bytes blank ∙ ap (behind 1) (sym is)
+
+pub other_first : (rest behind_it : List ℕ) → 0 < length rest → behind_it ≡ drop 1 rest → is_blank (get_or rest 0 0) ≡ false → behind 1 rest ≡ after_bytes behind_it
+other_first [] behind_it long is other = absurd (omega (arith, long))
+other_first (b ∷ bytes) behind_it long is other = behind_other b bytes other ∙ ap after_bytes (sym is)
+
+pub after_blank : (rest : List ℕ) → 0 < length rest → is_blank (get_or rest 0 0) ≡ true → after_bytes rest ≡ rest
+after_blank [] long blank = absurd (omega (arith, long))
+after_blank (b ∷ bytes) long blank = ap (λ (t : Bool). cond t (b ∷ bytes) (after_bytes bytes)) blank
+
+pub after_other : (rest behind_it : List ℕ) → 0 < length rest → behind_it ≡ drop 1 rest → is_blank (get_or rest 0 0) ≡ false → after_bytes rest ≡ after_bytes behind_it
+after_other [] behind_it long is other = absurd (omega (arith, long))
+after_other (b ∷ bytes) behind_it long is other = ap (λ (t : Bool). cond t (b ∷ bytes) (after_bytes bytes)) other ∙ ap after_bytes (sym is)

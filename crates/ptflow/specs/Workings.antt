@@ -5,6 +5,7 @@ pub mod CutRests
 pub mod FieldPlaces
 pub mod TrRests
 pub mod OpenRuns
+pub mod UniqWords
 pub mod BlockRuns
 pub mod OpenLines
 pub mod SerialRests

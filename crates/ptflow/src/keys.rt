@@ -1,6 +1,7 @@
 ghost use Rattle.std.specs.Prelude.{◌≡◌};
 ghost use Rattle.ptlangs.specs.Jobs.{uniq_job};
-ghost use Rattle.ptflow.specs.Uniqs.{is_blank, ends_word, after_fields, key};
+ghost use Rattle.ptflow.specs.Uniqs.{is_blank, after_fields, key};
+ghost use Rattle.ptflow.specs.Workings.UniqWords.{after_bytes};
 
 use ptlangs::jobs::UniqJob;
 
@@ -10,30 +11,44 @@ fn is_blank(byte: u8) -> bool
     byte == b' ' || byte == b'\t'
 }
 
-// Whether a byte ends a word, where these bytes follow it.
-fn ends_word(byte: u8, behind: &[u8]) -> bool
-    ensures { result ≡ ends_word byte behind.now }
+// What stands behind the bytes in front that are no blanks.
+fn behind_bytes(line: &[u8]) -> &[u8]
+    ensures { result.now ≡ after_bytes line.now }
 {
-    match behind {
-        [] => !is_blank(byte),
-        [next, ..] => !is_blank(byte) && is_blank(*next),
+    let mut rest = line;
+    'bytes: while let [byte, behind @ ..] = rest {
+        if is_blank(*byte) {
+            return rest;
+        }
+        rest = behind;
     }
+    rest
 }
 
-// What stands behind so many fields of a line, each of which is blanks and then other bytes.
+// What stands behind the first field of a line, which is blanks and then other bytes.
+fn behind_field(line: &[u8]) -> &[u8]
+    ensures { result.now ≡ after_fields 1 line.now }
+{
+    let mut rest = line;
+    'blanks: while let [byte, behind @ ..] = rest {
+        if !is_blank(*byte) {
+            return behind_bytes(behind);
+        }
+        rest = behind;
+    }
+    rest
+}
+
+// What stands behind so many fields of a line.
 fn behind_fields(fields: u64, line: &[u8]) -> &[u8]
     ensures { result.now ≡ after_fields fields line.now }
 {
-    let mut left = fields;
     let mut rest = line;
-    'bytes: while let [byte, behind @ ..] = rest {
-        if left == 0 {
+    for _field in 0..fields {
+        if rest.is_empty() {
             return rest;
         }
-        if ends_word(*byte, behind) {
-            left -= 1;
-        }
-        rest = behind;
+        rest = behind_field(rest);
     }
     rest
 }

@@ -79,7 +79,8 @@ pub(crate) struct Same {
     pub passed: usize,
 }
 
-// The lines in front of a block that go on with the run whose first line this is.
+// The lines in front of a block that go on with the run whose first line this is. Apart, as the other loop is.
+#[inline(never)]
 pub(crate) fn count_same(job: &UniqJob, ending: u8, first: &[u8], block: &[u8]) -> Same
     requires { length block.now < 2 ^ 63 }
     ensures { GoesOnWith (uniq_job job.now) ending first.now block.now result }
@@ -110,8 +111,7 @@ pub(crate) struct Span {
     pub to: usize,
 }
 
-// Pushes bytes that wait, and behind them what stands in front of a run's line. Apart, so that what the loop needs stays in
-// registers.
+// Pushes bytes that wait, and behind them what stands in front of a run's line. Apart, since it is seldom needed.
 #[inline(never)]
 fn push_waiting<W: Sink>(
     show: Show,
@@ -172,7 +172,8 @@ pub(crate) struct LastRun {
 }
 
 // Pushes what is written of the runs of the lines whose end is in the block, but for the last run. The first line ends at
-// this place.
+// this place. Apart, so that what the loop needs stays in registers.
+#[inline(never)]
 pub(crate) fn push_runs<W: Sink>(
     job: &UniqJob,
     ending: u8,
