@@ -1,6 +1,7 @@
 -- The run that is open, with the lines that are taken one by one and block by block.
 use Rattle.std.proofs.Common.{◌≡◌, ℕ, ◌+◌, ◌-◌, ◌<◌, ◌≤◌, ◌&&◌, Bool, true, false, List, [], ◌∷◌, ◌++◌, Option, None, Some, length, take, drop, refl, sym, ◌∙◌, ap, subst, arith, append_assoc, length-append, take-append-drop}
 use Rattle.std.specs.Prelude.{nat_lt, swap}
+use Rattle.std.specs.Option.{is_some}
 use Rattle.std.proofs.Math.Seq.{take-append-add}
 use Rattle.std.proofs.lemmas.Bool.Decides.{nat_tests}
 use Rattle.std.proofs.lemmas.List.{append-nil, length-take-le}
@@ -9,6 +10,7 @@ use Rattle.ptlines.specs.Outputs.{Output, Wrote}
 use Rattle.ptlines.specs.Slots.{Slots, line}
 use Rattle.ptlines.specs.Text.{text, ended_lines, IsLine}
 use Rattle.ptlines.proofs.Pushed.{wrote_nothing, wrote_trans}
+use Rattle.ptlines.proofs.Scanned.{no_end}
 use Rattle.ptlines.proofs.TextLaws.{text-append, ended_none}
 use Rattle.ptlangs.specs.Jobs.{Uniq}
 use Rattle.ptflow.specs.Uniqs.{Run, is_same, entries}
@@ -48,6 +50,19 @@ module _ (job : Uniq) (run : Run) (next : List ℕ) where
     line_halts = record { passed = open_run run; wrote = wrote; true_so_far = λ more. (runs_behind job (run_of next 1) more, behind_turn job run next more other) }
 
 -- ---- a block
+
+pub not_found : (end : ℕ) (block : List ℕ) (r : Option ℕ) → IsFirstByte (is_byte end) block r → is_some r ≡ false → IsLine end block
+not_found end block None none said = no_end end block none
+not_found end block (Some at) first said = cc
+
+-- no line of it is whole
+pub block_none : (job : Uniq) (end : ℕ) (run : Run) (block : List ℕ) (was : Output) → IsLine end block → RunsOn job run run (ended_lines end block) was was
+block_none job end run block was none = record {
+  passed = [];
+  wrote = wrote_nothing was;
+  on = λ more. ap (λ (l : List (List ℕ)). runs_behind job run (l ++ more)) (ended_none end block none);
+  count = omega arith;
+}
 
 -- the run that is open goes on for some lines of a block
 module _ (job : Uniq) (end : ℕ) (first block : List ℕ) (same : Same) (g : GoesOnWith job end first block same) (count : ℕ) (some : 0 < count) where

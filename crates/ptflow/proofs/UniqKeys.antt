@@ -3,6 +3,7 @@ use Rattle.std.proofs.Common.{◌≡◌, ◌≢◌, ℕ, zero, suc, ◌+◌, ◌
 use Rattle.std.specs.Prelude.{slice_get}
 use Rattle.std.specs.Option.{option_map_or}
 use Rattle.std.proofs.lemmas.List.{drop_more, drop_all, drop-drop}
+use Rattle.memchr.specs.Find.{IsFirstByte, is_byte2}
 use Rattle.ptflow.specs.Uniqs.{is_blank, ends_word, word_ends, after_fields}
 use Rattle.ptflow.specs.Workings.UniqWords.{after_bytes}
 
@@ -88,10 +89,28 @@ pub other_first : (rest behind_it : List ℕ) → 0 < length rest → behind_it 
 other_first [] behind_it long is other = absurd (omega (arith, long))
 other_first (b ∷ bytes) behind_it long is other = behind_other b bytes other ∙ ap after_bytes (sym is)
 
-pub after_blank : (rest : List ℕ) → 0 < length rest → is_blank (get_or rest 0 0) ≡ true → after_bytes rest ≡ rest
-after_blank [] long blank = absurd (omega (arith, long))
-after_blank (b ∷ bytes) long blank = ap (λ (t : Bool). cond t (b ∷ bytes) (after_bytes bytes)) blank
+-- by a search for the first blank
+blank_here : (b : ℕ) (bytes : List ℕ) → is_blank b ≡ true → after_bytes (b ∷ bytes) ≡ b ∷ bytes
+blank_here b bytes blank = ap (λ (t : Bool). cond t (b ∷ bytes) (after_bytes bytes)) blank
 
-pub after_other : (rest behind_it : List ℕ) → 0 < length rest → behind_it ≡ drop 1 rest → is_blank (get_or rest 0 0) ≡ false → after_bytes rest ≡ after_bytes behind_it
-after_other [] behind_it long is other = absurd (omega (arith, long))
-after_other (b ∷ bytes) behind_it long is other = ap (λ (t : Bool). cond t (b ∷ bytes) (after_bytes bytes)) other ∙ ap after_bytes (sym is)
+other_here : (b : ℕ) (bytes : List ℕ) → (is_blank b ≡ true → ⊥) → after_bytes (b ∷ bytes) ≡ after_bytes bytes
+other_here b bytes other = by_test (is_blank b) other
+  where
+    by_test : (t : Bool) → (t ≡ true → ⊥) → cond t (b ∷ bytes) (after_bytes bytes) ≡ after_bytes bytes
+    by_test true other = absurd (other refl)
+    by_test false other = refl
+
+after_at : (line : List ℕ) (at : ℕ) → at < length line → ((k : ℕ) → k < at → is_blank (get_or line k 0) ≡ true → ⊥) → is_blank (get_or line at 0) ≡ true → after_bytes line ≡ drop at line
+after_at [] at high none blank = absurd (omega (arith, high))
+after_at (b ∷ bytes) zero high none blank = blank_here b bytes blank
+after_at (b ∷ bytes) (suc at) high none blank = other_here b bytes (none 0 (omega arith)) ∙ after_at bytes at (omega (arith, high)) (λ k lt. none (suc k) (omega (arith, lt))) blank
+
+after_none : (line : List ℕ) → ((k : ℕ) → k < length line → is_blank (get_or line k 0) ≡ true → ⊥) → after_bytes line ≡ []
+after_none [] none = refl
+after_none (b ∷ bytes) none = other_here b bytes (none 0 (omega arith)) ∙ after_none bytes (λ k lt. none (suc k) (omega (arith, lt)))
+
+pub after_found : (line : List ℕ) (at : ℕ) → IsFirstByte (is_byte2 32 9) line (Some at) → after_bytes line ≡ drop at line
+after_found line at first = after_at line at first.0.high (λ k lt. first.0.before k (omega arith) lt) first.1
+
+pub after_not_found : (line : List ℕ) → IsFirstByte (is_byte2 32 9) line None → after_bytes line ≡ []
+after_not_found line none = after_none line (λ k lt. none k (omega arith) lt)

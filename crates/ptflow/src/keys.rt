@@ -3,6 +3,7 @@ ghost use Rattle.ptlangs.specs.Jobs.{uniq_job};
 ghost use Rattle.ptflow.specs.Uniqs.{is_blank, after_fields, key};
 ghost use Rattle.ptflow.specs.Workings.UniqWords.{after_bytes};
 
+use memchr::memchr2;
 use ptlangs::jobs::UniqJob;
 
 fn is_blank(byte: u8) -> bool
@@ -15,14 +16,10 @@ fn is_blank(byte: u8) -> bool
 fn behind_bytes(line: &[u8]) -> &[u8]
     ensures { result.now ≡ after_bytes line.now }
 {
-    let mut rest = line;
-    'bytes: while let [byte, behind @ ..] = rest {
-        if is_blank(*byte) {
-            return rest;
-        }
-        rest = behind;
+    match memchr2(b' ', b'\t', line) {
+        Some(at) => &line[at..],
+        None => &line[line.len()..],
     }
-    rest
 }
 
 // What stands behind the first field of a line, which is blanks and then other bytes.

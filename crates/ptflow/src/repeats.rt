@@ -116,6 +116,9 @@ fn take_block<A: Allocator + Copy, W: Sink>(
     ensures clean { OnOk result (out.new.faulted ≡ false) }
     ensures fault { OnErr result (out.new.faulted ≡ true) }
 {
+    if find_near(ending, block).is_none() {
+        return Ok(0);
+    }
     let same = count_same(job, ending, first_line(run, store), block);
     run.count += same.count;
     let rest = &block[same.passed..];

@@ -1,14 +1,10 @@
-use Rattle.std.proofs.Common.{◌≡◌, [], length, sym, ◌∙◌, ap, arith}
-use Rattle.std.proofs.lemmas.List.{take_rest, nil_from_length}
-use Rattle.ptflow.specs.Workings.UniqWords.{after_bytes}
-use Rattle.ptflow.proofs.UniqKeys.{after_blank, after_other}
+use Rattle.std.proofs.Common.{◌-◌, ◌≡◌, ℕ, take, drop, length, sym, ◌∙◌, ap, arith}
+use Rattle.std.proofs.lemmas.List.{take_rest, drop_all}
+use Rattle.ptflow.proofs.UniqKeys.{after_found, after_not_found}
 use Rattle.ptflow.proofs.keys.behind_bytes.Goals as goal
 
-pub returns-then-is_blank : goal.returns-then-is_blank
-returns-then-is_blank c = sym (after_blank c.bytes.rest.now c.in-len1-up.len_at_least (sym c.is_blank.ensures ∙ c.if-is_blank.true)) ∙ c.bytes.invariant
+pub returns-in-Some : goal.returns-in-Some
+returns-in-Some c = take_rest c.args.line.now c.in-Some.at ∙ sym (after_found c.args.line.now c.in-Some.at c.in-Some.ensures)
 
-pub bytes-preserved : goal.bytes-preserved
-bytes-preserved c = sym (after_other c.bytes.rest.now _ c.in-len1-up.len_at_least (take_rest c.bytes.rest.now 1) (sym c.is_blank.ensures ∙ c.if-is_blank.false)) ∙ c.bytes.invariant
-
-pub returns : goal.returns
-returns c = let none : c.bytes.rest.now ≡ [] = nil_from_length c.bytes.rest.now (omega arith) in none ∙ sym (ap after_bytes none) ∙ c.bytes.invariant
+pub returns-in-None : goal.returns-in-None
+returns-in-None c = take_rest c.args.line.now (length c.args.line.now) ∙ drop_all (length c.args.line.now) c.args.line.now (omega arith) ∙ sym (after_not_found c.args.line.now c.in-None.ensures)

@@ -3,16 +3,25 @@ use Rattle.std.proofs.lemmas.List.{take_rest, length-take-le}
 use Rattle.ptlines.specs.Slots.{Slots}
 use Rattle.ptlines.specs.Text.{text, ended_lines}
 use Rattle.ptlines.proofs.Scanned.{no_end}
+use Rattle.ptlines.proofs.TextLaws.{ended_none}
 use Rattle.ptlangs.specs.Jobs.{uniq_job}
 use Rattle.ptflow.specs.Uniqs.{Run}
 use Rattle.ptflow.specs.Workings.BlockRuns.{RunsOn, GoesOnWith}
 use Rattle.ptflow.specs.Workings.OpenLines.{first_line, open_run_of}
 use Rattle.ptflow.specs.Workings.OpenRuns.{run_of}
 use Rattle.ptflow.proofs.Continuations.{on_err}
-use Rattle.ptflow.proofs.OpenLines.{block_on, block_on_passed, block_run_halts, block_turns, block_halts, block_passed}
+use Rattle.ptflow.proofs.OpenLines.{not_found, block_none, block_on, block_on_passed, block_run_halts, block_turns, block_halts, block_passed}
 use Rattle.ptflow.proofs.BlockRuns.{text_long}
 use Rattle.ptflow.proofs.UniqPasses.{run_wrote}
 use Rattle.ptflow.proofs.repeats.take_block.Goals as goal
+
+pub returns-then-is_none-clause-continues : goal.returns-then-is_none-clause-continues
+returns-then-is_none-clause-continues g c =
+    block_none (uniq_job c.args.job.now) c.args.ending (open_run_of c.args.run.now c.args.store.now) c.args.block.now c.args.out.now (not_found c.args.ending c.args.block.now c.find_near.result c.find_near.ensures c.if-is_none.ensures)
+
+pub returns-then-is_none-clause-passed : goal.returns-then-is_none-clause-passed
+returns-then-is_none-clause-passed g c =
+    sym (ap (text c.args.ending) (ended_none c.args.ending c.args.block.now (not_found c.args.ending c.args.block.now c.find_near.result c.find_near.ensures c.if-is_none.ensures)))
 
 pub overflow_add-run : goal.overflow_add-run
 overflow_add-run g c =
