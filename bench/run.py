@@ -56,7 +56,7 @@ def table_line(number, separator, end="\n"):
 
 
 def repeated(chance):
-    """Lines of 9 to 100 bytes, of which each comes again, and then perhaps again, with this chance."""
+    """Lines of 9 to 96 bytes, of which each comes again, and then perhaps again, with this chance."""
     given, lines = random.Random(1), []
     for number in range(20000):
         line = f"u{number % 977} {number * 7919 % 65536:05} " + "x" * (number * 31 % 86) + "\n"

@@ -1,9 +1,9 @@
 -- The runs of the lines of a block, line by line.
-use Rattle.std.proofs.Common.{◌≡◌, ℕ, zero, suc, ◌+◌, ◌-◌, ◌<◌, ◌≤◌, ◌&&◌, Bool, true, false, List, [], ◌∷◌, ◌++◌, Some, get_or, length, take, drop, refl, sym, ◌∙◌, ap, subst, arith, append_assoc, length-append}
+use Rattle.std.proofs.Common.{◌≡◌, ℕ, ◌+◌, ◌-◌, ◌<◌, ◌≤◌, ◌&&◌, Bool, true, false, List, [], ◌∷◌, ◌++◌, Some, get_or, length, take, drop, refl, sym, ◌∙◌, ap, subst, arith, append_assoc, length-append}
 use Rattle.std.specs.Prelude.{bytes_eq, nat_lt, slice_range}
 use Rattle.std.proofs.lemmas.Bool.Decides.{nat_tests}
 use Rattle.std.proofs.lemmas.List.Folds.{drop_split}
-use Rattle.std.proofs.lemmas.List.{append-nil, take-take, take_at, drop_at, take_all, length-take-le, take-append-le}
+use Rattle.std.proofs.lemmas.List.{append-nil, take-take, take_at, drop_at}
 use Rattle.memchr.specs.Find.{IsFirstByte, is_byte}
 use Rattle.ptlines.specs.Outputs.{Output, Wrote}
 use Rattle.ptlines.specs.Text.{text, ended_lines, IsLine}
@@ -16,7 +16,6 @@ use Rattle.ptlangs.specs.declared.jobs.Show.{Show}
 use Rattle.ptflow.specs.Uniqs.{Run, key, is_same, entries}
 use Rattle.ptflow.specs.Workings.OpenRuns.{run_of, open_run, runs_behind, is_shown, lead, run_text}
 use Rattle.ptflow.specs.Workings.BlockRuns.{RunsOn, RunsHalt, GoesOnWith, span_of, IsSpan, Waits}
-use Rattle.ptflow.specs.declared.runs.Same.{Same}
 use Rattle.ptflow.specs.declared.runs.Span.{Span}
 use Rattle.ptflow.proofs.LineLaws.{split_of, ended_next}
 use Rattle.ptflow.proofs.OpenRuns.{behind_more, behind_turn, entries-append, open_is}

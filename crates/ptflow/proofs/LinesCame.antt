@@ -1,10 +1,10 @@
 -- The lines that came of a reader.
-use Rattle.std.proofs.Common.{◌≡◌, ◌⊎◌, ⊎_elim, inl, inr, ℕ, ◌+◌, ◌==◌, ◌<◌, ◌≤◌, Bool, true, false, cond, List, [], ◌∷◌, ◌++◌, length, max, refl, sym, ◌∙◌, ap, subst, arith, append_assoc, length-append}
+use Rattle.std.proofs.Common.{◌≡◌, ◌⊎◌, ⊎_elim, inl, inr, ℕ, ◌==◌, ◌<◌, ◌≤◌, Bool, true, false, cond, List, [], ◌∷◌, ◌++◌, length, max, refl, sym, ◌∙◌, ap, subst, arith, append_assoc, length-append}
 use Rattle.std.specs.List.{onto_first}
 use Rattle.std.proofs.lemmas.Bool.{false≢true}
 use Rattle.std.proofs.lemmas.List.{append-nil}
 use Rattle.ptlines.specs.Text.{text, lines, ended_lines, IsLine, AreLines, longest, longest_line}
-use Rattle.ptlines.specs.Inputs.{Given, Agrees, whole_lines}
+use Rattle.ptlines.specs.Inputs.{Agrees, whole_lines}
 use Rattle.ptlines.specs.Readers.{Reader, Reads, Goes, IsDone}
 use Rattle.ptlines.specs.Slots.{Slots}
 use Rattle.ptlines.specs.Fills.{GivesLine}

@@ -1,6 +1,5 @@
 -- `uniq` over its turns: a run is open, and what is written of the runs before it was pushed.
-use Rattle.std.proofs.Common.{◌≡◌, ℕ, zero, suc, ◌+◌, ◌*◌, ◌<◌, ◌≤◌, ◌^◌, ◌&&◌, Bool, true, false, cond, List, [], ◌∷◌, ◌++◌, None, Ok, Err, length, take, drop, max, ⊎_elim, refl, sym, ◌∙◌, ap, subst, arith, append_assoc, length-append}
-use Rattle.std.specs.Prelude.{nat_lt, swap}
+use Rattle.std.proofs.Common.{◌≡◌, ℕ, ◌*◌, ◌<◌, ◌≤◌, ◌^◌, true, false, cond, List, [], ◌∷◌, ◌++◌, None, Ok, Err, length, take, drop, max, ⊎_elim, refl, sym, ◌∙◌, ap, subst, arith, append_assoc, length-append}
 use Rattle.std.proofs.lemmas.Bool.{false≢true}
 use Rattle.std.proofs.lemmas.List.{append-nil}
 use Rattle.ptlines.specs.Text.{text, lines, ended_lines, IsLine, longest, longest_line}
@@ -13,7 +12,7 @@ use Rattle.ptlines.proofs.Filling.{goes_trans}
 use Rattle.ptlines.proofs.Pushed.{wrote_trans}
 use Rattle.ptlangs.specs.Jobs.{Uniq}
 use Rattle.ptflow.specs.Passes.{IsReady, IsPass, Adds}
-use Rattle.ptflow.specs.Uniqs.{Run, is_same, runs, entries, all_but_last, uniq_tool}
+use Rattle.ptflow.specs.Uniqs.{Run, runs, entries, all_but_last, uniq_tool}
 use Rattle.ptflow.specs.Workings.OpenRuns.{run_of, open_run, runs_behind, run_text}
 use Rattle.ptflow.specs.declared.faults.FlowFault.TheVariants.{Read, Write, Memory}
 use Rattle.ptflow.specs.Workings.BlockRuns.{RunsOn, RunsHalt}
@@ -22,10 +21,10 @@ use Rattle.ptflow.specs.declared.repeats.Open.{Open}
 use Rattle.ptflow.proofs.LineLaws.{longest-append, parts_of, ended_front}
 use Rattle.ptflow.specs.Workings.TakenLines.{LinesCame}
 use Rattle.ptflow.proofs.LinesCame.{lines_none, lines_few, lines_on, lines_more, lines_block, line_front, came_longest, piece_longest, whole_before}
-use Rattle.ptflow.proofs.OpenRuns.{behind_more, behind_turn, entries-append, open_is, but_open}
+use Rattle.ptflow.proofs.OpenRuns.{entries-append, open_is, but_open}
 use Rattle.ptflow.proofs.PassLemmas.{Reached, reached_nothing, Midway, Stored, pass_read, pass_memory, pass_write, pass_done, pass_unended}
 use Rattle.ptflow.proofs.ReaderFacts.{given_of, goes_nothing, goes_past}
-use Rattle.ptflow.proofs.TwoSlots.{KeepsTwo, two_starts, two_more, two_second, first_stays, second_line, two_swap, swapped_line, emptied_total, emptied_denied, emptied_adds, emptied_peak}
+use Rattle.ptflow.proofs.TwoSlots.{KeepsTwo, two_starts, two_more, two_second, first_stays, second_line, two_swap, emptied_total, emptied_denied, emptied_adds, emptied_peak}
 
 -- what is written of the rest of a text, where this run is open
 abbrev pub rest_behind : Uniq → Run → List ℕ → List ℕ

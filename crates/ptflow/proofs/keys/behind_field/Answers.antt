@@ -1,6 +1,5 @@
-use Rattle.std.proofs.Common.{◌≡◌, [], length, sym, ◌∙◌, ap, arith}
+use Rattle.std.proofs.Common.{◌≡◌, [], sym, ◌∙◌, ap, arith}
 use Rattle.std.proofs.lemmas.List.{take_rest, nil_from_length}
-use Rattle.ptflow.specs.Workings.UniqWords.{after_bytes}
 use Rattle.ptflow.proofs.UniqKeys.{behind, behind_none, after_one, blank_first, other_first}
 use Rattle.ptflow.proofs.keys.behind_field.Goals as goal
 

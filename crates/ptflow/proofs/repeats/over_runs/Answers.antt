@@ -1,4 +1,4 @@
-use Rattle.std.proofs.Common.{◌≡◌, ◌<◌, ◌≤◌, ℕ, List, [], ◌∷◌, take, sym, ◌∙◌, ap, subst, arith}
+use Rattle.std.proofs.Common.{◌≡◌, ℕ, [], ◌∷◌, take, ◌∙◌, ap, subst}
 use Rattle.std.proofs.lemmas.Result.{err_from_is_err_and}
 use Rattle.ptlines.specs.Text.{text, ended_lines, IsLine, longest}
 use Rattle.ptlangs.specs.Jobs.{uniq_job}

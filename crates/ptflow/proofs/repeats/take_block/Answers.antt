@@ -1,6 +1,5 @@
-use Rattle.std.proofs.Common.{◌≡◌, ◌+◌, ◌<◌, ◌≤◌, ◌∷◌, [], ℕ, List, length, take, drop, sym, ◌∙◌, ap, subst, arith}
+use Rattle.std.proofs.Common.{◌+◌, ◌∷◌, [], ℕ, List, length, drop, sym, ap, subst, arith}
 use Rattle.std.proofs.lemmas.List.{take_rest, length-take-le}
-use Rattle.ptlines.specs.Slots.{Slots}
 use Rattle.ptlines.specs.Text.{text, ended_lines}
 use Rattle.ptlines.proofs.Scanned.{no_end}
 use Rattle.ptlines.proofs.TextLaws.{ended_none}
@@ -8,7 +7,6 @@ use Rattle.ptlangs.specs.Jobs.{uniq_job}
 use Rattle.ptflow.specs.Uniqs.{Run}
 use Rattle.ptflow.specs.Workings.BlockRuns.{RunsOn, GoesOnWith}
 use Rattle.ptflow.specs.Workings.OpenLines.{first_line, open_run_of}
-use Rattle.ptflow.specs.Workings.OpenRuns.{run_of}
 use Rattle.ptflow.proofs.Continuations.{on_err}
 use Rattle.ptflow.proofs.OpenLines.{not_found, block_none, block_on, block_on_passed, block_run_halts, block_turns, block_halts, block_passed}
 use Rattle.ptflow.proofs.BlockRuns.{text_long}

@@ -1,9 +1,9 @@
-use Rattle.std.proofs.Common.{◌≡◌, refl, true, false, Bool, not, take, sym, ◌∙◌, ap, arith}
+use Rattle.std.proofs.Common.{◌≡◌, refl, true, false, Bool, not, take, ◌∙◌, arith}
 use Rattle.std.specs.Prelude.{bytes_eq}
 use Rattle.std.proofs.lemmas.List.{take_rest}
 use Rattle.ptlines.proofs.Scanned.{no_end}
 use Rattle.ptlangs.specs.Jobs.{uniq_job}
-use Rattle.ptflow.proofs.BlockRuns.{same_by_keys, counting_starts, counting_few, counting_more, counting_turns, counting_done}
+use Rattle.ptflow.proofs.BlockRuns.{same_by_keys, counting_few, counting_more, counting_turns, counting_done}
 use Rattle.ptflow.proofs.runs.count_same.Goals as goal
 
 flip : (b r : Bool) (t : Bool) → r ≡ not b → r ≡ not t → b ≡ t

@@ -1,8 +1,8 @@
-use Rattle.std.proofs.Common.{◌≡◌, ◌++◌, List, ℕ, true, sym, ◌∙◌, ap, subst}
+use Rattle.std.proofs.Common.{◌++◌, List, ℕ, sym, ◌∙◌, ap, subst}
 use Rattle.ptlines.specs.Outputs.{Wrote}
 use Rattle.ptlines.proofs.Pushed.{wrote_past}
 use Rattle.std.proofs.Common.{append_assoc}
-use Rattle.ptflow.specs.Workings.OpenRuns.{is_shown, lead, run_text}
+use Rattle.ptflow.specs.Workings.OpenRuns.{lead}
 use Rattle.ptflow.specs.Workings.BlockRuns.{span_of}
 use Rattle.ptflow.proofs.Continuations.{on_err}
 use Rattle.ptflow.proofs.BlockRuns.{waits_joined, run_text_shown}
