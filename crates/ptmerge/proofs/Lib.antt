@@ -3,6 +3,8 @@ pub mod CommEntries
 pub mod CommRows
 pub mod CommStarts
 pub mod CommTurns
+pub mod FieldLemmas
+pub mod JoinRows
 pub mod Got
 pub mod Least
 pub mod LineLaws

@@ -1,5 +1,6 @@
 pub mod Comm
 pub mod Exact
+pub mod Join
 pub mod Keyed
 pub mod LinePasses
 pub mod Merges
