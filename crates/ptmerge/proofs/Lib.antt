@@ -1,11 +1,13 @@
+pub mod Amid
 pub mod Bounds
 pub mod CommEntries
 pub mod CommRows
 pub mod CommStarts
 pub mod CommTurns
+pub mod EntryLemmas
 pub mod FieldLemmas
-pub mod JoinRows
 pub mod Got
+pub mod JoinRows
 pub mod Least
 pub mod LineLaws
 pub mod Passing

@@ -1,6 +1,7 @@
 pub mod Comm
 pub mod Exact
 pub mod Join
+pub mod JoinFields
 pub mod Keyed
 pub mod LinePasses
 pub mod Merges

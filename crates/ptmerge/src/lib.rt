@@ -3,6 +3,7 @@
 
 mod common;
 mod faults;
+mod fields;
 mod merging;
 mod order;
 mod slots;
