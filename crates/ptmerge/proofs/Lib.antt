@@ -7,6 +7,8 @@ pub mod CommTurns
 pub mod EntryLemmas
 pub mod FieldLemmas
 pub mod Got
+pub mod GroupSlots
+pub mod GroupStops
 pub mod JoinRows
 pub mod Least
 pub mod LineLaws

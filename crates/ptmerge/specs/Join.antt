@@ -36,9 +36,13 @@ nth_field n fs = slice_index_or fs (n - 1) []
 abbrev pub others : ℕ → Lines → Lines
 others n fs = remove fs (n - 1)
 
+-- the field of each file's lines with the file's number, where these separate fields
+abbrev pub field_keys : Option ℕ → ℕ → ℕ → Side → Key
+field_keys separator n1 n2 side line = nth_field (both n1 n2 side) (fields separator line)
+
 -- the join field of each file's lines
 abbrev pub join_key : Join → Side → Key
-join_key job side line = nth_field (both job.field1 job.field2 side) (fields job.separator line)
+join_key job = field_keys job.separator job.field1 job.field2
 
 -- ---- what is written of a pair of lines, or of one
 
@@ -78,6 +82,11 @@ alone1 job k g = if job.unpaired1 then map (λ a. entry job k (fields job.separa
 
 abbrev pub alone2 : Join → List ℕ → Lines → Lines
 alone2 job k g = if job.unpaired2 then map (λ b. entry job k [] (fields job.separator b)) g else []
+
+-- the entry of a line of one file that pairs with none
+abbrev pub alone_entry : Join → Side → List ℕ → Lines
+alone_entry job First line = alone1 job (join_key job First line) (line ∷ [])
+alone_entry job Second line = alone2 job (join_key job Second line) (line ∷ [])
 
 -- the entries of the lines of one key in the two files
 abbrev pub join_entries : Join → List ℕ → Lines → Lines → Lines

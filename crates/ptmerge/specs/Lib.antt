@@ -1,5 +1,6 @@
 pub mod Comm
 pub mod Exact
+pub mod Groups
 pub mod Join
 pub mod JoinFields
 pub mod Keyed

@@ -43,7 +43,10 @@ fn first_piece(separator: Option<u8>, bytes: &[u8]) -> (&[u8], Option<&[u8]>)
 }
 
 // The first field of what is left of a line, and what is left behind it, or `None` if there are no more fields.
-fn next_field<'a>(separator: Option<u8>, line: Option<&'a [u8]>) -> Option<(&'a [u8], Option<&'a [u8]>)>
+fn next_field<'a>(
+    separator: Option<u8>,
+    line: Option<&'a [u8]>,
+) -> Option<(&'a [u8], Option<&'a [u8]>)>
     ensures { MatchOption result
         (fields_left separator (option_copied line.entry) ≡ [])
         (λ r. fields_left separator (option_copied line.entry)
@@ -104,7 +107,11 @@ fn push_words<W: Sink>(bytes: &[u8], out: &mut Out<W>) -> Result<(), WriteFault>
 }
 
 // Pushes all fields of what is left of a line, each with what stands between fields in front of it.
-fn push_left<W: Sink>(separator: Option<u8>, line: Option<&[u8]>, out: &mut Out<W>) -> Result<(), WriteFault>
+fn push_left<W: Sink>(
+    separator: Option<u8>,
+    line: Option<&[u8]>,
+    out: &mut Out<W>,
+) -> Result<(), WriteFault>
     requires { out.old.faulted ≡ false }
     ensures wrote { Wrote out.old out.new (led (between separator) (fields_left separator (option_copied line.entry))) }
     ensures clean { OnOk result (out.new.faulted ≡ false) }

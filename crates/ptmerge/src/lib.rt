@@ -4,6 +4,8 @@
 mod common;
 mod faults;
 mod fields;
+mod groups;
+mod joining;
 mod merging;
 mod order;
 mod slots;
