@@ -2,7 +2,6 @@ pub mod Amid
 pub mod Bounds
 pub mod CommEntries
 pub mod CommRows
-pub mod CommStarts
 pub mod CommTurns
 pub mod EntryLemmas
 pub mod FieldLemmas
@@ -11,6 +10,7 @@ pub mod GroupSlots
 pub mod GroupStops
 pub mod JoinRows
 pub mod Least
+pub mod JoinSlots
 pub mod LineLaws
 pub mod Passing
 pub mod Orders
@@ -18,5 +18,6 @@ pub mod Pairs
 pub mod Slotted
 pub mod Splitting
 pub mod Standing
+pub mod Starting
 pub mod Stopping
 pub mod Turning
