@@ -8,6 +8,7 @@ pub mod FieldLemmas
 pub mod Got
 pub mod GroupSlots
 pub mod GroupStops
+pub mod GroupTurns
 pub mod JoinRows
 pub mod Least
 pub mod JoinSlots
