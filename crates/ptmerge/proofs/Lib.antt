@@ -12,6 +12,7 @@ pub mod GroupTurns
 pub mod JoinRows
 pub mod Least
 pub mod JoinSlots
+pub mod JoinTurns
 pub mod LineLaws
 pub mod Passing
 pub mod Orders
