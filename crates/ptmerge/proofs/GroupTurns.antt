@@ -72,12 +72,11 @@ module _ (tool : Tool) (o : IsKeyOrder tool.cmp) (pairs : List ℕ → Lines →
       (by_keys tool w (λ side. g side ++ r side), ap (λ l. l ++ by_keys tool w (λ side. g side ++ r side)) (sym (ap (λ (l : Lines). pairs k l (g Second)) none ∙ laws.none k (g Second))))
   starts d beyond (inr above) w r c wanted =
       let none : with_key (tool.key Second) (r Second) k ≡ [] = with_key-above tool o (tool.key Second) k (r Second) (above.1 (r Second) (c Second)) in
-      let s = starts_pairs (g First) (with_key (tool.key First) (r First) k) (g Second) above.0 in
-      (
+      let s = starts_pairs (g First) (with_key (tool.key First) (r First) k) (g Second) above.0 in (
         s.0 ++ by_keys tool w (others_of tool o k r),
         front w r (λ side. beyond side (r side) (c side))
-        ∙ (λ i. cond (wanted i) (tool.entries k (g First ++ with_key (tool.key First) (r First) k) ((ap (λ (l : Lines). g Second ++ l) none ∙ append-nil (g Second)) i)) [] ++ by_keys tool w (others_of tool o k r))
-        ∙ ap (λ l. l ++ by_keys tool w (others_of tool o k r)) s.1 ∙ append_assoc (pairs k (g First) (g Second)) s.0 (by_keys tool w (others_of tool o k r)),
+            ∙ (λ i. cond (wanted i) (tool.entries k (g First ++ with_key (tool.key First) (r First) k) ((ap (λ (l : Lines). g Second ++ l) none ∙ append-nil (g Second)) i)) [] ++ by_keys tool w (others_of tool o k r))
+            ∙ ap (λ l. l ++ by_keys tool w (others_of tool o k r)) s.1 ∙ append_assoc (pairs k (g First) (g Second)) s.0 (by_keys tool w (others_of tool o k r)),
       )
 
   own_entries : (f s : Lines) → 0 < length f → 0 < length s → tool.entries k f s ≡ pairs k f s

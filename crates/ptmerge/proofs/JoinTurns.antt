@@ -3,17 +3,19 @@ use Rattle.std.proofs.Common.{◌≡◌, ◌⊎◌, inl, inr, ℕ, ◌+◌, ◌*
 use Rattle.std.specs.Prelude.{bytes_eq}
 use Rattle.std.specs.Cmp.Lexicographic.{bytes_decides}
 use Rattle.std.proofs.lemmas.Bool.{false≢true}
-use Rattle.std.proofs.lemmas.List.{append-nil, get_or-drop, length_push}
+use Rattle.std.proofs.lemmas.List.{append-nil, get_or-drop, length-set, length_push}
 use Rattle.std.proofs.lemmas.List.Sums.{sum_by-append}
 use Rattle.ptlines.specs.Outputs.{Output, Wrote}
 use Rattle.ptlines.specs.Readers.{Reader, Reads, IsSound}
-use Rattle.ptlines.specs.Slots.{Slots, line, total, with_line}
+use Rattle.ptlines.specs.Slots.{Slots, line, total, with_added, with_line}
 use Rattle.ptlines.specs.Text.{text, IsLine, longest}
 use Rattle.ptlines.proofs.Pushed.{wrote_nothing, wrote_trans}
 use Rattle.ptlines.proofs.TextLaws.{text-append}
 use Rattle.ptmerge.specs.declared.faults.MergeFault.{MergeFault}
 use Rattle.ptmerge.specs.declared.faults.MergeFault.TheVariants.{Read, Write, Memory}
 use Rattle.ptmerge.specs.declared.faults.MergeFault.TheVariants as faults
+use Rattle.ptmerge.specs.declared.joining.Phase.{Phase}
+use Rattle.ptmerge.specs.declared.joining.Phase.TheVariants as phases
 use Rattle.ptmerge.specs.declared.order.Side.{Side}
 use Rattle.ptmerge.specs.declared.order.Side.TheVariants.{First, Second}
 use Rattle.ptmerge.specs.declared.sorted.Sorted.{Sorted}
@@ -30,11 +32,11 @@ use Rattle.ptmerge.specs.Sides.{both, put, other}
 use Rattle.ptmerge.specs.Steps.{AreEqual, IsAlone, IsDecided}
 use Rattle.ptmerge.specs.Stores.{IsCleared}
 use Rattle.ptmerge.proofs.Bounds.{Bound, From, Begun}
-use Rattle.ptmerge.proofs.CommTurns.{Running, same_reader}
+use Rattle.ptmerge.proofs.CommTurns.{Running, breaks_slots, same_reader}
 use Rattle.ptmerge.proofs.Got.{More, reads_nothing}
 use Rattle.ptmerge.proofs.GroupStops.{Within, halts}
 use Rattle.ptmerge.proofs.GroupTurns.{Grouped, IsPairing, closes, group_breaks, own_more, passing, past_group, standing, starts}
-use Rattle.ptmerge.proofs.JoinSlots.{Keeping, Kept, group_in, keeping_cleared, keeping_kept, keeping_line, keeping_starts}
+use Rattle.ptmerge.proofs.JoinSlots.{Keeping, Kept, end_within, group_in, keeping_cleared, keeping_kept, keeping_line, keeping_starts}
 use Rattle.ptmerge.proofs.Least.{EachKey}
 use Rattle.ptmerge.proofs.Orders.{IsKeyOrder, AtMost, self_at_most}
 use Rattle.ptmerge.proofs.Pairs.{put_each, put_other, put_same}
@@ -388,8 +390,7 @@ module _ (tool : Tool) (o : IsKeyOrder tool.cmp) (pairs : List ℕ → Lines →
     paired reader next after comes =
         let n = next_at tool o old.reader now.reader place now.store r.q.ls (λ side. r.q.p side ++ r.g side) r.q.d r.q.sides slots r.q.keeps.four First r.head1 reader next after comes in
         let on = sides_on tool o old.reader now.reader place now.store r.q.ls (λ side. r.q.p side ++ r.g side) r.q.d r.q.sides slots r.q.keeps.four First r.head1 reader next after n in
-        let all = (passed_at tool o old.reader now.reader place now.store r.q.ls (λ side. r.q.p side ++ r.g side) r.q.d r.q.sides slots r.q.keeps.four First r.head1).all in
-        (
+        let all = (passed_at tool o old.reader now.reader place now.store r.q.ls (λ side. r.q.p side ++ r.g side) r.q.d r.q.sides slots r.q.keeps.four First r.head1).all in (
           record {
             ls = put First n.now_ls r.q.ls;
             p = r.q.p;
@@ -451,3 +452,114 @@ module _ (tool : Tool) (o : IsKeyOrder tool.cmp) (pairs : List ℕ → Lines →
   -- an input is past the group's key
   pub is_past : (now : State) (place : Side → Sorted) (end : ℕ) (k : List ℕ) (g : Side → Lines) (q : Grouped tool o pairs laws old unfailed now place end k g) (s : Side) → ((place s).stand ≡ Head → ¬ (tool.key s (line now.store (place s).standing) ≡ k)) → IsAbove tool.cmp (tool.key s) k (q.d s)
   is_past now place end k g q s other = past_group tool.cmp o (tool.key s) k (place s).stand (place s) now.store (now.reader s) (q.ls s) (q.p s ++ g s) (q.d s) (q.sides s).stands (q.within.under s) other
+
+  -- ---- what follows once it is known whether the key goes on
+
+  module _ (now : State) (place : Side → Sorted) (end : ℕ) (r : Gathering now place end) (slots : (side : Side) → HasSlots side (place side)) (clean : now.out.faulted ≡ false) (reader : Reader) (next : Sorted) (after : Slots) (goes : GoesOn now place end r slots clean reader next after) (has : Bool)
+      (says : has ≡ (is_head next.stand && bytes_eq (tool.key Second (line after next.standing)) (tool.key Second (line after 4)))) where
+    abbrev then_now : State
+    then_now = record { reader = put Second reader now.reader; out = now.out; store = after }
+
+    some_now : 0 < length (r.g ++ line now.store (place Second).standing ∷ [])
+    some_now = omega (arith, length_push r.g (line now.store (place Second).standing))
+
+    of_group : tool.key Second (line after 4) ≡ r.k
+    of_group = group_key (record { reader = put Second reader now.reader; out = now.out; store = after }) (put Second next place) (end + 1) r.k (both [] (r.g ++ line now.store (place Second).standing ∷ [])) goes.q some_now
+
+    pub gathers_on : has ≡ true → Gathering (record { reader = put Second reader now.reader; out = now.out; store = after }) (put Second next place) (end + 1)
+    gathers_on is =
+        let h = has_key next.stand (tool.key Second (line after next.standing)) (tool.key Second (line after 4)) (sym says ∙ is) in
+        record { k = r.k; g = r.g ++ line now.store (place Second).standing ∷ []; q = goes.q; head1 = goes.head1; key1 = goes.key1; head2 = h.0; key2 = h.1 ∙ of_group }
+
+    pub pairs_next : has ≡ false → Pairing (record { reader = put Second reader now.reader; out = now.out; store = after }) (put Second next place) (end + 1)
+    pairs_next is =
+        record {
+          k = r.k;
+          g = both [] (r.g ++ line now.store (place Second).standing ∷ []);
+          q = goes.q;
+          some = some_now;
+          above = is_past (record { reader = put Second reader now.reader; out = now.out; store = after }) (put Second next place) (end + 1) r.k (both [] (r.g ++ line now.store (place Second).standing ∷ [])) goes.q Second
+              (λ e same. lacks_key next.stand (tool.key Second (line after next.standing)) (tool.key Second (line after 4)) (sym says ∙ is) e (same ∙ sym of_group));
+          head1 = goes.head1;
+          key1 = goes.key1;
+        }
+
+  module _ (now : State) (place : Side → Sorted) (end : ℕ) (r : Pairing now place end) (slots : (side : Side) → HasSlots side (place side)) (new : Output)
+      (wrote : Wrote now.out new (text tool.end (pairs r.k (line now.store (place First).standing ∷ []) (r.g Second)))) (clean : now.out.faulted ≡ false) (reader : Reader) (next : Sorted) (after : Slots)
+      (comes : Comes (tool.key First) tool.cmp (place First) next (now.reader First) reader now.store after) (has : Bool) (says : has ≡ (is_head next.stand && bytes_eq (tool.key First (line after next.standing)) (tool.key Second (line after 4)))) where
+    went_on : (q : Grouped tool o pairs laws old unfailed (record { reader = put First reader now.reader; out = new; store = after }) (put First next place) end r.k (both (r.g First ++ line now.store (place First).standing ∷ []) (r.g Second))) × IsAbove tool.cmp (tool.key Second) r.k (q.d Second)
+    went_on = paired now place end r slots new wrote clean reader next after comes
+
+    of_pair : tool.key Second (line after 4) ≡ r.k
+    of_pair = group_key (record { reader = put First reader now.reader; out = new; store = after }) (put First next place) end r.k (both (r.g First ++ line now.store (place First).standing ∷ []) (r.g Second)) went_on.0 r.some
+
+    pub pairs_on : has ≡ true → Pairing (record { reader = put First reader now.reader; out = new; store = after }) (put First next place) end
+    pairs_on is =
+        let h = has_key next.stand (tool.key First (line after next.standing)) (tool.key Second (line after 4)) (sym says ∙ is) in
+        record { k = r.k; g = both (r.g First ++ line now.store (place First).standing ∷ []) (r.g Second); q = went_on.0; some = r.some; above = went_on.1; head1 = h.0; key1 = h.1 ∙ of_pair }
+
+    -- the slots of the group are still there
+    pub pair_end : (4 ≤ end) × (end ≤ length after.lines)
+    pair_end = (omega (arith, went_on.0.at), end_within (tool.key Second) old.store after went_on.0.ls (r.g Second) went_on.0.keeps end went_on.0.at)
+
+    pub group_closed : has ≡ false → ((side : Side) → HasSlots side (put First next place side)) → (cleared : Slots) → IsGroupCleared after cleared end → Between (record { reader = put First reader now.reader; out = new; store = cleared }) (put First next place)
+    group_closed is slots2 cleared clear =
+        let mine = is_past (record { reader = put First reader now.reader; out = new; store = after }) (put First next place) end r.k (both (r.g First ++ line now.store (place First).standing ∷ []) (r.g Second)) went_on.0 First
+        (λ e same. lacks_key next.stand (tool.key First (line after next.standing)) (tool.key Second (line after 4)) (sym says ∙ is) e (same ∙ sym of_pair)) in
+        closed (record { reader = put First reader now.reader; out = new; store = after }) (put First next place) end r.k (both (r.g First ++ line now.store (place First).standing ∷ []) (r.g Second)) went_on.0 slots2
+        (elim [ First ↦ omega (arith, length_push (r.g First) (line now.store (place First).standing)) | Second ↦ r.some ]) (elim [ First ↦ mine | Second ↦ went_on.1 ]) cleared clear
+
+  -- how many slots there are where no line could be gathered
+  pub gather_slots : (key : Key) (cmp : Cmp) (place next : Sorted) (was is : Reader) (before after : Slots) (end : ℕ) (fault : MergeFault) → Gathers key cmp place next was is before after end (Err fault) → 4 ≤ length before.lines → (length before.lines ≤ length after.lines) × (4 ≤ length after.lines)
+  gather_slots key cmp place next was is before after end fault (inl e) four = (e.refused.slots, omega (arith, e.refused.slots))
+  gather_slots key cmp place next was is before after end fault (inr e) four =
+      let count = breaks_slots Second place was is e.made after fault e.breaks in
+      let kept = kept_slots before e.made place.standing end e.kept in
+      (omega (arith, count, kept), omega (arith, count, kept))
+    where
+      kept_slots : (before made : Slots) (from to : ℕ) → IsKept before made from to → length before.lines ≤ length made.lines
+      kept_slots before made from to e = omega (arith, ap (λ (t : Slots). length t.lines) e.copied, length-set e.made.lines to (line e.made from), grown e.grown.grown)
+        where
+          grown : (e.made ≡ before) ⊎ (e.made ≡ with_added before) → length before.lines ≤ length e.made.lines
+          grown (inl h) = omega (arith, ap (λ (t : Slots). length t.lines) h)
+          grown (inr h) = omega (arith, ap (λ (t : Slots). length t.lines) h, length_push before.lines [])
+
+  -- ---- the phases
+
+  abbrev pub Phased : Phase → State → (Side → Sorted) → ℕ → Type 0
+  Phased phases.Between now place end = Between now place × (end ≡ 4)
+  Phased phases.Gathering now place end = Gathering now place end
+  Phased phases.Pairing now place end = Pairing now place end
+
+  module _ (phase : Phase) (now : State) (place : Side → Sorted) (end : ℕ) (r : Phased phase now place end) where
+    pub as_between : phase ≡ phases.Between → Between now place × (end ≡ 4)
+    as_between e = subst (λ t. Phased t now place end) e r
+
+    pub as_gathering : phase ≡ phases.Gathering → Gathering now place end
+    as_gathering e = subst (λ t. Phased t now place end) e r
+
+    pub as_pairing : phase ≡ phases.Pairing → Pairing now place end
+    as_pairing e = subst (λ t. Phased t now place end) e r
+
+    -- the slots of the group are there
+    pub end_in : (4 ≤ end) × (end ≤ length now.store.lines)
+    end_in = by phase r
+      where
+        by : (t : Phase) → Phased t now place end → (4 ≤ end) × (end ≤ length now.store.lines)
+        by phases.Between b = (omega (arith, b.1), omega (arith, b.1, b.0.keeps.four))
+        by phases.Gathering b = (omega (arith, b.q.at), end_within (tool.key Second) old.store now.store b.q.ls b.g b.q.keeps end b.q.at)
+        by phases.Pairing b = (omega (arith, b.q.at), end_within (tool.key Second) old.store now.store b.q.ls (b.g Second) b.q.keeps end b.q.at)
+
+    -- how many slots there are
+    pub at_least : length old.store.lines ≤ length now.store.lines
+    at_least = by phase r
+      where
+        by : (t : Phase) → Phased t now place end → length old.store.lines ≤ length now.store.lines
+        by phases.Between b = b.0.keeps.least
+        by phases.Gathering b = b.q.keeps.least
+        by phases.Pairing b = b.q.keeps.least
+
+abbrev pub rank : Phase → ℕ
+rank phases.Between = 1
+rank phases.Gathering = 0
+rank phases.Pairing = 0

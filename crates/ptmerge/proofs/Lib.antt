@@ -9,6 +9,7 @@ pub mod Got
 pub mod GroupSlots
 pub mod GroupStops
 pub mod GroupTurns
+pub mod JoinEntries
 pub mod JoinRows
 pub mod Least
 pub mod JoinSlots

@@ -1,11 +1,14 @@
 //! `join`.
-ghost use Rattle.std.specs.Prelude.{◌≡◌, ◌≤◌, ◌++◌, ◌∷◌, [], option_copied, false, true, length, OnOk, OnErr};
+ghost use Rattle.std.specs.Prelude.{◌≡◌, ◌≤◌, ℕ, List, ◌++◌, ◌∷◌, [], option_copied, false, true, length, OnOk, OnErr};
 ghost use Rattle.ptlangs.specs.Jobs.{join_job};
 ghost use Rattle.ptlines.specs.Outputs.{Wrote};
 ghost use Rattle.ptlines.specs.Slots.{line};
 ghost use Rattle.ptlines.specs.Text.{text};
-ghost use Rattle.ptmerge.specs.Groups.{group};
-ghost use Rattle.ptmerge.specs.Join.{alone_entry, entry, join_key, pairs_of};
+ghost use Rattle.ptlines.specs.Readers.{IsSound};
+ghost use Rattle.ptmerge.specs.Groups.{AddsLeast, group};
+ghost use Rattle.ptmerge.specs.Merges.{IsMerge, IsReady, Untouched, seen};
+ghost use Rattle.ptmerge.specs.declared.order.Side.{Side as Sided};
+ghost use Rattle.ptmerge.specs.Join.{alone_entry, entry, join_by, join_key, join_tool, pairs_of};
 ghost use Rattle.ptmerge.specs.JoinFields.{fields_left};
 ghost use Rattle.ptmerge.specs.LinePasses.{PassesLine};
 ghost use Rattle.ptmerge.specs.Sides.{both, other};
@@ -15,8 +18,10 @@ ghost use Rattle.ptmerge.specs.declared.sorted.Stand.TheVariants as stands;
 
 use crate::faults::MergeFault;
 use crate::fields::{nth_field, push_entry};
+use crate::groups::{clear_group, gather};
 use crate::merging::{Merge, Step};
 use crate::order::{Descending, FieldKeys, KeyOrder, Side};
+use crate::slots::clear_four;
 use ptlangs::jobs::JoinJob;
 use ptlines::{LineReader, Out, Sink, Source, Store, WriteFault};
 use std::alloc::Allocator;
@@ -162,4 +167,76 @@ fn pass_pairs<K: KeyOrder, A: Allocator + Copy, S: Source, R: Source, W: Sink>(
         Err(_) => return Err(MergeFault::Write),
     }
     merge.advance(Side::First, reader, store)
+}
+
+// What a turn of `join` does: goes between groups, gathers the second input's lines of a key, or pairs them.
+#[derive(Clone, Copy)]
+enum Phase {
+    Between,
+    Gathering,
+    Pairing,
+}
+
+// `join` in an order whose keys are the join fields, over readers whose ending is set.
+fn join_in_order<K: KeyOrder, A: Allocator + Copy, S: Source, R: Source, W: Sink>(
+    order: K,
+    job: &JoinJob<A>,
+    first: &mut LineReader<S, R>,
+    second: &mut LineReader<S, R>,
+    store: &mut Store<A>,
+    out: &mut Out<W>,
+) -> Result<(), MergeFault>
+    requires keys { (side : Sided) (line : List ℕ) → K.key_of order side line ≡ join_key (join_job job.now) side line }
+    requires ready { IsReady first.old second.old store.old }
+    requires sound { IsSound first.old × IsSound second.old }
+    requires ending { (first.old.ending ≡ (join_job job.now).end) × (second.old.ending ≡ (join_job job.now).end) }
+    requires writable { out.old.faulted ≡ false }
+    ensures merged { let tool = join_by (join_job job.now) (K.order order) (K.key_of order) in
+        let was = seen first.old second.old out.old store.old in
+        IsMerge tool was (seen first.new second.new out.new store.new) result }
+    ensures slots { AddsLeast store.old store.new 4 }
+{
+    let ending = first.ending();
+    let mut merge = Merge::start(order, first, second, store)?;
+    let mut phase = Phase::Between;
+    let mut end = 4;
+    'turns: loop {
+        match phase {
+            Phase::Between => match merge.step(store) {
+                Step::First => pass_alone(&mut merge, job, Side::First, ending, first, store, out)?,
+                Step::Second => pass_alone(
+                    &mut merge,
+                    job,
+                    Side::Second,
+                    ending,
+                    second,
+                    store,
+                    out,
+                )?,
+                Step::Both => phase = Phase::Gathering,
+                Step::End => {
+                    clear_four(store);
+                    return Ok(());
+                }
+                Step::Stop(side, number) => {
+                    clear_four(store);
+                    return Err(MergeFault::Disorder(side, number));
+                }
+            },
+            Phase::Gathering => {
+                end = gather(&mut merge, end, second, store)?;
+                if !merge.has_key_of(Side::Second, store.line(4), store) {
+                    phase = Phase::Pairing;
+                }
+            }
+            Phase::Pairing => {
+                pass_pairs(&mut merge, job, end, ending, first, store, out)?;
+                if !merge.has_key_of(Side::First, store.line(4), store) {
+                    clear_group(store, end);
+                    end = 4;
+                    phase = Phase::Between;
+                }
+            }
+        }
+    }
 }
