@@ -240,3 +240,47 @@ fn join_in_order<K: KeyOrder, A: Allocator + Copy, S: Source, R: Source, W: Sink
         }
     }
 }
+
+/// Pairs the lines of two inputs in order by their join fields, and writes a line for each pair: the join field, and
+/// then the other fields of each line, or the fields of the output list (XCU, `join`). Fields are what stands between
+/// blanks or separators. Keys come in order, pairs of one key by the first input's line and then the second one's, and
+/// lines that pair with none, where they are asked for, in the order of their input; a line without the join field has
+/// an empty key (this project's own choice). With `-r` the order is the reverse of byte order, and with `-z` lines end
+/// with byte 0 (its own options).
+///
+/// The slots 0 to 3 of the store are used, which are added before the first read where they are missing, and behind
+/// them a slot for each of the second input's lines of one key; after `Ok` and `Disorder` all are empty. A line that
+/// pairs with none is pushed before a line behind it is read. On an output that has failed nothing is done.
+/// # Errors
+/// `Read`, with the input, or `Write` where a read or a write failed; `Memory` where a growth of the store was refused,
+/// and the store is then denied; `Disorder`, with the input and the line, where an input is out of order: then all
+/// entries up to the last key in front of it are pushed (this project's own choice).
+pub fn join<A: Allocator + Copy, S: Source, R: Source, W: Sink>(
+    job: &JoinJob<A>,
+    first: &mut LineReader<S, R>,
+    second: &mut LineReader<S, R>,
+    store: &mut Store<A>,
+    out: &mut Out<W>,
+) -> Result<(), MergeFault>
+    requires { IsReady first.old second.old store.old }
+    ensures merged { let was = seen first.old second.old out.old store.old in
+        IsMerge (join_tool (join_job job.now)) was (seen first.new second.new out.new store.new) result }
+    ensures slots { out.old.faulted ≡ false → AddsLeast store.old store.new 4 }
+    ensures halted { let was = seen first.old second.old out.old store.old in
+        out.old.faulted ≡ true → Untouched was (seen first.new second.new out.new store.new) result }
+{
+    if out.has_failed() {
+        return Err(MergeFault::Write);
+    }
+    first.set_ending(job.zero);
+    second.set_ending(job.zero);
+    let keys = FieldKeys {
+        separator: job.sep,
+        first: job.field[0],
+        second: job.field[1],
+    };
+    if job.descending {
+        return join_in_order(Descending { of: keys }, job, first, second, store, out);
+    }
+    join_in_order(keys, job, first, second, store, out)
+}

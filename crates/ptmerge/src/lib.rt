@@ -1,4 +1,4 @@
-//! Two inputs in order, taken together by their keys, and `comm`.
+//! Two inputs in order, taken together by their keys: `comm` and `join`.
 #![tactic(auto)]
 
 mod common;
@@ -13,5 +13,6 @@ mod sorted;
 
 pub use common::comm;
 pub use faults::MergeFault;
+pub use joining::join;
 pub use merging::{Merge, Step};
 pub use order::{Descending, KeyOrder, Side, WholeLine};
