@@ -1,5 +1,5 @@
 -- What was pushed of some bytes, and what is still to be pushed.
-use Rattle.std.proofs.Common.{◌≡◌, true, false, ℕ, List, [], ◌++◌, refl, sym, ◌∙◌, ap, subst, append_assoc}
+use Rattle.std.proofs.Common.{◌≡◌, true, false, ℕ, List, [], ◌++◌, refl, sym, ◌∙◌, subst, append_assoc}
 use Rattle.std.proofs.lemmas.List.{append-nil}
 use Rattle.ptlines.specs.Outputs.{Output, Wrote}
 use Rattle.ptlines.proofs.Pushed.{wrote_trans, wrote_past, wrote_nothing}

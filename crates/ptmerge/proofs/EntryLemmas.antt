@@ -1,14 +1,14 @@
 -- What is written of lines, field by field.
-use Rattle.std.proofs.Common.{◌≡◌, ℕ, zero, suc, ◌+◌, ◌-◌, ◌<◌, ◌≤◌, ◌==◌, Bool, true, false, cond, List, [], ◌∷◌, ◌++◌, Option, None, Some, length, take, drop, get_or, map, refl, sym, ◌∙◌, ap, subst, arith, append_assoc}
+use Rattle.std.proofs.Common.{◌≡◌, ℕ, zero, suc, ◌+◌, ◌-◌, ◌<◌, ◌≤◌, ◌==◌, Bool, true, false, cond, List, [], ◌∷◌, ◌++◌, Option, None, Some, length, take, drop, get_or, map, refl, sym, ◌∙◌, ap, arith}
 use Rattle.std.specs.Prelude.{remove, unwrap_or}
-use Rattle.std.specs.List.{flat_map, slice_split, onto_first, join_with_byte}
+use Rattle.std.specs.List.{slice_split, onto_first, join_with_byte}
 use Rattle.std.proofs.lemmas.Bool.{eqb-true}
 use Rattle.std.proofs.lemmas.List.{append-nil, take_all}
 use Rattle.std.proofs.lemmas.List.Concat.{flat_map-append}
 use Rattle.ptlangs.specs.Jobs.{Join}
 use Rattle.ptlangs.specs.declared.outlist.OutField.{OutField}
-use Rattle.ptmerge.specs.Join.{between, entry, fields, filled, named, others, written}
-use Rattle.ptmerge.specs.JoinFields.{fields_left, led}
+use Rattle.ptmerge.specs.Join.{between, entry, filled, named, others, written}
+use Rattle.ptmerge.specs.JoinFields.{led}
 use Rattle.ptmerge.specs.Keyed.{Lines}
 
 -- with a separator in front, a line is its fields with a separator in front of each

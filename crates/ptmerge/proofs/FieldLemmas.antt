@@ -1,18 +1,13 @@
 -- The fields of a line, one after another, and what is written of them.
-use Rattle.std.proofs.Common.{◌≡◌, ℕ, zero, suc, ◌+◌, ◌-◌, ◌<◌, ◌≤◌, ◌==◌, Bool, true, false, ltb, cond, List, [], ◌∷◌, ◌++◌, Option, None, Some, length, take, drop, get_or, map, refl, sym, ◌∙◌, ap, subst, arith, append_assoc}
-use Rattle.std.specs.Prelude.{filter, remove, position}
-use Rattle.std.specs.List.{flat_map, slice_split, onto_first, join_with_byte, position_or_len}
-use Rattle.std.proofs.lemmas.Bool.{eqb-true, ltb-true}
+use Rattle.std.proofs.Common.{◌≡◌, ℕ, zero, suc, ◌+◌, ◌-◌, ◌<◌, ◌≤◌, ◌==◌, Bool, true, false, ltb, cond, List, [], ◌∷◌, Option, None, Some, length, drop, get_or, refl, sym, ◌∙◌, ap, arith}
+use Rattle.std.specs.Prelude.{filter, position}
+use Rattle.std.specs.List.{slice_split, position_or_len}
 use Rattle.std.proofs.lemmas.Bool.Decides.{nat_tests}
-use Rattle.std.proofs.lemmas.List.{append-nil, get_or-drop, drop-drop}
-use Rattle.std.proofs.lemmas.List.Concat.{flat_map-append}
+use Rattle.std.proofs.lemmas.List.{get_or-drop, drop-drop}
 use Rattle.std.proofs.lemmas.List.Sums.{position_or_len_is}
 use Rattle.memchr.specs.Find.{IsFirstByte, is_byte}
-use Rattle.ptlines.specs.Outputs.{Output, Wrote}
-use Rattle.ptlines.proofs.Pushed.{wrote_trans, wrote_past, wrote_nothing}
-use Rattle.ptlangs.specs.Jobs.{Join}
-use Rattle.ptmerge.specs.Join.{fields, nth_field, others, has_bytes, between}
-use Rattle.ptmerge.specs.JoinFields.{ends_field, fields_left, led}
+use Rattle.ptmerge.specs.Join.{fields, nth_field, has_bytes}
+use Rattle.ptmerge.specs.JoinFields.{ends_field, fields_left}
 use Rattle.ptmerge.specs.Keyed.{Lines}
 
 -- ---- where a field ends

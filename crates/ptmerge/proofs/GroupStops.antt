@@ -1,6 +1,6 @@
 -- A tool over two inputs that stops within a group of lines with one key: the keys below the group's are passed, and a
 -- beginning of the group's entries was pushed.
-use Rattle.std.proofs.Common.{arith, refl, ◌≡◌, ◌⊎◌, inl, inr, ℕ, ◌≤◌, ◌||◌, Bool, true, false, cond, List, [], ◌∷◌, ◌++◌, Option, Some, None, Result, Ok, Err, length, map, max, sym, ◌∙◌, ap, subst, append_assoc}
+use Rattle.std.proofs.Common.{◌≡◌, ℕ, ◌≤◌, ◌||◌, Bool, true, false, cond, List, [], ◌++◌, Some, None, Err, length, map, max, sym, ◌∙◌, ap, subst, append_assoc}
 use Rattle.std.specs.Prelude.{is_some}
 use Rattle.std.specs.List.{last_or}
 use Rattle.std.specs.Ordering.{is_lt}
@@ -23,7 +23,7 @@ use Rattle.ptmerge.proofs.Bounds.{Bound, Free, From, Fallen, Over, Coming, Falli
 use Rattle.ptmerge.proofs.Got.{More, Known, got_known, got_lines}
 use Rattle.ptmerge.proofs.Least.{EachKey, EachKey-append, EachKey-weaker}
 use Rattle.ptmerge.proofs.Orders.{IsKeyOrder, AtMost, at_most_trans, self_at_most}
-use Rattle.ptmerge.proofs.Passing.{Merging, both_under, down_decided, follows, not_below, not_decided}
+use Rattle.ptmerge.proofs.Passing.{Merging, down_decided, follows, not_below, not_decided}
 use Rattle.ptmerge.proofs.Splitting.{all_keys, all_wanted, down_begins, none_wanted, passed_is_wanted}
 use Rattle.ptmerge.proofs.Stopping.{Gone}
 

@@ -1,13 +1,13 @@
 -- A group of lines of one key: its lines are gathered, paired and closed.
-use Rattle.std.proofs.Common.{◌≡◌, ◌⊎◌, ⊎_elim, inl, inr, ℕ, ◌+◌, ◌*◌, ◌≤◌, ◌<◌, Bool, true, false, cond, List, [], ◌∷◌, ◌++◌, Option, Some, None, Result, Ok, Err, length, map, max, refl, sym, ◌∙◌, ap, subst, arith, append_assoc}
+use Rattle.std.proofs.Common.{◌≡◌, ◌⊎◌, ⊎_elim, inl, inr, ℕ, ◌+◌, ◌*◌, ◌≤◌, ◌<◌, Bool, true, false, cond, List, [], ◌∷◌, ◌++◌, Option, Some, None, Err, length, map, max, refl, sym, ◌∙◌, ap, subst, arith, append_assoc}
 use Rattle.std.specs.List.{last_or}
 use Rattle.std.proofs.lemmas.Bool.{false≢true}
-use Rattle.std.proofs.lemmas.List.{append-nil, length-set, length_push}
+use Rattle.std.proofs.lemmas.List.{append-nil}
 use Rattle.ptlines.specs.Outputs.{Output, Wrote}
 use Rattle.ptlines.specs.Readers.{Reader, Reads, HasReadCause}
 use Rattle.ptlines.specs.Slots.{Slots, line, with_line}
 use Rattle.ptlines.specs.Text.{text, IsLine, longest}
-use Rattle.ptlines.proofs.Pushed.{wrote_nothing, wrote_trans}
+use Rattle.ptlines.proofs.Pushed.{wrote_trans}
 use Rattle.ptlines.proofs.TextLaws.{text-append}
 use Rattle.ptmerge.specs.declared.faults.MergeFault.{MergeFault}
 use Rattle.ptmerge.specs.declared.faults.MergeFault.TheVariants.{Read, Write, Memory}
@@ -21,21 +21,20 @@ use Rattle.ptmerge.specs.Join.{largest_group}
 use Rattle.ptmerge.specs.Keyed.{Lines, Tool, by_keys, fall, with_key}
 use Rattle.ptmerge.specs.Merges.{State, IsMerge}
 use Rattle.ptmerge.specs.Orders.{Cmp, Key}
-use Rattle.ptmerge.specs.Places.{CannotRead, Comes, HasSlots, slot_of}
-use Rattle.ptmerge.specs.Sides.{both, put, other}
-use Rattle.ptmerge.proofs.Bounds.{Bound, From, Coming, Under, Begun, coming_none}
-use Rattle.ptmerge.proofs.Got.{More, reads_nothing}
+use Rattle.ptmerge.specs.Places.{CannotRead, HasSlots}
+use Rattle.ptmerge.specs.Sides.{put, other}
+use Rattle.ptmerge.proofs.Bounds.{Bound, From, Coming, Under}
+use Rattle.ptmerge.proofs.Got.{More}
 use Rattle.ptmerge.proofs.GroupStops.{FailsIn, StartsWith, Within, halts, under_down}
-use Rattle.ptmerge.proofs.JoinSlots.{Keeping, keeping_line}
+use Rattle.ptmerge.proofs.JoinSlots.{Keeping}
 use Rattle.ptmerge.proofs.Least.{EachKey, EachKey-append, EachKey-weaker, at_most-same, least_first, others_of, with_key-above, with_key-front}
-use Rattle.ptmerge.proofs.Orders.{IsKeyOrder, AtMost, Above, above_at_most, above_up, least_or_above, self_at_most}
-use Rattle.ptmerge.proofs.Pairs.{put_same, side_case}
+use Rattle.ptmerge.proofs.Orders.{IsKeyOrder, AtMost, Above, above_up, least_or_above, self_at_most}
+use Rattle.ptmerge.proofs.Pairs.{put_same}
 use Rattle.ptmerge.proofs.Passing.{Merging}
-use Rattle.ptmerge.proofs.Slotted.{line_other}
 use Rattle.ptmerge.proofs.Splitting.{all_keys, splits_step}
-use Rattle.ptmerge.proofs.Standing.{Next, Passed, Stands, goes_next, passed}
+use Rattle.ptmerge.proofs.Standing.{Passed, Stands}
 use Rattle.ptmerge.proofs.Stopping.{Gone, gone_passed, gone_standing}
-use Rattle.ptmerge.proofs.Turning.{BothStand, IsAbove, IsLineByLine, next_at, own_slots, passed_at, sides_on}
+use Rattle.ptmerge.proofs.Turning.{BothStand, IsAbove, IsLineByLine, passed_at}
 
 -- what is written of a key that both inputs have: its pairs
 pub record IsPairing (tool : Tool) (pairs : List ℕ → Lines → Lines → Lines) : Type 0 where

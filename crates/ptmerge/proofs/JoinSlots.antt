@@ -1,8 +1,8 @@
 -- What the store of `join` holds: two lines of each input, and behind them the group.
-use Rattle.std.proofs.Common.{◌≡◌, ◌⊎◌, inl, inr, ℕ, zero, suc, ◌+◌, ◌*◌, ◌-◌, ◌≤◌, ◌<◌, Bool, true, false, cond, List, [], ◌∷◌, ◌++◌, length, max, map, take, drop, get_or, set, refl, sym, ap, ◌∙◌, subst, arith, append_assoc, length-append, length-drop}
+use Rattle.std.proofs.Common.{◌≡◌, ◌⊎◌, inl, inr, ℕ, ◌+◌, ◌*◌, ◌-◌, ◌≤◌, ◌<◌, Bool, true, false, cond, List, [], ◌∷◌, ◌++◌, length, max, take, drop, get_or, set, refl, sym, ap, ◌∙◌, subst, arith, append_assoc, length-append, length-drop}
 use Rattle.std.specs.Prelude.{bytes_eq}
 use Rattle.std.specs.Cmp.Lexicographic.{bytes_decides}
-use Rattle.std.proofs.lemmas.List.{append-nil, length-set, drop-set-add, drop-set-lt, length_push}
+use Rattle.std.proofs.lemmas.List.{length-set, drop-set-add, drop-set-lt, length_push}
 use Rattle.std.proofs.lemmas.List.Sums.{sum_by-append, sum_by_push, sum_by-cons}
 use Rattle.std.proofs.Math.ListN.{get_or-append}
 use Rattle.ptlines.specs.Slots.{Slots, line, total, with_line, with_added}
@@ -10,11 +10,11 @@ use Rattle.ptlines.specs.Text.{longest}
 use Rattle.ptmerge.specs.declared.order.Side.{Side}
 use Rattle.ptmerge.specs.declared.order.Side.TheVariants.{First, Second}
 use Rattle.ptmerge.specs.declared.sorted.Sorted.{Sorted}
-use Rattle.ptmerge.specs.Groups.{IsGroupCleared, IsGrown, IsKept, group}
+use Rattle.ptmerge.specs.Groups.{IsGroupCleared, IsKept, group}
 use Rattle.ptmerge.specs.Join.{largest_group, largest_of}
 use Rattle.ptmerge.specs.Keyed.{Lines, with_key}
 use Rattle.ptmerge.specs.Orders.{Key}
-use Rattle.ptmerge.specs.Places.{HasSlots, slot_of}
+use Rattle.ptmerge.specs.Places.{HasSlots}
 use Rattle.ptmerge.proofs.Least.{EachKey}
 use Rattle.ptmerge.proofs.Slotted.{HasLines, Keeps, has_lines_total, line_other, set_line}
 

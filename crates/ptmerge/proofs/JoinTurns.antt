@@ -4,7 +4,6 @@ use Rattle.std.specs.Prelude.{bytes_eq}
 use Rattle.std.specs.Cmp.Lexicographic.{bytes_decides}
 use Rattle.std.proofs.lemmas.Bool.{false≢true}
 use Rattle.std.proofs.lemmas.List.{append-nil, get_or-drop, length-set, length_push}
-use Rattle.std.proofs.lemmas.List.Sums.{sum_by-append}
 use Rattle.ptlines.specs.Outputs.{Output, Wrote}
 use Rattle.ptlines.specs.Readers.{Reader, Reads, IsSound}
 use Rattle.ptlines.specs.Slots.{Slots, line, total, with_added, with_line}
@@ -21,20 +20,20 @@ use Rattle.ptmerge.specs.declared.order.Side.TheVariants.{First, Second}
 use Rattle.ptmerge.specs.declared.sorted.Sorted.{Sorted}
 use Rattle.ptmerge.specs.declared.sorted.Stand.{Stand}
 use Rattle.ptmerge.specs.declared.sorted.Stand.TheVariants.{Head, Ended, Disorder}
-use Rattle.ptmerge.specs.Groups.{Gathered, Gathers, IsGroupCleared, IsKept, IsRefused, NotKept, NotRead, group, is_head}
+use Rattle.ptmerge.specs.Groups.{Gathered, Gathers, IsGroupCleared, IsKept, is_head}
 use Rattle.ptmerge.specs.Join.{largest_group}
 use Rattle.ptmerge.specs.Keyed.{Lines, Tool, by_keys}
 use Rattle.ptmerge.specs.LinePasses.{PassesLine}
 use Rattle.ptmerge.specs.Merges.{State, Ends, IsMerge}
 use Rattle.ptmerge.specs.Orders.{Cmp, Key}
-use Rattle.ptmerge.specs.Places.{CannotRead, Comes, HasSlots, slot_of}
+use Rattle.ptmerge.specs.Places.{CannotRead, Comes, HasSlots}
 use Rattle.ptmerge.specs.Sides.{both, put, other}
 use Rattle.ptmerge.specs.Steps.{AreEqual, IsAlone, IsDecided}
 use Rattle.ptmerge.specs.Stores.{IsCleared}
 use Rattle.ptmerge.proofs.Bounds.{Bound, From, Begun}
 use Rattle.ptmerge.proofs.CommTurns.{Running, breaks_slots, same_reader}
-use Rattle.ptmerge.proofs.Got.{More, reads_nothing}
-use Rattle.ptmerge.proofs.GroupStops.{Within, halts}
+use Rattle.ptmerge.proofs.Got.{reads_nothing}
+use Rattle.ptmerge.proofs.GroupStops.{halts}
 use Rattle.ptmerge.proofs.GroupTurns.{Grouped, IsPairing, closes, group_breaks, own_more, passing, past_group, standing, starts}
 use Rattle.ptmerge.proofs.JoinSlots.{Keeping, Kept, end_within, group_in, keeping_cleared, keeping_kept, keeping_line, keeping_starts}
 use Rattle.ptmerge.proofs.Least.{EachKey}
@@ -43,7 +42,7 @@ use Rattle.ptmerge.proofs.Pairs.{put_each, put_other, put_same}
 use Rattle.ptmerge.proofs.Passing.{Merging}
 use Rattle.ptmerge.proofs.Slotted.{has_lines_total, line_other}
 use Rattle.ptmerge.proofs.Splitting.{all_keys}
-use Rattle.ptmerge.proofs.Standing.{Next, Sided, passed, sided_keeps}
+use Rattle.ptmerge.proofs.Standing.{Sided, sided_keeps}
 use Rattle.ptmerge.proofs.Stopping.{Concludes, Gone, gone_passed, gone_standing, stops}
 use Rattle.ptmerge.proofs.Turning.{BothStand, IsAbove, ahead, all_ended, alone, breaks, merging_on, next_at, own_slots, pass_one, passed_at, sides_on, stops_at}
 

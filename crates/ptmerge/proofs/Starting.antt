@@ -12,7 +12,6 @@ use Rattle.ptmerge.specs.declared.order.Side.TheVariants.{First, Second}
 use Rattle.ptmerge.specs.declared.sorted.Sorted.{Sorted}
 use Rattle.ptmerge.specs.Keyed.{Lines, Tool}
 use Rattle.ptmerge.specs.Merges.{State, IsMerge}
-use Rattle.ptmerge.specs.Orders.{Cmp, Key}
 use Rattle.ptmerge.specs.Places.{CannotRead, Comes, HasSlots, fresh, slot_of}
 use Rattle.ptmerge.specs.Sides.{both}
 use Rattle.ptmerge.specs.Steps.{Inputs, CannotStart, Starts, IsUnslotted}

@@ -1,5 +1,5 @@
 -- The second input's lines of one key, in the slots behind the first four.
-use Rattle.std.specs.Prelude.{◌≡◌, ◌⊎◌, ℕ, ◌+◌, ◌-◌, ◌≤◌, ◌<◌, ◌&&◌, List, [], true, false, Bool, length, take, drop, max, bytes_eq, Result, Ok, Err}
+use Rattle.std.specs.Prelude.{◌≡◌, ◌⊎◌, ℕ, ◌+◌, ◌-◌, ◌≤◌, ◌<◌, true, false, Bool, length, take, drop, max, Result, Ok, Err}
 use Rattle.ptlines.specs.Readers.{Reader}
 use Rattle.ptlines.specs.Slots.{Slots, line, total, with_line, with_added}
 use Rattle.ptmerge.specs.declared.faults.MergeFault.{MergeFault}

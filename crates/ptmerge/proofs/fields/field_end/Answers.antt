@@ -1,4 +1,3 @@
-use Rattle.std.proofs.Common.{◌≡◌}
 use Rattle.ptmerge.proofs.FieldLemmas.{found_at}
 use Rattle.ptmerge.proofs.fields.field_end.Goals as goal
 

@@ -1,4 +1,4 @@
-use Rattle.std.proofs.Common.{◌≡◌, sym, ◌∙◌}
+use Rattle.std.proofs.Common.{sym, ◌∙◌}
 use Rattle.ptlangs.proofs.Elements.{split_whole, split_around}
 use Rattle.ptmerge.specs.JoinFields.{ends_field}
 use Rattle.ptmerge.proofs.fields.first_piece.Goals as goal

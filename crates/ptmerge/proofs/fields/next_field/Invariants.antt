@@ -1,4 +1,4 @@
-use Rattle.std.proofs.Common.{◌≡◌, ℕ, suc, List, Option, Some, None, length, option_copied}
+use Rattle.std.proofs.Common.{◌≡◌, option_copied}
 use Rattle.ptmerge.specs.JoinFields.{fields_left}
 use Rattle.ptmerge.proofs.FieldLemmas.{left_length}
 use Rattle.ptmerge.proofs.fields.next_field.Given as goal

@@ -1,6 +1,6 @@
-use Rattle.std.proofs.Common.{◌≡◌, ◌∙◌, option_copied}
+use Rattle.std.proofs.Common.{◌∙◌, option_copied}
 use Rattle.ptmerge.specs.JoinFields.{fields_left}
-use Rattle.ptmerge.proofs.FieldLemmas.{dropped_more, dropped_none, nth_none, nth_some}
+use Rattle.ptmerge.proofs.FieldLemmas.{dropped_more}
 use Rattle.ptmerge.proofs.fields.nth_field.Goals as goal
 
 pub loop-passed-preserved : goal.loop-passed-preserved

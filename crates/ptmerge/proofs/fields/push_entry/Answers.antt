@@ -1,6 +1,5 @@
-use Rattle.std.proofs.Common.{◌≡◌, ◌++◌, List, ℕ, sym, ◌∙◌, subst, option_copied}
+use Rattle.std.proofs.Common.{◌++◌, option_copied}
 use Rattle.ptlangs.specs.Jobs.{join_job}
-use Rattle.ptlines.specs.Outputs.{Wrote}
 use Rattle.ptmerge.specs.Join.{between, entry, others}
 use Rattle.ptmerge.specs.JoinFields.{fields_left, led}
 use Rattle.ptmerge.proofs.Amid.{amid_as, amid_more, amid_fails, amid_starts, amid_ends}

@@ -1,5 +1,4 @@
-use Rattle.std.proofs.Common.{◌≡◌, ℕ, List, [], ◌∷◌, ◌++◌, subst}
-use Rattle.ptlines.specs.Outputs.{Wrote}
+use Rattle.std.proofs.Common.{[], ◌∷◌}
 use Rattle.ptlines.proofs.Pushed.{wrote_trans, wrote_past}
 use Rattle.ptmerge.proofs.fields.push_led.Goals as goal
 

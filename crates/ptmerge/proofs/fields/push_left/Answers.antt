@@ -1,4 +1,3 @@
-use Rattle.std.proofs.Common.{◌≡◌, sym}
 use Rattle.ptmerge.proofs.EntryLemmas.{led_fields}
 use Rattle.ptmerge.proofs.fields.push_left.Goals as goal
 

@@ -1,4 +1,4 @@
-use Rattle.std.proofs.Common.{◌≡◌, ◌-◌, ◌∷◌, ◌++◌, ℕ, List, ap, sym, subst, take, drop, map, length, option_copied, ◌∙◌}
+use Rattle.std.proofs.Common.{◌-◌, ◌∷◌, ◌++◌, ℕ, sym, subst, take, drop, map, length, option_copied, ◌∙◌}
 use Rattle.ptlangs.specs.Jobs.{join_job}
 use Rattle.ptlangs.specs.declared.outlist.OutField.{OutField}
 use Rattle.ptlines.specs.Outputs.{Wrote}

@@ -1,4 +1,4 @@
-use Rattle.std.proofs.Common.{◌≡◌, ◌-◌, ◌+◌, ◌∷◌, ◌++◌, ℕ, List, ap, sym, subst, arith, option_copied, ◌∙◌}
+use Rattle.std.proofs.Common.{◌-◌, ◌+◌, ◌∷◌, ◌++◌, ℕ, sym, subst, arith, option_copied, ◌∙◌}
 use Rattle.std.specs.Prelude.{remove}
 use Rattle.ptlines.specs.Outputs.{Wrote}
 use Rattle.ptmerge.specs.Join.{between, others}

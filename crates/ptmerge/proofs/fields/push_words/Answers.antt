@@ -1,4 +1,4 @@
-use Rattle.std.proofs.Common.{◌≡◌, ◌∷◌, ◌++◌, ap, None, Some, option_copied}
+use Rattle.std.proofs.Common.{◌∷◌, ◌++◌, ap, None, Some, option_copied}
 use Rattle.ptmerge.specs.JoinFields.{fields_left, led}
 use Rattle.ptmerge.specs.Keyed.{Lines}
 use Rattle.ptmerge.proofs.Amid.{amid_as, amid_more, amid_fails}

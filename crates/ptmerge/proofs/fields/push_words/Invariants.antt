@@ -2,7 +2,6 @@ use Rattle.std.proofs.Common.{None, Some, option_copied}
 use Rattle.ptmerge.specs.JoinFields.{fields_left, led}
 use Rattle.ptmerge.proofs.Amid.{Amid}
 use Rattle.std.proofs.Common.{length}
-use Rattle.ptmerge.proofs.FieldLemmas.{left_length}
 use Rattle.ptmerge.proofs.fields.push_words.Given as goal
 
 abbrev pub invariant-words : goal.invariant-words

@@ -1,5 +1,4 @@
-use Rattle.std.proofs.Common.{◌≡◌, ℕ, arith, subst}
-use Rattle.ptmerge.specs.Groups.{IsGroupCleared}
+use Rattle.std.proofs.Common.{arith}
 use Rattle.ptmerge.proofs.GroupSlots.{clears_none, clears_more}
 use Rattle.ptmerge.proofs.groups.clear_group.Goals as goal
 

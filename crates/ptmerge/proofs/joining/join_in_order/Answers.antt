@@ -1,28 +1,25 @@
-use Rattle.std.proofs.Common.{◌≡◌, ◌+◌, ◌&&◌, ◌≤◌, ℕ, Bool, true, false, List, [], ◌∷◌, ◌++◌, Ok, Err, length, max, refl, sym, ◌∙◌, ap, subst, arith}
+use Rattle.std.proofs.Common.{◌≡◌, ◌+◌, ◌&&◌, ℕ, List, [], ◌∷◌, Err, refl, sym, ◌∙◌, ap, subst, arith}
 use Rattle.std.specs.Prelude.{bytes_eq}
 use Rattle.std.proofs.lemmas.Result.{err_from_is_err_and}
 use Rattle.ptlangs.specs.Jobs.{join_job}
-use Rattle.ptlines.specs.Outputs.{Wrote}
 use Rattle.ptlines.specs.Readers.{Reader, IsSound}
 use Rattle.ptlines.specs.Slots.{line}
-use Rattle.ptlines.specs.Text.{text}
-use Rattle.ptmerge.specs.declared.faults.MergeFault.TheVariants.{Disorder}
 use Rattle.ptmerge.specs.declared.joining.Phase.{Phase}
 use Rattle.ptmerge.specs.declared.order.Side.{Side}
 use Rattle.ptmerge.specs.declared.order.Side.TheVariants as sides
 use Rattle.ptmerge.specs.declared.sorted.Sorted.{Sorted}
-use Rattle.ptmerge.specs.Groups.{AddsLeast, Gathered, Gathers, group, is_head}
+use Rattle.ptmerge.specs.Groups.{Gathered, Gathers, group, is_head}
 use Rattle.ptmerge.specs.Join.{alone_entry, join_by, join_key, pairs_of}
 use Rattle.ptmerge.specs.Keyed.{by_keys}
 use Rattle.ptmerge.specs.LinePasses.{PassesLine}
-use Rattle.ptmerge.specs.Merges.{IsMerge, seen}
+use Rattle.ptmerge.specs.Merges.{seen}
 use Rattle.ptmerge.specs.Places.{Comes, HasSlots}
 use Rattle.ptmerge.specs.Sides.{both}
-use Rattle.ptmerge.specs.Steps.{AreEqual, IsAlone, IsDecided, IsLent, IsNext, IsPlaced, inputs}
+use Rattle.ptmerge.specs.Steps.{AreEqual, IsAlone, IsDecided, IsLent, inputs}
 use Rattle.ptmerge.proofs.CommTurns.{comes_slots, readable_of, slots_of, unfailed_of, wrote_as}
 use Rattle.ptmerge.proofs.JoinEntries.{join_pairs, written_alone}
 use Rattle.ptmerge.proofs.JoinSlots.{group_is}
-use Rattle.ptmerge.proofs.JoinTurns.{Between, Gathering, Pairing, Phased, alone_on, alone_stops, as_between, as_gathering, as_pairing, at_least, end_in, ended, fallen, gather_slots, gathered, gathers_on, group_closed, not_gathered, opens, pair_end, pair_stops, pairs_next, pairs_on, starts_between}
+use Rattle.ptmerge.proofs.JoinTurns.{Between, Gathering, Pairing, Phased, alone_on, alone_stops, as_between, as_gathering, as_pairing, at_least, end_in, ended, fallen, gather_slots, gathered, gathers_on, group_closed, not_gathered, opens, pair_stops, pairs_next, pairs_on, starts_between}
 use Rattle.ptmerge.proofs.Orders.{IsKeyOrder}
 use Rattle.ptmerge.proofs.Pairs.{both_each}
 use Rattle.ptmerge.proofs.Splitting.{all_keys}

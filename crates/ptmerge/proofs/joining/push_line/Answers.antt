@@ -1,4 +1,4 @@
-use Rattle.std.proofs.Common.{◌≡◌, [], ◌∷◌, option_copied}
+use Rattle.std.proofs.Common.{[], ◌∷◌, option_copied}
 use Rattle.ptlangs.specs.Jobs.{join_job}
 use Rattle.ptlines.proofs.Pushed.{wrote_trans, wrote_past}
 use Rattle.ptmerge.specs.Join.{entry}

@@ -1,6 +1,5 @@
-use Rattle.std.proofs.Common.{◌≡◌, ◌-◌, ◌+◌, ◌++◌, [], ◌∷◌, Bool, true, List, ℕ, Some, ap, arith, sym, ◌∙◌, map, drop, subst}
+use Rattle.std.proofs.Common.{◌-◌, ◌+◌, ◌++◌, [], ◌∷◌, List, ℕ, ap, arith, sym, map, drop}
 use Rattle.ptlangs.specs.Jobs.{join_job}
-use Rattle.ptlines.specs.Outputs.{Wrote}
 use Rattle.ptlines.specs.Slots.{line}
 use Rattle.ptlines.specs.Text.{text}
 use Rattle.ptmerge.specs.declared.order.Side.TheVariants.{First}
