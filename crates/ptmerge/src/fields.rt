@@ -19,6 +19,7 @@ fn is_blank(byte: u8) -> bool
 }
 
 // The place where the first field of these bytes ends, if anything ends it.
+#[inline(always)]
 fn field_end(separator: Option<u8>, bytes: &[u8]) -> Option<usize>
     ensures { result ≡ position (ends_field separator) bytes.now }
 {
@@ -29,6 +30,7 @@ fn field_end(separator: Option<u8>, bytes: &[u8]) -> Option<usize>
 }
 
 // What stands in front of the first byte that ends a field, and what is left behind it, if there is one.
+#[inline(always)]
 fn first_piece(separator: Option<u8>, bytes: &[u8]) -> (&[u8], Option<&[u8]>)
     ensures first { MatchOption result.1
         (slice_split (ends_field separator) bytes.now ≡ result.0.now ∷ [])
@@ -63,8 +65,21 @@ fn next_field<'a>(
     None
 }
 
+// The first field of a line, or nothing where it has none. Apart from the others, as most join fields are the first.
+#[inline(always)]
+fn first_field(separator: Option<u8>, line: &[u8]) -> &[u8]
+    ensures { result.now ≡ nth_field 1 (fields_left separator (Some line.now)) }
+{
+    let (field, _) = first_piece(separator, line);
+    if field.is_empty() && separator.is_none() {
+        return later_field(separator, 1, Some(line));
+    }
+    field
+}
+
 // The field of a line with this number, or nothing where it is not there.
-pub(crate) fn nth_field<'a>(separator: Option<u8>, number: u64, line: Option<&'a [u8]>) -> &'a [u8]
+#[inline(never)]
+fn later_field<'a>(separator: Option<u8>, number: u64, line: Option<&'a [u8]>) -> &'a [u8]
     ensures { result.now ≡ nth_field number (fields_left separator (option_copied line.entry)) }
 {
     let mut left = line;
@@ -77,6 +92,17 @@ pub(crate) fn nth_field<'a>(separator: Option<u8>, number: u64, line: Option<&'a
     match next_field(separator, left) {
         Some((field, _)) => field,
         None => b"",
+    }
+}
+
+// The field of a line with this number, or nothing where it is not there.
+#[inline(always)]
+pub(crate) fn nth_field<'a>(separator: Option<u8>, number: u64, line: Option<&'a [u8]>) -> &'a [u8]
+    ensures { result.now ≡ nth_field number (fields_left separator (option_copied line.entry)) }
+{
+    match line {
+        Some(bytes) if number <= 1 => first_field(separator, bytes),
+        _ => later_field(separator, number, line),
     }
 }
 

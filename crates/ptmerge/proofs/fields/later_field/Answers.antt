@@ -1,7 +1,7 @@
 use Rattle.std.proofs.Common.{◌∙◌, option_copied}
 use Rattle.ptmerge.specs.JoinFields.{fields_left}
 use Rattle.ptmerge.proofs.FieldLemmas.{dropped_more}
-use Rattle.ptmerge.proofs.fields.nth_field.Goals as goal
+use Rattle.ptmerge.proofs.fields.later_field.Goals as goal
 
 pub loop-passed-preserved : goal.loop-passed-preserved
 loop-passed-preserved c =
