@@ -46,7 +46,7 @@ pub record Running (tool : Tool) (old now : State) (place : Side → Sorted) : T
   pub keeps : Keeps old.store now.store (λ side. longest (ls side))
 
 -- nothing was read of this input
-same_reader : (s : Side) (reader : Reader) (f : Side → Reader) → reader ≡ f s → f ≡ put s reader f
+pub same_reader : (s : Side) (reader : Reader) (f : Side → Reader) → reader ≡ f s → f ≡ put s reader f
 same_reader s reader f same = λ i side. each s same side i
   where
     each : (t : Side) → reader ≡ f t → (side : Side) → f side ≡ put t reader f side

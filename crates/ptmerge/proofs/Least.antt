@@ -198,13 +198,13 @@ module _ (tool : Tool) (o : IsKeyOrder tool.cmp) where
       by false h = let n = with_key_none (tool.key First) (tool.key Second) k (ls First) (ls Second) h in ap (λ l. l ++ over w ls ds) (sym (nothing (w k) n.0 n.1))
 
   -- lines of one key, in front of lines of no lesser keys
-  with_key-front : (key : Key) (k : List ℕ) (f r : Lines) → EachKey (λ x. x ≡ k) key f → (with_key key (f ++ r) k ≡ f ++ with_key key r k) × (without key k (f ++ r) ≡ without key k r)
+  pub with_key-front : (key : Key) (k : List ℕ) (f r : Lines) → EachKey (λ x. x ≡ k) key f → (with_key key (f ++ r) k ≡ f ++ with_key key r k) × (without key k (f ++ r) ≡ without key k r)
   with_key-front key k [] r e = (refl, refl)
   with_key-front key k (x ∷ f) r e =
       let ih = with_key-front key k f r e.1 in
       rw ((bytes_decides (key x) k).1 e.0) (ap (λ l. x ∷ l) ih.0, ih.1)
 
-  at_most-same : (key : Key) (k : List ℕ) (f r : Lines) → EachKey (λ x. x ≡ k) key f → EachKey (AtMost tool.cmp k) key r → EachKey (AtMost tool.cmp k) key (f ++ r)
+  pub at_most-same : (key : Key) (k : List ℕ) (f r : Lines) → EachKey (λ x. x ≡ k) key f → EachKey (AtMost tool.cmp k) key r → EachKey (AtMost tool.cmp k) key (f ++ r)
   at_most-same key k [] r e h = h
   at_most-same key k (x ∷ f) r e h = (subst (AtMost tool.cmp k) (sym e.0) (self_at_most tool.cmp o k), at_most-same key k f r e.1 h)
 

@@ -1,10 +1,19 @@
+pub mod Amid
 pub mod Bounds
 pub mod CommEntries
 pub mod CommRows
-pub mod CommStarts
 pub mod CommTurns
+pub mod EntryLemmas
+pub mod FieldLemmas
 pub mod Got
+pub mod GroupSlots
+pub mod GroupStops
+pub mod GroupTurns
+pub mod JoinEntries
+pub mod JoinRows
 pub mod Least
+pub mod JoinSlots
+pub mod JoinTurns
 pub mod LineLaws
 pub mod Passing
 pub mod Orders
@@ -12,5 +21,6 @@ pub mod Pairs
 pub mod Slotted
 pub mod Splitting
 pub mod Standing
+pub mod Starting
 pub mod Stopping
 pub mod Turning

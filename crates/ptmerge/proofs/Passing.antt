@@ -70,7 +70,7 @@ follows (From k) w h = tt
 follows (Fallen d) w h = tt
 follows Over w h = h refl
 
-both_under : (key : Key) (P Q R : List ℕ → Type 0) → ((k : List ℕ) → P k → Q k → R k) → (xs : Lines) → EachKey P key xs → EachKey Q key xs → EachKey R key xs
+pub both_under : (key : Key) (P Q R : List ℕ → Type 0) → ((k : List ℕ) → P k → Q k → R k) → (xs : Lines) → EachKey P key xs → EachKey Q key xs → EachKey R key xs
 both_under key P Q R f [] p q = tt
 both_under key P Q R f (x ∷ xs) p q = (f (key x) p.0 q.0, both_under key P Q R f xs p.1 q.1)
 
@@ -80,7 +80,7 @@ last_has key P last [] x e f h = f x e
 last_has key P last (y ∷ xs) x e f h = last_has key P (Some (key y)) xs x e (λ z same. (let is : key y ≡ z = cc in subst P is h.0)) h.1
 
 module _ (cmp : Cmp) (o : IsKeyOrder cmp) where
-  not_below : (k x : List ℕ) → AtMost cmp x k → is_lt (cmp k x) ≡ false
+  pub not_below : (k x : List ℕ) → AtMost cmp x k → is_lt (cmp k x) ≡ false
   not_below k x h = by (cmp k x) refl
     where
       by : (r : Ordering) → cmp k x ≡ r → is_lt r ≡ false
@@ -147,7 +147,7 @@ and_false true false z e = refl
 and_false false y z e = refl
 
 module _ (tool : Tool) (o : IsKeyOrder tool.cmp) (ended : Side → Bool) (ls : Side → Lines) where
-  down_decided : IsDown tool.cmp (is_decided tool ended ls)
+  pub down_decided : IsDown tool.cmp (is_decided tool ended ls)
   down_decided a b g h =
       let up : (List ℕ → Bool) = up_to tool.cmp (disorder tool ls) in
       let past : (Side → List ℕ → Bool) = λ side. is_past tool.cmp (tool.key side) (ended side) (ls side) in
@@ -155,7 +155,7 @@ module _ (tool : Tool) (o : IsKeyOrder tool.cmp) (ended : Side → Bool) (ls : S
       (down_past tool.cmp o (tool.key Second) (ended Second) (ls Second) a b g) h
 
   -- no key is decided that is not past in this input
-  not_decided : (side : Side) (k : List ℕ) → is_past tool.cmp (tool.key side) (ended side) (ls side) k ≡ false → is_decided tool ended ls k ≡ false
+  pub not_decided : (side : Side) (k : List ℕ) → is_past tool.cmp (tool.key side) (ended side) (ls side) k ≡ false → is_decided tool ended ls k ≡ false
   not_decided First k e =
       and_false (up_to tool.cmp (disorder tool ls) k) (is_past tool.cmp (tool.key First) (ended First) (ls First) k) (is_past tool.cmp (tool.key Second) (ended Second) (ls Second) k) (inl e)
   not_decided Second k e =

@@ -4,7 +4,7 @@ use Rattle.std.specs.Prelude.{nat_lt}
 use Rattle.std.specs.Ordering.{is_gt}
 use Rattle.std.proofs.lemmas.Bool.{false≢true}
 use Rattle.std.proofs.lemmas.Bool.Decides.{nat_tests}
-use Rattle.std.proofs.lemmas.List.{length_push}
+use Rattle.std.proofs.lemmas.List.{append-nil, length_push}
 use Rattle.ptlines.specs.Fills.{GivesLine}
 use Rattle.ptlines.specs.Readers.{Reader, IsDone, budget}
 use Rattle.ptlines.specs.Slots.{Slots, line, with_line}
@@ -89,6 +89,8 @@ pub record Next (end : ℕ) (cmp : Cmp) (key : Key) (old new : Reader) (place : 
   pub bytes : List ℕ
   pub stored : after ≡ with_line before slot bytes
   pub longer : longest ls ≤ longest now_ls
+  pub more : Lines
+  pub goes_on : now_ls ≡ ls ++ more
   pub fits : length bytes ≤ longest now_ls
 
 stand_is : (cmp : Cmp) (key : Key) (last : Option (List ℕ)) (place : Sorted) (store : Slots) (next : List ℕ) → LastIs key last place store
@@ -144,6 +146,8 @@ module _ (end : ℕ) (cmp : Cmp) (o : IsKeyOrder cmp) (key : Key) (old now new :
         bytes = e.line;
         stored = e.stored;
         longer = (longer_by e.line).0;
+        more = e.line ∷ [];
+        goes_on = refl;
         fits = (longer_by e.line).1;
       }
 
@@ -172,6 +176,8 @@ module _ (end : ℕ) (cmp : Cmp) (o : IsKeyOrder cmp) (key : Key) (old now new :
             bytes = e.line;
             stored = e.stored;
             longer = (longer_by e.line).0;
+            more = e.line ∷ [];
+            goes_on = refl;
             fits = (longer_by e.line).1;
           }
 
@@ -190,6 +196,8 @@ module _ (end : ℕ) (cmp : Cmp) (o : IsKeyOrder cmp) (key : Key) (old now new :
     bytes = [];
     stored = e.empty;
     longer = omega arith;
+    more = [];
+    goes_on = sym (append-nil ls);
     fits = omega arith;
   }
     where

@@ -1,5 +1,8 @@
 pub mod Comm
 pub mod Exact
+pub mod Groups
+pub mod Join
+pub mod JoinFields
 pub mod Keyed
 pub mod LinePasses
 pub mod Merges

@@ -1,8 +1,11 @@
-//! Two inputs in order, taken together by their keys, and `comm`.
+//! Two inputs in order, taken together by their keys: `comm` and `join`.
 #![tactic(auto)]
 
 mod common;
 mod faults;
+mod fields;
+mod groups;
+mod joining;
 mod merging;
 mod order;
 mod slots;
@@ -10,5 +13,6 @@ mod sorted;
 
 pub use common::comm;
 pub use faults::MergeFault;
+pub use joining::join;
 pub use merging::{Merge, Step};
 pub use order::{Descending, KeyOrder, Side, WholeLine};

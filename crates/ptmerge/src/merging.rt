@@ -1,6 +1,8 @@
-ghost use Rattle.std.specs.Prelude.{◌≡◌, false, length, None, Result, OnOk, IfOk, IfErr};
+ghost use Rattle.std.specs.Prelude.{◌≡◌, ◌&&◌, false, length, None, Result, OnOk, IfOk, IfErr, bytes_eq};
 ghost use Rattle.ptlines.specs.Readers.{IsSound};
-ghost use Rattle.ptlines.specs.Slots.{line};
+ghost use Rattle.ptlines.specs.Slots.{line, line as line_of};
+ghost use Rattle.ptmerge.specs.Groups.{is_head};
+ghost use Rattle.ptmerge.specs.declared.order.Side.TheVariants as Of;
 ghost use Rattle.ptmerge.specs.Places.{Advances};
 ghost use Rattle.ptmerge.specs.Sides.{both, other};
 ghost use Rattle.ptmerge.specs.Steps.{inputs, IsPlaced, IsLent, IsNext, Starts, CannotStart};
@@ -178,6 +180,42 @@ impl<K: KeyOrder> Merge<K> {
         match side {
             Side::First => self.first.next(&self.order, side, reader, store),
             Side::Second => self.second.next(&self.order, side, reader, store),
+        }
+    }
+
+    // The slot of the line at which an input stands.
+    pub(crate) fn slot(&self, side: Side) -> usize
+        ensures { result ≡ (both self.now.first self.now.second side).standing }
+    {
+        match side {
+            Side::First => self.first.standing,
+            Side::Second => self.second.standing,
+        }
+    }
+
+    // Whether an input stands at a line, and its key is that of this line of the second input.
+    pub(crate) fn has_key_of<A: Allocator + Copy>(
+        &self,
+        side: Side,
+        line: &[u8],
+        store: &Store<A>,
+    ) -> bool
+        requires placed { IsPlaced self.now.first self.now.second store.now }
+        ensures { let place = both self.now.first self.now.second side in
+            result ≡ (is_head place.stand && bytes_eq
+            (K.key_of self.now.order side (line_of store.now place.standing)) (K.key_of self.now.order Of.Second line.now)) }
+    {
+        match side {
+            Side::First => {
+                self.first.stand == Stand::Head
+                    && self.order.key(side, store.line(self.first.standing))
+                        == self.order.key(Side::Second, line)
+            }
+            Side::Second => {
+                self.second.stand == Stand::Head
+                    && self.order.key(side, store.line(self.second.standing))
+                        == self.order.key(Side::Second, line)
+            }
         }
     }
 }

@@ -4,6 +4,7 @@ ghost use Rattle.std.specs.declared.cmp.Ordering.TheVariants.{Equal};
 ghost use Rattle.ptmerge.specs.Orders.{Cmp, Key};
 ghost use Rattle.ptmerge.specs.declared.order.Side.{Side as Of};
 
+use crate::fields::nth_field;
 use std::cmp::Ordering;
 
 /// One of two inputs.
@@ -95,4 +96,39 @@ impl<K: KeyOrder> KeyOrder for Descending<K> {
     ghost total = { λ s. back_total (K.total s.of) };
 
     ghost exact = { λ s. same_back (K.order s.of) (K.exact s.of) };
+}
+
+/// The keys are the fields of lines with a number, by which `join` pairs them, in byte order.
+#[derive(Drop)]
+pub(crate) struct FieldKeys {
+    pub separator: Option<u8>,
+    pub first: u64,
+    pub second: u64,
+}
+
+impl KeyOrder for FieldKeys {
+    ghost use Rattle.std.specs.Cmp.Lexicographic.{nat_list_cmp_total};
+    ghost use Rattle.ptmerge.specs.Join.{field_keys};
+    ghost use Rattle.ptmerge.specs.Orders.{byte_cmp};
+    ghost use Rattle.ptmerge.specs.Exact.{same_bytes};
+
+    ghost key_of = { λ s. field_keys s.separator s.first s.second };
+
+    ghost order = { λ s. byte_cmp };
+
+    fn key<'a>(&self, side: Side, line: &'a [u8]) -> &'a [u8] {
+        let number = match side {
+            Side::First => self.first,
+            Side::Second => self.second,
+        };
+        nth_field(self.separator, number, Some(line))
+    }
+
+    fn cmp(&self, one: &[u8], two: &[u8]) -> Ordering {
+        one.cmp(two)
+    }
+
+    ghost total = { λ s. nat_list_cmp_total };
+
+    ghost exact = { λ s. same_bytes };
 }

@@ -4,4 +4,6 @@
 #[cfg(test)]
 mod comm;
 #[cfg(test)]
+mod join;
+#[cfg(test)]
 mod orders;

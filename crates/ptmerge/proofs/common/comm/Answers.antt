@@ -5,7 +5,7 @@ use Rattle.ptmerge.specs.Comm.{comm_by, comm_tool}
 use Rattle.ptmerge.specs.Merges.{IsMerge, seen}
 use Rattle.ptmerge.specs.Orders.{line_cmp, whole_line}
 use Rattle.ptmerge.specs.Sides.{both}
-use Rattle.ptmerge.proofs.CommStarts.{set_is}
+use Rattle.ptmerge.proofs.Starting.{set_is}
 use Rattle.ptmerge.proofs.Stopping.{merge_halted, merge_set}
 use Rattle.ptmerge.proofs.common.comm.Goals as goal
 

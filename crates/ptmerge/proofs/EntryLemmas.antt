@@ -1,0 +1,75 @@
+-- What is written of lines, field by field.
+use Rattle.std.proofs.Common.{◌≡◌, ℕ, zero, suc, ◌+◌, ◌-◌, ◌<◌, ◌≤◌, ◌==◌, Bool, true, false, cond, List, [], ◌∷◌, ◌++◌, Option, None, Some, length, take, drop, get_or, map, refl, sym, ◌∙◌, ap, arith}
+use Rattle.std.specs.Prelude.{remove, unwrap_or}
+use Rattle.std.specs.List.{slice_split, onto_first, join_with_byte}
+use Rattle.std.proofs.lemmas.Bool.{eqb-true}
+use Rattle.std.proofs.lemmas.List.{append-nil, take_all}
+use Rattle.std.proofs.lemmas.List.Concat.{flat_map-append}
+use Rattle.ptlangs.specs.Jobs.{Join}
+use Rattle.ptlangs.specs.declared.outlist.OutField.{OutField}
+use Rattle.ptmerge.specs.Join.{between, entry, filled, named, others, written}
+use Rattle.ptmerge.specs.JoinFields.{led}
+use Rattle.ptmerge.specs.Keyed.{Lines}
+
+-- with a separator in front, a line is its fields with a separator in front of each
+pub led_fields : (c : ℕ) (bytes : List ℕ) → led c (slice_split (λ b. b == c) bytes) ≡ c ∷ bytes
+led_fields c [] = refl
+led_fields c (x ∷ xs) = by_test (x == c) refl (slice_split (λ b. b == c) xs) (led_fields c xs)
+  where
+    by_test : (t : Bool) → (x == c) ≡ t → (fs : Lines) → led c fs ≡ c ∷ xs → led c (cond t ([] ∷ fs) (onto_first x fs)) ≡ c ∷ x ∷ xs
+    by_test true same fs more = ap (λ (l : List ℕ). c ∷ l) (more ∙ ap (λ (b : ℕ). b ∷ xs) (sym (eqb-true x c same)))
+    by_test false other [] more = cc
+    by_test false other (f ∷ fs) more = ap (λ (l : List ℕ). c ∷ x ∷ l) (ap (drop 1) more)
+
+pub led-append : (byte : ℕ) (xs ys : Lines) → led byte (xs ++ ys) ≡ led byte xs ++ led byte ys
+led-append byte xs ys = flat_map-append (λ f. byte ∷ f) xs ys
+
+pub join_led : (byte : ℕ) (f : List ℕ) (fs : Lines) → join_with_byte byte (f ∷ fs) ≡ f ++ led byte fs
+join_led byte f [] = sym (append-nil f)
+join_led byte f (g ∷ fs) = ap (λ (l : List ℕ). f ++ byte ∷ l) (join_led byte g fs)
+
+-- ---- the other fields, where so many are passed
+
+pub others_none : (byte n : ℕ) (fs : Lines) → fs ≡ [] → led byte (remove fs n) ≡ []
+others_none byte n fs none = ap (λ (l : Lines). led byte (remove l n)) none ∙ of_none n
+  where
+    of_none : (n : ℕ) → led byte (remove [] n) ≡ []
+    of_none zero = refl
+    of_none (suc n) = refl
+
+pub others_more : (byte count i : ℕ) (fs more : Lines) (f : List ℕ) → i < count → fs ≡ f ∷ more → led byte (remove fs (count - i)) ≡ (byte ∷ f) ++ led byte (remove more (count - (i + 1)))
+others_more byte count i fs more f low is =
+    let at : count - i ≡ suc (count - (i + 1)) = omega arith in λ k. led byte (remove (is k) (at k))
+
+pub others_rest : (byte n : ℕ) (fs more : Lines) (f : List ℕ) → n ≡ 0 → fs ≡ f ∷ more → led byte (remove fs n) ≡ led byte more
+others_rest byte n fs more f last is = λ k. led byte (remove (is k) (last k))
+
+-- the entry without an output list, and with one
+pub entry_plain : (job : Join) (k : List ℕ) (fs1 fs2 : Lines) → job.list ≡ None → entry job k fs1 fs2 ≡ k ++ (led (between job.separator) (others job.field1 fs1) ++ led (between job.separator) (others job.field2 fs2))
+entry_plain job k fs1 fs2 none =
+    ap (λ (l : Option (List OutField)). join_with_byte (between job.separator) (written job k fs1 fs2 l)) none ∙ join_led (between job.separator) k (others job.field1 fs1 ++ others job.field2 fs2)
+    ∙ ap (λ (l : List ℕ). k ++ l) (led-append (between job.separator) (others job.field1 fs1) (others job.field2 fs2))
+
+pub between_is : (separator : Option ℕ) → between separator ≡ unwrap_or separator 32
+between_is (Some c) = refl
+between_is None = refl
+
+-- what is written of an output list
+pub entry_listed : (job : Join) (k : List ℕ) (fs1 fs2 : Lines) (items : List OutField) → job.list ≡ Some items
+    → entry job k fs1 fs2 ≡ join_with_byte (between job.separator) (map (λ i. filled job.empty (named i k fs1 fs2)) items)
+entry_listed job k fs1 fs2 items is = ap (λ (l : Option (List OutField)). join_with_byte (between job.separator) (written job k fs1 fs2 l)) is
+
+-- the first of some items, as it is written, and what is written of those behind it
+module _ (f : OutField → List ℕ) (items : List OutField) (d : OutField) (some : 1 ≤ length items) (bytes : List ℕ) (is : bytes ≡ f (get_or items 0 d)) where
+  listed : map f items ≡ bytes ∷ map f (take (length items - 1) (drop 1 items))
+  listed = by items some is
+    where
+      by : (l : List OutField) → 1 ≤ length l → bytes ≡ f (get_or l 0 d) → map f l ≡ bytes ∷ map f (take (length l - 1) (drop 1 l))
+      by [] s e = absurd (omega (arith, s))
+      by (x ∷ l) s e = λ i. sym e i ∷ map f (sym (take_all (length (x ∷ l) - 1) l (omega arith)) i)
+
+  pub listed_more : (byte : ℕ) → led byte (map f items) ≡ (byte ∷ bytes) ++ led byte (map f (take (length items - 1) (drop 1 items)))
+  listed_more byte = ap (led byte) listed
+
+  pub listed_first : (byte : ℕ) → join_with_byte byte (map f items) ≡ bytes ++ led byte (map f (take (length items - 1) (drop 1 items)))
+  listed_first byte = ap (join_with_byte byte) listed ∙ join_led byte bytes (map f (take (length items - 1) (drop 1 items)))

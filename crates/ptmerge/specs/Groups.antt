@@ -1,0 +1,75 @@
+-- The second input's lines of one key, in the slots behind the first four.
+use Rattle.std.specs.Prelude.{◌≡◌, ◌⊎◌, ℕ, ◌+◌, ◌-◌, ◌≤◌, ◌<◌, true, false, Bool, length, take, drop, max, Result, Ok, Err}
+use Rattle.ptlines.specs.Readers.{Reader}
+use Rattle.ptlines.specs.Slots.{Slots, line, total, with_line, with_added}
+use Rattle.ptmerge.specs.declared.faults.MergeFault.{MergeFault}
+use Rattle.ptmerge.specs.declared.faults.MergeFault.TheVariants.{Memory}
+use Rattle.ptmerge.specs.declared.order.Side.TheVariants.{Second}
+use Rattle.ptmerge.specs.declared.sorted.Sorted.{Sorted}
+use Rattle.ptmerge.specs.declared.sorted.Stand.{Stand}
+use Rattle.ptmerge.specs.declared.sorted.Stand.TheVariants.{Head, Ended, Disorder}
+use Rattle.ptmerge.specs.Keyed.{Lines}
+use Rattle.ptmerge.specs.Orders.{Cmp, Key}
+use Rattle.ptmerge.specs.Places.{CannotRead, Comes}
+
+-- the lines of the group, whose slots end in front of this one
+abbrev pub group : Slots → ℕ → Lines
+group store end = take (end - 4) (drop 4 store.lines)
+
+abbrev pub is_head : Stand → Bool
+is_head Head = true
+is_head Ended = false
+is_head (Disorder n) = false
+
+-- this slot is there, and was added if it was missing
+pub record IsGrown (before after : Slots) (slot : ℕ) : Type 0 where
+  pub grown : (after ≡ before) ⊎ (after ≡ with_added before)
+  pub within : slot < length after.lines
+
+-- the line of a slot was copied to another, which was added if it was missing
+pub record IsKept (before after : Slots) (from to : ℕ) : Type 0 where
+  pub made : Slots
+  pub grown : IsGrown before made to
+  pub copied : after ≡ with_line made to (line made from)
+
+-- memory for a line was refused
+pub record IsRefused (before after : Slots) : Type 0 where
+  pub denied : after.denied ≡ true
+  pub slots : length before.lines ≤ length after.lines
+  pub peak : after.peak ≤ max before.peak (total before.lines)
+
+-- the slots from 4 on were emptied up to this one
+pub record IsGroupCleared (before after : Slots) (end : ℕ) : Type 0 where
+  pub slots : length after.lines ≡ length before.lines
+  pub others : (i : ℕ) → (i < 4) ⊎ (end ≤ i) → line after i ≡ line before i
+  pub emptied : total (drop 4 after.lines) + total (group before end) ≡ total (drop 4 before.lines)
+  pub less : total after.lines ≤ total before.lines
+  pub peak : after.peak ≤ max before.peak (total before.lines)
+  pub denied : after.denied ≡ before.denied
+
+-- the line at which the second input stands was kept, and the input went to its next line
+pub record Gathered (key : Key) (cmp : Cmp) (old new : Sorted) (was is : Reader) (before after : Slots) (end : ℕ) : Type 0 where
+  pub made : Slots
+  pub kept : IsKept before made old.standing end
+  pub came : Comes key cmp old new was is made after
+
+-- the line was kept, and the next one could not be read
+pub record NotRead (old : Sorted) (was is : Reader) (before after : Slots) (end : ℕ) (fault : MergeFault) : Type 0 where
+  pub made : Slots
+  pub kept : IsKept before made old.standing end
+  pub breaks : CannotRead Second old was is made after fault
+
+-- the line could not be kept
+pub record NotKept (was is : Reader) (before after : Slots) (fault : MergeFault) : Type 0 where
+  pub memory : fault ≡ Memory
+  pub refused : IsRefused before after
+  pub unread : is ≡ was
+
+abbrev pub Gathers : Key → Cmp → Sorted → Sorted → Reader → Reader → Slots → Slots → ℕ → Result ℕ MergeFault → Type 0
+Gathers key cmp old new was is before after end (Ok next) = (next ≡ end + 1) × Gathered key cmp old new was is before after end
+Gathers key cmp old new was is before after end (Err fault) = NotKept was is before after fault ⊎ NotRead old was is before after end fault
+
+-- slots were added where fewer than these were there, and perhaps more; where a growth was refused, perhaps fewer
+pub record AddsLeast (before after : Slots) (slots : ℕ) : Type 0 where
+  pub least : length before.lines ≤ length after.lines
+  pub all : after.denied ≡ false → slots ≤ length after.lines

@@ -1,0 +1,19 @@
+-- What is left of a line whose fields are taken one after another.
+use Rattle.std.specs.Prelude.{ℕ, ◌==◌, List, [], ◌∷◌, Option, Some, None, Bool}
+use Rattle.std.specs.List.{flat_map}
+use Rattle.ptmerge.specs.Keyed.{Lines}
+use Rattle.ptmerge.specs.Join.{fields, is_blank}
+
+-- where a byte ends a field
+abbrev pub ends_field : Option ℕ → ℕ → Bool
+ends_field (Some c) = λ b. b == c
+ends_field None = is_blank
+
+-- the fields of what is left of a line
+abbrev pub fields_left : Option ℕ → Option (List ℕ) → Lines
+fields_left separator None = []
+fields_left separator (Some bytes) = fields separator bytes
+
+-- each field, with this byte in front of it
+abbrev pub led : ℕ → Lines → List ℕ
+led byte fs = flat_map (λ f. byte ∷ f) fs

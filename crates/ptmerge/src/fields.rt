@@ -1,0 +1,271 @@
+//! The fields of a line of `join`, and writing them.
+ghost use Rattle.std.specs.Prelude.{◌≡◌, ◌++◌, ◌∷◌, [], None, Some, ◌<◌, ◌-◌, length, position, option_copied, true, false, OnOk, OnErr, MatchOption};
+ghost use Rattle.std.specs.List.{slice_split, join_with_byte};
+ghost use Rattle.std.specs.Prelude.{map};
+ghost use Rattle.ptlines.specs.Outputs.{Wrote};
+ghost use Rattle.ptlangs.specs.Jobs.{join_job};
+ghost use Rattle.ptmerge.specs.Join.{is_blank, nth_field, others, between, filled, named, entry};
+ghost use Rattle.ptmerge.specs.JoinFields.{ends_field, fields_left, led};
+
+use ptlangs::jobs::JoinJob;
+use ptlangs::outlist::{File, OutField, OutList};
+use ptlines::{Out, Sink, WriteFault, find_near};
+use std::alloc::Allocator;
+
+fn is_blank(byte: u8) -> bool
+    ensures { result ≡ is_blank byte }
+{
+    byte == b' ' || byte == b'\t'
+}
+
+// The place where the first field of these bytes ends, if anything ends it.
+#[inline(always)]
+fn field_end(separator: Option<u8>, bytes: &[u8]) -> Option<usize>
+    ensures { result ≡ position (ends_field separator) bytes.now }
+{
+    match separator {
+        Some(byte) => find_near(byte, bytes),
+        None => bytes.iter().position(|byte| is_blank(*byte)),
+    }
+}
+
+// What stands in front of the first byte that ends a field, and what is left behind it, if there is one.
+#[inline(always)]
+fn first_piece(separator: Option<u8>, bytes: &[u8]) -> (&[u8], Option<&[u8]>)
+    ensures first { MatchOption result.1
+        (slice_split (ends_field separator) bytes.now ≡ result.0.now ∷ [])
+        (λ behind. slice_split (ends_field separator) bytes.now
+        ≡ result.0.now ∷ slice_split (ends_field separator) behind.now) }
+    ensures shorter { MatchOption result.1 (result.0.now ≡ bytes.now) (λ behind. length behind.now < length bytes.now) }
+{
+    match field_end(separator, bytes) {
+        None => (bytes, None),
+        Some(end) => (&bytes[..end], Some(&bytes[end + 1..])),
+    }
+}
+
+// The first field of what is left of a line, and what is left behind it, or `None` if there are no more fields.
+fn next_field<'a>(
+    separator: Option<u8>,
+    line: Option<&'a [u8]>,
+) -> Option<(&'a [u8], Option<&'a [u8]>)>
+    ensures { MatchOption result
+        (fields_left separator (option_copied line.entry) ≡ [])
+        (λ r. fields_left separator (option_copied line.entry)
+        ≡ r.0.now ∷ fields_left separator (option_copied r.1)) }
+{
+    let mut left = line;
+    'pieces: while let Some(bytes) = left {
+        let (field, behind) = first_piece(separator, bytes);
+        if separator.is_some() || !field.is_empty() {
+            return Some((field, behind));
+        }
+        left = behind;
+    }
+    None
+}
+
+// The first field of a line, or nothing where it has none. Apart from the others, as most join fields are the first.
+#[inline(always)]
+fn first_field(separator: Option<u8>, line: &[u8]) -> &[u8]
+    ensures { result.now ≡ nth_field 1 (fields_left separator (Some line.now)) }
+{
+    let (field, _) = first_piece(separator, line);
+    if field.is_empty() && separator.is_none() {
+        return later_field(separator, 1, Some(line));
+    }
+    field
+}
+
+// The field of a line with this number, or nothing where it is not there.
+#[inline(never)]
+fn later_field<'a>(separator: Option<u8>, number: u64, line: Option<&'a [u8]>) -> &'a [u8]
+    ensures { result.now ≡ nth_field number (fields_left separator (option_copied line.entry)) }
+{
+    let mut left = line;
+    for _passed in 0..number.saturating_sub(1) {
+        let Some((_, behind)) = next_field(separator, left) else {
+            return b"";
+        };
+        left = behind;
+    }
+    match next_field(separator, left) {
+        Some((field, _)) => field,
+        None => b"",
+    }
+}
+
+// The field of a line with this number, or nothing where it is not there.
+#[inline(always)]
+pub(crate) fn nth_field<'a>(separator: Option<u8>, number: u64, line: Option<&'a [u8]>) -> &'a [u8]
+    ensures { result.now ≡ nth_field number (fields_left separator (option_copied line.entry)) }
+{
+    match line {
+        Some(bytes) if number <= 1 => first_field(separator, bytes),
+        _ => later_field(separator, number, line),
+    }
+}
+
+// Pushes a byte, and then a field.
+#[inline(always)]
+fn push_led<W: Sink>(byte: u8, field: &[u8], out: &mut Out<W>) -> Result<(), WriteFault>
+    ensures wrote { Wrote out.old out.new (byte ∷ field.now) }
+    ensures clean { OnOk result (out.new.faulted ≡ false) }
+    ensures fault { OnErr result (out.new.faulted ≡ true) }
+{
+    out.push(&[byte])?;
+    out.push(field)
+}
+
+// Pushes all fields of what is left of a line, each with a space in front of it.
+fn push_words<W: Sink>(bytes: &[u8], out: &mut Out<W>) -> Result<(), WriteFault>
+    requires { out.old.faulted ≡ false }
+    ensures wrote { Wrote out.old out.new (led 32 (fields_left None (Some bytes.now))) }
+    ensures clean { OnOk result (out.new.faulted ≡ false) }
+    ensures fault { OnErr result (out.new.faulted ≡ true) }
+{
+    let mut left = Some(bytes);
+    'words: while let Some((word, behind)) = next_field(None, left) {
+        push_led(b' ', word, out)?;
+        left = behind;
+    }
+    Ok(())
+}
+
+// Pushes all fields of what is left of a line, each with what stands between fields in front of it.
+fn push_left<W: Sink>(
+    separator: Option<u8>,
+    line: Option<&[u8]>,
+    out: &mut Out<W>,
+) -> Result<(), WriteFault>
+    requires { out.old.faulted ≡ false }
+    ensures wrote { Wrote out.old out.new (led (between separator) (fields_left separator (option_copied line.entry))) }
+    ensures clean { OnOk result (out.new.faulted ≡ false) }
+    ensures fault { OnErr result (out.new.faulted ≡ true) }
+{
+    match (separator, line) {
+        (_, None) => Ok(()),
+        (Some(byte), Some(bytes)) => push_led(byte, bytes, out),
+        (None, Some(bytes)) => push_words(bytes, out),
+    }
+}
+
+// Pushes all fields of a line but the one with this number, each with what stands between fields in front of it.
+fn push_others<W: Sink>(
+    separator: Option<u8>,
+    number: u64,
+    line: Option<&[u8]>,
+    out: &mut Out<W>,
+) -> Result<(), WriteFault>
+    requires { out.old.faulted ≡ false }
+    ensures wrote { Wrote out.old out.new (led (between separator)
+        (others number (fields_left separator (option_copied line.entry)))) }
+    ensures clean { OnOk result (out.new.faulted ≡ false) }
+    ensures fault { OnErr result (out.new.faulted ≡ true) }
+{
+    let lead = separator.unwrap_or(b' ');
+    let mut left = line;
+    for _passed in 0..number.saturating_sub(1) {
+        let Some((field, behind)) = next_field(separator, left) else {
+            return Ok(());
+        };
+        push_led(lead, field, out)?;
+        left = behind;
+    }
+    match next_field(separator, left) {
+        None => Ok(()),
+        Some((_, behind)) => push_left(separator, behind, out),
+    }
+}
+
+// What an element of the output list names: the join field, or a field of a line.
+fn named_field<'a>(
+    separator: Option<u8>,
+    item: OutField,
+    key: &'a [u8],
+    one: Option<&'a [u8]>,
+    two: Option<&'a [u8]>,
+) -> &'a [u8]
+    ensures { result.now ≡ named item key.now
+        (fields_left separator (option_copied one.entry)) (fields_left separator (option_copied two.entry)) }
+{
+    match item {
+        OutField::Join => key,
+        OutField::Field(File::First, number) => nth_field(separator, number, one),
+        OutField::Field(File::Second, number) => nth_field(separator, number, two),
+    }
+}
+
+// What is written of an element of the output list: what it names, or where that is empty what stands for it.
+fn listed_field<'a, A: Allocator>(
+    job: &'a JoinJob<A>,
+    item: OutField,
+    key: &'a [u8],
+    one: Option<&'a [u8]>,
+    two: Option<&'a [u8]>,
+) -> &'a [u8]
+    ensures { result.now ≡ filled (join_job job.now).empty (named item key.now
+        (fields_left (join_job job.now).separator (option_copied one.entry))
+        (fields_left (join_job job.now).separator (option_copied two.entry))) }
+{
+    let field = named_field(job.sep, item, key, one, two);
+    if field.is_empty() {
+        return job.empty.as_slice();
+    }
+    field
+}
+
+// Pushes what is written of a pair of lines, or of one of them, with an output list.
+fn push_listed<A: Allocator, W: Sink>(
+    job: &JoinJob<A>,
+    items: &[OutField],
+    key: &[u8],
+    one: Option<&[u8]>,
+    two: Option<&[u8]>,
+    out: &mut Out<W>,
+) -> Result<(), WriteFault>
+    requires listed { (join_job job.now).list ≡ Some items.now }
+    requires clean { out.old.faulted ≡ false }
+    ensures wrote { Wrote out.old out.new (entry (join_job job.now) key.now
+        (fields_left (join_job job.now).separator (option_copied one.entry))
+        (fields_left (join_job job.now).separator (option_copied two.entry))) }
+    ensures clean { OnOk result (out.new.faulted ≡ false) }
+    ensures fault { OnErr result (out.new.faulted ≡ true) }
+{
+    let [first, others @ ..] = items else {
+        return Ok(());
+    };
+    out.push(listed_field(job, *first, key, one, two))?;
+    let lead = job.sep.unwrap_or(b' ');
+    let mut rest = others;
+    'items: while let [item, more @ ..] = rest {
+        push_led(lead, listed_field(job, *item, key, one, two), out)?;
+        rest = more;
+    }
+    Ok(())
+}
+
+// Pushes what is written of a pair of lines, or of one of them, and of which this is the join field.
+pub(crate) fn push_entry<A: Allocator, W: Sink>(
+    job: &JoinJob<A>,
+    key: &[u8],
+    one: Option<&[u8]>,
+    two: Option<&[u8]>,
+    out: &mut Out<W>,
+) -> Result<(), WriteFault>
+    requires { out.old.faulted ≡ false }
+    ensures wrote { Wrote out.old out.new (entry (join_job job.now) key.now
+        (fields_left (join_job job.now).separator (option_copied one.entry))
+        (fields_left (join_job job.now).separator (option_copied two.entry))) }
+    ensures clean { OnOk result (out.new.faulted ≡ false) }
+    ensures fault { OnErr result (out.new.faulted ≡ true) }
+{
+    match &job.list {
+        Some(list) => push_listed(job, list.fields(), key, one, two, out),
+        None => {
+            out.push(key)?;
+            push_others(job.sep, job.field[0], one, out)?;
+            push_others(job.sep, job.field[1], two, out)
+        }
+    }
+}
