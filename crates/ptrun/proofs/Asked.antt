@@ -8,6 +8,7 @@ use Rattle.ptlines.specs.Readers.{Reader}
 use Rattle.ptopts.specs.declared.fault.UseFault.{UseFault}
 use Rattle.ptopts.specs.declared.command.Command as code
 use Rattle.ptmerge.specs.Comm.{comm_tool}
+use Rattle.ptmerge.specs.Join.{join_tool}
 use Rattle.ptmerge.specs.Keyed.{Tool as Paired}
 use Rattle.ptlangs.specs.Jobs as jobs
 use Rattle.ptopts.specs.declared.inputs.Input.{Input}
@@ -61,7 +62,7 @@ takes (RunCut u) order one few two = refl
 takes (RunPaste u) order one few two = ap (λ (n : ℕ). nat_le n 512) (length-map order place) ∙ few u refl
 takes (RunUniq u) order one few two = ap (λ (n : ℕ). n == 1) (length-map order place ∙ one u refl)
 takes (RunComm u) order one few two = two_places (comm_tool u) order (two refl)
-takes (RunJoin u) order one few two = refl
+takes (RunJoin u) order one few two = two_places (join_tool u) order (two refl)
 takes (RunTr u) order one few two = refl
 
 fit_spelled : (words : List (List ℕ)) (c : Command) → SpellsCommand words c → Fit c

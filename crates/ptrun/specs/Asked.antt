@@ -6,13 +6,14 @@ use Rattle.ptflow.specs.Pastes.{serial_tool}
 use Rattle.ptflow.specs.Translations.{tr_tool}
 use Rattle.ptflow.specs.Uniqs.{uniq_tool}
 use Rattle.ptmerge.specs.Comm.{comm_tool}
+use Rattle.ptmerge.specs.Join.{join_tool}
 use Rattle.ptopts.specs.Faults.{Fault}
 use Rattle.ptopts.specs.Commands.{Command, Job, RunCut, RunPaste, RunUniq, RunComm, RunJoin, RunTr, meaning}
 use Rattle.ptopts.specs.Meant.{meant, seen}
 use Rattle.ptopts.specs.declared.fault.UseFault.{UseFault}
 use Rattle.ptopts.specs.declared.command.Command as code
 use Rattle.ptrun.specs.Meanings.{Meaning}
-use Rattle.ptrun.specs.Messages.{said_of, not_built}
+use Rattle.ptrun.specs.Messages.{said_of}
 use Rattle.ptrun.specs.Operands.{places, one_by_one}
 use Rattle.ptrun.specs.Together.{of_one, of_rows, of_two, together}
 
@@ -31,10 +32,6 @@ saying text status = record {
   names = [];
 }
 
--- what is not built yet says so
-abbrev pub not_yet : List ℕ → Meaning
-not_yet tool = saying (not_built tool) 1
-
 -- paste goes over its operands one after another with -s, and else takes them together
 abbrev pub paste_meaning : Paste → List (List ℕ) → List ℕ → Meaning
 paste_meaning job names places =
@@ -47,7 +44,7 @@ job_meaning (RunCut job) names places = one_by_one (codes "cut") (cut_tool job) 
 job_meaning (RunPaste job) names places = paste_meaning job names places
 job_meaning (RunUniq job) names places = together (codes "uniq") (of_one (uniq_tool job)) names places
 job_meaning (RunComm job) names places = together (codes "comm") (of_two (comm_tool job)) names places
-job_meaning (RunJoin job) names places = not_yet (codes "join")
+job_meaning (RunJoin job) names places = together (codes "join") (of_two (join_tool job)) names places
 job_meaning (RunTr tables) names places = one_by_one (codes "tr") (tr_tool tables) names places
 
 -- whether the tool takes operands at these places
@@ -55,6 +52,7 @@ abbrev pub is_taking : Job → List ℕ → Bool
 is_taking (RunPaste job) places = (of_rows job).takes places
 is_taking (RunUniq job) places = (of_one (uniq_tool job)).takes places
 is_taking (RunComm job) places = (of_two (comm_tool job)).takes places
+is_taking (RunJoin job) places = (of_two (join_tool job)).takes places
 is_taking _ places = true
 
 abbrev pub command_meaning : Command → Meaning

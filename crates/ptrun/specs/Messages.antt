@@ -47,9 +47,6 @@ refusal tool (InString fault) = string_refusal fault
 abbrev pub out_of_memory : List ℕ → List ℕ
 out_of_memory tool = line_of (tool ∷ codes ": out of memory" ∷ [])
 
-abbrev pub not_built : List ℕ → List ℕ
-not_built tool = line_of (tool ∷ codes ": not built yet" ∷ [])
-
 -- what is said of refused words, and of want of memory in reading them
 abbrev pub said_of : List ℕ → Option Fault → List ℕ
 said_of tool None = out_of_memory tool

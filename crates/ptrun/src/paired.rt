@@ -12,9 +12,9 @@ use crate::engine::Done;
 use crate::joint::Together;
 use crate::operands::place_of;
 use ptflow::FlowFault;
-use ptlangs::jobs::CommJob;
+use ptlangs::jobs::{CommJob, JoinJob};
 use ptlines::{LineReader, Out, Sink, Source, Store};
-use ptmerge::{MergeFault, Side, comm};
+use ptmerge::{MergeFault, Side, comm, join};
 use ptopts::Input;
 use std::alloc::Allocator;
 
@@ -63,6 +63,30 @@ impl<A: Allocator + Copy> Paired<A> for CommJob {
         out: &mut Out<W>,
     ) -> Result<(), MergeFault> {
         comm(self, first, second, store, out)
+    }
+}
+
+impl<A: Allocator + Copy> Paired<A> for JoinJob<A> {
+    ghost use Rattle.std.specs.Prelude.{codes};
+    ghost use Rattle.ptlangs.specs.Jobs.{join_job};
+    ghost use Rattle.ptmerge.specs.Join.{join_tool};
+
+    ghost tool = { λ job. join_tool (join_job job) };
+
+    ghost word = { λ job. codes "join" };
+
+    fn name(&self) -> &str {
+        "join"
+    }
+
+    fn merge<S: Source, R: Source, W: Sink>(
+        &self,
+        first: &mut LineReader<S, R>,
+        second: &mut LineReader<S, R>,
+        store: &mut Store<A>,
+        out: &mut Out<W>,
+    ) -> Result<(), MergeFault> {
+        join(self, first, second, store, out)
     }
 }
 

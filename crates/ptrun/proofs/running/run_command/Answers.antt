@@ -1,11 +1,12 @@
 use Rattle.std.proofs.Common.{refl}
 use Rattle.std.specs.Prelude.{codes}
-use Rattle.ptlangs.specs.Jobs.{cut_job, paste_job, uniq_job, comm_job}
+use Rattle.ptlangs.specs.Jobs.{cut_job, paste_job, uniq_job, comm_job, join_job}
 use Rattle.ptflow.specs.Cuts.{cut_tool}
 use Rattle.ptflow.specs.Pastes.{serial_tool}
 use Rattle.ptflow.specs.Translations.{tr_tool}
 use Rattle.ptflow.specs.Uniqs.{uniq_tool}
 use Rattle.ptmerge.specs.Comm.{comm_tool}
+use Rattle.ptmerge.specs.Join.{join_tool}
 use Rattle.ptopts.specs.Meant.{words_seen}
 use Rattle.ptrun.specs.Operands.{places, one_by_one}
 use Rattle.ptrun.specs.Together.{of_one, of_rows, of_two, together}
@@ -40,8 +41,8 @@ run_engine-requires-else-tool-clause-given g c =
     given_of (together (codes "paste") (of_rows (paste_job c.in-Paste.tool)) (words_seen c.in-Paste.operands.names.items) (places c.in-Paste.operands.order.items)) c.args.inputs.now c.in-Paste.operands.order.items refl
     (rw c.in-Paste.is at c.requires.fresh) (rw c.in-Paste.is at c.requires.fits)
 
-pub returns-in-Paste-clause-quiet : goal.returns-in-Paste-clause-quiet
-returns-in-Paste-clause-quiet g c = rw (c.in-Paste.is, c.if-tool.false) c.run_engine-else-tool.ensures.quiet
+pub returns-else-tool-clause-quiet : goal.returns-else-tool-clause-quiet
+returns-else-tool-clause-quiet g c = rw (c.in-Paste.is, c.if-tool.false) c.run_engine-else-tool.ensures.quiet
 
 pub returns-in-Uniq-clause-quiet : goal.returns-in-Uniq-clause-quiet
 returns-in-Uniq-clause-quiet g c = rw c.in-Uniq.is c.run_engine-in-Uniq.ensures.quiet
@@ -75,5 +76,16 @@ returns-in-Comm-clause-quiet g c = rw c.in-Comm.is c.run_engine-in-Comm.ensures.
 pub returns-in-Comm-clause-run : goal.returns-in-Comm-clause-run
 returns-in-Comm-clause-run g c = rw c.in-Comm.is c.run_engine-in-Comm.ensures.run
 
-pub returns-clause-run : goal.returns-clause-run
-returns-clause-run g c = rw c.in-Join.is (c.not_built.ensures.run c.args.inputs.now c.requires.fresh.1)
+pub run_engine-requires-in-Join-clause-given : goal.run_engine-requires-in-Join-clause-given
+run_engine-requires-in-Join-clause-given g c =
+    given_of (together (codes "join") (of_two (join_tool (join_job c.in-Join.tool))) (words_seen c.in-Join.operands.names.items) (places c.in-Join.operands.order.items)) c.args.inputs.now c.in-Join.operands.order.items refl
+    (rw c.in-Join.is at c.requires.fresh) (rw c.in-Join.is at c.requires.fits)
+
+pub run_engine-requires-in-Join-clause-taken : goal.run_engine-requires-in-Join-clause-taken
+run_engine-requires-in-Join-clause-taken g c = rw c.in-Join.is at c.requires.taken
+
+pub returns-in-Join-clause-quiet : goal.returns-in-Join-clause-quiet
+returns-in-Join-clause-quiet g c = rw c.in-Join.is c.run_engine-in-Join.ensures.quiet
+
+pub returns-in-Join-clause-run : goal.returns-in-Join-clause-run
+returns-in-Join-clause-run g c = rw c.in-Join.is c.run_engine-in-Join.ensures.run
