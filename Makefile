@@ -3,13 +3,13 @@
 #                           the wrong bodies of the changed crates (SINCE=COMMIT; origin/main where it is known, else HEAD~1)
 # make test                 the gate: every proof from nothing, the must-fail edits, all tests, the built program
 # make bench                ratios to the system's tools, measured side by side
-# make install PREFIX=..    copies build/ptext to PREFIX/bin (/usr/local unless it is given)
-# make uninstall PREFIX=..  takes it away again
+# make install PREFIX=..    installs the program, its pages and completion into PREFIX (/usr/local), below DESTDIR
+# make install-tools        adds PREFIX/libexec/ptext/bin with each tool by its own name: for who puts it into PATH
+# make uninstall PREFIX=..  takes away exactly what these two installed
 
 PREFIX ?= /usr/local
-BIN := $(DESTDIR)$(PREFIX)/bin
 
-.PHONY: all check test bench install uninstall clean
+.PHONY: all check test bench install install-tools uninstall clean
 
 all: build/ptext
 
@@ -23,17 +23,20 @@ check:
 
 test: build/ptext
 	sh tests/program.sh build/ptext
+	sh tests/install.sh
 	rt ci
 
 bench: build/ptext
 	python3 bench/run.py build/ptext
 
 install: build/ptext
-	mkdir -p $(BIN)
-	install -m 755 build/ptext $(BIN)/ptext
+	python3 tools/install.py install "$(PREFIX)" "$(DESTDIR)"
+
+install-tools: install
+	python3 tools/install.py tools "$(PREFIX)" "$(DESTDIR)"
 
 uninstall:
-	rm -f $(BIN)/ptext
+	python3 tools/install.py uninstall "$(PREFIX)" "$(DESTDIR)"
 
 clean:
 	rm -rf build crates/*/out
