@@ -24,6 +24,7 @@ check:
 test: build/ptext
 	sh tests/program.sh build/ptext
 	sh tests/install.sh
+	python3 tests/pages.py build/ptext
 	rt ci
 
 bench: build/ptext
