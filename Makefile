@@ -3,13 +3,15 @@
 #                           the wrong bodies of the changed crates (SINCE=COMMIT; origin/main where it is known, else HEAD~1)
 # make test                 the gate: every proof from nothing, the must-fail edits, all tests, the built program
 # make bench                ratios to the system's tools, measured side by side
+# make compare N=5000       random words and inputs, against the system's tools (docs/COMPARISON.md)
 # make install PREFIX=..    installs the program, its pages and completion into PREFIX (/usr/local), below DESTDIR
 # make install-tools        adds PREFIX/libexec/ptext/bin with each tool by its own name: for who puts it into PATH
 # make uninstall PREFIX=..  takes away exactly what these two installed
 
 PREFIX ?= /usr/local
+N ?= 1000
 
-.PHONY: all check test bench install install-tools uninstall clean
+.PHONY: all check test bench compare install install-tools uninstall clean
 
 all: build/ptext
 
@@ -29,6 +31,9 @@ test: build/ptext
 
 bench: build/ptext
 	python3 bench/run.py build/ptext
+
+compare: build/ptext
+	python3 tools/compare.py build/ptext $(N)
 
 install: build/ptext
 	python3 tools/install.py install "$(PREFIX)" "$(DESTDIR)"

@@ -1,0 +1,633 @@
+#!/usr/bin/env python3
+"""Compares the built program with the system's tools, on random words and inputs, in the C locale.
+
+  python3 tools/compare.py PROGRAM [COUNT] [--tool TOOL] [--seed NUMBER]
+
+Each case is run by both, in a folder of its own; the program gets standard input through a pipe, in pieces of 1, 7, 4096
+or all bytes, each of which one read answers. Output and status have to be equal, and the messages of the program are
+those that docs/COMPARISON.md states. LISTED is the table of the differences: where one is met, the other side is asked
+in its own way (`put`), or it is known that one side refuses the words. What is not listed is a failure, and is shown
+with its words and inputs.
+"""
+import argparse
+import collections
+import os
+import random
+import re
+import subprocess
+import sys
+import tempfile
+import threading
+from typing import Callable, NamedTuple, Optional
+
+TOP = os.path.dirname(os.path.dirname(os.path.realpath(__file__)))
+MOST = 2**64 - 1
+MOST_SHOWN = 300
+FLAGS = {"cut": "nsz", "paste": "sz", "uniq": "cduz", "comm": "123rz", "join": "rz", "tr": "cCds"}
+VALUED = {"cut": "bcfd", "paste": "d", "uniq": "fs", "comm": "", "join": "aveot12", "tr": ""}
+THEIRS = {"cut": "", "paste": "", "uniq": "iD", "comm": "", "join": "i", "tr": "t"}
+
+
+class Case(NamedTuple):
+    """Words, as options, operands and options behind these, and inputs by name (`-` is standard input)."""
+
+    tool: str
+    options: list
+    operands: list
+    late: list
+    words: list
+    inputs: dict
+    piece: int
+
+    def has(self, letter):
+        return any(it == letter for it, _ in self.options)
+
+    def values(self, letter):
+        return [value for it, value in self.options if it == letter]
+
+    def end(self):
+        return b"\0" if self.has("z") else b"\n"
+
+    def lines(self, name):
+        """The lines of an input."""
+        parts = self.inputs.get(name, b"").split(self.end())
+        return parts[:-1] if not parts[-1] else parts
+
+    def with_lines(self, change):
+        """The same case with other lines: change tells them by the place of the operand and its lines."""
+        inputs = dict(self.inputs)
+        for place, name in enumerate(self.operands):
+            if name in inputs:
+                inputs[name] = b"".join(it + self.end() for it in change(place, self.lines(name)))
+        return self._replace(inputs=inputs)
+
+
+class Answer(NamedTuple):
+    out: bytes
+    status: int
+    messages: str
+
+
+class Listed(NamedTuple):
+    """A difference: its title in docs/COMPARISON.md, its tools, when it is met, and what is done then. `refused`: the
+    program refuses these words, whatever the other does. `taken`: the program takes words that the other refuses.
+    Else `put` gives the case as the other is asked it, and what becomes of its output."""
+
+    title: str
+    tools: str
+    when: Callable
+    does: str = "put"
+    put: Optional[Callable] = None
+
+
+# --- keys and order
+
+
+def fields_of(case, line):
+    if case.values("t"):
+        return line.split(case.values("t")[0].encode())
+    return [it for it in re.split(rb"[ \t]+", line) if it]
+
+
+def key_of(case, place, line):
+    if case.tool == "comm":
+        return line
+    number = int((case.values("12"[place]) or ["1"])[0])
+    fields = fields_of(case, line)
+    return fields[number - 1] if number <= len(fields) else b""
+
+
+def ranks(case):
+    """The place of each key in the order that was chosen."""
+    keys = {key_of(case, place, line) for place, name in enumerate(case.operands) for line in case.lines(name)}
+    return {key: place for place, key in enumerate(sorted(keys, reverse=case.has("r")))}
+
+
+def beginning(case, place, known):
+    """The longest beginning of a file whose keys never fall."""
+    lines = case.lines(case.operands[place])
+    places = [known[key_of(case, place, line)] for line in lines]
+    for at in range(1, len(lines)):
+        if places[at] < places[at - 1]:
+            return lines[:at], places[at - 1]
+    return lines, None
+
+
+def disorder(case):
+    """The file and line that are out of order, and the greatest place of a key that is written; None where none is."""
+    if case.tool not in ("comm", "join") or len(case.operands) != 2:
+        return None
+    known = ranks(case)
+    found = [(beginning(case, place, known), place) for place in (0, 1)]
+    found = sorted((last, place, len(lines) + 1) for (lines, last), place in found if last is not None)
+    return found[0] if found else None
+
+
+def put_in_order(case):
+    known, last = ranks(case), disorder(case)[0]
+
+    def kept(place, _):
+        return [it for it in beginning(case, place, known)[0] if known[key_of(case, place, it)] <= last]
+
+    return case.with_lines(kept), lambda out: out
+
+
+def put_ascending(case):
+    """Each key becomes a word that stands for its place, so that their order is ascending; and back."""
+    known = ranks(case)
+    names = {key: b"\x01%06d\x02" % place for key, place in known.items()}
+    keys = {name: key for key, name in names.items()}
+
+    def changed(place, line):
+        key = key_of(case, place, line)
+        if case.tool == "comm":
+            return names[key]
+        sep = case.values("t")[0].encode() if case.values("t") else b" "
+        number = int((case.values("12"[place]) or ["1"])[0])
+        fields = fields_of(case, line)
+        return sep.join(fields[: number - 1] + [names[key]] + fields[number:])
+
+    put = case.with_lines(lambda place, lines: [changed(place, it) for it in lines])
+    put = put._replace(options=[it for it in case.options if it[0] != "r"])
+    return put, lambda out: re.sub(rb"\x01\d{6}\x02", lambda it: keys[it[0]], out)
+
+
+# --- the table
+
+
+def put_other_newline(case):
+    inputs = {name: text.replace(b"\n", b"\x03") for name, text in case.inputs.items()}
+    return case._replace(inputs=inputs), lambda out: out.replace(b"\x03", b"\n")
+
+
+def put_without_last_blanks(case):
+    return case.with_lines(lambda _, lines: [it.rstrip(b" \t") for it in lines]), lambda out: out
+
+
+def ends_with_delimiter(case):
+    """The last line of an input has no end, but the delimiter as its last byte."""
+    last = (case.values("d") or ["\t"])[0].encode()
+    return both("z", "f")(case) and any(text.endswith(last) for text in case.inputs.values())
+
+
+def put_ended(case):
+    ends = {name: case.end() if text and not text.endswith(case.end()) else b"" for name, text in case.inputs.items()}
+    return case._replace(inputs={name: text + ends[name] for name, text in case.inputs.items()}), lambda out: out
+
+
+def is_other_field(case, place):
+    """Whether the join field of a file is not its first."""
+    return int((case.values("12"[place]) or ["1"])[0]) > 1
+
+
+def has_empty_line(case):
+    """An empty line, of which a field that is not the join field is written, as -t says, and not -o."""
+    empty = [b"" in case.lines(it) and is_other_field(case, place) for place, it in enumerate(case.operands)]
+    return case.has("t") and not case.has("o") and any(empty)
+
+
+def put_field(case):
+    """The one field of an empty line becomes a byte that is nowhere else; and back."""
+
+    def filled(place, lines):
+        return [it or b"\x04" * is_other_field(case, place) for it in lines]
+
+    return case.with_lines(filled), lambda out: out.replace(b"\x04", b"")
+
+
+def put_without(letter):
+    return lambda case: (case._replace(options=[it for it in case.options if it[0] != letter]), lambda out: out)
+
+
+def put_counts(case):
+    def bare(out):
+        return case.end().join(re.sub(rb"^ *(\d+ )", rb"\1", it, flags=re.S) for it in out.split(case.end()))
+
+    return case, bare
+
+
+def both(*letters):
+    return lambda case: all(case.has(it) for it in letters)
+
+
+def is_number(text, least=0):
+    return re.fullmatch("[0-9]+", text) is not None and least <= int(text) <= MOST
+
+
+def is_twice(case):
+    return any(len(case.values(it)) > 1 for it in VALUED[case.tool] if (case.tool, it) not in (("join", "a"), ("join", "v")))
+
+
+def is_apart(case):
+    pairs = {"cut": ["nc", "nf"], "uniq": ["cd", "cu", "du"], "join": ["av"], "tr": ["cC"]}
+    return any(both(*it)(case) for it in pairs.get(case.tool, []))
+
+
+def has_wide_delimiter(case):
+    return any(len(it.encode()) != 1 or it.encode() == case.end() for it in case.values("d" if case.tool == "cut" else "t"))
+
+
+def has_other_number(case):
+    letters = {"uniq": "fs", "join": "12"}[case.tool]
+    if case.tool == "join":
+        listed = [it for value in case.values("o") for it in re.findall(r"[12]\.([^, \t]*)", value)]
+        if any(not re.fullmatch("[12]", it) for it in case.values("a") + case.values("v")):
+            return True
+        return any(not is_number(it, 1) for it in listed + case.values("1") + case.values("2"))
+    return any(not is_number(value) for letter in letters for value in case.values(letter))
+
+
+def translates(case):
+    return not case.has("d") and len(case.operands) == 2
+
+
+def is_complement(case):
+    return case.has("c") or case.has("C")
+
+
+CLASS = re.compile(r"\[:[a-z]+:\]")
+UNIT = r"(?:\\[0-7]{1,3}|\\?[^\\]|\\\\)"
+
+
+def second_ends_short(case):
+    """string1 is longer than a string2 that ends with a class."""
+    return translates(case) and re.search(r"\[:[a-z]+:\]$", case.operands[1])
+
+
+def has_same_case(case):
+    """A class of string2 that translates and faces no other case."""
+    return translates(case) and CLASS.search(case.operands[1])
+
+
+def has_large_count(case):
+    found = [it for text in case.operands for it in re.findall(r"\*([0-9]+)\]", text)]
+    return any(re.search("[89]", it) if it[0] == "0" else int(it) > 65535 for it in found) or any(
+        it[0] == "0" and not re.search("[89]", it) and int(it, 8) > 65535 for it in found
+    )
+
+
+def is_almost_a_form(case):
+    rest = "".join(re.sub(rf"\[:[a-z]+:\]|\[={UNIT}=\]|\[{UNIT}\*[0-9]*\]", "", it, flags=re.S) for it in case.operands)
+    return re.search(r"\[[:=]|\[.*\*", rest, re.S)
+
+
+BEHIND = "Options stand before operands"
+LISTED = [
+    Listed(BEHIND, "cut paste uniq comm", lambda case: case.late, put=lambda case: (case, None)),
+    Listed(BEHIND, "join", lambda case: case.late, "refused"),
+    Listed("Counts have no blanks in front", "uniq", lambda case: case.has("c"), put=put_counts),
+    Listed("A last line that lacks its end is a line, with `-z` too", "cut", ends_with_delimiter, put=put_ended),
+    Listed("With `-z` newline is no blank", "uniq", both("z", "f"), put=put_other_newline),
+    Listed("With `-z` newline is no blank", "join", lambda case: case.has("z") and not case.has("t"), put=put_other_newline),
+    Listed("`-e` fills what `-o` names", "join", lambda case: case.has("e") and not case.has("o"), put=put_without("e")),
+    Listed("A line out of order is a fault", "comm join", disorder, put=put_in_order),
+    Listed("Descending order", "comm join", lambda case: case.has("r"), put=put_ascending),
+    Listed("An empty line has one empty field with `-t`", "join", has_empty_line, put=put_field),
+    Listed("Blanks at the end of a line make no field", "join", lambda case: not case.has("t"), put=put_without_last_blanks),
+    Listed("A value is given once", "cut paste uniq join", is_twice, "refused"),
+    Listed("Options that do not go together", "cut uniq join tr", is_apart, "refused"),
+    Listed("Letters that are not there", "uniq join tr", lambda case: any(map(case.has, THEIRS[case.tool])), "refused"),
+    Listed("A delimiter is one byte that ends no line", "cut join", has_wide_delimiter, "refused"),
+    Listed("Other escapes and an empty list of `paste`", "paste", lambda case: any(
+        not re.fullmatch(r"([^\\]|\\[nt0\\])+", it, re.S) for it in case.values("d")), "refused"),
+    Listed("`paste` needs an operand", "paste", lambda case: not case.operands, "refused"),
+    Listed("Numbers are digits, up to 18446744073709551615", "uniq join", has_other_number, "refused"),
+    Listed("Numbers are digits, up to 18446744073709551615", "cut", lambda case: any(
+        str(MOST) in it for letter in "bcf" for it in case.values(letter)), "taken"),
+    Listed("Standard input is named once", "comm", lambda case: case.operands == ["-", "-"], "refused"),
+    Listed("An empty string of `tr`", "tr", lambda case: case.operands[:1] == [""] or translates(case) and not case.operands[1],
+        "refused"),
+    Listed("Escapes of `tr`", "tr", lambda case: any(
+        re.search(r"(?<!\\)(\\\\)*(\\[4-7][0-7][0-7]|\\$)", it) for it in case.operands), "refused"),
+    Listed("Repeats of `tr`", "tr", lambda case: has_large_count(case) or re.search(r"\[.*\*[0-9]*\]", "".join(case.operands[:1]), re.S),
+        "refused"),
+    Listed("Repeats of `tr`", "tr", lambda case: both("d", "s")(case) and re.search(r"\*0*\]", "".join(case.operands[1:])), "taken"),
+    Listed("Classes of `tr`", "tr", has_same_case, "refused"),
+    Listed("Classes of `tr`", "tr", second_ends_short, "taken"),
+    Listed("Classes of `tr`", "tr", lambda case: is_complement(case) and translates(case), "taken"),
+    Listed("Brackets that are no form", "tr", is_almost_a_form, "taken"),
+]
+
+# --- running
+
+
+def packets(piece, text, into):
+    """Writes the text in pieces, each of which one read answers."""
+    try:
+        for at in range(0, len(text), piece):
+            os.write(into, text[at : at + piece])
+    except BrokenPipeError:
+        pass
+    os.close(into)
+
+
+def run(words, case, room, surroundings):
+    """What a side answers: standard output and then the output file, if there is one."""
+    with tempfile.TemporaryDirectory(dir=room) as folder:
+        for name, text in case.inputs.items():
+            if name != "-":
+                with open(f"{folder}/{name}", "wb") as it:
+                    it.write(text)
+        take, give = os.pipe2(os.O_DIRECT | os.O_CLOEXEC)
+        feeder = threading.Thread(target=packets, args=(case.piece, case.inputs["-"], give))
+        pipes = {"stdin": take, "stdout": subprocess.PIPE, "stderr": subprocess.PIPE}
+        with subprocess.Popen(words, cwd=folder, env={**os.environ, **surroundings}, **pipes) as child:
+            os.close(take)
+            feeder.start()
+            out, messages = child.communicate()
+            feeder.join()
+        if os.path.exists(f"{folder}/out"):
+            with open(f"{folder}/out", "rb") as it:
+                out += b"output file:" + case.end() + it.read()
+        return Answer(out, child.returncode, messages.decode(errors="replace"))
+
+
+def words_of(case, rng):
+    """One way to write the options and operands as words."""
+    words = [case.tool]
+    open_group = False
+    for letter, value in case.options:
+        if open_group and rng.random() < 0.5:
+            words[-1] += letter
+        else:
+            words.append("-" + letter)
+        open_group = value is None
+        if value:
+            if rng.random() < 0.5:
+                words[-1] += value
+            else:
+                words.append(value)
+        elif value == "":
+            words.append("")
+    if case.operands and (case.operands[0].startswith("-") and len(case.operands[0]) > 1 or rng.random() < 0.05):
+        words.append("--")
+    return words + case.operands + behind(case)
+
+
+def behind(case):
+    """The words of the options that stand behind the operands, and are operands for the program."""
+    return [word for letter, value in case.late for word in ["-" + letter] + ([] if value is None else [value])]
+
+
+def asked(case):
+    """The case as the other side is asked it, what becomes of its output, and the titles of what was met."""
+    undo, titles, surroundings = [], [], {"LC_ALL": "C"}
+    for it in [it for it in LISTED if it.does == "put" and case.tool in it.tools.split()]:
+        if it.when(case):
+            titles.append(it.title)
+            case, back = it.put(case)
+            if back is None:
+                surroundings["POSIXLY_CORRECT"] = "1"
+            else:
+                undo.insert(0, back)
+    return case, undo, titles, surroundings
+
+
+def messages_of(case):
+    """What the program says of words that it takes: the files that are not there, or the line out of order."""
+    names = case.operands[:1] if case.tool == "uniq" else [] if case.tool == "tr" else case.operands + behind(case)
+    lacking = [it for it in names if it not in case.inputs]
+    if lacking:
+        return "".join(f"{case.tool}: {it}: cannot be opened\n" for it in lacking)
+    found = disorder(case)
+    return f"{case.tool}: {name_of(case.operands[found[1]])}: line {found[2]} is out of order\n" if found else ""
+
+
+def name_of(operand):
+    return "standard input" if operand == "-" else operand
+
+
+def is_valid(case):
+    """Whether keys can be told: options that join and comm take."""
+    if case.tool not in ("comm", "join"):
+        return True
+    if len(case.operands) != 2 or case.operands == ["-", "-"] or any(it not in case.inputs for it in case.operands):
+        return False
+    return case.tool == "comm" or not (is_twice(case) or has_wide_delimiter(case) or has_other_number(case))
+
+
+def short(text):
+    return repr(text) if len(text) <= MOST_SHOWN else f"{text[:MOST_SHOWN]!r}.. ({len(text)} bytes)"
+
+
+def judge(case, program, room):
+    """The titles of the differences that were met, and what is wrong, if something is."""
+    ours = run([program, *case.words], case, room, {})
+    if ours.messages.endswith(": not built yet\n"):
+        return ["(not built yet)"], None
+    given = [it for it in LISTED if it.does != "put" and case.tool in it.tools.split() and it.when(case)]
+    put, undo, titles, surroundings = case, [], [BEHIND] * bool(case.late), {"LC_ALL": "C"}
+    if ours.status != 2 and is_valid(case):
+        put, undo, titles, surroundings = asked(case)
+    elif case.late:
+        surroundings["POSIXLY_CORRECT"] = "1"
+    theirs = run(words_of(put, random.Random(0)), put, room, surroundings)
+    refuses = theirs.status != 0 and not theirs.out
+    shown = f"theirs: {theirs.status} {short(theirs.out)} {theirs.messages!r}\nours: {ours.status} {short(ours.out)} {ours.messages!r}"
+    if ours.status == 2:
+        if ours.out or not re.fullmatch(rf"({case.tool}|ptext): [^\n]*\n?[^\n]*\n", ours.messages):
+            return [], f"refused words touch nothing and say one message\n{shown}"
+        found = ["(both refuse)"] if refuses else [it.title for it in given if it.does == "refused"]
+        return (titles + found, None) if found else ([], f"the program refuses what the other takes\n{shown}")
+    wanted = theirs.out
+    for back in undo:
+        wanted = back(wanted)
+    messages = messages_of(case)
+    found = [it.title for it in given if it.does == "taken"]
+    if refuses and not messages and found:
+        return found, None
+    if (ours.out, ours.messages, ours.status) != (wanted, messages, 1 if messages else theirs.status):
+        return [], f"wanted: {short(wanted)} {messages!r}\n{shown}"
+    return titles, None
+
+
+# --- random cases
+
+
+def some_number(rng):
+    return rng.choice([str(rng.randint(1, 4)), str(rng.randint(1, 12)), "0", "007", str(MOST), str(MOST + 1)][: rng.choice([1, 1, 2, 6])])
+
+
+def some_list(rng):
+    parts = []
+    for _ in range(rng.choice([1, 1, 2, 3])):
+        low, more = rng.randint(1, 9), rng.randint(0, 5)
+        parts.append(rng.choice([str(low), f"{low}-{low + more}", f"{low}-", f"-{low}"]))
+    text = parts[0]
+    for part in parts[1:]:
+        text += rng.choice([",", ",", " ", "\t"]) + part
+    if rng.random() < 0.05:
+        text = rng.choice(["", "0", "-", "3-1", "1,,2", ",1", "x", "1-2-3", "-0", "0-", str(MOST), f"{MOST}-", str(MOST + 1), " 1", "1 "])
+    return text
+
+
+def some_set(rng):
+    parts = ["a", "b", "z", "A", "-", "[", "]", "a-c", "x-z", "0-9", "A-Z", r"\n", r"\t", r"\\", r"\055", r"\0012", r"\377", "[:lower:]",
+        "[:upper:]", "[:digit:]", "[:space:]", "[:alpha:]", "[=a=]", "[x*]", "[y*2]", "[y*02]", "*", ":", "=", ".", ",", " ", "é"]
+    odd = ["", r"\400", "\\", "z-a", "[:foo:]", "[a*99999]", "[a*08]", "[x*][y*]", "[:alpha", "[==]", "[a*x]", "[::]", r"\q", r"\8", "a-", "--/", "[-a"]
+    if rng.random() < 0.04:
+        return rng.choice(["", rng.choice(parts)]) + rng.choice(odd)
+    return "".join(rng.choice(parts) for _ in range(rng.choice([1, 1, 2, 3])))
+
+
+def options_of_cut(rng):
+    letter = rng.choice("bcfff")
+    options = [(letter, some_list(rng))]
+    if letter == "f" and rng.random() < 0.7:
+        options.append(("d", rng.choice([",", ":", " ", "a", "\t", "-"] if rng.random() < 0.96 else ["", "\n", "ab", "é"])))
+    if letter == "f" and rng.random() < 0.3 or rng.random() < 0.02:
+        options.append(("s", None))
+    if letter == "b" and rng.random() < 0.2 or rng.random() < 0.02:
+        options.append(("n", None))
+    return options
+
+
+def options_of_paste(rng):
+    options = [("s", None)] if rng.random() < 0.4 else []
+    if rng.random() < 0.7:
+        parts = [",", ";", ":", "x", r"\n", r"\t", r"\\", r"\0", "é"]
+        text = "".join(rng.choice(parts) for _ in range(rng.randint(1, 4)))
+        options.append(("d", text if rng.random() < 0.96 else rng.choice(["", "\\", r"\q", "a\\"])))
+    return options
+
+
+def options_of_uniq(rng):
+    options = [(rng.choice("cdu"), None)] if rng.random() < 0.6 else []
+    options += [(letter, some_number(rng)) for letter in "fs" if rng.random() < 0.4]
+    if rng.random() < 0.04:
+        options.append(rng.choice([("c", None), ("d", None), ("i", None), ("f", "+1"), ("s", ""), ("D", None)]))
+    return options
+
+
+def options_of_comm(rng):
+    return [(letter, None) for letter in "123" if rng.random() < 0.3] + ([("r", None)] if rng.random() < 0.2 else [])
+
+
+def options_of_join(rng):
+    options = []
+    letter = rng.choice("av")
+    for number in "12":
+        if rng.random() < 0.35:
+            options.append((letter, number))
+    if rng.random() < 0.3:
+        options.append(("e", rng.choice(["-", "EMPTY", "", "é"])))
+    if rng.random() < 0.4:
+        parts = ["0", "1.1", "1.2", "2.1", "2.2", "1.3", "2.3"]
+        text = parts[rng.randrange(7)] + "".join(rng.choice([",", " "]) + rng.choice(parts) for _ in range(rng.randint(0, 3)))
+        options.append(("o", text if rng.random() < 0.96 else rng.choice(["", "1.0", "0,", "00", "3.1", "1", f"1.{MOST + 1}"])))
+    if rng.random() < 0.5:
+        options.append(("t", rng.choice([",", ":", " ", "a"]) if rng.random() < 0.96 else rng.choice(["", "\n", "ab", r"\0"])))
+    for letter in "12":
+        if rng.random() < 0.25:
+            options.append((letter, rng.choice(["1", "2", "2", "3"]) if rng.random() < 0.97 else rng.choice(["0", "+1", str(MOST + 1)])))
+    if rng.random() < 0.02:
+        options.append(rng.choice([("a", "1"), ("v", "2"), ("i", None), ("a", "3"), ("v", "01")]))
+    return options
+
+
+def options_of_tr(rng):
+    options = [(letter, None) for letter in rng.choice(["", "", "s", "s", "d", "ds"])]
+    if rng.random() < 0.3:
+        options.append((rng.choice("cC"), None))
+    if rng.random() < 0.02:
+        options.append(rng.choice([("c", None), ("C", None), ("t", None)]))
+    return options
+
+
+def operands_of(tool, options, rng):
+    letters = [it for it, _ in options]
+    if tool == "tr":
+        count = 1 if "d" in letters and "s" not in letters or letters == ["s"] and rng.random() < 0.5 else 2
+        return [some_set(rng) for _ in range(count if rng.random() < 0.98 else rng.randint(0, 3))]
+    if tool == "uniq":
+        names = [rng.choice(["-", "f", "f", "none" if rng.random() < 0.1 else "g"])]
+        return (names + ["out"] if rng.random() < 0.2 else names) if rng.random() < 0.7 else []
+    names = ["f", "g", "-", "h", "none" if rng.random() < 0.15 else "f"]
+    if tool in ("comm", "join"):
+        return rng.sample(["f", "g", "-", "none" if rng.random() < 0.1 else "h"], 2) if rng.random() < 0.98 else rng.choice([["f"], ["-", "-"]])
+    count = rng.choice([0, 1, 1, 2, 3] if tool == "cut" else [0, 1, 2, 3, 4] if rng.random() < 0.1 else [1, 2, 3, 4])
+    return [rng.choice(names) for _ in range(count)]
+
+
+def some_line(rng, end, kind):
+    if rng.random() < 0.01:
+        return bytes(rng.choice(kind) for _ in range(7)) * rng.choice([500, 1170, 1171, 2000])
+    return bytes(rng.choice(kind) for _ in range(rng.choice([0, 1, 1, 2, 3, 5, 8, 13]))).replace(end, b"")
+
+
+def some_text(rng, end, count):
+    kind = rng.choice([b"ab", b"ab,: \t", b"aab, ", b"abcxyzABZ0189.,:-[]\\ \t\xc3\xa9\xff", b"a,\n\0 ", b"1 \t"])
+    lines = [some_line(rng, end, kind) for _ in range(count)]
+    if rng.random() < 0.5:
+        lines = [it for line in lines for it in [line] * rng.choice([1, 1, 2, 3])]
+    text = b"".join(it + end for it in lines)
+    return text[: -len(end)] if rng.random() < 0.3 and text and lines[-1] else text
+
+
+def in_order(case, rng):
+    """The case with its files in order, mostly; and with a join field in each line where the order descends."""
+    if case.tool not in ("comm", "join") or not is_valid(case):
+        return case
+    if case.tool == "join" and case.has("r"):
+        case = case.with_lines(lambda place, lines: [it for it in lines if key_of(case, place, it)])
+    known = ranks(case)
+    sort = rng.random() < 0.75
+    return case.with_lines(lambda place, lines: sorted(lines, key=lambda it: known[key_of(case, place, it)]) if sort else lines)
+
+
+def some_case(tool, rng):
+    options = globals()[f"options_of_{tool}"](rng)
+    if tool != "tr" and rng.random() < 0.3:
+        options.append(("z", None))
+    if rng.random() < 0.02 and options:
+        options.append(rng.choice(options))
+    if rng.random() < 0.01:
+        options.append(("q", None))
+    rng.shuffle(options)
+    late = [options.pop()] if tool != "tr" and options and rng.random() < 0.02 else []
+    operands = operands_of(tool, options, rng)
+    end = b"\0" if ("z", None) in options else b"\n"
+    most = 3 if rng.random() < 0.2 else 12 if rng.random() < 0.95 else 2000
+    inputs = {name: some_text(rng, end, rng.randint(0, most)) for name in "-fgh"}
+    piece = rng.choice([1, 7, 4096, 4096] if len(inputs["-"]) < 3000 else [7, 4096])
+    case = in_order(Case(tool, options, operands, late if operands else [], [], inputs, piece), rng)
+    return case._replace(words=words_of(case, rng))
+
+
+def check_titles():
+    """Each title of the table is one of docs/COMPARISON.md."""
+    with open(f"{TOP}/docs/COMPARISON.md", encoding="utf-8") as it:
+        known = re.findall(r"^#+ (.*)$", it.read(), re.M)
+    return [it.title for it in LISTED if it.title not in known]
+
+
+def main():
+    given = argparse.ArgumentParser(description=__doc__, formatter_class=argparse.RawDescriptionHelpFormatter)
+    given.add_argument("program")
+    given.add_argument("count", nargs="?", type=int, default=1000)
+    given.add_argument("--tool", choices=list(FLAGS))
+    given.add_argument("--seed", type=int, default=random.randrange(1 << 30))
+    asked_for = given.parse_args()
+    lacking = check_titles()
+    if lacking:
+        return f"not in docs/COMPARISON.md: {', '.join(lacking)}"
+    met, bad = collections.Counter(), 0
+    print(f"seed {asked_for.seed}", flush=True)
+    with tempfile.TemporaryDirectory() as room:
+        for number in range(asked_for.count):
+            rng = random.Random(f"{asked_for.seed} {number}")
+            case = some_case(asked_for.tool or list(FLAGS)[number % len(FLAGS)], rng)
+            titles, wrong = judge(case, os.path.abspath(asked_for.program), room)
+            met.update((case.tool, it) for it in titles or ["(equal)"])
+            if wrong:
+                bad += 1
+                read = {name: short(text) for name, text in case.inputs.items() if name in case.operands or name == "-"}
+                print(f"FAILED, case {number}: {case.words} in pieces of {case.piece}\n{wrong}\ninputs: {read}\n", flush=True)
+    for (tool, title), count in sorted(met.items()):
+        print(f"{count:6} {tool}: {title}")
+    print(f"{asked_for.count - bad} of {asked_for.count} cases as wanted")
+    return 1 if bad else 0
+
+
+if __name__ == "__main__":
+    sys.exit(main())
