@@ -1,5 +1,6 @@
 #!/usr/bin/env python3
-"""Runs the examples of the README, the pages and the docs where they stand, and lints the pages.
+"""Runs the examples of the README, the pages and the docs where they stand, lints the pages, and asks whether the options
+of the pages and of the completion are those of the program.
 
   python3 tests/pages.py PROGRAM
 
@@ -7,21 +8,35 @@ An example is a line `$ COMMAND` in a block, and the lines below it are what it 
 shows them. The commands of one file run in their order and in one folder, in which `ptext` is PROGRAM. A line
 `gnu$ COMMAND` is an example of GNU's tools, and `busybox$ COMMAND` one of busybox's: these are left out where the system
 has another version than docs/COMPARISON.md speaks of. So is, with a line that says so, an example of a tool that
-answers `not built yet`, and the lint where there is no mandoc.
+answers `not built yet`, the lint where there is no mandoc, and the completion where there is no bash.
 """
 import glob
 import os
 import re
 import shutil
+import string
 import subprocess
 import sys
 import tempfile
 
+TOOLS = ["cut", "paste", "join", "comm", "uniq", "tr"]
 TOP = os.path.dirname(os.path.dirname(os.path.realpath(__file__)))
 FILES = ["README.md", *sorted(glob.glob("man/*.1", root_dir=TOP)), *sorted(glob.glob("docs/*.md", root_dir=TOP))]
 VERSIONS = {"gnu": (["cut", "--version"], "(GNU coreutils) 9.1\n"), "busybox": (["busybox"], "BusyBox v1.35.")}
 PROMPT = re.compile(r"(gnu|busybox|)\$ (.*)")
 SIGNS = {r"\e": "\\", r"\(aq": "'", r"\(ga": "`", r"\(ha": "^", r"\(ti": "~", r"\-": "-", r"\&": ""}
+
+COMPLETED = [
+    ("ptext ", TOOLS),
+    ("ptext pa", ["paste"]),
+    ("ptext cut -f ", []),
+    ("ptext cut -sf ", []),
+    ("ptext cut -f1 -", ["-b", "-c", "-d", "-f", "-n", "-s", "-z"]),
+    ("ptext cut -f 1 man/ptext-c", ["man/ptext-comm.1", "man/ptext-cut.1"]),
+    ("ptext tr -d ", []),
+    ("ptext comm f -", []),
+    ("ptext uniq -- -", []),
+]
 
 
 def blocks_of_page(text):
@@ -93,6 +108,43 @@ def lint():
     return subprocess.run(words, stdout=subprocess.PIPE, stderr=subprocess.STDOUT, text=True, check=False).stdout
 
 
+def letters_of_program(program, tool):
+    """The letters that the program does not call unknown."""
+    words = [[program, tool, f"-{it}"] for it in string.ascii_letters + string.digits]
+    said = [subprocess.run(it, stdin=subprocess.DEVNULL, capture_output=True, text=True, check=False).stderr for it in words]
+    return {it[2][1] for it, text in zip(words, said) if "unknown option" not in text}
+
+
+def letters_of_page(tool):
+    with open(f"{TOP}/man/ptext-{tool}.1", encoding="utf-8") as it:
+        items = re.findall(r"^\.It Fl (.*)$", it.read(), re.M)
+    return {letter for item in items for letter in re.findall(r"\b\w\b", item.partition(" Ar ")[0])}
+
+
+def completed(words):
+    """What bash completes behind these words."""
+    text = f'. "{TOP}/completion/ptext"; COMP_WORDS=("$@"); COMP_CWORD=$(($# - 1)); _ptext; echo "${{COMPREPLY[@]}}"'
+    did = subprocess.run(["bash", "-c", text, "bash", *words], cwd=TOP, capture_output=True, text=True, check=False)
+    return did.stdout.split()
+
+
+def wrong_options(program):
+    """Where the options of a page or of the completion are not those of the program."""
+    found = []
+    if not shutil.which("bash"):
+        print("left out: the completion (there is no bash)")
+    for tool in TOOLS:
+        taken = letters_of_program(program, tool)
+        if letters_of_page(tool) != taken:
+            found.append(f"the options of man/ptext-{tool}.1 are not those of the program, {sorted(taken)}\n")
+        if shutil.which("bash") and set(completed(["ptext", tool, "-"])) != {f"-{it}" for it in taken}:
+            found.append(f"the completion of {tool} has not the options of the program, {sorted(taken)}\n")
+    for text, wanted in COMPLETED if shutil.which("bash") else []:
+        if sorted(completed(text.split(" "))) != sorted(wanted):
+            found.append(f"completion of `{text}`: {completed(text.split(' '))}, wanted {wanted}\n")
+    return "".join(found)
+
+
 def main():
     if len(sys.argv) != 2:
         return __doc__
@@ -101,7 +153,7 @@ def main():
         print(f"left out: the examples of {side} (the system has no such version)")
     counts = [run_all(file, os.path.abspath(sys.argv[1]), known) for file in FILES]
     good, bad = (sum(it) for it in zip(*counts))
-    found = lint()
+    found = lint() + wrong_options(os.path.abspath(sys.argv[1]))
     print(f"{found}{good} of {good + bad} examples as wanted")
     return 1 if bad or found else 0
 
