@@ -70,13 +70,14 @@ class Answer(NamedTuple):
 
 class Listed(NamedTuple):
     """A difference: its title in docs/COMPARISON.md, its tools, when it is met, and what is done then. `refused`: the
-    program refuses these words, whatever the other does. `taken`: the program takes words that the other refuses.
-    Else `put` gives the case as the other is asked it, and what becomes of its output."""
+    program refuses words that the other takes, and its message has what `says` tells. `taken`: the other refuses words
+    that the program takes. Else `put` gives the case as the other is asked it, and what becomes of its output."""
 
     title: str
     tools: str
     when: Callable
     does: str = "put"
+    says: str = ""
     put: Optional[Callable] = None
 
 
@@ -241,70 +242,94 @@ def translates(case):
     return not case.has("d") and len(case.operands) == 2
 
 
-def is_complement(case):
-    return case.has("c") or case.has("C")
-
-
 CLASS = re.compile(r"\[:[a-z]+:\]")
 UNIT = r"(?:\\[0-7]{1,3}|\\?[^\\]|\\\\)"
 
 
-def second_ends_short(case):
-    """string1 is longer than a string2 that ends with a class."""
-    return translates(case) and re.search(r"\[:[a-z]+:\]$", case.operands[1])
+def has_their_letter(case):
+    return any(map(case.has, THEIRS[case.tool]))
 
 
-def has_same_case(case):
-    """A class of string2 that translates and faces no other case."""
+def has_largest_number(case):
+    return any(str(MOST) in it for letter in "bcf" for it in case.values(letter))
+
+
+def has_other_escape(case):
+    return any(not re.fullmatch(r"([^\\]|\\[nt0\\])+", it, re.S) for it in case.values("d"))
+
+
+def has_newline_in_line(case):
+    """Where fields stand between blanks."""
+    splits = case.has("f") if case.tool == "uniq" else not case.has("t")
+    return splits and case.has("z") and any(b"\n" in it for it in case.inputs.values())
+
+
+def has_last_blanks(case):
+    ends = [line[-1:] for it in case.operands for line in case.lines(it)]
+    return not case.has("t") and any(it in (b" ", b"\t") for it in ends)
+
+
+def has_odd_escape(case):
+    return any(re.search(r"(?<!\\)(\\\\)*(\\[4-7][0-7][0-7]|\\$)", it) for it in case.operands)
+
+
+def has_odd_repeat(case):
+    """A repeat in the first string, or a count above 65535."""
+    counts = [it for text in case.operands for it in re.findall(r"\*([1-9][0-9]*)\]", text)]
+    return any(int(it) > 65535 for it in counts) or re.search(r"\[.*\*[0-9]*\]", "".join(case.operands[:1]), re.S)
+
+
+def squeezes_a_fill(case):
+    return both("d", "s")(case) and re.search(r"\*0*\]", "".join(case.operands[1:]))
+
+
+def has_class_in_second(case):
     return translates(case) and CLASS.search(case.operands[1])
 
 
-def has_large_count(case):
-    found = [it for text in case.operands for it in re.findall(r"\*([0-9]+)\]", text)]
-    return any(re.search("[89]", it) if it[0] == "0" else int(it) > 65535 for it in found) or any(
-        it[0] == "0" and not re.search("[89]", it) and int(it, 8) > 65535 for it in found
-    )
+def ends_with_class(case):
+    return translates(case) and re.search(r"\[:[a-z]+:\]$", case.operands[1])
+
+
+def replaces_other_than_class(case):
+    """A complement of classes is replaced."""
+    return translates(case) and (case.has("c") or case.has("C")) and CLASS.search(case.operands[0])
 
 
 def is_almost_a_form(case):
-    rest = "".join(re.sub(rf"\[:[a-z]+:\]|\[={UNIT}=\]|\[{UNIT}\*[0-9]*\]", "", it, flags=re.S) for it in case.operands)
-    return re.search(r"\[[:=]|\[.*\*", rest, re.S)
+    forms = rf"\[:[a-z]+:\]|\[={UNIT}=\]|\[{UNIT}\*[0-9]*\]"
+    return any(re.search(r"\[[:=]|\[.*\*", re.sub(forms, "", it, flags=re.S), re.S) for it in case.operands)
 
 
 BEHIND = "Options stand before operands"
+NUMBERS = "Numbers are digits, up to 18446744073709551615"
 LISTED = [
     Listed(BEHIND, "cut paste uniq comm", lambda case: case.late, put=lambda case: (case, None)),
-    Listed(BEHIND, "join", lambda case: case.late, "refused"),
-    Listed("Counts have no blanks in front", "uniq", lambda case: case.has("c"), put=put_counts),
+    Listed(BEHIND, "join", lambda case: case.late, "refused", "wrong number of operands"),
+    Listed("A value is given once", "cut paste uniq join", is_twice, "refused", "is given twice"),
+    Listed("Options that do not go together", "cut uniq join tr", is_apart, "refused", "do not go together"),
+    Listed("Letters that are not there", "uniq join tr", has_their_letter, "refused", "unknown option in"),
+    Listed(NUMBERS, "uniq join", has_other_number, "refused", "wrong value for option"),
+    Listed(NUMBERS, "cut", has_largest_number, "taken"),
+    Listed("A delimiter is one byte that ends no line", "cut join", has_wide_delimiter, "refused", "option -[dt]"),
+    Listed("Standard input is named once", "comm", lambda case: case.operands == ["-", "-"], "refused", "named twice"),
     Listed("A last line that lacks its end is a line, with `-z` too", "cut", ends_with_delimiter, put=put_ended),
-    Listed("With `-z` newline is no blank", "uniq", both("z", "f"), put=put_other_newline),
-    Listed("With `-z` newline is no blank", "join", lambda case: case.has("z") and not case.has("t"), put=put_other_newline),
-    Listed("`-e` fills what `-o` names", "join", lambda case: case.has("e") and not case.has("o"), put=put_without("e")),
+    Listed("Counts have no blanks in front", "uniq", lambda case: case.has("c"), put=put_counts),
+    Listed("With `-z` newline is no blank", "uniq join", has_newline_in_line, put=put_other_newline),
+    Listed("Other escapes and an empty list of `paste`", "paste", has_other_escape, "refused", "option -d"),
+    Listed("`paste` needs an operand", "paste", lambda case: not case.operands, "refused", "number of operands"),
     Listed("A line out of order is a fault", "comm join", disorder, put=put_in_order),
     Listed("Descending order", "comm join", lambda case: case.has("r"), put=put_ascending),
+    Listed("`-e` fills what `-o` names", "join", lambda case: case.has("e") and not case.has("o"), put=put_without("e")),
+    Listed("Blanks at the end of a line make no field", "join", has_last_blanks, put=put_without_last_blanks),
     Listed("An empty line has one empty field with `-t`", "join", has_empty_line, put=put_field),
-    Listed("Blanks at the end of a line make no field", "join", lambda case: not case.has("t"), put=put_without_last_blanks),
-    Listed("A value is given once", "cut paste uniq join", is_twice, "refused"),
-    Listed("Options that do not go together", "cut uniq join tr", is_apart, "refused"),
-    Listed("Letters that are not there", "uniq join tr", lambda case: any(map(case.has, THEIRS[case.tool])), "refused"),
-    Listed("A delimiter is one byte that ends no line", "cut join", has_wide_delimiter, "refused"),
-    Listed("Other escapes and an empty list of `paste`", "paste", lambda case: any(
-        not re.fullmatch(r"([^\\]|\\[nt0\\])+", it, re.S) for it in case.values("d")), "refused"),
-    Listed("`paste` needs an operand", "paste", lambda case: not case.operands, "refused"),
-    Listed("Numbers are digits, up to 18446744073709551615", "uniq join", has_other_number, "refused"),
-    Listed("Numbers are digits, up to 18446744073709551615", "cut", lambda case: any(
-        str(MOST) in it for letter in "bcf" for it in case.values(letter)), "taken"),
-    Listed("Standard input is named once", "comm", lambda case: case.operands == ["-", "-"], "refused"),
-    Listed("An empty string of `tr`", "tr", lambda case: case.operands[:1] == [""] or translates(case) and not case.operands[1],
-        "refused"),
-    Listed("Escapes of `tr`", "tr", lambda case: any(
-        re.search(r"(?<!\\)(\\\\)*(\\[4-7][0-7][0-7]|\\$)", it) for it in case.operands), "refused"),
-    Listed("Repeats of `tr`", "tr", lambda case: has_large_count(case) or re.search(r"\[.*\*[0-9]*\]", "".join(case.operands[:1]), re.S),
-        "refused"),
-    Listed("Repeats of `tr`", "tr", lambda case: both("d", "s")(case) and re.search(r"\*0*\]", "".join(case.operands[1:])), "taken"),
-    Listed("Classes of `tr`", "tr", has_same_case, "refused"),
-    Listed("Classes of `tr`", "tr", second_ends_short, "taken"),
-    Listed("Classes of `tr`", "tr", lambda case: is_complement(case) and translates(case), "taken"),
+    Listed("An empty string of `tr`", "tr", lambda case: "" in case.operands, "refused", "empty"),
+    Listed("Escapes of `tr`", "tr", has_odd_escape, "refused", "octal|escape"),
+    Listed("Repeats of `tr`", "tr", has_odd_repeat, "refused", "repeat|size"),
+    Listed("Repeats of `tr`", "tr", squeezes_a_fill, "taken"),
+    Listed("Classes of `tr`", "tr", has_class_in_second, "refused", "pairing"),
+    Listed("Classes of `tr`", "tr", ends_with_class, "taken"),
+    Listed("Classes of `tr`", "tr", replaces_other_than_class, "taken"),
     Listed("Brackets that are no form", "tr", is_almost_a_form, "taken"),
 ]
 
@@ -427,15 +452,16 @@ def judge(case, program, room):
     if ours.status == 2:
         if ours.out or not re.fullmatch(rf"({case.tool}|ptext): [^\n]*\n?[^\n]*\n", ours.messages):
             return [], f"refused words touch nothing and say one message\n{shown}"
-        found = ["(both refuse)"] if refuses else [it.title for it in given if it.does == "refused"]
+        met = [it.title for it in given if it.does == "refused" and re.search(it.says, ours.messages)]
+        found = ["(both refuse)"] if refuses else met[:1]
         return (titles + found, None) if found else ([], f"the program refuses what the other takes\n{shown}")
     wanted = theirs.out
     for back in undo:
         wanted = back(wanted)
     messages = messages_of(case)
     found = [it.title for it in given if it.does == "taken"]
-    if refuses and not messages and found:
-        return found, None
+    if refuses and found and ours.messages == messages:
+        return titles + found[:1], None
     if (ours.out, ours.messages, ours.status) != (wanted, messages, 1 if messages else theirs.status):
         return [], f"wanted: {short(wanted)} {messages!r}\n{shown}"
     return titles, None
