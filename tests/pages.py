@@ -1,6 +1,6 @@
 #!/usr/bin/env python3
 """Runs the examples of the README, the pages and the docs where they stand, lints the pages, and asks whether the options
-of the pages and of the completion are those of the program.
+of the pages and of the completion are those of the program, and whether its messages stand in the pages.
 
   python3 tests/pages.py PROGRAM
 
@@ -145,6 +145,34 @@ def wrong_options(program):
     return "".join(found)
 
 
+def form_of(item):
+    """A message of a page as a pattern: what stands for something else is any text."""
+    text, space = "", ""
+    words = iter(item.split())
+    for word in words:
+        if word in ("No", "Ns"):
+            space = "" if word == "Ns" else space
+            continue
+        text += ("" if word in (":", ",") else space) + (".*" if word == "Ar" and next(words) else re.escape(word))
+        space = " "
+    return text
+
+
+def lacking_messages():
+    """Messages that a test wants and ptext.1 has not, and kinds of refused strings that ptext-tr.1 has not."""
+    texts = {}
+    for name in ["man/ptext.1", "man/ptext-tr.1", "tests/refused.txt", "tests/program.sh"]:
+        with open(f"{TOP}/{name}", encoding="utf-8") as it:
+            texts[name] = it.read()
+    forms = [form_of(it) for it in re.findall(r"^\.It (.*: .*)$", texts["man/ptext.1"], re.M)]
+    rows = [it.partition("|")[0] for it in texts["tests/refused.txt"].splitlines() if not it.startswith("#")]
+    wanted = [it for row in re.findall(r"^want '.*' '(.+)'$", texts["tests/program.sh"], re.M) for it in row.split("\\n") if it]
+    lacking = [it for it in rows + wanted if not any(re.fullmatch(form, it) for form in forms)]
+    kinds = {it.rpartition(" ")[2] for it in rows if "wrong string" in it}
+    lacking += [it for it in sorted(kinds) if f"\n.It {it}\n" not in texts["man/ptext-tr.1"]]
+    return "".join(f"not in the pages: {it}\n" for it in lacking)
+
+
 def main():
     if len(sys.argv) != 2:
         return __doc__
@@ -153,7 +181,7 @@ def main():
         print(f"left out: the examples of {side} (the system has no such version)")
     counts = [run_all(file, os.path.abspath(sys.argv[1]), known) for file in FILES]
     good, bad = (sum(it) for it in zip(*counts))
-    found = lint() + wrong_options(os.path.abspath(sys.argv[1]))
+    found = lint() + wrong_options(os.path.abspath(sys.argv[1])) + lacking_messages()
     print(f"{found}{good} of {good + bad} examples as wanted")
     return 1 if bad or found else 0
 

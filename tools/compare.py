@@ -1,10 +1,10 @@
 #!/usr/bin/env python3
 """Compares the built program with the system's tools, on random words and inputs, in the C locale.
 
-  python3 tools/compare.py PROGRAM [COUNT] [--tool TOOL] [--seed NUMBER]
+  python3 tools/compare.py PROGRAM [COUNT] [--tool TOOL] [--seed NUMBER] [--only NUMBER]
 
-Each case is run by both, in a folder of its own; the program gets standard input through a pipe, in pieces of 1, 7, 4096
-or all bytes, each of which one read answers. Output and status have to be equal, and the messages of the program are
+Each case is run by both, in a folder of its own; standard input comes through a pipe, in pieces of 1, 7 or 4096 bytes,
+each of which one read answers. --only runs one case of a seed, and shows all of it where it fails. Output and status have to be equal, and the messages of the program are
 those that docs/COMPARISON.md states. LISTED is the table of the differences: where one is met, the other side is asked
 in its own way (`put`), or it is known that one side refuses the words. What is not listed is a failure, and is shown
 with its words and inputs.
@@ -633,14 +633,16 @@ def main():
     given.add_argument("count", nargs="?", type=int, default=1000)
     given.add_argument("--tool", choices=list(FLAGS))
     given.add_argument("--seed", type=int, default=random.randrange(1 << 30))
+    given.add_argument("--only", type=int)
     asked_for = given.parse_args()
+    numbers = range(asked_for.count) if asked_for.only is None else [asked_for.only]
     lacking = check_titles()
     if lacking:
         return f"not in docs/COMPARISON.md: {', '.join(lacking)}"
     met, bad = collections.Counter(), 0
     print(f"seed {asked_for.seed}", flush=True)
     with tempfile.TemporaryDirectory() as room:
-        for number in range(asked_for.count):
+        for number in numbers:
             rng = random.Random(f"{asked_for.seed} {number}")
             case = some_case(asked_for.tool or list(FLAGS)[number % len(FLAGS)], rng)
             titles, wrong = judge(case, os.path.abspath(asked_for.program), room)
@@ -648,10 +650,11 @@ def main():
             if wrong:
                 bad += 1
                 read = {name: short(text) for name, text in case.inputs.items() if name in case.operands or name == "-"}
+                read = case.inputs if asked_for.only is not None else read
                 print(f"FAILED, case {number}: {case.words} in pieces of {case.piece}\n{wrong}\ninputs: {read}\n", flush=True)
     for (tool, title), count in sorted(met.items()):
         print(f"{count:6} {tool}: {title}")
-    print(f"{asked_for.count - bad} of {asked_for.count} cases as wanted")
+    print(f"{len(numbers) - bad} of {len(numbers)} cases as wanted")
     return 1 if bad else 0
 
 
