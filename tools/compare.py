@@ -4,10 +4,10 @@
   python3 tools/compare.py PROGRAM [COUNT] [--tool TOOL] [--seed NUMBER] [--only NUMBER]
 
 Each case is run by both, in a folder of its own; standard input comes through a pipe, in pieces of 1, 7 or 4096 bytes,
-each of which one read answers. --only runs one case of a seed, and shows all of it where it fails. Output and status have to be equal, and the messages of the program are
-those that docs/COMPARISON.md states. LISTED is the table of the differences: where one is met, the other side is asked
-in its own way (`put`), or it is known that one side refuses the words. What is not listed is a failure, and is shown
-with its words and inputs.
+each of which one read answers. --only runs one case of a seed, and shows all of it where it fails. Output and status
+have to be equal, and the messages of the program are those that its pages state. LISTED is the table of the
+differences, as docs/COMPARISON.md has them: where one is met, the other side is asked in its own way (`put`), or it is
+known that one side refuses the words. What is not listed is a failure, and is shown with its words and inputs.
 """
 import argparse
 import collections
@@ -216,7 +216,8 @@ def is_number(text, least=0):
 
 
 def is_twice(case):
-    return any(len(case.values(it)) > 1 for it in VALUED[case.tool] if (case.tool, it) not in (("join", "a"), ("join", "v")))
+    once = [it for it in VALUED[case.tool] if not (case.tool == "join" and it in "av")]
+    return any(len(case.values(it)) > 1 for it in once)
 
 
 def is_apart(case):
@@ -225,7 +226,8 @@ def is_apart(case):
 
 
 def has_wide_delimiter(case):
-    return any(len(it.encode()) != 1 or it.encode() == case.end() for it in case.values("d" if case.tool == "cut" else "t"))
+    values = [it.encode() for it in case.values("d" if case.tool == "cut" else "t")]
+    return any(len(it) != 1 or it == case.end() for it in values)
 
 
 def has_other_number(case):
@@ -435,6 +437,10 @@ def short(text):
     return repr(text) if len(text) <= MOST_SHOWN else f"{text[:MOST_SHOWN]!r}.. ({len(text)} bytes)"
 
 
+def shown_of(answer):
+    return f"{answer.status} {short(answer.out)} {answer.messages!r}"
+
+
 def judge(case, program, room):
     """The titles of the differences that were met, and what is wrong, if something is."""
     ours = run([program, *case.words], case, room, {})
@@ -448,7 +454,7 @@ def judge(case, program, room):
         surroundings["POSIXLY_CORRECT"] = "1"
     theirs = run(words_of(put, random.Random(0)), put, room, surroundings)
     refuses = theirs.status != 0 and not theirs.out
-    shown = f"theirs: {theirs.status} {short(theirs.out)} {theirs.messages!r}\nours: {ours.status} {short(ours.out)} {ours.messages!r}"
+    shown = f"theirs: {shown_of(theirs)}\nours: {shown_of(ours)}"
     if ours.status == 2:
         if ours.out or not re.fullmatch(rf"({case.tool}|ptext): [^\n]*\n?[^\n]*\n", ours.messages):
             return [], f"refused words touch nothing and say one message\n{shown}"
@@ -470,37 +476,51 @@ def judge(case, program, room):
 # --- random cases
 
 
-def some_number(rng):
-    return rng.choice([str(rng.randint(1, 4)), str(rng.randint(1, 12)), "0", "007", str(MOST), str(MOST + 1)][: rng.choice([1, 1, 2, 6])])
+# What is mostly chosen from, and what now and then.
+NUMBER = ["1", "2", "3", "4"], ["0", "9", "007", str(MOST), str(MOST + 1)]
+LISTS = ["", "0", "-", "3-1", "1,,2", ",1", "x", "1-2-3", "-0", "0-", " 1", "1 ", str(MOST), f"{MOST}-", str(MOST + 1)]
+CUT_DELIMITERS = [",", ":", " ", "a", "\t", "-"], ["", "\n", "ab", "é"]
+PASTE_ELEMENTS = [",", ";", ":", "x", r"\n", r"\t", r"\\", r"\0", "é"]
+PASTE_LISTS = ["", "\\", r"\q", "a\\"]
+UNIQ_OPTIONS = [("c", None), ("d", None), ("i", None), ("f", "+1"), ("s", ""), ("D", None)]
+JOIN_OPTIONS = [("a", "1"), ("v", "2"), ("i", None), ("a", "3"), ("v", "01")]
+JOIN_FIELDS = ["0", "1.1", "1.2", "2.1", "2.2", "1.3", "2.3"]
+JOIN_LISTS = ["", "1.0", "0,", "00", "3.1", "1", f"1.{MOST + 1}"]
+JOIN_SEPARATORS = [",", ":", " ", "a"], ["", "\n", "ab", r"\0"]
+JOIN_NUMBERS = ["1", "2", "2", "3"], ["0", "+1", str(MOST + 1)]
+SET_UNITS = ["a", "b", "z", "A", "-", "[", "]", "*", ":", "=", ".", ",", " ", "é", r"\n", r"\t", r"\\", r"\055", r"\0012", r"\377"]
+SET_CLASSES = ["[:lower:]", "[:upper:]", "[:digit:]", "[:space:]", "[:alpha:]"]
+SET_PARTS = [*SET_UNITS, *SET_CLASSES, "a-c", "x-z", "0-9", "A-Z", "[=a=]", "[x*]", "[y*2]", "[y*02]"]
+SET_FORMS = ["[:foo:]", "[:alpha", "[::]", "[==]", "[a*x]", "[a*99999]", "[a*08]", "[x*][y*]", "[-a"]
+ODD_SETS = ["", r"\400", "\\", "z-a", r"\q", r"\8", "a-", "--/", *SET_FORMS]
+
+
+def chosen(rng, from_these, odd, often=0.96):
+    return rng.choice(from_these if rng.random() < often else odd)
 
 
 def some_list(rng):
-    parts = []
+    if rng.random() < 0.05:
+        return rng.choice(LISTS)
+    text = ""
     for _ in range(rng.choice([1, 1, 2, 3])):
         low, more = rng.randint(1, 9), rng.randint(0, 5)
-        parts.append(rng.choice([str(low), f"{low}-{low + more}", f"{low}-", f"-{low}"]))
-    text = parts[0]
-    for part in parts[1:]:
-        text += rng.choice([",", ",", " ", "\t"]) + part
-    if rng.random() < 0.05:
-        text = rng.choice(["", "0", "-", "3-1", "1,,2", ",1", "x", "1-2-3", "-0", "0-", str(MOST), f"{MOST}-", str(MOST + 1), " 1", "1 "])
+        text += rng.choice([",", ",", " ", "\t"]) if text else ""
+        text += rng.choice([str(low), f"{low}-{low + more}", f"{low}-", f"-{low}"])
     return text
 
 
 def some_set(rng):
-    parts = ["a", "b", "z", "A", "-", "[", "]", "a-c", "x-z", "0-9", "A-Z", r"\n", r"\t", r"\\", r"\055", r"\0012", r"\377", "[:lower:]",
-        "[:upper:]", "[:digit:]", "[:space:]", "[:alpha:]", "[=a=]", "[x*]", "[y*2]", "[y*02]", "*", ":", "=", ".", ",", " ", "é"]
-    odd = ["", r"\400", "\\", "z-a", "[:foo:]", "[a*99999]", "[a*08]", "[x*][y*]", "[:alpha", "[==]", "[a*x]", "[::]", r"\q", r"\8", "a-", "--/", "[-a"]
     if rng.random() < 0.04:
-        return rng.choice(["", rng.choice(parts)]) + rng.choice(odd)
-    return "".join(rng.choice(parts) for _ in range(rng.choice([1, 1, 2, 3])))
+        return rng.choice(["", rng.choice(SET_PARTS)]) + rng.choice(ODD_SETS)
+    return "".join(rng.choice(SET_PARTS) for _ in range(rng.choice([1, 1, 2, 3])))
 
 
 def options_of_cut(rng):
     letter = rng.choice("bcfff")
     options = [(letter, some_list(rng))]
     if letter == "f" and rng.random() < 0.7:
-        options.append(("d", rng.choice([",", ":", " ", "a", "\t", "-"] if rng.random() < 0.96 else ["", "\n", "ab", "é"])))
+        options.append(("d", chosen(rng, *CUT_DELIMITERS)))
     if letter == "f" and rng.random() < 0.3 or rng.random() < 0.02:
         options.append(("s", None))
     if letter == "b" and rng.random() < 0.2 or rng.random() < 0.02:
@@ -511,18 +531,15 @@ def options_of_cut(rng):
 def options_of_paste(rng):
     options = [("s", None)] if rng.random() < 0.4 else []
     if rng.random() < 0.7:
-        parts = [",", ";", ":", "x", r"\n", r"\t", r"\\", r"\0", "é"]
-        text = "".join(rng.choice(parts) for _ in range(rng.randint(1, 4)))
-        options.append(("d", text if rng.random() < 0.96 else rng.choice(["", "\\", r"\q", "a\\"])))
+        text = "".join(rng.choice(PASTE_ELEMENTS) for _ in range(rng.randint(1, 4)))
+        options.append(("d", chosen(rng, [text], PASTE_LISTS)))
     return options
 
 
 def options_of_uniq(rng):
     options = [(rng.choice("cdu"), None)] if rng.random() < 0.6 else []
-    options += [(letter, some_number(rng)) for letter in "fs" if rng.random() < 0.4]
-    if rng.random() < 0.04:
-        options.append(rng.choice([("c", None), ("d", None), ("i", None), ("f", "+1"), ("s", ""), ("D", None)]))
-    return options
+    options += [(letter, chosen(rng, *NUMBER, 0.8)) for letter in "fs" if rng.random() < 0.4]
+    return options + ([rng.choice(UNIQ_OPTIONS)] if rng.random() < 0.04 else [])
 
 
 def options_of_comm(rng):
@@ -530,25 +547,20 @@ def options_of_comm(rng):
 
 
 def options_of_join(rng):
-    options = []
     letter = rng.choice("av")
-    for number in "12":
-        if rng.random() < 0.35:
-            options.append((letter, number))
+    options = [(letter, number) for number in "12" if rng.random() < 0.35]
+    options += [("r", None)] if rng.random() < 0.15 else []
     if rng.random() < 0.3:
         options.append(("e", rng.choice(["-", "EMPTY", "", "é"])))
     if rng.random() < 0.4:
-        parts = ["0", "1.1", "1.2", "2.1", "2.2", "1.3", "2.3"]
-        text = parts[rng.randrange(7)] + "".join(rng.choice([",", " "]) + rng.choice(parts) for _ in range(rng.randint(0, 3)))
-        options.append(("o", text if rng.random() < 0.96 else rng.choice(["", "1.0", "0,", "00", "3.1", "1", f"1.{MOST + 1}"])))
+        text = rng.choice(JOIN_FIELDS)
+        for _ in range(rng.randint(0, 3)):
+            text += rng.choice([",", " "]) + rng.choice(JOIN_FIELDS)
+        options.append(("o", chosen(rng, [text], JOIN_LISTS)))
     if rng.random() < 0.5:
-        options.append(("t", rng.choice([",", ":", " ", "a"]) if rng.random() < 0.96 else rng.choice(["", "\n", "ab", r"\0"])))
-    for letter in "12":
-        if rng.random() < 0.25:
-            options.append((letter, rng.choice(["1", "2", "2", "3"]) if rng.random() < 0.97 else rng.choice(["0", "+1", str(MOST + 1)])))
-    if rng.random() < 0.02:
-        options.append(rng.choice([("a", "1"), ("v", "2"), ("i", None), ("a", "3"), ("v", "01")]))
-    return options
+        options.append(("t", chosen(rng, *JOIN_SEPARATORS)))
+    options += [(letter, chosen(rng, *JOIN_NUMBERS)) for letter in "12" if rng.random() < 0.25]
+    return options + ([rng.choice(JOIN_OPTIONS)] if rng.random() < 0.02 else [])
 
 
 def options_of_tr(rng):
@@ -565,14 +577,12 @@ def operands_of(tool, options, rng):
     if tool == "tr":
         count = 1 if "d" in letters and "s" not in letters or letters == ["s"] and rng.random() < 0.5 else 2
         return [some_set(rng) for _ in range(count if rng.random() < 0.98 else rng.randint(0, 3))]
+    names = ["-", "f", "g", "h", "none" if rng.random() < 0.15 else "f"]
     if tool == "uniq":
-        names = [rng.choice(["-", "f", "f", "none" if rng.random() < 0.1 else "g"])]
-        return (names + ["out"] if rng.random() < 0.2 else names) if rng.random() < 0.7 else []
-    names = ["f", "g", "-", "h", "none" if rng.random() < 0.15 else "f"]
+        return ([rng.choice(names)] + ["out"] * (rng.random() < 0.2)) * (rng.random() < 0.7)
     if tool in ("comm", "join"):
-        return rng.sample(["f", "g", "-", "none" if rng.random() < 0.1 else "h"], 2) if rng.random() < 0.98 else rng.choice([["f"], ["-", "-"]])
-    count = rng.choice([0, 1, 1, 2, 3] if tool == "cut" else [0, 1, 2, 3, 4] if rng.random() < 0.1 else [1, 2, 3, 4])
-    return [rng.choice(names) for _ in range(count)]
+        return rng.sample(sorted(set(names)), 2) if rng.random() < 0.98 else rng.choice([["f"], ["-", "-"]])
+    return [rng.choice(names) for _ in range(rng.choice([0, 1, 1, 2, 3, 4]) or (tool == "paste" and rng.random() < 0.8))]
 
 
 def some_line(rng, end, kind):
@@ -596,9 +606,10 @@ def in_order(case, rng):
         return case
     if case.tool == "join" and case.has("r"):
         case = case.with_lines(lambda place, lines: [it for it in lines if key_of(case, place, it)])
+    if rng.random() < 0.25:
+        return case
     known = ranks(case)
-    sort = rng.random() < 0.75
-    return case.with_lines(lambda place, lines: sorted(lines, key=lambda it: known[key_of(case, place, it)]) if sort else lines)
+    return case.with_lines(lambda place, lines: sorted(lines, key=lambda it: known[key_of(case, place, it)]))
 
 
 def some_case(tool, rng):
@@ -651,7 +662,8 @@ def main():
                 bad += 1
                 read = {name: short(text) for name, text in case.inputs.items() if name in case.operands or name == "-"}
                 read = case.inputs if asked_for.only is not None else read
-                print(f"FAILED, case {number}: {case.words} in pieces of {case.piece}\n{wrong}\ninputs: {read}\n", flush=True)
+                print(f"FAILED, case {number}: {case.words} in pieces of {case.piece}")
+                print(f"{wrong}\ninputs: {read}\n", flush=True)
     for (tool, title), count in sorted(met.items()):
         print(f"{count:6} {tool}: {title}")
     print(f"{len(numbers) - bad} of {len(numbers)} cases as wanted")
