@@ -171,6 +171,24 @@ want '' 'paste: wrong number of operands\n'
 run empty paste "$@" -
 same "513 operands of paste" 2
 
+# paste, in rows and in series, over files and standard input.
+printf '1\n2\n3\n' >numbers
+want 'ab\t1\tcd\t2\n\t3\t\t\n' ''
+run numbers paste f - h -
+same "columns of files and of standard input" 0
+
+want 'ab\n1,2,3\n\n' ''
+run numbers paste -sd, f - -
+same "lines in series" 0
+
+want '' 'paste: none: cannot be opened\npaste: gone: cannot be opened\n'
+run numbers paste none - gone
+same "no rows where a file cannot be opened" 1
+
+want 'ab\ncd\n' 'paste: none: cannot be opened\n'
+run numbers paste -s f none h
+same "series without a file that cannot be opened" 1
+
 # uniq, and its output file: created or emptied once the input was opened, and not else.
 printf 'a\na\nb\na' >runs
 want '2 a\n1 b\n1 a\n' ''
@@ -210,6 +228,35 @@ want '' 'uniq: output: write failed\n'
 status=$?
 : >out
 same "an output file on a full device" 1
+
+# comm, over two files, a file and standard input, and files out of order.
+printf 'a\na\nb\n' >first
+printf 'a\nc\n' >second
+want '\t\ta\na\nb\n\tc\n' ''
+run empty comm first second
+same "lines of two files" 0
+run first comm - second
+same "lines of standard input and a file" 0
+
+printf 'b\na\nc\n' >falls
+printf 'a\nb\nb\nd\n' >rises
+want '\ta\n\t\tb\n\tb\n' 'comm: falls: line 2 is out of order\n'
+run empty comm falls rises
+same "a file out of order" 1
+
+want '' 'comm: f/none: cannot be opened\ncomm: none: cannot be opened\n'
+run empty comm f/none none
+same "two files that cannot be opened" 1
+
+# What the system's comm says of sorted numbers.
+seq 1 3 3000 | LC_ALL=C sort >threes
+seq 1 2 3000 | LC_ALL=C sort >twos
+for letters in -1 -2 -3 -12 -13 -23; do
+    LC_ALL=C comm $letters threes twos >want.out
+    : >want.messages
+    run empty comm $letters threes twos
+    same "comm $letters as the system's" 0
+done
 
 # One line of 64 MB, which uniq keeps twice at most, in 192 MB of address space.
 (

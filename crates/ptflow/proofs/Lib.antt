@@ -10,6 +10,7 @@ pub mod FieldWalks
 pub mod Fronts
 pub mod Grids
 pub mod LineLaws
+pub mod LaneLemmas
 pub mod LineLemmas
 pub mod LinesCame
 pub mod OpenRuns

@@ -35,7 +35,7 @@ use Rattle.ptflow.proofs.Takes.{reads_nothing, took_nothing, took_more, lines_tr
 
 -- ---- places that cells name
 
-named_at : (cells : List ℕ) (p : ℕ) → 0 < times cells p → (c : ℕ) × (c < length cells) × (get_or cells c 0 ≡ p)
+pub named_at : (cells : List ℕ) (p : ℕ) → 0 < times cells p → (c : ℕ) × (c < length cells) × (get_or cells c 0 ≡ p)
 named_at [] p some = absurd (omega arith)
 named_at (x ∷ cells) p some = by_test (x == p) refl (named_at cells p)
   where
@@ -45,7 +45,7 @@ named_at (x ∷ cells) p some = by_test (x == p) refl (named_at cells p)
         let l = later (omega (arith, some, sum_by-cons (λ y. cond (y == p) 1 0) x cells, ap (λ (t : Bool). cond {A = ℕ} t 1 0) other)) in
         (suc l.0, omega (arith, l.1), l.2)
 
-all_named : (P : ℕ → Type 0) (cells : List ℕ) → All P cells → (p : ℕ) → 0 < times cells p → P p
+pub all_named : (P : ℕ → Type 0) (cells : List ℕ) → All P cells → (p : ℕ) → 0 < times cells p → P p
 all_named P cells all p some = let n = named_at cells p some in subst P n.2 (All-get_or P cells n.0 0 n.1 all)
 
 -- lines of a reader by another byte than that of its own, where none was taken
@@ -596,6 +596,7 @@ module _ (job : Paste) (cells : List ℕ) (old set now : List Reader) (was is : 
       wrote = s.wrote;
       ends = record {
         named = here_named;
+        unfailed = never_failed here here_named;
         cause = ⊎_elim (λ k. inl k) (λ k. inr (k.0, k.1 ∙ (took_to here).failed ∙ (s.took here).failed ∙ failed_set here)) cause;
         others = λ q differ. failed_by new extra reads_to q (failed_there q differ);
         clean = s.clean;

@@ -1,6 +1,6 @@
 -- What `tr` writes of the rest of a text. A byte stays or goes by the byte that was written last alone, so that byte is
 -- all that is carried from block to block, and within a block from byte to byte.
-use Rattle.std.proofs.Common.{◌≡◌, ℕ, ◌+◌, ◌-◌, ◌<◌, ◌≤◌, ◌==◌, ◌&&◌, ◌||◌, not, eqb, Bool, true, false, cond, List, [], ◌∷◌, ◌++◌, Option, None, Some, map, length, take, set, refl, sym, ◌∙◌, ap, arith, append_assoc}
+use Rattle.std.proofs.Common.{◌≡◌, ℕ, ◌+◌, ◌-◌, ◌<◌, ◌≤◌, ◌==◌, ◌&&◌, ◌||◌, not, eqb, Bool, true, false, cond, List, [], ◌∷◌, ◌++◌, Option, None, Some, map, length, take, set, get_or, suc, refl, sym, ◌∙◌, ap, arith, append_assoc}
 use Rattle.std.specs.Prelude.{filter, zip, slice_get}
 use Rattle.std.specs.List.{last_or}
 use Rattle.std.specs.Option.{option_eq, option_or}
@@ -11,7 +11,9 @@ use Rattle.std.proofs.lemmas.List.Elements.{filter-append}
 use Rattle.ptlines.specs.Inputs.{Begins}
 use Rattle.ptlangs.specs.TrTables.{Tables, deletes, image, squeezes}
 use Rattle.ptflow.specs.Translations.{stays, squeeze_behind, translated, tr, tr_decided}
-use Rattle.ptflow.specs.Workings.TrRests.{squeeze_from, tr_rest}
+use Rattle.ptlangs.specs.declared.shifts.Stretch.{Stretch}
+use Rattle.ptlangs.specs.TrShifts.{shifted}
+use Rattle.ptflow.specs.Workings.TrRests.{squeeze_from, tr_rest, IsPlain}
 
 module _ (squeezed : ℕ → Bool) where
   behind_one : (last b : ℕ) (bytes : List ℕ) → squeeze_behind squeezed last (b ∷ bytes) ≡ cond (stays squeezed (last, b)) (b ∷ squeeze_behind squeezed b bytes) (squeeze_behind squeezed b bytes)
@@ -143,3 +145,30 @@ small false = omega arith
 pub not_both : (x y : Bool) → y ≡ false → false ≡ (x && y)
 not_both true y h = sym h
 not_both false y h = refl
+
+-- ---- where nothing is deleted or squeezed
+
+behind_all : (squeezed : ℕ → Bool) → ((b : ℕ) → squeezed b ≡ false) → (last : ℕ) (bytes : List ℕ) → squeeze_behind squeezed last bytes ≡ bytes
+behind_all squeezed none last [] = refl
+behind_all squeezed none last (b ∷ bytes) =
+    behind_one squeezed last b bytes ∙ ap (λ (s : Bool). cond (not s) (b ∷ squeeze_behind squeezed b bytes) (squeeze_behind squeezed b bytes)) (sym (not_both (last == b) (squeezed b) (none b)))
+    ∙ ap (λ (l : List ℕ). b ∷ l) (behind_all squeezed none b bytes)
+
+from_all : (squeezed : ℕ → Bool) → ((b : ℕ) → squeezed b ≡ false) → (last : Option ℕ) (bytes : List ℕ) → squeeze_from squeezed last bytes ≡ bytes
+from_all squeezed none None [] = refl
+from_all squeezed none None (b ∷ bytes) = ap (λ (l : List ℕ). b ∷ l) (behind_all squeezed none b bytes)
+from_all squeezed none (Some last) bytes = behind_all squeezed none last bytes
+
+filter_all : (test : ℕ → Bool) → ((b : ℕ) → test b ≡ false) → (bytes : List ℕ) → filter (λ b. not (test b)) bytes ≡ bytes
+filter_all test none [] = refl
+filter_all test none (b ∷ bytes) =
+    ap (λ (t : Bool). cond (not t) (b ∷ filter (λ b. not (test b)) bytes) (filter (λ b. not (test b)) bytes)) (none b) ∙ ap (λ (l : List ℕ). b ∷ l) (filter_all test none bytes)
+
+map_bytes : (f g : ℕ → ℕ) → ((b : ℕ) → b < 256 → f b ≡ g b) → (bytes : List ℕ) → ((k : ℕ) → get_or bytes k 0 < 256) → map f bytes ≡ map g bytes
+map_bytes f g same [] small = refl
+map_bytes f g same (b ∷ bytes) small = λ i. same b (small 0) i ∷ map_bytes f g same bytes (λ k. small (suc k)) i
+
+-- what is written is what the stretches make of each byte
+pub plain_rest : (ss : List Stretch) (t : Tables) → IsPlain ss t → (last : Option ℕ) (bytes : List ℕ) → ((k : ℕ) → get_or bytes k 0 < 256) → map (shifted ss) bytes ≡ tr_rest t last bytes
+plain_rest ss t plain last bytes small =
+    map_bytes (shifted ss) (image t) plain.0 bytes small ∙ sym (from_all (squeezes t) plain.2 last (translated t bytes) ∙ ap (map (image t)) (filter_all (deletes t) plain.1 bytes))

@@ -46,9 +46,10 @@ pub record RowsFinished (cells : List ℕ) (old new : List Reader) (out : Output
   pub denied : store.denied ≡ false
   pub empty : total store.lines ≡ 0
 
--- a read of the reader at this place failed, and nothing else
+-- a read of the reader at this place failed, for the first time, and nothing else
 pub record RowReadBroke (cells : List ℕ) (old new : List Reader) (out : Output) (store : Slots) (place : ℕ) : Type 0 where
   pub named : 0 < times cells place
+  pub unfailed : (reader_at old place).failed ≡ false
   pub cause : HasReadCause (reader_at old place) (reader_at new place)
   pub others : (other : ℕ) → other ≢ place → (reader_at new other).failed ≡ (reader_at old other).failed
   pub clean : out.faulted ≡ false

@@ -4,6 +4,7 @@ pub mod Continuations
 pub mod CutRests
 pub mod FieldPlaces
 pub mod TrRests
+pub mod Lanes
 pub mod OpenRuns
 pub mod SerialRests
 pub mod TakenLines

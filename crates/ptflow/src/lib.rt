@@ -7,6 +7,7 @@ mod cutting;
 mod faults;
 mod fields;
 mod keys;
+mod lanes;
 mod pasting;
 mod repeats;
 mod serial;
@@ -15,6 +16,7 @@ mod translating;
 
 pub use cutting::cut;
 pub use faults::FlowFault;
+pub use lanes::translate;
 pub use pasting::paste;
 pub use repeats::uniq;
 pub use serial::paste_serial;

@@ -27,6 +27,7 @@ pub mod TrSpans
 pub mod TrSecond
 pub mod TrPairs
 pub mod TrImages
+pub mod TrShifts
 pub mod TrAnswers
 pub mod TrTables
 pub mod TrPlans

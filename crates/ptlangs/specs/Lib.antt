@@ -8,5 +8,6 @@ pub mod TrClasses
 pub mod TrParts
 pub mod TrPlan
 pub mod TrReading
+pub mod TrShifts
 pub mod TrTables
 pub mod TrUnits

@@ -15,8 +15,10 @@ mod places;
 mod plan;
 pub mod ranges;
 mod second;
+mod shifts;
 mod units;
 
 pub use faults::{SetFault, SetFaultKind, SetString};
 pub use parts::parts_are_of_the_grammar;
 pub use plan::{CharPlan, Form, tables_hold_the_plan};
+pub use shifts::Shifts;

@@ -1,11 +1,12 @@
 //! What `tr` does to each byte (POSIX.1-2017, XCU, tr).
-ghost use Rattle.std.specs.Prelude.{◌≡◌, ◌^◌, ◌<◌, [], ℕ, List, Ok, IfOk, false, true, is_some, option_copied};
+ghost use Rattle.std.specs.Prelude.{◌≡◌, ◌^◌, ◌<◌, [], ℕ, List, Ok, IfOk, IfSome, MatchOption, length, false, true, is_some, option_copied};
 ghost use Rattle.std.specs.Result.{result_map_both};
 ghost use Rattle.ptlangs.specs.declared.faults.SetFault.{SetFault};
 ghost use Rattle.ptlangs.specs.declared.faults.SetFaultKind.{SetFaultKind};
 ghost use Rattle.ptlangs.specs.declared.pieces.Piece.{Piece};
 ghost use Rattle.ptlangs.specs.TrPlan.{array, collected, first_array, pieces_of, plan, plan_of, second_plan, may_pair as pairs, class_places, second_place, string_pieces, takes_second};
 ghost use Rattle.ptlangs.specs.TrTables.{tables, deletes, image, squeezes, HoldPlan};
+ghost use Rattle.ptlangs.specs.TrShifts.{stretches, Move};
 ghost use Rattle.ptlangs.specs.TrReading.{SecondHas, ok_map, places_of, second_array};
 
 use crate::faults::{SetFault, SetFaultKind, SetString};
@@ -13,6 +14,7 @@ use crate::images::{images, same};
 use crate::pieces::Place;
 use crate::places::{Places, no_bytes};
 use crate::second::Second;
+use crate::shifts::{Shifts, shifts_of};
 use std::marker::Model;
 
 /// What `tr` is asked to do, by its flags and the count of its operands.
@@ -263,6 +265,15 @@ impl CharPlan {
         ensures { result.now ≡ self.now.deleted }
     {
         &self.deleted
+    }
+
+    /// What the plan adds to bytes, where that is at most four stretches of bytes, each moved by one shift; a byte that
+    /// becomes itself is in none. It takes no memory.
+    pub fn shifts(&self) -> Option<Shifts>
+        ensures found { MatchOption result (4 < length (stretches self.now)) (λ s. s ≡ stretches self.now) }
+        ensures moves { IfSome result (λ s. Move s self.now) }
+    {
+        shifts_of(self.images())
     }
 
     /// For each byte, what it becomes.

@@ -8,9 +8,9 @@ ghost use Rattle.ptlines.specs.Readers.{Refills, IsSound, new_reader};
 ghost use Rattle.ptlines.specs.Fills.{Moves, Steps, Fills, Blocks};
 ghost use Rattle.ptlines.specs.contracts.reader.LineReader.{the_row};
 
+use crate::search::find_near;
 use crate::source::{Origin, Source};
 use crate::store::{LineFault, Store};
-use memchr::memchr;
 use std::alloc::Allocator;
 use std::marker::Model;
 
@@ -121,6 +121,7 @@ impl<S: Source, R: Source> LineReader<S, R> {
     }
 
     // The bytes that the block holds.
+    #[inline(always)]
     fn held(&self) -> &[u8]
         ensures held { result.now ≡ self.now.held }
         ensures sound { IsSound self.now }
@@ -129,6 +130,7 @@ impl<S: Source, R: Source> LineReader<S, R> {
     }
 
     // The fault that was answered, if there was one.
+    #[inline(always)]
     fn fault(&self) -> Option<LineFault>
         ensures fault { result ≡ self.now.fault }
         ensures sound { IsSound self.now }
@@ -137,6 +139,7 @@ impl<S: Source, R: Source> LineReader<S, R> {
     }
 
     // Whether the source has said its end.
+    #[inline(always)]
     fn has_ended(&self) -> bool
         ensures ended { result ≡ self.now.ended }
         ensures end { self.now.ended ≡ true → IsAtEnd self.now.left }
@@ -186,6 +189,7 @@ impl<S: Source, R: Source> LineReader<S, R> {
     }
 
     // Gives the first `count` bytes of the block to a slot.
+    #[inline(always)]
     fn give<A: Allocator + Copy>(
         &mut self,
         store: &mut Store<A>,
@@ -213,6 +217,7 @@ impl<S: Source, R: Source> LineReader<S, R> {
     }
 
     // Gives the held bytes up to the first end of a line to a slot, and passes that end.
+    #[inline(always)]
     fn scan<A: Allocator + Copy>(
         &mut self,
         store: &mut Store<A>,
@@ -225,7 +230,7 @@ impl<S: Source, R: Source> LineReader<S, R> {
         ensures slots { length store.new.lines ≡ length store.old.lines }
         ensures sound { IsSound self.new }
     {
-        match memchr(self.ending(), self.held()) {
+        match find_near(self.ending(), self.held()) {
             Some(at) => {
                 self.give(store, slot, at)?;
                 self.consume(1);
@@ -240,6 +245,7 @@ impl<S: Source, R: Source> LineReader<S, R> {
     }
 
     // Gives the next piece of a line to a slot.
+    #[inline(always)]
     fn step<A: Allocator + Copy>(
         &mut self,
         store: &mut Store<A>,

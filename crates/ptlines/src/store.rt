@@ -124,6 +124,7 @@ impl<A: Allocator + Copy> Store<A> {
     }
 
     /// Empties a slot.
+    #[inline(always)]
     pub fn clear(&mut self, slot: usize)
         requires { slot < length self.old.lines }
         ensures { self.new ≡ with_line self.old slot [] }
@@ -134,6 +135,7 @@ impl<A: Allocator + Copy> Store<A> {
     }
 
     // Puts bytes behind those of a slot. Where the growth is refused the store is denied, and nothing else changes.
+    #[inline(always)]
     pub(crate) fn append(&mut self, slot: usize, bytes: &[u8]) -> Result<(), LineFault>
         requires { slot < length self.old.lines }
         ensures ok { OnOk result (self.new ≡ with_line self.old slot (line self.old slot ++ bytes.now)) }

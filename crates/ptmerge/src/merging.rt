@@ -80,6 +80,7 @@ impl<K: KeyOrder> Merge<K> {
     }
 
     /// Which standing lines come next.
+    #[inline(always)]
     pub fn step<A: Allocator + Copy>(&self, store: &Store<A>) -> Step
         requires { IsPlaced self.now.first self.now.second store.now }
         ensures { let place = both self.now.first self.now.second in
@@ -139,6 +140,7 @@ impl<K: KeyOrder> Merge<K> {
     }
 
     /// The line at which an input stands.
+    #[inline(always)]
     pub fn head<'a, A: Allocator + Copy>(&self, side: Side, store: &'a Store<A>) -> &'a [u8]
         requires placed { IsPlaced self.now.first self.now.second store.now }
         requires stands { (both self.now.first self.now.second side).stand ≡ stands.Head }
@@ -153,6 +155,7 @@ impl<K: KeyOrder> Merge<K> {
     /// Goes to the next line of an input that stands at one, by its own reader.
     /// # Errors
     /// `Read` where a read failed; `Memory` where a growth of the store was refused, and the store is then denied.
+    #[inline(always)]
     pub fn advance<A: Allocator + Copy, S: Source, R: Source>(
         &mut self,
         side: Side,

@@ -51,10 +51,12 @@ impl KeyOrder for WholeLine {
 
     ghost order = { λ s. byte_cmp };
 
+    #[inline(always)]
     fn key<'a>(&self, _side: Side, line: &'a [u8]) -> &'a [u8] {
         line
     }
 
+    #[inline(always)]
     fn cmp(&self, a: &[u8], b: &[u8]) -> Ordering {
         a.cmp(b)
     }
@@ -80,10 +82,12 @@ impl<K: KeyOrder> KeyOrder for Descending<K> {
 
     ghost order = { λ s. flip_args (K.order s.of) };
 
+    #[inline(always)]
     fn key<'a>(&self, side: Side, line: &'a [u8]) -> &'a [u8] {
         self.of.key(side, line)
     }
 
+    #[inline(always)]
     fn cmp(&self, a: &[u8], b: &[u8]) -> Ordering {
         self.of.cmp(b, a)
     }

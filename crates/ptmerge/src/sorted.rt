@@ -26,6 +26,7 @@ pub struct Sorted {
 }
 
 // Where an input stands of which so many lines had come, if one more came.
+#[inline(always)]
 fn stand_at(number: u64, falls: bool) -> Stand
     requires { number < 2 ^ 63 }
     ensures { result ≡ if nat_lt 0 number && falls then Stand.Disorder (number + 1) else Stand.Head }
@@ -57,6 +58,7 @@ impl Sorted {
     }
 
     // Goes to the next line of the reader.
+    #[inline(always)]
     pub fn next<K: KeyOrder, A: Allocator + Copy, S: Source, R: Source>(
         &mut self,
         order: &K,

@@ -1,21 +1,27 @@
 -- What is asked for by words, as the command that was read of them says it.
-use Rattle.std.proofs.Common.{◌≡◌, ℕ, ◌+◌, ◌<◌, ◌==◌, true, false, cond, List, [], ◌∷◌, Option, Some, None, Result, Ok, Err, length, refl, ◌∙◌, ap, subst, arith}
-use Rattle.std.specs.Prelude.{All, is_none}
+use Rattle.std.proofs.Common.{◌≡◌, ⊎_elim, ℕ, ◌+◌, ◌<◌, ◌==◌, true, false, cond, List, Option, Some, None, Result, Ok, Err, length, refl, ◌∙◌, ap, subst, arith}
+use Rattle.std.specs.Prelude.{All, is_none, not, nat_le}
 use Rattle.std.proofs.lemmas.List.{length-map}
+use Rattle.std.proofs.lemmas.Bool.Decides.{nat_tests, eqb_tells}
 use Rattle.ptlangs.specs.Answers.{IsFault}
 use Rattle.ptlines.specs.Readers.{Reader}
 use Rattle.ptopts.specs.declared.fault.UseFault.{UseFault}
 use Rattle.ptopts.specs.declared.command.Command as code
+use Rattle.ptmerge.specs.Comm.{comm_tool}
+use Rattle.ptmerge.specs.Keyed.{Tool as Paired}
 use Rattle.ptlangs.specs.Jobs as jobs
-use Rattle.ptopts.specs.Words.{tool_named, reading, options}
 use Rattle.ptopts.specs.declared.inputs.Input.{Input}
-use Rattle.ptopts.proofs.SoleInputs.{sole_input}
+use Rattle.ptopts.specs.declared.inputs.Input.TheVariants.{Standard, File}
+use Rattle.ptopts.specs.Laws.{SpellsCommand, Spelled}
+use Rattle.ptopts.proofs.Accepted.{meant_as_spelled}
+use Rattle.ptopts.proofs.SoleInputs.{AreTwo, is_of_two, sole_input, few_inputs, two_inputs}
 use Rattle.ptopts.specs.Faults.{Fault}
-use Rattle.ptopts.specs.Commands.{Command, Job, RunCut, RunPaste, RunUniq, RunComm, RunJoin, RunTr, meaning, meaning_for, unless, first_fault, command, job, inputs, order_from}
+use Rattle.ptopts.specs.Commands.{Command, Job, RunCut, RunPaste, RunUniq, RunComm, RunJoin, RunTr, meaning, job, inputs, order_from}
 use Rattle.ptopts.specs.Meant.{meant, seen, IsMeant}
 use Rattle.ptrun.specs.Meanings.{Meaning}
 use Rattle.ptrun.specs.Messages.{said_of, status_of}
 use Rattle.ptrun.specs.Operands.{place, places}
+use Rattle.ptrun.specs.Together.{of_two}
 use Rattle.ptrun.specs.Asked.{saying, is_taking, command_meaning, meaning_in, tool_word, asked, asked_as, is_denied}
 use Rattle.ptrun.specs.Worlds.{IsFresh}
 use Rattle.ptrun.specs.Runs.{Sinks, Outcome, IsRun, Headline}
@@ -40,30 +46,30 @@ asked_refused command words fault is m = rw is (refused_in words (meant fault) (
 abbrev pub Fit : Command → Type 0
 Fit c = All (λ o. place o < length c.names + 1) c.order × (is_taking c.job (places c.order) ≡ true)
 
-fit_unless : (fault : Option Fault) (d c : Command) → Fit d → unless fault d ≡ Ok c → Fit c
-fit_unless None d c fit is = let same : d ≡ c = cc in subst Fit same fit
-fit_unless (Some e) d c fit is = cc
+place_differs : (a b : Input) → (a ≡ b → ⊥) → (place a == place b) ≡ false
+place_differs Standard Standard differ = absurd (differ refl)
+place_differs Standard (File j) differ = grind (arith, nat_tests)
+place_differs (File i) Standard differ = grind (arith, nat_tests)
+place_differs (File i) (File j) differ = ⊎_elim (λ k. absurd (differ (let same : i ≡ j = omega (arith, k.1) in ap (λ (n : ℕ). File n) same))) (λ k. k.0) (eqb_tells (i + 1) (j + 1))
 
-takes : (told : Job) (order : List Input) → ((u : jobs.Uniq) → told ≡ RunUniq u → length order ≡ 1) → is_taking told (places order) ≡ true
-takes (RunCut u) order one = refl
-takes (RunPaste u) order one = refl
-takes (RunUniq u) order one = ap (λ (n : ℕ). n == 1) (length-map order place ∙ one u refl)
-takes (RunComm u) order one = refl
-takes (RunJoin u) order one = refl
-takes (RunTr u) order one = refl
+-- two inputs stand at two places
+two_places : (t : Paired) (order : List Input) → AreTwo order → (of_two t).takes (places order) ≡ true
+two_places t order two = rw (two.are) (ap not (place_differs two.first two.second two.differ))
 
-fit_words : (words : List (List ℕ)) (c : Command) → meaning words ≡ Ok c → Fit c
-fit_words [] c is = cc
-fit_words (name ∷ words) c is =
-    elim (tool_named name) as (λ t. meaning_for t words ≡ Ok c → Fit c) [
-      | None ↦ λ none. cc
-      | Some tool ↦ λ some.
-          let r = reading tool words in
-          fit_unless (first_fault tool r) (command tool (options r) r.operands) c (λ k d within. omega (arith, places_within 0 (inputs tool r.operands) k d within), takes (job tool (options r) r.operands) (order_from 0 (inputs tool r.operands)) (sole_input tool (options r) r.operands)) some
-    ] is
+takes : (told : Job) (order : List Input) → ((u : jobs.Uniq) → told ≡ RunUniq u → length order ≡ 1) → ((u : jobs.Paste) → told ≡ RunPaste u → nat_le (length order) 512 ≡ true) → (is_of_two told ≡ true → AreTwo order) → is_taking told (places order) ≡ true
+takes (RunCut u) order one few two = refl
+takes (RunPaste u) order one few two = ap (λ (n : ℕ). nat_le n 512) (length-map order place) ∙ few u refl
+takes (RunUniq u) order one few two = ap (λ (n : ℕ). n == 1) (length-map order place ∙ one u refl)
+takes (RunComm u) order one few two = two_places (comm_tool u) order (two refl)
+takes (RunJoin u) order one few two = refl
+takes (RunTr u) order one few two = refl
+
+fit_spelled : (words : List (List ℕ)) (c : Command) → SpellsCommand words c → Fit c
+fit_spelled words c (Spelled name rest tool os operands named s allowed) =
+    (λ k d within. omega (arith, places_within 0 (inputs tool operands) k d within), takes (job tool os operands) (order_from 0 (inputs tool operands)) (sole_input tool os operands) (λ u is. few_inputs tool os operands u allowed.inputs is) (two_inputs tool os operands allowed.inputs))
 
 pub operands_fit : {A : Type 0} (command : Result (code.Command A) UseFault) (words : List (List ℕ)) (c : code.Command A) → command ≡ Ok c → IsMeant command (meaning words) → Fit (seen c)
-operands_fit command words c is m = fit_words words (seen c) (rw is at m)
+operands_fit command words c is m = fit_spelled words (seen c) ((meant_as_spelled words (seen c)).1 (rw is at m))
 
 -- where memory was not denied, the run is what the words ask for
 pub headline_asked : {A : Type 0} (command : Result (code.Command A) UseFault) (words : List (List ℕ)) (old new : List Reader) (before : Sinks) (o : Outcome) → All IsFresh old → IsRun (asked_as command words) old new before o

@@ -173,7 +173,7 @@ none_of (Some b) is = absurd (false≢true is)
 
 -- ---- what an operand finds
 
-agreed : (o : Option Given) (v : Option (List ℕ)) (g : Given) → o ≡ Some g → AllowsAt o v → (b : List ℕ) × (v ≡ Some b) × one.Agrees g b
+pub agreed : (o : Option Given) (v : Option (List ℕ)) (g : Given) → o ≡ Some g → AllowsAt o v → (b : List ℕ) × (v ≡ Some b) × one.Agrees g b
 agreed None v g is a = cc
 agreed (Some h) None g is a = absurd a
 agreed (Some h) (Some b) g is a = let same : h ≡ g = cc in (b, refl, subst (λ (k : Given). one.Agrees k b) same a)

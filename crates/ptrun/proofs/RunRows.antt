@@ -64,7 +64,7 @@ rows =
     ∷ (words "uniq g out", Some (codes "a\n") ∷ None ∷ [], record { out = []; messages = codes "uniq: g: cannot be opened\n"; status = 1 })
     ∷ (words "uniq f -", Some (codes "x\n") ∷ Some (codes "a\na\n") ∷ [], writes (codes "a\n"))
     ∷ (words "uniq -zc", input (codes "a" ++ 0 ∷ codes "a" ++ 0 ∷ codes "b"), writes (codes "2 a" ++ 0 ∷ codes "1 b" ++ 0 ∷ []))
-    ∷ (words "comm f g", Some [] ∷ Some [] ∷ Some [] ∷ [], record { out = []; messages = codes "comm: not built yet\n"; status = 1 })
+    ∷ (words "join f g", Some [] ∷ Some [] ∷ Some [] ∷ [], record { out = []; messages = codes "join: not built yet\n"; status = 1 })
     ∷ []
 
 are_left : map (λ (row : List (List ℕ) × World × Outcome). outcome row.0 row.1) rows ≡ map (λ (row : List (List ℕ) × World × Outcome). row.2) rows

@@ -1,8 +1,11 @@
 -- What the words of a command ask for.
 use Rattle.std.specs.Prelude.{ℕ, List, [], Bool, true, false, Some, None, Result, Ok, Err, codes, length, slice_index_or, is_none, if◌then◌else◌}
+use Rattle.ptlangs.specs.Jobs.{Paste}
 use Rattle.ptflow.specs.Cuts.{cut_tool}
+use Rattle.ptflow.specs.Pastes.{serial_tool}
 use Rattle.ptflow.specs.Translations.{tr_tool}
 use Rattle.ptflow.specs.Uniqs.{uniq_tool}
+use Rattle.ptmerge.specs.Comm.{comm_tool}
 use Rattle.ptopts.specs.Faults.{Fault}
 use Rattle.ptopts.specs.Commands.{Command, Job, RunCut, RunPaste, RunUniq, RunComm, RunJoin, RunTr, meaning}
 use Rattle.ptopts.specs.Meant.{meant, seen}
@@ -11,7 +14,7 @@ use Rattle.ptopts.specs.declared.command.Command as code
 use Rattle.ptrun.specs.Meanings.{Meaning}
 use Rattle.ptrun.specs.Messages.{said_of, not_built}
 use Rattle.ptrun.specs.Operands.{places, one_by_one}
-use Rattle.ptrun.specs.Together.{of_one, together}
+use Rattle.ptrun.specs.Together.{of_one, of_rows, of_two, together}
 
 -- nothing is read or written, and this is said
 abbrev pub saying : List ℕ → ℕ → Meaning
@@ -32,18 +35,26 @@ saying text status = record {
 abbrev pub not_yet : List ℕ → Meaning
 not_yet tool = saying (not_built tool) 1
 
+-- paste goes over its operands one after another with -s, and else takes them together
+abbrev pub paste_meaning : Paste → List (List ℕ) → List ℕ → Meaning
+paste_meaning job names places =
+    if job.serial then one_by_one (codes "paste") (serial_tool job) names places
+    else together (codes "paste") (of_rows job) names places
+
 -- what a job asks for over files of these names and operands at these places
 abbrev pub job_meaning : Job → List (List ℕ) → List ℕ → Meaning
 job_meaning (RunCut job) names places = one_by_one (codes "cut") (cut_tool job) names places
-job_meaning (RunPaste job) names places = not_yet (codes "paste")
+job_meaning (RunPaste job) names places = paste_meaning job names places
 job_meaning (RunUniq job) names places = together (codes "uniq") (of_one (uniq_tool job)) names places
-job_meaning (RunComm job) names places = not_yet (codes "comm")
+job_meaning (RunComm job) names places = together (codes "comm") (of_two (comm_tool job)) names places
 job_meaning (RunJoin job) names places = not_yet (codes "join")
 job_meaning (RunTr tables) names places = one_by_one (codes "tr") (tr_tool tables) names places
 
 -- whether the tool takes operands at these places
 abbrev pub is_taking : Job → List ℕ → Bool
+is_taking (RunPaste job) places = (of_rows job).takes places
 is_taking (RunUniq job) places = (of_one (uniq_tool job)).takes places
+is_taking (RunComm job) places = (of_two (comm_tool job)).takes places
 is_taking _ places = true
 
 abbrev pub command_meaning : Command → Meaning

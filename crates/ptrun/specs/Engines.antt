@@ -1,13 +1,16 @@
 -- What stands between a tool and the run around it.
 use Rattle.std.specs.Prelude.{◌≡◌, ℕ, ◌+◌, ◌<◌, ◌≤◌, ◌⊎◌, Bool, true, false, List, [], All, Option, Some, None, Result, Ok, Err, length, max, if◌then◌else◌}
 use Rattle.std.specs.List.{list_any}
-use Rattle.ptlines.specs.Readers.{Reader}
+use Rattle.ptlines.specs.Readers.{Reader, IsSound}
 use Rattle.ptlines.specs.Outputs.{Output, Wrote}
 use Rattle.ptlines.specs.Slots.{Slots, total}
 use Rattle.ptlines.specs.Sinks.{SinkState}
 use Rattle.ptlines.specs.Inputs.{Begins}
 use Rattle.ptflow.specs.declared.faults.FlowFault.{FlowFault}
 use Rattle.ptflow.specs.declared.faults.FlowFault.TheVariants.{Read, Write, Memory}
+use Rattle.ptmerge.specs.declared.faults.MergeFault.{MergeFault}
+use Rattle.ptmerge.specs.declared.faults.MergeFault.TheVariants as faults
+use Rattle.ptmerge.specs.declared.order.Side.{Side}
 use Rattle.ptrun.specs.declared.engine.Done.{Done}
 use Rattle.ptrun.specs.declared.engine.Done.TheVariants.{Whole, Unopened, Disorder}
 use Rattle.ptrun.specs.Worlds.{World, Received, at, Allows, is_in, is_unopened, reader_at, shut, IsReceived, IsFresh, HasFailed, IsTooLong}
@@ -70,6 +73,21 @@ abbrev pub blame : ℕ → FlowFault → FlowFault
 blame p (Read place) = Read p
 blame p Write = Write
 blame p Memory = Memory
+
+-- what is true of each reader is true of two, before a call and behind it
+pub record AreSound (first second first' second' : Reader) : Type 0 where
+  pub first_was : IsSound first
+  pub second_was : IsSound second
+  pub first_is : IsSound first'
+  pub second_is : IsSound second'
+
+-- how a call over the inputs at these places ended
+abbrev pub told_at : (Side → ℕ) → Result (Unit {0}) MergeFault → Result Done FlowFault
+told_at place (Ok u) = Ok Whole
+told_at place (Err (faults.Read side)) = Err (Read (place side))
+told_at place (Err faults.Write) = Err Write
+told_at place (Err faults.Memory) = Err Memory
+told_at place (Err (faults.Disorder side line)) = Ok (Disorder (place side) line)
 
 abbrev pub WentTo : Meaning → Received → List Reader → List Reader → List ℕ → Bool → Bool → ℕ
     → Result Done FlowFault → Type 0

@@ -1,8 +1,14 @@
 -- A tool that takes all its inputs together: where one could not be opened, all such are named and nothing else is done.
-use Rattle.std.specs.Prelude.{ℕ, ◌==◌, Bool, List, [], Option, Some, None, length, unwrap_or, slice_index_or, if◌then◌else◌}
+use Rattle.std.specs.Prelude.{ℕ, ◌==◌, ◌&&◌, Bool, List, [], Option, Some, None, length, nat_le, unwrap_or, slice_index_or, option_map, not, if◌then◌else◌}
 use Rattle.std.specs.List.{list_any}
 use Rattle.ptlines.specs.Inputs.{Given, nothing_left}
+use Rattle.ptlangs.specs.Jobs.{Paste}
 use Rattle.ptflow.specs.Tools.{Tool}
+use Rattle.ptflow.specs.Pastes.{paste, paste_decided, paste_size}
+use Rattle.ptmerge.specs.declared.order.Side.{Side}
+use Rattle.ptmerge.specs.declared.order.Side.TheVariants.{First, Second}
+use Rattle.ptmerge.specs.Keyed.{merged, lines_of}
+use Rattle.ptmerge.specs.Keyed as keyed
 use Rattle.ptrun.specs.Worlds.{World, Received, at, is_unopened}
 use Rattle.ptrun.specs.Meanings.{Meaning}
 use Rattle.ptrun.specs.Messages.{out_of_order}
@@ -32,6 +38,35 @@ of_one t = record {
   size = λ places texts. t.size (texts (sole places));
   disorder = λ places texts. None;
   takes = λ places. length places == 1;
+}
+
+-- the rows of paste, over at most 512 operands
+abbrev pub of_rows : Paste → JointTool
+of_rows job = record {
+  text = paste job;
+  decided = paste_decided job;
+  size = paste_size job;
+  disorder = λ places texts. None;
+  takes = λ places. nat_le (length places) 512;
+}
+
+-- the first operand, or the second
+abbrev pub operand : List ℕ → Side → ℕ
+operand places First = slice_index_or places 0 0
+operand places Second = slice_index_or places 1 0
+
+-- what the two operands have
+abbrev pub of_operands : {X : Type 0} → List ℕ → (ℕ → X) → Side → X
+of_operands places f side = f (operand places side)
+
+-- a tool with two inputs, which are not the same
+abbrev pub of_two : keyed.Tool → JointTool
+of_two t = record {
+  text = λ places texts. merged t (of_operands places texts);
+  decided = λ places given. keyed.decided t (of_operands places given);
+  size = λ places texts. t.size (lines_of t (of_operands places texts));
+  disorder = λ places texts. option_map (λ d. (operand places d.file, d.fall.line)) (keyed.disorder t (lines_of t (of_operands places texts)));
+  takes = λ places. (length places == 2) && not (operand places First == operand places Second);
 }
 
 -- the bytes of an input, and what was received of it

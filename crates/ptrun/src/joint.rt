@@ -1,14 +1,15 @@
 //! The tools that take all their inputs together.
 
-ghost use Rattle.std.specs.Prelude.{◌≡◌, ℕ, List};
+ghost use Rattle.std.specs.Prelude.{◌≡◌, ◌<◌, ◌≤◌, ℕ, List, All, length};
 ghost use Rattle.ptrun.specs.Engines.{AreReady, IsJointPass};
-ghost use Rattle.ptrun.specs.Operands.{places};
+ghost use Rattle.ptrun.specs.Operands.{place, places};
 ghost use Rattle.ptrun.specs.Together.{JointTool};
 
 use crate::engine::Done;
 use crate::operands::{at_operand, place_of};
-use ptflow::{FlowFault, uniq};
-use ptlangs::jobs::UniqJob;
+use arrayvec::ArrayVec;
+use ptflow::{FlowFault, paste, uniq};
+use ptlangs::jobs::{PasteJob, UniqJob};
 use ptlines::{LineReader, Out, Sink, Source, Store};
 use ptopts::Input;
 use std::alloc::Allocator;
@@ -66,5 +67,44 @@ impl<A: Allocator + Copy> Together<A> for UniqJob {
             Ok(()) => Ok(Done::Whole),
             Err(fault) => Err(at_operand(fault, place)),
         }
+    }
+}
+
+// The places of operands.
+fn cells_of(order: &[Input]) -> ArrayVec<usize, 512>
+    requires few { length order.now ≤ 512 }
+    requires fits { All (λ o. place o < usize.MAX) order.now }
+    ensures { result.items ≡ places order.now }
+{
+    let mut cells = ArrayVec::new();
+    for input in order {
+        cells.push(place_of(*input));
+    }
+    cells
+}
+
+impl<A: Allocator + Copy> Together<A> for PasteJob<A> {
+    ghost use Rattle.std.specs.Prelude.{codes};
+    ghost use Rattle.ptlangs.specs.Jobs.{paste_job};
+    ghost use Rattle.ptrun.specs.Together.{of_rows};
+
+    ghost tool = { λ job. of_rows (paste_job job) };
+
+    ghost word = { λ job. codes "paste" };
+
+    fn name(&self) -> &str {
+        "paste"
+    }
+
+    // A column for each operand.
+    fn go_over<S: Source, R: Source, W: Sink>(
+        &self,
+        order: &[Input],
+        inputs: &mut [LineReader<S, R>],
+        store: &mut Store<A>,
+        out: &mut Out<W>,
+    ) -> Result<Done, FlowFault> {
+        paste(self, &cells_of(order), inputs, store, out)?;
+        Ok(Done::Whole)
     }
 }

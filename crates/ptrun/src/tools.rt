@@ -5,9 +5,9 @@ ghost use Rattle.ptlines.specs.Inputs.{Given};
 ghost use Rattle.ptflow.specs.Passes.{IsReady, IsPass};
 ghost use Rattle.ptflow.specs.Tools.{Tool};
 
-use ptflow::{FlowFault, cut, tr};
+use ptflow::{FlowFault, cut, paste_serial, tr};
 use ptlangs::CharPlan;
-use ptlangs::jobs::CutJob;
+use ptlangs::jobs::{CutJob, PasteJob};
 use ptlines::{LineReader, Out, Sink, Source, Store};
 use std::alloc::Allocator;
 
@@ -59,6 +59,32 @@ impl<A: Allocator + Copy> OneByOne<A> for CutJob<A> {
         out: &mut Out<W>,
     ) -> Result<(), FlowFault> {
         cut(self, reader, store, out)
+    }
+}
+
+impl<A: Allocator + Copy> OneByOne<A> for PasteJob<A> {
+    ghost use Rattle.std.specs.Prelude.{codes};
+    ghost use Rattle.ptlangs.specs.Jobs.{paste_job};
+    ghost use Rattle.ptflow.specs.Pastes.{serial_tool};
+    ghost use Rattle.ptrun.specs.Laws.{paste_all_decided};
+
+    ghost tool = { λ job. serial_tool (paste_job job) };
+
+    ghost word = { λ job. codes "paste" };
+
+    ghost all_decided = { λ job. paste_all_decided (paste_job job) };
+
+    fn name(&self) -> &str {
+        "paste"
+    }
+
+    fn go_over<S: Source, R: Source, W: Sink>(
+        &self,
+        reader: &mut LineReader<S, R>,
+        store: &mut Store<A>,
+        out: &mut Out<W>,
+    ) -> Result<(), FlowFault> {
+        paste_serial(self, reader, store, out)
     }
 }
 

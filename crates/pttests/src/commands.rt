@@ -245,6 +245,32 @@ pub fn expect_refused(
     Ok(())
 }
 
+/// A command over standard input and a file that cannot be opened: this is said, and nothing is read, written or flushed.
+pub fn expect_untouched(
+    rt: &impl Abort,
+    alloc: Global,
+    words: &[&str],
+    message: &str,
+) -> Result<(), Fail> {
+    let pulls = Cell::new(0);
+    let source = Watched::new(Pieces::whole(b"never read\n"), &pulls);
+    let standard: LineReader<Watched<'_, Pieces<'_>>, Pieces<'_>> = LineReader::standard(source);
+    let command = Command::read(alloc, &*words);
+    let named = files_named(&command);
+    assert!(rt; named == 1, "{words:?}");
+    let (out, messages) = (Kept::new(alloc), Kept::new(alloc));
+    let mut inputs = [standard, LineReader::refused()];
+    let report = run(alloc, command, &*words, &mut inputs, out, messages);
+    assert_eq!(rt; report.messages.bytes(), message.as_bytes(), "{words:?}");
+    assert_eq!(rt; report.status, 1, "{words:?}");
+    assert_eq!(rt;
+        (report.out.calls(), report.messages.flushes(), pulls.get()),
+        (0, 0, 0),
+        "{words:?}"
+    );
+    Ok(())
+}
+
 /// Looks at what was written and said, and at the status.
 pub fn assert_left(
     rt: &impl Abort,
@@ -317,4 +343,12 @@ pub fn expect_growths_refused(
     }
     assert!(rt; count > 0 && count < 40, "{count}");
     Ok(())
+}
+
+/// How often a command asks for memory. It is to succeed.
+pub fn growths(rt: &impl Abort, own: Global, case: &Case<'_>) -> Result<u64, Fail> {
+    let counted = Refusing::after(own, u64::MAX);
+    let report = run_over(rt, &counted, own, case)?;
+    same(rt, &report.status, &0);
+    Ok(u64::MAX - counted.left())
 }

@@ -4,7 +4,11 @@
 #[cfg(test)]
 mod characters;
 #[cfg(test)]
+mod columns;
+#[cfg(test)]
 mod commands;
+#[cfg(test)]
+mod common_lines;
 #[cfg(test)]
 mod comparing;
 #[cfg(test)]

@@ -2,7 +2,7 @@
 
 use crate::comparing::same;
 use ptfakes::{Kept, Pieces};
-use ptflow::{FlowFault, tr};
+use ptflow::{FlowFault, tr, translate};
 use ptlangs::{CharPlan, Form, SetFault};
 use ptlines::{LineReader, Out};
 use std::alloc::{AllocError, Global};
@@ -101,5 +101,34 @@ fn a_write_fails(rt: HostRuntime) -> Result<(), Fail> {
         &Err(FlowFault::Write),
     );
     same(&rt, &out.into_sink().bytes().len(), &5000);
+    Ok(())
+}
+
+// Whether each byte is what the plan makes of the other at its place.
+fn are_images(plan: &CharPlan, from: &[u8], to: &[u8]) -> bool {
+    from.len() == to.len()
+        && from
+            .iter()
+            .zip(to)
+            .all(|(from, to)| plan.image(*from) == *to)
+}
+
+#[test]
+fn stretches_at_each_length(rt: HostRuntime) -> Result<(), Fail> {
+    let upper = CharPlan::read(Form::Translate, false, b"a-z\\377", Some(b"A-Z\\1"))?;
+    let turned = CharPlan::read(Form::Translate, false, b"A-Za-z", Some(b"N-ZA-Mn-za-m"))?;
+    let mut from = Vec::new(rt.alloc());
+    for place in 0..8193u16 {
+        from.push((place % 256) as u8)?;
+    }
+    for plan in [&upper, &turned] {
+        let shifts = plan.shifts().ok_or("more than four stretches")?;
+        for count in [0, 1, 31, 32, 33, 8191, 8192, 8193] {
+            let mut to = [0; 8193];
+            translate(&shifts, &from[..count], &mut to[..count]);
+            assert!(rt; are_images(plan, &from[..count], &to[..count]), "{count}");
+            assert!(rt; to[count..].iter().all(|byte| *byte == 0));
+        }
+    }
     Ok(())
 }

@@ -389,6 +389,40 @@ fn classes_are_of_ascii(rt: HostRuntime) -> Result<(), Fail> {
     Ok(())
 }
 
+// The first bytes, the last bytes and the shifts of the stretches of a plan, behind one another; none where there are too many.
+fn stretches_of(alloc: Global, s1: &str, s2: &str) -> Result<Option<Vec<u8>>, Fail> {
+    let plan = CharPlan::read(Form::Translate, false, s1.as_bytes(), Some(s2.as_bytes()))?;
+    let Some(shifts) = plan.shifts() else {
+        return Ok(None);
+    };
+    let mut told = Vec::new(alloc);
+    for place in 0..5 {
+        if let Some((first, last, by)) = shifts.stretch(place) {
+            told.extend_from_slice(&[first, last, by])?;
+        }
+    }
+    Ok(Some(told))
+}
+
+#[test]
+fn plans_are_stretches(rt: HostRuntime) -> Result<(), Fail> {
+    for (s1, s2, wanted) in [
+        ("a-z", "A-Z", [97, 122, 224].as_slice()),
+        ("abc", "x", &[97, 97, 23, 98, 98, 22, 99, 99, 21]),
+        (
+            "a-zA-Z",
+            "n-za-mN-ZA-M",
+            &[65, 77, 13, 78, 90, 243, 97, 109, 13, 110, 122, 243],
+        ),
+        ("ab", "ab", &[]),
+    ] {
+        let told = stretches_of(rt.alloc(), s1, s2)?;
+        assert!(rt; told.is_some_and(|told| told.as_slice() == wanted), "{s1}");
+    }
+    assert!(rt; stretches_of(rt.alloc(), "acegi", "12345")?.is_none());
+    Ok(())
+}
+
 #[test]
 fn tables_are_lent(rt: HostRuntime) -> Result<(), Fail> {
     let plan = read(Form::TranslateSqueeze, false, "ab", Some("x")).ok_or("two strings")?;

@@ -1,6 +1,8 @@
 -- What `tr` writes of the rest of a text.
-use Rattle.std.specs.Prelude.{◌≡◌, ℕ, List, Bool, false, Option, None, Some}
-use Rattle.ptlangs.specs.TrTables.{Tables, squeezes}
+use Rattle.std.specs.Prelude.{◌≡◌, ℕ, List, Bool, false, Option, None, Some, IfSome}
+use Rattle.ptlangs.specs.declared.shifts.Stretch.{Stretch}
+use Rattle.ptlangs.specs.TrShifts.{Move}
+use Rattle.ptlangs.specs.TrTables.{Tables, deletes, squeezes}
 use Rattle.ptflow.specs.Translations.{squeeze_behind, squeeze, translated}
 
 -- if the flag is false, the test holds for no byte
@@ -15,3 +17,12 @@ squeeze_from squeezed (Some last) bytes = squeeze_behind squeezed last bytes
 -- what is written of the rest of a text, where `last` was written last, if anything was
 abbrev pub tr_rest : Tables → Option ℕ → List ℕ → List ℕ
 tr_rest tables last rest = squeeze_from (squeezes tables) last (translated tables rest)
+
+-- what these stretches add to bytes is all that is done
+abbrev pub IsPlain : List Stretch → Tables → Type 0
+IsPlain shifts tables = Move shifts tables × ((b : ℕ) → deletes tables b ≡ false) × ((b : ℕ) → squeezes tables b ≡ false)
+
+-- the flags hold where something is deleted and squeezed, and stretches are given only where they are all that is done
+abbrev pub IsOf : Bool → Bool → Option (List Stretch) → Tables → Type 0
+IsOf deleting squeezing shifts tables =
+    Covers deleting (deletes tables) × Covers squeezing (squeezes tables) × IfSome shifts (λ ss. IsPlain ss tables)

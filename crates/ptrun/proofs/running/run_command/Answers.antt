@@ -1,12 +1,14 @@
 use Rattle.std.proofs.Common.{refl}
 use Rattle.std.specs.Prelude.{codes}
-use Rattle.ptlangs.specs.Jobs.{cut_job, uniq_job}
+use Rattle.ptlangs.specs.Jobs.{cut_job, paste_job, uniq_job, comm_job}
 use Rattle.ptflow.specs.Cuts.{cut_tool}
+use Rattle.ptflow.specs.Pastes.{serial_tool}
 use Rattle.ptflow.specs.Translations.{tr_tool}
 use Rattle.ptflow.specs.Uniqs.{uniq_tool}
+use Rattle.ptmerge.specs.Comm.{comm_tool}
 use Rattle.ptopts.specs.Meant.{words_seen}
 use Rattle.ptrun.specs.Operands.{places, one_by_one}
-use Rattle.ptrun.specs.Together.{of_one, together}
+use Rattle.ptrun.specs.Together.{of_one, of_rows, of_two, together}
 use Rattle.ptrun.proofs.Order.{given_of}
 use Rattle.ptrun.proofs.running.run_command.Goals as goal
 
@@ -28,6 +30,19 @@ run_engine-requires-in-Uniq-clause-given g c =
 pub run_engine-requires-in-Uniq-clause-taken : goal.run_engine-requires-in-Uniq-clause-taken
 run_engine-requires-in-Uniq-clause-taken g c = rw c.in-Uniq.is at c.requires.taken
 
+pub run_engine-requires-then-tool-clause-given : goal.run_engine-requires-then-tool-clause-given
+run_engine-requires-then-tool-clause-given g c =
+    given_of (one_by_one (codes "paste") (serial_tool (paste_job c.in-Paste.tool)) (words_seen c.in-Paste.operands.names.items) (places c.in-Paste.operands.order.items)) c.args.inputs.now c.in-Paste.operands.order.items refl
+    (rw c.in-Paste.is at c.requires.fresh) (rw c.in-Paste.is at c.requires.fits)
+
+pub run_engine-requires-else-tool-clause-given : goal.run_engine-requires-else-tool-clause-given
+run_engine-requires-else-tool-clause-given g c =
+    given_of (together (codes "paste") (of_rows (paste_job c.in-Paste.tool)) (words_seen c.in-Paste.operands.names.items) (places c.in-Paste.operands.order.items)) c.args.inputs.now c.in-Paste.operands.order.items refl
+    (rw c.in-Paste.is at c.requires.fresh) (rw c.in-Paste.is at c.requires.fits)
+
+pub returns-in-Paste-clause-quiet : goal.returns-in-Paste-clause-quiet
+returns-in-Paste-clause-quiet g c = rw (c.in-Paste.is, c.if-tool.false) c.run_engine-else-tool.ensures.quiet
+
 pub returns-in-Uniq-clause-quiet : goal.returns-in-Uniq-clause-quiet
 returns-in-Uniq-clause-quiet g c = rw c.in-Uniq.is c.run_engine-in-Uniq.ensures.quiet
 
@@ -43,14 +58,22 @@ returns-in-Cut-clause-run g c = rw c.in-Cut.is c.run_engine.ensures.run
 pub returns-in-Tr-clause-run : goal.returns-in-Tr-clause-run
 returns-in-Tr-clause-run g c = rw c.in-Tr.is c.run_engine-in-Tr.ensures.run
 
-pub returns-in-Paste-clause-run : goal.returns-in-Paste-clause-run
-returns-in-Paste-clause-run g c = rw c.in-Paste.is (c.not_built.ensures.run c.args.inputs.now c.requires.fresh.1)
-
 pub returns-in-Uniq-clause-run : goal.returns-in-Uniq-clause-run
 returns-in-Uniq-clause-run g c = rw c.in-Uniq.is c.run_engine-in-Uniq.ensures.run
 
+pub run_engine-requires-in-Comm-clause-given : goal.run_engine-requires-in-Comm-clause-given
+run_engine-requires-in-Comm-clause-given g c =
+    given_of (together (codes "comm") (of_two (comm_tool (comm_job c.in-Comm.tool))) (words_seen c.in-Comm.operands.names.items) (places c.in-Comm.operands.order.items)) c.args.inputs.now c.in-Comm.operands.order.items refl
+    (rw c.in-Comm.is at c.requires.fresh) (rw c.in-Comm.is at c.requires.fits)
+
+pub run_engine-requires-in-Comm-clause-taken : goal.run_engine-requires-in-Comm-clause-taken
+run_engine-requires-in-Comm-clause-taken g c = rw c.in-Comm.is at c.requires.taken
+
+pub returns-in-Comm-clause-quiet : goal.returns-in-Comm-clause-quiet
+returns-in-Comm-clause-quiet g c = rw c.in-Comm.is c.run_engine-in-Comm.ensures.quiet
+
 pub returns-in-Comm-clause-run : goal.returns-in-Comm-clause-run
-returns-in-Comm-clause-run g c = rw c.in-Comm.is (c.not_built-in-Comm.ensures.run c.args.inputs.now c.requires.fresh.1)
+returns-in-Comm-clause-run g c = rw c.in-Comm.is c.run_engine-in-Comm.ensures.run
 
 pub returns-clause-run : goal.returns-clause-run
-returns-clause-run g c = rw c.in-Join.is (c.not_built-in-Join.ensures.run c.args.inputs.now c.requires.fresh.1)
+returns-clause-run g c = rw c.in-Join.is (c.not_built.ensures.run c.args.inputs.now c.requires.fresh.1)

@@ -7,16 +7,16 @@ use Rattle.ptflow.proofs.translating.TranslatorBlockTool.push_block.Goals as goa
 pub returns-in_err-push-clause-halts : goal.returns-in_err-push-clause-halts
 returns-in_err-push-clause-halts g c =
     let t = c.args.self.now in
-    let written = take c.translate_by-count.result c.translate_by-count.new.into in
-    on_err c.from_residual.result (record { pushed = written; wrote = c.push.ensures.wrote; true_so_far = λ rest. block_begins t.plan.now t.last c.args.block.now written rest c.translate_by-count.ensures.written })
+    let written = take c.write_block-count.result c.write_block-count.new.into in
+    on_err c.from_residual.result (record { pushed = written; wrote = c.push.ensures.wrote; true_so_far = λ rest. block_begins t.by.plan.now t.last c.args.block.now written rest c.write_block-count.ensures.written })
 
 pub returns-clause-continues : goal.returns-clause-continues
 returns-clause-continues g c =
     let t = c.args.self.now in
-    let written = take c.translate_by-count.result c.translate_by-count.new.into in
+    let written = take c.write_block-count.result c.write_block-count.new.into in
     record {
       pushed = written;
       wrote = c.push.ensures.wrote;
-      on = λ rest. block_on t.plan.now t.last c.or-self.result c.args.block.now written rest c.translate_by-count.ensures.written
+      on = λ rest. block_on t.by.plan.now t.last c.or-self.result c.args.block.now written rest c.write_block-count.ensures.written
           (c.or-self.ensures ∙ ap (λ (o : Option ℕ). option_or o t.last) (c.copied.ensures ∙ c.last.ensures.value));
     }

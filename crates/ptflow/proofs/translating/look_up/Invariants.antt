@@ -1,7 +1,7 @@
 use Rattle.std.proofs.Common.{◌≡◌, ◌≤◌, length, drop}
 use Rattle.ptflow.specs.Workings.TrRests.{tr_rest}
 use Rattle.ptflow.proofs.TrRests.{Written}
-use Rattle.ptflow.proofs.translating.translate.Given as goal
+use Rattle.ptflow.proofs.translating.look_up.Given as goal
 
 abbrev pub invariant-loop-byte : goal.invariant-loop-byte
 invariant-loop-byte l = record {

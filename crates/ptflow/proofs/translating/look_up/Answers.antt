@@ -5,8 +5,8 @@ use Rattle.std.proofs.lemmas.List.{drop_all}
 use Rattle.ptlangs.specs.TrTables.{deletes, image, squeezes}
 use Rattle.ptflow.specs.Workings.TrRests.{tr_rest}
 use Rattle.ptflow.proofs.TrRests.{Written, written_step, written_all, small, not_both}
-use Rattle.ptflow.proofs.translating.translate.Goals as goal
-use Rattle.ptflow.proofs.translating.translate.Goals.{then-deleting, else-deleting, then-squeezing, else-squeezing, then-gone, else-gone}
+use Rattle.ptflow.proofs.translating.look_up.Goals as goal
+use Rattle.ptflow.proofs.translating.look_up.Goals.{then-deleting, else-deleting, then-squeezing, else-squeezing, then-gone, else-gone}
 
 pub loop-byte-init : goal.loop-byte-init
 loop-byte-init c = record { room = omega arith; long = c.told-into; written = record { is = refl } }
@@ -17,7 +17,7 @@ loop-byte-preserved c =
     let block = c.args.block.now in
     let at = c.loop-byte.byte-index in
     let b = get_or block at 0 in
-    let made : get_or c.images-images.result.now c.from.result 0 ≡ image t b = cc in
+    let made : get_or c.images-images.result.now c.from-place.result 0 ≡ image t b = cc in
     let gone : c.if-deleting.gone ≡ deletes t b = elim c.if-deleting.branch [
       | then-deleting w ↦ cc
       | else-deleting w ↦ w.gone-is ∙ w.if-deleting.false ∙ sym (c.requires.deleting w.if-deleting.false b)
@@ -33,7 +33,7 @@ loop-byte-preserved c =
     let front : drop at block ≡ b ∷ drop (at + 1) block = rw add-one (drop-cons block at 0 (omega arith)) in
     record {
       room = omega (arith, c.from-count.ensures, small (not (c.if-deleting.gone || c.if-squeezing.repeats)), c.loop-byte.invariant.room);
-      long = length-set c.loop-byte.into c.loop-byte.count (get_or c.images-images.result.now c.from.result 0) ∙ c.loop-byte.invariant.long;
+      long = length-set c.loop-byte.into c.loop-byte.count (get_or c.images-images.result.now c.from-place.result 0) ∙ c.loop-byte.invariant.long;
       written = written_step t c.loop-byte.into _ c.loop-byte.count _ c.loop-byte.last c.if-gone.last b (drop at block) (drop (at + 1) block) (tr_rest t c.args.last block) c.if-deleting.gone c.if-squeezing.repeats
           c.loop-byte.invariant.written (omega (arith, c.loop-byte.invariant.room, c.loop-byte.invariant.long)) front gone again (ap (set c.loop-byte.into c.loop-byte.count) made) (ap (λ (n : ℕ). c.loop-byte.count + n) c.from-count.ensures) last;
     }

@@ -1,0 +1,7 @@
+use Rattle.std.proofs.Common.{◌≡◌, ◌+◌, ◌%◌, take}
+use Rattle.std.specs.Prelude.{sum_by}
+use Rattle.ptlangs.specs.TrShifts.{added}
+use Rattle.ptlangs.proofs.shifts.Shifts.image.Given as goal
+
+abbrev pub invariant-loop-stretch : goal.invariant-loop-stretch
+invariant-loop-stretch l = l.image ≡ (l.byte + sum_by (λ s. added s l.byte) (take l.stretch-index l.stretch-items)) % 256

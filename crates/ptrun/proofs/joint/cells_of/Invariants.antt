@@ -1,0 +1,6 @@
+use Rattle.std.proofs.Common.{◌≡◌, take}
+use Rattle.ptrun.specs.Operands.{places}
+use Rattle.ptrun.proofs.joint.cells_of.Given as goal
+
+abbrev pub invariant-loop-input : goal.invariant-loop-input
+invariant-loop-input l = l.cells.items ≡ take l.input-index (places l.order)

@@ -1,0 +1,15 @@
+use Rattle.ptrun.specs.Operands.{places}
+use Rattle.ptrun.proofs.PairedPasses.{two_of, two_ready, two_went}
+use Rattle.ptrun.proofs.paired.OfTwoTogether.go_over.Goals as goal
+
+pub merge_at-ended-requires-clause-ready : goal.merge_at-ended-requires-clause-ready
+merge_at-ended-requires-clause-ready g c =
+    two_ready (g.T.Paired.tool c.args.self.now.tool) (places c.args.order.now) c.args.inputs.now c.args.out.now c.args.store.now c.place_of-first.result c.place_of-second.result
+    (two_of c.args.order.now _ _ c.place_of-first.result c.place_of-second.result c.requires.taken c.place_of-first.ensures c.place_of-second.ensures) c.requires
+
+pub returns : goal.returns
+returns g c =
+    rw c.done_at.ensures
+    (two_went (g.T.Paired.tool c.args.self.now.tool) (places c.args.order.now) c.args.inputs.now c.args.out.now c.args.store.now c.place_of-first.result c.place_of-second.result
+    (two_of c.args.order.now _ _ c.place_of-first.result c.place_of-second.result c.requires.taken c.place_of-first.ensures c.place_of-second.ensures) c.requires
+    c.merge_at-ended.new.inputs c.merge_at-ended.new.out c.merge_at-ended.new.store c.merge_at-ended.result c.merge_at-ended.ensures.sound c.merge_at-ended.ensures.others c.merge_at-ended.ensures.merged)

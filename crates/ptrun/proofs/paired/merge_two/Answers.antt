@@ -1,0 +1,9 @@
+use Rattle.std.proofs.Common.{sym, ◌∙◌}
+use Rattle.std.proofs.lemmas.Bool.{false≢true}
+use Rattle.ptmerge.specs.declared.order.Side.TheVariants.{First, Second}
+use Rattle.ptrun.proofs.paired.merge_two.Goals as goal
+
+pub prove-unreachable-requires-2 : goal.prove-unreachable-requires-2
+prove-unreachable-requires-2 g c =
+    let e = c.merge-ended.ensures in
+    false≢true (sym c.if-prove-2.true ∙ c.are_open-open-2.ensures.open ((e.came First).refused ∙ c.requires.opened1) ((e.came Second).refused ∙ c.requires.opened2))
