@@ -33,6 +33,16 @@ TEXT = [
 ]
 BINARY = [["tr", "\\000-\\177", "\\200-\\377"], ["tr", "-cd", "0-9"]]
 
+UNIQ = [["uniq"], ["uniq", "-c"], ["uniq", "-d"], ["uniq", "-u"], ["uniq", "-f", "1"], ["uniq", "-s", "8"]]
+# An operand of `paste` here: standard input is the first, and each further one names the same file again.
+FILE = "FILE"
+PASTE = [
+    ["paste", "-", FILE],
+    ["paste", "-", FILE, FILE, FILE, FILE],
+    ["paste", "-s", "-"],
+    ["paste", "-", "-", "-"],
+]
+
 
 def log_line(number):
     return (
@@ -45,17 +55,33 @@ def table_line(number, separator, end="\n"):
     return separator.join(str(number * factor % 65536) for factor in range(3, 13)) + end
 
 
+def repeated(chance):
+    """Lines of 9 to 96 bytes, of which each comes again, and then perhaps again, with this chance."""
+    given, lines = random.Random(1), []
+    for number in range(20000):
+        line = f"u{number % 977} {number * 7919 % 65536:05} " + "x" * (number * 31 % 86) + "\n"
+        lines.append(line)
+        while given.random() < chance:
+            lines.append(line)
+    return "".join(lines)
+
+
 # What is repeated to 64 MB, and the commands that are run over it.
 INPUTS = {
     "log": (lambda: "".join(log_line(number) for number in range(20000)), BYTES + TEXT),
     "short": (lambda: "abcd\n", BYTES),
     "long": (lambda: "0123456789" * 1000 + "\n", BYTES),
-    "one line": (lambda: "0123456789" * 1000, BYTES),
+    "one line": (lambda: "0123456789" * 1000, BYTES + UNIQ),
     "commas": (lambda: "".join(table_line(number, ",") for number in range(20000)), FIELDS),
     "tabs": (lambda: "".join(table_line(number, "\t") for number in range(20000)), FIELDS[2:]),
     "zeros": (lambda: "".join(table_line(number, ",", "\0") for number in range(20000)), ZEROS),
     "long,": (lambda: "0123456789," * 1000 + "\n", FIELDS),
     "one line,": (lambda: "0123456789,", FIELDS),
+    "8 bytes": (lambda: "".join(f"{number:08}\n" for number in range(100000)), UNIQ + PASTE),
+    "unrepeated": (lambda: repeated(0), UNIQ),
+    "few again": (lambda: repeated(0.1), UNIQ),
+    "many again": (lambda: repeated(0.9), UNIQ),
+    "long lines": (lambda: "".join(f"{number:07}" * 1428 + "abc\n" for number in range(100)), UNIQ + PASTE),
     "random": (lambda: random.Random(1).randbytes(1 << 20).decode("latin-1"), BINARY),
 }
 
@@ -78,17 +104,22 @@ def measure(command, path, output):
     return usage.ru_utime + usage.ru_stime
 
 
-def same(one, other):
+def same(words, one, other):
+    """Whether the outputs are the same. GNU puts blanks in front of a count; here there are none."""
+    if words[:2] == ["uniq", "-c"]:
+        command = f"sed 's/^ *//' {other} | cmp -s {one} -"
+        return subprocess.run(["sh", "-c", command], check=False).returncode == 0
     return subprocess.run(["cmp", "-s", one, other], check=False).returncode == 0
 
 
 def compare(folder, path, ptext, other, words):
     """The best seconds of ptext and of the other side."""
     ours, theirs = [], []
+    words = [path if word == FILE else word for word in words]
     ours_out, theirs_out = os.path.join(folder, "ours"), os.path.join(folder, "theirs")
     measure([ptext, *words], path, ours_out)
     measure([*other, *words], path, theirs_out)
-    if not same(ours_out, theirs_out):
+    if not same(words, ours_out, theirs_out):
         sys.exit(f"{words}: the outputs differ")
     for _ in range(RUNS):
         ours.append(measure([ptext, *words], path, os.devnull))

@@ -1,4 +1,5 @@
 pub mod BlockLemmas
+pub mod BlockRuns
 pub mod ByteRests
 pub mod CellSlots
 pub mod Chosen
@@ -13,6 +14,7 @@ pub mod LineLaws
 pub mod LaneLemmas
 pub mod LineLemmas
 pub mod LinesCame
+pub mod OpenLines
 pub mod OpenRuns
 pub mod PassLemmas
 pub mod PasteLemmas

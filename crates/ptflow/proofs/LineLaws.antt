@@ -4,7 +4,7 @@ use Rattle.std.proofs.Common.{◌≡◌, ℕ, ◌+◌, ◌≤◌, ◌==◌, Bool
 use Rattle.std.specs.List.{onto_first}
 use Rattle.std.proofs.lemmas.Bool.{eqb-true, eqb-false}
 use Rattle.ptlines.specs.Text.{text, lines, ended_lines, onto_line, IsLine, AreLines, longest}
-use Rattle.ptlines.proofs.TextLaws.{other_byte, ended_none, ended_first}
+use Rattle.ptlines.proofs.TextLaws.{other_byte, lines_of_text, ended_none, ended_first}
 use Rattle.std.proofs.lemmas.List.{append-nil, take_at, take-append-le, drop-append-le, take_all, drop_all, length-take-le}
 use Rattle.memchr.specs.Find.{IsFirstByte, is_byte}
 use Rattle.ptlines.proofs.Scanned.{before_end, take_end, drop_end}
@@ -29,6 +29,12 @@ parts_of end (b ∷ bytes) =
     let p = parts_of end bytes in
     let q = parts_step end b bytes p.piece (b == end) (ended_lines end bytes) refl p.is p.whole p.line in
     record { piece = q.0; is = q.1; whole = q.2; line = q.3 }
+
+-- the whole lines stand in front of what comes next
+pub ended_front : (end : ℕ) (bytes rest : List ℕ) → lines end (bytes ++ rest) ≡ ended_lines end bytes ++ lines end ((parts_of end bytes).piece ++ rest)
+ended_front end bytes rest =
+    let p = parts_of end bytes in
+    ap (λ (l : List ℕ). lines end (l ++ rest)) p.is ∙ ap (lines end) (append_assoc (text end (ended_lines end bytes)) p.piece rest) ∙ lines_of_text end (ended_lines end bytes) (p.piece ++ rest) p.whole
 
 -- ---- the longest line
 

@@ -17,7 +17,7 @@ use Rattle.ptflow.specs.Tools.{Tool}
 use Rattle.ptflow.specs.Passes.{IsReady, IsPass, Adds}
 use Rattle.ptflow.specs.declared.faults.FlowFault.TheVariants.{Read, Write, Memory}
 use Rattle.ptflow.specs.Workings.Continuations.{Continues, Halts}
-use Rattle.ptflow.proofs.LineLaws.{parts_of, longest-append, longest_piece}
+use Rattle.ptflow.proofs.LineLaws.{parts_of, ended_front, longest-append, longest_piece}
 use Rattle.ptflow.proofs.ReaderFacts.{goes_nothing, given_of, done_gives_nothing, stays_done, may_come, goes_past}
 use Rattle.ptflow.proofs.PassLemmas.{Reached, reached_nothing, Midway, Stored, pass_read, pass_memory, pass_write, pass_done}
 use Rattle.ptflow.proofs.SlotFacts.{Keeps, keeps_more, keeps_line}
@@ -128,7 +128,7 @@ module _ {X : Type 0} (lines_from : X → List (List ℕ) → List ℕ) (end wid
 
       -- they stand in front of what comes next
       pub ended_first : (rest : List ℕ) → lines end (block ++ rest) ≡ ended ++ lines end ((parts_of end block).piece ++ rest)
-      ended_first rest = ap (λ (l : List ℕ). lines end (l ++ rest)) (parts_of end block).is ∙ ap (lines end) (append_assoc (text end ended) (parts_of end block).piece rest) ∙ lines_of_text end ended ((parts_of end block).piece ++ rest) (parts_of end block).whole
+      ended_first rest = ended_front end block rest
 
       lines_passed : lines end (r.given ++ text end ended) ≡ lines end r.given ++ ended
       lines_passed = lines_so_far (text end ended) (λ done. ap (λ (b : List ℕ). text end (ended_lines end b)) (none_shown done)) ∙ ap (λ (l : List (List ℕ)). lines end r.given ++ l) (lines-text end ended (parts_of end block).whole)

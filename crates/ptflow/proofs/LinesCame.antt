@@ -1,17 +1,17 @@
 -- The lines that came of a reader.
-use Rattle.std.proofs.Common.{◌≡◌, ◌⊎◌, ⊎_elim, inl, inr, ℕ, ◌+◌, ◌==◌, ◌<◌, ◌≤◌, Bool, true, false, cond, List, [], ◌∷◌, ◌++◌, length, max, refl, sym, ◌∙◌, ap, subst, arith, append_assoc, length-append}
+use Rattle.std.proofs.Common.{◌≡◌, ◌⊎◌, ⊎_elim, inl, inr, ℕ, ◌==◌, ◌<◌, ◌≤◌, Bool, true, false, cond, List, [], ◌∷◌, ◌++◌, length, max, refl, sym, ◌∙◌, ap, subst, arith, append_assoc, length-append}
 use Rattle.std.specs.List.{onto_first}
 use Rattle.std.proofs.lemmas.Bool.{false≢true}
 use Rattle.std.proofs.lemmas.List.{append-nil}
 use Rattle.ptlines.specs.Text.{text, lines, ended_lines, IsLine, AreLines, longest, longest_line}
-use Rattle.ptlines.specs.Inputs.{Given, Agrees, whole_lines}
-use Rattle.ptlines.specs.Readers.{Reader, Reads, IsDone}
+use Rattle.ptlines.specs.Inputs.{Agrees, whole_lines}
+use Rattle.ptlines.specs.Readers.{Reader, Reads, Goes, IsDone}
 use Rattle.ptlines.specs.Slots.{Slots}
 use Rattle.ptlines.specs.Fills.{GivesLine}
-use Rattle.ptlines.proofs.TextLaws.{lines_of_text, lines_last, lines_first, lines-text, text_push, AreLines_push, ended_of_text}
+use Rattle.ptlines.proofs.TextLaws.{lines_of_text, lines_last, lines_first, lines-text, text-append, text_push, AreLines_push, ended_of_text}
 use Rattle.ptflow.specs.Workings.TakenLines.{LinesCame}
 use Rattle.ptflow.proofs.LineLaws.{longest_piece, longest-append}
-use Rattle.ptflow.proofs.ReaderFacts.{given_of, done_gives_nothing}
+use Rattle.ptflow.proofs.ReaderFacts.{given_of, done_gives_nothing, stays_done}
 
 longest_front : (end : ℕ) (ls : List (List ℕ)) (piece rest : List ℕ) → AreLines end ls → IsLine end piece → max (longest ls) (length piece) ≤ longest (lines end (text end ls ++ (piece ++ rest)))
 longest_front end ls piece rest whole free = omega (arith, ap longest (lines_of_text end ls (piece ++ rest) whole) ∙ longest-append ls (lines end (piece ++ rest)), longest_piece end piece rest free)
@@ -114,3 +114,18 @@ module _ (end : ℕ) (now : Reader) (given : List ℕ) (ls : List (List ℕ)) (k
         closed : (lines end given ≡ ls) × IsDone now
             → ((given ++ (e.line ++ e.ending) ≡ text end (ls ++ e.line ∷ [])) × AreLines end (ls ++ e.line ∷ [])) ⊎ ((lines end (given ++ (e.line ++ e.ending)) ≡ ls ++ e.line ∷ []) × IsDone new)
         closed c = let none = (done_gives_nothing now new (e.line ++ e.ending) c.1 e.goes.reads).0 in absurd (omega (arith, some_came, ap length none))
+
+are_append : (end : ℕ) (xs ys : List (List ℕ)) → AreLines end xs → AreLines end ys → AreLines end (xs ++ ys)
+are_append end [] ys a b = b
+are_append end (x ∷ xs) ys a b = (a.0, are_append end xs ys a.1 b)
+
+-- some whole lines came behind those that came
+pub lines_block : (end : ℕ) (reader : Reader) (given : List ℕ) (ls : List (List ℕ)) → LinesCame end reader given ls → (new : Reader) (more : List (List ℕ)) → Goes reader new (text end more) → AreLines end more → LinesCame end new (given ++ text end more) (ls ++ more)
+lines_block end reader given ls k new more goes are = record {
+  so_far = ⊎_elim
+      (λ o. inl (ap (λ (l : List ℕ). l ++ text end more) o.0 ∙ sym (text-append end ls more), are_append end ls more o.1 are))
+      (λ c. inr (
+        lines_on end reader given ls k (text end more) (λ done. (done_gives_nothing reader new (text end more) done goes.reads).0) ∙ ap (λ (l : List (List ℕ)). ls ++ l) (lines-text end more are),
+        stays_done reader new (text end more) c.1 goes.reads,
+      )) k.so_far;
+}

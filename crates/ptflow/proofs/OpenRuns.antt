@@ -13,16 +13,13 @@ use Rattle.ptlangs.specs.Jobs.{Uniq}
 use Rattle.ptlangs.specs.declared.jobs.Show.{Show}
 use Rattle.ptlangs.specs.declared.jobs.Show.TheVariants.{All, Counts, Repeated, Single}
 use Rattle.ptflow.specs.Uniqs.{Run, key, is_same, onto_runs, runs, shown, entries, all_but_last}
-use Rattle.ptflow.specs.Workings.OpenRuns.{open_run, runs_from, runs_behind, is_shown, lead, run_text}
+use Rattle.ptflow.specs.Workings.OpenRuns.{run_of, open_run, runs_from, runs_behind, is_shown, lead, run_text}
 
 some_lines : (n : ℕ) → nat_lt 0 (n + 1) ≡ true
 some_lines n = grind (arith, nat_tests)
 
 some_line : (n : ℕ) → nat_lt 0 (suc n) ≡ true
 some_line n = grind (arith, nat_tests)
-
-abbrev pub run_of : List ℕ → ℕ → Run
-run_of line count = record { line = line; count = count }
 
 module _ (job : Uniq) where
   -- The first of the runs, and what it is with one more line of its key in front.

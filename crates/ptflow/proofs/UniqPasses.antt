@@ -1,9 +1,8 @@
 -- `uniq` over its turns: a run is open, and what is written of the runs before it was pushed.
-use Rattle.std.proofs.Common.{◌≡◌, ℕ, zero, suc, ◌+◌, ◌*◌, ◌<◌, ◌≤◌, ◌^◌, ◌&&◌, Bool, true, false, List, [], ◌∷◌, ◌++◌, None, Ok, Err, length, max, refl, sym, ◌∙◌, ap, subst, arith, append_assoc, length-append}
-use Rattle.std.specs.Prelude.{nat_lt, swap}
+use Rattle.std.proofs.Common.{◌≡◌, ℕ, ◌*◌, ◌<◌, ◌≤◌, ◌^◌, true, false, cond, List, [], ◌∷◌, ◌++◌, None, Ok, Err, length, take, drop, max, ⊎_elim, refl, sym, ◌∙◌, ap, subst, arith, append_assoc, length-append}
 use Rattle.std.proofs.lemmas.Bool.{false≢true}
 use Rattle.std.proofs.lemmas.List.{append-nil}
-use Rattle.ptlines.specs.Text.{text, lines, IsLine, longest, longest_line}
+use Rattle.ptlines.specs.Text.{text, lines, ended_lines, IsLine, longest, longest_line}
 use Rattle.ptlines.specs.Inputs.{Given, Begins, Agrees}
 use Rattle.ptlines.specs.Outputs.{Output, Wrote}
 use Rattle.ptlines.specs.Readers.{Reader, Reads, Goes, IsDone, IsSound, HasReadCause}
@@ -13,16 +12,19 @@ use Rattle.ptlines.proofs.Filling.{goes_trans}
 use Rattle.ptlines.proofs.Pushed.{wrote_trans}
 use Rattle.ptlangs.specs.Jobs.{Uniq}
 use Rattle.ptflow.specs.Passes.{IsReady, IsPass, Adds}
-use Rattle.ptflow.specs.Uniqs.{Run, is_same, runs, entries, all_but_last, uniq_tool}
-use Rattle.ptflow.specs.Workings.OpenRuns.{open_run, runs_behind, run_text}
+use Rattle.ptflow.specs.Uniqs.{Run, runs, entries, all_but_last, uniq_tool}
+use Rattle.ptflow.specs.Workings.OpenRuns.{run_of, open_run, runs_behind, run_text}
 use Rattle.ptflow.specs.declared.faults.FlowFault.TheVariants.{Read, Write, Memory}
-use Rattle.ptflow.proofs.LineLaws.{longest-append}
+use Rattle.ptflow.specs.Workings.BlockRuns.{RunsOn, RunsHalt}
+use Rattle.ptflow.specs.Workings.OpenLines.{first_line, open_run_of, IsSwapped}
+use Rattle.ptflow.specs.declared.repeats.Open.{Open}
+use Rattle.ptflow.proofs.LineLaws.{longest-append, parts_of, ended_front}
 use Rattle.ptflow.specs.Workings.TakenLines.{LinesCame}
-use Rattle.ptflow.proofs.LinesCame.{lines_none, lines_few, lines_on, lines_more, line_front, came_longest, piece_longest, whole_before}
-use Rattle.ptflow.proofs.OpenRuns.{run_of, behind_more, behind_turn, entries-append, open_is, but_open}
+use Rattle.ptflow.proofs.LinesCame.{lines_none, lines_few, lines_on, lines_more, lines_block, line_front, came_longest, piece_longest, whole_before}
+use Rattle.ptflow.proofs.OpenRuns.{entries-append, open_is, but_open}
 use Rattle.ptflow.proofs.PassLemmas.{Reached, reached_nothing, Midway, Stored, pass_read, pass_memory, pass_write, pass_done, pass_unended}
-use Rattle.ptflow.proofs.ReaderFacts.{given_of, goes_nothing}
-use Rattle.ptflow.proofs.TwoSlots.{KeepsTwo, two_starts, two_more, two_second, first_stays, second_line, two_swap, swapped_line, emptied_total, emptied_denied, emptied_adds, emptied_peak}
+use Rattle.ptflow.proofs.ReaderFacts.{given_of, goes_nothing, goes_past}
+use Rattle.ptflow.proofs.TwoSlots.{KeepsTwo, two_starts, two_more, two_second, first_stays, second_line, two_swap, emptied_total, emptied_denied, emptied_adds, emptied_peak}
 
 -- what is written of the rest of a text, where this run is open
 abbrev pub rest_behind : Uniq → Run → List ℕ → List ℕ
@@ -70,60 +72,56 @@ module _ (job : Uniq) (old : Reader) (was : Output) where
           ap (entries job) (ap (runs job) (lines_on job.end reader s.given s.ls s.came rest may) ∙ s.on (lines job.end rest)) ∙ entries-append job s.passed (runs_behind job run (lines job.end rest));
     }
 
-    module _ (new : Reader) (before after : Slots) (slot : ℕ) (e : GivesLine reader new before after slot) (same : reader.ending ≡ job.end) where
-      -- the line is one more of the run
-      pub singling_more : (nat_lt 0 run.count && is_same job run.line e.line) ≡ true → (n : Singling job (run_of run.line (run.count + 1)) old new was is) × (n.ls ≡ s.ls ++ e.line ∷ [])
-      singling_more goes = (
-        record {
-          given = s.given ++ (e.line ++ e.ending);
-          ls = s.ls ++ e.line ∷ [];
-          passed = s.passed;
-          came = lines_more job.end reader s.given s.ls s.came new before after slot e same;
-          reached = record { goes = goes_trans old reader new s.given (e.line ++ e.ending) s.reached.goes e.goes; wrote = s.reached.wrote; clean = s.reached.clean };
-          on = λ more. ap (runs job) (append_assoc s.ls (e.line ∷ []) more) ∙ s.on (e.line ∷ more) ∙ ap (λ (l : List Run). s.passed ++ l) (behind_more job run e.line more goes);
-          count = omega (arith, s.count, length-append s.ls (e.line ∷ []));
-        },
-        refl,
-      )
+    -- some lines more came, and what is written of their runs was passed on
+    pub singling_on : (new : Reader) (bytes : List ℕ) (ls : List (List ℕ)) → Goes reader new bytes → LinesCame job.end new (s.given ++ bytes) (s.ls ++ ls) → (after : Run) (is' : Output) → RunsOn job run after ls is is' → is'.faulted ≡ false
+        → (n : Singling job after old new was is') × (n.ls ≡ s.ls ++ ls)
+    singling_on new bytes ls goes came after is' r clean = (
+      record {
+        given = s.given ++ bytes;
+        ls = s.ls ++ ls;
+        passed = s.passed ++ r.passed;
+        came = came;
+        reached = record {
+          goes = goes_trans old reader new s.given bytes s.reached.goes goes;
+          wrote = subst (λ (b : List ℕ). Wrote was is' b) (sym (entries-append job s.passed r.passed)) (wrote_trans was is is' (entries job s.passed) (entries job r.passed) s.reached.clean s.reached.wrote r.wrote);
+          clean = clean;
+        };
+        on = λ more.
+            ap (runs job) (append_assoc s.ls ls more) ∙ s.on (ls ++ more) ∙ ap (λ (l : List Run). s.passed ++ l) (r.on more)
+            ∙ sym (append_assoc s.passed r.passed (runs_behind job after more));
+        count = omega (arith, s.count, r.count, length-append s.ls ls);
+      },
+      refl,
+    )
 
-      -- another run begins with the line
-      module _ (turns : (nat_lt 0 run.count && is_same job run.line e.line) ≡ false) (is' : Output) (wrote : Wrote is is' (entries job (open_run run))) where
-        pub singling_turn : is'.faulted ≡ false → (n : Singling job (run_of e.line 1) old new was is') × (n.ls ≡ s.ls ++ e.line ∷ [])
-        singling_turn clean = (
-          record {
-            given = s.given ++ (e.line ++ e.ending);
-            ls = s.ls ++ e.line ∷ [];
-            passed = s.passed ++ open_run run;
-            came = lines_more job.end reader s.given s.ls s.came new before after slot e same;
-            reached = record {
-              goes = goes_trans old reader new s.given (e.line ++ e.ending) s.reached.goes e.goes;
-              wrote = subst (λ (b : List ℕ). Wrote was is' b) (sym (entries-append job s.passed (open_run run))) (wrote_trans was is is' (entries job s.passed) (entries job (open_run run)) s.reached.clean s.reached.wrote wrote);
-              clean = clean;
-            };
-            on = λ more.
-                ap (runs job) (append_assoc s.ls (e.line ∷ []) more) ∙ s.on (e.line ∷ more) ∙ ap (λ (l : List Run). s.passed ++ l) (behind_turn job run e.line more turns)
-                ∙ sym (append_assoc s.passed (open_run run) (runs_behind job (run_of e.line 1) more));
-            count = omega (arith, length-append s.ls (e.line ∷ []));
-          },
-          refl,
-        )
+    -- a write failed amid some lines
+    module _ (first store : Slots) (ready : IsReady old first) (sound : IsSound reader) (roomy : store.denied ≡ false) (ls : List (List ℕ)) (is' : Output) (h : RunsHalt job run ls is is') (fault : is'.faulted ≡ true) where
+      begins : (rest : List ℕ) (more : List (List ℕ)) → lines job.end rest ≡ ls ++ more → Begins (entries job h.passed) (rest_behind job run rest)
+      begins rest more is_lines =
+          let t = h.true_so_far more in record {
+            rest = entries job t.0;
+            is = ap (λ (l : List (List ℕ)). entries job (runs_behind job run l)) is_lines ∙ ap (entries job) t.1 ∙ entries-append job h.passed t.0;
+          }
 
-        -- or a write failed
-        front : (rest : List ℕ) → (new.ended ≡ true → rest ≡ []) → Begins (entries job (open_run run)) (rest_behind job run ((e.line ++ e.ending) ++ (new.held ++ rest)))
-        front rest may = record {
-          rest = rest_behind job (run_of e.line 1) (new.held ++ rest);
-          is =
-              ap (λ (l : List (List ℕ)). entries job (runs_behind job run l)) (line_front job.end reader s.given s.ls s.came new before after slot e same (new.held ++ rest) (λ done. λ i. done.held i ++ may done.ended i))
-              ∙ ap (entries job) (behind_turn job run e.line (lines job.end (new.held ++ rest)) turns)
-              ∙ entries-append job (open_run run) (runs_behind job (run_of e.line 1) (lines job.end (new.held ++ rest)));
-        }
+      -- a line that came by way of a slot
+      pub single_write_line : (new : Reader) (before after : Slots) (slot : ℕ) (e : GivesLine reader new before after slot) → reader.ending ≡ job.end → ls ≡ e.line ∷ [] → Adds first store 2 → store.peak ≤ max first.peak (2 * longest (s.ls ++ e.line ∷ []))
+          → IsPass (uniq_tool job) old new was is' first store (Err Write)
+      unfolding midway
+      single_write_line new before after slot e same ls_are adds peak =
+          pass_write (rest_behind job) (run_of [] 0) (uniq_tool job) (λ bytes. refl) run old reader new was is first store midway ready sound (e.line ++ e.ending) e.goes.reads
+          (stored job first store (given_of (s.given ++ (e.line ++ e.ending)) new) (longest (s.ls ++ e.line ∷ [])) (came_longest job.end new (s.given ++ (e.line ++ e.ending)) (s.ls ++ e.line ∷ []) (lines_more job.end reader s.given s.ls s.came new before after slot e same)) adds peak)
+          is' (entries job h.passed) h.wrote fault e.goes.failed roomy
+          (λ rest may. begins ((e.line ++ e.ending) ++ (new.held ++ rest)) (lines job.end (new.held ++ rest))
+          (line_front job.end reader s.given s.ls s.came new before after slot e same (new.held ++ rest) (λ done. λ i. done.held i ++ may done.ended i) ∙ ap (λ (l : List (List ℕ)). l ++ lines job.end (new.held ++ rest)) (sym ls_are)))
 
-        pub single_write : (first store : Slots) → IsReady old first → IsSound reader → KeepsTwo first store (longest (s.ls ++ e.line ∷ [])) → is'.faulted ≡ true → IsPass (uniq_tool job) old new was is' first store (Err Write)
-        unfolding midway
-        single_write first store ready sound k fault =
-            pass_write (rest_behind job) (run_of [] 0) (uniq_tool job) (λ bytes. refl) run old reader new was is first store midway ready sound (e.line ++ e.ending) e.goes.reads
-            (stored job first store (given_of (s.given ++ (e.line ++ e.ending)) new) (longest (s.ls ++ e.line ∷ [])) (came_longest job.end new (s.given ++ (e.line ++ e.ending)) (s.ls ++ e.line ∷ []) (lines_more job.end reader s.given s.ls s.came new before after slot e same)) k.adds k.peak)
-            is' (entries job (open_run run)) wrote fault e.goes.failed k.denied front
+      -- the lines of a block
+      pub single_write_block : (shown : Reader) → Goes reader shown [] → ls ≡ ended_lines job.end shown.held → Adds first store 2 → store.peak ≤ max first.peak (2 * longest s.ls) → IsPass (uniq_tool job) old shown was is' first store (Err Write)
+      unfolding midway
+      single_write_block shown goes ls_are adds peak =
+          pass_write (rest_behind job) (run_of [] 0) (uniq_tool job) (λ bytes. refl) run old reader shown was is first store midway ready sound [] goes.reads
+          (stored job first store (given_of (s.given ++ []) shown) (max (longest s.ls) 0) (piece_longest job.end reader s.given s.ls s.came shown [] goes.reads tt) adds (omega (arith, peak)))
+          is' (entries job h.passed) h.wrote fault goes.failed roomy
+          (λ rest may. begins (shown.held ++ rest) (lines job.end ((parts_of job.end shown.held).piece ++ rest)) (ended_front job.end shown.held rest ∙ ap (λ (l : List (List ℕ)). l ++ lines job.end ((parts_of job.end shown.held).piece ++ rest)) (sym ls_are)))
 
     -- a read failed, or a growth was refused
     module _ (first : Slots) (ready : IsReady old first) (sound : IsSound reader) (new : Reader) (piece : List ℕ) (reads : Reads reader new piece) (free : IsLine job.end piece) (store : Slots) (adds : Adds first store 2) (peak : store.peak ≤ max first.peak (2 * max (longest s.ls) (length piece))) where
@@ -162,80 +160,65 @@ pub run_wrote : (job : Uniq) (count : ℕ) (bytes first behind : List ℕ) (is i
 run_wrote job count bytes first behind is is' bytes_are behind_is wrote =
     subst (λ (b : List ℕ). Wrote is is' b) ((λ i. run_text job.show count (bytes_are i ++ behind_is i)) ∙ sym (open_is job (run_of first count))) wrote
 
--- a run is open whose first line the slot holds
-pub record Turning (job : Uniq) (old reader : Reader) (was is : Output) (first store : Slots) (count : ℕ) : Type 0 where
-  pub singling : Singling job (run_of (line store 0) count) old reader was is
+-- this run is open, and the first two slots hold all that the store holds
+pub record Turning (job : Uniq) (old reader : Reader) (was is : Output) (first store : Slots) (run : Run) : Type 0 where
+  pub singling : Singling job run old reader was is
   pub keeps : KeepsTwo first store (longest singling.ls)
 
 longer : (ls : List (List ℕ)) (l : List ℕ) → max (longest ls) (length l) ≤ longest (ls ++ l ∷ [])
 longer ls l = omega (arith, longest-append ls (l ∷ []))
 
-pub turning_starts : (job : Uniq) (old : Reader) (was : Output) (first store : Slots) → IsReady old first → was.faulted ≡ false → Adds first store 2 → store.denied ≡ false → total store.lines ≡ total first.lines → store.peak ≡ first.peak → Turning job old old was was first store 0
-turning_starts job old was first store ready clean adds allowed same peak =
-    let s = singling_starts job old was (line store 0) ready.readable clean in
+pub turning_starts : (job : Uniq) (old : Reader) (was : Output) (first store : Slots) (line : List ℕ) → IsReady old first → was.faulted ≡ false → Adds first store 2 → store.denied ≡ false → total store.lines ≡ total first.lines → store.peak ≡ first.peak
+    → Turning job old old was was first store (run_of line 0)
+turning_starts job old was first store line ready clean adds allowed same peak =
+    let s = singling_starts job old was line ready.readable clean in
     record { singling = s.0; keeps = two_more first store 0 (two_starts first store adds allowed (same ∙ ready.empty) peak) (longest s.0.ls) (omega arith) }
 
-module _ (job : Uniq) (old reader : Reader) (was is : Output) (first store : Slots) (count : ℕ) (t : Turning job old reader was is first store count) (new : Reader) (after : Slots) (e : GivesLine reader new store after 1) (same : reader.ending ≡ job.end)
-    (seen next : List ℕ) (seen_is : seen ≡ line after 0) (next_is : next ≡ line after 1) where
-  abbrev s : Singling job (run_of (line store 0) count) old reader was is
+-- the first line of the run that is open stays, where the first slot stays
+pub first_same : (run : Open) (store after : Slots) → line after 0 ≡ line store 0 → first_line run after ≡ first_line run store
+first_same run store after same = ap (λ (l : List ℕ). cond run.kept run.bytes.items l) same
+
+module _ (job : Uniq) (old reader : Reader) (was is : Output) (first store : Slots) (now : Open) (t : Turning job old reader was is first store (open_run_of now store)) (new : Reader) (after : Slots) (e : GivesLine reader new store after 1) (same : reader.ending ≡ job.end) where
+  abbrev s : Singling job (open_run_of now store) old reader was is
   s = t.singling
-
-  first_same : line after 0 ≡ line store 0
-  first_same = first_stays first store (longest s.ls) t.keeps after e.line e.stored
-
-  next_line : line after 1 ≡ e.line
-  next_line = second_line first store (longest s.ls) t.keeps after e.line e.stored
 
   filled : KeepsTwo first after (max (longest s.ls) (length e.line))
   filled = two_second first store (longest s.ls) t.keeps after e.line e.stored
 
-  tested : (nat_lt 0 count && is_same job seen next) ≡ (nat_lt 0 count && is_same job (line store 0) e.line)
-  tested = λ i. nat_lt 0 count && is_same job ((seen_is ∙ first_same) i) ((next_is ∙ next_line) i)
+  next_line : line after 1 ≡ e.line
+  next_line = second_line first store (longest s.ls) t.keeps after e.line e.stored
 
-  pub turning_more : (nat_lt 0 count && is_same job seen next) ≡ true → Turning job old new was is first after (count + 1)
-  turning_more goes =
-      let n = singling_more job old was (run_of (line store 0) count) reader is s new store after 1 e same (sym tested ∙ goes) in
-      along n.0 n.1
-    where
-      along : (n : Singling job (run_of (line store 0) (count + 1)) old new was is) → n.ls ≡ s.ls ++ e.line ∷ [] → Turning job old new was is first after (count + 1)
-      along n ls = record {
-        singling = record { given = n.given; ls = n.ls; passed = n.passed; came = n.came; reached = n.reached; on = λ more. n.on more ∙ ap (λ (l : List ℕ). n.passed ++ runs_behind job (run_of l (count + 1)) more) (sym first_same); count = n.count };
-        keeps = two_more first after (max (longest s.ls) (length e.line)) filled (longest n.ls) (omega (arith, longer s.ls e.line, ap longest ls));
-      }
+  kept_run : open_run_of now after ≡ open_run_of now store
+  kept_run = ap (λ (l : List ℕ). run_of l now.count) (first_same now store after (first_stays first store (longest s.ls) t.keeps after e.line e.stored))
 
-  module _ (turns : (nat_lt 0 count && is_same job seen next) ≡ false) (is' : Output) (shown behind : List ℕ) (shown_is : shown ≡ line after 0) (behind_is : behind ≡ job.end ∷ []) (wrote : Wrote is is' (run_text job.show count (shown ++ behind))) where
-    all_wrote : Wrote is is' (entries job (open_run (run_of (line store 0) count)))
-    all_wrote = run_wrote job count shown (line store 0) behind is is' (shown_is ∙ first_same) behind_is wrote
+  swapped : (after' : Slots) → IsSwapped after after' → KeepsTwo first after' (max (longest s.ls) (length e.line))
+  swapped after' either = ⊎_elim
+      (λ stays. subst (λ (x : Slots). KeepsTwo first x (max (longest s.ls) (length e.line))) (sym stays) filled)
+      (λ changed. two_swap first after (max (longest s.ls) (length e.line)) filled after' changed (omega (arith, ap length next_line)))
+      either
 
-    pub turning_write : IsReady old first → IsSound reader → is'.faulted ≡ true → IsPass (uniq_tool job) old new was is' first after (Err Write)
-    turning_write ready sound fault =
-        single_write job old was (run_of (line store 0) count) reader is s new store after 1 e same (sym tested ∙ turns) is' all_wrote first after ready sound
-        (two_more first after (max (longest s.ls) (length e.line)) filled (longest (s.ls ++ e.line ∷ [])) (longer s.ls e.line)) fault
+  -- the line was taken
+  pub turning_line : (after' : Slots) → IsSwapped after after' → (run : Run) (is' : Output) → RunsOn job (open_run_of now after) run (line after 1 ∷ []) is is' → is'.faulted ≡ false → Turning job old new was is' first after' run
+  turning_line after' either run is' r clean =
+      let n = singling_on job old was (open_run_of now store) reader is s new (e.line ++ e.ending) (e.line ∷ []) e.goes (lines_more job.end reader s.given s.ls s.came new store after 1 e same) run is'
+      (subst (λ (l : List ℕ). RunsOn job (open_run_of now store) run (l ∷ []) is is') next_line (subst (λ (x : Run). RunsOn job x run (line after 1 ∷ []) is is') kept_run r)) clean in
+      record { singling = n.0; keeps = two_more first after' (max (longest s.ls) (length e.line)) (swapped after' either) (longest n.0.ls) (omega (arith, longer s.ls e.line, ap longest n.1)) }
 
-    pub turning_turn : (swapped : Slots) → swapped ≡ record after { lines = swap after.lines 0 1 } → is'.faulted ≡ false → Turning job old new was is' first swapped 1
-    turning_turn swapped changed clean =
-        let n = singling_turn job old was (run_of (line store 0) count) reader is s new store after 1 e same (sym tested ∙ turns) is' all_wrote clean in
-        along n.0 n.1
-      where
-        fits : length (line after 1) ≤ max (longest s.ls) (length e.line)
-        fits = omega (arith, ap length next_line)
+  -- a write failed
+  pub turning_write : IsReady old first → IsSound reader → (is' : Output) → RunsHalt job (open_run_of now after) (line after 1 ∷ []) is is' → is'.faulted ≡ true → (after' : Slots) → after' ≡ after → IsPass (uniq_tool job) old new was is' first after' (Err Write)
+  turning_write ready sound is' h fault after' stays =
+      let k = two_more first after (max (longest s.ls) (length e.line)) filled (longest (s.ls ++ e.line ∷ [])) (longer s.ls e.line) in
+      subst (λ (x : Slots). IsPass (uniq_tool job) old new was is' first x (Err Write)) (sym stays)
+      (single_write_line job old was (open_run_of now store) reader is s first after ready sound k.denied (line after 1 ∷ []) is' (subst (λ (x : Run). RunsHalt job x (line after 1 ∷ []) is is') kept_run h) fault
+      new store after 1 e same (ap (λ (l : List ℕ). l ∷ []) next_line) k.adds k.peak)
 
-        head : line swapped 0 ≡ e.line
-        head = swapped_line first after (max (longest s.ls) (length e.line)) filled swapped changed fits ∙ next_line
-
-        along : (n : Singling job (run_of e.line 1) old new was is') → n.ls ≡ s.ls ++ e.line ∷ [] → Turning job old new was is' first swapped 1
-        along n ls = record {
-          singling = record { given = n.given; ls = n.ls; passed = n.passed; came = n.came; reached = n.reached; on = λ more. n.on more ∙ ap (λ (l : List ℕ). n.passed ++ runs_behind job (run_of l 1) more) (sym head); count = n.count };
-          keeps = two_more first swapped (max (longest s.ls) (length e.line)) (two_swap first after (max (longest s.ls) (length e.line)) filled swapped changed fits) (longest n.ls) (omega (arith, longer s.ls e.line, ap longest ls));
-        }
-
-module _ (job : Uniq) (old reader : Reader) (was is : Output) (first store : Slots) (count : ℕ) (t : Turning job old reader was is first store count) (ready : IsReady old first) (sound : IsSound reader) (new : Reader) where
+module _ (job : Uniq) (old reader : Reader) (was is : Output) (first store : Slots) (run : Run) (t : Turning job old reader was is first store run) (ready : IsReady old first) (sound : IsSound reader) (new : Reader) where
   -- a beginning of a line came
   module _ (piece : List ℕ) (reads : Reads reader new piece) (free : IsLine job.end piece) (after : Slots) where
     pub turning_read : after ≡ with_line store 1 piece → HasReadCause reader new → IsPass (uniq_tool job) old new was is first after (Err (Read 0))
     turning_read is_after cause =
         let k = two_second first store (longest t.singling.ls) t.keeps after piece is_after in
-        single_read job old was (run_of (line store 0) count) reader is t.singling first ready sound new piece reads free after k.adds k.peak cause k.denied
+        single_read job old was run reader is t.singling first ready sound new piece reads free after k.adds k.peak cause k.denied
 
     pub turning_memory : after ≡ with_denied (with_line store 1 piece) → new.failed ≡ reader.failed → IsPass (uniq_tool job) old new was is first after (Err Memory)
     turning_memory is_after same =
@@ -246,23 +229,39 @@ module _ (job : Uniq) (old reader : Reader) (was is : Output) (first store : Slo
           most = omega (arith, ap (λ (s : Slots). length s.lines) is_after, k.adds.most);
           all = λ allowed. absurd (false≢true (sym allowed ∙ denied));
         } in
-        single_memory job old was (run_of (line store 0) count) reader is t.singling first ready sound new piece reads free after adds (omega (arith, ap (λ (s : Slots). s.peak) is_after, k.peak)) same denied
+        single_memory job old was run reader is t.singling first ready sound new piece reads free after adds (omega (arith, ap (λ (s : Slots). s.peak) is_after, k.peak)) same denied
+
+  -- a block could not be read
+  pub turning_no_block : Reads reader new [] → HasReadCause reader new → IsPass (uniq_tool job) old new was is first store (Err (Read 0))
+  turning_no_block reads cause = single_read job old was run reader is t.singling first ready sound new [] reads tt store t.keeps.adds (omega (arith, t.keeps.peak)) cause t.keeps.denied
 
   -- the end was said
-  module _ (goes : Goes reader new []) (done : IsDone new) (after : Slots) (is_after : after ≡ with_line store 1 []) (is' : Output) (seen behind : List ℕ) (seen_is : seen ≡ line after 0) (behind_is : behind ≡ job.end ∷ []) (wrote : Wrote is is' (run_text job.show count (seen ++ behind))) where
-    last_wrote : Wrote is is' (entries job (open_run (run_of (line store 0) count)))
-    last_wrote = run_wrote job count seen (line store 0) behind is is' (seen_is ∙ first_stays first store (longest t.singling.ls) t.keeps after [] is_after) behind_is wrote
-
+  module _ (goes : Goes reader new []) (done : IsDone new) (after : Slots) (is_after : after ≡ with_line store 1 []) (is' : Output) (wrote : Wrote is is' (entries job (open_run run))) where
     pub turning_done : (cleared : Slots) → cleared ≡ with_line after 0 [] → is'.faulted ≡ false → IsPass (uniq_tool job) old new was is' first cleared (Ok tt)
     turning_done cleared is_cleared fine =
         let most = longest t.singling.ls in
-        single_done job old was (run_of (line store 0) count) reader is t.singling first ready sound new goes done is' last_wrote cleared (emptied_adds first store most t.keeps after cleared is_after is_cleared) (emptied_peak first store most t.keeps after cleared is_after is_cleared)
+        single_done job old was run reader is t.singling first ready sound new goes done is' wrote cleared (emptied_adds first store most t.keeps after cleared is_after is_cleared) (emptied_peak first store most t.keeps after cleared is_after is_cleared)
         (emptied_denied first store most t.keeps after cleared is_after is_cleared) fine (goes.short (sound.long t.singling.reached.goes.fault)) (emptied_total first store most t.keeps after cleared is_after is_cleared)
 
     pub turning_unended : is'.faulted ≡ true → IsPass (uniq_tool job) old new was is' first after (Err Write)
     turning_unended fault =
         let k = two_second first store (longest t.singling.ls) t.keeps after [] is_after in
-        single_unended job old was (run_of (line store 0) count) reader is t.singling first ready sound new goes done is' last_wrote after k.adds (omega (arith, k.peak)) k.denied fault
+        single_unended job old was run reader is t.singling first ready sound new goes done is' wrote after k.adds (omega (arith, k.peak)) k.denied fault
+
+  -- a block was shown, and its lines taken
+  module _ (block : List ℕ) (goes : Goes reader new []) (held : new.held ≡ block) (is' : Output) where
+    pub turning_block : (next : Reader) (count : ℕ) → count ≤ length block → take count block ≡ text job.end (ended_lines job.end block) → next ≡ record new { held = drop count new.held }
+        → (after : Run) → RunsOn job run after (ended_lines job.end block) is is' → is'.faulted ≡ false → Turning job old next was is' first store after
+    turning_block next count fits passed consumed after r clean =
+        let s = t.singling in
+        let ls = ended_lines job.end block in
+        let front = subst (λ (b : List ℕ). Goes reader next b) passed (goes_past reader new next block count goes held fits consumed) in
+        let n = singling_on job old was run reader is s next (text job.end ls) ls front (lines_block job.end reader s.given s.ls s.came next ls front (parts_of job.end block).whole) after is' r clean in
+        record { singling = n.0; keeps = two_more first store (longest s.ls) t.keeps (longest n.0.ls) (omega (arith, ap longest n.1 ∙ longest-append s.ls ls)) }
+
+    pub turning_block_write : RunsHalt job run (ended_lines job.end block) is is' → is'.faulted ≡ true → IsPass (uniq_tool job) old new was is' first store (Err Write)
+    turning_block_write h fault =
+        single_write_block job old was run reader is t.singling first store ready sound t.keeps.denied (ended_lines job.end block) is' h fault new goes (ap (ended_lines job.end) (sym held)) t.keeps.adds t.keeps.peak
 
 -- the slots were refused
 pub turning_unslotted : (job : Uniq) (old : Reader) (was : Output) (first store : Slots) → IsReady old first → IsSound old → was.faulted ≡ false → Adds first store 2 → store.denied ≡ true → store.peak ≡ first.peak → IsPass (uniq_tool job) old old was was first store (Err Memory)

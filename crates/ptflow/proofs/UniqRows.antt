@@ -1,7 +1,6 @@
 -- Worked examples of `uniq`.
-use Rattle.std.proofs.Common.{◌≡◌, ℕ, [], true, false, refl, codes}
+use Rattle.std.proofs.Common.{◌≡◌, ℕ, [], false, refl, codes}
 use Rattle.std.specs.Fmt.{digits}
-use Rattle.ptlines.specs.Inputs.{Given}
 use Rattle.ptlangs.specs.Jobs.{Uniq}
 use Rattle.ptlangs.specs.declared.jobs.Show.{Show}
 use Rattle.ptlangs.specs.declared.jobs.Show.TheVariants.{All, Counts, Repeated, Single}

@@ -6,6 +6,9 @@ pub mod FieldPlaces
 pub mod TrRests
 pub mod Lanes
 pub mod OpenRuns
+pub mod UniqWords
+pub mod BlockRuns
+pub mod OpenLines
 pub mod SerialRests
 pub mod TakenLines
 pub mod RowTurns

@@ -10,6 +10,7 @@ mod keys;
 mod lanes;
 mod pasting;
 mod repeats;
+mod runs;
 mod serial;
 mod slots;
 mod translating;

@@ -168,3 +168,28 @@ fn lines_across_blocks(rt: HostRuntime) -> Result<(), Fail> {
     }
     Ok(())
 }
+
+// Runs of one to three lines, more than a block holds, and what is written of them with counts.
+fn counted_runs(alloc: Global) -> Result<(String, String), Fail> {
+    let mut text = String::new(alloc);
+    let mut counted = String::new(alloc);
+    for number in 0..3000 {
+        let count = number % 3 + 1;
+        let line = format!(in alloc; "{number}\n")?;
+        for _ in 0..count {
+            text.push_str(line.as_str())?;
+        }
+        counted.push_str(format!(in alloc; "{count} {number}\n")?.as_str())?;
+    }
+    Ok((text, counted))
+}
+
+#[test]
+fn runs_across_blocks(rt: HostRuntime) -> Result<(), Fail> {
+    let (text, counted) = counted_runs(rt.alloc())?;
+    for size in SIZES {
+        let case = over_standard(&["uniq", "-c"], text.as_bytes(), *size);
+        expect(&rt, rt.alloc(), &case, &writes(counted.as_str()))?;
+    }
+    Ok(())
+}

@@ -1,14 +1,24 @@
-use Rattle.std.proofs.Common.{◌≡◌, ℕ, ◌-◌, List, length, [], take, drop, sym, ◌∙◌, ap, arith}
-use Rattle.std.proofs.lemmas.List.{take_rest, nil_from_length}
-use Rattle.ptflow.proofs.UniqKeys.{behind, behind_zero, behind_is, behind_end}
+use Rattle.std.proofs.Common.{◌≡◌, ◌-◌, ◌+◌, ℕ, [], length, sym, ◌∙◌, ap, arith}
+use Rattle.std.proofs.lemmas.Bool.{eqb-true}
+use Rattle.std.proofs.lemmas.List.{nil_from_length}
+use Rattle.ptflow.proofs.UniqKeys.{behind, behind_none, behind_zero, behind_is, behind_step}
 use Rattle.ptflow.proofs.keys.behind_fields.Goals as goal
 
-pub returns-then-left-eq0 : goal.returns-then-left-eq0
-returns-then-left-eq0 c = sym (behind_zero c.bytes.rest.now) ∙ ap (λ (n : ℕ). behind n c.bytes.rest.now) (sym c.if-left-eq0.true) ∙ c.bytes.invariant ∙ behind_is c.args.fields c.args.line.now
+pub loop-field-init : goal.loop-field-init
+loop-field-init c = ap (λ (n : ℕ). behind n c.args.line.now) (omega arith)
 
-pub bytes-preserved-then-ends_word : goal.bytes-preserved-then-ends_word
-bytes-preserved-then-ends_word c =
-    behind_end c.bytes.left c.bytes.rest.now _ (omega arith) c.in-len1-up.len_at_least (take_rest c.bytes.rest.now 1) (sym c.ends_word.ensures ∙ c.if-ends_word.true) ∙ c.bytes.invariant
+pub returns-then-is_empty : goal.returns-then-is_empty
+returns-then-is_empty c =
+    let rest = c.loop-field.rest.now in
+    let none : rest ≡ [] = nil_from_length rest (eqb-true (length rest) 0 (sym c.is_empty.ensures ∙ c.if-is_empty.true)) in
+    none ∙ sym (ap (behind (c.args.fields - c.loop-field._field)) none ∙ behind_none (c.args.fields - c.loop-field._field)) ∙ c.loop-field.invariant ∙ behind_is c.args.fields c.args.line.now
+
+pub loop-field-preserved : goal.loop-field-preserved
+loop-field-preserved c =
+    let left = c.args.fields - (c.loop-field._field + 1) in
+    ap (behind left) c.behind_field-rest.ensures ∙ sym (behind_step (c.args.fields - c.loop-field._field) left c.loop-field.rest.now (omega arith)) ∙ c.loop-field.invariant
 
 pub returns : goal.returns
-returns c = let none : c.bytes.rest.now ≡ [] = nil_from_length c.bytes.rest.now (omega arith) in none ∙ sym (ap (behind c.bytes.left) none) ∙ c.bytes.invariant ∙ behind_is c.args.fields c.args.line.now
+returns c =
+    let none : c.args.fields - c.loop-field._field ≡ 0 = omega arith in
+    sym (ap (λ (n : ℕ). behind n c.loop-field.rest.now) none ∙ behind_zero c.loop-field.rest.now) ∙ c.loop-field.invariant ∙ behind_is c.args.fields c.args.line.now

@@ -1,9 +1,6 @@
-use Rattle.std.proofs.Common.{◌≡◌, length}
+use Rattle.std.proofs.Common.{◌≡◌, ◌-◌}
 use Rattle.ptflow.proofs.UniqKeys.{behind}
 use Rattle.ptflow.proofs.keys.behind_fields.Given as goal
 
-abbrev pub invariant-bytes : goal.invariant-bytes
-invariant-bytes l = behind l.left l.rest ≡ behind l.fn.fields l.line
-
-abbrev pub decreases-bytes : goal.decreases-bytes
-decreases-bytes l = length l.rest
+abbrev pub invariant-loop-field : goal.invariant-loop-field
+invariant-loop-field l = behind (l.fields - l._field) l.rest ≡ behind l.fields l.line

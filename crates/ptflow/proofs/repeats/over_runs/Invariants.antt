@@ -1,10 +1,11 @@
 use Rattle.ptlines.specs.Readers.{budget}
 use Rattle.ptlangs.specs.Jobs.{uniq_job}
+use Rattle.ptflow.specs.Workings.OpenLines.{open_run_of}
 use Rattle.ptflow.proofs.UniqPasses.{Turning}
 use Rattle.ptflow.proofs.repeats.over_runs.Given as goal
 
 abbrev pub invariant-turns : goal.invariant-turns
-invariant-turns g l = Turning (uniq_job l.job) l.fn.reader l.reader l.fn.out l.out l.fn.store l.store l.count
+invariant-turns g l = Turning (uniq_job l.job) l.fn.reader l.reader l.fn.out l.out l.fn.store l.store (open_run_of l.run l.store)
 
 abbrev pub decreases-turns : goal.decreases-turns
 decreases-turns g l = budget l.reader

@@ -1,9 +1,8 @@
-use Rattle.std.proofs.Common.{◌≡◌, ℕ, [], ◌∷◌, List, sym, ◌∙◌, ap, subst}
+use Rattle.std.proofs.Common.{◌≡◌, ℕ, [], ◌∷◌, List, ◌∙◌, subst}
 use Rattle.std.specs.Prelude.{decimal}
 use Rattle.ptlines.specs.Outputs.{Wrote}
 use Rattle.ptlines.proofs.Pushed.{wrote_trans, wrote_past}
-use Rattle.ptflow.specs.Workings.OpenRuns.{lead}
-use Rattle.ptflow.proofs.repeats.push_lead.Goals as goal
+use Rattle.ptflow.proofs.runs.push_lead.Goals as goal
 
 pub returns-in_err-push-in-Counts-clause-wrote : goal.returns-in_err-push-in-Counts-clause-wrote
 returns-in_err-push-in-Counts-clause-wrote g c =

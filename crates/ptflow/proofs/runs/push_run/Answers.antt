@@ -1,7 +1,7 @@
 use Rattle.std.proofs.Common.{◌≡◌, ◌++◌, true, arith}
 use Rattle.ptlines.proofs.Pushed.{wrote_trans, wrote_past}
 use Rattle.ptflow.specs.Workings.OpenRuns.{is_shown, lead}
-use Rattle.ptflow.proofs.repeats.push_run.Goals as goal
+use Rattle.ptflow.proofs.runs.push_run.Goals as goal
 
 pub returns-in_err-push_lead-clause-wrote : goal.returns-in_err-push_lead-clause-wrote
 returns-in_err-push_lead-clause-wrote g c =
