@@ -3,13 +3,15 @@
 #                           the wrong bodies of the changed crates (SINCE=COMMIT; origin/main where it is known, else HEAD~1)
 # make test                 the gate: every proof from nothing, the must-fail edits, all tests, the built program
 # make bench                ratios to the system's tools, measured side by side
-# make install PREFIX=..    copies build/ptext to PREFIX/bin (/usr/local unless it is given)
-# make uninstall PREFIX=..  takes it away again
+# make compare N=5000       random words and inputs, against the system's tools (docs/COMPARISON.md)
+# make install PREFIX=..    installs the program, its pages and completion into PREFIX (/usr/local), below DESTDIR
+# make install-tools        adds PREFIX/libexec/ptext/bin with each tool by its own name: for who puts it into PATH
+# make uninstall PREFIX=..  takes away exactly what these two installed
 
 PREFIX ?= /usr/local
-BIN := $(DESTDIR)$(PREFIX)/bin
+N ?= 1000
 
-.PHONY: all check test bench install uninstall clean
+.PHONY: all check test bench compare install install-tools uninstall clean
 
 all: build/ptext
 
@@ -23,17 +25,24 @@ check:
 
 test: build/ptext
 	sh tests/program.sh build/ptext
+	sh tests/install.sh
+	python3 tests/pages.py build/ptext
 	rt ci
 
 bench: build/ptext
 	python3 bench/run.py build/ptext
 
+compare: build/ptext
+	python3 tools/compare.py build/ptext $(N)
+
 install: build/ptext
-	mkdir -p $(BIN)
-	install -m 755 build/ptext $(BIN)/ptext
+	python3 tools/install.py install "$(PREFIX)" "$(DESTDIR)"
+
+install-tools: install
+	python3 tools/install.py tools "$(PREFIX)" "$(DESTDIR)"
 
 uninstall:
-	rm -f $(BIN)/ptext
+	python3 tools/install.py uninstall "$(PREFIX)" "$(DESTDIR)"
 
 clean:
 	rm -rf build crates/*/out

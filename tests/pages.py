@@ -1,0 +1,190 @@
+#!/usr/bin/env python3
+"""Runs the examples of the README, the pages and the docs where they stand, lints the pages, and asks whether the options
+of the pages and of the completion are those of the program, and whether its messages stand in the pages.
+
+  python3 tests/pages.py PROGRAM
+
+An example is a line `$ COMMAND` in a block, and the lines below it are what it says: output and messages, as a terminal
+shows them. The commands of one file run in their order and in one folder, in which `ptext` is PROGRAM. A line
+`gnu$ COMMAND` is an example of GNU's tools, and `busybox$ COMMAND` one of busybox's: these are left out where the system
+has another version than docs/COMPARISON.md speaks of. So is, with a line that says so, an example of a tool that
+answers `not built yet`, the lint where there is no mandoc, and the completion where there is no bash.
+"""
+import glob
+import os
+import re
+import shutil
+import string
+import subprocess
+import sys
+import tempfile
+
+TOOLS = ["cut", "paste", "join", "comm", "uniq", "tr"]
+TOP = os.path.dirname(os.path.dirname(os.path.realpath(__file__)))
+FILES = ["README.md", *sorted(glob.glob("man/*.1", root_dir=TOP)), *sorted(glob.glob("docs/*.md", root_dir=TOP))]
+VERSIONS = {"gnu": (["cut", "--version"], "(GNU coreutils) 9.1\n"), "busybox": (["busybox"], "BusyBox v1.35.")}
+PROMPT = re.compile(r"(gnu|busybox|)\$ (.*)")
+SIGNS = {r"\e": "\\", r"\(aq": "'", r"\(ga": "`", r"\(ha": "^", r"\(ti": "~", r"\-": "-", r"\&": ""}
+
+COMPLETED = [
+    ("ptext ", TOOLS),
+    ("ptext pa", ["paste"]),
+    ("ptext cut -f ", []),
+    ("ptext cut -sf ", []),
+    ("ptext cut -f1 -", ["-b", "-c", "-d", "-f", "-n", "-s", "-z"]),
+    ("ptext cut -f 1 man/ptext-c", ["man/ptext-comm.1", "man/ptext-cut.1"]),
+    ("ptext tr -d ", []),
+    ("ptext comm f -", []),
+    ("ptext uniq -- -", []),
+]
+
+
+def blocks_of_page(text):
+    for block in re.findall(r"^\.Bd -literal.*?\n(.*?)^\.Ed$", text, re.M | re.S):
+        yield re.sub(r"\\(?:\(..|.)", lambda it: SIGNS[it[0]], block)
+
+
+def blocks_of_text(text):
+    for block in re.findall(r"(?:^(?: {4}.*)?\n)+", text, re.M):
+        yield re.sub(r"^ {4}", "", block, flags=re.M).strip("\n") + "\n"
+
+
+def examples_of(file):
+    """The examples of a file: whose tools, the command, and what it says."""
+    with open(f"{TOP}/{file}", encoding="utf-8") as it:
+        text = it.read()
+    for block in (blocks_of_page if file.endswith(".1") else blocks_of_text)(text):
+        found = None
+        for line in block.splitlines(keepends=True):
+            prompt = PROMPT.match(line)
+            if prompt and found:
+                yield found
+            if prompt:
+                found = (prompt[1], prompt[2], "")
+            elif found:
+                found = (found[0], found[1], found[2] + line)
+        if found:
+            yield found
+
+
+def has(side):
+    words, version = VERSIONS[side]
+    if not shutil.which(words[0]):
+        return False
+    return version in subprocess.run(words, capture_output=True, text=True, check=False).stdout
+
+
+def run_all(file, program, known):
+    """The examples of a file: how many were as wanted, and how many were not."""
+    good = bad = 0
+    with tempfile.TemporaryDirectory() as room:
+        os.mkdir(f"{room}/bin")
+        os.mkdir(f"{room}/here")
+        os.symlink(program, f"{room}/bin/ptext")
+        surroundings = {**os.environ, "PATH": f"{room}/bin:{os.environ['PATH']}", "LC_ALL": "C"}
+        for side, command, wanted in examples_of(file):
+            if side and not known[side]:
+                continue
+            pipes = {"stdin": subprocess.DEVNULL, "stdout": subprocess.PIPE, "stderr": subprocess.STDOUT}
+            did = subprocess.run(["sh", "-c", command], cwd=f"{room}/here", env=surroundings, check=False, **pipes)
+            said = did.stdout.decode(errors="replace")
+            if said == wanted:
+                good += 1
+            elif re.search(r"^\w+: not built yet$", said, re.M):
+                print(f"left out: {file}: {command} (not built yet)")
+            else:
+                bad += 1
+                print(f"FAILED: {file}: {command}\nwanted:\n{wanted}found:\n{said}")
+    return good, bad
+
+
+def lint():
+    """What mandoc has against the pages; nothing where there is no mandoc."""
+    if not shutil.which("mandoc"):
+        print("left out: the lint of the pages (there is no mandoc)")
+        return ""
+    pages = sorted(glob.glob(f"{TOP}/man/*.1"))
+    words = ["mandoc", "-Tlint", "-Wwarning", *pages]
+    return subprocess.run(words, stdout=subprocess.PIPE, stderr=subprocess.STDOUT, text=True, check=False).stdout
+
+
+def letters_of_program(program, tool):
+    """The letters that the program does not call unknown."""
+    words = [[program, tool, f"-{it}"] for it in string.ascii_letters + string.digits]
+    said = [subprocess.run(it, stdin=subprocess.DEVNULL, capture_output=True, text=True, check=False).stderr for it in words]
+    return {it[2][1] for it, text in zip(words, said) if "unknown option" not in text}
+
+
+def letters_of_page(tool):
+    with open(f"{TOP}/man/ptext-{tool}.1", encoding="utf-8") as it:
+        items = re.findall(r"^\.It Fl (.*)$", it.read(), re.M)
+    return {letter for item in items for letter in re.findall(r"\b\w\b", item.partition(" Ar ")[0])}
+
+
+def completed(words):
+    """What bash completes behind these words."""
+    text = f'. "{TOP}/completion/ptext"; COMP_WORDS=("$@"); COMP_CWORD=$(($# - 1)); _ptext; echo "${{COMPREPLY[@]}}"'
+    did = subprocess.run(["bash", "-c", text, "bash", *words], cwd=TOP, capture_output=True, text=True, check=False)
+    return did.stdout.split()
+
+
+def wrong_options(program):
+    """Where the options of a page or of the completion are not those of the program."""
+    found = []
+    if not shutil.which("bash"):
+        print("left out: the completion (there is no bash)")
+    for tool in TOOLS:
+        taken = letters_of_program(program, tool)
+        if letters_of_page(tool) != taken:
+            found.append(f"the options of man/ptext-{tool}.1 are not those of the program, {sorted(taken)}\n")
+        if shutil.which("bash") and set(completed(["ptext", tool, "-"])) != {f"-{it}" for it in taken}:
+            found.append(f"the completion of {tool} has not the options of the program, {sorted(taken)}\n")
+    for text, wanted in COMPLETED if shutil.which("bash") else []:
+        if sorted(completed(text.split(" "))) != sorted(wanted):
+            found.append(f"completion of `{text}`: {completed(text.split(' '))}, wanted {wanted}\n")
+    return "".join(found)
+
+
+def form_of(item):
+    """A message of a page as a pattern: what stands for something else is any text."""
+    text, space = "", ""
+    words = iter(item.split())
+    for word in words:
+        if word in ("No", "Ns"):
+            space = "" if word == "Ns" else space
+            continue
+        text += ("" if word in (":", ",") else space) + (".*" if word == "Ar" and next(words) else re.escape(word))
+        space = " "
+    return text
+
+
+def lacking_messages():
+    """Messages that a test wants and ptext.1 has not, and kinds of refused strings that ptext-tr.1 has not."""
+    texts = {}
+    for name in ["man/ptext.1", "man/ptext-tr.1", "tests/refused.txt", "tests/program.sh"]:
+        with open(f"{TOP}/{name}", encoding="utf-8") as it:
+            texts[name] = it.read()
+    forms = [form_of(it) for it in re.findall(r"^\.It (.*: .*)$", texts["man/ptext.1"], re.M)]
+    rows = [it.partition("|")[0] for it in texts["tests/refused.txt"].splitlines() if not it.startswith("#")]
+    wanted = [it for row in re.findall(r"^want '.*' '(.+)'$", texts["tests/program.sh"], re.M) for it in row.split("\\n") if it]
+    lacking = [it for it in rows + wanted if not any(re.fullmatch(form, it) for form in forms)]
+    kinds = {it.rpartition(" ")[2] for it in rows if "wrong string" in it}
+    lacking += [it for it in sorted(kinds) if f"\n.It {it}\n" not in texts["man/ptext-tr.1"]]
+    return "".join(f"not in the pages: {it}\n" for it in lacking)
+
+
+def main():
+    if len(sys.argv) != 2:
+        return __doc__
+    known = {side: has(side) for side in VERSIONS}
+    for side in [it for it in known if not known[it]]:
+        print(f"left out: the examples of {side} (the system has no such version)")
+    counts = [run_all(file, os.path.abspath(sys.argv[1]), known) for file in FILES]
+    good, bad = (sum(it) for it in zip(*counts))
+    found = lint() + wrong_options(os.path.abspath(sys.argv[1])) + lacking_messages()
+    print(f"{found}{good} of {good + bad} examples as wanted")
+    return 1 if bad or found else 0
+
+
+if __name__ == "__main__":
+    sys.exit(main())
