@@ -8,25 +8,25 @@ use Rattle.ptrun.specs.Worlds.{World}
 use Rattle.ptrun.specs.Meanings.{messages}
 use Rattle.ptrun.specs.Asked.{asked}
 
-record Outcome : Type 0 where
-  out : List ℕ
-  messages : List ℕ
-  status : ℕ
+pub record Outcome : Type 0 where
+  pub out : List ℕ
+  pub messages : List ℕ
+  pub status : ℕ
 
-abbrev outcome : List (List ℕ) → World → Outcome
+abbrev pub outcome : List (List ℕ) → World → Outcome
 outcome words w = record { out = (asked words).out w; messages = messages (asked words) w; status = (asked words).status w }
 
 -- two files; nothing comes of standard input
-abbrev files : List ℕ → List ℕ → World
+abbrev pub files : List ℕ → List ℕ → World
 files f g = Some [] ∷ Some f ∷ Some g ∷ []
 
-abbrev writes : List ℕ → Outcome
+abbrev pub writes : List ℕ → Outcome
 writes out = record { out = out; messages = []; status = 0 }
 
-abbrev tells : List ℕ → List ℕ → Outcome
+abbrev pub tells : List ℕ → List ℕ → Outcome
 tells out messages = record { out = out; messages = messages; status = 1 }
 
-abbrev Row : Type 0
+abbrev pub Row : Type 0
 Row = List (List ℕ) × World × Outcome
 
 abbrev in_order : List Row
@@ -64,10 +64,10 @@ unopened =
     ∷ (words "comm - f", Some (codes "a\n") ∷ None ∷ [], tells [] (codes "comm: f: cannot be opened\n"))
     ∷ []
 
-abbrev found : List Row → List Outcome
+abbrev pub found : List Row → List Outcome
 found rows = map (λ (row : Row). outcome row.0 row.1) rows
 
-abbrev wanted : List Row → List Outcome
+abbrev pub wanted : List Row → List Outcome
 wanted rows = map (λ (row : Row). row.2) rows
 
 are_left : found in_order ≡ wanted in_order
@@ -82,7 +82,7 @@ unfolding lib.Utf8.encode
 are_named = refl
 
 -- a read of g fails: keys below the last line that came of it are decided, and none behind a disorder
-abbrev received : List ℕ → List ℕ → List (Option Given)
+abbrev pub received : List ℕ → List ℕ → List (Option Given)
 received f g = Some (record { bytes = []; ended = false }) ∷ Some (record { bytes = f; ended = true }) ∷ Some (record { bytes = g; ended = false }) ∷ []
 
 decided_before_a_failed_read : map (λ (row : List ℕ × List ℕ). (asked (words "comm f g")).decided (received row.0 row.1)) ((codes "a\nc\n", codes "b\n") ∷ (codes "a\nb\na\n", codes "a\nb\n") ∷ (codes "b\na\n", codes "c\nd") ∷ []) ≡ codes "a\n" ∷ codes "\t\ta\n" ∷ codes "b\n" ∷ []
