@@ -158,7 +158,8 @@ def put_ascending(case):
 
 def put_other_newline(case):
     inputs = {name: text.replace(b"\n", b"\x03") for name, text in case.inputs.items()}
-    return case._replace(inputs=inputs), lambda out: out.replace(b"\x03", b"\n")
+    options = [("t", "\x03") if it == ("t", "\n") else it for it in case.options]
+    return case._replace(inputs=inputs, options=options), lambda out: out.replace(b"\x03", b"\n")
 
 
 def put_without_last_blanks(case):
@@ -266,6 +267,11 @@ def has_newline_in_line(case):
     return splits and case.has("z") and any(b"\n" in it for it in case.inputs.values())
 
 
+def has_newline_between(case):
+    """Where fields stand between newlines."""
+    return case.has("z") and case.values("t") == ["\n"]
+
+
 def has_last_blanks(case):
     ends = [line[-1:] for it in case.operands for line in case.lines(it)]
     return not case.has("t") and any(it in (b" ", b"\t") for it in ends)
@@ -305,6 +311,7 @@ def is_almost_a_form(case):
 
 BEHIND = "Options stand before operands"
 NUMBERS = "Numbers are digits, up to 18446744073709551615"
+DELIMITER = "A delimiter is one byte that ends no line"
 LISTED = [
     Listed(BEHIND, "cut paste uniq comm", lambda case: case.late, put=lambda case: (case, None)),
     Listed(BEHIND, "join", lambda case: case.late, "refused", "wrong number of operands"),
@@ -313,7 +320,8 @@ LISTED = [
     Listed("Letters that are not there", "uniq join tr", has_their_letter, "refused", "unknown option in"),
     Listed(NUMBERS, "uniq join", has_other_number, "refused", "wrong value for option"),
     Listed(NUMBERS, "cut", has_largest_number, "taken"),
-    Listed("A delimiter is one byte that ends no line", "cut join", has_wide_delimiter, "refused", "option -[dt]"),
+    Listed(DELIMITER, "cut join", has_wide_delimiter, "refused", "option -[dt]"),
+    Listed(DELIMITER, "join", has_newline_between, put=put_other_newline),
     Listed("Standard input is named once", "comm", lambda case: case.operands == ["-", "-"], "refused", "named twice"),
     Listed("A last line that lacks its end is a line, with `-z` too", "cut", ends_with_delimiter, put=put_ended),
     Listed("Counts have no blanks in front", "uniq", lambda case: case.has("c"), put=put_counts),
@@ -444,8 +452,6 @@ def shown_of(answer):
 def judge(case, program, room):
     """The titles of the differences that were met, and what is wrong, if something is."""
     ours = run([program, *case.words], case, room, {})
-    if ours.messages.endswith(": not built yet\n"):
-        return ["(not built yet)"], None
     given = [it for it in LISTED if it.does != "put" and case.tool in it.tools.split() and it.when(case)]
     put, undo, titles, surroundings = case, [], [BEHIND] * bool(case.late), {"LC_ALL": "C"}
     if ours.status != 2 and is_valid(case):
