@@ -258,6 +258,40 @@ for letters in -1 -2 -3 -12 -13 -23; do
     same "comm $letters as the system's" 0
 done
 
+# join, over two files, a file and standard input, and files out of order.
+printf 'a 1\na 2\nc 9\n' >first
+printf 'a x\na y\nb z\n' >second
+want 'a 1 x\na 1 y\na 2 x\na 2 y\n' ''
+run empty join first second
+same "pairs of two files" 0
+run first join - second
+same "pairs of standard input and a file" 0
+
+printf 'b 1\na 2\n' >falls
+want 'b 1 y\n' 'join: falls: line 2 is out of order\n'
+printf 'a x\nb y\n' >rises
+run empty join falls rises
+same "a file of join out of order" 1
+
+want '' 'join: none: cannot be opened\n'
+run empty join falls none
+same "a file of join that cannot be opened" 1
+
+# What the system's join says of sorted numbers.
+sed 's/.*/& a&,:/' threes >left
+sed 's/.*/& b&/' twos >right
+for options in '-a 1' '-v 2' '-a 1 -a 2 -e - -o 0,1.2,2.2,2.3' '-t , -v 1' '-v 1 -v 2' '-1 1 -2 1 -o 2.2,1.1'; do
+    LC_ALL=C join $options left right >want.out
+    : >want.messages
+    run empty join $options left right
+    same "join $options as the system's" 0
+done
+
+# One line of 64 MB in each file.
+want '' ''
+run empty comm -3 long long
+same "comm over one line of 64 MB" 0
+
 # One line of 64 MB, which uniq keeps twice at most, in 192 MB of address space.
 (
     ulimit -v 196608
