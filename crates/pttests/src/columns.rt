@@ -2,7 +2,8 @@
 
 use crate::commands::{
     Case, Expected, FREE, Input, Limits, Row, SIZES, expect, expect_growths_refused, expect_rows,
-    expect_untouched, expect_without_growth, growths, over_files, over_standard, run_over, writes,
+    expect_untouched, expect_without_growth, growths_over, over_files, over_standard, run_over,
+    writes,
 };
 use crate::comparing::same;
 use crate::texts::text_of;
@@ -381,36 +382,6 @@ fn each_growth_is_refused(rt: HostRuntime) -> Result<(), Fail> {
     expect_growths_refused(&rt, rt.alloc(), &beside, &writes(BESIDE_OUT), NO_MEMORY)?;
     let series = over_files(SERIES, FILES);
     expect_growths_refused(&rt, rt.alloc(), &series, &writes(SERIES_OUT), NO_MEMORY)
-}
-
-// Adds one to a number in decimal digits.
-fn add_one(digits: &mut [u8]) {
-    for digit in digits.iter_mut().rev() {
-        if *digit < b'9' {
-            *digit += 1;
-            return;
-        }
-        *digit = b'0';
-    }
-}
-
-// So many numbers of six digits in turn, each in a line.
-fn numbers(alloc: Global, count: usize) -> Result<Vec<u8>, AllocError> {
-    let mut digits = [b'0'; 6];
-    let mut text = Vec::new(alloc);
-    for _ in 0..count {
-        text.extend_from_slice(&digits)?;
-        text.push(b'\n')?;
-        add_one(&mut digits);
-    }
-    Ok(text)
-}
-
-// How often memory is asked for over files with so many lines.
-fn growths_over(rt: &impl Abort, alloc: Global, words: &[&str], lines: usize) -> Result<u64, Fail> {
-    let text = numbers(alloc, lines)?;
-    let files = [Input::Whole(&text), Input::Whole(&text)];
-    growths(rt, alloc, &over_files(&*words, &files))
 }
 
 #[test]

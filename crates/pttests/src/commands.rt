@@ -5,6 +5,7 @@ ghost use Rattle.ptrun.specs.Asked.{count_of};
 ghost use Rattle.ptrun.specs.Worlds.{IsFresh};
 
 use crate::comparing::same;
+use crate::texts::numbers;
 use ptfakes::{Kept, Pieces, Refusing, Watched};
 use ptlines::LineReader;
 use ptopts::{Command, UseFault};
@@ -271,6 +272,22 @@ pub fn expect_untouched(
     Ok(())
 }
 
+/// A command of which a file cannot be opened, over inputs whose reads fail: this is said, and no call of the output is
+/// made.
+pub fn expect_only_said(
+    rt: &impl Abort,
+    alloc: Global,
+    case: &Case<'_>,
+    messages: &str,
+) -> Result<(), Fail> {
+    let report = run_over(rt, alloc, alloc, case)?;
+    same(rt, &report.messages.bytes(), &messages.as_bytes());
+    same(rt, &report.out.calls(), &0);
+    same(rt, &report.peak, &0);
+    same(rt, &report.status, &1);
+    Ok(())
+}
+
 /// Looks at what was written and said, and at the status.
 pub fn assert_left(
     rt: &impl Abort,
@@ -351,4 +368,16 @@ pub fn growths(rt: &impl Abort, own: Global, case: &Case<'_>) -> Result<u64, Fai
     let report = run_over(rt, &counted, own, case)?;
     same(rt, &report.status, &0);
     Ok(u64::MAX - counted.left())
+}
+
+/// How often a command over two files with the same lines, so many numbers that ascend, asks for memory.
+pub fn growths_over(
+    rt: &impl Abort,
+    alloc: Global,
+    words: &[&str],
+    lines: usize,
+) -> Result<u64, Fail> {
+    let text = numbers(alloc, lines)?;
+    let files = [Input::Whole(&text), Input::Whole(&text)];
+    growths(rt, alloc, &over_files(&*words, &files))
 }

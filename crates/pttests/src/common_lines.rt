@@ -1,12 +1,10 @@
 //! `comm`.
 
 use crate::commands::{
-    Case, Expected, FREE, Input, Limits, SIZES, expect, expect_growths_refused, over_files,
-    run_over, writes,
+    Expected, FREE, Input, Limits, SIZES, expect, expect_growths_refused, expect_only_said,
+    growths_over, over_files, writes,
 };
 use crate::comparing::same;
-use std::alloc::Global;
-use std::process::Abort;
 use std::test::Fail;
 
 /// Words, the two files, and what is written.
@@ -325,33 +323,18 @@ fn the_message_is_cut_short(rt: HostRuntime) -> Result<(), Fail> {
     expect(&rt, rt.alloc(), &case, &tells("b\n", "comm: f: l"))
 }
 
-// Nothing is read, since each read would fail, and no call of the output is made.
-fn expect_untouched(
-    rt: &impl Abort,
-    alloc: Global,
-    case: &Case<'_>,
-    messages: &str,
-) -> Result<(), Fail> {
-    let report = run_over(rt, alloc, alloc, case)?;
-    same(rt, &report.messages.bytes(), &messages.as_bytes());
-    same(rt, &report.out.calls(), &0);
-    same(rt, &report.peak, &0);
-    same(rt, &report.status, &1);
-    Ok(())
-}
-
 #[test]
 fn refused_files_are_named(rt: HostRuntime) -> Result<(), Fail> {
     let unread = Input::Failing(b"b\na\n", 1, 0);
     let both = [Input::Refused, Input::Refused];
-    expect_untouched(
+    expect_only_said(
         &rt,
         rt.alloc(),
         &over_files(COMMON, &both),
         "comm: f: cannot be opened\ncomm: g: cannot be opened\n",
     )?;
     let second = [unread, Input::Refused];
-    expect_untouched(
+    expect_only_said(
         &rt,
         rt.alloc(),
         &over_files(COMMON, &second),
@@ -360,5 +343,13 @@ fn refused_files_are_named(rt: HostRuntime) -> Result<(), Fail> {
     let one = [Input::Refused];
     let mut case = over_files(&["comm", "-", "f"], &one);
     case.standard = unread;
-    expect_untouched(&rt, rt.alloc(), &case, "comm: f: cannot be opened\n")
+    expect_only_said(&rt, rt.alloc(), &case, "comm: f: cannot be opened\n")
+}
+
+#[test]
+fn memory_does_not_grow_with_the_lines(rt: HostRuntime) -> Result<(), Fail> {
+    let few = growths_over(&rt, rt.alloc(), COMMON, 10)?;
+    let many = growths_over(&rt, rt.alloc(), COMMON, 100_000)?;
+    same(&rt, &many, &few);
+    Ok(())
 }

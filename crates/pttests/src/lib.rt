@@ -18,6 +18,8 @@ mod faking;
 #[cfg(test)]
 mod fields;
 #[cfg(test)]
+mod joined_lines;
+#[cfg(test)]
 mod pasting;
 #[cfg(test)]
 mod reading;
