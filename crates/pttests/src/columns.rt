@@ -406,19 +406,34 @@ fn numbers(alloc: Global, count: usize) -> Result<Vec<u8>, AllocError> {
     Ok(text)
 }
 
-// How often memory is asked for over files with so many lines.
-fn growths_over(rt: &impl Abort, alloc: Global, words: &[&str], lines: usize) -> Result<u64, Fail> {
+// How often memory is asked for over so many files with so many lines, some of which cross the ends of pieces.
+fn growths_over(
+    rt: &impl Abort,
+    alloc: Global,
+    words: &[&str],
+    files: usize,
+    lines: usize,
+) -> Result<u64, Fail> {
     let text = numbers(alloc, lines)?;
-    let files = [Input::Whole(&text), Input::Whole(&text)];
-    growths(rt, alloc, &over_files(&*words, &files))
+    let both = [Input::Pieces(&text, 20), Input::Pieces(&text, 20)];
+    growths(rt, alloc, &over_files(&*words, &both[..files.min(2)]))
+}
+
+/// Expects that memory is asked for as often over 10 lines as over 100,000, in so many files, which are one or two.
+pub fn expect_steady_memory(
+    rt: &impl Abort,
+    alloc: Global,
+    words: &[&str],
+    files: usize,
+) -> Result<(), Fail> {
+    let few = growths_over(rt, alloc, &*words, files, 10)?;
+    let many = growths_over(rt, alloc, &*words, files, 100_000)?;
+    same(rt, &many, &few);
+    Ok(())
 }
 
 #[test]
 fn memory_does_not_grow_with_the_lines(rt: HostRuntime) -> Result<(), Fail> {
-    for words in [BESIDE, SERIES] {
-        let few = growths_over(&rt, rt.alloc(), words, 10)?;
-        let many = growths_over(&rt, rt.alloc(), words, 100_000)?;
-        same(&rt, &many, &few);
-    }
-    Ok(())
+    expect_steady_memory(&rt, rt.alloc(), BESIDE, 2)?;
+    expect_steady_memory(&rt, rt.alloc(), SERIES, 2)
 }

@@ -1,5 +1,6 @@
 //! `comm`.
 
+use crate::columns::expect_steady_memory;
 use crate::commands::{
     Case, Expected, FREE, Input, Limits, SIZES, expect, expect_growths_refused, over_files,
     run_over, writes,
@@ -361,4 +362,9 @@ fn refused_files_are_named(rt: HostRuntime) -> Result<(), Fail> {
     let mut case = over_files(&["comm", "-", "f"], &one);
     case.standard = unread;
     expect_untouched(&rt, rt.alloc(), &case, "comm: f: cannot be opened\n")
+}
+
+#[test]
+fn memory_does_not_grow_with_the_lines(rt: HostRuntime) -> Result<(), Fail> {
+    expect_steady_memory(&rt, rt.alloc(), &["comm", "f", "g"], 2)
 }
