@@ -5,7 +5,7 @@ ghost use Rattle.std.specs.Prelude.{map};
 ghost use Rattle.ptlines.specs.Outputs.{Wrote};
 ghost use Rattle.ptlangs.specs.Jobs.{join_job};
 ghost use Rattle.ptmerge.specs.Join.{is_blank, nth_field, others, between, filled, named, entry};
-ghost use Rattle.ptmerge.specs.JoinFields.{ends_field, fields_left, led};
+ghost use Rattle.ptmerge.specs.JoinFields.{ends_field, fields_left, is_tidy, led};
 
 use ptlangs::jobs::JoinJob;
 use ptlangs::outlist::{File, OutField, OutList};
@@ -117,6 +117,20 @@ fn push_led<W: Sink>(byte: u8, field: &[u8], out: &mut Out<W>) -> Result<(), Wri
     out.push(field)
 }
 
+// Whether these bytes are words with one space between each two.
+fn is_tidy(bytes: &[u8]) -> bool
+    ensures { result ≡ is_tidy true bytes.now }
+{
+    let mut blank = true;
+    for byte in bytes {
+        if *byte == b'\t' || (blank && *byte == b' ') {
+            return false;
+        }
+        blank = *byte == b' ';
+    }
+    !blank
+}
+
 // Pushes all fields of what is left of a line, each with a space in front of it.
 fn push_words<W: Sink>(bytes: &[u8], out: &mut Out<W>) -> Result<(), WriteFault>
     requires { out.old.faulted ≡ false }
@@ -124,6 +138,9 @@ fn push_words<W: Sink>(bytes: &[u8], out: &mut Out<W>) -> Result<(), WriteFault>
     ensures clean { OnOk result (out.new.faulted ≡ false) }
     ensures fault { OnErr result (out.new.faulted ≡ true) }
 {
+    if is_tidy(bytes) {
+        return push_led(b' ', bytes, out);
+    }
     let mut left = Some(bytes);
     'words: while let Some((word, behind)) = next_field(None, left) {
         push_led(b' ', word, out)?;
