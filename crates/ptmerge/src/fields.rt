@@ -1,7 +1,8 @@
 //! The fields of a line of `join`, and writing them.
-ghost use Rattle.std.specs.Prelude.{◌≡◌, ◌++◌, ◌∷◌, [], None, Some, ◌<◌, ◌-◌, length, position, option_copied, true, false, OnOk, OnErr, MatchOption};
+ghost use Rattle.std.specs.Prelude.{◌≡◌, ◌++◌, ◌∷◌, [], None, Some, ◌<◌, ◌≤◌, ◌-◌, length, position, option_copied, true, false, OnOk, OnErr, MatchOption};
 ghost use Rattle.std.specs.List.{slice_split, join_with_byte};
 ghost use Rattle.std.specs.Prelude.{map};
+ghost use Rattle.memchr.specs.Find.{IsFirst, Passes, is_byte};
 ghost use Rattle.ptlines.specs.Outputs.{Wrote};
 ghost use Rattle.ptlangs.specs.Jobs.{join_job};
 ghost use Rattle.ptmerge.specs.Join.{is_blank, nth_field, others, between, filled, named, entry};
@@ -11,11 +12,51 @@ use ptlangs::jobs::JoinJob;
 use ptlangs::outlist::{File, OutField, OutList};
 use ptlines::{Out, Sink, WriteFault, find_near};
 use std::alloc::Allocator;
+use std::simd::prelude::*;
 
 fn is_blank(byte: u8) -> bool
     ensures { result ≡ is_blank byte }
 {
     byte == b' ' || byte == b'\t'
+}
+
+// The first of the first 16 places that holds the byte.
+#[inline(always)]
+fn find_in_16(byte: u8, bytes: &[u8]) -> Option<usize>
+    requires { 16 ≤ length bytes.now }
+    ensures { IsFirst (Passes (is_byte byte) bytes.now) 0 16 result }
+{
+    let marked = u8x16::from_slice(bytes)
+        .simd_eq(u8x16::splat(byte))
+        .to_bitmask();
+    if marked == 0 {
+        return None;
+    }
+    Some(marked.trailing_zeros() as usize)
+}
+
+// The first blank, byte by byte.
+#[inline(never)]
+fn find_blank_far(bytes: &[u8]) -> Option<usize>
+    ensures { result ≡ position is_blank bytes.now }
+{
+    bytes.iter().position(|byte| is_blank(*byte))
+}
+
+// The first blank, which often is one of the first 16 bytes.
+#[inline(always)]
+fn find_blank(bytes: &[u8]) -> Option<usize>
+    ensures { result ≡ position is_blank bytes.now }
+{
+    if bytes.len() < 16 {
+        return find_blank_far(bytes);
+    }
+    match (find_in_16(b' ', bytes), find_in_16(b'\t', bytes)) {
+        (None, None) => find_blank_far(bytes),
+        (Some(space), None) => Some(space),
+        (None, Some(tab)) => Some(tab),
+        (Some(space), Some(tab)) => Some(space.min(tab)),
+    }
 }
 
 // The place where the first field of these bytes ends, if anything ends it.
@@ -25,7 +66,7 @@ fn field_end(separator: Option<u8>, bytes: &[u8]) -> Option<usize>
 {
     match separator {
         Some(byte) => find_near(byte, bytes),
-        None => bytes.iter().position(|byte| is_blank(*byte)),
+        None => find_blank(bytes),
     }
 }
 
