@@ -1,7 +1,6 @@
 //! The fields of a line of `join`, and writing them.
 ghost use Rattle.std.specs.Prelude.{◌≡◌, ◌++◌, ◌∷◌, [], None, Some, ◌<◌, ◌≤◌, ◌-◌, length, position, option_copied, true, false, OnOk, OnErr, MatchOption};
-ghost use Rattle.std.specs.List.{slice_split, join_with_byte};
-ghost use Rattle.std.specs.Prelude.{map};
+ghost use Rattle.std.specs.List.{slice_split};
 ghost use Rattle.memchr.specs.Find.{IsFirst, Passes, is_byte};
 ghost use Rattle.ptlines.specs.Outputs.{Wrote};
 ghost use Rattle.ptlangs.specs.Jobs.{join_job};
