@@ -3,7 +3,7 @@
 
 Usage: bench/run.py [--against OTHER] PTEXT [NAME..]
 
-Each case gives both the same 64 MB, in turn and RUNS times, and the best of each counts. The outputs are compared
+Each case gives both the same 64 MB (or twice that, in two inputs), in turn and RUNS times, and the best of each counts. The outputs are compared
 first. Below the table stands the least address space in which an empty line and a line of 64 MB are cut. With
 --against, the other side is another build of ptext.
 """
@@ -66,6 +66,51 @@ def repeated(chance):
     return "".join(lines)
 
 
+def ascending(width, first=0, step=1, times=1):
+    """64 MB of ascending lines of this many bytes, each number so many times."""
+    count = SIZE // width // times
+    rest = "x" * (width - 8) + "\n"
+    return "".join(f"{number:07x}{rest}" * times for number in range(first, first + count * step, step))
+
+
+def records(separator, first=0, step=1, times=1):
+    """64 MB of lines of a key that ascends and two more fields, each key in so many lines."""
+    count = SIZE // 32 // times
+    text = separator + "first" + separator + "second____________\n"
+    return "".join(f"{number:07x}{text}" * times for number in range(first, first + count * step, step))
+
+
+def group():
+    """1,000 lines of one key."""
+    return "".join(f"key {number:04}\n" for number in range(1000))
+
+
+# The second of two inputs; the first one is standard input.
+OTHER = "OTHER"
+COMM = [["comm", "-", OTHER], ["comm", "-12", "-", OTHER], ["comm", "-3", "-", OTHER]]
+JOIN = [["join", "-", OTHER]]
+FORMS = [
+    ["join", "-o", "1.2,2.3", "-", OTHER],
+    ["join", "-a", "1", "-a", "2", "-e", "X", "-", OTHER],
+    ["join", "-v", "1", "-", OTHER],
+]
+
+# Two inputs in order, and the commands that are run over them.
+PAIRS = {
+    "all, 8": (lambda: ascending(8), lambda: ascending(8), COMM),
+    "none, 8": (lambda: ascending(8), lambda: ascending(8, 1 << 24), COMM),
+    "half, 8": (lambda: ascending(8), lambda: ascending(8, 0, 2), COMM),
+    "all, 20": (lambda: ascending(20), lambda: ascending(20), COMM),
+    "half, 20": (lambda: ascending(20), lambda: ascending(20, 0, 2), COMM),
+    "all, 100": (lambda: ascending(100), lambda: ascending(100), COMM),
+    "half, 100": (lambda: ascending(100), lambda: ascending(100, 0, 2), COMM),
+    "one to one": (lambda: records(" "), lambda: records(" "), JOIN + FORMS),
+    "ten to one": (lambda: records(" ", times=10), lambda: records(" "), JOIN),
+    "none": (lambda: records(" ", 0, 2), lambda: records(" ", 1, 2), JOIN + FORMS),
+    "separated": (lambda: records(","), lambda: records(","), [["join", "-t", ",", "-", OTHER]]),
+    "one group": (group, group, JOIN),
+}
+
 # What is repeated to 64 MB, and the commands that are run over it.
 INPUTS = {
     "log": (lambda: "".join(log_line(number) for number in range(20000)), BYTES + TEXT),
@@ -93,6 +138,11 @@ def write_input(path, piece):
             left -= file.write(piece[:left])
 
 
+def write_whole(path, text):
+    with open(path, "w", encoding="ascii") as file:
+        file.write(text)
+
+
 def measure(command, path, output):
     """Seconds of user and system time."""
     with open(path, "rb") as standard, open(output, "wb") as out:
@@ -112,10 +162,10 @@ def same(words, one, other):
     return subprocess.run(["cmp", "-s", one, other], check=False).returncode == 0
 
 
-def compare(folder, path, ptext, other, words):
+def compare(folder, path, second, ptext, other, words):
     """The best seconds of ptext and of the other side."""
     ours, theirs = [], []
-    words = [path if word == FILE else word for word in words]
+    words = [{FILE: path, OTHER: second}.get(word, word) for word in words]
     ours_out, theirs_out = os.path.join(folder, "ours"), os.path.join(folder, "theirs")
     measure([ptext, *words], path, ours_out)
     measure([*other, *words], path, theirs_out)
@@ -157,16 +207,21 @@ def main():
     given = parser.parse_args()
     ptext = os.path.abspath(given.ptext)
     other = [os.path.abspath(given.against)] if given.against else []
-    names = given.names or list(INPUTS)
+    names = given.names or [*INPUTS, *PAIRS]
     with tempfile.TemporaryDirectory() as folder:
         print(f"{'input':10} {'words':32} {'ptext s':>8} {'other s':>8} {'ratio':>6}")
         ratios = []
         for name in names:
-            path = os.path.join(folder, name)
-            piece, commands = INPUTS[name]
-            write_input(path, piece().encode("latin-1"))
+            path, second = os.path.join(folder, name), os.path.join(folder, OTHER)
+            if name in PAIRS:
+                piece, other_piece, commands = PAIRS[name]
+                write_whole(path, piece())
+                write_whole(second, other_piece())
+            else:
+                piece, commands = INPUTS[name]
+                write_input(path, piece().encode("latin-1"))
             for words in commands:
-                ours, theirs = compare(folder, path, ptext, other, words)
+                ours, theirs = compare(folder, path, second, ptext, other, words)
                 ratios.append(ours / theirs)
                 print(f"{name:10} {' '.join(words):32} {ours:8.3f} {theirs:8.3f} {ours / theirs:6.2f}")
         print(f"geometric mean of the ratios: {statistics.geometric_mean(ratios):.2f}")

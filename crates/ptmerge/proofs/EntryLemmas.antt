@@ -1,14 +1,14 @@
 -- What is written of lines, field by field.
-use Rattle.std.proofs.Common.{◌≡◌, ℕ, zero, suc, ◌+◌, ◌-◌, ◌<◌, ◌≤◌, ◌==◌, Bool, true, false, cond, List, [], ◌∷◌, ◌++◌, Option, None, Some, length, take, drop, get_or, map, refl, sym, ◌∙◌, ap, arith}
-use Rattle.std.specs.Prelude.{remove, unwrap_or}
+use Rattle.std.proofs.Common.{◌≡◌, ℕ, zero, suc, ◌+◌, ◌-◌, ◌<◌, ◌≤◌, ◌==◌, Bool, true, false, cond, ◌||◌, ◌&&◌, List, [], ◌∷◌, ◌++◌, Option, None, Some, length, take, drop, get_or, map, refl, sym, ◌∙◌, ap, arith}
+use Rattle.std.specs.Prelude.{filter, remove, unwrap_or}
 use Rattle.std.specs.List.{slice_split, onto_first, join_with_byte}
 use Rattle.std.proofs.lemmas.Bool.{eqb-true}
 use Rattle.std.proofs.lemmas.List.{append-nil, take_all}
 use Rattle.std.proofs.lemmas.List.Concat.{flat_map-append}
 use Rattle.ptlangs.specs.Jobs.{Join}
 use Rattle.ptlangs.specs.declared.outlist.OutField.{OutField}
-use Rattle.ptmerge.specs.Join.{between, entry, filled, named, others, written}
-use Rattle.ptmerge.specs.JoinFields.{led}
+use Rattle.ptmerge.specs.Join.{between, entry, filled, has_bytes, is_blank, named, others, written}
+use Rattle.ptmerge.specs.JoinFields.{is_tidy, led}
 use Rattle.ptmerge.specs.Keyed.{Lines}
 
 -- with a separator in front, a line is its fields with a separator in front of each
@@ -73,3 +73,37 @@ module _ (f : OutField → List ℕ) (items : List OutField) (d : OutField) (som
 
   pub listed_first : (byte : ℕ) → join_with_byte byte (map f items) ≡ bytes ++ led byte (map f (take (length items - 1) (drop 1 items)))
   listed_first byte = ap (join_with_byte byte) listed ∙ join_led byte bytes (map f (take (length items - 1) (drop 1 items)))
+
+-- ---- words with one space between each two are written as they stand
+
+-- these pieces of some bytes are a word that goes on, and then others
+record GoesOnBy (pieces : Lines) (bytes : List ℕ) : Type 0 where
+  word : List ℕ
+  more : Lines
+  split : pieces ≡ word ∷ more
+  is : word ++ led 32 (filter has_bytes more) ≡ bytes
+
+abbrev Says : Bool → List ℕ → Type 0
+Says true bytes = led 32 (filter has_bytes (slice_split is_blank bytes)) ≡ 32 ∷ bytes
+Says false bytes = GoesOnBy (slice_split is_blank bytes) bytes
+
+tidy_says : (blank : Bool) (bytes : List ℕ) → is_tidy blank bytes ≡ true → Says blank bytes
+tidy_says true [] tidy = cc
+tidy_says true (b ∷ bytes) tidy = by (b == 9) (b == 32) tidy (tidy_says false bytes)
+  where
+    by : (tab space : Bool) → cond (tab || (true && space)) false (is_tidy space bytes) ≡ true → (is_tidy false bytes ≡ true → GoesOnBy (slice_split is_blank bytes) bytes)
+        → led 32 (filter has_bytes (cond (space || tab) ([] ∷ slice_split is_blank bytes) (onto_first b (slice_split is_blank bytes)))) ≡ 32 ∷ b ∷ bytes
+    by true space h more = cc
+    by false true h more = cc
+    by false false h more = let m = more h in (λ i. led 32 (filter has_bytes (onto_first b (m.split i)))) ∙ ap (λ (l : List ℕ). 32 ∷ b ∷ l) m.is
+tidy_says false [] tidy = record { word = []; more = []; split = refl; is = refl }
+tidy_says false (b ∷ bytes) tidy = by (b == 9) (b == 32) refl tidy (tidy_says false bytes) (tidy_says true bytes)
+  where
+    by : (tab space : Bool) → (b == 32) ≡ space → cond (tab || (false && space)) false (is_tidy space bytes) ≡ true → (is_tidy false bytes ≡ true → GoesOnBy (slice_split is_blank bytes) bytes)
+        → (is_tidy true bytes ≡ true → led 32 (filter has_bytes (slice_split is_blank bytes)) ≡ 32 ∷ bytes) → GoesOnBy (cond (space || tab) ([] ∷ slice_split is_blank bytes) (onto_first b (slice_split is_blank bytes))) (b ∷ bytes)
+    by true space e h more words = cc
+    by false true e h more words = record { word = []; more = slice_split is_blank bytes; split = refl; is = words h ∙ ap (λ (x : ℕ). x ∷ bytes) (sym (eqb-true b 32 e)) }
+    by false false e h more words = let m = more h in record { word = b ∷ m.word; more = m.more; split = ap (onto_first b) m.split; is = ap (λ (l : List ℕ). b ∷ l) m.is }
+
+pub tidy_words : (bytes : List ℕ) → is_tidy true bytes ≡ true → led 32 (filter has_bytes (slice_split is_blank bytes)) ≡ 32 ∷ bytes
+tidy_words bytes tidy = tidy_says true bytes tidy

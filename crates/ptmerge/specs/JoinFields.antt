@@ -1,5 +1,5 @@
 -- What is left of a line whose fields are taken one after another.
-use Rattle.std.specs.Prelude.{ℕ, ◌==◌, List, [], ◌∷◌, Option, Some, None, Bool}
+use Rattle.std.specs.Prelude.{ℕ, ◌==◌, List, [], ◌∷◌, Option, Some, None, Bool, false, not, ◌||◌, ◌&&◌, if◌then◌else◌}
 use Rattle.std.specs.List.{flat_map}
 use Rattle.ptmerge.specs.Keyed.{Lines}
 use Rattle.ptmerge.specs.Join.{fields, is_blank}
@@ -17,3 +17,8 @@ fields_left separator (Some bytes) = fields separator bytes
 -- each field, with this byte in front of it
 abbrev pub led : ℕ → Lines → List ℕ
 led byte fs = flat_map (λ f. byte ∷ f) fs
+
+-- words with one space between each two, and no blanks in front or behind; whether a blank stands in front of the bytes
+abbrev pub is_tidy : Bool → List ℕ → Bool
+is_tidy blank [] = not blank
+is_tidy blank (b ∷ bytes) = if (b == 9) || (blank && (b == 32)) then false else is_tidy (b == 32) bytes

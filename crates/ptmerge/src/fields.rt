@@ -1,21 +1,61 @@
 //! The fields of a line of `join`, and writing them.
-ghost use Rattle.std.specs.Prelude.{◌≡◌, ◌++◌, ◌∷◌, [], None, Some, ◌<◌, ◌-◌, length, position, option_copied, true, false, OnOk, OnErr, MatchOption};
-ghost use Rattle.std.specs.List.{slice_split, join_with_byte};
-ghost use Rattle.std.specs.Prelude.{map};
+ghost use Rattle.std.specs.Prelude.{◌≡◌, ◌++◌, ◌∷◌, [], None, Some, ◌<◌, ◌≤◌, ◌-◌, length, position, option_copied, true, false, OnOk, OnErr, MatchOption};
+ghost use Rattle.std.specs.List.{slice_split};
+ghost use Rattle.memchr.specs.Find.{IsFirst, Passes, is_byte};
 ghost use Rattle.ptlines.specs.Outputs.{Wrote};
 ghost use Rattle.ptlangs.specs.Jobs.{join_job};
 ghost use Rattle.ptmerge.specs.Join.{is_blank, nth_field, others, between, filled, named, entry};
-ghost use Rattle.ptmerge.specs.JoinFields.{ends_field, fields_left, led};
+ghost use Rattle.ptmerge.specs.JoinFields.{ends_field, fields_left, is_tidy, led};
 
 use ptlangs::jobs::JoinJob;
 use ptlangs::outlist::{File, OutField, OutList};
 use ptlines::{Out, Sink, WriteFault, find_near};
 use std::alloc::Allocator;
+use std::simd::prelude::*;
 
 fn is_blank(byte: u8) -> bool
     ensures { result ≡ is_blank byte }
 {
     byte == b' ' || byte == b'\t'
+}
+
+// The first of the first 16 places that holds the byte.
+#[inline(always)]
+fn find_in_16(byte: u8, bytes: &[u8]) -> Option<usize>
+    requires { 16 ≤ length bytes.now }
+    ensures { IsFirst (Passes (is_byte byte) bytes.now) 0 16 result }
+{
+    let marked = u8x16::from_slice(bytes)
+        .simd_eq(u8x16::splat(byte))
+        .to_bitmask();
+    if marked == 0 {
+        return None;
+    }
+    Some(marked.trailing_zeros() as usize)
+}
+
+// The first blank, byte by byte.
+#[inline(never)]
+fn find_blank_far(bytes: &[u8]) -> Option<usize>
+    ensures { result ≡ position is_blank bytes.now }
+{
+    bytes.iter().position(|byte| is_blank(*byte))
+}
+
+// The first blank, which often is one of the first 16 bytes.
+#[inline(always)]
+fn find_blank(bytes: &[u8]) -> Option<usize>
+    ensures { result ≡ position is_blank bytes.now }
+{
+    if bytes.len() < 16 {
+        return find_blank_far(bytes);
+    }
+    match (find_in_16(b' ', bytes), find_in_16(b'\t', bytes)) {
+        (None, None) => find_blank_far(bytes),
+        (Some(space), None) => Some(space),
+        (None, Some(tab)) => Some(tab),
+        (Some(space), Some(tab)) => Some(space.min(tab)),
+    }
 }
 
 // The place where the first field of these bytes ends, if anything ends it.
@@ -25,7 +65,7 @@ fn field_end(separator: Option<u8>, bytes: &[u8]) -> Option<usize>
 {
     match separator {
         Some(byte) => find_near(byte, bytes),
-        None => bytes.iter().position(|byte| is_blank(*byte)),
+        None => find_blank(bytes),
     }
 }
 
@@ -117,6 +157,20 @@ fn push_led<W: Sink>(byte: u8, field: &[u8], out: &mut Out<W>) -> Result<(), Wri
     out.push(field)
 }
 
+// Whether these bytes are words with one space between each two.
+fn is_tidy(bytes: &[u8]) -> bool
+    ensures { result ≡ is_tidy true bytes.now }
+{
+    let mut blank = true;
+    for byte in bytes {
+        if *byte == b'\t' || (blank && *byte == b' ') {
+            return false;
+        }
+        blank = *byte == b' ';
+    }
+    !blank
+}
+
 // Pushes all fields of what is left of a line, each with a space in front of it.
 fn push_words<W: Sink>(bytes: &[u8], out: &mut Out<W>) -> Result<(), WriteFault>
     requires { out.old.faulted ≡ false }
@@ -124,6 +178,9 @@ fn push_words<W: Sink>(bytes: &[u8], out: &mut Out<W>) -> Result<(), WriteFault>
     ensures clean { OnOk result (out.new.faulted ≡ false) }
     ensures fault { OnErr result (out.new.faulted ≡ true) }
 {
+    if is_tidy(bytes) {
+        return push_led(b' ', bytes, out);
+    }
     let mut left = Some(bytes);
     'words: while let Some((word, behind)) = next_field(None, left) {
         push_led(b' ', word, out)?;

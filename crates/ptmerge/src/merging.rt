@@ -202,8 +202,9 @@ impl<K: KeyOrder> Merge<K> {
     ) -> bool
         requires placed { IsPlaced self.now.first self.now.second store.now }
         ensures { let place = both self.now.first self.now.second side in
-            result ≡ (is_head place.stand && bytes_eq
-            (K.key_of self.now.order side (line_of store.now place.standing)) (K.key_of self.now.order Of.Second line.now)) }
+            let key = K.key_of self.now.order in
+            result ≡ (is_head place.stand
+            && bytes_eq (key side (line_of store.now place.standing)) (key Of.Second line.now)) }
     {
         match side {
             Side::First => {

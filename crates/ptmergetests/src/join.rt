@@ -160,6 +160,15 @@ fn lines_without_the_join_field(rt: HostRuntime) -> Result<(), Fail> {
 }
 
 #[test]
+fn runs_of_blanks(rt: HostRuntime) -> Result<(), Fail> {
+    let job = JoinJob::new(rt.alloc());
+    let first = b"a  1\t2\nlongerkeythan16bytes\tv  w\n";
+    let second = b" a\tx\nlongerkeythan16bytes y z\n";
+    let pairs = b"a 1 2 x\nlongerkeythan16bytes v w y z\n";
+    expect(&rt, rt.alloc(), &job, first, second, Ok(()), pairs)
+}
+
+#[test]
 fn inputs_out_of_order(rt: HostRuntime) -> Result<(), Fail> {
     let job = JoinJob::new(rt.alloc());
     let first = Err(MergeFault::Disorder(Side::First, 2));

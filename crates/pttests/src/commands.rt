@@ -5,7 +5,6 @@ ghost use Rattle.ptrun.specs.Asked.{count_of};
 ghost use Rattle.ptrun.specs.Worlds.{IsFresh};
 
 use crate::comparing::same;
-use crate::texts::numbers;
 use ptfakes::{Kept, Pieces, Refusing, Watched};
 use ptlines::LineReader;
 use ptopts::{Command, UseFault};
@@ -368,16 +367,4 @@ pub fn growths(rt: &impl Abort, own: Global, case: &Case<'_>) -> Result<u64, Fai
     let report = run_over(rt, &counted, own, case)?;
     same(rt, &report.status, &0);
     Ok(u64::MAX - counted.left())
-}
-
-/// How often a command over two files with the same lines, so many numbers that ascend, asks for memory.
-pub fn growths_over(
-    rt: &impl Abort,
-    alloc: Global,
-    words: &[&str],
-    lines: usize,
-) -> Result<u64, Fail> {
-    let text = numbers(alloc, lines)?;
-    let files = [Input::Whole(&text), Input::Whole(&text)];
-    growths(rt, alloc, &over_files(&*words, &files))
 }

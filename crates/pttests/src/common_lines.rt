@@ -1,10 +1,10 @@
 //! `comm`.
 
+use crate::columns::expect_steady_memory;
 use crate::commands::{
     Expected, FREE, Input, Limits, SIZES, expect, expect_growths_refused, expect_only_said,
-    growths_over, over_files, writes,
+    over_files, writes,
 };
-use crate::comparing::same;
 use std::test::Fail;
 
 /// Words, the two files, and what is written.
@@ -348,8 +348,5 @@ fn refused_files_are_named(rt: HostRuntime) -> Result<(), Fail> {
 
 #[test]
 fn memory_does_not_grow_with_the_lines(rt: HostRuntime) -> Result<(), Fail> {
-    let few = growths_over(&rt, rt.alloc(), COMMON, 10)?;
-    let many = growths_over(&rt, rt.alloc(), COMMON, 100_000)?;
-    same(&rt, &many, &few);
-    Ok(())
+    expect_steady_memory(&rt, rt.alloc(), &["comm", "f", "g"], 2)
 }

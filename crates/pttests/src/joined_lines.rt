@@ -1,10 +1,10 @@
 //! `join` in whole runs.
 
+use crate::columns::expect_steady_memory;
 use crate::commands::{
     Expected, Input, Limits, SIZES, expect, expect_growths_refused, expect_only_said,
-    expect_untouched, growths_over, over_files, writes,
+    expect_untouched, over_files, writes,
 };
-use crate::comparing::same;
 use std::test::Fail;
 
 /// Words, the two files, what is written, and what is said.
@@ -312,8 +312,5 @@ fn refused_files_are_named(rt: HostRuntime) -> Result<(), Fail> {
 
 #[test]
 fn memory_does_not_grow_with_the_lines(rt: HostRuntime) -> Result<(), Fail> {
-    let few = growths_over(&rt, rt.alloc(), JOIN, 10)?;
-    let many = growths_over(&rt, rt.alloc(), JOIN, 100_000)?;
-    same(&rt, &many, &few);
-    Ok(())
+    expect_steady_memory(&rt, rt.alloc(), JOIN, 2)
 }

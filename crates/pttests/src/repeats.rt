@@ -1,5 +1,6 @@
 //! `uniq`.
 
+use crate::columns::expect_steady_memory;
 use crate::commands::{
     Expected, Input, Limits, Row, SIZES, assert_left, expect, expect_growths_refused, expect_rows,
     over_files, over_standard, run_over, writes,
@@ -192,4 +193,9 @@ fn runs_across_blocks(rt: HostRuntime) -> Result<(), Fail> {
         expect(&rt, rt.alloc(), &case, &writes(counted.as_str()))?;
     }
     Ok(())
+}
+
+#[test]
+fn memory_does_not_grow_with_the_lines(rt: HostRuntime) -> Result<(), Fail> {
+    expect_steady_memory(&rt, rt.alloc(), &["uniq", "-c", "f"], 1)
 }

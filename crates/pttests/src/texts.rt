@@ -63,26 +63,3 @@ pub fn is_line(line: &[u8], length: usize) -> bool {
             .enumerate()
             .all(|(place, byte)| *byte == byte_at(place))
 }
-
-// Adds one to a number in decimal digits.
-fn add_one(digits: &mut [u8]) {
-    for digit in digits.iter_mut().rev() {
-        if *digit < b'9' {
-            *digit += 1;
-            return;
-        }
-        *digit = b'0';
-    }
-}
-
-/// So many numbers of six digits in turn, each in a line.
-pub fn numbers(alloc: Global, count: usize) -> Result<Vec<u8>, AllocError> {
-    let mut digits = [b'0'; 6];
-    let mut text = Vec::new(alloc);
-    for _ in 0..count {
-        text.extend_from_slice(&digits)?;
-        text.push(b'\n')?;
-        add_one(&mut digits);
-    }
-    Ok(text)
-}
