@@ -3,7 +3,7 @@
 use crate::comparing::same;
 use ptfakes::{Kept, Pieces};
 use ptflow::{FlowFault, tr, translate};
-use ptlangs::{CharPlan, Form, SetFault};
+use ptlangs::{CharPlan, Form, SetFault, Shifts};
 use ptlines::{LineReader, Out};
 use std::alloc::{AllocError, Global};
 use std::process::Abort;
@@ -104,30 +104,36 @@ fn a_write_fails(rt: HostRuntime) -> Result<(), Fail> {
     Ok(())
 }
 
-// Whether each byte is what the plan makes of the other at its place.
-fn are_images(plan: &CharPlan, from: &[u8], to: &[u8]) -> bool {
-    from.len() == to.len()
-        && from
-            .iter()
-            .zip(to)
-            .all(|(from, to)| plan.image(*from) == *to)
+// So many bytes, each value in turn.
+fn each_value(alloc: Global, count: u16) -> Result<Vec<u8>, AllocError> {
+    let mut bytes = Vec::new(alloc);
+    for place in 0..count {
+        bytes.push((place % 256) as u8)?;
+    }
+    Ok(bytes)
+}
+
+// Expects that stretches move bytes as the plan does, each by itself.
+fn expect_images(rt: &impl Abort, plan: &CharPlan, shifts: &Shifts, from: &[u8], to: &mut [u8]) {
+    assert!(rt; from.len() == to.len());
+    translate(shifts, from, to);
+    let moved = from
+        .iter()
+        .zip(&*to)
+        .all(|(from, to)| plan.image(*from) == *to);
+    assert!(rt; moved, "{}", from.len());
 }
 
 #[test]
 fn stretches_at_each_length(rt: HostRuntime) -> Result<(), Fail> {
     let upper = CharPlan::read(Form::Translate, false, b"a-z\\377", Some(b"A-Z\\1"))?;
     let turned = CharPlan::read(Form::Translate, false, b"A-Za-z", Some(b"N-ZA-Mn-za-m"))?;
-    let mut from = Vec::new(rt.alloc());
-    for place in 0..8193u16 {
-        from.push((place % 256) as u8)?;
-    }
     for plan in [&upper, &turned] {
         let shifts = plan.shifts().ok_or("more than four stretches")?;
         for count in [0, 1, 31, 32, 33, 8191, 8192, 8193] {
-            let mut to = [0; 8193];
-            translate(&shifts, &from[..count], &mut to[..count]);
-            assert!(rt; are_images(plan, &from[..count], &to[..count]), "{count}");
-            assert!(rt; to[count..].iter().all(|byte| *byte == 0));
+            let from = each_value(rt.alloc(), count)?;
+            let mut to = each_value(rt.alloc(), count)?;
+            expect_images(&rt, plan, &shifts, &from, &mut to);
         }
     }
     Ok(())
