@@ -1,10 +1,9 @@
 -- What lanes do, byte by byte.
-use Rattle.std.proofs.Common.{◌≡◌, ℕ, ◌+◌, ◌≤◌, ◌%◌, ◌&&◌, Bool, true, false, List, [], ◌∷◌, Option, Some, None, map, length, replicate, cond, refl, sym, ◌∙◌, ap, arith, w8}
+use Rattle.std.proofs.Common.{◌≡◌, ℕ, ◌+◌, ◌≤◌, ◌%◌, ◌&&◌, Bool, true, false, List, [], ◌∷◌, Option, map, length, replicate, cond, refl, sym, ◌∙◌, ap, arith, w8}
 use Rattle.std.specs.Prelude.{nat_le, sum_by, slice_get, option_map, unwrap_or, is_some}
 use Rattle.std.proofs.lemmas.Bool.{false≢true}
 use Rattle.std.specs.Simd.Lanes.{sel_l, zip2, top}
 use Rattle.std.proofs.lemmas.Simd.{tops_compared, zip2_splat, zip2_splat_left}
-use Rattle.std.proofs.lemmas.List.Sums.{sum_by-cons}
 use Rattle.ptlangs.specs.declared.shifts.Stretch.{Stretch}
 use Rattle.ptlangs.specs.TrShifts.{added, shifted}
 use Rattle.ptflow.specs.declared.lanes.Four.{Four}

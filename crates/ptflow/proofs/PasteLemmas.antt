@@ -1,5 +1,5 @@
 -- `paste`, row by row: the rows that were passed, and the grid of the lines to come, are the whole grid, whatever comes.
-use Rattle.std.proofs.Common.{◌≡◌, ◌≢◌, ◌⊎◌, ⊎_elim, inl, inr, ℕ, zero, suc, ◌+◌, ◌*◌, ◌<◌, ◌≤◌, ◌==◌, ◌^◌, Bool, true, false, cond, List, [], ◌∷◌, ◌++◌, None, Ok, Err, Result, length, take, get_or, map, max, refl, sym, ◌∙◌, ap, subst, arith, append_assoc, length-append}
+use Rattle.std.proofs.Common.{◌≡◌, ◌≢◌, ◌⊎◌, ⊎_elim, inl, inr, ℕ, suc, ◌+◌, ◌*◌, ◌<◌, ◌≤◌, ◌==◌, ◌^◌, Bool, true, false, cond, List, [], ◌∷◌, ◌++◌, None, Ok, Err, length, take, get_or, map, max, refl, sym, ◌∙◌, ap, subst, arith, append_assoc, length-append}
 use Rattle.std.specs.Prelude.{All, sum_by, slice_index_or}
 use Rattle.std.proofs.Math.Nat.{mul-le-mul_left, mul_comm}
 use Rattle.std.proofs.lemmas.Bool.{cases_eq, cases_lt, false≢true, eq-eqb, eqb-true}
@@ -10,18 +10,17 @@ use Rattle.std.proofs.lemmas.List.Sums.{sum_by-cons}
 use Rattle.ptlines.specs.Text.{text, lines, ended_lines, IsLine, AreLines, longest, longest_line}
 use Rattle.ptlines.specs.Inputs.{Given, Begins, Agrees, Came, whole_lines}
 use Rattle.ptlines.specs.Outputs.{Output, Wrote}
-use Rattle.ptlines.specs.Readers.{Reader, Reads, IsDone, IsSound, HasReadCause}
+use Rattle.ptlines.specs.Readers.{Reader, Reads, IsDone, HasReadCause}
 use Rattle.ptlines.specs.Slots.{Slots, line, total, with_line, with_denied}
-use Rattle.ptlines.specs.Fills.{BreaksRead, BreaksMemory}
-use Rattle.ptlines.proofs.Coming.{came_of, came_of_set, cause_set}
+use Rattle.ptlines.proofs.Coming.{came_of, came_of_set}
 use Rattle.ptlines.proofs.Filling.{reads_trans}
 use Rattle.ptlines.proofs.Pushed.{wrote_nothing, wrote_trans}
 use Rattle.ptlines.proofs.TextLaws.{text-append, ended_first}
 use Rattle.ptlangs.specs.Jobs.{Paste}
 use Rattle.ptflow.specs.Passes.{Adds}
-use Rattle.ptflow.specs.PastePasses.{reader_at, IsReadable, AreReady, ReadAll, RowsEnd, IsPastePass}
+use Rattle.ptflow.specs.PastePasses.{reader_at, IsReadable, AreReady, ReadAll, IsPastePass}
 use Rattle.ptflow.specs.Pastes.{glued_from, times, columns, rows, sheet, paste, paste_decided, paste_size}
-use Rattle.ptflow.specs.Workings.RowTurns.{IsSet, AreSet, KeepsCells, RowTaken, RowFilled, RowBroken, FillsRow}
+use Rattle.ptflow.specs.Workings.RowTurns.{AreSet, KeepsCells, RowTaken, FillsRow}
 use Rattle.ptflow.specs.Workings.TakenLines.{LinesCame, Took}
 use Rattle.ptflow.specs.declared.faults.FlowFault.{FlowFault}
 use Rattle.ptflow.specs.declared.faults.FlowFault.TheVariants.{Read, Write, Memory}

@@ -1,5 +1,5 @@
 -- The readers and slots of the cells of a row, one cell after another.
-use Rattle.std.proofs.Common.{◌≡◌, ◌≢◌, ⊎_elim, inl, inr, ℕ, zero, suc, ◌+◌, ◌-◌, ◌<◌, ◌≤◌, ◌==◌, ◌||◌, Bool, true, false, cond, List, [], ◌∷◌, ◌++◌, None, Ok, length, take, get_or, set, max, refl, sym, ◌∙◌, ap, subst, arith, length-append}
+use Rattle.std.proofs.Common.{◌≡◌, ◌≢◌, ⊎_elim, ℕ, zero, suc, ◌+◌, ◌<◌, ◌≤◌, ◌==◌, ◌||◌, Bool, true, false, cond, List, [], ◌∷◌, ◌++◌, None, Ok, length, take, get_or, set, refl, sym, ◌∙◌, ap, subst, arith, length-append}
 use Rattle.std.specs.Prelude.{sum_by, slice_index_or}
 use Rattle.std.proofs.lemmas.Bool.{cases_eq, cases_lt, false≢true, eq-eqb}
 use Rattle.std.proofs.lemmas.Bool.Decides.{nat_tests}
@@ -12,7 +12,7 @@ use Rattle.ptlines.specs.Slots.{Slots, line, with_line}
 use Rattle.ptlines.specs.Fills.{GivesLine, Fills}
 use Rattle.ptflow.specs.PastePasses.{no_reader, reader_at}
 use Rattle.ptflow.specs.Pastes.{times}
-use Rattle.ptflow.specs.Workings.RowTurns.{IsSet, AreSet, KeepsCells, RowTaken, RowFilled, RowBroken}
+use Rattle.ptflow.specs.Workings.RowTurns.{IsSet, AreSet, RowTaken, RowFilled, RowBroken}
 use Rattle.ptflow.specs.Workings.TakenLines.{Took}
 use Rattle.ptflow.proofs.CellSlots.{cells_line}
 use Rattle.ptflow.proofs.Grids.{times_here, times_other, times_front}

@@ -1,19 +1,19 @@
 -- What `paste` in series writes of the rest of a text, byte by byte and block by block.
-use Rattle.std.proofs.Common.{◌≡◌, ◌≢◌, ℕ, ◌+◌, ◌==◌, ◌<◌, ◌≤◌, Bool, true, false, cond, List, [], ◌∷◌, ◌++◌, Option, None, Some, length, take, drop, refl, sym, ◌∙◌, ap, arith, append_assoc}
+use Rattle.std.proofs.Common.{◌≡◌, ◌≢◌, ℕ, ◌+◌, ◌==◌, ◌<◌, ◌≤◌, Bool, true, false, cond, List, [], ◌∷◌, ◌++◌, Option, Some, length, take, drop, refl, sym, ◌∙◌, ap, arith, append_assoc}
 use Rattle.std.specs.List.{onto_first}
 use Rattle.std.proofs.lemmas.List.{append-nil, append_cancel_right}
 use Rattle.memchr.specs.Find.{IsFirstByte, is_byte}
-use Rattle.ptlines.specs.Text.{text, lines, ended_lines, IsLine}
+use Rattle.ptlines.specs.Text.{lines, ended_lines, IsLine}
 use Rattle.ptlines.specs.Inputs.{Begins}
 use Rattle.ptlines.specs.Outputs.{Output, Wrote}
 use Rattle.ptlines.proofs.Scanned.{before_end}
 use Rattle.ptlines.proofs.TextLaws.{lines_first, lines_of_text, other_byte}
 use Rattle.ptlangs.specs.Jobs.{Paste}
-use Rattle.ptflow.specs.Pastes.{delimiter, glued_from, paste_serial, serial_decided}
+use Rattle.ptflow.specs.Pastes.{delimiter, glued_from, serial_decided}
 use Rattle.ptflow.specs.Workings.SerialRests.{row_rest, row_from, serial_rest, begun, lead}
 use Rattle.ptflow.specs.declared.serial.Cell.{Cell}
 use Rattle.ptflow.proofs.Continuations.{Amid, amid_more}
-use Rattle.ptflow.proofs.LineLaws.{Parts, parts_of, split_of}
+use Rattle.ptflow.proofs.LineLaws.{parts_of, split_of}
 
 pub begun_number : (cell : Cell) → (begun cell).number ≤ cell.number + 1
 begun_number cell = by_ended cell.ended

@@ -1,5 +1,5 @@
 -- A row of a sheet, cell by cell.
-use Rattle.std.proofs.Common.{◌≡◌, ℕ, true, false, List, [], ◌∷◌, ◌++◌, Option, refl, sym, ◌∙◌, ap, subst}
+use Rattle.std.proofs.Common.{◌≡◌, ℕ, true, false, List, [], ◌∷◌, ◌++◌, Option, sym, ◌∙◌, ap, subst}
 use Rattle.std.proofs.lemmas.List.{append-nil}
 use Rattle.ptlines.specs.Outputs.{Output, Wrote}
 use Rattle.ptlines.proofs.Pushed.{wrote_trans, wrote_past}

@@ -1,8 +1,8 @@
 -- The lines that were taken of a reader, at most so many.
-use Rattle.std.proofs.Common.{◌≡◌, ◌⊎◌, ⊎_elim, inl, inr, ℕ, ◌+◌, ◌<◌, ◌≤◌, ◌^◌, true, false, List, [], ◌∷◌, ◌++◌, None, length, max, refl, sym, ◌∙◌, ap, subst, arith, append_assoc, length-append}
+use Rattle.std.proofs.Common.{◌≡◌, ◌⊎◌, ⊎_elim, inl, inr, ℕ, ◌+◌, List, [], ◌∷◌, ◌++◌, None, length, refl, sym, ◌∙◌, ap, arith, length-append}
 use Rattle.std.proofs.lemmas.List.{append-nil}
-use Rattle.ptlines.specs.Text.{text, lines, IsLine, AreLines, longest}
-use Rattle.ptlines.specs.Readers.{Reader, Reads, Goes, IsDone, unread, budget}
+use Rattle.ptlines.specs.Text.{text, lines, AreLines}
+use Rattle.ptlines.specs.Readers.{Reader, Reads, Goes, IsDone, unread}
 use Rattle.ptlines.specs.Slots.{Slots}
 use Rattle.ptlines.specs.Fills.{GivesLine}
 use Rattle.ptlines.proofs.Filling.{reads_trans}

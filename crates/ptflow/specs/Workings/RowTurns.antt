@@ -1,5 +1,5 @@
 -- A row of `paste`, cell by cell.
-use Rattle.std.specs.Prelude.{◌≡◌, ◌≢◌, ℕ, ◌<◌, ◌≤◌, Bool, true, false, List, [], Result, Ok, Err, None, length, take, drop, max, sum_by, slice_index_or}
+use Rattle.std.specs.Prelude.{◌≡◌, ◌≢◌, ℕ, ◌<◌, ◌≤◌, Bool, true, false, List, [], Result, Ok, Err, length, take, drop, max, sum_by, slice_index_or}
 use Rattle.ptlines.specs.Text.{longest}
 use Rattle.ptlines.specs.Readers.{Reader, IsSound, budget}
 use Rattle.ptlines.specs.Slots.{Slots, line, total}

@@ -1,5 +1,5 @@
 -- The lines that were taken of a reader.
-use Rattle.std.specs.Prelude.{◌≡◌, ◌⊎◌, ℕ, ◌<◌, ◌≤◌, ◌^◌, List, [], length}
+use Rattle.std.specs.Prelude.{◌≡◌, ◌⊎◌, ℕ, ◌<◌, ◌≤◌, ◌^◌, List, length}
 use Rattle.ptlines.specs.Text.{text, lines, AreLines}
 use Rattle.ptlines.specs.Readers.{Reader, Reads, IsDone}
 

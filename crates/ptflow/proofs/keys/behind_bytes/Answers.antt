@@ -1,4 +1,4 @@
-use Rattle.std.proofs.Common.{◌-◌, ◌≡◌, ℕ, take, drop, length, sym, ◌∙◌, ap, arith}
+use Rattle.std.proofs.Common.{length, sym, ◌∙◌, arith}
 use Rattle.std.proofs.lemmas.List.{take_rest, drop_all}
 use Rattle.ptflow.proofs.UniqKeys.{after_found, after_not_found}
 use Rattle.ptflow.proofs.keys.behind_bytes.Goals as goal

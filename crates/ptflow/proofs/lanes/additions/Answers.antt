@@ -1,4 +1,4 @@
-use Rattle.std.proofs.Common.{ℕ, cond, nat_le, ◌∙◌}
+use Rattle.std.proofs.Common.{cond, nat_le, ◌∙◌}
 use Rattle.std.proofs.lemmas.Simd.{splat_is_map}
 use Rattle.ptflow.specs.Workings.Lanes.{added_by}
 use Rattle.ptflow.proofs.LaneLemmas.{sel_maps, mask_right, mask_left, map_same, both_tests}

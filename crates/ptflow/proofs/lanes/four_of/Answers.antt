@@ -1,4 +1,4 @@
-use Rattle.std.proofs.Common.{◌≡◌, ◌∙◌, ap, ℕ, Option}
+use Rattle.std.proofs.Common.{◌∙◌, ap, ℕ, Option}
 use Rattle.std.specs.Prelude.{unwrap_or, is_some}
 use Rattle.ptflow.proofs.LaneLemmas.{four_move, no_more_than_two}
 use Rattle.ptflow.proofs.lanes.four_of.Goals as goal

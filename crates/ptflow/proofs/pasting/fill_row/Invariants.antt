@@ -1,8 +1,3 @@
-use Rattle.std.proofs.Common.{◌≡◌, ◌<◌, ◌≤◌, ℕ, true, false, List, [], length, take}
-use Rattle.std.specs.Prelude.{sum_by, slice_index_or}
-use Rattle.ptlines.specs.Readers.{budget}
-use Rattle.ptflow.specs.Pastes.{times}
-use Rattle.ptflow.specs.Workings.RowTurns.{RowTaken}
 use Rattle.ptflow.proofs.RowTurns.{Filling}
 use Rattle.ptflow.proofs.pasting.fill_row.Given as goal
 

@@ -1,6 +1,6 @@
-use Rattle.std.proofs.Common.{◌≡◌, ℕ, true, false, List, [], ◌∷◌, ◌++◌, length, take, sym, ◌∙◌, ap, subst, arith}
+use Rattle.std.proofs.Common.{◌≡◌, ℕ, [], ◌∷◌, ◌++◌, length, take, sym, ◌∙◌, ap, subst, arith}
 use Rattle.std.proofs.lemmas.Result.{err_from_is_err_and}
-use Rattle.ptlines.specs.Outputs.{Output, Wrote}
+use Rattle.ptlines.specs.Outputs.{Wrote}
 use Rattle.ptlangs.specs.Jobs.{paste_job, ending}
 use Rattle.ptflow.specs.Pastes.{glued_from}
 use Rattle.ptflow.proofs.PasteLemmas.{paste_halted, paste_unslotted, pasting_starts, pasting_room, pasting_more, paste_broke, paste_done, paste_write, end_of, fault_of}

@@ -1,6 +1,5 @@
-use Rattle.std.proofs.Common.{◌≡◌, ◌<◌, ℕ, Bool, true, false, cond, length, get_or, refl, ◌∙◌, ap, arith}
+use Rattle.std.proofs.Common.{◌≡◌, ◌<◌, ℕ, Bool, true, false, cond, length, get_or, refl, ◌∙◌, arith}
 use Rattle.std.proofs.lemmas.List.Elements.{All-get_or}
-use Rattle.ptlines.specs.Readers.{Reader}
 use Rattle.ptlangs.specs.Jobs.{ending}
 use Rattle.ptflow.proofs.RowTurns.{at_index, set_more}
 use Rattle.ptflow.proofs.pasting.set_endings.Goals as goal

@@ -1,4 +1,4 @@
-use Rattle.std.proofs.Common.{◌≡◌, ℕ, false, ◌++◌, refl, sym, ◌∙◌, ap}
+use Rattle.std.proofs.Common.{ℕ, false, ◌++◌, refl, sym, ◌∙◌, ap}
 use Rattle.ptlangs.specs.Jobs.{paste_job}
 use Rattle.ptflow.specs.Pastes.{serial_tool}
 use Rattle.ptflow.specs.Workings.SerialRests.{serial_rest}

@@ -1,6 +1,6 @@
-use Rattle.std.proofs.Common.{◌≡◌, ◌≢◌, ℕ, ◌+◌, ◌<◌, true, List, [], ◌++◌, length, take, drop, refl, sym, ◌∙◌, ap, arith, length-drop}
+use Rattle.std.proofs.Common.{◌≡◌, ◌+◌, ◌<◌, true, [], length, take, drop, refl, ap, arith, length-drop}
 use Rattle.std.proofs.lemmas.Bool.Decides.{nat_tests}
-use Rattle.std.proofs.lemmas.List.{take_rest, append-nil, nil_from_length}
+use Rattle.std.proofs.lemmas.List.{take_rest}
 use Rattle.ptlines.proofs.Scanned.{no_end}
 use Rattle.ptflow.specs.Workings.SerialRests.{serial_rest, begun, lead}
 use Rattle.ptflow.specs.declared.serial.Cell.{Cell}

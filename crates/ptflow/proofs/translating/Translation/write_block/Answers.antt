@@ -1,4 +1,4 @@
-use Rattle.std.proofs.Common.{ℕ, List, Option, Some, ◌∙◌, subst}
+use Rattle.std.proofs.Common.{List, Option, ◌∙◌, subst}
 use Rattle.std.specs.Prelude.{IfSome}
 use Rattle.std.proofs.Math.Facts.{Fits-lt-pow}
 use Rattle.ptlangs.specs.declared.shifts.Stretch.{Stretch}
