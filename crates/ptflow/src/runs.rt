@@ -142,7 +142,8 @@ fn let_wait<W: Sink>(
     requires waiting { IsSpan block.now waiting }
     requires line { IsSpan block.now line }
     requires clean { out.old.faulted ≡ false }
-    ensures waits { IfOk result (λ now. Waits (span_of block.now waiting ++ run_text show count (span_of block.now line))
+    ensures waits { IfOk result
+        (λ now. Waits (span_of block.now waiting ++ run_text show count (span_of block.now line))
         block.now now out.old out.new) }
     ensures wrote { OnErr result
         (Wrote out.old out.new (span_of block.now waiting ++ run_text show count (span_of block.now line))) }

@@ -102,7 +102,8 @@ impl Shifts {
 
 /// What is added to bytes that have these images, where that is at most four stretches.
 pub(crate) fn shifts_of(images: &[u8; 256]) -> Option<Shifts>
-    ensures found { MatchOption result (4 < length (stretches_from 0 images.now)) (λ s. s ≡ stretches_from 0 images.now) }
+    ensures found { MatchOption result (4 < length (stretches_from 0 images.now))
+        (λ s. s ≡ stretches_from 0 images.now) }
     ensures moves { IfSome result (λ s. (b : ℕ) → b < 256 → shifted s b ≡ slice_index images.now b) }
 {
     let mut shifts = Shifts::none();
