@@ -287,6 +287,38 @@ for options in '-a 1' '-v 2' '-a 1 -a 2 -e - -o 0,1.2,2.2,2.3' '-t , -v 1' '-v 1
     same "join $options as the system's" 0
 done
 
+# A folder opens, and its first read fails.
+want '' 'uniq: folder: read failed\n'
+run empty uniq folder
+same "a folder as the input of uniq" 1
+want '' 'paste: folder: read failed\n'
+run empty paste f folder
+same "a folder as a column" 1
+want 'ab\n' 'paste: folder: read failed\n'
+run empty paste -s f folder h
+same "a folder in series" 1
+want '' 'comm: folder: read failed\n'
+run empty comm first folder
+same "a folder as a file of comm" 1
+want '' 'join: folder: read failed\n'
+run empty join first folder
+same "a folder as a file of join" 1
+
+# A group that does not fit: what was decided is written.
+printf '0 1\na 1\n' >pairs
+{
+    printf '0 x\n'
+    seq -f 'a %099.0f' 300000
+} >group
+(
+    ulimit -v 16384
+    "$program" join pairs group >out 2>messages
+    echo $? >ended
+)
+status=$(cat ended)
+want '0 1 x\n' 'join: out of memory\n'
+same "a group of join that does not fit" 1
+
 # One line of 64 MB in each file.
 want '' ''
 run empty comm -3 long long
@@ -301,6 +333,27 @@ same "comm over one line of 64 MB" 0
 status=$(cat ended)
 want '' ''
 same "uniq over one line of 64 MB" 0
+
+# The same line as a column, and in series, where nothing is kept.
+{
+    cat long
+    echo
+} >want.out
+: >want.messages
+(
+    ulimit -v 196608
+    "$program" paste long >out 2>messages
+    echo $? >ended
+)
+status=$(cat ended)
+same "a column of one line of 64 MB" 0
+(
+    ulimit -v 65536
+    "$program" paste -s - <long >out 2>messages
+    echo $? >ended
+)
+status=$(cat ended)
+same "one line of 64 MB in series" 0
 
 echo "$((count - bad)) of $count runs of the program as wanted"
 [ "$bad" = 0 ]

@@ -3,12 +3,12 @@ use crate::order::Side;
 /// Why a tool over two inputs stopped. Nothing that was pushed before has to be taken back.
 #[derive(Clone, Copy, Debug, PartialEq, Eq)]
 pub enum MergeFault {
-    /// A read of this input failed, or 2^63 bytes or more came of it.
+    /// 1: a read of this input failed, or 2^63 bytes or more came of it.
     Read(Side),
-    /// A write failed.
+    /// 2: a write failed.
     Write,
-    /// A growth of the store was refused; the store is denied.
+    /// 3: a growth of the store was refused; the store is denied.
     Memory,
-    /// This input is out of order at the line of this number, counted from 1. All that was decided is pushed.
+    /// 4: this input is out of order at the line of this number, counted from 1. All that was decided is pushed.
     Disorder(Side, u64),
 }

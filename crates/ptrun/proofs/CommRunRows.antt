@@ -36,6 +36,7 @@ in_order =
     ∷ (words "comm -1 f g", files (codes "a\nb\n") (codes "b\nc\n"), writes (codes "\tb\nc\n"))
     ∷ (words "comm -123 f g", files (codes "a\nb\n") (codes "b\nc\n"), writes [])
     ∷ (words "comm f g", files [] [], writes [])
+    ∷ (words "comm - g", Some [] ∷ Some (codes "a\n") ∷ [], writes (codes "\ta\n"))
     ∷ (words "comm f g", files (codes "a") (codes "a\nb"), writes (codes "\t\ta\n\tb\n"))
     ∷ (words "comm f -", Some (codes "b\n") ∷ Some (codes "a\nb\n") ∷ [], writes (codes "a\n\t\tb\n"))
     ∷ (words "comm - g", Some (codes "b\n") ∷ Some (codes "a\nb\n") ∷ [], writes (codes "\ta\n\t\tb\n"))

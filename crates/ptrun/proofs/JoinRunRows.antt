@@ -8,6 +8,7 @@ use Rattle.ptrun.proofs.CommRunRows.{Row, files, writes, tells, found, wanted, r
 abbrev in_order : List Row
 in_order =
     (words "join f g", files (codes "a 1\na 2\nc 9\n") (codes "a x\na y\nb z\n"), writes (codes "a 1 x\na 1 y\na 2 x\na 2 y\n"))
+    ∷ (words "join - g", Some [] ∷ Some (codes "a 1\n") ∷ [], writes [])
     ∷ (words "join -a 2 -e - -o 0,1.2,2.2 f g", files (codes "a 1\na 2\nc 9\n") (codes "a x\na y\nb z\n"), writes (codes "a 1 x\na 1 y\na 2 x\na 2 y\nb - z\n"))
     ∷ (words "join -t , -v 1 f g", files (codes ",1\nk\n") (codes "k,2\n"), writes (codes ",1\n"))
     ∷ (words "join -1 2 f g", files (codes "x a\ny b\n") (codes "a 1\nb 2\n"), writes (codes "a x 1\nb y 2\n"))

@@ -53,6 +53,12 @@ const FILE_ROWS: &[FileRow] = &[
     ),
     (&["paste", "f", "f"], "", &["a\nb", "a\nb"], "a\ta\nb\tb\n"),
     (
+        &["paste", "-s", "-d", "\\0\\n", "f"],
+        "",
+        &["a\nb\nc\nd\n"],
+        "ab\ncd\n",
+    ),
+    (
         &["paste", "-d", "12", "-", "f", "-"],
         "1\n2\n3\n4\n5\n",
         &["a\nb"],
@@ -194,6 +200,22 @@ const WITHOUT: &[(&[&str], &str)] = &[
 ];
 
 #[test]
+fn a_refused_second_column(rt: HostRuntime) -> Result<(), Fail> {
+    let files = [Input::Whole(b"a\n"), Input::Refused];
+    let expected = Expected {
+        out: "",
+        messages: "paste: g: cannot be opened\n",
+        status: 1,
+    };
+    expect(
+        &rt,
+        rt.alloc(),
+        &over_files(&["paste", "f", "g"], &files),
+        &expected,
+    )
+}
+
+#[test]
 fn refused_operands_are_named(rt: HostRuntime) -> Result<(), Fail> {
     for (words, out) in WITHOUT {
         let expected = Expected {
@@ -291,6 +313,54 @@ fn each_read_of_a_shared_input_fails(rt: HostRuntime) -> Result<(), Fail> {
     Ok(())
 }
 
+const THREE: &[&str] = &["paste", "-d", "\\0,", "-", "-", "-"];
+
+const THREE_OUT: &str = "12,3\n4,\n";
+
+// How many reads of standard input pass, and what three columns of it give.
+const THREE_UNREAD: &[(u64, &str)] = &[(0, ""), (1, ""), (2, ""), (3, "12,3\n"), (4, "12,3\n")];
+
+// How many writes of one byte pass, and what is written. The last call is a flush.
+const THREE_UNWRITTEN: &[(u64, &str)] = &[
+    (0, ""),
+    (1, "1"),
+    (2, "12"),
+    (3, "12,"),
+    (4, "12,3"),
+    (5, "12,3\n"),
+    (6, "12,3\n4"),
+    (7, "12,3\n4,"),
+    (8, THREE_OUT),
+];
+
+#[test]
+fn three_columns_of_standard_input_fail(rt: HostRuntime) -> Result<(), Fail> {
+    for (passing, out) in THREE_UNREAD {
+        let mut case = over_standard(THREE, b"", 2);
+        case.standard = Input::Failing(b"1\n2\n3\n4\n", 2, *passing);
+        let messages = "paste: standard input: read failed\n";
+        let expected = Expected {
+            out,
+            messages,
+            status: 1,
+        };
+        expect(&rt, rt.alloc(), &case, &expected)?;
+    }
+    for (passing, out) in THREE_UNWRITTEN {
+        let mut case = over_standard(THREE, b"1\n2\n3\n4\n", 1);
+        case.out.size = 1;
+        case.out.passing = *passing;
+        let messages = "paste: output: write failed\n";
+        let expected = Expected {
+            out,
+            messages,
+            status: 1,
+        };
+        expect(&rt, rt.alloc(), &case, &expected)?;
+    }
+    Ok(())
+}
+
 const FILES: &[Input] = &[Input::Whole(F), Input::Whole(G)];
 
 // How many bytes a call takes, how many in all, how many calls pass, and what is written. The last call is a flush.
@@ -380,7 +450,9 @@ fn each_growth_is_refused(rt: HostRuntime) -> Result<(), Fail> {
     let beside = over_files(BESIDE, FILES);
     expect_growths_refused(&rt, rt.alloc(), &beside, &writes(BESIDE_OUT), NO_MEMORY)?;
     let series = over_files(SERIES, FILES);
-    expect_growths_refused(&rt, rt.alloc(), &series, &writes(SERIES_OUT), NO_MEMORY)
+    expect_growths_refused(&rt, rt.alloc(), &series, &writes(SERIES_OUT), NO_MEMORY)?;
+    let three = over_standard(THREE, b"1\n2\n3\n4\n", 1);
+    expect_growths_refused(&rt, rt.alloc(), &three, &writes(THREE_OUT), NO_MEMORY)
 }
 
 // Adds one to a number in decimal digits.

@@ -169,6 +169,7 @@ fn files_out_of_order(rt: HostRuntime) -> Result<(), Fail> {
 const STANDARD: &[Told] = &[
     (&["comm", "f", "-"], ["b\n", "a\nb\n"], "a\n\t\tb\n", ""),
     (&["comm", "-", "g"], ["b\n", "a\nb\n"], "\ta\n\t\tb\n", ""),
+    (&["comm", "-", "g"], ["", "a\n"], "\ta\n", ""),
     (
         &["comm", "f", "-"],
         ["b\na\n", ""],
@@ -280,6 +281,8 @@ const UNWRITTEN: &[Unwritten] = &[
     (FALLS, 4, ROOM, 2, "\ta\n\t\tb\n\t"),
     (FALLS, 4, ROOM, 3, "\ta\n\t\tb\n\tb\n"),
     (FALLS, ROOM, 7, ALL, "\ta\n\t\tb\n"),
+    (SAME, 1, ROOM, 5, "\t\ta\na"),
+    (FALLS, 1, ROOM, 10, "\ta\n\t\tb\n\tb\n"),
 ];
 
 // The failed write is told in place of the disorder.

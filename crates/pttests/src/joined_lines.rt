@@ -144,6 +144,7 @@ const STANDARD: &[Row] = &[
         "a 1 x\nb 2 z\n",
         "",
     ),
+    (&["join", "-", "g"], ["", "a 1\n"], "", ""),
     (
         &["join", "-", "g"],
         ["b 1\na 2\n", "b x\n"],
@@ -243,6 +244,8 @@ const UNWRITTEN: &[Unwritten] = &[
     (PAIRED, 7, ROOM, 3, "a 1 x\na 1 y\na 2 x\na 2"),
     (PAIRED, 7, ROOM, 4, PAIRS),
     (PAIRED, ROOM, 6, ALL, "a 1 x\n"),
+    (PAIRED, 1, ROOM, 8, "a 1 x\na "),
+    (PAIRED, 1, ROOM, 24, PAIRS),
     (FALLS, 4, ROOM, 0, ""),
     (FALLS, 4, ROOM, 1, "b 1 "),
     (FALLS, 4, ROOM, 2, "b 1 y\n"),

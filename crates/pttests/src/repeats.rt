@@ -68,6 +68,11 @@ const UNREAD: &[(&[&str], &[u8], u64, &str)] = &[
     (&["uniq", "-c"], b"a\na\nb\nb\nc", 3, "2 a\n"),
     (&["uniq", "-c"], b"a\na\nb\nb\nc", 4, "2 a\n"),
     (&["uniq", "-c"], b"a\na\nb\nb\nc", 5, "2 a\n"),
+    (&["uniq", "-c"], b"a\na\nb\na", 0, ""),
+    (&["uniq", "-c"], b"a\na\nb\na", 1, ""),
+    (&["uniq", "-c"], b"a\na\nb\na", 2, ""),
+    (&["uniq", "-c"], b"a\na\nb\na", 3, "2 a\n"),
+    (&["uniq", "-c"], b"a\na\nb\na", 4, "2 a\n"),
     (&["uniq"], b"a\na\nb", 3, ""),
     (&["uniq", "-c"], b"a\nb\nc", 3, "1 a\n"),
 ];
@@ -93,7 +98,9 @@ const LINES: &[u8] = b"ab\nab\ncd\n";
 const ONCE: &str = "ab\ncd\n";
 
 // How many bytes a call takes, how many in all, how many calls pass, and what is written. The last call is a flush.
-const UNWRITTEN: &[(usize, usize, u64, &str)] = &[
+type Unwritten = (usize, usize, u64, &'static str);
+
+const UNWRITTEN: &[Unwritten] = &[
     (2, usize::MAX, 0, ""),
     (2, usize::MAX, 1, "ab"),
     (2, usize::MAX, 2, "ab\nc"),
@@ -101,10 +108,35 @@ const UNWRITTEN: &[(usize, usize, u64, &str)] = &[
     (usize::MAX, 5, u64::MAX, "ab\ncd"),
 ];
 
-#[test]
-fn each_write_and_the_flush_fail(rt: HostRuntime) -> Result<(), Fail> {
-    for (size, room, passing, out) in UNWRITTEN {
-        let mut case = over_standard(&["uniq"], LINES, 1);
+const COUNTED: &[u8] = b"a\na\nb\na";
+
+const COUNTS: &str = "2 a\n1 b\n1 a\n";
+
+const COUNTS_UNWRITTEN: &[Unwritten] = &[
+    (1, usize::MAX, 0, ""),
+    (1, usize::MAX, 1, "2"),
+    (1, usize::MAX, 2, "2 "),
+    (1, usize::MAX, 3, "2 a"),
+    (1, usize::MAX, 4, "2 a\n"),
+    (1, usize::MAX, 5, "2 a\n1"),
+    (1, usize::MAX, 6, "2 a\n1 "),
+    (1, usize::MAX, 7, "2 a\n1 b"),
+    (1, usize::MAX, 8, "2 a\n1 b\n"),
+    (1, usize::MAX, 9, "2 a\n1 b\n1"),
+    (1, usize::MAX, 10, "2 a\n1 b\n1 "),
+    (1, usize::MAX, 11, "2 a\n1 b\n1 a"),
+    (1, usize::MAX, 12, COUNTS),
+];
+
+fn expect_unwritten(
+    rt: &impl Abort,
+    alloc: Global,
+    words: &[&str],
+    text: &[u8],
+    rows: &[Unwritten],
+) -> Result<(), Fail> {
+    for (size, room, passing, out) in rows {
+        let mut case = over_standard(&*words, &*text, 1);
         case.out = Limits {
             size: *size,
             room: *room,
@@ -115,21 +147,31 @@ fn each_write_and_the_flush_fail(rt: HostRuntime) -> Result<(), Fail> {
             messages: "uniq: output: write failed\n",
             status: 1,
         };
-        expect(&rt, rt.alloc(), &case, &expected)?;
+        expect(rt, alloc, &case, &expected)?;
     }
     Ok(())
 }
 
 #[test]
+fn each_write_and_the_flush_fail(rt: HostRuntime) -> Result<(), Fail> {
+    expect_unwritten(&rt, rt.alloc(), &["uniq"], LINES, UNWRITTEN)?;
+    expect_unwritten(&rt, rt.alloc(), &["uniq", "-c"], COUNTED, COUNTS_UNWRITTEN)
+}
+
+const NO_MEMORY: &str = "uniq: out of memory\n";
+
+#[test]
 fn each_growth_is_refused(rt: HostRuntime) -> Result<(), Fail> {
-    let case = over_standard(&["uniq", "-c"], b"a\na\nbc\na", 1);
+    let longer = over_standard(&["uniq", "-c"], b"a\na\nbc\na", 1);
     expect_growths_refused(
         &rt,
         rt.alloc(),
-        &case,
+        &longer,
         &writes("2 a\n1 bc\n1 a\n"),
-        "uniq: out of memory\n",
-    )
+        NO_MEMORY,
+    )?;
+    let counted = over_standard(&["uniq", "-c"], COUNTED, 1);
+    expect_growths_refused(&rt, rt.alloc(), &counted, &writes(COUNTS), NO_MEMORY)
 }
 
 // Twice a line of this length.
