@@ -2,9 +2,11 @@
 use Rattle.std.proofs.Common.{◌≡◌, ℕ, List, [], ◌∷◌, Some, refl, codes, false, map}
 use Rattle.ptlangs.specs.TrClasses.{all_bytes}
 use Rattle.ptopts.proofs.RowWords.{words}
+use Rattle.ptrun.specs.Worlds.{World}
+use Rattle.ptrun.specs.Meanings.{messages}
 use Rattle.ptrun.specs.Asked.{asked}
 
--- the words behind the tool's, standard input, and the output
+-- the words behind the tool's, standard input, and the output; nothing is said
 abbrev rows : List (List (List ℕ) × List ℕ × List ℕ)
 rows =
     (words "-cs [:alpha:] [\\n*]", codes "one, two.\n", codes "one\ntwo\n")
@@ -28,7 +30,11 @@ rows =
     ∷ (words "-c \\000-\\377 [x*]", codes "ab", codes "ab")
     ∷ []
 
-are_written : map (λ (row : List (List ℕ) × List ℕ × List ℕ). (asked (codes "tr" ∷ row.0)).out (Some row.1 ∷ [])) rows ≡ map (λ (row : List (List ℕ) × List ℕ × List ℕ). row.2) rows
+-- the output, what is said, and the status
+abbrev told : List (List ℕ) → World → List ℕ × List ℕ × ℕ
+told tr w = ((asked tr).out w, messages (asked tr) w, (asked tr).status w)
+
+are_written : map (λ (row : List (List ℕ) × List ℕ × List ℕ). told (codes "tr" ∷ row.0) (Some row.1 ∷ [])) rows ≡ map (λ (row : List (List ℕ) × List ℕ × List ℕ). (row.2, [], 0)) rows
 unfolding all_bytes
 are_written = refl
 

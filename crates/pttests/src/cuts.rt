@@ -86,7 +86,7 @@ fn cut_across_blocks(
     let text = text_with(alloc, &[length, 3, length], ending, false, other)?;
     let short = length.min(8192);
     let cut = text_with(alloc, &[short, 3, short], ending, length > 0, other)?;
-    let option = format!(in alloc; "{flags}b")?;
+    let option = format!(in alloc; "{flags}c")?;
     let words = ["cut", option.as_str(), "1-8000,8000-8192"];
     for size in SIZES {
         let case = over_standard(&words, &text, *size);

@@ -122,7 +122,7 @@ fn cut_across_blocks(
     Ok(())
 }
 
-const LENGTHS: &[usize] = &[0, 1, 8188, 8189, 8190, 8191, 8192, 8193, 20000];
+const LENGTHS: &[usize] = &[0, 1, 8188, 8189, 8190, 8191, 8192, 8193, 19998, 20000];
 
 #[test]
 fn fields_across_blocks(rt: HostRuntime) -> Result<(), Fail> {
