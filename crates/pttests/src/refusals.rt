@@ -144,6 +144,10 @@ const NEEDS_LIST: &[Refusal] = &[
 
 const VALUES_OF_CUT: &[Refusal] = &[
     (&["cut", "-f", "0"], "cut: wrong value for option -f: 0\n"),
+    (
+        &["cut", "-z", "-d", "\0", "-f", "1"],
+        "cut: wrong value for option -d: \0\n",
+    ),
     (&["cut", "-b", ""], "cut: wrong value for option -b: \n"),
     (
         &["cut", "-b", "1,3-2"],
