@@ -6,9 +6,9 @@ pub returns-in_err-send_staged-clause-wrote : goal.returns-in_err-send_staged-cl
 returns-in_err-send_staged-clause-wrote g c =
     wrote_broken c.args.self.now c.send_staged.new.self c.args.self.now.staged c.args.bytes.now c.args.bytes.now c.requires refl c.in_err-send_staged.ensures.err
 
-pub returns-then-bytes-remaining_capacity-clause-wrote :
-    goal.returns-then-bytes-remaining_capacity-clause-wrote
-returns-then-bytes-remaining_capacity-clause-wrote g c =
+pub returns-then-bytes-room-clause-wrote :
+    goal.returns-then-bytes-room-clause-wrote
+returns-then-bytes-room-clause-wrote g c =
     let is_sent = c.in_ok-send_staged.ensures.ok in
     let clean = ap (λ o. o.faulted) is_sent in
     let empty = ap (λ o. o.staged) is_sent in
