@@ -5,6 +5,11 @@ use crate::commands::{
     Expected, Input, Limits, Row, SIZES, assert_left, expect, expect_growths_refused, expect_rows,
     over_files, over_standard, run_over, writes,
 };
+use crate::comparing::same;
+use ptfakes::{Kept, Pieces};
+use ptflow::uniq;
+use ptlangs::jobs::{Show, UniqJob};
+use ptlines::{LineReader, Out, Store};
 use std::alloc::Global;
 use std::process::Abort;
 use std::test::Fail;
@@ -32,6 +37,48 @@ const ROWS: &[Row] = &[
 #[test]
 fn runs_of_equal_lines(rt: HostRuntime) -> Result<(), Fail> {
     expect_rows(&rt, rt.alloc(), ROWS)
+}
+
+// The file of POSIX.1-2017 (XCU, uniq, EXAMPLES).
+const FILE: &[u8] = b"#01 foo0 bar0 foo1 bar1
+#02 bar0 foo1 bar1 foo1
+#03 foo0 bar0 foo1 bar1
+#04
+#05 foo0 bar0 foo1 bar1
+#06 foo0 bar0 foo1 bar1
+#07 bar0 foo1 bar1 foo0
+";
+
+// What is written of it for `-c -f 1`, there.
+const RUNS_OF_FILE: &[u8] = b"1 #01 foo0 bar0 foo1 bar1
+1 #02 bar0 foo1 bar1 foo1
+1 #03 foo0 bar0 foo1 bar1
+1 #04
+2 #05 foo0 bar0 foo1 bar1
+1 #07 bar0 foo1 bar1 foo0
+";
+
+#[test]
+fn runs_of_a_reader(rt: HostRuntime) -> Result<(), Fail> {
+    let job = UniqJob {
+        show: Show::Counts,
+        fields: 1,
+        chars: 0,
+        zero: false,
+    };
+    for size in [1, 7, usize::MAX] {
+        let source = Pieces::new(FILE, size, u64::MAX);
+        let mut reader: LineReader<Pieces<'_>, Pieces<'_>> = LineReader::standard(source);
+        let mut store = Store::empty(rt.alloc());
+        let mut out = Out::new(Kept::new(rt.alloc()));
+        let told = uniq(&job, &mut reader, &mut store, &mut out);
+        same(&rt, &told, &Ok(()));
+        same(&rt, &store.slots(), &2);
+        same(&rt, &store.now(), &0);
+        same(&rt, &out.finish(), &Ok(()));
+        same(&rt, &out.into_sink().bytes(), &RUNS_OF_FILE);
+    }
+    Ok(())
 }
 
 #[test]

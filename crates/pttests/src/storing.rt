@@ -54,6 +54,20 @@ fn a_store_of_no_slots(rt: HostRuntime) -> Result<(), Fail> {
     Ok(())
 }
 
+// It is made where no growth is left, and then its first slot is refused.
+#[test]
+fn an_empty_store_takes_no_memory(rt: HostRuntime) -> Result<(), Fail> {
+    let refusing = Refusing::after(rt.alloc(), 0);
+    let mut store = Store::empty(&refusing);
+    expect(&rt, &store, &[], 0, false);
+    assert!(rt; !refusing.refused());
+    same(&rt, &store.add(), &Err(LineFault::Memory));
+    expect(&rt, &store, &[], 0, true);
+    same(&rt, &store.add(), &Ok(0));
+    expect(&rt, &store, &[b""], 0, true);
+    Ok(())
+}
+
 // The call whose growth was refused, or none.
 #[derive(Clone, Copy, Debug, PartialEq, Eq)]
 enum Stopped {
