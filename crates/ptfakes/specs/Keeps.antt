@@ -35,7 +35,8 @@ sink_of k = record { taken = Some k.taken; failed = k.failed }
 pub record KeepsSome (old new : Keeping) (bytes : List ℕ) (n : ℕ) : Type 0 where
   pub passes : old.calls < old.passing
   pub count : n ≡ min (min (length bytes) old.size) (old.room - length old.taken)
-  pub is : new ≡ record old { taken = old.taken ++ take n bytes; calls = count_after old.calls; failed = old.failed || (n == 0) }
+  pub is : new
+      ≡ record old { taken = old.taken ++ take n bytes; calls = count_after old.calls; failed = old.failed || (n == 0) }
 
 -- what one put does
 abbrev pub KeepsPut : Keeping → Keeping → List ℕ → Result ℕ Failed → Type 0

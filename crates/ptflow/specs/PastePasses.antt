@@ -89,13 +89,16 @@ pub record IsPastePass (job : Paste) (cells : List ℕ) (old new : List Reader) 
   pub wrote : Wrote was is pushed
   pub ends : RowsEnd cells old new is store result
   -- nothing was pushed that would have to be taken back
-  pub true_so_far : (texts : ℕ → List ℕ) → ((place : ℕ) → Agrees (given place) (texts place)) → Begins pushed (paste job cells texts)
+  pub true_so_far : (texts : ℕ → List ℕ) → ((place : ℕ) → Agrees (given place) (texts place))
+      → Begins pushed (paste job cells texts)
   -- after a read that failed, what was decided was pushed, unless a write failed
-  pub sure : (place : ℕ) → 0 < times cells place → (reader_at new place).failed ≡ true → is.faulted ≡ false → Begins (paste_decided job cells given) pushed
+  pub sure : (place : ℕ) → 0 < times cells place → (reader_at new place).failed ≡ true → is.faulted ≡ false
+      → Begins (paste_decided job cells given) pushed
   -- all of it was pushed
   pub whole : result ≡ Ok tt → pushed ≡ paste job cells (λ place. (given place).bytes)
   -- the store held no more than a longest line for each cell
-  pub peak : (texts : ℕ → List ℕ) → ((place : ℕ) → Agrees (given place) (texts place)) → store.peak ≤ max before.peak (paste_size job cells texts)
+  pub peak : (texts : ℕ → List ℕ) → ((place : ℕ) → Agrees (given place) (texts place))
+      → store.peak ≤ max before.peak (paste_size job cells texts)
   pub slots : was.faulted ≡ false → Adds before store (length cells)
   -- a reader that no cell names is left alone
   pub untouched : (place : ℕ) → times cells place ≡ 0 → reader_at new place ≡ reader_at old place

@@ -115,8 +115,10 @@ pub record IsMerge (tool : Tool) (old new : State) (result : Result (Unit {0}) M
   -- nothing was pushed that would have to be taken back
   pub true_so_far : (input : Side → List ℕ) → Agree given input → Begins pushed (merged tool input)
   -- after a read that failed, what was decided was pushed, unless a write failed
-  pub sure : (side : Side) → (new.reader side).failed ≡ true → new.out.faulted ≡ false → Begins (decided tool given) pushed
+  pub sure : (side : Side) → (new.reader side).failed ≡ true → new.out.faulted ≡ false
+      → Begins (decided tool given) pushed
   -- the store held no more than the inputs' measure
-  pub peak : (input : Side → List ℕ) → Agree given input → new.store.peak ≤ max old.store.peak (tool.size (lines_of tool input))
+  pub peak : (input : Side → List ℕ) → Agree given input
+      → new.store.peak ≤ max old.store.peak (tool.size (lines_of tool input))
   -- all of it was pushed, also where an input is out of order
   pub whole : (input : Side → List ℕ) → Agree given input → IsWhole tool input pushed result

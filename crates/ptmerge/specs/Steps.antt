@@ -115,7 +115,8 @@ pub record FirstNotRead (old new : Inputs) (fault : MergeFault) : Type 0 where
 -- the first line of the second input could not be read
 pub record SecondNotRead (key : Side → Key) (cmp : Cmp) (old new : Inputs) (fault : MergeFault) : Type 0 where
   pub first : Sorted
-  pub begins : FirstCame key cmp first old new (λ mid. CannotRead Second (fresh Second) (old.reader Second) (new.reader Second) mid new.store fault)
+  pub begins : FirstCame key cmp first old new
+      (λ mid. CannotRead Second (fresh Second) (old.reader Second) (new.reader Second) mid new.store fault)
 
 -- why a merge could not start
 abbrev pub CannotStart : (Side → Key) → Cmp → Inputs → Inputs → MergeFault → Type 0

@@ -26,6 +26,8 @@ pub record HasNoSlots (before after : Slots) : Type 0 where
 -- the first four slots were emptied
 pub record IsCleared (before after : Slots) : Type 0 where
   pub slots : length after.lines ≡ length before.lines
-  pub emptied : total after.lines + (((length (line before 0) + length (line before 1)) + length (line before 2)) + length (line before 3)) ≡ total before.lines
+  pub emptied : total after.lines
+      + (((length (line before 0) + length (line before 1)) + length (line before 2)) + length (line before 3))
+      ≡ total before.lines
   pub peak : after.peak ≤ max before.peak (total before.lines)
   pub denied : after.denied ≡ before.denied

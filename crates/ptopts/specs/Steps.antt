@@ -41,7 +41,8 @@ options_among events = filter_map option_in events
 pub record ReadsGroup (tool : Tool) (word : List ℕ) (next : Option (List ℕ)) (before after : List GivenOption) (taken : Bool) : Type 0 where
   pub options : after ≡ before ++ options_among (events_of tool word next)
   pub takes : taken ≡ takes_next tool (drop 1 word)
-  pub faultless : (events : List Event) → reading_fault tool before (events_of tool word next ++ events) ≡ reading_fault tool after events
+  pub faultless : (events : List Event)
+      → reading_fault tool before (events_of tool word next ++ events) ≡ reading_fault tool after events
 
 abbrev pub FailsGroup : Tool → List ℕ → Option (List ℕ) → List GivenOption → UseFault → Type 0
 FailsGroup tool word next before e =

@@ -158,5 +158,6 @@ pub record IsJointPass (t : JointTool) (places : List ℕ) (old new : List Reade
   pub untouched : (place : ℕ) → is_in places place ≡ false → reader_at new place ≡ reader_at old place
   pub true_so_far : (w : World) → Allows received w → Begins pushed (t.text places (text_in w))
   pub told_read : (place : ℕ) → HasFailed old new place → is.faulted ≡ false → result ≡ Err (Read place)
-  pub sure : (place : ℕ) → HasFailed old new place → is.faulted ≡ false → Begins (t.decided places (given_in received)) pushed
+  pub sure : (place : ℕ) → HasFailed old new place → is.faulted ≡ false
+      → Begins (t.decided places (given_in received)) pushed
   pub peak : (w : World) → Allows received w → store.peak ≤ max before.peak (t.size places (text_in w))

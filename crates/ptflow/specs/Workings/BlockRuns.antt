@@ -28,8 +28,10 @@ pub record GoesOnWith (job : Uniq) (end : ℕ) (first block : List ℕ) (same : 
   pub split : ended_lines end block ≡ front ++ ended_lines end (drop same.passed block)
   pub within : same.passed ≤ length block
   pub texts : take same.passed block ≡ text end front
-  pub on : (count : ℕ) → 0 < count → (more : List (List ℕ)) → runs_behind job (run_of first count) (front ++ more) ≡ runs_behind job (run_of first (count + same.count)) more
-  pub turns : (line : List ℕ) (more : List (List ℕ)) → ended_lines end (drop same.passed block) ≡ line ∷ more → is_same job first line ≡ false
+  pub on : (count : ℕ) → 0 < count → (more : List (List ℕ))
+      → runs_behind job (run_of first count) (front ++ more) ≡ runs_behind job (run_of first (count + same.count)) more
+  pub turns : (line : List ℕ) (more : List (List ℕ)) → ended_lines end (drop same.passed block) ≡ line ∷ more
+      → is_same job first line ≡ false
 
 -- these bytes of a block
 abbrev pub span_of : List ℕ → Span → List ℕ

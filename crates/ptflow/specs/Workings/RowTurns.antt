@@ -30,17 +30,23 @@ pub record KeepsCells (cells : List ℕ) (top : ℕ → ℕ) (before store : Slo
 
 -- The first n cells have taken these lines of the readers, and their slots hold them.
 pub record RowTaken (cells : List ℕ) (n : ℕ) (old new : List Reader) (before store : Slots) (got : ℕ → List (List ℕ)) : Type 0 where
-  pub took : (place : ℕ) → Took (reader_at old place).ending (reader_at old place) (reader_at new place) (times (take n cells) place) (got place)
-  pub slots : (c : ℕ) → c < n → line store c ≡ slice_index_or (got (slice_index_or cells c 0)) (times (take c cells) (slice_index_or cells c 0)) []
+  pub took : (place : ℕ)
+      → Took (reader_at old place).ending (reader_at old place) (reader_at new place) (times (take n cells) place)
+      (got place)
+  pub slots : (c : ℕ) → c < n
+      → line store c ≡ slice_index_or (got (slice_index_or cells c 0))
+      (times (take c cells) (slice_index_or cells c 0)) []
   pub count : length new ≡ length old
   pub same : length store.lines ≡ length before.lines
-  pub kept : (first : Slots) (top : ℕ → ℕ) → KeepsCells cells top first before → ((place : ℕ) → longest (got place) ≤ top place) → KeepsCells cells top first store
+  pub kept : (first : Slots) (top : ℕ → ℕ) → KeepsCells cells top first before
+      → ((place : ℕ) → longest (got place) ≤ top place) → KeepsCells cells top first store
 
 -- the cells have lines, or none has
 pub record RowFilled (cells : List ℕ) (old new : List Reader) (before store : Slots) (came : Bool) : Type 0 where
   pub got : ℕ → List (List ℕ)
   pub taken : RowTaken cells (length cells) old new before store got
-  pub some : came ≡ true → (c : ℕ) × (c < length cells) × (times (take c cells) (slice_index_or cells c 0) < length (got (slice_index_or cells c 0)))
+  pub some : came ≡ true → (c : ℕ) × (c < length cells)
+      × (times (take c cells) (slice_index_or cells c 0) < length (got (slice_index_or cells c 0)))
   pub none : came ≡ false → (place : ℕ) → got place ≡ []
   pub less : came ≡ true → sum_by budget new < sum_by budget old
 
@@ -52,7 +58,8 @@ pub record RowBroken (Breaks : Reader → Reader → Slots → Slots → ℕ →
   pub mid : List Reader
   pub held : Slots
   pub taken : RowTaken cells column old mid before held got
-  pub breaks : Breaks (reader_at mid (slice_index_or cells column 0)) (reader_at new (slice_index_or cells column 0)) held store column
+  pub breaks : Breaks (reader_at mid (slice_index_or cells column 0)) (reader_at new (slice_index_or cells column 0))
+      held store column
   pub others : (place : ℕ) → place ≢ slice_index_or cells column 0 → reader_at new place ≡ reader_at mid place
 
 abbrev pub FillsRow : List ℕ → List Reader → List Reader → Slots → Slots → Result Bool FlowFault → Type 0
