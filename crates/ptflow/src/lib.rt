@@ -8,10 +8,12 @@ mod faults;
 mod fields;
 mod keys;
 mod lanes;
+mod mapping;
 mod pasting;
 mod repeats;
 mod runs;
 mod serial;
+mod sets;
 mod slots;
 mod translating;
 
