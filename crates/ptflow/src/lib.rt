@@ -12,6 +12,7 @@ mod pasting;
 mod repeats;
 mod runs;
 mod serial;
+mod sets;
 mod slots;
 mod translating;
 
