@@ -1,0 +1,16 @@
+-- Sets of bytes, as two tables of bits.
+use Rattle.std.specs.Prelude.{◌≡◌, ◌<◌, ℕ, ◌/◌, ◌%◌, ◌==◌, Bool, false, List, nat_lt, slice_index, slice_index_or, if◌then◌else◌}
+use Rattle.std.specs.Int.{bit_at}
+use Rattle.ptflow.specs.declared.sets.ByteSet.{ByteSet}
+
+-- the table of a byte: `low` for those below 128, and `high` for the others
+abbrev pub half_of : ByteSet → ℕ → List ℕ
+half_of set b = if nat_lt b 128 then set.low else set.high
+
+-- a byte is in the set if of its entry, which its low half names, the bit is set that its high half names
+abbrev pub holds : ByteSet → ℕ → Bool
+holds set b = bit_at (slice_index (half_of set b) (b % 16)) (b / 16 % 8) == 1
+
+-- the set of the bytes whose flag is true
+abbrev pub IsSetOf : ByteSet → List Bool → Type 0
+IsSetOf set flags = (b : ℕ) → b < 256 → holds set b ≡ slice_index_or flags b false
