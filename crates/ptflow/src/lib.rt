@@ -9,6 +9,7 @@ mod fields;
 mod keys;
 mod lanes;
 mod mapping;
+mod packing;
 mod pasting;
 mod repeats;
 mod runs;
