@@ -24,6 +24,7 @@ pub mod RowTurns
 pub mod SerialRests
 pub mod SheetRows
 pub mod SlotFacts
+pub mod SqueezeLemmas
 pub mod Takes
 pub mod TrRests
 pub mod TrRows

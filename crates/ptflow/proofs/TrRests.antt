@@ -16,14 +16,14 @@ use Rattle.ptlangs.specs.TrShifts.{shifted}
 use Rattle.ptflow.specs.Workings.TrRests.{squeeze_from, tr_rest, IsPlain}
 
 module _ (squeezed : ℕ → Bool) where
-  behind_one : (last b : ℕ) (bytes : List ℕ) → squeeze_behind squeezed last (b ∷ bytes) ≡ cond (stays squeezed (last, b)) (b ∷ squeeze_behind squeezed b bytes) (squeeze_behind squeezed b bytes)
+  pub behind_one : (last b : ℕ) (bytes : List ℕ) → squeeze_behind squeezed last (b ∷ bytes) ≡ cond (stays squeezed (last, b)) (b ∷ squeeze_behind squeezed b bytes) (squeeze_behind squeezed b bytes)
   behind_one last b bytes = by_test (stays squeezed (last, b)) (filter (stays squeezed) (zip (b ∷ bytes) bytes))
     where
       by_test : (s : Bool) (ps : List (ℕ × ℕ)) → map (λ (p : ℕ × ℕ). p.1) (cond s ((last, b) ∷ ps) ps) ≡ cond s (b ∷ map (λ (p : ℕ × ℕ). p.1) ps) (map (λ (p : ℕ × ℕ). p.1) ps)
       by_test true ps = refl
       by_test false ps = refl
 
-  from_one : (last : Option ℕ) (b : ℕ) (bytes : List ℕ) → squeeze_from squeezed last (b ∷ bytes)
+  pub from_one : (last : Option ℕ) (b : ℕ) (bytes : List ℕ) → squeeze_from squeezed last (b ∷ bytes)
       ≡ cond (not (option_eq eqb last (Some b) && squeezed b)) (b ∷ squeeze_behind squeezed b bytes) (squeeze_behind squeezed b bytes)
   from_one None b bytes = refl
   from_one (Some last) b bytes = behind_one last b bytes

@@ -6,6 +6,7 @@ mod bytes;
 mod cutting;
 mod faults;
 mod fields;
+mod keeping;
 mod keys;
 mod lanes;
 mod mapping;
@@ -16,6 +17,7 @@ mod runs;
 mod serial;
 mod sets;
 mod slots;
+mod squeezing;
 mod translating;
 
 pub use cutting::cut;

@@ -1,5 +1,6 @@
 -- Items that are put side by side where their flags are true.
-use Rattle.std.specs.Prelude.{◌≡◌, ◌<◌, ℕ, List, [], ◌∷◌, Bool, All, length, range_with_len, slice_index_or, if◌then◌else◌}
+use Rattle.std.specs.Prelude.{◌≡◌, ◌<◌, ℕ, List, [], ◌∷◌, Bool, All, length, slice_index_or, if◌then◌else◌}
+use Rattle.std.specs.List.{range_with_len}
 use Rattle.std.specs.Simd.Lanes.{mask_l}
 use Rattle.ptlines.specs.Inputs.{Begins}
 use Rattle.ptflow.specs.declared.packing.Shuffles.{Shuffles}
