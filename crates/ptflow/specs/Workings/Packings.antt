@@ -1,8 +1,7 @@
 -- Items that are put side by side where their flags are true.
-use Rattle.std.specs.Prelude.{◌≡◌, ◌<◌, ℕ, List, [], ◌∷◌, Bool, All, length, slice_index_or, if◌then◌else◌}
+use Rattle.std.specs.Prelude.{◌≡◌, ◌<◌, ℕ, List, [], ◌∷◌, Bool, All, length, take, slice_index_or, if◌then◌else◌}
 use Rattle.std.specs.List.{range_with_len}
 use Rattle.std.specs.Simd.Lanes.{mask_l}
-use Rattle.ptlines.specs.Inputs.{Begins}
 use Rattle.ptflow.specs.declared.packing.Shuffles.{Shuffles}
 
 -- the items whose flag is true, in order
@@ -11,9 +10,13 @@ chosen_by [] xs = []
 chosen_by (flag ∷ flags) [] = []
 chosen_by (flag ∷ flags) (x ∷ xs) = if flag then x ∷ chosen_by flags xs else chosen_by flags xs
 
+-- the places of the flags that are true
+abbrev pub places_of : List Bool → List ℕ
+places_of flags = chosen_by flags (range_with_len 0 (length flags))
+
 -- In front are the places of the flags that are true, and behind them any places of sixteen lanes.
 pub record IsRow (flags : List Bool) (row : List ℕ) : Type 0 where
-  pub places : Begins (chosen_by flags (range_with_len 0 (length flags))) row
+  pub places : take (length (places_of flags)) row ≡ places_of flags
   pub long : length row ≡ 16
   pub lanes : All (λ place. place < 16) row
 
