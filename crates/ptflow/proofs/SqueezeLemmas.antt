@@ -1,15 +1,17 @@
 -- Bytes that stay where repeats are squeezed. Whether one stays is told by it and the byte in front of it, so a text is
 -- worked in pieces, each of them with the byte in front of it.
-use Rattle.std.proofs.Common.{◌≡◌, ℕ, zero, suc, ◌+◌, ◌-◌, ◌<◌, ◌≤◌, ◌&&◌, not, eqb, Bool, true, false, cond, List, [], ◌∷◌, ◌++◌, Option, None, Some, length, take, drop, set, get_or, refl, sym, ◌∙◌, ap, arith, append_assoc, add-one, drop-cons, w8}
+use Rattle.std.proofs.Common.{◌≡◌, ℕ, zero, suc, ◌%◌, ◌^◌, map, bit_and, negsuc, pos, ◌+◌, ◌-◌, ◌<◌, ◌≤◌, ◌&&◌, not, eqb, Bool, true, false, cond, List, [], ◌∷◌, ◌++◌, Option, None, Some, length, take, drop, set, get_or, refl, sym, ◌∙◌, ap, arith, append_assoc, add-one, drop-cons, w8}
 use Rattle.std.specs.Option.{option_eq}
-use Rattle.std.specs.Simd.Lanes.{zip2, chunk, Each1}
+use Rattle.std.specs.Int.{bit_not, cast_unsigned}
+use Rattle.std.specs.Simd.Lanes.{zip2, chunk, Each1, mask_l, top}
 use mir.Val.{bool_byte, Fits}
 use Rattle.std.proofs.Math.Facts.{Fits-lt-pow}
 use Rattle.std.proofs.Math.ListN.{length-set}
 use Rattle.std.proofs.Math.Seq.{take-add}
 use Rattle.std.proofs.lemmas.List.{append-nil, take-append-drop, drop-drop, drop_all, take-set, take_more_set, take-take}
-use Rattle.std.proofs.lemmas.Simd.{get_or-chunk, length-chunk}
+use Rattle.std.proofs.lemmas.Simd.{get_or-chunk, length-chunk, length-zip2, mask_l-mod}
 use Rattle.ptflow.specs.Translations.{stays, squeeze_behind}
+use Rattle.ptflow.specs.Workings.ByteSets.{mask_of}
 use Rattle.ptflow.specs.Workings.Packings.{chosen_by}
 use Rattle.ptflow.specs.Workings.TrRests.{squeeze_from}
 use Rattle.ptflow.proofs.TrRests.{behind_one, from_one}
@@ -130,6 +132,24 @@ in_front_of from at n behind room =
     let next : suc (at - 1) ≡ at = omega arith in
     let front : drop (at - 1) from ≡ last ∷ drop at from = drop-cons from (at - 1) 0 (omega arith) ∙ ap (λ (k : ℕ). last ∷ drop k from) next in
     ap (take (suc n)) front ∙ ap (λ (l : List ℕ). last ∷ l) (sym (take-take n (suc n) (drop at from) (omega arith))) ∙ ap (λ (k : ℕ). take k (last ∷ chunk at (suc n) from)) (sym (length-chunk at (suc n) from room))
+
+-- the mask of the lanes that are no repeat of the byte in front of them
+pub stays_mask : (test : ℕ → Bool) (front bytes : List ℕ) → length front ≡ length bytes → length bytes ≤ 64
+    → mask_l (map (top 7) (map (bit_not w8) (zip2 bit_and (zip2 (λ a b. cond (eqb a b) 255 0) front bytes) (map (cast_unsigned w8) (mask_of test bytes))))) % 2 ^ 64
+        ≡ mask_l (zip2 (λ a b. not (eqb a b && test b)) front bytes)
+stays_mask test front bytes same few =
+    ap (λ (ms : List Bool). mask_l ms % 2 ^ 64) (lanes front bytes) ∙ mask_l-mod (zip2 (λ a b. not (eqb a b && test b)) front bytes) 64 (omega (arith, length-zip2 (λ a b. not (eqb a b && test b)) front bytes same))
+  where
+    lane : (e t : Bool) → top 7 (bit_not w8 (bit_and (cond e 255 0) (cast_unsigned w8 (cond t (negsuc 0) (pos 0))))) ≡ not (e && t)
+    lane true true = refl
+    lane true false = refl
+    lane false true = refl
+    lane false false = refl
+
+    lanes : (front bytes : List ℕ) → map (top 7) (map (bit_not w8) (zip2 bit_and (zip2 (λ a b. cond (eqb a b) 255 0) front bytes) (map (cast_unsigned w8) (mask_of test bytes)))) ≡ zip2 (λ a b. not (eqb a b && test b)) front bytes
+    lanes [] bytes = refl
+    lanes (a ∷ front) [] = refl
+    lanes (a ∷ front) (b ∷ bytes) = λ i. lane (eqb a b) (test b) i ∷ lanes front bytes i
 
 -- tests that agree on bytes squeeze the same repeats
 pub same_behind : (p q : ℕ → Bool) → ((b : ℕ) → b < 256 → p b ≡ q b) → (last : ℕ) (bytes : List ℕ) → Each1 (Fits w8) bytes → squeeze_behind p last bytes ≡ squeeze_behind q last bytes

@@ -5,7 +5,7 @@ use Rattle.ptflow.proofs.squeezing.squeeze_block.Given as goal
 
 abbrev pub invariant-loop-at : goal.invariant-loop-at
 invariant-loop-at l =
-    Squeezing (λ b. slice_index_or l.flags b false) l.from l.into l.at l.count (squeeze_from (λ b. slice_index_or l.flags b false) l.last l.from)
+    Squeezing (λ b. slice_index_or l.flags b false) l.from l.into l.at l.count (squeeze_from (λ b. slice_index_or l.flags b false) l.fn.last l.from)
 
 abbrev pub decreases-loop-at : goal.decreases-loop-at
 decreases-loop-at l = length l.from - l.at
