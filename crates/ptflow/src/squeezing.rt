@@ -79,7 +79,7 @@ pub(crate) fn squeeze_block(
         return 0;
     }
     let first = from[0];
-    let repeats = last == Some(first) && flags[usize::from(first)];
+    let repeats = (last == Some(first)) & flags[usize::from(first)];
     into[0] = first;
     let mut count = usize::from(!repeats);
     let mut at = 1;
