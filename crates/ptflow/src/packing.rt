@@ -13,14 +13,14 @@ pub struct Shuffles {
 }
 
 // The places of the bits of a mask.
-fn row_of(mask: u8) -> [u8; 16]
+fn row_of(mask: usize) -> [u8; 16]
     ensures { (flags : List Bool) → length flags ≡ 8 → mask ≡ mask_l flags → IsRow flags result }
 {
     let mut row = [0; 16];
     let mut count = 0;
-    for place in 0..8 {
+    for place in 0..8u8 {
         row[count] = place;
-        count += usize::from(mask >> place & 1);
+        count += mask >> place & 1;
     }
     row
 }
@@ -31,8 +31,8 @@ impl Shuffles {
         ensures { IsPacking result }
     {
         let mut rows = [[0; 16]; 256];
-        for mask in 0..=255 {
-            rows[usize::from(mask)] = row_of(mask);
+        for mask in 0..256 {
+            rows[mask] = row_of(mask);
         }
         Shuffles { rows }
     }
