@@ -6,33 +6,33 @@ ghost use Rattle.ptflow.specs.Workings.Packings.{IsPacking, IsRow, chosen_by};
 
 use std::simd::prelude::*;
 
-/// For each mask of eight flags the places of those that are true, in order.
+// For each mask of eight flags the places of those that are true, in order.
 #[derive(Clone, Copy)]
-pub struct Shuffles {
+pub(crate) struct Shuffles {
     rows: [[u8; 16]; 256],
 }
 
 // The places of the bits of a mask.
-fn row_of(mask: u8) -> [u8; 16]
+fn row_of(mask: usize) -> [u8; 16]
     ensures { (flags : List Bool) → length flags ≡ 8 → mask ≡ mask_l flags → IsRow flags result }
 {
     let mut row = [0; 16];
     let mut count = 0;
-    for place in 0..8 {
+    for place in 0..8u8 {
         row[count] = place;
-        count += usize::from(mask >> place & 1);
+        count += mask >> place & 1;
     }
     row
 }
 
 impl Shuffles {
-    /// The rows of all masks.
+    // The rows of all masks.
     pub fn new() -> Shuffles
         ensures { IsPacking result }
     {
         let mut rows = [[0; 16]; 256];
-        for mask in 0..=255 {
-            rows[usize::from(mask)] = row_of(mask);
+        for mask in 0..256 {
+            rows[mask] = row_of(mask);
         }
         Shuffles { rows }
     }
@@ -52,9 +52,9 @@ fn pack_eight(shuffles: &Shuffles, v: u8x16, keep: u8, into: &mut [u8], at: usiz
     at + keep.count_ones() as usize
 }
 
-/// Puts the lanes whose flag is true from a place on, and says where they end. What stood behind them may change.
+// Puts the lanes whose flag is true from a place on, and says where they end. What stood behind them may change.
 #[inline(always)]
-pub fn pack(shuffles: &Shuffles, v: u8x16, keep: u64, into: &mut [u8], at: usize) -> usize
+pub(crate) fn pack(shuffles: &Shuffles, v: u8x16, keep: u64, into: &mut [u8], at: usize) -> usize
     requires packing { IsPacking shuffles.now }
     requires room { at + 24 ≤ length into.old }
     ensures long { length into.new ≡ length into.old }
