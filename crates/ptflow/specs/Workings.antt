@@ -13,3 +13,4 @@ pub mod SerialRests
 pub mod TakenLines
 pub mod RowTurns
 pub mod ByteSets
+pub mod Packings
