@@ -31,3 +31,4 @@ pub mod TwoSlots
 pub mod UniqKeys
 pub mod UniqPasses
 pub mod UniqRows
+pub mod ByteSetLemmas

@@ -1,13 +1,28 @@
 //! Sets of bytes, 16 of which are looked up at once.
 
-ghost use Rattle.std.specs.Prelude.{◌≡◌, map};
-ghost use Rattle.std.specs.Simd.Lanes.{top};
+ghost use Rattle.std.specs.Prelude.{◌≡◌, ◌/◌, ◌%◌, map, slice_index};
 
 use std::simd::Mask;
 use std::simd::prelude::*;
 
 // The bit of each high half of a byte.
 const BITS: [u8; 16] = [1, 2, 4, 8, 16, 32, 64, 128, 1, 2, 4, 8, 16, 32, 64, 128];
+
+// What a table has for the low half of each byte.
+#[inline(always)]
+pub(crate) fn by_low_half(table: u8x16, v: u8x16) -> u8x16
+    ensures { result ≡ map (λ b. slice_index table (b % 16)) v }
+{
+    table.swizzle_dyn(v & u8x16::splat(15))
+}
+
+// What a table has for the high half of each byte.
+#[inline(always)]
+pub(crate) fn by_high_half(table: u8x16, v: u8x16) -> u8x16
+    ensures { result ≡ map (λ b. slice_index table (b / 16)) v }
+{
+    table.swizzle_dyn(v >> u8x16::splat(4))
+}
 
 /// Two tables of 16 entries, `low` for bytes below 128 and `high` for the others. A byte's low half says which entry is
 /// its, and its high half which bit of that entry is set where the byte is in the set.
@@ -18,7 +33,7 @@ pub(crate) struct ByteSet {
 }
 
 impl ByteSet {
-    ghost use Rattle.ptflow.specs.Workings.ByteSets.{IsSetOf, holds};
+    ghost use Rattle.ptflow.specs.Workings.ByteSets.{IsSetOf, holds, mask_of};
 
     // The bytes whose flag is true.
     pub(crate) fn of(flags: &[bool; 256]) -> ByteSet
@@ -45,13 +60,11 @@ impl ByteSet {
     // Which bytes are in the set.
     #[inline(always)]
     pub(crate) fn test(self, v: u8x16) -> Mask<i8, 16>
-        ensures { map (top 7) result ≡ map (holds self) v }
+        ensures { result ≡ mask_of (holds self) v }
     {
-        let entry = v & u8x16::splat(15);
-        let half = v >> u8x16::splat(4);
         let is_low = v.simd_lt(u8x16::splat(128));
-        let row = is_low.select(self.low.swizzle_dyn(entry), self.high.swizzle_dyn(entry));
-        let bit = u8x16::from_array(BITS).swizzle_dyn(half);
+        let row = is_low.select(by_low_half(self.low, v), by_low_half(self.high, v));
+        let bit = by_high_half(u8x16::from_array(BITS), v);
         (row & bit).simd_eq(bit)
     }
 }

@@ -1,5 +1,5 @@
 -- Sets of bytes, as two tables of bits.
-use Rattle.std.specs.Prelude.{◌≡◌, ◌<◌, ℕ, ◌/◌, ◌%◌, ◌==◌, Bool, false, List, nat_lt, slice_index, slice_index_or, if◌then◌else◌}
+use Rattle.std.specs.Prelude.{◌≡◌, ◌<◌, ℕ, ◌/◌, ◌%◌, ◌==◌, Bool, false, List, nat_lt, map, slice_index, slice_index_or, if◌then◌else◌, ℤ, pos, negsuc}
 use Rattle.std.specs.Int.{bit_at}
 use Rattle.ptflow.specs.declared.sets.ByteSet.{ByteSet}
 
@@ -14,3 +14,7 @@ holds set b = bit_at (slice_index (half_of set b) (b % 16)) (b / 16 % 8) == 1
 -- the set of the bytes whose flag is true
 abbrev pub IsSetOf : ByteSet → List Bool → Type 0
 IsSetOf set flags = (b : ℕ) → b < 256 → holds set b ≡ slice_index_or flags b false
+
+-- the mask of the bytes for which a test holds: all bits of their lanes are set, and none of the others'
+abbrev pub mask_of : (ℕ → Bool) → List ℕ → List ℤ
+mask_of test v = map (λ b. if test b then negsuc 0 else pos 0) v
