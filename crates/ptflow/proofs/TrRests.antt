@@ -1,12 +1,11 @@
 -- What `tr` writes of the rest of a text. A byte stays or goes by the byte that was written last alone, so that byte is
 -- all that is carried from block to block, and within a block from byte to byte.
-use Rattle.std.proofs.Common.{◌≡◌, ℕ, ◌+◌, ◌-◌, ◌<◌, ◌≤◌, ◌==◌, ◌&&◌, ◌||◌, not, eqb, Bool, true, false, cond, List, [], ◌∷◌, ◌++◌, Option, None, Some, map, length, take, set, get_or, suc, refl, sym, ◌∙◌, ap, arith, append_assoc}
+use Rattle.std.proofs.Common.{◌≡◌, ℕ, ◌-◌, ◌<◌, ◌==◌, ◌&&◌, not, eqb, Bool, true, false, cond, List, [], ◌∷◌, ◌++◌, Option, None, Some, map, length, refl, sym, ◌∙◌, ap, arith}
 use Rattle.std.specs.Prelude.{filter, zip, slice_get}
 use Rattle.std.specs.List.{last_or}
 use Rattle.std.specs.Option.{option_eq, option_or}
-use mir.Val.{bool_byte}
 use Rattle.std.proofs.lemmas.Bool.{eqb-true}
-use Rattle.std.proofs.lemmas.List.{append-nil, map-append, take-set, take_more_set}
+use Rattle.std.proofs.lemmas.List.{append-nil, map-append}
 use Rattle.std.proofs.lemmas.List.Elements.{filter-append}
 use Rattle.ptlines.specs.Inputs.{Begins}
 use Rattle.ptlangs.specs.TrTables.{Tables, deletes, image, squeezes}
@@ -87,6 +86,10 @@ module _ (t : Tables) where
   pub block_on : (last after : Option ℕ) (block written rest : List ℕ) → written ≡ tr_rest t last block → after ≡ option_or (slice_get written (length written - 1)) last → tr_rest t last (block ++ rest) ≡ written ++ tr_rest t after rest
   block_on last after block written rest made end = front_on last block rest ∙ (λ i. sym made i ++ tr_rest t (sym (end ∙ last_is last written ∙ ap (last_or last) made) i) rest)
 
+  -- what is written of a block is squeezed after it was translated, and that after bytes of it were deleted
+  pub passes_make : (last : Option ℕ) (block kept mapped written : List ℕ) → kept ≡ filter (λ b. not (deletes t b)) block → mapped ≡ map (image t) kept → written ≡ squeeze_from (squeezes t) last mapped → written ≡ tr_rest t last block
+  passes_make last block kept mapped written k m w = w ∙ ap (squeeze_from (squeezes t) last) (m ∙ ap (map (image t)) k)
+
   pub block_begins : (last : Option ℕ) (block written rest : List ℕ) → written ≡ tr_rest t last block → Begins written (tr_rest t last (block ++ rest))
   block_begins last block written rest made = record { rest = tr_rest t (last_or last (tr_rest t last block)) rest; is = front_on last block rest ∙ ap (λ (l : List ℕ). l ++ tr_rest t (last_or last (tr_rest t last block)) rest) (sym made) }
 
@@ -117,7 +120,3 @@ pub filter_all : (test : ℕ → Bool) → ((b : ℕ) → test b ≡ false) → 
 filter_all test none [] = refl
 filter_all test none (b ∷ bytes) =
     ap (λ (t : Bool). cond (not t) (b ∷ filter (λ b. not (test b)) bytes) (filter (λ b. not (test b)) bytes)) (none b) ∙ ap (λ (l : List ℕ). b ∷ l) (filter_all test none bytes)
-
-pub map_bytes : (f g : ℕ → ℕ) → ((b : ℕ) → b < 256 → f b ≡ g b) → (bytes : List ℕ) → ((k : ℕ) → get_or bytes k 0 < 256) → map f bytes ≡ map g bytes
-map_bytes f g same [] small = refl
-map_bytes f g same (b ∷ bytes) small = λ i. same b (small 0) i ∷ map_bytes f g same bytes (λ k. small (suc k)) i

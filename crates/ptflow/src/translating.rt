@@ -128,9 +128,9 @@ impl<'a> BlockTool for Translator<'a> {
     fn push_block<W: Sink>(&mut self, block: &[u8], out: &mut Out<W>) -> Result<(), WriteFault> {
         let kept = self.by.kept(block, &mut self.kept);
         let mapped = self.by.mapped(kept, &mut self.mapped);
-        let squeezed = self.by.squeezed(self.last, mapped, &mut self.squeezed);
-        out.push(squeezed)?;
-        self.last = squeezed.last().copied().or(self.last);
+        let written = self.by.squeezed(self.last, mapped, &mut self.squeezed);
+        out.push(written)?;
+        self.last = written.last().copied().or(self.last);
         Ok(())
     }
 
