@@ -1,15 +1,14 @@
 -- Items that are chosen by flags, and lanes that are put in front by the places of their flags.
-use Rattle.std.proofs.Common.{⊎_elim, ◌≡◌, ℕ, zero, suc, ◌+◌, ◌*◌, ◌^◌, ◌/◌, ◌%◌, ◌<◌, ◌≤◌, Bool, true, false, cond, List, [], ◌∷◌, ◌++◌, map, length, take, drop, set, get_or, length-set, length-drop, drop-cons, append_assoc, add-one, subst, refl, sym, ◌∙◌, ap, arith, w8}
+use Rattle.std.proofs.Common.{◌≡◌, ℕ, zero, suc, ◌+◌, ◌*◌, ◌^◌, ◌/◌, ◌%◌, ◌<◌, ◌≤◌, Bool, true, false, cond, List, [], ◌∷◌, ◌++◌, map, length, take, drop, set, get_or, length-set, length-drop, drop-cons, append_assoc, add-one, subst, refl, sym, ◌∙◌, ap, arith, w8}
 use Rattle.std.specs.Prelude.{All, bit_and, nat_eq, nat_le, slice_index_or, filter, count_ones}
 use Rattle.std.specs.List.{range_with_len}
 use Rattle.std.specs.Simd.Lanes.{mask_l, put_chunk, chunk, pick_l, Each1}
 use Rattle.std.proofs.lemmas.Simd.{take_more_put_chunk, bit_mask_l, mask_l-lt, Each1-from_get_or, swz_l, ones-mask_l_cons, pick_l-range_with_len}
-use Rattle.std.proofs.lemmas.List.{take-map, take-take, take-set, take_more, take_more_set, take_all, take-append-le, drop-append-le, append-nil, get_or-set_other, length-take-le}
+use Rattle.std.proofs.lemmas.List.{take-map, take-take, take-set, take_more, take_more_set, take_all, take-append-le, drop-append-le, append-nil, length-take-le}
 use Rattle.std.proofs.lemmas.List.Elements.{All-set}
 use Rattle.std.proofs.lemmas.List.FromFn.{length-range_with_len, get_or-range_with_len}
 use Rattle.std.proofs.Math.Seq.{take-append-add}
-use Rattle.std.proofs.lemmas.Grind.{and_numeral, get_or-set_at}
-use Rattle.std.proofs.lemmas.Bool.{cases_order}
+use Rattle.std.proofs.lemmas.Grind.{and_numeral}
 use Rattle.std.proofs.lemmas.Bool.Decides.{nat_tests}
 use Rattle.std.proofs.Math.Nat.{pow-succ', mul_assoc}
 use Rattle.ptflow.specs.Workings.Packings.{chosen_by, places_of, IsRow, IsPacking}
@@ -171,15 +170,6 @@ row_whole mask count row flags long masked begun = record { places = places; lon
 
     places : take (length (places_of flags)) row ≡ places_of flags
     places = ap (λ (n : ℕ). take n row) count_is ∙ all
-
--- one row more
-pub row_written : (P : List ℕ → Type 0) (rows : List (List ℕ)) (at mask : ℕ) (row : List ℕ) → at < length rows → mask < at + 1
-    → (mask < at → P (get_or rows mask [])) → (mask ≡ at → P row) → P (get_or (set rows at row) mask [])
-row_written P rows at mask row room low before here =
-    ⊎_elim
-    (λ is. subst P (sym (get_or-set_at rows at mask row [] is room)) (here is))
-    (λ apart. let less : mask < at = ⊎_elim (λ less. less) (λ more. omega (arith, more, low)) apart in subst P (sym (get_or-set_other rows at mask row [] (omega (arith, less)))) (before less))
-    (cases_order mask at)
 
 -- ---- the halves of a mask and of lanes
 

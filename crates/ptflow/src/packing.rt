@@ -4,6 +4,7 @@ ghost use Rattle.std.specs.Prelude.{◌≡◌, ◌≤◌, ◌+◌, ◌++◌, ℕ
 ghost use Rattle.std.specs.Simd.Lanes.{mask_l};
 ghost use Rattle.ptflow.specs.Workings.Packings.{IsPacking, IsRow, chosen_by};
 
+use std::array;
 use std::simd::prelude::*;
 
 // For each mask of eight flags the places of those that are true, in order.
@@ -30,11 +31,9 @@ impl Shuffles {
     pub fn new() -> Shuffles
         ensures { IsPacking result }
     {
-        let mut rows = [[0; 16]; 256];
-        for mask in 0..256 {
-            rows[mask] = row_of(mask);
+        Shuffles {
+            rows: array::from_fn(row_of),
         }
-        Shuffles { rows }
     }
 }
 
