@@ -33,3 +33,4 @@ pub mod UniqKeys
 pub mod UniqPasses
 pub mod UniqRows
 pub mod ByteSetLemmas
+pub mod KeptBytes

@@ -6,6 +6,7 @@ mod bytes;
 mod cutting;
 mod faults;
 mod fields;
+mod keeping;
 mod keys;
 mod lanes;
 mod packing;
