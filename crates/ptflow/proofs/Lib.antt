@@ -34,3 +34,4 @@ pub mod UniqKeys
 pub mod UniqPasses
 pub mod UniqRows
 pub mod ByteSetLemmas
+pub mod KeptBytes

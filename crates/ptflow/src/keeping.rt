@@ -22,7 +22,8 @@ fn keep_most(set: ByteSet, shuffles: &Shuffles, from: &[u8], into: &mut [u8; 822
     let mut count = 0;
     while from.len() - at >= 16 {
         let bytes = u8x16::from_slice(&from[at..]);
-        count = pack(shuffles, bytes, !set.test(bytes).to_bitmask(), into, count);
+        let keep = !set.test(bytes);
+        count = pack(shuffles, bytes, keep.to_bitmask(), into, count);
         at += 16;
     }
     (at, count)

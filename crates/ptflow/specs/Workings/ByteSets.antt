@@ -1,5 +1,5 @@
 -- Sets of bytes, as two tables of bits.
-use Rattle.std.specs.Prelude.{◌≡◌, ◌<◌, ℕ, ◌/◌, ◌%◌, ◌==◌, Bool, false, List, nat_lt, map, slice_index, slice_index_or, if◌then◌else◌, ℤ, pos, negsuc}
+use Rattle.std.specs.Prelude.{◌≡◌, ◌<◌, ◌≤◌, ℕ, ◌/◌, ◌%◌, ◌==◌, Bool, false, List, nat_lt, length, map, filter, take, slice_index, slice_index_or, if◌then◌else◌, ℤ, pos, negsuc}
 use Rattle.std.specs.Int.{bit_at}
 use Rattle.ptflow.specs.declared.sets.ByteSet.{ByteSet}
 
@@ -22,3 +22,10 @@ IsSetOf set flags = (b : ℕ) → b < 256 → holds set b ≡ slice_index_or fla
 -- the mask of the bytes for which a test holds: all bits of their lanes are set, and none of the others'
 abbrev pub mask_of : (ℕ → Bool) → List ℕ → List ℤ
 mask_of test v = map (λ b. if test b then negsuc 0 else pos 0) v
+
+-- of the first bytes of a text those for which a test holds stand in front, and what stands behind them is open
+pub record Keeps (test : ℕ → Bool) (from : List ℕ) (at : ℕ) (into : List ℕ) (count : ℕ) : Type 0 where
+  pub within : at ≤ length from
+  pub few : count ≤ at
+  pub room : length into ≡ 8224
+  pub kept : take count into ≡ filter test (take at from)
