@@ -1,17 +1,18 @@
 -- What lanes say of a set of bytes.
-use Rattle.std.proofs.Common.{◌≡◌, ℕ, suc, ◌+◌, ◌*◌, ◌/◌, ◌%◌, ◌<◌, ◌≤◌, ◌^◌, ◌&&◌, ◌||◌, Bool, true, false, List, [], ◌∷◌, length, map, cond, leb, ltb, eqb, zero, get_or, replicate, negsuc, pos, bit_and, refl, sym, ap, subst, ◌∙◌, arith, w8, Fits}
+use Rattle.std.proofs.Common.{◌≡◌, ℕ, suc, ◌+◌, ◌*◌, ◌/◌, ◌%◌, ◌<◌, ◌≤◌, ◌^◌, ◌&&◌, ◌||◌, Bool, true, false, List, [], ◌∷◌, length, map, cond, leb, ltb, eqb, zero, inl, inr, ◌≢◌, ⊎_elim, get_or, get_or-take, get_or-drop, take, drop, ◌-◌, set, bit_or, replicate, negsuc, pos, bit_and, refl, sym, ap, subst, ◌∙◌, arith, w8, Fits}
 use Rattle.std.specs.Simd.Lanes.{top, zip2, sel_l, Each1}
-use Rattle.std.specs.Int.{cast_unsigned, cast_signed, bit_at}
+use Rattle.std.specs.Int.{cast_unsigned, cast_signed, bit_at, from_bool}
 use Rattle.std.proofs.lemmas.Simd.{swz_l, SwzOk, SwzOk-from_below, zip2_splat, zip2_of_maps, map-map}
 use Rattle.std.proofs.lemmas.Nat.{and_mask}
-use Rattle.std.proofs.lemmas.Nat.Bits.{and_pow, bit_at-lt}
-use Rattle.std.proofs.lemmas.Bool.{lt-leb}
+use Rattle.std.proofs.lemmas.Nat.Bits.{and_pow, bit_at-lt, bit_at_set_same, bit_at_set_other}
+use Rattle.std.proofs.lemmas.Bool.{lt-leb, lt-ltb, le-ltb, cases_eq, cases_lt, eq-eqb}
 use Rattle.std.proofs.lemmas.Bool.Decides.{nat_tests}
 use Rattle.std.proofs.lemmas.List.FromFn.{get_or-map-range_with_len}
 use Rattle.std.proofs.lemmas.Nat.{pow_pos}
-use Rattle.std.proofs.lemmas.List.{length-map}
+use Rattle.std.specs.Int.Bits.{or_zero_r}
+use Rattle.std.proofs.lemmas.List.{length-map, set-get_or, get_or-set_same, get_or-set_other}
 use Rattle.ptflow.specs.declared.sets.ByteSet.{ByteSet}
-use Rattle.ptflow.specs.Workings.ByteSets.{holds, mask_of}
+use Rattle.ptflow.specs.Workings.ByteSets.{marks, holds, IsTableOf, IsSetOf, mask_of}
 use Rattle.ptflow.proofs.LaneLemmas.{sel_maps, mask_right}
 
 -- ---- what `select`, `&` and `to_bitmask` read of a mask
@@ -124,3 +125,97 @@ tested set v low high bit long fit el eh eb =
     ap (map (cast_signed w8)) lanes
     ∙ map-map (cast_signed w8) (λ b. cond (eqb (bit_and (row_at b) (bit_at_byte b)) (bit_at_byte b)) 255 0) v
     ∙ bytes_same _ _ (byte_tested set) v fit
+
+-- ---- a table that is filled flag by flag
+
+-- the bit of a byte is set if x is 1, and nothing if x is 0
+abbrev pub filled : List ℕ → ℕ → ℕ → List ℕ
+filled table n x = set table (n % 16) (bit_or (get_or table (n % 16) 0) (x * 2 ^ (n / 16) % 256))
+
+module _ (table : List ℕ) (n : ℕ) (long : length table ≡ 16) (within : n < 128) where
+  unset : filled table n 0 ≡ table
+  unset =
+      let nothing : 0 * 2 ^ (n / 16) % 256 ≡ 0 = omega arith in
+      ap (λ m. set table (n % 16) (bit_or (get_or table (n % 16) 0) m)) nothing
+      ∙ ap (set table (n % 16)) (or_zero_r (get_or table (n % 16) 0))
+      ∙ set-get_or table (n % 16) 0
+
+  same_bit : n / 16 % 8 ≡ n / 16
+  same_bit = omega arith
+
+  set_here : marks (filled table n 1) n ≡ true
+  set_here =
+      let old = get_or table (n % 16) 0 in
+      let put = bit_or old (1 * 2 ^ (n / 16) % 256) in
+      ap (λ m. eqb (bit_at m (n / 16 % 8)) 1) (get_or-set_same table (n % 16) put 0 (omega (arith, long)))
+      ∙ ap (λ k. eqb (bit_at put k) 1) same_bit
+      ∙ ap (λ m. eqb m 1) (bit_at_set_same w8 old (n / 16) (omega arith))
+
+  set_there : (b : ℕ) → b < 128 → b ≢ n → marks (filled table n 1) b ≡ marks table b
+  set_there b byte other = ⊎_elim in_row elsewhere (cases_eq (b % 16) (n % 16))
+    where
+      old : ℕ
+      old = get_or table (n % 16) 0
+      put : ℕ
+      put = bit_or old (1 * 2 ^ (n / 16) % 256)
+      in_row : b % 16 ≡ n % 16 → marks (filled table n 1) b ≡ marks table b
+      in_row row =
+          ap (λ j. eqb (bit_at (get_or (filled table n 1) j 0) (b / 16 % 8)) 1) row
+          ∙ ap (λ m. eqb (bit_at m (b / 16 % 8)) 1) (get_or-set_same table (n % 16) put 0 (omega (arith, long)))
+          ∙ ap (λ m. eqb m 1) (bit_at_set_other w8 old (n / 16) (omega arith) (b / 16 % 8) (λ same. other (omega (arith, row, same))))
+          ∙ ap (λ j. eqb (bit_at (get_or table j 0) (b / 16 % 8)) 1) (sym row)
+      elsewhere : (b % 16 ≡ n % 16 → ⊥) → marks (filled table n 1) b ≡ marks table b
+      elsewhere row = ap (λ m. eqb (bit_at m (b / 16 % 8)) 1) (get_or-set_other table (n % 16) (b % 16) put 0 row)
+
+  filled_is : (flag : Bool) (b : ℕ) → b < 128 → marks (filled table n (from_bool flag)) b ≡ cond (eqb b n) (flag || marks table n) (marks table b)
+  filled_is flag b byte = ⊎_elim here there (cases_eq b n)
+    where
+      here : b ≡ n → marks (filled table n (from_bool flag)) b ≡ cond (eqb b n) (flag || marks table n) (marks table b)
+      here same = by_flag flag
+        where
+          chosen : (f : Bool) → marks (filled table n (from_bool f)) b ≡ (f || marks table n) → marks (filled table n (from_bool f)) b ≡ cond (eqb b n) (f || marks table n) (marks table b)
+          chosen f is = is ∙ ap (λ t. cond t (f || marks table n) (marks table b)) (sym (eq-eqb b n same))
+          by_flag : (f : Bool) → marks (filled table n (from_bool f)) b ≡ cond (eqb b n) (f || marks table n) (marks table b)
+          by_flag true = chosen true (ap (marks (filled table n 1)) same ∙ set_here)
+          by_flag false = chosen false (ap (λ t. marks t b) unset ∙ ap (marks table) same)
+      there : (b ≡ n → ⊥) → marks (filled table n (from_bool flag)) b ≡ cond (eqb b n) (flag || marks table n) (marks table b)
+      there other = by_flag flag ∙ ap (λ t. cond t (flag || marks table n) (marks table b)) not_same
+        where
+          not_same : false ≡ eqb b n
+          not_same = grind (arith, nat_tests)
+          by_flag : (f : Bool) → marks (filled table n (from_bool f)) b ≡ marks table b
+          by_flag true = set_there b byte other
+          by_flag false = ap (λ t. marks t b) unset
+
+-- the flags of one byte more are marked
+pub one_more_flag : (table : List ℕ) (flags : List Bool) (n x : ℕ) → length table ≡ 16 → n < 128 → x ≡ from_bool (get_or flags n false)
+    → ((b : ℕ) → b < 128 → marks table b ≡ (ltb b n && get_or flags b false))
+    → (b : ℕ) → b < 128 → marks (filled table n x) b ≡ (ltb b (n + 1) && get_or flags b false)
+one_more_flag table flags n x long within is marked b byte =
+    ap (λ x. marks (filled table n x) b) is
+    ∙ filled_is table n long within (get_or flags n false) b byte
+    ∙ ⊎_elim here there (cases_eq b n)
+  where
+    here : b ≡ n → cond (eqb b n) (get_or flags n false || marks table n) (marks table b) ≡ (ltb b (n + 1) && get_or flags b false)
+    here same = let before = marked n within in grind (arith, nat_tests, before, ap (λ m. get_or flags m false) same)
+    there : (b ≡ n → ⊥) → cond (eqb b n) (get_or flags n false || marks table n) (marks table b) ≡ (ltb b (n + 1) && get_or flags b false)
+    there other = let before = marked b byte in grind (arith, nat_tests, before)
+
+-- ---- a set of two tables
+
+-- its tables hold the flags of the first 128 bytes, and of the others
+pub set_of_halves : (set : ByteSet) (flags : List Bool) → IsTableOf set.low (take 128 flags) → IsTableOf set.high (drop 128 flags) → IsSetOf set flags
+set_of_halves set flags low high b byte = ⊎_elim below above (cases_lt b 128)
+  where
+    below : b < 128 → holds set b ≡ get_or flags b false
+    below less = ap (λ t. marks (cond t set.low set.high) b) (lt-ltb b 128 less) ∙ low b less ∙ get_or-take 128 flags b false less
+    above : 128 ≤ b → holds set b ≡ get_or flags b false
+    above more =
+        let entry : b % 16 ≡ (b - 128) % 16 = omega arith in
+        let bit : b / 16 % 8 ≡ (b - 128) / 16 % 8 = omega arith in
+        let place : 128 + (b - 128) ≡ b = omega arith in
+        ap (λ t. marks (cond t set.low set.high) b) (le-ltb b 128 more)
+        ∙ (λ i. eqb (bit_at (get_or set.high (entry i) 0) (bit i)) 1)
+        ∙ high (b - 128) (omega arith)
+        ∙ get_or-drop 128 flags (b - 128) false
+        ∙ ap (λ k. get_or flags k false) place

@@ -3,6 +3,7 @@ pub mod BlockRuns
 pub mod ByteRests
 pub mod CellSlots
 pub mod Chosen
+pub mod ChosenLanes
 pub mod Continuations
 pub mod CutRows
 pub mod FieldLines

@@ -14,3 +14,4 @@ pub mod SerialRests
 pub mod TakenLines
 pub mod RowTurns
 pub mod ByteSets
+pub mod Packings

@@ -1,6 +1,7 @@
 //! Sets of bytes, 16 of which are looked up at once.
 
-ghost use Rattle.std.specs.Prelude.{◌≡◌, ◌/◌, ◌%◌, map, slice_index};
+ghost use Rattle.std.specs.Prelude.{◌≡◌, ◌/◌, ◌%◌, length, map, slice_index};
+ghost use Rattle.ptflow.specs.Workings.ByteSets.{IsTableOf};
 
 use std::simd::Mask;
 use std::simd::prelude::*;
@@ -24,8 +25,20 @@ pub(crate) fn by_high_half(table: u8x16, v: u8x16) -> u8x16
     table.swizzle_dyn(v >> u8x16::splat(4))
 }
 
-/// Two tables of 16 entries, `low` for bytes below 128 and `high` for the others. A byte's low half says which entry is
-/// its, and its high half which bit of that entry is set where the byte is in the set.
+// The table of the bytes whose flag is true.
+fn table_of(flags: &[bool]) -> u8x16
+    requires { length flags.now ≡ 128 }
+    ensures { IsTableOf result flags.now }
+{
+    let mut table = [0; 16];
+    for (byte, flag) in flags.iter().enumerate() {
+        table[byte % 16] |= u8::from(*flag) << (byte / 16);
+    }
+    u8x16::from_array(table)
+}
+
+/// A set of bytes: a table of those below 128, and one of the others. A byte's low half says which of the 16 entries of
+/// its table is its, and its high half which bit of that entry is set where the byte is in the set.
 #[derive(Clone, Copy)]
 pub(crate) struct ByteSet {
     pub low: u8x16,
@@ -39,21 +52,10 @@ impl ByteSet {
     pub(crate) fn of(flags: &[bool; 256]) -> ByteSet
         ensures { IsSetOf result flags.now }
     {
-        let mut low = [0; 16];
-        let mut high = [0; 16];
-        for byte in 0..128u8 {
-            let entry = usize::from(byte % 16);
-            let bit = 1 << (byte / 16);
-            if flags[usize::from(byte)] {
-                low[entry] |= bit;
-            }
-            if flags[usize::from(byte + 128)] {
-                high[entry] |= bit;
-            }
-        }
+        let (low, high) = flags.split_at(128);
         ByteSet {
-            low: u8x16::from_array(low),
-            high: u8x16::from_array(high),
+            low: table_of(low),
+            high: table_of(high),
         }
     }
 

@@ -3,13 +3,17 @@ use Rattle.std.specs.Prelude.{◌≡◌, ◌<◌, ℕ, ◌/◌, ◌%◌, ◌==�
 use Rattle.std.specs.Int.{bit_at}
 use Rattle.ptflow.specs.declared.sets.ByteSet.{ByteSet}
 
--- the table of a byte: `low` for those below 128, and `high` for the others
-abbrev pub half_of : ByteSet → ℕ → List ℕ
-half_of set b = if nat_lt b 128 then set.low else set.high
+-- a table of 128 bytes has a byte if of the entry that its low half names the bit is set that its high half names
+abbrev pub marks : List ℕ → ℕ → Bool
+marks table b = bit_at (slice_index table (b % 16)) (b / 16 % 8) == 1
 
--- a byte is in the set if of its entry, which its low half names, the bit is set that its high half names
+-- a byte is in the set if its table has it: `low` is that of the bytes below 128, and `high` that of the others
 abbrev pub holds : ByteSet → ℕ → Bool
-holds set b = bit_at (slice_index (half_of set b) (b % 16)) (b / 16 % 8) == 1
+holds set b = marks (if nat_lt b 128 then set.low else set.high) b
+
+-- the table of the bytes whose flag is true
+abbrev pub IsTableOf : List ℕ → List Bool → Type 0
+IsTableOf table flags = (b : ℕ) → b < 128 → marks table b ≡ slice_index_or flags b false
 
 -- the set of the bytes whose flag is true
 abbrev pub IsSetOf : ByteSet → List Bool → Type 0
