@@ -5,6 +5,7 @@ pub mod CutRests
 pub mod FieldPlaces
 pub mod TrRests
 pub mod Lanes
+pub mod Mappings
 pub mod Rowings
 pub mod OpenRuns
 pub mod UniqWords

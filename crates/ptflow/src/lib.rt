@@ -8,6 +8,7 @@ mod faults;
 mod fields;
 mod keys;
 mod lanes;
+mod mapping;
 mod packing;
 mod pasting;
 mod repeats;
