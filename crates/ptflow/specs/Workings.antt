@@ -6,6 +6,7 @@ pub mod FieldPlaces
 pub mod TrRests
 pub mod Lanes
 pub mod Mappings
+pub mod Rowings
 pub mod OpenRuns
 pub mod UniqWords
 pub mod BlockRuns

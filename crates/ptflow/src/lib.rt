@@ -13,6 +13,7 @@ mod mapping;
 mod packing;
 mod pasting;
 mod repeats;
+mod rows;
 mod runs;
 mod serial;
 mod sets;
