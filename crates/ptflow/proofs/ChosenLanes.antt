@@ -1,11 +1,12 @@
 -- Items that are chosen by flags, and lanes that are put in front by the places of their flags.
 use Rattle.std.proofs.Common.{◌≡◌, ℕ, zero, suc, ◌+◌, ◌*◌, ◌^◌, ◌/◌, ◌%◌, ◌<◌, ◌≤◌, Bool, true, false, cond, List, [], ◌∷◌, ◌++◌, map, length, take, drop, set, get_or, length-set, length-drop, drop-cons, append_assoc, add-one, subst, refl, sym, ◌∙◌, ap, arith, w8}
-use Rattle.std.specs.Prelude.{All, bit_and, nat_eq, nat_le, slice_index_or, filter, count_ones}
+use Rattle.std.specs.Prelude.{All, bit_and, nat_eq, nat_le, slice_index_or, filter, count_by, count_ones}
 use Rattle.std.specs.List.{range_with_len}
 use Rattle.std.specs.Simd.Lanes.{mask_l, put_chunk, chunk, pick_l, Each1}
 use Rattle.std.proofs.lemmas.Simd.{take_more_put_chunk, bit_mask_l, mask_l-lt, Each1-from_get_or, swz_l, ones-mask_l_cons, pick_l-range_with_len}
 use Rattle.std.proofs.lemmas.List.{take-map, take-take, take-set, take_more, take_more_set, take_all, take-append-le, drop-append-le, append-nil, length-take-le}
 use Rattle.std.proofs.lemmas.List.Elements.{All-set}
+use Rattle.std.proofs.lemmas.List.Sums.{length-filter}
 use Rattle.std.proofs.lemmas.List.FromFn.{length-range_with_len, get_or-range_with_len}
 use Rattle.std.proofs.Math.Seq.{take-append-add}
 use Rattle.std.proofs.lemmas.Grind.{and_numeral}
@@ -20,6 +21,9 @@ use Rattle.ptflow.specs.declared.packing.Shuffles.{Shuffles}
 pub chosen_by_test : {X : Type 0} (p : X → Bool) (xs : List X) → chosen_by (map p xs) xs ≡ filter p xs
 chosen_by_test p [] = refl
 chosen_by_test {X} p (x ∷ xs) = ap (λ (kept : List X). cond (p x) (x ∷ kept) kept) (chosen_by_test p xs)
+
+pub length-chosen_by_test : {X : Type 0} (p : X → Bool) (xs : List X) → length (chosen_by (map p xs) xs) ≡ count_by p xs
+length-chosen_by_test p xs = ap length (chosen_by_test p xs) ∙ length-filter p xs
 
 -- as many as bits of the mask are set
 pub length-chosen_by : {X : Type 0} (flags : List Bool) (xs : List X) → length flags ≤ length xs → length (chosen_by flags xs) ≡ count_ones (mask_l flags)
@@ -50,7 +54,7 @@ chosen_by_parts (false ∷ front) back (x ∷ xs) = chosen_by_parts front back x
 
 -- ---- the mask of flags
 
-pub mask_of_parts : (front back : List Bool) → mask_l (front ++ back) ≡ mask_l front + 2 ^ length front * mask_l back
+mask_of_parts : (front back : List Bool) → mask_l (front ++ back) ≡ mask_l front + 2 ^ length front * mask_l back
 mask_of_parts [] back = omega arith
 mask_of_parts (f ∷ front) back = omega (arith, mask_of_parts front back, ap (λ (p : ℕ). p * mask_l back) (pow-succ' 2 (length front)), mul_assoc 2 (2 ^ length front) (mask_l back))
 
@@ -59,14 +63,14 @@ abbrev pub flags_of : ℕ → ℕ → List Bool
 flags_of zero m = []
 flags_of (suc n) m = nat_eq (m % 2) 1 ∷ flags_of n (m / 2)
 
-pub length-flags_of : (n m : ℕ) → length (flags_of n m) ≡ n
+length-flags_of : (n m : ℕ) → length (flags_of n m) ≡ n
 length-flags_of zero m = refl
 length-flags_of (suc n) m = ap suc (length-flags_of n (m / 2))
 
 lowest : (m : ℕ) → cond (nat_eq (m % 2) 1) 1 0 ≡ m % 2
 lowest m = grind (arith, nat_tests)
 
-pub mask_of_flags : (n m : ℕ) → m < 2 ^ n → mask_l (flags_of n m) ≡ m
+mask_of_flags : (n m : ℕ) → m < 2 ^ n → mask_l (flags_of n m) ≡ m
 mask_of_flags zero m low = omega (arith, low)
 mask_of_flags (suc n) m low = omega (arith, lowest m, mask_of_flags n (m / 2) (omega (arith, low, pow-succ' 2 n)))
 
