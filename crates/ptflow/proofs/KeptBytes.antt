@@ -1,9 +1,9 @@
 -- Bytes for which a test holds, put to the front.
-use Rattle.std.proofs.Common.{◌≡◌, ℕ, suc, ◌+◌, ◌<◌, ◌≤◌, ◌^◌, ◌%◌, Bool, true, false, not, cond, List, [], ◌∷◌, ◌++◌, length, take, drop, set, get_or, get_or-take, length-set, take_all, zero, ℤ, map, refl, sym, ap, ◌∙◌, arith, add-zero, w8, Fits, pos, negsuc}
+use Rattle.std.proofs.Common.{◌≡◌, ℕ, suc, ◌+◌, ◌<◌, ◌≤◌, ◌^◌, ◌%◌, Bool, true, false, not, cond, List, [], ◌∷◌, ◌++◌, length, take, set, get_or, length-set, take_all, zero, ℤ, map, refl, sym, ap, ◌∙◌, arith, add-zero, w8, Fits, pos, negsuc}
 use Rattle.std.specs.Prelude.{filter}
 use Rattle.std.specs.Int.{from_bool, cast_unsigned, bit_not}
 use Rattle.std.specs.Simd.Lanes.{mask_l, top, chunk}
-use Rattle.std.proofs.lemmas.Simd.{mask_l-mod, length-chunk, map-map}
+use Rattle.std.proofs.lemmas.Simd.{mask_l-mod}
 use Rattle.std.proofs.lemmas.List.{take_more_set, take-set, take_more, append-nil, length-map}
 use Rattle.std.proofs.lemmas.List.Elements.{filter-append}
 use Rattle.std.proofs.Math.Seq.{take-add}
@@ -53,12 +53,15 @@ module _ (test : ℕ → Bool) (from into : List ℕ) (at count : ℕ) (before :
     where
       b : ℕ
       b = get_or from at 0
+
       one_at_most : (t : Bool) → from_bool t ≤ 1
       one_at_most true = omega arith
       one_at_most false = omega arith
+
       told : (t : Bool) → test b ≡ t → take (count + from_bool t) (set into count b) ≡ take count into ++ cond t (b ∷ []) []
       told true is = take_more_set into count b (omega (arith, before.few, before.room, small))
       told false is = ap (λ n. take n (set into count b)) (add-zero count) ∙ take-set into count b ∙ sym (append-nil (take count into))
+
       by_test : (t : Bool) → test b ≡ t → take (count + from_bool t) (set into count b) ≡ filter test (take (at + 1) from)
       by_test t is =
           told t is

@@ -11,7 +11,12 @@ use std::simd::prelude::*;
 // Puts the bytes that are not in the set to the front of `into`, all but the last ones. Says how many were looked at, and
 // how many of them stay.
 #[inline(always)]
-fn keep_most(set: ByteSet, shuffles: &Shuffles, from: &[u8], into: &mut [u8; 8224]) -> (usize, usize)
+fn keep_most(
+    set: ByteSet,
+    shuffles: &Shuffles,
+    from: &[u8],
+    into: &mut [u8; 8224],
+) -> (usize, usize)
     requires shuffles { IsPacking shuffles.now }
     requires room { length from.now ≤ 8192 }
     ensures kept { take result.1 into.new ≡ filter (λ b. not (holds set b)) (take result.0 from.now) }

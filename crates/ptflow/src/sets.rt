@@ -37,8 +37,8 @@ fn table_of(flags: &[bool]) -> u8x16
     u8x16::from_array(table)
 }
 
-/// A set of bytes: a table of those below 128, and one of the others. A byte's low half says which of the 16 entries of
-/// its table is its, and its high half which bit of that entry is set where the byte is in the set.
+// A set of bytes: a table of those below 128, and one of the others. A byte's low half says which of the 16 entries of
+// its table is its, and its high half which bit of that entry is set where the byte is in the set.
 #[derive(Clone, Copy)]
 pub(crate) struct ByteSet {
     pub low: u8x16,

@@ -1,4 +1,4 @@
-use Rattle.std.proofs.Common.{ℕ, Bool, not, map, length, arith, ◌∙◌, ap}
+use Rattle.std.proofs.Common.{ℕ, Bool, not, map, arith, ◌∙◌}
 use Rattle.std.specs.Simd.Lanes.{chunk}
 use Rattle.std.proofs.lemmas.Simd.{length-chunk}
 use Rattle.std.proofs.lemmas.List.{length-map}

@@ -1,4 +1,4 @@
-use Rattle.std.proofs.Common.{ℕ, not, length, ◌-◌}
+use Rattle.std.proofs.Common.{not, length, ◌-◌}
 use Rattle.ptflow.specs.Workings.ByteSets.{Keeps, holds}
 use Rattle.ptflow.proofs.keeping.keep_most.Given as goal
 

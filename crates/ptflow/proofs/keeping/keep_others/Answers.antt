@@ -1,4 +1,4 @@
-use Rattle.std.proofs.Common.{◌≡◌, ℕ, ◌+◌, Bool, not, false, get_or, refl, ap, ◌∙◌, arith}
+use Rattle.std.proofs.Common.{ℕ, ◌+◌, Bool, not, false, get_or, refl, ap, ◌∙◌, arith}
 use Rattle.std.specs.Int.{from_bool}
 use Rattle.ptflow.specs.Workings.ByteSets.{holds}
 use Rattle.ptflow.proofs.KeptBytes.{keeps_same, keeps_byte, keeps_all}

@@ -1,4 +1,4 @@
-use Rattle.std.proofs.Common.{ℕ, not, false, length, get_or, ◌-◌}
+use Rattle.std.proofs.Common.{not, false, length, get_or, ◌-◌}
 use Rattle.ptflow.specs.Workings.ByteSets.{Keeps}
 use Rattle.ptflow.proofs.keeping.keep_others.Given as goal
 
