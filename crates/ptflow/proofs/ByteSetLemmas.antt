@@ -1,5 +1,5 @@
 -- What lanes say of a set of bytes.
-use Rattle.std.proofs.Common.{◌≡◌, ℕ, suc, ◌+◌, ◌*◌, ◌/◌, ◌%◌, ◌<◌, ◌≤◌, ◌^◌, ◌&&◌, ◌||◌, Bool, true, false, List, [], ◌∷◌, length, map, cond, leb, ltb, eqb, zero, inl, inr, ◌≢◌, ⊎_elim, get_or, get_or-take, get_or-drop, take, drop, ◌-◌, set, bit_or, replicate, negsuc, pos, bit_and, refl, sym, ap, subst, ◌∙◌, arith, w8, Fits}
+use Rattle.std.proofs.Common.{◌≡◌, ℕ, suc, ◌+◌, ◌*◌, ◌/◌, ◌%◌, ◌<◌, ◌≤◌, ◌^◌, ◌&&◌, ◌||◌, Bool, true, false, List, [], ◌∷◌, length, map, cond, leb, ltb, eqb, zero, ◌≢◌, ⊎_elim, get_or, get_or-take, get_or-drop, take, drop, ◌-◌, set, bit_or, replicate, negsuc, pos, bit_and, refl, sym, ap, subst, ◌∙◌, arith, w8, Fits}
 use Rattle.std.specs.Simd.Lanes.{top, zip2, sel_l, Each1}
 use Rattle.std.specs.Int.{cast_unsigned, cast_signed, bit_at, from_bool}
 use Rattle.std.proofs.lemmas.Simd.{swz_l, SwzOk, SwzOk-from_below, zip2_splat, zip2_of_maps, map-map}
@@ -100,7 +100,7 @@ as_mask false = refl
 
 byte_tested : (set : ByteSet) (b : ℕ) → b < 256
     → cast_signed w8 (cond (eqb (bit_and (cond (ltb b 128) (get_or set.low (b % 16) 0) (get_or set.high (b % 16) 0)) (get_or bits_in_turn (b / 16) 0)) (get_or bits_in_turn (b / 16) 0)) 255 0)
-        ≡ cond (holds set b) (negsuc 0) (pos 0)
+    ≡ cond (holds set b) (negsuc 0) (pos 0)
 byte_tested set b byte =
     let row = cond (ltb b 128) (get_or set.low (b % 16) 0) (get_or set.high (b % 16) 0) in
     ap (λ bit. cast_signed w8 (cond (eqb (bit_and row bit) bit) 255 0)) (bit_of (b / 16) (high_small b byte))
@@ -111,7 +111,7 @@ byte_tested set b byte =
 pub tested : (set : ByteSet) (v low high bit : List ℕ) → length v ≡ 16 → Each1 (Fits w8) v
     → low ≡ map (λ b. get_or set.low (b % 16) 0) v → high ≡ map (λ b. get_or set.high (b % 16) 0) v → bit ≡ map (λ b. get_or bits_in_turn (b / 16) 0) v
     → map (cast_signed w8) (zip2 (λ a b. cond (eqb a b) 255 0) (zip2 bit_and (sel_l (map (top 7) (zip2 (λ a b. cond (ltb a b) 255 0) v (replicate 16 128))) low high) bit) bit)
-        ≡ mask_of (holds set) v
+    ≡ mask_of (holds set) v
 tested set v low high bit long fit el eh eb =
     let row_at = λ (b : ℕ). cond (ltb b 128) (get_or set.low (b % 16) 0) (get_or set.high (b % 16) 0) in
     let bit_at_byte = λ (b : ℕ). get_or bits_in_turn (b / 16) 0 in
@@ -151,14 +151,17 @@ module _ (table : List ℕ) (n : ℕ) (long : length table ≡ 16) (within : n <
     where
       old : ℕ
       old = get_or table (n % 16) 0
+
       put : ℕ
       put = bit_or old (1 * 2 ^ (n / 16) % 256)
+
       in_row : b % 16 ≡ n % 16 → marks (filled table n 1) b ≡ marks table b
       in_row row =
           ap (λ j. eqb (bit_at (get_or (filled table n 1) j 0) (b / 16 % 8)) 1) row
           ∙ ap (λ m. eqb (bit_at m (b / 16 % 8)) 1) (get_or-set_same table (n % 16) put 0 (omega (arith, long)))
           ∙ ap (λ m. eqb m 1) (bit_at_set_other w8 old (n / 16) (omega arith) (b / 16 % 8) (λ same. other (omega (arith, row, same))))
           ∙ ap (λ j. eqb (bit_at (get_or table j 0) (b / 16 % 8)) 1) (sym row)
+
       elsewhere : (b % 16 ≡ n % 16 → ⊥) → marks (filled table n 1) b ≡ marks table b
       elsewhere row = ap (λ m. eqb (bit_at m (b / 16 % 8)) 1) (get_or-set_other table (n % 16) (b % 16) put 0 row)
 
@@ -170,14 +173,17 @@ module _ (table : List ℕ) (n : ℕ) (long : length table ≡ 16) (within : n <
         where
           chosen : (f : Bool) → marks (filled table n (from_bool f)) b ≡ (f || marks table n) → marks (filled table n (from_bool f)) b ≡ cond (eqb b n) (f || marks table n) (marks table b)
           chosen f is = is ∙ ap (λ t. cond t (f || marks table n) (marks table b)) (sym (eq-eqb b n same))
+
           by_flag : (f : Bool) → marks (filled table n (from_bool f)) b ≡ cond (eqb b n) (f || marks table n) (marks table b)
           by_flag true = chosen true (ap (marks (filled table n 1)) same ∙ set_here)
           by_flag false = chosen false (ap (λ t. marks t b) unset ∙ ap (marks table) same)
+
       there : (b ≡ n → ⊥) → marks (filled table n (from_bool flag)) b ≡ cond (eqb b n) (flag || marks table n) (marks table b)
       there other = by_flag flag ∙ ap (λ t. cond t (flag || marks table n) (marks table b)) not_same
         where
           not_same : false ≡ eqb b n
           not_same = grind (arith, nat_tests)
+
           by_flag : (f : Bool) → marks (filled table n (from_bool f)) b ≡ marks table b
           by_flag true = set_there b byte other
           by_flag false = ap (λ t. marks t b) unset
@@ -193,6 +199,7 @@ one_more_flag table flags n x long within is marked b byte =
   where
     here : b ≡ n → cond (eqb b n) (get_or flags n false || marks table n) (marks table b) ≡ (ltb b (n + 1) && get_or flags b false)
     here same = let before = marked n within in grind (arith, nat_tests, before, ap (λ m. get_or flags m false) same)
+
     there : (b ≡ n → ⊥) → cond (eqb b n) (get_or flags n false || marks table n) (marks table b) ≡ (ltb b (n + 1) && get_or flags b false)
     there other = let before = marked b byte in grind (arith, nat_tests, before)
 
@@ -204,6 +211,7 @@ set_of_halves set flags low high b byte = ⊎_elim below above (cases_lt b 128)
   where
     below : b < 128 → holds set b ≡ get_or flags b false
     below less = ap (λ t. marks (cond t set.low set.high) b) (lt-ltb b 128 less) ∙ low b less ∙ get_or-take 128 flags b false less
+
     above : 128 ≤ b → holds set b ≡ get_or flags b false
     above more =
         let entry : b % 16 ≡ (b - 128) % 16 = omega arith in

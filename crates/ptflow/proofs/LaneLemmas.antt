@@ -1,6 +1,6 @@
 -- What lanes do, byte by byte.
-use Rattle.std.proofs.Common.{◌≡◌, ℕ, ◌+◌, ◌<◌, ◌≤◌, ◌%◌, Bool, true, false, List, [], ◌∷◌, ◌++◌, Option, map, take, drop, length, get_or, replicate, cond, refl, sym, ◌∙◌, ap, arith, w8, Fits}
-use Rattle.std.specs.Prelude.{nat_le, sum_by, slice_get, option_map, is_some}
+use Rattle.std.proofs.Common.{◌≡◌, ℕ, ◌+◌, ◌<◌, ◌≤◌, ◌%◌, Bool, false, List, [], ◌∷◌, ◌++◌, Option, map, take, drop, length, get_or, replicate, cond, refl, sym, ◌∙◌, ap, arith, w8, Fits}
+use Rattle.std.specs.Prelude.{sum_by, slice_get, option_map, is_some}
 use Rattle.std.specs.Simd.Lanes.{sel_l, zip2, top, Each1}
 use Rattle.std.proofs.Math.Seq.{take-add}
 use Rattle.std.proofs.lemmas.Bool.{false≢true}

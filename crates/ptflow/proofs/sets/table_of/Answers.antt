@@ -1,4 +1,4 @@
-use Rattle.std.proofs.Common.{length-set, ◌∙◌, arith}
+use Rattle.std.proofs.Common.{length-set, arith}
 use Rattle.ptflow.proofs.ByteSetLemmas.{one_more_flag}
 use Rattle.ptflow.proofs.sets.table_of.Goals as goal
 
