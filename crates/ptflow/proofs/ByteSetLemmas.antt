@@ -13,7 +13,7 @@ use Rattle.std.specs.Int.Bits.{or_zero_r}
 use Rattle.std.proofs.lemmas.List.{length-map, set-get_or, get_or-set_same, get_or-set_other}
 use Rattle.ptflow.specs.declared.sets.ByteSet.{ByteSet}
 use Rattle.ptflow.specs.Workings.ByteSets.{marks, holds, IsTableOf, IsSetOf, mask_of}
-use Rattle.ptflow.proofs.LaneLemmas.{sel_maps, mask_right}
+use Rattle.ptflow.proofs.LaneLemmas.{sel_maps, mask_right, bytes_same}
 
 -- ---- what `select`, `&` and `to_bitmask` read of a mask
 
@@ -34,11 +34,6 @@ tops_of_mask test (b ∷ v) = λ i. lane (test b) i ∷ tops_of_mask test v i
     lane false = refl
 
 -- ---- a table of 16 entries, looked up by a half of each byte
-
--- where what two functions say of a byte is the same, lists of bytes become the same
-pub bytes_same : {X : Type 0} (f g : ℕ → X) → ((b : ℕ) → b < 256 → f b ≡ g b) → (v : List ℕ) → Each1 (Fits w8) v → map f v ≡ map g v
-bytes_same f g same [] fit = refl
-bytes_same f g same (b ∷ v) fit = λ i. same b fit.0.fits i ∷ bytes_same f g same v fit.1 i
 
 module _ (half : ℕ → ℕ) (small : (b : ℕ) → b < 256 → half b < 16) where
   halves_small : (v : List ℕ) → Each1 (Fits w8) v → Each1 (λ j. j < 16) (map half v)

@@ -1,11 +1,11 @@
 -- What lanes do, byte by byte.
-use Rattle.std.proofs.Common.{◌≡◌, ℕ, ◌+◌, ◌<◌, ◌≤◌, ◌%◌, Bool, true, false, List, [], ◌∷◌, ◌++◌, Option, map, take, drop, length, get_or, replicate, cond, refl, sym, ◌∙◌, ap, arith, w8, Fits}
-use Rattle.std.specs.Prelude.{nat_le, sum_by, slice_get, option_map, is_some}
+use Rattle.std.proofs.Common.{◌≡◌, ℕ, ◌+◌, ◌<◌, ◌≤◌, ◌%◌, Bool, false, List, [], ◌∷◌, ◌++◌, Option, map, take, drop, length, get_or, replicate, cond, refl, sym, ◌∙◌, ap, arith, w8, Fits}
+use Rattle.std.specs.Prelude.{sum_by, slice_get, option_map, is_some}
 use Rattle.std.specs.Simd.Lanes.{sel_l, zip2, top, Each1}
 use Rattle.std.proofs.Math.Seq.{take-add}
 use Rattle.std.proofs.lemmas.Bool.{false≢true}
 use Rattle.std.proofs.lemmas.List.{map-append}
-use Rattle.std.proofs.lemmas.Simd.{tops_compared, zip2_splat, zip2_of_maps, splat_is_map, chunk-fits}
+use Rattle.std.proofs.lemmas.Simd.{tops_compared, zip2_splat, zip2_of_maps, splat_is_map, chunk-fits, Each1-from_get_or}
 use Rattle.ptlangs.specs.declared.shifts.Stretch.{Stretch}
 use Rattle.ptlangs.specs.TrShifts.{added, shifted}
 use Rattle.ptflow.specs.Workings.Lanes.{IsMovedTo, told_adds}
@@ -50,6 +50,9 @@ moved_more becomes at next n from to new is begun more =
 pub bytes_same : {X : Type 0} (f g : ℕ → X) → ((b : ℕ) → b < 256 → f b ≡ g b) → (v : List ℕ) → Each1 (Fits w8) v → map f v ≡ map g v
 bytes_same f g same [] fit = refl
 bytes_same f g same (b ∷ v) fit = λ i. same b fit.0.fits i ∷ bytes_same f g same v fit.1 i
+
+pub bytes_fit : (v : List ℕ) → ((k : ℕ) → Fits w8 (get_or v k 0)) → Each1 (Fits w8) v
+bytes_fit v fit = Each1-from_get_or (Fits w8) v 0 (λ k _. fit k)
 
 pub moved_same : (f g : ℕ → ℕ) (at : ℕ) (from to : List ℕ) → ((b : ℕ) → b < 256 → f b ≡ g b) → ((k : ℕ) → Fits w8 (get_or from k 0)) → IsMovedTo at f from to → IsMovedTo at g from to
 moved_same f g at from to same fit moved = (moved.0, moved.1, moved.2 ∙ bytes_same f g same (take at from) (chunk-fits w8 0 at from fit))

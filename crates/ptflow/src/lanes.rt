@@ -78,7 +78,9 @@ impl Reach {
         ensures { result ≡ map (reach_adds self) v }
     {
         let behind = v - u8x16::splat(self.first);
-        behind.simd_le(u8x16::splat(self.width)).select(u8x16::splat(self.by), u8x16::splat(0))
+        behind
+            .simd_le(u8x16::splat(self.width))
+            .select(u8x16::splat(self.by), u8x16::splat(0))
     }
 }
 

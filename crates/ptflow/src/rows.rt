@@ -36,7 +36,8 @@ impl Row {
     fn additions(&self, v: u8x16) -> u8x16
         ensures { result ≡ map (row_adds self.now) v }
     {
-        by_high_half(u8x16::from_array(self.masks), v) & by_low_half(u8x16::from_array(self.deltas), v)
+        by_high_half(u8x16::from_array(self.masks), v)
+            & by_low_half(u8x16::from_array(self.deltas), v)
     }
 }
 
@@ -117,8 +118,12 @@ impl Rows {
     fn image(&self, byte: u8) -> u8
         ensures { result ≡ by_rows self.now byte }
     {
-        let by_two = byte.wrapping_add(self.a.adds(byte)).wrapping_add(self.b.adds(byte));
-        by_two.wrapping_add(self.c.adds(byte)).wrapping_add(self.d.adds(byte))
+        let by_two = byte
+            .wrapping_add(self.a.adds(byte))
+            .wrapping_add(self.b.adds(byte));
+        by_two
+            .wrapping_add(self.c.adds(byte))
+            .wrapping_add(self.d.adds(byte))
     }
 
     /// Rows that make these images, if four are enough.
@@ -139,7 +144,10 @@ impl Rows {
         ensures { IfSome result (λ two. (b : ℕ) → by_two_rows two b ≡ by_rows self.now b) }
     {
         if self.c.deltas == [0; 16] && self.d.deltas == [0; 16] {
-            Some(TwoRows { a: self.a, b: self.b })
+            Some(TwoRows {
+                a: self.a,
+                b: self.b,
+            })
         } else {
             None
         }

@@ -1,6 +1,6 @@
 use Rattle.std.proofs.Common.{ℕ, ◌+◌, ◌-◌, ◌%◌, nat_le}
-use Rattle.std.proofs.lemmas.Simd.{splat_is_map, zip2_splat, zip2_of_maps}
-use Rattle.ptflow.proofs.LaneLemmas.{sel_maps, map_self, tests_are}
+use Rattle.std.proofs.lemmas.Simd.{splat_is_map, zip2_splat}
+use Rattle.ptflow.proofs.LaneLemmas.{sel_maps, tests_are}
 use Rattle.ptflow.proofs.lanes.Reach.additions.Goals as goal
 
 pub returns : goal.returns

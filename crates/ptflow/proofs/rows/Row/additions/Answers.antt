@@ -1,5 +1,4 @@
 use Rattle.std.proofs.Common.{bit_and}
-use Rattle.std.specs.Prelude.{slice_index}
 use Rattle.std.proofs.lemmas.Simd.{zip2_of_maps}
 use Rattle.ptflow.proofs.rows.Row.additions.Goals as goal
 
