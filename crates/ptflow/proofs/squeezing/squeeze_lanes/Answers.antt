@@ -1,4 +1,4 @@
-use Rattle.std.proofs.Common.{ℕ, ◌%◌, ◌^◌, ℤ, cond, map, bit_and, w8, sym, Bool, List, ◌-◌, ◌≡◌, ◌&&◌, ◌++◌, eqb, not, length, take, get_or, refl, arith, ap, ◌∙◌}
+use Rattle.std.proofs.Common.{ℕ, ◌%◌, ◌^◌, ℤ, cond, map, bit_and, w8, sym, Bool, List, ◌-◌, ◌≡◌, ◌&&◌, ◌++◌, eqb, not, length, take, get_or, arith, ap, ◌∙◌}
 use Rattle.std.specs.Int.{bit_not, cast_unsigned}
 use Rattle.std.specs.Simd.Lanes.{zip2, chunk, mask_l, top}
 use Rattle.std.proofs.lemmas.Simd.{length-chunk, length-zip2}

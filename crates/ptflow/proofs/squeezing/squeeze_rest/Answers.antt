@@ -1,4 +1,4 @@
-use Rattle.std.proofs.Common.{ℕ, length, take, refl, arith, ap, ◌∙◌, subst}
+use Rattle.std.proofs.Common.{refl, arith}
 use Rattle.ptflow.proofs.SqueezeLemmas.{squeezing_one, squeezing_ends}
 use Rattle.ptflow.proofs.squeezing.squeeze_rest.Goals as goal
 
