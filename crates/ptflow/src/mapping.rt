@@ -8,7 +8,7 @@ ghost use Rattle.ptflow.specs.Workings.Mappings.{IsMapping, blended};
 ghost use Rattle.ptflow.specs.Workings.Rowings.{by_rows};
 
 use crate::lanes::{Mover, move_most, translate};
-use crate::rows;
+use crate::rows::Rows;
 use crate::sets::ByteSet;
 use ptlangs::{CharPlan, Shifts};
 use std::simd::prelude::*;
@@ -49,7 +49,7 @@ fn first_image(moved: &[bool; 256], images: &[u8; 256]) -> u8 {
 }
 
 impl Blend {
-    // One that makes these images, if all bytes that are moved become the same.
+    // One that makes these images, if all bytes that are moved become the same: each byte is tried.
     fn of(images: &[u8; 256]) -> Option<Blend>
         ensures { IfSome result (λ blend. (b : ℕ) → b < 256 → blended blend b ≡ slice_index images.now b) }
     {
@@ -78,7 +78,7 @@ pub(crate) enum Mapping {
     /// All bytes of a set become one byte.
     Constant(Blend),
     /// By what is added to low halves.
-    Rows(rows::Rows),
+    Rows(Rows),
     /// Byte by byte.
     Table,
 }
@@ -97,7 +97,7 @@ impl Mapping {
         if shifts.stretch(2).is_none() {
             return Mapping::Shifts(shifts);
         }
-        match rows::Rows::of(plan.images()) {
+        match Rows::of(plan.images()) {
             Some(rows) => Mapping::Rows(rows),
             None => Mapping::Shifts(shifts),
         }
@@ -110,7 +110,7 @@ impl Mapping {
         if let Some(blend) = Blend::of(plan.images()) {
             return Mapping::Constant(blend);
         }
-        match rows::Rows::of(plan.images()) {
+        match Rows::of(plan.images()) {
             Some(rows) => Mapping::Rows(rows),
             None => Mapping::Table,
         }
@@ -143,7 +143,7 @@ fn blend_bytes(blend: Blend, plan: &CharPlan, from: &[u8], to: &mut [u8])
 }
 
 // The bytes become what rows say.
-fn add_rows(rows: rows::Rows, plan: &CharPlan, from: &[u8], to: &mut [u8])
+fn add_rows(rows: Rows, plan: &CharPlan, from: &[u8], to: &mut [u8])
     requires rows { (b : ℕ) → b < 256 → by_rows rows b ≡ image plan.now b }
     requires same { length to.old ≡ length from.now }
     ensures { to.new ≡ map (image plan.now) from.now }

@@ -44,8 +44,8 @@ impl Row {
 /// Two rows.
 #[derive(Clone, Copy)]
 pub(crate) struct TwoRows {
-    pub a: Row,
-    pub b: Row,
+    a: Row,
+    b: Row,
 }
 
 impl Mover for TwoRows {
@@ -60,10 +60,10 @@ impl Mover for TwoRows {
 /// Four rows.
 #[derive(Clone, Copy)]
 pub(crate) struct Rows {
-    pub a: Row,
-    pub b: Row,
-    pub c: Row,
-    pub d: Row,
+    a: Row,
+    b: Row,
+    c: Row,
+    d: Row,
 }
 
 impl Mover for Rows {
@@ -126,7 +126,7 @@ impl Rows {
             .wrapping_add(self.d.adds(byte))
     }
 
-    /// Rows that make these images, if four are enough.
+    /// Rows that make these images, if four are enough: each byte is tried.
     pub(crate) fn of(images: &[u8; 256]) -> Option<Rows>
         ensures { IfSome result (λ rows. (b : ℕ) → b < 256 → by_rows rows b ≡ slice_index images.now b) }
     {
