@@ -3,35 +3,52 @@
 
 Usage: bench/run.py [--against OTHER] PTEXT [NAME..]
 
-Each case gives both the same 64 MB (or twice that, in two inputs), in turn and RUNS times, and the best of each counts. The outputs are compared
-first. Below the table stands the least address space in which an empty line and a line of 64 MB are cut. With
---against, the other side is another build of ptext.
+Each case gives both the same 64 MB (or twice that, in two inputs), in turn and RUNS times, and the best of each
+counts. The outputs are compared first. Where valgrind is there, the instructions of ptext in user space stand beside
+the ratio, for each byte of the first 8 MB of the input: they are the same on every run, which times are not. Below the
+table stands the least address space in which an empty line and a line of 64 MB are cut. With --against, the other side
+is another build of ptext.
 """
 
 import argparse
-
 import os
 import random
+import re
 import resource
+import shutil
 import statistics
 import subprocess
 import sys
 import tempfile
 
 SIZE = 64 << 20
+COUNTED = 8 << 20
 RUNS = 5
 
-BYTES = [["cut", "-c", "3-,1"], ["cut", "-b", "5-20,40-60"]]
+RANGES = ",".join(f"{first}-{first + 1}" for first in range(1, 60, 3))
+BYTES = [["cut", "-c", "3-,1"], ["cut", "-b", "5-20,40-60"], ["cut", "-c", RANGES]]
 FIELDS = [["cut", "-d,", "-f1,3"], ["cut", "-d,", "-f7-"], ["cut", "-f2"]]
 ZEROS = [["cut", "-z", "-c", "3-,1"], ["cut", "-z", "-d,", "-f1,3"]]
+UPPER = ["tr", "a-z", "A-Z"]
 TEXT = [
-    ["tr", "a-z", "A-Z"],
+    UPPER,
     ["tr", "A-Za-z", "N-ZA-Mn-za-m"],
+    ["tr", "aeiouy,.;", "AEIOUY;,."],
     ["tr", "-d", "0-9"],
     ["tr", "-s", " "],
+    ["tr", "-s", "a-z", "A-Z"],
+    ["tr", "-ds", "0-9", " "],
     ["tr", "-cs", "[:alpha:]", "[\\n*]"],
 ]
-BINARY = [["tr", "\\000-\\177", "\\200-\\377"], ["tr", "-cd", "0-9"]]
+SHORT = [["cut", "-c", "2-4"], ["cut", "-f2"], UPPER]
+# Every eighth byte becomes its neighbour: neither few stretches nor few rows of bytes.
+APART = ["".join(f"\\{byte:03o}" for byte in range(first, 256, 8)) for first in (1, 2)]
+BINARY = [
+    ["tr", "\\000-\\177", "\\200-\\377"],
+    ["tr", "-cd", "0-9"],
+    ["tr", "-cd", "[:print:]"],
+    ["tr", *APART],
+]
 
 UNIQ = [["uniq"], ["uniq", "-c"], ["uniq", "-d"], ["uniq", "-u"], ["uniq", "-f", "1"], ["uniq", "-s", "8"]]
 # An operand of `paste` here: standard input is the first, and each further one names the same file again.
@@ -122,7 +139,7 @@ INPUTS = {
     "zeros": (lambda: "".join(table_line(number, ",", "\0") for number in range(20000)), ZEROS),
     "long,": (lambda: "0123456789," * 1000 + "\n", FIELDS),
     "one line,": (lambda: "0123456789,", FIELDS),
-    "8 bytes": (lambda: "".join(f"{number:08}\n" for number in range(100000)), UNIQ + PASTE),
+    "8 bytes": (lambda: "".join(f"{number:08}\n" for number in range(100000)), SHORT + UNIQ + PASTE),
     "unrepeated": (lambda: repeated(0), UNIQ),
     "few again": (lambda: repeated(0.1), UNIQ),
     "many again": (lambda: repeated(0.9), UNIQ),
@@ -177,6 +194,26 @@ def compare(folder, path, second, ptext, other, words):
     return min(ours), min(theirs)
 
 
+def head(path):
+    """A file beside this one with its first 8 MB, or less, which end with a line if there is an end of one."""
+    with open(path, "rb") as whole, open(path + ".head", "wb") as part:
+        block = whole.read(COUNTED)
+        part.write(block[: block.rfind(b"\n") + 1] or block)
+    return part.name
+
+
+def instructions(folder, path, second, ptext, words):
+    """How many instructions of ptext run in user space for each byte of standard input."""
+    words = [{FILE: path, OTHER: second}.get(word, word) for word in words]
+    counting = ["valgrind", "--tool=callgrind", f"--callgrind-out-file={folder}/counts"]
+    with open(path, "rb") as standard:
+        ended = subprocess.run(
+            [*counting, ptext, *words], stdin=standard, stdout=subprocess.DEVNULL, stderr=subprocess.PIPE, check=True
+        )
+    collected = re.search(rb"Collected : ([0-9]+)", ended.stderr)
+    return int(collected[1]) / os.path.getsize(path)
+
+
 def runs_within(command, path, size):
     """Whether the command runs in so many KiB of address space."""
 
@@ -199,6 +236,44 @@ def least_space(command, path):
     return high
 
 
+def write_inputs(name, path, second):
+    """Writes what the case of this name reads, and answers the commands that are run over it."""
+    if name in PAIRS:
+        piece, other_piece, commands = PAIRS[name]
+        write_whole(path, piece())
+        write_whole(second, other_piece())
+        return commands
+    piece, commands = INPUTS[name]
+    write_input(path, piece().encode("latin-1"))
+    return commands
+
+
+def print_ratios(folder, ptext, other, names):
+    """A line for each command over each input, and then the mean."""
+    counted = shutil.which("valgrind") is not None
+    print(f"{'input':10} {'words':32} {'ptext s':>8} {'other s':>8} {'ratio':>6}{' instructions/byte' * counted}")
+    ratios = []
+    for name in names:
+        path, second = os.path.join(folder, name), os.path.join(folder, OTHER)
+        commands = write_inputs(name, path, second)
+        few = [head(given) for given in (path, second) if os.path.exists(given)]
+        for words in commands:
+            ours, theirs = compare(folder, path, second, ptext, other, words)
+            ratios.append(ours / theirs)
+            count = f"{instructions(folder, few[0], few[-1], ptext, words):18.1f}" if counted else ""
+            print(f"{name:10} {' '.join(words)[:32]:32} {ours:8.3f} {theirs:8.3f} {ours / theirs:6.2f}{count}")
+    print(f"geometric mean of the ratios: {statistics.geometric_mean(ratios):.2f}")
+
+
+def print_spaces(folder, ptext):
+    empty, line = os.path.join(folder, "empty"), os.path.join(folder, "one line")
+    write_input(line, INPUTS["one line"][0]().encode("latin-1"))
+    with open(empty, "wb") as file:
+        file.write(b"\n")
+    for name, path in [("an empty line", empty), ("a line of 64 MB", line)]:
+        print(f"{name}: {least_space([ptext, 'cut', '-c', '2'], path)} KiB")
+
+
 def main():
     parser = argparse.ArgumentParser(description="Ratios of ptext to the system's tools.")
     parser.add_argument("--against", metavar="OTHER", help="another build of ptext, in place of the system's tools")
@@ -207,30 +282,9 @@ def main():
     given = parser.parse_args()
     ptext = os.path.abspath(given.ptext)
     other = [os.path.abspath(given.against)] if given.against else []
-    names = given.names or [*INPUTS, *PAIRS]
     with tempfile.TemporaryDirectory() as folder:
-        print(f"{'input':10} {'words':32} {'ptext s':>8} {'other s':>8} {'ratio':>6}")
-        ratios = []
-        for name in names:
-            path, second = os.path.join(folder, name), os.path.join(folder, OTHER)
-            if name in PAIRS:
-                piece, other_piece, commands = PAIRS[name]
-                write_whole(path, piece())
-                write_whole(second, other_piece())
-            else:
-                piece, commands = INPUTS[name]
-                write_input(path, piece().encode("latin-1"))
-            for words in commands:
-                ours, theirs = compare(folder, path, second, ptext, other, words)
-                ratios.append(ours / theirs)
-                print(f"{name:10} {' '.join(words):32} {ours:8.3f} {theirs:8.3f} {ours / theirs:6.2f}")
-        print(f"geometric mean of the ratios: {statistics.geometric_mean(ratios):.2f}")
-        empty, line = os.path.join(folder, "empty"), os.path.join(folder, "one line")
-        write_input(line, INPUTS["one line"][0]().encode("latin-1"))
-        with open(empty, "wb") as file:
-            file.write(b"\n")
-        for name, path in [("an empty line", empty), ("a line of 64 MB", line)]:
-            print(f"{name}: {least_space([ptext, 'cut', '-c', '2'], path)} KiB")
+        print_ratios(folder, ptext, other, given.names or [*INPUTS, *PAIRS])
+        print_spaces(folder, ptext)
 
 
 if __name__ == "__main__":

@@ -319,6 +319,16 @@ status=$(cat ended)
 want '0 1 x\n' 'join: out of memory\n'
 same "a group of join that does not fit" 1
 
+# Words that do not fit: the program's own list of them is refused.
+(
+    ulimit -v 12288
+    "$program" cut -c 1 $(seq 60000) <empty >out 2>messages
+    echo $? >ended
+)
+status=$(cat ended)
+want '' 'ptext: out of memory\n'
+same "a list of words that does not fit" 1
+
 # One line of 64 MB in each file.
 want '' ''
 run empty comm -3 long long

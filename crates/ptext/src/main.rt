@@ -1,6 +1,7 @@
 //! The program: `ptext TOOL WORDS...` over the standard streams and real files.
 #![tactic(auto)]
 
+mod outlet;
 mod performing;
 #[cfg(test)]
 mod tests;

@@ -6,6 +6,7 @@ ghost use Rattle.ptopts.specs.Meant.{words_seen};
 ghost use Rattle.ptrun.specs.Asked.{count_of};
 ghost use Rattle.ptrun.specs.Worlds.{IsFresh};
 
+use crate::outlet::Outlet;
 use ptlines::{FromRead, FromWrite, LineReader, Sink, Source};
 use ptopts::{Command, UseFault};
 use ptrun::{Report, run, say};
@@ -36,17 +37,18 @@ pub fn perform<'a, R: Files, A: Allocator + Copy, S: Source, W: Sink, E: Sink>(
     let Ok(mut inputs) = inputs_of(rt, alloc, &command, standard) else {
         return report_no_memory(out, messages);
     };
-    let Some(name) = output_of(&command, &inputs) else {
-        return run(alloc, command, words, &mut inputs, out, messages);
+    let file = match output_of(&command, &inputs) {
+        Some(name) => match fs::create(rt, name) {
+            Ok(file) => Some(FromWrite::new(file)),
+            Err(_) => return report_no_output(name, out, messages),
+        },
+        None => None,
     };
-    match fs::create(rt, name) {
-        Ok(file) => {
-            let sink = FromWrite::new(file);
-            let report = run(alloc, command, words, &mut inputs, sink, messages);
-            with_output(report, out)
-        }
-        Err(_) => report_no_output(name, out, messages),
-    }
+    let outlet = Outlet {
+        standard: out,
+        file,
+    };
+    with_standard(run(alloc, command, words, &mut inputs, outlet, messages))
 }
 
 // The name of the file that the command writes to, if all its inputs were opened.
@@ -65,24 +67,24 @@ fn output_of<'a, A: Allocator, S: Source, R: Source>(
     command.output()
 }
 
-// The report of a run that wrote to a file, with the output that it left alone.
-fn with_output<F: Sink, W: Sink, E: Sink>(report: Report<F, E>, out: W) -> Report<W, E>
+// The same report, with standard output alone.
+fn with_standard<W: Sink, F: Sink, E: Sink>(report: Report<Outlet<W, F>, E>) -> Report<W, E>
     ensures status { result.status ≡ report.status }
-    ensures out { result.out ≡ out }
+    ensures out { result.out ≡ report.out.standard }
     ensures messages { result.messages ≡ report.messages }
 {
     let Report {
         status,
         peak,
         denied,
-        out: _file,
+        out,
         messages,
     } = report;
     Report {
         status,
         peak,
         denied,
-        out,
+        out: out.standard,
         messages,
     }
 }

@@ -21,6 +21,12 @@ const TRANSLATED: &[Row] = &[
     (&["tr", "-c", "\\000-\\377", "[x*]"], "ab", "ab"),
     (&["tr", "--", "-a", "+b"], "a-c", "b+c"),
     (&["tr", "a", "b"], "", ""),
+    // One stretch of bytes is moved, then four, three, five and none.
+    (&["tr", "a-z", "A-Z"], "Hello, world\n", "HELLO, WORLD\n"),
+    (&["tr", "a-zA-Z", "n-za-mN-ZA-M"], "Hello", "Uryyb"),
+    (&["tr", "abc", "x"], "abcd", "xxxd"),
+    (&["tr", "acegi", "12345"], "abcdefghij", "1b2d3f4h5j"),
+    (&["tr", "ab", "ab"], "cab", "cab"),
 ];
 
 const DELETED: &[Row] = &[

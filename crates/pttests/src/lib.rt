@@ -20,6 +20,8 @@ mod fields;
 #[cfg(test)]
 mod joined_lines;
 #[cfg(test)]
+mod lengths;
+#[cfg(test)]
 mod pasting;
 #[cfg(test)]
 mod reading;
