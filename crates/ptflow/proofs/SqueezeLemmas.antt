@@ -134,7 +134,7 @@ in_front_of from at n behind room =
 -- the mask of the lanes that are no repeat of the byte in front of them
 pub stays_mask : (test : ℕ → Bool) (front bytes : List ℕ) → length front ≡ length bytes → length bytes ≤ 64
     → mask_l (map (top 7) (map (bit_not w8) (zip2 bit_and (zip2 (λ a b. cond (eqb a b) 255 0) front bytes) (map (cast_unsigned w8) (mask_of test bytes))))) % 2 ^ 64
-        ≡ mask_l (zip2 (λ a b. not (eqb a b && test b)) front bytes)
+    ≡ mask_l (zip2 (λ a b. not (eqb a b && test b)) front bytes)
 stays_mask test front bytes same few =
     ap (λ (ms : List Bool). mask_l ms % 2 ^ 64) (lanes front bytes) ∙ mask_l-mod (zip2 (λ a b. not (eqb a b && test b)) front bytes) 64 (omega (arith, length-zip2 (λ a b. not (eqb a b && test b)) front bytes same))
   where

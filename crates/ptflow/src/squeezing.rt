@@ -36,14 +36,20 @@ fn squeeze_lanes(
 
 // Puts the bytes from a place on that stay behind the first `count` bytes of `into`, and says where they end.
 #[inline(always)]
-fn squeeze_rest(flags: &[bool; 256], from: &[u8], start: usize, into: &mut [u8; 8224], count: usize) -> usize
+fn squeeze_rest(
+    flags: &[bool; 256],
+    from: &[u8],
+    start: usize,
+    into: &mut [u8; 8224],
+    count: usize,
+) -> usize
     requires behind { 0 < start }
     requires within { start ≤ length from.now }
     requires room { length from.now ≤ 8192 }
     requires counted { count ≤ start }
     ensures squeezed { take result into.new
         ≡ take count into.old
-            ++ squeeze_behind (λ b. slice_index_or flags.now b false) (slice_index from.now (start - 1)) (drop start from.now) }
+        ++ squeeze_behind (λ b. slice_index_or flags.now b false) (slice_index from.now (start - 1)) (drop start from.now) }
     ensures end { result ≤ length from.now }
 {
     let mut at = start;

@@ -96,7 +96,14 @@ impl<'a> Translation<'a> {
     {
         match self.squeezing {
             Some(set) => {
-                let count = squeeze_block(set, self.plan.squeezed(), &self.shuffles, last, bytes, into);
+                let count = squeeze_block(
+                    set,
+                    self.plan.squeezed(),
+                    &self.shuffles,
+                    last,
+                    bytes,
+                    into,
+                );
                 &into[..count]
             }
             None => bytes,

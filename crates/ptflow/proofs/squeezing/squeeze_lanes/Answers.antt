@@ -17,6 +17,6 @@ returns-clause-squeezed c =
     let long : length bytes ≡ 16 = length-chunk c.args.at 16 from c.requires.lanes in
     c.pack.ensures.packed (zip2 stays before bytes) (length-zip2 stays before bytes as_long ∙ as_long ∙ long)
     (ap (λ (v : List ℤ). mask_l (map (top 7) (map (bit_not w8) (zip2 bit_and (zip2 (λ a b. cond (eqb a b) 255 0) before bytes) (map (cast_unsigned w8) v)))) % 2 ^ 64) c.test.ensures
-        ∙ stays_mask (holds c.args.set) before bytes as_long (omega arith))
+    ∙ stays_mask (holds c.args.set) before bytes as_long (omega arith))
     ∙ ap (λ (front : List ℕ). take c.args.count c.args.into.now ++ chosen_by (zip2 stays front bytes) bytes) (in_front_of from c.args.at 15 c.requires.behind c.requires.lanes)
     ∙ ap (λ (l : List ℕ). take c.args.count c.args.into.now ++ l) (chosen_behind (holds c.args.set) (get_or from (c.args.at - 1) 0) bytes)
