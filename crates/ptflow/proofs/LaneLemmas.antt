@@ -1,15 +1,16 @@
 -- What lanes do, byte by byte.
-use Rattle.std.proofs.Common.{◌≡◌, ℕ, ◌+◌, ◌≤◌, ◌%◌, ◌&&◌, Bool, true, false, List, [], ◌∷◌, Option, map, length, replicate, cond, refl, sym, ◌∙◌, ap, arith, w8}
-use Rattle.std.specs.Prelude.{nat_le, sum_by, slice_get, option_map, unwrap_or, is_some}
+use Rattle.std.proofs.Common.{◌≡◌, ℕ, ◌+◌, ◌<◌, ◌≤◌, ◌%◌, Bool, false, List, [], ◌∷◌, ◌++◌, Option, map, take, drop, length, get_or, replicate, cond, refl, sym, ◌∙◌, ap, arith, w8, Fits}
+use Rattle.std.specs.Prelude.{sum_by, slice_get, option_map, is_some}
+use Rattle.std.specs.Simd.Lanes.{sel_l, zip2, top, Each1}
+use Rattle.std.proofs.Math.Seq.{take-add}
 use Rattle.std.proofs.lemmas.Bool.{false≢true}
-use Rattle.std.specs.Simd.Lanes.{sel_l, zip2, top}
-use Rattle.std.proofs.lemmas.Simd.{tops_compared, zip2_splat, zip2_splat_left}
+use Rattle.std.proofs.lemmas.List.{map-append}
+use Rattle.std.proofs.lemmas.Simd.{tops_compared, zip2_splat, zip2_of_maps, splat_is_map, chunk-fits, Each1-from_get_or}
 use Rattle.ptlangs.specs.declared.shifts.Stretch.{Stretch}
 use Rattle.ptlangs.specs.TrShifts.{added, shifted}
-use Rattle.ptflow.specs.declared.lanes.Four.{Four}
-use Rattle.ptflow.specs.Workings.Lanes.{added_by, moved_by}
+use Rattle.ptflow.specs.Workings.Lanes.{IsMovedTo, told_adds}
 
--- ---- a selection by a comparison with one byte
+-- ---- lanes that are computed of bytes
 
 sel_map : (p : ℕ → Bool) (f g : ℕ → ℕ) (v : List ℕ) → sel_l (map p v) (map f v) (map g v) ≡ map (λ b. cond (p b) (f b) (g b)) v
 sel_map p f g [] = refl
@@ -22,67 +23,82 @@ sel_maps p f g v ms xs ys em ex ey =
 pub mask_right : (t : ℕ → ℕ → Bool) (n : ℕ) (v : List ℕ) (y : ℕ) → length v ≡ n → map (top 7) (zip2 (λ a b. cond (t a b) 255 0) v (replicate n y)) ≡ map (λ b. t b y) v
 mask_right t n v y long = tops_compared w8 t v (replicate n y) ∙ zip2_splat t v n y long
 
-pub mask_left : (t : ℕ → ℕ → Bool) (n : ℕ) (v : List ℕ) (y : ℕ) → length v ≡ n → map (top 7) (zip2 (λ a b. cond (t a b) 255 0) (replicate n y) v) ≡ map (λ b. t y b) v
-mask_left t n v y long = tops_compared w8 t (replicate n y) v ∙ zip2_splat_left t y n v long
+-- what is computed of each byte, compared with one byte
+pub tests_are : (t : ℕ → ℕ → Bool) (f : ℕ → ℕ) (v xs : List ℕ) (n y : ℕ) → length v ≡ n → xs ≡ map f v → map (top 7) (zip2 (λ a b. cond (t a b) 255 0) xs (replicate n y)) ≡ map (λ b. t (f b) y) v
+tests_are t f v xs n y long is = tops_compared w8 t xs (replicate n y) ∙ zip2_of_maps t f (λ _. y) v is (splat_is_map v n y long)
+
+pub added_lanes : (f g : ℕ → ℕ) (v : List ℕ) {xs ys : List ℕ} → xs ≡ map f v → ys ≡ map g v → zip2 (λ a b. (a + b) % 256) xs ys ≡ map (λ b. (f b + g b) % 256) v
+added_lanes f g v ex ey = zip2_of_maps (λ a b. (a + b) % 256) f g v ex ey
 
 pub map_self : (v : List ℕ) → map (λ b. b) v ≡ v
 map_self [] = refl
 map_self (x ∷ xs) = ap (λ r. x ∷ r) (map_self xs)
 
-pub map_same : (f g : ℕ → ℕ) → ((b : ℕ) → f b ≡ g b) → (v : List ℕ) → map f v ≡ map g v
-map_same f g same [] = refl
-map_same f g same (x ∷ xs) = λ i. same x i ∷ map_same f g same xs i
+-- ---- the first bytes are moved
 
--- one test behind the other is both
-pub both_tests : (p q : Bool) (x : ℕ) → cond p (cond q x 0) 0 ≡ cond (p && q) x 0
-both_tests true q x = refl
-both_tests false q x = refl
+pub moved_more : (becomes : ℕ → ℕ) (at next n : ℕ) (from to new : List ℕ) → next ≡ at + n → take at to ≡ map becomes (take at from)
+    → take (at + n) new ≡ take at to ++ map becomes (take n (drop at from)) → take next new ≡ map becomes (take next from)
+moved_more becomes at next n from to new is begun more =
+    ap (λ (k : ℕ). take k new) is
+    ∙ more
+    ∙ ap (λ l. l ++ map becomes (take n (drop at from))) begun
+    ∙ sym (map-append becomes (take at from) (take n (drop at from)))
+    ∙ ap (map becomes) (sym (take-add at n from))
+    ∙ ap (λ (k : ℕ). map becomes (take k from)) (sym is)
+
+-- where what two functions say of a byte is the same, lists of bytes become the same
+pub bytes_same : {X : Type 0} (f g : ℕ → X) → ((b : ℕ) → b < 256 → f b ≡ g b) → (v : List ℕ) → Each1 (Fits w8) v → map f v ≡ map g v
+bytes_same f g same [] fit = refl
+bytes_same f g same (b ∷ v) fit = λ i. same b fit.0.fits i ∷ bytes_same f g same v fit.1 i
+
+pub bytes_fit : (v : List ℕ) → ((k : ℕ) → Fits w8 (get_or v k 0)) → Each1 (Fits w8) v
+bytes_fit v fit = Each1-from_get_or (Fits w8) v 0 (λ k _. fit k)
+
+pub moved_same : (f g : ℕ → ℕ) (at : ℕ) (from to : List ℕ) → ((b : ℕ) → b < 256 → f b ≡ g b) → ((k : ℕ) → Fits w8 (get_or from k 0)) → IsMovedTo at f from to → IsMovedTo at g from to
+moved_same f g at from to same fit moved = (moved.0, moved.1, moved.2 ∙ bytes_same f g same (take at from) (chunk-fits w8 0 at from fit))
 
 -- ---- at most four stretches
 
--- the stretch at a place, or one that moves nothing
+-- the stretch at a place, if there is one
 abbrev pub told_at : List Stretch → ℕ → Option (ℕ × ℕ × ℕ)
 told_at ss k = option_map (λ s. (s.first, s.last, s.by)) (slice_get ss k)
 
-abbrev pub at_or_none : List Stretch → ℕ → ℕ × ℕ × ℕ
-at_or_none ss k = unwrap_or (told_at ss k) (1, 0, 0)
+abbrev adds_at : List Stretch → ℕ → ℕ → ℕ
+adds_at ss k b = told_adds (told_at ss k) b
 
-nested : (b x y z w : ℕ) → ((((b + x) % 256 + y) % 256 + z) % 256 + w) % 256 ≡ (b + (x + (y + (z + w)))) % 256
-nested b x y z w = omega arith
-
-nothing : (b : ℕ) → added_by (1, 0, 0) b ≡ 0
-nothing b = no_shift (nat_le 1 b && nat_le b 0)
-  where
-    no_shift : (t : Bool) → cond {A = ℕ} t 0 0 ≡ 0
-    no_shift true = refl
-    no_shift false = refl
-
-sum_is : (ss : List Stretch) (b : ℕ) → length ss ≤ 4
-    → added_by (at_or_none ss 0) b + (added_by (at_or_none ss 1) b + (added_by (at_or_none ss 2) b + added_by (at_or_none ss 3) b)) ≡ sum_by (λ s. added s b) ss
-sum_is [] b few = omega (arith, nothing b)
-sum_is (s ∷ []) b few = omega (arith, nothing b)
-sum_is (s ∷ t ∷ []) b few = omega (arith, nothing b)
-sum_is (s ∷ t ∷ u ∷ []) b few = omega (arith, nothing b)
+sum_is : (ss : List Stretch) (b : ℕ) → length ss ≤ 4 → adds_at ss 0 b + (adds_at ss 1 b + (adds_at ss 2 b + adds_at ss 3 b)) ≡ sum_by (λ s. added s b) ss
+sum_is [] b few = omega arith
+sum_is (s ∷ []) b few = omega arith
+sum_is (s ∷ t ∷ []) b few = omega arith
+sum_is (s ∷ t ∷ u ∷ []) b few = omega arith
 sum_is (s ∷ t ∷ u ∷ v ∷ []) b few = omega arith
 sum_is (s ∷ t ∷ u ∷ v ∷ w ∷ more) b few = absurd (omega (arith, few))
 
-pub four_move : (ss : List Stretch) (x y z w : ℕ × ℕ × ℕ) → length ss ≤ 4 → x ≡ at_or_none ss 0 → y ≡ at_or_none ss 1 → z ≡ at_or_none ss 2 → w ≡ at_or_none ss 3
-    → (many : Bool) (b : ℕ) → moved_by (record { a = x; b = y; c = z; d = w; many = many }) b ≡ shifted ss b
-four_move ss x y z w few ex ey ez ew many b =
-    nested b (added_by x b) (added_by y b) (added_by z b) (added_by w b)
-    ∙ ap (λ (n : ℕ). (b + n) % 256) ((λ i. added_by (ex i) b + (added_by (ey i) b + (added_by (ez i) b + added_by (ew i) b))) ∙ sum_is ss b few)
+none_at_one : (ss : List Stretch) (b : ℕ) → is_some (told_at ss 1) ≡ false → (adds_at ss 1 b ≡ 0) × (adds_at ss 2 b ≡ 0) × (adds_at ss 3 b ≡ 0)
+none_at_one [] b is = (refl, refl, refl)
+none_at_one (s ∷ []) b is = (refl, refl, refl)
+none_at_one (s ∷ t ∷ more) b is = absurd (false≢true (sym is))
 
--- the third and the fourth move nothing where there is no third
-pub no_more_than_two : (ss : List Stretch) (z w : ℕ × ℕ × ℕ) (many : Bool) → z ≡ at_or_none ss 2 → w ≡ at_or_none ss 3
-    → many ≡ is_some (told_at ss 2) → many ≡ false → (b : ℕ) → (added_by z b ≡ 0) × (added_by w b ≡ 0)
-no_more_than_two ss z w many ez ew is few b = (ap (λ s. added_by s b) ez ∙ (none ss (sym is ∙ few)).0, ap (λ s. added_by s b) ew ∙ (none ss (sym is ∙ few)).1)
-  where
-    none : (ss : List Stretch) → is_some (told_at ss 2) ≡ false → (added_by (at_or_none ss 2) b ≡ 0) × (added_by (at_or_none ss 3) b ≡ 0)
-    none [] is = (nothing b, nothing b)
-    none (s ∷ []) is = (nothing b, nothing b)
-    none (s ∷ t ∷ []) is = (nothing b, nothing b)
-    none (s ∷ t ∷ u ∷ more) is = absurd (false≢true (sym is))
+none_at_two : (ss : List Stretch) (b : ℕ) → is_some (told_at ss 2) ≡ false → (adds_at ss 2 b ≡ 0) × (adds_at ss 3 b ≡ 0)
+none_at_two [] b is = (refl, refl)
+none_at_two (s ∷ []) b is = (refl, refl)
+none_at_two (s ∷ t ∷ []) b is = (refl, refl)
+none_at_two (s ∷ t ∷ u ∷ more) b is = absurd (false≢true (sym is))
 
--- two additions of nothing change nothing
-pub two_are_all : (s : Four) → ((b : ℕ) → (added_by s.c b ≡ 0) × (added_by s.d b ≡ 0)) → (b : ℕ) → ((b + added_by s.a b) % 256 + added_by s.b b) % 256 ≡ moved_by s b
-two_are_all s none b = omega (arith, (none b).0, (none b).1)
+module _ (ss : List Stretch) (few : length ss ≤ 4) (b : ℕ) where
+  to_shifted : (n : ℕ) → n ≡ b + (adds_at ss 0 b + (adds_at ss 1 b + (adds_at ss 2 b + adds_at ss 3 b))) → n % 256 ≡ shifted ss b
+  to_shifted n is = ap (λ (k : ℕ). k % 256) (is ∙ ap (λ (k : ℕ). b + k) (sum_is ss b few))
+
+  pub one_moves : (x : ℕ) → x ≡ adds_at ss 0 b → is_some (told_at ss 1) ≡ false → (b + x) % 256 ≡ shifted ss b
+  one_moves x ex is = let none = none_at_one ss b is in to_shifted (b + x) (omega (arith, ex, none.0, none.1, none.2))
+
+  pub two_move : (x y : ℕ) → x ≡ adds_at ss 0 b → y ≡ adds_at ss 1 b → is_some (told_at ss 2) ≡ false → ((b + x) % 256 + y) % 256 ≡ shifted ss b
+  two_move x y ex ey is =
+      let none = none_at_two ss b is in
+      let flat : ((b + x) % 256 + y) % 256 ≡ (b + (x + y)) % 256 = omega arith in
+      flat ∙ to_shifted (b + (x + y)) (omega (arith, ex, ey, none.0, none.1))
+
+  pub four_move : (x y z w : ℕ) → x ≡ adds_at ss 0 b → y ≡ adds_at ss 1 b → z ≡ adds_at ss 2 b → w ≡ adds_at ss 3 b → ((((b + x) % 256 + y) % 256 + z) % 256 + w) % 256 ≡ shifted ss b
+  four_move x y z w ex ey ez ew =
+      let flat : ((((b + x) % 256 + y) % 256 + z) % 256 + w) % 256 ≡ (b + (x + (y + (z + w)))) % 256 = omega arith in
+      flat ∙ to_shifted (b + (x + (y + (z + w)))) (omega (arith, ex, ey, ez, ew))

@@ -3,6 +3,7 @@ pub mod BlockRuns
 pub mod ByteRests
 pub mod CellSlots
 pub mod Chosen
+pub mod ChosenLanes
 pub mod Continuations
 pub mod CutRows
 pub mod FieldLines
@@ -24,6 +25,7 @@ pub mod RowTurns
 pub mod SerialRests
 pub mod SheetRows
 pub mod SlotFacts
+pub mod SqueezeLemmas
 pub mod Takes
 pub mod TrRests
 pub mod TrRows
@@ -31,3 +33,5 @@ pub mod TwoSlots
 pub mod UniqKeys
 pub mod UniqPasses
 pub mod UniqRows
+pub mod ByteSetLemmas
+pub mod KeptBytes

@@ -1,29 +1,26 @@
 -- What `tr` writes of the rest of a text. A byte stays or goes by the byte that was written last alone, so that byte is
 -- all that is carried from block to block, and within a block from byte to byte.
-use Rattle.std.proofs.Common.{◌≡◌, ℕ, ◌+◌, ◌-◌, ◌<◌, ◌≤◌, ◌==◌, ◌&&◌, ◌||◌, not, eqb, Bool, true, false, cond, List, [], ◌∷◌, ◌++◌, Option, None, Some, map, length, take, set, get_or, suc, refl, sym, ◌∙◌, ap, arith, append_assoc}
+use Rattle.std.proofs.Common.{◌≡◌, ℕ, ◌-◌, ◌==◌, ◌&&◌, not, eqb, Bool, true, false, cond, List, [], ◌∷◌, ◌++◌, Option, None, Some, map, length, refl, sym, ◌∙◌, ap, arith}
 use Rattle.std.specs.Prelude.{filter, zip, slice_get}
 use Rattle.std.specs.List.{last_or}
 use Rattle.std.specs.Option.{option_eq, option_or}
-use mir.Val.{bool_byte}
 use Rattle.std.proofs.lemmas.Bool.{eqb-true}
-use Rattle.std.proofs.lemmas.List.{append-nil, map-append, take-set, take_more_set}
+use Rattle.std.proofs.lemmas.List.{append-nil, map-append}
 use Rattle.std.proofs.lemmas.List.Elements.{filter-append}
 use Rattle.ptlines.specs.Inputs.{Begins}
 use Rattle.ptlangs.specs.TrTables.{Tables, deletes, image, squeezes}
 use Rattle.ptflow.specs.Translations.{stays, squeeze_behind, translated, tr, tr_decided}
-use Rattle.ptlangs.specs.declared.shifts.Stretch.{Stretch}
-use Rattle.ptlangs.specs.TrShifts.{shifted}
-use Rattle.ptflow.specs.Workings.TrRests.{squeeze_from, tr_rest, IsPlain}
+use Rattle.ptflow.specs.Workings.TrRests.{squeeze_from, tr_rest}
 
 module _ (squeezed : ℕ → Bool) where
-  behind_one : (last b : ℕ) (bytes : List ℕ) → squeeze_behind squeezed last (b ∷ bytes) ≡ cond (stays squeezed (last, b)) (b ∷ squeeze_behind squeezed b bytes) (squeeze_behind squeezed b bytes)
+  pub behind_one : (last b : ℕ) (bytes : List ℕ) → squeeze_behind squeezed last (b ∷ bytes) ≡ cond (stays squeezed (last, b)) (b ∷ squeeze_behind squeezed b bytes) (squeeze_behind squeezed b bytes)
   behind_one last b bytes = by_test (stays squeezed (last, b)) (filter (stays squeezed) (zip (b ∷ bytes) bytes))
     where
       by_test : (s : Bool) (ps : List (ℕ × ℕ)) → map (λ (p : ℕ × ℕ). p.1) (cond s ((last, b) ∷ ps) ps) ≡ cond s (b ∷ map (λ (p : ℕ × ℕ). p.1) ps) (map (λ (p : ℕ × ℕ). p.1) ps)
       by_test true ps = refl
       by_test false ps = refl
 
-  from_one : (last : Option ℕ) (b : ℕ) (bytes : List ℕ) → squeeze_from squeezed last (b ∷ bytes)
+  pub from_one : (last : Option ℕ) (b : ℕ) (bytes : List ℕ) → squeeze_from squeezed last (b ∷ bytes)
       ≡ cond (not (option_eq eqb last (Some b) && squeezed b)) (b ∷ squeeze_behind squeezed b bytes) (squeeze_behind squeezed b bytes)
   from_one None b bytes = refl
   from_one (Some last) b bytes = behind_one last b bytes
@@ -89,6 +86,10 @@ module _ (t : Tables) where
   pub block_on : (last after : Option ℕ) (block written rest : List ℕ) → written ≡ tr_rest t last block → after ≡ option_or (slice_get written (length written - 1)) last → tr_rest t last (block ++ rest) ≡ written ++ tr_rest t after rest
   block_on last after block written rest made end = front_on last block rest ∙ (λ i. sym made i ++ tr_rest t (sym (end ∙ last_is last written ∙ ap (last_or last) made) i) rest)
 
+  -- what is written of a block is squeezed after it was translated, and that after bytes of it were deleted
+  pub passes_make : (last : Option ℕ) (block kept mapped written : List ℕ) → kept ≡ filter (λ b. not (deletes t b)) block → mapped ≡ map (image t) kept → written ≡ squeeze_from (squeezes t) last mapped → written ≡ tr_rest t last block
+  passes_make last block kept mapped written k m w = w ∙ ap (squeeze_from (squeezes t) last) (m ∙ ap (map (image t)) k)
+
   pub block_begins : (last : Option ℕ) (block written rest : List ℕ) → written ≡ tr_rest t last block → Begins written (tr_rest t last (block ++ rest))
   block_begins last block written rest made = record { rest = tr_rest t (last_or last (tr_rest t last block)) rest; is = front_on last block rest ∙ ap (λ (l : List ℕ). l ++ tr_rest t (last_or last (tr_rest t last block)) rest) (sym made) }
 
@@ -98,77 +99,24 @@ module _ (t : Tables) where
     is = sym (append-nil pushed) ∙ ap (λ (l : List ℕ). pushed ++ l) (sym (rest_nothing now)) ∙ sym (on []) ∙ ap (tr t) (append-nil given) ∙ sym (append-nil (tr t given));
   }
 
-  -- ---- a block, byte by byte
-
-  -- the bytes put down so far, and what is written of the rest
-  pub record Written (into : List ℕ) (count : ℕ) (last : Option ℕ) (rest whole : List ℕ) : Type 0 where
-    pub is : take count into ++ tr_rest t last rest ≡ whole
-
-  pub written_all : (into : List ℕ) (count : ℕ) (last : Option ℕ) (whole : List ℕ) → Written into count last [] whole → take count into ≡ whole
-  written_all into count last whole w = sym (append-nil (take count into)) ∙ ap (λ (l : List ℕ). take count into ++ l) (sym (rest_nothing last)) ∙ w.is
-
-  rest_one : (last : Option ℕ) (b : ℕ) (rest : List ℕ) (gone : Bool) → gone ≡ deletes t b
-      → squeeze_from (squeezes t) last (map (image t) (cond (not gone) (b ∷ filter (λ b. not (deletes t b)) rest) (filter (λ b. not (deletes t b)) rest))) ≡ tr_rest t last (b ∷ rest)
-  rest_one last b rest gone d = ap (λ (d : Bool). squeeze_from (squeezes t) last (map (image t) (cond (not d) (b ∷ filter (λ b. not (deletes t b)) rest) (filter (λ b. not (deletes t b)) rest)))) d
-
-  rest_kept : (last : Option ℕ) (b : ℕ) (rest : List ℕ) (again : Bool) → false ≡ deletes t b → again ≡ (option_eq eqb last (Some (image t b)) && squeezes t (image t b))
-      → cond (not again) (image t b ∷ tr_rest t (Some (image t b)) rest) (tr_rest t (Some (image t b)) rest) ≡ tr_rest t last (b ∷ rest)
-  rest_kept last b rest again d s =
-      ap (λ (a : Bool). cond (not a) (image t b ∷ tr_rest t (Some (image t b)) rest) (tr_rest t (Some (image t b)) rest)) s
-      ∙ sym (from_one (squeezes t) last (image t b) (translated t rest)) ∙ rest_one last b rest false d
-
-  step : (into : List ℕ) (count : ℕ) (last : Option ℕ) (b : ℕ) (rest : List ℕ) (gone again : Bool) → count < length into
-      → gone ≡ deletes t b → again ≡ (option_eq eqb last (Some (image t b)) && squeezes t (image t b))
-      → take (count + bool_byte (not (gone || again))) (set into count (image t b)) ++ tr_rest t (cond gone last (Some (image t b))) rest ≡ take count into ++ tr_rest t last (b ∷ rest)
-  step into count last b rest true again room d s =
-      let same : count + 0 ≡ count = omega arith in
-      ap (λ (l : List ℕ). l ++ tr_rest t last rest) (rw same (take-set into count (image t b))) ∙ ap (λ (l : List ℕ). take count into ++ l) (rest_one last b rest true d)
-  step into count last b rest false true room d s =
-      let same : count + 0 ≡ count = omega arith in
-      ap (λ (l : List ℕ). l ++ tr_rest t (Some (image t b)) rest) (rw same (take-set into count (image t b))) ∙ ap (λ (l : List ℕ). take count into ++ l) (rest_kept last b rest true d s)
-  step into count last b rest false false room d s =
-      ap (λ (l : List ℕ). l ++ tr_rest t (Some (image t b)) rest) (take_more_set into count (image t b) room)
-      ∙ append_assoc (take count into) (image t b ∷ []) (tr_rest t (Some (image t b)) rest) ∙ ap (λ (l : List ℕ). take count into ++ l) (rest_kept last b rest false d s)
-
-  -- one byte more
-  pub written_step : (into into' : List ℕ) (count count' : ℕ) (last last' : Option ℕ) (b : ℕ) (front rest whole : List ℕ) (gone again : Bool) → Written into count last front whole → count < length into
-      → front ≡ b ∷ rest → gone ≡ deletes t b → again ≡ (option_eq eqb last (Some (image t b)) && squeezes t (image t b))
-      → into' ≡ set into count (image t b) → count' ≡ count + bool_byte (not (gone || again)) → last' ≡ cond gone last (Some (image t b)) → Written into' count' last' rest whole
-  written_step into into' count count' last last' b front rest whole gone again w room f d s i n l = record {
-    is = (λ k. take (n k) (i k) ++ tr_rest t (l k) rest) ∙ step into count last b rest gone again room d s ∙ ap (λ (l : List ℕ). take count into ++ tr_rest t last l) (sym f) ∙ w.is;
-  }
-
-pub small : (b : Bool) → bool_byte b ≤ 1
-small true = omega arith
-small false = omega arith
-
-pub not_both : (x y : Bool) → y ≡ false → false ≡ (x && y)
-not_both true y h = sym h
-not_both false y h = refl
-
 -- ---- where nothing is deleted or squeezed
+
+not_both : (x y : Bool) → y ≡ false → (x && y) ≡ false
+not_both true y h = h
+not_both false y h = refl
 
 behind_all : (squeezed : ℕ → Bool) → ((b : ℕ) → squeezed b ≡ false) → (last : ℕ) (bytes : List ℕ) → squeeze_behind squeezed last bytes ≡ bytes
 behind_all squeezed none last [] = refl
 behind_all squeezed none last (b ∷ bytes) =
-    behind_one squeezed last b bytes ∙ ap (λ (s : Bool). cond (not s) (b ∷ squeeze_behind squeezed b bytes) (squeeze_behind squeezed b bytes)) (sym (not_both (last == b) (squeezed b) (none b)))
+    behind_one squeezed last b bytes ∙ ap (λ (s : Bool). cond (not s) (b ∷ squeeze_behind squeezed b bytes) (squeeze_behind squeezed b bytes)) (not_both (last == b) (squeezed b) (none b))
     ∙ ap (λ (l : List ℕ). b ∷ l) (behind_all squeezed none b bytes)
 
-from_all : (squeezed : ℕ → Bool) → ((b : ℕ) → squeezed b ≡ false) → (last : Option ℕ) (bytes : List ℕ) → squeeze_from squeezed last bytes ≡ bytes
+pub from_all : (squeezed : ℕ → Bool) → ((b : ℕ) → squeezed b ≡ false) → (last : Option ℕ) (bytes : List ℕ) → squeeze_from squeezed last bytes ≡ bytes
 from_all squeezed none None [] = refl
 from_all squeezed none None (b ∷ bytes) = ap (λ (l : List ℕ). b ∷ l) (behind_all squeezed none b bytes)
 from_all squeezed none (Some last) bytes = behind_all squeezed none last bytes
 
-filter_all : (test : ℕ → Bool) → ((b : ℕ) → test b ≡ false) → (bytes : List ℕ) → filter (λ b. not (test b)) bytes ≡ bytes
+pub filter_all : (test : ℕ → Bool) → ((b : ℕ) → test b ≡ false) → (bytes : List ℕ) → filter (λ b. not (test b)) bytes ≡ bytes
 filter_all test none [] = refl
 filter_all test none (b ∷ bytes) =
     ap (λ (t : Bool). cond (not t) (b ∷ filter (λ b. not (test b)) bytes) (filter (λ b. not (test b)) bytes)) (none b) ∙ ap (λ (l : List ℕ). b ∷ l) (filter_all test none bytes)
-
-map_bytes : (f g : ℕ → ℕ) → ((b : ℕ) → b < 256 → f b ≡ g b) → (bytes : List ℕ) → ((k : ℕ) → get_or bytes k 0 < 256) → map f bytes ≡ map g bytes
-map_bytes f g same [] small = refl
-map_bytes f g same (b ∷ bytes) small = λ i. same b (small 0) i ∷ map_bytes f g same bytes (λ k. small (suc k)) i
-
--- what is written is what the stretches make of each byte
-pub plain_rest : (ss : List Stretch) (t : Tables) → IsPlain ss t → (last : Option ℕ) (bytes : List ℕ) → ((k : ℕ) → get_or bytes k 0 < 256) → map (shifted ss) bytes ≡ tr_rest t last bytes
-plain_rest ss t plain last bytes small =
-    map_bytes (shifted ss) (image t) plain.0 bytes small ∙ sym (from_all (squeezes t) plain.2 last (translated t bytes) ∙ ap (map (image t)) (filter_all (deletes t) plain.1 bytes))

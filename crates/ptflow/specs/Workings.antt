@@ -5,6 +5,8 @@ pub mod CutRests
 pub mod FieldPlaces
 pub mod TrRests
 pub mod Lanes
+pub mod Mappings
+pub mod Rowings
 pub mod OpenRuns
 pub mod UniqWords
 pub mod BlockRuns
@@ -12,3 +14,5 @@ pub mod OpenLines
 pub mod SerialRests
 pub mod TakenLines
 pub mod RowTurns
+pub mod ByteSets
+pub mod Packings

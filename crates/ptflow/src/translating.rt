@@ -1,141 +1,124 @@
 //! `tr`.
 
-ghost use Rattle.std.specs.Prelude.{◌≡◌, ◌≢◌, ◌≤◌, ℕ, length, map, take, false, Err};
-ghost use Rattle.ptlangs.specs.TrShifts.{shifted};
-ghost use Rattle.ptlangs.specs.TrTables.{deletes, squeezes};
+ghost use Rattle.std.specs.Prelude.{◌≡◌, ◌≢◌, ◌≤◌, length, map, filter, not, Err};
+ghost use Rattle.ptlangs.specs.TrTables.{deletes, image, squeezes};
 ghost use Rattle.ptflow.specs.Passes.{IsReady, IsBarePass, no_slots};
 ghost use Rattle.ptflow.specs.Translations.{tr_tool};
-ghost use Rattle.ptflow.specs.Workings.TrRests.{Covers, tr_rest};
+ghost use Rattle.ptflow.specs.Workings.Mappings.{IsMapping};
+ghost use Rattle.ptflow.specs.Workings.Packings.{IsPacking};
+ghost use Rattle.ptflow.specs.Workings.TrRests.{IsSetIfAny, squeeze_from};
 
 use crate::blocks::{BlockTool, over_blocks};
 use crate::faults::FlowFault;
-use crate::lanes::translate;
-use ptlangs::{CharPlan, Shifts};
+use crate::keeping::keep_others;
+use crate::mapping::Mapping;
+use crate::packing::Shuffles;
+use crate::sets::ByteSet;
+use crate::squeezing::squeeze_block;
+use ptlangs::CharPlan;
 use ptlines::{LineReader, Out, Sink, Source, WriteFault};
 
-// Puts what is written of a block to the front of `into`, and says how many bytes that is. `last` was written last,
-// if anything was. Each image is put down, and the count goes on if it stays: that needs no branch a byte. Only where
-// `deleting` is true does the plan delete, and only where `squeezing` is does it squeeze: a call with constants for
-// both pays for nothing else.
-#[inline(always)]
-fn look_up(
-    plan: &CharPlan,
-    deleting: bool,
-    squeezing: bool,
-    last: Option<u8>,
-    block: &[u8],
-    into: &mut [u8; 8192],
-) -> usize
-    requires deleting { Covers deleting (deletes plan.now) }
-    requires squeezing { Covers squeezing (squeezes plan.now) }
-    requires room { length block.now ≤ 8192 }
-    ensures written { take result into.new ≡ tr_rest plan.now last block.now }
-    ensures within { result ≤ 8192 }
-{
-    let deleted = plan.deleted();
-    let images = plan.images();
-    let squeezed = plan.squeezed();
-    let mut last = last;
-    let mut count = 0;
-    for byte in block {
-        let place = usize::from(*byte);
-        let image = images[place];
-        into[count] = image;
-        let gone = deleting && deleted[place];
-        let repeats = squeezing && (last == Some(image)) & squeezed[usize::from(image)];
-        count += usize::from(!(gone | repeats));
-        last = if gone { last } else { Some(image) };
-    }
-    count
-}
-
-// The same, with constants for both flags.
-fn look_up_by(
-    plan: &CharPlan,
-    deleting: bool,
-    squeezing: bool,
-    last: Option<u8>,
-    block: &[u8],
-    into: &mut [u8; 8192],
-) -> usize
-    requires deleting { Covers deleting (deletes plan.now) }
-    requires squeezing { Covers squeezing (squeezes plan.now) }
-    requires room { length block.now ≤ 8192 }
-    ensures written { take result into.new ≡ tr_rest plan.now last block.now }
-    ensures within { result ≤ 8192 }
-{
-    match (deleting, squeezing) {
-        (false, false) => look_up(plan, false, false, last, block, into),
-        (false, true) => look_up(plan, false, true, last, block, into),
-        (true, false) => look_up(plan, true, false, last, block, into),
-        (true, true) => look_up(plan, true, true, last, block, into),
-    }
-}
-
-// Puts what bytes of a block become to the front of `into`, and says how many bytes that is.
-fn shift_block(shifts: &Shifts, block: &[u8], into: &mut [u8; 8192]) -> usize
-    requires { length block.now ≤ 8192 }
-    ensures shifted { take result into.new ≡ map (shifted shifts.now) block.now }
-    ensures within { result ≤ 8192 }
-{
-    let count = block.len();
-    translate(shifts, block, &mut into[..count]);
-    count
-}
-
-/// The plan, whether it deletes and whether it squeezes, and what it adds to bytes if it does nothing else and that is
-/// few stretches.
+/// The plan, and what its passes need: the bytes that go, how images are made, the bytes whose repeats go, and how bytes
+/// that stay are put side by side. A pass that would change nothing is left out.
 #[derive(Drop)]
 struct Translation<'a> {
     plan: &'a CharPlan,
-    deleting: bool,
-    squeezing: bool,
-    shifts: Option<Shifts>,
+    deleting: Option<ByteSet>,
+    mapping: Mapping,
+    squeezing: Option<ByteSet>,
+    shuffles: Shuffles,
+}
+
+// The set of the bytes whose flag is true, if there are any.
+fn set_of(flags: &[bool; 256]) -> Option<ByteSet>
+    ensures { IsSetIfAny result flags.now }
+{
+    if flags.contains(&true) {
+        Some(ByteSet::of(flags))
+    } else {
+        None
+    }
 }
 
 impl<'a> Translation<'a> {
-    ghost use Rattle.ptflow.specs.Workings.TrRests.{IsOf};
+    ghost use Rattle.ptflow.specs.Workings.TrRests.{IsSetIfAny, IsOf};
 
     fn new(plan: &'a CharPlan) -> Translation<'a>
         ensures plan { result.plan.now ≡ plan.now }
-        ensures is_of { IsOf result.deleting result.squeezing result.shifts result.plan.now }
+        ensures is_of { IsOf result.deleting result.mapping result.squeezing result.shuffles result.plan.now }
     {
-        let deleting = plan.deleted().contains(&true);
-        let squeezing = plan.squeezed().contains(&true);
         Translation {
             plan,
-            deleting,
-            squeezing,
-            shifts: if deleting || squeezing {
-                None
-            } else {
-                plan.shifts()
-            },
+            deleting: set_of(plan.deleted()),
+            mapping: Mapping::of(plan),
+            squeezing: set_of(plan.squeezed()),
+            shuffles: Shuffles::new(),
         }
     }
 
-    // Puts what is written of a block to the front of `into`, where `last` was written last, if anything was, and says
-    // how many bytes that is. Apart, so that the compiler sees that `into` is no part of the plan.
-    #[inline(never)]
-    fn write_block(&self, last: Option<u8>, block: &[u8], into: &mut [u8; 8192]) -> usize
-        requires is_of { IsOf self.now.deleting self.now.squeezing self.now.shifts self.now.plan.now }
+    // The bytes that are not deleted, which `into` has room for.
+    fn kept<'b>(&self, block: &'b [u8], into: &'b mut [u8; 8224]) -> &'b [u8]
+        requires deleting { IsSetIfAny self.now.deleting self.now.plan.now.deleted }
+        requires packing { IsPacking self.now.shuffles }
         requires room { length block.now ≤ 8192 }
-        ensures written { take result into.new ≡ tr_rest self.now.plan.now last block.now }
-        ensures within { result ≤ 8192 }
+        ensures kept { result.now ≡ filter (λ b. not (deletes self.now.plan.now b)) block.now }
+        ensures within { length result.now ≤ length block.now }
     {
-        match &self.shifts {
-            Some(shifts) => shift_block(shifts, block, into),
-            None => look_up_by(self.plan, self.deleting, self.squeezing, last, block, into),
+        match self.deleting {
+            Some(set) => {
+                let count = keep_others(set, self.plan.deleted(), &self.shuffles, block, into);
+                &into[..count]
+            }
+            None => block,
+        }
+    }
+
+    // The images of bytes, which `into` has room for.
+    fn mapped<'b>(&self, bytes: &'b [u8], into: &'b mut [u8; 8224]) -> &'b [u8]
+        requires mapping { IsMapping self.now.mapping self.now.plan.now }
+        requires room { length bytes.now ≤ 8192 }
+        ensures { result.now ≡ map (image self.now.plan.now) bytes.now }
+    {
+        if let Mapping::Same = self.mapping {
+            return bytes;
+        }
+        let images = &mut into[..bytes.len()];
+        self.mapping.translate(self.plan, bytes, images);
+        images
+    }
+
+    // The bytes that stay where `last` stands in front of them, if anything does; `into` has room for them.
+    fn squeezed<'b>(&self, last: Option<u8>, bytes: &'b [u8], into: &'b mut [u8; 8224]) -> &'b [u8]
+        requires squeezing { IsSetIfAny self.now.squeezing self.now.plan.now.squeezed }
+        requires packing { IsPacking self.now.shuffles }
+        requires room { length bytes.now ≤ 8192 }
+        ensures { result.now ≡ squeeze_from (squeezes self.now.plan.now) last bytes.now }
+    {
+        match self.squeezing {
+            Some(set) => {
+                let count = squeeze_block(
+                    set,
+                    self.plan.squeezed(),
+                    &self.shuffles,
+                    last,
+                    bytes,
+                    into,
+                );
+                &into[..count]
+            }
+            None => bytes,
         }
     }
 }
 
-/// What is done to each byte, the byte that was written last, if any was, and room for what is written of a block.
+/// What is done to each byte, the byte that was written last, if any was, and room for what each pass makes of a block.
 #[derive(Drop)]
 struct Translator<'a> {
     by: Translation<'a>,
     last: Option<u8>,
-    into: [u8; 8192],
+    kept: [u8; 8224],
+    mapped: [u8; 8224],
+    squeezed: [u8; 8224],
 }
 
 impl<'a> BlockTool for Translator<'a> {
@@ -147,11 +130,12 @@ impl<'a> BlockTool for Translator<'a> {
     ghost counted = { λ t. 0 };
 
     ghost Holds = { λ s t. (t.by.plan.now ≡ s.by.plan.now)
-        × IsOf t.by.deleting t.by.squeezing t.by.shifts t.by.plan.now };
+        × IsOf t.by.deleting t.by.mapping t.by.squeezing t.by.shuffles t.by.plan.now };
 
     fn push_block<W: Sink>(&mut self, block: &[u8], out: &mut Out<W>) -> Result<(), WriteFault> {
-        let count = self.by.write_block(self.last, block, &mut self.into);
-        let written = &self.into[..count];
+        let kept = self.by.kept(block, &mut self.kept);
+        let mapped = self.by.mapped(kept, &mut self.mapped);
+        let written = self.by.squeezed(self.last, mapped, &mut self.squeezed);
         out.push(written)?;
         self.last = written.last().copied().or(self.last);
         Ok(())
@@ -185,7 +169,9 @@ pub fn tr<S: Source, R: Source, W: Sink>(
     let mut tool = Translator {
         by: Translation::new(plan),
         last: None,
-        into: [0; 8192],
+        kept: [0; 8224],
+        mapped: [0; 8224],
+        squeezed: [0; 8224],
     };
     over_blocks(&mut tool, reader, out)
 }

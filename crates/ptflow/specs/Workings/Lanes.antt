@@ -1,25 +1,29 @@
--- Bytes that are moved by four stretches, some of which may move none.
-use Rattle.std.specs.Prelude.{◌≡◌, ◌≤◌, ℕ, ◌+◌, ◌%◌, Bool, false, List, length, map, take}
-use Rattle.ptlangs.specs.declared.shifts.Stretch.{Stretch}
-use Rattle.ptlangs.specs.TrShifts.{added, shifted}
+-- Bytes that are moved by at most four stretches.
+use Rattle.std.specs.Prelude.{◌≡◌, ◌≤◌, ℕ, ◌+◌, ◌-◌, ◌%◌, List, Option, None, Some, nat_le, length, map, take, if◌then◌else◌}
+use Rattle.ptlangs.specs.TrShifts.{added}
+use Rattle.ptflow.specs.declared.lanes.Reach.{Reach}
+use Rattle.ptflow.specs.declared.lanes.Two.{Two}
 use Rattle.ptflow.specs.declared.lanes.Four.{Four}
 
--- what a stretch of this first and last byte adds to a byte
-abbrev pub added_by : ℕ × ℕ × ℕ → ℕ → ℕ
-added_by (first, last, by) b = added (record { first = first; last = last; by = by }) b
+-- what a stretch adds to a byte: the byte is in it if it lies no further behind the first byte than the last one does
+abbrev pub reach_adds : Reach → ℕ → ℕ
+reach_adds s b = if nat_le ((b + (256 - s.first)) % 256) s.width then s.by else 0
 
--- what a byte becomes
-abbrev pub moved_by : Four → ℕ → ℕ
-moved_by s b = ((((b + added_by s.a b) % 256 + added_by s.b b) % 256 + added_by s.c b) % 256 + added_by s.d b) % 256
+-- the same where the first and the last byte are told, if there is such a stretch
+abbrev pub told_adds : Option (ℕ × ℕ × ℕ) → ℕ → ℕ
+told_adds None b = 0
+told_adds (Some told) b = added (record { first = told.0; last = told.1; by = told.2 }) b
 
--- they are these stretches
-abbrev pub AreOf : List Stretch → Four → Type 0
-AreOf ss four = (b : ℕ) → moved_by four b ≡ shifted ss b
+-- what a byte becomes by one, two and four stretches
+abbrev pub by_reach : Reach → ℕ → ℕ
+by_reach s b = (b + reach_adds s b) % 256
 
--- where there are not many of them, the last two move no byte
-abbrev pub IsOneOf : Bool → Four → Type 0
-IsOneOf many s = many ≡ false → (b : ℕ) → (added_by s.c b ≡ 0) × (added_by s.d b ≡ 0)
+abbrev pub by_two : Two → ℕ → ℕ
+by_two s b = (by_reach s.a b + reach_adds s.b b) % 256
+
+abbrev pub by_four : Four → ℕ → ℕ
+by_four s b = (((by_reach s.a b + reach_adds s.b b) % 256 + reach_adds s.c b) % 256 + reach_adds s.d b) % 256
 
 -- the first so many bytes are moved
 abbrev pub IsMovedTo : ℕ → (ℕ → ℕ) → List ℕ → List ℕ → Type 0
-IsMovedTo at image from to = (at ≤ length from) × (length to ≡ length from) × (take at to ≡ map image (take at from))
+IsMovedTo at becomes from to = (at ≤ length from) × (length to ≡ length from) × (take at to ≡ map becomes (take at from))

@@ -1,13 +1,13 @@
 -- What `tr` writes of the rest of a text.
-use Rattle.std.specs.Prelude.{◌≡◌, ℕ, List, Bool, false, Option, None, Some, IfSome}
-use Rattle.ptlangs.specs.declared.shifts.Stretch.{Stretch}
-use Rattle.ptlangs.specs.TrShifts.{Move}
-use Rattle.ptlangs.specs.TrTables.{Tables, deletes, squeezes}
+use Rattle.std.specs.Prelude.{◌≡◌, ℕ, List, Bool, false, Option, None, Some, slice_index_or}
+use Rattle.ptlangs.specs.TrTables.{Tables, squeezes}
+use Rattle.ptflow.specs.declared.mapping.Mapping.{Mapping}
+use Rattle.ptflow.specs.declared.packing.Shuffles.{Shuffles}
+use Rattle.ptflow.specs.declared.sets.ByteSet.{ByteSet}
 use Rattle.ptflow.specs.Translations.{squeeze_behind, squeeze, translated}
-
--- if the flag is false, the test holds for no byte
-abbrev pub Covers : Bool → (ℕ → Bool) → Type 0
-Covers flag test = flag ≡ false → (b : ℕ) → test b ≡ false
+use Rattle.ptflow.specs.Workings.ByteSets.{IsSetOf}
+use Rattle.ptflow.specs.Workings.Mappings.{IsMapping}
+use Rattle.ptflow.specs.Workings.Packings.{IsPacking}
 
 -- the bytes that stay, where `last` stands in front, if there is such a byte
 abbrev pub squeeze_from : (ℕ → Bool) → Option ℕ → List ℕ → List ℕ
@@ -18,11 +18,12 @@ squeeze_from squeezed (Some last) bytes = squeeze_behind squeezed last bytes
 abbrev pub tr_rest : Tables → Option ℕ → List ℕ → List ℕ
 tr_rest tables last rest = squeeze_from (squeezes tables) last (translated tables rest)
 
--- what these stretches add to bytes is all that is done
-abbrev pub IsPlain : List Stretch → Tables → Type 0
-IsPlain shifts tables = Move shifts tables × ((b : ℕ) → deletes tables b ≡ false) × ((b : ℕ) → squeezes tables b ≡ false)
+-- the set of the bytes whose flag is true, or nothing where there are none
+abbrev pub IsSetIfAny : Option ByteSet → List Bool → Type 0
+IsSetIfAny None flags = (b : ℕ) → slice_index_or flags b false ≡ false
+IsSetIfAny (Some set) flags = IsSetOf set flags
 
--- the flags hold where something is deleted and squeezed, and stretches are given only where they are all that is done
-abbrev pub IsOf : Bool → Bool → Option (List Stretch) → Tables → Type 0
-IsOf deleting squeezing shifts tables =
-    Covers deleting (deletes tables) × Covers squeezing (squeezes tables) × IfSome shifts (λ ss. IsPlain ss tables)
+-- what the passes of a plan need
+abbrev pub IsOf : Option ByteSet → Mapping → Option ByteSet → Shuffles → Tables → Type 0
+IsOf deleting mapping squeezing shuffles tables =
+    IsSetIfAny deleting tables.deleted × IsMapping mapping tables × IsSetIfAny squeezing tables.squeezed × IsPacking shuffles
