@@ -223,8 +223,8 @@ module _ (all : List Interval) (before count end : ℕ) (bytes was : List ℕ) (
         → Choosing all (i + 1) before piece tail was is' start (at + (to - from))
     copied_more from to from_is to_is short copied =
         let slice : take (to - from) (drop from bytes) ≡ chosen (lies_in at_i) (before + 1) piece =
-            (λ j. take (to_is j - from_is j) (drop (from_is j) bytes)) ∙ slice_is at_i before count bytes (omega (arith, in_piece, in_bytes)) short
-            ∙ ap (chosen (lies_in at_i) (before + 1)) (sym (take-take count end bytes in_piece)) in
+        (λ j. take (to_is j - from_is j) (drop (from_is j) bytes)) ∙ slice_is at_i before count bytes (omega (arith, in_piece, in_bytes)) short
+        ∙ ap (chosen (lies_in at_i) (before + 1)) (sym (take-take count end bytes in_piece)) in
         subst (λ (l : List ℕ). Choosing all (i + 1) before piece tail was l start (at + (to - from))) (sym (copied ∙ ap (λ (l : List ℕ). is ++ l) slice))
         (subst (λ (n : ℕ). Choosing all (i + 1) before piece tail was (is ++ chosen (lies_in at_i) (before + 1) piece) start (at + n)) (λ j. sym to_is j - sym from_is j)
         (choosing_more all before piece tail was start i is at k within (omega (arith, piece_long, short))))

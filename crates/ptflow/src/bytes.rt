@@ -59,7 +59,13 @@ fn copy_selected(
 // Copies what is written of a block, of whose first line `before` bytes came earlier. The answer is where that ends,
 // and how many bytes have come of the line that goes on behind the block.
 #[inline(always)]
-fn cut_pieces(selected: &[Interval], ending: u8, before: u64, block: &[u8], into: &mut Written) -> (usize, u64)
+fn cut_pieces(
+    selected: &[Interval],
+    ending: u8,
+    before: u64,
+    block: &[u8],
+    into: &mut Written,
+) -> (usize, u64)
     requires apart { AreApart 0 selected.now }
     requires room { length block.now ≤ 8192 }
     requires short { before + length block.now < 2 ^ 63 }
@@ -87,6 +93,7 @@ fn push_pieces<W: Sink>(
     ending: u8,
     before: u64,
     block: &[u8],
+    written: &mut Written,
     out: &mut Out<W>,
 ) -> Result<u64, WriteFault>
     requires apart { AreApart 0 selected.now }
@@ -99,22 +106,23 @@ fn push_pieces<W: Sink>(
     ensures clean { OnOk result (out.new.faulted ≡ false) }
     ensures fault { OnErr result (out.new.faulted ≡ true) }
 {
-    let mut written: Written = [0; 8208];
     let (count, before) = if selected.len() == 1 {
-        cut_pieces(&selected[..1], ending, before, block, &mut written)
+        cut_pieces(&selected[..1], ending, before, block, written)
     } else {
-        cut_pieces(selected, ending, before, block, &mut written)
+        cut_pieces(selected, ending, before, block, written)
     };
     out.push(&written[..count])?;
     Ok(before)
 }
 
-/// What is selected of each line, the byte that ends a line, and how many bytes have come of the line that goes on.
+/// What is selected of each line, the byte that ends a line, how many bytes have come of the line that goes on, and a
+/// place for what is written of a block.
 #[derive(Drop)]
 struct ByteCut<'a> {
     selected: &'a [Interval],
     ending: u8,
     before: u64,
+    written: Written,
 }
 
 impl<'a> BlockTool for ByteCut<'a> {
@@ -129,7 +137,14 @@ impl<'a> BlockTool for ByteCut<'a> {
     ghost Holds = { λ s t. AreApart 0 t.selected.now × (t.selected.now ≡ s.selected.now) × (t.ending ≡ s.ending) };
 
     fn push_block<W: Sink>(&mut self, block: &[u8], out: &mut Out<W>) -> Result<(), WriteFault> {
-        self.before = push_pieces(self.selected, self.ending, self.before, block, out)?;
+        self.before = push_pieces(
+            self.selected,
+            self.ending,
+            self.before,
+            block,
+            &mut self.written,
+            out,
+        )?;
         Ok(())
     }
 
@@ -159,6 +174,7 @@ pub(crate) fn cut_by_bytes<A: Allocator + Copy, S: Source, R: Source, W: Sink>(
         selected: job.list.intervals(),
         ending: reader.ending(),
         before: 0,
+        written: [0; 8208],
     };
     over_blocks(&mut tool, reader, out)
 }

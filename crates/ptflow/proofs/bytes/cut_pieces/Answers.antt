@@ -1,4 +1,4 @@
-use Rattle.std.proofs.Common.{◌+◌, [], length, take, drop, refl, arith, length-drop}
+use Rattle.std.proofs.Common.{◌+◌, [], length, take, drop, arith, length-drop}
 use Rattle.std.proofs.lemmas.List.{take_rest, take_all}
 use Rattle.ptlangs.specs.CutLists.{is_selected}
 use Rattle.ptlines.proofs.Scanned.{no_end}
