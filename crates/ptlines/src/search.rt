@@ -1,6 +1,6 @@
 //! A search for a byte that is near.
 
-ghost use Rattle.std.specs.Prelude.{◌≤◌, length};
+ghost use Rattle.std.specs.Prelude.{◌≤◌, ◌+◌, length};
 ghost use Rattle.memchr.specs.Find.{IsFirst, IsFirstByte, Passes, is_byte};
 
 use memchr::memchr;
@@ -21,12 +21,37 @@ fn find_in_16(byte: u8, bytes: &[u8]) -> Option<usize>
     Some(marked.trailing_zeros() as usize)
 }
 
-// Apart, so that what is near is found without a call.
-#[inline(never)]
-fn find_far(byte: u8, bytes: &[u8]) -> Option<usize>
-    ensures { IsFirstByte (is_byte byte) bytes.now result }
+// The first of the 64 places from one on that holds the byte.
+#[inline(always)]
+fn find_in_64(byte: u8, bytes: &[u8], at: usize) -> Option<usize>
+    requires { at + 64 ≤ length bytes.now }
+    ensures { IsFirst (Passes (is_byte byte) bytes.now) at (at + 64) result }
 {
-    memchr(byte, bytes)
+    let marked = u8x64::from_slice(&bytes[at..])
+        .simd_eq(u8x64::splat(byte))
+        .to_bitmask();
+    if marked == 0 {
+        return None;
+    }
+    Some(at + marked.trailing_zeros() as usize)
+}
+
+// The first place of a byte from one on. Apart, so that what is near is found without a call.
+#[inline(never)]
+fn find_far(byte: u8, bytes: &[u8], from: usize) -> Option<usize>
+    requires { from ≤ length bytes.now }
+    ensures { IsFirst (Passes (is_byte byte) bytes.now) from (length bytes.now) result }
+{
+    let mut at = from;
+    while bytes.len() - at >= 64 {
+        let near = find_in_64(byte, bytes, at);
+        if near.is_some() {
+            return near;
+        }
+        at += 64;
+    }
+    let found = memchr(byte, &bytes[at..])?;
+    Some(at + found)
 }
 
 /// The first place of a byte, as `memchr` finds it, but faster where it is one of the first 16, as the
@@ -35,11 +60,12 @@ fn find_far(byte: u8, bytes: &[u8]) -> Option<usize>
 pub fn find_near(byte: u8, bytes: &[u8]) -> Option<usize>
     ensures { IsFirstByte (is_byte byte) bytes.now result }
 {
-    if bytes.len() >= 16 {
-        let near = find_in_16(byte, bytes);
-        if near.is_some() {
-            return near;
-        }
+    if bytes.len() < 16 {
+        return find_far(byte, bytes, 0);
     }
-    find_far(byte, bytes)
+    let near = find_in_16(byte, bytes);
+    if near.is_some() {
+        return near;
+    }
+    find_far(byte, bytes, 16)
 }
