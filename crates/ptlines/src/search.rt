@@ -1,7 +1,7 @@
 //! A search for a byte that is near.
 
 ghost use Rattle.std.specs.Prelude.{◌≤◌, ◌+◌, length};
-ghost use Rattle.memchr.specs.Find.{IsFirst, IsFirstByte, Passes, is_byte};
+ghost use Rattle.memchr.specs.Find.{IsFirst, IsFirstByte, Nowhere, Passes, is_byte};
 
 use memchr::memchr;
 use std::simd::prelude::*;
@@ -36,12 +36,16 @@ fn find_in_64(byte: u8, bytes: &[u8], at: usize) -> Option<usize>
     Some(at + marked.trailing_zeros() as usize)
 }
 
-// The first place of a byte from one on. Apart, so that what is near is found without a call.
+// The first place of a byte, which is not in front of one. Apart, so that what is near is found without a call.
 #[inline(never)]
 fn find_far(byte: u8, bytes: &[u8], from: usize) -> Option<usize>
-    requires { from ≤ length bytes.now }
-    ensures { IsFirst (Passes (is_byte byte) bytes.now) from (length bytes.now) result }
+    requires within { from ≤ length bytes.now }
+    requires passed { Nowhere (Passes (is_byte byte) bytes.now) 0 from }
+    ensures { IsFirstByte (is_byte byte) bytes.now result }
 {
+    if bytes.len() < 64 {
+        return memchr(byte, bytes);
+    }
     let mut at = from;
     while bytes.len() - at >= 64 {
         let near = find_in_64(byte, bytes, at);
@@ -50,8 +54,7 @@ fn find_far(byte: u8, bytes: &[u8], from: usize) -> Option<usize>
         }
         at += 64;
     }
-    let found = memchr(byte, &bytes[at..])?;
-    Some(at + found)
+    find_in_64(byte, bytes, bytes.len() - 64)
 }
 
 /// The first place of a byte, as `memchr` finds it, but faster where it is one of the first 16, as the
