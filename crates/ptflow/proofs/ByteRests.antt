@@ -10,9 +10,12 @@ use Rattle.ptlines.proofs.TextLaws.{lines_first, other_byte, lines_of_text, text
 use Rattle.ptlines.proofs.Scanned.{before_end}
 use Rattle.ptflow.proofs.LineLaws.{split_of, line_of, end_of, Parts, parts_of}
 use Rattle.ptflow.specs.Cuts.{chosen_from, cut_line, cut, cut_decided}
-use Rattle.ptflow.specs.Workings.CutRests.{rest_of_lines, cut_rest}
+use Rattle.ptflow.specs.Workings.CutRests.{rest_of_lines, cut_rest, rest_by, IsCutTo}
 use Rattle.ptlines.specs.Inputs.{Begins}
+use Rattle.ptlines.specs.Outputs.{Output, Wrote}
+use Rattle.ptflow.specs.Workings.Continuations.{Halts}
 use Rattle.ptlangs.specs.Jobs.{Cut}
+use Rattle.ptlangs.specs.declared.ranges.Interval.{Interval}
 
 module _ (end : ℕ) (selected : ℕ → Bool) where
   -- what is written of lines
@@ -75,6 +78,21 @@ piece_on end selected before bytes whole more =
     let none : drop (length bytes) bytes ≡ [] = drop_all (length bytes) bytes (omega arith) in
     rest_piece end selected before bytes more whole ∙ ap (λ (l : List ℕ). l ++ cut_rest end selected (before + length bytes) more)
     (sym (append-nil (chosen_from selected (before + 1) bytes)) ∙ (λ i. chosen_from selected (before + 1) (sym all i) ++ sym none i))
+
+-- one step more of what is written of a block
+module _ (end : ℕ) (list : List Interval) (start : ℕ) (block : List ℕ) where
+  pub cut_starts : IsCutTo end list start block start block []
+  cut_starts more = refl
+
+  pub cut_on : (now next : ℕ) (rest rest' was is bytes : List ℕ) → IsCutTo end list start block now rest was → is ≡ was ++ bytes
+      → ((more : List ℕ) → rest_by end list now (rest ++ more) ≡ bytes ++ rest_by end list next (rest' ++ more)) → IsCutTo end list start block next rest' is
+  cut_on now next rest rest' was is bytes cut copied on more =
+      cut more ∙ ap (λ (l : List ℕ). was ++ l) (on more) ∙ sym (append_assoc was bytes (rest_by end list next (rest' ++ more)))
+      ∙ ap (λ (l : List ℕ). l ++ rest_by end list next (rest' ++ more)) (sym copied)
+
+  -- a write of it failed
+  pub cut_halts : (now : ℕ) (written : List ℕ) (was is : Output) → IsCutTo end list start block now [] written → Wrote was is written → Halts (rest_by end list) start block was is
+  cut_halts now written was is cut wrote = record { pushed = written; wrote = wrote; true_so_far = λ more. record { rest = rest_by end list now more; is = cut more } }
 
 module _ (job : Cut) (by_bytes : job.fields ≡ false) where
   abbrev end : ℕ

@@ -5,10 +5,8 @@ use Rattle.std.specs.Prelude.{nat_le}
 use Rattle.std.proofs.lemmas.Bool.{cases_order, false≢true}
 use Rattle.std.proofs.lemmas.Bool.Decides.{nat_tests}
 use Rattle.std.proofs.lemmas.List.{take_all, drop_all, take-take, drop-take, drop_more, length-take-le, take-append-drop, drop-append-le}
-use Rattle.ptflow.proofs.Fronts.{Front, front_starts, front_same, front_more, front_fails, front_ends}
 use Rattle.ptlangs.specs.CutLists.{is_selected, AreApart}
 use Rattle.ptlangs.specs.declared.ranges.Interval.{Interval}
-use Rattle.ptlines.specs.Outputs.{Output, Wrote}
 use Rattle.ptflow.specs.Cuts.{chosen_from}
 
 -- the number lies in the interval
@@ -90,28 +88,25 @@ chosen_slice r n (x ∷ xs) (suc i) (suc j) is js =
     let same : suc j - suc i ≡ j - i = omega arith in
     rw (below r n (omega (arith, is)), same) (chosen_slice r (n + 1) xs i j (omega (arith, is)) (omega (arith, js)))
 
--- What the intervals so far choose of a piece was pushed, and what is still to come is chosen by the others; behind it comes the tail.
-pub record Choosing (whole : List ℕ) (others : List Interval) (n : ℕ) (piece tail : List ℕ) (was is : Output) : Type 0 where
-  pub front : Front whole (chosen (is_selected others) n piece ++ tail) was is
+-- What the intervals so far choose of a piece stands behind what stood there, and what is still to come is chosen by the
+-- others; behind it comes the tail. What stands there ends at `at`, which is no farther on than the intervals so far reach.
+pub record Choosing (all : List Interval) (i before : ℕ) (piece tail was is : List ℕ) (start at : ℕ) : Type 0 where
+  pub front : is ++ (chosen (is_selected (drop i all)) (before + 1) piece ++ tail) ≡ was ++ (chosen (is_selected all) (before + 1) piece ++ tail)
   pub low : ℕ
-  pub apart : AreApart low others
+  pub apart : AreApart low (drop i all)
+  pub near : at ≤ start + (low - (before + 1))
+  pub within : at ≤ start + length piece
 
-module _ (all : List Interval) (n : ℕ) (piece tail : List ℕ) (was : Output) where
-  abbrev whole : List ℕ
-  whole = chosen (is_selected all) n piece ++ tail
+module _ (all : List Interval) (before : ℕ) (piece tail was : List ℕ) (start : ℕ) where
+  pub choosing_starts : AreApart 0 all → Choosing all 0 before piece tail was was start start
+  choosing_starts apart = record { front = refl; low = 0; apart = apart; near = omega arith; within = omega arith }
 
-  pub choosing_starts : was.faulted ≡ false → AreApart 0 all → Choosing whole all n piece tail was was
-  choosing_starts clean apart = record { front = front_starts whole whole was refl clean; low = 0; apart = apart }
-
-  module _ (i : ℕ) (is is' : Output) (k : Choosing whole (drop i all) n piece tail was is) where
-    abbrev to_come : List ℕ
-    to_come = chosen (is_selected (drop i all)) n piece ++ tail
-
+  module _ (i : ℕ) (is : List ℕ) (at : ℕ) (k : Choosing all i before piece tail was is start at) where
     -- no interval is left
-    pub choosing_done : length all ≤ i → Wrote is is' tail → Wrote was is' whole
-    choosing_done past wrote =
-        front_ends whole to_come was is k.front is' tail
-        (ap (λ (l : List Interval). chosen (is_selected l) n piece ++ tail) (drop_all i all past) ∙ ap (λ (l : List ℕ). l ++ tail) (chosen_none (is_selected []) n piece (λ m low high. refl))) wrote
+    pub choosing_done : length all ≤ i → is ++ tail ≡ was ++ (chosen (is_selected all) (before + 1) piece ++ tail)
+    choosing_done past =
+        ap (λ (l : List ℕ). is ++ (l ++ tail)) (sym (chosen_none (is_selected []) (before + 1) piece (λ m low high. refl)))
+        ∙ ap (λ (l : List Interval). is ++ (chosen (is_selected l) (before + 1) piece ++ tail)) (sym (drop_all i all past)) ∙ k.front
 
     module _ (within : i < length all) where
       abbrev r : Interval
@@ -123,41 +118,34 @@ module _ (all : List Interval) (n : ℕ) (piece tail : List ℕ) (was : Output) 
       apart : AreApart k.low (r ∷ rs)
       apart = subst (λ (l : List Interval). AreApart k.low l) (drop_more all i (record { first = 0; last = 0 }) within) k.apart
 
-      next : chosen (is_selected (drop i all)) n piece ++ tail ≡ chosen (lies_in r) n piece ++ (chosen (is_selected rs) n piece ++ tail)
+      next : (is ++ chosen (lies_in r) (before + 1) piece) ++ (chosen (is_selected rs) (before + 1) piece ++ tail) ≡ was ++ (chosen (is_selected all) (before + 1) piece ++ tail)
       next =
-          ap (λ (l : List Interval). chosen (is_selected l) n piece ++ tail) (drop_more all i (record { first = 0; last = 0 }) within) ∙ ap (λ (l : List ℕ). l ++ tail) (chosen_first r rs n piece apart.2)
-          ∙ append_assoc (chosen (lies_in r) n piece) (chosen (is_selected rs) n piece) tail
+          append_assoc is (chosen (lies_in r) (before + 1) piece) (chosen (is_selected rs) (before + 1) piece ++ tail)
+          ∙ ap (λ (l : List ℕ). is ++ l) (sym (append_assoc (chosen (lies_in r) (before + 1) piece) (chosen (is_selected rs) (before + 1) piece) tail))
+          ∙ ap (λ (l : List ℕ). is ++ (l ++ tail)) (sym (chosen_first r rs (before + 1) piece apart.2))
+          ∙ ap (λ (l : List Interval). is ++ (chosen (is_selected l) (before + 1) piece ++ tail)) (sym (drop_more all i (record { first = 0; last = 0 }) within)) ∙ k.front
 
-      -- what the interval chooses was pushed
-      pub choosing_more : Wrote is is' (chosen (lies_in r) n piece) → is'.faulted ≡ false → Choosing whole rs n piece tail was is'
-      choosing_more wrote clean = record {
-        front = front_more whole to_come was is k.front is' (chosen (lies_in r) n piece) (chosen (is_selected rs) n piece ++ tail) next wrote clean;
-        low = r.last + 1;
-        apart = apart.2;
-      }
+      -- the interval's bytes, which are so many, end no farther on than it reaches
+      pub choosing_room : at + ((r.last - before) - (r.first - (before + 1))) ≤ start + (r.last - before)
+      choosing_room = omega (arith, k.near, apart.0, apart.1)
 
-      -- the interval lies in front of the piece
-      pub choosing_past : r.last < n → Choosing whole rs n piece tail was is
-      choosing_past past = record {
-        front = front_same whole to_come was is k.front (chosen (is_selected rs) n piece ++ tail) (next ∙ ap (λ (l : List ℕ). l ++ (chosen (is_selected rs) n piece ++ tail)) (chosen_past r n piece past));
-        low = r.last + 1;
-        apart = apart.2;
-      }
+      -- what the interval chooses was copied
+      pub choosing_more : r.last < before + 1 + length piece → Choosing all (i + 1) before piece tail was (is ++ chosen (lies_in r) (before + 1) piece) start (at + ((r.last - before) - (r.first - (before + 1))))
+      choosing_more short = record { front = next; low = r.last + 1; apart = apart.2; near = omega (arith, choosing_room); within = omega (arith, choosing_room, short) }
 
-      -- a write failed
-      pub choosing_fails : Wrote is is' (chosen (lies_in r) n piece) → is'.faulted ≡ true → Wrote was is' whole
-      choosing_fails = front_fails whole to_come was is k.front is' (chosen (lies_in r) n piece) (chosen (is_selected rs) n piece ++ tail) next
+      -- where the interval reaches the end of the piece, what it chooses begins no farther in front than what stands there ends
+      pub choosing_end : at ≤ start + min (r.first - (before + 1)) (length piece)
+      choosing_end = omega (arith, k.near, k.within, apart.0)
 
-      -- the interval reaches the end of the piece
-      pub choosing_ends : n + length piece ≤ r.last + 1 → Wrote is is' (chosen (lies_in r) n piece ++ tail) → Wrote was is' whole
+      pub choosing_ends : before + length piece ≤ r.last → is ++ (chosen (lies_in r) (before + 1) piece ++ tail) ≡ was ++ (chosen (is_selected all) (before + 1) piece ++ tail)
       choosing_ends reaches =
-          front_ends whole to_come was is k.front is' (chosen (lies_in r) n piece ++ tail)
-          (next ∙ ap (λ (l : List ℕ). chosen (lies_in r) n piece ++ (l ++ tail)) (chosen_none (is_selected rs) n piece (λ m low high. not_selected rs (r.last + 1) m apart.2 (omega arith))))
+          ap (λ (l : List ℕ). is ++ (chosen (lies_in r) (before + 1) piece ++ (l ++ tail))) (sym (chosen_none (is_selected rs) (before + 1) piece (λ m low high. not_selected rs (r.last + 1) m apart.2 (omega arith))))
+          ∙ sym (append_assoc is (chosen (lies_in r) (before + 1) piece) (chosen (is_selected rs) (before + 1) piece ++ tail)) ∙ next
 
 -- a slice of the bytes, which lies in the piece in front of them
-pub slice_is : (r : Interval) (before count : ℕ) (bytes : List ℕ) → count ≤ length bytes → before < r.last → r.last < before + count
+pub slice_is : (r : Interval) (before count : ℕ) (bytes : List ℕ) → count ≤ length bytes → r.last < before + count
     → take ((r.last - before) - (r.first - (before + 1))) (drop (r.first - (before + 1)) bytes) ≡ chosen (lies_in r) (before + 1) (take count bytes)
-slice_is r before count bytes within some short =
+slice_is r before count bytes within short =
     let i = r.first - (before + 1) in
     let j = r.last - before in
     let j_is : j ≡ r.last + 1 - (before + 1) = omega arith in
@@ -196,3 +184,47 @@ rest_is r before count bytes within reaches =
             let long : length (take count bytes) ≡ count = length-take-le count bytes within in
             let none : drop i (take count bytes) ≡ [] = drop_all i (take count bytes) (omega (arith, long)) in
             ap (λ (l : List ℕ). take ((r.last + 1 - (before + 1)) - i) l) none ∙ take-nil ((r.last + 1 - (before + 1)) - i) ∙ sym (drop_all (min i count) (take count bytes) (omega (arith, long)))
+
+-- ---- a copy of bytes that were chosen, out of the first `end`
+
+cut_off : (from end : ℕ) (bytes : List ℕ) → from ≤ end → take (end - from) (drop from bytes) ≡ drop from (take end bytes)
+cut_off from end bytes order =
+    let whole : from + (end - from) ≡ end = omega arith in
+    sym (drop-take from (end - from) bytes) ∙ ap (λ (k : ℕ). drop from (take k bytes)) whole
+
+module _ (all : List Interval) (before count end : ℕ) (bytes was : List ℕ) (start : ℕ) (in_piece : count ≤ end) (in_bytes : end ≤ length bytes)
+    (i : ℕ) (is : List ℕ) (at : ℕ) (k : Choosing all i before (take count (take end bytes)) (drop count (take end bytes)) was is start at) where
+  abbrev piece : List ℕ
+  piece = take count (take end bytes)
+
+  abbrev tail : List ℕ
+  tail = drop count (take end bytes)
+
+  long : length (take end bytes) ≡ end
+  long = length-take-le end bytes in_bytes
+
+  piece_long : length piece ≡ count
+  piece_long = length-take-le count (take end bytes) (omega (arith, long, in_piece))
+
+  pub copied_done : (is' : List ℕ) → length all ≤ i → is' ≡ is ++ take (end - count) (drop count bytes) → is' ≡ was ++ (chosen (is_selected all) (before + 1) piece ++ tail)
+  copied_done is' past copied = copied ∙ ap (λ (l : List ℕ). is ++ l) (cut_off count end bytes in_piece) ∙ choosing_done all before piece tail was start i is at k past
+
+  module _ (within : i < length all) (is' : List ℕ) where
+    abbrev at_i : Interval
+    at_i = get_or all i (record { first = 0; last = 0 })
+
+    pub copied_ends : (from : ℕ) → from ≡ min (at_i.first - (before + 1)) count → before + count ≤ at_i.last → is' ≡ is ++ take (end - from) (drop from bytes)
+        → is' ≡ was ++ (chosen (is_selected all) (before + 1) piece ++ tail)
+    copied_ends from from_is reaches copied =
+        copied ∙ ap (λ (l : List ℕ). is ++ l) (cut_off from end bytes (omega (arith, from_is, in_piece)) ∙ ap (λ (n : ℕ). drop n (take end bytes)) from_is ∙ rest_is at_i before count (take end bytes) (omega (arith, long, in_piece)) reaches)
+        ∙ choosing_ends all before piece tail was start i is at k within (omega (arith, piece_long, reaches))
+
+    pub copied_more : (from to : ℕ) → from ≡ at_i.first - (before + 1) → to ≡ at_i.last - before → at_i.last < before + count → is' ≡ is ++ take (to - from) (drop from bytes)
+        → Choosing all (i + 1) before piece tail was is' start (at + (to - from))
+    copied_more from to from_is to_is short copied =
+        let slice : take (to - from) (drop from bytes) ≡ chosen (lies_in at_i) (before + 1) piece =
+        (λ j. take (to_is j - from_is j) (drop (from_is j) bytes)) ∙ slice_is at_i before count bytes (omega (arith, in_piece, in_bytes)) short
+        ∙ ap (chosen (lies_in at_i) (before + 1)) (sym (take-take count end bytes in_piece)) in
+        subst (λ (l : List ℕ). Choosing all (i + 1) before piece tail was l start (at + (to - from))) (sym (copied ∙ ap (λ (l : List ℕ). is ++ l) slice))
+        (subst (λ (n : ℕ). Choosing all (i + 1) before piece tail was (is ++ chosen (lies_in at_i) (before + 1) piece) start (at + n)) (λ j. sym to_is j - sym from_is j)
+        (choosing_more all before piece tail was start i is at k within (omega (arith, piece_long, short))))

@@ -1,64 +1,103 @@
 //! `cut` by bytes.
 
-ghost use Rattle.std.specs.Prelude.{◌≡◌, ◌<◌, ◌≤◌, ◌+◌, ◌^◌, ℕ, length, true, false, None, [], ◌∷◌, OnOk, OnErr, IfOk, ◌==◌, if◌then◌else◌};
+ghost use Rattle.std.specs.Prelude.{◌≡◌, ◌<◌, ◌≤◌, ◌+◌, ◌^◌, ℕ, length, take, ◌++◌, true, false, None, [], ◌∷◌, OnOk, OnErr, IfOk, ◌==◌, if◌then◌else◌};
 ghost use Rattle.ptlines.specs.Outputs.{Wrote};
 ghost use Rattle.ptlangs.specs.CutLists.{AreApart};
 ghost use Rattle.ptlangs.specs.Jobs.{cut_job};
 ghost use Rattle.ptflow.specs.Cuts.{cut_tool};
 ghost use Rattle.ptflow.specs.Passes.{IsBarePass};
-ghost use Rattle.ptflow.specs.Workings.CutRests.{rest_by, chosen_piece};
+ghost use Rattle.ptflow.specs.Workings.CutRests.{rest_by, chosen_piece, IsCutTo};
 ghost use Rattle.ptflow.specs.Workings.Continuations.{Continues, Halts};
 
 use crate::blocks::{BlockTool, over_blocks};
 use crate::faults::FlowFault;
 use ptlangs::jobs::CutJob;
 use ptlangs::ranges::Interval;
-use ptlines::{LineReader, Out, Sink, Source, WriteFault, find_near};
+use ptlines::{LineReader, Out, Sink, Source, WriteFault, copy_near, find_near};
 use std::alloc::Allocator;
 
-// Pushes the selected bytes of a piece of a line, the first `count` of these bytes, and then all the other bytes:
-// the one that ends the line, or none. In front of the piece stand `before` bytes of the line.
+// What is written of a block, which is at most as long as the block, and room for what a copy changes behind it.
+type Written = [u8; 8208];
+
+// Copies the selected bytes of a piece of a line, the first `count` of these bytes, and then the bytes up to `end`:
+// the one that ends the line, or none. In front of the piece stand `before` bytes of the line. The answer is where
+// that ends.
 #[inline(always)]
-fn push_selected<W: Sink>(
+fn copy_selected(
     selected: &[Interval],
     before: u64,
-    count: usize,
     bytes: &[u8],
-    out: &mut Out<W>,
-) -> Result<(), WriteFault>
+    count: usize,
+    end: usize,
+    into: &mut Written,
+    at: usize,
+) -> usize
     requires apart { AreApart 0 selected.now }
-    requires within { count ≤ length bytes.now }
+    requires within { (count ≤ end) × (end ≤ length bytes.now) }
     requires short { before + count < 2 ^ 63 }
-    requires clean { out.old.faulted ≡ false }
-    ensures wrote { Wrote out.old out.new (chosen_piece selected.now before count bytes.now) }
-    ensures clean { OnOk result (out.new.faulted ≡ false) }
-    ensures fault { OnErr result (out.new.faulted ≡ true) }
+    requires room { at + end ≤ 8192 }
+    ensures copied { take result into.new ≡ take at into.old ++ chosen_piece selected.now before count (take end bytes.now) }
+    ensures near { result ≤ at + end }
 {
-    let end = before + count as u64;
+    let last = before + count as u64;
+    let mut at = at;
     for interval in selected {
         let from = interval.first.saturating_sub(before + 1) as usize;
-        if end <= interval.last {
-            return out.push(&bytes[from.min(count)..]);
+        if last <= interval.last {
+            let from = from.min(count);
+            copy_near(bytes, from, end, into, at);
+            return at + (end - from);
         }
-        if before < interval.last {
-            let to = (interval.last - before) as usize;
-            out.push(&bytes[from..to])?;
-        }
+        let to = interval.last.saturating_sub(before) as usize;
+        copy_near(bytes, from, to, into, at);
+        at += to - from;
     }
-    out.push(&bytes[count..])
+    copy_near(bytes, count, end, into, at);
+    at + (end - count)
+}
+
+// Copies what is written of a block, of whose first line `before` bytes came earlier. The answer is where that ends,
+// and how many bytes have come of the line that goes on behind the block.
+#[inline(always)]
+fn cut_pieces(
+    selected: &[Interval],
+    ending: u8,
+    before: u64,
+    block: &[u8],
+    into: &mut Written,
+) -> (usize, u64)
+    requires apart { AreApart 0 selected.now }
+    requires room { length block.now ≤ 8192 }
+    requires short { before + length block.now < 2 ^ 63 }
+    ensures cut { IsCutTo ending selected.now before block.now result.1 [] (take result.0 into.new) }
+    ensures near { result.0 ≤ length block.now }
+    ensures bound { result.1 ≤ before + length block.now }
+{
+    let mut before = before;
+    let mut rest = block;
+    let mut at = 0;
+    'lines: while let Some(count) = find_near(ending, rest) {
+        at = copy_selected(selected, before, rest, count, count + 1, into, at);
+        before = 0;
+        rest = &rest[count + 1..];
+    }
+    at = copy_selected(selected, before, rest, rest.len(), rest.len(), into, at);
+    (at, before + rest.len() as u64)
 }
 
 // Pushes what is written of a block, of whose first line `before` bytes came earlier. The answer is how many bytes
-// have come of the line that goes on behind the block. Apart, so that what the loop needs stays in registers.
+// have come of the line that goes on behind the block. One range, as is often selected, has a loop of its own.
 #[inline(never)]
 fn push_pieces<W: Sink>(
     selected: &[Interval],
     ending: u8,
     before: u64,
     block: &[u8],
+    written: &mut Written,
     out: &mut Out<W>,
 ) -> Result<u64, WriteFault>
     requires apart { AreApart 0 selected.now }
+    requires room { length block.now ≤ 8192 }
     requires short { before + length block.now < 2 ^ 63 }
     requires clean { out.old.faulted ≡ false }
     ensures continues { IfOk result (λ n. Continues (rest_by ending selected.now) before n block.now out.old out.new) }
@@ -67,23 +106,23 @@ fn push_pieces<W: Sink>(
     ensures clean { OnOk result (out.new.faulted ≡ false) }
     ensures fault { OnErr result (out.new.faulted ≡ true) }
 {
-    let mut before = before;
-    let mut rest = block;
-    'lines: while let Some(at) = find_near(ending, rest) {
-        push_selected(selected, before, at, &rest[..at + 1], out)?;
-        before = 0;
-        rest = &rest[at + 1..];
-    }
-    push_selected(selected, before, rest.len(), rest, out)?;
-    Ok(before + rest.len() as u64)
+    let (count, before) = if selected.len() == 1 {
+        cut_pieces(&selected[..1], ending, before, block, written)
+    } else {
+        cut_pieces(selected, ending, before, block, written)
+    };
+    out.push(&written[..count])?;
+    Ok(before)
 }
 
-/// What is selected of each line, the byte that ends a line, and how many bytes have come of the line that goes on.
+/// What is selected of each line, the byte that ends a line, how many bytes have come of the line that goes on, and a
+/// place for what is written of a block.
 #[derive(Drop)]
 struct ByteCut<'a> {
     selected: &'a [Interval],
     ending: u8,
     before: u64,
+    written: Written,
 }
 
 impl<'a> BlockTool for ByteCut<'a> {
@@ -98,7 +137,14 @@ impl<'a> BlockTool for ByteCut<'a> {
     ghost Holds = { λ s t. AreApart 0 t.selected.now × (t.selected.now ≡ s.selected.now) × (t.ending ≡ s.ending) };
 
     fn push_block<W: Sink>(&mut self, block: &[u8], out: &mut Out<W>) -> Result<(), WriteFault> {
-        self.before = push_pieces(self.selected, self.ending, self.before, block, out)?;
+        self.before = push_pieces(
+            self.selected,
+            self.ending,
+            self.before,
+            block,
+            &mut self.written,
+            out,
+        )?;
         Ok(())
     }
 
@@ -128,6 +174,7 @@ pub(crate) fn cut_by_bytes<A: Allocator + Copy, S: Source, R: Source, W: Sink>(
         selected: job.list.intervals(),
         ending: reader.ending(),
         before: 0,
+        written: [0; 8208],
     };
     over_blocks(&mut tool, reader, out)
 }

@@ -3,6 +3,7 @@
 
 ghost use Rattle.ptlines.specs.Text.{LinesAreUnique, EndedLinesAreLines};
 
+mod near;
 mod out;
 mod reader;
 mod search;
@@ -11,6 +12,7 @@ mod source;
 mod std_ends;
 mod store;
 
+pub use near::copy_near;
 pub use out::{Out, WriteFault, send};
 pub use reader::LineReader;
 pub use search::find_near;

@@ -1,7 +1,7 @@
 //! A search for a byte that is near.
 
-ghost use Rattle.std.specs.Prelude.{◌≤◌, length};
-ghost use Rattle.memchr.specs.Find.{IsFirst, IsFirstByte, Passes, is_byte};
+ghost use Rattle.std.specs.Prelude.{◌≤◌, ◌+◌, length};
+ghost use Rattle.memchr.specs.Find.{IsFirst, IsFirstByte, Nowhere, Passes, is_byte};
 
 use memchr::memchr;
 use std::simd::prelude::*;
@@ -21,12 +21,40 @@ fn find_in_16(byte: u8, bytes: &[u8]) -> Option<usize>
     Some(marked.trailing_zeros() as usize)
 }
 
-// Apart, so that what is near is found without a call.
+// The first of the 64 places from one on that holds the byte.
+#[inline(always)]
+fn find_in_64(byte: u8, bytes: &[u8], at: usize) -> Option<usize>
+    requires { at + 64 ≤ length bytes.now }
+    ensures { IsFirst (Passes (is_byte byte) bytes.now) at (at + 64) result }
+{
+    let marked = u8x64::from_slice(&bytes[at..])
+        .simd_eq(u8x64::splat(byte))
+        .to_bitmask();
+    if marked == 0 {
+        return None;
+    }
+    Some(at + marked.trailing_zeros() as usize)
+}
+
+// The first place of a byte, which is not in front of one. Apart, so that what is near is found without a call.
 #[inline(never)]
-fn find_far(byte: u8, bytes: &[u8]) -> Option<usize>
+fn find_far(byte: u8, bytes: &[u8], from: usize) -> Option<usize>
+    requires within { from ≤ length bytes.now }
+    requires passed { Nowhere (Passes (is_byte byte) bytes.now) 0 from }
     ensures { IsFirstByte (is_byte byte) bytes.now result }
 {
-    memchr(byte, bytes)
+    if bytes.len() < 64 {
+        return memchr(byte, bytes);
+    }
+    let mut at = from;
+    while bytes.len() - at >= 64 {
+        let near = find_in_64(byte, bytes, at);
+        if near.is_some() {
+            return near;
+        }
+        at += 64;
+    }
+    find_in_64(byte, bytes, bytes.len() - 64)
 }
 
 /// The first place of a byte, as `memchr` finds it, but faster where it is one of the first 16, as the
@@ -35,11 +63,12 @@ fn find_far(byte: u8, bytes: &[u8]) -> Option<usize>
 pub fn find_near(byte: u8, bytes: &[u8]) -> Option<usize>
     ensures { IsFirstByte (is_byte byte) bytes.now result }
 {
-    if bytes.len() >= 16 {
-        let near = find_in_16(byte, bytes);
-        if near.is_some() {
-            return near;
-        }
+    if bytes.len() < 16 {
+        return find_far(byte, bytes, 0);
     }
-    find_far(byte, bytes)
+    let near = find_in_16(byte, bytes);
+    if near.is_some() {
+        return near;
+    }
+    find_far(byte, bytes, 16)
 }

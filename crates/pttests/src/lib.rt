@@ -12,6 +12,8 @@ mod common_lines;
 #[cfg(test)]
 mod comparing;
 #[cfg(test)]
+mod copying;
+#[cfg(test)]
 mod cuts;
 #[cfg(test)]
 mod faking;

@@ -1,5 +1,5 @@
 -- What `cut` writes of the rest of a text, and of a piece of a line.
-use Rattle.std.specs.Prelude.{ℕ, ◌+◌, ◌==◌, List, [], ◌∷◌, ◌++◌, Bool, map, take, drop, if◌then◌else◌}
+use Rattle.std.specs.Prelude.{◌≡◌, ℕ, ◌+◌, ◌==◌, List, [], ◌∷◌, ◌++◌, Bool, map, take, drop, if◌then◌else◌}
 use Rattle.std.specs.List.{flat_map}
 use Rattle.ptlines.specs.Outputs.{Output}
 use Rattle.ptlines.specs.Text.{text, lines}
@@ -23,6 +23,11 @@ cut_rest end selected before rest = rest_of_lines end selected before (lines end
 
 abbrev pub rest_by : ℕ → List Interval → ℕ → List ℕ → List ℕ
 rest_by end list = cut_rest end (is_selected list)
+
+-- of these bytes all but the rest were taken, and this was written of them, whatever comes
+abbrev pub IsCutTo : ℕ → List Interval → ℕ → List ℕ → ℕ → List ℕ → List ℕ → Type 0
+IsCutTo end list before bytes now rest written =
+    (more : List ℕ) → rest_by end list before (bytes ++ more) ≡ written ++ rest_by end list now (rest ++ more)
 
 -- ---- fields: nothing is carried from line to line
 
