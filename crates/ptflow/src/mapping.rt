@@ -84,26 +84,18 @@ pub(crate) enum Mapping {
 }
 
 impl Mapping {
-    /// The way to make the images of this plan that is known to be fastest.
+    /// How the images of this plan are made: by its stretches if they are few.
     pub(crate) fn of(plan: &CharPlan) -> Mapping
         ensures { IsMapping result plan.now }
     {
-        let Some(shifts) = plan.shifts() else {
-            return Mapping::by_images(plan);
-        };
-        if shifts.stretch(0).is_none() {
-            return Mapping::Same;
-        }
-        if shifts.stretch(2).is_none() {
-            return Mapping::Shifts(shifts);
-        }
-        match Rows::of(plan.images()) {
-            Some(rows) => Mapping::Rows(rows),
-            None => Mapping::Shifts(shifts),
+        match plan.shifts() {
+            Some(shifts) if shifts.stretch(0).is_none() => Mapping::Same,
+            Some(shifts) => Mapping::Shifts(shifts),
+            None => Mapping::by_images(plan),
         }
     }
 
-    // The same without shifts.
+    // The same where they are not.
     fn by_images(plan: &CharPlan) -> Mapping
         ensures { IsMapping result plan.now }
     {
