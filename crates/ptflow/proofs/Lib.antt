@@ -14,6 +14,7 @@ pub mod LineLaws
 pub mod LaneLemmas
 pub mod LineLemmas
 pub mod LinesCame
+pub mod Nths
 pub mod OpenLines
 pub mod OpenRuns
 pub mod PassLemmas

@@ -12,3 +12,4 @@ pub mod OpenLines
 pub mod SerialRests
 pub mod TakenLines
 pub mod RowTurns
+pub mod Nths

@@ -9,6 +9,7 @@ mod fields;
 mod keys;
 mod lanes;
 mod pasting;
+mod places;
 mod repeats;
 mod runs;
 mod serial;

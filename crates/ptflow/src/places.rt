@@ -1,0 +1,89 @@
+//! The n-th place of a byte, by masks of 64 bytes.
+
+ghost use Rattle.std.specs.Prelude.{◌≡◌, ◌<◌, ◌≤◌, ◌+◌, ℕ, Bool, List, false, length, map, take, count_ones};
+ghost use Rattle.std.specs.List.{count_by};
+ghost use Rattle.std.specs.Simd.Lanes.{mask_l, chunk};
+ghost use Rattle.memchr.specs.Find.{IsFirstByte, is_byte};
+ghost use Rattle.ptflow.specs.Workings.Nths.{IsBehind, IsNth};
+
+use ptlines::find_near;
+use std::simd::prelude::*;
+
+// A bit for each of the 64 bytes from a place on: whether it is this byte.
+#[inline(always)]
+fn marks(byte: u8, bytes: &[u8], at: usize) -> u64
+    requires { at + 64 ≤ length bytes.now }
+    ensures { result ≡ mask_l (map (is_byte byte) (chunk at 64 bytes.now)) }
+{
+    u8x64::from_slice(&bytes[at..])
+        .simd_eq(u8x64::splat(byte))
+        .to_bitmask()
+}
+
+// The place of the bit that is set behind so many others.
+#[inline(always)]
+fn bit_behind(marked: u64, count: u64) -> usize
+    ensures { (test : ℕ → Bool) (bytes : List ℕ) → length bytes ≤ 64 → marked ≡ mask_l (map test bytes)
+        → count < count_by test bytes → IsBehind test 0 count bytes result }
+{
+    let mut rest = marked;
+    for _bit in 0..count {
+        rest &= rest.wrapping_sub(1);
+    }
+    rest.trailing_zeros() as usize
+}
+
+// The place of the byte with this number, counted on from `from`, up to `to`. Byte by byte, for the last bytes.
+#[inline(never)]
+fn nth_slow(byte: u8, bytes: &[u8], from: usize, to: usize, number: u64) -> Option<usize>
+    requires within { to ≤ length bytes.now }
+    requires some { 0 < number }
+    ensures { IsNth (is_byte byte) (number + count_by (is_byte byte) (take from bytes.now)) (take to bytes.now) result }
+{
+    let mut left = number;
+    for at in from..to {
+        if bytes[at] == byte {
+            if left == 1 {
+                return Some(at);
+            }
+            left -= 1;
+        }
+    }
+    None
+}
+
+/// The place of the byte with this number, counted from 1, among the first `to` bytes. What stands behind these
+/// is looked at too, 64 bytes at a time.
+#[inline(never)]
+pub(crate) fn nth(byte: u8, bytes: &[u8], to: usize, number: u64) -> Option<usize>
+    requires within { to ≤ length bytes.now }
+    requires some { 0 < number }
+    ensures { IsNth (is_byte byte) number (take to bytes.now) result }
+{
+    let mut at = 0;
+    let mut left = number;
+    while at < to && bytes.len() - at >= 64 {
+        let marked = marks(byte, bytes, at);
+        let count = u64::from(marked.count_ones());
+        if left <= count {
+            let place = at + bit_behind(marked, left - 1);
+            return if place < to { Some(place) } else { None };
+        }
+        left -= count;
+        at += 64;
+    }
+    nth_slow(byte, bytes, at, to, left)
+}
+
+/// The first place of the byte among the first `to` bytes. Where these are few, some behind them are looked at too.
+#[inline(always)]
+pub(crate) fn first(byte: u8, bytes: &[u8], to: usize) -> Option<usize>
+    requires { to ≤ length bytes.now }
+    ensures { IsFirstByte (is_byte byte) (take to bytes.now) result }
+{
+    let shown = to.max(16).min(bytes.len());
+    match find_near(byte, &bytes[..shown]) {
+        Some(at) if at < to => Some(at),
+        _ => None,
+    }
+}
