@@ -1,6 +1,6 @@
 -- The n-th item of a list that passes a test, by the bits of a mask, of which the lowest are cleared; and that the fields
 -- behind the n-th delimiter start there.
-use Rattle.std.proofs.Common.{◌≡◌, ℕ, zero, suc, ◌+◌, ◌-◌, ◌*◌, ◌/◌, ◌%◌, ◌^◌, ◌<◌, ◌≤◌, min, Bool, true, false, cond, not, List, [], ◌∷◌, ◌++◌, length, map, take, drop, get_or, refl, sym, ◌∙◌, ap, ap₂, subst, arith, get_or-take, take-append-drop}
+use Rattle.std.proofs.Common.{◌≡◌, ℕ, zero, suc, ◌+◌, ◌-◌, ◌*◌, ◌/◌, ◌%◌, ◌^◌, ◌<◌, ◌≤◌, min, Bool, true, false, cond, not, Option, None, Some, List, [], ◌∷◌, ◌++◌, length, map, take, drop, get_or, refl, sym, ◌∙◌, ap, ap₂, subst, arith, get_or-take, take-append-drop}
 use Rattle.std.specs.Int.RustNames.{count_ones}
 use Rattle.std.specs.List.{count_by, prefix_len}
 use Rattle.std.specs.Simd.Lanes.{mask_l, chunk}
@@ -12,10 +12,13 @@ use Rattle.std.proofs.lemmas.List.Sums.{sum_by-cons, sum_by-append, sum_by-take-
 use Rattle.std.proofs.lemmas.Simd.{trailing_mask_l, ones-mask_l, get_or-chunk, length-chunk}
 use lib.Bits.{bit_and, and_step, and_self, and_zero_l}
 use lib.Count.{count_trailing_zeros}
-use Rattle.memchr.specs.Find.{is_byte}
-use Rattle.ptflow.specs.Workings.Nths.{IsBehind}
+use Rattle.memchr.specs.Find.{IsFirstByte, is_byte}
+use Rattle.ptlines.specs.Text.{IsLine}
+use Rattle.ptlines.proofs.Scanned.{before_end, no_end}
+use Rattle.ptlines.proofs.TextLaws.{other_byte}
+use Rattle.ptflow.specs.Workings.Nths.{IsBehind, IsNth}
 use Rattle.ptflow.specs.Workings.FieldPlaces.{fields, led, StartsAt}
-use Rattle.ptflow.proofs.FieldPlaces.{fields-append, led_fields}
+use Rattle.ptflow.proofs.FieldPlaces.{fields-append, led_fields, starts_more, few_left}
 
 -- ---- bits of a mask
 
@@ -189,3 +192,30 @@ module _ (d : ℕ) (line : List ℕ) where
       behind = ap (λ (k : ℕ). drop k (d ∷ line)) one ∙ here;
       later = ap (drop (n + 1)) split ∙ drop_at (fields d xs) (fields d ys) (n + 1) number;
     }
+
+  pub none_counted : (bytes : List ℕ) → IsLine d bytes → count_by (is_byte d) bytes ≡ 0
+  none_counted [] free = refl
+  none_counted (b ∷ bytes) free = sum_by-cons (λ x. cond (is_byte d x) 1 0) b bytes ∙ ap₂ (λ (t : Bool) (n : ℕ). cond t 1 0 + n) (other_byte d b free.0) (none_counted bytes free.1)
+
+  -- the first one
+  pub first_is_nth : (r : Option ℕ) → IsFirstByte (is_byte d) line r → IsNth (is_byte d) 1 line r
+  first_is_nth None none = omega (arith, none_counted line (no_end d line none))
+  first_is_nth (Some at) first = (first.0.high, first.1, none_counted (take at line) (before_end d line at first))
+
+  pub starts_behind_first : (at : ℕ) → IsFirstByte (is_byte d) line (Some at) → StartsAt d 1 line (at + 1)
+  starts_behind_first at first = starts_behind 0 at (first.0.high, first.1, none_counted (take at line) (before_end d line at first))
+
+  pub starts_behind_nth : (n at : ℕ) → 0 < n → IsBehind (is_byte d) 0 (n - 1) line at → StartsAt d n line (at + 1)
+  starts_behind_nth n at some h =
+      let whole : n - 1 + 1 ≡ n = omega arith in
+      subst (λ (m : ℕ). StartsAt d m line (at + 1)) whole (starts_behind (n - 1) at h)
+
+  -- behind the first delimiter
+  module _ (first n : ℕ) (here : IsFirstByte (is_byte d) line (Some first)) (some : 0 < n) where
+    pub few_behind_first : length (fields d (drop (first + 1) line)) ≤ n - 1 → length (fields d line) ≤ n
+    few_behind_first few = omega (arith, few_left d 1 (n - 1) (first + 1) line (starts_behind_first first here) few)
+
+    pub starts_past_first : (passed : ℕ) → StartsAt d (n - 1) (drop (first + 1) line) passed → StartsAt d n line (first + 1 + passed)
+    starts_past_first passed s =
+        let whole : 1 + (n - 1) ≡ n = omega arith in
+        subst (λ (m : ℕ). StartsAt d m line (first + 1 + passed)) whole (starts_more d 1 (n - 1) (first + 1) passed line (starts_behind_first first here) s)

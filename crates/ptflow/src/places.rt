@@ -52,10 +52,10 @@ fn nth_slow(byte: u8, bytes: &[u8], from: usize, to: usize, number: u64) -> Opti
     None
 }
 
-/// The place of the byte with this number, counted from 1, among the first `to` bytes. What stands behind these
-/// is looked at too, 64 bytes at a time.
+// The place of the byte with this number, counted from 1, among the first `to` bytes, 64 at a time. Apart, so that the
+// first place is found without a call.
 #[inline(never)]
-pub(crate) fn nth(byte: u8, bytes: &[u8], to: usize, number: u64) -> Option<usize>
+fn nth_far(byte: u8, bytes: &[u8], to: usize, number: u64) -> Option<usize>
     requires within { to ≤ length bytes.now }
     requires some { 0 < number }
     ensures { IsNth (is_byte byte) number (take to bytes.now) result }
@@ -75,9 +75,9 @@ pub(crate) fn nth(byte: u8, bytes: &[u8], to: usize, number: u64) -> Option<usiz
     nth_slow(byte, bytes, at, to, left)
 }
 
-/// The first place of the byte among the first `to` bytes. Where these are few, some behind them are looked at too.
+// The first place of the byte among the first `to` bytes.
 #[inline(always)]
-pub(crate) fn first(byte: u8, bytes: &[u8], to: usize) -> Option<usize>
+fn first_place(byte: u8, bytes: &[u8], to: usize) -> Option<usize>
     requires { to ≤ length bytes.now }
     ensures { IsFirstByte (is_byte byte) (take to bytes.now) result }
 {
@@ -86,4 +86,18 @@ pub(crate) fn first(byte: u8, bytes: &[u8], to: usize) -> Option<usize>
         Some(at) if at < to => Some(at),
         _ => None,
     }
+}
+
+/// The place of the byte with this number, counted from 1, among the first `to` bytes. Some bytes behind these are
+/// looked at too, since a vector of them is as cheap as a part of it.
+#[inline(always)]
+pub(crate) fn nth_place(byte: u8, bytes: &[u8], to: usize, number: u64) -> Option<usize>
+    requires within { to ≤ length bytes.now }
+    requires some { 0 < number }
+    ensures { IsNth (is_byte byte) number (take to bytes.now) result }
+{
+    if number == 1 {
+        return first_place(byte, bytes, to);
+    }
+    nth_far(byte, bytes, to, number)
 }

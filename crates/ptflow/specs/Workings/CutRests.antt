@@ -1,8 +1,8 @@
 -- What `cut` writes of the rest of a text, and of a piece of a line.
-use Rattle.std.specs.Prelude.{ℕ, ◌+◌, ◌==◌, List, [], ◌∷◌, ◌++◌, Bool, map, take, drop, if◌then◌else◌}
+use Rattle.std.specs.Prelude.{◌≡◌, ◌<◌, ◌≤◌, ℕ, ◌+◌, ◌==◌, List, [], ◌∷◌, ◌++◌, Bool, length, map, take, drop, if◌then◌else◌}
 use Rattle.std.specs.List.{flat_map}
 use Rattle.ptlines.specs.Outputs.{Output}
-use Rattle.ptlines.specs.Text.{text, lines}
+use Rattle.ptlines.specs.Text.{text, lines, ended_lines}
 use Rattle.ptlangs.specs.CutLists.{is_selected}
 use Rattle.ptlangs.specs.Jobs.{Cut}
 use Rattle.ptlangs.specs.declared.ranges.Interval.{Interval}
@@ -36,6 +36,15 @@ GoesOn job ls was is = Continues (cut_from job) tt tt ls was is
 -- a write failed amid these lines
 abbrev pub BreaksOff : Cut → List (List ℕ) → Output → Output → Type 0
 BreaksOff job ls was is = Halts (cut_from job) tt ls was is
+
+-- The first lines of these bytes, which are so many bytes, were taken, and what is written of them stands behind what
+-- stood there, whatever comes.
+pub record PutsLines (job : Cut) (end : ℕ) (bytes : List ℕ) (size : ℕ) (old new : List ℕ) : Type 0 where
+  pub some : 0 < size
+  pub fits : size ≤ length bytes
+  pub taken : text end (ended_lines end bytes) ≡ take size bytes ++ text end (ended_lines end (drop size bytes))
+  pub on : (more : List (List ℕ)) → old ++ cut_lines job (ended_lines end bytes ++ more)
+      ≡ new ++ cut_lines job (ended_lines end (drop size bytes) ++ more)
 
 -- ---- a piece of a line is the first `count` of some bytes; the others, the line's end or none, come behind it
 

@@ -6,7 +6,7 @@ use Rattle.std.proofs.lemmas.Simd.{ones-mask_l}
 use Rattle.memchr.specs.Find.{is_byte}
 use Rattle.ptflow.specs.Workings.Nths.{IsBehind}
 use Rattle.ptflow.proofs.Nths.{count_up_to, count_chunk, count_front, behind_front, behind_in_chunk, near}
-use Rattle.ptflow.proofs.places.nth.Goals as goal
+use Rattle.ptflow.proofs.places.nth_far.Goals as goal
 
 pub overflow_add-place : goal.overflow_add-place
 overflow_add-place c =

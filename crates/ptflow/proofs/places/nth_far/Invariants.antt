@@ -1,7 +1,7 @@
 use Rattle.std.proofs.Common.{◌≡◌, ◌<◌, ◌≤◌, ◌+◌, ◌-◌, length, take}
 use Rattle.std.specs.List.{count_by}
 use Rattle.memchr.specs.Find.{is_byte}
-use Rattle.ptflow.proofs.places.nth.Given as goal
+use Rattle.ptflow.proofs.places.nth_far.Given as goal
 
 abbrev pub invariant-loop-at : goal.invariant-loop-at
 invariant-loop-at l =
