@@ -1,11 +1,11 @@
 -- The fields of a line, and where they start. In front of each delimiter one field ends, so the place behind the n-th
 -- is where the fields behind the first n start.
-use Rattle.std.proofs.Common.{◌≡◌, ℕ, suc, ◌+◌, ◌<◌, ◌==◌, ◌-◌, ◌≤◌, Bool, true, false, cond, Option, None, Some, MatchOption, ◌⊎◌, inl, inr, List, [], ◌∷◌, ◌++◌, length, take, drop, refl, sym, ◌∙◌, ap, subst, arith, length-drop, take-append-drop}
+use Rattle.std.proofs.Common.{◌≡◌, ℕ, suc, ◌+◌, ◌<◌, ◌==◌, ◌-◌, ◌≤◌, Bool, true, false, cond, Option, None, Some, MatchOption, ◌⊎◌, inl, inr, List, [], ◌∷◌, ◌++◌, length, take, drop, get_or, slice_set, refl, sym, ◌∙◌, ap, subst, arith, length-drop, take-append-drop}
 use Rattle.std.specs.Prelude.{IfSome}
 use Rattle.std.specs.List.{onto_first, join_with_byte}
 use Rattle.std.proofs.Math.Seq.{take-add}
 use Rattle.std.proofs.lemmas.Bool.{eqb-true}
-use Rattle.std.proofs.lemmas.List.{append-nil, drop-drop, drop-take, length-take-le}
+use Rattle.std.proofs.lemmas.List.{append-nil, drop-drop, drop-take, drop_more, take-take, take_more_set, length-take-le}
 use Rattle.std.proofs.lemmas.List.Concat.{flat_map-append}
 use Rattle.std.proofs.lemmas.List.Splits.{length-slice_split}
 use Rattle.memchr.specs.Find.{IsFirstByte, is_byte}
@@ -85,3 +85,17 @@ pub rest_of : (from to : ℕ) (bytes : List ℕ) → from ≤ to → drop from (
 rest_of from to bytes le =
     let whole : from + (to - from) ≡ to = omega arith in
     ap (λ (n : ℕ). drop from (take n bytes)) (sym whole) ∙ drop-take from (to - from) bytes
+
+-- a slice of a line
+pub slice_of : (from size to : ℕ) (bytes : List ℕ) → from + size ≤ to → take size (drop from (take to bytes)) ≡ take size (drop from bytes)
+slice_of from size to bytes le = ap (take size) (rest_of from to bytes (omega arith)) ∙ take-take size (to - from) (drop from bytes) (omega arith)
+
+-- a line and the byte behind it
+pub line_with_end : (to : ℕ) (bytes : List ℕ) → drop to (take (to + 1) bytes) ≡ take 1 (drop to bytes)
+line_with_end to bytes =
+    let one : to + 1 - to ≡ 1 = omega arith in
+    rest_of to (to + 1) bytes (omega arith) ∙ ap (λ (n : ℕ). take n (drop to bytes)) one
+
+-- one byte more is put behind what was put
+pub put_byte : (room bytes : List ℕ) (end to : ℕ) → end < length room → to < length bytes → take (end + 1) (slice_set room end (get_or bytes to 0)) ≡ take end room ++ take 1 (drop to bytes)
+put_byte room bytes end to in_room within = take_more_set room end (get_or bytes to 0) in_room ∙ ap (λ (l : List ℕ). take end room ++ take 1 l) (sym (drop_more bytes to 0 within))

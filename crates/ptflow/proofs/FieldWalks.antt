@@ -2,11 +2,12 @@
 -- are one slice of the line; so what is selected is these slices, the first without what leads it.
 use Rattle.std.proofs.Common.{◌≡◌, ℕ, zero, suc, ◌+◌, ◌-◌, ◌<◌, ◌≤◌, true, false, List, [], ◌∷◌, ◌++◌, length, take, drop, get_or, refl, sym, ◌∙◌, ap, subst, arith, append_assoc, length-drop, take-append-drop}
 use Rattle.std.proofs.lemmas.List.{append-nil, take_all, drop_all, drop_more, drop-drop, drop-take, drop-append-le, length-take-le}
+use Rattle.std.specs.List.{join_with_byte}
 use Rattle.ptlangs.specs.CutLists.{is_selected, AreApart}
 use Rattle.ptlangs.specs.declared.ranges.Interval.{Interval}
 use Rattle.ptflow.specs.Workings.FieldPlaces.{fields, led, StartsAt}
 use Rattle.ptflow.proofs.Chosen.{chosen, not_selected, chosen_none, chosen_first, chosen_slice, chosen_skip}
-use Rattle.ptflow.proofs.FieldPlaces.{led-append, led_fields}
+use Rattle.ptflow.proofs.FieldPlaces.{led-append, led_fields, join_led}
 
 -- fields behind one another: in front of each a delimiter, but with lead 0 none in front of the first
 abbrev pub laid : ℕ → ℕ → List (List ℕ) → List ℕ
@@ -26,6 +27,10 @@ pub record Walking (d : ℕ) (others : List Interval) (line : List ℕ) (number 
   pub low : ℕ
   pub apart : AreApart low others
   pub low_is : low + 1 ≡ number + lead
+
+-- the selected fields of a line are to come
+pub all_coming : (d : ℕ) (all : List Interval) (line tail : List ℕ) → join_with_byte d (chosen (is_selected all) 1 (fields d line)) ++ tail ≡ coming d all line tail 1 0 0
+all_coming d all line tail = ap (λ (l : List ℕ). l ++ tail) (join_led d (chosen (is_selected all) 1 (fields d line)))
 
 module _ (d : ℕ) (all : List Interval) (line tail : List ℕ) where
   pub walking_starts : AreApart 0 all → Walking d all line 1 0 0

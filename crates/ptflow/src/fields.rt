@@ -9,7 +9,7 @@ ghost use Rattle.ptlangs.specs.Jobs.{cut_job};
 ghost use Rattle.ptflow.specs.Cuts.{cut_fields, cut_lines, cut_tool};
 ghost use Rattle.ptflow.specs.Passes.{IsReady, IsPass};
 ghost use Rattle.ptflow.specs.Workings.FieldPlaces.{fields, StartsAt};
-ghost use Rattle.ptflow.specs.Workings.CutRests.{GoesOn, BreaksOff, PutsLines, fields_piece};
+ghost use Rattle.ptflow.specs.Workings.CutRests.{GoesOn, BreaksOff, PutsLines};
 
 use crate::faults::FlowFault;
 use crate::places::nth_place;
@@ -146,7 +146,8 @@ fn put_fields<A: Allocator + Copy>(
     requires short { length bytes.now < 2 ^ 63 }
     requires room { start + to + 17 ≤ length room.old }
     ensures long { length room.new ≡ length room.old }
-    ensures put { take result room.new ≡ take start room.old ++ fields_piece (cut_job job.now) to (take (to + 1) bytes.now) }
+    ensures put { take result room.new ≡ take start room.old
+        ++ (cut_fields (cut_job job.now) (take to bytes.now) ++ take 1 (drop to bytes.now)) }
     ensures end { (start ≤ result) × (result ≤ start + to + 1) }
 {
     let selected = job.list.intervals();
