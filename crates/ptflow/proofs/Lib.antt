@@ -5,6 +5,7 @@ pub mod CellSlots
 pub mod Chosen
 pub mod Continuations
 pub mod CutRows
+pub mod FieldBlocks
 pub mod FieldLines
 pub mod FieldPlaces
 pub mod FieldWalks
