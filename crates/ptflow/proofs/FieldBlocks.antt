@@ -3,14 +3,13 @@
 use Rattle.std.proofs.Common.{◌≡◌, ℕ, zero, suc, ◌+◌, ◌-◌, ◌<◌, ◌≤◌, ◌==◌, ◌⊎◌, inl, inr, Bool, true, false, cond, List, [], ◌∷◌, ◌++◌, length, take, drop, get_or, Option, None, Some, refl, sym, ◌∙◌, ap, ap₂, subst, arith, append_assoc, get_or-take, take-append-drop}
 use Rattle.std.specs.Prelude.{◌≢◌, unwrap_or}
 use Rattle.std.specs.List.{flat_map}
-use Rattle.std.proofs.lemmas.Bool.{eqb-true}
 use Rattle.std.proofs.lemmas.List.{append-nil, take-take, take_more, take_all, length-take-le}
 use Rattle.memchr.specs.Find.{IsFirstByte, is_byte}
 use Rattle.ptlines.specs.Text.{text, lines, ended_lines, onto_line, IsLine, AreLines, EndsWithByte}
 use Rattle.ptlines.proofs.Scanned.{before_end, no_end, take_end, drop_end}
 use Rattle.ptlines.proofs.TextLaws.{ended_first, text-append, the_lines, the_ended_lines}
 use Rattle.ptlangs.specs.Jobs.{Cut}
-use Rattle.ptflow.specs.Cuts.{cut_fields, cut_line, cut_lines}
+use Rattle.ptflow.specs.Cuts.{cut_line, cut_lines}
 use Rattle.ptflow.specs.Workings.CutRests.{PutsLines}
 use Rattle.ptflow.proofs.FieldLines.{none_of, of_line, of_none, line_written, cut_lines-append}
 use Rattle.ptflow.proofs.LineLaws.{ended_next, parts_of}

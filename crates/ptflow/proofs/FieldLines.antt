@@ -1,19 +1,18 @@
 -- What `cut` by fields writes of a line, by whether the delimiter is in it; and that it is a tool that works line by
 -- line. It carries nothing, so what is written of some lines and of others is what is written of both.
-use Rattle.std.proofs.Common.{◌≡◌, ℕ, ◌+◌, ◌==◌, Bool, true, false, cond, not, ◌||◌, length, take, drop, arith, List, [], ◌∷◌, ◌++◌, refl, sym, ◌∙◌, ap, Option, None, Some, subst, take-append-drop}
+use Rattle.std.proofs.Common.{◌≡◌, ℕ, ◌==◌, true, false, cond, arith, List, [], ◌∷◌, ◌++◌, refl, sym, ◌∙◌, ap, Option, None, Some, subst}
 use Rattle.std.specs.Option.{is_some}
 use Rattle.std.specs.List.{flat_map, list_any}
 use Rattle.std.proofs.lemmas.List.Folds.{list_any_at}
 use Rattle.memchr.specs.Find.{IsFirstByte, is_byte}
 use Rattle.ptlines.proofs.Scanned.{no_end}
-use Rattle.std.proofs.lemmas.List.{append-nil, take_all, drop_all, get_or-set_same}
+use Rattle.std.proofs.lemmas.List.{append-nil, get_or-set_same}
 use Rattle.std.proofs.lemmas.List.Concat.{flat_map-append}
-use Rattle.ptlines.specs.Text.{text, ended_lines, IsLine}
+use Rattle.ptlines.specs.Text.{text, IsLine}
 use Rattle.ptlines.proofs.TextLaws.{other_byte, text-append}
 use Rattle.ptlangs.specs.Jobs.{Cut}
-use Rattle.ptflow.specs.Cuts.{chosen_from, is_delimiter, cut_fields, cut_line, cut_lines, is_kept, cut_tool}
-use Rattle.ptflow.specs.Workings.CutRests.{line_piece, cut_from}
-use Rattle.ptflow.proofs.LineLaws.{line_of, end_of, ended_next}
+use Rattle.ptflow.specs.Cuts.{is_delimiter, cut_fields, cut_line, cut_lines, cut_tool}
+use Rattle.ptflow.specs.Workings.CutRests.{cut_from}
 use Rattle.ptlines.specs.Fills.{GivesLine}
 use Rattle.ptlines.specs.Inputs.{Begins}
 use Rattle.ptlines.specs.Outputs.{Output, Wrote}

@@ -1,4 +1,4 @@
-use Rattle.std.proofs.Common.{◌≡◌, ◌+◌, ◌-◌, ◌≤◌, ℕ, List, MatchOption, inl, inr, take, drop, length, refl, sym, ◌∙◌, ap, subst, arith}
+use Rattle.std.proofs.Common.{◌≡◌, ◌+◌, ◌-◌, ◌≤◌, ℕ, List, MatchOption, inl, inr, take, drop, length, sym, subst, arith}
 use Rattle.std.proofs.lemmas.List.{take_rest, length-take-le}
 use Rattle.ptflow.specs.Workings.FieldPlaces.{fields, StartsAt}
 use Rattle.ptflow.proofs.FieldPlaces.{start_kept, rest_of}

@@ -1,4 +1,4 @@
-use Rattle.std.proofs.Common.{◌≡◌, ◌<◌, take, refl, arith, ℕ, subst, sym}
+use Rattle.std.proofs.Common.{take, arith, ℕ, subst, sym}
 use Rattle.std.proofs.lemmas.List.{length-take-le}
 use Rattle.std.proofs.lemmas.List.Sums.{count_by-le-length}
 use Rattle.memchr.specs.Find.{is_byte}

@@ -1,6 +1,5 @@
 use Rattle.std.proofs.Common.{◌≡◌, ◌+◌, ◌-◌, ◌++◌, ℕ, Some, take, length, sym, subst, arith}
 use Rattle.std.specs.Prelude.{unwrap_or}
-use Rattle.memchr.specs.Find.{IsFirstByte, is_byte}
 use Rattle.ptlines.specs.Text.{IsLine}
 use Rattle.ptlangs.specs.Jobs.{cut_job}
 use Rattle.ptflow.specs.Cuts.{cut_fields}
