@@ -6,13 +6,13 @@ use Rattle.std.specs.List.{count_by, prefix_len}
 use Rattle.std.specs.Simd.Lanes.{mask_l, chunk}
 use Rattle.std.proofs.Math.Seq.{take-add}
 use Rattle.std.proofs.lemmas.Bool.{eqb-true}
-use Rattle.std.proofs.lemmas.List.{take-take, drop_more, take_at, drop_at, length-take-le}
+use Rattle.std.proofs.lemmas.List.{take-take, take_all, drop_more, take_at, drop_at, length-take-le}
 use Rattle.std.proofs.lemmas.List.Splits.{length-slice_split}
-use Rattle.std.proofs.lemmas.List.Sums.{sum_by-cons, sum_by-append, sum_by-take-le, count_by-le-length}
+use Rattle.std.proofs.lemmas.List.Sums.{get_or-le-sum_by, sum_by-cons, sum_by-append, sum_by-take-le, count_by-le-length}
 use Rattle.std.proofs.lemmas.Simd.{trailing_mask_l, ones-mask_l, get_or-chunk, length-chunk}
 use lib.Bits.{bit_and, and_step, and_self, and_zero_l}
 use lib.Count.{count_trailing_zeros}
-use Rattle.memchr.specs.Find.{IsFirstByte, is_byte}
+use Rattle.memchr.specs.Find.{IsFirstByte, NoneBefore, Passes, is_byte}
 use Rattle.ptlines.specs.Text.{IsLine}
 use Rattle.ptlines.proofs.Scanned.{before_end, no_end}
 use Rattle.ptlines.proofs.TextLaws.{other_byte}
@@ -155,6 +155,38 @@ module _ (p : ℕ → Bool) (bytes : List ℕ) where
       → ((test : ℕ → Bool) (xs : List ℕ) → length xs ≤ 64 → marked ≡ mask_l (map test xs) → left - 1 < count_by test xs → IsBehind test 0 (left - 1) xs k) → IsBehind p 0 (left - 1) (chunk at 64 bytes) k
   behind_in_chunk at left marked count k room is counted some le found =
       found p (chunk at 64 bytes) (omega (arith, length-chunk at 64 bytes room)) is (omega (arith, counted, ap count_ones is ∙ ones-mask_l p (chunk at 64 bytes)))
+
+  -- none in front of the first one passes
+  first_is : (at : ℕ) → IsBehind p 0 0 bytes at → NoneBefore (Passes p bytes) 0 (length bytes) at × Passes p bytes at
+  first_is at h = (
+    record {
+      low = omega arith;
+      high = h.0;
+      before = λ k low near passes.
+          let here : p (get_or (take at bytes) k 0) ≡ true = ap p (get_or-take at bytes k 0 near) ∙ passes in
+          let one : cond {A = ℕ} (p (get_or (take at bytes) k 0)) 1 0 ≡ 1 = ap (λ (t : Bool). cond {A = ℕ} t 1 0) here in
+          omega (arith, h.2, one, get_or-le-sum_by (λ b. cond (p b) 1 0) (take at bytes) k 0 (omega (arith, near, h.0, length-take-le at bytes (omega (arith, h.0)))));
+    },
+    h.1,
+  )
+
+  some_counted : (xs : List ℕ) → 0 < mask_l (map p xs) → 0 < count_by p xs
+  some_counted [] lt = absurd (omega (arith, lt))
+  some_counted (x ∷ xs) lt = omega (arith, sum_by-cons (λ b. cond (p b) 1 0) x xs, by_test (p x) (mask_l (map p xs)) (count_by p xs) lt (some_counted xs))
+    where
+      by_test : (t : Bool) (m n : ℕ) → 0 < cond t 1 0 + 2 * m → (0 < m → 0 < n) → 0 < cond t 1 0 + n
+      by_test true m n some more = omega arith
+      by_test false m n some more = omega (arith, more (omega (arith, some)))
+
+  -- the first place that the mask of the first 64 gives
+  pub first_in_64 : (marked k : ℕ) → 64 ≤ length bytes → marked ≡ mask_l (map p (chunk 0 64 bytes)) → (marked ≡ 0 → ⊥)
+      → ((test : ℕ → Bool) (xs : List ℕ) → length xs ≤ 64 → marked ≡ mask_l (map test xs) → 0 < count_by test xs → IsBehind test 0 0 xs k) → NoneBefore (Passes p bytes) 0 (length bytes) k × Passes p bytes k
+  first_in_64 marked k room is some found =
+      let v = chunk 0 64 bytes in
+      let here = found p v (omega (arith, length-chunk 0 64 bytes room)) is (some_counted v (subst (λ (m : ℕ). 0 < m) is (omega (arith, some)))) in
+      let all = behind_front 0 0 k room here (length bytes) (omega (arith, near 0 0 k room here)) (omega arith) in
+      let same : 0 + k ≡ k = omega arith in
+      first_is k (subst (λ (l : List ℕ). IsBehind p 0 0 l k) (take_all (length bytes) bytes (omega arith)) (subst (λ (n : ℕ). IsBehind p 0 0 (take (length bytes) bytes) n) same all))
 
 -- ---- fields
 

@@ -12,13 +12,16 @@ ghost use Rattle.ptflow.specs.Workings.FieldPlaces.{fields, StartsAt};
 ghost use Rattle.ptflow.specs.Workings.CutRests.{GoesOn, BreaksOff, PutsLines};
 
 use crate::faults::FlowFault;
-use crate::places::nth_place;
+use crate::places::{line_end, nth_place};
 use crate::slots::need_slots;
 use memchr::memrchr;
 use ptlangs::jobs::CutJob;
 use ptlangs::ranges::Interval;
 use ptlines::{LineFault, LineReader, Out, Sink, Source, Store, WriteFault, copy_near, find_near};
 use std::alloc::Allocator;
+
+// What a block of lines is cut to, and 16 bytes more, which a copy of few bytes may change.
+type Room = [u8; 8192 + 16];
 
 // Where the field starts that so many fields stand in front of, in a line that is the first `to` of these bytes, or
 // `None` if the line has no more than these.
@@ -151,18 +154,19 @@ fn put_fields<A: Allocator + Copy>(
     ensures end { (start ≤ result) × (result ≤ start + to + 1) }
 {
     let selected = job.list.intervals();
+    let delimiter = job.delim;
     let mut number = 1;
     let mut at = 0;
     let mut lead = 0;
     let mut end = start;
     for interval in selected {
         let Interval { first: low, last } = *interval;
-        let Some(skipped) = field_behind(job.delim, first, bytes, at, to, low - number) else {
+        let Some(skipped) = field_behind(delimiter, first, bytes, at, to, low - number) else {
             room[end] = bytes[to];
             return end + 1;
         };
         let from = at + skipped;
-        let Some(passed) = field_behind(job.delim, first, bytes, from, to, last - low + 1) else {
+        let Some(passed) = field_behind(delimiter, first, bytes, from, to, last - low + 1) else {
             copy_near(bytes, from - lead, to + 1, room, end);
             return end + (to + 1 - (from - lead));
         };
@@ -234,6 +238,7 @@ fn push_lines<A: Allocator + Copy, W: Sink>(
     job: &CutJob<A>,
     ending: u8,
     block: &[u8],
+    room: &mut Room,
     out: &mut Out<W>,
 ) -> Result<usize, WriteFault>
     requires by_fields { job.now.fields ≡ true }
@@ -247,11 +252,10 @@ fn push_lines<A: Allocator + Copy, W: Sink>(
     ensures clean { OnOk result (out.new.faulted ≡ false) }
     ensures fault { OnErr result (out.new.faulted ≡ true) }
 {
-    let mut room = [0; 8192 + 16];
     let mut end = 0;
     let mut rest = block;
-    'lines: while let Some(to) = find_near(ending, rest) {
-        let (size, put) = put_lines(job, ending, to, rest, &mut room, end);
+    'lines: while let Some(to) = line_end(ending, rest) {
+        let (size, put) = put_lines(job, ending, to, rest, room, end);
         rest = &rest[size..];
         end = put;
     }
@@ -277,6 +281,7 @@ pub(crate) fn cut_by_fields<A: Allocator + Copy, S: Source, R: Source, W: Sink>(
 {
     need_slots(store, 1)?;
     let ending = reader.ending();
+    let mut room = [0; 8192 + 16];
     'turns: loop {
         match reader.fill(store, 0) {
             Ok(true) => push_kept(job, ending, store.line(0), out)?,
@@ -285,7 +290,7 @@ pub(crate) fn cut_by_fields<A: Allocator + Copy, S: Source, R: Source, W: Sink>(
             Err(LineFault::Memory) => return Err(FlowFault::Memory),
         }
         let count = match reader.block() {
-            Ok(block) => push_lines(job, ending, block, out)?,
+            Ok(block) => push_lines(job, ending, block, &mut room, out)?,
             Err(_) => return Err(FlowFault::Read(0)),
         };
         reader.consume(count);

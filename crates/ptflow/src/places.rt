@@ -101,3 +101,17 @@ pub(crate) fn nth_place(byte: u8, bytes: &[u8], to: usize, number: u64) -> Optio
     }
     nth_far(byte, bytes, to, number)
 }
+
+/// The first place of a byte that is often one of the first 64, as the end of a line is.
+#[inline(always)]
+pub(crate) fn line_end(byte: u8, bytes: &[u8]) -> Option<usize>
+    ensures { IsFirstByte (is_byte byte) bytes.now result }
+{
+    if bytes.len() >= 64 {
+        let marked = marks(byte, bytes, 0);
+        if marked != 0 {
+            return Some(bit_behind(marked, 0));
+        }
+    }
+    find_near(byte, bytes)
+}

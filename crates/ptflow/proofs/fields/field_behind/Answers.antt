@@ -19,8 +19,8 @@ returns-then-count-eq0-clause-start c =
     let o = c.field_start.result in
     let found : MatchOption o (length (fields d line) ≤ c.args.count) (StartsAt d c.args.count line) = rw take_rest at c.field_start.ensures in
     elim c.then-count-eq0.branch [
-      then-count-eq0-via-then-count-eq0 w ↦ start_kept d (length (fields d line) ≤ c.args.count) line o c.args.from c.args.first c.args.count c.requires.start (inl w.if-count-eq0.true) found
-    | then-count-eq0-via-else-count-eq0+then-from-first w ↦ start_kept d (length (fields d line) ≤ c.args.count) line o c.args.from c.args.first c.args.count c.requires.start (inr w.if-from-first.true) found
+      | then-count-eq0-via-then-count-eq0 w ↦ start_kept d (length (fields d line) ≤ c.args.count) line o c.args.from c.args.first c.args.count c.requires.start (inl w.if-count-eq0.true) found
+      | then-count-eq0-via-else-count-eq0+then-from-first w ↦ start_kept d (length (fields d line) ≤ c.args.count) line o c.args.from c.args.first c.args.count c.requires.start (inr w.if-from-first.true) found
     ]
 
 pub returns-in_err-passed-clause-found : goal.returns-in_err-passed-clause-found

@@ -44,8 +44,8 @@ returns-clause-wrote g c =
     let by = c.requires.by_fields in
     let d = c.args.job.now.delim in
     elim c.match-find_near.branch [
-      in-Some+in_ok-push_fields-in-Some w ↦ ends job line (cut_fields job line) c.args.ending c.args.out.now w.push_fields.new.out c.match-find_near.out c.push-2.new.self
+      | in-Some+in_ok-push_fields-in-Some w ↦ ends job line (cut_fields job line) c.args.ending c.args.out.now w.push_fields.new.out c.match-find_near.out c.push-2.new.self
           (of_fields job by line (found d line (Some w.in-Some.first) w.in-Some.ensures)) c.requires.ending w.out-is w.in_ok-push_fields-in-Some.ensures.wrote w.in_ok-push_fields-in-Some.ensures.clean c.push-2.ensures.wrote
-    | in-None+else-job+in_ok-push-in-None w ↦ ends job line line c.args.ending c.args.out.now w.push.new.self c.match-find_near.out c.push-2.new.self
+      | in-None+else-job+in_ok-push-in-None w ↦ ends job line line c.args.ending c.args.out.now w.push.new.self c.match-find_near.out c.push-2.new.self
           (of_line job by line (found d line None w.in-None.ensures) w.if-job.false) c.requires.ending w.out-is w.in_ok-push-in-None.ensures.wrote w.in_ok-push-in-None.ensures.clean c.push-2.ensures.wrote
     ]
