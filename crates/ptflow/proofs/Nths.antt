@@ -134,19 +134,19 @@ module _ (p : ℕ → Bool) (bytes : List ℕ) where
   pub count_chunk : (at : ℕ) → count_by p (take (at + 64) bytes) ≡ count_by p (take at bytes) + count_by p (chunk at 64 bytes)
   count_chunk at = ap (count_by p) (take-add at 64 bytes) ∙ sum_by-append (λ b. cond (p b) 1 0) (take at bytes) (chunk at 64 bytes)
 
-  module _ (at m k : ℕ) (room : at + 64 ≤ length bytes) (h : IsBehind p 0 m (chunk at 64 bytes) k) where
-    pub near : k < 64
-    near = omega (arith, h.0, length-chunk at 64 bytes room)
+  module _ (size at m k : ℕ) (room : at + size ≤ length bytes) (h : IsBehind p 0 m (chunk at size bytes) k) where
+    pub near : k < size
+    near = omega (arith, h.0, length-chunk at size bytes room)
 
     pub count_front : count_by p (take (at + k) bytes) ≡ count_by p (take at bytes) + m
     count_front =
         ap (count_by p) (take-add at k bytes) ∙ sum_by-append (λ b. cond (p b) 1 0) (take at bytes) (take k (drop at bytes))
-        ∙ ap (λ (n : ℕ). count_by p (take at bytes) + n) (ap (count_by p) (sym (take-take k 64 (drop at bytes) (omega (arith, near)))) ∙ h.2)
+        ∙ ap (λ (n : ℕ). count_by p (take at bytes) + n) (ap (count_by p) (sym (take-take k size (drop at bytes) (omega (arith, near)))) ∙ h.2)
 
     pub behind_front : (to : ℕ) → at + k < to → to ≤ length bytes → IsBehind p 0 (count_by p (take at bytes) + m) (take to bytes) (at + k)
     behind_front to lt le = (
       omega (arith, length-take-le to bytes le),
-      ap p (get_or-take to bytes (at + k) 0 lt ∙ sym (get_or-chunk at 64 bytes k 0 near)) ∙ h.1,
+      ap p (get_or-take to bytes (at + k) 0 lt ∙ sym (get_or-chunk at size bytes k 0 near)) ∙ h.1,
       ap (count_by p) (take-take (at + k) to bytes (omega arith)) ∙ count_front,
     )
 
@@ -178,15 +178,25 @@ module _ (p : ℕ → Bool) (bytes : List ℕ) where
       by_test true m n some more = omega arith
       by_test false m n some more = omega (arith, more (omega (arith, some)))
 
-  -- the first place that the mask of the first 64 gives
-  pub first_in_64 : (marked k : ℕ) → 64 ≤ length bytes → marked ≡ mask_l (map p (chunk 0 64 bytes)) → (marked ≡ 0 → ⊥)
-      → ((test : ℕ → Bool) (xs : List ℕ) → length xs ≤ 64 → marked ≡ mask_l (map test xs) → 0 < count_by test xs → IsBehind test 0 0 xs k) → NoneBefore (Passes p bytes) 0 (length bytes) k × Passes p bytes k
-  first_in_64 marked k room is some found =
-      let v = chunk 0 64 bytes in
-      let here = found p v (omega (arith, length-chunk 0 64 bytes room)) is (some_counted v (subst (λ (m : ℕ). 0 < m) is (omega (arith, some)))) in
-      let all = behind_front 0 0 k room here (length bytes) (omega (arith, near 0 0 k room here)) (omega arith) in
-      let same : 0 + k ≡ k = omega arith in
-      first_is k (subst (λ (l : List ℕ). IsBehind p 0 0 l k) (take_all (length bytes) bytes (omega arith)) (subst (λ (n : ℕ). IsBehind p 0 0 (take (length bytes) bytes) n) same all))
+  -- the first place that the mask of the first of these bytes gives
+  module _ (size marked k : ℕ) (few : size ≤ 64) (room : size ≤ length bytes) (is : marked ≡ mask_l (map p (chunk 0 size bytes))) (some : marked ≡ 0 → ⊥)
+      (found : (test : ℕ → Bool) (xs : List ℕ) → length xs ≤ 64 → marked ≡ mask_l (map test xs) → 0 < count_by test xs → IsBehind test 0 0 xs k) where
+    in_front : IsBehind p 0 0 (chunk 0 size bytes) k
+    in_front =
+        let v = chunk 0 size bytes in
+        found p v (omega (arith, few, length-chunk 0 size bytes (omega arith))) is (some_counted v (subst (λ (m : ℕ). 0 < m) is (omega (arith, some))))
+
+    pub first_front : (to : ℕ) → k < to → to ≤ length bytes → IsBehind p 0 0 (take to bytes) k
+    first_front to lt le =
+        let same : 0 + k ≡ k = omega arith in
+        subst (λ (n : ℕ). IsBehind p 0 0 (take to bytes) n) same (behind_front size 0 0 k (omega arith) in_front to (omega (arith, lt)) le)
+
+    pub none_front : (to : ℕ) → to ≤ k → count_by p (take to bytes) < 1
+    none_front to le = omega (arith, count_front size 0 0 k (omega arith) in_front, count_up_to to (0 + k) (omega (arith, le)))
+
+    pub first_of_all : NoneBefore (Passes p bytes) 0 (length bytes) k × Passes p bytes k
+    first_of_all =
+        first_is k (subst (λ (l : List ℕ). IsBehind p 0 0 l k) (take_all (length bytes) bytes (omega arith)) (first_front (length bytes) (omega (arith, room, near size 0 0 k (omega arith) in_front)) (omega arith)))
 
 -- ---- fields
 

@@ -20,6 +20,17 @@ fn marks(byte: u8, bytes: &[u8], at: usize) -> u64
         .to_bitmask()
 }
 
+// The same of the first 16 bytes.
+#[inline(always)]
+fn marks_16(byte: u8, bytes: &[u8]) -> u64
+    requires { 16 ≤ length bytes.now }
+    ensures { result ≡ mask_l (map (is_byte byte) (chunk 0 16 bytes.now)) }
+{
+    u8x16::from_slice(bytes)
+        .simd_eq(u8x16::splat(byte))
+        .to_bitmask()
+}
+
 // The place of the bit that is set behind so many others.
 #[inline(always)]
 fn bit_behind(marked: u64, count: u64) -> usize
@@ -75,17 +86,20 @@ fn nth_far(byte: u8, bytes: &[u8], to: usize, number: u64) -> Option<usize>
     nth_slow(byte, bytes, at, to, left)
 }
 
-// The first place of the byte among the first `to` bytes.
+// The place of the first one.
 #[inline(always)]
 fn first_place(byte: u8, bytes: &[u8], to: usize) -> Option<usize>
     requires { to ≤ length bytes.now }
-    ensures { IsFirstByte (is_byte byte) (take to bytes.now) result }
+    ensures { IsNth (is_byte byte) 1 (take to bytes.now) result }
 {
-    let shown = to.max(16).min(bytes.len());
-    match find_near(byte, &bytes[..shown]) {
-        Some(at) if at < to => Some(at),
-        _ => None,
+    if bytes.len() >= 16 {
+        let marked = marks_16(byte, bytes);
+        if marked != 0 {
+            let place = bit_behind(marked, 0);
+            return if place < to { Some(place) } else { None };
+        }
     }
+    nth_far(byte, bytes, to, 1)
 }
 
 /// The place of the byte with this number, counted from 1, among the first `to` bytes. Some bytes behind these are
