@@ -1,19 +1,18 @@
 -- What `cut` by fields writes of a line, by whether the delimiter is in it; and that it is a tool that works line by
 -- line. It carries nothing, so what is written of some lines and of others is what is written of both.
-use Rattle.std.proofs.Common.{◌≡◌, ℕ, ◌+◌, ◌==◌, Bool, true, false, cond, not, ◌||◌, length, take, drop, arith, List, [], ◌∷◌, ◌++◌, refl, sym, ◌∙◌, ap, Option, None, Some, subst, take-append-drop}
+use Rattle.std.proofs.Common.{◌≡◌, ℕ, ◌==◌, true, false, cond, arith, List, [], ◌∷◌, ◌++◌, refl, sym, ◌∙◌, ap, Option, None, Some, subst}
 use Rattle.std.specs.Option.{is_some}
 use Rattle.std.specs.List.{flat_map, list_any}
 use Rattle.std.proofs.lemmas.List.Folds.{list_any_at}
 use Rattle.memchr.specs.Find.{IsFirstByte, is_byte}
 use Rattle.ptlines.proofs.Scanned.{no_end}
-use Rattle.std.proofs.lemmas.List.{append-nil, take_all, drop_all, get_or-set_same}
+use Rattle.std.proofs.lemmas.List.{append-nil, get_or-set_same}
 use Rattle.std.proofs.lemmas.List.Concat.{flat_map-append}
-use Rattle.ptlines.specs.Text.{text, ended_lines, IsLine}
+use Rattle.ptlines.specs.Text.{text, IsLine}
 use Rattle.ptlines.proofs.TextLaws.{other_byte, text-append}
 use Rattle.ptlangs.specs.Jobs.{Cut}
-use Rattle.ptflow.specs.Cuts.{chosen_from, is_delimiter, cut_fields, cut_line, cut_lines, is_kept, cut_tool}
-use Rattle.ptflow.specs.Workings.CutRests.{line_piece, cut_from}
-use Rattle.ptflow.proofs.LineLaws.{line_of, end_of, ended_next}
+use Rattle.ptflow.specs.Cuts.{is_delimiter, cut_fields, cut_line, cut_lines, cut_tool}
+use Rattle.ptflow.specs.Workings.CutRests.{cut_from}
 use Rattle.ptlines.specs.Fills.{GivesLine}
 use Rattle.ptlines.specs.Inputs.{Begins}
 use Rattle.ptlines.specs.Outputs.{Output, Wrote}
@@ -23,7 +22,7 @@ use Rattle.ptflow.specs.Workings.Continuations.{Continues, Halts}
 use Rattle.ptflow.proofs.LineLemmas.{IsLineTool}
 use Rattle.ptflow.proofs.SlotFacts.{Keeps}
 
-none_of : (d : ℕ) (line : List ℕ) → IsLine d line → list_any (λ b. b == d) line ≡ false
+pub none_of : (d : ℕ) (line : List ℕ) → IsLine d line → list_any (λ b. b == d) line ≡ false
 none_of d [] free = refl
 none_of d (b ∷ line) free = rw (other_byte d b free.0) (none_of d line free.1)
 
@@ -32,53 +31,29 @@ pub found : (d : ℕ) (line : List ℕ) (r : Option ℕ) → IsFirstByte (is_byt
 found d line None first = none_of d line (no_end d line first)
 found d line (Some at) first = list_any_at (λ b. b == d) line at 0 first.0.high first.1
 
-one : (end : ℕ) (line : List ℕ) → text end (line ∷ []) ≡ flat_map (λ l. l ++ []) (line ∷ []) ++ end ∷ []
-one end line = append-nil (line ++ end ∷ []) ∙ ap (λ (l : List ℕ). l ++ end ∷ []) (sym (append-nil (line ++ []) ∙ append-nil line))
-
--- what is written of a line, with these bytes behind it
-abbrev pub written : Cut → List ℕ → List ℕ → List ℕ
-written job line tail = flat_map (λ l. l ++ tail) (cut_line job line)
-
+-- what is written of a line that is cut by fields
 module _ (job : Cut) (by_fields : job.fields ≡ true) (line : List ℕ) where
-  pub written_dropped : (tail : List ℕ) → list_any (is_delimiter job) line ≡ false → job.only ≡ true → written job line tail ≡ []
-  written_dropped tail none only = rw (by_fields, none, only) refl
+  pub of_fields : list_any (is_delimiter job) line ≡ true → cut_line job line ≡ cut_fields job line ∷ []
+  of_fields some = rw (by_fields, some) refl
 
-  written_whole : (tail : List ℕ) → list_any (is_delimiter job) line ≡ false → job.only ≡ false → written job line tail ≡ line ++ tail
-  written_whole tail none keeps = rw (by_fields, none, keeps) (append-nil (line ++ tail))
+  pub of_line : list_any (is_delimiter job) line ≡ false → job.only ≡ false → cut_line job line ≡ line ∷ []
+  of_line none keeps = rw (by_fields, none, keeps) refl
 
-  -- the line with its end, if it is written
-  pub written_end : cut_lines job (line ∷ []) ≡ written job line [] ++ cond (is_kept job line) (job.end ∷ []) []
-  written_end = ap (text job.end) (append-nil (cut_line job line)) ∙ by_tests (list_any (is_delimiter job) line) job.only
-    where
-      by_tests : (some only : Bool) → text job.end (cond job.fields (cond some (cut_fields job line ∷ []) (cond only [] (line ∷ []))) (chosen_from job.selected 1 line ∷ []))
-          ≡ flat_map (λ l. l ++ []) (cond job.fields (cond some (cut_fields job line ∷ []) (cond only [] (line ∷ []))) (chosen_from job.selected 1 line ∷ [])) ++ cond (some || not only) (job.end ∷ []) []
-      by_tests true only = rw by_fields (one job.end (cut_fields job line))
-      by_tests false true = rw by_fields refl
-      by_tests false false = rw by_fields (one job.end line)
+  pub of_none : list_any (is_delimiter job) line ≡ false → job.only ≡ true → cut_line job line ≡ []
+  of_none none only = rw (by_fields, none, only) refl
 
--- a line without the delimiter is written as it is
-pub piece_whole : (job : Cut) (count : ℕ) (bytes : List ℕ) → job.fields ≡ true → list_any (is_delimiter job) (take count bytes) ≡ false → job.only ≡ false → bytes ≡ line_piece job count bytes
-piece_whole job count bytes by_fields none keeps = sym (written_whole job by_fields (take count bytes) (drop count bytes) none keeps ∙ take-append-drop count bytes)
+module _ (job : Cut) (line : List ℕ) where
+  pub line_written : (bytes : List ℕ) → cut_line job line ≡ bytes ∷ [] → cut_lines job (line ∷ []) ≡ bytes ++ job.end ∷ []
+  line_written bytes is = ap (text job.end) (append-nil (cut_line job line) ∙ is) ∙ append-nil (bytes ++ job.end ∷ [])
 
--- what is written of a line that is all of these bytes
-pub written_all : (job : Cut) (bytes : List ℕ) → written job (take (length bytes) bytes) (drop (length bytes) bytes) ≡ written job bytes []
-written_all job bytes = λ i. written job (take_all (length bytes) bytes (omega arith) i) (drop_all (length bytes) bytes (omega arith) i)
-
--- what is written of the line in front, with its end, stands in front
-pub line_on : (job : Cut) (end : ℕ) (bytes : List ℕ) (at : ℕ) → end ≡ job.end → IsFirstByte (is_byte end) bytes (Some at) → (more : List (List ℕ))
-    → cut_lines job (ended_lines end bytes ++ more) ≡ line_piece job at (take (at + 1) bytes) ++ cut_lines job (ended_lines end (drop (at + 1) bytes) ++ more)
-line_on job end bytes at same first more =
-    let next = ended_lines end (drop (at + 1) bytes) ++ more in
-    let line = take at bytes in
-    ap (λ (l : List (List ℕ)). cut_lines job (l ++ more)) (ended_next end bytes at first) ∙ ap (text job.end) (flat_map-append (cut_line job) (line ∷ []) next) ∙ text-append job.end (flat_map (cut_line job) (line ∷ [])) (flat_map (cut_line job) next)
-    ∙ ap (λ (l : List ℕ). l ++ cut_lines job next)
-    (ap (text job.end) (append-nil (cut_line job line)) ∙ (λ i. flat_map (λ l. l ++ sym same i ∷ []) (cut_line job line)) ∙ (λ i. flat_map (λ l. l ++ sym (end_of end bytes at first) i) (cut_line job (sym (line_of end bytes at first) i))))
+  pub line_dropped : cut_line job line ≡ [] → cut_lines job (line ∷ []) ≡ []
+  line_dropped is = ap (text job.end) (append-nil (cut_line job line) ∙ is)
 
 module _ (job : Cut) where
   pub cut_line_tool : job.fields ≡ true → IsLineTool (cut_tool job) (cut_from job) (cut_lines job) job.end 1 tt
   cut_line_tool by_fields = record { text = λ bytes. refl; decided_is = λ given. refl; size = λ bytes. omega arith; slots = ap (λ b. cond b 1 0) by_fields; some = omega arith }
 
-  cut_lines-append : (xs ys : List (List ℕ)) → cut_lines job (xs ++ ys) ≡ cut_lines job xs ++ cut_lines job ys
+  pub cut_lines-append : (xs ys : List (List ℕ)) → cut_lines job (xs ++ ys) ≡ cut_lines job xs ++ cut_lines job ys
   cut_lines-append xs ys = ap (λ (ls : List (List ℕ)). flat_map (λ l. l ++ job.end ∷ []) ls) (flat_map-append (cut_line job) xs ys) ∙ text-append job.end (flat_map (cut_line job) xs) (flat_map (cut_line job) ys)
 
   -- all that was pushed is decided

@@ -1,16 +1,14 @@
 -- The fields of a line, and where they start. In front of each delimiter one field ends, so the place behind the n-th
 -- is where the fields behind the first n start.
-use Rattle.std.proofs.Common.{◌≡◌, ℕ, suc, ◌+◌, ◌<◌, ◌==◌, Bool, true, false, cond, List, [], ◌∷◌, ◌++◌, Some, length, take, drop, refl, sym, ◌∙◌, ap, arith, length-drop, take-append-drop}
+use Rattle.std.proofs.Common.{◌≡◌, ℕ, ◌+◌, ◌<◌, ◌==◌, ◌-◌, ◌≤◌, Bool, true, false, cond, Option, None, Some, MatchOption, ◌⊎◌, inl, inr, List, [], ◌∷◌, ◌++◌, length, take, drop, get_or, slice_set, refl, sym, ◌∙◌, ap, subst, arith, length-drop}
+use Rattle.std.specs.Prelude.{IfSome}
 use Rattle.std.specs.List.{onto_first, join_with_byte}
 use Rattle.std.proofs.Math.Seq.{take-add}
 use Rattle.std.proofs.lemmas.Bool.{eqb-true}
-use Rattle.std.proofs.lemmas.List.{append-nil, drop-drop}
+use Rattle.std.proofs.lemmas.List.{append-nil, drop-drop, drop-take, drop_more, take-take, take_more_set, length-take-le}
 use Rattle.std.proofs.lemmas.List.Concat.{flat_map-append}
 use Rattle.std.proofs.lemmas.List.Splits.{length-slice_split}
-use Rattle.memchr.specs.Find.{IsFirstByte, is_byte}
-use Rattle.ptlines.specs.Text.{IsLine}
-use Rattle.ptlines.proofs.TextLaws.{same_byte, other_byte}
-use Rattle.ptlines.proofs.Scanned.{before_end, drop_end}
+use Rattle.ptlines.proofs.TextLaws.{same_byte}
 use Rattle.ptflow.specs.Workings.FieldPlaces.{fields, led, StartsAt}
 
 module _ (d : ℕ) where
@@ -24,11 +22,6 @@ module _ (d : ℕ) where
       by_test true fs some more = ap (λ (l : List (List ℕ)). [] ∷ l) more
       by_test false [] some more = absurd (omega (arith, some))
       by_test false (f ∷ fs) some more = ap (onto_first x) more
-
-  -- a line without the delimiter is one field
-  pub fields_one : (xs : List ℕ) → IsLine d xs → fields d xs ≡ xs ∷ []
-  fields_one [] free = refl
-  fields_one (x ∷ xs) free = rw (other_byte d x free.0) (ap (onto_first x) (fields_one xs free.1))
 
   pub led-append : (fs gs : List (List ℕ)) → led d (fs ++ gs) ≡ led d fs ++ led d gs
   led-append fs gs = flat_map-append (λ (f : List ℕ). d ∷ f) fs gs
@@ -54,41 +47,52 @@ module _ (d : ℕ) where
   pub starts_first : (line : List ℕ) → StartsAt d 0 line 0
   starts_first line = record { fits = omega arith; count = omega arith; front = refl; behind = refl; later = refl }
 
-  module _ (n at p : ℕ) (line : List ℕ) (s : StartsAt d n line at) (first : IsFirstByte (is_byte d) (drop at line) (Some p)) where
-    abbrev rest : List ℕ
-    rest = drop at line
-
-    split : drop (at + (p + 1)) (d ∷ line) ≡ d ∷ drop (p + 1) rest
-    split = sym (drop-drop (p + 1) at (d ∷ line)) ∙ ap (drop (p + 1)) s.behind ∙ (let one : p + 1 ≡ suc p = omega arith in ap (λ (k : ℕ). drop k (d ∷ rest)) one) ∙ drop_end d rest p first
-
-    -- the fields of the rest: one, and those behind the delimiter
-    one_more : fields d rest ≡ take p rest ∷ fields d (drop (p + 1) rest)
-    one_more =
-        ap (fields d) (sym (take_split p) ∙ ap (λ (l : List ℕ). take p rest ++ l) (drop_end d rest p first)) ∙ fields-append (take p rest) (drop (p + 1) rest)
-        ∙ ap (λ (l : List (List ℕ)). l ++ fields d (drop (p + 1) rest)) (fields_one (take p rest) (before_end d rest p first))
-      where
-        take_split : (k : ℕ) → take k rest ++ drop k rest ≡ rest
-        take_split k = take-append-drop k rest
-
-    pub starts_next : StartsAt d (n + 1) line (at + (p + 1))
-    starts_next = record {
-      fits = omega (arith, first.0.high, length-drop at line, s.fits);
-      count = omega (arith, s.count);
+  -- one start after another
+  module _ (m n a p : ℕ) (line : List ℕ) (s : StartsAt d m line a) (t : StartsAt d n (drop a line) p) where
+    pub starts_more : StartsAt d (m + n) line (a + p)
+    starts_more = record {
+      fits = omega (arith, t.fits, length-drop a line, s.fits);
+      count = omega (arith, s.count, t.count);
       front =
-          take-add at (p + 1) (d ∷ line) ∙ (λ i. s.front i ++ take (p + 1) (s.behind i)) ∙ ap (λ (l : List ℕ). led d (take n (fields d line)) ++ l) last
-          ∙ sym (led-append (take n (fields d line)) (take p rest ∷ [])) ∙ ap (led d) (sym taken);
-      behind = split ∙ ap (λ (l : List ℕ). d ∷ l) (drop-drop (p + 1) at line);
-      later = sym (drop-drop 1 n (fields d line)) ∙ ap (drop 1) (s.later ∙ one_more) ∙ ap (fields d) (drop-drop (p + 1) at line);
+          take-add a p (d ∷ line) ∙ (λ i. s.front i ++ take p (s.behind i)) ∙ ap (λ (l : List ℕ). led d (take m (fields d line)) ++ l) (t.front ∙ ap (λ (fs : List (List ℕ)). led d (take n fs)) (sym s.later))
+          ∙ sym (led-append (take m (fields d line)) (take n (drop m (fields d line)))) ∙ ap (led d) (sym (take-add m n (fields d line)));
+      behind = sym (drop-drop p a (d ∷ line)) ∙ ap (drop p) s.behind ∙ t.behind ∙ ap (λ (l : List ℕ). d ∷ l) (drop-drop p a line);
+      later = sym (drop-drop n m (fields d line)) ∙ ap (drop n) s.later ∙ t.later ∙ ap (fields d) (drop-drop p a line);
     }
-      where
-        taken : take (n + 1) (fields d line) ≡ take n (fields d line) ++ take p rest ∷ []
-        taken = take-add n 1 (fields d line) ∙ ap (λ (l : List (List ℕ)). take n (fields d line) ++ take 1 l) (s.later ∙ one_more)
 
-        last : take (p + 1) (d ∷ rest) ≡ led d (take p rest ∷ [])
-        last = (let one : p + 1 ≡ suc p = omega arith in ap (λ (k : ℕ). take k (d ∷ rest)) one) ∙ ap (λ (l : List ℕ). d ∷ l) (sym (append-nil (take p rest)))
+  -- few fields are left behind a start
+  pub few_left : (m n a : ℕ) (line : List ℕ) → StartsAt d m line a → length (fields d (drop a line)) ≤ n → length (fields d line) ≤ m + n
+  few_left m n a line s few = omega (arith, few, ap length s.later, length-drop m (fields d line))
 
-  -- no delimiter is left: there is one field more
-  pub no_more : (n at : ℕ) (line : List ℕ) → StartsAt d n line at → IsLine d (drop at line) → length (fields d line) ≡ n + 1
-  no_more n at line s free =
-      let left : length (drop n (fields d line)) ≡ 1 = ap length (s.later ∙ fields_one (drop at line) free) in
-      omega (arith, left, length-drop n (fields d line))
+  -- no field is passed over
+  pub starts_at_zero : (line : List ℕ) (at : ℕ) → StartsAt d 0 line at → at ≡ 0
+  starts_at_zero line at s = omega (arith, ap length s.front, length-take-le at (d ∷ line) (omega (arith, s.fits)), s.fits)
+
+  -- the place is still the line's start, or behind its first delimiter
+  pub start_kept : (few : Type 0) (line : List ℕ) (o : Option ℕ) (from first count : ℕ) → (from ≤ first → from ≡ 0) → ((count ≡ 0) ⊎ (first < from)) → MatchOption o few (StartsAt d count line)
+      → IfSome o (λ passed. from + passed ≤ first → from + passed ≡ 0)
+  start_kept few line None from first count start how found = tt
+  start_kept few line (Some passed) from first count start (inl none) found = λ le.
+      let zero : passed ≡ 0 = starts_at_zero line passed (subst (λ (n : ℕ). StartsAt d n line passed) none found) in
+      omega (arith, zero, start (omega (arith, zero, le)))
+  start_kept few line (Some passed) from first count start (inr past) found = λ le. absurd (omega (arith, past, le))
+
+-- what stands in a line from a place on
+pub rest_of : (from to : ℕ) (bytes : List ℕ) → from ≤ to → drop from (take to bytes) ≡ take (to - from) (drop from bytes)
+rest_of from to bytes le =
+    let whole : from + (to - from) ≡ to = omega arith in
+    ap (λ (n : ℕ). drop from (take n bytes)) (sym whole) ∙ drop-take from (to - from) bytes
+
+-- a slice of a line
+pub slice_of : (from size to : ℕ) (bytes : List ℕ) → from + size ≤ to → take size (drop from (take to bytes)) ≡ take size (drop from bytes)
+slice_of from size to bytes le = ap (take size) (rest_of from to bytes (omega arith)) ∙ take-take size (to - from) (drop from bytes) (omega arith)
+
+-- a line and the byte behind it
+pub line_with_end : (to : ℕ) (bytes : List ℕ) → drop to (take (to + 1) bytes) ≡ take 1 (drop to bytes)
+line_with_end to bytes =
+    let one : to + 1 - to ≡ 1 = omega arith in
+    rest_of to (to + 1) bytes (omega arith) ∙ ap (λ (n : ℕ). take n (drop to bytes)) one
+
+-- one byte more is put behind what was put
+pub put_byte : (room bytes : List ℕ) (end to : ℕ) → end < length room → to < length bytes → take (end + 1) (slice_set room end (get_or bytes to 0)) ≡ take end room ++ take 1 (drop to bytes)
+put_byte room bytes end to in_room within = take_more_set room end (get_or bytes to 0) in_room ∙ ap (λ (l : List ℕ). take end room ++ take 1 l) (sym (drop_more bytes to 0 within))

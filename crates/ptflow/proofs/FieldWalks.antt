@@ -1,23 +1,25 @@
 -- The selected fields of a line, which is walked once. The fields of an interval, with the delimiter in front of each,
 -- are one slice of the line; so what is selected is these slices, the first without what leads it.
-use Rattle.std.proofs.Common.{◌≡◌, ℕ, zero, suc, ◌+◌, ◌-◌, ◌<◌, ◌≤◌, true, false, List, [], ◌∷◌, ◌++◌, length, take, drop, get_or, refl, sym, ◌∙◌, ap, subst, arith, append_assoc, length-drop, take-append-drop}
+use Rattle.std.proofs.Common.{◌≡◌, ℕ, zero, suc, ◌+◌, ◌-◌, ◌<◌, ◌≤◌, List, [], ◌∷◌, ◌++◌, length, take, drop, get_or, refl, sym, ◌∙◌, ap, subst, arith, append_assoc, length-drop, take-append-drop}
 use Rattle.std.proofs.lemmas.List.{append-nil, take_all, drop_all, drop_more, drop-drop, drop-take, drop-append-le, length-take-le}
-use Rattle.ptlines.specs.Outputs.{Output, Wrote}
-use Rattle.ptflow.proofs.Fronts.{Front, front_starts, front_more, front_fails, front_ends}
+use Rattle.std.specs.List.{join_with_byte}
 use Rattle.ptlangs.specs.CutLists.{is_selected, AreApart}
 use Rattle.ptlangs.specs.declared.ranges.Interval.{Interval}
 use Rattle.ptflow.specs.Workings.FieldPlaces.{fields, led, StartsAt}
 use Rattle.ptflow.proofs.Chosen.{chosen, not_selected, chosen_none, chosen_first, chosen_slice, chosen_skip}
-use Rattle.ptflow.proofs.FieldPlaces.{led-append, led_fields}
+use Rattle.ptflow.proofs.FieldPlaces.{led-append, led_fields, join_led}
 
 -- fields behind one another: in front of each a delimiter, but with lead 0 none in front of the first
 abbrev pub laid : ℕ → ℕ → List (List ℕ) → List ℕ
 laid d lead fs = drop (1 - lead) (led d fs)
 
--- What the intervals so far select was pushed, and what is still to come is selected by the others from the field on that
--- starts here; behind it comes the tail.
-pub record Walking (whole : List ℕ) (d : ℕ) (others : List Interval) (line tail : List ℕ) (number at lead : ℕ) (was is : Output) : Type 0 where
-  pub front : Front whole (laid d lead (chosen (is_selected others) number (fields d (drop at line))) ++ tail) was is
+-- What is still to come of a line whose field of this number starts at this place, where these intervals are left; behind
+-- it comes the tail.
+abbrev pub coming : ℕ → List Interval → List ℕ → List ℕ → ℕ → ℕ → ℕ → List ℕ
+coming d others line tail number at lead = laid d lead (chosen (is_selected others) number (fields d (drop at line))) ++ tail
+
+-- the field of this number starts here, and the intervals that are left lie behind what was passed
+pub record Walking (d : ℕ) (others : List Interval) (line : List ℕ) (number at lead : ℕ) : Type 0 where
   pub fits : at ≤ length line
   pub begun : lead ≤ 1
   pub passed : lead ≤ at
@@ -26,10 +28,13 @@ pub record Walking (whole : List ℕ) (d : ℕ) (others : List Interval) (line t
   pub apart : AreApart low others
   pub low_is : low + 1 ≡ number + lead
 
-module _ (whole : List ℕ) (d : ℕ) (all : List Interval) (line tail : List ℕ) (was : Output) where
-  pub walking_starts : whole ≡ laid d 0 (chosen (is_selected all) 1 (fields d line)) ++ tail → was.faulted ≡ false → AreApart 0 all → Walking whole d all line tail 1 0 0 was was
-  walking_starts same clean apart = record {
-    front = front_starts whole (laid d 0 (chosen (is_selected all) 1 (fields d line)) ++ tail) was same clean;
+-- the selected fields of a line are to come
+pub all_coming : (d : ℕ) (all : List Interval) (line tail : List ℕ) → join_with_byte d (chosen (is_selected all) 1 (fields d line)) ++ tail ≡ coming d all line tail 1 0 0
+all_coming d all line tail = ap (λ (l : List ℕ). l ++ tail) (join_led d (chosen (is_selected all) 1 (fields d line)))
+
+module _ (d : ℕ) (all : List Interval) (line tail : List ℕ) where
+  pub walking_starts : AreApart 0 all → Walking d all line 1 0 0
+  walking_starts apart = record {
     fits = omega arith;
     begun = omega arith;
     passed = omega arith;
@@ -39,21 +44,21 @@ module _ (whole : List ℕ) (d : ℕ) (all : List Interval) (line tail : List �
     low_is = refl;
   }
 
-  module _ (i number at lead : ℕ) (is is' : Output) (w : Walking whole d (drop i all) line tail number at lead was is) where
+  module _ (i number at lead : ℕ) (w : Walking d (drop i all) line number at lead) where
     -- the fields from here on, and what is to come of them
     abbrev here : List (List ℕ)
     here = fields d (drop at line)
 
     abbrev to_come : List ℕ
-    to_come = laid d lead (chosen (is_selected (drop i all)) number here) ++ tail
+    to_come = coming d (drop i all) line tail number at lead
 
     only_tail : (fs : List (List ℕ)) → fs ≡ [] → laid d lead fs ++ tail ≡ tail
     only_tail fs none = ap (λ (gs : List (List ℕ)). laid d lead gs ++ tail) none ∙ ap (λ (l : List ℕ). l ++ tail) (drop_all (1 - lead) [] (omega arith))
 
-    -- all is pushed
-    pub walking_done : length all ≤ i → Wrote is is' tail → Wrote was is' whole
-    walking_done past = front_ends whole to_come was is w.front is' tail
-        (ap (λ (l : List Interval). laid d lead (chosen (is_selected l) number here) ++ tail) (drop_all i all past) ∙ only_tail (chosen (is_selected []) number here) (chosen_none (is_selected []) number here (λ m low high. refl)))
+    -- no interval is left
+    pub walking_done : length all ≤ i → to_come ≡ tail
+    walking_done past =
+        ap (λ (l : List Interval). laid d lead (chosen (is_selected l) number here) ++ tail) (drop_all i all past) ∙ only_tail (chosen (is_selected []) number here) (chosen_none (is_selected []) number here (λ m low high. refl))
 
     module _ (within : i < length all) where
       abbrev r : Interval
@@ -79,11 +84,11 @@ module _ (whole : List ℕ) (d : ℕ) (all : List Interval) (line tail : List �
       not_past = omega (arith, w.low_is, apart.0)
 
       -- the line ends in front of the interval
-      pub walking_short : length here ≤ skip → Wrote is is' tail → Wrote was is' whole
+      pub walking_short : length here ≤ skip → to_come ≡ tail
       walking_short few =
           let far : AreApart (r.first - 1) (r ∷ rs) = (omega (arith, apart.0), apart.1, apart.2) in
-          front_ends whole to_come was is w.front is' tail (ap (λ (l : List Interval). laid d lead (chosen (is_selected l) number here) ++ tail) these
-          ∙ only_tail (chosen (is_selected (r ∷ rs)) number here) (chosen_none (is_selected (r ∷ rs)) number here (λ m low high. not_selected (r ∷ rs) (r.first - 1) m far (omega (arith, few, not_past)))))
+          ap (λ (l : List Interval). laid d lead (chosen (is_selected l) number here) ++ tail) these
+          ∙ only_tail (chosen (is_selected (r ∷ rs)) number here) (chosen_none (is_selected (r ∷ rs)) number here (λ m low high. not_selected (r ∷ rs) (r.first - 1) m far (omega (arith, few, not_past))))
 
       module _ (skipped : ℕ) (s : StartsAt d skip (drop at line) skipped) where
         abbrev from : ℕ
@@ -128,7 +133,7 @@ module _ (whole : List ℕ) (d : ℕ) (all : List Interval) (line tail : List �
           some : 1 ≤ passed
           some = omega (arith, p.count)
 
-          pub slice_is : take ((next - 1) - (from - lead)) (drop (from - lead) line) ≡ laid d lead (take size (fields d rest))
+          slice_is : take ((next - 1) - (from - lead)) (drop (from - lead) line) ≡ laid d lead (take size (fields d rest))
           slice_is =
               let many : (next - 1) - (from - lead) ≡ (passed - 1) + lead = omega (arith, some, w.passed) in
               let all_of : (1 - lead) + ((passed - 1) + lead) ≡ passed = omega (arith, some, w.begun) in
@@ -149,12 +154,12 @@ module _ (whole : List ℕ) (d : ℕ) (all : List Interval) (line tail : List �
               ∙ ap (λ (l : List ℕ). l ++ tail) (ap (drop (1 - lead)) (led-append d (take size (fields d rest)) more) ∙ drop-append-le (1 - lead) (led d (take size (fields d rest))) (led d more) long)
               ∙ append_assoc (laid d lead (take size (fields d rest))) (led d more) tail
 
-          abbrev behind : List ℕ
-          behind = laid d 1 (chosen (is_selected rs) (r.last + 1) (fields d (drop next line))) ++ tail
+          -- the slice, and what comes behind it
+          pub walking_slice : to_come ≡ take ((next - 1) - (from - lead)) (drop (from - lead) line) ++ coming d rs line tail (r.last + 1) next 1
+          walking_slice = next_is ∙ ap (λ (l : List ℕ). l ++ coming d rs line tail (r.last + 1) next 1) (sym slice_is)
 
-          pub walking_more : Wrote is is' (laid d lead (take size (fields d rest))) → is'.faulted ≡ false → Walking whole d rs line tail (r.last + 1) next 1 was is'
-          walking_more wrote clean = record {
-            front = front_more whole to_come was is w.front is' (laid d lead (take size (fields d rest))) behind next_is wrote clean;
+          pub walking_more : Walking d rs line (r.last + 1) next 1
+          walking_more = record {
             fits = omega (arith, p.fits, length-drop from line, from_fits);
             begun = omega arith;
             passed = omega (arith, some);
@@ -164,13 +169,9 @@ module _ (whole : List ℕ) (d : ℕ) (all : List Interval) (line tail : List �
             low_is = refl;
           }
 
-          -- a write failed
-          pub walking_fails : Wrote is is' (laid d lead (take size (fields d rest))) → is'.faulted ≡ true → Wrote was is' whole
-          walking_fails = front_fails whole to_come was is w.front is' (laid d lead (take size (fields d rest))) behind next_is
-
         -- the interval reaches the end of the line, which stands in front of these bytes
-        pub walking_ends : (count : ℕ) (bytes : List ℕ) → line ≡ take count bytes → tail ≡ drop count bytes → length (fields d rest) ≤ size → Wrote is is' (drop (from - lead) bytes) → Wrote was is' whole
-        walking_ends count bytes is_line is_tail few = front_ends whole to_come was is w.front is' (drop (from - lead) bytes) (same ∙ sym slice)
+        pub walking_ends : (count : ℕ) (bytes : List ℕ) → line ≡ take count bytes → tail ≡ drop count bytes → length (fields d rest) ≤ size → to_come ≡ drop (from - lead) bytes
+        walking_ends count bytes is_line is_tail few = same ∙ sym slice
           where
             number_of : length here ≤ skip + size
             number_of = omega (arith, few, ap length (s.later ∙ ap (fields d) (drop-drop skipped at line)), length-drop skip here)

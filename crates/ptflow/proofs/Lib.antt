@@ -6,6 +6,7 @@ pub mod Chosen
 pub mod ChosenLanes
 pub mod Continuations
 pub mod CutRows
+pub mod FieldBlocks
 pub mod FieldLines
 pub mod FieldPlaces
 pub mod FieldWalks
@@ -15,6 +16,7 @@ pub mod LineLaws
 pub mod LaneLemmas
 pub mod LineLemmas
 pub mod LinesCame
+pub mod Nths
 pub mod OpenLines
 pub mod OpenRuns
 pub mod PassLemmas

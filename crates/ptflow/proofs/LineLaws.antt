@@ -93,14 +93,14 @@ module _ (end : ℕ) where
     pub ended_next : ended_lines end rest ≡ take at rest ∷ ended_lines end (drop (at + 1) rest)
     ended_next = ap (ended_lines end) (split_of end rest at first) ∙ ended_first end (take at rest) (drop (at + 1) rest) (before_end end rest at first)
 
-    pub taken_more : (block : List ℕ) → Taken end block rest → Taken end block (drop (at + 1) rest)
-    taken_more block t =
-        let line = take at rest ++ end ∷ [] in
-        let texts = text end (ended_lines end (drop (at + 1) rest)) in record {
-          front = t.front ++ line;
-          split = t.split ∙ ap (λ (l : List ℕ). t.front ++ l) (split_of end rest at first ∙ sym (append_assoc (take at rest) (end ∷ []) (drop (at + 1) rest))) ∙ sym (append_assoc t.front line (drop (at + 1) rest));
-          texts = t.texts ∙ ap (λ (l : List (List ℕ)). t.front ++ text end l) ended_next ∙ sym (append_assoc t.front line texts);
-        }
+  -- these lines in front were taken too
+  pub taken_more : (block rest : List ℕ) (size : ℕ) → text end (ended_lines end rest) ≡ take size rest ++ text end (ended_lines end (drop size rest)) → Taken end block rest → Taken end block (drop size rest)
+  taken_more block rest size texts t =
+      let front = take size rest in record {
+        front = t.front ++ front;
+        split = t.split ∙ ap (λ (l : List ℕ). t.front ++ l) (sym (take-append-drop size rest)) ∙ sym (append_assoc t.front front (drop size rest));
+        texts = t.texts ∙ ap (λ (l : List ℕ). t.front ++ l) texts ∙ sym (append_assoc t.front front (text end (ended_lines end (drop size rest))));
+      }
 
   -- no line more
   pub taken_all : (block rest : List ℕ) → IsLine end rest → Taken end block rest → take (length block - length rest) block ≡ text end (ended_lines end block)

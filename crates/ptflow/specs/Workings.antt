@@ -16,3 +16,4 @@ pub mod TakenLines
 pub mod RowTurns
 pub mod ByteSets
 pub mod Packings
+pub mod Nths

@@ -12,6 +12,7 @@ mod lanes;
 mod mapping;
 mod packing;
 mod pasting;
+mod places;
 mod repeats;
 mod rows;
 mod runs;

@@ -1,12 +1,11 @@
 -- What `cut` writes of the rest of a text, and of a piece of a line.
-use Rattle.std.specs.Prelude.{◌≡◌, ℕ, ◌+◌, ◌==◌, List, [], ◌∷◌, ◌++◌, Bool, map, take, drop, if◌then◌else◌}
-use Rattle.std.specs.List.{flat_map}
+use Rattle.std.specs.Prelude.{◌≡◌, ◌<◌, ◌≤◌, ℕ, ◌+◌, ◌==◌, List, [], ◌∷◌, ◌++◌, Bool, length, map, take, drop, if◌then◌else◌}
 use Rattle.ptlines.specs.Outputs.{Output}
-use Rattle.ptlines.specs.Text.{text, lines}
+use Rattle.ptlines.specs.Text.{text, lines, ended_lines}
 use Rattle.ptlangs.specs.CutLists.{is_selected}
 use Rattle.ptlangs.specs.Jobs.{Cut}
 use Rattle.ptlangs.specs.declared.ranges.Interval.{Interval}
-use Rattle.ptflow.specs.Cuts.{chosen_from, cut_fields, cut_line, cut_lines}
+use Rattle.ptflow.specs.Cuts.{chosen_from, cut_lines}
 use Rattle.ptflow.specs.Workings.Continuations.{Continues, Halts}
 
 -- ---- bytes: the state is how many bytes of the line that goes on have come
@@ -42,16 +41,17 @@ GoesOn job ls was is = Continues (cut_from job) tt tt ls was is
 abbrev pub BreaksOff : Cut → List (List ℕ) → Output → Output → Type 0
 BreaksOff job ls was is = Halts (cut_from job) tt ls was is
 
+-- The first lines of these bytes, which are so many bytes, were taken, and what is written of them stands behind what
+-- stood there, whatever comes.
+pub record PutsLines (job : Cut) (end : ℕ) (bytes : List ℕ) (size : ℕ) (old new : List ℕ) : Type 0 where
+  pub some : 0 < size
+  pub fits : size ≤ length bytes
+  pub taken : text end (ended_lines end bytes) ≡ take size bytes ++ text end (ended_lines end (drop size bytes))
+  pub on : (more : List (List ℕ)) → old ++ cut_lines job (ended_lines end bytes ++ more)
+      ≡ new ++ cut_lines job (ended_lines end (drop size bytes) ++ more)
+
 -- ---- a piece of a line is the first `count` of some bytes; the others, the line's end or none, come behind it
 
 -- its selected bytes, in front of which `before` bytes of the line stand
 abbrev pub chosen_piece : List Interval → ℕ → ℕ → List ℕ → List ℕ
 chosen_piece list before count bytes = chosen_from (is_selected list) (before + 1) (take count bytes) ++ drop count bytes
-
--- its selected fields
-abbrev pub fields_piece : Cut → ℕ → List ℕ → List ℕ
-fields_piece job count bytes = cut_fields job (take count bytes) ++ drop count bytes
-
--- what is written of it as a line, and nothing where that is nothing
-abbrev pub line_piece : Cut → ℕ → List ℕ → List ℕ
-line_piece job count bytes = flat_map (λ line. line ++ drop count bytes) (cut_line job (take count bytes))

@@ -1,56 +1,100 @@
-use Rattle.std.proofs.Common.{◌++◌, ℕ, List, refl, take, drop, sym, ◌∙◌, ap, subst}
-use Rattle.std.proofs.lemmas.List.{take_rest}
+use Rattle.std.proofs.Common.{◌+◌, ◌-◌, ◌≤◌, ◌++◌, ℕ, List, [], take, drop, get_or, length, refl, sym, ◌∙◌, ap, subst, arith}
+use Rattle.std.proofs.lemmas.List.{take_all, take_rest, drop_all, append-nil}
 use Rattle.std.specs.List.{join_with_byte}
+use Rattle.ptlines.proofs.Pushed.{wrote_nothing}
 use Rattle.ptlangs.specs.CutLists.{is_selected}
 use Rattle.ptlangs.specs.Jobs.{cut_job}
 use Rattle.ptlangs.specs.declared.ranges.Interval.{Interval}
-use Rattle.ptlines.specs.Outputs.{Wrote}
-use Rattle.ptflow.specs.Workings.FieldPlaces.{fields}
-use Rattle.ptflow.specs.Workings.CutRests.{fields_piece}
+use Rattle.ptflow.specs.Cuts.{cut_fields}
+use Rattle.ptflow.specs.Workings.FieldPlaces.{fields, StartsAt}
 use Rattle.ptflow.proofs.Chosen.{chosen}
-use Rattle.ptflow.proofs.FieldPlaces.{join_led}
-use Rattle.ptflow.proofs.FieldWalks.{walking_starts, walking_short, walking_more, walking_fails, walking_ends, walking_done, slice_is}
+use Rattle.ptflow.proofs.Fronts.{front_starts, front_more, front_fails, front_ends}
+use Rattle.ptflow.proofs.FieldWalks.{coming, all_coming, walking_starts, walking_done, walking_short, walking_ends, walking_slice, walking_more}
 use Rattle.ptflow.proofs.fields.push_fields.Goals as goal
 
 pub loop-interval-init : goal.loop-interval-init
 loop-interval-init g c =
     let d = c.args.job.now.delim in
-    let line = take c.args.count c.args.bytes.now in
-    let tail = drop c.args.count c.args.bytes.now in
-    let same = ap (λ (l : List Interval). join_with_byte d (chosen (is_selected l) 1 (fields d line)) ++ tail) (sym c.intervals-selected.ensures.kept)
-    ∙ ap (λ (l : List ℕ). l ++ tail) (join_led d (chosen (is_selected c.intervals-selected.result.now) 1 (fields d line))) in
-    walking_starts (fields_piece (cut_job c.args.job.now) c.args.count c.args.bytes.now) c.args.job.now.delim c.intervals-selected.result.now (take c.args.count c.args.bytes.now) (drop c.args.count c.args.bytes.now) c.args.out.now same c.requires.clean c.intervals-selected.ensures.apart
+    let line = c.args.line.now in
+    let all = c.intervals-selected.result.now in record {
+      front = front_starts (cut_fields (cut_job c.args.job.now) line) (coming d all line [] 1 0 0) c.args.out.now
+          (sym (append-nil (cut_fields (cut_job c.args.job.now) line)) ∙ ap (λ (l : List Interval). join_with_byte d (chosen (is_selected l) 1 (fields d line)) ++ []) (sym c.intervals-selected.ensures.kept) ∙ all_coming d all line [])
+          c.requires.clean;
+      walk = walking_starts d all line [] c.intervals-selected.ensures.apart;
+      known = λ le. refl;
+    }
+
+-- what a step found in the line, which is all of these bytes
+found : (d : ℕ) (line : List ℕ) (count at passed : ℕ) → StartsAt d count (drop at (take (length line) line)) passed → StartsAt d count (drop at line) passed
+found d line count at passed s = subst (λ (l : List ℕ). StartsAt d count (drop at l) passed) (take_all (length line) line (omega arith)) s
+
+few : (d : ℕ) (line : List ℕ) (count at : ℕ) → length (fields d (drop at (take (length line) line))) ≤ count → length (fields d (drop at line)) ≤ count
+few d line count at le = subst (λ (l : List ℕ). length (fields d (drop at l)) ≤ count) (take_all (length line) line (omega arith)) le
 
 pub returns-in_default-clause-wrote : goal.returns-in_default-clause-wrote
 returns-in_default-clause-wrote g c =
-    walking_short (fields_piece (cut_job c.args.job.now) c.args.count c.args.bytes.now) c.args.job.now.delim c.intervals-selected.result.now (take c.args.count c.args.bytes.now) (drop c.args.count c.args.bytes.now) c.args.out.now c.loop-interval.interval-index c.loop-interval.number c.loop-interval.at c.loop-interval.lead c.loop-interval.out c.push.new.self c.loop-interval.invariant c.loop-interval-test.true
-    (rw take_rest at c.in_default.ensures) (rw take_rest at c.push.ensures.wrote)
+    let d = c.args.job.now.delim in
+    let line = c.args.line.now in
+    let all = c.intervals-selected.result.now in
+    let l = c.loop-interval in
+    let r = get_or all l.interval-index (record { first = 0; last = 0 }) in
+    front_ends (cut_fields (cut_job c.args.job.now) line) (coming d (drop l.interval-index all) line [] l.number l.at l.lead) c.args.out.now l.out l.invariant.front l.out []
+    (walking_short d all line [] l.interval-index l.number l.at l.lead l.invariant.walk c.loop-interval-test.true (few d line (r.first - l.number) l.at c.in_default.ensures.found)) (wrote_nothing l.out)
 
-pub returns-in_default-field_start-clause-wrote : goal.returns-in_default-field_start-clause-wrote
-returns-in_default-field_start-clause-wrote g c =
-    walking_ends (fields_piece (cut_job c.args.job.now) c.args.count c.args.bytes.now) c.args.job.now.delim c.intervals-selected.result.now (take c.args.count c.args.bytes.now) (drop c.args.count c.args.bytes.now) c.args.out.now c.loop-interval.interval-index c.loop-interval.number c.loop-interval.at c.loop-interval.lead c.loop-interval.out c.push-in_default-field_start.new.self c.loop-interval.invariant c.loop-interval-test.true
-    c.in-Some.skipped (rw take_rest at c.in-Some.ensures) c.args.count c.args.bytes.now refl refl (rw take_rest at c.in_default-field_start.ensures) (rw take_rest at c.push-in_default-field_start.ensures.wrote)
+pub returns-in_default-field_behind-clause-wrote : goal.returns-in_default-field_behind-clause-wrote
+returns-in_default-field_behind-clause-wrote g c =
+    let d = c.args.job.now.delim in
+    let line = c.args.line.now in
+    let all = c.intervals-selected.result.now in
+    let l = c.loop-interval in
+    let r = get_or all l.interval-index (record { first = 0; last = 0 }) in
+    let from = l.at + c.in-Some.skipped in
+    let s = found d line (r.first - l.number) l.at c.in-Some.skipped c.in-Some.ensures.found in
+    front_ends (cut_fields (cut_job c.args.job.now) line) (coming d (drop l.interval-index all) line [] l.number l.at l.lead) c.args.out.now l.out l.invariant.front c.push.new.self (drop (from - l.lead) line)
+    (walking_ends d all line [] l.interval-index l.number l.at l.lead l.invariant.walk c.loop-interval-test.true c.in-Some.skipped s (length line) line (sym (take_all (length line) line (omega arith))) (sym (drop_all (length line) line (omega arith)))
+    (few d line (r.last - r.first + 1) from c.in_default-field_behind.ensures.found))
+    (rw take_rest at c.push.ensures.wrote)
 
 pub returns-in_err-push-clause-wrote : goal.returns-in_err-push-clause-wrote
 returns-in_err-push-clause-wrote g c =
-    let out = c.push-in-loop-interval.new.self in
-    let s = (rw take_rest at c.in-Some.ensures) in
-    let p = (rw take_rest at c.in-Some-field_start.ensures) in
-    walking_fails (fields_piece (cut_job c.args.job.now) c.args.count c.args.bytes.now) c.args.job.now.delim c.intervals-selected.result.now (take c.args.count c.args.bytes.now) (drop c.args.count c.args.bytes.now) c.args.out.now c.loop-interval.interval-index c.loop-interval.number c.loop-interval.at c.loop-interval.lead c.loop-interval.out out c.loop-interval.invariant c.loop-interval-test.true
-    c.in-Some.skipped s c.in-Some-field_start.passed p
-    (subst (λ (b : List ℕ). Wrote c.loop-interval.out out b) (slice_is (fields_piece (cut_job c.args.job.now) c.args.count c.args.bytes.now) c.args.job.now.delim c.intervals-selected.result.now (take c.args.count c.args.bytes.now) (drop c.args.count c.args.bytes.now) c.args.out.now c.loop-interval.interval-index c.loop-interval.number c.loop-interval.at c.loop-interval.lead c.loop-interval.out out c.loop-interval.invariant c.loop-interval-test.true c.in-Some.skipped s c.in-Some-field_start.passed p) c.in_err-push.ensures.wrote)
-    c.in_err-push.ensures.fault
+    let d = c.args.job.now.delim in
+    let line = c.args.line.now in
+    let all = c.intervals-selected.result.now in
+    let l = c.loop-interval in
+    let i = l.interval-index in
+    let r = get_or all i (record { first = 0; last = 0 }) in
+    let from = l.at + c.in-Some.skipped in
+    let next = from + c.in-Some-field_behind.passed in
+    let s = found d line (r.first - l.number) l.at c.in-Some.skipped c.in-Some.ensures.found in
+    let p = found d line (r.last - r.first + 1) from c.in-Some-field_behind.passed c.in-Some-field_behind.ensures.found in
+    front_fails (cut_fields (cut_job c.args.job.now) line) (coming d (drop i all) line [] l.number l.at l.lead) c.args.out.now l.out l.invariant.front c.push-in-loop-interval.new.self
+    (take ((next - 1) - (from - l.lead)) (drop (from - l.lead) line)) (coming d (drop (i + 1) all) line [] (r.last + 1) next 1)
+    (walking_slice d all line [] i l.number l.at l.lead l.invariant.walk c.loop-interval-test.true c.in-Some.skipped s c.in-Some-field_behind.passed p) c.in_err-push.ensures.wrote c.in_err-push.ensures.fault
 
 pub loop-interval-preserved : goal.loop-interval-preserved
 loop-interval-preserved g c =
-    let out = c.push-in-loop-interval.new.self in
-    let s = (rw take_rest at c.in-Some.ensures) in
-    let p = (rw take_rest at c.in-Some-field_start.ensures) in
-    walking_more (fields_piece (cut_job c.args.job.now) c.args.count c.args.bytes.now) c.args.job.now.delim c.intervals-selected.result.now (take c.args.count c.args.bytes.now) (drop c.args.count c.args.bytes.now) c.args.out.now c.loop-interval.interval-index c.loop-interval.number c.loop-interval.at c.loop-interval.lead c.loop-interval.out out c.loop-interval.invariant c.loop-interval-test.true
-    c.in-Some.skipped s c.in-Some-field_start.passed p
-    (subst (λ (b : List ℕ). Wrote c.loop-interval.out out b) (slice_is (fields_piece (cut_job c.args.job.now) c.args.count c.args.bytes.now) c.args.job.now.delim c.intervals-selected.result.now (take c.args.count c.args.bytes.now) (drop c.args.count c.args.bytes.now) c.args.out.now c.loop-interval.interval-index c.loop-interval.number c.loop-interval.at c.loop-interval.lead c.loop-interval.out out c.loop-interval.invariant c.loop-interval-test.true c.in-Some.skipped s c.in-Some-field_start.passed p) c.in_ok-push.ensures.wrote)
-    c.in_ok-push.ensures.clean
+    let d = c.args.job.now.delim in
+    let line = c.args.line.now in
+    let all = c.intervals-selected.result.now in
+    let l = c.loop-interval in
+    let i = l.interval-index in
+    let r = get_or all i (record { first = 0; last = 0 }) in
+    let from = l.at + c.in-Some.skipped in
+    let next = from + c.in-Some-field_behind.passed in
+    let s = found d line (r.first - l.number) l.at c.in-Some.skipped c.in-Some.ensures.found in
+    let p = found d line (r.last - r.first + 1) from c.in-Some-field_behind.passed c.in-Some-field_behind.ensures.found in record {
+      front = front_more (cut_fields (cut_job c.args.job.now) line) (coming d (drop i all) line [] l.number l.at l.lead) c.args.out.now l.out l.invariant.front c.push-in-loop-interval.new.self
+          (take ((next - 1) - (from - l.lead)) (drop (from - l.lead) line)) (coming d (drop (i + 1) all) line [] (r.last + 1) next 1)
+          (walking_slice d all line [] i l.number l.at l.lead l.invariant.walk c.loop-interval-test.true c.in-Some.skipped s c.in-Some-field_behind.passed p) c.in_ok-push.ensures.wrote c.in_ok-push.ensures.clean;
+      walk = walking_more d all line [] i l.number l.at l.lead l.invariant.walk c.loop-interval-test.true c.in-Some.skipped s c.in-Some-field_behind.passed p;
+      known = c.in-Some-field_behind.ensures.start;
+    }
 
 pub returns-clause-wrote : goal.returns-clause-wrote
 returns-clause-wrote g c =
-    walking_done (fields_piece (cut_job c.args.job.now) c.args.count c.args.bytes.now) c.args.job.now.delim c.intervals-selected.result.now (take c.args.count c.args.bytes.now) (drop c.args.count c.args.bytes.now) c.args.out.now c.loop-interval.interval-index c.loop-interval.number c.loop-interval.at c.loop-interval.lead c.loop-interval.out c.push-2.new.self c.loop-interval.invariant c.loop-interval-test.false (rw take_rest at c.push-2.ensures.wrote)
+    let d = c.args.job.now.delim in
+    let line = c.args.line.now in
+    let all = c.intervals-selected.result.now in
+    let l = c.loop-interval in
+    front_ends (cut_fields (cut_job c.args.job.now) line) (coming d (drop l.interval-index all) line [] l.number l.at l.lead) c.args.out.now l.out l.invariant.front l.out []
+    (walking_done d all line [] l.interval-index l.number l.at l.lead l.invariant.walk c.loop-interval-test.false) (wrote_nothing l.out)

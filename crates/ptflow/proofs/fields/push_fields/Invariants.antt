@@ -1,9 +1,13 @@
-use Rattle.std.proofs.Common.{take, drop}
+use Rattle.std.proofs.Common.{◌≡◌, ◌≤◌, [], drop}
 use Rattle.ptlangs.specs.Jobs.{cut_job}
-use Rattle.ptflow.specs.Workings.CutRests.{fields_piece}
-use Rattle.ptflow.proofs.FieldWalks.{Walking}
+use Rattle.ptflow.specs.Cuts.{cut_fields}
+use Rattle.ptflow.proofs.FieldWalks.{Walking, coming}
+use Rattle.ptflow.proofs.Fronts.{Front}
 use Rattle.ptflow.proofs.fields.push_fields.Given as goal
 
 abbrev pub invariant-loop-interval : goal.invariant-loop-interval
-invariant-loop-interval g l =
-    Walking (fields_piece (cut_job l.job) l.count l.bytes) l.job.delim (drop l.interval-index l.selected) (take l.count l.bytes) (drop l.count l.bytes) l.number l.at l.lead l.fn.out l.out
+invariant-loop-interval g l = record {
+  front : Front (cut_fields (cut_job l.job) l.line) (coming l.job.delim (drop l.interval-index l.selected) l.line [] l.number l.at l.lead) l.fn.out l.out;
+  walk : Walking l.job.delim (drop l.interval-index l.selected) l.line l.number l.at l.lead;
+  known : l.at ≤ l.first → l.at ≡ 0;
+}

@@ -1,15 +1,17 @@
-use Rattle.std.proofs.Common.{length}
+use Rattle.std.proofs.Common.{◌≡◌, ◌+◌, ◌≤◌, ◌++◌, ℕ, List, length, take}
 use Rattle.ptlines.specs.Text.{ended_lines}
 use Rattle.ptlangs.specs.Jobs.{cut_job}
-use Rattle.ptflow.specs.Workings.CutRests.{cut_from}
-use Rattle.ptflow.proofs.Continuations.{Amid}
+use Rattle.ptflow.specs.Cuts.{cut_lines}
 use Rattle.ptflow.proofs.LineLaws.{Taken}
 use Rattle.ptflow.proofs.fields.push_lines.Given as goal
 
 abbrev pub invariant-lines : goal.invariant-lines
 invariant-lines g l = record {
-  amid : Amid (cut_from (cut_job l.job)) tt tt (ended_lines l.ending l.block) (ended_lines l.ending l.rest) l.fn.out l.out;
   taken : Taken l.ending l.block l.rest;
+  on : (more : List (List ℕ)) → cut_lines (cut_job l.job) (ended_lines l.ending l.block ++ more)
+      ≡ take l.end l.room ++ cut_lines (cut_job l.job) (ended_lines l.ending l.rest ++ more);
+  space : l.end + length l.rest ≤ length l.block;
+  long : length l.room ≡ 8208;
 }
 
 abbrev pub decreases-lines : goal.decreases-lines
