@@ -81,9 +81,6 @@ piece_on end selected before bytes whole more =
 
 -- one step more of what is written of a block
 module _ (end : ℕ) (list : List Interval) (start : ℕ) (block : List ℕ) where
-  pub cut_starts : IsCutTo end list start block start block []
-  cut_starts more = refl
-
   pub cut_on : (now next : ℕ) (rest rest' was is bytes : List ℕ) → IsCutTo end list start block now rest was → is ≡ was ++ bytes
       → ((more : List ℕ) → rest_by end list now (rest ++ more) ≡ bytes ++ rest_by end list next (rest' ++ more)) → IsCutTo end list start block next rest' is
   cut_on now next rest rest' was is bytes cut copied on more =

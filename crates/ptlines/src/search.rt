@@ -36,7 +36,8 @@ fn find_in_64(byte: u8, bytes: &[u8], at: usize) -> Option<usize>
     Some(at + marked.trailing_zeros() as usize)
 }
 
-// The first place of a byte, which is not in front of one. Apart, so that what is near is found without a call.
+// The first place of a byte, of which none stands in front of `from`. Apart, so that what is near is found without a
+// call.
 #[inline(never)]
 fn find_far(byte: u8, bytes: &[u8], from: usize) -> Option<usize>
     requires within { from ≤ length bytes.now }
