@@ -41,13 +41,13 @@ TEXT = [
     ["tr", "-cs", "[:alpha:]", "[\\n*]"],
 ]
 SHORT = [["cut", "-c", "2-4"], ["cut", "-f2"], UPPER]
-# Every eighth byte becomes its neighbour: neither few stretches nor few rows of bytes.
-APART = ["".join(f"\\{byte:03o}" for byte in range(first, 256, 8)) for first in (1, 2)]
+# Each byte becomes seven times itself: neither few stretches nor few rows of bytes.
+SEVENFOLD = ["\\000-\\377", "".join(f"\\{byte * 7 % 256:03o}" for byte in range(256))]
 BINARY = [
     ["tr", "\\000-\\177", "\\200-\\377"],
     ["tr", "-cd", "0-9"],
     ["tr", "-cd", "[:print:]"],
-    ["tr", *APART],
+    ["tr", *SEVENFOLD],
 ]
 
 UNIQ = [["uniq"], ["uniq", "-c"], ["uniq", "-d"], ["uniq", "-u"], ["uniq", "-f", "1"], ["uniq", "-s", "8"]]

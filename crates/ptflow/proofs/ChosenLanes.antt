@@ -22,9 +22,6 @@ pub chosen_by_test : {X : Type 0} (p : X → Bool) (xs : List X) → chosen_by (
 chosen_by_test p [] = refl
 chosen_by_test {X} p (x ∷ xs) = ap (λ (kept : List X). cond (p x) (x ∷ kept) kept) (chosen_by_test p xs)
 
-pub length-chosen_by_test : {X : Type 0} (p : X → Bool) (xs : List X) → length (chosen_by (map p xs) xs) ≡ count_by p xs
-length-chosen_by_test p xs = ap length (chosen_by_test p xs) ∙ length-filter p xs
-
 -- as many as bits of the mask are set
 pub length-chosen_by : {X : Type 0} (flags : List Bool) (xs : List X) → length flags ≤ length xs → length (chosen_by flags xs) ≡ count_ones (mask_l flags)
 unfolding lib.Count.ones

@@ -36,7 +36,8 @@ fn copy_selected(
     requires within { (count ≤ end) × (end ≤ length bytes.now) }
     requires short { before + count < 2 ^ 63 }
     requires room { at + end ≤ 8192 }
-    ensures copied { take result into.new ≡ take at into.old ++ chosen_piece selected.now before count (take end bytes.now) }
+    ensures copied { take result into.new
+        ≡ take at into.old ++ chosen_piece selected.now before count (take end bytes.now) }
     ensures near { result ≤ at + end }
 {
     let last = before + count as u64;

@@ -68,8 +68,8 @@ fn field_behind(
     Some(behind + passed)
 }
 
-// Pushes the selected fields of a line, whose first delimiter stands at `first`. Neighbouring fields are pushed as one
-// slice, which a delimiter in front of them begins.
+// Pushes the selected fields of a line, whose first delimiter stands at `first`; it may be longer than any room.
+// Neighbouring fields are pushed as one slice, which a delimiter in front of them begins.
 fn push_fields<A: Allocator + Copy, W: Sink>(
     job: &CutJob<A>,
     first: usize,
@@ -198,8 +198,8 @@ fn whole_lines(ending: u8, bytes: &[u8], to: usize, up_to: usize) -> usize
 }
 
 // Puts what is written of the first lines of these bytes to a place of a room: of the first line, which ends at `to`,
-// and where the delimiter is not in it, of all whole lines in front of the first delimiter. The answer is how many bytes
-// these lines are, and where what was put ends.
+// and where the delimiter is not in it, of all whole lines in front of the first delimiter. The answer is how many
+// bytes these lines are, and where what was put ends.
 #[inline(always)]
 fn put_lines<A: Allocator + Copy>(
     job: &CutJob<A>,

@@ -8,8 +8,8 @@ use crate::packing::{Shuffles, pack};
 use crate::sets::ByteSet;
 use std::simd::prelude::*;
 
-// Puts the bytes that are not in the set to the front of `into`, all but the last ones. Says how many were looked at, and
-// how many of them stay.
+// Puts the bytes that are not in the set to the front of `into`, all but the last ones. Says how many were looked at,
+// and how many of them stay.
 #[inline(always)]
 fn keep_most(
     set: ByteSet,

@@ -43,7 +43,8 @@ fn pack_eight(shuffles: &Shuffles, v: u8x16, keep: u8, into: &mut [u8], at: usiz
     requires packing { IsPacking shuffles.now }
     requires room { at + 16 ≤ length into.old }
     ensures long { length into.new ≡ length into.old }
-    ensures packed { (flags : List Bool) → length flags ≡ 8 → keep ≡ mask_l flags → take result into.new ≡ take at into.old ++ chosen_by flags v }
+    ensures packed { (flags : List Bool) → length flags ≡ 8 → keep ≡ mask_l flags
+        → take result into.new ≡ take at into.old ++ chosen_by flags v }
     ensures end { (at ≤ result) × (result ≤ at + 8) }
 {
     let places = u8x16::from_array(shuffles.rows[usize::from(keep)]);
@@ -57,7 +58,8 @@ pub(crate) fn pack(shuffles: &Shuffles, v: u8x16, keep: u64, into: &mut [u8], at
     requires packing { IsPacking shuffles.now }
     requires room { at + 24 ≤ length into.old }
     ensures long { length into.new ≡ length into.old }
-    ensures packed { (flags : List Bool) → length flags ≡ 16 → keep ≡ mask_l flags → take result into.new ≡ take at into.old ++ chosen_by flags v }
+    ensures packed { (flags : List Bool) → length flags ≡ 16 → keep ≡ mask_l flags
+        → take result into.new ≡ take at into.old ++ chosen_by flags v }
     ensures end { (at ≤ result) × (result ≤ at + 16) }
 {
     let half = pack_eight(shuffles, v, (keep & 255) as u8, into, at);

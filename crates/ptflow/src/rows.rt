@@ -87,7 +87,8 @@ fn deltas_of(images: &[u8; 256], half: usize) -> [u8; 16]
     deltas
 }
 
-// Takes a high half into the first row that has its deltas, or that has none. Where there is no such row it is left out.
+// Takes a high half into the first row that has its deltas, or that has none. Where there is no such row it is left
+// out.
 fn put(rows: &mut [Row; 4], half: usize, deltas: [u8; 16])
     requires { half < 16 }
 {

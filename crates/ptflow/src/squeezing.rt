@@ -10,7 +10,8 @@ use crate::packing::{Shuffles, pack};
 use crate::sets::ByteSet;
 use std::simd::prelude::*;
 
-// Puts those of the 16 bytes from a place on that stay behind the first `count` bytes of `into`, and says where they end.
+// Puts those of the 16 bytes from a place on that stay behind the first `count` bytes of `into`, and says where they
+// end.
 #[inline(always)]
 fn squeeze_lanes(
     set: ByteSet,
@@ -25,7 +26,8 @@ fn squeeze_lanes(
     requires lanes { at + 16 ≤ length from.now }
     requires room { count ≤ 8200 }
     ensures squeezed { take result into.new
-        ≡ take count into.old ++ squeeze_behind (holds set) (slice_index from.now (at - 1)) (take 16 (drop at from.now)) }
+        ≡ take count into.old
+        ++ squeeze_behind (holds set) (slice_index from.now (at - 1)) (take 16 (drop at from.now)) }
     ensures end { result ≤ count + 16 }
 {
     let before = u8x16::from_slice(&from[at - 1..]);
@@ -64,8 +66,8 @@ fn squeeze_rest(
     count
 }
 
-/// Puts the bytes that stay to the front of `into`, and says how many they are. Repeats of the bytes whose flag is true are
-/// squeezed, and `last` stands in front of the bytes, if anything does. `set` has the same flags.
+/// Puts the bytes that stay to the front of `into`, and says how many they are. Repeats of the bytes whose flag is true
+/// are squeezed, and `last` stands in front of the bytes, if anything does. `set` has the same flags.
 #[inline(never)]
 pub(crate) fn squeeze_block(
     set: ByteSet,

@@ -18,8 +18,8 @@ use crate::squeezing::squeeze_block;
 use ptlangs::CharPlan;
 use ptlines::{LineReader, Out, Sink, Source, WriteFault};
 
-/// The plan, and what its passes need: the bytes that go, how images are made, the bytes whose repeats go, and how bytes
-/// that stay are put side by side. A pass that would change nothing is left out.
+/// The plan, and what its passes need: the bytes that go, how images are made, the bytes whose repeats go, and how
+/// bytes that stay are put side by side. A pass that would change nothing is left out.
 #[derive(Drop)]
 struct Translation<'a> {
     plan: &'a CharPlan,

@@ -15,7 +15,7 @@ type Reader<'a> = LineReader<Pieces<'a>, Pieces<'a>>;
 
 const SHORT: &[usize] = &[0, 1, 15, 16, 17, 31, 32, 33, 63, 64, 65];
 
-const LONG: &[usize] = &[8191, 8192, 8193];
+const LONG: &[usize] = &[8190, 8191, 8192, 8193];
 
 // So many bytes of all values, some of which come twice or three times in a row.
 fn mixed(alloc: Global, count: usize) -> Result<Vec<u8>, AllocError> {
@@ -75,14 +75,12 @@ fn expect_short(rt: &impl Abort, alloc: Global, plan: &CharPlan) -> Result<(), F
     expect_planned(rt, alloc, plan, SHORT, 40)
 }
 
-// Some 30 bytes, of which none is the next one of another, and what stands behind each.
-const APART: &[u8] =
-    b"\\1\\11\\21\\31\\41\\51\\61\\71\\101\\111\\121\\131\\141\\151\\161\\171\\201\\211\\221\\231\\241\\251";
+// Six bytes of six high halves, each moved by another shift.
+const APART: &[u8] = b"\\1\\21\\41\\61\\101\\121";
 
-const BEHIND: &[u8] =
-    b"\\2\\12\\22\\32\\42\\52\\62\\72\\102\\112\\122\\132\\142\\152\\162\\172\\202\\212\\222\\232\\242\\252";
+const BEHIND: &[u8] = b"\\2\\23\\44\\65\\106\\127";
 
-// By two and by four stretches, over the middle of all values, by rows, by one image, and by all images.
+// By one, two and four stretches, over the middle of all values, by two and by four rows, by one image, and by all.
 const TRANSLATED: &[(bool, &[u8], &[u8])] = &[
     (false, b"a-z", b"A-Z"),
     (false, b"a-z\\377", b"A-Z\\1"),
@@ -90,6 +88,7 @@ const TRANSLATED: &[(bool, &[u8], &[u8])] = &[
     (false, b"\\000-\\177", b"\\200-\\377"),
     (false, b"\\177\\200", b"\\200\\177"),
     (false, b"a-z", b"a-z"),
+    (false, b"aeiouy", b"AEIOUY"),
     (false, b"aeiouy,.;", b"AEIOUY;,."),
     (true, b"[:alpha:]", b"[\\n*]"),
     (false, b"\\177\\200acegikmo", b"[x*]"),
@@ -150,10 +149,10 @@ fn each_length_is_deleted_and_squeezed(rt: HostRuntime) -> Result<(), Fail> {
     Ok(())
 }
 
-// One string or two by each body: as many as a block has, one less, and one more.
+// Each body over a block, and over a byte or two less or more.
 #[test]
 fn a_block_is_translated(rt: HostRuntime) -> Result<(), Fail> {
-    for place in [0, 2, 6, 7, 9usize] {
+    for place in [0, 1, 2, 5, 6, 7, 8, 10usize] {
         if let Some((complement, first, second)) = TRANSLATED.get(place) {
             let plan = CharPlan::read(Form::TranslateSqueeze, *complement, first, Some(second))?;
             expect_planned(&rt, rt.alloc(), &plan, LONG, usize::MAX)?;
@@ -216,26 +215,32 @@ fn fields_of(alloc: Global, list: &Ranges, line: &[u8]) -> Result<Vec<u8>, Alloc
     Ok(selected)
 }
 
-fn cut_job(alloc: Global, fields: bool, list: &[u8]) -> Result<CutJob, ListFault> {
+fn cut_job(alloc: Global, fields: bool, only: bool, list: &[u8]) -> Result<CutJob, ListFault> {
     Ok(CutJob {
         fields,
         list: Ranges::read(alloc, list)?,
         delim: b',',
-        only: false,
+        only,
         zero: false,
     })
 }
 
-// The selected part of a line.
-fn part_of(alloc: Global, job: &CutJob, line: &[u8]) -> Result<Vec<u8>, AllocError> {
-    if job.fields {
-        fields_of(alloc, &job.list, line)
-    } else {
-        bytes_of(alloc, &job.list, line)
+// Adds what is written of a line.
+fn add_cut(alloc: Global, all: &mut Vec<u8>, job: &CutJob, line: &[u8]) -> Result<(), AllocError> {
+    if job.fields && job.only && !line.contains(&b',') {
+        return Ok(());
     }
+    let part = if job.fields {
+        fields_of(alloc, &job.list, line)?
+    } else {
+        bytes_of(alloc, &job.list, line)?
+    };
+    all.extend_from_slice(&part)?;
+    all.push(b'\n')?;
+    Ok(())
 }
 
-// Cuts a line of each length with so many commas in 256 bytes, and then again without its end.
+// Cuts an empty line, three lines of each length with so many commas in 256 bytes, and then one more without its end.
 fn expect_cut(
     rt: &impl Abort,
     alloc: Global,
@@ -246,17 +251,17 @@ fn expect_cut(
 ) -> Result<(), Fail> {
     for count in lengths {
         let line = line_of(alloc, *count, commas)?;
-        let part = part_of(alloc, job, &line)?;
-        let mut text = Vec::new(alloc);
-        text.extend_from_slice(&line)?;
-        text.push(b'\n')?;
-        text.extend_from_slice(&line)?;
+        let mut text = vec![in alloc; b'\n'; 1]?;
         let mut all = Vec::new(alloc);
-        all.extend_from_slice(&part)?;
-        all.push(b'\n')?;
+        add_cut(alloc, &mut all, job, b"")?;
+        for _ in 0..3 {
+            text.extend_from_slice(&line)?;
+            text.push(b'\n')?;
+            add_cut(alloc, &mut all, job, &line)?;
+        }
+        text.extend_from_slice(&line)?;
         if *count > 0 {
-            all.extend_from_slice(&part)?;
-            all.push(b'\n')?;
+            add_cut(alloc, &mut all, job, &line)?;
         }
         expect_text(rt, alloc, job, &text, size, &all)?;
     }
@@ -283,48 +288,56 @@ fn expect_text(
 // No comma, few, many, and nothing else.
 const COMMAS: &[u32] = &[0, 4, 60, 256];
 
-fn expect_lists(rt: &impl Abort, alloc: Global, fields: bool, lists: &[&[u8]]) -> Result<(), Fail> {
-    for list in lists {
-        let job = cut_job(alloc, fields, list)?;
-        for commas in COMMAS {
-            expect_cut(rt, alloc, &job, *commas, SHORT, usize::MAX)?;
-            expect_cut(rt, alloc, &job, *commas, SHORT, 40)?;
+fn expect_all_cut(rt: &impl Abort, alloc: Global, job: &CutJob) -> Result<(), Fail> {
+    for commas in COMMAS {
+        expect_cut(rt, alloc, job, *commas, SHORT, usize::MAX)?;
+        expect_cut(rt, alloc, job, *commas, SHORT, 40)?;
+    }
+    Ok(())
+}
+
+const BYTES: &[&[u8]] = &[
+    b"1",
+    b"2-4",
+    b"3-,1",
+    b"16",
+    b"17-33",
+    b"1-2,4-5,7-8,10-11,15-16,31-32,34,63-65",
+];
+
+#[test]
+fn bytes_of_each_length_are_cut(rt: HostRuntime) -> Result<(), Fail> {
+    for list in BYTES {
+        let job = cut_job(rt.alloc(), false, false, list)?;
+        expect_all_cut(&rt, rt.alloc(), &job)?;
+    }
+    Ok(())
+}
+
+const FIELDS: &[&[u8]] = &[b"1", b"2", b"1,3", b"7-", b"63", b"64-65,1", b"2-64,66-"];
+
+#[test]
+fn fields_of_each_length_are_cut(rt: HostRuntime) -> Result<(), Fail> {
+    for list in FIELDS {
+        for only in [false, true] {
+            let job = cut_job(rt.alloc(), true, only, list)?;
+            expect_all_cut(&rt, rt.alloc(), &job)?;
         }
     }
     Ok(())
 }
 
-#[test]
-fn bytes_of_each_length_are_cut(rt: HostRuntime) -> Result<(), Fail> {
-    let many = b"1-2,4-5,7-8,10-11,15-16,31-32,34,63-65";
-    expect_lists(
-        &rt,
-        rt.alloc(),
-        false,
-        &[b"1", b"2-4", b"3-,1", b"16", b"17-33", many],
-    )
-}
-
-#[test]
-fn fields_of_each_length_are_cut(rt: HostRuntime) -> Result<(), Fail> {
-    expect_lists(
-        &rt,
-        rt.alloc(),
-        true,
-        &[b"1", b"2", b"1,3", b"7-", b"63", b"64-65,1", b"2-64,66-"],
-    )
-}
+const LISTS: &[(bool, &[u8])] = &[
+    (false, b"2-4"),
+    (false, b"2,8190-8192"),
+    (true, b"1,3"),
+    (true, b"64-65,1900-"),
+];
 
 #[test]
 fn a_block_is_cut(rt: HostRuntime) -> Result<(), Fail> {
-    let lists: &[(bool, &[u8])] = &[
-        (false, b"2-4"),
-        (false, b"2,8190-8192"),
-        (true, b"1,3"),
-        (true, b"64-65,1900-"),
-    ];
-    for (fields, list) in lists {
-        let job = cut_job(rt.alloc(), *fields, list)?;
+    for (fields, list) in LISTS {
+        let job = cut_job(rt.alloc(), *fields, false, list)?;
         expect_cut(&rt, rt.alloc(), &job, 60, LONG, usize::MAX)?;
     }
     Ok(())
