@@ -84,8 +84,8 @@ shuffled v i (j ∷ js) room lanes = λ t. here t ∷ shuffled v (suc i) js (ome
     here : cond (nat_le 128 j) 0 (get_or v (16 * (i / 16) + j) 0) ≡ get_or v j 0
     here = ap (λ (high : Bool). cond high 0 (get_or v (16 * (i / 16) + j) 0)) (low_place j lanes.0) ∙ ap (λ (k : ℕ). get_or v k 0) (omega (arith, room))
 
-pub row_lanes : (flags : List Bool) (row : List ℕ) → IsRow flags row → Each1 (λ place. place < 16) row
-row_lanes flags row is = Each1-from_get_or (λ place. place < 16) row 0 (λ i low. is.lanes i 0 low)
+pub row_lanes : (flags : List Bool) (places : List ℕ) → IsRow flags places → Each1 (λ place. place < 16) places
+row_lanes flags places is = Each1-from_get_or (λ place. place < 16) places 0 (λ i low. is.lanes i 0 low)
 
 -- the row of a mask
 pub row_of_mask : (shuffles : Shuffles) (mask : ℕ) → IsPacking shuffles → mask < 256 → IsRow (flags_of 8 mask) (slice_index_or shuffles.rows mask [])
