@@ -10,12 +10,12 @@ use Rattle.ptlines.specs.Slots.{Slots}
 use Rattle.ptlines.proofs.Filling.{goes_trans}
 use Rattle.ptlines.proofs.Pushed.{wrote_trans}
 use Rattle.ptflow.specs.Tools.{Tool}
-use Rattle.ptflow.specs.Passes.{IsReady, WorksOff, IsPass}
+use Rattle.ptflow.specs.Passes.{IsReady, IsPass}
 use Rattle.ptflow.specs.declared.faults.FlowFault.TheVariants.{Read, Write}
 use Rattle.ptflow.specs.Workings.Blocks.{IsBlockTool}
 use Rattle.ptflow.specs.Workings.Continuations.{Continues, Halts}
 use Rattle.ptflow.proofs.ReaderFacts.{given_of, may_come, goes_past}
-use Rattle.ptflow.proofs.PassLemmas.{Midway, Stored, stored_nothing, reached_nothing, pass_read, pass_write, pass_done, pass_unended}
+use Rattle.ptflow.proofs.PassLemmas.{Midway, Works, Stored, stored_nothing, reached_nothing, pass_read, pass_write, pass_done, pass_unended}
 
 -- No more is counted than was given.
 module _ (reader shown : Reader) (block : List ℕ) (goes : Goes reader shown []) (held : shown.held ≡ block) (sound : IsSound reader) (counted : ℕ) (few : counted ≤ reader.pulled - length reader.held) where
@@ -53,13 +53,15 @@ module _ {X : Type 0} (tool : Tool) (rest_from : X → List ℕ → List ℕ) (H
     (m : Midway rest_from start now old reader was is) (ready : IsReady old store) (sound : IsSound reader) (reads : Reads reader new []) (is_sound : IsSound new) (holds : Holds start now)
     (all : (rest : List ℕ) → rest_from start (m.given ++ rest) ≡ m.pushed ++ rest_from now rest) where
   -- what was passed on before this block
-  works : WorksOff tool.decided (given_of (m.given ++ []) new) m.pushed
+  works : Works tool (given_of (m.given ++ []) new) m.pushed
   works = record {
-    earlier = record { bytes = m.given; ended = false };
-    last = new.held;
-    split = ap (λ (l : List ℕ). l ++ new.held) (append-nil m.given);
-    short = omega (arith, is_sound.held);
-    ended = λ never. absurd (false≢true never);
+    before = λ u. record {
+      earlier = record { bytes = m.given; ended = false };
+      last = new.held;
+      split = ap (λ (l : List ℕ). l ++ new.held) (append-nil m.given);
+      short = omega (arith, is_sound.held);
+      ended = λ never. absurd (false≢true never);
+    };
     begins = b.decided m.given m.pushed now holds all;
   }
 

@@ -22,7 +22,6 @@ pub mod OpenRuns
 pub mod PassLemmas
 pub mod PasteLemmas
 pub mod PasteRows
-pub mod PassRows
 pub mod ReaderFacts
 pub mod RowTurns
 pub mod SerialRests

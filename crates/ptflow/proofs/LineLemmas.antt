@@ -14,14 +14,14 @@ use Rattle.ptlines.proofs.Filling.{goes_trans}
 use Rattle.ptlines.proofs.Pushed.{wrote_trans}
 use Rattle.ptlines.proofs.TextLaws.{lines_first, lines_last, lines_of_text, lines-text, lines_are, text-append, text_push, ended_of_text}
 use Rattle.ptflow.specs.Tools.{Tool}
-use Rattle.ptflow.specs.Passes.{IsReady, IsPass, Adds, WorksOff}
+use Rattle.ptflow.specs.Passes.{IsReady, IsPass, Adds}
 use Rattle.ptflow.specs.Workings.TakenLines.{LinesCame}
 use Rattle.ptflow.proofs.LinesCame.{before_line, behind_line}
 use Rattle.ptflow.specs.declared.faults.FlowFault.TheVariants.{Read, Write, Memory}
 use Rattle.ptflow.specs.Workings.Continuations.{Continues, Halts}
 use Rattle.ptflow.proofs.LineLaws.{parts_of, ended_front, longest-append, longest_piece}
 use Rattle.ptflow.proofs.ReaderFacts.{goes_nothing, given_of, done_gives_nothing, stays_done, may_come, goes_past}
-use Rattle.ptflow.proofs.PassLemmas.{Reached, reached_nothing, Midway, Stored, pass_read, pass_memory, pass_write, pass_done}
+use Rattle.ptflow.proofs.PassLemmas.{Reached, reached_nothing, Midway, Works, Stored, pass_read, pass_memory, pass_write, pass_done}
 use Rattle.ptflow.proofs.SlotFacts.{Keeps, keeps_more, keeps_line}
 
 -- What is written of lines that come in the state x is `lines_from x`, and so is all that this tool writes in the state
@@ -174,20 +174,16 @@ module _ {X : Type 0} (tool : Tool) (lines_from : X → List (List ℕ) → List
         keeps_line width most before store after slot bytes (keeps_more width (longest (lines end r.given)) most before store r.keeps (omega arith)) within (omega arith) told
 
     -- what is decided of the lines so far was pushed, and behind them no more than a line and a block came
-    works_line : (new : Reader) (piece : List ℕ) → Reads reader new piece → (line behind : List ℕ) → piece ++ new.held ≡ line ++ behind → IsLine end line → length behind ≤ 8193 → WorksOff tool.decided (given_of (r.given ++ piece) new) r.pushed
+    works_line : (new : Reader) (piece : List ℕ) → Reads reader new piece → (line behind : List ℕ) → piece ++ new.held ≡ line ++ behind → IsLine end line → length behind ≤ 8193 → Works tool (given_of (r.given ++ piece) new) r.pushed
     works_line new piece reads line behind is free short =
         let came : LinesCame end reader r.given (lines end r.given) = record { so_far = ⊎_elim (λ o. inl (o, lines_are end r.given)) (λ done. inr (refl, done)) r.whole } in
         let e = before_line end reader new r.given (lines end r.given) came piece reads line behind is free short in
         record {
-          earlier = e.earlier;
-          last = e.last;
-          split = e.split;
-          short = e.short;
-          ended = e.ended;
-          begins = subst (λ (l : List ℕ). Begins l r.pushed) (sym (t.decided_is e.earlier ∙ ap decided e.whole)) (t.sure (lines end r.given) r.pushed now r.on);
+          before = λ u. e.before;
+          begins = subst (λ (l : List ℕ). Begins l r.pushed) (sym (t.decided_is e.before.earlier ∙ ap decided e.whole)) (t.sure (lines end r.given) r.pushed now r.on);
         }
 
-    works_piece : (new : Reader) (piece : List ℕ) → Reads reader new piece → IsLine end piece → IsSound new → WorksOff tool.decided (given_of (r.given ++ piece) new) r.pushed
+    works_piece : (new : Reader) (piece : List ℕ) → Reads reader new piece → IsLine end piece → IsSound new → Works tool (given_of (r.given ++ piece) new) r.pushed
     works_piece new piece reads free is_sound = works_line new piece reads piece new.held refl free (omega (arith, is_sound.held))
 
     -- a beginning of a line came
@@ -255,10 +251,12 @@ run_unslotted tool lines_from decided end width start t old was before store rea
     pass_memory (bytes_from lines_from end) start tool t.text start old old old was was before store m ready sound [] (goes_nothing old ready.readable).reads
     (stored_short tool lines_from decided end width start t start old old was was before ready sound store 0 (given_of [] old) (omega (arith, same)) adds (λ input a. omega arith))
     (record {
-      earlier = record { bytes = []; ended = false };
-      last = old.held;
-      split = refl;
-      short = omega (arith, sound.held);
-      ended = λ never. absurd (false≢true never);
+      before = λ u. record {
+        earlier = record { bytes = []; ended = false };
+        last = old.held;
+        split = refl;
+        short = omega (arith, sound.held);
+        ended = λ never. absurd (false≢true never);
+      };
       begins = subst (λ (l : List ℕ). Begins l []) (sym (t.decided_is (record { bytes = []; ended = false }))) (t.sure [] [] start (λ more. refl));
     }) refl denied

@@ -5,6 +5,7 @@ use Rattle.std.proofs.lemmas.Bool.{false≢true}
 use Rattle.std.proofs.lemmas.List.{append-nil}
 use Rattle.ptlines.specs.Text.{text, lines, ended_lines, IsLine, AreLines, longest, longest_line}
 use Rattle.ptlines.specs.Inputs.{Given, Agrees, whole_lines}
+use Rattle.ptlines.specs.KeepingUp.{Before}
 use Rattle.ptlines.specs.Readers.{Reader, Reads, Goes, IsDone, IsSound}
 use Rattle.ptlines.specs.Slots.{Slots}
 use Rattle.ptlines.specs.Fills.{GivesLine}
@@ -132,14 +133,10 @@ lines_block end reader given ls k new more goes are = record {
 
 -- ---- what came earlier
 
--- an earlier state of what came: these lines were whole then, and at most two blocks have come since
+-- the whole lines of what came two blocks earlier, or less
 pub record Earlier (end : ℕ) (ls : List (List ℕ)) (came : Given) : Type 0 where
-  pub earlier : Given
-  pub last : List ℕ
-  pub split : came.bytes ≡ earlier.bytes ++ last
-  pub short : length last ≤ 16384
-  pub ended : earlier.ended ≡ true → came.ended ≡ true
-  pub whole : whole_lines end earlier ≡ ls
+  pub before : Before came
+  pub whole : whole_lines end before.earlier ≡ ls
 
 line_take : (end n : ℕ) (bytes : List ℕ) → IsLine end bytes → IsLine end (take n bytes)
 line_take end zero bytes are = tt
@@ -161,21 +158,25 @@ module _ (end : ℕ) (now new : Reader) (given : List ℕ) (ls : List (List ℕ)
     where
       opened : (given ≡ text end ls) × AreLines end ls → Earlier end ls (given_of (given ++ piece) new)
       opened o = let n = length line - 8191 in record {
+        before = record {
         earlier = record { bytes = given ++ take n line; ended = false };
         last = drop n line ++ behind;
         split = append_assoc given piece new.held ∙ ap (λ (l : List ℕ). given ++ l) (is ∙ ap (λ (l : List ℕ). l ++ behind) (sym (take-append-drop n line)) ∙ append_assoc (take n line) (drop n line) behind)
             ∙ sym (append_assoc given (take n line) (drop n line ++ behind));
         short = omega (arith, short, length-append (drop n line) behind, length-drop n line);
         ended = λ never. absurd (false≢true never);
+        };
         whole = ap (λ (l : List ℕ). ended_lines end (l ++ take n line)) o.0 ∙ ended_of_text end ls (take n line) o.1 (line_take end n line whole);
       }
 
       closed : (lines end given ≡ ls) × IsDone now → Earlier end ls (given_of (given ++ piece) new)
       closed c = let none = done_gives_nothing now new piece c.1 reads in record {
+        before = record {
         earlier = record { bytes = given; ended = true };
         last = [];
         split = (λ i. (given ++ none.0 i) ++ none.1 i) ∙ append-nil (given ++ []);
         short = omega arith;
         ended = λ e. none.2;
+        };
         whole = c.0;
       }

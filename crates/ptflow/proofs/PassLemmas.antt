@@ -13,7 +13,9 @@ use Rattle.ptlines.specs.Slots.{Slots, total}
 use Rattle.ptlines.proofs.Filling.{reads_trans}
 use Rattle.ptlines.proofs.Pushed.{wrote_nothing, wrote_trans}
 use Rattle.ptflow.specs.Tools.{Tool}
-use Rattle.ptflow.specs.Passes.{IsReady, Ends, Adds, WorksOff, SendsOn, KeepsUp, IsPass}
+use Rattle.ptflow.specs.Passes.{IsReady, Ends, Adds, IsPass}
+use Rattle.ptlines.specs.KeepingUp.{WorksOff, KeepsUp}
+use Rattle.ptlines.proofs.Sending.{keeps_still, keeps_more}
 use Rattle.ptflow.specs.declared.faults.FlowFault.{FlowFault}
 use Rattle.ptflow.specs.declared.faults.FlowFault.TheVariants.{Read, Write, Memory}
 use Rattle.ptflow.proofs.ReaderFacts.{goes_nothing, given_of, came_of, done_gives_nothing, never_failed}
@@ -34,6 +36,10 @@ pub record Midway {X : Type 0} (rest_from : X → List ℕ → List ℕ) (start 
   pub reached : Reached old reader was is given pushed
   pub on : (rest : List ℕ) → (IsDone reader → rest ≡ []) → rest_from start (given ++ rest) ≡ pushed ++ rest_from now rest
 
+-- what was decided of one input two blocks earlier, or less, was pushed
+abbrev pub Works : Tool → Given → List ℕ → Type 0
+Works tool came pushed = WorksOff {I = Unit {0}} (λ given. tool.decided (given tt)) (λ u. came) pushed
+
 -- what the store is afterwards
 pub record Stored (tool : Tool) (before store : Slots) (given : Given) : Type 0 where
   pub peak : (input : List ℕ) → Agrees given input → store.peak ≤ max before.peak (tool.size input)
@@ -47,36 +53,6 @@ stored_nothing tool store given none = record {
   adds = record { least = omega arith; most = omega arith; all = λ allowed. omega (arith, none) };
   unused = λ h. refl;
 }
-
-unfoldable pub known_length : Option (List ℕ) → ℕ
-known_length None = 0
-known_length (Some bytes) = length bytes
-
--- what was sent on of some bytes, by what the sink had taken
-sent_on : (was mid is : Option (List ℕ)) (staged waits bytes : List ℕ) → Extends was mid → Extends mid is → append_known mid waits ≡ append_known (append_known was staged) bytes → length waits ≤ max 8192 (length staged)
-    → (sent : List ℕ) × (is ≡ append_known was sent) × (length staged + length bytes ≤ length sent + max 8192 (length staged))
-unfolding known_length
-sent_on None mid is staged waits bytes p q all few = (staged ++ bytes, q.is ∙ ap (λ (t : Option (List ℕ)). append_known t q.front) p.is, omega (arith, length-append staged bytes))
-sent_on (Some t) mid is staged waits bytes p q all few = (
-  p.front ++ q.front,
-  q.is ∙ ap (λ (t : Option (List ℕ)). append_known t q.front) p.is ∙ append_known-append (Some t) p.front q.front,
-  omega (
-    arith,
-    few,
-    ap known_length (sym (ap (λ (m : Option (List ℕ)). append_known m waits) p.is) ∙ all),
-    length-append p.front q.front,
-    length-append t p.front,
-    length-append (t ++ p.front) waits,
-    length-append t staged,
-    length-append (t ++ staged) bytes,
-  ),
-)
-
--- what was pushed by a time at which no write had failed was sent on, but for a block
-pub sends_on : (was mid is : Output) (pushed bytes : List ℕ) → Wrote was mid pushed → mid.faulted ≡ false → Extends mid.taken is.taken → Begins bytes pushed → SendsOn was is bytes
-sends_on was mid is pushed bytes wrote clean kept front =
-    let s = sent_on was.taken mid.taken is.taken was.staged mid.staged pushed wrote.kept kept (wrote.whole clean) wrote.staged in
-    record { sent = s.0; taken = s.1; most = omega (arith, s.2, ap length front.is, length-append bytes front.rest) }
 
 -- on an output that has faulted nothing is done
 pub pass_halted : (tool : Tool) (old : Reader) (was : Output) (before : Slots) → IsReady old before → was.faulted ≡ true → IsPass tool old old was was before before (Err Write)
@@ -105,7 +81,7 @@ never_memory tool old new was is store result roomy p e =
 module _ {X : Type 0} (rest_from : X → List ℕ → List ℕ) (start : X) (tool : Tool) (is_text : (bytes : List ℕ) → rest_from start bytes ≡ tool.text bytes)
     (now : X) (old reader new : Reader) (was is : Output) (before store : Slots) (m : Midway rest_from start now old reader was is) (ready : IsReady old before) (sound : IsSound reader)
     (piece : List ℕ) (reads : Reads reader new piece) (stored : Stored tool before store (given_of (m.given ++ piece) new))
-    (works : WorksOff tool.decided (given_of (m.given ++ piece) new) m.pushed) where
+    (works : Works tool (given_of (m.given ++ piece) new) m.pushed) where
   same_failed : new.failed ≡ reader.failed → new.failed ≡ old.failed
   same_failed same = same ∙ m.reached.goes.failed
 
@@ -121,24 +97,16 @@ module _ {X : Type 0} (rest_from : X → List ℕ → List ℕ) (start : X) (too
       none : IsDone reader → piece ++ (new.held ++ a.rest) ≡ []
       none done = let k = done_gives_nothing reader new piece done reads in λ i. k.0 i ++ (k.1 i ++ a.whole k.2 i)
 
-  -- what was decided by then was sent on
-  keeps_still : KeepsUp tool.decided (given_of (m.given ++ piece) new) was is m.pushed
-  keeps_still = record { works = works; sends = sends_on was is is m.pushed (tool.decided works.earlier) m.reached.wrote m.reached.clean (extends_same is.taken) works.begins }
+  abbrev keeps_up : Output → List ℕ → Type 0
+  keeps_up is' pushed = KeepsUp {I = Unit {0}} (λ given. tool.decided (given tt)) (λ u. given_of (m.given ++ piece) new) was is' pushed
 
-  keeps_more : (is' : Output) (bytes : List ℕ) → Wrote is is' bytes → KeepsUp tool.decided (given_of (m.given ++ piece) new) was is' (m.pushed ++ bytes)
-  keeps_more is' bytes wrote = record {
-    works = record {
-      earlier = works.earlier;
-      last = works.last;
-      split = works.split;
-      short = works.short;
-      ended = works.ended;
-      begins = record { rest = works.begins.rest ++ bytes; is = ap (λ (l : List ℕ). l ++ bytes) works.begins.is ∙ append_assoc (tool.decided works.earlier) works.begins.rest bytes };
-    };
-    sends = sends_on was is is' m.pushed (tool.decided works.earlier) m.reached.wrote m.reached.clean wrote.kept works.begins;
-  }
+  still : keeps_up is m.pushed
+  still = keeps_still (λ given. tool.decided (given tt)) (λ u. given_of (m.given ++ piece) new) was is m.pushed works m.reached.wrote m.reached.clean
 
-  pass : (is' : Output) (pushed : List ℕ) (result : Result (Unit {0}) FlowFault) → Wrote was is' pushed → KeepsUp tool.decided (given_of (m.given ++ piece) new) was is' pushed → Ends old new is' store result → ((input : List ℕ) → Agrees (given_of (m.given ++ piece) new) input → Begins pushed (tool.text input))
+  more : (is' : Output) (bytes : List ℕ) → Wrote is is' bytes → keeps_up is' (m.pushed ++ bytes)
+  more = keeps_more (λ given. tool.decided (given tt)) (λ u. given_of (m.given ++ piece) new) was is m.pushed works m.reached.wrote m.reached.clean
+
+  pass : (is' : Output) (pushed : List ℕ) (result : Result (Unit {0}) FlowFault) → Wrote was is' pushed → keeps_up is' pushed → Ends old new is' store result → ((input : List ℕ) → Agrees (given_of (m.given ++ piece) new) input → Begins pushed (tool.text input))
       → (new.failed ≡ true → is'.faulted ≡ false → Begins (tool.decided (given_of (m.given ++ piece) new)) pushed) → (result ≡ Ok tt → pushed ≡ tool.text ((m.given ++ piece) ++ new.held)) → IsPass tool old new was is' before store result
   pass is' pushed result wrote keeps ends true_so_far sure whole = record {
     given = given_of (m.given ++ piece) new;
@@ -162,21 +130,21 @@ module _ {X : Type 0} (rest_from : X → List ℕ → List ℕ) (start : X) (too
   -- a read failed
   pub pass_read : HasReadCause reader new → store.denied ≡ false → (new.held ≡ [] → new.ended ≡ false → Begins (tool.decided (given_of (m.given ++ piece) new)) m.pushed) → IsPass tool old new was is before store (Err (Read 0))
   pass_read cause roomy decided =
-      pass is m.pushed (Err (Read 0)) m.reached.wrote keeps_still
+      pass is m.pushed (Err (Read 0)) m.reached.wrote still
       (record { cause = ⊎_elim (λ c. inl c) (λ c. inr (c.0, same_failed c.1)) cause; clean = m.reached.clean; denied = roomy; only = refl })
       begins (λ failed fine. ⊎_elim (λ c. decided c.1 c.2) (λ c. absurd (false≢true (sym (went_on c.1) ∙ failed))) cause) (λ ok. cc)
 
   -- a growth was refused
   pub pass_memory : new.failed ≡ reader.failed → store.denied ≡ true → IsPass tool old new was is before store (Err Memory)
   pass_memory same denied =
-      pass is m.pushed (Err Memory) m.reached.wrote keeps_still (record { denied = denied; failed = same_failed same; clean = m.reached.clean })
+      pass is m.pushed (Err Memory) m.reached.wrote still (record { denied = denied; failed = same_failed same; clean = m.reached.clean })
       begins (λ failed fine. absurd (false≢true (sym (went_on same) ∙ failed))) (λ ok. cc)
 
   -- a write failed while these bytes were pushed
   pub pass_write : (is' : Output) (bytes : List ℕ) → Wrote is is' bytes → is'.faulted ≡ true → new.failed ≡ reader.failed → store.denied ≡ false
       → ((rest : List ℕ) → (new.ended ≡ true → rest ≡ []) → Begins bytes (rest_from now (piece ++ (new.held ++ rest)))) → IsPass tool old new was is' before store (Err Write)
   pass_write is' bytes wrote fault same roomy fronts =
-      pass is' (m.pushed ++ bytes) (Err Write) (wrote_trans was is is' m.pushed bytes m.reached.clean m.reached.wrote wrote) (keeps_more is' bytes wrote)
+      pass is' (m.pushed ++ bytes) (Err Write) (wrote_trans was is is' m.pushed bytes m.reached.clean m.reached.wrote wrote) (more is' bytes wrote)
       (record { faulted = fault; failed = same_failed same; denied = roomy })
       (λ input a. let b = fronts a.rest a.whole in record {
         rest = b.rest;
@@ -192,7 +160,7 @@ module _ {X : Type 0} (rest_from : X → List ℕ → List ℕ) (start : X) (too
     -- and what is written then was pushed
     pub pass_done : is'.faulted ≡ false → new.fault ≡ None → new.pulled < 2 ^ 63 → total store.lines ≡ 0 → IsPass tool old new was is' before store (Ok tt)
     pass_done fine fault short empty =
-        pass is' (m.pushed ++ rest_from now []) (Ok tt) (wrote_trans was is is' m.pushed (rest_from now []) m.reached.clean m.reached.wrote wrote) (keeps_more is' (rest_from now []) wrote)
+        pass is' (m.pushed ++ rest_from now []) (Ok tt) (wrote_trans was is is' m.pushed (rest_from now []) m.reached.clean m.reached.wrote wrote) (more is' (rest_from now []) wrote)
         (record { done = done; fault = fault; failed = same_failed same; clean = fine; denied = roomy; empty = empty; short = short })
         (λ input a. record { rest = []; is = all_of input a ∙ sym (append-nil (m.pushed ++ rest_from now [])) })
         (λ failed good. absurd (false≢true (sym (went_on same) ∙ failed)))

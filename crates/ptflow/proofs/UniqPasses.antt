@@ -11,7 +11,7 @@ use Rattle.ptlines.specs.Fills.{GivesLine}
 use Rattle.ptlines.proofs.Filling.{goes_trans}
 use Rattle.ptlines.proofs.Pushed.{wrote_trans}
 use Rattle.ptlangs.specs.Jobs.{Uniq}
-use Rattle.ptflow.specs.Passes.{IsReady, IsPass, Adds, WorksOff}
+use Rattle.ptflow.specs.Passes.{IsReady, IsPass, Adds}
 use Rattle.ptflow.specs.Uniqs.{Run, runs, entries, all_but_last, uniq_tool}
 use Rattle.ptflow.specs.Workings.OpenRuns.{run_of, open_run, runs_behind, run_text}
 use Rattle.ptflow.specs.declared.faults.FlowFault.TheVariants.{Read, Write, Memory}
@@ -22,7 +22,7 @@ use Rattle.ptflow.proofs.LineLaws.{longest-append, parts_of, ended_front}
 use Rattle.ptflow.specs.Workings.TakenLines.{LinesCame}
 use Rattle.ptflow.proofs.LinesCame.{lines_none, lines_few, lines_on, lines_more, lines_block, line_front, came_longest, piece_longest, whole_before, before_line, behind_line}
 use Rattle.ptflow.proofs.OpenRuns.{entries-append, open_is, but_open}
-use Rattle.ptflow.proofs.PassLemmas.{Reached, reached_nothing, Midway, Stored, pass_read, pass_memory, pass_write, pass_done, pass_unended}
+use Rattle.ptflow.proofs.PassLemmas.{Reached, reached_nothing, Midway, Works, Stored, pass_read, pass_memory, pass_write, pass_done, pass_unended}
 use Rattle.ptflow.proofs.ReaderFacts.{given_of, goes_nothing, goes_past}
 use Rattle.ptflow.proofs.TwoSlots.{KeepsTwo, two_starts, two_more, two_second, first_stays, second_line, two_swap, emptied_total, emptied_denied, emptied_adds, emptied_peak}
 
@@ -77,19 +77,15 @@ module _ (job : Uniq) (old : Reader) (was : Output) where
     decided_runs = subst (λ (rs : List Run). Begins (entries job (all_but_last rs)) (entries job s.passed)) (sym (ap (runs job) (sym (append-nil s.ls)) ∙ s.on [])) (but_open job s.passed run)
 
     -- and behind them no more than a line and a block came
-    works_line : (new : Reader) (piece : List ℕ) → Reads reader new piece → (line behind : List ℕ) → piece ++ new.held ≡ line ++ behind → IsLine job.end line → length behind ≤ 8193 → WorksOff (uniq_tool job).decided (given_of (s.given ++ piece) new) (entries job s.passed)
+    works_line : (new : Reader) (piece : List ℕ) → Reads reader new piece → (line behind : List ℕ) → piece ++ new.held ≡ line ++ behind → IsLine job.end line → length behind ≤ 8193 → Works (uniq_tool job) (given_of (s.given ++ piece) new) (entries job s.passed)
     works_line new piece reads line behind is whole short =
         let e = before_line job.end reader new s.given s.ls s.came piece reads line behind is whole short in
         record {
-          earlier = e.earlier;
-          last = e.last;
-          split = e.split;
-          short = e.short;
-          ended = e.ended;
+          before = λ u. e.before;
           begins = subst (λ (ls : List (List ℕ)). Begins (entries job (all_but_last (runs job ls))) (entries job s.passed)) (sym e.whole) decided_runs;
         }
 
-    works_piece : (new : Reader) (piece : List ℕ) → Reads reader new piece → IsLine job.end piece → IsSound new → WorksOff (uniq_tool job).decided (given_of (s.given ++ piece) new) (entries job s.passed)
+    works_piece : (new : Reader) (piece : List ℕ) → Reads reader new piece → IsLine job.end piece → IsSound new → Works (uniq_tool job) (given_of (s.given ++ piece) new) (entries job s.passed)
     works_piece new piece reads whole is_sound = works_line new piece reads piece new.held refl whole (omega (arith, is_sound.held))
 
     -- some lines more came, and what is written of their runs was passed on

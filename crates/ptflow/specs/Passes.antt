@@ -1,8 +1,8 @@
 -- What an engine does when it is called on one input.
-use Rattle.std.specs.Prelude.{◌≡◌, ◌≤◌, ◌<◌, ◌+◌, ◌^◌, ℕ, true, false, List, [], ◌++◌, None, Result, Ok, Err, length, max}
-use Rattle.std.specs.Io.KnownBytes.{append_known}
+use Rattle.std.specs.Prelude.{◌≡◌, ◌≤◌, ◌<◌, ◌^◌, ℕ, true, false, List, [], None, Result, Ok, Err, length, max}
 use Rattle.ptlines.specs.Readers.{Reader, IsDone, HasReadCause}
 use Rattle.ptlines.specs.Inputs.{Given, Begins, Agrees, Came}
+use Rattle.ptlines.specs.KeepingUp.{KeepsUp}
 use Rattle.ptlines.specs.Outputs.{Output, Wrote}
 use Rattle.ptlines.specs.Slots.{Slots, total}
 use Rattle.ptflow.specs.Tools.{Tool}
@@ -69,26 +69,6 @@ pub record Untouched (old new : Reader) (was is : Output) (before store : Slots)
   pub same_output : is ≡ was
   pub same_store : store ≡ before
 
--- What all but the last 16,384 bytes that came decide was pushed.
-pub record WorksOff (decided : Given → List ℕ) (came : Given) (pushed : List ℕ) : Type 0 where
-  pub earlier : Given
-  pub last : List ℕ
-  pub split : came.bytes ≡ earlier.bytes ++ last
-  pub short : length last ≤ 16384
-  pub ended : earlier.ended ≡ true → came.ended ≡ true
-  pub begins : Begins (decided earlier) pushed
-
--- Of what was staged and of these bytes behind it, all but a block has reached the sink.
-pub record SendsOn (was is : Output) (bytes : List ℕ) : Type 0 where
-  pub sent : List ℕ
-  pub taken : is.taken ≡ append_known was.taken sent
-  pub most : length was.staged + length bytes ≤ length sent + max 8192 (length was.staged)
-
--- Reading does not run ahead of writing, however it ends.
-pub record KeepsUp (decided : Given → List ℕ) (came : Given) (was is : Output) (pushed : List ℕ) : Type 0 where
-  pub works : WorksOff decided came pushed
-  pub sends : SendsOn was is (decided works.earlier)
-
 -- An engine went over one input.
 pub record IsPass (tool : Tool) (old new : Reader) (was is : Output) (before store : Slots) (result : Result (Unit {0}) FlowFault) : Type 0 where
   pub given : Given
@@ -100,8 +80,8 @@ pub record IsPass (tool : Tool) (old new : Reader) (was is : Output) (before sto
   pub true_so_far : (input : List ℕ) → Agrees given input → Begins pushed (tool.text input)
   -- after a read that failed, what was decided was pushed, unless a write failed
   pub sure : new.failed ≡ true → is.faulted ≡ false → Begins (tool.decided given) pushed
-  -- and so was, whatever failed, what was decided two blocks before the last byte that came
-  pub keeps_up : was.faulted ≡ false → KeepsUp tool.decided given was is pushed
+  -- and so was, whatever failed, what was decided two blocks earlier
+  pub keeps_up : was.faulted ≡ false → KeepsUp {I = Unit {0}} (λ came. tool.decided (came tt)) (λ u. given) was is pushed
   -- all of it was pushed
   pub whole : result ≡ Ok tt → pushed ≡ tool.text given.bytes
   -- the store held no more than the tool's measure of the input
