@@ -1,6 +1,7 @@
 #!/usr/bin/env python3
 """Runs the examples of the README, the pages and the docs where they stand, lints the pages, and asks whether the options
-of the pages and of the completion are those of the program, and whether its messages stand in the pages.
+of the pages and of the completion are those of the program, whether its messages stand in the pages, and whether these
+name the version.
 
   python3 tests/pages.py PROGRAM
 
@@ -98,14 +99,30 @@ def run_all(file, program, known):
     return good, bad
 
 
+# What the lint says that is meant so: the pages name each other before they are installed, and their version in the footer.
+MEANT = re.compile(r"STYLE: (referenced manual not found|operating system explicitly specified)|^mandoc: outdated mandoc.db")
+
+
 def lint():
     """What mandoc has against the pages; nothing where there is no mandoc."""
     if not shutil.which("mandoc"):
         print("left out: the lint of the pages (there is no mandoc)")
         return ""
     pages = sorted(glob.glob(f"{TOP}/man/*.1"))
-    words = ["mandoc", "-Tlint", "-Wwarning", *pages]
-    return subprocess.run(words, stdout=subprocess.PIPE, stderr=subprocess.STDOUT, text=True, check=False).stdout
+    words = ["mandoc", "-Tlint", "-Wstyle", *pages]
+    said = subprocess.run(words, stdout=subprocess.PIPE, stderr=subprocess.STDOUT, text=True, check=False).stdout
+    return "".join(it for it in said.splitlines(keepends=True) if not MEANT.search(it))
+
+
+def other_versions():
+    """The pages and the list of changes that name another version than the file VERSION."""
+    with open(f"{TOP}/VERSION", encoding="ascii") as it:
+        version = it.read().strip()
+    found = []
+    for file, wanted in [*((it, f".Os ptext {version}\n") for it in FILES if it.endswith(".1")), ("CHANGELOG.md", f"## {version}\n")]:
+        with open(f"{TOP}/{file}", encoding="utf-8") as it:
+            found += [] if wanted in it.read() else [f"{file} does not name version {version}\n"]
+    return "".join(found)
 
 
 def letters_of_program(program, tool):
@@ -181,7 +198,7 @@ def main():
         print(f"left out: the examples of {side} (the system has no such version)")
     counts = [run_all(file, os.path.abspath(sys.argv[1]), known) for file in FILES]
     good, bad = (sum(it) for it in zip(*counts))
-    found = lint() + wrong_options(os.path.abspath(sys.argv[1])) + lacking_messages()
+    found = lint() + other_versions() + wrong_options(os.path.abspath(sys.argv[1])) + lacking_messages()
     print(f"{found}{good} of {good + bad} examples as wanted")
     return 1 if bad or found else 0
 
