@@ -1,7 +1,7 @@
 #!/usr/bin/env python3
 """Runs the examples of the README, the pages and the docs where they stand, lints the pages, and asks whether the options
-of the pages and of the completion are those of the program, whether its messages stand in the pages, and whether these
-name the version.
+of the pages and of the completion are those of the program, whether its messages stand in the pages, whether these
+name the version, and whether docs/POSIX.md names what there is.
 
   python3 tests/pages.py PROGRAM
 
@@ -190,6 +190,28 @@ def lacking_messages():
     return "".join(f"not in the pages: {it}\n" for it in lacking)
 
 
+def lacking_names():
+    """Definitions, rows, tests and cases that docs/POSIX.md names and that are not there."""
+    with open(f"{TOP}/docs/POSIX.md", encoding="utf-8") as it:
+        text = it.read()
+    with open(f"{TOP}/tests/program.sh", encoding="utf-8") as it:
+        cases = it.read()
+
+    def holds(pattern, words):
+        texts = [open(it, encoding="utf-8").read() for it in glob.glob(f"{TOP}/crates/{pattern}")]
+        return any(re.search(words, it, re.M) for it in texts)
+
+    found = [f"{one}.{two}" for one, two in set(re.findall(r"`([A-Z]\w+)\.(\w+)`", text)) if (one, two) != ("File", "name")]
+    lacking = [it for it in found if not holds(f"*/specs/{it.split('.')[0]}.antt", rf"^(abbrev )?(pub )?(unfoldable )?(pub )?(record |data )?{it.split('.')[1]}\b")]
+    lacking += [it for it in set(re.findall(r"`(\w+Rows)`", text)) - {"FileRows"} if not glob.glob(f"{TOP}/crates/*/proofs/{it}.antt")]
+    tests = set(re.findall(r"`(pt\w+)::(\w+)::(\w+)`", text))
+    lacking += ["::".join(it) for it in tests if not holds(f"{it[0]}/src/{it[1]}.rt", rf"^fn {it[2]}\b")]
+    # Titles stand behind program.sh, up to the end of a cell or a sentence.
+    for titles in re.findall(r'program\.sh, ("[^|.;`]*")', text):
+        lacking += [it for it in re.findall(r'"([^"]*)"', titles) if f'same "{it}"' not in cases]
+    return "".join(f"docs/POSIX.md names what is not there: {it}\n" for it in sorted(lacking))
+
+
 def main():
     if len(sys.argv) != 2:
         return __doc__
@@ -198,7 +220,7 @@ def main():
         print(f"left out: the examples of {side} (the system has no such version)")
     counts = [run_all(file, os.path.abspath(sys.argv[1]), known) for file in FILES]
     good, bad = (sum(it) for it in zip(*counts))
-    found = lint() + other_versions() + wrong_options(os.path.abspath(sys.argv[1])) + lacking_messages()
+    found = lint() + other_versions() + wrong_options(os.path.abspath(sys.argv[1])) + lacking_messages() + lacking_names()
     print(f"{found}{good} of {good + bad} examples as wanted")
     return 1 if bad or found else 0
 
