@@ -11,7 +11,7 @@ use Rattle.ptmerge.specs.declared.order.Side.{Side}
 use Rattle.ptmerge.specs.declared.order.Side.TheVariants.{First, Second}
 use Rattle.ptmerge.specs.declared.sorted.Sorted.{Sorted}
 use Rattle.ptmerge.specs.Keyed.{Lines, Tool}
-use Rattle.ptmerge.specs.Merges.{State, IsMerge}
+use Rattle.ptmerge.specs.Merges.{State, IsMerge, IsUnread}
 use Rattle.ptmerge.specs.Places.{CannotRead, Comes, HasSlots, fresh, slot_of}
 use Rattle.ptmerge.specs.Sides.{both}
 use Rattle.ptmerge.specs.Steps.{Inputs, CannotStart, Starts, IsUnslotted}
@@ -131,6 +131,13 @@ module _ (tool : Tool) (o : IsKeyOrder tool.cmp) (fits : (ls : Side → Lines) �
   start_slots new1 new2 after fault (inr (inl f)) = adds_of old.store after (breaks_slots First (fresh First) (old.reader First) new1 f.made after fault f.breaks ∙ f.four.slots)
   start_slots new1 new2 after fault (inr (inr f)) =
       adds_of old.store after (breaks_slots Second (fresh Second) (old.reader Second) new2 f.begins.mid after fault f.begins.later ∙ (half_keeps f.begins.made f.begins.mid f.begins.four new1 f.first f.begins.came).slots)
+
+  -- nothing was read where one of the first four slots was refused
+  pub start_refused : (new1 new2 : Reader) (after : Slots) (fault : MergeFault) → CannotStart tool.key tool.cmp (record { reader = old.reader; store = old.store }) (record { reader = both new1 new2; store = after }) fault → length after.lines < 4
+      → IsUnread old (record { reader = both new1 new2; out = old.out; store = after })
+  start_refused new1 new2 after fault (inl u) few = record { readers = u.unread; output = refl }
+  start_refused new1 new2 after fault (inr (inl f)) few = absurd (omega (arith, few, breaks_slots First (fresh First) (old.reader First) new1 f.made after fault f.breaks, f.four.slots))
+  start_refused new1 new2 after fault (inr (inr f)) few = absurd (omega (arith, few, breaks_slots Second (fresh Second) (old.reader Second) new2 f.begins.mid after fault f.begins.later, mid_four f.begins.made f.begins.mid f.begins.four new1 f.first f.begins.came))
 
 -- the byte that ends a line
 pub ending_is : (zero : Bool) → cond zero 0 10 ≡ ending zero

@@ -19,7 +19,7 @@ use Rattle.ptmerge.specs.declared.sorted.Sorted.{Sorted}
 use Rattle.ptmerge.specs.declared.sorted.Stand.{Stand}
 use Rattle.ptmerge.specs.declared.sorted.Stand.TheVariants.{Head, Ended, Disorder}
 use Rattle.ptmerge.specs.Keyed.{Lines, Tool, by_keys, disorder, disorder_of, fall, lines_of, merged, merged_entries, ordered_part, up_to}
-use Rattle.ptmerge.specs.Merges.{State, Agree, Ends, IsMerge, IsWhole}
+use Rattle.ptmerge.specs.Merges.{State, Agree, Ends, IsMerge, IsUnread, IsWhole, ended_by}
 use Rattle.ptmerge.specs.Orders.{Cmp, Key}
 use Rattle.ptmerge.specs.Sides.{other}
 use Rattle.ptmerge.proofs.Bounds.{Bound, Free, From, Over, Coming, Falling, Begun, Reaches, reaches_free, reaches_passed}
@@ -161,6 +161,9 @@ module _ (old new : State) (set : Side → Reader) (end : ℕ) (is : (side : Sid
     peak = m.peak;
     whole = m.whole;
   }
+
+  pub unread_set : IsUnread (record { reader = set; out = old.out; store = old.store }) new → IsUnread (ended_by end old) new
+  unread_set u = record { readers = λ side. u.readers side ∙ is side; output = u.output }
 
 -- ---- before the start
 

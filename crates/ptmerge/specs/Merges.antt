@@ -86,6 +86,15 @@ pub record Untouched (old new : State) (result : Result (Unit {0}) MergeFault) :
   pub same_output : new.out ≡ old.out
   pub same_store : new.store ≡ old.store
 
+-- nothing was read or pushed
+pub record IsUnread (old new : State) : Type 0 where
+  pub readers : (side : Side) → new.reader side ≡ old.reader side
+  pub output : new.out ≡ old.out
+
+-- the same, but lines end with this byte
+abbrev pub ended_by : ℕ → State → State
+ended_by end s = record s { reader = λ side. record (s.reader side) { ending = end } }
+
 -- ---- what it does
 
 -- two texts that may be the inputs of which this came
