@@ -371,9 +371,9 @@ module _ (tool : Tool) (o : IsKeyOrder tool.cmp) (pairs : List ℕ → Lines →
         (halts tool o old (record { reader = now.reader; out = now.out; store = after }) now.reader (λ side. []) r.q.mid r.q.ls r.q.p (both [] r.g) r.q.d r.k [] (standing tool o pairs laws old unfailed now place end r.k (both [] r.g) r.q slots) r.q.within wrote_none (λ w l c wanted. (by_keys tool w (λ side. both [] r.g side ++ l side), refl)) Memory
         (record { denied = e.refused.denied; failed = went_in; clean = clean }) (λ side fail. absurd (false≢true (sym (went_in side ∙ unfailed side) ∙ fail))) (λ input pushed. tt)
         (λ all w.
-            let size = size_of now.store r.q.ls r.g r.q.keeps all (λ side. omega (arith, (w side).1)) (w Second).0.more (w Second).0.is in
-            let many : length (r.g ++ line now.store (place Second).standing ∷ []) ≤ most_lines (tool.key Second) (all Second) = subst (λ (l : Lines). length (r.g ++ line now.store (place Second).standing ∷ []) ≤ most_lines (tool.key Second) l) (sym (w Second).0.is) (in_group (w Second).0.more).1 in
-            (omega (arith, e.refused.peak, held now.store r.q.ls r.g r.q.keeps, r.q.keeps.peak, size.0), omega (arith, e.refused.most, r.q.at, r.q.keeps.slots, size.1, many, laws.slots all, length_push r.g (line now.store (place Second).standing))))))
+        let size = size_of now.store r.q.ls r.g r.q.keeps all (λ side. omega (arith, (w side).1)) (w Second).0.more (w Second).0.is in
+        let many : length (r.g ++ line now.store (place Second).standing ∷ []) ≤ most_lines (tool.key Second) (all Second) = subst (λ (l : Lines). length (r.g ++ line now.store (place Second).standing ∷ []) ≤ most_lines (tool.key Second) l) (sym (w Second).0.is) (in_group (w Second).0.more).1 in
+        (omega (arith, e.refused.peak, held now.store r.q.ls r.g r.q.keeps, r.q.keeps.peak, size.0), omega (arith, e.refused.most, r.q.at, r.q.keeps.slots, size.1, many, laws.slots all, length_push r.g (line now.store (place Second).standing))))))
     not_gathered reader next after fault (inr e) =
         let kept = kept_of e.made e.kept in
         group_breaks tool o pairs laws old unfailed now place end r.k (both [] r.g) r.q slots Second r.head2 r.key2 (both [] (r.g ++ line now.store (place Second).standing ∷ [])) own_now refl refl now.out clean [] wrote_none

@@ -8,7 +8,7 @@ ghost use Rattle.ptmerge.specs.Sides.{both, other};
 ghost use Rattle.ptmerge.specs.Steps.{inputs, IsPlaced, IsLent, IsNext, Starts, CannotStart};
 
 use crate::faults::MergeFault;
-use crate::order::{are_equal, KeyOrder, Side};
+use crate::order::{KeyOrder, Side, are_equal};
 use crate::slots::need_four;
 use crate::sorted::{Sorted, Stand};
 use ptlines::{LineReader, Source, Store};
