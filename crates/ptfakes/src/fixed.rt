@@ -15,6 +15,7 @@ pub struct Fixed<const N: usize> {
     calls: Calls,
     flushes: u64,
     failed: bool,
+    pending: bool,
 }
 
 impl<const N: usize> Model for Fixed<N> {
@@ -30,6 +31,7 @@ impl<const N: usize> Model for Fixed<N> {
       calls = s.calls.made;
       flushes = s.flushes;
       failed = s.failed;
+      pending = s.pending;
     } };
 }
 
@@ -45,6 +47,7 @@ impl<const N: usize> Fixed<N> {
             calls: Calls::new(passing),
             flushes: 0,
             failed: false,
+            pending: false,
         }
     }
 
@@ -90,6 +93,7 @@ impl<const N: usize> Sink for Fixed<N> {
         let count = bytes.len().min(self.size).min(room);
         let _ = self.bytes.try_extend_from_slice(&bytes[..count]);
         self.failed = self.failed || count == 0;
+        self.pending = self.pending || count > 0;
         Ok(count)
     }
 
@@ -102,6 +106,7 @@ impl<const N: usize> Sink for Fixed<N> {
             self.failed = true;
             return Err(Failed);
         }
+        self.pending = false;
         Ok(())
     }
 }
