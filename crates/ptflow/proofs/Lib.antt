@@ -37,3 +37,8 @@ pub mod UniqPasses
 pub mod UniqRows
 pub mod ByteSetLemmas
 pub mod KeptBytes
+pub mod PartsCut
+pub mod PartsTr
+pub mod PartsUniq
+pub mod PartsPaste
+pub mod PartsRows

@@ -79,7 +79,7 @@ module _ (t : Tables) where
   translated_append xs ys = ap (map (image t)) (filter-append (λ b. not (deletes t b)) xs ys) ∙ map-append (image t) (filter (λ b. not (deletes t b)) xs) (filter (λ b. not (deletes t b)) ys)
 
   -- what is written of a block stands in front
-  front_on : (last : Option ℕ) (block rest : List ℕ) → tr_rest t last (block ++ rest) ≡ tr_rest t last block ++ tr_rest t (last_or last (tr_rest t last block)) rest
+  pub front_on : (last : Option ℕ) (block rest : List ℕ) → tr_rest t last (block ++ rest) ≡ tr_rest t last block ++ tr_rest t (last_or last (tr_rest t last block)) rest
   front_on last block rest = ap (squeeze_from (squeezes t) last) (translated_append block rest) ∙ from_append (squeezes t) last (translated t block) (translated t rest)
 
   -- the last of what is written of a block was written last then

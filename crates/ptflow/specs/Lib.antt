@@ -6,3 +6,4 @@ pub mod Workings
 pub mod Pastes
 pub mod Uniqs
 pub mod PastePasses
+pub mod Parts

@@ -5,6 +5,7 @@ ghost use Rattle.ptlines.specs.Text.{LinesAreUnique, EndedLinesAreLines};
 
 mod near;
 mod out;
+mod parts;
 mod reader;
 mod search;
 mod sink;
@@ -14,6 +15,7 @@ mod store;
 
 pub use near::copy_near;
 pub use out::{Out, WriteFault, send};
+pub use parts::parts_of_lines;
 pub use reader::LineReader;
 pub use search::find_near;
 pub use sink::{Failed, Sink};

@@ -1,0 +1,72 @@
+-- What the tools write of a text that is cut into two parts.
+use Rattle.std.specs.Prelude.{◌≡◌, ◌≢◌, ◌⊎◌, ◌≤◌, ◌<◌, ◌*◌, ℕ, true, false, List, [], ◌∷◌, ◌++◌, length}
+use Rattle.ptlines.specs.Text.{lines}
+use Rattle.ptlines.specs.Parts.{IsWhole}
+use Rattle.ptlangs.specs.Jobs.{Cut, Uniq, Paste}
+use Rattle.ptlangs.specs.TrTables.{Tables, deletes, image, squeezes}
+use Rattle.ptflow.specs.Cuts.{cut}
+use Rattle.ptflow.specs.Translations.{tr}
+use Rattle.ptflow.specs.Uniqs.{uniq, key}
+use Rattle.ptflow.specs.Pastes.{times, paste}
+
+-- the first of some items
+abbrev pub BeginsWith : {X : Type 0} → X → List X → Type 0
+BeginsWith {X} x xs = (rest : List X) × (xs ≡ x ∷ rest)
+
+-- the last of some items
+abbrev pub EndsWith : {X : Type 0} → X → List X → Type 0
+EndsWith {X} x xs = (front : List X) × (xs ≡ front ++ x ∷ [])
+
+-- ---- cut: behind any line
+
+abbrev pub CutOfParts : Type 0
+CutOfParts = (job : Cut) (a b : List ℕ) → IsWhole job.end a → cut job (a ++ b) ≡ cut job a ++ cut job b
+
+-- ---- tr: anywhere, but not between bytes that are squeezed
+
+-- no byte is squeezed
+abbrev pub SqueezesNone : Tables → Type 0
+SqueezesNone tables = (byte : ℕ) → squeezes tables byte ≡ false
+
+abbrev pub TrOfAnyParts : Type 0
+TrOfAnyParts = (tables : Tables) (a b : List ℕ) → SqueezesNone tables → tr tables (a ++ b) ≡ tr tables a ++ tr tables b
+
+-- a byte that ends what is written of one part, and begins what is written of the other, is not squeezed
+abbrev pub MeetUnsqueezed : Tables → List ℕ → List ℕ → Type 0
+MeetUnsqueezed tables a b = (byte : ℕ) → EndsWith byte (tr tables a) → BeginsWith byte (tr tables b) → squeezes tables byte ≡ false
+
+abbrev pub TrOfParts : Type 0
+TrOfParts = (tables : Tables) (a b : List ℕ) → MeetUnsqueezed tables a b → tr tables (a ++ b) ≡ tr tables a ++ tr tables b
+
+-- behind a byte that is not deleted, and becomes one that is not squeezed
+abbrev pub TrBehindByte : Type 0
+TrBehindByte = (tables : Tables) (byte : ℕ) (a b : List ℕ) → EndsWith byte a → deletes tables byte ≡ false → squeezes tables (image tables byte) ≡ false
+    → tr tables (a ++ b) ≡ tr tables a ++ tr tables b
+
+-- where both parts have a byte that is squeezed at the cut, it is written once and not twice
+abbrev pub TrMeetsTwice : Type 0
+TrMeetsTwice = (tables : Tables) (byte : ℕ) (a b rest : List ℕ) → squeezes tables byte ≡ true → EndsWith byte (tr tables a) → tr tables b ≡ byte ∷ rest
+    → tr tables (a ++ b) ≡ tr tables a ++ rest
+
+-- ---- uniq: behind any line that has another key than the next one
+
+-- the last line of one part and the first of the other have two keys
+abbrev pub KeysChange : Uniq → List ℕ → List ℕ → Type 0
+KeysChange job a b = (last first : List ℕ) → EndsWith last (lines job.end a) → BeginsWith first (lines job.end b) → key job last ≢ key job first
+
+abbrev pub UniqOfParts : Type 0
+UniqOfParts = (job : Uniq) (a b : List ℕ) → IsWhole job.end a → KeysChange job a b → uniq job (a ++ b) ≡ uniq job a ++ uniq job b
+
+-- ---- paste in rows: behind the same row in all inputs
+
+-- So many rows take all lines of the first part, where so many cells name it. It has as many and is whole,
+-- or no more and the second part is empty.
+abbrev pub HasRows : ℕ → ℕ → ℕ → List ℕ → List ℕ → Type 0
+HasRows end rows cells a b =
+    (IsWhole end a × (length (lines end a) ≡ rows * cells)) ⊎ ((b ≡ []) × (length (lines end a) ≤ rows * cells))
+
+-- the parts of the inputs are told by their places
+abbrev pub PasteOfParts : Type 0
+PasteOfParts = (job : Paste) (cells : List ℕ) (rows : ℕ) (a b : ℕ → List ℕ)
+    → ((place : ℕ) → 0 < times cells place → HasRows job.end rows (times cells place) (a place) (b place))
+    → paste job cells (λ place. a place ++ b place) ≡ paste job cells a ++ paste job cells b

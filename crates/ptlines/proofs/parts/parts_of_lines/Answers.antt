@@ -1,0 +1,5 @@
+use Rattle.ptlines.proofs.PartLaws.{the_lines_of_parts}
+use Rattle.ptlines.proofs.parts.parts_of_lines.Goals as goal
+
+pub returns : goal.returns
+returns c = the_lines_of_parts
