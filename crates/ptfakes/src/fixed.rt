@@ -74,7 +74,7 @@ impl<const N: usize> Fixed<N> {
 }
 
 impl<const N: usize> Sink for Fixed<N> {
-    ghost use Rattle.std.specs.Prelude.{length, ◌<◌};
+    ghost use Rattle.std.specs.Prelude.{length, ◌<◌, ◌≤◌, OnErr};
     ghost use Rattle.ptlines.specs.Sinks.{Puts, Flushes};
     ghost use Rattle.ptfakes.specs.Keeps.{KeepsFlush, KeepsPut, sink_of};
 
@@ -84,6 +84,7 @@ impl<const N: usize> Sink for Fixed<N> {
         requires { 0 < length bytes.now }
         ensures put { Puts (sink_of self.old) (sink_of self.new) bytes.now result }
         ensures kept { KeepsPut self.old self.new bytes.now result }
+        ensures fails { OnErr result (self.old.passing ≤ self.old.calls) }
     {
         if !self.calls.passes() {
             self.failed = true;

@@ -12,6 +12,7 @@ use std::process::Abort;
 use std::test::Fail;
 
 // Calls that a test sees. The one with this number, counted from 0, fails, and all others work.
+#[derive(Drop)]
 struct Calls {
     made: Cell<u64>,
     flushes: Cell<u64>,
