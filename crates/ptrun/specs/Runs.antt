@@ -82,11 +82,12 @@ EndsAs m r old new written said o n (Some fault) = IsStopped m r old new said o 
 -- ---- a run
 
 pub record IsRun (m : Meaning) (old new : List Reader) (before : Sinks) (o : Outcome) : Type 0 where
-  -- what came of the inputs, what reached the output, and what was said
+  -- what came of the inputs, what reached the output, that all of it was flushed, and what was said
   pub received : Received
   pub came : IsReceived old new received
   pub written : List ℕ
   pub took : o.out.taken ≡ append_known before.out.taken written
+  pub flushed : before.out.pending ≡ false → o.out.failed ≡ false → o.out.pending ≡ false
   pub said : List ℕ
   pub tells : Tells before.messages o.messages said
   -- how many operands were done, and what stopped it there

@@ -33,7 +33,8 @@ pub(crate) fn report_of<A: Allocator + Copy, W: Sink, E: Sink>(
     requires sent { out.faulted ≡ false → out.staged ≡ [] }
     ensures store { (result.peak ≡ store.now.peak) × (result.denied ≡ store.now.denied) }
     ensures status { result.status ≡ status }
-    ensures out { ((W.state result.out).taken ≡ out.taken) × ((W.state result.out).failed ≡ out.faulted) }
+    ensures out { ((W.state result.out).taken ≡ out.taken) × ((W.state result.out).failed ≡ out.faulted)
+        × ((W.state result.out).pending ≡ out.pending) }
     ensures messages { E.state result.messages ≡ voice }
 {
     Report {

@@ -18,6 +18,8 @@ mod cuts;
 #[cfg(test)]
 mod faking;
 #[cfg(test)]
+mod faltering;
+#[cfg(test)]
 mod fields;
 #[cfg(test)]
 mod joined_lines;

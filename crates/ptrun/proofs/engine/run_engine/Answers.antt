@@ -47,5 +47,5 @@ returns-clause-run g c =
     (run_of (g.G.Engine.meaning c.args.engine.now) c.args.inputs.now c.go-went.new.inputs c.new-out.result c.go-went.new.out c.finish-ended.new.out c.lacks_inputs.new.voice c.go-went.new.voice c.args.store.now c.go-went.new.store
     c.go-went.result c.finish-ended.result (g.W.Sink.state c.args.out) (outcome (g.W.Sink.state) (g.E.Sink.state) c.report_of.result) c.go-went.ensures c.finish-ended.ensures
     (rw c.report_of.ensures.messages c.conclude-status.ensures.said) (c.report_of.ensures.status ∙ c.conclude-status.ensures.status)
-    c.new-out.ensures c.report_of.ensures.out.0 c.report_of.ensures.out.1
+    c.new-out.ensures c.report_of.ensures.out.0 c.report_of.ensures.out.1 c.report_of.ensures.out.2
     c.requires.unused.never c.report_of.ensures.store.0 c.report_of.ensures.store.1)
