@@ -1,5 +1,5 @@
 -- What is written of inputs that are cut at the same keys.
-use Rattle.std.proofs.Common.{◌≡◌, ℕ, List, ◌++◌, refl, ap, sym, ◌∙◌}
+use Rattle.std.proofs.Common.{ap, ◌∙◌}
 use Rattle.ptlines.specs.Text.{text}
 use Rattle.ptlines.proofs.PartLaws.{the_lines_of_parts}
 use Rattle.ptlines.proofs.TextLaws.{text-append}
@@ -7,7 +7,7 @@ use Rattle.ptmerge.specs.declared.order.Side.{Side}
 use Rattle.ptmerge.specs.Comm.{comm_tool}
 use Rattle.ptmerge.specs.Join.{join_tool}
 use Rattle.ptmerge.specs.Keyed.{Lines, Tool, lines_of, merged_entries}
-use Rattle.ptmerge.specs.Parts.{AreCutByKey, IsOfParts, PartsOfComm, PartsOfJoin}
+use Rattle.ptmerge.specs.Parts.{IsOfParts, PartsOfComm, PartsOfJoin}
 use Rattle.ptmerge.proofs.Orders.{IsKeyOrder, line_order}
 use Rattle.ptmerge.proofs.PartsInOrder.{entries_together}
 
