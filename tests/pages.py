@@ -21,7 +21,9 @@ import tempfile
 
 TOOLS = ["cut", "paste", "join", "comm", "uniq", "tr"]
 TOP = os.path.dirname(os.path.dirname(os.path.realpath(__file__)))
-FILES = ["README.md", *sorted(glob.glob("man/*.1", root_dir=TOP)), *sorted(glob.glob("docs/*.md", root_dir=TOP))]
+DOCS = ["README.md", "CONTRIBUTING.md", "CHANGELOG.md", "bench/README.md"]
+PAGES = [*glob.glob("man/*.1", root_dir=TOP), *glob.glob("docs/*.md", root_dir=TOP)]
+FILES = [*[it for it in DOCS if os.path.exists(f"{TOP}/{it}")], *sorted(PAGES)]
 VERSIONS = {"gnu": (["cut", "--version"], "(GNU coreutils) 9.1\n"), "busybox": (["busybox"], "BusyBox v1.35.")}
 PROMPT = re.compile(r"(gnu|busybox|)\$ (.*)")
 SIGNS = {r"\e": "\\", r"\(aq": "'", r"\(ga": "`", r"\(ha": "^", r"\(ti": "~", r"\-": "-", r"\&": ""}
