@@ -15,7 +15,7 @@ use Rattle.ptflow.specs.declared.faults.FlowFault.TheVariants.{Read, Write}
 use Rattle.ptflow.specs.Workings.Blocks.{IsBlockTool}
 use Rattle.ptflow.specs.Workings.Continuations.{Continues, Halts}
 use Rattle.ptflow.proofs.ReaderFacts.{given_of, may_come, goes_past}
-use Rattle.ptflow.proofs.PassLemmas.{Midway, Stored, stored_nothing, reached_nothing, pass_read, pass_write, pass_done, pass_unended}
+use Rattle.ptflow.proofs.PassLemmas.{Midway, Works, Stored, stored_nothing, reached_nothing, pass_read, pass_write, pass_done, pass_unended}
 
 -- No more is counted than was given.
 module _ (reader shown : Reader) (block : List ℕ) (goes : Goes reader shown []) (held : shown.held ≡ block) (sound : IsSound reader) (counted : ℕ) (few : counted ≤ reader.pulled - length reader.held) where
@@ -50,27 +50,41 @@ module _ {X : Type 0} (rest_from : X → List ℕ → List ℕ) (start : X) wher
         whole = subst (λ (b : List ℕ). Goes reader new b) (take_all (length block) block (omega arith)) (goes_past reader shown new block (length block) goes held (omega arith) consumed)
 
 module _ {X : Type 0} (tool : Tool) (rest_from : X → List ℕ → List ℕ) (Holds : X → X → Type 0) (start : X) (b : IsBlockTool tool rest_from Holds start) (now : X) (old reader new : Reader) (was is : Output) (store : Slots)
-    (m : Midway rest_from start now old reader was is) (ready : IsReady old store) (sound : IsSound reader) (reads : Reads reader new []) where
+    (m : Midway rest_from start now old reader was is) (ready : IsReady old store) (sound : IsSound reader) (reads : Reads reader new []) (is_sound : IsSound new) (holds : Holds start now)
+    (all : (rest : List ℕ) → rest_from start (m.given ++ rest) ≡ m.pushed ++ rest_from now rest) where
+  -- what was passed on before this block
+  works : Works tool (given_of (m.given ++ []) new) m.pushed
+  works = record {
+    before = λ u. record {
+      earlier = record { bytes = m.given; ended = false };
+      last = new.held;
+      split = ap (λ (l : List ℕ). l ++ new.held) (append-nil m.given);
+      short = omega (arith, is_sound.held);
+      ended = λ never. absurd (false≢true never);
+    };
+    begins = b.decided m.given m.pushed now holds all;
+  }
+
   stored : Stored tool store store (given_of (m.given ++ []) new)
   stored = stored_nothing tool store (given_of (m.given ++ []) new) b.slots
 
-  pub block_read : Holds start now → HasReadCause reader new → IsPass tool old new was is store store (Err (Read 0))
-  block_read holds cause = pass_read rest_from start tool b.text now old reader new was is store store m ready sound [] reads stored cause ready.roomy decided
+  pub block_read : HasReadCause reader new → IsPass tool old new was is store store (Err (Read 0))
+  block_read cause = pass_read rest_from start tool b.text now old reader new was is store store m ready sound [] reads stored works cause ready.roomy decided
     where
       decided : new.held ≡ [] → new.ended ≡ false → Begins (tool.decided (given_of (m.given ++ []) new)) m.pushed
       decided empty going =
           subst (λ (g : Given). Begins (tool.decided g) m.pushed) (λ i. record { bytes = (sym (append-nil m.given) ∙ sym (append-nil (m.given ++ [])) ∙ ap (λ (l : List ℕ). (m.given ++ []) ++ l) (sym empty)) i; ended = sym going i })
-          (b.decided m.given m.pushed now holds (λ rest. m.on rest (λ done. absurd (false≢true (sym going ∙ (reads.still done.ended).1)))))
+          (b.decided m.given m.pushed now holds all)
 
   -- a write failed amid the block that is held
   pub block_write : (is' : Output) (block : List ℕ) → new.held ≡ block → Halts rest_from now block is is' → is'.faulted ≡ true → new.failed ≡ reader.failed → IsPass tool old new was is' store store (Err Write)
   block_write is' block held h fault same =
-      pass_write rest_from start tool b.text now old reader new was is store store m ready sound [] reads stored is' h.pushed h.wrote fault same ready.roomy
+      pass_write rest_from start tool b.text now old reader new was is store store m ready sound [] reads stored works is' h.pushed h.wrote fault same ready.roomy
       (λ rest may. subst (λ (l : List ℕ). Begins h.pushed (rest_from now (l ++ rest))) (sym held) (h.true_so_far rest))
 
   module _ (is' : Output) (wrote : Wrote is is' (rest_from now [])) (done : IsDone new) (same : new.failed ≡ reader.failed) where
     pub block_done : is'.faulted ≡ false → new.fault ≡ None → new.pulled < 2 ^ 63 → IsPass tool old new was is' store store (Ok tt)
-    block_done fine fault short = pass_done rest_from start tool b.text now old reader new was is store store m ready sound [] reads stored is' wrote done refl same ready.roomy fine fault short ready.empty
+    block_done fine fault short = pass_done rest_from start tool b.text now old reader new was is store store m ready sound [] reads stored works is' wrote done refl same ready.roomy fine fault short ready.empty
 
     pub block_unended : is'.faulted ≡ true → IsPass tool old new was is' store store (Err Write)
-    block_unended fault = pass_unended rest_from start tool b.text now old reader new was is store store m ready sound [] reads stored is' wrote done refl same ready.roomy fault
+    block_unended fault = pass_unended rest_from start tool b.text now old reader new was is store store m ready sound [] reads stored works is' wrote done refl same ready.roomy fault

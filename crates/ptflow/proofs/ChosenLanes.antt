@@ -1,12 +1,11 @@
 -- Items that are chosen by flags, and lanes that are put in front by the places of their flags.
 use Rattle.std.proofs.Common.{◌≡◌, ℕ, zero, suc, ◌+◌, ◌*◌, ◌^◌, ◌/◌, ◌%◌, ◌<◌, ◌≤◌, Bool, true, false, cond, List, [], ◌∷◌, ◌++◌, map, length, take, drop, set, get_or, length-set, length-drop, drop-cons, append_assoc, add-one, subst, refl, sym, ◌∙◌, ap, arith, w8}
-use Rattle.std.specs.Prelude.{All, bit_and, nat_eq, nat_le, slice_index_or, filter, count_by, count_ones}
+use Rattle.std.specs.Prelude.{All, bit_and, nat_eq, nat_le, slice_index_or, filter, count_ones}
 use Rattle.std.specs.List.{range_with_len}
 use Rattle.std.specs.Simd.Lanes.{mask_l, put_chunk, chunk, pick_l, Each1}
 use Rattle.std.proofs.lemmas.Simd.{take_more_put_chunk, bit_mask_l, mask_l-lt, Each1-from_get_or, swz_l, ones-mask_l_cons, pick_l-range_with_len}
 use Rattle.std.proofs.lemmas.List.{take-map, take-take, take-set, take_more, take_more_set, take_all, take-append-le, drop-append-le, append-nil, length-take-le}
 use Rattle.std.proofs.lemmas.List.Elements.{All-set}
-use Rattle.std.proofs.lemmas.List.Sums.{length-filter}
 use Rattle.std.proofs.lemmas.List.FromFn.{length-range_with_len, get_or-range_with_len}
 use Rattle.std.proofs.Math.Seq.{take-append-add}
 use Rattle.std.proofs.lemmas.Grind.{and_numeral}

@@ -50,15 +50,22 @@ module _ (job : Cut) (line : List ℕ) where
   line_dropped is = ap (text job.end) (append-nil (cut_line job line) ∙ is)
 
 module _ (job : Cut) where
-  pub cut_line_tool : job.fields ≡ true → IsLineTool (cut_tool job) (cut_from job) (cut_lines job) job.end 1 tt
-  cut_line_tool by_fields = record { text = λ bytes. refl; decided_is = λ given. refl; size = λ bytes. omega arith; slots = ap (λ b. cond b 1 0) by_fields; some = omega arith }
-
   pub cut_lines-append : (xs ys : List (List ℕ)) → cut_lines job (xs ++ ys) ≡ cut_lines job xs ++ cut_lines job ys
   cut_lines-append xs ys = ap (λ (ls : List (List ℕ)). flat_map (λ l. l ++ job.end ∷ []) ls) (flat_map-append (cut_line job) xs ys) ∙ text-append job.end (flat_map (cut_line job) xs) (flat_map (cut_line job) ys)
 
   -- all that was pushed is decided
-  pub cut_sure : (ls : List (List ℕ)) (pushed : List ℕ) → cut_lines job (ls ++ []) ≡ pushed ++ cut_lines job [] → Begins (cut_lines job ls) pushed
+  cut_sure : (ls : List (List ℕ)) (pushed : List ℕ) → cut_lines job (ls ++ []) ≡ pushed ++ cut_lines job [] → Begins (cut_lines job ls) pushed
   cut_sure ls pushed on = record { rest = []; is = sym (append-nil pushed) ∙ sym on ∙ ap (cut_lines job) (append-nil ls) ∙ sym (append-nil (cut_lines job ls)) }
+
+  pub cut_line_tool : job.fields ≡ true → IsLineTool (cut_tool job) (cut_from job) (cut_lines job) job.end 1 tt
+  cut_line_tool by_fields = record {
+    text = λ bytes. refl;
+    decided_is = λ given. refl;
+    sure = λ ls pushed now on. cut_sure ls pushed (on []);
+    size = λ bytes. omega arith;
+    slots = ap (λ b. cond b 1 0) by_fields;
+    some = omega arith;
+  }
 
   -- a line that came by way of the first slot
   module _ (now new : Reader) (is is' : Output) (first store after : Slots) (most : ℕ) (k : Keeps 1 most first store) (e : GivesLine now new store after 0) (seen : List ℕ) (seen_is : seen ≡ line after 0) (wrote : Wrote is is' (cut_lines job (seen ∷ []))) where

@@ -15,11 +15,13 @@ use Rattle.ptlines.proofs.Pushed.{wrote_trans}
 use Rattle.ptlines.proofs.TextLaws.{lines_first, lines_last, lines_of_text, lines-text, lines_are, text-append, text_push, ended_of_text}
 use Rattle.ptflow.specs.Tools.{Tool}
 use Rattle.ptflow.specs.Passes.{IsReady, IsPass, Adds}
+use Rattle.ptflow.specs.Workings.TakenLines.{LinesCame}
+use Rattle.ptflow.proofs.LinesCame.{before_line, behind_line}
 use Rattle.ptflow.specs.declared.faults.FlowFault.TheVariants.{Read, Write, Memory}
 use Rattle.ptflow.specs.Workings.Continuations.{Continues, Halts}
 use Rattle.ptflow.proofs.LineLaws.{parts_of, ended_front, longest-append, longest_piece}
 use Rattle.ptflow.proofs.ReaderFacts.{goes_nothing, given_of, done_gives_nothing, stays_done, may_come, goes_past}
-use Rattle.ptflow.proofs.PassLemmas.{Reached, reached_nothing, Midway, Stored, pass_read, pass_memory, pass_write, pass_done}
+use Rattle.ptflow.proofs.PassLemmas.{Reached, reached_nothing, Midway, Works, Stored, pass_read, pass_memory, pass_write, pass_done}
 use Rattle.ptflow.proofs.SlotFacts.{Keeps, keeps_more, keeps_line}
 
 -- What is written of lines that come in the state x is `lines_from x`, and so is all that this tool writes in the state
@@ -27,6 +29,8 @@ use Rattle.ptflow.proofs.SlotFacts.{Keeps, keeps_more, keeps_line}
 pub record IsLineTool {X : Type 0} (tool : Tool) (lines_from : X → List (List ℕ) → List ℕ) (decided : List (List ℕ) → List ℕ) (end width : ℕ) (start : X) : Type 0 where
   pub text : (bytes : List ℕ) → lines_from start (lines end bytes) ≡ tool.text bytes
   pub decided_is : (given : Given) → tool.decided given ≡ decided (whole_lines end given)
+  -- all that was pushed of some lines is decided once they came
+  pub sure : (ls : List (List ℕ)) (pushed : List ℕ) (now : X) → ((more : List (List ℕ)) → lines_from start (ls ++ more) ≡ pushed ++ lines_from now more) → Begins (decided ls) pushed
   pub size : (bytes : List ℕ) → tool.size bytes ≡ width * longest_line end bytes
   pub slots : tool.slots ≡ width
   pub some : 0 < width
@@ -169,6 +173,19 @@ module _ {X : Type 0} (tool : Tool) (lines_from : X → List (List ℕ) → List
         let most = max (longest (lines end r.given)) (length bytes) in
         keeps_line width most before store after slot bytes (keeps_more width (longest (lines end r.given)) most before store r.keeps (omega arith)) within (omega arith) told
 
+    -- what is decided of the lines so far was pushed, and behind them no more than a line and a block came
+    works_line : (new : Reader) (piece : List ℕ) → Reads reader new piece → (line behind : List ℕ) → piece ++ new.held ≡ line ++ behind → IsLine end line → length behind ≤ 8193 → Works tool (given_of (r.given ++ piece) new) r.pushed
+    works_line new piece reads line behind is free short =
+        let came : LinesCame end reader r.given (lines end r.given) = record { so_far = ⊎_elim (λ o. inl (o, lines_are end r.given)) (λ done. inr (refl, done)) r.whole } in
+        let e = before_line end reader new r.given (lines end r.given) came piece reads line behind is free short in
+        record {
+          before = λ u. e.before;
+          begins = subst (λ (l : List ℕ). Begins l r.pushed) (sym (t.decided_is e.before.earlier ∙ ap decided e.whole)) (t.sure (lines end r.given) r.pushed now r.on);
+        }
+
+    works_piece : (new : Reader) (piece : List ℕ) → Reads reader new piece → IsLine end piece → IsSound new → Works tool (given_of (r.given ++ piece) new) r.pushed
+    works_piece new piece reads free is_sound = works_line new piece reads piece new.held refl free (omega (arith, is_sound.held))
+
     -- a beginning of a line came
     module _ (new : Reader) (piece : List ℕ) (reads : Reads reader new piece) (free : IsLine end piece) where
       short_piece : (input : List ℕ) → Agrees (given_of (r.given ++ piece) new) input → max (longest (lines end r.given)) (length piece) ≤ longest_line end input
@@ -178,11 +195,11 @@ module _ {X : Type 0} (tool : Tool) (lines_from : X → List (List ℕ) → List
       keeps_piece after slot = keeps_next after slot piece
 
       -- and a read failed
-      pub run_read : (after : Slots) → Keeps width (max (longest (lines end r.given)) (length piece)) before after → HasReadCause reader new → Begins (decided (lines end r.given)) r.pushed → IsPass tool old new was is before after (Err (Read 0))
-      run_read after kept cause sure =
+      pub run_read : IsSound new → (after : Slots) → Keeps width (max (longest (lines end r.given)) (length piece)) before after → HasReadCause reader new → IsPass tool old new was is before after (Err (Read 0))
+      run_read is_sound after kept cause =
           pass_read (bytes_from lines_from end) start tool t.text now old reader new was is before after (midway_of lines_from end width start now old reader was is before store r) ready sound piece reads
-          (stored_short after (max (longest (lines end r.given)) (length piece)) (given_of (r.given ++ piece) new) kept.peak kept.adds short_piece) cause kept.denied
-          (λ empty going. subst (λ (l : List ℕ). Begins l r.pushed) (sym (t.decided_is (given_of (r.given ++ piece) new) ∙ ap decided (whole empty going))) sure)
+          (stored_short after (max (longest (lines end r.given)) (length piece)) (given_of (r.given ++ piece) new) kept.peak kept.adds short_piece) (works_piece new piece reads free is_sound) cause kept.denied
+          (λ empty going. subst (λ (l : List ℕ). Begins l r.pushed) (sym (t.decided_is (given_of (r.given ++ piece) new) ∙ ap decided (whole empty going))) (t.sure (lines end r.given) r.pushed now r.on))
         where
           whole : new.held ≡ [] → new.ended ≡ false → whole_lines end (given_of (r.given ++ piece) new) ≡ lines end r.given
           whole empty going = ⊎_elim
@@ -190,38 +207,39 @@ module _ {X : Type 0} (tool : Tool) (lines_from : X → List (List ℕ) → List
               (λ done. absurd (false≢true (sym going ∙ (done_gives_nothing reader new piece done reads).2))) r.whole
 
       -- and a growth was refused
-      pub run_memory : (after : Slots) (slot : ℕ) → slot < width → after ≡ with_denied (with_line store slot piece) → new.failed ≡ reader.failed → IsPass tool old new was is before after (Err Memory)
-      run_memory after slot within told same =
+      pub run_memory : IsSound new → (after : Slots) (slot : ℕ) → slot < width → after ≡ with_denied (with_line store slot piece) → new.failed ≡ reader.failed → IsPass tool old new was is before after (Err Memory)
+      run_memory is_sound after slot within told same =
           let kept = keeps_piece (with_line store slot piece) slot within refl in
           let denied : after.denied ≡ true = ap (λ (s : Slots). s.denied) told in
           let size : length after.lines ≡ length (with_line store slot piece).lines = ap (λ (s : Slots). length s.lines) told in
           pass_memory (bytes_from lines_from end) start tool t.text now old reader new was is before after (midway_of lines_from end width start now old reader was is before store r) ready sound piece reads
           (stored_short after (max (longest (lines end r.given)) (length piece)) (given_of (r.given ++ piece) new) (omega (arith, kept.peak, ap (λ (s : Slots). s.peak) told))
-          (record { least = omega (arith, size, kept.adds.least); most = omega (arith, size, kept.adds.most); all = λ allowed. absurd (false≢true (sym allowed ∙ denied)) }) short_piece) same denied
+          (record { least = omega (arith, size, kept.adds.least); most = omega (arith, size, kept.adds.most); all = λ allowed. absurd (false≢true (sym allowed ∙ denied)) }) short_piece) (works_piece new piece reads free is_sound) same denied
 
     -- the end was said, and what is written then was pushed
-    pub run_done : (new : Reader) (after : Slots) (is' : Output) → Goes reader new [] → IsDone new → new.pulled < 2 ^ 63 → Keeps width (longest (lines end r.given)) before after → total after.lines ≡ 0 → Wrote is is' (lines_from now []) → is'.faulted ≡ false → IsPass tool old new was is' before after (Ok tt)
-    run_done new after is' goes done short kept empty wrote clean =
+    pub run_done : (new : Reader) (after : Slots) (is' : Output) → IsSound new → Goes reader new [] → IsDone new → new.pulled < 2 ^ 63 → Keeps width (longest (lines end r.given)) before after → total after.lines ≡ 0 → Wrote is is' (lines_from now []) → is'.faulted ≡ false → IsPass tool old new was is' before after (Ok tt)
+    run_done new after is' is_sound goes done short kept empty wrote clean =
         pass_done (bytes_from lines_from end) start tool t.text now old reader new was is before after (midway_of lines_from end width start now old reader was is before store r) ready sound [] goes.reads
         (stored_short after (longest (lines end r.given)) (given_of (r.given ++ []) new) kept.peak kept.adds (λ input a. omega (arith, short_piece new [] goes.reads tt input a)))
-        is' wrote done refl goes.failed kept.denied clean goes.fault short empty
+        (works_piece new [] goes.reads tt is_sound) is' wrote done refl goes.failed kept.denied clean goes.fault short empty
 
     -- a write failed while what is written of a line was pushed
-    pub run_write_line : (new : Reader) (after : Slots) (slot : ℕ) (e : GivesLine reader new store after slot) → slot < width → (is' : Output) → Halts lines_from now (e.line ∷ []) is is' → is'.faulted ≡ true → IsPass tool old new was is' before after (Err Write)
-    run_write_line new after slot e within is' h fault =
+    pub run_write_line : (new : Reader) (after : Slots) (slot : ℕ) (e : GivesLine reader new store after slot) → IsSound new → slot < width → (is' : Output) → Halts lines_from now (e.line ∷ []) is is' → is'.faulted ≡ true → IsPass tool old new was is' before after (Err Write)
+    run_write_line new after slot e is_sound within is' h fault =
         let kept = keeps_next after slot e.line within e.stored in
         let free = subst (λ (b : ℕ). IsLine b e.line) r.ending e.whole in
         pass_write (bytes_from lines_from end) start tool t.text now old reader new was is before after (midway_of lines_from end width start now old reader was is before store r) ready sound (e.line ++ e.ending) e.goes.reads
-        (stored_short after (max (longest (lines end r.given)) (length e.line)) (given_of (r.given ++ (e.line ++ e.ending)) new) kept.peak kept.adds (short_front new e.line e.ending e.goes.reads free)) is' h.pushed h.wrote fault e.goes.failed kept.denied
+        (stored_short after (max (longest (lines end r.given)) (length e.line)) (given_of (r.given ++ (e.line ++ e.ending)) new) kept.peak kept.adds (short_front new e.line e.ending e.goes.reads free))
+        (works_line new (e.line ++ e.ending) e.goes.reads e.line (e.ending ++ new.held) (append_assoc e.line e.ending new.held) free (behind_line reader new store after slot e is_sound)) is' h.pushed h.wrote fault e.goes.failed kept.denied
         (λ rest may. subst (λ (l : List (List ℕ)). Begins h.pushed (lines_from now l))
         (sym (line_first lines_from end width start now old reader was is before store r new after slot e (new.held ++ rest) (λ done. λ i. done.held i ++ may done.ended i))) (h.true_so_far (lines end (new.held ++ rest))))
 
     -- a write failed amid the lines of a block
-    pub run_write_block : (shown : Reader) (block : List ℕ) → Goes reader shown [] → shown.held ≡ block → (is' : Output) → Halts lines_from now (ended_lines end block) is is' → is'.faulted ≡ true → IsPass tool old shown was is' before store (Err Write)
-    run_write_block shown block goes held is' h fault =
+    pub run_write_block : (shown : Reader) (block : List ℕ) → IsSound shown → Goes reader shown [] → shown.held ≡ block → (is' : Output) → Halts lines_from now (ended_lines end block) is is' → is'.faulted ≡ true → IsPass tool old shown was is' before store (Err Write)
+    run_write_block shown block is_sound goes held is' h fault =
         pass_write (bytes_from lines_from end) start tool t.text now old reader shown was is before store (midway_of lines_from end width start now old reader was is before store r) ready sound [] goes.reads
         (stored_short store (longest (lines end r.given)) (given_of (r.given ++ []) shown) r.keeps.peak r.keeps.adds (λ input a. omega (arith, short_piece shown [] goes.reads tt input a)))
-        is' h.pushed h.wrote fault goes.failed r.keeps.denied
+        (works_piece shown [] goes.reads tt is_sound) is' h.pushed h.wrote fault goes.failed r.keeps.denied
         (λ rest may. subst (λ (l : List (List ℕ)). Begins h.pushed (lines_from now l)) (sym (ap (λ (l : List ℕ). lines end (l ++ rest)) held ∙ ended_first lines_from end width start now old reader was is before store r shown block goes held rest))
         (h.true_so_far (lines end ((parts_of end block).piece ++ rest))))
 
@@ -231,4 +249,14 @@ pub run_unslotted : {X : Type 0} (tool : Tool) (lines_from : X → List (List �
 run_unslotted tool lines_from decided end width start t old was before store ready sound clean adds same denied =
     let m : Midway (bytes_from lines_from end) start start old old was was = record { given = []; pushed = []; reached = reached_nothing old was ready.readable clean; on = λ rest may. refl } in
     pass_memory (bytes_from lines_from end) start tool t.text start old old old was was before store m ready sound [] (goes_nothing old ready.readable).reads
-    (stored_short tool lines_from decided end width start t start old old was was before ready sound store 0 (given_of [] old) (omega (arith, same)) adds (λ input a. omega arith)) refl denied
+    (stored_short tool lines_from decided end width start t start old old was was before ready sound store 0 (given_of [] old) (omega (arith, same)) adds (λ input a. omega arith))
+    (record {
+      before = λ u. record {
+        earlier = record { bytes = []; ended = false };
+        last = old.held;
+        split = refl;
+        short = omega (arith, sound.held);
+        ended = λ never. absurd (false≢true never);
+      };
+      begins = subst (λ (l : List ℕ). Begins l []) (sym (t.decided_is (record { bytes = []; ended = false }))) (t.sure [] [] start (λ more. refl));
+    }) refl denied

@@ -1,11 +1,12 @@
 -- The lines that came of a reader.
-use Rattle.std.proofs.Common.{◌≡◌, ◌⊎◌, ⊎_elim, inl, inr, ℕ, ◌==◌, ◌<◌, ◌≤◌, Bool, true, false, cond, List, [], ◌∷◌, ◌++◌, length, max, refl, sym, ◌∙◌, ap, subst, arith, append_assoc, length-append}
+use Rattle.std.proofs.Common.{◌≡◌, ◌⊎◌, ⊎_elim, inl, inr, ℕ, zero, suc, ◌-◌, ◌==◌, ◌<◌, ◌≤◌, Bool, true, false, cond, List, [], ◌∷◌, ◌++◌, length, take, drop, max, refl, sym, ◌∙◌, ap, subst, arith, append_assoc, length-append, length-drop, take-append-drop}
 use Rattle.std.specs.List.{onto_first}
 use Rattle.std.proofs.lemmas.Bool.{false≢true}
 use Rattle.std.proofs.lemmas.List.{append-nil}
 use Rattle.ptlines.specs.Text.{text, lines, ended_lines, IsLine, AreLines, longest, longest_line}
-use Rattle.ptlines.specs.Inputs.{Agrees, whole_lines}
-use Rattle.ptlines.specs.Readers.{Reader, Reads, Goes, IsDone}
+use Rattle.ptlines.specs.Inputs.{Given, Agrees, whole_lines}
+use Rattle.ptlines.specs.KeepingUp.{Before}
+use Rattle.ptlines.specs.Readers.{Reader, Reads, Goes, IsDone, IsSound}
 use Rattle.ptlines.specs.Slots.{Slots}
 use Rattle.ptlines.specs.Fills.{GivesLine}
 use Rattle.ptlines.proofs.TextLaws.{lines_of_text, lines_last, lines_first, lines-text, text-append, text_push, AreLines_push, ended_of_text}
@@ -129,3 +130,53 @@ lines_block end reader given ls k new more goes are = record {
         stays_done reader new (text end more) c.1 goes.reads,
       )) k.so_far;
 }
+
+-- ---- what came earlier
+
+-- the whole lines of what came two blocks earlier, or less
+pub record Earlier (end : ℕ) (ls : List (List ℕ)) (came : Given) : Type 0 where
+  pub before : Before came
+  pub whole : whole_lines end before.earlier ≡ ls
+
+line_take : (end n : ℕ) (bytes : List ℕ) → IsLine end bytes → IsLine end (take n bytes)
+line_take end zero bytes are = tt
+line_take end (suc n) [] are = tt
+line_take end (suc n) (b ∷ bytes) are = (are.0, line_take end n bytes are.1)
+
+-- behind a line stand its end and what is held
+pub behind_line : (now new : Reader) (before after : Slots) (slot : ℕ) (e : GivesLine now new before after slot) → IsSound new → length (e.ending ++ new.held) ≤ 8193
+behind_line now new before after slot e sound = elim e.ends [
+  | inl ends ↦ omega (arith, sound.held, ap length ends, length-append e.ending new.held)
+  | inr last ↦ omega (arith, sound.held, ap length last.0, length-append e.ending new.held)
+]
+
+module _ (end : ℕ) (now new : Reader) (given : List ℕ) (ls : List (List ℕ)) (k : LinesCame end now given ls) (piece : List ℕ) (reads : Reads now new piece) (line behind : List ℕ)
+    (is : piece ++ new.held ≡ line ++ behind) (whole : IsLine end line) (short : length behind ≤ 8193) where
+  -- all but the end of a line that came, and what stands behind it
+  pub before_line : Earlier end ls (given_of (given ++ piece) new)
+  before_line = ⊎_elim opened closed k.so_far
+    where
+      opened : (given ≡ text end ls) × AreLines end ls → Earlier end ls (given_of (given ++ piece) new)
+      opened o = let n = length line - 8191 in record {
+        before = record {
+        earlier = record { bytes = given ++ take n line; ended = false };
+        last = drop n line ++ behind;
+        split = append_assoc given piece new.held ∙ ap (λ (l : List ℕ). given ++ l) (is ∙ ap (λ (l : List ℕ). l ++ behind) (sym (take-append-drop n line)) ∙ append_assoc (take n line) (drop n line) behind)
+            ∙ sym (append_assoc given (take n line) (drop n line ++ behind));
+        short = omega (arith, short, length-append (drop n line) behind, length-drop n line);
+        ended = λ never. absurd (false≢true never);
+        };
+        whole = ap (λ (l : List ℕ). ended_lines end (l ++ take n line)) o.0 ∙ ended_of_text end ls (take n line) o.1 (line_take end n line whole);
+      }
+
+      closed : (lines end given ≡ ls) × IsDone now → Earlier end ls (given_of (given ++ piece) new)
+      closed c = let none = done_gives_nothing now new piece c.1 reads in record {
+        before = record {
+        earlier = record { bytes = given; ended = true };
+        last = [];
+        split = (λ i. (given ++ none.0 i) ++ none.1 i) ∙ append-nil (given ++ []);
+        short = omega arith;
+        ended = λ e. none.2;
+        };
+        whole = c.0;
+      }

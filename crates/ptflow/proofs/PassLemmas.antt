@@ -1,16 +1,21 @@
 -- How a pass of any tool over one input ends. Midway, what was pushed stands in front of what is written of the rest,
 -- whatever comes; exactness, the beginning for each agreeing input, and what is decided are three readings of that.
-use Rattle.std.proofs.Common.{◌≡◌, ⊎_elim, inl, inr, ℕ, ◌≤◌, ◌<◌, ◌^◌, true, false, List, [], ◌++◌, None, Result, Ok, Err, max, refl, sym, ◌∙◌, ap, subst, arith, append_assoc}
+use Rattle.std.proofs.Common.{◌≡◌, ⊎_elim, inl, inr, ℕ, ◌+◌, ◌≤◌, ◌<◌, ◌^◌, true, false, List, [], ◌++◌, length, length-append, Option, None, Some, Result, Ok, Err, max, refl, sym, ◌∙◌, ap, subst, arith, append_assoc}
 use Rattle.std.proofs.lemmas.List.{append-nil}
 use Rattle.std.proofs.lemmas.Bool.{false≢true}
 use Rattle.ptlines.specs.Readers.{Reader, Reads, Goes, IsDone, IsSound, HasReadCause}
 use Rattle.ptlines.specs.Inputs.{Given, Begins, Agrees}
-use Rattle.ptlines.specs.Outputs.{Output, Wrote}
+use Rattle.ptlines.specs.Outputs.{Output, Extends, Wrote}
+use Rattle.std.specs.Io.KnownBytes.{append_known}
+use Rattle.ptlines.proofs.Pushed.{extends_same}
+use Rattle.ptlines.proofs.Known.{append_known-append}
 use Rattle.ptlines.specs.Slots.{Slots, total}
 use Rattle.ptlines.proofs.Filling.{reads_trans}
 use Rattle.ptlines.proofs.Pushed.{wrote_nothing, wrote_trans}
 use Rattle.ptflow.specs.Tools.{Tool}
 use Rattle.ptflow.specs.Passes.{IsReady, Ends, Adds, IsPass}
+use Rattle.ptlines.specs.KeepingUp.{WorksOff, KeepsUp}
+use Rattle.ptlines.proofs.Sending.{keeps_still, keeps_more}
 use Rattle.ptflow.specs.declared.faults.FlowFault.{FlowFault}
 use Rattle.ptflow.specs.declared.faults.FlowFault.TheVariants.{Read, Write, Memory}
 use Rattle.ptflow.proofs.ReaderFacts.{goes_nothing, given_of, came_of, done_gives_nothing, never_failed}
@@ -30,6 +35,10 @@ pub record Midway {X : Type 0} (rest_from : X → List ℕ → List ℕ) (start 
   pub pushed : List ℕ
   pub reached : Reached old reader was is given pushed
   pub on : (rest : List ℕ) → (IsDone reader → rest ≡ []) → rest_from start (given ++ rest) ≡ pushed ++ rest_from now rest
+
+-- what was decided of one input two blocks earlier, or less, was pushed
+abbrev pub Works : Tool → Given → List ℕ → Type 0
+Works tool came pushed = WorksOff {I = Unit {0}} (λ given. tool.decided (given tt)) (λ u. came) pushed
 
 -- what the store is afterwards
 pub record Stored (tool : Tool) (before store : Slots) (given : Given) : Type 0 where
@@ -55,6 +64,7 @@ pass_halted tool old was before ready fault = record {
   ends = record { faulted = fault; failed = refl; denied = ready.roomy };
   true_so_far = λ input a. record { rest = tool.text input; is = refl };
   sure = λ failed clean. absurd (false≢true (sym clean ∙ fault));
+  keeps_up = λ clean. absurd (false≢true (sym clean ∙ fault));
   whole = λ ok. cc;
   peak = λ input a. omega arith;
   slots = λ clean. absurd (false≢true (sym clean ∙ fault));
@@ -70,7 +80,8 @@ never_memory tool old new was is store result roomy p e =
 
 module _ {X : Type 0} (rest_from : X → List ℕ → List ℕ) (start : X) (tool : Tool) (is_text : (bytes : List ℕ) → rest_from start bytes ≡ tool.text bytes)
     (now : X) (old reader new : Reader) (was is : Output) (before store : Slots) (m : Midway rest_from start now old reader was is) (ready : IsReady old before) (sound : IsSound reader)
-    (piece : List ℕ) (reads : Reads reader new piece) (stored : Stored tool before store (given_of (m.given ++ piece) new)) where
+    (piece : List ℕ) (reads : Reads reader new piece) (stored : Stored tool before store (given_of (m.given ++ piece) new))
+    (works : Works tool (given_of (m.given ++ piece) new) m.pushed) where
   same_failed : new.failed ≡ reader.failed → new.failed ≡ old.failed
   same_failed same = same ∙ m.reached.goes.failed
 
@@ -86,9 +97,18 @@ module _ {X : Type 0} (rest_from : X → List ℕ → List ℕ) (start : X) (too
       none : IsDone reader → piece ++ (new.held ++ a.rest) ≡ []
       none done = let k = done_gives_nothing reader new piece done reads in λ i. k.0 i ++ (k.1 i ++ a.whole k.2 i)
 
-  pass : (is' : Output) (pushed : List ℕ) (result : Result (Unit {0}) FlowFault) → Wrote was is' pushed → Ends old new is' store result → ((input : List ℕ) → Agrees (given_of (m.given ++ piece) new) input → Begins pushed (tool.text input))
+  abbrev keeps_up : Output → List ℕ → Type 0
+  keeps_up is' pushed = KeepsUp {I = Unit {0}} (λ given. tool.decided (given tt)) (λ u. given_of (m.given ++ piece) new) was is' pushed
+
+  still : keeps_up is m.pushed
+  still = keeps_still (λ given. tool.decided (given tt)) (λ u. given_of (m.given ++ piece) new) was is m.pushed works m.reached.wrote m.reached.clean
+
+  more : (is' : Output) (bytes : List ℕ) → Wrote is is' bytes → keeps_up is' (m.pushed ++ bytes)
+  more = keeps_more (λ given. tool.decided (given tt)) (λ u. given_of (m.given ++ piece) new) was is m.pushed works m.reached.wrote m.reached.clean
+
+  pass : (is' : Output) (pushed : List ℕ) (result : Result (Unit {0}) FlowFault) → Wrote was is' pushed → keeps_up is' pushed → Ends old new is' store result → ((input : List ℕ) → Agrees (given_of (m.given ++ piece) new) input → Begins pushed (tool.text input))
       → (new.failed ≡ true → is'.faulted ≡ false → Begins (tool.decided (given_of (m.given ++ piece) new)) pushed) → (result ≡ Ok tt → pushed ≡ tool.text ((m.given ++ piece) ++ new.held)) → IsPass tool old new was is' before store result
-  pass is' pushed result wrote ends true_so_far sure whole = record {
+  pass is' pushed result wrote keeps ends true_so_far sure whole = record {
     given = given_of (m.given ++ piece) new;
     came = came_of old new (m.given ++ piece) (reads_trans old reader new m.given piece m.reached.goes.reads reads);
     pushed = pushed;
@@ -96,6 +116,7 @@ module _ {X : Type 0} (rest_from : X → List ℕ → List ℕ) (start : X) (too
     ends = ends;
     true_so_far = true_so_far;
     sure = sure;
+    keeps_up = λ clean. keeps;
     whole = whole;
     peak = stored.peak;
     slots = λ clean. stored.adds;
@@ -109,21 +130,21 @@ module _ {X : Type 0} (rest_from : X → List ℕ → List ℕ) (start : X) (too
   -- a read failed
   pub pass_read : HasReadCause reader new → store.denied ≡ false → (new.held ≡ [] → new.ended ≡ false → Begins (tool.decided (given_of (m.given ++ piece) new)) m.pushed) → IsPass tool old new was is before store (Err (Read 0))
   pass_read cause roomy decided =
-      pass is m.pushed (Err (Read 0)) m.reached.wrote
+      pass is m.pushed (Err (Read 0)) m.reached.wrote still
       (record { cause = ⊎_elim (λ c. inl c) (λ c. inr (c.0, same_failed c.1)) cause; clean = m.reached.clean; denied = roomy; only = refl })
       begins (λ failed fine. ⊎_elim (λ c. decided c.1 c.2) (λ c. absurd (false≢true (sym (went_on c.1) ∙ failed))) cause) (λ ok. cc)
 
   -- a growth was refused
   pub pass_memory : new.failed ≡ reader.failed → store.denied ≡ true → IsPass tool old new was is before store (Err Memory)
   pass_memory same denied =
-      pass is m.pushed (Err Memory) m.reached.wrote (record { denied = denied; failed = same_failed same; clean = m.reached.clean })
+      pass is m.pushed (Err Memory) m.reached.wrote still (record { denied = denied; failed = same_failed same; clean = m.reached.clean })
       begins (λ failed fine. absurd (false≢true (sym (went_on same) ∙ failed))) (λ ok. cc)
 
   -- a write failed while these bytes were pushed
   pub pass_write : (is' : Output) (bytes : List ℕ) → Wrote is is' bytes → is'.faulted ≡ true → new.failed ≡ reader.failed → store.denied ≡ false
       → ((rest : List ℕ) → (new.ended ≡ true → rest ≡ []) → Begins bytes (rest_from now (piece ++ (new.held ++ rest)))) → IsPass tool old new was is' before store (Err Write)
   pass_write is' bytes wrote fault same roomy fronts =
-      pass is' (m.pushed ++ bytes) (Err Write) (wrote_trans was is is' m.pushed bytes m.reached.clean m.reached.wrote wrote)
+      pass is' (m.pushed ++ bytes) (Err Write) (wrote_trans was is is' m.pushed bytes m.reached.clean m.reached.wrote wrote) (more is' bytes wrote)
       (record { faulted = fault; failed = same_failed same; denied = roomy })
       (λ input a. let b = fronts a.rest a.whole in record {
         rest = b.rest;
@@ -139,7 +160,7 @@ module _ {X : Type 0} (rest_from : X → List ℕ → List ℕ) (start : X) (too
     -- and what is written then was pushed
     pub pass_done : is'.faulted ≡ false → new.fault ≡ None → new.pulled < 2 ^ 63 → total store.lines ≡ 0 → IsPass tool old new was is' before store (Ok tt)
     pass_done fine fault short empty =
-        pass is' (m.pushed ++ rest_from now []) (Ok tt) (wrote_trans was is is' m.pushed (rest_from now []) m.reached.clean m.reached.wrote wrote)
+        pass is' (m.pushed ++ rest_from now []) (Ok tt) (wrote_trans was is is' m.pushed (rest_from now []) m.reached.clean m.reached.wrote wrote) (more is' (rest_from now []) wrote)
         (record { done = done; fault = fault; failed = same_failed same; clean = fine; denied = roomy; empty = empty; short = short })
         (λ input a. record { rest = []; is = all_of input a ∙ sym (append-nil (m.pushed ++ rest_from now [])) })
         (λ failed good. absurd (false≢true (sym (went_on same) ∙ failed)))

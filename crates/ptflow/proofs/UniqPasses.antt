@@ -20,9 +20,9 @@ use Rattle.ptflow.specs.Workings.OpenLines.{first_line, open_run_of, IsSwapped}
 use Rattle.ptflow.specs.declared.repeats.Open.{Open}
 use Rattle.ptflow.proofs.LineLaws.{longest-append, parts_of, ended_front}
 use Rattle.ptflow.specs.Workings.TakenLines.{LinesCame}
-use Rattle.ptflow.proofs.LinesCame.{lines_none, lines_few, lines_on, lines_more, lines_block, line_front, came_longest, piece_longest, whole_before}
+use Rattle.ptflow.proofs.LinesCame.{lines_none, lines_few, lines_on, lines_more, lines_block, line_front, came_longest, piece_longest, whole_before, before_line, behind_line}
 use Rattle.ptflow.proofs.OpenRuns.{entries-append, open_is, but_open}
-use Rattle.ptflow.proofs.PassLemmas.{Reached, reached_nothing, Midway, Stored, pass_read, pass_memory, pass_write, pass_done, pass_unended}
+use Rattle.ptflow.proofs.PassLemmas.{Reached, reached_nothing, Midway, Works, Stored, pass_read, pass_memory, pass_write, pass_done, pass_unended}
 use Rattle.ptflow.proofs.ReaderFacts.{given_of, goes_nothing, goes_past}
 use Rattle.ptflow.proofs.TwoSlots.{KeepsTwo, two_starts, two_more, two_second, first_stays, second_line, two_swap, emptied_total, emptied_denied, emptied_adds, emptied_peak}
 
@@ -72,6 +72,22 @@ module _ (job : Uniq) (old : Reader) (was : Output) where
           ap (entries job) (ap (runs job) (lines_on job.end reader s.given s.ls s.came rest may) ∙ s.on (lines job.end rest)) ∙ entries-append job s.passed (runs_behind job run (lines job.end rest));
     }
 
+    -- what is decided of the lines so far was passed on
+    decided_runs : Begins (entries job (all_but_last (runs job s.ls))) (entries job s.passed)
+    decided_runs = subst (λ (rs : List Run). Begins (entries job (all_but_last rs)) (entries job s.passed)) (sym (ap (runs job) (sym (append-nil s.ls)) ∙ s.on [])) (but_open job s.passed run)
+
+    -- and behind them no more than a line and a block came
+    works_line : (new : Reader) (piece : List ℕ) → Reads reader new piece → (line behind : List ℕ) → piece ++ new.held ≡ line ++ behind → IsLine job.end line → length behind ≤ 8193 → Works (uniq_tool job) (given_of (s.given ++ piece) new) (entries job s.passed)
+    works_line new piece reads line behind is whole short =
+        let e = before_line job.end reader new s.given s.ls s.came piece reads line behind is whole short in
+        record {
+          before = λ u. e.before;
+          begins = subst (λ (ls : List (List ℕ)). Begins (entries job (all_but_last (runs job ls))) (entries job s.passed)) (sym e.whole) decided_runs;
+        }
+
+    works_piece : (new : Reader) (piece : List ℕ) → Reads reader new piece → IsLine job.end piece → IsSound new → Works (uniq_tool job) (given_of (s.given ++ piece) new) (entries job s.passed)
+    works_piece new piece reads whole is_sound = works_line new piece reads piece new.held refl whole (omega (arith, is_sound.held))
+
     -- some lines more came, and what is written of their runs was passed on
     pub singling_on : (new : Reader) (bytes : List ℕ) (ls : List (List ℕ)) → Goes reader new bytes → LinesCame job.end new (s.given ++ bytes) (s.ls ++ ls) → (after : Run) (is' : Output) → RunsOn job run after ls is is' → is'.faulted ≡ false
         → (n : Singling job after old new was is') × (n.ls ≡ s.ls ++ ls)
@@ -104,54 +120,54 @@ module _ (job : Uniq) (old : Reader) (was : Output) where
           }
 
       -- a line that came by way of a slot
-      pub single_write_line : (new : Reader) (before after : Slots) (slot : ℕ) (e : GivesLine reader new before after slot) → reader.ending ≡ job.end → ls ≡ e.line ∷ [] → Adds first store 2 → store.peak ≤ max first.peak (2 * longest (s.ls ++ e.line ∷ []))
+      pub single_write_line : (new : Reader) (before after : Slots) (slot : ℕ) (e : GivesLine reader new before after slot) → IsSound new → reader.ending ≡ job.end → ls ≡ e.line ∷ [] → Adds first store 2 → store.peak ≤ max first.peak (2 * longest (s.ls ++ e.line ∷ []))
           → IsPass (uniq_tool job) old new was is' first store (Err Write)
       unfolding midway
-      single_write_line new before after slot e same ls_are adds peak =
+      single_write_line new before after slot e is_sound same ls_are adds peak =
           pass_write (rest_behind job) (run_of [] 0) (uniq_tool job) (λ bytes. refl) run old reader new was is first store midway ready sound (e.line ++ e.ending) e.goes.reads
           (stored job first store (given_of (s.given ++ (e.line ++ e.ending)) new) (longest (s.ls ++ e.line ∷ [])) (came_longest job.end new (s.given ++ (e.line ++ e.ending)) (s.ls ++ e.line ∷ []) (lines_more job.end reader s.given s.ls s.came new before after slot e same)) adds peak)
+          (works_line new (e.line ++ e.ending) e.goes.reads e.line (e.ending ++ new.held) (append_assoc e.line e.ending new.held) (subst (λ (b : ℕ). IsLine b e.line) same e.whole) (behind_line reader new before after slot e is_sound))
           is' (entries job h.passed) h.wrote fault e.goes.failed roomy
           (λ rest may. begins ((e.line ++ e.ending) ++ (new.held ++ rest)) (lines job.end (new.held ++ rest))
           (line_front job.end reader s.given s.ls s.came new before after slot e same (new.held ++ rest) (λ done. λ i. done.held i ++ may done.ended i) ∙ ap (λ (l : List (List ℕ)). l ++ lines job.end (new.held ++ rest)) (sym ls_are)))
 
       -- the lines of a block
-      pub single_write_block : (shown : Reader) → Goes reader shown [] → ls ≡ ended_lines job.end shown.held → Adds first store 2 → store.peak ≤ max first.peak (2 * longest s.ls) → IsPass (uniq_tool job) old shown was is' first store (Err Write)
+      pub single_write_block : (shown : Reader) → IsSound shown → Goes reader shown [] → ls ≡ ended_lines job.end shown.held → Adds first store 2 → store.peak ≤ max first.peak (2 * longest s.ls) → IsPass (uniq_tool job) old shown was is' first store (Err Write)
       unfolding midway
-      single_write_block shown goes ls_are adds peak =
+      single_write_block shown is_sound goes ls_are adds peak =
           pass_write (rest_behind job) (run_of [] 0) (uniq_tool job) (λ bytes. refl) run old reader shown was is first store midway ready sound [] goes.reads
           (stored job first store (given_of (s.given ++ []) shown) (max (longest s.ls) 0) (piece_longest job.end reader s.given s.ls s.came shown [] goes.reads tt) adds (omega (arith, peak)))
-          is' (entries job h.passed) h.wrote fault goes.failed roomy
+          (works_piece shown [] goes.reads tt is_sound) is' (entries job h.passed) h.wrote fault goes.failed roomy
           (λ rest may. begins (shown.held ++ rest) (lines job.end ((parts_of job.end shown.held).piece ++ rest)) (ended_front job.end shown.held rest ∙ ap (λ (l : List (List ℕ)). l ++ lines job.end ((parts_of job.end shown.held).piece ++ rest)) (sym ls_are)))
 
     -- a read failed, or a growth was refused
-    module _ (first : Slots) (ready : IsReady old first) (sound : IsSound reader) (new : Reader) (piece : List ℕ) (reads : Reads reader new piece) (free : IsLine job.end piece) (store : Slots) (adds : Adds first store 2) (peak : store.peak ≤ max first.peak (2 * max (longest s.ls) (length piece))) where
+    module _ (first : Slots) (ready : IsReady old first) (sound : IsSound reader) (new : Reader) (is_sound : IsSound new) (piece : List ℕ) (reads : Reads reader new piece) (free : IsLine job.end piece) (store : Slots) (adds : Adds first store 2) (peak : store.peak ≤ max first.peak (2 * max (longest s.ls) (length piece))) where
       kept : Stored (uniq_tool job) first store (given_of (s.given ++ piece) new)
       kept = stored job first store (given_of (s.given ++ piece) new) (max (longest s.ls) (length piece)) (piece_longest job.end reader s.given s.ls s.came new piece reads free) adds peak
 
       pub single_read : HasReadCause reader new → store.denied ≡ false → IsPass (uniq_tool job) old new was is first store (Err (Read 0))
       unfolding midway
       single_read cause roomy =
-          pass_read (rest_behind job) (run_of [] 0) (uniq_tool job) (λ bytes. refl) run old reader new was is first store midway ready sound piece reads kept cause roomy
-          (λ empty going. subst (λ (ls : List (List ℕ)). Begins (entries job (all_but_last (runs job ls))) (entries job s.passed)) (sym (whole_before job.end reader s.given s.ls s.came new piece reads free empty going))
-          (subst (λ (rs : List Run). Begins (entries job (all_but_last rs)) (entries job s.passed)) (sym (ap (runs job) (sym (append-nil s.ls)) ∙ s.on [])) (but_open job s.passed run)))
+          pass_read (rest_behind job) (run_of [] 0) (uniq_tool job) (λ bytes. refl) run old reader new was is first store midway ready sound piece reads kept (works_piece new piece reads free is_sound) cause roomy
+          (λ empty going. subst (λ (ls : List (List ℕ)). Begins (entries job (all_but_last (runs job ls))) (entries job s.passed)) (sym (whole_before job.end reader s.given s.ls s.came new piece reads free empty going)) decided_runs)
 
       pub single_memory : new.failed ≡ reader.failed → store.denied ≡ true → IsPass (uniq_tool job) old new was is first store (Err Memory)
       unfolding midway
-      single_memory same denied = pass_memory (rest_behind job) (run_of [] 0) (uniq_tool job) (λ bytes. refl) run old reader new was is first store midway ready sound piece reads kept same denied
+      single_memory same denied = pass_memory (rest_behind job) (run_of [] 0) (uniq_tool job) (λ bytes. refl) run old reader new was is first store midway ready sound piece reads kept (works_piece new piece reads free is_sound) same denied
 
     -- the end was said
-    module _ (first : Slots) (ready : IsReady old first) (sound : IsSound reader) (new : Reader) (goes : Goes reader new []) (done : IsDone new) (is' : Output) (wrote : Wrote is is' (entries job (open_run run))) (store : Slots) (adds : Adds first store 2)
+    module _ (first : Slots) (ready : IsReady old first) (sound : IsSound reader) (new : Reader) (is_sound : IsSound new) (goes : Goes reader new []) (done : IsDone new) (is' : Output) (wrote : Wrote is is' (entries job (open_run run))) (store : Slots) (adds : Adds first store 2)
         (peak : store.peak ≤ max first.peak (2 * longest s.ls)) (roomy : store.denied ≡ false) where
       at_end : Stored (uniq_tool job) first store (given_of (s.given ++ []) new)
       at_end = stored job first store (given_of (s.given ++ []) new) (max (longest s.ls) 0) (piece_longest job.end reader s.given s.ls s.came new [] goes.reads tt) adds (omega (arith, peak))
 
       pub single_done : is'.faulted ≡ false → new.pulled < 2 ^ 63 → total store.lines ≡ 0 → IsPass (uniq_tool job) old new was is' first store (Ok tt)
       unfolding midway
-      single_done fine short empty = pass_done (rest_behind job) (run_of [] 0) (uniq_tool job) (λ bytes. refl) run old reader new was is first store midway ready sound [] goes.reads at_end is' wrote done refl goes.failed roomy fine goes.fault short empty
+      single_done fine short empty = pass_done (rest_behind job) (run_of [] 0) (uniq_tool job) (λ bytes. refl) run old reader new was is first store midway ready sound [] goes.reads at_end (works_piece new [] goes.reads tt is_sound) is' wrote done refl goes.failed roomy fine goes.fault short empty
 
       pub single_unended : is'.faulted ≡ true → IsPass (uniq_tool job) old new was is' first store (Err Write)
       unfolding midway
-      single_unended fault = pass_unended (rest_behind job) (run_of [] 0) (uniq_tool job) (λ bytes. refl) run old reader new was is first store midway ready sound [] goes.reads at_end is' wrote done refl goes.failed roomy fault
+      single_unended fault = pass_unended (rest_behind job) (run_of [] 0) (uniq_tool job) (λ bytes. refl) run old reader new was is first store midway ready sound [] goes.reads at_end (works_piece new [] goes.reads tt is_sound) is' wrote done refl goes.failed roomy fault
 
 -- ---- one turn, by the slots
 
@@ -205,20 +221,20 @@ module _ (job : Uniq) (old reader : Reader) (was is : Output) (first store : Slo
       record { singling = n.0; keeps = two_more first after' (max (longest s.ls) (length e.line)) (swapped after' either) (longest n.0.ls) (omega (arith, longer s.ls e.line, ap longest n.1)) }
 
   -- a write failed
-  pub turning_write : IsReady old first → IsSound reader → (is' : Output) → RunsHalt job (open_run_of now after) (line after 1 ∷ []) is is' → is'.faulted ≡ true → (after' : Slots) → after' ≡ after → IsPass (uniq_tool job) old new was is' first after' (Err Write)
-  turning_write ready sound is' h fault after' stays =
+  pub turning_write : IsReady old first → IsSound reader → IsSound new → (is' : Output) → RunsHalt job (open_run_of now after) (line after 1 ∷ []) is is' → is'.faulted ≡ true → (after' : Slots) → after' ≡ after → IsPass (uniq_tool job) old new was is' first after' (Err Write)
+  turning_write ready sound is_sound is' h fault after' stays =
       let k = two_more first after (max (longest s.ls) (length e.line)) filled (longest (s.ls ++ e.line ∷ [])) (longer s.ls e.line) in
       subst (λ (x : Slots). IsPass (uniq_tool job) old new was is' first x (Err Write)) (sym stays)
       (single_write_line job old was (open_run_of now store) reader is s first after ready sound k.denied (line after 1 ∷ []) is' (subst (λ (x : Run). RunsHalt job x (line after 1 ∷ []) is is') kept_run h) fault
-      new store after 1 e same (ap (λ (l : List ℕ). l ∷ []) next_line) k.adds k.peak)
+      new store after 1 e is_sound same (ap (λ (l : List ℕ). l ∷ []) next_line) k.adds k.peak)
 
-module _ (job : Uniq) (old reader : Reader) (was is : Output) (first store : Slots) (run : Run) (t : Turning job old reader was is first store run) (ready : IsReady old first) (sound : IsSound reader) (new : Reader) where
+module _ (job : Uniq) (old reader : Reader) (was is : Output) (first store : Slots) (run : Run) (t : Turning job old reader was is first store run) (ready : IsReady old first) (sound : IsSound reader) (new : Reader) (is_sound : IsSound new) where
   -- a beginning of a line came
   module _ (piece : List ℕ) (reads : Reads reader new piece) (free : IsLine job.end piece) (after : Slots) where
     pub turning_read : after ≡ with_line store 1 piece → HasReadCause reader new → IsPass (uniq_tool job) old new was is first after (Err (Read 0))
     turning_read is_after cause =
         let k = two_second first store (longest t.singling.ls) t.keeps after piece is_after in
-        single_read job old was run reader is t.singling first ready sound new piece reads free after k.adds k.peak cause k.denied
+        single_read job old was run reader is t.singling first ready sound new is_sound piece reads free after k.adds k.peak cause k.denied
 
     pub turning_memory : after ≡ with_denied (with_line store 1 piece) → new.failed ≡ reader.failed → IsPass (uniq_tool job) old new was is first after (Err Memory)
     turning_memory is_after same =
@@ -229,24 +245,24 @@ module _ (job : Uniq) (old reader : Reader) (was is : Output) (first store : Slo
           most = omega (arith, ap (λ (s : Slots). length s.lines) is_after, k.adds.most);
           all = λ allowed. absurd (false≢true (sym allowed ∙ denied));
         } in
-        single_memory job old was run reader is t.singling first ready sound new piece reads free after adds (omega (arith, ap (λ (s : Slots). s.peak) is_after, k.peak)) same denied
+        single_memory job old was run reader is t.singling first ready sound new is_sound piece reads free after adds (omega (arith, ap (λ (s : Slots). s.peak) is_after, k.peak)) same denied
 
   -- a block could not be read
   pub turning_no_block : Reads reader new [] → HasReadCause reader new → IsPass (uniq_tool job) old new was is first store (Err (Read 0))
-  turning_no_block reads cause = single_read job old was run reader is t.singling first ready sound new [] reads tt store t.keeps.adds (omega (arith, t.keeps.peak)) cause t.keeps.denied
+  turning_no_block reads cause = single_read job old was run reader is t.singling first ready sound new is_sound [] reads tt store t.keeps.adds (omega (arith, t.keeps.peak)) cause t.keeps.denied
 
   -- the end was said
   module _ (goes : Goes reader new []) (done : IsDone new) (after : Slots) (is_after : after ≡ with_line store 1 []) (is' : Output) (wrote : Wrote is is' (entries job (open_run run))) where
     pub turning_done : (cleared : Slots) → cleared ≡ with_line after 0 [] → is'.faulted ≡ false → IsPass (uniq_tool job) old new was is' first cleared (Ok tt)
     turning_done cleared is_cleared fine =
         let most = longest t.singling.ls in
-        single_done job old was run reader is t.singling first ready sound new goes done is' wrote cleared (emptied_adds first store most t.keeps after cleared is_after is_cleared) (emptied_peak first store most t.keeps after cleared is_after is_cleared)
+        single_done job old was run reader is t.singling first ready sound new is_sound goes done is' wrote cleared (emptied_adds first store most t.keeps after cleared is_after is_cleared) (emptied_peak first store most t.keeps after cleared is_after is_cleared)
         (emptied_denied first store most t.keeps after cleared is_after is_cleared) fine (goes.short (sound.long t.singling.reached.goes.fault)) (emptied_total first store most t.keeps after cleared is_after is_cleared)
 
     pub turning_unended : is'.faulted ≡ true → IsPass (uniq_tool job) old new was is' first after (Err Write)
     turning_unended fault =
         let k = two_second first store (longest t.singling.ls) t.keeps after [] is_after in
-        single_unended job old was run reader is t.singling first ready sound new goes done is' wrote after k.adds (omega (arith, k.peak)) k.denied fault
+        single_unended job old was run reader is t.singling first ready sound new is_sound goes done is' wrote after k.adds (omega (arith, k.peak)) k.denied fault
 
   -- a block was shown, and its lines taken
   module _ (block : List ℕ) (goes : Goes reader new []) (held : new.held ≡ block) (is' : Output) where
@@ -261,10 +277,10 @@ module _ (job : Uniq) (old reader : Reader) (was is : Output) (first store : Slo
 
     pub turning_block_write : RunsHalt job run (ended_lines job.end block) is is' → is'.faulted ≡ true → IsPass (uniq_tool job) old new was is' first store (Err Write)
     turning_block_write h fault =
-        single_write_block job old was run reader is t.singling first store ready sound t.keeps.denied (ended_lines job.end block) is' h fault new goes (ap (ended_lines job.end) (sym held)) t.keeps.adds t.keeps.peak
+        single_write_block job old was run reader is t.singling first store ready sound t.keeps.denied (ended_lines job.end block) is' h fault new is_sound goes (ap (ended_lines job.end) (sym held)) t.keeps.adds t.keeps.peak
 
 -- the slots were refused
 pub turning_unslotted : (job : Uniq) (old : Reader) (was : Output) (first store : Slots) → IsReady old first → IsSound old → was.faulted ≡ false → Adds first store 2 → store.denied ≡ true → store.peak ≡ first.peak → IsPass (uniq_tool job) old old was was first store (Err Memory)
 turning_unslotted job old was first store ready sound clean adds denied same =
     let s = singling_starts job old was [] ready.readable clean in
-    single_memory job old was (run_of [] 0) old was s.0 first ready sound old [] (goes_nothing old ready.readable).reads tt store adds (omega (arith, same)) refl denied
+    single_memory job old was (run_of [] 0) old was s.0 first ready sound old sound [] (goes_nothing old ready.readable).reads tt store adds (omega (arith, same)) refl denied

@@ -2,6 +2,7 @@
 use Rattle.std.specs.Prelude.{◌≡◌, ◌≤◌, ◌<◌, ◌^◌, ℕ, true, false, List, [], None, Result, Ok, Err, length, max}
 use Rattle.ptlines.specs.Readers.{Reader, IsDone, HasReadCause}
 use Rattle.ptlines.specs.Inputs.{Given, Begins, Agrees, Came}
+use Rattle.ptlines.specs.KeepingUp.{KeepsUp}
 use Rattle.ptlines.specs.Outputs.{Output, Wrote}
 use Rattle.ptlines.specs.Slots.{Slots, total}
 use Rattle.ptflow.specs.Tools.{Tool}
@@ -79,6 +80,8 @@ pub record IsPass (tool : Tool) (old new : Reader) (was is : Output) (before sto
   pub true_so_far : (input : List ℕ) → Agrees given input → Begins pushed (tool.text input)
   -- after a read that failed, what was decided was pushed, unless a write failed
   pub sure : new.failed ≡ true → is.faulted ≡ false → Begins (tool.decided given) pushed
+  -- and so was, whatever failed, what was decided two blocks earlier
+  pub keeps_up : was.faulted ≡ false → KeepsUp {I = Unit {0}} (λ came. tool.decided (came tt)) (λ u. given) was is pushed
   -- all of it was pushed
   pub whole : result ≡ Ok tt → pushed ≡ tool.text given.bytes
   -- the store held no more than the tool's measure of the input

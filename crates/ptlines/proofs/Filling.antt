@@ -133,4 +133,5 @@ stop_done old now new before so_far after slot Memory f s = record {
   };
   failed = s.1 ∙ f.goes.failed;
   stored = s.2 ∙ ap with_denied f.stored;
+  left = s.3;
 }

@@ -1,5 +1,5 @@
 -- What was pushed, one call after another.
-use Rattle.std.proofs.Common.{◌≡◌, ℕ, true, false, List, [], ◌++◌, Option, refl, sym, ◌∙◌, ap, subst, append_assoc}
+use Rattle.std.proofs.Common.{◌≡◌, ◌+◌, ◌≤◌, ℕ, true, false, List, [], ◌++◌, Option, length, refl, sym, ◌∙◌, ap, subst, arith, append_assoc, length-append}
 use Rattle.std.proofs.Common.{Result, Ok, Err, OnOk, OnErr}
 use Rattle.std.proofs.lemmas.Bool.{false≢true}
 use Rattle.std.proofs.lemmas.List.{append-nil}
@@ -30,6 +30,7 @@ wrote_nothing o = record {
   beginning = extends_by (text o) [];
   whole = λ _. sym (append_known-nil (text o));
   stays = λ _. refl;
+  staged = omega arith;
 }
 
 -- after a fault nothing more is sent
@@ -39,6 +40,7 @@ wrote_past a b xs ys fault w = record {
   beginning = subst (λ t. Extends (text b) t) (append_known-append (text a) xs ys) (extends_more ys w.beginning);
   whole = λ clean. absurd (false≢true (sym clean ∙ fault));
   stays = w.stays;
+  staged = w.staged;
 }
 
 pub wrote_after_fault : (o : Output) (bytes : List ℕ) → o.faulted ≡ true → Wrote o o bytes
@@ -53,15 +55,17 @@ wrote_trans a b c xs ys clean p q =
       beginning = subst (λ t. Extends (text c) t) joined q.beginning;
       whole = λ still. q.whole still ∙ joined;
       stays = λ fault. absurd (false≢true (sym clean ∙ ap (λ (o : Output). o.faulted) (p.stays fault) ∙ fault));
+      staged = omega (arith, p.staged, q.staged);
     }
 
 -- the bytes were staged
-pub wrote_staged : (old new : Output) (bytes : List ℕ) → old.faulted ≡ false → new ≡ record old { staged = old.staged ++ bytes } → Wrote old new bytes
-wrote_staged old new bytes clean is = subst (λ o. Wrote old o bytes) (sym is) (record {
+pub wrote_staged : (old new : Output) (bytes : List ℕ) → old.faulted ≡ false → length old.staged + length bytes ≤ 8192 → new ≡ record old { staged = old.staged ++ bytes } → Wrote old new bytes
+wrote_staged old new bytes clean room is = subst (λ o. Wrote old o bytes) (sym is) (record {
   kept = extends_same old.taken;
   beginning = subst (λ t. Extends t (append_known (text old) bytes)) (append_known-append old.taken old.staged bytes) (extends_same (append_known (text old) bytes));
   whole = λ _. sym (append_known-append old.taken old.staged bytes);
   stays = λ fault. absurd (false≢true (sym clean ∙ fault));
+  staged = omega (arith, room, length-append old.staged bytes);
 })
 
 -- what was staged was sent
@@ -71,6 +75,7 @@ wrote_sent old new clean is = subst (λ o. Wrote old o []) (sym is) (record {
   beginning = extends_same (append_known (text old) []);
   whole = λ _. refl;
   stays = λ fault. absurd (false≢true (sym clean ∙ fault));
+  staged = omega arith;
 })
 
 -- the bytes were sent past the empty block
@@ -84,6 +89,7 @@ wrote_direct old new bytes clean empty is =
       beginning = subst (λ t. Extends t (append_known (text old) bytes)) (sym text_new) (extends_same (append_known (text old) bytes));
       whole = λ _. text_new;
       stays = λ fault. absurd (false≢true (sym clean ∙ fault));
+      staged = omega arith;
     })
 
 -- the sink failed while it was sent these: what was staged, and then some of the bytes
@@ -101,6 +107,7 @@ wrote_broken old new sent bytes more clean is b =
       beginning = record { front = b.rest ++ more; is = all };
       whole = λ still. absurd (false≢true (sym still ∙ b.faulted));
       stays = λ fault. absurd (false≢true (sym clean ∙ fault));
+      staged = omega (arith, ap length b.staged);
     }
 
 -- past the empty block, all of the bytes or some

@@ -37,7 +37,7 @@ pub record GivesEnd (old new : Reader) (before after : Slots) (slot : ℕ) : Typ
 -- nothing was given, and a fault was answered
 abbrev pub Stops : Reader → Reader → Slots → Slots → LineFault → Type 0
 Stops old new before after Read = Faults old new [] Read × HasReadCause old new × (after ≡ before)
-Stops old new before after Memory = Faults old new [] Memory × (new.failed ≡ old.failed) × (after ≡ with_denied before)
+Stops old new before after Memory = Faults old new [] Memory × (new.failed ≡ old.failed) × (after ≡ with_denied before) × (0 < length new.held)
 
 abbrev pub Steps : Reader → Reader → Slots → Slots → ℕ → Result Step LineFault → Type 0
 Steps old new before after slot (Ok More) = GivesPiece old new before after slot
@@ -62,12 +62,13 @@ pub record BreaksRead (old new : Reader) (before after : Slots) (slot : ℕ) : T
   pub cause : HasReadCause old new
   pub stored : after ≡ with_line before slot piece
 
--- A beginning of the next line was given, and a growth was refused.
+-- A beginning of the next line was given, and a growth was refused; what comes next is still held.
 pub record BreaksMemory (old new : Reader) (before after : Slots) (slot : ℕ) : Type 0 where
   pub piece : List ℕ
   pub faults : Faults old new piece Memory
   pub failed : new.failed ≡ old.failed
   pub stored : after ≡ with_denied (with_line before slot piece)
+  pub left : 0 < length new.held
 
 -- what `fill` does: true is that the slot has the next line, false that there is none
 abbrev pub Fills : Reader → Reader → Slots → Slots → ℕ → Result Bool LineFault → Type 0

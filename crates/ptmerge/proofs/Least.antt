@@ -69,7 +69,7 @@ without key k [] = []
 without key k (x ∷ xs) = cond (bytes_eq (key x) k) (without key k xs) (x ∷ without key k xs)
 
 module _ (cmp : Cmp) (o : IsKeyOrder cmp) where
-  insert_least : (k : List ℕ) (ds : Lines) → Each (Above cmp k) ds → insert_key cmp k ds ≡ k ∷ ds
+  pub insert_least : (k : List ℕ) (ds : Lines) → Each (Above cmp k) ds → insert_key cmp k ds ≡ k ∷ ds
   insert_least k [] a = refl
   insert_least k (d ∷ ds) a = rw (greater_flips cmp o d k a.0) refl
 

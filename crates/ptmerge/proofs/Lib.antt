@@ -18,6 +18,10 @@ pub mod LineLaws
 pub mod Passing
 pub mod Orders
 pub mod Pairs
+pub mod PartsByKey
+pub mod PartsInOrder
+pub mod PartsLaws
+pub mod PartsOfKeys
 pub mod Slotted
 pub mod Splitting
 pub mod Standing

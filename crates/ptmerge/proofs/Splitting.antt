@@ -30,7 +30,7 @@ each_true [] = tt
 each_true (k ∷ ks) = (refl, each_true ks)
 
 -- keys in order, each once
-abbrev Ascends : Cmp → Lines → Type 0
+abbrev pub Ascends : Cmp → Lines → Type 0
 Ascends cmp [] = Unit {0}
 Ascends cmp (k ∷ ks) = Each (Above cmp k) ks × Ascends cmp ks
 
@@ -48,7 +48,7 @@ module _ (cmp : Cmp) (o : IsKeyOrder cmp) where
       by Equal e ih = a
       by Greater e ih = (Each-insert cmp (Above cmp x) k ks e a.0, ih)
 
-  ascends_distinct : (ks : Lines) → Ascends cmp (distinct cmp ks)
+  pub ascends_distinct : (ks : Lines) → Ascends cmp (distinct cmp ks)
   ascends_distinct [] = tt
   ascends_distinct (k ∷ ks) = ascends_insert k (distinct cmp ks) (ascends_distinct ks)
 

@@ -7,6 +7,7 @@ pub mod Keyed
 pub mod LinePasses
 pub mod Merges
 pub mod Orders
+pub mod Parts
 pub mod Places
 pub mod Sides
 pub mod Steps

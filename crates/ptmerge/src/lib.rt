@@ -8,6 +8,7 @@ mod groups;
 mod joining;
 mod merging;
 mod order;
+mod parts;
 mod slots;
 mod sorted;
 
@@ -16,3 +17,4 @@ pub use faults::MergeFault;
 pub use joining::join;
 pub use merging::{Merge, Step};
 pub use order::{Descending, KeyOrder, Side, WholeLine};
+pub use parts::{comm_by_key, join_by_key, parts_of_comm, parts_of_join};

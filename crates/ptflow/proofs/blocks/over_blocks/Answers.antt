@@ -1,4 +1,4 @@
-use Rattle.std.proofs.Common.{◌≡◌, [], length, sym, ◌∙◌, arith}
+use Rattle.std.proofs.Common.{◌≡◌, ℕ, List, [], ◌++◌, length, refl, sym, ◌∙◌, ap, append_assoc, arith}
 use Rattle.std.proofs.lemmas.Bool.{eqb-true}
 use Rattle.std.proofs.lemmas.List.{nil_from_length}
 use Rattle.std.proofs.lemmas.Result.{err_from_is_err_and}
@@ -6,8 +6,10 @@ use Rattle.ptflow.proofs.BlockLemmas.{midway_starts, midway_more, counted_block,
 use Rattle.ptflow.proofs.blocks.over_blocks.Goals as goal
 
 pub turns-init : goal.turns-init
+unfolding midway_starts
 turns-init g c = record {
   midway = midway_starts g.T.BlockTool.rest c.args.tool.now c.args.reader.now c.args.out.now c.requires.readable c.requires.clean;
+  all = λ rest. refl;
   holds = c.requires.holds;
   counted = omega (arith, c.requires.fresh);
 }
@@ -18,7 +20,7 @@ returns-in-Err g c =
     let m = c.turns.invariant.midway in
     let shows = (rw c.in-Err.is at b.shows) m.reached.goes.fault in
     λ t tool store ready.
-    block_read t g.T.BlockTool.rest g.T.BlockTool.Holds c.args.tool.now tool c.turns.tool c.args.reader.now c.turns.reader c.block.follows.lender-at-none c.args.out.now c.turns.out store m ready b.was_sound shows.0.reads c.turns.invariant.holds shows.1
+    block_read t g.T.BlockTool.rest g.T.BlockTool.Holds c.args.tool.now tool c.turns.tool c.args.reader.now c.turns.reader c.block.follows.lender-at-none c.args.out.now c.turns.out store m ready b.was_sound shows.0.reads b.is_sound c.turns.invariant.holds c.turns.invariant.all shows.1
 
 pub push_block-requires-clause-short : goal.push_block-requires-clause-short
 push_block-requires-clause-short g c =
@@ -35,7 +37,7 @@ returns-in_err-push_block-in-Ok g c =
     let e = err_from_is_err_and c.from_residual-in_err-push_block-in-Ok.result c.from_residual-in_err-push_block-in-Ok.ensures.1 in
     λ t tool store ready.
     rw (e.1, e.2)
-    (block_write t g.T.BlockTool.rest g.T.BlockTool.Holds c.args.tool.now tool c.turns.tool c.args.reader.now c.turns.reader c.block.follows.lender-at-none c.args.out.now c.turns.out store m ready b.was_sound shows.0.reads
+    (block_write t g.T.BlockTool.rest g.T.BlockTool.Holds c.args.tool.now tool c.turns.tool c.args.reader.now c.turns.reader c.block.follows.lender-at-none c.args.out.now c.turns.out store m ready b.was_sound shows.0.reads b.is_sound c.turns.invariant.holds c.turns.invariant.all
     c.push_block.new.out c.in-Ok.block.now shows.1 c.in_err-push_block-in-Ok.ensures.halts c.in_err-push_block-in-Ok.ensures.fault shows.0.failed)
 
 pub returns-then-is_empty : goal.returns-then-is_empty
@@ -45,7 +47,7 @@ returns-then-is_empty g c =
     let shows = (rw c.in-Ok.is at b.shows) m.reached.goes.fault in
     let none : c.in-Ok.block.now ≡ [] = nil_from_length c.in-Ok.block.now (eqb-true (length c.in-Ok.block.now) 0 (sym c.is_empty.ensures ∙ c.if-is_empty.true)) in
     λ t tool store ready.
-    block_done t g.T.BlockTool.rest g.T.BlockTool.Holds c.args.tool.now tool c.turns.tool c.args.reader.now c.turns.reader c.block.follows.lender-at-none c.args.out.now c.turns.out store m ready b.was_sound shows.0.reads
+    block_done t g.T.BlockTool.rest g.T.BlockTool.Holds c.args.tool.now tool c.turns.tool c.args.reader.now c.turns.reader c.block.follows.lender-at-none c.args.out.now c.turns.out store m ready b.was_sound shows.0.reads b.is_sound c.turns.invariant.holds c.turns.invariant.all
     c.push_end.new.out c.push_end.ensures.wrote (shows.2 none) shows.0.failed c.in_ok-push_end-in-Ok.ensures.clean shows.0.fault (b.is_sound.long shows.0.fault)
 
 pub returns-in_err-push_end-in-Ok : goal.returns-in_err-push_end-in-Ok
@@ -57,7 +59,7 @@ returns-in_err-push_end-in-Ok g c =
     let e = err_from_is_err_and c.from_residual.result c.from_residual.ensures.1 in
     λ t tool store ready.
     rw (e.1, e.2)
-    (block_unended t g.T.BlockTool.rest g.T.BlockTool.Holds c.args.tool.now tool c.turns.tool c.args.reader.now c.turns.reader c.block.follows.lender-at-none c.args.out.now c.turns.out store m ready b.was_sound shows.0.reads
+    (block_unended t g.T.BlockTool.rest g.T.BlockTool.Holds c.args.tool.now tool c.turns.tool c.args.reader.now c.turns.reader c.block.follows.lender-at-none c.args.out.now c.turns.out store m ready b.was_sound shows.0.reads b.is_sound c.turns.invariant.holds c.turns.invariant.all
     c.push_end.new.out c.push_end.ensures.wrote (shows.2 none) shows.0.failed c.in_err-push_end-in-Ok.ensures.fault)
 
 pub turns-preserved : goal.turns-preserved
@@ -72,6 +74,10 @@ turns-preserved g c =
     record {
       midway = midway_more g.T.BlockTool.rest c.args.tool.now c.turns.tool c.args.reader.now c.turns.reader shown block c.args.out.now c.turns.out i.midway shows.0 shows.1
           c.push_block.new.self c.consume.new.self c.push_block.new.out c.consume.ensures.consumed e.continues e.clean;
+      all = λ rest.
+          ap (g.T.BlockTool.rest c.args.tool.now) (append_assoc i.midway.given block rest) ∙ i.all (block ++ rest)
+          ∙ ap (λ (l : List ℕ). i.midway.pushed ++ l) (e.continues.on rest)
+          ∙ sym (append_assoc i.midway.pushed e.continues.pushed (g.T.BlockTool.rest c.push_block.new.self rest));
       holds = e.holds c.args.tool.now i.holds;
       counted = counted_more c.turns.reader shown block shows.0 shows.1 b.was_sound (g.T.BlockTool.counted c.turns.tool) i.counted c.consume.new.self (g.T.BlockTool.counted c.push_block.new.self) c.consume.ensures.consumed e.counts;
     }

@@ -1,4 +1,4 @@
-use Rattle.std.proofs.Common.{◌≤◌, ◌-◌, length}
+use Rattle.std.proofs.Common.{◌≡◌, ◌≤◌, ◌-◌, ℕ, List, ◌++◌, length}
 use Rattle.ptlines.specs.Readers.{budget}
 use Rattle.ptflow.proofs.PassLemmas.{Midway}
 use Rattle.ptflow.proofs.blocks.over_blocks.Given as goal
@@ -6,6 +6,7 @@ use Rattle.ptflow.proofs.blocks.over_blocks.Given as goal
 abbrev pub invariant-turns : goal.invariant-turns
 invariant-turns g l = record {
   midway : Midway g.T.BlockTool.rest l.fn.tool l.tool l.fn.reader l.reader l.fn.out l.out;
+  all : (rest : List ℕ) → g.T.BlockTool.rest l.fn.tool (midway.given ++ rest) ≡ midway.pushed ++ g.T.BlockTool.rest l.tool rest;
   holds : g.T.BlockTool.Holds l.fn.tool l.tool;
   counted : g.T.BlockTool.counted l.tool ≤ l.reader.pulled - length l.reader.held;
 }

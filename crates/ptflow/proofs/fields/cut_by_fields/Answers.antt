@@ -5,7 +5,7 @@ use Rattle.ptlines.proofs.Pushed.{wrote_nothing}
 use Rattle.ptlangs.specs.Jobs.{cut_job}
 use Rattle.ptflow.specs.Cuts.{cut_tool, cut_lines}
 use Rattle.ptflow.specs.Workings.CutRests.{cut_from, GoesOn, BreaksOff}
-use Rattle.ptflow.proofs.FieldLines.{cut_line_tool, cut_sure, line_continues, line_halts}
+use Rattle.ptflow.proofs.FieldLines.{cut_line_tool, line_continues, line_halts}
 use Rattle.ptflow.proofs.LineLemmas.{run_starts, run_line, run_block, run_unslotted, run_read, run_memory, run_done, run_write_line, run_write_block, keeps_piece}
 use Rattle.ptflow.proofs.SlotFacts.{keeps_starts, keeps_more, keeps_line, emptied}
 use Rattle.ptflow.proofs.fields.cut_by_fields.Goals as goal
@@ -32,7 +32,7 @@ returns-in_err-push_kept-in-Ok-true g c =
     let x = err_from_is_err_and c.from_residual-in_err-push_kept-in-Ok-true.result c.from_residual-in_err-push_kept-in-Ok-true.ensures.1 in
     rw (x.1, x.2)
     (run_write_line (cut_tool job) (cut_from job) (cut_lines job) job.end 1 tt (cut_line_tool job c.requires.by_fields) tt c.args.reader.now c.turns.reader c.args.out.now c.turns.out c.args.store.now c.requires.ready c.fill.ensures.was_sound c.turns.store r
-    c.fill.new.self c.fill.new.store 0 e (omega arith) c.push_kept.new.out (line_halts job c.turns.reader c.fill.new.self c.turns.out c.push_kept.new.out c.args.store.now c.turns.store c.fill.new.store (longest (lines job.end r.given)) r.keeps e c.line.result.now c.line.ensures c.push_kept.ensures.wrote) c.in_err-push_kept-in-Ok-true.ensures.fault)
+    c.fill.new.self c.fill.new.store 0 e c.fill.ensures.is_sound (omega arith) c.push_kept.new.out (line_halts job c.turns.reader c.fill.new.self c.turns.out c.push_kept.new.out c.args.store.now c.turns.store c.fill.new.store (longest (lines job.end r.given)) r.keeps e c.line.result.now c.line.ensures c.push_kept.ensures.wrote) c.in_err-push_kept-in-Ok-true.ensures.fault)
 
 pub returns-in-Ok-false : goal.returns-in-Ok-false
 returns-in-Ok-false g c =
@@ -41,7 +41,7 @@ returns-in-Ok-false g c =
     let e = rw c.in-Ok-false.field-0-test at (c.in-Ok-false.ensures.fills r.reached.goes.fault) in
     let kept = keeps_line 1 (longest (lines job.end r.given)) c.args.store.now c.turns.store c.fill.new.store 0 [] r.keeps (omega arith) (omega arith) e.2 in
     run_done (cut_tool job) (cut_from job) (cut_lines job) job.end 1 tt (cut_line_tool job c.requires.by_fields) tt c.args.reader.now c.turns.reader c.args.out.now c.turns.out c.args.store.now c.requires.ready c.fill.ensures.was_sound c.turns.store r
-    c.fill.new.self c.fill.new.store c.turns.out e.0 e.1 (e.0.short (c.fill.ensures.was_sound.long r.reached.goes.fault)) kept (emptied c.turns.store c.fill.new.store (omega (arith, r.keeps.adds.all r.keeps.denied)) e.2 kept.others) (wrote_nothing c.turns.out) r.reached.clean
+    c.fill.new.self c.fill.new.store c.turns.out c.fill.ensures.is_sound e.0 e.1 (e.0.short (c.fill.ensures.was_sound.long r.reached.goes.fault)) kept (emptied c.turns.store c.fill.new.store (omega (arith, r.keeps.adds.all r.keeps.denied)) e.2 kept.others) (wrote_nothing c.turns.out) r.reached.clean
 
 pub returns-in-Err-Read : goal.returns-in-Err-Read
 returns-in-Err-Read g c =
@@ -50,9 +50,9 @@ returns-in-Err-Read g c =
     let e = rw c.in-Err-Read.field-0-is at (c.in-Err-Read.ensures.fills r.reached.goes.fault) in
     let free = subst (λ (b : ℕ). IsLine b e.piece) r.ending e.faults.whole in
     run_read (cut_tool job) (cut_from job) (cut_lines job) job.end 1 tt (cut_line_tool job c.requires.by_fields) tt c.args.reader.now c.turns.reader c.args.out.now c.turns.out c.args.store.now c.requires.ready c.fill.ensures.was_sound c.turns.store r
-    c.fill.new.self e.piece e.faults.reads free c.fill.new.store
+    c.fill.new.self e.piece e.faults.reads free c.fill.ensures.is_sound c.fill.new.store
     (keeps_piece (cut_tool job) (cut_from job) (cut_lines job) job.end 1 tt (cut_line_tool job c.requires.by_fields) tt c.args.reader.now c.turns.reader c.args.out.now c.turns.out c.args.store.now c.requires.ready c.fill.ensures.was_sound c.turns.store r c.fill.new.self e.piece e.faults.reads free c.fill.new.store 0 (omega arith) e.stored)
-    e.cause (cut_sure job (lines job.end r.given) r.pushed (r.on []))
+    e.cause
 
 pub returns-in-Err-Memory : goal.returns-in-Err-Memory
 returns-in-Err-Memory g c =
@@ -60,7 +60,7 @@ returns-in-Err-Memory g c =
     let r = c.turns.invariant in
     let e = rw c.in-Err-Memory.field-0-is at (c.in-Err-Memory.ensures.fills r.reached.goes.fault) in
     run_memory (cut_tool job) (cut_from job) (cut_lines job) job.end 1 tt (cut_line_tool job c.requires.by_fields) tt c.args.reader.now c.turns.reader c.args.out.now c.turns.out c.args.store.now c.requires.ready c.fill.ensures.was_sound c.turns.store r
-    c.fill.new.self e.piece e.faults.reads (subst (λ (b : ℕ). IsLine b e.piece) r.ending e.faults.whole) c.fill.new.store 0 (omega arith) e.stored e.failed
+    c.fill.new.self e.piece e.faults.reads (subst (λ (b : ℕ). IsLine b e.piece) r.ending e.faults.whole) c.fill.ensures.is_sound c.fill.new.store 0 (omega arith) e.stored e.failed
 
 pub returns-in_err-count-in-Ok : goal.returns-in_err-count-in-Ok
 returns-in_err-count-in-Ok g c =
@@ -74,7 +74,7 @@ returns-in_err-count-in-Ok g c =
     let halts = subst (λ (b : ℕ). BreaksOff job (ended_lines b c.in-Ok.block.now) c.push_kept.new.out c.push_lines.new.out) (c.ending-ending.ensures ∙ c.requires.ending) c.in_err-count-in-Ok.ensures.halts in
     rw (x.1, x.2)
     (run_write_block (cut_tool job) (cut_from job) (cut_lines job) job.end 1 tt (cut_line_tool job c.requires.by_fields) tt c.args.reader.now c.fill.new.self c.args.out.now c.push_kept.new.out c.args.store.now c.requires.ready c.fill.ensures.is_sound c.fill.new.store run
-    c.block.follows.lender-at-none c.in-Ok.block.now shows.0 shows.1 c.push_lines.new.out halts c.in_err-count-in-Ok.ensures.fault)
+    c.block.follows.lender-at-none c.in-Ok.block.now c.block.follows.holds-at-none.is_sound shows.0 shows.1 c.push_lines.new.out halts c.in_err-count-in-Ok.ensures.fault)
 
 pub returns-in-Err : goal.returns-in-Err
 returns-in-Err g c =
@@ -85,8 +85,8 @@ returns-in-Err g c =
     tt c.push_kept.new.out (line_continues job c.turns.reader c.fill.new.self c.turns.out c.push_kept.new.out c.args.store.now c.turns.store c.fill.new.store (longest (lines job.end r.given)) r.keeps e c.line.result.now c.line.ensures c.push_kept.ensures.wrote) c.in_ok-push_kept-in-Ok-true.ensures.clean in
     let shows = (rw c.in-Err.is at c.block.follows.holds-at-none.shows) run.reached.goes.fault in
     run_read (cut_tool job) (cut_from job) (cut_lines job) job.end 1 tt (cut_line_tool job c.requires.by_fields) tt c.args.reader.now c.fill.new.self c.args.out.now c.push_kept.new.out c.args.store.now c.requires.ready c.fill.ensures.is_sound c.fill.new.store run
-    c.block.follows.lender-at-none [] shows.0.reads tt c.fill.new.store (keeps_more 1 (longest (lines job.end run.given)) (max (longest (lines job.end run.given)) 0) c.args.store.now c.fill.new.store run.keeps (omega arith))
-    shows.1 (cut_sure job (lines job.end run.given) run.pushed (run.on []))
+    c.block.follows.lender-at-none [] shows.0.reads tt c.block.follows.holds-at-none.is_sound c.fill.new.store (keeps_more 1 (longest (lines job.end run.given)) (max (longest (lines job.end run.given)) 0) c.args.store.now c.fill.new.store run.keeps (omega arith))
+    shows.1
 
 pub turns-preserved : goal.turns-preserved
 turns-preserved g c =

@@ -376,6 +376,39 @@ turns-smaller-else-not-has_key_of g c =
     let less = comes_less (g.K.KeyOrder.key_of c.turns.merge.order sides.Second) (g.K.KeyOrder.order c.turns.merge.order) c.turns.merge.second c.gather.new.merge.second c.turns.second c.gather.new.reader is.1.made c.gather.new.store r.head2 is.1.came in
     omega (arith, less, ap (λ (q : Sorted). alive q.stand) c.gather.ensures.other)
 
+pub turns-smaller-then-not-has_key_of : goal.turns-smaller-then-not-has_key_of
+turns-smaller-then-not-has_key_of g c =
+    let i = c.turns.invariant in
+    let cmp = g.K.KeyOrder.order c.args.order in
+    let key = g.K.KeyOrder.key_of c.args.order in
+    let job = join_job c.args.job.now in
+    let tool = join_by job cmp key in
+    let pairs = pairs_of job in
+    let laws = join_pairs job cmp key in
+    let old = seen c.args.first.now c.args.second.now c.args.out.now c.args.store.now in
+    let now = seen c.turns.first c.turns.second c.turns.out c.turns.store in
+    let place = both c.turns.merge.first c.turns.merge.second in
+    let r = as_gathering tool i.o pairs laws old i.unfailed c.turns.phase now place c.turns.end i.phased c.in-Gathering.is in
+    let is = c.in_ok-end-in-Gathering.ensures.gathers in
+    let less = comes_less (g.K.KeyOrder.key_of c.turns.merge.order sides.Second) (g.K.KeyOrder.order c.turns.merge.order) c.turns.merge.second c.gather.new.merge.second c.turns.second c.gather.new.reader is.1.made c.gather.new.store r.head2 is.1.came in
+    omega (arith, less, ap (λ (q : Sorted). alive q.stand) c.gather.ensures.other)
+
+pub turns-smaller-then-not-has_key_of-2 : goal.turns-smaller-then-not-has_key_of-2
+turns-smaller-then-not-has_key_of-2 g c =
+    let i = c.turns.invariant in
+    let cmp = g.K.KeyOrder.order c.args.order in
+    let key = g.K.KeyOrder.key_of c.args.order in
+    let job = join_job c.args.job.now in
+    let tool = join_by job cmp key in
+    let pairs = pairs_of job in
+    let laws = join_pairs job cmp key in
+    let old = seen c.args.first.now c.args.second.now c.args.out.now c.args.store.now in
+    let now = seen c.turns.first c.turns.second c.turns.out c.turns.store in
+    let place = both c.turns.merge.first c.turns.merge.second in
+    let r = as_pairing tool i.o pairs laws old i.unfailed c.turns.phase now place c.turns.end i.phased c.in-Pairing.is in
+    let less = comes_less (g.K.KeyOrder.key_of c.turns.merge.order sides.First) (g.K.KeyOrder.order c.turns.merge.order) c.turns.merge.first c.pass_pairs.new.merge.first c.turns.first c.pass_pairs.new.reader c.turns.store c.pass_pairs.new.store r.head1 c.in_ok-pass_pairs-in-Pairing.ensures.passes.1 in
+    omega (arith, less, ap (λ (q : Sorted). alive q.stand) c.pass_pairs.ensures.others)
+
 pub pass_pairs-requires-clause-within : goal.pass_pairs-requires-clause-within
 pass_pairs-requires-clause-within g c =
     let i = c.turns.invariant in

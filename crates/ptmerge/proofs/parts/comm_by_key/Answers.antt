@@ -1,0 +1,5 @@
+use Rattle.ptmerge.proofs.PartsByKey.{comm_of_keys}
+use Rattle.ptmerge.proofs.parts.comm_by_key.Goals as goal
+
+pub returns : goal.returns
+returns c = comm_of_keys

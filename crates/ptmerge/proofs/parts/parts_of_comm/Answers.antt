@@ -1,0 +1,5 @@
+use Rattle.ptmerge.proofs.PartsLaws.{comm_of_parts}
+use Rattle.ptmerge.proofs.parts.parts_of_comm.Goals as goal
+
+pub returns : goal.returns
+returns c = comm_of_parts
