@@ -26,6 +26,7 @@ check:
 test: build/ptext
 	sh tests/program.sh build/ptext
 	sh tests/install.sh
+	sh tests/parallel.sh build/ptext
 	python3 tests/pages.py build/ptext
 	rt ci
 

@@ -60,7 +60,7 @@ while IFS= read -r command && IFS= read -r whole; do
     grep -qxF "    $command" "$top/docs/PARALLEL.md" || failed "not in the page: $command"
     sh -c "$whole" >want </dev/null || failed "$whole"
     case $command in
-    *--block*) sizes='3M 20M -1' ;;
+    *'--block 20M'*) sizes='3M 20M' ;;
     *) sizes=one ;;
     esac
     for size in $sizes; do
@@ -68,6 +68,8 @@ while IFS= read -r command && IFS= read -r whole; do
         [ "$status" = 0 ] && cmp -s out want || failed "$command, in parts of $size (status $status)"
     done
 done <<'ROWS'
+parallel --pipepart -k --block -1 -a log 'ptext cut -c 12-30'
+ptext cut -c 12-30 log
 parallel --pipepart -k --block 20M -a log 'ptext cut -d " " -f 1,3'
 ptext cut -d " " -f 1,3 log
 parallel --pipepart -k --block 20M -a log 'ptext tr a-z A-Z'
