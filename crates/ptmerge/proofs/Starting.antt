@@ -1,5 +1,5 @@
 -- How a tool over two inputs starts.
-use Rattle.std.proofs.Common.{◌≡◌, inl, inr, ℕ, ◌+◌, ◌*◌, ◌≤◌, ◌<◌, Bool, false, true, cond, List, [], None, Err, length, max, refl, sym, ◌∙◌, ap, subst, arith}
+use Rattle.std.proofs.Common.{◌≡◌, inl, inr, ℕ, ◌+◌, ◌*◌, ◌≤◌, ◌<◌, Bool, false, true, cond, List, [], None, Err, length, refl, sym, ◌∙◌, ap, subst, arith}
 use Rattle.std.proofs.lemmas.Bool.{false≢true}
 use Rattle.ptlangs.specs.Jobs.{ending}
 use Rattle.ptlines.specs.Readers.{Reader, Reads}

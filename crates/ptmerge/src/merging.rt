@@ -1,4 +1,4 @@
-ghost use Rattle.std.specs.Prelude.{◌≡◌, ◌&&◌, false, length, None, Result, OnOk, IfOk, IfErr, bytes_eq};
+ghost use Rattle.std.specs.Prelude.{◌≡◌, ◌&&◌, length, None, Result, OnOk, IfOk, IfErr, bytes_eq};
 ghost use Rattle.ptlines.specs.Readers.{IsSound};
 ghost use Rattle.ptlines.specs.Slots.{line, line as line_of};
 ghost use Rattle.ptmerge.specs.Groups.{is_head};

@@ -1,4 +1,4 @@
-ghost use Rattle.std.specs.Prelude.{◌≡◌, ◌≤◌, OnOk, OnErr, length};
+ghost use Rattle.std.specs.Prelude.{◌≤◌, OnOk, OnErr, length};
 ghost use Rattle.ptmerge.specs.Stores.{HasFour, HasNoSlots, IsCleared};
 
 use ptlines::{LineFault, Store};
