@@ -8,6 +8,7 @@ A crate is proved once those are that it stands on, by `rt lib`. As rt locks the
 each crate is proved in a folder of its own, build/side/NAME, over copies of what it stands on; then what was proved goes
 back to crates/NAME/out. Kept proofs hold in any folder, so what stands already is not proved again.
 """
+import fcntl
 import os
 import shutil
 import subprocess
@@ -65,6 +66,22 @@ def take_back(crate, folder):
             os.makedirs(os.path.dirname(kept), exist_ok=True)
             shutil.rmtree(kept, ignore_errors=True)
             os.rename(made, kept)
+
+
+def locked(crates):
+    """Keeps every rt out of the folders of these crates, as rt itself does, until what is answered is closed."""
+    held = []
+    for folder in sorted(os.path.realpath(f"{TOP}/crates/{it}") for it in crates):
+        held.append(os.open(folder, os.O_RDONLY))
+        try:
+            fcntl.flock(held[-1], fcntl.LOCK_EX | fcntl.LOCK_NB)
+        except BlockingIOError:
+            say(f"waiting for another rt to finish in {folder}")
+            fcntl.flock(held[-1], fcntl.LOCK_EX)
+        except OSError:
+            # Some file systems have no locks.
+            pass
+    return held
 
 
 def followed(what, words, folder):
@@ -147,11 +164,14 @@ def main():
         f"proving {build.count} libraries, then the program, and building it. From nothing that takes 10 to 15 minutes on "
         "four processors; what is proved already is not proved again."
     )
+    held = locked(build.left)
     shutil.rmtree(SIDE, ignore_errors=True)
     try:
         good = build.run()
     finally:
         shutil.rmtree(SIDE, ignore_errors=True)
+    for it in held:
+        os.close(it)
     if not good:
         return 1
     # It is run on nothing, as rt has no command that builds alone.

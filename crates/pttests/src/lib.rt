@@ -28,6 +28,8 @@ mod lengths;
 #[cfg(test)]
 mod pasting;
 #[cfg(test)]
+mod peaks;
+#[cfg(test)]
 mod reading;
 #[cfg(test)]
 mod refusals;
