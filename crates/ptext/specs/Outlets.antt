@@ -15,7 +15,7 @@ use Rattle.ptext.specs.declared.outlet.Outlet.TheVariants.{Standard, File, Nowhe
 abbrev pub outlet_state : {W F : Type 0} → (W → SinkState) → (F → SinkState) → Outlet W F → SinkState
 outlet_state of_standard of_file (Standard out) = of_standard out.now
 outlet_state of_standard of_file (File file) = of_file file
-outlet_state of_standard of_file Nowhere = record { taken = None; failed = false }
+outlet_state of_standard of_file (Nowhere pending) = record { taken = None; failed = false; pending = pending }
 
 -- the output file of a command that was read, if all its inputs were opened
 abbrev pub output_over : {A : Type 0} → Result (code.Command A) UseFault → List Reader → Option (List ℕ)

@@ -11,8 +11,8 @@ pub enum Outlet<'a, W: Sink, F: Sink> {
     Standard(&'a mut W),
     /// The output file that the command names.
     File(F),
-    /// Nothing is to be written. What is put here is lost.
-    Nowhere,
+    /// Nothing is to be written. What is put here is lost; as any sink it keeps whether it was flushed since.
+    Nowhere(bool),
 }
 
 impl<'a, W: Sink, F: Sink> Sink for Outlet<'a, W, F> {
@@ -24,7 +24,10 @@ impl<'a, W: Sink, F: Sink> Sink for Outlet<'a, W, F> {
         match self {
             Outlet::Standard(out) => out.put(bytes),
             Outlet::File(file) => file.put(bytes),
-            Outlet::Nowhere => Ok(bytes.len()),
+            Outlet::Nowhere(pending) => {
+                *pending = true;
+                Ok(bytes.len())
+            }
         }
     }
 
@@ -32,7 +35,10 @@ impl<'a, W: Sink, F: Sink> Sink for Outlet<'a, W, F> {
         match self {
             Outlet::Standard(out) => out.flush(),
             Outlet::File(file) => file.flush(),
-            Outlet::Nowhere => Ok(()),
+            Outlet::Nowhere(pending) => {
+                *pending = false;
+                Ok(())
+            }
         }
     }
 }
