@@ -11,8 +11,8 @@ pub enum Outlet<'a, W: Sink, F: Sink> {
     Standard(&'a mut W),
     /// The output file that the command names.
     File(F),
-    /// Nothing is to be written. What is put here is lost.
-    Nowhere,
+    /// Nothing is to be written: a write fails, and whether one did is kept.
+    Closed(bool),
 }
 
 impl<'a, W: Sink, F: Sink> Sink for Outlet<'a, W, F> {
@@ -24,7 +24,10 @@ impl<'a, W: Sink, F: Sink> Sink for Outlet<'a, W, F> {
         match self {
             Outlet::Standard(out) => out.put(bytes),
             Outlet::File(file) => file.put(bytes),
-            Outlet::Nowhere => Ok(bytes.len()),
+            Outlet::Closed(failed) => {
+                *failed = true;
+                Err(Failed)
+            }
         }
     }
 
@@ -32,7 +35,7 @@ impl<'a, W: Sink, F: Sink> Sink for Outlet<'a, W, F> {
         match self {
             Outlet::Standard(out) => out.flush(),
             Outlet::File(file) => file.flush(),
-            Outlet::Nowhere => Ok(()),
+            Outlet::Closed(_) => Ok(()),
         }
     }
 }
