@@ -9,13 +9,13 @@ use Rattle.ptopts.specs.Meant.{seen}
 use Rattle.ptopts.specs.declared.command.Command as code
 use Rattle.ptopts.specs.declared.fault.UseFault.{UseFault}
 use Rattle.ptext.specs.declared.outlet.Outlet.{Outlet}
-use Rattle.ptext.specs.declared.outlet.Outlet.TheVariants.{Standard, File, Nowhere}
+use Rattle.ptext.specs.declared.outlet.Outlet.TheVariants.{Standard, File, Closed}
 
--- the state of what is written to; what goes nowhere is not told
+-- the state of what is written to; nothing is taken where nothing is to be written
 abbrev pub outlet_state : {W F : Type 0} → (W → SinkState) → (F → SinkState) → Outlet W F → SinkState
 outlet_state of_standard of_file (Standard out) = of_standard out.now
 outlet_state of_standard of_file (File file) = of_file file
-outlet_state of_standard of_file (Nowhere pending) = record { taken = None; failed = false; pending = pending }
+outlet_state of_standard of_file (Closed failed) = record { taken = None; failed = failed; pending = false }
 
 -- the output file of a command that was read, if all its inputs were opened
 abbrev pub output_over : {A : Type 0} → Result (code.Command A) UseFault → List Reader → Option (List ℕ)

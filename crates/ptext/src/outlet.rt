@@ -11,8 +11,8 @@ pub enum Outlet<'a, W: Sink, F: Sink> {
     Standard(&'a mut W),
     /// The output file that the command names.
     File(F),
-    /// Nothing is to be written. What is put here is lost; as any sink it keeps whether it was flushed since.
-    Nowhere(bool),
+    /// Nothing is to be written: a write fails, and whether one did is kept.
+    Closed(bool),
 }
 
 impl<'a, W: Sink, F: Sink> Sink for Outlet<'a, W, F> {
@@ -24,9 +24,9 @@ impl<'a, W: Sink, F: Sink> Sink for Outlet<'a, W, F> {
         match self {
             Outlet::Standard(out) => out.put(bytes),
             Outlet::File(file) => file.put(bytes),
-            Outlet::Nowhere(pending) => {
-                *pending = true;
-                Ok(bytes.len())
+            Outlet::Closed(failed) => {
+                *failed = true;
+                Err(Failed)
             }
         }
     }
@@ -35,10 +35,7 @@ impl<'a, W: Sink, F: Sink> Sink for Outlet<'a, W, F> {
         match self {
             Outlet::Standard(out) => out.flush(),
             Outlet::File(file) => file.flush(),
-            Outlet::Nowhere(pending) => {
-                *pending = false;
-                Ok(())
-            }
+            Outlet::Closed(_) => Ok(()),
         }
     }
 }

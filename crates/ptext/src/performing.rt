@@ -52,7 +52,7 @@ pub fn perform<'a, R: Files, A: Allocator + Copy, S: Source, W: Sink, E: Sink>(
             Ok(file) => Outlet::File(FromWrite::new(file)),
             Err(_) => return report_no_output(name, out, messages),
         },
-        None => Outlet::Nowhere(false),
+        None => Outlet::Closed(false),
     };
     let report = without_output(run(alloc, command, words, &mut inputs, outlet, messages));
     with_output(report, out)
