@@ -268,7 +268,8 @@ impl CharPlan {
     }
 
     /// What the plan adds to bytes, where that is at most four stretches of bytes, each moved by one shift; a byte that
-    /// becomes itself is in none. It takes no memory.
+    /// becomes itself is in none. It takes no memory. `moves` follows from `found` by the law of stretches, and
+    /// stands here for callers: they rest on what becomes of a byte, and not on how stretches are found.
     pub fn shifts(&self) -> Option<Shifts>
         ensures found { MatchOption result (4 < length (stretches self.now)) (λ s. s ≡ stretches self.now) }
         ensures moves { IfSome result (λ s. Move s self.now) }
