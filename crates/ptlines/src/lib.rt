@@ -8,6 +8,7 @@ mod out;
 mod reader;
 mod search;
 mod sink;
+mod slot;
 mod source;
 mod std_ends;
 mod store;
