@@ -1,10 +1,11 @@
 -- Worked examples of the parts of texts: what a law says of some, and what comes of a cut that does not meet its condition.
 use Rattle.std.proofs.Common.{◌≡◌, ◌==◌, cond, inl, inr, ℕ, List, [], ◌∷◌, ◌++◌, Bool, true, false, length, refl, ap, arith, codes, Option, Some, None, Result, Ok, Err, ◌<◌, ◌∙◌, sym, zero, suc}
-use Rattle.std.specs.Prelude.{slice_index_or, unwrap_or}
+use Rattle.std.specs.Prelude.{slice_index_or, unwrap_or, filter, bytes_eq}
 use Rattle.std.specs.Fmt.{digits}
 use Rattle.std.specs.Str.{byte}
 use Rattle.std.proofs.lemmas.Bool.Decides.{nat_tests}
 use Rattle.ptlines.specs.Parts.{IsWhole}
+use Rattle.ptlines.specs.Text.{text, lines}
 use Rattle.ptlangs.specs.CutLists.{is_selected}
 use Rattle.ptlangs.specs.Jobs.{Cut, Uniq, Paste}
 use Rattle.ptlangs.specs.TrClasses.{all_bytes}
@@ -16,7 +17,7 @@ use Rattle.ptlangs.specs.declared.plan.Form.TheVariants.{Squeeze}
 use Rattle.ptflow.specs.Cuts.{cut}
 use Rattle.ptflow.specs.Pastes.{paste, paste_serial, times}
 use Rattle.ptflow.specs.Translations.{tr}
-use Rattle.ptflow.specs.Uniqs.{uniq}
+use Rattle.ptflow.specs.Uniqs.{Run, uniq, key, runs, entries}
 use Rattle.ptflow.specs.Parts.{KeysChange, HasRows}
 use Rattle.ptflow.proofs.PartsUniq.{uniq_of_parts}
 use Rattle.ptflow.proofs.PartsPaste.{paste_of_parts}
@@ -103,6 +104,16 @@ cut_inside_a_run = refl
 not_uniq_of_any_parts : ((job : Uniq) (a b : List ℕ) → IsWhole job.end a → uniq job (a ++ b) ≡ uniq job a ++ uniq job b) → ⊥
 unfolding digits
 not_uniq_of_any_parts law = omega (arith, ap length (law counting (codes "a\n") (codes "a\nb\n") (inr (codes "a", refl))))
+
+-- lines that are dealt out by their keys, but are not sorted
+key_comes_again : uniq counting (codes "a\na\n") ≡ codes "2 a\n"
+unfolding digits
+key_comes_again = refl
+
+not_uniq_by_any_key : ((job : Uniq) (taken : List ℕ → Bool) (bytes : List ℕ)
+    → uniq job (text job.end (filter (λ line. taken (key job line)) (lines job.end bytes))) ≡ entries job (filter (λ (run : Run). taken (key job run.line)) (runs job (lines job.end bytes)))) → ⊥
+unfolding digits
+not_uniq_by_any_key law = omega (arith, ap length (law counting (λ k. bytes_eq k (codes "a")) (codes "a\nb\na\n")))
 
 -- ---- paste
 

@@ -1,12 +1,13 @@
 -- What the tools write of a text that is cut into two parts.
-use Rattle.std.specs.Prelude.{◌≡◌, ◌≢◌, ◌⊎◌, ◌≤◌, ◌<◌, ◌*◌, ℕ, true, false, List, [], ◌∷◌, ◌++◌, length}
-use Rattle.ptlines.specs.Text.{lines}
+use Rattle.std.specs.Prelude.{◌≡◌, ◌≢◌, ◌⊎◌, ◌≤◌, ◌<◌, ◌*◌, ℕ, Bool, true, false, List, [], ◌∷◌, ◌++◌, length, filter}
+use Rattle.std.specs.List.{AllByRecursion}
+use Rattle.ptlines.specs.Text.{text, lines}
 use Rattle.ptlines.specs.Parts.{IsWhole}
 use Rattle.ptlangs.specs.Jobs.{Cut, Uniq, Paste}
 use Rattle.ptlangs.specs.TrTables.{Tables, deletes, image, squeezes}
 use Rattle.ptflow.specs.Cuts.{cut}
 use Rattle.ptflow.specs.Translations.{tr}
-use Rattle.ptflow.specs.Uniqs.{uniq, key}
+use Rattle.ptflow.specs.Uniqs.{Run, uniq, key, runs, entries}
 use Rattle.ptflow.specs.Pastes.{times, paste}
 
 -- the first of some items
@@ -56,6 +57,18 @@ KeysChange job a b = (last first : List ℕ) → EndsWith last (lines job.end a)
 
 abbrev pub UniqOfParts : Type 0
 UniqOfParts = (job : Uniq) (a b : List ℕ) → IsWhole job.end a → KeysChange job a b → uniq job (a ++ b) ≡ uniq job a ++ uniq job b
+
+-- equal keys stand together, as in a sorted text: each line has the key of the next one, or its key does not come again
+abbrev pub AreGrouped : Uniq → List (List ℕ) → Type 0
+AreGrouped job [] = Unit {0}
+AreGrouped job (line ∷ more) =
+    (((next : List ℕ) × BeginsWith next more × (key job line ≡ key job next)) ⊎ AllByRecursion (λ other. key job line ≢ key job other) more)
+    × AreGrouped job more
+
+-- of the lines with some keys what is written is what is written of the runs with these keys
+abbrev pub UniqByKey : Type 0
+UniqByKey = (job : Uniq) (taken : List ℕ → Bool) (bytes : List ℕ) → let ls = lines job.end bytes in AreGrouped job ls
+    → uniq job (text job.end (filter (λ line. taken (key job line)) ls)) ≡ entries job (filter (λ (run : Run). taken (key job run.line)) (runs job ls))
 
 -- ---- paste in rows: behind the same row in all inputs
 

@@ -26,7 +26,7 @@ mod translating;
 pub use cutting::cut;
 pub use faults::FlowFault;
 pub use lanes::translate;
-pub use parts::{parts_of_cut, parts_of_paste, parts_of_tr, parts_of_uniq};
+pub use parts::{parts_of_cut, parts_of_paste, parts_of_tr, parts_of_uniq, uniq_by_key};
 pub use pasting::paste;
 pub use repeats::uniq;
 pub use serial::paste_serial;

@@ -1,5 +1,5 @@
 //! What each tool writes of the parts of a text: whether the results of the parts, put together, are that of the whole.
-ghost use Rattle.ptflow.specs.Parts.{CutOfParts, TrOfAnyParts, TrOfParts, TrBehindByte, TrMeetsTwice, UniqOfParts, PasteOfParts};
+ghost use Rattle.ptflow.specs.Parts.{CutOfParts, TrOfAnyParts, TrOfParts, TrBehindByte, TrMeetsTwice, UniqOfParts, UniqByKey, PasteOfParts};
 
 /// `cut` may be run on parts of a file, by bytes and by fields: what it writes of the parts, in order, is what it
 /// writes of the file, where each part but the last ends with the byte that ends a line.
@@ -25,6 +25,14 @@ pub fn parts_of_tr()
 /// The call does nothing: its contract is the law.
 pub fn parts_of_uniq()
     ensures { UniqOfParts }
+{}
+
+/// Where equal keys stand together, as in a sorted file, the lines may be dealt out by their keys, each in their order:
+/// what `uniq` writes of the lines of some keys is what it writes of the runs with these keys. So all the parts together
+/// have what is written of the file, and each of them has it in order.
+/// The call does nothing: its contract is the law.
+pub fn uniq_by_key()
+    ensures { UniqByKey }
 {}
 
 /// `paste` in rows may be run on parts of its files, where all are cut behind the same row: of each file the first part

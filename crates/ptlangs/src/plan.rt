@@ -4,7 +4,7 @@ ghost use Rattle.std.specs.Result.{result_map_both};
 ghost use Rattle.ptlangs.specs.declared.faults.SetFault.{SetFault};
 ghost use Rattle.ptlangs.specs.declared.faults.SetFaultKind.{SetFaultKind};
 ghost use Rattle.ptlangs.specs.declared.pieces.Piece.{Piece};
-ghost use Rattle.ptlangs.specs.TrPlan.{array, collected, first_array, pieces_of, plan, plan_of, second_plan, may_pair as pairs, class_places, second_place, string_pieces, takes_second};
+ghost use Rattle.ptlangs.specs.TrPlan.{array, collected, first_array, pieces_of, plan, plan_of, second_plan, may_pair as pairs, NeverMemory, class_places, second_place, string_pieces, takes_second};
 ghost use Rattle.ptlangs.specs.TrTables.{tables, deletes, image, squeezes, HoldPlan};
 ghost use Rattle.ptlangs.specs.TrShifts.{stretches, Move};
 ghost use Rattle.ptlangs.specs.TrReading.{SecondHas, ok_map, places_of, second_array};
@@ -268,7 +268,8 @@ impl CharPlan {
     }
 
     /// What the plan adds to bytes, where that is at most four stretches of bytes, each moved by one shift; a byte that
-    /// becomes itself is in none. It takes no memory.
+    /// becomes itself is in none. It takes no memory. `moves` follows from `found` by the law of stretches, and
+    /// stands here for callers: they rest on what becomes of a byte, and not on how stretches are found.
     pub fn shifts(&self) -> Option<Shifts>
         ensures found { MatchOption result (4 < length (stretches self.now)) (λ s. s ≡ stretches self.now) }
         ensures moves { IfSome result (λ s. Move s self.now) }
@@ -295,4 +296,10 @@ impl CharPlan {
 /// defines it.
 pub fn tables_hold_the_plan()
     ensures { HoldPlan }
+{}
+
+/// Nothing at run time: its contract says that no strings are refused for want of memory, so that [`CharPlan::read`]
+/// never answers `SetFaultKind::Memory`.
+pub fn no_string_wants_memory()
+    ensures { NeverMemory }
 {}

@@ -87,7 +87,8 @@ impl Shifts {
         image
     }
 
-    /// The first and the last byte and the shift of the stretch at a place, counted from 0; they ascend.
+    /// The first and the last byte and the shift of the stretch at a place, counted from 0; they ascend. `few` stands
+    /// beside `found` since the invariant behind it speaks of private fields: by it a caller has room for all of them.
     pub fn stretch(&self, place: usize) -> Option<(u8, u8, u8)>
         ensures found { result ≡ option_map (λ s. (s.first, s.last, s.by)) (slice_get self.now place) }
         ensures few { length self.now ≤ 4 }

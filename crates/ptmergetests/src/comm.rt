@@ -106,6 +106,42 @@ fn a_read_that_fails(rt: HostRuntime) -> Result<(), Fail> {
     expect(&rt, rt.alloc(), &falls, fault, b"\t\ta\n\t\tb\n")
 }
 
+// One pull fewer, and a read fails: so many are needed, and no more are made.
+#[test]
+fn nothing_is_read_behind_a_line_out_of_order(rt: HostRuntime) -> Result<(), Fail> {
+    let mut first = over(b"b\na\nc\n", b"a\nb\nb\nd\n");
+    first.passing = [2, 4];
+    let fault = Err(MergeFault::Disorder(Side::First, 2));
+    expect(&rt, rt.alloc(), &first, fault, b"\ta\n\t\tb\n\tb\n")?;
+    first.passing = [1, 4];
+    let fault = Err(MergeFault::Read(Side::First));
+    expect(&rt, rt.alloc(), &first, fault, b"\ta\n\t\tb\n")?;
+    let mut second = over(b"a\nb\nb\nd\n", b"b\na\nc\n");
+    second.passing = [4, 2];
+    let fault = Err(MergeFault::Disorder(Side::Second, 2));
+    expect(&rt, rt.alloc(), &second, fault, b"a\n\t\tb\nb\n")?;
+    second.passing = [3, 2];
+    let fault = Err(MergeFault::Read(Side::First));
+    expect(&rt, rt.alloc(), &second, fault, b"a\n\t\tb\nb\n")
+}
+
+// Two lines of 9000 bytes in pulls of 8192: a third pull is made for the second line alone.
+#[test]
+fn nothing_is_read_behind_a_failed_write(rt: HostRuntime) -> Result<(), Fail> {
+    let mut long = vec![in rt.alloc(); b'a'; 18002]?;
+    long[9000] = b'\n';
+    long[18001] = b'\n';
+    let mut lines = over(&long, b"c\n");
+    lines.size = usize::MAX;
+    lines.passing = [2, 1];
+    let (result, _kept, _peak) = run(rt.alloc(), rt.alloc(), &lines)?;
+    assert_eq!(rt; result, Err(MergeFault::Read(Side::First)));
+    lines.room = 0;
+    let (result, _kept, _peak) = run(rt.alloc(), rt.alloc(), &lines)?;
+    assert_eq!(rt; result, Err(MergeFault::Write));
+    Ok(())
+}
+
 #[test]
 fn a_write_that_fails(rt: HostRuntime) -> Result<(), Fail> {
     let mut lines = over(b"a\na\nb\n", b"a\nc\n");

@@ -185,6 +185,47 @@ fn inputs_out_of_order(rt: HostRuntime) -> Result<(), Fail> {
     expect(&rt, rt.alloc(), &job, b"a\n", b"b\na\n", second, b"")
 }
 
+// One pull fewer, and a read fails: so many are needed, and no more are made.
+#[test]
+fn nothing_is_read_behind_a_line_out_of_order(rt: HostRuntime) -> Result<(), Fail> {
+    let job = JoinJob::new(rt.alloc());
+    let mut lines = over(b"b\na\nc\n", b"a\nb\nc\nd\n");
+    lines.passing = [2, 3];
+    let (result, kept, _peak) = run(rt.alloc(), rt.alloc(), &job, &lines)?;
+    assert_eq!(rt; result, Err(MergeFault::Disorder(Side::First, 2)));
+    assert!(rt; kept.bytes() == b"b\n".as_slice());
+    lines.passing = [2, 2];
+    let (result, _kept, _peak) = run(rt.alloc(), rt.alloc(), &job, &lines)?;
+    assert_eq!(rt; result, Err(MergeFault::Read(Side::Second)));
+    let mut lines = over(b"a\nb\nc\nd\n", b"b\na\nc\n");
+    lines.passing = [3, 2];
+    let (result, kept, _peak) = run(rt.alloc(), rt.alloc(), &job, &lines)?;
+    assert_eq!(rt; result, Err(MergeFault::Disorder(Side::Second, 2)));
+    assert!(rt; kept.bytes() == b"b\n".as_slice());
+    lines.passing = [2, 2];
+    let (result, _kept, _peak) = run(rt.alloc(), rt.alloc(), &job, &lines)?;
+    assert_eq!(rt; result, Err(MergeFault::Read(Side::First)));
+    Ok(())
+}
+
+// Two lines of 9000 bytes in pulls of 8192: a third pull is made for the second line alone.
+#[test]
+fn nothing_is_read_behind_a_failed_write(rt: HostRuntime) -> Result<(), Fail> {
+    let job = JoinJob::new(rt.alloc());
+    let mut long = vec![in rt.alloc(); b'a'; 18002]?;
+    long[9000] = b'\n';
+    long[18001] = b'\n';
+    let mut lines = over(&long, &long[..9001]);
+    lines.size = usize::MAX;
+    lines.passing = [2, 3];
+    let (result, _kept, _peak) = run(rt.alloc(), rt.alloc(), &job, &lines)?;
+    assert_eq!(rt; result, Err(MergeFault::Read(Side::First)));
+    lines.room = 0;
+    let (result, _kept, _peak) = run(rt.alloc(), rt.alloc(), &job, &lines)?;
+    assert_eq!(rt; result, Err(MergeFault::Write));
+    Ok(())
+}
+
 #[test]
 fn lines_that_end_with_zero_in_descending_order(rt: HostRuntime) -> Result<(), Fail> {
     let mut job = JoinJob::new(rt.alloc());
