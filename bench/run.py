@@ -1,29 +1,36 @@
 #!/usr/bin/env python3
 """Ratios of ptext to the system's tools, by user and system time, measured side by side in one run.
 
-Usage: bench/run.py [--against OTHER] PTEXT [NAME..]
+  bench/run.py PTEXT                       by the length of a line (lengths.py): writes README.md's table, speed.tsv and
+                                           speed.svg, all beside this file; --quick over a tenth of the lines, and once
+                                           each, to see that it runs; --to FOLDER writes into another folder
+  bench/run.py PTEXT all                   over each of the inputs below
+  bench/run.py PTEXT NAME..                over the inputs of these names
 
-Each case gives both the same 64 MB (or twice that, in two inputs), in turn and RUNS times, and the best of each
-counts. The outputs are compared first. Where valgrind is there, the instructions of ptext in user space stand beside
-the ratio, for each byte of the first 8 MB of the input: they are the same on every run, which times are not. Below the
-table stands the least address space in which an empty line and a line of 64 MB are cut. With --against, the other side
-is another build of ptext.
+Each case gives both the same input, in turn and five times, and the best of each counts. The outputs are compared
+first. Where valgrind is there, the instructions of ptext in user space stand beside the ratio: they are the same on
+every run, which times are not. With --against OTHER the other side is another build of ptext.
+
+An input of a name has 64 MB, or twice that in two inputs; instructions are counted for each byte of its first 8 MB.
+Below that table stands the least address space in which an empty line and a line of 64 MB are cut.
 """
 
 import argparse
 import os
 import random
-import re
 import resource
 import shutil
 import statistics
 import subprocess
-import sys
 import tempfile
+
+import lengths
+from measuring import FILE, OTHER, compare, instructions
+
+HERE = os.path.dirname(os.path.realpath(__file__))
 
 SIZE = 64 << 20
 COUNTED = 8 << 20
-RUNS = 5
 
 RANGES = ",".join(f"{first}-{first + 1}" for first in range(1, 60, 3))
 BYTES = [["cut", "-c", "3-,1"], ["cut", "-b", "5-20,40-60"], ["cut", "-c", RANGES]]
@@ -51,8 +58,7 @@ BINARY = [
 ]
 
 UNIQ = [["uniq"], ["uniq", "-c"], ["uniq", "-d"], ["uniq", "-u"], ["uniq", "-f", "1"], ["uniq", "-s", "8"]]
-# An operand of `paste` here: standard input is the first, and each further one names the same file again.
-FILE = "FILE"
+# FILE is the same file as standard input, once more.
 PASTE = [
     ["paste", "-", FILE],
     ["paste", "-", FILE, FILE, FILE, FILE],
@@ -102,8 +108,7 @@ def group():
     return "".join(f"key {number:04}\n" for number in range(1000))
 
 
-# The second of two inputs; the first one is standard input.
-OTHER = "OTHER"
+# OTHER is the second of two inputs; the first one is standard input.
 COMM = [["comm", "-", OTHER], ["comm", "-12", "-", OTHER], ["comm", "-3", "-", OTHER]]
 JOIN = [["join", "-", OTHER]]
 FORMS = [
@@ -160,58 +165,12 @@ def write_whole(path, text):
         file.write(text)
 
 
-def measure(command, path, output):
-    """Seconds of user and system time."""
-    with open(path, "rb") as standard, open(output, "wb") as out:
-        child = subprocess.Popen(command, stdin=standard, stdout=out, env={**os.environ, "LC_ALL": "C"})
-        _, status, usage = os.wait4(child.pid, 0)
-        child.returncode = os.waitstatus_to_exitcode(status)
-    if child.returncode != 0:
-        sys.exit(f"{command} ended with {child.returncode}")
-    return usage.ru_utime + usage.ru_stime
-
-
-def same(words, one, other):
-    """Whether the outputs are the same. GNU puts blanks in front of a count; here there are none."""
-    if words[:2] == ["uniq", "-c"]:
-        command = f"sed 's/^ *//' {other} | cmp -s {one} -"
-        return subprocess.run(["sh", "-c", command], check=False).returncode == 0
-    return subprocess.run(["cmp", "-s", one, other], check=False).returncode == 0
-
-
-def compare(folder, path, second, ptext, other, words):
-    """The best seconds of ptext and of the other side."""
-    ours, theirs = [], []
-    words = [{FILE: path, OTHER: second}.get(word, word) for word in words]
-    ours_out, theirs_out = os.path.join(folder, "ours"), os.path.join(folder, "theirs")
-    measure([ptext, *words], path, ours_out)
-    measure([*other, *words], path, theirs_out)
-    if not same(words, ours_out, theirs_out):
-        sys.exit(f"{words}: the outputs differ")
-    for _ in range(RUNS):
-        ours.append(measure([ptext, *words], path, os.devnull))
-        theirs.append(measure([*other, *words], path, os.devnull))
-    return min(ours), min(theirs)
-
-
 def head(path):
     """A file beside this one with its first 8 MB, or less, which end with a line if there is an end of one."""
     with open(path, "rb") as whole, open(path + ".head", "wb") as part:
         block = whole.read(COUNTED)
         part.write(block[: block.rfind(b"\n") + 1] or block)
     return part.name
-
-
-def instructions(folder, path, second, ptext, words):
-    """How many instructions of ptext run in user space for each byte of standard input."""
-    words = [{FILE: path, OTHER: second}.get(word, word) for word in words]
-    counting = ["valgrind", "--tool=callgrind", f"--callgrind-out-file={folder}/counts"]
-    with open(path, "rb") as standard:
-        ended = subprocess.run(
-            [*counting, ptext, *words], stdin=standard, stdout=subprocess.DEVNULL, stderr=subprocess.PIPE, check=True
-        )
-    collected = re.search(rb"Collected : ([0-9]+)", ended.stderr)
-    return int(collected[1]) / os.path.getsize(path)
 
 
 def runs_within(command, path, size):
@@ -260,7 +219,9 @@ def print_ratios(folder, ptext, other, names):
         for words in commands:
             ours, theirs = compare(folder, path, second, ptext, other, words)
             ratios.append(ours / theirs)
-            count = f"{instructions(folder, few[0], few[-1], ptext, words):18.1f}" if counted else ""
+            count = ""
+            if counted:
+                count = f"{instructions(folder, few[0], few[-1], ptext, words) / os.path.getsize(few[0]):18.1f}"
             print(f"{name:10} {' '.join(words)[:32]:32} {ours:8.3f} {theirs:8.3f} {ours / theirs:6.2f}{count}")
     print(f"geometric mean of the ratios: {statistics.geometric_mean(ratios):.2f}")
 
@@ -277,13 +238,18 @@ def print_spaces(folder, ptext):
 def main():
     parser = argparse.ArgumentParser(description="Ratios of ptext to the system's tools.")
     parser.add_argument("--against", metavar="OTHER", help="another build of ptext, in place of the system's tools")
+    parser.add_argument("--quick", action="store_true", help="by length: few lines, each command once")
+    parser.add_argument("--to", metavar="FOLDER", default=HERE, help="by length: where table, data and chart are written")
     parser.add_argument("ptext", help="the program")
-    parser.add_argument("names", nargs="*", help="of the inputs, all unless some are given")
+    parser.add_argument("names", nargs="*", help="of the inputs, or 'all'; none: by the length of a line")
     given = parser.parse_args()
     ptext = os.path.abspath(given.ptext)
     other = [os.path.abspath(given.against)] if given.against else []
     with tempfile.TemporaryDirectory() as folder:
-        print_ratios(folder, ptext, other, given.names or [*INPUTS, *PAIRS])
+        if not given.names:
+            lengths.run(folder, ptext, other, given.quick, given.to)
+            return
+        print_ratios(folder, ptext, other, [*INPUTS, *PAIRS] if given.names == ["all"] else given.names)
         print_spaces(folder, ptext)
 
 

@@ -25,6 +25,17 @@ install() {
     make -s -C "$top" "$@" >"$room/said" 2>&1 || cat "$room/said"
 }
 
+# fails WORDS..: what an installation says that has to fail, without what make adds
+fails() {
+    make -s -C "$top" "$@" >"$room/said" 2>&1 && echo "it did not fail"
+    grep -v '^make' "$room/said"
+}
+
+# listed FOLDER: all that is in it
+listed() {
+    (cd "$1" && find . | sort | tr '\n' ' ')
+}
+
 mkdir "$room/empty" "$room/root" "$room/used"
 install install-tools PREFIX="$room/empty" DESTDIR=
 bin=$room/empty/libexec/ptext/bin
@@ -40,7 +51,12 @@ is "cut by name" "a" "$(printf 'ab\n' | PATH=$bin:$PATH cut -c 1)"
 for page in ptext ptext-comm ptext-cut ptext-join ptext-paste ptext-tr ptext-uniq; do
     is "page $page" yes "$([ -s "$room/empty/share/man/man1/$page.1" ] && echo yes)"
 done
-is "completion" yes "$([ -s "$room/empty/share/bash-completion/completions/ptext" ] && echo yes)"
+for file in bash-completion/completions/ptext zsh/site-functions/_ptext fish/vendor_completions.d/ptext.fish; do
+    is "completion $file" yes "$([ -s "$room/empty/share/$file" ] && echo yes)"
+done
+if command -v strip >/dev/null && command -v readelf >/dev/null; then
+    is "it is stripped" "" "$(readelf -S "$room/empty/bin/ptext" | grep -F .symtab)"
+fi
 install uninstall PREFIX="$room/empty" DESTDIR=
 is "nothing is left" "" "$(ls -A "$room/empty")"
 
@@ -55,6 +71,74 @@ install install PREFIX="$room/used" DESTDIR=
 install install PREFIX="$room/used" DESTDIR=
 install uninstall PREFIX="$room/used" DESTDIR=
 is "what was there stays" ". ./bin ./share ./share/man ./share/other " "$(cd "$room/used" && find . | sort | tr '\n' ' ')"
+
+# A DESTDIR that does not begin with a slash is below the folder in which make runs.
+mkdir "$top/build/rooted"
+install install PREFIX=/usr DESTDIR=build/rooted
+is "a relative DESTDIR" yes "$([ -x "$top/build/rooted/usr/bin/ptext" ] && echo yes)"
+install uninstall PREFIX=/usr DESTDIR=build/rooted
+is "nothing is left below a relative DESTDIR" "./ " "$(listed "$top/build/rooted" | sed 's/^\. /.\/ /')"
+rmdir "$top/build/rooted"
+
+# prefix in small letters is the same.
+mkdir "$room/small"
+install install prefix="$room/small" DESTDIR=
+is "prefix in small letters" yes "$([ -x "$room/small/bin/ptext" ] && echo yes)"
+install uninstall prefix="$room/small" DESTDIR=
+is "and away again" "" "$(ls -A "$room/small")"
+
+# Others can enter what is made under a strict umask.
+mkdir "$room/strict"
+(umask 077 && install install-tools PREFIX="$room/strict" DESTDIR=)
+is "folders that others can enter" "" "$(find "$room/strict" -mindepth 1 -type d ! -perm 755)"
+is "files that others can read" "" "$(find "$room/strict" -type f ! -perm -444)"
+
+# Where something is in the way halfway, one message says it, and all is as it was before: in an empty folder, and over
+# an earlier installation.
+mkdir -p "$room/blocked/share"
+: >"$room/blocked/share/man"
+before=$(listed "$room/blocked")
+is "a file in the way" "cannot install: $room/blocked/share/man: File exists. Nothing was installed." \
+    "$(fails install PREFIX="$room/blocked" DESTDIR=)"
+is "nothing is left behind" "$before" "$(listed "$room/blocked")"
+install install PREFIX="$room/strict" DESTDIR=
+rm "$room/strict/share/man/man1/ptext.1"
+mkdir "$room/strict/share/man/man1/ptext.1"
+before=$(listed "$room/strict")
+is "a folder in the way" \
+    "cannot install: $room/strict/share/man/man1/ptext.1: there is a folder of that name. Nothing was installed." \
+    "$(fails install PREFIX="$room/strict" DESTDIR=)"
+is "the earlier installation stands" "$before" "$(listed "$room/strict")"
+rmdir "$room/strict/share/man/man1/ptext.1"
+install uninstall PREFIX="$room/strict" DESTDIR=
+is "and goes whole" "" "$(ls -A "$room/strict")"
+
+# Without rights: as nobody, where the tests run as root.
+mkdir "$room/locked"
+chmod 555 "$room/locked"
+chmod 711 "$room"
+as=
+[ "$(id -u)" = 0 ] && as='setpriv --reuid=65534 --regid=65534 --clear-groups'
+for python in python3 /usr/bin/python3; do
+    $as "$python" -c 'open("'"$top"'/build/ptext")' 2>/dev/null && break
+    python=
+done
+if [ -n "$python" ]; then
+    is "no rights" "cannot install: $room/locked/bin: Permission denied. Nothing was installed." \
+        "$($as "$python" "$top/tools/install.py" install "$room/locked" 2>&1)"
+    is "nothing is left without rights" "" "$(ls -A "$room/locked")"
+    mkdir "$room/theirs"
+    install install PREFIX="$room/theirs" DESTDIR=
+    before=$(listed "$room/theirs")
+    chmod -R a-w "$room/theirs"
+    is "no rights to take it away" \
+        "cannot uninstall: $room/theirs/bin/ptext: Permission denied. What is left is noted in $room/theirs/share/ptext/installed." \
+        "$($as "$python" "$top/tools/install.py" uninstall "$room/theirs" 2>&1)"
+    is "it stands, and its notes" "$before" "$(listed "$room/theirs")"
+    chmod -R u+w "$room/theirs"
+else
+    echo "left out: an installation without rights (nobody cannot read this folder)"
+fi
 
 [ "$bad" = 0 ] && echo "installed, run by each name, and taken away again"
 [ "$bad" = 0 ]

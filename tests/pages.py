@@ -1,6 +1,7 @@
 #!/usr/bin/env python3
 """Runs the examples of the README, the pages and the docs where they stand, lints the pages, and asks whether the options
-of the pages and of the completion are those of the program, and whether its messages stand in the pages.
+of the pages and of the completion are those of the program, whether its messages stand in the pages, whether these
+name the version, and whether docs/POSIX.md names what there is.
 
   python3 tests/pages.py PROGRAM
 
@@ -98,14 +99,30 @@ def run_all(file, program, known):
     return good, bad
 
 
+# What the lint says that is meant so: the pages name each other before they are installed, and their version in the footer.
+MEANT = re.compile(r"STYLE: (referenced manual not found|operating system explicitly specified)|^mandoc: outdated mandoc.db")
+
+
 def lint():
     """What mandoc has against the pages; nothing where there is no mandoc."""
     if not shutil.which("mandoc"):
         print("left out: the lint of the pages (there is no mandoc)")
         return ""
     pages = sorted(glob.glob(f"{TOP}/man/*.1"))
-    words = ["mandoc", "-Tlint", "-Wwarning", *pages]
-    return subprocess.run(words, stdout=subprocess.PIPE, stderr=subprocess.STDOUT, text=True, check=False).stdout
+    words = ["mandoc", "-Tlint", "-Wstyle", *pages]
+    said = subprocess.run(words, stdout=subprocess.PIPE, stderr=subprocess.STDOUT, text=True, check=False).stdout
+    return "".join(it for it in said.splitlines(keepends=True) if not MEANT.search(it))
+
+
+def other_versions():
+    """The pages and the list of changes that name another version than the file VERSION."""
+    with open(f"{TOP}/VERSION", encoding="ascii") as it:
+        version = it.read().strip()
+    found = []
+    for file, wanted in [*((it, f".Os ptext {version}\n") for it in FILES if it.endswith(".1")), ("CHANGELOG.md", f"## {version}\n")]:
+        with open(f"{TOP}/{file}", encoding="utf-8") as it:
+            found += [] if wanted in it.read() else [f"{file} does not name version {version}\n"]
+    return "".join(found)
 
 
 def letters_of_program(program, tool):
@@ -173,6 +190,28 @@ def lacking_messages():
     return "".join(f"not in the pages: {it}\n" for it in lacking)
 
 
+def lacking_names():
+    """Definitions, rows, tests and cases that docs/POSIX.md names and that are not there."""
+    with open(f"{TOP}/docs/POSIX.md", encoding="utf-8") as it:
+        text = it.read()
+    with open(f"{TOP}/tests/program.sh", encoding="utf-8") as it:
+        cases = it.read()
+
+    def holds(pattern, words):
+        texts = [open(it, encoding="utf-8").read() for it in glob.glob(f"{TOP}/crates/{pattern}")]
+        return any(re.search(words, it, re.M) for it in texts)
+
+    found = [f"{one}.{two}" for one, two in set(re.findall(r"`([A-Z]\w+)\.(\w+)`", text)) if (one, two) != ("File", "name")]
+    lacking = [it for it in found if not holds(f"*/specs/{it.split('.')[0]}.antt", rf"^(abbrev )?(pub )?(unfoldable )?(pub )?(record |data )?{it.split('.')[1]}\b")]
+    lacking += [it for it in set(re.findall(r"`(\w+Rows)`", text)) - {"FileRows"} if not glob.glob(f"{TOP}/crates/*/proofs/{it}.antt")]
+    tests = set(re.findall(r"`(pt\w+)::(\w+)::(\w+)`", text))
+    lacking += ["::".join(it) for it in tests if not holds(f"{it[0]}/src/{it[1]}.rt", rf"^fn {it[2]}\b")]
+    # Titles stand behind program.sh, up to the end of a cell or a sentence.
+    for titles in re.findall(r'program\.sh, ("[^|.;`]*")', text):
+        lacking += [it for it in re.findall(r'"([^"]*)"', titles) if f'same "{it}"' not in cases]
+    return "".join(f"docs/POSIX.md names what is not there: {it}\n" for it in sorted(lacking))
+
+
 def main():
     if len(sys.argv) != 2:
         return __doc__
@@ -181,7 +220,7 @@ def main():
         print(f"left out: the examples of {side} (the system has no such version)")
     counts = [run_all(file, os.path.abspath(sys.argv[1]), known) for file in FILES]
     good, bad = (sum(it) for it in zip(*counts))
-    found = lint() + wrong_options(os.path.abspath(sys.argv[1])) + lacking_messages()
+    found = lint() + other_versions() + wrong_options(os.path.abspath(sys.argv[1])) + lacking_messages() + lacking_names()
     print(f"{found}{good} of {good + bad} examples as wanted")
     return 1 if bad or found else 0
 

@@ -195,7 +195,10 @@ want '2 a\n1 b\n1 a\n' ''
 run runs uniq -c
 same "counts of runs" 0
 
+want '' ''
 run runs uniq -c - counts
+same "nothing on standard output where uniq writes to a file" 0
+want '2 a\n1 b\n1 a\n' ''
 cp counts out
 same "uniq writes to its output file" 0
 
@@ -219,7 +222,7 @@ same "a dash as the output is standard output" 0
 
 cp runs self
 run runs uniq self self
-cp self out
+cat self >>out
 want '' ''
 same "a file that is input and output is emptied first" 0
 

@@ -6,21 +6,47 @@
   python3 tools/install.py uninstall PREFIX [DESTDIR]   all of it, and the folders that were made for it
 
 Each file and each folder that was made is noted in share/ptext/installed. DESTDIR stands in front of every path that is
-written to, and in no file.
+written to, and in no file. Where something cannot be written, all is as it was before.
 """
+import contextlib
 import os
+import shutil
+import subprocess
 import sys
+import tempfile
 
 TOP = os.path.dirname(os.path.dirname(os.path.realpath(__file__)))
 NAMES = ["cut", "paste", "join", "comm", "uniq", "tr"]
 NOTED = "share/ptext/installed"
+# Each file that is installed, its mode, and where it comes from. (The program is stripped.)
+COMPLETION = [
+    ("share/bash-completion/completions/ptext", 0o644, "completion/ptext"),
+    ("share/zsh/site-functions/_ptext", 0o644, "completion/_ptext"),
+    ("share/fish/vendor_completions.d/ptext.fish", 0o644, "completion/ptext.fish"),
+]
+
+
+def bytes_of(file):
+    with open(file, "rb") as it:
+        return it.read()
 
 
 def lines_of(file):
-    if not os.path.exists(file):
-        return []
-    with open(file, encoding="utf-8") as it:
-        return it.read().splitlines()
+    return bytes_of(file).decode().splitlines() if os.path.exists(file) else []
+
+
+def stripped(program):
+    """The program without its symbols; as it is where there is no strip."""
+    if not shutil.which("strip"):
+        return bytes_of(program)
+    with tempfile.TemporaryDirectory() as room:
+        did = subprocess.run(["strip", "-o", f"{room}/program", program], check=False)
+        return bytes_of(program if did.returncode else f"{room}/program")
+
+
+def script(prefix, name):
+    """Runs a tool by its own name."""
+    return f'#!/bin/sh\nexec "{prefix}/bin/ptext" {name} "$@"\n'.encode()
 
 
 class Place:
@@ -28,8 +54,10 @@ class Place:
 
     def __init__(self, prefix, destdir):
         self.prefix = os.path.abspath(prefix)
-        self.root = destdir + self.prefix if destdir else self.prefix
+        self.root = os.path.abspath(destdir) + self.prefix if destdir else self.prefix
         self.noted = lines_of(f"{self.root}/{NOTED}")
+        # what to do to have all as it was before, the last first
+        self.undoing = []
 
     def note(self, path):
         name = os.path.relpath(path, self.root)
@@ -37,65 +65,102 @@ class Place:
             self.noted.append(name)
 
     def make_folder(self, folder):
+        """Makes a folder that all may enter, whatever the umask."""
         if not os.path.isdir(folder):
             self.make_folder(os.path.dirname(folder))
             os.mkdir(folder)
+            self.undoing.append(lambda: os.rmdir(folder))
+            os.chmod(folder, 0o755)
             self.note(folder)
 
     def put(self, name, mode, text):
+        """Puts a file in place once it is written whole; the one that stood there is kept until all went well."""
         path = f"{self.root}/{name}"
         self.make_folder(os.path.dirname(path))
-        if os.path.lexists(path):
-            os.remove(path)
-        with open(path, "wb") as it:
+        if os.path.isdir(path) and not os.path.islink(path):
+            raise IsADirectoryError(0, "there is a folder of that name", path)
+        new, old = f"{path}.new", f"{path}.old"
+        self.undoing.append(lambda: os.path.lexists(new) and os.remove(new))
+        with open(new, "wb") as it:
             it.write(text)
-        os.chmod(path, mode)
+        os.chmod(new, mode)
+        if os.path.lexists(path):
+            os.rename(path, old)
+            self.undoing.append(lambda: os.rename(old, path))
+        os.rename(new, path)
+        self.undoing.append(lambda: os.remove(path))
         self.note(path)
-
-    def copy(self, name, mode, source):
-        with open(f"{TOP}/{source}", "rb") as it:
-            self.put(name, mode, it.read())
 
     def keep_notes(self):
         self.make_folder(os.path.dirname(f"{self.root}/{NOTED}"))
         self.note(f"{self.root}/{NOTED}")
         self.put(NOTED, 0o644, "".join(f"{it}\n" for it in self.noted).encode())
 
+    def undo(self):
+        for step in reversed(self.undoing):
+            with contextlib.suppress(OSError):
+                step()
 
-def install(place):
-    place.copy("bin/ptext", 0o755, "build/ptext")
-    for page in sorted(os.listdir(f"{TOP}/man")):
-        place.copy(f"share/man/man1/{page}", 0o644, f"man/{page}")
-    place.copy("share/bash-completion/completions/ptext", 0o644, "completion/ptext")
-    place.keep_notes()
+    def settle(self):
+        """All went well: what stood there before goes."""
+        for name in self.noted:
+            old = f"{self.root}/{name}.old"
+            if os.path.lexists(old):
+                os.remove(old)
+
+
+def files(prefix, with_tools):
+    """What is installed: its name below the prefix, its mode, and its bytes."""
+    if with_tools:
+        return [(f"libexec/ptext/bin/{name}", 0o755, script(prefix, name)) for name in NAMES]
+    pages = [(f"share/man/man1/{page}", 0o644, f"man/{page}") for page in sorted(os.listdir(f"{TOP}/man"))]
+    program = ("bin/ptext", 0o755, stripped(f"{TOP}/build/ptext"))
+    return [program, *((name, mode, bytes_of(f"{TOP}/{source}")) for name, mode, source in [*pages, *COMPLETION])]
+
+
+def install(place, with_tools=False):
+    try:
+        for name, mode, text in files(place.prefix, with_tools):
+            place.put(name, mode, text)
+        place.keep_notes()
+    except OSError as why:
+        place.undo()
+        return f"cannot install: {why.filename}: {why.strerror}. Nothing was installed."
+    except KeyboardInterrupt:
+        place.undo()
+        return "stopped: nothing was installed."
+    place.settle()
+    return 0
 
 
 def install_tools(place):
-    for name in NAMES:
-        script = f'#!/bin/sh\nexec "{place.prefix}/bin/ptext" {name} "$@"\n'
-        place.put(f"libexec/ptext/bin/{name}", 0o755, script.encode())
-    place.keep_notes()
+    return install(place, True)
 
 
 def uninstall(place):
     """Files first, then the folders that were made, the innermost first, where nothing else has come into them."""
     paths = [os.path.normpath(f"{place.root}/{it}") for it in place.noted]
-    for path in paths:
-        if os.path.isfile(path):
-            os.remove(path)
-    for path in sorted(paths, key=len, reverse=True):
-        if os.path.isdir(path) and not os.listdir(path):
-            os.rmdir(path)
     if not paths:
         print(f"nothing is noted as installed in {place.root}")
+    # The notes go last, so that what is left is known.
+    notes = os.path.normpath(f"{place.root}/{NOTED}")
+    try:
+        for path in sorted(paths, key=lambda it: it == notes):
+            if os.path.isfile(path) or os.path.islink(path):
+                os.remove(path)
+        for path in sorted(paths, key=len, reverse=True):
+            if os.path.isdir(path) and not os.listdir(path):
+                os.rmdir(path)
+    except OSError as why:
+        return f"cannot uninstall: {why.filename}: {why.strerror}. What is left is noted in {notes}."
+    return 0
 
 
 def main():
     does = {"install": install, "tools": install_tools, "uninstall": uninstall}
     if len(sys.argv) not in (3, 4) or sys.argv[1] not in does or not sys.argv[2]:
         return __doc__
-    does[sys.argv[1]](Place(sys.argv[2], (sys.argv[3:] or [""])[0]))
-    return 0
+    return does[sys.argv[1]](Place(sys.argv[2], (sys.argv[3:] or [""])[0]))
 
 
 if __name__ == "__main__":

@@ -1,7 +1,10 @@
 //! A command over real files.
 
-ghost use Rattle.std.specs.Prelude.{◌≡◌, ◌+◌, false, length, All, IfOk, vec_len};
+ghost use Rattle.std.specs.Prelude.{◌≡◌, ◌+◌, false, length, All, IfOk, vec_len, option_map};
+ghost use Rattle.std.specs.List.{list_any};
 ghost use Rattle.ptlines.specs.Readers.{Reader};
+ghost use Rattle.ptext.specs.Outlets.{output_over, is_standard, means_standard};
+ghost use Rattle.ptopts.specs.Commands.{meaning};
 ghost use Rattle.ptopts.specs.Meant.{words_seen};
 ghost use Rattle.ptrun.specs.Asked.{count_of};
 ghost use Rattle.ptrun.specs.Worlds.{IsFresh};
@@ -17,8 +20,8 @@ use std::fs::{self, Files};
 /// the report of the run back. A file that cannot be opened is named by the run when its turn comes.
 ///
 /// The output file of `uniq` is created, or emptied, once the input was opened, and not where the input could not be
-/// opened or the words were refused; then, and where the output is no file, `out` is what the run writes to. Else `out`
-/// is handed back as it came. A file that is input and output is emptied before it is read (POSIX leaves it open).
+/// opened or the words were refused: then nothing is written. `out` is handed back as it came, unless the words mean a
+/// command whose output is no file. A file that is input and output is emptied before it is read (POSIX leaves it open).
 /// The source has neither ended nor failed, and neither sink has failed.
 pub fn perform<'a, R: Files, A: Allocator + Copy, S: Source, W: Sink, E: Sink>(
     rt: &R,
@@ -32,59 +35,108 @@ pub fn perform<'a, R: Files, A: Allocator + Copy, S: Source, W: Sink, E: Sink>(
     requires unfailed { (S.state standard).failed ≡ false }
     requires writable { (W.state out).failed ≡ false }
     requires heard { (E.state messages).failed ≡ false }
+    ensures kept { means_standard (meaning (words_seen words.now)) ≡ false → result.out ≡ out }
 {
     let command = Command::read(alloc, words);
     let Ok(mut inputs) = inputs_of(rt, alloc, &command, standard) else {
         return report_no_memory(out, messages);
     };
-    let file = match output_of(&command, &inputs) {
+    if is_to_standard(&command) {
+        let mut out = out;
+        let standard: Outlet<'_, W, FromWrite<R::File>> = Outlet::Standard(&mut out);
+        let report = without_output(run(alloc, command, words, &mut inputs, standard, messages));
+        return with_output(report, out);
+    }
+    let outlet: Outlet<'_, W, FromWrite<R::File>> = match output_of(&command, &inputs) {
         Some(name) => match fs::create(rt, name) {
-            Ok(file) => Some(FromWrite::new(file)),
+            Ok(file) => Outlet::File(FromWrite::new(file)),
             Err(_) => return report_no_output(name, out, messages),
         },
-        None => None,
+        None => Outlet::Nowhere,
     };
-    let outlet = Outlet {
-        standard: out,
-        file,
-    };
-    with_standard(run(alloc, command, words, &mut inputs, outlet, messages))
+    let report = without_output(run(alloc, command, words, &mut inputs, outlet, messages));
+    with_output(report, out)
 }
 
 // The name of the file that the command writes to, if all its inputs were opened.
 fn output_of<'a, A: Allocator, S: Source, R: Source>(
     command: &Result<Command<'a, A>, UseFault<'a>>,
     inputs: &[LineReader<S, R>],
-) -> Option<&'a str> {
+) -> Option<&'a str>
+    ensures { option_map (λ name. name.now) result ≡ output_over command.now inputs.now }
+{
     let Ok(command) = command else {
         return None;
     };
-    for input in inputs {
-        if input.is_refused() {
-            return None;
-        }
+    if is_any_refused(inputs) {
+        return None;
     }
     command.output()
 }
 
-// The same report, with standard output alone.
-fn with_standard<W: Sink, F: Sink, E: Sink>(report: Report<Outlet<W, F>, E>) -> Report<W, E>
+// Whether an input could not be opened.
+fn is_any_refused<S: Source, R: Source>(inputs: &[LineReader<S, R>]) -> bool
+    ensures { result ≡ list_any (λ r. r.refused) inputs.now }
+{
+    for input in inputs {
+        if input.is_refused() {
+            return true;
+        }
+    }
+    false
+}
+
+// Whether a command was read whose output is standard output.
+fn is_to_standard<A: Allocator>(command: &Result<Command<'_, A>, UseFault<'_>>) -> bool
+    ensures { result ≡ is_standard command.now }
+{
+    match command {
+        Ok(command) => command.output().is_none(),
+        Err(_) => false,
+    }
+}
+
+// The same report, without what was written to.
+fn without_output<O: Drop, E>(report: Report<O, E>) -> Report<(), E>
     ensures status { result.status ≡ report.status }
-    ensures out { result.out ≡ report.out.standard }
+    ensures memory { (result.peak ≡ report.peak) × (result.denied ≡ report.denied) }
     ensures messages { result.messages ≡ report.messages }
 {
     let Report {
         status,
         peak,
         denied,
-        out,
+        out: _,
         messages,
     } = report;
     Report {
         status,
         peak,
         denied,
-        out: out.standard,
+        out: (),
+        messages,
+    }
+}
+
+// The same report, with this output.
+fn with_output<W, E>(report: Report<(), E>, out: W) -> Report<W, E>
+    ensures status { result.status ≡ report.status }
+    ensures memory { (result.peak ≡ report.peak) × (result.denied ≡ report.denied) }
+    ensures out { result.out ≡ out }
+    ensures messages { result.messages ≡ report.messages }
+{
+    let Report {
+        status,
+        peak,
+        denied,
+        out: (),
+        messages,
+    } = report;
+    Report {
+        status,
+        peak,
+        denied,
+        out,
         messages,
     }
 }

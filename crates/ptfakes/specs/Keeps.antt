@@ -1,11 +1,11 @@
 -- Bytes that are put and kept.
 use Rattle.std.specs.Prelude.{◌≡◌, ℕ, ◌-◌, ◌==◌, ◌<◌, ◌≤◌, ◌||◌, Bool, true, false, List, [], ◌++◌, Some, Result, Ok, Err, length, take, min}
-use Rattle.ptlines.specs.Sinks.{SinkState}
+use Rattle.ptlines.specs.Sinks.{SinkState, waits}
 use Rattle.ptlines.specs.declared.sink.Failed.{Failed}
 use Rattle.ptfakes.specs.Calls.{count_after}
 
 -- what was taken, the most of one call and of all, how many calls pass before each later one fails, how many
--- there were, how many of them were flushes, and whether one failed
+-- there were, how many of them were flushes, whether one failed, and whether bytes were not yet flushed
 pub record Keeping : Type 0 where
   pub taken : List ℕ
   pub size : ℕ
@@ -14,6 +14,7 @@ pub record Keeping : Type 0 where
   pub calls : ℕ
   pub flushes : ℕ
   pub failed : Bool
+  pub pending : Bool
 
 -- a sink that has taken nothing
 abbrev pub new_keeping : ℕ → ℕ → ℕ → Keeping
@@ -25,18 +26,23 @@ new_keeping size room passing = record {
   calls = 0;
   flushes = 0;
   failed = false;
+  pending = false;
 }
 
 -- as a sink
 abbrev pub sink_of : Keeping → SinkState
-sink_of k = record { taken = Some k.taken; failed = k.failed }
+sink_of k = record { taken = Some k.taken; failed = k.failed; pending = k.pending }
 
 -- bytes were taken, as many as the size and the room allow; none is a failure
 pub record KeepsSome (old new : Keeping) (bytes : List ℕ) (n : ℕ) : Type 0 where
   pub passes : old.calls < old.passing
   pub count : n ≡ min (min (length bytes) old.size) (old.room - length old.taken)
-  pub is : new
-      ≡ record old { taken = old.taken ++ take n bytes; calls = count_after old.calls; failed = old.failed || (n == 0) }
+  pub is : new ≡ record old {
+    taken = old.taken ++ take n bytes;
+    calls = count_after old.calls;
+    failed = old.failed || (n == 0);
+    pending = waits old.pending (take n bytes);
+  }
 
 -- what one put does
 abbrev pub KeepsPut : Keeping → Keeping → List ℕ → Result ℕ Failed → Type 0
@@ -45,5 +51,5 @@ KeepsPut old new bytes (Err e) = new ≡ record old { calls = count_after old.ca
 
 -- what one flush does
 abbrev pub KeepsFlush : Keeping → Keeping → Result (Unit {0}) Failed → Type 0
-KeepsFlush old new (Ok u) = (old.calls < old.passing) × (new ≡ record old { calls = count_after old.calls; flushes = count_after old.flushes })
+KeepsFlush old new (Ok u) = (old.calls < old.passing) × (new ≡ record old { calls = count_after old.calls; flushes = count_after old.flushes; pending = false })
 KeepsFlush old new (Err e) = (old.passing ≤ old.calls) × (new ≡ record old { calls = count_after old.calls; flushes = count_after old.flushes; failed = true })

@@ -15,6 +15,7 @@ pub struct Fixed<const N: usize> {
     calls: Calls,
     flushes: u64,
     failed: bool,
+    pending: bool,
 }
 
 impl<const N: usize> Model for Fixed<N> {
@@ -30,6 +31,7 @@ impl<const N: usize> Model for Fixed<N> {
       calls = s.calls.made;
       flushes = s.flushes;
       failed = s.failed;
+      pending = s.pending;
     } };
 }
 
@@ -45,6 +47,7 @@ impl<const N: usize> Fixed<N> {
             calls: Calls::new(passing),
             flushes: 0,
             failed: false,
+            pending: false,
         }
     }
 
@@ -71,7 +74,7 @@ impl<const N: usize> Fixed<N> {
 }
 
 impl<const N: usize> Sink for Fixed<N> {
-    ghost use Rattle.std.specs.Prelude.{length, ◌<◌};
+    ghost use Rattle.std.specs.Prelude.{length, ◌<◌, ◌≤◌, OnErr};
     ghost use Rattle.ptlines.specs.Sinks.{Puts, Flushes};
     ghost use Rattle.ptfakes.specs.Keeps.{KeepsFlush, KeepsPut, sink_of};
 
@@ -81,6 +84,7 @@ impl<const N: usize> Sink for Fixed<N> {
         requires { 0 < length bytes.now }
         ensures put { Puts (sink_of self.old) (sink_of self.new) bytes.now result }
         ensures kept { KeepsPut self.old self.new bytes.now result }
+        ensures fails { OnErr result (self.old.passing ≤ self.old.calls) }
     {
         if !self.calls.passes() {
             self.failed = true;
@@ -90,6 +94,7 @@ impl<const N: usize> Sink for Fixed<N> {
         let count = bytes.len().min(self.size).min(room);
         let _ = self.bytes.try_extend_from_slice(&bytes[..count]);
         self.failed = self.failed || count == 0;
+        self.pending = self.pending || count > 0;
         Ok(count)
     }
 
@@ -102,6 +107,7 @@ impl<const N: usize> Sink for Fixed<N> {
             self.failed = true;
             return Err(Failed);
         }
+        self.pending = false;
         Ok(())
     }
 }

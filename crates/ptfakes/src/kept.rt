@@ -16,6 +16,7 @@ pub struct Kept<A: Allocator = Global> {
     calls: Calls,
     flushes: u64,
     failed: bool,
+    pending: bool,
 }
 
 impl<A: Allocator> Model for Kept<A> {
@@ -31,6 +32,7 @@ impl<A: Allocator> Model for Kept<A> {
       calls = s.calls.made;
       flushes = s.flushes;
       failed = s.failed;
+      pending = s.pending;
     } };
 }
 
@@ -54,6 +56,7 @@ impl<A: Allocator> Kept<A> {
             calls: Calls::new(passing),
             flushes: 0,
             failed: false,
+            pending: false,
         }
     }
 
@@ -102,6 +105,7 @@ impl<A: Allocator + Drop> Sink for Kept<A> {
             return Err(Failed);
         }
         self.failed = self.failed || count == 0;
+        self.pending = self.pending || count > 0;
         Ok(count)
     }
 
@@ -114,6 +118,7 @@ impl<A: Allocator + Drop> Sink for Kept<A> {
             self.failed = true;
             return Err(Failed);
         }
+        self.pending = false;
         Ok(())
     }
 }

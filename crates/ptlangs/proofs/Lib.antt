@@ -3,6 +3,7 @@ pub mod CutGrammar
 pub mod CutListRows
 pub mod Decimals
 pub mod DelimGrammar
+pub mod DelimJudging
 pub mod DelimListRows
 pub mod Elements
 pub mod ListGrammar
@@ -31,3 +32,4 @@ pub mod TrShifts
 pub mod TrAnswers
 pub mod TrTables
 pub mod TrPlans
+pub mod TrMemory

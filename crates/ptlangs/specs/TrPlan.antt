@@ -1,11 +1,11 @@
 -- What the strings of `tr` mean: arrays, and what is deleted, translated and squeezed.
-use Rattle.std.specs.Prelude.{◌≡◌, ◌↔◌, ℕ, zero, suc, ◌+◌, ◌-◌, ◌==◌, ◌&&◌, ◌||◌, List, [], ◌∷◌, ◌++◌, Bool, true, false, not, Option, Some, None, Result, Ok, Err, if◌then◌else◌, length, take, filter, replicate, unwrap_or, slice_get}
+use Rattle.std.specs.Prelude.{◌≡◌, ◌≢◌, ◌↔◌, ℕ, zero, suc, ◌+◌, ◌-◌, ◌==◌, ◌&&◌, ◌||◌, List, [], ◌∷◌, ◌++◌, Bool, true, false, not, Option, Some, None, Result, Ok, Err, if◌then◌else◌, length, take, filter, replicate, unwrap_or, slice_get}
 use Rattle.std.specs.List.{flat_map, list_all, list_any, last_or}
 use Rattle.std.specs.Option.{option_and_then, option_to_list}
 use Rattle.std.specs.Result.{result_map_both}
 use Rattle.ptlangs.specs.declared.classes.CharClass.{CharClass}
 use Rattle.ptlangs.specs.declared.faults.SetFaultKind.{SetFaultKind}
-use Rattle.ptlangs.specs.declared.faults.SetFaultKind.TheVariants.{Empty, UnknownClass, ClassPlace, EquivPlace, RepeatPlace, RepeatSize, SecondFill}
+use Rattle.ptlangs.specs.declared.faults.SetFaultKind.TheVariants.{Empty, UnknownClass, ClassPlace, EquivPlace, RepeatPlace, RepeatSize, SecondFill, Memory}
 use Rattle.ptlangs.specs.declared.faults.SetString.TheVariants as string
 use Rattle.ptlangs.specs.declared.faults.SetString.{SetString}
 use Rattle.ptlangs.specs.declared.faults.SetFault.{SetFault}
@@ -216,3 +216,8 @@ plan_from form complement firsts (Some text) = in_string string.Second (second_p
 -- the plan of a form, a complement or not, and the strings; else the first fault
 abbrev pub plan : Form → Bool → List ℕ → Option (List ℕ) → Result Plan SetFault
 plan form complement s1 s2 = and_then (in_string string.First (string_pieces First s1)) (λ firsts. plan_from form complement firsts s2)
+
+-- no strings are refused for want of memory
+abbrev pub NeverMemory : Type 0
+NeverMemory = (form : Form) (complement : Bool) (s1 : List ℕ) (s2 : Option (List ℕ)) (fault : SetFault)
+    → plan form complement s1 s2 ≡ Err fault → fault.kind ≢ Memory

@@ -1,6 +1,7 @@
 //! The list of `paste`: what stands between the columns of a line.
-ghost use Rattle.std.specs.Prelude.{◌≡◌, ◌<◌, [], ◌∷◌, length, Err, IfOk, MatchResult};
-ghost use Rattle.ptlangs.specs.Answers.{Gives};
+ghost use Rattle.std.specs.Prelude.{◌≡◌, ◌<◌, [], ◌∷◌, length, None, Err, IfOk, MatchResult};
+ghost use Rattle.std.specs.Result.{result_err};
+ghost use Rattle.ptlangs.specs.Answers.{Judges};
 ghost use Rattle.ptlangs.specs.DelimLists.{AcceptsTheGrammar, fault_of, escape, delims, delim_list, delim_at};
 ghost use Rattle.ptlangs.specs.Numbers.{put_first};
 
@@ -63,10 +64,12 @@ impl<A: Allocator> Delims<A> {
     ///
     /// # Errors
     ///
-    /// The fault of the first faulty element, or `Memory`.
+    /// The fault of the first faulty element. `Memory` is answered only over a list without a fault, since the whole
+    /// list is judged before memory is asked for.
     pub fn read(alloc: A, text: &[u8]) -> Result<Delims<A>, DelimFault>
-        ensures { Gives (λ d. d) fault_of result (delim_list text.now) }
+        ensures { Judges (λ d. d) fault_of result (delim_list text.now) }
     {
+        check(text)?;
         let mut kept = Vec::new(alloc);
         let mut left = text;
         loop {
@@ -106,6 +109,22 @@ impl<A: Allocator> Delims<A> {
 pub fn accepts_the_grammar()
     ensures { AcceptsTheGrammar }
 {}
+
+/// Finds the fault of a list, if it has one, and takes no memory.
+fn check(text: &[u8]) -> Result<(), DelimFault>
+    ensures { MatchResult result
+        (λ _. result_err (delim_list text.now) ≡ None)
+        (λ e. result_err (delim_list text.now) ≡ fault_of e) }
+{
+    let mut left = text;
+    loop {
+        let (_, behind) = first_delim(left)?;
+        if behind.is_empty() {
+            return Ok(());
+        }
+        left = behind;
+    }
+}
 
 /// The first delimiter of a list, and what stands behind it.
 fn first_delim(text: &[u8]) -> Result<(Option<u8>, &[u8]), DelimFault>

@@ -20,5 +20,5 @@ mod units;
 
 pub use faults::{SetFault, SetFaultKind, SetString};
 pub use parts::parts_are_of_the_grammar;
-pub use plan::{CharPlan, Form, tables_hold_the_plan};
+pub use plan::{CharPlan, Form, no_string_wants_memory, tables_hold_the_plan};
 pub use shifts::Shifts;

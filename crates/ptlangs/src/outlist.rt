@@ -1,6 +1,7 @@
 //! The output list of `join`: which fields of a pair of lines are written.
-ghost use Rattle.std.specs.Prelude.{◌≡◌};
-ghost use Rattle.ptlangs.specs.Answers.{Gives};
+ghost use Rattle.std.specs.Prelude.{◌≡◌, None, MatchResult};
+ghost use Rattle.std.specs.Result.{result_err};
+ghost use Rattle.ptlangs.specs.Answers.{Judges};
 ghost use Rattle.ptlangs.specs.OutLists.{AcceptsTheGrammar, fault_of, field_of, element, out_list, field_at};
 
 use crate::numbers::{decimal, first_element, is_decimal};
@@ -82,10 +83,12 @@ impl<A: Allocator> OutList<A> {
     ///
     /// # Errors
     ///
-    /// The fault of the first faulty element, or `Memory`.
+    /// The fault of the first faulty element. `Memory` is answered only over a list without a fault, since the whole
+    /// list is judged before memory is asked for.
     pub fn read(alloc: A, text: &[u8]) -> Result<OutList<A>, OutFault>
-        ensures { Gives (λ l. l) fault_of result (out_list text.now) }
+        ensures { Judges (λ l. l) fault_of result (out_list text.now) }
     {
+        check(text)?;
         let mut kept = Vec::new(alloc);
         let mut left = text;
         loop {
@@ -123,6 +126,23 @@ impl<A: Allocator> OutList<A> {
 pub fn accepts_the_grammar()
     ensures { AcceptsTheGrammar }
 {}
+
+/// Finds the fault of a list, if it has one, and takes no memory.
+fn check(text: &[u8]) -> Result<(), OutFault>
+    ensures { MatchResult result
+        (λ _. result_err (out_list text.now) ≡ None)
+        (λ e. result_err (out_list text.now) ≡ fault_of e) }
+{
+    let mut left = text;
+    loop {
+        let (element, behind) = first_element(left);
+        read_element(element)?;
+        let Some(behind) = behind else {
+            return Ok(());
+        };
+        left = behind;
+    }
+}
 
 /// The field that one element stands for.
 fn read_element(text: &[u8]) -> Result<OutField, OutFault>

@@ -4,7 +4,7 @@ ghost use Rattle.std.specs.Result.{result_map_both};
 ghost use Rattle.ptlangs.specs.declared.faults.SetFault.{SetFault};
 ghost use Rattle.ptlangs.specs.declared.faults.SetFaultKind.{SetFaultKind};
 ghost use Rattle.ptlangs.specs.declared.pieces.Piece.{Piece};
-ghost use Rattle.ptlangs.specs.TrPlan.{array, collected, first_array, pieces_of, plan, plan_of, second_plan, may_pair as pairs, class_places, second_place, string_pieces, takes_second};
+ghost use Rattle.ptlangs.specs.TrPlan.{array, collected, first_array, pieces_of, plan, plan_of, second_plan, may_pair as pairs, NeverMemory, class_places, second_place, string_pieces, takes_second};
 ghost use Rattle.ptlangs.specs.TrTables.{tables, deletes, image, squeezes, HoldPlan};
 ghost use Rattle.ptlangs.specs.TrShifts.{stretches, Move};
 ghost use Rattle.ptlangs.specs.TrReading.{SecondHas, ok_map, places_of, second_array};
@@ -295,4 +295,10 @@ impl CharPlan {
 /// defines it.
 pub fn tables_hold_the_plan()
     ensures { HoldPlan }
+{}
+
+/// Nothing at run time: its contract says that no strings are refused for want of memory, so that [`CharPlan::read`]
+/// never answers `SetFaultKind::Memory`.
+pub fn no_string_wants_memory()
+    ensures { NeverMemory }
 {}

@@ -1,6 +1,7 @@
 //! The list of `cut`: which bytes, characters or fields of a line are selected.
-ghost use Rattle.std.specs.Prelude.{◌≡◌, ◌≤◌, ◌<◌, IfOk, IsTrue, MatchResult};
-ghost use Rattle.ptlangs.specs.Answers.{Gives};
+ghost use Rattle.std.specs.Prelude.{◌≡◌, ◌≤◌, ◌<◌, None, IfOk, IsTrue, MatchResult};
+ghost use Rattle.std.specs.Result.{result_err};
+ghost use Rattle.ptlangs.specs.Answers.{Gives, Judges};
 ghost use Rattle.ptlangs.specs.CutLists.{AcceptsTheGrammar, fault_of, is_end, value_or, ends, checked, element, cut_list, is_selected, selection, AreApart, AreInOrder};
 ghost use Rattle.ptlangs.specs.Numbers.{greatest};
 
@@ -79,10 +80,12 @@ impl<A: Allocator + Copy> Ranges<A> {
     ///
     /// # Errors
     ///
-    /// The fault of the first faulty element, or `Memory`.
+    /// The fault of the first faulty element. `Memory` is answered only over a list without a fault, since the whole
+    /// list is judged before memory is asked for.
     pub fn read(alloc: A, text: &[u8]) -> Result<Ranges<A>, ListFault>
-        ensures { Gives is_selected fault_of result (selection text.now) }
+        ensures { Judges is_selected fault_of result (selection text.now) }
     {
+        check(text)?;
         let mut listed = read_elements(alloc, text)?;
         listed.sort_unstable_by_key(|interval| interval.first);
         let kept = merge(alloc, listed.as_slice())?;
@@ -113,6 +116,23 @@ impl<A: Allocator> Ranges<A> {
 pub fn accepts_the_grammar()
     ensures { AcceptsTheGrammar }
 {}
+
+/// Finds the fault of a list, if it has one, and takes no memory.
+fn check(text: &[u8]) -> Result<(), ListFault>
+    ensures { MatchResult result
+        (λ _. result_err (cut_list text.now) ≡ None)
+        (λ e. result_err (cut_list text.now) ≡ fault_of e) }
+{
+    let mut left = text;
+    loop {
+        let (element, behind) = first_element(left);
+        read_element(element)?;
+        let Some(behind) = behind else {
+            return Ok(());
+        };
+        left = behind;
+    }
+}
 
 /// The intervals of the list's elements, in their order.
 fn read_elements<A: Allocator>(alloc: A, text: &[u8]) -> Result<Vec<Interval, A>, ListFault>

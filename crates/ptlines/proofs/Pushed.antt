@@ -5,7 +5,7 @@ use Rattle.std.proofs.lemmas.Bool.{false≢true}
 use Rattle.std.proofs.lemmas.List.{append-nil}
 use Rattle.ptlines.specs.declared.out.WriteFault.{WriteFault}
 use Rattle.std.specs.Io.KnownBytes.{append_known}
-use Rattle.ptlines.specs.Outputs.{Output, text, Extends, Wrote, Breaks}
+use Rattle.ptlines.specs.Outputs.{Output, text, with_staged, with_sent, with_passed, Extends, Wrote, Breaks}
 use Rattle.ptlines.proofs.Known.{append_known-append, append_known-nil}
 
 pub extends_same : (known : Option (List ℕ)) → Extends known known
@@ -59,7 +59,7 @@ wrote_trans a b c xs ys clean p q =
     }
 
 -- the bytes were staged
-pub wrote_staged : (old new : Output) (bytes : List ℕ) → old.faulted ≡ false → length old.staged + length bytes ≤ 8192 → new ≡ record old { staged = old.staged ++ bytes } → Wrote old new bytes
+pub wrote_staged : (old new : Output) (bytes : List ℕ) → old.faulted ≡ false → length old.staged + length bytes ≤ 8192 → new ≡ with_staged old bytes → Wrote old new bytes
 wrote_staged old new bytes clean room is = subst (λ o. Wrote old o bytes) (sym is) (record {
   kept = extends_same old.taken;
   beginning = subst (λ t. Extends t (append_known (text old) bytes)) (append_known-append old.taken old.staged bytes) (extends_same (append_known (text old) bytes));
@@ -69,7 +69,7 @@ wrote_staged old new bytes clean room is = subst (λ o. Wrote old o bytes) (sym 
 })
 
 -- what was staged was sent
-pub wrote_sent : (old new : Output) → old.faulted ≡ false → new ≡ record { taken = text old; staged = []; faulted = false } → Wrote old new []
+pub wrote_sent : (old new : Output) → old.faulted ≡ false → new ≡ with_sent old → Wrote old new []
 wrote_sent old new clean is = subst (λ o. Wrote old o []) (sym is) (record {
   kept = extends_by old.taken old.staged;
   beginning = extends_same (append_known (text old) []);
@@ -79,7 +79,7 @@ wrote_sent old new clean is = subst (λ o. Wrote old o []) (sym is) (record {
 })
 
 -- the bytes were sent past the empty block
-pub wrote_direct : (old new : Output) (bytes : List ℕ) → old.faulted ≡ false → old.staged ≡ [] → new ≡ record old { taken = append_known old.taken bytes } → Wrote old new bytes
+pub wrote_direct : (old new : Output) (bytes : List ℕ) → old.faulted ≡ false → old.staged ≡ [] → new ≡ with_passed old bytes → Wrote old new bytes
 wrote_direct old new bytes clean empty is =
     let text_old : text old ≡ old.taken = ap (λ s. append_known old.taken s) empty ∙ append_known-nil old.taken in
     let text_new : append_known (append_known old.taken bytes) old.staged ≡ append_known (text old) bytes =
@@ -111,10 +111,20 @@ wrote_broken old new sent bytes more clean is b =
     }
 
 -- past the empty block, all of the bytes or some
-pub wrote_past_block : (old new : Output) (bytes : List ℕ) (r : Result (Unit {0}) WriteFault) → old.faulted ≡ false → old.staged ≡ [] → OnOk r (new ≡ record old { taken = append_known old.taken bytes }) → OnErr r (Breaks old new bytes) → Wrote old new bytes
+pub wrote_past_block : (old new : Output) (bytes : List ℕ) (r : Result (Unit {0}) WriteFault) → old.faulted ≡ false → old.staged ≡ [] → OnOk r (new ≡ with_passed old bytes) → OnErr r (Breaks old new bytes) → Wrote old new bytes
 wrote_past_block old new bytes (Ok u) clean empty ok err = wrote_direct old new bytes clean empty ok
 wrote_past_block old new bytes (Err e) clean empty ok err = wrote_broken old new bytes bytes [] clean (ap (λ s. s ++ bytes) empty ∙ sym (append-nil bytes)) err
 
-pub wrote_flushed : (old new : Output) (r : Result (Unit {0}) WriteFault) → old.faulted ≡ false → old.staged ≡ [] → OnOk r (new ≡ old) → OnErr r (Breaks old new []) → Wrote old new []
-wrote_flushed old new (Ok u) clean empty ok err = subst (λ o. Wrote old o []) (sym ok) (wrote_nothing old)
+-- all that the sink has taken was flushed
+wrote_settled : (old : Output) → old.faulted ≡ false → Wrote old (record old { pending = false }) []
+wrote_settled old clean = record {
+  kept = extends_same old.taken;
+  beginning = extends_by (text old) [];
+  whole = λ _. sym (append_known-nil (text old));
+  stays = λ fault. absurd (false≢true (sym clean ∙ fault));
+  staged = omega arith;
+}
+
+pub wrote_flushed : (old new : Output) (r : Result (Unit {0}) WriteFault) → old.faulted ≡ false → old.staged ≡ [] → OnOk r (new ≡ record old { pending = false }) → OnErr r (Breaks old new []) → Wrote old new []
+wrote_flushed old new (Ok u) clean empty ok err = subst (λ o. Wrote old o []) (sym ok) (wrote_settled old clean)
 wrote_flushed old new (Err e) clean empty ok err = wrote_broken old new [] [] [] clean (ap (λ s. s ++ []) empty) err

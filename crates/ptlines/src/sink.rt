@@ -7,7 +7,8 @@ pub struct Failed;
 
 /// What bytes are written to, as a file or a pipe.
 pub trait Sink: Drop {
-    /// The bytes that were taken, where the sink tells them, and whether it has failed.
+    /// The bytes that were taken, where the sink tells them, whether it has failed, and whether something that it has
+    /// taken was not yet flushed.
     ghost state: { Self → SinkState };
 
     /// Takes some of the bytes, which are not empty, from the first on. The answer is how many they are;
@@ -17,7 +18,7 @@ pub trait Sink: Drop {
         requires unfailed { (state self.old).failed ≡ false }
         ensures { Puts (state self.old) (state self.new) bytes.now result };
 
-    /// Sends on what was taken. A sink that has failed is not called again.
+    /// Sends on all that was taken, so that nothing of it waits any more. A sink that has failed is not called again.
     fn flush(&mut self) -> Result<(), Failed>
         requires { (state self.old).failed ≡ false }
         ensures { Flushes (state self.old) (state self.new) result };

@@ -62,12 +62,14 @@ impl<R: Read + Drop> Source for FromRead<R> {
     }
 }
 
-/// A writer of std as a sink. It keeps whether the writer has failed. As a sink it tells no bytes;
+/// A writer of std as a sink. It keeps whether the writer has failed, and whether something was written and not yet
+/// flushed. As a sink it tells no bytes;
 /// the contract of `put` passes on what std tells of the bytes that the writer holds.
 #[derive(Drop)]
 pub struct FromWrite<W: Write> {
     writer: W,
     failed: bool,
+    pending: bool,
 }
 
 impl<W: Write> Model for FromWrite<W> {
@@ -75,17 +77,18 @@ impl<W: Write> Model for FromWrite<W> {
 
     ghost Value = { SinkState };
 
-    ghost view = { λ s. record { taken = W.contents s.writer; failed = s.failed } };
+    ghost view = { λ s. record { taken = W.contents s.writer; failed = s.failed; pending = s.pending } };
 }
 
 impl<W: Write> FromWrite<W> {
-    /// A sink that has not failed.
+    /// A sink that has not failed, and of which nothing waits for a flush.
     pub fn new(writer: W) -> Self
-        ensures { result ≡ record { taken = W.contents writer; failed = false } }
+        ensures { result ≡ record { taken = W.contents writer; failed = false; pending = false } }
     {
         FromWrite {
             writer,
             failed: false,
+            pending: false,
         }
     }
 }
@@ -107,6 +110,8 @@ impl<W: Write + Drop> Sink for FromWrite<W> {
             Ok(count) => {
                 if count == 0 {
                     self.failed = true;
+                } else {
+                    self.pending = true;
                 }
                 Ok(count)
             }
@@ -123,7 +128,10 @@ impl<W: Write + Drop> Sink for FromWrite<W> {
         ensures bytes { Keeps self.old.taken self.new.taken }
     {
         match self.writer.flush() {
-            Ok(()) => Ok(()),
+            Ok(()) => {
+                self.pending = false;
+                Ok(())
+            }
             Err(_) => {
                 self.failed = true;
                 Err(Failed)

@@ -33,7 +33,7 @@ use Rattle.ptmerge.proofs.Passing.{Merging, passes}
 use Rattle.ptmerge.proofs.Slotted.{Keeps, has_lines_total, keeps_line}
 use Rattle.ptmerge.proofs.Splitting.{all_keys}
 use Rattle.ptmerge.proofs.Standing.{Next, passed}
-use Rattle.ptmerge.proofs.Stopping.{Concludes, Gone, gone_passed, gone_standing, stops}
+use Rattle.ptmerge.proofs.Stopping.{Concludes, FitsIn, Gone, gone_passed, gone_standing, stops}
 use Rattle.ptmerge.proofs.Turning.{BothStand, ahead, all_ended, alone, breaks, merging_on, next_at, pass_one, passed_at, sides_on, stops_at}
 
 -- where `comm` stands between two turns
@@ -146,8 +146,10 @@ module _ (job : Comm) (cmp : Cmp) (key : Side → Key) (o : IsKeyOrder cmp) (old
 
   -- no input is longer than the inputs that agree
   pub bounded : (store after : Slots) (s : Side) (place : Sorted) (ls all : Side → Lines) (piece : List ℕ) → HasSlots s place → Keeps old.store store (λ side. longest (ls side)) → ((side : Side) → longest (ls side) ≤ longest (all side)) → length piece ≤ longest (all s)
-      → (with_line store place.previous piece).peak ≤ max old.store.peak (2 * longest (all First) + 2 * longest (all Second))
-  bounded store after s place ls all piece slots k up fits = (keeps_line old.store store (with_line store place.previous piece) s place (λ side. longest (ls side)) (λ side. longest (all side)) piece slots k up fits refl).peak
+      → FitsIn (comm_by job cmp key) old.store (with_line store place.previous piece) all
+  bounded store after s place ls all piece slots k up fits =
+      let kept = keeps_line old.store store (with_line store place.previous piece) s place (λ side. longest (ls side)) (λ side. longest (all side)) piece slots k up fits refl in
+      (kept.peak, omega (arith, kept.slots))
 
   module _ (now : State) (place : Side → Sorted) (ls p : Side → Lines) (b : Side → Bound) (sides : BothStand (comm_by job cmp key) old.reader now.reader place now.store ls p b) (keeps : Keeps old.store now.store (λ side. longest (ls side)))
       (slots : (side : Side) → HasSlots side (place side)) where
@@ -176,7 +178,7 @@ module _ (job : Comm) (cmp : Cmp) (key : Side → Key) (o : IsKeyOrder cmp) (old
     pub unwritten : (q : Side → Lines) (new : Output) → Merging (comm_by job cmp key) b q old.out new → ((side : Side) → GoneBy side (q side)) → new.faulted ≡ true → Done (record { reader = now.reader; out = new; store = now.store }) (Err Write)
     unwritten q new m g fault =
         stops (comm_by job cmp key) o old (record { reader = now.reader; out = new; store = now.store }) now.reader (λ side. []) ls q b g m (Err Write) (record { faulted = fault; failed = went; denied = keeps.denied })
-        (λ side fail. absurd (false≢true (sym (went side ∙ unfailed side) ∙ fail))) tt (λ all w. omega (arith, keeps.peak, (w First).1, (w Second).1))
+        (λ side fail. absurd (false≢true (sym (went side ∙ unfailed side) ∙ fail))) tt (λ all w. (omega (arith, keeps.peak, (w First).1, (w Second).1), omega (arith, keeps.slots)))
 
     -- the next line of an input could not be read
     pub unread : (s : Side) → (place s).stand ≡ Head → (q : Side → Lines) (out : Output) → out.faulted ≡ false → Merging (comm_by job cmp key) b q old.out out → q s ≡ ls s → GoneBy (other s) (q (other s)) → (new : Reader) (after : Slots) (fault : MergeFault)
@@ -331,7 +333,7 @@ module _ (job : Comm) (cmp : Cmp) (key : Side → Key) (o : IsKeyOrder cmp) (old
       concludes result ends at =
           stops (comm_by job cmp key) o old (record { reader = now.reader; out = now.out; store = after }) now.reader (λ side. []) r.ls r.p r.b stand r.merging result ends
           (λ side fail. absurd (false≢true (sym (went now place r.ls r.p r.b r.sides r.keeps slots side ∙ unfailed side) ∙ fail))) at
-          (λ all w. omega (arith, clear.peak, (has_lines_total now.store.lines (λ side. longest (r.ls side)) 0 r.keeps.lines).1, r.keeps.peak, (w First).1, (w Second).1))
+          (λ all w. (omega (arith, clear.peak, (has_lines_total now.store.lines (λ side. longest (r.ls side)) 0 r.keeps.lines).1, r.keeps.peak, (w First).1, (w Second).1), omega (arith, clear.slots, r.keeps.slots)))
 
       pub ended : ((side : Side) → IsSound (old.reader side)) → ((side : Side) → (old.reader side).fault ≡ None) → ((side : Side) → (place side).stand ≡ Ended) → IsMerge (comm_by job cmp key) old (record { reader = now.reader; out = now.out; store = after }) (Ok tt)
       ended sound readable step =

@@ -1,6 +1,8 @@
 -- The slots of a group of lines.
-use Rattle.std.proofs.Common.{◌≡◌, ◌⊎◌, inl, inr, ℕ, ◌+◌, ◌-◌, ◌≤◌, ◌<◌, true, length-drop, List, [], ◌∷◌, ◌++◌, length, map, take, drop, get_or, set, refl, sym, ap, ◌∙◌, subst, arith}
+use Rattle.std.proofs.Common.{◌≡◌, ◌⊎◌, inl, inr, ℕ, ◌+◌, ◌-◌, ◌≤◌, ◌<◌, Bool, true, false, length-drop, List, [], ◌∷◌, ◌++◌, length, map, take, drop, get_or, set, max, refl, sym, ap, ◌∙◌, subst, arith}
 use Rattle.std.proofs.lemmas.List.{append-nil, length-set, length-take-le, drop_more, get_or-take, get_or-drop, drop-set-add, take_more, length_push, drop_all}
+use Rattle.std.specs.Prelude.{nat_lt}
+use Rattle.std.proofs.lemmas.Bool.{ltb-false, ltb-true}
 use Rattle.std.proofs.lemmas.List.Sums.{sum_by_push}
 use Rattle.ptlines.specs.Slots.{Slots, line, total, with_line, with_added, with_denied}
 use Rattle.ptlines.specs.Text.{text}
@@ -93,8 +95,20 @@ clears_more a s t slot from within c is = subst (λ u. IsGroupCleared a u (slot 
 added_total : (s : Slots) → total (s.lines ++ [] ∷ []) ≡ total s.lines
 added_total s = omega (arith, sum_by_push length s.lines [])
 
-pub refused_copy : (before made : Slots) (to : ℕ) → IsGrown before made to → IsRefused before (with_denied (with_line made to []))
-refused_copy before made to g = record { denied = refl; slots = omega (arith, length-set made.lines to [], (facts g.grown).0); peak = omega (arith, (facts g.grown).1, (facts g.grown).2, total_set made.lines to [] g.within) }
+-- how many slots there are where one was made
+pub grown_slots : (before made : Slots) (slot : ℕ) → IsGrown before made slot → (length before.lines ≤ length made.lines) × (length made.lines ≤ max (length before.lines) (slot + 1))
+grown_slots before made slot g = by g.grown (nat_lt slot (length before.lines)) refl
+  where
+    by : (made ≡ before) ⊎ (made ≡ with_added before) → (b : Bool) → nat_lt slot (length before.lines) ≡ b → (length before.lines ≤ length made.lines) × (length made.lines ≤ max (length before.lines) (slot + 1))
+    by (inl e) b is = let same = ap (λ (s : Slots). length s.lines) e in (omega (arith, same), omega (arith, same))
+    by (inr e) true is = let same = ap (λ (s : Slots). length s.lines) (g.there (ltb-true slot (length before.lines) is)) in (omega (arith, same), omega (arith, same))
+    by (inr e) false is =
+        let more = ap (λ (s : Slots). length s.lines) e ∙ length_push before.lines [] in
+        let past = ltb-false slot (length before.lines) is in
+        (omega (arith, more), omega (arith, more, past))
+
+pub refused_copy : (before made : Slots) (to : ℕ) → IsGrown before made to → IsRefused before (with_denied (with_line made to [])) to
+refused_copy before made to g = record { denied = refl; most = omega (arith, length-set made.lines to [], grown_slots before made to g); slots = omega (arith, length-set made.lines to [], (facts g.grown).0); peak = omega (arith, (facts g.grown).1, (facts g.grown).2, total_set made.lines to [] g.within) }
   where
     facts : (made ≡ before) ⊎ (made ≡ with_added before) → (length before.lines ≤ length made.lines) × (total made.lines ≡ total before.lines) × (made.peak ≡ before.peak)
     facts (inl e) = (omega (arith, ap (λ (s : Slots). length s.lines) e), ap (λ (s : Slots). total s.lines) e, ap (λ (s : Slots). s.peak) e)

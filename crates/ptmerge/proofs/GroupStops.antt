@@ -25,7 +25,7 @@ use Rattle.ptmerge.proofs.Least.{EachKey, EachKey-append, EachKey-weaker}
 use Rattle.ptmerge.proofs.Orders.{IsKeyOrder, AtMost, at_most_trans, self_at_most}
 use Rattle.ptmerge.proofs.Passing.{Merging, down_decided, follows, not_below, not_decided}
 use Rattle.ptmerge.proofs.Splitting.{all_keys, all_wanted, down_begins, none_wanted, passed_is_wanted}
-use Rattle.ptmerge.proofs.Stopping.{Gone}
+use Rattle.ptmerge.proofs.Stopping.{FitsIn, Gone}
 
 -- what goes before k goes before all that may come, if k does
 pub under_down : (cmp : Cmp) (o : IsKeyOrder cmp) (b : Bound) (x k : List ℕ) → AtMost cmp x k → Under cmp b k → Under cmp b x
@@ -112,8 +112,8 @@ module _ (tool : Tool) (o : IsKeyOrder tool.cmp) (old new : State) (now : Side �
   input_lines input a side = got_lines tool.end (old.reader side) (now side) (new.reader side) (ls side) (piece side) (gone side).got (gone side).reads (gone side).line (input side) (a side)
 
   pub halts : (fault : MergeFault) → Ends old new (Err fault) → ((side : Side) → (new.reader side).failed ≡ true → FailsIn tool.cmp (tool.key side) k (new.reader side) (ls side)) → ((input : Side → List ℕ) (pushed : List ℕ) → IsWhole tool input pushed (Err fault))
-      → ((all : Side → Lines) → ((side : Side) → More (now side) (ls side) (all side) × (max (longest (ls side)) (length (piece side)) ≤ longest (all side))) → new.store.peak ≤ max old.store.peak (tool.size all)) → IsMerge tool old new (Err fault)
-  halts fault ends failed whole peak = record {
+      → ((all : Side → Lines) → ((side : Side) → More (now side) (ls side) (all side) × (max (longest (ls side)) (length (piece side)) ≤ longest (all side))) → FitsIn tool old.store new.store all) → IsMerge tool old new (Err fault)
+  halts fault ends failed whole fits = record {
     given = given;
     came = λ side. came_of (old.reader side) (new.reader side) ((gone side).got.given ++ piece side) (reads_trans (old.reader side) (now side) (new.reader side) (gone side).got.given (piece side) (gone side).got.goes.reads (gone side).reads);
     pushed = text tool.end (by_keys tool all_keys p ++ extra);
@@ -127,6 +127,7 @@ module _ (tool : Tool) (o : IsKeyOrder tool.cmp) (old new : State) (now : Side �
         let f = failed side fail in
         let exact = (known side).exact f.held f.ended in
         sure_is (λ s. whole_lines tool.end (given s)) (λ s. (known s).known) (λ s. (new.reader s).ended) side f.ended (ap (fall tool.cmp (tool.key side)) exact ∙ f.rises) (ap (λ (l : Lines). last_or None (map (tool.key side) l)) exact ∙ f.last);
-    peak = λ input a. peak (lines_of tool input) (input_lines input a);
+    peak = λ input a. (fits (lines_of tool input) (input_lines input a)).0;
+    slots = λ input a. (fits (lines_of tool input) (input_lines input a)).1;
     whole = λ input a. whole input (text tool.end (by_keys tool all_keys p ++ extra));
   }

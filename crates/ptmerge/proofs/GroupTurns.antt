@@ -17,7 +17,7 @@ use Rattle.ptmerge.specs.declared.order.Side.TheVariants.{First, Second}
 use Rattle.ptmerge.specs.declared.sorted.Sorted.{Sorted}
 use Rattle.ptmerge.specs.declared.sorted.Stand.{Stand}
 use Rattle.ptmerge.specs.declared.sorted.Stand.TheVariants.{Head, Ended, Disorder}
-use Rattle.ptmerge.specs.Join.{largest_group}
+use Rattle.ptmerge.specs.Join.{largest_group, most_lines}
 use Rattle.ptmerge.specs.Keyed.{Lines, Tool, by_keys, fall, with_key}
 use Rattle.ptmerge.specs.Merges.{State, IsMerge}
 use Rattle.ptmerge.specs.Orders.{Cmp, Key}
@@ -33,7 +33,7 @@ use Rattle.ptmerge.proofs.Pairs.{put_same}
 use Rattle.ptmerge.proofs.Passing.{Merging}
 use Rattle.ptmerge.proofs.Splitting.{all_keys, splits_step}
 use Rattle.ptmerge.proofs.Standing.{Passed, Stands}
-use Rattle.ptmerge.proofs.Stopping.{Gone, gone_passed, gone_standing}
+use Rattle.ptmerge.proofs.Stopping.{FitsIn, Gone, gone_passed, gone_standing}
 use Rattle.ptmerge.proofs.Turning.{BothStand, IsAbove, IsLineByLine, passed_at}
 
 -- what is written of a key that both inputs have: its pairs
@@ -43,6 +43,7 @@ pub record IsPairing (tool : Tool) (pairs : List ℕ → Lines → Lines → Lin
   pub more : (k : List ℕ) (f g c : Lines) → pairs k (f ++ g) c ≡ pairs k f c ++ pairs k g c
   pub whole : (k a b : List ℕ) (f g : Lines) → tool.entries k (a ∷ f) (b ∷ g) ≡ pairs k (a ∷ f) (b ∷ g)
   pub size : (ls : Side → Lines) → tool.size ls ≡ (2 * longest (ls First) + 2 * longest (ls Second)) + largest_group (tool.key Second) (ls Second)
+  pub slots : (ls : Side → Lines) → tool.slots ls ≡ 4 + most_lines (tool.key Second) (ls Second)
 
 last_push : (key : Key) (d : Option (List ℕ)) (q : Lines) (x : List ℕ) → last_or d (map key (q ++ x ∷ [])) ≡ Some (key x)
 last_push key d [] x = refl
@@ -194,7 +195,7 @@ module _ (tool : Tool) (o : IsKeyOrder tool.cmp) (pairs : List ℕ → Lines →
       -- the next line could not be read, where what was pushed is a beginning of the group's entries
       module _ (now_g : Side → Lines) (own : (side : Side) → EachKey (λ z. z ≡ k) (tool.key side) (now_g side)) (mine : now_g s ≡ g s ++ line now.store (place s).standing ∷ []) (others : now_g (other s) ≡ g (other s))
           (out : Output) (clean : out.faulted ≡ false) (extra : Lines) (wrote : Wrote q.mid out (text tool.end extra)) (begins : StartsWith tool now_g q.d k extra) (made : Slots) (denied : made.denied ≡ false)
-          (peak : (piece : List ℕ) (all : Side → Lines) → ((side : Side) → More (now.reader side) (q.ls side) (all side) × (max (longest (q.ls side)) (length (put s piece (λ t. []) side)) ≤ longest (all side))) → (with_line made (place s).previous piece).peak ≤ max old.store.peak (tool.size all)) where
+          (fits : (piece : List ℕ) (all : Side → Lines) → ((side : Side) → More (now.reader side) (q.ls side) (all side) × (max (longest (q.ls side)) (length (put s piece (λ t. []) side)) ≤ longest (all side))) → FitsIn tool old.store (with_line made (place s).previous piece) all) where
         gone_of : (t : Side) (new : Reader) (piece : List ℕ) → Gone tool.end tool.cmp (tool.key t) (old.reader t) (now.reader t) new piece (q.ls t) (q.p t ++ now_g t) (q.d t)
             → Gone tool.end tool.cmp (tool.key (other t)) (old.reader (other t)) (now.reader (other t)) (now.reader (other t)) [] (q.ls (other t)) (q.p (other t) ++ now_g (other t)) (q.d (other t))
             → (side : Side) → Gone tool.end tool.cmp (tool.key side) (old.reader side) (now.reader side) (put t new now.reader side) (put t piece (λ u. []) side) (q.ls side) (q.p side ++ now_g side) (q.d side)
@@ -232,7 +233,7 @@ module _ (tool : Tool) (o : IsKeyOrder tool.cmp) (pairs : List ℕ → Lines →
               others = by s (went (other s));
               clean = clean;
               denied = ap (λ (t : Slots). t.denied) e.stored ∙ denied;
-            }) (failed e.cause) (λ input pushed. tt) (subst (λ (t : Slots). (all : Side → Lines) → ((side : Side) → More (now.reader side) (q.ls side) (all side) × (max (longest (q.ls side)) (length (put s e.piece (λ u. []) side)) ≤ longest (all side))) → t.peak ≤ max old.store.peak (tool.size all)) (sym e.stored) (peak e.piece)))
+            }) (failed e.cause) (λ input pushed. tt) (subst (λ (t : Slots). (all : Side → Lines) → ((side : Side) → More (now.reader side) (q.ls side) (all side) × (max (longest (q.ls side)) (length (put s e.piece (λ u. []) side)) ≤ longest (all side))) → FitsIn tool old.store t all) (sym e.stored) (fits e.piece)))
           where
             by : (t : Side) → (now.reader (other t)).failed ≡ (old.reader (other t)).failed → (put t new now.reader (other t)).failed ≡ (old.reader (other t)).failed
             by First a = a
@@ -254,5 +255,5 @@ module _ (tool : Tool) (o : IsKeyOrder tool.cmp) (pairs : List ℕ → Lines →
         group_breaks new after Memory e =
             halts tool o old (record { reader = put s new now.reader; out = out; store = after }) now.reader (put s e.piece (λ u. [])) q.mid q.ls q.p now_g q.d k extra (gone_is new e.piece e.faults.reads e.faults.whole) (within_more now_g own) wrote begins Memory
             (record { denied = ap (λ (t : Slots). t.denied) e.stored; failed = stays new e.failed; clean = clean }) (λ side. not_failed side (put s new now.reader side) (stays new e.failed side)) (λ input pushed. tt)
-            (subst (λ (t : Slots). (all : Side → Lines) → ((side : Side) → More (now.reader side) (q.ls side) (all side) × (max (longest (q.ls side)) (length (put s e.piece (λ u. []) side)) ≤ longest (all side))) → t.peak ≤ max old.store.peak (tool.size all)) (sym e.stored) (peak e.piece))
+            (subst (λ (t : Slots). (all : Side → Lines) → ((side : Side) → More (now.reader side) (q.ls side) (all side) × (max (longest (q.ls side)) (length (put s e.piece (λ u. []) side)) ≤ longest (all side))) → FitsIn tool old.store t all) (sym e.stored) (fits e.piece))
         group_breaks new after (faults.Disorder file number) moves = absurd moves

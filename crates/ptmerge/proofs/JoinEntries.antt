@@ -74,7 +74,7 @@ module _ (job : Join) (cmp : Cmp) (key : Side → Key) where
   }
 
   pub join_pairs : IsPairing (join_by job cmp key) (pairs_of job)
-  join_pairs = record { alone = line_by_line; none = λ k g. pairs_none job k g; more = λ k f g c. pairs_more job k f g c; whole = λ k a b f g. refl; size = λ ls. refl }
+  join_pairs = record { alone = line_by_line; none = λ k g. pairs_none job k g; more = λ k f g c. pairs_more job k f g c; whole = λ k a b f g. refl; size = λ ls. refl; slots = λ ls. refl }
 
   -- what is written of a line of one input alone
   pub written_alone : (s : Side) (x : List ℕ) → key s x ≡ join_key job s x → by_keys (join_by job cmp key) all_keys (alone s x) ≡ alone_entry job s x

@@ -25,6 +25,10 @@ is_sure_of job f ended1 g ended2 = decided (join_tool job) (both (record { bytes
 abbrev holds : List ℕ → List ℕ → ℕ
 holds f g = let tool = join_tool default_join in tool.size (both (lines 10 f) (lines 10 g))
 
+-- how many slots it uses at most
+abbrev slots_for : List ℕ → List ℕ → ℕ
+slots_for f g = let tool = join_tool default_join in tool.slots (both (lines 10 f) (lines 10 g))
+
 -- ---- fields
 
 blanks_in_a_row : fields None (codes " \ta  bc\t") ≡ codes "a" ∷ codes "bc" ∷ []
@@ -118,3 +122,6 @@ a_group_that_may_go_on = refl
 
 largest_group_counts : holds (codes "a 1\n") (codes "a xy\na z\nb 12345\n") ≡ 2 * 3 + 2 * 7 + 7
 largest_group_counts = refl
+
+most_lines_count : slots_for (codes "a 1\na 2\na 3\n") (codes "a xy\na z\nb 12345\n") ≡ 4 + 2
+most_lines_count = refl

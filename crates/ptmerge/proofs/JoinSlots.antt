@@ -10,42 +10,67 @@ use Rattle.ptlines.specs.Text.{longest}
 use Rattle.ptmerge.specs.declared.order.Side.{Side}
 use Rattle.ptmerge.specs.declared.order.Side.TheVariants.{First, Second}
 use Rattle.ptmerge.specs.declared.sorted.Sorted.{Sorted}
-use Rattle.ptmerge.specs.Groups.{IsGroupCleared, IsKept, group}
-use Rattle.ptmerge.specs.Join.{largest_group, largest_of}
+use Rattle.ptmerge.specs.Groups.{IsGroupCleared, IsGrown, IsKept, group}
+use Rattle.ptmerge.specs.Join.{greatest_of, largest_group, most_lines}
 use Rattle.ptmerge.specs.Keyed.{Lines, with_key}
 use Rattle.ptmerge.specs.Orders.{Key}
 use Rattle.ptmerge.specs.Places.{HasSlots}
+use Rattle.ptmerge.proofs.GroupSlots.{grown_slots}
 use Rattle.ptmerge.proofs.Least.{EachKey}
 use Rattle.ptmerge.proofs.Slotted.{HasLines, Keeps, has_lines_total, line_other, set_line}
 
 -- ---- the largest group
 
-with_key-own : (key : Key) (k : List ℕ) (g c : Lines) → EachKey (λ x. x ≡ k) key g → total g ≤ total (with_key key (g ++ c) k)
-with_key-own key k [] c e = omega arith
-with_key-own key k (x ∷ g) c e = rw ((bytes_decides (key x) k).1 e.0) (omega (arith, sum_by-cons length x g, sum_by-cons length x (with_key key (g ++ c) k), with_key-own key k g c e.1))
+-- a measure of lines that more lines do not make less
+record IsMeasure (m : Lines → ℕ) : Type 0 where
+  none : m [] ≡ 0
+  grows : (x : List ℕ) (xs : Lines) → m xs ≤ m (x ∷ xs)
+  both_grow : (x : List ℕ) (xs ys : Lines) → m xs ≤ m ys → m (x ∷ xs) ≤ m (x ∷ ys)
 
-with_key-behind : (key : Key) (k : List ℕ) (p r : Lines) → total (with_key key r k) ≤ total (with_key key (p ++ r) k)
-with_key-behind key k [] r = omega arith
-with_key-behind key k (x ∷ p) r = by (bytes_eq (key x) k) (with_key-behind key k p r)
-  where
-    by : (t : Bool) → total (with_key key r k) ≤ total (with_key key (p ++ r) k) → total (with_key key r k) ≤ total (cond t (x ∷ with_key key (p ++ r) k) (with_key key (p ++ r) k))
-    by true h = omega (arith, h, sum_by-cons length x (with_key key (p ++ r) k))
-    by false h = h
+by_bytes : IsMeasure total
+by_bytes = record {
+  none = refl;
+  grows = λ x xs. omega (arith, sum_by-cons length x xs);
+  both_grow = λ x xs ys h. omega (arith, h, sum_by-cons length x xs, sum_by-cons length x ys);
+}
 
-largest_has : (key : Key) (ls p : Lines) (y : List ℕ) (w : Lines) → total (with_key key ls (key y)) ≤ largest_of key ls (p ++ y ∷ w)
-largest_has key ls [] y w = omega arith
-largest_has key ls (x ∷ p) y w = omega (arith, largest_has key ls p y w)
+by_lines : IsMeasure length
+by_lines = record { none = refl; grows = λ x xs. omega arith; both_grow = λ x xs ys h. omega (arith, h) }
 
--- lines of one key are no more than the largest group
-pub group_in : (key : Key) (k : List ℕ) (p g : Lines) (y : List ℕ) (w : Lines) → EachKey (λ x. x ≡ k) key (g ++ y ∷ []) → key y ≡ k → total (g ++ y ∷ []) ≤ largest_group key (((p ++ g) ++ y ∷ []) ++ w)
-group_in key k p g y w own is =
-    let ls = ((p ++ g) ++ y ∷ []) ++ w in
-    let split : ls ≡ p ++ ((g ++ y ∷ []) ++ w) = ap (λ (l : Lines). l ++ w) (append_assoc p g (y ∷ [])) ∙ append_assoc p (g ++ y ∷ []) w in
-    let at : ls ≡ (p ++ g) ++ y ∷ w = append_assoc (p ++ g) (y ∷ []) w in
-    let in_group : total (g ++ y ∷ []) ≤ total (with_key key ls k) =
-    subst (λ (l : Lines). total (g ++ y ∷ []) ≤ total (with_key key l k)) (sym split) (omega (arith, with_key-own key k (g ++ y ∷ []) w own, with_key-behind key k p ((g ++ y ∷ []) ++ w))) in
-    let largest : total (with_key key ls (key y)) ≤ largest_of key ls ls = subst (λ (l : Lines). total (with_key key ls (key y)) ≤ largest_of key ls l) (sym at) (largest_has key ls (p ++ g) y w) in
-    omega (arith, in_group, largest, ap (λ (z : List ℕ). total (with_key key ls z)) is)
+module _ (m : Lines → ℕ) (laws : IsMeasure m) (key : Key) where
+  with_key-own : (k : List ℕ) (g c : Lines) → EachKey (λ x. x ≡ k) key g → m g ≤ m (with_key key (g ++ c) k)
+  with_key-own k [] c e = omega (arith, laws.none)
+  with_key-own k (x ∷ g) c e = rw ((bytes_decides (key x) k).1 e.0) (laws.both_grow x g (with_key key (g ++ c) k) (with_key-own k g c e.1))
+
+  with_key-behind : (k : List ℕ) (p r : Lines) → m (with_key key r k) ≤ m (with_key key (p ++ r) k)
+  with_key-behind k [] r = omega arith
+  with_key-behind k (x ∷ p) r = by (bytes_eq (key x) k) (with_key-behind k p r)
+    where
+      by : (t : Bool) → m (with_key key r k) ≤ m (with_key key (p ++ r) k) → m (with_key key r k) ≤ m (cond t (x ∷ with_key key (p ++ r) k) (with_key key (p ++ r) k))
+      by true h = omega (arith, h, laws.grows x (with_key key (p ++ r) k))
+      by false h = h
+
+  greatest_has : (ls p : Lines) (y : List ℕ) (w : Lines) → m (with_key key ls (key y)) ≤ greatest_of m key ls (p ++ y ∷ w)
+  greatest_has ls [] y w = omega arith
+  greatest_has ls (x ∷ p) y w = omega (arith, greatest_has ls p y w)
+
+  -- lines of one key measure no more than the greatest group
+  measure_in : (k : List ℕ) (p g : Lines) (y : List ℕ) (w : Lines) → EachKey (λ x. x ≡ k) key (g ++ y ∷ []) → key y ≡ k → m (g ++ y ∷ []) ≤ greatest_of m key (((p ++ g) ++ y ∷ []) ++ w) (((p ++ g) ++ y ∷ []) ++ w)
+  measure_in k p g y w own is =
+      let ls = ((p ++ g) ++ y ∷ []) ++ w in
+      let split : ls ≡ p ++ ((g ++ y ∷ []) ++ w) = ap (λ (l : Lines). l ++ w) (append_assoc p g (y ∷ [])) ∙ append_assoc p (g ++ y ∷ []) w in
+      let at : ls ≡ (p ++ g) ++ y ∷ w = append_assoc (p ++ g) (y ∷ []) w in
+      let in_group : m (g ++ y ∷ []) ≤ m (with_key key ls k) =
+      subst (λ (l : Lines). m (g ++ y ∷ []) ≤ m (with_key key l k)) (sym split) (omega (arith, with_key-own k (g ++ y ∷ []) w own, with_key-behind k p ((g ++ y ∷ []) ++ w))) in
+      let greatest : m (with_key key ls (key y)) ≤ greatest_of m key ls ls = subst (λ (l : Lines). m (with_key key ls (key y)) ≤ greatest_of m key ls l) (sym at) (greatest_has ls (p ++ g) y w) in
+      omega (arith, in_group, greatest, ap (λ (z : List ℕ). m (with_key key ls z)) is)
+
+-- these lines are no more, in bytes and in number, than those of some key
+abbrev pub InGroup : Key → Lines → Lines → Type 0
+InGroup key g ls = (total g ≤ largest_group key ls) × (length g ≤ most_lines key ls)
+
+pub group_in : (key : Key) (k : List ℕ) (p g : Lines) (y : List ℕ) (w : Lines) → EachKey (λ x. x ≡ k) key (g ++ y ∷ []) → key y ≡ k → InGroup key (g ++ y ∷ []) (((p ++ g) ++ y ∷ []) ++ w)
+group_in key k p g y w own is = (measure_in total by_bytes key k p g y w own is, measure_in length by_lines key k p g y w own is)
 
 -- ---- what the slots hold
 
@@ -79,6 +104,9 @@ pub record Keeping (key : Key) (before store : Slots) (ls : Side → Lines) (g :
   pub fits : total g ≤ most
   pub peak : store.peak ≤ max before.peak (2 * longest (ls First) + 2 * longest (ls Second) + most)
   pub largest : (w : Lines) → most ≤ largest_group key (ls Second ++ w)
+  pub count : ℕ
+  pub counted : (w : Lines) → count ≤ most_lines key (ls Second ++ w)
+  pub slots : length store.lines ≤ max (length before.lines) (4 + count)
   pub least : length before.lines ≤ length store.lines
   pub four : 4 ≤ length store.lines
   pub denied : store.denied ≡ false
@@ -93,6 +121,9 @@ keeping_starts key before store ls k = record {
   fits = omega arith;
   peak = omega (arith, k.peak);
   largest = λ w. omega arith;
+  count = 0;
+  counted = λ w. omega arith;
+  slots = omega (arith, k.slots);
   least = omega (arith, k.slots);
   four = omega (arith, k.slots);
   denied = k.denied;
@@ -110,6 +141,9 @@ keeping_line key before store after s place ls now g x slots low k up fit more g
   fits = k.fits;
   peak = omega (arith, k.peak, k.fits, up First, up Second, (has_lines_total (set store.lines place.previous x) (λ side. longest (now side)) (total g) inside).1);
   largest = λ w. subst (λ (l : Lines). k.most ≤ largest_group key l) (sym (ap (λ (l : Lines). l ++ w) goes_on ∙ append_assoc (ls Second) more w)) (k.largest (more ++ w));
+  count = k.count;
+  counted = λ w. subst (λ (l : Lines). k.count ≤ most_lines key l) (sym (ap (λ (l : Lines). l ++ w) goes_on ∙ append_assoc (ls Second) more w)) (k.counted (more ++ w));
+  slots = omega (arith, k.slots, length-set store.lines place.previous x);
   least = omega (arith, k.least, length-set store.lines place.previous x);
   four = omega (arith, k.four, length-set store.lines place.previous x);
   denied = k.denied;
@@ -119,12 +153,12 @@ keeping_line key before store after s place ls now g x slots low k up fit more g
     inside = set_line s place store.lines (λ side. longest (ls side)) (λ side. longest (now side)) (total g) x slots k.lines up fit
 
 -- where the slots were made that were missing
-record Grown (store made : Slots) (g : Lines) : Type 0 where
+record Grown (store made : Slots) (g : Lines) (to : ℕ) : Type 0 where
   tail : Lines
   split : drop 4 made.lines ≡ g ++ tail
   empty : total tail ≡ 0
   same : (i : ℕ) → i < 4 → line made i ≡ line store i
-  least : length store.lines ≤ length made.lines
+  slots : (length store.lines ≤ length made.lines) × (length made.lines ≤ max (length store.lines) (to + 1))
   peak : made.peak ≡ store.peak
   denied : made.denied ≡ store.denied
 
@@ -144,20 +178,23 @@ take_front [] t = refl
 take_front (x ∷ g) t = ap (λ (l : Lines). x ∷ l) (take_front g t)
 
 module _ (key : Key) (before store : Slots) (ls : Side → Lines) (g : Lines) (k : Keeping key before store ls g) where
-  grown : (made : Slots) → (made ≡ store) ⊎ (made ≡ with_added store) → Grown store made g
-  grown made (inl e) = subst (λ t. Grown store t g) (sym e) (record { tail = k.tail; split = k.split; empty = k.empty; same = λ i low. refl; least = omega arith; peak = refl; denied = refl })
-  grown made (inr e) = subst (λ t. Grown store t g) (sym e) (record {
-    tail = k.tail ++ [] ∷ [];
-    split = drop_push store.lines [] k.four ∙ ap (λ (l : Lines). l ++ [] ∷ []) k.split ∙ append_assoc g k.tail ([] ∷ []);
-    empty = omega (arith, sum_by_push length k.tail [], k.empty);
-    same = λ i low. get_or-append store.lines ([] ∷ []) [] i (omega (arith, k.four));
-    least = omega (arith, length_push store.lines []);
-    peak = refl;
-    denied = refl;
-  })
+  grown : (made : Slots) (to : ℕ) → IsGrown store made to → Grown store made g to
+  grown made to made_so = by made (grown_slots store made to made_so) made_so.grown
+    where
+      by : (t : Slots) → (length store.lines ≤ length t.lines) × (length t.lines ≤ max (length store.lines) (to + 1)) → (t ≡ store) ⊎ (t ≡ with_added store) → Grown store t g to
+      by t slots (inl e) = record { tail = k.tail; split = ap (λ (s : Slots). drop 4 s.lines) e ∙ k.split; empty = k.empty; same = λ i low. ap (λ (s : Slots). line s i) e; slots = slots; peak = ap (λ (s : Slots). s.peak) e; denied = ap (λ (s : Slots). s.denied) e }
+      by t slots (inr e) = record {
+        tail = k.tail ++ [] ∷ [];
+        split = ap (λ (s : Slots). drop 4 s.lines) e ∙ drop_push store.lines [] k.four ∙ ap (λ (l : Lines). l ++ [] ∷ []) k.split ∙ append_assoc g k.tail ([] ∷ []);
+        empty = omega (arith, sum_by_push length k.tail [], k.empty);
+        same = λ i low. ap (λ (s : Slots). line s i) e ∙ get_or-append store.lines ([] ∷ []) [] i (omega (arith, k.four));
+        slots = slots;
+        peak = ap (λ (s : Slots). s.peak) e;
+        denied = ap (λ (s : Slots). s.denied) e;
+      }
 
   -- a line is kept behind the group
-  module _ (made : Slots) (to : ℕ) (y : List ℕ) (at : to ≡ 4 + length g) (w : Grown store made g) (within : to < length made.lines) (largest : (l : Lines) → total (g ++ y ∷ []) ≤ largest_group key (ls Second ++ l)) where
+  module _ (made : Slots) (to : ℕ) (y : List ℕ) (at : to ≡ 4 + length g) (w : Grown store made g to) (within : to < length made.lines) (largest : (l : Lines) → InGroup key (g ++ y ∷ []) (ls Second ++ l)) where
     abbrev after : Slots
     after = with_line made to y
 
@@ -176,7 +213,7 @@ module _ (key : Key) (before store : Slots) (ls : Side → Lines) (g : Lines) (k
         let split : drop 4 (set made.lines to y) ≡ (g ++ y ∷ []) ++ t = is ∙ set_behind g z y t in
         let empty : total t ≡ 0 = omega (arith, none, sum_by-cons length z t) in
         let sum : total (drop 4 (set made.lines to y)) ≡ total (g ++ y ∷ []) = omega (arith, ap total split, sum_by-append length (g ++ y ∷ []) t, empty) in
-        let four : 4 ≤ length (set made.lines to y) = omega (arith, k.four, w.least, length-set made.lines to y) in
+        let four : 4 ≤ length (set made.lines to y) = omega (arith, k.four, w.slots, length-set made.lines to y) in
         let inside = same_lines store.lines (set made.lines to y) (λ side. longest (ls side)) (total g) (total (g ++ y ∷ [])) k.lines four first_same sum in
         record {
           tail = t;
@@ -187,7 +224,10 @@ module _ (key : Key) (before store : Slots) (ls : Side → Lines) (g : Lines) (k
           fits = omega arith;
           peak = omega (arith, k.peak, w.peak, (has_lines_total (set made.lines to y) (λ side. longest (ls side)) (total (g ++ y ∷ [])) inside).1);
           largest = λ l. omega (arith, k.largest l, largest l);
-          least = omega (arith, k.least, w.least, length-set made.lines to y);
+          count = max k.count (length (g ++ y ∷ []));
+          counted = λ l. omega (arith, k.counted l, largest l);
+          slots = omega (arith, at, k.slots, w.slots, length-set made.lines to y, length_push g y);
+          least = omega (arith, k.least, w.slots, length-set made.lines to y);
           four = four;
           denied = w.denied ∙ k.denied;
         }
@@ -197,9 +237,9 @@ module _ (key : Key) (before store : Slots) (ls : Side → Lines) (g : Lines) (k
     pub keeping : Keeping key before after ls (g ++ y ∷ [])
     pub same : (i : ℕ) → i < 4 → line after i ≡ line store i
 
-  pub keeping_kept : (after : Slots) (from to : ℕ) (y : List ℕ) → to ≡ 4 + length g → from < 4 → IsKept store after from to → line store from ≡ y → ((l : Lines) → total (g ++ y ∷ []) ≤ largest_group key (ls Second ++ l)) → Kept after y
+  pub keeping_kept : (after : Slots) (from to : ℕ) (y : List ℕ) → to ≡ 4 + length g → from < 4 → IsKept store after from to → line store from ≡ y → ((l : Lines) → InGroup key (g ++ y ∷ []) (ls Second ++ l)) → Kept after y
   keeping_kept after from to y at low e is largest =
-      let w = grown e.made e.grown.grown in
+      let w = grown e.made to e.grown in
       let copied : after ≡ with_line e.made to y = e.copied ∙ ap (λ (l : List ℕ). with_line e.made to l) (w.same from low ∙ is) in
       subst (λ t. Kept t y) (sym copied) (record { keeping = by_tail e.made to y at w e.grown.within largest w.tail w.empty (room e.made to y at w e.grown.within largest) (dropped e.made to y at w e.grown.within largest); same = first_same e.made to y at w e.grown.within largest })
 
@@ -219,6 +259,9 @@ module _ (key : Key) (before store : Slots) (ls : Side → Lines) (g : Lines) (k
         fits = omega arith;
         peak = omega (arith, c.peak, k.peak, k.fits, (has_lines_total store.lines (λ side. longest (ls side)) (total g) k.lines).1);
         largest = k.largest;
+        count = k.count;
+        counted = k.counted;
+        slots = omega (arith, k.slots, c.slots);
         least = omega (arith, k.least, c.slots);
         four = four;
         denied = c.denied ∙ k.denied;

@@ -21,7 +21,7 @@ use Rattle.ptmerge.specs.declared.sorted.Sorted.{Sorted}
 use Rattle.ptmerge.specs.declared.sorted.Stand.{Stand}
 use Rattle.ptmerge.specs.declared.sorted.Stand.TheVariants.{Head, Ended, Disorder}
 use Rattle.ptmerge.specs.Groups.{Gathered, Gathers, IsGroupCleared, IsKept, is_head}
-use Rattle.ptmerge.specs.Join.{largest_group}
+use Rattle.ptmerge.specs.Join.{largest_group, most_lines}
 use Rattle.ptmerge.specs.Keyed.{Lines, Tool, by_keys}
 use Rattle.ptmerge.specs.LinePasses.{PassesLine}
 use Rattle.ptmerge.specs.Merges.{State, Ends, IsMerge}
@@ -35,7 +35,7 @@ use Rattle.ptmerge.proofs.CommTurns.{Running, breaks_slots, same_reader}
 use Rattle.ptmerge.proofs.Got.{reads_nothing}
 use Rattle.ptmerge.proofs.GroupStops.{halts}
 use Rattle.ptmerge.proofs.GroupTurns.{Grouped, IsPairing, closes, group_breaks, own_more, passing, past_group, standing, starts}
-use Rattle.ptmerge.proofs.JoinSlots.{Keeping, Kept, end_within, group_in, keeping_cleared, keeping_kept, keeping_line, keeping_starts}
+use Rattle.ptmerge.proofs.JoinSlots.{InGroup, Keeping, Kept, end_within, group_in, keeping_cleared, keeping_kept, keeping_line, keeping_starts}
 use Rattle.ptmerge.proofs.Least.{EachKey}
 use Rattle.ptmerge.proofs.Orders.{IsKeyOrder, AtMost, self_at_most}
 use Rattle.ptmerge.proofs.Pairs.{put_each, put_other, put_same}
@@ -43,7 +43,7 @@ use Rattle.ptmerge.proofs.Passing.{Merging}
 use Rattle.ptmerge.proofs.Slotted.{has_lines_total, line_other}
 use Rattle.ptmerge.proofs.Splitting.{all_keys}
 use Rattle.ptmerge.proofs.Standing.{Sided, sided_keeps}
-use Rattle.ptmerge.proofs.Stopping.{Concludes, Gone, gone_passed, gone_standing, stops}
+use Rattle.ptmerge.proofs.Stopping.{Concludes, FitsIn, Gone, gone_passed, gone_standing, stops}
 use Rattle.ptmerge.proofs.Turning.{BothStand, IsAbove, ahead, all_ended, alone, breaks, merging_on, next_at, own_slots, pass_one, passed_at, sides_on, stops_at}
 
 -- ---- what `has_key_of` says
@@ -117,22 +117,31 @@ module _ (tool : Tool) (o : IsKeyOrder tool.cmp) (pairs : List ℕ → Lines →
   pub starts_between : (now : State) (place : Side → Sorted) → Running tool old now place → Between now place
   starts_between now place r = record { ls = r.ls; p = r.p; b = r.b; sides = r.sides; merging = r.merging; keeps = keeping_starts (tool.key Second) old.store now.store r.ls r.keeps }
 
-  -- the inputs that go on with these lines have this measure
+  -- the inputs that go on with these lines have these measures
   size_of : (store : Slots) (ls : Side → Lines) (g : Lines) (h : Keeping (tool.key Second) old.store store ls g) (all : Side → Lines) → ((side : Side) → longest (ls side) ≤ longest (all side)) → (more : Lines) → all Second ≡ ls Second ++ more
-      → 2 * longest (ls First) + 2 * longest (ls Second) + h.most ≤ tool.size all
+      → (2 * longest (ls First) + 2 * longest (ls Second) + h.most ≤ tool.size all) × (4 + h.count ≤ tool.slots all)
   size_of store ls g h all up more is =
       let large : h.most ≤ largest_group (tool.key Second) (all Second) = subst (λ (l : Lines). h.most ≤ largest_group (tool.key Second) l) (sym is) (h.largest more) in
-      omega (arith, large, laws.size all, up First, up Second)
+      let many : h.count ≤ most_lines (tool.key Second) (all Second) = subst (λ (l : Lines). h.count ≤ most_lines (tool.key Second) l) (sym is) (h.counted more) in
+      (omega (arith, large, laws.size all, up First, up Second), omega (arith, many, laws.slots all))
 
   held : (store : Slots) (ls : Side → Lines) (g : Lines) (h : Keeping (tool.key Second) old.store store ls g) → total store.lines ≤ 2 * longest (ls First) + 2 * longest (ls Second) + h.most
   held store ls g h = omega (arith, (has_lines_total store.lines (λ side. longest (ls side)) (total g) h.lines).1, h.fits)
 
   -- a piece of one more line is no more than the measure
   peak_line : (store : Slots) (s : Side) (place : Sorted) (ls all : Side → Lines) (g : Lines) (piece : List ℕ) → HasSlots s place → Keeping (tool.key Second) old.store store ls g → ((side : Side) → longest (ls side) ≤ longest (all side)) → length piece ≤ longest (all s)
-      → (more : Lines) → all Second ≡ ls Second ++ more → (with_line store place.previous piece).peak ≤ max old.store.peak (tool.size all)
+      → (more : Lines) → all Second ≡ ls Second ++ more → FitsIn tool old.store (with_line store place.previous piece) all
   peak_line store s place ls all g piece slots h up fit more is =
       let k = keeping_line (tool.key Second) old.store store (with_line store place.previous piece) s place ls all g piece slots (low_slot s place slots).1 h up fit more is refl in
-      omega (arith, k.peak, size_of (with_line store place.previous piece) all g k all (λ side. omega arith) [] (sym (append-nil (all Second))))
+      let size = size_of (with_line store place.previous piece) all g k all (λ side. omega arith) [] (sym (append-nil (all Second))) in
+      (omega (arith, k.peak, size.0), omega (arith, k.slots, size.1))
+
+  -- a store that holds no more, and has no more slots
+  fits_kept : (store after : Slots) (ls : Side → Lines) (g : Lines) (h : Keeping (tool.key Second) old.store store ls g) (all : Side → Lines) → after.peak ≤ max store.peak (total store.lines) → length after.lines ≡ length store.lines → ((side : Side) → longest (ls side) ≤ longest (all side)) → (more : Lines) → all Second ≡ ls Second ++ more
+      → FitsIn tool old.store after all
+  fits_kept store after ls g h all peak same up more is =
+      let size = size_of store ls g h all up more is in
+      (omega (arith, peak, held store ls g h, h.peak, size.0), omega (arith, same, h.slots, size.1))
 
   -- ---- between groups
 
@@ -182,7 +191,7 @@ module _ (tool : Tool) (o : IsKeyOrder tool.cmp) (pairs : List ℕ → Lines →
           (put_each (λ side (l : Lines). Gone tool.end tool.cmp (tool.key side) (old.reader side) (now.reader side) (now.reader side) [] (r.ls side) l (r.b side)) s (r.ls s) r.p (passing_one (now.reader s) [] (reads_nothing (now.reader s)) tt) stand)
           merging_alone (Err Write) (record { faulted = fault; failed = went; denied = r.keeps.denied })
           (λ side fail. absurd (false≢true (sym (went side ∙ unfailed side) ∙ fail))) tt
-          (λ all w. omega (arith, r.keeps.peak, size_of now.store r.ls [] r.keeps all (λ side. omega (arith, (w side).1)) (w Second).0.more (w Second).0.is))
+          (λ all w. fits_kept now.store now.store r.ls [] r.keeps all (omega arith) refl (λ side. omega (arith, (w side).1)) (w Second).0.more (w Second).0.is)
 
       alone_unread : new.faulted ≡ false → (reader : Reader) (after : Slots) (fault : MergeFault) → CannotRead s (place s) (now.reader s) reader now.store after fault → IsMerge tool old (record { reader = put s reader now.reader; out = new; store = after }) (Err fault)
       alone_unread fine reader after fault moves =
@@ -248,7 +257,7 @@ module _ (tool : Tool) (o : IsKeyOrder tool.cmp) (pairs : List ℕ → Lines →
       concludes result ends at =
           stops tool o old (record { reader = now.reader; out = now.out; store = after }) now.reader (λ side. []) r.ls r.p r.b stand r.merging result ends
           (λ side fail. absurd (false≢true (sym (went side ∙ unfailed side) ∙ fail))) at
-          (λ all w. omega (arith, clear.peak, held now.store r.ls [] r.keeps, r.keeps.peak, size_of now.store r.ls [] r.keeps all (λ side. omega (arith, (w side).1)) (w Second).0.more (w Second).0.is))
+          (λ all w. fits_kept now.store after r.ls [] r.keeps all clear.peak clear.slots (λ side. omega (arith, (w side).1)) (w Second).0.more (w Second).0.is)
 
       pub ended : ((side : Side) → IsSound (old.reader side)) → ((side : Side) → (old.reader side).fault ≡ None) → ((side : Side) → (place side).stand ≡ Ended) → IsMerge tool old (record { reader = now.reader; out = now.out; store = after }) (Ok tt)
       ended sound readable step =
@@ -294,10 +303,13 @@ module _ (tool : Tool) (o : IsKeyOrder tool.cmp) (pairs : List ℕ → Lines →
     all_second : r.q.ls Second ≡ (r.q.p Second ++ r.g) ++ line now.store (place Second).standing ∷ []
     all_second = (passed_at tool o old.reader now.reader place now.store r.q.ls (λ side. r.q.p side ++ both [] r.g side) r.q.d r.q.sides slots r.q.keeps.four Second r.head2).all
 
+    in_group : (l : Lines) → InGroup (tool.key Second) (r.g ++ line now.store (place Second).standing ∷ []) (r.q.ls Second ++ l)
+    in_group l = subst (λ (z : Lines). InGroup (tool.key Second) (r.g ++ line now.store (place Second).standing ∷ []) (z ++ l)) (sym all_second) (group_in (tool.key Second) r.k (r.q.p Second) r.g (line now.store (place Second).standing) l (own_now Second) r.key2)
+
     kept_of : (made : Slots) → IsKept now.store made (place Second).standing end → Kept (tool.key Second) old.store now.store r.q.ls r.g r.q.keeps made (line now.store (place Second).standing)
     kept_of made e =
         keeping_kept (tool.key Second) old.store now.store r.q.ls r.g r.q.keeps made (place Second).standing end (line now.store (place Second).standing) r.q.at (low_slot Second (place Second) (slots Second)).0 e refl
-        (λ l. subst (λ (z : Lines). total (r.g ++ line now.store (place Second).standing ∷ []) ≤ largest_group (tool.key Second) (z ++ l)) (sym all_second) (group_in (tool.key Second) r.k (r.q.p Second) r.g (line now.store (place Second).standing) l (own_now Second) r.key2))
+        in_group
 
     -- nothing was pushed of the group
     wrote_none : Wrote r.q.mid now.out (text tool.end [])
@@ -358,7 +370,10 @@ module _ (tool : Tool) (o : IsKeyOrder tool.cmp) (pairs : List ℕ → Lines →
         (subst (λ (f : Side → Reader). IsMerge tool old (record { reader = f; out = now.out; store = after }) (Err Memory)) (same_reader Second reader now.reader e.unread)
         (halts tool o old (record { reader = now.reader; out = now.out; store = after }) now.reader (λ side. []) r.q.mid r.q.ls r.q.p (both [] r.g) r.q.d r.k [] (standing tool o pairs laws old unfailed now place end r.k (both [] r.g) r.q slots) r.q.within wrote_none (λ w l c wanted. (by_keys tool w (λ side. both [] r.g side ++ l side), refl)) Memory
         (record { denied = e.refused.denied; failed = went_in; clean = clean }) (λ side fail. absurd (false≢true (sym (went_in side ∙ unfailed side) ∙ fail))) (λ input pushed. tt)
-        (λ all w. omega (arith, e.refused.peak, held now.store r.q.ls r.g r.q.keeps, r.q.keeps.peak, size_of now.store r.q.ls r.g r.q.keeps all (λ side. omega (arith, (w side).1)) (w Second).0.more (w Second).0.is))))
+        (λ all w.
+        let size = size_of now.store r.q.ls r.g r.q.keeps all (λ side. omega (arith, (w side).1)) (w Second).0.more (w Second).0.is in
+        let many : length (r.g ++ line now.store (place Second).standing ∷ []) ≤ most_lines (tool.key Second) (all Second) = subst (λ (l : Lines). length (r.g ++ line now.store (place Second).standing ∷ []) ≤ most_lines (tool.key Second) l) (sym (w Second).0.is) (in_group (w Second).0.more).1 in
+        (omega (arith, e.refused.peak, held now.store r.q.ls r.g r.q.keeps, r.q.keeps.peak, size.0), omega (arith, e.refused.most, r.q.at, r.q.keeps.slots, size.1, many, laws.slots all, length_push r.g (line now.store (place Second).standing))))))
     not_gathered reader next after fault (inr e) =
         let kept = kept_of e.made e.kept in
         group_breaks tool o pairs laws old unfailed now place end r.k (both [] r.g) r.q slots Second r.head2 r.key2 (both [] (r.g ++ line now.store (place Second).standing ∷ [])) own_now refl refl now.out clean [] wrote_none
@@ -428,7 +443,7 @@ module _ (tool : Tool) (o : IsKeyOrder tool.cmp) (pairs : List ℕ → Lines →
           | Second ↦ standing tool o pairs laws old unfailed now place end r.k r.g r.q slots Second
         ]) (record { merging = r.q.within.merging; clean = r.q.within.clean; own = own_pair; beyond = r.q.within.beyond; under = r.q.within.under }) wrote_more (starts tool o pairs laws r.k now_g own_pair r.q.d r.q.within.beyond (inr (r.some, r.above))) Write
         (record { faulted = e.1.faulted; failed = went_pair; denied = r.q.keeps.denied }) (λ side fail. absurd (false≢true (sym (went_pair side ∙ unfailed side) ∙ fail))) (λ input pushed. tt)
-        (λ all w. omega (arith, r.q.keeps.peak, size_of now.store r.q.ls (r.g Second) r.q.keeps all (λ side. omega (arith, (w side).1)) (w Second).0.more (w Second).0.is)))))
+        (λ all w. fits_kept now.store now.store r.q.ls (r.g Second) r.q.keeps all (omega arith) refl (λ side. omega (arith, (w side).1)) (w Second).0.more (w Second).0.is))))
     pair_stops reader next after fault (inr e) =
         group_breaks tool o pairs laws old unfailed now place end r.k r.g r.q slots First r.head1 r.key1 now_g own_pair refl refl new e.0 (pairs r.k (r.g First ++ line now.store (place First).standing ∷ []) (r.g Second)) wrote_more
         (starts tool o pairs laws r.k now_g own_pair r.q.d r.q.within.beyond (inr (r.some, r.above))) now.store r.q.keeps.denied

@@ -22,6 +22,7 @@ pub mod PartsByKey
 pub mod PartsInOrder
 pub mod PartsLaws
 pub mod PartsOfKeys
+pub mod PartsRows
 pub mod Slotted
 pub mod Splitting
 pub mod Standing

@@ -4,7 +4,7 @@ use Rattle.std.specs.Prelude.{bytes_eq}
 use Rattle.std.specs.Cmp.{IsTotalOrder}
 use Rattle.std.specs.declared.cmp.Ordering.{Ordering}
 use Rattle.std.specs.declared.cmp.Ordering.TheVariants.{Less, Equal, Greater}
-use Rattle.std.specs.Ordering.{is_gt, is_le, is_lt, ordering_reverse}
+use Rattle.std.specs.Ordering.{is_eq, is_gt, is_le, is_lt, ordering_reverse}
 use Rattle.std.specs.Cmp.Lexicographic.{bytes_decides}
 use Rattle.std.proofs.lemmas.Cmp.{back_total, nat_list_cmp_total, tied_itself, upto}
 use Rattle.ptmerge.specs.Exact.{same_back, same_bytes}
@@ -35,6 +35,21 @@ is_greater Greater h = refl
 module _ (cmp : Cmp) (o : IsKeyOrder cmp) where
   pub self_at_most : (a : List ℕ) → AtMost cmp a a
   self_at_most a = ap is_gt (tied_itself o.total a)
+
+  -- keys are the same bytes where the order does not tell them apart
+  pub equal_is : (a b : List ℕ) → is_eq (cmp a b) ≡ bytes_eq a b
+  equal_is a b = by (cmp a b) refl
+    where
+      apart : is_eq (cmp a b) ≡ false → bytes_eq a b ≡ false
+      apart n = elim (bytes_eq a b) as (λ t. (t ≡ true → a ≡ b) → t ≡ false) [
+        | true ↦ λ f. (let bad : false ≡ true = sym n ∙ ap is_eq (ap (λ z. cmp a z) (sym (f refl)) ∙ tied_itself o.total a) in cc)
+        | false ↦ λ f. refl
+      ] (bytes_decides a b).0
+
+      by : (r : Ordering) → cmp a b ≡ r → is_eq (cmp a b) ≡ bytes_eq a b
+      by Less e = ap is_eq e ∙ sym (apart (ap is_eq e))
+      by Equal e = ap is_eq e ∙ sym ((bytes_decides a b).1 (o.exact a b e))
+      by Greater e = ap is_eq e ∙ sym (apart (ap is_eq e))
 
   pub at_most_trans : (a b c : List ℕ) → AtMost cmp a b → AtMost cmp b c → AtMost cmp a c
   at_most_trans a b c p q = upto o.total a b c p q

@@ -1,8 +1,8 @@
 -- The lines in the slots of a store.
-use Rattle.std.proofs.Common.{◌≡◌, ◌≢◌, inl, inr, ℕ, ◌+◌, ◌*◌, ◌≤◌, ◌<◌, false, List, [], ◌∷◌, length, max, refl, sym, ap, ◌∙◌, subst, arith, get_or, set}
+use Rattle.std.proofs.Common.{◌≡◌, ◌≢◌, inl, inr, ℕ, zero, suc, ◌+◌, ◌*◌, ◌≤◌, ◌<◌, false, List, [], ◌∷◌, ◌++◌, length, max, refl, sym, ap, ◌∙◌, subst, arith, get_or, set}
 use Rattle.std.proofs.lemmas.List.{length-set, get_or-set_other}
 use Rattle.std.proofs.lemmas.List.Sums.{sum_by-cons}
-use Rattle.ptlines.specs.Slots.{Slots, line, total, with_line}
+use Rattle.ptlines.specs.Slots.{Slots, line, total, with_added, with_line}
 use Rattle.ptlines.proofs.Counted.{total_set}
 use Rattle.ptmerge.specs.declared.order.Side.{Side}
 use Rattle.ptmerge.specs.declared.order.Side.TheVariants.{First, Second}
@@ -12,6 +12,15 @@ use Rattle.ptmerge.specs.Stores.{HasFour, IsCleared}
 
 pub line_other : (s : Slots) (a b : ℕ) (bytes : List ℕ) → a ≢ b → line (with_line s a bytes) b ≡ line s b
 line_other s a b bytes n = get_or-set_other s.lines a b bytes [] (λ e. n (sym e))
+
+added_same : (xs : List (List ℕ)) (i : ℕ) → get_or (xs ++ [] ∷ []) i [] ≡ get_or xs i []
+added_same [] zero = refl
+added_same [] (suc i) = refl
+added_same (x ∷ xs) zero = refl
+added_same (x ∷ xs) (suc i) = added_same xs i
+
+pub line_added : (s : Slots) (slot : ℕ) → line (with_added s) slot ≡ line s slot
+line_added s slot = added_same s.lines slot
 
 -- Two lines of each input, no longer than these, and so many bytes in other slots.
 abbrev pub HasLines : (Side → ℕ) → ℕ → List (List ℕ) → Type 0

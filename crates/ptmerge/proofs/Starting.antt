@@ -11,7 +11,7 @@ use Rattle.ptmerge.specs.declared.order.Side.{Side}
 use Rattle.ptmerge.specs.declared.order.Side.TheVariants.{First, Second}
 use Rattle.ptmerge.specs.declared.sorted.Sorted.{Sorted}
 use Rattle.ptmerge.specs.Keyed.{Lines, Tool}
-use Rattle.ptmerge.specs.Merges.{State, IsMerge}
+use Rattle.ptmerge.specs.Merges.{State, IsMerge, IsUnread}
 use Rattle.ptmerge.specs.Places.{CannotRead, Comes, HasSlots, fresh, slot_of}
 use Rattle.ptmerge.specs.Sides.{both}
 use Rattle.ptmerge.specs.Steps.{Inputs, CannotStart, Starts, IsUnslotted}
@@ -24,18 +24,20 @@ use Rattle.ptmerge.proofs.Pairs.{both_each}
 use Rattle.ptmerge.proofs.Passing.{Merging, merging_none, settles}
 use Rattle.ptmerge.proofs.Slotted.{Keeps, has_lines_total, keeps_line, keeps_none, line_other}
 use Rattle.ptmerge.proofs.Standing.{Next, goes_next, sided_keeps}
-use Rattle.ptmerge.proofs.Stopping.{Gone, gone_free, gone_standing, stops}
+use Rattle.ptmerge.proofs.Stopping.{FitsIn, Gone, gone_free, gone_standing, stops}
 use Rattle.ptmerge.proofs.Turning.{breaks, own_slots, slots_apart}
 
 fresh_slots : (s : Side) → HasSlots s (fresh s)
 fresh_slots s = inr (refl, refl)
 
-module _ (tool : Tool) (o : IsKeyOrder tool.cmp) (fits : (ls : Side → Lines) → 2 * longest (ls First) + 2 * longest (ls Second) ≤ tool.size ls) (old : State) (readable : (side : Side) → (old.reader side).fault ≡ None) (ending : (side : Side) → (old.reader side).ending ≡ tool.end) (unfailed : (side : Side) → (old.reader side).failed ≡ false)
+module _ (tool : Tool) (o : IsKeyOrder tool.cmp) (fits : (ls : Side → Lines) → (2 * longest (ls First) + 2 * longest (ls Second) ≤ tool.size ls) × (4 ≤ tool.slots ls)) (old : State) (readable : (side : Side) → (old.reader side).fault ≡ None) (ending : (side : Side) → (old.reader side).ending ≡ tool.end) (unfailed : (side : Side) → (old.reader side).failed ≡ false)
     (writable : old.out.faulted ≡ false) (allowed : old.store.denied ≡ false) (empty : total old.store.lines ≡ 0) where
   -- no line is longer than the inputs' measure
   within_size : (store after : Slots) (s : Side) (place : Sorted) (ls all : Side → Lines) (piece : List ℕ) → HasSlots s place → Keeps old.store store (λ side. longest (ls side)) → ((side : Side) → longest (ls side) ≤ longest (all side)) → length piece ≤ longest (all s)
-      → (with_line store place.previous piece).peak ≤ max old.store.peak (tool.size all)
-  within_size store after s place ls all piece slots k up fit = omega (arith, (keeps_line old.store store (with_line store place.previous piece) s place (λ side. longest (ls side)) (λ side. longest (all side)) piece slots k up fit refl).peak, fits all)
+      → FitsIn tool old.store (with_line store place.previous piece) all
+  within_size store after s place ls all piece slots k up fit =
+      let kept = keeps_line old.store store (with_line store place.previous piece) s place (λ side. longest (ls side)) (λ side. longest (all side)) piece slots k up fit refl in
+      (omega (arith, kept.peak, (fits all).0), omega (arith, kept.slots, (fits all).1))
 
   abbrev FirstLine : Side → Reader → Sorted → Slots → Slots → Type 0
   FirstLine side new place before after = Next tool.end tool.cmp (tool.key side) (old.reader side) new place (slot_of side) before after [] None
@@ -118,7 +120,7 @@ module _ (tool : Tool) (o : IsKeyOrder tool.cmp) (fits : (ls : Side → Lines) �
       let same : (side : Side) → (new.reader side).failed ≡ (old.reader side).failed = λ side. ap (λ (r : Reader). r.failed) (u.unread side) in
       subst (λ f. IsMerge tool old (record { reader = new.reader; out = old.out; store = new.store }) (Err f)) (sym u.memory)
       (stops tool o old (record { reader = new.reader; out = old.out; store = new.store }) old.reader (λ side. []) no_lines no_lines (λ side. Free) (λ side. free side (new.reader side) [] (subst (λ r. Reads (old.reader side) r []) (sym (u.unread side)) (reads_nothing (old.reader side))) tt)
-      (merging_none tool old.out) (Err Memory) (record { denied = u.slots.denied; failed = same; clean = writable }) (λ side fail. absurd (false≢true (sym (same side ∙ unfailed side) ∙ fail))) tt (λ all w. omega (arith, u.slots.peak)))
+      (merging_none tool old.out) (Err Memory) (record { denied = u.slots.denied; failed = same; clean = writable }) (λ side fail. absurd (false≢true (sym (same side ∙ unfailed side) ∙ fail))) tt (λ all w. (omega (arith, u.slots.peak), omega (arith, u.slots.most, (fits all).1))))
 
   pub starts_badly : (new1 new2 : Reader) (after : Slots) (fault : MergeFault) → CannotStart tool.key tool.cmp (record { reader = old.reader; store = old.store }) (record { reader = both new1 new2; store = after }) fault → IsMerge tool old (record { reader = both new1 new2; out = old.out; store = after }) (Err fault)
   starts_badly new1 new2 after fault (inl u) = unslotted (record { reader = both new1 new2; store = after }) fault u
@@ -131,6 +133,13 @@ module _ (tool : Tool) (o : IsKeyOrder tool.cmp) (fits : (ls : Side → Lines) �
   start_slots new1 new2 after fault (inr (inl f)) = adds_of old.store after (breaks_slots First (fresh First) (old.reader First) new1 f.made after fault f.breaks ∙ f.four.slots)
   start_slots new1 new2 after fault (inr (inr f)) =
       adds_of old.store after (breaks_slots Second (fresh Second) (old.reader Second) new2 f.begins.mid after fault f.begins.later ∙ (half_keeps f.begins.made f.begins.mid f.begins.four new1 f.first f.begins.came).slots)
+
+  -- nothing was read where one of the first four slots was refused
+  pub start_refused : (new1 new2 : Reader) (after : Slots) (fault : MergeFault) → CannotStart tool.key tool.cmp (record { reader = old.reader; store = old.store }) (record { reader = both new1 new2; store = after }) fault → length after.lines < 4
+      → IsUnread old (record { reader = both new1 new2; out = old.out; store = after })
+  start_refused new1 new2 after fault (inl u) few = record { readers = u.unread; output = refl }
+  start_refused new1 new2 after fault (inr (inl f)) few = absurd (omega (arith, few, breaks_slots First (fresh First) (old.reader First) new1 f.made after fault f.breaks, f.four.slots))
+  start_refused new1 new2 after fault (inr (inr f)) few = absurd (omega (arith, few, breaks_slots Second (fresh Second) (old.reader Second) new2 f.begins.mid after fault f.begins.later, mid_four f.begins.made f.begins.mid f.begins.four new1 f.first f.begins.came))
 
 -- the byte that ends a line
 pub ending_is : (zero : Bool) → cond zero 0 10 ≡ ending zero

@@ -19,7 +19,7 @@ use Rattle.ptmerge.specs.declared.sorted.Sorted.{Sorted}
 use Rattle.ptmerge.specs.declared.sorted.Stand.{Stand}
 use Rattle.ptmerge.specs.declared.sorted.Stand.TheVariants.{Head, Ended, Disorder}
 use Rattle.ptmerge.specs.Keyed.{Lines, Tool, by_keys, disorder, disorder_of, fall, lines_of, merged, merged_entries, ordered_part, up_to}
-use Rattle.ptmerge.specs.Merges.{State, Agree, Ends, IsMerge, IsWhole}
+use Rattle.ptmerge.specs.Merges.{State, Agree, Ends, IsMerge, IsUnread, IsWhole, ended_by}
 use Rattle.ptmerge.specs.Orders.{Cmp, Key}
 use Rattle.ptmerge.specs.Sides.{other}
 use Rattle.ptmerge.proofs.Bounds.{Bound, Free, From, Over, Coming, Falling, Begun, Reaches, reaches_free, reaches_passed}
@@ -63,6 +63,10 @@ pub record Fails (cmp : Cmp) (key : Key) (new : Reader) (ls p : Lines) : Type 0 
   pub last : Option (List ℕ)
   pub begun : Begun cmp key p last
 
+-- the store held no more than the measure of these lines, and has no more slots
+abbrev pub FitsIn : Tool → Slots → Slots → (Side → Lines) → Type 0
+FitsIn tool before after ls = (after.peak ≤ max before.peak (tool.size ls)) × (length after.lines ≤ max (length before.lines) (tool.slots ls))
+
 -- what a merge that stops so knows of what is to come
 abbrev pub Concludes : Tool → (Side → Bound) → Result (Unit {0}) MergeFault → Type 0
 Concludes tool b (Ok u) = (side : Side) → b side ≡ Over
@@ -93,8 +97,8 @@ module _ (tool : Tool) (o : IsKeyOrder tool.cmp) (old new : State) (now : Side �
   known side = got_known tool.end (old.reader side) (now side) (new.reader side) (ls side) (piece side) (g side).got (g side).reads (g side).line
 
   pub stops : (result : Result (Unit {0}) MergeFault) → Ends old new result → ((side : Side) → (new.reader side).failed ≡ true → Fails tool.cmp (tool.key side) (new.reader side) (ls side) (p side)) → Concludes tool b result
-      → ((all : Side → Lines) → ((side : Side) → More (now side) (ls side) (all side) × (max (longest (ls side)) (length (piece side)) ≤ longest (all side))) → new.store.peak ≤ max old.store.peak (tool.size all)) → IsMerge tool old new result
-  stops result ends failed concludes peak = record {
+      → ((all : Side → Lines) → ((side : Side) → More (now side) (ls side) (all side) × (max (longest (ls side)) (length (piece side)) ≤ longest (all side))) → FitsIn tool old.store new.store all) → IsMerge tool old new result
+  stops result ends failed concludes fits = record {
     given = given;
     came = λ side. came_of (old.reader side) (new.reader side) ((g side).got.given ++ piece side) (reads_trans (old.reader side) (now side) (new.reader side) (g side).got.given (piece side) (g side).got.goes.reads (g side).reads);
     pushed = text tool.end done;
@@ -104,7 +108,8 @@ module _ (tool : Tool) (o : IsKeyOrder tool.cmp) (old new : State) (now : Side �
     sure = λ side fail clean.
         let f = failed side fail in
         decided_begins tool o b p old.out new.out m (λ s. (new.reader s).ended) (λ s. whole_lines tool.end (given s)) (seen_of (λ s. whole_lines tool.end (given s)) (λ s. (known s).known)) side f.last f.ended ((known side).exact f.held f.ended ∙ f.all) f.begun;
-    peak = λ input a. peak (lines_of tool input) (input_lines input a);
+    peak = λ input a. (fits (lines_of tool input) (input_lines input a)).0;
+    slots = λ input a. (fits (lines_of tool input) (input_lines input a)).1;
     whole = λ input a. by result concludes input a;
   }
     where
@@ -159,8 +164,12 @@ module _ (old new : State) (set : Side → Reader) (end : ℕ) (is : (side : Sid
     true_so_far = m.true_so_far;
     sure = m.sure;
     peak = m.peak;
+    slots = m.slots;
     whole = m.whole;
   }
+
+  pub unread_set : IsUnread (record { reader = set; out = old.out; store = old.store }) new → IsUnread (ended_by end old) new
+  unread_set u = record { readers = λ side. u.readers side ∙ is side; output = u.output }
 
 -- ---- before the start
 
@@ -175,5 +184,6 @@ merge_halted tool old allowed fault = record {
   true_so_far = λ input a. record { rest = merged tool input; is = refl };
   sure = λ side fail clean. absurd (false≢true (sym clean ∙ fault));
   peak = λ input a. omega arith;
+  slots = λ input a. omega arith;
   whole = λ input a. tt;
 }

@@ -30,7 +30,7 @@ use Rattle.ptmerge.proofs.Passing.{Merging, StopsAt, passes, settles}
 use Rattle.ptmerge.proofs.Slotted.{line_other}
 use Rattle.ptmerge.proofs.Splitting.{all_keys, none_wanted}
 use Rattle.ptmerge.proofs.Standing.{Sided, Stands, Next, Passed, goes_next, passed, sided_keeps}
-use Rattle.ptmerge.proofs.Stopping.{Fails, Gone, stops}
+use Rattle.ptmerge.proofs.Stopping.{FitsIn, Fails, Gone, stops}
 
 -- ---- slots
 
@@ -267,10 +267,10 @@ module _ (tool : Tool) (o : IsKeyOrder tool.cmp) (old now : State) (ls q : Side 
   GoneOf side new piece = Gone tool.end tool.cmp (tool.key side) (old.reader side) (now.reader side) new piece (ls side) (q side) (b side)
 
   -- what the store held, for all lists that go on with these lines and pieces of lines
-  abbrev pub Holds : ℕ → (Side → List ℕ) → Type 0
-  Holds peak piece = (all : Side → Lines) → ((side : Side) → More (now.reader side) (ls side) (all side) × (max (longest (ls side)) (length (piece side)) ≤ longest (all side))) → peak ≤ max old.store.peak (tool.size all)
+  abbrev pub Holds : Slots → (Side → List ℕ) → Type 0
+  Holds after piece = (all : Side → Lines) → ((side : Side) → More (now.reader side) (ls side) (all side) × (max (longest (ls side)) (length (piece side)) ≤ longest (all side))) → FitsIn tool old.store after all
 
-  module _ (s : Side) (reader : Side → Reader) (piece : Side → List ℕ) (after : Slots) (g : (side : Side) → GoneOf side (reader side) (piece side)) (others : reader (other s) ≡ now.reader (other s)) (peak : Holds after.peak piece) where
+  module _ (s : Side) (reader : Side → Reader) (piece : Side → List ℕ) (after : Slots) (g : (side : Side) → GoneOf side (reader side) (piece side)) (others : reader (other s) ≡ now.reader (other s)) (fits : Holds after piece) where
     other_failed : (reader (other s)).failed ≡ (old.reader (other s)).failed
     other_failed = ap (λ (r : Reader). r.failed) others ∙ went (other s)
 
@@ -281,36 +281,36 @@ module _ (tool : Tool) (o : IsKeyOrder tool.cmp) (old now : State) (ls q : Side 
     read_breaks cause denied all last begun =
         stops tool o old (record { reader = reader; out = now.out; store = after }) now.reader piece ls q b g m (Err (Read s)) (record { cause = ⊎_elim (λ h. inl h) (λ h. inr (h.0, h.1 ∙ went s)) cause; others = other_failed; clean = clean; denied = denied })
         (side_case (λ side. (reader side).failed ≡ true → Fails tool.cmp (tool.key side) (reader side) (ls side) (q side)) s
-        (λ fail. ⊎_elim (λ h. record { held = h.1; ended = h.2; all = all; last = last; begun = begun }) (λ h. fails_not s (h.1 ∙ went s) fail) cause) (fails_not (other s) other_failed)) tt peak
+        (λ fail. ⊎_elim (λ h. record { held = h.1; ended = h.2; all = all; last = last; begun = begun }) (λ h. fails_not s (h.1 ∙ went s) fail) cause) (fails_not (other s) other_failed)) tt fits
 
     memory_breaks : (reader s).failed ≡ (now.reader s).failed → after.denied ≡ true → IsMerge tool old (record { reader = reader; out = now.out; store = after }) (Err Memory)
     memory_breaks same denied =
         let failed : (side : Side) → (reader side).failed ≡ (old.reader side).failed = side_case (λ side. (reader side).failed ≡ (old.reader side).failed) s (same ∙ went s) other_failed in
-        stops tool o old (record { reader = reader; out = now.out; store = after }) now.reader piece ls q b g m (Err Memory) (record { denied = denied; failed = failed; clean = clean }) (λ side. fails_not side (failed side)) tt peak
+        stops tool o old (record { reader = reader; out = now.out; store = after }) now.reader piece ls q b g m (Err Memory) (record { denied = denied; failed = failed; clean = clean }) (λ side. fails_not side (failed side)) tt fits
 
   abbrev none : Side → List ℕ
   none side = []
 
   -- the next line of an input could not be read
   pub breaks : (s : Side) (place : Sorted) (new : Reader) (after : Slots) (fault : MergeFault) → ((r : Reader) (piece : List ℕ) → Reads (now.reader s) r piece → IsLine (now.reader s).ending piece → GoneOf s r piece) → ls s ≡ q s → (last : Option (List ℕ)) → Begun tool.cmp (tool.key s) (q s) last
-      → GoneOf (other s) (now.reader (other s)) [] → now.store.denied ≡ false → ((piece : List ℕ) → Holds (with_line now.store place.previous piece).peak (put s piece (λ side. []))) → CannotRead s place (now.reader s) new now.store after fault
+      → GoneOf (other s) (now.reader (other s)) [] → now.store.denied ≡ false → ((piece : List ℕ) → Holds (with_line now.store place.previous piece) (put s piece (λ side. []))) → CannotRead s place (now.reader s) new now.store after fault
       → IsMerge tool old (record { reader = put s new now.reader; out = now.out; store = after }) (Err fault)
-  breaks s place new after (Read file) gone all last begun rest roomy peak moves =
+  breaks s place new after (Read file) gone all last begun rest roomy fits moves =
       let e = moves.0 in
       subst (λ f. IsMerge tool old (record { reader = put s new now.reader; out = now.out; store = after }) (Err (Read f))) (sym moves.1)
-      (by s (gone new e.piece e.faults.reads e.faults.whole) rest all begun e.cause (subst (λ (t : Slots). Holds t.peak (put s e.piece (λ side. []))) (sym e.stored) (peak e.piece)))
+      (by s (gone new e.piece e.faults.reads e.faults.whole) rest all begun e.cause (subst (λ (t : Slots). Holds t (put s e.piece (λ side. []))) (sym e.stored) (fits e.piece)))
     where
       denied : after.denied ≡ false
       denied = ap (λ (t : Slots). t.denied) moves.0.stored ∙ roomy
 
-      by : (t : Side) → GoneOf t new moves.0.piece → GoneOf (other t) (now.reader (other t)) [] → ls t ≡ q t → Begun tool.cmp (tool.key t) (q t) last → HasReadCause (now.reader t) new → Holds after.peak (put t moves.0.piece (λ side. []))
+      by : (t : Side) → GoneOf t new moves.0.piece → GoneOf (other t) (now.reader (other t)) [] → ls t ≡ q t → Begun tool.cmp (tool.key t) (q t) last → HasReadCause (now.reader t) new → Holds after (put t moves.0.piece (λ side. []))
           → IsMerge tool old (record { reader = put t new now.reader; out = now.out; store = after }) (Err (Read t))
       by First g h a b c p = read_breaks First (put First new now.reader) (put First moves.0.piece (λ side. [])) after (elim [ First ↦ g | Second ↦ h ]) refl p c denied a last b
       by Second g h a b c p = read_breaks Second (put Second new now.reader) (put Second moves.0.piece (λ side. [])) after (elim [ First ↦ h | Second ↦ g ]) refl p c denied a last b
-  breaks s place new after Write gone all last begun rest roomy peak moves = absurd moves
-  breaks s place new after Memory gone all last begun rest roomy peak e = by s (gone new e.piece e.faults.reads e.faults.whole) rest e.failed (subst (λ (t : Slots). Holds t.peak (put s e.piece (λ side. []))) (sym e.stored) (peak e.piece))
+  breaks s place new after Write gone all last begun rest roomy fits moves = absurd moves
+  breaks s place new after Memory gone all last begun rest roomy fits e = by s (gone new e.piece e.faults.reads e.faults.whole) rest e.failed (subst (λ (t : Slots). Holds t (put s e.piece (λ side. []))) (sym e.stored) (fits e.piece))
     where
-      by : (t : Side) → GoneOf t new e.piece → GoneOf (other t) (now.reader (other t)) [] → new.failed ≡ (now.reader t).failed → Holds after.peak (put t e.piece (λ side. [])) → IsMerge tool old (record { reader = put t new now.reader; out = now.out; store = after }) (Err Memory)
+      by : (t : Side) → GoneOf t new e.piece → GoneOf (other t) (now.reader (other t)) [] → new.failed ≡ (now.reader t).failed → Holds after (put t e.piece (λ side. [])) → IsMerge tool old (record { reader = put t new now.reader; out = now.out; store = after }) (Err Memory)
       by First g h c p = memory_breaks First (put First new now.reader) (put First e.piece (λ side. [])) after (elim [ First ↦ g | Second ↦ h ]) refl p c (ap (λ (t : Slots). t.denied) e.stored)
       by Second g h c p = memory_breaks Second (put Second new now.reader) (put Second e.piece (λ side. [])) after (elim [ First ↦ h | Second ↦ g ]) refl p c (ap (λ (t : Slots). t.denied) e.stored)
-  breaks s place new after (faults.Disorder file number) gone all last begun rest roomy peak moves = absurd moves
+  breaks s place new after (faults.Disorder file number) gone all last begun rest roomy fits moves = absurd moves

@@ -31,6 +31,7 @@ comm_by job cmp key = record {
   key = key;
   entries = λ line g1 g2. entries job line (length g1) (length g2);
   size = λ ls. 2 * longest (ls First) + 2 * longest (ls Second);
+  slots = λ ls. 4;
 }
 
 -- `comm`: the keys are the lines

@@ -24,6 +24,7 @@ is_head (Disorder n) = false
 -- this slot is there, and was added if it was missing
 pub record IsGrown (before after : Slots) (slot : ℕ) : Type 0 where
   pub grown : (after ≡ before) ⊎ (after ≡ with_added before)
+  pub there : slot < length before.lines → after ≡ before
   pub within : slot < length after.lines
 
 -- the line of a slot was copied to another, which was added if it was missing
@@ -32,10 +33,11 @@ pub record IsKept (before after : Slots) (from to : ℕ) : Type 0 where
   pub grown : IsGrown before made to
   pub copied : after ≡ with_line made to (line made from)
 
--- memory for a line was refused
-pub record IsRefused (before after : Slots) : Type 0 where
+-- memory for a line in this slot was refused
+pub record IsRefused (before after : Slots) (slot : ℕ) : Type 0 where
   pub denied : after.denied ≡ true
   pub slots : length before.lines ≤ length after.lines
+  pub most : length after.lines ≤ max (length before.lines) (slot + 1)
   pub peak : after.peak ≤ max before.peak (total before.lines)
 
 -- the slots from 4 on were emptied up to this one
@@ -60,16 +62,16 @@ pub record NotRead (old : Sorted) (was is : Reader) (before after : Slots) (end 
   pub breaks : CannotRead Second old was is made after fault
 
 -- the line could not be kept
-pub record NotKept (was is : Reader) (before after : Slots) (fault : MergeFault) : Type 0 where
+pub record NotKept (was is : Reader) (before after : Slots) (end : ℕ) (fault : MergeFault) : Type 0 where
   pub memory : fault ≡ Memory
-  pub refused : IsRefused before after
+  pub refused : IsRefused before after end
   pub unread : is ≡ was
 
 abbrev pub Gathers : Key → Cmp → Sorted → Sorted → Reader → Reader → Slots → Slots → ℕ → Result ℕ MergeFault → Type 0
 Gathers key cmp old new was is before after end (Ok next) = (next ≡ end + 1) × Gathered key cmp old new was is before after end
-Gathers key cmp old new was is before after end (Err fault) = NotKept was is before after fault ⊎ NotRead old was is before after end fault
+Gathers key cmp old new was is before after end (Err fault) = NotKept was is before after end fault ⊎ NotRead old was is before after end fault
 
--- slots were added where fewer than these were there, and perhaps more; where a growth was refused, perhaps fewer
+-- Slots were added where fewer than these were there; where a growth was refused, perhaps fewer.
 pub record AddsLeast (before after : Slots) (slots : ℕ) : Type 0 where
   pub least : length before.lines ≤ length after.lines
   pub all : after.denied ≡ false → slots ≤ length after.lines

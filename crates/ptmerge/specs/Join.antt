@@ -1,5 +1,5 @@
 -- What `join` writes.
-use Rattle.std.specs.Prelude.{ℕ, ◌-◌, ◌+◌, ◌*◌, ◌==◌, ◌||◌, List, [], ◌∷◌, ◌++◌, map, filter, max, Option, Some, None, Bool, true, false, if◌then◌else◌, slice_index_or, remove}
+use Rattle.std.specs.Prelude.{ℕ, ◌-◌, ◌+◌, ◌*◌, ◌==◌, ◌||◌, List, [], ◌∷◌, ◌++◌, length, map, filter, max, Option, Some, None, Bool, true, false, if◌then◌else◌, slice_index_or, remove}
 use Rattle.std.specs.List.{flat_map, slice_split, join_with_byte}
 use Rattle.std.specs.Str.{byte}
 use Rattle.ptlines.specs.Slots.{total}
@@ -96,13 +96,18 @@ join_entries job k (a ∷ g1) (b ∷ g2) = pairs_of job k (a ∷ g1) (b ∷ g2)
 
 -- ---- the tool
 
--- the most bytes that lines of one key have
-abbrev pub largest_of : Key → Lines → Lines → ℕ
-largest_of key ls [] = 0
-largest_of key ls (x ∷ xs) = max (total (with_key key ls (key x))) (largest_of key ls xs)
+-- the greatest measure of lines of one key
+abbrev pub greatest_of : (Lines → ℕ) → Key → Lines → Lines → ℕ
+greatest_of measure key ls [] = 0
+greatest_of measure key ls (x ∷ xs) = max (measure (with_key key ls (key x))) (greatest_of measure key ls xs)
 
+-- the most bytes that lines of one key have
 abbrev pub largest_group : Key → Lines → ℕ
-largest_group key ls = largest_of key ls ls
+largest_group key ls = greatest_of total key ls ls
+
+-- the most lines of one key
+abbrev pub most_lines : Key → Lines → ℕ
+most_lines key ls = greatest_of length key ls ls
 
 -- `join` in an order of keys; it keeps two lines of each input, and the second one's lines of one key
 abbrev pub join_by : Join → Cmp → (Side → Key) → Tool
@@ -112,6 +117,7 @@ join_by job cmp key = record {
   key = key;
   entries = join_entries job;
   size = λ ls. 2 * longest (ls First) + 2 * longest (ls Second) + largest_group (key Second) (ls Second);
+  slots = λ ls. 4 + most_lines (key Second) (ls Second);
 }
 
 -- `join`: the keys are the join fields

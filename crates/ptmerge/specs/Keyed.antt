@@ -24,6 +24,8 @@ pub record Tool : Type 0 where
   pub entries : List ℕ → Lines → Lines → Lines
   -- how many bytes of these lines it keeps at most
   pub size : (Side → Lines) → ℕ
+  -- and in how many slots
+  pub slots : (Side → Lines) → ℕ
 
 -- ---- by keys
 

@@ -1,5 +1,5 @@
 -- What a call of a tool over two inputs is.
-use Rattle.std.specs.Prelude.{◌≡◌, ◌≤◌, ◌<◌, ◌^◌, ℕ, true, false, List, Option, None, Some, Result, Ok, Err, max}
+use Rattle.std.specs.Prelude.{◌≡◌, ◌≤◌, ◌<◌, ◌^◌, ℕ, true, false, List, Option, None, Some, Result, Ok, Err, length, max}
 use Rattle.ptlines.specs.Inputs.{Given, Begins, Agrees, Came}
 use Rattle.ptlines.specs.Outputs.{Output, Wrote}
 use Rattle.ptlines.specs.Readers.{Reader, IsDone, HasReadCause}
@@ -86,6 +86,15 @@ pub record Untouched (old new : State) (result : Result (Unit {0}) MergeFault) :
   pub same_output : new.out ≡ old.out
   pub same_store : new.store ≡ old.store
 
+-- nothing was read or pushed
+pub record IsUnread (old new : State) : Type 0 where
+  pub readers : (side : Side) → new.reader side ≡ old.reader side
+  pub output : new.out ≡ old.out
+
+-- the same, but lines end with this byte
+abbrev pub ended_by : ℕ → State → State
+ended_by end s = record s { reader = λ side. record (s.reader side) { ending = end } }
+
 -- ---- what it does
 
 -- two texts that may be the inputs of which this came
@@ -120,5 +129,8 @@ pub record IsMerge (tool : Tool) (old new : State) (result : Result (Unit {0}) M
   -- the store held no more than the inputs' measure
   pub peak : (input : Side → List ℕ) → Agree given input
       → new.store.peak ≤ max old.store.peak (tool.size (lines_of tool input))
+  -- it has no more slots than their measure, or than it had
+  pub slots : (input : Side → List ℕ) → Agree given input
+      → length new.store.lines ≤ max (length old.store.lines) (tool.slots (lines_of tool input))
   -- all of it was pushed, also where an input is out of order
   pub whole : (input : Side → List ℕ) → Agree given input → IsWhole tool input pushed result

@@ -22,12 +22,11 @@ AreInOrder tool inputs = disorder tool (lines_of tool inputs) ≡ None
 abbrev pub AllBelow : Cmp → Lines → Lines → Type 0
 AllBelow cmp ks ls = AllByRecursion (λ k. AllByRecursion (λ l. cmp k l ≡ Less) ls) ks
 
--- Two inputs are cut at the same keys: the first part of each is whole, all parts are in order,
--- and each key of the two first parts is below each key of the two second ones.
+-- Two inputs are cut at the same keys: the first part of each is whole, these are in order,
+-- and each of their keys is below each key of the two second parts.
 pub record AreCutByKey (tool : Tool) (first second : Side → List ℕ) : Type 0 where
   pub whole : (side : Side) → IsWhole tool.end (first side)
-  pub first_in_order : AreInOrder tool first
-  pub second_in_order : AreInOrder tool second
+  pub in_order : AreInOrder tool first
   pub below : AllBelow tool.cmp (keys tool (lines_of tool first)) (keys tool (lines_of tool second))
 
 -- what is written of two inputs is what is written of their first parts, and then what is written of the second ones

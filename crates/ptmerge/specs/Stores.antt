@@ -5,6 +5,7 @@ use Rattle.ptlines.specs.Slots.{Slots, line, total}
 -- the slots that were missing of the first four were added, and nothing else happened
 pub record HasFour (before after : Slots) : Type 0 where
   pub slots : length after.lines ≡ max (length before.lines) 4
+  pub same : (slot : ℕ) → line after slot ≡ line before slot
   pub total : total after.lines ≡ total before.lines
   pub peak : after.peak ≡ before.peak
   pub denied : after.denied ≡ before.denied
@@ -19,6 +20,7 @@ pub record Adds (before store : Slots) (slots : ℕ) : Type 0 where
 pub record HasNoSlots (before after : Slots) : Type 0 where
   pub least : length before.lines ≤ length after.lines
   pub most : length after.lines ≤ max (length before.lines) 4
+  pub same : (slot : ℕ) → line after slot ≡ line before slot
   pub total : total after.lines ≡ total before.lines
   pub peak : after.peak ≡ before.peak
   pub denied : after.denied ≡ true

@@ -1,11 +1,11 @@
-ghost use Rattle.std.specs.Prelude.{◌≡◌, ◌++◌, ℕ, List, None, true, false, length, max, OnOk, OnErr};
+ghost use Rattle.std.specs.Prelude.{◌≡◌, ◌<◌, ◌++◌, ℕ, List, None, true, false, length, max, OnOk, OnErr};
 ghost use Rattle.ptlangs.specs.Jobs.{comm_job};
 ghost use Rattle.ptlines.specs.Outputs.{Wrote};
 ghost use Rattle.ptlines.specs.Readers.{IsSound};
 ghost use Rattle.ptlines.specs.Slots.{line};
 ghost use Rattle.ptlines.specs.Text.{text};
 ghost use Rattle.ptmerge.specs.Comm.{comm_by, comm_tool, tab_unless, entries_in};
-ghost use Rattle.ptmerge.specs.Merges.{IsMerge, IsReady, Untouched, seen};
+ghost use Rattle.ptmerge.specs.Merges.{IsMerge, IsReady, IsUnread, Untouched, ended_by, seen};
 ghost use Rattle.ptmerge.specs.LinePasses.{PassesLine};
 ghost use Rattle.ptmerge.specs.Sides.{both, other};
 ghost use Rattle.ptmerge.specs.Steps.{IsPlaced, IsLent};
@@ -105,6 +105,8 @@ fn comm_in_order<K: KeyOrder, A: Allocator + Copy, S: Source, R: Source, W: Sink
     ensures merged { let tool = comm_by (comm_job job.now) (K.order order) (K.key_of order) in
         let was = seen first.old second.old out.old store.old in
         IsMerge tool was (seen first.new second.new out.new store.new) result }
+    ensures refused { let was = seen first.old second.old out.old store.old in
+        length store.new.lines < 4 → IsUnread was (seen first.new second.new out.new store.new) }
     ensures slots { Adds store.old store.new 4 }
 {
     let ending = first.ending();
@@ -165,8 +167,8 @@ fn comm_in_order<K: KeyOrder, A: Allocator + Copy, S: Source, R: Source, W: Sink
 /// the reverse of byte order, and with `-z` lines end with byte 0 (its own options).
 ///
 /// The slots 0 to 3 of the store are used; those that are missing are added before the first read, and after `Ok` and
-/// `Disorder` they are empty. An entry is pushed before a line behind its own lines is read. On an output
-/// that has failed nothing is done.
+/// `Disorder` they are empty. Where one of them is refused, nothing is read or pushed. On an output that has failed
+/// nothing is done. That an entry is pushed before a line behind its own lines is read is tested, and no clause.
 /// # Errors
 /// `Read`, with the input, or `Write` where a read or a write failed; `Memory` where a growth of the store was refused,
 /// and the store is then denied; `Disorder`, with the input and the line, where an input is out of order: then all
@@ -182,6 +184,9 @@ pub fn comm<A: Allocator + Copy, S: Source, R: Source, W: Sink>(
     ensures merged { let was = seen first.old second.old out.old store.old in
         IsMerge (comm_tool (comm_job job.now)) was (seen first.new second.new out.new store.new) result }
     ensures slots { out.old.faulted ≡ false → Adds store.old store.new 4 }
+    ensures refused { let was = ended_by (comm_job job.now).end (seen first.old second.old out.old store.old) in
+        out.old.faulted ≡ false → length store.new.lines < 4 →
+        IsUnread was (seen first.new second.new out.new store.new) }
     ensures halted { let was = seen first.old second.old out.old store.old in
         out.old.faulted ≡ true → Untouched was (seen first.new second.new out.new store.new) result }
 {

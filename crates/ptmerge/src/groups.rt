@@ -34,7 +34,7 @@ fn keep_line<A: Allocator + Copy>(
     requires next { to ≤ length store.old.lines }
     ensures next { IfOk result (λ end. end ≡ to + 1) }
     ensures ok { OnOk result (IsKept store.old store.new from to) }
-    ensures err { OnErr result (IsRefused store.old store.new) }
+    ensures err { OnErr result (IsRefused store.old store.new to) }
 {
     need_slot(store, to)?;
     store.copy(from, to)?;

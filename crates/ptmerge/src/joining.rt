@@ -1,12 +1,12 @@
 //! `join`.
-ghost use Rattle.std.specs.Prelude.{◌≡◌, ◌≤◌, ℕ, List, ◌++◌, ◌∷◌, [], option_copied, false, true, length, OnOk, OnErr};
+ghost use Rattle.std.specs.Prelude.{◌≡◌, ◌<◌, ◌≤◌, ℕ, List, ◌++◌, ◌∷◌, [], option_copied, false, true, length, OnOk, OnErr};
 ghost use Rattle.ptlangs.specs.Jobs.{join_job};
 ghost use Rattle.ptlines.specs.Outputs.{Wrote};
 ghost use Rattle.ptlines.specs.Slots.{line};
 ghost use Rattle.ptlines.specs.Text.{text};
 ghost use Rattle.ptlines.specs.Readers.{IsSound};
 ghost use Rattle.ptmerge.specs.Groups.{AddsLeast, group};
-ghost use Rattle.ptmerge.specs.Merges.{IsMerge, IsReady, Untouched, seen};
+ghost use Rattle.ptmerge.specs.Merges.{IsMerge, IsReady, IsUnread, Untouched, ended_by, seen};
 ghost use Rattle.ptmerge.specs.declared.order.Side.{Side as Sided};
 ghost use Rattle.ptmerge.specs.Join.{alone_entry, entry, join_by, join_key, join_tool, pairs_of};
 ghost use Rattle.ptmerge.specs.JoinFields.{fields_left};
@@ -194,6 +194,8 @@ fn join_in_order<K: KeyOrder, A: Allocator + Copy, S: Source, R: Source, W: Sink
     ensures merged { let tool = join_by (join_job job.now) (K.order order) (K.key_of order) in
         let was = seen first.old second.old out.old store.old in
         IsMerge tool was (seen first.new second.new out.new store.new) result }
+    ensures refused { let was = seen first.old second.old out.old store.old in
+        length store.new.lines < 4 → IsUnread was (seen first.new second.new out.new store.new) }
     ensures slots { AddsLeast store.old store.new 4 }
 {
     let ending = first.ending();
@@ -249,8 +251,9 @@ fn join_in_order<K: KeyOrder, A: Allocator + Copy, S: Source, R: Source, W: Sink
 /// with byte 0 (its own options).
 ///
 /// The slots 0 to 3 of the store are used, which are added before the first read where they are missing, and behind
-/// them a slot for each of the second input's lines of one key; after `Ok` and `Disorder` all are empty. A line that
-/// pairs with none is pushed before a line behind it is read. On an output that has failed nothing is done.
+/// them a slot for each of the second input's lines of one key; after `Ok` and `Disorder` all are empty. Where one of
+/// the first four is refused, nothing is read or pushed. On an output that has failed nothing is done. That a line that
+/// pairs with none is pushed before a line behind it is read is tested, and no clause.
 /// # Errors
 /// `Read`, with the input, or `Write` where a read or a write failed; `Memory` where a growth of the store was refused,
 /// and the store is then denied; `Disorder`, with the input and the line, where an input is out of order: then all
@@ -266,6 +269,9 @@ pub fn join<A: Allocator + Copy, S: Source, R: Source, W: Sink>(
     ensures merged { let was = seen first.old second.old out.old store.old in
         IsMerge (join_tool (join_job job.now)) was (seen first.new second.new out.new store.new) result }
     ensures slots { out.old.faulted ≡ false → AddsLeast store.old store.new 4 }
+    ensures refused { let was = ended_by (join_job job.now).end (seen first.old second.old out.old store.old) in
+        out.old.faulted ≡ false → length store.new.lines < 4 →
+        IsUnread was (seen first.new second.new out.new store.new) }
     ensures halted { let was = seen first.old second.old out.old store.old in
         out.old.faulted ≡ true → Untouched was (seen first.new second.new out.new store.new) result }
 {

@@ -8,7 +8,7 @@ ghost use Rattle.ptmerge.specs.Sides.{both, other};
 ghost use Rattle.ptmerge.specs.Steps.{inputs, IsPlaced, IsLent, IsNext, Starts, CannotStart};
 
 use crate::faults::MergeFault;
-use crate::order::{KeyOrder, Side};
+use crate::order::{KeyOrder, Side, are_equal};
 use crate::slots::need_four;
 use crate::sorted::{Sorted, Stand};
 use ptlines::{LineReader, Source, Store};
@@ -33,7 +33,8 @@ pub enum Step {
 
 /// Two inputs in order, taken together by their keys. The line at which each stands is in the store, in one of the
 /// slots 0 to 3: from `start` on these slots are left as they are, and each input is lent its own reader. After a fault
-/// no call is made any more.
+/// no call is made any more. `placed` and `lent` are what the next calls require of a caller; they follow from how the
+/// inputs moved, and stand as clauses so that no caller has to derive them.
 #[derive(Drop)]
 pub struct Merge<K: KeyOrder> {
     order: K,
@@ -44,7 +45,8 @@ pub struct Merge<K: KeyOrder> {
 impl<K: KeyOrder> Merge<K> {
     ghost use Rattle.ptmerge.specs.declared.sorted.Stand.TheVariants as stands;
 
-    /// Adds the slots that are missing of the first four, and reads the first line of each input.
+    /// Adds the slots that are missing of the first four, and reads the first line of each input. All other slots are as
+    /// they were.
     /// # Errors
     /// `Read` where a read failed; `Memory` where a growth of the store was refused, and the store is then denied.
     pub fn start<A: Allocator + Copy, S: Source, R: Source>(
@@ -55,7 +57,6 @@ impl<K: KeyOrder> Merge<K> {
     ) -> Result<Self, MergeFault>
         requires first { first.old.fault ≡ None }
         requires second { second.old.fault ≡ None }
-        requires allowed { store.old.denied ≡ false }
         ensures starts { let was = inputs first.old second.old store.old in
             let is = inputs first.new second.new store.new in
             IfOk result (λ m. Starts (K.key_of order) (K.order order) (both m.first m.second) was is) }
@@ -209,13 +210,19 @@ impl<K: KeyOrder> Merge<K> {
         match side {
             Side::First => {
                 self.first.stand == Stand::Head
-                    && self.order.key(side, store.line(self.first.standing))
-                        == self.order.key(Side::Second, line)
+                    && are_equal(
+                        &self.order,
+                        self.order.key(side, store.line(self.first.standing)),
+                        self.order.key(Side::Second, line),
+                    )
             }
             Side::Second => {
                 self.second.stand == Stand::Head
-                    && self.order.key(side, store.line(self.second.standing))
-                        == self.order.key(Side::Second, line)
+                    && are_equal(
+                        &self.order,
+                        self.order.key(side, store.line(self.second.standing)),
+                        self.order.key(Side::Second, line),
+                    )
             }
         }
     }

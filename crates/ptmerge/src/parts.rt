@@ -1,18 +1,18 @@
 ghost use Rattle.ptmerge.specs.Parts.{PartsOfComm, PartsOfJoin, CommByKey, JoinByKey};
 
-/// What `comm` writes of two files is what it writes of a first part of each, and then of the rest of each, where both
-/// are cut at the same lines: each first part is empty or ends with the byte that ends a line, the parts are in order,
-/// and each line of the first parts comes before each line of the others. It holds for both orders. As often as the
-/// rest is cut so, there are as many parts.
+/// What `comm` writes of two files is what it writes of a first part of each, and then of the rest of each, where
+/// both are cut at the same lines: each first part is empty or ends with the byte that ends a line, and is in order,
+/// and each line of the first parts comes before each line of the rest. It holds for both orders, whichever columns are left out. As
+/// often as the rest is cut so, there are as many parts, and only the last ones may be out of order.
 /// The call does nothing: its contract is the law.
 pub fn parts_of_comm()
     ensures { PartsOfComm }
 {}
 
-/// What `join` writes of two files is what it writes of a first part of each, and then of the rest of each, where both
-/// are cut at the same keys: each first part is empty or ends with the byte that ends a line, the parts are in order,
-/// and each join field of the first parts comes before each one of the others. It holds for both orders and with all
-/// options. As often as the rest is cut so, there are as many parts.
+/// What `join` writes of two files is what it writes of a first part of each, and then of the rest of each, where
+/// both are cut at the same keys: each first part is empty or ends with the byte that ends a line, and is in order,
+/// and each join field of the first parts comes before each one of the rest. It holds for both orders and with all
+/// options. As often as the rest is cut so, there are as many parts, and only the last ones may be out of order.
 /// The call does nothing: its contract is the law.
 pub fn parts_of_join()
     ensures { PartsOfJoin }
@@ -25,9 +25,9 @@ pub fn comm_by_key()
     ensures { CommByKey }
 {}
 
-/// Where the lines of two files in order are dealt out over parts, and lines with equal join fields go to the same part,
-/// each in their order, what `join` writes of the parts has the lines of what it writes of the files, in some order.
-/// It holds with all options, `-a` and `-v` too.
+/// Where the lines of two files in order are dealt out over parts, and lines with equal join fields go to the same
+/// part, each in their order, what `join` writes of the parts has the lines of what it writes of the files, in some
+/// order. It holds with all options, `-a` and `-v` too.
 /// The call does nothing: its contract is the law.
 pub fn join_by_key()
     ensures { JoinByKey }

@@ -1,13 +1,12 @@
-ghost use Rattle.std.specs.Prelude.{◌≡◌, ◌≤◌, false, OnOk, OnErr, length};
+ghost use Rattle.std.specs.Prelude.{◌≡◌, ◌≤◌, OnOk, OnErr, length};
 ghost use Rattle.ptmerge.specs.Stores.{HasFour, HasNoSlots, IsCleared};
 
 use ptlines::{LineFault, Store};
 use std::alloc::Allocator;
 
 // Adds the slots that are missing of the first four.
-#[tactic(auto, using(std::proofs::lemmas::List::Sums::sum_by_push))]
+#[tactic(auto, using(std::proofs::lemmas::List::Sums::sum_by_push, crate::proofs::Slotted::line_added))]
 pub(crate) fn need_four<A: Allocator + Copy>(store: &mut Store<A>) -> Result<(), LineFault>
-    requires { store.old.denied ≡ false }
     ensures ok { OnOk result (HasFour store.old store.new) }
     ensures err { OnErr result (HasNoSlots store.old store.new) }
 {

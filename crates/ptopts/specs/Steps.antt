@@ -20,6 +20,11 @@ abbrev pub FindsUnlessRefused : {A : Type 0} → Result A UseFault → Option Fa
 FindsUnlessRefused (Ok x) fault = fault ≡ None
 FindsUnlessRefused (Err e) fault = OnSome (meant e) (meant e ≡ fault)
 
+-- the same of a step that memory can be refused to only where it finds no fault
+abbrev pub FindsBeforeMemory : {A : Type 0} → Result A UseFault → Option Fault → Type 0
+FindsBeforeMemory (Ok x) fault = fault ≡ None
+FindsBeforeMemory (Err e) fault = meant e ≡ fault
+
 abbrev pub option_seen : given.GivenOption → GivenOption
 option_seen o = record { letter = o.letter; value = option_map (λ v. v.now) o.value }
 

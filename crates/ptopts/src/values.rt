@@ -1,6 +1,6 @@
 //! The values of options.
 
-ghost use Rattle.std.specs.Prelude.{◌≡◌, IfOk, option_map};
+ghost use Rattle.std.specs.Prelude.{◌≡◌, IfOk, if◌then◌else◌, option_map};
 ghost use Rattle.ptopts.specs.Words.{value_of};
 ghost use Rattle.ptopts.specs.Faults.{value_fault, end_given, is_delimiter, is_count};
 ghost use Rattle.ptopts.specs.Commands.{byte_given, number_given};
@@ -57,5 +57,17 @@ fn number<'a>(options: &[GivenOption<'a>], letter: u8) -> Result<Option<u64>, Us
     match numbers::decimal(text.as_bytes()) {
         Some(number) => Ok(Some(number)),
         None => Err(UseFault::Value(letter, text)),
+    }
+}
+
+/// Why the list that is a letter's value was refused: want of memory is told as that, and each other fault as one of
+/// the value.
+fn list_refused<'a>(letter: u8, text: &'a str, is_memory: bool) -> UseFault<'a>
+    ensures { result ≡ (if is_memory then UseFault.Memory else UseFault.Value letter text.entry) }
+{
+    if is_memory {
+        UseFault::Memory
+    } else {
+        UseFault::Value(letter, text)
     }
 }

@@ -282,7 +282,7 @@ module _ (t : Tool) (places : List ℕ) (old : List Reader) (was is : Output) (b
   calm = ap (λ (x : Reader). x.failed) (sym here) ∙ sound.unfailed (ap (λ (x : Reader). x.refused) here ∙ is_open) (ap (λ (x : Reader). x.fault) here ∙ (fresh p is_open).fault)
 
   silent : SinkState
-  silent = record { taken = None; failed = false }
+  silent = record { taken = None; failed = false; pending = false }
 
   pass : IsPass t (reader_at old p) new was is before store result
   pass = pass_here t r (reader_at old p) new was is before store result here e

@@ -130,6 +130,7 @@ module _ (m : Meaning) (old : List Reader) (fresh : All IsFresh old) (out told h
     came = nothing_read old (fresh_all old fresh);
     written = [];
     took = ap (λ (s : SinkState). s.taken) same ∙ sym (append_known-nil out.taken);
+    flushed = λ settled _. ap (λ (s : SinkState). s.pending) same ∙ settled;
     said = text;
     tells = subst (λ (s : SinkState). Tells told s text) (sym said) tells;
     behind = n;
@@ -187,6 +188,7 @@ run_behind m old new out a b o none k = record {
   came = k.came;
   written = k.written;
   took = k.took;
+  flushed = k.flushed;
   said = k.said;
   tells = tells_trans a b o.messages [] k.said none k.tells;
   behind = k.behind;
@@ -212,7 +214,7 @@ named_of m old new was is is' told heard before store went ended k f = by_fault 
 
 module _ (m : Meaning) (old new : List Reader) (was is is' : Output) (told heard : SinkState) (before store : Slots) (went ended : Result Done FlowFault) (out : SinkState) (o : Outcome)
     (k : Went m old new was is told heard before store went) (f : Finishes is is' went ended) (says : Tells heard o.messages (last_words m.tool m.names ended)) (status_is : o.status ≡ status_after ended)
-    (made : was ≡ record { taken = out.taken; staged = []; faulted = false }) (last_taken : o.out.taken ≡ is'.taken) (last_failed : o.out.failed ≡ is'.faulted)
+    (made : was ≡ record { taken = out.taken; staged = []; faulted = false; pending = out.pending }) (last_taken : o.out.taken ≡ is'.taken) (last_failed : o.out.failed ≡ is'.faulted) (last_pending : o.out.pending ≡ is'.pending)
     (low : before.peak ≡ 0) (peak_is : o.peak ≡ store.peak) (denied_is : o.denied ≡ store.denied) where
   wrote_all : (b : Bool) → is.faulted ≡ b → Wrote was is' k.pushed
   wrote_all true faulted = subst (λ (o : Output). Wrote was o k.pushed) (sym (f.wrote.stays faulted)) k.wrote
@@ -293,6 +295,7 @@ module _ (m : Meaning) (old new : List Reader) (was is is' : Output) (told heard
     came = k.came;
     written = reached.front;
     took = last_taken ∙ reached.taken ∙ ap (λ (t : Option (List ℕ)). append_known t reached.front) (ap (λ (o : Output). o.taken) made);
+    flushed = λ _ fine. last_pending ∙ f.flushed (sym last_failed ∙ fine);
     said = k.said ++ last;
     tells = tells_trans told heard o.messages k.said last k.tells says;
     behind = k.behind;

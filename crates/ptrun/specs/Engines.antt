@@ -60,10 +60,11 @@ IsWithin count (Ok (Disorder place line)) = place < count
 IsWithin count (Err (Read place)) = place < count
 IsWithin count _ = Unit {0}
 
--- what was staged was sent, unless a write failed: then that is the fault
+-- what was staged was sent, and all flushed, unless a write failed: then that is the fault
 pub record Finishes (old new : Output) (went ended : Result Done FlowFault) : Type 0 where
   pub wrote : Wrote old new []
   pub clean : new.faulted ≡ false → (ended ≡ went) × (new.staged ≡ []) × (old.faulted ≡ false)
+  pub flushed : new.faulted ≡ false → new.pending ≡ false
   pub broken : new.faulted ≡ true → ended ≡ Err Write
 
 -- ---- a tool over all its inputs

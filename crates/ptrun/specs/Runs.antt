@@ -3,6 +3,7 @@ use Rattle.std.specs.Prelude.{◌≡◌, ℕ, ◌≤◌, Bool, true, false, List
 use Rattle.std.specs.Io.KnownBytes.{append_known}
 use Rattle.ptlines.specs.Readers.{Reader}
 use Rattle.ptlines.specs.Sinks.{SinkState}
+use Rattle.ptlines.specs.Slots.{Slots, total}
 use Rattle.ptlines.specs.Inputs.{Begins}
 use Rattle.ptflow.specs.declared.faults.FlowFault.{FlowFault}
 use Rattle.ptflow.specs.declared.faults.FlowFault.TheVariants.{Read, Write, Memory}
@@ -19,6 +20,18 @@ pub record Sinks : Type 0 where
 
 abbrev pub sinks : SinkState → SinkState → Sinks
 sinks out messages = record { out = out; messages = messages }
+
+-- the store holds nothing and never did, and no growth was refused
+pub record IsUnused (store : Slots) : Type 0 where
+  pub empty : total store.lines ≡ 0
+  pub never : store.peak ≡ 0
+  pub roomy : store.denied ≡ false
+
+-- what a run is lent and handed: the store was never used, and neither sink has failed
+pub record AreUnused (lent : Slots) (handed : Sinks) : Type 0 where
+  pub store : IsUnused lent
+  pub writable : handed.out.failed ≡ false
+  pub heard : handed.messages.failed ≡ false
 
 -- what a run leaves beside its inputs: its sinks, the status, how much was held at most, and whether memory was denied
 pub record Outcome : Type 0 where
@@ -69,11 +82,12 @@ EndsAs m r old new written said o n (Some fault) = IsStopped m r old new said o 
 -- ---- a run
 
 pub record IsRun (m : Meaning) (old new : List Reader) (before : Sinks) (o : Outcome) : Type 0 where
-  -- what came of the inputs, what reached the output, and what was said
+  -- what came of the inputs, what reached the output, that all of it was flushed, and what was said
   pub received : Received
   pub came : IsReceived old new received
   pub written : List ℕ
   pub took : o.out.taken ≡ append_known before.out.taken written
+  pub flushed : before.out.pending ≡ false → o.out.failed ≡ false → o.out.pending ≡ false
   pub said : List ℕ
   pub tells : Tells before.messages o.messages said
   -- how many operands were done, and what stopped it there

@@ -4,7 +4,7 @@ ghost use Rattle.std.specs.Prelude.{◌≡◌, ◌<◌, ◌+◌, ◌≤◌, Bool
 ghost use Rattle.ptrun.specs.Engines.{AreGiven, Checks, IsStart, Went, Finishes, IsWithin, last_words, status_after};
 ghost use Rattle.ptrun.specs.Meanings.{Meaning};
 ghost use Rattle.ptrun.specs.Messages.{name_of};
-ghost use Rattle.ptrun.specs.Runs.{IsRun, IsQuiet, sinks, outcome};
+ghost use Rattle.ptrun.specs.Runs.{IsRun, IsQuiet, IsUnused, sinks, outcome};
 ghost use Rattle.ptrun.specs.Sayings.{Tells};
 ghost use Rattle.ptrun.specs.Worlds.{shut};
 
@@ -68,7 +68,7 @@ pub(crate) trait Engine<A: Allocator + Copy>: Drop {
 
 // Runs a tool.
 pub(crate) fn run_engine<A: Allocator + Copy, G: Engine<A>, S: Source, R: Source, W: Sink, E: Sink>(
-    alloc: A,
+    store: &mut Store<A>,
     engine: &G,
     inputs: &mut [LineReader<S, R>],
     out: W,
@@ -77,21 +77,22 @@ pub(crate) fn run_engine<A: Allocator + Copy, G: Engine<A>, S: Source, R: Source
     requires given { AreGiven (G.meaning engine.now) inputs.old }
     requires taken { G.suits engine.now ≡ true }
     requires writable { (W.state out).failed ≡ false }
+    requires unused { IsUnused store.old }
     ensures run { IsRun (G.meaning engine.now) inputs.old inputs.new (sinks (W.state out) voice)
         (outcome W.state E.state result) }
     ensures quiet { (G.meaning engine.now).quiet (shut inputs.old) ≡ true →
-        (inputs.new ≡ inputs.old) × IsQuiet (W.state out) (outcome W.state E.state result) }
+        (inputs.new ≡ inputs.old) × (store.new ≡ store.old) × IsQuiet (W.state out) (outcome W.state E.state result) }
+    ensures store { (result.peak ≡ store.new.peak) × (result.denied ≡ store.new.denied) }
 {
     let mut voice = voice;
     if engine.lacks_inputs(inputs, &mut voice) {
         return quiet_report(1, out, voice);
     }
-    let mut store = Store::empty(alloc);
     let mut out = Out::new(out);
-    let went = engine.go(inputs, &mut store, &mut out, &mut voice);
+    let went = engine.go(inputs, store, &mut out, &mut voice);
     let ended = finish(&mut out, went);
     let status = conclude(engine, ended, &mut voice);
-    report_of(&store, status, out, voice)
+    report_of(store, status, out, voice)
 }
 
 // Sends what is staged. A write that failed is the fault, whatever else was.

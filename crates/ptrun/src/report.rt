@@ -1,6 +1,6 @@
 //! What a run leaves.
 
-ghost use Rattle.std.specs.Prelude.{◌≡◌, false};
+ghost use Rattle.std.specs.Prelude.{◌≡◌, false, []};
 ghost use Rattle.ptrun.specs.Runs.{outcome};
 
 use crate::voice::Voice;
@@ -23,16 +23,18 @@ pub struct Report<W, E> {
     pub messages: E,
 }
 
-// What is reported of a run that had this store.
+// What is reported of a run that had this store. Nothing is staged any more, unless a write failed: it would be lost.
 pub(crate) fn report_of<A: Allocator + Copy, W: Sink, E: Sink>(
     store: &Store<A>,
     status: u8,
     out: Out<W>,
     voice: Voice<E>,
 ) -> Report<W, E>
+    requires sent { out.faulted ≡ false → out.staged ≡ [] }
     ensures store { (result.peak ≡ store.now.peak) × (result.denied ≡ store.now.denied) }
     ensures status { result.status ≡ status }
-    ensures out { ((W.state result.out).taken ≡ out.taken) × ((W.state result.out).failed ≡ out.faulted) }
+    ensures out { ((W.state result.out).taken ≡ out.taken) × ((W.state result.out).failed ≡ out.faulted)
+        × ((W.state result.out).pending ≡ out.pending) }
     ensures messages { E.state result.messages ≡ voice }
 {
     Report {

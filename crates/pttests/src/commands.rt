@@ -2,13 +2,14 @@
 
 ghost use Rattle.std.specs.Prelude.{◌≡◌, ◌+◌, false, All, IfOk, IfSome, vec_len};
 ghost use Rattle.ptrun.specs.Asked.{count_of};
+ghost use Rattle.ptrun.specs.Runs.{IsUnused};
 ghost use Rattle.ptrun.specs.Worlds.{IsFresh};
 
 use crate::comparing::same;
 use ptfakes::{Kept, Pieces, Refusing, Watched};
-use ptlines::LineReader;
+use ptlines::{LineReader, Store};
 use ptopts::{Command, UseFault};
-use ptrun::{Report, run};
+use ptrun::{Report, run, run_with_store};
 use std::alloc::{AllocError, Allocator, Global};
 use std::cell::Cell;
 use std::process::Abort;
@@ -186,6 +187,25 @@ pub fn run_over<A: Allocator + Copy>(
     let out = sink_of(own, case.out);
     let messages = sink_of(own, case.messages);
     Ok(run(alloc, command, case.words, &mut inputs, out, messages))
+}
+
+/// Runs a command in a store that is lent, of this allocator, and hands the report back.
+pub fn run_in<A: Allocator + Copy>(
+    rt: &impl Abort,
+    store: &mut Store<A>,
+    alloc: A,
+    own: Global,
+    case: &Case<'_>,
+) -> Result<Report<Kept, Kept>, Fail>
+    requires { IsUnused store.old }
+{
+    let command = Command::read(alloc, case.words);
+    let count = files_named(&command);
+    assert!(rt; case.files.len() == count, "{:?}", case.words);
+    let mut inputs = readers(own, case.standard, case.files, count)?;
+    let out = sink_of(own, case.out);
+    let messages = sink_of(own, case.messages);
+    Ok(run_with_store(store, command, case.words, &mut inputs, out, messages))
 }
 
 /// Runs a command, and looks at what was written and said, and at the status.

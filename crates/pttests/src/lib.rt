@@ -18,6 +18,8 @@ mod cuts;
 #[cfg(test)]
 mod faking;
 #[cfg(test)]
+mod faltering;
+#[cfg(test)]
 mod fields;
 #[cfg(test)]
 mod joined_lines;
@@ -25,6 +27,8 @@ mod joined_lines;
 mod lengths;
 #[cfg(test)]
 mod pasting;
+#[cfg(test)]
+mod peaks;
 #[cfg(test)]
 mod reading;
 #[cfg(test)]

@@ -38,6 +38,19 @@ const REFUSED: &[Refused] = &[
     (&["uniq", "-ud"], UseFault::Together(b'd', b'u')),
     (&["cut", "-d", "\n", "-f2"], UseFault::Value(b'd', "\n")),
     (&["cut", "-d", "\0", "-zf2"], UseFault::Value(b'd', "\0")),
+    (
+        &["cut", "-b", "1,18446744073709551616"],
+        UseFault::Value(b'b', "1,18446744073709551616"),
+    ),
+    (&["paste", "-d", ",\\x", "f"], UseFault::Value(b'd', ",\\x")),
+    (
+        &["join", "-o", "1.1,1.18446744073709551616", "f", "g"],
+        UseFault::Value(b'o', "1.1,1.18446744073709551616"),
+    ),
+    (
+        &["join", "-z", "-t", "\0", "f", "g"],
+        UseFault::Value(b't', "\0"),
+    ),
     (&["join", "f"], UseFault::Operands),
     (&["comm", "-", "-"], UseFault::StandardTwice),
     (&["cut", "-n"], UseFault::NeedsList),

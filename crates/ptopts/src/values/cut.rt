@@ -8,11 +8,11 @@ ghost use Rattle.ptopts.specs.Words.{value_of};
 ghost use Rattle.ptopts.specs.Faults.{value_fault, combination_fault, values_fault, is_cut_list};
 ghost use Rattle.ptopts.specs.Commands as commands;
 ghost use Rattle.ptopts.specs.Commands.{set_of};
-ghost use Rattle.ptopts.specs.Steps.{FindsUnlessRefused, options_seen};
+ghost use Rattle.ptopts.specs.Steps.{FindsBeforeMemory, FindsUnlessRefused, options_seen};
 
 use crate::fault::UseFault;
 use crate::reading::{GivenOption, has_letter};
-use crate::values::{delimiter, value};
+use crate::values::{delimiter, list_refused, value};
 use ptlangs::jobs::CutJob;
 use ptlangs::ranges::{ListFault, Ranges};
 use std::alloc::Allocator;
@@ -23,7 +23,7 @@ fn cut_list<'a, A: Allocator + Copy>(
     options: &[GivenOption<'a>],
     letter: u8,
 ) -> Result<Option<Ranges<A>>, UseFault<'a>>
-    ensures fault { FindsUnlessRefused result (value_fault (options_seen options.now) (letter, is_cut_list)) }
+    ensures fault { FindsBeforeMemory result (value_fault (options_seen options.now) (letter, is_cut_list)) }
     ensures list { IfOk result
         (λ r. option_map is_selected r ≡ option_map set_of (value_of letter (options_seen options.now))) }
 {
@@ -32,8 +32,7 @@ fn cut_list<'a, A: Allocator + Copy>(
     };
     match Ranges::read(alloc, text.as_bytes()) {
         Ok(ranges) => Ok(Some(ranges)),
-        Err(ListFault::Memory) => Err(UseFault::Memory),
-        Err(_) => Err(UseFault::Value(letter, text)),
+        Err(fault) => Err(list_refused(letter, text, fault == ListFault::Memory)),
     }
 }
 

@@ -1,6 +1,6 @@
 //! The job of `join`.
 
-ghost use Rattle.std.specs.Prelude.{◌≡◌, IfOk, slice_index_or, false, unwrap_or, codes, option_map, []};
+ghost use Rattle.std.specs.Prelude.{◌≡◌, None, IfOk, slice_index_or, false, unwrap_or, codes, option_map, []};
 ghost use Rattle.std.specs.Str.{byte};
 ghost use Rattle.ptlangs.specs.Jobs as jobs;
 ghost use Rattle.ptopts.specs.declared.tool.Tool.TheVariants.{Join};
@@ -9,11 +9,11 @@ ghost use Rattle.ptopts.specs.Faults.{value_fault, each_value_fault, values_faul
 ghost use Rattle.ptopts.specs.Faults.{is_file_number, is_field_number, is_output_list};
 ghost use Rattle.ptopts.specs.Commands as commands;
 ghost use Rattle.ptopts.specs.Commands.{names_file, number_given, fields_of};
-ghost use Rattle.ptopts.specs.Steps.{Finds, FindsUnlessRefused, options_seen};
+ghost use Rattle.ptopts.specs.Steps.{Finds, FindsBeforeMemory, FindsUnlessRefused, options_seen};
 
 use crate::fault::UseFault;
 use crate::reading::{GivenOption, has_letter};
-use crate::values::{delimiter, value};
+use crate::values::{delimiter, list_refused, value};
 use ptlangs::jobs::JoinJob;
 use ptlangs::numbers;
 use ptlangs::outlist::{OutFault, OutList};
@@ -62,7 +62,7 @@ fn output_list<'a, A: Allocator + Copy>(
     alloc: A,
     options: &[GivenOption<'a>],
 ) -> Result<Option<OutList<A>>, UseFault<'a>>
-    ensures fault { FindsUnlessRefused result (value_fault (options_seen options.now) (byte "o", is_output_list)) }
+    ensures fault { FindsBeforeMemory result (value_fault (options_seen options.now) (byte "o", is_output_list)) }
     ensures list { IfOk result (λ l. l ≡ option_map fields_of (value_of (byte "o") (options_seen options.now))) }
 {
     let Some(text) = value(options, b'o') else {
@@ -70,8 +70,7 @@ fn output_list<'a, A: Allocator + Copy>(
     };
     match OutList::read(alloc, text.as_bytes()) {
         Ok(list) => Ok(Some(list)),
-        Err(OutFault::Memory) => Err(UseFault::Memory),
-        Err(_) => Err(UseFault::Value(b'o', text)),
+        Err(fault) => Err(list_refused(b'o', text, fault == OutFault::Memory)),
     }
 }
 
@@ -94,6 +93,8 @@ pub(crate) fn join_job<'a, A: Allocator + Copy>(
     options: &[GivenOption<'a>],
 ) -> Result<JoinJob<A>, UseFault<'a>>
     ensures fault { FindsUnlessRefused result (values_fault Join (options_seen options.now)) }
+    ensures memory { result ≡ Err UseFault.Memory
+        → value_fault (options_seen options.now) (byte "o", is_output_list) ≡ None }
     ensures job { IfOk result (λ j. jobs.join_job j ≡ commands.join_job (options_seen options.now)) }
 {
     let [also1, also2] = files_named(options, b'a')?;

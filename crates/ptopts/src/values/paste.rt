@@ -1,34 +1,52 @@
 //! The job of `paste`.
 
-ghost use Rattle.std.specs.Prelude.{◌≡◌, IfOk};
+ghost use Rattle.std.specs.Prelude.{◌≡◌, IfOk, option_map};
+ghost use Rattle.std.specs.Str.{byte};
 ghost use Rattle.ptlangs.specs.Jobs as jobs;
 ghost use Rattle.ptopts.specs.declared.tool.Tool.TheVariants.{Paste};
-ghost use Rattle.ptopts.specs.Faults.{values_fault};
+ghost use Rattle.ptopts.specs.Words.{value_of};
+ghost use Rattle.ptopts.specs.Faults.{value_fault, values_fault, is_delimiter_list};
 ghost use Rattle.ptopts.specs.Commands as commands;
-ghost use Rattle.ptopts.specs.Steps.{FindsUnlessRefused, options_seen};
+ghost use Rattle.ptopts.specs.Commands.{delimiters_of};
+ghost use Rattle.ptopts.specs.Steps.{FindsBeforeMemory, options_seen};
 
 use crate::fault::UseFault;
 use crate::reading::{GivenOption, has_letter};
-use crate::values::value;
+use crate::values::{list_refused, value};
 use ptlangs::delims::{DelimFault, Delims};
 use ptlangs::jobs::PasteJob;
 use std::alloc::Allocator;
+
+/// The list of delimiters, if one is given.
+fn delimiter_list<'a, A: Allocator + Copy>(
+    alloc: A,
+    options: &[GivenOption<'a>],
+) -> Result<Option<Delims<A>>, UseFault<'a>>
+    ensures fault { FindsBeforeMemory result
+        (value_fault (options_seen options.now) (byte "d", is_delimiter_list)) }
+    ensures list { IfOk result
+        (λ l. l ≡ option_map delimiters_of (value_of (byte "d") (options_seen options.now))) }
+{
+    let Some(text) = value(options, b'd') else {
+        return Ok(None);
+    };
+    match Delims::read(alloc, text.as_bytes()) {
+        Ok(delims) => Ok(Some(delims)),
+        Err(fault) => Err(list_refused(b'd', text, fault == DelimFault::Memory)),
+    }
+}
 
 /// The job of `paste`.
 pub(crate) fn paste_job<'a, A: Allocator + Copy>(
     alloc: A,
     options: &[GivenOption<'a>],
 ) -> Result<PasteJob<A>, UseFault<'a>>
-    ensures fault { FindsUnlessRefused result (values_fault Paste (options_seen options.now)) }
+    ensures fault { FindsBeforeMemory result (values_fault Paste (options_seen options.now)) }
     ensures job { IfOk result (λ j. jobs.paste_job j ≡ commands.paste_job (options_seen options.now)) }
 {
-    let delims = match value(options, b'd') {
+    let delims = match delimiter_list(alloc, options)? {
+        Some(delims) => delims,
         None => Delims::tab(alloc)?,
-        Some(text) => match Delims::read(alloc, text.as_bytes()) {
-            Ok(delims) => delims,
-            Err(DelimFault::Memory) => return Err(UseFault::Memory),
-            Err(_) => return Err(UseFault::Value(b'd', text)),
-        },
     };
     Ok(PasteJob {
         serial: has_letter(options, b's'),

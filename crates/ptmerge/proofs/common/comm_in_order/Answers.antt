@@ -17,7 +17,7 @@ use Rattle.ptmerge.specs.Places.{Advances, HasSlots}
 use Rattle.ptmerge.specs.Sides.{both}
 use Rattle.ptmerge.specs.Steps.{IsLent, inputs}
 use Rattle.ptmerge.proofs.CommEntries.{written_first, written_second, written_both}
-use Rattle.ptmerge.proofs.Starting.{starts_well, starts_badly, start_slots}
+use Rattle.ptmerge.proofs.Starting.{starts_well, starts_badly, start_slots, start_refused}
 use Rattle.ptmerge.proofs.CommTurns.{Running, adds_of, alone_on, alone_stops, both_on, both_stops, both_unread_second, breaks_slots, comes_slots, ended, fallen, midway, passes_slots, readable_of, slots_of, unfailed_of, wrote_as}
 use Rattle.ptmerge.proofs.Orders.{IsKeyOrder}
 use Rattle.ptmerge.proofs.Pairs.{both_each}
@@ -37,7 +37,7 @@ returns-in_err-merge-clause-merged g c =
     let readable = readable_of c.args.first.now c.args.second.now c.args.store.now c.requires.ready in
     let ending = both_each (λ (side : Side) (r : Reader). r.ending ≡ job.end) c.args.first.now c.args.second.now c.requires.ending.0 c.requires.ending.1 in
     let x = err_from_is_err_and c.from_residual.result c.from_residual.ensures.1 in
-    rw (x.1, x.2) (starts_badly (comm_by job cmp key) o (λ ls. omega arith) old readable ending unfailed c.requires.writable c.requires.ready.allowed c.requires.ready.empty c.start.new.first c.start.new.second c.start.new.store c.in_err-merge.field-0.0 c.in_err-merge.ensures.breaks)
+    rw (x.1, x.2) (starts_badly (comm_by job cmp key) o (λ ls. (omega arith, omega arith)) old readable ending unfailed c.requires.writable c.requires.ready.allowed c.requires.ready.empty c.start.new.first c.start.new.second c.start.new.store c.in_err-merge.field-0.0 c.in_err-merge.ensures.breaks)
 
 pub returns-in_err-merge-clause-slots : goal.returns-in_err-merge-clause-slots
 returns-in_err-merge-clause-slots g c =
@@ -49,7 +49,19 @@ returns-in_err-merge-clause-slots g c =
     let unfailed = unfailed_of c.args.first.now c.args.second.now c.args.store.now c.requires.ready c.requires.sound in
     let readable = readable_of c.args.first.now c.args.second.now c.args.store.now c.requires.ready in
     let ending = both_each (λ (side : Side) (r : Reader). r.ending ≡ job.end) c.args.first.now c.args.second.now c.requires.ending.0 c.requires.ending.1 in
-    start_slots (comm_by job cmp key) o (λ ls. omega arith) old readable ending unfailed c.requires.writable c.requires.ready.allowed c.requires.ready.empty c.start.new.first c.start.new.second c.start.new.store c.in_err-merge.field-0.0 c.in_err-merge.ensures.breaks
+    start_slots (comm_by job cmp key) o (λ ls. (omega arith, omega arith)) old readable ending unfailed c.requires.writable c.requires.ready.allowed c.requires.ready.empty c.start.new.first c.start.new.second c.start.new.store c.in_err-merge.field-0.0 c.in_err-merge.ensures.breaks
+
+pub returns-in_err-merge-clause-refused : goal.returns-in_err-merge-clause-refused
+returns-in_err-merge-clause-refused g c =
+    let o : IsKeyOrder (g.K.KeyOrder.order c.args.order) = record { total = g.met.K.KeyOrder.total c.args.order; exact = g.met.K.KeyOrder.exact c.args.order } in
+    let cmp = g.K.KeyOrder.order c.args.order in
+    let key = g.K.KeyOrder.key_of c.args.order in
+    let job = comm_job c.args.job.now in
+    let old = seen c.args.first.now c.args.second.now c.args.out.now c.args.store.now in
+    let unfailed = unfailed_of c.args.first.now c.args.second.now c.args.store.now c.requires.ready c.requires.sound in
+    let readable = readable_of c.args.first.now c.args.second.now c.args.store.now c.requires.ready in
+    let ending = both_each (λ (side : Side) (r : Reader). r.ending ≡ job.end) c.args.first.now c.args.second.now c.requires.ending.0 c.requires.ending.1 in
+    start_refused (comm_by job cmp key) o (λ ls. (omega arith, omega arith)) old readable ending unfailed c.requires.writable c.requires.ready.allowed c.requires.ready.empty c.start.new.first c.start.new.second c.start.new.store c.in_err-merge.field-0.0 c.in_err-merge.ensures.breaks
 
 pub steps-init : goal.steps-init
 steps-init g c =
@@ -64,7 +76,7 @@ steps-init g c =
     let m = c.in_ok-merge.merge in
     let placed = c.in_ok-merge.ensures.placed in
     let lent = c.in_ok-merge.ensures.lent in
-    let running = starts_well (comm_by job cmp key) o (λ ls. omega arith) old readable ending unfailed c.requires.writable c.requires.ready.allowed c.requires.ready.empty (inputs c.start.new.first c.start.new.second c.start.new.store) (both c.in_ok-merge.merge.first c.in_ok-merge.merge.second) placed.first c.in_ok-merge.ensures.starts in
+    let running = starts_well (comm_by job cmp key) o (λ ls. (omega arith, omega arith)) old readable ending unfailed c.requires.writable c.requires.ready.allowed c.requires.ready.empty (inputs c.start.new.first c.start.new.second c.start.new.store) (both c.in_ok-merge.merge.first c.in_ok-merge.merge.second) placed.first c.in_ok-merge.ensures.starts in
     record {
       running = subst (λ k. Running (comm_by (comm_job c.args.job.now) (g.K.KeyOrder.order k) (g.K.KeyOrder.key_of k)) (seen c.args.first.now c.args.second.now c.args.out.now c.args.store.now) (seen c.start.new.first c.start.new.second c.args.out.now c.start.new.store) (both c.in_ok-merge.merge.first c.in_ok-merge.merge.second)) (sym c.in_ok-merge.ensures.order) running;
       placed = placed;
@@ -206,6 +218,10 @@ pub returns-in_err-pass-in-First-clause-slots : goal.returns-in_err-pass-in-Firs
 returns-in_err-pass-in-First-clause-slots g c =
     adds_of c.args.store.now c.pass.new.store (passes_slots (g.K.KeyOrder.key_of c.steps.merge.order sides.First) (g.K.KeyOrder.order c.steps.merge.order) sides.First c.steps.merge.first c.pass.new.merge.first c.steps.first c.pass.new.reader c.steps.store c.pass.new.store c.pass.new.out c.in_err-pass-in-First.field-0.0 c.in_err-pass-in-First.ensures.passes ∙ c.steps.invariant.running.keeps.slots)
 
+pub returns-in_err-pass-in-First-clause-refused : goal.returns-in_err-pass-in-First-clause-refused
+returns-in_err-pass-in-First-clause-refused g c =
+    λ few. absurd (omega (arith, few, passes_slots (g.K.KeyOrder.key_of c.steps.merge.order sides.First) (g.K.KeyOrder.order c.steps.merge.order) sides.First c.steps.merge.first c.pass.new.merge.first c.steps.first c.pass.new.reader c.steps.store c.pass.new.store c.pass.new.out c.in_err-pass-in-First.field-0.0 c.in_err-pass-in-First.ensures.passes ∙ c.steps.invariant.running.keeps.slots))
+
 pub returns-in_err-pass-in-Second-clause-merged : goal.returns-in_err-pass-in-Second-clause-merged
 returns-in_err-pass-in-Second-clause-merged g c =
     let cmp = g.K.KeyOrder.order c.steps.merge.order in
@@ -228,6 +244,10 @@ pub returns-in_err-pass-in-Second-clause-slots : goal.returns-in_err-pass-in-Sec
 returns-in_err-pass-in-Second-clause-slots g c =
     adds_of c.args.store.now c.pass-in-Second.new.store (passes_slots (g.K.KeyOrder.key_of c.steps.merge.order sides.Second) (g.K.KeyOrder.order c.steps.merge.order) sides.Second c.steps.merge.second c.pass-in-Second.new.merge.second c.steps.second c.pass-in-Second.new.reader c.steps.store c.pass-in-Second.new.store c.pass-in-Second.new.out c.in_err-pass-in-Second.field-0.0 c.in_err-pass-in-Second.ensures.passes ∙ c.steps.invariant.running.keeps.slots)
 
+pub returns-in_err-pass-in-Second-clause-refused : goal.returns-in_err-pass-in-Second-clause-refused
+returns-in_err-pass-in-Second-clause-refused g c =
+    λ few. absurd (omega (arith, few, passes_slots (g.K.KeyOrder.key_of c.steps.merge.order sides.Second) (g.K.KeyOrder.order c.steps.merge.order) sides.Second c.steps.merge.second c.pass-in-Second.new.merge.second c.steps.second c.pass-in-Second.new.reader c.steps.store c.pass-in-Second.new.store c.pass-in-Second.new.out c.in_err-pass-in-Second.field-0.0 c.in_err-pass-in-Second.ensures.passes ∙ c.steps.invariant.running.keeps.slots))
+
 pub returns-in_err-pass-in-Both-clause-merged : goal.returns-in_err-pass-in-Both-clause-merged
 returns-in_err-pass-in-Both-clause-merged g c =
     let cmp = g.K.KeyOrder.order c.steps.merge.order in
@@ -249,6 +269,10 @@ returns-in_err-pass-in-Both-clause-merged g c =
 pub returns-in_err-pass-in-Both-clause-slots : goal.returns-in_err-pass-in-Both-clause-slots
 returns-in_err-pass-in-Both-clause-slots g c =
     adds_of c.args.store.now c.pass-in-Both.new.store (passes_slots (g.K.KeyOrder.key_of c.steps.merge.order sides.First) (g.K.KeyOrder.order c.steps.merge.order) sides.First c.steps.merge.first c.pass-in-Both.new.merge.first c.steps.first c.pass-in-Both.new.reader c.steps.store c.pass-in-Both.new.store c.pass-in-Both.new.out c.in_err-pass-in-Both.field-0.0 c.in_err-pass-in-Both.ensures.passes ∙ c.steps.invariant.running.keeps.slots)
+
+pub returns-in_err-pass-in-Both-clause-refused : goal.returns-in_err-pass-in-Both-clause-refused
+returns-in_err-pass-in-Both-clause-refused g c =
+    λ few. absurd (omega (arith, few, passes_slots (g.K.KeyOrder.key_of c.steps.merge.order sides.First) (g.K.KeyOrder.order c.steps.merge.order) sides.First c.steps.merge.first c.pass-in-Both.new.merge.first c.steps.first c.pass-in-Both.new.reader c.steps.store c.pass-in-Both.new.store c.pass-in-Both.new.out c.in_err-pass-in-Both.field-0.0 c.in_err-pass-in-Both.ensures.passes ∙ c.steps.invariant.running.keeps.slots))
 
 pub steps-preserved : goal.steps-preserved
 steps-preserved g c =
@@ -306,6 +330,11 @@ returns-in_err-advance-in-Both-clause-slots g c =
     let count : length c.pass-in-Both.new.store.lines ≡ max (length c.args.store.now.lines) 4 = comes_slots (g.K.KeyOrder.key_of c.steps.merge.order sides.First) (g.K.KeyOrder.order c.steps.merge.order) c.steps.merge.first c.pass-in-Both.new.merge.first c.steps.first c.pass-in-Both.new.reader c.steps.store c.pass-in-Both.new.store c.in_ok-pass-in-Both.ensures.passes.1 ∙ c.steps.invariant.running.keeps.slots in
     adds_of c.args.store.now c.advance.new.store (breaks_slots sides.Second c.pass-in-Both.new.merge.second c.steps.second c.advance.new.reader c.pass-in-Both.new.store c.advance.new.store c.in_err-advance-in-Both.field-0.0 c.in_err-advance-in-Both.ensures.moves ∙ count)
 
+pub returns-in_err-advance-in-Both-clause-refused : goal.returns-in_err-advance-in-Both-clause-refused
+returns-in_err-advance-in-Both-clause-refused g c =
+    let count : length c.pass-in-Both.new.store.lines ≡ max (length c.args.store.now.lines) 4 = comes_slots (g.K.KeyOrder.key_of c.steps.merge.order sides.First) (g.K.KeyOrder.order c.steps.merge.order) c.steps.merge.first c.pass-in-Both.new.merge.first c.steps.first c.pass-in-Both.new.reader c.steps.store c.pass-in-Both.new.store c.in_ok-pass-in-Both.ensures.passes.1 ∙ c.steps.invariant.running.keeps.slots in
+    λ few. absurd (omega (arith, few, breaks_slots sides.Second c.pass-in-Both.new.merge.second c.steps.second c.advance.new.reader c.pass-in-Both.new.store c.advance.new.store c.in_err-advance-in-Both.field-0.0 c.in_err-advance-in-Both.ensures.moves ∙ count))
+
 pub steps-smaller : goal.steps-smaller
 steps-smaller g c =
     let others : c.pass-in-Both.new.merge.second ≡ c.steps.merge.second = c.pass-in-Both.ensures.others in
@@ -334,6 +363,10 @@ pub returns-in-End-clause-slots : goal.returns-in-End-clause-slots
 returns-in-End-clause-slots g c =
     adds_of c.args.store.now c.clear_four.new.store (c.clear_four.ensures.slots ∙ c.steps.invariant.running.keeps.slots)
 
+pub returns-in-End-clause-refused : goal.returns-in-End-clause-refused
+returns-in-End-clause-refused g c =
+    λ few. absurd (omega (arith, few, c.clear_four.ensures.slots ∙ c.steps.invariant.running.keeps.slots))
+
 pub returns-in-Stop-clause-merged : goal.returns-in-Stop-clause-merged
 returns-in-Stop-clause-merged g c =
     let cmp = g.K.KeyOrder.order c.steps.merge.order in
@@ -353,3 +386,7 @@ returns-in-Stop-clause-merged g c =
 pub returns-in-Stop-clause-slots : goal.returns-in-Stop-clause-slots
 returns-in-Stop-clause-slots g c =
     adds_of c.args.store.now c.clear_four-in-Stop.new.store (c.clear_four-in-Stop.ensures.slots ∙ c.steps.invariant.running.keeps.slots)
+
+pub returns-in-Stop-clause-refused : goal.returns-in-Stop-clause-refused
+returns-in-Stop-clause-refused g c =
+    λ few. absurd (omega (arith, few, c.clear_four-in-Stop.ensures.slots ∙ c.steps.invariant.running.keeps.slots))

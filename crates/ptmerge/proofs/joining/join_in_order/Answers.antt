@@ -16,7 +16,7 @@ use Rattle.ptmerge.specs.Merges.{seen}
 use Rattle.ptmerge.specs.Places.{Comes, HasSlots}
 use Rattle.ptmerge.specs.Sides.{both}
 use Rattle.ptmerge.specs.Steps.{AreEqual, IsAlone, IsDecided, IsLent, inputs}
-use Rattle.ptmerge.proofs.CommTurns.{comes_slots, readable_of, slots_of, unfailed_of, wrote_as}
+use Rattle.ptmerge.proofs.CommTurns.{comes_slots, passes_slots, readable_of, slots_of, unfailed_of, wrote_as}
 use Rattle.ptmerge.proofs.JoinEntries.{join_pairs, written_alone}
 use Rattle.ptmerge.proofs.JoinSlots.{group_is}
 use Rattle.ptmerge.proofs.JoinTurns.{Between, Gathering, Pairing, Phased, alone_on, alone_stops, as_between, as_gathering, as_pairing, at_least, end_in, ended, fallen, gather_slots, gathered, gathers_on, group_closed, not_gathered, opens, pair_stops, pairs_next, pairs_on, starts_between}
@@ -24,7 +24,7 @@ use Rattle.ptmerge.proofs.Orders.{IsKeyOrder}
 use Rattle.ptmerge.proofs.Pairs.{both_each}
 use Rattle.ptmerge.proofs.Splitting.{all_keys}
 use Rattle.ptmerge.proofs.Standing.{alive, comes_less}
-use Rattle.ptmerge.proofs.Starting.{starts_well, starts_badly}
+use Rattle.ptmerge.proofs.Starting.{starts_well, starts_badly, start_refused}
 use Rattle.ptmerge.proofs.Turning.{alone}
 use Rattle.ptmerge.proofs.joining.join_in_order.Goals as goal
 
@@ -39,7 +39,19 @@ returns-in_err-merge-clause-merged g c =
     let readable = readable_of c.args.first.now c.args.second.now c.args.store.now c.requires.ready in
     let ending = both_each (λ (side : Side) (r : Reader). r.ending ≡ job.end) c.args.first.now c.args.second.now c.requires.ending.0 c.requires.ending.1 in
     let x = err_from_is_err_and c.from_residual.result c.from_residual.ensures.1 in
-    rw (x.1, x.2) (starts_badly (join_by job cmp key) o (λ ls. omega arith) old readable ending unfailed c.requires.writable c.requires.ready.allowed c.requires.ready.empty c.start.new.first c.start.new.second c.start.new.store c.in_err-merge.field-0.0 c.in_err-merge.ensures.breaks)
+    rw (x.1, x.2) (starts_badly (join_by job cmp key) o (λ ls. (omega arith, omega arith)) old readable ending unfailed c.requires.writable c.requires.ready.allowed c.requires.ready.empty c.start.new.first c.start.new.second c.start.new.store c.in_err-merge.field-0.0 c.in_err-merge.ensures.breaks)
+
+pub returns-in_err-merge-clause-refused : goal.returns-in_err-merge-clause-refused
+returns-in_err-merge-clause-refused g c =
+    let o : IsKeyOrder (g.K.KeyOrder.order c.args.order) = record { total = g.met.K.KeyOrder.total c.args.order; exact = g.met.K.KeyOrder.exact c.args.order } in
+    let cmp = g.K.KeyOrder.order c.args.order in
+    let key = g.K.KeyOrder.key_of c.args.order in
+    let job = join_job c.args.job.now in
+    let old = seen c.args.first.now c.args.second.now c.args.out.now c.args.store.now in
+    let unfailed = unfailed_of c.args.first.now c.args.second.now c.args.store.now c.requires.ready c.requires.sound in
+    let readable = readable_of c.args.first.now c.args.second.now c.args.store.now c.requires.ready in
+    let ending = both_each (λ (side : Side) (r : Reader). r.ending ≡ job.end) c.args.first.now c.args.second.now c.requires.ending.0 c.requires.ending.1 in
+    start_refused (join_by job cmp key) o (λ ls. (omega arith, omega arith)) old readable ending unfailed c.requires.writable c.requires.ready.allowed c.requires.ready.empty c.start.new.first c.start.new.second c.start.new.store c.in_err-merge.field-0.0 c.in_err-merge.ensures.breaks
 
 pub turns-init : goal.turns-init
 turns-init g c =
@@ -53,7 +65,7 @@ turns-init g c =
     let ending = both_each (λ (side : Side) (r : Reader). r.ending ≡ job.end) c.args.first.now c.args.second.now c.requires.ending.0 c.requires.ending.1 in
     let placed = c.in_ok-merge.ensures.placed in
     let lent = c.in_ok-merge.ensures.lent in
-    let running = starts_well (join_by job cmp key) o (λ ls. omega arith) old readable ending unfailed c.requires.writable c.requires.ready.allowed c.requires.ready.empty (inputs c.start.new.first c.start.new.second c.start.new.store) (both c.in_ok-merge.merge.first c.in_ok-merge.merge.second) placed.first c.in_ok-merge.ensures.starts in
+    let running = starts_well (join_by job cmp key) o (λ ls. (omega arith, omega arith)) old readable ending unfailed c.requires.writable c.requires.ready.allowed c.requires.ready.empty (inputs c.start.new.first c.start.new.second c.start.new.store) (both c.in_ok-merge.merge.first c.in_ok-merge.merge.second) placed.first c.in_ok-merge.ensures.starts in
     record {
       o = o;
       unfailed = unfailed;
@@ -285,6 +297,24 @@ returns-in_err-end-in-Gathering-clause-slots g c =
     let more = gather_slots tool i.o pairs laws old i.unfailed (key sides.Second) cmp c.turns.merge.second c.gather.new.merge.second c.turns.second c.gather.new.reader c.turns.store c.gather.new.store c.turns.end c.in_err-end-in-Gathering.field-0.0 gathers i.placed.slots in
     record { least = omega (arith, least, more); all = λ _. more.1 }
 
+pub returns-in_err-end-in-Gathering-clause-refused : goal.returns-in_err-end-in-Gathering-clause-refused
+returns-in_err-end-in-Gathering-clause-refused g c =
+    let i = c.turns.invariant in
+    let cmp = g.K.KeyOrder.order c.args.order in
+    let key = g.K.KeyOrder.key_of c.args.order in
+    let job = join_job c.args.job.now in
+    let tool = join_by job cmp key in
+    let pairs = pairs_of job in
+    let laws = join_pairs job cmp key in
+    let old = seen c.args.first.now c.args.second.now c.args.out.now c.args.store.now in
+    let now = seen c.turns.first c.turns.second c.turns.out c.turns.store in
+    let place = both c.turns.merge.first c.turns.merge.second in
+    let slots = slots_of c.turns.merge.first c.turns.merge.second c.turns.store i.placed in
+    let end : c.ending-ending.result ≡ job.end = c.ending-ending.ensures ∙ c.requires.ending.0 in
+    let gathers = subst (λ k. Gathers (g.K.KeyOrder.key_of k sides.Second) (g.K.KeyOrder.order k) c.turns.merge.second c.gather.new.merge.second c.turns.second c.gather.new.reader c.turns.store c.gather.new.store c.turns.end (Err c.in_err-end-in-Gathering.field-0.0)) i.order c.in_err-end-in-Gathering.ensures.gathers in
+    let more = gather_slots tool i.o pairs laws old i.unfailed (key sides.Second) cmp c.turns.merge.second c.gather.new.merge.second c.turns.second c.gather.new.reader c.turns.store c.gather.new.store c.turns.end c.in_err-end-in-Gathering.field-0.0 gathers i.placed.slots in
+    λ few. absurd (omega (arith, few, more.1))
+
 pub turns-preserved-then-not-has_key_of : goal.turns-preserved-then-not-has_key_of
 turns-preserved-then-not-has_key_of g c =
     let i = c.turns.invariant in
@@ -395,6 +425,22 @@ turns-smaller-then-not-has_key_of g c =
 
 pub turns-smaller-then-not-has_key_of-2 : goal.turns-smaller-then-not-has_key_of-2
 turns-smaller-then-not-has_key_of-2 g c =
+    let i = c.turns.invariant in
+    let cmp = g.K.KeyOrder.order c.args.order in
+    let key = g.K.KeyOrder.key_of c.args.order in
+    let job = join_job c.args.job.now in
+    let tool = join_by job cmp key in
+    let pairs = pairs_of job in
+    let laws = join_pairs job cmp key in
+    let old = seen c.args.first.now c.args.second.now c.args.out.now c.args.store.now in
+    let now = seen c.turns.first c.turns.second c.turns.out c.turns.store in
+    let place = both c.turns.merge.first c.turns.merge.second in
+    let r = as_pairing tool i.o pairs laws old i.unfailed c.turns.phase now place c.turns.end i.phased c.in-Pairing.is in
+    let less = comes_less (g.K.KeyOrder.key_of c.turns.merge.order sides.First) (g.K.KeyOrder.order c.turns.merge.order) c.turns.merge.first c.pass_pairs.new.merge.first c.turns.first c.pass_pairs.new.reader c.turns.store c.pass_pairs.new.store r.head1 c.in_ok-pass_pairs-in-Pairing.ensures.passes.1 in
+    omega (arith, less, ap (λ (q : Sorted). alive q.stand) c.pass_pairs.ensures.others)
+
+pub turns-smaller : goal.turns-smaller
+turns-smaller g c =
     let i = c.turns.invariant in
     let cmp = g.K.KeyOrder.order c.args.order in
     let key = g.K.KeyOrder.key_of c.args.order in
@@ -563,3 +609,24 @@ turns-preserved g c =
       clean = c.in_ok-pass_pairs-in-Pairing.ensures.passes.0;
       order = c.pass_pairs.ensures.order ∙ i.order;
     }
+
+pub returns-in_err-pass_alone-in-First-clause-refused : goal.returns-in_err-pass_alone-in-First-clause-refused
+returns-in_err-pass_alone-in-First-clause-refused g c =
+    λ few.
+    absurd (omega (arith, few, c.turns.invariant.placed.slots, passes_slots (g.K.KeyOrder.key_of c.turns.merge.order sides.First) (g.K.KeyOrder.order c.turns.merge.order) sides.First c.turns.merge.first c.pass_alone.new.merge.first c.turns.first c.pass_alone.new.reader c.turns.store c.pass_alone.new.store c.pass_alone.new.out c.in_err-pass_alone-in-First.field-0.0 c.in_err-pass_alone-in-First.ensures.passes))
+
+pub returns-in_err-pass_alone-in-Second-clause-refused : goal.returns-in_err-pass_alone-in-Second-clause-refused
+returns-in_err-pass_alone-in-Second-clause-refused g c =
+    λ few.
+    absurd (omega (arith, few, c.turns.invariant.placed.slots, passes_slots (g.K.KeyOrder.key_of c.turns.merge.order sides.Second) (g.K.KeyOrder.order c.turns.merge.order) sides.Second c.turns.merge.second c.pass_alone-in-Second.new.merge.second c.turns.second c.pass_alone-in-Second.new.reader c.turns.store c.pass_alone-in-Second.new.store c.pass_alone-in-Second.new.out c.in_err-pass_alone-in-Second.field-0.0 c.in_err-pass_alone-in-Second.ensures.passes))
+
+pub returns-in_err-pass_pairs-in-Pairing-clause-refused : goal.returns-in_err-pass_pairs-in-Pairing-clause-refused
+returns-in_err-pass_pairs-in-Pairing-clause-refused g c =
+    λ few.
+    absurd (omega (arith, few, c.turns.invariant.placed.slots, passes_slots (g.K.KeyOrder.key_of c.turns.merge.order sides.First) (g.K.KeyOrder.order c.turns.merge.order) sides.First c.turns.merge.first c.pass_pairs.new.merge.first c.turns.first c.pass_pairs.new.reader c.turns.store c.pass_pairs.new.store c.pass_pairs.new.out c.in_err-pass_pairs-in-Pairing.field-0.0 c.in_err-pass_pairs-in-Pairing.ensures.passes))
+
+pub returns-in-End-clause-refused : goal.returns-in-End-clause-refused
+returns-in-End-clause-refused g c = λ few. absurd (omega (arith, few, c.clear_four.ensures.slots, c.turns.invariant.placed.slots))
+
+pub returns-in-Stop-clause-refused : goal.returns-in-Stop-clause-refused
+returns-in-Stop-clause-refused g c = λ few. absurd (omega (arith, few, c.clear_four-in-Stop.ensures.slots, c.turns.invariant.placed.slots))

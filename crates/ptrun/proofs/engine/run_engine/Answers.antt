@@ -2,7 +2,6 @@ use Rattle.std.proofs.Common.{◌≡◌, ℕ, Bool, true, false, cond, List, [],
 use Rattle.std.proofs.lemmas.Bool.{false≢true}
 use Rattle.ptlines.specs.Outputs.{Output}
 use Rattle.ptlines.specs.Sinks.{SinkState}
-use Rattle.ptlines.specs.Slots.{Slots, total}
 use Rattle.ptrun.specs.Worlds.{shut}
 use Rattle.ptrun.specs.Meanings.{unopened}
 use Rattle.ptrun.specs.Sayings.{Tells}
@@ -14,7 +13,7 @@ use Rattle.ptrun.proofs.engine.run_engine.Goals as goal
 pub conclude-status-requires : goal.conclude-status-requires
 conclude-status-requires g c =
     subst (λ (n : ℕ). IsWithin n c.finish-ended.result) c.requires.given.named
-    (named_of (g.G.Engine.meaning c.args.engine.now) c.args.inputs.now c.go-went.new.inputs c.new-out.result c.go-went.new.out c.finish-ended.new.out c.lacks_inputs.new.voice c.go-went.new.voice c.empty-store.result c.go-went.new.store
+    (named_of (g.G.Engine.meaning c.args.engine.now) c.args.inputs.now c.go-went.new.inputs c.new-out.result c.go-went.new.out c.finish-ended.new.out c.lacks_inputs.new.voice c.go-went.new.voice c.args.store.now c.go-went.new.store
     c.go-went.result c.finish-ended.result c.go-went.ensures c.finish-ended.ensures)
 
 pub go-went-requires-clause-start : goal.go-went-requires-clause-start
@@ -22,8 +21,8 @@ go-went-requires-clause-start g c = record {
   given = c.requires.given;
   complete = sym c.lacks_inputs.ensures.is ∙ c.if-lacks_inputs.false;
   writable = ap (λ (o : Output). o.faulted) c.new-out.ensures;
-  roomy = ap (λ (s : Slots). s.denied) c.empty-store.ensures;
-  empty = ap (λ (s : Slots). total s.lines) c.empty-store.ensures;
+  roomy = c.requires.unused.roomy;
+  empty = c.requires.unused.empty;
 }
 
 pub returns-then-lacks_inputs-clause-run : goal.returns-then-lacks_inputs-clause-run
@@ -45,8 +44,8 @@ returns-clause-quiet g c = λ is_lacking. absurd_quiet _ _ c.lacks_inputs.ensure
 pub returns-clause-run : goal.returns-clause-run
 returns-clause-run g c =
     run_behind _ _ _ _ _ _ _ (none_said _ _ _ _ c.if-lacks_inputs.false c.lacks_inputs.ensures.tells)
-    (run_of (g.G.Engine.meaning c.args.engine.now) c.args.inputs.now c.go-went.new.inputs c.new-out.result c.go-went.new.out c.finish-ended.new.out c.lacks_inputs.new.voice c.go-went.new.voice c.empty-store.result c.go-went.new.store
+    (run_of (g.G.Engine.meaning c.args.engine.now) c.args.inputs.now c.go-went.new.inputs c.new-out.result c.go-went.new.out c.finish-ended.new.out c.lacks_inputs.new.voice c.go-went.new.voice c.args.store.now c.go-went.new.store
     c.go-went.result c.finish-ended.result (g.W.Sink.state c.args.out) (outcome (g.W.Sink.state) (g.E.Sink.state) c.report_of.result) c.go-went.ensures c.finish-ended.ensures
     (rw c.report_of.ensures.messages c.conclude-status.ensures.said) (c.report_of.ensures.status ∙ c.conclude-status.ensures.status)
-    c.new-out.ensures c.report_of.ensures.out.0 c.report_of.ensures.out.1
-    (ap (λ (s : Slots). s.peak) c.empty-store.ensures) c.report_of.ensures.store.0 c.report_of.ensures.store.1)
+    c.new-out.ensures c.report_of.ensures.out.0 c.report_of.ensures.out.1 c.report_of.ensures.out.2
+    c.requires.unused.never c.report_of.ensures.store.0 c.report_of.ensures.store.1)

@@ -1,0 +1,178 @@
+"""The same commands over inputs of equal size whose lines are of one length, from 0 to 10,000 bytes."""
+
+import os
+import shutil
+import statistics
+
+import chart
+from measuring import FILE, OTHER, RUNS, compare, instructions
+
+LENGTHS = [0, 1, 2, 4, 8, 16, 30, 100, 1000, 10000]
+# An input has so many lines, or fewer where it would have more bytes than this.
+LINES = 3000000
+SIZE = 32 << 20
+COUNTED_LINES = 30000
+COUNTED_SIZE = 1 << 20
+LETTERS = "abcdefghijklmnopqrstuvwxyz"
+KEY = 8
+
+
+def word(number, length):
+    """The number in letters, so that words of one length ascend as their numbers do."""
+    letters = []
+    for _ in range(length):
+        number, last = divmod(number, 26)
+        letters.append(LETTERS[last])
+    return "".join(reversed(letters))
+
+
+def lines(length, numbers, among, separator):
+    """Lines that ascend: a key of up to 8 letters, and behind it fields of 7 letters. Short ones repeat."""
+    key = min(length, KEY)
+    rest = ((separator + "xyzxyzx") * (length // 8 + 1))[: length - key] + "\n"
+    return "".join(word(number * 26**key // among, key) + rest for number in numbers)
+
+
+def in_thirds(kind):
+    """The lines of two inputs of one length: of the places of both, the first lacks each third one, and the second
+    another third; so half of each is common."""
+
+    def made(length, count, separator):
+        among = count * 3 // 2
+        first = lines(length, (it for it in range(among) if it % 3 != 2), among, separator)
+        if kind == "both":
+            return first, lines(length, (it for it in range(among) if it % 3 != 0), among, separator)
+        # Each key once: a key of the first that is there many times pairs with one line.
+        keys = min(among, 26 ** min(length, KEY))
+        return first, lines(length, (it for it in range(keys) if it % 3 != 0 or keys == 1), keys, separator)
+
+    return made
+
+
+def alone(length, count, separator):
+    return lines(length, range(count), count, separator), ""
+
+
+def fields(length, count, separator):
+    """Lines with a separator as the second byte, and then as each fourth."""
+    line = ("a" + (separator + "bcd") * (length // 4 + 1))[:length] + "\n"
+    return line * count, ""
+
+
+# Of each tool its commands: what its inputs are made of, and the byte between their fields.
+CASES = {
+    "cut": [(alone, " ", ["cut", "-c", "2-4"]), (fields, ",", ["cut", "-d", ",", "-f", "2"])],
+    "paste": [
+        (alone, " ", ["paste", "-", FILE]),
+        (alone, " ", ["paste", "-", "-", "-"]),
+        (alone, " ", ["paste", "-s", "-"]),
+    ],
+    "join": [
+        (in_thirds("once"), " ", ["join", "-", OTHER]),
+        (in_thirds("once"), " ", ["join", "-a", "1", "-", OTHER]),
+        (in_thirds("once"), ",", ["join", "-t", ",", "-", OTHER]),
+    ],
+    "comm": [(in_thirds("both"), " ", ["comm", "-", OTHER]), (in_thirds("both"), " ", ["comm", "-12", "-", OTHER])],
+    "uniq": [(alone, " ", ["uniq"]), (alone, " ", ["uniq", "-c"]), (alone, " ", ["uniq", "-f", "1"])],
+    "tr": [
+        (alone, " ", ["tr", "a-z", "A-Z"]),
+        (alone, " ", ["tr", "-d", "aeiou"]),
+        (alone, " ", ["tr", "-cs", "[:alpha:]", "[\\n*]"]),
+    ],
+}
+
+
+def write(folder, name, text):
+    path = os.path.join(folder, name)
+    with open(path, "w", encoding="ascii") as file:
+        file.write(text)
+    return path
+
+
+def instructions_a_line(folder, ptext, made, separator, words, length):
+    """Those of a short input, without those of an empty one, for each line of standard input."""
+    count = min(COUNTED_LINES, COUNTED_SIZE // (length + 1))
+    paths = [write(folder, f"few{place}", text) for place, text in enumerate(made(length, count, separator))]
+    empty = write(folder, "none", "")
+    return (instructions(folder, *paths, ptext, words) - instructions(folder, empty, empty, ptext, words)) / count
+
+
+def measured(folder, ptext, other, quick):
+    """A row for each command and length: tool, command, length, seconds of both, instructions of ptext a line."""
+    counted = shutil.which("valgrind") is not None
+    rows = []
+    for length in LENGTHS:
+        count = min(LINES, SIZE // (length + 1)) // (10 if quick else 1)
+        inputs = {}
+        for tool, cases in CASES.items():
+            for made, separator, words in cases:
+                if (made, separator) not in inputs:
+                    place = len(inputs)
+                    texts = made(length, count, separator)
+                    inputs[made, separator] = [write(folder, f"in{place}{it}", text) for it, text in enumerate(texts)]
+                ours, theirs = compare(folder, *inputs[made, separator], ptext, other, words, 1 if quick else RUNS)
+                few = instructions_a_line(folder, ptext, made, separator, words, length) if counted else None
+                rows.append((tool, " ".join(words), length, ours, theirs, few))
+                said = "" if few is None else f"{few:10.0f} instructions a line"
+                print(f"{length:6} bytes  {rows[-1][1]:28} {ours:7.3f} s {theirs:7.3f} s {ours / theirs:6.2f}{said}", flush=True)
+    return rows
+
+
+def data(rows):
+    head = "tool\tcommand\tbytes a line\tptext s\tother s\tratio\tinstructions a line\n"
+    texts = []
+    for tool, words, length, ours, theirs, few in rows:
+        last = "" if few is None else f"{few:.1f}"
+        texts.append(f"{tool}\t{words}\t{length}\t{ours:.4f}\t{theirs:.4f}\t{ours / theirs:.3f}\t{last}\n")
+    return head + "".join(texts)
+
+
+def table(rows):
+    """Ratio, and instructions a line behind it, of each command and length; then the means of the tools."""
+    text = ["| command | " + " | ".join(f"{it:,}" for it in LENGTHS) + " |", "|---" * (len(LENGTHS) + 1) + "|"]
+    for words in dict.fromkeys(row[1] for row in rows):
+        cells = [f"{row[3] / row[4]:.2f}" + ("" if row[5] is None else f" ({row[5]:,.0f})") for row in rows if row[1] == words]
+        text.append(f"| `{words}` | " + " | ".join(cells) + " |")
+    for tool, means in means_of(rows).items():
+        text.append(f"| **{tool}**, geometric mean | " + " | ".join(f"**{means[it]:.2f}**" for it in LENGTHS) + " |")
+    return "\n".join(text) + "\n"
+
+
+def means_of(rows):
+    """The geometric mean of the ratios of each tool at each length."""
+    return {
+        tool: {
+            length: statistics.geometric_mean(row[3] / row[4] for row in rows if row[0] == tool and row[2] == length)
+            for length in LENGTHS
+        }
+        for tool in CASES
+    }
+
+
+def keep_table(path, text):
+    """Puts the table between its two marks; a file without them, or none, becomes the table alone."""
+    begin, end = "<!-- begin: written by bench/run.py -->\n", "<!-- end -->\n"
+    old = ""
+    if os.path.exists(path):
+        with open(path, encoding="utf-8") as file:
+            old = file.read()
+    front, mark, rest = old.partition(begin)
+    new = front + begin + text + end + rest.partition(end)[2] if mark else text
+    with open(path, "w", encoding="utf-8") as file:
+        file.write(new)
+
+
+def run(folder, ptext, other, quick, to):
+    load = os.getloadavg()[0]
+    rows = measured(folder, ptext, other, quick)
+    said = (
+        f"Ratios by the bytes of a line, without its newline, and in brackets the instructions of `ptext` a line.\n"
+        f"{'Each command once' if quick else f'The best of {RUNS} runs'}, over {LINES // (10 if quick else 1):,} lines or "
+        f"{(SIZE >> 20) / (10 if quick else 1):g} MB, whichever is less, on {os.cpu_count()} processors; other work on the machine "
+        f"at the start: {load:.1f} of them.\n`OTHER` is the second input, of lines as long; `FILE` is the first once more.\n\n"
+    )
+    os.makedirs(to, exist_ok=True)
+    write(to, "speed.tsv", data(rows))
+    keep_table(os.path.join(to, "README.md"), said + table(rows))
+    with open(os.path.join(to, "speed.svg"), "w", encoding="utf-8") as file:
+        file.write(chart.drawn(means_of(rows)))

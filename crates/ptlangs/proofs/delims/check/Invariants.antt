@@ -1,0 +1,10 @@
+use Rattle.std.proofs.Common.{◌≡◌, length}
+use Rattle.std.specs.Result.{result_err}
+use Rattle.ptlangs.specs.DelimLists.{delim_list}
+use Rattle.ptlangs.proofs.delims.check.Given as goal
+
+abbrev pub invariant-loop-behind : goal.invariant-loop-behind
+invariant-loop-behind l = result_err (delim_list l.text) ≡ result_err (delim_list l.left)
+
+abbrev pub decreases-loop-behind : goal.decreases-loop-behind
+decreases-loop-behind l = length l.left

@@ -1,0 +1,5 @@
+use Rattle.ptlangs.proofs.TrMemory.{never_memory}
+use Rattle.ptlangs.proofs.plan.no_string_wants_memory.Goals as goal
+
+pub returns : goal.returns
+returns c = never_memory

@@ -1,0 +1,11 @@
+use Rattle.std.proofs.Common.{◌≡◌, length}
+use Rattle.std.specs.Result.{result_err}
+use Rattle.ptlangs.specs.CutLists.{element, cut_list}
+use Rattle.ptlangs.specs.Numbers.{elements, each}
+use Rattle.ptlangs.proofs.ranges.check.Given as goal
+
+abbrev pub invariant-loop-behind : goal.invariant-loop-behind
+invariant-loop-behind l = result_err (cut_list l.text) ≡ result_err (each element (elements l.left))
+
+abbrev pub decreases-loop-behind : goal.decreases-loop-behind
+decreases-loop-behind l = length l.left

@@ -1,0 +1,47 @@
+use Rattle.std.proofs.Common.{ℕ, List, false, sym, subst, arith}
+use Rattle.ptopts.specs.Meant.{words_seen, meant}
+use Rattle.ptlines.specs.Sinks.{SinkState}
+use Rattle.ptrun.specs.Asked.{tool_word}
+use Rattle.ptrun.specs.Messages.{said_of, status_of}
+use Rattle.ptrun.specs.Meanings.{Meaning}
+use Rattle.ptrun.specs.Runs.{IsRun, sinks}
+use Rattle.ptrun.specs.Sayings.{Tells}
+use Rattle.ptrun.proofs.Asked.{asked_ok, asked_refused, operands_fit, headline_asked}
+use Rattle.ptrun.proofs.Runs.{only_said}
+use Rattle.ptrun.proofs.running.run_with_store.Goals as goal
+
+pub run_command-requires-clause-fresh : goal.run_command-requires-clause-fresh
+run_command-requires-clause-fresh g c = rw c.in-Ok.is at c.requires.fresh
+
+pub run_command-requires-clause-fits : goal.run_command-requires-clause-fits
+run_command-requires-clause-fits g c =
+    let fit = operands_fit c.args.command (words_seen c.args.words.now) c.in-Ok.command c.in-Ok.is c.requires.meant in
+    let fresh = rw c.in-Ok.is at c.requires.fresh in
+    λ k d within. omega (arith, fit.0 k d within, fresh.0)
+
+pub run_command-requires-clause-taken : goal.run_command-requires-clause-taken
+run_command-requires-clause-taken g c = (operands_fit c.args.command (words_seen c.args.words.now) c.in-Ok.command c.in-Ok.is c.requires.meant).1
+
+pub returns-in-Err-clause-run : goal.returns-in-Err-clause-run
+returns-in-Err-clause-run g c =
+    let words = words_seen c.args.words.now in
+    let told = g.E.Sink.state c.args.messages in
+    let tells : Tells told c.refuse-status.new.voice (said_of (tool_word words) (meant c.in-Err.fault)) =
+    subst (λ (t : SinkState). Tells t c.refuse-status.new.voice (said_of (tool_word words) (meant c.in-Err.fault))) c.new-voice.ensures
+    (subst (λ (l : List ℕ). Tells c.new-voice.result c.refuse-status.new.voice (said_of l (meant c.in-Err.fault))) c.first_word.ensures c.refuse-status.ensures.said) in
+    rw c.quiet_report.ensures
+    (subst (λ (m : Meaning). IsRun m c.args.inputs.now c.args.inputs.now (sinks (g.W.Sink.state c.args.out) told) (record { out = g.W.Sink.state c.args.out; messages = c.refuse-status.new.voice; status = c.refuse-status.result; peak = 0; denied = false }))
+    (sym (asked_refused c.args.command words c.in-Err.fault c.in-Err.is c.requires.meant))
+    (only_said (said_of (tool_word words) (meant c.in-Err.fault)) (status_of (meant c.in-Err.fault)) c.args.inputs.now c.requires.fresh.1 (g.W.Sink.state c.args.out) told c.refuse-status.new.voice c.refuse-status.result c.requires.unused.writable tells c.refuse-status.ensures.status))
+
+pub returns-in-Ok-clause-run : goal.returns-in-Ok-clause-run
+returns-in-Ok-clause-run g c = rw (asked_ok c.args.command (words_seen c.args.words.now) c.in-Ok.command c.in-Ok.is c.requires.meant) (rw (c.new-voice.ensures) at c.run_command.ensures.run)
+
+pub returns-in-Ok-clause-quiet : goal.returns-in-Ok-clause-quiet
+returns-in-Ok-clause-quiet g c = rw (asked_ok c.args.command (words_seen c.args.words.now) c.in-Ok.command c.in-Ok.is c.requires.meant) c.run_command.ensures.quiet
+
+pub returns-in-Err-clause-headline : goal.returns-in-Err-clause-headline
+returns-in-Err-clause-headline g c = headline_asked c.args.command (words_seen c.args.words.now) _ _ _ _ c.requires.fresh.1 (returns-in-Err-clause-run g c)
+
+pub returns-in-Ok-clause-headline : goal.returns-in-Ok-clause-headline
+returns-in-Ok-clause-headline g c = headline_asked c.args.command (words_seen c.args.words.now) _ _ _ _ c.requires.fresh.1 (returns-in-Ok-clause-run g c)

@@ -1,0 +1,224 @@
+//! What whole runs hold: as much as their bounds allow, over inputs in which the bounds are reached, and whether a
+//! growth was refused. Then what was decided before it is written, also what was staged.
+
+use crate::commands::{Case, Input, SIZES, growths, over_files, run_in, run_over};
+use crate::comparing::same;
+use ptfakes::Refusing;
+use ptlines::Store;
+use std::alloc::Global;
+use std::process::Abort;
+use std::test::Fail;
+
+// What stands in front, then so many of this byte, and what stands behind.
+type Part = (&'static str, u8, usize, &'static str);
+
+fn text_of(alloc: Global, parts: &[Part]) -> Result<Vec<u8>, Fail> {
+    let mut text = Vec::new(alloc);
+    for (front, byte, length, behind) in parts {
+        text.extend_from_slice(front.as_bytes())?;
+        for _ in 0..*length {
+            text.push(*byte)?;
+        }
+        text.extend_from_slice(behind.as_bytes())?;
+    }
+    Ok(text)
+}
+
+// Runs a command, and again in a store that is lent: both say that so much was held at most, and so does the store.
+fn expect_peak(rt: &impl Abort, own: Global, case: &Case<'_>, peak: u128) -> Result<(), Fail> {
+    let report = run_over(rt, own, own, case)?;
+    let left = (report.status, report.peak, report.denied);
+    same(rt, &left, &(0, peak, false));
+    let mut store = Store::empty(own);
+    let lent = run_in(rt, &mut store, own, own, case)?;
+    let left = (lent.status, lent.peak, lent.denied);
+    same(rt, &left, &(0, peak, false));
+    same(rt, &(store.peak(), store.denied()), &(peak, false));
+    same(rt, &lent.out.bytes(), &report.out.bytes());
+    Ok(())
+}
+
+// A command over two files, whole and in pieces.
+fn expect_peak_of_two(
+    rt: &impl Abort,
+    own: Global,
+    words: &[&str],
+    (first, second): (&[Part], &[Part]),
+    peak: u128,
+) -> Result<(), Fail> {
+    let (first, second) = (text_of(own, first)?, text_of(own, second)?);
+    for size in SIZES {
+        let files = [Input::Pieces(&first, *size), Input::Pieces(&second, *size)];
+        expect_peak(rt, own, &over_files(words, &files), peak)?;
+    }
+    Ok(())
+}
+
+// Words, two files and the most that is held. A long line is longer than a block, so that it is kept wherever blocks
+// end.
+type Peak = (
+    &'static [&'static str],
+    (&'static [Part], &'static [Part]),
+    u128,
+);
+
+const PEAKS: &[Peak] = &[
+    // The longest line.
+    (
+        &["cut", "-f", "2", "f", "g"],
+        (
+            &[("c\td\n", b'a', 9000, "\tb\ne\n")],
+            &[("shorter\t", b'b', 8500, "\n")],
+        ),
+        9002,
+    ),
+    // The longest line of each column; here they stand in one row.
+    (
+        &["paste", "f", "g"],
+        (
+            &[("b\n", b'a', 9000, "\nb\n")],
+            &[("d\n", b'c', 10000, "\nd\n")],
+        ),
+        19000,
+    ),
+    // Twice the longest line of each input: the one at which it stands, and the one before. The inputs take turns, so
+    // that both come to their second line.
+    (
+        &["comm", "f", "g"],
+        (
+            &[("", b'a', 9000, "\n"), ("", b'c', 9000, "\n")],
+            &[("", b'b', 10000, "\n"), ("", b'd', 10000, "\n")],
+        ),
+        38000,
+    ),
+    // The same, 2 * 9002 + 2 * 10002, and the second input's two lines of the key a, which are 20004 bytes.
+    (
+        &["join", "f", "g"],
+        (
+            &[("a ", b'1', 9000, "\n"), ("b ", b'2', 9000, "\n")],
+            &[
+                ("a ", b'x', 10000, "\n"),
+                ("a ", b'y', 10000, "\n"),
+                ("b ", b'z', 10000, "\n"),
+            ],
+        ),
+        58012,
+    ),
+];
+
+#[test]
+fn the_bound_of_two_inputs_is_reached(rt: HostRuntime) -> Result<(), Fail> {
+    for (words, files, peak) in PEAKS {
+        expect_peak_of_two(&rt, rt.alloc(), words, *files, *peak)?;
+    }
+    Ok(())
+}
+
+const REPEATED: &[Part] = &[("", b'a', 9000, "\n"), ("", b'a', 9000, "\nb\n")];
+
+// Twice the longest line: the one of which the run began, and the one that is compared with it.
+#[test]
+fn the_bound_of_uniq_is_reached(rt: HostRuntime) -> Result<(), Fail> {
+    let text = text_of(rt.alloc(), REPEATED)?;
+    for size in SIZES {
+        let files = [Input::Pieces(&text, *size)];
+        let case = over_files(&["uniq", "-c", "f"], &files);
+        expect_peak(&rt, rt.alloc(), &case, 18000)?;
+    }
+    Ok(())
+}
+
+// Refuses the last growth of a command: what was decided before it is written, though no block of output was full.
+fn expect_sent(
+    rt: &impl Abort,
+    own: Global,
+    case: &Case<'_>,
+    decided: &str,
+    message: &str,
+) -> Result<(), Fail> {
+    let whole = run_over(rt, own, own, case)?;
+    let last = growths(rt, own, case)?.saturating_sub(1);
+    let alloc = Refusing::after(own, last);
+    let mut store = Store::empty(&alloc);
+    let report = run_in(rt, &mut store, &alloc, own, case)?;
+    assert!(rt; whole.out.bytes().starts_with(report.out.bytes()));
+    same(rt, &report.out.bytes(), &decided.as_bytes());
+    same(rt, &report.messages.bytes(), &message.as_bytes());
+    let left = (report.status, report.denied, store.denied());
+    same(rt, &left, &(1, true, true));
+    same(rt, &report.peak, &store.peak());
+    Ok(())
+}
+
+// Words, the first file if there are two, what stands in the last file in front of a long line, what is decided of that,
+// and what is said.
+type Sent = (
+    &'static [&'static str],
+    &'static str,
+    &'static str,
+    &'static str,
+    &'static str,
+);
+
+const OF_ONE: &[Sent] = &[
+    (
+        &["cut", "-f", "1", "f"],
+        "",
+        "a\tb\n",
+        "a\n",
+        "cut: out of memory\n",
+    ),
+    (
+        &["uniq", "-c", "f"],
+        "",
+        "a\nb\n",
+        "1 a\n",
+        "uniq: out of memory\n",
+    ),
+];
+
+const OF_TWO: &[Sent] = &[
+    (
+        &["paste", "f", "g"],
+        "a\nb\n",
+        "c\n",
+        "a\tc\n",
+        "paste: out of memory\n",
+    ),
+    (
+        &["comm", "f", "g"],
+        "a\nd\n",
+        "a\nb\n",
+        "\t\ta\n\tb\n",
+        "comm: out of memory\n",
+    ),
+    (
+        &["join", "f", "g"],
+        "a 1\nb 2\n",
+        "a x\nb y\nb ",
+        "a 1 x\n",
+        "join: out of memory\n",
+    ),
+];
+
+#[test]
+fn what_is_staged_of_one_input_is_sent(rt: HostRuntime) -> Result<(), Fail> {
+    for (words, _, front, decided, message) in OF_ONE {
+        let text = text_of(rt.alloc(), &[(*front, b'z', 9000, "\n")])?;
+        let files = [Input::Whole(&text)];
+        let case = over_files(words, &files);
+        expect_sent(&rt, rt.alloc(), &case, decided, message)?;
+    }
+    Ok(())
+}
+
+#[test]
+fn what_is_staged_of_two_inputs_is_sent(rt: HostRuntime) -> Result<(), Fail> {
+    for (words, first, front, decided, message) in OF_TWO {
+        let text = text_of(rt.alloc(), &[(*front, b'z', 9000, "\n")])?;
+        let files = [Input::Whole(first.as_bytes()), Input::Whole(&text)];
+        let case = over_files(words, &files);
+        expect_sent(&rt, rt.alloc(), &case, decided, message)?;
+    }
+    Ok(())
+}

@@ -1,0 +1,140 @@
+#!/usr/bin/env python3
+"""Types words and the tab key into bash, zsh and fish at a pseudo-terminal, and looks at what they complete.
+
+  python3 tests/completion.py
+
+A shell that is not installed is left out, with a line that says so.
+"""
+import os
+import pty
+import re
+import select
+import shutil
+import signal
+import sys
+import tempfile
+import time
+
+TOP = os.path.dirname(os.path.dirname(os.path.realpath(__file__)))
+# How each shell is started, and what is typed first. (@ stands for the folder of the completions.)
+SHELLS = {
+    "bash": (["bash", "--norc", "--noprofile", "-i"], "bind 'set bell-style none'; bind 'set enable-bracketed-paste off'; . @/ptext"),
+    "zsh": (["zsh", "-f", "-i"], "fpath=(@ $fpath); autoload -U compinit; compinit -u -D; unsetopt beep; LISTMAX=999"),
+    "fish": (["fish", "--no-config", "-i"], "source @/ptext.fish"),
+}
+# What is typed in front of one tab, and what stands on the line behind it.
+COMPLETED = [
+    ("ptext uni", "ptext uniq"),
+    ("ptext cut -f 1 lo", "ptext cut -f 1 lonely"),
+    ("ptext tr -d '[:dig", "ptext tr -d '[:digit:]"),
+    ("ptext tr -d 'a-f[:dig", "ptext tr -d 'a-f[:digit:]"),
+    ("ptext tr '[:lower:]' '[:up", "ptext tr '[:lower:]' '[:upper:]"),
+]
+# What is typed in front of two tabs, and the words that are offered.
+OFFERED = [
+    ("ptext ", ["cut", "paste", "join", "comm", "uniq", "tr"]),
+    ("ptext cut -", ["-b", "-c", "-d", "-f", "-n", "-s", "-z"]),
+    ("ptext paste -", ["-d", "-s", "-z"]),
+    ("ptext join -", ["-1", "-2", "-a", "-e", "-o", "-r", "-t", "-v", "-z"]),
+    ("ptext comm -", ["-1", "-2", "-3", "-r", "-z"]),
+    ("ptext uniq -", ["-c", "-d", "-f", "-s", "-u", "-z"]),
+    ("ptext tr -", ["-C", "-c", "-d", "-s"]),
+    ("ptext tr -d '[:", ["alnum", "alpha", "blank", "cntrl", "digit", "graph", "lower", "print", "punct", "space", "upper", "xdigit"]),
+]
+ESCAPES = re.compile(rb"\x1b\[[0-?]*[ -/]*[@-~]|\x1b\][^\x07\x1b]*(?:\x07|\x1b\\)|\x1b[()=>#][A-Z0-9]?|[\r\x07\x08\x0e\x0f]|\x1b.")
+
+
+class Terminal:
+    """A shell at a terminal of its own."""
+
+    def __init__(self, words, room):
+        self.child, self.end = pty.fork()
+        if not self.child:
+            os.chdir(room)
+            kept = {"PATH": f"{room}/bin:{os.environ['PATH']}", "HOME": room, "LC_ALL": "C.UTF-8", "TERM": "xterm"}
+            os.execvpe(words[0], words, {**kept, "PS1": "% ", "COLUMNS": "200", "LINES": "60", "fish_greeting": ""})
+
+    def type(self, text, quiet=0.4, most=8.0):
+        """Types this, and answers what comes until nothing has come for a while."""
+        os.write(self.end, text.encode())
+        came, until = b"", time.monotonic() + most
+        while time.monotonic() < until:
+            ready, _, _ = select.select([self.end], [], [], quiet if came else 2)
+            if not ready:
+                break
+            try:
+                piece = os.read(self.end, 65536)
+            except OSError:
+                break
+            came += piece
+            # fish asks the terminal what it is, and waits for the answer.
+            if b"\x1b[c" in piece or b"\x1b[0c" in piece:
+                os.write(self.end, b"\x1b[?62;c")
+        return came
+
+    def close(self):
+        os.kill(self.child, signal.SIGKILL)
+        os.waitpid(self.child, 0)
+        os.close(self.end)
+
+
+def shown(came, between=b""):
+    """What a terminal would show, with this in place of what moves its cursor or colours."""
+    return ESCAPES.sub(between, came).decode(errors="replace")
+
+
+def offers(text, typed, words):
+    """The words of these that stand in a text by themselves."""
+    rest = text.replace(typed, " ", 1)
+    if typed.endswith(":"):
+        return {it for it in words if re.search(rf"(?<![a-z]){it}(?![a-z])", rest)}
+    return {it for it in words if re.search(rf"(?<![\w-]){re.escape(it)}(?![\w-])", rest)}
+
+
+def wrong_of(shell, room):
+    """What a shell does not complete as wanted. As terminals are slow at times, each is tried twice."""
+    words, first = SHELLS[shell]
+    found = []
+    for typed, wanted in COMPLETED + OFFERED:
+        for attempt in (1, 2):
+            at = Terminal(words, room)
+            at.type("\n", 0.5 * attempt)
+            at.type(first.replace("@", f"{TOP}/completion") + "\n", 0.5 * attempt)
+            at.type("PS1='% '\n" if shell != "fish" else "\n", 0.3 * attempt)
+            if isinstance(wanted, str):
+                said = shown(at.type(typed + "\t", 0.5 * attempt))
+                if wanted not in said.replace("\n", ""):
+                    # The line is drawn anew, whole.
+                    said += shown(at.type("\x0c", 0.5))
+                good = wanted in said.replace("\n", "")
+            else:
+                came = b"".join(at.type(it, 0.5 * attempt) for it in (typed, "\t", "\t"))
+                said = shown(came)
+                good = set(wanted) in (offers(said, typed, wanted), offers(shown(came, b" "), typed, wanted))
+            at.close()
+            if good:
+                break
+        if not good:
+            found.append(f"{shell}: `{typed}` and a tab: wanted {wanted}, the terminal has {said!r}\n")
+    return found
+
+
+def main():
+    wrong, count = [], 0
+    with tempfile.TemporaryDirectory() as room:
+        os.mkdir(f"{room}/bin")
+        with open(f"{room}/lonely", "w", encoding="ascii"):
+            pass
+        for shell in SHELLS:
+            if not shutil.which(shell):
+                print(f"left out: completion in {shell} (there is no {shell})")
+                continue
+            wrong += wrong_of(shell, room)
+            count += len(COMPLETED) + len(OFFERED)
+    print("".join(wrong), end="")
+    print(f"{count - len(wrong)} of {count} words are completed as wanted")
+    return 1 if wrong else 0
+
+
+if __name__ == "__main__":
+    sys.exit(main())
