@@ -317,7 +317,7 @@ LISTED = [
     Listed(BEHIND, "join", lambda case: case.late, "refused", "wrong number of operands"),
     Listed("A value is given once", "cut paste uniq join", is_twice, "refused", "is given twice"),
     Listed("Options that do not go together", "cut uniq join tr", is_apart, "refused", "do not go together"),
-    Listed("Letters that are not there", "uniq join tr", has_their_letter, "refused", "unknown option in"),
+    Listed("Options that do not exist", "uniq join tr", has_their_letter, "refused", "unknown option in"),
     Listed(NUMBERS, "uniq join", has_other_number, "refused", "wrong value for option"),
     Listed(NUMBERS, "cut", has_largest_number, "taken"),
     Listed(DELIMITER, "cut join", has_wide_delimiter, "refused", "option -[dt]"),
