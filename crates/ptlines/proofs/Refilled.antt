@@ -1,6 +1,6 @@
 -- What one read does to a reader whose block is empty.
 use Rattle.std.proofs.Common.{◌≡◌, ℕ, zero, suc, ◌+◌, ◌<◌, ◌≤◌, Bool, List, [], Option, length, take, refl, sym, ◌∙◌, ap, arith}
-use Rattle.std.proofs.lemmas.List.{length-take-le}
+use Rattle.std.proofs.lemmas.List.{length-take-le, take-take}
 use Rattle.std.specs.Io.KnownBytes.{prepend_known}
 use Rattle.ptlines.specs.Sources.{SourceState, Gives}
 use Rattle.std.proofs.Common.{◌^◌, true, false, None, Some, Ok, Err, inl, inr}
@@ -49,36 +49,40 @@ ends_right : (was is : SourceState) (into : List ℕ) (n : ℕ) → Gives was is
 ends_right was is into zero gives going ended = gives.at_end refl
 ends_right was is into (suc n) gives going ended = absurd (false≢true (sym (gives.more (omega arith) ∙ going) ∙ ended))
 
-module _ (old : Reader) (was is : SourceState) (into held : List ℕ) (p n : ℕ) (q q' : Bool) (fault : Option LineFault) (end : ℕ) (view : reader_of was held p fault q end ≡ old) (empty : old.held ≡ []) (kept : q' ≡ q) (clean : old.fault ≡ None) (going : old.ended ≡ false) where
+module _ (old : Reader) (was is : SourceState) (block held : List ℕ) (p n : ℕ) (q q' : Bool) (fault : Option LineFault) (end : ℕ) (view : reader_of was held p fault q end ≡ old) (empty : old.held ≡ []) (kept : q' ≡ q) (clean : old.fault ≡ None) (going : old.ended ≡ false) where
   same_ending : end ≡ old.ending
   same_ending = ap (λ (r : Reader). r.ending) view
 
   same_refused : q' ≡ old.refused
   same_refused = kept ∙ ap (λ (r : Reader). r.refused) view
 
-  filled : (new_fault : Option LineFault) → Gives was is into n → n ≤ 8192 → Reads old (reader_of is (slice_range into 0 n) (p + n) new_fault q' end) []
-  filled new_fault gives small =
-      refilled old (reader_of is (slice_range into 0 n) (p + n) new_fault q' end) was is into n gives (ap (λ (r : Reader). r.left) view) empty small
-      (between_from_start into n) refl (ap (λ (r : Reader). r.pulled + n) view) same_refused same_ending going (ends_right was is into n gives (ap (λ (r : Reader). r.ended) view ∙ going))
+  -- what the front of the block holds
+  front : n ≤ 8192 → slice_range block 0 n ≡ take n (take 8192 block)
+  front small = between_from_start block n ∙ sym (take-take n 8192 block small)
 
-  same_failed : Gives was is into n → is.failed ≡ old.failed
+  filled : (new_fault : Option LineFault) → Gives was is (take 8192 block) n → n ≤ 8192 → Reads old (reader_of is (slice_range block 0 n) (p + n) new_fault q' end) []
+  filled new_fault gives small =
+      refilled old (reader_of is (slice_range block 0 n) (p + n) new_fault q' end) was is (take 8192 block) n gives (ap (λ (r : Reader). r.left) view) empty small
+      (front small) refl (ap (λ (r : Reader). r.pulled + n) view) same_refused same_ending going (ends_right was is (take 8192 block) n gives (ap (λ (r : Reader). r.ended) view ∙ going))
+
+  same_failed : Gives was is (take 8192 block) n → is.failed ≡ old.failed
   same_failed gives = gives.failed ∙ ap (λ (r : Reader). r.failed) view
 
-  pub refill_more : Gives was is into n → n ≤ 8192 → 0 < n → p + n < 2 ^ 63 → Refills old (reader_of is (slice_range into 0 n) (p + n) fault q' end) (Ok true)
+  pub refill_more : Gives was is (take 8192 block) n → n ≤ 8192 → 0 < n → p + n < 2 ^ 63 → Refills old (reader_of is (slice_range block 0 n) (p + n) fault q' end) (Ok true)
   refill_more gives small some short = (
     record { reads = filled fault gives small; fault = ap (λ (r : Reader). r.fault) view ∙ clean; failed = same_failed gives; short = λ _. short },
-    omega (arith, ap length (between_from_start into n), length-take-le n into gives.fits),
+    omega (arith, ap length (front small), length-take-le n (take 8192 block) gives.fits),
   )
 
-  pub refill_long : Gives was is into n → n ≤ 8192 → 2 ^ 63 ≤ p + n → Refills old (reader_of is (slice_range into 0 n) (p + n) (Some Read) q' end) (Err Read)
+  pub refill_long : Gives was is (take 8192 block) n → n ≤ 8192 → 2 ^ 63 ≤ p + n → Refills old (reader_of is (slice_range block 0 n) (p + n) (Some Read) q' end) (Err Read)
   refill_long gives small long = (record { reads = filled (Some Read) gives small; whole = tt; is = refl }, inr (long, same_failed gives), refl)
 
-  pub refill_end : Gives was is into n → n ≡ 0 → Refills old (reader_of is (slice_range into 0 0) p fault q' end) (Ok false)
+  pub refill_end : Gives was is (take 8192 block) n → n ≡ 0 → Refills old (reader_of is (slice_range block 0 0) p fault q' end) (Ok false)
   refill_end gives none =
-      let still : slice_range into 0 0 ≡ [] = between_from_start into 0 in
-      let nothing : was.left ≡ is.left = gives.moved ∙ ap (λ (k : ℕ). prepend_known (take k into) is.left) none ∙ prepend_known-nil is.left in (
+      let still : slice_range block 0 0 ≡ [] = between_from_start block 0 in
+      let nothing : was.left ≡ is.left = gives.moved ∙ ap (λ (k : ℕ). prepend_known (take k (take 8192 block)) is.left) none ∙ prepend_known-nil is.left in (
         record {
-          reads = not_filled old (reader_of is (slice_range into 0 0) p fault q' end) empty still
+          reads = not_filled old (reader_of is (slice_range block 0 0) p fault q' end) empty still
               (sym nothing ∙ ap (λ (r : Reader). r.left) view) (ap (λ (r : Reader). r.pulled) view) same_refused same_ending going (λ _. gives.at_end none);
           fault = ap (λ (r : Reader). r.fault) view ∙ clean;
           failed = gives.failed ∙ ap (λ (r : Reader). r.failed) view;

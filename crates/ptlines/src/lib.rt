@@ -9,6 +9,7 @@ mod parts;
 mod reader;
 mod search;
 mod sink;
+mod slot;
 mod source;
 mod std_ends;
 mod store;

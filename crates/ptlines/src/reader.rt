@@ -1,14 +1,15 @@
-ghost use Rattle.std.specs.Prelude.{◌≡◌, ◌<◌, ◌≤◌, ℕ, true, false, None, [], IfSome, length, take, drop, if◌then◌else◌};
+ghost use Rattle.std.specs.Prelude.{◌≡◌, ◌<◌, ◌≤◌, ℕ, true, false, None, [], IfSome, IfOk, length, take, drop, if◌then◌else◌};
 ghost use Rattle.std.specs.Borrow.{sem};
 ghost use Rattle.std.specs.Io.KnownBytes.{IsAtEnd};
 ghost use Rattle.std.specs.Io.BufRead.{Rests};
 ghost use Rattle.ptlines.specs.Origins.{origin_state, is_refused};
-ghost use Rattle.ptlines.specs.Sources.{refused_state};
+ghost use Rattle.ptlines.specs.Sources.{Pulls, refused_state};
 ghost use Rattle.ptlines.specs.Readers.{Refills, IsSound, new_reader};
-ghost use Rattle.ptlines.specs.Fills.{Moves, Steps, Fills, Blocks};
+ghost use Rattle.ptlines.specs.Fills.{Moves, Steps, GivesLine, Fills, Blocks};
 ghost use Rattle.ptlines.specs.contracts.reader.LineReader.{the_row};
 
-use crate::search::find_near;
+use crate::search::{find_in_64, find_near};
+use crate::sink::Failed;
 use crate::source::{Origin, Source};
 use crate::store::{LineFault, Store};
 use std::alloc::Allocator;
@@ -27,7 +28,8 @@ enum Step {
 #[derive(Drop)]
 pub struct LineReader<S: Source, R: Source> {
     origin: Origin<S, R>,
-    block: [u8; 8192],
+    // What stands behind `end` is no part of the input; a margin of 64 bytes can always be looked at.
+    block: [u8; 8256],
     start: usize,
     end: usize,
     pulled: u64,
@@ -53,6 +55,20 @@ impl<S: Source, R: Source> Model for LineReader<S, R> {
         r.pulled r.fault (is_refused r.origin) r.ending) };
 }
 
+// Pulls into the front of a block, and so not into its margin.
+fn pull_front<S: Source, R: Source>(
+    origin: &mut Origin<S, R>,
+    block: &mut [u8],
+) -> Result<usize, Failed>
+    requires { 8192 ≤ length block.old }
+    ensures pulled { Pulls (origin_state S.state R.state origin.old) (origin_state S.state R.state origin.new)
+        (take 8192 block.new) result }
+    ensures refused { is_refused origin.new ≡ is_refused origin.old }
+    ensures few { IfOk result (λ count. count ≤ 8192) }
+{
+    origin.pull(&mut block[..8192])
+}
+
 impl<S: Source, R: Source> LineReader<S, R> {
     fn over(origin: Origin<S, R>) -> Self
         requires unended { (origin_state S.state R.state origin).ended ≡ false }
@@ -61,7 +77,7 @@ impl<S: Source, R: Source> LineReader<S, R> {
     {
         LineReader {
             origin,
-            block: [0; 8192],
+            block: [0; 8256],
             start: 0,
             end: 0,
             pulled: 0,
@@ -167,7 +183,7 @@ impl<S: Source, R: Source> LineReader<S, R> {
         // A source that fails may still have written to the block.
         self.start = 0;
         self.end = 0;
-        match self.origin.pull(&mut self.block) {
+        match pull_front(&mut self.origin, &mut self.block) {
             Ok(count) => {
                 if count == 0 {
                     self.ended = true;
@@ -269,6 +285,52 @@ impl<S: Source, R: Source> LineReader<S, R> {
         self.scan(store, slot)
     }
 
+    // Puts the next line into a slot, if its end is near in the block. False is that it is not, and nothing happens.
+    #[inline(always)]
+    fn fill_near<A: Allocator + Copy>(&mut self, store: &mut Store<A>, slot: usize) -> bool
+        requires clean { self.old.fault ≡ None }
+        requires in_store { slot < length store.old.lines }
+        ensures line { result ≡ true → GivesLine self.old self.new store.old store.new slot }
+        ensures none { result ≡ false → (self.new ≡ self.old) × (store.new ≡ store.old) }
+        ensures slots { length store.new.lines ≡ length store.old.lines }
+        ensures sound { IsSound self.new }
+    {
+        let from = self.start;
+        let Some(at) = find_in_64(self.ending, &self.block, from) else {
+            return false;
+        };
+        if at >= self.end {
+            return false;
+        }
+        store.put_near(slot, &self.block, from, at - from);
+        self.start = at + 1;
+        true
+    }
+
+    // Puts the next line into a slot, in pieces, whether its end is near or far. It does what `fill` does.
+    #[inline(never)]
+    fn fill_far<A: Allocator + Copy>(
+        &mut self,
+        store: &mut Store<A>,
+        slot: usize,
+    ) -> Result<bool, LineFault>
+        requires clean { self.old.fault ≡ None }
+        requires sound { IsSound self.old }
+        requires in_store { slot < length store.old.lines }
+        ensures fills { Fills self.old self.new store.old store.new slot result }
+        ensures slots { length store.new.lines ≡ length store.old.lines }
+        ensures sound { IsSound self.new }
+    {
+        store.clear(slot);
+        'pieces: loop {
+            match self.step(store, slot)? {
+                Step::More => {}
+                Step::Line => return Ok(true),
+                Step::End => return Ok(!store.line(slot).is_empty()),
+            }
+        }
+    }
+
     /// Puts the next line into a slot, without the byte that ends it. False is the end, and the slot is then empty.
     /// The line is given once that byte was read, or the source has said its end.
     /// # Errors
@@ -290,14 +352,10 @@ impl<S: Source, R: Source> LineReader<S, R> {
         if let Some(fault) = self.fault() {
             return Err(fault);
         }
-        store.clear(slot);
-        'pieces: loop {
-            match self.step(store, slot)? {
-                Step::More => {}
-                Step::Line => return Ok(true),
-                Step::End => return Ok(!store.line(slot).is_empty()),
-            }
+        if self.fill_near(store, slot) {
+            return Ok(true);
         }
+        self.fill_far(store, slot)
     }
 
     /// The bytes of the block that were not given, after one read where there were none; an empty slice is the end.

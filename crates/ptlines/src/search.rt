@@ -23,7 +23,7 @@ fn find_in_16(byte: u8, bytes: &[u8]) -> Option<usize>
 
 // The first of the 64 places from one on that holds the byte.
 #[inline(always)]
-fn find_in_64(byte: u8, bytes: &[u8], at: usize) -> Option<usize>
+pub(crate) fn find_in_64(byte: u8, bytes: &[u8], at: usize) -> Option<usize>
     requires { at + 64 ≤ length bytes.now }
     ensures { IsFirst (Passes (is_byte byte) bytes.now) at (at + 64) result }
 {

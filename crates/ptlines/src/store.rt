@@ -1,9 +1,9 @@
-ghost use Rattle.std.specs.Prelude.{◌≡◌, ℕ, ◌<◌, ◌≤◌, ◌≢◌, true, false, [], ◌∷◌, ◌++◌, length, replicate, swap, slice_set, slice_index_or, IfOk, OnOk, OnErr};
-ghost use Rattle.ptlines.specs.Slots.{line, contents, total, with_line, with_added, with_denied};
+ghost use Rattle.std.specs.Prelude.{◌≡◌, ℕ, ◌<◌, ◌≤◌, ◌≢◌, true, false, [], ◌∷◌, ◌++◌, length, take, drop, ◌+◌, replicate, swap, slice_set, slice_index_or, IfOk, OnOk, OnErr};
+ghost use Rattle.ptlines.specs.Slots.{AreShort, line, total, with_line, with_added, with_denied};
 
+use crate::slot::Slot;
 use std::alloc::{AllocError, Allocator, Global};
 use std::marker::Model;
-use std::mem;
 
 /// Why no line was given. It is final.
 #[derive(Clone, Copy, Debug, PartialEq, Eq)]
@@ -17,7 +17,7 @@ pub enum LineFault {
 /// Numbered slots, each of which holds the bytes of a line. The bytes are counted, the slots are not.
 #[derive(Drop)]
 pub struct Store<A: Allocator + Copy = Global> {
-    slots: Vec<Vec<u8, A>, A>,
+    slots: Vec<Slot<A>, A>,
     held: u128,
     peak: u128,
     denied: bool,
@@ -25,40 +25,47 @@ pub struct Store<A: Allocator + Copy = Global> {
 }
 
 impl<A: Allocator + Copy> Model for Store<A> {
-    ghost use Rattle.std.specs.Prelude.{◌≡◌, ◌≤◌, map, sum_by, vec_len};
-    ghost use Rattle.ptlines.specs.Slots.{Slots};
+    ghost use Rattle.std.specs.Prelude.{◌≡◌, ◌≤◌};
+    ghost use Rattle.ptlines.specs.Slots.{Slots, total, AreShort};
 
     ghost Value = { Slots };
 
-    ghost view = { λ s. record {
-      lines = map (λ v. v.items) s.slots.items;
-      peak = s.peak;
-      denied = s.denied;
-    } };
+    ghost view = { λ s. record { lines = s.slots.items; peak = s.peak; denied = s.denied } };
 
-    ghost invariant = { λ s. (s.held ≡ sum_by (λ v. vec_len v) s.slots.items) × (s.held ≤ s.peak) };
+    ghost invariant = { λ s. (s.held ≡ total s.slots.items) × (s.held ≤ s.peak) × AreShort s.slots.items };
 }
 
-// Puts the bytes of one slot behind those of another, which is taken out while it grows.
-fn extend_from_slot<A: Allocator + Copy>(
-    slots: &mut Vec<Vec<u8, A>, A>,
-    alloc: A,
+// Puts the line of one slot behind that of another.
+fn append_from<A: Allocator + Copy>(
+    slots: &mut [Slot<A>],
     from: usize,
     to: usize,
 ) -> Result<(), AllocError>
-    requires from_in { from < length slots.old.items }
-    requires to_in { to < length slots.old.items }
+    requires from_in { from < length slots.old }
+    requires to_in { to < length slots.old }
     requires differ { from ≢ to }
-    ensures ok { OnOk result (contents slots.new.items
-        ≡ slice_set (contents slots.old.items) to
-        (slice_index_or (contents slots.old.items) to [] ++ slice_index_or (contents slots.old.items) from [])) }
-    ensures err { OnErr result (contents slots.new.items ≡ contents slots.old.items) }
-    ensures count { length slots.new.items ≡ length slots.old.items }
+    ensures ok { OnOk result (slots.new
+        ≡ slice_set slots.old to (slice_index_or slots.old to [] ++ slice_index_or slots.old from [])) }
+    ensures err { OnErr result (slots.new ≡ slots.old) }
+    ensures short { AreShort slots.old → AreShort slots.new }
 {
-    let mut target = mem::replace(&mut slots[to], Vec::new(alloc));
-    let extended = target.extend_from_slice(&slots[from]);
-    slots[to] = target;
-    extended
+    if from < to {
+        let (front, back) = slots.split_at_mut(to);
+        back[0].append(front[from].line())
+    } else {
+        let (front, back) = slots.split_at_mut(from);
+        front[to].append(back[0].line())
+    }
+}
+
+// Adds an empty slot.
+fn push_empty<A: Allocator + Copy>(slots: &mut Vec<Slot<A>, A>, alloc: A) -> Result<(), AllocError>
+    ensures ok { OnOk result (slots.new.items ≡ slots.old.items ++ [] ∷ []) }
+    ensures err { OnErr result (slots.new.items ≡ slots.old.items) }
+{
+    let empty = Slot::new(alloc)?;
+    slots.push(empty)?;
+    Ok(())
 }
 
 impl<A: Allocator + Copy> Store<A> {
@@ -98,9 +105,9 @@ impl<A: Allocator + Copy> Store<A> {
         ensures err { OnErr result (self.new ≡ with_denied self.old) }
         ensures memory { OnErr result (result ≡ Err LineFault.Memory) }
     {
-        let slot = self.slots.len();
-        match self.slots.push(Vec::new(self.alloc)) {
-            Ok(()) => Ok(slot),
+        let number = self.slots.len();
+        match push_empty(&mut self.slots, self.alloc) {
+            Ok(()) => Ok(number),
             Err(_) => {
                 self.denied = true;
                 Err(LineFault::Memory)
@@ -120,7 +127,7 @@ impl<A: Allocator + Copy> Store<A> {
         requires { slot < length self.now.lines }
         ensures { result.now ≡ line self.now slot }
     {
-        self.slots[slot].as_slice()
+        self.slots[slot].line()
     }
 
     /// Empties a slot.
@@ -129,20 +136,33 @@ impl<A: Allocator + Copy> Store<A> {
         requires { slot < length self.old.lines }
         ensures { self.new ≡ with_line self.old slot [] }
     {
-        let count = self.slots[slot].len();
+        let count = self.slots[slot].size();
         self.slots[slot].clear();
         self.held -= count as u128;
     }
 
-    // Puts bytes behind those of a slot. Where the growth is refused the store is denied, and nothing else changes.
+    // Makes a slot hold a line of less than 64 bytes, from a place behind which 64 bytes can be looked at.
     #[inline(always)]
+    pub(crate) fn put_near(&mut self, slot: usize, bytes: &[u8], from: usize, size: usize)
+        requires in_store { slot < length self.old.lines }
+        requires near { size < 64 }
+        requires within { from + 64 ≤ length bytes.now }
+        ensures { self.new ≡ with_line self.old slot (take size (drop from bytes.now)) }
+    {
+        let was = self.slots[slot].size();
+        self.slots[slot].put_near(bytes, from, size);
+        self.held = self.held - was as u128 + size as u128;
+        self.peak = self.peak.max(self.held);
+    }
+
+    // Puts bytes behind those of a slot. Where the growth is refused the store is denied, and nothing else changes.
     pub(crate) fn append(&mut self, slot: usize, bytes: &[u8]) -> Result<(), LineFault>
         requires { slot < length self.old.lines }
         ensures ok { OnOk result (self.new ≡ with_line self.old slot (line self.old slot ++ bytes.now)) }
         ensures err { OnErr result (self.new ≡ with_denied self.old) }
         ensures memory { OnErr result (result ≡ Err LineFault.Memory) }
     {
-        match self.slots[slot].extend_from_slice(bytes) {
+        match self.slots[slot].append(bytes) {
             Ok(()) => {
                 self.held += bytes.len() as u128;
                 self.peak = self.peak.max(self.held);
@@ -167,9 +187,9 @@ impl<A: Allocator + Copy> Store<A> {
         ensures memory { OnErr result (result ≡ Err LineFault.Memory) }
     {
         self.clear(to);
-        match extend_from_slot(&mut self.slots, self.alloc, from, to) {
+        match append_from(&mut self.slots, from, to) {
             Ok(()) => {
-                self.held += self.slots[from].len() as u128;
+                self.held += self.slots[from].size() as u128;
                 self.peak = self.peak.max(self.held);
                 Ok(())
             }

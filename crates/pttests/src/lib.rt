@@ -16,6 +16,8 @@ mod copying;
 #[cfg(test)]
 mod cuts;
 #[cfg(test)]
+mod failing_calls;
+#[cfg(test)]
 mod faking;
 #[cfg(test)]
 mod faltering;

@@ -127,7 +127,7 @@ fn grow<A: Allocator + Copy>(rt: &impl Abort, alloc: A) -> Stopped {
 // How many of the first growths, refused in turn, stop the store at this call.
 fn stops(rt: &impl Abort, alloc: Global, stopped: Stopped) -> u32 {
     let mut count = 0u32;
-    for passing in 0..40u64 {
+    for passing in 0..80u64 {
         let refusing = Refusing::after(alloc, passing);
         let ended = grow(rt, &refusing);
         assert_eq!(rt;

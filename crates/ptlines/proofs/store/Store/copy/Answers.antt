@@ -1,32 +1,46 @@
-use Rattle.std.proofs.Common.{◌≡◌, ◌<◌, [], length, get_or, set, max, ◌∙◌, ap, arith}
-use Rattle.std.proofs.lemmas.List.{length-set, length-map}
-use Rattle.ptlines.specs.Slots.{Slots, total}
-use Rattle.ptlines.proofs.Counted.{copy_lines, copy_total, fits}
+use Rattle.std.proofs.Common.{◌≡◌, ◌≢◌, ◌<◌, ◌≤◌, ◌^◌, ℕ, ◌+◌, List, [], length, get_or, set, max, sym, ◌∙◌, ap, subst, arith}
+use Rattle.std.proofs.lemmas.List.{with_items_is}
+use Rattle.std.specs.Vec.{with_items}
+use Rattle.ptlines.specs.Slots.{Slots, AreShort, total}
+use Rattle.ptlines.proofs.Counted.{fits, copy_lines, copy_total}
 use Rattle.ptlines.proofs.store.Store.copy.Goals as goal
 
 pub overflow_add-self : goal.overflow_add-self
 overflow_add-self g c =
     let s = c.self.inside.slots in
-    omega (arith, fits s.items c.len.result (omega (arith, s.ok, s.small)) c.len.type_inv, c.self.invariant)
+    omega (arith, fits s.items c.size.result c.self.invariant.2 (omega (arith, s.ok, s.small)) (omega (arith, c.size.ensures.short)), c.self.invariant.0)
 
 pub invariant_of-self : goal.invariant_of-self
 invariant_of-self g c =
+    let s = c.self.inside in
+    let was = c.args.self.now.lines in
+    let lent = c.deref_mut.ensures.value in
     let cleared = ap (λ (t : Slots). t.lines) (c.self.view_is ∙ c.clear.ensures) in
-    let same = length-map c.self.inside.slots.items (λ v. v.items) in
-    let from_in : c.args.from < length c.self.inside.slots.items = omega (arith, c.requires.from_in, same, ap length cleared, length-set c.args.self.now.lines c.args.to []) in
-    let lines = copy_lines c.self.inside.slots.items c.extend_from_slot.new.slots.items c.args.self.now.lines c.args.from c.args.to c.requires.differ c.requires.to_in cleared c.in-Ok.ensures.ok in
-    let all = copy_total c.self.inside.slots.items c.extend_from_slot.new.slots.items c.args.self.now.lines c.args.from c.args.to c.self.inside.held c.index.result.now c.requires.differ from_in c.in-Ok.ensures.count c.requires.to_in cleared lines c.self.invariant.0 c.index.ensures in
-    (omega (arith, all.0, c.len.ensures), omega (arith, c.max-self-inside.ensures))
+    let whole = with_items_is s.slots c.append_from.new.slots (c.append_from.auto.slots ∙ c.deref_mut.ensures.len) in
+    let lines = copy_lines was c.deref_mut.result.now c.append_from.new.slots c.args.from c.args.to c.requires.differ c.requires.to_in (lent ∙ cleared) c.in-Ok.ensures.ok in
+    let all = copy_total was s.slots.items (with_items s.slots c.append_from.new.slots).items c.args.from c.args.to s.held c.size.result c.index.result.now
+    c.requires.differ c.requires.from_in c.requires.to_in cleared (whole ∙ lines) c.self.invariant.0 c.index.ensures c.size.ensures.size in
+    (all.0, omega (arith, c.max-self-inside.ensures), subst AreShort (sym whole) (c.append_from.ensures.short (subst AreShort (sym lent) c.self.invariant.2)))
+
+pub invariant_of-self-in-Err : goal.invariant_of-self-in-Err
+invariant_of-self-in-Err g c =
+    let s = c.self.inside in
+    let whole = with_items_is s.slots c.append_from.new.slots (c.append_from.auto.slots ∙ c.deref_mut.ensures.len) in
+    let same = whole ∙ c.in-Err.ensures.err ∙ c.deref_mut.ensures.value in
+    (c.self.invariant.0 ∙ sym (ap total same), c.self.invariant.1, subst AreShort (sym same) c.self.invariant.2)
 
 pub returns-in-Ok-clause-ok : goal.returns-in-Ok-clause-ok
 returns-in-Ok-clause-ok g c =
-    let cleared = ap (λ (t : Slots). t.lines) (c.self.view_is ∙ c.clear.ensures) in
-    let same = length-map c.self.inside.slots.items (λ v. v.items) in
-    let from_in : c.args.from < length c.self.inside.slots.items = omega (arith, c.requires.from_in, same, ap length cleared, length-set c.args.self.now.lines c.args.to []) in
-    let lines = copy_lines c.self.inside.slots.items c.extend_from_slot.new.slots.items c.args.self.now.lines c.args.from c.args.to c.requires.differ c.requires.to_in cleared c.in-Ok.ensures.ok in
-    let all = copy_total c.self.inside.slots.items c.extend_from_slot.new.slots.items c.args.self.now.lines c.args.from c.args.to c.self.inside.held c.index.result.now c.requires.differ from_in c.in-Ok.ensures.count c.requires.to_in cleared lines c.self.invariant.0 c.index.ensures in
-    let was = ap (λ (t : Slots). t.peak) (c.self.view_is ∙ c.clear.ensures) in
-    let peak : c.max-self-inside.result ≡ max c.args.self.now.peak (total (set c.args.self.now.lines c.args.to (get_or c.args.self.now.lines c.args.from []))) =
-    omega (arith, c.max-self-inside.ensures, c.len.ensures, all.1, all.2, was) in
-    let denied = ap (λ (t : Slots). t.denied) (c.self.view_is ∙ c.clear.ensures) in
-    λ i. record { lines = lines i; peak = peak i; denied = denied i }
+    let s = c.self.inside in
+    let was = c.args.self.now.lines in
+    let lent = c.deref_mut.ensures.value in
+    let emptied = c.self.view_is ∙ c.clear.ensures in
+    let cleared = ap (λ (t : Slots). t.lines) emptied in
+    let whole = with_items_is s.slots c.append_from.new.slots (c.append_from.auto.slots ∙ c.deref_mut.ensures.len) in
+    let lines = copy_lines was c.deref_mut.result.now c.append_from.new.slots c.args.from c.args.to c.requires.differ c.requires.to_in (lent ∙ cleared) c.in-Ok.ensures.ok in
+    let all = copy_total was s.slots.items (with_items s.slots c.append_from.new.slots).items c.args.from c.args.to s.held c.size.result c.index.result.now
+    c.requires.differ c.requires.from_in c.requires.to_in cleared (whole ∙ lines) c.self.invariant.0 c.index.ensures c.size.ensures.size in
+    let peak : c.max-self-inside.result ≡ max c.args.self.now.peak (total (set was c.args.to (get_or was c.args.from []))) =
+    omega (arith, c.max-self-inside.ensures, all.1, all.2, ap (λ (t : Slots). t.peak) emptied) in
+    let denied = ap (λ (t : Slots). t.denied) emptied in
+    λ i. record { lines = (whole ∙ lines) i; peak = peak i; denied = denied i }

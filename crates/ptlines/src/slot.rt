@@ -1,0 +1,88 @@
+//! A line, and a buffer that is longer than it.
+
+ghost use Rattle.std.specs.Prelude.{◌≡◌, ◌<◌, ◌≤◌, ◌+◌, ◌^◌, [], ◌++◌, length, take, drop, IfOk, OnOk, OnErr};
+
+use std::alloc::{AllocError, Allocator};
+use std::marker::Model;
+use std::simd::prelude::*;
+
+// The first `size` bytes of the buffer are the line. At least 64 more stand behind them, whatever they are, so that
+// a line of less than 64 bytes is put into the slot by one store of 64.
+#[derive(Drop)]
+pub(crate) struct Slot<A: Allocator + Copy> {
+    buffer: Vec<u8, A>,
+    size: usize,
+}
+
+impl<A: Allocator + Copy> Model for Slot<A> {
+    ghost use Rattle.std.specs.Prelude.{◌≤◌, ◌+◌, ℕ, List, take, vec_len};
+
+    ghost Value = { List ℕ };
+
+    ghost view = { λ s. take s.size s.buffer.items };
+
+    ghost invariant = { λ s. (s.size + 64 ≤ vec_len s.buffer) × (128 ≤ vec_len s.buffer) };
+}
+
+impl<A: Allocator + Copy> Slot<A> {
+    // An empty slot.
+    pub(crate) fn new(alloc: A) -> Result<Self, AllocError>
+        ensures { IfOk result (λ s. s ≡ []) }
+    {
+        let mut buffer = Vec::new(alloc);
+        buffer.resize(128, 0)?;
+        Ok(Slot { buffer, size: 0 })
+    }
+
+    // The bytes of the line.
+    #[inline(always)]
+    pub(crate) fn line(&self) -> &[u8]
+        ensures line { result.now ≡ self.now }
+    {
+        &self.buffer[..self.size]
+    }
+
+    // How many bytes the line has.
+    #[inline(always)]
+    pub(crate) fn size(&self) -> usize
+        ensures size { result ≡ length self.now }
+        ensures short { result ≤ 2 ^ 63 }
+    {
+        self.size
+    }
+
+    // Makes the line empty.
+    #[inline(always)]
+    pub(crate) fn clear(&mut self)
+        ensures { self.new ≡ [] }
+    {
+        self.size = 0;
+    }
+
+    // Makes the line these bytes, which are less than 64, of a place behind which 64 can be looked at.
+    #[inline(always)]
+    pub(crate) fn put_near(&mut self, bytes: &[u8], from: usize, size: usize)
+        requires near { size < 64 }
+        requires within { from + 64 ≤ length bytes.now }
+        ensures { self.new ≡ take size (drop from bytes.now) }
+    {
+        u8x64::from_slice(&bytes[from..]).copy_to_slice(&mut self.buffer);
+        self.size = size;
+    }
+
+    // Puts bytes behind the line. Where the growth is refused nothing changes.
+    pub(crate) fn append(&mut self, bytes: &[u8]) -> Result<(), AllocError>
+        ensures ok { OnOk result (self.new ≡ self.old ++ bytes.now) }
+        ensures err { OnErr result (self.new ≡ self.old) }
+        ensures short { length self.new ≤ 2 ^ 63 }
+    {
+        let from = self.size;
+        let to = from + bytes.len();
+        if to + 64 > self.buffer.len() {
+            self.buffer.resize(to + 64, 0)?;
+        }
+        self.buffer[from..to].copy_from_slice(bytes);
+        self.size = to;
+        Ok(())
+    }
+}
