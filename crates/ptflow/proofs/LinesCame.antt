@@ -159,12 +159,12 @@ module _ (end : ℕ) (now new : Reader) (given : List ℕ) (ls : List (List ℕ)
       opened : (given ≡ text end ls) × AreLines end ls → Earlier end ls (given_of (given ++ piece) new)
       opened o = let n = length line - 8191 in record {
         before = record {
-        earlier = record { bytes = given ++ take n line; ended = false };
-        last = drop n line ++ behind;
-        split = append_assoc given piece new.held ∙ ap (λ (l : List ℕ). given ++ l) (is ∙ ap (λ (l : List ℕ). l ++ behind) (sym (take-append-drop n line)) ∙ append_assoc (take n line) (drop n line) behind)
-            ∙ sym (append_assoc given (take n line) (drop n line ++ behind));
-        short = omega (arith, short, length-append (drop n line) behind, length-drop n line);
-        ended = λ never. absurd (false≢true never);
+          earlier = record { bytes = given ++ take n line; ended = false };
+          last = drop n line ++ behind;
+          split = append_assoc given piece new.held ∙ ap (λ (l : List ℕ). given ++ l) (is ∙ ap (λ (l : List ℕ). l ++ behind) (sym (take-append-drop n line)) ∙ append_assoc (take n line) (drop n line) behind)
+              ∙ sym (append_assoc given (take n line) (drop n line ++ behind));
+          short = omega (arith, short, length-append (drop n line) behind, length-drop n line);
+          ended = λ never. absurd (false≢true never);
         };
         whole = ap (λ (l : List ℕ). ended_lines end (l ++ take n line)) o.0 ∙ ended_of_text end ls (take n line) o.1 (line_take end n line whole);
       }
@@ -172,11 +172,11 @@ module _ (end : ℕ) (now new : Reader) (given : List ℕ) (ls : List (List ℕ)
       closed : (lines end given ≡ ls) × IsDone now → Earlier end ls (given_of (given ++ piece) new)
       closed c = let none = done_gives_nothing now new piece c.1 reads in record {
         before = record {
-        earlier = record { bytes = given; ended = true };
-        last = [];
-        split = (λ i. (given ++ none.0 i) ++ none.1 i) ∙ append-nil (given ++ []);
-        short = omega arith;
-        ended = λ e. none.2;
+          earlier = record { bytes = given; ended = true };
+          last = [];
+          split = (λ i. (given ++ none.0 i) ++ none.1 i) ∙ append-nil (given ++ []);
+          short = omega arith;
+          ended = λ e. none.2;
         };
         whole = c.0;
       }

@@ -20,9 +20,14 @@ sent_on (Some t) mid is staged waits bytes p q all few = (
   p.front ++ q.front,
   q.is ∙ ap (λ (t : Option (List ℕ)). append_known t q.front) p.is ∙ append_known-append (Some t) p.front q.front,
   omega (
-    arith, few,
-    ap known_length (sym (ap (λ (m : Option (List ℕ)). append_known m waits) p.is) ∙ all), length-append p.front q.front, length-append t p.front,
-    length-append (t ++ p.front) waits, length-append t staged, length-append (t ++ staged) bytes,
+    arith,
+    few,
+    ap known_length (sym (ap (λ (m : Option (List ℕ)). append_known m waits) p.is) ∙ all),
+    length-append p.front q.front,
+    length-append t p.front,
+    length-append (t ++ p.front) waits,
+    length-append t staged,
+    length-append (t ++ staged) bytes,
   ),
 )
 
