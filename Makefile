@@ -3,7 +3,8 @@
 #                           the wrong bodies of the changed crates (SINCE=COMMIT; origin/main where it is known, else HEAD~1)
 # make test                 the gate: every proof from nothing, the must-fail edits, all tests; then the program that the gate
 #                           built, its pages, its installation and its packages
-# make bench                ratios to the system's tools by the length of a line: table, data and chart in bench/
+# make bench                ratios to the system's tools by the length of a line: table, data and chart in bench/; and the
+#                           tools over parts of their input, on all processors
 # make compare N=5000       random words and inputs, against the system's tools (docs/COMPARISON.md)
 # make install PREFIX=..    installs the program, its pages and completion into PREFIX (/usr/local), below DESTDIR
 # make install-tools        adds PREFIX/libexec/ptext/bin with each tool by its own name: for who puts it into PATH
@@ -32,6 +33,7 @@ test:
 
 bench: build/ptext
 	python3 bench/run.py build/ptext
+	python3 bench/parts.py build/ptext
 
 compare: build/ptext
 	python3 tools/compare.py build/ptext $(N)

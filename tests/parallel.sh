@@ -114,6 +114,47 @@ parallel --pipepart -k --block 3M -a first 'ptext paste -s -'
 ptext paste -s first
 ROWS
 
+# Over hosts: `-S :` is this machine, without ssh.
+run "parallel -S : --pipepart -k --block 20M -a log 'ptext cut -d \" \" -f 1,3'"
+ptext cut -d " " -f 1,3 log >want
+cmp -s out want || failed "parallel -S :"
+
+# As Hadoop streaming and Spark do it. Splits that end behind lines go to mappers, or partitions to `pipe`: put together in
+# their order, the files that these write are the result of the whole.
+mkdir splits
+head -n 200000 log >part
+split -a 2 -d -l 30001 part splits/
+for mapper in 'ptext cut -d " " -f 1,3' 'ptext tr a-z A-Z' 'ptext tr -d 0-9'; do
+    run 'for split in splits/*; do '"$mapper"' <"$split"; done'
+    sh -c "$mapper" <part >want
+    cmp -s out want || failed "as a mapper: $mapper"
+done
+
+# The lines of the mappers are dealt out to three reducers by their keys, and each is given its lines in the order of the
+# keys. The lines of all reducers are those of the whole, in some order.
+dealt() {
+    awk -v to="$1" -v field="$2" '
+        BEGIN { for (n = 1; n < 256; n++) code[sprintf("%c", n)] = n }
+        { key = field ? $field : $0; sum = 0; for (n = 1; n <= length(key); n++) sum = (sum * 31 + code[substr(key, n, 1)]) % 9973
+          print >(to "." sum % 3) }'
+}
+mkdir reducers
+head -n 400000 words >part
+dealt reducers/words 0 <part
+run 'for file in reducers/words.*; do sort "$file" | sed "s/\$/\t/" | sed "s/\t\$//" | ptext uniq -c; done | sort'
+sort part | ptext uniq -c | sort >want
+cmp -s out want || failed "uniq -c as a reducer"
+head -n 200000 left >left.part
+head -n 270000 right >right.part
+dealt reducers/left 1 <left.part
+dealt reducers/right 1 <right.part
+run 'for n in 0 1 2; do ptext join -a 1 reducers/left.$n reducers/right.$n; done | sort'
+ptext join -a 1 left.part right.part | sort >want
+cmp -s out want || failed "join of two inputs that were dealt out alike"
+run 'for n in 0 1 2; do ptext comm -12 reducers/left.$n reducers/right.$n; done | sort'
+ptext comm -12 left.part right.part | sort >want
+cmp -s out want || failed "comm of two inputs that were dealt out alike"
+
 # But without -s `tr` may be cut anywhere.
 run "parallel --pipepart -k --block 3M --recend '' -a log 'ptext tr -d a-z'"
 ptext tr -d a-z <log >want
