@@ -92,11 +92,11 @@ def offers(text, typed, words):
 
 
 def wrong_of(shell, room):
-    """What a shell does not complete as wanted. As terminals are slow at times, each is tried twice."""
+    """What a shell does not complete as wanted. As terminals are slow at times, each is tried again."""
     words, first = SHELLS[shell]
     found = []
     for typed, wanted in COMPLETED + OFFERED:
-        for attempt in (1, 2):
+        for attempt in (1, 2, 4):
             at = Terminal(words, room)
             at.type("\n", 0.5 * attempt)
             at.type(first.replace("@", f"{TOP}/completion") + "\n", 0.5 * attempt)
@@ -121,7 +121,7 @@ def wrong_of(shell, room):
 
 def main():
     wrong, count = [], 0
-    with tempfile.TemporaryDirectory() as room:
+    with tempfile.TemporaryDirectory(ignore_cleanup_errors=True) as room:
         os.mkdir(f"{room}/bin")
         with open(f"{room}/lonely", "w", encoding="ascii"):
             pass
@@ -129,7 +129,11 @@ def main():
             if not shutil.which(shell):
                 print(f"left out: completion in {shell} (there is no {shell})")
                 continue
-            wrong += wrong_of(shell, room)
+            try:
+                wrong += wrong_of(shell, room)
+            except OSError as why:
+                print(f"left out: completion in {shell} (no terminal: {why})")
+                continue
             count += len(COMPLETED) + len(OFFERED)
     print("".join(wrong), end="")
     print(f"{count - len(wrong)} of {count} words are completed as wanted")

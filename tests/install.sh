@@ -73,6 +73,7 @@ install uninstall PREFIX="$room/used" DESTDIR=
 is "what was there stays" ". ./bin ./share ./share/man ./share/other " "$(cd "$room/used" && find . | sort | tr '\n' ' ')"
 
 # A DESTDIR that does not begin with a slash is below the folder in which make runs.
+rm -rf "$top/build/rooted"
 mkdir "$top/build/rooted"
 install install PREFIX=/usr DESTDIR=build/rooted
 is "a relative DESTDIR" yes "$([ -x "$top/build/rooted/usr/bin/ptext" ] && echo yes)"

@@ -117,7 +117,20 @@ class Build:
         return sorted((it for it in self.left if below(it, self.uses) <= set(self.done)), key=lambda it: -self.weight(it))
 
     def prove(self, crate, jobs):
-        began, folder = time.monotonic(), f"{SIDE}/{crate}"
+        began, good = time.monotonic(), False
+        try:
+            good = self.proved(crate, f"{SIDE}/{crate}", jobs)
+        except OSError as why:
+            say(f"{crate}: {why}")
+        finally:
+            with self.turn:
+                self.running.remove(crate)
+                (self.done if good else self.failed).append(crate)
+                if good:
+                    say(f"{crate}: proved, {time.monotonic() - began:.0f} s ({len(self.done)} of {self.count})")
+                self.turn.notify_all()
+
+    def proved(self, crate, folder, jobs):
         lower = below(crate, self.uses)
         for it in lower:
             bring(it, folder, ["rlib"])
@@ -128,12 +141,7 @@ class Build:
             shutil.copy2(f"{TOP}/HANDLES", folder)
         good = followed(crate, ["rt", "lib", "--jobs", str(jobs)], f"{folder}/crates/{crate}")
         take_back(crate, folder)
-        with self.turn:
-            self.running.remove(crate)
-            (self.done if good else self.failed).append(crate)
-            if good:
-                say(f"{crate}: proved, {time.monotonic() - began:.0f} s ({len(self.done)} of {self.count})")
-            self.turn.notify_all()
+        return good
 
     def run(self):
         """Proves all; answers whether that went well."""

@@ -16,9 +16,10 @@ import sys
 import tarfile
 import tempfile
 
+sys.dont_write_bytecode = True
+
 from install import NAMES, TOP, bytes_of, files, script, stripped
 
-sys.dont_write_bytecode = True
 VERSION = bytes_of(f"{TOP}/VERSION").decode().strip()
 LICENSES = ["LICENSE-MIT", "LICENSE-APACHE"]
 # The time that every file bears, if SOURCE_DATE_EPOCH names no other: that of this version.
@@ -27,14 +28,16 @@ TIME = int(os.environ.get("SOURCE_DATE_EPOCH", "1795348800"))
 
 def source_files():
     """The files of the repository: those that git knows, or, outside a checkout, all but what was built."""
-    if os.path.exists(f"{TOP}/.git"):
-        said = subprocess.run(["git", "ls-files", "-z"], cwd=TOP, check=True, capture_output=True).stdout.decode()
-        return sorted(it for it in said.split("\0") if it and os.path.isfile(f"{TOP}/{it}"))
+    if os.path.exists(f"{TOP}/.git") and shutil.which("git"):
+        words = ["git", "-c", f"safe.directory={TOP}", "ls-files", "-z"]
+        said = subprocess.run(words, cwd=TOP, check=False, capture_output=True)
+        if not said.returncode:
+            return sorted(it for it in said.stdout.decode().split("\0") if it and os.path.isfile(f"{TOP}/{it}"))
     found = []
     for at, folders, names in os.walk(TOP):
         inside = os.path.relpath(at, TOP)
         is_crate = os.path.dirname(inside) == "crates"
-        folders[:] = [it for it in folders if not (it == "out" and is_crate or it == "build" and inside == "." or it == "__pycache__")]
+        folders[:] = [it for it in folders if not (it == "out" and is_crate or it in ("build", ".git") and inside == "." or it == "__pycache__")]
         found += [os.path.normpath(f"{inside}/{it}") for it in names]
     return sorted(found)
 
