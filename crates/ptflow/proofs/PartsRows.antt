@@ -105,6 +105,17 @@ not_uniq_of_any_parts : ((job : Uniq) (a b : List ℕ) → IsWhole job.end a →
 unfolding digits
 not_uniq_of_any_parts law = omega (arith, ap length (law counting (codes "a\n") (codes "a\nb\n") (inr (codes "a", refl))))
 
+-- a cut inside a line: `ab` is one line, and its parts are two
+not_uniq_within_lines : ((job : Uniq) (a b : List ℕ) → KeysChange job a b → uniq job (a ++ b) ≡ uniq job a ++ uniq job b) → ⊥
+unfolding digits
+not_uniq_within_lines law = omega (arith, ap length (law counting (codes "a") (codes "b\n") change))
+  where
+    change : KeysChange counting (codes "a") (codes "b\n")
+    change last first ends begins same =
+        let a : last ≡ codes "a" = ap (λ (o : Option (List ℕ)). unwrap_or o []) (same_last last (codes "a") (codes "a" ∷ []) ends ([], refl)) in
+        let b : codes "b" ≡ first = ap (λ (ls : List (List ℕ)). slice_index_or ls 0 []) begins.1 in
+        omega (arith, ap (λ (l : List ℕ). slice_index_or l 0 0) (sym a ∙ same ∙ sym b))
+
 -- lines that are dealt out by their keys, but are not sorted
 key_comes_again : uniq counting (codes "a\na\n") ≡ codes "2 a\n"
 unfolding digits
@@ -166,6 +177,10 @@ not_paste_of_any_parts law = omega (arith, ap length (law (tabs false) (0 ∷ 1 
     whole zero = inr (codes "1\n2", refl)
     whole (suc zero) = inr (codes "x", refl)
     whole (suc (suc n)) = inl refl
+
+-- a cut inside a line, though the parts have one line each
+not_paste_within_lines : ((job : Paste) (a b : ℕ → List ℕ) → length (lines job.end (a 0)) ≡ 1 → paste job (0 ∷ []) (λ place. a place ++ b place) ≡ paste job (0 ∷ []) a ++ paste job (0 ∷ []) b) → ⊥
+not_paste_within_lines law = omega (arith, ap length (law (tabs false) (at (codes "1" ∷ [])) (at (codes "2\n" ∷ [])) refl))
 
 -- ---- paste in series
 

@@ -336,6 +336,7 @@ impl<S: Source, R: Source> LineReader<S, R> {
     /// # Errors
     /// `Read` where a read failed, or 2^63 bytes or more came; `Memory` where the slot could not grow, and the
     /// store is then denied. The slot then has a beginning of the line. Later calls answer the same and do nothing.
+    /// (That there are as many slots as before follows from the other clauses; callers ask for it at every exit.)
     pub fn fill<A: Allocator + Copy>(
         &mut self,
         store: &mut Store<A>,

@@ -209,7 +209,7 @@ impl<A: Allocator + Copy> Store<A> {
         self.slots.swap(a, b);
     }
 
-    /// How many bytes the slots hold.
+    /// How many bytes the slots hold. (That `peak` is no less is true of every store, and told here alone.)
     pub fn now(&self) -> u128
         ensures now { result ≡ total self.now.lines }
         ensures below { result ≤ self.now.peak }

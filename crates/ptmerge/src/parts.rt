@@ -2,8 +2,8 @@ ghost use Rattle.ptmerge.specs.Parts.{PartsOfComm, PartsOfJoin, CommByKey, JoinB
 
 /// What `comm` writes of two files is what it writes of a first part of each, and then of the rest of each, where
 /// both are cut at the same lines: each first part is empty or ends with the byte that ends a line, and is in order,
-/// and each line of the first parts comes before each line of the rest. It holds for both orders, whichever columns are left out. As
-/// often as the rest is cut so, there are as many parts, and only the last ones may be out of order.
+/// and each line of the first parts comes before each line of the rest. It holds for both orders, whichever columns are
+/// left out. As often as the rest is cut so, there are as many parts, and only the last ones may be out of order.
 /// The call does nothing: its contract is the law.
 pub fn parts_of_comm()
     ensures { PartsOfComm }
