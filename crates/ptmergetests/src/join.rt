@@ -215,7 +215,9 @@ fn nothing_is_read_behind_a_failed_write(rt: HostRuntime) -> Result<(), Fail> {
     let mut long = vec![in rt.alloc(); b'a'; 18002]?;
     long[9000] = b'\n';
     long[18001] = b'\n';
-    let mut lines = over(&long, &long[..9001]);
+    let mut line = vec![in rt.alloc(); b'a'; 9001]?;
+    line[9000] = b'\n';
+    let mut lines = over(&long, &line);
     lines.size = usize::MAX;
     lines.passing = [2, 3];
     let (result, _kept, _peak) = run(rt.alloc(), rt.alloc(), &job, &lines)?;
