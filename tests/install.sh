@@ -61,7 +61,7 @@ install uninstall PREFIX="$room/empty" DESTDIR=
 is "nothing is left" "" "$(ls -A "$room/empty")"
 
 install install install-tools PREFIX=/usr DESTDIR="$room/root"
-is "no root in a script" 'exec "/usr/bin/ptext" uniq "$@"' "$(tail -n 1 "$room/root/usr/libexec/ptext/bin/uniq")"
+is "no root in a script" 'exec /usr/bin/ptext uniq "$@"' "$(tail -n 1 "$room/root/usr/libexec/ptext/bin/uniq")"
 install uninstall PREFIX=/usr DESTDIR="$room/root"
 is "nothing is left below a root" "" "$(ls -A "$room/root")"
 

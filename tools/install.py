@@ -10,6 +10,7 @@ written to, and in no file. Where something cannot be written, all is as it was 
 """
 import contextlib
 import os
+import shlex
 import shutil
 import subprocess
 import sys
@@ -46,7 +47,7 @@ def stripped(program):
 
 def script(prefix, name):
     """Runs a tool by its own name."""
-    return f'#!/bin/sh\nexec "{prefix}/bin/ptext" {name} "$@"\n'.encode()
+    return f'#!/bin/sh\nexec {shlex.quote(f"{prefix}/bin/ptext")} {name} "$@"\n'.encode()
 
 
 class Place:
