@@ -1,4 +1,6 @@
-ghost use Rattle.std.specs.Prelude.{◌≡◌, ◌<◌, ◌≤◌, ℕ, true, false, None, [], IfSome, IfOk, length, take, drop, if◌then◌else◌};
+ghost use Rattle.std.specs.Prelude.{◌≡◌, ◌<◌, ◌≤◌, ℕ, true, false, None, [], IfSome, IfOk, OnOk, OnErr, length, take, drop, if◌then◌else◌};
+ghost use Rattle.memchr.specs.Find.{IsFirstByte, is_byte};
+ghost use Rattle.ptlines.specs.Outputs.{Wrote};
 ghost use Rattle.std.specs.Borrow.{sem};
 ghost use Rattle.std.specs.Io.KnownBytes.{IsAtEnd};
 ghost use Rattle.std.specs.Io.BufRead.{Rests};
@@ -8,8 +10,9 @@ ghost use Rattle.ptlines.specs.Readers.{Refills, IsSound, new_reader};
 ghost use Rattle.ptlines.specs.Fills.{Moves, Steps, GivesLine, Fills, Blocks};
 ghost use Rattle.ptlines.specs.contracts.reader.LineReader.{the_row};
 
+use crate::out::{Out, WriteFault};
 use crate::search::{find_in_64, find_near};
-use crate::sink::Failed;
+use crate::sink::{Failed, Sink};
 use crate::source::{Origin, Source};
 use crate::store::{LineFault, Store};
 use std::alloc::Allocator;
@@ -357,6 +360,45 @@ impl<S: Source, R: Source> LineReader<S, R> {
             return Ok(true);
         }
         self.fill_far(store, slot)
+    }
+
+    // Whether the block holds a whole line.
+    fn holds_line(&self) -> bool
+        ensures { result ≡ false → IsFirstByte (is_byte self.now.ending) self.now.held None }
+    {
+        find_near(self.ending(), self.held()).is_some()
+    }
+
+    /// Sends what is staged, if the next line may have to be waited for: the block holds no whole line, the source has not
+    /// said its end, and its last read came short of the block, or there was none yet. So a terminal or a pipe is not
+    /// asked for more while output waits; where reads fill the block nothing changes. That what is staged is sent is
+    /// tested, and no clause: how much the last read brought is no part of what a reader is.
+    #[inline(always)]
+    pub fn send_before_wait<W: Sink>(&self, out: &mut Out<W>) -> Result<(), WriteFault>
+        requires { out.old.faulted ≡ false }
+        ensures wrote { Wrote out.old out.new [] }
+        ensures clean { OnOk result (out.new.faulted ≡ false) }
+        ensures fault { OnErr result (out.new.faulted ≡ true) }
+        ensures ended { self.now.ended ≡ true → out.new ≡ out.old }
+    {
+        if self.end == 8192 || self.has_ended() {
+            return Ok(());
+        }
+        self.send_unless_line(out)
+    }
+
+    // Sends what is staged, unless the block holds a whole line.
+    #[inline(never)]
+    fn send_unless_line<W: Sink>(&self, out: &mut Out<W>) -> Result<(), WriteFault>
+        requires { out.old.faulted ≡ false }
+        ensures wrote { Wrote out.old out.new [] }
+        ensures clean { OnOk result (out.new.faulted ≡ false) }
+        ensures fault { OnErr result (out.new.faulted ≡ true) }
+    {
+        if self.holds_line() {
+            return Ok(());
+        }
+        out.send()
     }
 
     /// The bytes of the block that were not given, after one read where there were none; an empty slice is the end.
