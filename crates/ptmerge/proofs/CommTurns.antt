@@ -81,7 +81,7 @@ comes_slots key cmp place next was is before after (inr e) = ap (λ (t : Slots).
 pub breaks_slots : (s : Side) (place : Sorted) (was is : Reader) (before after : Slots) (fault : MergeFault) → CannotRead s place was is before after fault → length after.lines ≡ length before.lines
 breaks_slots s place was is before after (Read file) e = ap (λ (t : Slots). length t.lines) e.0.stored ∙ length-set before.lines place.previous e.0.piece
 breaks_slots s place was is before after Write e = absurd e
-breaks_slots s place was is before after Memory e = ap (λ (t : Slots). length t.lines) e.stored ∙ length-set before.lines place.previous e.piece
+breaks_slots s place was is before after Memory e = ap (λ (t : Slots). length t.lines) e.0.stored ∙ length-set before.lines place.previous e.0.piece
 breaks_slots s place was is before after (faults.Disorder file number) e = absurd e
 
 pub passes_slots : (key : Key) (cmp : Cmp) (s : Side) (place next : Sorted) (was is : Reader) (before after : Slots) (out : Output) (fault : MergeFault) → PassesLine key cmp s place next was is before after out (Err fault) → length after.lines ≡ length before.lines
@@ -166,13 +166,13 @@ module _ (job : Comm) (cmp : Cmp) (key : Side → Key) (o : IsKeyOrder cmp) (old
     pub standing : (side : Side) → GoneBy side (p side)
     standing side = gone_standing job.end cmp (key side) (old.reader side) (now.reader side) (place side) now.store (ls side) (p side) (b side) (sides side)
 
-    pub passing : (s : Side) → (place s).stand ≡ Head → (new : Reader) (piece : List ℕ) → Reads (now.reader s) new piece → IsLine (now.reader s).ending piece → Gone job.end cmp (key s) (old.reader s) (now.reader s) new piece (ls s) (ls s) (b s)
-    passing s head new piece reads free =
+    pub passing : (s : Side) → (place s).stand ≡ Head → (new : Reader) (piece : List ℕ) → Reads (now.reader s) new piece → IsLine (now.reader s).ending piece → IsSound new → Gone job.end cmp (key s) (old.reader s) (now.reader s) new piece (ls s) (ls s) (b s)
+    passing s head new piece reads free sound =
         let h = passed_at (comm_by job cmp key) o old.reader now.reader place now.store ls p b sides slots four s head in
-        subst (λ d. Gone job.end cmp (key s) (old.reader s) (now.reader s) new piece (ls s) (ls s) d) (sym h.bound) (gone_passed job.end cmp o (key s) (old.reader s) (now.reader s) new piece (ls s) (key s (line now.store (place s).standing)) (sides s).got reads free h.begun)
+        subst (λ d. Gone job.end cmp (key s) (old.reader s) (now.reader s) new piece (ls s) (ls s) d) (sym h.bound) (gone_passed job.end cmp o (key s) (old.reader s) (now.reader s) new piece (ls s) (key s (line now.store (place s).standing)) (sides s).got reads free sound h.begun)
 
     pub passing_now : (s : Side) → (place s).stand ≡ Head → GoneBy s (ls s)
-    passing_now s head = passing s head (now.reader s) [] (reads_nothing (now.reader s)) tt
+    passing_now s head = passing s head (now.reader s) [] (reads_nothing (now.reader s)) tt (sides s).sound
 
     -- a write failed
     pub unwritten : (q : Side → Lines) (new : Output) → Merging (comm_by job cmp key) b q old.out new → ((side : Side) → GoneBy side (q side)) → new.faulted ≡ true → Done (record { reader = now.reader; out = new; store = now.store }) (Err Write)
@@ -186,7 +186,7 @@ module _ (job : Comm) (cmp : Cmp) (key : Side → Key) (o : IsKeyOrder cmp) (old
     unread s head q out clean m same rest new after fault moves =
         let h = passed_at (comm_by job cmp key) o old.reader now.reader place now.store ls p b sides slots four s head in
         breaks (comm_by job cmp key) o old (record { reader = now.reader; out = out; store = now.store }) ls q b m unfailed went clean s (place s) new after fault
-        (λ r piece reads free. subst (λ l. Gone job.end cmp (key s) (old.reader s) (now.reader s) r piece (ls s) l (b s)) (sym same) (passing s head r piece reads free)) (sym same) (Some (key s (line now.store (place s).standing)))
+        (λ r piece reads free sound. subst (λ l. Gone job.end cmp (key s) (old.reader s) (now.reader s) r piece (ls s) l (b s)) (sym same) (passing s head r piece reads free sound)) (sym same) (Some (key s (line now.store (place s).standing)))
         (subst (λ l. Begun cmp (key s) l (Some (key s (line now.store (place s).standing)))) (sym same) h.begun) rest keeps.denied
         (λ piece all w. bounded now.store after s (place s) ls all piece (slots s) keeps (λ side. omega (arith, (w side).1)) (omega (arith, (w s).1, ap length (put_same s piece (λ side. []))))) moves
 

@@ -96,7 +96,7 @@ module _ (cmp : Cmp) (o : IsKeyOrder cmp) where
   coming_under key Over x r u c = subst (EachKey (AtMost cmp x) key) (sym c) tt
 
   -- nothing that may come of one input is below the last key that passed of another
-  past_none : (key other_key : Key) (b : Bound) (p r : Lines) → EachKey (Under cmp b) key p → Coming cmp other_key b r → EachKey (λ k. is_below cmp k (last_or None (map key p)) ≡ false) other_key r
+  pub past_none : (key other_key : Key) (b : Bound) (p r : Lines) → EachKey (Under cmp b) key p → Coming cmp other_key b r → EachKey (λ k. is_below cmp k (last_or None (map key p)) ≡ false) other_key r
   past_none key other_key b p r u c = by (last_or None (map key p)) refl
     where
       none : (xs : Lines) → EachKey (λ k. false ≡ false) other_key xs

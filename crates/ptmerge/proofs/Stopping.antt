@@ -1,9 +1,9 @@
 -- What a tool over two inputs has done when it stops.
-use Rattle.std.proofs.Common.{arith, refl, ◌≡◌, ℕ, ◌≤◌, true, false, List, [], ◌++◌, Option, Some, None, Result, Ok, Err, length, max, sym, ◌∙◌, ap, subst}
+use Rattle.std.proofs.Common.{arith, inl, refl, ◌≡◌, ℕ, ◌≤◌, true, false, List, [], ◌++◌, Option, Some, None, Result, Ok, Err, length, max, sym, ◌∙◌, ap, subst}
 use Rattle.std.proofs.lemmas.Bool.{false≢true}
 use Rattle.std.proofs.lemmas.List.{append-nil}
 use Rattle.ptlines.specs.Inputs.{Given, whole_lines}
-use Rattle.ptlines.specs.Readers.{Reader, Reads, IsDone}
+use Rattle.ptlines.specs.Readers.{Reader, Reads, IsDone, IsSound}
 use Rattle.ptlines.specs.Slots.{Slots}
 use Rattle.ptlines.specs.Text.{text, lines, IsLine, longest}
 use Rattle.ptlines.proofs.Coming.{given_of, came_of, came_set, cause_set}
@@ -22,6 +22,7 @@ use Rattle.ptmerge.specs.Keyed.{Lines, Tool, by_keys, disorder, disorder_of, fal
 use Rattle.ptmerge.specs.Merges.{State, Agree, Ends, IsMerge, IsUnread, IsWhole, ended_by}
 use Rattle.ptmerge.specs.Orders.{Cmp, Key}
 use Rattle.ptmerge.specs.Sides.{other}
+use Rattle.ptmerge.proofs.Backing.{Near}
 use Rattle.ptmerge.proofs.Bounds.{Bound, Free, From, Over, Coming, Falling, Begun, Reaches, reaches_free, reaches_passed}
 use Rattle.ptmerge.proofs.Got.{Got, More, Known, got_known, got_lines, got_none, reads_nothing}
 use Rattle.ptmerge.proofs.Orders.{IsKeyOrder}
@@ -34,12 +35,14 @@ pub record Gone (end : ℕ) (cmp : Cmp) (key : Key) (old now new : Reader) (piec
   pub got : Got end old now ls
   pub reads : Reads now new piece
   pub line : IsLine now.ending piece
+  pub sound : IsSound new
+  pub near : Near ls p piece
   pub reaches : Reaches cmp key ls p b
   pub over : b ≡ Over → IsDone now
 
 -- an input at which a merge stands
 pub gone_standing : (end : ℕ) (cmp : Cmp) (key : Key) (old now : Reader) (place : Sorted) (store : Slots) (ls p : Lines) (b : Bound) → Sided end cmp key old now place store ls p b → Gone end cmp key old now now [] ls p b
-gone_standing end cmp key old now place store ls p b s = record { got = s.got; reads = reads_nothing now; line = tt; reaches = s.reaches; over = over place.stand s.stands }
+gone_standing end cmp key old now place store ls p b s = record { got = s.got; reads = reads_nothing now; line = tt; sound = s.sound; near = s.near; reaches = s.reaches; over = over place.stand s.stands }
   where
     over : (t : Stand) → Stands cmp key t place store now ls p b → b ≡ Over → IsDone now
     over Head st e = (let bad = sym st.2 ∙ e in cc)
@@ -47,13 +50,13 @@ gone_standing end cmp key old now place store ls p b s = record { got = s.got; r
     over (Disorder n) st e = (let bad = sym st ∙ e in cc)
 
 -- an input all whose lines are passed, and what came of one more
-pub gone_passed : (end : ℕ) (cmp : Cmp) (o : IsKeyOrder cmp) (key : Key) (old now new : Reader) (piece : List ℕ) (ls : Lines) (k : List ℕ) → Got end old now ls → Reads now new piece → IsLine now.ending piece → Begun cmp key ls (Some k)
+pub gone_passed : (end : ℕ) (cmp : Cmp) (o : IsKeyOrder cmp) (key : Key) (old now new : Reader) (piece : List ℕ) (ls : Lines) (k : List ℕ) → Got end old now ls → Reads now new piece → IsLine now.ending piece → IsSound new → Begun cmp key ls (Some k)
     → Gone end cmp key old now new piece ls ls (From k)
-gone_passed end cmp o key old now new piece ls k got reads line begun = record { got = got; reads = reads; line = line; reaches = reaches_passed cmp o key ls k begun; over = λ e. cc }
+gone_passed end cmp o key old now new piece ls k got reads line sound begun = record { got = got; reads = reads; line = line; sound = sound; near = inl refl; reaches = reaches_passed cmp o key ls k begun; over = λ e. cc }
 
 -- an input of which no line came
-pub gone_free : (end : ℕ) (cmp : Cmp) (key : Key) (old new : Reader) (piece : List ℕ) → old.fault ≡ None → old.ending ≡ end → Reads old new piece → IsLine old.ending piece → Gone end cmp key old old new piece [] [] Free
-gone_free end cmp key old new piece clean ending reads line = record { got = got_none end old clean ending; reads = reads; line = line; reaches = reaches_free cmp key; over = λ e. cc }
+pub gone_free : (end : ℕ) (cmp : Cmp) (key : Key) (old new : Reader) (piece : List ℕ) → old.fault ≡ None → old.ending ≡ end → Reads old new piece → IsLine old.ending piece → IsSound new → Gone end cmp key old old new piece [] [] Free
+gone_free end cmp key old new piece clean ending reads line sound = record { got = got_none end old clean ending; reads = reads; line = line; sound = sound; near = inl refl; reaches = reaches_free cmp key; over = λ e. cc }
 
 -- a read of an input failed, all whose lines are passed
 pub record Fails (cmp : Cmp) (key : Key) (new : Reader) (ls p : Lines) : Type 0 where

@@ -4,7 +4,8 @@ use Rattle.std.specs.Ordering.{is_gt, is_lt, is_le}
 use Rattle.std.proofs.lemmas.Bool.{false≢true}
 use Rattle.std.proofs.lemmas.List.{append-nil}
 use Rattle.ptlines.specs.Outputs.{Output, Wrote}
-use Rattle.ptlines.specs.Readers.{Reader, Reads, IsDone, HasReadCause}
+use Rattle.ptlines.specs.Fills.{BreaksMemory}
+use Rattle.ptlines.specs.Readers.{Reader, Reads, IsDone, IsSound, HasReadCause}
 use Rattle.ptlines.specs.Slots.{Slots, line, with_line}
 use Rattle.ptlines.specs.Text.{text, IsLine, longest}
 use Rattle.ptmerge.specs.declared.faults.MergeFault.{MergeFault}
@@ -292,13 +293,13 @@ module _ (tool : Tool) (o : IsKeyOrder tool.cmp) (old now : State) (ls q : Side 
   none side = []
 
   -- the next line of an input could not be read
-  pub breaks : (s : Side) (place : Sorted) (new : Reader) (after : Slots) (fault : MergeFault) → ((r : Reader) (piece : List ℕ) → Reads (now.reader s) r piece → IsLine (now.reader s).ending piece → GoneOf s r piece) → ls s ≡ q s → (last : Option (List ℕ)) → Begun tool.cmp (tool.key s) (q s) last
+  pub breaks : (s : Side) (place : Sorted) (new : Reader) (after : Slots) (fault : MergeFault) → ((r : Reader) (piece : List ℕ) → Reads (now.reader s) r piece → IsLine (now.reader s).ending piece → IsSound r → GoneOf s r piece) → ls s ≡ q s → (last : Option (List ℕ)) → Begun tool.cmp (tool.key s) (q s) last
       → GoneOf (other s) (now.reader (other s)) [] → now.store.denied ≡ false → ((piece : List ℕ) → Holds (with_line now.store place.previous piece) (put s piece (λ side. []))) → CannotRead s place (now.reader s) new now.store after fault
       → IsMerge tool old (record { reader = put s new now.reader; out = now.out; store = after }) (Err fault)
   breaks s place new after (Read file) gone all last begun rest roomy fits moves =
       let e = moves.0 in
       subst (λ f. IsMerge tool old (record { reader = put s new now.reader; out = now.out; store = after }) (Err (Read f))) (sym moves.1)
-      (by s (gone new e.piece e.faults.reads e.faults.whole) rest all begun e.cause (subst (λ (t : Slots). Holds t (put s e.piece (λ side. []))) (sym e.stored) (fits e.piece)))
+      (by s (gone new e.piece e.faults.reads e.faults.whole moves.2) rest all begun e.cause (subst (λ (t : Slots). Holds t (put s e.piece (λ side. []))) (sym e.stored) (fits e.piece)))
     where
       denied : after.denied ≡ false
       denied = ap (λ (t : Slots). t.denied) moves.0.stored ∙ roomy
@@ -308,8 +309,11 @@ module _ (tool : Tool) (o : IsKeyOrder tool.cmp) (old now : State) (ls q : Side 
       by First g h a b c p = read_breaks First (put First new now.reader) (put First moves.0.piece (λ side. [])) after (elim [ First ↦ g | Second ↦ h ]) refl p c denied a last b
       by Second g h a b c p = read_breaks Second (put Second new now.reader) (put Second moves.0.piece (λ side. [])) after (elim [ First ↦ h | Second ↦ g ]) refl p c denied a last b
   breaks s place new after Write gone all last begun rest roomy fits moves = absurd moves
-  breaks s place new after Memory gone all last begun rest roomy fits e = by s (gone new e.piece e.faults.reads e.faults.whole) rest e.failed (subst (λ (t : Slots). Holds t (put s e.piece (λ side. []))) (sym e.stored) (fits e.piece))
+  breaks s place new after Memory gone all last begun rest roomy fits moves = by s (gone new e.piece e.faults.reads e.faults.whole moves.1) rest e.failed (subst (λ (t : Slots). Holds t (put s e.piece (λ side. []))) (sym e.stored) (fits e.piece))
     where
+      e : BreaksMemory (now.reader s) new now.store after place.previous
+      e = moves.0
+
       by : (t : Side) → GoneOf t new e.piece → GoneOf (other t) (now.reader (other t)) [] → new.failed ≡ (now.reader t).failed → Holds after (put t e.piece (λ side. [])) → IsMerge tool old (record { reader = put t new now.reader; out = now.out; store = after }) (Err Memory)
       by First g h c p = memory_breaks First (put First new now.reader) (put First e.piece (λ side. [])) after (elim [ First ↦ g | Second ↦ h ]) refl p c (ap (λ (t : Slots). t.denied) e.stored)
       by Second g h c p = memory_breaks Second (put Second new now.reader) (put Second e.piece (λ side. [])) after (elim [ First ↦ h | Second ↦ g ]) refl p c (ap (λ (t : Slots). t.denied) e.stored)

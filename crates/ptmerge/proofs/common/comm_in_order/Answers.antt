@@ -38,7 +38,7 @@ returns-in_err-merge-clause-merged g c =
     let readable = readable_of c.args.first.now c.args.second.now c.args.store.now c.requires.ready in
     let ending = both_each (λ (side : Side) (r : Reader). r.ending ≡ job.end) c.args.first.now c.args.second.now c.requires.ending.0 c.requires.ending.1 in
     let x = err_from_is_err_and c.from_residual.result c.from_residual.ensures.1 in
-    rw (x.1, x.2) (starts_badly (comm_by job cmp key) o (λ ls. (omega arith, omega arith)) old readable ending unfailed c.requires.writable c.requires.ready.allowed c.requires.ready.empty c.start.new.first c.start.new.second c.start.new.store c.in_err-merge.field-0.0 c.in_err-merge.ensures.breaks)
+    rw (x.1, x.2) (starts_badly (comm_by job cmp key) o (λ ls. (omega arith, omega arith)) old readable ending unfailed (both_each (λ (side : Side) (r : Reader). IsSound r) c.args.first.now c.args.second.now c.requires.sound.0 c.requires.sound.1) c.requires.writable c.requires.ready.allowed c.requires.ready.empty c.start.new.first c.start.new.second c.start.new.store c.in_err-merge.field-0.0 c.in_err-merge.ensures.breaks)
 
 pub returns-in_err-merge-clause-slots : goal.returns-in_err-merge-clause-slots
 returns-in_err-merge-clause-slots g c =
@@ -50,7 +50,7 @@ returns-in_err-merge-clause-slots g c =
     let unfailed = unfailed_of c.args.first.now c.args.second.now c.args.store.now c.requires.ready c.requires.sound in
     let readable = readable_of c.args.first.now c.args.second.now c.args.store.now c.requires.ready in
     let ending = both_each (λ (side : Side) (r : Reader). r.ending ≡ job.end) c.args.first.now c.args.second.now c.requires.ending.0 c.requires.ending.1 in
-    start_slots (comm_by job cmp key) o (λ ls. (omega arith, omega arith)) old readable ending unfailed c.requires.writable c.requires.ready.allowed c.requires.ready.empty c.start.new.first c.start.new.second c.start.new.store c.in_err-merge.field-0.0 c.in_err-merge.ensures.breaks
+    start_slots (comm_by job cmp key) o (λ ls. (omega arith, omega arith)) old readable ending unfailed (both_each (λ (side : Side) (r : Reader). IsSound r) c.args.first.now c.args.second.now c.requires.sound.0 c.requires.sound.1) c.requires.writable c.requires.ready.allowed c.requires.ready.empty c.start.new.first c.start.new.second c.start.new.store c.in_err-merge.field-0.0 c.in_err-merge.ensures.breaks
 
 pub returns-in_err-merge-clause-refused : goal.returns-in_err-merge-clause-refused
 returns-in_err-merge-clause-refused g c =
@@ -62,7 +62,7 @@ returns-in_err-merge-clause-refused g c =
     let unfailed = unfailed_of c.args.first.now c.args.second.now c.args.store.now c.requires.ready c.requires.sound in
     let readable = readable_of c.args.first.now c.args.second.now c.args.store.now c.requires.ready in
     let ending = both_each (λ (side : Side) (r : Reader). r.ending ≡ job.end) c.args.first.now c.args.second.now c.requires.ending.0 c.requires.ending.1 in
-    start_refused (comm_by job cmp key) o (λ ls. (omega arith, omega arith)) old readable ending unfailed c.requires.writable c.requires.ready.allowed c.requires.ready.empty c.start.new.first c.start.new.second c.start.new.store c.in_err-merge.field-0.0 c.in_err-merge.ensures.breaks
+    start_refused (comm_by job cmp key) o (λ ls. (omega arith, omega arith)) old readable ending unfailed (both_each (λ (side : Side) (r : Reader). IsSound r) c.args.first.now c.args.second.now c.requires.sound.0 c.requires.sound.1) c.requires.writable c.requires.ready.allowed c.requires.ready.empty c.start.new.first c.start.new.second c.start.new.store c.in_err-merge.field-0.0 c.in_err-merge.ensures.breaks
 
 pub steps-init : goal.steps-init
 steps-init g c =
@@ -77,7 +77,7 @@ steps-init g c =
     let m = c.in_ok-merge.merge in
     let placed = c.in_ok-merge.ensures.placed in
     let lent = c.in_ok-merge.ensures.lent in
-    let running = starts_well (comm_by job cmp key) o (λ ls. (omega arith, omega arith)) old readable ending unfailed c.requires.writable c.requires.ready.allowed c.requires.ready.empty (inputs c.start.new.first c.start.new.second c.start.new.store) (both c.in_ok-merge.merge.first c.in_ok-merge.merge.second) placed.first c.in_ok-merge.ensures.starts in
+    let running = starts_well (comm_by job cmp key) o (λ ls. (omega arith, omega arith)) old readable ending unfailed (both_each (λ (side : Side) (r : Reader). IsSound r) c.args.first.now c.args.second.now c.requires.sound.0 c.requires.sound.1) c.requires.writable c.requires.ready.allowed c.requires.ready.empty (inputs c.start.new.first c.start.new.second c.start.new.store) (both c.in_ok-merge.merge.first c.in_ok-merge.merge.second) placed.first c.in_ok-merge.ensures.starts in
     record {
       running = subst (λ k. Running (comm_by (comm_job c.args.job.now) (g.K.KeyOrder.order k) (g.K.KeyOrder.key_of k)) (seen c.args.first.now c.args.second.now c.args.out.now c.args.store.now) (seen c.start.new.first c.start.new.second c.args.out.now c.start.new.store) (both c.in_ok-merge.merge.first c.in_ok-merge.merge.second)) (sym c.in_ok-merge.ensures.order) running;
       placed = placed;
