@@ -39,7 +39,7 @@ use Rattle.ptmerge.proofs.JoinSlots.{InGroup, Keeping, Kept, end_within, group_i
 use Rattle.ptmerge.proofs.Least.{EachKey}
 use Rattle.ptmerge.proofs.Orders.{IsKeyOrder, AtMost, self_at_most}
 use Rattle.ptmerge.proofs.Pairs.{put_each, put_other, put_same}
-use Rattle.ptmerge.proofs.Passing.{Merging}
+use Rattle.ptmerge.proofs.Passing.{Late, Merging, late_none}
 use Rattle.ptmerge.proofs.Sending.{wrote_and_sent}
 use Rattle.ptmerge.proofs.Slotted.{has_lines_total, line_other}
 use Rattle.ptmerge.proofs.Splitting.{all_keys}
@@ -158,13 +158,16 @@ module _ (tool : Tool) (o : IsKeyOrder tool.cmp) (pairs : List ℕ → Lines →
       x : List ℕ
       x = line now.store (place s).standing
 
-      merging_alone : Merging tool r.b (put s (r.ls s) r.p) old.out new
-      merging_alone =
+      pushed_alone : Merging tool r.b (put s (r.ls s) r.p) old.out new × Late tool r.b (put s (r.ls s) r.p) old.out new
+      pushed_alone =
           let y = line now.store (place s).standing in
           let h = passed_at tool o old.reader now.reader place now.store r.ls r.p r.b r.sides slots r.keeps.four s step.stands in
           let a = ahead tool.cmp o (tool.key (other s)) (tool.key s y) (place (other s)).stand (place (other s)) now.store (now.reader (other s)) (r.ls (other s)) (r.p (other s)) (r.b (other s)) step.before (r.sides (other s)).stands in
-          subst (λ (l : Lines). Merging tool r.b (put s l r.p) old.out new) (sym h.all)
+          subst (λ (l : Lines). Merging tool r.b (put s l r.p) old.out new × Late tool r.b (put s l r.p) old.out new) (sym h.all)
           (pass_one tool o laws.alone s y r.b r.p old.out now.out new clean r.merging h.bound a.0 a.1 wrote)
+
+      merging_alone : Merging tool r.b (put s (r.ls s) r.p) old.out new
+      merging_alone = pushed_alone.0
 
       pub alone_on : (reader : Reader) (next : Sorted) (after : Slots) → Comes (tool.key s) tool.cmp (place s) next (now.reader s) reader now.store after → Between (record { reader = put s reader now.reader; out = new; store = after }) (put s next place)
       alone_on reader next after comes =
@@ -190,7 +193,7 @@ module _ (tool : Tool) (o : IsKeyOrder tool.cmp) (pairs : List ℕ → Lines →
       alone_unwritten fault =
           stops tool o old (record { reader = now.reader; out = new; store = now.store }) now.reader (λ side. []) r.ls (put s (r.ls s) r.p) r.b
           (put_each (λ side (l : Lines). Gone tool.end tool.cmp (tool.key side) (old.reader side) (now.reader side) (now.reader side) [] (r.ls side) l (r.b side)) s (r.ls s) r.p (passing_one (now.reader s) [] (reads_nothing (now.reader s)) tt (r.sides s).sound) stand)
-          merging_alone (Err Write) (record { faulted = fault; failed = went; denied = r.keeps.denied })
+          merging_alone pushed_alone.1 (Err Write) (record { faulted = fault; failed = went; denied = r.keeps.denied })
           (λ side fail. absurd (false≢true (sym (went side ∙ unfailed side) ∙ fail))) tt
           (λ all w. fits_kept now.store now.store r.ls [] r.keeps all (omega arith) refl (λ side. omega (arith, (w side).1)) (w Second).0.more (w Second).0.is)
 
@@ -256,7 +259,7 @@ module _ (tool : Tool) (o : IsKeyOrder tool.cmp) (pairs : List ℕ → Lines →
 
       concludes : (result : Result (Unit {0}) MergeFault) → Ends old (record { reader = now.reader; out = now.out; store = after }) result → Concludes tool r.b result → IsMerge tool old (record { reader = now.reader; out = now.out; store = after }) result
       concludes result ends at =
-          stops tool o old (record { reader = now.reader; out = now.out; store = after }) now.reader (λ side. []) r.ls r.p r.b stand r.merging result ends
+          stops tool o old (record { reader = now.reader; out = now.out; store = after }) now.reader (λ side. []) r.ls r.p r.b stand r.merging (late_none tool r.b r.p old.out now.out now.out clean r.merging.wrote (wrote_nothing now.out)) result ends
           (λ side fail. absurd (false≢true (sym (went side ∙ unfailed side) ∙ fail))) at
           (λ all w. fits_kept now.store after r.ls [] r.keeps all clear.peak clear.slots (λ side. omega (arith, (w side).1)) (w Second).0.more (w Second).0.is)
 

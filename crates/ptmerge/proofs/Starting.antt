@@ -5,6 +5,7 @@ use Rattle.ptlangs.specs.Jobs.{ending}
 use Rattle.ptlines.specs.Readers.{Reader, Reads, IsSound}
 use Rattle.ptlines.specs.Slots.{Slots, line, total, with_line}
 use Rattle.ptlines.specs.Text.{IsLine, longest}
+use Rattle.ptlines.proofs.Pushed.{wrote_nothing}
 use Rattle.ptmerge.specs.declared.faults.MergeFault.{MergeFault}
 use Rattle.ptmerge.specs.declared.faults.MergeFault.TheVariants.{Memory}
 use Rattle.ptmerge.specs.declared.order.Side.{Side}
@@ -21,7 +22,7 @@ use Rattle.ptmerge.proofs.CommTurns.{Running, adds_of, breaks_slots}
 use Rattle.ptmerge.proofs.Got.{got_none, reads_nothing}
 use Rattle.ptmerge.proofs.Orders.{IsKeyOrder}
 use Rattle.ptmerge.proofs.Pairs.{both_each}
-use Rattle.ptmerge.proofs.Passing.{Merging, merging_none, settles}
+use Rattle.ptmerge.proofs.Passing.{Merging, late_none, merging_none, settles}
 use Rattle.ptmerge.proofs.Slotted.{Keeps, has_lines_total, keeps_line, keeps_none, line_other}
 use Rattle.ptmerge.proofs.Standing.{Next, goes_next, sided_keeps}
 use Rattle.ptmerge.proofs.Stopping.{FitsIn, Gone, gone_free, gone_standing, stops}
@@ -120,7 +121,7 @@ module _ (tool : Tool) (o : IsKeyOrder tool.cmp) (fits : (ls : Side → Lines) �
       let same : (side : Side) → (new.reader side).failed ≡ (old.reader side).failed = λ side. ap (λ (r : Reader). r.failed) (u.unread side) in
       subst (λ f. IsMerge tool old (record { reader = new.reader; out = old.out; store = new.store }) (Err f)) (sym u.memory)
       (stops tool o old (record { reader = new.reader; out = old.out; store = new.store }) old.reader (λ side. []) no_lines no_lines (λ side. Free) (λ side. free side (new.reader side) [] (subst (λ r. Reads (old.reader side) r []) (sym (u.unread side)) (reads_nothing (old.reader side))) tt (subst IsSound (sym (u.unread side)) (sound side)))
-      (merging_none tool old.out) (Err Memory) (record { denied = u.slots.denied; failed = same; clean = writable }) (λ side fail. absurd (false≢true (sym (same side ∙ unfailed side) ∙ fail))) tt (λ all w. (omega (arith, u.slots.peak), omega (arith, u.slots.most, (fits all).1))))
+      (merging_none tool old.out) (late_none tool (λ side. Free) no_lines old.out old.out old.out writable (wrote_nothing old.out) (wrote_nothing old.out)) (Err Memory) (record { denied = u.slots.denied; failed = same; clean = writable }) (λ side fail. absurd (false≢true (sym (same side ∙ unfailed side) ∙ fail))) tt (λ all w. (omega (arith, u.slots.peak), omega (arith, u.slots.most, (fits all).1))))
 
   pub starts_badly : (new1 new2 : Reader) (after : Slots) (fault : MergeFault) → CannotStart tool.key tool.cmp (record { reader = old.reader; store = old.store }) (record { reader = both new1 new2; store = after }) fault → IsMerge tool old (record { reader = both new1 new2; out = old.out; store = after }) (Err fault)
   starts_badly new1 new2 after fault (inl u) = unslotted (record { reader = both new1 new2; store = after }) fault u
