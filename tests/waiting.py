@@ -19,12 +19,6 @@ import termios
 import time
 import tty
 
-# What does not yet send what is decided before it waits. (Whoever mends one of these takes its line away.)
-LATER = [
-    "paste in rows",
-    "comm",
-    "join",
-]
 # How long anything may take, in seconds; another program may use the processor meanwhile.
 MOST = 20
 FILE = "file"
@@ -227,10 +221,7 @@ def what_failed(program, case, way):
 def main(program):
     program = os.path.realpath(program)
     tried = bad = 0
-    for name, cases in CASES.items():
-        if name in LATER:
-            print(f"left out: {name}")
-            continue
+    for cases in CASES.values():
         for case in cases:
             for way in WAYS:
                 # `tr` has no operands.
