@@ -49,9 +49,7 @@ fn push_entry<W: Sink>(
     if hidden {
         return Ok(());
     }
-    out.push(lead)?;
-    out.push(line)?;
-    out.push(&[ending])
+    out.push_line(lead, line, ending)
 }
 
 // Pushes the entry of the line at which an input stands, and goes to its next line.

@@ -5,6 +5,7 @@ ghost use Rattle.ptmerge.specs.Orders.{Cmp, Key};
 ghost use Rattle.ptmerge.specs.declared.order.Side.{Side as Of};
 
 use crate::fields::nth_field;
+use ptlines::compare;
 use std::cmp::Ordering;
 
 /// One of two inputs.
@@ -67,7 +68,7 @@ impl KeyOrder for WholeLine {
 
     #[inline(always)]
     fn cmp(&self, a: &[u8], b: &[u8]) -> Ordering {
-        a.cmp(b)
+        compare(a, b)
     }
 
     ghost total = { λ s. nat_list_cmp_total };
@@ -132,8 +133,9 @@ impl KeyOrder for FieldKeys {
         nth_field(self.separator, number, Some(line))
     }
 
+    #[inline(always)]
     fn cmp(&self, one: &[u8], two: &[u8]) -> Ordering {
-        one.cmp(two)
+        compare(one, two)
     }
 
     ghost total = { λ s. nat_list_cmp_total };
