@@ -19,6 +19,7 @@ sh tests/program.sh build/ptext
 sh tests/install.sh
 sh tests/packages.sh
 sh tests/parallel.sh build/ptext
+python3 tests/waiting.py build/ptext
 python3 tests/pages.py build/ptext
 python3 tests/completion.py
 echo "$last"

@@ -93,6 +93,38 @@ if [ -e /proc/self/fd ]; then
     same "a closed output" 1
 fi
 
+# A standard stream that is closed is not taken for a file that is opened after it.
+printf 'ef\n' >named
+"$program" cut -c 1 named - >out 2>messages <&-
+status=$?
+want 'e\n' 'cut: standard input: read failed\n'
+same "a closed input behind a file" 1
+"$program" cut -c 1 named >out 2>messages <&-
+status=$?
+want 'e\n' ''
+same "a closed input that is not read" 0
+: >messages
+"$program" uniq named out 2>&- <&-
+status=$?
+want 'ef\n' ''
+same "closed streams beside an output file" 0
+"$program" uniq - out 2>&- <&-
+status=$?
+want '' ''
+same "closed messages do not go to an output file" 1
+"$program" uniq named out 2>messages >&-
+status=$?
+want 'ef\n' ''
+same "a closed output beside an output file" 0
+"$program" cut -c 1 named 2>messages >&-
+status=$?
+: >out
+want '' 'cut: output: write failed\n'
+same "a closed output is not a file that is read" 1
+cp named out
+want 'ef\n' 'cut: output: write failed\n'
+same "a file that was read while output was closed" 1
+
 # A closed pipe ends the run with the message of a failed write.
 head -c 4000000 /dev/zero | tr '\0' 'a' >many
 (

@@ -11,9 +11,10 @@ use ptlines::{FromRead, FromWrite};
 use ptrun::Report;
 use std::alloc::{AllocError, Allocator, Global};
 use std::process::ExitCode;
-use std::{env, io};
+use std::{env, fs, io};
 
 fn main(rt: HostRuntime) -> ExitCode {
+    let _streams = closed_streams(&rt);
     let standard = FromRead::new(rt.stdin());
     let out = FromWrite::new(rt.stdout());
     let messages = FromWrite::new(rt.stderr());
@@ -26,6 +27,13 @@ fn main(rt: HostRuntime) -> ExitCode {
         Err(_) => report_no_memory(out, messages),
     };
     ExitCode::from(report.status)
+}
+
+// Takes the numbers of standard streams that were closed before the program began, as the next files that are opened
+// would get them otherwise, and be read or written in their place. A directory can be neither read nor written, so that
+// a use of such a stream fails.
+fn closed_streams(rt: &HostRuntime) -> [io::Result<fs::File>; 3] {
+    [fs::open(rt, "/"), fs::open(rt, "/"), fs::open(rt, "/")]
 }
 
 // The words behind the program's own name.

@@ -14,6 +14,7 @@ use Rattle.ptflow.specs.Passes.{IsReady, IsPass}
 use Rattle.ptflow.specs.declared.faults.FlowFault.TheVariants.{Read, Write}
 use Rattle.ptflow.specs.Workings.Blocks.{IsBlockTool}
 use Rattle.ptflow.specs.Workings.Continuations.{Continues, Halts}
+use Rattle.ptflow.proofs.Continuations.{halts_before}
 use Rattle.ptflow.proofs.ReaderFacts.{given_of, may_come, goes_past}
 use Rattle.ptflow.proofs.PassLemmas.{Midway, Works, Stored, stored_nothing, reached_nothing, pass_read, pass_write, pass_done, pass_unended}
 
@@ -81,6 +82,10 @@ module _ {X : Type 0} (tool : Tool) (rest_from : X → List ℕ → List ℕ) (H
   block_write is' block held h fault same =
       pass_write rest_from start tool b.text now old reader new was is store store m ready sound [] reads stored works is' h.pushed h.wrote fault same ready.roomy
       (λ rest may. subst (λ (l : List ℕ). Begins h.pushed (rest_from now (l ++ rest))) (sym held) (h.true_so_far rest))
+
+  -- what was staged could not be sent
+  pub block_unsent : (is' : Output) → Wrote is is' [] → is'.faulted ≡ true → new.failed ≡ reader.failed → IsPass tool old new was is' store store (Err Write)
+  block_unsent is' wrote fault same = block_write is' new.held refl (halts_before rest_from now new.held is is' wrote) fault same
 
   module _ (is' : Output) (wrote : Wrote is is' (rest_from now [])) (done : IsDone new) (same : new.failed ≡ reader.failed) where
     pub block_done : is'.faulted ≡ false → new.fault ≡ None → new.pulled < 2 ^ 63 → IsPass tool old new was is' store store (Ok tt)

@@ -8,6 +8,10 @@ pub on_err : {T E : Type 0} (r : Result T E) {P : Type 0} → P → OnErr r P
 on_err (Ok u) p = tt
 on_err (Err e) p = p
 
+-- a write failed in front of these items
+pub halts_before : {X Y : Type 0} (rest_from : X → List Y → List ℕ) (now : X) (items : List Y) (was is : Output) → Wrote was is [] → Halts rest_from now items was is
+halts_before rest_from now items was is wrote = record { pushed = []; wrote = wrote; true_so_far = λ rest. record { rest = rest_from now (items ++ rest); is = refl } }
+
 -- amid some items, of which the rest is still to come
 pub record Amid {X Y : Type 0} (rest_from : X → List Y → List ℕ) (start now : X) (items rest : List Y) (was is : Output) : Type 0 where
   pub pushed : List ℕ

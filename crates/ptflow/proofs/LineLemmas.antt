@@ -21,7 +21,8 @@ use Rattle.ptflow.specs.declared.faults.FlowFault.TheVariants.{Read, Write, Memo
 use Rattle.ptflow.specs.Workings.Continuations.{Continues, Halts}
 use Rattle.ptflow.proofs.LineLaws.{parts_of, ended_front, longest-append, longest_piece}
 use Rattle.ptflow.proofs.ReaderFacts.{goes_nothing, given_of, done_gives_nothing, stays_done, may_come, goes_past}
-use Rattle.ptflow.proofs.PassLemmas.{Reached, reached_nothing, Midway, Works, Stored, pass_read, pass_memory, pass_write, pass_done}
+use Rattle.ptflow.proofs.Continuations.{halts_before}
+use Rattle.ptflow.proofs.PassLemmas.{Reached, reached_nothing, reached_sent, Midway, Works, Stored, pass_read, pass_memory, pass_write, pass_done}
 use Rattle.ptflow.proofs.SlotFacts.{Keeps, keeps_more, keeps_line}
 
 -- What is written of lines that come in the state x is `lines_from x`, and so is all that this tool writes in the state
@@ -66,6 +67,18 @@ module _ {X : Type 0} (lines_from : X → List (List ℕ) → List ℕ) (end wid
 
     abbrev pub midway_of : Midway (bytes_from lines_from end) start now old reader was is
     midway_of = record { given = r.given; pushed = r.pushed; reached = r.reached; on = λ rest may. ap (lines_from start) (lines_so_far rest may) ∙ r.on (lines end rest) }
+
+    -- what was staged was sent
+    pub run_sent : (is' : Output) → Wrote is is' [] → is'.faulted ≡ false → LineRun lines_from end width start now old reader was is' before store
+    run_sent is' wrote clean = record {
+      given = r.given;
+      pushed = r.pushed;
+      reached = reached_sent old reader was is is' r.given r.pushed r.reached wrote clean;
+      ending = r.ending;
+      on = r.on;
+      whole = r.whole;
+      keeps = r.keeps;
+    }
 
     -- some lines more were given and passed on
     run_more : (new : Reader) (after : Slots) (bytes : List ℕ) (ls : List (List ℕ)) → Goes reader new bytes → lines end (r.given ++ bytes) ≡ lines end r.given ++ ls → (r.given ++ bytes ≡ text end (lines end (r.given ++ bytes))) ⊎ IsDone new
@@ -242,6 +255,10 @@ module _ {X : Type 0} (tool : Tool) (lines_from : X → List (List ℕ) → List
         (works_piece shown [] goes.reads tt is_sound) is' h.pushed h.wrote fault goes.failed r.keeps.denied
         (λ rest may. subst (λ (l : List (List ℕ)). Begins h.pushed (lines_from now l)) (sym (ap (λ (l : List ℕ). lines end (l ++ rest)) held ∙ ended_first lines_from end width start now old reader was is before store r shown block goes held rest))
         (h.true_so_far (lines end ((parts_of end block).piece ++ rest))))
+
+    -- what was staged could not be sent
+    pub run_unsent : (is' : Output) → Wrote is is' [] → is'.faulted ≡ true → IsPass tool old reader was is' before store (Err Write)
+    run_unsent is' wrote fault = run_write_block reader reader.held sound (goes_nothing reader r.reached.goes.fault) refl is' (halts_before lines_from now (ended_lines end reader.held) is is' wrote) fault
 
 -- the slots were refused
 pub run_unslotted : {X : Type 0} (tool : Tool) (lines_from : X → List (List ℕ) → List ℕ) (decided : List (List ℕ) → List ℕ) (end width : ℕ) (start : X) (t : IsLineTool tool lines_from decided end width start)

@@ -1,14 +1,11 @@
 -- How a pass of any tool over one input ends. Midway, what was pushed stands in front of what is written of the rest,
 -- whatever comes; exactness, the beginning for each agreeing input, and what is decided are three readings of that.
-use Rattle.std.proofs.Common.{◌≡◌, ⊎_elim, inl, inr, ℕ, ◌+◌, ◌≤◌, ◌<◌, ◌^◌, true, false, List, [], ◌++◌, length, length-append, Option, None, Some, Result, Ok, Err, max, refl, sym, ◌∙◌, ap, subst, arith, append_assoc}
+use Rattle.std.proofs.Common.{◌≡◌, ⊎_elim, inl, inr, ℕ, ◌≤◌, ◌<◌, ◌^◌, true, false, List, [], ◌++◌, None, Result, Ok, Err, max, refl, sym, ◌∙◌, ap, subst, arith, append_assoc}
 use Rattle.std.proofs.lemmas.List.{append-nil}
 use Rattle.std.proofs.lemmas.Bool.{false≢true}
 use Rattle.ptlines.specs.Readers.{Reader, Reads, Goes, IsDone, IsSound, HasReadCause}
 use Rattle.ptlines.specs.Inputs.{Given, Begins, Agrees}
-use Rattle.ptlines.specs.Outputs.{Output, Extends, Wrote}
-use Rattle.std.specs.Io.KnownBytes.{append_known}
-use Rattle.ptlines.proofs.Pushed.{extends_same}
-use Rattle.ptlines.proofs.Known.{append_known-append}
+use Rattle.ptlines.specs.Outputs.{Output, Wrote}
 use Rattle.ptlines.specs.Slots.{Slots, total}
 use Rattle.ptlines.proofs.Filling.{reads_trans}
 use Rattle.ptlines.proofs.Pushed.{wrote_nothing, wrote_trans}
@@ -29,12 +26,23 @@ pub record Reached (old reader : Reader) (was is : Output) (given pushed : List 
 pub reached_nothing : (old : Reader) (was : Output) → old.fault ≡ None → was.faulted ≡ false → Reached old old was was [] []
 reached_nothing old was readable clean = record { goes = goes_nothing old readable; wrote = wrote_nothing was; clean = clean }
 
+-- what was staged was sent
+abbrev pub reached_sent : (old reader : Reader) (was is is' : Output) (given pushed : List ℕ) → Reached old reader was is given pushed → Wrote is is' [] → is'.faulted ≡ false → Reached old reader was is' given pushed
+reached_sent old reader was is is' given pushed r wrote clean = record {
+  goes = r.goes;
+  wrote = subst (λ (b : List ℕ). Wrote was is' b) (append-nil pushed) (wrote_trans was is is' pushed [] r.clean r.wrote wrote);
+  clean = clean;
+}
+
 -- Midway through an input: after the end of it nothing can come, and else anything.
 pub record Midway {X : Type 0} (rest_from : X → List ℕ → List ℕ) (start now : X) (old reader : Reader) (was is : Output) : Type 0 where
   pub given : List ℕ
   pub pushed : List ℕ
   pub reached : Reached old reader was is given pushed
   pub on : (rest : List ℕ) → (IsDone reader → rest ≡ []) → rest_from start (given ++ rest) ≡ pushed ++ rest_from now rest
+
+abbrev pub midway_sent : {X : Type 0} (rest_from : X → List ℕ → List ℕ) (start now : X) (old reader : Reader) (was is is' : Output) → Midway rest_from start now old reader was is → Wrote is is' [] → is'.faulted ≡ false → Midway rest_from start now old reader was is'
+midway_sent rest_from start now old reader was is is' m wrote clean = record { given = m.given; pushed = m.pushed; reached = reached_sent old reader was is is' m.given m.pushed m.reached wrote clean; on = m.on }
 
 -- what was decided of one input two blocks earlier, or less, was pushed
 abbrev pub Works : Tool → Given → List ℕ → Type 0

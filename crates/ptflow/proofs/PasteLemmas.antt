@@ -20,7 +20,7 @@ use Rattle.ptlangs.specs.Jobs.{Paste}
 use Rattle.ptflow.specs.Passes.{Adds}
 use Rattle.ptflow.specs.PastePasses.{reader_at, IsReadable, AreReady, ReadAll, IsPastePass}
 use Rattle.ptflow.specs.Pastes.{glued_from, times, columns, rows, sheet, paste, paste_decided, paste_size}
-use Rattle.ptflow.specs.Workings.RowTurns.{AreSet, KeepsCells, RowTaken, FillsRow}
+use Rattle.ptflow.specs.Workings.RowTurns.{AreSet, KeepsCells, RowTaken, FillsRow, is_write}
 use Rattle.ptflow.specs.Workings.TakenLines.{LinesCame, Took}
 use Rattle.ptflow.specs.declared.faults.FlowFault.{FlowFault}
 use Rattle.ptflow.specs.declared.faults.FlowFault.TheVariants.{Read, Write, Memory}
@@ -105,6 +105,21 @@ module _ (job : Paste) (cells : List ℕ) where
     clean = clean;
     kept = λ top high. cells_start cells top first store adds allowed empty peak;
     same = refl;
+  }
+
+  -- what was staged was sent
+  pub pasting_sent : (set now : List Reader) (was is sent : Output) (first store : Slots) → Pasting job cells set now was is first store → Wrote is sent [] → sent.faulted ≡ false → Pasting job cells set now was sent first store
+  pasting_sent set now was is sent first store s wrote clean = record {
+    n = s.n;
+    ls = s.ls;
+    passed = s.passed;
+    count = s.count;
+    took = s.took;
+    on = s.on;
+    wrote = subst (λ (b : List ℕ). Wrote was sent b) (append-nil (sheet job s.passed)) (wrote_trans was is sent (sheet job s.passed) [] s.clean s.wrote wrote);
+    clean = clean;
+    kept = s.kept;
+    same = s.same;
   }
 
   module _ (set now : List Reader) (was is : Output) (first store : Slots) (s : Pasting job cells set now was is first store) (named_end : (p : ℕ) → 0 < times cells p → (reader_at set p).ending ≡ job.end) where
@@ -222,6 +237,7 @@ paste_unslotted job cells old set was first store writable ready are_set adds sa
   whole = λ ok. cc;
   peak = λ texts a. omega (arith, same);
   slots = λ clean. adds;
+  refused = λ clean few. record { readers = λ p some. (are_set p).set some; output = refl };
   untouched = λ p none. (are_set p).left none;
   halted = λ fault. absurd (false≢true (sym writable ∙ fault));
 }
@@ -283,11 +299,11 @@ module _ (job : Paste) (cells : List ℕ) (old set now : List Reader) (was is : 
     untouched_by : (p : ℕ) → times cells p ≡ 0 → reader_at new p ≡ reader_at now p → reader_at new p ≡ reader_at old p
     untouched_by p none same = same ∙ (s.took p).none (let zero_is : s.n * times cells p ≡ s.n * 0 = ap (λ (k : ℕ). s.n * k) none in zero_is ∙ omega arith) ∙ (are_set p).left none
 
-  -- the slots were refused, or a growth of one
+  -- a growth of a slot was refused
   module _ (new : List Reader) (extra : ℕ → List ℕ) (reads : (p : ℕ) → Reads (reader_at now p) (reader_at new p) (extra p)) (same : (p : ℕ) → (reader_at new p).failed ≡ (reader_at now p).failed) (left : (p : ℕ) → times cells p ≡ 0 → reader_at new p ≡ reader_at now p) (after : Slots)
       (adds : Adds first after (length cells)) (peak : (texts : ℕ → List ℕ) → ((p : ℕ) → Agrees (given_by new extra reads p) (texts p)) → after.peak ≤ max first.peak (paste_size job cells texts)) where
-    pub paste_memory : after.denied ≡ true → IsPastePass job cells old new was is first after (Err Memory)
-    paste_memory denied = record {
+    pub paste_memory : after.denied ≡ true → length cells ≤ length after.lines → IsPastePass job cells old new was is first after (Err Memory)
+    paste_memory denied room = record {
       given = given_by new extra reads;
       came = came_by new extra reads;
       pushed = sheet job s.passed;
@@ -298,6 +314,7 @@ module _ (job : Paste) (cells : List ℕ) (old set now : List Reader) (was is : 
       whole = λ ok. cc;
       peak = peak;
       slots = λ clean. adds;
+      refused = λ clean few. absurd (omega (arith, few, room));
       untouched = λ p none. untouched_by new extra reads p none (left p none);
       halted = λ fault. absurd (false≢true (sym writable ∙ fault));
     }
@@ -341,6 +358,7 @@ module _ (job : Paste) (cells : List ℕ) (old set now : List Reader) (was is : 
       whole = λ ok. cc;
       peak = λ texts a. (kept_by texts a).peak;
       slots = λ clean. any_kept.adds;
+      refused = λ clean few. absurd (omega (arith, few, any_kept.adds.all any_kept.denied));
       untouched = λ p none. untouched_by new row_bytes row_reads p none (left_by p none);
       halted = λ halted. absurd (false≢true (sym writable ∙ halted));
     }
@@ -425,6 +443,7 @@ module _ (job : Paste) (cells : List ℕ) (old set now : List Reader) (was is : 
         whole = λ ok. whole_is;
         peak = λ texts a. (kept_by texts a).peak;
         slots = λ clean. any_kept.adds;
+        refused = λ clean few. absurd (omega (arith, few, any_kept.adds.all any_kept.denied));
         untouched = λ p none. untouched_by new row_bytes row_reads p none (left_by p none);
         halted = λ fault. absurd (false≢true (sym writable ∙ fault));
       }
@@ -472,6 +491,9 @@ module _ (job : Paste) (cells : List ℕ) (old set now : List Reader) (was is : 
     given_there : (p : ℕ) → p ≢ here → given_by new extra reads_to p ≡ given_of ((s.took p).bytes ++ (took_to p).bytes) (reader_at mid p)
     given_there p differ = λ i. given_of ((s.took p).bytes ++ extra_there p differ i) (others p differ i)
 
+    held_by : (top : ℕ → ℕ) → ((p : ℕ) → longest (s.ls p ++ got p) ≤ top p) → KeepsCells cells top first held
+    held_by top high = t.kept first top (s.kept top (λ p. omega (arith, high p, longest-append (s.ls p) (got p)))) (λ p. omega (arith, high p, longest-append (s.ls p) (got p)))
+
     module _ (texts : ℕ → List ℕ) (a : (p : ℕ) → Agrees (given_by new extra reads_to p) (texts p)) where
       here_short : (p : ℕ) → p ≡ here → max (longest (s.ls p ++ got p)) (length piece) ≤ longest_line job.end (texts p)
       here_short p same =
@@ -486,20 +508,47 @@ module _ (job : Paste) (cells : List ℕ) (old set now : List Reader) (was is : 
 
       kept_to : KeepsCells cells (λ p. longest_line job.end (texts p)) first (with_line held c piece)
       kept_to = cells_line cells (λ p. longest_line job.end (texts p)) first held (with_line held c piece) c piece
-          (t.kept first (λ p. longest_line job.end (texts p)) (s.kept (λ p. longest_line job.end (texts p)) (λ p. omega (arith, short_to p, longest-append (s.ls p) (got p)))) (λ p. omega (arith, short_to p, longest-append (s.ls p) (got p))))
+          (held_by (λ p. longest_line job.end (texts p)) short_to)
           low (omega (arith, here_short here refl)) refl
 
     some_kept : KeepsCells cells (λ p. longest (s.ls p ++ got p) + length piece) first (with_line held c piece)
     some_kept =
         let top : ℕ → ℕ = λ p. longest (s.ls p ++ got p) + length piece in
         cells_line cells top first held (with_line held c piece) c piece
-        (t.kept first top (s.kept top (λ p. omega (arith, longest-append (s.ls p) (got p)))) (λ p. omega (arith, longest-append (s.ls p) (got p)))) low (omega arith) refl
+        (held_by top (λ p. omega arith)) low (omega arith) refl
 
     failed_there : (p : ℕ) → p ≢ here → (reader_at new p).failed ≡ (reader_at now p).failed
     failed_there p differ = ap (λ (r : Reader). r.failed) (others p differ) ∙ (took_to p).failed
 
     left_to : (p : ℕ) → times cells p ≡ 0 → reader_at new p ≡ reader_at now p
     left_to p none = others p (λ same. absurd (omega (arith, none, here_named, ap (times cells) same))) ∙ (took_to p).none (omega (arith, none, times_front cells c p))
+
+    -- what was staged could not be sent
+    pub paste_broke_write : (is' : Output) → Wrote is is' [] → is'.faulted ≡ true → reader_at new here ≡ reader_at mid here → IsPastePass job cells old new was is' first held (Err Write)
+    paste_broke_write is' wrote fault same = record {
+      given = given_by new extra reads_to;
+      came = came_by new extra reads_to;
+      pushed = sheet job s.passed ++ [];
+      wrote = wrote_trans was is is' (sheet job s.passed) [] s.clean s.wrote wrote;
+      ends = record { faulted = fault; failed = λ p. failed_by new extra reads_to p (failed_to p); denied = held_kept.denied };
+      true_so_far = λ texts a. subst (λ (b : List ℕ). Begins b (paste job cells texts)) (sym (append-nil (sheet job s.passed))) (begins_by new extra reads_to texts a);
+      sure = λ p some failed clean. absurd (false≢true (sym clean ∙ fault));
+      whole = λ ok. cc;
+      peak = λ texts a. (held_in texts a).peak;
+      slots = λ clean. held_kept.adds;
+      refused = λ clean few. absurd (omega (arith, few, held_kept.adds.all held_kept.denied));
+      untouched = λ p none. untouched_by new extra reads_to p none (left_to p none);
+      halted = λ halted. absurd (false≢true (sym writable ∙ halted));
+    }
+      where
+        failed_to : (p : ℕ) → (reader_at new p).failed ≡ (reader_at now p).failed
+        failed_to p = ⊎_elim (λ at. ap (λ (q : ℕ). (reader_at new q).failed) at ∙ ap (λ (r : Reader). r.failed) same ∙ ap (λ (q : ℕ). (reader_at mid q).failed) (sym at) ∙ (took_to p).failed) (failed_there p) (cases_eq p here)
+
+        held_kept : KeepsCells cells (λ p. longest (s.ls p ++ got p)) first held
+        held_kept = held_by (λ p. longest (s.ls p ++ got p)) (λ p. omega arith)
+
+        held_in : (texts : ℕ → List ℕ) → ((p : ℕ) → Agrees (given_by new extra reads_to p) (texts p)) → KeepsCells cells (λ p. longest_line job.end (texts p)) first held
+        held_in texts a = held_by (λ p. longest_line job.end (texts p)) (short_to texts a)
 
     -- a growth was refused
     pub paste_broke_memory : (after : Slots) → after ≡ with_denied (with_line held c piece) → (reader_at new here).failed ≡ (reader_at mid here).failed → IsPastePass job cells old new was is first after (Err Memory)
@@ -513,6 +562,7 @@ module _ (job : Paste) (cells : List ℕ) (old set now : List Reader) (was is : 
           all = λ allowed. absurd (false≢true (sym allowed ∙ denied));
         })
         (λ texts a. omega (arith, ap (λ (s : Slots). s.peak) is_after, (kept_to texts a).peak)) denied
+        (omega (arith, ap (λ (s : Slots). length s.lines) is_after, some_kept.adds.all some_kept.denied))
       where
         denied : after.denied ≡ true
         denied = ap (λ (s : Slots). s.denied) is_after
@@ -612,22 +662,30 @@ module _ (job : Paste) (cells : List ℕ) (old set now : List Reader) (was is : 
       whole = λ ok. cc;
       peak = λ texts a. omega (arith, ap (λ (s : Slots). s.peak) is_after, (kept_to texts a).peak);
       slots = λ clean. subst (λ (s : Slots). Adds first s (length cells)) (sym is_after) some_kept.adds;
+      refused = λ clean few. absurd (omega (arith, few, ap (λ (s : Slots). length s.lines) is_after, some_kept.adds.all some_kept.denied));
       untouched = λ p none. untouched_by new extra reads_to p none (left_to p none);
       halted = λ fault. absurd (false≢true (sym writable ∙ fault));
     }
 
 -- a row could not be filled
-pub paste_broke : (job : Paste) (cells : List ℕ) (old set now : List Reader) (was is : Output) (first store : Slots) (s : Pasting job cells set now was is first store) → was.faulted ≡ false → AreReady cells old first → AreSet job.end cells old set → (new : List Reader) (after : Slots) (e : FlowFault)
-    → FillsRow cells now new store after (Err e) → IsPastePass job cells old new was is first after (Err e)
-paste_broke job cells old set now was is first store s writable ready are_set new after (Read place) f =
+pub paste_broke : (job : Paste) (cells : List ℕ) (old set now : List Reader) (was is is' : Output) (first store : Slots) (s : Pasting job cells set now was is first store) → was.faulted ≡ false → AreReady cells old first → AreSet job.end cells old set → (new : List Reader) (after : Slots) (e : FlowFault)
+    → FillsRow cells now new store after (Err e) → Wrote is is' [] → is'.faulted ≡ is_write (Err e) → IsPastePass job cells old new was is' first after (Err e)
+paste_broke job cells old set now was is is' first store s writable ready are_set new after (Read place) f wrote clean =
     let b = f.0 in
     let k = b.breaks in
-    subst (λ (p : ℕ). IsPastePass job cells old new was is first after (Err (Read p))) (sym f.1)
-    (paste_broke_read job cells old set now was is first store s writable ready are_set new b.column b.within b.got b.mid b.held b.taken k.piece k.faults.reads k.faults.whole b.others after k.stored k.cause)
-paste_broke job cells old set now was is first store s writable ready are_set new after Write f = absurd f
-paste_broke job cells old set now was is first store s writable ready are_set new after Memory f =
+    let t = pasting_sent job cells set now was is is' first store s wrote clean in
+    subst (λ (p : ℕ). IsPastePass job cells old new was is' first after (Err (Read p))) (sym f.1)
+    (paste_broke_read job cells old set now was is' first store t writable ready are_set new b.column b.within b.got b.mid b.held b.taken k.piece k.faults.reads k.faults.whole b.others after k.stored k.cause)
+paste_broke job cells old set now was is is' first store s writable ready are_set new after Write f wrote fault =
     let k = f.breaks in
-    paste_broke_memory job cells old set now was is first store s writable ready are_set new f.column f.within f.got f.mid f.held f.taken k.piece k.faults.reads k.faults.whole f.others after k.stored k.failed
+    let here = get_or cells f.column 0 in
+    subst (λ (x : Slots). IsPastePass job cells old new was is' first x (Err Write)) (sym k.1)
+    (paste_broke_write job cells old set now was is first store s writable ready are_set new f.column f.within f.got f.mid f.held f.taken []
+    (subst (λ (r : Reader). Reads (reader_at f.mid here) r []) (sym k.0) (reads_nothing (reader_at f.mid here))) tt f.others is' wrote fault k.0)
+paste_broke job cells old set now was is is' first store s writable ready are_set new after Memory f wrote clean =
+    let k = f.breaks in
+    let t = pasting_sent job cells set now was is is' first store s wrote clean in
+    paste_broke_memory job cells old set now was is' first store t writable ready are_set new f.column f.within f.got f.mid f.held f.taken k.piece k.faults.reads k.faults.whole f.others after k.stored k.failed
 
 -- the slots are there
 pub pasting_room : (job : Paste) (cells : List ℕ) (set now : List Reader) (was is : Output) (first store : Slots) → Pasting job cells set now was is first store → length cells ≤ length store.lines
@@ -648,6 +706,7 @@ paste_halted job cells old was first ready fault = record {
   whole = λ ok. cc;
   peak = λ texts a. omega arith;
   slots = λ clean. absurd (false≢true (sym clean ∙ fault));
+  refused = λ clean few. absurd (false≢true (sym clean ∙ fault));
   untouched = λ p none. refl;
   halted = λ h. record { told = refl; same_readers = refl; same_output = refl; same_store = refl };
 }

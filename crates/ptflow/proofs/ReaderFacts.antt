@@ -1,8 +1,8 @@
 -- Facts about readers and outputs that each engine starts from.
-use Rattle.std.proofs.Common.{◌≡◌, ℕ, ◌+◌, ◌≤◌, false, true, List, [], ◌++◌, None, length, take, drop, refl, sym, ◌∙◌, ap, subst, arith, length-append}
+use Rattle.std.proofs.Common.{◌≡◌, ℕ, ◌+◌, ◌<◌, ◌≤◌, false, true, List, [], ◌++◌, None, length, take, drop, refl, sym, ◌∙◌, ap, subst, arith, length-append, length-drop}
 use Rattle.std.proofs.lemmas.List.{nil_from_length}
 use Rattle.ptlines.specs.Inputs.{Given, Came}
-use Rattle.ptlines.specs.Readers.{Reader, Reads, Goes, IsDone, IsSound, unread}
+use Rattle.ptlines.specs.Readers.{Reader, Reads, Goes, IsDone, IsSound, unread, budget}
 use Rattle.ptlines.specs.Slots.{Slots}
 use Rattle.ptlines.proofs.Filling.{goes_trans}
 use Rattle.ptlines.proofs.Known.{prepend_known-nil, prepend_known-append}
@@ -57,3 +57,8 @@ pub goes_past : (now shown new : Reader) (block : List ℕ) (count : ℕ) → Go
 goes_past now shown new block count goes held fits consumed =
     goes_trans now shown new [] (take count block) goes
     (subst (λ (b : List ℕ). Goes shown new b) (ap (take count) held) (goes_front shown new count goes.fault (omega (arith, fits, ap length held)) consumed))
+
+-- a line was given, and behind it some of the next block
+pub budget_less : (old now shown new : Reader) (count : ℕ) → budget now < budget old → Goes now shown [] → new ≡ record shown { held = drop count shown.held } → budget new < budget old
+budget_less old now shown new count less goes consumed =
+    omega (arith, less, goes.reads.count, ap (λ (r : Reader). r.pulled) consumed, ap (λ (r : Reader). length r.held) consumed, length-drop count shown.held)

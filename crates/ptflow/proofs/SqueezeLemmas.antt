@@ -1,13 +1,13 @@
 -- Bytes that stay where repeats are squeezed. Whether one stays is told by it and the byte in front of it, so a text is
 -- worked in pieces, each of them with the byte in front of it.
-use Rattle.std.proofs.Common.{◌≡◌, ℕ, zero, suc, ◌%◌, ◌^◌, map, bit_and, negsuc, pos, ◌+◌, ◌-◌, ◌<◌, ◌≤◌, ◌&&◌, not, eqb, Bool, true, false, cond, List, [], ◌∷◌, ◌++◌, Option, Some, length, take, drop, set, get_or, refl, sym, ◌∙◌, ap, arith, append_assoc, add-one, drop-cons, w8}
+use Rattle.std.proofs.Common.{◌≡◌, ℕ, zero, suc, ◌%◌, ◌^◌, map, bit_and, negsuc, pos, ◌+◌, ◌-◌, ◌*◌, ◌<◌, ◌≤◌, ◌&&◌, not, eqb, Bool, true, false, cond, List, [], ◌∷◌, ◌++◌, Option, Some, length, take, drop, set, get_or, refl, sym, ◌∙◌, ap, arith, append_assoc, add-one, drop-cons, w8}
 use Rattle.std.specs.Option.{option_eq}
 use Rattle.std.specs.Int.{bit_not, cast_unsigned}
 use Rattle.std.specs.Simd.Lanes.{zip2, chunk, Each1, mask_l, top}
 use mir.Val.{bool_byte, Fits}
 use Rattle.std.proofs.Math.Facts.{Fits-lt-pow}
 use Rattle.std.proofs.lemmas.List.{append-nil, take-append-drop, drop-drop, drop_all, take-set, take_more_set, take-take}
-use Rattle.std.proofs.lemmas.Simd.{get_or-chunk, length-chunk, length-zip2, mask_l-mod}
+use Rattle.std.proofs.lemmas.Simd.{get_or-chunk, length-chunk, length-zip2, mask_l-mod, tops_compared}
 use Rattle.ptflow.specs.Translations.{stays, squeeze_behind}
 use Rattle.ptflow.specs.Workings.ByteSets.{mask_of}
 use Rattle.ptflow.specs.Workings.Packings.{chosen_by}
@@ -148,6 +148,22 @@ stays_mask test front bytes same few =
     lanes [] bytes = refl
     lanes (a ∷ front) [] = refl
     lanes (a ∷ front) (b ∷ bytes) = λ i. lane (eqb a b) (test b) i ∷ lanes front bytes i
+
+-- where no byte is the same as the one in front of it, all bytes stay
+pub none_repeats : (test : ℕ → Bool) (front bytes : List ℕ) → length front ≡ length bytes → length bytes ≤ 64
+    → mask_l (map (top 7) (zip2 (λ a b. cond (eqb a b) 255 0) front bytes)) % 2 ^ 64 ≡ 0 → chosen_by (zip2 (λ a b. not (eqb a b && test b)) front bytes) bytes ≡ bytes
+none_repeats test front bytes same few none = all_stay front bytes same (sym (mask_l-mod (zip2 eqb front bytes) 64 (omega (arith, few, same, length-zip2 eqb front bytes same))) ∙ ap (λ (ms : List Bool). mask_l ms % 2 ^ 64) (sym (tops_compared w8 eqb front bytes)) ∙ none)
+  where
+    all_stay : (xs ys : List ℕ) → length xs ≡ length ys → mask_l (zip2 eqb xs ys) ≡ 0 → chosen_by (zip2 (λ a b. not (eqb a b && test b)) xs ys) ys ≡ ys
+    all_stay [] [] long nil = refl
+    all_stay [] (y ∷ ys) long nil = absurd (omega (arith, long))
+    all_stay (x ∷ xs) [] long nil = absurd (omega (arith, long))
+    all_stay (x ∷ xs) (y ∷ ys) long nil = by_test (eqb x y) (mask_l (zip2 eqb xs ys)) nil (λ none. all_stay xs ys (omega (arith, long)) none)
+      where
+        by_test : (t : Bool) (m : ℕ) → cond t 1 0 + 2 * m ≡ 0 → (m ≡ 0 → chosen_by (zip2 (λ a b. not (eqb a b && test b)) xs ys) ys ≡ ys)
+            → cond (not (t && test y)) (y ∷ chosen_by (zip2 (λ a b. not (eqb a b && test b)) xs ys) ys) (chosen_by (zip2 (λ a b. not (eqb a b && test b)) xs ys) ys) ≡ y ∷ ys
+        by_test true m nil more = absurd (omega (arith, nil))
+        by_test false m nil more = ap (λ (l : List ℕ). y ∷ l) (more (omega (arith, nil)))
 
 -- tests that agree on bytes squeeze the same repeats
 pub same_behind : (p q : ℕ → Bool) → ((b : ℕ) → b < 256 → p b ≡ q b) → (last : ℕ) (bytes : List ℕ) → Each1 (Fits w8) bytes → squeeze_behind p last bytes ≡ squeeze_behind q last bytes

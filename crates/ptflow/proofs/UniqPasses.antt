@@ -22,7 +22,7 @@ use Rattle.ptflow.proofs.LineLaws.{longest-append, parts_of, ended_front}
 use Rattle.ptflow.specs.Workings.TakenLines.{LinesCame}
 use Rattle.ptflow.proofs.LinesCame.{lines_none, lines_few, lines_on, lines_more, lines_block, line_front, came_longest, piece_longest, whole_before, before_line, behind_line}
 use Rattle.ptflow.proofs.OpenRuns.{entries-append, open_is, but_open}
-use Rattle.ptflow.proofs.PassLemmas.{Reached, reached_nothing, Midway, Works, Stored, pass_read, pass_memory, pass_write, pass_done, pass_unended}
+use Rattle.ptflow.proofs.PassLemmas.{Reached, reached_nothing, reached_sent, Midway, Works, Stored, pass_read, pass_memory, pass_write, pass_done, pass_unended}
 use Rattle.ptflow.proofs.ReaderFacts.{given_of, goes_nothing, goes_past}
 use Rattle.ptflow.proofs.TwoSlots.{KeepsTwo, two_starts, two_more, two_second, first_stays, second_line, two_swap, emptied_total, emptied_denied, emptied_adds, emptied_peak}
 
@@ -59,6 +59,18 @@ module _ (job : Uniq) (old : Reader) (was : Output) where
   )
 
   module _ (run : Run) (reader : Reader) (is : Output) (s : Singling job run old reader was is) where
+    -- what was staged was sent
+    abbrev pub singling_sent : (is' : Output) → Wrote is is' [] → is'.faulted ≡ false → Singling job run old reader was is'
+    singling_sent is' wrote clean = record {
+      given = s.given;
+      ls = s.ls;
+      passed = s.passed;
+      came = s.came;
+      reached = reached_sent old reader was is is' s.given (entries job s.passed) s.reached wrote clean;
+      on = s.on;
+      count = s.count;
+    }
+
     -- all that came is counted
     pub singling_count : IsSound old → IsSound reader → reader.fault ≡ None → run.count < 2 ^ 63
     singling_count sound now clean = omega (arith, s.count, lines_few job.end reader s.given s.ls s.came, s.reached.goes.reads.count, sound.count, now.long clean, now.count)
@@ -278,6 +290,18 @@ module _ (job : Uniq) (old reader : Reader) (was is : Output) (first store : Slo
     pub turning_block_write : RunsHalt job run (ended_lines job.end block) is is' → is'.faulted ≡ true → IsPass (uniq_tool job) old new was is' first store (Err Write)
     turning_block_write h fault =
         single_write_block job old was run reader is t.singling first store ready sound t.keeps.denied (ended_lines job.end block) is' h fault new is_sound goes (ap (ended_lines job.end) (sym held)) t.keeps.adds t.keeps.peak
+
+-- before a read that may have to wait
+module _ (job : Uniq) (old reader : Reader) (was is : Output) (first store : Slots) (run : Run) (t : Turning job old reader was is first store run) (is' : Output) (wrote : Wrote is is' []) where
+  -- what was staged was sent
+  pub turning_sent : is'.faulted ≡ false → Turning job old reader was is' first store run
+  turning_sent clean = record { singling = singling_sent job old was run reader is t.singling is' wrote clean; keeps = t.keeps }
+
+  -- it could not be sent
+  pub turning_unsent : IsReady old first → IsSound reader → is'.faulted ≡ true → IsPass (uniq_tool job) old reader was is' first store (Err Write)
+  turning_unsent ready sound fault =
+      turning_block_write job old reader was is first store run t ready sound reader sound reader.held (goes_nothing reader t.singling.reached.goes.fault) refl is'
+      (record { passed = []; wrote = wrote; true_so_far = λ more. (runs_behind job run (ended_lines job.end reader.held ++ more), refl) }) fault
 
 -- the slots were refused
 pub turning_unslotted : (job : Uniq) (old : Reader) (was : Output) (first store : Slots) → IsReady old first → IsSound old → was.faulted ≡ false → Adds first store 2 → store.denied ≡ true → store.peak ≡ first.peak → IsPass (uniq_tool job) old old was was first store (Err Memory)

@@ -81,6 +81,11 @@ pub record NothingDone (old new : List Reader) (was is : Output) (before store :
   pub same_output : is ≡ was
   pub same_store : store ≡ before
 
+-- nothing was read or pushed; lines end with this byte
+pub record NothingRead (end : ℕ) (cells : List ℕ) (old new : List Reader) (was is : Output) : Type 0 where
+  pub readers : (place : ℕ) → 0 < times cells place → reader_at new place ≡ record (reader_at old place) { ending = end }
+  pub output : is ≡ was
+
 -- What came of each reader is told by its place, and so are the texts that may stand behind it.
 pub record IsPastePass (job : Paste) (cells : List ℕ) (old new : List Reader) (was is : Output) (before store : Slots) (result : Result (Unit {0}) FlowFault) : Type 0 where
   pub given : ℕ → Given
@@ -100,6 +105,8 @@ pub record IsPastePass (job : Paste) (cells : List ℕ) (old new : List Reader) 
   pub peak : (texts : ℕ → List ℕ) → ((place : ℕ) → Agrees (given place) (texts place))
       → store.peak ≤ max before.peak (paste_size job cells texts)
   pub slots : was.faulted ≡ false → Adds before store (length cells)
+  -- where a slot was refused, nothing was read or pushed
+  pub refused : was.faulted ≡ false → length store.lines < length cells → NothingRead job.end cells old new was is
   -- a reader that no cell names is left alone
   pub untouched : (place : ℕ) → times cells place ≡ 0 → reader_at new place ≡ reader_at old place
   -- on an output that has faulted nothing is done

@@ -40,7 +40,7 @@ pub(crate) trait BlockTool: Drop {
         ensures fault { OnErr result (out.new.faulted ≡ true) };
 }
 
-/// Goes over the blocks of a reader.
+/// Goes over the blocks of a reader. Before a read that may have to wait, what is staged is sent.
 pub(crate) fn over_blocks<T: BlockTool, S: Source, R: Source, W: Sink>(
     tool: &mut T,
     reader: &mut LineReader<S, R>,
@@ -53,6 +53,7 @@ pub(crate) fn over_blocks<T: BlockTool, S: Source, R: Source, W: Sink>(
     ensures { GoesOver T.rest T.Holds tool.old reader.old reader.new out.old out.new result }
 {
     'turns: loop {
+        reader.send_before_wait(out)?;
         let count = match reader.block() {
             Ok(block) => {
                 if block.is_empty() {

@@ -265,7 +265,7 @@ fn push_lines<A: Allocator + Copy, W: Sink>(
 
 // Writes the selected fields of each line of a reader, and behind each line the byte that ends it. In each turn a
 // line goes through the first slot, since it may come in pieces; the lines behind it whose end is in the reader's block
-// are worked where they lie.
+// are worked where they lie. Before a read that may have to wait, what is staged is sent.
 pub(crate) fn cut_by_fields<A: Allocator + Copy, S: Source, R: Source, W: Sink>(
     job: &CutJob<A>,
     reader: &mut LineReader<S, R>,
@@ -283,12 +283,14 @@ pub(crate) fn cut_by_fields<A: Allocator + Copy, S: Source, R: Source, W: Sink>(
     let ending = reader.ending();
     let mut room = [0; 8192 + 16];
     'turns: loop {
+        reader.send_before_wait(out)?;
         match reader.fill(store, 0) {
             Ok(true) => push_kept(job, ending, store.line(0), out)?,
             Ok(false) => return Ok(()),
             Err(LineFault::Read) => return Err(FlowFault::Read(0)),
             Err(LineFault::Memory) => return Err(FlowFault::Memory),
         }
+        reader.send_before_wait(out)?;
         let count = match reader.block() {
             Ok(block) => push_lines(job, ending, block, &mut room, out)?,
             Err(_) => return Err(FlowFault::Read(0)),

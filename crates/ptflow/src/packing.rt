@@ -37,6 +37,16 @@ impl Shuffles {
     }
 }
 
+// Puts all lanes from a place on.
+#[inline(always)]
+pub(crate) fn put_lanes(v: u8x16, into: &mut [u8], at: usize)
+    requires room { at + 16 ≤ length into.old }
+    ensures long { length into.new ≡ length into.old }
+    ensures put { take (at + 16) into.new ≡ take at into.old ++ v }
+{
+    v.copy_to_slice(&mut into[at..]);
+}
+
 // Puts those of the first eight lanes whose flag is true from a place on, and says where they end.
 #[inline(always)]
 fn pack_eight(shuffles: &Shuffles, v: u8x16, keep: u8, into: &mut [u8], at: usize) -> usize

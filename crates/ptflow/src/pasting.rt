@@ -5,7 +5,7 @@ ghost use Rattle.ptlines.specs.Outputs.{Wrote};
 ghost use Rattle.ptlangs.specs.Jobs.{paste_job, ending};
 ghost use Rattle.ptflow.specs.PastePasses.{AreReady, IsPastePass, reader_at};
 ghost use Rattle.ptflow.specs.Pastes.{glued_from, times};
-ghost use Rattle.ptflow.specs.Workings.RowTurns.{AreSet, FillsRow};
+ghost use Rattle.ptflow.specs.Workings.RowTurns.{AreSet, FillsRow, is_write};
 
 use crate::faults::FlowFault;
 use crate::serial::{Cell, begin_cell};
@@ -26,20 +26,26 @@ fn set_endings<S: Source, R: Source>(cells: &[usize], zero: bool, readers: &mut 
 }
 
 // Puts the next line of each cell into its slot, and nothing where its reader has ended. The answer is whether any cell
-// has a line.
-fn fill_row<A: Allocator + Copy, S: Source, R: Source>(
+// has a line. What is staged is sent before a read that may have to wait.
+fn fill_row<A: Allocator + Copy, S: Source, R: Source, W: Sink>(
     cells: &[usize],
     readers: &mut [LineReader<S, R>],
     store: &mut Store<A>,
+    out: &mut Out<W>,
 ) -> Result<bool, FlowFault>
     requires within { All (λ place. place < length readers.old) cells.now }
     requires readable { (place : ℕ) → 0 < times cells.now place → (reader_at readers.old place).fault ≡ None }
     requires slots { length cells.now ≤ length store.old.lines }
-    ensures { FillsRow cells.now readers.old readers.new store.old store.new result }
+    requires clean { out.old.faulted ≡ false }
+    ensures fills { FillsRow cells.now readers.old readers.new store.old store.new result }
+    ensures wrote { Wrote out.old out.new [] }
+    ensures faulted { out.new.faulted ≡ is_write result }
 {
     let mut came = false;
     for (column, place) in cells.iter().enumerate() {
-        let has_line = match readers[*place].fill(store, column) {
+        let reader = &mut readers[*place];
+        reader.send_before_wait(out)?;
+        let has_line = match reader.fill(store, column) {
             Ok(has_line) => has_line,
             Err(LineFault::Read) => return Err(FlowFault::Read(*place)),
             Err(LineFault::Memory) => return Err(FlowFault::Memory),
@@ -82,7 +88,9 @@ fn push_row<A: Allocator + Copy, W: Sink>(
 /// gives empty cells. A row ends with newline, or with byte 0 with `-z` (this project's own choice).
 ///
 /// A slot of the store for each cell, which is added if it is missing, holds its line; nothing of a row is pushed before
-/// all its cells are known. On an output that has faulted nothing is read. Without cells nothing is read or pushed.
+/// all its cells are known. Where a slot is refused, nothing is read or pushed. What is staged is sent before a read
+/// that may have to wait ([`LineReader::send_before_wait`]). On an output that has faulted nothing is read. Without cells
+/// nothing is read or pushed.
 /// # Errors
 /// `Read` with the place of a reader whose read failed, `Write` where a write failed; `Memory` where a growth of the
 /// store was refused, and the store is then denied.
@@ -104,7 +112,7 @@ pub fn paste<A: Allocator + Copy, S: Source, R: Source, W: Sink>(
     need_slots(store, cells.len())?;
     let ending = if job.zero { 0 } else { b'\n' };
     'rows: loop {
-        if !fill_row(cells, readers, store)? {
+        if !fill_row(cells, readers, store, out)? {
             return Ok(());
         }
         push_row(&job.delims, ending, cells.len(), store, out)?;

@@ -133,7 +133,8 @@ fn take_block<A: Allocator + Copy, W: Sink>(
 
 // Writes what is written of each run of lines. In each turn a line goes through the second slot, since it may come in
 // pieces; the lines behind it whose end is in the reader's block are worked where they lie, and of them only the first
-// of the last run is copied. Nothing of a run is pushed before the next key or the end is known.
+// of the last run is copied. Nothing of a run is pushed before the next key or the end is known. Before a read that may have
+// to wait, what is staged is sent.
 fn over_runs<A: Allocator + Copy, S: Source, R: Source, W: Sink>(
     job: &UniqJob,
     reader: &mut LineReader<S, R>,
@@ -154,6 +155,7 @@ fn over_runs<A: Allocator + Copy, S: Source, R: Source, W: Sink>(
         bytes: ArrayVec::new(),
     };
     'turns: loop {
+        reader.send_before_wait(out)?;
         match reader.fill(store, 1) {
             Ok(true) => take_line(job, ending, &mut run, store, out)?,
             Ok(false) => {
@@ -164,6 +166,7 @@ fn over_runs<A: Allocator + Copy, S: Source, R: Source, W: Sink>(
             Err(LineFault::Read) => return Err(FlowFault::Read(0)),
             Err(LineFault::Memory) => return Err(FlowFault::Memory),
         }
+        reader.send_before_wait(out)?;
         let passed = match reader.block() {
             Ok(block) => take_block(job, ending, block, &mut run, store, out)?,
             Err(_) => return Err(FlowFault::Read(0)),

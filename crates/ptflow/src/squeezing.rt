@@ -6,7 +6,7 @@ ghost use Rattle.ptflow.specs.Workings.ByteSets.{IsSetOf, holds};
 ghost use Rattle.ptflow.specs.Workings.Packings.{IsPacking};
 ghost use Rattle.ptflow.specs.Workings.TrRests.{squeeze_from};
 
-use crate::packing::{Shuffles, pack};
+use crate::packing::{Shuffles, pack, put_lanes};
 use crate::sets::ByteSet;
 use std::simd::prelude::*;
 
@@ -32,7 +32,12 @@ fn squeeze_lanes(
 {
     let before = u8x16::from_slice(&from[at - 1..]);
     let bytes = u8x16::from_slice(&from[at..]);
-    let gone = before.simd_eq(bytes) & set.test(bytes);
+    let same = before.simd_eq(bytes);
+    if same.to_bitmask() == 0 {
+        put_lanes(bytes, into, count);
+        return count + 16;
+    }
+    let gone = same & set.test(bytes);
     pack(shuffles, bytes, (!gone).to_bitmask(), into, count)
 }
 

@@ -380,6 +380,7 @@ impl<S: Source, R: Source> LineReader<S, R> {
         ensures clean { OnOk result (out.new.faulted ≡ false) }
         ensures fault { OnErr result (out.new.faulted ≡ true) }
         ensures ended { self.now.ended ≡ true → out.new ≡ out.old }
+        ensures sound { IsSound self.now }
     {
         if self.end == 8192 || self.has_ended() {
             return Ok(());

@@ -79,7 +79,8 @@ impl<A: Allocator + Copy> Slot<A> {
         let from = self.size;
         let to = from + bytes.len();
         if to + 64 > self.buffer.len() {
-            self.buffer.resize(to + 64, 0)?;
+            // The buffer grows by as much as the line does, and what it grows by needs no meaning.
+            self.buffer.extend_from_slice(bytes)?;
         }
         self.buffer[from..to].copy_from_slice(bytes);
         self.size = to;

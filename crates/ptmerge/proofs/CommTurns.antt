@@ -289,7 +289,7 @@ module _ (job : Comm) (cmp : Cmp) (key : Side → Key) (o : IsKeyOrder cmp) (old
           (subst (λ t. IsMerge (comm_by job cmp key) old (record { reader = now.reader; out = new; store = t }) (Err Write)) (sym e.1.store) (both_unwritten e.1.faulted)))
       both_stops reader next after fault (inr e) = both_unread e.0 reader after fault e.1
 
-      module _ (fine : new.faulted ≡ false) (reader : Reader) (next : Sorted) (mid : Slots) (w : Midway reader next mid) (slots' : (side : Side) → HasSlots side (put First next place side)) where
+      module _ (reader : Reader) (next : Sorted) (mid : Slots) (w : Midway reader next mid) (slots' : (side : Side) → HasSlots side (put First next place side)) where
         abbrev between : State
         between = record { reader = put First reader now.reader; out = new; store = mid }
 
@@ -318,8 +318,17 @@ module _ (job : Comm) (cmp : Cmp) (key : Side → Key) (o : IsKeyOrder cmp) (old
               keeps = keeps_on (record { reader = put First reader now.reader; out = new; store = mid }) (put First next place) (put First w.n.now_ls r.ls) (put First (r.ls First) r.p) (put First w.n.bound r.b) sides1 keeps1 slots' Second step.second reader2 next2 after n;
             }
 
-        pub both_unread_second : (reader2 : Reader) (after : Slots) (fault : MergeFault) → CannotRead Second (place Second) (now.reader Second) reader2 mid after fault → IsMerge (comm_by job cmp key) old (record { reader = both reader reader2; out = new; store = after }) (Err fault)
-        both_unread_second reader2 after fault moves =
+        -- what was staged could not be sent before the second input was read
+        pub both_unsent : new.faulted ≡ true → IsMerge (comm_by job cmp key) old (record { reader = put First reader now.reader; out = new; store = mid }) (Err Write)
+        both_unsent fault =
+            unwritten (record { reader = put First reader now.reader; out = new; store = mid }) (put First next place) (put First w.n.now_ls r.ls) (put First (r.ls First) r.p) (put First w.n.bound r.b) sides1 keeps1 slots' (both (r.ls First) (r.ls Second)) new merging1
+            (elim [
+              | First ↦ standing (record { reader = put First reader now.reader; out = new; store = mid }) (put First next place) (put First w.n.now_ls r.ls) (put First (r.ls First) r.p) (put First w.n.bound r.b) sides1 keeps1 slots' First
+              | Second ↦ passing_now (record { reader = put First reader now.reader; out = new; store = mid }) (put First next place) (put First w.n.now_ls r.ls) (put First (r.ls First) r.p) (put First w.n.bound r.b) sides1 keeps1 slots' Second step.second
+            ]) fault
+
+        pub both_unread_second : new.faulted ≡ false → (reader2 : Reader) (after : Slots) (fault : MergeFault) → CannotRead Second (place Second) (now.reader Second) reader2 mid after fault → IsMerge (comm_by job cmp key) old (record { reader = both reader reader2; out = new; store = after }) (Err fault)
+        both_unread_second fine reader2 after fault moves =
             unread (record { reader = put First reader now.reader; out = new; store = mid }) (put First next place) (put First w.n.now_ls r.ls) (put First (r.ls First) r.p) (put First w.n.bound r.b) sides1 keeps1 slots' Second step.second (both (r.ls First) (r.ls Second)) new fine merging1 refl
             (standing (record { reader = put First reader now.reader; out = new; store = mid }) (put First next place) (put First w.n.now_ls r.ls) (put First (r.ls First) r.p) (put First w.n.bound r.b) sides1 keeps1 slots' First) reader2 after fault moves
 

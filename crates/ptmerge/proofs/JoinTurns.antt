@@ -40,6 +40,7 @@ use Rattle.ptmerge.proofs.Least.{EachKey}
 use Rattle.ptmerge.proofs.Orders.{IsKeyOrder, AtMost, self_at_most}
 use Rattle.ptmerge.proofs.Pairs.{put_each, put_other, put_same}
 use Rattle.ptmerge.proofs.Passing.{Merging}
+use Rattle.ptmerge.proofs.Sending.{wrote_and_sent}
 use Rattle.ptmerge.proofs.Slotted.{has_lines_total, line_other}
 use Rattle.ptmerge.proofs.Splitting.{all_keys}
 use Rattle.ptmerge.proofs.Standing.{Sided, sided_keeps}
@@ -362,6 +363,30 @@ module _ (tool : Tool) (o : IsKeyOrder tool.cmp) (pairs : List ℕ → Lines →
 
     went_in : (side : Side) → (now.reader side).failed ≡ (old.reader side).failed
     went_in side = (r.q.sides side).got.goes.failed
+
+    -- what was staged before the group was sent
+    module _ (out : Output) (sent : Wrote now.out out []) where
+      wrote_still : Wrote r.q.mid out (text tool.end (pairs r.k [] r.g))
+      wrote_still = wrote_and_sent r.q.mid now.out out (text tool.end (pairs r.k [] r.g)) clean r.q.wrote sent
+
+      pub gathering_sent : Gathering (record { reader = now.reader; out = out; store = now.store }) place end
+      gathering_sent = record {
+        k = r.k;
+        g = r.g;
+        q = record { ls = r.q.ls; p = r.q.p; d = r.q.d; mid = r.q.mid; sides = r.q.sides; within = r.q.within; keeps = r.q.keeps; wrote = wrote_still; at = r.q.at };
+        head1 = r.head1;
+        key1 = r.key1;
+        head2 = r.head2;
+        key2 = r.key2;
+      }
+
+      -- or it could not be sent
+      pub not_sent : out.faulted ≡ true → IsMerge tool old (record { reader = now.reader; out = out; store = now.store }) (Err Write)
+      not_sent fault =
+          halts tool o old (record { reader = now.reader; out = out; store = now.store }) now.reader (λ side. []) r.q.mid r.q.ls r.q.p (both [] r.g) r.q.d r.k [] (standing tool o pairs laws old unfailed now place end r.k (both [] r.g) r.q slots) r.q.within
+          (subst (λ (l : Lines). Wrote r.q.mid out (text tool.end l)) (laws.none r.k r.g) wrote_still) (λ w l c wanted. (by_keys tool w (λ side. both [] r.g side ++ l side), refl)) Write (record { faulted = fault; failed = went_in; denied = r.q.keeps.denied })
+          (λ side fail. absurd (false≢true (sym (went_in side ∙ unfailed side) ∙ fail))) (λ input pushed. tt)
+          (λ all w. fits_kept now.store now.store r.q.ls r.g r.q.keeps all (omega arith) refl (λ side. omega (arith, (w side).1)) (w Second).0.more (w Second).0.is)
 
     -- a line could not be kept, or the next one not read
     pub not_gathered : (reader : Reader) (next : Sorted) (after : Slots) (fault : MergeFault) → Gathers (tool.key Second) tool.cmp (place Second) next (now.reader Second) reader now.store after end (Err fault)

@@ -23,6 +23,7 @@ pub mod PartsInOrder
 pub mod PartsLaws
 pub mod PartsOfKeys
 pub mod PartsRows
+pub mod Sending
 pub mod Slotted
 pub mod Splitting
 pub mod Standing

@@ -14,7 +14,7 @@ ghost use Rattle.ptmerge.specs.declared.order.Side.{Side as Of};
 ghost use Rattle.ptmerge.specs.declared.sorted.Stand.TheVariants as stands;
 
 use crate::faults::MergeFault;
-use crate::merging::{Merge, Step};
+use crate::merging::{Merge, Step, send_before_wait};
 use crate::order::{Descending, KeyOrder, Side, WholeLine};
 use crate::slots::clear_four;
 use ptlangs::jobs::CommJob;
@@ -83,6 +83,7 @@ fn pass<K: KeyOrder, A: Allocator + Copy, S: Source, R: Source, W: Sink>(
         Ok(()) => {}
         Err(_) => return Err(MergeFault::Write),
     }
+    send_before_wait(reader, out)?;
     merge.advance(side, reader, store)
 }
 
@@ -145,6 +146,7 @@ fn comm_in_order<K: KeyOrder, A: Allocator + Copy, S: Source, R: Source, W: Sink
                     store,
                     out,
                 )?;
+                send_before_wait(second, out)?;
                 merge.advance(Side::Second, second, store)?;
             }
             Step::End => {

@@ -19,7 +19,7 @@ ghost use Rattle.ptmerge.specs.declared.sorted.Stand.TheVariants as stands;
 use crate::faults::MergeFault;
 use crate::fields::{nth_field, push_entry};
 use crate::groups::{clear_group, gather};
-use crate::merging::{Merge, Step};
+use crate::merging::{Merge, Step, send_before_wait};
 use crate::order::{Descending, FieldKeys, KeyOrder, Side};
 use crate::slots::clear_four;
 use ptlangs::jobs::JoinJob;
@@ -133,6 +133,7 @@ fn pass_alone<K: KeyOrder, A: Allocator + Copy, S: Source, R: Source, W: Sink>(
         Ok(()) => {}
         Err(_) => return Err(MergeFault::Write),
     }
+    send_before_wait(reader, out)?;
     merge.advance(side, reader, store)
 }
 
@@ -166,6 +167,7 @@ fn pass_pairs<K: KeyOrder, A: Allocator + Copy, S: Source, R: Source, W: Sink>(
         Ok(()) => {}
         Err(_) => return Err(MergeFault::Write),
     }
+    send_before_wait(reader, out)?;
     merge.advance(Side::First, reader, store)
 }
 
@@ -226,6 +228,7 @@ fn join_in_order<K: KeyOrder, A: Allocator + Copy, S: Source, R: Source, W: Sink
                 }
             },
             Phase::Gathering => {
+                send_before_wait(second, out)?;
                 end = gather(&mut merge, end, second, store)?;
                 if !merge.has_key_of(Side::Second, store.line(4), store) {
                     phase = Phase::Pairing;

@@ -1,8 +1,10 @@
-ghost use Rattle.std.specs.Prelude.{◌≡◌, ◌&&◌, length, None, Result, OnOk, IfOk, IfErr, bytes_eq};
+ghost use Rattle.std.specs.Prelude.{◌≡◌, ◌&&◌, length, None, true, false, [], Result, OnOk, IfOk, IfErr, bytes_eq};
+ghost use Rattle.ptlines.specs.Outputs.{Wrote};
 ghost use Rattle.ptlines.specs.Readers.{IsSound};
 ghost use Rattle.ptlines.specs.Slots.{line, line as line_of};
 ghost use Rattle.ptmerge.specs.Groups.{is_head};
 ghost use Rattle.ptmerge.specs.declared.order.Side.TheVariants as Of;
+ghost use Rattle.ptmerge.specs.declared.faults.MergeFault.TheVariants.{Write};
 ghost use Rattle.ptmerge.specs.Places.{Advances};
 ghost use Rattle.ptmerge.specs.Sides.{both, other};
 ghost use Rattle.ptmerge.specs.Steps.{inputs, IsPlaced, IsLent, IsNext, Starts, CannotStart};
@@ -11,7 +13,7 @@ use crate::faults::MergeFault;
 use crate::order::{KeyOrder, Side, are_equal};
 use crate::slots::need_four;
 use crate::sorted::{Sorted, Stand};
-use ptlines::{LineReader, Source, Store};
+use ptlines::{LineReader, Out, Sink, Source, Store};
 use std::alloc::Allocator;
 
 /// Which standing lines have the least key, or why none comes next.
@@ -40,6 +42,23 @@ pub struct Merge<K: KeyOrder> {
     order: K,
     first: Sorted,
     second: Sorted,
+}
+
+// Sends what is staged, if the next line of an input may have to be waited for.
+#[inline(always)]
+pub(crate) fn send_before_wait<S: Source, R: Source, W: Sink>(
+    reader: &LineReader<S, R>,
+    out: &mut Out<W>,
+) -> Result<(), MergeFault>
+    requires { out.old.faulted ≡ false }
+    ensures wrote { Wrote out.old out.new [] }
+    ensures clean { OnOk result (out.new.faulted ≡ false) }
+    ensures fault { IfErr result (λ fault. (fault ≡ Write) × (out.new.faulted ≡ true)) }
+{
+    match reader.send_before_wait(out) {
+        Ok(()) => Ok(()),
+        Err(_) => Err(MergeFault::Write),
+    }
 }
 
 impl<K: KeyOrder> Merge<K> {

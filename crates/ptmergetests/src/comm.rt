@@ -125,6 +125,26 @@ fn nothing_is_read_behind_a_line_out_of_order(rt: HostRuntime) -> Result<(), Fai
     expect(&rt, rt.alloc(), &second, fault, b"a\n\t\tb\nb\n")
 }
 
+// How many calls of the sink there were: each put, and the flush at the end.
+fn calls(rt: &impl Abort, alloc: Global, case: &Case<'_>) -> Result<u64, Fail> {
+    let (result, kept, _peak) = run(alloc, alloc, case)?;
+    assert_eq!(rt; result, Ok(()));
+    Ok(kept.calls())
+}
+
+// What is staged is put before each pull; where a block holds the next line there is none to wait for.
+#[test]
+fn what_is_staged_is_sent_before_a_read(rt: HostRuntime) -> Result<(), Fail> {
+    let mut turns = over(b"a\nc\n", b"b\nd\n");
+    assert_eq!(rt; calls(&rt, rt.alloc(), &turns)?, 5);
+    turns.size = usize::MAX;
+    assert_eq!(rt; calls(&rt, rt.alloc(), &turns)?, 3);
+    let mut common = over(b"a\nb\n", b"a\n");
+    common.size = 4;
+    assert_eq!(rt; calls(&rt, rt.alloc(), &common)?, 3);
+    Ok(())
+}
+
 // Two lines of 9000 bytes in pulls of 8192: a third pull is made for the second line alone.
 #[test]
 fn nothing_is_read_behind_a_failed_write(rt: HostRuntime) -> Result<(), Fail> {

@@ -208,6 +208,28 @@ fn nothing_is_read_behind_a_line_out_of_order(rt: HostRuntime) -> Result<(), Fai
     Ok(())
 }
 
+// How many calls of the sink there were: each put, and the flush at the end.
+fn calls(rt: &impl Abort, alloc: Global, job: &JoinJob, case: &Case<'_>) -> Result<u64, Fail> {
+    let (result, kept, _peak) = run(alloc, alloc, job, case)?;
+    assert_eq!(rt; result, Ok(()));
+    Ok(kept.calls())
+}
+
+// What is staged is put before each pull: between groups, while a group is gathered, and behind its pairs.
+#[test]
+fn what_is_staged_is_sent_before_a_read(rt: HostRuntime) -> Result<(), Fail> {
+    let mut job = JoinJob::new(rt.alloc());
+    job.unpaired = [true, true];
+    let mut turns = over(b"a\nc\n", b"b\nd\n");
+    assert_eq!(rt; calls(&rt, rt.alloc(), &job, &turns)?, 5);
+    turns.size = usize::MAX;
+    assert_eq!(rt; calls(&rt, rt.alloc(), &job, &turns)?, 3);
+    let mut gathers = over(b"a\nb\n", b"b 2\n");
+    gathers.size = 4;
+    assert_eq!(rt; calls(&rt, rt.alloc(), &job, &gathers)?, 3);
+    Ok(())
+}
+
 // Two lines of 9000 bytes in pulls of 8192: a third pull is made for the second line alone.
 #[test]
 fn nothing_is_read_behind_a_failed_write(rt: HostRuntime) -> Result<(), Fail> {

@@ -366,13 +366,16 @@ const FILES: &[Input] = &[Input::Whole(F), Input::Whole(G)];
 // How many bytes a call takes, how many in all, how many calls pass, and what is written. The last call is a flush.
 type Unwritten = (usize, usize, u64, &'static str);
 
+// The first row is sent before the end of g is asked for, and the others before that of f.
 const BESIDE_UNWRITTEN: &[Unwritten] = &[
     (3, usize::MAX, 0, ""),
     (3, usize::MAX, 1, "1\tx"),
-    (3, usize::MAX, 2, "1\tx\n2\t"),
-    (3, usize::MAX, 3, "1\tx\n2\ty\n3"),
-    (3, usize::MAX, 4, BESIDE_OUT),
-    (usize::MAX, usize::MAX, 1, BESIDE_OUT),
+    (3, usize::MAX, 2, "1\tx\n"),
+    (3, usize::MAX, 3, "1\tx\n2\ty"),
+    (3, usize::MAX, 4, "1\tx\n2\ty\n3\t"),
+    (3, usize::MAX, 5, BESIDE_OUT),
+    (usize::MAX, usize::MAX, 1, "1\tx\n"),
+    (usize::MAX, usize::MAX, 2, BESIDE_OUT),
     (usize::MAX, 4, u64::MAX, "1\tx\n"),
     (1, 5, u64::MAX, "1\tx\n2"),
 ];

@@ -62,8 +62,19 @@ pub record RowBroken (Breaks : Reader → Reader → Slots → Slots → ℕ →
       held store column
   pub others : (place : ℕ) → place ≢ slice_index_or cells column 0 → reader_at new place ≡ reader_at mid place
 
+-- nothing was asked of the reader of the cell
+abbrev pub NotAsked : Reader → Reader → Slots → Slots → ℕ → Type 0
+NotAsked old new before after slot = (new ≡ old) × (after ≡ before)
+
 abbrev pub FillsRow : List ℕ → List Reader → List Reader → Slots → Slots → Result Bool FlowFault → Type 0
 FillsRow cells old new before store (Ok came) = RowFilled cells old new before store came
 FillsRow cells old new before store (Err (Read place)) = (b : RowBroken BreaksRead cells old new before store) × (place ≡ slice_index_or cells b.column 0)
-FillsRow cells old new before store (Err Write) = ⊥
+FillsRow cells old new before store (Err Write) = RowBroken NotAsked cells old new before store
 FillsRow cells old new before store (Err Memory) = RowBroken BreaksMemory cells old new before store
+
+-- a write failed
+abbrev pub is_write : Result Bool FlowFault → Bool
+is_write (Ok came) = false
+is_write (Err (Read place)) = false
+is_write (Err Write) = true
+is_write (Err Memory) = false

@@ -3,7 +3,7 @@ use Rattle.std.proofs.lemmas.Result.{err_from_is_err_and}
 use Rattle.ptlines.specs.Outputs.{Wrote}
 use Rattle.ptlangs.specs.Jobs.{paste_job, ending}
 use Rattle.ptflow.specs.Pastes.{glued_from}
-use Rattle.ptflow.proofs.PasteLemmas.{paste_halted, paste_unslotted, pasting_starts, pasting_room, pasting_more, paste_broke, paste_done, paste_write, end_of, fault_of}
+use Rattle.ptflow.proofs.PasteLemmas.{paste_halted, paste_unslotted, pasting_starts, pasting_sent, pasting_room, pasting_more, paste_broke, paste_done, paste_write, end_of, fault_of}
 use Rattle.ptflow.proofs.pasting.paste.Goals as goal
 use Rattle.ptflow.proofs.pasting.paste.Goals.{then-job, else-job}
 
@@ -33,13 +33,14 @@ pub returns-in_err-fill_row : goal.returns-in_err-fill_row
 returns-in_err-fill_row g c =
     let e = err_from_is_err_and c.from_residual-in_err-fill_row.result c.from_residual-in_err-fill_row.ensures.1 in
     rw (e.1, e.2)
-    (paste_broke (paste_job c.args.job.now) c.args.cells.now c.args.readers.now c.set_endings.new.readers c.rows.readers c.args.out.now c.rows.out c.args.store.now c.rows.store c.rows.invariant (sym c.has_failed.ensures ∙ c.if-has_failed.false) c.requires c.set_endings.ensures
-    c.fill_row.new.readers c.fill_row.new.store c.in_err-fill_row.field-0.0 c.in_err-fill_row.ensures)
+    (paste_broke (paste_job c.args.job.now) c.args.cells.now c.args.readers.now c.set_endings.new.readers c.rows.readers c.args.out.now c.rows.out c.fill_row.new.out c.args.store.now c.rows.store c.rows.invariant (sym c.has_failed.ensures ∙ c.if-has_failed.false) c.requires c.set_endings.ensures
+    c.fill_row.new.readers c.fill_row.new.store c.in_err-fill_row.field-0.0 c.in_err-fill_row.ensures.fills c.in_err-fill_row.ensures.wrote c.in_err-fill_row.ensures.faulted)
 
 pub returns-then-not-branch : goal.returns-then-not-branch
 returns-then-not-branch g c =
-    let r = c.in_ok-fill_row.ensures in
-    paste_done (paste_job c.args.job.now) c.args.cells.now c.args.readers.now c.set_endings.new.readers c.rows.readers c.args.out.now c.rows.out c.args.store.now c.rows.store c.rows.invariant (sym c.has_failed.ensures ∙ c.if-has_failed.false) c.requires c.set_endings.ensures
+    let s = pasting_sent (paste_job c.args.job.now) c.args.cells.now c.set_endings.new.readers c.rows.readers c.args.out.now c.rows.out c.fill_row.new.out c.args.store.now c.rows.store c.rows.invariant c.in_ok-fill_row.ensures.wrote c.in_ok-fill_row.ensures.faulted in
+    let r = c.in_ok-fill_row.ensures.fills in
+    paste_done (paste_job c.args.job.now) c.args.cells.now c.args.readers.now c.set_endings.new.readers c.rows.readers c.args.out.now c.fill_row.new.out c.args.store.now c.rows.store s (sym c.has_failed.ensures ∙ c.if-has_failed.false) c.requires c.set_endings.ensures
     c.fill_row.new.readers c.fill_row.new.store r.got r.taken (r.none c.if-not-branch.true)
 
 pub push_row-requires-clause-slots : goal.push_row-requires-clause-slots
@@ -47,28 +48,30 @@ push_row-requires-clause-slots g c =
     omega (
       arith,
       pasting_room (paste_job c.args.job.now) c.args.cells.now c.set_endings.new.readers c.rows.readers c.args.out.now c.rows.out c.args.store.now c.rows.store c.rows.invariant,
-      c.in_ok-fill_row.ensures.taken.same,
+      c.in_ok-fill_row.ensures.fills.taken.same,
     )
 
 pub rows-preserved : goal.rows-preserved
 rows-preserved g c =
     let job = paste_job c.args.job.now in
-    let r = c.in_ok-fill_row.ensures in
+    let s = pasting_sent (paste_job c.args.job.now) c.args.cells.now c.set_endings.new.readers c.rows.readers c.args.out.now c.rows.out c.fill_row.new.out c.args.store.now c.rows.store c.rows.invariant c.in_ok-fill_row.ensures.wrote c.in_ok-fill_row.ensures.faulted in
+    let r = c.in_ok-fill_row.ensures.fills in
     let k = r.some c.if-not-branch.false in
     let end : c.if-job.ending ≡ ending c.args.job.now.zero = elim c.if-job.branch [ then-job w ↦ w.ending-is ∙ sym (ap ending w.if-job.true) | else-job w ↦ w.ending-is ∙ sym (ap ending w.if-job.false) ] in
-    let wrote = subst (λ (b : ℕ). Wrote c.rows.out c.push_row.new.out (glued_from c.args.job.now.delims 0 (take (length c.args.cells.now) c.fill_row.new.store.lines) ++ b ∷ [])) end c.push_row.ensures.wrote in
-    pasting_more job c.args.cells.now c.set_endings.new.readers c.rows.readers c.args.out.now c.rows.out c.args.store.now c.rows.store c.rows.invariant
+    let wrote = subst (λ (b : ℕ). Wrote c.fill_row.new.out c.push_row.new.out (glued_from c.args.job.now.delims 0 (take (length c.args.cells.now) c.fill_row.new.store.lines) ++ b ∷ [])) end c.push_row.ensures.wrote in
+    pasting_more job c.args.cells.now c.set_endings.new.readers c.rows.readers c.args.out.now c.fill_row.new.out c.args.store.now c.rows.store s
     (end_of job.end c.args.cells.now c.args.readers.now c.set_endings.new.readers c.args.store.now c.requires c.set_endings.ensures)
     c.fill_row.new.readers c.fill_row.new.store r.got r.taken k.0 k.1 k.2 c.push_row.new.out wrote c.in_ok-push_row.ensures.clean
 
 pub returns-in_err-push_row : goal.returns-in_err-push_row
 returns-in_err-push_row g c =
     let job = paste_job c.args.job.now in
-    let r = c.in_ok-fill_row.ensures in
+    let s = pasting_sent (paste_job c.args.job.now) c.args.cells.now c.set_endings.new.readers c.rows.readers c.args.out.now c.rows.out c.fill_row.new.out c.args.store.now c.rows.store c.rows.invariant c.in_ok-fill_row.ensures.wrote c.in_ok-fill_row.ensures.faulted in
+    let r = c.in_ok-fill_row.ensures.fills in
     let k = r.some c.if-not-branch.false in
     let end : c.if-job.ending ≡ ending c.args.job.now.zero = elim c.if-job.branch [ then-job w ↦ w.ending-is ∙ sym (ap ending w.if-job.true) | else-job w ↦ w.ending-is ∙ sym (ap ending w.if-job.false) ] in
-    let wrote = subst (λ (b : ℕ). Wrote c.rows.out c.push_row.new.out (glued_from c.args.job.now.delims 0 (take (length c.args.cells.now) c.fill_row.new.store.lines) ++ b ∷ [])) end c.push_row.ensures.wrote in
+    let wrote = subst (λ (b : ℕ). Wrote c.fill_row.new.out c.push_row.new.out (glued_from c.args.job.now.delims 0 (take (length c.args.cells.now) c.fill_row.new.store.lines) ++ b ∷ [])) end c.push_row.ensures.wrote in
     let x = err_from_is_err_and c.from_residual-in_err-push_row.result c.from_residual-in_err-push_row.ensures.1 in
     rw (x.1, x.2)
-    (paste_write job c.args.cells.now c.args.readers.now c.set_endings.new.readers c.rows.readers c.args.out.now c.rows.out c.args.store.now c.rows.store c.rows.invariant (sym c.has_failed.ensures ∙ c.if-has_failed.false) c.requires c.set_endings.ensures
+    (paste_write job c.args.cells.now c.args.readers.now c.set_endings.new.readers c.rows.readers c.args.out.now c.fill_row.new.out c.args.store.now c.rows.store s (sym c.has_failed.ensures ∙ c.if-has_failed.false) c.requires c.set_endings.ensures
     c.fill_row.new.readers c.fill_row.new.store r.got r.taken k.0 k.1 k.2 c.push_row.new.out wrote c.in_err-push_row.ensures.fault)

@@ -18,8 +18,9 @@ use Rattle.ptmerge.specs.Sides.{both}
 use Rattle.ptmerge.specs.Steps.{IsLent, inputs}
 use Rattle.ptmerge.proofs.CommEntries.{written_first, written_second, written_both}
 use Rattle.ptmerge.proofs.Starting.{starts_well, starts_badly, start_slots, start_refused}
-use Rattle.ptmerge.proofs.CommTurns.{Running, adds_of, alone_on, alone_stops, both_on, both_stops, both_unread_second, breaks_slots, comes_slots, ended, fallen, midway, passes_slots, readable_of, slots_of, unfailed_of, wrote_as}
+use Rattle.ptmerge.proofs.CommTurns.{Running, adds_of, alone_on, alone_stops, both_on, both_stops, both_unread_second, both_unsent, breaks_slots, comes_slots, ended, fallen, midway, passes_slots, readable_of, slots_of, unfailed_of, wrote_as}
 use Rattle.ptmerge.proofs.Orders.{IsKeyOrder}
+use Rattle.ptmerge.proofs.Sending.{wrote_and_sent}
 use Rattle.ptmerge.proofs.Pairs.{both_each}
 use Rattle.ptmerge.proofs.Splitting.{all_keys}
 use Rattle.ptmerge.proofs.Standing.{alive, comes_less}
@@ -287,21 +288,54 @@ steps-preserved g c =
     let unfailed = unfailed_of c.args.first.now c.args.second.now c.args.store.now c.requires.ready c.requires.sound in
     let slots = slots_of c.steps.merge.first c.steps.merge.second c.steps.store i.placed in
     let end : c.ending-ending.result ≡ job.end = c.ending-ending.ensures ∙ c.requires.ending.0 in
-    let wrote = wrote_as job.end c.ending-ending.result (entries_in job.hide3 (tab_unless job.hide1 ++ tab_unless job.hide2) 1 (line c.steps.store c.steps.merge.first.standing)) (by_keys (comm_by job cmp key) all_keys (both ((line c.steps.store c.steps.merge.first.standing) ∷ []) ((line c.steps.store c.steps.merge.second.standing) ∷ []))) c.steps.out c.pass-in-Both.new.out end (written_both job cmp key o (line c.steps.store c.steps.merge.first.standing) (line c.steps.store c.steps.merge.second.standing) (subst (λ k. g.K.KeyOrder.key_of k sides.First (line c.steps.store c.steps.merge.first.standing) ≡ line c.steps.store c.steps.merge.first.standing) (sym i.order) (c.requires.whole sides.First (line c.steps.store c.steps.merge.first.standing))) (sym c.in-Both.ensures.same)) (subst (λ (l : List ℕ). Wrote c.steps.out c.pass-in-Both.new.out (text c.ending-ending.result (entries_in job.hide3 l 1 (line c.steps.store c.steps.merge.first.standing)))) c.lead-lead3.ensures c.pass-in-Both.ensures.wrote) in
-    let w = midway job cmp key o old unfailed now place i.running slots i.clean c.in-Both.ensures c.pass-in-Both.new.out wrote c.pass-in-Both.new.reader c.pass-in-Both.new.merge.first c.pass-in-Both.new.store c.in_ok-pass-in-Both.ensures.passes.1 in
+    let wrote = wrote_and_sent c.steps.out c.pass-in-Both.new.out c.send_before_wait.new.out (text job.end (by_keys (comm_by job cmp key) all_keys (both ((line c.steps.store c.steps.merge.first.standing) ∷ []) ((line c.steps.store c.steps.merge.second.standing) ∷ [])))) c.in_ok-pass-in-Both.ensures.passes.0 (wrote_as job.end c.ending-ending.result (entries_in job.hide3 (tab_unless job.hide1 ++ tab_unless job.hide2) 1 (line c.steps.store c.steps.merge.first.standing)) (by_keys (comm_by job cmp key) all_keys (both ((line c.steps.store c.steps.merge.first.standing) ∷ []) ((line c.steps.store c.steps.merge.second.standing) ∷ []))) c.steps.out c.pass-in-Both.new.out end (written_both job cmp key o (line c.steps.store c.steps.merge.first.standing) (line c.steps.store c.steps.merge.second.standing) (subst (λ k. g.K.KeyOrder.key_of k sides.First (line c.steps.store c.steps.merge.first.standing) ≡ line c.steps.store c.steps.merge.first.standing) (sym i.order) (c.requires.whole sides.First (line c.steps.store c.steps.merge.first.standing))) (sym c.in-Both.ensures.same)) (subst (λ (l : List ℕ). Wrote c.steps.out c.pass-in-Both.new.out (text c.ending-ending.result (entries_in job.hide3 l 1 (line c.steps.store c.steps.merge.first.standing)))) c.lead-lead3.ensures c.pass-in-Both.ensures.wrote)) c.send_before_wait.ensures.wrote in
+    let w = midway job cmp key o old unfailed now place i.running slots i.clean c.in-Both.ensures c.send_before_wait.new.out wrote c.pass-in-Both.new.reader c.pass-in-Both.new.merge.first c.pass-in-Both.new.store c.in_ok-pass-in-Both.ensures.passes.1 in
     let others : c.pass-in-Both.new.merge.second ≡ c.steps.merge.second = c.pass-in-Both.ensures.others in
     let slots2 = both_each HasSlots c.pass-in-Both.new.merge.first c.steps.merge.second c.in_ok-pass-in-Both.ensures.placed.first i.placed.second in
     let comes = (subst (λ k. Advances (g.K.KeyOrder.key_of k sides.Second) (g.K.KeyOrder.order k) sides.Second c.steps.merge.second c.advance.new.self.second c.steps.second c.advance.new.reader c.pass-in-Both.new.store c.advance.new.store (Ok tt)) c.pass-in-Both.ensures.order (subst (λ (q : Sorted). Advances (g.K.KeyOrder.key_of c.pass-in-Both.new.merge.order sides.Second) (g.K.KeyOrder.order c.pass-in-Both.new.merge.order) sides.Second q c.advance.new.self.second c.steps.second c.advance.new.reader c.pass-in-Both.new.store c.advance.new.store (Ok tt)) others c.in_ok-advance-in-Both.ensures.moves)) in
-    let t = both_on job cmp key o old unfailed now place i.running slots i.clean c.in-Both.ensures c.pass-in-Both.new.out wrote c.in_ok-pass-in-Both.ensures.passes.0 c.pass-in-Both.new.reader c.pass-in-Both.new.merge.first c.pass-in-Both.new.store w slots2 c.advance.new.reader c.advance.new.self.second c.advance.new.store comes in
+    let t = both_on job cmp key o old unfailed now place i.running slots i.clean c.in-Both.ensures c.send_before_wait.new.out wrote c.pass-in-Both.new.reader c.pass-in-Both.new.merge.first c.pass-in-Both.new.store w slots2 c.advance.new.reader c.advance.new.self.second c.advance.new.store comes in
     record {
-      running = subst (λ k. Running (comm_by (comm_job c.args.job.now) (g.K.KeyOrder.order k) (g.K.KeyOrder.key_of k)) (seen c.args.first.now c.args.second.now c.args.out.now c.args.store.now) (seen c.pass-in-Both.new.reader c.advance.new.reader c.pass-in-Both.new.out c.advance.new.store) (both c.advance.new.self.first c.advance.new.self.second)) (sym (c.advance.ensures.order ∙ c.pass-in-Both.ensures.order))
-          (subst (λ q. Running (comm_by job cmp key) old (seen c.pass-in-Both.new.reader c.advance.new.reader c.pass-in-Both.new.out c.advance.new.store) (both q c.advance.new.self.second)) (sym c.advance.ensures.others) t);
+      running = subst (λ k. Running (comm_by (comm_job c.args.job.now) (g.K.KeyOrder.order k) (g.K.KeyOrder.key_of k)) (seen c.args.first.now c.args.second.now c.args.out.now c.args.store.now) (seen c.pass-in-Both.new.reader c.advance.new.reader c.send_before_wait.new.out c.advance.new.store) (both c.advance.new.self.first c.advance.new.self.second)) (sym (c.advance.ensures.order ∙ c.pass-in-Both.ensures.order))
+          (subst (λ q. Running (comm_by job cmp key) old (seen c.pass-in-Both.new.reader c.advance.new.reader c.send_before_wait.new.out c.advance.new.store) (both q c.advance.new.self.second)) (sym c.advance.ensures.others) t);
       placed = c.in_ok-advance-in-Both.ensures.placed;
       lent1 = subst (λ (q : Sorted). IsLent q c.pass-in-Both.new.reader) (sym c.advance.ensures.others) c.in_ok-pass-in-Both.ensures.lent;
       lent2 = c.in_ok-advance-in-Both.ensures.lent;
-      clean = c.in_ok-pass-in-Both.ensures.passes.0;
+      clean = c.in_ok-send_before_wait-in-Both.ensures.clean;
       order = c.advance.ensures.order ∙ c.pass-in-Both.ensures.order ∙ i.order;
     }
+
+pub returns-in_err-send_before_wait-in-Both-clause-merged : goal.returns-in_err-send_before_wait-in-Both-clause-merged
+returns-in_err-send_before_wait-in-Both-clause-merged g c =
+    let cmp = g.K.KeyOrder.order c.steps.merge.order in
+    let key = g.K.KeyOrder.key_of c.steps.merge.order in
+    let o : IsKeyOrder (g.K.KeyOrder.order c.steps.merge.order) = record { total = g.met.K.KeyOrder.total c.steps.merge.order; exact = g.met.K.KeyOrder.exact c.steps.merge.order } in
+    let i = c.steps.invariant in
+    let job = comm_job c.args.job.now in
+    let old = seen c.args.first.now c.args.second.now c.args.out.now c.args.store.now in
+    let now = seen c.steps.first c.steps.second c.steps.out c.steps.store in
+    let place = both c.steps.merge.first c.steps.merge.second in
+    let unfailed = unfailed_of c.args.first.now c.args.second.now c.args.store.now c.requires.ready c.requires.sound in
+    let slots = slots_of c.steps.merge.first c.steps.merge.second c.steps.store i.placed in
+    let end : c.ending-ending.result ≡ job.end = c.ending-ending.ensures ∙ c.requires.ending.0 in
+    let wrote = wrote_and_sent c.steps.out c.pass-in-Both.new.out c.send_before_wait.new.out (text job.end (by_keys (comm_by job cmp key) all_keys (both ((line c.steps.store c.steps.merge.first.standing) ∷ []) ((line c.steps.store c.steps.merge.second.standing) ∷ [])))) c.in_ok-pass-in-Both.ensures.passes.0 (wrote_as job.end c.ending-ending.result (entries_in job.hide3 (tab_unless job.hide1 ++ tab_unless job.hide2) 1 (line c.steps.store c.steps.merge.first.standing)) (by_keys (comm_by job cmp key) all_keys (both ((line c.steps.store c.steps.merge.first.standing) ∷ []) ((line c.steps.store c.steps.merge.second.standing) ∷ []))) c.steps.out c.pass-in-Both.new.out end (written_both job cmp key o (line c.steps.store c.steps.merge.first.standing) (line c.steps.store c.steps.merge.second.standing) (subst (λ k. g.K.KeyOrder.key_of k sides.First (line c.steps.store c.steps.merge.first.standing) ≡ line c.steps.store c.steps.merge.first.standing) (sym i.order) (c.requires.whole sides.First (line c.steps.store c.steps.merge.first.standing))) (sym c.in-Both.ensures.same)) (subst (λ (l : List ℕ). Wrote c.steps.out c.pass-in-Both.new.out (text c.ending-ending.result (entries_in job.hide3 l 1 (line c.steps.store c.steps.merge.first.standing)))) c.lead-lead3.ensures c.pass-in-Both.ensures.wrote)) c.send_before_wait.ensures.wrote in
+    let w = midway job cmp key o old unfailed now place i.running slots i.clean c.in-Both.ensures c.send_before_wait.new.out wrote c.pass-in-Both.new.reader c.pass-in-Both.new.merge.first c.pass-in-Both.new.store c.in_ok-pass-in-Both.ensures.passes.1 in
+    let others : c.pass-in-Both.new.merge.second ≡ c.steps.merge.second = c.pass-in-Both.ensures.others in
+    let slots2 = both_each HasSlots c.pass-in-Both.new.merge.first c.steps.merge.second c.in_ok-pass-in-Both.ensures.placed.first i.placed.second in
+    let x = err_from_is_err_and c.from_residual-in_err-send_before_wait-in-Both.result c.from_residual-in_err-send_before_wait-in-Both.ensures.1 in
+    let e = c.in_err-send_before_wait-in-Both.ensures.fault in
+    rw (x.1, x.2) (subst (λ k. IsMerge (comm_by (comm_job c.args.job.now) (g.K.KeyOrder.order k) (g.K.KeyOrder.key_of k)) (seen c.args.first.now c.args.second.now c.args.out.now c.args.store.now) (seen c.pass-in-Both.new.reader c.steps.second c.send_before_wait.new.out c.pass-in-Both.new.store) (Err c.in_err-send_before_wait-in-Both.field-0.0)) i.order
+    (subst (λ f. IsMerge (comm_by job cmp key) old (seen c.pass-in-Both.new.reader c.steps.second c.send_before_wait.new.out c.pass-in-Both.new.store) (Err f)) (sym e.0)
+    (both_unsent job cmp key o old unfailed now place i.running slots i.clean c.in-Both.ensures c.send_before_wait.new.out wrote c.pass-in-Both.new.reader c.pass-in-Both.new.merge.first c.pass-in-Both.new.store w slots2 e.1)))
+
+pub returns-in_err-send_before_wait-in-Both-clause-slots : goal.returns-in_err-send_before_wait-in-Both-clause-slots
+returns-in_err-send_before_wait-in-Both-clause-slots g c =
+    adds_of c.args.store.now c.pass-in-Both.new.store
+    (comes_slots (g.K.KeyOrder.key_of c.steps.merge.order sides.First) (g.K.KeyOrder.order c.steps.merge.order) c.steps.merge.first c.pass-in-Both.new.merge.first c.steps.first c.pass-in-Both.new.reader c.steps.store c.pass-in-Both.new.store c.in_ok-pass-in-Both.ensures.passes.1 ∙ c.steps.invariant.running.keeps.slots)
+
+pub returns-in_err-send_before_wait-in-Both-clause-refused : goal.returns-in_err-send_before_wait-in-Both-clause-refused
+returns-in_err-send_before_wait-in-Both-clause-refused g c =
+    let count : length c.pass-in-Both.new.store.lines ≡ max (length c.args.store.now.lines) 4 = comes_slots (g.K.KeyOrder.key_of c.steps.merge.order sides.First) (g.K.KeyOrder.order c.steps.merge.order) c.steps.merge.first c.pass-in-Both.new.merge.first c.steps.first c.pass-in-Both.new.reader c.steps.store c.pass-in-Both.new.store c.in_ok-pass-in-Both.ensures.passes.1 ∙ c.steps.invariant.running.keeps.slots in
+    λ few. absurd (omega (arith, few, count))
 
 pub returns-in_err-advance-in-Both-clause-merged : goal.returns-in_err-advance-in-Both-clause-merged
 returns-in_err-advance-in-Both-clause-merged g c =
@@ -316,14 +350,14 @@ returns-in_err-advance-in-Both-clause-merged g c =
     let unfailed = unfailed_of c.args.first.now c.args.second.now c.args.store.now c.requires.ready c.requires.sound in
     let slots = slots_of c.steps.merge.first c.steps.merge.second c.steps.store i.placed in
     let end : c.ending-ending.result ≡ job.end = c.ending-ending.ensures ∙ c.requires.ending.0 in
-    let wrote = wrote_as job.end c.ending-ending.result (entries_in job.hide3 (tab_unless job.hide1 ++ tab_unless job.hide2) 1 (line c.steps.store c.steps.merge.first.standing)) (by_keys (comm_by job cmp key) all_keys (both ((line c.steps.store c.steps.merge.first.standing) ∷ []) ((line c.steps.store c.steps.merge.second.standing) ∷ []))) c.steps.out c.pass-in-Both.new.out end (written_both job cmp key o (line c.steps.store c.steps.merge.first.standing) (line c.steps.store c.steps.merge.second.standing) (subst (λ k. g.K.KeyOrder.key_of k sides.First (line c.steps.store c.steps.merge.first.standing) ≡ line c.steps.store c.steps.merge.first.standing) (sym i.order) (c.requires.whole sides.First (line c.steps.store c.steps.merge.first.standing))) (sym c.in-Both.ensures.same)) (subst (λ (l : List ℕ). Wrote c.steps.out c.pass-in-Both.new.out (text c.ending-ending.result (entries_in job.hide3 l 1 (line c.steps.store c.steps.merge.first.standing)))) c.lead-lead3.ensures c.pass-in-Both.ensures.wrote) in
-    let w = midway job cmp key o old unfailed now place i.running slots i.clean c.in-Both.ensures c.pass-in-Both.new.out wrote c.pass-in-Both.new.reader c.pass-in-Both.new.merge.first c.pass-in-Both.new.store c.in_ok-pass-in-Both.ensures.passes.1 in
+    let wrote = wrote_and_sent c.steps.out c.pass-in-Both.new.out c.send_before_wait.new.out (text job.end (by_keys (comm_by job cmp key) all_keys (both ((line c.steps.store c.steps.merge.first.standing) ∷ []) ((line c.steps.store c.steps.merge.second.standing) ∷ [])))) c.in_ok-pass-in-Both.ensures.passes.0 (wrote_as job.end c.ending-ending.result (entries_in job.hide3 (tab_unless job.hide1 ++ tab_unless job.hide2) 1 (line c.steps.store c.steps.merge.first.standing)) (by_keys (comm_by job cmp key) all_keys (both ((line c.steps.store c.steps.merge.first.standing) ∷ []) ((line c.steps.store c.steps.merge.second.standing) ∷ []))) c.steps.out c.pass-in-Both.new.out end (written_both job cmp key o (line c.steps.store c.steps.merge.first.standing) (line c.steps.store c.steps.merge.second.standing) (subst (λ k. g.K.KeyOrder.key_of k sides.First (line c.steps.store c.steps.merge.first.standing) ≡ line c.steps.store c.steps.merge.first.standing) (sym i.order) (c.requires.whole sides.First (line c.steps.store c.steps.merge.first.standing))) (sym c.in-Both.ensures.same)) (subst (λ (l : List ℕ). Wrote c.steps.out c.pass-in-Both.new.out (text c.ending-ending.result (entries_in job.hide3 l 1 (line c.steps.store c.steps.merge.first.standing)))) c.lead-lead3.ensures c.pass-in-Both.ensures.wrote)) c.send_before_wait.ensures.wrote in
+    let w = midway job cmp key o old unfailed now place i.running slots i.clean c.in-Both.ensures c.send_before_wait.new.out wrote c.pass-in-Both.new.reader c.pass-in-Both.new.merge.first c.pass-in-Both.new.store c.in_ok-pass-in-Both.ensures.passes.1 in
     let others : c.pass-in-Both.new.merge.second ≡ c.steps.merge.second = c.pass-in-Both.ensures.others in
     let slots2 = both_each HasSlots c.pass-in-Both.new.merge.first c.steps.merge.second c.in_ok-pass-in-Both.ensures.placed.first i.placed.second in
     let x = err_from_is_err_and c.from_residual-in_err-advance-in-Both.result c.from_residual-in_err-advance-in-Both.ensures.1 in
     let moves = (subst (λ k. Advances (g.K.KeyOrder.key_of k sides.Second) (g.K.KeyOrder.order k) sides.Second c.steps.merge.second c.advance.new.self.second c.steps.second c.advance.new.reader c.pass-in-Both.new.store c.advance.new.store (Err c.in_err-advance-in-Both.field-0.0)) c.pass-in-Both.ensures.order (subst (λ (q : Sorted). Advances (g.K.KeyOrder.key_of c.pass-in-Both.new.merge.order sides.Second) (g.K.KeyOrder.order c.pass-in-Both.new.merge.order) sides.Second q c.advance.new.self.second c.steps.second c.advance.new.reader c.pass-in-Both.new.store c.advance.new.store (Err c.in_err-advance-in-Both.field-0.0)) others c.in_err-advance-in-Both.ensures.moves)) in
-    rw (x.1, x.2) (subst (λ k. IsMerge (comm_by (comm_job c.args.job.now) (g.K.KeyOrder.order k) (g.K.KeyOrder.key_of k)) (seen c.args.first.now c.args.second.now c.args.out.now c.args.store.now) (seen c.pass-in-Both.new.reader c.advance.new.reader c.pass-in-Both.new.out c.advance.new.store) (Err c.in_err-advance-in-Both.field-0.0)) i.order
-    (both_unread_second job cmp key o old unfailed now place i.running slots i.clean c.in-Both.ensures c.pass-in-Both.new.out wrote c.in_ok-pass-in-Both.ensures.passes.0 c.pass-in-Both.new.reader c.pass-in-Both.new.merge.first c.pass-in-Both.new.store w slots2 c.advance.new.reader c.advance.new.store c.in_err-advance-in-Both.field-0.0 moves))
+    rw (x.1, x.2) (subst (λ k. IsMerge (comm_by (comm_job c.args.job.now) (g.K.KeyOrder.order k) (g.K.KeyOrder.key_of k)) (seen c.args.first.now c.args.second.now c.args.out.now c.args.store.now) (seen c.pass-in-Both.new.reader c.advance.new.reader c.send_before_wait.new.out c.advance.new.store) (Err c.in_err-advance-in-Both.field-0.0)) i.order
+    (both_unread_second job cmp key o old unfailed now place i.running slots i.clean c.in-Both.ensures c.send_before_wait.new.out wrote c.pass-in-Both.new.reader c.pass-in-Both.new.merge.first c.pass-in-Both.new.store w slots2 c.in_ok-send_before_wait-in-Both.ensures.clean c.advance.new.reader c.advance.new.store c.in_err-advance-in-Both.field-0.0 moves))
 
 pub returns-in_err-advance-in-Both-clause-slots : goal.returns-in_err-advance-in-Both-clause-slots
 returns-in_err-advance-in-Both-clause-slots g c =

@@ -12,14 +12,14 @@ use Rattle.ptmerge.specs.Groups.{Gathered, Gathers, group, is_head}
 use Rattle.ptmerge.specs.Join.{alone_entry, join_by, join_key, pairs_of}
 use Rattle.ptmerge.specs.Keyed.{by_keys}
 use Rattle.ptmerge.specs.LinePasses.{PassesLine}
-use Rattle.ptmerge.specs.Merges.{seen}
+use Rattle.ptmerge.specs.Merges.{IsMerge, seen}
 use Rattle.ptmerge.specs.Places.{Comes, HasSlots}
 use Rattle.ptmerge.specs.Sides.{both}
 use Rattle.ptmerge.specs.Steps.{AreEqual, IsAlone, IsDecided, IsLent, inputs}
 use Rattle.ptmerge.proofs.CommTurns.{comes_slots, passes_slots, readable_of, slots_of, unfailed_of, wrote_as}
 use Rattle.ptmerge.proofs.JoinEntries.{join_pairs, written_alone}
 use Rattle.ptmerge.proofs.JoinSlots.{group_is}
-use Rattle.ptmerge.proofs.JoinTurns.{Between, Gathering, Pairing, Phased, alone_on, alone_stops, as_between, as_gathering, as_pairing, at_least, end_in, ended, fallen, gather_slots, gathered, gathers_on, group_closed, not_gathered, opens, pair_stops, pairs_next, pairs_on, starts_between}
+use Rattle.ptmerge.proofs.JoinTurns.{Between, Gathering, Pairing, Phased, alone_on, alone_stops, as_between, as_gathering, as_pairing, at_least, end_in, ended, fallen, gather_slots, gathered, gathering_sent, gathers_on, group_closed, not_gathered, not_sent, opens, pair_stops, pairs_next, pairs_on, starts_between}
 use Rattle.ptmerge.proofs.Orders.{IsKeyOrder}
 use Rattle.ptmerge.proofs.Pairs.{both_each}
 use Rattle.ptmerge.proofs.Splitting.{all_keys}
@@ -259,6 +259,45 @@ gather-requires-clause-group g c =
     let end : c.ending-ending.result ≡ job.end = c.ending-ending.ensures ∙ c.requires.ending.0 in
     end_in tool i.o pairs laws old i.unfailed c.turns.phase now place c.turns.end i.phased
 
+pub returns-in_err-send_before_wait-in-Gathering-clause-merged : goal.returns-in_err-send_before_wait-in-Gathering-clause-merged
+returns-in_err-send_before_wait-in-Gathering-clause-merged g c =
+    let i = c.turns.invariant in
+    let cmp = g.K.KeyOrder.order c.args.order in
+    let key = g.K.KeyOrder.key_of c.args.order in
+    let job = join_job c.args.job.now in
+    let tool = join_by job cmp key in
+    let pairs = pairs_of job in
+    let laws = join_pairs job cmp key in
+    let old = seen c.args.first.now c.args.second.now c.args.out.now c.args.store.now in
+    let now = seen c.turns.first c.turns.second c.turns.out c.turns.store in
+    let place = both c.turns.merge.first c.turns.merge.second in
+    let slots = slots_of c.turns.merge.first c.turns.merge.second c.turns.store i.placed in
+    let end : c.ending-ending.result ≡ job.end = c.ending-ending.ensures ∙ c.requires.ending.0 in
+    let r = as_gathering tool i.o pairs laws old i.unfailed c.turns.phase now place c.turns.end i.phased c.in-Gathering.is in
+    let x = err_from_is_err_and c.from_residual-in_err-send_before_wait-in-Gathering.result c.from_residual-in_err-send_before_wait-in-Gathering.ensures.1 in
+    let e = c.in_err-send_before_wait-in-Gathering.ensures.fault in
+    rw (x.1, x.2) (subst (λ f. IsMerge tool old (seen c.turns.first c.turns.second c.send_before_wait.new.out c.turns.store) (Err f)) (sym e.0)
+    (not_sent tool i.o pairs laws old i.unfailed now place c.turns.end r slots i.clean c.send_before_wait.new.out c.send_before_wait.ensures.wrote e.1))
+
+pub returns-in_err-send_before_wait-in-Gathering-clause-slots : goal.returns-in_err-send_before_wait-in-Gathering-clause-slots
+returns-in_err-send_before_wait-in-Gathering-clause-slots g c =
+    let i = c.turns.invariant in
+    let cmp = g.K.KeyOrder.order c.args.order in
+    let key = g.K.KeyOrder.key_of c.args.order in
+    let job = join_job c.args.job.now in
+    let tool = join_by job cmp key in
+    let pairs = pairs_of job in
+    let laws = join_pairs job cmp key in
+    let old = seen c.args.first.now c.args.second.now c.args.out.now c.args.store.now in
+    let now = seen c.turns.first c.turns.second c.turns.out c.turns.store in
+    let place = both c.turns.merge.first c.turns.merge.second in
+    let slots = slots_of c.turns.merge.first c.turns.merge.second c.turns.store i.placed in
+    let end : c.ending-ending.result ≡ job.end = c.ending-ending.ensures ∙ c.requires.ending.0 in
+    record { least = at_least tool i.o pairs laws old i.unfailed c.turns.phase now place c.turns.end i.phased; all = λ _. i.placed.slots }
+
+pub returns-in_err-send_before_wait-in-Gathering-clause-refused : goal.returns-in_err-send_before_wait-in-Gathering-clause-refused
+returns-in_err-send_before_wait-in-Gathering-clause-refused g c = λ few. absurd (omega (arith, few, c.turns.invariant.placed.slots))
+
 pub returns-in_err-end-in-Gathering-clause-merged : goal.returns-in_err-end-in-Gathering-clause-merged
 returns-in_err-end-in-Gathering-clause-merged g c =
     let i = c.turns.invariant in
@@ -273,10 +312,12 @@ returns-in_err-end-in-Gathering-clause-merged g c =
     let place = both c.turns.merge.first c.turns.merge.second in
     let slots = slots_of c.turns.merge.first c.turns.merge.second c.turns.store i.placed in
     let end : c.ending-ending.result ≡ job.end = c.ending-ending.ensures ∙ c.requires.ending.0 in
-    let r = as_gathering tool i.o pairs laws old i.unfailed c.turns.phase now place c.turns.end i.phased c.in-Gathering.is in
+    let r = gathering_sent tool i.o pairs laws old i.unfailed now place c.turns.end (as_gathering tool i.o pairs laws old i.unfailed c.turns.phase now place c.turns.end i.phased c.in-Gathering.is) slots i.clean c.send_before_wait.new.out c.send_before_wait.ensures.wrote in
+    let sent = seen c.turns.first c.turns.second c.send_before_wait.new.out c.turns.store in
+    let clean = c.in_ok-send_before_wait-in-Gathering.ensures.clean in
     let gathers = subst (λ k. Gathers (g.K.KeyOrder.key_of k sides.Second) (g.K.KeyOrder.order k) c.turns.merge.second c.gather.new.merge.second c.turns.second c.gather.new.reader c.turns.store c.gather.new.store c.turns.end (Err c.in_err-end-in-Gathering.field-0.0)) i.order c.in_err-end-in-Gathering.ensures.gathers in
     let x = err_from_is_err_and c.from_residual-in_err-end-in-Gathering.result c.from_residual-in_err-end-in-Gathering.ensures.1 in
-    rw (x.1, x.2) (not_gathered tool i.o pairs laws old i.unfailed now place c.turns.end r slots i.clean c.gather.new.reader c.gather.new.merge.second c.gather.new.store c.in_err-end-in-Gathering.field-0.0 gathers)
+    rw (x.1, x.2) (not_gathered tool i.o pairs laws old i.unfailed sent place c.turns.end r slots clean c.gather.new.reader c.gather.new.merge.second c.gather.new.store c.in_err-end-in-Gathering.field-0.0 gathers)
 
 pub returns-in_err-end-in-Gathering-clause-slots : goal.returns-in_err-end-in-Gathering-clause-slots
 returns-in_err-end-in-Gathering-clause-slots g c =
@@ -329,16 +370,18 @@ turns-preserved-then-not-has_key_of g c =
     let place = both c.turns.merge.first c.turns.merge.second in
     let slots = slots_of c.turns.merge.first c.turns.merge.second c.turns.store i.placed in
     let end : c.ending-ending.result ≡ job.end = c.ending-ending.ensures ∙ c.requires.ending.0 in
-    let r = as_gathering tool i.o pairs laws old i.unfailed c.turns.phase now place c.turns.end i.phased c.in-Gathering.is in
+    let r = gathering_sent tool i.o pairs laws old i.unfailed now place c.turns.end (as_gathering tool i.o pairs laws old i.unfailed c.turns.phase now place c.turns.end i.phased c.in-Gathering.is) slots i.clean c.send_before_wait.new.out c.send_before_wait.ensures.wrote in
+    let sent = seen c.turns.first c.turns.second c.send_before_wait.new.out c.turns.store in
+    let clean = c.in_ok-send_before_wait-in-Gathering.ensures.clean in
     let is = c.in_ok-end-in-Gathering.ensures.gathers in
     let moved = subst (λ k. Gathered (g.K.KeyOrder.key_of k sides.Second) (g.K.KeyOrder.order k) c.turns.merge.second c.gather.new.merge.second c.turns.second c.gather.new.reader c.turns.store c.gather.new.store c.turns.end) i.order is.1 in
-    let goes = gathered tool i.o pairs laws old i.unfailed now place c.turns.end r slots i.clean c.gather.new.reader c.gather.new.merge.second c.gather.new.store moved in
+    let goes = gathered tool i.o pairs laws old i.unfailed sent place c.turns.end r slots clean c.gather.new.reader c.gather.new.merge.second c.gather.new.store moved in
     let next = c.gather.new.merge.second in
     let after = c.gather.new.store in
     let says = subst (λ k. c.has_key_of.result ≡ (is_head next.stand && bytes_eq (g.K.KeyOrder.key_of k sides.Second (line after next.standing)) (g.K.KeyOrder.key_of k sides.Second c.line.result.now))) (c.gather.ensures.order ∙ i.order) c.has_key_of.ensures
     ∙ ap (λ (l : List ℕ). is_head next.stand && bytes_eq (key sides.Second (line after next.standing)) (key sides.Second l)) c.line.ensures in
-    let then_now = seen c.turns.first c.gather.new.reader c.turns.out c.gather.new.store in
-    let t = pairs_next tool i.o pairs laws old i.unfailed now place c.turns.end r slots i.clean c.gather.new.reader next after goes c.has_key_of.result says c.if-not-has_key_of.true in
+    let then_now = seen c.turns.first c.gather.new.reader c.send_before_wait.new.out c.gather.new.store in
+    let t = pairs_next tool i.o pairs laws old i.unfailed sent place c.turns.end r slots clean c.gather.new.reader next after goes c.has_key_of.result says c.if-not-has_key_of.true in
     let u = subst (λ (e : ℕ). Pairing tool i.o pairs laws old i.unfailed then_now (both c.gather.new.merge.first next) e) (sym is.0) (subst (λ (q : Sorted). Pairing tool i.o pairs laws old i.unfailed then_now (both q next) (c.turns.end + 1)) (sym c.gather.ensures.other) t) in
     record {
       o = i.o;
@@ -347,7 +390,7 @@ turns-preserved-then-not-has_key_of g c =
       placed = c.in_ok-end-in-Gathering.ensures.placed;
       lent1 = subst (λ (q : Sorted). IsLent q c.turns.first) (sym c.gather.ensures.other) i.lent1;
       lent2 = c.in_ok-end-in-Gathering.ensures.lent;
-      clean = i.clean;
+      clean = clean;
       order = c.gather.ensures.order ∙ i.order;
     }
 
@@ -365,16 +408,18 @@ turns-preserved-else-not-has_key_of g c =
     let place = both c.turns.merge.first c.turns.merge.second in
     let slots = slots_of c.turns.merge.first c.turns.merge.second c.turns.store i.placed in
     let end : c.ending-ending.result ≡ job.end = c.ending-ending.ensures ∙ c.requires.ending.0 in
-    let r = as_gathering tool i.o pairs laws old i.unfailed c.turns.phase now place c.turns.end i.phased c.in-Gathering.is in
+    let r = gathering_sent tool i.o pairs laws old i.unfailed now place c.turns.end (as_gathering tool i.o pairs laws old i.unfailed c.turns.phase now place c.turns.end i.phased c.in-Gathering.is) slots i.clean c.send_before_wait.new.out c.send_before_wait.ensures.wrote in
+    let sent = seen c.turns.first c.turns.second c.send_before_wait.new.out c.turns.store in
+    let clean = c.in_ok-send_before_wait-in-Gathering.ensures.clean in
     let is = c.in_ok-end-in-Gathering.ensures.gathers in
     let moved = subst (λ k. Gathered (g.K.KeyOrder.key_of k sides.Second) (g.K.KeyOrder.order k) c.turns.merge.second c.gather.new.merge.second c.turns.second c.gather.new.reader c.turns.store c.gather.new.store c.turns.end) i.order is.1 in
-    let goes = gathered tool i.o pairs laws old i.unfailed now place c.turns.end r slots i.clean c.gather.new.reader c.gather.new.merge.second c.gather.new.store moved in
+    let goes = gathered tool i.o pairs laws old i.unfailed sent place c.turns.end r slots clean c.gather.new.reader c.gather.new.merge.second c.gather.new.store moved in
     let next = c.gather.new.merge.second in
     let after = c.gather.new.store in
     let says = subst (λ k. c.has_key_of.result ≡ (is_head next.stand && bytes_eq (g.K.KeyOrder.key_of k sides.Second (line after next.standing)) (g.K.KeyOrder.key_of k sides.Second c.line.result.now))) (c.gather.ensures.order ∙ i.order) c.has_key_of.ensures
     ∙ ap (λ (l : List ℕ). is_head next.stand && bytes_eq (key sides.Second (line after next.standing)) (key sides.Second l)) c.line.ensures in
-    let then_now = seen c.turns.first c.gather.new.reader c.turns.out c.gather.new.store in
-    let t = gathers_on tool i.o pairs laws old i.unfailed now place c.turns.end r slots i.clean c.gather.new.reader next after goes c.has_key_of.result says c.if-not-has_key_of.false in
+    let then_now = seen c.turns.first c.gather.new.reader c.send_before_wait.new.out c.gather.new.store in
+    let t = gathers_on tool i.o pairs laws old i.unfailed sent place c.turns.end r slots clean c.gather.new.reader next after goes c.has_key_of.result says c.if-not-has_key_of.false in
     let u = subst (λ (e : ℕ). Gathering tool i.o pairs laws old i.unfailed then_now (both c.gather.new.merge.first next) e) (sym is.0) (subst (λ (q : Sorted). Gathering tool i.o pairs laws old i.unfailed then_now (both q next) (c.turns.end + 1)) (sym c.gather.ensures.other) t) in
     record {
       o = i.o;
@@ -383,7 +428,7 @@ turns-preserved-else-not-has_key_of g c =
       placed = c.in_ok-end-in-Gathering.ensures.placed;
       lent1 = subst (λ (q : Sorted). IsLent q c.turns.first) (sym c.gather.ensures.other) i.lent1;
       lent2 = c.in_ok-end-in-Gathering.ensures.lent;
-      clean = i.clean;
+      clean = clean;
       order = c.gather.ensures.order ∙ i.order;
     }
 

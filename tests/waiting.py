@@ -1,0 +1,240 @@
+#!/usr/bin/env python3
+"""Gives the built program its input line by line, and sees that what is decided comes out before more is given.
+
+  python3 tests/waiting.py PROGRAM
+
+The input comes over a pipe, over a FIFO that is named as an operand, and from a pseudo-terminal. GNU's tools fail this over
+pipes: they keep what they write until 4,096 bytes are together.
+"""
+import errno
+import fcntl
+import os
+import pty
+import select
+import signal
+import subprocess
+import sys
+import tempfile
+import termios
+import time
+import tty
+
+# How long anything may take, in seconds; another program may use the processor meanwhile.
+MOST = 20
+FILE = "file"
+
+
+def lines(words, *steps, last=""):
+    """A case: the words, and what is given, each with what has to come out before the next; and what comes at the end.
+    (@ is the input, & another one; a step that gives to the other is (text, out, 1).)"""
+    return words, [(*it, 0) if len(it) == 2 else it for it in steps], last
+
+
+CASES = {
+    "cut": [
+        lines("cut -b 1 @", ("ab\n", "a\n"), ("cd\n", "c\n"), ("\n", "\n"), ("ef", ""), last="e\n"),
+        lines("cut -c 2- @", ("abc\n", "bc\n"), ("de\nf\n", "e\n\n")),
+        lines("cut -b 1 -z @", ("ab\0", "a\0"), ("c\nd\0", "c\0")),
+        lines("cut -f 2 @", ("a\tb\n", "b\n"), ("c\n", "c\n"), ("d\te\nf\tg\n", "e\ng\n"), ("h\t", ""), ("i\n", "i\n")),
+        lines("cut -d : -f 1 -s @", ("a:b\n", "a\n"), ("c\n", ""), ("d:\n", "d\n")),
+        lines("cut -d : -f 1 -z @", ("a:b\0", "a\0"), ("c\0", "c\0")),
+        # What a file gave comes out before the next input is waited for.
+        lines("cut -c 1 file @", ("", "1\n2\n"), ("ab\n", "a\n")),
+        lines("cut -d 2 -f 1 file @", ("", "1\n\n"), ("a2\n", "a\n")),
+        lines("cut -c 1 @ file", ("ab\n", "a\n"), last="1\n2\n"),
+    ],
+    "tr": [
+        lines("tr a-z A-Z", ("ab\n", "AB\n"), ("c", "C"), ("d\n", "D\n")),
+        lines("tr -d a", ("abc\n", "bc\n"), ("aa\n", "\n"), ("d", "d")),
+        lines("tr -s a", ("aab\n", "ab\n"), ("a", "a"), ("a\n", "\n")),
+        lines("tr -ds a b", ("aab\n", "b\n"), ("abb\n", "b\n")),
+    ],
+    "uniq": [
+        lines("uniq @", ("a\n", ""), ("a\n", ""), ("b\n", "a\n"), ("c\n", "b\n"), ("c\nd\ne\n", "c\nd\n"), last="e\n"),
+        lines("uniq -c @", ("a\n", ""), ("a\n", ""), ("b\n", "2 a\n"), ("c\n", "1 b\n"), last="1 c\n"),
+        lines("uniq -d @", ("a\n", ""), ("a\n", ""), ("b\n", "a\n"), ("b\nc\n", "b\n")),
+        lines("uniq -u @", ("a\n", ""), ("b\n", "a\n"), ("b\n", ""), ("c\n", ""), ("d\n", "c\n"), last="d\n"),
+        lines("uniq -z @", ("a\0", ""), ("b\0", "a\0"), ("c\0", "b\0"), last="c\0"),
+    ],
+    "paste in series": [
+        lines("paste -s @", ("a\n", "a"), ("b\n", "\tb"), ("c\nd\n", "\tc\td"), last="\n"),
+        lines("paste -s -z -d , @", ("a\0", "a"), ("b\0", ",b"), last="\0"),
+        lines("paste -s file @", ("", "1\t23\n"), ("a\n", "a"), ("b\n", "\tb"), last="\n"),
+    ],
+    "paste in rows": [
+        lines("paste @", ("a\n", "a\n"), ("b\nc\n", "b\nc\n")),
+        lines("paste -d , @ @", ("a\n", ""), ("b\n", "a,b\n"), ("c\nd\n", "c,d\n"), ("e\n", ""), last="e,\n"),
+        lines("paste -z -d , @ @", ("a\0", ""), ("b\0", "a,b\0")),
+        lines("paste -d , file @", ("a\n", "1,a\n"), ("b\n", "23,b\n"), ("c\n", ",c\n")),
+        lines("paste -d , @ &", ("a\n", ""), ("x\n", "a,x\n", 1), ("y\n", "", 1), ("b\n", "b,y\n")),
+    ],
+    # Decided are the entries whose key is below the last key of each input that may go on.
+    "comm": [
+        lines("comm @ file", ("0\n", ""), ("1\n", "0\n"), ("22\n", "\t\t1\n"), ("24\n", "22\n"), last="\t23\n24\n"),
+        lines("comm -3 @ &", ("a\n", ""), ("b\n", "", 1), ("b\n", "a\n"), ("c\n", ""), ("d\n", "", 1), ("e\n", "c\n"), last="\td\ne\n"),
+        lines("comm -z @ &", ("a\0", ""), ("b\0", "", 1), ("b\0", "a\0"), last="\t\tb\0"),
+    ],
+    "join": [
+        lines("join @ file", ("0 x\n", ""), ("1 y\n", ""), ("2 z\n", "1 y\n"), ("23 u\n", ""), last="23 u\n"),
+        lines("join -a 1 @ &", ("a 1\n", ""), ("b 2\n", "", 1), ("b 3\n", "a 1\n"), ("c 4\n", ""), ("d 5\n", "b 3 2\n", 1), ("d 6\n", "c 4\n"), last="d 6 5\n"),
+        lines("join -z @ &", ("a\0", ""), ("a\0", "", 1), ("b\0", ""), ("b\0", "a\0", 1), last="b\0"),
+    ],
+}
+WAYS = ["pipe", "FIFO", "terminal"]
+
+
+class Late(Exception):
+    """Something did not come in time."""
+
+
+def fifo_to_write(path):
+    """The end of a FIFO for who writes, once somebody reads it."""
+    until = time.monotonic() + MOST
+    while time.monotonic() < until:
+        try:
+            end = os.open(path, os.O_WRONLY | os.O_NONBLOCK)
+            fcntl.fcntl(end, fcntl.F_SETFL, 0)
+            return end
+        except OSError as why:
+            if why.errno != errno.ENXIO:
+                raise
+            time.sleep(0.002)
+    raise Late(f"{os.path.basename(path)} was not opened")
+
+
+def quiet_terminal():
+    """A pseudo-terminal that takes lines and shows none."""
+    near, far = pty.openpty()
+    how = termios.tcgetattr(far)
+    how[3] &= ~termios.ECHO
+    termios.tcsetattr(far, termios.TCSANOW, how)
+    return near, far
+
+
+def bare_terminal():
+    """A pseudo-terminal that changes nothing of what is written to it."""
+    near, far = pty.openpty()
+    tty.setraw(far)
+    return near, far
+
+
+class Run:
+    """The program, with its input by one of the ways."""
+
+    def __init__(self, program, words, way, room):
+        self.way, self.room, self.came, self.ends = way, room, b"", {}
+        names = {"@": "first" if way == "FIFO" else "-", "&": "second"}
+        self.fifos = [it for it, mark in enumerate(("@", "&")) if mark in words and names[mark] != "-"]
+        for it in self.fifos:
+            os.mkfifo(f"{room}/{names['@&'[it]]}")
+        given, into = quiet_terminal() if way == "terminal" else os.pipe()[::-1]
+        self.out, out = bare_terminal() if way == "terminal" else os.pipe()
+        if way == "FIFO":
+            os.close(given)
+        else:
+            self.ends[0] = given
+        words = [program, *(names.get(it, it) for it in words)]
+        self.child = subprocess.Popen(words, stdin=into, stdout=out, cwd=room, close_fds=True, start_new_session=True)
+        os.close(into)
+        os.close(out)
+
+    def open(self):
+        # The program opens all operands before it reads.
+        for it in self.fifos:
+            self.end_of(it)
+
+    def end_of(self, which):
+        if which not in self.ends:
+            self.ends[which] = fifo_to_write(f"{self.room}/{('first', 'second')[which]}")
+        return self.ends[which]
+
+    def give(self, which, text):
+        # (A terminal hands over what is no whole line once control-D is typed.)
+        pushed = "" if self.way != "terminal" or which or text.endswith("\n") else "\x04"
+        os.write(self.end_of(which), (text + pushed).encode())
+
+    def end(self):
+        for which, end in self.ends.items():
+            if self.way == "terminal" and which == 0:
+                os.write(end, b"\x04")
+            else:
+                os.close(end)
+                self.ends[which] = None
+
+    def wait_for(self, count):
+        """Reads until so many bytes have come in all, or with None until the end."""
+        until = time.monotonic() + MOST
+        while count is None or len(self.came) < count:
+            ready, _, _ = select.select([self.out], [], [], max(until - time.monotonic(), 0))
+            if not ready:
+                raise Late(f"only {self.came!r} came")
+            try:
+                piece = os.read(self.out, 65536)
+            except OSError:
+                # That is how the end of a terminal is told.
+                piece = b""
+            if not piece:
+                if count is None:
+                    return
+                raise Late(f"it ended with {self.came!r}")
+            self.came += piece
+
+    def close(self):
+        if self.child.poll() is None:
+            self.child.send_signal(signal.SIGKILL)
+        self.child.wait()
+        for end in [self.out, *(it for it in self.ends.values() if it is not None)]:
+            os.close(end)
+
+
+def what_failed(program, case, way):
+    """Tries a case; answers what was wrong, or nothing."""
+    words, steps, last = case
+    with tempfile.TemporaryDirectory() as room:
+        with open(f"{room}/{FILE}", "w", encoding="ascii") as it:
+            it.write("1\n23\n")
+        run = Run(program, words.split(), way, room)
+        wanted, at = b"", "the start"
+        try:
+            run.open()
+            for number, (text, out, which) in enumerate(steps):
+                at = f"step {number + 1}, {text!r}"
+                if text:
+                    run.give(which, text)
+                wanted += out.encode()
+                run.wait_for(len(wanted))
+            at = "the end"
+            wanted += last.encode()
+            run.end()
+            run.wait_for(None)
+            if run.came != wanted:
+                return f"{run.came!r} came, and not {wanted!r}"
+            if run.child.wait(MOST):
+                return f"the status is {run.child.returncode}"
+        except (Late, BrokenPipeError) as why:
+            return f"at {at}: {why}, and {wanted!r} was wanted"
+        finally:
+            run.close()
+    return ""
+
+
+def main(program):
+    program = os.path.realpath(program)
+    tried = bad = 0
+    for cases in CASES.values():
+        for case in cases:
+            for way in WAYS:
+                # `tr` has no operands.
+                if way == "FIFO" and "@" not in case[0].split():
+                    continue
+                tried += 1
+                why = what_failed(program, case, way)
+                if why:
+                    bad += 1
+                    print(f"FAILED: {case[0]}, by a {way}: {why}")
+    print(f"waiting: {tried - bad} passed, {bad} failed")
+    return 1 if bad else 0
+
+
+if __name__ == "__main__":
+    sys.exit(main(sys.argv[1]) if len(sys.argv) == 2 else __doc__)
