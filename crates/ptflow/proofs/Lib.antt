@@ -20,6 +20,7 @@ pub mod Nths
 pub mod OpenLines
 pub mod OpenRuns
 pub mod PassLemmas
+pub mod PasteKeepsUp
 pub mod PasteLemmas
 pub mod PasteRows
 pub mod ReaderFacts

@@ -1,8 +1,10 @@
 pub mod Amid
+pub mod Backing
 pub mod Bounds
 pub mod CommEntries
 pub mod CommRows
 pub mod CommTurns
+pub mod Deciding
 pub mod EntryLemmas
 pub mod FieldLemmas
 pub mod Got
@@ -30,3 +32,4 @@ pub mod Standing
 pub mod Starting
 pub mod Stopping
 pub mod Turning
+pub mod Working

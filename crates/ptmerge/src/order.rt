@@ -125,6 +125,7 @@ impl KeyOrder for FieldKeys {
 
     ghost order = { λ s. byte_cmp };
 
+    #[inline(always)]
     fn key<'a>(&self, side: Side, line: &'a [u8]) -> &'a [u8] {
         let number = match side {
             Side::First => self.first,

@@ -380,13 +380,16 @@ const BESIDE_UNWRITTEN: &[Unwritten] = &[
     (1, 5, u64::MAX, "1\tx\n2"),
 ];
 
+// The lines of a file are sent before its end is asked for, and the newline behind them comes with the end.
 const SERIES_UNWRITTEN: &[Unwritten] = &[
     (3, usize::MAX, 0, ""),
     (3, usize::MAX, 1, "1\t2"),
-    (3, usize::MAX, 2, "1\t2\t3\n"),
-    (3, usize::MAX, 3, "1\t2\t3\nx\ty"),
-    (3, usize::MAX, 4, SERIES_OUT),
-    (usize::MAX, usize::MAX, 1, SERIES_OUT),
+    (3, usize::MAX, 2, "1\t2\t3"),
+    (3, usize::MAX, 3, "1\t2\t3\n"),
+    (3, usize::MAX, 4, "1\t2\t3\nx\ty"),
+    (3, usize::MAX, 5, SERIES_OUT),
+    (usize::MAX, usize::MAX, 1, "1\t2\t3"),
+    (usize::MAX, usize::MAX, 4, SERIES_OUT),
     (usize::MAX, 4, u64::MAX, "1\t2\t"),
     (1, 7, u64::MAX, "1\t2\t3\nx"),
 ];

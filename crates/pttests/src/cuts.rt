@@ -159,16 +159,19 @@ fn a_read_that_fails_amid_a_line(rt: HostRuntime) -> Result<(), Fail> {
     expect(&rt, rt.alloc(), &case, &expected)
 }
 
-// How many bytes a call takes, how many in all, how many calls pass, and what is written. The last call is a flush.
+// How many bytes a call takes, how many in all, how many calls pass, and what is written. The last newline comes behind the
+// end, and all else is sent before that is asked for. The last call is a flush.
 const UNWRITTEN: &[(usize, usize, u64, &str)] = &[
     (3, usize::MAX, 0, ""),
     (3, usize::MAX, 1, "bd\n"),
     (3, usize::MAX, 2, "bd\nb\n\n"),
-    (3, usize::MAX, 3, "bd\nb\n\ny\n"),
+    (3, usize::MAX, 3, "bd\nb\n\ny"),
+    (3, usize::MAX, 4, "bd\nb\n\ny\n"),
     (1, usize::MAX, 2, "bd"),
     (1, usize::MAX, 8, "bd\nb\n\ny\n"),
     (usize::MAX, usize::MAX, 0, ""),
-    (usize::MAX, usize::MAX, 1, "bd\nb\n\ny\n"),
+    (usize::MAX, usize::MAX, 1, "bd\nb\n\ny"),
+    (usize::MAX, usize::MAX, 2, "bd\nb\n\ny\n"),
     (usize::MAX, 4, u64::MAX, "bd\nb"),
     (1, 0, u64::MAX, ""),
 ];
@@ -193,7 +196,7 @@ fn each_write_and_the_flush_fail(rt: HostRuntime) -> Result<(), Fail> {
 }
 
 // How many bytes a call takes, and how many calls that is with the flush.
-const ENOUGH: &[(usize, u64)] = &[(1, 9), (3, 4), (usize::MAX, 2)];
+const ENOUGH: &[(usize, u64)] = &[(1, 9), (3, 5), (usize::MAX, 3)];
 
 #[test]
 fn as_many_calls_as_it_takes(rt: HostRuntime) -> Result<(), Fail> {

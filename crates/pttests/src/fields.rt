@@ -169,12 +169,14 @@ fn each_read_fails(rt: HostRuntime) -> Result<(), Fail> {
 
 const FILES: &[Input] = &[Input::Whole(F), Input::Whole(G)];
 
-// How many bytes a call takes, how many in all, how many calls pass, and what is written. The last call is a flush.
+// How many bytes a call takes, how many in all, how many calls pass, and what is written. What is decided is
+// sent before the end of a file is asked for. The last call is a flush.
 const UNWRITTEN: &[(usize, usize, u64, &str)] = &[
     (3, usize::MAX, 0, ""),
     (3, usize::MAX, 1, "b\nc"),
-    (3, usize::MAX, 2, "b\nc\nd\n"),
-    (3, usize::MAX, 3, CUT),
+    (3, usize::MAX, 2, "b\nc\n"),
+    (3, usize::MAX, 3, "b\nc\nd\n"),
+    (3, usize::MAX, 4, CUT),
     (1, usize::MAX, 5, "b\nc\nd"),
     (1, usize::MAX, 8, CUT),
     (usize::MAX, 5, u64::MAX, "b\nc\nd"),

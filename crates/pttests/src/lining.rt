@@ -43,7 +43,7 @@ fn pushes(
     wanted.extend_from_slice(lead)?;
     wanted.extend_from_slice(line)?;
     wanted.push(b'\n')?;
-    same(rt, &out.push_line(lead, line, b'\n'), &Ok(()));
+    same(rt, &out.push_line(lead, line, b"\n"), &Ok(()));
     same(rt, &out.push(b"next"), &Ok(()));
     wanted.extend_from_slice(b"next")?;
     same(rt, &out.finish(), &Ok(()));
@@ -74,7 +74,7 @@ fn sent(rt: &impl Abort, alloc: Global, front: usize) -> Result<usize, Fail> {
     bytes.resize(front, b'.')?;
     let mut out = Out::new(Kept::new(alloc));
     same(rt, &out.push(&bytes), &Ok(()));
-    same(rt, &out.push_line(b"\t", b"line", 0), &Ok(()));
+    same(rt, &out.push_line(b"\t", b"line", b"\0"), &Ok(()));
     let kept = out.into_sink();
     Ok(kept.bytes().len())
 }
@@ -90,11 +90,11 @@ fn a_line_for_which_there_is_room_is_staged(rt: HostRuntime) -> Result<(), Fail>
 #[test]
 fn a_line_is_not_pushed_after_a_fault(rt: HostRuntime) {
     let mut out = Out::new(Kept::limited(rt.alloc(), 3, 4, u64::MAX));
-    same(&rt, &out.push_line(b"\t", b"line", b'\n'), &Ok(()));
+    same(&rt, &out.push_line(b"\t", b"line", b"\n"), &Ok(()));
     same(&rt, &out.finish(), &Err(WriteFault::Write));
     same(
         &rt,
-        &out.push_line(b"", b"more", b'\n'),
+        &out.push_line(b"", b"more", b"\n"),
         &Err(WriteFault::Write),
     );
     let kept = out.into_sink();

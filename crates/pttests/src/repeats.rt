@@ -150,8 +150,9 @@ type Unwritten = (usize, usize, u64, &'static str);
 const UNWRITTEN: &[Unwritten] = &[
     (2, usize::MAX, 0, ""),
     (2, usize::MAX, 1, "ab"),
-    (2, usize::MAX, 2, "ab\nc"),
-    (2, usize::MAX, 3, ONCE),
+    (2, usize::MAX, 2, "ab\n"),
+    (2, usize::MAX, 3, "ab\ncd"),
+    (2, usize::MAX, 4, ONCE),
     (usize::MAX, 5, u64::MAX, "ab\ncd"),
 ];
 
