@@ -49,12 +49,11 @@ fn push_entry<W: Sink>(
     if hidden {
         return Ok(());
     }
-    out.push(lead)?;
-    out.push(line)?;
-    out.push(&[ending])
+    out.push_line(lead, line, &[ending])
 }
 
 // Pushes the entry of the line at which an input stands, and goes to its next line.
+#[inline(always)]
 fn pass<K: KeyOrder, A: Allocator + Copy, S: Source, R: Source, W: Sink>(
     merge: &mut Merge<K>,
     side: Side,
