@@ -1,6 +1,5 @@
 -- What of the operands was decided two blocks earlier, one more operand at a time; and what of it reached the sink.
-use Rattle.std.proofs.Common.{◌≡◌, ℕ, zero, suc, ◌+◌, ◌-◌, ◌≤◌, Bool, true, false, List, [], ◌∷◌, ◌++◌, Option, Some, None, length, take, drop, max, refl, sym, ◌∙◌, ap, subst, arith, append_assoc, length-append, length-drop, take-append-drop}
-use Rattle.std.specs.Prelude.{flat_map}
+use Rattle.std.proofs.Common.{◌≡◌, ℕ, zero, suc, ◌+◌, ◌≤◌, Bool, false, List, [], ◌∷◌, ◌++◌, Option, Some, None, length, take, drop, refl, sym, ◌∙◌, ap, subst, arith, append_assoc, length-append, length-drop, take-append-drop}
 use Rattle.std.specs.Io.KnownBytes.{append_known}
 use Rattle.std.proofs.lemmas.List.{append-nil, nil_from_length}
 use Rattle.std.proofs.Math.Seq.{take-append_seam}
@@ -63,7 +62,7 @@ sends_behind was mid is pushed bytes wrote clean s = by_known was.taken refl
         length-append wrote.kept.front s.sent,
         length-append pushed bytes,
         ap known_length (sym (ap (λ (k : Option (List ℕ)). append_known (append_known k wrote.kept.front) mid.staged) is_known) ∙ sym (ap (λ (k : Option (List ℕ)). append_known k mid.staged) wrote.kept.is) ∙ wrote.whole clean
-        ∙ ap (λ (k : Option (List ℕ)). append_known (append_known k was.staged) pushed) is_known),
+            ∙ ap (λ (k : Option (List ℕ)). append_known (append_known k was.staged) pushed) is_known),
         length-append (known ++ wrote.kept.front) mid.staged,
         length-append known wrote.kept.front,
         length-append (known ++ was.staged) pushed,
