@@ -5,9 +5,9 @@ use crate::commands::{
     over_files, over_standard, run_over, writes,
 };
 use crate::comparing::same;
-use crate::texts::{ENDINGS, text_of, text_with};
+use crate::texts::{ENDINGS, byte_at, text_of, text_with};
 use ptfakes::Refusing;
-use std::alloc::Global;
+use std::alloc::{AllocError, Global};
 use std::process::Abort;
 use std::test::Fail;
 
@@ -104,6 +104,69 @@ fn lines_across_blocks(rt: HostRuntime) -> Result<(), Fail> {
         for length in LENGTHS {
             cut_across_blocks(&rt, rt.alloc(), *length, *ending)?;
         }
+    }
+    Ok(())
+}
+
+// The second, fourth and fifth byte of lines of these lengths.
+fn chosen_of(alloc: Global, lengths: &[usize], ending: u8) -> Result<Vec<u8>, AllocError> {
+    let mut chosen = Vec::new(alloc);
+    for length in lengths {
+        for place in 0..*length {
+            if place == 1 || place == 3 || place == 4 {
+                chosen.push(byte_at(place))?;
+            }
+        }
+        chosen.push(ending)?;
+    }
+    Ok(chosen)
+}
+
+// Short lines behind one of this length, so that each of their ends stands at each place of 64 bytes once.
+fn cut_behind(
+    rt: &impl Abort,
+    alloc: Global,
+    length: usize,
+    (ending, other, flags): (u8, u8, &str),
+) -> Result<(), Fail> {
+    let lengths = [length, 0, 1, 4, 15, 16, 17, 64, 0, 0, 5];
+    let text = text_with(alloc, &lengths, ending, true, other)?;
+    let cut = chosen_of(alloc, &lengths, ending)?;
+    let option = format!(in alloc; "{flags}b")?;
+    let words = ["cut", option.as_str(), "2,4-5"];
+    for size in SIZES {
+        let case = over_standard(&words, &text, *size);
+        let report = run_over(rt, alloc, alloc, &case)?;
+        assert!(rt; report.out.bytes() == cut.as_slice(), "{length} by {size}");
+    }
+    Ok(())
+}
+
+#[test]
+fn ends_at_each_place_of_a_chunk(rt: HostRuntime) -> Result<(), Fail> {
+    for ending in ENDINGS {
+        for length in 0..65 {
+            cut_behind(&rt, rt.alloc(), length, *ending)?;
+        }
+    }
+    Ok(())
+}
+
+#[test]
+fn empty_lines_stay(rt: HostRuntime) -> Result<(), Fail> {
+    let text = text_of(rt.alloc(), &[3, 0, 0, 0, 0, 0, 0, 0, 0], b'\n', true)?;
+    let mut lines = Vec::new(rt.alloc());
+    for _more in 0..40 {
+        lines.extend_from_slice(&text)?;
+    }
+    let empty = [b'\n'; 200];
+    for size in SIZES {
+        let case = over_standard(&["cut", "-c", "1-3"], &lines, *size);
+        let report = run_over(&rt, rt.alloc(), rt.alloc(), &case)?;
+        assert!(rt; report.out.bytes() == lines.as_slice(), "by {size}");
+        let case = over_standard(&["cut", "-c", "2-"], &empty, *size);
+        let report = run_over(&rt, rt.alloc(), rt.alloc(), &case)?;
+        assert!(rt; report.out.bytes() == empty.as_slice(), "by {size}");
     }
     Ok(())
 }
