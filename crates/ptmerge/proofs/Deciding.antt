@@ -1,5 +1,5 @@
 -- What is decided of two inputs is a beginning of what was pushed, where it is decided by passed lines.
-use Rattle.std.proofs.Common.{◌≡◌, ℕ, ◌||◌, Bool, true, false, cond, List, [], ◌∷◌, ◌++◌, Option, None, map, refl, sym, ◌∙◌, ap}
+use Rattle.std.proofs.Common.{◌≡◌, ℕ, ◌||◌, Bool, true, false, cond, List, [], ◌∷◌, ◌++◌, Option, Some, None, map, refl, sym, ◌∙◌, ap}
 use Rattle.std.proofs.lemmas.List.{append-nil}
 use Rattle.std.proofs.lemmas.List.Elements.{filter-append}
 use Rattle.std.specs.List.{last_or}
@@ -8,12 +8,15 @@ use Rattle.ptlines.specs.Inputs.{Begins}
 use Rattle.ptlines.specs.Text.{text}
 use Rattle.ptlines.proofs.TextLaws.{text-append}
 use Rattle.ptmerge.specs.declared.order.Side.{Side}
-use Rattle.ptmerge.specs.Keyed.{Lines, Tool, by_keys, decided_entries, fall, is_below, is_decided, is_past, ordered_part}
-use Rattle.ptmerge.specs.Orders.{Key}
+use Rattle.ptmerge.specs.declared.order.Side.TheVariants.{First, Second}
+use Rattle.ptmerge.specs.Keyed.{Lines, Tool, Fall, by_keys, decided_entries, disorder, disorder_of, fall, is_below, is_decided, is_past, is_settled, ordered_part}
+use Rattle.ptmerge.specs.Orders.{Cmp, Key}
+use Rattle.ptmerge.specs.Sides.{other}
+use Rattle.ptmerge.proofs.Bounds.{FallFrom}
 use Rattle.ptmerge.proofs.Least.{EachKey, EachKey-weaker}
-use Rattle.ptmerge.proofs.Orders.{IsKeyOrder}
+use Rattle.ptmerge.proofs.Orders.{IsKeyOrder, AtMost}
 use Rattle.ptmerge.proofs.PartsByKey.{by_keys_kept}
-use Rattle.ptmerge.proofs.Passing.{down_decided, not_decided}
+use Rattle.ptmerge.proofs.Passing.{down_decided, last_has, not_below, not_decided}
 use Rattle.ptmerge.proofs.Splitting.{all_keys, down_begins}
 
 kept_none : (w : List ℕ → Bool) (key : Key) (ls : Lines) → EachKey (λ k. w k ≡ false) key ls → filter (λ line. w (key line)) ls ≡ []
@@ -56,3 +59,36 @@ decided_of_passed tool o ended ls p of going rises differ =
     kept side =
         let d = differ side in
         kept_same (is_decided tool ended ls) (tool.key side) (ordered_part tool.cmp (tool.key side) (ls side)) (p side) d.rest d.tail d.same (unwanted side d.rest d.none_rest) (unwanted side d.tail d.none_tail)
+
+-- ---- a disorder
+
+-- what is at least each key is not below the last one
+below_last : (cmp : Cmp) → IsKeyOrder cmp → (key : Key) (xs : Lines) (e : List ℕ) → EachKey (λ k. AtMost cmp k e) key xs → is_below cmp e (last_or None (map key xs)) ≡ false
+below_last cmp o key xs e up = by (last_or None (map key xs)) refl
+  where
+    by : (l : Option (List ℕ)) → last_or None (map key xs) ≡ l → is_below cmp e l ≡ false
+    by None h = refl
+    by (Some x) h = not_below cmp o e x (last_has key (λ k. AtMost cmp k e) None xs x h (λ y bad. cc) up)
+
+-- one input is in order and goes on, and no key of it is behind the fall of the other: no disorder is settled
+pub not_settled : (tool : Tool) → IsKeyOrder tool.cmp → (ended : Side → Bool) (ls : Side → Lines) (of : Side) → ended of ≡ false → fall tool.cmp (tool.key of) (ls of) ≡ None
+    → EachKey (λ k. FallFrom tool.cmp k (fall tool.cmp (tool.key (other of)) (ls (other of)))) (tool.key of) (ls of) → is_settled tool ended ls (disorder tool ls) ≡ false
+not_settled tool o ended ls of going rises = by of going rises
+  where
+    past : (s : Side) → ended s ≡ false → fall tool.cmp (tool.key s) (ls s) ≡ None → (e : List ℕ) → EachKey (λ k. AtMost tool.cmp k e) (tool.key s) (ls s) → is_decided tool ended ls e ≡ false
+    past s on none e up =
+        not_decided tool o ended ls s e ((λ i. cond (on i || is_some (none i)) true (is_below tool.cmp e (last_or None (map (tool.key s) (ls s))))) ∙ below_last tool.cmp o (tool.key s) (ls s) e up)
+
+    first : (f g : Option Fall) → f ≡ None → ended First ≡ false → fall tool.cmp (tool.key First) (ls First) ≡ None → EachKey (λ k. FallFrom tool.cmp k g) (tool.key First) (ls First) → is_settled tool ended ls (disorder_of tool.cmp f g) ≡ false
+    first None None e on none up = refl
+    first None (Some d) e on none up = past First on none d.last_key up
+    first (Some c) g e on none up = cc
+
+    second : (f g : Option Fall) → g ≡ None → ended Second ≡ false → fall tool.cmp (tool.key Second) (ls Second) ≡ None → EachKey (λ k. FallFrom tool.cmp k f) (tool.key Second) (ls Second) → is_settled tool ended ls (disorder_of tool.cmp f g) ≡ false
+    second None None e on none up = refl
+    second (Some d) None e on none up = past Second on none d.last_key up
+    second f (Some c) e on none up = cc
+
+    by : (s : Side) → ended s ≡ false → fall tool.cmp (tool.key s) (ls s) ≡ None → EachKey (λ k. FallFrom tool.cmp k (fall tool.cmp (tool.key (other s)) (ls (other s)))) (tool.key s) (ls s) → is_settled tool ended ls (disorder tool ls) ≡ false
+    by First on none up = first (fall tool.cmp (tool.key First) (ls First)) (fall tool.cmp (tool.key Second) (ls Second)) none on none up
+    by Second on none up = second (fall tool.cmp (tool.key First) (ls First)) (fall tool.cmp (tool.key Second) (ls Second)) none on none up

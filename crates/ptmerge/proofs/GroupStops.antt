@@ -6,7 +6,7 @@ use Rattle.std.specs.List.{last_or}
 use Rattle.std.specs.Ordering.{is_lt}
 use Rattle.std.proofs.lemmas.List.{append-nil}
 use Rattle.ptlines.specs.Inputs.{Given, Begins, whole_lines}
-use Rattle.ptlines.specs.KeepingUp.{WorksOff, KeepsUp}
+use Rattle.ptlines.specs.KeepingUp.{Before, WorksOff, KeepsUp}
 use Rattle.ptlines.specs.Outputs.{Output, Wrote}
 use Rattle.ptlines.specs.Readers.{Reader}
 use Rattle.ptlines.specs.Text.{text, lines, IsLine, longest}
@@ -18,19 +18,19 @@ use Rattle.ptlines.proofs.TextLaws.{text-append}
 use Rattle.ptmerge.specs.declared.faults.MergeFault.{MergeFault}
 use Rattle.ptmerge.specs.declared.order.Side.{Side}
 use Rattle.ptmerge.specs.declared.order.Side.TheVariants.{First, Second}
-use Rattle.ptmerge.specs.Keyed.{Lines, Tool, by_keys, decided, decided_entries, disorder, fall, is_below, is_decided, is_past, lines_of, merged_entries, ordered_part, up_to}
+use Rattle.ptmerge.specs.Keyed.{Lines, Tool, by_keys, decided, decided_entries, disorder, fall, is_below, is_decided, is_past, lines_of, merged_entries, ordered_part, settled, up_to}
 use Rattle.ptmerge.specs.Merges.{State, Agree, Ends, IsMerge, IsWhole}
 use Rattle.ptmerge.specs.Orders.{Cmp, Key}
-use Rattle.ptmerge.specs.Sides.{put}
+use Rattle.ptmerge.specs.Sides.{other, put}
 use Rattle.ptmerge.proofs.Backing.{Back, back}
-use Rattle.ptmerge.proofs.Bounds.{Bound, Free, From, Fallen, Over, Coming, Falling, Under}
+use Rattle.ptmerge.proofs.Bounds.{Bound, Free, From, Fallen, Over, Coming, FallFrom, Falling, Under}
 use Rattle.ptmerge.proofs.Got.{More, Known, got_known, got_lines}
 use Rattle.ptmerge.proofs.Least.{EachKey, EachKey-append, EachKey-weaker}
 use Rattle.ptmerge.proofs.Orders.{IsKeyOrder, AtMost, at_most_trans, self_at_most}
 use Rattle.ptmerge.proofs.Passing.{Merging, down_decided, follows, not_below, not_decided}
-use Rattle.ptmerge.proofs.Splitting.{all_keys, all_wanted, down_begins, none_wanted, passed_is_wanted}
+use Rattle.ptmerge.proofs.Splitting.{all_keys, all_wanted, down_begins, none_wanted, passed_is_wanted, under_fall}
 use Rattle.ptmerge.proofs.Stopping.{FitsIn, Gone}
-use Rattle.ptmerge.proofs.Working.{works_off}
+use Rattle.ptmerge.proofs.Working.{unsettled, works_off}
 
 -- what goes before k goes before all that may come, if k does
 pub under_down : (cmp : Cmp) (o : IsKeyOrder cmp) (b : Bound) (x k : List ℕ) → AtMost cmp x k → Under cmp b k → Under cmp b x
@@ -144,6 +144,14 @@ module _ (tool : Tool) (o : IsKeyOrder tool.cmp) (old new : State) (now : Side �
     keeps : Keeps (text tool.end (by_keys tool all_keys p ++ extra))
     keeps = subst Keeps (sym (text-append tool.end (by_keys tool all_keys p) extra)) (keeps_more (λ came. decided tool (put of (came tt) given)) (λ u. given of) old.out mid (text tool.end (by_keys tool all_keys p)) works m.merging.wrote m.clean new.out (text tool.end extra) wrote)
 
+    -- nor was a disorder settled
+    ends_by : (before : Before (given of)) × (settled tool (put of before.earlier given) ≡ false)
+    ends_by =
+        let falls = falling (λ s. whole_lines tool.end (given s)) (λ s. (known s).known) in
+        unsettled tool o given p (λ side. p side ++ g side) g (λ side. From k) backs (λ side. refl) under next of
+        (EachKey-weaker (λ x. AtMost tool.cmp x k) (λ x. FallFrom tool.cmp x (fall tool.cmp (tool.key (other of)) (whole_lines tool.end (given (other of)))))
+        (λ x h. under_fall tool.cmp o (d (other of)) x (fall tool.cmp (tool.key (other of)) (whole_lines tool.end (given (other of)))) (under_down tool.cmp o (d (other of)) x k h (m.under (other of))) (falls (other of))) (tool.key of) (p of ++ g of) (under of of))
+
   pub halts : (fault : MergeFault) → Ends old new (Err fault) → ((side : Side) → (new.reader side).failed ≡ true → FailsIn tool.cmp (tool.key side) k (new.reader side) (ls side)) → ((input : Side → List ℕ) (pushed : List ℕ) → IsWhole tool input pushed (Err fault))
       → ((all : Side → Lines) → ((side : Side) → More (now side) (ls side) (all side) × (max (longest (ls side)) (length (piece side)) ≤ longest (all side))) → FitsIn tool old.store new.store all) → IsMerge tool old new (Err fault)
   halts fault ends failed whole fits = record {
@@ -161,6 +169,7 @@ module _ (tool : Tool) (o : IsKeyOrder tool.cmp) (old new : State) (now : Side �
         let exact = (known side).exact f.held f.ended in
         sure_is (λ s. whole_lines tool.end (given s)) (λ s. (known s).known) (λ s. (new.reader s).ended) side f.ended (ap (fall tool.cmp (tool.key side)) exact ∙ f.rises) (ap (λ (l : Lines). last_or None (map (tool.key side) l)) exact ∙ f.last);
     keeps_up = λ side clean. keeps side;
+    ends_at_once = λ side clean. ends_by side;
     peak = λ input a. (fits (lines_of tool input) (input_lines input a)).0;
     slots = λ input a. (fits (lines_of tool input) (input_lines input a)).1;
     whole = λ input a. whole input (text tool.end (by_keys tool all_keys p ++ extra));

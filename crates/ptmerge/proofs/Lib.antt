@@ -13,6 +13,7 @@ pub mod GroupStops
 pub mod GroupTurns
 pub mod JoinEntries
 pub mod JoinRows
+pub mod KeepingUpRows
 pub mod Least
 pub mod JoinSlots
 pub mod JoinTurns

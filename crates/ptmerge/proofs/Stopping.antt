@@ -3,7 +3,7 @@ use Rattle.std.proofs.Common.{arith, inl, refl, ◌≡◌, ℕ, ◌≤◌, true,
 use Rattle.std.proofs.lemmas.Bool.{false≢true}
 use Rattle.std.proofs.lemmas.List.{append-nil}
 use Rattle.ptlines.specs.Inputs.{Given, whole_lines}
-use Rattle.ptlines.specs.KeepingUp.{WorksOff, KeepsUp}
+use Rattle.ptlines.specs.KeepingUp.{Before, WorksOff, KeepsUp}
 use Rattle.ptlines.specs.Readers.{Reader, Reads, IsDone, IsSound}
 use Rattle.ptlines.specs.Slots.{Slots}
 use Rattle.ptlines.specs.Text.{text, lines, IsLine, longest}
@@ -20,18 +20,19 @@ use Rattle.ptmerge.specs.declared.order.Side.TheVariants.{First, Second}
 use Rattle.ptmerge.specs.declared.sorted.Sorted.{Sorted}
 use Rattle.ptmerge.specs.declared.sorted.Stand.{Stand}
 use Rattle.ptmerge.specs.declared.sorted.Stand.TheVariants.{Head, Ended, Disorder}
-use Rattle.ptmerge.specs.Keyed.{Lines, Tool, by_keys, decided, disorder, disorder_of, fall, lines_of, merged, merged_entries, ordered_part, up_to}
+use Rattle.ptmerge.specs.Keyed.{Lines, Tool, by_keys, decided, disorder, disorder_of, fall, lines_of, merged, merged_entries, ordered_part, settled, up_to}
 use Rattle.ptmerge.specs.Merges.{State, Agree, Ends, IsMerge, IsUnread, IsWhole, ended_by}
 use Rattle.ptmerge.specs.Orders.{Cmp, Key}
 use Rattle.ptmerge.specs.Sides.{other, put}
 use Rattle.ptmerge.proofs.Backing.{Back, Near, back}
-use Rattle.ptmerge.proofs.Bounds.{Bound, Free, From, Over, Coming, Falling, Begun, Reaches, reaches_free, reaches_passed}
+use Rattle.ptmerge.proofs.Bounds.{Bound, Free, From, Over, Coming, FallFrom, Falling, Under, Begun, Reaches, reaches_free, reaches_passed}
 use Rattle.ptmerge.proofs.Got.{Got, More, Known, got_known, got_lines, got_none, reads_nothing}
+use Rattle.ptmerge.proofs.Least.{EachKey-weaker}
 use Rattle.ptmerge.proofs.Orders.{IsKeyOrder}
 use Rattle.ptmerge.proofs.Passing.{Late, Merging, Seen, StopsAt, decided_begins, follows, seen_all}
-use Rattle.ptmerge.proofs.Splitting.{all_keys}
+use Rattle.ptmerge.proofs.Splitting.{all_keys, under_fall}
 use Rattle.ptmerge.proofs.Standing.{Sided, Stands}
-use Rattle.ptmerge.proofs.Working.{works_off}
+use Rattle.ptmerge.proofs.Working.{unsettled, works_off}
 
 -- an input when a tool stops: the lines ls came, of which p are passed, and then a piece of one more
 pub record Gone (end : ℕ) (cmp : Cmp) (key : Key) (old now new : Reader) (piece : List ℕ) (ls p : Lines) (b : Bound) : Type 0 where
@@ -120,6 +121,13 @@ module _ (tool : Tool) (o : IsKeyOrder tool.cmp) (old new : State) (now : Side �
     keeps : Keeps (text tool.end (by_keys tool all_keys p))
     keeps = subst Keeps late.all (keeps_more (λ came. decided tool (put of (came tt) given)) (λ u. given of) old.out late.mid (text tool.end (by_keys tool all_keys late.front)) works late.wrote late.clean new.out late.bytes late.more)
 
+    -- nor was a disorder settled
+    ends_by : (before : Before (given of)) × (settled tool (put of before.earlier given) ≡ false)
+    ends_by =
+        unsettled tool o given late.front p late.tail b backs late.split m.under (λ side. (whole_seen.r side, whole_seen.parts side, late.coming side (whole_seen.r side) (whole_seen.coming side))) of
+        (EachKey-weaker (Under tool.cmp (b (other of))) (λ k. FallFrom tool.cmp k (fall tool.cmp (tool.key (other of)) (whole_lines tool.end (given (other of)))))
+        (λ k u. under_fall tool.cmp o (b (other of)) k (fall tool.cmp (tool.key (other of)) (whole_lines tool.end (given (other of)))) u (whole_seen.falling (other of))) (tool.key of) (p of) (m.under (other of) of))
+
   pub stops : (result : Result (Unit {0}) MergeFault) → Ends old new result → ((side : Side) → (new.reader side).failed ≡ true → Fails tool.cmp (tool.key side) (new.reader side) (ls side) (p side)) → Concludes tool b result
       → ((all : Side → Lines) → ((side : Side) → More (now side) (ls side) (all side) × (max (longest (ls side)) (length (piece side)) ≤ longest (all side))) → FitsIn tool old.store new.store all) → IsMerge tool old new result
   stops result ends failed concludes fits = record {
@@ -133,6 +141,7 @@ module _ (tool : Tool) (o : IsKeyOrder tool.cmp) (old new : State) (now : Side �
         let f = failed side fail in
         decided_begins tool o b p old.out new.out m (λ s. (new.reader s).ended) (λ s. whole_lines tool.end (given s)) (seen_of (λ s. whole_lines tool.end (given s)) (λ s. (known s).known)) side f.last f.ended ((known side).exact f.held f.ended ∙ f.all) f.begun;
     keeps_up = λ side clean. keeps side;
+    ends_at_once = λ side clean. ends_by side;
     peak = λ input a. (fits (lines_of tool input) (input_lines input a)).0;
     slots = λ input a. (fits (lines_of tool input) (input_lines input a)).1;
     whole = λ input a. by result concludes input a;
@@ -189,6 +198,7 @@ module _ (old new : State) (set : Side → Reader) (end : ℕ) (is : (side : Sid
     true_so_far = m.true_so_far;
     sure = m.sure;
     keeps_up = m.keeps_up;
+    ends_at_once = m.ends_at_once;
     peak = m.peak;
     slots = m.slots;
     whole = m.whole;
@@ -210,6 +220,7 @@ merge_halted tool old allowed fault = record {
   true_so_far = λ input a. record { rest = merged tool input; is = refl };
   sure = λ side fail clean. absurd (false≢true (sym clean ∙ fault));
   keeps_up = λ side clean. absurd (false≢true (sym clean ∙ fault));
+  ends_at_once = λ side clean. absurd (false≢true (sym clean ∙ fault));
   peak = λ input a. omega arith;
   slots = λ input a. omega arith;
   whole = λ input a. tt;

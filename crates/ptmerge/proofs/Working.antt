@@ -3,15 +3,15 @@ use Rattle.std.proofs.Common.{◌≡◌, ℕ, false, List, [], ◌∷◌, ◌++�
 use Rattle.std.proofs.lemmas.List.{append-nil}
 use Rattle.std.specs.List.{last_or}
 use Rattle.ptlines.specs.Inputs.{Given, Begins, whole_lines}
-use Rattle.ptlines.specs.KeepingUp.{WorksOff}
+use Rattle.ptlines.specs.KeepingUp.{Before, WorksOff}
 use Rattle.ptlines.specs.Text.{text}
 use Rattle.ptmerge.specs.declared.order.Side.{Side}
-use Rattle.ptmerge.specs.Keyed.{Lines, Tool, by_keys, decided, fall, is_below, ordered_part}
+use Rattle.ptmerge.specs.Keyed.{Lines, Tool, by_keys, decided, fall, is_below, ordered_part, settled}
 use Rattle.ptmerge.specs.Orders.{Key}
 use Rattle.ptmerge.specs.Sides.{put, other}
 use Rattle.ptmerge.proofs.Backing.{Back, Rises, none_below, rises_front, rises_in_order, rises_ordered}
-use Rattle.ptmerge.proofs.Bounds.{Bound, Coming, Under}
-use Rattle.ptmerge.proofs.Deciding.{Differ, decided_of_passed}
+use Rattle.ptmerge.proofs.Bounds.{Bound, Coming, FallFrom, Under}
+use Rattle.ptmerge.proofs.Deciding.{Differ, decided_of_passed, not_settled}
 use Rattle.ptmerge.proofs.Least.{EachKey}
 use Rattle.ptmerge.proofs.Orders.{IsKeyOrder}
 use Rattle.ptmerge.proofs.Pairs.{put_other, put_same, side_case}
@@ -84,3 +84,14 @@ module _ (tool : Tool) (o : IsKeyOrder tool.cmp) (given : Side → Given) (p q t
 
     pub works_off : WorksOff {I = Unit {0}} (λ came. decided tool (put of (came tt) given)) (λ u. given of) (text tool.end (by_keys tool all_keys p))
     works_off = record { before = λ u. (backs of).before; begins = begins }
+
+    -- and no disorder was settled
+    pub unsettled : EachKey (λ k. FallFrom tool.cmp k (fall tool.cmp (tool.key (other of)) (whole_lines tool.end (given (other of))))) (tool.key of) (q of) → (before : Before (given of)) × (settled tool (put of before.earlier given) ≡ false)
+    unsettled up = (
+      (backs of).before,
+      not_settled tool o (λ side. (mix side).ended) (λ side. whole_lines tool.end (mix side)) of (ap (λ (g : Given). g.ended) (put_same of (backs of).before.earlier given) ∙ (backs of).going) (ap (fall tool.cmp (tool.key of)) whole_now ∙ ordered.1)
+          (subst (λ (g : Given). EachKey (λ k. FallFrom tool.cmp k (fall tool.cmp (tool.key (other of)) (whole_lines tool.end g))) (tool.key of) (whole_lines tool.end (mix of))) (sym (put_other of (backs of).before.earlier given))
+          (subst (EachKey (λ k. FallFrom tool.cmp k (fall tool.cmp (tool.key (other of)) (whole_lines tool.end (given (other of))))) (tool.key of)) (sym whole_now)
+          (front_has (λ k. FallFrom tool.cmp k (fall tool.cmp (tool.key (other of)) (whole_lines tool.end (given (other of))))) (tool.key of) whole (backs of).rest
+          (subst (EachKey (λ k. FallFrom tool.cmp k (fall tool.cmp (tool.key (other of)) (whole_lines tool.end (given (other of))))) (tool.key of)) (backs of).split up)))),
+    )
