@@ -31,7 +31,7 @@ use Rattle.ptrun.specs.Engines.{Checks, AreReady, blame, last_words, status_afte
 use Rattle.ptrun.proofs.Sayings.{tells_nothing, tells_trans}
 use Rattle.ptrun.proofs.Sources.{any_same, any_more, unopened_more}
 use Rattle.ptrun.proofs.Order.{fresh_all, pass_here}
-use Rattle.ptrun.proofs.InTurn.{Pass, refused_same, pass_nothing, pass_all, pass_done, pass_stopped}
+use Rattle.ptrun.proofs.InTurn.{Pass, refused_same, pass_nothing, pass_last, pass_stopped}
 
 -- ---- an operand could not be opened
 
@@ -83,11 +83,12 @@ module _ (word : List ℕ) (names : List (List ℕ)) (is_shut : ℕ → Bool) (d
 
 pub checks_of : (word : List ℕ) (t : JointTool) (names : List (List ℕ)) (places : List ℕ) (inputs : List Reader) (told heard : SinkState) (lacking : Bool) → lacking ≡ list_any (shut inputs) places
     → Tells told heard (unopened word names (shut inputs) places) → Checks (together word t names places) inputs told heard lacking
-checks_of word t names places inputs told heard true is tells = record { is = is; tells = tells; nothing = λ _. lacking_does_nothing word t names places (shut inputs) (sym is) }
+checks_of word t names places inputs told heard true is tells = record { is = is; tells = tells; nothing = λ _. lacking_does_nothing word t names places (shut inputs) (sym is); at_once = λ _. refl }
 checks_of word t names places inputs told heard false is tells = record {
   is = is;
   tells = subst (λ (l : List ℕ). Tells told heard l) (none_named word names (shut inputs) places (sym is)) tells;
   nothing = λ lacks_some. absurd (false≢true lacks_some);
+  at_once = λ _. refl;
 }
 
 -- ---- the place of a failure, as the first operand that has it
@@ -175,6 +176,7 @@ module _ (word : List ℕ) (t : JointTool) (names : List (List ℕ)) (places : L
     true_so_far = λ w agrees. subst (λ (l : List ℕ). Begins k.pushed l) (out_is w agrees) (k.true_so_far w agrees);
     told_read = k.told_read;
     sure = λ q failed clean. subst (λ (l : List ℕ). Begins l k.pushed) (ap (λ (b : Bool). cond b [] (t.decided places (given_in k.received))) (sym came_complete)) (k.sure q failed clean);
+    keeps_up = tt;
     peak = λ w agrees. subst (λ (n : ℕ). store.peak ≤ max before.peak n) (ap (λ (b : Bool). cond b 0 (t.size places (text_in w))) (sym (complete w agrees))) (k.peak w agrees);
   }
 
@@ -232,8 +234,7 @@ module _ (word : List ℕ) (t : Tool) (names : List (List ℕ)) (old : List Read
 
   pub one_done : result ≡ Ok tt → IsJointPass (of_one t) (p ∷ []) old (set old p new) was is before store (Ok Whole)
   one_done ok =
-      let k = pass_all word t names old fresh was told before (set old p new) is told store (p ∷ []) Whole
-      (pass_done word t names old fresh was told before old was is told before store [] Whole p new result start within is_open calm e ok) in
+      let k = pass_last word t names old fresh was told before old was is told before store [] Whole p new result start within is_open calm e (λ later. refl) ok in
       joint_of (set old p new) (Ok Whole) k (record {
         out = λ w agrees. k.ends.0.out w agrees ∙ text_is (set old p new) (Ok Whole) k w agrees;
         is_done = λ w agrees. refl;

@@ -4,7 +4,7 @@
 -- headline is a reading of the run in the world that the readers tell: it is allowed by what was received, and each
 -- cause of a failure contradicts a premise.
 use Rattle.std.proofs.Common.{◌≡◌, ⊎_elim, inl, ℕ, Bool, true, false, List, [], ◌++◌, Option, Some, None, Result, Ok, Err, length, map, refl, sym, ◌∙◌, ap, subst, arith, append_assoc, length-append}
-use Rattle.std.specs.Prelude.{All}
+use Rattle.std.specs.Prelude.{All, IfSome}
 use Rattle.std.specs.Io.KnownBytes.{append_known, prepend_known, IsAtEnd}
 use Rattle.std.proofs.lemmas.List.{append-nil, append_cancel_left, nil_from_length}
 use Rattle.std.proofs.lemmas.Bool.{false≢true}
@@ -26,6 +26,9 @@ use Rattle.ptrun.specs.Sayings.{Tells}
 use Rattle.ptrun.specs.Meanings.{Meaning, named, unopened}
 use Rattle.ptrun.specs.Runs.{Sinks, sinks, Outcome, Cause, EndsAs, IsRun, IsExact, Headline}
 use Rattle.ptrun.specs.Engines.{WentTo, Went, Finishes, last_words, status_after, IsWithin}
+use Rattle.ptflow.specs.Tools.{Tool}
+use Rattle.ptrun.specs.KeepingUp.{begun_of, KeepsUpEach, KeptUp}
+use Rattle.ptrun.proofs.KeepingUp.{kept_up}
 use Rattle.ptrun.specs.Asked.{saying}
 use Rattle.ptrun.proofs.Sayings.{tells_trans}
 use Rattle.ptrun.proofs.Order.{fresh_all}
@@ -40,6 +43,7 @@ pub record Reached (was new : Output) (pushed : List ℕ) : Type 0 where
   pub split : pushed ≡ front ++ rest
   pub taken : new.taken ≡ append_known was.taken front
   pub whole : new.faulted ≡ false → new.staged ≡ [] → rest ≡ []
+  pub unknown : was.taken ≡ None → rest ≡ []
 
 pub reached_of : (was new : Output) (pushed : List ℕ) → was.staged ≡ [] → Wrote was new pushed → Reached was new pushed
 reached_of was new pushed empty w = by_known was.taken refl
@@ -51,6 +55,7 @@ reached_of was new pushed empty w = by_known was.taken refl
       split = sym (append-nil pushed);
       taken = w.kept.is ∙ ap (λ (t : Option (List ℕ)). append_known t w.kept.front) is ∙ sym (ap (λ (t : Option (List ℕ)). append_known t pushed) is);
       whole = λ _ _. refl;
+      unknown = λ _. refl;
     }
     by_known (Some t) is = record {
       front = w.kept.front;
@@ -64,10 +69,14 @@ reached_of was new pushed empty w = by_known was.taken refl
           let split : pushed ≡ w.kept.front ++ (new.staged ++ w.beginning.front) = append_cancel_left t pushed (w.kept.front ++ (new.staged ++ w.beginning.front)) (some_same (sym before_is ∙ w.beginning.is ∙ ap (λ (k : Option (List ℕ)). append_known k w.beginning.front) after_is)
           ∙ append_assoc (t ++ w.kept.front) new.staged w.beginning.front ∙ append_assoc t w.kept.front (new.staged ++ w.beginning.front)) in
           nil_from_length (new.staged ++ w.beginning.front) (omega (arith, ap length all, ap length split, length-append w.kept.front (new.staged ++ w.beginning.front)));
+      unknown = λ none. absurd (some_known (sym is ∙ none));
     }
       where
         some_same : {a b : List ℕ} → Some a ≡ Some b → a ≡ b
         some_same same = cc
+
+        some_known : Some t ≡ None → ⊥
+        some_known same = cc
 
         before_is : append_known (text was) pushed ≡ Some (t ++ pushed)
         before_is = ap (λ (k : Option (List ℕ)). append_known (append_known k was.staged) pushed) is ∙ ap (λ (l : List ℕ). Some ((t ++ l) ++ pushed)) empty ∙ ap (λ (l : List ℕ). Some (l ++ pushed)) (append-nil t)
@@ -123,7 +132,7 @@ none_failed : (old : List Reader) (q : ℕ) → HasFailed old old q → ⊥
 none_failed old q failed = false≢true (sym failed.1 ∙ failed.2)
 
 -- Nothing was to be read, and the output is left alone.
-module _ (m : Meaning) (old : List Reader) (fresh : All IsFresh old) (out told heard : SinkState) (fine : out.failed ≡ false) (text : List ℕ) (tells : Tells told heard text) where
+module _ (m : Meaning) (at_once : m.in_turn ≡ None) (old : List Reader) (fresh : All IsFresh old) (out told heard : SinkState) (fine : out.failed ≡ false) (text : List ℕ) (tells : Tells told heard text) where
   unread : (o : Outcome) → o.out ≡ out → o.messages ≡ heard → o.peak ≡ 0 → (n : ℕ) (fault : Option FlowFault) → EndsAs m (map received_of old) old old [] text o n fault → IsRun m old old (sinks out told) o
   unread o same said none n fault ends = record {
     received = map received_of old;
@@ -140,6 +149,7 @@ module _ (m : Meaning) (old : List Reader) (fresh : All IsFresh old) (out told h
     true_so_far = λ w agrees. record { rest = m.out w; is = refl };
     told = λ q failed clean. absurd (none_failed old q failed);
     sure = λ q failed clean. absurd (none_failed old q failed);
+    keeps_up = subst (λ (t : Option Tool). IfSome t (λ t. KeptUp t (begun_of (map received_of old) m.places n) [] o.out.failed)) (sym at_once) tt;
     bounded = λ w agrees. omega (arith, none);
   }
 
@@ -147,7 +157,7 @@ module _ (m : Meaning) (old : List Reader) (fresh : All IsFresh old) (out told h
 pub only_said : (text : List ℕ) (is : ℕ) (old : List Reader) → All IsFresh old → (out told heard : SinkState) (status : ℕ) → out.failed ≡ false → Tells told heard text → status ≡ is
     → IsRun (saying text is) old old (sinks out told) (record { out = out; messages = heard; status = status; peak = 0; denied = false })
 only_said text is old fresh out told heard status fine tells status_is =
-    unread (saying text is) old fresh out told heard fine text tells (record { out = out; messages = heard; status = status; peak = 0; denied = false }) refl refl refl 0 None (
+    unread (saying text is) refl old fresh out told heard fine text tells (record { out = out; messages = heard; status = status; peak = 0; denied = false }) refl refl refl 0 None (
       record {
         all = refl;
         out = λ w agrees. refl;
@@ -160,10 +170,10 @@ only_said text is old fresh out told heard status fine tells status_is =
 
 -- Inputs are lacking, those that could not be opened were named, and there is nothing else to do.
 pub lacking : (m : Meaning) (old : List Reader) → All IsFresh old → (out told heard : SinkState) → out.failed ≡ false → Tells told heard (unopened m.tool m.names (shut old) m.places)
-    → ((w : World) → ((q : ℕ) → shut old q ≡ is_unopened w q) → (m.out w ≡ []) × (m.closing w ≡ []) × (m.status w ≡ 1))
+    → ((w : World) → ((q : ℕ) → shut old q ≡ is_unopened w q) → (m.out w ≡ []) × (m.closing w ≡ []) × (m.status w ≡ 1)) → m.in_turn ≡ None
     → IsRun m old old (sinks out told) (record { out = out; messages = heard; status = 1; peak = 0; denied = false })
-lacking m old fresh out told heard fine tells nothing =
-    unread m old fresh out told heard fine (unopened m.tool m.names (shut old) m.places) tells (record { out = out; messages = heard; status = 1; peak = 0; denied = false }) refl refl refl (length m.places) None (
+lacking m old fresh out told heard fine tells nothing at_once =
+    unread m at_once old fresh out told heard fine (unopened m.tool m.names (shut old) m.places) tells (record { out = out; messages = heard; status = 1; peak = 0; denied = false }) refl refl refl (length m.places) None (
       record {
         all = refl;
         out = λ w agrees. sym (nothing w (same w agrees)).0;
@@ -198,6 +208,7 @@ run_behind m old new out a b o none k = record {
   true_so_far = k.true_so_far;
   told = k.told;
   sure = k.sure;
+  keeps_up = k.keeps_up;
   bounded = k.bounded;
 }
 
@@ -305,5 +316,12 @@ module _ (m : Meaning) (old new : List Reader) (was is is' : Output) (told heard
     true_so_far = begins;
     told = e.told_read;
     sure = λ place failed fine. let clean = sym last_failed ∙ fine in let b = k.sure place failed (f.clean clean).2 in record { rest = b.rest; is = all_front clean ∙ b.is };
+    keeps_up = kept m.in_turn k.keeps_up;
     bounded = λ w agrees. omega (arith, k.peak w agrees, low, peak_is);
   }
+    where
+      kept : (t : Option Tool) → IfSome t (λ t. KeepsUpEach t (begun_of k.received m.places k.behind) was is k.pushed) → IfSome t (λ t. KeptUp t (begun_of k.received m.places k.behind) reached.front o.out.failed)
+      kept None none = tt
+      kept (Some t) up =
+          kept_up t (begun_of k.received m.places k.behind) was is is' k.pushed reached.front reached.rest up (ap (λ (o : Output). o.staged) made) reached.split reached.taken f.wrote.kept reached.unknown o.out.failed
+          (λ fine. let clean = sym last_failed ∙ fine in reached.whole clean (f.clean clean).1)

@@ -24,6 +24,7 @@ saying text status = record {
   status = λ w. status;
   bound = λ w. 0;
   decided = λ r. [];
+  in_turn = None;
   closing = λ w. text;
   quiet = λ is_shut. true;
   places = [];

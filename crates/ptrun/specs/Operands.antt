@@ -1,5 +1,5 @@
 -- A tool that goes over its inputs one by one; those that could not be opened are named and passed over.
-use Rattle.std.specs.Prelude.{ℕ, ◌+◌, false, List, [], ◌∷◌, map, flat_map, max, take, if◌then◌else◌}
+use Rattle.std.specs.Prelude.{Some, ℕ, ◌+◌, false, List, [], ◌∷◌, map, flat_map, max, take, if◌then◌else◌}
 use Rattle.std.specs.List.{list_any}
 use Rattle.ptlines.specs.Inputs.{Given, nothing_left}
 use Rattle.ptopts.specs.declared.inputs.Input.{Input}
@@ -23,8 +23,12 @@ each_out t w places = flat_map t.text (sources [] w places)
 abbrev pub each_bound : Tool → World → List ℕ → ℕ
 each_bound t w places = largest (map t.size (sources [] w places))
 
+-- what is decided where this came of the operands
+abbrev pub decided_of : Tool → List Given → List ℕ
+decided_of t came = flat_map t.decided (up_to_open came)
+
 abbrev pub each_decided : Tool → Received → List ℕ → List ℕ
-each_decided t r places = flat_map t.decided (up_to_open (sources nothing_left r places))
+each_decided t r places = decided_of t (sources nothing_left r places)
 
 -- the tool of this word over these places, where the files have these names
 abbrev pub one_by_one : List ℕ → Tool → List (List ℕ) → List ℕ → Meaning
@@ -33,6 +37,7 @@ one_by_one word t names places = record {
   status = λ w. if list_any (is_unopened w) places then 1 else 0;
   bound = λ w. each_bound t w places;
   decided = λ r. each_decided t r places;
+  in_turn = Some t;
   closing = λ w. [];
   quiet = λ is_shut. false;
   places = places;

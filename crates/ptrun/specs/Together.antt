@@ -96,6 +96,7 @@ together word t names places = record {
   status = λ w. if lacks places w then 1 else disorder_status (t.disorder places (text_in w));
   bound = λ w. if lacks places w then 0 else t.size places (text_in w);
   decided = λ r. if lacks places r then [] else t.decided places (given_in r);
+  in_turn = None;
   closing = λ w. if lacks places w then [] else disorder_text word names (t.disorder places (text_in w));
   quiet = λ is_shut. list_any is_shut places;
   places = places;
