@@ -123,8 +123,8 @@ fn copy_ends(block: &[u8], step: Step, into: &mut [u8]) -> Step
 }
 
 // Copies what is written of the lines that end among the 64 bytes from a place on, of which the first is told. The
-// answer is the first line behind them.
-#[inline(always)]
+// answer is the first line behind them. Apart, so that what a line needs stays in registers.
+#[inline(never)]
 fn cut_chunk(
     by: &Selection,
     ending: u8,
