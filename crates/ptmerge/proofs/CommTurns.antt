@@ -326,7 +326,7 @@ module _ (job : Comm) (cmp : Cmp) (key : Side → Key) (o : IsKeyOrder cmp) (old
             }
 
         -- what was staged could not be sent before the second input was read
-        pub both_unsent : (wrote_out : Output) → wrote_out.faulted ≡ false → Wrote old.out wrote_out (text job.end (by_keys (comm_by job cmp key) all_keys (both (r.ls First) (r.ls Second)))) → Wrote wrote_out new [] → new.faulted ≡ true → IsMerge (comm_by job cmp key) old (record { reader = put First reader now.reader; out = new; store = mid }) (Err Write)
+        pub both_unsent : (out : Output) → out.faulted ≡ false → Wrote old.out out (text job.end (by_keys (comm_by job cmp key) all_keys (both (r.ls First) (r.ls Second)))) → Wrote out new [] → new.faulted ≡ true → IsMerge (comm_by job cmp key) old (record { reader = put First reader now.reader; out = new; store = mid }) (Err Write)
         both_unsent out fine pushed sent fault =
             unwritten (record { reader = put First reader now.reader; out = new; store = mid }) (put First next place) (put First w.n.now_ls r.ls) (put First (r.ls First) r.p) (put First w.n.bound r.b) sides1 keeps1 slots' (both (r.ls First) (r.ls Second)) new merging1 (late_none (comm_by job cmp key) (put First w.n.bound r.b) (both (r.ls First) (r.ls Second)) old.out out new fine pushed sent)
             (elim [
