@@ -4,7 +4,7 @@ use crate::commands::{
     Expected, Input, Limits, Row, SIZES, assert_left, expect, expect_rows, expect_without_growth,
     over_files, over_standard, run_over, writes,
 };
-use crate::comparing::same;
+use crate::comparing::{holds_of, same};
 use crate::texts::{ENDINGS, text_of, text_with};
 use ptfakes::Refusing;
 use std::alloc::Global;
@@ -92,7 +92,8 @@ fn cut_across_blocks(
         let case = over_standard(&words, &text, *size);
         let report = run_over(rt, alloc, alloc, &case)?;
         same(rt, &report.status, &0);
-        assert!(rt; report.out.bytes() == cut.as_slice(), "{length} by {size}");
+        let is_cut = report.out.bytes() == cut.as_slice();
+        holds_of(rt, &(length, *size), is_cut);
         same(rt, &report.peak, &0);
     }
     Ok(())
