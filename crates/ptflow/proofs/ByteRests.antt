@@ -1,7 +1,11 @@
 -- What `cut` by bytes writes of the rest of a text, a piece at a time. A piece of a line adds to the places counted, and
 -- an end of a line sets them back; from no place on this is what it is to write of whole lines.
-use Rattle.std.proofs.Common.{◌≡◌, ℕ, ◌+◌, ◌==◌, Bool, true, false, cond, List, [], ◌∷◌, ◌++◌, map, length, take, drop, Some, refl, sym, ◌∙◌, ap, arith, append_assoc}
+use Rattle.std.proofs.Common.{◌≡◌, ℕ, suc, ◌+◌, ◌-◌, ◌≤◌, ◌*◌, ◌^◌, ◌==◌, Bool, true, false, cond, List, [], ◌∷◌, ◌++◌, map, length, take, drop, Some, refl, sym, ◌∙◌, ap, arith, append_assoc}
 use Rattle.std.specs.List.{onto_first, flat_map}
+use Rattle.std.specs.Simd.Lanes.{mask_l, chunk}
+use Rattle.std.proofs.lemmas.Simd.{length-chunk, chunk-drop}
+use Rattle.std.proofs.Math.Nat.{pow-succ'}
+use Rattle.std.proofs.lemmas.Bool.{eqb-true}
 use Rattle.std.proofs.lemmas.Bool.Decides.{nat_tests}
 use Rattle.std.proofs.lemmas.List.{append-nil, take_all, drop_all, append_cancel_right, map-append}
 use Rattle.memchr.specs.Find.{IsFirstByte, is_byte}
@@ -69,6 +73,34 @@ module _ (end : ℕ) (bytes : List ℕ) (at : ℕ) (first : IsFirstByte (is_byte
       ap (cut_rest end selected before) (ap (λ (l : List ℕ). l ++ more) (split_of end bytes at first) ∙ append_assoc (take at bytes) (end ∷ drop (at + 1) bytes) more)
       ∙ rest_line end selected before (take at bytes) (drop (at + 1) bytes ++ more) (before_end end bytes at first)
       ∙ (λ i. (chosen_from selected (before + 1) (sym (line_of end bytes at first) i) ++ sym (end_of end bytes at first) i) ++ cut_rest end selected 0 (drop (at + 1) bytes ++ more))
+
+-- lines that are empty
+pub empty_lines : (end : ℕ) (selected : ℕ → Bool) (ends more : List ℕ) → mask_l (map (is_byte end) ends) + 1 ≡ 2 ^ length ends → cut_rest end selected 0 (ends ++ more) ≡ ends ++ cut_rest end selected 0 more
+empty_lines end selected [] more all = refl
+empty_lines end selected (b ∷ ends) more all = by_test (is_byte end b) refl all (empty_lines end selected ends more)
+  where
+    by_test : (t : Bool) → is_byte end b ≡ t → cond t 1 0 + 2 * mask_l (map (is_byte end) ends) + 1 ≡ 2 ^ suc (length ends)
+        → (mask_l (map (is_byte end) ends) + 1 ≡ 2 ^ length ends → cut_rest end selected 0 (ends ++ more) ≡ ends ++ cut_rest end selected 0 more)
+        → cut_rest end selected 0 (b ∷ ends ++ more) ≡ b ∷ ends ++ cut_rest end selected 0 more
+    by_test true is every next =
+        ap (λ (x : ℕ). cut_rest end selected 0 (x ∷ ends ++ more)) (eqb-true b end is)
+        ∙ rest_line end selected 0 [] (ends ++ more) tt
+        ∙ ap (λ (l : List ℕ). end ∷ l) (next (omega (arith, every, pow-succ' 2 (length ends))))
+        ∙ ap (λ (x : ℕ). x ∷ ends ++ cut_rest end selected 0 more) (sym (eqb-true b end is))
+    by_test false is every next = absurd (omega (arith, every, pow-succ' 2 (length ends)))
+
+-- 64 of them that stand at a place of a block, where no byte of a line came earlier
+pub ends_on : (end : ℕ) (selected : ℕ → Bool) (block : List ℕ) (from start now marked : ℕ) → from + 64 ≤ length block → start ≡ from → now ≡ 0 → marked ≡ mask_l (map (is_byte end) (chunk from 64 block)) → marked ≡ 2 ^ 64 - 1
+    → (more : List ℕ) → cut_rest end selected now (drop start block ++ more) ≡ chunk start 64 block ++ cut_rest end selected now (drop (start + 64) block ++ more)
+ends_on end selected block from start now marked room here none is all more =
+    let ends = chunk start 64 block in
+    let left = drop (start + 64) block ++ more in
+    let long : length ends ≡ 64 = length-chunk start 64 block (omega (arith, room, here)) in
+    let every : mask_l (map (is_byte end) ends) + 1 ≡ 2 ^ length ends = omega (arith, ap (λ (k : ℕ). mask_l (map (is_byte end) (chunk k 64 block))) here, is, all, ap (λ (k : ℕ). 2 ^ k) long) in
+    ap (λ (k : ℕ). cut_rest end selected k (drop start block ++ more)) none
+    ∙ ap (cut_rest end selected 0) (ap (λ (l : List ℕ). l ++ more) (chunk-drop start 64 block) ∙ append_assoc ends (drop (start + 64) block) more)
+    ∙ empty_lines end selected ends left every
+    ∙ ap (λ (k : ℕ). ends ++ cut_rest end selected k left) (sym none)
 
 -- the selected bytes of a piece of a line
 pub piece_on : (end : ℕ) (selected : ℕ → Bool) (before : ℕ) (bytes : List ℕ) → IsLine end bytes → (more : List ℕ)

@@ -76,7 +76,7 @@ low_place : (j : ℕ) → j < 16 → nat_le 128 j ≡ false
 low_place j low = grind (arith, nat_tests)
 
 -- lanes at places below 16
-shuffled : (v : List ℕ) (i : ℕ) (row : List ℕ) → i + length row ≤ 16 → Each1 (λ place. place < 16) row → swz_l w8 16 v i row ≡ pick_l 0 v row
+pub shuffled : (v : List ℕ) (i : ℕ) (row : List ℕ) → i + length row ≤ 16 → Each1 (λ place. place < 16) row → swz_l w8 16 v i row ≡ pick_l 0 v row
 shuffled v i [] room lanes = refl
 shuffled v i (j ∷ js) room lanes = λ t. here t ∷ shuffled v (suc i) js (omega (arith, room)) lanes.1 t
   where
@@ -139,7 +139,7 @@ next_place flags place long low =
     ∙ chosen_by_parts front (flag ∷ []) places
     ∙ ap (λ (ps : List ℕ). chosen_by front places ++ chosen_by (flag ∷ []) ps) (behind ∙ ap (λ (p : ℕ). p ∷ drop (place + 1) places) (omega arith))
 
-written_more : (flag : Bool) (row : List ℕ) (count place : ℕ) → count < length row → take (count + cond flag 1 0) (set row count place) ≡ take count row ++ cond flag (place ∷ []) []
+pub written_more : (flag : Bool) (row : List ℕ) (count place : ℕ) → count < length row → take (count + cond flag 1 0) (set row count place) ≡ take count row ++ cond flag (place ∷ []) []
 written_more true row count place room = take_more_set row count place room
 written_more false row count place room = ap (λ (n : ℕ). take n (set row count place)) (omega arith) ∙ take-set row count place ∙ sym (append-nil (take count row))
 

@@ -1,16 +1,16 @@
 -- The columns and rows of a grid, one row after another.
 use Rattle.std.proofs.Common.{◌≡◌, ◌≢◌, ◌⊎◌, ⊎_elim, inl, inr, ℕ, zero, suc, ◌+◌, ◌-◌, ◌*◌, ◌%◌, ◌<◌, ◌≤◌, ◌==◌, ◌&&◌, ◌||◌, Bool, true, false, cond, List, [], ◌∷◌, ◌++◌, length, take, drop, get_or, map, max, refl, sym, ◌∙◌, ap, arith, length-append, length-drop}
-use Rattle.std.specs.Prelude.{fold, filter, slice_index_or, nat_lt}
+use Rattle.std.specs.Prelude.{fold, slice_index_or, nat_lt}
 use Rattle.std.specs.List.{enumerate_from, range_with_len}
-use Rattle.std.proofs.lemmas.Bool.{eq-eqb, cases_lt}
+use Rattle.std.proofs.lemmas.Bool.{eq-eqb}
 use Rattle.std.proofs.lemmas.Bool.Decides.{nat_tests}
 use Rattle.std.proofs.Math.Nat.{add-mod_left, mod-eq_of_lt}
-use Rattle.std.proofs.lemmas.List.{append-nil, take_at, drop_at, drop_all, get_or_past, get_or_append_left, ext_get_or, get_or-map, length-map}
-use Rattle.std.proofs.lemmas.List.FromFn.{length-enumerate_from, get_or-enumerate_from, length-map-range_with_len, take-map-range_with_len}
+use Rattle.std.proofs.lemmas.List.{append-nil, drop_at, drop_all, get_or_past, get_or_append_left, ext_get_or, get_or-map, length-map}
+use Rattle.std.proofs.lemmas.List.FromFn.{length-enumerate_from, get_or-enumerate_from}
 use Rattle.std.proofs.lemmas.List.Sums.{count_by_more_yes, count_by_more_no, sum_by-take-le}
 use Rattle.std.proofs.lemmas.Grind.{get_or_after_one}
 use Rattle.ptflow.specs.Cuts.{chosen_from}
-use Rattle.ptflow.specs.Pastes.{every, times, columns, height, row, rows, is_row_known, known_rows}
+use Rattle.ptflow.specs.Pastes.{every, times, columns, height, row, rows, is_row_known}
 
 abbrev pub Column : Type 0
 Column = List (List ℕ)
@@ -239,12 +239,6 @@ module _ (cells : List ℕ) where
 -- ---- how long a column is
 
 module _ (k j : ℕ) (low : j < k) where
-  pub every_long : (r : ℕ) (ls : Column) → j + r * k < length ls → r < length (every k j ls)
-  every_long zero ls some = every_some k j low ls (omega (arith, some))
-  every_long (suc r) ls some =
-      let more : suc r * k ≡ k + r * k = omega arith in
-      omega (arith, every_long r (drop k ls) (omega (arith, some, more, length-drop k ls)), ap length (every_rest k j low ls), length-drop 1 (every k j ls))
-
   pub every_short : (r : ℕ) (ls : Column) → length ls ≤ j + r * k → length (every k j ls) ≤ r
   every_short zero ls few = ⊎_elim
       (λ is. absurd (omega (arith, is.1, few)))
@@ -256,56 +250,15 @@ module _ (k j : ℕ) (low : j < k) where
 
 -- ---- the rows that are known
 
-is_below : (r n : ℕ) → r < n → nat_lt r n ≡ true
-is_below r n low = grind (arith, nat_tests)
-
 not_below : (r n : ℕ) → n ≤ r → nat_lt r n ≡ false
 not_below r n high = grind (arith, nat_tests)
 
-neither : (t rest : Bool) → rest ≡ false → (t && rest) ≡ false
+pub neither : (t rest : Bool) → rest ≡ false → (t && rest) ≡ false
 neither true rest is = is
 neither false rest is = refl
 
-either : (e t rest : Bool) → t ≡ true → rest ≡ true → ((e || t) && rest) ≡ true
-either true t rest is all = all
-either false t rest is all = rw is all
-
-known_true : (cols : List Column) (ended : List Bool) (r : ℕ) → ((c : ℕ) → c < length cols → (get_or ended c true ≡ true) ⊎ (r < length (get_or cols c []))) → is_row_known cols ended r ≡ true
-known_true [] ended r known = refl
-known_true (col ∷ cols) [] r known = refl
-known_true (col ∷ cols) (e ∷ ended) r known =
-    let later = known_true cols ended r (λ c low. known (suc c) (omega arith)) in
-    ⊎_elim (λ is. rw is later) (λ some. either e (nat_lt r (length col)) (is_row_known cols ended r) (is_below r (length col) some) later) (known 0 (omega arith))
-
-known_false : (cols : List Column) (ended : List Bool) (r c : ℕ) → c < length cols → c < length ended → get_or ended c true ≡ false → length (get_or cols c []) ≤ r → is_row_known cols ended r ≡ false
+pub known_false : (cols : List Column) (ended : List Bool) (r c : ℕ) → c < length cols → c < length ended → get_or ended c true ≡ false → length (get_or cols c []) ≤ r → is_row_known cols ended r ≡ false
 known_false [] ended r c low within going few = absurd (omega arith)
 known_false (col ∷ cols) [] r c low within going few = absurd (omega arith)
 known_false (col ∷ cols) (e ∷ ended) r zero low within going few = rw (going, not_below r (length col) few) refl
 known_false (col ∷ cols) (e ∷ ended) r (suc c) low within going few = neither (e || nat_lt r (length col)) (is_row_known cols ended r) (known_false cols ended r c (omega arith) (omega arith) going few)
-
-filter_known : (f : ℕ → Bool) (n a h : ℕ) → ((r : ℕ) → r < n → f r ≡ true) → ((r : ℕ) → n ≤ r → f r ≡ false) → n ≤ a + h → filter f (range_with_len a h) ≡ range_with_len a (n - a)
-filter_known f n a zero before beyond high = let none : n - a ≡ 0 = omega arith in rw none refl
-filter_known f n a (suc h) before beyond high = let later = filter_known f n (a + 1) h before beyond (omega arith) in ⊎_elim (here later) (past later) (cases_lt a n)
-  where
-    here : filter f (range_with_len (a + 1) h) ≡ range_with_len (a + 1) (n - (a + 1)) → a < n → filter f (range_with_len a (suc h)) ≡ range_with_len a (n - a)
-    here later low =
-        let more : n - a ≡ suc (n - (a + 1)) = omega arith in
-        rw (before a low, more) (ap (λ (l : List ℕ). a ∷ l) later)
-
-    past : filter f (range_with_len (a + 1) h) ≡ range_with_len (a + 1) (n - (a + 1)) → n ≤ a → filter f (range_with_len a (suc h)) ≡ range_with_len a (n - a)
-    past later high =
-        let none : n - a ≡ 0 = omega arith in
-        let after : n - (a + 1) ≡ 0 = omega arith in
-        rw (beyond a high) (later ∙ ap (range_with_len (a + 1)) after ∙ ap (range_with_len a) (sym none))
-
--- the rows that were passed are those that are known
-pub known_are : (cols : List Column) (ended : List Bool) (n : ℕ) (passed more : List (List (List ℕ))) → rows cols ≡ passed ++ more → length passed ≡ n
-    → ((r : ℕ) → r < n → (c : ℕ) → c < length cols → (get_or ended c true ≡ true) ⊎ (r < length (get_or cols c [])))
-    → (c : ℕ) → c < length cols → c < length ended → get_or ended c true ≡ false → length (get_or cols c []) ≤ n → known_rows cols ended ≡ passed
-known_are cols ended n passed more is count known c low within going few =
-    let high : n ≤ height cols = omega (arith, ap length is, length-append passed more, count, length-map-range_with_len (row cols) 0 (height cols)) in
-    let less : n - 0 ≡ n = omega arith in
-    ap (map (row cols))
-    (filter_known (is_row_known cols ended) n 0 (height cols) (λ r below. known_true cols ended r (known r below)) (λ r past. known_false cols ended r c low within going (omega (arith, few, past))) (omega (arith, high))
-    ∙ ap (range_with_len 0) less)
-    ∙ sym (take-map-range_with_len (row cols) 0 (height cols) n high) ∙ ap (take n) is ∙ take_at passed more n count

@@ -20,6 +20,11 @@ pub mod Nths
 pub mod OpenLines
 pub mod OpenRuns
 pub mod PassLemmas
+<<<<<<< HEAD
+pub mod PasteKeepsUp
+=======
+pub mod PickLemmas
+>>>>>>> 22fc2ae
 pub mod PasteLemmas
 pub mod PasteRows
 pub mod ReaderFacts

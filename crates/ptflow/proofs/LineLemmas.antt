@@ -22,7 +22,7 @@ use Rattle.ptflow.specs.Workings.Continuations.{Continues, Halts}
 use Rattle.ptflow.proofs.LineLaws.{parts_of, ended_front, longest-append, longest_piece}
 use Rattle.ptflow.proofs.ReaderFacts.{goes_nothing, given_of, done_gives_nothing, stays_done, may_come, goes_past}
 use Rattle.ptflow.proofs.Continuations.{halts_before}
-use Rattle.ptflow.proofs.PassLemmas.{Reached, reached_nothing, reached_sent, Midway, Works, Stored, pass_read, pass_memory, pass_write, pass_done}
+use Rattle.ptflow.proofs.PassLemmas.{Reached, reached_nothing, reached_sent, Midway, Works, Stored, pass_unslotted, pass_read, pass_memory, pass_write, pass_done}
 use Rattle.ptflow.proofs.SlotFacts.{Keeps, keeps_more, keeps_line}
 
 -- What is written of lines that come in the state x is `lines_from x`, and so is all that this tool writes in the state
@@ -163,10 +163,11 @@ module _ {X : Type 0} (lines_from : X → List (List ℕ) → List ℕ) (end wid
 module _ {X : Type 0} (tool : Tool) (lines_from : X → List (List ℕ) → List ℕ) (decided : List (List ℕ) → List ℕ) (end width : ℕ) (start : X) (t : IsLineTool tool lines_from decided end width start)
     (now : X) (old reader : Reader) (was is : Output) (before : Slots) (ready : IsReady old before) (sound : IsSound reader) where
   -- the slots hold no more than the longest line of each input that agrees
-  stored_short : (store : Slots) (most : ℕ) (given : Given) → store.peak ≤ max before.peak (width * most) → Adds before store width → ((input : List ℕ) → Agrees given input → most ≤ longest_line end input) → Stored tool before store given
-  stored_short store most given peak adds short = record {
+  stored_short : (store : Slots) (most : ℕ) (given : Given) → store.peak ≤ max before.peak (width * most) → Adds before store width → width ≤ length store.lines → ((input : List ℕ) → Agrees given input → most ≤ longest_line end input) → Stored tool before store given
+  stored_short store most given peak adds room short = record {
     peak = λ input a. omega (arith, t.size input, peak, mul-le-mul_left width (short input a));
     adds = subst (λ (n : ℕ). Adds before store n) (sym t.slots) adds;
+    room = omega (arith, room, t.slots);
     unused = λ none. absurd (omega (arith, none, t.slots, t.some));
   }
 
@@ -211,7 +212,7 @@ module _ {X : Type 0} (tool : Tool) (lines_from : X → List (List ℕ) → List
       pub run_read : IsSound new → (after : Slots) → Keeps width (max (longest (lines end r.given)) (length piece)) before after → HasReadCause reader new → IsPass tool old new was is before after (Err (Read 0))
       run_read is_sound after kept cause =
           pass_read (bytes_from lines_from end) start tool t.text now old reader new was is before after (midway_of lines_from end width start now old reader was is before store r) ready sound piece reads
-          (stored_short after (max (longest (lines end r.given)) (length piece)) (given_of (r.given ++ piece) new) kept.peak kept.adds short_piece) (works_piece new piece reads free is_sound) cause kept.denied
+          (stored_short after (max (longest (lines end r.given)) (length piece)) (given_of (r.given ++ piece) new) kept.peak kept.adds (omega (arith, kept.adds.all kept.denied)) short_piece) (works_piece new piece reads free is_sound) cause kept.denied
           (λ empty going. subst (λ (l : List ℕ). Begins l r.pushed) (sym (t.decided_is (given_of (r.given ++ piece) new) ∙ ap decided (whole empty going))) (t.sure (lines end r.given) r.pushed now r.on))
         where
           whole : new.held ≡ [] → new.ended ≡ false → whole_lines end (given_of (r.given ++ piece) new) ≡ lines end r.given
@@ -227,13 +228,13 @@ module _ {X : Type 0} (tool : Tool) (lines_from : X → List (List ℕ) → List
           let size : length after.lines ≡ length (with_line store slot piece).lines = ap (λ (s : Slots). length s.lines) told in
           pass_memory (bytes_from lines_from end) start tool t.text now old reader new was is before after (midway_of lines_from end width start now old reader was is before store r) ready sound piece reads
           (stored_short after (max (longest (lines end r.given)) (length piece)) (given_of (r.given ++ piece) new) (omega (arith, kept.peak, ap (λ (s : Slots). s.peak) told))
-          (record { least = omega (arith, size, kept.adds.least); most = omega (arith, size, kept.adds.most); all = λ allowed. absurd (false≢true (sym allowed ∙ denied)) }) short_piece) (works_piece new piece reads free is_sound) same denied
+          (record { least = omega (arith, size, kept.adds.least); most = omega (arith, size, kept.adds.most); all = λ allowed. absurd (false≢true (sym allowed ∙ denied)) }) (omega (arith, size, kept.adds.all kept.denied)) short_piece) (works_piece new piece reads free is_sound) same denied
 
     -- the end was said, and what is written then was pushed
     pub run_done : (new : Reader) (after : Slots) (is' : Output) → IsSound new → Goes reader new [] → IsDone new → new.pulled < 2 ^ 63 → Keeps width (longest (lines end r.given)) before after → total after.lines ≡ 0 → Wrote is is' (lines_from now []) → is'.faulted ≡ false → IsPass tool old new was is' before after (Ok tt)
     run_done new after is' is_sound goes done short kept empty wrote clean =
         pass_done (bytes_from lines_from end) start tool t.text now old reader new was is before after (midway_of lines_from end width start now old reader was is before store r) ready sound [] goes.reads
-        (stored_short after (longest (lines end r.given)) (given_of (r.given ++ []) new) kept.peak kept.adds (λ input a. omega (arith, short_piece new [] goes.reads tt input a)))
+        (stored_short after (longest (lines end r.given)) (given_of (r.given ++ []) new) kept.peak kept.adds (omega (arith, kept.adds.all kept.denied)) (λ input a. omega (arith, short_piece new [] goes.reads tt input a)))
         (works_piece new [] goes.reads tt is_sound) is' wrote done refl goes.failed kept.denied clean goes.fault short empty
 
     -- a write failed while what is written of a line was pushed
@@ -242,7 +243,7 @@ module _ {X : Type 0} (tool : Tool) (lines_from : X → List (List ℕ) → List
         let kept = keeps_next after slot e.line within e.stored in
         let free = subst (λ (b : ℕ). IsLine b e.line) r.ending e.whole in
         pass_write (bytes_from lines_from end) start tool t.text now old reader new was is before after (midway_of lines_from end width start now old reader was is before store r) ready sound (e.line ++ e.ending) e.goes.reads
-        (stored_short after (max (longest (lines end r.given)) (length e.line)) (given_of (r.given ++ (e.line ++ e.ending)) new) kept.peak kept.adds (short_front new e.line e.ending e.goes.reads free))
+        (stored_short after (max (longest (lines end r.given)) (length e.line)) (given_of (r.given ++ (e.line ++ e.ending)) new) kept.peak kept.adds (omega (arith, kept.adds.all kept.denied)) (short_front new e.line e.ending e.goes.reads free))
         (works_line new (e.line ++ e.ending) e.goes.reads e.line (e.ending ++ new.held) (append_assoc e.line e.ending new.held) free (behind_line reader new store after slot e is_sound)) is' h.pushed h.wrote fault e.goes.failed kept.denied
         (λ rest may. subst (λ (l : List (List ℕ)). Begins h.pushed (lines_from now l))
         (sym (line_first lines_from end width start now old reader was is before store r new after slot e (new.held ++ rest) (λ done. λ i. done.held i ++ may done.ended i))) (h.true_so_far (lines end (new.held ++ rest))))
@@ -251,7 +252,7 @@ module _ {X : Type 0} (tool : Tool) (lines_from : X → List (List ℕ) → List
     pub run_write_block : (shown : Reader) (block : List ℕ) → IsSound shown → Goes reader shown [] → shown.held ≡ block → (is' : Output) → Halts lines_from now (ended_lines end block) is is' → is'.faulted ≡ true → IsPass tool old shown was is' before store (Err Write)
     run_write_block shown block is_sound goes held is' h fault =
         pass_write (bytes_from lines_from end) start tool t.text now old reader shown was is before store (midway_of lines_from end width start now old reader was is before store r) ready sound [] goes.reads
-        (stored_short store (longest (lines end r.given)) (given_of (r.given ++ []) shown) r.keeps.peak r.keeps.adds (λ input a. omega (arith, short_piece shown [] goes.reads tt input a)))
+        (stored_short store (longest (lines end r.given)) (given_of (r.given ++ []) shown) r.keeps.peak r.keeps.adds (omega (arith, r.keeps.adds.all r.keeps.denied)) (λ input a. omega (arith, short_piece shown [] goes.reads tt input a)))
         (works_piece shown [] goes.reads tt is_sound) is' h.pushed h.wrote fault goes.failed r.keeps.denied
         (λ rest may. subst (λ (l : List (List ℕ)). Begins h.pushed (lines_from now l)) (sym (ap (λ (l : List ℕ). lines end (l ++ rest)) held ∙ ended_first lines_from end width start now old reader was is before store r shown block goes held rest))
         (h.true_so_far (lines end ((parts_of end block).piece ++ rest))))
@@ -264,16 +265,5 @@ module _ {X : Type 0} (tool : Tool) (lines_from : X → List (List ℕ) → List
 pub run_unslotted : {X : Type 0} (tool : Tool) (lines_from : X → List (List ℕ) → List ℕ) (decided : List (List ℕ) → List ℕ) (end width : ℕ) (start : X) (t : IsLineTool tool lines_from decided end width start)
     → (old : Reader) (was : Output) (before store : Slots) → IsReady old before → IsSound old → was.faulted ≡ false → Adds before store width → store.peak ≡ before.peak → store.denied ≡ true → IsPass tool old old was was before store (Err Memory)
 run_unslotted tool lines_from decided end width start t old was before store ready sound clean adds same denied =
-    let m : Midway (bytes_from lines_from end) start start old old was was = record { given = []; pushed = []; reached = reached_nothing old was ready.readable clean; on = λ rest may. refl } in
-    pass_memory (bytes_from lines_from end) start tool t.text start old old old was was before store m ready sound [] (goes_nothing old ready.readable).reads
-    (stored_short tool lines_from decided end width start t start old old was was before ready sound store 0 (given_of [] old) (omega (arith, same)) adds (λ input a. omega arith))
-    (record {
-      before = λ u. record {
-        earlier = record { bytes = []; ended = false };
-        last = old.held;
-        split = refl;
-        short = omega (arith, sound.held);
-        ended = λ never. absurd (false≢true never);
-      };
-      begins = subst (λ (l : List ℕ). Begins l []) (sym (t.decided_is (record { bytes = []; ended = false }))) (t.sure [] [] start (λ more. refl));
-    }) refl denied
+    pass_unslotted tool old was before store ready sound clean (subst (λ (n : ℕ). Adds before store n) (sym t.slots) adds) same denied (omega (arith, t.slots, t.some))
+    (subst (λ (l : List ℕ). Begins l []) (sym (t.decided_is (record { bytes = []; ended = false }))) (t.sure [] [] start (λ more. refl)))

@@ -138,7 +138,7 @@ pub record Earlier (end : ℕ) (ls : List (List ℕ)) (came : Given) : Type 0 wh
   pub before : Before came
   pub whole : whole_lines end before.earlier ≡ ls
 
-line_take : (end n : ℕ) (bytes : List ℕ) → IsLine end bytes → IsLine end (take n bytes)
+pub line_take : (end n : ℕ) (bytes : List ℕ) → IsLine end bytes → IsLine end (take n bytes)
 line_take end zero bytes are = tt
 line_take end (suc n) [] are = tt
 line_take end (suc n) (b ∷ bytes) are = (are.0, line_take end n bytes are.1)

@@ -1,12 +1,12 @@
 -- The n-th item of a list that passes a test, by the bits of a mask, of which the lowest are cleared; and that the fields
 -- behind the n-th delimiter start there.
-use Rattle.std.proofs.Common.{◌≡◌, ℕ, zero, suc, ◌+◌, ◌-◌, ◌*◌, ◌/◌, ◌%◌, ◌^◌, ◌<◌, ◌≤◌, min, Bool, true, false, cond, not, Option, None, Some, List, [], ◌∷◌, ◌++◌, length, map, take, drop, get_or, refl, sym, ◌∙◌, ap, ap₂, subst, arith, get_or-take, take-append-drop}
+use Rattle.std.proofs.Common.{◌≡◌, ⊎_elim, ℕ, zero, suc, ◌+◌, ◌-◌, ◌*◌, ◌/◌, ◌%◌, ◌^◌, ◌<◌, ◌≤◌, min, Bool, true, false, cond, not, Option, None, Some, List, [], ◌∷◌, ◌++◌, length, map, take, drop, get_or, refl, sym, ◌∙◌, ap, ap₂, subst, arith, get_or-take, take-append-drop, length-drop}
 use Rattle.std.specs.Int.RustNames.{count_ones}
 use Rattle.std.specs.List.{count_by, prefix_len}
 use Rattle.std.specs.Simd.Lanes.{mask_l, chunk}
 use Rattle.std.proofs.Math.Seq.{take-add}
-use Rattle.std.proofs.lemmas.Bool.{eqb-true}
-use Rattle.std.proofs.lemmas.List.{take-take, take_all, drop_more, take_at, drop_at, length-take-le}
+use Rattle.std.proofs.lemmas.Bool.{eqb-true, cases_order}
+use Rattle.std.proofs.lemmas.List.{take_more, get_or-drop, take-take, take_all, drop_more, take_at, drop_at, length-take-le}
 use Rattle.std.proofs.lemmas.List.Splits.{length-slice_split}
 use Rattle.std.proofs.lemmas.List.Sums.{get_or-le-sum_by, sum_by-cons, sum_by-append, sum_by-take-le, count_by-le-length}
 use Rattle.std.proofs.lemmas.Simd.{trailing_mask_l, ones-mask_l, get_or-chunk, length-chunk}
@@ -157,7 +157,7 @@ module _ (p : ℕ → Bool) (bytes : List ℕ) where
       found p (chunk at 64 bytes) (omega (arith, length-chunk at 64 bytes room)) is (omega (arith, counted, ap count_ones is ∙ ones-mask_l p (chunk at 64 bytes)))
 
   -- none in front of the first one passes
-  first_is : (at : ℕ) → IsBehind p 0 0 bytes at → NoneBefore (Passes p bytes) 0 (length bytes) at × Passes p bytes at
+  pub first_is : (at : ℕ) → IsBehind p 0 0 bytes at → NoneBefore (Passes p bytes) 0 (length bytes) at × Passes p bytes at
   first_is at h = (
     record {
       low = omega arith;
@@ -261,3 +261,48 @@ module _ (d : ℕ) (line : List ℕ) where
     starts_past_first passed s =
         let whole : 1 + (n - 1) ≡ n = omega arith in
         subst (λ (m : ℕ). StartsAt d m line (first + 1 + passed)) whole (starts_more d 1 (n - 1) (first + 1) passed line (starts_behind_first first here) s)
+
+-- the next item that passes, where as many stand in front of it as in front of an earlier place
+module _ (p : ℕ → Bool) (bytes : List ℕ) (start end : ℕ) (fits : end < length bytes) (is : p (get_or bytes end 0) ≡ true) (same : count_by p (take end bytes) ≡ count_by p (take start bytes)) where
+  pub one_behind : count_by p (take (end + 1) bytes) ≡ count_by p (take end bytes) + 1
+  one_behind =
+      omega (arith, ap (count_by p) (take_more bytes end 0 fits), sum_by-append (λ b. cond (p b) 1 0) (take end bytes) (get_or bytes end 0 ∷ []), sum_by-cons (λ b. cond (p b) 1 0) (get_or bytes end 0) [], ap (λ (t : Bool). cond {A = ℕ} t 1 0) is)
+
+  pub in_order : start ≤ end
+  in_order = ⊎_elim (λ e. omega (arith, e)) (λ h. ⊎_elim (λ less. absurd (omega (arith, less, same, one_behind, count_up_to p bytes (end + 1) start (omega (arith, less))))) (λ more. omega (arith, more)) h) (cases_order end start)
+
+  pub next_is : NoneBefore (Passes p (drop start bytes)) 0 (length (drop start bytes)) (end - start) × Passes p (drop start bytes) (end - start)
+  next_is =
+      let whole : start + (end - start) ≡ end = omega (arith, in_order) in
+      first_is p (drop start bytes) (end - start) (
+        omega (arith, length-drop start bytes, fits, in_order),
+        ap p (get_or-drop start bytes (end - start) 0 ∙ ap (λ (n : ℕ). get_or bytes n 0) whole) ∙ is,
+        omega (arith, same, ap (λ (n : ℕ). count_by p (take n bytes)) whole, ap (count_by p) (take-add start (end - start) bytes), sum_by-append (λ b. cond (p b) 1 0) (take start bytes) (take (end - start) (drop start bytes))),
+      )
+
+-- the next end of a line among 64 bytes, of which so many were gone over, where the line starts at this place
+module _ (d : ℕ) (block : List ℕ) (from n marked start : ℕ) (room : from + 64 ≤ length block) (some : n < count_by (is_byte d) (chunk from 64 block))
+    (bits : marked ≡ mask_l (without n (map (is_byte d) (chunk from 64 block)))) (ends : count_by (is_byte d) (take start block) ≡ count_by (is_byte d) (take from block) + n) where
+  abbrev bit : ℕ
+  bit = count_trailing_zeros 64 marked
+
+  stands : IsBehind (is_byte d) 0 n (chunk from 64 block) bit
+  stands = behind_set (is_byte d) (chunk from 64 block) n marked (omega (arith, length-chunk from 64 block room)) some bits
+
+  pub end_near : count_trailing_zeros 64 marked < 64
+  end_near = near (is_byte d) block 64 from n bit room stands
+
+  ends_line : is_byte d (get_or block (from + bit) 0) ≡ true
+  ends_line = ap (is_byte d) (sym (get_or-chunk from 64 block bit 0 end_near)) ∙ stands.1
+
+  as_many : count_by (is_byte d) (take (from + bit) block) ≡ count_by (is_byte d) (take start block)
+  as_many = count_front (is_byte d) block 64 from n bit room stands ∙ sym ends
+
+  pub end_order : start ≤ from + count_trailing_zeros 64 marked
+  end_order = in_order (is_byte d) block start (from + bit) (omega (arith, end_near, room)) ends_line as_many
+
+  pub end_first : IsFirstByte (is_byte d) (drop start block) (Some (from + count_trailing_zeros 64 marked - start))
+  end_first = next_is (is_byte d) block start (from + bit) (omega (arith, end_near, room)) ends_line as_many
+
+  pub end_counted : count_by (is_byte d) (take (from + count_trailing_zeros 64 marked + 1) block) ≡ count_by (is_byte d) (take from block) + (n + 1)
+  end_counted = omega (arith, one_behind (is_byte d) block start (from + bit) (omega (arith, end_near, room)) ends_line as_many, as_many, ends)

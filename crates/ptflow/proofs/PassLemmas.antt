@@ -1,6 +1,6 @@
 -- How a pass of any tool over one input ends. Midway, what was pushed stands in front of what is written of the rest,
 -- whatever comes; exactness, the beginning for each agreeing input, and what is decided are three readings of that.
-use Rattle.std.proofs.Common.{◌≡◌, ⊎_elim, inl, inr, ℕ, ◌≤◌, ◌<◌, ◌^◌, true, false, List, [], ◌++◌, None, Result, Ok, Err, max, refl, sym, ◌∙◌, ap, subst, arith, append_assoc}
+use Rattle.std.proofs.Common.{◌≡◌, ⊎_elim, inl, inr, ℕ, ◌≤◌, ◌<◌, ◌^◌, true, false, List, [], ◌++◌, length, None, Result, Ok, Err, max, refl, sym, ◌∙◌, ap, subst, arith, append_assoc}
 use Rattle.std.proofs.lemmas.List.{append-nil}
 use Rattle.std.proofs.lemmas.Bool.{false≢true}
 use Rattle.ptlines.specs.Readers.{Reader, Reads, Goes, IsDone, IsSound, HasReadCause}
@@ -52,6 +52,7 @@ Works tool came pushed = WorksOff {I = Unit {0}} (λ given. tool.decided (given 
 pub record Stored (tool : Tool) (before store : Slots) (given : Given) : Type 0 where
   pub peak : (input : List ℕ) → Agrees given input → store.peak ≤ max before.peak (tool.size input)
   pub adds : Adds before store tool.slots
+  pub room : tool.slots ≤ length store.lines
   pub unused : tool.slots ≡ 0 → store ≡ before
 
 -- the store was left alone
@@ -59,6 +60,7 @@ pub stored_nothing : (tool : Tool) (store : Slots) (given : Given) → tool.slot
 stored_nothing tool store given none = record {
   peak = λ input a. omega arith;
   adds = record { least = omega arith; most = omega arith; all = λ allowed. omega (arith, none) };
+  room = omega (arith, none);
   unused = λ h. refl;
 }
 
@@ -76,9 +78,42 @@ pass_halted tool old was before ready fault = record {
   whole = λ ok. cc;
   peak = λ input a. omega arith;
   slots = λ clean. absurd (false≢true (sym clean ∙ fault));
+  refused = λ clean few. absurd (false≢true (sym clean ∙ fault));
   unused = λ none. refl;
   halted = λ h. record { told = refl; same_reader = refl; same_output = refl; same_store = refl };
 }
+
+-- the slots were refused
+module _ (tool : Tool) (old : Reader) (was : Output) (before store : Slots) (ready : IsReady old before) (sound : IsSound old) (clean : was.faulted ≡ false) (adds : Adds before store tool.slots) (same : store.peak ≡ before.peak) (denied : store.denied ≡ true) where
+  came_before : (decided : Begins (tool.decided (record { bytes = []; ended = false })) []) → Works tool (given_of [] old) []
+  came_before decided = record {
+    before = λ u. record {
+      earlier = record { bytes = []; ended = false };
+      last = old.held;
+      split = refl;
+      short = omega (arith, sound.held);
+      ended = λ never. absurd (false≢true never);
+    };
+    begins = decided;
+  }
+
+  pub pass_unslotted : 0 < tool.slots → Begins (tool.decided (record { bytes = []; ended = false })) [] → IsPass tool old old was was before store (Err Memory)
+  pass_unslotted some decided = record {
+    given = given_of [] old;
+    came = came_of old old [] (goes_nothing old ready.readable).reads;
+    pushed = [];
+    wrote = wrote_nothing was;
+    ends = record { denied = denied; failed = refl; clean = clean };
+    true_so_far = λ input a. record { rest = tool.text input; is = refl };
+    sure = λ failed fine. absurd (false≢true (sym (never_failed old old before [] ready (goes_nothing old ready.readable) sound) ∙ failed));
+    keeps_up = λ fine. keeps_still (λ given. tool.decided (given tt)) (λ u. given_of [] old) was was [] (came_before decided) (wrote_nothing was) clean;
+    whole = λ ok. cc;
+    peak = λ input a. omega (arith, same);
+    slots = λ fine. adds;
+    refused = λ fine few. record { same_reader = refl; same_output = refl };
+    unused = λ none. absurd (omega (arith, none, some));
+    halted = λ fault. absurd (false≢true (sym clean ∙ fault));
+  }
 
 -- a tool that is lent a store that is not denied, and leaves it alone, tells no want of memory
 pub never_memory : (tool : Tool) (old new : Reader) (was is : Output) (store : Slots) (result : Result (Unit {0}) FlowFault) → store.denied ≡ false → IsPass tool old new was is store store result → result ≡ Err Memory → ⊥
@@ -128,6 +163,7 @@ module _ {X : Type 0} (rest_from : X → List ℕ → List ℕ) (start : X) (too
     whole = whole;
     peak = stored.peak;
     slots = λ clean. stored.adds;
+    refused = λ clean few. absurd (omega (arith, few, stored.room));
     unused = stored.unused;
     halted = λ fault. absurd (false≢true (sym m.reached.clean ∙ ap (λ (o : Output). o.faulted) (m.reached.wrote.stays fault) ∙ fault));
   }

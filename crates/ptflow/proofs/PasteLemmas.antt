@@ -1,21 +1,22 @@
 -- `paste`, row by row: the rows that were passed, and the grid of the lines to come, are the whole grid, whatever comes.
-use Rattle.std.proofs.Common.{◌≡◌, ◌≢◌, ◌⊎◌, ⊎_elim, inl, inr, ℕ, suc, ◌+◌, ◌*◌, ◌<◌, ◌≤◌, ◌==◌, ◌^◌, Bool, true, false, cond, List, [], ◌∷◌, ◌++◌, None, Ok, Err, length, take, get_or, map, max, refl, sym, ◌∙◌, ap, subst, arith, append_assoc, length-append}
+use Rattle.std.proofs.Common.{◌≡◌, ◌≢◌, ⊎_elim, inl, inr, ℕ, suc, ◌+◌, ◌*◌, ◌<◌, ◌≤◌, ◌==◌, ◌^◌, Bool, true, false, cond, List, [], ◌∷◌, ◌++◌, None, Ok, Err, length, take, get_or, max, refl, sym, ◌∙◌, ap, subst, arith, append_assoc, take-append-drop, length-append}
 use Rattle.std.specs.Prelude.{All, sum_by, slice_index_or}
-use Rattle.std.proofs.Math.Nat.{mul-le-mul_left, mul_comm}
 use Rattle.std.proofs.lemmas.Bool.{cases_eq, cases_lt, false≢true, eq-eqb, eqb-true}
 use Rattle.std.proofs.lemmas.Bool.Decides.{nat_tests}
-use Rattle.std.proofs.lemmas.List.{append-nil, nil_from_length, take_all, map-append, length-take-le, get_or-take, get_or-map, length-map}
+use Rattle.std.proofs.lemmas.List.{append-nil, drop_more, drop_all, nil_from_length, take_all, length-take-le, get_or-take}
 use Rattle.std.proofs.lemmas.List.Elements.{All-get_or, All-from_get_or}
 use Rattle.std.proofs.lemmas.List.Sums.{sum_by-cons}
 use Rattle.ptlines.specs.Text.{text, lines, ended_lines, IsLine, AreLines, longest, longest_line}
 use Rattle.ptlines.specs.Inputs.{Given, Begins, Agrees, Came, whole_lines}
+use Rattle.ptlines.specs.KeepingUp.{WorksOff, KeepsUp}
 use Rattle.ptlines.specs.Outputs.{Output, Wrote}
 use Rattle.ptlines.specs.Readers.{Reader, Reads, IsDone, HasReadCause}
 use Rattle.ptlines.specs.Slots.{Slots, line, total, with_line, with_denied}
 use Rattle.ptlines.proofs.Coming.{came_of, came_of_set}
 use Rattle.ptlines.proofs.Filling.{reads_trans}
 use Rattle.ptlines.proofs.Pushed.{wrote_nothing, wrote_trans}
-use Rattle.ptlines.proofs.TextLaws.{text-append, ended_first}
+use Rattle.ptlines.proofs.Sending.{keeps_still, keeps_more}
+use Rattle.ptlines.proofs.TextLaws.{ended_first}
 use Rattle.ptlangs.specs.Jobs.{Paste}
 use Rattle.ptflow.specs.Passes.{Adds}
 use Rattle.ptflow.specs.PastePasses.{reader_at, IsReadable, AreReady, ReadAll, IsPastePass}
@@ -25,9 +26,10 @@ use Rattle.ptflow.specs.Workings.TakenLines.{LinesCame, Took}
 use Rattle.ptflow.specs.declared.faults.FlowFault.{FlowFault}
 use Rattle.ptflow.specs.declared.faults.FlowFault.TheVariants.{Read, Write, Memory}
 use Rattle.ptflow.proofs.CellSlots.{cells_start, cells_line, cells_total}
-use Rattle.ptflow.proofs.Grids.{Column, each, each_is, times_below, times_front, column_at, length-columns, Taken, grid_step, grid_none, every_long, every_short, known_are}
+use Rattle.ptflow.proofs.Grids.{Column, each, each_is, times_below, times_front, Taken, grid_step, grid_none}
 use Rattle.ptflow.proofs.LineLaws.{longest-append}
-use Rattle.ptflow.proofs.LinesCame.{lines_on, came_longest, piece_longest, whole_before}
+use Rattle.ptflow.proofs.LinesCame.{lines_on, came_longest, piece_longest}
+use Rattle.ptflow.proofs.PasteKeepsUp.{CutBack, cut_piece, cut_held, cut_last, works_whole, works_behind, begins_behind, works_nothing, sheet-append}
 use Rattle.ptflow.proofs.RowTurns.{none_of_done}
 use Rattle.ptflow.proofs.ReaderFacts.{given_of, done_gives_nothing, stays_done, may_come}
 use Rattle.ptflow.proofs.Takes.{reads_nothing, took_nothing, took_more, lines_trans}
@@ -90,9 +92,6 @@ pub record Pasting (job : Paste) (cells : List ℕ) (set now : List Reader) (was
   pub same : length now ≡ length set
 
 module _ (job : Paste) (cells : List ℕ) where
-  sheet-append : (xs ys : List (List (List ℕ))) → sheet job (xs ++ ys) ≡ sheet job xs ++ sheet job ys
-  sheet-append xs ys = ap (text job.end) (map-append (glued_from job.delimiters 0) xs ys) ∙ text-append job.end (map (glued_from job.delimiters 0) xs) (map (glued_from job.delimiters 0) ys)
-
   pub pasting_starts : (set : List Reader) (was : Output) (first store : Slots) → was.faulted ≡ false → Adds first store (length cells) → store.denied ≡ false → total store.lines ≡ 0 → store.peak ≡ first.peak → Pasting job cells set set was was first store
   pasting_starts set was first store clean adds allowed empty peak = record {
     n = 0;
@@ -158,7 +157,10 @@ module _ (job : Paste) (cells : List ℕ) where
           rw all (took_more job.end (reader_at set p) (reader_at now p) (reader_at new p) (s.n * times cells p) (times cells p) (s.ls p) (got p) (s.took p) (whole_took p))
 
       -- a row that some cell has
-      module _ (c : ℕ) (low : c < length cells) (some : times (take c cells) (get_or cells c 0) < length (got (get_or cells c 0))) where
+      module _ (c : ℕ) (low : c < length cells) (last : length (got (get_or cells c 0)) ≡ times (take c cells) (get_or cells c 0) + 1) where
+        some : times (take c cells) (get_or cells c 0) < length (got (get_or cells c 0))
+        some = omega (arith, last)
+
         row_of : List (List ℕ)
         row_of = each (λ c p. slice_index_or (got p) (times (take c cells) p) []) cells
 
@@ -179,7 +181,7 @@ module _ (job : Paste) (cells : List ℕ) where
           took = more_took;
           on = λ more may. behind more may ∙ ap (λ (l : List (List (List ℕ))). s.passed ++ l) (grid_step cells got more (taken more may) c low some)
               ∙ sym (append_assoc s.passed (each (λ c p. slice_index_or (got p) (times (take c cells) p) []) cells ∷ []) (rows (columns cells more)));
-          wrote = subst (λ (b : List ℕ). Wrote was is' b) (sym (sheet-append s.passed (each (λ c p. slice_index_or (got p) (times (take c cells) p) []) cells ∷ [])))
+          wrote = subst (λ (b : List ℕ). Wrote was is' b) (sym (sheet-append job s.passed (each (λ c p. slice_index_or (got p) (times (take c cells) p) []) cells ∷ [])))
               (wrote_trans was is is' (sheet job s.passed) (sheet job (each (λ c p. slice_index_or (got p) (times (take c cells) p) []) cells ∷ [])) s.clean s.wrote
               (subst (λ (b : List ℕ). Wrote is is' b) (ap (λ (l : List (List ℕ)). glued_from job.delimiters 0 l ++ job.end ∷ []) slots_are ∙ sym (append-nil (glued_from job.delimiters 0 (each (λ c p. slice_index_or (got p) (times (take c cells) p) []) cells) ++ job.end ∷ []))) wrote));
           clean = clean;
@@ -233,6 +235,9 @@ paste_unslotted job cells old set was first store writable ready are_set adds sa
   wrote = wrote_nothing was;
   ends = record { denied = denied; failed = failed_of job.end cells old set first ready are_set; clean = writable };
   true_so_far = λ texts a. record { rest = paste job cells texts; is = refl };
+  keeps_up = λ clean.
+      keeps_still (paste_decided job cells) (λ p. given_of [] (reader_at set p)) was was []
+      (works_nothing job cells (λ p. given_of [] (reader_at set p)) (λ p some. cut_held job.end (reader_at set p) ((are_set p).sound some).held)) (wrote_nothing was) clean;
   sure = λ p some failed clean. absurd (false≢true (sym (failed_of job.end cells old set first ready are_set p ∙ unfailed_of job.end cells old set first ready are_set p some) ∙ failed));
   whole = λ ok. cc;
   peak = λ texts a. omega (arith, same);
@@ -258,6 +263,9 @@ module _ (job : Paste) (cells : List ℕ) (old set now : List Reader) (was is : 
 
   short_set : (p : ℕ) → 0 < times cells p → (reader_at set p).pulled < 2 ^ 63
   short_set = short_of job.end cells old set first ready are_set
+
+  held_now : (p : ℕ) → 0 < times cells p → length (reader_at now p).held ≤ 8192
+  held_now p some = (s.took p).held ((are_set p).sound some).held
 
   -- the readers were read on
   module _ (new : List Reader) (extra : ℕ → List ℕ) (reads : (p : ℕ) → Reads (reader_at now p) (reader_at new p) (extra p)) where
@@ -290,8 +298,49 @@ module _ (job : Paste) (cells : List ℕ) (old set now : List Reader) (was is : 
       pub begins_by : Begins (sheet job s.passed) (paste job cells texts)
       begins_by = record {
         rest = sheet job (rows (columns cells (λ p. lines job.end (extra p ++ ((reader_at new p).held ++ (a p).rest)))));
-        is = ap (sheet job) rows_by ∙ sheet-append job cells s.passed (rows (columns cells (λ p. lines job.end (extra p ++ ((reader_at new p).held ++ (a p).rest)))));
+        is = ap (sheet job) rows_by ∙ sheet-append job s.passed (rows (columns cells (λ p. lines job.end (extra p ++ ((reader_at new p).held ++ (a p).rest)))));
       }
+
+    abbrev whole_by : ℕ → Column
+    whole_by p = whole_lines job.end (given_by p)
+
+    abbrev more_by : ℕ → Column
+    more_by p = whole_lines job.end (record { bytes = extra p ++ (reader_at new p).held; ended = (reader_at new p).ended })
+
+    none_more : (p : ℕ) → IsDone (reader_at now p) → (extra p ++ (reader_at new p).held ≡ []) × ((reader_at new p).ended ≡ true)
+    none_more p done = let k = done_gives_nothing (reader_at now p) (reader_at new p) (extra p) done (reads p) in ((λ i. k.0 i ++ k.1 i), k.2)
+
+    whole_more : (p : ℕ) → whole_by p ≡ s.ls p ++ more_by p
+    whole_more p =
+        ap (λ (b : List ℕ). whole_lines job.end (record { bytes = b; ended = (reader_at new p).ended })) (append_assoc (s.took p).bytes (extra p) (reader_at new p).held)
+        ∙ known_on job.end (reader_at now p) (s.took p).bytes (s.ls p) (s.took p).came (extra p ++ (reader_at new p).held) (reader_at new p).ended (none_more p)
+
+    may_more : (p : ℕ) → IsDone (reader_at now p) → more_by p ≡ []
+    may_more p done = λ i. whole_lines job.end (record { bytes = (none_more p done).0 i; ended = (none_more p done).1 i })
+
+    rows_whole : rows (columns cells whole_by) ≡ s.passed ++ rows (columns cells more_by)
+    rows_whole = (λ i. rows (columns cells (λ p. whole_more p i))) ∙ s.on more_by may_more
+
+    -- what was passed has what was decided before a line of some cell, and a block, came
+    module _ (c : ℕ) (low : c < length cells) (part : Column) (cut : CutBack job.end (s.ls (get_or cells c 0) ++ part) (given_by (get_or cells c 0))) (going : IsDone (reader_at now (get_or cells c 0)) → ⊥) (few : length part ≤ times (take c cells) (get_or cells c 0)) where
+      ls_few : length (s.ls (get_or cells c 0)) ≤ length s.passed * times cells (get_or cells c 0)
+      ls_few =
+          let here = get_or cells c 0 in
+          let fits : length (s.ls here) ≤ s.n * times cells here = ⊎_elim (λ same. omega (arith, same)) (λ few. few.1) (s.took here).enough in
+          omega (arith, fits, ap (λ (n : ℕ). n * times cells here) s.count)
+
+      works_by : WorksOff {I = ℕ} (paste_decided job cells) given_by (sheet job s.passed)
+      works_by = works_behind job cells given_by (get_or cells c 0) s.ls part cut s.passed (λ p. IsDone (reader_at now p)) s.on more_by whole_more may_more going c low refl ls_few few
+
+      begins_by_cut : cut.front ≡ (given_by (get_or cells c 0)).bytes → (given_by (get_or cells c 0)).ended ≡ false → Begins (paste_decided job cells given_by) (sheet job s.passed)
+      begins_by_cut = begins_behind job cells given_by (get_or cells c 0) s.ls part cut s.passed (λ p. IsDone (reader_at now p)) s.on more_by whole_more may_more going c low refl ls_few few
+
+    keeps_by : WorksOff {I = ℕ} (paste_decided job cells) given_by (sheet job s.passed) → KeepsUp {I = ℕ} (paste_decided job cells) given_by was is (sheet job s.passed)
+    keeps_by works = keeps_still (paste_decided job cells) given_by was is (sheet job s.passed) works s.wrote s.clean
+
+    -- whatever became of what was pushed behind it
+    keeps_past : (is' : Output) (bytes : List ℕ) → Wrote is is' bytes → WorksOff {I = ℕ} (paste_decided job cells) given_by (sheet job s.passed) → KeepsUp {I = ℕ} (paste_decided job cells) given_by was is' (sheet job s.passed ++ bytes)
+    keeps_past is' bytes wrote works = keeps_more (paste_decided job cells) given_by was is (sheet job s.passed) works s.wrote s.clean is' bytes wrote
 
     failed_by : (p : ℕ) → (reader_at new p).failed ≡ (reader_at now p).failed → (reader_at new p).failed ≡ (reader_at old p).failed
     failed_by p same = same ∙ (s.took p).failed ∙ failed_set p
@@ -302,8 +351,8 @@ module _ (job : Paste) (cells : List ℕ) (old set now : List Reader) (was is : 
   -- a growth of a slot was refused
   module _ (new : List Reader) (extra : ℕ → List ℕ) (reads : (p : ℕ) → Reads (reader_at now p) (reader_at new p) (extra p)) (same : (p : ℕ) → (reader_at new p).failed ≡ (reader_at now p).failed) (left : (p : ℕ) → times cells p ≡ 0 → reader_at new p ≡ reader_at now p) (after : Slots)
       (adds : Adds first after (length cells)) (peak : (texts : ℕ → List ℕ) → ((p : ℕ) → Agrees (given_by new extra reads p) (texts p)) → after.peak ≤ max first.peak (paste_size job cells texts)) where
-    pub paste_memory : after.denied ≡ true → length cells ≤ length after.lines → IsPastePass job cells old new was is first after (Err Memory)
-    paste_memory denied room = record {
+    pub paste_memory : after.denied ≡ true → length cells ≤ length after.lines → WorksOff {I = ℕ} (paste_decided job cells) (given_by new extra reads) (sheet job s.passed) → IsPastePass job cells old new was is first after (Err Memory)
+    paste_memory denied room works = record {
       given = given_by new extra reads;
       came = came_by new extra reads;
       pushed = sheet job s.passed;
@@ -311,6 +360,7 @@ module _ (job : Paste) (cells : List ℕ) (old set now : List Reader) (was is : 
       ends = record { denied = denied; failed = λ p. failed_by new extra reads p (same p); clean = s.clean };
       true_so_far = begins_by new extra reads;
       sure = λ p some failed clean. absurd (false≢true (sym (failed_by new extra reads p (same p) ∙ never_failed p some) ∙ failed));
+      keeps_up = λ clean. keeps_by new extra reads works;
       whole = λ ok. cc;
       peak = peak;
       slots = λ clean. adds;
@@ -344,10 +394,23 @@ module _ (job : Paste) (cells : List ℕ) (old set now : List Reader) (was is : 
     any_kept : KeepsCells cells (λ p. longest (s.ls p ++ got p)) first after
     any_kept = more_kept job cells set now was is first store s named_end new after got t (λ p. longest (s.ls p ++ got p)) (λ p. omega arith)
 
+    -- up to the last line of the row
+    works_row : (c : ℕ) → c < length cells → length (got (get_or cells c 0)) ≡ times (take c cells) (get_or cells c 0) + 1 → WorksOff {I = ℕ} (paste_decided job cells) (given_by new row_bytes row_reads) (sheet job s.passed)
+    works_row c low last =
+        let p = get_or cells c 0 in
+        let j = times (take c cells) p in
+        let front = take j (got p) in
+        let split : got p ≡ front ++ get_or (got p) j [] ∷ [] =
+        sym (take-append-drop j (got p)) ∙ ap (λ (l : Column). front ++ l) (drop_more (got p) j [] (omega (arith, last)) ∙ ap (λ (l : Column). get_or (got p) j [] ∷ l) (drop_all (j + 1) (got p) (omega (arith, last)))) in
+        let k = subst (LinesCame job.end (reader_at new p) ((s.took p).bytes ++ row_bytes p)) (ap (λ (l : Column). s.ls p ++ l) split ∙ sym (append_assoc (s.ls p) front (get_or (got p) j [] ∷ []))) (lines_came p) in
+        works_by new row_bytes row_reads c low front
+        (cut_last job.end (reader_at new p) ((s.took p).bytes ++ row_bytes p) (s.ls p ++ front) (get_or (got p) j []) ((took_by p).held (held_now p (omega (arith, times_below cells c low)))) k)
+        (λ done. absurd (omega (arith, last, ap length (none_of_done job.end (reader_at now p) (reader_at new p) (times cells p) (got p) (took_by p) done)))) (omega (arith, length-take-le j (got p) (omega (arith, last))))
+
     -- a write failed while it was pushed
-    pub paste_write : (c : ℕ) → c < length cells → times (take c cells) (get_or cells c 0) < length (got (get_or cells c 0)) → (is' : Output) → Wrote is is' (glued_from job.delimiters 0 (take (length cells) after.lines) ++ job.end ∷ []) → is'.faulted ≡ true
+    pub paste_write : (c : ℕ) → c < length cells → length (got (get_or cells c 0)) ≡ times (take c cells) (get_or cells c 0) + 1 → (is' : Output) → Wrote is is' (glued_from job.delimiters 0 (take (length cells) after.lines) ++ job.end ∷ []) → is'.faulted ≡ true
         → IsPastePass job cells old new was is' first after (Err Write)
-    paste_write c low some is' wrote fault = record {
+    paste_write c low last is' wrote fault = record {
       given = given_by new row_bytes row_reads;
       came = came_by new row_bytes row_reads;
       pushed = sheet job s.passed ++ (glued_from job.delimiters 0 (take (length cells) after.lines) ++ job.end ∷ []);
@@ -355,6 +418,7 @@ module _ (job : Paste) (cells : List ℕ) (old set now : List Reader) (was is : 
       ends = record { faulted = fault; failed = λ p. failed_by new row_bytes row_reads p (took_by p).failed; denied = any_kept.denied };
       true_so_far = λ texts a. record { rest = sheet job (rows (columns cells (later texts a))); is = all texts a };
       sure = λ p some failed clean. absurd (false≢true (sym clean ∙ fault));
+      keeps_up = λ clean. keeps_past new row_bytes row_reads is' (glued_from job.delimiters 0 (take (length cells) after.lines) ++ job.end ∷ []) wrote (works_row c low last);
       whole = λ ok. cc;
       peak = λ texts a. (kept_by texts a).peak;
       slots = λ clean. any_kept.adds;
@@ -380,14 +444,14 @@ module _ (job : Paste) (cells : List ℕ) (old set now : List Reader) (was is : 
             (λ i. rows (columns cells (λ p. lines_are texts a p i)))
             ∙ behind job cells set now was is first store s named_end new after got t (later texts a) (λ p done. ap (lines job.end) (may texts a p done))
             ∙ ap (λ (l : List (List (List ℕ))). s.passed ++ l) (
-            grid_step cells got (later texts a) (record { all = λ p. ⊎_elim (λ same. inl same) (λ few. inr (ap (lines job.end) (may texts a p few.0), few.1)) (took_by p).enough }) c low some
-            ∙ (λ i. sym (slots_are job cells set now was is first store s named_end new after got t c low some) i ∷ rows (columns cells (later texts a)))
+            grid_step cells got (later texts a) (record { all = λ p. ⊎_elim (λ same. inl same) (λ few. inr (ap (lines job.end) (may texts a p few.0), few.1)) (took_by p).enough }) c low (omega (arith, last))
+            ∙ (λ i. sym (slots_are job cells set now was is first store s named_end new after got t c low last) i ∷ rows (columns cells (later texts a)))
             )
 
         all : (texts : ℕ → List ℕ) (a : (p : ℕ) → Agrees (given_by new row_bytes row_reads p) (texts p))
             → paste job cells texts ≡ (sheet job s.passed ++ (glued_from job.delimiters 0 (take (length cells) after.lines) ++ job.end ∷ [])) ++ sheet job (rows (columns cells (later texts a)))
         all texts a =
-            ap (sheet job) (row_is texts a) ∙ sheet-append job cells s.passed (take (length cells) after.lines ∷ rows (columns cells (later texts a)))
+            ap (sheet job) (row_is texts a) ∙ sheet-append job s.passed (take (length cells) after.lines ∷ rows (columns cells (later texts a)))
             ∙ sym (append_assoc (sheet job s.passed) (glued_from job.delimiters 0 (take (length cells) after.lines) ++ job.end ∷ []) (sheet job (rows (columns cells (later texts a)))))
 
     -- no cell has a line
@@ -418,6 +482,15 @@ module _ (job : Paste) (cells : List ℕ) (old set now : List Reader) (was is : 
           let a : (p : ℕ) → Agrees (given_by new row_bytes row_reads p) (texts p) = λ p. record { rest = []; is = sym (append-nil (given_by new row_bytes row_reads p).bytes); whole = λ ended. refl } in
           sym (ap (sheet job) (rows_by new row_bytes row_reads texts a ∙ ap (λ (l : List (List (List ℕ))). s.passed ++ l) (grid_none cells (λ p. lines job.end (row_bytes p ++ ((reader_at new p).held ++ []))) (nothing_left texts a)) ∙ append-nil s.passed))
 
+      no_more : (p : ℕ) → 0 < times cells p → more_by new row_bytes row_reads p ≡ []
+      no_more p some =
+          let done = done_by p some in
+          (λ i. whole_lines job.end (record { bytes = row_bytes p ++ (reader_at new p).held; ended = done.ended i }))
+          ∙ lines_on job.end (reader_at new p) (row_bytes p) (got p) (took_by p).came (reader_at new p).held (λ done. done.held) ∙ (λ i. none p i ++ lines job.end (done.held i))
+
+      rows_passed : rows (columns cells (whole_by new row_bytes row_reads)) ≡ s.passed
+      rows_passed = rows_whole new row_bytes row_reads ∙ ap (λ (l : List (List (List ℕ))). s.passed ++ l) (grid_none cells (more_by new row_bytes row_reads) no_more) ∙ append-nil s.passed
+
       pub paste_done : IsPastePass job cells old new was is first after (Ok tt)
       paste_done = record {
         given = given_by new row_bytes row_reads;
@@ -440,6 +513,7 @@ module _ (job : Paste) (cells : List ℕ) (old set now : List Reader) (was is : 
         };
         true_so_far = begins_by new row_bytes row_reads;
         sure = λ p some failed clean. absurd (false≢true (sym (failed_by new row_bytes row_reads p (took_by p).failed ∙ never_failed p some) ∙ failed));
+        keeps_up = λ clean. keeps_by new row_bytes row_reads (works_whole job cells (given_by new row_bytes row_reads) s.passed rows_passed);
         whole = λ ok. whole_is;
         peak = λ texts a. (kept_by texts a).peak;
         slots = λ clean. any_kept.adds;
@@ -523,9 +597,31 @@ module _ (job : Paste) (cells : List ℕ) (old set now : List Reader) (was is : 
     left_to : (p : ℕ) → times cells p ≡ 0 → reader_at new p ≡ reader_at now p
     left_to p none = others p (λ same. absurd (omega (arith, none, here_named, ap (times cells) same))) ∙ (took_to p).none (omega (arith, none, times_front cells c p))
 
+    -- a reader that may have more is the one that holds the row up
+    module _ (going : IsDone (reader_at mid here) → ⊥) (few : length (reader_at now here).held ≤ 8192 → length (reader_at new here).held ≤ 8192) where
+      abbrev cut_here : CutBack job.end (s.ls here ++ got here) (given_by new extra reads_to here)
+      cut_here =
+          cut_piece job.end (reader_at mid here) (reader_at new here) ((s.took here).bytes ++ (took_to here).bytes) (s.ls here ++ got here) (lines_to here) going piece ((s.took here).bytes ++ extra here)
+          (ap (λ (b : List ℕ). (s.took here).bytes ++ b) (extra_here here refl) ∙ sym (append_assoc (s.took here).bytes (took_to here).bytes piece)) (free_to here refl) (few (held_now here here_named))
+
+      going_on : IsDone (reader_at now here) → ⊥
+      going_on done = going (stays_done (reader_at now here) (reader_at mid here) (took_to here).bytes done (took_to here).reads)
+
+      got_few : length (got here) ≤ times (take c cells) here
+      got_few = ⊎_elim (λ same. omega (arith, same)) (λ few. few.1) (took_to here).enough
+
+      works_to : WorksOff {I = ℕ} (paste_decided job cells) (given_by new extra reads_to) (sheet job s.passed)
+      works_to = works_by new extra reads_to c low (got here) cut_here going_on got_few
+
+      -- and all that was decided was passed, where nothing is held
+      decided_to : (reader_at new here).held ≡ [] → (reader_at new here).ended ≡ false → Begins (paste_decided job cells (given_by new extra reads_to)) (sheet job s.passed)
+      decided_to empty open_end =
+          begins_by_cut new extra reads_to c low (got here) cut_here going_on got_few
+          (sym (append-nil ((s.took here).bytes ++ extra here)) ∙ ap (λ (b : List ℕ). ((s.took here).bytes ++ extra here) ++ b) (sym empty)) open_end
+
     -- what was staged could not be sent
-    pub paste_broke_write : (is' : Output) → Wrote is is' [] → is'.faulted ≡ true → reader_at new here ≡ reader_at mid here → IsPastePass job cells old new was is' first held (Err Write)
-    paste_broke_write is' wrote fault same = record {
+    pub paste_broke_write : (is' : Output) → Wrote is is' [] → is'.faulted ≡ true → reader_at new here ≡ reader_at mid here → (reader_at mid here).ended ≡ false → IsPastePass job cells old new was is' first held (Err Write)
+    paste_broke_write is' wrote fault same going = record {
       given = given_by new extra reads_to;
       came = came_by new extra reads_to;
       pushed = sheet job s.passed ++ [];
@@ -533,6 +629,8 @@ module _ (job : Paste) (cells : List ℕ) (old set now : List Reader) (was is : 
       ends = record { faulted = fault; failed = λ p. failed_by new extra reads_to p (failed_to p); denied = held_kept.denied };
       true_so_far = λ texts a. subst (λ (b : List ℕ). Begins b (paste job cells texts)) (sym (append-nil (sheet job s.passed))) (begins_by new extra reads_to texts a);
       sure = λ p some failed clean. absurd (false≢true (sym clean ∙ fault));
+      keeps_up = λ clean. keeps_past new extra reads_to is' [] wrote
+          (works_to (λ done. false≢true (sym going ∙ done.ended)) (λ held. subst (λ (r : Reader). length r.held ≤ 8192) (sym same) ((took_to here).held held)));
       whole = λ ok. cc;
       peak = λ texts a. (held_in texts a).peak;
       slots = λ clean. held_kept.adds;
@@ -551,8 +649,9 @@ module _ (job : Paste) (cells : List ℕ) (old set now : List Reader) (was is : 
         held_in texts a = held_by (λ p. longest_line job.end (texts p)) (short_to texts a)
 
     -- a growth was refused
-    pub paste_broke_memory : (after : Slots) → after ≡ with_denied (with_line held c piece) → (reader_at new here).failed ≡ (reader_at mid here).failed → IsPastePass job cells old new was is first after (Err Memory)
-    paste_broke_memory after is_after same =
+    pub paste_broke_memory : (after : Slots) → after ≡ with_denied (with_line held c piece) → (reader_at new here).failed ≡ (reader_at mid here).failed → 0 < length (reader_at new here).held → (length (reader_at now here).held ≤ 8192 → length (reader_at new here).held ≤ 8192)
+        → IsPastePass job cells old new was is first after (Err Memory)
+    paste_broke_memory after is_after same left few =
         paste_memory new extra reads_to
         (λ p. ⊎_elim (λ at. ap (λ (q : ℕ). (reader_at new q).failed) at ∙ same ∙ ap (λ (q : ℕ). (reader_at mid q).failed) (sym at) ∙ (took_to p).failed) (failed_there p) (cases_eq p here))
         left_to after
@@ -563,82 +662,14 @@ module _ (job : Paste) (cells : List ℕ) (old set now : List Reader) (was is : 
         })
         (λ texts a. omega (arith, ap (λ (s : Slots). s.peak) is_after, (kept_to texts a).peak)) denied
         (omega (arith, ap (λ (s : Slots). length s.lines) is_after, some_kept.adds.all some_kept.denied))
+        (works_to (λ done. absurd (omega (arith, left, ap length (done_gives_nothing (reader_at mid here) (reader_at new here) piece done piece_reads).1))) few)
       where
         denied : after.denied ≡ true
         denied = ap (λ (s : Slots). s.denied) is_after
 
     -- the read failed
-    module _ (empty : (reader_at new here).held ≡ []) (going : (reader_at new here).ended ≡ false) where
-      abbrev whole_by : ℕ → Column
-      whole_by p = whole_lines job.end (given_by new extra reads_to p)
-
-      abbrev more_by : ℕ → Column
-      more_by p = whole_lines job.end (record { bytes = extra p ++ (reader_at new p).held; ended = (reader_at new p).ended })
-
-      none_more : (p : ℕ) → IsDone (reader_at now p) → (extra p ++ (reader_at new p).held ≡ []) × ((reader_at new p).ended ≡ true)
-      none_more p done = let k = done_gives_nothing (reader_at now p) (reader_at new p) (extra p) done (reads_to p) in ((λ i. k.0 i ++ k.1 i), k.2)
-
-      whole_more : (p : ℕ) → whole_by p ≡ s.ls p ++ more_by p
-      whole_more p =
-          ap (λ (b : List ℕ). whole_lines job.end (record { bytes = b; ended = (reader_at new p).ended })) (append_assoc (s.took p).bytes (extra p) (reader_at new p).held)
-          ∙ known_on job.end (reader_at now p) (s.took p).bytes (s.ls p) (s.took p).came (extra p ++ (reader_at new p).held) (reader_at new p).ended (none_more p)
-
-      rows_whole : rows (columns cells whole_by) ≡ s.passed ++ rows (columns cells more_by)
-      rows_whole =
-          (λ i. rows (columns cells (λ p. whole_more p i)))
-          ∙ s.on more_by (λ p done. λ i. whole_lines job.end (record { bytes = (none_more p done).0 i; ended = (none_more p done).1 i }))
-
-      abbrev ends_by : List Bool
-      ends_by = map (λ p. (given_by new extra reads_to p).ended) cells
-
-      end_at : (d : ℕ) → d < length cells → get_or ends_by d true ≡ (reader_at new (get_or cells d 0)).ended
-      end_at d within = get_or-map (λ p. (given_by new extra reads_to p).ended) cells d 0 true within
-
-      known_by : (r : ℕ) → r < s.n → (d : ℕ) → d < length (columns cells whole_by) → (get_or ends_by d true ≡ true) ⊎ (r < length (get_or (columns cells whole_by) d []))
-      known_by r below d within =
-          let inside : d < length cells = omega (arith, within, length-columns cells whole_by) in
-          let p = get_or cells d 0 in
-          let k = times cells p in
-          let j = times (take d cells) p in
-          ⊎_elim
-          (λ same.
-          let fits : k * (r + 1) ≤ k * s.n = mul-le-mul_left k (omega (arith, below)) in
-          let enough : j + r * k < length (whole_by p) = omega (
-            arith,
-            fits,
-            mul_comm k (r + 1),
-            mul_comm k s.n,
-            same,
-            times_below cells d inside,
-            ap length (whole_more p),
-            length-append (s.ls p) (more_by p),
-            (let one : (r + 1) * k ≡ r * k + k = omega arith in one),
-          ) in
-          inr (omega (arith, every_long k j (times_below cells d inside) r (whole_by p) enough, ap length (column_at cells whole_by d inside))))
-          (λ few. inl (end_at d inside ∙ (none_more p few.0).1))
-          (s.took p).enough
-
-      here_lines : whole_by here ≡ s.ls here ++ got here
-      here_lines =
-          ap (whole_lines job.end) (given_here here refl)
-          ∙ whole_before job.end (reader_at mid here) ((s.took here).bytes ++ (took_to here).bytes) (s.ls here ++ got here) (lines_to here) (reader_at new here) piece (reads_at here refl) (free_to here refl) empty going
-
-      decided_is : paste_decided job cells (given_by new extra reads_to) ≡ sheet job s.passed
-      decided_is =
-          let k = times cells here in
-          let j = times (take c cells) here in
-          let ls_few : length (s.ls here) ≤ s.n * k = ⊎_elim (λ same. omega (arith, same)) (λ few. few.1) (s.took here).enough in
-          let got_few : length (got here) ≤ j = ⊎_elim (λ same. omega (arith, same)) (λ few. few.1) (took_to here).enough in
-          let few : length (get_or (columns cells whole_by) c []) ≤ s.n = omega (
-            arith,
-            ap length (column_at cells whole_by c low),
-            every_short k j (times_below cells c low) s.n (whole_by here) (omega (arith, ls_few, got_few, ap length here_lines, length-append (s.ls here) (got here))),
-          ) in
-          ap (sheet job) (known_are (columns cells whole_by) ends_by s.n s.passed (rows (columns cells more_by)) rows_whole s.count known_by c (omega (arith, low, length-columns cells whole_by))
-          (omega (arith, low, length-map cells (λ p. (given_by new extra reads_to p).ended))) (end_at c low ∙ going) few)
-
-    pub paste_broke_read : (after : Slots) → after ≡ with_line held c piece → HasReadCause (reader_at mid here) (reader_at new here) → IsPastePass job cells old new was is first after (Err (Read here))
-    paste_broke_read after is_after cause = record {
+    pub paste_broke_read : (after : Slots) → after ≡ with_line held c piece → HasReadCause (reader_at mid here) (reader_at new here) → (length (reader_at now here).held ≤ 8192 → length (reader_at new here).held ≤ 8192) → IsPastePass job cells old new was is first after (Err (Read here))
+    paste_broke_read after is_after cause few = record {
       given = given_by new extra reads_to;
       came = came_by new extra reads_to;
       pushed = sheet job s.passed;
@@ -654,11 +685,12 @@ module _ (job : Paste) (cells : List ℕ) (old set now : List Reader) (was is : 
       true_so_far = begins_by new extra reads_to;
       sure = λ p some failed fine. ⊎_elim
           (λ same. ⊎_elim
-          (λ k. record { rest = []; is = sym (decided_is k.1 k.2) ∙ sym (append-nil (paste_decided job cells (given_by new extra reads_to))) })
+          (λ k. decided_to may_have_more few k.1 k.2)
           (λ k. absurd (false≢true (sym (k.1 ∙ (took_to here).failed ∙ (s.took here).failed ∙ failed_set here ∙ never_failed here here_named) ∙ ap (λ (q : ℕ). (reader_at new q).failed) (sym same) ∙ failed)))
           cause)
           (λ differ. absurd (false≢true (sym (failed_by new extra reads_to p (failed_there p differ) ∙ never_failed p some) ∙ failed)))
           (cases_eq p here);
+      keeps_up = λ clean. keeps_by new extra reads_to (works_to may_have_more few);
       whole = λ ok. cc;
       peak = λ texts a. omega (arith, ap (λ (s : Slots). s.peak) is_after, (kept_to texts a).peak);
       slots = λ clean. subst (λ (s : Slots). Adds first s (length cells)) (sym is_after) some_kept.adds;
@@ -666,6 +698,12 @@ module _ (job : Paste) (cells : List ℕ) (old set now : List Reader) (was is : 
       untouched = λ p none. untouched_by new extra reads_to p none (left_to p none);
       halted = λ fault. absurd (false≢true (sym writable ∙ fault));
     }
+      where
+        may_have_more : IsDone (reader_at mid here) → ⊥
+        may_have_more done = ⊎_elim
+            (λ k. false≢true (sym k.2 ∙ (done_gives_nothing (reader_at mid here) (reader_at new here) piece done piece_reads).2))
+            (λ k. absurd (omega (arith, k.0, (piece_reads.still done.ended).0, (took_to here).short ((s.took here).short (short_set here here_named)))))
+            cause
 
 -- a row could not be filled
 pub paste_broke : (job : Paste) (cells : List ℕ) (old set now : List Reader) (was is is' : Output) (first store : Slots) (s : Pasting job cells set now was is first store) → was.faulted ≡ false → AreReady cells old first → AreSet job.end cells old set → (new : List Reader) (after : Slots) (e : FlowFault)
@@ -675,17 +713,17 @@ paste_broke job cells old set now was is is' first store s writable ready are_se
     let k = b.breaks in
     let t = pasting_sent job cells set now was is is' first store s wrote clean in
     subst (λ (p : ℕ). IsPastePass job cells old new was is' first after (Err (Read p))) (sym f.1)
-    (paste_broke_read job cells old set now was is' first store t writable ready are_set new b.column b.within b.got b.mid b.held b.taken k.piece k.faults.reads k.faults.whole b.others after k.stored k.cause)
+    (paste_broke_read job cells old set now was is' first store t writable ready are_set new b.column b.within b.got b.mid b.held b.taken k.piece k.faults.reads k.faults.whole b.others after k.stored k.cause b.few)
 paste_broke job cells old set now was is is' first store s writable ready are_set new after Write f wrote fault =
     let k = f.breaks in
     let here = get_or cells f.column 0 in
     subst (λ (x : Slots). IsPastePass job cells old new was is' first x (Err Write)) (sym k.1)
     (paste_broke_write job cells old set now was is first store s writable ready are_set new f.column f.within f.got f.mid f.held f.taken []
-    (subst (λ (r : Reader). Reads (reader_at f.mid here) r []) (sym k.0) (reads_nothing (reader_at f.mid here))) tt f.others is' wrote fault k.0)
+    (subst (λ (r : Reader). Reads (reader_at f.mid here) r []) (sym k.0) (reads_nothing (reader_at f.mid here))) tt f.others is' wrote fault k.0 k.2)
 paste_broke job cells old set now was is is' first store s writable ready are_set new after Memory f wrote clean =
     let k = f.breaks in
     let t = pasting_sent job cells set now was is is' first store s wrote clean in
-    paste_broke_memory job cells old set now was is' first store t writable ready are_set new f.column f.within f.got f.mid f.held f.taken k.piece k.faults.reads k.faults.whole f.others after k.stored k.failed
+    paste_broke_memory job cells old set now was is' first store t writable ready are_set new f.column f.within f.got f.mid f.held f.taken k.piece k.faults.reads k.faults.whole f.others after k.stored k.failed k.left f.few
 
 -- the slots are there
 pub pasting_room : (job : Paste) (cells : List ℕ) (set now : List Reader) (was is : Output) (first store : Slots) → Pasting job cells set now was is first store → length cells ≤ length store.lines
@@ -703,6 +741,7 @@ paste_halted job cells old was first ready fault = record {
   ends = record { faulted = fault; failed = λ p. refl; denied = ready.roomy };
   true_so_far = λ texts a. record { rest = paste job cells texts; is = refl };
   sure = λ p some failed clean. absurd (false≢true (sym clean ∙ fault));
+  keeps_up = λ clean. absurd (false≢true (sym clean ∙ fault));
   whole = λ ok. cc;
   peak = λ texts a. omega arith;
   slots = λ clean. absurd (false≢true (sym clean ∙ fault));

@@ -1,9 +1,15 @@
 -- Worked examples of `paste`.
-use Rattle.std.proofs.Common.{◌≡◌, ℕ, List, [], ◌∷◌, true, false, refl, codes, Option, Some, None}
-use Rattle.std.specs.Prelude.{slice_index_or}
-use Rattle.ptlines.specs.Inputs.{nothing_left}
+use Rattle.std.proofs.Common.{◌≡◌, ◌≤◌, ℕ, zero, suc, Bool, List, [], ◌∷◌, ◌++◌, true, false, cond, length, drop, refl, sym, ◌∙◌, ap, subst, arith, codes, Option, Some, None, length-append}
+use Rattle.std.specs.Prelude.{replicate, slice_index_or}
+use Rattle.std.proofs.lemmas.Bool.{false≢true}
+use Rattle.std.proofs.lemmas.List.{length-replicate}
+use Rattle.ptlines.specs.Inputs.{Given, nothing_left, whole_lines}
+use Rattle.ptlines.specs.KeepingUp.{Before, KeepsUp}
+use Rattle.ptlines.specs.Outputs.{Output}
+use Rattle.ptlines.specs.Text.{lines, ended_lines, IsLine}
+use Rattle.ptlines.proofs.TextLaws.{ended_none}
 use Rattle.ptlangs.specs.Jobs.{Paste}
-use Rattle.ptflow.specs.Pastes.{paste, paste_serial, paste_decided, serial_decided, paste_size}
+use Rattle.ptflow.specs.Pastes.{columns, known_rows, sheet, paste, paste_serial, paste_decided, serial_decided, paste_size}
 
 abbrev job : List (Option ℕ) → Paste
 job delimiters = record { serial = false; delimiters = delimiters; end = 10 }
@@ -54,3 +60,39 @@ row_of_known_cells = refl
 
 whole_lines_in_series : serial_decided (job (Some 9 ∷ [])) (record { bytes = codes "x\ny\nz"; ended = false }) ≡ codes "x\ty"
 whole_lines_in_series = refl
+
+-- ---- keeping up
+
+free_front : (front last : List ℕ) → IsLine 10 (front ++ last) → IsLine 10 front
+free_front [] last free = tt
+free_front (b ∷ front) last free = (free.0, free_front front last free.1)
+
+letters_free : (n : ℕ) → IsLine 10 (replicate n 120)
+letters_free zero = tt
+letters_free (suc n) = (λ same. absurd (omega (arith, same)), letters_free n)
+
+-- of a first line that is empty, and enough of the second, the first came two blocks earlier
+line_came : (came : Given) → came.bytes ≡ 10 ∷ replicate 20000 120 → came.ended ≡ false → (b : Before came) → (b.earlier.ended ≡ false) × (whole_lines 10 b.earlier ≡ [] ∷ [])
+line_came came is going b = by_end b.earlier.ended refl
+  where
+    by_bytes : (bytes last : List ℕ) → 10 ∷ replicate 20000 120 ≡ bytes ++ last → length last ≤ 16384 → ended_lines 10 bytes ≡ [] ∷ []
+    by_bytes [] last split short = absurd (omega (arith, ap length split, length-replicate {A = ℕ} 20000 120, short))
+    by_bytes (x ∷ bytes) last split short =
+        let first : 10 ≡ x = ap (λ (l : List ℕ). slice_index_or l 0 0) split in
+        let rest : replicate 20000 120 ≡ bytes ++ last = ap (drop 1) split in
+        ap (λ (y : ℕ). ended_lines 10 (y ∷ bytes)) (sym first) ∙ ap (λ (l : List (List ℕ)). [] ∷ l) (ended_none 10 bytes (free_front bytes last (subst (IsLine 10) rest (letters_free 20000))))
+
+    by_end : (e : Bool) → b.earlier.ended ≡ e → (b.earlier.ended ≡ false) × (whole_lines 10 b.earlier ≡ [] ∷ [])
+    by_end true ended = absurd (false≢true (sym going ∙ b.ended ended))
+    by_end false ended = (ended, (λ i. cond (ended i) (lines 10 b.earlier.bytes) (ended_lines 10 b.earlier.bytes)) ∙ by_bytes b.earlier.bytes b.last (sym is ∙ b.split) b.short)
+
+abbrev held_back : ℕ → Given
+held_back place = record { bytes = 10 ∷ replicate 20000 120; ended = false }
+
+-- a paste that pushes nothing of such inputs does not keep up
+no_row_pushed : (was is : Output) → KeepsUp {I = ℕ} (paste_decided (job (Some 9 ∷ [])) (0 ∷ 1 ∷ [])) held_back was is [] → ⊥
+no_row_pushed was is k =
+    let then : (place : ℕ) → ((k.works.before place).earlier.ended ≡ false) × (whole_lines 10 (k.works.before place).earlier ≡ [] ∷ []) = λ place. line_came (held_back place) refl refl (k.works.before place) in
+    let decided : paste_decided (job (Some 9 ∷ [])) (0 ∷ 1 ∷ []) (λ place. (k.works.before place).earlier) ≡ 9 ∷ 10 ∷ [] =
+    λ i. sheet (job (Some 9 ∷ [])) (known_rows (columns (0 ∷ 1 ∷ []) (λ place. (then place).1 i)) ((then 0).0 i ∷ (then 1).0 i ∷ [])) in
+    absurd (omega (arith, ap length k.works.begins.is, ap length decided, length-append (paste_decided (job (Some 9 ∷ [])) (0 ∷ 1 ∷ []) (λ place. (k.works.before place).earlier)) k.works.begins.rest))

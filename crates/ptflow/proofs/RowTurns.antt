@@ -160,7 +160,7 @@ or-false false = refl
 pub record Filling (cells : List ℕ) (n : ℕ) (old now : List Reader) (before store : Slots) (came : Bool) : Type 0 where
   pub got : ℕ → List (List ℕ)
   pub taken : RowTaken cells n old now before store got
-  pub some : came ≡ true → (c : ℕ) × (c < n) × (times (take c cells) (slice_index_or cells c 0) < length (got (slice_index_or cells c 0)))
+  pub some : came ≡ true → (c : ℕ) × (c < n) × (length (got (slice_index_or cells c 0)) ≡ times (take c cells) (slice_index_or cells c 0) + 1)
   pub none : came ≡ false → (place : ℕ) → got place ≡ []
   pub least : sum_by budget now ≤ sum_by budget old
   pub less : came ≡ true → sum_by budget now < sum_by budget old
@@ -182,7 +182,7 @@ filling_starts cells old before = record {
 }
 
 module _ (cells : List ℕ) (n : ℕ) (old now : List Reader) (before store : Slots) (came : Bool) (f : Filling cells n old now before store came) (low : n < length cells) (within : get_or cells n 0 < length now) (room : n < length store.lines)
-    (b : Reader) (is_read : b ≡ reader_at now (get_or cells n 0)) (clean : b.fault ≡ None) (r : Reader) (after : Slots) where
+    (b : Reader) (is_read : b ≡ reader_at now (get_or cells n 0)) (clean : b.fault ≡ None) (r : Reader) (after : Slots) (sound : IsSound r) where
   same_end : b.ending ≡ (reader_at old (get_or cells n 0)).ending
   same_end = ap (λ (x : Reader). x.ending) is_read ∙ (f.taken.took (get_or cells n 0)).reads.ending
 
@@ -194,7 +194,7 @@ module _ (cells : List ℕ) (n : ℕ) (old now : List Reader) (before store : Sl
   pub filling_line : (e : GivesLine b r store after n) → Filling cells (n + 1) old (set now (get_or cells n 0) r) before after true
   filling_line e =
       let p = get_or cells n 0 in
-      let took : Took (reader_at old p).ending (reader_at now p) r 1 (e.line ∷ []) = subst (λ (x : Reader). Took (reader_at old p).ending x r 1 (e.line ∷ [])) is_read (took_line (reader_at old p).ending b r store after n e same_end clean) in
+      let took : Took (reader_at old p).ending (reader_at now p) r 1 (e.line ∷ []) = subst (λ (x : Reader). Took (reader_at old p).ending x r 1 (e.line ∷ [])) is_read (took_line (reader_at old p).ending b r store after n e same_end clean sound) in
       let all : length (f.got p) ≡ times (take n cells) p =
       ⊎_elim (λ same. same) (λ few. absurd (omega (arith, ap length (none_of_done (reader_at old p).ending (reader_at now p) r 1 (e.line ∷ []) took few.0)))) (f.taken.took p).enough in
       let there : e.line ≡ slice_index_or (f.got p ++ e.line ∷ []) (times (take n cells) p) [] = sym (get_or-append_seam (f.got p) e.line [] []) ∙ ap (λ (i : ℕ). slice_index_or (f.got p ++ e.line ∷ []) i []) all in
@@ -212,14 +212,14 @@ module _ (cells : List ℕ) (n : ℕ) (old now : List Reader) (before store : Sl
   pub filling_end : Goes b r [] → IsDone r → after ≡ with_line store n [] → Filling cells (n + 1) old (set now (get_or cells n 0) r) before after came
   filling_end goes done stored =
       let p = get_or cells n 0 in
-      let took : Took (reader_at old p).ending (reader_at now p) r 1 [] = subst (λ (x : Reader). Took (reader_at old p).ending x r 1 []) is_read (took_end (reader_at old p).ending b r goes done clean) in
+      let took : Took (reader_at old p).ending (reader_at now p) r 1 [] = subst (λ (x : Reader). Took (reader_at old p).ending x r 1 []) is_read (took_end (reader_at old p).ending b r goes done clean sound) in
       let few : length (f.got p) ≤ times (take n cells) p = ⊎_elim (λ same. omega (arith, same)) (λ few. few.1) (f.taken.took p).enough in
       let there : [] ≡ slice_index_or (f.got p ++ []) (times (take n cells) p) [] = sym (ap (λ (l : List (List ℕ)). slice_index_or l (times (take n cells) p) []) (append-nil (f.got p)) ∙ get_or_past (f.got p) (times (take n cells) p) [] few) in
       let least : sum_by budget (set now p r) ≤ sum_by budget old = budgets (omega (arith, goes.reads.count)) in
       record {
         got = more_at p [] f.got;
         taken = taken_more cells n old now before store f.got f.taken low within room r [] [] after took there (omega arith) stored;
-        some = λ h. let s = f.some h in (s.0, omega (arith, s.1), omega (arith, s.2, longer (get_or cells s.0 0)));
+        some = λ h. let s = f.some h in (s.0, omega (arith, s.1), as_long (get_or cells s.0 0) ∙ s.2);
         none = λ h q. ⊎_elim
             (λ same. more_here p [] f.got q same ∙ append-nil (f.got q) ∙ f.none h q)
             (λ differ. more_there p [] f.got q differ ∙ f.none h q)
@@ -228,10 +228,10 @@ module _ (cells : List ℕ) (n : ℕ) (old now : List Reader) (before store : Sl
         less = λ h. omega (arith, f.less h, goes.reads.count, ap budget is_read, sum_by-set budget now p r no_reader within);
       }
     where
-      longer : (q : ℕ) → length (f.got q) ≤ length (more_at (get_or cells n 0) [] f.got q)
-      longer q = ⊎_elim
-          (λ same. omega (arith, ap length (more_here (get_or cells n 0) [] f.got q same), length-append (f.got q) []))
-          (λ differ. omega (arith, ap length (more_there (get_or cells n 0) [] f.got q differ)))
+      as_long : (q : ℕ) → length (more_at (get_or cells n 0) [] f.got q) ≡ length (f.got q)
+      as_long q = ⊎_elim
+          (λ same. ap length (more_here (get_or cells n 0) [] f.got q same ∙ append-nil (f.got q)))
+          (λ differ. ap length (more_there (get_or cells n 0) [] f.got q differ))
           (cases_eq q (get_or cells n 0))
 
   pub filling_next : (has : Bool) → Fills b r store after n (Ok has) → Filling cells (n + 1) old (set now (get_or cells n 0) r) before after (came || has)
@@ -249,8 +249,8 @@ filling_done cells n old now before store came all f = record {
 
 -- what was asked of the reader of the cell failed
 pub filling_breaks : (Breaks : Reader → Reader → Slots → Slots → ℕ → Type 0) (cells : List ℕ) (n : ℕ) (old now : List Reader) (before store after : Slots) (came : Bool) (b r : Reader) → Filling cells n old now before store came → n < length cells
-    → get_or cells n 0 < length now → b ≡ reader_at now (get_or cells n 0) → Breaks b r store after n → (x : RowBroken Breaks cells old (set now (get_or cells n 0) r) before after) × (get_or cells n 0 ≡ get_or cells x.column 0)
-filling_breaks Breaks cells n old now before store after came b r f low within is_read breaks = (
+    → get_or cells n 0 < length now → b ≡ reader_at now (get_or cells n 0) → Breaks b r store after n → (length b.held ≤ 8192 → length r.held ≤ 8192) → (x : RowBroken Breaks cells old (set now (get_or cells n 0) r) before after) × (get_or cells n 0 ≡ get_or cells x.column 0)
+filling_breaks Breaks cells n old now before store after came b r f low within is_read breaks few = (
   record {
     column = n;
     within = low;
@@ -260,6 +260,7 @@ filling_breaks Breaks cells n old now before store after came b r f low within i
     taken = f.taken;
     breaks = subst (λ (x : Reader). Breaks x (reader_at (set now (get_or cells n 0) r) (get_or cells n 0)) store after n) is_read (subst (λ (x : Reader). Breaks b x store after n) (sym (at_same now (get_or cells n 0) r within)) breaks);
     others = λ q differ. at_other now (get_or cells n 0) q r differ;
+    few = λ held. subst (λ (x : Reader). length x.held ≤ 8192) (sym (at_same now (get_or cells n 0) r within)) (few (subst (λ (x : Reader). length x.held ≤ 8192) (sym is_read) ((f.taken.took (get_or cells n 0)).held held)));
   },
   refl,
 )

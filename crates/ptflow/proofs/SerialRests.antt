@@ -1,5 +1,6 @@
 -- What `paste` in series writes of the rest of a text, byte by byte and block by block.
-use Rattle.std.proofs.Common.{◌≡◌, ◌≢◌, ℕ, ◌+◌, ◌==◌, ◌<◌, ◌≤◌, Bool, true, false, cond, List, [], ◌∷◌, ◌++◌, Option, Some, length, take, drop, refl, sym, ◌∙◌, ap, arith, append_assoc}
+use Rattle.std.proofs.Common.{◌≡◌, ◌≢◌, ℕ, ◌+◌, ◌==◌, ◌<◌, ◌≤◌, Bool, true, false, cond, List, [], ◌∷◌, ◌++◌, Option, Some, length, map, take, drop, length-append, refl, sym, ◌∙◌, ap, arith, append_assoc}
+use Rattle.std.specs.Prelude.{option_to_list}
 use Rattle.std.specs.List.{onto_first}
 use Rattle.std.proofs.lemmas.List.{append-nil, append_cancel_right}
 use Rattle.memchr.specs.Find.{IsFirstByte, is_byte}
@@ -10,7 +11,7 @@ use Rattle.ptlines.proofs.Scanned.{before_end}
 use Rattle.ptlines.proofs.TextLaws.{lines_first, lines_of_text, other_byte}
 use Rattle.ptlangs.specs.Jobs.{Paste}
 use Rattle.ptflow.specs.Pastes.{delimiter, glued_from, serial_decided}
-use Rattle.ptflow.specs.Workings.SerialRests.{row_rest, row_from, serial_rest, begun, lead}
+use Rattle.ptflow.specs.Workings.SerialRests.{row_rest, row_from, serial_rest, begun, lead, Puts, PutsBlock, IsAlways, with_delimiter}
 use Rattle.ptflow.specs.declared.serial.Cell.{Cell}
 use Rattle.ptflow.proofs.Continuations.{Amid, amid_more}
 use Rattle.ptflow.proofs.LineLaws.{parts_of, split_of}
@@ -55,10 +56,13 @@ module _ (end : ℕ) (delims : List (Option ℕ)) where
       by_test false [] e = cc
       by_test false (l ∷ ls) e = cc
 
-  -- some bytes more belong to the cell that begins
+  -- some bytes belong to the cell that begins
+  begun_some : (cell : Cell) (bytes : List ℕ) → 0 < length bytes → serial_rest end delims cell bytes ≡ lead delims cell ++ serial_rest end delims (begun cell) bytes
+  begun_some cell [] some = absurd (omega (arith, some))
+  begun_some cell (b ∷ bytes) some = begun_lines cell (lines end (b ∷ bytes)) (some_lines b bytes)
+
   pub begun_on : (cell : Cell) (rest : List ℕ) → 0 < length rest → (more : List ℕ) → serial_rest end delims cell (rest ++ more) ≡ lead delims cell ++ serial_rest end delims (begun cell) (rest ++ more)
-  begun_on cell [] some more = absurd (omega arith)
-  begun_on cell (b ∷ rest) some more = begun_lines cell (lines end (b ∷ rest ++ more)) (some_lines b (rest ++ more))
+  begun_on cell rest some more = begun_some cell (rest ++ more) (omega (arith, some, length-append rest more))
 
   pub begins : (start cell : Cell) (block rest : List ℕ) (was is is' : Output) → Amid (serial_rest end delims) start cell block rest was is → 0 < length rest → Wrote is is' (lead delims cell) → is'.faulted ≡ false → Amid (serial_rest end delims) start (begun cell) block rest was is'
   begins start cell block rest was is is' a some wrote clean = amid_more (serial_rest end delims) start cell (begun cell) block rest rest (lead delims cell) was is is' a wrote (begun_on cell rest some) clean
@@ -76,6 +80,78 @@ module _ (end : ℕ) (delims : List (Option ℕ)) where
   piece_on number (b ∷ piece) free more =
       ap (λ (t : Bool). row_rest end delims number false (cond t ([] ∷ lines end (piece ++ more)) (onto_first b (lines end (piece ++ more))))) (other_byte end b free.0)
       ∙ row_byte number b (lines end (piece ++ more)) ∙ ap (λ (l : List ℕ). b ∷ l) (piece_on number piece free.1 more)
+
+  -- ---- what is put of the bytes of cells, behind which more comes
+
+  pub puts_none : (number : ℕ) (bytes : List ℕ) → Puts end delims number bytes number bytes []
+  puts_none number bytes more some = refl
+
+  -- a line of a cell and the delimiter behind it
+  pub puts_line : (number now : ℕ) (bytes rest written is delim : List ℕ) (at : ℕ) → Puts end delims number bytes now rest written → IsFirstByte (is_byte end) rest (Some at)
+      → is ≡ (written ++ take at rest) ++ delim → delim ≡ delimiter delims now → Puts end delims number bytes (now + 1) (drop (at + 1) rest) is
+  puts_line number now bytes rest written is delim at puts first copied delim_is more some =
+      let left = drop (at + 1) rest ++ more in
+      let next = row_rest end delims (now + 1) false (lines end left) in
+      puts more some
+      ∙ ap (λ (l : List ℕ). written ++ l) (
+      cell_on now rest at first more
+      ∙ ap (λ (l : List ℕ). take at rest ++ l) (begun_some (record { number = now; ended = true }) left (omega (arith, some, length-append (drop (at + 1) rest) more)))
+      )
+      ∙ sym (append_assoc written (take at rest) (delimiter delims now ++ next))
+      ∙ sym (append_assoc (written ++ take at rest) (delimiter delims now) next)
+      ∙ ap (λ (d : List ℕ). ((written ++ take at rest) ++ d) ++ next) (sym delim_is)
+      ∙ ap (λ (l : List ℕ). l ++ next) (sym copied)
+
+  -- a piece of a line
+  pub puts_piece : (number now : ℕ) (bytes rest written is : List ℕ) → Puts end delims number bytes now rest written → IsLine end rest → is ≡ written ++ rest → Puts end delims number bytes now [] is
+  puts_piece number now bytes rest written is puts free copied more some =
+      let next = row_rest end delims now false (lines end more) in
+      puts more some ∙ ap (λ (l : List ℕ). written ++ l) (piece_on now rest free more) ∙ sym (append_assoc written rest next) ∙ ap (λ (l : List ℕ). l ++ next) (sym copied)
+
+  -- the last byte of a block ends its line
+  pub puts_ended : (number now : ℕ) (bytes written : List ℕ) → Puts end delims number bytes now [] written → PutsBlock end delims number (bytes ++ end ∷ []) (record { number = now; ended = true }) written
+  puts_ended number now bytes written puts more =
+      ap (λ (l : List ℕ). row_rest end delims number false (lines end l)) (append_assoc bytes (end ∷ []) more)
+      ∙ puts (end ∷ more) (omega arith)
+      ∙ ap (λ (l : List ℕ). written ++ l) (ap (row_rest end delims now false) (lines_first end [] more tt) ∙ row_line now [] (lines end more))
+
+  -- or it belongs to it
+  pub puts_last : (number now last : ℕ) (bytes written : List ℕ) → Puts end delims number bytes now [] written → (last ≡ end → ⊥)
+      → PutsBlock end delims number (bytes ++ last ∷ []) (record { number = now; ended = false }) (written ++ last ∷ [])
+  puts_last number now last bytes written puts other more =
+      ap (λ (l : List ℕ). row_rest end delims number false (lines end l)) (append_assoc bytes (last ∷ []) more)
+      ∙ puts (last ∷ more) (omega arith)
+      ∙ ap (λ (l : List ℕ). written ++ l) (piece_on now (last ∷ []) (other, tt) more)
+      ∙ sym (append_assoc written (last ∷ []) (row_rest end delims now false (lines end more)))
+
+  -- ---- one delimiter behind every cell
+
+  module _ (delim : ℕ) (always : IsAlways delims delim) where
+    same_glued : (n m : ℕ) (ls : List (List ℕ)) → glued_from delims n ls ≡ glued_from delims m ls
+    same_glued n m [] = refl
+    same_glued n m (x ∷ []) = refl
+    same_glued n m (x ∷ y ∷ ls) = λ i. (x ++ option_to_list ((always n ∙ sym (always m)) i)) ++ same_glued (n + 1) (m + 1) (y ∷ ls) i
+
+    always_puts : (n m : ℕ) (bytes more : List ℕ) → 0 < length more
+        → row_rest end delims n false (lines end (bytes ++ more)) ≡ map (with_delimiter (record { ending = end; delim = delim })) bytes ++ row_rest end delims m false (lines end more)
+    always_puts n m [] more some = ap (λ (l : List ℕ). l ++ end ∷ []) (same_glued n m (lines end more))
+    always_puts n m (b ∷ bytes) more some = by_test (λ k. always_puts k m bytes more some) (b == end)
+      where
+        left : List ℕ
+        left = bytes ++ more
+
+        done : List ℕ
+        done = map (with_delimiter (record { ending = end; delim = delim })) bytes ++ row_rest end delims m false (lines end more)
+
+        by_test : ((k : ℕ) → row_rest end delims k false (lines end left) ≡ done) → (t : Bool) → row_rest end delims n false (cond t ([] ∷ lines end left) (onto_first b (lines end left))) ≡ cond t delim b ∷ done
+        by_test next true =
+            row_line n [] (lines end left)
+            ∙ begun_some (record { number = n; ended = true }) left (omega (arith, some, length-append bytes more))
+            ∙ (λ i. option_to_list (always n i) ++ next (n + 1) i)
+        by_test next false = row_byte n b (lines end left) ∙ ap (λ (l : List ℕ). b ∷ l) (next n)
+
+    pub puts_always : (number : ℕ) (bytes written : List ℕ) → written ≡ map (with_delimiter (record { ending = end; delim = delim })) bytes → Puts end delims number bytes number [] written
+    puts_always number bytes written is more some = always_puts number number bytes more some ∙ ap (λ (l : List ℕ). l ++ row_rest end delims number false (lines end more)) (sym is)
 
   -- ---- what is decided
 

@@ -2,7 +2,7 @@
 use Rattle.std.proofs.Common.{◌≡◌, ◌⊎◌, ⊎_elim, inl, inr, ℕ, ◌+◌, List, [], ◌∷◌, ◌++◌, None, length, refl, sym, ◌∙◌, ap, arith, length-append}
 use Rattle.std.proofs.lemmas.List.{append-nil}
 use Rattle.ptlines.specs.Text.{text, lines, AreLines}
-use Rattle.ptlines.specs.Readers.{Reader, Reads, Goes, IsDone, unread}
+use Rattle.ptlines.specs.Readers.{Reader, Reads, Goes, IsDone, IsSound, unread}
 use Rattle.ptlines.specs.Slots.{Slots}
 use Rattle.ptlines.specs.Fills.{GivesLine}
 use Rattle.ptlines.proofs.Filling.{reads_trans}
@@ -42,6 +42,7 @@ took_nothing end r = record {
   failed = refl;
   fault = refl;
   short = λ h. h;
+  held = λ h. h;
   none = λ h. refl;
   came = lines_none end r;
   enough = inl refl;
@@ -54,6 +55,7 @@ took_more end a b c m n xs ys p q = record {
   failed = q.failed ∙ p.failed;
   fault = q.fault ∙ p.fault;
   short = λ h. q.short (p.short h);
+  held = λ h. q.held (p.held h);
   none = λ h. q.none (omega (arith, h)) ∙ p.none (omega (arith, h));
   came = lines_trans end b c p.bytes q.bytes xs ys p.came q.reads q.came;
   enough = ⊎_elim
@@ -66,26 +68,28 @@ took_more end a b c m n xs ys p q = record {
 }
 
 -- a line came by way of a slot
-pub took_line : (end : ℕ) (b c : Reader) (before after : Slots) (slot : ℕ) (e : GivesLine b c before after slot) → b.ending ≡ end → b.fault ≡ None → Took end b c 1 (e.line ∷ [])
-took_line end b c before after slot e same clean = record {
+pub took_line : (end : ℕ) (b c : Reader) (before after : Slots) (slot : ℕ) (e : GivesLine b c before after slot) → b.ending ≡ end → b.fault ≡ None → IsSound c → Took end b c 1 (e.line ∷ [])
+took_line end b c before after slot e same clean sound = record {
   bytes = e.line ++ e.ending;
   reads = e.goes.reads;
   failed = e.goes.failed;
   fault = e.goes.fault ∙ sym clean;
   short = e.goes.short;
+  held = λ h. sound.held;
   none = λ h. absurd (omega (arith, h));
   came = lines_more end b [] [] (lines_none end b) c before after slot e same;
   enough = inl refl;
 }
 
 -- there was none
-pub took_end : (end : ℕ) (b c : Reader) → Goes b c [] → IsDone c → b.fault ≡ None → Took end b c 1 []
-took_end end b c goes done clean = record {
+pub took_end : (end : ℕ) (b c : Reader) → Goes b c [] → IsDone c → b.fault ≡ None → IsSound c → Took end b c 1 []
+took_end end b c goes done clean sound = record {
   bytes = [];
   reads = goes.reads;
   failed = goes.failed;
   fault = goes.fault ∙ sym clean;
   short = goes.short;
+  held = λ h. sound.held;
   none = λ h. absurd (omega (arith, h));
   came = lines_none end c;
   enough = inr (done, omega arith);

@@ -22,7 +22,7 @@ use Rattle.ptflow.proofs.LineLaws.{longest-append, parts_of, ended_front}
 use Rattle.ptflow.specs.Workings.TakenLines.{LinesCame}
 use Rattle.ptflow.proofs.LinesCame.{lines_none, lines_few, lines_on, lines_more, lines_block, line_front, came_longest, piece_longest, whole_before, before_line, behind_line}
 use Rattle.ptflow.proofs.OpenRuns.{entries-append, open_is, but_open}
-use Rattle.ptflow.proofs.PassLemmas.{Reached, reached_nothing, reached_sent, Midway, Works, Stored, pass_read, pass_memory, pass_write, pass_done, pass_unended}
+use Rattle.ptflow.proofs.PassLemmas.{Reached, reached_nothing, reached_sent, Midway, Works, Stored, pass_unslotted, pass_read, pass_memory, pass_write, pass_done, pass_unended}
 use Rattle.ptflow.proofs.ReaderFacts.{given_of, goes_nothing, goes_past}
 use Rattle.ptflow.proofs.TwoSlots.{KeepsTwo, two_starts, two_more, two_second, first_stays, second_line, two_swap, emptied_total, emptied_denied, emptied_adds, emptied_peak}
 
@@ -40,8 +40,8 @@ pub record Singling (job : Uniq) (run : Run) (old reader : Reader) (was is : Out
   pub on : (more : List (List ℕ)) → runs job (ls ++ more) ≡ passed ++ runs_behind job run more
   pub count : run.count ≤ length ls
 
-stored : (job : Uniq) (first store : Slots) (given : Given) (most : ℕ) → ((input : List ℕ) → Agrees given input → most ≤ longest_line job.end input) → Adds first store 2 → store.peak ≤ max first.peak (2 * most) → Stored (uniq_tool job) first store given
-stored job first store given most bound adds peak = record { peak = λ input a. omega (arith, peak, bound input a); adds = adds; unused = λ none. absurd (omega (arith, none)) }
+stored : (job : Uniq) (first store : Slots) (given : Given) (most : ℕ) → ((input : List ℕ) → Agrees given input → most ≤ longest_line job.end input) → Adds first store 2 → 2 ≤ length store.lines → store.peak ≤ max first.peak (2 * most) → Stored (uniq_tool job) first store given
+stored job first store given most bound adds room peak = record { peak = λ input a. omega (arith, peak, bound input a); adds = adds; room = room; unused = λ none. absurd (omega (arith, none)) }
 
 module _ (job : Uniq) (old : Reader) (was : Output) where
   pub singling_starts : (line : List ℕ) → old.fault ≡ None → was.faulted ≡ false → (s : Singling job (run_of line 0) old old was was) × (s.ls ≡ [])
@@ -137,7 +137,7 @@ module _ (job : Uniq) (old : Reader) (was : Output) where
       unfolding midway
       single_write_line new before after slot e is_sound same ls_are adds peak =
           pass_write (rest_behind job) (run_of [] 0) (uniq_tool job) (λ bytes. refl) run old reader new was is first store midway ready sound (e.line ++ e.ending) e.goes.reads
-          (stored job first store (given_of (s.given ++ (e.line ++ e.ending)) new) (longest (s.ls ++ e.line ∷ [])) (came_longest job.end new (s.given ++ (e.line ++ e.ending)) (s.ls ++ e.line ∷ []) (lines_more job.end reader s.given s.ls s.came new before after slot e same)) adds peak)
+          (stored job first store (given_of (s.given ++ (e.line ++ e.ending)) new) (longest (s.ls ++ e.line ∷ [])) (came_longest job.end new (s.given ++ (e.line ++ e.ending)) (s.ls ++ e.line ∷ []) (lines_more job.end reader s.given s.ls s.came new before after slot e same)) adds (omega (arith, adds.all roomy)) peak)
           (works_line new (e.line ++ e.ending) e.goes.reads e.line (e.ending ++ new.held) (append_assoc e.line e.ending new.held) (subst (λ (b : ℕ). IsLine b e.line) same e.whole) (behind_line reader new before after slot e is_sound))
           is' (entries job h.passed) h.wrote fault e.goes.failed roomy
           (λ rest may. begins ((e.line ++ e.ending) ++ (new.held ++ rest)) (lines job.end (new.held ++ rest))
@@ -148,14 +148,14 @@ module _ (job : Uniq) (old : Reader) (was : Output) where
       unfolding midway
       single_write_block shown is_sound goes ls_are adds peak =
           pass_write (rest_behind job) (run_of [] 0) (uniq_tool job) (λ bytes. refl) run old reader shown was is first store midway ready sound [] goes.reads
-          (stored job first store (given_of (s.given ++ []) shown) (max (longest s.ls) 0) (piece_longest job.end reader s.given s.ls s.came shown [] goes.reads tt) adds (omega (arith, peak)))
+          (stored job first store (given_of (s.given ++ []) shown) (max (longest s.ls) 0) (piece_longest job.end reader s.given s.ls s.came shown [] goes.reads tt) adds (omega (arith, adds.all roomy)) (omega (arith, peak)))
           (works_piece shown [] goes.reads tt is_sound) is' (entries job h.passed) h.wrote fault goes.failed roomy
           (λ rest may. begins (shown.held ++ rest) (lines job.end ((parts_of job.end shown.held).piece ++ rest)) (ended_front job.end shown.held rest ∙ ap (λ (l : List (List ℕ)). l ++ lines job.end ((parts_of job.end shown.held).piece ++ rest)) (sym ls_are)))
 
     -- a read failed, or a growth was refused
-    module _ (first : Slots) (ready : IsReady old first) (sound : IsSound reader) (new : Reader) (is_sound : IsSound new) (piece : List ℕ) (reads : Reads reader new piece) (free : IsLine job.end piece) (store : Slots) (adds : Adds first store 2) (peak : store.peak ≤ max first.peak (2 * max (longest s.ls) (length piece))) where
+    module _ (first : Slots) (ready : IsReady old first) (sound : IsSound reader) (new : Reader) (is_sound : IsSound new) (piece : List ℕ) (reads : Reads reader new piece) (free : IsLine job.end piece) (store : Slots) (adds : Adds first store 2) (room : 2 ≤ length store.lines) (peak : store.peak ≤ max first.peak (2 * max (longest s.ls) (length piece))) where
       kept : Stored (uniq_tool job) first store (given_of (s.given ++ piece) new)
-      kept = stored job first store (given_of (s.given ++ piece) new) (max (longest s.ls) (length piece)) (piece_longest job.end reader s.given s.ls s.came new piece reads free) adds peak
+      kept = stored job first store (given_of (s.given ++ piece) new) (max (longest s.ls) (length piece)) (piece_longest job.end reader s.given s.ls s.came new piece reads free) adds room peak
 
       pub single_read : HasReadCause reader new → store.denied ≡ false → IsPass (uniq_tool job) old new was is first store (Err (Read 0))
       unfolding midway
@@ -171,7 +171,7 @@ module _ (job : Uniq) (old : Reader) (was : Output) where
     module _ (first : Slots) (ready : IsReady old first) (sound : IsSound reader) (new : Reader) (is_sound : IsSound new) (goes : Goes reader new []) (done : IsDone new) (is' : Output) (wrote : Wrote is is' (entries job (open_run run))) (store : Slots) (adds : Adds first store 2)
         (peak : store.peak ≤ max first.peak (2 * longest s.ls)) (roomy : store.denied ≡ false) where
       at_end : Stored (uniq_tool job) first store (given_of (s.given ++ []) new)
-      at_end = stored job first store (given_of (s.given ++ []) new) (max (longest s.ls) 0) (piece_longest job.end reader s.given s.ls s.came new [] goes.reads tt) adds (omega (arith, peak))
+      at_end = stored job first store (given_of (s.given ++ []) new) (max (longest s.ls) 0) (piece_longest job.end reader s.given s.ls s.came new [] goes.reads tt) adds (omega (arith, adds.all roomy)) (omega (arith, peak))
 
       pub single_done : is'.faulted ≡ false → new.pulled < 2 ^ 63 → total store.lines ≡ 0 → IsPass (uniq_tool job) old new was is' first store (Ok tt)
       unfolding midway
@@ -246,7 +246,7 @@ module _ (job : Uniq) (old reader : Reader) (was is : Output) (first store : Slo
     pub turning_read : after ≡ with_line store 1 piece → HasReadCause reader new → IsPass (uniq_tool job) old new was is first after (Err (Read 0))
     turning_read is_after cause =
         let k = two_second first store (longest t.singling.ls) t.keeps after piece is_after in
-        single_read job old was run reader is t.singling first ready sound new is_sound piece reads free after k.adds k.peak cause k.denied
+        single_read job old was run reader is t.singling first ready sound new is_sound piece reads free after k.adds (omega (arith, k.adds.all k.denied)) k.peak cause k.denied
 
     pub turning_memory : after ≡ with_denied (with_line store 1 piece) → new.failed ≡ reader.failed → IsPass (uniq_tool job) old new was is first after (Err Memory)
     turning_memory is_after same =
@@ -257,11 +257,11 @@ module _ (job : Uniq) (old reader : Reader) (was is : Output) (first store : Slo
           most = omega (arith, ap (λ (s : Slots). length s.lines) is_after, k.adds.most);
           all = λ allowed. absurd (false≢true (sym allowed ∙ denied));
         } in
-        single_memory job old was run reader is t.singling first ready sound new is_sound piece reads free after adds (omega (arith, ap (λ (s : Slots). s.peak) is_after, k.peak)) same denied
+        single_memory job old was run reader is t.singling first ready sound new is_sound piece reads free after adds (omega (arith, ap (λ (s : Slots). length s.lines) is_after, k.adds.all k.denied)) (omega (arith, ap (λ (s : Slots). s.peak) is_after, k.peak)) same denied
 
   -- a block could not be read
   pub turning_no_block : Reads reader new [] → HasReadCause reader new → IsPass (uniq_tool job) old new was is first store (Err (Read 0))
-  turning_no_block reads cause = single_read job old was run reader is t.singling first ready sound new is_sound [] reads tt store t.keeps.adds (omega (arith, t.keeps.peak)) cause t.keeps.denied
+  turning_no_block reads cause = single_read job old was run reader is t.singling first ready sound new is_sound [] reads tt store t.keeps.adds (omega (arith, t.keeps.adds.all t.keeps.denied)) (omega (arith, t.keeps.peak)) cause t.keeps.denied
 
   -- the end was said
   module _ (goes : Goes reader new []) (done : IsDone new) (after : Slots) (is_after : after ≡ with_line store 1 []) (is' : Output) (wrote : Wrote is is' (entries job (open_run run))) where
@@ -306,5 +306,4 @@ module _ (job : Uniq) (old reader : Reader) (was is : Output) (first store : Slo
 -- the slots were refused
 pub turning_unslotted : (job : Uniq) (old : Reader) (was : Output) (first store : Slots) → IsReady old first → IsSound old → was.faulted ≡ false → Adds first store 2 → store.denied ≡ true → store.peak ≡ first.peak → IsPass (uniq_tool job) old old was was first store (Err Memory)
 turning_unslotted job old was first store ready sound clean adds denied same =
-    let s = singling_starts job old was [] ready.readable clean in
-    single_memory job old was (run_of [] 0) old was s.0 first ready sound old sound [] (goes_nothing old ready.readable).reads tt store adds (omega (arith, same)) refl denied
+    pass_unslotted (uniq_tool job) old was first store ready sound clean adds same denied (omega arith) (record { rest = []; is = refl })

@@ -2,6 +2,7 @@
 use Rattle.std.specs.Prelude.{◌≡◌, ◌≢◌, ◌≤◌, ◌<◌, ◌^◌, ℕ, true, false, List, [], None, Result, Ok, Err, All, length, max, slice_index_or}
 use Rattle.ptlines.specs.Readers.{Reader, IsDone, HasReadCause}
 use Rattle.ptlines.specs.Inputs.{Given, Begins, Agrees, Came}
+use Rattle.ptlines.specs.KeepingUp.{KeepsUp}
 use Rattle.ptlines.specs.Outputs.{Output, Wrote}
 use Rattle.ptlines.specs.Slots.{Slots, total}
 use Rattle.ptlangs.specs.Jobs.{Paste}
@@ -99,6 +100,8 @@ pub record IsPastePass (job : Paste) (cells : List ℕ) (old new : List Reader) 
   -- after a read that failed, what was decided was pushed, unless a write failed
   pub sure : (place : ℕ) → 0 < times cells place → (reader_at new place).failed ≡ true → is.faulted ≡ false
       → Begins (paste_decided job cells given) pushed
+  -- and so was, whatever failed, what was decided two blocks earlier
+  pub keeps_up : was.faulted ≡ false → KeepsUp {I = ℕ} (paste_decided job cells) given was is pushed
   -- all of it was pushed
   pub whole : result ≡ Ok tt → pushed ≡ paste job cells (λ place. (given place).bytes)
   -- the store held no more than a longest line for each cell

@@ -16,4 +16,5 @@ pub mod TakenLines
 pub mod RowTurns
 pub mod ByteSets
 pub mod Packings
+pub mod Picks
 pub mod Nths

@@ -1,23 +1,35 @@
 //! `cut` by bytes.
 
-ghost use Rattle.std.specs.Prelude.{◌≡◌, ◌<◌, ◌≤◌, ◌+◌, ◌^◌, ℕ, length, take, ◌++◌, true, false, None, [], ◌∷◌, OnOk, OnErr, IfOk, ◌==◌, if◌then◌else◌};
+ghost use Rattle.std.specs.Prelude.{◌≡◌, ◌<◌, ◌≤◌, ◌+◌, ◌^◌, ℕ, length, take, drop, ◌++◌, true, false, None, [], ◌∷◌, OnOk, OnErr, IfOk, ◌==◌, if◌then◌else◌};
+ghost use Rattle.std.specs.Simd.Lanes.{chunk};
 ghost use Rattle.ptlines.specs.Outputs.{Wrote};
 ghost use Rattle.ptlangs.specs.CutLists.{AreApart};
 ghost use Rattle.ptlangs.specs.Jobs.{cut_job};
 ghost use Rattle.ptflow.specs.Cuts.{cut_tool};
 ghost use Rattle.ptflow.specs.Passes.{IsBarePass};
-ghost use Rattle.ptflow.specs.Workings.CutRests.{rest_by, chosen_piece, IsCutTo};
+ghost use Rattle.ptflow.specs.Workings.CutRests.{rest_by, chosen_piece, IsCutTo, IsLineAt, CutsOn};
 ghost use Rattle.ptflow.specs.Workings.Continuations.{Continues, Halts};
+ghost use Rattle.ptflow.specs.Workings.Picks.{IsSelection};
 
 use crate::blocks::{BlockTool, over_blocks};
 use crate::faults::FlowFault;
+use crate::picking::{Pick, put_picked};
+use crate::places::marks;
 use ptlangs::jobs::CutJob;
 use ptlangs::ranges::Interval;
 use ptlines::{LineReader, Out, Sink, Source, WriteFault, copy_near, find_near};
 use std::alloc::Allocator;
+use std::simd::prelude::*;
 
 // What is written of a block, which is at most as long as the block, and room for what a copy changes behind it.
 type Written = [u8; 8208];
+
+/// What is selected of each line, and which places these are of a short one.
+#[derive(Clone, Copy)]
+pub(crate) struct Selection<'a> {
+    selected: &'a [Interval],
+    pick: Pick,
+}
 
 // Copies the selected bytes of a piece of a line, the first `count` of these bytes, and then the bytes up to `end`:
 // the one that ends the line, or none. In front of the piece stand `before` bytes of the line. The answer is where
@@ -57,61 +69,183 @@ fn copy_selected(
     at + (end - count)
 }
 
+// Copies the selected bytes of a line, the first `count` of these bytes, and the byte that ends it. In front of it
+// stand `before` bytes of the line. The answer is where that ends. Most lines come whole, and many are short.
+#[inline(always)]
+fn copy_line(
+    by: &Selection,
+    before: u64,
+    bytes: &[u8],
+    count: usize,
+    into: &mut Written,
+    at: usize,
+) -> usize
+    requires by { IsSelection by.now }
+    requires within { count < length bytes.now }
+    requires short { before + count < 2 ^ 63 }
+    requires room { at + count < 8192 }
+    ensures copied { take result into.new
+        ≡ take at into.old ++ chosen_piece by.now.selected.now before count (take (count + 1) bytes.now) }
+    ensures near { result ≤ at + count + 1 }
+{
+    if before > 0 || count > 16 || bytes.len() < 16 {
+        return copy_selected(by.selected, before, bytes, count, count + 1, into, at);
+    }
+    let at = put_picked(&by.pick, bytes, count, into, at);
+    into[at] = bytes[count];
+    at + 1
+}
+
+// Where a line of a block starts, how many bytes of it came earlier, and where what was written of the lines in front of
+// it ends.
+#[derive(Clone, Copy)]
+struct Step {
+    start: usize,
+    before: u64,
+    at: usize,
+}
+
+// Copies 64 lines that are empty.
+#[inline(always)]
+fn copy_ends(block: &[u8], step: Step, into: &mut [u8]) -> Step
+    requires within { step.start + 64 ≤ length block.now }
+    requires room { step.at + 64 ≤ length into.old }
+    ensures long { length into.new ≡ length into.old }
+    ensures step { result ≡ record step { start = step.start + 64; at = step.at + 64 } }
+    ensures copied { take (step.at + 64) into.new ≡ take step.at into.old ++ chunk step.start 64 block.now }
+{
+    u8x64::from_slice(&block[step.start..]).copy_to_slice(&mut into[step.at..]);
+    Step {
+        start: step.start + 64,
+        before: step.before,
+        at: step.at + 64,
+    }
+}
+
+// Copies what is written of the lines that end among the 64 bytes from a place on, of which the first is told. The
+// answer is the first line behind them.
+#[inline(always)]
+fn cut_chunk(
+    by: &Selection,
+    ending: u8,
+    block: &[u8],
+    from: usize,
+    step: Step,
+    into: &mut Written,
+) -> Step
+    requires by { IsSelection by.now }
+    requires within { (from + 64 ≤ length block.now) × (length block.now ≤ 8192) }
+    requires line { IsLineAt ending block.now from step.start }
+    requires short { step.before + length block.now < 2 ^ 63 }
+    requires room { step.at ≤ step.start }
+    ensures line { IsLineAt ending block.now (from + 64) result.start }
+    ensures cut { CutsOn ending by.now.selected.now step.before (drop step.start block.now) (take step.at into.old)
+        result.before (drop result.start block.now) (take result.at into.new) }
+    ensures bound { result.before ≤ step.before }
+    ensures near { result.at ≤ result.start }
+{
+    let mut marked = marks(ending, block, from);
+    if marked == u64::MAX && step.start == from && step.before == 0 {
+        return copy_ends(block, step, into);
+    }
+    let mut step = step;
+    for _end in 0..marked.count_ones() {
+        let end = from + marked.trailing_zeros() as usize;
+        let rest = &block[step.start..];
+        let at = copy_line(by, step.before, rest, end - step.start, into, step.at);
+        step = Step {
+            start: end + 1,
+            before: 0,
+            at,
+        };
+        marked &= marked.wrapping_sub(1);
+    }
+    step
+}
+
+// Copies what is written of bytes, of whose first line `before` bytes came earlier. The answer is where that ends, and
+// how many bytes have come of the line that goes on behind them.
+fn cut_rest(
+    by: &Selection,
+    ending: u8,
+    before: u64,
+    bytes: &[u8],
+    into: &mut Written,
+    at: usize,
+) -> (usize, u64)
+    requires by { IsSelection by.now }
+    requires room { at + length bytes.now ≤ 8192 }
+    requires short { before + length bytes.now < 2 ^ 63 }
+    ensures cut { CutsOn ending by.now.selected.now before bytes.now (take at into.old)
+        result.1 [] (take result.0 into.new) }
+    ensures near { result.0 ≤ at + length bytes.now }
+    ensures bound { result.1 ≤ before + length bytes.now }
+{
+    let mut before = before;
+    let mut rest = bytes;
+    let mut at = at;
+    'lines: while let Some(count) = find_near(ending, rest) {
+        at = copy_line(by, before, rest, count, into, at);
+        before = 0;
+        rest = &rest[count + 1..];
+    }
+    at = copy_selected(by.selected, before, rest, rest.len(), rest.len(), into, at);
+    (at, before + rest.len() as u64)
+}
+
 // Copies what is written of a block, of whose first line `before` bytes came earlier. The answer is where that ends,
 // and how many bytes have come of the line that goes on behind the block.
 #[inline(always)]
 fn cut_pieces(
-    selected: &[Interval],
+    by: &Selection,
     ending: u8,
     before: u64,
     block: &[u8],
     into: &mut Written,
 ) -> (usize, u64)
-    requires apart { AreApart 0 selected.now }
+    requires by { IsSelection by.now }
     requires room { length block.now ≤ 8192 }
     requires short { before + length block.now < 2 ^ 63 }
-    ensures cut { IsCutTo ending selected.now before block.now result.1 [] (take result.0 into.new) }
+    ensures cut { IsCutTo ending by.now.selected.now before block.now result.1 [] (take result.0 into.new) }
     ensures near { result.0 ≤ length block.now }
     ensures bound { result.1 ≤ before + length block.now }
 {
-    let mut before = before;
-    let mut rest = block;
-    let mut at = 0;
-    'lines: while let Some(count) = find_near(ending, rest) {
-        at = copy_selected(selected, before, rest, count, count + 1, into, at);
-        before = 0;
-        rest = &rest[count + 1..];
+    let mut step = Step {
+        start: 0,
+        before,
+        at: 0,
+    };
+    let mut from = 0;
+    while block.len() - from >= 64 {
+        step = cut_chunk(by, ending, block, from, step, into);
+        from += 64;
     }
-    at = copy_selected(selected, before, rest, rest.len(), rest.len(), into, at);
-    (at, before + rest.len() as u64)
+    cut_rest(by, ending, step.before, &block[step.start..], into, step.at)
 }
 
 // Pushes what is written of a block, of whose first line `before` bytes came earlier. The answer is how many bytes
-// have come of the line that goes on behind the block. One range, as is often selected, has a loop of its own.
+// have come of the line that goes on behind the block.
 #[inline(never)]
 fn push_pieces<W: Sink>(
-    selected: &[Interval],
+    by: &Selection,
     ending: u8,
     before: u64,
     block: &[u8],
     written: &mut Written,
     out: &mut Out<W>,
 ) -> Result<u64, WriteFault>
-    requires apart { AreApart 0 selected.now }
+    requires by { IsSelection by.now }
     requires room { length block.now ≤ 8192 }
     requires short { before + length block.now < 2 ^ 63 }
     requires clean { out.old.faulted ≡ false }
-    ensures continues { IfOk result (λ n. Continues (rest_by ending selected.now) before n block.now out.old out.new) }
+    ensures continues { IfOk result
+        (λ n. Continues (rest_by ending by.now.selected.now) before n block.now out.old out.new) }
     ensures bound { IfOk result (λ n. n ≤ before + length block.now) }
-    ensures halts { OnErr result (Halts (rest_by ending selected.now) before block.now out.old out.new) }
+    ensures halts { OnErr result (Halts (rest_by ending by.now.selected.now) before block.now out.old out.new) }
     ensures clean { OnOk result (out.new.faulted ≡ false) }
     ensures fault { OnErr result (out.new.faulted ≡ true) }
 {
-    let (count, before) = if selected.len() == 1 {
-        cut_pieces(&selected[..1], ending, before, block, written)
-    } else {
-        cut_pieces(selected, ending, before, block, written)
-    };
+    let (count, before) = cut_pieces(by, ending, before, block, written);
     out.push(&written[..count])?;
     Ok(before)
 }
@@ -120,7 +254,7 @@ fn push_pieces<W: Sink>(
 /// place for what is written of a block.
 #[derive(Drop)]
 struct ByteCut<'a> {
-    selected: &'a [Interval],
+    by: Selection<'a>,
     ending: u8,
     before: u64,
     written: Written,
@@ -128,18 +262,18 @@ struct ByteCut<'a> {
 
 impl<'a> BlockTool for ByteCut<'a> {
     ghost use Rattle.std.specs.Prelude.{◌≡◌};
-    ghost use Rattle.ptlangs.specs.CutLists.{AreApart};
     ghost use Rattle.ptflow.specs.Workings.CutRests.{rest_by};
+    ghost use Rattle.ptflow.specs.Workings.Picks.{IsSelection};
 
-    ghost rest = { λ t. rest_by t.ending t.selected.now t.before };
+    ghost rest = { λ t. rest_by t.ending t.by.selected.now t.before };
 
     ghost counted = { λ t. t.before };
 
-    ghost Holds = { λ s t. AreApart 0 t.selected.now × (t.selected.now ≡ s.selected.now) × (t.ending ≡ s.ending) };
+    ghost Holds = { λ s t. IsSelection t.by × (t.by.selected.now ≡ s.by.selected.now) × (t.ending ≡ s.ending) };
 
     fn push_block<W: Sink>(&mut self, block: &[u8], out: &mut Out<W>) -> Result<(), WriteFault> {
         self.before = push_pieces(
-            self.selected,
+            &self.by,
             self.ending,
             self.before,
             block,
@@ -172,7 +306,10 @@ pub(crate) fn cut_by_bytes<A: Allocator + Copy, S: Source, R: Source, W: Sink>(
     ensures { IsBarePass (cut_tool (cut_job job.now)) reader.old reader.new out.old out.new result }
 {
     let mut tool = ByteCut {
-        selected: job.list.intervals(),
+        by: Selection {
+            selected: job.list.intervals(),
+            pick: Pick::of(&job.list),
+        },
         ending: reader.ending(),
         before: 0,
         written: [0; 8208],

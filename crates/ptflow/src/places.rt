@@ -11,7 +11,7 @@ use std::simd::prelude::*;
 
 // A bit for each of the 64 bytes from a place on: whether it is this byte.
 #[inline(always)]
-fn marks(byte: u8, bytes: &[u8], at: usize) -> u64
+pub(crate) fn marks(byte: u8, bytes: &[u8], at: usize) -> u64
     requires { at + 64 ≤ length bytes.now }
     ensures { result ≡ mask_l (map (is_byte byte) (chunk at 64 bytes.now)) }
 {

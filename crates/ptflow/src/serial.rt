@@ -1,18 +1,19 @@
 //! `paste -s`.
 
-ghost use Rattle.std.specs.Prelude.{◌≡◌, ◌<◌, ◌≤◌, ◌+◌, ◌^◌, length, true, false, None, OnOk, OnErr, IfOk};
+ghost use Rattle.std.specs.Prelude.{◌≡◌, ◌<◌, ◌≤◌, ◌+◌, ◌++◌, ◌^◌, [], length, take, true, false, None, OnOk, OnErr, IfOk, IfSome};
 ghost use Rattle.ptlines.specs.Outputs.{Wrote};
 ghost use Rattle.ptlangs.specs.Jobs.{paste_job};
 ghost use Rattle.ptflow.specs.Passes.{IsReady, IsPass, IsBarePass};
 ghost use Rattle.ptflow.specs.Pastes.{delimiter, serial_tool};
 ghost use Rattle.ptflow.specs.Workings.Continuations.{Continues, Halts};
-ghost use Rattle.ptflow.specs.Workings.SerialRests.{serial_rest, begun, lead};
+ghost use Rattle.ptflow.specs.Workings.SerialRests.{serial_rest, begun, lead, Puts, PutsBlock, IsAlways};
 
 use crate::blocks::{BlockTool, over_blocks};
 use crate::faults::FlowFault;
+use crate::replacing::{EndsTo, replace_ends};
 use ptlangs::delims::Delims;
 use ptlangs::jobs::PasteJob;
-use ptlines::{LineReader, Out, Sink, Source, Store, WriteFault, find_near};
+use ptlines::{LineReader, Out, Sink, Source, Store, WriteFault, copy_near, find_near};
 use std::alloc::Allocator;
 
 /// A cell of a row: its number, and whether it has ended, so that a delimiter stands in front of what follows.
@@ -63,14 +64,137 @@ pub(crate) fn begin_cell<A: Allocator, W: Sink>(
     })
 }
 
+// What is written of a block, and room for what a copy changes behind it.
+type Written = [u8; 8208];
+
+// Puts what stands behind the cell of this number, and says where that ends.
+#[inline(always)]
+fn put_delimiter<A: Allocator>(
+    delims: &Delims<A>,
+    number: u64,
+    into: &mut Written,
+    at: usize,
+) -> usize
+    requires room { at < 8192 }
+    ensures put { take result into.new ≡ take at into.old ++ delimiter delims.now number }
+    ensures near { result ≤ at + 1 }
+{
+    match delims.at(number) {
+        Some(byte) => {
+            into[at] = byte;
+            at + 1
+        }
+        None => at,
+    }
+}
+
+// Copies bytes that come in the cell of this number, and in place of each end of a line the delimiter behind its cell.
+// The answer is where that ends, and the number of the cell in which more comes.
+fn put_pieces<A: Allocator>(
+    delims: &Delims<A>,
+    ending: u8,
+    number: u64,
+    bytes: &[u8],
+    into: &mut Written,
+) -> (usize, u64)
+    requires room { length bytes.now ≤ 8192 }
+    requires short { number + length bytes.now < 2 ^ 63 }
+    ensures puts { Puts ending delims.now number bytes.now result.1 [] (take result.0 into.new) }
+    ensures near { result.0 ≤ length bytes.now }
+    ensures bound { result.1 ≤ number + length bytes.now }
+{
+    let mut number = number;
+    let mut rest = bytes;
+    let mut at = 0;
+    'pieces: while let Some(count) = find_near(ending, rest) {
+        copy_near(rest, 0, count, into, at);
+        at = put_delimiter(delims, number, into, at + count);
+        number += 1;
+        rest = &rest[count + 1..];
+    }
+    copy_near(rest, 0, rest.len(), into, at);
+    (at + rest.len(), number)
+}
+
+// The same, where one delimiter stands behind every cell if it is told.
+#[inline(always)]
+fn put_cells<A: Allocator>(
+    delims: &Delims<A>,
+    always: Option<u8>,
+    ending: u8,
+    number: u64,
+    bytes: &[u8],
+    into: &mut Written,
+) -> (usize, u64)
+    requires always { IfSome always (λ delim. IsAlways delims.now delim) }
+    requires room { length bytes.now ≤ 8192 }
+    requires short { number + length bytes.now < 2 ^ 63 }
+    ensures puts { Puts ending delims.now number bytes.now result.1 [] (take result.0 into.new) }
+    ensures near { result.0 ≤ length bytes.now }
+    ensures bound { result.1 ≤ number + length bytes.now }
+{
+    match always {
+        Some(delim) => {
+            let count = bytes.len();
+            replace_ends(EndsTo { ending, delim }, bytes, &mut into[..count]);
+            (count, number)
+        }
+        None => put_pieces(delims, ending, number, bytes, into),
+    }
+}
+
+// Copies what is written of a block that comes in the cell of this number. No delimiter is written behind the last
+// cell before more comes. The answer is where that ends, and the cell in which the next block comes.
+fn put_block<A: Allocator>(
+    delims: &Delims<A>,
+    always: Option<u8>,
+    ending: u8,
+    number: u64,
+    block: &[u8],
+    into: &mut Written,
+) -> (usize, Cell)
+    requires always { IfSome always (λ delim. IsAlways delims.now delim) }
+    requires some { 0 < length block.now }
+    requires room { length block.now ≤ 8192 }
+    requires short { number + length block.now ≤ 2 ^ 63 }
+    ensures puts { PutsBlock ending delims.now number block.now result.1 (take result.0 into.new) }
+    ensures near { result.0 ≤ length block.now }
+    ensures bound { result.1.number + 1 ≤ number + length block.now }
+{
+    let count = block.len() - 1;
+    let last = block[count];
+    let (at, number) = put_cells(delims, always, ending, number, &block[..count], into);
+    if last == ending {
+        return (
+            at,
+            Cell {
+                number,
+                ended: true,
+            },
+        );
+    }
+    into[at] = last;
+    (
+        at + 1,
+        Cell {
+            number,
+            ended: false,
+        },
+    )
+}
+
 // Pushes what is written of a block that comes in this cell. The answer is the cell in which the next block comes.
 fn push_cells<A: Allocator, W: Sink>(
     delims: &Delims<A>,
+    always: Option<u8>,
     ending: u8,
     cell: Cell,
     block: &[u8],
+    written: &mut Written,
     out: &mut Out<W>,
 ) -> Result<Cell, WriteFault>
+    requires always { IfSome always (λ delim. IsAlways delims.now delim) }
+    requires room { length block.now ≤ 8192 }
     requires short { cell.number + length block.now < 2 ^ 63 }
     requires clean { out.old.faulted ≡ false }
     ensures continues { IfOk result
@@ -80,45 +204,57 @@ fn push_cells<A: Allocator, W: Sink>(
     ensures clean { OnOk result (out.new.faulted ≡ false) }
     ensures fault { OnErr result (out.new.faulted ≡ true) }
 {
-    let mut cell = cell;
-    let mut rest = block;
-    'cells: while !rest.is_empty() {
-        cell = begin_cell(delims, cell, out)?;
-        match find_near(ending, rest) {
-            Some(at) => {
-                out.push(&rest[..at])?;
-                cell.ended = true;
-                rest = &rest[at + 1..];
-            }
-            None => {
-                out.push(rest)?;
-                return Ok(cell);
-            }
-        }
+    if block.is_empty() {
+        return Ok(cell);
     }
-    Ok(cell)
+    let begun = begin_cell(delims, cell, out)?;
+    let (count, after) = put_block(delims, always, ending, begun.number, block, written);
+    out.push(&written[..count])?;
+    Ok(after)
 }
 
-/// The delimiters, the byte that ends a line, and the cell in which the next byte comes.
+// The delimiter that stands behind every cell, if the list has no other.
+fn always_of<A: Allocator>(delims: &Delims<A>) -> Option<u8>
+    ensures { IfSome result (λ delim. IsAlways delims.now delim) }
+{
+    if delims.count() == 1 {
+        return delims.at(0);
+    }
+    None
+}
+
+/// The delimiters, the one that stands behind every cell if the list has no other, the byte that ends a line, the cell in
+/// which the next byte comes, and a place for what is written of a block.
 #[derive(Drop)]
 struct SerialPaste<'a, A: Allocator> {
     delims: &'a Delims<A>,
+    always: Option<u8>,
     ending: u8,
     cell: Cell,
+    written: Written,
 }
 
 impl<'a, A: Allocator> BlockTool for SerialPaste<'a, A> {
-    ghost use Rattle.std.specs.Prelude.{◌≡◌, ℕ};
-    ghost use Rattle.ptflow.specs.Workings.SerialRests.{serial_rest};
+    ghost use Rattle.std.specs.Prelude.{◌≡◌, ℕ, IfSome};
+    ghost use Rattle.ptflow.specs.Workings.SerialRests.{serial_rest, IsAlways};
 
     ghost rest = { λ t. serial_rest t.ending t.delims.now t.cell };
 
     ghost counted = { λ t. t.cell.number };
 
-    ghost Holds = { λ s t. (t.delims.now ≡ s.delims.now) × (t.ending ≡ s.ending) };
+    ghost Holds = { λ s t. (t.delims.now ≡ s.delims.now) × (t.ending ≡ s.ending)
+        × IfSome t.always (λ delim. IsAlways t.delims.now delim) };
 
     fn push_block<W: Sink>(&mut self, block: &[u8], out: &mut Out<W>) -> Result<(), WriteFault> {
-        self.cell = push_cells(self.delims, self.ending, self.cell, block, out)?;
+        self.cell = push_cells(
+            self.delims,
+            self.always,
+            self.ending,
+            self.cell,
+            block,
+            &mut self.written,
+            out,
+        )?;
         Ok(())
     }
 
@@ -142,11 +278,13 @@ fn over_row<A: Allocator, S: Source, R: Source, W: Sink>(
 {
     let mut tool = SerialPaste {
         delims: &job.delims,
+        always: always_of(&job.delims),
         ending: reader.ending(),
         cell: Cell {
             number: 0,
             ended: false,
         },
+        written: [0; 8208],
     };
     over_blocks(&mut tool, reader, out)
 }

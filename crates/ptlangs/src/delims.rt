@@ -95,6 +95,13 @@ impl<A: Allocator> Delims<A> {
         Ok(Delims { kept })
     }
 
+    /// How many there are.
+    pub fn count(&self) -> usize
+        ensures { result ≡ length self.now }
+    {
+        self.kept.as_slice().len()
+    }
+
     /// The delimiter behind a column, counted from 0, or `None` for the empty string. Behind the
     /// last element comes the first one again.
     pub fn at(&self, column: u64) -> Option<u8>

@@ -3,6 +3,7 @@
 
 ghost use Rattle.ptlines.specs.Text.{LinesAreUnique, EndedLinesAreLines};
 
+mod comparing;
 mod near;
 mod out;
 mod parts;
@@ -14,6 +15,7 @@ mod source;
 mod std_ends;
 mod store;
 
+pub use comparing::compare;
 pub use near::copy_near;
 pub use out::{Out, WriteFault, send};
 pub use parts::parts_of_lines;

@@ -7,6 +7,7 @@ use Rattle.ptlines.specs.Outputs.{Output, Wrote}
 use Rattle.ptlines.specs.Readers.{Reader, Reads, IsSound}
 use Rattle.ptlines.specs.Slots.{Slots, line, total, with_line}
 use Rattle.ptlines.specs.Text.{text, IsLine, longest}
+use Rattle.ptlines.proofs.Pushed.{wrote_nothing}
 use Rattle.ptmerge.specs.declared.faults.MergeFault.{MergeFault}
 use Rattle.ptmerge.specs.declared.faults.MergeFault.TheVariants.{Read, Write, Memory}
 use Rattle.ptmerge.specs.declared.faults.MergeFault.TheVariants as faults
@@ -29,7 +30,7 @@ use Rattle.ptmerge.proofs.Got.{reads_nothing}
 use Rattle.ptmerge.proofs.Least.{EachKey, front_first}
 use Rattle.ptmerge.proofs.Orders.{IsKeyOrder, AtMost, self_at_most}
 use Rattle.ptmerge.proofs.Pairs.{put_each, put_other, put_same}
-use Rattle.ptmerge.proofs.Passing.{Merging, passes}
+use Rattle.ptmerge.proofs.Passing.{Late, Merging, late_none, passes}
 use Rattle.ptmerge.proofs.Slotted.{Keeps, has_lines_total, keeps_line}
 use Rattle.ptmerge.proofs.Splitting.{all_keys}
 use Rattle.ptmerge.proofs.Standing.{Next, passed}
@@ -81,7 +82,7 @@ comes_slots key cmp place next was is before after (inr e) = ap (λ (t : Slots).
 pub breaks_slots : (s : Side) (place : Sorted) (was is : Reader) (before after : Slots) (fault : MergeFault) → CannotRead s place was is before after fault → length after.lines ≡ length before.lines
 breaks_slots s place was is before after (Read file) e = ap (λ (t : Slots). length t.lines) e.0.stored ∙ length-set before.lines place.previous e.0.piece
 breaks_slots s place was is before after Write e = absurd e
-breaks_slots s place was is before after Memory e = ap (λ (t : Slots). length t.lines) e.stored ∙ length-set before.lines place.previous e.piece
+breaks_slots s place was is before after Memory e = ap (λ (t : Slots). length t.lines) e.0.stored ∙ length-set before.lines place.previous e.0.piece
 breaks_slots s place was is before after (faults.Disorder file number) e = absurd e
 
 pub passes_slots : (key : Key) (cmp : Cmp) (s : Side) (place next : Sorted) (was is : Reader) (before after : Slots) (out : Output) (fault : MergeFault) → PassesLine key cmp s place next was is before after out (Err fault) → length after.lines ≡ length before.lines
@@ -94,9 +95,9 @@ adds_of before after count = record { least = omega (arith, count); most = omega
 
 -- a line that both inputs have is passed
 pass_both : (job : Comm) (cmp : Cmp) (key : Side → Key) (o : IsKeyOrder cmp) (b : Side → Bound) (p q : Side → Lines) (was is new : Output) → is.faulted ≡ false → Merging (comm_by job cmp key) b p was is → (x y : List ℕ) → key First x ≡ key Second y → b First ≡ From (key First x) → b Second ≡ From (key Second y)
-    → q First ≡ p First ++ x ∷ [] → q Second ≡ p Second ++ y ∷ [] → Wrote is new (text job.end (by_keys (comm_by job cmp key) all_keys (both (x ∷ []) (y ∷ [])))) → Merging (comm_by job cmp key) b q was new
+    → q First ≡ p First ++ x ∷ [] → q Second ≡ p Second ++ y ∷ [] → Wrote is new (text job.end (by_keys (comm_by job cmp key) all_keys (both (x ∷ []) (y ∷ [])))) → Merging (comm_by job cmp key) b q was new × Late (comm_by job cmp key) b q was new
 pass_both job cmp key o b p q was is new clean m x y same at1 at2 all1 all2 wrote =
-    subst (λ (l : Side → Lines). Merging (comm_by job cmp key) b l was new) (λ i side. each side i) (passes (comm_by job cmp key) b p f was is new clean m coming front unders wrote)
+    subst (λ (l : Side → Lines). Merging (comm_by job cmp key) b l was new × Late (comm_by job cmp key) b l was new) (λ i side. each side i) (passes (comm_by job cmp key) b p f was is new clean m coming front unders wrote)
   where
     f : Side → Lines
     f = both (x ∷ []) (y ∷ [])
@@ -166,18 +167,18 @@ module _ (job : Comm) (cmp : Cmp) (key : Side → Key) (o : IsKeyOrder cmp) (old
     pub standing : (side : Side) → GoneBy side (p side)
     standing side = gone_standing job.end cmp (key side) (old.reader side) (now.reader side) (place side) now.store (ls side) (p side) (b side) (sides side)
 
-    pub passing : (s : Side) → (place s).stand ≡ Head → (new : Reader) (piece : List ℕ) → Reads (now.reader s) new piece → IsLine (now.reader s).ending piece → Gone job.end cmp (key s) (old.reader s) (now.reader s) new piece (ls s) (ls s) (b s)
-    passing s head new piece reads free =
+    pub passing : (s : Side) → (place s).stand ≡ Head → (new : Reader) (piece : List ℕ) → Reads (now.reader s) new piece → IsLine (now.reader s).ending piece → IsSound new → Gone job.end cmp (key s) (old.reader s) (now.reader s) new piece (ls s) (ls s) (b s)
+    passing s head new piece reads free sound =
         let h = passed_at (comm_by job cmp key) o old.reader now.reader place now.store ls p b sides slots four s head in
-        subst (λ d. Gone job.end cmp (key s) (old.reader s) (now.reader s) new piece (ls s) (ls s) d) (sym h.bound) (gone_passed job.end cmp o (key s) (old.reader s) (now.reader s) new piece (ls s) (key s (line now.store (place s).standing)) (sides s).got reads free h.begun)
+        subst (λ d. Gone job.end cmp (key s) (old.reader s) (now.reader s) new piece (ls s) (ls s) d) (sym h.bound) (gone_passed job.end cmp o (key s) (old.reader s) (now.reader s) new piece (ls s) (key s (line now.store (place s).standing)) (sides s).got reads free sound h.begun)
 
     pub passing_now : (s : Side) → (place s).stand ≡ Head → GoneBy s (ls s)
-    passing_now s head = passing s head (now.reader s) [] (reads_nothing (now.reader s)) tt
+    passing_now s head = passing s head (now.reader s) [] (reads_nothing (now.reader s)) tt (sides s).sound
 
     -- a write failed
-    pub unwritten : (q : Side → Lines) (new : Output) → Merging (comm_by job cmp key) b q old.out new → ((side : Side) → GoneBy side (q side)) → new.faulted ≡ true → Done (record { reader = now.reader; out = new; store = now.store }) (Err Write)
-    unwritten q new m g fault =
-        stops (comm_by job cmp key) o old (record { reader = now.reader; out = new; store = now.store }) now.reader (λ side. []) ls q b g m (Err Write) (record { faulted = fault; failed = went; denied = keeps.denied })
+    pub unwritten : (q : Side → Lines) (new : Output) → Merging (comm_by job cmp key) b q old.out new → Late (comm_by job cmp key) b q old.out new → ((side : Side) → GoneBy side (q side)) → new.faulted ≡ true → Done (record { reader = now.reader; out = new; store = now.store }) (Err Write)
+    unwritten q new m late g fault =
+        stops (comm_by job cmp key) o old (record { reader = now.reader; out = new; store = now.store }) now.reader (λ side. []) ls q b g m late (Err Write) (record { faulted = fault; failed = went; denied = keeps.denied })
         (λ side fail. absurd (false≢true (sym (went side ∙ unfailed side) ∙ fail))) tt (λ all w. (omega (arith, keeps.peak, (w First).1, (w Second).1), omega (arith, keeps.slots)))
 
     -- the next line of an input could not be read
@@ -186,7 +187,7 @@ module _ (job : Comm) (cmp : Cmp) (key : Side → Key) (o : IsKeyOrder cmp) (old
     unread s head q out clean m same rest new after fault moves =
         let h = passed_at (comm_by job cmp key) o old.reader now.reader place now.store ls p b sides slots four s head in
         breaks (comm_by job cmp key) o old (record { reader = now.reader; out = out; store = now.store }) ls q b m unfailed went clean s (place s) new after fault
-        (λ r piece reads free. subst (λ l. Gone job.end cmp (key s) (old.reader s) (now.reader s) r piece (ls s) l (b s)) (sym same) (passing s head r piece reads free)) (sym same) (Some (key s (line now.store (place s).standing)))
+        (λ r piece reads free sound. subst (λ l. Gone job.end cmp (key s) (old.reader s) (now.reader s) r piece (ls s) l (b s)) (sym same) (passing s head r piece reads free sound)) (sym same) (Some (key s (line now.store (place s).standing)))
         (subst (λ l. Begun cmp (key s) l (Some (key s (line now.store (place s).standing)))) (sym same) h.begun) rest keeps.denied
         (λ piece all w. bounded now.store after s (place s) ls all piece (slots s) keeps (λ side. omega (arith, (w side).1)) (omega (arith, (w s).1, ap length (put_same s piece (λ side. []))))) moves
 
@@ -217,13 +218,16 @@ module _ (job : Comm) (cmp : Cmp) (key : Side → Key) (o : IsKeyOrder cmp) (old
       abbrev q : Side → Lines
       q = put s (r.ls s) r.p
 
-      merging_alone : Merging (comm_by job cmp key) r.b (put s (r.ls s) r.p) old.out new
-      merging_alone =
+      pushed_alone : Merging (comm_by job cmp key) r.b (put s (r.ls s) r.p) old.out new × Late (comm_by job cmp key) r.b (put s (r.ls s) r.p) old.out new
+      pushed_alone =
           let x = line now.store (place s).standing in
           let h = passed job.end cmp (key s) (old.reader s) (now.reader s) (place s) now.store (r.ls s) (r.p s) (r.b s) step.stands (r.sides s) in
           let a = ahead cmp o (key (other s)) (key s x) (place (other s)).stand (place (other s)) now.store (now.reader (other s)) (r.ls (other s)) (r.p (other s)) (r.b (other s)) step.before (r.sides (other s)).stands in
-          subst (λ (l : Lines). Merging (comm_by job cmp key) r.b (put s l r.p) old.out new) (sym h.all)
+          subst (λ (l : Lines). Merging (comm_by job cmp key) r.b (put s l r.p) old.out new × Late (comm_by job cmp key) r.b (put s l r.p) old.out new) (sym h.all)
           (pass_one (comm_by job cmp key) o (line_by_line job cmp key) s x r.b r.p old.out now.out new clean r.merging h.bound a.0 a.1 wrote)
+
+      merging_alone : Merging (comm_by job cmp key) r.b (put s (r.ls s) r.p) old.out new
+      merging_alone = pushed_alone.0
 
       pub alone_on : (reader : Reader) (next : Sorted) (after : Slots) → Comes (key s) cmp (place s) next (now.reader s) reader now.store after → Running (comm_by job cmp key) old (record { reader = put s reader now.reader; out = new; store = after }) (put s next place)
       alone_on reader next after comes =
@@ -239,7 +243,7 @@ module _ (job : Comm) (cmp : Cmp) (key : Side → Key) (o : IsKeyOrder cmp) (old
 
       pub alone_unwritten : new.faulted ≡ true → IsMerge (comm_by job cmp key) old (record { reader = now.reader; out = new; store = now.store }) (Err Write)
       alone_unwritten fault =
-          unwritten now place r.ls r.p r.b r.sides r.keeps slots (put s (r.ls s) r.p) new merging_alone
+          unwritten now place r.ls r.p r.b r.sides r.keeps slots (put s (r.ls s) r.p) new merging_alone pushed_alone.1
           (put_each (λ side (l : Lines). Gone job.end cmp (key side) (old.reader side) (now.reader side) (now.reader side) [] (r.ls side) l (r.b side)) s (r.ls s) r.p (passing_now now place r.ls r.p r.b r.sides r.keeps slots s step.stands) stand) fault
 
       pub alone_unread : new.faulted ≡ false → (reader : Reader) (after : Slots) (fault : MergeFault) → CannotRead s (place s) (now.reader s) reader now.store after fault → IsMerge (comm_by job cmp key) old (record { reader = put s reader now.reader; out = new; store = after }) (Err fault)
@@ -259,11 +263,14 @@ module _ (job : Comm) (cmp : Cmp) (key : Side → Key) (o : IsKeyOrder cmp) (old
 
     module _ (step : AreEqual cmp key place now.store) (new : Output)
         (wrote : Wrote now.out new (text job.end (by_keys (comm_by job cmp key) all_keys (both (line now.store (place First).standing ∷ []) (line now.store (place Second).standing ∷ []))))) where
-      merging_both : Merging (comm_by job cmp key) r.b (both (r.ls First) (r.ls Second)) old.out new
-      merging_both =
+      pushed_both : Merging (comm_by job cmp key) r.b (both (r.ls First) (r.ls Second)) old.out new × Late (comm_by job cmp key) r.b (both (r.ls First) (r.ls Second)) old.out new
+      pushed_both =
           let h1 = passed job.end cmp (key First) (old.reader First) (now.reader First) (place First) now.store (r.ls First) (r.p First) (r.b First) step.first (r.sides First) in
           let h2 = passed job.end cmp (key Second) (old.reader Second) (now.reader Second) (place Second) now.store (r.ls Second) (r.p Second) (r.b Second) step.second (r.sides Second) in
           pass_both job cmp key o r.b r.p (both (r.ls First) (r.ls Second)) old.out now.out new clean r.merging (line now.store (place First).standing) (line now.store (place Second).standing) step.same h1.bound h2.bound h1.all h2.all wrote
+
+      pub merging_both : Merging (comm_by job cmp key) r.b (both (r.ls First) (r.ls Second)) old.out new
+      merging_both = pushed_both.0
 
       -- the first input has gone to its next line
       pub record Midway (reader : Reader) (next : Sorted) (mid : Slots) : Type 0 where
@@ -274,7 +281,7 @@ module _ (job : Comm) (cmp : Cmp) (key : Side → Key) (o : IsKeyOrder cmp) (old
 
       pub both_unwritten : new.faulted ≡ true → IsMerge (comm_by job cmp key) old (record { reader = now.reader; out = new; store = now.store }) (Err Write)
       both_unwritten fault =
-          unwritten now place r.ls r.p r.b r.sides r.keeps slots (both (r.ls First) (r.ls Second)) new merging_both
+          unwritten now place r.ls r.p r.b r.sides r.keeps slots (both (r.ls First) (r.ls Second)) new merging_both pushed_both.1
           (elim [ First ↦ passing_now now place r.ls r.p r.b r.sides r.keeps slots First step.first | Second ↦ passing_now now place r.ls r.p r.b r.sides r.keeps slots Second step.second ]) fault
 
       pub both_unread : new.faulted ≡ false → (reader : Reader) (after : Slots) (fault : MergeFault) → CannotRead First (place First) (now.reader First) reader now.store after fault → IsMerge (comm_by job cmp key) old (record { reader = put First reader now.reader; out = new; store = after }) (Err fault)
@@ -319,9 +326,9 @@ module _ (job : Comm) (cmp : Cmp) (key : Side → Key) (o : IsKeyOrder cmp) (old
             }
 
         -- what was staged could not be sent before the second input was read
-        pub both_unsent : new.faulted ≡ true → IsMerge (comm_by job cmp key) old (record { reader = put First reader now.reader; out = new; store = mid }) (Err Write)
-        both_unsent fault =
-            unwritten (record { reader = put First reader now.reader; out = new; store = mid }) (put First next place) (put First w.n.now_ls r.ls) (put First (r.ls First) r.p) (put First w.n.bound r.b) sides1 keeps1 slots' (both (r.ls First) (r.ls Second)) new merging1
+        pub both_unsent : (wrote_out : Output) → wrote_out.faulted ≡ false → Wrote old.out wrote_out (text job.end (by_keys (comm_by job cmp key) all_keys (both (r.ls First) (r.ls Second)))) → Wrote wrote_out new [] → new.faulted ≡ true → IsMerge (comm_by job cmp key) old (record { reader = put First reader now.reader; out = new; store = mid }) (Err Write)
+        both_unsent out fine pushed sent fault =
+            unwritten (record { reader = put First reader now.reader; out = new; store = mid }) (put First next place) (put First w.n.now_ls r.ls) (put First (r.ls First) r.p) (put First w.n.bound r.b) sides1 keeps1 slots' (both (r.ls First) (r.ls Second)) new merging1 (late_none (comm_by job cmp key) (put First w.n.bound r.b) (both (r.ls First) (r.ls Second)) old.out out new fine pushed sent)
             (elim [
               | First ↦ standing (record { reader = put First reader now.reader; out = new; store = mid }) (put First next place) (put First w.n.now_ls r.ls) (put First (r.ls First) r.p) (put First w.n.bound r.b) sides1 keeps1 slots' First
               | Second ↦ passing_now (record { reader = put First reader now.reader; out = new; store = mid }) (put First next place) (put First w.n.now_ls r.ls) (put First (r.ls First) r.p) (put First w.n.bound r.b) sides1 keeps1 slots' Second step.second
@@ -340,7 +347,7 @@ module _ (job : Comm) (cmp : Cmp) (key : Side → Key) (o : IsKeyOrder cmp) (old
 
       concludes : (result : Result (Unit {0}) MergeFault) → Ends old (record { reader = now.reader; out = now.out; store = after }) result → Concludes (comm_by job cmp key) r.b result → IsMerge (comm_by job cmp key) old (record { reader = now.reader; out = now.out; store = after }) result
       concludes result ends at =
-          stops (comm_by job cmp key) o old (record { reader = now.reader; out = now.out; store = after }) now.reader (λ side. []) r.ls r.p r.b stand r.merging result ends
+          stops (comm_by job cmp key) o old (record { reader = now.reader; out = now.out; store = after }) now.reader (λ side. []) r.ls r.p r.b stand r.merging (late_none (comm_by job cmp key) r.b r.p old.out now.out now.out clean r.merging.wrote (wrote_nothing now.out)) result ends
           (λ side fail. absurd (false≢true (sym (went now place r.ls r.p r.b r.sides r.keeps slots side ∙ unfailed side) ∙ fail))) at
           (λ all w. (omega (arith, clear.peak, (has_lines_total now.store.lines (λ side. longest (r.ls side)) 0 r.keeps.lines).1, r.keeps.peak, (w First).1, (w Second).1), omega (arith, clear.slots, r.keeps.slots)))
 

@@ -1,6 +1,6 @@
 -- The fields of a line, one after another, and what is written of them.
-use Rattle.std.proofs.Common.{◌≡◌, ℕ, zero, suc, ◌+◌, ◌-◌, ◌<◌, ◌≤◌, ◌==◌, Bool, true, false, ltb, cond, List, [], ◌∷◌, Option, None, Some, length, drop, get_or, refl, sym, ◌∙◌, ap, arith, min, ◌||◌}
-use Rattle.std.specs.Prelude.{filter, position}
+use Rattle.std.proofs.Common.{◌≡◌, ℕ, zero, suc, ◌+◌, ◌-◌, ◌<◌, ◌≤◌, ◌==◌, Bool, true, false, ltb, cond, List, [], ◌∷◌, Option, None, Some, length, drop, get_or, refl, sym, ◌∙◌, ap, subst, arith, min, ◌||◌}
+use Rattle.std.specs.Prelude.{filter, position, MatchOption}
 use Rattle.std.specs.List.{slice_split, position_or_len}
 use Rattle.std.proofs.lemmas.Bool.Decides.{nat_tests}
 use Rattle.std.proofs.lemmas.List.{get_or-drop, drop-drop}
@@ -109,6 +109,14 @@ dropped_none fs i k none le = let at : i + (k - i) ≡ k = omega arith in ap (λ
 
 pub dropped_more : (fs more : Lines) (f : List ℕ) (i : ℕ) → drop i fs ≡ f ∷ more → drop (i + 1) fs ≡ more
 dropped_more fs more f i some = sym (drop-drop 1 i fs) ∙ ap (drop 1) some
+
+-- what a clause says of a value that is there, and of none
+pub match_none : {B : Type 0} (r : Option B) (X : Type 0) (Y : B → Type 0) → MatchOption r X Y → r ≡ None → X
+match_none None X Y m is = m
+match_none (Some b) X Y m is = cc
+
+pub match_some : {B : Type 0} (r : Option B) (X : Type 0) (Y : B → Type 0) (b : B) → MatchOption r X Y → r ≡ Some b → Y b
+match_some r X Y b m is = subst (λ (o : Option _). MatchOption o X Y) is m
 
 -- how much is left of a line
 abbrev pub left_length : Option (List ℕ) → ℕ

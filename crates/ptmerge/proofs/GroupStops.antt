@@ -1,31 +1,36 @@
 -- A tool over two inputs that stops within a group of lines with one key: the keys below the group's are passed, and a
 -- beginning of the group's entries was pushed.
-use Rattle.std.proofs.Common.{◌≡◌, ℕ, ◌≤◌, ◌||◌, Bool, true, false, cond, List, [], ◌++◌, Some, None, Err, length, map, max, sym, ◌∙◌, ap, subst, append_assoc}
+use Rattle.std.proofs.Common.{◌≡◌, ℕ, ◌≤◌, ◌||◌, Bool, true, false, cond, List, [], ◌++◌, Some, None, Err, length, map, max, refl, sym, ◌∙◌, ap, subst, append_assoc}
 use Rattle.std.specs.Prelude.{is_some}
 use Rattle.std.specs.List.{last_or}
 use Rattle.std.specs.Ordering.{is_lt}
 use Rattle.std.proofs.lemmas.List.{append-nil}
 use Rattle.ptlines.specs.Inputs.{Given, Begins, whole_lines}
+use Rattle.ptlines.specs.KeepingUp.{Before, WorksOff, KeepsUp}
 use Rattle.ptlines.specs.Outputs.{Output, Wrote}
 use Rattle.ptlines.specs.Readers.{Reader}
-use Rattle.ptlines.specs.Text.{text, lines, longest}
+use Rattle.ptlines.specs.Text.{text, lines, IsLine, longest}
 use Rattle.ptlines.proofs.Coming.{given_of, came_of}
 use Rattle.ptlines.proofs.Filling.{reads_trans}
 use Rattle.ptlines.proofs.Pushed.{wrote_trans}
+use Rattle.ptlines.proofs.Sending.{keeps_more}
 use Rattle.ptlines.proofs.TextLaws.{text-append}
 use Rattle.ptmerge.specs.declared.faults.MergeFault.{MergeFault}
 use Rattle.ptmerge.specs.declared.order.Side.{Side}
 use Rattle.ptmerge.specs.declared.order.Side.TheVariants.{First, Second}
-use Rattle.ptmerge.specs.Keyed.{Lines, Tool, by_keys, decided_entries, disorder, fall, is_below, is_decided, is_past, lines_of, merged_entries, ordered_part, up_to}
+use Rattle.ptmerge.specs.Keyed.{Lines, Tool, by_keys, decided, decided_entries, disorder, fall, is_below, is_decided, is_past, lines_of, merged_entries, ordered_part, settled, up_to}
 use Rattle.ptmerge.specs.Merges.{State, Agree, Ends, IsMerge, IsWhole}
 use Rattle.ptmerge.specs.Orders.{Cmp, Key}
-use Rattle.ptmerge.proofs.Bounds.{Bound, Free, From, Fallen, Over, Coming, Falling, Under}
+use Rattle.ptmerge.specs.Sides.{other, put}
+use Rattle.ptmerge.proofs.Backing.{Back, back}
+use Rattle.ptmerge.proofs.Bounds.{Bound, Free, From, Fallen, Over, Coming, FallFrom, Falling, Under}
 use Rattle.ptmerge.proofs.Got.{More, Known, got_known, got_lines}
 use Rattle.ptmerge.proofs.Least.{EachKey, EachKey-append, EachKey-weaker}
 use Rattle.ptmerge.proofs.Orders.{IsKeyOrder, AtMost, at_most_trans, self_at_most}
 use Rattle.ptmerge.proofs.Passing.{Merging, down_decided, follows, not_below, not_decided}
-use Rattle.ptmerge.proofs.Splitting.{all_keys, all_wanted, down_begins, none_wanted, passed_is_wanted}
+use Rattle.ptmerge.proofs.Splitting.{all_keys, all_wanted, down_begins, none_wanted, passed_is_wanted, under_fall}
 use Rattle.ptmerge.proofs.Stopping.{FitsIn, Gone}
+use Rattle.ptmerge.proofs.Working.{unsettled, works_off}
 
 -- what goes before k goes before all that may come, if k does
 pub under_down : (cmp : Cmp) (o : IsKeyOrder cmp) (b : Bound) (x k : List ℕ) → AtMost cmp x k → Under cmp b k → Under cmp b x
@@ -111,6 +116,42 @@ module _ (tool : Tool) (o : IsKeyOrder tool.cmp) (old new : State) (now : Side �
   input_lines : (input : Side → List ℕ) → Agree given input → (side : Side) → More (now side) (ls side) (lines tool.end (input side)) × (max (longest (ls side)) (length (piece side)) ≤ longest (lines tool.end (input side)))
   input_lines input a side = got_lines tool.end (old.reader side) (now side) (new.reader side) (ls side) (piece side) (gone side).got (gone side).reads (gone side).line (input side) (a side)
 
+  -- what was decided two blocks earlier of one input was pushed
+  module _ (of : Side) where
+    abbrev Keeps : List ℕ → Type 0
+    Keeps pushed = KeepsUp {I = Unit {0}} (λ came. decided tool (put of (came tt) given)) (λ u. given of) old.out new.out pushed
+
+    abbrev whole : Side → Lines
+    whole side = whole_lines tool.end (given side)
+
+    next : (side : Side) → (r : Lines) × (ordered_part tool.cmp (tool.key side) (whole_lines tool.end (given side)) ≡ (p side ++ g side) ++ r) × EachKey (AtMost tool.cmp k) (tool.key side) (g side ++ r)
+    next side =
+        let f = future (λ s. whole_lines tool.end (given s)) (λ s. (known s).known) in
+        ((f side).0, ap (ordered_part tool.cmp (tool.key side)) (known side).known.is ∙ (f side).1, behind (λ s. (f s).0) (λ s. (f s).2) side)
+
+    backs : (side : Side) → Back tool.end (given side) (p side ++ g side)
+    backs side =
+        back tool.end (gone side).got.given (piece side) (ls side) (p side ++ g side) (now side) (new.reader side) (gone side).got.so_far (subst (λ (e : ℕ). IsLine e (piece side)) (gone side).got.ending (gone side).line) (gone side).sound.held (gone side).near
+
+    under : (t side : Side) → EachKey (λ x. AtMost tool.cmp x k) (tool.key side) (p side ++ g side)
+    under t side =
+        EachKey-append (λ x. AtMost tool.cmp x k) (tool.key side) (p side) (g side) (m.merging.under t side)
+        (EachKey-weaker (λ x. x ≡ k) (λ x. AtMost tool.cmp x k) (λ x e. subst (λ y. AtMost tool.cmp y k) (sym e) (self_at_most tool.cmp o k)) (tool.key side) (g side) (m.own side))
+
+    works : WorksOff {I = Unit {0}} (λ came. decided tool (put of (came tt) given)) (λ u. given of) (text tool.end (by_keys tool all_keys p))
+    works = works_off tool o given p (λ side. p side ++ g side) g (λ side. From k) backs (λ side. refl) under next of
+
+    keeps : Keeps (text tool.end (by_keys tool all_keys p ++ extra))
+    keeps = subst Keeps (sym (text-append tool.end (by_keys tool all_keys p) extra)) (keeps_more (λ came. decided tool (put of (came tt) given)) (λ u. given of) old.out mid (text tool.end (by_keys tool all_keys p)) works m.merging.wrote m.clean new.out (text tool.end extra) wrote)
+
+    -- nor was a disorder settled
+    ends_by : (before : Before (given of)) × (settled tool (put of before.earlier given) ≡ false)
+    ends_by =
+        let falls = falling (λ s. whole_lines tool.end (given s)) (λ s. (known s).known) in
+        unsettled tool o given p (λ side. p side ++ g side) g (λ side. From k) backs (λ side. refl) under next of
+        (EachKey-weaker (λ x. AtMost tool.cmp x k) (λ x. FallFrom tool.cmp x (fall tool.cmp (tool.key (other of)) (whole_lines tool.end (given (other of)))))
+        (λ x h. under_fall tool.cmp o (d (other of)) x (fall tool.cmp (tool.key (other of)) (whole_lines tool.end (given (other of)))) (under_down tool.cmp o (d (other of)) x k h (m.under (other of))) (falls (other of))) (tool.key of) (p of ++ g of) (under of of))
+
   pub halts : (fault : MergeFault) → Ends old new (Err fault) → ((side : Side) → (new.reader side).failed ≡ true → FailsIn tool.cmp (tool.key side) k (new.reader side) (ls side)) → ((input : Side → List ℕ) (pushed : List ℕ) → IsWhole tool input pushed (Err fault))
       → ((all : Side → Lines) → ((side : Side) → More (now side) (ls side) (all side) × (max (longest (ls side)) (length (piece side)) ≤ longest (all side))) → FitsIn tool old.store new.store all) → IsMerge tool old new (Err fault)
   halts fault ends failed whole fits = record {
@@ -127,6 +168,8 @@ module _ (tool : Tool) (o : IsKeyOrder tool.cmp) (old new : State) (now : Side �
         let f = failed side fail in
         let exact = (known side).exact f.held f.ended in
         sure_is (λ s. whole_lines tool.end (given s)) (λ s. (known s).known) (λ s. (new.reader s).ended) side f.ended (ap (fall tool.cmp (tool.key side)) exact ∙ f.rises) (ap (λ (l : Lines). last_or None (map (tool.key side) l)) exact ∙ f.last);
+    keeps_up = λ side clean. keeps side;
+    ends_at_once = λ side clean. ends_by side;
     peak = λ input a. (fits (lines_of tool input) (input_lines input a)).0;
     slots = λ input a. (fits (lines_of tool input) (input_lines input a)).1;
     whole = λ input a. whole input (text tool.end (by_keys tool all_keys p ++ extra));

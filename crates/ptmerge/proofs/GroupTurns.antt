@@ -4,7 +4,7 @@ use Rattle.std.specs.List.{last_or}
 use Rattle.std.proofs.lemmas.Bool.{false≢true}
 use Rattle.std.proofs.lemmas.List.{append-nil}
 use Rattle.ptlines.specs.Outputs.{Output, Wrote}
-use Rattle.ptlines.specs.Readers.{Reader, Reads, HasReadCause}
+use Rattle.ptlines.specs.Readers.{Reader, Reads, IsSound, HasReadCause}
 use Rattle.ptlines.specs.Slots.{Slots, line, with_line}
 use Rattle.ptlines.specs.Text.{text, IsLine, longest}
 use Rattle.ptlines.proofs.Pushed.{wrote_trans}
@@ -170,12 +170,12 @@ module _ (tool : Tool) (o : IsKeyOrder tool.cmp) (pairs : List ℕ → Lines →
       with_head : q.ls s ≡ q.p s ++ (g s ++ x ∷ [])
       with_head = at_head.all ∙ append_assoc (q.p s) (g s) (x ∷ [])
 
-      pub passing : (new : Reader) (piece : List ℕ) → Reads (now.reader s) new piece → IsLine (now.reader s).ending piece
+      pub passing : (new : Reader) (piece : List ℕ) → Reads (now.reader s) new piece → IsLine (now.reader s).ending piece → IsSound new
           → Gone tool.end tool.cmp (tool.key s) (old.reader s) (now.reader s) new piece (q.ls s) (q.p s ++ (g s ++ line now.store (place s).standing ∷ [])) (q.d s)
-      passing new piece reads free =
+      passing new piece reads free sound =
           subst (λ (l : Lines). Gone tool.end tool.cmp (tool.key s) (old.reader s) (now.reader s) new piece (q.ls s) l (q.d s)) with_head
           (subst (λ b. Gone tool.end tool.cmp (tool.key s) (old.reader s) (now.reader s) new piece (q.ls s) (q.ls s) b) (sym at_head.bound)
-          (gone_passed tool.end tool.cmp o (tool.key s) (old.reader s) (now.reader s) new piece (q.ls s) (tool.key s x) (q.sides s).got reads free at_head.begun))
+          (gone_passed tool.end tool.cmp o (tool.key s) (old.reader s) (now.reader s) new piece (q.ls s) (tool.key s x) (q.sides s).got reads free sound at_head.begun))
 
       fails_in : (new : Reader) → new.held ≡ [] → new.ended ≡ false → FailsIn tool.cmp (tool.key s) k new (q.ls s)
       fails_in new held ended = record {
@@ -204,10 +204,10 @@ module _ (tool : Tool) (o : IsKeyOrder tool.cmp) (pairs : List ℕ → Lines →
         gone_of Second new piece a b First = b
         gone_of Second new piece a b Second = a
 
-        gone_is : (new : Reader) (piece : List ℕ) → Reads (now.reader s) new piece → IsLine (now.reader s).ending piece
+        gone_is : (new : Reader) (piece : List ℕ) → Reads (now.reader s) new piece → IsLine (now.reader s).ending piece → IsSound new
             → (side : Side) → Gone tool.end tool.cmp (tool.key side) (old.reader side) (now.reader side) (put s new now.reader side) (put s piece (λ u. []) side) (q.ls side) (q.p side ++ now_g side) (q.d side)
-        gone_is new piece reads free =
-            gone_of s new piece (subst (λ (l : Lines). Gone tool.end tool.cmp (tool.key s) (old.reader s) (now.reader s) new piece (q.ls s) (q.p s ++ l) (q.d s)) (sym mine) (passing new piece reads free))
+        gone_is new piece reads free sound =
+            gone_of s new piece (subst (λ (l : Lines). Gone tool.end tool.cmp (tool.key s) (old.reader s) (now.reader s) new piece (q.ls s) (q.p s ++ l) (q.d s)) (sym mine) (passing new piece reads free sound))
             (subst (λ (l : Lines). Gone tool.end tool.cmp (tool.key (other s)) (old.reader (other s)) (now.reader (other s)) (now.reader (other s)) [] (q.ls (other s)) (q.p (other s) ++ l) (q.d (other s))) (sym others) (standing (other s)))
 
         stays : (new : Reader) → new.failed ≡ (now.reader s).failed → (side : Side) → (put s new now.reader side).failed ≡ (old.reader side).failed
@@ -227,7 +227,7 @@ module _ (tool : Tool) (o : IsKeyOrder tool.cmp) (pairs : List ℕ → Lines →
             let e = moves.0 in
             let cause : HasReadCause (old.reader s) new = ⊎_elim (λ h. inl h) (λ h. inr (h.0, h.1 ∙ went s)) e.cause in
             subst (λ f. IsMerge tool old (record { reader = put s new now.reader; out = out; store = after }) (Err (Read f))) (sym moves.1)
-            (halts tool o old (record { reader = put s new now.reader; out = out; store = after }) now.reader (put s e.piece (λ u. [])) q.mid q.ls q.p now_g q.d k extra (gone_is new e.piece e.faults.reads e.faults.whole) (within_more now_g own) wrote begins (Read s)
+            (halts tool o old (record { reader = put s new now.reader; out = out; store = after }) now.reader (put s e.piece (λ u. [])) q.mid q.ls q.p now_g q.d k extra (gone_is new e.piece e.faults.reads e.faults.whole moves.2) (within_more now_g own) wrote begins (Read s)
             (record {
               cause = subst (λ r. HasReadCause (old.reader s) r) (sym (put_same s new now.reader)) cause;
               others = by s (went (other s));
@@ -252,8 +252,9 @@ module _ (tool : Tool) (o : IsKeyOrder tool.cmp) (pairs : List ℕ → Lines →
                 each Second a b First = b
                 each Second a b Second = a
         group_breaks new after Write moves = absurd moves
-        group_breaks new after Memory e =
-            halts tool o old (record { reader = put s new now.reader; out = out; store = after }) now.reader (put s e.piece (λ u. [])) q.mid q.ls q.p now_g q.d k extra (gone_is new e.piece e.faults.reads e.faults.whole) (within_more now_g own) wrote begins Memory
+        group_breaks new after Memory moves =
+            let e = moves.0 in
+            halts tool o old (record { reader = put s new now.reader; out = out; store = after }) now.reader (put s e.piece (λ u. [])) q.mid q.ls q.p now_g q.d k extra (gone_is new e.piece e.faults.reads e.faults.whole moves.1) (within_more now_g own) wrote begins Memory
             (record { denied = ap (λ (t : Slots). t.denied) e.stored; failed = stays new e.failed; clean = clean }) (λ side. not_failed side (put s new now.reader side) (stays new e.failed side)) (λ input pushed. tt)
             (subst (λ (t : Slots). (all : Side → Lines) → ((side : Side) → More (now.reader side) (q.ls side) (all side) × (max (longest (q.ls side)) (length (put s e.piece (λ u. []) side)) ≤ longest (all side))) → FitsIn tool old.store t all) (sym e.stored) (fits e.piece))
         group_breaks new after (faults.Disorder file number) moves = absurd moves

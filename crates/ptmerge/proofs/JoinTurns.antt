@@ -39,7 +39,7 @@ use Rattle.ptmerge.proofs.JoinSlots.{InGroup, Keeping, Kept, end_within, group_i
 use Rattle.ptmerge.proofs.Least.{EachKey}
 use Rattle.ptmerge.proofs.Orders.{IsKeyOrder, AtMost, self_at_most}
 use Rattle.ptmerge.proofs.Pairs.{put_each, put_other, put_same}
-use Rattle.ptmerge.proofs.Passing.{Merging}
+use Rattle.ptmerge.proofs.Passing.{Late, Merging, late_none}
 use Rattle.ptmerge.proofs.Sending.{wrote_and_sent}
 use Rattle.ptmerge.proofs.Slotted.{has_lines_total, line_other}
 use Rattle.ptmerge.proofs.Splitting.{all_keys}
@@ -158,13 +158,16 @@ module _ (tool : Tool) (o : IsKeyOrder tool.cmp) (pairs : List ℕ → Lines →
       x : List ℕ
       x = line now.store (place s).standing
 
-      merging_alone : Merging tool r.b (put s (r.ls s) r.p) old.out new
-      merging_alone =
+      pushed_alone : Merging tool r.b (put s (r.ls s) r.p) old.out new × Late tool r.b (put s (r.ls s) r.p) old.out new
+      pushed_alone =
           let y = line now.store (place s).standing in
           let h = passed_at tool o old.reader now.reader place now.store r.ls r.p r.b r.sides slots r.keeps.four s step.stands in
           let a = ahead tool.cmp o (tool.key (other s)) (tool.key s y) (place (other s)).stand (place (other s)) now.store (now.reader (other s)) (r.ls (other s)) (r.p (other s)) (r.b (other s)) step.before (r.sides (other s)).stands in
-          subst (λ (l : Lines). Merging tool r.b (put s l r.p) old.out new) (sym h.all)
+          subst (λ (l : Lines). Merging tool r.b (put s l r.p) old.out new × Late tool r.b (put s l r.p) old.out new) (sym h.all)
           (pass_one tool o laws.alone s y r.b r.p old.out now.out new clean r.merging h.bound a.0 a.1 wrote)
+
+      merging_alone : Merging tool r.b (put s (r.ls s) r.p) old.out new
+      merging_alone = pushed_alone.0
 
       pub alone_on : (reader : Reader) (next : Sorted) (after : Slots) → Comes (tool.key s) tool.cmp (place s) next (now.reader s) reader now.store after → Between (record { reader = put s reader now.reader; out = new; store = after }) (put s next place)
       alone_on reader next after comes =
@@ -180,17 +183,17 @@ module _ (tool : Tool) (o : IsKeyOrder tool.cmp) (pairs : List ℕ → Lines →
                 (put_each (λ side (l : Lines). longest (r.ls side) ≤ longest l) s n.now_ls r.ls n.longer (λ side. omega arith)) (subst (λ (l : Lines). length n.bytes ≤ longest l) (sym (put_same s n.now_ls r.ls)) n.fits) m.0 m.1 n.stored;
           }
 
-      passing_one : (reader : Reader) (piece : List ℕ) → Reads (now.reader s) reader piece → IsLine (now.reader s).ending piece → Gone tool.end tool.cmp (tool.key s) (old.reader s) (now.reader s) reader piece (r.ls s) (r.ls s) (r.b s)
-      passing_one reader piece reads free =
+      passing_one : (reader : Reader) (piece : List ℕ) → Reads (now.reader s) reader piece → IsLine (now.reader s).ending piece → IsSound reader → Gone tool.end tool.cmp (tool.key s) (old.reader s) (now.reader s) reader piece (r.ls s) (r.ls s) (r.b s)
+      passing_one reader piece reads free sound =
           let h = passed_at tool o old.reader now.reader place now.store r.ls r.p r.b r.sides slots r.keeps.four s step.stands in
           subst (λ d. Gone tool.end tool.cmp (tool.key s) (old.reader s) (now.reader s) reader piece (r.ls s) (r.ls s) d) (sym h.bound)
-          (gone_passed tool.end tool.cmp o (tool.key s) (old.reader s) (now.reader s) reader piece (r.ls s) (tool.key s (line now.store (place s).standing)) (r.sides s).got reads free h.begun)
+          (gone_passed tool.end tool.cmp o (tool.key s) (old.reader s) (now.reader s) reader piece (r.ls s) (tool.key s (line now.store (place s).standing)) (r.sides s).got reads free sound h.begun)
 
       alone_unwritten : new.faulted ≡ true → IsMerge tool old (record { reader = now.reader; out = new; store = now.store }) (Err Write)
       alone_unwritten fault =
           stops tool o old (record { reader = now.reader; out = new; store = now.store }) now.reader (λ side. []) r.ls (put s (r.ls s) r.p) r.b
-          (put_each (λ side (l : Lines). Gone tool.end tool.cmp (tool.key side) (old.reader side) (now.reader side) (now.reader side) [] (r.ls side) l (r.b side)) s (r.ls s) r.p (passing_one (now.reader s) [] (reads_nothing (now.reader s)) tt) stand)
-          merging_alone (Err Write) (record { faulted = fault; failed = went; denied = r.keeps.denied })
+          (put_each (λ side (l : Lines). Gone tool.end tool.cmp (tool.key side) (old.reader side) (now.reader side) (now.reader side) [] (r.ls side) l (r.b side)) s (r.ls s) r.p (passing_one (now.reader s) [] (reads_nothing (now.reader s)) tt (r.sides s).sound) stand)
+          merging_alone pushed_alone.1 (Err Write) (record { faulted = fault; failed = went; denied = r.keeps.denied })
           (λ side fail. absurd (false≢true (sym (went side ∙ unfailed side) ∙ fail))) tt
           (λ all w. fits_kept now.store now.store r.ls [] r.keeps all (omega arith) refl (λ side. omega (arith, (w side).1)) (w Second).0.more (w Second).0.is)
 
@@ -200,7 +203,7 @@ module _ (tool : Tool) (o : IsKeyOrder tool.cmp) (pairs : List ℕ → Lines →
           let q = put s (r.ls s) r.p in
           let same : put s (r.ls s) r.p s ≡ r.ls s = put_same s (r.ls s) r.p in
           breaks tool o old (record { reader = now.reader; out = new; store = now.store }) r.ls (put s (r.ls s) r.p) r.b merging_alone unfailed went fine s (place s) reader after fault
-          (λ rd piece reads free. subst (λ l. Gone tool.end tool.cmp (tool.key s) (old.reader s) (now.reader s) rd piece (r.ls s) l (r.b s)) (sym same) (passing_one rd piece reads free)) (sym same) (Some (tool.key s (line now.store (place s).standing)))
+          (λ rd piece reads free sound. subst (λ l. Gone tool.end tool.cmp (tool.key s) (old.reader s) (now.reader s) rd piece (r.ls s) l (r.b s)) (sym same) (passing_one rd piece reads free sound)) (sym same) (Some (tool.key s (line now.store (place s).standing)))
           (subst (λ l. Begun tool.cmp (tool.key s) l (Some (tool.key s (line now.store (place s).standing)))) (sym same) h.begun)
           (subst (λ (l : Lines). Gone tool.end tool.cmp (tool.key (other s)) (old.reader (other s)) (now.reader (other s)) (now.reader (other s)) [] (r.ls (other s)) l (r.b (other s))) (sym (put_other s (r.ls s) r.p)) (stand (other s))) r.keeps.denied
           (λ piece all w. peak_line now.store s (place s) r.ls all [] piece (slots s) r.keeps (λ side. omega (arith, (w side).1)) (omega (arith, (w s).1, ap length (put_same s piece (λ side. [])))) (w Second).0.more (w Second).0.is) moves
@@ -256,7 +259,7 @@ module _ (tool : Tool) (o : IsKeyOrder tool.cmp) (pairs : List ℕ → Lines →
 
       concludes : (result : Result (Unit {0}) MergeFault) → Ends old (record { reader = now.reader; out = now.out; store = after }) result → Concludes tool r.b result → IsMerge tool old (record { reader = now.reader; out = now.out; store = after }) result
       concludes result ends at =
-          stops tool o old (record { reader = now.reader; out = now.out; store = after }) now.reader (λ side. []) r.ls r.p r.b stand r.merging result ends
+          stops tool o old (record { reader = now.reader; out = now.out; store = after }) now.reader (λ side. []) r.ls r.p r.b stand r.merging (late_none tool r.b r.p old.out now.out now.out clean r.merging.wrote (wrote_nothing now.out)) result ends
           (λ side fail. absurd (false≢true (sym (went side ∙ unfailed side) ∙ fail))) at
           (λ all w. fits_kept now.store after r.ls [] r.keeps all clear.peak clear.slots (λ side. omega (arith, (w side).1)) (w Second).0.more (w Second).0.is)
 
@@ -464,7 +467,7 @@ module _ (tool : Tool) (o : IsKeyOrder tool.cmp) (pairs : List ℕ → Lines →
         (subst (λ t. IsMerge tool old (record { reader = now.reader; out = new; store = t }) (Err Write)) (sym e.1.store)
         (halts tool o old (record { reader = now.reader; out = new; store = now.store }) now.reader (λ side. []) r.q.mid r.q.ls r.q.p now_g r.q.d r.k (pairs r.k (r.g First ++ line now.store (place First).standing ∷ []) (r.g Second))
         (elim [
-          | First ↦ passing tool o pairs laws old unfailed now place end r.k r.g r.q slots First r.head1 r.key1 (now.reader First) [] (reads_nothing (now.reader First)) tt
+          | First ↦ passing tool o pairs laws old unfailed now place end r.k r.g r.q slots First r.head1 r.key1 (now.reader First) [] (reads_nothing (now.reader First)) tt (r.q.sides First).sound
           | Second ↦ standing tool o pairs laws old unfailed now place end r.k r.g r.q slots Second
         ]) (record { merging = r.q.within.merging; clean = r.q.within.clean; own = own_pair; beyond = r.q.within.beyond; under = r.q.within.under }) wrote_more (starts tool o pairs laws r.k now_g own_pair r.q.d r.q.within.beyond (inr (r.some, r.above))) Write
         (record { faulted = e.1.faulted; failed = went_pair; denied = r.q.keeps.denied }) (λ side fail. absurd (false≢true (sym (went_pair side ∙ unfailed side) ∙ fail))) (λ input pushed. tt)

@@ -1,8 +1,10 @@
 pub mod Amid
+pub mod Backing
 pub mod Bounds
 pub mod CommEntries
 pub mod CommRows
 pub mod CommTurns
+pub mod Deciding
 pub mod EntryLemmas
 pub mod FieldLemmas
 pub mod Got
@@ -11,6 +13,7 @@ pub mod GroupStops
 pub mod GroupTurns
 pub mod JoinEntries
 pub mod JoinRows
+pub mod KeepingUpRows
 pub mod Least
 pub mod JoinSlots
 pub mod JoinTurns
@@ -30,3 +33,4 @@ pub mod Standing
 pub mod Starting
 pub mod Stopping
 pub mod Turning
+pub mod Working

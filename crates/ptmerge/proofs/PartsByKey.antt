@@ -129,6 +129,16 @@ module _ (p : List ℕ → Bool) where
             flat_map-append g (entries_of tool part d) (flat_map (entries_of tool part) ds)
             ∙ (λ i. flat_map g (tool.entries d (with_key_kept (tool.key First) d (ls First) e.0 i) (with_key_kept (tool.key Second) d (ls Second) e.0 i)) ++ each_of ds e.1 i)
 
+    -- and so are the entries of some of the keys
+    pub by_keys_kept : by_keys tool all_keys (λ side. filter (λ line. p (tool.key side line)) (ls side)) ≡ by_keys tool p ls
+    by_keys_kept =
+        ap (flat_map (entries_of tool part)) (filter_true (distinct tool.cmp (keys tool part)) ∙ ap (distinct tool.cmp) keys_of_part ∙ sym (distinct_kept tool.cmp o (keys tool ls)))
+        ∙ each_of (filter p (distinct tool.cmp (keys tool ls))) (each_passes (distinct tool.cmp (keys tool ls)))
+      where
+        each_of : (ds : Lines) → Each (λ k. p k ≡ true) ds → flat_map (entries_of tool part) ds ≡ flat_map (entries_of tool ls) ds
+        each_of [] e = refl
+        each_of (d ∷ ds) e = λ i. tool.entries d (with_key_kept (tool.key First) d (ls First) e.0 i) (with_key_kept (tool.key Second) d (ls Second) e.0 i) ++ each_of ds e.1 i
+
 -- ---- in some order
 
 module _ {A : Type 0} where

@@ -33,20 +33,63 @@ pub record Merging (tool : Tool) (b : Side → Bound) (p : Side → Lines) (was 
 pub merging_none : (tool : Tool) (was : Output) → Merging tool (λ side. Free) (λ side. []) was was
 merging_none tool was = record { splits = splits_none tool (λ side. Free); under = λ of side. tt; wrote = wrote_nothing was }
 
+-- What was pushed of the passed lines, by a time at which no write had failed: of the last ones perhaps nothing, and they come
+-- first of all that may still come.
+pub record Late (tool : Tool) (b : Side → Bound) (p : Side → Lines) (was is : Output) : Type 0 where
+  pub mid : Output
+  pub front : Side → Lines
+  pub tail : Side → Lines
+  pub clean : mid.faulted ≡ false
+  pub wrote : Wrote was mid (text tool.end (by_keys tool all_keys front))
+  pub bytes : List ℕ
+  pub more : Wrote mid is bytes
+  pub all : text tool.end (by_keys tool all_keys front) ++ bytes ≡ text tool.end (by_keys tool all_keys p)
+  pub split : (side : Side) → p side ≡ front side ++ tail side
+  pub coming : (side : Side) (r : Lines) → Coming tool.cmp (tool.key side) (b side) r → Coming tool.cmp (tool.key side) (b side) (tail side ++ r)
+
+-- all was pushed by then, and nothing behind it
+pub late_none : (tool : Tool) (b : Side → Bound) (p : Side → Lines) (was mid is : Output) → mid.faulted ≡ false → Wrote was mid (text tool.end (by_keys tool all_keys p)) → Wrote mid is [] → Late tool b p was is
+late_none tool b p was mid is clean wrote more = record {
+  mid = mid;
+  front = p;
+  tail = λ side. [];
+  clean = clean;
+  wrote = wrote;
+  bytes = [];
+  more = more;
+  all = append-nil (text tool.end (by_keys tool all_keys p));
+  split = λ side. sym (append-nil (p side));
+  coming = λ side r c. c;
+}
+
 -- lines are passed whose entries come first and were pushed
 pub passes : (tool : Tool) (b : Side → Bound) (p f : Side → Lines) (was is new : Output) → is.faulted ≡ false → Merging tool b p was is
     → ((side : Side) (r : Lines) → Coming tool.cmp (tool.key side) (b side) r → Coming tool.cmp (tool.key side) (b side) (f side ++ r))
     → ((w : List ℕ → Bool) (r : Side → Lines) → ((side : Side) → Coming tool.cmp (tool.key side) (b side) (r side)) → by_keys tool w (λ side. f side ++ r side) ≡ by_keys tool w f ++ by_keys tool w r)
-    → ((of side : Side) → EachKey (Under tool.cmp (b of)) (tool.key side) (f side)) → Wrote is new (text tool.end (by_keys tool all_keys f)) → Merging tool b (λ side. p side ++ f side) was new
+    → ((of side : Side) → EachKey (Under tool.cmp (b of)) (tool.key side) (f side)) → Wrote is new (text tool.end (by_keys tool all_keys f)) → Merging tool b (λ side. p side ++ f side) was new × Late tool b (λ side. p side ++ f side) was new
 passes tool b p f was is new clean m coming front under wrote =
     let all : by_keys tool all_keys (λ side. p side ++ f side) ≡ by_keys tool all_keys p ++ by_keys tool all_keys f =
     m.splits.split all_keys f (λ side. subst (Coming tool.cmp (tool.key side) (b side)) (append-nil (f side)) (coming side [] (coming_none tool.cmp (tool.key side) (b side)))) in
-    record {
-      splits = splits_step tool b b p f m.splits coming front;
-      under = λ of side. EachKey-append (Under tool.cmp (b of)) (tool.key side) (p side) (f side) (m.under of side) (under of side);
-      wrote = subst (λ (t : List ℕ). Wrote was new t) (sym (ap (text tool.end) all ∙ text-append tool.end (by_keys tool all_keys p) (by_keys tool all_keys f)))
-          (wrote_trans was is new (text tool.end (by_keys tool all_keys p)) (text tool.end (by_keys tool all_keys f)) clean m.wrote wrote);
-    }
+    let both_texts : text tool.end (by_keys tool all_keys (λ side. p side ++ f side)) ≡ text tool.end (by_keys tool all_keys p) ++ text tool.end (by_keys tool all_keys f) =
+    ap (text tool.end) all ∙ text-append tool.end (by_keys tool all_keys p) (by_keys tool all_keys f) in (
+      record {
+        splits = splits_step tool b b p f m.splits coming front;
+        under = λ of side. EachKey-append (Under tool.cmp (b of)) (tool.key side) (p side) (f side) (m.under of side) (under of side);
+        wrote = subst (λ (t : List ℕ). Wrote was new t) (sym both_texts) (wrote_trans was is new (text tool.end (by_keys tool all_keys p)) (text tool.end (by_keys tool all_keys f)) clean m.wrote wrote);
+      },
+      record {
+        mid = is;
+        front = p;
+        tail = f;
+        clean = clean;
+        wrote = m.wrote;
+        bytes = text tool.end (by_keys tool all_keys f);
+        more = wrote;
+        all = sym both_texts;
+        split = λ side. refl;
+        coming = coming;
+      },
+    )
 
 -- an input has gone to its next line
 pub settles : (tool : Tool) (b : Side → Bound) (p : Side → Lines) (was is : Output) (s : Side) (d : Bound) → Merging tool b p was is → ((r : Lines) → Coming tool.cmp (tool.key s) d r → Coming tool.cmp (tool.key s) (b s) r) → ((k : List ℕ) → Under tool.cmp (b s) k → Under tool.cmp d k)
@@ -75,7 +118,7 @@ both_under key P Q R f [] p q = tt
 both_under key P Q R f (x ∷ xs) p q = (f (key x) p.0 q.0, both_under key P Q R f xs p.1 q.1)
 
 -- the last key has what each key has
-last_has : (key : Key) (P : List ℕ → Type 0) (last : Option (List ℕ)) (xs : Lines) (x : List ℕ) → last_or last (map key xs) ≡ Some x → ((y : List ℕ) → last ≡ Some y → P y) → EachKey P key xs → P x
+pub last_has : (key : Key) (P : List ℕ → Type 0) (last : Option (List ℕ)) (xs : Lines) (x : List ℕ) → last_or last (map key xs) ≡ Some x → ((y : List ℕ) → last ≡ Some y → P y) → EachKey P key xs → P x
 last_has key P last [] x e f h = f x e
 last_has key P last (y ∷ xs) x e f h = last_has key P (Some (key y)) xs x e (λ z same. (let is : key y ≡ z = cc in subst P is h.0)) h.1
 
@@ -96,7 +139,7 @@ module _ (cmp : Cmp) (o : IsKeyOrder cmp) where
   coming_under key Over x r u c = subst (EachKey (AtMost cmp x) key) (sym c) tt
 
   -- nothing that may come of one input is below the last key that passed of another
-  past_none : (key other_key : Key) (b : Bound) (p r : Lines) → EachKey (Under cmp b) key p → Coming cmp other_key b r → EachKey (λ k. is_below cmp k (last_or None (map key p)) ≡ false) other_key r
+  pub past_none : (key other_key : Key) (b : Bound) (p r : Lines) → EachKey (Under cmp b) key p → Coming cmp other_key b r → EachKey (λ k. is_below cmp k (last_or None (map key p)) ≡ false) other_key r
   past_none key other_key b p r u c = by (last_or None (map key p)) refl
     where
       none : (xs : Lines) → EachKey (λ k. false ≡ false) other_key xs

@@ -65,7 +65,7 @@ module _ (cmp : Cmp) (o : IsKeyOrder cmp) where
       by false h ih = (k ∷ ks, ap (λ l. l ++ (k ∷ ks)) (sym (filter_none w ks (Each-weaker (Above cmp k) (λ y. w y ≡ false) (not_above h) ks a.0))))
 
   -- what the lists fall behind is at least k
-  under_fall : (b : Bound) (k : List ℕ) (f : Option Fall) → Under cmp b k → Falling cmp b f → FallFrom cmp k f
+  pub under_fall : (b : Bound) (k : List ℕ) (f : Option Fall) → Under cmp b k → Falling cmp b f → FallFrom cmp k f
   under_fall Free k f u h = absurd u
   under_fall (From l) k None u h = tt
   under_fall (From l) k (Some d) u h = at_most_trans cmp o k l d.last_key u h

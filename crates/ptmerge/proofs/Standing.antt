@@ -6,7 +6,7 @@ use Rattle.std.proofs.lemmas.Bool.{false≢true}
 use Rattle.std.proofs.lemmas.Bool.Decides.{nat_tests}
 use Rattle.std.proofs.lemmas.List.{append-nil, length_push}
 use Rattle.ptlines.specs.Fills.{GivesLine}
-use Rattle.ptlines.specs.Readers.{Reader, IsDone, budget}
+use Rattle.ptlines.specs.Readers.{Reader, IsDone, IsSound, budget}
 use Rattle.ptlines.specs.Slots.{Slots, line, with_line}
 use Rattle.ptlines.specs.Text.{longest}
 use Rattle.ptlines.proofs.Filling.{line_of}
@@ -16,6 +16,7 @@ use Rattle.ptmerge.specs.declared.sorted.Stand.TheVariants.{Head, Ended, Disorde
 use Rattle.ptmerge.specs.Keyed.{Lines}
 use Rattle.ptmerge.specs.Orders.{Cmp, Key}
 use Rattle.ptmerge.specs.Places.{stand_at, Comes, Closes}
+use Rattle.ptmerge.proofs.Backing.{Near}
 use Rattle.ptmerge.proofs.Bounds.{Bound, Free, From, Fallen, Over, Coming, Under, Begun, begun_more, falls, Reaches, reaches_head, reaches_over, reaches_fallen}
 use Rattle.ptmerge.proofs.Got.{Got, got_more, got_end}
 use Rattle.ptmerge.proofs.Least.{EachKey, EachKey-weaker}
@@ -32,6 +33,8 @@ Stands cmp key (Disorder n) place store now ls p b = b ≡ Fallen (record { last
 -- an input at which a merge stands
 pub record Sided (end : ℕ) (cmp : Cmp) (key : Key) (old now : Reader) (place : Sorted) (store : Slots) (ls p : Lines) (b : Bound) : Type 0 where
   pub got : Got end old now ls
+  pub sound : IsSound now
+  pub near : Near ls p []
   pub number : place.number ≡ length ls
   pub reaches : Reaches cmp key ls p b
   pub stands : Stands cmp key place.stand place store now ls p b
@@ -39,7 +42,7 @@ pub record Sided (end : ℕ) (cmp : Cmp) (key : Key) (old now : Reader) (place :
 -- other slots may change
 pub sided_keeps : (end : ℕ) (cmp : Cmp) (key : Key) (old now : Reader) (place : Sorted) (before after : Slots) (ls p : Lines) (b : Bound) → line after place.standing ≡ line before place.standing → line after place.previous ≡ line before place.previous
     → Sided end cmp key old now place before ls p b → Sided end cmp key old now place after ls p b
-sided_keeps end cmp key old now place before after ls p b same1 same2 s = record { got = s.got; number = s.number; reaches = s.reaches; stands = by place.stand s.stands }
+sided_keeps end cmp key old now place before after ls p b same1 same2 s = record { got = s.got; sound = s.sound; near = s.near; number = s.number; reaches = s.reaches; stands = by place.stand s.stands }
   where
     by : (t : Stand) → Stands cmp key t place before now ls p b → Stands cmp key t place after now ls p b
     by Head st = (st.0 ∙ ap (λ (x : List ℕ). p ++ x ∷ []) (sym same1), subst (λ (x : List ℕ). Begun cmp key ls (Some (key x))) (sym same1) st.1, st.2 ∙ ap (λ (x : List ℕ). From (key x)) (sym same1))
@@ -123,8 +126,8 @@ module _ (end : ℕ) (cmp : Cmp) (o : IsKeyOrder cmp) (key : Key) (old now new :
   counts : (x : List ℕ) → place.number ≡ length ls → place.number + 1 ≡ length (ls ++ x ∷ [])
   counts x number = omega (arith, number, length_push ls x)
 
-  at_head : (e : GivesLine now new before after place.previous) → place.previous < length before.lines → Got end old now ls → place.number ≡ length ls → Begun cmp key ls last → falls cmp last (key e.line) ≡ false → Goal (turned Head (place.number + 1))
-  at_head e within got number begun rises =
+  at_head : (e : GivesLine now new before after place.previous) → IsSound new → place.previous < length before.lines → Got end old now ls → place.number ≡ length ls → Begun cmp key ls last → falls cmp last (key e.line) ≡ false → Goal (turned Head (place.number + 1))
+  at_head e sound within got number begun rises =
       let now_is : line after place.previous ≡ e.line = ap (λ (s : Slots). line s place.previous) e.stored ∙ line_of before place.previous e.line within in
       let more = begun_more cmp key ls last e.line begun rises in
       let f = from_next e.line rises in
@@ -133,6 +136,8 @@ module _ (end : ℕ) (cmp : Cmp) (o : IsKeyOrder cmp) (key : Key) (old now new :
         bound = From (key e.line);
         sided = record {
           got = got_more end old now new ls before after place.previous got e;
+          sound = sound;
+          near = inr (e.line, refl, refl);
           number = counts e.line number;
           reaches = reaches_head cmp o key ls e.line more;
           stands = (
@@ -151,9 +156,9 @@ module _ (end : ℕ) (cmp : Cmp) (o : IsKeyOrder cmp) (key : Key) (old now new :
         fits = (longer_by e.line).1;
       }
 
-  at_fall : (e : GivesLine now new before after place.previous) → place.standing ≢ place.previous → Got end old now ls → place.number ≡ length ls → Begun cmp key ls last → LastIs key last place before → falls cmp last (key e.line) ≡ true
+  at_fall : (e : GivesLine now new before after place.previous) → IsSound new → place.standing ≢ place.previous → Got end old now ls → place.number ≡ length ls → Begun cmp key ls last → LastIs key last place before → falls cmp last (key e.line) ≡ true
       → Goal (turned (Disorder (place.number + 1)) (place.number + 1))
-  at_fall e apart got number begun is falls_now = by last begun is falls_now
+  at_fall e sound apart got number begun is falls_now = by last begun is falls_now
     where
       by : (l : Option (List ℕ)) → Begun cmp key ls l → LastIs key l place before → falls cmp l (key e.line) ≡ true
           → Next end cmp key old new (turned (Disorder (place.number + 1)) (place.number + 1)) place.previous before after ls l
@@ -167,6 +172,8 @@ module _ (end : ℕ) (cmp : Cmp) (o : IsKeyOrder cmp) (key : Key) (old now new :
             bound = Fallen (record { last_key = k; line = length ls + 1 });
             sided = record {
               got = got_more end old now new ls before after place.previous got e;
+              sound = sound;
+              near = inr (e.line, refl, refl);
               number = counts e.line number;
               reaches = reaches_fallen cmp key ls k e.line b f;
               stands = λ i. Fallen (record { last_key = key_is i; line = count i });
@@ -187,6 +194,8 @@ module _ (end : ℕ) (cmp : Cmp) (o : IsKeyOrder cmp) (key : Key) (old now new :
     bound = Over;
     sided = record {
       got = got_end end old now new ls got e.goes e.done;
+      sound = e.sound;
+      near = inl refl;
       number = number;
       reaches = reaches_over cmp key ls last begun;
       stands = (refl, e.done);
@@ -213,8 +222,8 @@ module _ (end : ℕ) (cmp : Cmp) (o : IsKeyOrder cmp) (key : Key) (old now new :
       place_is b h = e.place ∙ (λ i. turned ((stand_is cmp key last place before e.gives.line is ∙ ap (λ (t : Bool). cond t (Disorder (place.number + 1)) Head) h) i) (place.number + 1))
 
       by : (b : Bool) → falls cmp last (key e.gives.line) ≡ b → Goal next
-      by true h = subst Goal (sym (place_is true h)) (at_fall e.gives apart got number begun is h)
-      by false h = subst Goal (sym (place_is false h)) (at_head e.gives within got number begun h)
+      by true h = subst Goal (sym (place_is true h)) (at_fall e.gives e.sound apart got number begun is h)
+      by false h = subst Goal (sym (place_is false h)) (at_head e.gives e.sound within got number begun h)
   goes_next within apart got number begun is (inr e) = subst Goal (sym e.place) (at_end e got number begun)
 
 -- each step leaves less to do

@@ -2,9 +2,10 @@
 use Rattle.std.proofs.Common.{◌≡◌, inl, inr, ℕ, ◌+◌, ◌*◌, ◌≤◌, ◌<◌, Bool, false, true, cond, List, [], None, Err, length, refl, sym, ◌∙◌, ap, subst, arith}
 use Rattle.std.proofs.lemmas.Bool.{false≢true}
 use Rattle.ptlangs.specs.Jobs.{ending}
-use Rattle.ptlines.specs.Readers.{Reader, Reads}
+use Rattle.ptlines.specs.Readers.{Reader, Reads, IsSound}
 use Rattle.ptlines.specs.Slots.{Slots, line, total, with_line}
 use Rattle.ptlines.specs.Text.{IsLine, longest}
+use Rattle.ptlines.proofs.Pushed.{wrote_nothing}
 use Rattle.ptmerge.specs.declared.faults.MergeFault.{MergeFault}
 use Rattle.ptmerge.specs.declared.faults.MergeFault.TheVariants.{Memory}
 use Rattle.ptmerge.specs.declared.order.Side.{Side}
@@ -21,7 +22,7 @@ use Rattle.ptmerge.proofs.CommTurns.{Running, adds_of, breaks_slots}
 use Rattle.ptmerge.proofs.Got.{got_none, reads_nothing}
 use Rattle.ptmerge.proofs.Orders.{IsKeyOrder}
 use Rattle.ptmerge.proofs.Pairs.{both_each}
-use Rattle.ptmerge.proofs.Passing.{Merging, merging_none, settles}
+use Rattle.ptmerge.proofs.Passing.{Merging, late_none, merging_none, settles}
 use Rattle.ptmerge.proofs.Slotted.{Keeps, has_lines_total, keeps_line, keeps_none, line_other}
 use Rattle.ptmerge.proofs.Standing.{Next, goes_next, sided_keeps}
 use Rattle.ptmerge.proofs.Stopping.{FitsIn, Gone, gone_free, gone_standing, stops}
@@ -30,7 +31,7 @@ use Rattle.ptmerge.proofs.Turning.{breaks, own_slots, slots_apart}
 fresh_slots : (s : Side) → HasSlots s (fresh s)
 fresh_slots s = inr (refl, refl)
 
-module _ (tool : Tool) (o : IsKeyOrder tool.cmp) (fits : (ls : Side → Lines) → (2 * longest (ls First) + 2 * longest (ls Second) ≤ tool.size ls) × (4 ≤ tool.slots ls)) (old : State) (readable : (side : Side) → (old.reader side).fault ≡ None) (ending : (side : Side) → (old.reader side).ending ≡ tool.end) (unfailed : (side : Side) → (old.reader side).failed ≡ false)
+module _ (tool : Tool) (o : IsKeyOrder tool.cmp) (fits : (ls : Side → Lines) → (2 * longest (ls First) + 2 * longest (ls Second) ≤ tool.size ls) × (4 ≤ tool.slots ls)) (old : State) (readable : (side : Side) → (old.reader side).fault ≡ None) (ending : (side : Side) → (old.reader side).ending ≡ tool.end) (unfailed : (side : Side) → (old.reader side).failed ≡ false) (sound : (side : Side) → IsSound (old.reader side))
     (writable : old.out.faulted ≡ false) (allowed : old.store.denied ≡ false) (empty : total old.store.lines ≡ 0) where
   -- no line is longer than the inputs' measure
   within_size : (store after : Slots) (s : Side) (place : Sorted) (ls all : Side → Lines) (piece : List ℕ) → HasSlots s place → Keeps old.store store (λ side. longest (ls side)) → ((side : Side) → longest (ls side) ≤ longest (all side)) → length piece ≤ longest (all s)
@@ -47,11 +48,11 @@ module _ (tool : Tool) (o : IsKeyOrder tool.cmp) (fits : (ls : Side → Lines) �
   first_line side new place before after within comes =
       goes_next tool.end tool.cmp o (tool.key side) (old.reader side) (old.reader side) new (fresh side) place before after [] None within (own_slots side (fresh side) (fresh_slots side)).0 (got_none tool.end (old.reader side) (readable side) (ending side)) refl (begun_none tool.cmp (tool.key side)) refl comes
 
-  free : (side : Side) (new : Reader) (piece : List ℕ) → Reads (old.reader side) new piece → IsLine (old.reader side).ending piece → Gone tool.end tool.cmp (tool.key side) (old.reader side) (old.reader side) new piece [] [] Free
-  free side new piece reads line = gone_free tool.end tool.cmp (tool.key side) (old.reader side) new piece (readable side) (ending side) reads line
+  free : (side : Side) (new : Reader) (piece : List ℕ) → Reads (old.reader side) new piece → IsLine (old.reader side).ending piece → IsSound new → Gone tool.end tool.cmp (tool.key side) (old.reader side) (old.reader side) new piece [] [] Free
+  free side new piece reads line safe = gone_free tool.end tool.cmp (tool.key side) (old.reader side) new piece (readable side) (ending side) reads line safe
 
   unread : (side : Side) → Gone tool.end tool.cmp (tool.key side) (old.reader side) (old.reader side) (old.reader side) [] [] [] Free
-  unread side = free side (old.reader side) [] (reads_nothing (old.reader side)) tt
+  unread side = free side (old.reader side) [] (reads_nothing (old.reader side)) tt (sound side)
 
   abbrev no_lines : Side → Lines
   no_lines side = []
@@ -119,8 +120,8 @@ module _ (tool : Tool) (o : IsKeyOrder tool.cmp) (fits : (ls : Side → Lines) �
   unslotted new fault u =
       let same : (side : Side) → (new.reader side).failed ≡ (old.reader side).failed = λ side. ap (λ (r : Reader). r.failed) (u.unread side) in
       subst (λ f. IsMerge tool old (record { reader = new.reader; out = old.out; store = new.store }) (Err f)) (sym u.memory)
-      (stops tool o old (record { reader = new.reader; out = old.out; store = new.store }) old.reader (λ side. []) no_lines no_lines (λ side. Free) (λ side. free side (new.reader side) [] (subst (λ r. Reads (old.reader side) r []) (sym (u.unread side)) (reads_nothing (old.reader side))) tt)
-      (merging_none tool old.out) (Err Memory) (record { denied = u.slots.denied; failed = same; clean = writable }) (λ side fail. absurd (false≢true (sym (same side ∙ unfailed side) ∙ fail))) tt (λ all w. (omega (arith, u.slots.peak), omega (arith, u.slots.most, (fits all).1))))
+      (stops tool o old (record { reader = new.reader; out = old.out; store = new.store }) old.reader (λ side. []) no_lines no_lines (λ side. Free) (λ side. free side (new.reader side) [] (subst (λ r. Reads (old.reader side) r []) (sym (u.unread side)) (reads_nothing (old.reader side))) tt (subst IsSound (sym (u.unread side)) (sound side)))
+      (merging_none tool old.out) (late_none tool (λ side. Free) no_lines old.out old.out old.out writable (wrote_nothing old.out) (wrote_nothing old.out)) (Err Memory) (record { denied = u.slots.denied; failed = same; clean = writable }) (λ side fail. absurd (false≢true (sym (same side ∙ unfailed side) ∙ fail))) tt (λ all w. (omega (arith, u.slots.peak), omega (arith, u.slots.most, (fits all).1))))
 
   pub starts_badly : (new1 new2 : Reader) (after : Slots) (fault : MergeFault) → CannotStart tool.key tool.cmp (record { reader = old.reader; store = old.store }) (record { reader = both new1 new2; store = after }) fault → IsMerge tool old (record { reader = both new1 new2; out = old.out; store = after }) (Err fault)
   starts_badly new1 new2 after fault (inl u) = unslotted (record { reader = both new1 new2; store = after }) fault u

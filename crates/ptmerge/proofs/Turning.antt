@@ -4,9 +4,11 @@ use Rattle.std.specs.Ordering.{is_gt, is_lt, is_le}
 use Rattle.std.proofs.lemmas.Bool.{false≢true}
 use Rattle.std.proofs.lemmas.List.{append-nil}
 use Rattle.ptlines.specs.Outputs.{Output, Wrote}
-use Rattle.ptlines.specs.Readers.{Reader, Reads, IsDone, HasReadCause}
+use Rattle.ptlines.specs.Fills.{BreaksMemory}
+use Rattle.ptlines.specs.Readers.{Reader, Reads, IsDone, IsSound, HasReadCause}
 use Rattle.ptlines.specs.Slots.{Slots, line, with_line}
 use Rattle.ptlines.specs.Text.{text, IsLine, longest}
+use Rattle.ptlines.proofs.Pushed.{wrote_nothing}
 use Rattle.ptmerge.specs.declared.faults.MergeFault.{MergeFault}
 use Rattle.ptmerge.specs.declared.faults.MergeFault.TheVariants.{Read, Write, Memory}
 use Rattle.ptmerge.specs.declared.faults.MergeFault.TheVariants as faults
@@ -26,7 +28,7 @@ use Rattle.ptmerge.proofs.Got.{More}
 use Rattle.ptmerge.proofs.Least.{EachKey, EachKey-weaker, front_first, with_key-above}
 use Rattle.ptmerge.proofs.Orders.{IsKeyOrder, AtMost, Above, above_at_most, above_not_le, above_up, greater_flips, is_greater, is_less, less_flips, self_at_most}
 use Rattle.ptmerge.proofs.Pairs.{put_each, side_case}
-use Rattle.ptmerge.proofs.Passing.{Merging, StopsAt, passes, settles}
+use Rattle.ptmerge.proofs.Passing.{Late, Merging, StopsAt, late_none, passes, settles}
 use Rattle.ptmerge.proofs.Slotted.{line_other}
 use Rattle.ptmerge.proofs.Splitting.{all_keys, none_wanted}
 use Rattle.ptmerge.proofs.Standing.{Sided, Stands, Next, Passed, goes_next, passed, sided_keeps}
@@ -85,9 +87,9 @@ put_line Second x p Second = refl
 
 -- a line whose key goes before all that may come of the other input is passed
 pub pass_one : (tool : Tool) (o : IsKeyOrder tool.cmp) → IsLineByLine tool → (s : Side) (x : List ℕ) (b : Side → Bound) (p : Side → Lines) (was is new : Output) → is.faulted ≡ false → Merging tool b p was is → b s ≡ From (tool.key s x)
-    → IsAbove tool.cmp (tool.key (other s)) (tool.key s x) (b (other s)) → Under tool.cmp (b (other s)) (tool.key s x) → Wrote is new (text tool.end (by_keys tool all_keys (alone s x))) → Merging tool b (put s (p s ++ x ∷ []) p) was new
+    → IsAbove tool.cmp (tool.key (other s)) (tool.key s x) (b (other s)) → Under tool.cmp (b (other s)) (tool.key s x) → Wrote is new (text tool.end (by_keys tool all_keys (alone s x))) → Merging tool b (put s (p s ++ x ∷ []) p) was new × Late tool b (put s (p s ++ x ∷ []) p) was new
 pass_one tool o laws s x b p was is new clean m at above under wrote =
-    subst (λ (q : Side → Lines). Merging tool b q was new) (same_lists (λ side. p side ++ alone s x side) (put s (p s ++ x ∷ []) p) (put_line s x p)) (passes tool b p (alone s x) was is new clean m coming front unders wrote)
+    subst (λ (q : Side → Lines). Merging tool b q was new × Late tool b q was new) (same_lists (λ side. p side ++ alone s x side) (put s (p s ++ x ∷ []) p) (put_line s x p)) (passes tool b p (alone s x) was is new clean m coming front unders wrote)
   where
     k : List ℕ
     k = tool.key s x
@@ -279,26 +281,26 @@ module _ (tool : Tool) (o : IsKeyOrder tool.cmp) (old now : State) (ls q : Side 
 
     read_breaks : HasReadCause (now.reader s) (reader s) → after.denied ≡ false → ls s ≡ q s → (last : Option (List ℕ)) → Begun tool.cmp (tool.key s) (q s) last → IsMerge tool old (record { reader = reader; out = now.out; store = after }) (Err (Read s))
     read_breaks cause denied all last begun =
-        stops tool o old (record { reader = reader; out = now.out; store = after }) now.reader piece ls q b g m (Err (Read s)) (record { cause = ⊎_elim (λ h. inl h) (λ h. inr (h.0, h.1 ∙ went s)) cause; others = other_failed; clean = clean; denied = denied })
+        stops tool o old (record { reader = reader; out = now.out; store = after }) now.reader piece ls q b g m (late_none tool b q old.out now.out now.out clean m.wrote (wrote_nothing now.out)) (Err (Read s)) (record { cause = ⊎_elim (λ h. inl h) (λ h. inr (h.0, h.1 ∙ went s)) cause; others = other_failed; clean = clean; denied = denied })
         (side_case (λ side. (reader side).failed ≡ true → Fails tool.cmp (tool.key side) (reader side) (ls side) (q side)) s
         (λ fail. ⊎_elim (λ h. record { held = h.1; ended = h.2; all = all; last = last; begun = begun }) (λ h. fails_not s (h.1 ∙ went s) fail) cause) (fails_not (other s) other_failed)) tt fits
 
     memory_breaks : (reader s).failed ≡ (now.reader s).failed → after.denied ≡ true → IsMerge tool old (record { reader = reader; out = now.out; store = after }) (Err Memory)
     memory_breaks same denied =
         let failed : (side : Side) → (reader side).failed ≡ (old.reader side).failed = side_case (λ side. (reader side).failed ≡ (old.reader side).failed) s (same ∙ went s) other_failed in
-        stops tool o old (record { reader = reader; out = now.out; store = after }) now.reader piece ls q b g m (Err Memory) (record { denied = denied; failed = failed; clean = clean }) (λ side. fails_not side (failed side)) tt fits
+        stops tool o old (record { reader = reader; out = now.out; store = after }) now.reader piece ls q b g m (late_none tool b q old.out now.out now.out clean m.wrote (wrote_nothing now.out)) (Err Memory) (record { denied = denied; failed = failed; clean = clean }) (λ side. fails_not side (failed side)) tt fits
 
   abbrev none : Side → List ℕ
   none side = []
 
   -- the next line of an input could not be read
-  pub breaks : (s : Side) (place : Sorted) (new : Reader) (after : Slots) (fault : MergeFault) → ((r : Reader) (piece : List ℕ) → Reads (now.reader s) r piece → IsLine (now.reader s).ending piece → GoneOf s r piece) → ls s ≡ q s → (last : Option (List ℕ)) → Begun tool.cmp (tool.key s) (q s) last
+  pub breaks : (s : Side) (place : Sorted) (new : Reader) (after : Slots) (fault : MergeFault) → ((r : Reader) (piece : List ℕ) → Reads (now.reader s) r piece → IsLine (now.reader s).ending piece → IsSound r → GoneOf s r piece) → ls s ≡ q s → (last : Option (List ℕ)) → Begun tool.cmp (tool.key s) (q s) last
       → GoneOf (other s) (now.reader (other s)) [] → now.store.denied ≡ false → ((piece : List ℕ) → Holds (with_line now.store place.previous piece) (put s piece (λ side. []))) → CannotRead s place (now.reader s) new now.store after fault
       → IsMerge tool old (record { reader = put s new now.reader; out = now.out; store = after }) (Err fault)
   breaks s place new after (Read file) gone all last begun rest roomy fits moves =
       let e = moves.0 in
       subst (λ f. IsMerge tool old (record { reader = put s new now.reader; out = now.out; store = after }) (Err (Read f))) (sym moves.1)
-      (by s (gone new e.piece e.faults.reads e.faults.whole) rest all begun e.cause (subst (λ (t : Slots). Holds t (put s e.piece (λ side. []))) (sym e.stored) (fits e.piece)))
+      (by s (gone new e.piece e.faults.reads e.faults.whole moves.2) rest all begun e.cause (subst (λ (t : Slots). Holds t (put s e.piece (λ side. []))) (sym e.stored) (fits e.piece)))
     where
       denied : after.denied ≡ false
       denied = ap (λ (t : Slots). t.denied) moves.0.stored ∙ roomy
@@ -308,8 +310,11 @@ module _ (tool : Tool) (o : IsKeyOrder tool.cmp) (old now : State) (ls q : Side 
       by First g h a b c p = read_breaks First (put First new now.reader) (put First moves.0.piece (λ side. [])) after (elim [ First ↦ g | Second ↦ h ]) refl p c denied a last b
       by Second g h a b c p = read_breaks Second (put Second new now.reader) (put Second moves.0.piece (λ side. [])) after (elim [ First ↦ h | Second ↦ g ]) refl p c denied a last b
   breaks s place new after Write gone all last begun rest roomy fits moves = absurd moves
-  breaks s place new after Memory gone all last begun rest roomy fits e = by s (gone new e.piece e.faults.reads e.faults.whole) rest e.failed (subst (λ (t : Slots). Holds t (put s e.piece (λ side. []))) (sym e.stored) (fits e.piece))
+  breaks s place new after Memory gone all last begun rest roomy fits moves = by s (gone new e.piece e.faults.reads e.faults.whole moves.1) rest e.failed (subst (λ (t : Slots). Holds t (put s e.piece (λ side. []))) (sym e.stored) (fits e.piece))
     where
+      e : BreaksMemory (now.reader s) new now.store after place.previous
+      e = moves.0
+
       by : (t : Side) → GoneOf t new e.piece → GoneOf (other t) (now.reader (other t)) [] → new.failed ≡ (now.reader t).failed → Holds after (put t e.piece (λ side. [])) → IsMerge tool old (record { reader = put t new now.reader; out = now.out; store = after }) (Err Memory)
       by First g h c p = memory_breaks First (put First new now.reader) (put First e.piece (λ side. [])) after (elim [ First ↦ g | Second ↦ h ]) refl p c (ap (λ (t : Slots). t.denied) e.stored)
       by Second g h c p = memory_breaks Second (put Second new now.reader) (put Second e.piece (λ side. [])) after (elim [ First ↦ h | Second ↦ g ]) refl p c (ap (λ (t : Slots). t.denied) e.stored)

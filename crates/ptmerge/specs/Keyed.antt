@@ -137,3 +137,14 @@ decided_entries tool ended ls = by_keys tool (is_decided tool ended ls) (ordered
 -- what is decided once this came of the inputs
 abbrev pub decided : Tool → (Side → Given) → List ℕ
 decided tool given = text tool.end (decided_entries tool (λ side. (given side).ended) (λ side. whole_lines tool.end (given side)))
+
+-- a disorder is settled once its last key is decided: all that is in front of it
+abbrev pub is_settled : Tool → (Side → Bool) → (Side → Lines) → Option Disorder → Bool
+is_settled tool ended ls None = false
+is_settled tool ended ls (Some d) = is_decided tool ended ls d.fall.last_key
+
+-- whether a disorder is settled once this came of the inputs
+abbrev pub settled : Tool → (Side → Given) → Bool
+settled tool given =
+    let ls : Side → Lines = λ side. whole_lines tool.end (given side) in
+    is_settled tool (λ side. (given side).ended) ls (disorder tool ls)

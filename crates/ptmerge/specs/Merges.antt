@@ -1,6 +1,7 @@
 -- What a call of a tool over two inputs is.
 use Rattle.std.specs.Prelude.{◌≡◌, ◌≤◌, ◌<◌, ◌^◌, ℕ, true, false, List, Option, None, Some, Result, Ok, Err, length, max}
 use Rattle.ptlines.specs.Inputs.{Given, Begins, Agrees, Came}
+use Rattle.ptlines.specs.KeepingUp.{Before, KeepsUp}
 use Rattle.ptlines.specs.Outputs.{Output, Wrote}
 use Rattle.ptlines.specs.Readers.{Reader, IsDone, HasReadCause}
 use Rattle.ptlines.specs.Slots.{Slots, total}
@@ -8,8 +9,8 @@ use Rattle.ptmerge.specs.declared.faults.MergeFault.{MergeFault}
 use Rattle.ptmerge.specs.declared.faults.MergeFault.TheVariants.{Read, Write, Memory}
 use Rattle.ptmerge.specs.declared.faults.MergeFault.TheVariants as faults
 use Rattle.ptmerge.specs.declared.order.Side.{Side}
-use Rattle.ptmerge.specs.Keyed.{Tool, Disorder, merged, decided, disorder, lines_of}
-use Rattle.ptmerge.specs.Sides.{both, other}
+use Rattle.ptmerge.specs.Keyed.{Tool, Disorder, merged, decided, disorder, lines_of, settled}
+use Rattle.ptmerge.specs.Sides.{both, other, put}
 
 -- what a tool over two inputs works on
 pub record State : Type 0 where
@@ -126,6 +127,12 @@ pub record IsMerge (tool : Tool) (old new : State) (result : Result (Unit {0}) M
   -- after a read that failed, what was decided was pushed, unless a write failed
   pub sure : (side : Side) → (new.reader side).failed ≡ true → new.out.faulted ≡ false
       → Begins (decided tool given) pushed
+  -- and so was, whatever failed and whatever came of the other input, what was decided two blocks of this one earlier
+  pub keeps_up : (side : Side) → old.out.faulted ≡ false
+      → KeepsUp {I = Unit {0}} (λ came. decided tool (put side (came tt) given)) (λ u. given side) old.out new.out pushed
+  -- nor is read on behind a disorder: it was not settled two blocks of this input earlier, whatever came of the other
+  pub ends_at_once : (side : Side) → old.out.faulted ≡ false
+      → (before : Before (given side)) × (settled tool (put side before.earlier given) ≡ false)
   -- the store held no more than the inputs' measure
   pub peak : (input : Side → List ℕ) → Agree given input
       → new.store.peak ≤ max old.store.peak (tool.size (lines_of tool input))

@@ -1,7 +1,7 @@
 -- Where an input of a merge stands, and what going to its next line does.
 use Rattle.std.specs.Prelude.{◌≡◌, ◌⊎◌, ℕ, ◌+◌, ◌&&◌, nat_lt, if◌then◌else◌, List, [], Result, Ok, Err}
 use Rattle.std.specs.Ordering.{is_gt}
-use Rattle.ptlines.specs.Readers.{Reader, Goes, IsDone}
+use Rattle.ptlines.specs.Readers.{Reader, Goes, IsDone, IsSound}
 use Rattle.ptlines.specs.Slots.{Slots, line, with_line}
 use Rattle.ptlines.specs.Fills.{GivesLine, BreaksRead, BreaksMemory}
 use Rattle.ptmerge.specs.declared.faults.MergeFault.{MergeFault}
@@ -41,6 +41,7 @@ pub record Arrives (key : Key) (cmp : Cmp) (old new : Sorted) (was is : Reader) 
     number = old.number + 1;
     stand = stand_at key cmp old.number (line before old.standing) gives.line;
   }
+  pub sound : IsSound is
 
 -- there was none
 pub record Closes (old new : Sorted) (was is : Reader) (before after : Slots) : Type 0 where
@@ -48,6 +49,7 @@ pub record Closes (old new : Sorted) (was is : Reader) (before after : Slots) : 
   pub done : IsDone is
   pub empty : after ≡ with_line before old.previous []
   pub place : new ≡ record { standing = old.previous; previous = old.standing; number = old.number; stand = Ended }
+  pub sound : IsSound is
 
 -- an input went to its next line, or found none
 abbrev pub Comes : Key → Cmp → Sorted → Sorted → Reader → Reader → Slots → Slots → Type 0
@@ -55,9 +57,9 @@ Comes key cmp old new was is before after = Arrives key cmp old new was is befor
 
 -- the next line of an input could not be read
 abbrev pub CannotRead : Side → Sorted → Reader → Reader → Slots → Slots → MergeFault → Type 0
-CannotRead side old was is before after (Read file) = BreaksRead was is before after old.previous × (file ≡ side)
+CannotRead side old was is before after (Read file) = BreaksRead was is before after old.previous × (file ≡ side) × IsSound is
 CannotRead side old was is before after Write = ⊥
-CannotRead side old was is before after Memory = BreaksMemory was is before after old.previous
+CannotRead side old was is before after Memory = BreaksMemory was is before after old.previous × IsSound is
 CannotRead side old was is before after (faults.Disorder file number) = ⊥
 
 -- what going to the next line does

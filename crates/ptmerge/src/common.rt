@@ -49,12 +49,11 @@ fn push_entry<W: Sink>(
     if hidden {
         return Ok(());
     }
-    out.push(lead)?;
-    out.push(line)?;
-    out.push(&[ending])
+    out.push_line(lead, line, &[ending])
 }
 
 // Pushes the entry of the line at which an input stands, and goes to its next line.
+#[inline(always)]
 fn pass<K: KeyOrder, A: Allocator + Copy, S: Source, R: Source, W: Sink>(
     merge: &mut Merge<K>,
     side: Side,
@@ -170,7 +169,8 @@ fn comm_in_order<K: KeyOrder, A: Allocator + Copy, S: Source, R: Source, W: Sink
 ///
 /// The slots 0 to 3 of the store are used; those that are missing are added before the first read, and after `Ok` and
 /// `Disorder` they are empty. Where one of them is refused, nothing is read or pushed. On an output that has failed
-/// nothing is done. That an entry is pushed before a line behind its own lines is read is tested, and no clause.
+/// nothing is done. Neither input is read more than two blocks ahead of what is pushed, or behind a disorder, whatever
+/// came of the other. That what was pushed is sent before a read that may have to wait is tested, and no clause.
 /// # Errors
 /// `Read`, with the input, or `Write` where a read or a write failed; `Memory` where a growth of the store was refused,
 /// and the store is then denied; `Disorder`, with the input and the line, where an input is out of order: then all

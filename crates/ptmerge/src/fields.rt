@@ -105,16 +105,46 @@ fn next_field<'a>(
     None
 }
 
+// The first word of a line, or nothing where it has none.
+#[inline(never)]
+fn first_word(line: &[u8]) -> &[u8]
+    ensures { result.now ≡ nth_field 1 (fields_left None (Some line.now)) }
+{
+    let (word, _) = first_piece(None, line);
+    if word.is_empty() {
+        return later_field(None, 1, Some(line));
+    }
+    word
+}
+
 // The first field of a line, or nothing where it has none. Apart from the others, as most join fields are the first.
 #[inline(always)]
 fn first_field(separator: Option<u8>, line: &[u8]) -> &[u8]
     ensures { result.now ≡ nth_field 1 (fields_left separator (Some line.now)) }
 {
-    let (field, _) = first_piece(separator, line);
-    if field.is_empty() && separator.is_none() {
-        return later_field(separator, 1, Some(line));
+    match separator {
+        Some(byte) => {
+            let (piece, _) = first_piece(Some(byte), line);
+            piece
+        }
+        None => first_word(line),
     }
-    field
+}
+
+// The piece with this number between separators, or nothing where it is not there.
+#[inline(never)]
+fn nth_piece(separator: u8, number: u64, line: &[u8]) -> &[u8]
+    ensures { result.now ≡ nth_field number (fields_left (Some separator) (Some line.now)) }
+{
+    let mut left = line;
+    for _passed in 0..number.saturating_sub(1) {
+        match first_piece(Some(separator), left) {
+            (_, Some(behind)) => left = behind,
+            (_, None) => return b"",
+        }
+    }
+    let (piece, _) = first_piece(Some(separator), left);
+    piece
 }
 
 // The field of a line with this number, or nothing where it is not there.
@@ -142,7 +172,11 @@ pub(crate) fn nth_field<'a>(separator: Option<u8>, number: u64, line: Option<&'a
 {
     match line {
         Some(bytes) if number <= 1 => first_field(separator, bytes),
-        _ => later_field(separator, number, line),
+        Some(bytes) => match separator {
+            Some(byte) => nth_piece(byte, number, bytes),
+            None => later_field(separator, number, line),
+        },
+        None => b"",
     }
 }
 
@@ -153,8 +187,7 @@ fn push_led<W: Sink>(byte: u8, field: &[u8], out: &mut Out<W>) -> Result<(), Wri
     ensures clean { OnOk result (out.new.faulted ≡ false) }
     ensures fault { OnErr result (out.new.faulted ≡ true) }
 {
-    out.push(&[byte])?;
-    out.push(field)
+    out.push_line(&[byte], field, b"")
 }
 
 // Whether these bytes are words with one space between each two.

@@ -5,6 +5,7 @@ ghost use Rattle.ptmerge.specs.Orders.{Cmp, Key};
 ghost use Rattle.ptmerge.specs.declared.order.Side.{Side as Of};
 
 use crate::fields::nth_field;
+use ptlines::compare;
 use std::cmp::Ordering;
 
 /// One of two inputs.
@@ -67,7 +68,7 @@ impl KeyOrder for WholeLine {
 
     #[inline(always)]
     fn cmp(&self, a: &[u8], b: &[u8]) -> Ordering {
-        a.cmp(b)
+        compare(a, b)
     }
 
     ghost total = { λ s. nat_list_cmp_total };
@@ -124,6 +125,7 @@ impl KeyOrder for FieldKeys {
 
     ghost order = { λ s. byte_cmp };
 
+    #[inline(always)]
     fn key<'a>(&self, side: Side, line: &'a [u8]) -> &'a [u8] {
         let number = match side {
             Side::First => self.first,
@@ -132,8 +134,9 @@ impl KeyOrder for FieldKeys {
         nth_field(self.separator, number, Some(line))
     }
 
+    #[inline(always)]
     fn cmp(&self, one: &[u8], two: &[u8]) -> Ordering {
-        one.cmp(two)
+        compare(one, two)
     }
 
     ghost total = { λ s. nat_list_cmp_total };

@@ -28,6 +28,10 @@ mod joined_lines;
 #[cfg(test)]
 mod lengths;
 #[cfg(test)]
+mod lining;
+#[cfg(test)]
+mod ordering;
+#[cfg(test)]
 mod pasting;
 #[cfg(test)]
 mod peaks;

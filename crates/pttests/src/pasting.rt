@@ -84,6 +84,27 @@ fn a_row_is_sent_before_a_read_that_may_wait(rt: HostRuntime) -> Result<(), Fail
     Ok(())
 }
 
+// Two lines of 9000 bytes in pulls of 8192: a third pull is made for the second line alone.
+#[test]
+fn nothing_is_read_behind_a_failed_row(rt: HostRuntime) -> Result<(), Fail> {
+    let mut long = vec![in rt.alloc(); b'a'; 18002]?;
+    long[9000] = b'\n';
+    long[18001] = b'\n';
+    let mut case = Case {
+        texts: [&long, b"c\n"],
+        size: usize::MAX,
+        room: usize::MAX,
+    };
+    let (told, pulls) = run(rt.alloc(), rt.alloc(), &case)?;
+    same(&rt, &told, &Ok(()));
+    same(&rt, &pulls, &[4, 2]);
+    case.room = 0;
+    let (told, pulls) = run(rt.alloc(), rt.alloc(), &case)?;
+    same(&rt, &told, &Err(FlowFault::Write));
+    same(&rt, &pulls, &[2, 1]);
+    Ok(())
+}
+
 // The first growth is that of the delimiters, and the next two are of the slots.
 #[test]
 fn nothing_is_read_where_a_slot_is_refused(rt: HostRuntime) -> Result<(), Fail> {

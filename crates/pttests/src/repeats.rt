@@ -6,11 +6,12 @@ use crate::commands::{
     over_files, over_standard, run_over, writes,
 };
 use crate::comparing::{holds_of, same};
-use ptfakes::{Kept, Pieces};
-use ptflow::uniq;
+use ptfakes::{Kept, Pieces, Refusing, Watched};
+use ptflow::{FlowFault, uniq};
 use ptlangs::jobs::{Show, UniqJob};
 use ptlines::{LineReader, Out, Store};
 use std::alloc::Global;
+use std::cell::Cell;
 use std::process::Abort;
 use std::test::Fail;
 
@@ -77,6 +78,35 @@ fn runs_of_a_reader(rt: HostRuntime) -> Result<(), Fail> {
         same(&rt, &store.now(), &0);
         same(&rt, &out.finish(), &Ok(()));
         same(&rt, &out.into_sink().bytes(), &RUNS_OF_FILE);
+    }
+    Ok(())
+}
+
+// The reader holds a line already. Each of the two slots is refused.
+#[test]
+fn nothing_is_read_where_a_slot_is_refused(rt: HostRuntime) -> Result<(), Fail> {
+    let job = UniqJob {
+        show: Show::All,
+        fields: 0,
+        chars: 0,
+        zero: false,
+    };
+    for passing in 0..2u64 {
+        let alloc = Refusing::after(rt.alloc(), passing);
+        let pulls = Cell::new(0);
+        let source = Watched::new(Pieces::new(b"a\nb\nc\n", 2, u64::MAX), &pulls);
+        let mut reader: LineReader<Watched<'_, Pieces<'_>>, Pieces<'_>> = LineReader::standard(
+            source,
+        );
+        assert!(rt; reader.block() == Ok(b"a\n".as_slice()));
+        let mut store = Store::empty(&alloc);
+        let mut out = Out::new(Kept::new(rt.alloc()));
+        let told = uniq(&job, &mut reader, &mut store, &mut out);
+        same(&rt, &told, &Err(FlowFault::Memory));
+        assert!(rt; store.slots() < 2);
+        same(&rt, &pulls.get(), &1);
+        assert!(rt; reader.block() == Ok(b"a\n".as_slice()));
+        same(&rt, &out.into_sink().bytes(), &b"".as_slice());
     }
     Ok(())
 }

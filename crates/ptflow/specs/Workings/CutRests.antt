@@ -1,5 +1,7 @@
 -- What `cut` writes of the rest of a text, and of a piece of a line.
 use Rattle.std.specs.Prelude.{◌≡◌, ◌<◌, ◌≤◌, ℕ, ◌+◌, ◌==◌, List, [], ◌∷◌, ◌++◌, Bool, length, map, take, drop, if◌then◌else◌}
+use Rattle.std.specs.List.{count_by}
+use Rattle.memchr.specs.Find.{is_byte}
 use Rattle.ptlines.specs.Outputs.{Output}
 use Rattle.ptlines.specs.Text.{text, lines, ended_lines}
 use Rattle.ptlangs.specs.CutLists.{is_selected}
@@ -27,6 +29,16 @@ rest_by end list = cut_rest end (is_selected list)
 abbrev pub IsCutTo : ℕ → List Interval → ℕ → List ℕ → ℕ → List ℕ → List ℕ → Type 0
 IsCutTo end list before bytes now rest written =
     (more : List ℕ) → rest_by end list before (bytes ++ more) ≡ written ++ rest_by end list now (rest ++ more)
+
+-- once this was written of a part of the input, that was written with the next bytes
+abbrev pub CutsOn : ℕ → List Interval → ℕ → List ℕ → List ℕ → ℕ → List ℕ → List ℕ → Type 0
+CutsOn end list before rest was now left is =
+    (start : ℕ) (bytes : List ℕ) → IsCutTo end list start bytes before rest was → IsCutTo end list start bytes now left is
+
+-- the line at this place of a block starts there or in front of it, since no line ends between the two
+abbrev pub IsLineAt : ℕ → List ℕ → ℕ → ℕ → Type 0
+IsLineAt end block at start =
+    (start ≤ at) × (count_by (is_byte end) (take start block) ≡ count_by (is_byte end) (take at block))
 
 -- ---- fields: nothing is carried from line to line
 

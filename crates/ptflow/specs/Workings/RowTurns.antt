@@ -1,5 +1,5 @@
 -- A row of `paste`, cell by cell.
-use Rattle.std.specs.Prelude.{◌≡◌, ◌≢◌, ℕ, ◌<◌, ◌≤◌, Bool, true, false, List, [], Result, Ok, Err, length, take, drop, max, sum_by, slice_index_or}
+use Rattle.std.specs.Prelude.{◌≡◌, ◌≢◌, ℕ, ◌+◌, ◌<◌, ◌≤◌, Bool, true, false, List, [], Result, Ok, Err, length, take, drop, max, sum_by, slice_index_or}
 use Rattle.ptlines.specs.Text.{longest}
 use Rattle.ptlines.specs.Readers.{Reader, IsSound, budget}
 use Rattle.ptlines.specs.Slots.{Slots, line, total}
@@ -41,12 +41,12 @@ pub record RowTaken (cells : List ℕ) (n : ℕ) (old new : List Reader) (before
   pub kept : (first : Slots) (top : ℕ → ℕ) → KeepsCells cells top first before
       → ((place : ℕ) → longest (got place) ≤ top place) → KeepsCells cells top first store
 
--- the cells have lines, or none has
+-- the cells have lines, of which one is the last of its reader, or none has
 pub record RowFilled (cells : List ℕ) (old new : List Reader) (before store : Slots) (came : Bool) : Type 0 where
   pub got : ℕ → List (List ℕ)
   pub taken : RowTaken cells (length cells) old new before store got
   pub some : came ≡ true → (c : ℕ) × (c < length cells)
-      × (times (take c cells) (slice_index_or cells c 0) < length (got (slice_index_or cells c 0)))
+      × (length (got (slice_index_or cells c 0)) ≡ times (take c cells) (slice_index_or cells c 0) + 1)
   pub none : came ≡ false → (place : ℕ) → got place ≡ []
   pub less : came ≡ true → sum_by budget new < sum_by budget old
 
@@ -61,10 +61,12 @@ pub record RowBroken (Breaks : Reader → Reader → Slots → Slots → ℕ →
   pub breaks : Breaks (reader_at mid (slice_index_or cells column 0)) (reader_at new (slice_index_or cells column 0))
       held store column
   pub others : (place : ℕ) → place ≢ slice_index_or cells column 0 → reader_at new place ≡ reader_at mid place
+  pub few : length (reader_at old (slice_index_or cells column 0)).held ≤ 8192
+      → length (reader_at new (slice_index_or cells column 0)).held ≤ 8192
 
--- nothing was asked of the reader of the cell
+-- nothing was asked of the reader of the cell, which may have more
 abbrev pub NotAsked : Reader → Reader → Slots → Slots → ℕ → Type 0
-NotAsked old new before after slot = (new ≡ old) × (after ≡ before)
+NotAsked old new before after slot = (new ≡ old) × (after ≡ before) × (old.ended ≡ false)
 
 abbrev pub FillsRow : List ℕ → List Reader → List Reader → Slots → Slots → Result Bool FlowFault → Type 0
 FillsRow cells old new before store (Ok came) = RowFilled cells old new before store came

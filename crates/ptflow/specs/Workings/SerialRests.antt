@@ -1,7 +1,9 @@
 -- What `paste` in series writes of the rest of a text.
-use Rattle.std.specs.Prelude.{ℕ, ◌+◌, List, [], ◌∷◌, ◌++◌, Bool, true, false, Option, if◌then◌else◌}
+use Rattle.std.specs.Prelude.{◌≡◌, ◌<◌, ◌==◌, ℕ, ◌+◌, List, [], ◌∷◌, ◌++◌, Bool, true, false, Option, Some, length, if◌then◌else◌}
 use Rattle.ptlines.specs.Text.{lines}
+use Rattle.ptlangs.specs.DelimLists.{delim_at}
 use Rattle.ptflow.specs.Pastes.{delimiter, glued_from}
+use Rattle.ptflow.specs.declared.replacing.EndsTo.{EndsTo}
 use Rattle.ptflow.specs.declared.serial.Cell.{Cell}
 
 -- the lines that come in the cell of this number, or behind it if it has ended
@@ -23,3 +25,23 @@ begun cell = record { number = if cell.ended then cell.number + 1 else cell.numb
 
 abbrev pub lead : List (Option ℕ) → Cell → List ℕ
 lead delims cell = if cell.ended then delimiter delims cell.number else []
+
+-- Of these bytes, which come in the cell of one number, all but the rest were taken, and this was written of them; the
+-- rest comes in the cell of another number. So it is whatever comes behind, if anything does.
+abbrev pub Puts : ℕ → List (Option ℕ) → ℕ → List ℕ → ℕ → List ℕ → List ℕ → Type 0
+Puts end delims number bytes now rest written =
+    (more : List ℕ) → 0 < length more
+    → row_rest end delims number false (lines end (bytes ++ more)) ≡ written ++ row_rest end delims now false (lines end (rest ++ more))
+
+-- This was written of a block that comes in the cell of this number, and what comes behind it comes in the cell `after`.
+abbrev pub PutsBlock : ℕ → List (Option ℕ) → ℕ → List ℕ → Cell → List ℕ → Type 0
+PutsBlock end delims number block after written =
+    (more : List ℕ) → row_rest end delims number false (lines end (block ++ more)) ≡ written ++ serial_rest end delims after more
+
+-- the delimiter behind every cell is this one
+abbrev pub IsAlways : List (Option ℕ) → ℕ → Type 0
+IsAlways delims delim = (number : ℕ) → delim_at delims number ≡ Some delim
+
+-- what a byte becomes where the byte that ends a line becomes a delimiter
+abbrev pub with_delimiter : EndsTo → ℕ → ℕ
+with_delimiter to b = if b == to.ending then to.delim else b

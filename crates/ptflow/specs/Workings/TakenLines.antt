@@ -14,6 +14,7 @@ pub record Took (end : ℕ) (old new : Reader) (most : ℕ) (got : List (List �
   pub failed : new.failed ≡ old.failed
   pub fault : new.fault ≡ old.fault
   pub short : old.pulled < 2 ^ 63 → new.pulled < 2 ^ 63
+  pub held : length old.held ≤ 8192 → length new.held ≤ 8192
   pub none : most ≡ 0 → new ≡ old
   pub came : LinesCame end new bytes got
   pub enough : (length got ≡ most) ⊎ (IsDone new × (length got ≤ most))

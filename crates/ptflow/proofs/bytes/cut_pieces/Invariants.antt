@@ -1,13 +1,15 @@
-use Rattle.std.proofs.Common.{◌+◌, ◌≤◌, length, take}
-use Rattle.ptflow.specs.Workings.CutRests.{IsCutTo}
+use Rattle.std.proofs.Common.{◌-◌, ◌≤◌, length, take, drop}
+use Rattle.ptflow.specs.Workings.CutRests.{IsCutTo, IsLineAt}
 use Rattle.ptflow.proofs.bytes.cut_pieces.Given as goal
 
-abbrev pub invariant-lines : goal.invariant-lines
-invariant-lines l = record {
-  cut : IsCutTo l.ending l.selected l.fn.before l.block l.before l.rest (take l.at l.into);
-  near : l.at + length l.rest ≤ length l.block;
-  bound : l.before + length l.rest ≤ l.fn.before + length l.block;
+abbrev pub invariant-loop-from : goal.invariant-loop-from
+invariant-loop-from l = record {
+  within : l.from ≤ length l.block;
+  line : IsLineAt l.ending l.block l.from l.step.start;
+  cut : IsCutTo l.ending l.by.selected.now l.before l.block l.step.before (drop l.step.start l.block) (take l.step.at l.into);
+  bound : l.step.before ≤ l.before;
+  near : l.step.at ≤ l.step.start;
 }
 
-abbrev pub decreases-lines : goal.decreases-lines
-decreases-lines l = length l.rest
+abbrev pub decreases-loop-from : goal.decreases-loop-from
+decreases-loop-from l = length l.block - l.from

@@ -18,7 +18,7 @@ use Rattle.ptmerge.specs.Sides.{both}
 use Rattle.ptmerge.specs.Steps.{IsLent, inputs}
 use Rattle.ptmerge.proofs.CommEntries.{written_first, written_second, written_both}
 use Rattle.ptmerge.proofs.Starting.{starts_well, starts_badly, start_slots, start_refused}
-use Rattle.ptmerge.proofs.CommTurns.{Running, adds_of, alone_on, alone_stops, both_on, both_stops, both_unread_second, both_unsent, breaks_slots, comes_slots, ended, fallen, midway, passes_slots, readable_of, slots_of, unfailed_of, wrote_as}
+use Rattle.ptmerge.proofs.CommTurns.{Running, adds_of, alone_on, alone_stops, both_on, both_stops, both_unread_second, both_unsent, breaks_slots, comes_slots, ended, fallen, merging_both, midway, passes_slots, readable_of, slots_of, unfailed_of, wrote_as}
 use Rattle.ptmerge.proofs.Orders.{IsKeyOrder}
 use Rattle.ptmerge.proofs.Sending.{wrote_and_sent}
 use Rattle.ptmerge.proofs.Pairs.{both_each}
@@ -38,7 +38,7 @@ returns-in_err-merge-clause-merged g c =
     let readable = readable_of c.args.first.now c.args.second.now c.args.store.now c.requires.ready in
     let ending = both_each (λ (side : Side) (r : Reader). r.ending ≡ job.end) c.args.first.now c.args.second.now c.requires.ending.0 c.requires.ending.1 in
     let x = err_from_is_err_and c.from_residual.result c.from_residual.ensures.1 in
-    rw (x.1, x.2) (starts_badly (comm_by job cmp key) o (λ ls. (omega arith, omega arith)) old readable ending unfailed c.requires.writable c.requires.ready.allowed c.requires.ready.empty c.start.new.first c.start.new.second c.start.new.store c.in_err-merge.field-0.0 c.in_err-merge.ensures.breaks)
+    rw (x.1, x.2) (starts_badly (comm_by job cmp key) o (λ ls. (omega arith, omega arith)) old readable ending unfailed (both_each (λ (side : Side) (r : Reader). IsSound r) c.args.first.now c.args.second.now c.requires.sound.0 c.requires.sound.1) c.requires.writable c.requires.ready.allowed c.requires.ready.empty c.start.new.first c.start.new.second c.start.new.store c.in_err-merge.field-0.0 c.in_err-merge.ensures.breaks)
 
 pub returns-in_err-merge-clause-slots : goal.returns-in_err-merge-clause-slots
 returns-in_err-merge-clause-slots g c =
@@ -50,7 +50,7 @@ returns-in_err-merge-clause-slots g c =
     let unfailed = unfailed_of c.args.first.now c.args.second.now c.args.store.now c.requires.ready c.requires.sound in
     let readable = readable_of c.args.first.now c.args.second.now c.args.store.now c.requires.ready in
     let ending = both_each (λ (side : Side) (r : Reader). r.ending ≡ job.end) c.args.first.now c.args.second.now c.requires.ending.0 c.requires.ending.1 in
-    start_slots (comm_by job cmp key) o (λ ls. (omega arith, omega arith)) old readable ending unfailed c.requires.writable c.requires.ready.allowed c.requires.ready.empty c.start.new.first c.start.new.second c.start.new.store c.in_err-merge.field-0.0 c.in_err-merge.ensures.breaks
+    start_slots (comm_by job cmp key) o (λ ls. (omega arith, omega arith)) old readable ending unfailed (both_each (λ (side : Side) (r : Reader). IsSound r) c.args.first.now c.args.second.now c.requires.sound.0 c.requires.sound.1) c.requires.writable c.requires.ready.allowed c.requires.ready.empty c.start.new.first c.start.new.second c.start.new.store c.in_err-merge.field-0.0 c.in_err-merge.ensures.breaks
 
 pub returns-in_err-merge-clause-refused : goal.returns-in_err-merge-clause-refused
 returns-in_err-merge-clause-refused g c =
@@ -62,7 +62,7 @@ returns-in_err-merge-clause-refused g c =
     let unfailed = unfailed_of c.args.first.now c.args.second.now c.args.store.now c.requires.ready c.requires.sound in
     let readable = readable_of c.args.first.now c.args.second.now c.args.store.now c.requires.ready in
     let ending = both_each (λ (side : Side) (r : Reader). r.ending ≡ job.end) c.args.first.now c.args.second.now c.requires.ending.0 c.requires.ending.1 in
-    start_refused (comm_by job cmp key) o (λ ls. (omega arith, omega arith)) old readable ending unfailed c.requires.writable c.requires.ready.allowed c.requires.ready.empty c.start.new.first c.start.new.second c.start.new.store c.in_err-merge.field-0.0 c.in_err-merge.ensures.breaks
+    start_refused (comm_by job cmp key) o (λ ls. (omega arith, omega arith)) old readable ending unfailed (both_each (λ (side : Side) (r : Reader). IsSound r) c.args.first.now c.args.second.now c.requires.sound.0 c.requires.sound.1) c.requires.writable c.requires.ready.allowed c.requires.ready.empty c.start.new.first c.start.new.second c.start.new.store c.in_err-merge.field-0.0 c.in_err-merge.ensures.breaks
 
 pub steps-init : goal.steps-init
 steps-init g c =
@@ -77,7 +77,7 @@ steps-init g c =
     let m = c.in_ok-merge.merge in
     let placed = c.in_ok-merge.ensures.placed in
     let lent = c.in_ok-merge.ensures.lent in
-    let running = starts_well (comm_by job cmp key) o (λ ls. (omega arith, omega arith)) old readable ending unfailed c.requires.writable c.requires.ready.allowed c.requires.ready.empty (inputs c.start.new.first c.start.new.second c.start.new.store) (both c.in_ok-merge.merge.first c.in_ok-merge.merge.second) placed.first c.in_ok-merge.ensures.starts in
+    let running = starts_well (comm_by job cmp key) o (λ ls. (omega arith, omega arith)) old readable ending unfailed (both_each (λ (side : Side) (r : Reader). IsSound r) c.args.first.now c.args.second.now c.requires.sound.0 c.requires.sound.1) c.requires.writable c.requires.ready.allowed c.requires.ready.empty (inputs c.start.new.first c.start.new.second c.start.new.store) (both c.in_ok-merge.merge.first c.in_ok-merge.merge.second) placed.first c.in_ok-merge.ensures.starts in
     record {
       running = subst (λ k. Running (comm_by (comm_job c.args.job.now) (g.K.KeyOrder.order k) (g.K.KeyOrder.key_of k)) (seen c.args.first.now c.args.second.now c.args.out.now c.args.store.now) (seen c.start.new.first c.start.new.second c.args.out.now c.start.new.store) (both c.in_ok-merge.merge.first c.in_ok-merge.merge.second)) (sym c.in_ok-merge.ensures.order) running;
       placed = placed;
@@ -317,7 +317,8 @@ returns-in_err-send_before_wait-in-Both-clause-merged g c =
     let unfailed = unfailed_of c.args.first.now c.args.second.now c.args.store.now c.requires.ready c.requires.sound in
     let slots = slots_of c.steps.merge.first c.steps.merge.second c.steps.store i.placed in
     let end : c.ending-ending.result ≡ job.end = c.ending-ending.ensures ∙ c.requires.ending.0 in
-    let wrote = wrote_and_sent c.steps.out c.pass-in-Both.new.out c.send_before_wait.new.out (text job.end (by_keys (comm_by job cmp key) all_keys (both ((line c.steps.store c.steps.merge.first.standing) ∷ []) ((line c.steps.store c.steps.merge.second.standing) ∷ [])))) c.in_ok-pass-in-Both.ensures.passes.0 (wrote_as job.end c.ending-ending.result (entries_in job.hide3 (tab_unless job.hide1 ++ tab_unless job.hide2) 1 (line c.steps.store c.steps.merge.first.standing)) (by_keys (comm_by job cmp key) all_keys (both ((line c.steps.store c.steps.merge.first.standing) ∷ []) ((line c.steps.store c.steps.merge.second.standing) ∷ []))) c.steps.out c.pass-in-Both.new.out end (written_both job cmp key o (line c.steps.store c.steps.merge.first.standing) (line c.steps.store c.steps.merge.second.standing) (subst (λ k. g.K.KeyOrder.key_of k sides.First (line c.steps.store c.steps.merge.first.standing) ≡ line c.steps.store c.steps.merge.first.standing) (sym i.order) (c.requires.whole sides.First (line c.steps.store c.steps.merge.first.standing))) (sym c.in-Both.ensures.same)) (subst (λ (l : List ℕ). Wrote c.steps.out c.pass-in-Both.new.out (text c.ending-ending.result (entries_in job.hide3 l 1 (line c.steps.store c.steps.merge.first.standing)))) c.lead-lead3.ensures c.pass-in-Both.ensures.wrote)) c.send_before_wait.ensures.wrote in
+    let pushed = (wrote_as job.end c.ending-ending.result (entries_in job.hide3 (tab_unless job.hide1 ++ tab_unless job.hide2) 1 (line c.steps.store c.steps.merge.first.standing)) (by_keys (comm_by job cmp key) all_keys (both ((line c.steps.store c.steps.merge.first.standing) ∷ []) ((line c.steps.store c.steps.merge.second.standing) ∷ []))) c.steps.out c.pass-in-Both.new.out end (written_both job cmp key o (line c.steps.store c.steps.merge.first.standing) (line c.steps.store c.steps.merge.second.standing) (subst (λ k. g.K.KeyOrder.key_of k sides.First (line c.steps.store c.steps.merge.first.standing) ≡ line c.steps.store c.steps.merge.first.standing) (sym i.order) (c.requires.whole sides.First (line c.steps.store c.steps.merge.first.standing))) (sym c.in-Both.ensures.same)) (subst (λ (l : List ℕ). Wrote c.steps.out c.pass-in-Both.new.out (text c.ending-ending.result (entries_in job.hide3 l 1 (line c.steps.store c.steps.merge.first.standing)))) c.lead-lead3.ensures c.pass-in-Both.ensures.wrote)) in
+    let wrote = wrote_and_sent c.steps.out c.pass-in-Both.new.out c.send_before_wait.new.out (text job.end (by_keys (comm_by job cmp key) all_keys (both ((line c.steps.store c.steps.merge.first.standing) ∷ []) ((line c.steps.store c.steps.merge.second.standing) ∷ [])))) c.in_ok-pass-in-Both.ensures.passes.0 pushed c.send_before_wait.ensures.wrote in
     let w = midway job cmp key o old unfailed now place i.running slots i.clean c.in-Both.ensures c.send_before_wait.new.out wrote c.pass-in-Both.new.reader c.pass-in-Both.new.merge.first c.pass-in-Both.new.store c.in_ok-pass-in-Both.ensures.passes.1 in
     let others : c.pass-in-Both.new.merge.second ≡ c.steps.merge.second = c.pass-in-Both.ensures.others in
     let slots2 = both_each HasSlots c.pass-in-Both.new.merge.first c.steps.merge.second c.in_ok-pass-in-Both.ensures.placed.first i.placed.second in
@@ -325,7 +326,8 @@ returns-in_err-send_before_wait-in-Both-clause-merged g c =
     let e = c.in_err-send_before_wait-in-Both.ensures.fault in
     rw (x.1, x.2) (subst (λ k. IsMerge (comm_by (comm_job c.args.job.now) (g.K.KeyOrder.order k) (g.K.KeyOrder.key_of k)) (seen c.args.first.now c.args.second.now c.args.out.now c.args.store.now) (seen c.pass-in-Both.new.reader c.steps.second c.send_before_wait.new.out c.pass-in-Both.new.store) (Err c.in_err-send_before_wait-in-Both.field-0.0)) i.order
     (subst (λ f. IsMerge (comm_by job cmp key) old (seen c.pass-in-Both.new.reader c.steps.second c.send_before_wait.new.out c.pass-in-Both.new.store) (Err f)) (sym e.0)
-    (both_unsent job cmp key o old unfailed now place i.running slots i.clean c.in-Both.ensures c.send_before_wait.new.out wrote c.pass-in-Both.new.reader c.pass-in-Both.new.merge.first c.pass-in-Both.new.store w slots2 e.1)))
+    (both_unsent job cmp key o old unfailed now place i.running slots i.clean c.in-Both.ensures c.send_before_wait.new.out wrote c.pass-in-Both.new.reader c.pass-in-Both.new.merge.first c.pass-in-Both.new.store w slots2
+    c.pass-in-Both.new.out c.in_ok-pass-in-Both.ensures.passes.0 (merging_both job cmp key o old unfailed now place i.running slots i.clean c.in-Both.ensures c.pass-in-Both.new.out pushed).wrote c.send_before_wait.ensures.wrote e.1)))
 
 pub returns-in_err-send_before_wait-in-Both-clause-slots : goal.returns-in_err-send_before_wait-in-Both-clause-slots
 returns-in_err-send_before_wait-in-Both-clause-slots g c =

@@ -39,7 +39,7 @@ returns-in_err-merge-clause-merged g c =
     let readable = readable_of c.args.first.now c.args.second.now c.args.store.now c.requires.ready in
     let ending = both_each (λ (side : Side) (r : Reader). r.ending ≡ job.end) c.args.first.now c.args.second.now c.requires.ending.0 c.requires.ending.1 in
     let x = err_from_is_err_and c.from_residual.result c.from_residual.ensures.1 in
-    rw (x.1, x.2) (starts_badly (join_by job cmp key) o (λ ls. (omega arith, omega arith)) old readable ending unfailed c.requires.writable c.requires.ready.allowed c.requires.ready.empty c.start.new.first c.start.new.second c.start.new.store c.in_err-merge.field-0.0 c.in_err-merge.ensures.breaks)
+    rw (x.1, x.2) (starts_badly (join_by job cmp key) o (λ ls. (omega arith, omega arith)) old readable ending unfailed (both_each (λ (side : Side) (r : Reader). IsSound r) c.args.first.now c.args.second.now c.requires.sound.0 c.requires.sound.1) c.requires.writable c.requires.ready.allowed c.requires.ready.empty c.start.new.first c.start.new.second c.start.new.store c.in_err-merge.field-0.0 c.in_err-merge.ensures.breaks)
 
 pub returns-in_err-merge-clause-refused : goal.returns-in_err-merge-clause-refused
 returns-in_err-merge-clause-refused g c =
@@ -51,7 +51,7 @@ returns-in_err-merge-clause-refused g c =
     let unfailed = unfailed_of c.args.first.now c.args.second.now c.args.store.now c.requires.ready c.requires.sound in
     let readable = readable_of c.args.first.now c.args.second.now c.args.store.now c.requires.ready in
     let ending = both_each (λ (side : Side) (r : Reader). r.ending ≡ job.end) c.args.first.now c.args.second.now c.requires.ending.0 c.requires.ending.1 in
-    start_refused (join_by job cmp key) o (λ ls. (omega arith, omega arith)) old readable ending unfailed c.requires.writable c.requires.ready.allowed c.requires.ready.empty c.start.new.first c.start.new.second c.start.new.store c.in_err-merge.field-0.0 c.in_err-merge.ensures.breaks
+    start_refused (join_by job cmp key) o (λ ls. (omega arith, omega arith)) old readable ending unfailed (both_each (λ (side : Side) (r : Reader). IsSound r) c.args.first.now c.args.second.now c.requires.sound.0 c.requires.sound.1) c.requires.writable c.requires.ready.allowed c.requires.ready.empty c.start.new.first c.start.new.second c.start.new.store c.in_err-merge.field-0.0 c.in_err-merge.ensures.breaks
 
 pub turns-init : goal.turns-init
 turns-init g c =
@@ -65,7 +65,7 @@ turns-init g c =
     let ending = both_each (λ (side : Side) (r : Reader). r.ending ≡ job.end) c.args.first.now c.args.second.now c.requires.ending.0 c.requires.ending.1 in
     let placed = c.in_ok-merge.ensures.placed in
     let lent = c.in_ok-merge.ensures.lent in
-    let running = starts_well (join_by job cmp key) o (λ ls. (omega arith, omega arith)) old readable ending unfailed c.requires.writable c.requires.ready.allowed c.requires.ready.empty (inputs c.start.new.first c.start.new.second c.start.new.store) (both c.in_ok-merge.merge.first c.in_ok-merge.merge.second) placed.first c.in_ok-merge.ensures.starts in
+    let running = starts_well (join_by job cmp key) o (λ ls. (omega arith, omega arith)) old readable ending unfailed (both_each (λ (side : Side) (r : Reader). IsSound r) c.args.first.now c.args.second.now c.requires.sound.0 c.requires.sound.1) c.requires.writable c.requires.ready.allowed c.requires.ready.empty (inputs c.start.new.first c.start.new.second c.start.new.store) (both c.in_ok-merge.merge.first c.in_ok-merge.merge.second) placed.first c.in_ok-merge.ensures.starts in
     record {
       o = o;
       unfailed = unfailed;

@@ -22,4 +22,4 @@ returns-clause-moves g c =
     c.is_gt-falls.ensures ∙ ap is_gt (c.cmp.ensures ∙ (λ i. cmp ((c.key-old.ensures ∙ ap key last) i) ((c.key-new.ensures ∙ ap key next) i))) in
     let stand : c.stand_at-self.result ≡ stand_at key cmp old.number (line before old.standing) e.line =
     c.stand_at-self.ensures ∙ ap (λ (t : Bool). if nat_lt 0 old.number && t then Disorder (old.number + 1) else Head) falls in
-    inl (record { gives = e; place = λ i. record { standing = old.previous; previous = old.standing; number = old.number + 1; stand = stand i } })
+    inl (record { gives = e; place = λ i. record { standing = old.previous; previous = old.standing; number = old.number + 1; stand = stand i }; sound = c.fill.ensures.is_sound })
