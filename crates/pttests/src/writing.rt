@@ -161,8 +161,15 @@ fn stays_faulted(rt: &impl Abort, out: &mut Out<Kept>) {
 
 // Pushes a text before a sink of which so many calls pass, and says whether all went well. In both cases the sink has
 // a beginning, and no call was made behind the failed one.
-fn passes(rt: &impl Abort, sink: Kept, text: &[u8], lengths: &[usize], passing: u64) -> bool {
-    let mut out = Out::new(sink);
+fn passes(
+    rt: &impl Abort,
+    alloc: Global,
+    text: &[u8],
+    lengths: &[usize],
+    size: usize,
+    passing: u64,
+) -> bool {
+    let mut out = Out::new(Kept::limited(alloc, size, usize::MAX, passing));
     let pushed = push_all(rt, &mut out, text, lengths);
     let passes = pushed == lengths.len() && out.finish().is_ok();
     if !passes {
@@ -186,8 +193,7 @@ fn passes(rt: &impl Abort, sink: Kept, text: &[u8], lengths: &[usize], passing: 
 fn fails(rt: &impl Abort, alloc: Global, lengths: &[usize], size: usize) -> Result<(), Fail> {
     let text = text_of(alloc, &[total(lengths)], b'\n', false)?;
     for passing in 0..40000u64 {
-        let sink = Kept::limited(alloc, size, usize::MAX, passing);
-        if passes(rt, sink, &text, lengths, passing) {
+        if passes(rt, alloc, &text, lengths, size, passing) {
             return Ok(());
         }
     }
