@@ -4,7 +4,7 @@ use crate::commands::{
     Case, Expected, FREE, Input, Limits, Row, SIZES, expect, expect_growths_refused, expect_rows,
     expect_untouched, expect_without_growth, growths, over_files, over_standard, run_over, writes,
 };
-use crate::comparing::same;
+use crate::comparing::{holds_of, same};
 use crate::texts::text_of;
 use std::alloc::{AllocError, Global};
 use std::process::Abort;
@@ -157,11 +157,10 @@ fn expect_long(
         let case = over_standard(words, &text, *size);
         let report = run_over(rt, alloc, alloc, &case)?;
         same(rt, &report.status, &0);
-        assert!(rt; report.out.bytes() == row.as_slice(), "{length} by {size}");
-        assert!(rt;
-            report.peak <= held.saturating_mul(length as u128),
-            "{length} by {size}"
-        );
+        let is_row = report.out.bytes() == row.as_slice();
+        holds_of(rt, &(length, *size), is_row);
+        let longest = held.saturating_mul(length as u128);
+        holds_of(rt, &(length, *size), report.peak <= longest);
     }
     Ok(())
 }

@@ -5,7 +5,7 @@ ghost use Rattle.ptrun.specs.Asked.{count_of};
 ghost use Rattle.ptrun.specs.Runs.{IsUnused};
 ghost use Rattle.ptrun.specs.Worlds.{IsFresh};
 
-use crate::comparing::same;
+use crate::comparing::{holds_of, same, same_of};
 use ptfakes::{Kept, Pieces, Refusing, Watched};
 use ptlines::{LineReader, Store};
 use ptopts::{Command, UseFault};
@@ -178,11 +178,7 @@ pub fn run_over<A: Allocator + Copy>(
 ) -> Result<Report<Kept, Kept>, Fail> {
     let command = Command::read(alloc, case.words);
     let count = files_named(&command);
-    assert!(rt;
-        command.is_err() || case.files.len() == count,
-        "{:?}",
-        case.words
-    );
+    assert!(rt; command.is_err() || case.files.len() == count);
     let mut inputs = readers(own, case.standard, case.files, count)?;
     let out = sink_of(own, case.out);
     let messages = sink_of(own, case.messages);
@@ -201,7 +197,7 @@ pub fn run_in<A: Allocator + Copy>(
 {
     let command = Command::read(alloc, case.words);
     let count = files_named(&command);
-    assert!(rt; case.files.len() == count, "{:?}", case.words);
+    assert!(rt; case.files.len() == count);
     let mut inputs = readers(own, case.standard, case.files, count)?;
     let out = sink_of(own, case.out);
     let messages = sink_of(own, case.messages);
@@ -228,16 +224,37 @@ pub fn expect_without_growth(
     case: &Case<'_>,
     expected: &Expected<'_>,
 ) -> Result<(), Fail> {
-    let counted = Refusing::after(alloc, u64::MAX);
-    let is_read = Command::read(&counted, case.words).is_ok();
-    assert!(rt; is_read, "{:?}", case.words);
-    let refusing = Refusing::after(alloc, u64::MAX - counted.left());
+    let asked = growths_of_words(rt, alloc, case.words);
+    let refusing = Refusing::after(alloc, asked);
     let report = run_over(rt, &refusing, alloc, case)?;
-    assert!(rt; !refusing.refused(), "{:?}", case.words);
-    assert!(rt; !report.denied);
-    same(rt, &report.peak, &0);
+    holds_of(rt, &case.words, !refusing.refused());
+    assert_unheld(rt, case.words, &report);
     assert_left(rt, case, &report, expected);
     Ok(())
+}
+
+// How often the reading of words asks for memory. They are to be a command.
+fn growths_of_words(rt: &impl Abort, alloc: Global, words: &[&str]) -> u64 {
+    let counted = Refusing::after(alloc, u64::MAX);
+    holds_of(rt, &words, is_command(&counted, &*words));
+    u64::MAX - counted.left()
+}
+
+fn is_command<A: Allocator + Copy>(alloc: A, words: &[&str]) -> bool {
+    Command::read(alloc, words).is_ok()
+}
+
+// No line was held, and no memory refused.
+fn assert_unheld(rt: &impl Abort, words: &[&str], report: &Report<Kept, Kept>) {
+    holds_of(rt, &words, !report.denied);
+    same_of(rt, &words, &report.peak, &0);
+}
+
+// An input that counts what is pulled of it.
+fn unread(pulls: &Cell<u64>) -> LineReader<Watched<'_, Pieces<'_>>, Pieces<'_>>
+    ensures { IsFresh result }
+{
+    LineReader::standard(Watched::new(Pieces::whole(b"never read\n"), pulls))
 }
 
 /// Words that are refused: this is said, and nothing is read, written or flushed.
@@ -247,21 +264,15 @@ pub fn expect_refused(
     words: &[&str],
     message: &str,
 ) -> Result<(), Fail> {
-    let pulls = Cell::new(0);
-    let source = Watched::new(Pieces::whole(b"never read\n"), &pulls);
-    let standard: LineReader<Watched<'_, Pieces<'_>>, Pieces<'_>> = LineReader::standard(source);
     let command = Command::read(alloc, &*words);
+    holds_of(rt, &words, command.is_err());
     let named = files_named(&command);
-    assert!(rt; command.is_err() && named == 0, "{words:?}");
+    assert!(rt; named == 0);
+    let pulls = Cell::new(0);
+    let standard = unread(&pulls);
     let (out, messages) = (Kept::new(alloc), Kept::new(alloc));
     let report = run(alloc, command, &*words, &mut [standard], out, messages);
-    assert_eq!(rt; report.messages.bytes(), message.as_bytes(), "{words:?}");
-    assert_eq!(rt; report.status, 2, "{words:?}");
-    assert_eq!(rt;
-        (report.out.calls(), report.messages.flushes(), pulls.get()),
-        (0, 0, 0),
-        "{words:?}"
-    );
+    assert_untouched(rt, &*words, &report, pulls.get(), (message, 2));
     Ok(())
 }
 
@@ -272,23 +283,30 @@ pub fn expect_untouched(
     words: &[&str],
     message: &str,
 ) -> Result<(), Fail> {
-    let pulls = Cell::new(0);
-    let source = Watched::new(Pieces::whole(b"never read\n"), &pulls);
-    let standard: LineReader<Watched<'_, Pieces<'_>>, Pieces<'_>> = LineReader::standard(source);
     let command = Command::read(alloc, &*words);
     let named = files_named(&command);
-    assert!(rt; named == 1, "{words:?}");
+    assert!(rt; named == 1);
+    let pulls = Cell::new(0);
+    let standard = unread(&pulls);
     let (out, messages) = (Kept::new(alloc), Kept::new(alloc));
     let mut inputs = [standard, LineReader::refused()];
     let report = run(alloc, command, &*words, &mut inputs, out, messages);
-    assert_eq!(rt; report.messages.bytes(), message.as_bytes(), "{words:?}");
-    assert_eq!(rt; report.status, 1, "{words:?}");
-    assert_eq!(rt;
-        (report.out.calls(), report.messages.flushes(), pulls.get()),
-        (0, 0, 0),
-        "{words:?}"
-    );
+    assert_untouched(rt, &*words, &report, pulls.get(), (message, 1));
     Ok(())
+}
+
+// This was said with this status, and nothing was read, written or flushed.
+fn assert_untouched(
+    rt: &impl Abort,
+    words: &[&str],
+    report: &Report<Kept, Kept>,
+    pulls: u64,
+    (message, status): (&str, u8),
+) {
+    same_of(rt, &words, &report.messages.bytes(), &message.as_bytes());
+    same_of(rt, &words, &report.status, &status);
+    let calls = (report.out.calls(), report.messages.flushes(), pulls);
+    same_of(rt, &words, &calls, &(0, 0, 0));
 }
 
 /// A command of which a file cannot be opened, over inputs whose reads fail: this is said, and no call of the output is
@@ -315,13 +333,10 @@ pub fn assert_left(
     expected: &Expected<'_>,
 ) {
     let words = case.words;
-    assert_eq!(rt; report.out.bytes(), expected.out.as_bytes(), "{words:?}");
-    assert_eq!(rt;
-        report.messages.bytes(),
-        expected.messages.as_bytes(),
-        "{words:?}"
-    );
-    assert_eq!(rt; report.status, expected.status, "{words:?}");
+    same_of(rt, &words, &report.out.bytes(), &expected.out.as_bytes());
+    let (said, message) = (report.messages.bytes(), expected.messages.as_bytes());
+    same_of(rt, &words, &said, &message);
+    same_of(rt, &words, &report.status, &expected.status);
 }
 
 /// Words, standard input, and what is written.
@@ -352,15 +367,27 @@ fn is_growth_refused(
 ) -> Result<bool, Fail> {
     let alloc = Refusing::after(own, passing);
     let report = run_over(rt, &alloc, own, case)?;
-    if !alloc.refused() {
+    let refused = alloc.refused();
+    if refused {
+        assert_stopped(rt, &report, expected, message, passing);
+    } else {
         assert_left(rt, case, &report, expected);
-        return Ok(false);
     }
+    Ok(refused)
+}
+
+// A beginning of what is expected was written, and this was said.
+fn assert_stopped(
+    rt: &impl Abort,
+    report: &Report<Kept, Kept>,
+    expected: &Expected<'_>,
+    message: &str,
+    passing: u64,
+) {
     let out = expected.out.as_bytes();
-    assert!(rt; out.starts_with(report.out.bytes()), "{passing}");
-    assert_eq!(rt; report.messages.bytes(), message.as_bytes(), "{passing}");
-    assert_eq!(rt; report.status, 1, "{passing}");
-    Ok(true)
+    holds_of(rt, &passing, out.starts_with(report.out.bytes()));
+    same_of(rt, &passing, &report.messages.bytes(), &message.as_bytes());
+    same_of(rt, &passing, &report.status, &1);
 }
 
 /// Refuses each growth of a command in turn, of fewer than 40. Then this message is said.

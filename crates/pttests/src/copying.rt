@@ -1,5 +1,6 @@
 //! Copies of few and of many bytes.
 
+use crate::comparing::holds_of;
 use ptlines::copy_near;
 use std::process::Abort;
 
@@ -11,7 +12,8 @@ fn copies(rt: &impl Abort, from: usize, to: usize) {
     let mut into = [b'-'; 55];
     copy_near(SOURCE, from, to, &mut into, 3);
     assert!(rt; into.starts_with(b"---"));
-    assert!(rt; into[3..].starts_with(&SOURCE[from..to]), "{from} to {to}");
+    let is_copied = into[3..].starts_with(&SOURCE[from..to]);
+    holds_of(rt, &(from, to), is_copied);
 }
 
 #[test]

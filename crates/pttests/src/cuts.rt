@@ -4,8 +4,13 @@ use crate::commands::{
     Expected, Input, Limits, Row, SIZES, assert_left, expect, expect_rows, expect_without_growth,
     over_files, over_standard, run_over, writes,
 };
+<<<<<<< HEAD
 use crate::comparing::same;
 use crate::texts::{ENDINGS, byte_at, text_of, text_with};
+=======
+use crate::comparing::{holds_of, same};
+use crate::texts::{ENDINGS, text_of, text_with};
+>>>>>>> 7bc08bf
 use ptfakes::Refusing;
 use std::alloc::{AllocError, Global};
 use std::process::Abort;
@@ -92,7 +97,8 @@ fn cut_across_blocks(
         let case = over_standard(&words, &text, *size);
         let report = run_over(rt, alloc, alloc, &case)?;
         same(rt, &report.status, &0);
-        assert!(rt; report.out.bytes() == cut.as_slice(), "{length} by {size}");
+        let is_cut = report.out.bytes() == cut.as_slice();
+        holds_of(rt, &(length, *size), is_cut);
         same(rt, &report.peak, &0);
     }
     Ok(())

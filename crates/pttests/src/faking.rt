@@ -1,6 +1,6 @@
 //! The sources, sinks and the allocator of the tests themselves.
 
-use crate::comparing::same;
+use crate::comparing::{same, same_of};
 use ptfakes::{Kept, Pieces, Refusing, Repeated, Watched};
 use ptlines::{Failed, Sink, Source};
 use std::alloc::{Allocator, Global};
@@ -12,7 +12,7 @@ use std::test::Fail;
 fn pulls<S: Source>(rt: &impl Abort, source: &mut S, answer: Result<usize, Failed>, given: &[u8]) {
     let mut into = [0u8; 4];
     same(rt, &source.pull(&mut into), &answer);
-    assert!(rt; into.starts_with(given), "{given:?}");
+    assert!(rt; into.starts_with(given));
 }
 
 // These sinks may be called after a failure too, and count that call.
@@ -90,11 +90,8 @@ fn one_of_six(rt: &impl Abort, alloc: Global, passing: u64) {
     for growth in 0..6u64 {
         same(rt, &alloc.refused(), &(growth > passing));
         let mut list = Vec::new(&alloc);
-        assert_eq!(rt;
-            list.push(7u8).is_ok(),
-            growth != passing,
-            "{growth} of {passing}"
-        );
+        let is_pushed = list.push(7u8).is_ok();
+        same_of(rt, &(growth, passing), &is_pushed, &(growth != passing));
     }
 }
 

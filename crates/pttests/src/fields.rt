@@ -1,12 +1,11 @@
 //! `cut` by fields.
 
 use crate::commands::{
-    Expected, Input, Limits, Row, SIZES, assert_left, expect, expect_rows, over_files,
+    Expected, Input, Limits, Row, SIZES, expect, expect_growths_refused, expect_rows, over_files,
     over_standard, run_over, writes,
 };
-use crate::comparing::same;
+use crate::comparing::{holds_of, same};
 use crate::texts::ENDINGS;
-use ptfakes::Refusing;
 use std::alloc::Global;
 use std::process::Abort;
 use std::test::Fail;
@@ -117,7 +116,7 @@ fn cut_across_blocks(
             &[other, ending, b'd', b'\t', ending].as_slice(),
         );
         same(rt, &report.status, &0);
-        assert!(rt; report.peak <= longest, "{length} by {size}");
+        holds_of(rt, &(length, *size), report.peak <= longest);
     }
     Ok(())
 }
@@ -201,33 +200,8 @@ fn each_write_and_the_flush_fail(rt: HostRuntime) -> Result<(), Fail> {
     Ok(())
 }
 
-// Refuses the growth behind so many, and says whether there was such a one.
-fn refused_growth(rt: &impl Abort, own: Global, passing: u64) -> Result<bool, Fail> {
-    let alloc = Refusing::after(own, passing);
-    let case = over_files(WORDS, FILES);
-    let report = run_over(rt, &alloc, own, &case)?;
-    if !alloc.refused() {
-        assert_left(rt, &case, &report, &writes(CUT));
-        return Ok(false);
-    }
-    assert!(rt; CUT.as_bytes().starts_with(report.out.bytes()), "{passing}");
-    same(
-        rt,
-        &report.messages.bytes(),
-        &b"cut: out of memory\n".as_slice(),
-    );
-    same(rt, &report.status, &1);
-    Ok(true)
-}
-
 #[test]
 fn each_growth_is_refused(rt: HostRuntime) -> Result<(), Fail> {
-    let mut count = 0u64;
-    for passing in 0..40u64 {
-        if refused_growth(&rt, rt.alloc(), passing)? {
-            count = count.saturating_add(1);
-        }
-    }
-    assert!(rt; count > 0 && count < 40, "{count}");
-    Ok(())
+    let case = over_files(WORDS, FILES);
+    expect_growths_refused(&rt, rt.alloc(), &case, &writes(CUT), "cut: out of memory\n")
 }

@@ -1,6 +1,7 @@
 //! `tr` and `cut` over inputs of each length at which vectors, masks and blocks end, against what the plan and the list
 //! say of each byte.
 
+use crate::comparing::holds_of;
 use ptfakes::{Kept, Pieces};
 use ptflow::{cut, tr};
 use ptlangs::jobs::CutJob;
@@ -61,10 +62,8 @@ fn expect_planned(
         let mut out = Out::new(Kept::new(alloc));
         assert!(rt; tr(plan, &mut reader, &mut out).is_ok() && out.finish().is_ok());
         let all = planned(alloc, plan, &text)?;
-        assert!(rt;
-            out.into_sink().bytes() == all.as_slice(),
-            "{count} by {size}"
-        );
+        let is_planned = out.into_sink().bytes() == all.as_slice();
+        holds_of(rt, &(*count, size), is_planned);
     }
     Ok(())
 }
@@ -281,7 +280,8 @@ fn expect_text(
     let mut store = Store::empty(alloc);
     let mut out = Out::new(Kept::new(alloc));
     assert!(rt; cut(job, &mut reader, &mut store, &mut out).is_ok() && out.finish().is_ok());
-    assert!(rt; out.into_sink().bytes() == all, "{} by {size}", text.len());
+    let is_cut = out.into_sink().bytes() == all;
+    holds_of(rt, &(text.len(), size), is_cut);
     Ok(())
 }
 

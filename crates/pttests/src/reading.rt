@@ -1,6 +1,6 @@
 //! Lines and blocks of a source in pieces.
 
-use crate::comparing::same;
+use crate::comparing::{holds_of, same, same_of};
 use crate::texts::{is_line, lines_of, text_of};
 use ptfakes::{Pieces, Refusing, Repeated, Watched};
 use ptlines::{LineFault, LineReader, Source, Store, find_near};
@@ -101,13 +101,14 @@ fn reads(
     let mut store = Store::new(alloc, 1)?;
     for length in lines_of(lengths, ended) {
         same(rt, &next(rt, &mut reader, &mut store), &Ok(true));
-        assert!(rt; is_line(current(rt, &store), *length), "{length} by {size}");
+        let line = current(rt, &store);
+        holds_of(rt, &(length, size), is_line(line, *length));
     }
     // One pull for each piece, and one for the end.
     let all = text.len().div_ceil(size.clamp(1, 8192)) as u64 + 1;
     for _ in 0..2 {
         ends(rt, &mut reader, &mut store);
-        assert_eq!(rt; pulls.get(), all, "by {size}");
+        same_of(rt, &size, &pulls.get(), &all);
     }
     Ok(())
 }
@@ -318,41 +319,65 @@ fn a_refused_file_fails(rt: HostRuntime) -> Result<(), Fail> {
     Ok(())
 }
 
-// Passes a text block by block, at most `step` bytes at a time, and keeps what was shown.
-fn shown<'a>(
+// Passes the next bytes, at most `step`, and keeps them; says whether there were any.
+fn is_passed<S: Source, R: Source>(
     rt: &impl Abort,
-    alloc: Global,
-    reader: &mut Reader<'a>,
+    reader: &mut LineReader<S, R>,
     step: usize,
-) -> Result<Vec<u8>, Fail> {
-    let mut all = Vec::new(alloc);
+    all: &mut Vec<u8>,
+) -> Result<bool, Fail> {
+    let block = reader.block()?;
+    assert!(rt; block.len() <= 8192);
+    let count = block.len().min(step);
+    all.extend_from_slice(&block[..count])?;
+    reader.consume(count);
+    Ok(count > 0)
+}
+
+// Passes a text block by block, at most `step` bytes at a time, and keeps what was shown.
+fn pass_all<S: Source, R: Source>(
+    rt: &impl Abort,
+    reader: &mut LineReader<S, R>,
+    step: usize,
+    all: &mut Vec<u8>,
+) -> Result<(), Fail> {
     for _ in 0..100_000 {
-        let block = reader.block()?;
-        if block.is_empty() {
-            return Ok(all);
+        if !is_passed(rt, reader, step, all)? {
+            return Ok(());
         }
-        assert!(rt; block.len() <= 8192);
-        let count = block.len().min(step);
-        all.extend_from_slice(&block[..count])?;
-        reader.consume(count);
     }
     Err("no end")?
+}
+
+// A line of this length without its end, in pieces of a size, is shown whole, and pulled as often as it has pieces.
+fn shows_all(
+    rt: &impl Abort,
+    alloc: Global,
+    text: &[u8],
+    size: usize,
+    step: usize,
+) -> Result<(), Fail> {
+    let pulls = Cell::new(0);
+    let source = Watched::new(Pieces::new(text, size, u64::MAX), &pulls);
+    let mut reader: Reader<'_> = LineReader::standard(source);
+    let mut all = Vec::new(alloc);
+    pass_all(rt, &mut reader, step, &mut all)?;
+    let of = (text.len(), size);
+    holds_of(rt, &of, is_line(&all, text.len()));
+    same_of(rt, &of, &shows(&mut reader), &Ok(0));
+    let pieces = text.len().div_ceil(size.clamp(1, 8192)) as u64 + 1;
+    same_of(rt, &of, &pulls.get(), &pieces);
+    Ok(())
 }
 
 #[test]
 fn blocks_in_pieces(rt: HostRuntime) -> Result<(), Fail> {
     for length in [0, 1, 8191, 8192, 8193, 20000] {
         let text = text_of(rt.alloc(), &[length], b'\n', false)?;
+        same(&rt, &text.len(), &length);
         for size in SIZES {
             for step in [1, 5, usize::MAX] {
-                let pulls = Cell::new(0);
-                let source = Watched::new(Pieces::new(&text, *size, u64::MAX), &pulls);
-                let mut reader: Reader<'_> = LineReader::standard(source);
-                let all = shown(&rt, rt.alloc(), &mut reader, step)?;
-                assert!(rt; is_line(&all, length), "{length} by {size}");
-                same(&rt, &reader.block()?.len(), &0);
-                let pieces = length.div_ceil((*size).clamp(1, 8192)) as u64 + 1;
-                assert_eq!(rt; pulls.get(), pieces, "{length} by {size}");
+                shows_all(&rt, rt.alloc(), &text, *size, step)?;
             }
         }
     }
@@ -388,7 +413,28 @@ fn lines_and_blocks_in_turn(rt: HostRuntime) -> Result<(), Fail> {
     Ok(())
 }
 
-// Reads a line of 20,000 bytes with so many growths passing, and says whether one was refused.
+// Reads a line of 20,000 bytes, or a beginning of it where a growth is refused: then nothing more is read.
+fn reads_while_it_grows<S: Source, R: Source, A: Allocator + Copy>(
+    rt: &impl Abort,
+    reader: &mut LineReader<S, R>,
+    store: &mut Store<A>,
+    pulls: &Cell<u64>,
+) {
+    let filled = next(rt, reader, store);
+    let count = current(rt, store).len();
+    assert!(rt; is_line(current(rt, store), count));
+    if store.denied() {
+        let pulled = pulls.get();
+        assert!(rt; count < 20000);
+        same(rt, &filled, &Err(LineFault::Memory));
+        stays_at(rt, reader, store, LineFault::Memory, count);
+        same(rt, &pulls.get(), &pulled);
+    } else {
+        same(rt, &(filled, count), &(Ok(true), 20000));
+    }
+}
+
+// Reads such a line with so many growths passing, and says whether one was refused.
 fn is_refused_after(
     rt: &impl Abort,
     alloc: Global,
@@ -400,19 +446,8 @@ fn is_refused_after(
     let source = Watched::new(Pieces::whole(text), &pulls);
     let mut reader: Reader<'_> = LineReader::standard(source);
     let mut store = Store::new(&alloc, 1)?;
-    let filled = next(rt, &mut reader, &mut store);
-    let count = current(rt, &store).len();
-    let pulled = pulls.get();
-    assert!(rt; is_line(current(rt, &store), count));
+    reads_while_it_grows(rt, &mut reader, &mut store, &pulls);
     same(rt, &store.denied(), &alloc.refused());
-    if alloc.refused() {
-        assert!(rt; count < 20000);
-        same(rt, &filled, &Err(LineFault::Memory));
-        stays_at(rt, &mut reader, &mut store, LineFault::Memory, count);
-        same(rt, &pulls.get(), &pulled);
-    } else {
-        same(rt, &(filled, count), &(Ok(true), 20000));
-    }
     Ok(alloc.refused())
 }
 
@@ -449,7 +484,7 @@ fn a_very_long_line(rt: HostRuntime) -> Result<(), Fail> {
 fn finds(rt: &impl Abort, alloc: Global, place: usize) -> Result<(), Fail> {
     let mut bytes = text_of(alloc, &[place], b'\n', true)?;
     same(rt, &find_near(b'\n', &bytes), &Some(place));
-    assert_eq!(rt; find_near(0, &bytes), None, "{place}");
+    same_of(rt, &place, &find_near(0, &bytes), &None);
     bytes.extend_from_slice(b"\n\0\n")?;
     same(rt, &find_near(b'\n', &bytes), &Some(place));
     same(rt, &find_near(0, &bytes), &Some(place.saturating_add(2)));

@@ -5,7 +5,7 @@ use crate::commands::{
     Expected, Input, Limits, Row, SIZES, assert_left, expect, expect_growths_refused, expect_rows,
     over_files, over_standard, run_over, writes,
 };
-use crate::comparing::same;
+use crate::comparing::{holds_of, same};
 use ptfakes::{Kept, Pieces, Refusing, Watched};
 use ptflow::{FlowFault, uniq};
 use ptlangs::jobs::{Show, UniqJob};
@@ -269,15 +269,12 @@ const LENGTHS: &[usize] = &[0, 1, 8190, 8191, 8192, 8193, 20000];
 // Two lines at most are held.
 fn expect_one(rt: &impl Abort, alloc: Global, length: usize) -> Result<(), Fail> {
     let text = repeat_of(alloc, length)?;
-    let longest = length as u128;
+    let two = (length as u128).saturating_mul(2);
     for size in SIZES {
         let case = over_standard(&["uniq", "-u"], &text, *size);
         let report = run_over(rt, alloc, alloc, &case)?;
         assert_left(rt, &case, &report, &writes(""));
-        assert!(rt;
-            report.peak <= longest.saturating_mul(2),
-            "{length} by {size}"
-        );
+        holds_of(rt, &(length, *size), report.peak <= two);
     }
     Ok(())
 }

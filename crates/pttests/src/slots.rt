@@ -1,6 +1,6 @@
 //! Calls of a store whose slots a test knows to be there.
 
-use crate::comparing::same;
+use crate::comparing::{same, same_of};
 use ptfakes::Pieces;
 use ptlines::{LineFault, LineReader, Store};
 use std::alloc::Allocator;
@@ -64,7 +64,7 @@ pub fn expect<A: Allocator + Copy>(
     assert!(rt; store.slots() == lines.len());
     let mut now = 0u128;
     for (slot, expected) in lines.iter().enumerate() {
-        assert!(rt; line(rt, store, slot) == *expected, "slot {slot}");
+        same_of(rt, &slot, &line(rt, store, slot), expected);
         now = now.saturating_add(expected.len() as u128);
     }
     assert!(rt; store.now() == now);

@@ -1,6 +1,6 @@
 //! Numbered slots, what they hold and held, and refused growths.
 
-use crate::comparing::same;
+use crate::comparing::{holds_of, same, same_of};
 use crate::slots::{clear, copy, expect, hold, line, swap};
 use ptfakes::Refusing;
 use ptlines::{LineFault, Store};
@@ -80,45 +80,56 @@ enum Stopped {
 
 const LONG: &[u8] = b"0123456789012345678901234567890123456789012345678901234567890123456789";
 
-// Grows a store in each way, and looks at what a refusal leaves.
+// Grows a store of two slots in each way, and looks at what a refusal leaves.
 fn grow<A: Allocator + Copy>(rt: &impl Abort, alloc: A) -> Stopped {
-    let mut store = match Store::new(alloc, 2) {
-        Ok(store) => store,
+    match Store::new(alloc, 2) {
+        Ok(mut store) => fill(rt, &mut store),
         Err(fault) => {
             same(rt, &fault, &LineFault::Memory);
-            return Stopped::New;
+            Stopped::New
         }
-    };
-    expect(rt, &store, &[b"", b""], 0, false);
-    if hold(rt, &mut store, 0, LONG) == Err(LineFault::Memory) {
-        expect(rt, &store, &[b"", b""], 0, true);
+    }
+}
+
+// Reads into the first slot, and then goes on.
+fn fill<A: Allocator + Copy>(rt: &impl Abort, store: &mut Store<A>) -> Stopped {
+    expect(rt, store, &[b"", b""], 0, false);
+    if hold(rt, store, 0, LONG) == Err(LineFault::Memory) {
+        expect(rt, store, &[b"", b""], 0, true);
         // Only one growth is refused, and the store stays denied.
-        same(rt, &hold(rt, &mut store, 0, LONG), &Ok(()));
-        expect(rt, &store, &[LONG, b""], 70, true);
+        same(rt, &hold(rt, store, 0, LONG), &Ok(()));
+        expect(rt, store, &[LONG, b""], 70, true);
         return Stopped::Hold;
     }
-    expect(rt, &store, &[LONG, b""], 70, false);
-    if hold(rt, &mut store, 1, b"b") == Err(LineFault::Memory) {
-        expect(rt, &store, &[LONG, b""], 70, true);
+    expect(rt, store, &[LONG, b""], 70, false);
+    copy_over(rt, store)
+}
+
+// Reads into the second slot, copies the first over it, and then goes on.
+fn copy_over<A: Allocator + Copy>(rt: &impl Abort, store: &mut Store<A>) -> Stopped {
+    if hold(rt, store, 1, b"b") == Err(LineFault::Memory) {
+        expect(rt, store, &[LONG, b""], 70, true);
         return Stopped::Hold;
     }
-    expect(rt, &store, &[LONG, b"b"], 71, false);
-    if copy(rt, &mut store, 0, 1) == Err(LineFault::Memory) {
-        expect(rt, &store, &[LONG, b""], 71, true);
+    expect(rt, store, &[LONG, b"b"], 71, false);
+    if copy(rt, store, 0, 1) == Err(LineFault::Memory) {
+        expect(rt, store, &[LONG, b""], 71, true);
         return Stopped::Copy;
     }
-    expect(rt, &store, &[LONG, LONG], 140, false);
+    expect(rt, store, &[LONG, LONG], 140, false);
+    add_many(rt, store)
+}
+
+fn add_many<A: Allocator + Copy>(rt: &impl Abort, store: &mut Store<A>) -> Stopped {
     for slot in 2..40usize {
-        match store.add() {
-            Ok(added) => same(rt, &added, &slot),
-            Err(fault) => {
-                same(rt, &fault, &LineFault::Memory);
-                same(rt, &store.slots(), &slot);
-                assert!(rt; line(rt, &store, 1) == LONG);
-                assert!(rt; store.denied());
-                return Stopped::Add;
-            }
+        let added = store.add();
+        if added == Err(LineFault::Memory) {
+            same(rt, &store.slots(), &slot);
+            same(rt, &line(rt, store, 1), &LONG);
+            assert!(rt; store.denied());
+            return Stopped::Add;
         }
+        same(rt, &added, &Ok(slot));
     }
     assert!(rt; !store.denied());
     Stopped::Nowhere
@@ -130,11 +141,8 @@ fn stops(rt: &impl Abort, alloc: Global, stopped: Stopped) -> u32 {
     for passing in 0..80u64 {
         let refusing = Refusing::after(alloc, passing);
         let ended = grow(rt, &refusing);
-        assert_eq!(rt;
-            refusing.refused(),
-            ended != Stopped::Nowhere,
-            "at {passing}"
-        );
+        let is_stopped = ended != Stopped::Nowhere;
+        same_of(rt, &passing, &refusing.refused(), &is_stopped);
         if ended == stopped {
             count = count.saturating_add(1);
         }
@@ -145,7 +153,8 @@ fn stops(rt: &impl Abort, alloc: Global, stopped: Stopped) -> u32 {
 #[test]
 fn each_growth_refused(rt: HostRuntime) {
     for stopped in [Stopped::New, Stopped::Hold, Stopped::Copy, Stopped::Add] {
-        assert!(rt; stops(&rt, rt.alloc(), stopped) > 0, "{stopped:?}");
+        let count = stops(&rt, rt.alloc(), stopped);
+        holds_of(&rt, &stopped, count > 0);
     }
     // At last no growth is left to be refused.
     assert!(rt; stops(&rt, rt.alloc(), Stopped::Nowhere) > 20);

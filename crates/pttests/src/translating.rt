@@ -1,6 +1,6 @@
 //! `tr` over an input in pieces.
 
-use crate::comparing::same;
+use crate::comparing::{holds_of, same};
 use ptfakes::{Kept, Pieces};
 use ptflow::{FlowFault, tr, translate};
 use ptlangs::{CharPlan, Form, SetFault, Shifts};
@@ -33,7 +33,7 @@ fn translated(
 // What is written of a text that comes in pieces of this size.
 fn writes(rt: &impl Abort, alloc: Global, plan: &CharPlan, text: &[u8], size: usize, all: &[u8]) {
     let (answer, kept) = translated(alloc, plan, text, size, u64::MAX);
-    assert!(rt; answer.is_ok() && kept.bytes() == all, "by {size}");
+    holds_of(rt, &size, answer.is_ok() && kept.bytes() == all);
 }
 
 #[test]
@@ -121,7 +121,7 @@ fn expect_images(rt: &impl Abort, plan: &CharPlan, shifts: &Shifts, from: &[u8],
         .iter()
         .zip(&*to)
         .all(|(from, to)| plan.image(*from) == *to);
-    assert!(rt; moved, "{}", from.len());
+    holds_of(rt, &from.len(), moved);
 }
 
 #[test]

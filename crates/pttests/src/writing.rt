@@ -1,6 +1,6 @@
 //! A block of output before sinks that take little, or fail.
 
-use crate::comparing::same;
+use crate::comparing::{holds_of, same, same_of};
 use crate::texts::{is_line, text_of};
 use ptfakes::{Fixed, Kept};
 use ptlines::{Out, Sink, WriteFault, send};
@@ -64,7 +64,7 @@ fn all_is_sent(rt: HostRuntime) -> Result<(), Fail> {
             );
             same(&rt, &out.finish(), &Ok(()));
             let kept = out.into_sink();
-            assert!(rt; is_line(kept.bytes(), all), "{lengths:?} by {size}");
+            holds_of(&rt, &(lengths, size), is_line(kept.bytes(), all));
             same(&rt, &kept.flushes(), &1);
         }
     }
@@ -122,30 +122,31 @@ const STAGED: &[Staged] = &[
     },
 ];
 
+// Pushes a text in these stretches.
+fn pushed(rt: &impl Abort, alloc: Global, text: &[u8], lengths: &[usize]) -> Out<Kept> {
+    let mut out = Out::new(Kept::new(alloc));
+    same(rt, &push_all(rt, &mut out, text, lengths), &lengths.len());
+    out
+}
+
+fn expect_staged(rt: &impl Abort, alloc: Global, row: &Staged) -> Result<(), Fail> {
+    let lengths = row.lengths;
+    let all = total(lengths);
+    let text = text_of(alloc, &[all], b'\n', false)?;
+    let kept = pushed(rt, alloc, &text, lengths).into_sink();
+    holds_of(rt, &lengths, is_line(kept.bytes(), row.taken));
+    let mut out = pushed(rt, alloc, &text, lengths);
+    same(rt, &out.finish(), &Ok(()));
+    let kept = out.into_sink();
+    same_of(rt, &lengths, &kept.calls(), &row.calls);
+    holds_of(rt, &lengths, is_line(kept.bytes(), all));
+    Ok(())
+}
+
 #[test]
 fn a_block_is_staged(rt: HostRuntime) -> Result<(), Fail> {
     for row in STAGED {
-        let lengths = row.lengths;
-        let all = total(lengths);
-        let text = text_of(rt.alloc(), &[all], b'\n', false)?;
-        let mut out = Out::new(Kept::new(rt.alloc()));
-        same(
-            &rt,
-            &push_all(&rt, &mut out, &text, lengths),
-            &lengths.len(),
-        );
-        let kept = out.into_sink();
-        assert!(rt; is_line(kept.bytes(), row.taken), "{lengths:?}");
-        let mut out = Out::new(Kept::new(rt.alloc()));
-        same(
-            &rt,
-            &push_all(&rt, &mut out, &text, lengths),
-            &lengths.len(),
-        );
-        same(&rt, &out.finish(), &Ok(()));
-        let kept = out.into_sink();
-        assert_eq!(rt; kept.calls(), row.calls, "{lengths:?}");
-        assert!(rt; is_line(kept.bytes(), all), "{lengths:?}");
+        expect_staged(&rt, rt.alloc(), row)?;
     }
     Ok(())
 }
@@ -158,28 +159,43 @@ fn stays_faulted(rt: &impl Abort, out: &mut Out<Kept>) {
     same(rt, &out.finish(), &Err(WriteFault::Write));
 }
 
-// With a sink that fails at each of its calls in turn, the sink has a beginning.
+// Pushes a text before a sink of which so many calls pass, and says whether all went well. In both cases the sink has
+// a beginning, and no call was made behind the failed one.
+fn passes(
+    rt: &impl Abort,
+    alloc: Global,
+    text: &[u8],
+    lengths: &[usize],
+    size: usize,
+    passing: u64,
+) -> bool {
+    let mut out = Out::new(Kept::limited(alloc, size, usize::MAX, passing));
+    let pushed = push_all(rt, &mut out, text, lengths);
+    let passes = pushed == lengths.len() && out.finish().is_ok();
+    if !passes {
+        stays_faulted(rt, &mut out);
+    }
+    let kept = out.into_sink();
+    let calls = if passes {
+        passing
+    } else {
+        passing.saturating_add(1)
+    };
+    same_of(rt, &passing, &kept.calls(), &calls);
+    let taken = kept.bytes().len();
+    let is_whole = taken == text.len();
+    holds_of(rt, &passing, is_whole || !passes && taken < text.len());
+    holds_of(rt, &passing, is_line(kept.bytes(), taken));
+    passes
+}
+
+// With a sink that fails at each of its calls in turn, up to the first that is not reached.
 fn fails(rt: &impl Abort, alloc: Global, lengths: &[usize], size: usize) -> Result<(), Fail> {
-    let all = total(lengths);
-    let text = text_of(alloc, &[all], b'\n', false)?;
+    let text = text_of(alloc, &[total(lengths)], b'\n', false)?;
     for passing in 0..40000u64 {
-        let mut out = Out::new(Kept::limited(alloc, size, usize::MAX, passing));
-        let pushed = push_all(rt, &mut out, &text, lengths);
-        if pushed == lengths.len() && out.finish().is_ok() {
-            let kept = out.into_sink();
-            assert_eq!(rt; kept.calls(), passing, "the first that is not reached");
-            assert!(rt; is_line(kept.bytes(), all));
+        if passes(rt, alloc, &text, lengths, size, passing) {
             return Ok(());
         }
-        stays_faulted(rt, &mut out);
-        let kept = out.into_sink();
-        assert_eq!(rt;
-            kept.calls(),
-            passing.saturating_add(1),
-            "none after the failed one"
-        );
-        let taken = kept.bytes().len();
-        assert!(rt; taken <= all && is_line(kept.bytes(), taken), "{passing}");
     }
     Err("each call fails")?
 }
@@ -220,11 +236,8 @@ fn nothing_taken_is_a_fault(rt: HostRuntime) -> Result<(), Fail> {
         let all = total(lengths);
         let text = text_of(rt.alloc(), &[all], b'\n', false)?;
         for room in [0, 1, 8191, 8192, 8193, 19999] {
-            assert_eq!(rt;
-                taken_in(&rt, rt.alloc(), &text, lengths, room),
-                (all <= room, true),
-                "{lengths:?} in {room}"
-            );
+            let taken = taken_in(&rt, rt.alloc(), &text, lengths, room);
+            same_of(&rt, &(lengths, room), &taken, &(all <= room, true));
         }
     }
     Ok(())
