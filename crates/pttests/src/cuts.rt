@@ -4,13 +4,8 @@ use crate::commands::{
     Expected, Input, Limits, Row, SIZES, assert_left, expect, expect_rows, expect_without_growth,
     over_files, over_standard, run_over, writes,
 };
-<<<<<<< HEAD
-use crate::comparing::same;
-use crate::texts::{ENDINGS, byte_at, text_of, text_with};
-=======
 use crate::comparing::{holds_of, same};
-use crate::texts::{ENDINGS, text_of, text_with};
->>>>>>> 7bc08bf
+use crate::texts::{ENDINGS, byte_at, text_of, text_with};
 use ptfakes::Refusing;
 use std::alloc::{AllocError, Global};
 use std::process::Abort;
