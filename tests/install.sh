@@ -102,6 +102,11 @@ before=$(listed "$room/blocked")
 is "a file in the way" "cannot install: $room/blocked/share/man: File exists. Nothing was installed." \
     "$(fails install PREFIX="$room/blocked" DESTDIR=)"
 is "nothing is left behind" "$before" "$(listed "$room/blocked")"
+# (A limit on the size of files stands for a full disk. What strip says of it is no message of ours.)
+is "no room for the program" "cannot install: $room/blocked/bin/ptext: File too large. Nothing was installed." \
+    "$(rm "$room/blocked/share/man" && ulimit -f 16 && fails install PREFIX="$room/blocked" DESTDIR= | grep '^cannot')"
+is "nothing is left of it" ". ./share " "$(listed "$room/blocked")"
+is "an empty prefix" "PREFIX is empty. Nothing was done." "$(fails install PREFIX= DESTDIR=)"
 install install PREFIX="$room/strict" DESTDIR=
 rm "$room/strict/share/man/man1/ptext.1"
 mkdir "$room/strict/share/man/man1/ptext.1"

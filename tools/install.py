@@ -82,8 +82,12 @@ class Place:
             raise IsADirectoryError(0, "there is a folder of that name", path)
         new, old = f"{path}.new", f"{path}.old"
         self.undoing.append(lambda: os.path.lexists(new) and os.remove(new))
-        with open(new, "wb") as it:
-            it.write(text)
+        try:
+            with open(new, "wb") as it:
+                it.write(text)
+        except OSError as why:
+            # (A write that fails, as on a full disk, does not name the file itself.)
+            raise OSError(why.errno, why.strerror, path if why.filename is None else why.filename) from why
         os.chmod(new, mode)
         if os.path.lexists(path):
             os.rename(path, old)
@@ -159,8 +163,10 @@ def uninstall(place):
 
 def main():
     does = {"install": install, "tools": install_tools, "uninstall": uninstall}
-    if len(sys.argv) not in (3, 4) or sys.argv[1] not in does or not sys.argv[2]:
+    if len(sys.argv) not in (3, 4) or sys.argv[1] not in does:
         return __doc__
+    if not sys.argv[2]:
+        return "PREFIX is empty. Nothing was done."
     return does[sys.argv[1]](Place(sys.argv[2], (sys.argv[3:] or [""])[0]))
 
 
