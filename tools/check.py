@@ -7,6 +7,7 @@ the wrong bodies of the changed ones. Uncommitted changes count. It works over w
 import os
 import re
 import resource
+import shutil
 import subprocess
 import sys
 
@@ -69,6 +70,10 @@ def ran(what, words, folder):
 
 def main():
     since = commit(sys.argv[1:])
+    if not shutil.which("rt"):
+        return "there is no rt in PATH: it comes with the kit that the README names (export PATH=/opt/rattle/bin:$PATH)"
+    if subprocess.run(["git", "rev-parse", "-q", "--verify", f"{since}^{{commit}}"], cwd=TOP, capture_output=True).returncode:
+        return f"git knows no commit {since} here: name one that it knows, make check SINCE=COMMIT"
     with open(f"{TOP}/crates.txt", encoding="utf-8") as it:
         uses = uses_of(it.read())
     text, edits = changed_since(since, uses)
