@@ -2,7 +2,7 @@
 """Makes what is handed on: archives, and a Debian package. Made twice of the same files, they have the same bytes.
 
   python3 tools/dist.py archives FOLDER     ptext-VERSION.tar.gz, the source; ptext-VERSION-linux-x86_64.tar.gz, the stripped
-                                            program with its pages and completion; SHA256SUMS of both
+                                            program with its pages, docs and completion; SHA256SUMS of both
   python3 tools/dist.py deb FOLDER          ptext_VERSION-1_amd64.deb
 """
 import gzip
@@ -61,7 +61,10 @@ def archives(folder):
     named = f"ptext-{VERSION}"
     archive(f"{folder}/{named}.tar.gz", named, [(it, mode_of(f"{TOP}/{it}"), bytes_of(f"{TOP}/{it}")) for it in source_files()])
     built = f"{named}-linux-x86_64"
-    texts = [(it, 0o644, bytes_of(f"{TOP}/{it}")) for it in ["README.md", "CHANGELOG.md", *LICENSES]]
+    # (The README names the docs, and shows the chart.)
+    docs = [f"docs/{it}" for it in os.listdir(f"{TOP}/docs") if it.endswith(".md")]
+    read = ["README.md", "CHANGELOG.md", "CONTRIBUTING.md", "bench/README.md", "bench/speed.svg", *docs, *LICENSES]
+    texts = [(it, 0o644, bytes_of(f"{TOP}/{it}")) for it in read]
     archive(f"{folder}/{built}.tar.gz", built, [*files("", False), *texts])
     sums = [f"{hashlib.sha256(bytes_of(f'{folder}/{it}.tar.gz')).hexdigest()}  {it}.tar.gz\n" for it in (named, built)]
     with open(f"{folder}/SHA256SUMS", "w", encoding="ascii") as it:
