@@ -5,6 +5,10 @@
 # The parts of the first file are FOLDER/1.000, FOLDER/1.001 .., those of the second FOLDER/2.000 ..; some may be empty.
 set -eu
 export LC_ALL=C
+if [ $# -lt 4 ] || ! [ -d "$3" ]; then
+    echo "usage: tools/cut_at_keys.sh PARTS FIELD FOLDER FILE.. (the folder has to be there)" >&2
+    exit 2
+fi
 parts=$1 field=$2 folder=$3 separator=${SEPARATOR- } number=0
 shift 3
 size=$(($(wc -l <"$1") / parts + 1))
