@@ -33,77 +33,68 @@ fn cells_share_a_reader(rt: HostRuntime) -> Result<(), Fail> {
     Ok(())
 }
 
-// Two inputs that come in pieces of so many bytes, and a sink that takes so many.
+// An input that comes in pieces of so many bytes, and a sink that takes so many.
 #[derive(Clone, Copy)]
 struct Case<'a> {
-    texts: [&'a [u8]; 2],
+    text: &'a [u8],
     size: usize,
     room: usize,
 }
 
-// What `paste` of two columns answers, and how many pulls of each input it made.
+// What `paste` of two columns that share a reader answers, and how many pulls it made.
 fn run<A: Allocator + Copy>(
     alloc: Global,
     lines: A,
     case: &Case<'_>,
-) -> Result<(Result<(), FlowFault>, [u64; 2]), Fail> {
+) -> Result<(Result<(), FlowFault>, u64), Fail> {
     let job = PasteJob {
         serial: false,
         delims: Delims::tab(lines)?,
         zero: false,
     };
-    let pulls = [Cell::new(0), Cell::new(0)];
-    let [first, second] = case.texts;
-    let mut readers = [
-        column(Pieces::new(first, case.size, u64::MAX), &pulls[0]),
-        column(Pieces::new(second, case.size, u64::MAX), &pulls[1]),
-    ];
+    let pulls = Cell::new(0);
+    let source = Watched::new(Pieces::new(case.text, case.size, u64::MAX), &pulls);
+    let reader: LineReader<Watched<'_, Pieces<'_>>, Pieces<'_>> = LineReader::standard(source);
+    let mut readers = [reader];
     let mut store = Store::new(lines, 0)?;
     let mut out = Out::new(Kept::limited(alloc, usize::MAX, case.room, u64::MAX));
-    let told = paste(&job, &[0, 1], &mut readers, &mut store, &mut out);
+    let told = paste(&job, &[0, 0], &mut readers, &mut store, &mut out);
     let _ = out.finish();
-    Ok((told, [pulls[0].get(), pulls[1].get()]))
+    Ok((told, pulls.get()))
 }
 
-fn column<'a>(
-    source: Pieces<'a>,
-    pulls: &'a Cell<u64>,
-) -> LineReader<Watched<'a, Pieces<'a>>, Pieces<'a>> {
-    LineReader::standard(Watched::new(source, pulls))
-}
-
-// A line a pull: the first row is sent, and fails, before any second pull.
+// A line a pull: the first row is sent, and fails, before any third pull.
 #[test]
 fn a_row_is_sent_before_a_read_that_may_wait(rt: HostRuntime) -> Result<(), Fail> {
     let case = Case {
-        texts: [b"1\n2\n", b"x\ny\n"],
+        text: b"1\nx\n2\ny\n",
         size: 2,
         room: 0,
     };
     let (told, pulls) = run(rt.alloc(), rt.alloc(), &case)?;
     same(&rt, &told, &Err(FlowFault::Write));
-    same(&rt, &pulls, &[1, 1]);
+    same(&rt, &pulls, &2);
     Ok(())
 }
 
-// Two lines of 9000 bytes in pulls of 8192: a third pull is made for the second line alone.
+// A row of two lines of 9000 bytes in pulls of 8192: a fourth pull finds the end.
 #[test]
 fn nothing_is_read_behind_a_failed_row(rt: HostRuntime) -> Result<(), Fail> {
     let mut long = vec![in rt.alloc(); b'a'; 18002]?;
     long[9000] = b'\n';
     long[18001] = b'\n';
     let mut case = Case {
-        texts: [&long, b"c\n"],
+        text: &long,
         size: usize::MAX,
         room: usize::MAX,
     };
     let (told, pulls) = run(rt.alloc(), rt.alloc(), &case)?;
     same(&rt, &told, &Ok(()));
-    same(&rt, &pulls, &[4, 2]);
+    same(&rt, &pulls, &4);
     case.room = 0;
     let (told, pulls) = run(rt.alloc(), rt.alloc(), &case)?;
     same(&rt, &told, &Err(FlowFault::Write));
-    same(&rt, &pulls, &[2, 1]);
+    same(&rt, &pulls, &3);
     Ok(())
 }
 
@@ -111,7 +102,7 @@ fn nothing_is_read_behind_a_failed_row(rt: HostRuntime) -> Result<(), Fail> {
 #[test]
 fn nothing_is_read_where_a_slot_is_refused(rt: HostRuntime) -> Result<(), Fail> {
     let case = Case {
-        texts: [b"1\n2\n", b"x\ny\n"],
+        text: b"1\nx\n2\ny\n",
         size: 2,
         room: usize::MAX,
     };
@@ -119,7 +110,7 @@ fn nothing_is_read_where_a_slot_is_refused(rt: HostRuntime) -> Result<(), Fail> 
         let alloc = Refusing::after(rt.alloc(), passing);
         let (told, pulls) = run(rt.alloc(), &alloc, &case)?;
         same(&rt, &told, &Err(FlowFault::Memory));
-        same(&rt, &pulls, &[0, 0]);
+        same(&rt, &pulls, &0);
     }
     Ok(())
 }
