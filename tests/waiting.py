@@ -83,8 +83,8 @@ CASES = {
     ],
     "join": [
         lines("join @ file", ("0 x\n", ""), ("1 y\n", ""), ("2 z\n", "1 y\n"), ("23 u\n", ""), last="23 u\n"),
-        lines("join -a 1 @ &", ("a 1\n", ""), ("b 2\n", "", 1), ("b 3\n", "a 1\n"), ("c 4\n", ""), ("d 5\n", "b 3 2\n", 1),
-              ("d 6\n", "c 4\n"), last="d 6 5\n"),
+        lines("join -a 1 @ &", ("a 1\n", ""), ("b 2\n", "", 1), ("b 3\n", "a 1\n"), ("c 4\n", ""),
+              ("d 5\n", "b 3 2\n", 1), ("d 6\n", "c 4\n"), last="d 6 5\n"),
         lines("join -z @ &", ("a\0", ""), ("a\0", "", 1), ("b\0", ""), ("b\0", "a\0", 1), last="b\0"),
         # What stands in front of a pair comes out with it, before the line behind the pair is waited for.
         lines("join -a 1 @ &", ("b 2\nc 1\n", "", 1), ("a 1\nb 3\n", "a 1\nb 3 2\n")),
