@@ -112,6 +112,10 @@ same "closed streams beside an output file" 0
 status=$?
 want '' ''
 same "closed messages do not go to an output file" 1
+"$program" uniq - out <&- >&- 2>&-
+status=$?
+want '' ''
+same "nor do they where all three streams are closed" 1
 "$program" uniq named out 2>messages >&-
 status=$?
 want 'ef\n' ''

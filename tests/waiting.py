@@ -3,8 +3,8 @@
 
   python3 tests/waiting.py PROGRAM
 
-The input comes over a pipe, over a FIFO that is named as an operand, and from a pseudo-terminal. GNU's tools fail this over
-pipes: they keep what they write until 4,096 bytes are together.
+The input comes over a pipe, over a FIFO that is named as an operand, and from a pseudo-terminal. GNU's tools fail this
+over pipes: they keep what they write until 4,096 bytes are together.
 """
 import errno
 import fcntl
@@ -22,6 +22,12 @@ import tty
 # How long anything may take, in seconds; another program may use the processor meanwhile.
 MOST = 20
 FILE = "file"
+
+# Lines of 8,191 bytes in all, which is one less than a block; the numbers are in order, and each is there once.
+MANY = "ab\n" * 2730 + "\n"
+NUMBERS = "".join(f"{n:05}\n" for n in range(1364)) + "013640\n"
+# A block and a part of one.
+MORE = "cd\n" * 5000
 
 
 def lines(words, *steps, last=""):
@@ -71,13 +77,28 @@ CASES = {
     # Decided are the entries whose key is below the last key of each input that may go on.
     "comm": [
         lines("comm @ file", ("0\n", ""), ("1\n", "0\n"), ("22\n", "\t\t1\n"), ("24\n", "22\n"), last="\t23\n24\n"),
-        lines("comm -3 @ &", ("a\n", ""), ("b\n", "", 1), ("b\n", "a\n"), ("c\n", ""), ("d\n", "", 1), ("e\n", "c\n"), last="\td\ne\n"),
+        lines("comm -3 @ &", ("a\n", ""), ("b\n", "", 1), ("b\n", "a\n"), ("c\n", ""), ("d\n", "", 1), ("e\n", "c\n"),
+              last="\td\ne\n"),
         lines("comm -z @ &", ("a\0", ""), ("b\0", "", 1), ("b\0", "a\0"), last="\t\tb\0"),
     ],
     "join": [
         lines("join @ file", ("0 x\n", ""), ("1 y\n", ""), ("2 z\n", "1 y\n"), ("23 u\n", ""), last="23 u\n"),
-        lines("join -a 1 @ &", ("a 1\n", ""), ("b 2\n", "", 1), ("b 3\n", "a 1\n"), ("c 4\n", ""), ("d 5\n", "b 3 2\n", 1), ("d 6\n", "c 4\n"), last="d 6 5\n"),
+        lines("join -a 1 @ &", ("a 1\n", ""), ("b 2\n", "", 1), ("b 3\n", "a 1\n"), ("c 4\n", ""),
+              ("d 5\n", "b 3 2\n", 1), ("d 6\n", "c 4\n"), last="d 6 5\n"),
         lines("join -z @ &", ("a\0", ""), ("a\0", "", 1), ("b\0", ""), ("b\0", "a\0", 1), last="b\0"),
+        # What stands in front of a pair comes out with it, before the line behind the pair is waited for.
+        lines("join -a 1 @ &", ("b 2\nc 1\n", "", 1), ("a 1\nb 3\n", "a 1\nb 3 2\n")),
+    ],
+    "much at once": [
+        lines("cut -b 1-2 @", (MANY, MANY), (MORE, MORE), ("e\n", "e\n")),
+        lines("cut -f 1 @", (MANY, MANY), (MORE, MORE), ("e\n", "e\n")),
+        lines("tr a x", (MANY, MANY.replace("a", "x")), (MORE, MORE), ("e", "e")),
+        lines("uniq @", (NUMBERS, NUMBERS[:-7]), (MORE, "013640\n"), ("e\n", "cd\n"), last="e\n"),
+        lines("paste -s @", (MANY, MANY[:-1].replace("\n", "\t")), (MORE, "\t" + MORE[:-1].replace("\n", "\t")),
+              last="\n"),
+        lines("paste @", (MANY, MANY), (MORE, MORE), ("e\n", "e\n")),
+        lines("comm @ file", (NUMBERS, NUMBERS), ("2\n", "\t1\n"), last="2\n\t23\n"),
+        lines("join -a 1 @ file", (NUMBERS, NUMBERS), ("2\n", ""), last="2\n"),
     ],
 }
 WAYS = ["pipe", "FIFO", "terminal"]
@@ -85,6 +106,11 @@ WAYS = ["pipe", "FIFO", "terminal"]
 
 class Late(Exception):
     """Something did not come in time."""
+
+
+def shown(text):
+    """A text for a message; of a long one the end, which is where texts differ here."""
+    return repr(text) if len(text) <= 60 else f"{len(text)} that end with {text[-40:]!r}"
 
 
 def fifo_to_write(path):
@@ -167,7 +193,7 @@ class Run:
         while count is None or len(self.came) < count:
             ready, _, _ = select.select([self.out], [], [], max(until - time.monotonic(), 0))
             if not ready:
-                raise Late(f"only {self.came!r} came")
+                raise Late(f"only {shown(self.came)} came")
             try:
                 piece = os.read(self.out, 65536)
             except OSError:
@@ -176,7 +202,7 @@ class Run:
             if not piece:
                 if count is None:
                     return
-                raise Late(f"it ended with {self.came!r}")
+                raise Late(f"it ended with {shown(self.came)}")
             self.came += piece
 
     def close(self):
@@ -198,7 +224,7 @@ def what_failed(program, case, way):
         try:
             run.open()
             for number, (text, out, which) in enumerate(steps):
-                at = f"step {number + 1}, {text!r}"
+                at = f"step {number + 1}, {shown(text)}"
                 if text:
                     run.give(which, text)
                 wanted += out.encode()
@@ -208,11 +234,11 @@ def what_failed(program, case, way):
             run.end()
             run.wait_for(None)
             if run.came != wanted:
-                return f"{run.came!r} came, and not {wanted!r}"
+                return f"{shown(run.came)} came, and not {shown(wanted)}"
             if run.child.wait(MOST):
                 return f"the status is {run.child.returncode}"
         except (Late, BrokenPipeError) as why:
-            return f"at {at}: {why}, and {wanted!r} was wanted"
+            return f"at {at}: {why}, and {shown(wanted)} was wanted"
         finally:
             run.close()
     return ""
@@ -226,6 +252,9 @@ def main(program):
             for way in WAYS:
                 # `tr` has no operands; and who opens a FIFO twice can't tell which of the two a line goes to.
                 if way == "FIFO" and case[0].split().count("@") != 1:
+                    continue
+                # A terminal has no room for so much.
+                if way == "terminal" and any(len(text) > 1000 for text, _, _ in case[1]):
                     continue
                 tried += 1
                 why = what_failed(program, case, way)

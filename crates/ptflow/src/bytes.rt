@@ -96,8 +96,8 @@ fn copy_line(
     at + 1
 }
 
-// Where a line of a block starts, how many bytes of it came earlier, and where what was written of the lines in front of
-// it ends.
+// Where a line of a block starts, how many bytes of it came in earlier blocks, and where the output of the lines in
+// front of it ends.
 #[derive(Clone, Copy)]
 struct Step {
     start: usize,

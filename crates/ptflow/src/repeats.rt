@@ -133,8 +133,8 @@ fn take_block<A: Allocator + Copy, W: Sink>(
 
 // Writes what is written of each run of lines. In each turn a line goes through the second slot, since it may come in
 // pieces; the lines behind it whose end is in the reader's block are worked where they lie, and of them only the first
-// of the last run is copied. Nothing of a run is pushed before the next key or the end is known. Before a read that may have
-// to wait, what is staged is sent.
+// of the last run is copied. Nothing of a run is pushed before the next key or the end is known. Before a line is read
+// that may have to be waited for, what is staged is sent.
 fn over_runs<A: Allocator + Copy, S: Source, R: Source, W: Sink>(
     job: &UniqJob,
     reader: &mut LineReader<S, R>,

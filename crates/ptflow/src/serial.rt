@@ -223,8 +223,8 @@ fn always_of<A: Allocator>(delims: &Delims<A>) -> Option<u8>
     None
 }
 
-/// The delimiters, the one that stands behind every cell if the list has no other, the byte that ends a line, the cell in
-/// which the next byte comes, and a place for what is written of a block.
+/// The delimiters, the one that stands behind every cell if the list has no other, the byte that ends a line, the cell
+/// in which the next byte comes, and a place for what is written of a block.
 #[derive(Drop)]
 struct SerialPaste<'a, A: Allocator> {
     delims: &'a Delims<A>,

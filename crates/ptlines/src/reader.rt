@@ -369,10 +369,12 @@ impl<S: Source, R: Source> LineReader<S, R> {
         find_near(self.ending(), self.held()).is_some()
     }
 
-    /// Sends what is staged, if the next line may have to be waited for: the block holds no whole line, the source has not
-    /// said its end, and its last read came short of the block, or there was none yet. So a terminal or a pipe is not
-    /// asked for more while output waits; where reads fill the block nothing changes. That what is staged is sent is
-    /// tested, and no clause: how much the last read brought is no part of what a reader is.
+    /// Sends what is staged, if the next line may have to be waited for: the block holds no whole line, the source has
+    /// not said its end, and its last read came short of the block, or there was none yet. So a terminal or a pipe is
+    /// not asked for a line while output waits; where reads fill the block, no more is sent than without this call. Two
+    /// waits are left: a read that filled the block may be the last one for long, and [`fill`](LineReader::fill) reads
+    /// on until its line is whole. That what is staged is sent is tested, and no clause: how much the last read brought
+    /// is no part of what a reader is.
     #[inline(always)]
     pub fn send_before_wait<W: Sink>(&self, out: &mut Out<W>) -> Result<(), WriteFault>
         requires { out.old.faulted ≡ false }

@@ -1,5 +1,5 @@
--- A tool that goes over its operands in turn does not run ahead of its output, however it ends. Operands are told by what came of
--- them, in order; one that could not be opened is none.
+-- A tool that goes over its operands in turn does not run ahead of its output, however it ends. Operands are told by
+-- what came of them, in order; one that could not be opened is none.
 use Rattle.std.specs.Prelude.{◌≡◌, ◌≤◌, ℕ, ◌+◌, Bool, false, List, [], ◌∷◌, ◌++◌, length, take}
 use Rattle.ptlines.specs.Inputs.{Given, Begins, nothing_left}
 use Rattle.ptlines.specs.KeepingUp.{Before, SendsOn}

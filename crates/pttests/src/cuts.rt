@@ -223,8 +223,8 @@ fn a_read_that_fails_amid_a_line(rt: HostRuntime) -> Result<(), Fail> {
     expect(&rt, rt.alloc(), &case, &expected)
 }
 
-// How many bytes a call takes, how many in all, how many calls pass, and what is written. The last newline comes behind the
-// end, and all else is sent before that is asked for. The last call is a flush.
+// How many bytes a call takes, how many in all, how many calls pass, and what is written. The last newline comes once
+// the end is known, and all else is sent before the end is asked for. The last call is a flush.
 const UNWRITTEN: &[(usize, usize, u64, &str)] = &[
     (3, usize::MAX, 0, ""),
     (3, usize::MAX, 1, "bd\n"),

@@ -33,7 +33,8 @@ Puts end delims number bytes now rest written =
     (more : List ℕ) → 0 < length more
     → row_rest end delims number false (lines end (bytes ++ more)) ≡ written ++ row_rest end delims now false (lines end (rest ++ more))
 
--- This was written of a block that comes in the cell of this number, and what comes behind it comes in the cell `after`.
+-- This was written of a block that comes in the cell of this number, and what comes behind it comes in the cell
+-- `after`.
 abbrev pub PutsBlock : ℕ → List (Option ℕ) → ℕ → List ℕ → Cell → List ℕ → Type 0
 PutsBlock end delims number block after written =
     (more : List ℕ) → row_rest end delims number false (lines end (block ++ more)) ≡ written ++ serial_rest end delims after more
