@@ -1,20 +1,7 @@
 -- What only private functions and proofs speak of.
-pub mod Blocks
-pub mod Continuations
-pub mod CutRests
-pub mod FieldPlaces
-pub mod TrRests
-pub mod Lanes
-pub mod Mappings
-pub mod Rowings
-pub mod OpenRuns
-pub mod UniqWords
-pub mod BlockRuns
-pub mod OpenLines
-pub mod SerialRests
-pub mod TakenLines
-pub mod RowTurns
-pub mod ByteSets
-pub mod Packings
-pub mod Picks
-pub mod Nths
+pub mod Bytes
+pub mod Cut
+pub mod Passes
+pub mod Paste
+pub mod Tr
+pub mod Uniq

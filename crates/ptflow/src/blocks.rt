@@ -2,8 +2,8 @@
 
 ghost use Rattle.std.specs.Prelude.{◌≡◌, ◌<◌, ◌≤◌, ◌+◌, ◌^◌, ℕ, List, [], length, false, true, None, OnOk, OnErr};
 ghost use Rattle.ptlines.specs.Outputs.{Wrote};
-ghost use Rattle.ptflow.specs.Workings.Blocks.{GoesOver};
-ghost use Rattle.ptflow.specs.Workings.Continuations.{Continues, Halts};
+ghost use Rattle.ptflow.specs.Workings.Passes.Blocks.{GoesOver};
+ghost use Rattle.ptflow.specs.Workings.Passes.Continuations.{Continues, Halts};
 
 use crate::faults::FlowFault;
 use ptlines::{LineReader, Out, Sink, Source, WriteFault};

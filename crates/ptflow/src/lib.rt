@@ -1,35 +1,23 @@
 //! The engines: what `cut`, `paste`, `tr` and `uniq` do with their inputs.
+//!
+//! - `tools` has a room for each tool: its engine, and what only this tool needs.
+//! - `kernels` works on bytes many at a time, and knows no reader.
+//! - `blocks` is the loop that tools over blocks share, `slots` what tools that keep lines ask of a store.
+//! - `parts` says which tools may be run on parts of their input.
 #![tactic(auto)]
 
 mod blocks;
-mod bytes;
-mod cutting;
 mod faults;
-mod fields;
-mod keeping;
-mod keys;
-mod lanes;
-mod mapping;
-mod packing;
+mod kernels;
 mod parts;
-mod pasting;
-mod picking;
-mod places;
-mod repeats;
-mod replacing;
-mod rows;
-mod runs;
-mod serial;
-mod sets;
 mod slots;
-mod squeezing;
-mod translating;
+mod tools;
 
-pub use cutting::cut;
 pub use faults::FlowFault;
-pub use lanes::translate;
+pub use kernels::lanes::translate;
 pub use parts::{parts_of_cut, parts_of_paste, parts_of_tr, parts_of_uniq, uniq_by_key};
-pub use pasting::paste;
-pub use repeats::uniq;
-pub use serial::paste_serial;
-pub use translating::tr;
+pub use tools::cut::cut;
+pub use tools::paste::paste;
+pub use tools::paste::serial::paste_serial;
+pub use tools::tr::tr;
+pub use tools::uniq::uniq;

@@ -5,9 +5,9 @@ use Rattle.ptlines.specs.Slots.{Slots, line, total, with_line, with_added}
 use Rattle.ptmerge.specs.declared.faults.MergeFault.{MergeFault}
 use Rattle.ptmerge.specs.declared.faults.MergeFault.TheVariants.{Memory}
 use Rattle.ptmerge.specs.declared.order.Side.TheVariants.{Second}
-use Rattle.ptmerge.specs.declared.sorted.Sorted.{Sorted}
-use Rattle.ptmerge.specs.declared.sorted.Stand.{Stand}
-use Rattle.ptmerge.specs.declared.sorted.Stand.TheVariants.{Head, Ended, Disorder}
+use Rattle.ptmerge.specs.declared.merging.sorted.Sorted.{Sorted}
+use Rattle.ptmerge.specs.declared.merging.sorted.Stand.{Stand}
+use Rattle.ptmerge.specs.declared.merging.sorted.Stand.TheVariants.{Head, Ended, Disorder}
 use Rattle.ptmerge.specs.Keyed.{Lines}
 use Rattle.ptmerge.specs.Orders.{Cmp, Key}
 use Rattle.ptmerge.specs.Places.{CannotRead, Comes}

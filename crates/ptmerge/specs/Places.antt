@@ -9,9 +9,9 @@ use Rattle.ptmerge.specs.declared.faults.MergeFault.TheVariants.{Read, Write, Me
 use Rattle.ptmerge.specs.declared.faults.MergeFault.TheVariants as faults
 use Rattle.ptmerge.specs.declared.order.Side.{Side}
 use Rattle.ptmerge.specs.declared.order.Side.TheVariants.{First, Second}
-use Rattle.ptmerge.specs.declared.sorted.Sorted.{Sorted}
-use Rattle.ptmerge.specs.declared.sorted.Stand.{Stand}
-use Rattle.ptmerge.specs.declared.sorted.Stand.TheVariants.{Head, Ended, Disorder}
+use Rattle.ptmerge.specs.declared.merging.sorted.Sorted.{Sorted}
+use Rattle.ptmerge.specs.declared.merging.sorted.Stand.{Stand}
+use Rattle.ptmerge.specs.declared.merging.sorted.Stand.TheVariants.{Head, Ended, Disorder}
 use Rattle.ptmerge.specs.Orders.{Cmp, Key}
 
 -- the first of the two slots of an input

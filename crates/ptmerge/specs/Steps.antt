@@ -9,9 +9,9 @@ use Rattle.ptmerge.specs.declared.merging.Step.{Step}
 use Rattle.ptmerge.specs.declared.merging.Step.TheVariants as steps
 use Rattle.ptmerge.specs.declared.order.Side.{Side}
 use Rattle.ptmerge.specs.declared.order.Side.TheVariants.{First, Second}
-use Rattle.ptmerge.specs.declared.sorted.Sorted.{Sorted}
-use Rattle.ptmerge.specs.declared.sorted.Stand.{Stand}
-use Rattle.ptmerge.specs.declared.sorted.Stand.TheVariants.{Head, Ended, Disorder}
+use Rattle.ptmerge.specs.declared.merging.sorted.Sorted.{Sorted}
+use Rattle.ptmerge.specs.declared.merging.sorted.Stand.{Stand}
+use Rattle.ptmerge.specs.declared.merging.sorted.Stand.TheVariants.{Head, Ended, Disorder}
 use Rattle.ptmerge.specs.Orders.{Cmp, Key}
 use Rattle.ptmerge.specs.Places.{HasSlots, Comes, CannotRead, fresh}
 use Rattle.ptmerge.specs.Sides.{both, other}

@@ -1,3 +1,5 @@
+//! Why a tool over two inputs stopped.
+
 use crate::order::Side;
 
 /// Why a tool over two inputs stopped. Nothing that was pushed before has to be taken back.

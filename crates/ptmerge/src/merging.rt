@@ -1,3 +1,7 @@
+//! A merge of two inputs: which line comes next, by the keys of both. `comm` and `join` stand on it.
+//!
+//! `sorted` is one of the inputs, which has to be in order; `slots` are those of the store that both need.
+
 ghost use Rattle.std.specs.Prelude.{◌≡◌, ◌&&◌, length, None, true, false, [], Result, OnOk, IfOk, IfErr, bytes_eq};
 ghost use Rattle.ptlines.specs.Outputs.{Wrote};
 ghost use Rattle.ptlines.specs.Readers.{IsSound};
@@ -9,10 +13,13 @@ ghost use Rattle.ptmerge.specs.Places.{Advances};
 ghost use Rattle.ptmerge.specs.Sides.{both, other};
 ghost use Rattle.ptmerge.specs.Steps.{inputs, IsPlaced, IsLent, IsNext, Starts, CannotStart};
 
+pub(crate) mod slots;
+pub(crate) mod sorted;
+
 use crate::faults::MergeFault;
+use crate::merging::slots::need_four;
+use crate::merging::sorted::{Sorted, Stand};
 use crate::order::{KeyOrder, Side, are_equal};
-use crate::slots::need_four;
-use crate::sorted::{Sorted, Stand};
 use ptlines::{LineReader, Out, Sink, Source, Store};
 use std::alloc::Allocator;
 
@@ -62,7 +69,7 @@ pub(crate) fn send_before_wait<S: Source, R: Source, W: Sink>(
 }
 
 impl<K: KeyOrder> Merge<K> {
-    ghost use Rattle.ptmerge.specs.declared.sorted.Stand.TheVariants as stands;
+    ghost use Rattle.ptmerge.specs.declared.merging.sorted.Stand.TheVariants as stands;
 
     /// Adds the slots that are missing of the first four, and reads the first line of each input. All other slots are as
     /// they were.

@@ -1,10 +1,12 @@
+//! The two sides of a merge, and how keys are compared.
+
 ghost use Rattle.std.specs.Prelude.{◌≡◌, ℕ, List, bytes_eq};
 ghost use Rattle.std.specs.Cmp.{IsTotalOrder};
 ghost use Rattle.std.specs.declared.cmp.Ordering.TheVariants.{Equal};
 ghost use Rattle.ptmerge.specs.Orders.{Cmp, Key};
 ghost use Rattle.ptmerge.specs.declared.order.Side.{Side as Of};
 
-use crate::fields::nth_field;
+use crate::tools::join::fields::nth_field;
 use ptlines::compare;
 use std::cmp::Ordering;
 

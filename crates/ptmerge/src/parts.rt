@@ -1,3 +1,5 @@
+//! What tools over two inputs write of inputs that are cut into parts, or dealt out by their keys.
+
 ghost use Rattle.ptmerge.specs.Parts.{PartsOfComm, PartsOfJoin, CommByKey, JoinByKey};
 
 /// What `comm` writes of two files is what it writes of a first part of each, and then of the rest of each, where

@@ -16,8 +16,8 @@ use Rattle.ptlangs.specs.Jobs.{Paste}
 use Rattle.ptflow.specs.PastePasses.{IsReadable, ReadAll, RowsFinished, RowsEnd, IsPastePass}
 use Rattle.ptflow.specs.PastePasses as pass
 use Rattle.ptflow.specs.Pastes.{times, every, columns, rows, known_rows, sheet, paste, paste_decided, paste_size}
-use Rattle.ptflow.proofs.Grids.{each_same, times_below}
-use Rattle.ptflow.proofs.PasteLemmas.{named_at, all_named}
+use Rattle.ptflow.proofs.OfPaste.Grids.{each_same, times_below}
+use Rattle.ptflow.proofs.OfPaste.PasteLemmas.{named_at, all_named}
 use Rattle.ptflow.specs.declared.faults.FlowFault.{FlowFault}
 use Rattle.ptflow.specs.declared.faults.FlowFault.TheVariants.{Read, Write, Memory}
 use Rattle.ptrun.specs.declared.engine.Done.{Done}

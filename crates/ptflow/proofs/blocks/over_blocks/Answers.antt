@@ -2,9 +2,9 @@ use Rattle.std.proofs.Common.{◌≡◌, ℕ, List, [], ◌++◌, length, refl, 
 use Rattle.std.proofs.lemmas.Bool.{eqb-true}
 use Rattle.std.proofs.lemmas.List.{nil_from_length}
 use Rattle.std.proofs.lemmas.Result.{err_from_is_err_and}
-use Rattle.ptflow.proofs.BlockLemmas.{midway_starts, midway_more, counted_block, counted_more, block_read, block_write, block_unsent, block_done, block_unended}
-use Rattle.ptflow.proofs.PassLemmas.{midway_sent}
-use Rattle.ptflow.proofs.ReaderFacts.{goes_nothing}
+use Rattle.ptflow.proofs.OfPasses.BlockLemmas.{midway_starts, midway_more, counted_block, counted_more, block_read, block_write, block_unsent, block_done, block_unended}
+use Rattle.ptflow.proofs.OfPasses.PassLemmas.{midway_sent}
+use Rattle.ptflow.proofs.OfPasses.ReaderFacts.{goes_nothing}
 use Rattle.ptflow.proofs.blocks.over_blocks.Goals as goal
 
 pub turns-init : goal.turns-init

@@ -1,6 +1,6 @@
 use Rattle.std.proofs.Common.{◌≡◌, ◌≤◌, ◌-◌, ℕ, List, ◌++◌, length}
 use Rattle.ptlines.specs.Readers.{budget}
-use Rattle.ptflow.proofs.PassLemmas.{Midway}
+use Rattle.ptflow.proofs.OfPasses.PassLemmas.{Midway}
 use Rattle.ptflow.proofs.blocks.over_blocks.Given as goal
 
 abbrev pub invariant-turns : goal.invariant-turns

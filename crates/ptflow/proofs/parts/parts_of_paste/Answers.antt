@@ -1,4 +1,4 @@
-use Rattle.ptflow.proofs.PartsPaste.{paste_of_parts}
+use Rattle.ptflow.proofs.OfPaste.PartsPaste.{paste_of_parts}
 use Rattle.ptflow.proofs.parts.parts_of_paste.Goals as goal
 
 pub returns : goal.returns

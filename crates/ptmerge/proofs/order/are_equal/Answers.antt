@@ -1,6 +1,6 @@
 use Rattle.std.proofs.Common.{ap, ◌∙◌}
 use Rattle.std.specs.Ordering.{is_eq}
-use Rattle.ptmerge.proofs.Orders.{equal_is}
+use Rattle.ptmerge.proofs.OfMerges.Orders.{equal_is}
 use Rattle.ptmerge.proofs.order.are_equal.Goals as goal
 
 pub returns : goal.returns

@@ -1,0 +1,90 @@
+-- Bytes for which a test holds, put to the front.
+use Rattle.std.proofs.Common.{◌≡◌, ℕ, suc, ◌+◌, ◌<◌, ◌≤◌, ◌^◌, ◌%◌, Bool, true, false, not, cond, List, [], ◌∷◌, ◌++◌, length, take, set, get_or, length-set, take_all, zero, ℤ, map, refl, sym, ap, ◌∙◌, arith, add-zero, w8, Fits, pos, negsuc}
+use Rattle.std.specs.Prelude.{filter}
+use Rattle.std.specs.Int.{from_bool, cast_unsigned, bit_not}
+use Rattle.std.specs.Simd.Lanes.{mask_l, top, chunk}
+use Rattle.std.proofs.lemmas.Simd.{mask_l-mod}
+use Rattle.std.proofs.lemmas.List.{take_more_set, take-set, take_more, append-nil, length-map}
+use Rattle.std.proofs.lemmas.List.Elements.{filter-append}
+use Rattle.std.proofs.Math.Seq.{take-add}
+use Rattle.ptflow.specs.Workings.Bytes.ByteSets.{Keeps, mask_of}
+use Rattle.ptflow.specs.Workings.Bytes.Packings.{chosen_by}
+use Rattle.ptflow.proofs.OfBytes.ChosenLanes.{chosen_by_test}
+
+-- the lanes that are not in a mask
+not_tops : (test : ℕ → Bool) (v : List ℕ) → map (top 7) (map (bit_not w8) (map (cast_unsigned w8) (mask_of test v))) ≡ map (λ b. not (test b)) v
+not_tops test [] = refl
+not_tops test (b ∷ v) = λ i. lane (test b) i ∷ not_tops test v i
+  where
+    lane : (t : Bool) → top 7 (bit_not w8 (cast_unsigned w8 (cond t (negsuc 0) (pos 0)))) ≡ not t
+    lane true = refl
+    lane false = refl
+
+-- the bits of the bytes that are not in a set, of the mask of those that are
+pub keep_bits : (test : ℕ → Bool) (v : List ℕ) (lanes : List ℤ) → length v ≡ 16 → lanes ≡ mask_of test v
+    → mask_l (map (top 7) (map (bit_not w8) (map (cast_unsigned w8) lanes))) % 2 ^ 64 ≡ mask_l (map (λ b. not (test b)) v)
+keep_bits test v lanes long is =
+    ap (λ lanes. mask_l (map (top 7) (map (bit_not w8) (map (cast_unsigned w8) lanes))) % 2 ^ 64) is
+    ∙ ap (λ flags. mask_l flags % 2 ^ 64) (not_tops test v)
+    ∙ mask_l-mod (map (λ b. not (test b)) v) 64 (omega (arith, length-map v (λ b. not (test b)), long))
+
+module _ (test : ℕ → Bool) (from into : List ℕ) (at count : ℕ) (before : Keeps test from at into count) where
+  -- sixteen more
+  pub keeps_lanes : (after : List ℕ) (end : ℕ) → at + 16 ≤ length from → end ≤ count + 16 → length after ≡ length into
+      → take end after ≡ take count into ++ chosen_by (map test (chunk at 16 from)) (chunk at 16 from) → Keeps test from (at + 16) after end
+  keeps_lanes after end room few long put = record {
+    within = room;
+    few = omega (arith, before.few);
+    room = long ∙ before.room;
+    kept = put
+        ∙ (λ i. before.kept i ++ chosen_by_test test (chunk at 16 from) i)
+        ∙ sym (filter-append test (take at from) (chunk at 16 from))
+        ∙ ap (filter test) (sym (take-add at 16 from));
+  }
+
+  -- one more
+  pub keeps_byte : (after : List ℕ) (end : ℕ) → at < length from → at < 8224 → after ≡ set into count (get_or from at 0) → end ≡ count + from_bool (test (get_or from at 0)) → Keeps test from (at + 1) after end
+  keeps_byte after end room small is ended = record {
+    within = omega (arith, room);
+    few = omega (arith, ended, one_at_most (test b), before.few);
+    room = ap length is ∙ length-set into count b ∙ before.room;
+    kept = (λ i. take (ended i) (is i)) ∙ by_test (test b) refl;
+  }
+    where
+      b : ℕ
+      b = get_or from at 0
+
+      one_at_most : (t : Bool) → from_bool t ≤ 1
+      one_at_most true = omega arith
+      one_at_most false = omega arith
+
+      told : (t : Bool) → test b ≡ t → take (count + from_bool t) (set into count b) ≡ take count into ++ cond t (b ∷ []) []
+      told true is = take_more_set into count b (omega (arith, before.few, before.room, small))
+      told false is = ap (λ n. take n (set into count b)) (add-zero count) ∙ take-set into count b ∙ sym (append-nil (take count into))
+
+      by_test : (t : Bool) → test b ≡ t → take (count + from_bool t) (set into count b) ≡ filter test (take (at + 1) from)
+      by_test t is =
+          told t is
+          ∙ (λ i. before.kept i ++ cond (sym is i) (b ∷ []) [])
+          ∙ sym (filter-append test (take at from) (b ∷ []))
+          ∙ ap (filter test) (sym (take_more from at 0 room))
+
+-- ---- two tests that say the same of bytes
+
+kept_same : (p q : ℕ → Bool) → ((b : ℕ) → b < 256 → p b ≡ q b) → (n : ℕ) (xs : List ℕ) → ((i : ℕ) → Fits w8 (get_or xs i 0)) → filter p (take n xs) ≡ filter q (take n xs)
+kept_same p q same zero xs fit = refl
+kept_same p q same (suc n) [] fit = refl
+kept_same p q same (suc n) (x ∷ xs) fit = λ i. cond (same x (fit 0).fits i) (x ∷ kept_same p q same n xs (λ k. fit (suc k)) i) (kept_same p q same n xs (λ k. fit (suc k)) i)
+
+pub keeps_same : (p q : ℕ → Bool) (from into : List ℕ) (at count : ℕ) → ((b : ℕ) → b < 256 → p b ≡ q b) → ((i : ℕ) → Fits w8 (get_or from i 0))
+    → at ≤ length from → count ≤ at → length into ≡ 8224 → take count into ≡ filter p (take at from) → Keeps q from at into count
+keeps_same p q from into at count same fit within few room kept = record {
+  within = within;
+  few = few;
+  room = room;
+  kept = kept ∙ kept_same p q same at from fit;
+}
+
+-- all bytes
+pub keeps_all : (test : ℕ → Bool) (from into : List ℕ) (at count : ℕ) → Keeps test from at into count → length from ≤ at → (take count into ≡ filter test from) × (count ≤ length from)
+keeps_all test from into at count keeps all = (keeps.kept ∙ ap (filter test) (take_all at from all), omega (arith, keeps.few, keeps.within))

@@ -1,0 +1,9 @@
+-- `cut`.
+pub mod ByteRests
+pub mod CutRows
+pub mod FieldBlocks
+pub mod FieldLines
+pub mod FieldPlaces
+pub mod FieldWalks
+pub mod PartsCut
+pub mod PickLemmas

@@ -1,0 +1,168 @@
+-- What `cut` by bytes writes of the rest of a text, a piece at a time. A piece of a line adds to the places counted, and
+-- an end of a line sets them back; from no place on this is what it is to write of whole lines.
+use Rattle.std.proofs.Common.{◌≡◌, ℕ, suc, ◌+◌, ◌-◌, ◌≤◌, ◌*◌, ◌^◌, ◌==◌, Bool, true, false, cond, List, [], ◌∷◌, ◌++◌, map, length, take, drop, Some, refl, sym, ◌∙◌, ap, arith, append_assoc}
+use Rattle.std.specs.List.{onto_first, flat_map}
+use Rattle.std.specs.Simd.Lanes.{mask_l, chunk}
+use Rattle.std.proofs.lemmas.Simd.{length-chunk, chunk-drop}
+use Rattle.std.proofs.Math.Nat.{pow-succ'}
+use Rattle.std.proofs.lemmas.Bool.{eqb-true}
+use Rattle.std.proofs.lemmas.Bool.Decides.{nat_tests}
+use Rattle.std.proofs.lemmas.List.{append-nil, take_all, drop_all, append_cancel_right, map-append}
+use Rattle.memchr.specs.Find.{IsFirstByte, is_byte}
+use Rattle.ptlines.specs.Text.{text, lines, IsLine, ended_lines}
+use Rattle.ptlines.proofs.TextLaws.{lines_first, other_byte, lines_of_text, text-append}
+use Rattle.ptlines.proofs.Scanned.{before_end}
+use Rattle.ptflow.proofs.OfPasses.LineLaws.{split_of, line_of, end_of, Parts, parts_of}
+use Rattle.ptflow.specs.Cuts.{chosen_from, cut_line, cut, cut_decided}
+use Rattle.ptflow.specs.Workings.Cut.CutRests.{rest_of_lines, cut_rest, rest_by, IsCutTo}
+use Rattle.ptlines.specs.Inputs.{Begins}
+use Rattle.ptlines.specs.Outputs.{Output, Wrote}
+use Rattle.ptflow.specs.Workings.Passes.Continuations.{Halts}
+use Rattle.ptlangs.specs.Jobs.{Cut}
+use Rattle.ptlangs.specs.declared.ranges.Interval.{Interval}
+
+module _ (end : ℕ) (selected : ℕ → Bool) where
+  -- what is written of lines
+  abbrev pub cut_text : List (List ℕ) → List ℕ
+  cut_text ls = text end (map (chosen_from selected 1) ls)
+
+  -- with nothing in front, the rest is a text of its own
+  pub rest_of_all : (ls : List (List ℕ)) → rest_of_lines end selected 0 ls ≡ cut_text ls
+  rest_of_all [] = refl
+  rest_of_all (line ∷ ls) = sym (append_assoc (chosen_from selected 1 line) (end ∷ []) (cut_text ls))
+
+  pub rest_line : (before : ℕ) (line rest : List ℕ) → IsLine end line → cut_rest end selected before (line ++ end ∷ rest) ≡ (chosen_from selected (before + 1) line ++ end ∷ []) ++ cut_rest end selected 0 rest
+  rest_line before line rest whole =
+      ap (rest_of_lines end selected before) (lines_first end line rest whole) ∙ sym (append_assoc (chosen_from selected (before + 1) line) (end ∷ []) (cut_text (lines end rest)))
+      ∙ ap (λ (l : List ℕ). (chosen_from selected (before + 1) line ++ end ∷ []) ++ l) (sym (rest_of_all (lines end rest)))
+
+  -- one byte of a line
+  rest_onto : (before b : ℕ) (ls : List (List ℕ)) → rest_of_lines end selected before (onto_first b ls) ≡ chosen_from selected (before + 1) (b ∷ []) ++ rest_of_lines end selected (before + 1) ls
+  rest_onto before b [] = let some : (before + 1 == 0) ≡ false = grind (arith, nat_tests) in rw some refl
+  rest_onto before b (line ∷ ls) = by_test (selected (before + 1))
+    where
+      by_test : (t : Bool) → cond t (b ∷ chosen_from selected (before + 1 + 1) line) (chosen_from selected (before + 1 + 1) line) ++ end ∷ cut_text ls
+          ≡ cond t (b ∷ []) [] ++ (chosen_from selected (before + 1 + 1) line ++ end ∷ cut_text ls)
+      by_test true = refl
+      by_test false = refl
+
+  chosen_onto : (n b : ℕ) (xs : List ℕ) → chosen_from selected n (b ∷ []) ++ chosen_from selected (n + 1) xs ≡ chosen_from selected n (b ∷ xs)
+  chosen_onto n b xs = by_test (selected n)
+    where
+      by_test : (t : Bool) → cond t (b ∷ []) [] ++ chosen_from selected (n + 1) xs ≡ cond t (b ∷ chosen_from selected (n + 1) xs) (chosen_from selected (n + 1) xs)
+      by_test true = refl
+      by_test false = refl
+
+  -- a piece of a line
+  pub rest_piece : (before : ℕ) (piece rest : List ℕ) → IsLine end piece → cut_rest end selected before (piece ++ rest) ≡ chosen_from selected (before + 1) piece ++ cut_rest end selected (before + length piece) rest
+  rest_piece before [] rest whole = let same : before + 0 ≡ before = omega arith in ap (λ (n : ℕ). cut_rest end selected n rest) (sym same)
+  rest_piece before (b ∷ piece) rest whole =
+      let same : before + 1 + length piece ≡ before + length (b ∷ piece) = omega arith in
+      let first : cut_rest end selected before ((b ∷ piece) ++ rest) ≡ chosen_from selected (before + 1) (b ∷ []) ++ cut_rest end selected (before + 1) (piece ++ rest) =
+      ap (λ (t : Bool). rest_of_lines end selected before (cond t ([] ∷ lines end (piece ++ rest)) (onto_first b (lines end (piece ++ rest))))) (other_byte end b whole.0) ∙ rest_onto before b (lines end (piece ++ rest)) in
+      first ∙ ap (λ (l : List ℕ). chosen_from selected (before + 1) (b ∷ []) ++ l) (rest_piece (before + 1) piece rest whole.1)
+      ∙ sym (append_assoc (chosen_from selected (before + 1) (b ∷ [])) (chosen_from selected (before + 1 + 1) piece) (cut_rest end selected (before + 1 + length piece) rest))
+      ∙ ap (λ (l : List ℕ). l ++ cut_rest end selected (before + 1 + length piece) rest) (chosen_onto (before + 1) b piece)
+      ∙ ap (λ (n : ℕ). chosen_from selected (before + 1) (b ∷ piece) ++ cut_rest end selected n rest) same
+
+-- the selected bytes of the line in front, and its end
+module _ (end : ℕ) (bytes : List ℕ) (at : ℕ) (first : IsFirstByte (is_byte end) bytes (Some at)) where
+  pub line_on : (selected : ℕ → Bool) (before : ℕ) (more : List ℕ)
+      → cut_rest end selected before (bytes ++ more) ≡ (chosen_from selected (before + 1) (take at (take (at + 1) bytes)) ++ drop at (take (at + 1) bytes)) ++ cut_rest end selected 0 (drop (at + 1) bytes ++ more)
+  line_on selected before more =
+      ap (cut_rest end selected before) (ap (λ (l : List ℕ). l ++ more) (split_of end bytes at first) ∙ append_assoc (take at bytes) (end ∷ drop (at + 1) bytes) more)
+      ∙ rest_line end selected before (take at bytes) (drop (at + 1) bytes ++ more) (before_end end bytes at first)
+      ∙ (λ i. (chosen_from selected (before + 1) (sym (line_of end bytes at first) i) ++ sym (end_of end bytes at first) i) ++ cut_rest end selected 0 (drop (at + 1) bytes ++ more))
+
+-- lines that are empty
+pub empty_lines : (end : ℕ) (selected : ℕ → Bool) (ends more : List ℕ) → mask_l (map (is_byte end) ends) + 1 ≡ 2 ^ length ends → cut_rest end selected 0 (ends ++ more) ≡ ends ++ cut_rest end selected 0 more
+empty_lines end selected [] more all = refl
+empty_lines end selected (b ∷ ends) more all = by_test (is_byte end b) refl all (empty_lines end selected ends more)
+  where
+    by_test : (t : Bool) → is_byte end b ≡ t → cond t 1 0 + 2 * mask_l (map (is_byte end) ends) + 1 ≡ 2 ^ suc (length ends)
+        → (mask_l (map (is_byte end) ends) + 1 ≡ 2 ^ length ends → cut_rest end selected 0 (ends ++ more) ≡ ends ++ cut_rest end selected 0 more)
+        → cut_rest end selected 0 (b ∷ ends ++ more) ≡ b ∷ ends ++ cut_rest end selected 0 more
+    by_test true is every next =
+        ap (λ (x : ℕ). cut_rest end selected 0 (x ∷ ends ++ more)) (eqb-true b end is)
+        ∙ rest_line end selected 0 [] (ends ++ more) tt
+        ∙ ap (λ (l : List ℕ). end ∷ l) (next (omega (arith, every, pow-succ' 2 (length ends))))
+        ∙ ap (λ (x : ℕ). x ∷ ends ++ cut_rest end selected 0 more) (sym (eqb-true b end is))
+    by_test false is every next = absurd (omega (arith, every, pow-succ' 2 (length ends)))
+
+-- 64 of them that stand at a place of a block, where no byte of a line came earlier
+pub ends_on : (end : ℕ) (selected : ℕ → Bool) (block : List ℕ) (from start now marked : ℕ) → from + 64 ≤ length block → start ≡ from → now ≡ 0 → marked ≡ mask_l (map (is_byte end) (chunk from 64 block)) → marked ≡ 2 ^ 64 - 1
+    → (more : List ℕ) → cut_rest end selected now (drop start block ++ more) ≡ chunk start 64 block ++ cut_rest end selected now (drop (start + 64) block ++ more)
+ends_on end selected block from start now marked room here none is all more =
+    let ends = chunk start 64 block in
+    let left = drop (start + 64) block ++ more in
+    let long : length ends ≡ 64 = length-chunk start 64 block (omega (arith, room, here)) in
+    let every : mask_l (map (is_byte end) ends) + 1 ≡ 2 ^ length ends = omega (arith, ap (λ (k : ℕ). mask_l (map (is_byte end) (chunk k 64 block))) here, is, all, ap (λ (k : ℕ). 2 ^ k) long) in
+    ap (λ (k : ℕ). cut_rest end selected k (drop start block ++ more)) none
+    ∙ ap (cut_rest end selected 0) (ap (λ (l : List ℕ). l ++ more) (chunk-drop start 64 block) ∙ append_assoc ends (drop (start + 64) block) more)
+    ∙ empty_lines end selected ends left every
+    ∙ ap (λ (k : ℕ). ends ++ cut_rest end selected k left) (sym none)
+
+-- the selected bytes of a piece of a line
+pub piece_on : (end : ℕ) (selected : ℕ → Bool) (before : ℕ) (bytes : List ℕ) → IsLine end bytes → (more : List ℕ)
+    → cut_rest end selected before (bytes ++ more) ≡ (chosen_from selected (before + 1) (take (length bytes) bytes) ++ drop (length bytes) bytes) ++ cut_rest end selected (before + length bytes) more
+piece_on end selected before bytes whole more =
+    let all : take (length bytes) bytes ≡ bytes = take_all (length bytes) bytes (omega arith) in
+    let none : drop (length bytes) bytes ≡ [] = drop_all (length bytes) bytes (omega arith) in
+    rest_piece end selected before bytes more whole ∙ ap (λ (l : List ℕ). l ++ cut_rest end selected (before + length bytes) more)
+    (sym (append-nil (chosen_from selected (before + 1) bytes)) ∙ (λ i. chosen_from selected (before + 1) (sym all i) ++ sym none i))
+
+-- one step more of what is written of a block
+module _ (end : ℕ) (list : List Interval) (start : ℕ) (block : List ℕ) where
+  pub cut_on : (now next : ℕ) (rest rest' was is bytes : List ℕ) → IsCutTo end list start block now rest was → is ≡ was ++ bytes
+      → ((more : List ℕ) → rest_by end list now (rest ++ more) ≡ bytes ++ rest_by end list next (rest' ++ more)) → IsCutTo end list start block next rest' is
+  cut_on now next rest rest' was is bytes cut copied on more =
+      cut more ∙ ap (λ (l : List ℕ). was ++ l) (on more) ∙ sym (append_assoc was bytes (rest_by end list next (rest' ++ more)))
+      ∙ ap (λ (l : List ℕ). l ++ rest_by end list next (rest' ++ more)) (sym copied)
+
+  -- a write of it failed
+  pub cut_halts : (now : ℕ) (written : List ℕ) (was is : Output) → IsCutTo end list start block now [] written → Wrote was is written → Halts (rest_by end list) start block was is
+  cut_halts now written was is cut wrote = record { pushed = written; wrote = wrote; true_so_far = λ more. record { rest = rest_by end list now more; is = cut more } }
+
+module _ (job : Cut) (by_bytes : job.fields ≡ false) where
+  abbrev end : ℕ
+  end = job.end
+
+  -- each line gives one
+  pub made_is : (ls : List (List ℕ)) → text end (flat_map (cut_line job) ls) ≡ cut_text end job.selected ls
+  made_is ls = ap (text end) (one_each ls)
+    where
+      one_each : (xs : List (List ℕ)) → flat_map (cut_line job) xs ≡ map (chosen_from job.selected 1) xs
+      one_each [] = refl
+      one_each (x ∷ xs) = rw by_bytes (ap (λ (l : List (List ℕ)). chosen_from job.selected 1 x ∷ l) (one_each xs))
+
+  pub rest_is_cut : (bytes : List ℕ) → cut_rest end job.selected 0 bytes ≡ cut job bytes
+  rest_is_cut bytes = rest_of_all end job.selected (lines end bytes) ∙ sym (made_is (lines end bytes))
+
+  -- what was pushed of these bytes has what is written of their whole lines in front
+  pub rest_is_decided : (given pushed : List ℕ) (now : ℕ) → ((rest : List ℕ) → cut_rest end job.selected 0 (given ++ rest) ≡ pushed ++ cut_rest end job.selected now rest)
+      → Begins (cut_decided job (record { bytes = given; ended = false })) pushed
+  rest_is_decided given pushed now on = record {
+    rest = chosen_from job.selected 1 p.piece;
+    is = append_cancel_right pushed (text end (flat_map (cut_line job) ls) ++ chosen_from job.selected 1 p.piece) (end ∷ []) (sym pushed_side ∙ whole_side);
+  }
+    where
+      p : Parts end given
+      p = parts_of end given
+
+      ls : List (List ℕ)
+      ls = ended_lines end given
+
+      -- with one end more, the piece is a line too
+      pushed_side : cut_rest end job.selected 0 (given ++ end ∷ []) ≡ pushed ++ end ∷ []
+      pushed_side = on (end ∷ []) ∙ ap (λ (l : List ℕ). pushed ++ l) (rest_line end job.selected now [] [] tt)
+
+      all_lines : lines end (given ++ end ∷ []) ≡ ls ++ p.piece ∷ []
+      all_lines =
+          ap (λ (l : List ℕ). lines end (l ++ end ∷ [])) p.is ∙ ap (lines end) (append_assoc (text end ls) p.piece (end ∷ [])) ∙ lines_of_text end ls (p.piece ++ end ∷ []) p.whole
+          ∙ ap (λ (l : List (List ℕ)). ls ++ l) (lines_first end p.piece [] p.line)
+
+      whole_side : cut_rest end job.selected 0 (given ++ end ∷ []) ≡ (text end (flat_map (cut_line job) ls) ++ chosen_from job.selected 1 p.piece) ++ end ∷ []
+      whole_side =
+          rest_of_all end job.selected (lines end (given ++ end ∷ [])) ∙ ap (cut_text end job.selected) all_lines ∙ ap (text end) (map-append (chosen_from job.selected 1) ls (p.piece ∷ []))
+          ∙ text-append end (map (chosen_from job.selected 1) ls) (chosen_from job.selected 1 p.piece ∷ []) ∙ (λ i. sym (made_is ls) i ++ append-nil (chosen_from job.selected 1 p.piece ++ end ∷ []) i)
+          ∙ sym (append_assoc (text end (flat_map (cut_line job) ls)) (chosen_from job.selected 1 p.piece) (end ∷ []))

@@ -1,0 +1,180 @@
+-- The places that are selected of a short line, place by place, and the bytes that a row of them puts in front.
+use Rattle.std.proofs.Common.{◌≡◌, ◌⊎◌, inl, inr, ℕ, zero, suc, ◌+◌, ◌-◌, ◌<◌, ◌≤◌, Bool, true, false, cond, List, [], ◌∷◌, ◌++◌, map, length, take, drop, set, get_or, get_or-set_same, get_or-set_other, length-set, length-append, append_assoc, refl, sym, ◌∙◌, ap, arith, w8}
+use Rattle.std.specs.Prelude.{All}
+use Rattle.std.proofs.lemmas.Bool.{cases_order}
+use Rattle.std.specs.List.{range_with_len}
+use Rattle.std.specs.Simd.Lanes.{pick_l, Each1}
+use Rattle.std.proofs.lemmas.Simd.{Each1-from_get_or, swz_l, pick_l-range_with_len}
+use Rattle.std.proofs.lemmas.List.{take_more, take_at, drop_at, take-map, take-take, take-append-le, take_all, take_more_set, length-take-le}
+use Rattle.std.proofs.lemmas.List.Elements.{All-set}
+use Rattle.std.proofs.lemmas.List.FromFn.{length-range_with_len}
+use mir.Val.{bool_byte}
+use Rattle.ptflow.specs.Cuts.{chosen_from}
+use Rattle.ptlangs.specs.CutLists.{is_selected}
+use Rattle.ptlangs.specs.declared.ranges.Interval.{Interval}
+use Rattle.ptflow.specs.Workings.Cut.CutRests.{chosen_piece}
+use Rattle.ptflow.specs.Workings.Cut.Picks.{picked, IsPick}
+use Rattle.ptflow.specs.declared.tools.cut.picking.Pick.{Pick}
+use Rattle.ptflow.proofs.OfBytes.ChosenLanes.{shuffled, written_more}
+
+module _ (selected : ℕ → Bool) where
+  chosen_append : {X : Type 0} (n : ℕ) (xs ys : List X) → chosen_from selected n (xs ++ ys) ≡ chosen_from selected n xs ++ chosen_from selected (n + length xs) ys
+  chosen_append n [] ys = let same : n ≡ n + 0 = omega arith in ap (λ (k : ℕ). chosen_from selected k ys) same
+  chosen_append {X} n (x ∷ xs) ys = by_test (selected n) (chosen_append (n + 1) xs ys ∙ ap (λ (k : ℕ). chosen_from selected (n + 1) xs ++ chosen_from selected k ys) next)
+    where
+      next : n + 1 + length xs ≡ n + length (x ∷ xs)
+      next = omega arith
+
+      by_test : (t : Bool) → chosen_from selected (n + 1) (xs ++ ys) ≡ chosen_from selected (n + 1) xs ++ chosen_from selected (n + length (x ∷ xs)) ys
+          → cond t (x ∷ chosen_from selected (n + 1) (xs ++ ys)) (chosen_from selected (n + 1) (xs ++ ys)) ≡ cond t (x ∷ chosen_from selected (n + 1) xs) (chosen_from selected (n + 1) xs) ++ chosen_from selected (n + length (x ∷ xs)) ys
+      by_test true more = ap (λ (l : List X). x ∷ l) more
+      by_test false more = more
+
+  map_chosen : (f : ℕ → ℕ) (n : ℕ) (xs : List ℕ) → map f (chosen_from selected n xs) ≡ chosen_from selected n (map f xs)
+  map_chosen f n [] = refl
+  map_chosen f n (x ∷ xs) = by_test (selected n) (map_chosen f (n + 1) xs)
+    where
+      by_test : (t : Bool) → map f (chosen_from selected (n + 1) xs) ≡ chosen_from selected (n + 1) (map f xs)
+          → map f (cond t (x ∷ chosen_from selected (n + 1) xs) (chosen_from selected (n + 1) xs)) ≡ cond t (f x ∷ chosen_from selected (n + 1) (map f xs)) (chosen_from selected (n + 1) (map f xs))
+      by_test true more = ap (λ (l : List ℕ). f x ∷ l) more
+      by_test false more = more
+
+  few_chosen : {X : Type 0} (n : ℕ) (xs : List X) → length (chosen_from selected n xs) ≤ length xs
+  few_chosen n [] = omega arith
+  few_chosen n (x ∷ xs) = by_test (selected n) (few_chosen (n + 1) xs)
+    where
+      by_test : (t : Bool) → length (chosen_from selected (n + 1) xs) ≤ length xs → length (cond t (x ∷ chosen_from selected (n + 1) xs) (chosen_from selected (n + 1) xs)) ≤ suc (length xs)
+      by_test true few = omega (arith, few)
+      by_test false few = omega (arith, few)
+
+  range_parts : (a n m : ℕ) → range_with_len a (n + m) ≡ range_with_len a n ++ range_with_len (a + n) m
+  range_parts a zero m = let same : a ≡ a + 0 = omega arith in let none : 0 + m ≡ m = omega arith in ap (range_with_len a) none ∙ ap (λ (k : ℕ). range_with_len k m) same
+  range_parts a (suc n) m =
+      let next : suc n + m ≡ suc (n + m) = omega arith in
+      let there : a + 1 + n ≡ a + suc n = omega arith in
+      ap (range_with_len a) next ∙ ap (λ (l : List ℕ). a ∷ l) (range_parts (a + 1) n m ∙ ap (λ (k : ℕ). range_with_len (a + 1) n ++ range_with_len k m) there)
+
+  -- the places of a shorter line stand in front of those of a longer one
+  picked_parts : (n m : ℕ) → picked selected (n + m) ≡ picked selected n ++ chosen_from selected (1 + n) (range_with_len n m)
+  picked_parts n m =
+      let here : 0 + n ≡ n = omega arith in
+      ap (chosen_from selected 1) (range_parts 0 n m ∙ ap (λ (k : ℕ). range_with_len 0 n ++ range_with_len k m) here)
+      ∙ chosen_append 1 (range_with_len 0 n) (range_with_len n m)
+      ∙ ap (λ (k : ℕ). picked selected n ++ chosen_from selected (1 + k) (range_with_len n m)) (length-range_with_len 0 n)
+
+  few_picked : (n : ℕ) → length (picked selected n) ≤ n
+  few_picked n = omega (arith, few_chosen 1 (range_with_len 0 n), length-range_with_len 0 n)
+
+  -- ---- the row and the counts, place by place
+
+  pub record PickBegun (place count : ℕ) (row counts : List ℕ) : Type 0 where
+    pub is : count ≡ length (picked selected place)
+    pub few : count ≤ place
+    pub lanes : All (λ p. p < 16) row
+    pub long : length row ≡ 16
+    pub all_counts : length counts ≡ 17
+    pub places : take count row ≡ picked selected place
+    pub counted : (k : ℕ) → k ≤ place → get_or counts k 0 ≡ length (picked selected k)
+
+  one_place : (place : ℕ) → picked selected (place + 1) ≡ picked selected place ++ cond (selected (place + 1)) (place ∷ []) []
+  one_place place = let next : 1 + place ≡ place + 1 = omega arith in picked_parts place 1 ∙ ap (λ (n : ℕ). picked selected place ++ cond (selected n) (place ∷ []) []) next
+
+  pub pick_more : (place count : ℕ) (row counts after : List ℕ) (one : ℕ) → place < 16 → PickBegun place count row counts → one ≡ bool_byte (selected (place + 1))
+      → after ≡ set counts (place + 1) (count + one) → PickBegun (place + 1) (count + one) (set row count place) after
+  pick_more place count row counts after one low begun told after_is = record {
+    is = whole;
+    few = omega (arith, begun.few, small);
+    lanes = All-set (λ p. p < 16) row count place (omega (arith, low)) begun.lanes;
+    long = length-set row count place ∙ begun.long;
+    all_counts = ap length after_is ∙ length-set counts (place + 1) (count + one) ∙ begun.all_counts;
+    places = ap (λ (n : ℕ). take (count + n) (set row count place)) is
+        ∙ written_more (selected (place + 1)) row count place (omega (arith, begun.few, begun.long, low))
+        ∙ ap (λ (l : List ℕ). l ++ cond (selected (place + 1)) (place ∷ []) []) begun.places
+        ∙ sym (one_place place);
+    counted = λ k upto. by_cases k (cases_order k (place + 1)) upto;
+  }
+    where
+      bit : (t : Bool) → bool_byte t ≡ cond t 1 0
+      bit true = refl
+      bit false = refl
+
+      is : one ≡ cond (selected (place + 1)) 1 0
+      is = told ∙ bit (selected (place + 1))
+
+      one_long : (t : Bool) → length (cond t (place ∷ []) []) ≡ cond t 1 0
+      one_long true = refl
+      one_long false = refl
+
+      one_few : (t : Bool) → cond t 1 0 ≤ 1
+      one_few true = omega arith
+      one_few false = omega arith
+
+      small : one ≤ 1
+      small = omega (arith, is, one_few (selected (place + 1)))
+
+      whole : count + one ≡ length (picked selected (place + 1))
+      whole = omega (arith, begun.is, is, ap length (one_place place), length-append (picked selected place) (cond (selected (place + 1)) (place ∷ []) []), one_long (selected (place + 1)))
+
+      by_cases : (k : ℕ) → (k ≡ place + 1) ⊎ ((k < place + 1) ⊎ (place + 1 < k)) → k ≤ place + 1 → get_or after k 0 ≡ length (picked selected k)
+      by_cases k (inl same) upto =
+          ap (λ (l : List ℕ). get_or l k 0) after_is ∙ ap (λ (n : ℕ). get_or (set counts (place + 1) (count + one)) n 0) same
+          ∙ get_or-set_same counts (place + 1) (count + one) 0 (omega (arith, begun.all_counts, low)) ∙ whole ∙ ap (λ (n : ℕ). length (picked selected n)) (sym same)
+      by_cases k (inr (inl less)) upto =
+          ap (λ (l : List ℕ). get_or l k 0) after_is ∙ get_or-set_other counts (place + 1) k (count + one) 0 (λ e. omega (arith, e, less)) ∙ begun.counted k (omega (arith, less))
+      by_cases k (inr (inr more)) upto = absurd (omega (arith, more, upto))
+
+  pub pick_whole : (count : ℕ) (row counts : List ℕ) → PickBegun 16 count row counts → IsPick selected (record { row = row; counts = counts })
+  pick_whole count row counts begun = record {
+    places = ap (λ (n : ℕ). take n row) (sym begun.is) ∙ begun.places;
+    long = begun.long;
+    lanes = begun.lanes;
+    counts = begun.counted;
+  }
+
+  -- ---- the bytes of a line that the row puts in front
+
+  module _ (pick : Pick) (is : IsPick selected pick) where
+    front_places : (count : ℕ) → count ≤ 16 → take (length (picked selected count)) pick.row ≡ picked selected count
+    front_places count short =
+        let all : count + (16 - count) ≡ 16 = omega (arith, short) in
+        let parts = ap (picked selected) (sym all) ∙ picked_parts count (16 - count) in
+        let later = chosen_from selected (1 + count) (range_with_len count (16 - count)) in
+        let few : length (picked selected count) ≤ length (picked selected 16) = omega (arith, ap length parts, length-append (picked selected count) later) in
+        sym (take-take (length (picked selected count)) (length (picked selected 16)) pick.row few)
+        ∙ ap (take (length (picked selected count))) (is.places ∙ parts)
+        ∙ take-append-le (length (picked selected count)) (picked selected count) later (omega arith)
+        ∙ take_all (length (picked selected count)) (picked selected count) (omega arith)
+
+    pub pick_line : (count : ℕ) (v : List ℕ) → count ≤ 16 → length v ≡ 16 → take (get_or pick.counts count 0) (swz_l w8 16 v 0 pick.row) ≡ chosen_from selected 1 (take count v)
+    pick_line count v short long =
+        let places = picked selected count in
+        let n = length places in
+        ap (λ (k : ℕ). take k (swz_l w8 16 v 0 pick.row)) (is.counts count short)
+        ∙ ap (take n) (shuffled v 0 pick.row (omega (arith, is.long)) (Each1-from_get_or (λ place. place < 16) pick.row 0 (λ i low. is.lanes i 0 low)))
+        ∙ take-map (λ k. get_or v k 0) n pick.row
+        ∙ ap (pick_l 0 v) (front_places count short)
+        ∙ map_chosen (λ k. get_or v k 0) 1 (range_with_len 0 count)
+        ∙ ap (chosen_from selected 1) (pick_l-range_with_len 0 v 0 count (omega (arith, short, long)))
+
+    pub pick_few : (count : ℕ) → count ≤ 16 → get_or pick.counts count 0 ≤ count
+    pick_few count short = omega (arith, is.counts count short, few_picked count)
+
+    pub pick_lanes : Each1 (λ place. place < 16) pick.row
+    pick_lanes = Each1-from_get_or (λ place. place < 16) pick.row 0 (λ i low. is.lanes i 0 low)
+
+-- the selected bytes of a line that is whole, and the byte that ends it
+pub line_put : (list : List Interval) (before count end : ℕ) (bytes was into : List ℕ) → before ≡ 0 → count < length bytes → end < length into
+    → take end into ≡ was ++ chosen_from (is_selected list) 1 (take count bytes) → take (end + 1) (set into end (get_or bytes count 0)) ≡ was ++ chosen_piece list before count (take (count + 1) bytes)
+line_put list before count end bytes was into none within room put =
+    let x = get_or bytes count 0 in
+    let selected = is_selected list in
+    let front = take count bytes in
+    let long : length front ≡ count = length-take-le count bytes (omega (arith, within)) in
+    let more : take (count + 1) bytes ≡ front ++ x ∷ [] = take_more bytes count 0 within in
+    take_more_set into end x room
+    ∙ ap (λ (l : List ℕ). l ++ x ∷ []) put
+    ∙ append_assoc was (chosen_from selected 1 front) (x ∷ [])
+    ∙ ap (λ (l : List ℕ). was ++ l)
+    ((λ i. chosen_from selected 1 (sym (take_at front (x ∷ []) count long) i) ++ sym (drop_at front (x ∷ []) count long) i)
+    ∙ (λ i. chosen_from selected 1 (take count (sym more i)) ++ drop count (sym more i))
+    ∙ (λ i. chosen_piece list (sym none i) count (take (count + 1) bytes)))

@@ -1,0 +1,45 @@
+-- Amid some items, bytes of a block or lines of it: what was pushed stands in front of what is written of the rest, whatever comes.
+use Rattle.std.proofs.Common.{◌≡◌, ℕ, false, List, [], ◌++◌, Result, Ok, Err, OnErr, refl, sym, ◌∙◌, ap, append_assoc}
+use Rattle.ptlines.specs.Outputs.{Output, Wrote}
+use Rattle.ptlines.proofs.Pushed.{wrote_nothing, wrote_trans}
+use Rattle.ptflow.specs.Workings.Passes.Continuations.{Continues, Halts}
+
+pub on_err : {T E : Type 0} (r : Result T E) {P : Type 0} → P → OnErr r P
+on_err (Ok u) p = tt
+on_err (Err e) p = p
+
+-- a write failed in front of these items
+pub halts_before : {X Y : Type 0} (rest_from : X → List Y → List ℕ) (now : X) (items : List Y) (was is : Output) → Wrote was is [] → Halts rest_from now items was is
+halts_before rest_from now items was is wrote = record { pushed = []; wrote = wrote; true_so_far = λ rest. record { rest = rest_from now (items ++ rest); is = refl } }
+
+-- amid some items, of which the rest is still to come
+pub record Amid {X Y : Type 0} (rest_from : X → List Y → List ℕ) (start now : X) (items rest : List Y) (was is : Output) : Type 0 where
+  pub pushed : List ℕ
+  pub wrote : Wrote was is pushed
+  pub clean : is.faulted ≡ false
+  pub on : (more : List Y) → rest_from start (items ++ more) ≡ pushed ++ rest_from now (rest ++ more)
+
+module _ {X Y : Type 0} (rest_from : X → List Y → List ℕ) (start : X) where
+  pub amid_starts : (items : List Y) (was : Output) → was.faulted ≡ false → Amid rest_from start start items items was was
+  amid_starts items was clean = record { pushed = []; wrote = wrote_nothing was; clean = clean; on = λ more. refl }
+
+  -- all items were taken
+  pub amid_over : (now : X) (items rest : List Y) (was is : Output) → Amid rest_from start now items rest was is → rest ≡ [] → Continues rest_from start now items was is
+  amid_over now items rest was is a none = record { pushed = a.pushed; wrote = a.wrote; on = λ more. a.on more ∙ ap (λ (l : List Y). a.pushed ++ rest_from now (l ++ more)) none }
+
+  -- some items more, of which these bytes were pushed
+  module _ (now next : X) (items rest rest' : List Y) (bytes : List ℕ) (was is is' : Output) (a : Amid rest_from start now items rest was is) (wrote : Wrote is is' bytes)
+      (on : (more : List Y) → rest_from now (rest ++ more) ≡ bytes ++ rest_from next (rest' ++ more)) where
+    all_on : (more : List Y) → rest_from start (items ++ more) ≡ (a.pushed ++ bytes) ++ rest_from next (rest' ++ more)
+    all_on more = a.on more ∙ ap (λ (l : List ℕ). a.pushed ++ l) (on more) ∙ sym (append_assoc a.pushed bytes (rest_from next (rest' ++ more)))
+
+    pub amid_more : is'.faulted ≡ false → Amid rest_from start next items rest' was is'
+    amid_more clean = record { pushed = a.pushed ++ bytes; wrote = wrote_trans was is is' a.pushed bytes a.clean a.wrote wrote; clean = clean; on = all_on }
+
+    -- a write failed
+    pub amid_halts : Halts rest_from start items was is'
+    amid_halts = record {
+      pushed = a.pushed ++ bytes;
+      wrote = wrote_trans was is is' a.pushed bytes a.clean a.wrote wrote;
+      true_so_far = λ more. record { rest = rest_from next (rest' ++ more); is = all_on more };
+    }

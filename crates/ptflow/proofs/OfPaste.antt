@@ -1,0 +1,11 @@
+-- `paste`.
+pub mod CellSlots
+pub mod Grids
+pub mod PartsPaste
+pub mod PasteKeepsUp
+pub mod PasteLemmas
+pub mod PasteRows
+pub mod RowTurns
+pub mod SerialRests
+pub mod SheetRows
+pub mod Takes

@@ -1,0 +1,65 @@
+-- What the slots of the cells of a row hold.
+use Rattle.std.proofs.Common.{◌≡◌, ℕ, suc, ◌+◌, ◌<◌, ◌≤◌, false, List, [], ◌∷◌, length, take, drop, set, get_or, sym, ◌∙◌, ap, arith, ⊎_elim, take-append-drop}
+use Rattle.std.specs.Prelude.{sum_by}
+use Rattle.std.proofs.lemmas.Bool.{cases_eq}
+use Rattle.std.proofs.lemmas.List.{length-set, drop-set-lt, get_or-set_same, get_or-set_other}
+use Rattle.std.proofs.lemmas.List.Sums.{sum_by-cons, sum_by-append, get_or-le-sum_by}
+use Rattle.ptlines.specs.Slots.{Slots, total, with_line}
+use Rattle.ptflow.specs.Passes.{Adds}
+use Rattle.ptflow.specs.Workings.Paste.RowTurns.{KeepsCells}
+
+module _ (top : ℕ → ℕ) where
+  front_total : (cells : List ℕ) (ls : List (List ℕ)) → ((c : ℕ) → c < length cells → length (get_or ls c []) ≤ top (get_or cells c 0)) → total (take (length cells) ls) ≤ sum_by top cells
+  front_total [] ls short = omega arith
+  front_total (x ∷ cells) [] short = omega arith
+  front_total (x ∷ cells) (l ∷ ls) short =
+      omega (arith, sum_by-cons length l (take (length cells) ls), sum_by-cons top x cells, short 0 (omega arith), front_total cells ls (λ c low. short (suc c) (omega (arith, low))))
+
+total_split : (width : ℕ) (ls : List (List ℕ)) → total ls ≡ total (take width ls) + total (drop width ls)
+total_split width ls = ap total (sym (take-append-drop width ls)) ∙ sum_by-append length (take width ls) (drop width ls)
+
+pub cells_total : (cells : List ℕ) (top : ℕ → ℕ) (ls : List (List ℕ)) → ((c : ℕ) → c < length cells → length (get_or ls c []) ≤ top (get_or cells c 0)) → total (drop (length cells) ls) ≡ 0 → total ls ≤ sum_by top cells
+cells_total cells top ls short others = omega (arith, total_split (length cells) ls, front_total top cells ls short, others)
+
+pub cells_start : (cells : List ℕ) (top : ℕ → ℕ) (before store : Slots) → Adds before store (length cells) → store.denied ≡ false → total store.lines ≡ 0 → store.peak ≡ before.peak → KeepsCells cells top before store
+cells_start cells top before store adds denied empty peak = record {
+  denied = denied;
+  adds = adds;
+  short = λ c low. omega (arith, empty, get_or-le-sum_by length store.lines c [] (omega (arith, low, adds.all denied)));
+  others = omega (arith, empty, total_split (length cells) store.lines);
+  peak = omega (arith, peak);
+}
+
+-- another line is in the slot of a cell
+pub cells_line : (cells : List ℕ) (top : ℕ → ℕ) (before store new : Slots) (column : ℕ) (bytes : List ℕ) → KeepsCells cells top before store → column < length cells → length bytes ≤ top (get_or cells column 0) → new ≡ with_line store column bytes → KeepsCells cells top before new
+cells_line cells top before store new column bytes k within fits is = record {
+  denied = ap (λ (s : Slots). s.denied) is ∙ k.denied;
+  adds = record {
+    least = omega (arith, same_length, k.adds.least);
+    most = omega (arith, same_length, k.adds.most);
+    all = λ allowed. same_length ∙ k.adds.all k.denied;
+  };
+  short = short;
+  others = others;
+  peak = omega (arith, ap (λ (s : Slots). s.peak) is, k.peak, ap (λ (s : Slots). total s.lines) is, cells_total cells top new.lines short others);
+}
+  where
+    same_length : length new.lines ≡ length store.lines
+    same_length = ap (λ (s : Slots). length s.lines) is ∙ length-set store.lines column bytes
+
+    short : (c : ℕ) → c < length cells → length (get_or new.lines c []) ≤ top (get_or cells c 0)
+    short c low = ⊎_elim here there (cases_eq c column)
+      where
+        here : c ≡ column → length (get_or new.lines c []) ≤ top (get_or cells c 0)
+        here same = omega (
+          arith,
+          fits,
+          ap (λ (n : ℕ). top (get_or cells n 0)) same,
+          ap length (ap (λ (s : Slots). get_or s.lines c []) is ∙ ap (λ (n : ℕ). get_or (set store.lines column bytes) n []) same ∙ get_or-set_same store.lines column bytes [] (omega (arith, within, k.adds.all k.denied))),
+        )
+
+        there : (c ≡ column → ⊥) → length (get_or new.lines c []) ≤ top (get_or cells c 0)
+        there other = omega (arith, k.short c low, ap length (ap (λ (s : Slots). get_or s.lines c []) is ∙ get_or-set_other store.lines column c bytes [] other))
+
+    others : total (drop (length cells) new.lines) ≡ 0
+    others = ap (λ (s : Slots). total (drop (length cells) s.lines)) is ∙ ap total (drop-set-lt (length cells) store.lines column bytes within) ∙ k.others

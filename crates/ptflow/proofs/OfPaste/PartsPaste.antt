@@ -1,0 +1,150 @@
+-- `paste` of texts that are cut behind the same row.
+use Rattle.std.proofs.Common.{◌≡◌, ◌⊎◌, inl, inr, ⊎_elim, ℕ, zero, suc, ◌+◌, ◌*◌, ◌<◌, ◌≤◌, List, [], ◌∷◌, ◌++◌, length, take, drop, get_or, map, refl, sym, ◌∙◌, ap, arith, append_assoc, take-append-drop, length-drop}
+use Rattle.std.specs.Prelude.{slice_index_or}
+use Rattle.std.proofs.lemmas.Bool.{cases_lt}
+use Rattle.std.proofs.lemmas.List.{append-nil, map-append, length-take-le, take_all, drop_all}
+use Rattle.ptlines.specs.Text.{text, lines}
+use Rattle.ptlines.proofs.PartLaws.{the_lines_of_parts}
+use Rattle.ptlines.proofs.TextLaws.{text-append}
+use Rattle.ptlangs.specs.Jobs.{Paste}
+use Rattle.ptflow.specs.Pastes.{times, every, columns, rows, glued_from, sheet}
+use Rattle.ptflow.specs.Parts.{HasRows, PasteOfParts}
+use Rattle.ptflow.proofs.OfPaste.Grids.{Column, Taken, each, column_at, length-columns, each_same, times_below, grid_step, height_none, rows_none, every_short}
+
+nothing : (ls : Column) → length ls ≤ 0 → ls ≡ []
+nothing [] few = refl
+nothing (l ∷ ls) few = absurd (omega arith)
+
+module _ (cells : List ℕ) where
+  -- inputs that no cell names do not matter
+  columns_same : (f g : ℕ → Column) → ((c : ℕ) → c < length cells → f (get_or cells c 0) ≡ g (get_or cells c 0)) → columns cells f ≡ columns cells g
+  columns_same f g same =
+      each_same (λ c p. every (times cells p) (times (take c cells) p) (f p)) (λ c p. every (times cells p) (times (take c cells) p) (g p)) cells
+      (λ c low. ap (every (times cells (get_or cells c 0)) (times (take c cells) (get_or cells c 0))) (same c low))
+
+  -- some cell has a line in the first row, or none has
+  some_cell : (f : ℕ → Column) (n : ℕ) → n ≤ length cells
+      → ((c : ℕ) × (c < length cells) × (times (take c cells) (get_or cells c 0) < length (f (get_or cells c 0))))
+      ⊎ ((c : ℕ) → c < n → length (f (get_or cells c 0)) ≤ times (take c cells) (get_or cells c 0))
+  some_cell f zero high = inr (λ c low. absurd (omega arith))
+  some_cell f (suc n) high = ⊎_elim
+      (λ here. inl (n, omega arith, here))
+      (λ past. ⊎_elim inl (λ before. inr (λ c low. ⊎_elim (λ less. before c less) (λ same. let is : c ≡ n = omega arith in rw is past) (cases_lt c n))) (some_cell f n (omega arith)))
+      (cases_lt (times (take n cells) (get_or cells n 0)) (length (f (get_or cells n 0))))
+
+  -- where no cell has a line in the first row there are no rows
+  no_rows : (f : ℕ → Column) → ((c : ℕ) → c < length cells → length (f (get_or cells c 0)) ≤ times (take c cells) (get_or cells c 0)) → rows (columns cells f) ≡ []
+  no_rows f none = rows_none (columns cells f) (height_none (columns cells f) (λ c low.
+      let within : c < length cells = omega (arith, low, length-columns cells f) in
+      let p = get_or cells c 0 in
+      let j = times (take c cells) p in
+      column_at cells f c within ∙ nothing (every (times cells p) j (f p)) (every_short (times cells p) j (times_below cells c within) 0 (f p) (omega (arith, none c within)))))
+
+  -- ---- the first row
+
+  -- the lines of an input in the first row, and those behind it
+  abbrev first : (ℕ → Column) → ℕ → Column
+  first ins p = take (times cells p) (ins p)
+
+  abbrev rest : (ℕ → Column) → ℕ → Column
+  rest ins p = drop (times cells p) (ins p)
+
+  module _ (ins more : ℕ → Column) (reach : (p : ℕ) → length (ins p) < times cells p → more p ≡ []) where
+    first_taken : Taken cells (first ins) (λ p. rest ins p ++ more p)
+    first_taken = record {
+      all = λ p. ⊎_elim
+          (λ few. inr (ap (λ (l : Column). l ++ more p) (drop_all (times cells p) (ins p) (omega (arith, few))) ∙ reach p few, omega (arith, ap length (take_all (times cells p) (ins p) (omega (arith, few))), few)))
+          (λ many. inl (length-take-le (times cells p) (ins p) (omega (arith, many))))
+          (cases_lt (length (ins p)) (times cells p));
+    }
+
+    -- its lines stand in front of all others, whatever comes
+    first_row : (c : ℕ) → c < length cells → times (take c cells) (get_or cells c 0) < length (ins (get_or cells c 0))
+        → rows (columns cells (λ p. ins p ++ more p)) ≡ each (λ c p. slice_index_or (first ins p) (times (take c cells) p) []) cells ∷ rows (columns cells (λ p. rest ins p ++ more p))
+    first_row c low some =
+        let p = get_or cells c 0 in
+        let k = times cells p in
+        ap rows (columns_same (λ q. ins q ++ more q) (λ q. first ins q ++ (rest ins q ++ more q)) (λ d within.
+        let q = get_or cells d 0 in
+        ap (λ (l : Column). l ++ more q) (sym (take-append-drop (times cells q) (ins q))) ∙ append_assoc (first ins q) (rest ins q) (more q)))
+        ∙ grid_step cells (first ins) (λ q. rest ins q ++ more q) first_taken c low (⊎_elim
+        (λ few. omega (arith, ap length (take_all k (ins p) (omega (arith, few))), some))
+        (λ many. omega (arith, length-take-le k (ins p) (omega (arith, many)), times_below cells c low))
+        (cases_lt (length (ins p)) k))
+
+  -- ---- so many rows
+
+  -- so many rows take all lines of an input, and more lines come behind them only where it has as many as that
+  abbrev Reach : ℕ → (ℕ → Column) → (ℕ → Column) → Type 0
+  Reach n ins more = (p : ℕ) → 0 < times cells p → (length (ins p) ≡ n * times cells p) ⊎ ((more p ≡ []) × (length (ins p) ≤ n * times cells p))
+
+  few_more : (n : ℕ) (ins more : ℕ → Column) → Reach (suc n) ins more → (p : ℕ) → length (ins p) < times cells p → more p ≡ []
+  few_more n ins more reach p few = ⊎_elim
+      (λ all. let size : suc n * times cells p ≡ times cells p + n * times cells p = omega arith in absurd (omega (arith, all, size, few)))
+      (λ none. none.0)
+      (reach p (omega (arith, few)))
+
+  later : (n : ℕ) (ins more : ℕ → Column) → Reach (suc n) ins more → Reach n (rest ins) more
+  later n ins more reach p some =
+      let size : suc n * times cells p ≡ times cells p + n * times cells p = omega arith in
+      let long = length-drop (times cells p) (ins p) in
+      ⊎_elim (λ all. inl (omega (arith, all, size, long))) (λ few. inr (few.0, omega (arith, few.1, size, long))) (reach p some)
+
+  abbrev Append : (ℕ → Column) → (ℕ → Column) → Type 0
+  Append ins more = rows (columns cells (λ p. ins p ++ more p)) ≡ rows (columns cells ins) ++ rows (columns cells more)
+
+  append_none : (ins more : ℕ → Column) → ((c : ℕ) → c < length cells → ins (get_or cells c 0) ≡ []) → Append ins more
+  append_none ins more empty =
+      ap rows (columns_same (λ p. ins p ++ more p) more (λ c low. ap (λ (l : Column). l ++ more (get_or cells c 0)) (empty c low)))
+      ∙ ap (λ (rs : List Column). rs ++ rows (columns cells more)) (sym (no_rows ins (λ c low. omega (arith, ap length (empty c low)))))
+
+  module _ (n : ℕ) (ins more : ℕ → Column) (reach : Reach (suc n) ins more) where
+    append_row : (c : ℕ) → c < length cells → times (take c cells) (get_or cells c 0) < length (ins (get_or cells c 0)) → Append (rest ins) more → Append ins more
+    append_row c low has behind =
+        let top = each (λ c p. slice_index_or (first ins p) (times (take c cells) p) []) cells in
+        let alone : rows (columns cells ins) ≡ top ∷ rows (columns cells (rest ins)) =
+        ap rows (columns_same ins (λ p. ins p ++ []) (λ d within. sym (append-nil (ins (get_or cells d 0)))))
+        ∙ first_row ins (λ p. []) (λ p few. refl) c low has
+        ∙ ap (λ (rs : List Column). top ∷ rs) (ap rows (columns_same (λ p. rest ins p ++ []) (rest ins) (λ d within. append-nil (rest ins (get_or cells d 0))))) in
+        first_row ins more (few_more n ins more reach) c low has
+        ∙ ap (λ (rs : List Column). top ∷ rs) behind
+        ∙ ap (λ (rs : List Column). rs ++ rows (columns cells more)) (sym alone)
+
+    -- no input goes on
+    append_last : ((c : ℕ) → c < length cells → length (ins (get_or cells c 0)) ≤ times (take c cells) (get_or cells c 0)) → Append ins more
+    append_last short =
+        let over : (c : ℕ) → c < length cells → more (get_or cells c 0) ≡ [] =
+        λ c low. few_more n ins more reach (get_or cells c 0) (omega (arith, short c low, times_below cells c low)) in
+        ap rows (columns_same (λ p. ins p ++ more p) ins (λ c low. ap (λ (l : Column). ins (get_or cells c 0) ++ l) (over c low) ∙ append-nil (ins (get_or cells c 0))))
+        ∙ sym (append-nil (rows (columns cells ins)))
+        ∙ ap (λ (rs : List Column). rows (columns cells ins) ++ rs) (sym (no_rows more (λ c low. omega (arith, ap length (over c low)))))
+
+  rows-append : (n : ℕ) (ins more : ℕ → Column) → Reach n ins more → Append ins more
+  rows-append zero ins more reach =
+      append_none ins more (λ c low. nothing (ins (get_or cells c 0)) (⊎_elim (λ all. omega (arith, all)) (λ few. omega (arith, few.1)) (reach (get_or cells c 0) (omega (arith, times_below cells c low)))))
+  rows-append (suc n) ins more reach = ⊎_elim
+      (λ here. append_row n ins more reach here.0 here.1 here.2 (rows-append n (rest ins) more (later n ins more reach)))
+      (append_last n ins more reach)
+      (some_cell ins (length cells) (omega arith))
+
+sheet-append : (job : Paste) (rs ss : List Column) → sheet job (rs ++ ss) ≡ sheet job rs ++ sheet job ss
+sheet-append job rs ss =
+    ap (text job.end) (map-append (glued_from job.delimiters 0) rs ss) ∙ text-append job.end (map (glued_from job.delimiters 0) rs) (map (glued_from job.delimiters 0) ss)
+
+pub paste_of_parts : PasteOfParts
+paste_of_parts job cells n a b cut =
+    let ins : ℕ → Column = λ p. lines job.end (a p) in
+    let more : ℕ → Column = λ p. lines job.end (b p) in
+    ap (λ (cols : List Column). sheet job (rows cols)) (columns_same cells (λ p. lines job.end (a p ++ b p)) (λ p. ins p ++ more p) (λ c low. both (get_or cells c 0) (cut (get_or cells c 0) (omega (arith, times_below cells c low)))))
+    ∙ ap (sheet job) (rows-append cells n ins more (λ p named. reach p (cut p named)))
+    ∙ sheet-append job (rows (columns cells ins)) (rows (columns cells more))
+  where
+    both : (p : ℕ) → HasRows job.end n (times cells p) (a p) (b p) → lines job.end (a p ++ b p) ≡ lines job.end (a p) ++ lines job.end (b p)
+    both p (inl is) = the_lines_of_parts job.end (a p) (b p) is.0
+    both p (inr is) =
+        ap (λ (l : List ℕ). lines job.end (a p ++ l)) is.0 ∙ ap (lines job.end) (append-nil (a p)) ∙ sym (append-nil (lines job.end (a p)))
+        ∙ ap (λ (l : List ℕ). lines job.end (a p) ++ lines job.end l) (sym is.0)
+
+    reach : (p : ℕ) → HasRows job.end n (times cells p) (a p) (b p) → (length (lines job.end (a p)) ≡ n * times cells p) ⊎ ((lines job.end (b p) ≡ []) × (length (lines job.end (a p)) ≤ n * times cells p))
+    reach p (inl is) = inl is.1
+    reach p (inr is) = inr (ap (lines job.end) is.0, is.1)

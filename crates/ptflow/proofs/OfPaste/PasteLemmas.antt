@@ -1,0 +1,751 @@
+-- `paste`, row by row: the rows that were passed, and the grid of the lines to come, are the whole grid, whatever comes.
+use Rattle.std.proofs.Common.{◌≡◌, ◌≢◌, ⊎_elim, inl, inr, ℕ, suc, ◌+◌, ◌*◌, ◌<◌, ◌≤◌, ◌==◌, ◌^◌, Bool, true, false, cond, List, [], ◌∷◌, ◌++◌, None, Ok, Err, length, take, get_or, max, refl, sym, ◌∙◌, ap, subst, arith, append_assoc, take-append-drop, length-append}
+use Rattle.std.specs.Prelude.{All, sum_by, slice_index_or}
+use Rattle.std.proofs.lemmas.Bool.{cases_eq, cases_lt, false≢true, eq-eqb, eqb-true}
+use Rattle.std.proofs.lemmas.Bool.Decides.{nat_tests}
+use Rattle.std.proofs.lemmas.List.{append-nil, drop_more, drop_all, nil_from_length, take_all, length-take-le, get_or-take}
+use Rattle.std.proofs.lemmas.List.Elements.{All-get_or, All-from_get_or}
+use Rattle.std.proofs.lemmas.List.Sums.{sum_by-cons}
+use Rattle.ptlines.specs.Text.{text, lines, ended_lines, IsLine, AreLines, longest, longest_line}
+use Rattle.ptlines.specs.Inputs.{Given, Begins, Agrees, Came, whole_lines}
+use Rattle.ptlines.specs.KeepingUp.{WorksOff, KeepsUp}
+use Rattle.ptlines.specs.Outputs.{Output, Wrote}
+use Rattle.ptlines.specs.Readers.{Reader, Reads, IsDone, HasReadCause}
+use Rattle.ptlines.specs.Slots.{Slots, line, total, with_line, with_denied}
+use Rattle.ptlines.proofs.Coming.{came_of, came_of_set}
+use Rattle.ptlines.proofs.Filling.{reads_trans}
+use Rattle.ptlines.proofs.Pushed.{wrote_nothing, wrote_trans}
+use Rattle.ptlines.proofs.Sending.{keeps_still, keeps_more}
+use Rattle.ptlines.proofs.TextLaws.{ended_first}
+use Rattle.ptlangs.specs.Jobs.{Paste}
+use Rattle.ptflow.specs.Passes.{Adds}
+use Rattle.ptflow.specs.PastePasses.{reader_at, IsReadable, AreReady, ReadAll, IsPastePass}
+use Rattle.ptflow.specs.Pastes.{glued_from, times, columns, rows, sheet, paste, paste_decided, paste_size}
+use Rattle.ptflow.specs.Workings.Paste.RowTurns.{AreSet, KeepsCells, RowTaken, FillsRow, is_write}
+use Rattle.ptflow.specs.Workings.Paste.TakenLines.{LinesCame, Took}
+use Rattle.ptflow.specs.declared.faults.FlowFault.{FlowFault}
+use Rattle.ptflow.specs.declared.faults.FlowFault.TheVariants.{Read, Write, Memory}
+use Rattle.ptflow.proofs.OfPaste.CellSlots.{cells_start, cells_line, cells_total}
+use Rattle.ptflow.proofs.OfPaste.Grids.{Column, each, each_is, times_below, times_front, Taken, grid_step, grid_none}
+use Rattle.ptflow.proofs.OfPasses.LineLaws.{longest-append}
+use Rattle.ptflow.proofs.OfPasses.LinesCame.{lines_on, came_longest, piece_longest}
+use Rattle.ptflow.proofs.OfPaste.PasteKeepsUp.{CutBack, cut_piece, cut_held, cut_last, works_whole, works_behind, begins_behind, works_nothing, sheet-append}
+use Rattle.ptflow.proofs.OfPaste.RowTurns.{none_of_done}
+use Rattle.ptflow.proofs.OfPasses.ReaderFacts.{given_of, done_gives_nothing, stays_done, may_come}
+use Rattle.ptflow.proofs.OfPaste.Takes.{reads_nothing, took_nothing, took_more, lines_trans}
+
+-- ---- places that cells name
+
+pub named_at : (cells : List ℕ) (p : ℕ) → 0 < times cells p → (c : ℕ) × (c < length cells) × (get_or cells c 0 ≡ p)
+named_at [] p some = absurd (omega arith)
+named_at (x ∷ cells) p some = by_test (x == p) refl (named_at cells p)
+  where
+    by_test : (t : Bool) → (x == p) ≡ t → (0 < times cells p → (c : ℕ) × (c < length cells) × (get_or cells c 0 ≡ p)) → (c : ℕ) × (c < length (x ∷ cells)) × (get_or (x ∷ cells) c 0 ≡ p)
+    by_test true same later = (0, omega arith, eqb-true x p same)
+    by_test false other later =
+        let l = later (omega (arith, some, sum_by-cons (λ y. cond (y == p) 1 0) x cells, ap (λ (t : Bool). cond {A = ℕ} t 1 0) other)) in
+        (suc l.0, omega (arith, l.1), l.2)
+
+pub all_named : (P : ℕ → Type 0) (cells : List ℕ) → All P cells → (p : ℕ) → 0 < times cells p → P p
+all_named P cells all p some = let n = named_at cells p some in subst P n.2 (All-get_or P cells n.0 0 n.1 all)
+
+-- lines of a reader by another byte than that of its own, where none was taken
+retook : (end : ℕ) (b c : Reader) (n : ℕ) (ys : Column) → (0 < n → b.ending ≡ end) → Took b.ending b c n ys → Took end b c n ys
+retook end b c n ys same t = ⊎_elim (λ some. subst (λ (e : ℕ). Took e b c n ys) (same some) t) none (cases_lt 0 n)
+  where
+    none : n ≤ 0 → Took end b c n ys
+    none few =
+        let zero_is : n ≡ 0 = omega arith in
+        let empty : ys ≡ [] = nil_from_length ys (⊎_elim (λ is. omega (arith, is)) (λ is. omega (arith, is.1)) t.enough) in
+        rw (t.none zero_is, empty, zero_is) (took_nothing end b)
+
+-- ---- the whole lines that came
+
+ended_more : (end : ℕ) (ls : Column) (bytes : List ℕ) → AreLines end ls → ended_lines end (text end ls ++ bytes) ≡ ls ++ ended_lines end bytes
+ended_more end [] bytes w = refl
+ended_more end (line ∷ ls) bytes w =
+    ap (ended_lines end) (append_assoc (line ++ end ∷ []) (text end ls) bytes ∙ append_assoc line (end ∷ []) (text end ls ++ bytes)) ∙ ended_first end line (text end ls ++ bytes) w.0
+    ∙ ap (λ (l : Column). line ∷ l) (ended_more end ls bytes w.1)
+
+-- the lines that are known, where these came first
+known_on : (end : ℕ) (now : Reader) (given : List ℕ) (ls : Column) → LinesCame end now given ls → (rest : List ℕ) (ended : Bool) → (IsDone now → (rest ≡ []) × (ended ≡ true))
+    → whole_lines end (record { bytes = given ++ rest; ended = ended }) ≡ ls ++ whole_lines end (record { bytes = rest; ended = ended })
+known_on end now given ls k rest true may = lines_on end now given ls k rest (λ done. (may done).0)
+known_on end now given ls k rest false may = ⊎_elim
+    (λ o. ap (λ (l : List ℕ). ended_lines end (l ++ rest)) o.0 ∙ ended_more end ls rest o.1)
+    (λ c. absurd (false≢true (may c.1).1))
+    k.so_far
+
+-- ---- rows that are passed
+
+-- These rows were passed, and these lines are those of the inputs in them.
+pub record Pasting (job : Paste) (cells : List ℕ) (set now : List Reader) (was is : Output) (first store : Slots) : Type 0 where
+  pub n : ℕ
+  pub ls : ℕ → Column
+  pub passed : List (List (List ℕ))
+  pub count : length passed ≡ n
+  pub took : (p : ℕ) → Took job.end (reader_at set p) (reader_at now p) (n * times cells p) (ls p)
+  pub on : (more : ℕ → Column) → ((p : ℕ) → IsDone (reader_at now p) → more p ≡ []) → rows (columns cells (λ p. ls p ++ more p)) ≡ passed ++ rows (columns cells more)
+  pub wrote : Wrote was is (sheet job passed)
+  pub clean : is.faulted ≡ false
+  pub kept : (top : ℕ → ℕ) → ((p : ℕ) → longest (ls p) ≤ top p) → KeepsCells cells top first store
+  pub same : length now ≡ length set
+
+module _ (job : Paste) (cells : List ℕ) where
+  pub pasting_starts : (set : List Reader) (was : Output) (first store : Slots) → was.faulted ≡ false → Adds first store (length cells) → store.denied ≡ false → total store.lines ≡ 0 → store.peak ≡ first.peak → Pasting job cells set set was was first store
+  pasting_starts set was first store clean adds allowed empty peak = record {
+    n = 0;
+    ls = λ p. [];
+    passed = [];
+    count = refl;
+    took = λ p. let none : 0 * times cells p ≡ 0 = omega arith in rw none (took_nothing job.end (reader_at set p));
+    on = λ more may. refl;
+    wrote = wrote_nothing was;
+    clean = clean;
+    kept = λ top high. cells_start cells top first store adds allowed empty peak;
+    same = refl;
+  }
+
+  -- what was staged was sent
+  pub pasting_sent : (set now : List Reader) (was is sent : Output) (first store : Slots) → Pasting job cells set now was is first store → Wrote is sent [] → sent.faulted ≡ false → Pasting job cells set now was sent first store
+  pasting_sent set now was is sent first store s wrote clean = record {
+    n = s.n;
+    ls = s.ls;
+    passed = s.passed;
+    count = s.count;
+    took = s.took;
+    on = s.on;
+    wrote = subst (λ (b : List ℕ). Wrote was sent b) (append-nil (sheet job s.passed)) (wrote_trans was is sent (sheet job s.passed) [] s.clean s.wrote wrote);
+    clean = clean;
+    kept = s.kept;
+    same = s.same;
+  }
+
+  module _ (set now : List Reader) (was is : Output) (first store : Slots) (s : Pasting job cells set now was is first store) (named_end : (p : ℕ) → 0 < times cells p → (reader_at set p).ending ≡ job.end) where
+    -- the lines of a row, by the job's byte
+    row_took : (c : ℕ) (new : List Reader) (after : Slots) (got : ℕ → Column) → RowTaken cells c now new store after got → (p : ℕ) → Took job.end (reader_at now p) (reader_at new p) (times (take c cells) p) (got p)
+    row_took c new after got t p = retook job.end (reader_at now p) (reader_at new p) (times (take c cells) p) (got p)
+        (λ some. (s.took p).reads.ending ∙ named_end p (omega (arith, some, times_front cells c p))) (t.took p)
+
+    all_took : (c : ℕ) (new : List Reader) (after : Slots) (got : ℕ → Column) → RowTaken cells c now new store after got → (p : ℕ) → Took job.end (reader_at set p) (reader_at new p) (s.n * times cells p + times (take c cells) p) (s.ls p ++ got p)
+    all_took c new after got t p = took_more job.end (reader_at set p) (reader_at now p) (reader_at new p) (s.n * times cells p) (times (take c cells) p) (s.ls p) (got p) (s.took p) (row_took c new after got t p)
+
+    -- more of each input may come only where it was not done
+    rest_on : (p : ℕ) (q : Reader) (bytes rest : List ℕ) → Reads (reader_at now p) q bytes → (IsDone q → rest ≡ []) → lines job.end ((s.took p).bytes ++ (bytes ++ rest)) ≡ s.ls p ++ lines job.end (bytes ++ rest)
+    rest_on p q bytes rest reads may = lines_on job.end (reader_at now p) (s.took p).bytes (s.ls p) (s.took p).came (bytes ++ rest) (may_come (reader_at now p) q bytes rest reads may)
+
+    module _ (new : List Reader) (after : Slots) (got : ℕ → Column) (t : RowTaken cells (length cells) now new store after got) where
+      every_cell : take (length cells) cells ≡ cells
+      every_cell = take_all (length cells) cells (omega arith)
+
+      whole_took : (p : ℕ) → Took job.end (reader_at now p) (reader_at new p) (times cells p) (got p)
+      whole_took p = subst (λ (l : List ℕ). Took job.end (reader_at now p) (reader_at new p) (times l p) (got p)) every_cell (row_took (length cells) new after got t p)
+
+      -- behind the lines of the row
+      behind : (more : ℕ → Column) → ((p : ℕ) → IsDone (reader_at new p) → more p ≡ []) → rows (columns cells (λ p. (s.ls p ++ got p) ++ more p)) ≡ s.passed ++ rows (columns cells (λ p. got p ++ more p))
+      behind more may =
+          (λ i. rows (columns cells (λ p. append_assoc (s.ls p) (got p) (more p) i)))
+          ∙ s.on (λ p. got p ++ more p) (λ p done. (λ i. none_of_done job.end (reader_at now p) (reader_at new p) (times cells p) (got p) (whole_took p) done i ++ may p (stays_done (reader_at now p) (reader_at new p) (whole_took p).bytes done (whole_took p).reads) i))
+
+      more_kept : (top : ℕ → ℕ) → ((p : ℕ) → longest (s.ls p ++ got p) ≤ top p) → KeepsCells cells top first after
+      more_kept top high =
+          t.kept first top (s.kept top (λ p. omega (arith, high p, longest-append (s.ls p) (got p)))) (λ p. omega (arith, high p, longest-append (s.ls p) (got p)))
+
+      more_took : (p : ℕ) → Took job.end (reader_at set p) (reader_at new p) ((s.n + 1) * times cells p) (s.ls p ++ got p)
+      more_took p =
+          let all : (s.n + 1) * times cells p ≡ s.n * times cells p + times cells p = omega arith in
+          rw all (took_more job.end (reader_at set p) (reader_at now p) (reader_at new p) (s.n * times cells p) (times cells p) (s.ls p) (got p) (s.took p) (whole_took p))
+
+      -- a row that some cell has
+      module _ (c : ℕ) (low : c < length cells) (last : length (got (get_or cells c 0)) ≡ times (take c cells) (get_or cells c 0) + 1) where
+        some : times (take c cells) (get_or cells c 0) < length (got (get_or cells c 0))
+        some = omega (arith, last)
+
+        row_of : List (List ℕ)
+        row_of = each (λ c p. slice_index_or (got p) (times (take c cells) p) []) cells
+
+        room : length cells ≤ length after.lines
+        room = omega (arith, (more_kept (λ p. longest (s.ls p ++ got p)) (λ p. omega arith)).adds.all (more_kept (λ p. longest (s.ls p ++ got p)) (λ p. omega arith)).denied)
+
+        slots_are : take (length cells) after.lines ≡ each (λ c p. slice_index_or (got p) (times (take c cells) p) []) cells
+        slots_are =
+            each_is (λ c p. slice_index_or (got p) (times (take c cells) p) []) cells (take (length cells) after.lines) [] (length-take-le (length cells) after.lines room)
+            (λ d within. get_or-take (length cells) after.lines d [] within ∙ t.slots d within)
+
+        pub pasting_more : (is' : Output) → Wrote is is' (glued_from job.delimiters 0 (take (length cells) after.lines) ++ job.end ∷ []) → is'.faulted ≡ false → Pasting job cells set new was is' first after
+        pasting_more is' wrote clean = record {
+          n = s.n + 1;
+          ls = λ p. s.ls p ++ got p;
+          passed = s.passed ++ each (λ c p. slice_index_or (got p) (times (take c cells) p) []) cells ∷ [];
+          count = omega (arith, s.count, length-append s.passed (each (λ c p. slice_index_or (got p) (times (take c cells) p) []) cells ∷ []));
+          took = more_took;
+          on = λ more may. behind more may ∙ ap (λ (l : List (List (List ℕ))). s.passed ++ l) (grid_step cells got more (taken more may) c low some)
+              ∙ sym (append_assoc s.passed (each (λ c p. slice_index_or (got p) (times (take c cells) p) []) cells ∷ []) (rows (columns cells more)));
+          wrote = subst (λ (b : List ℕ). Wrote was is' b) (sym (sheet-append job s.passed (each (λ c p. slice_index_or (got p) (times (take c cells) p) []) cells ∷ [])))
+              (wrote_trans was is is' (sheet job s.passed) (sheet job (each (λ c p. slice_index_or (got p) (times (take c cells) p) []) cells ∷ [])) s.clean s.wrote
+              (subst (λ (b : List ℕ). Wrote is is' b) (ap (λ (l : List (List ℕ)). glued_from job.delimiters 0 l ++ job.end ∷ []) slots_are ∙ sym (append-nil (glued_from job.delimiters 0 (each (λ c p. slice_index_or (got p) (times (take c cells) p) []) cells) ++ job.end ∷ []))) wrote));
+          clean = clean;
+          kept = more_kept;
+          same = t.count ∙ s.same;
+        }
+          where
+            taken : (more : ℕ → Column) → ((p : ℕ) → IsDone (reader_at new p) → more p ≡ []) → Taken cells got more
+            taken more may = record { all = λ p. ⊎_elim (λ same. inl same) (λ few. inr (may p few.0, few.1)) (whole_took p).enough }
+
+none_in : (cells : List ℕ) → sum_by (λ (p : ℕ). 0) cells ≡ 0
+none_in [] = refl
+none_in (x ∷ cells) = omega (arith, sum_by-cons (λ (p : ℕ). 0) x cells, none_in cells)
+
+-- ---- how it ends
+
+-- what setting the endings did
+module _ (end : ℕ) (cells : List ℕ) (old set : List Reader) (first : Slots) (ready : AreReady cells old first) (are_set : AreSet end cells old set) where
+  pub end_of : (p : ℕ) → 0 < times cells p → (reader_at set p).ending ≡ end
+  end_of p some = ap (λ (r : Reader). r.ending) ((are_set p).set some)
+
+  readable : (p : ℕ) → 0 < times cells p → IsReadable (reader_at old p)
+  readable p some = all_named (λ q. IsReadable (reader_at old q)) cells ready.readable p some
+
+  failed_of : (p : ℕ) → (reader_at set p).failed ≡ (reader_at old p).failed
+  failed_of p = ⊎_elim (λ some. ap (λ (r : Reader). r.failed) ((are_set p).set some)) (λ none. ap (λ (r : Reader). r.failed) ((are_set p).left (omega (arith, none)))) (cases_lt 0 (times cells p))
+
+  pub fault_of : (p : ℕ) → 0 < times cells p → (reader_at set p).fault ≡ None
+  fault_of p some = ap (λ (r : Reader). r.fault) ((are_set p).set some) ∙ (readable p some).readable
+
+  unfailed_of : (p : ℕ) → 0 < times cells p → (reader_at old p).failed ≡ false
+  unfailed_of p some = sym (failed_of p) ∙ ((are_set p).sound some).unfailed (ap (λ (r : Reader). r.refused) ((are_set p).set some) ∙ (readable p some).opened) (fault_of p some)
+
+  short_of : (p : ℕ) → 0 < times cells p → (reader_at set p).pulled < 2 ^ 63
+  short_of p some = ((are_set p).sound some).long (fault_of p some)
+
+  -- what came of each reader since
+  came_since : (new : List Reader) (p : ℕ) (bytes : List ℕ) → Reads (reader_at set p) (reader_at new p) bytes → Came (reader_at old p) (reader_at new p) (given_of bytes (reader_at new p))
+  came_since new p bytes reads = ⊎_elim
+      (λ some. came_of_set (reader_at old p) (reader_at set p) end ((are_set p).set some) (reader_at new p) bytes reads)
+      (λ none. subst (λ (r : Reader). Came r (reader_at new p) (given_of bytes (reader_at new p))) ((are_set p).left (omega (arith, none))) (came_of (reader_at set p) (reader_at new p) bytes reads))
+      (cases_lt 0 (times cells p))
+
+-- the slots were refused
+pub paste_unslotted : (job : Paste) (cells : List ℕ) (old set : List Reader) (was : Output) (first store : Slots) → was.faulted ≡ false → AreReady cells old first → AreSet job.end cells old set → Adds first store (length cells) → store.peak ≡ first.peak → store.denied ≡ true
+    → IsPastePass job cells old set was was first store (Err Memory)
+paste_unslotted job cells old set was first store writable ready are_set adds same denied = record {
+  given = λ p. given_of [] (reader_at set p);
+  came = λ p. came_since job.end cells old set first ready are_set set p [] (reads_nothing (reader_at set p));
+  pushed = [];
+  wrote = wrote_nothing was;
+  ends = record { denied = denied; failed = failed_of job.end cells old set first ready are_set; clean = writable };
+  true_so_far = λ texts a. record { rest = paste job cells texts; is = refl };
+  keeps_up = λ clean.
+      keeps_still (paste_decided job cells) (λ p. given_of [] (reader_at set p)) was was []
+      (works_nothing job cells (λ p. given_of [] (reader_at set p)) (λ p some. cut_held job.end (reader_at set p) ((are_set p).sound some).held)) (wrote_nothing was) clean;
+  sure = λ p some failed clean. absurd (false≢true (sym (failed_of job.end cells old set first ready are_set p ∙ unfailed_of job.end cells old set first ready are_set p some) ∙ failed));
+  whole = λ ok. cc;
+  peak = λ texts a. omega (arith, same);
+  slots = λ clean. adds;
+  refused = λ clean few. record { readers = λ p some. (are_set p).set some; output = refl };
+  untouched = λ p none. (are_set p).left none;
+  halted = λ fault. absurd (false≢true (sym writable ∙ fault));
+}
+
+module _ (job : Paste) (cells : List ℕ) (old set now : List Reader) (was is : Output) (first store : Slots) (s : Pasting job cells set now was is first store) (writable : was.faulted ≡ false) (ready : AreReady cells old first) (are_set : AreSet job.end cells old set) where
+  named_end : (p : ℕ) → 0 < times cells p → (reader_at set p).ending ≡ job.end
+  named_end = end_of job.end cells old set first ready are_set
+
+  -- setting the ending changes nothing else
+  failed_set : (p : ℕ) → (reader_at set p).failed ≡ (reader_at old p).failed
+  failed_set = failed_of job.end cells old set first ready are_set
+
+  fault_set : (p : ℕ) → 0 < times cells p → (reader_at set p).fault ≡ None
+  fault_set = fault_of job.end cells old set first ready are_set
+
+  never_failed : (p : ℕ) → 0 < times cells p → (reader_at old p).failed ≡ false
+  never_failed = unfailed_of job.end cells old set first ready are_set
+
+  short_set : (p : ℕ) → 0 < times cells p → (reader_at set p).pulled < 2 ^ 63
+  short_set = short_of job.end cells old set first ready are_set
+
+  held_now : (p : ℕ) → 0 < times cells p → length (reader_at now p).held ≤ 8192
+  held_now p some = (s.took p).held ((are_set p).sound some).held
+
+  -- the readers were read on
+  module _ (new : List Reader) (extra : ℕ → List ℕ) (reads : (p : ℕ) → Reads (reader_at now p) (reader_at new p) (extra p)) where
+    abbrev pub given_by : ℕ → Given
+    given_by p = given_of ((s.took p).bytes ++ extra p) (reader_at new p)
+
+    pub came_by : (p : ℕ) → Came (reader_at old p) (reader_at new p) (given_by p)
+    came_by p =
+        came_since job.end cells old set first ready are_set new p ((s.took p).bytes ++ extra p)
+        (reads_trans (reader_at set p) (reader_at now p) (reader_at new p) (s.took p).bytes (extra p) (s.took p).reads (reads p))
+
+    module _ (texts : ℕ → List ℕ) (a : (p : ℕ) → Agrees (given_by p) (texts p)) where
+      rest_of : ℕ → List ℕ
+      rest_of p = (reader_at new p).held ++ (a p).rest
+
+      may_rest : (p : ℕ) → IsDone (reader_at new p) → (reader_at new p).held ++ (a p).rest ≡ []
+      may_rest p done = λ i. done.held i ++ (a p).whole done.ended i
+
+      lines_by : (p : ℕ) → lines job.end (texts p) ≡ s.ls p ++ lines job.end (extra p ++ ((reader_at new p).held ++ (a p).rest))
+      lines_by p =
+          ap (lines job.end) ((a p).is ∙ append_assoc ((s.took p).bytes ++ extra p) (reader_at new p).held (a p).rest ∙ append_assoc (s.took p).bytes (extra p) ((reader_at new p).held ++ (a p).rest))
+          ∙ rest_on job cells set now was is first store s named_end p (reader_at new p) (extra p) ((reader_at new p).held ++ (a p).rest) (reads p) (may_rest p)
+
+      rows_by : rows (columns cells (λ p. lines job.end (texts p))) ≡ s.passed ++ rows (columns cells (λ p. lines job.end (extra p ++ ((reader_at new p).held ++ (a p).rest))))
+      rows_by =
+          (λ i. rows (columns cells (λ p. lines_by p i)))
+          ∙ s.on (λ p. lines job.end (extra p ++ ((reader_at new p).held ++ (a p).rest)))
+          (λ p done. ap (lines job.end) (may_come (reader_at now p) (reader_at new p) (extra p) ((reader_at new p).held ++ (a p).rest) (reads p) (may_rest p) done))
+
+      pub begins_by : Begins (sheet job s.passed) (paste job cells texts)
+      begins_by = record {
+        rest = sheet job (rows (columns cells (λ p. lines job.end (extra p ++ ((reader_at new p).held ++ (a p).rest)))));
+        is = ap (sheet job) rows_by ∙ sheet-append job s.passed (rows (columns cells (λ p. lines job.end (extra p ++ ((reader_at new p).held ++ (a p).rest)))));
+      }
+
+    abbrev whole_by : ℕ → Column
+    whole_by p = whole_lines job.end (given_by p)
+
+    abbrev more_by : ℕ → Column
+    more_by p = whole_lines job.end (record { bytes = extra p ++ (reader_at new p).held; ended = (reader_at new p).ended })
+
+    none_more : (p : ℕ) → IsDone (reader_at now p) → (extra p ++ (reader_at new p).held ≡ []) × ((reader_at new p).ended ≡ true)
+    none_more p done = let k = done_gives_nothing (reader_at now p) (reader_at new p) (extra p) done (reads p) in ((λ i. k.0 i ++ k.1 i), k.2)
+
+    whole_more : (p : ℕ) → whole_by p ≡ s.ls p ++ more_by p
+    whole_more p =
+        ap (λ (b : List ℕ). whole_lines job.end (record { bytes = b; ended = (reader_at new p).ended })) (append_assoc (s.took p).bytes (extra p) (reader_at new p).held)
+        ∙ known_on job.end (reader_at now p) (s.took p).bytes (s.ls p) (s.took p).came (extra p ++ (reader_at new p).held) (reader_at new p).ended (none_more p)
+
+    may_more : (p : ℕ) → IsDone (reader_at now p) → more_by p ≡ []
+    may_more p done = λ i. whole_lines job.end (record { bytes = (none_more p done).0 i; ended = (none_more p done).1 i })
+
+    rows_whole : rows (columns cells whole_by) ≡ s.passed ++ rows (columns cells more_by)
+    rows_whole = (λ i. rows (columns cells (λ p. whole_more p i))) ∙ s.on more_by may_more
+
+    -- what was passed has what was decided before a line of some cell, and a block, came
+    module _ (c : ℕ) (low : c < length cells) (part : Column) (cut : CutBack job.end (s.ls (get_or cells c 0) ++ part) (given_by (get_or cells c 0))) (going : IsDone (reader_at now (get_or cells c 0)) → ⊥) (few : length part ≤ times (take c cells) (get_or cells c 0)) where
+      ls_few : length (s.ls (get_or cells c 0)) ≤ length s.passed * times cells (get_or cells c 0)
+      ls_few =
+          let here = get_or cells c 0 in
+          let fits : length (s.ls here) ≤ s.n * times cells here = ⊎_elim (λ same. omega (arith, same)) (λ few. few.1) (s.took here).enough in
+          omega (arith, fits, ap (λ (n : ℕ). n * times cells here) s.count)
+
+      works_by : WorksOff {I = ℕ} (paste_decided job cells) given_by (sheet job s.passed)
+      works_by = works_behind job cells given_by (get_or cells c 0) s.ls part cut s.passed (λ p. IsDone (reader_at now p)) s.on more_by whole_more may_more going c low refl ls_few few
+
+      begins_by_cut : cut.front ≡ (given_by (get_or cells c 0)).bytes → (given_by (get_or cells c 0)).ended ≡ false → Begins (paste_decided job cells given_by) (sheet job s.passed)
+      begins_by_cut = begins_behind job cells given_by (get_or cells c 0) s.ls part cut s.passed (λ p. IsDone (reader_at now p)) s.on more_by whole_more may_more going c low refl ls_few few
+
+    keeps_by : WorksOff {I = ℕ} (paste_decided job cells) given_by (sheet job s.passed) → KeepsUp {I = ℕ} (paste_decided job cells) given_by was is (sheet job s.passed)
+    keeps_by works = keeps_still (paste_decided job cells) given_by was is (sheet job s.passed) works s.wrote s.clean
+
+    -- whatever became of what was pushed behind it
+    keeps_past : (is' : Output) (bytes : List ℕ) → Wrote is is' bytes → WorksOff {I = ℕ} (paste_decided job cells) given_by (sheet job s.passed) → KeepsUp {I = ℕ} (paste_decided job cells) given_by was is' (sheet job s.passed ++ bytes)
+    keeps_past is' bytes wrote works = keeps_more (paste_decided job cells) given_by was is (sheet job s.passed) works s.wrote s.clean is' bytes wrote
+
+    failed_by : (p : ℕ) → (reader_at new p).failed ≡ (reader_at now p).failed → (reader_at new p).failed ≡ (reader_at old p).failed
+    failed_by p same = same ∙ (s.took p).failed ∙ failed_set p
+
+    untouched_by : (p : ℕ) → times cells p ≡ 0 → reader_at new p ≡ reader_at now p → reader_at new p ≡ reader_at old p
+    untouched_by p none same = same ∙ (s.took p).none (let zero_is : s.n * times cells p ≡ s.n * 0 = ap (λ (k : ℕ). s.n * k) none in zero_is ∙ omega arith) ∙ (are_set p).left none
+
+  -- a growth of a slot was refused
+  module _ (new : List Reader) (extra : ℕ → List ℕ) (reads : (p : ℕ) → Reads (reader_at now p) (reader_at new p) (extra p)) (same : (p : ℕ) → (reader_at new p).failed ≡ (reader_at now p).failed) (left : (p : ℕ) → times cells p ≡ 0 → reader_at new p ≡ reader_at now p) (after : Slots)
+      (adds : Adds first after (length cells)) (peak : (texts : ℕ → List ℕ) → ((p : ℕ) → Agrees (given_by new extra reads p) (texts p)) → after.peak ≤ max first.peak (paste_size job cells texts)) where
+    pub paste_memory : after.denied ≡ true → length cells ≤ length after.lines → WorksOff {I = ℕ} (paste_decided job cells) (given_by new extra reads) (sheet job s.passed) → IsPastePass job cells old new was is first after (Err Memory)
+    paste_memory denied room works = record {
+      given = given_by new extra reads;
+      came = came_by new extra reads;
+      pushed = sheet job s.passed;
+      wrote = s.wrote;
+      ends = record { denied = denied; failed = λ p. failed_by new extra reads p (same p); clean = s.clean };
+      true_so_far = begins_by new extra reads;
+      sure = λ p some failed clean. absurd (false≢true (sym (failed_by new extra reads p (same p) ∙ never_failed p some) ∙ failed));
+      keeps_up = λ clean. keeps_by new extra reads works;
+      whole = λ ok. cc;
+      peak = peak;
+      slots = λ clean. adds;
+      refused = λ clean few. absurd (omega (arith, few, room));
+      untouched = λ p none. untouched_by new extra reads p none (left p none);
+      halted = λ fault. absurd (false≢true (sym writable ∙ fault));
+    }
+
+  -- a row was taken
+  module _ (new : List Reader) (after : Slots) (got : ℕ → Column) (t : RowTaken cells (length cells) now new store after got) where
+    took_by : (p : ℕ) → Took job.end (reader_at now p) (reader_at new p) (times cells p) (got p)
+    took_by p = whole_took job cells set now was is first store s named_end new after got t p
+
+    abbrev row_bytes : ℕ → List ℕ
+    row_bytes p = (took_by p).bytes
+
+    row_reads : (p : ℕ) → Reads (reader_at now p) (reader_at new p) (row_bytes p)
+    row_reads p = (took_by p).reads
+
+    left_by : (p : ℕ) → times cells p ≡ 0 → reader_at new p ≡ reader_at now p
+    left_by p none = (took_by p).none none
+
+    lines_came : (p : ℕ) → LinesCame job.end (reader_at new p) ((s.took p).bytes ++ row_bytes p) (s.ls p ++ got p)
+    lines_came p = lines_trans job.end (reader_at now p) (reader_at new p) (s.took p).bytes (row_bytes p) (s.ls p) (got p) (s.took p).came (row_reads p) (took_by p).came
+
+    kept_by : (texts : ℕ → List ℕ) → ((p : ℕ) → Agrees (given_by new row_bytes row_reads p) (texts p)) → KeepsCells cells (λ p. longest_line job.end (texts p)) first after
+    kept_by texts a =
+        more_kept job cells set now was is first store s named_end new after got t (λ p. longest_line job.end (texts p))
+        (λ p. came_longest job.end (reader_at new p) ((s.took p).bytes ++ row_bytes p) (s.ls p ++ got p) (lines_came p) (texts p) (a p))
+
+    any_kept : KeepsCells cells (λ p. longest (s.ls p ++ got p)) first after
+    any_kept = more_kept job cells set now was is first store s named_end new after got t (λ p. longest (s.ls p ++ got p)) (λ p. omega arith)
+
+    -- up to the last line of the row
+    works_row : (c : ℕ) → c < length cells → length (got (get_or cells c 0)) ≡ times (take c cells) (get_or cells c 0) + 1 → WorksOff {I = ℕ} (paste_decided job cells) (given_by new row_bytes row_reads) (sheet job s.passed)
+    works_row c low last =
+        let p = get_or cells c 0 in
+        let j = times (take c cells) p in
+        let front = take j (got p) in
+        let split : got p ≡ front ++ get_or (got p) j [] ∷ [] =
+        sym (take-append-drop j (got p)) ∙ ap (λ (l : Column). front ++ l) (drop_more (got p) j [] (omega (arith, last)) ∙ ap (λ (l : Column). get_or (got p) j [] ∷ l) (drop_all (j + 1) (got p) (omega (arith, last)))) in
+        let k = subst (LinesCame job.end (reader_at new p) ((s.took p).bytes ++ row_bytes p)) (ap (λ (l : Column). s.ls p ++ l) split ∙ sym (append_assoc (s.ls p) front (get_or (got p) j [] ∷ []))) (lines_came p) in
+        works_by new row_bytes row_reads c low front
+        (cut_last job.end (reader_at new p) ((s.took p).bytes ++ row_bytes p) (s.ls p ++ front) (get_or (got p) j []) ((took_by p).held (held_now p (omega (arith, times_below cells c low)))) k)
+        (λ done. absurd (omega (arith, last, ap length (none_of_done job.end (reader_at now p) (reader_at new p) (times cells p) (got p) (took_by p) done)))) (omega (arith, length-take-le j (got p) (omega (arith, last))))
+
+    -- a write failed while it was pushed
+    pub paste_write : (c : ℕ) → c < length cells → length (got (get_or cells c 0)) ≡ times (take c cells) (get_or cells c 0) + 1 → (is' : Output) → Wrote is is' (glued_from job.delimiters 0 (take (length cells) after.lines) ++ job.end ∷ []) → is'.faulted ≡ true
+        → IsPastePass job cells old new was is' first after (Err Write)
+    paste_write c low last is' wrote fault = record {
+      given = given_by new row_bytes row_reads;
+      came = came_by new row_bytes row_reads;
+      pushed = sheet job s.passed ++ (glued_from job.delimiters 0 (take (length cells) after.lines) ++ job.end ∷ []);
+      wrote = wrote_trans was is is' (sheet job s.passed) (glued_from job.delimiters 0 (take (length cells) after.lines) ++ job.end ∷ []) s.clean s.wrote wrote;
+      ends = record { faulted = fault; failed = λ p. failed_by new row_bytes row_reads p (took_by p).failed; denied = any_kept.denied };
+      true_so_far = λ texts a. record { rest = sheet job (rows (columns cells (later texts a))); is = all texts a };
+      sure = λ p some failed clean. absurd (false≢true (sym clean ∙ fault));
+      keeps_up = λ clean. keeps_past new row_bytes row_reads is' (glued_from job.delimiters 0 (take (length cells) after.lines) ++ job.end ∷ []) wrote (works_row c low last);
+      whole = λ ok. cc;
+      peak = λ texts a. (kept_by texts a).peak;
+      slots = λ clean. any_kept.adds;
+      refused = λ clean few. absurd (omega (arith, few, any_kept.adds.all any_kept.denied));
+      untouched = λ p none. untouched_by new row_bytes row_reads p none (left_by p none);
+      halted = λ halted. absurd (false≢true (sym writable ∙ halted));
+    }
+      where
+        later : (texts : ℕ → List ℕ) → ((p : ℕ) → Agrees (given_by new row_bytes row_reads p) (texts p)) → ℕ → Column
+        later texts a p = lines job.end ((reader_at new p).held ++ (a p).rest)
+
+        may : (texts : ℕ → List ℕ) (a : (p : ℕ) → Agrees (given_by new row_bytes row_reads p) (texts p)) (p : ℕ) → IsDone (reader_at new p) → (reader_at new p).held ++ (a p).rest ≡ []
+        may texts a p done = λ i. done.held i ++ (a p).whole done.ended i
+
+        lines_are : (texts : ℕ → List ℕ) (a : (p : ℕ) → Agrees (given_by new row_bytes row_reads p) (texts p)) (p : ℕ) → lines job.end (texts p) ≡ (s.ls p ++ got p) ++ later texts a p
+        lines_are texts a p =
+            ap (lines job.end) ((a p).is ∙ append_assoc ((s.took p).bytes ++ row_bytes p) (reader_at new p).held (a p).rest)
+            ∙ lines_on job.end (reader_at new p) ((s.took p).bytes ++ row_bytes p) (s.ls p ++ got p) (lines_came p) ((reader_at new p).held ++ (a p).rest) (may texts a p)
+
+        row_is : (texts : ℕ → List ℕ) (a : (p : ℕ) → Agrees (given_by new row_bytes row_reads p) (texts p))
+            → rows (columns cells (λ p. lines job.end (texts p))) ≡ s.passed ++ (take (length cells) after.lines ∷ rows (columns cells (later texts a)))
+        row_is texts a =
+            (λ i. rows (columns cells (λ p. lines_are texts a p i)))
+            ∙ behind job cells set now was is first store s named_end new after got t (later texts a) (λ p done. ap (lines job.end) (may texts a p done))
+            ∙ ap (λ (l : List (List (List ℕ))). s.passed ++ l) (
+            grid_step cells got (later texts a) (record { all = λ p. ⊎_elim (λ same. inl same) (λ few. inr (ap (lines job.end) (may texts a p few.0), few.1)) (took_by p).enough }) c low (omega (arith, last))
+            ∙ (λ i. sym (slots_are job cells set now was is first store s named_end new after got t c low last) i ∷ rows (columns cells (later texts a)))
+            )
+
+        all : (texts : ℕ → List ℕ) (a : (p : ℕ) → Agrees (given_by new row_bytes row_reads p) (texts p))
+            → paste job cells texts ≡ (sheet job s.passed ++ (glued_from job.delimiters 0 (take (length cells) after.lines) ++ job.end ∷ [])) ++ sheet job (rows (columns cells (later texts a)))
+        all texts a =
+            ap (sheet job) (row_is texts a) ∙ sheet-append job s.passed (take (length cells) after.lines ∷ rows (columns cells (later texts a)))
+            ∙ sym (append_assoc (sheet job s.passed) (glued_from job.delimiters 0 (take (length cells) after.lines) ++ job.end ∷ []) (sheet job (rows (columns cells (later texts a)))))
+
+    -- no cell has a line
+    module _ (none : (p : ℕ) → got p ≡ []) where
+      done_by : (p : ℕ) → 0 < times cells p → IsDone (reader_at new p)
+      done_by p some = ⊎_elim (λ same. absurd (omega (arith, same, some, ap length (none p)))) (λ few. few.0) (took_by p).enough
+
+      nothing_left : (texts : ℕ → List ℕ) (a : (p : ℕ) → Agrees (given_by new row_bytes row_reads p) (texts p)) (p : ℕ) → 0 < times cells p → lines job.end (row_bytes p ++ ((reader_at new p).held ++ (a p).rest)) ≡ []
+      nothing_left texts a p some =
+          let rest : (reader_at new p).held ++ (a p).rest ≡ [] = λ i. (done_by p some).held i ++ (a p).whole (done_by p some).ended i in
+          lines_on job.end (reader_at new p) (row_bytes p) (got p) (took_by p).came ((reader_at new p).held ++ (a p).rest) (λ done. rest) ∙ (λ i. none p i ++ lines job.end (rest i))
+
+      empty_slots : KeepsCells cells (λ p. 0) after after
+      empty_slots = record {
+        denied = any_kept.denied;
+        adds = record { least = omega arith; most = omega arith; all = λ allowed. omega (arith, any_kept.adds.all any_kept.denied) };
+        short = λ c low. omega (
+          arith,
+          ap length (t.slots c low ∙ ap (λ (l : Column). slice_index_or l (times (take c cells) (get_or cells c 0)) []) (none (get_or cells c 0))),
+        );
+        others = any_kept.others;
+        peak = omega arith;
+      }
+
+      whole_is : sheet job s.passed ≡ paste job cells (λ p. (given_by new row_bytes row_reads p).bytes)
+      whole_is =
+          let texts : ℕ → List ℕ = λ p. (given_by new row_bytes row_reads p).bytes in
+          let a : (p : ℕ) → Agrees (given_by new row_bytes row_reads p) (texts p) = λ p. record { rest = []; is = sym (append-nil (given_by new row_bytes row_reads p).bytes); whole = λ ended. refl } in
+          sym (ap (sheet job) (rows_by new row_bytes row_reads texts a ∙ ap (λ (l : List (List (List ℕ))). s.passed ++ l) (grid_none cells (λ p. lines job.end (row_bytes p ++ ((reader_at new p).held ++ []))) (nothing_left texts a)) ∙ append-nil s.passed))
+
+      no_more : (p : ℕ) → 0 < times cells p → more_by new row_bytes row_reads p ≡ []
+      no_more p some =
+          let done = done_by p some in
+          (λ i. whole_lines job.end (record { bytes = row_bytes p ++ (reader_at new p).held; ended = done.ended i }))
+          ∙ lines_on job.end (reader_at new p) (row_bytes p) (got p) (took_by p).came (reader_at new p).held (λ done. done.held) ∙ (λ i. none p i ++ lines job.end (done.held i))
+
+      rows_passed : rows (columns cells (whole_by new row_bytes row_reads)) ≡ s.passed
+      rows_passed = rows_whole new row_bytes row_reads ∙ ap (λ (l : List (List (List ℕ))). s.passed ++ l) (grid_none cells (more_by new row_bytes row_reads) no_more) ∙ append-nil s.passed
+
+      pub paste_done : IsPastePass job cells old new was is first after (Ok tt)
+      paste_done = record {
+        given = given_by new row_bytes row_reads;
+        came = came_by new row_bytes row_reads;
+        pushed = sheet job s.passed;
+        wrote = s.wrote;
+        ends = record {
+          read = All-from_get_or (λ p. ReadAll (reader_at old p) (reader_at new p)) cells 0 (λ c low.
+              let p = get_or cells c 0 in
+              let some : 0 < times cells p = omega (arith, times_below cells c low) in
+              record {
+                done = done_by p some;
+                fault = (took_by p).fault ∙ (s.took p).fault ∙ fault_set p some;
+                short = (took_by p).short ((s.took p).short (short_set p some));
+              });
+          failed = λ p. failed_by new row_bytes row_reads p (took_by p).failed;
+          clean = s.clean;
+          denied = any_kept.denied;
+          empty = omega (arith, cells_total cells (λ p. 0) after.lines empty_slots.short empty_slots.others, none_in cells);
+        };
+        true_so_far = begins_by new row_bytes row_reads;
+        sure = λ p some failed clean. absurd (false≢true (sym (failed_by new row_bytes row_reads p (took_by p).failed ∙ never_failed p some) ∙ failed));
+        keeps_up = λ clean. keeps_by new row_bytes row_reads (works_whole job cells (given_by new row_bytes row_reads) s.passed rows_passed);
+        whole = λ ok. whole_is;
+        peak = λ texts a. (kept_by texts a).peak;
+        slots = λ clean. any_kept.adds;
+        refused = λ clean few. absurd (omega (arith, few, any_kept.adds.all any_kept.denied));
+        untouched = λ p none. untouched_by new row_bytes row_reads p none (left_by p none);
+        halted = λ fault. absurd (false≢true (sym writable ∙ fault));
+      }
+
+  -- a cell's reader gave a beginning of a line
+  module _ (new : List Reader) (c : ℕ) (low : c < length cells) (got : ℕ → Column) (mid : List Reader) (held : Slots) (t : RowTaken cells c now mid store held got) (piece : List ℕ)
+      (piece_reads : Reads (reader_at mid (get_or cells c 0)) (reader_at new (get_or cells c 0)) piece) (free : IsLine (reader_at mid (get_or cells c 0)).ending piece)
+      (others : (q : ℕ) → q ≢ get_or cells c 0 → reader_at new q ≡ reader_at mid q) where
+    abbrev here : ℕ
+    here = get_or cells c 0
+
+    here_named : 0 < times cells here
+    here_named = omega (arith, times_below cells c low)
+
+    took_to : (p : ℕ) → Took job.end (reader_at now p) (reader_at mid p) (times (take c cells) p) (got p)
+    took_to p = row_took job cells set now was is first store s named_end c mid held got t p
+
+    abbrev extra : ℕ → List ℕ
+    extra p = cond (p == here) ((took_to p).bytes ++ piece) (took_to p).bytes
+
+    extra_here : (p : ℕ) → p ≡ here → extra p ≡ (took_to p).bytes ++ piece
+    extra_here p same = ap (λ (t : Bool). cond t ((took_to p).bytes ++ piece) (took_to p).bytes) (eq-eqb p here same)
+
+    extra_there : (p : ℕ) → p ≢ here → extra p ≡ (took_to p).bytes
+    extra_there p differ = let no_test : (p == here) ≡ false = grind (arith, nat_tests) in ap (λ (t : Bool). cond t ((took_to p).bytes ++ piece) (took_to p).bytes) no_test
+
+    reads_at : (p : ℕ) → p ≡ here → Reads (reader_at mid p) (reader_at new p) piece
+    reads_at p same = subst (λ (q : ℕ). Reads (reader_at mid q) (reader_at new q) piece) (sym same) piece_reads
+
+    reads_to : (p : ℕ) → Reads (reader_at now p) (reader_at new p) (extra p)
+    reads_to p = ⊎_elim
+        (λ same. subst (λ (b : List ℕ). Reads (reader_at now p) (reader_at new p) b) (sym (extra_here p same)) (reads_trans (reader_at now p) (reader_at mid p) (reader_at new p) (took_to p).bytes piece (took_to p).reads (reads_at p same)))
+        (λ differ. subst (λ (r : Reader). Reads (reader_at now p) r (extra p)) (sym (others p differ)) (subst (λ (b : List ℕ). Reads (reader_at now p) (reader_at mid p) b) (sym (extra_there p differ)) (took_to p).reads))
+        (cases_eq p here)
+
+    lines_to : (p : ℕ) → LinesCame job.end (reader_at mid p) ((s.took p).bytes ++ (took_to p).bytes) (s.ls p ++ got p)
+    lines_to p = lines_trans job.end (reader_at now p) (reader_at mid p) (s.took p).bytes (took_to p).bytes (s.ls p) (got p) (s.took p).came (took_to p).reads (took_to p).came
+
+    free_to : (p : ℕ) → p ≡ here → IsLine job.end piece
+    free_to p same = subst (λ (e : ℕ). IsLine e piece) ((took_to here).reads.ending ∙ (s.took here).reads.ending ∙ named_end here here_named) free
+
+    given_here : (p : ℕ) → p ≡ here → given_by new extra reads_to p ≡ given_of (((s.took p).bytes ++ (took_to p).bytes) ++ piece) (reader_at new p)
+    given_here p same = ap (λ (b : List ℕ). given_of b (reader_at new p)) (ap (λ (b : List ℕ). (s.took p).bytes ++ b) (extra_here p same) ∙ sym (append_assoc (s.took p).bytes (took_to p).bytes piece))
+
+    given_there : (p : ℕ) → p ≢ here → given_by new extra reads_to p ≡ given_of ((s.took p).bytes ++ (took_to p).bytes) (reader_at mid p)
+    given_there p differ = λ i. given_of ((s.took p).bytes ++ extra_there p differ i) (others p differ i)
+
+    held_by : (top : ℕ → ℕ) → ((p : ℕ) → longest (s.ls p ++ got p) ≤ top p) → KeepsCells cells top first held
+    held_by top high = t.kept first top (s.kept top (λ p. omega (arith, high p, longest-append (s.ls p) (got p)))) (λ p. omega (arith, high p, longest-append (s.ls p) (got p)))
+
+    module _ (texts : ℕ → List ℕ) (a : (p : ℕ) → Agrees (given_by new extra reads_to p) (texts p)) where
+      here_short : (p : ℕ) → p ≡ here → max (longest (s.ls p ++ got p)) (length piece) ≤ longest_line job.end (texts p)
+      here_short p same =
+          piece_longest job.end (reader_at mid p) ((s.took p).bytes ++ (took_to p).bytes) (s.ls p ++ got p) (lines_to p) (reader_at new p) piece (reads_at p same) (free_to p same) (texts p)
+          (subst (λ (g : Given). Agrees g (texts p)) (given_here p same) (a p))
+
+      short_to : (p : ℕ) → longest (s.ls p ++ got p) ≤ longest_line job.end (texts p)
+      short_to p = ⊎_elim
+          (λ same. omega (arith, here_short p same))
+          (λ differ. came_longest job.end (reader_at mid p) ((s.took p).bytes ++ (took_to p).bytes) (s.ls p ++ got p) (lines_to p) (texts p) (subst (λ (g : Given). Agrees g (texts p)) (given_there p differ) (a p)))
+          (cases_eq p here)
+
+      kept_to : KeepsCells cells (λ p. longest_line job.end (texts p)) first (with_line held c piece)
+      kept_to = cells_line cells (λ p. longest_line job.end (texts p)) first held (with_line held c piece) c piece
+          (held_by (λ p. longest_line job.end (texts p)) short_to)
+          low (omega (arith, here_short here refl)) refl
+
+    some_kept : KeepsCells cells (λ p. longest (s.ls p ++ got p) + length piece) first (with_line held c piece)
+    some_kept =
+        let top : ℕ → ℕ = λ p. longest (s.ls p ++ got p) + length piece in
+        cells_line cells top first held (with_line held c piece) c piece
+        (held_by top (λ p. omega arith)) low (omega arith) refl
+
+    failed_there : (p : ℕ) → p ≢ here → (reader_at new p).failed ≡ (reader_at now p).failed
+    failed_there p differ = ap (λ (r : Reader). r.failed) (others p differ) ∙ (took_to p).failed
+
+    left_to : (p : ℕ) → times cells p ≡ 0 → reader_at new p ≡ reader_at now p
+    left_to p none = others p (λ same. absurd (omega (arith, none, here_named, ap (times cells) same))) ∙ (took_to p).none (omega (arith, none, times_front cells c p))
+
+    -- a reader that may have more is the one that holds the row up
+    module _ (going : IsDone (reader_at mid here) → ⊥) (few : length (reader_at now here).held ≤ 8192 → length (reader_at new here).held ≤ 8192) where
+      abbrev cut_here : CutBack job.end (s.ls here ++ got here) (given_by new extra reads_to here)
+      cut_here =
+          cut_piece job.end (reader_at mid here) (reader_at new here) ((s.took here).bytes ++ (took_to here).bytes) (s.ls here ++ got here) (lines_to here) going piece ((s.took here).bytes ++ extra here)
+          (ap (λ (b : List ℕ). (s.took here).bytes ++ b) (extra_here here refl) ∙ sym (append_assoc (s.took here).bytes (took_to here).bytes piece)) (free_to here refl) (few (held_now here here_named))
+
+      going_on : IsDone (reader_at now here) → ⊥
+      going_on done = going (stays_done (reader_at now here) (reader_at mid here) (took_to here).bytes done (took_to here).reads)
+
+      got_few : length (got here) ≤ times (take c cells) here
+      got_few = ⊎_elim (λ same. omega (arith, same)) (λ few. few.1) (took_to here).enough
+
+      works_to : WorksOff {I = ℕ} (paste_decided job cells) (given_by new extra reads_to) (sheet job s.passed)
+      works_to = works_by new extra reads_to c low (got here) cut_here going_on got_few
+
+      -- and all that was decided was passed, where nothing is held
+      decided_to : (reader_at new here).held ≡ [] → (reader_at new here).ended ≡ false → Begins (paste_decided job cells (given_by new extra reads_to)) (sheet job s.passed)
+      decided_to empty open_end =
+          begins_by_cut new extra reads_to c low (got here) cut_here going_on got_few
+          (sym (append-nil ((s.took here).bytes ++ extra here)) ∙ ap (λ (b : List ℕ). ((s.took here).bytes ++ extra here) ++ b) (sym empty)) open_end
+
+    -- what was staged could not be sent
+    pub paste_broke_write : (is' : Output) → Wrote is is' [] → is'.faulted ≡ true → reader_at new here ≡ reader_at mid here → (reader_at mid here).ended ≡ false → IsPastePass job cells old new was is' first held (Err Write)
+    paste_broke_write is' wrote fault same going = record {
+      given = given_by new extra reads_to;
+      came = came_by new extra reads_to;
+      pushed = sheet job s.passed ++ [];
+      wrote = wrote_trans was is is' (sheet job s.passed) [] s.clean s.wrote wrote;
+      ends = record { faulted = fault; failed = λ p. failed_by new extra reads_to p (failed_to p); denied = held_kept.denied };
+      true_so_far = λ texts a. subst (λ (b : List ℕ). Begins b (paste job cells texts)) (sym (append-nil (sheet job s.passed))) (begins_by new extra reads_to texts a);
+      sure = λ p some failed clean. absurd (false≢true (sym clean ∙ fault));
+      keeps_up = λ clean. keeps_past new extra reads_to is' [] wrote
+          (works_to (λ done. false≢true (sym going ∙ done.ended)) (λ held. subst (λ (r : Reader). length r.held ≤ 8192) (sym same) ((took_to here).held held)));
+      whole = λ ok. cc;
+      peak = λ texts a. (held_in texts a).peak;
+      slots = λ clean. held_kept.adds;
+      refused = λ clean few. absurd (omega (arith, few, held_kept.adds.all held_kept.denied));
+      untouched = λ p none. untouched_by new extra reads_to p none (left_to p none);
+      halted = λ halted. absurd (false≢true (sym writable ∙ halted));
+    }
+      where
+        failed_to : (p : ℕ) → (reader_at new p).failed ≡ (reader_at now p).failed
+        failed_to p = ⊎_elim (λ at. ap (λ (q : ℕ). (reader_at new q).failed) at ∙ ap (λ (r : Reader). r.failed) same ∙ ap (λ (q : ℕ). (reader_at mid q).failed) (sym at) ∙ (took_to p).failed) (failed_there p) (cases_eq p here)
+
+        held_kept : KeepsCells cells (λ p. longest (s.ls p ++ got p)) first held
+        held_kept = held_by (λ p. longest (s.ls p ++ got p)) (λ p. omega arith)
+
+        held_in : (texts : ℕ → List ℕ) → ((p : ℕ) → Agrees (given_by new extra reads_to p) (texts p)) → KeepsCells cells (λ p. longest_line job.end (texts p)) first held
+        held_in texts a = held_by (λ p. longest_line job.end (texts p)) (short_to texts a)
+
+    -- a growth was refused
+    pub paste_broke_memory : (after : Slots) → after ≡ with_denied (with_line held c piece) → (reader_at new here).failed ≡ (reader_at mid here).failed → 0 < length (reader_at new here).held → (length (reader_at now here).held ≤ 8192 → length (reader_at new here).held ≤ 8192)
+        → IsPastePass job cells old new was is first after (Err Memory)
+    paste_broke_memory after is_after same left few =
+        paste_memory new extra reads_to
+        (λ p. ⊎_elim (λ at. ap (λ (q : ℕ). (reader_at new q).failed) at ∙ same ∙ ap (λ (q : ℕ). (reader_at mid q).failed) (sym at) ∙ (took_to p).failed) (failed_there p) (cases_eq p here))
+        left_to after
+        (record {
+          least = omega (arith, ap (λ (s : Slots). length s.lines) is_after, some_kept.adds.least);
+          most = omega (arith, ap (λ (s : Slots). length s.lines) is_after, some_kept.adds.most);
+          all = λ allowed. absurd (false≢true (sym allowed ∙ denied));
+        })
+        (λ texts a. omega (arith, ap (λ (s : Slots). s.peak) is_after, (kept_to texts a).peak)) denied
+        (omega (arith, ap (λ (s : Slots). length s.lines) is_after, some_kept.adds.all some_kept.denied))
+        (works_to (λ done. absurd (omega (arith, left, ap length (done_gives_nothing (reader_at mid here) (reader_at new here) piece done piece_reads).1))) few)
+      where
+        denied : after.denied ≡ true
+        denied = ap (λ (s : Slots). s.denied) is_after
+
+    -- the read failed
+    pub paste_broke_read : (after : Slots) → after ≡ with_line held c piece → HasReadCause (reader_at mid here) (reader_at new here) → (length (reader_at now here).held ≤ 8192 → length (reader_at new here).held ≤ 8192) → IsPastePass job cells old new was is first after (Err (Read here))
+    paste_broke_read after is_after cause few = record {
+      given = given_by new extra reads_to;
+      came = came_by new extra reads_to;
+      pushed = sheet job s.passed;
+      wrote = s.wrote;
+      ends = record {
+        named = here_named;
+        unfailed = never_failed here here_named;
+        cause = ⊎_elim (λ k. inl k) (λ k. inr (k.0, k.1 ∙ (took_to here).failed ∙ (s.took here).failed ∙ failed_set here)) cause;
+        others = λ q differ. failed_by new extra reads_to q (failed_there q differ);
+        clean = s.clean;
+        denied = ap (λ (s : Slots). s.denied) is_after ∙ some_kept.denied;
+      };
+      true_so_far = begins_by new extra reads_to;
+      sure = λ p some failed fine. ⊎_elim
+          (λ same. ⊎_elim
+          (λ k. decided_to may_have_more few k.1 k.2)
+          (λ k. absurd (false≢true (sym (k.1 ∙ (took_to here).failed ∙ (s.took here).failed ∙ failed_set here ∙ never_failed here here_named) ∙ ap (λ (q : ℕ). (reader_at new q).failed) (sym same) ∙ failed)))
+          cause)
+          (λ differ. absurd (false≢true (sym (failed_by new extra reads_to p (failed_there p differ) ∙ never_failed p some) ∙ failed)))
+          (cases_eq p here);
+      keeps_up = λ clean. keeps_by new extra reads_to (works_to may_have_more few);
+      whole = λ ok. cc;
+      peak = λ texts a. omega (arith, ap (λ (s : Slots). s.peak) is_after, (kept_to texts a).peak);
+      slots = λ clean. subst (λ (s : Slots). Adds first s (length cells)) (sym is_after) some_kept.adds;
+      refused = λ clean few. absurd (omega (arith, few, ap (λ (s : Slots). length s.lines) is_after, some_kept.adds.all some_kept.denied));
+      untouched = λ p none. untouched_by new extra reads_to p none (left_to p none);
+      halted = λ fault. absurd (false≢true (sym writable ∙ fault));
+    }
+      where
+        may_have_more : IsDone (reader_at mid here) → ⊥
+        may_have_more done = ⊎_elim
+            (λ k. false≢true (sym k.2 ∙ (done_gives_nothing (reader_at mid here) (reader_at new here) piece done piece_reads).2))
+            (λ k. absurd (omega (arith, k.0, (piece_reads.still done.ended).0, (took_to here).short ((s.took here).short (short_set here here_named)))))
+            cause
+
+-- a row could not be filled
+pub paste_broke : (job : Paste) (cells : List ℕ) (old set now : List Reader) (was is is' : Output) (first store : Slots) (s : Pasting job cells set now was is first store) → was.faulted ≡ false → AreReady cells old first → AreSet job.end cells old set → (new : List Reader) (after : Slots) (e : FlowFault)
+    → FillsRow cells now new store after (Err e) → Wrote is is' [] → is'.faulted ≡ is_write (Err e) → IsPastePass job cells old new was is' first after (Err e)
+paste_broke job cells old set now was is is' first store s writable ready are_set new after (Read place) f wrote clean =
+    let b = f.0 in
+    let k = b.breaks in
+    let t = pasting_sent job cells set now was is is' first store s wrote clean in
+    subst (λ (p : ℕ). IsPastePass job cells old new was is' first after (Err (Read p))) (sym f.1)
+    (paste_broke_read job cells old set now was is' first store t writable ready are_set new b.column b.within b.got b.mid b.held b.taken k.piece k.faults.reads k.faults.whole b.others after k.stored k.cause b.few)
+paste_broke job cells old set now was is is' first store s writable ready are_set new after Write f wrote fault =
+    let k = f.breaks in
+    let here = get_or cells f.column 0 in
+    subst (λ (x : Slots). IsPastePass job cells old new was is' first x (Err Write)) (sym k.1)
+    (paste_broke_write job cells old set now was is first store s writable ready are_set new f.column f.within f.got f.mid f.held f.taken []
+    (subst (λ (r : Reader). Reads (reader_at f.mid here) r []) (sym k.0) (reads_nothing (reader_at f.mid here))) tt f.others is' wrote fault k.0 k.2)
+paste_broke job cells old set now was is is' first store s writable ready are_set new after Memory f wrote clean =
+    let k = f.breaks in
+    let t = pasting_sent job cells set now was is is' first store s wrote clean in
+    paste_broke_memory job cells old set now was is' first store t writable ready are_set new f.column f.within f.got f.mid f.held f.taken k.piece k.faults.reads k.faults.whole f.others after k.stored k.failed k.left f.few
+
+-- the slots are there
+pub pasting_room : (job : Paste) (cells : List ℕ) (set now : List Reader) (was is : Output) (first store : Slots) → Pasting job cells set now was is first store → length cells ≤ length store.lines
+pasting_room job cells set now was is first store s =
+    let k = s.kept (λ p. longest (s.ls p)) (λ p. omega arith) in
+    omega (arith, k.adds.all k.denied)
+
+-- nothing was done
+pub paste_halted : (job : Paste) (cells : List ℕ) (old : List Reader) (was : Output) (first : Slots) → AreReady cells old first → was.faulted ≡ true → IsPastePass job cells old old was was first first (Err Write)
+paste_halted job cells old was first ready fault = record {
+  given = λ p. given_of [] (reader_at old p);
+  came = λ p. came_of (reader_at old p) (reader_at old p) [] (reads_nothing (reader_at old p));
+  pushed = [];
+  wrote = wrote_nothing was;
+  ends = record { faulted = fault; failed = λ p. refl; denied = ready.roomy };
+  true_so_far = λ texts a. record { rest = paste job cells texts; is = refl };
+  sure = λ p some failed clean. absurd (false≢true (sym clean ∙ fault));
+  keeps_up = λ clean. absurd (false≢true (sym clean ∙ fault));
+  whole = λ ok. cc;
+  peak = λ texts a. omega arith;
+  slots = λ clean. absurd (false≢true (sym clean ∙ fault));
+  refused = λ clean few. absurd (false≢true (sym clean ∙ fault));
+  untouched = λ p none. refl;
+  halted = λ h. record { told = refl; same_readers = refl; same_output = refl; same_store = refl };
+}

@@ -1,0 +1,189 @@
+-- What `paste` in series writes of the rest of a text, byte by byte and block by block.
+use Rattle.std.proofs.Common.{◌≡◌, ◌≢◌, ℕ, ◌+◌, ◌==◌, ◌<◌, ◌≤◌, Bool, true, false, cond, List, [], ◌∷◌, ◌++◌, Option, Some, length, map, take, drop, length-append, refl, sym, ◌∙◌, ap, arith, append_assoc}
+use Rattle.std.specs.Prelude.{option_to_list}
+use Rattle.std.specs.List.{onto_first}
+use Rattle.std.proofs.lemmas.List.{append-nil, append_cancel_right}
+use Rattle.memchr.specs.Find.{IsFirstByte, is_byte}
+use Rattle.ptlines.specs.Text.{lines, ended_lines, IsLine}
+use Rattle.ptlines.specs.Inputs.{Begins}
+use Rattle.ptlines.specs.Outputs.{Output, Wrote}
+use Rattle.ptlines.proofs.Scanned.{before_end}
+use Rattle.ptlines.proofs.TextLaws.{lines_first, lines_of_text, other_byte}
+use Rattle.ptlangs.specs.Jobs.{Paste}
+use Rattle.ptflow.specs.Pastes.{delimiter, glued_from, serial_decided}
+use Rattle.ptflow.specs.Workings.Paste.SerialRests.{row_rest, row_from, serial_rest, begun, lead, Puts, PutsBlock, IsAlways, with_delimiter}
+use Rattle.ptflow.specs.declared.tools.paste.serial.Cell.{Cell}
+use Rattle.ptflow.proofs.OfPasses.Continuations.{Amid, amid_more}
+use Rattle.ptflow.proofs.OfPasses.LineLaws.{parts_of, split_of}
+
+pub begun_number : (cell : Cell) → (begun cell).number ≤ cell.number + 1
+begun_number cell = by_ended cell.ended
+  where
+    by_ended : (t : Bool) → cond t (cell.number + 1) cell.number ≤ cell.number + 1
+    by_ended true = omega arith
+    by_ended false = omega arith
+
+module _ (end : ℕ) (delims : List (Option ℕ)) where
+  -- a line, and then what follows its cell
+  pub row_line : (number : ℕ) (line : List ℕ) (more : List (List ℕ)) → row_rest end delims number false (line ∷ more) ≡ line ++ row_rest end delims number true more
+  row_line number line [] = refl
+  row_line number line (l ∷ more) =
+      append_assoc (line ++ delimiter delims number) (glued_from delims (number + 1) (l ∷ more)) (end ∷ []) ∙ append_assoc line (delimiter delims number) (glued_from delims (number + 1) (l ∷ more) ++ end ∷ [])
+
+  -- one more byte of the first line
+  row_byte : (number b : ℕ) (ls : List (List ℕ)) → row_rest end delims number false (onto_first b ls) ≡ b ∷ row_rest end delims number false ls
+  row_byte number b [] = refl
+  row_byte number b (l ∷ []) = refl
+  row_byte number b (l ∷ m ∷ ls) = refl
+
+  -- the cell to which the next line belongs
+  pub row_begun : (cell : Cell) (line : List ℕ) (more : List (List ℕ)) → row_rest end delims cell.number cell.ended (line ∷ more) ≡ lead delims cell ++ row_rest end delims (begun cell).number false (line ∷ more)
+  row_begun cell line more = by_ended cell.ended
+    where
+      by_ended : (t : Bool) → row_rest end delims cell.number t (line ∷ more) ≡ cond t (delimiter delims cell.number) [] ++ row_rest end delims (cond t (cell.number + 1) cell.number) false (line ∷ more)
+      by_ended true = refl
+      by_ended false = refl
+
+  begun_lines : (cell : Cell) (ls : List (List ℕ)) → ls ≢ [] → row_rest end delims cell.number cell.ended ls ≡ lead delims cell ++ row_rest end delims (begun cell).number false ls
+  begun_lines cell [] some = absurd (some refl)
+  begun_lines cell (l ∷ ls) some = row_begun cell l ls
+
+  some_lines : (b : ℕ) (bytes : List ℕ) → lines end (b ∷ bytes) ≢ []
+  some_lines b bytes = by_test (b == end) (lines end bytes)
+    where
+      by_test : (t : Bool) (ls : List (List ℕ)) → cond t ([] ∷ ls) (onto_first b ls) ≢ []
+      by_test true ls e = cc
+      by_test false [] e = cc
+      by_test false (l ∷ ls) e = cc
+
+  -- some bytes belong to the cell that begins
+  begun_some : (cell : Cell) (bytes : List ℕ) → 0 < length bytes → serial_rest end delims cell bytes ≡ lead delims cell ++ serial_rest end delims (begun cell) bytes
+  begun_some cell [] some = absurd (omega (arith, some))
+  begun_some cell (b ∷ bytes) some = begun_lines cell (lines end (b ∷ bytes)) (some_lines b bytes)
+
+  pub begun_on : (cell : Cell) (rest : List ℕ) → 0 < length rest → (more : List ℕ) → serial_rest end delims cell (rest ++ more) ≡ lead delims cell ++ serial_rest end delims (begun cell) (rest ++ more)
+  begun_on cell rest some more = begun_some cell (rest ++ more) (omega (arith, some, length-append rest more))
+
+  pub begins : (start cell : Cell) (block rest : List ℕ) (was is is' : Output) → Amid (serial_rest end delims) start cell block rest was is → 0 < length rest → Wrote is is' (lead delims cell) → is'.faulted ≡ false → Amid (serial_rest end delims) start (begun cell) block rest was is'
+  begins start cell block rest was is is' a some wrote clean = amid_more (serial_rest end delims) start cell (begun cell) block rest rest (lead delims cell) was is is' a wrote (begun_on cell rest some) clean
+
+  -- a line of the cell, up to its end
+  pub cell_on : (number : ℕ) (rest : List ℕ) (at : ℕ) → IsFirstByte (is_byte end) rest (Some at) → (more : List ℕ)
+      → serial_rest end delims (record { number = number; ended = false }) (rest ++ more) ≡ take at rest ++ serial_rest end delims (record { number = number; ended = true }) (drop (at + 1) rest ++ more)
+  cell_on number rest at first more =
+      ap (λ (l : List ℕ). row_rest end delims number false (lines end l)) (ap (λ (l : List ℕ). l ++ more) (split_of end rest at first) ∙ append_assoc (take at rest) (end ∷ drop (at + 1) rest) more)
+      ∙ ap (row_rest end delims number false) (lines_first end (take at rest) (drop (at + 1) rest ++ more) (before_end end rest at first)) ∙ row_line number (take at rest) (lines end (drop (at + 1) rest ++ more))
+
+  -- a piece of a line of the cell
+  pub piece_on : (number : ℕ) (piece : List ℕ) → IsLine end piece → (more : List ℕ) → row_rest end delims number false (lines end (piece ++ more)) ≡ piece ++ row_rest end delims number false (lines end more)
+  piece_on number [] free more = refl
+  piece_on number (b ∷ piece) free more =
+      ap (λ (t : Bool). row_rest end delims number false (cond t ([] ∷ lines end (piece ++ more)) (onto_first b (lines end (piece ++ more))))) (other_byte end b free.0)
+      ∙ row_byte number b (lines end (piece ++ more)) ∙ ap (λ (l : List ℕ). b ∷ l) (piece_on number piece free.1 more)
+
+  -- ---- what is put of the bytes of cells, behind which more comes
+
+  pub puts_none : (number : ℕ) (bytes : List ℕ) → Puts end delims number bytes number bytes []
+  puts_none number bytes more some = refl
+
+  -- a line of a cell and the delimiter behind it
+  pub puts_line : (number now : ℕ) (bytes rest written is delim : List ℕ) (at : ℕ) → Puts end delims number bytes now rest written → IsFirstByte (is_byte end) rest (Some at)
+      → is ≡ (written ++ take at rest) ++ delim → delim ≡ delimiter delims now → Puts end delims number bytes (now + 1) (drop (at + 1) rest) is
+  puts_line number now bytes rest written is delim at puts first copied delim_is more some =
+      let left = drop (at + 1) rest ++ more in
+      let next = row_rest end delims (now + 1) false (lines end left) in
+      puts more some
+      ∙ ap (λ (l : List ℕ). written ++ l) (
+      cell_on now rest at first more
+      ∙ ap (λ (l : List ℕ). take at rest ++ l) (begun_some (record { number = now; ended = true }) left (omega (arith, some, length-append (drop (at + 1) rest) more)))
+      )
+      ∙ sym (append_assoc written (take at rest) (delimiter delims now ++ next))
+      ∙ sym (append_assoc (written ++ take at rest) (delimiter delims now) next)
+      ∙ ap (λ (d : List ℕ). ((written ++ take at rest) ++ d) ++ next) (sym delim_is)
+      ∙ ap (λ (l : List ℕ). l ++ next) (sym copied)
+
+  -- a piece of a line
+  pub puts_piece : (number now : ℕ) (bytes rest written is : List ℕ) → Puts end delims number bytes now rest written → IsLine end rest → is ≡ written ++ rest → Puts end delims number bytes now [] is
+  puts_piece number now bytes rest written is puts free copied more some =
+      let next = row_rest end delims now false (lines end more) in
+      puts more some ∙ ap (λ (l : List ℕ). written ++ l) (piece_on now rest free more) ∙ sym (append_assoc written rest next) ∙ ap (λ (l : List ℕ). l ++ next) (sym copied)
+
+  -- the last byte of a block ends its line
+  pub puts_ended : (number now : ℕ) (bytes written : List ℕ) → Puts end delims number bytes now [] written → PutsBlock end delims number (bytes ++ end ∷ []) (record { number = now; ended = true }) written
+  puts_ended number now bytes written puts more =
+      ap (λ (l : List ℕ). row_rest end delims number false (lines end l)) (append_assoc bytes (end ∷ []) more)
+      ∙ puts (end ∷ more) (omega arith)
+      ∙ ap (λ (l : List ℕ). written ++ l) (ap (row_rest end delims now false) (lines_first end [] more tt) ∙ row_line now [] (lines end more))
+
+  -- or it belongs to it
+  pub puts_last : (number now last : ℕ) (bytes written : List ℕ) → Puts end delims number bytes now [] written → (last ≡ end → ⊥)
+      → PutsBlock end delims number (bytes ++ last ∷ []) (record { number = now; ended = false }) (written ++ last ∷ [])
+  puts_last number now last bytes written puts other more =
+      ap (λ (l : List ℕ). row_rest end delims number false (lines end l)) (append_assoc bytes (last ∷ []) more)
+      ∙ puts (last ∷ more) (omega arith)
+      ∙ ap (λ (l : List ℕ). written ++ l) (piece_on now (last ∷ []) (other, tt) more)
+      ∙ sym (append_assoc written (last ∷ []) (row_rest end delims now false (lines end more)))
+
+  -- ---- one delimiter behind every cell
+
+  module _ (delim : ℕ) (always : IsAlways delims delim) where
+    same_glued : (n m : ℕ) (ls : List (List ℕ)) → glued_from delims n ls ≡ glued_from delims m ls
+    same_glued n m [] = refl
+    same_glued n m (x ∷ []) = refl
+    same_glued n m (x ∷ y ∷ ls) = λ i. (x ++ option_to_list ((always n ∙ sym (always m)) i)) ++ same_glued (n + 1) (m + 1) (y ∷ ls) i
+
+    always_puts : (n m : ℕ) (bytes more : List ℕ) → 0 < length more
+        → row_rest end delims n false (lines end (bytes ++ more)) ≡ map (with_delimiter (record { ending = end; delim = delim })) bytes ++ row_rest end delims m false (lines end more)
+    always_puts n m [] more some = ap (λ (l : List ℕ). l ++ end ∷ []) (same_glued n m (lines end more))
+    always_puts n m (b ∷ bytes) more some = by_test (λ k. always_puts k m bytes more some) (b == end)
+      where
+        left : List ℕ
+        left = bytes ++ more
+
+        done : List ℕ
+        done = map (with_delimiter (record { ending = end; delim = delim })) bytes ++ row_rest end delims m false (lines end more)
+
+        by_test : ((k : ℕ) → row_rest end delims k false (lines end left) ≡ done) → (t : Bool) → row_rest end delims n false (cond t ([] ∷ lines end left) (onto_first b (lines end left))) ≡ cond t delim b ∷ done
+        by_test next true =
+            row_line n [] (lines end left)
+            ∙ begun_some (record { number = n; ended = true }) left (omega (arith, some, length-append bytes more))
+            ∙ (λ i. option_to_list (always n i) ++ next (n + 1) i)
+        by_test next false = row_byte n b (lines end left) ∙ ap (λ (l : List ℕ). b ∷ l) (next n)
+
+    pub puts_always : (number : ℕ) (bytes written : List ℕ) → written ≡ map (with_delimiter (record { ending = end; delim = delim })) bytes → Puts end delims number bytes number [] written
+    puts_always number bytes written is more some = always_puts number number bytes more some ∙ ap (λ (l : List ℕ). l ++ row_rest end delims number false (lines end more)) (sym is)
+
+  -- ---- what is decided
+
+  glued_begins : (number : ℕ) (xs ys : List (List ℕ)) → Begins (glued_from delims number xs) (glued_from delims number (xs ++ ys))
+  glued_begins number [] ys = record { rest = glued_from delims number ys; is = refl }
+  glued_begins number (x ∷ []) [] = record { rest = []; is = sym (append-nil x) }
+  glued_begins number (x ∷ []) (y ∷ ys) = record { rest = delimiter delims number ++ glued_from delims (number + 1) (y ∷ ys); is = append_assoc x (delimiter delims number) (glued_from delims (number + 1) (y ∷ ys)) }
+  glued_begins number (x ∷ z ∷ xs) ys =
+      let b = glued_begins (number + 1) (z ∷ xs) ys in record {
+        rest = b.rest;
+        is = ap (λ (l : List ℕ). (x ++ delimiter delims number) ++ l) b.is ∙ sym (append_assoc (x ++ delimiter delims number) (glued_from delims (number + 1) (z ∷ xs)) b.rest);
+      }
+
+  pub row_end : (cell : Cell) → row_from end delims cell [] ≡ end ∷ []
+  row_end cell = by_ended cell.ended
+    where
+      by_ended : (t : Bool) → row_rest end delims cell.number t [] ≡ end ∷ []
+      by_ended true = refl
+      by_ended false = refl
+
+-- what was pushed of these bytes has their whole lines in front
+pub serial_is_decided : (job : Paste) (given pushed : List ℕ) (now : Cell) → ((rest : List ℕ) → serial_rest job.end job.delimiters (record { number = 0; ended = false }) (given ++ rest) ≡ pushed ++ serial_rest job.end job.delimiters now rest)
+    → Begins (serial_decided job (record { bytes = given; ended = false })) pushed
+serial_is_decided job given pushed now on =
+    let p = parts_of job.end given in
+    let ls = ended_lines job.end given in
+    let all : lines job.end given ≡ ls ++ lines job.end p.piece = ap (lines job.end) p.is ∙ lines_of_text job.end ls p.piece p.whole in
+    let pushed_is : glued_from job.delimiters 0 (lines job.end given) ≡ pushed =
+    append_cancel_right (glued_from job.delimiters 0 (lines job.end given)) pushed (job.end ∷ []) (
+    ap (λ (l : List ℕ). glued_from job.delimiters 0 (lines job.end l) ++ job.end ∷ []) (sym (append-nil given)) ∙ on [] ∙ ap (λ (l : List ℕ). pushed ++ l) (row_end job.end job.delimiters now)
+    ) in
+    let b = glued_begins job.end job.delimiters 0 ls (lines job.end p.piece) in record {
+      rest = b.rest;
+      is = sym pushed_is ∙ ap (glued_from job.delimiters 0) all ∙ b.is ∙ ap (λ (l : List ℕ). l ++ b.rest) (sym (append-nil (glued_from job.delimiters 0 ls)));
+    }

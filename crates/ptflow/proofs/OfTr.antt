@@ -1,0 +1,5 @@
+-- `tr`.
+pub mod PartsTr
+pub mod SqueezeLemmas
+pub mod TrRests
+pub mod TrRows

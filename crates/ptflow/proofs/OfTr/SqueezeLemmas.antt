@@ -1,0 +1,174 @@
+-- Bytes that stay where repeats are squeezed. Whether one stays is told by it and the byte in front of it, so a text is
+-- worked in pieces, each of them with the byte in front of it.
+use Rattle.std.proofs.Common.{◌≡◌, ℕ, zero, suc, ◌%◌, ◌^◌, map, bit_and, negsuc, pos, ◌+◌, ◌-◌, ◌*◌, ◌<◌, ◌≤◌, ◌&&◌, not, eqb, Bool, true, false, cond, List, [], ◌∷◌, ◌++◌, Option, Some, length, take, drop, set, get_or, refl, sym, ◌∙◌, ap, arith, append_assoc, add-one, drop-cons, w8}
+use Rattle.std.specs.Option.{option_eq}
+use Rattle.std.specs.Int.{bit_not, cast_unsigned}
+use Rattle.std.specs.Simd.Lanes.{zip2, chunk, Each1, mask_l, top}
+use mir.Val.{bool_byte, Fits}
+use Rattle.std.proofs.Math.Facts.{Fits-lt-pow}
+use Rattle.std.proofs.lemmas.List.{append-nil, take-append-drop, drop-drop, drop_all, take-set, take_more_set, take-take}
+use Rattle.std.proofs.lemmas.Simd.{get_or-chunk, length-chunk, length-zip2, mask_l-mod, tops_compared}
+use Rattle.ptflow.specs.Translations.{stays, squeeze_behind}
+use Rattle.ptflow.specs.Workings.Bytes.ByteSets.{mask_of}
+use Rattle.ptflow.specs.Workings.Bytes.Packings.{chosen_by}
+use Rattle.ptflow.specs.Workings.Tr.TrRests.{squeeze_from}
+use Rattle.ptflow.proofs.OfTr.TrRests.{behind_one, from_one}
+
+module _ (squeezed : ℕ → Bool) where
+  -- a piece and the next one, with the last byte of the piece in front of it
+  behind_on : (last : ℕ) (xs ys : List ℕ) → squeeze_behind squeezed last (xs ++ ys) ≡ squeeze_behind squeezed last xs ++ squeeze_behind squeezed (get_or (last ∷ xs) (length xs) 0) ys
+  behind_on last [] ys = refl
+  behind_on last (b ∷ xs) ys =
+      behind_one squeezed last b (xs ++ ys) ∙ by_test (behind_on b xs ys) (stays squeezed (last, b)) ∙ ap (λ (l : List ℕ). l ++ squeeze_behind squeezed (get_or (b ∷ xs) (length xs) 0) ys) (sym (behind_one squeezed last b xs))
+    where
+      by_test : squeeze_behind squeezed b (xs ++ ys) ≡ squeeze_behind squeezed b xs ++ squeeze_behind squeezed (get_or (b ∷ xs) (length xs) 0) ys → (s : Bool)
+          → cond s (b ∷ squeeze_behind squeezed b (xs ++ ys)) (squeeze_behind squeezed b (xs ++ ys)) ≡ cond s (b ∷ squeeze_behind squeezed b xs) (squeeze_behind squeezed b xs) ++ squeeze_behind squeezed (get_or (b ∷ xs) (length xs) 0) ys
+      by_test more true = ap (λ (l : List ℕ). b ∷ l) more
+      by_test more false = more
+
+  -- of a piece those stay that are no repeat of the byte in front of them
+  pub chosen_behind : (last : ℕ) (bytes : List ℕ) → chosen_by (zip2 (λ a b. not (eqb a b && squeezed b)) (take (length bytes) (last ∷ bytes)) bytes) bytes ≡ squeeze_behind squeezed last bytes
+  chosen_behind last [] = refl
+  chosen_behind last (b ∷ bytes) = ap (λ (l : List ℕ). cond (stays squeezed (last, b)) (b ∷ l) l) (chosen_behind b bytes) ∙ sym (behind_one squeezed last b bytes)
+
+  one_more : (into rest : List ℕ) (count b : ℕ) (again : Bool) → count < length into → take (count + bool_byte (not again)) (set into count b) ++ rest ≡ take count into ++ cond (not again) (b ∷ rest) rest
+  one_more into rest count b true room = let same : count + 0 ≡ count = omega arith in ap (λ (l : List ℕ). l ++ rest) (rw same (take-set into count b))
+  one_more into rest count b false room = ap (λ (l : List ℕ). l ++ rest) (take_more_set into count b room) ∙ append_assoc (take count into) (b ∷ []) rest
+
+  -- What was put down, and what stays of the bytes from a place on, is the whole.
+  pub record Squeezing (from into : List ℕ) (at count : ℕ) (whole : List ℕ) : Type 0 where
+    pub is : take count into ++ squeeze_behind squeezed (get_or from (at - 1) 0) (drop at from) ≡ whole
+    pub behind : 0 < at
+    pub within : at ≤ length from
+    pub counted : count ≤ at
+
+  pub squeezing_starts : (last : Option ℕ) (from into : List ℕ) (again : Bool) (count : ℕ) → 0 < length from → 0 < length into → again ≡ (option_eq eqb last (Some (get_or from 0 0)) && squeezed (get_or from 0 0))
+      → count ≡ bool_byte (not again) → Squeezing from (set into 0 (get_or from 0 0)) 1 count (squeeze_from squeezed last from)
+  squeezing_starts last [] into again count some room is n = absurd (omega arith)
+  squeezing_starts last (b ∷ from) into again count some room is n = record {
+    is =
+        (let plus : count ≡ 0 + bool_byte (not again) = omega arith in ap (λ (k : ℕ). take k (set into 0 b) ++ squeeze_behind squeezed b from) plus)
+        ∙ one_more into (squeeze_behind squeezed b from) 0 b again room
+        ∙ ap (λ (a : Bool). cond (not a) (b ∷ squeeze_behind squeezed b from) (squeeze_behind squeezed b from)) is
+        ∙ sym (from_one squeezed last b from);
+    behind = omega arith;
+    within = omega arith;
+    counted = small again n;
+  }
+    where
+      small : (again : Bool) → count ≡ bool_byte (not again) → count ≤ 1
+      small true n = omega arith
+      small false n = omega arith
+
+  module _ (from into : List ℕ) (at count : ℕ) (whole : List ℕ) (s : Squeezing from into at count whole) where
+    -- one byte more
+    pub squeezing_one : (again : Bool) (add : ℕ) → at < length from → count < length into → again ≡ (eqb (get_or from (at - 1) 0) (get_or from at 0) && squeezed (get_or from at 0))
+        → add ≡ bool_byte (not again) → Squeezing from (set into count (get_or from at 0)) (at + 1) (count + add) whole
+    squeezing_one again add more room is n =
+        let b = get_or from at 0 in
+        let rest = squeeze_behind squeezed b (drop (at + 1) from) in
+        let front : drop at from ≡ b ∷ drop (at + 1) from = rw add-one (drop-cons from at 0 more) in
+        let here : at + 1 - 1 ≡ at = omega arith in
+        record {
+          is =
+              (λ i. take (count + n i) (set into count b) ++ squeeze_behind squeezed (get_or from (here i) 0) (drop (at + 1) from))
+              ∙ one_more into rest count b again room
+              ∙ ap (λ (a : Bool). take count into ++ cond (not a) (b ∷ rest) rest) is
+              ∙ ap (λ (l : List ℕ). take count into ++ l) (sym (behind_one squeezed (get_or from (at - 1) 0) b (drop (at + 1) from)))
+              ∙ ap (λ (l : List ℕ). take count into ++ squeeze_behind squeezed (get_or from (at - 1) 0) l) (sym front)
+              ∙ s.is;
+          behind = omega arith;
+          within = omega arith;
+          counted = omega (arith, small again n, s.counted);
+        }
+      where
+        small : (again : Bool) → add ≡ bool_byte (not again) → add ≤ 1
+        small true n = omega arith
+        small false n = omega arith
+
+    -- a piece more
+    pub squeezing_piece : (into' : List ℕ) (count' size : ℕ) → 0 < size → at + size ≤ length from → count' ≤ count + size
+        → take count' into' ≡ take count into ++ squeeze_behind squeezed (get_or from (at - 1) 0) (take size (drop at from)) → Squeezing from into' (at + size) count' whole
+    squeezing_piece into' count' size some room few made =
+        let last = get_or from (at - 1) 0 in
+        let piece = take size (drop at from) in
+        let long : length piece ≡ size = length-chunk at size from room in
+        let split : drop at from ≡ piece ++ drop (at + size) from = sym (take-append-drop size (drop at from)) ∙ ap (λ (l : List ℕ). piece ++ l) (drop-drop size at from) in
+        let end : get_or (last ∷ piece) (length piece) 0 ≡ get_or from (at + size - 1) 0 = at_end size some room in
+        record {
+          is =
+              ap (λ (l : List ℕ). l ++ squeeze_behind squeezed (get_or from (at + size - 1) 0) (drop (at + size) from)) made
+              ∙ append_assoc (take count into) (squeeze_behind squeezed last piece) (squeeze_behind squeezed (get_or from (at + size - 1) 0) (drop (at + size) from))
+              ∙ ap (λ (b : ℕ). take count into ++ (squeeze_behind squeezed last piece ++ squeeze_behind squeezed b (drop (at + size) from))) (sym end)
+              ∙ ap (λ (l : List ℕ). take count into ++ l) (sym (behind_on last piece (drop (at + size) from)))
+              ∙ ap (λ (l : List ℕ). take count into ++ squeeze_behind squeezed last l) (sym split)
+              ∙ s.is;
+          behind = omega arith;
+          within = omega arith;
+          counted = omega (arith, s.counted);
+        }
+      where
+        at_end : (size : ℕ) → 0 < size → at + size ≤ length from → get_or (get_or from (at - 1) 0 ∷ take size (drop at from)) (length (take size (drop at from))) 0 ≡ get_or from (at + size - 1) 0
+        at_end zero some room = absurd (omega arith)
+        at_end (suc n) some room =
+            let long : length (take (suc n) (drop at from)) ≡ suc n = length-chunk at (suc n) from room in
+            let place : at + suc n - 1 ≡ at + n = omega arith in
+            ap (λ (k : ℕ). get_or (get_or from (at - 1) 0 ∷ take (suc n) (drop at from)) k 0) long
+            ∙ get_or-chunk at (suc n) from n 0 (omega arith)
+            ∙ ap (λ (k : ℕ). get_or from k 0) (sym place)
+
+    -- no byte is left
+    pub squeezing_ends : length from ≤ at → take count into ≡ whole
+    squeezing_ends past =
+        sym (append-nil (take count into)) ∙ ap (λ (l : List ℕ). take count into ++ squeeze_behind squeezed (get_or from (at - 1) 0) l) (sym (drop_all at from past)) ∙ s.is
+
+-- the bytes in front of those of a piece
+pub in_front_of : (from : List ℕ) (at n : ℕ) → 0 < at → at + suc n ≤ length from
+    → chunk (at - 1) (suc n) from ≡ take (length (chunk at (suc n) from)) (get_or from (at - 1) 0 ∷ chunk at (suc n) from)
+in_front_of from at n behind room =
+    let last = get_or from (at - 1) 0 in
+    let next : suc (at - 1) ≡ at = omega arith in
+    let front : drop (at - 1) from ≡ last ∷ drop at from = drop-cons from (at - 1) 0 (omega arith) ∙ ap (λ (k : ℕ). last ∷ drop k from) next in
+    ap (take (suc n)) front ∙ ap (λ (l : List ℕ). last ∷ l) (sym (take-take n (suc n) (drop at from) (omega arith))) ∙ ap (λ (k : ℕ). take k (last ∷ chunk at (suc n) from)) (sym (length-chunk at (suc n) from room))
+
+-- the mask of the lanes that are no repeat of the byte in front of them
+pub stays_mask : (test : ℕ → Bool) (front bytes : List ℕ) → length front ≡ length bytes → length bytes ≤ 64
+    → mask_l (map (top 7) (map (bit_not w8) (zip2 bit_and (zip2 (λ a b. cond (eqb a b) 255 0) front bytes) (map (cast_unsigned w8) (mask_of test bytes))))) % 2 ^ 64
+    ≡ mask_l (zip2 (λ a b. not (eqb a b && test b)) front bytes)
+stays_mask test front bytes same few =
+    ap (λ (ms : List Bool). mask_l ms % 2 ^ 64) (lanes front bytes) ∙ mask_l-mod (zip2 (λ a b. not (eqb a b && test b)) front bytes) 64 (omega (arith, length-zip2 (λ a b. not (eqb a b && test b)) front bytes same))
+  where
+    lane : (e t : Bool) → top 7 (bit_not w8 (bit_and (cond e 255 0) (cast_unsigned w8 (cond t (negsuc 0) (pos 0))))) ≡ not (e && t)
+    lane true true = refl
+    lane true false = refl
+    lane false true = refl
+    lane false false = refl
+
+    lanes : (front bytes : List ℕ) → map (top 7) (map (bit_not w8) (zip2 bit_and (zip2 (λ a b. cond (eqb a b) 255 0) front bytes) (map (cast_unsigned w8) (mask_of test bytes)))) ≡ zip2 (λ a b. not (eqb a b && test b)) front bytes
+    lanes [] bytes = refl
+    lanes (a ∷ front) [] = refl
+    lanes (a ∷ front) (b ∷ bytes) = λ i. lane (eqb a b) (test b) i ∷ lanes front bytes i
+
+-- where no byte is the same as the one in front of it, all bytes stay
+pub none_repeats : (test : ℕ → Bool) (front bytes : List ℕ) → length front ≡ length bytes → length bytes ≤ 64
+    → mask_l (map (top 7) (zip2 (λ a b. cond (eqb a b) 255 0) front bytes)) % 2 ^ 64 ≡ 0 → chosen_by (zip2 (λ a b. not (eqb a b && test b)) front bytes) bytes ≡ bytes
+none_repeats test front bytes same few none = all_stay front bytes same (sym (mask_l-mod (zip2 eqb front bytes) 64 (omega (arith, few, same, length-zip2 eqb front bytes same))) ∙ ap (λ (ms : List Bool). mask_l ms % 2 ^ 64) (sym (tops_compared w8 eqb front bytes)) ∙ none)
+  where
+    all_stay : (xs ys : List ℕ) → length xs ≡ length ys → mask_l (zip2 eqb xs ys) ≡ 0 → chosen_by (zip2 (λ a b. not (eqb a b && test b)) xs ys) ys ≡ ys
+    all_stay [] [] long nil = refl
+    all_stay [] (y ∷ ys) long nil = absurd (omega (arith, long))
+    all_stay (x ∷ xs) [] long nil = absurd (omega (arith, long))
+    all_stay (x ∷ xs) (y ∷ ys) long nil = by_test (eqb x y) (mask_l (zip2 eqb xs ys)) nil (λ none. all_stay xs ys (omega (arith, long)) none)
+      where
+        by_test : (t : Bool) (m : ℕ) → cond t 1 0 + 2 * m ≡ 0 → (m ≡ 0 → chosen_by (zip2 (λ a b. not (eqb a b && test b)) xs ys) ys ≡ ys)
+            → cond (not (t && test y)) (y ∷ chosen_by (zip2 (λ a b. not (eqb a b && test b)) xs ys) ys) (chosen_by (zip2 (λ a b. not (eqb a b && test b)) xs ys) ys) ≡ y ∷ ys
+        by_test true m nil more = absurd (omega (arith, nil))
+        by_test false m nil more = ap (λ (l : List ℕ). y ∷ l) (more (omega (arith, nil)))
+
+-- tests that agree on bytes squeeze the same repeats
+pub same_behind : (p q : ℕ → Bool) → ((b : ℕ) → b < 256 → p b ≡ q b) → (last : ℕ) (bytes : List ℕ) → Each1 (Fits w8) bytes → squeeze_behind p last bytes ≡ squeeze_behind q last bytes
+same_behind p q same last [] small = refl
+same_behind p q same last (b ∷ bytes) small =
+    behind_one p last b bytes
+    ∙ (λ i. cond (not (eqb last b && same b (Fits-lt-pow small.0) i)) (b ∷ same_behind p q same b bytes small.1 i) (same_behind p q same b bytes small.1 i))
+    ∙ sym (behind_one q last b bytes)

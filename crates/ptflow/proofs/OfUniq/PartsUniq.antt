@@ -1,0 +1,141 @@
+-- `uniq` of a text that is cut between two runs.
+use Rattle.std.proofs.Common.{◌≡◌, ◌⊎◌, inl, inr, ⊎_elim, ℕ, ◌+◌, Bool, true, false, cond, List, [], ◌∷◌, ◌++◌, refl, sym, ◌∙◌, ap}
+use Rattle.std.specs.Prelude.{◌≢◌, filter}
+use Rattle.std.specs.List.{AllByRecursion}
+use Rattle.std.proofs.lemmas.Bool.{cases_Bool}
+use Rattle.std.proofs.lemmas.Slice.Eq.{bytes_eq-Decides}
+use Rattle.ptlines.specs.Text.{lines, IsLine}
+use Rattle.ptlines.proofs.PartLaws.{the_lines_of_parts}
+use Rattle.ptlines.proofs.TextLaws.{lines-text, the_lines}
+use Rattle.ptlangs.specs.Jobs.{Uniq}
+use Rattle.ptflow.specs.Uniqs.{Run, key, is_same, onto_runs, runs, entries}
+use Rattle.ptflow.specs.Parts.{BeginsWith, EndsWith, AreGrouped, UniqOfParts, UniqByKey}
+use Rattle.ptflow.specs.Workings.Uniq.OpenRuns.{run_of}
+use Rattle.ptflow.proofs.OfUniq.OpenRuns.{entries-append}
+
+module _ (job : Uniq) where
+  other_key : (a b : List ℕ) → key job a ≢ key job b → is_same job a b ≡ false
+  other_key a b differ = ⊎_elim (λ e. absurd (differ ((bytes_eq-Decides (key job a) (key job b)).0 e))) (λ e. e) (cases_Bool (is_same job a b))
+
+  -- a line in front of runs is the line of the first
+  onto_is : (line : List ℕ) (rs : List Run) → (count : ℕ) × (more : List Run) × (onto_runs job line rs ≡ run_of line count ∷ more)
+  onto_is line [] = (1, [], refl)
+  onto_is line (run ∷ more) = by_test (is_same job line run.line)
+    where
+      by_test : (t : Bool) → (count : ℕ) × (rest : List Run) × (cond t (run_of line (run.count + 1) ∷ more) (run_of line 1 ∷ run ∷ more) ≡ run_of line count ∷ rest)
+      by_test true = (run.count + 1, more, refl)
+      by_test false = (1, run ∷ more, refl)
+
+  same_key : (a b : List ℕ) → key job a ≡ key job b → is_same job a b ≡ true
+  same_key a b same = (bytes_eq-Decides (key job a) (key job b)).1 same
+
+  -- other runs behind runs
+  onto_front : (line : List ℕ) (run : Run) (rs others : List Run) → onto_runs job line ((run ∷ rs) ++ others) ≡ onto_runs job line (run ∷ rs) ++ others
+  onto_front line run rs others = by_test (is_same job line run.line)
+    where
+      by_test : (t : Bool) → cond t (run_of line (run.count + 1) ∷ (rs ++ others)) (run_of line 1 ∷ run ∷ (rs ++ others)) ≡ cond t (run_of line (run.count + 1) ∷ rs) (run_of line 1 ∷ run ∷ rs) ++ others
+      by_test true = refl
+      by_test false = refl
+
+  -- runs of lines, and of lines behind them that begin with another key
+  runs-append : (xs ys : List (List ℕ)) → ((last first : List ℕ) → EndsWith last xs → BeginsWith first ys → key job last ≢ key job first) → runs job (xs ++ ys) ≡ runs job xs ++ runs job ys
+  runs-append [] ys change = refl
+  runs-append (x ∷ []) [] change = refl
+  runs-append (x ∷ []) (y ∷ ys) change =
+      let r = onto_is y (runs job ys) in
+      ap (onto_runs job x) r.2
+      ∙ ap (λ (t : Bool). cond t (run_of x (r.0 + 1) ∷ r.1) (run_of x 1 ∷ run_of y r.0 ∷ r.1)) (other_key x y (change x y ([], refl) (ys, refl)))
+      ∙ ap (λ (rs : List Run). run_of x 1 ∷ rs) (sym r.2)
+  runs-append (x ∷ z ∷ xs) ys change =
+      let r = onto_is z (runs job xs) in
+      ap (onto_runs job x) (runs-append (z ∷ xs) ys (λ last first ends begins. change last first (x ∷ ends.0, ap (λ (l : List (List ℕ)). x ∷ l) ends.1) begins) ∙ ap (λ (rs : List Run). rs ++ runs job ys) r.2)
+      ∙ onto_front x (run_of z r.0) r.1 (runs job ys)
+      ∙ ap (λ (rs : List Run). onto_runs job x rs ++ runs job ys) (sym r.2)
+
+pub uniq_of_parts : UniqOfParts
+uniq_of_parts job a b whole change =
+    ap (λ (ls : List (List ℕ)). entries job (runs job ls)) (the_lines_of_parts job.end a b whole)
+    ∙ ap (entries job) (runs-append job (lines job.end a) (lines job.end b) change)
+    ∙ entries-append job (runs job (lines job.end a)) (runs job (lines job.end b))
+
+-- ---- lines that are dealt out by their keys
+
+-- what all have, those have that pass
+all_filter : {X : Type 0} (P : X → Type 0) (test : X → Bool) (xs : List X) → AllByRecursion P xs → AllByRecursion P (filter test xs)
+all_filter P test [] all = tt
+all_filter {X} P test (x ∷ xs) all = by_test (test x) (filter test xs) (all_filter P test xs all.1)
+  where
+    by_test : (t : Bool) (ys : List X) → AllByRecursion P ys → AllByRecursion P (cond t (x ∷ ys) ys)
+    by_test true ys rest = (all.0, rest)
+    by_test false ys rest = rest
+
+module _ (job : Uniq) (taken : List ℕ → Bool) where
+  abbrev line_taken : List ℕ → Bool
+  line_taken line = taken (key job line)
+
+  abbrev run_taken : Run → Bool
+  run_taken run = taken (key job run.line)
+
+  -- the lines of runs are lines
+  all_runs : (P : List ℕ → Type 0) (ls : List (List ℕ)) → AllByRecursion P ls → AllByRecursion (λ (run : Run). P run.line) (runs job ls)
+  all_runs P [] all = tt
+  all_runs P (x ∷ ls) all = put (runs job ls) (all_runs P ls all.1)
+    where
+      put : (rs : List Run) → AllByRecursion (λ (run : Run). P run.line) rs → AllByRecursion (λ (run : Run). P run.line) (onto_runs job x rs)
+      put [] rest = (all.0, tt)
+      put (r ∷ rs) rest = by_test (is_same job x r.line)
+        where
+          by_test : (t : Bool) → AllByRecursion (λ (run : Run). P run.line) (cond t (run_of x (r.count + 1) ∷ rs) (run_of x 1 ∷ r ∷ rs))
+          by_test true = (all.0, rest.1)
+          by_test false = (all.0, rest)
+
+  -- a line that is not taken
+  onto_dropped : (x : List ℕ) (rs : List Run) → line_taken x ≡ false → filter run_taken (onto_runs job x rs) ≡ filter run_taken rs
+  onto_dropped x [] is = rw is refl
+  onto_dropped x (r ∷ rs) is =
+      let rest = filter run_taken rs in
+      let onto = λ (t : Bool). filter run_taken (cond t (run_of x (r.count + 1) ∷ rs) (run_of x 1 ∷ r ∷ rs)) in
+      ⊎_elim
+      (λ same.
+      let too : run_taken r ≡ false = ap taken (sym ((bytes_eq-Decides (key job x) (key job r.line)).0 same)) ∙ is in
+      ap onto same ∙ ap (λ (t : Bool). cond t (run_of x (r.count + 1) ∷ rest) rest) is ∙ ap (λ (t : Bool). cond t (r ∷ rest) rest) (sym too))
+      (λ other. ap onto other ∙ ap (λ (t : Bool). cond t (run_of x 1 ∷ filter run_taken (r ∷ rs)) (filter run_taken (r ∷ rs))) is)
+      (cases_Bool (is_same job x r.line))
+
+  -- a line that is taken, in front of a run of its key
+  onto_same : (x : List ℕ) (r : Run) (rs : List Run) → line_taken x ≡ true → key job x ≡ key job r.line → onto_runs job x (filter run_taken (r ∷ rs)) ≡ filter run_taken (onto_runs job x (r ∷ rs))
+  onto_same x r rs is same = let too : run_taken r ≡ true = ap taken (sym same) ∙ is in rw (same_key job x r.line same, is, too) (rw (same_key job x r.line same) refl)
+
+  -- a line in front of runs of other keys
+  onto_other : (x : List ℕ) (rs : List Run) → AllByRecursion (λ (run : Run). key job x ≢ key job run.line) rs → onto_runs job x rs ≡ run_of x 1 ∷ rs
+  onto_other x [] others = refl
+  onto_other x (r ∷ rs) others = rw (other_key job x r.line others.0) refl
+
+  onto_apart : (x : List ℕ) (rs : List Run) → line_taken x ≡ true → AllByRecursion (λ (run : Run). key job x ≢ key job run.line) rs → onto_runs job x (filter run_taken rs) ≡ filter run_taken (onto_runs job x rs)
+  onto_apart x rs is others =
+      onto_other x (filter run_taken rs) (all_filter (λ (run : Run). key job x ≢ key job run.line) run_taken rs others)
+      ∙ ap (λ (t : Bool). cond t (run_of x 1 ∷ filter run_taken rs) (filter run_taken rs)) (sym is)
+      ∙ ap (filter run_taken) (sym (onto_other x rs others))
+
+  runs_taken : (ls : List (List ℕ)) → AreGrouped job ls → runs job (filter line_taken ls) ≡ filter run_taken (runs job ls)
+  runs_taken [] grouped = refl
+  runs_taken (x ∷ ls) grouped = ⊎_elim
+      (λ is. ap (λ (t : Bool). runs job (cond t (x ∷ filter line_taken ls) (filter line_taken ls))) is ∙ ap (onto_runs job x) (runs_taken ls grouped.1) ∙ kept is grouped.0)
+      (λ is. ap (λ (t : Bool). runs job (cond t (x ∷ filter line_taken ls) (filter line_taken ls))) is ∙ runs_taken ls grouped.1 ∙ sym (onto_dropped x (runs job ls) is))
+      (cases_Bool (line_taken x))
+    where
+      kept : line_taken x ≡ true → (((next : List ℕ) × BeginsWith next ls × (key job x ≡ key job next)) ⊎ AllByRecursion (λ other. key job x ≢ key job other) ls)
+          → onto_runs job x (filter run_taken (runs job ls)) ≡ filter run_taken (onto_runs job x (runs job ls))
+      kept is (inl n) =
+          let r = onto_is job n.0 (runs job n.1.0) in
+          let first : runs job ls ≡ run_of n.0 r.0 ∷ r.1 = ap (runs job) n.1.1 ∙ r.2 in
+          ap (λ (rs : List Run). onto_runs job x (filter run_taken rs)) first ∙ onto_same x (run_of n.0 r.0) r.1 is n.2
+          ∙ ap (λ (rs : List Run). filter run_taken (onto_runs job x rs)) (sym first)
+      kept is (inr others) = onto_apart x (runs job ls) is (all_runs (λ other. key job x ≢ key job other) ls others)
+
+pub uniq_by_key : UniqByKey
+uniq_by_key job taken bytes grouped =
+    let ls = lines job.end bytes in
+    let some = filter (λ line. taken (key job line)) ls in
+    ap (λ (l : List (List ℕ)). entries job (runs job l)) (lines-text job.end some (all_filter (IsLine job.end) (λ line. taken (key job line)) ls (the_lines job.end bytes).0.0))
+    ∙ ap (entries job) (runs_taken job taken ls grouped)

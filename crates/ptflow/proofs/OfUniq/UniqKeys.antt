@@ -1,0 +1,116 @@
+-- The key of a line, by one walk.
+use Rattle.std.proofs.Common.{◌≡◌, ℕ, zero, suc, ◌+◌, ◌<◌, Bool, true, false, cond, List, [], ◌∷◌, None, Some, length, drop, get_or, refl, sym, ◌∙◌, ap, arith}
+use Rattle.std.specs.Prelude.{slice_get}
+use Rattle.std.specs.Option.{option_map_or}
+use Rattle.std.proofs.lemmas.List.{drop-drop}
+use Rattle.memchr.specs.Find.{IsFirstByte, is_byte2}
+use Rattle.ptflow.specs.Uniqs.{is_blank, ends_word, word_ends, after_fields}
+use Rattle.ptflow.specs.Workings.Uniq.UniqWords.{after_bytes}
+
+-- what stands behind so many more word ends of these bytes
+abbrev pub behind : ℕ → List ℕ → List ℕ
+behind n [] = []
+behind zero (b ∷ bytes) = b ∷ bytes
+behind (suc n) (b ∷ bytes) = cond (ends_word b bytes) (behind n bytes) (behind (suc n) bytes)
+
+pub behind_none : (n : ℕ) → behind n [] ≡ []
+behind_none zero = refl
+behind_none (suc n) = refl
+
+pub behind_zero : (bytes : List ℕ) → behind 0 bytes ≡ bytes
+behind_zero [] = refl
+behind_zero (b ∷ bytes) = refl
+
+-- what stands behind the n-th word end, where the bytes begin at place i of the line
+from_end : List ℕ → List ℕ → ℕ → ℕ → List ℕ
+from_end line bytes i n = option_map_or (λ end. drop (end + 1) line) (slice_get (word_ends i bytes) n) []
+
+from_end_is : (line bytes : List ℕ) (i n : ℕ) → drop i line ≡ bytes → from_end line bytes i n ≡ behind (suc n) bytes
+unfolding from_end
+from_end_is line [] i n is = refl
+from_end_is line (b ∷ bytes) i n is = by_test (ends_word b bytes) n (λ m. from_end_is line bytes (i + 1) m next)
+  where
+    next : drop (i + 1) line ≡ bytes
+    next = sym (drop-drop 1 i line) ∙ ap (drop 1) is
+
+    by_test : (t : Bool) (n : ℕ) → ((m : ℕ) → from_end line bytes (i + 1) m ≡ behind (suc m) bytes)
+        → option_map_or (λ end. drop (end + 1) line) (slice_get (cond t (i ∷ word_ends (i + 1) bytes) (word_ends (i + 1) bytes)) n) [] ≡ cond t (behind n bytes) (behind (suc n) bytes)
+    by_test true zero later = next ∙ sym (behind_zero bytes)
+    by_test true (suc n) later = later n
+    by_test false n later = later n
+
+pub behind_is : (n : ℕ) (line : List ℕ) → behind n line ≡ after_fields n line
+unfolding from_end
+behind_is zero line = behind_zero line
+behind_is (suc n) line = sym (from_end_is line line 0 n refl)
+
+-- ---- field by field
+
+-- behind a field, and then behind so many more
+behind_add : (n : ℕ) (bytes : List ℕ) → behind (suc n) bytes ≡ behind n (behind 1 bytes)
+behind_add n [] = sym (behind_none n)
+behind_add n (b ∷ bytes) = by_test (ends_word b bytes) (behind_add n bytes)
+  where
+    by_test : (t : Bool) → behind (suc n) bytes ≡ behind n (behind 1 bytes) → cond t (behind n bytes) (behind (suc n) bytes) ≡ behind n (cond t (behind 0 bytes) (behind 1 bytes))
+    by_test true later = ap (behind n) (sym (behind_zero bytes))
+    by_test false later = later
+
+-- where the first byte is a blank
+blank_ends : (b : ℕ) (bytes : List ℕ) → is_blank b ≡ true → ends_word b bytes ≡ false
+blank_ends b [] blank = rw blank refl
+blank_ends b (c ∷ bytes) blank = rw blank refl
+
+behind_blank : (b : ℕ) (bytes : List ℕ) → is_blank b ≡ true → behind 1 (b ∷ bytes) ≡ behind 1 bytes
+behind_blank b bytes blank = ap (λ (t : Bool). cond t (behind 0 bytes) (behind 1 bytes)) (blank_ends b bytes blank)
+
+-- where it is not
+behind_other : (b : ℕ) (bytes : List ℕ) → is_blank b ≡ false → behind 1 (b ∷ bytes) ≡ after_bytes bytes
+behind_other b [] other = rw other refl
+behind_other b (c ∷ bytes) other = rw other (by_test (is_blank c) (λ is. behind_other c bytes is))
+  where
+    by_test : (t : Bool) → (t ≡ false → behind 1 (c ∷ bytes) ≡ after_bytes bytes) → cond t (c ∷ bytes) (behind 1 (c ∷ bytes)) ≡ cond t (c ∷ bytes) (after_bytes bytes)
+    by_test true later = refl
+    by_test false later = later refl
+
+pub after_one : (line : List ℕ) → after_fields 1 line ≡ behind 1 line
+after_one line = sym (behind_is 1 line)
+
+pub behind_step : (n m : ℕ) (rest : List ℕ) → n ≡ m + 1 → behind n rest ≡ behind m (after_fields 1 rest)
+behind_step n m rest is =
+    let more : n ≡ suc m = omega (arith, is) in
+    ap (λ (k : ℕ). behind k rest) more ∙ behind_add m rest ∙ ap (behind m) (sym (after_one rest))
+
+-- the same by what stands in front
+pub blank_first : (rest behind_it : List ℕ) → 0 < length rest → behind_it ≡ drop 1 rest → is_blank (get_or rest 0 0) ≡ true → behind 1 rest ≡ behind 1 behind_it
+blank_first [] behind_it long is blank = absurd (omega (arith, long))
+blank_first (b ∷ bytes) behind_it long is blank = behind_blank b bytes blank ∙ ap (behind 1) (sym is)
+
+pub other_first : (rest behind_it : List ℕ) → 0 < length rest → behind_it ≡ drop 1 rest → is_blank (get_or rest 0 0) ≡ false → behind 1 rest ≡ after_bytes behind_it
+other_first [] behind_it long is other = absurd (omega (arith, long))
+other_first (b ∷ bytes) behind_it long is other = behind_other b bytes other ∙ ap after_bytes (sym is)
+
+-- by a search for the first blank
+blank_here : (b : ℕ) (bytes : List ℕ) → is_blank b ≡ true → after_bytes (b ∷ bytes) ≡ b ∷ bytes
+blank_here b bytes blank = ap (λ (t : Bool). cond t (b ∷ bytes) (after_bytes bytes)) blank
+
+other_here : (b : ℕ) (bytes : List ℕ) → (is_blank b ≡ true → ⊥) → after_bytes (b ∷ bytes) ≡ after_bytes bytes
+other_here b bytes other = by_test (is_blank b) other
+  where
+    by_test : (t : Bool) → (t ≡ true → ⊥) → cond t (b ∷ bytes) (after_bytes bytes) ≡ after_bytes bytes
+    by_test true other = absurd (other refl)
+    by_test false other = refl
+
+after_at : (line : List ℕ) (at : ℕ) → at < length line → ((k : ℕ) → k < at → is_blank (get_or line k 0) ≡ true → ⊥) → is_blank (get_or line at 0) ≡ true → after_bytes line ≡ drop at line
+after_at [] at high none blank = absurd (omega (arith, high))
+after_at (b ∷ bytes) zero high none blank = blank_here b bytes blank
+after_at (b ∷ bytes) (suc at) high none blank = other_here b bytes (none 0 (omega arith)) ∙ after_at bytes at (omega (arith, high)) (λ k lt. none (suc k) (omega (arith, lt))) blank
+
+after_none : (line : List ℕ) → ((k : ℕ) → k < length line → is_blank (get_or line k 0) ≡ true → ⊥) → after_bytes line ≡ []
+after_none [] none = refl
+after_none (b ∷ bytes) none = other_here b bytes (none 0 (omega arith)) ∙ after_none bytes (λ k lt. none (suc k) (omega (arith, lt)))
+
+pub after_found : (line : List ℕ) (at : ℕ) → IsFirstByte (is_byte2 32 9) line (Some at) → after_bytes line ≡ drop at line
+after_found line at first = after_at line at first.0.high (λ k lt. first.0.before k (omega arith) lt) first.1
+
+pub after_not_found : (line : List ℕ) → IsFirstByte (is_byte2 32 9) line None → after_bytes line ≡ []
+after_not_found line none = after_none line (λ k lt. none k (omega arith) lt)

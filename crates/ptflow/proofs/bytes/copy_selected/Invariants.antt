@@ -1,7 +1,0 @@
-use Rattle.std.proofs.Common.{take, drop}
-use Rattle.ptflow.proofs.Chosen.{Choosing}
-use Rattle.ptflow.proofs.bytes.copy_selected.Given as goal
-
-abbrev pub invariant-loop-interval : goal.invariant-loop-interval
-invariant-loop-interval l =
-    Choosing l.selected l.interval-index l.before (take l.count (take l.end l.bytes)) (drop l.count (take l.end l.bytes)) (take l.fn.at l.fn.into) (take l.at l.into) l.fn.at l.at

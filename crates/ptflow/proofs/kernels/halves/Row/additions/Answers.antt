@@ -1,0 +1,6 @@
+use Rattle.std.proofs.Common.{bit_and}
+use Rattle.std.proofs.lemmas.Simd.{zip2_of_maps}
+use Rattle.ptflow.proofs.kernels.halves.Row.additions.Goals as goal
+
+pub returns : goal.returns
+returns c = zip2_of_maps bit_and _ _ c.args.v c.by_high_half.ensures c.by_low_half.ensures

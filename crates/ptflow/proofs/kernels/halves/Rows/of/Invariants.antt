@@ -1,0 +1,6 @@
+use Rattle.std.proofs.Common.{◌≡◌, ◌<◌, ℕ, get_or}
+use Rattle.ptflow.specs.Workings.Bytes.Rowings.{by_rows}
+use Rattle.ptflow.proofs.kernels.halves.Rows.of.Given as goal
+
+abbrev pub invariant-loop-byte : goal.invariant-loop-byte
+invariant-loop-byte l = (b : ℕ) → b < l.byte → by_rows l.rows b ≡ get_or l.images b 0

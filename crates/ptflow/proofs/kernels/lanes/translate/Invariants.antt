@@ -1,0 +1,10 @@
+use Rattle.std.proofs.Common.{length, ◌-◌}
+use Rattle.ptlangs.specs.TrShifts.{shifted}
+use Rattle.ptflow.specs.Workings.Bytes.Lanes.{IsMovedTo}
+use Rattle.ptflow.proofs.kernels.lanes.translate.Given as goal
+
+abbrev pub invariant-loop-at : goal.invariant-loop-at
+invariant-loop-at l = IsMovedTo l.at (shifted l.shifts) l.from l.to
+
+abbrev pub decreases-loop-at : goal.decreases-loop-at
+decreases-loop-at l = length l.from - l.at

@@ -1,0 +1,9 @@
+use Rattle.std.proofs.Common.{eqb, arith, w8}
+use Rattle.std.proofs.lemmas.Simd.{bitmask_splat, length-chunk}
+use Rattle.std.specs.Simd.Lanes.{chunk}
+use Rattle.ptflow.proofs.kernels.places.marks.Goals as goal
+
+pub returns : goal.returns
+returns c =
+    let v = chunk c.args.at 64 c.args.bytes.now in
+    bitmask_splat w8 eqb v 64 c.args.byte (length-chunk c.args.at 64 c.args.bytes.now c.requires) (omega arith)

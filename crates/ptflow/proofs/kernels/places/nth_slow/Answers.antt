@@ -1,0 +1,10 @@
+use Rattle.std.proofs.Common.{◌≤◌, arith}
+use Rattle.memchr.specs.Find.{is_byte}
+use Rattle.ptflow.proofs.OfBytes.Nths.{count_up_to}
+use Rattle.ptflow.proofs.kernels.places.nth_slow.Goals as goal
+
+pub returns : goal.returns
+returns c =
+    let to = c.args.to in
+    let past : to ≤ c.loop-at.at = omega (arith, c.loop-at-test.false) in
+    omega (arith, c.loop-at.invariant.0, c.loop-at.invariant.1, count_up_to (is_byte c.args.byte) c.args.bytes.now to c.loop-at.at past)

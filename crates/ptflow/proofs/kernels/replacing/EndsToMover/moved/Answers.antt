@@ -1,0 +1,13 @@
+use Rattle.std.proofs.Common.{sym, eqb}
+use Rattle.std.proofs.lemmas.Simd.{splat_is_map}
+use Rattle.ptflow.proofs.OfBytes.LaneLemmas.{sel_maps, mask_right, map_self}
+use Rattle.ptflow.proofs.kernels.replacing.EndsToMover.moved.Goals as goal
+
+pub returns : goal.returns
+returns c =
+    let v = c.args.v in
+    let by = c.args.self in
+    sel_maps (λ b. eqb b by.ending) (λ _. by.delim) (λ b. b) v _ _ _
+    (mask_right eqb 16 v by.ending c.fits-v.0)
+    (splat_is_map v 16 by.delim c.fits-v.0)
+    (sym (map_self v))

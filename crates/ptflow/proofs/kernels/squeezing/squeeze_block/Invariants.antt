@@ -1,0 +1,11 @@
+use Rattle.std.proofs.Common.{◌-◌, false, length, slice_index_or}
+use Rattle.ptflow.specs.Workings.Tr.TrRests.{squeeze_from}
+use Rattle.ptflow.proofs.OfTr.SqueezeLemmas.{Squeezing}
+use Rattle.ptflow.proofs.kernels.squeezing.squeeze_block.Given as goal
+
+abbrev pub invariant-loop-at : goal.invariant-loop-at
+invariant-loop-at l =
+    Squeezing (λ b. slice_index_or l.flags b false) l.from l.into l.at l.count (squeeze_from (λ b. slice_index_or l.flags b false) l.fn.last l.from)
+
+abbrev pub decreases-loop-at : goal.decreases-loop-at
+decreases-loop-at l = length l.from - l.at

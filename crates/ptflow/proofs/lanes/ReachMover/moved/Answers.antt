@@ -1,7 +1,0 @@
-use Rattle.std.proofs.Common.{sym}
-use Rattle.ptflow.specs.Workings.Lanes.{reach_adds}
-use Rattle.ptflow.proofs.LaneLemmas.{map_self, added_lanes}
-use Rattle.ptflow.proofs.lanes.ReachMover.moved.Goals as goal
-
-pub returns : goal.returns
-returns c = added_lanes (λ b. b) (reach_adds c.args.self) c.args.v (sym (map_self c.args.v)) c.additions.ensures

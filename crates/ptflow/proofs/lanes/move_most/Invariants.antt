@@ -1,9 +1,0 @@
-use Rattle.std.proofs.Common.{length, ◌-◌}
-use Rattle.ptflow.specs.Workings.Lanes.{IsMovedTo}
-use Rattle.ptflow.proofs.lanes.move_most.Given as goal
-
-abbrev pub invariant-loop-at : goal.invariant-loop-at
-invariant-loop-at g l = IsMovedTo l.at (g.M.Mover.becomes l.by) l.from l.to
-
-abbrev pub decreases-loop-at : goal.decreases-loop-at
-decreases-loop-at g l = length l.from - l.at

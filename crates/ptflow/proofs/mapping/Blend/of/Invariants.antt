@@ -1,6 +1,0 @@
-use Rattle.std.proofs.Common.{◌≡◌, ◌<◌, ℕ, false, get_or}
-use Rattle.std.specs.Prelude.{if◌then◌else◌}
-use Rattle.ptflow.proofs.mapping.Blend.of.Given as goal
-
-abbrev pub invariant-loop-byte : goal.invariant-loop-byte
-invariant-loop-byte l = (b : ℕ) → b < l.byte → (if get_or l.moved b false then l.constant else b) ≡ get_or l.images b 0

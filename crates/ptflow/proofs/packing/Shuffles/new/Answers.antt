@@ -1,9 +1,0 @@
-use Rattle.std.proofs.Common.{[], refl}
-use Rattle.std.specs.Simd.Lanes.{mask_l}
-use Rattle.ptflow.proofs.ChosenLanes.{mask_below}
-use Rattle.ptflow.proofs.packing.Shuffles.new.Goals as goal
-
-pub returns : goal.returns
-returns c flags long =
-    let made = c.from_fn.ensures.items.at (mask_l flags) [] (mask_below flags long) in
-    made.2.met flags long refl

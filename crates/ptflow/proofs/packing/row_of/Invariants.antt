@@ -1,5 +1,0 @@
-use Rattle.ptflow.proofs.ChosenLanes.{RowBegun}
-use Rattle.ptflow.proofs.packing.row_of.Given as goal
-
-abbrev pub invariant-loop-place : goal.invariant-loop-place
-invariant-loop-place l = RowBegun l.mask l.place l.count l.row

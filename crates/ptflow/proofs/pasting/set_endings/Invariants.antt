@@ -1,7 +1,0 @@
-use Rattle.std.proofs.Common.{take}
-use Rattle.ptlangs.specs.Jobs.{ending}
-use Rattle.ptflow.specs.Workings.RowTurns.{AreSet}
-use Rattle.ptflow.proofs.pasting.set_endings.Given as goal
-
-abbrev pub invariant-loop-place : goal.invariant-loop-place
-invariant-loop-place g l = AreSet (ending l.zero) (take l.place-index l.cells) l.fn.readers l.readers

@@ -1,7 +1,0 @@
-use Rattle.std.proofs.Common.{arith}
-use Rattle.memchr.specs.Find.{is_byte}
-use Rattle.ptflow.proofs.Nths.{first_of_all}
-use Rattle.ptflow.proofs.places.line_end.Goals as goal
-
-pub returns-then-marked-ne0 : goal.returns-then-marked-ne0
-returns-then-marked-ne0 c = first_of_all (is_byte c.args.byte) c.args.bytes.now 64 c.marks-marked.result c.bit_behind.result (omega arith) c.if-bytes-ge64.true c.marks-marked.ensures c.if-marked-ne0.true c.bit_behind.ensures

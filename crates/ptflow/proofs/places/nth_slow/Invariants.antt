@@ -1,8 +1,0 @@
-use Rattle.std.proofs.Common.{◌≡◌, ◌<◌, ◌+◌, take}
-use Rattle.std.specs.List.{count_by}
-use Rattle.memchr.specs.Find.{is_byte}
-use Rattle.ptflow.proofs.places.nth_slow.Given as goal
-
-abbrev pub invariant-loop-at : goal.invariant-loop-at
-invariant-loop-at l =
-    (0 < l.left) × (l.left + count_by (is_byte l.byte) (take l.at l.bytes) ≡ l.number + count_by (is_byte l.byte) (take l.from l.bytes))

@@ -1,6 +1,0 @@
-use Rattle.std.proofs.Common.{◌≡◌, ◌<◌, ℕ, get_or}
-use Rattle.ptflow.specs.Workings.Rowings.{by_rows}
-use Rattle.ptflow.proofs.rows.Rows.of.Given as goal
-
-abbrev pub invariant-loop-byte : goal.invariant-loop-byte
-invariant-loop-byte l = (b : ℕ) → b < l.byte → by_rows l.rows b ≡ get_or l.images b 0

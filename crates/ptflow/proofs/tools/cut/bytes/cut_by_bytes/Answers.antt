@@ -1,0 +1,22 @@
+use Rattle.std.proofs.Common.{◌++◌, sym, ◌∙◌, ap, cond}
+use Rattle.ptlangs.specs.Jobs.{cut_job}
+use Rattle.ptflow.specs.Cuts.{cut_tool}
+use Rattle.ptflow.specs.Workings.Cut.CutRests.{rest_by}
+use Rattle.ptflow.proofs.OfCut.ByteRests.{rest_is_cut, rest_is_decided}
+use Rattle.ptflow.proofs.tools.cut.bytes.cut_by_bytes.Goals as goal
+
+pub returns : goal.returns
+returns g c =
+    let job = cut_job c.args.job.now in
+    let end = c.ending.ensures ∙ c.requires.ending in
+    let list = c.intervals.ensures.kept in
+    λ store ready.
+    c.over_blocks.ensures (cut_tool job)
+    (record {
+      text = λ bytes. (λ i. rest_by (end i) (list i) 0 bytes) ∙ rest_is_cut job c.requires.by_bytes bytes;
+      decided = λ given pushed now holds on.
+          rest_is_decided job c.requires.by_bytes given pushed now.before
+          (λ rest. (λ i. rest_by (sym end i) (sym list i) 0 (given ++ rest)) ∙ on rest ∙ (λ i. pushed ++ rest_by ((holds.2 ∙ end) i) ((holds.1 ∙ list) i) now.before rest));
+      slots = ap (λ b. cond b 1 0) c.requires.by_bytes;
+    })
+    store ready

@@ -1,0 +1,15 @@
+use Rattle.std.proofs.Common.{◌-◌, ◌≤◌, length, take, drop}
+use Rattle.ptflow.specs.Workings.Cut.CutRests.{IsCutTo, IsLineAt}
+use Rattle.ptflow.proofs.tools.cut.bytes.cut_pieces.Given as goal
+
+abbrev pub invariant-loop-from : goal.invariant-loop-from
+invariant-loop-from l = record {
+  within : l.from ≤ length l.block;
+  line : IsLineAt l.ending l.block l.from l.step.start;
+  cut : IsCutTo l.ending l.by.selected.now l.before l.block l.step.before (drop l.step.start l.block) (take l.step.at l.into);
+  bound : l.step.before ≤ l.before;
+  near : l.step.at ≤ l.step.start;
+}
+
+abbrev pub decreases-loop-from : goal.decreases-loop-from
+decreases-loop-from l = length l.block - l.from

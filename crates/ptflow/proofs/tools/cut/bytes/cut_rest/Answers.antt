@@ -1,0 +1,28 @@
+use Rattle.std.proofs.Common.{◌+◌, [], length, take, drop, arith, length-drop}
+use Rattle.std.proofs.lemmas.List.{take_rest, take_all}
+use Rattle.ptlangs.specs.CutLists.{is_selected}
+use Rattle.ptlines.proofs.Scanned.{no_end}
+use Rattle.ptflow.specs.Workings.Cut.CutRests.{chosen_piece}
+use Rattle.ptflow.proofs.OfCut.ByteRests.{line_on, piece_on, cut_on}
+use Rattle.ptflow.proofs.tools.cut.bytes.cut_rest.Goals as goal
+
+pub lines-preserved : goal.lines-preserved
+lines-preserved c =
+    let list = c.args.by.now.selected.now in
+    let rest = c.lines.rest.now in
+    let count = c.in-Some.count in
+    rw take_rest (record {
+      cut = λ start bytes so_far.
+          cut_on c.args.ending list start bytes c.lines.before 0 rest (drop (count + 1) rest) (take c.lines.at c.lines.into) _ (chosen_piece list c.lines.before count (take (count + 1) rest))
+          (c.lines.invariant.cut start bytes so_far) c.copy_line-at.ensures.copied (line_on c.args.ending rest count c.in-Some.ensures (is_selected list) c.lines.before);
+      near = omega (arith, length-drop (count + 1) rest, c.in-Some.ensures.0.high, c.lines.invariant.near, c.copy_line-at.ensures.near);
+      bound = omega (arith, length-drop (count + 1) rest, c.lines.invariant.bound);
+    })
+
+pub returns-clause-cut : goal.returns-clause-cut
+returns-clause-cut c =
+    let list = c.args.by.now.selected.now in
+    let rest = c.lines.rest.now in
+    λ start bytes so_far.
+    cut_on c.args.ending list start bytes c.lines.before (c.lines.before + length rest) rest [] (take c.lines.at c.lines.into) _ (chosen_piece list c.lines.before (length rest) rest)
+    (c.lines.invariant.cut start bytes so_far) (rw (take_all (length rest) rest (omega arith)) at c.copy_selected-at.ensures.copied) (piece_on c.args.ending (is_selected list) c.lines.before rest (no_end c.args.ending rest c.in_default.ensures))

@@ -1,0 +1,13 @@
+use Rattle.std.proofs.Common.{◌+◌, ◌≤◌, length, take}
+use Rattle.ptflow.specs.Workings.Cut.CutRests.{CutsOn}
+use Rattle.ptflow.proofs.tools.cut.bytes.cut_rest.Given as goal
+
+abbrev pub invariant-lines : goal.invariant-lines
+invariant-lines l = record {
+  cut : CutsOn l.ending l.by.selected.now l.fn.before l.bytes (take l.fn.at l.fn.into) l.before l.rest (take l.at l.into);
+  near : l.at + length l.rest ≤ l.fn.at + length l.bytes;
+  bound : l.before + length l.rest ≤ l.fn.before + length l.bytes;
+}
+
+abbrev pub decreases-lines : goal.decreases-lines
+decreases-lines l = length l.rest

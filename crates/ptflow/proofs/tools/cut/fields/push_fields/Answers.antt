@@ -1,0 +1,100 @@
+use Rattle.std.proofs.Common.{◌+◌, ◌-◌, ◌≤◌, ◌++◌, ℕ, List, [], take, drop, get_or, length, refl, sym, ◌∙◌, ap, subst, arith}
+use Rattle.std.proofs.lemmas.List.{take_all, take_rest, drop_all, append-nil}
+use Rattle.std.specs.List.{join_with_byte}
+use Rattle.ptlines.proofs.Pushed.{wrote_nothing}
+use Rattle.ptlangs.specs.CutLists.{is_selected}
+use Rattle.ptlangs.specs.Jobs.{cut_job}
+use Rattle.ptlangs.specs.declared.ranges.Interval.{Interval}
+use Rattle.ptflow.specs.Cuts.{cut_fields}
+use Rattle.ptflow.specs.Workings.Cut.FieldPlaces.{fields, StartsAt}
+use Rattle.ptflow.proofs.OfBytes.Chosen.{chosen}
+use Rattle.ptflow.proofs.OfPasses.Fronts.{front_starts, front_more, front_fails, front_ends}
+use Rattle.ptflow.proofs.OfCut.FieldWalks.{coming, all_coming, walking_starts, walking_done, walking_short, walking_ends, walking_slice, walking_more}
+use Rattle.ptflow.proofs.tools.cut.fields.push_fields.Goals as goal
+
+pub loop-interval-init : goal.loop-interval-init
+loop-interval-init g c =
+    let d = c.args.job.now.delim in
+    let line = c.args.line.now in
+    let all = c.intervals-selected.result.now in record {
+      front = front_starts (cut_fields (cut_job c.args.job.now) line) (coming d all line [] 1 0 0) c.args.out.now
+          (sym (append-nil (cut_fields (cut_job c.args.job.now) line)) ∙ ap (λ (l : List Interval). join_with_byte d (chosen (is_selected l) 1 (fields d line)) ++ []) (sym c.intervals-selected.ensures.kept) ∙ all_coming d all line [])
+          c.requires.clean;
+      walk = walking_starts d all line [] c.intervals-selected.ensures.apart;
+      known = λ le. refl;
+    }
+
+-- what a step found in the line, which is all of these bytes
+found : (d : ℕ) (line : List ℕ) (count at passed : ℕ) → StartsAt d count (drop at (take (length line) line)) passed → StartsAt d count (drop at line) passed
+found d line count at passed s = subst (λ (l : List ℕ). StartsAt d count (drop at l) passed) (take_all (length line) line (omega arith)) s
+
+few : (d : ℕ) (line : List ℕ) (count at : ℕ) → length (fields d (drop at (take (length line) line))) ≤ count → length (fields d (drop at line)) ≤ count
+few d line count at le = subst (λ (l : List ℕ). length (fields d (drop at l)) ≤ count) (take_all (length line) line (omega arith)) le
+
+pub returns-in_default-clause-wrote : goal.returns-in_default-clause-wrote
+returns-in_default-clause-wrote g c =
+    let d = c.args.job.now.delim in
+    let line = c.args.line.now in
+    let all = c.intervals-selected.result.now in
+    let l = c.loop-interval in
+    let r = get_or all l.interval-index (record { first = 0; last = 0 }) in
+    front_ends (cut_fields (cut_job c.args.job.now) line) (coming d (drop l.interval-index all) line [] l.number l.at l.lead) c.args.out.now l.out l.invariant.front l.out []
+    (walking_short d all line [] l.interval-index l.number l.at l.lead l.invariant.walk c.loop-interval-test.true (few d line (r.first - l.number) l.at c.in_default.ensures.found)) (wrote_nothing l.out)
+
+pub returns-in_default-field_behind-clause-wrote : goal.returns-in_default-field_behind-clause-wrote
+returns-in_default-field_behind-clause-wrote g c =
+    let d = c.args.job.now.delim in
+    let line = c.args.line.now in
+    let all = c.intervals-selected.result.now in
+    let l = c.loop-interval in
+    let r = get_or all l.interval-index (record { first = 0; last = 0 }) in
+    let from = l.at + c.in-Some.skipped in
+    let s = found d line (r.first - l.number) l.at c.in-Some.skipped c.in-Some.ensures.found in
+    front_ends (cut_fields (cut_job c.args.job.now) line) (coming d (drop l.interval-index all) line [] l.number l.at l.lead) c.args.out.now l.out l.invariant.front c.push.new.self (drop (from - l.lead) line)
+    (walking_ends d all line [] l.interval-index l.number l.at l.lead l.invariant.walk c.loop-interval-test.true c.in-Some.skipped s (length line) line (sym (take_all (length line) line (omega arith))) (sym (drop_all (length line) line (omega arith)))
+    (few d line (r.last - r.first + 1) from c.in_default-field_behind.ensures.found))
+    (rw take_rest at c.push.ensures.wrote)
+
+pub returns-in_err-push-clause-wrote : goal.returns-in_err-push-clause-wrote
+returns-in_err-push-clause-wrote g c =
+    let d = c.args.job.now.delim in
+    let line = c.args.line.now in
+    let all = c.intervals-selected.result.now in
+    let l = c.loop-interval in
+    let i = l.interval-index in
+    let r = get_or all i (record { first = 0; last = 0 }) in
+    let from = l.at + c.in-Some.skipped in
+    let next = from + c.in-Some-field_behind.passed in
+    let s = found d line (r.first - l.number) l.at c.in-Some.skipped c.in-Some.ensures.found in
+    let p = found d line (r.last - r.first + 1) from c.in-Some-field_behind.passed c.in-Some-field_behind.ensures.found in
+    front_fails (cut_fields (cut_job c.args.job.now) line) (coming d (drop i all) line [] l.number l.at l.lead) c.args.out.now l.out l.invariant.front c.push-in-loop-interval.new.self
+    (take ((next - 1) - (from - l.lead)) (drop (from - l.lead) line)) (coming d (drop (i + 1) all) line [] (r.last + 1) next 1)
+    (walking_slice d all line [] i l.number l.at l.lead l.invariant.walk c.loop-interval-test.true c.in-Some.skipped s c.in-Some-field_behind.passed p) c.in_err-push.ensures.wrote c.in_err-push.ensures.fault
+
+pub loop-interval-preserved : goal.loop-interval-preserved
+loop-interval-preserved g c =
+    let d = c.args.job.now.delim in
+    let line = c.args.line.now in
+    let all = c.intervals-selected.result.now in
+    let l = c.loop-interval in
+    let i = l.interval-index in
+    let r = get_or all i (record { first = 0; last = 0 }) in
+    let from = l.at + c.in-Some.skipped in
+    let next = from + c.in-Some-field_behind.passed in
+    let s = found d line (r.first - l.number) l.at c.in-Some.skipped c.in-Some.ensures.found in
+    let p = found d line (r.last - r.first + 1) from c.in-Some-field_behind.passed c.in-Some-field_behind.ensures.found in record {
+      front = front_more (cut_fields (cut_job c.args.job.now) line) (coming d (drop i all) line [] l.number l.at l.lead) c.args.out.now l.out l.invariant.front c.push-in-loop-interval.new.self
+          (take ((next - 1) - (from - l.lead)) (drop (from - l.lead) line)) (coming d (drop (i + 1) all) line [] (r.last + 1) next 1)
+          (walking_slice d all line [] i l.number l.at l.lead l.invariant.walk c.loop-interval-test.true c.in-Some.skipped s c.in-Some-field_behind.passed p) c.in_ok-push.ensures.wrote c.in_ok-push.ensures.clean;
+      walk = walking_more d all line [] i l.number l.at l.lead l.invariant.walk c.loop-interval-test.true c.in-Some.skipped s c.in-Some-field_behind.passed p;
+      known = c.in-Some-field_behind.ensures.start;
+    }
+
+pub returns-clause-wrote : goal.returns-clause-wrote
+returns-clause-wrote g c =
+    let d = c.args.job.now.delim in
+    let line = c.args.line.now in
+    let all = c.intervals-selected.result.now in
+    let l = c.loop-interval in
+    front_ends (cut_fields (cut_job c.args.job.now) line) (coming d (drop l.interval-index all) line [] l.number l.at l.lead) c.args.out.now l.out l.invariant.front l.out []
+    (walking_done d all line [] l.interval-index l.number l.at l.lead l.invariant.walk c.loop-interval-test.false) (wrote_nothing l.out)

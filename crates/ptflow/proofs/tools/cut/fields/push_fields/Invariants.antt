@@ -1,0 +1,13 @@
+use Rattle.std.proofs.Common.{◌≡◌, ◌≤◌, [], drop}
+use Rattle.ptlangs.specs.Jobs.{cut_job}
+use Rattle.ptflow.specs.Cuts.{cut_fields}
+use Rattle.ptflow.proofs.OfCut.FieldWalks.{Walking, coming}
+use Rattle.ptflow.proofs.OfPasses.Fronts.{Front}
+use Rattle.ptflow.proofs.tools.cut.fields.push_fields.Given as goal
+
+abbrev pub invariant-loop-interval : goal.invariant-loop-interval
+invariant-loop-interval g l = record {
+  front : Front (cut_fields (cut_job l.job) l.line) (coming l.job.delim (drop l.interval-index l.selected) l.line [] l.number l.at l.lead) l.fn.out l.out;
+  walk : Walking l.job.delim (drop l.interval-index l.selected) l.line l.number l.at l.lead;
+  known : l.at ≤ l.first → l.at ≡ 0;
+}

@@ -1,0 +1,32 @@
+use Rattle.std.proofs.Common.{◌++◌, ℕ, List, take, ◌∙◌, ap, arith, length-drop}
+use Rattle.std.proofs.lemmas.List.{take_rest}
+use Rattle.ptlines.proofs.Scanned.{no_end}
+use Rattle.ptlines.proofs.TextLaws.{ended_none}
+use Rattle.ptlangs.specs.Jobs.{cut_job}
+use Rattle.ptflow.specs.Cuts.{cut_lines}
+use Rattle.ptflow.proofs.OfPasses.LineLaws.{taken_more, taken_all}
+use Rattle.ptflow.proofs.tools.cut.fields.push_lines.Goals as goal
+
+pub lines-preserved : goal.lines-preserved
+lines-preserved g c =
+    let l = c.lines in
+    let put = c.put_lines-size.ensures.put in
+    rw take_rest (record {
+      taken = taken_more c.args.ending c.args.block.now l.rest.now c.put_lines-size.result.0 put.taken l.invariant.taken;
+      on = λ more. l.invariant.on more ∙ put.on more;
+      space = omega (arith, l.invariant.space, put.fits, c.put_lines-size.ensures.end.1, length-drop c.put_lines-size.result.0 l.rest.now);
+      long = c.put_lines-size.ensures.long ∙ l.invariant.long;
+    })
+
+pub returns-clause-continues : goal.returns-clause-continues
+returns-clause-continues g c =
+    let l = c.lines in
+    let job = cut_job c.args.job.now in
+    let none = ended_none c.args.ending l.rest.now (no_end c.args.ending l.rest.now c.in_default.ensures) in record {
+      pushed = take l.end l.room;
+      wrote = c.in_ok-push.ensures.wrote;
+      on = λ more. l.invariant.on more ∙ ap (λ (ls : List (List ℕ)). take l.end l.room ++ cut_lines job (ls ++ more)) none;
+    }
+
+pub returns-clause-passed : goal.returns-clause-passed
+returns-clause-passed g c = taken_all c.args.ending c.args.block.now c.lines.rest.now (no_end c.args.ending c.lines.rest.now c.in_default.ensures) c.lines.invariant.taken

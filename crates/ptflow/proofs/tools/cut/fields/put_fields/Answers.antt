@@ -1,0 +1,87 @@
+use Rattle.std.proofs.Common.{◌≡◌, ◌+◌, ◌-◌, ◌≤◌, ◌++◌, ℕ, List, take, drop, get_or, refl, sym, ◌∙◌, ap, arith, append_assoc, length-drop}
+use Rattle.std.proofs.lemmas.List.{take-take, length-take-le}
+use Rattle.std.specs.List.{join_with_byte}
+use Rattle.ptlangs.specs.CutLists.{is_selected}
+use Rattle.ptlangs.specs.declared.ranges.Interval.{Interval}
+use Rattle.ptflow.specs.Workings.Cut.FieldPlaces.{fields}
+use Rattle.ptflow.proofs.OfBytes.Chosen.{chosen}
+use Rattle.ptflow.proofs.OfCut.FieldPlaces.{rest_of, slice_of, line_with_end, put_byte}
+use Rattle.ptflow.proofs.OfCut.FieldWalks.{coming, all_coming, walking_starts, walking_done, walking_short, walking_ends, walking_slice, walking_more}
+use Rattle.ptflow.proofs.tools.cut.fields.put_fields.Goals as goal
+
+pub loop-interval-init : goal.loop-interval-init
+loop-interval-init g c =
+    let d = c.args.job.now.delim in
+    let bytes = c.args.bytes.now in
+    let line = take c.args.to bytes in
+    let tail = take 1 (drop c.args.to bytes) in
+    let all = c.intervals-selected.result.now in record {
+      put = ap (λ (l : List ℕ). take c.args.start c.args.room.now ++ l)
+          (ap (λ (l : List Interval). join_with_byte d (chosen (is_selected l) 1 (fields d line)) ++ tail) (sym c.intervals-selected.ensures.kept) ∙ all_coming d all line tail);
+      walk = walking_starts d all line tail c.intervals-selected.ensures.apart;
+      known = λ le. refl;
+      low = omega arith;
+      high = omega arith;
+      long = refl;
+    }
+
+pub returns-in_default-clause-put : goal.returns-in_default-clause-put
+returns-in_default-clause-put g c =
+    let bytes = c.args.bytes.now in
+    let to = c.args.to in
+    let l = c.loop-interval in
+    let same = walking_short c.args.job.now.delim c.intervals-selected.result.now (take to bytes) (take 1 (drop to bytes)) l.interval-index l.number l.at l.lead l.invariant.walk c.loop-interval-test.true c.in_default.ensures.found in
+    put_byte l.room bytes l.end to (omega (arith, l.invariant.high, l.invariant.long, l.invariant.walk.fits, length-take-le to bytes (omega arith))) c.requires.within
+    ∙ ap (λ (b : List ℕ). take l.end l.room ++ b) (sym same) ∙ sym l.invariant.put
+
+pub returns-in_default-field_behind-clause-put : goal.returns-in_default-field_behind-clause-put
+returns-in_default-field_behind-clause-put g c =
+    let bytes = c.args.bytes.now in
+    let to = c.args.to in
+    let line = take to bytes in
+    let l = c.loop-interval in
+    let from = l.at + c.in-Some.skipped in
+    let before : from - l.lead ≤ to + 1 = omega (arith, c.in-Some.ensures.found.fits, length-drop l.at line, l.invariant.walk.fits, length-take-le to bytes (omega arith)) in
+    let same = walking_ends c.args.job.now.delim c.intervals-selected.result.now line (take 1 (drop to bytes)) l.interval-index l.number l.at l.lead l.invariant.walk c.loop-interval-test.true
+    c.in-Some.skipped c.in-Some.ensures.found to (take (to + 1) bytes) (sym (take-take to (to + 1) bytes (omega arith))) (sym (line_with_end to bytes)) c.in_default-field_behind.ensures.found in
+    c.copy_near.ensures.copied ∙ ap (λ (b : List ℕ). take l.end l.room ++ b) (sym (same ∙ rest_of (from - l.lead) (to + 1) bytes before)) ∙ sym l.invariant.put
+
+pub loop-interval-preserved : goal.loop-interval-preserved
+loop-interval-preserved g c =
+    let d = c.args.job.now.delim in
+    let all = c.intervals-selected.result.now in
+    let bytes = c.args.bytes.now in
+    let to = c.args.to in
+    let line = take to bytes in
+    let tail = take 1 (drop to bytes) in
+    let l = c.loop-interval in
+    let i = l.interval-index in
+    let s = c.in-Some.ensures.found in
+    let p = c.in-Some-field_behind.ensures.found in
+    let from = l.at + c.in-Some.skipped in
+    let next = from + c.in-Some-field_behind.passed in
+    let size = (next - 1) - (from - l.lead) in
+    let more = coming d (drop (i + 1) all) line tail ((get_or all i (record { first = 0; last = 0 })).last + 1) next 1 in
+    let ends : next ≤ to = omega (arith, p.fits, length-drop from line, s.fits, length-drop l.at line, l.invariant.walk.fits, length-take-le to bytes (omega arith)) in
+    let some : 1 ≤ c.in-Some-field_behind.passed = omega (arith, p.count) in
+    let within : (from - l.lead) + size ≤ to = omega (arith, ends, some, l.invariant.walk.begun, l.invariant.walk.passed) in
+    let copied : take l.end l.room ++ take size (drop (from - l.lead) line) ≡ take (l.end + size) c.copy_near-in-loop-interval.new.into =
+    ap (λ (b : List ℕ). take l.end l.room ++ b) (slice_of (from - l.lead) size to bytes within) ∙ sym c.copy_near-in-loop-interval.ensures.copied in record {
+      put = l.invariant.put
+          ∙ ap (λ (b : List ℕ). take l.end l.room ++ b) (walking_slice d all line tail i l.number l.at l.lead l.invariant.walk c.loop-interval-test.true c.in-Some.skipped s c.in-Some-field_behind.passed p)
+          ∙ sym (append_assoc (take l.end l.room) (take size (drop (from - l.lead) line)) more) ∙ ap (λ (b : List ℕ). b ++ more) copied;
+      walk = walking_more d all line tail i l.number l.at l.lead l.invariant.walk c.loop-interval-test.true c.in-Some.skipped s c.in-Some-field_behind.passed p;
+      known = c.in-Some-field_behind.ensures.start;
+      low = omega (arith, l.invariant.low);
+      high = omega (arith, l.invariant.high, some, l.invariant.walk.passed);
+      long = c.copy_near-in-loop-interval.ensures.long ∙ l.invariant.long;
+    }
+
+pub returns-clause-put : goal.returns-clause-put
+returns-clause-put g c =
+    let bytes = c.args.bytes.now in
+    let to = c.args.to in
+    let l = c.loop-interval in
+    let same = walking_done c.args.job.now.delim c.intervals-selected.result.now (take to bytes) (take 1 (drop to bytes)) l.interval-index l.number l.at l.lead l.invariant.walk c.loop-interval-test.false in
+    put_byte l.room bytes l.end to (omega (arith, l.invariant.high, l.invariant.long, l.invariant.walk.fits, length-take-le to bytes (omega arith))) c.requires.within
+    ∙ ap (λ (b : List ℕ). take l.end l.room ++ b) (sym same) ∙ sym l.invariant.put

@@ -1,0 +1,40 @@
+use Rattle.std.proofs.Common.{◌≡◌, ◌+◌, ◌-◌, ◌++◌, ℕ, Some, take, length, sym, subst, arith}
+use Rattle.std.specs.Prelude.{unwrap_or}
+use Rattle.ptlines.specs.Text.{IsLine}
+use Rattle.ptlangs.specs.Jobs.{cut_job}
+use Rattle.ptflow.specs.Cuts.{cut_fields}
+use Rattle.ptflow.proofs.OfCut.FieldLines.{found, of_fields}
+use Rattle.ptflow.proofs.OfCut.FieldBlocks.{puts_line, puts_kept, puts_dropped, free_before, first_within}
+use Rattle.ptflow.proofs.tools.cut.fields.put_lines.Goals as goal
+
+pub returns-then-first-to-clause-put : goal.returns-then-first-to-clause-put
+returns-then-first-to-clause-put g c =
+    let job = cut_job c.args.job.now in
+    let d = c.args.job.now.delim in
+    let bytes = c.args.bytes.now in
+    let to = c.args.to in
+    let line = take to bytes in
+    let place = unwrap_or c.find_near.result (length bytes) in
+    let first = first_within d bytes c.find_near.result to c.find_near.ensures (omega (arith, c.if-first-to.true, c.unwrap_or-first.ensures)) (omega (arith, c.requires.first.0.high)) in
+    puts_line job c.requires.by_fields c.args.ending c.requires.ending bytes to c.requires.first (cut_fields job line) (take c.args.start c.args.room.now) (take c.put_fields.result c.put_fields.new.room)
+    (of_fields job c.requires.by_fields line (found d line (Some place) first)) c.put_fields.ensures.put
+
+pub returns-then-job-clause-put : goal.returns-then-job-clause-put
+returns-then-job-clause-put g c =
+    let bytes = c.args.bytes.now in
+    let d = c.args.job.now.delim in
+    let size = c.whole_lines-size in
+    let free = subst (λ (n : ℕ). IsLine d (take n bytes)) (sym c.unwrap_or-first.ensures) (free_before d bytes c.find_near.result c.find_near.ensures) in
+    puts_dropped (cut_job c.args.job.now) c.requires.by_fields c.args.ending c.requires.ending bytes c.args.to c.requires.first size.result c.unwrap_or-first.result size.ensures.within.0 size.ensures.within.1 size.ensures.ended
+    size.ensures.up_to c.if-first-to.false free (take c.args.start c.args.room.now) c.if-job.true
+
+pub returns-clause-put : goal.returns-clause-put
+returns-clause-put g c =
+    let bytes = c.args.bytes.now in
+    let d = c.args.job.now.delim in
+    let size = c.whole_lines-size in
+    let free = subst (λ (n : ℕ). IsLine d (take n bytes)) (sym c.unwrap_or-first.ensures) (free_before d bytes c.find_near.result c.find_near.ensures) in
+    let whole : size.result - 0 ≡ size.result = omega arith in
+    let copied = subst (λ (n : ℕ). take (c.args.start + n) c.copy_near.new.into ≡ take c.args.start c.args.room.now ++ take n bytes) whole c.copy_near.ensures.copied in
+    puts_kept (cut_job c.args.job.now) c.requires.by_fields c.args.ending c.requires.ending bytes c.args.to c.requires.first size.result c.unwrap_or-first.result size.ensures.within.0 size.ensures.within.1 size.ensures.ended
+    size.ensures.up_to c.if-first-to.false free (take c.args.start c.args.room.now) (take (c.args.start + size.result) c.copy_near.new.into) c.if-job.false copied

@@ -1,0 +1,31 @@
+use Rattle.std.proofs.Common.{◌≤◌, ◌+◌, ◌++◌, ℕ, List, take, get_or, refl, ◌∙◌, ap, arith, w8}
+use Rattle.std.proofs.lemmas.Simd.{swz_l, length-swz_l, SwzOk-from_below}
+use Rattle.std.specs.Simd.Lanes.{put_chunk}
+use Rattle.std.proofs.lemmas.List.{take-take, length-take-le}
+use Rattle.ptflow.specs.Cuts.{chosen_from}
+use Rattle.ptflow.proofs.OfBytes.ChosenLanes.{chosen_stored}
+use Rattle.ptflow.proofs.OfCut.PickLemmas.{pick_line, pick_few, pick_lanes}
+use Rattle.ptflow.proofs.tools.cut.picking.put_picked.Goals as goal
+
+pub swizzle-lanes : goal.swizzle-lanes
+swizzle-lanes c =
+    let pick = c.args.pick.now in
+    let p = c.requires.pick in
+    SwzOk-from_below w8 16 1 16 0 pick.row refl (omega (arith, p.1.long)) (pick_lanes p.0 pick p.1)
+
+pub returns-clause-picked : goal.returns-clause-picked
+returns-clause-picked c selected is =
+    let pick = c.args.pick.now in
+    let v = take 16 c.args.bytes.now in
+    let at = c.args.at in
+    let count = c.args.count in
+    let into = c.args.into.now in
+    let lanes = swz_l w8 16 v 0 pick.row in
+    let kept = get_or pick.counts count 0 in
+    let few : kept ≤ 16 = omega (arith, pick_few selected pick is count c.requires.short, c.requires.short) in
+    ap (λ (n : ℕ). take (at + n) (put_chunk at into lanes)) c.from.ensures
+    ∙ chosen_stored at kept into lanes (length-swz_l w8 16 v 0 pick.row ∙ is.long) few c.requires.room
+    ∙ ap (λ (l : List ℕ). take at into ++ l) (pick_line selected pick is count v c.requires.short (length-take-le 16 c.args.bytes.now c.requires.within) ∙ ap (chosen_from selected 1) (take-take count 16 c.args.bytes.now c.requires.short))
+
+pub returns-clause-near : goal.returns-clause-near
+returns-clause-near c = omega (arith, c.from.ensures, pick_few c.requires.pick.0 c.args.pick.now c.requires.pick.1 c.args.count c.requires.short)

@@ -1,0 +1,11 @@
+use Rattle.std.proofs.Common.{◌≡◌, false, []}
+use Rattle.ptlines.specs.Outputs.{Wrote}
+use Rattle.ptflow.proofs.OfPaste.RowTurns.{Filling}
+use Rattle.ptflow.proofs.tools.paste.fill_row.Given as goal
+
+abbrev pub invariant-loop-column : goal.invariant-loop-column
+invariant-loop-column g l = record {
+  filling : Filling l.cells l.column l.fn.readers l.readers l.fn.store l.store l.came;
+  wrote : Wrote l.fn.out l.out [];
+  clean : l.out.faulted ≡ false;
+}

@@ -1,0 +1,61 @@
+use Rattle.std.proofs.Common.{◌<◌, ◌≤◌, [], length, take, refl, ap, arith, subst}
+use Rattle.std.proofs.lemmas.Bool.Decides.{nat_tests}
+use Rattle.std.proofs.lemmas.List.{drop_all}
+use Rattle.ptflow.specs.Workings.Paste.SerialRests.{serial_rest, begun, lead, PutsBlock}
+use Rattle.ptflow.specs.declared.tools.paste.serial.Cell.{Cell}
+use Rattle.ptflow.proofs.OfPasses.Continuations.{on_err, amid_starts, amid_more, amid_halts, amid_over}
+use Rattle.ptflow.proofs.OfPaste.SerialRests.{begun_on, begins, begun_number}
+use Rattle.ptflow.proofs.tools.paste.serial.push_cells.Goals as goal
+
+pub returns-then-is_empty-clause-continues : goal.returns-then-is_empty-clause-continues
+returns-then-is_empty-clause-continues g c =
+    let rest_from = serial_rest c.args.ending c.args.delims.now in
+    let block = c.args.block.now in
+    let none : length block ≤ 0 = grind (arith, nat_tests) in
+    amid_over rest_from c.args.cell c.args.cell block block c.args.out.now c.args.out.now (amid_starts rest_from c.args.cell block c.args.out.now c.requires.clean) (drop_all 0 block none)
+
+pub returns-in_err-begun-clause-halts : goal.returns-in_err-begun-clause-halts
+returns-in_err-begun-clause-halts g c =
+    let end = c.args.ending in
+    let delims = c.args.delims.now in
+    let cell = c.args.cell in
+    let block = c.args.block.now in
+    let out = c.args.out.now in
+    let long : 0 < length block = grind (arith, nat_tests) in
+    on_err c.from_residual.result
+    (amid_halts (serial_rest end delims) cell cell (begun cell) block block block (lead delims cell) out out c.begin_cell.new.out (amid_starts (serial_rest end delims) cell block out c.requires.clean) c.begin_cell.ensures.wrote (begun_on end delims cell block long))
+
+pub put_block-count-requires-clause-short : goal.put_block-count-requires-clause-short
+put_block-count-requires-clause-short g c = omega (arith, ap (λ (x : Cell). x.number) c.in_ok-begun.ensures.begun, begun_number c.args.cell, c.requires.short)
+
+pub returns-in_err-push-clause-halts : goal.returns-in_err-push-clause-halts
+returns-in_err-push-clause-halts g c =
+    let end = c.args.ending in
+    let delims = c.args.delims.now in
+    let cell = c.args.cell in
+    let block = c.args.block.now in
+    let out = c.args.out.now in
+    let after = c.put_block-count.result.1 in
+    let written = take c.put_block-count.result.0 c.put_block-count.new.into in
+    let long : 0 < length block = grind (arith, nat_tests) in
+    let puts = subst (λ (x : Cell). PutsBlock end delims x.number block after written) c.in_ok-begun.ensures.begun c.put_block-count.ensures.puts in
+    on_err c.from_residual-in_err-push.result
+    (amid_halts (serial_rest end delims) cell (begun cell) after block block [] written out c.begin_cell.new.out c.push.new.self
+    (begins end delims cell cell block block out out c.begin_cell.new.out (amid_starts (serial_rest end delims) cell block out c.requires.clean) long c.begin_cell.ensures.wrote c.in_ok-begun.ensures.clean)
+    c.push.ensures.wrote puts)
+
+pub returns-clause-continues : goal.returns-clause-continues
+returns-clause-continues g c =
+    let end = c.args.ending in
+    let delims = c.args.delims.now in
+    let cell = c.args.cell in
+    let block = c.args.block.now in
+    let out = c.args.out.now in
+    let after = c.put_block-count.result.1 in
+    let written = take c.put_block-count.result.0 c.put_block-count.new.into in
+    let long : 0 < length block = grind (arith, nat_tests) in
+    let puts = subst (λ (x : Cell). PutsBlock end delims x.number block after written) c.in_ok-begun.ensures.begun c.put_block-count.ensures.puts in
+    amid_over (serial_rest end delims) cell after block [] out c.push.new.self
+    (amid_more (serial_rest end delims) cell (begun cell) after block block [] written out c.begin_cell.new.out c.push.new.self
+    (begins end delims cell cell block block out out c.begin_cell.new.out (amid_starts (serial_rest end delims) cell block out c.requires.clean) long c.begin_cell.ensures.wrote c.in_ok-begun.ensures.clean)
+    c.push.ensures.wrote puts c.in_ok-push.ensures.clean) refl

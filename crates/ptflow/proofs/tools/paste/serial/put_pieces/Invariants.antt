@@ -1,0 +1,13 @@
+use Rattle.std.proofs.Common.{◌+◌, ◌≤◌, length, take}
+use Rattle.ptflow.specs.Workings.Paste.SerialRests.{Puts}
+use Rattle.ptflow.proofs.tools.paste.serial.put_pieces.Given as goal
+
+abbrev pub invariant-pieces : goal.invariant-pieces
+invariant-pieces g l = record {
+  puts : Puts l.ending l.delims l.fn.number l.bytes l.number l.rest (take l.at l.into);
+  near : l.at + length l.rest ≤ length l.bytes;
+  bound : l.number + length l.rest ≤ l.fn.number + length l.bytes;
+}
+
+abbrev pub decreases-pieces : goal.decreases-pieces
+decreases-pieces g l = length l.rest

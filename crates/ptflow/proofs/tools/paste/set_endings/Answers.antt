@@ -1,0 +1,18 @@
+use Rattle.std.proofs.Common.{◌≡◌, ◌<◌, ℕ, Bool, true, false, cond, length, get_or, refl, ◌∙◌, arith}
+use Rattle.std.proofs.lemmas.List.Elements.{All-get_or}
+use Rattle.ptlangs.specs.Jobs.{ending}
+use Rattle.ptflow.proofs.OfPaste.RowTurns.{at_index, set_more}
+use Rattle.ptflow.proofs.tools.paste.set_endings.Goals as goal
+
+ending_is : (zero : Bool) → cond zero 0 10 ≡ ending zero
+ending_is true = refl
+ending_is false = refl
+
+pub loop-place-preserved : goal.loop-place-preserved
+loop-place-preserved g c =
+    let cells = c.args.cells.now in
+    let i = c.loop-place.place-index in
+    let now = c.loop-place.readers in
+    let within : get_or cells i 0 < length now = omega (arith, All-get_or (λ (p : ℕ). p < length c.args.readers.now) cells i 0 c.loop-place-test.true c.requires, c.loop-place.auto.readers) in
+    set_more (ending c.args.zero) cells i c.args.readers.now now c.set_ending.new.self c.loop-place-test.true within c.loop-place.invariant
+    (c.set_ending.ensures.set ∙ (λ j. record (at_index now (get_or cells i 0) c.index-readers-place.result within j) { ending = ending_is c.args.zero j })) c.set_ending.ensures.is_sound

@@ -1,0 +1,7 @@
+use Rattle.std.proofs.Common.{take}
+use Rattle.ptlangs.specs.Jobs.{ending}
+use Rattle.ptflow.specs.Workings.Paste.RowTurns.{AreSet}
+use Rattle.ptflow.proofs.tools.paste.set_endings.Given as goal
+
+abbrev pub invariant-loop-place : goal.invariant-loop-place
+invariant-loop-place g l = AreSet (ending l.zero) (take l.place-index l.cells) l.fn.readers l.readers

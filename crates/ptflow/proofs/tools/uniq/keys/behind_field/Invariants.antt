@@ -1,0 +1,9 @@
+use Rattle.std.proofs.Common.{◌≡◌, length}
+use Rattle.ptflow.proofs.OfUniq.UniqKeys.{behind}
+use Rattle.ptflow.proofs.tools.uniq.keys.behind_field.Given as goal
+
+abbrev pub invariant-blanks : goal.invariant-blanks
+invariant-blanks l = behind 1 l.rest ≡ behind 1 l.line
+
+abbrev pub decreases-blanks : goal.decreases-blanks
+decreases-blanks l = length l.rest

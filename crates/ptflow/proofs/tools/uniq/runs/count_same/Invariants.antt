@@ -1,0 +1,14 @@
+use Rattle.std.proofs.Common.{◌≡◌, length}
+use Rattle.ptlangs.specs.Jobs.{uniq_job}
+use Rattle.ptflow.specs.Uniqs.{key}
+use Rattle.ptflow.proofs.OfUniq.BlockRuns.{Counting}
+use Rattle.ptflow.proofs.tools.uniq.runs.count_same.Given as goal
+
+abbrev pub invariant-lines : goal.invariant-lines
+invariant-lines l = record {
+  counting : Counting (uniq_job l.job) l.ending l.first l.block l.rest l.count;
+  own : l.own ≡ key (uniq_job l.job) l.first;
+}
+
+abbrev pub decreases-lines : goal.decreases-lines
+decreases-lines l = length l.rest

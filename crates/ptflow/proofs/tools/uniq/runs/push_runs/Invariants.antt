@@ -1,0 +1,10 @@
+use Rattle.std.proofs.Common.{length}
+use Rattle.ptlangs.specs.Jobs.{uniq_job}
+use Rattle.ptflow.proofs.OfUniq.BlockRuns.{Running}
+use Rattle.ptflow.proofs.tools.uniq.runs.push_runs.Given as goal
+
+abbrev pub invariant-lines : goal.invariant-lines
+invariant-lines g l = Running (uniq_job l.job) l.block l.rest l.count l.line l.waiting l.own l.fn.out l.out
+
+abbrev pub decreases-lines : goal.decreases-lines
+decreases-lines g l = length l.rest

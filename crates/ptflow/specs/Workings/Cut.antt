@@ -1,0 +1,4 @@
+-- `cut`.
+pub mod CutRests
+pub mod FieldPlaces
+pub mod Picks

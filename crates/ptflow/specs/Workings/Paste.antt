@@ -1,0 +1,4 @@
+-- `paste`.
+pub mod RowTurns
+pub mod SerialRests
+pub mod TakenLines

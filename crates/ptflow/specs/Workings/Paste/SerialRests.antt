@@ -1,0 +1,48 @@
+-- What `paste` in series writes of the rest of a text.
+use Rattle.std.specs.Prelude.{◌≡◌, ◌<◌, ◌==◌, ℕ, ◌+◌, List, [], ◌∷◌, ◌++◌, Bool, true, false, Option, Some, length, if◌then◌else◌}
+use Rattle.ptlines.specs.Text.{lines}
+use Rattle.ptlangs.specs.DelimLists.{delim_at}
+use Rattle.ptflow.specs.Pastes.{delimiter, glued_from}
+use Rattle.ptflow.specs.declared.kernels.replacing.EndsTo.{EndsTo}
+use Rattle.ptflow.specs.declared.tools.paste.serial.Cell.{Cell}
+
+-- the lines that come in the cell of this number, or behind it if it has ended
+abbrev pub row_rest : ℕ → List (Option ℕ) → ℕ → Bool → List (List ℕ) → List ℕ
+row_rest end delims number false ls = glued_from delims number ls ++ end ∷ []
+row_rest end delims number true [] = end ∷ []
+row_rest end delims number true (line ∷ more) = delimiter delims number ++ (glued_from delims (number + 1) (line ∷ more) ++ end ∷ [])
+
+abbrev pub row_from : ℕ → List (Option ℕ) → Cell → List (List ℕ) → List ℕ
+row_from end delims cell ls = row_rest end delims cell.number cell.ended ls
+
+-- the same for the lines of the rest of a text
+abbrev pub serial_rest : ℕ → List (Option ℕ) → Cell → List ℕ → List ℕ
+serial_rest end delims cell rest = row_from end delims cell (lines end rest)
+
+-- the cell to which the next byte belongs, and what stands in front of that
+abbrev pub begun : Cell → Cell
+begun cell = record { number = if cell.ended then cell.number + 1 else cell.number; ended = false }
+
+abbrev pub lead : List (Option ℕ) → Cell → List ℕ
+lead delims cell = if cell.ended then delimiter delims cell.number else []
+
+-- Of these bytes, which come in the cell of one number, all but the rest were taken, and this was written of them; the
+-- rest comes in the cell of another number. So it is whatever comes behind, if anything does.
+abbrev pub Puts : ℕ → List (Option ℕ) → ℕ → List ℕ → ℕ → List ℕ → List ℕ → Type 0
+Puts end delims number bytes now rest written =
+    (more : List ℕ) → 0 < length more
+    → row_rest end delims number false (lines end (bytes ++ more)) ≡ written ++ row_rest end delims now false (lines end (rest ++ more))
+
+-- This was written of a block that comes in the cell of this number, and what comes behind it comes in the cell
+-- `after`.
+abbrev pub PutsBlock : ℕ → List (Option ℕ) → ℕ → List ℕ → Cell → List ℕ → Type 0
+PutsBlock end delims number block after written =
+    (more : List ℕ) → row_rest end delims number false (lines end (block ++ more)) ≡ written ++ serial_rest end delims after more
+
+-- the delimiter behind every cell is this one
+abbrev pub IsAlways : List (Option ℕ) → ℕ → Type 0
+IsAlways delims delim = (number : ℕ) → delim_at delims number ≡ Some delim
+
+-- what a byte becomes where the byte that ends a line becomes a delimiter
+abbrev pub with_delimiter : EndsTo → ℕ → ℕ
+with_delimiter to b = if b == to.ending then to.delim else b

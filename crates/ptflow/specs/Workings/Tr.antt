@@ -1,0 +1,3 @@
+-- `tr`.
+pub mod Mappings
+pub mod TrRests

@@ -1,0 +1,5 @@
+-- `uniq`.
+pub mod BlockRuns
+pub mod OpenLines
+pub mod OpenRuns
+pub mod UniqWords

@@ -1,0 +1,50 @@
+-- The runs of the lines of a block: what was pushed of them, and what of that still waits.
+use Rattle.std.specs.Prelude.{◌≡◌, ℕ, ◌+◌, ◌≤◌, ◌<◌, false, List, ◌∷◌, ◌++◌, length, take, drop, slice_range}
+use Rattle.ptlines.specs.Outputs.{Output, Wrote}
+use Rattle.ptlines.specs.Text.{text, ended_lines}
+use Rattle.ptlangs.specs.Jobs.{Uniq}
+use Rattle.ptflow.specs.Uniqs.{Run, entries, is_same}
+use Rattle.ptflow.specs.Workings.Uniq.OpenRuns.{runs_behind, run_of}
+use Rattle.ptflow.specs.declared.tools.uniq.runs.Same.{Same}
+use Rattle.ptflow.specs.declared.tools.uniq.runs.Span.{Span}
+
+-- These lines came behind those of an open run: some runs were passed on, and this run is open behind them, whatever comes.
+pub record RunsOn (job : Uniq) (before after : Run) (ls : List (List ℕ)) (was is : Output) : Type 0 where
+  pub passed : List Run
+  pub wrote : Wrote was is (entries job passed)
+  pub on : (more : List (List ℕ)) → runs_behind job before (ls ++ more) ≡ passed ++ runs_behind job after more
+  pub count : after.count ≤ before.count + length ls
+
+-- A write failed amid these lines: what was pushed is of the first runs, whatever comes.
+pub record RunsHalt (job : Uniq) (before : Run) (ls : List (List ℕ)) (was is : Output) : Type 0 where
+  pub passed : List Run
+  pub wrote : Wrote was is (entries job passed)
+  pub true_so_far : (more : List (List ℕ)) → (rest : List Run) × (runs_behind job before (ls ++ more) ≡ passed ++ rest)
+
+-- So many lines in front of a block are of the run with this first line, and the next one that is whole is not.
+pub record GoesOnWith (job : Uniq) (end : ℕ) (first block : List ℕ) (same : Same) : Type 0 where
+  pub front : List (List ℕ)
+  pub number : length front ≡ same.count
+  pub split : ended_lines end block ≡ front ++ ended_lines end (drop same.passed block)
+  pub within : same.passed ≤ length block
+  pub texts : take same.passed block ≡ text end front
+  pub on : (count : ℕ) → 0 < count → (more : List (List ℕ))
+      → runs_behind job (run_of first count) (front ++ more) ≡ runs_behind job (run_of first (count + same.count)) more
+  pub turns : (line : List ℕ) (more : List (List ℕ)) → ended_lines end (drop same.passed block) ≡ line ∷ more
+      → is_same job first line ≡ false
+
+-- these bytes of a block
+abbrev pub span_of : List ℕ → Span → List ℕ
+span_of block span = slice_range block span.from span.to
+
+-- they are in it
+pub record IsSpan (block : List ℕ) (span : Span) : Type 0 where
+  pub ordered : span.from ≤ span.to
+  pub within : span.to ≤ length block
+
+-- Of these bytes some were pushed, and the others are this piece of the block.
+pub record Waits (bytes block : List ℕ) (waiting : Span) (was is : Output) : Type 0 where
+  pub pushed : List ℕ
+  pub wrote : Wrote was is pushed
+  pub all : pushed ++ span_of block waiting ≡ bytes
+  pub span : IsSpan block waiting

@@ -1,0 +1,318 @@
+//! `cut` by bytes.
+
+ghost use Rattle.std.specs.Prelude.{◌≡◌, ◌<◌, ◌≤◌, ◌+◌, ◌^◌, ℕ, length, take, drop, ◌++◌, true, false, None, [], ◌∷◌, OnOk, OnErr, IfOk, ◌==◌, if◌then◌else◌};
+ghost use Rattle.std.specs.Simd.Lanes.{chunk};
+ghost use Rattle.ptlines.specs.Outputs.{Wrote};
+ghost use Rattle.ptlangs.specs.CutLists.{AreApart};
+ghost use Rattle.ptlangs.specs.Jobs.{cut_job};
+ghost use Rattle.ptflow.specs.Cuts.{cut_tool};
+ghost use Rattle.ptflow.specs.Passes.{IsBarePass};
+ghost use Rattle.ptflow.specs.Workings.Cut.CutRests.{rest_by, chosen_piece, IsCutTo, IsLineAt, CutsOn};
+ghost use Rattle.ptflow.specs.Workings.Passes.Continuations.{Continues, Halts};
+ghost use Rattle.ptflow.specs.Workings.Cut.Picks.{IsSelection};
+
+use crate::blocks::{BlockTool, over_blocks};
+use crate::faults::FlowFault;
+use crate::kernels::places::marks;
+use crate::tools::cut::picking::{Pick, put_picked};
+use ptlangs::jobs::CutJob;
+use ptlangs::ranges::Interval;
+use ptlines::{LineReader, Out, Sink, Source, WriteFault, copy_near, find_near};
+use std::alloc::Allocator;
+use std::simd::prelude::*;
+
+// What is written of a block, which is at most as long as the block, and room for what a copy changes behind it.
+type Written = [u8; 8208];
+
+/// What is selected of each line, and which places these are of a short one.
+#[derive(Clone, Copy)]
+pub(crate) struct Selection<'a> {
+    selected: &'a [Interval],
+    pick: Pick,
+}
+
+// Copies the selected bytes of a piece of a line, the first `count` of these bytes, and then the bytes up to `end`:
+// the one that ends the line, or none. In front of the piece stand `before` bytes of the line. The answer is where
+// that ends.
+#[inline(always)]
+fn copy_selected(
+    selected: &[Interval],
+    before: u64,
+    bytes: &[u8],
+    count: usize,
+    end: usize,
+    into: &mut Written,
+    at: usize,
+) -> usize
+    requires apart { AreApart 0 selected.now }
+    requires within { (count ≤ end) × (end ≤ length bytes.now) }
+    requires short { before + count < 2 ^ 63 }
+    requires room { at + end ≤ 8192 }
+    ensures copied { take result into.new
+        ≡ take at into.old ++ chosen_piece selected.now before count (take end bytes.now) }
+    ensures near { result ≤ at + end }
+{
+    let last = before + count as u64;
+    let mut at = at;
+    for interval in selected {
+        let from = interval.first.saturating_sub(before + 1) as usize;
+        if last <= interval.last {
+            let from = from.min(count);
+            copy_near(bytes, from, end, into, at);
+            return at + (end - from);
+        }
+        let to = interval.last.saturating_sub(before) as usize;
+        copy_near(bytes, from, to, into, at);
+        at += to - from;
+    }
+    copy_near(bytes, count, end, into, at);
+    at + (end - count)
+}
+
+// Copies the selected bytes of a line, the first `count` of these bytes, and the byte that ends it. In front of it
+// stand `before` bytes of the line. The answer is where that ends. Most lines come whole, and many are short.
+#[inline(always)]
+fn copy_line(
+    by: &Selection,
+    before: u64,
+    bytes: &[u8],
+    count: usize,
+    into: &mut Written,
+    at: usize,
+) -> usize
+    requires by { IsSelection by.now }
+    requires within { count < length bytes.now }
+    requires short { before + count < 2 ^ 63 }
+    requires room { at + count < 8192 }
+    ensures copied { take result into.new
+        ≡ take at into.old ++ chosen_piece by.now.selected.now before count (take (count + 1) bytes.now) }
+    ensures near { result ≤ at + count + 1 }
+{
+    if before > 0 || count > 16 || bytes.len() < 16 {
+        return copy_selected(by.selected, before, bytes, count, count + 1, into, at);
+    }
+    let at = put_picked(&by.pick, bytes, count, into, at);
+    into[at] = bytes[count];
+    at + 1
+}
+
+// Where a line of a block starts, how many bytes of it came in earlier blocks, and where the output of the lines in
+// front of it ends.
+#[derive(Clone, Copy)]
+struct Step {
+    start: usize,
+    before: u64,
+    at: usize,
+}
+
+// Copies 64 lines that are empty.
+#[inline(always)]
+fn copy_ends(block: &[u8], step: Step, into: &mut [u8]) -> Step
+    requires within { step.start + 64 ≤ length block.now }
+    requires room { step.at + 64 ≤ length into.old }
+    ensures long { length into.new ≡ length into.old }
+    ensures step { result ≡ record step { start = step.start + 64; at = step.at + 64 } }
+    ensures copied { take (step.at + 64) into.new ≡ take step.at into.old ++ chunk step.start 64 block.now }
+{
+    u8x64::from_slice(&block[step.start..]).copy_to_slice(&mut into[step.at..]);
+    Step {
+        start: step.start + 64,
+        before: step.before,
+        at: step.at + 64,
+    }
+}
+
+// Copies what is written of the lines that end among the 64 bytes from a place on, of which the first is told. The
+// answer is the first line behind them. Apart, so that what a line needs stays in registers.
+#[inline(never)]
+fn cut_chunk(
+    by: &Selection,
+    ending: u8,
+    block: &[u8],
+    from: usize,
+    step: Step,
+    into: &mut Written,
+) -> Step
+    requires by { IsSelection by.now }
+    requires within { (from + 64 ≤ length block.now) × (length block.now ≤ 8192) }
+    requires line { IsLineAt ending block.now from step.start }
+    requires short { step.before + length block.now < 2 ^ 63 }
+    requires room { step.at ≤ step.start }
+    ensures line { IsLineAt ending block.now (from + 64) result.start }
+    ensures cut { CutsOn ending by.now.selected.now step.before (drop step.start block.now) (take step.at into.old)
+        result.before (drop result.start block.now) (take result.at into.new) }
+    ensures bound { result.before ≤ step.before }
+    ensures near { result.at ≤ result.start }
+{
+    let mut marked = marks(ending, block, from);
+    if marked == u64::MAX && step.start == from && step.before == 0 {
+        return copy_ends(block, step, into);
+    }
+    let mut step = step;
+    for _end in 0..marked.count_ones() {
+        let end = from + marked.trailing_zeros() as usize;
+        let rest = &block[step.start..];
+        let at = copy_line(by, step.before, rest, end - step.start, into, step.at);
+        step = Step {
+            start: end + 1,
+            before: 0,
+            at,
+        };
+        marked &= marked.wrapping_sub(1);
+    }
+    step
+}
+
+// Copies what is written of bytes, of whose first line `before` bytes came earlier. The answer is where that ends, and
+// how many bytes have come of the line that goes on behind them.
+fn cut_rest(
+    by: &Selection,
+    ending: u8,
+    before: u64,
+    bytes: &[u8],
+    into: &mut Written,
+    at: usize,
+) -> (usize, u64)
+    requires by { IsSelection by.now }
+    requires room { at + length bytes.now ≤ 8192 }
+    requires short { before + length bytes.now < 2 ^ 63 }
+    ensures cut { CutsOn ending by.now.selected.now before bytes.now (take at into.old)
+        result.1 [] (take result.0 into.new) }
+    ensures near { result.0 ≤ at + length bytes.now }
+    ensures bound { result.1 ≤ before + length bytes.now }
+{
+    let mut before = before;
+    let mut rest = bytes;
+    let mut at = at;
+    'lines: while let Some(count) = find_near(ending, rest) {
+        at = copy_line(by, before, rest, count, into, at);
+        before = 0;
+        rest = &rest[count + 1..];
+    }
+    at = copy_selected(by.selected, before, rest, rest.len(), rest.len(), into, at);
+    (at, before + rest.len() as u64)
+}
+
+// Copies what is written of a block, of whose first line `before` bytes came earlier. The answer is where that ends,
+// and how many bytes have come of the line that goes on behind the block.
+#[inline(always)]
+fn cut_pieces(
+    by: &Selection,
+    ending: u8,
+    before: u64,
+    block: &[u8],
+    into: &mut Written,
+) -> (usize, u64)
+    requires by { IsSelection by.now }
+    requires room { length block.now ≤ 8192 }
+    requires short { before + length block.now < 2 ^ 63 }
+    ensures cut { IsCutTo ending by.now.selected.now before block.now result.1 [] (take result.0 into.new) }
+    ensures near { result.0 ≤ length block.now }
+    ensures bound { result.1 ≤ before + length block.now }
+{
+    let mut step = Step {
+        start: 0,
+        before,
+        at: 0,
+    };
+    let mut from = 0;
+    while block.len() - from >= 64 {
+        step = cut_chunk(by, ending, block, from, step, into);
+        from += 64;
+    }
+    cut_rest(by, ending, step.before, &block[step.start..], into, step.at)
+}
+
+// Pushes what is written of a block, of whose first line `before` bytes came earlier. The answer is how many bytes
+// have come of the line that goes on behind the block.
+#[inline(never)]
+fn push_pieces<W: Sink>(
+    by: &Selection,
+    ending: u8,
+    before: u64,
+    block: &[u8],
+    written: &mut Written,
+    out: &mut Out<W>,
+) -> Result<u64, WriteFault>
+    requires by { IsSelection by.now }
+    requires room { length block.now ≤ 8192 }
+    requires short { before + length block.now < 2 ^ 63 }
+    requires clean { out.old.faulted ≡ false }
+    ensures continues { IfOk result
+        (λ n. Continues (rest_by ending by.now.selected.now) before n block.now out.old out.new) }
+    ensures bound { IfOk result (λ n. n ≤ before + length block.now) }
+    ensures halts { OnErr result (Halts (rest_by ending by.now.selected.now) before block.now out.old out.new) }
+    ensures clean { OnOk result (out.new.faulted ≡ false) }
+    ensures fault { OnErr result (out.new.faulted ≡ true) }
+{
+    let (count, before) = cut_pieces(by, ending, before, block, written);
+    out.push(&written[..count])?;
+    Ok(before)
+}
+
+/// What is selected of each line, the byte that ends a line, how many bytes have come of the line that goes on, and a
+/// place for what is written of a block.
+#[derive(Drop)]
+struct ByteCut<'a> {
+    by: Selection<'a>,
+    ending: u8,
+    before: u64,
+    written: Written,
+}
+
+impl<'a> BlockTool for ByteCut<'a> {
+    ghost use Rattle.std.specs.Prelude.{◌≡◌};
+    ghost use Rattle.ptflow.specs.Workings.Cut.CutRests.{rest_by};
+    ghost use Rattle.ptflow.specs.Workings.Cut.Picks.{IsSelection};
+
+    ghost rest = { λ t. rest_by t.ending t.by.selected.now t.before };
+
+    ghost counted = { λ t. t.before };
+
+    ghost Holds = { λ s t. IsSelection t.by × (t.by.selected.now ≡ s.by.selected.now) × (t.ending ≡ s.ending) };
+
+    fn push_block<W: Sink>(&mut self, block: &[u8], out: &mut Out<W>) -> Result<(), WriteFault> {
+        self.before = push_pieces(
+            &self.by,
+            self.ending,
+            self.before,
+            block,
+            &mut self.written,
+            out,
+        )?;
+        Ok(())
+    }
+
+    // Ends the last line, if one goes on.
+    fn push_end<W: Sink>(&self, out: &mut Out<W>) -> Result<(), WriteFault> {
+        if self.before == 0 {
+            return out.push(b"");
+        }
+        out.push(&[self.ending])
+    }
+}
+
+// Writes the selected bytes of each line of a reader, and behind each line the byte that ends it. No line is kept:
+// what was selected is pushed before the next read.
+pub(crate) fn cut_by_bytes<A: Allocator + Copy, S: Source, R: Source, W: Sink>(
+    job: &CutJob<A>,
+    reader: &mut LineReader<S, R>,
+    out: &mut Out<W>,
+) -> Result<(), FlowFault>
+    requires by_bytes { job.now.fields ≡ false }
+    requires ending { reader.old.ending ≡ (cut_job job.now).end }
+    requires readable { reader.old.fault ≡ None }
+    requires clean { out.old.faulted ≡ false }
+    ensures { IsBarePass (cut_tool (cut_job job.now)) reader.old reader.new out.old out.new result }
+{
+    let mut tool = ByteCut {
+        by: Selection {
+            selected: job.list.intervals(),
+            pick: Pick::of(&job.list),
+        },
+        ending: reader.ending(),
+        before: 0,
+        written: [0; 8208],
+    };
+    over_blocks(&mut tool, reader, out)
+}

@@ -1,0 +1,300 @@
+//! `cut` by fields.
+
+ghost use Rattle.std.specs.Prelude.{◌≡◌, ◌+◌, ◌-◌, ◌<◌, ◌≤◌, ◌^◌, ◌++◌, ◌⊎◌, length, take, drop, slice_index, true, false, [], ◌∷◌, Some, IfOk, IfSome, OnOk, OnErr, MatchOption};
+ghost use Rattle.memchr.specs.Find.{IsFirstByte, is_byte};
+ghost use Rattle.ptlines.specs.Outputs.{Wrote};
+ghost use Rattle.ptlines.specs.Readers.{IsSound};
+ghost use Rattle.ptlines.specs.Text.{text, ended_lines};
+ghost use Rattle.ptlangs.specs.Jobs.{cut_job};
+ghost use Rattle.ptflow.specs.Cuts.{cut_fields, cut_lines, cut_tool};
+ghost use Rattle.ptflow.specs.Passes.{IsReady, IsPass};
+ghost use Rattle.ptflow.specs.Workings.Cut.FieldPlaces.{fields, StartsAt};
+ghost use Rattle.ptflow.specs.Workings.Cut.CutRests.{GoesOn, BreaksOff, PutsLines};
+
+use crate::faults::FlowFault;
+use crate::kernels::places::{line_end, nth_place};
+use crate::slots::need_slots;
+use memchr::memrchr;
+use ptlangs::jobs::CutJob;
+use ptlangs::ranges::Interval;
+use ptlines::{LineFault, LineReader, Out, Sink, Source, Store, WriteFault, copy_near, find_near};
+use std::alloc::Allocator;
+
+// What a block of lines is cut to, and 16 bytes more, which a copy of few bytes may change.
+type Room = [u8; 8192 + 16];
+
+// Where the field starts that so many fields stand in front of, in a line that is the first `to` of these bytes, or
+// `None` if the line has no more than these.
+#[inline(always)]
+fn field_start(delimiter: u8, bytes: &[u8], to: usize, count: u64) -> Option<usize>
+    requires { to ≤ length bytes.now }
+    ensures { MatchOption result (length (fields delimiter (take to bytes.now)) ≤ count)
+        (StartsAt delimiter count (take to bytes.now)) }
+{
+    // A line has at most one field more than bytes.
+    if count > to as u64 {
+        return None;
+    }
+    if count == 0 {
+        return Some(0);
+    }
+    let at = nth_place(delimiter, bytes, to, count)?;
+    Some(at + 1)
+}
+
+// The same of what stands in a line from a place on, counted from there. The line's first delimiter, which was found
+// before, is not searched again: the place is the line's start, or behind that delimiter.
+#[inline(always)]
+fn field_behind(
+    delimiter: u8,
+    first: usize,
+    bytes: &[u8],
+    from: usize,
+    to: usize,
+    count: u64,
+) -> Option<usize>
+    requires first { IsFirstByte (is_byte delimiter) (take to bytes.now) (Some first) }
+    requires start { from ≤ first → from ≡ 0 }
+    requires within { (from ≤ to) × (to ≤ length bytes.now) }
+    ensures found { MatchOption result (length (fields delimiter (drop from (take to bytes.now))) ≤ count)
+        (StartsAt delimiter count (drop from (take to bytes.now))) }
+    ensures start { IfSome result (λ passed. from + passed ≤ first → from + passed ≡ 0) }
+{
+    if count == 0 || from > first {
+        return field_start(delimiter, &bytes[from..], to - from, count);
+    }
+    let behind = first + 1;
+    let passed = field_start(delimiter, &bytes[behind..], to - behind, count - 1)?;
+    Some(behind + passed)
+}
+
+// Pushes the selected fields of a line, whose first delimiter stands at `first`; it may be longer than any room.
+// Neighbouring fields are pushed as one slice, which a delimiter in front of them begins.
+fn push_fields<A: Allocator + Copy, W: Sink>(
+    job: &CutJob<A>,
+    first: usize,
+    line: &[u8],
+    out: &mut Out<W>,
+) -> Result<(), WriteFault>
+    requires first { IsFirstByte (is_byte job.now.delim) line.now (Some first) }
+    requires short { length line.now < 2 ^ 63 }
+    requires clean { out.old.faulted ≡ false }
+    ensures wrote { Wrote out.old out.new (cut_fields (cut_job job.now) line.now) }
+    ensures clean { OnOk result (out.new.faulted ≡ false) }
+    ensures fault { OnErr result (out.new.faulted ≡ true) }
+{
+    let selected = job.list.intervals();
+    let to = line.len();
+    // The field of this number starts at this place, and so many delimiters stand in front of the next slice.
+    let mut number = 1;
+    let mut at = 0;
+    let mut lead = 0;
+    for interval in selected {
+        let Interval { first: low, last } = *interval;
+        let Some(skipped) = field_behind(job.delim, first, line, at, to, low - number) else {
+            return Ok(());
+        };
+        let from = at + skipped;
+        let Some(passed) = field_behind(job.delim, first, line, from, to, last - low + 1) else {
+            return out.push(&line[from - lead..]);
+        };
+        at = from + passed;
+        out.push(&line[from - lead..at - 1])?;
+        number = last + 1;
+        lead = 1;
+    }
+    Ok(())
+}
+
+// Pushes what is written of a line that comes without the byte that ends it.
+fn push_kept<A: Allocator + Copy, W: Sink>(
+    job: &CutJob<A>,
+    ending: u8,
+    line: &[u8],
+    out: &mut Out<W>,
+) -> Result<(), WriteFault>
+    requires by_fields { job.now.fields ≡ true }
+    requires ending { ending ≡ (cut_job job.now).end }
+    requires short { length line.now < 2 ^ 63 }
+    requires clean { out.old.faulted ≡ false }
+    ensures wrote { Wrote out.old out.new (cut_lines (cut_job job.now) (line.now ∷ [])) }
+    ensures clean { OnOk result (out.new.faulted ≡ false) }
+    ensures fault { OnErr result (out.new.faulted ≡ true) }
+{
+    match find_near(job.delim, line) {
+        Some(first) => push_fields(job, first, line, out)?,
+        None => {
+            if job.only {
+                return Ok(());
+            }
+            out.push(line)?;
+        }
+    }
+    out.push(&[ending])
+}
+
+// Puts the selected fields of a line, the first `to` of these bytes, and then the byte behind it, which ends it, to the
+// place `start` of a room. The line's first delimiter stands at `first`. The answer is where what was put ends.
+#[inline(always)]
+fn put_fields<A: Allocator + Copy>(
+    job: &CutJob<A>,
+    first: usize,
+    bytes: &[u8],
+    to: usize,
+    room: &mut [u8],
+    start: usize,
+) -> usize
+    requires first { IsFirstByte (is_byte job.now.delim) (take to bytes.now) (Some first) }
+    requires within { to < length bytes.now }
+    requires short { length bytes.now < 2 ^ 63 }
+    requires room { start + to + 17 ≤ length room.old }
+    ensures long { length room.new ≡ length room.old }
+    ensures put { take result room.new ≡ take start room.old
+        ++ (cut_fields (cut_job job.now) (take to bytes.now) ++ take 1 (drop to bytes.now)) }
+    ensures end { (start ≤ result) × (result ≤ start + to + 1) }
+{
+    let selected = job.list.intervals();
+    let delimiter = job.delim;
+    let mut number = 1;
+    let mut at = 0;
+    let mut lead = 0;
+    let mut end = start;
+    for interval in selected {
+        let Interval { first: low, last } = *interval;
+        let Some(skipped) = field_behind(delimiter, first, bytes, at, to, low - number) else {
+            room[end] = bytes[to];
+            return end + 1;
+        };
+        let from = at + skipped;
+        let Some(passed) = field_behind(delimiter, first, bytes, from, to, last - low + 1) else {
+            copy_near(bytes, from - lead, to + 1, room, end);
+            return end + (to + 1 - (from - lead));
+        };
+        at = from + passed;
+        copy_near(bytes, from - lead, at - 1, room, end);
+        end += at - 1 - (from - lead);
+        number = last + 1;
+        lead = 1;
+    }
+    room[end] = bytes[to];
+    end + 1
+}
+
+// How many bytes the whole lines are that stand up to a place, and at least the first line, which ends at `to`. Apart,
+// since few lines are without the delimiter where others have it.
+#[inline(never)]
+fn whole_lines(ending: u8, bytes: &[u8], to: usize, up_to: usize) -> usize
+    requires first { IsFirstByte (is_byte ending) bytes.now (Some to) }
+    requires within { up_to ≤ length bytes.now }
+    ensures within { (to < result) × (result ≤ length bytes.now) }
+    ensures ended { slice_index bytes.now (result - 1) ≡ ending }
+    ensures up_to { (result ≡ to + 1) ⊎ (result ≤ up_to) }
+{
+    let next = to + 1;
+    match memrchr(ending, &bytes[next..up_to.max(next)]) {
+        Some(last) => next + last + 1,
+        None => next,
+    }
+}
+
+// Puts what is written of the first lines of these bytes to a place of a room: of the first line, which ends at `to`,
+// and where the delimiter is not in it, of all whole lines in front of the first delimiter. The answer is how many
+// bytes these lines are, and where what was put ends.
+#[inline(always)]
+fn put_lines<A: Allocator + Copy>(
+    job: &CutJob<A>,
+    ending: u8,
+    to: usize,
+    bytes: &[u8],
+    room: &mut [u8],
+    start: usize,
+) -> (usize, usize)
+    requires by_fields { job.now.fields ≡ true }
+    requires ending { ending ≡ (cut_job job.now).end }
+    requires first { IsFirstByte (is_byte ending) bytes.now (Some to) }
+    requires short { length bytes.now < 2 ^ 63 }
+    requires room { start + length bytes.now + 16 ≤ length room.old }
+    ensures long { length room.new ≡ length room.old }
+    ensures put { PutsLines (cut_job job.now) ending bytes.now result.0 (take start room.old) (take result.1 room.new) }
+    ensures end { (start ≤ result.1) × (result.1 ≤ start + result.0) }
+{
+    let first = find_near(job.delim, bytes).unwrap_or(bytes.len());
+    if first < to {
+        return (to + 1, put_fields(job, first, bytes, to, room, start));
+    }
+    let size = whole_lines(ending, bytes, to, first);
+    if job.only {
+        return (size, start);
+    }
+    copy_near(bytes, 0, size, room, start);
+    (size, start + size)
+}
+
+// Pushes what is written of the lines whose end is in the block. The answer is how many bytes these lines are, their
+// ends included. Of fields no more is written than is read, so all of it is put in a room and pushed at once. Apart, so
+// that what the loop needs stays in registers.
+#[inline(never)]
+fn push_lines<A: Allocator + Copy, W: Sink>(
+    job: &CutJob<A>,
+    ending: u8,
+    block: &[u8],
+    room: &mut Room,
+    out: &mut Out<W>,
+) -> Result<usize, WriteFault>
+    requires by_fields { job.now.fields ≡ true }
+    requires ending { ending ≡ (cut_job job.now).end }
+    requires short { length block.now ≤ 8192 }
+    requires clean { out.old.faulted ≡ false }
+    ensures continues { OnOk result (GoesOn (cut_job job.now) (ended_lines ending block.now) out.old out.new) }
+    ensures halts { OnErr result (BreaksOff (cut_job job.now) (ended_lines ending block.now) out.old out.new) }
+    ensures within { IfOk result (λ count. count ≤ length block.now) }
+    ensures passed { IfOk result (λ count. take count block.now ≡ text ending (ended_lines ending block.now)) }
+    ensures clean { OnOk result (out.new.faulted ≡ false) }
+    ensures fault { OnErr result (out.new.faulted ≡ true) }
+{
+    let mut end = 0;
+    let mut rest = block;
+    'lines: while let Some(to) = line_end(ending, rest) {
+        let (size, put) = put_lines(job, ending, to, rest, room, end);
+        rest = &rest[size..];
+        end = put;
+    }
+    out.push(&room[..end])?;
+    Ok(block.len() - rest.len())
+}
+
+// Writes the selected fields of each line of a reader, and behind each line the byte that ends it. In each turn a
+// line goes through the first slot, since it may come in pieces; the lines behind it whose end is in the reader's block
+// are worked where they lie. Before a read that may have to wait, what is staged is sent.
+pub(crate) fn cut_by_fields<A: Allocator + Copy, S: Source, R: Source, W: Sink>(
+    job: &CutJob<A>,
+    reader: &mut LineReader<S, R>,
+    store: &mut Store<A>,
+    out: &mut Out<W>,
+) -> Result<(), FlowFault>
+    requires by_fields { job.now.fields ≡ true }
+    requires ending { reader.old.ending ≡ (cut_job job.now).end }
+    requires sound { IsSound reader.old }
+    requires ready { IsReady reader.old store.old }
+    requires clean { out.old.faulted ≡ false }
+    ensures { IsPass (cut_tool (cut_job job.now)) reader.old reader.new out.old out.new store.old store.new result }
+{
+    need_slots(store, 1)?;
+    let ending = reader.ending();
+    let mut room = [0; 8192 + 16];
+    'turns: loop {
+        reader.send_before_wait(out)?;
+        match reader.fill(store, 0) {
+            Ok(true) => push_kept(job, ending, store.line(0), out)?,
+            Ok(false) => return Ok(()),
+            Err(LineFault::Read) => return Err(FlowFault::Read(0)),
+            Err(LineFault::Memory) => return Err(FlowFault::Memory),
+        }
+        reader.send_before_wait(out)?;
+        let count = match reader.block() {
+            Ok(block) => push_lines(job, ending, block, &mut room, out)?,
+            Err(_) => return Err(FlowFault::Read(0)),
+        };
+        reader.consume(count);
+    }
+}

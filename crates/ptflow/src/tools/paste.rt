@@ -1,0 +1,123 @@
+//! `paste` in rows: line k of each input makes row k. `serial` is `paste -s`, which goes over one input after another and
+//! stands on the loop over blocks.
+
+ghost use Rattle.std.specs.Prelude.{◌≡◌, ◌<◌, ◌≤◌, ◌+◌, ◌^◌, ℕ, length, take, true, false, None, [], ◌∷◌, ◌++◌, All, OnOk, OnErr, IfOk};
+ghost use Rattle.ptlines.specs.Outputs.{Wrote};
+ghost use Rattle.ptlangs.specs.Jobs.{paste_job, ending};
+ghost use Rattle.ptflow.specs.PastePasses.{AreReady, IsPastePass, reader_at};
+ghost use Rattle.ptflow.specs.Pastes.{glued_from, times};
+ghost use Rattle.ptflow.specs.Workings.Paste.RowTurns.{AreSet, FillsRow, is_write};
+
+pub(crate) mod serial;
+
+use crate::faults::FlowFault;
+use crate::slots::need_slots;
+use crate::tools::paste::serial::{Cell, begin_cell};
+use ptlangs::delims::Delims;
+use ptlangs::jobs::PasteJob;
+use ptlines::{LineFault, LineReader, Out, Sink, Source, Store, WriteFault};
+use std::alloc::Allocator;
+
+// Lets the lines of each reader that a cell names end with the job's byte.
+fn set_endings<S: Source, R: Source>(cells: &[usize], zero: bool, readers: &mut [LineReader<S, R>])
+    requires { All (λ place. place < length readers.old) cells.now }
+    ensures { AreSet (ending zero) cells.now readers.old readers.new }
+{
+    for place in cells {
+        readers[*place].set_ending(zero);
+    }
+}
+
+// Puts the next line of each cell into its slot, and nothing where its reader has ended. The answer is whether any cell
+// has a line. What is staged is sent before a read that may have to wait.
+fn fill_row<A: Allocator + Copy, S: Source, R: Source, W: Sink>(
+    cells: &[usize],
+    readers: &mut [LineReader<S, R>],
+    store: &mut Store<A>,
+    out: &mut Out<W>,
+) -> Result<bool, FlowFault>
+    requires within { All (λ place. place < length readers.old) cells.now }
+    requires readable { (place : ℕ) → 0 < times cells.now place → (reader_at readers.old place).fault ≡ None }
+    requires slots { length cells.now ≤ length store.old.lines }
+    requires clean { out.old.faulted ≡ false }
+    ensures fills { FillsRow cells.now readers.old readers.new store.old store.new result }
+    ensures wrote { Wrote out.old out.new [] }
+    ensures faulted { out.new.faulted ≡ is_write result }
+{
+    let mut came = false;
+    for (column, place) in cells.iter().enumerate() {
+        let reader = &mut readers[*place];
+        reader.send_before_wait(out)?;
+        let has_line = match reader.fill(store, column) {
+            Ok(has_line) => has_line,
+            Err(LineFault::Read) => return Err(FlowFault::Read(*place)),
+            Err(LineFault::Memory) => return Err(FlowFault::Memory),
+        };
+        came |= has_line;
+    }
+    Ok(came)
+}
+
+// Pushes a row, whose cells are the first slots.
+fn push_row<A: Allocator + Copy, W: Sink>(
+    delims: &Delims<A>,
+    ending: u8,
+    count: usize,
+    store: &Store<A>,
+    out: &mut Out<W>,
+) -> Result<(), WriteFault>
+    requires slots { count ≤ length store.now.lines }
+    requires short { count < 2 ^ 63 }
+    requires clean { out.old.faulted ≡ false }
+    ensures wrote { Wrote out.old out.new (glued_from delims.now 0 (take count store.now.lines) ++ ending ∷ []) }
+    ensures clean { OnOk result (out.new.faulted ≡ false) }
+    ensures fault { OnErr result (out.new.faulted ≡ true) }
+{
+    let mut cell = Cell {
+        number: 0,
+        ended: false,
+    };
+    for column in 0..count {
+        cell = begin_cell(delims, cell, out)?;
+        out.push(store.line(column))?;
+        cell.ended = true;
+    }
+    out.push(&[ending])
+}
+
+/// Writes the lines of several readers side by side, row by row, with the delimiters of the list between the columns
+/// (XCU, `paste`). Column c takes the next line of the reader at the place `cells[c]`, so that cells which name one
+/// reader take its lines in turn. There are rows until every reader that is named has ended, and one that has ended
+/// gives empty cells. A row ends with newline, or with byte 0 with `-z` (this project's own choice).
+///
+/// A slot of the store for each cell, which is added if it is missing, holds its line. Where a slot is refused, nothing
+/// is read or pushed. Nothing of a row is pushed before all its cells are known, and then all of it is, before anything
+/// more is read. What is staged is sent before a read that may have to wait ([`LineReader::send_before_wait`]). On an
+/// output that has faulted nothing is read. Without cells nothing is read or pushed.
+/// # Errors
+/// `Read` with the place of a reader whose read failed, `Write` where a write failed; `Memory` where a growth of the
+/// store was refused, and the store is then denied.
+pub fn paste<A: Allocator + Copy, S: Source, R: Source, W: Sink>(
+    job: &PasteJob<A>,
+    cells: &[usize],
+    readers: &mut [LineReader<S, R>],
+    store: &mut Store<A>,
+    out: &mut Out<W>,
+) -> Result<(), FlowFault>
+    requires { AreReady cells.now readers.old store.old }
+    ensures { IsPastePass (paste_job job.now) cells.now readers.old readers.new out.old out.new
+        store.old store.new result }
+{
+    if out.has_failed() {
+        return Err(FlowFault::Write);
+    }
+    set_endings(cells, job.zero, readers);
+    need_slots(store, cells.len())?;
+    let ending = if job.zero { 0 } else { b'\n' };
+    'rows: loop {
+        if !fill_row(cells, readers, store, out)? {
+            return Ok(());
+        }
+        push_row(&job.delims, ending, cells.len(), store, out)?;
+    }
+}

@@ -1,0 +1,315 @@
+//! `paste -s`.
+
+ghost use Rattle.std.specs.Prelude.{◌≡◌, ◌<◌, ◌≤◌, ◌+◌, ◌++◌, ◌^◌, [], length, take, true, false, None, OnOk, OnErr, IfOk, IfSome};
+ghost use Rattle.ptlines.specs.Outputs.{Wrote};
+ghost use Rattle.ptlangs.specs.Jobs.{paste_job};
+ghost use Rattle.ptflow.specs.Passes.{IsReady, IsPass, IsBarePass};
+ghost use Rattle.ptflow.specs.Pastes.{delimiter, serial_tool};
+ghost use Rattle.ptflow.specs.Workings.Passes.Continuations.{Continues, Halts};
+ghost use Rattle.ptflow.specs.Workings.Paste.SerialRests.{serial_rest, begun, lead, Puts, PutsBlock, IsAlways};
+
+use crate::blocks::{BlockTool, over_blocks};
+use crate::faults::FlowFault;
+use crate::kernels::replacing::{EndsTo, replace_ends};
+use ptlangs::delims::Delims;
+use ptlangs::jobs::PasteJob;
+use ptlines::{LineReader, Out, Sink, Source, Store, WriteFault, copy_near, find_near};
+use std::alloc::Allocator;
+
+/// A cell of a row: its number, and whether it has ended, so that a delimiter stands in front of what follows.
+#[derive(Clone, Copy)]
+pub(crate) struct Cell {
+    pub number: u64,
+    pub ended: bool,
+}
+
+// Pushes what stands behind the cell of this number.
+pub(crate) fn push_delimiter<A: Allocator, W: Sink>(
+    delims: &Delims<A>,
+    number: u64,
+    out: &mut Out<W>,
+) -> Result<(), WriteFault>
+    requires { out.old.faulted ≡ false }
+    ensures wrote { Wrote out.old out.new (delimiter delims.now number) }
+    ensures clean { OnOk result (out.new.faulted ≡ false) }
+    ensures fault { OnErr result (out.new.faulted ≡ true) }
+{
+    match delims.at(number) {
+        Some(byte) => out.push(&[byte]),
+        None => out.push(b""),
+    }
+}
+
+// Goes to the cell to which the next byte belongs.
+pub(crate) fn begin_cell<A: Allocator, W: Sink>(
+    delims: &Delims<A>,
+    cell: Cell,
+    out: &mut Out<W>,
+) -> Result<Cell, WriteFault>
+    requires short { cell.number < 2 ^ 63 }
+    requires clean { out.old.faulted ≡ false }
+    ensures begun { IfOk result (λ after. after ≡ begun cell) }
+    ensures wrote { Wrote out.old out.new (lead delims.now cell) }
+    ensures clean { OnOk result (out.new.faulted ≡ false) }
+    ensures fault { OnErr result (out.new.faulted ≡ true) }
+{
+    if !cell.ended {
+        out.push(b"")?;
+        return Ok(cell);
+    }
+    push_delimiter(delims, cell.number, out)?;
+    Ok(Cell {
+        number: cell.number + 1,
+        ended: false,
+    })
+}
+
+// What is written of a block, and room for what a copy changes behind it.
+type Written = [u8; 8208];
+
+// Puts what stands behind the cell of this number, and says where that ends.
+#[inline(always)]
+fn put_delimiter<A: Allocator>(
+    delims: &Delims<A>,
+    number: u64,
+    into: &mut Written,
+    at: usize,
+) -> usize
+    requires room { at < 8192 }
+    ensures put { take result into.new ≡ take at into.old ++ delimiter delims.now number }
+    ensures near { result ≤ at + 1 }
+{
+    match delims.at(number) {
+        Some(byte) => {
+            into[at] = byte;
+            at + 1
+        }
+        None => at,
+    }
+}
+
+// Copies bytes that come in the cell of this number, and in place of each end of a line the delimiter behind its cell.
+// The answer is where that ends, and the number of the cell in which more comes.
+fn put_pieces<A: Allocator>(
+    delims: &Delims<A>,
+    ending: u8,
+    number: u64,
+    bytes: &[u8],
+    into: &mut Written,
+) -> (usize, u64)
+    requires room { length bytes.now ≤ 8192 }
+    requires short { number + length bytes.now < 2 ^ 63 }
+    ensures puts { Puts ending delims.now number bytes.now result.1 [] (take result.0 into.new) }
+    ensures near { result.0 ≤ length bytes.now }
+    ensures bound { result.1 ≤ number + length bytes.now }
+{
+    let mut number = number;
+    let mut rest = bytes;
+    let mut at = 0;
+    'pieces: while let Some(count) = find_near(ending, rest) {
+        copy_near(rest, 0, count, into, at);
+        at = put_delimiter(delims, number, into, at + count);
+        number += 1;
+        rest = &rest[count + 1..];
+    }
+    copy_near(rest, 0, rest.len(), into, at);
+    (at + rest.len(), number)
+}
+
+// The same, where one delimiter stands behind every cell if it is told.
+#[inline(always)]
+fn put_cells<A: Allocator>(
+    delims: &Delims<A>,
+    always: Option<u8>,
+    ending: u8,
+    number: u64,
+    bytes: &[u8],
+    into: &mut Written,
+) -> (usize, u64)
+    requires always { IfSome always (λ delim. IsAlways delims.now delim) }
+    requires room { length bytes.now ≤ 8192 }
+    requires short { number + length bytes.now < 2 ^ 63 }
+    ensures puts { Puts ending delims.now number bytes.now result.1 [] (take result.0 into.new) }
+    ensures near { result.0 ≤ length bytes.now }
+    ensures bound { result.1 ≤ number + length bytes.now }
+{
+    match always {
+        Some(delim) => {
+            let count = bytes.len();
+            replace_ends(EndsTo { ending, delim }, bytes, &mut into[..count]);
+            (count, number)
+        }
+        None => put_pieces(delims, ending, number, bytes, into),
+    }
+}
+
+// Copies what is written of a block that comes in the cell of this number. No delimiter is written behind the last
+// cell before more comes. The answer is where that ends, and the cell in which the next block comes.
+fn put_block<A: Allocator>(
+    delims: &Delims<A>,
+    always: Option<u8>,
+    ending: u8,
+    number: u64,
+    block: &[u8],
+    into: &mut Written,
+) -> (usize, Cell)
+    requires always { IfSome always (λ delim. IsAlways delims.now delim) }
+    requires some { 0 < length block.now }
+    requires room { length block.now ≤ 8192 }
+    requires short { number + length block.now ≤ 2 ^ 63 }
+    ensures puts { PutsBlock ending delims.now number block.now result.1 (take result.0 into.new) }
+    ensures near { result.0 ≤ length block.now }
+    ensures bound { result.1.number + 1 ≤ number + length block.now }
+{
+    let count = block.len() - 1;
+    let last = block[count];
+    let (at, number) = put_cells(delims, always, ending, number, &block[..count], into);
+    if last == ending {
+        return (
+            at,
+            Cell {
+                number,
+                ended: true,
+            },
+        );
+    }
+    into[at] = last;
+    (
+        at + 1,
+        Cell {
+            number,
+            ended: false,
+        },
+    )
+}
+
+// Pushes what is written of a block that comes in this cell. The answer is the cell in which the next block comes.
+fn push_cells<A: Allocator, W: Sink>(
+    delims: &Delims<A>,
+    always: Option<u8>,
+    ending: u8,
+    cell: Cell,
+    block: &[u8],
+    written: &mut Written,
+    out: &mut Out<W>,
+) -> Result<Cell, WriteFault>
+    requires always { IfSome always (λ delim. IsAlways delims.now delim) }
+    requires room { length block.now ≤ 8192 }
+    requires short { cell.number + length block.now < 2 ^ 63 }
+    requires clean { out.old.faulted ≡ false }
+    ensures continues { IfOk result
+        (λ after. Continues (serial_rest ending delims.now) cell after block.now out.old out.new) }
+    ensures bound { IfOk result (λ after. after.number ≤ cell.number + length block.now) }
+    ensures halts { OnErr result (Halts (serial_rest ending delims.now) cell block.now out.old out.new) }
+    ensures clean { OnOk result (out.new.faulted ≡ false) }
+    ensures fault { OnErr result (out.new.faulted ≡ true) }
+{
+    if block.is_empty() {
+        return Ok(cell);
+    }
+    let begun = begin_cell(delims, cell, out)?;
+    let (count, after) = put_block(delims, always, ending, begun.number, block, written);
+    out.push(&written[..count])?;
+    Ok(after)
+}
+
+// The delimiter that stands behind every cell, if the list has no other.
+fn always_of<A: Allocator>(delims: &Delims<A>) -> Option<u8>
+    ensures { IfSome result (λ delim. IsAlways delims.now delim) }
+{
+    if delims.count() == 1 {
+        return delims.at(0);
+    }
+    None
+}
+
+/// The delimiters, the one that stands behind every cell if the list has no other, the byte that ends a line, the cell
+/// in which the next byte comes, and a place for what is written of a block.
+#[derive(Drop)]
+struct SerialPaste<'a, A: Allocator> {
+    delims: &'a Delims<A>,
+    always: Option<u8>,
+    ending: u8,
+    cell: Cell,
+    written: Written,
+}
+
+impl<'a, A: Allocator> BlockTool for SerialPaste<'a, A> {
+    ghost use Rattle.std.specs.Prelude.{◌≡◌, ℕ, IfSome};
+    ghost use Rattle.ptflow.specs.Workings.Paste.SerialRests.{serial_rest, IsAlways};
+
+    ghost rest = { λ t. serial_rest t.ending t.delims.now t.cell };
+
+    ghost counted = { λ t. t.cell.number };
+
+    ghost Holds = { λ s t. (t.delims.now ≡ s.delims.now) × (t.ending ≡ s.ending)
+        × IfSome t.always (λ delim. IsAlways t.delims.now delim) };
+
+    fn push_block<W: Sink>(&mut self, block: &[u8], out: &mut Out<W>) -> Result<(), WriteFault> {
+        self.cell = push_cells(
+            self.delims,
+            self.always,
+            self.ending,
+            self.cell,
+            block,
+            &mut self.written,
+            out,
+        )?;
+        Ok(())
+    }
+
+    // Ends the row.
+    fn push_end<W: Sink>(&self, out: &mut Out<W>) -> Result<(), WriteFault> {
+        out.push(&[self.ending])
+    }
+}
+
+// Writes the lines of a reader in one row. No line is kept: what is written of the bytes that came is pushed before
+// the next read.
+fn over_row<A: Allocator, S: Source, R: Source, W: Sink>(
+    job: &PasteJob<A>,
+    reader: &mut LineReader<S, R>,
+    out: &mut Out<W>,
+) -> Result<(), FlowFault>
+    requires ending { reader.old.ending ≡ (paste_job job.now).end }
+    requires readable { reader.old.fault ≡ None }
+    requires clean { out.old.faulted ≡ false }
+    ensures { IsBarePass (serial_tool (paste_job job.now)) reader.old reader.new out.old out.new result }
+{
+    let mut tool = SerialPaste {
+        delims: &job.delims,
+        always: always_of(&job.delims),
+        ending: reader.ending(),
+        cell: Cell {
+            number: 0,
+            ended: false,
+        },
+        written: [0; 8208],
+    };
+    over_blocks(&mut tool, reader, out)
+}
+
+/// Writes the lines of a reader in one row, with the delimiters of the list between them, the first behind the first
+/// line (XCU, `paste`, option `-s`). The row ends with newline, or with byte 0 with `-z` (this project's own choice). A
+/// reader without lines is an empty row (this project's own choice).
+///
+/// No line is kept, and the store stays as it was. What is written of the bytes that came is pushed before the next
+/// read. On an output that has faulted nothing is read.
+/// # Errors
+/// `Read` or `Write` where a read or a write failed.
+pub fn paste_serial<A: Allocator + Copy, S: Source, R: Source, W: Sink>(
+    job: &PasteJob<A>,
+    reader: &mut LineReader<S, R>,
+    _store: &mut Store<A>,
+    out: &mut Out<W>,
+) -> Result<(), FlowFault>
+    requires { IsReady reader.old _store.old }
+    ensures { IsPass (serial_tool (paste_job job.now)) reader.old reader.new out.old out.new
+        _store.old _store.new result }
+{
+    if out.has_failed() {
+        return Err(FlowFault::Write);
+    }
+    reader.set_ending(job.zero);
+    over_row(job, reader, out)
+}

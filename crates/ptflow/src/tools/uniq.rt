@@ -1,0 +1,208 @@
+//! `uniq`: a loop over lines that carries the open run, which may go on with the next line.
+//!
+//! `keys` says what is compared of a line, `runs` goes over the runs of the lines of a block.
+
+ghost use Rattle.std.specs.Prelude.{◌≡◌, ℕ, ◌<◌, ◌≤◌, ◌^◌, ◌&&◌, [], ◌∷◌, length, take, true, false, IfOk, OnOk, OnErr, nat_lt};
+ghost use Rattle.ptlines.specs.Readers.{IsSound};
+ghost use Rattle.ptlines.specs.Slots.{Slots, line};
+ghost use Rattle.ptlines.specs.Text.{text, ended_lines};
+ghost use Rattle.ptlangs.specs.Jobs.{uniq_job};
+ghost use Rattle.ptflow.specs.Passes.{IsReady, IsPass};
+ghost use Rattle.ptflow.specs.Uniqs.{is_same, uniq_tool};
+ghost use Rattle.ptflow.specs.Workings.Uniq.BlockRuns.{RunsOn, RunsHalt};
+ghost use Rattle.ptflow.specs.Workings.Uniq.OpenLines.{first_line, open_run_of, IsSwapped};
+ghost use Rattle.ptflow.specs.Workings.Uniq.OpenRuns.{run_of};
+
+mod keys;
+mod runs;
+
+use crate::faults::FlowFault;
+use crate::slots::need_slots;
+use crate::tools::uniq::keys::key;
+use crate::tools::uniq::runs::{count_same, push_run, push_runs};
+use arrayvec::ArrayVec;
+use ptlangs::jobs::UniqJob;
+use ptlines::{LineFault, LineReader, Out, Sink, Source, Store, WriteFault, find_near};
+use std::alloc::Allocator;
+
+// Whether a line goes on with the run of so many lines whose first line this is.
+fn goes_on(job: &UniqJob, count: u64, first: &[u8], line: &[u8]) -> bool
+    ensures { result ≡ (nat_lt 0 count && is_same (uniq_job job.now) first.now line.now) }
+{
+    count > 0 && key(job, first) == key(job, line)
+}
+
+// The run that is open: how many lines it has, and its first line, if that was kept of a block. Otherwise the first slot
+// holds that line.
+#[derive(Drop)]
+pub(crate) struct Open {
+    pub count: u64,
+    pub kept: bool,
+    pub bytes: ArrayVec<u8, 8192>,
+}
+
+// The first line of the run that is open.
+fn first_line<'a, A: Allocator + Copy>(run: &'a Open, store: &'a Store<A>) -> &'a [u8]
+    requires { 0 < length store.now.lines }
+    ensures { result.now ≡ first_line run.now store.now }
+{
+    if run.kept {
+        return run.bytes.as_slice();
+    }
+    store.line(0)
+}
+
+// Opens a run of so many lines, whose first line is this.
+fn begin(run: &mut Open, count: u64, line: &[u8])
+    requires { length line.now ≤ 8192 }
+    ensures { (store : Slots) → open_run_of run.new store ≡ run_of line.now count }
+{
+    run.count = count;
+    run.kept = true;
+    run.bytes.clear();
+    let _ = run.bytes.try_extend_from_slice(line);
+}
+
+// Takes the line in the second slot: as one more of the run that is open, or else as the first one of the next run.
+fn take_line<A: Allocator + Copy, W: Sink>(
+    job: &UniqJob,
+    ending: u8,
+    run: &mut Open,
+    store: &mut Store<A>,
+    out: &mut Out<W>,
+) -> Result<(), WriteFault>
+    requires ending { ending ≡ (uniq_job job.now).end }
+    requires slots { 1 < length store.old.lines }
+    requires few { run.old.count < 2 ^ 63 }
+    requires clean { out.old.faulted ≡ false }
+    ensures continues { OnOk result (RunsOn (uniq_job job.now) (open_run_of run.old store.old)
+        (open_run_of run.new store.new) (line store.old 1 ∷ []) out.old out.new) }
+    ensures halts { OnErr result
+        (RunsHalt (uniq_job job.now) (open_run_of run.old store.old) (line store.old 1 ∷ []) out.old out.new) }
+    ensures some { OnOk result (0 < run.new.count) }
+    ensures store { OnOk result (IsSwapped store.old store.new) }
+    ensures same { OnErr result (store.new ≡ store.old) }
+    ensures clean { OnOk result (out.new.faulted ≡ false) }
+    ensures fault { OnErr result (out.new.faulted ≡ true) }
+{
+    if goes_on(job, run.count, first_line(run, store), store.line(1)) {
+        run.count += 1;
+        return Ok(());
+    }
+    push_run(job.show, run.count, first_line(run, store), &[ending], out)?;
+    store.swap(0, 1);
+    run.count = 1;
+    run.kept = false;
+    Ok(())
+}
+
+// Takes the lines whose end is in the block. The answer is how many bytes these are. Nothing of a run is pushed before the
+// next key is known.
+fn take_block<A: Allocator + Copy, W: Sink>(
+    job: &UniqJob,
+    ending: u8,
+    block: &[u8],
+    run: &mut Open,
+    store: &Store<A>,
+    out: &mut Out<W>,
+) -> Result<usize, WriteFault>
+    requires ending { ending ≡ (uniq_job job.now).end }
+    requires slots { 0 < length store.now.lines }
+    requires short { length block.now ≤ 8192 }
+    requires some { 0 < run.old.count }
+    requires few { run.old.count < 2 ^ 63 }
+    requires clean { out.old.faulted ≡ false }
+    ensures continues { OnOk result (RunsOn (uniq_job job.now) (open_run_of run.old store.now)
+        (open_run_of run.new store.now) (ended_lines ending block.now) out.old out.new) }
+    ensures halts { OnErr result (RunsHalt (uniq_job job.now) (open_run_of run.old store.now)
+        (ended_lines ending block.now) out.old out.new) }
+    ensures within { IfOk result (λ passed. passed ≤ length block.now) }
+    ensures passed { IfOk result (λ passed. take passed block.now ≡ text ending (ended_lines ending block.now)) }
+    ensures clean { OnOk result (out.new.faulted ≡ false) }
+    ensures fault { OnErr result (out.new.faulted ≡ true) }
+{
+    if find_near(ending, block).is_none() {
+        return Ok(0);
+    }
+    let same = count_same(job, ending, first_line(run, store), block);
+    run.count += same.count;
+    let rest = &block[same.passed..];
+    let Some(at) = find_near(ending, rest) else {
+        return Ok(same.passed);
+    };
+    push_run(job.show, run.count, first_line(run, store), &[ending], out)?;
+    let last = push_runs(job, ending, at, rest, out)?;
+    begin(run, last.count, &rest[last.line.from..last.line.to - 1]);
+    Ok(same.passed + last.passed)
+}
+
+// Writes what is written of each run of lines. In each turn a line goes through the second slot, since it may come in
+// pieces; the lines behind it whose end is in the reader's block are worked where they lie, and of them only the first
+// of the last run is copied. Nothing of a run is pushed before the next key or the end is known. Before a line is read
+// that may have to be waited for, what is staged is sent.
+fn over_runs<A: Allocator + Copy, S: Source, R: Source, W: Sink>(
+    job: &UniqJob,
+    reader: &mut LineReader<S, R>,
+    store: &mut Store<A>,
+    out: &mut Out<W>,
+) -> Result<(), FlowFault>
+    requires ending { reader.old.ending ≡ (uniq_job job.now).end }
+    requires ready { IsReady reader.old store.old }
+    requires sound { IsSound reader.old }
+    requires clean { out.old.faulted ≡ false }
+    ensures { IsPass (uniq_tool (uniq_job job.now)) reader.old reader.new out.old out.new store.old store.new result }
+{
+    need_slots(store, 2)?;
+    let ending = reader.ending();
+    let mut run = Open {
+        count: 0,
+        kept: false,
+        bytes: ArrayVec::new(),
+    };
+    'turns: loop {
+        reader.send_before_wait(out)?;
+        match reader.fill(store, 1) {
+            Ok(true) => take_line(job, ending, &mut run, store, out)?,
+            Ok(false) => {
+                push_run(job.show, run.count, first_line(&run, store), &[ending], out)?;
+                store.clear(0);
+                return Ok(());
+            }
+            Err(LineFault::Read) => return Err(FlowFault::Read(0)),
+            Err(LineFault::Memory) => return Err(FlowFault::Memory),
+        }
+        reader.send_before_wait(out)?;
+        let passed = match reader.block() {
+            Ok(block) => take_block(job, ending, block, &mut run, store, out)?,
+            Err(_) => return Err(FlowFault::Read(0)),
+        };
+        reader.consume(passed);
+    }
+}
+
+/// Writes one line of each run of lines in a row with equal keys, the first of them (XCU, `uniq`; which of them is this
+/// project's own choice); by the job with the length of the run and a space in front, or only of runs of two lines or
+/// more, or only of lines that stand alone. The key of a line is what stands behind the fields and bytes that are passed
+/// over, and is empty where there is no more (XCU, `uniq`). A line ends with newline, or with byte 0 with `-z` (this
+/// project's own choice), and then a newline is no blank.
+///
+/// Two slots of the store, which are added if they are missing, hold the first line of the run and the line behind
+/// it. Nothing of a run is pushed before the next key or the end is known. On an output that has faulted nothing is read.
+/// # Errors
+/// `Read` or `Write` where a read or a write failed; `Memory` where a growth of the store was refused, and the store
+/// is then denied.
+pub fn uniq<A: Allocator + Copy, S: Source, R: Source, W: Sink>(
+    job: &UniqJob,
+    reader: &mut LineReader<S, R>,
+    store: &mut Store<A>,
+    out: &mut Out<W>,
+) -> Result<(), FlowFault>
+    requires { IsReady reader.old store.old }
+    ensures { IsPass (uniq_tool (uniq_job job.now)) reader.old reader.new out.old out.new store.old store.new result }
+{
+    if out.has_failed() {
+        return Err(FlowFault::Write);
+    }
+    reader.set_ending(job.zero);
+    over_runs(job, reader, store, out)
+}

@@ -1,0 +1,11 @@
+-- `join`.
+pub mod Amid
+pub mod EntryLemmas
+pub mod FieldLemmas
+pub mod GroupSlots
+pub mod GroupStops
+pub mod GroupTurns
+pub mod JoinEntries
+pub mod JoinRows
+pub mod JoinSlots
+pub mod JoinTurns

@@ -1,0 +1,115 @@
+-- The slots of a group of lines.
+use Rattle.std.proofs.Common.{◌≡◌, ◌⊎◌, inl, inr, ℕ, ◌+◌, ◌-◌, ◌≤◌, ◌<◌, Bool, true, false, length-drop, List, [], ◌∷◌, ◌++◌, length, map, take, drop, get_or, set, max, refl, sym, ap, ◌∙◌, subst, arith}
+use Rattle.std.proofs.lemmas.List.{append-nil, length-set, length-take-le, drop_more, get_or-take, get_or-drop, drop-set-add, take_more, length_push, drop_all}
+use Rattle.std.specs.Prelude.{nat_lt}
+use Rattle.std.proofs.lemmas.Bool.{ltb-false, ltb-true}
+use Rattle.std.proofs.lemmas.List.Sums.{sum_by_push}
+use Rattle.ptlines.specs.Slots.{Slots, line, total, with_line, with_added, with_denied}
+use Rattle.ptlines.specs.Text.{text}
+use Rattle.ptlines.proofs.Counted.{total_set}
+use Rattle.ptlangs.specs.Jobs.{Join}
+use Rattle.ptmerge.specs.declared.order.Side.TheVariants.{First, Second}
+use Rattle.ptmerge.specs.Groups.{IsGroupCleared, IsGrown, IsRefused, group}
+use Rattle.ptmerge.specs.Join.{alone_entry, entry, fields, join_key, pairs_of}
+use Rattle.ptmerge.specs.Keyed.{Lines}
+use Rattle.ptmerge.proofs.OfMerges.Slotted.{line_other}
+
+-- the lines of the group from a slot on
+pub group_from : (store : Slots) (end slot : ℕ) → end ≤ length store.lines → 4 ≤ slot → slot < end → drop (slot - 4) (group store end) ≡ line store slot ∷ drop ((slot + 1) - 4) (group store end)
+group_from store end slot fits from low =
+    let rest = drop 4 store.lines in
+    let count : end - 4 ≤ length rest = omega (arith, length-drop 4 store.lines) in
+    let at : (slot - 4) < (end - 4) = omega arith in
+    let next : (slot - 4) + 1 ≡ (slot + 1) - 4 = omega arith in
+    let back : 4 + (slot - 4) ≡ slot = omega arith in
+    let is : get_or (take (end - 4) rest) (slot - 4) [] ≡ line store slot = get_or-take (end - 4) rest (slot - 4) [] at ∙ get_or-drop 4 store.lines (slot - 4) [] ∙ ap (λ i. get_or store.lines i []) back in
+    drop_more (take (end - 4) rest) (slot - 4) [] (omega (arith, length-take-le (end - 4) rest count)) ∙ (λ i. is i ∷ drop (next i) (take (end - 4) rest))
+
+pub group_end : (store : Slots) (end slot : ℕ) → end ≤ length store.lines → end ≤ slot → drop (slot - 4) (group store end) ≡ []
+group_end store end slot fits past = drop_all (slot - 4) (take (end - 4) (drop 4 store.lines)) (omega (arith, length-drop 4 store.lines, length-take-le (end - 4) (drop 4 store.lines) (omega (arith, length-drop 4 store.lines))))
+
+pub group_more : (store : Slots) (end : ℕ) → 4 ≤ end → end < length store.lines → group store (end + 1) ≡ group store end ++ line store end ∷ []
+group_more store end from within =
+    let rest = drop 4 store.lines in
+    let next : (end + 1) - 4 ≡ (end - 4) + 1 = omega arith in
+    let back : 4 + (end - 4) ≡ end = omega arith in
+    ap (λ n. take n rest) next ∙ take_more rest (end - 4) [] (omega (arith, length-drop 4 store.lines))
+    ∙ ap (λ (l : List ℕ). take (end - 4) rest ++ l ∷ []) (get_or-drop 4 store.lines (end - 4) [] ∙ ap (λ i. get_or store.lines i []) back)
+
+-- ---- what is written
+
+module _ (job : Join) (end : ℕ) (line : List ℕ) where
+  pub alone_text1 : job.unpaired1 ≡ true → text end (alone_entry job First line) ≡ entry job (join_key job First line) (fields job.separator line) [] ++ end ∷ []
+  alone_text1 asked = rw asked (append-nil (entry job (join_key job First line) (fields job.separator line) [] ++ end ∷ []))
+
+  pub alone_text2 : job.unpaired2 ≡ true → text end (alone_entry job Second line) ≡ entry job (join_key job Second line) [] (fields job.separator line) ++ end ∷ []
+  alone_text2 asked = rw asked (append-nil (entry job (join_key job Second line) [] (fields job.separator line) ++ end ∷ []))
+
+  pub pairs_text : (g : Lines) → job.pairs ≡ true
+      → text end (pairs_of job (join_key job First line) (line ∷ []) g) ≡ text end (map (λ b. entry job (join_key job First line) (fields job.separator line) (fields job.separator b)) g)
+  pairs_text g asked = rw asked (ap (text end) (append-nil (map (λ b. entry job (join_key job First line) (fields job.separator line) (fields job.separator b)) g)))
+
+-- ---- clearing
+
+pub clears_none : (s : Slots) → IsGroupCleared s s 4
+clears_none s = record { slots = refl; others = λ i _. refl; emptied = omega arith; less = omega arith; peak = omega arith; denied = refl }
+
+pub clears_more : (a s t : Slots) (slot : ℕ) → 4 ≤ slot → slot < length a.lines → IsGroupCleared a s slot → t ≡ with_line s slot [] → IsGroupCleared a t (slot + 1)
+clears_more a s t slot from within c is = subst (λ u. IsGroupCleared a u (slot + 1)) (sym is) (record {
+  slots = length-set s.lines slot [] ∙ c.slots;
+  others = others;
+  emptied = omega (arith, here, c.emptied, grows);
+  less = omega (arith, all, c.less);
+  peak = omega (arith, all, c.less, c.peak);
+  denied = c.denied;
+})
+  where
+    low : slot < length s.lines
+    low = omega (arith, c.slots)
+
+    same : line s slot ≡ line a slot
+    same = c.others slot (inr (omega arith))
+
+    all : total (set s.lines slot []) + length (line s slot) ≡ total s.lines
+    all = omega (arith, total_set s.lines slot [] low)
+
+    back : 4 + (slot - 4) ≡ slot
+    back = omega arith
+
+    here : total (drop 4 (set s.lines slot [])) + length (line a slot) ≡ total (drop 4 s.lines)
+    here =
+        let rest = drop 4 s.lines in
+        let at : get_or rest (slot - 4) [] ≡ line a slot = get_or-drop 4 s.lines (slot - 4) [] ∙ ap (λ i. get_or s.lines i []) back ∙ same in
+        let d : drop 4 (set s.lines slot []) ≡ set rest (slot - 4) [] = ap (λ i. drop 4 (set s.lines i [])) (sym back) ∙ drop-set-add 4 s.lines (slot - 4) [] in
+        omega (arith, ap total d, ap length at, total_set rest (slot - 4) [] (omega (arith, length-drop 4 s.lines)))
+
+    grows : total (group a (slot + 1)) ≡ total (group a slot) + length (line a slot)
+    grows = ap total (group_more a slot from within) ∙ sum_by_push length (group a slot) (line a slot)
+
+    others : (i : ℕ) → (i < 4) ⊎ (slot + 1 ≤ i) → line (with_line s slot []) i ≡ line a i
+    others i (inl h) = line_other s slot i [] (λ e. absurd (omega (arith, e))) ∙ c.others i (inl h)
+    others i (inr h) = line_other s slot i [] (λ e. absurd (omega (arith, e))) ∙ c.others i (inr (omega arith))
+
+-- ---- keeping
+
+added_total : (s : Slots) → total (s.lines ++ [] ∷ []) ≡ total s.lines
+added_total s = omega (arith, sum_by_push length s.lines [])
+
+-- how many slots there are where one was made
+pub grown_slots : (before made : Slots) (slot : ℕ) → IsGrown before made slot → (length before.lines ≤ length made.lines) × (length made.lines ≤ max (length before.lines) (slot + 1))
+grown_slots before made slot g = by g.grown (nat_lt slot (length before.lines)) refl
+  where
+    by : (made ≡ before) ⊎ (made ≡ with_added before) → (b : Bool) → nat_lt slot (length before.lines) ≡ b → (length before.lines ≤ length made.lines) × (length made.lines ≤ max (length before.lines) (slot + 1))
+    by (inl e) b is = let same = ap (λ (s : Slots). length s.lines) e in (omega (arith, same), omega (arith, same))
+    by (inr e) true is = let same = ap (λ (s : Slots). length s.lines) (g.there (ltb-true slot (length before.lines) is)) in (omega (arith, same), omega (arith, same))
+    by (inr e) false is =
+        let more = ap (λ (s : Slots). length s.lines) e ∙ length_push before.lines [] in
+        let past = ltb-false slot (length before.lines) is in
+        (omega (arith, more), omega (arith, more, past))
+
+pub refused_copy : (before made : Slots) (to : ℕ) → IsGrown before made to → IsRefused before (with_denied (with_line made to [])) to
+refused_copy before made to g = record { denied = refl; most = omega (arith, length-set made.lines to [], grown_slots before made to g); slots = omega (arith, length-set made.lines to [], (facts g.grown).0); peak = omega (arith, (facts g.grown).1, (facts g.grown).2, total_set made.lines to [] g.within) }
+  where
+    facts : (made ≡ before) ⊎ (made ≡ with_added before) → (length before.lines ≤ length made.lines) × (total made.lines ≡ total before.lines) × (made.peak ≡ before.peak)
+    facts (inl e) = (omega (arith, ap (λ (s : Slots). length s.lines) e), ap (λ (s : Slots). total s.lines) e, ap (λ (s : Slots). s.peak) e)
+    facts (inr e) = (omega (arith, ap (λ (s : Slots). length s.lines) e, length_push before.lines []), ap (λ (s : Slots). total s.lines) e ∙ added_total before, ap (λ (s : Slots). s.peak) e)

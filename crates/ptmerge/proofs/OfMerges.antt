@@ -1,0 +1,19 @@
+-- Two inputs in order, whichever tool takes them.
+pub mod Backing
+pub mod Bounds
+pub mod Deciding
+pub mod Got
+pub mod KeepingUpRows
+pub mod Least
+pub mod LineLaws
+pub mod Orders
+pub mod Pairs
+pub mod Passing
+pub mod Sending
+pub mod Slotted
+pub mod Splitting
+pub mod Standing
+pub mod Starting
+pub mod Stopping
+pub mod Turning
+pub mod Working

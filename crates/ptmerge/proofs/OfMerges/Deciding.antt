@@ -1,0 +1,94 @@
+-- What is decided of two inputs is a beginning of what was pushed, where it is decided by passed lines.
+use Rattle.std.proofs.Common.{◌≡◌, ℕ, ◌||◌, Bool, true, false, cond, List, [], ◌∷◌, ◌++◌, Option, Some, None, map, refl, sym, ◌∙◌, ap}
+use Rattle.std.proofs.lemmas.List.{append-nil}
+use Rattle.std.proofs.lemmas.List.Elements.{filter-append}
+use Rattle.std.specs.List.{last_or}
+use Rattle.std.specs.Prelude.{filter, is_some}
+use Rattle.ptlines.specs.Inputs.{Begins}
+use Rattle.ptlines.specs.Text.{text}
+use Rattle.ptlines.proofs.TextLaws.{text-append}
+use Rattle.ptmerge.specs.declared.order.Side.{Side}
+use Rattle.ptmerge.specs.declared.order.Side.TheVariants.{First, Second}
+use Rattle.ptmerge.specs.Keyed.{Lines, Tool, Fall, by_keys, decided_entries, disorder, disorder_of, fall, is_below, is_decided, is_past, is_settled, ordered_part}
+use Rattle.ptmerge.specs.Orders.{Cmp, Key}
+use Rattle.ptmerge.specs.Sides.{other}
+use Rattle.ptmerge.proofs.OfMerges.Bounds.{FallFrom}
+use Rattle.ptmerge.proofs.OfMerges.Least.{EachKey, EachKey-weaker}
+use Rattle.ptmerge.proofs.OfMerges.Orders.{IsKeyOrder, AtMost}
+use Rattle.ptmerge.proofs.OfParts.PartsByKey.{by_keys_kept}
+use Rattle.ptmerge.proofs.OfMerges.Passing.{down_decided, last_has, not_below, not_decided}
+use Rattle.ptmerge.proofs.OfMerges.Splitting.{all_keys, down_begins}
+
+kept_none : (w : List ℕ → Bool) (key : Key) (ls : Lines) → EachKey (λ k. w k ≡ false) key ls → filter (λ line. w (key line)) ls ≡ []
+kept_none w key [] e = refl
+kept_none w key (x ∷ ls) e = rw e.0 (kept_none w key ls e.1)
+
+-- two lists that differ in lines that are left out
+kept_same : (w : List ℕ → Bool) (key : Key) (xs ys rest tail : Lines) → xs ++ rest ≡ ys ++ tail → EachKey (λ k. w k ≡ false) key rest → EachKey (λ k. w k ≡ false) key tail → filter (λ line. w (key line)) xs ≡ filter (λ line. w (key line)) ys
+kept_same w key xs ys rest tail same none1 none2 =
+    let f : List ℕ → Bool = λ line. w (key line) in
+    sym (append-nil (filter f xs)) ∙ ap (λ (l : Lines). filter f xs ++ l) (sym (kept_none w key rest none1)) ∙ sym (filter-append f xs rest) ∙ ap (filter f) same
+    ∙ filter-append f ys tail ∙ ap (λ (l : Lines). filter f ys ++ l) (kept_none w key tail none2) ∙ append-nil (filter f ys)
+
+-- these lines are those, but for lines whose keys are not below this one
+pub record Differ (tool : Tool) (last : Option (List ℕ)) (key : Key) (xs ys : Lines) : Type 0 where
+  pub rest : Lines
+  pub tail : Lines
+  pub same : xs ++ rest ≡ ys ++ tail
+  pub none_rest : EachKey (λ k. is_below tool.cmp k last ≡ false) key rest
+  pub none_tail : EachKey (λ k. is_below tool.cmp k last ≡ false) key tail
+
+-- Of one input only passed lines came, and more may come; of the other, whatever came.
+pub decided_of_passed : (tool : Tool) (o : IsKeyOrder tool.cmp) (ended : Side → Bool) (ls p : Side → Lines) (of : Side) → ended of ≡ false → fall tool.cmp (tool.key of) (ls of) ≡ None
+    → ((side : Side) → Differ tool (last_or None (map (tool.key of) (ls of))) (tool.key side) (ordered_part tool.cmp (tool.key side) (ls side)) (p side))
+    → Begins (text tool.end (decided_entries tool ended ls)) (text tool.end (by_keys tool all_keys p))
+decided_of_passed tool o ended ls p of going rises differ =
+    let dec = is_decided tool ended ls in
+    let first = down_begins tool o dec (down_decided tool o ended ls) p in
+    let known : decided_entries tool ended ls ≡ by_keys tool dec p =
+    sym (by_keys_kept dec tool o (λ side. ordered_part tool.cmp (tool.key side) (ls side))) ∙ (λ i. by_keys tool all_keys (λ side. kept side i)) ∙ by_keys_kept dec tool o p in
+    record { rest = text tool.end first.0; is = ap (text tool.end) (first.1 ∙ ap (λ (l : Lines). l ++ first.0) (sym known)) ∙ text-append tool.end (decided_entries tool ended ls) first.0 }
+  where
+    past : (k : List ℕ) → is_past tool.cmp (tool.key of) (ended of) (ls of) k ≡ is_below tool.cmp k (last_or None (map (tool.key of) (ls of)))
+    past k = λ i. cond (going i || is_some (rises i)) true (is_below tool.cmp k (last_or None (map (tool.key of) (ls of))))
+
+    unwanted : (side : Side) (xs : Lines) → EachKey (λ k. is_below tool.cmp k (last_or None (map (tool.key of) (ls of))) ≡ false) (tool.key side) xs → EachKey (λ k. is_decided tool ended ls k ≡ false) (tool.key side) xs
+    unwanted side xs e = EachKey-weaker (λ k. is_below tool.cmp k (last_or None (map (tool.key of) (ls of))) ≡ false) (λ k. is_decided tool ended ls k ≡ false) (λ k h. not_decided tool o ended ls of k (past k ∙ h)) (tool.key side) xs e
+
+    kept : (side : Side) → filter (λ line. is_decided tool ended ls (tool.key side line)) (ordered_part tool.cmp (tool.key side) (ls side)) ≡ filter (λ line. is_decided tool ended ls (tool.key side line)) (p side)
+    kept side =
+        let d = differ side in
+        kept_same (is_decided tool ended ls) (tool.key side) (ordered_part tool.cmp (tool.key side) (ls side)) (p side) d.rest d.tail d.same (unwanted side d.rest d.none_rest) (unwanted side d.tail d.none_tail)
+
+-- ---- a disorder
+
+-- what is at least each key is not below the last one
+below_last : (cmp : Cmp) → IsKeyOrder cmp → (key : Key) (xs : Lines) (e : List ℕ) → EachKey (λ k. AtMost cmp k e) key xs → is_below cmp e (last_or None (map key xs)) ≡ false
+below_last cmp o key xs e up = by (last_or None (map key xs)) refl
+  where
+    by : (l : Option (List ℕ)) → last_or None (map key xs) ≡ l → is_below cmp e l ≡ false
+    by None h = refl
+    by (Some x) h = not_below cmp o e x (last_has key (λ k. AtMost cmp k e) None xs x h (λ y bad. cc) up)
+
+-- one input is in order and goes on, and no key of it is behind the fall of the other: no disorder is settled
+pub not_settled : (tool : Tool) → IsKeyOrder tool.cmp → (ended : Side → Bool) (ls : Side → Lines) (of : Side) → ended of ≡ false → fall tool.cmp (tool.key of) (ls of) ≡ None
+    → EachKey (λ k. FallFrom tool.cmp k (fall tool.cmp (tool.key (other of)) (ls (other of)))) (tool.key of) (ls of) → is_settled tool ended ls (disorder tool ls) ≡ false
+not_settled tool o ended ls of going rises = by of going rises
+  where
+    past : (s : Side) → ended s ≡ false → fall tool.cmp (tool.key s) (ls s) ≡ None → (e : List ℕ) → EachKey (λ k. AtMost tool.cmp k e) (tool.key s) (ls s) → is_decided tool ended ls e ≡ false
+    past s on none e up =
+        not_decided tool o ended ls s e ((λ i. cond (on i || is_some (none i)) true (is_below tool.cmp e (last_or None (map (tool.key s) (ls s))))) ∙ below_last tool.cmp o (tool.key s) (ls s) e up)
+
+    first : (f g : Option Fall) → f ≡ None → ended First ≡ false → fall tool.cmp (tool.key First) (ls First) ≡ None → EachKey (λ k. FallFrom tool.cmp k g) (tool.key First) (ls First) → is_settled tool ended ls (disorder_of tool.cmp f g) ≡ false
+    first None None e on none up = refl
+    first None (Some d) e on none up = past First on none d.last_key up
+    first (Some c) g e on none up = cc
+
+    second : (f g : Option Fall) → g ≡ None → ended Second ≡ false → fall tool.cmp (tool.key Second) (ls Second) ≡ None → EachKey (λ k. FallFrom tool.cmp k f) (tool.key Second) (ls Second) → is_settled tool ended ls (disorder_of tool.cmp f g) ≡ false
+    second None None e on none up = refl
+    second (Some d) None e on none up = past Second on none d.last_key up
+    second f (Some c) e on none up = cc
+
+    by : (s : Side) → ended s ≡ false → fall tool.cmp (tool.key s) (ls s) ≡ None → EachKey (λ k. FallFrom tool.cmp k (fall tool.cmp (tool.key (other s)) (ls (other s)))) (tool.key s) (ls s) → is_settled tool ended ls (disorder tool ls) ≡ false
+    by First on none up = first (fall tool.cmp (tool.key First) (ls First)) (fall tool.cmp (tool.key Second) (ls Second)) none on none up
+    by Second on none up = second (fall tool.cmp (tool.key First) (ls First)) (fall tool.cmp (tool.key Second) (ls Second)) none on none up

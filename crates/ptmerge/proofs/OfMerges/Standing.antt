@@ -1,0 +1,232 @@
+-- Where an input of a merge stands, and what is still to come of it.
+use Rattle.std.proofs.Common.{◌≡◌, ◌≢◌, inl, inr, ℕ, ◌+◌, ◌<◌, ◌≤◌, ◌&&◌, Bool, true, false, cond, List, [], ◌∷◌, ◌++◌, Option, Some, None, length, refl, sym, ◌∙◌, ap, subst, arith}
+use Rattle.std.specs.Prelude.{nat_lt}
+use Rattle.std.specs.Ordering.{is_gt}
+use Rattle.std.proofs.lemmas.Bool.{false≢true}
+use Rattle.std.proofs.lemmas.Bool.Decides.{nat_tests}
+use Rattle.std.proofs.lemmas.List.{append-nil, length_push}
+use Rattle.ptlines.specs.Fills.{GivesLine}
+use Rattle.ptlines.specs.Readers.{Reader, IsDone, IsSound, budget}
+use Rattle.ptlines.specs.Slots.{Slots, line, with_line}
+use Rattle.ptlines.specs.Text.{longest}
+use Rattle.ptlines.proofs.Filling.{line_of}
+use Rattle.ptmerge.specs.declared.merging.sorted.Sorted.{Sorted}
+use Rattle.ptmerge.specs.declared.merging.sorted.Stand.{Stand}
+use Rattle.ptmerge.specs.declared.merging.sorted.Stand.TheVariants.{Head, Ended, Disorder}
+use Rattle.ptmerge.specs.Keyed.{Lines}
+use Rattle.ptmerge.specs.Orders.{Cmp, Key}
+use Rattle.ptmerge.specs.Places.{stand_at, Comes, Closes}
+use Rattle.ptmerge.proofs.OfMerges.Backing.{Near}
+use Rattle.ptmerge.proofs.OfMerges.Bounds.{Bound, Free, From, Fallen, Over, Coming, Under, Begun, begun_more, falls, Reaches, reaches_head, reaches_over, reaches_fallen}
+use Rattle.ptmerge.proofs.OfMerges.Got.{Got, got_more, got_end}
+use Rattle.ptmerge.proofs.OfMerges.Least.{EachKey, EachKey-weaker}
+use Rattle.ptmerge.proofs.OfMerges.LineLaws.{longest-append}
+use Rattle.ptmerge.proofs.OfMerges.Orders.{IsKeyOrder, AtMost, at_most_trans}
+use Rattle.ptmerge.proofs.OfMerges.Slotted.{line_other}
+
+-- The lines ls came, of which p are passed: the last stands, or there is none, or the last breaks the order.
+abbrev pub Stands : Cmp → Key → Stand → Sorted → Slots → Reader → Lines → Lines → Bound → Type 0
+Stands cmp key Head place store now ls p b = (ls ≡ p ++ line store place.standing ∷ []) × Begun cmp key ls (Some (key (line store place.standing))) × (b ≡ From (key (line store place.standing)))
+Stands cmp key Ended place store now ls p b = (b ≡ Over) × IsDone now
+Stands cmp key (Disorder n) place store now ls p b = b ≡ Fallen (record { last_key = key (line store place.previous); line = n })
+
+-- an input at which a merge stands
+pub record Sided (end : ℕ) (cmp : Cmp) (key : Key) (old now : Reader) (place : Sorted) (store : Slots) (ls p : Lines) (b : Bound) : Type 0 where
+  pub got : Got end old now ls
+  pub sound : IsSound now
+  pub near : Near ls p []
+  pub number : place.number ≡ length ls
+  pub reaches : Reaches cmp key ls p b
+  pub stands : Stands cmp key place.stand place store now ls p b
+
+-- other slots may change
+pub sided_keeps : (end : ℕ) (cmp : Cmp) (key : Key) (old now : Reader) (place : Sorted) (before after : Slots) (ls p : Lines) (b : Bound) → line after place.standing ≡ line before place.standing → line after place.previous ≡ line before place.previous
+    → Sided end cmp key old now place before ls p b → Sided end cmp key old now place after ls p b
+sided_keeps end cmp key old now place before after ls p b same1 same2 s = record { got = s.got; sound = s.sound; near = s.near; number = s.number; reaches = s.reaches; stands = by place.stand s.stands }
+  where
+    by : (t : Stand) → Stands cmp key t place before now ls p b → Stands cmp key t place after now ls p b
+    by Head st = (st.0 ∙ ap (λ (x : List ℕ). p ++ x ∷ []) (sym same1), subst (λ (x : List ℕ). Begun cmp key ls (Some (key x))) (sym same1) st.1, st.2 ∙ ap (λ (x : List ℕ). From (key x)) (sym same1))
+    by Ended st = st
+    by (Disorder n) st = st ∙ (λ i. Fallen (record { last_key = key (sym same2 i); line = n }))
+
+-- the line at which an input stands is passed
+pub record Passed (cmp : Cmp) (key : Key) (place : Sorted) (store : Slots) (ls p : Lines) (b : Bound) : Type 0 where
+  pub all : ls ≡ p ++ line store place.standing ∷ []
+  pub begun : Begun cmp key ls (Some (key (line store place.standing)))
+  pub bound : b ≡ From (key (line store place.standing))
+  pub some : 0 < place.number
+
+pub passed : (end : ℕ) (cmp : Cmp) (key : Key) (old now : Reader) (place : Sorted) (store : Slots) (ls p : Lines) (b : Bound) → place.stand ≡ Head → Sided end cmp key old now place store ls p b → Passed cmp key place store ls p b
+passed end cmp key old now place store ls p b e s =
+    let st : Stands cmp key Head place store now ls p b = subst (λ t. Stands cmp key t place store now ls p b) e s.stands in
+    record { all = st.0; begun = st.1; bound = st.2; some = omega (arith, s.number, ap length st.0, length_push p (line store place.standing)) }
+
+-- what may come where the last key that came is known, or none came
+abbrev pub behind : Option (List ℕ) → Bound
+behind None = Free
+behind (Some k) = From k
+
+-- the last line that came stands, or none came
+abbrev pub LastIs : Key → Option (List ℕ) → Sorted → Slots → Type 0
+LastIs key None place store = place.number ≡ 0
+LastIs key (Some k) place store = (0 < place.number) × (k ≡ key (line store place.standing))
+
+-- an input that stands can go on
+abbrev pub alive : Stand → ℕ
+alive Head = 1
+alive Ended = 0
+alive (Disorder n) = 0
+
+alive_most : (s : Stand) → alive s ≤ 1
+alive_most Head = omega arith
+alive_most Ended = omega arith
+alive_most (Disorder n) = omega arith
+
+-- an input at its next line, where all that came before are passed
+pub record Next (end : ℕ) (cmp : Cmp) (key : Key) (old new : Reader) (place : Sorted) (slot : ℕ) (before after : Slots) (ls : Lines) (last : Option (List ℕ)) : Type 0 where
+  pub now_ls : Lines
+  pub bound : Bound
+  pub sided : Sided end cmp key old new place after now_ls ls bound
+  pub coming : (r : Lines) → Coming cmp key bound r → Coming cmp key (behind last) r
+  pub under : (k : List ℕ) → Under cmp (behind last) k → Under cmp bound k
+  pub bytes : List ℕ
+  pub stored : after ≡ with_line before slot bytes
+  pub longer : longest ls ≤ longest now_ls
+  pub more : Lines
+  pub goes_on : now_ls ≡ ls ++ more
+  pub fits : length bytes ≤ longest now_ls
+
+stand_is : (cmp : Cmp) (key : Key) (last : Option (List ℕ)) (place : Sorted) (store : Slots) (next : List ℕ) → LastIs key last place store
+    → stand_at key cmp place.number (line store place.standing) next ≡ cond (falls cmp last (key next)) (Disorder (place.number + 1)) Head
+stand_is cmp key None place store next none =
+    let t : nat_lt 0 place.number ≡ false = grind (arith, nat_tests) in
+    ap (λ (b : Bool). cond (b && is_gt (cmp (key (line store place.standing)) (key next))) (Disorder (place.number + 1)) Head) t
+stand_is cmp key (Some k) place store next l =
+    let t : nat_lt 0 place.number ≡ true = grind (arith, nat_tests) in
+    ap (λ (b : Bool). cond (b && is_gt (cmp (key (line store place.standing)) (key next))) (Disorder (place.number + 1)) Head) t
+    ∙ ap (λ (j : List ℕ). cond (is_gt (cmp j (key next))) (Disorder (place.number + 1)) Head) (sym l.1)
+
+module _ (end : ℕ) (cmp : Cmp) (o : IsKeyOrder cmp) (key : Key) (old now new : Reader) (place next : Sorted) (before after : Slots) (ls : Lines) (last : Option (List ℕ)) where
+  from_next : (x : List ℕ) → falls cmp last (key x) ≡ false → ((r : Lines) → EachKey (AtMost cmp (key x)) key r → Coming cmp key (behind last) r) × ((k : List ℕ) → Under cmp (behind last) k → AtMost cmp k (key x))
+  from_next x rises = by last rises
+    where
+      by : (l : Option (List ℕ)) → falls cmp l (key x) ≡ false → ((r : Lines) → EachKey (AtMost cmp (key x)) key r → Coming cmp key (behind l) r) × ((k : List ℕ) → Under cmp (behind l) k → AtMost cmp k (key x))
+      by None h = (λ r c. tt, λ k u. absurd u)
+      by (Some j) h = (λ r c. EachKey-weaker (AtMost cmp (key x)) (AtMost cmp j) (λ y a. at_most_trans cmp o j (key x) y h a) key r c, λ k u. at_most_trans cmp o k j (key x) u h)
+
+  abbrev turned : Stand → ℕ → Sorted
+  turned stand number = record { standing = place.previous; previous = place.standing; number = number; stand = stand }
+
+  abbrev Goal : Sorted → Type 0
+  Goal q = Next end cmp key old new q place.previous before after ls last
+
+  longer_by : (x : List ℕ) → (longest ls ≤ longest (ls ++ x ∷ [])) × (length x ≤ longest (ls ++ x ∷ []))
+  longer_by x = (omega (arith, longest-append ls (x ∷ [])), omega (arith, longest-append ls (x ∷ [])))
+
+  counts : (x : List ℕ) → place.number ≡ length ls → place.number + 1 ≡ length (ls ++ x ∷ [])
+  counts x number = omega (arith, number, length_push ls x)
+
+  at_head : (e : GivesLine now new before after place.previous) → IsSound new → place.previous < length before.lines → Got end old now ls → place.number ≡ length ls → Begun cmp key ls last → falls cmp last (key e.line) ≡ false → Goal (turned Head (place.number + 1))
+  at_head e sound within got number begun rises =
+      let now_is : line after place.previous ≡ e.line = ap (λ (s : Slots). line s place.previous) e.stored ∙ line_of before place.previous e.line within in
+      let more = begun_more cmp key ls last e.line begun rises in
+      let f = from_next e.line rises in
+      record {
+        now_ls = ls ++ e.line ∷ [];
+        bound = From (key e.line);
+        sided = record {
+          got = got_more end old now new ls before after place.previous got e;
+          sound = sound;
+          near = inr (e.line, refl, refl);
+          number = counts e.line number;
+          reaches = reaches_head cmp o key ls e.line more;
+          stands = (
+            ap (λ (x : List ℕ). ls ++ x ∷ []) (sym now_is),
+            subst (λ (x : List ℕ). Begun cmp key (ls ++ e.line ∷ []) (Some (key x))) (sym now_is) more,
+            ap (λ (x : List ℕ). From (key x)) (sym now_is),
+          );
+        };
+        coming = f.0;
+        under = f.1;
+        bytes = e.line;
+        stored = e.stored;
+        longer = (longer_by e.line).0;
+        more = e.line ∷ [];
+        goes_on = refl;
+        fits = (longer_by e.line).1;
+      }
+
+  at_fall : (e : GivesLine now new before after place.previous) → IsSound new → place.standing ≢ place.previous → Got end old now ls → place.number ≡ length ls → Begun cmp key ls last → LastIs key last place before → falls cmp last (key e.line) ≡ true
+      → Goal (turned (Disorder (place.number + 1)) (place.number + 1))
+  at_fall e sound apart got number begun is falls_now = by last begun is falls_now
+    where
+      by : (l : Option (List ℕ)) → Begun cmp key ls l → LastIs key l place before → falls cmp l (key e.line) ≡ true
+          → Next end cmp key old new (turned (Disorder (place.number + 1)) (place.number + 1)) place.previous before after ls l
+      by None b i f = absurd (false≢true f)
+      by (Some k) b i f =
+          let kept : line after place.standing ≡ line before place.standing = ap (λ (s : Slots). line s place.standing) e.stored ∙ line_other before place.previous place.standing e.line (λ same. apart (sym same)) in
+          let key_is : k ≡ key (line after place.standing) = i.1 ∙ ap key (sym kept) in
+          let count : length ls + 1 ≡ place.number + 1 = omega arith in
+          record {
+            now_ls = ls ++ e.line ∷ [];
+            bound = Fallen (record { last_key = k; line = length ls + 1 });
+            sided = record {
+              got = got_more end old now new ls before after place.previous got e;
+              sound = sound;
+              near = inr (e.line, refl, refl);
+              number = counts e.line number;
+              reaches = reaches_fallen cmp key ls k e.line b f;
+              stands = λ i. Fallen (record { last_key = key_is i; line = count i });
+            };
+            coming = λ r none. subst (EachKey (AtMost cmp k) key) (sym none) tt;
+            under = λ j u. u;
+            bytes = e.line;
+            stored = e.stored;
+            longer = (longer_by e.line).0;
+            more = e.line ∷ [];
+            goes_on = refl;
+            fits = (longer_by e.line).1;
+          }
+
+  at_end : Closes place next now new before after → Got end old now ls → place.number ≡ length ls → Begun cmp key ls last → Goal (turned Ended place.number)
+  at_end e got number begun = record {
+    now_ls = ls;
+    bound = Over;
+    sided = record {
+      got = got_end end old now new ls got e.goes e.done;
+      sound = e.sound;
+      near = inl refl;
+      number = number;
+      reaches = reaches_over cmp key ls last begun;
+      stands = (refl, e.done);
+    };
+    coming = over last;
+    under = λ k u. tt;
+    bytes = [];
+    stored = e.empty;
+    longer = omega arith;
+    more = [];
+    goes_on = sym (append-nil ls);
+    fits = omega arith;
+  }
+    where
+      over : (l : Option (List ℕ)) (r : Lines) → r ≡ [] → Coming cmp key (behind l) r
+      over None r none = tt
+      over (Some k) r none = subst (EachKey (AtMost cmp k) key) (sym none) tt
+
+  pub goes_next : place.previous < length before.lines → place.standing ≢ place.previous → Got end old now ls → place.number ≡ length ls → Begun cmp key ls last → LastIs key last place before → Comes key cmp place next now new before after
+      → Next end cmp key old new next place.previous before after ls last
+  goes_next within apart got number begun is (inl e) = by (falls cmp last (key e.gives.line)) refl
+    where
+      place_is : (b : Bool) → falls cmp last (key e.gives.line) ≡ b → next ≡ turned (cond b (Disorder (place.number + 1)) Head) (place.number + 1)
+      place_is b h = e.place ∙ (λ i. turned ((stand_is cmp key last place before e.gives.line is ∙ ap (λ (t : Bool). cond t (Disorder (place.number + 1)) Head) h) i) (place.number + 1))
+
+      by : (b : Bool) → falls cmp last (key e.gives.line) ≡ b → Goal next
+      by true h = subst Goal (sym (place_is true h)) (at_fall e.gives e.sound apart got number begun is h)
+      by false h = subst Goal (sym (place_is false h)) (at_head e.gives e.sound within got number begun h)
+  goes_next within apart got number begun is (inr e) = subst Goal (sym e.place) (at_end e got number begun)
+
+-- each step leaves less to do
+pub comes_less : (key : Key) (cmp : Cmp) (place next : Sorted) (now new : Reader) (before after : Slots) → place.stand ≡ Head → Comes key cmp place next now new before after → budget new + alive next.stand < budget now + alive place.stand
+comes_less key cmp place next now new before after head (inl e) = omega (arith, e.gives.less, alive_most next.stand, ap alive head)
+comes_less key cmp place next now new before after head (inr e) = omega (arith, e.goes.reads.count, ap (λ (q : Sorted). alive q.stand) e.place, ap alive head)

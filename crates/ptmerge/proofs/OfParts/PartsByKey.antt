@@ -1,0 +1,264 @@
+-- What is written of lines that are dealt out by their keys.
+use Rattle.std.proofs.lemmas.Bool.{eqb-true}
+use Rattle.std.proofs.Common.{◌≡◌, ℕ, zero, suc, ◌+◌, ◌<◌, ◌≤◌, ◌==◌, List, [], ◌∷◌, ◌++◌, Bool, true, false, cond, None, refl, ap, sym, ◌∙◌, subst, map, append_assoc, inr, arith}
+use Rattle.std.proofs.lemmas.Bool.Decides.{nat_tests}
+use Rattle.std.proofs.lemmas.List.{append-nil}
+use Rattle.std.proofs.lemmas.List.Concat.{flat_map-append}
+use Rattle.std.proofs.lemmas.List.Elements.{filter-append}
+use Rattle.std.proofs.lemmas.List.Sorted.{IsPermutation-refl, IsPermutation-trans, IsPermutation-append_left, IsPermutation-append_right, IsPermutation-append_comm}
+use Rattle.std.specs.Prelude.{filter, bytes_eq, flat_map}
+use Rattle.std.specs.List.{range_with_len}
+use Rattle.std.specs.List.Sorted.{IsPermutation}
+use Rattle.std.specs.declared.cmp.Ordering.{Ordering}
+use Rattle.std.specs.declared.cmp.Ordering.TheVariants.{Less, Equal, Greater}
+use Rattle.std.specs.Ordering.{is_gt, match_ordering}
+use Rattle.std.specs.Cmp.Lexicographic.{bytes_decides}
+use Rattle.ptlines.specs.Text.{AreLines, lines, text}
+use Rattle.ptlines.proofs.PartLaws.{the_lines_of_parts}
+use Rattle.ptlines.proofs.TextLaws.{lines_of_text, the_lines}
+use Rattle.ptmerge.specs.declared.order.Side.{Side}
+use Rattle.ptmerge.specs.declared.order.Side.TheVariants.{First, Second}
+use Rattle.ptmerge.specs.Comm.{comm_tool}
+use Rattle.ptmerge.specs.Join.{join_tool}
+use Rattle.ptmerge.specs.Keyed.{Lines, Tool, insert_key, distinct, disorder, keys, with_key, entries_of, by_keys, lines_of, merged_entries}
+use Rattle.ptmerge.specs.Orders.{Cmp, Key}
+use Rattle.ptmerge.specs.Parts.{CommByKey, IsByKey, JoinByKey, dealt, written_lines}
+use Rattle.ptmerge.proofs.OfMerges.Orders.{IsKeyOrder, Above, above_trans, line_order}
+use Rattle.ptmerge.proofs.OfMerges.Least.{Each, Each-weaker, insert_least}
+use Rattle.ptmerge.proofs.OfParts.PartsInOrder.{in_order_kept, merged_in_order, no_disorder, none_falls}
+use Rattle.ptmerge.proofs.OfMerges.Splitting.{Ascends, all_keys, ascends_distinct}
+
+filter_true : (ks : Lines) → filter all_keys ks ≡ ks
+filter_true [] = refl
+filter_true (k ∷ ks) = ap (λ l. k ∷ l) (filter_true ks)
+
+-- ---- the distinct keys of a part
+
+module _ (p : List ℕ → Bool) where
+  each_kept : (P : List ℕ → Type 0) (ks : Lines) → Each P ks → Each P (filter p ks)
+  each_kept P [] e = tt
+  each_kept P (k ∷ ks) e = by (p k) (each_kept P ks e.1)
+    where
+      by : (b : Bool) → Each P (filter p ks) → Each P (cond b (k ∷ filter p ks) (filter p ks))
+      by true ih = (e.0, ih)
+      by false ih = ih
+
+  each_passes : (ks : Lines) → Each (λ k. p k ≡ true) (filter p ks)
+  each_passes [] = tt
+  each_passes (k ∷ ks) = by (p k) refl (each_passes ks)
+    where
+      by : (b : Bool) → p k ≡ b → Each (λ k. p k ≡ true) (filter p ks) → Each (λ k. p k ≡ true) (cond b (k ∷ filter p ks) (filter p ks))
+      by true h ih = (h, ih)
+      by false h ih = ih
+
+  module _ (cmp : Cmp) (o : IsKeyOrder cmp) where
+    insert_kept : (k : List ℕ) (xs : Lines) → Ascends cmp xs → p k ≡ true → filter p (insert_key cmp k xs) ≡ insert_key cmp k (filter p xs)
+    insert_kept k [] a h = rw h refl
+    insert_kept k (x ∷ xs) a h = by (cmp k x) refl (p x) refl (insert_kept k xs a.1 h)
+      where
+        by : (r : Ordering) → cmp k x ≡ r → (b : Bool) → p x ≡ b → filter p (insert_key cmp k xs) ≡ insert_key cmp k (filter p xs)
+            → filter p (match_ordering r (k ∷ x ∷ xs) (x ∷ xs) (x ∷ insert_key cmp k xs)) ≡ insert_key cmp k (cond b (x ∷ filter p xs) (filter p xs))
+        by Less e true f ih = rw (h, f, e) refl
+        by Less e false f ih = rw (h, f) (sym (insert_least cmp o k (filter p xs) (each_kept (Above cmp k) xs (Each-weaker (Above cmp x) (Above cmp k) (λ y g. above_trans cmp o k x y (ap is_gt e) g) xs a.0))))
+        by Equal e true f ih = rw (f, e) refl
+        by Equal e false f ih = let bad : true ≡ false = sym h ∙ ap p (o.exact k x e) ∙ f in cc
+        by Greater e true f ih = rw (f, e) (ap (λ l. x ∷ l) ih)
+        by Greater e false f ih = rw f ih
+
+    insert_left_out : (k : List ℕ) (xs : Lines) → p k ≡ false → filter p (insert_key cmp k xs) ≡ filter p xs
+    insert_left_out k [] h = rw h refl
+    insert_left_out k (x ∷ xs) h = by (cmp k x) (insert_left_out k xs h)
+      where
+        by : (r : Ordering) → filter p (insert_key cmp k xs) ≡ filter p xs → filter p (match_ordering r (k ∷ x ∷ xs) (x ∷ xs) (x ∷ insert_key cmp k xs)) ≡ filter p (x ∷ xs)
+        by Less ih = rw h refl
+        by Equal ih = refl
+        by Greater ih = ap (λ l. cond (p x) (x ∷ l) l) ih
+
+    -- the distinct keys of a part are those of the whole that go to it
+    distinct_kept : (ks : Lines) → filter p (distinct cmp ks) ≡ distinct cmp (filter p ks)
+    distinct_kept [] = refl
+    distinct_kept (k ∷ ks) = by (p k) refl (distinct_kept ks)
+      where
+        by : (b : Bool) → p k ≡ b → filter p (distinct cmp ks) ≡ distinct cmp (filter p ks) → filter p (insert_key cmp k (distinct cmp ks)) ≡ distinct cmp (cond b (k ∷ filter p ks) (filter p ks))
+        by true h ih = insert_kept k (distinct cmp ks) (ascends_distinct cmp o ks) h ∙ ap (insert_key cmp k) ih
+        by false h ih = insert_left_out k (distinct cmp ks) h ∙ ih
+
+  -- the lines whose keys go to it
+  abbrev kept : Key → Lines → Lines
+  kept key ls = filter (λ line. p (key line)) ls
+
+  keys_kept : (key : Key) (ls : Lines) → map key (kept key ls) ≡ filter p (map key ls)
+  keys_kept key [] = refl
+  keys_kept key (x ∷ ls) = by (p (key x)) (keys_kept key ls)
+    where
+      by : (b : Bool) → map key (kept key ls) ≡ filter p (map key ls) → map key (cond b (x ∷ kept key ls) (kept key ls)) ≡ cond b (key x ∷ filter p (map key ls)) (filter p (map key ls))
+      by true ih = ap (λ l. key x ∷ l) ih
+      by false ih = ih
+
+  -- all lines of a key go where the key goes
+  with_key_kept : (key : Key) (k : List ℕ) (ls : Lines) → p k ≡ true → with_key key (kept key ls) k ≡ with_key key ls k
+  with_key_kept key k [] h = refl
+  with_key_kept key k (x ∷ ls) h = by (p (key x)) refl (bytes_eq (key x) k) refl (with_key_kept key k ls h)
+    where
+      by : (b : Bool) → p (key x) ≡ b → (c : Bool) → bytes_eq (key x) k ≡ c → with_key key (kept key ls) k ≡ with_key key ls k
+          → with_key key (cond b (x ∷ kept key ls) (kept key ls)) k ≡ cond c (x ∷ with_key key ls k) (with_key key ls k)
+      by true f true e ih = rw e (ap (λ l. x ∷ l) ih)
+      by true f false e ih = rw e ih
+      by false f true e ih = let bad : true ≡ false = sym h ∙ ap p (sym ((bytes_decides (key x) k).0 e)) ∙ f in cc
+      by false f false e ih = ih
+
+  module _ (tool : Tool) (o : IsKeyOrder tool.cmp) (ls : Side → Lines) where
+    abbrev part : Side → Lines
+    part side = kept (tool.key side) (ls side)
+
+    keys_of_part : keys tool part ≡ filter p (keys tool ls)
+    keys_of_part =
+        (λ i. keys_kept (tool.key First) (ls First) i ++ keys_kept (tool.key Second) (ls Second) i)
+        ∙ sym (filter-append p (map (tool.key First) (ls First)) (map (tool.key Second) (ls Second)))
+
+    -- what is written of a part is what is written of the keys of the whole that go to it
+    entries_kept : {A : Type 0} (g : List ℕ → List A)
+        → flat_map g (by_keys tool all_keys part) ≡ flat_map (λ k. flat_map g (entries_of tool ls k)) (filter p (distinct tool.cmp (keys tool ls)))
+    entries_kept {A} g =
+        ap (λ ds. flat_map g (flat_map (entries_of tool part) ds)) (filter_true (distinct tool.cmp (keys tool part)) ∙ ap (distinct tool.cmp) keys_of_part ∙ sym (distinct_kept tool.cmp o (keys tool ls)))
+        ∙ each_of (filter p (distinct tool.cmp (keys tool ls))) (each_passes (distinct tool.cmp (keys tool ls)))
+      where
+        each_of : (ds : Lines) → Each (λ k. p k ≡ true) ds → flat_map g (flat_map (entries_of tool part) ds) ≡ flat_map (λ k. flat_map g (entries_of tool ls k)) ds
+        each_of [] e = refl
+        each_of (d ∷ ds) e =
+            flat_map-append g (entries_of tool part d) (flat_map (entries_of tool part) ds)
+            ∙ (λ i. flat_map g (tool.entries d (with_key_kept (tool.key First) d (ls First) e.0 i) (with_key_kept (tool.key Second) d (ls Second) e.0 i)) ++ each_of ds e.1 i)
+
+    -- and so are the entries of some of the keys
+    pub by_keys_kept : by_keys tool all_keys (λ side. filter (λ line. p (tool.key side line)) (ls side)) ≡ by_keys tool p ls
+    by_keys_kept =
+        ap (flat_map (entries_of tool part)) (filter_true (distinct tool.cmp (keys tool part)) ∙ ap (distinct tool.cmp) keys_of_part ∙ sym (distinct_kept tool.cmp o (keys tool ls)))
+        ∙ each_of (filter p (distinct tool.cmp (keys tool ls))) (each_passes (distinct tool.cmp (keys tool ls)))
+      where
+        each_of : (ds : Lines) → Each (λ k. p k ≡ true) ds → flat_map (entries_of tool part) ds ≡ flat_map (entries_of tool ls) ds
+        each_of [] e = refl
+        each_of (d ∷ ds) e = λ i. tool.entries d (with_key_kept (tool.key First) d (ls First) e.0 i) (with_key_kept (tool.key Second) d (ls Second) e.0 i) ++ each_of ds e.1 i
+
+-- ---- in some order
+
+module _ {A : Type 0} where
+  -- two lists change places
+  changed : (u v w : List A) → IsPermutation (u ++ (v ++ w)) (v ++ (u ++ w))
+  changed u v w = subst (λ l. IsPermutation l (v ++ (u ++ w))) (append_assoc u v w) (subst (λ l. IsPermutation ((u ++ v) ++ w) l) (append_assoc v u w) (IsPermutation-append_left w (u ++ v) (v ++ u) (IsPermutation-append_comm u v)))
+
+  -- with u at the number j
+  abbrev with_at : ℕ → List A → (ℕ → List A) → ℕ → List A
+  with_at j u g i = cond (j == i) (u ++ g i) (g i)
+
+  none_at : (j : ℕ) (u : List A) (g : ℕ → List A) (a n : ℕ) → j < a → flat_map (with_at j u g) (range_with_len a n) ≡ flat_map g (range_with_len a n)
+  none_at j u g a zero low = refl
+  none_at j u g a (suc n) low =
+      let other : (j == a) ≡ false = grind (arith, nat_tests) in
+      rw other (ap (λ l. g a ++ l) (none_at j u g (a + 1) n (omega arith)))
+
+  -- wherever it stands, it may come first
+  one_at : (j : ℕ) (u : List A) (g : ℕ → List A) (a n : ℕ) → a ≤ j → j < a + n → IsPermutation (u ++ flat_map g (range_with_len a n)) (flat_map (with_at j u g) (range_with_len a n))
+  one_at j u g a zero low high = absurd (omega arith)
+  one_at j u g a (suc n) low high = by (j == a) refl (λ apart. one_at j u g (a + 1) n apart (omega arith))
+    where
+      rest : List A
+      rest = flat_map g (range_with_len (a + 1) n)
+
+      by : (b : Bool) → (j == a) ≡ b → (a + 1 ≤ j → IsPermutation (u ++ rest) (flat_map (with_at j u g) (range_with_len (a + 1) n)))
+          → IsPermutation (u ++ (g a ++ rest)) (cond b (u ++ g a) (g a) ++ flat_map (with_at j u g) (range_with_len (a + 1) n))
+      by true e ih =
+          let same : j ≡ a = eqb-true j a e in
+          subst (λ l. IsPermutation (u ++ (g a ++ rest)) l) (sym (append_assoc u (g a) rest) ∙ ap (λ l. (u ++ g a) ++ l) (sym (none_at j u g (a + 1) n (omega (arith, same))))) (IsPermutation-refl (u ++ (g a ++ rest)))
+      by false e ih =
+          let apart : a + 1 ≤ j = grind (arith, nat_tests, e, low) in
+          IsPermutation-trans (u ++ (g a ++ rest)) (g a ++ (u ++ rest)) (g a ++ flat_map (with_at j u g) (range_with_len (a + 1) n)) (changed u (g a) rest)
+          (IsPermutation-append_right (g a) (u ++ rest) (flat_map (with_at j u g) (range_with_len (a + 1) n)) (ih apart))
+
+  -- Of some keys, those that go to each part.
+  of_each : (f : List ℕ → List A) (part_of : List ℕ → ℕ) (parts : ℕ) → ((k : List ℕ) → part_of k < parts) → (ks : Lines)
+      → IsPermutation (flat_map f ks) (flat_map (λ i. flat_map f (filter (λ k. part_of k == i) ks)) (range_with_len 0 parts))
+  of_each f part_of parts below [] = subst (λ l. IsPermutation [] l) (sym (nothing (range_with_len 0 parts))) (IsPermutation-refl [])
+    where
+      nothing : (is : List ℕ) → flat_map {A = A} (λ i. []) is ≡ []
+      nothing [] = refl
+      nothing (i ∷ is) = nothing is
+  of_each f part_of parts below (k ∷ ks) =
+      let g : ℕ → List A = λ i. flat_map f (filter (λ k. part_of k == i) ks) in
+      let all : List A = flat_map g (range_with_len 0 parts) in
+      subst (λ (h : ℕ → List A). IsPermutation (f k ++ flat_map f ks) (flat_map h (range_with_len 0 parts))) (λ t i. at (part_of k == i) i t)
+      (IsPermutation-trans (f k ++ flat_map f ks) (f k ++ all) (flat_map (with_at (part_of k) (f k) g) (range_with_len 0 parts))
+      (IsPermutation-append_right (f k) (flat_map f ks) all (of_each f part_of parts below ks)) (one_at (part_of k) (f k) g 0 parts (omega arith) (omega (arith, below k))))
+    where
+      at : (b : Bool) (i : ℕ) → cond b (f k ++ flat_map f (filter (λ k. part_of k == i) ks)) (flat_map f (filter (λ k. part_of k == i) ks)) ≡ flat_map f (cond b (k ∷ filter (λ k. part_of k == i) ks) (filter (λ k. part_of k == i) ks))
+      at true i = refl
+      at false i = refl
+
+-- ---- texts
+
+-- the lines of the entries that are written
+lines_of_entries : (end : ℕ) (es : Lines) → lines end (text end es) ≡ flat_map (λ e. lines end (e ++ end ∷ [])) es
+lines_of_entries end [] = refl
+lines_of_entries end (e ∷ es) = the_lines_of_parts end (e ++ end ∷ []) (text end es) (inr (e, refl)) ∙ ap (λ l. lines end (e ++ end ∷ []) ++ l) (lines_of_entries end es)
+
+lines_kept : (end : ℕ) (q : List ℕ → Bool) (ls : Lines) → AreLines end ls → AreLines end (filter q ls)
+lines_kept end q [] e = tt
+lines_kept end q (x ∷ ls) e = by (q x) (lines_kept end q ls e.1)
+  where
+    by : (b : Bool) → AreLines end (filter q ls) → AreLines end (cond b (x ∷ filter q ls) (filter q ls))
+    by true ih = (e.0, ih)
+    by false ih = ih
+
+-- the lines of a text that is made of lines of another one
+lines_dealt : (end : ℕ) (q : List ℕ → Bool) (bytes : List ℕ) → lines end (text end (filter q (lines end bytes))) ≡ filter q (lines end bytes)
+lines_dealt end q bytes =
+    let some : Lines = filter q (lines end bytes) in
+    ap (lines end) (sym (append-nil (text end some))) ∙ lines_of_text end some [] (lines_kept end q (lines end bytes) (the_lines end bytes).0.0) ∙ append-nil some
+
+pub of_keys : (tool : Tool) → IsKeyOrder tool.cmp → IsByKey tool
+of_keys tool o inputs part_of parts in_order below =
+    subst (λ (l : Lines). IsPermutation l (flat_map (λ i. written_lines tool (dealt tool part_of inputs i)) (range_with_len 0 parts))) (sym whole)
+    (subst (λ (h : ℕ → Lines). IsPermutation (flat_map each ds) (flat_map h (range_with_len 0 parts))) (λ t i. sym (of_part i) t) (of_each each part_of parts below ds))
+  where
+    ls : Side → Lines
+    ls = lines_of tool inputs
+
+    ds : Lines
+    ds = distinct tool.cmp (keys tool ls)
+
+    entry_lines : List ℕ → Lines
+    entry_lines e = lines tool.end (e ++ tool.end ∷ [])
+
+    each : List ℕ → Lines
+    each k = flat_map entry_lines (entries_of tool ls k)
+
+    goes_to : ℕ → List ℕ → Bool
+    goes_to i k = part_of k == i
+
+    part_lines : ℕ → Side → Lines
+    part_lines i side = filter (λ line. part_of (tool.key side line) == i) (ls side)
+
+    part_order : (i : ℕ) → disorder tool (part_lines i) ≡ None
+    part_order i = no_disorder tool o (part_lines i) (λ side. in_order_kept tool.cmp o (tool.key side) (λ line. part_of (tool.key side line) == i) (ls side) (none_falls tool o ls in_order side))
+
+    written : (es : Lines) → lines tool.end (text tool.end es) ≡ flat_map entry_lines es
+    written es = lines_of_entries tool.end es
+
+    of_part : (i : ℕ) → written_lines tool (dealt tool part_of inputs i) ≡ flat_map each (filter (goes_to i) ds)
+    of_part i =
+        (λ t. lines tool.end (text tool.end (merged_entries tool (λ side. lines_dealt tool.end (λ line. part_of (tool.key side line) == i) (inputs side) t))))
+        ∙ ap (λ es. lines tool.end (text tool.end es)) (merged_in_order tool o (part_lines i) (part_order i)) ∙ written (by_keys tool all_keys (part_lines i)) ∙ entries_kept (goes_to i) tool o ls entry_lines
+
+    whole : written_lines tool inputs ≡ flat_map each ds
+    whole =
+        ap (λ es. lines tool.end (text tool.end es)) (merged_in_order tool o ls in_order) ∙ written (by_keys tool all_keys ls)
+        ∙ ap (λ ks. flat_map entry_lines (flat_map (entries_of tool ls) ks)) (filter_true ds) ∙ nested ds
+      where
+        nested : (ks : Lines) → flat_map entry_lines (flat_map (entries_of tool ls) ks) ≡ flat_map each ks
+        nested [] = refl
+        nested (k ∷ ks) = flat_map-append entry_lines (entries_of tool ls k) (flat_map (entries_of tool ls) ks) ∙ ap (λ l. each k ++ l) (nested ks)
+
+pub comm_of_keys : CommByKey
+comm_of_keys job = of_keys (comm_tool job) (line_order job.descending)
+
+pub join_of_keys : JoinByKey
+join_of_keys job = of_keys (join_tool job) (line_order job.descending)

@@ -1,6 +1,0 @@
-use Rattle.std.proofs.Common.{◌≡◌, drop, option_copied}
-use Rattle.ptmerge.specs.JoinFields.{fields_left}
-use Rattle.ptmerge.proofs.fields.later_field.Given as goal
-
-abbrev pub invariant-loop-passed : goal.invariant-loop-passed
-invariant-loop-passed l = drop l._passed (fields_left l.separator (option_copied l.line)) ≡ fields_left l.separator (option_copied l.left)

@@ -1,6 +1,0 @@
-use Rattle.std.proofs.Common.{◌≤◌}
-use Rattle.ptmerge.specs.Groups.{IsGroupCleared}
-use Rattle.ptmerge.proofs.groups.clear_group.Given as goal
-
-abbrev pub invariant-loop-slot : goal.invariant-loop-slot
-invariant-loop-slot g l = record { cleared : IsGroupCleared l.fn.store l.store l.slot; from : 4 ≤ l.slot }

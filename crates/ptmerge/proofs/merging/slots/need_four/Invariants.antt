@@ -1,0 +1,16 @@
+use Rattle.std.proofs.Common.{◌≡◌, ◌-◌, ◌≤◌, ℕ, length, max}
+use Rattle.ptlines.specs.Slots.{line, total}
+use Rattle.ptmerge.proofs.merging.slots.need_four.Given as goal
+
+abbrev pub invariant-loop-store : goal.invariant-loop-store
+invariant-loop-store g l = record {
+  slots : max (length l.store.lines) 4 ≡ max (length l.fn.store.lines) 4;
+  least : length l.fn.store.lines ≤ length l.store.lines;
+  same : (slot : ℕ) → line l.store slot ≡ line l.fn.store slot;
+  total : total l.store.lines ≡ total l.fn.store.lines;
+  peak : l.store.peak ≡ l.fn.store.peak;
+  denied : l.store.denied ≡ l.fn.store.denied;
+}
+
+abbrev pub decreases-loop-store : goal.decreases-loop-store
+decreases-loop-store g l = 4 - length l.store.lines

@@ -1,0 +1,6 @@
+use Rattle.std.proofs.Common.{◌≡◌, drop, option_copied}
+use Rattle.ptmerge.specs.JoinFields.{fields_left}
+use Rattle.ptmerge.proofs.tools.join.fields.later_field.Given as goal
+
+abbrev pub invariant-loop-passed : goal.invariant-loop-passed
+invariant-loop-passed l = drop l._passed (fields_left l.separator (option_copied l.line)) ≡ fields_left l.separator (option_copied l.left)

@@ -1,0 +1,6 @@
+use Rattle.std.proofs.Common.{◌≡◌, drop, Some}
+use Rattle.ptmerge.specs.JoinFields.{fields_left}
+use Rattle.ptmerge.proofs.tools.join.fields.nth_piece.Given as goal
+
+abbrev pub invariant-loop-passed : goal.invariant-loop-passed
+invariant-loop-passed l = drop l._passed (fields_left (Some l.separator) (Some l.line)) ≡ fields_left (Some l.separator) (Some l.left)

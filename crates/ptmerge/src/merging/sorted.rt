@@ -1,0 +1,99 @@
+//! One input of a merge: the line at which it stands, and whether its keys go on in order.
+
+ghost use Rattle.std.specs.Prelude.{◌≡◌, ◌≢◌, ◌≤◌, ◌<◌, ◌+◌, ◌^◌, None, length, nat_lt, ◌&&◌, if◌then◌else◌};
+ghost use Rattle.ptlines.specs.Readers.{IsSound, budget};
+ghost use Rattle.ptmerge.specs.Places.{Advances, fresh, slot_of};
+
+use crate::faults::MergeFault;
+use crate::order::{KeyOrder, Side};
+use ptlines::{LineFault, LineReader, Source, Store};
+use std::alloc::Allocator;
+
+/// Where an input stands: at a line, at its end, or at the line of this number, whose key falls.
+#[derive(Clone, Copy, Debug, PartialEq, Eq)]
+pub enum Stand {
+    Head,
+    Ended,
+    Disorder(u64),
+}
+
+// An input whose order is watched: the slots of the line at which it stands and of the line before, how many lines
+// came, and where it stands. Its reader is lent to each call that reads.
+#[derive(Clone, Copy, Drop)]
+pub struct Sorted {
+    pub standing: usize,
+    pub previous: usize,
+    pub number: u64,
+    pub stand: Stand,
+}
+
+// Where an input stands of which so many lines had come, if one more came.
+#[inline(always)]
+fn stand_at(number: u64, falls: bool) -> Stand
+    requires { number < 2 ^ 63 }
+    ensures { result ≡ if nat_lt 0 number && falls then Stand.Disorder (number + 1) else Stand.Head }
+{
+    if number > 0 && falls {
+        Stand::Disorder(number + 1)
+    } else {
+        Stand::Head
+    }
+}
+
+impl Sorted {
+    // An input of which nothing was read. The reader is asked, so that it is known to be sound.
+    pub fn unread<S: Source, R: Source>(side: Side, reader: &LineReader<S, R>) -> Sorted
+        ensures place { result ≡ fresh side }
+        ensures sound { IsSound reader.now }
+    {
+        let _refused = reader.is_refused();
+        let previous = match side {
+            Side::First => 0,
+            Side::Second => 2,
+        };
+        Sorted {
+            standing: previous + 1,
+            previous,
+            number: 0,
+            stand: Stand::Ended,
+        }
+    }
+
+    // Goes to the next line of the reader.
+    #[inline(always)]
+    pub fn next<K: KeyOrder, A: Allocator + Copy, S: Source, R: Source>(
+        &mut self,
+        order: &K,
+        side: Side,
+        reader: &mut LineReader<S, R>,
+        store: &mut Store<A>,
+    ) -> Result<(), MergeFault>
+        requires standing { self.old.standing < length store.old.lines }
+        requires previous { self.old.previous < length store.old.lines }
+        requires apart { self.old.standing ≢ self.old.previous }
+        requires clean { reader.old.fault ≡ None }
+        requires counted { self.old.number + budget reader.old ≤ 2 ^ 63 }
+        ensures moves { let key = K.key_of order.now side in
+            Advances key (K.order order.now) side self.old self.new reader.old reader.new store.old store.new result }
+        ensures slots { length store.new.lines ≡ length store.old.lines }
+    {
+        let last = self.standing;
+        self.standing = self.previous;
+        self.previous = last;
+        match reader.fill(store, self.standing) {
+            Ok(true) => {}
+            Ok(false) => {
+                self.stand = Stand::Ended;
+                return Ok(());
+            }
+            Err(LineFault::Read) => return Err(MergeFault::Read(side)),
+            Err(LineFault::Memory) => return Err(MergeFault::Memory),
+        }
+        let old = order.key(side, store.line(self.previous));
+        let new = order.key(side, store.line(self.standing));
+        let falls = order.cmp(old, new).is_gt();
+        self.stand = stand_at(self.number, falls);
+        self.number += 1;
+        Ok(())
+    }
+}

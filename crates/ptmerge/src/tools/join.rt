@@ -1,0 +1,303 @@
+//! `join`. It stands on the merge, and keeps the second input's lines of one key at a time.
+//!
+//! `groups` are those lines, `fields` the fields of a line and the entry that is written of two.
+
+ghost use Rattle.std.specs.Prelude.{◌≡◌, ◌<◌, ◌≤◌, ℕ, List, ◌++◌, ◌∷◌, [], option_copied, false, true, length, OnOk, OnErr};
+ghost use Rattle.ptlangs.specs.Jobs.{join_job};
+ghost use Rattle.ptlines.specs.Outputs.{Wrote};
+ghost use Rattle.ptlines.specs.Slots.{line};
+ghost use Rattle.ptlines.specs.Text.{text};
+ghost use Rattle.ptlines.specs.Readers.{IsSound};
+ghost use Rattle.ptmerge.specs.Groups.{AddsLeast, group};
+ghost use Rattle.ptmerge.specs.Merges.{IsMerge, IsReady, IsUnread, Untouched, ended_by, seen};
+ghost use Rattle.ptmerge.specs.declared.order.Side.{Side as Sided};
+ghost use Rattle.ptmerge.specs.Join.{alone_entry, entry, join_by, join_key, join_tool, pairs_of};
+ghost use Rattle.ptmerge.specs.JoinFields.{fields_left};
+ghost use Rattle.ptmerge.specs.LinePasses.{PassesLine};
+ghost use Rattle.ptmerge.specs.Sides.{both, other};
+ghost use Rattle.ptmerge.specs.Steps.{IsPlaced, IsLent};
+ghost use Rattle.ptmerge.specs.declared.order.Side.TheVariants as Of;
+ghost use Rattle.ptmerge.specs.declared.merging.sorted.Stand.TheVariants as stands;
+
+pub(crate) mod fields;
+mod groups;
+
+use crate::faults::MergeFault;
+use crate::merging::slots::clear_four;
+use crate::merging::{Merge, Step, send_before_wait};
+use crate::order::{Descending, FieldKeys, KeyOrder, Side};
+use crate::tools::join::fields::{nth_field, push_entry};
+use crate::tools::join::groups::{clear_group, gather};
+use ptlangs::jobs::JoinJob;
+use ptlines::{LineReader, Out, Sink, Source, Store, WriteFault};
+use std::alloc::Allocator;
+
+// Pushes what is written of a pair of lines, or of one of them, and the byte that ends it.
+fn push_line<A: Allocator, W: Sink>(
+    job: &JoinJob<A>,
+    key: &[u8],
+    one: Option<&[u8]>,
+    two: Option<&[u8]>,
+    ending: u8,
+    out: &mut Out<W>,
+) -> Result<(), WriteFault>
+    requires { out.old.faulted ≡ false }
+    ensures wrote { Wrote out.old out.new (entry (join_job job.now) key.now
+        (fields_left (join_job job.now).separator (option_copied one.entry))
+        (fields_left (join_job job.now).separator (option_copied two.entry)) ++ ending ∷ []) }
+    ensures clean { OnOk result (out.new.faulted ≡ false) }
+    ensures fault { OnErr result (out.new.faulted ≡ true) }
+{
+    push_entry(job, key, one, two, out)?;
+    out.push(&[ending])
+}
+
+// Pushes the entry of a line that pairs with none, if it is asked for.
+fn push_alone<A: Allocator, W: Sink>(
+    job: &JoinJob<A>,
+    side: Side,
+    line: &[u8],
+    ending: u8,
+    out: &mut Out<W>,
+) -> Result<(), WriteFault>
+    requires { out.old.faulted ≡ false }
+    ensures wrote { Wrote out.old out.new (text ending (alone_entry (join_job job.now) side line.now)) }
+    ensures clean { OnOk result (out.new.faulted ≡ false) }
+    ensures fault { OnErr result (out.new.faulted ≡ true) }
+{
+    match side {
+        Side::First => {
+            if !job.unpaired[0] {
+                return Ok(());
+            }
+            let key = nth_field(job.sep, job.field[0], Some(line));
+            push_line(job, key, Some(line), None, ending, out)
+        }
+        Side::Second => {
+            if !job.unpaired[1] {
+                return Ok(());
+            }
+            let key = nth_field(job.sep, job.field[1], Some(line));
+            push_line(job, key, None, Some(line), ending, out)
+        }
+    }
+}
+
+// Pushes the entries of a line of the first input and each line of the group.
+fn push_pairs<A: Allocator + Copy, W: Sink>(
+    job: &JoinJob<A>,
+    line: &[u8],
+    end: usize,
+    store: &Store<A>,
+    ending: u8,
+    out: &mut Out<W>,
+) -> Result<(), WriteFault>
+    requires within { end ≤ length store.now.lines }
+    requires clean { out.old.faulted ≡ false }
+    ensures wrote { let key = join_key (join_job job.now) Of.First line.now in
+        Wrote out.old out.new (text ending (pairs_of (join_job job.now) key (line.now ∷ []) (group store.now end))) }
+    ensures clean { OnOk result (out.new.faulted ≡ false) }
+    ensures fault { OnErr result (out.new.faulted ≡ true) }
+{
+    if !job.pairs {
+        return Ok(());
+    }
+    let key = nth_field(job.sep, job.field[0], Some(line));
+    for slot in 4..end {
+        push_line(job, key, Some(line), Some(store.line(slot)), ending, out)?;
+    }
+    Ok(())
+}
+
+// Pushes the entry of the line at which an input stands, which pairs with none, and goes to its next line.
+fn pass_alone<K: KeyOrder, A: Allocator + Copy, S: Source, R: Source, W: Sink>(
+    merge: &mut Merge<K>,
+    job: &JoinJob<A>,
+    side: Side,
+    ending: u8,
+    reader: &mut LineReader<S, R>,
+    store: &mut Store<A>,
+    out: &mut Out<W>,
+) -> Result<(), MergeFault>
+    requires placed { IsPlaced merge.old.first merge.old.second store.old }
+    requires stands { (both merge.old.first merge.old.second side).stand ≡ stands.Head }
+    requires lent { IsLent (both merge.old.first merge.old.second side) reader.old }
+    requires clean { out.old.faulted ≡ false }
+    ensures wrote { let standing = line store.old (both merge.old.first merge.old.second side).standing in
+        Wrote out.old out.new (text ending (alone_entry (join_job job.now) side standing)) }
+    ensures passes { let was = both merge.old.first merge.old.second side in
+        let is = both merge.new.first merge.new.second side in
+        let key = K.key_of merge.old.order side in
+        PassesLine key (K.order merge.old.order) side was is reader.old reader.new store.old store.new out.new result }
+    ensures others { let was = both merge.old.first merge.old.second (other side) in
+        both merge.new.first merge.new.second (other side) ≡ was }
+    ensures order { merge.new.order ≡ merge.old.order }
+    ensures placed { OnOk result (IsPlaced merge.new.first merge.new.second store.new) }
+    ensures lent { OnOk result (IsLent (both merge.new.first merge.new.second side) reader.new) }
+{
+    match push_alone(job, side, merge.head(side, store), ending, out) {
+        Ok(()) => {}
+        Err(_) => return Err(MergeFault::Write),
+    }
+    send_before_wait(reader, out)?;
+    merge.advance(side, reader, store)
+}
+
+// Pushes the entries of the line at which the first input stands and the group, and goes to its next line.
+fn pass_pairs<K: KeyOrder, A: Allocator + Copy, S: Source, R: Source, W: Sink>(
+    merge: &mut Merge<K>,
+    job: &JoinJob<A>,
+    end: usize,
+    ending: u8,
+    reader: &mut LineReader<S, R>,
+    store: &mut Store<A>,
+    out: &mut Out<W>,
+) -> Result<(), MergeFault>
+    requires placed { IsPlaced merge.old.first merge.old.second store.old }
+    requires stands { merge.old.first.stand ≡ stands.Head }
+    requires lent { IsLent merge.old.first reader.old }
+    requires within { end ≤ length store.old.lines }
+    requires clean { out.old.faulted ≡ false }
+    ensures wrote { let standing = line store.old merge.old.first.standing in
+        let key = join_key (join_job job.now) Of.First standing in
+        Wrote out.old out.new (text ending (pairs_of (join_job job.now) key (standing ∷ []) (group store.old end))) }
+    ensures passes { let key = K.key_of merge.old.order Of.First in
+        PassesLine key (K.order merge.old.order) Of.First
+        merge.old.first merge.new.first reader.old reader.new store.old store.new out.new result }
+    ensures others { merge.new.second ≡ merge.old.second }
+    ensures order { merge.new.order ≡ merge.old.order }
+    ensures placed { OnOk result (IsPlaced merge.new.first merge.new.second store.new) }
+    ensures lent { OnOk result (IsLent merge.new.first reader.new) }
+{
+    match push_pairs(job, merge.head(Side::First, store), end, store, ending, out) {
+        Ok(()) => {}
+        Err(_) => return Err(MergeFault::Write),
+    }
+    send_before_wait(reader, out)?;
+    merge.advance(Side::First, reader, store)
+}
+
+// What a turn of `join` does: goes between groups, gathers the second input's lines of a key, or pairs them.
+#[derive(Clone, Copy)]
+enum Phase {
+    Between,
+    Gathering,
+    Pairing,
+}
+
+// `join` in an order whose keys are the join fields, over readers whose ending is set.
+fn join_in_order<K: KeyOrder, A: Allocator + Copy, S: Source, R: Source, W: Sink>(
+    order: K,
+    job: &JoinJob<A>,
+    first: &mut LineReader<S, R>,
+    second: &mut LineReader<S, R>,
+    store: &mut Store<A>,
+    out: &mut Out<W>,
+) -> Result<(), MergeFault>
+    requires keys { (side : Sided) (line : List ℕ) → K.key_of order side line ≡ join_key (join_job job.now) side line }
+    requires ready { IsReady first.old second.old store.old }
+    requires sound { IsSound first.old × IsSound second.old }
+    requires ending { (first.old.ending ≡ (join_job job.now).end) × (second.old.ending ≡ (join_job job.now).end) }
+    requires writable { out.old.faulted ≡ false }
+    ensures merged { let tool = join_by (join_job job.now) (K.order order) (K.key_of order) in
+        let was = seen first.old second.old out.old store.old in
+        IsMerge tool was (seen first.new second.new out.new store.new) result }
+    ensures refused { let was = seen first.old second.old out.old store.old in
+        length store.new.lines < 4 → IsUnread was (seen first.new second.new out.new store.new) }
+    ensures slots { AddsLeast store.old store.new 4 }
+{
+    let ending = first.ending();
+    let mut merge = Merge::start(order, first, second, store)?;
+    let mut phase = Phase::Between;
+    let mut end = 4;
+    'turns: loop {
+        match phase {
+            Phase::Between => match merge.step(store) {
+                Step::First => pass_alone(&mut merge, job, Side::First, ending, first, store, out)?,
+                Step::Second => pass_alone(
+                    &mut merge,
+                    job,
+                    Side::Second,
+                    ending,
+                    second,
+                    store,
+                    out,
+                )?,
+                Step::Both => phase = Phase::Gathering,
+                Step::End => {
+                    clear_four(store);
+                    return Ok(());
+                }
+                Step::Stop(side, number) => {
+                    clear_four(store);
+                    return Err(MergeFault::Disorder(side, number));
+                }
+            },
+            Phase::Gathering => {
+                send_before_wait(second, out)?;
+                end = gather(&mut merge, end, second, store)?;
+                if !merge.has_key_of(Side::Second, store.line(4), store) {
+                    phase = Phase::Pairing;
+                }
+            }
+            Phase::Pairing => {
+                pass_pairs(&mut merge, job, end, ending, first, store, out)?;
+                if !merge.has_key_of(Side::First, store.line(4), store) {
+                    clear_group(store, end);
+                    end = 4;
+                    phase = Phase::Between;
+                }
+            }
+        }
+    }
+}
+
+/// Pairs the lines of two inputs in order by their join fields, and writes a line for each pair: the join field, and
+/// then the other fields of each line, or the fields of the output list (XCU, `join`). Fields are what stands between
+/// blanks or separators. Keys come in order, pairs of one key by the first input's line and then the second one's, and
+/// lines that pair with none, where they are asked for, in the order of their input; a line without the join field has
+/// an empty key (this project's own choice). With `-r` the order is the reverse of byte order, and with `-z` lines end
+/// with byte 0 (its own options).
+///
+/// The slots 0 to 3 of the store are used, which are added before the first read where they are missing, and behind
+/// them a slot for each of the second input's lines of one key; after `Ok` and `Disorder` all are empty. Where one of
+/// the first four is refused, nothing is read or pushed. On an output that has failed nothing is done. Neither input is
+/// read more than two blocks ahead of what is pushed, or behind a disorder, whatever came of the other. The pairs of a
+/// key are pushed once all lines of the second input with it came. That what was pushed is sent before a read that may
+/// have to wait is tested, and no clause.
+/// # Errors
+/// `Read`, with the input, or `Write` where a read or a write failed; `Memory` where a growth of the store was refused,
+/// and the store is then denied; `Disorder`, with the input and the line, where an input is out of order: then all
+/// entries up to the last key in front of it are pushed (this project's own choice).
+pub fn join<A: Allocator + Copy, S: Source, R: Source, W: Sink>(
+    job: &JoinJob<A>,
+    first: &mut LineReader<S, R>,
+    second: &mut LineReader<S, R>,
+    store: &mut Store<A>,
+    out: &mut Out<W>,
+) -> Result<(), MergeFault>
+    requires { IsReady first.old second.old store.old }
+    ensures merged { let was = seen first.old second.old out.old store.old in
+        IsMerge (join_tool (join_job job.now)) was (seen first.new second.new out.new store.new) result }
+    ensures slots { out.old.faulted ≡ false → AddsLeast store.old store.new 4 }
+    ensures refused { let was = ended_by (join_job job.now).end (seen first.old second.old out.old store.old) in
+        out.old.faulted ≡ false → length store.new.lines < 4 →
+        IsUnread was (seen first.new second.new out.new store.new) }
+    ensures halted { let was = seen first.old second.old out.old store.old in
+        out.old.faulted ≡ true → Untouched was (seen first.new second.new out.new store.new) result }
+{
+    if out.has_failed() {
+        return Err(MergeFault::Write);
+    }
+    first.set_ending(job.zero);
+    second.set_ending(job.zero);
+    let keys = FieldKeys {
+        separator: job.sep,
+        first: job.field[0],
+        second: job.field[1],
+    };
+    if job.descending {
+        return join_in_order(Descending { of: keys }, job, first, second, store, out);
+    }
+    join_in_order(keys, job, first, second, store, out)
+}

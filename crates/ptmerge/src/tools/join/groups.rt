@@ -1,0 +1,80 @@
+//! The second input's lines of one key, which `join` keeps in slots of its own.
+ghost use Rattle.std.specs.Prelude.{◌≡◌, ◌≤◌, ◌<◌, ◌+◌, ◌-◌, length, IfOk, OnOk, OnErr};
+ghost use Rattle.ptlines.specs.Slots.{line, total, with_denied};
+ghost use Rattle.ptmerge.specs.declared.order.Side.TheVariants as Of;
+ghost use Rattle.ptmerge.specs.declared.merging.sorted.Stand.TheVariants as stands;
+ghost use Rattle.ptmerge.specs.Groups.{Gathers, IsGroupCleared, IsGrown, IsKept, IsRefused, group};
+ghost use Rattle.ptmerge.specs.Steps.{IsLent, IsPlaced};
+
+use crate::faults::MergeFault;
+use crate::merging::Merge;
+use crate::order::{KeyOrder, Side};
+use ptlines::{LineFault, LineReader, Source, Store};
+use std::alloc::Allocator;
+
+// Adds the slot with this number if it is missing.
+fn need_slot<A: Allocator + Copy>(store: &mut Store<A>, slot: usize) -> Result<(), LineFault>
+    requires { slot ≤ length store.old.lines }
+    ensures ok { OnOk result (IsGrown store.old store.new slot) }
+    ensures err { OnErr result (store.new ≡ with_denied store.old) }
+{
+    if store.slots() == slot {
+        store.add()?;
+    }
+    Ok(())
+}
+
+// Copies the line of a slot to another one, which is added if it is missing. The answer is the slot behind that one.
+fn keep_line<A: Allocator + Copy>(
+    store: &mut Store<A>,
+    from: usize,
+    to: usize,
+) -> Result<usize, LineFault>
+    requires apart { from < to }
+    requires next { to ≤ length store.old.lines }
+    ensures next { IfOk result (λ end. end ≡ to + 1) }
+    ensures ok { OnOk result (IsKept store.old store.new from to) }
+    ensures err { OnErr result (IsRefused store.old store.new to) }
+{
+    need_slot(store, to)?;
+    store.copy(from, to)?;
+    Ok(store.slots().min(to + 1))
+}
+
+// Keeps the line at which the second input stands, and goes to its next line. The answer is the slot behind the kept
+// lines.
+pub(crate) fn gather<K: KeyOrder, A: Allocator + Copy, S: Source, R: Source>(
+    merge: &mut Merge<K>,
+    end: usize,
+    reader: &mut LineReader<S, R>,
+    store: &mut Store<A>,
+) -> Result<usize, MergeFault>
+    requires placed { IsPlaced merge.old.first merge.old.second store.old }
+    requires stands { merge.old.second.stand ≡ stands.Head }
+    requires lent { IsLent merge.old.second reader.old }
+    requires group { (4 ≤ end) × (end ≤ length store.old.lines) }
+    ensures gathers { let key = K.key_of merge.old.order Of.Second in
+        Gathers key (K.order merge.old.order)
+        merge.old.second merge.new.second reader.old reader.new store.old store.new end result }
+    ensures other { merge.new.first ≡ merge.old.first }
+    ensures order { merge.new.order ≡ merge.old.order }
+    ensures placed { OnOk result (IsPlaced merge.new.first merge.new.second store.new) }
+    ensures lent { OnOk result (IsLent merge.new.second reader.new) }
+{
+    let next = match keep_line(store, merge.slot(Side::Second), end) {
+        Ok(next) => next,
+        Err(_) => return Err(MergeFault::Memory),
+    };
+    merge.advance(Side::Second, reader, store)?;
+    Ok(next)
+}
+
+// Empties the slots of the group.
+pub(crate) fn clear_group<A: Allocator + Copy>(store: &mut Store<A>, end: usize)
+    requires { (4 ≤ end) × (end ≤ length store.old.lines) }
+    ensures { IsGroupCleared store.old store.new end }
+{
+    for slot in 4..end {
+        store.clear(slot);
+    }
+}
