@@ -203,7 +203,7 @@ def lacking_names():
 
     found = [f"{one}.{two}" for one, two in set(re.findall(r"`([A-Z]\w+)\.(\w+)`", text)) if (one, two) != ("File", "name")]
     lacking = [it for it in found if not holds(f"*/specs/{it.split('.')[0]}.antt", rf"^(abbrev )?(pub )?(unfoldable )?(pub )?(record |data )?{it.split('.')[1]}\b")]
-    lacking += [it for it in set(re.findall(r"`(\w+Rows)`", text)) - {"FileRows"} if not glob.glob(f"{TOP}/crates/*/proofs/{it}.antt")]
+    lacking += [it for it in set(re.findall(r"`(\w+Rows)`", text)) - {"FileRows"} if not glob.glob(f"{TOP}/crates/*/proofs/**/{it}.antt", recursive=True)]
     tests = set(re.findall(r"`(pt\w+)::(\w+)::(\w+)`", text))
     lacking += ["::".join(it) for it in tests if not holds(f"{it[0]}/src/{it[1]}.rt", rf"^fn {it[2]}\b")]
     # Titles stand behind program.sh, up to the end of a cell or a sentence.
