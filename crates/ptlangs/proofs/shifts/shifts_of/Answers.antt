@@ -1,3 +1,5 @@
+-- From the end of the table on, a byte whose image is as far away as that of the next one belongs to the same stretch;
+-- any other begins a stretch, or belongs to none.
 use Rattle.std.proofs.Common.{◌≡◌, ◌+◌, ◌<◌, ◌-◌, List, drop, length, get_or, sym, ◌∙◌, ap, arith}
 use Rattle.std.proofs.lemmas.List.{drop_all}
 use Rattle.ptlangs.specs.declared.shifts.Stretch.{Stretch}

@@ -1,3 +1,5 @@
+-- A walk over the pieces: a piece with a fault is the fault of the string, and the places of the pieces so far are at
+-- most as many as the bound on all of them.
 use Rattle.std.proofs.Common.{◌≡◌, ◌∷◌, ◌∙◌, length, refl, ap, arith, Result, Err}
 use Rattle.std.proofs.lemmas.Result.{err_from_is_err_and}
 use Rattle.ptlangs.specs.declared.faults.SetFaultKind.{SetFaultKind}

@@ -1,3 +1,5 @@
+-- The second string is read twice: bare, to learn how long the first repeat without a count has to be, and then with
+-- it. Both readings are of the same pieces, so the plan is that of the definition.
 use Rattle.std.proofs.Common.{◌≡◌, ◌-◌, arith, cond, ap, sym, ◌∙◌, Result, Ok, Err}
 use Rattle.std.specs.Result.{result_map_both}
 use Rattle.ptlangs.specs.declared.faults.SetFaultKind.{SetFaultKind}

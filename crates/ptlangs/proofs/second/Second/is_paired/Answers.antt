@@ -1,3 +1,5 @@
+-- A walk over the pieces of the second string: the first class without one that it faces refuses the pair, and a fault
+-- in a piece is told by another reading.
 use Rattle.std.proofs.Common.{◌≡◌, ◌∷◌, ◌∙◌, [], Bool, false, ap, sym, arith, Result, Ok, Err}
 use Rattle.ptlangs.specs.declared.faults.SetFaultKind.{SetFaultKind}
 use Rattle.ptlangs.specs.declared.pieces.Piece.{Piece}
