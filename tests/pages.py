@@ -116,11 +116,12 @@ def lint():
 
 
 def other_versions():
-    """The pages and the list of changes that name another version than the file VERSION."""
+    """The pages, the list of changes and the README, where they name another version than the file VERSION."""
     with open(f"{TOP}/VERSION", encoding="ascii") as it:
         version = it.read().strip()
     found = []
-    for file, wanted in [*((it, f".Os ptext {version}\n") for it in FILES if it.endswith(".1")), ("CHANGELOG.md", f"## {version}\n")]:
+    named = [("CHANGELOG.md", f"## {version}\n"), ("README.md", f"ptext_{version}-1_amd64.deb"), ("README.md", f"ptext-{version}-linux")]
+    for file, wanted in [*((it, f".Os ptext {version}\n") for it in FILES if it.endswith(".1")), *named]:
         with open(f"{TOP}/{file}", encoding="utf-8") as it:
             found += [] if wanted in it.read() else [f"{file} does not name version {version}\n"]
     return "".join(found)
