@@ -183,6 +183,7 @@ module _ (job : Paste) (places : List ℕ) (old : List Reader) (was : Output) (b
       true_so_far = λ w agrees. subst (λ (l : List ℕ). Begins k.pushed l) (paste_same job places (texts w) (text_in w) (texts_are w)) (k.true_so_far (texts w) (texts_agree w agrees));
       told_read = told;
       sure = λ q failed clean. subst (λ (l : List ℕ). Begins l k.pushed) (decided_same job places k.given (given_in received) given_is) (k.sure q (named_failed q failed) failed.2 clean);
+      keeps_up = λ place g named is_there. absurd (false≢true named);
       peak = λ w agrees. subst (λ (n : ℕ). store.peak ≤ max before.peak n) (size_same job places (texts w) (text_in w) (texts_are w)) (k.peak (texts w) (texts_agree w agrees));
     }
 
