@@ -315,11 +315,13 @@ module _ (t : keyed.Tool) (places : List ℕ) (old : List Reader) (was : Output)
             each Second Second = ap (given_in (set received q (Some g))) (operand_is Second) ∙ unwrapped (at_set received q (e.given Second) g (at_side Second))
 
         keeps_side : (side : Side) (g : Given) → e.given side ≡ g → (cut : Before g) × PassedOn (decided t (of_operands places (given_in (set received (place_of side) (Some cut.earlier))))) was is e.pushed
-        keeps_side side g same = subst (λ (g : Given). (cut : Before g) × PassedOn (decided t (of_operands places (given_in (set received (place_of side) (Some cut.earlier))))) was is e.pushed) same
-            (cut, record {
-              begins = subst (λ f. Begins (decided t f) e.pushed) (sym (put_is side cut.earlier)) up.works.begins;
-              sends = subst (λ f. SendsOn was is (decided t f)) (sym (put_is side cut.earlier)) up.sends;
-            })
+        keeps_side side g same = subst (λ (g : Given). (cut : Before g) × PassedOn (decided t (of_operands places (given_in (set received (place_of side) (Some cut.earlier))))) was is e.pushed) same (
+          cut,
+          record {
+            begins = subst (λ f. Begins (decided t f) e.pushed) (sym (put_is side cut.earlier)) up.works.begins;
+            sends = subst (λ f. SendsOn was is (decided t f)) (sym (put_is side cut.earlier)) up.sends;
+          },
+        )
           where
             up : KeepsUp {I = Unit {0}} (λ came. decided t (put side (came tt) e.given)) (λ u. e.given side) was is e.pushed
             up = e.keeps_up side ready.writable

@@ -154,7 +154,7 @@ module _ (m : Meaning) (at_once : m.in_turn ≡ None) (old : List Reader) (undec
     told = λ q failed clean. absurd (none_failed old q failed);
     sure = λ q failed clean. absurd (none_failed old q failed);
     keeps_up = subst (λ (kind : Option Tool). EarlierAs m (map received_of old) n (λ decided. KeptUp decided [] o.out.failed) kind) (sym at_once)
-        (nothing_decided m.apart m.decided (map received_of old) o.out.failed (λ r same. undecided r (λ q. refused_received (reader_at old q) (reader_at old q) (at (map received_of old) q) (nothing_read old (fresh_all old fresh) q) ∙ sym (same q))));
+        (nothing_decided m.places m.decided (map received_of old) o.out.failed (λ r same. undecided r (λ q. refused_received (reader_at old q) (reader_at old q) (at (map received_of old) q) (nothing_read old (fresh_all old fresh) q) ∙ sym (same q))));
     bounded = λ w agrees. omega (arith, none);
   }
 

@@ -25,7 +25,6 @@ saying text status = record {
   bound = λ w. 0;
   decided = λ r. [];
   in_turn = None;
-  apart = [];
   closing = λ w. text;
   quiet = λ is_shut. true;
   places = [];

@@ -165,5 +165,5 @@ pub record IsJointPass (t : JointTool) (places : List ℕ) (old new : List Reade
   pub told_read : (place : ℕ) → HasFailed old new place → is.faulted ≡ false → result ≡ Err (Read place)
   pub sure : (place : ℕ) → HasFailed old new place → is.faulted ≡ false
       → Begins (t.decided places (given_in received)) pushed
-  pub keeps_up : AnyEarlier (t.apart places) (λ r. t.decided places (given_in r)) received (λ decided. PassedOn decided was is pushed)
+  pub keeps_up : AnyEarlier places (λ r. t.decided places (given_in r)) received (λ decided. PassedOn decided was is pushed)
   pub peak : (w : World) → Allows received w → store.peak ≤ max before.peak (t.size places (text_in w))

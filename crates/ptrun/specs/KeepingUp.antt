@@ -39,7 +39,7 @@ AnyEarlier places decided r P = (place : ℕ) (came : Given) → is_in places pl
 -- P holds of what had been decided two blocks earlier, or less, of the last operand; or of any, where they are taken together.
 abbrev pub EarlierAs : Meaning → Received → ℕ → (List ℕ → Type 0) → Option Tool → Type 0
 EarlierAs m r n P (Some t) = LastEarlier t (begun_of r m.places n) P
-EarlierAs m r n P None = AnyEarlier m.apart m.decided r P
+EarlierAs m r n P None = AnyEarlier m.places m.decided r P
 
 abbrev pub Earlier : Meaning → Received → ℕ → (List ℕ → Type 0) → Type 0
 Earlier m r n P = EarlierAs m r n P m.in_turn

@@ -38,7 +38,6 @@ one_by_one word t names places = record {
   bound = λ w. each_bound t w places;
   decided = λ r. each_decided t r places;
   in_turn = Some t;
-  apart = [];
   closing = λ w. [];
   quiet = λ is_shut. false;
   places = places;

@@ -23,8 +23,6 @@ pub record JointTool : Type 0 where
   pub size : List ℕ → (ℕ → List ℕ) → ℕ
   -- the place of an input that is out of order, and the number of the line there, counted from 1
   pub disorder : List ℕ → (ℕ → List ℕ) → Option (ℕ × ℕ)
-  -- the operands of which each alone may stop it
-  pub apart : List ℕ → List ℕ
   -- whether it takes these operands
   pub takes : List ℕ → Bool
 
@@ -39,7 +37,6 @@ of_one t = record {
   decided = λ places given. t.decided (given (sole places));
   size = λ places texts. t.size (texts (sole places));
   disorder = λ places texts. None;
-  apart = λ places. places;
   takes = λ places. length places == 1;
 }
 
@@ -50,7 +47,6 @@ of_rows job = record {
   decided = paste_decided job;
   size = paste_size job;
   disorder = λ places texts. None;
-  apart = λ places. [];
   takes = λ places. nat_le (length places) 512;
 }
 
@@ -70,7 +66,6 @@ of_two t = record {
   decided = λ places given. keyed.decided t (of_operands places given);
   size = λ places texts. t.size (lines_of t (of_operands places texts));
   disorder = λ places texts. option_map (λ d. (operand places d.file, d.fall.line)) (keyed.disorder t (lines_of t (of_operands places texts)));
-  apart = λ places. places;
   takes = λ places. (length places == 2) && not (operand places First == operand places Second);
 }
 
@@ -102,7 +97,6 @@ together word t names places = record {
   bound = λ w. if lacks places w then 0 else t.size places (text_in w);
   decided = λ r. if lacks places r then [] else t.decided places (given_in r);
   in_turn = None;
-  apart = t.apart places;
   closing = λ w. if lacks places w then [] else disorder_text word names (t.disorder places (text_in w));
   quiet = λ is_shut. list_any is_shut places;
   places = places;
