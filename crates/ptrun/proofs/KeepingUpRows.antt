@@ -34,7 +34,7 @@ written_of_the_first t bytes written failed k =
     first_written (t.decided (whole bytes)) (flat_map t.decided (up_to_open (kept.0.earlier ∷ []))) written failed kept.1
 
 abbrev no_tool : Tool
-no_tool = record { text = λ text. []; decided = λ given. []; size = λ text. 0; slots = 0 }
+no_tool = record { text = λ text. []; decided = λ given. []; size = λ text. 0; slots = 0; end = 10 }
 
 -- Nothing was written of a file of 3 bytes, and no write had failed.
 nothing_of_a_small_file : Earlier (asked (words "cut -c 1 f g")) (first_done (codes "ab\n")) 1 (λ decided. KeptUp decided [] false) → ⊥
