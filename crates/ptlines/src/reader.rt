@@ -11,7 +11,7 @@ ghost use Rattle.ptlines.specs.Fills.{Moves, Steps, GivesLine, Fills, Blocks};
 ghost use Rattle.ptlines.specs.contracts.reader.LineReader.{the_row};
 
 use crate::out::{Out, WriteFault};
-use crate::search::{find_in_64, find_near};
+use crate::search::{find_in, find_near};
 use crate::sink::{Failed, Sink};
 use crate::source::{Origin, Source};
 use crate::store::{LineFault, Store};
@@ -299,7 +299,7 @@ impl<S: Source, R: Source> LineReader<S, R> {
         ensures sound { IsSound self.new }
     {
         let from = self.start;
-        let Some(at) = find_in_64(self.ending, &self.block, from) else {
+        let Some(at) = find_in::<64>(self.ending, &self.block, from) else {
             return false;
         };
         if at >= self.end {
