@@ -9,3 +9,4 @@ pub mod RowTurns
 pub mod SerialRests
 pub mod SheetRows
 pub mod Takes
+pub mod WholeRows

@@ -9,10 +9,12 @@ ghost use Rattle.ptflow.specs.Pastes.{glued_from, times};
 ghost use Rattle.ptflow.specs.Workings.Paste.RowTurns.{AreSet, FillsRow, is_write};
 
 pub(crate) mod serial;
+mod whole_rows;
 
 use crate::faults::FlowFault;
 use crate::slots::need_slots;
 use crate::tools::paste::serial::{Cell, begin_cell};
+use crate::tools::paste::whole_rows::pass_row;
 use ptlangs::delims::Delims;
 use ptlangs::jobs::PasteJob;
 use ptlines::{LineFault, LineReader, Out, Sink, Source, Store, WriteFault};
@@ -114,7 +116,11 @@ pub fn paste<A: Allocator + Copy, S: Source, R: Source, W: Sink>(
     set_endings(cells, job.zero, readers);
     need_slots(store, cells.len())?;
     let ending = if job.zero { 0 } else { b'\n' };
+    let mut room = [0; 8208];
     'rows: loop {
+        if pass_row(&job.delims, ending, cells, readers, &mut room, out)? {
+            continue;
+        }
         if !fill_row(cells, readers, store, out)? {
             return Ok(());
         }
