@@ -1,6 +1,6 @@
 -- Rows of `paste` whose cells lie whole in what the readers hold: they are told by the slots that filling them would fill.
-use Rattle.std.proofs.Common.{◌≡◌, ◌≢◌, ⊎_elim, inl, ℕ, zero, suc, ◌+◌, ◌-◌, ◌<◌, ◌≤◌, ◌^◌, Bool, true, false, cond, List, [], ◌∷◌, ◌++◌, Option, None, Some, length, take, drop, set, get_or, refl, sym, ◌∙◌, ap, subst, arith, append_assoc, length-append, length-drop}
-use Rattle.std.specs.Prelude.{nat_lt, slice_index_or}
+use Rattle.std.proofs.Common.{◌≡◌, ⊎_elim, inl, ℕ, zero, suc, ◌+◌, ◌-◌, ◌<◌, ◌≤◌, ◌^◌, Bool, true, false, cond, List, [], ◌∷◌, ◌++◌, Option, None, Some, length, take, drop, set, get_or, refl, sym, ◌∙◌, ap, subst, arith, append_assoc, length-append, length-drop}
+use Rattle.std.specs.Prelude.{nat_lt}
 use Rattle.std.proofs.lemmas.Bool.{cases_eq, cases_lt}
 use Rattle.std.proofs.lemmas.Bool.Decides.{nat_tests}
 use Rattle.std.proofs.lemmas.List.{append-nil, length-set, drop-drop, take_more_set, get_or-set_same, get_or-set_other, get_or_past, ext_get_or}
@@ -10,10 +10,9 @@ use Rattle.ptlines.specs.Slots.{Slots, with_line}
 use Rattle.ptlines.specs.Fills.{GivesLine}
 use Rattle.ptlines.proofs.Scanned.{before_end, take_end, goes_front}
 use Rattle.ptflow.specs.PastePasses.{no_reader, reader_at}
-use Rattle.ptflow.specs.Pastes.{glued_from}
 use Rattle.ptflow.specs.Workings.Paste.RowTurns.{RowFilled}
 use Rattle.ptflow.specs.Workings.Paste.SerialRests.{row_rest, row_from, begun, lead}
-use Rattle.ptflow.specs.Workings.Paste.WholeRows.{in_front, AreTaken, Holds, FillsWhole, HoldsRow}
+use Rattle.ptflow.specs.Workings.Paste.WholeRows.{in_front, AreTaken, Holds, HoldsRow}
 use Rattle.ptflow.proofs.OfPaste.RowTurns.{at_same, at_other, Filling, filling_starts, filling_line, filling_done}
 use Rattle.ptflow.proofs.OfPaste.SerialRests.{row_begun, row_line, row_end}
 use Rattle.ptflow.proofs.OfPaste.SheetRows.{first_cell}

@@ -1,4 +1,4 @@
-use Rattle.std.proofs.Common.{◌≡◌, ◌+◌, ◌-◌, ◌<◌, ◌++◌, ◌∷◌, ℕ, List, [], Some, length, take, drop, set, get_or, sym, ◌∙◌, ap, subst, arith}
+use Rattle.std.proofs.Common.{◌≡◌, ◌+◌, ◌-◌, ◌<◌, ◌++◌, ℕ, List, Some, length, take, drop, get_or, ◌∙◌, ap, subst, arith}
 use Rattle.std.proofs.lemmas.List.{take_rest, take_more_set, length-set}
 use Rattle.std.proofs.lemmas.List.Elements.{All-get_or}
 use Rattle.memchr.specs.Find.{IsFirstByte, is_byte}
