@@ -56,6 +56,10 @@ if command -v dpkg-deb >/dev/null; then
             || { cat "$room/said"; bad=$((bad + 1)); }
         is "the program of the package" acd "$(echo abcd | "$room/root/usr/bin/ptext" cut -c 3-,1)"
         is "its tools by name" 'exec /usr/bin/ptext uniq "$@"' "$(tail -n 1 "$room/root/usr/libexec/ptext/bin/uniq")"
+        about=$room/root/usr/share/doc/ptext
+        for page in README.md $(grep -o '\(docs\|bench\)/[A-Za-z]*[.][a-z]*' "$about/README.md" | sort -u); do
+            is "$page, to read in the package" yes "$([ -s "$about/$page" ] && echo yes)"
+        done
         is "its pages" 7 "$(ls "$room/root/usr/share/man/man1" | grep -c '^ptext.*\.1\.gz$')"
         dpkg --root="$room/root" --log=/dev/null --force-script-chrootless -P ptext >"$room/said" 2>&1 || { cat "$room/said"; bad=$((bad + 1)); }
         is "nothing is left of the package" "" "$(find "$room/root" -name '*ptext*')"

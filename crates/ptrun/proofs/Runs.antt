@@ -4,7 +4,7 @@
 -- headline is a reading of the run in the world that the readers tell: it is allowed by what was received, and each
 -- cause of a failure contradicts a premise.
 use Rattle.std.proofs.Common.{◌≡◌, ⊎_elim, inl, ℕ, Bool, true, false, List, [], ◌++◌, Option, Some, None, Result, Ok, Err, length, map, refl, sym, ◌∙◌, ap, subst, arith, append_assoc, length-append}
-use Rattle.std.specs.Prelude.{All, IfSome}
+use Rattle.std.specs.Prelude.{All}
 use Rattle.std.specs.Io.KnownBytes.{append_known, prepend_known, IsAtEnd}
 use Rattle.std.proofs.lemmas.List.{append-nil, append_cancel_left, nil_from_length}
 use Rattle.std.proofs.lemmas.Bool.{false≢true}
@@ -27,8 +27,8 @@ use Rattle.ptrun.specs.Meanings.{Meaning, named, unopened}
 use Rattle.ptrun.specs.Runs.{Sinks, sinks, Outcome, Cause, EndsAs, IsRun, IsExact, Headline}
 use Rattle.ptrun.specs.Engines.{WentTo, Went, Finishes, last_words, status_after, IsWithin}
 use Rattle.ptflow.specs.Tools.{Tool}
-use Rattle.ptrun.specs.KeepingUp.{begun_of, KeepsUpEach, KeptUp}
-use Rattle.ptrun.proofs.KeepingUp.{kept_up}
+use Rattle.ptrun.specs.KeepingUp.{PassedOn, KeptUp, EarlierAs}
+use Rattle.ptrun.proofs.KeepingUp.{kept_up, earlier_map}
 use Rattle.ptrun.specs.Asked.{saying}
 use Rattle.ptrun.proofs.Sayings.{tells_trans}
 use Rattle.ptrun.proofs.Order.{fresh_all}
@@ -149,7 +149,7 @@ module _ (m : Meaning) (at_once : m.in_turn ≡ None) (old : List Reader) (fresh
     true_so_far = λ w agrees. record { rest = m.out w; is = refl };
     told = λ q failed clean. absurd (none_failed old q failed);
     sure = λ q failed clean. absurd (none_failed old q failed);
-    keeps_up = subst (λ (t : Option Tool). IfSome t (λ t. KeptUp t (begun_of (map received_of old) m.places n) [] o.out.failed)) (sym at_once) tt;
+    keeps_up = subst (λ (kind : Option Tool). EarlierAs m (map received_of old) n (λ decided. KeptUp decided [] o.out.failed) kind) (sym at_once) tt;
     bounded = λ w agrees. omega (arith, none);
   }
 
@@ -316,12 +316,11 @@ module _ (m : Meaning) (old new : List Reader) (was is is' : Output) (told heard
     true_so_far = begins;
     told = e.told_read;
     sure = λ place failed fine. let clean = sym last_failed ∙ fine in let b = k.sure place failed (f.clean clean).2 in record { rest = b.rest; is = all_front clean ∙ b.is };
-    keeps_up = kept m.in_turn k.keeps_up;
+    keeps_up = earlier_map m k.received k.behind (λ decided. PassedOn decided was is k.pushed) (λ decided. KeptUp decided reached.front o.out.failed) kept k.keeps_up;
     bounded = λ w agrees. omega (arith, k.peak w agrees, low, peak_is);
   }
     where
-      kept : (t : Option Tool) → IfSome t (λ t. KeepsUpEach t (begun_of k.received m.places k.behind) was is k.pushed) → IfSome t (λ t. KeptUp t (begun_of k.received m.places k.behind) reached.front o.out.failed)
-      kept None none = tt
-      kept (Some t) up =
-          kept_up t (begun_of k.received m.places k.behind) was is is' k.pushed reached.front reached.rest up (ap (λ (o : Output). o.staged) made) reached.split reached.taken f.wrote.kept reached.unknown o.out.failed
+      kept : (bytes : List ℕ) → PassedOn bytes was is k.pushed → KeptUp bytes reached.front o.out.failed
+      kept bytes up =
+          kept_up bytes was is is' k.pushed reached.front reached.rest up (ap (λ (o : Output). o.staged) made) reached.split reached.taken f.wrote.kept reached.unknown o.out.failed
           (λ fine. let clean = sym last_failed ∙ fine in reached.whole clean (f.clean clean).1)
