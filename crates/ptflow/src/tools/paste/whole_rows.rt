@@ -17,12 +17,7 @@ type Taken = [usize; 16];
 
 // Puts the delimiter that stands in front of a cell, if there is one, and says where it ends.
 #[inline(always)]
-fn put_lead<A: Allocator>(
-    delims: &Delims<A>,
-    column: usize,
-    into: &mut Written,
-    at: usize,
-) -> usize
+fn put_lead<A: Allocator>(delims: &Delims<A>, column: usize, into: &mut Written, at: usize) -> usize
     requires room { at < 8192 }
     ensures put { take result into.new ≡ take at into.old ++ lead delims.now (in_front column) }
     ensures near { result ≤ at + 1 }
