@@ -10,3 +10,4 @@ pub mod SerialRests
 pub mod SheetRows
 pub mod Takes
 pub mod Turns
+pub mod WholeRows

@@ -65,11 +65,11 @@ pub(crate) fn begin_cell<A: Allocator, W: Sink>(
 }
 
 // What is written of a block, and room for what a copy changes behind it.
-type Written = [u8; 8208];
+pub(crate) type Written = [u8; 8208];
 
 // Puts what stands behind the cell of this number, and says where that ends.
 #[inline(always)]
-fn put_delimiter<A: Allocator>(
+pub(crate) fn put_delimiter<A: Allocator>(
     delims: &Delims<A>,
     number: u64,
     into: &mut Written,
