@@ -73,6 +73,7 @@ def archives(folder):
     sums = [f"{hashlib.sha256(bytes_of(f'{folder}/{it}.tar.gz')).hexdigest()}  {it}.tar.gz\n" for it in (named, built)]
     with open(f"{folder}/SHA256SUMS", "w", encoding="ascii") as it:
         it.write("".join(sums))
+    print(f"made {folder}/{named}.tar.gz, {built}.tar.gz and SHA256SUMS")
 
 
 def packed(text):
@@ -168,7 +169,9 @@ def deb(folder):
         path = f"{folder}/ptext_{VERSION}-1_amd64.deb"
         surroundings = {**os.environ, "SOURCE_DATE_EPOCH": str(TIME)}
         words = ["dpkg-deb", "--root-owner-group", "-Zxz", "--build", room, path]
-        return subprocess.run(words, env=surroundings, stdout=subprocess.DEVNULL, check=False).returncode
+        status = subprocess.run(words, env=surroundings, stdout=subprocess.DEVNULL, check=False).returncode
+        print(f"could not make {path}" if status else f"made {path}")
+        return status
 
 
 def main():

@@ -1,6 +1,6 @@
 -- The parts of a list, and reading them in turn.
-use Rattle.std.proofs.Common.{◌≡◌, ℕ, ◌+◌, ◌-◌, ◌≤◌, Bool, true, false, ltb, cond, List, [], ◌∷◌, ◌++◌, length, take, drop, Option, Some, None, Result, Ok,
-    Err, refl, sym, ◌∙◌, ap, arith, append_assoc, append-nil}
+use Rattle.std.proofs.Common.{◌≡◌, ℕ, ◌+◌, ◌-◌, ◌≤◌, Bool, true, false, ltb, cond, List, [], ◌∷◌, ◌++◌, length, take, drop, Option, Some, None, Result, Ok, Err}
+use Rattle.std.proofs.Common.{refl, sym, ◌∙◌, ap, arith, append_assoc, append-nil}
 use Rattle.std.specs.List.{slice_split, position, position_or_len}
 use Rattle.std.proofs.lemmas.Bool.{ltb-false, ltb-true}
 use Rattle.std.proofs.lemmas.List.{take_all, length-drop}
@@ -32,7 +32,7 @@ split_around p (x ∷ xs) i h =
     let since = some_since (ltb (position_or_len p (x ∷ xs)) (length (x ∷ xs))) (position_or_len p (x ∷ xs)) i h in
     let first = slice_split_first p (x ∷ xs) x (ltb-true _ _ since.0) in
     let rest : take (length (x ∷ xs) - (i + 1)) (drop (i + 1) (x ∷ xs)) ≡ drop (i + 1) (x ∷ xs) = take_all (length (x ∷ xs) - (i + 1)) (drop (i + 1) (x ∷ xs))
-        (omega (arith, length-drop (i + 1) (x ∷ xs))) in
+    (omega (arith, length-drop (i + 1) (x ∷ xs))) in
     rw rest (first ∙ ap (λ k. take k (x ∷ xs) ∷ slice_split p (drop (k + 1) (x ∷ xs))) since.1)
 
 -- ---- reading them in turn

@@ -53,9 +53,12 @@ cut_list_proper bs rs h = each_proper (elements bs) rs h
 
 ordered_behind : (x : Interval) (xs : List Interval) → All IsProper (x ∷ xs) → IsNonDecreasingBy (λ (r : Interval). r.first) (x ∷ xs) → AreInOrder x.first xs
 ordered_behind x [] proper up = tt
-ordered_behind x (y ∷ xs) proper up =
-    (up 0 1 x (omega arith) (omega arith), (proper 1 x (omega arith)).ascending, ordered_behind y xs (λ k d below. proper (suc k) d (omega arith))
-        (λ i j d le below. up (suc i) (suc j) d (omega arith) (omega arith)))
+ordered_behind x (y ∷ xs) proper up = (
+  up 0 1 x (omega arith) (omega arith),
+  (proper 1 x (omega arith)).ascending,
+  ordered_behind y xs (λ k d below. proper (suc k) d (omega arith))
+      (λ i j d le below. up (suc i) (suc j) d (omega arith) (omega arith)),
+)
 
 pub in_order : (xs : List Interval) → All IsProper xs → IsNonDecreasingBy (λ (r : Interval). r.first) xs → AreInOrder 1 xs
 in_order [] proper up = tt

@@ -42,7 +42,7 @@ filter-append test (x ∷ xs) ys = rw (filter-append test xs ys) (choose (test x
 pub others_below-more : (bytes : List ℕ) (n : ℕ) (t : Bool) → has_byte n bytes ≡ t → others_below bytes (n + 1) ≡ others_below bytes n ++ cond t [] (n ∷ [])
 others_below-more bytes n t e =
     ap (filter (λ b. not (has_byte b bytes))) (range-more 0 n n (omega arith)) ∙ filter-append (λ b. not (has_byte b bytes)) (range_with_len 0 n) (n ∷ [])
-        ∙ ap (λ xs. others_below bytes n ++ xs) (rw e (choose t))
+    ∙ ap (λ xs. others_below bytes n ++ xs) (rw e (choose t))
   where
     choose : (t : Bool) → cond (not t) (n ∷ []) [] ≡ cond t [] (n ∷ [])
     choose true = refl
@@ -62,7 +62,7 @@ contained-table table places bytes n h e =
 -- one more byte, by whether it stands in the array
 pub complement-more : (start old new : Places) (b i : ℕ) → b < 256 → i ≡ b → is_some (get_or start.last i None) ≡ false
     → ((bytes : List ℕ) → start ≡ places_of bytes → old ≡ places_of (others_below bytes b)) → Puts old new (b ∷ []) → (bytes : List ℕ) → start
-        ≡ places_of bytes → new ≡ places_of (others_below bytes (b + 1))
+    ≡ places_of bytes → new ≡ places_of (others_below bytes (b + 1))
 complement-more start old new b i h j n old_is puts bytes e =
     let absent : has_byte b bytes ≡ false = sym (is_some-last start bytes b None h e) ∙ ap (λ k. is_some (get_or start.last k None)) (sym j) ∙ n in
     puts (others_below bytes b) (old_is bytes e) ∙ ap places_of (sym (others_below-more bytes b false absent))

@@ -42,7 +42,7 @@ collected-done (x ∷ done) rest = rw (collected-done done rest) (choose (collec
   where
     choose : (r : Result (List Piece) SetFaultKind)
         → result_map_both (λ (xs : List Piece). x ∷ xs) (λ (k : SetFaultKind). k)
-            (result_map_both (λ (xs : List Piece). done ++ xs) (λ (k : SetFaultKind). k) r) ≡ result_map_both (λ (xs : List Piece). x ∷ done ++ xs) (λ (k : SetFaultKind). k) r
+        (result_map_both (λ (xs : List Piece). done ++ xs) (λ (k : SetFaultKind). k) r) ≡ result_map_both (λ (xs : List Piece). x ∷ done ++ xs) (λ (k : SetFaultKind). k) r
     choose (Ok xs) = refl
     choose (Err k) = refl
 

@@ -58,9 +58,9 @@ module _ (lines front back : List (List ℕ)) (from to : ℕ) (d e new more : Li
   appended_behind more_is new_is =
       let here : to + 0 ≡ to = omega arith in
       let had : get_or back 0 d ≡ get_or lines to [] = ap (λ (l : List (List ℕ)). get_or l 0 d) back_is ∙ get_or-drop to lines 0 d
-          ∙ ap (λ (n : ℕ). get_or lines n d) here ∙ same_at lines to d [] within in
+      ∙ ap (λ (n : ℕ). get_or lines n d) here ∙ same_at lines to d [] within in
       let added : more ≡ get_or lines from [] = more_is ∙ ap (λ (l : List (List ℕ)). get_or l from e) front_is ∙ get_or-take to lines from e near
-          ∙ same_at lines from e [] (omega (arith, near, within)) in
+      ∙ same_at lines from e [] (omega (arith, near, within)) in
       behind_is ∙ ap (set lines to) (new_is ∙ (λ i. had i ++ added i))
 
   pub short_behind : length new ≤ 2 ^ 63 → AreShort lines → AreShort (front ++ set back 0 new)
@@ -79,7 +79,7 @@ module _ (lines front back : List (List ℕ)) (from to : ℕ) (d e new more : Li
   appended_before more_is new_is =
       let here : from + 0 ≡ from = omega arith in
       let added : more ≡ get_or lines from [] = more_is ∙ ap (λ (l : List (List ℕ)). get_or l 0 e) back_is ∙ get_or-drop from lines 0 e
-          ∙ ap (λ (n : ℕ). get_or lines n e) here ∙ same_at lines from e [] within in
+      ∙ ap (λ (n : ℕ). get_or lines n e) here ∙ same_at lines from e [] within in
       before_is ∙ ap (set lines to) (new_is ∙ (λ i. had_before i ++ added i))
 
   pub same_before : new ≡ get_or front to d → set front to new ++ back ≡ lines

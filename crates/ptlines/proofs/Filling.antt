@@ -1,6 +1,6 @@
 -- A line that comes in pieces.
-use Rattle.std.proofs.Common.{◌≡◌, ℕ, ◌+◌, ◌-◌, ◌^◌, ◌<◌, ◌≤◌, None, Some, get_or, take, drop, Bool, List, [], ◌∷◌, ◌++◌, Option, length, set, max, refl, sym,
-    ◌∙◌, ap, subst, arith, append_assoc, length-append}
+use Rattle.std.proofs.Common.{◌≡◌, ℕ, ◌+◌, ◌-◌, ◌^◌, ◌<◌, ◌≤◌, None, Some, get_or, take, drop, Bool, List, [], ◌∷◌, ◌++◌, Option, length, set, max, refl, sym}
+use Rattle.std.proofs.Common.{◌∙◌, ap, subst, arith, append_assoc, length-append}
 use Rattle.std.proofs.lemmas.Bool.Decides.{nat_tests}
 use Rattle.std.proofs.lemmas.List.{append-nil, set-set, length-set, get_or-set_same, take-take}
 use Rattle.std.specs.Io.KnownBytes.{prepend_known}
@@ -113,14 +113,14 @@ end_done old now new before so_far after slot empty within short f goes done sam
     by_piece [] g w s t = subst (λ (b : Bool). Fills old new before after slot (Ok (not b))) (sym t) (g, done, s)
     by_piece (x ∷ piece) g w s t = let some : 0 < length (x ∷ piece) = omega arith in subst (λ (b : Bool). Fills old new before after slot (Ok (not b)))
         (sym (t ∙ not_empty (length (x ∷ piece)) some)) (record {
-      line = x ∷ piece;
-      ending = [];
-      goes = subst (λ (b : List ℕ). Goes old new b) (sym (append-nil (x ∷ piece))) g;
-      whole = w;
-      ends = inr (refl, some, done);
-      stored = s;
-      less = spends old new (x ∷ piece) g some short;
-    })
+          line = x ∷ piece;
+          ending = [];
+          goes = subst (λ (b : List ℕ). Goes old new b) (sym (append-nil (x ∷ piece))) g;
+          whole = w;
+          ends = inr (refl, some, done);
+          stored = s;
+          less = spends old new (x ∷ piece) g some short;
+        })
 
 pub stop_done : (old now new : Reader) (before so_far after : Slots) (slot : ℕ) (fault : LineFault) → Filling old now before so_far slot
     → Stops now new so_far after fault → Fills old new before after slot (Err fault)

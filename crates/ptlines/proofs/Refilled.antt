@@ -19,7 +19,7 @@ unread_empty r empty = ap (λ (h : List ℕ). prepend_known h r.left) empty ∙ 
 
 pub refilled : (old new : Reader) (was is : SourceState) (into : List ℕ) (n : ℕ) → Gives was is into n → was.left ≡ old.left → old.held ≡ []
     → n ≤ 8192 → new.held ≡ take n into → new.left ≡ is.left → new.pulled ≡ old.pulled + n → new.refused ≡ old.refused → new.ending ≡ old.ending → old.ended
-        ≡ false → (new.ended ≡ true → IsAtEnd new.left) → Reads old new []
+    ≡ false → (new.ended ≡ true → IsAtEnd new.left) → Reads old new []
 refilled old new was is into n gives same empty small held left pulled refused ending going ends = record {
   ending = ending;
   end = λ h. ends;
@@ -100,8 +100,8 @@ module _ (old : Reader) (was is : SourceState) (block held : List ℕ) (p n : �
         record {
           reads = not_filled old (reader_of is (slice_range into' 0 0) p (Some Read) q' end) empty still
               (ap (λ (s : SourceState). s.left) is_failed ∙ ap (λ (r : Reader). r.left) view)
-                  (ap (λ (r : Reader). r.pulled) view) same_refused same_ending going
-                  (λ ended. absurd (false≢true (sym (ap (λ (s : SourceState). s.ended) is_failed ∙ ap (λ (r : Reader). r.ended) view ∙ going) ∙ ended)));
+              (ap (λ (r : Reader). r.pulled) view) same_refused same_ending going
+              (λ ended. absurd (false≢true (sym (ap (λ (s : SourceState). s.ended) is_failed ∙ ap (λ (r : Reader). r.ended) view ∙ going) ∙ ended)));
           whole = tt;
           is = refl;
         },

@@ -46,7 +46,13 @@ module _ {I : Type 0} (decided : (I → Given) → List ℕ) (came : I → Given
   keeps_more is bytes more =
       let now = decided (λ i. (works.before i).earlier) in
       record {
-        works = record { before = works.before; begins = record { rest = works.begins.rest ++ bytes; is = ap (λ (l : List ℕ). l ++ bytes) works.begins.is
-            ∙ append_assoc now works.begins.rest bytes } };
+        works = record {
+          before = works.before;
+          begins = record {
+            rest = works.begins.rest ++ bytes;
+            is = ap (λ (l : List ℕ). l ++ bytes) works.begins.is
+                ∙ append_assoc now works.begins.rest bytes;
+          };
+        };
         sends = sends_on was mid is pushed now wrote clean more.kept works.begins;
       }

@@ -7,8 +7,9 @@ use Rattle.std.proofs.lemmas.Bool.{and_from, eqb-true, cases_Bool, not_from_fals
 use Rattle.std.proofs.lemmas.Slice.Eq.{bytes_eq-Decides}
 use Rattle.ptopts.specs.declared.tool.Tool.{Tool}
 use Rattle.ptlangs.specs.Numbers.{is_empty}
-use Rattle.ptopts.specs.Words.{is_flag, takes_value, is_dashed, is_end_of_options, GivenOption, flag, with_value, AreFlags, Spells, OperandsAlone,
-    EndOfOptions, Flags, ValueAttached, ValueNext, Event, Given, Wanting, Stranger, valued_event, events_in, takes_next, Reading, reading_from, option_in, options}
+use Rattle.ptopts.specs.Words.{is_flag, takes_value, is_dashed, is_end_of_options, GivenOption, flag, with_value, AreFlags, Spells, OperandsAlone, EndOfOptions}
+use Rattle.ptopts.specs.Words.{Flags, ValueAttached, ValueNext, Event, Given, Wanting, Stranger, valued_event, events_in, takes_next, Reading, reading_from}
+use Rattle.ptopts.specs.Words.{option_in, options}
 use Rattle.ptopts.specs.Faults.{Twice, NeedsValue, is_spent, event_fault, reading_fault}
 use Rattle.ptopts.specs.Laws.{ReadAsSpelled, SpelledOneWay, SpelledUnlessFaulty}
 use Rattle.ptopts.proofs.Spelled.{spelled, read_as, events_in-flags, events_in-all_flags, takes_next-flags, takes_next-all_flags}

@@ -1,7 +1,7 @@
 -- What had been decided two blocks earlier of the last operand; and what of it reached the sink.
-use Rattle.std.proofs.Common.{◌≡◌, ℕ, zero, suc, ◌+◌, ◌≤◌, Bool, false, List, [], ◌∷◌, ◌++◌, Option, Some, None, length, take, drop, refl, sym, ◌∙◌, ap, subst, arith, length-append, length-drop, take-append-drop}
+use Rattle.std.proofs.Common.{◌≡◌, ◌≢◌, ⊎_elim, ℕ, zero, suc, ◌+◌, ◌≤◌, Bool, false, List, [], ◌∷◌, ◌++◌, set, Option, Some, None, is_none, length, take, drop, refl, sym, ◌∙◌, ap, subst, arith, length-append, length-drop, take-append-drop}
 use Rattle.std.specs.Io.KnownBytes.{append_known}
-use Rattle.std.proofs.lemmas.List.{append-nil, nil_from_length}
+use Rattle.std.proofs.lemmas.List.{append-nil, get_or-set_other, nil_from_length}
 use Rattle.std.proofs.Math.Seq.{take-append_seam}
 use Rattle.ptlines.specs.Inputs.{Given, Begins, nothing_left}
 use Rattle.ptlines.specs.KeepingUp.{Before, WorksOff, SendsOn}
@@ -10,9 +10,10 @@ use Rattle.ptlines.proofs.Known.{append_known-append}
 use Rattle.ptlines.proofs.Sending.{known_length, keeps_still}
 use Rattle.ptflow.specs.Tools.{Tool}
 use Rattle.ptrun.specs.Operands.{decided_of}
-use Rattle.ptrun.specs.Worlds.{Received}
+use Rattle.ptrun.specs.Worlds.{Received, at, is_unopened}
+use Rattle.ptrun.proofs.Sources.{same_or_other}
 use Rattle.ptrun.specs.Meanings.{Meaning}
-use Rattle.ptrun.specs.KeepingUp.{PassedOn, KeptUp, LastEarlier, EarlierAs, Earlier}
+use Rattle.ptrun.specs.KeepingUp.{PassedOn, KeptUp, LastEarlier, AnyEarlier, EarlierAs, Earlier}
 
 -- all that came
 abbrev pub same_before : (g : Given) → Before g
@@ -41,12 +42,44 @@ last_earlier t came g b P holds done last is =
     subst (λ (l : List Given). (c : Before last) × P (decided_of t (l ++ c.earlier ∷ []))) same.0
     (subst (λ (h : Given). (c : Before h) × P (decided_of t (came ++ c.earlier ∷ []))) same.1 (b, holds))
 
+-- ---- what had come of one input less
+
+pub at_set : (r : Received) (p : ℕ) (g e : Given) → at r p ≡ Some g → at (set r p (Some e)) p ≡ Some e
+at_set [] p g e is = cc
+at_set (o ∷ r) zero g e is = refl
+at_set (o ∷ r) (suc p) g e is = at_set r p g e is
+
+-- the same inputs were opened
+pub opened_set : (r : Received) (p : ℕ) (g e : Given) → at r p ≡ Some g → (q : ℕ) → is_unopened (set r p (Some e)) q ≡ is_unopened r q
+opened_set r p g e is q = ⊎_elim same other (same_or_other p q)
+  where
+    same : p ≡ q → is_unopened (set r p (Some e)) q ≡ is_unopened r q
+    same is_q = subst (λ (n : ℕ). is_unopened (set r p (Some e)) n ≡ is_unopened r n) is_q (ap (λ (o : Option Given). is_none o) (at_set r p g e is) ∙ sym (ap (λ (o : Option Given). is_none o) is))
+
+    other : p ≢ q → is_unopened (set r p (Some e)) q ≡ is_unopened r q
+    other differs = ap (λ (o : Option Given). is_none o) (get_or-set_other r p q (Some e) None (λ is_p. differs (sym is_p)))
+
+-- where nothing is decided, that was written
+pub nothing_decided : (places : List ℕ) (decided : Received → List ℕ) (r : Received) (failed : Bool) → ((s : Received) → ((q : ℕ) → is_unopened s q ≡ is_unopened r q) → decided s ≡ [])
+    → AnyEarlier places decided r (λ bytes. KeptUp bytes [] failed)
+nothing_decided places decided r failed none place came named is = (
+  same_before came,
+  record {
+    front = [];
+    lost = [];
+    split = none (set r place (Some came)) (opened_set r place came came is);
+    begins = record { rest = []; is = refl };
+    few = omega arith;
+    none = λ _. refl;
+  },
+)
+
 -- what follows from each
 pub earlier_map : (m : Meaning) (r : Received) (n : ℕ) (P Q : List ℕ → Type 0) → ((bytes : List ℕ) → P bytes → Q bytes) → Earlier m r n P → Earlier m r n Q
 earlier_map m r n P Q follows = by_kind m.in_turn
   where
     by_kind : (kind : Option Tool) → EarlierAs m r n P kind → EarlierAs m r n Q kind
-    by_kind None k = tt
+    by_kind None k = λ place came named is. let b = k place came named is in (b.0, follows (m.decided (set r place (Some (b.0.earlier)))) b.1)
     by_kind (Some t) k = λ done last is. let b = k done last is in (b.0, follows (decided_of t (done ++ b.0.earlier ∷ [])) b.1)
 
 -- what was pushed while no write had failed was sent on

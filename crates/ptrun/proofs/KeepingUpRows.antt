@@ -1,12 +1,14 @@
--- Runs that do not keep up: the first operand was done, and of the second nothing came.
+-- Runs that do not keep up. Of two operands in turn the first was done, and nothing came of the second; or much came of one.
 use Rattle.std.proofs.Common.{◌≡◌, ℕ, ◌+◌, ◌<◌, ◌≤◌, Bool, true, false, List, [], ◌∷◌, ◌++◌, Some, ap, arith, codes, length, refl, length-append}
-use Rattle.std.specs.Prelude.{flat_map, unwrap_or}
+use Rattle.std.specs.Prelude.{flat_map, unwrap_or, replicate}
+use Rattle.std.proofs.lemmas.List.{length-replicate}
 use Rattle.ptlines.specs.Inputs.{Given}
 use Rattle.ptflow.specs.Tools.{Tool}
 use Rattle.ptopts.proofs.RowWords.{words}
 use Rattle.ptrun.specs.Worlds.{Received}
 use Rattle.ptrun.specs.Operands.{up_to_open}
 use Rattle.ptrun.specs.KeepingUp.{KeptUp, LastEarlier, Earlier}
+use Rattle.ptrun.specs.Together.{of_one, together}
 use Rattle.ptrun.specs.Asked.{asked}
 
 abbrev whole : List ℕ → Given
@@ -47,3 +49,23 @@ nothing_of_a_small_file k =
 more_than_a_block_is_lost : (t : Tool) (bytes written : List ℕ) → length written + 8192 < length (t.decided (whole bytes))
     → LastEarlier t (whole bytes ∷ nothing ∷ []) (λ decided. KeptUp decided written true) → ⊥
 more_than_a_block_is_lost t bytes written much k = omega (arith, (written_of_the_first t bytes written true k).0, much)
+
+abbrev copier : Tool
+copier = record { text = λ text. text; decided = λ given. given.bytes; size = λ text. 0; slots = 0 }
+
+-- Nothing was written of 20,000 bytes of the one input that a tool takes, each of which is decided once it came.
+nothing_of_one_input : Earlier (together [] (of_one copier) [] (0 ∷ [])) (Some (record { bytes = replicate 20000 120; ended = false }) ∷ []) 0 (λ decided. KeptUp decided [] false) → ⊥
+nothing_of_one_input k =
+    let kept = k 0 (record { bytes = replicate 20000 120; ended = false }) refl refl in
+    omega (
+      arith,
+      kept.0.short,
+      ap length kept.0.split,
+      length-append kept.0.earlier.bytes kept.0.last,
+      length-replicate {A = ℕ} 20000 120,
+      ap length kept.1.split,
+      length-append kept.1.front kept.1.lost,
+      ap length (kept.1.none refl),
+      ap length kept.1.begins.is,
+      length-append kept.1.front kept.1.begins.rest,
+    )

@@ -1,10 +1,10 @@
 -- A whole run does not run ahead of its output, however it ends.
-use Rattle.std.specs.Prelude.{◌≡◌, ◌≤◌, ℕ, ◌+◌, Bool, false, List, [], ◌∷◌, ◌++◌, Option, Some, None, length, take}
+use Rattle.std.specs.Prelude.{◌≡◌, ◌≤◌, ℕ, ◌+◌, Bool, true, false, List, [], ◌∷◌, ◌++◌, Option, Some, None, length, take, set}
 use Rattle.ptlines.specs.Inputs.{Given, Begins, nothing_left}
 use Rattle.ptlines.specs.KeepingUp.{Before, SendsOn}
 use Rattle.ptlines.specs.Outputs.{Output}
 use Rattle.ptflow.specs.Tools.{Tool}
-use Rattle.ptrun.specs.Worlds.{Received, sources}
+use Rattle.ptrun.specs.Worlds.{Received, at, is_in, sources}
 use Rattle.ptrun.specs.Meanings.{Meaning}
 use Rattle.ptrun.specs.Operands.{decided_of}
 
@@ -31,10 +31,15 @@ abbrev pub LastEarlier : Tool → List Given → (List ℕ → Type 0) → Type 
 LastEarlier t came P = (done : List Given) (last : Given) → came ≡ done ++ last ∷ []
     → (before : Before last) × P (decided_of t (done ++ before.earlier ∷ []))
 
--- P holds of what had been decided two blocks earlier, or less, of the input that stopped it.
+-- P holds of what had been decided two blocks earlier, or less, of the input at any of these places, whatever came of the others.
+abbrev pub AnyEarlier : List ℕ → (Received → List ℕ) → Received → (List ℕ → Type 0) → Type 0
+AnyEarlier places decided r P = (place : ℕ) (came : Given) → is_in places place ≡ true → at r place ≡ Some came
+    → (before : Before came) × P (decided (set r place (Some before.earlier)))
+
+-- P holds of what had been decided two blocks earlier, or less, of the last operand; or of any, where they are taken together.
 abbrev pub EarlierAs : Meaning → Received → ℕ → (List ℕ → Type 0) → Option Tool → Type 0
 EarlierAs m r n P (Some t) = LastEarlier t (begun_of r m.places n) P
-EarlierAs m r n P None = Unit {0}
+EarlierAs m r n P None = AnyEarlier m.places m.decided r P
 
 abbrev pub Earlier : Meaning → Received → ℕ → (List ℕ → Type 0) → Type 0
 Earlier m r n P = EarlierAs m r n P m.in_turn

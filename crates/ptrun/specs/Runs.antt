@@ -102,7 +102,7 @@ pub record IsRun (m : Meaning) (old new : List Reader) (before : Sinks) (o : Out
   -- a read that failed is told, and nothing decided is kept back
   pub told : (place : ℕ) → HasFailed old new place → o.out.failed ≡ false → fault ≡ Some (Read place)
   pub sure : (place : ℕ) → HasFailed old new place → o.out.failed ≡ false → Begins (m.decided received) written
-  -- nor is it, whatever failed, by a tool that goes over its operands in turn: but for the last two blocks of the last one
+  -- nor is it, whatever failed, but for what came of an input in the last two blocks
   pub keeps_up : Earlier m received behind (λ decided. KeptUp decided written o.out.failed)
   pub bounded : (w : World) → Allows received w → o.peak ≤ m.bound w
 

@@ -21,4 +21,4 @@ returns c =
     let is_mask = bitmask_splat w8 eqb (chunk at 64 bytes) 64 c.args.byte (length-chunk at 64 bytes c.requires) (omega arith) in
     let some : mask_l (map test (chunk at 64 bytes)) ≡ 0 → ⊥ = λ none. c.if-marked-eq0.false (is_mask ∙ none) in
     subst (λ (m : ℕ). NoneBefore (Passes test bytes) at (at + 64) (at + count_trailing_zeros 64 m) × Passes test bytes (at + count_trailing_zeros 64 m))
-        (sym is_mask) (first_marked_at test bytes at 64 (omega arith) c.requires (omega (arith, some)))
+    (sym is_mask) (first_marked_at test bytes at 64 (omega arith) c.requires (omega (arith, some)))

@@ -35,7 +35,7 @@ loop-piece-preserved c =
 pub returns-clause-places : goal.returns-clause-places
 returns-clause-places c =
     let end = walk_end (pieces_of c.args.place c.args.text.now) (pieces_left c.loop-piece.piece-iterator)
-        (HasPlaces c.args.fill c.loop-piece.places) c.loop-piece.invariant c.in-None.ensures.steps.0 in
+    (HasPlaces c.args.fill c.loop-piece.places) c.loop-piece.invariant c.in-None.ensures.steps.0 in
     rw (end, c.loop-piece.invariant.holds.places_is) refl
 
 pub returns-clause-bound : goal.returns-clause-bound
