@@ -1,6 +1,6 @@
 -- What `cut` by fields writes of a line, by whether the delimiter is in it; and that it is a tool that works line by
 -- line. It carries nothing, so what is written of some lines and of others is what is written of both.
-use Rattle.std.proofs.Common.{◌≡◌, ℕ, ◌==◌, true, false, cond, arith, List, [], ◌∷◌, ◌++◌, refl, sym, ◌∙◌, ap, Option, None, Some, subst}
+use Rattle.std.proofs.Common.{◌≡◌, ℕ, ◌==◌, true, false, cond, arith, List, [], ◌∷◌, ◌++◌, refl, sym, ◌∙◌, ap, Option, None, Some}
 use Rattle.std.specs.Option.{is_some}
 use Rattle.std.specs.List.{flat_map, list_any}
 use Rattle.std.proofs.lemmas.List.Folds.{list_any_at}
@@ -51,7 +51,8 @@ module _ (job : Cut) where
   cut_sure : (ls : List (List ℕ)) (pushed : List ℕ) → cut_lines job (ls ++ []) ≡ pushed ++ cut_lines job [] → Begins (cut_lines job ls) pushed
   cut_sure ls pushed on = record { rest = []; is = sym (append-nil pushed) ∙ sym on ∙ ap (cut_lines job) (append-nil ls) ∙ sym (append-nil (cut_lines job ls)) }
 
-  pub cut_line_tool : {S : Type 0} (start : S) → job.fields ≡ true → IsLineTool {S = S} {X = Unit {0}} {E = ℕ} (cut_tool job) (λ room store. tt) (cut_from job) (λ bytes. bytes) (λ u. 1) job.end 1 start
+  pub cut_line_tool : {S : Type 0} (start : S) → job.fields ≡ true
+      → IsLineTool {S = S} {X = Unit {0}} {E = ℕ} (cut_tool job) (λ room store. tt) (cut_from job) (λ bytes. bytes) (λ u. 1) job.end 1 start
   cut_line_tool start by_fields = record {
     apart = λ xs ys. refl;
     stays = λ now store bytes room. refl;

@@ -1,14 +1,14 @@
 -- A tool that works line by line, whatever it carries. What was passed on of the lines that came, and what is made of the
 -- lines to come, is the whole, whatever comes; so midway it is what PassLemmas asks for.
-use Rattle.std.proofs.Common.{◌≡◌, ℕ, ◌+◌, ◌-◌, ◌*◌, ◌<◌, ◌≤◌, ◌^◌, true, false, List, [], ◌∷◌, ◌++◌, None, Ok, Err, length, take, drop, max, refl, sym, ◌∙◌, ap, subst, arith, append_assoc, length-append}
+use Rattle.std.proofs.Common.{◌≡◌, ℕ, ◌+◌, ◌-◌, ◌*◌, ◌≤◌, ◌^◌, true, false, List, [], ◌∷◌, ◌++◌, Ok, Err, length, drop, max, refl, sym, ◌∙◌, ap, subst, arith, append_assoc, length-append}
 use Rattle.std.proofs.Math.Nat.{mul-le-mul_left}
 use Rattle.std.proofs.lemmas.Bool.{false≢true}
-use Rattle.std.proofs.lemmas.List.{append-nil, nil_from_length, get_or-set_same}
+use Rattle.std.proofs.lemmas.List.{nil_from_length, get_or-set_same}
 use Rattle.ptlines.specs.Text.{text, lines, ended_lines, IsLine, longest, longest_line}
 use Rattle.ptlines.specs.Inputs.{Given, whole_lines, Begins, Agrees}
 use Rattle.ptlines.specs.Outputs.{Output, Wrote}
 use Rattle.ptlines.specs.Readers.{Reader, Reads, Goes, IsDone, IsSound, HasReadCause}
-use Rattle.ptlines.specs.Slots.{Slots, line, total, with_line, with_denied}
+use Rattle.ptlines.specs.Slots.{Slots, line, with_line, with_denied}
 use Rattle.ptlines.specs.Fills.{GivesLine}
 use Rattle.ptlines.proofs.Filling.{goes_trans}
 use Rattle.ptlines.proofs.Pushed.{wrote_trans}
@@ -39,11 +39,22 @@ pub record LineRun {S X E : Type 0} (state : S → Slots → X) (rest_from : X �
 
 module _ {S X E : Type 0} {tool : Tool} {state : S → Slots → X} {rest_from : X → List (List ℕ) → List E} {written : List E → List ℕ} {counted : X → ℕ} {end width : ℕ} {start : S}
     (t : IsLineTool tool state rest_from written counted end width start) where
+  -- midway
+  abbrev Run : Reader → Reader → Output → Output → Slots → Slots → X → Type 0
+  Run old reader was is before store now = LineRun state rest_from written counted end width start now old reader was is before store
+
+  -- some lines more
+  abbrev On : X → X → List (List ℕ) → Output → Output → Type 0
+  On = LinesOn rest_from written counted
+
+  abbrev Halt : X → List (List ℕ) → Output → Output → Type 0
+  Halt = LinesHalt rest_from written
+
   none_written : written [] ≡ []
   none_written = nil_from_length (written []) (omega (arith, ap length (t.apart [] []), length-append (written []) (written [])))
 
   module _ {old : Reader} {was : Output} {before : Slots} where
-    pub run_starts : {store : Slots} → old.ending ≡ end → IsReady old before → was.faulted ≡ false → Keeps width 0 before store → LineRun state rest_from written counted end width start (state start store) old old was was before store
+    pub run_starts : {store : Slots} → old.ending ≡ end → IsReady old before → was.faulted ≡ false → Keeps width 0 before store → Run old old was was before store (state start store)
     run_starts {store} ends ready clean keeps = record {
       given = [];
       ls = [];
@@ -58,14 +69,16 @@ module _ {S X E : Type 0} {tool : Tool} {state : S → Slots → X} {rest_from :
     }
 
     -- the slots were refused
-    pub run_unslotted : {store : Slots} → IsReady old before → IsSound old → was.faulted ≡ false → Adds before store width → store.peak ≡ before.peak → store.denied ≡ true → IsPass tool old old was was before store (Err Memory)
+    pub run_unslotted : {store : Slots} → IsReady old before → IsSound old → was.faulted ≡ false → Adds before store width → store.peak ≡ before.peak → store.denied ≡ true
+        → IsPass tool old old was was before store (Err Memory)
     run_unslotted {store} ready sound clean adds same denied =
+        let nothing : Given = record { bytes = []; ended = false } in
         pass_unslotted tool old was before store ready sound clean (subst (λ (n : ℕ). Adds before store n) (sym t.slots) adds) same denied (omega (arith, t.slots, t.some))
-        (subst (λ (b : List ℕ). Begins (tool.decided (record { bytes = []; ended = false })) b) none_written (t.decided store (record { bytes = []; ended = false }) [] (state start store) (λ more. refl)))
+        (subst (λ (b : List ℕ). Begins (tool.decided nothing) b) none_written (t.decided store nothing [] (state start store) (λ more. refl)))
 
-    module _ {now : X} {reader : Reader} {is : Output} {store : Slots} (r : LineRun state rest_from written counted end width start now old reader was is before store) where
+    module _ {now : X} {reader : Reader} {is : Output} {store : Slots} (r : Run old reader was is before store now) where
       -- what was staged was sent
-      pub run_sent : {is' : Output} → Wrote is is' [] → is'.faulted ≡ false → LineRun state rest_from written counted end width start now old reader was is' before store
+      pub run_sent : {is' : Output} → Wrote is is' [] → is'.faulted ≡ false → Run old reader was is' before store now
       run_sent {is'} wrote clean = record {
         given = r.given;
         ls = r.ls;
@@ -87,8 +100,9 @@ module _ {S X E : Type 0} {tool : Tool} {state : S → Slots → X} {rest_from :
       run_count sound is_sound = omega (arith, r.count, lines_few end reader r.given r.ls r.came, r.reached.goes.reads.count, sound.count, is_sound.long r.reached.goes.fault, is_sound.count)
 
       -- some lines more came
-      run_more : {new : Reader} (bytes : List ℕ) (ls : List (List ℕ)) → Goes reader new bytes → LinesCame end new (r.given ++ bytes) (r.ls ++ ls) → {after : Slots} → Keeps width (max (longest r.ls) (longest ls)) before after
-          → {next : X} {is' : Output} → LinesOn rest_from written counted now next ls is is' → LineRun state rest_from written counted end width start next old new was is' before after
+      run_more : {new : Reader} (bytes : List ℕ) (ls : List (List ℕ)) → Goes reader new bytes → LinesCame end new (r.given ++ bytes) (r.ls ++ ls)
+          → {after : Slots} → Keeps width (max (longest r.ls) (longest ls)) before after
+          → {next : X} {is' : Output} → On now next ls is is' → Run old new was is' before after next
       run_more {new} bytes ls goes came {after} keeps {next} {is'} c = record {
         given = r.given ++ bytes;
         ls = r.ls ++ ls;
@@ -109,13 +123,15 @@ module _ {S X E : Type 0} {tool : Tool} {state : S → Slots → X} {rest_from :
       }
 
       -- the lines of a block came, and were consumed
-      pub run_block : {ending : ℕ} → ending ≡ old.ending → {shown new : Reader} {block : List ℕ} {count : ℕ} → Goes reader shown [] → shown.held ≡ block → PassesLines ending block count → new ≡ record shown { held = drop count shown.held }
-          → {next : X} {is' : Output} → LinesOn rest_from written counted now next (ended_lines ending block) is is' → LineRun state rest_from written counted end width start next old new was is' before store
+      pub run_block : {ending : ℕ} → ending ≡ old.ending → {shown new : Reader} {block : List ℕ} {count : ℕ} → Goes reader shown [] → shown.held ≡ block
+          → PassesLines ending block count → new ≡ record shown { held = drop count shown.held }
+          → {next : X} {is' : Output} → On now next (ended_lines ending block) is is' → Run old new was is' before store next
       run_block {ending} ends {shown} {new} {block} {count} goes held passed consumed {next} {is'} c =
           let ls = ended_lines end block in
-          let front = subst (λ (b : List ℕ). Goes reader new b) (passed.1 ∙ ap (λ (b : ℕ). text b (ended_lines b block)) (ends ∙ r.ending)) (goes_past reader shown new block count goes held passed.0 consumed) in
+          let same = ends ∙ r.ending in
+          let front = subst (λ (b : List ℕ). Goes reader new b) (passed.1 ∙ ap (λ (b : ℕ). text b (ended_lines b block)) same) (goes_past reader shown new block count goes held passed.0 consumed) in
           run_more (text end ls) ls front (lines_block end reader r.given r.ls r.came new ls front (parts_of end block).whole)
-          (keeps_more width (longest r.ls) (max (longest r.ls) (longest ls)) before store r.keeps (omega arith)) (subst (λ (b : ℕ). LinesOn rest_from written counted now next (ended_lines b block) is is') (ends ∙ r.ending) c)
+          (keeps_more width (longest r.ls) (max (longest r.ls) (longest ls)) before store r.keeps (omega arith)) (subst (λ (b : ℕ). On now next (ended_lines b block) is is') same c)
 
       -- ---- how it ends
 
@@ -137,7 +153,8 @@ module _ {S X E : Type 0} {tool : Tool} {state : S → Slots → X} {rest_from :
       decided_so given are = t.decided r.first given r.passed now (λ more. ap (λ (l : List (List ℕ)). rest_from (state start r.first) (l ++ more)) are ∙ r.on more)
 
       -- and behind them no more than a line and a block came
-      works_line : (new : Reader) (piece : List ℕ) → Reads reader new piece → (line behind : List ℕ) → piece ++ new.held ≡ line ++ behind → IsLine end line → length behind ≤ 8193 → Works tool (given_of (r.given ++ piece) new) (written r.passed)
+      works_line : (new : Reader) (piece : List ℕ) → Reads reader new piece → (line behind : List ℕ) → piece ++ new.held ≡ line ++ behind → IsLine end line
+          → length behind ≤ 8193 → Works tool (given_of (r.given ++ piece) new) (written r.passed)
       works_line new piece reads line behind is_line whole short =
           let e = before_line end reader new r.given r.ls r.came piece reads line behind is_line whole short in
           record { before = λ u. e.before; begins = decided_so e.before.earlier e.whole }
@@ -146,7 +163,8 @@ module _ {S X E : Type 0} {tool : Tool} {state : S → Slots → X} {rest_from :
       works_piece new piece reads free is_sound = works_line new piece reads piece new.held refl free (omega (arith, is_sound.held))
 
       -- the slots hold no more than the longest line of each input that agrees
-      stored : (after : Slots) (most : ℕ) (given : Given) → after.peak ≤ max before.peak (width * most) → Adds before after width → width ≤ length after.lines → ((input : List ℕ) → Agrees given input → most ≤ longest_line end input) → Stored tool before after given
+      stored : (after : Slots) (most : ℕ) (given : Given) → after.peak ≤ max before.peak (width * most) → Adds before after width → width ≤ length after.lines
+          → ((input : List ℕ) → Agrees given input → most ≤ longest_line end input) → Stored tool before after given
       stored after most given peak adds room short = record {
         peak = λ input a. omega (arith, t.size input, peak, mul-le-mul_left width (short input a));
         adds = subst (λ (n : ℕ). Adds before after n) (sym t.slots) adds;
@@ -188,7 +206,8 @@ module _ {S X E : Type 0} {tool : Tool} {state : S → Slots → X} {rest_from :
               let size : length after.lines ≡ length (with_line store (width - 1) piece).lines = ap (λ (s : Slots). length s.lines) told in
               pass_memory bytes_from (state start r.first) tool (t.text r.first) now old reader new was is before after midway ready sound piece reads
               (stored after (max (longest r.ls) (length piece)) (given_of (r.given ++ piece) new) (omega (arith, k.peak, ap (λ (s : Slots). s.peak) told))
-              (record { least = omega (arith, size, k.adds.least); most = omega (arith, size, k.adds.most); all = λ allowed. absurd (false≢true (sym allowed ∙ denied)) }) (omega (arith, size, k.adds.all k.denied)) short_piece)
+              (record { least = omega (arith, size, k.adds.least); most = omega (arith, size, k.adds.most); all = λ allowed. absurd (false≢true (sym allowed ∙ denied)) })
+              (omega (arith, size, k.adds.all k.denied)) short_piece)
               (works_piece new piece reads free is_sound) same denied
 
         -- a block could not be read
@@ -196,11 +215,15 @@ module _ {S X E : Type 0} {tool : Tool} {state : S → Slots → X} {rest_from :
         run_no_block reads is_sound = run_read reads tt is_sound (keeps_more width (longest r.ls) (max (longest r.ls) 0) before store r.keeps (omega arith))
 
         -- a write failed amid some lines, which stand in front of what comes next
-        halts : {new : Reader} (piece : List ℕ) → Reads reader new piece → {after : Slots} → Stored tool before after (given_of (r.given ++ piece) new) → Works tool (given_of (r.given ++ piece) new) (written r.passed) → new.failed ≡ reader.failed → after.denied ≡ false
-            → {ls : List (List ℕ)} {is' : Output} → LinesHalt rest_from written now ls is is' → ((rest : List ℕ) → (new.ended ≡ true → rest ≡ []) → (more : List (List ℕ)) × (lines end (piece ++ (new.held ++ rest)) ≡ ls ++ more)) → IsPass tool old new was is' before after (Err Write)
+        halts : {new : Reader} (piece : List ℕ) → Reads reader new piece → {after : Slots} → Stored tool before after (given_of (r.given ++ piece) new)
+            → Works tool (given_of (r.given ++ piece) new) (written r.passed) → new.failed ≡ reader.failed → after.denied ≡ false
+            → {ls : List (List ℕ)} {is' : Output} → Halt now ls is is'
+            → ((rest : List ℕ) → (new.ended ≡ true → rest ≡ []) → (more : List (List ℕ)) × (lines end (piece ++ (new.held ++ rest)) ≡ ls ++ more))
+            → IsPass tool old new was is' before after (Err Write)
         unfolding midway
         halts {new} piece reads {after} s works same roomy {ls} {is'} h front =
-            pass_write bytes_from (state start r.first) tool (t.text r.first) now old reader new was is before after midway ready sound piece reads s works is' (written h.passed) h.wrote h.fault same roomy
+            pass_write bytes_from (state start r.first) tool (t.text r.first) now old reader new was is before after midway ready sound piece reads
+            s works is' (written h.passed) h.wrote h.fault same roomy
             (λ rest may.
             let f = front rest may in
             let on = h.true_so_far f.0 in record {
@@ -209,21 +232,28 @@ module _ {S X E : Type 0} {tool : Tool} {state : S → Slots → X} {rest_from :
             })
 
         -- the lines of a block
-        pub run_block_halts : {ending : ℕ} → ending ≡ old.ending → {shown : Reader} {block : List ℕ} → IsSound shown → Goes reader shown [] → shown.held ≡ block → {is' : Output} → LinesHalt rest_from written now (ended_lines ending block) is is' → IsPass tool old shown was is' before store (Err Write)
+        pub run_block_halts : {ending : ℕ} → ending ≡ old.ending → {shown : Reader} {block : List ℕ} → IsSound shown → Goes reader shown [] → shown.held ≡ block
+            → {is' : Output} → Halt now (ended_lines ending block) is is' → IsPass tool old shown was is' before store (Err Write)
         run_block_halts {ending} ends {shown} {block} is_sound goes held {is'} h =
-            halts [] goes.reads (kept store (max (longest r.ls) 0) (given_of (r.given ++ []) shown) (keeps_more width (longest r.ls) (max (longest r.ls) 0) before store r.keeps (omega arith)) (short_piece goes.reads tt is_sound))
-            (works_piece shown [] goes.reads tt is_sound) goes.failed r.keeps.denied (subst (λ (b : ℕ). LinesHalt rest_from written now (ended_lines b block) is is') (ends ∙ r.ending) h)
+            halts [] goes.reads (kept store (max (longest r.ls) 0) (given_of (r.given ++ []) shown) (keeps_more width (longest r.ls) (max (longest r.ls) 0) before store r.keeps (omega arith))
+            (short_piece goes.reads tt is_sound))
+            (works_piece shown [] goes.reads tt is_sound) goes.failed r.keeps.denied (subst (λ (b : ℕ). Halt now (ended_lines b block) is is') (ends ∙ r.ending) h)
             (λ rest may. (lines end ((parts_of end block).piece ++ rest), ap (λ (l : List ℕ). lines end (l ++ rest)) held ∙ ended_front end block rest))
 
         -- what was staged could not be sent
         pub run_unsent : {is' : Output} → Wrote is is' [] → is'.faulted ≡ true → IsPass tool old reader was is' before store (Err Write)
         run_unsent {is'} wrote fault =
             run_block_halts refl sound (goes_nothing reader r.reached.goes.fault) refl
-            (record { passed = []; wrote = subst (λ (b : List ℕ). Wrote is is' b) (sym none_written) wrote; fault = fault; true_so_far = λ more. (rest_from now (ended_lines old.ending reader.held ++ more), refl) })
+            (record {
+              passed = [];
+              wrote = subst (λ (b : List ℕ). Wrote is is' b) (sym none_written) wrote;
+              fault = fault;
+              true_so_far = λ more. (rest_from now (ended_lines old.ending reader.held ++ more), refl);
+            })
 
     -- ---- by way of the last slot
 
-    module _ {now : S} {reader : Reader} {is : Output} {store : Slots} (r : LineRun state rest_from written counted end width start (state now store) old reader was is before store) where
+    module _ {now : S} {reader : Reader} {is : Output} {store : Slots} (r : Run old reader was is before store (state now store)) where
       -- the slot has these bytes, and the state is as it was
       filled : {after : Slots} (bytes : List ℕ) → after ≡ with_line store (width - 1) bytes → line after (width - 1) ≡ bytes
       filled bytes told = ap (λ (s : Slots). line s (width - 1)) told ∙ get_or-set_same store.lines (width - 1) bytes [] (omega (arith, run_room r, t.some))
@@ -237,33 +267,37 @@ module _ {S X E : Type 0} {tool : Tool} {state : S → Slots → X} {rest_from :
 
       module _ {new : Reader} {after : Slots} (e : GivesLine reader new store after (width - 1)) where
         -- a line more came
-        pub run_line : {next : X} {is' : Output} {after' : Slots} → LinesOn rest_from written counted (state now after) next (line after (width - 1) ∷ []) is is' → IsSwapped width after after' → LineRun state rest_from written counted end width start next old new was is' before after'
+        pub run_line : {next : X} {is' : Output} {after' : Slots} → On (state now after) next (line after (width - 1) ∷ []) is is' → IsSwapped width after after'
+            → Run old new was is' before after' next
         run_line {next} {is'} {after'} c swapped =
             let most = max (longest r.ls) (longest (e.line ∷ [])) in
             run_more r (e.line ++ e.ending) (e.line ∷ []) e.goes (lines_more end reader r.given r.ls r.came new store after (width - 1) e (r.reached.goes.reads.ending ∙ r.ending))
             (keeps_swapped width most before after after' t.some (keeps_more width (max (longest r.ls) (length e.line)) most before after (keeps_last r after e.line e.stored) (omega arith)) swapped)
-            (subst (λ (x : X). LinesOn rest_from written counted x next (e.line ∷ []) is is') (same_state e.line e.stored) (subst (λ (l : List ℕ). LinesOn rest_from written counted (state now after) next (l ∷ []) is is') (filled e.line e.stored) c))
+            (subst (λ (x : X). On x next (e.line ∷ []) is is') (same_state e.line e.stored) (subst (λ (l : List ℕ). On (state now after) next (l ∷ []) is is') (filled e.line e.stored) c))
 
         -- a write failed
-        pub run_line_halts : IsReady old before → IsSound reader → IsSound new → {is' : Output} → LinesHalt rest_from written (state now after) (line after (width - 1) ∷ []) is is' → IsPass tool old new was is' before after (Err Write)
+        pub run_line_halts : IsReady old before → IsSound reader → IsSound new → {is' : Output} → Halt (state now after) (line after (width - 1) ∷ []) is is'
+            → IsPass tool old new was is' before after (Err Write)
         run_line_halts ready sound is_sound {is'} h =
             let came = e.line ++ e.ending in
-            let more = lines_more end reader r.given r.ls r.came new store after (width - 1) e (r.reached.goes.reads.ending ∙ r.ending) in
+            let ends = r.reached.goes.reads.ending ∙ r.ending in
+            let more = lines_more end reader r.given r.ls r.came new store after (width - 1) e ends in
             let k = keeps_last r after e.line e.stored in
             halts r ready sound came e.goes.reads (kept r after (longest (r.ls ++ e.line ∷ [])) (given_of (r.given ++ came) new)
-            (keeps_more width (max (longest r.ls) (length e.line)) (longest (r.ls ++ e.line ∷ [])) before after k (omega (arith, longest-append r.ls (e.line ∷ [])))) (came_longest end new (r.given ++ came) (r.ls ++ e.line ∷ []) more))
-            (works_line r new came e.goes.reads e.line (e.ending ++ new.held) (append_assoc e.line e.ending new.held) (subst (λ (b : ℕ). IsLine b e.line) (r.reached.goes.reads.ending ∙ r.ending) e.whole) (behind_line reader new store after (width - 1) e is_sound)) e.goes.failed k.denied
-            (subst (λ (x : X). LinesHalt rest_from written x (e.line ∷ []) is is') (same_state e.line e.stored) (subst (λ (l : List ℕ). LinesHalt rest_from written (state now after) (l ∷ []) is is') (filled e.line e.stored) h))
-            (λ rest may. (lines end (new.held ++ rest), line_front end reader r.given r.ls r.came new store after (width - 1) e (r.reached.goes.reads.ending ∙ r.ending) (new.held ++ rest) (λ done. λ i. done.held i ++ may done.ended i)))
+            (keeps_more width (max (longest r.ls) (length e.line)) (longest (r.ls ++ e.line ∷ [])) before after k (omega (arith, longest-append r.ls (e.line ∷ []))))
+            (came_longest end new (r.given ++ came) (r.ls ++ e.line ∷ []) more))
+            (works_line r new came e.goes.reads e.line (e.ending ++ new.held) (append_assoc e.line e.ending new.held) (subst (λ (b : ℕ). IsLine b e.line) ends e.whole)
+            (behind_line reader new store after (width - 1) e is_sound)) e.goes.failed k.denied
+            (subst (λ (x : X). Halt x (e.line ∷ []) is is') (same_state e.line e.stored) (subst (λ (l : List ℕ). Halt (state now after) (l ∷ []) is is') (filled e.line e.stored) h))
+            (λ rest may.
+            (lines end (new.held ++ rest), line_front end reader r.given r.ls r.came new store after (width - 1) e ends (new.held ++ rest) (λ done. λ i. done.held i ++ may done.ended i)))
 
       -- the end was said
-      module _ (ready : IsReady old before) (sound : IsSound reader) {new : Reader} (is_sound : IsSound new) (goes : Goes reader new []) (done : IsDone new) {after : Slots} (told : after ≡ with_line store (width - 1) [])
+      module _ (ready : IsReady old before) (sound : IsSound reader) {new : Reader} (is_sound : IsSound new) (goes : Goes reader new []) (done : IsDone new)
+          {after : Slots} (told : after ≡ with_line store (width - 1) [])
           {is' : Output} (wrote : Wrote is is' (written (rest_from (state now after) []))) where
         last : Wrote is is' (bytes_from r (state now store) [])
         last = subst (λ (x : X). Wrote is is' (written (rest_from x []))) (same_state [] told) wrote
-
-        most : ℕ
-        most = max (longest r.ls) 0
 
         k : Keeps width (max (longest r.ls) 0) before after
         k = keeps_last r after [] told
@@ -273,11 +307,13 @@ module _ {S X E : Type 0} {tool : Tool} {state : S → Slots → X} {rest_from :
         run_done {after'} empties clean =
             let end = emptied width (max (longest r.ls) 0) before after after' k t.some (filled [] told) empties in
             pass_done (bytes_from r) (state start r.first) tool (t.text r.first) (state now store) old reader new was is before after' (midway r) ready sound [] goes.reads
-            (kept r after' (max (longest r.ls) 0) (given_of (r.given ++ []) new) end.0 (short_piece r ready sound goes.reads tt is_sound)) (works_piece r new [] goes.reads tt is_sound) is' last done refl goes.failed end.0.denied clean goes.fault
+            (kept r after' (max (longest r.ls) 0) (given_of (r.given ++ []) new) end.0 (short_piece r ready sound goes.reads tt is_sound)) (works_piece r new [] goes.reads tt is_sound)
+            is' last done refl goes.failed end.0.denied clean goes.fault
             (goes.short (sound.long r.reached.goes.fault)) end.1
 
         pub run_unended : is'.faulted ≡ true → IsPass tool old new was is' before after (Err Write)
         unfolding midway
         run_unended fault =
             pass_unended (bytes_from r) (state start r.first) tool (t.text r.first) (state now store) old reader new was is before after (midway r) ready sound [] goes.reads
-            (kept r after (max (longest r.ls) 0) (given_of (r.given ++ []) new) k (short_piece r ready sound goes.reads tt is_sound)) (works_piece r new [] goes.reads tt is_sound) is' last done refl goes.failed k.denied fault
+            (kept r after (max (longest r.ls) 0) (given_of (r.given ++ []) new) k (short_piece r ready sound goes.reads tt is_sound)) (works_piece r new [] goes.reads tt is_sound)
+            is' last done refl goes.failed k.denied fault

@@ -98,7 +98,8 @@ keeps_swapped width most before store new some k either = ⊎_elim (λ same. sub
     changed : new ≡ record store { lines = swap store.lines 0 (width - 1) } → Keeps width most before new
     changed is =
         let room : width ≤ length store.lines = omega (arith, k.adds.all k.denied) in
-        let same : new.lines ≡ set (set store.lines 0 last) (width - 1) first = ap (λ (s : Slots). s.lines) is ∙ sym (swap_is store.lines 0 (width - 1) [] (omega (arith, room, some)) (omega (arith, room, some))) in
+        let swapped = swap_is store.lines 0 (width - 1) [] (omega (arith, room, some)) (omega (arith, room, some)) in
+        let same : new.lines ≡ set (set store.lines 0 last) (width - 1) first = ap (λ (s : Slots). s.lines) is ∙ sym swapped in
         record {
           denied = ap (λ (s : Slots). s.denied) is ∙ k.denied;
           adds = record {
@@ -112,7 +113,8 @@ keeps_swapped width most before store new some k either = ⊎_elim (λ same. sub
         }
 
 -- the last slot was empty, and the others were emptied
-pub emptied : (width most : ℕ) (before store new : Slots) → Keeps width most before store → 0 < width → get_or store.lines (width - 1) [] ≡ [] → Empties (width - 1) store new → Keeps width most before new × (total new.lines ≡ 0)
+pub emptied : (width most : ℕ) (before store new : Slots) → Keeps width most before store → 0 < width → get_or store.lines (width - 1) [] ≡ []
+    → Empties (width - 1) store new → Keeps width most before new × (total new.lines ≡ 0)
 emptied width most before store new k some last e = (
   record {
     denied = e.denied ∙ k.denied;
@@ -131,5 +133,6 @@ emptied width most before store new k some last e = (
     none : total new.lines ≡ 0
     none =
         let one : width - 1 + 1 ≡ width = omega (arith, some) in
-        let behind = ap total (drop_more store.lines (width - 1) [] (omega (arith, some, k.adds.all k.denied))) ∙ sum_by-cons length (get_or store.lines (width - 1) []) (drop (width - 1 + 1) store.lines) in
+        let more = drop_more store.lines (width - 1) [] (omega (arith, some, k.adds.all k.denied)) in
+        let behind = ap total more ∙ sum_by-cons length (get_or store.lines (width - 1) []) (drop (width - 1 + 1) store.lines) in
         omega (arith, e.left, behind, ap length last, ap (λ n. total (drop n store.lines)) one, k.others)

@@ -1,5 +1,5 @@
 -- The run that is open, with the lines that are taken one by one and block by block.
-use Rattle.std.proofs.Common.{◌≡◌, ℕ, ◌+◌, ◌<◌, ◌&&◌, Bool, true, false, cond, List, [], ◌∷◌, ◌++◌, Option, None, Some, length, take, drop, set, max, refl, sym, ◌∙◌, ap, subst, arith, append_assoc, length-append, take-append-drop}
+use Rattle.std.proofs.Common.{◌≡◌, ℕ, ◌+◌, ◌<◌, ◌&&◌, Bool, true, false, cond, List, [], ◌∷◌, ◌++◌, Option, None, Some, length, take, drop, set, refl, sym, ◌∙◌, ap, subst, arith, append_assoc, length-append, take-append-drop}
 use Rattle.std.specs.Prelude.{nat_lt, swap}
 use Rattle.std.specs.Option.{is_some}
 use Rattle.std.proofs.Math.Seq.{take-append-add}
@@ -51,7 +51,8 @@ first_emptied store after some is = by_lines store.lines refl
         }
 
 -- what was pushed is what is written of the run with this first line
-pub run_wrote : (job : Uniq) (count : ℕ) (bytes first behind : List ℕ) (is is' : Output) → bytes ≡ first → behind ≡ job.end ∷ [] → Wrote is is' (run_text job.show count (bytes ++ behind)) → Wrote is is' (entries job (open_run (run_of first count)))
+pub run_wrote : (job : Uniq) (count : ℕ) (bytes first behind : List ℕ) (is is' : Output) → bytes ≡ first → behind ≡ job.end ∷ []
+    → Wrote is is' (run_text job.show count (bytes ++ behind)) → Wrote is is' (entries job (open_run (run_of first count)))
 run_wrote job count bytes first behind is is' bytes_are behind_is wrote =
     subst (λ (b : List ℕ). Wrote is is' b) ((λ i. run_text job.show count (bytes_are i ++ behind_is i)) ∙ sym (open_is job (run_of first count))) wrote
 
@@ -64,8 +65,9 @@ uniq_line_tool job start none = record {
   fresh = λ store. omega (arith, none);
   text = λ store bytes. ap (λ (n : ℕ). entries job (runs_behind job (run_of (first_line start store) n) (lines job.end bytes))) none;
   decided = λ store given passed now on.
-      subst (λ (rs : List Run). Begins (entries job (all_but_last rs)) (entries job passed))
-      (sym (ap (runs job) (sym (append-nil (whole_lines job.end given))) ∙ ap (λ (n : ℕ). runs_behind job (run_of (first_line start store) n) (whole_lines job.end given ++ [])) (sym none) ∙ on [])) (but_open job passed now);
+      let ls = whole_lines job.end given in
+      let all = ap (runs job) (sym (append-nil ls)) ∙ ap (λ (n : ℕ). runs_behind job (run_of (first_line start store) n) (ls ++ [])) (sym none) ∙ on [] in
+      subst (λ (rs : List Run). Begins (entries job (all_but_last rs)) (entries job passed)) (sym all) (but_open job passed now);
   size = λ bytes. refl;
   slots = refl;
   some = omega arith;

@@ -1,9 +1,10 @@
 -- What was staged is sent before each read, so each answer first passes over that. Behind the line that came by way of the
 -- last slot what is staged is sent again, and the lines of the block follow. Each exit is one of the ends of a pass.
-use Rattle.std.proofs.Common.{◌≡◌, ℕ, ◌∷◌, [], refl, ◌∙◌, subst, arith}
+use Rattle.std.proofs.Common.{ℕ, refl, ◌∙◌, subst, arith}
 use Rattle.std.proofs.lemmas.Result.{err_from_is_err_and}
 use Rattle.ptlines.specs.Text.{IsLine}
-use Rattle.ptflow.proofs.OfPasses.LineLemmas.{run_starts, run_unslotted, run_sent, run_count, run_room, run_unsent, run_line, run_line_halts, run_broken, run_memory, run_no_block, run_done, run_unended, run_block, run_block_halts, filled_count}
+use Rattle.ptflow.proofs.OfPasses.LineLemmas.{run_starts, run_unslotted, run_sent, run_count, run_room, run_unsent, run_line, run_line_halts, filled_count}
+use Rattle.ptflow.proofs.OfPasses.LineLemmas.{run_broken, run_memory, run_no_block, run_done, run_unended, run_block, run_block_halts}
 use Rattle.ptflow.proofs.OfPasses.ReaderFacts.{budget_less}
 use Rattle.ptflow.proofs.OfPasses.SlotFacts.{keeps_starts}
 use Rattle.ptflow.proofs.lines.over_lines.Goals as goal
@@ -11,13 +12,16 @@ use Rattle.ptflow.proofs.lines.over_lines.Goals as goal
 pub returns-in_err-need_slots : goal.returns-in_err-need_slots
 returns-in_err-need_slots g c =
     let x = err_from_is_err_and c.from_residual.result c.from_residual.ensures.1 in
+    let adds = rw c.SLOTS-slots.ensures at c.need_slots.ensures.adds in
     rw (x.1, x.2, c.in_err-need_slots.ensures.err)
-    (run_unslotted c.requires.tool c.requires.ready c.requires.sound c.requires.clean (rw c.SLOTS-slots.ensures at c.need_slots.ensures.adds) c.need_slots.ensures.same_peak c.in_err-need_slots.ensures.denied)
+    (run_unslotted c.requires.tool c.requires.ready c.requires.sound c.requires.clean adds c.need_slots.ensures.same_peak c.in_err-need_slots.ensures.denied)
 
 pub turns-init : goal.turns-init
 turns-init g c =
+    let adds = rw c.SLOTS-slots.ensures at c.need_slots.ensures.adds in
     run_starts c.requires.tool refl c.requires.ready c.requires.clean
-    (keeps_starts g.T.LineTool.SLOTS c.args.store.now c.need_slots.new.store (rw c.SLOTS-slots.ensures at c.need_slots.ensures.adds) c.in_ok-need_slots.ensures.allowed (c.need_slots.ensures.same_total ∙ c.requires.ready.empty) c.need_slots.ensures.same_peak)
+    (keeps_starts g.T.LineTool.SLOTS c.args.store.now c.need_slots.new.store adds c.in_ok-need_slots.ensures.allowed
+    (c.need_slots.ensures.same_total ∙ c.requires.ready.empty) c.need_slots.ensures.same_peak)
 
 pub returns-in_err-send_before_wait : goal.returns-in_err-send_before_wait
 returns-in_err-send_before_wait g c =
@@ -106,7 +110,8 @@ returns-in_err-passed-in-Ok g c =
     let u = run_sent c.requires.tool v c.send_before_wait-in-turns.ensures.wrote c.in_ok-send_before_wait-2.ensures.clean in
     let shows = (rw c.in-Ok.is at c.block.follows.holds-at-none.shows) u.reached.goes.fault in
     let x = err_from_is_err_and c.from_residual-in_err-passed-in-Ok.result c.from_residual-in_err-passed-in-Ok.ensures.1 in
-    rw (x.1, x.2) (run_block_halts c.requires.tool u c.requires.ready c.fill.ensures.is_sound c.ending-ending.ensures c.block.follows.holds-at-none.is_sound shows.0 shows.1 c.in_err-passed-in-Ok.ensures.halts)
+    rw (x.1, x.2)
+    (run_block_halts c.requires.tool u c.requires.ready c.fill.ensures.is_sound c.ending-ending.ensures c.block.follows.holds-at-none.is_sound shows.0 shows.1 c.in_err-passed-in-Ok.ensures.halts)
 
 pub returns-in-Err : goal.returns-in-Err
 returns-in-Err g c =

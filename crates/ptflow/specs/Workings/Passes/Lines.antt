@@ -1,5 +1,5 @@
 -- Tools that work line by line. X is what such a tool carries from line to line, and E what it makes of lines.
-use Rattle.std.specs.Prelude.{◌≡◌, ◌⊎◌, ◌+◌, ◌-◌, ◌*◌, ◌<◌, ◌≤◌, ◌^◌, ℕ, List, [], ◌++◌, true, false, length, take, drop, max, swap}
+use Rattle.std.specs.Prelude.{◌≡◌, ◌⊎◌, ◌+◌, ◌-◌, ◌*◌, ◌<◌, ◌≤◌, ◌^◌, ℕ, List, ◌++◌, true, false, length, take, drop, max, swap}
 use Rattle.ptlines.specs.Inputs.{Given, Begins, whole_lines}
 use Rattle.ptlines.specs.Outputs.{Output, Wrote}
 use Rattle.ptlines.specs.Slots.{Slots, total, with_line}
@@ -44,7 +44,8 @@ pub record Empties (count : ℕ) (before after : Slots) : Type 0 where
 
 -- What is written of lines that come in the state x is `written (rest_from x ..)`, and so is all that this tool writes in
 -- the state at the start. The last of its slots is for the line that comes.
-pub record IsLineTool {S X E : Type 0} (tool : Tool) (state : S → Slots → X) (rest_from : X → List (List ℕ) → List E) (written : List E → List ℕ) (counted : X → ℕ) (end width : ℕ) (start : S) : Type 0 where
+pub record IsLineTool {S X E : Type 0} (tool : Tool) (state : S → Slots → X) (rest_from : X → List (List ℕ) → List E) (written : List E → List ℕ) (counted : X → ℕ)
+    (end width : ℕ) (start : S) : Type 0 where
   pub apart : (xs ys : List E) → written (xs ++ ys) ≡ written xs ++ written ys
   pub stays : (now : S) (store : Slots) (bytes : List ℕ) → width ≤ length store.lines → state now (with_line store (width - 1) bytes) ≡ state now store
   pub fresh : (store : Slots) → counted (state start store) ≤ 1

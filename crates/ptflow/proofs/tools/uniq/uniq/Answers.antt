@@ -1,5 +1,4 @@
-use Rattle.std.proofs.Common.{◌≡◌, ℕ, Bool, true, false, cond, refl, sym, ◌∙◌, ap}
-use Rattle.ptlines.specs.Readers.{Reader}
+use Rattle.std.proofs.Common.{◌≡◌, Bool, true, false, cond, refl, sym, ◌∙◌}
 use Rattle.ptlangs.specs.Jobs.{ending, uniq_job}
 use Rattle.ptflow.specs.Uniqs.{uniq_tool}
 use Rattle.ptflow.proofs.OfPasses.PassLemmas.{pass_halted}

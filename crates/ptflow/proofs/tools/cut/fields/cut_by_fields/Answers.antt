@@ -1,4 +1,3 @@
-use Rattle.std.proofs.Common.{sym}
 use Rattle.ptlangs.specs.Jobs.{cut_job}
 use Rattle.ptflow.proofs.OfCut.FieldLines.{cut_line_tool}
 use Rattle.ptflow.proofs.tools.cut.fields.cut_by_fields.Goals as goal

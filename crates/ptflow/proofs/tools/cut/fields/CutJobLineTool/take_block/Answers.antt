@@ -24,7 +24,12 @@ pub returns-in_err-push-clause-halts : goal.returns-in_err-push-clause-halts
 returns-in_err-push-clause-halts g c =
     let l = c.lines in
     on_err c.from_residual.result
-    (record { passed = take l.end l.room; wrote = c.push.ensures.wrote; fault = c.in_err-push.ensures.fault; true_so_far = λ more. (cut_lines (cut_job c.args.self.now) (ended_lines c.args.ending l.rest.now ++ more), l.invariant.on more) })
+    (record {
+      passed = take l.end l.room;
+      wrote = c.push.ensures.wrote;
+      fault = c.in_err-push.ensures.fault;
+      true_so_far = λ more. (cut_lines (cut_job c.args.self.now) (ended_lines c.args.ending l.rest.now ++ more), l.invariant.on more);
+    })
 
 pub returns-clause-continues : goal.returns-clause-continues
 returns-clause-continues g c =

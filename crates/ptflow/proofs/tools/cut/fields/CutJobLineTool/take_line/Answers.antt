@@ -1,4 +1,4 @@
-use Rattle.std.proofs.Common.{◌∷◌, [], ◌++◌, arith}
+use Rattle.std.proofs.Common.{◌∷◌, [], arith}
 use Rattle.ptlines.specs.Slots.{line}
 use Rattle.ptlangs.specs.Jobs.{cut_job}
 use Rattle.ptflow.specs.Cuts.{cut_lines}
