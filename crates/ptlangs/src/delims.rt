@@ -19,17 +19,6 @@ pub enum DelimFault {
     Memory = 3,
 }
 
-impl From<AllocError> for DelimFault {
-    ghost use Rattle.std.specs.Prelude.{◌≡◌};
-    ghost use Rattle.ptlangs.specs.declared.delims.DelimFault.TheVariants.{Memory};
-
-    ghost from_gives = { λ _ e. e ≡ Memory };
-
-    fn from(_error: AllocError) -> DelimFault {
-        DelimFault::Memory
-    }
-}
-
 impl<T: Drop> From<AllocFailed<T>> for DelimFault {
     ghost use Rattle.std.specs.Prelude.{◌≡◌};
     ghost use Rattle.ptlangs.specs.declared.delims.DelimFault.TheVariants.{Memory};
@@ -93,6 +82,14 @@ impl<A: Allocator> Delims<A> {
         let mut kept = Vec::new(alloc);
         kept.push(Some(b'\t'))?;
         Ok(Delims { kept })
+    }
+
+    /// The delimiters, in the order of the list, which has at least one.
+    pub fn as_slice(&self) -> &[Option<u8>]
+        ensures all { result.now ≡ self.now }
+        ensures some { 0 < length result.now }
+    {
+        &self.kept[..]
     }
 
     /// How many there are.

@@ -1,6 +1,6 @@
 ghost use Rattle.std.specs.Prelude.{◌≡◌, ◌<◌, ◌≤◌, ℕ, true, false, None, [], IfSome, IfOk, OnOk, OnErr, length, take, drop, if◌then◌else◌};
 ghost use Rattle.memchr.specs.Find.{IsFirstByte, is_byte};
-ghost use Rattle.ptlines.specs.Outputs.{Wrote};
+ghost use Rattle.ptlines.specs.Outputs.{MaySend, Wrote};
 ghost use Rattle.std.specs.Borrow.{sem};
 ghost use Rattle.std.specs.Io.KnownBytes.{IsAtEnd};
 ghost use Rattle.std.specs.Io.BufRead.{Rests};
@@ -11,7 +11,7 @@ ghost use Rattle.ptlines.specs.Fills.{Moves, Steps, GivesLine, Fills, Blocks};
 ghost use Rattle.ptlines.specs.contracts.reader.LineReader.{the_row};
 
 use crate::out::{Out, WriteFault};
-use crate::search::{find_in_64, find_near};
+use crate::search::{find_in, find_near};
 use crate::sink::{Failed, Sink};
 use crate::source::{Origin, Source};
 use crate::store::{LineFault, Store};
@@ -139,9 +139,9 @@ impl<S: Source, R: Source> LineReader<S, R> {
         self.ending
     }
 
-    // The bytes that the block holds.
+    /// The bytes of the block that were not given. Nothing is read, so an empty slice says nothing of the end.
     #[inline(always)]
-    fn held(&self) -> &[u8]
+    pub fn held(&self) -> &[u8]
         ensures held { result.now ≡ self.now.held }
         ensures sound { IsSound self.now }
     {
@@ -166,7 +166,7 @@ impl<S: Source, R: Source> LineReader<S, R> {
         self.ended
     }
 
-    /// Moves past bytes of the block: at most as many as [`block`](LineReader::block) shows.
+    /// Moves past bytes of the block: at most as many as [`held`](LineReader::held) shows.
     pub fn consume(&mut self, count: usize)
         requires { count ≤ length self.old.held }
         ensures consumed { self.new ≡ record self.old { held = drop count self.old.held } }
@@ -299,7 +299,7 @@ impl<S: Source, R: Source> LineReader<S, R> {
         ensures sound { IsSound self.new }
     {
         let from = self.start;
-        let Some(at) = find_in_64(self.ending, &self.block, from) else {
+        let Some(at) = find_in::<64>(self.ending, &self.block, from) else {
             return false;
         };
         if at >= self.end {
@@ -381,6 +381,7 @@ impl<S: Source, R: Source> LineReader<S, R> {
         ensures wrote { Wrote out.old out.new [] }
         ensures clean { OnOk result (out.new.faulted ≡ false) }
         ensures fault { OnErr result (out.new.faulted ≡ true) }
+        ensures sent { OnOk result (MaySend out.old out.new) }
         ensures ended { self.now.ended ≡ true → out.new ≡ out.old }
         ensures sound { IsSound self.now }
     {
@@ -397,6 +398,7 @@ impl<S: Source, R: Source> LineReader<S, R> {
         ensures wrote { Wrote out.old out.new [] }
         ensures clean { OnOk result (out.new.faulted ≡ false) }
         ensures fault { OnErr result (out.new.faulted ≡ true) }
+        ensures sent { OnOk result (MaySend out.old out.new) }
     {
         if self.holds_line() {
             return Ok(());

@@ -69,11 +69,11 @@ module _ {S X E : Type 0} {tool : Tool} {state : S → Slots → X} {rest_from :
     }
 
     -- the slots were refused
-    pub run_unslotted : {store : Slots} → IsReady old before → IsSound old → was.faulted ≡ false → Adds before store width → store.peak ≡ before.peak → store.denied ≡ true
+    pub run_unslotted : {store : Slots} → old.ending ≡ end → IsReady old before → IsSound old → was.faulted ≡ false → Adds before store width → store.peak ≡ before.peak → store.denied ≡ true
         → IsPass tool old old was was before store (Err Memory)
-    run_unslotted {store} ready sound clean adds same denied =
+    run_unslotted {store} ends ready sound clean adds same denied =
         let nothing : Given = record { bytes = []; ended = false } in
-        pass_unslotted tool old was before store ready sound clean (subst (λ (n : ℕ). Adds before store n) (sym t.slots) adds) same denied (omega (arith, t.slots, t.some))
+        pass_unslotted tool old was before store ready sound clean (subst (λ (n : ℕ). Adds before store n) (sym t.slots) adds) same denied (omega (arith, t.slots, t.some)) (ends ∙ sym t.ends)
         (subst (λ (b : List ℕ). Begins (tool.decided nothing) b) none_written (t.decided store nothing [] (state start store) (λ more. refl)))
 
     module _ {now : X} {reader : Reader} {is : Output} {store : Slots} (r : Run old reader was is before store now) where

@@ -70,6 +70,7 @@ uniq_line_tool job start none = record {
       subst (λ (rs : List Run). Begins (entries job (all_but_last rs)) (entries job passed)) (sym all) (but_open job passed now);
   size = λ bytes. refl;
   slots = refl;
+  ends = refl;
   some = omega arith;
 }
 

@@ -14,7 +14,7 @@ returns-in_err-need_slots g c =
     let x = err_from_is_err_and c.from_residual.result c.from_residual.ensures.1 in
     let adds = rw c.SLOTS-slots.ensures at c.need_slots.ensures.adds in
     rw (x.1, x.2, c.in_err-need_slots.ensures.err)
-    (run_unslotted c.requires.tool c.requires.ready c.requires.sound c.requires.clean adds c.need_slots.ensures.same_peak c.in_err-need_slots.ensures.denied)
+    (run_unslotted c.requires.tool refl c.requires.ready c.requires.sound c.requires.clean adds c.need_slots.ensures.same_peak c.in_err-need_slots.ensures.denied)
 
 pub turns-init : goal.turns-init
 turns-init g c =

@@ -55,4 +55,5 @@ pub record IsLineTool {S X E : Type 0} (tool : Tool) (state : S → Slots → X)
       → Begins (tool.decided given) (written passed)
   pub size : (bytes : List ℕ) → tool.size bytes ≡ width * longest_line end bytes
   pub slots : tool.slots ≡ width
+  pub ends : tool.end ≡ end
   pub some : 0 < width

@@ -1,0 +1,195 @@
+//! `paste`, in rows and in series, over readers.
+
+use crate::comparing::{holds_of, same};
+use ptfakes::texts::{byte_at, text_of};
+use ptfakes::{Kept, Pieces, Refusing, Watched};
+use ptflow::{FlowFault, paste, paste_serial};
+use ptlangs::delims::{DelimFault, Delims};
+use ptlangs::jobs::PasteJob;
+use ptlines::{LineReader, Out, Store};
+use std::alloc::{AllocError, Allocator, Global};
+use std::cell::Cell;
+use std::process::Abort;
+use std::test::Fail;
+
+type Reader<'a> = LineReader<Pieces<'a>, Pieces<'a>>;
+
+#[test]
+fn cells_share_a_reader(rt: HostRuntime) -> Result<(), Fail> {
+    let job = PasteJob {
+        serial: false,
+        delims: Delims::read(rt.alloc(), b"\\0,")?,
+        zero: false,
+    };
+    let reader: Reader<'_> = LineReader::standard(Pieces::new(b"1\n2\n3\n4\n", 3, u64::MAX));
+    let mut readers = [reader];
+    let mut store = Store::new(rt.alloc(), 0)?;
+    let mut out = Out::new(Kept::new(rt.alloc()));
+    let told = paste(&job, &[0, 0, 0], &mut readers, &mut store, &mut out);
+    same(&rt, &told, &Ok(()));
+    same(&rt, &out.finish(), &Ok(()));
+    same(&rt, &out.into_sink().bytes(), &b"12,3\n4,\n".as_slice());
+    Ok(())
+}
+
+// An input that comes in pieces of so many bytes, and a sink that takes so many.
+#[derive(Clone, Copy)]
+struct Case<'a> {
+    text: &'a [u8],
+    size: usize,
+    room: usize,
+}
+
+// What `paste` of two columns that share a reader answers, and how many pulls it made.
+fn run<A: Allocator + Copy>(
+    alloc: Global,
+    lines: A,
+    case: &Case<'_>,
+) -> Result<(Result<(), FlowFault>, u64), Fail> {
+    let job = PasteJob {
+        serial: false,
+        delims: Delims::tab(lines)?,
+        zero: false,
+    };
+    let pulls = Cell::new(0);
+    let source = Watched::new(Pieces::new(case.text, case.size, u64::MAX), &pulls);
+    let reader: LineReader<Watched<'_, Pieces<'_>>, Pieces<'_>> = LineReader::standard(source);
+    let mut readers = [reader];
+    let mut store = Store::new(lines, 0)?;
+    let mut out = Out::new(Kept::limited(alloc, usize::MAX, case.room, u64::MAX));
+    let told = paste(&job, &[0, 0], &mut readers, &mut store, &mut out);
+    let _ = out.finish();
+    Ok((told, pulls.get()))
+}
+
+// A line a pull: the first row is sent, and fails, before any third pull.
+#[test]
+fn a_row_is_sent_before_a_read_that_may_wait(rt: HostRuntime) -> Result<(), Fail> {
+    let case = Case {
+        text: b"1\nx\n2\ny\n",
+        size: 2,
+        room: 0,
+    };
+    let (told, pulls) = run(rt.alloc(), rt.alloc(), &case)?;
+    same(&rt, &told, &Err(FlowFault::Write));
+    same(&rt, &pulls, &2);
+    Ok(())
+}
+
+// A row of two lines of 9000 bytes in pulls of 8192: a fourth pull finds the end.
+#[test]
+fn nothing_is_read_behind_a_failed_row(rt: HostRuntime) -> Result<(), Fail> {
+    let mut long = vec![in rt.alloc(); b'a'; 18002]?;
+    long[9000] = b'\n';
+    long[18001] = b'\n';
+    let mut case = Case {
+        text: &long,
+        size: usize::MAX,
+        room: usize::MAX,
+    };
+    let (told, pulls) = run(rt.alloc(), rt.alloc(), &case)?;
+    same(&rt, &told, &Ok(()));
+    same(&rt, &pulls, &4);
+    case.room = 0;
+    let (told, pulls) = run(rt.alloc(), rt.alloc(), &case)?;
+    same(&rt, &told, &Err(FlowFault::Write));
+    same(&rt, &pulls, &3);
+    Ok(())
+}
+
+// The first growth is that of the delimiters, and the next two are of the slots.
+#[test]
+fn nothing_is_read_where_a_slot_is_refused(rt: HostRuntime) -> Result<(), Fail> {
+    let case = Case {
+        text: b"1\nx\n2\ny\n",
+        size: 2,
+        room: usize::MAX,
+    };
+    for passing in 1..3u64 {
+        let alloc = Refusing::after(rt.alloc(), passing);
+        let (told, pulls) = run(rt.alloc(), &alloc, &case)?;
+        same(&rt, &told, &Err(FlowFault::Memory));
+        same(&rt, &pulls, &0);
+    }
+    Ok(())
+}
+
+// What `paste -s` writes of this text, which comes in pieces of so many bytes.
+fn in_one_row(
+    rt: &impl Abort,
+    alloc: Global,
+    job: &PasteJob<Global>,
+    text: &[u8],
+    size: usize,
+) -> Result<Kept, Fail> {
+    let mut reader: Reader<'_> = LineReader::standard(Pieces::new(text, size, u64::MAX));
+    let mut store = Store::new(alloc, 0)?;
+    let mut out = Out::new(Kept::new(alloc));
+    let told = paste_serial(job, &mut reader, &mut store, &mut out);
+    same(rt, &told, &Ok(()));
+    same(rt, &out.finish(), &Ok(()));
+    Ok(out.into_sink())
+}
+
+fn serial(alloc: Global, delims: &[u8]) -> Result<PasteJob<Global>, DelimFault> {
+    Ok(PasteJob {
+        serial: true,
+        delims: Delims::read(alloc, delims)?,
+        zero: false,
+    })
+}
+
+#[test]
+fn lines_in_one_row(rt: HostRuntime) -> Result<(), Fail> {
+    let job = serial(rt.alloc(), b",;")?;
+    let written = in_one_row(&rt, rt.alloc(), &job, b"a\nb\nc\n", 1)?;
+    same(&rt, &written.bytes(), &b"a,b;c\n".as_slice());
+    Ok(())
+}
+
+// Lines of these lengths in one row, with these bytes between them in turn.
+fn row_of(
+    alloc: Global,
+    lengths: &[usize],
+    delims: [u8; 2],
+    ending: u8,
+) -> Result<Vec<u8>, AllocError> {
+    let mut row = Vec::new(alloc);
+    for (number, length) in lengths.iter().enumerate() {
+        if number > 0 {
+            row.push(delims[(number - 1) % 2])?;
+        }
+        for place in 0..*length {
+            row.push(byte_at(place))?;
+        }
+    }
+    row.push(ending)?;
+    Ok(row)
+}
+
+// Short lines behind one of this length, so that each of their ends stands at each place of 64 bytes once.
+fn pasted_behind(
+    rt: &impl Abort,
+    alloc: Global,
+    length: usize,
+    (list, delims): (&[u8], [u8; 2]),
+) -> Result<(), Fail> {
+    let lengths = [length, 0, 1, 4, 15, 16, 17, 64, 0, 0, 5];
+    let text = text_of(alloc, &lengths, b'\n', true)?;
+    let row = row_of(alloc, &lengths, delims, b'\n')?;
+    let job = serial(alloc, list)?;
+    for size in [1, 7, usize::MAX] {
+        let written = in_one_row(rt, alloc, &job, &text, size)?;
+        holds_of(rt, &(length, size), written.bytes() == row.as_slice());
+    }
+    Ok(())
+}
+
+#[test]
+fn ends_at_each_place_of_a_chunk(rt: HostRuntime) -> Result<(), Fail> {
+    for length in 0..65 {
+        pasted_behind(&rt, rt.alloc(), length, (b",", [b',', b',']))?;
+        pasted_behind(&rt, rt.alloc(), length, (b",;", [b',', b';']))?;
+    }
+    Ok(())
+}
