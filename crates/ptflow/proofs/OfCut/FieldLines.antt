@@ -1,26 +1,20 @@
 -- What `cut` by fields writes of a line, by whether the delimiter is in it; and that it is a tool that works line by
 -- line. It carries nothing, so what is written of some lines and of others is what is written of both.
-use Rattle.std.proofs.Common.{◌≡◌, ℕ, ◌==◌, true, false, cond, arith, List, [], ◌∷◌, ◌++◌, refl, sym, ◌∙◌, ap, Option, None, Some, subst}
+use Rattle.std.proofs.Common.{◌≡◌, ℕ, ◌==◌, true, false, cond, arith, List, [], ◌∷◌, ◌++◌, refl, sym, ◌∙◌, ap, Option, None, Some}
 use Rattle.std.specs.Option.{is_some}
 use Rattle.std.specs.List.{flat_map, list_any}
 use Rattle.std.proofs.lemmas.List.Folds.{list_any_at}
 use Rattle.memchr.specs.Find.{IsFirstByte, is_byte}
 use Rattle.ptlines.proofs.Scanned.{no_end}
-use Rattle.std.proofs.lemmas.List.{append-nil, get_or-set_same}
+use Rattle.std.proofs.lemmas.List.{append-nil}
 use Rattle.std.proofs.lemmas.List.Concat.{flat_map-append}
 use Rattle.ptlines.specs.Text.{text, IsLine}
 use Rattle.ptlines.proofs.TextLaws.{other_byte, text-append}
 use Rattle.ptlangs.specs.Jobs.{Cut}
 use Rattle.ptflow.specs.Cuts.{is_delimiter, cut_fields, cut_line, cut_lines, cut_tool}
 use Rattle.ptflow.specs.Workings.Cut.CutRests.{cut_from}
-use Rattle.ptlines.specs.Fills.{GivesLine}
-use Rattle.ptlines.specs.Inputs.{Begins}
-use Rattle.ptlines.specs.Outputs.{Output, Wrote}
-use Rattle.ptlines.specs.Readers.{Reader}
-use Rattle.ptlines.specs.Slots.{Slots, line}
-use Rattle.ptflow.specs.Workings.Passes.Continuations.{Continues, Halts}
-use Rattle.ptflow.proofs.OfPasses.LineLemmas.{IsLineTool}
-use Rattle.ptflow.proofs.OfPasses.SlotFacts.{Keeps}
+use Rattle.ptlines.specs.Inputs.{Begins, whole_lines}
+use Rattle.ptflow.specs.Workings.Passes.Lines.{IsLineTool}
 
 pub none_of : (d : ℕ) (line : List ℕ) → IsLine d line → list_any (λ b. b == d) line ≡ false
 none_of d [] free = refl
@@ -57,25 +51,17 @@ module _ (job : Cut) where
   cut_sure : (ls : List (List ℕ)) (pushed : List ℕ) → cut_lines job (ls ++ []) ≡ pushed ++ cut_lines job [] → Begins (cut_lines job ls) pushed
   cut_sure ls pushed on = record { rest = []; is = sym (append-nil pushed) ∙ sym on ∙ ap (cut_lines job) (append-nil ls) ∙ sym (append-nil (cut_lines job ls)) }
 
-  pub cut_line_tool : job.fields ≡ true → IsLineTool (cut_tool job) (cut_from job) (cut_lines job) job.end 1 tt
-  cut_line_tool by_fields = record {
-    text = λ bytes. refl;
-    decided_is = λ given. refl;
-    sure = λ ls pushed now on. cut_sure ls pushed (on []);
+  pub cut_line_tool : {S : Type 0} (start : S) → job.fields ≡ true
+      → IsLineTool {S = S} {X = Unit {0}} {E = ℕ} (cut_tool job) (λ room store. tt) (cut_from job) (λ bytes. bytes) (λ u. 1) job.end 1 start
+  cut_line_tool start by_fields = record {
+    apart = λ xs ys. refl;
+    stays = λ now store bytes room. refl;
+    fresh = λ store. omega arith;
+    text = λ store bytes. refl;
+    decided = λ store given passed now on. cut_sure (whole_lines job.end given) passed (on []);
     size = λ bytes. omega arith;
     slots = ap (λ b. cond b 1 0) by_fields;
     ends = refl;
+    ends = refl;
     some = omega arith;
   }
-
-  -- a line that came by way of the first slot
-  module _ (now new : Reader) (is is' : Output) (first store after : Slots) (most : ℕ) (k : Keeps 1 most first store) (e : GivesLine now new store after 0) (seen : List ℕ) (seen_is : seen ≡ line after 0) (wrote : Wrote is is' (cut_lines job (seen ∷ []))) where
-    wrote_line : Wrote is is' (cut_lines job (e.line ∷ []))
-    wrote_line = subst (λ (l : List ℕ). Wrote is is' (cut_lines job (l ∷ [])))
-        (seen_is ∙ ap (λ (s : Slots). line s 0) e.stored ∙ get_or-set_same store.lines 0 e.line [] (omega (arith, k.adds.all k.denied))) wrote
-
-    pub line_continues : Continues (cut_from job) tt tt (e.line ∷ []) is is'
-    line_continues = record { pushed = cut_lines job (e.line ∷ []); wrote = wrote_line; on = λ rest. cut_lines-append (e.line ∷ []) rest }
-
-    pub line_halts : Halts (cut_from job) tt (e.line ∷ []) is is'
-    line_halts = record { pushed = cut_lines job (e.line ∷ []); wrote = wrote_line; true_so_far = λ rest. record { rest = cut_lines job rest; is = cut_lines-append (e.line ∷ []) rest } }

@@ -1,271 +1,319 @@
--- A tool that works line by line, with a state. What was pushed of the lines that came, and what is written of the lines
--- to come in the state now, is the whole, whatever comes; so midway it is what PassLemmas asks for.
-use Rattle.std.proofs.Common.{◌≡◌, ◌⊎◌, ⊎_elim, inl, inr, ℕ, ◌*◌, ◌<◌, ◌≤◌, ◌^◌, true, false, List, [], ◌∷◌, ◌++◌, None, Ok, Err, length, take, drop, max, refl, sym, ◌∙◌, ap, subst, arith, append_assoc, length-append}
+-- A tool that works line by line, whatever it carries. What was passed on of the lines that came, and what is made of the
+-- lines to come, is the whole, whatever comes; so midway it is what PassLemmas asks for.
+use Rattle.std.proofs.Common.{◌≡◌, ℕ, ◌+◌, ◌-◌, ◌*◌, ◌≤◌, ◌^◌, true, false, List, [], ◌∷◌, ◌++◌, Ok, Err, length, drop, max, refl, sym, ◌∙◌, ap, subst, arith, append_assoc, length-append}
 use Rattle.std.proofs.Math.Nat.{mul-le-mul_left}
 use Rattle.std.proofs.lemmas.Bool.{false≢true}
-use Rattle.std.proofs.lemmas.List.{append-nil}
+use Rattle.std.proofs.lemmas.List.{nil_from_length, get_or-set_same}
 use Rattle.ptlines.specs.Text.{text, lines, ended_lines, IsLine, longest, longest_line}
 use Rattle.ptlines.specs.Inputs.{Given, whole_lines, Begins, Agrees}
 use Rattle.ptlines.specs.Outputs.{Output, Wrote}
 use Rattle.ptlines.specs.Readers.{Reader, Reads, Goes, IsDone, IsSound, HasReadCause}
-use Rattle.ptlines.specs.Slots.{Slots, total, with_line, with_denied}
+use Rattle.ptlines.specs.Slots.{Slots, line, with_line, with_denied}
 use Rattle.ptlines.specs.Fills.{GivesLine}
 use Rattle.ptlines.proofs.Filling.{goes_trans}
 use Rattle.ptlines.proofs.Pushed.{wrote_trans}
-use Rattle.ptlines.proofs.TextLaws.{lines_first, lines_last, lines_of_text, lines-text, lines_are, text-append, text_push, ended_of_text}
 use Rattle.ptflow.specs.Tools.{Tool}
 use Rattle.ptflow.specs.Passes.{IsReady, IsPass, Adds}
 use Rattle.ptflow.specs.Workings.Paste.TakenLines.{LinesCame}
-use Rattle.ptflow.proofs.OfPasses.LinesCame.{before_line, behind_line}
+use Rattle.ptflow.specs.Workings.Passes.Lines.{LinesOn, LinesHalt, PassesLines, IsSwapped, Empties, IsLineTool}
 use Rattle.ptflow.specs.declared.faults.FlowFault.TheVariants.{Read, Write, Memory}
-use Rattle.ptflow.specs.Workings.Passes.Continuations.{Continues, Halts}
-use Rattle.ptflow.proofs.OfPasses.LineLaws.{parts_of, ended_front, longest-append, longest_piece}
-use Rattle.ptflow.proofs.OfPasses.ReaderFacts.{goes_nothing, given_of, done_gives_nothing, stays_done, may_come, goes_past}
-use Rattle.ptflow.proofs.OfPasses.Continuations.{halts_before}
-use Rattle.ptflow.proofs.OfPasses.PassLemmas.{Reached, reached_nothing, reached_sent, Midway, Works, Stored, pass_unslotted, pass_read, pass_memory, pass_write, pass_done}
-use Rattle.ptflow.proofs.OfPasses.SlotFacts.{Keeps, keeps_more, keeps_line}
+use Rattle.ptflow.proofs.OfPasses.LineLaws.{parts_of, ended_front, longest-append}
+use Rattle.ptflow.proofs.OfPasses.LinesCame.{lines_none, lines_few, lines_on, lines_more, lines_block, line_front, came_longest, piece_longest, whole_before, before_line, behind_line}
+use Rattle.ptflow.proofs.OfPasses.PassLemmas.{Reached, reached_nothing, reached_sent, Midway, Works, Stored, pass_unslotted, pass_read, pass_memory, pass_write, pass_done, pass_unended}
+use Rattle.ptflow.proofs.OfPasses.ReaderFacts.{given_of, goes_nothing, goes_past}
+use Rattle.ptflow.proofs.OfPasses.SlotFacts.{Keeps, keeps_more, keeps_line, keeps_swapped, emptied}
 
--- What is written of lines that come in the state x is `lines_from x`, and so is all that this tool writes in the state
--- `start`. `decided` is what is decided of whole lines; the tool uses `width` slots, for a line each.
-pub record IsLineTool {X : Type 0} (tool : Tool) (lines_from : X → List (List ℕ) → List ℕ) (decided : List (List ℕ) → List ℕ) (end width : ℕ) (start : X) : Type 0 where
-  pub text : (bytes : List ℕ) → lines_from start (lines end bytes) ≡ tool.text bytes
-  pub decided_is : (given : Given) → tool.decided given ≡ decided (whole_lines end given)
-  -- all that was pushed of some lines is decided once they came
-  pub sure : (ls : List (List ℕ)) (pushed : List ℕ) (now : X) → ((more : List (List ℕ)) → lines_from start (ls ++ more) ≡ pushed ++ lines_from now more) → Begins (decided ls) pushed
-  pub size : (bytes : List ℕ) → tool.size bytes ≡ width * longest_line end bytes
-  pub slots : tool.slots ≡ width
-  pub ends : tool.end ≡ end
-  pub some : 0 < width
-
--- what is written of the lines of some bytes
-abbrev pub bytes_from : {X : Type 0} → (X → List (List ℕ) → List ℕ) → ℕ → X → List ℕ → List ℕ
-bytes_from lines_from end x bytes = lines_from x (lines end bytes)
-
--- Midway, at the end of a line or of the input, with a line at most in each of `width` slots.
-pub record LineRun {X : Type 0} (lines_from : X → List (List ℕ) → List ℕ) (end width : ℕ) (start now : X) (old reader : Reader) (was is : Output) (before store : Slots) : Type 0 where
+-- These lines came, and each of `width` slots has a line at most.
+pub record LineRun {S X E : Type 0} (state : S → Slots → X) (rest_from : X → List (List ℕ) → List E) (written : List E → List ℕ) (counted : X → ℕ) (end width : ℕ) (start : S) (now : X)
+    (old reader : Reader) (was is : Output) (before store : Slots) : Type 0 where
   pub given : List ℕ
-  pub pushed : List ℕ
-  pub reached : Reached old reader was is given pushed
-  pub ending : reader.ending ≡ end
-  pub on : (more : List (List ℕ)) → lines_from start (lines end given ++ more) ≡ pushed ++ lines_from now more
-  pub whole : (given ≡ text end (lines end given)) ⊎ IsDone reader
-  pub keeps : Keeps width (longest (lines end given)) before store
+  pub ls : List (List ℕ)
+  pub passed : List E
+  pub ending : old.ending ≡ end
+  pub came : LinesCame end reader given ls
+  pub reached : Reached old reader was is given (written passed)
+  pub first : Slots
+  pub on : (more : List (List ℕ)) → rest_from (state start first) (ls ++ more) ≡ passed ++ rest_from now more
+  pub count : counted now ≤ 1 + length ls
+  pub keeps : Keeps width (longest ls) before store
 
-module _ {X : Type 0} (lines_from : X → List (List ℕ) → List ℕ) (end width : ℕ) (start : X) where
-  pub run_starts : (old : Reader) (was : Output) (before store : Slots) → old.fault ≡ None → old.ending ≡ end → was.faulted ≡ false → Keeps width 0 before store → LineRun lines_from end width start start old old was was before store
-  run_starts old was before store readable ending clean keeps = record { given = []; pushed = []; reached = reached_nothing old was readable clean; ending = ending; on = λ more. refl; whole = inl refl; keeps = keeps }
+module _ {S X E : Type 0} {tool : Tool} {state : S → Slots → X} {rest_from : X → List (List ℕ) → List E} {written : List E → List ℕ} {counted : X → ℕ} {end width : ℕ} {start : S}
+    (t : IsLineTool tool state rest_from written counted end width start) where
+  -- midway
+  abbrev Run : Reader → Reader → Output → Output → Slots → Slots → X → Type 0
+  Run old reader was is before store now = LineRun state rest_from written counted end width start now old reader was is before store
 
-  module _ (now : X) (old reader : Reader) (was is : Output) (before store : Slots) (r : LineRun lines_from end width start now old reader was is before store) where
-    -- the lines so far, and those of the rest
-    pub lines_so_far : (rest : List ℕ) → (IsDone reader → rest ≡ []) → lines end (r.given ++ rest) ≡ lines end r.given ++ lines end rest
-    lines_so_far rest may = ⊎_elim opened closed r.whole
-      where
-        opened : r.given ≡ text end (lines end r.given) → lines end (r.given ++ rest) ≡ lines end r.given ++ lines end rest
-        opened o = ap (λ (l : List ℕ). lines end (l ++ rest)) o ∙ lines_of_text end (lines end r.given) rest (lines_are end r.given)
+  -- some lines more
+  abbrev On : X → X → List (List ℕ) → Output → Output → Type 0
+  On = LinesOn rest_from written counted
 
-        closed : IsDone reader → lines end (r.given ++ rest) ≡ lines end r.given ++ lines end rest
-        closed done = (λ i. lines end (r.given ++ may done i)) ∙ ap (lines end) (append-nil r.given) ∙ sym (append-nil (lines end r.given)) ∙ (λ i. lines end r.given ++ lines end (sym (may done) i))
+  abbrev Halt : X → List (List ℕ) → Output → Output → Type 0
+  Halt = LinesHalt rest_from written
 
-    abbrev pub midway_of : Midway (bytes_from lines_from end) start now old reader was is
-    midway_of = record { given = r.given; pushed = r.pushed; reached = r.reached; on = λ rest may. ap (lines_from start) (lines_so_far rest may) ∙ r.on (lines end rest) }
+  none_written : written [] ≡ []
+  none_written = nil_from_length (written []) (omega (arith, ap length (t.apart [] []), length-append (written []) (written [])))
 
-    -- what was staged was sent
-    pub run_sent : (is' : Output) → Wrote is is' [] → is'.faulted ≡ false → LineRun lines_from end width start now old reader was is' before store
-    run_sent is' wrote clean = record {
-      given = r.given;
-      pushed = r.pushed;
-      reached = reached_sent old reader was is is' r.given r.pushed r.reached wrote clean;
-      ending = r.ending;
-      on = r.on;
-      whole = r.whole;
-      keeps = r.keeps;
-    }
-
-    -- some lines more were given and passed on
-    run_more : (new : Reader) (after : Slots) (bytes : List ℕ) (ls : List (List ℕ)) → Goes reader new bytes → lines end (r.given ++ bytes) ≡ lines end r.given ++ ls → (r.given ++ bytes ≡ text end (lines end (r.given ++ bytes))) ⊎ IsDone new
-        → Keeps width (longest (lines end (r.given ++ bytes))) before after → (next : X) (is' : Output) → Continues lines_from now next ls is is' → is'.faulted ≡ false → LineRun lines_from end width start next old new was is' before after
-    run_more new after bytes ls goes lines_now whole keeps next is' c clean = record {
-      given = r.given ++ bytes;
-      pushed = r.pushed ++ c.pushed;
-      reached = record { goes = goes_trans old reader new r.given bytes r.reached.goes goes; wrote = wrote_trans was is is' r.pushed c.pushed r.reached.clean r.reached.wrote c.wrote; clean = clean };
-      ending = goes.reads.ending ∙ r.ending;
-      on = λ more.
-          ap (λ (l : List (List ℕ)). lines_from start (l ++ more)) lines_now ∙ ap (lines_from start) (append_assoc (lines end r.given) ls more) ∙ r.on (ls ++ more)
-          ∙ ap (λ (l : List ℕ). r.pushed ++ l) (c.on more) ∙ sym (append_assoc r.pushed c.pushed (lines_from next more));
-      whole = whole;
+  module _ {old : Reader} {was : Output} {before : Slots} where
+    pub run_starts : {store : Slots} → old.ending ≡ end → IsReady old before → was.faulted ≡ false → Keeps width 0 before store → Run old old was was before store (state start store)
+    run_starts {store} ends ready clean keeps = record {
+      given = [];
+      ls = [];
+      passed = [];
+      ending = ends;
+      came = lines_none end old;
+      reached = subst (λ (b : List ℕ). Reached old old was was [] b) (sym none_written) (reached_nothing old was ready.readable clean);
+      first = store;
+      on = λ more. refl;
+      count = omega (arith, t.fresh store);
       keeps = keeps;
     }
 
-    -- a line more came by way of a slot
-    module _ (new : Reader) (after : Slots) (slot : ℕ) (e : GivesLine reader new store after slot) where
-      free : IsLine end e.line
-      free = subst (λ (b : ℕ). IsLine b e.line) r.ending e.whole
+    -- the slots were refused
+    pub run_unslotted : {store : Slots} → old.ending ≡ end → IsReady old before → IsSound old → was.faulted ≡ false → Adds before store width → store.peak ≡ before.peak → store.denied ≡ true
+        → IsPass tool old old was was before store (Err Memory)
+    run_unslotted {store} ends ready sound clean adds same denied =
+        let nothing : Given = record { bytes = []; ended = false } in
+        pass_unslotted tool old was before store ready sound clean (subst (λ (n : ℕ). Adds before store n) (sym t.slots) adds) same denied (omega (arith, t.slots, t.some)) (ends ∙ sym t.ends)
+        (subst (λ (b : List ℕ). Begins (tool.decided nothing) b) none_written (t.decided store nothing [] (state start store) (λ more. refl)))
 
-      abbrev came : List ℕ
-      came = e.line ++ e.ending
+    module _ {now : X} {reader : Reader} {is : Output} {store : Slots} (r : Run old reader was is before store now) where
+      -- what was staged was sent
+      pub run_sent : {is' : Output} → Wrote is is' [] → is'.faulted ≡ false → Run old reader was is' before store now
+      run_sent {is'} wrote clean = record {
+        given = r.given;
+        ls = r.ls;
+        passed = r.passed;
+        ending = r.ending;
+        came = r.came;
+        reached = reached_sent old reader was is is' r.given (written r.passed) r.reached wrote clean;
+        first = r.first;
+        on = r.on;
+        count = r.count;
+        keeps = r.keeps;
+      }
 
-      -- it stands in front of what comes next
-      pub line_first : (rest : List ℕ) → (IsDone new → rest ≡ []) → lines end (came ++ rest) ≡ e.line ∷ lines end rest
-      line_first rest may = elim e.ends [
-        | inl ends ↦ ap (lines end) (ap (λ (l : List ℕ). (e.line ++ l) ++ rest) (ends ∙ ap (λ (b : ℕ). b ∷ []) r.ending) ∙ append_assoc e.line (end ∷ []) rest) ∙ lines_first end e.line rest free
-        | inr last ↦ (λ i. lines end ((e.line ++ last.0 i) ++ may last.2 i)) ∙ ap (lines end) (append-nil (e.line ++ []) ∙ append-nil e.line) ∙ lines_last end e.line free last.1 ∙ (λ i. e.line ∷ lines end (sym (may last.2) i))
-      ]
+      pub run_room : width ≤ length store.lines
+      run_room = omega (arith, r.keeps.adds.all r.keeps.denied)
 
-      still_open : r.given ≡ text end (lines end r.given)
-      still_open = ⊎_elim (λ o. o) (λ done. absurd (omega (arith, some, ap length (done_gives_nothing reader new came done e.goes.reads).0))) r.whole
-        where
-          some : 0 < length came
-          some = elim e.ends [
-            | inl ends ↦ omega (arith, ap length ends, length-append e.line e.ending)
-            | inr last ↦ omega (arith, last.1, length-append e.line e.ending)
-          ]
+      -- all that came is counted
+      pub run_count : IsSound old → IsSound reader → counted now ≤ 2 ^ 63
+      run_count sound is_sound = omega (arith, r.count, lines_few end reader r.given r.ls r.came, r.reached.goes.reads.count, sound.count, is_sound.long r.reached.goes.fault, is_sound.count)
 
-      lines_now : lines end (r.given ++ came) ≡ lines end r.given ++ e.line ∷ []
-      lines_now =
-          let first = line_first [] (λ done. refl) in
-          ap (λ (l : List ℕ). lines end (l ++ came)) still_open ∙ lines_of_text end (lines end r.given) came (lines_are end r.given)
-          ∙ ap (λ (l : List (List ℕ)). lines end r.given ++ l) (ap (lines end) (sym (append-nil came)) ∙ first)
+      -- some lines more came
+      run_more : {new : Reader} (bytes : List ℕ) (ls : List (List ℕ)) → Goes reader new bytes → LinesCame end new (r.given ++ bytes) (r.ls ++ ls)
+          → {after : Slots} → Keeps width (max (longest r.ls) (longest ls)) before after
+          → {next : X} {is' : Output} → On now next ls is is' → Run old new was is' before after next
+      run_more {new} bytes ls goes came {after} keeps {next} {is'} c = record {
+        given = r.given ++ bytes;
+        ls = r.ls ++ ls;
+        passed = r.passed ++ c.passed;
+        ending = r.ending;
+        came = came;
+        reached = record {
+          goes = goes_trans old reader new r.given bytes r.reached.goes goes;
+          wrote = subst (λ (b : List ℕ). Wrote was is' b) (sym (t.apart r.passed c.passed)) (wrote_trans was is is' (written r.passed) (written c.passed) r.reached.clean r.reached.wrote c.wrote);
+          clean = c.clean;
+        };
+        first = r.first;
+        on = λ more.
+            ap (rest_from (state start r.first)) (append_assoc r.ls ls more) ∙ r.on (ls ++ more) ∙ ap (λ (l : List E). r.passed ++ l) (c.on more)
+            ∙ sym (append_assoc r.passed c.passed (rest_from next more));
+        count = omega (arith, r.count, c.count, length-append r.ls ls);
+        keeps = keeps_more width (max (longest r.ls) (longest ls)) (longest (r.ls ++ ls)) before after keeps (omega (arith, longest-append r.ls ls));
+      }
 
-      pub run_line : slot < width → (next : X) (is' : Output) → Continues lines_from now next (e.line ∷ []) is is' → is'.faulted ≡ false → LineRun lines_from end width start next old new was is' before after
-      run_line within =
-          let before_it = longest (lines end r.given) in
-          let with_it = longest (lines end (r.given ++ came)) in
-          let most : with_it ≡ max before_it (longest (e.line ∷ [])) = ap longest lines_now ∙ longest-append (lines end r.given) (e.line ∷ []) in
-          run_more new after came (e.line ∷ []) e.goes lines_now (elim e.ends [
-            | inl ends ↦ inl ((λ i. still_open i ++ (e.line ++ (ends ∙ ap (λ (b : ℕ). b ∷ []) r.ending) i)) ∙ sym (text_push end (lines end r.given) e.line) ∙ ap (text end) (sym lines_now))
-            | inr last ↦ inr last.2
-          ]) (keeps_line width with_it before store after slot e.line (keeps_more width before_it with_it before store r.keeps (omega (arith, most))) within (omega (arith, most)) e.stored)
+      -- the lines of a block came, and were consumed
+      pub run_block : {ending : ℕ} → ending ≡ old.ending → {shown new : Reader} {block : List ℕ} {count : ℕ} → Goes reader shown [] → shown.held ≡ block
+          → PassesLines ending block count → new ≡ record shown { held = drop count shown.held }
+          → {next : X} {is' : Output} → On now next (ended_lines ending block) is is' → Run old new was is' before store next
+      run_block {ending} ends {shown} {new} {block} {count} goes held passed consumed {next} {is'} c =
+          let ls = ended_lines end block in
+          let same = ends ∙ r.ending in
+          let front = subst (λ (b : List ℕ). Goes reader new b) (passed.1 ∙ ap (λ (b : ℕ). text b (ended_lines b block)) same) (goes_past reader shown new block count goes held passed.0 consumed) in
+          run_more (text end ls) ls front (lines_block end reader r.given r.ls r.came new ls front (parts_of end block).whole)
+          (keeps_more width (longest r.ls) (max (longest r.ls) (longest ls)) before store r.keeps (omega arith)) (subst (λ (b : ℕ). On now next (ended_lines b block) is is') same c)
 
-    -- the lines of a block whose end is in it
-    module _ (shown : Reader) (block : List ℕ) (goes : Goes reader shown []) (held : shown.held ≡ block) where
-      abbrev ended : List (List ℕ)
-      ended = ended_lines end block
+      -- ---- how it ends
 
-      none_shown : IsDone reader → block ≡ []
-      none_shown done = sym held ∙ (done_gives_nothing reader shown [] done goes.reads).1
+      abbrev bytes_from : X → List ℕ → List ℕ
+      bytes_from x bytes = written (rest_from x (lines end bytes))
 
-      -- they stand in front of what comes next
-      pub ended_first : (rest : List ℕ) → lines end (block ++ rest) ≡ ended ++ lines end ((parts_of end block).piece ++ rest)
-      ended_first rest = ended_front end block rest
+      unfoldable midway : Midway bytes_from (state start r.first) now old reader was is
+      midway = record {
+        given = r.given;
+        pushed = written r.passed;
+        reached = r.reached;
+        on = λ rest may.
+            ap (λ (l : List (List ℕ)). written (rest_from (state start r.first) l)) (lines_on end reader r.given r.ls r.came rest may) ∙ ap written (r.on (lines end rest))
+            ∙ t.apart r.passed (rest_from now (lines end rest));
+      }
 
-      lines_passed : lines end (r.given ++ text end ended) ≡ lines end r.given ++ ended
-      lines_passed = lines_so_far (text end ended) (λ done. ap (λ (b : List ℕ). text end (ended_lines end b)) (none_shown done)) ∙ ap (λ (l : List (List ℕ)). lines end r.given ++ l) (lines-text end ended (parts_of end block).whole)
+      -- what is decided of the lines so far was passed on
+      decided_so : (given : Given) → whole_lines end given ≡ r.ls → Begins (tool.decided given) (written r.passed)
+      decided_so given are = t.decided r.first given r.passed now (λ more. ap (λ (l : List (List ℕ)). rest_from (state start r.first) (l ++ more)) are ∙ r.on more)
 
-      pub run_block : (new : Reader) (count : ℕ) → count ≤ length block → take count block ≡ text end ended → new ≡ record shown { held = drop count shown.held }
-          → (next : X) (is' : Output) → Continues lines_from now next ended is is' → is'.faulted ≡ false → LineRun lines_from end width start next old new was is' before store
-      run_block new count fits passed consumed =
-          let front = subst (λ (b : List ℕ). Goes reader new b) passed (goes_past reader shown new block count goes held fits consumed) in
-          run_more new store (text end ended) ended front lines_passed
-          (⊎_elim (λ o. inl (ap (λ (l : List ℕ). l ++ text end ended) o ∙ sym (text-append end (lines end r.given) ended) ∙ ap (text end) (sym lines_passed))) (λ done. inr (stays_done reader new (text end ended) done front.reads)) r.whole)
-          (keeps_more width (longest (lines end r.given)) (longest (lines end (r.given ++ text end ended))) before store r.keeps (omega (arith, ap longest lines_passed ∙ longest-append (lines end r.given) ended)))
+      -- and behind them no more than a line and a block came
+      works_line : (new : Reader) (piece : List ℕ) → Reads reader new piece → (line behind : List ℕ) → piece ++ new.held ≡ line ++ behind → IsLine end line
+          → length behind ≤ 8193 → Works tool (given_of (r.given ++ piece) new) (written r.passed)
+      works_line new piece reads line behind is_line whole short =
+          let e = before_line end reader new r.given r.ls r.came piece reads line behind is_line whole short in
+          record { before = λ u. e.before; begins = decided_so e.before.earlier e.whole }
 
--- ---- how it ends
+      works_piece : (new : Reader) (piece : List ℕ) → Reads reader new piece → IsLine end piece → IsSound new → Works tool (given_of (r.given ++ piece) new) (written r.passed)
+      works_piece new piece reads free is_sound = works_line new piece reads piece new.held refl free (omega (arith, is_sound.held))
 
-module _ {X : Type 0} (tool : Tool) (lines_from : X → List (List ℕ) → List ℕ) (decided : List (List ℕ) → List ℕ) (end width : ℕ) (start : X) (t : IsLineTool tool lines_from decided end width start)
-    (now : X) (old reader : Reader) (was is : Output) (before : Slots) (ready : IsReady old before) (sound : IsSound reader) where
-  -- the slots hold no more than the longest line of each input that agrees
-  stored_short : (store : Slots) (most : ℕ) (given : Given) → store.peak ≤ max before.peak (width * most) → Adds before store width → width ≤ length store.lines → ((input : List ℕ) → Agrees given input → most ≤ longest_line end input) → Stored tool before store given
-  stored_short store most given peak adds room short = record {
-    peak = λ input a. omega (arith, t.size input, peak, mul-le-mul_left width (short input a));
-    adds = subst (λ (n : ℕ). Adds before store n) (sym t.slots) adds;
-    room = omega (arith, room, t.slots);
-    unused = λ none. absurd (omega (arith, none, t.slots, t.some));
-  }
+      -- the slots hold no more than the longest line of each input that agrees
+      stored : (after : Slots) (most : ℕ) (given : Given) → after.peak ≤ max before.peak (width * most) → Adds before after width → width ≤ length after.lines
+          → ((input : List ℕ) → Agrees given input → most ≤ longest_line end input) → Stored tool before after given
+      stored after most given peak adds room short = record {
+        peak = λ input a. omega (arith, t.size input, peak, mul-le-mul_left width (short input a));
+        adds = subst (λ (n : ℕ). Adds before after n) (sym t.slots) adds;
+        room = omega (arith, room, t.slots);
+        unused = λ none. absurd (omega (arith, none, t.slots, t.some));
+      }
 
-  module _ (store : Slots) (r : LineRun lines_from end width start now old reader was is before store) where
-    -- the lines so far and a beginning of the next are no longer than the longest line
-    short_front : (new : Reader) (front more : List ℕ) → Reads reader new (front ++ more) → IsLine end front → (input : List ℕ) → Agrees (given_of (r.given ++ (front ++ more)) new) input → max (longest (lines end r.given)) (length front) ≤ longest_line end input
-    short_front new front more reads free input a =
-        let rest = new.held ++ a.rest in
-        let is_lines : lines end input ≡ lines end r.given ++ lines end (front ++ (more ++ rest)) =
-        ap (lines end) (a.is ∙ append_assoc (r.given ++ (front ++ more)) new.held a.rest ∙ append_assoc r.given (front ++ more) rest)
-        ∙ lines_so_far lines_from end width start now old reader was is before store r ((front ++ more) ++ rest) (may_come reader new (front ++ more) rest reads (λ done. λ i. done.held i ++ a.whole done.ended i))
-        ∙ ap (λ (l : List ℕ). lines end r.given ++ lines end l) (append_assoc front more rest) in
-        omega (arith, ap longest is_lines ∙ longest-append (lines end r.given) (lines end (front ++ (more ++ rest))), longest_piece end front (more ++ rest) free)
+      kept : (after : Slots) (most : ℕ) (given : Given) → Keeps width most before after → ((input : List ℕ) → Agrees given input → most ≤ longest_line end input) → Stored tool before after given
+      kept after most given k = stored after most given k.peak k.adds (omega (arith, k.adds.all k.denied))
 
-    keeps_next : (after : Slots) (slot : ℕ) (bytes : List ℕ) → slot < width → after ≡ with_line store slot bytes → Keeps width (max (longest (lines end r.given)) (length bytes)) before after
-    keeps_next after slot bytes within told =
-        let most = max (longest (lines end r.given)) (length bytes) in
-        keeps_line width most before store after slot bytes (keeps_more width (longest (lines end r.given)) most before store r.keeps (omega arith)) within (omega arith) told
+      keeps_last : (after : Slots) (bytes : List ℕ) → after ≡ with_line store (width - 1) bytes → Keeps width (max (longest r.ls) (length bytes)) before after
+      keeps_last after bytes told =
+          let most = max (longest r.ls) (length bytes) in
+          keeps_line width most before store after (width - 1) bytes (keeps_more width (longest r.ls) most before store r.keeps (omega arith)) (omega (arith, t.some)) (omega arith) told
 
-    -- what is decided of the lines so far was pushed, and behind them no more than a line and a block came
-    works_line : (new : Reader) (piece : List ℕ) → Reads reader new piece → (line behind : List ℕ) → piece ++ new.held ≡ line ++ behind → IsLine end line → length behind ≤ 8193 → Works tool (given_of (r.given ++ piece) new) r.pushed
-    works_line new piece reads line behind is free short =
-        let came : LinesCame end reader r.given (lines end r.given) = record { so_far = ⊎_elim (λ o. inl (o, lines_are end r.given)) (λ done. inr (refl, done)) r.whole } in
-        let e = before_line end reader new r.given (lines end r.given) came piece reads line behind is free short in
-        record {
-          before = λ u. e.before;
-          begins = subst (λ (l : List ℕ). Begins l r.pushed) (sym (t.decided_is e.before.earlier ∙ ap decided e.whole)) (t.sure (lines end r.given) r.pushed now r.on);
-        }
+      module _ (ready : IsReady old before) (sound : IsSound reader) where
+        -- a beginning of a line came
+        module _ {new : Reader} {piece : List ℕ} (reads : Reads reader new piece) (free : IsLine end piece) (is_sound : IsSound new) where
+          short_piece : (input : List ℕ) → Agrees (given_of (r.given ++ piece) new) input → max (longest r.ls) (length piece) ≤ longest_line end input
+          short_piece = piece_longest end reader r.given r.ls r.came new piece reads free
 
-    works_piece : (new : Reader) (piece : List ℕ) → Reads reader new piece → IsLine end piece → IsSound new → Works tool (given_of (r.given ++ piece) new) r.pushed
-    works_piece new piece reads free is_sound = works_line new piece reads piece new.held refl free (omega (arith, is_sound.held))
+          -- and a read failed
+          pub run_read : {after : Slots} → Keeps width (max (longest r.ls) (length piece)) before after → HasReadCause reader new → IsPass tool old new was is before after (Err (Read 0))
+          unfolding midway
+          run_read {after} k cause =
+              pass_read bytes_from (state start r.first) tool (t.text r.first) now old reader new was is before after midway ready sound piece reads
+              (kept after (max (longest r.ls) (length piece)) (given_of (r.given ++ piece) new) k short_piece) (works_piece new piece reads free is_sound) cause k.denied
+              (λ empty going. decided_so (given_of (r.given ++ piece) new) (whole_before end reader r.given r.ls r.came new piece reads free empty going))
 
-    -- a beginning of a line came
-    module _ (new : Reader) (piece : List ℕ) (reads : Reads reader new piece) (free : IsLine end piece) where
-      short_piece : (input : List ℕ) → Agrees (given_of (r.given ++ piece) new) input → max (longest (lines end r.given)) (length piece) ≤ longest_line end input
-      short_piece input a = short_front new piece [] (subst (λ (l : List ℕ). Reads reader new l) (sym (append-nil piece)) reads) free input (subst (λ (l : List ℕ). Agrees (given_of (r.given ++ l) new) input) (sym (append-nil piece)) a)
+          pub run_broken : {after : Slots} → after ≡ with_line store (width - 1) piece → HasReadCause reader new → IsPass tool old new was is before after (Err (Read 0))
+          run_broken {after} told = run_read (keeps_last after piece told)
 
-      pub keeps_piece : (after : Slots) (slot : ℕ) → slot < width → after ≡ with_line store slot piece → Keeps width (max (longest (lines end r.given)) (length piece)) before after
-      keeps_piece after slot = keeps_next after slot piece
+          -- and a growth was refused
+          pub run_memory : {after : Slots} → after ≡ with_denied (with_line store (width - 1) piece) → new.failed ≡ reader.failed → IsPass tool old new was is before after (Err Memory)
+          unfolding midway
+          run_memory {after} told same =
+              let k = keeps_last (with_line store (width - 1) piece) piece refl in
+              let denied : after.denied ≡ true = ap (λ (s : Slots). s.denied) told in
+              let size : length after.lines ≡ length (with_line store (width - 1) piece).lines = ap (λ (s : Slots). length s.lines) told in
+              pass_memory bytes_from (state start r.first) tool (t.text r.first) now old reader new was is before after midway ready sound piece reads
+              (stored after (max (longest r.ls) (length piece)) (given_of (r.given ++ piece) new) (omega (arith, k.peak, ap (λ (s : Slots). s.peak) told))
+              (record { least = omega (arith, size, k.adds.least); most = omega (arith, size, k.adds.most); all = λ allowed. absurd (false≢true (sym allowed ∙ denied)) })
+              (omega (arith, size, k.adds.all k.denied)) short_piece)
+              (works_piece new piece reads free is_sound) same denied
 
-      -- and a read failed
-      pub run_read : IsSound new → (after : Slots) → Keeps width (max (longest (lines end r.given)) (length piece)) before after → HasReadCause reader new → IsPass tool old new was is before after (Err (Read 0))
-      run_read is_sound after kept cause =
-          pass_read (bytes_from lines_from end) start tool t.text now old reader new was is before after (midway_of lines_from end width start now old reader was is before store r) ready sound piece reads
-          (stored_short after (max (longest (lines end r.given)) (length piece)) (given_of (r.given ++ piece) new) kept.peak kept.adds (omega (arith, kept.adds.all kept.denied)) short_piece) (works_piece new piece reads free is_sound) cause kept.denied
-          (λ empty going. subst (λ (l : List ℕ). Begins l r.pushed) (sym (t.decided_is (given_of (r.given ++ piece) new) ∙ ap decided (whole empty going))) (t.sure (lines end r.given) r.pushed now r.on))
-        where
-          whole : new.held ≡ [] → new.ended ≡ false → whole_lines end (given_of (r.given ++ piece) new) ≡ lines end r.given
-          whole empty going = ⊎_elim
-              (λ o. (λ i. whole_lines end (record { bytes = (o i ++ piece) ++ empty i; ended = going i })) ∙ ap (ended_lines end) (append-nil (text end (lines end r.given) ++ piece)) ∙ ended_of_text end (lines end r.given) piece (lines_are end r.given) free)
-              (λ done. absurd (false≢true (sym going ∙ (done_gives_nothing reader new piece done reads).2))) r.whole
+        -- a block could not be read
+        pub run_no_block : {new : Reader} → Reads reader new [] → IsSound new → HasReadCause reader new → IsPass tool old new was is before store (Err (Read 0))
+        run_no_block reads is_sound = run_read reads tt is_sound (keeps_more width (longest r.ls) (max (longest r.ls) 0) before store r.keeps (omega arith))
 
-      -- and a growth was refused
-      pub run_memory : IsSound new → (after : Slots) (slot : ℕ) → slot < width → after ≡ with_denied (with_line store slot piece) → new.failed ≡ reader.failed → IsPass tool old new was is before after (Err Memory)
-      run_memory is_sound after slot within told same =
-          let kept = keeps_piece (with_line store slot piece) slot within refl in
-          let denied : after.denied ≡ true = ap (λ (s : Slots). s.denied) told in
-          let size : length after.lines ≡ length (with_line store slot piece).lines = ap (λ (s : Slots). length s.lines) told in
-          pass_memory (bytes_from lines_from end) start tool t.text now old reader new was is before after (midway_of lines_from end width start now old reader was is before store r) ready sound piece reads
-          (stored_short after (max (longest (lines end r.given)) (length piece)) (given_of (r.given ++ piece) new) (omega (arith, kept.peak, ap (λ (s : Slots). s.peak) told))
-          (record { least = omega (arith, size, kept.adds.least); most = omega (arith, size, kept.adds.most); all = λ allowed. absurd (false≢true (sym allowed ∙ denied)) }) (omega (arith, size, kept.adds.all kept.denied)) short_piece) (works_piece new piece reads free is_sound) same denied
+        -- a write failed amid some lines, which stand in front of what comes next
+        halts : {new : Reader} (piece : List ℕ) → Reads reader new piece → {after : Slots} → Stored tool before after (given_of (r.given ++ piece) new)
+            → Works tool (given_of (r.given ++ piece) new) (written r.passed) → new.failed ≡ reader.failed → after.denied ≡ false
+            → {ls : List (List ℕ)} {is' : Output} → Halt now ls is is'
+            → ((rest : List ℕ) → (new.ended ≡ true → rest ≡ []) → (more : List (List ℕ)) × (lines end (piece ++ (new.held ++ rest)) ≡ ls ++ more))
+            → IsPass tool old new was is' before after (Err Write)
+        unfolding midway
+        halts {new} piece reads {after} s works same roomy {ls} {is'} h front =
+            pass_write bytes_from (state start r.first) tool (t.text r.first) now old reader new was is before after midway ready sound piece reads
+            s works is' (written h.passed) h.wrote h.fault same roomy
+            (λ rest may.
+            let f = front rest may in
+            let on = h.true_so_far f.0 in record {
+              rest = written on.0;
+              is = ap (λ (l : List (List ℕ)). written (rest_from now l)) f.1 ∙ ap written on.1 ∙ t.apart h.passed on.0;
+            })
 
-    -- the end was said, and what is written then was pushed
-    pub run_done : (new : Reader) (after : Slots) (is' : Output) → IsSound new → Goes reader new [] → IsDone new → new.pulled < 2 ^ 63 → Keeps width (longest (lines end r.given)) before after → total after.lines ≡ 0 → Wrote is is' (lines_from now []) → is'.faulted ≡ false → IsPass tool old new was is' before after (Ok tt)
-    run_done new after is' is_sound goes done short kept empty wrote clean =
-        pass_done (bytes_from lines_from end) start tool t.text now old reader new was is before after (midway_of lines_from end width start now old reader was is before store r) ready sound [] goes.reads
-        (stored_short after (longest (lines end r.given)) (given_of (r.given ++ []) new) kept.peak kept.adds (omega (arith, kept.adds.all kept.denied)) (λ input a. omega (arith, short_piece new [] goes.reads tt input a)))
-        (works_piece new [] goes.reads tt is_sound) is' wrote done refl goes.failed kept.denied clean goes.fault short empty
+        -- the lines of a block
+        pub run_block_halts : {ending : ℕ} → ending ≡ old.ending → {shown : Reader} {block : List ℕ} → IsSound shown → Goes reader shown [] → shown.held ≡ block
+            → {is' : Output} → Halt now (ended_lines ending block) is is' → IsPass tool old shown was is' before store (Err Write)
+        run_block_halts {ending} ends {shown} {block} is_sound goes held {is'} h =
+            halts [] goes.reads (kept store (max (longest r.ls) 0) (given_of (r.given ++ []) shown) (keeps_more width (longest r.ls) (max (longest r.ls) 0) before store r.keeps (omega arith))
+            (short_piece goes.reads tt is_sound))
+            (works_piece shown [] goes.reads tt is_sound) goes.failed r.keeps.denied (subst (λ (b : ℕ). Halt now (ended_lines b block) is is') (ends ∙ r.ending) h)
+            (λ rest may. (lines end ((parts_of end block).piece ++ rest), ap (λ (l : List ℕ). lines end (l ++ rest)) held ∙ ended_front end block rest))
 
-    -- a write failed while what is written of a line was pushed
-    pub run_write_line : (new : Reader) (after : Slots) (slot : ℕ) (e : GivesLine reader new store after slot) → IsSound new → slot < width → (is' : Output) → Halts lines_from now (e.line ∷ []) is is' → is'.faulted ≡ true → IsPass tool old new was is' before after (Err Write)
-    run_write_line new after slot e is_sound within is' h fault =
-        let kept = keeps_next after slot e.line within e.stored in
-        let free = subst (λ (b : ℕ). IsLine b e.line) r.ending e.whole in
-        pass_write (bytes_from lines_from end) start tool t.text now old reader new was is before after (midway_of lines_from end width start now old reader was is before store r) ready sound (e.line ++ e.ending) e.goes.reads
-        (stored_short after (max (longest (lines end r.given)) (length e.line)) (given_of (r.given ++ (e.line ++ e.ending)) new) kept.peak kept.adds (omega (arith, kept.adds.all kept.denied)) (short_front new e.line e.ending e.goes.reads free))
-        (works_line new (e.line ++ e.ending) e.goes.reads e.line (e.ending ++ new.held) (append_assoc e.line e.ending new.held) free (behind_line reader new store after slot e is_sound)) is' h.pushed h.wrote fault e.goes.failed kept.denied
-        (λ rest may. subst (λ (l : List (List ℕ)). Begins h.pushed (lines_from now l))
-        (sym (line_first lines_from end width start now old reader was is before store r new after slot e (new.held ++ rest) (λ done. λ i. done.held i ++ may done.ended i))) (h.true_so_far (lines end (new.held ++ rest))))
+        -- what was staged could not be sent
+        pub run_unsent : {is' : Output} → Wrote is is' [] → is'.faulted ≡ true → IsPass tool old reader was is' before store (Err Write)
+        run_unsent {is'} wrote fault =
+            run_block_halts refl sound (goes_nothing reader r.reached.goes.fault) refl
+            (record {
+              passed = [];
+              wrote = subst (λ (b : List ℕ). Wrote is is' b) (sym none_written) wrote;
+              fault = fault;
+              true_so_far = λ more. (rest_from now (ended_lines old.ending reader.held ++ more), refl);
+            })
 
-    -- a write failed amid the lines of a block
-    pub run_write_block : (shown : Reader) (block : List ℕ) → IsSound shown → Goes reader shown [] → shown.held ≡ block → (is' : Output) → Halts lines_from now (ended_lines end block) is is' → is'.faulted ≡ true → IsPass tool old shown was is' before store (Err Write)
-    run_write_block shown block is_sound goes held is' h fault =
-        pass_write (bytes_from lines_from end) start tool t.text now old reader shown was is before store (midway_of lines_from end width start now old reader was is before store r) ready sound [] goes.reads
-        (stored_short store (longest (lines end r.given)) (given_of (r.given ++ []) shown) r.keeps.peak r.keeps.adds (omega (arith, r.keeps.adds.all r.keeps.denied)) (λ input a. omega (arith, short_piece shown [] goes.reads tt input a)))
-        (works_piece shown [] goes.reads tt is_sound) is' h.pushed h.wrote fault goes.failed r.keeps.denied
-        (λ rest may. subst (λ (l : List (List ℕ)). Begins h.pushed (lines_from now l)) (sym (ap (λ (l : List ℕ). lines end (l ++ rest)) held ∙ ended_first lines_from end width start now old reader was is before store r shown block goes held rest))
-        (h.true_so_far (lines end ((parts_of end block).piece ++ rest))))
+    -- ---- by way of the last slot
 
-    -- what was staged could not be sent
-    pub run_unsent : (is' : Output) → Wrote is is' [] → is'.faulted ≡ true → IsPass tool old reader was is' before store (Err Write)
-    run_unsent is' wrote fault = run_write_block reader reader.held sound (goes_nothing reader r.reached.goes.fault) refl is' (halts_before lines_from now (ended_lines end reader.held) is is' wrote) fault
+    module _ {now : S} {reader : Reader} {is : Output} {store : Slots} (r : Run old reader was is before store (state now store)) where
+      -- the slot has these bytes, and the state is as it was
+      filled : {after : Slots} (bytes : List ℕ) → after ≡ with_line store (width - 1) bytes → line after (width - 1) ≡ bytes
+      filled bytes told = ap (λ (s : Slots). line s (width - 1)) told ∙ get_or-set_same store.lines (width - 1) bytes [] (omega (arith, run_room r, t.some))
 
--- the slots were refused
-pub run_unslotted : {X : Type 0} (tool : Tool) (lines_from : X → List (List ℕ) → List ℕ) (decided : List (List ℕ) → List ℕ) (end width : ℕ) (start : X) (t : IsLineTool tool lines_from decided end width start)
-    → (old : Reader) (was : Output) (before store : Slots) → IsReady old before → IsSound old → old.ending ≡ end → was.faulted ≡ false
-    → Adds before store width → store.peak ≡ before.peak → store.denied ≡ true → IsPass tool old old was was before store (Err Memory)
-run_unslotted tool lines_from decided end width start t old was before store ready sound ends clean adds same denied =
-    pass_unslotted tool old was before store ready sound clean (subst (λ (n : ℕ). Adds before store n) (sym t.slots) adds) same denied (omega (arith, t.slots, t.some)) (ends ∙ sym t.ends)
-    (subst (λ (l : List ℕ). Begins l []) (sym (t.decided_is (record { bytes = []; ended = false }))) (t.sure [] [] start (λ more. refl)))
+      same_state : {after : Slots} (bytes : List ℕ) → after ≡ with_line store (width - 1) bytes → state now after ≡ state now store
+      same_state bytes told = ap (state now) told ∙ t.stays now store bytes (run_room r)
+
+      -- the state is counted as before
+      pub filled_count : IsSound old → IsSound reader → {after : Slots} (bytes : List ℕ) → after ≡ with_line store (width - 1) bytes → counted (state now after) ≤ 2 ^ 63
+      filled_count sound is_sound bytes told = omega (arith, run_count r sound is_sound, ap counted (same_state bytes told))
+
+      module _ {new : Reader} {after : Slots} (e : GivesLine reader new store after (width - 1)) where
+        -- a line more came
+        pub run_line : {next : X} {is' : Output} {after' : Slots} → On (state now after) next (line after (width - 1) ∷ []) is is' → IsSwapped width after after'
+            → Run old new was is' before after' next
+        run_line {next} {is'} {after'} c swapped =
+            let most = max (longest r.ls) (longest (e.line ∷ [])) in
+            run_more r (e.line ++ e.ending) (e.line ∷ []) e.goes (lines_more end reader r.given r.ls r.came new store after (width - 1) e (r.reached.goes.reads.ending ∙ r.ending))
+            (keeps_swapped width most before after after' t.some (keeps_more width (max (longest r.ls) (length e.line)) most before after (keeps_last r after e.line e.stored) (omega arith)) swapped)
+            (subst (λ (x : X). On x next (e.line ∷ []) is is') (same_state e.line e.stored) (subst (λ (l : List ℕ). On (state now after) next (l ∷ []) is is') (filled e.line e.stored) c))
+
+        -- a write failed
+        pub run_line_halts : IsReady old before → IsSound reader → IsSound new → {is' : Output} → Halt (state now after) (line after (width - 1) ∷ []) is is'
+            → IsPass tool old new was is' before after (Err Write)
+        run_line_halts ready sound is_sound {is'} h =
+            let came = e.line ++ e.ending in
+            let ends = r.reached.goes.reads.ending ∙ r.ending in
+            let more = lines_more end reader r.given r.ls r.came new store after (width - 1) e ends in
+            let k = keeps_last r after e.line e.stored in
+            halts r ready sound came e.goes.reads (kept r after (longest (r.ls ++ e.line ∷ [])) (given_of (r.given ++ came) new)
+            (keeps_more width (max (longest r.ls) (length e.line)) (longest (r.ls ++ e.line ∷ [])) before after k (omega (arith, longest-append r.ls (e.line ∷ []))))
+            (came_longest end new (r.given ++ came) (r.ls ++ e.line ∷ []) more))
+            (works_line r new came e.goes.reads e.line (e.ending ++ new.held) (append_assoc e.line e.ending new.held) (subst (λ (b : ℕ). IsLine b e.line) ends e.whole)
+            (behind_line reader new store after (width - 1) e is_sound)) e.goes.failed k.denied
+            (subst (λ (x : X). Halt x (e.line ∷ []) is is') (same_state e.line e.stored) (subst (λ (l : List ℕ). Halt (state now after) (l ∷ []) is is') (filled e.line e.stored) h))
+            (λ rest may.
+            (lines end (new.held ++ rest), line_front end reader r.given r.ls r.came new store after (width - 1) e ends (new.held ++ rest) (λ done. λ i. done.held i ++ may done.ended i)))
+
+      -- the end was said
+      module _ (ready : IsReady old before) (sound : IsSound reader) {new : Reader} (is_sound : IsSound new) (goes : Goes reader new []) (done : IsDone new)
+          {after : Slots} (told : after ≡ with_line store (width - 1) [])
+          {is' : Output} (wrote : Wrote is is' (written (rest_from (state now after) []))) where
+        last : Wrote is is' (bytes_from r (state now store) [])
+        last = subst (λ (x : X). Wrote is is' (written (rest_from x []))) (same_state [] told) wrote
+
+        k : Keeps width (max (longest r.ls) 0) before after
+        k = keeps_last r after [] told
+
+        pub run_done : {after' : Slots} → Empties (width - 1) after after' → is'.faulted ≡ false → IsPass tool old new was is' before after' (Ok tt)
+        unfolding midway
+        run_done {after'} empties clean =
+            let end = emptied width (max (longest r.ls) 0) before after after' k t.some (filled [] told) empties in
+            pass_done (bytes_from r) (state start r.first) tool (t.text r.first) (state now store) old reader new was is before after' (midway r) ready sound [] goes.reads
+            (kept r after' (max (longest r.ls) 0) (given_of (r.given ++ []) new) end.0 (short_piece r ready sound goes.reads tt is_sound)) (works_piece r new [] goes.reads tt is_sound)
+            is' last done refl goes.failed end.0.denied clean goes.fault
+            (goes.short (sound.long r.reached.goes.fault)) end.1
+
+        pub run_unended : is'.faulted ≡ true → IsPass tool old new was is' before after (Err Write)
+        unfolding midway
+        run_unended fault =
+            pass_unended (bytes_from r) (state start r.first) tool (t.text r.first) (state now store) old reader new was is before after (midway r) ready sound [] goes.reads
+            (kept r after (max (longest r.ls) 0) (given_of (r.given ++ []) new) k (short_piece r ready sound goes.reads tt is_sound)) (works_piece r new [] goes.reads tt is_sound)
+            is' last done refl goes.failed k.denied fault

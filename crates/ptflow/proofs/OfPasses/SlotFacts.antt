@@ -1,12 +1,15 @@
 -- What a tool that works line by line keeps in the store: a line at most in each of its slots, and nothing in the others.
 -- So the store holds no more than so many times the longest of these lines.
-use Rattle.std.proofs.Common.{◌≡◌, ℕ, zero, suc, ◌+◌, ◌*◌, ◌<◌, ◌≤◌, false, List, [], ◌∷◌, length, take, drop, set, get_or, max, sym, ◌∙◌, ap, arith, ⊎_elim, take-append-drop}
+use Rattle.std.proofs.Common.{◌≡◌, ℕ, zero, suc, ◌+◌, ◌-◌, ◌*◌, ◌<◌, ◌≤◌, false, List, [], ◌∷◌, length, take, drop, set, get_or, max, refl, sym, ◌∙◌, ap, subst, arith, ⊎_elim, take-append-drop}
+use Rattle.std.specs.Prelude.{swap}
 use Rattle.std.proofs.Math.Nat.{mul-le-mul_left}
 use Rattle.std.proofs.lemmas.Bool.{cases_eq}
-use Rattle.std.proofs.lemmas.List.{length-set, drop-set-lt, get_or-set_same, get_or-set_other}
+use Rattle.std.proofs.lemmas.List.{drop_more, length-set, drop-set-lt, get_or-set_same, get_or-set_other}
+use Rattle.std.proofs.lemmas.List.Edits.{swap_is}
 use Rattle.std.proofs.lemmas.List.Sums.{sum_by-cons, sum_by-append, get_or-le-sum_by}
 use Rattle.ptlines.specs.Slots.{Slots, total, with_line}
 use Rattle.ptflow.specs.Passes.{Adds}
+use Rattle.ptflow.specs.Workings.Passes.Lines.{IsSwapped, Empties}
 
 -- each of the first `width` slots holds at most `most` bytes, and the others hold nothing
 pub record Keeps (width most : ℕ) (before store : Slots) : Type 0 where
@@ -77,11 +80,59 @@ keeps_line width most before store new slot bytes k within fits is = record {
     others : total (drop width new.lines) ≡ 0
     others = ap (λ (s : Slots). total (drop width s.lines)) is ∙ ap total (drop-set-lt width store.lines slot bytes within) ∙ k.others
 
--- the only slot was emptied
-pub emptied : (store new : Slots) → 0 < length store.lines → new ≡ with_line store 0 [] → total (drop 1 new.lines) ≡ 0 → total new.lines ≡ 0
-emptied store new some is others = omega (arith, kept_total 1 0 new.lines short others)
+-- the first and the last slot may have changed places
+pub keeps_swapped : (width most : ℕ) (before store new : Slots) → 0 < width → Keeps width most before store → IsSwapped width store new → Keeps width most before new
+keeps_swapped width most before store new some k either = ⊎_elim (λ same. subst (λ (s : Slots). Keeps width most before s) (sym same) k) changed either
   where
-    short : (k : ℕ) → k < 1 → length (get_or new.lines k []) ≤ 0
-    short k low =
-        let first : k ≡ 0 = omega arith in
-        omega (arith, ap length (ap (λ (s : Slots). get_or s.lines k []) is ∙ ap (λ (n : ℕ). get_or (set store.lines 0 []) n []) first ∙ get_or-set_same store.lines 0 [] [] some))
+    first : List ℕ
+    first = get_or store.lines 0 []
+
+    last : List ℕ
+    last = get_or store.lines (width - 1) []
+
+    keeps_both : Keeps width most before (with_line (with_line store 0 last) (width - 1) first)
+    keeps_both =
+        keeps_line width most before (with_line store 0 last) (with_line (with_line store 0 last) (width - 1) first) (width - 1) first
+        (keeps_line width most before store (with_line store 0 last) 0 last k some (k.short (width - 1) (omega (arith, some))) refl) (omega (arith, some)) (k.short 0 some) refl
+
+    changed : new ≡ record store { lines = swap store.lines 0 (width - 1) } → Keeps width most before new
+    changed is =
+        let room : width ≤ length store.lines = omega (arith, k.adds.all k.denied) in
+        let swapped = swap_is store.lines 0 (width - 1) [] (omega (arith, room, some)) (omega (arith, room, some)) in
+        let same : new.lines ≡ set (set store.lines 0 last) (width - 1) first = ap (λ (s : Slots). s.lines) is ∙ sym swapped in
+        record {
+          denied = ap (λ (s : Slots). s.denied) is ∙ k.denied;
+          adds = record {
+            least = omega (arith, ap length same, keeps_both.adds.least);
+            most = omega (arith, ap length same, keeps_both.adds.most);
+            all = λ allowed. ap length same ∙ keeps_both.adds.all keeps_both.denied;
+          };
+          short = λ i low. subst (λ (l : List (List ℕ)). length (get_or l i []) ≤ most) (sym same) (keeps_both.short i low);
+          others = ap (λ (l : List (List ℕ)). total (drop width l)) same ∙ keeps_both.others;
+          peak = omega (arith, ap (λ (s : Slots). s.peak) is, k.peak);
+        }
+
+-- the last slot was empty, and the others were emptied
+pub emptied : (width most : ℕ) (before store new : Slots) → Keeps width most before store → 0 < width → get_or store.lines (width - 1) [] ≡ []
+    → Empties (width - 1) store new → Keeps width most before new × (total new.lines ≡ 0)
+emptied width most before store new k some last e = (
+  record {
+    denied = e.denied ∙ k.denied;
+    adds = record {
+      least = omega (arith, e.size, k.adds.least);
+      most = omega (arith, e.size, k.adds.most);
+      all = λ allowed. e.size ∙ k.adds.all k.denied;
+    };
+    short = λ i low. omega (arith, none, get_or-le-sum_by length new.lines i [] (omega (arith, low, e.size, k.adds.all k.denied)));
+    others = omega (arith, none, total_split width new.lines);
+    peak = omega (arith, e.peak, k.peak, kept_total width most store.lines k.short k.others);
+  },
+  none,
+)
+  where
+    none : total new.lines ≡ 0
+    none =
+        let one : width - 1 + 1 ≡ width = omega (arith, some) in
+        let more = drop_more store.lines (width - 1) [] (omega (arith, some, k.adds.all k.denied)) in
+        let behind = ap total more ∙ sum_by-cons length (get_or store.lines (width - 1) []) (drop (width - 1 + 1) store.lines) in
+        omega (arith, e.left, behind, ap length last, ap (λ n. total (drop n store.lines)) one, k.others)

@@ -283,9 +283,10 @@ module _ (job : Uniq) (block : List ℕ) where
             }
 
         -- a write failed
-        pub running_halts : (is' : Output) → Wrote is is' (span_of block waiting ++ run_text job.show count (span_of block line)) → RunsHalt job (run_of [] 0) (ended_lines job.end block) was is'
-        running_halts is' wrote = record {
+        pub running_halts : (is' : Output) → is'.faulted ≡ true → Wrote is is' (span_of block waiting ++ run_text job.show count (span_of block line)) → RunsHalt job (run_of [] 0) (ended_lines job.end block) was is'
+        running_halts is' fault wrote = record {
           passed = r.passed ++ open_run (run_of r.first count);
+          fault = fault;
           wrote = subst (λ (b : List ℕ). Wrote was is' b)
               (sym (append-nil (r.pushed ++ (span_of block waiting ++ run_text job.show count (span_of block line)))) ∙ all_entries (span_of block waiting ++ run_text job.show count (span_of block line)) [] (append-nil (span_of block waiting ++ run_text job.show count (span_of block line))))
               (wrote_trans was is is' r.pushed (span_of block waiting ++ run_text job.show count (span_of block line)) r.clean r.wrote wrote);
@@ -307,12 +308,14 @@ module _ (job : Uniq) (block : List ℕ) where
       all_wrote : Wrote was is' (entries job r.passed)
       all_wrote = subst (λ (b : List ℕ). Wrote was is' b) r.waits (wrote_trans was is is' r.pushed (span_of block waiting) r.clean r.wrote wrote)
 
-      pub running_done : RunsOn job (run_of [] 0) (run_of (slice_range block line.from (line.to - 1)) count) (ended_lines job.end block) was is'
-      running_done = record {
+      pub running_done : is'.faulted ≡ false → RunsOn job (run_of [] 0) (run_of (slice_range block line.from (line.to - 1)) count) (ended_lines job.end block) was is'
+      running_done clean = record {
         passed = r.passed;
         wrote = all_wrote;
+        clean = clean;
         on = λ more. ap (λ (l : List (List ℕ)). runs_behind job (run_of [] 0) (l ++ more)) all_lines ∙ r.on more ∙ ap (λ (l : List ℕ). r.passed ++ runs_behind job (run_of l count) more) (sym first_is);
         count = omega (arith, r.few, ap length all_lines);
+        some = λ h. omega (arith, r.some);
       }
         where
           sizes : line.to - line.from ≡ length r.first + 1
@@ -324,10 +327,11 @@ module _ (job : Uniq) (block : List ℕ) where
               ap (λ n. take n (drop line.from block)) short ∙ sym (take-take (length r.first) (line.to - line.from) (drop line.from block) (omega (arith, sizes)))
               ∙ ap (take (length r.first)) r.whole ∙ take_at r.first (job.end ∷ []) (length r.first) refl
 
-      pub running_unended : RunsHalt job (run_of [] 0) (ended_lines job.end block) was is'
-      running_unended = record {
+      pub running_unended : is'.faulted ≡ true → RunsHalt job (run_of [] 0) (ended_lines job.end block) was is'
+      running_unended fault = record {
         passed = r.passed;
         wrote = all_wrote;
+        fault = fault;
         true_so_far = λ more. (runs_behind job (run_of r.first count) more, ap (λ (l : List (List ℕ)). runs_behind job (run_of [] 0) (l ++ more)) all_lines ∙ r.on more);
       }
 

@@ -1,24 +1,29 @@
 -- The run that is open, with the lines that are taken one by one and block by block.
-use Rattle.std.proofs.Common.{◌≡◌, ℕ, ◌+◌, ◌<◌, ◌&&◌, Bool, true, false, List, [], ◌∷◌, ◌++◌, Option, None, Some, length, take, drop, refl, sym, ◌∙◌, ap, subst, arith, append_assoc, length-append, take-append-drop}
+use Rattle.std.proofs.Common.{◌≡◌, ℕ, ◌+◌, ◌<◌, ◌&&◌, Bool, true, false, cond, List, [], ◌∷◌, ◌++◌, Option, None, Some, length, take, drop, set, refl, sym, ◌∙◌, ap, subst, arith, append_assoc, length-append, take-append-drop}
 use Rattle.std.specs.Prelude.{nat_lt, swap}
 use Rattle.std.specs.Option.{is_some}
 use Rattle.std.proofs.Math.Seq.{take-append-add}
-use Rattle.std.proofs.lemmas.List.{append-nil, length-take-le}
+use Rattle.std.proofs.lemmas.List.{append-nil, length-take-le, get_or-set_other}
+use Rattle.std.proofs.lemmas.List.Sums.{sum_by-cons}
 use Rattle.memchr.specs.Find.{IsFirstByte, is_byte}
 use Rattle.ptlines.specs.Outputs.{Output, Wrote}
-use Rattle.ptlines.specs.Slots.{Slots, line}
-use Rattle.ptlines.specs.Text.{text, ended_lines, IsLine}
+use Rattle.ptlines.specs.Inputs.{Begins, whole_lines}
+use Rattle.ptlines.specs.Slots.{Slots, line, total, with_line}
+use Rattle.ptlines.specs.Text.{text, lines, ended_lines, IsLine}
 use Rattle.ptlines.proofs.Pushed.{wrote_nothing, wrote_trans}
 use Rattle.ptlines.proofs.Scanned.{no_end}
 use Rattle.ptlines.proofs.TextLaws.{text-append, ended_none}
 use Rattle.ptlangs.specs.Jobs.{Uniq}
-use Rattle.ptflow.specs.Uniqs.{Run, is_same, entries}
+use Rattle.ptflow.specs.Uniqs.{Run, is_same, runs, entries, all_but_last, uniq_tool}
+use Rattle.ptflow.specs.Workings.Passes.Lines.{Empties, IsLineTool}
+use Rattle.ptflow.specs.Workings.Uniq.OpenLines.{first_line, open_run_of}
+use Rattle.ptflow.specs.declared.tools.uniq.Open.{Open}
 use Rattle.ptflow.specs.Workings.Uniq.BlockRuns.{RunsOn, RunsHalt, GoesOnWith}
-use Rattle.ptflow.specs.Workings.Uniq.OpenRuns.{run_of, open_run, runs_behind}
+use Rattle.ptflow.specs.Workings.Uniq.OpenRuns.{run_of, count_of, open_run, runs_behind, run_text}
 use Rattle.ptflow.specs.declared.tools.uniq.runs.Same.{Same}
 use Rattle.ptflow.proofs.OfUniq.BlockRuns.{other_count}
 use Rattle.ptflow.proofs.OfPasses.LineLaws.{ended_next}
-use Rattle.ptflow.proofs.OfUniq.OpenRuns.{behind_more, behind_turn, entries-append}
+use Rattle.ptflow.proofs.OfUniq.OpenRuns.{behind_more, behind_turn, entries-append, open_is, but_open}
 
 -- after the first two slots changed places
 pub swapped_first : (store after : Slots) → 1 < length store.lines → after ≡ record store { lines = swap store.lines 0 1 } → line after 0 ≡ line store 1
@@ -29,6 +34,46 @@ swapped_first store after slots is = ap (λ (s : Slots). line s 0) is ∙ by_lin
     by_lines (a ∷ []) slots = absurd (omega (arith, slots))
     by_lines (a ∷ b ∷ rest) slots = refl
 
+-- the first slot was emptied
+pub first_emptied : (store after : Slots) → 0 < length store.lines → after ≡ with_line store 0 [] → Empties 1 store after
+first_emptied store after some is = by_lines store.lines refl
+  where
+    by_lines : (lines : List (List ℕ)) → store.lines ≡ lines → Empties 1 store after
+    by_lines [] none = absurd (omega (arith, some, ap length none))
+    by_lines (l ∷ ls) are =
+        let lines_are : after.lines ≡ [] ∷ ls = ap (λ (s : Slots). s.lines) is ∙ ap (λ (x : List (List ℕ)). set x 0 []) are in
+        let left : total after.lines ≡ total ls = ap total lines_are ∙ sum_by-cons length [] ls ∙ omega arith in
+        record {
+          size = ap length lines_are ∙ sym (ap length are);
+          denied = ap (λ (s : Slots). s.denied) is;
+          left = left ∙ sym (ap (λ (x : List (List ℕ)). total (drop 1 x)) are);
+          peak = omega (arith, ap (λ (s : Slots). s.peak) is, ap (λ (s : Slots). total s.lines) is, left, ap total are ∙ sum_by-cons length l ls);
+        }
+
+-- what was pushed is what is written of the run with this first line
+pub run_wrote : (job : Uniq) (count : ℕ) (bytes first behind : List ℕ) (is is' : Output) → bytes ≡ first → behind ≡ job.end ∷ []
+    → Wrote is is' (run_text job.show count (bytes ++ behind)) → Wrote is is' (entries job (open_run (run_of first count)))
+run_wrote job count bytes first behind is is' bytes_are behind_is wrote =
+    subst (λ (b : List ℕ). Wrote is is' b) ((λ i. run_text job.show count (bytes_are i ++ behind_is i)) ∙ sym (open_is job (run_of first count))) wrote
+
+-- It is a tool over lines: the first of two slots may hold the first line of the run that is open, and what is decided
+-- leaves out that run.
+pub uniq_line_tool : (job : Uniq) (start : Open) → start.count ≡ 0 → IsLineTool (uniq_tool job) open_run_of (runs_behind job) (entries job) count_of job.end 2 start
+uniq_line_tool job start none = record {
+  apart = entries-append job;
+  stays = λ now store bytes room. ap (λ (l : List ℕ). run_of (cond now.kept now.bytes.items l) now.count) (get_or-set_other store.lines 1 0 bytes [] (λ e. absurd (omega (arith, e))));
+  fresh = λ store. omega (arith, none);
+  text = λ store bytes. ap (λ (n : ℕ). entries job (runs_behind job (run_of (first_line start store) n) (lines job.end bytes))) none;
+  decided = λ store given passed now on.
+      let ls = whole_lines job.end given in
+      let all = ap (runs job) (sym (append-nil ls)) ∙ ap (λ (n : ℕ). runs_behind job (run_of (first_line start store) n) (ls ++ [])) (sym none) ∙ on [] in
+      subst (λ (rs : List Run). Begins (entries job (all_but_last rs)) (entries job passed)) (sym all) (but_open job passed now);
+  size = λ bytes. refl;
+  slots = refl;
+  ends = refl;
+  some = omega arith;
+}
+
 -- ---- one line
 
 -- whether it is of the run, by a test of the bytes that were seen
@@ -37,16 +82,16 @@ line_tested job count first next seen came tested answer is seen_is came_is answ
 
 module _ (job : Uniq) (run : Run) (next : List ℕ) where
   -- it is of the run
-  pub line_more : (was : Output) → (nat_lt 0 run.count && is_same job run.line next) ≡ true → RunsOn job run (run_of run.line (run.count + 1)) (next ∷ []) was was
-  line_more was same = record { passed = []; wrote = wrote_nothing was; on = λ more. behind_more job run next more same; count = omega arith }
+  pub line_more : (was : Output) → was.faulted ≡ false → (nat_lt 0 run.count && is_same job run.line next) ≡ true → RunsOn job run (run_of run.line (run.count + 1)) (next ∷ []) was was
+  line_more was clean same = record { passed = []; wrote = wrote_nothing was; clean = clean; on = λ more. behind_more job run next more same; count = omega arith; some = λ h. omega arith }
 
   -- or it begins another one
   module _ (was is : Output) (other : (nat_lt 0 run.count && is_same job run.line next) ≡ false) (wrote : Wrote was is (entries job (open_run run))) where
-    pub line_turns : RunsOn job run (run_of next 1) (next ∷ []) was is
-    line_turns = record { passed = open_run run; wrote = wrote; on = λ more. behind_turn job run next more other; count = omega arith }
+    pub line_turns : is.faulted ≡ false → RunsOn job run (run_of next 1) (next ∷ []) was is
+    line_turns clean = record { passed = open_run run; wrote = wrote; clean = clean; on = λ more. behind_turn job run next more other; count = omega arith; some = λ h. omega arith }
 
-    pub line_halts : RunsHalt job run (next ∷ []) was is
-    line_halts = record { passed = open_run run; wrote = wrote; true_so_far = λ more. (runs_behind job (run_of next 1) more, behind_turn job run next more other) }
+    pub line_halts : is.faulted ≡ true → RunsHalt job run (next ∷ []) was is
+    line_halts fault = record { passed = open_run run; wrote = wrote; fault = fault; true_so_far = λ more. (runs_behind job (run_of next 1) more, behind_turn job run next more other) }
 
 -- ---- a block
 
@@ -55,12 +100,14 @@ not_found end block None none said = no_end end block none
 not_found end block (Some at) first said = cc
 
 -- no line of it is whole
-pub block_none : (job : Uniq) (end : ℕ) (run : Run) (block : List ℕ) (was : Output) → IsLine end block → RunsOn job run run (ended_lines end block) was was
-block_none job end run block was none = record {
+pub block_none : (job : Uniq) (end : ℕ) (run : Run) (block : List ℕ) (was : Output) → was.faulted ≡ false → IsLine end block → RunsOn job run run (ended_lines end block) was was
+block_none job end run block was clean none = record {
   passed = [];
   wrote = wrote_nothing was;
+  clean = clean;
   on = λ more. ap (λ (l : List (List ℕ)). runs_behind job run (l ++ more)) (ended_none end block none);
   count = omega arith;
+  some = λ h. absurd (omega (arith, h, ap length (ended_none end block none)));
 }
 
 -- the run that is open goes on for some lines of a block
@@ -79,12 +126,14 @@ module _ (job : Uniq) (end : ℕ) (first block : List ℕ) (same : Same) (g : Go
 
   -- no line more is whole
   module _ (none : IsLine end rest) where
-    pub block_on : (was : Output) → RunsOn job (run_of first count) run (ended_lines end block) was was
-    block_on was = record {
+    pub block_on : (was : Output) → was.faulted ≡ false → RunsOn job (run_of first count) run (ended_lines end block) was was
+    block_on was clean = record {
       passed = [];
       wrote = wrote_nothing was;
+      clean = clean;
       on = λ more. went_on more ∙ ap (λ (l : List (List ℕ)). runs_behind job run (l ++ more)) (ended_none end rest none);
       count = omega (arith, many);
+      some = λ h. omega (arith, some);
     }
 
     pub block_on_passed : take same.passed block ≡ text end (ended_lines end block)
@@ -102,8 +151,8 @@ module _ (job : Uniq) (end : ℕ) (first block : List ℕ) (same : Same) (g : Go
         ∙ ap (λ (l : List Run). open_run run ++ l) (sym (ap (runs_behind job (run_of [] 0)) is ∙ behind_turn job (run_of [] 0) next behind refl))
 
     module _ (was is is' : Output) (wrote : Wrote was is (entries job (open_run run))) where
-      pub block_run_halts : RunsHalt job (run_of first count) (ended_lines end block) was is
-      block_run_halts = record { passed = open_run run; wrote = wrote; true_so_far = λ more. (runs_behind job (run_of [] 0) (ended_lines end rest ++ more), turned more) }
+      pub block_run_halts : is.faulted ≡ true → RunsHalt job (run_of first count) (ended_lines end block) was is
+      block_run_halts fault = record { passed = open_run run; wrote = wrote; fault = fault; true_so_far = λ more. (runs_behind job (run_of [] 0) (ended_lines end rest ++ more), turned more) }
 
       both_wrote : (passed : List Run) → is.faulted ≡ false → Wrote is is' (entries job passed) → Wrote was is' (entries job (open_run run ++ passed))
       both_wrote passed clean more = subst (λ (b : List ℕ). Wrote was is' b) (sym (entries-append job (open_run run) passed)) (wrote_trans was is is' (entries job (open_run run)) (entries job passed) clean wrote more)
@@ -112,14 +161,17 @@ module _ (job : Uniq) (end : ℕ) (first block : List ℕ) (same : Same) (g : Go
       block_turns clean after r = record {
         passed = open_run run ++ r.passed;
         wrote = both_wrote r.passed clean r.wrote;
+        clean = r.clean;
         on = λ more. turned more ∙ ap (λ (l : List Run). open_run run ++ l) (r.on more) ∙ sym (append_assoc (open_run run) r.passed (runs_behind job after more));
         count = omega (arith, r.count, many);
+        some = λ h. r.some (omega (arith, ap length (ended_next end rest at found)));
       }
 
       pub block_halts : is.faulted ≡ false → RunsHalt job (run_of [] 0) (ended_lines end rest) is is' → RunsHalt job (run_of first count) (ended_lines end block) was is'
       block_halts clean h = record {
         passed = open_run run ++ h.passed;
         wrote = both_wrote h.passed clean h.wrote;
+        fault = h.fault;
         true_so_far = λ more. let t = h.true_so_far more in (t.0, turned more ∙ ap (λ (l : List Run). open_run run ++ l) t.1 ∙ sym (append_assoc (open_run run) h.passed t.0));
       }
 

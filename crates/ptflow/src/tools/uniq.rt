@@ -1,28 +1,25 @@
-//! `uniq`: a loop over lines that carries the open run, which may go on with the next line.
+//! `uniq`: a tool over lines that carries the open run, which may go on with the next line.
 //!
 //! `keys` says what is compared of a line, `runs` goes over the runs of the lines of a block.
 
-ghost use Rattle.std.specs.Prelude.{◌≡◌, ℕ, ◌<◌, ◌≤◌, ◌^◌, ◌&&◌, [], ◌∷◌, length, take, true, false, IfOk, OnOk, OnErr, nat_lt};
-ghost use Rattle.ptlines.specs.Readers.{IsSound};
-ghost use Rattle.ptlines.specs.Slots.{Slots, line};
-ghost use Rattle.ptlines.specs.Text.{text, ended_lines};
+ghost use Rattle.std.specs.Prelude.{◌≡◌, ◌<◌, ◌≤◌, ◌&&◌, length, nat_lt};
+ghost use Rattle.ptlines.specs.Slots.{Slots};
 ghost use Rattle.ptlangs.specs.Jobs.{uniq_job};
 ghost use Rattle.ptflow.specs.Passes.{IsReady, IsPass};
 ghost use Rattle.ptflow.specs.Uniqs.{is_same, uniq_tool};
-ghost use Rattle.ptflow.specs.Workings.Uniq.BlockRuns.{RunsOn, RunsHalt};
-ghost use Rattle.ptflow.specs.Workings.Uniq.OpenLines.{first_line, open_run_of, IsSwapped};
+ghost use Rattle.ptflow.specs.Workings.Uniq.OpenLines.{first_line, open_run_of};
 ghost use Rattle.ptflow.specs.Workings.Uniq.OpenRuns.{run_of};
 
 mod keys;
 mod runs;
 
 use crate::faults::FlowFault;
-use crate::slots::need_slots;
+use crate::lines::{LineTool, over_lines};
 use crate::tools::uniq::keys::key;
 use crate::tools::uniq::runs::{count_same, push_run, push_runs};
 use arrayvec::ArrayVec;
 use ptlangs::jobs::UniqJob;
-use ptlines::{LineFault, LineReader, Out, Sink, Source, Store, WriteFault, find_near};
+use ptlines::{LineReader, Out, Sink, Source, Store, WriteFault, find_near};
 use std::alloc::Allocator;
 
 // Whether a line goes on with the run of so many lines whose first line this is.
@@ -63,120 +60,88 @@ fn begin(run: &mut Open, count: u64, line: &[u8])
     let _ = run.bytes.try_extend_from_slice(line);
 }
 
-// Takes the line in the second slot: as one more of the run that is open, or else as the first one of the next run.
-fn take_line<A: Allocator + Copy, W: Sink>(
-    job: &UniqJob,
-    ending: u8,
-    run: &mut Open,
-    store: &mut Store<A>,
-    out: &mut Out<W>,
-) -> Result<(), WriteFault>
-    requires ending { ending ≡ (uniq_job job.now).end }
-    requires slots { 1 < length store.old.lines }
-    requires few { run.old.count < 2 ^ 63 }
-    requires clean { out.old.faulted ≡ false }
-    ensures continues { OnOk result (RunsOn (uniq_job job.now) (open_run_of run.old store.old)
-        (open_run_of run.new store.new) (line store.old 1 ∷ []) out.old out.new) }
-    ensures halts { OnErr result
-        (RunsHalt (uniq_job job.now) (open_run_of run.old store.old) (line store.old 1 ∷ []) out.old out.new) }
-    ensures some { OnOk result (0 < run.new.count) }
-    ensures store { OnOk result (IsSwapped store.old store.new) }
-    ensures same { OnErr result (store.new ≡ store.old) }
-    ensures clean { OnOk result (out.new.faulted ≡ false) }
-    ensures fault { OnErr result (out.new.faulted ≡ true) }
-{
-    if goes_on(job, run.count, first_line(run, store), store.line(1)) {
-        run.count += 1;
-        return Ok(());
-    }
-    push_run(job.show, run.count, first_line(run, store), &[ending], out)?;
-    store.swap(0, 1);
-    run.count = 1;
-    run.kept = false;
-    Ok(())
-}
+impl LineTool for UniqJob {
+    ghost use Rattle.std.specs.Prelude.{◌≡◌};
+    ghost use Rattle.ptlangs.specs.Jobs.{uniq_job};
+    ghost use Rattle.ptflow.specs.Uniqs.{Run, entries, uniq_tool};
+    ghost use Rattle.ptflow.specs.Workings.Uniq.OpenLines.{open_run_of};
+    ghost use Rattle.ptflow.specs.Workings.Uniq.OpenRuns.{count_of, runs_behind};
 
-// Takes the lines whose end is in the block. The answer is how many bytes these are. Nothing of a run is pushed before the
-// next key is known.
-fn take_block<A: Allocator + Copy, W: Sink>(
-    job: &UniqJob,
-    ending: u8,
-    block: &[u8],
-    run: &mut Open,
-    store: &Store<A>,
-    out: &mut Out<W>,
-) -> Result<usize, WriteFault>
-    requires ending { ending ≡ (uniq_job job.now).end }
-    requires slots { 0 < length store.now.lines }
-    requires short { length block.now ≤ 8192 }
-    requires some { 0 < run.old.count }
-    requires few { run.old.count < 2 ^ 63 }
-    requires clean { out.old.faulted ≡ false }
-    ensures continues { OnOk result (RunsOn (uniq_job job.now) (open_run_of run.old store.now)
-        (open_run_of run.new store.now) (ended_lines ending block.now) out.old out.new) }
-    ensures halts { OnErr result (RunsHalt (uniq_job job.now) (open_run_of run.old store.now)
-        (ended_lines ending block.now) out.old out.new) }
-    ensures within { IfOk result (λ passed. passed ≤ length block.now) }
-    ensures passed { IfOk result (λ passed. take passed block.now ≡ text ending (ended_lines ending block.now)) }
-    ensures clean { OnOk result (out.new.faulted ≡ false) }
-    ensures fault { OnErr result (out.new.faulted ≡ true) }
-{
-    if find_near(ending, block).is_none() {
-        return Ok(0);
-    }
-    let same = count_same(job, ending, first_line(run, store), block);
-    run.count += same.count;
-    let rest = &block[same.passed..];
-    let Some(at) = find_near(ending, rest) else {
-        return Ok(same.passed);
-    };
-    push_run(job.show, run.count, first_line(run, store), &[ending], out)?;
-    let last = push_runs(job, ending, at, rest, out)?;
-    begin(run, last.count, &rest[last.line.from..last.line.to - 1]);
-    Ok(same.passed + last.passed)
-}
+    type State = Open;
 
-// Writes what is written of each run of lines. In each turn a line goes through the second slot, since it may come in
-// pieces; the lines behind it whose end is in the reader's block are worked where they lie, and of them only the first
-// of the last run is copied. Nothing of a run is pushed before the next key or the end is known. Before a line is read
-// that may have to be waited for, what is staged is sent.
-fn over_runs<A: Allocator + Copy, S: Source, R: Source, W: Sink>(
-    job: &UniqJob,
-    reader: &mut LineReader<S, R>,
-    store: &mut Store<A>,
-    out: &mut Out<W>,
-) -> Result<(), FlowFault>
-    requires ending { reader.old.ending ≡ (uniq_job job.now).end }
-    requires ready { IsReady reader.old store.old }
-    requires sound { IsSound reader.old }
-    requires clean { out.old.faulted ≡ false }
-    ensures { IsPass (uniq_tool (uniq_job job.now)) reader.old reader.new out.old out.new store.old store.new result }
-{
-    need_slots(store, 2)?;
-    let ending = reader.ending();
-    let mut run = Open {
-        count: 0,
-        kept: false,
-        bytes: ArrayVec::new(),
-    };
-    'turns: loop {
-        reader.send_before_wait(out)?;
-        match reader.fill(store, 1) {
-            Ok(true) => take_line(job, ending, &mut run, store, out)?,
-            Ok(false) => {
-                push_run(job.show, run.count, first_line(&run, store), &[ending], out)?;
-                store.clear(0);
-                return Ok(());
-            }
-            Err(LineFault::Read) => return Err(FlowFault::Read(0)),
-            Err(LineFault::Memory) => return Err(FlowFault::Memory),
+    const SLOTS: usize = 2;
+
+    ghost SLOTS = { 2 };
+
+    ghost tool = { λ job. uniq_tool (uniq_job job) };
+
+    ghost Carried = { Run };
+
+    ghost carried = { open_run_of };
+
+    ghost Item = { Run };
+
+    ghost rest = { λ job. runs_behind (uniq_job job) };
+
+    ghost written = { λ job. entries (uniq_job job) };
+
+    ghost counted = { count_of };
+
+    ghost Fits = { λ job ending. ending ≡ (uniq_job job).end };
+
+    // The line is one more of the run that is open, or else the first one of the next run.
+    fn take_line<A: Allocator + Copy, W: Sink>(
+        &self,
+        ending: u8,
+        run: &mut Open,
+        store: &mut Store<A>,
+        out: &mut Out<W>,
+    ) -> Result<(), WriteFault> {
+        if goes_on(self, run.count, first_line(run, store), store.line(1)) {
+            run.count += 1;
+            return Ok(());
         }
-        reader.send_before_wait(out)?;
-        let passed = match reader.block() {
-            Ok(block) => take_block(job, ending, block, &mut run, store, out)?,
-            Err(_) => return Err(FlowFault::Read(0)),
+        push_run(self.show, run.count, first_line(run, store), &[ending], out)?;
+        store.swap(0, 1);
+        run.count = 1;
+        run.kept = false;
+        Ok(())
+    }
+
+    // Only the first line of the last run is copied. Nothing of a run is pushed before the next key is known.
+    fn take_block<A: Allocator + Copy, W: Sink>(
+        &self,
+        ending: u8,
+        block: &[u8],
+        run: &mut Open,
+        store: &Store<A>,
+        out: &mut Out<W>,
+    ) -> Result<usize, WriteFault> {
+        if find_near(ending, block).is_none() {
+            return Ok(0);
+        }
+        let same = count_same(self, ending, first_line(run, store), block);
+        run.count += same.count;
+        let rest = &block[same.passed..];
+        let Some(at) = find_near(ending, rest) else {
+            return Ok(same.passed);
         };
-        reader.consume(passed);
+        push_run(self.show, run.count, first_line(run, store), &[ending], out)?;
+        let last = push_runs(self, ending, at, rest, out)?;
+        begin(run, last.count, &rest[last.line.from..last.line.to - 1]);
+        Ok(same.passed + last.passed)
+    }
+
+    fn push_end<A: Allocator + Copy, W: Sink>(
+        &self,
+        ending: u8,
+        run: &Open,
+        store: &mut Store<A>,
+        out: &mut Out<W>,
+    ) -> Result<(), WriteFault> {
+        push_run(self.show, run.count, first_line(run, store), &[ending], out)?;
+        store.clear(0);
+        Ok(())
     }
 }
 
@@ -204,5 +169,10 @@ pub fn uniq<A: Allocator + Copy, S: Source, R: Source, W: Sink>(
         return Err(FlowFault::Write);
     }
     reader.set_ending(job.zero);
-    over_runs(job, reader, store, out)
+    let mut run = Open {
+        count: 0,
+        kept: false,
+        bytes: ArrayVec::new(),
+    };
+    over_lines(job, &mut run, reader, store, out)
 }

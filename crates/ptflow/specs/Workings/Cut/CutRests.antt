@@ -2,13 +2,11 @@
 use Rattle.std.specs.Prelude.{◌≡◌, ◌<◌, ◌≤◌, ℕ, ◌+◌, ◌==◌, List, [], ◌∷◌, ◌++◌, Bool, length, map, take, drop, if◌then◌else◌}
 use Rattle.std.specs.List.{count_by}
 use Rattle.memchr.specs.Find.{is_byte}
-use Rattle.ptlines.specs.Outputs.{Output}
 use Rattle.ptlines.specs.Text.{text, lines, ended_lines}
 use Rattle.ptlangs.specs.CutLists.{is_selected}
 use Rattle.ptlangs.specs.Jobs.{Cut}
 use Rattle.ptlangs.specs.declared.ranges.Interval.{Interval}
 use Rattle.ptflow.specs.Cuts.{chosen_from, cut_lines}
-use Rattle.ptflow.specs.Workings.Passes.Continuations.{Continues, Halts}
 
 -- ---- bytes: the state is how many bytes of the line that goes on have come
 
@@ -44,14 +42,6 @@ IsLineAt end block at start =
 
 abbrev pub cut_from : Cut → Unit {0} → List (List ℕ) → List ℕ
 cut_from job u ls = cut_lines job ls
-
--- these lines were taken
-abbrev pub GoesOn : Cut → List (List ℕ) → Output → Output → Type 0
-GoesOn job ls was is = Continues (cut_from job) tt tt ls was is
-
--- a write failed amid these lines
-abbrev pub BreaksOff : Cut → List (List ℕ) → Output → Output → Type 0
-BreaksOff job ls was is = Halts (cut_from job) tt ls was is
 
 -- The first lines of these bytes, which are so many bytes, were taken, and what is written of them stands behind what
 -- stood there, whatever comes.

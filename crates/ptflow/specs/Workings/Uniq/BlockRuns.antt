@@ -4,22 +4,18 @@ use Rattle.ptlines.specs.Outputs.{Output, Wrote}
 use Rattle.ptlines.specs.Text.{text, ended_lines}
 use Rattle.ptlangs.specs.Jobs.{Uniq}
 use Rattle.ptflow.specs.Uniqs.{Run, entries, is_same}
-use Rattle.ptflow.specs.Workings.Uniq.OpenRuns.{runs_behind, run_of}
+use Rattle.ptflow.specs.Workings.Passes.Lines.{LinesOn, LinesHalt}
+use Rattle.ptflow.specs.Workings.Uniq.OpenRuns.{count_of, runs_behind, run_of}
 use Rattle.ptflow.specs.declared.tools.uniq.runs.Same.{Same}
 use Rattle.ptflow.specs.declared.tools.uniq.runs.Span.{Span}
 
--- These lines came behind those of an open run: some runs were passed on, and this run is open behind them, whatever comes.
-pub record RunsOn (job : Uniq) (before after : Run) (ls : List (List ℕ)) (was is : Output) : Type 0 where
-  pub passed : List Run
-  pub wrote : Wrote was is (entries job passed)
-  pub on : (more : List (List ℕ)) → runs_behind job before (ls ++ more) ≡ passed ++ runs_behind job after more
-  pub count : after.count ≤ before.count + length ls
+-- these lines came behind those of an open run: some runs were passed on, and this run is open behind them
+abbrev pub RunsOn : Uniq → Run → Run → List (List ℕ) → Output → Output → Type 0
+RunsOn job before after ls was is = LinesOn (runs_behind job) (entries job) count_of before after ls was is
 
--- A write failed amid these lines: what was pushed is of the first runs, whatever comes.
-pub record RunsHalt (job : Uniq) (before : Run) (ls : List (List ℕ)) (was is : Output) : Type 0 where
-  pub passed : List Run
-  pub wrote : Wrote was is (entries job passed)
-  pub true_so_far : (more : List (List ℕ)) → (rest : List Run) × (runs_behind job before (ls ++ more) ≡ passed ++ rest)
+-- a write failed amid these lines
+abbrev pub RunsHalt : Uniq → Run → List (List ℕ) → Output → Output → Type 0
+RunsHalt job before ls was is = LinesHalt (runs_behind job) (entries job) before ls was is
 
 -- So many lines in front of a block are of the run with this first line, and the next one that is whole is not.
 pub record GoesOnWith (job : Uniq) (end : ℕ) (first block : List ℕ) (same : Same) : Type 0 where

@@ -1,5 +1,5 @@
 -- Where the first line of an open run is kept.
-use Rattle.std.specs.Prelude.{◌≡◌, ◌⊎◌, ℕ, List, swap, if◌then◌else◌}
+use Rattle.std.specs.Prelude.{ℕ, List, if◌then◌else◌}
 use Rattle.ptlines.specs.Slots.{Slots, line}
 use Rattle.ptflow.specs.Uniqs.{Run}
 use Rattle.ptflow.specs.Workings.Uniq.OpenRuns.{run_of}
@@ -11,7 +11,3 @@ first_line run store = if run.kept then run.bytes.items else line store 0
 
 abbrev pub open_run_of : Open → Slots → Run
 open_run_of run store = run_of (first_line run store) run.count
-
--- the first two slots may have changed places
-abbrev pub IsSwapped : Slots → Slots → Type 0
-IsSwapped before after = (after ≡ before) ⊎ (after ≡ record before { lines = swap before.lines 0 1 })

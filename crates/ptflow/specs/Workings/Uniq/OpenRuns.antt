@@ -8,6 +8,9 @@ use Rattle.ptflow.specs.Uniqs.{Run, is_same, runs}
 abbrev pub run_of : List ℕ → ℕ → Run
 run_of line count = record { line = line; count = count }
 
+abbrev pub count_of : Run → ℕ
+count_of run = run.count
+
 -- the run, if it has a line
 abbrev pub open_run : Run → List Run
 open_run run = if nat_lt 0 run.count then run ∷ [] else []

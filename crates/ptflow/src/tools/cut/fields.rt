@@ -4,20 +4,19 @@ ghost use Rattle.std.specs.Prelude.{◌≡◌, ◌+◌, ◌-◌, ◌<◌, ◌≤
 ghost use Rattle.memchr.specs.Find.{IsFirstByte, is_byte};
 ghost use Rattle.ptlines.specs.Outputs.{Wrote};
 ghost use Rattle.ptlines.specs.Readers.{IsSound};
-ghost use Rattle.ptlines.specs.Text.{text, ended_lines};
 ghost use Rattle.ptlangs.specs.Jobs.{cut_job};
 ghost use Rattle.ptflow.specs.Cuts.{cut_fields, cut_lines, cut_tool};
 ghost use Rattle.ptflow.specs.Passes.{IsReady, IsPass};
 ghost use Rattle.ptflow.specs.Workings.Cut.FieldPlaces.{fields, StartsAt};
-ghost use Rattle.ptflow.specs.Workings.Cut.CutRests.{GoesOn, BreaksOff, PutsLines};
+ghost use Rattle.ptflow.specs.Workings.Cut.CutRests.{PutsLines};
 
 use crate::faults::FlowFault;
 use crate::kernels::places::{line_end, nth_place};
-use crate::slots::need_slots;
+use crate::lines::{LineTool, over_lines};
 use memchr::memrchr;
 use ptlangs::jobs::CutJob;
 use ptlangs::ranges::Interval;
-use ptlines::{LineFault, LineReader, Out, Sink, Source, Store, WriteFault, copy_near, find_near};
+use ptlines::{LineReader, Out, Sink, Source, Store, WriteFault, copy_near, find_near};
 use std::alloc::Allocator;
 
 // What a block of lines is cut to, and 16 bytes more, which a copy of few bytes may change.
@@ -230,42 +229,81 @@ fn put_lines<A: Allocator + Copy>(
     (size, start + size)
 }
 
-// Pushes what is written of the lines whose end is in the block. The answer is how many bytes these lines are, their
-// ends included. Of fields no more is written than is read, so all of it is put in a room and pushed at once. Apart, so
-// that what the loop needs stays in registers.
-#[inline(never)]
-fn push_lines<A: Allocator + Copy, W: Sink>(
-    job: &CutJob<A>,
-    ending: u8,
-    block: &[u8],
-    room: &mut Room,
-    out: &mut Out<W>,
-) -> Result<usize, WriteFault>
-    requires by_fields { job.now.fields ≡ true }
-    requires ending { ending ≡ (cut_job job.now).end }
-    requires short { length block.now ≤ 8192 }
-    requires clean { out.old.faulted ≡ false }
-    ensures continues { OnOk result (GoesOn (cut_job job.now) (ended_lines ending block.now) out.old out.new) }
-    ensures halts { OnErr result (BreaksOff (cut_job job.now) (ended_lines ending block.now) out.old out.new) }
-    ensures within { IfOk result (λ count. count ≤ length block.now) }
-    ensures passed { IfOk result (λ count. take count block.now ≡ text ending (ended_lines ending block.now)) }
-    ensures clean { OnOk result (out.new.faulted ≡ false) }
-    ensures fault { OnErr result (out.new.faulted ≡ true) }
-{
-    let mut end = 0;
-    let mut rest = block;
-    'lines: while let Some(to) = line_end(ending, rest) {
-        let (size, put) = put_lines(job, ending, to, rest, room, end);
-        rest = &rest[size..];
-        end = put;
+impl<A: Allocator + Copy> LineTool for CutJob<A> {
+    ghost use Rattle.std.specs.Prelude.{◌≡◌, ℕ, true};
+    ghost use Rattle.ptlangs.specs.Jobs.{cut_job};
+    ghost use Rattle.ptflow.specs.Cuts.{cut_tool};
+    ghost use Rattle.ptflow.specs.Workings.Cut.CutRests.{cut_from};
+
+    type State = Room;
+
+    const SLOTS: usize = 1;
+
+    ghost SLOTS = { 1 };
+
+    ghost tool = { λ job. cut_tool (cut_job job) };
+
+    // Nothing is carried.
+    ghost Carried = { Unit {0} };
+
+    ghost carried = { λ room store. tt };
+
+    ghost Item = { ℕ };
+
+    ghost rest = { λ job. cut_from (cut_job job) };
+
+    ghost written = { λ job bytes. bytes };
+
+    ghost counted = { λ u. 1 };
+
+    ghost Fits = { λ job ending. (job.fields ≡ true) × (ending ≡ (cut_job job).end) };
+
+    fn take_line<B: Allocator + Copy, W: Sink>(
+        &self,
+        ending: u8,
+        _room: &mut Room,
+        store: &mut Store<B>,
+        out: &mut Out<W>,
+    ) -> Result<(), WriteFault> {
+        push_kept(self, ending, store.line(0), out)?;
+        Ok(())
     }
-    out.push(&room[..end])?;
-    Ok(block.len() - rest.len())
+
+    // Of fields no more is written than is read, so all of it is put in a room and pushed at once. Apart, so that what the
+    // loop needs stays in registers.
+    #[inline(never)]
+    fn take_block<B: Allocator + Copy, W: Sink>(
+        &self,
+        ending: u8,
+        block: &[u8],
+        room: &mut Room,
+        _store: &Store<B>,
+        out: &mut Out<W>,
+    ) -> Result<usize, WriteFault> {
+        let mut end = 0;
+        let mut rest = block;
+        'lines: while let Some(to) = line_end(ending, rest) {
+            let (size, put) = put_lines(self, ending, to, rest, room, end);
+            rest = &rest[size..];
+            end = put;
+        }
+        out.push(&room[..end])?;
+        Ok(block.len() - rest.len())
+    }
+
+    // Nothing is left to write.
+    fn push_end<B: Allocator + Copy, W: Sink>(
+        &self,
+        _ending: u8,
+        _room: &Room,
+        _store: &mut Store<B>,
+        _out: &mut Out<W>,
+    ) -> Result<(), WriteFault> {
+        Ok(())
+    }
 }
 
-// Writes the selected fields of each line of a reader, and behind each line the byte that ends it. In each turn a
-// line goes through the first slot, since it may come in pieces; the lines behind it whose end is in the reader's block
-// are worked where they lie. Before a read that may have to wait, what is staged is sent.
+// Writes the selected fields of each line of a reader, and behind each line the byte that ends it.
 pub(crate) fn cut_by_fields<A: Allocator + Copy, S: Source, R: Source, W: Sink>(
     job: &CutJob<A>,
     reader: &mut LineReader<S, R>,
@@ -279,22 +317,6 @@ pub(crate) fn cut_by_fields<A: Allocator + Copy, S: Source, R: Source, W: Sink>(
     requires clean { out.old.faulted ≡ false }
     ensures { IsPass (cut_tool (cut_job job.now)) reader.old reader.new out.old out.new store.old store.new result }
 {
-    need_slots(store, 1)?;
-    let ending = reader.ending();
     let mut room = [0; 8192 + 16];
-    'turns: loop {
-        reader.send_before_wait(out)?;
-        match reader.fill(store, 0) {
-            Ok(true) => push_kept(job, ending, store.line(0), out)?,
-            Ok(false) => return Ok(()),
-            Err(LineFault::Read) => return Err(FlowFault::Read(0)),
-            Err(LineFault::Memory) => return Err(FlowFault::Memory),
-        }
-        reader.send_before_wait(out)?;
-        let count = match reader.block() {
-            Ok(block) => push_lines(job, ending, block, &mut room, out)?,
-            Err(_) => return Err(FlowFault::Read(0)),
-        };
-        reader.consume(count);
-    }
+    over_lines(job, &mut room, reader, store, out)
 }

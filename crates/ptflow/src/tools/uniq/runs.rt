@@ -1,10 +1,11 @@
 //! The runs of the lines of a block.
 
-ghost use Rattle.std.specs.Prelude.{◌≡◌, ℕ, ◌-◌, ◌<◌, ◌≤◌, ◌^◌, ◌++◌, ◌∷◌, [], length, take, true, false, Some, IfOk, OnOk, OnErr, slice_range};
+ghost use Rattle.std.specs.Prelude.{◌≡◌, ℕ, ◌-◌, ◌<◌, ◌≤◌, ◌^◌, ◌++◌, ◌∷◌, [], length, true, false, Some, IfOk, OnOk, OnErr, slice_range};
 ghost use Rattle.memchr.specs.Find.{IsFirstByte, is_byte};
 ghost use Rattle.ptlines.specs.Outputs.{Wrote};
-ghost use Rattle.ptlines.specs.Text.{text, ended_lines};
+ghost use Rattle.ptlines.specs.Text.{ended_lines};
 ghost use Rattle.ptlangs.specs.Jobs.{uniq_job};
+ghost use Rattle.ptflow.specs.Workings.Passes.Lines.{PassesLines};
 ghost use Rattle.ptflow.specs.Workings.Uniq.OpenRuns.{is_shown, lead, run_of, run_text};
 ghost use Rattle.ptflow.specs.Workings.Uniq.BlockRuns.{RunsOn, RunsHalt, GoesOnWith, Waits, IsSpan, span_of};
 
@@ -192,11 +193,7 @@ pub(crate) fn push_runs<W: Sink>(
     ensures halts { OnErr result
         (RunsHalt (uniq_job job.now) (run_of [] 0) (ended_lines ending block.now) out.old out.new) }
     ensures span { IfOk result (λ last. (last.line.from < last.line.to) × (last.line.to ≤ length block.now)) }
-    ensures within { IfOk result (λ last. last.passed ≤ length block.now) }
-    ensures passed { IfOk result
-        (λ last. take last.passed block.now ≡ text ending (ended_lines ending block.now)) }
-    ensures clean { OnOk result (out.new.faulted ≡ false) }
-    ensures fault { OnErr result (out.new.faulted ≡ true) }
+    ensures passed { IfOk result (λ last. PassesLines ending block.now last.passed) }
 {
     let mut count = 1;
     let mut line = Span {

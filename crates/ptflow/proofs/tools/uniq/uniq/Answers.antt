@@ -1,8 +1,16 @@
-use Rattle.std.proofs.Common.{sym, ◌∙◌}
-use Rattle.ptlangs.specs.Jobs.{uniq_job}
+use Rattle.std.proofs.Common.{◌≡◌, Bool, true, false, cond, refl, sym, ◌∙◌}
+use Rattle.ptlangs.specs.Jobs.{ending, uniq_job}
 use Rattle.ptflow.specs.Uniqs.{uniq_tool}
 use Rattle.ptflow.proofs.OfPasses.PassLemmas.{pass_halted}
+use Rattle.ptflow.proofs.OfUniq.OpenLines.{uniq_line_tool}
 use Rattle.ptflow.proofs.tools.uniq.uniq.Goals as goal
 
 pub returns-then-has_failed : goal.returns-then-has_failed
 returns-then-has_failed g c = pass_halted (uniq_tool (uniq_job c.args.job.now)) c.args.reader.now c.args.out.now c.args.store.now c.requires (sym c.has_failed.ensures ∙ c.if-has_failed.true)
+
+ends : (zero : Bool) → cond zero 0 10 ≡ ending zero
+ends true = refl
+ends false = refl
+
+pub over_lines-requires-clause-tool : goal.over_lines-requires-clause-tool
+over_lines-requires-clause-tool g c = rw (c.set_ending.ensures.set, ends c.args.job.now.zero) (uniq_line_tool (uniq_job c.args.job.now) _ refl)

@@ -46,7 +46,7 @@ returns-in_err-waiting-clause-halts g c =
     (subst (λ (b : ℕ). RunsHalt job (run_of [] 0) (ended_lines b c.args.block.now) c.args.out.now c.let_wait.new.out) (sym c.requires.ending)
     (running_halts job c.args.block.now rest c.lines.count c.lines.line c.lines.waiting c.lines.own.now c.args.out.now c.lines.out r at (first_end c.args.ending job.end rest (Some at) c.requires.ending c.in-Some.ensures)
     (same_by_keys job r.first (take at rest) c.lines.own.now c.key-next.result.now r.own_is c.key-next.ensures ∙ sym c.eq.ensures ∙ c.if-eq.false)
-    c.let_wait.new.out c.in_err-waiting.ensures.wrote))
+    c.let_wait.new.out c.in_err-waiting.ensures.fault c.in_err-waiting.ensures.wrote))
 
 pub lines-preserved : goal.lines-preserved
 lines-preserved g c =
@@ -65,7 +65,7 @@ returns-in_err-push-clause-halts g c =
     on_err c.from_residual-in_err-push.result
     (subst (λ (b : ℕ). RunsHalt job (run_of [] 0) (ended_lines b c.args.block.now) c.args.out.now c.push.new.self) (sym c.requires.ending)
     (running_unended job c.args.block.now rest c.lines.count c.lines.line c.lines.waiting c.lines.own.now c.args.out.now c.lines.out c.lines.invariant
-    (subst (λ (b : ℕ). IsLine b rest) c.requires.ending (no_end c.args.ending rest c.in_default.ensures)) c.push.new.self c.push.ensures.wrote))
+    (subst (λ (b : ℕ). IsLine b rest) c.requires.ending (no_end c.args.ending rest c.in_default.ensures)) c.push.new.self c.push.ensures.wrote c.in_err-push.ensures.fault))
 
 pub overflow_sub-result : goal.overflow_sub-result
 overflow_sub-result g c =
@@ -78,12 +78,14 @@ returns-clause-continues g c =
     let rest = c.lines.rest.now in
     subst (λ (b : ℕ). RunsOn job (run_of [] 0) (run_of (slice_range c.args.block.now c.lines.line.from (c.lines.line.to - 1)) c.lines.count) (ended_lines b c.args.block.now) c.args.out.now c.push.new.self) (sym c.requires.ending)
     (running_done job c.args.block.now rest c.lines.count c.lines.line c.lines.waiting c.lines.own.now c.args.out.now c.lines.out c.lines.invariant
-    (subst (λ (b : ℕ). IsLine b rest) c.requires.ending (no_end c.args.ending rest c.in_default.ensures)) c.push.new.self c.push.ensures.wrote)
+    (subst (λ (b : ℕ). IsLine b rest) c.requires.ending (no_end c.args.ending rest c.in_default.ensures)) c.push.new.self c.push.ensures.wrote c.in_ok-push.ensures.clean)
 
 pub returns-clause-passed : goal.returns-clause-passed
 returns-clause-passed g c =
     let job = uniq_job c.args.job.now in
-    let rest = c.lines.rest.now in
-    subst (λ (b : ℕ). take (length c.args.block.now - length rest) c.args.block.now ≡ text b (ended_lines b c.args.block.now)) (sym c.requires.ending)
-    (running_passed job c.args.block.now rest c.lines.count c.lines.line c.lines.waiting c.lines.own.now c.args.out.now c.lines.out c.lines.invariant
-    (subst (λ (b : ℕ). IsLine b rest) c.requires.ending (no_end c.args.ending rest c.in_default.ensures)) c.push.new.self c.push.ensures.wrote)
+    let rest = c.lines.rest.now in (
+      omega arith,
+      subst (λ (b : ℕ). take (length c.args.block.now - length rest) c.args.block.now ≡ text b (ended_lines b c.args.block.now)) (sym c.requires.ending)
+          (running_passed job c.args.block.now rest c.lines.count c.lines.line c.lines.waiting c.lines.own.now c.args.out.now c.lines.out c.lines.invariant
+          (subst (λ (b : ℕ). IsLine b rest) c.requires.ending (no_end c.args.ending rest c.in_default.ensures)) c.push.new.self c.push.ensures.wrote),
+    )

@@ -1,11 +1,13 @@
 use Rattle.std.proofs.Common.{◌++◌, ℕ, List, take, ◌∙◌, ap, arith, length-drop}
 use Rattle.std.proofs.lemmas.List.{take_rest}
+use Rattle.ptlines.specs.Text.{ended_lines}
 use Rattle.ptlines.proofs.Scanned.{no_end}
 use Rattle.ptlines.proofs.TextLaws.{ended_none}
 use Rattle.ptlangs.specs.Jobs.{cut_job}
 use Rattle.ptflow.specs.Cuts.{cut_lines}
+use Rattle.ptflow.proofs.OfPasses.Continuations.{on_err}
 use Rattle.ptflow.proofs.OfPasses.LineLaws.{taken_more, taken_all}
-use Rattle.ptflow.proofs.tools.cut.fields.push_lines.Goals as goal
+use Rattle.ptflow.proofs.tools.cut.fields.CutJobLineTool.take_block.Goals as goal
 
 pub lines-preserved : goal.lines-preserved
 lines-preserved g c =
@@ -18,15 +20,30 @@ lines-preserved g c =
       long = c.put_lines-size.ensures.long ∙ l.invariant.long;
     })
 
+pub returns-in_err-push-clause-halts : goal.returns-in_err-push-clause-halts
+returns-in_err-push-clause-halts g c =
+    let l = c.lines in
+    on_err c.from_residual.result
+    (record {
+      passed = take l.end l.room;
+      wrote = c.push.ensures.wrote;
+      fault = c.in_err-push.ensures.fault;
+      true_so_far = λ more. (cut_lines (cut_job c.args.self.now) (ended_lines c.args.ending l.rest.now ++ more), l.invariant.on more);
+    })
+
 pub returns-clause-continues : goal.returns-clause-continues
 returns-clause-continues g c =
     let l = c.lines in
-    let job = cut_job c.args.job.now in
+    let job = cut_job c.args.self.now in
     let none = ended_none c.args.ending l.rest.now (no_end c.args.ending l.rest.now c.in_default.ensures) in record {
-      pushed = take l.end l.room;
+      passed = take l.end l.room;
       wrote = c.in_ok-push.ensures.wrote;
+      clean = c.in_ok-push.ensures.clean;
       on = λ more. l.invariant.on more ∙ ap (λ (ls : List (List ℕ)). take l.end l.room ++ cut_lines job (ls ++ more)) none;
+      count = omega arith;
+      some = λ h. omega arith;
     }
 
 pub returns-clause-passed : goal.returns-clause-passed
-returns-clause-passed g c = taken_all c.args.ending c.args.block.now c.lines.rest.now (no_end c.args.ending c.lines.rest.now c.in_default.ensures) c.lines.invariant.taken
+returns-clause-passed g c =
+    (omega arith, taken_all c.args.ending c.args.block.now c.lines.rest.now (no_end c.args.ending c.lines.rest.now c.in_default.ensures) c.lines.invariant.taken)
