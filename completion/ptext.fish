@@ -24,8 +24,8 @@ complete -c ptext -f
 complete -c ptext -n __ptext_has_no_tool -a cut -d 'Select bytes or fields of each line'
 complete -c ptext -n __ptext_has_no_tool -a paste -d 'Put lines side by side'
 complete -c ptext -n __ptext_has_no_tool -a join -d 'Join lines of two files that have a field in common'
-complete -c ptext -n __ptext_has_no_tool -a comm -d 'Say which lines two files have in common'
-complete -c ptext -n __ptext_has_no_tool -a uniq -d 'Write one line of each run of equal ones'
+complete -c ptext -n __ptext_has_no_tool -a comm -d 'Show which lines two sorted files have in common'
+complete -c ptext -n __ptext_has_no_tool -a uniq -d 'Write one line of each run of equal lines'
 complete -c ptext -n __ptext_has_no_tool -a tr -d 'Replace, delete and squeeze bytes'
 complete -c ptext -n '__ptext_is cut paste join comm uniq' -F
 complete -c ptext -n '__ptext_is cut paste join comm uniq' -s z -d 'Lines end with byte 0'

@@ -81,6 +81,17 @@ install uninstall PREFIX=/usr DESTDIR=build/rooted
 is "nothing is left below a relative DESTDIR" "./ " "$(listed "$top/build/rooted" | sed 's/^\. /.\/ /')"
 rmdir "$top/build/rooted"
 
+# Each says what it did, in one line.
+mkdir "$room/said.here"
+is "what install says" "installed in $room/said.here: bin/ptext, 7 pages in share/man/man1, completion for bash, zsh and fish" \
+    "$(make -s -C "$top" install PREFIX="$room/said.here" DESTDIR=)"
+is "what install-tools says" "installed in $room/said.here/libexec/ptext/bin: cut, paste, join, comm, uniq, tr" \
+    "$(make -s -C "$top" install-tools PREFIX="$room/said.here" DESTDIR= | tail -n 1)"
+is "what uninstall says" "what was installed in $room/said.here is removed" \
+    "$(make -s -C "$top" uninstall PREFIX="$room/said.here" DESTDIR=)"
+is "and a second time" "nothing is noted as installed in $room/said.here" \
+    "$(make -s -C "$top" uninstall PREFIX="$room/said.here" DESTDIR=)"
+
 # prefix in small letters is the same.
 mkdir "$room/small"
 install install prefix="$room/small" DESTDIR=
@@ -107,6 +118,8 @@ is "no room for the program" "cannot install: $room/blocked/bin/ptext: File too 
     "$(rm "$room/blocked/share/man" && ulimit -f 16 && fails install PREFIX="$room/blocked" DESTDIR= | grep '^cannot')"
 is "nothing is left of it" ". ./share " "$(listed "$room/blocked")"
 is "an empty prefix" "PREFIX is empty. Nothing was done." "$(fails install PREFIX= DESTDIR=)"
+is "a prefix with a tilde" "PREFIX begins with ~, which the shell did not expand: write \$HOME. Nothing was done." \
+    "$(fails install PREFIX='~/x' DESTDIR=)"
 install install PREFIX="$room/strict" DESTDIR=
 rm "$room/strict/share/man/man1/ptext.1"
 mkdir "$room/strict/share/man/man1/ptext.1"

@@ -19,11 +19,12 @@ is() {
     printf 'FAILED: %s\nwanted: %s\nfound: %s\n' "$1" "$2" "$3"
 }
 
-python3 "$top/tools/dist.py" archives "$room/one"
-(umask 077 && cd / && python3 "$top/tools/dist.py" archives "$room/two")
+python3 "$top/tools/dist.py" archives "$room/one" >"$room/said"
+(umask 077 && cd / && python3 "$top/tools/dist.py" archives "$room/two" >"$room/said")
 for file in "ptext-$version.tar.gz" "ptext-$version-linux-x86_64.tar.gz" SHA256SUMS; do
     is "$file, made twice" same "$(cmp -s "$room/one/$file" "$room/two/$file" && echo same)"
 done
+is "what is said" "made $room/two/ptext-$version.tar.gz, ptext-$version-linux-x86_64.tar.gz and SHA256SUMS" "$(cat "$room/said")"
 is "checksums" "" "$(cd "$room/one" && sha256sum --quiet -c SHA256SUMS 2>&1)"
 
 mkdir "$room/source" "$room/program"
@@ -38,13 +39,13 @@ for page in $(grep -o '\(docs\|bench\)/[A-Za-z]*[.][a-z]*' "$room/program/README
 done
 # An archive of the unpacked source is the same archive.
 mkdir "$room/source/build" && cp "$top/build/ptext" "$room/source/build"
-python3 "$room/source/tools/dist.py" archives "$room/three"
+python3 "$room/source/tools/dist.py" archives "$room/three" >"$room/said"
 is "an archive of the archive" same "$(cmp -s "$room/one/ptext-$version.tar.gz" "$room/three/ptext-$version.tar.gz" && echo same)"
 
 if command -v dpkg-deb >/dev/null; then
     deb=ptext_$version-1_amd64.deb
-    python3 "$top/tools/dist.py" deb "$room/one"
-    (umask 077 && cd / && python3 "$top/tools/dist.py" deb "$room/two")
+    python3 "$top/tools/dist.py" deb "$room/one" >"$room/said"
+    (umask 077 && cd / && python3 "$top/tools/dist.py" deb "$room/two" >"$room/said")
     is "$deb, made twice" same "$(cmp -s "$room/one/$deb" "$room/two/$deb" && echo same)"
     is "its version" "$version-1" "$(dpkg-deb -f "$room/one/$deb" Version)"
     if command -v dpkg >/dev/null && [ "$(id -u)" = 0 ]; then
@@ -56,6 +57,10 @@ if command -v dpkg-deb >/dev/null; then
             || { cat "$room/said"; bad=$((bad + 1)); }
         is "the program of the package" acd "$(echo abcd | "$room/root/usr/bin/ptext" cut -c 3-,1)"
         is "its tools by name" 'exec /usr/bin/ptext uniq "$@"' "$(tail -n 1 "$room/root/usr/libexec/ptext/bin/uniq")"
+        about=$room/root/usr/share/doc/ptext
+        for page in README.md $(grep -o '\(docs\|bench\)/[A-Za-z]*[.][a-z]*' "$about/README.md" | sort -u); do
+            is "$page, to read in the package" yes "$([ -s "$about/$page" ] && echo yes)"
+        done
         is "its pages" 7 "$(ls "$room/root/usr/share/man/man1" | grep -c '^ptext.*\.1\.gz$')"
         dpkg --root="$room/root" --log=/dev/null --force-script-chrootless -P ptext >"$room/said" 2>&1 || { cat "$room/said"; bad=$((bad + 1)); }
         is "nothing is left of the package" "" "$(find "$room/root" -name '*ptext*')"

@@ -1,7 +1,7 @@
 #!/usr/bin/env python3
 """Runs the examples of the README, the pages and the docs where they stand, lints the pages, and asks whether the options
 of the pages and of the completion are those of the program, whether its messages stand in the pages, whether these
-name the version, and whether docs/POSIX.md names what there is.
+name the version, and whether the docs name definitions, tests, modules and paths that there are.
 
   python3 tests/pages.py PROGRAM
 
@@ -27,6 +27,7 @@ PAGES = [*glob.glob("man/*.1", root_dir=TOP), *glob.glob("docs/*.md", root_dir=T
 FILES = [*[it for it in DOCS if os.path.exists(f"{TOP}/{it}")], *sorted(PAGES)]
 VERSIONS = {"gnu": (["cut", "--version"], "(GNU coreutils) 9.1\n"), "busybox": (["busybox"], "BusyBox v1.35.")}
 PROMPT = re.compile(r"(gnu|busybox|)\$ (.*)")
+NAMING = [f"docs/{it}.md" for it in ("proofs", "definitions", "PROVED", "DECISIONS")]
 SIGNS = {r"\e": "\\", r"\(aq": "'", r"\(ga": "`", r"\(ha": "^", r"\(ti": "~", r"\-": "-", r"\&": ""}
 
 COMPLETED = [
@@ -115,11 +116,12 @@ def lint():
 
 
 def other_versions():
-    """The pages and the list of changes that name another version than the file VERSION."""
+    """The pages, the list of changes and the README, where they name another version than the file VERSION."""
     with open(f"{TOP}/VERSION", encoding="ascii") as it:
         version = it.read().strip()
     found = []
-    for file, wanted in [*((it, f".Os ptext {version}\n") for it in FILES if it.endswith(".1")), ("CHANGELOG.md", f"## {version}\n")]:
+    named = [("CHANGELOG.md", f"## {version}\n"), ("README.md", f"ptext_{version}-1_amd64.deb"), ("README.md", f"ptext-{version}-linux")]
+    for file, wanted in [*((it, f".Os ptext {version}\n") for it in FILES if it.endswith(".1")), *named]:
         with open(f"{TOP}/{file}", encoding="utf-8") as it:
             found += [] if wanted in it.read() else [f"{file} does not name version {version}\n"]
     return "".join(found)
@@ -198,18 +200,37 @@ def lacking_names():
         cases = it.read()
 
     def holds(pattern, words):
-        texts = [open(it, encoding="utf-8").read() for it in glob.glob(f"{TOP}/crates/{pattern}")]
+        texts = [open(it, encoding="utf-8").read() for it in glob.glob(f"{TOP}/crates/{pattern}", recursive=True)]
         return any(re.search(words, it, re.M) for it in texts)
 
     found = [f"{one}.{two}" for one, two in set(re.findall(r"`([A-Z]\w+)\.(\w+)`", text)) if (one, two) != ("File", "name")]
-    lacking = [it for it in found if not holds(f"*/specs/{it.split('.')[0]}.antt", rf"^(abbrev )?(pub )?(unfoldable )?(pub )?(record |data )?{it.split('.')[1]}\b")]
-    lacking += [it for it in set(re.findall(r"`(\w+Rows)`", text)) - {"FileRows"} if not glob.glob(f"{TOP}/crates/*/proofs/{it}.antt")]
+    lacking = [it for it in found if not holds(f"*/specs/**/{it.split('.')[0]}.antt", rf"^(abbrev )?(pub )?(unfoldable )?(pub )?(record |data )?{it.split('.')[1]}\b")]
+    lacking += [it for it in set(re.findall(r"`(\w+Rows)`", text)) - {"FileRows"} if not glob.glob(f"{TOP}/crates/*/proofs/**/{it}.antt", recursive=True)]
     tests = set(re.findall(r"`(pt\w+)::(\w+)::(\w+)`", text))
     lacking += ["::".join(it) for it in tests if not holds(f"{it[0]}/src/{it[1]}.rt", rf"^fn {it[2]}\b")]
     # Titles stand behind program.sh, up to the end of a cell or a sentence.
     for titles in re.findall(r'program\.sh, ("[^|.;`]*")', text):
         lacking += [it for it in re.findall(r'"([^"]*)"', titles) if f'same "{it}"' not in cases]
     return "".join(f"docs/POSIX.md names what is not there: {it}\n" for it in sorted(lacking))
+
+
+def lacking_paths():
+    """Paths in crates/ that a text names, and modules, types and definitions that one of NAMING does, that are not there."""
+    paths = glob.glob(f"{TOP}/crates/*/[ps]*/**/*.*t*", recursive=True)
+    known = {os.path.basename(it).partition(".")[0] for it in paths}
+    for path in [it for it in paths if "/proofs/" not in it]:
+        with open(path, encoding="utf-8") as it:
+            known.update(re.findall(r"\b[A-Z]\w+", it.read()))
+    found = []
+    for file in [it for it in FILES if it.endswith(".md")]:
+        with open(f"{TOP}/{file}", encoding="utf-8") as it:
+            text = it.read().replace("specs/File.antt", "specs")
+        for path in re.findall(r"\b(?:crates/|(?<=`)pt[a-z]+/)[\w/*.-]*[\w*]", text):
+            ends = [f"{TOP}/crates/{path.removeprefix('crates/')}{it}" for it in ("", ".rt", ".antt")]
+            found += [] if any(glob.glob(it) for it in ends) else [f"{file} names a path that is not there: {path}\n"]
+        words = set(re.findall(r"\b[A-Z][a-z]\w+", " ".join(re.findall(r"`[^`\n]+`", text)))) if file in NAMING else set()
+        found += [f"{file} names what is not there: {it}\n" for it in sorted(words - known)]
+    return "".join(found)
 
 
 def main():
@@ -220,7 +241,7 @@ def main():
         print(f"left out: the examples of {side} (the system has no such version)")
     counts = [run_all(file, os.path.abspath(sys.argv[1]), known) for file in FILES]
     good, bad = (sum(it) for it in zip(*counts))
-    found = lint() + other_versions() + wrong_options(os.path.abspath(sys.argv[1])) + lacking_messages() + lacking_names()
+    found = lint() + other_versions() + wrong_options(os.path.abspath(sys.argv[1])) + lacking_messages() + lacking_names() + lacking_paths()
     print(f"{found}{good} of {good + bad} examples as wanted")
     return 1 if bad or found else 0
 

@@ -41,6 +41,17 @@ def below(crate, uses):
     return found.union(*(below(it, uses) for it in found)) if found else found
 
 
+def lines_of(crate):
+    """How long the text of a crate is, which says roughly how long its proof takes."""
+    count = 0
+    for part in ("src", "specs", "proofs"):
+        for at, _, files in os.walk(f"{TOP}/crates/{crate}/{part}"):
+            for file in files:
+                with open(f"{at}/{file}", "rb") as it:
+                    count += it.read().count(b"\n")
+    return count
+
+
 def link(source, target):
     try:
         os.link(source, target)
@@ -106,15 +117,24 @@ class Build:
         self.uses = uses
         self.left = [it for it in uses if it in below(PROGRAM, uses)]
         self.count = len(self.left)
-        self.running, self.done, self.failed = [], [], []
+        # (how many jobs each has that is running)
+        self.running, self.done, self.failed = {}, [], []
         self.turn = threading.Condition()
-
-    def weight(self, crate):
-        """How long the chain of crates is that wait for this one."""
-        return max((1 + self.weight(it) for it in self.uses if crate in self.uses[it]), default=0)
+        self.chains = {}
+        for crate in reversed(self.left):
+            above = (self.chains.get(it, 0) for it in uses if crate in uses[it])
+            self.chains[crate] = lines_of(crate) + max(above, default=0)
 
     def ready(self):
-        return sorted((it for it in self.left if below(it, self.uses) <= set(self.done)), key=lambda it: -self.weight(it))
+        """The crates that can be proved now; first the one for which the longest chain of text waits."""
+        return sorted((it for it in self.left if below(it, self.uses) <= set(self.done)), key=lambda it: -self.chains[it])
+
+    def jobs(self, crate, others, processors):
+        """How many jobs a crate gets beside so many others: one, or two where the longest chain waits for it. Two take a
+        quarter more of the processor than one, and are done in three quarters of the time."""
+        is_first = all(self.chains[crate] >= self.chains[it] for it in [*self.left, *self.running])
+        is_room = others == 0 or processors >= 4
+        return min(2, processors - sum(self.running.values())) if is_first and is_room else 1
 
     def prove(self, crate, jobs):
         began, good = time.monotonic(), False
@@ -124,7 +144,7 @@ class Build:
             say(f"{crate}: {why}")
         finally:
             with self.turn:
-                self.running.remove(crate)
+                del self.running[crate]
                 (self.done if good else self.failed).append(crate)
                 if good:
                     say(f"{crate}: proved, {time.monotonic() - began:.0f} s ({len(self.done)} of {self.count})")
@@ -151,9 +171,11 @@ class Build:
                 ready = [] if self.failed else self.ready()
                 room = max(min(processors, len(self.running) + available() // MEMORY), 1) - len(self.running)
                 for crate in ready[:room]:
-                    jobs = max(processors // (len(self.running) + len(ready)), min(processors, 2))
+                    if sum(self.running.values()) >= processors:
+                        break
+                    jobs = self.jobs(crate, len(self.running) + len(ready) - 1, processors)
                     self.left.remove(crate)
-                    self.running.append(crate)
+                    self.running[crate] = jobs
                     threading.Thread(target=self.prove, args=(crate, jobs), daemon=True).start()
                 if self.failed and not self.running:
                     return False

@@ -3,7 +3,7 @@
 
   python3 tools/dist.py archives FOLDER     ptext-VERSION.tar.gz, the source; ptext-VERSION-linux-x86_64.tar.gz, the stripped
                                             program with its pages, docs and completion; SHA256SUMS of both
-  python3 tools/dist.py deb FOLDER          ptext_VERSION-1_amd64.deb
+  python3 tools/dist.py deb FOLDER          ptext_VERSION-1_amd64.deb, with the same, and each tool under its own name
 """
 import gzip
 import hashlib
@@ -57,18 +57,23 @@ def mode_of(path):
     return 0o755 if os.access(path, os.X_OK) else 0o644
 
 
+def texts():
+    """What there is to read: the README, and what it names and shows."""
+    docs = [f"docs/{it}" for it in os.listdir(f"{TOP}/docs") if it.endswith(".md")]
+    read = ["README.md", "CHANGELOG.md", "CONTRIBUTING.md", "bench/README.md", "bench/speed.svg", *docs]
+    return [(it, 0o644, bytes_of(f"{TOP}/{it}")) for it in read]
+
+
 def archives(folder):
     named = f"ptext-{VERSION}"
     archive(f"{folder}/{named}.tar.gz", named, [(it, mode_of(f"{TOP}/{it}"), bytes_of(f"{TOP}/{it}")) for it in source_files()])
     built = f"{named}-linux-x86_64"
-    # (The README names the docs, and shows the chart.)
-    docs = [f"docs/{it}" for it in os.listdir(f"{TOP}/docs") if it.endswith(".md")]
-    read = ["README.md", "CHANGELOG.md", "CONTRIBUTING.md", "bench/README.md", "bench/speed.svg", *docs, *LICENSES]
-    texts = [(it, 0o644, bytes_of(f"{TOP}/{it}")) for it in read]
-    archive(f"{folder}/{built}.tar.gz", built, [*files("", False), *texts])
+    licenses = [(it, 0o644, bytes_of(f"{TOP}/{it}")) for it in LICENSES]
+    archive(f"{folder}/{built}.tar.gz", built, [*files("", False), *texts(), *licenses])
     sums = [f"{hashlib.sha256(bytes_of(f'{folder}/{it}.tar.gz')).hexdigest()}  {it}.tar.gz\n" for it in (named, built)]
     with open(f"{folder}/SHA256SUMS", "w", encoding="ascii") as it:
         it.write("".join(sums))
+    print(f"made {folder}/{named}.tar.gz, {built}.tar.gz and SHA256SUMS")
 
 
 def packed(text):
@@ -94,6 +99,7 @@ License: Apache-2.0
  On Debian systems the full text is in /usr/share/common-licenses/Apache-2.0.
 """
 
+# (There is no Homepage: this project has no address of its own.)
 CONTROL = """Package: ptext
 Version: {version}-1
 Section: utils
@@ -133,6 +139,7 @@ def package_files():
     found += [(f"usr/libexec/ptext/bin/{name}", 0o755, script("/usr", name)) for name in NAMES]
     about, date = "usr/share/doc/ptext", subprocess.run(["date", "-u", "-R", "-d", f"@{TIME}"], check=True, capture_output=True)
     found.append((f"{about}/changelog.gz", 0o644, packed(bytes_of(f"{TOP}/CHANGELOG.md"))))
+    found += [(f"{about}/{name}", mode, text) for name, mode, text in texts() if name != "CHANGELOG.md"]
     changes = CHANGES.format(version=VERSION, date=date.stdout.decode().strip())
     found.append((f"{about}/changelog.Debian.gz", 0o644, packed(changes.encode())))
     mit = bytes_of(f"{TOP}/LICENSE-MIT").decode().partition("\n\n")[2].partition("\n\n")[2]
@@ -162,7 +169,9 @@ def deb(folder):
         path = f"{folder}/ptext_{VERSION}-1_amd64.deb"
         surroundings = {**os.environ, "SOURCE_DATE_EPOCH": str(TIME)}
         words = ["dpkg-deb", "--root-owner-group", "-Zxz", "--build", room, path]
-        return subprocess.run(words, env=surroundings, stdout=subprocess.DEVNULL, check=False).returncode
+        status = subprocess.run(words, env=surroundings, stdout=subprocess.DEVNULL, check=False).returncode
+        print(f"could not make {path}" if status else f"made {path}")
+        return status
 
 
 def main():

@@ -125,7 +125,8 @@ def files(prefix, with_tools):
 
 def install(place, with_tools=False):
     try:
-        for name, mode, text in files(place.prefix, with_tools):
+        given = files(place.prefix, with_tools)
+        for name, mode, text in given:
             place.put(name, mode, text)
         place.keep_notes()
     except OSError as why:
@@ -135,6 +136,11 @@ def install(place, with_tools=False):
         place.undo()
         return "stopped: nothing was installed."
     place.settle()
+    if with_tools:
+        print(f"installed in {place.root}/libexec/ptext/bin: {', '.join(NAMES)}")
+    else:
+        pages = sum("/man1/" in name for name, _, _ in given)
+        print(f"installed in {place.root}: bin/ptext, {pages} pages in share/man/man1, completion for bash, zsh and fish")
     return 0
 
 
@@ -147,6 +153,7 @@ def uninstall(place):
     paths = [os.path.normpath(f"{place.root}/{it}") for it in place.noted]
     if not paths:
         print(f"nothing is noted as installed in {place.root}")
+        return 0
     # The notes go last, so that what is left is known.
     notes = os.path.normpath(f"{place.root}/{NOTED}")
     try:
@@ -158,6 +165,7 @@ def uninstall(place):
                 os.rmdir(path)
     except OSError as why:
         return f"cannot uninstall: {why.filename}: {why.strerror}. What is left is noted in {notes}."
+    print(f"what was installed in {place.root} is removed")
     return 0
 
 
@@ -167,6 +175,8 @@ def main():
         return __doc__
     if not sys.argv[2]:
         return "PREFIX is empty. Nothing was done."
+    if sys.argv[2].startswith("~"):
+        return "PREFIX begins with ~, which the shell did not expand: write $HOME. Nothing was done."
     return does[sys.argv[1]](Place(sys.argv[2], (sys.argv[3:] or [""])[0]))
 
 

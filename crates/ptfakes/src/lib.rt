@@ -1,4 +1,4 @@
-//! Sources, sinks and an allocator for tests. The program uses none of them.
+//! Sources, sinks, an allocator and texts for tests. The program uses none of them.
 #![tactic(auto)]
 
 mod calls;
@@ -7,6 +7,7 @@ mod kept;
 mod pieces;
 mod refusing;
 mod repeated;
+pub mod texts;
 mod watched;
 
 pub use fixed::Fixed;

@@ -48,4 +48,4 @@ cut_decided job given = cut_lines job (whole_lines job.end given)
 -- a line of fields goes through a slot; bytes are not kept
 abbrev pub cut_tool : Cut → Tool
 cut_tool job =
-    record { text = cut job; decided = cut_decided job; size = longest_line job.end; slots = if job.fields then 1 else 0 }
+    record { text = cut job; decided = cut_decided job; size = longest_line job.end; slots = if job.fields then 1 else 0; end = job.end }

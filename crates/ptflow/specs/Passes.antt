@@ -69,9 +69,9 @@ pub record Untouched (old new : Reader) (was is : Output) (before store : Slots)
   pub same_output : is ≡ was
   pub same_store : store ≡ before
 
--- nothing was read or pushed; another byte may end the lines
-pub record IsUnread (old new : Reader) (was is : Output) : Type 0 where
-  pub same_reader : new ≡ record old { ending = new.ending }
+-- nothing was read or pushed; lines end with this byte
+pub record IsUnread (end : ℕ) (old new : Reader) (was is : Output) : Type 0 where
+  pub same_reader : new ≡ record old { ending = end }
   pub same_output : is ≡ was
 
 -- An engine went over one input.
@@ -93,7 +93,7 @@ pub record IsPass (tool : Tool) (old new : Reader) (was is : Output) (before sto
   pub peak : (input : List ℕ) → Agrees given input → store.peak ≤ max before.peak (tool.size input)
   pub slots : was.faulted ≡ false → Adds before store tool.slots
   -- where a slot was refused, nothing was read or pushed
-  pub refused : was.faulted ≡ false → length store.lines < tool.slots → IsUnread old new was is
+  pub refused : was.faulted ≡ false → length store.lines < tool.slots → IsUnread tool.end old new was is
   -- a tool without slots leaves the store alone
   pub unused : tool.slots ≡ 0 → store ≡ before
   -- on an output that has faulted nothing is done

@@ -1,5 +1,5 @@
 -- What `paste` does when it is called on several inputs, whose places the cells name.
-use Rattle.std.specs.Prelude.{◌≡◌, ◌≢◌, ◌≤◌, ◌<◌, ◌^◌, ℕ, true, false, List, [], None, Result, Ok, Err, All, length, max, slice_index_or}
+use Rattle.std.specs.Prelude.{◌≡◌, ◌≢◌, ◌≤◌, ◌<◌, ◌^◌, ◌==◌, ℕ, true, false, List, [], None, Result, Ok, Err, All, length, max, slice_index_or, if◌then◌else◌}
 use Rattle.ptlines.specs.Readers.{Reader, IsDone, HasReadCause}
 use Rattle.ptlines.specs.Inputs.{Given, Begins, Agrees, Came}
 use Rattle.ptlines.specs.KeepingUp.{KeepsUp}
@@ -17,6 +17,10 @@ no_reader = record { held = []; left = None; ended = false; failed = false; pull
 
 abbrev pub reader_at : List Reader → ℕ → Reader
 reader_at readers place = slice_index_or readers place no_reader
+
+-- this at a place, and at the others what it was
+abbrev pub put_at : {X : Type 0} → ℕ → X → (ℕ → X) → ℕ → X
+put_at place x f other = if other == place then x else f other
 
 -- a reader that can be read
 pub record IsReadable (reader : Reader) : Type 0 where
@@ -100,8 +104,9 @@ pub record IsPastePass (job : Paste) (cells : List ℕ) (old new : List Reader) 
   -- after a read that failed, what was decided was pushed, unless a write failed
   pub sure : (place : ℕ) → 0 < times cells place → (reader_at new place).failed ≡ true → is.faulted ≡ false
       → Begins (paste_decided job cells given) pushed
-  -- and so was, whatever failed, what was decided two blocks earlier
-  pub keeps_up : was.faulted ≡ false → KeepsUp {I = ℕ} (paste_decided job cells) given was is pushed
+  -- and so was, whatever failed and whatever came of the other inputs, what was decided two blocks of this one earlier
+  pub keeps_up : (place : ℕ) → 0 < times cells place → was.faulted ≡ false
+      → KeepsUp {I = Unit {0}} (λ came. paste_decided job cells (put_at place (came tt) given)) (λ u. given place) was is pushed
   -- all of it was pushed
   pub whole : result ≡ Ok tt → pushed ≡ paste job cells (λ place. (given place).bytes)
   -- the store held no more than a longest line for each cell

@@ -30,7 +30,7 @@ serial_decided job given = glued_from job.delimiters 0 (whole_lines job.end give
 
 -- no line is kept
 abbrev pub serial_tool : Paste → Tool
-serial_tool job = record { text = paste_serial job; decided = serial_decided job; size = longest_line job.end; slots = 0 }
+serial_tool job = record { text = paste_serial job; decided = serial_decided job; size = longest_line job.end; slots = 0; end = job.end }
 
 -- ---- the lines of several inputs side by side
 

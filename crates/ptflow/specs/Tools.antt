@@ -11,3 +11,5 @@ pub record Tool : Type 0 where
   pub size : List ℕ → ℕ
   -- how many slots are used
   pub slots : ℕ
+  -- the byte that ends a line, which matters where slots are used
+  pub end : ℕ

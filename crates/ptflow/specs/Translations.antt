@@ -31,4 +31,4 @@ tr_decided tables given = tr tables given.bytes
 
 -- no line is kept
 abbrev pub tr_tool : Tables → Tool
-tr_tool tables = record { text = tr tables; decided = tr_decided tables; size = λ input. 0; slots = 0 }
+tr_tool tables = record { text = tr tables; decided = tr_decided tables; size = λ input. 0; slots = 0; end = 10 }

@@ -79,4 +79,5 @@ uniq_decided job given = entries job (all_but_last (runs job (whole_lines job.en
 
 -- the store holds the first line of a run and the line behind it
 abbrev pub uniq_tool : Uniq → Tool
-uniq_tool job = record { text = uniq job; decided = uniq_decided job; size = λ bytes. 2 * longest_line job.end bytes; slots = 2 }
+uniq_tool job =
+    record { text = uniq job; decided = uniq_decided job; size = λ bytes. 2 * longest_line job.end bytes; slots = 2; end = job.end }

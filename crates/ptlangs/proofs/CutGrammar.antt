@@ -18,7 +18,8 @@ use Rattle.ptlangs.specs.declared.ranges.Interval.{Interval}
 checked_ok : (r : Interval) → IsProper r → checked (Some r) ≡ Ok r
 checked_ok r proper =
     let large : (ltb greatest r.first || ltb greatest r.last) ≡ false = or_from _ _ (le-ltb greatest r.first (omega (arith, proper.ascending, proper.fits))) (le-ltb greatest r.last proper.fits) in
-    let zero : (eqb r.first 0 || eqb r.last 0) ≡ false = or_from _ _ (ne_eqb r.first 0 (λ e. omega (arith, proper.positive, e))) (ne_eqb r.last 0 (λ e. omega (arith, proper.positive, proper.ascending, e))) in
+    let zero : (eqb r.first 0 || eqb r.last 0) ≡ false = or_from _ _ (ne_eqb r.first 0 (λ e. omega (arith, proper.positive, e)))
+    (ne_eqb r.last 0 (λ e. omega (arith, proper.positive, proper.ascending, e))) in
     let falls : ltb r.last r.first ≡ false = le-ltb r.last r.first proper.ascending in
     rw (large, zero, falls) refl
 
@@ -46,7 +47,8 @@ accepts_element bs r e proper =
 no_separator : (bs : List ℕ) (r : Interval) → IsElement bs r → All (λ b. is_separator b ≡ false) bs
 no_separator bs r (One n h) = digits_fail is_separator digit_no_separator n h
 no_separator bs r (FromTo n m h k) =
-    All-append (λ b. is_separator b ≡ false) n (45 ∷ m) (digits_fail is_separator digit_no_separator n h) (All-cons (λ b. is_separator b ≡ false) 45 m refl (digits_fail is_separator digit_no_separator m k))
+    All-append (λ b. is_separator b ≡ false) n (45 ∷ m) (digits_fail is_separator digit_no_separator n h)
+    (All-cons (λ b. is_separator b ≡ false) 45 m refl (digits_fail is_separator digit_no_separator m k))
 no_separator bs r (UpTo m h) = All-cons (λ b. is_separator b ≡ false) 45 m refl (digits_fail is_separator digit_no_separator m h)
 no_separator bs r (From n h) =
     All-append (λ b. is_separator b ≡ false) n (45 ∷ []) (digits_fail is_separator digit_no_separator n h) (All-cons (λ b. is_separator b ≡ false) 45 [] refl (λ k d below. absurd (omega arith)))

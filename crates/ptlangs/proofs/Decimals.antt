@@ -24,7 +24,8 @@ too_large_at bs i n below e h =
     too_large bs (omega (arith, is, after-ge (n * 10 + digit_value (get_or bs i 0)) (drop (i + 1) bs)))
 
 -- the number, where it is read to the end
-pub is_its_value : (bs : List ℕ) (i n : ℕ) → is_empty bs ≡ false → length bs ≤ i → value bs ≡ digits_value_after 10 n (drop i bs) → list_all is_ascii_digit bs ≡ list_all is_ascii_digit (drop i bs) → n ≤ greatest → Some n ≡ number bs
+pub is_its_value : (bs : List ℕ) (i n : ℕ) → is_empty bs ≡ false → length bs ≤ i → value bs ≡ digits_value_after 10 n (drop i bs) → list_all is_ascii_digit bs
+    ≡ list_all is_ascii_digit (drop i bs) → n ≤ greatest → Some n ≡ number bs
 is_its_value bs i n some end e digits fits =
     let v : value bs ≡ n = e ∙ ap (digits_value_after 10 n) (drop_all i bs end) in
     let d : list_all is_ascii_digit bs ≡ true = digits ∙ ap (list_all is_ascii_digit) (drop_all i bs end) in

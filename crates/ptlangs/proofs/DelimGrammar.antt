@@ -31,7 +31,8 @@ accepts bs ds (More e rest d others is list) = reads_one e rest d is ∙ ap (put
 
 -- ---- to the grammar
 
-escaped_by : (c : ℕ) (d : Option ℕ) (n t b z : Bool) → eqb c 110 ≡ n → eqb c 116 ≡ t → eqb c backslash ≡ b → eqb c 48 ≡ z → cond n (Ok (Some 10)) (cond t (Ok (Some 9)) (cond b (Ok (Some backslash)) (cond z (Ok None) (Err Escape)))) ≡ Ok d → IsDelim (backslash ∷ c ∷ []) d
+escaped_by : (c : ℕ) (d : Option ℕ) (n t b z : Bool) → eqb c 110 ≡ n → eqb c 116 ≡ t → eqb c backslash ≡ b → eqb c 48 ≡ z
+    → cond n (Ok (Some 10)) (cond t (Ok (Some 9)) (cond b (Ok (Some backslash)) (cond z (Ok None) (Err Escape)))) ≡ Ok d → IsDelim (backslash ∷ c ∷ []) d
 escaped_by c d true t b z hn ht hb hz h =
     let is : Some 10 ≡ d = cc in
     subst (λ (x : ℕ). IsDelim (backslash ∷ x ∷ []) d) (sym (eqb-true c 110 hn)) (subst (IsDelim (codes "\\n")) is Newline)
@@ -50,7 +51,8 @@ escaped : (c : ℕ) (d : Option ℕ) → escape c ≡ Ok d → IsDelim (backslas
 escaped c d h = escaped_by c d (eqb c 110) (eqb c 116) (eqb c backslash) (eqb c 48) refl refl refl refl h
 
 -- an element, and a list or nothing behind it
-before : (e rest : List ℕ) (d : Option ℕ) (ds : List (Option ℕ)) → IsDelim e d → put_first d (delims rest) ≡ Ok ds → ((xs : List (Option ℕ)) → delim_list rest ≡ Ok xs → IsDelimList rest xs) → IsDelimList (e ++ rest) ds
+before : (e rest : List ℕ) (d : Option ℕ) (ds : List (Option ℕ)) → IsDelim e d → put_first d (delims rest) ≡ Ok ds
+    → ((xs : List (Option ℕ)) → delim_list rest ≡ Ok xs → IsDelimList rest xs) → IsDelimList (e ++ rest) ds
 before e [] d ds is h list =
     let one : d ∷ [] ≡ ds = cc in
     subst (λ (l : List ℕ). IsDelimList l ds) (sym (append-nil e)) (subst (IsDelimList e) one (Last e d is))
@@ -59,11 +61,14 @@ before e (b ∷ bs) d ds is h list =
     let first : d ≡ f.head = cc in
     subst (IsDelimList (e ++ b ∷ bs)) f.is (More e (b ∷ bs) f.head f.tail (subst (IsDelim e) first is) (list f.tail f.rest))
 
-behind_escape : (c : ℕ) (more : List ℕ) (ds : List (Option ℕ)) (read : Result (Option ℕ) DelimFault) → escape c ≡ read → and_then read (λ d. put_first d (delims more)) ≡ Ok ds → ((xs : List (Option ℕ)) → delim_list more ≡ Ok xs → IsDelimList more xs) → IsDelimList (backslash ∷ c ∷ more) ds
+behind_escape : (c : ℕ) (more : List ℕ) (ds : List (Option ℕ)) (read : Result (Option ℕ) DelimFault) → escape c ≡ read
+    → and_then read (λ d. put_first d (delims more)) ≡ Ok ds → ((xs : List (Option ℕ)) → delim_list more ≡ Ok xs → IsDelimList more xs) → IsDelimList (backslash ∷ c ∷ more) ds
 behind_escape c more ds (Err f) e h list = cc
 behind_escape c more ds (Ok d) e h list = before (backslash ∷ c ∷ []) more d ds (escaped c d e) h list
 
-reads_two : (b c : ℕ) (more : List ℕ) (ds : List (Option ℕ)) (t : Bool) → (eqb b backslash) ≡ t → cond t (and_then (escape c) (λ d. put_first d (delims more))) (put_first (Some b) (delims (c ∷ more))) ≡ Ok ds → ((xs : List (Option ℕ)) → delim_list more ≡ Ok xs → IsDelimList more xs) → ((xs : List (Option ℕ)) → delim_list (c ∷ more) ≡ Ok xs → IsDelimList (c ∷ more) xs) → IsDelimList (b ∷ c ∷ more) ds
+reads_two : (b c : ℕ) (more : List ℕ) (ds : List (Option ℕ)) (t : Bool) → (eqb b backslash) ≡ t
+    → cond t (and_then (escape c) (λ d. put_first d (delims more))) (put_first (Some b) (delims (c ∷ more))) ≡ Ok ds
+    → ((xs : List (Option ℕ)) → delim_list more ≡ Ok xs → IsDelimList more xs) → ((xs : List (Option ℕ)) → delim_list (c ∷ more) ≡ Ok xs → IsDelimList (c ∷ more) xs) → IsDelimList (b ∷ c ∷ more) ds
 reads_two b c more ds true e h list longer =
     subst (λ (x : ℕ). IsDelimList (x ∷ c ∷ more) ds) (sym (eqb-true b backslash e)) (behind_escape c more ds (escape c) refl h list)
 reads_two b c more ds false e h list longer = before (b ∷ []) (c ∷ more) (Some b) ds (Plain b e) h longer

@@ -1,5 +1,6 @@
 -- The parts of a list, and reading them in turn.
-use Rattle.std.proofs.Common.{◌≡◌, ℕ, ◌+◌, ◌-◌, ◌≤◌, Bool, true, false, ltb, cond, List, [], ◌∷◌, ◌++◌, length, take, drop, Option, Some, None, Result, Ok, Err, refl, sym, ◌∙◌, ap, arith, append_assoc, append-nil}
+use Rattle.std.proofs.Common.{◌≡◌, ℕ, ◌+◌, ◌-◌, ◌≤◌, Bool, true, false, ltb, cond, List, [], ◌∷◌, ◌++◌, length, take, drop, Option, Some, None, Result, Ok, Err}
+use Rattle.std.proofs.Common.{refl, sym, ◌∙◌, ap, arith, append_assoc, append-nil}
 use Rattle.std.specs.List.{slice_split, position, position_or_len}
 use Rattle.std.proofs.lemmas.Bool.{ltb-false, ltb-true}
 use Rattle.std.proofs.lemmas.List.{take_all, length-drop}
@@ -30,7 +31,8 @@ split_around p [] i h = cc
 split_around p (x ∷ xs) i h =
     let since = some_since (ltb (position_or_len p (x ∷ xs)) (length (x ∷ xs))) (position_or_len p (x ∷ xs)) i h in
     let first = slice_split_first p (x ∷ xs) x (ltb-true _ _ since.0) in
-    let rest : take (length (x ∷ xs) - (i + 1)) (drop (i + 1) (x ∷ xs)) ≡ drop (i + 1) (x ∷ xs) = take_all (length (x ∷ xs) - (i + 1)) (drop (i + 1) (x ∷ xs)) (omega (arith, length-drop (i + 1) (x ∷ xs))) in
+    let rest : take (length (x ∷ xs) - (i + 1)) (drop (i + 1) (x ∷ xs)) ≡ drop (i + 1) (x ∷ xs) = take_all (length (x ∷ xs) - (i + 1)) (drop (i + 1) (x ∷ xs))
+    (omega (arith, length-drop (i + 1) (x ∷ xs))) in
     rw rest (first ∙ ap (λ k. take k (x ∷ xs) ∷ slice_split p (drop (k + 1) (x ∷ xs))) since.1)
 
 -- ---- reading them in turn
@@ -53,16 +55,19 @@ pub each_starts : {A B E : Type 0} (read : A → Result B E) (all : List A) → 
 each_starts read all = sym (behind_nothing (each read all))
 
 -- one more element is read
-pub each_more : {A B E : Type 0} (read : A → Result B E) (x : A) (y : B) (all rest : List A) (xs : List B) (r : Result (List B) E) → r ≡ behind xs (each read all) → all ≡ x ∷ rest → read x ≡ Ok y → r ≡ behind (xs ++ y ∷ []) (each read rest)
+pub each_more : {A B E : Type 0} (read : A → Result B E) (x : A) (y : B) (all rest : List A) (xs : List B) (r : Result (List B) E) → r
+    ≡ behind xs (each read all) → all ≡ x ∷ rest → read x ≡ Ok y → r ≡ behind (xs ++ y ∷ []) (each read rest)
 each_more read x y all rest xs r e at ok =
     e ∙ ap (λ l. behind xs (each read l)) at ∙ ap (λ v. behind xs (and_then v (λ y'. put_first y' (each read rest)))) ok ∙ behind-put_first xs y (each read rest)
 
 -- the last element is read
-pub each_ends : {A B E : Type 0} (read : A → Result B E) (x : A) (y : B) (all : List A) (xs : List B) (r : Result (List B) E) → r ≡ behind xs (each read all) → all ≡ x ∷ [] → read x ≡ Ok y → r ≡ Ok (xs ++ y ∷ [])
+pub each_ends : {A B E : Type 0} (read : A → Result B E) (x : A) (y : B) (all : List A) (xs : List B) (r : Result (List B) E) → r ≡ behind xs (each read all)
+    → all ≡ x ∷ [] → read x ≡ Ok y → r ≡ Ok (xs ++ y ∷ [])
 each_ends read x y all xs r e at ok = each_more read x y all [] xs r e at ok ∙ ap Ok (append-nil (xs ++ y ∷ []))
 
 -- an element is refused
-pub each_fails : {A B E : Type 0} (read : A → Result B E) (x : A) (fault : Option E) (all rest : List A) (xs : List B) (r : Result (List B) E) → r ≡ behind xs (each read all) → all ≡ x ∷ rest → IsFault fault (read x) → IsFault fault r
+pub each_fails : {A B E : Type 0} (read : A → Result B E) (x : A) (fault : Option E) (all rest : List A) (xs : List B) (r : Result (List B) E) → r
+    ≡ behind xs (each read all) → all ≡ x ∷ rest → IsFault fault (read x) → IsFault fault r
 each_fails read x None all rest xs r e at h = tt
 each_fails read x (Some f) all rest xs r e at h =
     e ∙ ap (λ l. behind xs (each read l)) at ∙ ap (λ v. behind xs (and_then v (λ y'. put_first y' (each read rest)))) h

@@ -57,7 +57,8 @@ from_grammar read Says a bs xs (Last e x says) = rw (slice_split_none is_separat
 from_grammar read Says a bs xs (More e s others x xs' says sep list) =
     rw (slice_split_at is_separator e s others (a.whole e x says) sep, a.from e x says, from_grammar read Says a others xs' list) refl
 
-reads_parts : {A E : Type 0} (read : List ℕ → Result A E) (Says : List ℕ → A → Type 0) → Accepts read Says → (bs : List ℕ) (parts : List (List ℕ)) (xs : List A) → IsSplit is_separator bs parts → each read parts ≡ Ok xs → IsListOf Says bs xs
+reads_parts : {A E : Type 0} (read : List ℕ → Result A E) (Says : List ℕ → A → Type 0) → Accepts read Says
+    → (bs : List ℕ) (parts : List (List ℕ)) (xs : List A) → IsSplit is_separator bs parts → each read parts ≡ Ok xs → IsListOf Says bs xs
 reads_parts read Says a bs parts xs (Whole ys) h =
     let f = reads_first (read ys) (Ok []) xs h in
     let one : f.head ∷ [] ≡ xs = cc in

@@ -38,9 +38,11 @@ or_first : (p q m x : Bool) → (p || q) ≡ m → (p || (q || x)) ≡ (m || x)
 or_first true q m x e = ap (λ v. v || x) e
 or_first false q m x e = ap (λ v. v || x) e
 
-pub absorbs : (sorted kept : List Interval) (r s t : Interval) (rest : List Interval) → t.first ≡ r.first → t.last ≡ max r.last s.last → s.first - 1 ≤ r.last → Merges sorted kept r (s ∷ rest) → Merges sorted kept t rest
+pub absorbs : (sorted kept : List Interval) (r s t : Interval) (rest : List Interval) → t.first ≡ r.first → t.last ≡ max r.last s.last → s.first - 1 ≤ r.last
+    → Merges sorted kept r (s ∷ rest) → Merges sorted kept t rest
 absorbs sorted kept r s t rest e e' touch m =
-    let step : (n : ℕ) → is_selected (t ∷ rest) n ≡ is_selected (r ∷ s ∷ rest) n = λ n. sym (or_first (holds n r) (holds n s) (holds n t) (list_any (holds n) rest) (rw (e, e') (joined r.first r.last s.first s.last n m.ordered.0 touch m.ordered.1))) in
+    let step : (n : ℕ) → is_selected (t ∷ rest) n ≡ is_selected (r ∷ s ∷ rest) n = λ n. sym
+    (or_first (holds n r) (holds n s) (holds n t) (list_any (holds n) rest) (rw (e, e') (joined r.first r.last s.first s.last n m.ordered.0 touch m.ordered.1))) in
     record {
       positive = omega (arith, m.positive);
       apart = AreApart-longer 0 kept r t e (omega arith) m.apart;

@@ -41,7 +41,8 @@ record IsField (file : File) (n : List ℕ) (f : OutField) : Type 0 where
   is : Field file (value n) ≡ f
   proper : IsProper f
 
-chosen : (file : File) (n : List ℕ) (f : OutField) (number large zero : Bool) → is_number n ≡ number → ltb greatest (value n) ≡ large → eqb (value n) 0 ≡ zero → cond (not number) (Err Malformed) (cond large (Err TooLarge) (cond zero (Err Zero) (Ok (Field file (value n))))) ≡ Ok f → IsField file n f
+chosen : (file : File) (n : List ℕ) (f : OutField) (number large zero : Bool) → is_number n ≡ number → ltb greatest (value n) ≡ large → eqb (value n) 0 ≡ zero
+    → cond (not number) (Err Malformed) (cond large (Err TooLarge) (cond zero (Err Zero) (Ok (Field file (value n))))) ≡ Ok f → IsField file n f
 chosen file n f false large zero hn hl hz h = cc
 chosen file n f true true zero hn hl hz h = cc
 chosen file n f true false true hn hl hz h = cc
@@ -66,7 +67,8 @@ spelled_second n f h =
     let r = reads_field Second n f h in
     (subst (IsElement (50 ∷ 46 ∷ n)) r.is (OfSecond n r.number), r.proper)
 
-spelled : (b c : ℕ) (n : List ℕ) (f : OutField) (point one two : Bool) → eqb c 46 ≡ point → eqb b 49 ≡ one → eqb b 50 ≡ two → cond (not point) (Err Malformed) (cond one (field_of First n) (cond two (field_of Second n) (Err Malformed))) ≡ Ok f → IsProperElement (b ∷ c ∷ n) f
+spelled : (b c : ℕ) (n : List ℕ) (f : OutField) (point one two : Bool) → eqb c 46 ≡ point → eqb b 49 ≡ one → eqb b 50 ≡ two
+    → cond (not point) (Err Malformed) (cond one (field_of First n) (cond two (field_of Second n) (Err Malformed))) ≡ Ok f → IsProperElement (b ∷ c ∷ n) f
 spelled b c n f false one two hp h1 h2 h = cc
 spelled b c n f true false false hp h1 h2 h = cc
 spelled b c n f true true two hp h1 h2 h =

@@ -11,7 +11,8 @@ use Rattle.ptlangs.specs.CutLists.{IsProper, is_dash, said, checked, element, cu
 use Rattle.ptlangs.specs.Numbers.{greatest, elements, and_then, put_first, each}
 use Rattle.ptlangs.specs.declared.ranges.Interval.{Interval}
 
-chosen : (large zero falls : Bool) (s r : Interval) → cond large (Err TooLarge) (cond zero (Err Zero) (cond falls (Err Descending) (Ok s))) ≡ Ok r → (large ≡ false) × (zero ≡ false) × (falls ≡ false) × (s ≡ r)
+chosen : (large zero falls : Bool) (s r : Interval) → cond large (Err TooLarge) (cond zero (Err Zero) (cond falls (Err Descending) (Ok s))) ≡ Ok r
+    → (large ≡ false) × (zero ≡ false) × (falls ≡ false) × (s ≡ r)
 chosen true zero falls s r h = cc
 chosen false true falls s r h = cc
 chosen false false true s r h = cc
@@ -34,7 +35,8 @@ element_proper : (bs : List ℕ) (r : Interval) → element bs ≡ Ok r → IsPr
 element_proper [] r h = cc
 element_proper (b ∷ bs) r h = (checked_proper (said (slice_split is_dash (b ∷ bs))) r h).1
 
-each_proper_step : (x : List ℕ) (read : Result Interval ListFault) (others : Result (List Interval) ListFault) (rs : List Interval) → element x ≡ read → and_then read (λ y. put_first y others) ≡ Ok rs → ((ys : List Interval) → others ≡ Ok ys → All IsProper ys) → All IsProper rs
+each_proper_step : (x : List ℕ) (read : Result Interval ListFault) (others : Result (List Interval) ListFault) (rs : List Interval) → element x ≡ read
+    → and_then read (λ y. put_first y others) ≡ Ok rs → ((ys : List Interval) → others ≡ Ok ys → All IsProper ys) → All IsProper rs
 each_proper_step x (Err f) others rs e h below = cc
 each_proper_step x (Ok y) (Err f) rs e h below = cc
 each_proper_step x (Ok y) (Ok ys) rs e h below =
@@ -51,8 +53,12 @@ cut_list_proper bs rs h = each_proper (elements bs) rs h
 
 ordered_behind : (x : Interval) (xs : List Interval) → All IsProper (x ∷ xs) → IsNonDecreasingBy (λ (r : Interval). r.first) (x ∷ xs) → AreInOrder x.first xs
 ordered_behind x [] proper up = tt
-ordered_behind x (y ∷ xs) proper up =
-    (up 0 1 x (omega arith) (omega arith), (proper 1 x (omega arith)).ascending, ordered_behind y xs (λ k d below. proper (suc k) d (omega arith)) (λ i j d le below. up (suc i) (suc j) d (omega arith) (omega arith)))
+ordered_behind x (y ∷ xs) proper up = (
+  up 0 1 x (omega arith) (omega arith),
+  (proper 1 x (omega arith)).ascending,
+  ordered_behind y xs (λ k d below. proper (suc k) d (omega arith))
+      (λ i j d le below. up (suc i) (suc j) d (omega arith) (omega arith)),
+)
 
 pub in_order : (xs : List Interval) → All IsProper xs → IsNonDecreasingBy (λ (r : Interval). r.first) xs → AreInOrder 1 xs
 in_order [] proper up = tt
@@ -61,7 +67,8 @@ in_order (x ∷ xs) proper up =
     (p.positive, p.ascending, ordered_behind x xs proper up)
 
 -- the set is that of the intervals in any order
-pub selection_is : (bs : List ℕ) (listed sorted kept : List Interval) → cut_list bs ≡ Ok listed → IsPermutation listed sorted → is_selected kept ≡ is_selected sorted → selection bs ≡ Ok (is_selected kept)
+pub selection_is : (bs : List ℕ) (listed sorted kept : List Interval) → cut_list bs ≡ Ok listed → IsPermutation listed sorted → is_selected kept
+    ≡ is_selected sorted → selection bs ≡ Ok (is_selected kept)
 selection_is bs listed sorted kept e p same =
     let moved : is_selected listed ≡ is_selected sorted = λ i n. list_any-IsPermutation (λ (r : Interval). leb r.first n && leb n r.last) listed sorted p i in
     ap (λ v. and_then v (λ rs. Ok (is_selected rs))) e ∙ ap Ok (moved ∙ sym same)

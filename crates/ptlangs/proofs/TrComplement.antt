@@ -41,7 +41,8 @@ filter-append test (x ∷ xs) ys = rw (filter-append test xs ys) (choose (test x
 
 pub others_below-more : (bytes : List ℕ) (n : ℕ) (t : Bool) → has_byte n bytes ≡ t → others_below bytes (n + 1) ≡ others_below bytes n ++ cond t [] (n ∷ [])
 others_below-more bytes n t e =
-    ap (filter (λ b. not (has_byte b bytes))) (range-more 0 n n (omega arith)) ∙ filter-append (λ b. not (has_byte b bytes)) (range_with_len 0 n) (n ∷ []) ∙ ap (λ xs. others_below bytes n ++ xs) (rw e (choose t))
+    ap (filter (λ b. not (has_byte b bytes))) (range-more 0 n n (omega arith)) ∙ filter-append (λ b. not (has_byte b bytes)) (range_with_len 0 n) (n ∷ [])
+    ∙ ap (λ xs. others_below bytes n ++ xs) (rw e (choose t))
   where
     choose : (t : Bool) → cond (not t) (n ∷ []) [] ≡ cond t [] (n ∷ [])
     choose true = refl
@@ -51,7 +52,8 @@ pub others_below-all : (bytes : List ℕ) (n : ℕ) → n ≡ 256 → others_bel
 unfolding all_bytes
 others_below-all bytes n e = ap (others_below bytes) e
 
-pub contained-table : (table : List Bool) (places : Places) (bytes : List ℕ) → length table ≡ 256 → ((k : ℕ) → k < 256 → get_or table k false ≡ is_some (get_or places.last k None)) → places ≡ places_of bytes
+pub contained-table : (table : List Bool) (places : Places) (bytes : List ℕ) → length table ≡ 256
+    → ((k : ℕ) → k < 256 → get_or table k false ≡ is_some (get_or places.last k None)) → places ≡ places_of bytes
     → table ≡ map (λ b. has_byte b bytes) all_bytes
 contained-table table places bytes n h e =
     same_table table (λ b. has_byte b bytes) n
@@ -59,7 +61,8 @@ contained-table table places bytes n h e =
 
 -- one more byte, by whether it stands in the array
 pub complement-more : (start old new : Places) (b i : ℕ) → b < 256 → i ≡ b → is_some (get_or start.last i None) ≡ false
-    → ((bytes : List ℕ) → start ≡ places_of bytes → old ≡ places_of (others_below bytes b)) → Puts old new (b ∷ []) → (bytes : List ℕ) → start ≡ places_of bytes → new ≡ places_of (others_below bytes (b + 1))
+    → ((bytes : List ℕ) → start ≡ places_of bytes → old ≡ places_of (others_below bytes b)) → Puts old new (b ∷ []) → (bytes : List ℕ) → start
+    ≡ places_of bytes → new ≡ places_of (others_below bytes (b + 1))
 complement-more start old new b i h j n old_is puts bytes e =
     let absent : has_byte b bytes ≡ false = sym (is_some-last start bytes b None h e) ∙ ap (λ k. is_some (get_or start.last k None)) (sym j) ∙ n in
     puts (others_below bytes b) (old_is bytes e) ∙ ap places_of (sym (others_below-more bytes b false absent))

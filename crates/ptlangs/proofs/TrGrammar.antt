@@ -1,5 +1,6 @@
 -- What is computed of parts is the grammar.
-use Rattle.std.proofs.Common.{◌≡◌, ◌<◌, ◌-◌, ℕ, zero, suc, Bool, true, false, ◌&&◌, cond, eqb, List, [], ◌∷◌, ◌++◌, length, drop, map, arith, refl, sym, ap, subst, ◌∙◌, Option, Some, None, Result, Ok, Err, nat_lt}
+use Rattle.std.proofs.Common.{◌≡◌, ◌<◌, ◌-◌, ℕ, zero, suc, Bool, true, false, ◌&&◌, cond, eqb, List, [], ◌∷◌, ◌++◌, length, drop, map, arith, refl, sym, ap}
+use Rattle.std.proofs.Common.{subst, ◌∙◌, Option, Some, None, Result, Ok, Err, nat_lt}
 use Rattle.std.specs.List.{list_all}
 use Rattle.std.specs.Option.{option_and_then, option_or}
 use Rattle.std.specs.Char.{is_ascii_digit, is_ascii_lowercase}
@@ -13,7 +14,10 @@ use Rattle.ptlangs.specs.declared.parts.Part.{Part}
 use Rattle.ptlangs.specs.declared.parts.Part.TheVariants.{Single, Range, Class, Equivalence, Repeat}
 use Rattle.ptlangs.specs.TrUnits.{byte_of}
 use Rattle.ptlangs.specs.TrClasses.{class_named}
-use Rattle.ptlangs.specs.TrParts.{Means, ByItself, ByEscape, Opens, ARepeat, AClass, AnEquivalence, OpensForm, DashFollows, Begins, InBrackets, ARange, Alone, AreParts, is_plain, behind, behind_two, plain_run, behind_run, with_rest, repeat_count, repeat_digits, repeat_of, repeat_at, class_of, class_name, class_at, equivalence_of, equivalence_unit, equivalence_at, form_inside, form_at, range_to, from_byte, from_unit, or_unit, first_part, parts_from, parts_behind, parts}
+use Rattle.ptlangs.specs.TrParts.{Means, ByItself, ByEscape, Opens, ARepeat, AClass, AnEquivalence, OpensForm, DashFollows, Begins, InBrackets, ARange, Alone}
+use Rattle.ptlangs.specs.TrParts.{AreParts, is_plain, behind, behind_two, plain_run, behind_run, with_rest, repeat_count, repeat_digits, repeat_of, repeat_at}
+use Rattle.ptlangs.specs.TrParts.{class_of, class_name, class_at, equivalence_of, equivalence_unit, equivalence_at, form_inside, form_at, range_to, from_byte}
+use Rattle.ptlangs.specs.TrParts.{from_unit, or_unit, first_part, parts_from, parts_behind, parts}
 use Rattle.ptlangs.proofs.TrBehind.{list_all-plain_run}
 
 -- ---- from what is computed to the grammar
@@ -169,7 +173,8 @@ form_at-Opens us p rest (AClass c name more t) =
     rw (no_star, behind_run-map is_ascii_lowercase (c ∷ name) 58 (Plain 93 ∷ more) t refl, plain_run-map is_ascii_lowercase (c ∷ name) 58 (Plain 93 ∷ more) t refl) refl
 form_at-Opens us p rest (AnEquivalence u v more m) = by_star (is_plain 42 u)
   where
-    by_star : (t : Bool) → option_or (option_and_then (repeat_digits 61) (cond t (Some (Plain 61 ∷ Plain 93 ∷ more)) None)) (option_or None (equivalence_of (byte_of u) (Plain 61 ∷ Plain 93 ∷ more))) ≡ Some (Equivalence v, more)
+    by_star : (t : Bool) → option_or (option_and_then (repeat_digits 61) (cond t (Some (Plain 61 ∷ Plain 93 ∷ more)) None))
+        (option_or None (equivalence_of (byte_of u) (Plain 61 ∷ Plain 93 ∷ more))) ≡ Some (Equivalence v, more)
     by_star true = rw (byte_of-Means u v m) refl
     by_star false = rw (byte_of-Means u v m) refl
 

@@ -16,7 +16,8 @@ use Rattle.ptlangs.specs.declared.plan.Form.{Form}
 use Rattle.ptlangs.specs.Numbers.{and_then}
 use Rattle.ptlangs.specs.TrUnits.{units, SpellsUnit, APlainByte, AnOctal, ALargeOctal, AnEscape, ALoneBackslash, SpellsUnits, NoUnit, AUnit}
 use Rattle.ptlangs.specs.TrParts.{Opens, ARepeat, AClass, AnEquivalence, Begins, InBrackets, ARange, Alone, BeginsFaulty, AFaultyUnit, AFaultyEnd, ADescendingRange}
-use Rattle.ptlangs.specs.TrPlan.{Plan, repeated, repeat_piece, class_piece, piece, string_pieces, FirstFault, NoPart, NoPiece, Later, in_string, second_place, may_pair, first_array, plan_with, second_plan, plan_from, NeverMemory}
+use Rattle.ptlangs.specs.TrPlan.{Plan, repeated, repeat_piece, class_piece, piece, string_pieces, FirstFault, NoPart, NoPiece, Later, in_string, second_place}
+use Rattle.ptlangs.specs.TrPlan.{may_pair, first_array, plan_with, second_plan, plan_from, NeverMemory}
 use Rattle.ptlangs.proofs.TrUnitGrammar.{units_are_spelled}
 use Rattle.ptlangs.proofs.TrFaults.{faults_are_first}
 

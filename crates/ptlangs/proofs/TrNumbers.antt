@@ -1,5 +1,6 @@
 -- Digits, the numbers that they write, and the units of a string at a place.
-use Rattle.std.proofs.Common.{◌≡◌, ◌≤◌, ◌<◌, ◌+◌, ◌-◌, ◌*◌, ℕ, zero, suc, Bool, true, false, cond, eqb, List, [], ◌∷◌, length, take, drop, get_or, arith, refl, sym, ap, ◌∙◌, rules, tests, All, nat_le, Option, Some, None}
+use Rattle.std.proofs.Common.{◌≡◌, ◌≤◌, ◌<◌, ◌+◌, ◌-◌, ◌*◌, ℕ, zero, suc, Bool, true, false, cond, eqb, List, [], ◌∷◌, length, take, drop, get_or, arith, refl}
+use Rattle.std.proofs.Common.{sym, ap, ◌∙◌, rules, tests, All, nat_le, Option, Some, None}
 use Rattle.std.specs.List.{prefix_len, slice_get}
 use Rattle.std.specs.Int.{IsInRange}
 use Rattle.std.specs.Char.{digit_value}

@@ -97,7 +97,8 @@ pub record Faced (fill at : ℕ) (firsts : Result (List Piece) SetFaultKind) (do
 pub Faced-start : (fill : ℕ) (firsts : Result (List Piece) SetFaultKind) → Faced fill 0 firsts []
 Faced-start fill firsts = record { at_is = refl; faced = λ fs e. refl; short = omega arith }
 
-pub paired-unfaced : (all rest after : List (Result Piece SetFaultKind)) (fill at : ℕ) (firsts : Result (List Piece) SetFaultKind) (x : Piece) (w : Walked all rest (Faced fill at firsts)) → rest ≡ Ok x ∷ after
+pub paired-unfaced : (all rest after : List (Result Piece SetFaultKind)) (fill at : ℕ) (firsts : Result (List Piece) SetFaultKind) (x : Piece)
+    (w : Walked all rest (Faced fill at firsts)) → rest ≡ Ok x ∷ after
     → (fs ps : List Piece) → firsts ≡ Ok fs → is_paired (class_places 0 0 fs) (class_places fill at (x ∷ [])) ≡ false → collected all ≡ Ok ps
     → is_paired (class_places 0 0 fs) (class_places fill 0 ps) ≡ false
 paired-unfaced all rest after fill at firsts x w e fs ps f here c =
@@ -116,7 +117,8 @@ paired-unfaced all rest after fill at firsts x w e fs ps f here c =
     one_false true false d e = refl
     one_false false b d e = refl
 
-pub paired-more : (all rest after : List (Result Piece SetFaultKind)) (fill at count : ℕ) (firsts : Result (List Piece) SetFaultKind) (x : Piece) → Walked all rest (Faced fill at firsts) → rest ≡ Ok x ∷ after
+pub paired-more : (all rest after : List (Result Piece SetFaultKind)) (fill at count : ℕ) (firsts : Result (List Piece) SetFaultKind) (x : Piece)
+    → Walked all rest (Faced fill at firsts) → rest ≡ Ok x ∷ after
     → ((fs : List Piece) → firsts ≡ Ok fs → is_paired (class_places 0 0 fs) (class_places fill at (x ∷ [])) ≡ true) → count ≡ length (members fill x) → length (members 0 x) ≤ 65535
     → Walked all after (Faced fill (at + count) firsts)
 paired-more all rest after fill at count firsts x w e here n short =
@@ -134,7 +136,8 @@ paired-more all rest after fill at count firsts x w e here n short =
     both true b e f = f
     both false b e f = e
 
-pub paired-end : (all rest : List (Result Piece SetFaultKind)) (fill at : ℕ) (firsts : Result (List Piece) SetFaultKind) (w : Walked all rest (Faced fill at firsts)) → rest ≡ [] → (fs ps : List Piece) → firsts ≡ Ok fs → collected all ≡ Ok ps
+pub paired-end : (all rest : List (Result Piece SetFaultKind)) (fill at : ℕ) (firsts : Result (List Piece) SetFaultKind)
+    (w : Walked all rest (Faced fill at firsts)) → rest ≡ [] → (fs ps : List Piece) → firsts ≡ Ok fs → collected all ≡ Ok ps
     → is_paired (class_places 0 0 fs) (class_places fill 0 ps) ≡ true
 paired-end all rest fill at firsts w e fs ps f c =
     ap (λ qs. is_paired (class_places 0 0 fs) (class_places fill 0 qs)) (sym (walk_whole all rest (Faced fill at firsts) ps w e c)) ∙ w.holds.faced fs f

@@ -32,7 +32,8 @@ pub mapped_ok : (r : Result (List Piece) SetFaultKind) (f : List Piece → Place
 mapped_ok (Ok ps) f y e = (ps, refl, cc)
 mapped_ok (Err k) f y e = absurd (let no : ⊥ = cc in no)
 
-pub fill_is : (fill : ℕ) (first bare : Places) (bytes : List ℕ) (ps : List Piece) → fill ≡ first.length - bare.length → first ≡ places_of bytes → bare ≡ places_of (array 0 ps) → fill ≡ fill_count (length bytes) ps
+pub fill_is : (fill : ℕ) (first bare : Places) (bytes : List ℕ) (ps : List Piece) → fill ≡ first.length - bare.length → first ≡ places_of bytes → bare
+    ≡ places_of (array 0 ps) → fill ≡ fill_count (length bytes) ps
 fill_is fill first bare bytes ps e f b =
     let n : first.length ≡ length bytes = ap (λ (p : Places). p.length) f in
     let m : bare.length ≡ length (array 0 ps) = ap (λ (p : Places). p.length) b in

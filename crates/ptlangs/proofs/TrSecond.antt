@@ -35,7 +35,15 @@ pub get-more : (all rest after : List (Result Piece SetFaultKind)) (fill at left
     → None ≡ slice_get (members fill x) left → count ≡ length (members fill x) → Walked all after (IsBehind fill at (left - count))
 get-more all rest after fill at left count x w e f n =
     walk_more all rest after (IsBehind fill at left) (IsBehind fill at (left - count)) x w e
-    (λ h. omega (arith, h, slice_get-none (members fill x) left f, ap length (array-append fill w.done (x ∷ [])), length-append (array fill w.done) (array fill (x ∷ [])), length-append (members fill x) []))
+    (λ h. omega (
+      arith,
+      h,
+      slice_get-none (members fill x) left f,
+      ap length (array-append fill w.done (x ∷ [])),
+      length-append (array fill w.done)
+          (array fill (x ∷ [])),
+      length-append (members fill x) [],
+    ))
 
 pub get-end : (all rest : List (Result Piece SetFaultKind)) (fill at left : ℕ) (w : Walked all rest (IsBehind fill at left)) → rest ≡ [] → (ps : List Piece) → collected all ≡ Ok ps
     → None ≡ slice_get (array fill ps) at

@@ -117,7 +117,8 @@ moves_by b (suc k) (image ∷ images) low =
     ap (moved (stretches_from b (image ∷ images))) same ∙ by_test (shift_of b image == 0)
     ∙ moves_by (b + 1) k images (omega (arith, low)) ∙ ap (λ (n : ℕ). shift_of n (get_or images k 0)) (sym same)
   where
-    by_test : (t : Bool) → moved (cond t (stretches_from (b + 1) images) (in_front b (shift_of b image) (stretches_from (b + 1) images))) ((b + 1) + k) ≡ moved (stretches_from (b + 1) images) ((b + 1) + k)
+    by_test : (t : Bool) → moved (cond t (stretches_from (b + 1) images) (in_front b (shift_of b image) (stretches_from (b + 1) images))) ((b + 1) + k)
+        ≡ moved (stretches_from (b + 1) images) ((b + 1) + k)
     by_test true = refl
     by_test false = past_front b (shift_of b image) (stretches_from (b + 1) images) ((b + 1) + k) (omega arith)
 

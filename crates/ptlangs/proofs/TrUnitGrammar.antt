@@ -7,7 +7,8 @@ use Rattle.std.proofs.lemmas.List.{drop_at, length-append}
 use Rattle.ptlangs.specs.declared.faults.SetFaultKind.TheVariants.{Octal, Escape}
 use Rattle.ptlangs.specs.declared.units.SetUnit.{SetUnit}
 use Rattle.ptlangs.specs.declared.units.SetUnit.TheVariants.{Plain, Escaped, Faulty}
-use Rattle.ptlangs.specs.TrUnits.{is_octal_digit, IsOctalRun, OneDigit, TwoDigits, ThreeDigits, SpellsUnit, APlainByte, AnOctal, ALargeOctal, AnEscape, ALoneBackslash, SpellsUnits, NoUnit, AUnit, octal, after_backslash, escaped, units, UnitsAreSpelled}
+use Rattle.ptlangs.specs.TrUnits.{is_octal_digit, IsOctalRun, OneDigit, TwoDigits, ThreeDigits, SpellsUnit, APlainByte, AnOctal, ALargeOctal, AnEscape}
+use Rattle.ptlangs.specs.TrUnits.{ALoneBackslash, SpellsUnits, NoUnit, AUnit, octal, after_backslash, escaped, units, UnitsAreSpelled}
 use Rattle.ptlangs.proofs.TrNumbers.{units-cons}
 
 -- ---- from the grammar to what is computed

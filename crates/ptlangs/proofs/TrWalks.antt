@@ -41,7 +41,8 @@ collected-done [] rest = choose (collected rest)
 collected-done (x ∷ done) rest = rw (collected-done done rest) (choose (collected rest))
   where
     choose : (r : Result (List Piece) SetFaultKind)
-        → result_map_both (λ (xs : List Piece). x ∷ xs) (λ (k : SetFaultKind). k) (result_map_both (λ (xs : List Piece). done ++ xs) (λ (k : SetFaultKind). k) r) ≡ result_map_both (λ (xs : List Piece). x ∷ done ++ xs) (λ (k : SetFaultKind). k) r
+        → result_map_both (λ (xs : List Piece). x ∷ xs) (λ (k : SetFaultKind). k)
+        (result_map_both (λ (xs : List Piece). done ++ xs) (λ (k : SetFaultKind). k) r) ≡ result_map_both (λ (xs : List Piece). x ∷ done ++ xs) (λ (k : SetFaultKind). k) r
     choose (Ok xs) = refl
     choose (Err k) = refl
 
@@ -161,7 +162,8 @@ walk_at all rest after P x ps w e c =
     let (more, m, tail_is) = collected-more after x tail (ap collected (sym e) ∙ t) in
     (more, m, all_is ∙ ap (λ xs. w.done ++ xs) tail_is)
 
-pub walk_never : {A : Type 0} (all rest after : List (Result Piece SetFaultKind)) (P : List Piece → Type 0) (k : SetFaultKind) (ps : List Piece) → Walked all rest P → rest ≡ Err k ∷ after → collected all ≡ Ok ps → A
+pub walk_never : {A : Type 0} (all rest after : List (Result Piece SetFaultKind)) (P : List Piece → Type 0) (k : SetFaultKind) (ps : List Piece)
+    → Walked all rest P → rest ≡ Err k ∷ after → collected all ≡ Ok ps → A
 walk_never all rest after P k ps w e c = let fault : collected all ≡ Err k = walk_fault all rest after P k w e in absurd (let no : ⊥ = cc in no)
 
 pub walk_whole : (all rest : List (Result Piece SetFaultKind)) (P : List Piece → Type 0) (ps : List Piece) (w : Walked all rest P) → rest ≡ [] → collected all ≡ Ok ps → w.done ≡ ps

@@ -1,5 +1,6 @@
 -- What the strings of `tr` mean: arrays, and what is deleted, translated and squeezed.
-use Rattle.std.specs.Prelude.{◌≡◌, ◌≢◌, ◌↔◌, ℕ, zero, suc, ◌+◌, ◌-◌, ◌==◌, ◌&&◌, ◌||◌, List, [], ◌∷◌, ◌++◌, Bool, true, false, not, Option, Some, None, Result, Ok, Err, if◌then◌else◌, length, take, filter, replicate, unwrap_or, slice_get}
+use Rattle.std.specs.Prelude.{◌≡◌, ◌≢◌, ◌↔◌, ℕ, zero, suc, ◌+◌, ◌-◌, ◌==◌, ◌&&◌, ◌||◌, List, [], ◌∷◌, ◌++◌, Bool, true, false, not, Option, Some, None, Result}
+use Rattle.std.specs.Prelude.{Ok, Err, if◌then◌else◌, length, take, filter, replicate, unwrap_or, slice_get}
 use Rattle.std.specs.List.{flat_map, list_all, list_any, last_or}
 use Rattle.std.specs.Option.{option_and_then, option_to_list}
 use Rattle.std.specs.Result.{result_map_both}

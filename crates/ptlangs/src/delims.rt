@@ -19,17 +19,6 @@ pub enum DelimFault {
     Memory = 3,
 }
 
-impl From<AllocError> for DelimFault {
-    ghost use Rattle.std.specs.Prelude.{◌≡◌};
-    ghost use Rattle.ptlangs.specs.declared.delims.DelimFault.TheVariants.{Memory};
-
-    ghost from_gives = { λ _ e. e ≡ Memory };
-
-    fn from(_error: AllocError) -> DelimFault {
-        DelimFault::Memory
-    }
-}
-
 impl<T: Drop> From<AllocFailed<T>> for DelimFault {
     ghost use Rattle.std.specs.Prelude.{◌≡◌};
     ghost use Rattle.ptlangs.specs.declared.delims.DelimFault.TheVariants.{Memory};

@@ -5,7 +5,7 @@ ghost use Rattle.ptlangs.specs.Answers.{Judges};
 ghost use Rattle.ptlangs.specs.OutLists.{AcceptsTheGrammar, fault_of, field_of, element, out_list, field_at};
 
 use crate::numbers::{decimal, first_element, is_decimal};
-use std::alloc::{AllocError, AllocFailed, Allocator, Global};
+use std::alloc::{AllocFailed, Allocator, Global};
 use std::marker::Model;
 
 /// One of the two files of `join`.
@@ -37,17 +37,6 @@ pub enum OutFault {
     TooLarge = 4,
     /// A growth of memory was refused.
     Memory = 5,
-}
-
-impl From<AllocError> for OutFault {
-    ghost use Rattle.std.specs.Prelude.{◌≡◌};
-    ghost use Rattle.ptlangs.specs.declared.outlist.OutFault.TheVariants.{Memory};
-
-    ghost from_gives = { λ _ e. e ≡ Memory };
-
-    fn from(_error: AllocError) -> OutFault {
-        OutFault::Memory
-    }
 }
 
 impl<T: Drop> From<AllocFailed<T>> for OutFault {

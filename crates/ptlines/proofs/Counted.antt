@@ -49,22 +49,26 @@ module _ {X : Type 0} where
   set_before (x ∷ xs) (suc at) (suc cut) w near = ap (λ (l : List X). x ∷ l) (set_before xs at cut w (omega (arith, near)))
 
 -- a line was put behind another one, which stands behind the cut
-module _ (lines front back : List (List ℕ)) (from to : ℕ) (d e new more : List ℕ) (near : from < to) (within : to < length lines) (front_is : front ≡ take to lines) (back_is : back ≡ drop to lines) where
+module _ (lines front back : List (List ℕ)) (from to : ℕ) (d e new more : List ℕ) (near : from < to) (within : to < length lines)
+    (front_is : front ≡ take to lines) (back_is : back ≡ drop to lines) where
   behind_is : front ++ set back 0 new ≡ set lines to new
   behind_is = (λ i. front_is i ++ set (back_is i) 0 new) ∙ set_behind lines to new within
 
   pub appended_behind : more ≡ get_or front from e → new ≡ get_or back 0 d ++ more → front ++ set back 0 new ≡ set lines to (get_or lines to [] ++ get_or lines from [])
   appended_behind more_is new_is =
       let here : to + 0 ≡ to = omega arith in
-      let had : get_or back 0 d ≡ get_or lines to [] = ap (λ (l : List (List ℕ)). get_or l 0 d) back_is ∙ get_or-drop to lines 0 d ∙ ap (λ (n : ℕ). get_or lines n d) here ∙ same_at lines to d [] within in
-      let added : more ≡ get_or lines from [] = more_is ∙ ap (λ (l : List (List ℕ)). get_or l from e) front_is ∙ get_or-take to lines from e near ∙ same_at lines from e [] (omega (arith, near, within)) in
+      let had : get_or back 0 d ≡ get_or lines to [] = ap (λ (l : List (List ℕ)). get_or l 0 d) back_is ∙ get_or-drop to lines 0 d
+      ∙ ap (λ (n : ℕ). get_or lines n d) here ∙ same_at lines to d [] within in
+      let added : more ≡ get_or lines from [] = more_is ∙ ap (λ (l : List (List ℕ)). get_or l from e) front_is ∙ get_or-take to lines from e near
+      ∙ same_at lines from e [] (omega (arith, near, within)) in
       behind_is ∙ ap (set lines to) (new_is ∙ (λ i. had i ++ added i))
 
   pub short_behind : length new ≤ 2 ^ 63 → AreShort lines → AreShort (front ++ set back 0 new)
   short_behind few short = subst AreShort (sym behind_is) (All-set Short lines to new few short)
 
 -- and where it stands in front of the cut
-module _ (lines front back : List (List ℕ)) (from to : ℕ) (d e new more : List ℕ) (near : to < from) (within : from < length lines) (front_is : front ≡ take from lines) (back_is : back ≡ drop from lines) where
+module _ (lines front back : List (List ℕ)) (from to : ℕ) (d e new more : List ℕ) (near : to < from) (within : from < length lines)
+    (front_is : front ≡ take from lines) (back_is : back ≡ drop from lines) where
   before_is : set front to new ++ back ≡ set lines to new
   before_is = (λ i. set (front_is i) to new ++ back_is i) ∙ set_before lines to from new near
 
@@ -74,7 +78,8 @@ module _ (lines front back : List (List ℕ)) (from to : ℕ) (d e new more : Li
   pub appended_before : more ≡ get_or back 0 e → new ≡ get_or front to d ++ more → set front to new ++ back ≡ set lines to (get_or lines to [] ++ get_or lines from [])
   appended_before more_is new_is =
       let here : from + 0 ≡ from = omega arith in
-      let added : more ≡ get_or lines from [] = more_is ∙ ap (λ (l : List (List ℕ)). get_or l 0 e) back_is ∙ get_or-drop from lines 0 e ∙ ap (λ (n : ℕ). get_or lines n e) here ∙ same_at lines from e [] within in
+      let added : more ≡ get_or lines from [] = more_is ∙ ap (λ (l : List (List ℕ)). get_or l 0 e) back_is ∙ get_or-drop from lines 0 e
+      ∙ ap (λ (n : ℕ). get_or lines n e) here ∙ same_at lines from e [] within in
       before_is ∙ ap (set lines to) (new_is ∙ (λ i. had_before i ++ added i))
 
   pub same_before : new ≡ get_or front to d → set front to new ++ back ≡ lines

@@ -1,5 +1,6 @@
 -- A line that comes in pieces.
-use Rattle.std.proofs.Common.{◌≡◌, ℕ, ◌+◌, ◌-◌, ◌^◌, ◌<◌, ◌≤◌, None, Some, get_or, take, drop, Bool, List, [], ◌∷◌, ◌++◌, Option, length, set, max, refl, sym, ◌∙◌, ap, subst, arith, append_assoc, length-append}
+use Rattle.std.proofs.Common.{◌≡◌, ℕ, ◌+◌, ◌-◌, ◌^◌, ◌<◌, ◌≤◌, None, Some, get_or, take, drop, Bool, List, [], ◌∷◌, ◌++◌, Option, length, set, max, refl, sym}
+use Rattle.std.proofs.Common.{◌∙◌, ap, subst, arith, append_assoc, length-append}
 use Rattle.std.proofs.lemmas.Bool.Decides.{nat_tests}
 use Rattle.std.proofs.lemmas.List.{append-nil, set-set, length-set, get_or-set_same, take-take}
 use Rattle.std.specs.Io.KnownBytes.{prepend_known}
@@ -63,7 +64,8 @@ pub record Filling (old now : Reader) (before so_far : Slots) (slot : ℕ) : Typ
 pub filling_slots : (old now : Reader) (before so_far : Slots) (slot : ℕ) → Filling old now before so_far slot → length so_far.lines ≡ length before.lines
 filling_slots old now before so_far slot f = ap (λ (s : Slots). length s.lines) f.stored ∙ length-set before.lines slot f.piece
 
-pub filling_more : (old now new : Reader) (before so_far after : Slots) (slot : ℕ) → slot < length before.lines → Filling old now before so_far slot → GivesPiece now new so_far after slot → Filling old new before after slot
+pub filling_more : (old now new : Reader) (before so_far after : Slots) (slot : ℕ) → slot < length before.lines → Filling old now before so_far slot
+    → GivesPiece now new so_far after slot → Filling old new before after slot
 filling_more old now new before so_far after slot within f p = record {
   piece = f.piece ++ p.piece;
   goes = goes_trans old now new f.piece p.piece f.goes p.goes;
@@ -76,7 +78,8 @@ spends old new bytes goes some short =
     let new_short : new.pulled < 2 ^ 63 = goes.short short in
     omega (arith, goes.reads.count)
 
-pub line_done : (old now new : Reader) (before so_far after : Slots) (slot : ℕ) → slot < length before.lines → old.pulled < 2 ^ 63 → Filling old now before so_far slot → GivesEnd now new so_far after slot → GivesLine old new before after slot
+pub line_done : (old now new : Reader) (before so_far after : Slots) (slot : ℕ) → slot < length before.lines → old.pulled < 2 ^ 63
+    → Filling old now before so_far slot → GivesEnd now new so_far after slot → GivesLine old new before after slot
 line_done old now new before so_far after slot within short f e = record {
   less = spends old new ((f.piece ++ e.piece) ++ old.ending ∷ []) all (omega (arith, length-append (f.piece ++ e.piece) (old.ending ∷ []))) short;
   line = f.piece ++ e.piece;
@@ -97,7 +100,8 @@ line_done old now new before so_far after slot within short f e = record {
 not_empty : (n : ℕ) → 0 < n → (n == 0) ≡ false
 not_empty n some = grind (arith, nat_tests)
 
-pub end_done : (old now new : Reader) (before so_far after : Slots) (slot : ℕ) (empty : Bool) → slot < length before.lines → old.pulled < 2 ^ 63 → Filling old now before so_far slot → Goes now new [] → IsDone new → after ≡ so_far
+pub end_done : (old now new : Reader) (before so_far after : Slots) (slot : ℕ) (empty : Bool) → slot < length before.lines → old.pulled < 2 ^ 63
+    → Filling old now before so_far slot → Goes now new [] → IsDone new → after ≡ so_far
     → empty ≡ (length (line after slot) == 0) → Fills old new before after slot (Ok (not empty))
 end_done old now new before so_far after slot empty within short f goes done same is =
     let whole : Goes old new f.piece = subst (λ (b : List ℕ). Goes old new b) (append-nil f.piece) (goes_trans old now new f.piece [] f.goes goes) in
@@ -107,17 +111,19 @@ end_done old now new before so_far after slot empty within short f goes done sam
   where
     by_piece : (piece : List ℕ) → Goes old new piece → IsLine old.ending piece → after ≡ with_line before slot piece → empty ≡ (length piece == 0) → Fills old new before after slot (Ok (not empty))
     by_piece [] g w s t = subst (λ (b : Bool). Fills old new before after slot (Ok (not b))) (sym t) (g, done, s)
-    by_piece (x ∷ piece) g w s t = let some : 0 < length (x ∷ piece) = omega arith in subst (λ (b : Bool). Fills old new before after slot (Ok (not b))) (sym (t ∙ not_empty (length (x ∷ piece)) some)) (record {
-      line = x ∷ piece;
-      ending = [];
-      goes = subst (λ (b : List ℕ). Goes old new b) (sym (append-nil (x ∷ piece))) g;
-      whole = w;
-      ends = inr (refl, some, done);
-      stored = s;
-      less = spends old new (x ∷ piece) g some short;
-    })
+    by_piece (x ∷ piece) g w s t = let some : 0 < length (x ∷ piece) = omega arith in subst (λ (b : Bool). Fills old new before after slot (Ok (not b)))
+        (sym (t ∙ not_empty (length (x ∷ piece)) some)) (record {
+          line = x ∷ piece;
+          ending = [];
+          goes = subst (λ (b : List ℕ). Goes old new b) (sym (append-nil (x ∷ piece))) g;
+          whole = w;
+          ends = inr (refl, some, done);
+          stored = s;
+          less = spends old new (x ∷ piece) g some short;
+        })
 
-pub stop_done : (old now new : Reader) (before so_far after : Slots) (slot : ℕ) (fault : LineFault) → Filling old now before so_far slot → Stops now new so_far after fault → Fills old new before after slot (Err fault)
+pub stop_done : (old now new : Reader) (before so_far after : Slots) (slot : ℕ) (fault : LineFault) → Filling old now before so_far slot
+    → Stops now new so_far after fault → Fills old new before after slot (Err fault)
 stop_done old now new before so_far after slot Read f s = record {
   piece = f.piece;
   faults = record {
@@ -160,7 +166,8 @@ module _ (old new : Reader) (block : List ℕ) (start end at : ℕ) (before afte
       there : (k : ℕ) → k < end - start → is_byte old.ending (get_or old.held k 0) ≡ is_byte old.ending (get_or block (start + k) 0)
       there k near = ap (is_byte old.ending) (ap (λ (l : List ℕ). get_or l k 0) (sym held) ∙ get_or-chunk start (end - start) block k 0 near)
 
-  pub near_done : old.fault ≡ None → old.pulled < 2 ^ 63 → at < end → end ≤ length block → slice_range block start end ≡ old.held → IsFirst (Passes (is_byte old.ending) block) start (start + 64) (Some at)
+  pub near_done : old.fault ≡ None → old.pulled < 2 ^ 63 → at < end → end ≤ length block → slice_range block start end ≡ old.held
+      → IsFirst (Passes (is_byte old.ending) block) start (start + 64) (Some at)
       → new ≡ record old { held = slice_range block (at + 1) end } → after ≡ with_line before slot (take (at - start) (drop start block)) → GivesLine old new before after slot
   near_done clean short high fits held first step stored =
       let size = at - start in

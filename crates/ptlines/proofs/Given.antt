@@ -19,7 +19,8 @@ range_rest b s e n fits =
     let whole : n + (e - (s + n)) ≡ e - s = omega arith in
     sym (ap (λ (k : ℕ). drop n (take k (drop s b))) (sym whole) ∙ drop-take n (e - (s + n)) (drop s b) ∙ ap (λ (l : List ℕ). take (e - (s + n)) l) (drop-drop n s b))
 
-pub reads_front : (old new : Reader) (n : ℕ) → n ≤ length old.held → new.held ≡ drop n old.held → new.left ≡ old.left → new.pulled ≡ old.pulled → new.refused ≡ old.refused → new.ending ≡ old.ending → new.ended ≡ old.ended → Reads old new (take n old.held)
+pub reads_front : (old new : Reader) (n : ℕ) → n ≤ length old.held → new.held ≡ drop n old.held → new.left ≡ old.left → new.pulled ≡ old.pulled → new.refused
+    ≡ old.refused → new.ending ≡ old.ending → new.ended ≡ old.ended → Reads old new (take n old.held)
 reads_front old new n fits held left pulled refused ending ended = record {
   ending = ending;
   still = λ is. (pulled, ended ∙ is);

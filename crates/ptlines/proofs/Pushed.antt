@@ -111,7 +111,8 @@ wrote_broken old new sent bytes more clean is b =
     }
 
 -- past the empty block, all of the bytes or some
-pub wrote_past_block : (old new : Output) (bytes : List ℕ) (r : Result (Unit {0}) WriteFault) → old.faulted ≡ false → old.staged ≡ [] → OnOk r (new ≡ with_passed old bytes) → OnErr r (Breaks old new bytes) → Wrote old new bytes
+pub wrote_past_block : (old new : Output) (bytes : List ℕ) (r : Result (Unit {0}) WriteFault) → old.faulted ≡ false → old.staged ≡ []
+    → OnOk r (new ≡ with_passed old bytes) → OnErr r (Breaks old new bytes) → Wrote old new bytes
 wrote_past_block old new bytes (Ok u) clean empty ok err = wrote_direct old new bytes clean empty ok
 wrote_past_block old new bytes (Err e) clean empty ok err = wrote_broken old new bytes bytes [] clean (ap (λ s. s ++ bytes) empty ∙ sym (append-nil bytes)) err
 
@@ -125,6 +126,7 @@ wrote_settled old clean = record {
   staged = omega arith;
 }
 
-pub wrote_flushed : (old new : Output) (r : Result (Unit {0}) WriteFault) → old.faulted ≡ false → old.staged ≡ [] → OnOk r (new ≡ record old { pending = false }) → OnErr r (Breaks old new []) → Wrote old new []
+pub wrote_flushed : (old new : Output) (r : Result (Unit {0}) WriteFault) → old.faulted ≡ false → old.staged ≡ []
+    → OnOk r (new ≡ record old { pending = false }) → OnErr r (Breaks old new []) → Wrote old new []
 wrote_flushed old new (Ok u) clean empty ok err = subst (λ o. Wrote old o []) (sym ok) (wrote_settled old clean)
 wrote_flushed old new (Err e) clean empty ok err = wrote_broken old new [] [] [] clean (ap (λ s. s ++ []) empty) err

@@ -18,7 +18,8 @@ pub unread_empty : (r : Reader) → r.held ≡ [] → unread r ≡ r.left
 unread_empty r empty = ap (λ (h : List ℕ). prepend_known h r.left) empty ∙ prepend_known-nil r.left
 
 pub refilled : (old new : Reader) (was is : SourceState) (into : List ℕ) (n : ℕ) → Gives was is into n → was.left ≡ old.left → old.held ≡ []
-    → n ≤ 8192 → new.held ≡ take n into → new.left ≡ is.left → new.pulled ≡ old.pulled + n → new.refused ≡ old.refused → new.ending ≡ old.ending → old.ended ≡ false → (new.ended ≡ true → IsAtEnd new.left) → Reads old new []
+    → n ≤ 8192 → new.held ≡ take n into → new.left ≡ is.left → new.pulled ≡ old.pulled + n → new.refused ≡ old.refused → new.ending ≡ old.ending → old.ended
+    ≡ false → (new.ended ≡ true → IsAtEnd new.left) → Reads old new []
 refilled old new was is into n gives same empty small held left pulled refused ending going ends = record {
   ending = ending;
   end = λ h. ends;
@@ -34,7 +35,8 @@ refilled old new was is into n gives same empty small held left pulled refused e
     size = ap length held ∙ length-take-le n into gives.fits
 
 -- a read that failed
-pub not_filled : (old new : Reader) → old.held ≡ [] → new.held ≡ [] → new.left ≡ old.left → new.pulled ≡ old.pulled → new.refused ≡ old.refused → new.ending ≡ old.ending → old.ended ≡ false → (new.ended ≡ true → IsAtEnd new.left) → Reads old new []
+pub not_filled : (old new : Reader) → old.held ≡ [] → new.held ≡ [] → new.left ≡ old.left → new.pulled ≡ old.pulled → new.refused ≡ old.refused → new.ending
+    ≡ old.ending → old.ended ≡ false → (new.ended ≡ true → IsAtEnd new.left) → Reads old new []
 not_filled old new empty none left pulled refused ending going ends = record {
   ending = ending;
   end = λ h. ends;
@@ -49,7 +51,8 @@ ends_right : (was is : SourceState) (into : List ℕ) (n : ℕ) → Gives was is
 ends_right was is into zero gives going ended = gives.at_end refl
 ends_right was is into (suc n) gives going ended = absurd (false≢true (sym (gives.more (omega arith) ∙ going) ∙ ended))
 
-module _ (old : Reader) (was is : SourceState) (block held : List ℕ) (p n : ℕ) (q q' : Bool) (fault : Option LineFault) (end : ℕ) (view : reader_of was held p fault q end ≡ old) (empty : old.held ≡ []) (kept : q' ≡ q) (clean : old.fault ≡ None) (going : old.ended ≡ false) where
+module _ (old : Reader) (was is : SourceState) (block held : List ℕ) (p n : ℕ) (q q' : Bool) (fault : Option LineFault) (end : ℕ)
+    (view : reader_of was held p fault q end ≡ old) (empty : old.held ≡ []) (kept : q' ≡ q) (clean : old.fault ≡ None) (going : old.ended ≡ false) where
   same_ending : end ≡ old.ending
   same_ending = ap (λ (r : Reader). r.ending) view
 
@@ -96,7 +99,9 @@ module _ (old : Reader) (was is : SourceState) (block held : List ℕ) (p n : �
       let still : slice_range into' 0 0 ≡ [] = between_from_start into' 0 in (
         record {
           reads = not_filled old (reader_of is (slice_range into' 0 0) p (Some Read) q' end) empty still
-              (ap (λ (s : SourceState). s.left) is_failed ∙ ap (λ (r : Reader). r.left) view) (ap (λ (r : Reader). r.pulled) view) same_refused same_ending going (λ ended. absurd (false≢true (sym (ap (λ (s : SourceState). s.ended) is_failed ∙ ap (λ (r : Reader). r.ended) view ∙ going) ∙ ended)));
+              (ap (λ (s : SourceState). s.left) is_failed ∙ ap (λ (r : Reader). r.left) view)
+              (ap (λ (r : Reader). r.pulled) view) same_refused same_ending going
+              (λ ended. absurd (false≢true (sym (ap (λ (s : SourceState). s.ended) is_failed ∙ ap (λ (r : Reader). r.ended) view ∙ going) ∙ ended)));
           whole = tt;
           is = refl;
         },

@@ -36,7 +36,8 @@ drop_end end hay at first = drop_more hay at 0 first.0.high ∙ ap (λ (b : ℕ)
 -- a reader's block was moved on
 pub goes_front : (old new : Reader) (n : ℕ) → old.fault ≡ None → n ≤ length old.held → new ≡ record old { held = drop n old.held } → Goes old new (take n old.held)
 goes_front old new n clean fits step = record {
-  reads = reads_front old new n fits (ap (λ (r : Reader). r.held) step) (ap (λ (r : Reader). r.left) step) pulled (ap (λ (r : Reader). r.refused) step) (ap (λ (r : Reader). r.ending) step) (ap (λ (r : Reader). r.ended) step);
+  reads = reads_front old new n fits (ap (λ (r : Reader). r.held) step) (ap (λ (r : Reader). r.left) step) pulled (ap (λ (r : Reader). r.refused) step)
+      (ap (λ (r : Reader). r.ending) step) (ap (λ (r : Reader). r.ended) step);
   fault = ap (λ (r : Reader). r.fault) step ∙ clean;
   failed = ap (λ (r : Reader). r.failed) step;
   short = λ h. omega (arith, pulled);
@@ -58,7 +59,8 @@ gives_end old mid new hay before after slot at clean is found first_step second_
       grows = grows;
     }
 
-pub gives_piece : (old new : Reader) (hay : List ℕ) (before after : Slots) (slot count : ℕ) → old.fault ≡ None → 0 < length old.held → hay ≡ old.held → IsFirstByte (is_byte old.ending) hay None → count ≡ length old.held
+pub gives_piece : (old new : Reader) (hay : List ℕ) (before after : Slots) (slot count : ℕ) → old.fault ≡ None → 0 < length old.held → hay ≡ old.held
+    → IsFirstByte (is_byte old.ending) hay None → count ≡ length old.held
     → new ≡ record old { held = drop count old.held } → Grows before after slot (take count old.held) → GivesPiece old new before after slot
 gives_piece old new hay before after slot count clean some is found all step grows =
     let none : IsFirstByte (is_byte old.ending) old.held None = subst (λ (h : List ℕ). IsFirstByte (is_byte old.ending) h None) is found in

@@ -36,7 +36,8 @@ sends_on was mid is pushed bytes wrote clean kept front =
     let s = sent_on was.taken mid.taken is.taken was.staged mid.staged pushed wrote.kept kept (wrote.whole clean) wrote.staged in
     record { sent = s.0; taken = s.1; most = omega (arith, s.2, ap length front.is, length-append bytes front.rest) }
 
-module _ {I : Type 0} (decided : (I → Given) → List ℕ) (came : I → Given) (was mid : Output) (pushed : List ℕ) (works : WorksOff decided came pushed) (wrote : Wrote was mid pushed) (clean : mid.faulted ≡ false) where
+module _ {I : Type 0} (decided : (I → Given) → List ℕ) (came : I → Given) (was mid : Output) (pushed : List ℕ) (works : WorksOff decided came pushed)
+    (wrote : Wrote was mid pushed) (clean : mid.faulted ≡ false) where
   pub keeps_still : KeepsUp decided came was mid pushed
   keeps_still = record { works = works; sends = sends_on was mid mid pushed (decided (λ i. (works.before i).earlier)) wrote clean (extends_same mid.taken) works.begins }
 
@@ -45,6 +46,13 @@ module _ {I : Type 0} (decided : (I → Given) → List ℕ) (came : I → Given
   keeps_more is bytes more =
       let now = decided (λ i. (works.before i).earlier) in
       record {
-        works = record { before = works.before; begins = record { rest = works.begins.rest ++ bytes; is = ap (λ (l : List ℕ). l ++ bytes) works.begins.is ∙ append_assoc now works.begins.rest bytes } };
+        works = record {
+          before = works.before;
+          begins = record {
+            rest = works.begins.rest ++ bytes;
+            is = ap (λ (l : List ℕ). l ++ bytes) works.begins.is
+                ∙ append_assoc now works.begins.rest bytes;
+          };
+        };
         sends = sends_on was mid is pushed now wrote clean more.kept works.begins;
       }

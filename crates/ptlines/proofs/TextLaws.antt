@@ -111,8 +111,10 @@ text-lines end (b ∷ []) =
         not_nil (x ∷ xs) z = cc
 text-lines end (b ∷ c ∷ bytes) = put (b == end) refl (text-lines end (c ∷ bytes))
   where
-    put : (t : Bool) → (b == end) ≡ t → (text end (lines end (c ∷ bytes)) ≡ c ∷ bytes) ⊎ ((c ∷ bytes ≢ []) × ¬ EndsWithByte end (c ∷ bytes) × (text end (lines end (c ∷ bytes)) ≡ (c ∷ bytes) ++ end ∷ []))
-        → (text end (cond t ([] ∷ lines end (c ∷ bytes)) (onto_first b (lines end (c ∷ bytes)))) ≡ b ∷ c ∷ bytes) ⊎ ((b ∷ c ∷ bytes ≢ []) × ¬ EndsWithByte end (b ∷ c ∷ bytes) × (text end (cond t ([] ∷ lines end (c ∷ bytes)) (onto_first b (lines end (c ∷ bytes)))) ≡ (b ∷ c ∷ bytes) ++ end ∷ []))
+    put : (t : Bool) → (b == end) ≡ t → (text end (lines end (c ∷ bytes)) ≡ c ∷ bytes)
+        ⊎ ((c ∷ bytes ≢ []) × ¬ EndsWithByte end (c ∷ bytes) × (text end (lines end (c ∷ bytes)) ≡ (c ∷ bytes) ++ end ∷ []))
+        → (text end (cond t ([] ∷ lines end (c ∷ bytes)) (onto_first b (lines end (c ∷ bytes)))) ≡ b ∷ c ∷ bytes)
+        ⊎ ((b ∷ c ∷ bytes ≢ []) × ¬ EndsWithByte end (b ∷ c ∷ bytes) × (text end (cond t ([] ∷ lines end (c ∷ bytes)) (onto_first b (lines end (c ∷ bytes)))) ≡ (b ∷ c ∷ bytes) ++ end ∷ []))
     put true e (inl h) = inl (rw (eqb-true b end e) (ap (λ xs. end ∷ xs) h))
     put true e (inr (n, u, h)) = inr ((λ z. cc), (λ x. u (tail_ends end b c bytes x)), rw (eqb-true b end e) (ap (λ xs. end ∷ xs) h))
     put false e (inl h) = inl (text_onto end b c bytes ∙ ap (λ xs. b ∷ xs) h)

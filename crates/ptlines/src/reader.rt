@@ -1,6 +1,6 @@
 ghost use Rattle.std.specs.Prelude.{◌≡◌, ◌<◌, ◌≤◌, ℕ, true, false, None, [], IfSome, IfOk, OnOk, OnErr, length, take, drop, if◌then◌else◌};
 ghost use Rattle.memchr.specs.Find.{IsFirstByte, is_byte};
-ghost use Rattle.ptlines.specs.Outputs.{Wrote};
+ghost use Rattle.ptlines.specs.Outputs.{MaySend, Wrote};
 ghost use Rattle.std.specs.Borrow.{sem};
 ghost use Rattle.std.specs.Io.KnownBytes.{IsAtEnd};
 ghost use Rattle.std.specs.Io.BufRead.{Rests};
@@ -381,6 +381,7 @@ impl<S: Source, R: Source> LineReader<S, R> {
         ensures wrote { Wrote out.old out.new [] }
         ensures clean { OnOk result (out.new.faulted ≡ false) }
         ensures fault { OnErr result (out.new.faulted ≡ true) }
+        ensures sent { OnOk result (MaySend out.old out.new) }
         ensures ended { self.now.ended ≡ true → out.new ≡ out.old }
         ensures sound { IsSound self.now }
     {
@@ -397,6 +398,7 @@ impl<S: Source, R: Source> LineReader<S, R> {
         ensures wrote { Wrote out.old out.new [] }
         ensures clean { OnOk result (out.new.faulted ≡ false) }
         ensures fault { OnErr result (out.new.faulted ≡ true) }
+        ensures sent { OnOk result (MaySend out.old out.new) }
     {
         if self.holds_line() {
             return Ok(());

@@ -1,6 +1,6 @@
 -- Where an input of a merge stands, and what going to its next line does.
-use Rattle.std.specs.Prelude.{◌≡◌, ◌⊎◌, ℕ, ◌+◌, ◌&&◌, nat_lt, if◌then◌else◌, List, [], Result, Ok, Err}
-use Rattle.std.specs.Ordering.{is_gt}
+use Rattle.std.specs.Prelude.{◌≡◌, ◌⊎◌, ℕ, ◌+◌, ◌&&◌, nat_lt, if◌then◌else◌, Bool, false, List, [], Result, Ok, Err}
+use Rattle.std.specs.Ordering.{is_eq, is_gt}
 use Rattle.ptlines.specs.Readers.{Reader, Goes, IsDone, IsSound}
 use Rattle.ptlines.specs.Slots.{Slots, line, with_line}
 use Rattle.ptlines.specs.Fills.{GivesLine, BreaksRead, BreaksMemory}
@@ -21,7 +21,7 @@ slot_of Second = 2
 
 -- an input of which nothing was read
 abbrev pub fresh : Side → Sorted
-fresh side = record { standing = slot_of side + 1; previous = slot_of side; number = 0; stand = Ended }
+fresh side = record { standing = slot_of side + 1; previous = slot_of side; number = 0; stand = Ended; same = false }
 
 -- the two slots of an input, in one order or the other
 abbrev pub HasSlots : Side → Sorted → Type 0
@@ -32,6 +32,10 @@ HasSlots side place =
 abbrev pub stand_at : Key → Cmp → ℕ → List ℕ → List ℕ → Stand
 stand_at key cmp number last next = if nat_lt 0 number && is_gt (cmp (key last) (key next)) then Disorder (number + 1) else Head
 
+-- whether such an input then stands at a line with the key of the line before
+abbrev pub same_at : Key → Cmp → ℕ → List ℕ → List ℕ → Bool
+same_at key cmp number last next = nat_lt 0 number && is_eq (cmp (key last) (key next))
+
 -- the next line came
 pub record Arrives (key : Key) (cmp : Cmp) (old new : Sorted) (was is : Reader) (before after : Slots) : Type 0 where
   pub gives : GivesLine was is before after old.previous
@@ -40,6 +44,7 @@ pub record Arrives (key : Key) (cmp : Cmp) (old new : Sorted) (was is : Reader) 
     previous = old.standing;
     number = old.number + 1;
     stand = stand_at key cmp old.number (line before old.standing) gives.line;
+    same = same_at key cmp old.number (line before old.standing) gives.line;
   }
   pub sound : IsSound is
 
@@ -48,7 +53,7 @@ pub record Closes (old new : Sorted) (was is : Reader) (before after : Slots) : 
   pub goes : Goes was is []
   pub done : IsDone is
   pub empty : after ≡ with_line before old.previous []
-  pub place : new ≡ record { standing = old.previous; previous = old.standing; number = old.number; stand = Ended }
+  pub place : new ≡ record { standing = old.previous; previous = old.standing; number = old.number; stand = Ended; same = false }
   pub sound : IsSound is
 
 -- an input went to its next line, or found none

@@ -2,12 +2,10 @@
 //!
 //! `sorted` is one of the inputs, which has to be in order; `slots` are those of the store that both need.
 
-ghost use Rattle.std.specs.Prelude.{◌≡◌, ◌&&◌, length, None, true, false, [], Result, OnOk, IfOk, IfErr, bytes_eq};
+ghost use Rattle.std.specs.Prelude.{◌≡◌, length, None, true, false, [], Result, OnOk, IfOk, IfErr};
 ghost use Rattle.ptlines.specs.Outputs.{Wrote};
 ghost use Rattle.ptlines.specs.Readers.{IsSound};
-ghost use Rattle.ptlines.specs.Slots.{line, line as line_of};
-ghost use Rattle.ptmerge.specs.Groups.{is_head};
-ghost use Rattle.ptmerge.specs.declared.order.Side.TheVariants as Of;
+ghost use Rattle.ptlines.specs.Slots.{line};
 ghost use Rattle.ptmerge.specs.declared.faults.MergeFault.TheVariants.{Write};
 ghost use Rattle.ptmerge.specs.Places.{Advances};
 ghost use Rattle.ptmerge.specs.Sides.{both, other};
@@ -19,7 +17,7 @@ pub(crate) mod sorted;
 use crate::faults::MergeFault;
 use crate::merging::slots::need_four;
 use crate::merging::sorted::{Sorted, Stand};
-use crate::order::{KeyOrder, Side, are_equal};
+use crate::order::{KeyOrder, Side};
 use ptlines::{LineReader, Out, Sink, Source, Store};
 use std::alloc::Allocator;
 
@@ -220,36 +218,14 @@ impl<K: KeyOrder> Merge<K> {
         }
     }
 
-    // Whether an input stands at a line, and its key is that of this line of the second input.
-    pub(crate) fn has_key_of<A: Allocator + Copy>(
-        &self,
-        side: Side,
-        line: &[u8],
-        store: &Store<A>,
-    ) -> bool
-        requires placed { IsPlaced self.now.first self.now.second store.now }
-        ensures { let place = both self.now.first self.now.second side in
-            let key = K.key_of self.now.order in
-            result ≡ (is_head place.stand
-            && bytes_eq (key side (line_of store.now place.standing)) (key Of.Second line.now)) }
+    // Whether an input stands at a line with the key of the line before.
+    #[inline(always)]
+    pub(crate) fn repeats(&self, side: Side) -> bool
+        ensures { result ≡ (both self.now.first self.now.second side).same }
     {
         match side {
-            Side::First => {
-                self.first.stand == Stand::Head
-                    && are_equal(
-                        &self.order,
-                        self.order.key(side, store.line(self.first.standing)),
-                        self.order.key(Side::Second, line),
-                    )
-            }
-            Side::Second => {
-                self.second.stand == Stand::Head
-                    && are_equal(
-                        &self.order,
-                        self.order.key(side, store.line(self.second.standing)),
-                        self.order.key(Side::Second, line),
-                    )
-            }
+            Side::First => self.first.same,
+            Side::Second => self.second.same,
         }
     }
 }

@@ -1,6 +1,6 @@
 //! The two sides of a merge, and how keys are compared.
 
-ghost use Rattle.std.specs.Prelude.{◌≡◌, ℕ, List, bytes_eq};
+ghost use Rattle.std.specs.Prelude.{◌≡◌, ℕ, List};
 ghost use Rattle.std.specs.Cmp.{IsTotalOrder};
 ghost use Rattle.std.specs.declared.cmp.Ordering.TheVariants.{Equal};
 ghost use Rattle.ptmerge.specs.Orders.{Cmp, Key};
@@ -40,14 +40,6 @@ pub trait KeyOrder: Drop {
 
     /// Keys that it does not tell apart are the same bytes.
     ghost exact: { (s : Self) (a b : List ℕ) → order s a b ≡ Equal → a ≡ b };
-}
-
-// Whether two keys are the same.
-#[inline(always)]
-pub(crate) fn are_equal<K: KeyOrder>(order: &K, a: &[u8], b: &[u8]) -> bool
-    ensures { result ≡ bytes_eq a.now b.now }
-{
-    order.cmp(a, b).is_eq()
 }
 
 /// A line is its own key. Keys are compared byte by byte, and a proper beginning comes before the longer one.

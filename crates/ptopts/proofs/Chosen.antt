@@ -22,5 +22,18 @@ pub first_chosen : {R V S : Type 0} (view : R → S) (set : V → S) (b c f : Op
     → view r ≡ unwrap_or (option_map set (option_or vb (option_or vc (option_or vf None)))) default
 first_chosen view set b c f vb vc vf default r eb ec ef is =
     let seen : option_map view (option_or (option_or b c) f) ≡ option_map set (option_or vb (option_or vc (option_or vf None))) =
-    rw (option_or-assoc b c f, ← option_or-nil f, option_map-or view b (option_or c (option_or f None)), option_map-or view c (option_or f None), option_map-or view f None, eb, ec, ef, option_map-or set vb (option_or vc (option_or vf None)), option_map-or set vc (option_or vf None), option_map-or set vf None) refl in
+    rw (
+      option_or-assoc b c f,
+      ← option_or-nil f,
+      option_map-or view b (option_or c (option_or f None)),
+      option_map-or view c
+          (option_or f None),
+      option_map-or view f None,
+      eb,
+      ec,
+      ef,
+      option_map-or set vb (option_or vc (option_or vf None)),
+      option_map-or set vc (option_or vf None),
+      option_map-or set vf None,
+    ) refl in
     ap (λ o. unwrap_or o default) (ap (option_map view) (sym is) ∙ seen)

@@ -1,5 +1,6 @@
 -- The options of a word while its letters are read, and those of words while they are.
-use Rattle.std.proofs.Common.{◌≡◌, ℕ, List, [], ◌∷◌, ◌++◌, true, false, refl, sym, ◌∙◌, append_assoc, Option, Some, None, drop, append-nil, length, length-drop, ◌<◌, ◌+◌, slice_index, nat_eq, add-one, drop-cons, ⊎_elim, arith}
+use Rattle.std.proofs.Common.{◌≡◌, ℕ, List, [], ◌∷◌, ◌++◌, true, false, refl, sym, ◌∙◌, append_assoc, Option, Some, None, drop, append-nil, length, length-drop}
+use Rattle.std.proofs.Common.{◌<◌, ◌+◌, slice_index, nat_eq, add-one, drop-cons, ⊎_elim, arith}
 use Rattle.std.specs.Prelude.{OnSome}
 use Rattle.std.proofs.lemmas.Bool.{cases_Bool, cases_eq, eq-eqb, ne_eqb}
 use Rattle.std.proofs.lemmas.List.{map-append}
@@ -88,7 +89,8 @@ module _ (tool : Tool) (word : List ℕ) (next : Option (List ℕ)) (before : Li
   value_read items new place o within none given fine pushed a =
       let rest : List ℕ = drop (place + 1) word in
       rw (pushed, map-append option_seen items (o ∷ []), is_empty-drop word place within)
-      (ahead_value (options_seen items) (slice_index word place) rest (option_seen o) none given (rw given at fine) (valued_if_given tool word (slice_index word place) rest next (option_seen o) given) (rw (letter_first word place within) at a))
+      (ahead_value (options_seen items) (slice_index word place) rest (option_seen o) none given (rw given at fine)
+      (valued_if_given tool word (slice_index word place) rest next (option_seen o) given) (rw (letter_first word place within) at a))
 
   pub fault_read : (items : List given.GivenOption) (place : ℕ) (found : Option Fault) → place < length word → is_flag tool (slice_index word place) ≡ false
       → found ≡ event_fault tool (options_seen items) (valued_event tool word (slice_index word place) (drop (place + 1) word) next)

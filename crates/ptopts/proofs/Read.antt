@@ -7,7 +7,9 @@ use Rattle.std.proofs.lemmas.Bool.{and_from, eqb-true, cases_Bool, not_from_fals
 use Rattle.std.proofs.lemmas.Slice.Eq.{bytes_eq-Decides}
 use Rattle.ptopts.specs.declared.tool.Tool.{Tool}
 use Rattle.ptlangs.specs.Numbers.{is_empty}
-use Rattle.ptopts.specs.Words.{is_flag, takes_value, is_dashed, is_end_of_options, GivenOption, flag, with_value, AreFlags, Spells, OperandsAlone, EndOfOptions, Flags, ValueAttached, ValueNext, Event, Given, Wanting, Stranger, valued_event, events_in, takes_next, Reading, reading_from, option_in, options}
+use Rattle.ptopts.specs.Words.{is_flag, takes_value, is_dashed, is_end_of_options, GivenOption, flag, with_value, AreFlags, Spells, OperandsAlone, EndOfOptions}
+use Rattle.ptopts.specs.Words.{Flags, ValueAttached, ValueNext, Event, Given, Wanting, Stranger, valued_event, events_in, takes_next, Reading, reading_from}
+use Rattle.ptopts.specs.Words.{option_in, options}
 use Rattle.ptopts.specs.Faults.{Twice, NeedsValue, is_spent, event_fault, reading_fault}
 use Rattle.ptopts.specs.Laws.{ReadAsSpelled, SpelledOneWay, SpelledUnlessFaulty}
 use Rattle.ptopts.proofs.Spelled.{spelled, read_as, events_in-flags, events_in-all_flags, takes_next-flags, takes_next-all_flags}
@@ -131,7 +133,8 @@ group_spelled tool ws some (OneMore fs l rest a n) more =
 operand_spelled : (tool : Tool) (word : List ℕ) (ws : List (List ℕ)) → is_end_of_options word ≡ false → is_dashed word ≡ false → IsSpelled tool (word ∷ ws) false
 operand_spelled tool word ws ends plain = rw (ends, plain) (λ given. OperandsAlone (word ∷ ws) (not_from_false (is_dashed word) plain))
 
-dashed_spelled : (tool : Tool) (b l : ℕ) (ls : List ℕ) (ws : List (List ℕ)) → b ≡ 45 → is_end_of_options (b ∷ l ∷ ls) ≡ false → ((taken : Bool) → IsSpelled tool ws taken) → IsSpelled tool ((b ∷ l ∷ ls) ∷ ws) false
+dashed_spelled : (tool : Tool) (b l : ℕ) (ls : List ℕ) (ws : List (List ℕ)) → b ≡ 45 → is_end_of_options (b ∷ l ∷ ls) ≡ false
+    → ((taken : Bool) → IsSpelled tool ws taken) → IsSpelled tool ((b ∷ l ∷ ls) ∷ ws) false
 dashed_spelled tool b l ls ws dash ends more =
     let at_dash : is_end_of_options (45 ∷ l ∷ ls) ≡ false = subst (λ (d : ℕ). is_end_of_options (d ∷ l ∷ ls) ≡ false) dash ends in
     subst (λ (d : ℕ). IsSpelled tool ((d ∷ l ∷ ls) ∷ ws) false) (sym dash) (rw at_dash (group_spelled tool ws refl (split tool (l ∷ ls)) more))
@@ -175,7 +178,8 @@ option_or-none None p none = (refl, none)
 option_or-none (Some x) p none = cc
 
 wanting_is_faulty : (tool : Tool) (before : List GivenOption) (letter : ℕ) → event_fault tool before (Wanting letter) ≡ None → ⊥
-wanting_is_faulty tool before letter none = ⊎_elim (λ t. let bad : Some (Twice letter) ≡ None = rw t at none in cc) (λ t. let bad : Some (NeedsValue letter) ≡ None = rw t at none in cc) (cases_Bool (is_spent tool before letter))
+wanting_is_faulty tool before letter none = ⊎_elim (λ t. let bad : Some (Twice letter) ≡ None = rw t at none in cc)
+    (λ t. let bad : Some (NeedsValue letter) ≡ None = rw t at none in cc) (cases_Bool (is_spent tool before letter))
 
 -- no fault is found among options alone
 all_given_unless_faulty : (tool : Tool) (before : List GivenOption) (events : List Event) → reading_fault tool before events ≡ None → all_given events ≡ true

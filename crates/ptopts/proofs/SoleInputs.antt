@@ -40,7 +40,8 @@ few_of true false none = cc
 few_of false few none = cc
 
 -- paste has at most 512 inputs
-pub few_inputs : (tool : Tool) (os : List GivenOption) (operands : List (List ℕ)) (told : jobs.Paste) → operands_fault tool os operands ≡ None → job tool os operands ≡ RunPaste told → nat_le (length (order_from 0 (inputs tool operands))) 512 ≡ true
+pub few_inputs : (tool : Tool) (os : List GivenOption) (operands : List (List ℕ)) (told : jobs.Paste) → operands_fault tool os operands ≡ None
+    → job tool os operands ≡ RunPaste told → nat_le (length (order_from 0 (inputs tool operands))) 512 ≡ true
 few_inputs Cut os operands told none is = cc
 few_inputs Paste os operands told none is = ap (λ (n : ℕ). nat_le n 512) (order_length 0 operands) ∙ few_of (nat_le 1 (length operands)) (nat_le (length operands) 512) none
 few_inputs Uniq os operands told none is = cc
@@ -61,7 +62,8 @@ two_of true false once = record { first = Standard; second = File 0; are = refl;
 two_of false true once = record { first = File 0; second = Standard; are = refl; differ = λ same. cc }
 two_of false false once = record { first = File 0; second = File 1; are = refl; differ = λ same. cc }
 
-two_operands : (operands : List (List ℕ)) → cond (not (is_between 2 2 (length operands) && true)) (Some Operands) (cond (list_all is_standard operands) (Some StandardTwice) None) ≡ None → AreTwo (order_from 0 operands)
+two_operands : (operands : List (List ℕ)) → cond (not (is_between 2 2 (length operands) && true)) (Some Operands)
+    (cond (list_all is_standard operands) (Some StandardTwice) None) ≡ None → AreTwo (order_from 0 operands)
 two_operands [] none = cc
 two_operands (a ∷ []) none = cc
 two_operands (a ∷ b ∷ []) none = two_of (is_standard a) (is_standard b) (unblamed (is_standard a && (is_standard b && true)) none)
@@ -85,7 +87,8 @@ is_of_two (RunJoin told) = true
 is_of_two _ = false
 
 -- comm and join have two inputs, and standard input is one of them at most
-pub two_inputs : (tool : Tool) (os : List GivenOption) (operands : List (List ℕ)) → operands_fault tool os operands ≡ None → is_of_two (job tool os operands) ≡ true → AreTwo (order_from 0 (inputs tool operands))
+pub two_inputs : (tool : Tool) (os : List GivenOption) (operands : List (List ℕ)) → operands_fault tool os operands ≡ None → is_of_two (job tool os operands)
+    ≡ true → AreTwo (order_from 0 (inputs tool operands))
 two_inputs Cut os operands none is = cc
 two_inputs Paste os operands none is = cc
 two_inputs Uniq os operands none is = cc

@@ -6,7 +6,8 @@ use Rattle.std.proofs.lemmas.Bool.{and_parts, eqb-true, or_cases, not-true, ne_e
 use Rattle.ptopts.specs.declared.tool.Tool.{Tool}
 use Rattle.ptopts.specs.declared.tool.Tool.TheVariants.{Cut, Paste, Uniq, Comm, Join, Tr}
 use Rattle.ptopts.specs.Syntax.{syntax}
-use Rattle.ptopts.specs.Words.{has_letter, is_flag, takes_value, GivenOption, flag, with_value, AreFlags, Spells, OperandsAlone, EndOfOptions, Flags, ValueAttached, ValueNext, Event, Given, events_in, takes_next, Reading, reading_from, prefixed, begins_with_operand}
+use Rattle.ptopts.specs.Words.{has_letter, is_flag, takes_value, GivenOption, flag, with_value, AreFlags, Spells, OperandsAlone, EndOfOptions, Flags}
+use Rattle.ptopts.specs.Words.{ValueAttached, ValueNext, Event, Given, events_in, takes_next, Reading, reading_from, prefixed, begins_with_operand}
 
 -- what passes for each letter of a list passes for this one
 pub all_of : (p : ℕ → Bool) (cs : List ℕ) (l : ℕ) → list_all p cs ≡ true → has_letter l cs ≡ true → p l ≡ true

@@ -1,5 +1,6 @@
 -- What the words of a command mean: a command, or the first fault.
-use Rattle.std.specs.Prelude.{ℕ, ◌||◌, ◌+◌, List, [], ◌∷◌, Bool, false, not, Option, Some, None, Result, Ok, Err, if◌then◌else◌, option_and_then, slice_get, unwrap_or, option_map, codes, bytes_eq, filter, take}
+use Rattle.std.specs.Prelude.{ℕ, ◌||◌, ◌+◌, List, [], ◌∷◌, Bool, false, not, Option, Some, None, Result, Ok, Err, if◌then◌else◌, option_and_then, slice_get}
+use Rattle.std.specs.Prelude.{unwrap_or, option_map, codes, bytes_eq, filter, take}
 use Rattle.std.specs.List.{list_any}
 use Rattle.std.specs.Result.{result_unwrap_or}
 use Rattle.std.specs.Str.{byte}

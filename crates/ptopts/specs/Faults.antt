@@ -1,5 +1,6 @@
 -- What is wrong with the words of a command, and which fault is the first (this project's own order).
-use Rattle.std.specs.Prelude.{ℕ, ◌==◌, ◌&&◌, ◌||◌, List, [], ◌∷◌, ◌++◌, Bool, true, false, not, Option, Some, None, Result, if◌then◌else◌, map, find, length, nat_le, codes, bytes_eq, is_some, is_ok, option_map, option_and_then, slice_get, slice_index_or}
+use Rattle.std.specs.Prelude.{ℕ, ◌==◌, ◌&&◌, ◌||◌, List, [], ◌∷◌, ◌++◌, Bool, true, false, not, Option, Some, None, Result, if◌then◌else◌, map, find, length}
+use Rattle.std.specs.Prelude.{nat_le, codes, bytes_eq, is_some, is_ok, option_map, option_and_then, slice_get, slice_index_or}
 use Rattle.std.specs.List.{list_all}
 use Rattle.std.specs.Option.{option_or, option_map_or}
 use Rattle.std.specs.Result.{result_err}

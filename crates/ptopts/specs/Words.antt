@@ -1,5 +1,6 @@
 -- How the words of a command are options and operands (POSIX.1-2017, XBD 12.2).
-use Rattle.std.specs.Prelude.{ℕ, ◌==◌, ◌&&◌, List, [], ◌∷◌, ◌++◌, Bool, true, false, not, Option, Some, None, if◌then◌else◌, map, filter_map, drop, codes, bytes_eq, IsTrue, slice_get, find, option_map, option_and_then}
+use Rattle.std.specs.Prelude.{ℕ, ◌==◌, ◌&&◌, List, [], ◌∷◌, ◌++◌, Bool, true, false, not, Option, Some, None, if◌then◌else◌, map, filter_map, drop, codes}
+use Rattle.std.specs.Prelude.{bytes_eq, IsTrue, slice_get, find, option_map, option_and_then}
 use Rattle.std.specs.List.{list_all, list_any}
 use Rattle.std.specs.Option.{option_map_or}
 use Rattle.std.specs.Str.{byte}

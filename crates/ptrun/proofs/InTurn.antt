@@ -28,8 +28,8 @@ use Rattle.ptrun.specs.Sayings.{Tells}
 use Rattle.ptrun.specs.Meanings.{unopened}
 use Rattle.ptrun.specs.Messages.{not_opened, name_of}
 use Rattle.ptlines.specs.KeepingUp.{SendsOn, KeepsUp}
-use Rattle.ptrun.specs.KeepingUp.{each_earlier, WorksOffEach, KeepsUpEach}
-use Rattle.ptrun.proofs.KeepingUp.{works_same, works_last, sends_now, sends_behind}
+use Rattle.ptrun.specs.KeepingUp.{PassedOn, LastEarlier}
+use Rattle.ptrun.proofs.KeepingUp.{all_earlier, last_earlier, sends_now, sends_behind}
 use Rattle.ptrun.specs.Operands.{decided_of, largest, up_to_open, each_out, each_bound, each_decided, one_by_one}
 use Rattle.ptrun.specs.declared.engine.Done.{Done}
 use Rattle.ptrun.specs.declared.engine.Done.TheVariants.{Whole, Unopened}
@@ -266,9 +266,9 @@ module _ (word : List ℕ) (t : Tool) (names : List (List ℕ)) (old : List Read
   }
 
   -- all that the operands that are done decided was pushed
-  pub works_all : ((g : Given) → g.ended ≡ true → t.decided g ≡ t.text g.bytes) → (now : List Reader) (is : Output) (heard : SinkState) (store : Slots) (order : List ℕ) (so_far : Done) (k : Pass word t names old now was is told heard before store order so_far)
-      → WorksOffEach t (sources nothing_left k.gave order) k.pushed
-  works_all law now is heard store order so_far k = works_same t (sources nothing_left k.gave order) k.pushed (record { rest = []; is = sym all ∙ sym (append-nil (each_decided t k.gave order)) })
+  works_all : ((g : Given) → g.ended ≡ true → t.decided g ≡ t.text g.bytes) → (now : List Reader) (is : Output) (heard : SinkState) (store : Slots) (order : List ℕ) (so_far : Done) (k : Pass word t names old now was is told heard before store order so_far)
+      → Begins (each_decided t k.gave order) k.pushed
+  works_all law now is heard store order so_far k = record { rest = []; is = sym all ∙ sym (append-nil (each_decided t k.gave order)) }
     where
       all : each_decided t k.gave order ≡ k.pushed
       all =
@@ -276,9 +276,16 @@ module _ (word : List ℕ) (t : Tool) (names : List (List ℕ)) (old : List Read
           ∙ decided_founds t law k.gave [] order [] (λ q seen. ended_at (reader_at old q) (reader_at now q) (at k.gave q) (subst (λ (b : Bool). PlaceIs b (reader_at old q) (reader_at now q) (at k.gave q)) seen (k.places q)))
           ∙ append-nil (each_out t (least k.gave) order) ∙ sym (k.out (least k.gave) (agrees_least k.gave))
 
+  pub keeps_all : ((g : Given) → g.ended ≡ true → t.decided g ≡ t.text g.bytes) → (now : List Reader) (is : Output) (heard : SinkState) (store : Slots) (order : List ℕ) (so_far : Done) (k : Pass word t names old now was is told heard before store order so_far)
+      → LastEarlier t (sources nothing_left k.gave order) (λ decided. PassedOn decided was is k.pushed)
+  keeps_all law now is heard store order so_far k =
+      let works = works_all law now is heard store order so_far k in
+      all_earlier t (sources nothing_left k.gave order) (λ decided. PassedOn decided was is k.pushed) (record { begins = works; sends = sends_now was is k.pushed (each_decided t k.gave order) k.wrote k.clean works })
+
   pub pass_all : (now : List Reader) (is : Output) (heard : SinkState) (store : Slots) (order : List ℕ) (so_far : Done)
-      → (k : Pass word t names old now was is told heard before store order so_far) → WorksOffEach t (sources nothing_left k.gave order) k.pushed → Went (one_by_one word t names order) old now was is told heard before store (Ok so_far)
-  pass_all now is heard store order so_far k works = record {
+      → (k : Pass word t names old now was is told heard before store order so_far) → LastEarlier t (sources nothing_left k.gave order) (λ decided. PassedOn decided was is k.pushed)
+      → Went (one_by_one word t names order) old now was is told heard before store (Ok so_far)
+  pass_all now is heard store order so_far k up = record {
     received = k.gave;
     came = came;
     pushed = k.pushed;
@@ -303,8 +310,7 @@ module _ (word : List ℕ) (t : Tool) (names : List (List ℕ)) (old : List Read
     true_so_far = λ w agrees. record { rest = []; is = sym (k.out w agrees) ∙ sym (append-nil k.pushed) };
     told_read = λ q failed clean. absurd (none q failed);
     sure = λ q failed clean. absurd (none q failed);
-    keeps_up = subst (λ (l : List ℕ). KeepsUpEach t (sources nothing_left k.gave l) was is k.pushed) (sym (take_all (length order + 1) order (omega arith)))
-        (record { works = works; sends = sends_now was is k.pushed (decided_of t (each_earlier (sources nothing_left k.gave order) works.before)) k.wrote k.clean works.begins });
+    keeps_up = subst (λ (l : List ℕ). LastEarlier t (sources nothing_left k.gave l) (λ decided. PassedOn decided was is k.pushed)) (sym (take_all (length order + 1) order (omega arith))) up;
     peak = k.peak;
   }
     where
@@ -564,16 +570,18 @@ module _ (word : List ℕ) (t : Tool) (names : List (List ℕ)) (old : List Read
         is = ap (λ (l : List ℕ). k.pushed ++ l) one_keeps.works.begins.is ∙ sym (append_assoc k.pushed (t.decided earlier) one_keeps.works.begins.rest) ∙ ap (λ (l : List ℕ). l ++ one_keeps.works.begins.rest) (sym decided_here);
       }
 
-      keeps_here : KeepsUpEach t (sources nothing_left gave' (done ++ p ∷ [])) was is' (k.pushed ++ e.pushed)
+      keeps_here : LastEarlier t (sources nothing_left gave' (done ++ p ∷ [])) (λ bytes. PassedOn bytes was is' (k.pushed ++ e.pushed))
       keeps_here =
-          let w = works_last t came_before e.given (one_keeps.works.before tt) (k.pushed ++ e.pushed) begins_here in
-          subst (λ (l : List Given). KeepsUpEach t l was is' (k.pushed ++ e.pushed)) (sym (sources_opened nothing_left gave' done p [] e.given found_given))
-          (record { works = w.0; sends = subst (λ (l : List ℕ). SendsOn was is' l) (sym (w.1 ∙ decided_here)) (sends_behind was is is' k.pushed (t.decided earlier) k.wrote k.clean one_keeps.sends) })
+          subst (λ (l : List Given). LastEarlier t l (λ bytes. PassedOn bytes was is' (k.pushed ++ e.pushed))) (sym (sources_opened nothing_left gave' done p [] e.given found_given))
+          (last_earlier t came_before e.given (one_keeps.works.before tt) (λ bytes. PassedOn bytes was is' (k.pushed ++ e.pushed)) (record {
+            begins = begins_here;
+            sends = subst (λ (l : List ℕ). SendsOn was is' l) (sym decided_here) (sends_behind was is is' k.pushed (t.decided earlier) k.wrote k.clean one_keeps.sends);
+          }))
 
       -- it was the last one, and read to its end
       pub pass_last : result ≡ Ok tt → Went (one_by_one word t names (done ++ p ∷ [])) old now' was is' told heard before store' (Ok so_far)
       unfolding pass_done
-      pass_last ok = pass_all now' is' heard store' (done ++ p ∷ []) so_far (pass_done ok) keeps_here.works
+      pass_last ok = pass_all now' is' heard store' (done ++ p ∷ []) so_far (pass_done ok) keeps_here
 
     module _ (decided : Decided) (more : List ℕ) where
       sure_here : new.failed ≡ true → is'.faulted ≡ false → new.ended ≡ false → Begins (each_decided t gave' (done ++ p ∷ more)) (k.pushed ++ e.pushed)
@@ -628,7 +636,7 @@ module _ (word : List ℕ) (t : Tool) (names : List (List ℕ)) (old : List Read
               ∙ sym (append_assoc k.pushed e.pushed (b.rest ++ flat_map t.text (opened (founds [] w (done ++ p ∷ []) more))));
         };
         sure = λ q failed clean. let here = blamed q failed in sure_here here clean (failing fault end here).0;
-        keeps_up = subst (λ (l : List ℕ). KeepsUpEach t (sources nothing_left gave' l) was is' (k.pushed ++ e.pushed)) (sym (take_with done p more)) (keeps_here decided);
+        keeps_up = subst (λ (l : List ℕ). LastEarlier t (sources nothing_left gave' l) (λ bytes. PassedOn bytes was is' (k.pushed ++ e.pushed))) (sym (take_with done p more)) (keeps_here decided);
         told_read = λ q failed clean. let is_q = place_of q failed in ap (λ (f : FlowFault). Err f) ((failing fault end (blamed q failed)).1 ∙ ap (λ (n : ℕ). Read n) is_q);
         peak = λ w agrees. peak_here w more agrees;
       }

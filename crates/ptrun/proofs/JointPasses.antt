@@ -20,12 +20,15 @@ use Rattle.ptflow.specs.declared.faults.FlowFault.{FlowFault}
 use Rattle.ptflow.specs.declared.faults.FlowFault.TheVariants.{Read, Write, Memory}
 use Rattle.ptrun.specs.declared.engine.Done.{Done}
 use Rattle.ptrun.specs.declared.engine.Done.TheVariants.{Whole}
-use Rattle.ptrun.specs.Worlds.{World, at, is_unopened, Allows, is_in, opened, reader_at, shut, CameAt, IsFresh}
+use Rattle.ptrun.specs.Worlds.{World, Received, at, is_unopened, Allows, is_in, sources, opened, reader_at, shut, CameAt, IsFresh}
 use Rattle.ptrun.specs.Meanings.{unopened}
 use Rattle.ptrun.specs.Sayings.{Tells}
 use Rattle.ptrun.specs.Messages.{not_opened, name_of}
 use Rattle.ptopts.specs.declared.inputs.Input.{Input}
-use Rattle.ptrun.specs.Operands.{place, places, largest, up_to_open, one_by_one}
+use Rattle.ptlines.specs.KeepingUp.{Before}
+use Rattle.ptrun.specs.KeepingUp.{PassedOn, begun_of}
+use Rattle.ptrun.proofs.KeepingUp.{at_set, opened_set}
+use Rattle.ptrun.specs.Operands.{place, places, largest, up_to_open, decided_of, one_by_one}
 use Rattle.ptrun.specs.Together.{JointTool, of_one, text_in, given_in, lacks, disorder_text, disorder_status, together}
 use Rattle.ptrun.specs.Engines.{Checks, AreReady, blame, last_words, status_after, WentTo, Went, done_of, JointEnds, IsJointPass}
 use Rattle.ptrun.proofs.Sayings.{tells_nothing, tells_trans}
@@ -40,6 +43,10 @@ pub lacking_does_nothing : (word : List ℕ) (t : JointTool) (names : List (List
 lacking_does_nothing word t names places is_shut any w same =
     let lacking : lacks places w ≡ true = sym (any_same is_shut (is_unopened w) places same) ∙ any in
     rw lacking (refl, refl, refl)
+
+lacking_decides_nothing : (word : List ℕ) (t : JointTool) (names : List (List ℕ)) (places : List ℕ) (is_shut : ℕ → Bool) → list_any is_shut places ≡ true → (r : Received) → ((q : ℕ) → is_shut q ≡ is_unopened r q)
+    → (together word t names places).decided r ≡ []
+lacking_decides_nothing word t names places is_shut any r same = ap (λ (b : Bool). cond b [] (t.decided places (given_in r))) (sym (any_same is_shut (is_unopened r) places same) ∙ any)
 
 -- where each was opened, none is named
 pub none_named : (word : List ℕ) (names : List (List ℕ)) (test : ℕ → Bool) (places : List ℕ) → list_any test places ≡ false → unopened word names test places ≡ []
@@ -83,12 +90,13 @@ module _ (word : List ℕ) (names : List (List ℕ)) (is_shut : ℕ → Bool) (d
 
 pub checks_of : (word : List ℕ) (t : JointTool) (names : List (List ℕ)) (places : List ℕ) (inputs : List Reader) (told heard : SinkState) (lacking : Bool) → lacking ≡ list_any (shut inputs) places
     → Tells told heard (unopened word names (shut inputs) places) → Checks (together word t names places) inputs told heard lacking
-checks_of word t names places inputs told heard true is tells = record { is = is; tells = tells; nothing = λ _. lacking_does_nothing word t names places (shut inputs) (sym is); at_once = λ _. refl }
+checks_of word t names places inputs told heard true is tells = record { is = is; tells = tells; nothing = λ _. lacking_does_nothing word t names places (shut inputs) (sym is); at_once = λ _. refl; undecided = λ _. lacking_decides_nothing word t names places (shut inputs) (sym is) }
 checks_of word t names places inputs told heard false is tells = record {
   is = is;
   tells = subst (λ (l : List ℕ). Tells told heard l) (none_named word names (shut inputs) places (sym is)) tells;
   nothing = λ lacks_some. absurd (false≢true lacks_some);
   at_once = λ _. refl;
+  undecided = λ lacks_some. absurd (false≢true lacks_some);
 }
 
 -- ---- the place of a failure, as the first operand that has it
@@ -128,6 +136,9 @@ module _ (word : List ℕ) (t : JointTool) (names : List (List ℕ)) (places : L
 
   came_complete : lacks places k.received ≡ false
   came_complete = sym (any_same (shut old) (is_unopened k.received) places (λ q. refused_received (reader_at old q) (reader_at new q) (at k.received q) (k.came q))) ∙ all_open
+
+  decided_is : (r : Received) → ((q : ℕ) → is_unopened r q ≡ is_unopened k.received q) → (together word t names places).decided r ≡ t.decided places (given_in r)
+  decided_is r same = ap (λ (b : Bool). cond b [] (t.decided places (given_in r))) (any_same (is_unopened r) (is_unopened k.received) places same ∙ came_complete)
 
   out_is : (w : World) → Allows k.received w → t.text places (text_in w) ≡ (together word t names places).out w
   out_is w agrees = ap (λ (b : Bool). cond b [] (t.text places (text_in w))) (sym (complete w agrees))
@@ -176,7 +187,9 @@ module _ (word : List ℕ) (t : JointTool) (names : List (List ℕ)) (places : L
     true_so_far = λ w agrees. subst (λ (l : List ℕ). Begins k.pushed l) (out_is w agrees) (k.true_so_far w agrees);
     told_read = k.told_read;
     sure = λ q failed clean. subst (λ (l : List ℕ). Begins l k.pushed) (ap (λ (b : Bool). cond b [] (t.decided places (given_in k.received))) (sym came_complete)) (k.sure q failed clean);
-    keeps_up = tt;
+    keeps_up = λ place came named is_there.
+        let up = k.keeps_up place came named is_there in
+        (up.0, subst (λ (l : List ℕ). PassedOn l was is k.pushed) (sym (decided_is (set k.received place (Some (up.0.earlier))) (opened_set k.received place came up.0.earlier is_there))) up.1);
     peak = λ w agrees. subst (λ (n : ℕ). store.peak ≤ max before.peak n) (ap (λ (b : Bool). cond b 0 (t.size places (text_in w))) (sym (complete w agrees))) (k.peak w agrees);
   }
 
@@ -190,13 +203,16 @@ sole_size : (f : List ℕ → ℕ) (v : Option (List ℕ)) → is_none v ≡ fal
 sole_size f None is = absurd (false≢true (sym is))
 sole_size f (Some b) is = omega arith
 
-sole_decided : (f : Given → List ℕ) (o : Option Given) → is_none o ≡ false → flat_map f (up_to_open (opened (option_map (λ x. x) o ∷ []))) ≡ f (unwrap_or o nothing_left)
-sole_decided f None is = absurd (false≢true (sym is))
-sole_decided f (Some g) is = by_end g.ended
+one_decided : (f : Given → List ℕ) (g : Given) → flat_map f (up_to_open (g ∷ [])) ≡ f g
+one_decided f g = by_end g.ended
   where
     by_end : (b : Bool) → f g ++ flat_map f (cond b [] []) ≡ f g
     by_end true = append-nil (f g)
     by_end false = append-nil (f g)
+
+sole_decided : (f : Given → List ℕ) (o : Option Given) → is_none o ≡ false → flat_map f (up_to_open (opened (option_map (λ x. x) o ∷ []))) ≡ f (unwrap_or o nothing_left)
+sole_decided f None is = absurd (false≢true (sym is))
+sole_decided f (Some g) is = one_decided f g
 
 module _ (word : List ℕ) (t : Tool) (names : List (List ℕ)) (old : List Reader) (fresh : (q : ℕ) → IsFresh (reader_at old q)) (was is : Output) (told : SinkState) (before store : Slots) (p : ℕ) (new : Reader) (result : Result (Unit {0}) FlowFault)
     (clean : was.faulted ≡ false) (roomy : before.denied ≡ false) (empty : total before.lines ≡ 0)
@@ -223,11 +239,32 @@ module _ (word : List ℕ) (t : Tool) (names : List (List ℕ)) (old : List Read
       true_so_far = λ w agrees. subst (λ (l : List ℕ). Begins k.pushed l) (text_is w agrees) (k.true_so_far w agrees);
       told_read = k.told_read;
       sure = λ q failed fine. subst (λ (l : List ℕ). Begins l k.pushed) (sole_decided t.decided (at k.received p) came_there) (k.sure q failed fine);
+      keeps_up = λ place came named is_there. keeps_here place came (only_one place named) is_there;
       peak = λ w agrees. subst (λ (n : ℕ). store.peak ≤ max before.peak n) (sole_size t.size (at w p) (there w agrees)) (k.peak w agrees);
     }
       where
         take_one : (n : ℕ) → take (n + 1) (p ∷ []) ≡ p ∷ []
         take_one n = take_all (n + 1) (p ∷ []) (omega arith)
+
+        only_one : (place : ℕ) → is_in (p ∷ []) place ≡ true → p ≡ place
+        only_one place named = ⊎_elim (λ same. same.1) (λ other. absurd (false≢true (sym (ap (λ (b : Bool). b || false) other.0) ∙ named))) (eqb_tells p place)
+
+        keeps_here : (place : ℕ) (came : Given) → p ≡ place → at k.received place ≡ Some came
+            → (before : Before came) × PassedOn (t.decided (given_in (set k.received place (Some before.earlier)) p)) was is k.pushed
+        keeps_here place came same is_there = (up.0, subst (λ (l : List ℕ). PassedOn l was is k.pushed) decided_there up.1)
+          where
+            is_here : at k.received p ≡ Some came
+            is_here = subst (λ (n : ℕ). at k.received n ≡ Some came) (sym same) is_there
+
+            alone : begun_of k.received (p ∷ []) k.behind ≡ came ∷ []
+            alone = ap (sources nothing_left k.received) (take_one k.behind) ∙ ap (λ (o : Option Given). opened (option_map (λ x. x) o ∷ [])) is_here
+
+            up : (before : Before came) × PassedOn (decided_of t (before.earlier ∷ [])) was is k.pushed
+            up = k.keeps_up [] came alone
+
+            decided_there : decided_of t (up.0.earlier ∷ []) ≡ t.decided (given_in (set k.received place (Some up.0.earlier)) p)
+            decided_there = one_decided t.decided up.0.earlier
+                ∙ sym (subst (λ (n : ℕ). t.decided (given_in (set k.received n (Some up.0.earlier)) p) ≡ t.decided up.0.earlier) same (ap (λ (o : Option Given). t.decided (unwrap_or o nothing_left)) (at_set k.received p came up.0.earlier is_here)))
 
   start : Pass word t names old old was was told told before before [] Whole
   start = pass_nothing word t names old fresh was told before clean roomy empty

@@ -1,7 +1,7 @@
--- What of the operands was decided two blocks earlier, one more operand at a time; and what of it reached the sink.
-use Rattle.std.proofs.Common.{◌≡◌, ℕ, zero, suc, ◌+◌, ◌≤◌, Bool, false, List, [], ◌∷◌, ◌++◌, Option, Some, None, length, take, drop, refl, sym, ◌∙◌, ap, subst, arith, append_assoc, length-append, length-drop, take-append-drop}
+-- What had been decided two blocks earlier of the last operand; and what of it reached the sink.
+use Rattle.std.proofs.Common.{◌≡◌, ◌≢◌, ⊎_elim, ℕ, zero, suc, ◌+◌, ◌≤◌, Bool, false, List, [], ◌∷◌, ◌++◌, set, Option, Some, None, is_none, length, take, drop, refl, sym, ◌∙◌, ap, subst, arith, length-append, length-drop, take-append-drop}
 use Rattle.std.specs.Io.KnownBytes.{append_known}
-use Rattle.std.proofs.lemmas.List.{append-nil, nil_from_length}
+use Rattle.std.proofs.lemmas.List.{append-nil, get_or-set_other, nil_from_length}
 use Rattle.std.proofs.Math.Seq.{take-append_seam}
 use Rattle.ptlines.specs.Inputs.{Given, Begins, nothing_left}
 use Rattle.ptlines.specs.KeepingUp.{Before, WorksOff, SendsOn}
@@ -10,29 +10,77 @@ use Rattle.ptlines.proofs.Known.{append_known-append}
 use Rattle.ptlines.proofs.Sending.{known_length, keeps_still}
 use Rattle.ptflow.specs.Tools.{Tool}
 use Rattle.ptrun.specs.Operands.{decided_of}
-use Rattle.ptrun.specs.KeepingUp.{EachBefore, each_earlier, WorksOffEach, KeepsUpEach, KeptUp}
+use Rattle.ptrun.specs.Worlds.{Received, at, is_unopened}
+use Rattle.ptrun.proofs.Sources.{same_or_other}
+use Rattle.ptrun.specs.Meanings.{Meaning}
+use Rattle.ptrun.specs.KeepingUp.{PassedOn, KeptUp, LastEarlier, AnyEarlier, EarlierAs, Earlier}
 
 -- all that came
 abbrev pub same_before : (g : Given) → Before g
 same_before g = record { earlier = g; last = []; split = sym (append-nil g.bytes); short = omega arith; ended = λ e. e }
 
-pub each_same : (came : List Given) → (b : EachBefore came) × (each_earlier came b ≡ came)
-each_same [] = (tt, refl)
-each_same (g ∷ gs) = let k = each_same gs in ((same_before g, k.0), ap (λ (l : List Given). g ∷ l) k.1)
+last_same : (xs ys : List Given) (x y : Given) → xs ++ x ∷ [] ≡ ys ++ y ∷ [] → (xs ≡ ys) × (x ≡ y)
+last_same [] [] x y is = (refl, cc)
+last_same [] (b ∷ ys) x y is = absurd (omega (arith, ap length is, length-append ys (y ∷ [])))
+last_same (a ∷ xs) [] x y is = absurd (omega (arith, ap length is, length-append xs (x ∷ [])))
+last_same (a ∷ xs) (b ∷ ys) x y is =
+    let further = last_same xs ys x y (tails is) in
+    let first : a ≡ b = cc in
+    (λ i. first i ∷ further.0 i, further.1)
+  where
+    tails : a ∷ (xs ++ x ∷ []) ≡ b ∷ (ys ++ y ∷ []) → xs ++ x ∷ [] ≡ ys ++ y ∷ []
+    tails same = cc
 
--- and of the last one less
-pub each_last : (came : List Given) (g : Given) (b : Before g) → (x : EachBefore (came ++ g ∷ [])) × (each_earlier (came ++ g ∷ []) x ≡ came ++ b.earlier ∷ [])
-each_last [] g b = ((b, tt), refl)
-each_last (h ∷ came) g b = let k = each_last came g b in ((same_before h, k.0), ap (λ (l : List Given). h ∷ l) k.1)
+-- operands that are all done decided all that they decide
+pub all_earlier : (t : Tool) (came : List Given) (P : List ℕ → Type 0) → P (decided_of t came) → LastEarlier t came P
+all_earlier t came P holds done last is = (same_before last, subst (λ (l : List Given). P (decided_of t l)) is holds)
 
-pub works_same : (t : Tool) (came : List Given) (pushed : List ℕ) → Begins (decided_of t came) pushed → WorksOffEach t came pushed
-works_same t came pushed b = let k = each_same came in record { before = k.0; begins = subst (λ (l : List Given). Begins (decided_of t l) pushed) (sym k.1) b }
+-- and of the last one less came before
+pub last_earlier : (t : Tool) (came : List Given) (g : Given) (b : Before g) (P : List ℕ → Type 0) → P (decided_of t (came ++ b.earlier ∷ [])) → LastEarlier t (came ++ g ∷ []) P
+last_earlier t came g b P holds done last is =
+    let same = last_same came done g last is in
+    subst (λ (l : List Given). (c : Before last) × P (decided_of t (l ++ c.earlier ∷ []))) same.0
+    (subst (λ (h : Given). (c : Before h) × P (decided_of t (came ++ c.earlier ∷ []))) same.1 (b, holds))
 
-pub works_last : (t : Tool) (came : List Given) (g : Given) (b : Before g) (pushed : List ℕ) → Begins (decided_of t (came ++ b.earlier ∷ [])) pushed
-    → (w : WorksOffEach t (came ++ g ∷ []) pushed) × (decided_of t (each_earlier (came ++ g ∷ []) w.before) ≡ decided_of t (came ++ b.earlier ∷ []))
-works_last t came g b pushed begins =
-    let k = each_last came g b in
-    (record { before = k.0; begins = subst (λ (l : List Given). Begins (decided_of t l) pushed) (sym k.1) begins }, ap (decided_of t) k.1)
+-- ---- what had come of one input less
+
+pub at_set : (r : Received) (p : ℕ) (g e : Given) → at r p ≡ Some g → at (set r p (Some e)) p ≡ Some e
+at_set [] p g e is = cc
+at_set (o ∷ r) zero g e is = refl
+at_set (o ∷ r) (suc p) g e is = at_set r p g e is
+
+-- the same inputs were opened
+pub opened_set : (r : Received) (p : ℕ) (g e : Given) → at r p ≡ Some g → (q : ℕ) → is_unopened (set r p (Some e)) q ≡ is_unopened r q
+opened_set r p g e is q = ⊎_elim same other (same_or_other p q)
+  where
+    same : p ≡ q → is_unopened (set r p (Some e)) q ≡ is_unopened r q
+    same is_q = subst (λ (n : ℕ). is_unopened (set r p (Some e)) n ≡ is_unopened r n) is_q (ap (λ (o : Option Given). is_none o) (at_set r p g e is) ∙ sym (ap (λ (o : Option Given). is_none o) is))
+
+    other : p ≢ q → is_unopened (set r p (Some e)) q ≡ is_unopened r q
+    other differs = ap (λ (o : Option Given). is_none o) (get_or-set_other r p q (Some e) None (λ is_p. differs (sym is_p)))
+
+-- where nothing is decided, that was written
+pub nothing_decided : (places : List ℕ) (decided : Received → List ℕ) (r : Received) (failed : Bool) → ((s : Received) → ((q : ℕ) → is_unopened s q ≡ is_unopened r q) → decided s ≡ [])
+    → AnyEarlier places decided r (λ bytes. KeptUp bytes [] failed)
+nothing_decided places decided r failed none place came named is = (
+  same_before came,
+  record {
+    front = [];
+    lost = [];
+    split = none (set r place (Some came)) (opened_set r place came came is);
+    begins = record { rest = []; is = refl };
+    few = omega arith;
+    none = λ _. refl;
+  },
+)
+
+-- what follows from each
+pub earlier_map : (m : Meaning) (r : Received) (n : ℕ) (P Q : List ℕ → Type 0) → ((bytes : List ℕ) → P bytes → Q bytes) → Earlier m r n P → Earlier m r n Q
+earlier_map m r n P Q follows = by_kind m.in_turn
+  where
+    by_kind : (kind : Option Tool) → EarlierAs m r n P kind → EarlierAs m r n Q kind
+    by_kind None k = λ place came named is. let b = k place came named is in (b.0, follows (m.decided (set r place (Some (b.0.earlier)))) b.1)
+    by_kind (Some t) k = λ done last is. let b = k done last is in (b.0, follows (decided_of t (done ++ b.0.earlier ∷ [])) b.1)
 
 -- what was pushed while no write had failed was sent on
 pub sends_now : (was mid : Output) (pushed bytes : List ℕ) → Wrote was mid pushed → mid.faulted ≡ false → Begins bytes pushed → SendsOn was mid bytes
@@ -77,40 +125,36 @@ take_front zero xs ys = ([], refl)
 take_front (suc n) [] ys = (take (suc n) ys, refl)
 take_front (suc n) (x ∷ xs) ys = let k = take_front n xs ys in (k.0, ap (λ (l : List ℕ). x ∷ l) k.1)
 
-module _ (t : Tool) (came : List Given) (was is is' : Output) (pushed front rest : List ℕ) (k : KeepsUpEach t came was is pushed) (empty : was.staged ≡ []) (split : pushed ≡ front ++ rest)
+module _ (bytes : List ℕ) (was is is' : Output) (pushed front rest : List ℕ) (k : PassedOn bytes was is pushed) (empty : was.staged ≡ []) (split : pushed ≡ front ++ rest)
     (taken : is'.taken ≡ append_known was.taken front) (kept : Extends is.taken is'.taken) (unknown : was.taken ≡ None → rest ≡ []) where
-  abbrev decided : List ℕ
-  decided = decided_of t (each_earlier came k.works.before)
+  all_lengths : length bytes + length k.begins.rest ≡ length front + length rest
+  all_lengths = omega (arith, ap length split, ap length k.begins.is, length-append front rest, length-append bytes k.begins.rest)
 
-  all_lengths : length decided + length k.works.begins.rest ≡ length front + length rest
-  all_lengths = omega (arith, ap length split, ap length k.works.begins.is, length-append front rest, length-append decided k.works.begins.rest)
-
-  few : length (drop (length front) decided) ≤ 8192
+  few : length (drop (length front) bytes) ≤ 8192
   unfolding known_length
   few = by_known was.taken refl
     where
-      by_known : (known : Option (List ℕ)) → was.taken ≡ known → length (drop (length front) decided) ≤ 8192
-      by_known None none = omega (arith, all_lengths, ap length (unknown none), length-drop (length front) decided)
+      by_known : (known : Option (List ℕ)) → was.taken ≡ known → length (drop (length front) bytes) ≤ 8192
+      by_known None none = omega (arith, all_lengths, ap length (unknown none), length-drop (length front) bytes)
       by_known (Some known) is_known = omega (
         arith,
         k.sends.most,
         ap length empty,
-        length-drop (length front) decided,
+        length-drop (length front) bytes,
         ap known_length (sym (ap (λ (o : Option (List ℕ)). append_known o front) is_known) ∙ sym taken ∙ kept.is ∙ ap (λ (o : Option (List ℕ)). append_known o kept.front) (k.sends.taken ∙ ap (λ (o : Option (List ℕ)). append_known o k.sends.sent) is_known)),
         length-append known front,
         length-append (known ++ k.sends.sent) kept.front,
         length-append known k.sends.sent,
       )
 
-  pub kept_up : (failed : Bool) → (failed ≡ false → rest ≡ []) → KeptUp t came front failed
+  pub kept_up : (failed : Bool) → (failed ≡ false → rest ≡ []) → KeptUp bytes front failed
   kept_up failed whole =
-      let f = take_front (length front) decided k.works.begins.rest in
+      let f = take_front (length front) bytes k.begins.rest in
       record {
-        before = k.works.before;
-        front = take (length front) decided;
-        lost = drop (length front) decided;
-        split = sym (take-append-drop (length front) decided);
-        begins = record { rest = f.0; is = sym (take-append_seam front rest) ∙ ap (take (length front)) (sym split ∙ k.works.begins.is) ∙ f.1 };
+        front = take (length front) bytes;
+        lost = drop (length front) bytes;
+        split = sym (take-append-drop (length front) bytes);
+        begins = record { rest = f.0; is = sym (take-append_seam front rest) ∙ ap (take (length front)) (sym split ∙ k.begins.is) ∙ f.1 };
         few = few;
-        none = λ clean. nil_from_length (drop (length front) decided) (omega (arith, all_lengths, ap length (whole clean), length-drop (length front) decided));
+        none = λ clean. nil_from_length (drop (length front) bytes) (omega (arith, all_lengths, ap length (whole clean), length-drop (length front) bytes));
       }

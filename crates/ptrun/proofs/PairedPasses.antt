@@ -18,7 +18,10 @@ use Rattle.ptmerge.specs.declared.order.Side.TheVariants.{First, Second}
 use Rattle.ptmerge.specs.Keyed.{Disorder as Disordered, disorder, lines_of, decided}
 use Rattle.ptmerge.specs.Keyed as keyed
 use Rattle.ptmerge.specs.Merges.{IsReady, IsMerge, Ends, NoneFailed, Agree, IsWhole, Names, seen}
-use Rattle.ptmerge.specs.Sides.{both}
+use Rattle.ptmerge.specs.Sides.{both, put}
+use Rattle.ptlines.specs.KeepingUp.{Before, SendsOn, KeepsUp}
+use Rattle.ptrun.specs.KeepingUp.{PassedOn}
+use Rattle.ptrun.proofs.KeepingUp.{at_set}
 use Rattle.ptrun.specs.declared.engine.Done.{Done}
 use Rattle.ptrun.specs.declared.engine.Done.TheVariants.{Disorder}
 use Rattle.ptrun.specs.Worlds.{World, Received, at, AllowsAt, Allows, is_in, reader_at, shut, CameAt, IsReceived, IsNew, IsFresh, HasFailed, IsTooLong}
@@ -277,9 +280,55 @@ module _ (t : keyed.Tool) (places : List ℕ) (old : List Reader) (was : Output)
       true_so_far = λ w agrees. e.true_so_far (of_operands places (text_in w)) (agreed w agrees);
       told_read = told_read result e.ends;
       sure = λ k failed clean. subst (λ g. Begins (decided t g) e.pushed) (sym given_is) (by_place (λ k. HasFailed old new k → Begins (decided t e.given) e.pushed) (λ side failed. sure_at side failed.2 clean) (λ k first second failed. absurd (not_elsewhere k first second failed)) k failed);
+      keeps_up = by_place
+          (λ k. (came : Given) → is_in places k ≡ true → at received k ≡ Some came → (before : Before came) × PassedOn (decided t (of_operands places (given_in (set received k (Some before.earlier))))) was is e.pushed)
+          (λ side came named is_there. keeps_side side came (some_same (sym (at_side side) ∙ is_there)))
+          (λ k first second came named is_there. absurd (not_in k first second named));
       peak = λ w agrees. e.peak (of_operands places (text_in w)) (agreed w agrees);
     }
       where
+        some_same : {a b : Given} → Some a ≡ Some b → a ≡ b
+        some_same same = cc
+
+        not_in : (k : ℕ) → (p ≡ k → ⊥) → (q ≡ k → ⊥) → is_in places k ≡ true → ⊥
+        not_in k first second named = neither (p == k) (q == k) (other_place p k first) (other_place q k second) (ap (λ l. is_in l k) (sym two.are) ∙ named)
+          where
+            other_place : (a b : ℕ) → (a ≡ b → ⊥) → (a == b) ≡ false
+            other_place a b differs = grind (arith, nat_tests, differs)
+
+            neither : (a b : Bool) → a ≡ false → b ≡ false → (a || (b || false)) ≡ true → ⊥
+            neither true b is_a is_b is_there = false≢true (sym is_a)
+            neither false true is_a is_b is_there = false≢true (sym is_b)
+            neither false false is_a is_b is_there = false≢true is_there
+
+        -- of one input less came, and of the other the same
+        put_is : (side : Side) (g : Given) → of_operands places (given_in (set received (place_of side) (Some g))) ≡ put side g e.given
+        put_is side g = λ i other. each side other i
+          where
+            unwrapped : {o : Option Given} {h : Given} → o ≡ Some h → unwrap_or o nothing_left ≡ h
+            unwrapped is_there = ap (λ (o : Option Given). unwrap_or o nothing_left) is_there
+
+            each : (side other : Side) → given_in (set received (place_of side) (Some g)) (operand places other) ≡ put side g e.given other
+            each First First = ap (given_in (set received p (Some g))) (operand_is First) ∙ unwrapped (at_set received p (e.given First) g (at_side First))
+            each First Second = ap (given_in (set received p (Some g))) (operand_is Second) ∙ unwrapped (get_or-set_other received p q (Some g) None (λ same. two.apart (sym same)) ∙ at_side Second)
+            each Second First = ap (given_in (set received q (Some g))) (operand_is First) ∙ unwrapped (get_or-set_other received q p (Some g) None two.apart ∙ at_side First)
+            each Second Second = ap (given_in (set received q (Some g))) (operand_is Second) ∙ unwrapped (at_set received q (e.given Second) g (at_side Second))
+
+        keeps_side : (side : Side) (g : Given) → e.given side ≡ g → (cut : Before g) × PassedOn (decided t (of_operands places (given_in (set received (place_of side) (Some cut.earlier))))) was is e.pushed
+        keeps_side side g same = subst (λ (g : Given). (cut : Before g) × PassedOn (decided t (of_operands places (given_in (set received (place_of side) (Some cut.earlier))))) was is e.pushed) same (
+          cut,
+          record {
+            begins = subst (λ f. Begins (decided t f) e.pushed) (sym (put_is side cut.earlier)) up.works.begins;
+            sends = subst (λ f. SendsOn was is (decided t f)) (sym (put_is side cut.earlier)) up.sends;
+          },
+        )
+          where
+            up : KeepsUp {I = Unit {0}} (λ came. decided t (put side (came tt) e.given)) (λ u. e.given side) was is e.pushed
+            up = e.keeps_up side ready.writable
+
+            cut : Before (e.given side)
+            cut = up.works.before tt
+
         sure_at : (side : Side) → (reader_at new (place_of side)).failed ≡ true → is.faulted ≡ false → Begins (decided t e.given) e.pushed
         sure_at First failed clean = e.sure First failed clean
         sure_at Second failed clean = e.sure Second failed clean

@@ -1,11 +1,15 @@
 -- `paste` over its operands together: what its pass says of places, as what is said of inputs.
-use Rattle.std.proofs.Common.{◌≡◌, ◌⊎◌, ⊎_elim, inl, inr, ℕ, zero, suc, ◌+◌, ◌<◌, ◌≤◌, ◌==◌, Bool, true, false, cond, List, [], ◌∷◌, ◌++◌, Option, Some, None, Result, Ok, Err, length, take, get_or, map, max, refl, sym, ◌∙◌, ap, subst, arith}
+use Rattle.std.proofs.Common.{◌≡◌, ◌⊎◌, ⊎_elim, inl, inr, ℕ, zero, suc, ◌+◌, ◌<◌, ◌≤◌, ◌==◌, ◌||◌, Bool, true, false, cond, List, [], ◌∷◌, ◌++◌, Option, Some, None, Result, Ok, Err, length, take, get_or, map, set, max, refl, sym, ◌∙◌, ap, subst, arith}
 use Rattle.std.specs.Prelude.{sum_by, unwrap_or}
 use Rattle.std.specs.List.{list_any}
 use Rattle.std.proofs.lemmas.Bool.{false≢true, eq-eqb}
-use Rattle.std.proofs.lemmas.List.{append-nil, ext_get_or, length-map, get_or-map}
+use Rattle.std.proofs.lemmas.List.{append-nil, ext_get_or, length-map, get_or-map, get_or-set_other}
 use Rattle.std.proofs.lemmas.List.Elements.{All-from_get_or}
 use Rattle.std.proofs.lemmas.List.Folds.{list_any_at}
+use Rattle.std.proofs.lemmas.Bool.Decides.{eqb_tells}
+use Rattle.ptlines.specs.KeepingUp.{Before, SendsOn, KeepsUp}
+use Rattle.ptrun.specs.KeepingUp.{PassedOn}
+use Rattle.ptrun.proofs.KeepingUp.{at_set}
 use Rattle.std.proofs.lemmas.List.Sums.{sum_by-cons}
 use Rattle.ptlines.specs.Readers.{Reader}
 use Rattle.ptlines.specs.Outputs.{Output}
@@ -13,7 +17,7 @@ use Rattle.ptlines.specs.Slots.{Slots}
 use Rattle.ptlines.specs.Text.{lines, longest_line}
 use Rattle.ptlines.specs.Inputs.{Given, nothing_left, whole_lines, Begins, Agrees}
 use Rattle.ptlangs.specs.Jobs.{Paste}
-use Rattle.ptflow.specs.PastePasses.{IsReadable, ReadAll, RowsFinished, RowsEnd, IsPastePass}
+use Rattle.ptflow.specs.PastePasses.{put_at, IsReadable, ReadAll, RowsFinished, RowsEnd, IsPastePass}
 use Rattle.ptflow.specs.PastePasses as pass
 use Rattle.ptflow.specs.Pastes.{times, every, columns, rows, known_rows, sheet, paste, paste_decided, paste_size}
 use Rattle.ptflow.proofs.OfPaste.Grids.{each_same, times_below}
@@ -33,6 +37,16 @@ use Rattle.ptrun.proofs.Sources.{same_or_other}
 
 named_is_in : (cells : List ℕ) (p : ℕ) → 0 < times cells p → is_in cells p ≡ true
 named_is_in cells p some = let n = named_at cells p some in list_any_at (λ q. q == p) cells n.0 0 n.1 (eq-eqb (get_or cells n.0 0) p n.2)
+
+in_named : (cells : List ℕ) (p : ℕ) → is_in cells p ≡ true → 0 < times cells p
+in_named [] p there = absurd (false≢true there)
+in_named (c ∷ cells) p there = by_test (c == p) refl (in_named cells p)
+  where
+    by_test : (t : Bool) → (c == p) ≡ t → (is_in cells p ≡ true → 0 < times cells p) → 0 < times (c ∷ cells) p
+    by_test true is later = omega (arith, sum_by-cons (λ q. cond {A = ℕ} (q == p) 1 0) c cells, ap (λ (t : Bool). cond {A = ℕ} t 1 0) is)
+    by_test false is later =
+        let some = later (sym (ap (λ (t : Bool). t || is_in cells p) is) ∙ there) in
+        omega (arith, some, sum_by-cons (λ q. cond {A = ℕ} (q == p) 1 0) c cells, ap (λ (t : Bool). cond {A = ℕ} t 1 0) is)
 
 -- a place is named, or not
 named_or_not : (cells : List ℕ) (p : ℕ) → (0 < times cells p) ⊎ (times cells p ≡ 0)
@@ -170,6 +184,42 @@ module _ (job : Paste) (places : List ℕ) (old : List Reader) (was : Output) (b
     pulled_is : (q : ℕ) → shut old q ≡ false → (reader_at new q).pulled ≡ length (k.given q).bytes
     pulled_is q open_here = let first = fresh_all old ready.fresh q open_here in omega (arith, (k.came q).count, ap length first.held, first.pulled)
 
+    -- of the input at one place less came, and of the others the same
+    put_is : (q : ℕ) (g : Given) → 0 < times places q → (p : ℕ) → 0 < times places p → given_in (set received q (Some g)) p ≡ put_at q g k.given p
+    put_is q g some_q p some = ⊎_elim same other (eqb_tells p q)
+      where
+        unwrapped : {o : Option Given} {h : Given} → o ≡ Some h → unwrap_or o nothing_left ≡ h
+        unwrapped is_there = ap (λ (o : Option Given). unwrap_or o nothing_left) is_there
+
+        same : ((p == q) ≡ true) × (p ≡ q) → given_in (set received q (Some g)) p ≡ put_at q g k.given p
+        same is = unwrapped (ap (at (set received q (Some g))) is.1 ∙ at_set received q (k.given q) g (given_at q (is_open q some_q))) ∙ sym (ap (λ (b : Bool). cond b g (k.given p)) is.0)
+
+        other : ((p == q) ≡ false) × (p ≡ q → ⊥) → given_in (set received q (Some g)) p ≡ put_at q g k.given p
+        other is = unwrapped (get_or-set_other received q p (Some g) None is.1 ∙ given_at p (is_open p some)) ∙ sym (ap (λ (b : Bool). cond b g (k.given p)) is.0)
+
+    keeps_at : (q : ℕ) (g : Given) → 0 < times places q → at received q ≡ Some g
+        → (before : Before g) × PassedOn (paste_decided job places (given_in (set received q (Some before.earlier)))) was is k.pushed
+    keeps_at q g some is_there =
+        subst (λ (h : Given). (before : Before h) × PassedOn (paste_decided job places (given_in (set received q (Some before.earlier)))) was is k.pushed) (some_same (sym (given_at q (is_open q some)) ∙ is_there)) (
+          cut,
+          record {
+            begins = subst (λ (l : List ℕ). Begins l k.pushed) (sym decided_is) up.works.begins;
+            sends = subst (λ (l : List ℕ). SendsOn was is l) (sym decided_is) up.sends;
+          },
+        )
+      where
+        some_same : {a b : Given} → Some a ≡ Some b → a ≡ b
+        some_same same = cc
+
+        up : KeepsUp {I = Unit {0}} (λ came. paste_decided job places (put_at q (came tt) k.given)) (λ u. k.given q) was is k.pushed
+        up = k.keeps_up q some ready.writable
+
+        cut : Before (k.given q)
+        cut = up.works.before tt
+
+        decided_is : paste_decided job places (given_in (set received q (Some cut.earlier))) ≡ paste_decided job places (put_at q cut.earlier k.given)
+        decided_is = decided_same job places (given_in (set received q (Some cut.earlier))) (put_at q cut.earlier k.given) (put_is q cut.earlier some)
+
     joint_of : (done : Result Done FlowFault) → JointEnds (of_rows job) places received old new k.pushed is.faulted store.denied done → IsWithin (length old) done
         → ((q : ℕ) → HasFailed old new q → is.faulted ≡ false → done ≡ Err (Read q)) → IsJointPass (of_rows job) places old new was is before store done
     joint_of done ends within told = record {
@@ -183,6 +233,7 @@ module _ (job : Paste) (places : List ℕ) (old : List Reader) (was : Output) (b
       true_so_far = λ w agrees. subst (λ (l : List ℕ). Begins k.pushed l) (paste_same job places (texts w) (text_in w) (texts_are w)) (k.true_so_far (texts w) (texts_agree w agrees));
       told_read = told;
       sure = λ q failed clean. subst (λ (l : List ℕ). Begins l k.pushed) (decided_same job places k.given (given_in received) given_is) (k.sure q (named_failed q failed) failed.2 clean);
+      keeps_up = λ q g named is_there. keeps_at q g (in_named places q named) is_there;
       peak = λ w agrees. subst (λ (n : ℕ). store.peak ≤ max before.peak n) (size_same job places (texts w) (text_in w) (texts_are w)) (k.peak (texts w) (texts_agree w agrees));
     }
 

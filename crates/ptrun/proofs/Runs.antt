@@ -4,7 +4,7 @@
 -- headline is a reading of the run in the world that the readers tell: it is allowed by what was received, and each
 -- cause of a failure contradicts a premise.
 use Rattle.std.proofs.Common.{◌≡◌, ⊎_elim, inl, ℕ, Bool, true, false, List, [], ◌++◌, Option, Some, None, Result, Ok, Err, length, map, refl, sym, ◌∙◌, ap, subst, arith, append_assoc, length-append}
-use Rattle.std.specs.Prelude.{All, IfSome}
+use Rattle.std.specs.Prelude.{All, is_none}
 use Rattle.std.specs.Io.KnownBytes.{append_known, prepend_known, IsAtEnd}
 use Rattle.std.proofs.lemmas.List.{append-nil, append_cancel_left, nil_from_length}
 use Rattle.std.proofs.lemmas.Bool.{false≢true}
@@ -27,8 +27,8 @@ use Rattle.ptrun.specs.Meanings.{Meaning, named, unopened}
 use Rattle.ptrun.specs.Runs.{Sinks, sinks, Outcome, Cause, EndsAs, IsRun, IsExact, Headline}
 use Rattle.ptrun.specs.Engines.{WentTo, Went, Finishes, last_words, status_after, IsWithin}
 use Rattle.ptflow.specs.Tools.{Tool}
-use Rattle.ptrun.specs.KeepingUp.{begun_of, KeepsUpEach, KeptUp}
-use Rattle.ptrun.proofs.KeepingUp.{kept_up}
+use Rattle.ptrun.specs.KeepingUp.{PassedOn, KeptUp, EarlierAs}
+use Rattle.ptrun.proofs.KeepingUp.{kept_up, earlier_map, nothing_decided}
 use Rattle.ptrun.specs.Asked.{saying}
 use Rattle.ptrun.proofs.Sayings.{tells_trans}
 use Rattle.ptrun.proofs.Order.{fresh_all}
@@ -128,11 +128,15 @@ headline_of m old new before o fresh k w tells none fine roomy = by_fault k.faul
 
 -- ---- a run that reads nothing
 
+refused_received : (old now : Reader) (o : Option Given) → CameAt old now o → old.refused ≡ is_none o
+refused_received old now None k = k.0
+refused_received old now (Some g) k = k.0
+
 none_failed : (old : List Reader) (q : ℕ) → HasFailed old old q → ⊥
 none_failed old q failed = false≢true (sym failed.1 ∙ failed.2)
 
 -- Nothing was to be read, and the output is left alone.
-module _ (m : Meaning) (at_once : m.in_turn ≡ None) (old : List Reader) (fresh : All IsFresh old) (out told heard : SinkState) (fine : out.failed ≡ false) (text : List ℕ) (tells : Tells told heard text) where
+module _ (m : Meaning) (at_once : m.in_turn ≡ None) (old : List Reader) (undecided : (r : Received) → ((q : ℕ) → shut old q ≡ is_unopened r q) → m.decided r ≡ []) (fresh : All IsFresh old) (out told heard : SinkState) (fine : out.failed ≡ false) (text : List ℕ) (tells : Tells told heard text) where
   unread : (o : Outcome) → o.out ≡ out → o.messages ≡ heard → o.peak ≡ 0 → (n : ℕ) (fault : Option FlowFault) → EndsAs m (map received_of old) old old [] text o n fault → IsRun m old old (sinks out told) o
   unread o same said none n fault ends = record {
     received = map received_of old;
@@ -149,7 +153,8 @@ module _ (m : Meaning) (at_once : m.in_turn ≡ None) (old : List Reader) (fresh
     true_so_far = λ w agrees. record { rest = m.out w; is = refl };
     told = λ q failed clean. absurd (none_failed old q failed);
     sure = λ q failed clean. absurd (none_failed old q failed);
-    keeps_up = subst (λ (t : Option Tool). IfSome t (λ t. KeptUp t (begun_of (map received_of old) m.places n) [] o.out.failed)) (sym at_once) tt;
+    keeps_up = subst (λ (kind : Option Tool). EarlierAs m (map received_of old) n (λ decided. KeptUp decided [] o.out.failed) kind) (sym at_once)
+        (nothing_decided m.places m.decided (map received_of old) o.out.failed (λ r same. undecided r (λ q. refused_received (reader_at old q) (reader_at old q) (at (map received_of old) q) (nothing_read old (fresh_all old fresh) q) ∙ sym (same q))));
     bounded = λ w agrees. omega (arith, none);
   }
 
@@ -157,7 +162,7 @@ module _ (m : Meaning) (at_once : m.in_turn ≡ None) (old : List Reader) (fresh
 pub only_said : (text : List ℕ) (is : ℕ) (old : List Reader) → All IsFresh old → (out told heard : SinkState) (status : ℕ) → out.failed ≡ false → Tells told heard text → status ≡ is
     → IsRun (saying text is) old old (sinks out told) (record { out = out; messages = heard; status = status; peak = 0; denied = false })
 only_said text is old fresh out told heard status fine tells status_is =
-    unread (saying text is) refl old fresh out told heard fine text tells (record { out = out; messages = heard; status = status; peak = 0; denied = false }) refl refl refl 0 None (
+    unread (saying text is) refl old (λ r same. refl) fresh out told heard fine text tells (record { out = out; messages = heard; status = status; peak = 0; denied = false }) refl refl refl 0 None (
       record {
         all = refl;
         out = λ w agrees. refl;
@@ -171,9 +176,10 @@ only_said text is old fresh out told heard status fine tells status_is =
 -- Inputs are lacking, those that could not be opened were named, and there is nothing else to do.
 pub lacking : (m : Meaning) (old : List Reader) → All IsFresh old → (out told heard : SinkState) → out.failed ≡ false → Tells told heard (unopened m.tool m.names (shut old) m.places)
     → ((w : World) → ((q : ℕ) → shut old q ≡ is_unopened w q) → (m.out w ≡ []) × (m.closing w ≡ []) × (m.status w ≡ 1)) → m.in_turn ≡ None
+    → ((r : Received) → ((q : ℕ) → shut old q ≡ is_unopened r q) → m.decided r ≡ [])
     → IsRun m old old (sinks out told) (record { out = out; messages = heard; status = 1; peak = 0; denied = false })
-lacking m old fresh out told heard fine tells nothing at_once =
-    unread m at_once old fresh out told heard fine (unopened m.tool m.names (shut old) m.places) tells (record { out = out; messages = heard; status = 1; peak = 0; denied = false }) refl refl refl (length m.places) None (
+lacking m old fresh out told heard fine tells nothing at_once undecided =
+    unread m at_once old undecided fresh out told heard fine (unopened m.tool m.names (shut old) m.places) tells (record { out = out; messages = heard; status = 1; peak = 0; denied = false }) refl refl refl (length m.places) None (
       record {
         all = refl;
         out = λ w agrees. sym (nothing w (same w agrees)).0;
@@ -316,12 +322,11 @@ module _ (m : Meaning) (old new : List Reader) (was is is' : Output) (told heard
     true_so_far = begins;
     told = e.told_read;
     sure = λ place failed fine. let clean = sym last_failed ∙ fine in let b = k.sure place failed (f.clean clean).2 in record { rest = b.rest; is = all_front clean ∙ b.is };
-    keeps_up = kept m.in_turn k.keeps_up;
+    keeps_up = earlier_map m k.received k.behind (λ decided. PassedOn decided was is k.pushed) (λ decided. KeptUp decided reached.front o.out.failed) kept k.keeps_up;
     bounded = λ w agrees. omega (arith, k.peak w agrees, low, peak_is);
   }
     where
-      kept : (t : Option Tool) → IfSome t (λ t. KeepsUpEach t (begun_of k.received m.places k.behind) was is k.pushed) → IfSome t (λ t. KeptUp t (begun_of k.received m.places k.behind) reached.front o.out.failed)
-      kept None none = tt
-      kept (Some t) up =
-          kept_up t (begun_of k.received m.places k.behind) was is is' k.pushed reached.front reached.rest up (ap (λ (o : Output). o.staged) made) reached.split reached.taken f.wrote.kept reached.unknown o.out.failed
+      kept : (bytes : List ℕ) → PassedOn bytes was is k.pushed → KeptUp bytes reached.front o.out.failed
+      kept bytes up =
+          kept_up bytes was is is' k.pushed reached.front reached.rest up (ap (λ (o : Output). o.staged) made) reached.split reached.taken f.wrote.kept reached.unknown o.out.failed
           (λ fine. let clean = sym last_failed ∙ fine in reached.whole clean (f.clean clean).1)

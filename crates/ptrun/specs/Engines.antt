@@ -1,5 +1,5 @@
 -- What stands between a tool and the run around it.
-use Rattle.std.specs.Prelude.{◌≡◌, ℕ, ◌+◌, ◌<◌, ◌≤◌, ◌⊎◌, Bool, true, false, List, [], All, Option, Some, None, IfSome, Result, Ok, Err, length, max, if◌then◌else◌}
+use Rattle.std.specs.Prelude.{◌≡◌, ℕ, ◌+◌, ◌<◌, ◌≤◌, ◌⊎◌, Bool, true, false, List, [], All, Option, Some, None, Result, Ok, Err, length, max, if◌then◌else◌}
 use Rattle.std.specs.List.{list_any}
 use Rattle.ptlines.specs.Readers.{Reader, IsSound}
 use Rattle.ptlines.specs.Outputs.{Output, Wrote}
@@ -15,7 +15,7 @@ use Rattle.ptrun.specs.declared.engine.Done.{Done}
 use Rattle.ptrun.specs.declared.engine.Done.TheVariants.{Whole, Unopened, Disorder}
 use Rattle.ptrun.specs.Worlds.{World, Received, at, Allows, is_in, is_unopened, reader_at, shut, IsReceived, IsFresh, HasFailed, IsTooLong}
 use Rattle.ptrun.specs.Meanings.{Meaning, named, unopened}
-use Rattle.ptrun.specs.KeepingUp.{begun_of, KeepsUpEach}
+use Rattle.ptrun.specs.KeepingUp.{PassedOn, AnyEarlier, Earlier}
 use Rattle.ptrun.specs.Together.{JointTool, text_in, given_in}
 use Rattle.ptrun.specs.Sayings.{Tells}
 use Rattle.ptrun.specs.Messages.{failure, out_of_order}
@@ -34,6 +34,7 @@ pub record Checks (m : Meaning) (inputs : List Reader) (told heard : SinkState) 
   pub nothing : lacking ≡ true → (w : World) → ((place : ℕ) → shut inputs place ≡ is_unopened w place)
       → (m.out w ≡ []) × (m.closing w ≡ []) × (m.status w ≡ 1)
   pub at_once : lacking ≡ true → m.in_turn ≡ None
+  pub undecided : lacking ≡ true → (r : Received) → ((place : ℕ) → shut inputs place ≡ is_unopened r place) → m.decided r ≡ []
 
 -- how a tool finds things
 pub record IsStart (m : Meaning) (inputs : List Reader) (out : Output) (store : Slots) : Type 0 where
@@ -117,7 +118,7 @@ pub record Went (m : Meaning) (old new : List Reader) (was is : Output) (told he
   pub true_so_far : (w : World) → Allows received w → Begins pushed (m.out w)
   pub told_read : (place : ℕ) → HasFailed old new place → is.faulted ≡ false → result ≡ Err (Read place)
   pub sure : (place : ℕ) → HasFailed old new place → is.faulted ≡ false → Begins (m.decided received) pushed
-  pub keeps_up : IfSome m.in_turn (λ t. KeepsUpEach t (begun_of received m.places behind) was is pushed)
+  pub keeps_up : Earlier m received behind (λ decided. PassedOn decided was is pushed)
   pub peak : (w : World) → Allows received w → store.peak ≤ max before.peak (m.bound w)
 
 -- ---- a tool that takes all its inputs together
@@ -164,4 +165,5 @@ pub record IsJointPass (t : JointTool) (places : List ℕ) (old new : List Reade
   pub told_read : (place : ℕ) → HasFailed old new place → is.faulted ≡ false → result ≡ Err (Read place)
   pub sure : (place : ℕ) → HasFailed old new place → is.faulted ≡ false
       → Begins (t.decided places (given_in received)) pushed
+  pub keeps_up : AnyEarlier places (λ r. t.decided places (given_in r)) received (λ decided. PassedOn decided was is pushed)
   pub peak : (w : World) → Allows received w → store.peak ≤ max before.peak (t.size places (text_in w))

@@ -1,42 +1,45 @@
--- A tool that goes over its operands in turn does not run ahead of its output, however it ends. Operands are told by
--- what came of them, in order; one that could not be opened is none.
-use Rattle.std.specs.Prelude.{◌≡◌, ◌≤◌, ℕ, ◌+◌, Bool, false, List, [], ◌∷◌, ◌++◌, length, take}
+-- A whole run does not run ahead of its output, however it ends.
+use Rattle.std.specs.Prelude.{◌≡◌, ◌≤◌, ℕ, ◌+◌, Bool, true, false, List, [], ◌∷◌, ◌++◌, Option, Some, None, length, take, set}
 use Rattle.ptlines.specs.Inputs.{Given, Begins, nothing_left}
 use Rattle.ptlines.specs.KeepingUp.{Before, SendsOn}
 use Rattle.ptlines.specs.Outputs.{Output}
 use Rattle.ptflow.specs.Tools.{Tool}
-use Rattle.ptrun.specs.Worlds.{Received, sources}
+use Rattle.ptrun.specs.Worlds.{Received, at, is_in, sources}
+use Rattle.ptrun.specs.Meanings.{Meaning}
 use Rattle.ptrun.specs.Operands.{decided_of}
 
--- what had come of each two blocks earlier, or less
-abbrev pub EachBefore : List Given → Type 0
-EachBefore [] = Unit {0}
-EachBefore (g ∷ gs) = Before g × EachBefore gs
+-- These bytes were pushed, and all of them but a block have reached the sink.
+pub record PassedOn (bytes : List ℕ) (was is : Output) (pushed : List ℕ) : Type 0 where
+  pub begins : Begins bytes pushed
+  pub sends : SendsOn was is bytes
 
-abbrev pub each_earlier : (came : List Given) → EachBefore came → List Given
-each_earlier [] b = []
-each_earlier (g ∷ gs) b = b.0.earlier ∷ each_earlier gs b.1
+-- These bytes were written: all of them, or after a failed write all but a block.
+pub record KeptUp (bytes written : List ℕ) (failed : Bool) : Type 0 where
+  pub front : List ℕ
+  pub lost : List ℕ
+  pub split : bytes ≡ front ++ lost
+  pub begins : Begins front written
+  pub few : length lost ≤ 8192
+  pub none : failed ≡ false → lost ≡ []
 
 -- what came of the first n operands and the next
 abbrev pub begun_of : Received → List ℕ → ℕ → List Given
 begun_of r places n = sources nothing_left r (take (n + 1) places)
 
--- What was decided then was pushed.
-pub record WorksOffEach (t : Tool) (came : List Given) (pushed : List ℕ) : Type 0 where
-  pub before : EachBefore came
-  pub begins : Begins (decided_of t (each_earlier came before)) pushed
+-- P holds of what operands in turn had decided two blocks of the last one earlier, or less. Those before it count whole.
+abbrev pub LastEarlier : Tool → List Given → (List ℕ → Type 0) → Type 0
+LastEarlier t came P = (done : List Given) (last : Given) → came ≡ done ++ last ∷ []
+    → (before : Before last) × P (decided_of t (done ++ before.earlier ∷ []))
 
--- And all of it but a block has reached the sink.
-pub record KeepsUpEach (t : Tool) (came : List Given) (was is : Output) (pushed : List ℕ) : Type 0 where
-  pub works : WorksOffEach t came pushed
-  pub sends : SendsOn was is (decided_of t (each_earlier came works.before))
+-- P holds of what had been decided two blocks earlier, or less, of the input at any of these places, whatever came of the others.
+abbrev pub AnyEarlier : List ℕ → (Received → List ℕ) → Received → (List ℕ → Type 0) → Type 0
+AnyEarlier places decided r P = (place : ℕ) (came : Given) → is_in places place ≡ true → at r place ≡ Some came
+    → (before : Before came) × P (decided (set r place (Some before.earlier)))
 
--- What was decided then was written: all of it, or after a failed write all but a block.
-pub record KeptUp (t : Tool) (came : List Given) (written : List ℕ) (failed : Bool) : Type 0 where
-  pub before : EachBefore came
-  pub front : List ℕ
-  pub lost : List ℕ
-  pub split : decided_of t (each_earlier came before) ≡ front ++ lost
-  pub begins : Begins front written
-  pub few : length lost ≤ 8192
-  pub none : failed ≡ false → lost ≡ []
+-- P holds of what had been decided two blocks earlier, or less, of the last operand; or of any, where they are taken together.
+abbrev pub EarlierAs : Meaning → Received → ℕ → (List ℕ → Type 0) → Option Tool → Type 0
+EarlierAs m r n P (Some t) = LastEarlier t (begun_of r m.places n) P
+EarlierAs m r n P None = AnyEarlier m.places m.decided r P
+
+abbrev pub Earlier : Meaning → Received → ℕ → (List ℕ → Type 0) → Type 0
+Earlier m r n P = EarlierAs m r n P m.in_turn

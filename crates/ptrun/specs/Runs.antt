@@ -1,5 +1,5 @@
 -- What a whole run has done.
-use Rattle.std.specs.Prelude.{◌≡◌, ℕ, ◌≤◌, Bool, true, false, List, ◌++◌, Option, Some, None, IfSome, length, take, slice_get, ◌⊎◌}
+use Rattle.std.specs.Prelude.{◌≡◌, ℕ, ◌≤◌, Bool, true, false, List, ◌++◌, Option, Some, None, length, take, slice_get, ◌⊎◌}
 use Rattle.std.specs.Io.KnownBytes.{append_known}
 use Rattle.ptlines.specs.Readers.{Reader}
 use Rattle.ptlines.specs.Sinks.{SinkState}
@@ -10,7 +10,7 @@ use Rattle.ptflow.specs.declared.faults.FlowFault.TheVariants.{Read, Write, Memo
 use Rattle.ptrun.specs.declared.report.Report.{Report}
 use Rattle.ptrun.specs.Worlds.{World, Received, at, Allows, is_in, reader_at, IsReceived, HasFailed, IsTooLong, TellsWorld}
 use Rattle.ptrun.specs.Meanings.{Meaning, named, messages}
-use Rattle.ptrun.specs.KeepingUp.{begun_of, KeptUp}
+use Rattle.ptrun.specs.KeepingUp.{KeptUp, Earlier}
 use Rattle.ptrun.specs.Sayings.{Tells}
 use Rattle.ptrun.specs.Messages.{failure}
 
@@ -102,8 +102,8 @@ pub record IsRun (m : Meaning) (old new : List Reader) (before : Sinks) (o : Out
   -- a read that failed is told, and nothing decided is kept back
   pub told : (place : ℕ) → HasFailed old new place → o.out.failed ≡ false → fault ≡ Some (Read place)
   pub sure : (place : ℕ) → HasFailed old new place → o.out.failed ≡ false → Begins (m.decided received) written
-  -- nor is it, whatever failed, by a tool that goes over its operands in turn: but for what came in the last two blocks
-  pub keeps_up : IfSome m.in_turn (λ t. KeptUp t (begun_of received m.places behind) written o.out.failed)
+  -- nor is it, whatever failed, but for what came of an input in the last two blocks
+  pub keeps_up : Earlier m received behind (λ decided. KeptUp decided written o.out.failed)
   pub bounded : (w : World) → Allows received w → o.peak ≤ m.bound w
 
 -- Where nothing failed, the run is what the world that the readers tell asks for.

@@ -4,7 +4,7 @@ use crate::commands::{
     Case, Expected, FREE, Input, Limits, Row, assert_left, expect, expect_refused, expect_rows,
     expect_without_growth, over_standard, run_over, writes,
 };
-use crate::texts::text_of;
+use ptfakes::texts::text_of;
 use std::test::Fail;
 
 const TRANSLATED: &[Row] = &[

@@ -5,7 +5,7 @@ use crate::commands::{
     expect_untouched, expect_without_growth, growths, over_files, over_standard, run_over, writes,
 };
 use crate::comparing::{holds_of, same};
-use crate::texts::text_of;
+use ptfakes::texts::text_of;
 use std::alloc::{AllocError, Global};
 use std::process::Abort;
 use std::str;

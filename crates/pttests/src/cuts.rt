@@ -5,8 +5,8 @@ use crate::commands::{
     over_files, over_standard, run_over, writes,
 };
 use crate::comparing::{holds_of, same};
-use crate::texts::{ENDINGS, byte_at, text_of, text_with};
 use ptfakes::Refusing;
+use ptfakes::texts::{ENDINGS, byte_at, text_of, text_with};
 use std::alloc::{AllocError, Global};
 use std::process::Abort;
 use std::test::Fail;

@@ -5,7 +5,7 @@ use crate::commands::{
     over_standard, run_over, writes,
 };
 use crate::comparing::{holds_of, same};
-use crate::texts::ENDINGS;
+use ptfakes::texts::ENDINGS;
 use std::alloc::Global;
 use std::process::Abort;
 use std::test::Fail;

@@ -64,6 +64,7 @@ module _ (job : Cut) where
     sure = λ ls pushed now on. cut_sure ls pushed (on []);
     size = λ bytes. omega arith;
     slots = ap (λ b. cond b 1 0) by_fields;
+    ends = refl;
     some = omega arith;
   }
 

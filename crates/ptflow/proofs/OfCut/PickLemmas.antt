@@ -18,7 +18,7 @@ use Rattle.ptflow.specs.declared.tools.cut.picking.Pick.{Pick}
 use Rattle.ptflow.proofs.OfBytes.ChosenLanes.{shuffled, written_more}
 
 module _ (selected : ℕ → Bool) where
-  chosen_append : {X : Type 0} (n : ℕ) (xs ys : List X) → chosen_from selected n (xs ++ ys) ≡ chosen_from selected n xs ++ chosen_from selected (n + length xs) ys
+  pub chosen_append : {X : Type 0} (n : ℕ) (xs ys : List X) → chosen_from selected n (xs ++ ys) ≡ chosen_from selected n xs ++ chosen_from selected (n + length xs) ys
   chosen_append n [] ys = let same : n ≡ n + 0 = omega arith in ap (λ (k : ℕ). chosen_from selected k ys) same
   chosen_append {X} n (x ∷ xs) ys = by_test (selected n) (chosen_append (n + 1) xs ys ∙ ap (λ (k : ℕ). chosen_from selected (n + 1) xs ++ chosen_from selected k ys) next)
     where

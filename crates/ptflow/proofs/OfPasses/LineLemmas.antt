@@ -34,6 +34,7 @@ pub record IsLineTool {X : Type 0} (tool : Tool) (lines_from : X → List (List 
   pub sure : (ls : List (List ℕ)) (pushed : List ℕ) (now : X) → ((more : List (List ℕ)) → lines_from start (ls ++ more) ≡ pushed ++ lines_from now more) → Begins (decided ls) pushed
   pub size : (bytes : List ℕ) → tool.size bytes ≡ width * longest_line end bytes
   pub slots : tool.slots ≡ width
+  pub ends : tool.end ≡ end
   pub some : 0 < width
 
 -- what is written of the lines of some bytes
@@ -263,7 +264,8 @@ module _ {X : Type 0} (tool : Tool) (lines_from : X → List (List ℕ) → List
 
 -- the slots were refused
 pub run_unslotted : {X : Type 0} (tool : Tool) (lines_from : X → List (List ℕ) → List ℕ) (decided : List (List ℕ) → List ℕ) (end width : ℕ) (start : X) (t : IsLineTool tool lines_from decided end width start)
-    → (old : Reader) (was : Output) (before store : Slots) → IsReady old before → IsSound old → was.faulted ≡ false → Adds before store width → store.peak ≡ before.peak → store.denied ≡ true → IsPass tool old old was was before store (Err Memory)
-run_unslotted tool lines_from decided end width start t old was before store ready sound clean adds same denied =
-    pass_unslotted tool old was before store ready sound clean (subst (λ (n : ℕ). Adds before store n) (sym t.slots) adds) same denied (omega (arith, t.slots, t.some))
+    → (old : Reader) (was : Output) (before store : Slots) → IsReady old before → IsSound old → old.ending ≡ end → was.faulted ≡ false
+    → Adds before store width → store.peak ≡ before.peak → store.denied ≡ true → IsPass tool old old was was before store (Err Memory)
+run_unslotted tool lines_from decided end width start t old was before store ready sound ends clean adds same denied =
+    pass_unslotted tool old was before store ready sound clean (subst (λ (n : ℕ). Adds before store n) (sym t.slots) adds) same denied (omega (arith, t.slots, t.some)) (ends ∙ sym t.ends)
     (subst (λ (l : List ℕ). Begins l []) (sym (t.decided_is (record { bytes = []; ended = false }))) (t.sure [] [] start (λ more. refl)))

@@ -97,8 +97,8 @@ module _ (tool : Tool) (old : Reader) (was : Output) (before store : Slots) (rea
     begins = decided;
   }
 
-  pub pass_unslotted : 0 < tool.slots → Begins (tool.decided (record { bytes = []; ended = false })) [] → IsPass tool old old was was before store (Err Memory)
-  pass_unslotted some decided = record {
+  pub pass_unslotted : 0 < tool.slots → old.ending ≡ tool.end → Begins (tool.decided (record { bytes = []; ended = false })) [] → IsPass tool old old was was before store (Err Memory)
+  pass_unslotted some ends decided = record {
     given = given_of [] old;
     came = came_of old old [] (goes_nothing old ready.readable).reads;
     pushed = [];
@@ -110,7 +110,7 @@ module _ (tool : Tool) (old : Reader) (was : Output) (before store : Slots) (rea
     whole = λ ok. cc;
     peak = λ input a. omega (arith, same);
     slots = λ fine. adds;
-    refused = λ fine few. record { same_reader = refl; same_output = refl };
+    refused = λ fine few. record { same_reader = λ i. record old { ending = ends i }; same_output = refl };
     unused = λ none. absurd (omega (arith, none, some));
     halted = λ fault. absurd (false≢true (sym clean ∙ fault));
   }

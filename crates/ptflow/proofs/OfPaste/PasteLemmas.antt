@@ -1,14 +1,14 @@
 -- `paste`, row by row: the rows that were passed, and the grid of the lines to come, are the whole grid, whatever comes.
-use Rattle.std.proofs.Common.{◌≡◌, ◌≢◌, ⊎_elim, inl, inr, ℕ, suc, ◌+◌, ◌*◌, ◌<◌, ◌≤◌, ◌==◌, ◌^◌, Bool, true, false, cond, List, [], ◌∷◌, ◌++◌, None, Ok, Err, length, take, get_or, max, refl, sym, ◌∙◌, ap, subst, arith, append_assoc, take-append-drop, length-append}
+use Rattle.std.proofs.Common.{◌≡◌, ◌≢◌, ⊎_elim, inl, inr, ℕ, suc, ◌+◌, ◌*◌, ◌<◌, ◌≤◌, ◌==◌, ◌^◌, Bool, true, false, cond, List, [], ◌∷◌, ◌++◌, None, Ok, Err, length, take, get_or, max, refl, sym, ◌∙◌, ap, subst, arith, append_assoc, length-append}
 use Rattle.std.specs.Prelude.{All, sum_by, slice_index_or}
 use Rattle.std.proofs.lemmas.Bool.{cases_eq, cases_lt, false≢true, eq-eqb, eqb-true}
 use Rattle.std.proofs.lemmas.Bool.Decides.{nat_tests}
-use Rattle.std.proofs.lemmas.List.{append-nil, drop_more, drop_all, nil_from_length, take_all, length-take-le, get_or-take}
+use Rattle.std.proofs.lemmas.List.{append-nil, nil_from_length, take_all, length-take-le, get_or-take}
 use Rattle.std.proofs.lemmas.List.Elements.{All-get_or, All-from_get_or}
 use Rattle.std.proofs.lemmas.List.Sums.{sum_by-cons}
 use Rattle.ptlines.specs.Text.{text, lines, ended_lines, IsLine, AreLines, longest, longest_line}
 use Rattle.ptlines.specs.Inputs.{Given, Begins, Agrees, Came, whole_lines}
-use Rattle.ptlines.specs.KeepingUp.{WorksOff, KeepsUp}
+use Rattle.ptlines.specs.KeepingUp.{KeepsUp}
 use Rattle.ptlines.specs.Outputs.{Output, Wrote}
 use Rattle.ptlines.specs.Readers.{Reader, Reads, IsDone, HasReadCause}
 use Rattle.ptlines.specs.Slots.{Slots, line, total, with_line, with_denied}
@@ -19,7 +19,7 @@ use Rattle.ptlines.proofs.Sending.{keeps_still, keeps_more}
 use Rattle.ptlines.proofs.TextLaws.{ended_first}
 use Rattle.ptlangs.specs.Jobs.{Paste}
 use Rattle.ptflow.specs.Passes.{Adds}
-use Rattle.ptflow.specs.PastePasses.{reader_at, IsReadable, AreReady, ReadAll, IsPastePass}
+use Rattle.ptflow.specs.PastePasses.{reader_at, put_at, IsReadable, AreReady, ReadAll, IsPastePass}
 use Rattle.ptflow.specs.Pastes.{glued_from, times, columns, rows, sheet, paste, paste_decided, paste_size}
 use Rattle.ptflow.specs.Workings.Paste.RowTurns.{AreSet, KeepsCells, RowTaken, FillsRow, is_write}
 use Rattle.ptflow.specs.Workings.Paste.TakenLines.{LinesCame, Took}
@@ -29,7 +29,7 @@ use Rattle.ptflow.proofs.OfPaste.CellSlots.{cells_start, cells_line, cells_total
 use Rattle.ptflow.proofs.OfPaste.Grids.{Column, each, each_is, times_below, times_front, Taken, grid_step, grid_none}
 use Rattle.ptflow.proofs.OfPasses.LineLaws.{longest-append}
 use Rattle.ptflow.proofs.OfPasses.LinesCame.{lines_on, came_longest, piece_longest}
-use Rattle.ptflow.proofs.OfPaste.PasteKeepsUp.{CutBack, cut_piece, cut_held, cut_last, works_whole, works_behind, begins_behind, works_nothing, sheet-append}
+use Rattle.ptflow.proofs.OfPaste.PasteKeepsUp.{CutBack, WorksAt, cut_piece, cut_held, cut_lines, works_whole, works_behind, begins_behind, sheet-append}
 use Rattle.ptflow.proofs.OfPaste.RowTurns.{none_of_done}
 use Rattle.ptflow.proofs.OfPasses.ReaderFacts.{given_of, done_gives_nothing, stays_done, may_come}
 use Rattle.ptflow.proofs.OfPaste.Takes.{reads_nothing, took_nothing, took_more, lines_trans}
@@ -58,6 +58,10 @@ retook end b c n ys same t = ⊎_elim (λ some. subst (λ (e : ℕ). Took e b c 
         let zero_is : n ≡ 0 = omega arith in
         let empty : ys ≡ [] = nil_from_length ys (⊎_elim (λ is. omega (arith, is)) (λ is. omega (arith, is.1)) t.enough) in
         rw (t.none zero_is, empty, zero_is) (took_nothing end b)
+
+-- no more lines than were asked for
+at_most : {end : ℕ} {b c : Reader} {n : ℕ} {ys : Column} → Took end b c n ys → length ys ≤ n
+at_most t = ⊎_elim (λ same. omega (arith, same)) (λ few. few.1) t.enough
 
 -- ---- the whole lines that came
 
@@ -235,9 +239,11 @@ paste_unslotted job cells old set was first store writable ready are_set adds sa
   wrote = wrote_nothing was;
   ends = record { denied = denied; failed = failed_of job.end cells old set first ready are_set; clean = writable };
   true_so_far = λ texts a. record { rest = paste job cells texts; is = refl };
-  keeps_up = λ clean.
-      keeps_still (paste_decided job cells) (λ p. given_of [] (reader_at set p)) was was []
-      (works_nothing job cells (λ p. given_of [] (reader_at set p)) (λ p some. cut_held job.end (reader_at set p) ((are_set p).sound some).held)) (wrote_nothing was) clean;
+  keeps_up = λ p some clean.
+      let given : ℕ → Given = λ p. given_of [] (reader_at set p) in
+      keeps_still (λ g. paste_decided job cells (put_at p (g tt) given)) (λ u. given p) was was []
+      (works_behind job cells given [] (rows (columns cells (λ q. whole_lines job.end (given q)))) refl p some
+      (cut_held job.end (1 * times cells p) (reader_at set p) ((are_set p).sound some).held (omega (arith, some)))) (wrote_nothing was) clean;
   sure = λ p some failed clean. absurd (false≢true (sym (failed_of job.end cells old set first ready are_set p ∙ unfailed_of job.end cells old set first ready are_set p some) ∙ failed));
   whole = λ ok. cc;
   peak = λ texts a. omega (arith, same);
@@ -321,26 +327,29 @@ module _ (job : Paste) (cells : List ℕ) (old set now : List Reader) (was is : 
     rows_whole : rows (columns cells whole_by) ≡ s.passed ++ rows (columns cells more_by)
     rows_whole = (λ i. rows (columns cells (λ p. whole_more p i))) ∙ s.on more_by may_more
 
-    -- what was passed has what was decided before a line of some cell, and a block, came
-    module _ (c : ℕ) (low : c < length cells) (part : Column) (cut : CutBack job.end (s.ls (get_or cells c 0) ++ part) (given_by (get_or cells c 0))) (going : IsDone (reader_at now (get_or cells c 0)) → ⊥) (few : length part ≤ times (take c cells) (get_or cells c 0)) where
-      ls_few : length (s.ls (get_or cells c 0)) ≤ length s.passed * times cells (get_or cells c 0)
-      ls_few =
-          let here = get_or cells c 0 in
-          let fits : length (s.ls here) ≤ s.n * times cells here = ⊎_elim (λ same. omega (arith, same)) (λ few. few.1) (s.took here).enough in
-          omega (arith, fits, ap (λ (n : ℕ). n * times cells here) s.count)
+    -- a place whose input, cut back alone, decides no more than was passed
+    abbrev WorksBy : ℕ → Type 0
+    WorksBy = WorksAt job cells given_by (sheet job s.passed)
 
-      works_by : WorksOff {I = ℕ} (paste_decided job cells) given_by (sheet job s.passed)
-      works_by = works_behind job cells given_by (get_or cells c 0) s.ls part cut s.passed (λ p. IsDone (reader_at now p)) s.on more_by whole_more may_more going c low refl ls_few few
+    abbrev CutBy : ℕ → Type 0
+    CutBy p = CutBack job.end ((length s.passed + 1) * times cells p) (given_by p)
 
-      begins_by_cut : cut.front ≡ (given_by (get_or cells c 0)).bytes → (given_by (get_or cells c 0)).ended ≡ false → Begins (paste_decided job cells given_by) (sheet job s.passed)
-      begins_by_cut = begins_behind job cells given_by (get_or cells c 0) s.ls part cut s.passed (λ p. IsDone (reader_at now p)) s.on more_by whole_more may_more going c low refl ls_few few
+    works_by : (p : ℕ) → 0 < times cells p → CutBy p → WorksBy p
+    works_by = works_behind job cells given_by s.passed (rows (columns cells more_by)) rows_whole
 
-    keeps_by : WorksOff {I = ℕ} (paste_decided job cells) given_by (sheet job s.passed) → KeepsUp {I = ℕ} (paste_decided job cells) given_by was is (sheet job s.passed)
-    keeps_by works = keeps_still (paste_decided job cells) given_by was is (sheet job s.passed) works s.wrote s.clean
+    begins_by_cut : (p : ℕ) (some : 0 < times cells p) (cut : CutBy p) → cut.front ≡ (given_by p).bytes → (given_by p).ended ≡ false
+        → Begins (paste_decided job cells given_by) (sheet job s.passed)
+    begins_by_cut = begins_behind job cells given_by s.passed (rows (columns cells more_by)) rows_whole
+
+    abbrev KeepsBy : Output → List ℕ → ℕ → Type 0
+    KeepsBy is' pushed p = KeepsUp {I = Unit {0}} (λ g. paste_decided job cells (put_at p (g tt) given_by)) (λ u. given_by p) was is' pushed
+
+    keeps_by : (p : ℕ) → WorksBy p → KeepsBy is (sheet job s.passed) p
+    keeps_by p works = keeps_still (λ g. paste_decided job cells (put_at p (g tt) given_by)) (λ u. given_by p) was is (sheet job s.passed) works s.wrote s.clean
 
     -- whatever became of what was pushed behind it
-    keeps_past : (is' : Output) (bytes : List ℕ) → Wrote is is' bytes → WorksOff {I = ℕ} (paste_decided job cells) given_by (sheet job s.passed) → KeepsUp {I = ℕ} (paste_decided job cells) given_by was is' (sheet job s.passed ++ bytes)
-    keeps_past is' bytes wrote works = keeps_more (paste_decided job cells) given_by was is (sheet job s.passed) works s.wrote s.clean is' bytes wrote
+    keeps_past : (is' : Output) (bytes : List ℕ) → Wrote is is' bytes → (p : ℕ) → WorksBy p → KeepsBy is' (sheet job s.passed ++ bytes) p
+    keeps_past is' bytes wrote p works = keeps_more (λ g. paste_decided job cells (put_at p (g tt) given_by)) (λ u. given_by p) was is (sheet job s.passed) works s.wrote s.clean is' bytes wrote
 
     failed_by : (p : ℕ) → (reader_at new p).failed ≡ (reader_at now p).failed → (reader_at new p).failed ≡ (reader_at old p).failed
     failed_by p same = same ∙ (s.took p).failed ∙ failed_set p
@@ -351,7 +360,8 @@ module _ (job : Paste) (cells : List ℕ) (old set now : List Reader) (was is : 
   -- a growth of a slot was refused
   module _ (new : List Reader) (extra : ℕ → List ℕ) (reads : (p : ℕ) → Reads (reader_at now p) (reader_at new p) (extra p)) (same : (p : ℕ) → (reader_at new p).failed ≡ (reader_at now p).failed) (left : (p : ℕ) → times cells p ≡ 0 → reader_at new p ≡ reader_at now p) (after : Slots)
       (adds : Adds first after (length cells)) (peak : (texts : ℕ → List ℕ) → ((p : ℕ) → Agrees (given_by new extra reads p) (texts p)) → after.peak ≤ max first.peak (paste_size job cells texts)) where
-    pub paste_memory : after.denied ≡ true → length cells ≤ length after.lines → WorksOff {I = ℕ} (paste_decided job cells) (given_by new extra reads) (sheet job s.passed) → IsPastePass job cells old new was is first after (Err Memory)
+    pub paste_memory : after.denied ≡ true → length cells ≤ length after.lines → ((p : ℕ) → 0 < times cells p → WorksBy new extra reads p)
+        → IsPastePass job cells old new was is first after (Err Memory)
     paste_memory denied room works = record {
       given = given_by new extra reads;
       came = came_by new extra reads;
@@ -360,7 +370,7 @@ module _ (job : Paste) (cells : List ℕ) (old set now : List Reader) (was is : 
       ends = record { denied = denied; failed = λ p. failed_by new extra reads p (same p); clean = s.clean };
       true_so_far = begins_by new extra reads;
       sure = λ p some failed clean. absurd (false≢true (sym (failed_by new extra reads p (same p) ∙ never_failed p some) ∙ failed));
-      keeps_up = λ clean. keeps_by new extra reads works;
+      keeps_up = λ p some clean. keeps_by new extra reads p (works p some);
       whole = λ ok. cc;
       peak = peak;
       slots = λ clean. adds;
@@ -394,18 +404,21 @@ module _ (job : Paste) (cells : List ℕ) (old set now : List Reader) (was is : 
     any_kept : KeepsCells cells (λ p. longest (s.ls p ++ got p)) first after
     any_kept = more_kept job cells set now was is first store s named_end new after got t (λ p. longest (s.ls p ++ got p)) (λ p. omega arith)
 
-    -- up to the last line of the row
-    works_row : (c : ℕ) → c < length cells → length (got (get_or cells c 0)) ≡ times (take c cells) (get_or cells c 0) + 1 → WorksOff {I = ℕ} (paste_decided job cells) (given_by new row_bytes row_reads) (sheet job s.passed)
-    works_row c low last =
-        let p = get_or cells c 0 in
-        let j = times (take c cells) p in
-        let front = take j (got p) in
-        let split : got p ≡ front ++ get_or (got p) j [] ∷ [] =
-        sym (take-append-drop j (got p)) ∙ ap (λ (l : Column). front ++ l) (drop_more (got p) j [] (omega (arith, last)) ∙ ap (λ (l : Column). get_or (got p) j [] ∷ l) (drop_all (j + 1) (got p) (omega (arith, last)))) in
-        let k = subst (LinesCame job.end (reader_at new p) ((s.took p).bytes ++ row_bytes p)) (ap (λ (l : Column). s.ls p ++ l) split ∙ sym (append_assoc (s.ls p) front (get_or (got p) j [] ∷ []))) (lines_came p) in
-        works_by new row_bytes row_reads c low front
-        (cut_last job.end (reader_at new p) ((s.took p).bytes ++ row_bytes p) (s.ls p ++ front) (get_or (got p) j []) ((took_by p).held (held_now p (omega (arith, times_below cells c low)))) k)
-        (λ done. absurd (omega (arith, last, ap length (none_of_done job.end (reader_at now p) (reader_at new p) (times cells p) (got p) (took_by p) done)))) (omega (arith, length-take-le j (got p) (omega (arith, last))))
+    -- up to the last line of the row that an input gave
+    works_row : (p : ℕ) → 0 < times cells p → WorksBy new row_bytes row_reads p
+    works_row p some =
+        works_by new row_bytes row_reads p some
+        (cut_lines job.end (reader_at new p) ((s.took p).bytes ++ row_bytes p) ((took_by p).held (held_now p some)) ((length s.passed + 1) * times cells p)
+        (s.ls p ++ got p) (lines_came p) (row_some p some) (row_few p))
+      where
+        row_count : (p : ℕ) → (length s.passed + 1) * times cells p ≡ s.n * times cells p + times cells p
+        row_count p = ap (λ (n : ℕ). (n + 1) * times cells p) s.count ∙ omega arith
+
+        row_some : (p : ℕ) → 0 < times cells p → 0 < (length s.passed + 1) * times cells p
+        row_some p some = omega (arith, some, row_count p)
+
+        row_few : (p : ℕ) → length (s.ls p ++ got p) ≤ (length s.passed + 1) * times cells p
+        row_few p = omega (arith, row_count p, length-append (s.ls p) (got p), at_most (s.took p), at_most (took_by p))
 
     -- a write failed while it was pushed
     pub paste_write : (c : ℕ) → c < length cells → length (got (get_or cells c 0)) ≡ times (take c cells) (get_or cells c 0) + 1 → (is' : Output) → Wrote is is' (glued_from job.delimiters 0 (take (length cells) after.lines) ++ job.end ∷ []) → is'.faulted ≡ true
@@ -418,7 +431,7 @@ module _ (job : Paste) (cells : List ℕ) (old set now : List Reader) (was is : 
       ends = record { faulted = fault; failed = λ p. failed_by new row_bytes row_reads p (took_by p).failed; denied = any_kept.denied };
       true_so_far = λ texts a. record { rest = sheet job (rows (columns cells (later texts a))); is = all texts a };
       sure = λ p some failed clean. absurd (false≢true (sym clean ∙ fault));
-      keeps_up = λ clean. keeps_past new row_bytes row_reads is' (glued_from job.delimiters 0 (take (length cells) after.lines) ++ job.end ∷ []) wrote (works_row c low last);
+      keeps_up = λ p some clean. keeps_past new row_bytes row_reads is' (glued_from job.delimiters 0 (take (length cells) after.lines) ++ job.end ∷ []) wrote p (works_row p some);
       whole = λ ok. cc;
       peak = λ texts a. (kept_by texts a).peak;
       slots = λ clean. any_kept.adds;
@@ -513,7 +526,7 @@ module _ (job : Paste) (cells : List ℕ) (old set now : List Reader) (was is : 
         };
         true_so_far = begins_by new row_bytes row_reads;
         sure = λ p some failed clean. absurd (false≢true (sym (failed_by new row_bytes row_reads p (took_by p).failed ∙ never_failed p some) ∙ failed));
-        keeps_up = λ clean. keeps_by new row_bytes row_reads (works_whole job cells (given_by new row_bytes row_reads) s.passed rows_passed);
+        keeps_up = λ p some clean. keeps_by new row_bytes row_reads p (works_whole job cells (given_by new row_bytes row_reads) s.passed rows_passed p);
         whole = λ ok. whole_is;
         peak = λ texts a. (kept_by texts a).peak;
         slots = λ clean. any_kept.adds;
@@ -599,24 +612,34 @@ module _ (job : Paste) (cells : List ℕ) (old set now : List Reader) (was is : 
 
     -- a reader that may have more is the one that holds the row up
     module _ (going : IsDone (reader_at mid here) → ⊥) (few : length (reader_at now here).held ≤ 8192 → length (reader_at new here).held ≤ 8192) where
-      abbrev cut_here : CutBack job.end (s.ls here ++ got here) (given_by new extra reads_to here)
+      row_count : (p : ℕ) → (length s.passed + 1) * times cells p ≡ s.n * times cells p + times cells p
+      row_count p = ap (λ (n : ℕ). (n + 1) * times cells p) s.count ∙ omega arith
+
+      lines_few : (p : ℕ) → length (s.ls p ++ got p) ≤ s.n * times cells p + times (take c cells) p
+      lines_few p = omega (arith, length-append (s.ls p) (got p), at_most (s.took p), at_most (took_to p))
+
+      abbrev cut_here : CutBy new extra reads_to here
       cut_here =
-          cut_piece job.end (reader_at mid here) (reader_at new here) ((s.took here).bytes ++ (took_to here).bytes) (s.ls here ++ got here) (lines_to here) going piece ((s.took here).bytes ++ extra here)
+          cut_piece job.end ((length s.passed + 1) * times cells here) (reader_at mid here) (reader_at new here)
+          ((s.took here).bytes ++ (took_to here).bytes) (s.ls here ++ got here) (lines_to here) going piece ((s.took here).bytes ++ extra here)
           (ap (λ (b : List ℕ). (s.took here).bytes ++ b) (extra_here here refl) ∙ sym (append_assoc (s.took here).bytes (took_to here).bytes piece)) (free_to here refl) (few (held_now here here_named))
+          (omega (arith, row_count here, lines_few here, times_below cells c low))
 
-      going_on : IsDone (reader_at now here) → ⊥
-      going_on done = going (stays_done (reader_at now here) (reader_at mid here) (took_to here).bytes done (took_to here).reads)
+      -- another one, up to the last line that it gave
+      cut_there : (p : ℕ) → 0 < times cells p → p ≢ here → CutBy new extra reads_to p
+      cut_there p some differ =
+          subst (CutBack job.end ((length s.passed + 1) * times cells p)) (sym (given_there p differ))
+          (cut_lines job.end (reader_at mid p) ((s.took p).bytes ++ (took_to p).bytes) ((took_to p).held (held_now p some)) ((length s.passed + 1) * times cells p) (s.ls p ++ got p) (lines_to p)
+          (omega (arith, some, row_count p)) (omega (arith, row_count p, lines_few p, times_front cells c p)))
 
-      got_few : length (got here) ≤ times (take c cells) here
-      got_few = ⊎_elim (λ same. omega (arith, same)) (λ few. few.1) (took_to here).enough
-
-      works_to : WorksOff {I = ℕ} (paste_decided job cells) (given_by new extra reads_to) (sheet job s.passed)
-      works_to = works_by new extra reads_to c low (got here) cut_here going_on got_few
+      works_to : (p : ℕ) → 0 < times cells p → WorksBy new extra reads_to p
+      works_to p some = works_by new extra reads_to p some
+          (⊎_elim (λ same. subst (CutBy new extra reads_to) (sym same) cut_here) (λ differ. cut_there p some differ) (cases_eq p here))
 
       -- and all that was decided was passed, where nothing is held
       decided_to : (reader_at new here).held ≡ [] → (reader_at new here).ended ≡ false → Begins (paste_decided job cells (given_by new extra reads_to)) (sheet job s.passed)
       decided_to empty open_end =
-          begins_by_cut new extra reads_to c low (got here) cut_here going_on got_few
+          begins_by_cut new extra reads_to here here_named cut_here
           (sym (append-nil ((s.took here).bytes ++ extra here)) ∙ ap (λ (b : List ℕ). ((s.took here).bytes ++ extra here) ++ b) (sym empty)) open_end
 
     -- what was staged could not be sent
@@ -629,8 +652,8 @@ module _ (job : Paste) (cells : List ℕ) (old set now : List Reader) (was is : 
       ends = record { faulted = fault; failed = λ p. failed_by new extra reads_to p (failed_to p); denied = held_kept.denied };
       true_so_far = λ texts a. subst (λ (b : List ℕ). Begins b (paste job cells texts)) (sym (append-nil (sheet job s.passed))) (begins_by new extra reads_to texts a);
       sure = λ p some failed clean. absurd (false≢true (sym clean ∙ fault));
-      keeps_up = λ clean. keeps_past new extra reads_to is' [] wrote
-          (works_to (λ done. false≢true (sym going ∙ done.ended)) (λ held. subst (λ (r : Reader). length r.held ≤ 8192) (sym same) ((took_to here).held held)));
+      keeps_up = λ p some clean. keeps_past new extra reads_to is' [] wrote p
+          (works_to (λ done. false≢true (sym going ∙ done.ended)) (λ held. subst (λ (r : Reader). length r.held ≤ 8192) (sym same) ((took_to here).held held)) p some);
       whole = λ ok. cc;
       peak = λ texts a. (held_in texts a).peak;
       slots = λ clean. held_kept.adds;
@@ -690,7 +713,7 @@ module _ (job : Paste) (cells : List ℕ) (old set now : List Reader) (was is : 
           cause)
           (λ differ. absurd (false≢true (sym (failed_by new extra reads_to p (failed_there p differ) ∙ never_failed p some) ∙ failed)))
           (cases_eq p here);
-      keeps_up = λ clean. keeps_by new extra reads_to (works_to may_have_more few);
+      keeps_up = λ p some clean. keeps_by new extra reads_to p (works_to may_have_more few p some);
       whole = λ ok. cc;
       peak = λ texts a. omega (arith, ap (λ (s : Slots). s.peak) is_after, (kept_to texts a).peak);
       slots = λ clean. subst (λ (s : Slots). Adds first s (length cells)) (sym is_after) some_kept.adds;
@@ -741,7 +764,7 @@ paste_halted job cells old was first ready fault = record {
   ends = record { faulted = fault; failed = λ p. refl; denied = ready.roomy };
   true_so_far = λ texts a. record { rest = paste job cells texts; is = refl };
   sure = λ p some failed clean. absurd (false≢true (sym clean ∙ fault));
-  keeps_up = λ clean. absurd (false≢true (sym clean ∙ fault));
+  keeps_up = λ p some clean. absurd (false≢true (sym clean ∙ fault));
   whole = λ ok. cc;
   peak = λ texts a. omega arith;
   slots = λ clean. absurd (false≢true (sym clean ∙ fault));

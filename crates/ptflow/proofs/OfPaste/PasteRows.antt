@@ -9,6 +9,7 @@ use Rattle.ptlines.specs.Outputs.{Output}
 use Rattle.ptlines.specs.Text.{lines, ended_lines, IsLine}
 use Rattle.ptlines.proofs.TextLaws.{ended_none}
 use Rattle.ptlangs.specs.Jobs.{Paste}
+use Rattle.ptflow.specs.PastePasses.{put_at}
 use Rattle.ptflow.specs.Pastes.{columns, known_rows, sheet, paste, paste_serial, paste_decided, serial_decided, paste_size}
 
 abbrev job : List (Option ℕ) → Paste
@@ -55,7 +56,10 @@ zero_ends_lines_in_series = refl
 
 -- ---- what is decided
 
-row_of_known_cells : paste_decided (job (Some 9 ∷ [])) (0 ∷ 1 ∷ []) (λ place. slice_index_or (record { bytes = codes "1\n2\n3\n"; ended = true } ∷ record { bytes = codes "x\ny"; ended = false } ∷ []) place nothing_left) ≡ codes "1\tx\n"
+abbrev some_came : ℕ → Given
+some_came place = slice_index_or (record { bytes = codes "1\n2\n3\n"; ended = true } ∷ record { bytes = codes "x\ny"; ended = false } ∷ []) place nothing_left
+
+row_of_known_cells : paste_decided (job (Some 9 ∷ [])) (0 ∷ 1 ∷ []) some_came ≡ codes "1\tx\n"
 row_of_known_cells = refl
 
 whole_lines_in_series : serial_decided (job (Some 9 ∷ [])) (record { bytes = codes "x\ny\nz"; ended = false }) ≡ codes "x\ty"
@@ -86,13 +90,17 @@ line_came came is going b = by_end b.earlier.ended refl
     by_end true ended = absurd (false≢true (sym going ∙ b.ended ended))
     by_end false ended = (ended, (λ i. cond (ended i) (lines 10 b.earlier.bytes) (ended_lines 10 b.earlier.bytes)) ∙ by_bytes b.earlier.bytes b.last (sym is ∙ b.split) b.short)
 
-abbrev held_back : ℕ → Given
-held_back place = record { bytes = 10 ∷ replicate 20000 120; ended = false }
+-- a line and no line of inputs that have ended, and more than two blocks of one that goes on
+abbrev far_ahead : ℕ → Given
+far_ahead place = slice_index_or (record { bytes = codes "a\n"; ended = true } ∷ nothing_left ∷ record { bytes = 10 ∷ replicate 20000 120; ended = false } ∷ []) place nothing_left
+
+abbrev decided_of : (ℕ → Given) → List ℕ
+decided_of = paste_decided (job (Some 9 ∷ [])) (0 ∷ 1 ∷ 2 ∷ [])
 
 -- a paste that pushes nothing of such inputs does not keep up
-no_row_pushed : (was is : Output) → KeepsUp {I = ℕ} (paste_decided (job (Some 9 ∷ [])) (0 ∷ 1 ∷ [])) held_back was is [] → ⊥
+no_row_pushed : (was is : Output) → KeepsUp {I = Unit {0}} (λ came. decided_of (put_at 2 (came tt) far_ahead)) (λ u. far_ahead 2) was is [] → ⊥
 no_row_pushed was is k =
-    let then : (place : ℕ) → ((k.works.before place).earlier.ended ≡ false) × (whole_lines 10 (k.works.before place).earlier ≡ [] ∷ []) = λ place. line_came (held_back place) refl refl (k.works.before place) in
-    let decided : paste_decided (job (Some 9 ∷ [])) (0 ∷ 1 ∷ []) (λ place. (k.works.before place).earlier) ≡ 9 ∷ 10 ∷ [] =
-    λ i. sheet (job (Some 9 ∷ [])) (known_rows (columns (0 ∷ 1 ∷ []) (λ place. (then place).1 i)) ((then 0).0 i ∷ (then 1).0 i ∷ [])) in
-    absurd (omega (arith, ap length k.works.begins.is, ap length decided, length-append (paste_decided (job (Some 9 ∷ [])) (0 ∷ 1 ∷ []) (λ place. (k.works.before place).earlier)) k.works.begins.rest))
+    let then : ((k.works.before tt).earlier.ended ≡ false) × (whole_lines 10 (k.works.before tt).earlier ≡ [] ∷ []) = line_came (far_ahead 2) refl refl (k.works.before tt) in
+    let decided : decided_of (put_at 2 (k.works.before tt).earlier far_ahead) ≡ codes "a\t\t\n" =
+    λ i. sheet (job (Some 9 ∷ [])) (known_rows (columns (0 ∷ 1 ∷ 2 ∷ []) (λ place. slice_index_or ((codes "a" ∷ []) ∷ [] ∷ then.1 i ∷ []) place [])) (true ∷ true ∷ then.0 i ∷ [])) in
+    absurd (omega (arith, ap length k.works.begins.is, ap length decided, length-append (decided_of (put_at 2 (k.works.before tt).earlier far_ahead)) k.works.begins.rest))

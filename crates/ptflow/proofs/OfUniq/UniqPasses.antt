@@ -304,6 +304,7 @@ module _ (job : Uniq) (old reader : Reader) (was is : Output) (first store : Slo
       (record { passed = []; wrote = wrote; true_so_far = λ more. (runs_behind job run (ended_lines job.end reader.held ++ more), refl) }) fault
 
 -- the slots were refused
-pub turning_unslotted : (job : Uniq) (old : Reader) (was : Output) (first store : Slots) → IsReady old first → IsSound old → was.faulted ≡ false → Adds first store 2 → store.denied ≡ true → store.peak ≡ first.peak → IsPass (uniq_tool job) old old was was first store (Err Memory)
-turning_unslotted job old was first store ready sound clean adds denied same =
-    pass_unslotted (uniq_tool job) old was first store ready sound clean adds same denied (omega arith) (record { rest = []; is = refl })
+pub turning_unslotted : (job : Uniq) (old : Reader) (was : Output) (first store : Slots) → IsReady old first → IsSound old → old.ending ≡ job.end → was.faulted ≡ false
+    → Adds first store 2 → store.denied ≡ true → store.peak ≡ first.peak → IsPass (uniq_tool job) old old was was first store (Err Memory)
+turning_unslotted job old was first store ready sound ends clean adds denied same =
+    pass_unslotted (uniq_tool job) old was first store ready sound clean adds same denied (omega arith) ends (record { rest = []; is = refl })

@@ -1,9 +1,9 @@
 -- What each turn of `join` does, and each way out of it.
-use Rattle.std.proofs.Common.{◌≡◌, ◌⊎◌, inl, inr, ℕ, ◌+◌, ◌*◌, ◌≤◌, ◌<◌, ◌&&◌, Bool, true, false, List, [], ◌∷◌, ◌++◌, Some, None, Result, Ok, Err, length, max, get_or, refl, sym, ◌∙◌, ap, subst, arith, append_assoc}
+use Rattle.std.proofs.Common.{◌≡◌, ◌⊎◌, inl, inr, ℕ, ◌+◌, ◌*◌, ◌≤◌, ◌<◌, ◌&&◌, Bool, true, false, List, [], ◌∷◌, ◌++◌, Some, None, Result, Ok, Err, length, max, refl, sym, ◌∙◌, ap, subst, arith, append_assoc}
 use Rattle.std.specs.Prelude.{bytes_eq}
 use Rattle.std.specs.Cmp.Lexicographic.{bytes_decides}
 use Rattle.std.proofs.lemmas.Bool.{false≢true}
-use Rattle.std.proofs.lemmas.List.{append-nil, get_or-drop, length-set, length_push}
+use Rattle.std.proofs.lemmas.List.{append-nil, length-set, length_push}
 use Rattle.ptlines.specs.Outputs.{Output, Wrote}
 use Rattle.ptlines.specs.Readers.{Reader, Reads, IsSound}
 use Rattle.ptlines.specs.Slots.{Slots, line, total, with_added, with_line}
@@ -43,11 +43,11 @@ use Rattle.ptmerge.proofs.OfMerges.Passing.{Late, Merging, late_none}
 use Rattle.ptmerge.proofs.OfMerges.Sending.{wrote_and_sent}
 use Rattle.ptmerge.proofs.OfMerges.Slotted.{has_lines_total, line_other}
 use Rattle.ptmerge.proofs.OfMerges.Splitting.{all_keys}
-use Rattle.ptmerge.proofs.OfMerges.Standing.{Sided, sided_keeps}
+use Rattle.ptmerge.proofs.OfMerges.Standing.{Sided, comes_repeats, sided_keeps}
 use Rattle.ptmerge.proofs.OfMerges.Stopping.{Concludes, FitsIn, Gone, gone_passed, gone_standing, stops}
 use Rattle.ptmerge.proofs.OfMerges.Turning.{BothStand, IsAbove, ahead, all_ended, alone, breaks, merging_on, next_at, own_slots, pass_one, passed_at, sides_on, stops_at}
 
--- ---- what `has_key_of` says
+-- ---- what `repeats` says
 
 stands_head : (s : Stand) → is_head s ≡ true → s ≡ Head
 stands_head Head h = refl
@@ -64,11 +64,6 @@ has_key s a b h = let t = both_true (is_head s) (bytes_eq a b) h in (stands_head
 
 pub lacks_key : (s : Stand) (a b : List ℕ) → (is_head s && bytes_eq a b) ≡ false → s ≡ Head → ¬ (a ≡ b)
 lacks_key s a b h e same = (let bad : true ≡ false = sym (λ i. is_head (e i) && (bytes_decides a b).1 same i) ∙ h in absurd (false≢true (sym bad)))
-
--- the first line of the group
-first_of : (key : Key) (k : List ℕ) (g : Lines) → 0 < length g → EachKey (λ x. x ≡ k) key g → (t : Lines) → key (get_or (g ++ t) 0 []) ≡ k
-first_of key k [] some own t = absurd (omega (arith, some))
-first_of key k (x ∷ g) some own t = own.0
 
 low_slot : (s : Side) (place : Sorted) → HasSlots s place → (place.standing < 4) × (place.previous < 4)
 low_slot First place h = let w = own_slots First place h in (omega (arith, w), omega (arith, w))
@@ -287,12 +282,6 @@ module _ (tool : Tool) (o : IsKeyOrder tool.cmp) (pairs : List ℕ → Lines →
 
   -- ---- within a group
 
-  -- the first slot behind the first four holds a line of the group
-  group_key : (now : State) (place : Side → Sorted) (end : ℕ) (k : List ℕ) (g : Side → Lines) (q : Grouped tool o pairs laws old unfailed now place end k g) → 0 < length (g Second) → tool.key Second (line now.store 4) ≡ k
-  group_key now place end k g q some =
-      let is : get_or (g Second ++ q.keeps.tail) 0 [] ≡ line now.store 4 = ap (λ (l : Lines). get_or l 0 []) (sym q.keeps.split) ∙ get_or-drop 4 now.store.lines 0 [] in
-      ap (tool.key Second) (sym is) ∙ first_of (tool.key Second) k (g Second) some (q.within.own Second) q.keeps.tail
-
   module _ (now : State) (place : Side → Sorted) (end : ℕ) (r : Gathering now place end) (slots : (side : Side) → HasSlots side (place side)) (clean : now.out.faulted ≡ false) where
     abbrev y : List ℕ
     y = line now.store (place Second).standing
@@ -324,6 +313,7 @@ module _ (tool : Tool) (o : IsKeyOrder tool.cmp) (pairs : List ℕ → Lines →
       pub q : Grouped tool o pairs laws old unfailed (record { reader = put Second reader now.reader; out = now.out; store = after }) (put Second next place) (end + 1) r.k (both [] (r.g ++ line now.store (place Second).standing ∷ []))
       pub head1 : (place First).stand ≡ Head
       pub key1 : tool.key First (line after (place First).standing) ≡ r.k
+      pub says : next.same ≡ (is_head next.stand && bytes_eq r.k (tool.key Second (line after next.standing)))
 
     pub gathered : (reader : Reader) (next : Sorted) (after : Slots) → Gathered (tool.key Second) tool.cmp (place Second) next (now.reader Second) reader now.store after end → GoesOn reader next after
     gathered reader next after e =
@@ -359,8 +349,13 @@ module _ (tool : Tool) (o : IsKeyOrder tool.cmp) (pairs : List ℕ → Lines →
           key1 =
               ap (λ (t : Slots). tool.key First (line t (place First).standing)) n.stored ∙ ap (tool.key First) (line_other e.made (place Second).previous (place First).standing n.bytes apart ∙ kept.same (place First).standing (low_slot First (place First) (slots First)).0)
               ∙ r.key1;
+          says = comes_repeats tool.cmp o (tool.key Second) (place Second) next (now.reader Second) reader e.made after some (omega (arith, kept.keeping.four, (low_slot Second (place Second) (slots Second)).1)) e.came
+              ∙ ap (λ (k : List ℕ). is_head next.stand && bytes_eq k (tool.key Second (line after next.standing))) key_made;
         }
       where
+        some : 0 < (place Second).number
+        some = (passed_at tool o old.reader now.reader place now.store r.q.ls (λ side. r.q.p side ++ both [] r.g side) r.q.d r.q.sides slots r.q.keeps.four Second r.head2).some
+
         first_apart : ¬ ((place Second).previous ≡ (place First).standing)
         first_apart same = absurd (omega (arith, same, own_slots First (place First) (slots First), own_slots Second (place Second) (slots Second)))
 
@@ -497,23 +492,19 @@ module _ (tool : Tool) (o : IsKeyOrder tool.cmp) (pairs : List ℕ → Lines →
 
   -- ---- what follows once it is known whether the key goes on
 
-  module _ (now : State) (place : Side → Sorted) (end : ℕ) (r : Gathering now place end) (slots : (side : Side) → HasSlots side (place side)) (clean : now.out.faulted ≡ false) (reader : Reader) (next : Sorted) (after : Slots) (goes : GoesOn now place end r slots clean reader next after) (has : Bool)
-      (says : has ≡ (is_head next.stand && bytes_eq (tool.key Second (line after next.standing)) (tool.key Second (line after 4)))) where
+  module _ (now : State) (place : Side → Sorted) (end : ℕ) (r : Gathering now place end) (slots : (side : Side) → HasSlots side (place side)) (clean : now.out.faulted ≡ false) (reader : Reader) (next : Sorted) (after : Slots) (goes : GoesOn now place end r slots clean reader next after) where
     abbrev then_now : State
     then_now = record { reader = put Second reader now.reader; out = now.out; store = after }
 
     some_now : 0 < length (r.g ++ line now.store (place Second).standing ∷ [])
     some_now = omega (arith, length_push r.g (line now.store (place Second).standing))
 
-    of_group : tool.key Second (line after 4) ≡ r.k
-    of_group = group_key (record { reader = put Second reader now.reader; out = now.out; store = after }) (put Second next place) (end + 1) r.k (both [] (r.g ++ line now.store (place Second).standing ∷ [])) goes.q some_now
-
-    pub gathers_on : has ≡ true → Gathering (record { reader = put Second reader now.reader; out = now.out; store = after }) (put Second next place) (end + 1)
+    pub gathers_on : next.same ≡ true → Gathering (record { reader = put Second reader now.reader; out = now.out; store = after }) (put Second next place) (end + 1)
     gathers_on is =
-        let h = has_key next.stand (tool.key Second (line after next.standing)) (tool.key Second (line after 4)) (sym says ∙ is) in
-        record { k = r.k; g = r.g ++ line now.store (place Second).standing ∷ []; q = goes.q; head1 = goes.head1; key1 = goes.key1; head2 = h.0; key2 = h.1 ∙ of_group }
+        let h = has_key next.stand r.k (tool.key Second (line after next.standing)) (sym goes.says ∙ is) in
+        record { k = r.k; g = r.g ++ line now.store (place Second).standing ∷ []; q = goes.q; head1 = goes.head1; key1 = goes.key1; head2 = h.0; key2 = sym h.1 }
 
-    pub pairs_next : has ≡ false → Pairing (record { reader = put Second reader now.reader; out = now.out; store = after }) (put Second next place) (end + 1)
+    pub pairs_next : next.same ≡ false → Pairing (record { reader = put Second reader now.reader; out = now.out; store = after }) (put Second next place) (end + 1)
     pairs_next is =
         record {
           k = r.k;
@@ -521,33 +512,36 @@ module _ (tool : Tool) (o : IsKeyOrder tool.cmp) (pairs : List ℕ → Lines →
           q = goes.q;
           some = some_now;
           above = is_past (record { reader = put Second reader now.reader; out = now.out; store = after }) (put Second next place) (end + 1) r.k (both [] (r.g ++ line now.store (place Second).standing ∷ [])) goes.q Second
-              (λ e same. lacks_key next.stand (tool.key Second (line after next.standing)) (tool.key Second (line after 4)) (sym says ∙ is) e (same ∙ sym of_group));
+              (λ e same. lacks_key next.stand r.k (tool.key Second (line after next.standing)) (sym goes.says ∙ is) e (sym same));
           head1 = goes.head1;
           key1 = goes.key1;
         }
 
   module _ (now : State) (place : Side → Sorted) (end : ℕ) (r : Pairing now place end) (slots : (side : Side) → HasSlots side (place side)) (new : Output)
       (wrote : Wrote now.out new (text tool.end (pairs r.k (line now.store (place First).standing ∷ []) (r.g Second)))) (clean : now.out.faulted ≡ false) (reader : Reader) (next : Sorted) (after : Slots)
-      (comes : Comes (tool.key First) tool.cmp (place First) next (now.reader First) reader now.store after) (has : Bool) (says : has ≡ (is_head next.stand && bytes_eq (tool.key First (line after next.standing)) (tool.key Second (line after 4)))) where
+      (comes : Comes (tool.key First) tool.cmp (place First) next (now.reader First) reader now.store after) where
     went_on : (q : Grouped tool o pairs laws old unfailed (record { reader = put First reader now.reader; out = new; store = after }) (put First next place) end r.k (both (r.g First ++ line now.store (place First).standing ∷ []) (r.g Second))) × IsAbove tool.cmp (tool.key Second) r.k (q.d Second)
     went_on = paired now place end r slots new wrote clean reader next after comes
 
-    of_pair : tool.key Second (line after 4) ≡ r.k
-    of_pair = group_key (record { reader = put First reader now.reader; out = new; store = after }) (put First next place) end r.k (both (r.g First ++ line now.store (place First).standing ∷ []) (r.g Second)) went_on.0 r.some
+    says : next.same ≡ (is_head next.stand && bytes_eq r.k (tool.key First (line after next.standing)))
+    says =
+        let here = passed_at tool o old.reader now.reader place now.store r.q.ls (λ side. r.q.p side ++ r.g side) r.q.d r.q.sides slots r.q.keeps.four First r.head1 in
+        comes_repeats tool.cmp o (tool.key First) (place First) next (now.reader First) reader now.store after here.some (omega (arith, r.q.keeps.four, (low_slot First (place First) (slots First)).1)) comes
+        ∙ ap (λ (k : List ℕ). is_head next.stand && bytes_eq k (tool.key First (line after next.standing))) r.key1
 
-    pub pairs_on : has ≡ true → Pairing (record { reader = put First reader now.reader; out = new; store = after }) (put First next place) end
+    pub pairs_on : next.same ≡ true → Pairing (record { reader = put First reader now.reader; out = new; store = after }) (put First next place) end
     pairs_on is =
-        let h = has_key next.stand (tool.key First (line after next.standing)) (tool.key Second (line after 4)) (sym says ∙ is) in
-        record { k = r.k; g = both (r.g First ++ line now.store (place First).standing ∷ []) (r.g Second); q = went_on.0; some = r.some; above = went_on.1; head1 = h.0; key1 = h.1 ∙ of_pair }
+        let h = has_key next.stand r.k (tool.key First (line after next.standing)) (sym says ∙ is) in
+        record { k = r.k; g = both (r.g First ++ line now.store (place First).standing ∷ []) (r.g Second); q = went_on.0; some = r.some; above = went_on.1; head1 = h.0; key1 = sym h.1 }
 
     -- the slots of the group are still there
     pub pair_end : (4 ≤ end) × (end ≤ length after.lines)
     pair_end = (omega (arith, went_on.0.at), end_within (tool.key Second) old.store after went_on.0.ls (r.g Second) went_on.0.keeps end went_on.0.at)
 
-    pub group_closed : has ≡ false → ((side : Side) → HasSlots side (put First next place side)) → (cleared : Slots) → IsGroupCleared after cleared end → Between (record { reader = put First reader now.reader; out = new; store = cleared }) (put First next place)
+    pub group_closed : next.same ≡ false → ((side : Side) → HasSlots side (put First next place side)) → (cleared : Slots) → IsGroupCleared after cleared end → Between (record { reader = put First reader now.reader; out = new; store = cleared }) (put First next place)
     group_closed is slots2 cleared clear =
         let mine = is_past (record { reader = put First reader now.reader; out = new; store = after }) (put First next place) end r.k (both (r.g First ++ line now.store (place First).standing ∷ []) (r.g Second)) went_on.0 First
-        (λ e same. lacks_key next.stand (tool.key First (line after next.standing)) (tool.key Second (line after 4)) (sym says ∙ is) e (same ∙ sym of_pair)) in
+        (λ e same. lacks_key next.stand r.k (tool.key First (line after next.standing)) (sym says ∙ is) e (sym same)) in
         closed (record { reader = put First reader now.reader; out = new; store = after }) (put First next place) end r.k (both (r.g First ++ line now.store (place First).standing ∷ []) (r.g Second)) went_on.0 slots2
         (elim [ First ↦ omega (arith, length_push (r.g First) (line now.store (place First).standing)) | Second ↦ r.some ]) (elim [ First ↦ mine | Second ↦ went_on.1 ]) cleared clear
 

@@ -6,11 +6,10 @@ use Rattle.std.proofs.lemmas.List.{length-replicate}
 use Rattle.ptlines.specs.Inputs.{Given, nothing_left, whole_lines}
 use Rattle.ptlines.specs.KeepingUp.{Before, KeepsUp}
 use Rattle.ptlines.specs.Outputs.{Output}
-use Rattle.ptlines.specs.Text.{text, ended_lines, IsLine, AreLines}
+use Rattle.ptlines.specs.Text.{text, IsLine, AreLines}
 use Rattle.ptlines.proofs.TextLaws.{ended_of_text}
 use Rattle.ptlangs.specs.Jobs.{default_comm}
-use Rattle.ptmerge.specs.declared.order.Side.{Side}
-use Rattle.ptmerge.specs.declared.order.Side.TheVariants.{First, Second}
+use Rattle.ptmerge.specs.declared.order.Side.TheVariants.{First}
 use Rattle.ptmerge.specs.Comm.{comm_tool}
 use Rattle.ptmerge.specs.Keyed.{Lines, decided, decided_entries, disorder, is_settled, settled}
 use Rattle.ptmerge.specs.Sides.{both, put}

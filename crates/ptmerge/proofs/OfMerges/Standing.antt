@@ -1,7 +1,9 @@
 -- Where an input of a merge stands, and what is still to come of it.
 use Rattle.std.proofs.Common.{◌≡◌, ◌≢◌, inl, inr, ℕ, ◌+◌, ◌<◌, ◌≤◌, ◌&&◌, Bool, true, false, cond, List, [], ◌∷◌, ◌++◌, Option, Some, None, length, refl, sym, ◌∙◌, ap, subst, arith}
-use Rattle.std.specs.Prelude.{nat_lt}
-use Rattle.std.specs.Ordering.{is_gt}
+use Rattle.std.specs.Prelude.{nat_lt, bytes_eq}
+use Rattle.std.specs.declared.cmp.Ordering.{Ordering}
+use Rattle.std.specs.declared.cmp.Ordering.TheVariants.{Less, Equal, Greater}
+use Rattle.std.specs.Ordering.{is_eq, is_gt}
 use Rattle.std.proofs.lemmas.Bool.{false≢true}
 use Rattle.std.proofs.lemmas.Bool.Decides.{nat_tests}
 use Rattle.std.proofs.lemmas.List.{append-nil, length_push}
@@ -15,13 +17,14 @@ use Rattle.ptmerge.specs.declared.merging.sorted.Stand.{Stand}
 use Rattle.ptmerge.specs.declared.merging.sorted.Stand.TheVariants.{Head, Ended, Disorder}
 use Rattle.ptmerge.specs.Keyed.{Lines}
 use Rattle.ptmerge.specs.Orders.{Cmp, Key}
-use Rattle.ptmerge.specs.Places.{stand_at, Comes, Closes}
+use Rattle.ptmerge.specs.Groups.{is_head}
+use Rattle.ptmerge.specs.Places.{stand_at, same_at, Comes, Closes}
 use Rattle.ptmerge.proofs.OfMerges.Backing.{Near}
 use Rattle.ptmerge.proofs.OfMerges.Bounds.{Bound, Free, From, Fallen, Over, Coming, Under, Begun, begun_more, falls, Reaches, reaches_head, reaches_over, reaches_fallen}
 use Rattle.ptmerge.proofs.OfMerges.Got.{Got, got_more, got_end}
 use Rattle.ptmerge.proofs.OfMerges.Least.{EachKey, EachKey-weaker}
 use Rattle.ptmerge.proofs.OfMerges.LineLaws.{longest-append}
-use Rattle.ptmerge.proofs.OfMerges.Orders.{IsKeyOrder, AtMost, at_most_trans}
+use Rattle.ptmerge.proofs.OfMerges.Orders.{IsKeyOrder, AtMost, at_most_trans, equal_is}
 use Rattle.ptmerge.proofs.OfMerges.Slotted.{line_other}
 
 -- The lines ls came, of which p are passed: the last stands, or there is none, or the last breaks the order.
@@ -114,8 +117,8 @@ module _ (end : ℕ) (cmp : Cmp) (o : IsKeyOrder cmp) (key : Key) (old now new :
       by None h = (λ r c. tt, λ k u. absurd u)
       by (Some j) h = (λ r c. EachKey-weaker (AtMost cmp (key x)) (AtMost cmp j) (λ y a. at_most_trans cmp o j (key x) y h a) key r c, λ k u. at_most_trans cmp o k j (key x) u h)
 
-  abbrev turned : Stand → ℕ → Sorted
-  turned stand number = record { standing = place.previous; previous = place.standing; number = number; stand = stand }
+  abbrev turned : Stand → ℕ → Bool → Sorted
+  turned stand number same = record { standing = place.previous; previous = place.standing; number = number; stand = stand; same = same }
 
   abbrev Goal : Sorted → Type 0
   Goal q = Next end cmp key old new q place.previous before after ls last
@@ -126,8 +129,8 @@ module _ (end : ℕ) (cmp : Cmp) (o : IsKeyOrder cmp) (key : Key) (old now new :
   counts : (x : List ℕ) → place.number ≡ length ls → place.number + 1 ≡ length (ls ++ x ∷ [])
   counts x number = omega (arith, number, length_push ls x)
 
-  at_head : (e : GivesLine now new before after place.previous) → IsSound new → place.previous < length before.lines → Got end old now ls → place.number ≡ length ls → Begun cmp key ls last → falls cmp last (key e.line) ≡ false → Goal (turned Head (place.number + 1))
-  at_head e sound within got number begun rises =
+  at_head : (e : GivesLine now new before after place.previous) → IsSound new → place.previous < length before.lines → Got end old now ls → place.number ≡ length ls → Begun cmp key ls last → falls cmp last (key e.line) ≡ false → (same : Bool) → Goal (turned Head (place.number + 1) same)
+  at_head e sound within got number begun rises same =
       let now_is : line after place.previous ≡ e.line = ap (λ (s : Slots). line s place.previous) e.stored ∙ line_of before place.previous e.line within in
       let more = begun_more cmp key ls last e.line begun rises in
       let f = from_next e.line rises in
@@ -157,14 +160,14 @@ module _ (end : ℕ) (cmp : Cmp) (o : IsKeyOrder cmp) (key : Key) (old now new :
       }
 
   at_fall : (e : GivesLine now new before after place.previous) → IsSound new → place.standing ≢ place.previous → Got end old now ls → place.number ≡ length ls → Begun cmp key ls last → LastIs key last place before → falls cmp last (key e.line) ≡ true
-      → Goal (turned (Disorder (place.number + 1)) (place.number + 1))
-  at_fall e sound apart got number begun is falls_now = by last begun is falls_now
+      → (same : Bool) → Goal (turned (Disorder (place.number + 1)) (place.number + 1) same)
+  at_fall e sound apart got number begun is falls_now same = by last begun is falls_now
     where
       by : (l : Option (List ℕ)) → Begun cmp key ls l → LastIs key l place before → falls cmp l (key e.line) ≡ true
-          → Next end cmp key old new (turned (Disorder (place.number + 1)) (place.number + 1)) place.previous before after ls l
+          → Next end cmp key old new (turned (Disorder (place.number + 1)) (place.number + 1) same) place.previous before after ls l
       by None b i f = absurd (false≢true f)
       by (Some k) b i f =
-          let kept : line after place.standing ≡ line before place.standing = ap (λ (s : Slots). line s place.standing) e.stored ∙ line_other before place.previous place.standing e.line (λ same. apart (sym same)) in
+          let kept : line after place.standing ≡ line before place.standing = ap (λ (s : Slots). line s place.standing) e.stored ∙ line_other before place.previous place.standing e.line (λ is. apart (sym is)) in
           let key_is : k ≡ key (line after place.standing) = i.1 ∙ ap key (sym kept) in
           let count : length ls + 1 ≡ place.number + 1 = omega arith in
           record {
@@ -188,7 +191,7 @@ module _ (end : ℕ) (cmp : Cmp) (o : IsKeyOrder cmp) (key : Key) (old now new :
             fits = (longer_by e.line).1;
           }
 
-  at_end : Closes place next now new before after → Got end old now ls → place.number ≡ length ls → Begun cmp key ls last → Goal (turned Ended place.number)
+  at_end : Closes place next now new before after → Got end old now ls → place.number ≡ length ls → Begun cmp key ls last → Goal (turned Ended place.number false)
   at_end e got number begun = record {
     now_ls = ls;
     bound = Over;
@@ -218,15 +221,51 @@ module _ (end : ℕ) (cmp : Cmp) (o : IsKeyOrder cmp) (key : Key) (old now new :
       → Next end cmp key old new next place.previous before after ls last
   goes_next within apart got number begun is (inl e) = by (falls cmp last (key e.gives.line)) refl
     where
-      place_is : (b : Bool) → falls cmp last (key e.gives.line) ≡ b → next ≡ turned (cond b (Disorder (place.number + 1)) Head) (place.number + 1)
-      place_is b h = e.place ∙ (λ i. turned ((stand_is cmp key last place before e.gives.line is ∙ ap (λ (t : Bool). cond t (Disorder (place.number + 1)) Head) h) i) (place.number + 1))
+      repeats : Bool
+      repeats = same_at key cmp place.number (line before place.standing) e.gives.line
+
+      place_is : (b : Bool) → falls cmp last (key e.gives.line) ≡ b → next ≡ turned (cond b (Disorder (place.number + 1)) Head) (place.number + 1) repeats
+      place_is b h = e.place ∙ (λ i. turned ((stand_is cmp key last place before e.gives.line is ∙ ap (λ (t : Bool). cond t (Disorder (place.number + 1)) Head) h) i) (place.number + 1) repeats)
 
       by : (b : Bool) → falls cmp last (key e.gives.line) ≡ b → Goal next
-      by true h = subst Goal (sym (place_is true h)) (at_fall e.gives e.sound apart got number begun is h)
-      by false h = subst Goal (sym (place_is false h)) (at_head e.gives e.sound within got number begun h)
+      by true h = subst Goal (sym (place_is true h)) (at_fall e.gives e.sound apart got number begun is h repeats)
+      by false h = subst Goal (sym (place_is false h)) (at_head e.gives e.sound within got number begun h repeats)
   goes_next within apart got number begun is (inr e) = subst Goal (sym e.place) (at_end e got number begun)
 
 -- each step leaves less to do
 pub comes_less : (key : Key) (cmp : Cmp) (place next : Sorted) (now new : Reader) (before after : Slots) → place.stand ≡ Head → Comes key cmp place next now new before after → budget new + alive next.stand < budget now + alive place.stand
 comes_less key cmp place next now new before after head (inl e) = omega (arith, e.gives.less, alive_most next.stand, ap alive head)
 comes_less key cmp place next now new before after head (inr e) = omega (arith, e.goes.reads.count, ap (λ (q : Sorted). alive q.stand) e.place, ap alive head)
+
+-- ---- an input stands at a line with the key of the line before
+
+-- a key that is no lesser one stands where it is the same
+stands_same : (n : ℕ) (r : Ordering) → is_eq r ≡ (is_head (cond (is_gt r) (Disorder n) Head) && is_eq r)
+stands_same n Less = refl
+stands_same n Equal = refl
+stands_same n Greater = refl
+
+pub comes_repeats : (cmp : Cmp) (o : IsKeyOrder cmp) (key : Key) (place next : Sorted) (now new : Reader) (before after : Slots) → 0 < place.number → place.previous < length before.lines → Comes key cmp place next now new before after
+    → next.same ≡ (is_head next.stand && bytes_eq (key (line before place.standing)) (key (line after next.standing)))
+comes_repeats cmp o key place next now new before after some within (inl e) = subst Goal (sym e.place) here
+  where
+    last : List ℕ
+    last = key (line before place.standing)
+
+    Goal : Sorted → Type 0
+    Goal q = q.same ≡ (is_head q.stand && bytes_eq last (key (line after q.standing)))
+
+    counted : nat_lt 0 place.number ≡ true
+    counted = grind (arith, nat_tests)
+
+    now_is : e.gives.line ≡ line after place.previous
+    now_is = sym (ap (λ (s : Slots). line s place.previous) e.gives.stored ∙ line_of before place.previous e.gives.line within)
+
+    here : same_at key cmp place.number (line before place.standing) e.gives.line ≡ (is_head (stand_at key cmp place.number (line before place.standing) e.gives.line) && bytes_eq last (key (line after place.previous)))
+    here =
+        let r = cmp last (key e.gives.line) in
+        let m = place.number + 1 in
+        ap (λ (t : Bool). t && is_eq r) counted ∙ stands_same m r ∙ ap (λ (t : Bool). is_head (cond (t && is_gt r) (Disorder m) Head) && is_eq r) (sym counted)
+        ∙ ap (λ (t : Bool). is_head (stand_at key cmp place.number (line before place.standing) e.gives.line) && t) (equal_is cmp o last (key e.gives.line) ∙ ap (λ (l : List ℕ). bytes_eq last (key l)) now_is)
+comes_repeats cmp o key place next now new before after some within (inr e) =
+    subst (λ (q : Sorted). q.same ≡ (is_head q.stand && bytes_eq (key (line before place.standing)) (key (line after q.standing)))) (sym e.place) refl

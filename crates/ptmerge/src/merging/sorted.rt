@@ -18,13 +18,15 @@ pub enum Stand {
 }
 
 // An input whose order is watched: the slots of the line at which it stands and of the line before, how many lines
-// came, and where it stands. Its reader is lent to each call that reads.
+// came, where it stands, and whether it stands at a line with the key of the line before. Its reader is lent to each
+// call that reads.
 #[derive(Clone, Copy, Drop)]
 pub struct Sorted {
     pub standing: usize,
     pub previous: usize,
     pub number: u64,
     pub stand: Stand,
+    pub same: bool,
 }
 
 // Where an input stands of which so many lines had come, if one more came.
@@ -38,6 +40,14 @@ fn stand_at(number: u64, falls: bool) -> Stand
     } else {
         Stand::Head
     }
+}
+
+// Whether such an input then stands at a line with the key of the line before.
+#[inline(always)]
+fn same_at(number: u64, equal: bool) -> bool
+    ensures { result ≡ (nat_lt 0 number && equal) }
+{
+    number > 0 && equal
 }
 
 impl Sorted {
@@ -56,6 +66,7 @@ impl Sorted {
             previous,
             number: 0,
             stand: Stand::Ended,
+            same: false,
         }
     }
 
@@ -84,6 +95,7 @@ impl Sorted {
             Ok(true) => {}
             Ok(false) => {
                 self.stand = Stand::Ended;
+                self.same = false;
                 return Ok(());
             }
             Err(LineFault::Read) => return Err(MergeFault::Read(side)),
@@ -91,8 +103,9 @@ impl Sorted {
         }
         let old = order.key(side, store.line(self.previous));
         let new = order.key(side, store.line(self.standing));
-        let falls = order.cmp(old, new).is_gt();
-        self.stand = stand_at(self.number, falls);
+        let ordering = order.cmp(old, new);
+        self.stand = stand_at(self.number, ordering.is_gt());
+        self.same = same_at(self.number, ordering.is_eq());
         self.number += 1;
         Ok(())
     }

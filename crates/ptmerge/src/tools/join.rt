@@ -236,13 +236,13 @@ fn join_in_order<K: KeyOrder, A: Allocator + Copy, S: Source, R: Source, W: Sink
             Phase::Gathering => {
                 send_before_wait(second, out)?;
                 end = gather(&mut merge, end, second, store)?;
-                if !merge.has_key_of(Side::Second, store.line(4), store) {
+                if !merge.repeats(Side::Second) {
                     phase = Phase::Pairing;
                 }
             }
             Phase::Pairing => {
                 pass_pairs(&mut merge, job, end, ending, first, store, out)?;
-                if !merge.has_key_of(Side::First, store.line(4), store) {
+                if !merge.repeats(Side::First) {
                     clear_group(store, end);
                     end = 4;
                     phase = Phase::Between;

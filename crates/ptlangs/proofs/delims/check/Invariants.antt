@@ -1,3 +1,4 @@
+-- What was read has no fault, so the first fault is that of the rest.
 use Rattle.std.proofs.Common.{◌≡◌, length}
 use Rattle.std.specs.Result.{result_err}
 use Rattle.ptlangs.specs.DelimLists.{delim_list}

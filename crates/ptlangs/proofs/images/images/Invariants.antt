@@ -1,3 +1,4 @@
+-- Below this byte the table has the images that the two strings give.
 use Rattle.std.proofs.Common.{◌≡◌, ◌<◌, ℕ, List, length, get_or, Ok}
 use Rattle.ptlangs.specs.declared.pieces.Piece.{Piece}
 use Rattle.ptlangs.specs.TrPlan.{array, collected, image_by, pieces_of}

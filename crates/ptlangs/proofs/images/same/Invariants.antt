@@ -1,3 +1,4 @@
+-- Below this byte each byte is its own image.
 use Rattle.std.proofs.Common.{◌≡◌, ◌<◌, ℕ, get_or}
 use Rattle.ptlangs.proofs.images.same.Given as goal
 

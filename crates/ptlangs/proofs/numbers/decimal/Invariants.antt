@@ -1,3 +1,4 @@
+-- The value is that of the digits so far, and fits. What is left of the number is its remaining digits.
 use Rattle.std.proofs.Common.{◌≡◌, ◌≤◌, drop}
 use Rattle.std.specs.Char.{is_ascii_digit}
 use Rattle.std.specs.List.{list_all}

@@ -1,3 +1,4 @@
+-- The elements that were read have no fault, so the first fault is that of the others.
 use Rattle.std.proofs.Common.{◌≡◌, length}
 use Rattle.std.specs.Result.{result_err}
 use Rattle.ptlangs.specs.CutLists.{element, cut_list}

@@ -26,10 +26,12 @@ overflow_add-place c =
 
 pub loop-piece-preserved : goal.loop-piece-preserved
 loop-piece-preserved c =
-    stands-more (pieces_of First c.args.first.now) (pieces_left c.loop-piece.piece-iterator) (pieces_left c.next.new.self) c.loop-piece.place c.args.at c.len-place.result c.args.class c.in_ok-piece.piece
+    stands-more (pieces_of First c.args.first.now) (pieces_left c.loop-piece.piece-iterator)
+    (pieces_left c.next.new.self) c.loop-piece.place c.args.at c.len-place.result c.args.class c.in_ok-piece.piece
     c.loop-piece.invariant (c.in-Some.ensures.steps ∙ ap (λ (x : Result Piece SetFaultKind). x ∷ pieces_left c.next.new.self) c.in_ok-piece.was) (sym (c.if-place_has.ensures 0))
     c.len-place.ensures.count c.len-place.ensures.short
 
 pub returns : goal.returns
 returns c = λ fs e.
-    ap Ok (sym (stands-end (pieces_of First c.args.first.now) (pieces_left c.loop-piece.piece-iterator) c.loop-piece.place c.args.at c.args.class c.loop-piece.invariant c.in-None.ensures.steps.0 fs e))
+    ap Ok (sym (stands-end (pieces_of First c.args.first.now) (pieces_left c.loop-piece.piece-iterator) c.loop-piece.place c.args.at c.args.class
+    c.loop-piece.invariant c.in-None.ensures.steps.0 fs e))

@@ -1,3 +1,4 @@
+-- The pieces so far do not have the class at that place, and the count is that of their places.
 use Rattle.ptlangs.specs.declared.pieces.Place.TheVariants.{First}
 use Rattle.ptlangs.specs.TrPlan.{pieces_of}
 use Rattle.ptlangs.proofs.TrWalks.{Walked}

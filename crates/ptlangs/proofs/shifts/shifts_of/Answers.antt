@@ -1,3 +1,5 @@
+-- From the end of the table on, a byte whose image is as far away as that of the next one belongs to the same stretch;
+-- any other begins a stretch, or belongs to none.
 use Rattle.std.proofs.Common.{◌≡◌, ◌+◌, ◌<◌, ◌-◌, List, drop, length, get_or, sym, ◌∙◌, ap, arith}
 use Rattle.std.proofs.lemmas.List.{drop_all}
 use Rattle.ptlangs.specs.declared.shifts.Stretch.{Stretch}
@@ -16,7 +18,14 @@ returns-then-not-put_in_front-clause-found c =
     let low : 0 < behind = c.loop-behind-test.true in
     let one = moved_one (behind - 1) behind images (omega (arith, low, c.told-images, c.loop-behind.invariant.0)) (omega (arith, low)) c.if-by-ne0.true in
     let by = shift_of (behind - 1) (get_or images (behind - 1) 0) in
-    omega (arith, no_more_behind (behind - 1) images, ap length one, c.put_in_front.ensures.full c.if-not-put_in_front.true, ap (λ (l : List Stretch). length (in_front (behind - 1) by l)) c.loop-behind.invariant.1)
+    omega (
+      arith,
+      no_more_behind (behind - 1) images,
+      ap length one,
+      c.put_in_front.ensures.full c.if-not-put_in_front.true,
+      ap
+          (λ (l : List Stretch). length (in_front (behind - 1) by l)) c.loop-behind.invariant.1,
+    )
 
 pub loop-behind-preserved : goal.loop-behind-preserved
 loop-behind-preserved c =

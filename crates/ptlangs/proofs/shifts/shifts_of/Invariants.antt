@@ -1,3 +1,4 @@
+-- The table is walked from its end. What was found are the stretches of the images from this byte on.
 use Rattle.std.proofs.Common.{◌≡◌, ◌≤◌, drop}
 use Rattle.ptlangs.specs.TrShifts.{stretches_from}
 use Rattle.ptlangs.proofs.shifts.shifts_of.Given as goal

@@ -1,3 +1,4 @@
+-- The value is that of the digits so far, and is within the limit.
 use Rattle.std.proofs.Common.{◌≡◌, ◌≤◌, take}
 use Rattle.std.specs.Str.Parse.{digits_value}
 use Rattle.ptlangs.proofs.units.number.Given as goal

@@ -1,3 +1,4 @@
+-- Up to here both are the same bytes, so what decides comes later.
 use Rattle.std.proofs.Common.{◌≡◌, ◌-◌, ◌≤◌, take}
 use Rattle.ptlines.proofs.comparing.compare_on.Given as goal
 

@@ -12,23 +12,29 @@ on_err (Err e) P Q f p = f p
 
 pub returns-then-from-to-clause-ok : goal.returns-then-from-to-clause-ok
 returns-then-from-to-clause-ok g c =
-    on_ok c.append.result _ _ (appended_behind c.args.slots.now _ _ c.args.from c.args.to _ _ c.append.new.self _ c.if-from-to.true c.requires.to_in c.split_at_mut-front.ensures.front c.split_at_mut-front.ensures.back c.line.ensures.line) c.append.ensures.ok
+    on_ok c.append.result _ _ (appended_behind c.args.slots.now _ _ c.args.from c.args.to _ _ c.append.new.self _ c.if-from-to.true c.requires.to_in
+    c.split_at_mut-front.ensures.front c.split_at_mut-front.ensures.back c.line.ensures.line) c.append.ensures.ok
 
 pub returns-then-from-to-clause-short : goal.returns-then-from-to-clause-short
 returns-then-from-to-clause-short g c =
-    short_behind c.args.slots.now _ _ c.args.from c.args.to c.index-back-0.result c.index-back-0.result c.append.new.self c.line.result.now c.if-from-to.true c.requires.to_in c.split_at_mut-front.ensures.front c.split_at_mut-front.ensures.back c.append.ensures.short
+    short_behind c.args.slots.now _ _ c.args.from c.args.to c.index-back-0.result c.index-back-0.result c.append.new.self c.line.result.now c.if-from-to.true
+    c.requires.to_in c.split_at_mut-front.ensures.front c.split_at_mut-front.ensures.back c.append.ensures.short
 
 pub returns-else-from-to-clause-ok : goal.returns-else-from-to-clause-ok
 returns-else-from-to-clause-ok g c =
     let near : c.args.to < c.args.from = omega (arith, c.if-from-to.false, c.requires.differ) in
-    on_ok c.append-else-from-to.result _ _ (appended_before c.args.slots.now _ _ c.args.from c.args.to _ _ c.append-else-from-to.new.self _ near c.requires.from_in c.split_at_mut-front-else-from-to.ensures.front c.split_at_mut-front-else-from-to.ensures.back c.line-else-from-to.ensures.line) c.append-else-from-to.ensures.ok
+    on_ok c.append-else-from-to.result _ _ (appended_before c.args.slots.now _ _ c.args.from c.args.to _ _ c.append-else-from-to.new.self _ near
+    c.requires.from_in c.split_at_mut-front-else-from-to.ensures.front c.split_at_mut-front-else-from-to.ensures.back c.line-else-from-to.ensures.line) c.append-else-from-to.ensures.ok
 
 pub returns-else-from-to-clause-err : goal.returns-else-from-to-clause-err
 returns-else-from-to-clause-err g c =
     let near : c.args.to < c.args.from = omega (arith, c.if-from-to.false, c.requires.differ) in
-    on_err c.append-else-from-to.result _ _ (same_before c.args.slots.now _ _ c.args.from c.args.to _ c.line-else-from-to.result.now c.append-else-from-to.new.self c.line-else-from-to.result.now near c.requires.from_in c.split_at_mut-front-else-from-to.ensures.front c.split_at_mut-front-else-from-to.ensures.back) c.append-else-from-to.ensures.err
+    on_err c.append-else-from-to.result _ _ (same_before c.args.slots.now _ _ c.args.from c.args.to _ c.line-else-from-to.result.now
+    c.append-else-from-to.new.self c.line-else-from-to.result.now near c.requires.from_in c.split_at_mut-front-else-from-to.ensures.front
+    c.split_at_mut-front-else-from-to.ensures.back) c.append-else-from-to.ensures.err
 
 pub returns-else-from-to-clause-short : goal.returns-else-from-to-clause-short
 returns-else-from-to-clause-short g c =
     let near : c.args.to < c.args.from = omega (arith, c.if-from-to.false, c.requires.differ) in
-    short_before c.args.slots.now _ _ c.args.from c.args.to c.index-front-to.result c.line-else-from-to.result.now c.append-else-from-to.new.self c.line-else-from-to.result.now near c.requires.from_in c.split_at_mut-front-else-from-to.ensures.front c.split_at_mut-front-else-from-to.ensures.back c.append-else-from-to.ensures.short
+    short_before c.args.slots.now _ _ c.args.from c.args.to c.index-front-to.result c.line-else-from-to.result.now c.append-else-from-to.new.self
+    c.line-else-from-to.result.now near c.requires.from_in c.split_at_mut-front-else-from-to.ensures.front c.split_at_mut-front-else-from-to.ensures.back c.append-else-from-to.ensures.short

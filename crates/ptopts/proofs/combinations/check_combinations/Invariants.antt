@@ -1,3 +1,4 @@
+-- The combinations so far are not broken, so the first that is broken is among the others.
 use Rattle.std.proofs.Common.{◌≡◌, drop, map}
 use Rattle.ptopts.specs.Faults.{first_of, combined_fault, combination_fault}
 use Rattle.ptopts.specs.Steps.{options_seen}

@@ -20,11 +20,13 @@ returns-then-not-has_flag-clause-ok g c =
     let within : c.loop-place.place < length word = omega arith in
     let none : is_flag c.args.tool (slice_index word c.loop-place.place) ≡ false = cc in
     let fine = rw c.deref.ensures.value at c.in_ok-option.ensures.fault in
-    rw c.as_bytes-letters.ensures.value (value_read c.args.tool word _ _ c.loop-place.options.items c.push.new.self.items c.loop-place.place c.in_ok-option.option within none c.in_ok-option.ensures.read fine c.in_ok-push.ensures.items c.loop-place.invariant)
+    rw c.as_bytes-letters.ensures.value (value_read c.args.tool word _ _ c.loop-place.options.items c.push.new.self.items c.loop-place.place
+    c.in_ok-option.option within none c.in_ok-option.ensures.read fine c.in_ok-push.ensures.items c.loop-place.invariant)
 
 pub loop-place-preserved : goal.loop-place-preserved
 loop-place-preserved g c =
     let word = c.args.word.now in
     let within : c.loop-place.place < length word = omega arith in
     let is : is_flag c.args.tool (slice_index word c.loop-place.place) ≡ true = cc in
-    flag_read c.args.tool word _ _ c.loop-place.options.items c.push-in-loop-place.new.self.items c.loop-place.place _ within is (rw c.as_bytes-letters.ensures.value refl) c.in_ok-push-2.ensures.items c.loop-place.invariant
+    flag_read c.args.tool word _ _ c.loop-place.options.items c.push-in-loop-place.new.self.items c.loop-place.place _ within is
+    (rw c.as_bytes-letters.ensures.value refl) c.in_ok-push-2.ensures.items c.loop-place.invariant

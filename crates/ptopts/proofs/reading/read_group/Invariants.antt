@@ -1,3 +1,4 @@
+-- The letters so far are options of the group; the rest of the word says what it is.
 use Rattle.std.proofs.Common.{drop, option_map}
 use Rattle.ptopts.specs.Steps.{options_seen}
 use Rattle.ptopts.proofs.Groups.{Ahead}

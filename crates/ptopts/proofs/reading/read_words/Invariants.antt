@@ -1,3 +1,4 @@
+-- The words so far were read as the grammar has it; the rest is still to be read.
 use Rattle.std.proofs.Common.{length}
 use Rattle.ptopts.specs.Meant.{words_seen}
 use Rattle.ptopts.specs.Steps.{options_seen}

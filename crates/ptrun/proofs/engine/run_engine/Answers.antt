@@ -30,7 +30,7 @@ returns-then-lacks_inputs-clause-run g c =
     rw c.quiet_report.ensures
     (lacking (g.G.Engine.meaning c.args.engine.now) c.args.inputs.now c.requires.given.fresh (g.W.Sink.state c.args.out) c.args.voice c.lacks_inputs.new.voice c.requires.writable
     (subst (λ (b : Bool). Tells c.args.voice c.lacks_inputs.new.voice (cond b (unopened (g.G.Engine.meaning c.args.engine.now).tool (g.G.Engine.meaning c.args.engine.now).names (shut c.args.inputs.now) (g.G.Engine.meaning c.args.engine.now).places) [])) c.if-lacks_inputs.true c.lacks_inputs.ensures.tells)
-    (c.lacks_inputs.ensures.nothing c.if-lacks_inputs.true) (c.lacks_inputs.ensures.at_once c.if-lacks_inputs.true))
+    (c.lacks_inputs.ensures.nothing c.if-lacks_inputs.true) (c.lacks_inputs.ensures.at_once c.if-lacks_inputs.true) (c.lacks_inputs.ensures.undecided c.if-lacks_inputs.true))
 
 none_said : (a b : SinkState) (text : List ℕ) (lacks : Bool) → lacks ≡ false → Tells a b (cond lacks text []) → Tells a b []
 none_said a b text lacks is tells = subst (λ (l : Bool). Tells a b (cond l text [])) is tells

@@ -7,7 +7,7 @@ use Rattle.ptrun.specs.Worlds.{reader_at, no_reader, is_in, at}
 use Rattle.ptrun.specs.Sayings.{Tells, line_of}
 use Rattle.ptrun.specs.Operands.{places, one_by_one}
 use Rattle.ptrun.specs.Engines.{blame, Went}
-use Rattle.ptrun.proofs.InTurn.{pass_nothing, works_all, pass_all, pass_unopened, pass_done, pass_stopped, decided_by_law, ready_of}
+use Rattle.ptrun.proofs.InTurn.{pass_nothing, keeps_all, pass_all, pass_unopened, pass_done, pass_stopped, decided_by_law, ready_of}
 use Rattle.ptrun.proofs.Order.{fresh_all, places_next, places_split, places_end, pass_here}
 use Rattle.ptrun.proofs.operands.go_over_each.Goals as goal
 use Rattle.ptrun.proofs.operands.go_over_each.Goals.{then-is_refused, else-is_refused+in-Ok}
@@ -103,5 +103,5 @@ returns g c =
     (places_end c.args.order.now c.loop-input.input-index c.loop-input-test.false)
     (pass_all word t names c.args.inputs.now (fresh_all c.args.inputs.now c.requires.fresh) c.args.out.now c.args.voice.now c.args.store.now c.loop-input.inputs c.loop-input.out c.loop-input.voice c.loop-input.store
     (take c.loop-input.input-index (places c.args.order.now)) c.loop-input.done c.loop-input.invariant
-    (works_all word t names c.args.inputs.now (fresh_all c.args.inputs.now c.requires.fresh) c.args.out.now c.args.voice.now c.args.store.now (g.met.T.OneByOne.all_decided c.args.tool.now) c.loop-input.inputs c.loop-input.out c.loop-input.voice c.loop-input.store
+    (keeps_all word t names c.args.inputs.now (fresh_all c.args.inputs.now c.requires.fresh) c.args.out.now c.args.voice.now c.args.store.now (g.met.T.OneByOne.all_decided c.args.tool.now) c.loop-input.inputs c.loop-input.out c.loop-input.voice c.loop-input.store
     (take c.loop-input.input-index (places c.args.order.now)) c.loop-input.done c.loop-input.invariant))

@@ -13,7 +13,8 @@ pub returns-in_err-need_slots : goal.returns-in_err-need_slots
 returns-in_err-need_slots g c =
     let e = err_from_is_err_and c.from_residual.result c.from_residual.ensures.1 in
     rw (e.1, e.2, c.in_err-need_slots.ensures.err)
-    (turning_unslotted (uniq_job c.args.job.now) c.args.reader.now c.args.out.now c.args.store.now c.need_slots.new.store c.requires.ready c.requires.sound c.requires.clean c.need_slots.ensures.adds c.in_err-need_slots.ensures.denied c.need_slots.ensures.same_peak)
+    (turning_unslotted (uniq_job c.args.job.now) c.args.reader.now c.args.out.now c.args.store.now c.need_slots.new.store c.requires.ready c.requires.sound c.requires.ending c.requires.clean
+    c.need_slots.ensures.adds c.in_err-need_slots.ensures.denied c.need_slots.ensures.same_peak)
 
 pub turns-init : goal.turns-init
 turns-init g c =

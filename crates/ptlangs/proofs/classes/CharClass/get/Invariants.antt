@@ -1,3 +1,4 @@
+-- The byte that is asked for stands so far behind the beginning of the ranges that are left.
 use Rattle.std.proofs.Common.{◌≡◌, drop}
 use Rattle.std.specs.List.{flat_map, slice_get}
 use Rattle.ptlangs.specs.TrClasses.{range_bytes}

@@ -1,3 +1,4 @@
+-- The count is that of the bytes in the ranges so far.
 use Rattle.std.proofs.Common.{◌≡◌, length, take}
 use Rattle.std.specs.List.{flat_map}
 use Rattle.ptlangs.specs.TrClasses.{range_bytes}

@@ -8,4 +8,5 @@ use Rattle.ptlangs.proofs.delims.Delims.read.Goals as goal
 pub loop-kept-preserved : goal.loop-kept-preserved
 loop-kept-preserved g c =
     let some : 0 < length c.in_ok-delim.behind.now = grind (arith, nat_tests) in
-    rw c.in_ok-push.ensures.items (c.loop-kept.invariant ∙ ap (behind c.loop-kept.kept.items) c.in_ok-delim.ensures.first ∙ behind-put_first c.loop-kept.kept.items c.in_ok-delim.delim (delims c.in_ok-delim.behind.now) ∙ ap (behind _) (delims_of_some c.in_ok-delim.behind.now some))
+    rw c.in_ok-push.ensures.items (c.loop-kept.invariant ∙ ap (behind c.loop-kept.kept.items) c.in_ok-delim.ensures.first
+    ∙ behind-put_first c.loop-kept.kept.items c.in_ok-delim.delim (delims c.in_ok-delim.behind.now) ∙ ap (behind _) (delims_of_some c.in_ok-delim.behind.now some))

@@ -1,3 +1,4 @@
+-- What was kept stands in front of what the rest of the list says; so a fault of the rest is that of the whole.
 use Rattle.std.proofs.Common.{◌≡◌, length}
 use Rattle.ptlangs.specs.DelimLists.{delim_list}
 use Rattle.ptlangs.proofs.Elements.{behind}

@@ -9,7 +9,8 @@ use Rattle.ptlangs.specs.TrReading.{pieces_left}
 filled_is : (c : goal.After-self-in-Ok-1) → c.if-self-2.self ≡ (c.args.self.now.filled || is_fill c.new-piece.result)
 filled_is c = elim c.if-self-2.branch [ then-self-2 w ↦ rw (w.self-is, w.if-self-2.true) refl | else-self-2 w ↦ rw (w.self-is, w.is_fill_read-self.ensures, w.if-self-2.false) refl ]
 
-steps-Ok : (c : goal.After-self-in-Ok-1) → pieces_left c.args.self.now ≡ c.new-piece.result ∷ pieces_left record { text = c.args.self.now.text; at = c.in-Ok.next; place = c.args.self.now.place; filled = c.if-self-2.self }
+steps-Ok : (c : goal.After-self-in-Ok-1) → pieces_left c.args.self.now ≡ c.new-piece.result ∷ pieces_left record
+    { text = c.args.self.now.text; at = c.in-Ok.next; place = c.args.self.now.place; filled = c.if-self-2.self }
 steps-Ok c =
     let s = c.args.self.now in
     rw (filled_is c)
@@ -21,7 +22,8 @@ returns-after-self-2-clause-steps c = steps-Ok c
 pub returns-after-self-2-clause-goes : goal.returns-after-self-2-clause-goes
 returns-after-self-2-clause-goes c = record { on = λ h. (tt, tt, omega (arith, ap length (steps-Ok c))); keeps = tt; rests = λ h. tt }
 
-steps-Err : (c : goal.After-self-in-Err-1) → pieces_left c.args.self.now ≡ Err c.in-Err.kind ∷ pieces_left record { text = c.args.self.now.text; at = length c.args.self.now.text.now; place = c.args.self.now.place; filled = c.args.self.now.filled }
+steps-Err : (c : goal.After-self-in-Err-1) → pieces_left c.args.self.now
+    ≡ Err c.in-Err.kind ∷ pieces_left record { text = c.args.self.now.text; at = length c.args.self.now.text.now; place = c.args.self.now.place; filled = c.args.self.now.filled }
 steps-Err c =
     let s = c.args.self.now in
     pieces-fault s.place s.filled s.text.now s.at (length s.text.now) c.in-Err.kind c.if-self.false (omega arith) c.in-Err.ensures.reads

@@ -1,3 +1,4 @@
+-- The complement has the bytes below this one that are not in the set, in their order. At most so many were put.
 use Rattle.std.proofs.Common.{◌≡◌, ◌≤◌, ℕ, List}
 use Rattle.ptlangs.proofs.TrComplement.{others_below}
 use Rattle.ptlangs.proofs.places.Places.complement.Given as goal

@@ -1,3 +1,4 @@
+-- The bytes of the class's ranges so far were put.
 use Rattle.std.proofs.Common.{◌≡◌, ◌+◌, length, take}
 use Rattle.std.specs.List.{flat_map}
 use Rattle.ptlangs.specs.TrClasses.{range_bytes}

@@ -1,3 +1,4 @@
+-- The bytes of the range below this one were put. An empty range puts none.
 use Rattle.std.proofs.Common.{◌≡◌, ◌<◌, ◌+◌, ◌-◌}
 use Rattle.std.specs.List.{range_with_len}
 use Rattle.ptlangs.proofs.places.Places.push_range.Given as goal

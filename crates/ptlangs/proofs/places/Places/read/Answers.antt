@@ -1,3 +1,5 @@
+-- A walk over the pieces: a piece with a fault is the fault of the string, and the places of the pieces so far are at
+-- most as many as the bound on all of them.
 use Rattle.std.proofs.Common.{◌≡◌, ◌∷◌, ◌∙◌, length, refl, ap, arith, Result, Err}
 use Rattle.std.proofs.lemmas.Result.{err_from_is_err_and}
 use Rattle.ptlangs.specs.declared.faults.SetFaultKind.{SetFaultKind}
@@ -32,7 +34,8 @@ loop-piece-preserved c =
 
 pub returns-clause-places : goal.returns-clause-places
 returns-clause-places c =
-    let end = walk_end (pieces_of c.args.place c.args.text.now) (pieces_left c.loop-piece.piece-iterator) (HasPlaces c.args.fill c.loop-piece.places) c.loop-piece.invariant c.in-None.ensures.steps.0 in
+    let end = walk_end (pieces_of c.args.place c.args.text.now) (pieces_left c.loop-piece.piece-iterator)
+    (HasPlaces c.args.fill c.loop-piece.places) c.loop-piece.invariant c.in-None.ensures.steps.0 in
     rw (end, c.loop-piece.invariant.holds.places_is) refl
 
 pub returns-clause-bound : goal.returns-clause-bound

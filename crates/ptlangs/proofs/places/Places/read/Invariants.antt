@@ -1,3 +1,4 @@
+-- The pieces that were walked have their places; the others are still to be walked.
 use Rattle.ptlangs.specs.TrPlan.{pieces_of}
 use Rattle.ptlangs.proofs.TrWalks.{Walked}
 use Rattle.ptlangs.proofs.TrPlaces.{HasPlaces}

@@ -1,3 +1,4 @@
+-- The byte that is asked for is not in the pieces so far; it stands so many places behind them.
 use Rattle.ptlangs.specs.TrPlan.{pieces_of}
 use Rattle.ptlangs.proofs.TrWalks.{Walked}
 use Rattle.ptlangs.proofs.TrSecond.{IsBehind}

@@ -1,3 +1,5 @@
+-- A walk over the pieces of the second string: the first class without one that it faces refuses the pair, and a fault
+-- in a piece is told by another reading.
 use Rattle.std.proofs.Common.{◌≡◌, ◌∷◌, ◌∙◌, [], Bool, false, ap, sym, arith, Result, Ok, Err}
 use Rattle.ptlangs.specs.declared.faults.SetFaultKind.{SetFaultKind}
 use Rattle.ptlangs.specs.declared.pieces.Piece.{Piece}
@@ -17,7 +19,8 @@ same_bool r b d e f = cc
 pub returns-in_err-piece : goal.returns-in_err-piece
 returns-in_err-piece c = λ fs ps f e.
     let s = c.args.self.now in
-    walk_never (pieces_of s.place s.text.now) (pieces_left c.loop-piece.piece-iterator) (pieces_left c.next.new.self) (Faced s.fill c.loop-piece.at (collected (pieces_of First c.args.first.now))) c.in_err-piece.field-0.0 ps
+    walk_never (pieces_of s.place s.text.now) (pieces_left c.loop-piece.piece-iterator) (pieces_left c.next.new.self)
+    (Faced s.fill c.loop-piece.at (collected (pieces_of First c.args.first.now))) c.in_err-piece.field-0.0 ps
     c.loop-piece.invariant (c.in-Some.ensures.steps ∙ ap (λ (x : Result Piece SetFaultKind). x ∷ pieces_left c.next.new.self) c.in_err-piece.was) e
 
 pub returns-in_err-is_faced : goal.returns-in_err-is_faced
@@ -28,7 +31,8 @@ returns-then-not-branch c = λ fs ps f e.
     let s = c.args.self.now in
     let unfaced : is_paired (class_places 0 0 fs) (class_places s.fill c.loop-piece.at (c.in_ok-piece.piece ∷ [])) ≡ false =
     sym (same_bool c.is_faced.result _ _ c.in_ok-is_faced.was (c.is_faced.ensures s.fill fs f)) ∙ c.if-not-branch.true in
-    ap Ok (sym (paired-unfaced (pieces_of s.place s.text.now) (pieces_left c.loop-piece.piece-iterator) (pieces_left c.next.new.self) s.fill c.loop-piece.at (collected (pieces_of First c.args.first.now)) c.in_ok-piece.piece
+    ap Ok (sym (paired-unfaced (pieces_of s.place s.text.now) (pieces_left c.loop-piece.piece-iterator) (pieces_left c.next.new.self) s.fill c.loop-piece.at
+    (collected (pieces_of First c.args.first.now)) c.in_ok-piece.piece
     c.loop-piece.invariant (c.in-Some.ensures.steps ∙ ap (λ (x : Result Piece SetFaultKind). x ∷ pieces_left c.next.new.self) c.in_ok-piece.was) fs ps f unfaced e))
 
 pub overflow_add-at : goal.overflow_add-at
@@ -41,7 +45,8 @@ overflow_add-at c =
 pub loop-piece-preserved : goal.loop-piece-preserved
 loop-piece-preserved c =
     let s = c.args.self.now in
-    paired-more (pieces_of s.place s.text.now) (pieces_left c.loop-piece.piece-iterator) (pieces_left c.next.new.self) s.fill c.loop-piece.at c.len.result (collected (pieces_of First c.args.first.now)) c.in_ok-piece.piece
+    paired-more (pieces_of s.place s.text.now) (pieces_left c.loop-piece.piece-iterator) (pieces_left c.next.new.self) s.fill c.loop-piece.at c.len.result
+    (collected (pieces_of First c.args.first.now)) c.in_ok-piece.piece
     c.loop-piece.invariant (c.in-Some.ensures.steps ∙ ap (λ (x : Result Piece SetFaultKind). x ∷ pieces_left c.next.new.self) c.in_ok-piece.was)
     (λ fs f. sym (same_bool c.is_faced.result _ _ c.in_ok-is_faced.was (c.is_faced.ensures s.fill fs f)) ∙ c.if-not-branch.false)
     c.len.ensures.count c.len.ensures.short
@@ -49,4 +54,5 @@ loop-piece-preserved c =
 pub returns : goal.returns
 returns c = λ fs ps f e.
     let s = c.args.self.now in
-    ap Ok (sym (paired-end (pieces_of s.place s.text.now) (pieces_left c.loop-piece.piece-iterator) s.fill c.loop-piece.at (collected (pieces_of First c.args.first.now)) c.loop-piece.invariant c.in-None.ensures.steps.0 fs ps f e))
+    ap Ok (sym (paired-end (pieces_of s.place s.text.now) (pieces_left c.loop-piece.piece-iterator) s.fill c.loop-piece.at
+    (collected (pieces_of First c.args.first.now)) c.loop-piece.invariant c.in-None.ensures.steps.0 fs ps f e))

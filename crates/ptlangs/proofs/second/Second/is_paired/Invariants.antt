@@ -1,3 +1,4 @@
+-- Each class in the pieces so far faces one of the first string.
 use Rattle.ptlangs.specs.declared.pieces.Place.TheVariants.{First}
 use Rattle.ptlangs.specs.TrPlan.{collected, pieces_of}
 use Rattle.ptlangs.proofs.TrWalks.{Walked}

@@ -9,4 +9,5 @@ returns c =
     let byte = c.args.byte in
     let ss = take c.self.inside.count c.self.inside.stretches in
     c.loop-stretch.invariant
-    ∙ ap (λ (n : ℕ). (byte + n) % 256) (ap (λ (l : List Stretch). moved l byte) (take_all c.loop-stretch.stretch-index ss (omega (arith, c.loop-stretch-test.false))) ∙ sym (moved_reversed ss byte) ∙ ap (λ (l : List Stretch). moved l byte) c.self.view_is)
+    ∙ ap (λ (n : ℕ). (byte + n) % 256) (ap (λ (l : List Stretch). moved l byte)
+    (take_all c.loop-stretch.stretch-index ss (omega (arith, c.loop-stretch-test.false))) ∙ sym (moved_reversed ss byte) ∙ ap (λ (l : List Stretch). moved l byte) c.self.view_is)

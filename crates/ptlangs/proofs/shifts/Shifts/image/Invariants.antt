@@ -1,3 +1,4 @@
+-- The stretches so far have added what they add to this byte, modulo 256.
 use Rattle.std.proofs.Common.{◌≡◌, ◌+◌, ◌%◌, take}
 use Rattle.std.specs.Prelude.{sum_by}
 use Rattle.ptlangs.specs.TrShifts.{added}

@@ -8,7 +8,8 @@ returns-in_err-push-clause-wrote g c =
     let lead = c.args.lead.now in
     let line = c.args.line.now in
     let end = c.args.ending.now in
-    subst (λ (t : List ℕ). Wrote c.args.self.now c.push.new.self t) (sym (append_assoc lead line end)) (wrote_past c.args.self.now c.push.new.self lead (line ++ end) c.in_err-push.ensures.fault c.push.ensures.wrote)
+    subst (λ (t : List ℕ). Wrote c.args.self.now c.push.new.self t) (sym (append_assoc lead line end))
+    (wrote_past c.args.self.now c.push.new.self lead (line ++ end) c.in_err-push.ensures.fault c.push.ensures.wrote)
 
 pub returns-in_err-push-2-clause-wrote : goal.returns-in_err-push-2-clause-wrote
 returns-in_err-push-2-clause-wrote g c =

@@ -14,10 +14,12 @@ pieces-preserved g c =
 
 pub returns-in-Line-clause-fills : goal.returns-in-Line-clause-fills
 returns-in-Line-clause-fills g c =
-    line_done c.args.self.now c.pieces.self c.step.new.self c.args.store.now c.pieces.store c.step.new.store c.args.slot c.requires.in_store (c.requires.sound.long c.requires.clean) c.pieces.invariant.0 (rw c.in-Line.is at c.in_ok-step.ensures.steps)
+    line_done c.args.self.now c.pieces.self c.step.new.self c.args.store.now c.pieces.store c.step.new.store c.args.slot c.requires.in_store
+    (c.requires.sound.long c.requires.clean) c.pieces.invariant.0 (rw c.in-Line.is at c.in_ok-step.ensures.steps)
 
 pub returns-in-End-clause-fills : goal.returns-in-End-clause-fills
 returns-in-End-clause-fills g c =
     let e = rw c.in-End.is at c.in_ok-step.ensures.steps in
-    end_done c.args.self.now c.pieces.self c.step.new.self c.args.store.now c.pieces.store c.step.new.store c.args.slot c.is_empty.result c.requires.in_store (c.requires.sound.long c.requires.clean) c.pieces.invariant.0 e.0 e.1 e.2
+    end_done c.args.self.now c.pieces.self c.step.new.self c.args.store.now c.pieces.store c.step.new.store c.args.slot c.is_empty.result c.requires.in_store
+    (c.requires.sound.long c.requires.clean) c.pieces.invariant.0 e.0 e.1 e.2
     (c.is_empty.ensures ∙ ap (λ (l : List ℕ). length l == 0) c.line.ensures)

@@ -11,6 +11,12 @@ returns-clause-line g c given =
     let held = ap (λ (r : Reader). r.held) c.self.view_is in
     let fits : r.end ≤ length r.block = omega (arith, c.self.invariant.1, c.self.told) in
     let high : c.in-Some.at < r.end = omega (arith, c.if-at-self.false) in
-    let short : c.args.self.now.pulled < 2 ^ 63 = omega (arith, c.self.invariant.3.long (ap (λ (r : Reader). r.fault) c.self.view_is ∙ c.requires.clean), ap (λ (r : Reader). r.pulled) c.self.view_is) in
+    let short : c.args.self.now.pulled < 2 ^ 63 = omega (
+      arith,
+      c.self.invariant.3.long (ap (λ (r : Reader). r.fault) c.self.view_is ∙ c.requires.clean),
+      ap
+          (λ (r : Reader). r.pulled) c.self.view_is,
+    ) in
     let first = subst (λ (b : ℕ). IsFirst (Passes (is_byte b) r.block) r.start (r.start + 64) (Some c.in-Some.at)) (ap (λ (r : Reader). r.ending) c.self.view_is) c.in-Some.ensures in
-    near_done c.args.self.now _ r.block r.start r.end c.in-Some.at c.args.store.now c.put_near.new.self c.args.slot c.requires.clean short high fits held first (λ i. record (c.self.view_is i) { held = slice_range r.block (c.in-Some.at + 1) r.end }) c.put_near.ensures
+    near_done c.args.self.now _ r.block r.start r.end c.in-Some.at c.args.store.now c.put_near.new.self c.args.slot c.requires.clean short high fits held first
+    (λ i. record (c.self.view_is i) { held = slice_range r.block (c.in-Some.at + 1) r.end }) c.put_near.ensures

@@ -1,3 +1,5 @@
+-- The slot that is copied from lies in front of the cut or behind it; either way one slot is set, and the sum of all
+-- lengths grows by its line. Where the growth is refused the slots are those from before.
 use Rattle.std.proofs.Common.{◌≡◌, [], get_or, set, max, sym, ◌∙◌, ap, subst, arith}
 use Rattle.std.proofs.lemmas.List.{with_items_is}
 use Rattle.std.specs.Vec.{with_items}

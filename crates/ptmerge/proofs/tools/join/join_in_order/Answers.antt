@@ -1,5 +1,4 @@
-use Rattle.std.proofs.Common.{◌≡◌, ◌+◌, ◌&&◌, ℕ, List, [], ◌∷◌, Err, refl, sym, ◌∙◌, ap, subst, arith}
-use Rattle.std.specs.Prelude.{bytes_eq}
+use Rattle.std.proofs.Common.{◌≡◌, ◌+◌, ℕ, [], ◌∷◌, Err, refl, sym, ◌∙◌, ap, subst, arith}
 use Rattle.std.proofs.lemmas.Result.{err_from_is_err_and}
 use Rattle.ptlangs.specs.Jobs.{join_job}
 use Rattle.ptlines.specs.Readers.{Reader, IsSound}
@@ -8,7 +7,7 @@ use Rattle.ptmerge.specs.declared.tools.join.Phase.{Phase}
 use Rattle.ptmerge.specs.declared.order.Side.{Side}
 use Rattle.ptmerge.specs.declared.order.Side.TheVariants as sides
 use Rattle.ptmerge.specs.declared.merging.sorted.Sorted.{Sorted}
-use Rattle.ptmerge.specs.Groups.{Gathered, Gathers, group, is_head}
+use Rattle.ptmerge.specs.Groups.{Gathered, Gathers, group}
 use Rattle.ptmerge.specs.Join.{alone_entry, join_by, join_key, pairs_of}
 use Rattle.ptmerge.specs.Keyed.{by_keys}
 use Rattle.ptmerge.specs.LinePasses.{PassesLine}
@@ -356,8 +355,8 @@ returns-in_err-end-in-Gathering-clause-refused g c =
     let more = gather_slots tool i.o pairs laws old i.unfailed (key sides.Second) cmp c.turns.merge.second c.gather.new.merge.second c.turns.second c.gather.new.reader c.turns.store c.gather.new.store c.turns.end c.in_err-end-in-Gathering.field-0.0 gathers i.placed.slots in
     λ few. absurd (omega (arith, few, more.1))
 
-pub turns-preserved-then-not-has_key_of : goal.turns-preserved-then-not-has_key_of
-turns-preserved-then-not-has_key_of g c =
+pub turns-preserved-then-not-repeats : goal.turns-preserved-then-not-repeats
+turns-preserved-then-not-repeats g c =
     let i = c.turns.invariant in
     let cmp = g.K.KeyOrder.order c.args.order in
     let key = g.K.KeyOrder.key_of c.args.order in
@@ -378,10 +377,9 @@ turns-preserved-then-not-has_key_of g c =
     let goes = gathered tool i.o pairs laws old i.unfailed sent place c.turns.end r slots clean c.gather.new.reader c.gather.new.merge.second c.gather.new.store moved in
     let next = c.gather.new.merge.second in
     let after = c.gather.new.store in
-    let says = subst (λ k. c.has_key_of.result ≡ (is_head next.stand && bytes_eq (g.K.KeyOrder.key_of k sides.Second (line after next.standing)) (g.K.KeyOrder.key_of k sides.Second c.line.result.now))) (c.gather.ensures.order ∙ i.order) c.has_key_of.ensures
-    ∙ ap (λ (l : List ℕ). is_head next.stand && bytes_eq (key sides.Second (line after next.standing)) (key sides.Second l)) c.line.ensures in
+    let says : c.repeats.result ≡ next.same = c.repeats.ensures in
     let then_now = seen c.turns.first c.gather.new.reader c.send_before_wait.new.out c.gather.new.store in
-    let t = pairs_next tool i.o pairs laws old i.unfailed sent place c.turns.end r slots clean c.gather.new.reader next after goes c.has_key_of.result says c.if-not-has_key_of.true in
+    let t = pairs_next tool i.o pairs laws old i.unfailed sent place c.turns.end r slots clean c.gather.new.reader next after goes (sym says ∙ c.if-not-repeats.true) in
     let u = subst (λ (e : ℕ). Pairing tool i.o pairs laws old i.unfailed then_now (both c.gather.new.merge.first next) e) (sym is.0) (subst (λ (q : Sorted). Pairing tool i.o pairs laws old i.unfailed then_now (both q next) (c.turns.end + 1)) (sym c.gather.ensures.other) t) in
     record {
       o = i.o;
@@ -394,8 +392,8 @@ turns-preserved-then-not-has_key_of g c =
       order = c.gather.ensures.order ∙ i.order;
     }
 
-pub turns-preserved-else-not-has_key_of : goal.turns-preserved-else-not-has_key_of
-turns-preserved-else-not-has_key_of g c =
+pub turns-preserved-else-not-repeats : goal.turns-preserved-else-not-repeats
+turns-preserved-else-not-repeats g c =
     let i = c.turns.invariant in
     let cmp = g.K.KeyOrder.order c.args.order in
     let key = g.K.KeyOrder.key_of c.args.order in
@@ -416,10 +414,9 @@ turns-preserved-else-not-has_key_of g c =
     let goes = gathered tool i.o pairs laws old i.unfailed sent place c.turns.end r slots clean c.gather.new.reader c.gather.new.merge.second c.gather.new.store moved in
     let next = c.gather.new.merge.second in
     let after = c.gather.new.store in
-    let says = subst (λ k. c.has_key_of.result ≡ (is_head next.stand && bytes_eq (g.K.KeyOrder.key_of k sides.Second (line after next.standing)) (g.K.KeyOrder.key_of k sides.Second c.line.result.now))) (c.gather.ensures.order ∙ i.order) c.has_key_of.ensures
-    ∙ ap (λ (l : List ℕ). is_head next.stand && bytes_eq (key sides.Second (line after next.standing)) (key sides.Second l)) c.line.ensures in
+    let says : c.repeats.result ≡ next.same = c.repeats.ensures in
     let then_now = seen c.turns.first c.gather.new.reader c.send_before_wait.new.out c.gather.new.store in
-    let t = gathers_on tool i.o pairs laws old i.unfailed sent place c.turns.end r slots clean c.gather.new.reader next after goes c.has_key_of.result says c.if-not-has_key_of.false in
+    let t = gathers_on tool i.o pairs laws old i.unfailed sent place c.turns.end r slots clean c.gather.new.reader next after goes (sym says ∙ c.if-not-repeats.false) in
     let u = subst (λ (e : ℕ). Gathering tool i.o pairs laws old i.unfailed then_now (both c.gather.new.merge.first next) e) (sym is.0) (subst (λ (q : Sorted). Gathering tool i.o pairs laws old i.unfailed then_now (both q next) (c.turns.end + 1)) (sym c.gather.ensures.other) t) in
     record {
       o = i.o;
@@ -432,8 +429,8 @@ turns-preserved-else-not-has_key_of g c =
       order = c.gather.ensures.order ∙ i.order;
     }
 
-pub turns-smaller-else-not-has_key_of : goal.turns-smaller-else-not-has_key_of
-turns-smaller-else-not-has_key_of g c =
+pub turns-smaller-else-not-repeats : goal.turns-smaller-else-not-repeats
+turns-smaller-else-not-repeats g c =
     let i = c.turns.invariant in
     let cmp = g.K.KeyOrder.order c.args.order in
     let key = g.K.KeyOrder.key_of c.args.order in
@@ -451,8 +448,8 @@ turns-smaller-else-not-has_key_of g c =
     let less = comes_less (g.K.KeyOrder.key_of c.turns.merge.order sides.Second) (g.K.KeyOrder.order c.turns.merge.order) c.turns.merge.second c.gather.new.merge.second c.turns.second c.gather.new.reader is.1.made c.gather.new.store r.head2 is.1.came in
     omega (arith, less, ap (λ (q : Sorted). alive q.stand) c.gather.ensures.other)
 
-pub turns-smaller-then-not-has_key_of : goal.turns-smaller-then-not-has_key_of
-turns-smaller-then-not-has_key_of g c =
+pub turns-smaller-then-not-repeats : goal.turns-smaller-then-not-repeats
+turns-smaller-then-not-repeats g c =
     let i = c.turns.invariant in
     let cmp = g.K.KeyOrder.order c.args.order in
     let key = g.K.KeyOrder.key_of c.args.order in
@@ -468,8 +465,8 @@ turns-smaller-then-not-has_key_of g c =
     let less = comes_less (g.K.KeyOrder.key_of c.turns.merge.order sides.Second) (g.K.KeyOrder.order c.turns.merge.order) c.turns.merge.second c.gather.new.merge.second c.turns.second c.gather.new.reader is.1.made c.gather.new.store r.head2 is.1.came in
     omega (arith, less, ap (λ (q : Sorted). alive q.stand) c.gather.ensures.other)
 
-pub turns-smaller-then-not-has_key_of-2 : goal.turns-smaller-then-not-has_key_of-2
-turns-smaller-then-not-has_key_of-2 g c =
+pub turns-smaller-then-not-repeats-2 : goal.turns-smaller-then-not-repeats-2
+turns-smaller-then-not-repeats-2 g c =
     let i = c.turns.invariant in
     let cmp = g.K.KeyOrder.order c.args.order in
     let key = g.K.KeyOrder.key_of c.args.order in
@@ -540,25 +537,6 @@ returns-in_err-pass_pairs-in-Pairing-clause-merged g c =
     let passes = subst (λ k. PassesLine (g.K.KeyOrder.key_of k sides.First) (g.K.KeyOrder.order k) sides.First c.turns.merge.first c.pass_pairs.new.merge.first c.turns.first c.pass_pairs.new.reader c.turns.store c.pass_pairs.new.store c.pass_pairs.new.out (Err c.in_err-pass_pairs-in-Pairing.field-0.0)) i.order c.in_err-pass_pairs-in-Pairing.ensures.passes in
     rw (e.1, e.2) (pair_stops tool i.o pairs laws old i.unfailed now place c.turns.end r slots c.pass_pairs.new.out wrote i.clean c.pass_pairs.new.reader c.pass_pairs.new.merge.first c.pass_pairs.new.store c.in_err-pass_pairs-in-Pairing.field-0.0 passes)
 
-pub line-requires-in-Pairing : goal.line-requires-in-Pairing
-line-requires-in-Pairing g c =
-    let i = c.turns.invariant in
-    let cmp = g.K.KeyOrder.order c.args.order in
-    let key = g.K.KeyOrder.key_of c.args.order in
-    let job = join_job c.args.job.now in
-    let tool = join_by job cmp key in
-    let pairs = pairs_of job in
-    let laws = join_pairs job cmp key in
-    let old = seen c.args.first.now c.args.second.now c.args.out.now c.args.store.now in
-    let now = seen c.turns.first c.turns.second c.turns.out c.turns.store in
-    let place = both c.turns.merge.first c.turns.merge.second in
-    let slots = slots_of c.turns.merge.first c.turns.merge.second c.turns.store i.placed in
-    let end : c.ending-ending.result ≡ job.end = c.ending-ending.ensures ∙ c.requires.ending.0 in
-    let r = as_pairing tool i.o pairs laws old i.unfailed c.turns.phase now place c.turns.end i.phased c.in-Pairing.is in
-    let count = comes_slots (g.K.KeyOrder.key_of c.turns.merge.order sides.First) (g.K.KeyOrder.order c.turns.merge.order) c.turns.merge.first c.pass_pairs.new.merge.first c.turns.first c.pass_pairs.new.reader c.turns.store c.pass_pairs.new.store c.in_ok-pass_pairs-in-Pairing.ensures.passes.1 in
-    let within = (end_in tool i.o pairs laws old i.unfailed c.turns.phase now place c.turns.end i.phased).1 in
-    omega (arith, count, within, r.some, r.q.at)
-
 pub clear_group-requires : goal.clear_group-requires
 clear_group-requires g c =
     let i = c.turns.invariant in
@@ -578,8 +556,8 @@ clear_group-requires g c =
     let within = end_in tool i.o pairs laws old i.unfailed c.turns.phase now place c.turns.end i.phased in
     (within.0, omega (arith, count, within.1))
 
-pub turns-preserved-then-not-has_key_of-2 : goal.turns-preserved-then-not-has_key_of-2
-turns-preserved-then-not-has_key_of-2 g c =
+pub turns-preserved-then-not-repeats-2 : goal.turns-preserved-then-not-repeats-2
+turns-preserved-then-not-repeats-2 g c =
     let i = c.turns.invariant in
     let cmp = g.K.KeyOrder.order c.args.order in
     let key = g.K.KeyOrder.key_of c.args.order in
@@ -601,11 +579,10 @@ turns-preserved-then-not-has_key_of-2 g c =
     let comes = subst (λ k. Comes (g.K.KeyOrder.key_of k sides.First) (g.K.KeyOrder.order k) c.turns.merge.first c.pass_pairs.new.merge.first c.turns.first c.pass_pairs.new.reader c.turns.store c.pass_pairs.new.store) i.order c.in_ok-pass_pairs-in-Pairing.ensures.passes.1 in
     let next = c.pass_pairs.new.merge.first in
     let after = c.pass_pairs.new.store in
-    let says = subst (λ k. c.has_key_of-in-Pairing.result ≡ (is_head next.stand && bytes_eq (g.K.KeyOrder.key_of k sides.First (line after next.standing)) (g.K.KeyOrder.key_of k sides.Second c.line-in-Pairing.result.now))) (c.pass_pairs.ensures.order ∙ i.order) c.has_key_of-in-Pairing.ensures
-    ∙ ap (λ (l : List ℕ). is_head next.stand && bytes_eq (key sides.First (line after next.standing)) (key sides.Second l)) c.line-in-Pairing.ensures in
+    let says : c.repeats-in-Pairing.result ≡ next.same = c.repeats-in-Pairing.ensures in
     let placed = c.in_ok-pass_pairs-in-Pairing.ensures.placed in
     let slots2 = both_each HasSlots c.pass_pairs.new.merge.first c.turns.merge.second placed.first i.placed.second in
-    let t = group_closed tool i.o pairs laws old i.unfailed now place c.turns.end r slots c.pass_pairs.new.out wrote i.clean c.pass_pairs.new.reader next after comes c.has_key_of-in-Pairing.result says c.if-not-has_key_of-2.true slots2 c.clear_group.new.store c.clear_group.ensures in
+    let t = group_closed tool i.o pairs laws old i.unfailed now place c.turns.end r slots c.pass_pairs.new.out wrote i.clean c.pass_pairs.new.reader next after comes (sym says ∙ c.if-not-repeats-2.true) slots2 c.clear_group.new.store c.clear_group.ensures in
     record {
       o = i.o;
       unfailed = i.unfailed;
@@ -640,9 +617,8 @@ turns-preserved g c =
     let comes = subst (λ k. Comes (g.K.KeyOrder.key_of k sides.First) (g.K.KeyOrder.order k) c.turns.merge.first c.pass_pairs.new.merge.first c.turns.first c.pass_pairs.new.reader c.turns.store c.pass_pairs.new.store) i.order c.in_ok-pass_pairs-in-Pairing.ensures.passes.1 in
     let next = c.pass_pairs.new.merge.first in
     let after = c.pass_pairs.new.store in
-    let says = subst (λ k. c.has_key_of-in-Pairing.result ≡ (is_head next.stand && bytes_eq (g.K.KeyOrder.key_of k sides.First (line after next.standing)) (g.K.KeyOrder.key_of k sides.Second c.line-in-Pairing.result.now))) (c.pass_pairs.ensures.order ∙ i.order) c.has_key_of-in-Pairing.ensures
-    ∙ ap (λ (l : List ℕ). is_head next.stand && bytes_eq (key sides.First (line after next.standing)) (key sides.Second l)) c.line-in-Pairing.ensures in
-    let t = pairs_on tool i.o pairs laws old i.unfailed now place c.turns.end r slots c.pass_pairs.new.out wrote i.clean c.pass_pairs.new.reader next after comes c.has_key_of-in-Pairing.result says c.if-not-has_key_of-2.false in
+    let says : c.repeats-in-Pairing.result ≡ next.same = c.repeats-in-Pairing.ensures in
+    let t = pairs_on tool i.o pairs laws old i.unfailed now place c.turns.end r slots c.pass_pairs.new.out wrote i.clean c.pass_pairs.new.reader next after comes (sym says ∙ c.if-not-repeats-2.false) in
     record {
       o = i.o;
       unfailed = i.unfailed;

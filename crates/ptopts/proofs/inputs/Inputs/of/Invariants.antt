@@ -1,3 +1,4 @@
+-- The order and the names of the operands so far stand in front of those of the others.
 use Rattle.std.proofs.Common.{◌≡◌, ◌++◌, drop, vec_len}
 use Rattle.ptopts.specs.Meant.{words_seen}
 use Rattle.ptopts.specs.Commands.{order_from, file_names}

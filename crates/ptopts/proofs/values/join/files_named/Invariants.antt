@@ -1,3 +1,4 @@
+-- The options so far have no fault and name these files; the whole is told by them and by the options that are left.
 use Rattle.std.proofs.Common.{◌≡◌, ◌||◌, drop, codes}
 use Rattle.ptopts.specs.Faults.{each_value_fault, is_file_number}
 use Rattle.ptopts.specs.Commands.{names_file}

@@ -17,7 +17,7 @@ returns-in_err-need_slots g c =
     let x = err_from_is_err_and c.from_residual.result c.from_residual.ensures.1 in
     rw (x.1, x.2, c.in_err-need_slots.ensures.err)
     (run_unslotted (cut_tool job) (cut_from job) (cut_lines job) job.end 1 tt (cut_line_tool job c.requires.by_fields) c.args.reader.now c.args.out.now c.args.store.now c.need_slots.new.store c.requires.ready c.requires.sound
-    c.requires.clean c.need_slots.ensures.adds c.need_slots.ensures.same_peak c.in_err-need_slots.ensures.denied)
+    c.requires.ending c.requires.clean c.need_slots.ensures.adds c.need_slots.ensures.same_peak c.in_err-need_slots.ensures.denied)
 
 pub turns-init : goal.turns-init
 turns-init g c =

@@ -1,7 +1,7 @@
 //! A block of output before sinks that take little, or fail.
 
 use crate::comparing::{holds_of, same, same_of};
-use crate::texts::{is_line, text_of};
+use ptfakes::texts::{is_line, text_of};
 use ptfakes::{Fixed, Kept};
 use ptlines::{Out, Sink, WriteFault, send};
 use std::alloc::Global;

@@ -1,8 +1,8 @@
 //! Lines that are pushed at once, with what leads them and their end.
 
 use crate::comparing::same;
-use crate::texts::byte_at;
 use ptfakes::Kept;
+use ptfakes::texts::byte_at;
 use ptlines::{Out, WriteFault};
 use std::alloc::{AllocError, Global};
 use std::process::Abort;

@@ -1,11 +1,10 @@
 //! `paste`, in rows and in series, over readers.
 
-use crate::commands::{SIZES, over_standard, run_over};
-use crate::comparing::same;
-use crate::texts::{byte_at, text_of};
+use crate::comparing::{holds_of, same};
+use ptfakes::texts::{byte_at, text_of};
 use ptfakes::{Kept, Pieces, Refusing, Watched};
 use ptflow::{FlowFault, paste, paste_serial};
-use ptlangs::delims::Delims;
+use ptlangs::delims::{DelimFault, Delims};
 use ptlangs::jobs::PasteJob;
 use ptlines::{LineReader, Out, Store};
 use std::alloc::{AllocError, Allocator, Global};
@@ -115,20 +114,36 @@ fn nothing_is_read_where_a_slot_is_refused(rt: HostRuntime) -> Result<(), Fail> 
     Ok(())
 }
 
+// What `paste -s` writes of this text, which comes in pieces of so many bytes.
+fn in_one_row(
+    rt: &impl Abort,
+    alloc: Global,
+    job: &PasteJob<Global>,
+    text: &[u8],
+    size: usize,
+) -> Result<Kept, Fail> {
+    let mut reader: Reader<'_> = LineReader::standard(Pieces::new(text, size, u64::MAX));
+    let mut store = Store::new(alloc, 0)?;
+    let mut out = Out::new(Kept::new(alloc));
+    let told = paste_serial(job, &mut reader, &mut store, &mut out);
+    same(rt, &told, &Ok(()));
+    same(rt, &out.finish(), &Ok(()));
+    Ok(out.into_sink())
+}
+
+fn serial(alloc: Global, delims: &[u8]) -> Result<PasteJob<Global>, DelimFault> {
+    Ok(PasteJob {
+        serial: true,
+        delims: Delims::read(alloc, delims)?,
+        zero: false,
+    })
+}
+
 #[test]
 fn lines_in_one_row(rt: HostRuntime) -> Result<(), Fail> {
-    let job = PasteJob {
-        serial: true,
-        delims: Delims::read(rt.alloc(), b",;")?,
-        zero: false,
-    };
-    let mut reader: Reader<'_> = LineReader::standard(Pieces::new(b"a\nb\nc\n", 1, u64::MAX));
-    let mut store = Store::new(rt.alloc(), 0)?;
-    let mut out = Out::new(Kept::new(rt.alloc()));
-    let told = paste_serial(&job, &mut reader, &mut store, &mut out);
-    same(&rt, &told, &Ok(()));
-    same(&rt, &out.finish(), &Ok(()));
-    same(&rt, &out.into_sink().bytes(), &b"a,b;c\n".as_slice());
+    let job = serial(rt.alloc(), b",;")?;
+    let written = in_one_row(&rt, rt.alloc(), &job, b"a\nb\nc\n", 1)?;
+    same(&rt, &written.bytes(), &b"a,b;c\n".as_slice());
     Ok(())
 }
 
@@ -157,16 +172,15 @@ fn pasted_behind(
     rt: &impl Abort,
     alloc: Global,
     length: usize,
-    (list, delims): (&str, [u8; 2]),
+    (list, delims): (&[u8], [u8; 2]),
 ) -> Result<(), Fail> {
     let lengths = [length, 0, 1, 4, 15, 16, 17, 64, 0, 0, 5];
     let text = text_of(alloc, &lengths, b'\n', true)?;
     let row = row_of(alloc, &lengths, delims, b'\n')?;
-    let words = ["paste", "-s", "-d", list, "-"];
-    for size in SIZES {
-        let case = over_standard(&words, &text, *size);
-        let report = run_over(rt, alloc, alloc, &case)?;
-        assert!(rt; report.out.bytes() == row.as_slice(), "{length} by {size}");
+    let job = serial(alloc, list)?;
+    for size in [1, 7, usize::MAX] {
+        let written = in_one_row(rt, alloc, &job, &text, size)?;
+        holds_of(rt, &(length, size), written.bytes() == row.as_slice());
     }
     Ok(())
 }
@@ -174,8 +188,8 @@ fn pasted_behind(
 #[test]
 fn ends_at_each_place_of_a_chunk(rt: HostRuntime) -> Result<(), Fail> {
     for length in 0..65 {
-        pasted_behind(&rt, rt.alloc(), length, (",", [b',', b',']))?;
-        pasted_behind(&rt, rt.alloc(), length, (",;", [b',', b';']))?;
+        pasted_behind(&rt, rt.alloc(), length, (b",", [b',', b',']))?;
+        pasted_behind(&rt, rt.alloc(), length, (b",;", [b',', b';']))?;
     }
     Ok(())
 }

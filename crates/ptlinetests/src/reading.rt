@@ -1,7 +1,7 @@
 //! Lines and blocks of a source in pieces.
 
 use crate::comparing::{holds_of, same, same_of};
-use crate::texts::{is_line, lines_of, text_of};
+use ptfakes::texts::{is_line, lines_of, text_of};
 use ptfakes::{Pieces, Refusing, Repeated, Watched};
 use ptlines::{LineFault, LineReader, Source, Store, find_in, find_near};
 use std::alloc::{Allocator, Global};

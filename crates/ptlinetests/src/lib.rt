@@ -1,0 +1,23 @@
+//! Tests of lines, of their readers and outputs, of the store, and of the sources and sinks of the tests.
+#![tactic(auto)]
+
+#[cfg(test)]
+mod comparing;
+#[cfg(test)]
+mod copying;
+#[cfg(test)]
+mod faking;
+#[cfg(test)]
+mod lining;
+#[cfg(test)]
+mod ordering;
+#[cfg(test)]
+mod reading;
+#[cfg(test)]
+mod slots;
+#[cfg(test)]
+mod storing;
+#[cfg(test)]
+mod through_std;
+#[cfg(test)]
+mod writing;
