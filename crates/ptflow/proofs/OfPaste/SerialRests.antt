@@ -187,7 +187,8 @@ module _ (end : ℕ) (delims : List (Option ℕ)) where
             let ends : n + count_by (is_byte end) bytes ≡ m = omega (arith, is) in
             row_byte n b (lines end left) ∙ ap (λ (l : List ℕ). b ∷ l) (on n) ∙ ap (λ (k : ℕ). b ∷ with_turns end delims n bytes ++ next k) ends
 
-    pub puts_turns : (number now : ℕ) (bytes written : List ℕ) → now ≡ number + count_by (is_byte end) bytes → written ≡ with_turns end delims number bytes → Puts end delims number bytes now [] written
+    pub puts_turns : (number now : ℕ) (bytes written : List ℕ) → now ≡ number + count_by (is_byte end) bytes
+        → written ≡ with_turns end delims number bytes → Puts end delims number bytes now [] written
     puts_turns number now bytes written count is more some =
         turns_put number bytes more some ∙ (λ i. sym is i ++ row_rest end delims (sym count i) false (lines end more))
 

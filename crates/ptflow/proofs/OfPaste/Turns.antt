@@ -29,7 +29,8 @@ pub byte_in_turn : (delims : List (Option ℕ)) (end : ℕ) → list_any (λ y. 
 byte_in_turn delims end none some number = by_delim (get_or delims (number % length delims) None) refl
   where
     by_delim : (d : Option ℕ) → get_or delims (number % length delims) None ≡ d → delimiter delims number ≡ unwrap_or (delim_at delims number) end ∷ []
-    by_delim None is = absurd (false≢true (sym none ∙ list_any_at (λ y. option_eq eqb y None) delims (number % length delims) None (mod-lt number some) (ap (λ (y : Option ℕ). option_eq eqb y None) is)))
+    by_delim None is =
+        absurd (false≢true (sym none ∙ list_any_at (λ y. option_eq eqb y None) delims (number % length delims) None (mod-lt number some) (ap (λ (y : Option ℕ). option_eq eqb y None) is)))
     by_delim (Some d) is = rw is refl
 
 module _ (end : ℕ) (delims : List (Option ℕ)) where
@@ -68,7 +69,8 @@ module _ (end : ℕ) (delims : List (Option ℕ)) where
           let shifted : number + suc m ≡ number + 1 + m = omega arith in
           rw is (ap (λ (n : ℕ). turn number ∷ slice_set (first_turns m (number + 1) bytes) k (turn n)) shifted ∙ ap (λ (l : List ℕ). turn number ∷ l) (on m (number + 1) (omega (arith, e))))
       by_test on false is m e =
-          ap (λ (l : List ℕ). slice_set l (suc k) (turn (number + m))) (other_stays m number b bytes is) ∙ ap (λ (l : List ℕ). b ∷ l) (on m number (omega (arith, e))) ∙ sym (other_stays (suc m) number b bytes is)
+          ap (λ (l : List ℕ). slice_set l (suc k) (turn (number + m))) (other_stays m number b bytes is)
+          ∙ ap (λ (l : List ℕ). b ∷ l) (on m number (omega (arith, e))) ∙ sym (other_stays (suc m) number b bytes is)
 
   -- all are replaced
   pub all_turned : (number : ℕ) (bytes : List ℕ) (n : ℕ) → n ≡ count_by (is_byte end) bytes → first_turns n number bytes ≡ with_turns end delims number bytes
@@ -128,15 +130,18 @@ module _ (end : ℕ) (delims : List (Option ℕ)) where
     one : take 1 (drop at from) ≡ get_or from at 0 ∷ []
     one = ap (take 1) (drop_more from at 0 room)
 
-    pub end_more : (next : Turn) (to' : List ℕ) (v : ℕ) → get_or from at 0 ≡ end → v ≡ unwrap_or (get_or delims turn.place None) end → next.number ≡ turn.number + 1 → next.place ≡ next.number % length delims
+    pub end_more : (next : Turn) (to' : List ℕ) (v : ℕ) → get_or from at 0 ≡ end → v ≡ unwrap_or (get_or delims turn.place None) end
+        → next.number ≡ turn.number + 1 → next.place ≡ next.number % length delims
         → to' ≡ slice_set (slice_set to at (get_or from at 0)) at v → length to' ≡ length from → IsTurnedTo end delims number next (at + 1) from to'
     end_more next to' v ends is later place set long =
         let test : (get_or from at 0 == end) ≡ true = eq-eqb (get_or from at 0) end ends in
         let here : v ≡ unwrap_or (delim_at delims turn.number) end = is ∙ ap (λ (n : ℕ). unwrap_or (get_or delims n None) end) h.3 in
         turned_more number at 1 turn next from to to' h (omega (arith, room)) long
         (later ∙ ap (λ (n : ℕ). turn.number + n) (sym (ap (count_by (is_byte end)) one ∙ counted (get_or from at 0) [] ∙ ap (λ (t : Bool). cond t 1 0 + 0) test))) place
-        (ap (take (at + 1)) set ∙ take_more_set (slice_set to at (get_or from at 0)) at v (omega (arith, room, h.1, length-set to at (get_or from at 0))) ∙ (λ i. take-set to at (get_or from at 0) i ++ here i ∷ [])
-        ∙ ap (λ (l : List ℕ). take at to ++ l) (sym (ap (with_turns end delims turn.number) one ∙ ap (λ (t : Bool). cond t (unwrap_or (delim_at delims turn.number) end ∷ []) (get_or from at 0 ∷ [])) test)))
+        (ap (take (at + 1)) set ∙ take_more_set (slice_set to at (get_or from at 0)) at v (omega (arith, room, h.1, length-set to at (get_or from at 0)))
+        ∙ (λ i. take-set to at (get_or from at 0) i ++ here i ∷ [])
+        ∙ ap (λ (l : List ℕ). take at to ++ l) (sym (ap (with_turns end delims turn.number) one
+        ∙ ap (λ (t : Bool). cond t (unwrap_or (delim_at delims turn.number) end ∷ []) (get_or from at 0 ∷ [])) test)))
 
     pub other_more : (to' : List ℕ) → (get_or from at 0 ≡ end → ⊥) → to' ≡ slice_set to at (get_or from at 0) → length to' ≡ length from → IsTurnedTo end delims number turn (at + 1) from to'
     other_more to' other set long =
@@ -144,7 +149,8 @@ module _ (end : ℕ) (delims : List (Option ℕ)) where
         turned_more number at 1 turn turn from to to' h (omega (arith, room)) long
         (omega (arith, ap (count_by (is_byte end)) one ∙ counted (get_or from at 0) [] ∙ ap (λ (t : Bool). cond t 1 0 + 0) test)) h.3
         (ap (take (at + 1)) set ∙ take_more_set to at (get_or from at 0) (omega (arith, room, h.1))
-        ∙ ap (λ (l : List ℕ). take at to ++ l) (sym (ap (with_turns end delims turn.number) one ∙ ap (λ (t : Bool). cond t (unwrap_or (delim_at delims turn.number) end ∷ []) (get_or from at 0 ∷ [])) test)))
+        ∙ ap (λ (l : List ℕ). take at to ++ l) (sym (ap (with_turns end delims turn.number) one
+        ∙ ap (λ (t : Bool). cond t (unwrap_or (delim_at delims turn.number) end ∷ []) (get_or from at 0 ∷ [])) test)))
 
 -- a byte is set among those that stand behind others
 pub set_in_chunk : (to front xs : List ℕ) (at size k v : ℕ) → take (at + size) to ≡ front ++ xs → length front ≡ at → k < size → take (at + size) (slice_set to (at + k) v) ≡ front ++ slice_set xs k v

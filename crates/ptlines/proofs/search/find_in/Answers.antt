@@ -22,4 +22,5 @@ returns g c =
     let test = is_byte c.args.byte in
     let is_mask = bitmask_splat w8 eqb (chunk at n bytes) n c.args.byte (length-chunk at n bytes c.requires.within) c.requires.lanes in
     let some : mask_l (map test (chunk at n bytes)) ≡ 0 → ⊥ = λ none. c.if-marked-eq0.false (is_mask ∙ none) in
-    subst (λ (m : ℕ). NoneBefore (Passes test bytes) at (at + n) (at + count_trailing_zeros 64 m) × Passes test bytes (at + count_trailing_zeros 64 m)) (sym is_mask) (first_marked_at test bytes at n c.requires.lanes c.requires.within (omega (arith, some)))
+    subst (λ (m : ℕ). NoneBefore (Passes test bytes) at (at + n) (at + count_trailing_zeros 64 m) × Passes test bytes (at + count_trailing_zeros 64 m))
+    (sym is_mask) (first_marked_at test bytes at n c.requires.lanes c.requires.within (omega (arith, some)))

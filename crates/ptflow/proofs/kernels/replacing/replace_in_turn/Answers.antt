@@ -29,7 +29,8 @@ loop-at-preserved c =
           (length-set _ loop.at w.unwrap_or.result ∙ length-set loop.to loop.at _ ∙ loop.invariant.1)))
       | else-from-at w ↦
           rw w.turn-is (rw w.to-is (
-          other_more end delims c.args.number loop.at loop.turn from loop.to loop.invariant (omega (arith, c.loop-at-test.true)) _ w.if-from-at.false refl (length-set loop.to loop.at _ ∙ loop.invariant.1)))
+          other_more end delims c.args.number loop.at loop.turn from loop.to loop.invariant (omega (arith, c.loop-at-test.true))
+          _ w.if-from-at.false refl (length-set loop.to loop.at _ ∙ loop.invariant.1)))
     ]
 
 pub returns-clause-number : goal.returns-clause-number

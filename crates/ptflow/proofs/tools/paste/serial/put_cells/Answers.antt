@@ -30,4 +30,5 @@ returns-clause-puts g c =
     let made = turned.new.to in
     let long : length made ≡ length bytes = ap length turned.ensures.replaced ∙ length-turns end c.as_slice-list.result.now c.args.number bytes in
     puts_turns end delims (byte_in_turn delims end none some) c.args.number turned.result bytes _ turned.ensures.number
-    (take-append-le (length bytes) made _ (omega (arith, long)) ∙ take_all (length bytes) made (omega (arith, long)) ∙ turned.ensures.replaced ∙ ap (λ (l : List (Option ℕ)). with_turns end l c.args.number bytes) same)
+    (take-append-le (length bytes) made _ (omega (arith, long)) ∙ take_all (length bytes) made (omega (arith, long)) ∙ turned.ensures.replaced
+    ∙ ap (λ (l : List (Option ℕ)). with_turns end l c.args.number bytes) same)
