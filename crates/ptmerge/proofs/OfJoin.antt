@@ -2,6 +2,7 @@
 pub mod Amid
 pub mod EntryLemmas
 pub mod FieldLemmas
+pub mod FieldSpans
 pub mod GroupSlots
 pub mod GroupStops
 pub mod GroupTurns

@@ -4,6 +4,7 @@ pub mod Bounds
 pub mod Deciding
 pub mod Got
 pub mod KeepingUpRows
+pub mod KeySpans
 pub mod Least
 pub mod LineLaws
 pub mod Orders

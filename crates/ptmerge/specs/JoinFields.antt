@@ -1,5 +1,5 @@
 -- What is left of a line whose fields are taken one after another.
-use Rattle.std.specs.Prelude.{ℕ, ◌==◌, List, [], ◌∷◌, Option, Some, None, Bool, false, not, ◌||◌, ◌&&◌, if◌then◌else◌}
+use Rattle.std.specs.Prelude.{◌≡◌, ◌++◌, ℕ, MatchOption, ◌==◌, List, [], ◌∷◌, Option, Some, None, Bool, false, not, ◌||◌, ◌&&◌, if◌then◌else◌}
 use Rattle.std.specs.List.{flat_map}
 use Rattle.ptmerge.specs.Keyed.{Lines}
 use Rattle.ptmerge.specs.Join.{fields, is_blank}
@@ -22,3 +22,14 @@ led byte fs = flat_map (λ f. byte ∷ f) fs
 abbrev pub is_tidy : Bool → List ℕ → Bool
 is_tidy blank [] = not blank
 is_tidy blank (b ∷ bytes) = if (b == 9) || (blank && (b == 32)) then false else is_tidy (b == 32) bytes
+
+-- These bytes are a field in front of what is left of a line: with one byte between them, or at the end.
+pub record IsPiece (line field : List ℕ) (behind : Option (List ℕ)) : Type 0 where
+  pub front : List ℕ
+  pub tail : List ℕ
+  pub is : line ≡ front ++ (field ++ tail)
+  pub ends : MatchOption behind (tail ≡ []) (λ left. (byte : ℕ) × (tail ≡ byte ∷ left))
+
+-- the same, of what is left of a line
+abbrev pub IsFieldIn : Option (List ℕ) → List ℕ → Option (List ℕ) → Type 0
+IsFieldIn left field behind = MatchOption left ⊥ (λ bytes. IsPiece bytes field behind)

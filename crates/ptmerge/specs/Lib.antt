@@ -10,5 +10,6 @@ pub mod Orders
 pub mod Parts
 pub mod Places
 pub mod Sides
+pub mod Spans
 pub mod Steps
 pub mod Stores

@@ -9,6 +9,7 @@ use Rattle.ptmerge.specs.declared.faults.MergeFault.TheVariants.{Read, Write, Me
 use Rattle.ptmerge.specs.declared.faults.MergeFault.TheVariants as faults
 use Rattle.ptmerge.specs.declared.order.Side.{Side}
 use Rattle.ptmerge.specs.declared.order.Side.TheVariants.{First, Second}
+use Rattle.ptmerge.specs.declared.order.Span.{Span}
 use Rattle.ptmerge.specs.declared.merging.sorted.Sorted.{Sorted}
 use Rattle.ptmerge.specs.declared.merging.sorted.Stand.{Stand}
 use Rattle.ptmerge.specs.declared.merging.sorted.Stand.TheVariants.{Head, Ended, Disorder}
@@ -19,9 +20,13 @@ abbrev pub slot_of : Side → ℕ
 slot_of First = 0
 slot_of Second = 2
 
+-- a span of no bytes
+abbrev pub no_bytes : Span
+no_bytes = record { start = 0; end = 0 }
+
 -- an input of which nothing was read
 abbrev pub fresh : Side → Sorted
-fresh side = record { standing = slot_of side + 1; previous = slot_of side; number = 0; stand = Ended; same = false }
+fresh side = record { standing = slot_of side + 1; previous = slot_of side; number = 0; stand = Ended; same = false; key = no_bytes; last = no_bytes }
 
 -- the two slots of an input, in one order or the other
 abbrev pub HasSlots : Side → Sorted → Type 0
@@ -45,6 +50,8 @@ pub record Arrives (key : Key) (cmp : Cmp) (old new : Sorted) (was is : Reader) 
     number = old.number + 1;
     stand = stand_at key cmp old.number (line before old.standing) gives.line;
     same = same_at key cmp old.number (line before old.standing) gives.line;
+    key = new.key;
+    last = new.last;
   }
   pub sound : IsSound is
 
@@ -53,7 +60,7 @@ pub record Closes (old new : Sorted) (was is : Reader) (before after : Slots) : 
   pub goes : Goes was is []
   pub done : IsDone is
   pub empty : after ≡ with_line before old.previous []
-  pub place : new ≡ record { standing = old.previous; previous = old.standing; number = old.number; stand = Ended; same = false }
+  pub place : new ≡ record { standing = old.previous; previous = old.standing; number = old.number; stand = Ended; same = false; key = new.key; last = new.last }
   pub sound : IsSound is
 
 -- an input went to its next line, or found none

@@ -14,7 +14,7 @@ mod tools;
 
 pub use faults::MergeFault;
 pub use merging::{Merge, Step};
-pub use order::{Descending, KeyOrder, Side, WholeLine};
+pub use order::{Descending, KeyOrder, Side, Span, WholeLine};
 pub use parts::{comm_by_key, join_by_key, parts_of_comm, parts_of_join};
 pub use tools::comm::comm;
 pub use tools::join::join;

@@ -8,6 +8,7 @@ ghost use Rattle.ptlines.specs.Readers.{IsSound};
 ghost use Rattle.ptlines.specs.Slots.{line};
 ghost use Rattle.ptmerge.specs.declared.faults.MergeFault.TheVariants.{Write};
 ghost use Rattle.ptmerge.specs.Places.{Advances};
+ghost use Rattle.ptmerge.specs.Spans.{is_broken};
 ghost use Rattle.ptmerge.specs.Sides.{both, other};
 ghost use Rattle.ptmerge.specs.Steps.{inputs, IsPlaced, IsLent, IsNext, Starts, CannotStart};
 
@@ -87,7 +88,7 @@ impl<K: KeyOrder> Merge<K> {
         ensures breaks { let was = inputs first.old second.old store.old in
             let is = inputs first.new second.new store.new in
             IfErr result (λ fault. CannotStart (K.key_of order) (K.order order) was is fault) }
-        ensures placed { IfOk result (λ m. IsPlaced m.first m.second store.new) }
+        ensures placed { IfOk result (λ m. IsPlaced (K.key_of m.order) m.first m.second store.new) }
         ensures lent { IfOk result (λ m. IsLent m.first first.new × IsLent m.second second.new) }
         ensures order { IfOk result (λ m. m.order ≡ order) }
     {
@@ -109,16 +110,14 @@ impl<K: KeyOrder> Merge<K> {
     /// Which standing lines come next.
     #[inline(always)]
     pub fn step<A: Allocator + Copy>(&self, store: &Store<A>) -> Step
-        requires { IsPlaced self.now.first self.now.second store.now }
+        requires { IsPlaced (K.key_of self.now.order) self.now.first self.now.second store.now }
         ensures { let place = both self.now.first self.now.second in
             IsNext (K.order self.now.order) (K.key_of self.now.order) place store.now result }
     {
         match (self.first.stand, self.second.stand) {
             (Stand::Head, Stand::Head) => {
-                let a = self.order.key(Side::First, store.line(self.first.standing));
-                let b = self
-                    .order
-                    .key(Side::Second, store.line(self.second.standing));
+                let a = self.key(Side::First, store);
+                let b = self.key(Side::Second, store);
                 match self.order.cmp(a, b) {
                     std::cmp::Ordering::Less => Step::First,
                     std::cmp::Ordering::Equal => Step::Both,
@@ -127,10 +126,8 @@ impl<K: KeyOrder> Merge<K> {
             }
             (Stand::Head, Stand::Ended) => Step::First,
             (Stand::Head, Stand::Disorder(number)) => {
-                let a = self.order.key(Side::First, store.line(self.first.standing));
-                let last = self
-                    .order
-                    .key(Side::Second, store.line(self.second.previous));
+                let a = self.key(Side::First, store);
+                let last = self.last_key(Side::Second, store);
                 if self.order.cmp(a, last).is_gt() {
                     Step::Stop(Side::Second, number)
                 } else {
@@ -141,10 +138,8 @@ impl<K: KeyOrder> Merge<K> {
             (Stand::Ended, Stand::Ended) => Step::End,
             (Stand::Ended, Stand::Disorder(number)) => Step::Stop(Side::Second, number),
             (Stand::Disorder(number), Stand::Head) => {
-                let b = self
-                    .order
-                    .key(Side::Second, store.line(self.second.standing));
-                let last = self.order.key(Side::First, store.line(self.first.previous));
+                let b = self.key(Side::Second, store);
+                let last = self.last_key(Side::First, store);
                 if self.order.cmp(b, last).is_gt() {
                     Step::Stop(Side::First, number)
                 } else {
@@ -153,10 +148,8 @@ impl<K: KeyOrder> Merge<K> {
             }
             (Stand::Disorder(number), Stand::Ended) => Step::Stop(Side::First, number),
             (Stand::Disorder(first), Stand::Disorder(second)) => {
-                let a = self.order.key(Side::First, store.line(self.first.previous));
-                let b = self
-                    .order
-                    .key(Side::Second, store.line(self.second.previous));
+                let a = self.last_key(Side::First, store);
+                let b = self.last_key(Side::Second, store);
                 if self.order.cmp(a, b).is_gt() {
                     Step::Stop(Side::Second, second)
                 } else {
@@ -169,7 +162,7 @@ impl<K: KeyOrder> Merge<K> {
     /// The line at which an input stands.
     #[inline(always)]
     pub fn head<'a, A: Allocator + Copy>(&self, side: Side, store: &'a Store<A>) -> &'a [u8]
-        requires placed { IsPlaced self.now.first self.now.second store.now }
+        requires placed { IsPlaced (K.key_of self.now.order) self.now.first self.now.second store.now }
         requires stands { (both self.now.first self.now.second side).stand ≡ stands.Head }
         ensures { result.now ≡ line store.now (both self.now.first self.now.second side).standing }
     {
@@ -189,7 +182,7 @@ impl<K: KeyOrder> Merge<K> {
         reader: &mut LineReader<S, R>,
         store: &mut Store<A>,
     ) -> Result<(), MergeFault>
-        requires placed { IsPlaced self.old.first self.old.second store.old }
+        requires placed { IsPlaced (K.key_of self.old.order) self.old.first self.old.second store.old }
         requires stands { (both self.old.first self.old.second side).stand ≡ stands.Head }
         requires lent { IsLent (both self.old.first self.old.second side) reader.old }
         ensures moves { let was = both self.old.first self.old.second side in
@@ -199,12 +192,40 @@ impl<K: KeyOrder> Merge<K> {
         ensures others { let was = both self.old.first self.old.second (other side) in
             both self.new.first self.new.second (other side) ≡ was }
         ensures order { self.new.order ≡ self.old.order }
-        ensures placed { OnOk result (IsPlaced self.new.first self.new.second store.new) }
+        ensures placed { OnOk result (IsPlaced (K.key_of self.new.order) self.new.first self.new.second store.new) }
         ensures lent { OnOk result (IsLent (both self.new.first self.new.second side) reader.new) }
     {
         match side {
             Side::First => self.first.next(&self.order, side, reader, store),
             Side::Second => self.second.next(&self.order, side, reader, store),
+        }
+    }
+
+    // The key of the line at which an input stands.
+    #[inline(always)]
+    pub(crate) fn key<'a, A: Allocator + Copy>(&self, side: Side, store: &'a Store<A>) -> &'a [u8]
+        requires placed { IsPlaced (K.key_of self.now.order) self.now.first self.now.second store.now }
+        requires stands { (both self.now.first self.now.second side).stand ≡ stands.Head }
+        ensures { let place = both self.now.first self.now.second side in
+            result.now ≡ K.key_of self.now.order side (line store.now place.standing) }
+    {
+        match side {
+            Side::First => self.first.head_key(store),
+            Side::Second => self.second.head_key(store),
+        }
+    }
+
+    // The last key of an input in front of the line at which its order breaks.
+    #[inline(always)]
+    fn last_key<'a, A: Allocator + Copy>(&self, side: Side, store: &'a Store<A>) -> &'a [u8]
+        requires placed { IsPlaced (K.key_of self.now.order) self.now.first self.now.second store.now }
+        requires broken { is_broken (both self.now.first self.now.second side).stand ≡ true }
+        ensures { let place = both self.now.first self.now.second side in
+            result.now ≡ K.key_of self.now.order side (line store.now place.previous) }
+    {
+        match side {
+            Side::First => self.first.last_key(store),
+            Side::Second => self.second.last_key(store),
         }
     }
 

@@ -1,12 +1,14 @@
 //! The two sides of a merge, and how keys are compared.
 
-ghost use Rattle.std.specs.Prelude.{◌≡◌, ℕ, List};
+ghost use Rattle.std.specs.Prelude.{◌≡◌, ◌≤◌, ℕ, List, length};
+ghost use Rattle.std.specs.List.{slice_range};
 ghost use Rattle.std.specs.Cmp.{IsTotalOrder};
 ghost use Rattle.std.specs.declared.cmp.Ordering.TheVariants.{Equal};
 ghost use Rattle.ptmerge.specs.Orders.{Cmp, Key};
+ghost use Rattle.ptmerge.specs.Spans.{IsSpan};
 ghost use Rattle.ptmerge.specs.declared.order.Side.{Side as Of};
 
-use crate::tools::join::fields::nth_field;
+use crate::tools::join::fields::field_span;
 use ptlines::compare;
 use std::cmp::Ordering;
 
@@ -19,6 +21,27 @@ pub enum Side {
     Second = 2,
 }
 
+/// A part of a line: from a place on, up to another one.
+#[derive(Clone, Copy, Debug, PartialEq, Eq)]
+pub struct Span {
+    /// The place of its first byte.
+    pub start: usize,
+    /// The place behind its last byte.
+    pub end: usize,
+}
+
+impl Span {
+    /// The part of this line.
+    #[inline(always)]
+    pub fn of(self, line: &[u8]) -> &[u8]
+        requires ordered { self.start ≤ self.end }
+        requires within { self.end ≤ length line.now }
+        ensures { result.now ≡ slice_range line.now self.start self.end }
+    {
+        &line[self.start..self.end]
+    }
+}
+
 /// By what lines are ordered: each has a key, and the keys are compared. What comes first is the least.
 pub trait KeyOrder: Drop {
     /// The keys of the lines of each input.
@@ -27,9 +50,9 @@ pub trait KeyOrder: Drop {
     /// How two keys stand to each other.
     ghost order: { Self → Cmp };
 
-    /// The key of a line of an input.
-    fn key<'a>(&self, side: Side, line: &'a [u8]) -> &'a [u8]
-        ensures { result.now ≡ key_of self.now side line.now };
+    /// Where the key of a line of an input stands in it.
+    fn span(&self, side: Side, line: &[u8]) -> Span
+        ensures { IsSpan line.now (key_of self.now side line.now) result };
 
     /// Compares two keys.
     fn cmp(&self, a: &[u8], b: &[u8]) -> Ordering
@@ -56,8 +79,11 @@ impl KeyOrder for WholeLine {
     ghost order = { λ s. byte_cmp };
 
     #[inline(always)]
-    fn key<'a>(&self, _side: Side, line: &'a [u8]) -> &'a [u8] {
-        line
+    fn span(&self, _side: Side, line: &[u8]) -> Span {
+        Span {
+            start: 0,
+            end: line.len(),
+        }
     }
 
     #[inline(always)]
@@ -87,8 +113,8 @@ impl<K: KeyOrder> KeyOrder for Descending<K> {
     ghost order = { λ s. flip_args (K.order s.of) };
 
     #[inline(always)]
-    fn key<'a>(&self, side: Side, line: &'a [u8]) -> &'a [u8] {
-        self.of.key(side, line)
+    fn span(&self, side: Side, line: &[u8]) -> Span {
+        self.of.span(side, line)
     }
 
     #[inline(always)]
@@ -120,12 +146,12 @@ impl KeyOrder for FieldKeys {
     ghost order = { λ s. byte_cmp };
 
     #[inline(always)]
-    fn key<'a>(&self, side: Side, line: &'a [u8]) -> &'a [u8] {
+    fn span(&self, side: Side, line: &[u8]) -> Span {
         let number = match side {
             Side::First => self.first,
             Side::Second => self.second,
         };
-        nth_field(self.separator, number, Some(line))
+        field_span(self.separator, number, line)
     }
 
     #[inline(always)]

@@ -2,7 +2,7 @@
 
 use ptfakes::Pieces;
 use ptlines::{LineReader, Store};
-use ptmerge::{KeyOrder, Merge, Side, Step};
+use ptmerge::{KeyOrder, Merge, Side, Span, Step};
 use std::cmp::Ordering;
 use std::test::Fail;
 
@@ -20,11 +20,11 @@ impl KeyOrder for Behind {
 
     ghost order = { λ s. byte_cmp };
 
-    fn key<'a>(&self, _side: Side, line: &'a [u8]) -> &'a [u8] {
-        if line.is_empty() {
-            return line;
+    fn span(&self, _side: Side, line: &[u8]) -> Span {
+        Span {
+            start: line.len().min(1),
+            end: line.len(),
         }
-        &line[1..]
     }
 
     fn cmp(&self, a: &[u8], b: &[u8]) -> Ordering {

@@ -65,7 +65,7 @@ pub readable_of : (first second : Reader) (store : Slots) → IsReady first seco
 readable_of first second store ready First = ready.readable1
 readable_of first second store ready Second = ready.readable2
 
-pub slots_of : (one two : Sorted) (store : Slots) → IsPlaced one two store → (side : Side) → HasSlots side (both one two side)
+pub slots_of : {key : Side → Key} (one two : Sorted) (store : Slots) → IsPlaced key one two store → (side : Side) → HasSlots side (both one two side)
 slots_of one two store placed First = placed.first
 slots_of one two store placed Second = placed.second
 

@@ -45,9 +45,9 @@ module _ (job : Join) (end : ℕ) (line : List ℕ) where
   pub alone_text2 : job.unpaired2 ≡ true → text end (alone_entry job Second line) ≡ entry job (join_key job Second line) [] (fields job.separator line) ++ end ∷ []
   alone_text2 asked = rw asked (append-nil (entry job (join_key job Second line) [] (fields job.separator line) ++ end ∷ []))
 
-  pub pairs_text : (g : Lines) → job.pairs ≡ true
-      → text end (pairs_of job (join_key job First line) (line ∷ []) g) ≡ text end (map (λ b. entry job (join_key job First line) (fields job.separator line) (fields job.separator b)) g)
-  pairs_text g asked = rw asked (ap (text end) (append-nil (map (λ b. entry job (join_key job First line) (fields job.separator line) (fields job.separator b)) g)))
+  pub pairs_text : (k : List ℕ) (g : Lines) → job.pairs ≡ true
+      → text end (pairs_of job k (line ∷ []) g) ≡ text end (map (λ b. entry job k (fields job.separator line) (fields job.separator b)) g)
+  pairs_text k g asked = rw asked (ap (text end) (append-nil (map (λ b. entry job k (fields job.separator line) (fields job.separator b)) g)))
 
 -- ---- clearing
 

@@ -1,11 +1,14 @@
 //! One input of a merge: the line at which it stands, and whether its keys go on in order.
 
-ghost use Rattle.std.specs.Prelude.{◌≡◌, ◌≢◌, ◌≤◌, ◌<◌, ◌+◌, ◌^◌, None, length, nat_lt, ◌&&◌, if◌then◌else◌};
+ghost use Rattle.std.specs.Prelude.{◌≡◌, ◌≢◌, ◌≤◌, ◌<◌, ◌+◌, ◌^◌, None, length, if◌then◌else◌, OnOk};
+ghost use Rattle.std.specs.List.{slice_range};
+ghost use Rattle.ptlines.specs.Slots.{line};
 ghost use Rattle.ptlines.specs.Readers.{IsSound, budget};
 ghost use Rattle.ptmerge.specs.Places.{Advances, fresh, slot_of};
+ghost use Rattle.ptmerge.specs.Spans.{HasSpans, IsSpan};
 
 use crate::faults::MergeFault;
-use crate::order::{KeyOrder, Side};
+use crate::order::{KeyOrder, Side, Span};
 use ptlines::{LineFault, LineReader, Source, Store};
 use std::alloc::Allocator;
 
@@ -18,8 +21,8 @@ pub enum Stand {
 }
 
 // An input whose order is watched: the slots of the line at which it stands and of the line before, how many lines
-// came, where it stands, and whether it stands at a line with the key of the line before. Its reader is lent to each
-// call that reads.
+// came, where it stands, whether it stands at a line with the key of the line before, and where the keys of the two
+// lines stand in them. Its reader is lent to each call that reads.
 #[derive(Clone, Copy, Drop)]
 pub struct Sorted {
     pub standing: usize,
@@ -27,27 +30,20 @@ pub struct Sorted {
     pub number: u64,
     pub stand: Stand,
     pub same: bool,
+    pub key: Span,
+    pub last: Span,
 }
 
-// Where an input stands of which so many lines had come, if one more came.
+// Where an input stands at a line of this number that is not its first one.
 #[inline(always)]
 fn stand_at(number: u64, falls: bool) -> Stand
-    requires { number < 2 ^ 63 }
-    ensures { result ≡ if nat_lt 0 number && falls then Stand.Disorder (number + 1) else Stand.Head }
+    ensures { result ≡ if falls then Stand.Disorder number else Stand.Head }
 {
-    if number > 0 && falls {
-        Stand::Disorder(number + 1)
+    if falls {
+        Stand::Disorder(number)
     } else {
         Stand::Head
     }
-}
-
-// Whether such an input then stands at a line with the key of the line before.
-#[inline(always)]
-fn same_at(number: u64, equal: bool) -> bool
-    ensures { result ≡ (nat_lt 0 number && equal) }
-{
-    number > 0 && equal
 }
 
 impl Sorted {
@@ -67,6 +63,8 @@ impl Sorted {
             number: 0,
             stand: Stand::Ended,
             same: false,
+            key: Span { start: 0, end: 0 },
+            last: Span { start: 0, end: 0 },
         }
     }
 
@@ -84,9 +82,12 @@ impl Sorted {
         requires apart { self.old.standing ≢ self.old.previous }
         requires clean { reader.old.fault ≡ None }
         requires counted { self.old.number + budget reader.old ≤ 2 ^ 63 }
+        requires key { let last = line store.old self.old.standing in
+            0 < self.old.number → IsSpan last (K.key_of order.now side last) self.old.key }
         ensures moves { let key = K.key_of order.now side in
             Advances key (K.order order.now) side self.old self.new reader.old reader.new store.old store.new result }
         ensures slots { length store.new.lines ≡ length store.old.lines }
+        ensures spans { OnOk result (HasSpans (K.key_of order.now side) self.new store.new) }
     {
         let last = self.standing;
         self.standing = self.previous;
@@ -101,12 +102,40 @@ impl Sorted {
             Err(LineFault::Read) => return Err(MergeFault::Read(side)),
             Err(LineFault::Memory) => return Err(MergeFault::Memory),
         }
-        let old = order.key(side, store.line(self.previous));
-        let new = order.key(side, store.line(self.standing));
-        let ordering = order.cmp(old, new);
-        self.stand = stand_at(self.number, ordering.is_gt());
-        self.same = same_at(self.number, ordering.is_eq());
+        self.last = self.key;
+        self.key = order.span(side, store.line(self.standing));
+        let number = self.number;
         self.number += 1;
+        if number == 0 {
+            self.stand = Stand::Head;
+            self.same = false;
+            return Ok(());
+        }
+        let ordering = order.cmp(self.last_key(store), self.head_key(store));
+        self.stand = stand_at(self.number, ordering.is_gt());
+        self.same = ordering.is_eq();
         Ok(())
+    }
+
+    // The key of the line at which it stands.
+    #[inline(always)]
+    pub fn head_key<'a, A: Allocator + Copy>(&self, store: &'a Store<A>) -> &'a [u8]
+        requires slot { self.now.standing < length store.now.lines }
+        requires ordered { self.now.key.start ≤ self.now.key.end }
+        requires within { self.now.key.end ≤ length (line store.now self.now.standing) }
+        ensures { result.now ≡ slice_range (line store.now self.now.standing) self.now.key.start self.now.key.end }
+    {
+        self.key.of(store.line(self.standing))
+    }
+
+    // The key of the line before.
+    #[inline(always)]
+    pub fn last_key<'a, A: Allocator + Copy>(&self, store: &'a Store<A>) -> &'a [u8]
+        requires slot { self.now.previous < length store.now.lines }
+        requires ordered { self.now.last.start ≤ self.now.last.end }
+        requires within { self.now.last.end ≤ length (line store.now self.now.previous) }
+        ensures { result.now ≡ slice_range (line store.now self.now.previous) self.now.last.start self.now.last.end }
+    {
+        self.last.of(store.line(self.previous))
     }
 }

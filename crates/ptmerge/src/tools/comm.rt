@@ -66,7 +66,7 @@ fn pass<K: KeyOrder, A: Allocator + Copy, S: Source, R: Source, W: Sink>(
     store: &mut Store<A>,
     out: &mut Out<W>,
 ) -> Result<(), MergeFault>
-    requires placed { IsPlaced merge.old.first merge.old.second store.old }
+    requires placed { IsPlaced (K.key_of merge.old.order) merge.old.first merge.old.second store.old }
     requires stands { (both merge.old.first merge.old.second side).stand ≡ stands.Head }
     requires lent { IsLent (both merge.old.first merge.old.second side) reader.old }
     requires clean { out.old.faulted ≡ false }
@@ -79,7 +79,7 @@ fn pass<K: KeyOrder, A: Allocator + Copy, S: Source, R: Source, W: Sink>(
     ensures others { let was = both merge.old.first merge.old.second (other side) in
         both merge.new.first merge.new.second (other side) ≡ was }
     ensures order { merge.new.order ≡ merge.old.order }
-    ensures placed { OnOk result (IsPlaced merge.new.first merge.new.second store.new) }
+    ensures placed { OnOk result (IsPlaced (K.key_of merge.new.order) merge.new.first merge.new.second store.new) }
     ensures lent { OnOk result (IsLent (both merge.new.first merge.new.second side) reader.new) }
 {
     match push_entry(hidden, lead, merge.head(side, store), ending, out) {

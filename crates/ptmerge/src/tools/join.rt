@@ -86,6 +86,7 @@ fn push_alone<A: Allocator, W: Sink>(
 // Pushes the entries of a line of the first input and each line of the group.
 fn push_pairs<A: Allocator + Copy, W: Sink>(
     job: &JoinJob<A>,
+    key: &[u8],
     line: &[u8],
     end: usize,
     store: &Store<A>,
@@ -94,15 +95,14 @@ fn push_pairs<A: Allocator + Copy, W: Sink>(
 ) -> Result<(), WriteFault>
     requires within { end ≤ length store.now.lines }
     requires clean { out.old.faulted ≡ false }
-    ensures wrote { let key = join_key (join_job job.now) Of.First line.now in
-        Wrote out.old out.new (text ending (pairs_of (join_job job.now) key (line.now ∷ []) (group store.now end))) }
+    ensures wrote { let pairs = pairs_of (join_job job.now) key.now (line.now ∷ []) (group store.now end) in
+        Wrote out.old out.new (text ending pairs) }
     ensures clean { OnOk result (out.new.faulted ≡ false) }
     ensures fault { OnErr result (out.new.faulted ≡ true) }
 {
     if !job.pairs {
         return Ok(());
     }
-    let key = nth_field(job.sep, job.field[0], Some(line));
     for slot in 4..end {
         push_line(job, key, Some(line), Some(store.line(slot)), ending, out)?;
     }
@@ -119,7 +119,7 @@ fn pass_alone<K: KeyOrder, A: Allocator + Copy, S: Source, R: Source, W: Sink>(
     store: &mut Store<A>,
     out: &mut Out<W>,
 ) -> Result<(), MergeFault>
-    requires placed { IsPlaced merge.old.first merge.old.second store.old }
+    requires placed { IsPlaced (K.key_of merge.old.order) merge.old.first merge.old.second store.old }
     requires stands { (both merge.old.first merge.old.second side).stand ≡ stands.Head }
     requires lent { IsLent (both merge.old.first merge.old.second side) reader.old }
     requires clean { out.old.faulted ≡ false }
@@ -132,7 +132,7 @@ fn pass_alone<K: KeyOrder, A: Allocator + Copy, S: Source, R: Source, W: Sink>(
     ensures others { let was = both merge.old.first merge.old.second (other side) in
         both merge.new.first merge.new.second (other side) ≡ was }
     ensures order { merge.new.order ≡ merge.old.order }
-    ensures placed { OnOk result (IsPlaced merge.new.first merge.new.second store.new) }
+    ensures placed { OnOk result (IsPlaced (K.key_of merge.new.order) merge.new.first merge.new.second store.new) }
     ensures lent { OnOk result (IsLent (both merge.new.first merge.new.second side) reader.new) }
 {
     match push_alone(job, side, merge.head(side, store), ending, out) {
@@ -153,23 +153,25 @@ fn pass_pairs<K: KeyOrder, A: Allocator + Copy, S: Source, R: Source, W: Sink>(
     store: &mut Store<A>,
     out: &mut Out<W>,
 ) -> Result<(), MergeFault>
-    requires placed { IsPlaced merge.old.first merge.old.second store.old }
+    requires placed { IsPlaced (K.key_of merge.old.order) merge.old.first merge.old.second store.old }
     requires stands { merge.old.first.stand ≡ stands.Head }
     requires lent { IsLent merge.old.first reader.old }
     requires within { end ≤ length store.old.lines }
     requires clean { out.old.faulted ≡ false }
     ensures wrote { let standing = line store.old merge.old.first.standing in
-        let key = join_key (join_job job.now) Of.First standing in
+        let key = K.key_of merge.old.order Of.First standing in
         Wrote out.old out.new (text ending (pairs_of (join_job job.now) key (standing ∷ []) (group store.old end))) }
     ensures passes { let key = K.key_of merge.old.order Of.First in
         PassesLine key (K.order merge.old.order) Of.First
         merge.old.first merge.new.first reader.old reader.new store.old store.new out.new result }
     ensures others { merge.new.second ≡ merge.old.second }
     ensures order { merge.new.order ≡ merge.old.order }
-    ensures placed { OnOk result (IsPlaced merge.new.first merge.new.second store.new) }
+    ensures placed { OnOk result (IsPlaced (K.key_of merge.new.order) merge.new.first merge.new.second store.new) }
     ensures lent { OnOk result (IsLent merge.new.first reader.new) }
 {
-    match push_pairs(job, merge.head(Side::First, store), end, store, ending, out) {
+    let key = merge.key(Side::First, store);
+    let line = merge.head(Side::First, store);
+    match push_pairs(job, key, line, end, store, ending, out) {
         Ok(()) => {}
         Err(_) => return Err(MergeFault::Write),
     }

@@ -1,12 +1,14 @@
 //! The fields of a line of `join`, and writing them.
-ghost use Rattle.std.specs.Prelude.{◌≡◌, ◌++◌, ◌∷◌, [], None, Some, ◌<◌, ◌≤◌, ◌-◌, length, position, option_copied, true, false, OnOk, OnErr, MatchOption};
+ghost use Rattle.std.specs.Prelude.{◌≡◌, ◌++◌, ◌∷◌, [], None, Some, ◌<◌, ◌≤◌, ◌-◌, length, position, option_copied, true, false, OnOk, OnErr, IfSome, MatchOption};
 ghost use Rattle.std.specs.List.{slice_split};
 ghost use Rattle.memchr.specs.Find.{IsFirst, Passes, is_byte};
 ghost use Rattle.ptlines.specs.Outputs.{Wrote};
 ghost use Rattle.ptlangs.specs.Jobs.{join_job};
 ghost use Rattle.ptmerge.specs.Join.{is_blank, nth_field, others, between, filled, named, entry};
-ghost use Rattle.ptmerge.specs.JoinFields.{ends_field, fields_left, is_tidy, led};
+ghost use Rattle.ptmerge.specs.JoinFields.{IsFieldIn, IsPiece, ends_field, fields_left, is_tidy, led};
+ghost use Rattle.ptmerge.specs.Spans.{IsSpan};
 
+use crate::order::Span;
 use ptlangs::jobs::JoinJob;
 use ptlangs::outlist::{File, OutField, OutList};
 use ptlines::{Out, Sink, WriteFault, find_near};
@@ -77,6 +79,7 @@ fn first_piece(separator: Option<u8>, bytes: &[u8]) -> (&[u8], Option<&[u8]>)
         (λ behind. slice_split (ends_field separator) bytes.now
         ≡ result.0.now ∷ slice_split (ends_field separator) behind.now) }
     ensures shorter { MatchOption result.1 (result.0.now ≡ bytes.now) (λ behind. length behind.now < length bytes.now) }
+    ensures placed { IsPiece bytes.now result.0.now (option_copied result.1) }
 {
     match field_end(separator, bytes) {
         None => (bytes, None),
@@ -89,10 +92,11 @@ fn next_field<'a>(
     separator: Option<u8>,
     line: Option<&'a [u8]>,
 ) -> Option<(&'a [u8], Option<&'a [u8]>)>
-    ensures { MatchOption result
+    ensures first { MatchOption result
         (fields_left separator (option_copied line.entry) ≡ [])
         (λ r. fields_left separator (option_copied line.entry)
         ≡ r.0.now ∷ fields_left separator (option_copied r.1)) }
+    ensures placed { IfSome result (λ r. IsFieldIn (option_copied line.entry) r.0.now (option_copied r.1)) }
 {
     let mut left = line;
     'pieces: while let Some(bytes) = left {
@@ -177,6 +181,69 @@ pub(crate) fn nth_field<'a>(separator: Option<u8>, number: u64, line: Option<&'a
             None => later_field(separator, number, line),
         },
         None => b"",
+    }
+}
+
+// Where a field stands in a line, of which this is left behind it.
+#[inline(always)]
+fn span_before(line: &[u8], field: &[u8], behind: Option<&[u8]>) -> Span
+    requires { IsPiece line.now field.now (option_copied behind) }
+    ensures { IsSpan line.now field.now result }
+{
+    let end = match behind {
+        Some(bytes) => line.len() - bytes.len() - 1,
+        None => line.len(),
+    };
+    Span {
+        start: end - field.len(),
+        end,
+    }
+}
+
+// Where the field with this number stands in a line, or a span of no bytes where it is not there.
+#[inline(never)]
+#[tactic(auto, using(crate::proofs::OfJoin::FieldSpans::span_none))]
+fn later_span(separator: Option<u8>, number: u64, line: &[u8]) -> Span
+    ensures { IsSpan line.now (nth_field number (fields_left separator (Some line.now))) result }
+{
+    let mut left = Some(line);
+    for _passed in 0..number.saturating_sub(1) {
+        let Some((_, behind)) = next_field(separator, left) else {
+            return Span { start: 0, end: 0 };
+        };
+        left = behind;
+    }
+    match next_field(separator, left) {
+        Some((field, behind)) => span_before(line, field, behind),
+        None => Span { start: 0, end: 0 },
+    }
+}
+
+// Where the first word of a line stands in it.
+#[inline(never)]
+fn word_span(line: &[u8]) -> Span
+    ensures { IsSpan line.now (nth_field 1 (fields_left None (Some line.now))) result }
+{
+    let (word, behind) = first_piece(None, line);
+    if word.is_empty() {
+        return later_span(None, 1, line);
+    }
+    span_before(line, word, behind)
+}
+
+// Where the field with this number stands in a line, or a span of no bytes where it is not there. Most join fields are
+// the first.
+#[inline(always)]
+pub(crate) fn field_span(separator: Option<u8>, number: u64, line: &[u8]) -> Span
+    ensures { IsSpan line.now (nth_field number (fields_left separator (Some line.now))) result }
+{
+    match separator {
+        Some(byte) if number <= 1 => {
+            let (piece, behind) = first_piece(Some(byte), line);
+            span_before(line, piece, behind)
+        }
+        None if number <= 1 => word_span(line),
+        _ => later_span(separator, number, line),
     }
 }
 

@@ -49,7 +49,7 @@ pub(crate) fn gather<K: KeyOrder, A: Allocator + Copy, S: Source, R: Source>(
     reader: &mut LineReader<S, R>,
     store: &mut Store<A>,
 ) -> Result<usize, MergeFault>
-    requires placed { IsPlaced merge.old.first merge.old.second store.old }
+    requires placed { IsPlaced (K.key_of merge.old.order) merge.old.first merge.old.second store.old }
     requires stands { merge.old.second.stand ≡ stands.Head }
     requires lent { IsLent merge.old.second reader.old }
     requires group { (4 ≤ end) × (end ≤ length store.old.lines) }
@@ -58,7 +58,7 @@ pub(crate) fn gather<K: KeyOrder, A: Allocator + Copy, S: Source, R: Source>(
         merge.old.second merge.new.second reader.old reader.new store.old store.new end result }
     ensures other { merge.new.first ≡ merge.old.first }
     ensures order { merge.new.order ≡ merge.old.order }
-    ensures placed { OnOk result (IsPlaced merge.new.first merge.new.second store.new) }
+    ensures placed { OnOk result (IsPlaced (K.key_of merge.new.order) merge.new.first merge.new.second store.new) }
     ensures lent { OnOk result (IsLent merge.new.second reader.new) }
 {
     let next = match keep_line(store, merge.slot(Side::Second), end) {

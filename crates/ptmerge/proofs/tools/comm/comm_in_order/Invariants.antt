@@ -12,7 +12,7 @@ use Rattle.ptmerge.proofs.tools.comm.comm_in_order.Given as goal
 abbrev pub invariant-steps : goal.invariant-steps
 invariant-steps g l = record {
   running : Running (comm_by (comm_job l.job) (g.K.KeyOrder.order l.merge.order) (g.K.KeyOrder.key_of l.merge.order)) (seen l.fn.first l.fn.second l.fn.out l.fn.store) (seen l.first l.second l.out l.store) (both l.merge.first l.merge.second);
-  placed : IsPlaced l.merge.first l.merge.second l.store;
+  placed : IsPlaced (g.K.KeyOrder.key_of l.merge.order) l.merge.first l.merge.second l.store;
   lent1 : IsLent l.merge.first l.first;
   lent2 : IsLent l.merge.second l.second;
   clean : l.out.faulted ≡ false;

@@ -1,4 +1,4 @@
-use Rattle.std.proofs.Common.{◌≡◌, ◌+◌, ℕ, [], ◌∷◌, Err, refl, sym, ◌∙◌, ap, subst, arith}
+use Rattle.std.proofs.Common.{◌≡◌, ◌+◌, ℕ, [], ◌∷◌, Err, refl, sym, ◌∙◌, ap, subst, arith, inl}
 use Rattle.std.proofs.lemmas.Result.{err_from_is_err_and}
 use Rattle.ptlangs.specs.Jobs.{join_job}
 use Rattle.ptlines.specs.Readers.{Reader, IsSound}
@@ -8,7 +8,7 @@ use Rattle.ptmerge.specs.declared.order.Side.{Side}
 use Rattle.ptmerge.specs.declared.order.Side.TheVariants as sides
 use Rattle.ptmerge.specs.declared.merging.sorted.Sorted.{Sorted}
 use Rattle.ptmerge.specs.Groups.{Gathered, Gathers, group}
-use Rattle.ptmerge.specs.Join.{alone_entry, join_by, join_key, pairs_of}
+use Rattle.ptmerge.specs.Join.{alone_entry, join_by, pairs_of}
 use Rattle.ptmerge.specs.Keyed.{by_keys}
 use Rattle.ptmerge.specs.LinePasses.{PassesLine}
 use Rattle.ptmerge.specs.Merges.{IsMerge, seen}
@@ -19,6 +19,7 @@ use Rattle.ptmerge.proofs.OfComm.CommTurns.{comes_slots, passes_slots, readable_
 use Rattle.ptmerge.proofs.OfJoin.JoinEntries.{join_pairs, written_alone}
 use Rattle.ptmerge.proofs.OfJoin.JoinSlots.{group_is}
 use Rattle.ptmerge.proofs.OfJoin.JoinTurns.{Between, Gathering, Pairing, Phased, alone_on, alone_stops, as_between, as_gathering, as_pairing, at_least, end_in, ended, fallen, gather_slots, gathered, gathering_sent, gathers_on, group_closed, not_gathered, not_sent, opens, pair_stops, pairs_next, pairs_on, starts_between}
+use Rattle.ptmerge.proofs.OfMerges.KeySpans.{placed_keeps}
 use Rattle.ptmerge.proofs.OfMerges.Orders.{IsKeyOrder}
 use Rattle.ptmerge.proofs.OfMerges.Pairs.{both_each}
 use Rattle.ptmerge.proofs.OfMerges.Splitting.{all_keys}
@@ -529,10 +530,11 @@ returns-in_err-pass_pairs-in-Pairing-clause-merged g c =
     let end : c.ending-ending.result ≡ job.end = c.ending-ending.ensures ∙ c.requires.ending.0 in
     let r = as_pairing tool i.o pairs laws old i.unfailed c.turns.phase now place c.turns.end i.phased c.in-Pairing.is in
     let x = line c.turns.store c.turns.merge.first.standing in
-    let key_is : join_key job sides.First (line c.turns.store c.turns.merge.first.standing) ≡ r.k = sym (c.requires.keys sides.First (line c.turns.store c.turns.merge.first.standing)) ∙ r.key1 in
+    let own = g.K.KeyOrder.key_of c.turns.merge.order sides.First x in
+    let key_is : own ≡ r.k = ap (λ k. g.K.KeyOrder.key_of k sides.First x) i.order ∙ r.key1 in
     let group_of : group c.turns.store c.turns.end ≡ r.g sides.Second = group_is (key sides.Second) c.args.store.now c.turns.store r.q.ls (r.g sides.Second) r.q.keeps c.turns.end r.q.at in
-    let pair_is : pairs_of job r.k (x ∷ []) (r.g sides.Second) ≡ pairs_of job (join_key job sides.First x) (x ∷ []) (group c.turns.store c.turns.end) = λ j. pairs_of job (sym key_is j) (x ∷ []) (sym group_of j) in
-    let wrote = wrote_as job.end c.ending-ending.result (pairs_of job (join_key job sides.First x) (x ∷ []) (group c.turns.store c.turns.end)) (pairs_of job r.k (x ∷ []) (r.g sides.Second)) c.turns.out c.pass_pairs.new.out end pair_is c.pass_pairs.ensures.wrote in
+    let pair_is : pairs_of job r.k (x ∷ []) (r.g sides.Second) ≡ pairs_of job own (x ∷ []) (group c.turns.store c.turns.end) = λ j. pairs_of job (sym key_is j) (x ∷ []) (sym group_of j) in
+    let wrote = wrote_as job.end c.ending-ending.result (pairs_of job own (x ∷ []) (group c.turns.store c.turns.end)) (pairs_of job r.k (x ∷ []) (r.g sides.Second)) c.turns.out c.pass_pairs.new.out end pair_is c.pass_pairs.ensures.wrote in
     let e = err_from_is_err_and c.from_residual-in_err-pass_pairs-in-Pairing.result c.from_residual-in_err-pass_pairs-in-Pairing.ensures.1 in
     let passes = subst (λ k. PassesLine (g.K.KeyOrder.key_of k sides.First) (g.K.KeyOrder.order k) sides.First c.turns.merge.first c.pass_pairs.new.merge.first c.turns.first c.pass_pairs.new.reader c.turns.store c.pass_pairs.new.store c.pass_pairs.new.out (Err c.in_err-pass_pairs-in-Pairing.field-0.0)) i.order c.in_err-pass_pairs-in-Pairing.ensures.passes in
     rw (e.1, e.2) (pair_stops tool i.o pairs laws old i.unfailed now place c.turns.end r slots c.pass_pairs.new.out wrote i.clean c.pass_pairs.new.reader c.pass_pairs.new.merge.first c.pass_pairs.new.store c.in_err-pass_pairs-in-Pairing.field-0.0 passes)
@@ -572,10 +574,11 @@ turns-preserved-then-not-repeats-2 g c =
     let end : c.ending-ending.result ≡ job.end = c.ending-ending.ensures ∙ c.requires.ending.0 in
     let r = as_pairing tool i.o pairs laws old i.unfailed c.turns.phase now place c.turns.end i.phased c.in-Pairing.is in
     let x = line c.turns.store c.turns.merge.first.standing in
-    let key_is : join_key job sides.First (line c.turns.store c.turns.merge.first.standing) ≡ r.k = sym (c.requires.keys sides.First (line c.turns.store c.turns.merge.first.standing)) ∙ r.key1 in
+    let own = g.K.KeyOrder.key_of c.turns.merge.order sides.First x in
+    let key_is : own ≡ r.k = ap (λ k. g.K.KeyOrder.key_of k sides.First x) i.order ∙ r.key1 in
     let group_of : group c.turns.store c.turns.end ≡ r.g sides.Second = group_is (key sides.Second) c.args.store.now c.turns.store r.q.ls (r.g sides.Second) r.q.keeps c.turns.end r.q.at in
-    let pair_is : pairs_of job r.k (x ∷ []) (r.g sides.Second) ≡ pairs_of job (join_key job sides.First x) (x ∷ []) (group c.turns.store c.turns.end) = λ j. pairs_of job (sym key_is j) (x ∷ []) (sym group_of j) in
-    let wrote = wrote_as job.end c.ending-ending.result (pairs_of job (join_key job sides.First x) (x ∷ []) (group c.turns.store c.turns.end)) (pairs_of job r.k (x ∷ []) (r.g sides.Second)) c.turns.out c.pass_pairs.new.out end pair_is c.pass_pairs.ensures.wrote in
+    let pair_is : pairs_of job r.k (x ∷ []) (r.g sides.Second) ≡ pairs_of job own (x ∷ []) (group c.turns.store c.turns.end) = λ j. pairs_of job (sym key_is j) (x ∷ []) (sym group_of j) in
+    let wrote = wrote_as job.end c.ending-ending.result (pairs_of job own (x ∷ []) (group c.turns.store c.turns.end)) (pairs_of job r.k (x ∷ []) (r.g sides.Second)) c.turns.out c.pass_pairs.new.out end pair_is c.pass_pairs.ensures.wrote in
     let comes = subst (λ k. Comes (g.K.KeyOrder.key_of k sides.First) (g.K.KeyOrder.order k) c.turns.merge.first c.pass_pairs.new.merge.first c.turns.first c.pass_pairs.new.reader c.turns.store c.pass_pairs.new.store) i.order c.in_ok-pass_pairs-in-Pairing.ensures.passes.1 in
     let next = c.pass_pairs.new.merge.first in
     let after = c.pass_pairs.new.store in
@@ -587,7 +590,7 @@ turns-preserved-then-not-repeats-2 g c =
       o = i.o;
       unfailed = i.unfailed;
       phased = (subst (λ (q : Sorted). Between tool i.o pairs laws old i.unfailed (seen c.pass_pairs.new.reader c.turns.second c.pass_pairs.new.out c.clear_group.new.store) (both next q)) (sym c.pass_pairs.ensures.others) t, refl);
-      placed = record { first = placed.first; second = placed.second; slots = omega (arith, placed.slots, c.clear_group.ensures.slots) };
+      placed = placed_keeps (g.K.KeyOrder.key_of c.pass_pairs.new.merge.order) c.pass_pairs.new.merge.first c.pass_pairs.new.merge.second c.pass_pairs.new.store c.clear_group.new.store placed (omega (arith, c.clear_group.ensures.slots)) (λ slot low. c.clear_group.ensures.others slot (inl low));
       lent1 = c.in_ok-pass_pairs-in-Pairing.ensures.lent;
       lent2 = subst (λ (q : Sorted). IsLent q c.turns.second) (sym c.pass_pairs.ensures.others) i.lent2;
       clean = c.in_ok-pass_pairs-in-Pairing.ensures.passes.0;
@@ -610,10 +613,11 @@ turns-preserved g c =
     let end : c.ending-ending.result ≡ job.end = c.ending-ending.ensures ∙ c.requires.ending.0 in
     let r = as_pairing tool i.o pairs laws old i.unfailed c.turns.phase now place c.turns.end i.phased c.in-Pairing.is in
     let x = line c.turns.store c.turns.merge.first.standing in
-    let key_is : join_key job sides.First (line c.turns.store c.turns.merge.first.standing) ≡ r.k = sym (c.requires.keys sides.First (line c.turns.store c.turns.merge.first.standing)) ∙ r.key1 in
+    let own = g.K.KeyOrder.key_of c.turns.merge.order sides.First x in
+    let key_is : own ≡ r.k = ap (λ k. g.K.KeyOrder.key_of k sides.First x) i.order ∙ r.key1 in
     let group_of : group c.turns.store c.turns.end ≡ r.g sides.Second = group_is (key sides.Second) c.args.store.now c.turns.store r.q.ls (r.g sides.Second) r.q.keeps c.turns.end r.q.at in
-    let pair_is : pairs_of job r.k (x ∷ []) (r.g sides.Second) ≡ pairs_of job (join_key job sides.First x) (x ∷ []) (group c.turns.store c.turns.end) = λ j. pairs_of job (sym key_is j) (x ∷ []) (sym group_of j) in
-    let wrote = wrote_as job.end c.ending-ending.result (pairs_of job (join_key job sides.First x) (x ∷ []) (group c.turns.store c.turns.end)) (pairs_of job r.k (x ∷ []) (r.g sides.Second)) c.turns.out c.pass_pairs.new.out end pair_is c.pass_pairs.ensures.wrote in
+    let pair_is : pairs_of job r.k (x ∷ []) (r.g sides.Second) ≡ pairs_of job own (x ∷ []) (group c.turns.store c.turns.end) = λ j. pairs_of job (sym key_is j) (x ∷ []) (sym group_of j) in
+    let wrote = wrote_as job.end c.ending-ending.result (pairs_of job own (x ∷ []) (group c.turns.store c.turns.end)) (pairs_of job r.k (x ∷ []) (r.g sides.Second)) c.turns.out c.pass_pairs.new.out end pair_is c.pass_pairs.ensures.wrote in
     let comes = subst (λ k. Comes (g.K.KeyOrder.key_of k sides.First) (g.K.KeyOrder.order k) c.turns.merge.first c.pass_pairs.new.merge.first c.turns.first c.pass_pairs.new.reader c.turns.store c.pass_pairs.new.store) i.order c.in_ok-pass_pairs-in-Pairing.ensures.passes.1 in
     let next = c.pass_pairs.new.merge.first in
     let after = c.pass_pairs.new.store in
@@ -640,6 +644,19 @@ pub returns-in_err-pass_alone-in-Second-clause-refused : goal.returns-in_err-pas
 returns-in_err-pass_alone-in-Second-clause-refused g c =
     λ few.
     absurd (omega (arith, few, c.turns.invariant.placed.slots, passes_slots (g.K.KeyOrder.key_of c.turns.merge.order sides.Second) (g.K.KeyOrder.order c.turns.merge.order) sides.Second c.turns.merge.second c.pass_alone-in-Second.new.merge.second c.turns.second c.pass_alone-in-Second.new.reader c.turns.store c.pass_alone-in-Second.new.store c.pass_alone-in-Second.new.out c.in_err-pass_alone-in-Second.field-0.0 c.in_err-pass_alone-in-Second.ensures.passes))
+
+pub returns-in_err-pass_pairs-in-Pairing-clause-slots : goal.returns-in_err-pass_pairs-in-Pairing-clause-slots
+returns-in_err-pass_pairs-in-Pairing-clause-slots g c =
+    let i = c.turns.invariant in
+    let cmp = g.K.KeyOrder.order c.args.order in
+    let key = g.K.KeyOrder.key_of c.args.order in
+    let job = join_job c.args.job.now in
+    let old = seen c.args.first.now c.args.second.now c.args.out.now c.args.store.now in
+    let now = seen c.turns.first c.turns.second c.turns.out c.turns.store in
+    let place = both c.turns.merge.first c.turns.merge.second in
+    let least = at_least (join_by job cmp key) i.o (pairs_of job) (join_pairs job cmp key) old i.unfailed c.turns.phase now place c.turns.end i.phased in
+    let same = passes_slots (g.K.KeyOrder.key_of c.turns.merge.order sides.First) (g.K.KeyOrder.order c.turns.merge.order) sides.First c.turns.merge.first c.pass_pairs.new.merge.first c.turns.first c.pass_pairs.new.reader c.turns.store c.pass_pairs.new.store c.pass_pairs.new.out c.in_err-pass_pairs-in-Pairing.field-0.0 c.in_err-pass_pairs-in-Pairing.ensures.passes in
+    record { least = omega (arith, least, same); all = λ _. omega (arith, i.placed.slots, same) }
 
 pub returns-in_err-pass_pairs-in-Pairing-clause-refused : goal.returns-in_err-pass_pairs-in-Pairing-clause-refused
 returns-in_err-pass_pairs-in-Pairing-clause-refused g c =

@@ -18,7 +18,7 @@ invariant-turns g l = record {
   unfailed : (side : Side) → (both l.fn.first l.fn.second side).failed ≡ false;
   phased : Phased (join_by (join_job l.job) (g.K.KeyOrder.order l.fn.order) (g.K.KeyOrder.key_of l.fn.order)) o (pairs_of (join_job l.job)) (join_pairs (join_job l.job) (g.K.KeyOrder.order l.fn.order) (g.K.KeyOrder.key_of l.fn.order)) (seen l.fn.first l.fn.second l.fn.out l.fn.store)
       unfailed l.phase (seen l.first l.second l.out l.store) (both l.merge.first l.merge.second) l.end;
-  placed : IsPlaced l.merge.first l.merge.second l.store;
+  placed : IsPlaced (g.K.KeyOrder.key_of l.merge.order) l.merge.first l.merge.second l.store;
   lent1 : IsLent l.merge.first l.first;
   lent2 : IsLent l.merge.second l.second;
   clean : l.out.faulted ≡ false;

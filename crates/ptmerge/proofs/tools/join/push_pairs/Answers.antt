@@ -2,9 +2,8 @@ use Rattle.std.proofs.Common.{◌-◌, ◌+◌, ◌++◌, [], ◌∷◌, List, �
 use Rattle.ptlangs.specs.Jobs.{join_job}
 use Rattle.ptlines.specs.Slots.{line}
 use Rattle.ptlines.specs.Text.{text}
-use Rattle.ptmerge.specs.declared.order.Side.TheVariants.{First}
 use Rattle.ptmerge.specs.Groups.{group}
-use Rattle.ptmerge.specs.Join.{entry, fields, join_key, pairs_of}
+use Rattle.ptmerge.specs.Join.{entry, fields, pairs_of}
 use Rattle.ptmerge.proofs.OfJoin.Amid.{amid_as, amid_more, amid_fails, amid_starts, amid_done}
 use Rattle.ptmerge.proofs.OfJoin.GroupSlots.{pairs_text, group_from, group_end}
 use Rattle.ptmerge.proofs.tools.join.push_pairs.Goals as goal
@@ -14,11 +13,11 @@ loop-slot-init g c =
     let job = join_job c.args.job.now in
     let e = c.args.ending in
     let x = c.args.line.now in
-    let k = join_key job First x in
+    let k = c.args.key.now in
     let gr = group c.args.store.now c.args.end in
     let all = text e (pairs_of job k (x ∷ []) gr) in
     record {
-      amid = amid_as c.args.out.now c.args.out.now all all (text e (map (λ b. entry job k (fields job.separator x) (fields job.separator b)) gr)) (pairs_text job e x gr c.if-not-job.false) (amid_starts c.args.out.now all c.requires.clean);
+      amid = amid_as c.args.out.now c.args.out.now all all (text e (map (λ b. entry job k (fields job.separator x) (fields job.separator b)) gr)) (pairs_text job e x k gr c.if-not-job.false) (amid_starts c.args.out.now all c.requires.clean);
       from = omega arith;
     }
 
@@ -27,7 +26,7 @@ returns-in_err-push_line-clause-wrote g c =
     let job = join_job c.args.job.now in
     let e = c.args.ending in
     let x = c.args.line.now in
-    let k = join_key job First x in
+    let k = c.args.key.now in
     let gr = group c.args.store.now c.args.end in
     let all = text e (pairs_of job k (x ∷ []) gr) in
     let entry_of = λ (b : List ℕ). entry job k (fields job.separator x) (fields job.separator b) in
@@ -37,14 +36,14 @@ returns-in_err-push_line-clause-wrote g c =
     let left = text e (map entry_of (drop ((slot + 1) - 4) gr)) in
     let is = ap (λ l. text e (map entry_of l)) (group_from c.args.store.now c.args.end slot c.requires.within i.from c.loop-slot-test.true) in
     amid_fails c.args.out.now c.loop-slot.out c.push_line.new.out all (entry_of y ++ e ∷ []) left (amid_as c.args.out.now c.loop-slot.out all (text e (map entry_of (drop (slot - 4) gr))) ((entry_of y ++ e ∷ []) ++ left) is i.amid)
-    (rw (sym c.nth_field-key.ensures, sym c.line.ensures) c.push_line.ensures.wrote) c.in_err-push_line.ensures.fault
+    (rw (sym c.line.ensures) c.push_line.ensures.wrote) c.in_err-push_line.ensures.fault
 
 pub loop-slot-preserved : goal.loop-slot-preserved
 loop-slot-preserved g c =
     let job = join_job c.args.job.now in
     let e = c.args.ending in
     let x = c.args.line.now in
-    let k = join_key job First x in
+    let k = c.args.key.now in
     let gr = group c.args.store.now c.args.end in
     let all = text e (pairs_of job k (x ∷ []) gr) in
     let entry_of = λ (b : List ℕ). entry job k (fields job.separator x) (fields job.separator b) in
@@ -55,7 +54,7 @@ loop-slot-preserved g c =
     let is = ap (λ l. text e (map entry_of l)) (group_from c.args.store.now c.args.end slot c.requires.within i.from c.loop-slot-test.true) in
     record {
       amid = amid_more c.args.out.now c.loop-slot.out c.push_line.new.out all (entry_of y ++ e ∷ []) left (amid_as c.args.out.now c.loop-slot.out all (text e (map entry_of (drop (slot - 4) gr))) ((entry_of y ++ e ∷ []) ++ left) is i.amid)
-          (rw (sym c.nth_field-key.ensures, sym c.line.ensures) c.push_line.ensures.wrote) c.in_ok-push_line.ensures.clean;
+          (rw (sym c.line.ensures) c.push_line.ensures.wrote) c.in_ok-push_line.ensures.clean;
       from = omega (arith, i.from);
     }
 
@@ -64,7 +63,7 @@ returns-clause-wrote g c =
     let job = join_job c.args.job.now in
     let e = c.args.ending in
     let x = c.args.line.now in
-    let k = join_key job First x in
+    let k = c.args.key.now in
     let gr = group c.args.store.now c.args.end in
     let all = text e (pairs_of job k (x ∷ []) gr) in
     let entry_of = λ (b : List ℕ). entry job k (fields job.separator x) (fields job.separator b) in

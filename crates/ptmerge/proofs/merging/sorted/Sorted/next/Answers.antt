@@ -1,10 +1,13 @@
-use Rattle.std.proofs.Common.{◌≡◌, ◌+◌, ◌&&◌, Bool, sym, ap, ◌∙◌, inl}
-use Rattle.std.specs.Prelude.{nat_lt, if◌then◌else◌}
-use Rattle.std.specs.Ordering.{is_eq, is_gt}
+-- The span of the line at which the input stood is that of the line before now, since its slot keeps its line. So the
+-- two keys that are compared are the keys of both lines.
+use Rattle.std.proofs.Common.{◌≡◌, ◌<◌, ◌+◌, sym, ap, ◌∙◌, inl, arith}
+use Rattle.std.specs.Prelude.{if◌then◌else◌}
+use Rattle.std.specs.List.{slice_range}
+use Rattle.std.proofs.lemmas.Bool.Decides.{nat_tests}
 use Rattle.ptlines.specs.Slots.{Slots, line}
 use Rattle.ptlines.proofs.Filling.{line_of}
 use Rattle.ptmerge.specs.declared.merging.sorted.Stand.TheVariants.{Head, Disorder}
-use Rattle.ptmerge.specs.Places.{same_at, stand_at}
+use Rattle.ptmerge.proofs.OfMerges.KeySpans.{later_stands}
 use Rattle.ptmerge.proofs.OfMerges.Slotted.{line_other}
 use Rattle.ptmerge.proofs.merging.sorted.Sorted.next.Goals as goal
 
@@ -14,14 +17,16 @@ returns-clause-moves g c =
     let cmp = g.K.KeyOrder.order c.args.order.now in
     let old = c.args.self.now in
     let before = c.args.store.now in
+    let after = c.fill.new.store in
+    let span = c.span-self.result in
+    let some : 0 < old.number = grind (arith, nat_tests, c.if-number-eq0.false) in
     let e = rw c.in-Ok-true.field-0-test at (c.in-Ok-true.ensures.fills c.requires.clean) in
-    let last : c.line.result.now ≡ line before old.standing =
-    c.line.ensures ∙ ap (λ (s : Slots). line s old.standing) e.stored ∙ line_other before old.previous old.standing e.line (λ is. c.requires.apart (sym is)) in
-    let next : c.line-2.result.now ≡ e.line = c.line-2.ensures ∙ ap (λ (s : Slots). line s old.previous) e.stored ∙ line_of before old.previous e.line c.requires.previous in
-    let is : c.cmp-ordering.result ≡ cmp (key (line before old.standing)) (key e.line) =
-    c.cmp-ordering.ensures ∙ (λ i. cmp ((c.key-old.ensures ∙ ap key last) i) ((c.key-new.ensures ∙ ap key next) i)) in
-    let stand : c.stand_at-self.result ≡ stand_at key cmp old.number (line before old.standing) e.line =
-    c.stand_at-self.ensures ∙ ap (λ (t : Bool). if nat_lt 0 old.number && t then Disorder (old.number + 1) else Head) (c.is_gt.ensures ∙ ap is_gt is) in
-    let same : c.same_at-self.result ≡ same_at key cmp old.number (line before old.standing) e.line =
-    c.same_at-self.ensures ∙ ap (λ (t : Bool). nat_lt 0 old.number && t) (c.is_eq.ensures ∙ ap is_eq is) in
-    inl (record { gives = e; place = λ i. record { standing = old.previous; previous = old.standing; number = old.number + 1; stand = stand i; same = same i }; sound = c.fill.ensures.is_sound })
+    let last_is : line after old.standing ≡ line before old.standing = ap (λ (s : Slots). line s old.standing) e.stored ∙ line_other before old.previous old.standing e.line (λ is. c.requires.apart (sym is)) in
+    let next_is : line after old.previous ≡ e.line = ap (λ (s : Slots). line s old.previous) e.stored ∙ line_of before old.previous e.line c.requires.previous in
+    let last : c.last_key.result.now ≡ key (line before old.standing) = c.last_key.ensures ∙ (λ i. slice_range (last_is i) old.key.start old.key.end) ∙ (c.requires.key some).bytes_are in
+    let next : c.head_key.result.now ≡ key e.line = c.head_key.ensures ∙ (λ i. slice_range (sym c.line.ensures i) span.start span.end) ∙ c.span-self.ensures.bytes_are ∙ ap key (c.line.ensures ∙ next_is) in
+    let is : c.cmp-ordering.result ≡ cmp (key (line before old.standing)) (key e.line) = c.cmp-ordering.ensures ∙ (λ i. cmp (last i) (next i)) in
+    let stands = later_stands key cmp old.number (line before old.standing) e.line c.cmp-ordering.result some is in
+    let stand = c.stand_at-self.ensures ∙ ap (λ t. if t then Disorder (old.number + 1) else Head) c.is_gt.ensures ∙ stands.0 in
+    let same = c.is_eq-self.ensures ∙ stands.1 in
+    inl (record { gives = e; place = λ i. record { standing = old.previous; previous = old.standing; number = old.number + 1; stand = stand i; same = same i; key = span; last = old.key }; sound = c.fill.ensures.is_sound })

@@ -1,6 +1,7 @@
 use Rattle.std.proofs.Common.{sym, ◌∙◌}
 use Rattle.ptlangs.proofs.Elements.{split_whole, split_around}
 use Rattle.ptmerge.specs.JoinFields.{ends_field}
+use Rattle.ptmerge.proofs.OfJoin.FieldSpans.{piece_at}
 use Rattle.ptmerge.proofs.tools.join.fields.first_piece.Goals as goal
 
 pub returns-in-None-clause-first : goal.returns-in-None-clause-first
@@ -8,3 +9,6 @@ returns-in-None-clause-first c = split_whole (ends_field c.args.separator) c.arg
 
 pub returns-in-Some-clause-first : goal.returns-in-Some-clause-first
 returns-in-Some-clause-first c = split_around (ends_field c.args.separator) c.args.bytes.now c.in-Some.end (sym c.field_end.ensures ∙ c.in-Some.is)
+
+pub returns-in-Some-clause-placed : goal.returns-in-Some-clause-placed
+returns-in-Some-clause-placed c = piece_at (ends_field c.args.separator) c.args.bytes.now c.in-Some.end (sym c.field_end.ensures ∙ c.in-Some.is)

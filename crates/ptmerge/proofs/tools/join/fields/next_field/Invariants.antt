@@ -1,10 +1,15 @@
 use Rattle.std.proofs.Common.{◌≡◌, option_copied}
 use Rattle.ptmerge.specs.JoinFields.{fields_left}
 use Rattle.ptmerge.proofs.OfJoin.FieldLemmas.{left_length}
+use Rattle.ptmerge.proofs.OfJoin.FieldSpans.{LeftOf}
 use Rattle.ptmerge.proofs.tools.join.fields.next_field.Given as goal
 
+-- What is left has the same fields, since only empty words were passed, and it is an end of the line.
 abbrev pub invariant-pieces : goal.invariant-pieces
-invariant-pieces l = fields_left l.separator (option_copied l.left) ≡ fields_left l.separator (option_copied l.fn.line)
+invariant-pieces l = record {
+  same : fields_left l.separator (option_copied l.left) ≡ fields_left l.separator (option_copied l.fn.line);
+  ends : LeftOf (option_copied l.fn.line) (option_copied l.left);
+}
 
 abbrev pub decreases-pieces : goal.decreases-pieces
 decreases-pieces l = left_length (option_copied l.left)

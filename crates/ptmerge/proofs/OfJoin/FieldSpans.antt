@@ -1,0 +1,100 @@
+-- Where the fields of a line stand in it.
+use Rattle.std.proofs.Common.{◌≡◌, ℕ, suc, ◌+◌, ◌-◌, ◌<◌, ◌==◌, Bool, true, false, cond, ltb, List, [], ◌∷◌, ◌++◌, Option, Some, None, length, take, drop, get_or, refl, sym, ◌∙◌, ap, subst, arith, append_assoc}
+use Rattle.std.specs.Prelude.{IfSome, MatchOption, filter, is_some, position, unwrap_or}
+use Rattle.std.specs.List.{position_or_len, slice_split}
+use Rattle.std.proofs.Math.Seq.{drop-cons}
+use Rattle.std.proofs.lemmas.Bool.{false≢true}
+use Rattle.std.proofs.lemmas.Bool.Decides.{nat_tests}
+use Rattle.std.proofs.lemmas.List.{length-drop, take-append-drop, take_all}
+use Rattle.ptmerge.specs.Join.{has_bytes, is_blank}
+use Rattle.ptmerge.specs.JoinFields.{IsFieldIn, IsPiece, ends_field, fields_left}
+use Rattle.ptmerge.specs.Spans.{IsSpan}
+
+-- the end of a line
+abbrev pub EndOf : List ℕ → List ℕ → Type 0
+EndOf line left = (front : List ℕ) × (line ≡ front ++ left)
+
+-- what is left of a line, if anything is
+abbrev pub LeftOf : Option (List ℕ) → Option (List ℕ) → Type 0
+LeftOf line left = IfSome left (λ b. MatchOption line ⊥ (λ l. EndOf l b))
+
+pub left_whole : (line : Option (List ℕ)) → LeftOf line line
+left_whole None = tt
+left_whole (Some l) = ([], refl)
+
+-- a piece of the end of a line is a piece of the line
+pub piece_in : (line bytes field : List ℕ) (behind : Option (List ℕ)) → EndOf line bytes → IsPiece bytes field behind → IsPiece line field behind
+piece_in line bytes field behind e p = record { front = e.0 ++ p.front; tail = p.tail; is = e.1 ∙ ap (λ (l : List ℕ). e.0 ++ l) p.is ∙ sym (append_assoc e.0 p.front (field ++ p.tail)); ends = p.ends }
+
+pub field_in : (line : Option (List ℕ)) (bytes field : List ℕ) (behind : Option (List ℕ)) → LeftOf line (Some bytes) → IsPiece bytes field behind → IsFieldIn line field behind
+field_in None bytes field behind e p = absurd e
+field_in (Some l) bytes field behind e p = piece_in l bytes field behind e p
+
+-- what is left behind a piece is the end of the line too
+pub end_behind : (line field left : List ℕ) → IsPiece line field (Some left) → EndOf line left
+end_behind line field left p = (p.front ++ (field ++ (p.ends.0 ∷ [])), p.is ∙ ap (λ (l : List ℕ). p.front ++ (field ++ l)) p.ends.1 ∙ ap (λ (l : List ℕ). p.front ++ l) (sym (append_assoc field (p.ends.0 ∷ []) left)) ∙ sym (append_assoc p.front (field ++ (p.ends.0 ∷ [])) left))
+
+pub end_of_end : (line bytes left : List ℕ) → EndOf line bytes → EndOf bytes left → EndOf line left
+end_of_end line bytes left a b = (a.0 ++ b.0, a.1 ∙ ap (λ (l : List ℕ). a.0 ++ l) b.1 ∙ sym (append_assoc a.0 b.0 left))
+
+pub left_behind : (line : Option (List ℕ)) (bytes field : List ℕ) (behind : Option (List ℕ)) → LeftOf line (Some bytes) → IsPiece bytes field behind → LeftOf line behind
+left_behind line bytes field None e p = tt
+left_behind None bytes field (Some left) e p = absurd e
+left_behind (Some l) bytes field (Some left) e p = end_of_end l bytes left e (end_behind bytes field left p)
+
+pub left_next : (line left : Option (List ℕ)) (field : List ℕ) (behind : Option (List ℕ)) → LeftOf line left → IsFieldIn left field behind → LeftOf line behind
+left_next line None field behind e p = absurd p
+left_next line (Some bytes) field behind e p = left_behind line bytes field behind e p
+
+pub in_whole : (line : List ℕ) (left : Option (List ℕ)) (field : List ℕ) (behind : Option (List ℕ)) → LeftOf (Some line) left → IsFieldIn left field behind → IsPiece line field behind
+in_whole line None field behind e p = absurd p
+in_whole line (Some bytes) field behind e p = piece_in line bytes field behind e p
+
+-- ---- the first piece
+
+some_when : (t : Bool) (n i : ℕ) → cond t (Some n) None ≡ Some i → (t ≡ true) × (n ≡ i)
+some_when true n i h = (refl, ap (λ (o : Option ℕ). unwrap_or o 0) h)
+some_when false n i h = cc
+
+low : (i n : ℕ) → ltb i n ≡ true → i < n
+low i n h = grind (arith, nat_tests)
+
+located : (p : ℕ → Bool) (bytes : List ℕ) (at : ℕ) → position p bytes ≡ Some at → at < length bytes
+located p bytes at h = let t = some_when (ltb (position_or_len p bytes) (length bytes)) (position_or_len p bytes) at h in subst (λ (n : ℕ). n < length bytes) t.1 (low (position_or_len p bytes) (length bytes) t.0)
+
+-- the bytes in front of the first one that passes, with those behind it left
+pub piece_at : (p : ℕ → Bool) (bytes : List ℕ) (at : ℕ) → position p bytes ≡ Some at → IsPiece bytes (take at bytes) (Some (take (length bytes - (at + 1)) (drop (at + 1) bytes)))
+piece_at p bytes at is = record {
+  front = [];
+  tail = drop at bytes;
+  is = sym (take-append-drop at bytes);
+  ends = (get_or bytes at 0, drop-cons bytes at 0 (located p bytes at is) ∙ (λ i. get_or bytes at 0 ∷ drop (step i) bytes) ∙ ap (λ (l : List ℕ). get_or bytes at 0 ∷ l) (sym rest));
+}
+  where
+    step : suc at ≡ at + 1
+    step = omega arith
+
+    rest : take (length bytes - (at + 1)) (drop (at + 1) bytes) ≡ drop (at + 1) bytes
+    rest = take_all (length bytes - (at + 1)) (drop (at + 1) bytes) (omega (arith, length-drop (at + 1) bytes))
+
+-- no bytes stand at the front
+pub span_none : (line bytes : List ℕ) → bytes ≡ [] → IsSpan line bytes (record { start = 0; end = 0 })
+span_none line bytes none = record { ordered = omega arith; within = omega arith; bytes_are = sym none }
+
+-- ---- a word of no bytes is passed over
+
+empty_word : (field : List ℕ) → (length field == 0) ≡ true → has_bytes field ≡ false
+empty_word [] h = refl
+empty_word (x ∷ xs) h = absurd (false≢true (sym (few (length xs)) ∙ h))
+  where
+    few : (n : ℕ) → (suc n == 0) ≡ false
+    few n = grind (arith, nat_tests)
+
+word_dropped : (field : List ℕ) (fs : List (List ℕ)) → has_bytes field ≡ false → filter has_bytes (field ∷ fs) ≡ filter has_bytes fs
+word_dropped field fs none = ap (λ (t : Bool). cond t (field ∷ filter has_bytes fs) (filter has_bytes fs)) none
+
+pub word_passed : (separator : Option ℕ) (bytes field : List ℕ) (behind : Option (List ℕ)) → is_some separator ≡ false → (length field == 0) ≡ true
+    → MatchOption behind (slice_split (ends_field separator) bytes ≡ field ∷ []) (λ left. slice_split (ends_field separator) bytes ≡ field ∷ slice_split (ends_field separator) left) → fields_left separator behind ≡ fields_left separator (Some bytes)
+word_passed (Some c) bytes field behind none empty first = absurd (false≢true (sym none))
+word_passed None bytes field None none empty first = sym (ap (filter has_bytes) first ∙ word_dropped field [] (empty_word field empty))
+word_passed None bytes field (Some left) none empty first = sym (ap (filter has_bytes) first ∙ word_dropped field (slice_split is_blank left) (empty_word field empty))
