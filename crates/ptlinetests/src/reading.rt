@@ -413,6 +413,21 @@ fn lines_and_blocks_in_turn(rt: HostRuntime) -> Result<(), Fail> {
     Ok(())
 }
 
+#[test]
+fn what_was_not_given_is_held(rt: HostRuntime) -> Result<(), Fail> {
+    let source = Pieces::new(b"ab\ncd\nef", 4, u64::MAX);
+    let mut reader: LineReader<Pieces<'_>, Pieces<'_>> = LineReader::standard(source);
+    let mut store = Store::new(rt.alloc(), 1)?;
+    assert!(rt; reader.held().is_empty());
+    gives(&rt, &mut reader, &mut store, b"ab");
+    assert!(rt; reader.held() == b"c".as_slice());
+    gives(&rt, &mut reader, &mut store, b"cd");
+    assert!(rt; reader.held() == b"ef".as_slice());
+    reader.consume(1);
+    assert!(rt; reader.held() == b"f".as_slice());
+    Ok(())
+}
+
 // Reads a line of 20,000 bytes, or a beginning of it where a growth is refused: then nothing more is read.
 fn reads_while_it_grows<S: Source, R: Source, A: Allocator + Copy>(
     rt: &impl Abort,
