@@ -51,7 +51,7 @@ more_than_a_block_is_lost : (t : Tool) (bytes written : List ℕ) → length wri
 more_than_a_block_is_lost t bytes written much k = omega (arith, (written_of_the_first t bytes written true k).0, much)
 
 abbrev copier : Tool
-copier = record { text = λ text. text; decided = λ given. given.bytes; size = λ text. 0; slots = 0 }
+copier = record { text = λ text. text; decided = λ given. given.bytes; size = λ text. 0; slots = 0; end = 10 }
 
 -- Nothing was written of 20,000 bytes of the one input that a tool takes, each of which is decided once it came.
 nothing_of_one_input : Earlier (together [] (of_one copier) [] (0 ∷ [])) (Some (record { bytes = replicate 20000 120; ended = false }) ∷ []) 0 (λ decided. KeptUp decided [] false) → ⊥
