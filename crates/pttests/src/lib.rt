@@ -52,4 +52,6 @@ mod through_std;
 #[cfg(test)]
 mod translating;
 #[cfg(test)]
+mod unread;
+#[cfg(test)]
 mod writing;

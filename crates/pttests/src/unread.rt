@@ -72,13 +72,3 @@ fn tr_stops_at_a_failed_write(rt: HostRuntime) {
 fn uniq_stops_at_a_failed_write(rt: HostRuntime) {
     expect_pulls(&rt, rt.alloc(), &["uniq"], 2);
 }
-
-#[test]
-fn paste_in_series_stops_at_a_failed_write(rt: HostRuntime) {
-    expect_pulls(&rt, rt.alloc(), &["paste", "-s"], 1);
-}
-
-#[test]
-fn paste_in_rows_stops_at_a_failed_write(rt: HostRuntime) {
-    expect_pulls(&rt, rt.alloc(), &["paste"], 1);
-}
