@@ -227,6 +227,9 @@ fn what_is_staged_is_sent_before_a_read(rt: HostRuntime) -> Result<(), Fail> {
     let mut gathers = over(b"a\nb\n", b"b 2\n");
     gathers.size = 4;
     assert_eq!(rt; calls(&rt, rt.alloc(), &job, &gathers)?, 3);
+    let mut pairs = over(b"a 1\nc 1\n", b"a 2\nd\n");
+    pairs.size = 4;
+    assert_eq!(rt; calls(&rt, rt.alloc(), &job, &pairs)?, 4);
     Ok(())
 }
 

@@ -125,8 +125,8 @@ fn standard_of(input: Input<'_>) -> Reader<'_>
     }
 }
 
-// How many files a command names.
-fn files_named<A: Allocator>(command: &Result<Command<'_, A>, UseFault<'_>>) -> usize
+/// How many files a command names.
+pub fn files_named<A: Allocator>(command: &Result<Command<'_, A>, UseFault<'_>>) -> usize
     ensures { result ≡ count_of command.now }
 {
     match command {

@@ -27,3 +27,5 @@ mod peaks;
 mod refusals;
 #[cfg(test)]
 mod repeats;
+#[cfg(test)]
+mod unread;

@@ -75,10 +75,10 @@ fn uniq_stops_at_a_failed_write(rt: HostRuntime) {
 
 #[test]
 fn paste_in_series_stops_at_a_failed_write(rt: HostRuntime) {
-    expect_pulls(&rt, rt.alloc(), &["paste", "-s"], 1);
+    expect_pulls(&rt, rt.alloc(), &["paste", "-s", "-"], 1);
 }
 
 #[test]
 fn paste_in_rows_stops_at_a_failed_write(rt: HostRuntime) {
-    expect_pulls(&rt, rt.alloc(), &["paste"], 1);
+    expect_pulls(&rt, rt.alloc(), &["paste", "-"], 1);
 }
