@@ -9,3 +9,5 @@ pub mod RowTurns
 pub mod SerialRests
 pub mod SheetRows
 pub mod Takes
+pub mod Turns
+pub mod WholeRows

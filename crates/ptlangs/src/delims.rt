@@ -84,6 +84,14 @@ impl<A: Allocator> Delims<A> {
         Ok(Delims { kept })
     }
 
+    /// The delimiters, in the order of the list, which has at least one.
+    pub fn as_slice(&self) -> &[Option<u8>]
+        ensures all { result.now ≡ self.now }
+        ensures some { 0 < length result.now }
+    {
+        &self.kept[..]
+    }
+
     /// How many there are.
     pub fn count(&self) -> usize
         ensures { result ≡ length self.now }

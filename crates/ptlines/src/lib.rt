@@ -20,7 +20,7 @@ pub use near::copy_near;
 pub use out::{Out, WriteFault, send};
 pub use parts::parts_of_lines;
 pub use reader::LineReader;
-pub use search::find_near;
+pub use search::{find_in, find_near};
 pub use sink::{Failed, Sink};
 pub use source::Source;
 pub use std_ends::{FromRead, FromWrite};

@@ -11,7 +11,7 @@ ghost use Rattle.ptlines.specs.Fills.{Moves, Steps, GivesLine, Fills, Blocks};
 ghost use Rattle.ptlines.specs.contracts.reader.LineReader.{the_row};
 
 use crate::out::{Out, WriteFault};
-use crate::search::{find_in_64, find_near};
+use crate::search::{find_in, find_near};
 use crate::sink::{Failed, Sink};
 use crate::source::{Origin, Source};
 use crate::store::{LineFault, Store};
@@ -139,9 +139,9 @@ impl<S: Source, R: Source> LineReader<S, R> {
         self.ending
     }
 
-    // The bytes that the block holds.
+    /// The bytes of the block that were not given. Nothing is read, so an empty slice says nothing of the end.
     #[inline(always)]
-    fn held(&self) -> &[u8]
+    pub fn held(&self) -> &[u8]
         ensures held { result.now ≡ self.now.held }
         ensures sound { IsSound self.now }
     {
@@ -166,7 +166,7 @@ impl<S: Source, R: Source> LineReader<S, R> {
         self.ended
     }
 
-    /// Moves past bytes of the block: at most as many as [`block`](LineReader::block) shows.
+    /// Moves past bytes of the block: at most as many as [`held`](LineReader::held) shows.
     pub fn consume(&mut self, count: usize)
         requires { count ≤ length self.old.held }
         ensures consumed { self.new ≡ record self.old { held = drop count self.old.held } }
@@ -299,7 +299,7 @@ impl<S: Source, R: Source> LineReader<S, R> {
         ensures sound { IsSound self.new }
     {
         let from = self.start;
-        let Some(at) = find_in_64(self.ending, &self.block, from) else {
+        let Some(at) = find_in::<64>(self.ending, &self.block, from) else {
             return false;
         };
         if at >= self.end {

@@ -6,29 +6,15 @@ ghost use Rattle.memchr.specs.Find.{IsFirst, IsFirstByte, Nowhere, Passes, is_by
 use memchr::memchr;
 use std::simd::prelude::*;
 
-// The first of the first 16 places that holds the byte.
+/// The first of the N places from one on that holds the byte, by one look.
 #[inline(always)]
-fn find_in_16(byte: u8, bytes: &[u8]) -> Option<usize>
-    requires { 16 ≤ length bytes.now }
-    ensures { IsFirst (Passes (is_byte byte) bytes.now) 0 16 result }
+pub fn find_in<const N: usize>(byte: u8, bytes: &[u8], at: usize) -> Option<usize>
+    requires lanes { N ≤ 64 }
+    requires within { at + N ≤ length bytes.now }
+    ensures { IsFirst (Passes (is_byte byte) bytes.now) at (at + N) result }
 {
-    let marked = u8x16::from_slice(bytes)
-        .simd_eq(u8x16::splat(byte))
-        .to_bitmask();
-    if marked == 0 {
-        return None;
-    }
-    Some(marked.trailing_zeros() as usize)
-}
-
-// The first of the 64 places from one on that holds the byte.
-#[inline(always)]
-pub(crate) fn find_in_64(byte: u8, bytes: &[u8], at: usize) -> Option<usize>
-    requires { at + 64 ≤ length bytes.now }
-    ensures { IsFirst (Passes (is_byte byte) bytes.now) at (at + 64) result }
-{
-    let marked = u8x64::from_slice(&bytes[at..])
-        .simd_eq(u8x64::splat(byte))
+    let marked = Simd::<u8, N>::from_slice(&bytes[at..])
+        .simd_eq(Simd::splat(byte))
         .to_bitmask();
     if marked == 0 {
         return None;
@@ -49,13 +35,13 @@ fn find_far(byte: u8, bytes: &[u8], from: usize) -> Option<usize>
     }
     let mut at = from;
     while bytes.len() - at >= 64 {
-        let near = find_in_64(byte, bytes, at);
+        let near = find_in::<64>(byte, bytes, at);
         if near.is_some() {
             return near;
         }
         at += 64;
     }
-    find_in_64(byte, bytes, bytes.len() - 64)
+    find_in::<64>(byte, bytes, bytes.len() - 64)
 }
 
 /// The first place of a byte, as `memchr` finds it, but faster where it is one of the first 16, as the
@@ -67,7 +53,7 @@ pub fn find_near(byte: u8, bytes: &[u8]) -> Option<usize>
     if bytes.len() < 16 {
         return find_far(byte, bytes, 0);
     }
-    let near = find_in_16(byte, bytes);
+    let near = find_in::<16>(byte, bytes, 0);
     if near.is_some() {
         return near;
     }

@@ -3,7 +3,7 @@
 use crate::comparing::{holds_of, same, same_of};
 use ptfakes::texts::{is_line, lines_of, text_of};
 use ptfakes::{Pieces, Refusing, Repeated, Watched};
-use ptlines::{LineFault, LineReader, Source, Store, find_near};
+use ptlines::{LineFault, LineReader, Source, Store, find_in, find_near};
 use std::alloc::{Allocator, Global};
 use std::cell::Cell;
 use std::process::Abort;
@@ -413,6 +413,21 @@ fn lines_and_blocks_in_turn(rt: HostRuntime) -> Result<(), Fail> {
     Ok(())
 }
 
+#[test]
+fn what_was_not_given_is_held(rt: HostRuntime) -> Result<(), Fail> {
+    let source = Pieces::new(b"ab\ncd\nef", 4, u64::MAX);
+    let mut reader: LineReader<Pieces<'_>, Pieces<'_>> = LineReader::standard(source);
+    let mut store = Store::new(rt.alloc(), 1)?;
+    assert!(rt; reader.held().is_empty());
+    gives(&rt, &mut reader, &mut store, b"ab");
+    assert!(rt; reader.held() == b"c");
+    gives(&rt, &mut reader, &mut store, b"cd");
+    assert!(rt; reader.held() == b"ef");
+    reader.consume(1);
+    assert!(rt; reader.held() == b"f");
+    Ok(())
+}
+
 // Reads a line of 20,000 bytes, or a beginning of it where a growth is refused: then nothing more is read.
 fn reads_while_it_grows<S: Source, R: Source, A: Allocator + Copy>(
     rt: &impl Abort,
@@ -493,6 +508,11 @@ fn finds(rt: &impl Abort, alloc: Global, place: usize) -> Result<(), Fail> {
 
 #[test]
 fn a_byte_is_found(rt: HostRuntime) -> Result<(), Fail> {
+    let few = b"ab\ncd\n0123456789abcdef";
+    same(&rt, &find_in::<4>(b'\n', few, 0), &Some(2));
+    same(&rt, &find_in::<4>(b'\n', few, 3), &Some(5));
+    same(&rt, &find_in::<2>(b'\n', few, 0), &None);
+    same(&rt, &find_in::<16>(b'\n', few, 6), &None);
     same(&rt, &find_near(b'\n', b""), &None);
     for place in [0, 1, 15, 16, 29, 30, 31, 32, 33, 63, 64, 65, 8191, 20000] {
         finds(&rt, rt.alloc(), place)?;

@@ -54,6 +54,8 @@ fn refuses_by_the_first_faulty_element(rt: HostRuntime) {
 fn begins_again_behind_the_last(rt: HostRuntime) -> Result<(), Fail> {
     let delims = Delims::read(rt.alloc(), b"\\0,;")?;
     same(&rt, &delims.count(), &3);
+    same(&rt, &delims.as_slice().len(), &3);
+    same(&rt, &delims.as_slice().contains(&Some(b';')), &true);
     same(&rt, &delims.at(0), &None);
     same(&rt, &delims.at(1), &Some(b','));
     same(&rt, &delims.at(2), &Some(b';'));

@@ -10,7 +10,7 @@ use Rattle.ptlines.specs.Text.{text, lines, ended_lines, IsLine, AreLines, longe
 use Rattle.ptlines.specs.Inputs.{Given, Begins, Agrees, Came, whole_lines}
 use Rattle.ptlines.specs.KeepingUp.{KeepsUp}
 use Rattle.ptlines.specs.Outputs.{Output, Wrote}
-use Rattle.ptlines.specs.Readers.{Reader, Reads, IsDone, HasReadCause}
+use Rattle.ptlines.specs.Readers.{Reader, Reads, IsDone, HasReadCause, budget}
 use Rattle.ptlines.specs.Slots.{Slots, line, total, with_line, with_denied}
 use Rattle.ptlines.proofs.Coming.{came_of, came_of_set}
 use Rattle.ptlines.proofs.Filling.{reads_trans}
@@ -23,6 +23,7 @@ use Rattle.ptflow.specs.PastePasses.{reader_at, put_at, IsReadable, AreReady, Re
 use Rattle.ptflow.specs.Pastes.{glued_from, times, columns, rows, sheet, paste, paste_decided, paste_size}
 use Rattle.ptflow.specs.Workings.Paste.RowTurns.{AreSet, KeepsCells, RowTaken, FillsRow, is_write}
 use Rattle.ptflow.specs.Workings.Paste.TakenLines.{LinesCame, Took}
+use Rattle.ptflow.specs.Workings.Paste.WholeRows.{FillsWhole, PassedRow}
 use Rattle.ptflow.specs.declared.faults.FlowFault.{FlowFault}
 use Rattle.ptflow.specs.declared.faults.FlowFault.TheVariants.{Read, Write, Memory}
 use Rattle.ptflow.proofs.OfPaste.CellSlots.{cells_start, cells_line, cells_total}
@@ -176,8 +177,9 @@ module _ (job : Paste) (cells : List ℕ) where
             each_is (λ c p. slice_index_or (got p) (times (take c cells) p) []) cells (take (length cells) after.lines) [] (length-take-le (length cells) after.lines room)
             (λ d within. get_or-take (length cells) after.lines d [] within ∙ t.slots d within)
 
-        pub pasting_more : (is' : Output) → Wrote is is' (glued_from job.delimiters 0 (take (length cells) after.lines) ++ job.end ∷ []) → is'.faulted ≡ false → Pasting job cells set new was is' first after
-        pasting_more is' wrote clean = record {
+        row_passed : (held : Slots) → ((top : ℕ → ℕ) → ((p : ℕ) → longest (s.ls p ++ got p) ≤ top p) → KeepsCells cells top first held)
+            → (is' : Output) → Wrote is is' (glued_from job.delimiters 0 (take (length cells) after.lines) ++ job.end ∷ []) → is'.faulted ≡ false → Pasting job cells set new was is' first held
+        row_passed held kept is' wrote clean = record {
           n = s.n + 1;
           ls = λ p. s.ls p ++ got p;
           passed = s.passed ++ each (λ c p. slice_index_or (got p) (times (take c cells) p) []) cells ∷ [];
@@ -189,12 +191,19 @@ module _ (job : Paste) (cells : List ℕ) where
               (wrote_trans was is is' (sheet job s.passed) (sheet job (each (λ c p. slice_index_or (got p) (times (take c cells) p) []) cells ∷ [])) s.clean s.wrote
               (subst (λ (b : List ℕ). Wrote is is' b) (ap (λ (l : List (List ℕ)). glued_from job.delimiters 0 l ++ job.end ∷ []) slots_are ∙ sym (append-nil (glued_from job.delimiters 0 (each (λ c p. slice_index_or (got p) (times (take c cells) p) []) cells) ++ job.end ∷ []))) wrote));
           clean = clean;
-          kept = more_kept;
+          kept = kept;
           same = t.count ∙ s.same;
         }
           where
             taken : (more : ℕ → Column) → ((p : ℕ) → IsDone (reader_at new p) → more p ≡ []) → Taken cells got more
             taken more may = record { all = λ p. ⊎_elim (λ same. inl same) (λ few. inr (may p few.0, few.1)) (whole_took p).enough }
+
+        pub pasting_more : (is' : Output) → Wrote is is' (glued_from job.delimiters 0 (take (length cells) after.lines) ++ job.end ∷ []) → is'.faulted ≡ false → Pasting job cells set new was is' first after
+        pasting_more is' wrote clean = row_passed after more_kept is' wrote clean
+
+        -- the same where its cells were in no slots
+        pub pasting_unstored : (is' : Output) → Wrote is is' (glued_from job.delimiters 0 (take (length cells) after.lines) ++ job.end ∷ []) → is'.faulted ≡ false → Pasting job cells set new was is' first store
+        pasting_unstored is' wrote clean = row_passed store (λ top high. s.kept top (λ p. omega (arith, high p, longest-append (s.ls p) (got p)))) is' wrote clean
 
 none_in : (cells : List ℕ) → sum_by (λ (p : ℕ). 0) cells ≡ 0
 none_in [] = refl
@@ -772,3 +781,56 @@ paste_halted job cells old was first ready fault = record {
   untouched = λ p none. refl;
   halted = λ h. record { told = refl; same_readers = refl; same_output = refl; same_store = refl };
 }
+
+-- ---- rows that lie whole in what the readers hold
+
+-- nothing happened
+pub pasting_still : (job : Paste) (cells : List ℕ) (set now new : List Reader) (was is is' : Output) (first store : Slots) → Pasting job cells set now was is first store → new ≡ now → is' ≡ is → Pasting job cells set new was is' first store
+pasting_still job cells set now new was is is' first store s same out =
+    subst (λ (o : Output). Pasting job cells set new was o first store) (sym out) (subst (λ (r : List Reader). Pasting job cells set r was is first store) (sym same) s)
+
+module _ (job : Paste) (cells : List ℕ) (set now new : List Reader) (was is is' : Output) (first store : Slots) (s : Pasting job cells set now was is first store) (p : PassedRow job.end job.delimiters cells now new is is') where
+  row_filled : FillsWhole job.end job.delimiters cells now new p.written store
+  row_filled = p.fills store (pasting_room job cells set now was is first store s)
+
+  row_wrote : Wrote is is' (glued_from job.delimiters 0 (take (length cells) row_filled.store.lines) ++ job.end ∷ [])
+  row_wrote = subst (λ (b : List ℕ). Wrote is is' b) row_filled.is p.wrote
+
+  -- less is left
+  pub passed_less : sum_by budget new < sum_by budget now
+  passed_less = row_filled.filled.less refl
+
+  -- a row was passed
+  pub pasting_whole : ((p : ℕ) → 0 < times cells p → (reader_at set p).ending ≡ job.end) → is'.faulted ≡ false → Pasting job cells set new was is' first store
+  pasting_whole named_end clean =
+      let r = row_filled.filled in
+      let k = r.some refl in
+      pasting_unstored job cells set now was is first store s named_end new row_filled.store r.got r.taken k.0 k.1 k.2 is' row_wrote clean
+
+  -- a write failed while it was pushed
+  pub paste_whole_write : (old : List Reader) → was.faulted ≡ false → AreReady cells old first → AreSet job.end cells old set → is'.faulted ≡ true → IsPastePass job cells old new was is' first store (Err Write)
+  paste_whole_write old writable ready are_set fault = record {
+    given = i.given;
+    came = i.came;
+    pushed = i.pushed;
+    wrote = i.wrote;
+    ends = record { faulted = i.ends.faulted; failed = i.ends.failed; denied = k.denied };
+    true_so_far = i.true_so_far;
+    sure = i.sure;
+    keeps_up = i.keeps_up;
+    whole = i.whole;
+    peak = λ texts a. omega (arith, row_filled.peak, i.peak texts a);
+    slots = λ clean. k.adds;
+    refused = λ clean few. absurd (omega (arith, few, k.adds.all k.denied));
+    untouched = i.untouched;
+    halted = λ halted. absurd (false≢true (sym writable ∙ halted));
+  }
+    where
+      i : IsPastePass job cells old new was is' first row_filled.store (Err Write)
+      i =
+          let r = row_filled.filled in
+          let c = r.some refl in
+          paste_write job cells old set now was is first store s writable ready are_set new row_filled.store r.got r.taken c.0 c.1 c.2 is' row_wrote fault
+
+      k : KeepsCells cells (λ p. longest (s.ls p)) first store
+      k = s.kept (λ p. longest (s.ls p)) (λ p. omega arith)

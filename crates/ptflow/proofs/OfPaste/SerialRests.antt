@@ -1,17 +1,19 @@
 -- What `paste` in series writes of the rest of a text, byte by byte and block by block.
 use Rattle.std.proofs.Common.{◌≡◌, ◌≢◌, ℕ, ◌+◌, ◌==◌, ◌<◌, ◌≤◌, Bool, true, false, cond, List, [], ◌∷◌, ◌++◌, Option, Some, length, map, take, drop, length-append, refl, sym, ◌∙◌, ap, arith, append_assoc}
-use Rattle.std.specs.Prelude.{option_to_list}
-use Rattle.std.specs.List.{onto_first}
+use Rattle.std.specs.Prelude.{option_to_list, unwrap_or}
+use Rattle.std.specs.List.{onto_first, count_by}
 use Rattle.std.proofs.lemmas.List.{append-nil, append_cancel_right}
+use Rattle.std.proofs.lemmas.List.Sums.{sum_by-cons}
 use Rattle.memchr.specs.Find.{IsFirstByte, is_byte}
 use Rattle.ptlines.specs.Text.{lines, ended_lines, IsLine}
 use Rattle.ptlines.specs.Inputs.{Begins}
 use Rattle.ptlines.specs.Outputs.{Output, Wrote}
 use Rattle.ptlines.proofs.Scanned.{before_end}
 use Rattle.ptlines.proofs.TextLaws.{lines_first, lines_of_text, other_byte}
+use Rattle.ptlangs.specs.DelimLists.{delim_at}
 use Rattle.ptlangs.specs.Jobs.{Paste}
 use Rattle.ptflow.specs.Pastes.{delimiter, glued_from, serial_decided}
-use Rattle.ptflow.specs.Workings.Paste.SerialRests.{row_rest, row_from, serial_rest, begun, lead, Puts, PutsBlock, IsAlways, with_delimiter}
+use Rattle.ptflow.specs.Workings.Paste.SerialRests.{row_rest, row_from, serial_rest, begun, lead, Puts, PutsBlock, IsAlways, with_delimiter, with_turns}
 use Rattle.ptflow.specs.declared.tools.paste.serial.Cell.{Cell}
 use Rattle.ptflow.proofs.OfPasses.Continuations.{Amid, amid_more}
 use Rattle.ptflow.proofs.OfPasses.LineLaws.{parts_of, split_of}
@@ -152,6 +154,42 @@ module _ (end : ℕ) (delims : List (Option ℕ)) where
 
     pub puts_always : (number : ℕ) (bytes written : List ℕ) → written ≡ map (with_delimiter (record { ending = end; delim = delim })) bytes → Puts end delims number bytes number [] written
     puts_always number bytes written is more some = always_puts number number bytes more some ∙ ap (λ (l : List ℕ). l ++ row_rest end delims number false (lines end more)) (sym is)
+
+  -- ---- delimiters each of which is a byte
+
+  module _ (bytes_only : (number : ℕ) → delimiter delims number ≡ unwrap_or (delim_at delims number) end ∷ []) where
+    turns_put : (n : ℕ) (bytes more : List ℕ) → 0 < length more
+        → row_rest end delims n false (lines end (bytes ++ more)) ≡ with_turns end delims n bytes ++ row_rest end delims (n + count_by (is_byte end) bytes) false (lines end more)
+    turns_put n [] more some = let same : n + 0 ≡ n = omega arith in ap (λ (k : ℕ). row_rest end delims k false (lines end more)) (sym same)
+    turns_put n (b ∷ bytes) more some =
+        by_test (λ k. turns_put k bytes more some) (b == end) (n + count_by (is_byte end) (b ∷ bytes)) (ap (λ (k : ℕ). n + k) (sum_by-cons (λ x. cond (is_byte end x) 1 0) b bytes))
+      where
+        left : List ℕ
+        left = bytes ++ more
+
+        next : ℕ → List ℕ
+        next k = row_rest end delims k false (lines end more)
+
+        turn : ℕ
+        turn = unwrap_or (delim_at delims n) end
+
+        by_test : ((k : ℕ) → row_rest end delims k false (lines end left) ≡ with_turns end delims k bytes ++ next (k + count_by (is_byte end) bytes))
+            → (t : Bool) (m : ℕ) → m ≡ n + (cond t 1 0 + count_by (is_byte end) bytes)
+            → row_rest end delims n false (cond t ([] ∷ lines end left) (onto_first b (lines end left)))
+            ≡ cond t (turn ∷ with_turns end delims (n + 1) bytes) (b ∷ with_turns end delims n bytes) ++ next m
+        by_test on true m is =
+            let ends : n + 1 + count_by (is_byte end) bytes ≡ m = omega (arith, is) in
+            row_line n [] (lines end left)
+            ∙ begun_some (record { number = n; ended = true }) left (omega (arith, some, length-append bytes more))
+            ∙ (λ i. bytes_only n i ++ on (n + 1) i)
+            ∙ ap (λ (k : ℕ). turn ∷ with_turns end delims (n + 1) bytes ++ next k) ends
+        by_test on false m is =
+            let ends : n + count_by (is_byte end) bytes ≡ m = omega (arith, is) in
+            row_byte n b (lines end left) ∙ ap (λ (l : List ℕ). b ∷ l) (on n) ∙ ap (λ (k : ℕ). b ∷ with_turns end delims n bytes ++ next k) ends
+
+    pub puts_turns : (number now : ℕ) (bytes written : List ℕ) → now ≡ number + count_by (is_byte end) bytes → written ≡ with_turns end delims number bytes → Puts end delims number bytes now [] written
+    puts_turns number now bytes written count is more some =
+        turns_put number bytes more some ∙ (λ i. sym is i ++ row_rest end delims (sym count i) false (lines end more))
 
   -- ---- what is decided
 

@@ -2,3 +2,4 @@
 pub mod RowTurns
 pub mod SerialRests
 pub mod TakenLines
+pub mod WholeRows

@@ -1,9 +1,13 @@
-//! Ends of lines become a delimiter, many at a time.
+//! Ends of lines become delimiters, many at a time.
 
-ghost use Rattle.std.specs.Prelude.{◌≡◌, length, map};
-ghost use Rattle.ptflow.specs.Workings.Paste.SerialRests.{with_delimiter};
+ghost use Rattle.std.specs.Prelude.{◌≡◌, ◌<◌, ◌≤◌, ◌+◌, ◌%◌, ◌^◌, ◌++◌, length, map, take};
+ghost use Rattle.std.specs.List.{count_by};
+ghost use Rattle.std.specs.Simd.Lanes.{chunk};
+ghost use Rattle.memchr.specs.Find.{is_byte};
+ghost use Rattle.ptflow.specs.Workings.Paste.SerialRests.{with_delimiter, with_turns, IsTurnedTo};
 
 use crate::kernels::lanes::{Mover, move_most};
+use crate::kernels::places::marks;
 use std::simd::prelude::*;
 
 /// The byte that ends a line becomes a delimiter.
@@ -34,4 +38,125 @@ pub(crate) fn replace_ends(by: EndsTo, from: &[u8], to: &mut [u8])
         to[at] = if byte == by.ending { by.delim } else { byte };
         at += 1;
     }
+}
+
+// How many ends of lines were met, and the place in the list of the delimiter that is next.
+#[derive(Clone, Copy)]
+pub(crate) struct Turn {
+    number: u64,
+    place: usize,
+}
+
+impl Turn {
+    // The turn of this number.
+    fn of(number: u64, delims: &[Option<u8>]) -> Turn
+        requires { 0 < length delims.now }
+        ensures number { result.number ≡ number }
+        ensures place { result.place ≡ number % length delims.now }
+    {
+        Turn {
+            number,
+            place: (number % delims.len() as u64) as usize,
+        }
+    }
+
+    // The turn behind this one.
+    #[inline(always)]
+    fn next(self, delims: &[Option<u8>]) -> Turn
+        requires place { self.place ≡ self.number % length delims.now }
+        requires some { 0 < length delims.now }
+        requires short { self.number < 2 ^ 63 }
+        ensures number { result.number ≡ self.number + 1 }
+        ensures place { result.place ≡ (self.number + 1) % length delims.now }
+    {
+        let behind = self.place + 1;
+        Turn {
+            number: self.number + 1,
+            place: if behind == delims.len() { 0 } else { behind },
+        }
+    }
+}
+
+// Makes the 64 bytes of `to` from a place on what those of `from` become, where the ends of lines become the delimiters
+// in turn. The answer is the turn behind them.
+#[inline(never)]
+fn replace_chunk(
+    delims: &[Option<u8>],
+    ending: u8,
+    turn: Turn,
+    from: &[u8],
+    at: usize,
+    to: &mut [u8],
+) -> Turn
+    requires turn { turn.place ≡ turn.number % length delims.now }
+    requires some { 0 < length delims.now }
+    requires short { turn.number + 64 < 2 ^ 63 }
+    requires room { at + 64 ≤ length from.now }
+    requires same { length to.old ≡ length from.now }
+    ensures long { length to.new ≡ length from.now }
+    ensures place { result.place ≡ result.number % length delims.now }
+    ensures number { result.number ≡ turn.number + count_by (is_byte ending) (chunk at 64 from.now) }
+    ensures replaced { take (at + 64) to.new
+        ≡ take at to.old ++ with_turns ending delims.now turn.number (chunk at 64 from.now) }
+{
+    u8x64::from_slice(&from[at..]).copy_to_slice(&mut to[at..]);
+    let mut marked = marks(ending, from, at);
+    let mut turn = turn;
+    for _end in 0..marked.count_ones() {
+        let end = at + marked.trailing_zeros() as usize;
+        to[end] = delims[turn.place].unwrap_or(ending);
+        turn = turn.next(delims);
+        marked &= marked.wrapping_sub(1);
+    }
+    turn
+}
+
+// The same of all but the last bytes. The answer is the turn behind them, and how many they are.
+#[inline(always)]
+fn replace_most(
+    delims: &[Option<u8>],
+    ending: u8,
+    number: u64,
+    from: &[u8],
+    to: &mut [u8],
+) -> (Turn, usize)
+    requires some { 0 < length delims.now }
+    requires short { number + length from.now < 2 ^ 63 }
+    requires same { length to.old ≡ length from.now }
+    ensures { IsTurnedTo ending delims.now number result.0 result.1 from.now to.new }
+{
+    let mut turn = Turn::of(number, delims);
+    let mut at = 0;
+    while from.len() - at >= 64 {
+        turn = replace_chunk(delims, ending, turn, from, at, to);
+        at += 64;
+    }
+    (turn, at)
+}
+
+/// Makes each byte of `to` what the byte of `from` at its place becomes, where the ends of lines become the delimiters
+/// in turn, from that of this number on. The answer is the number of the next. Both are equally long.
+pub(crate) fn replace_in_turn(
+    delims: &[Option<u8>],
+    ending: u8,
+    number: u64,
+    from: &[u8],
+    to: &mut [u8],
+) -> u64
+    requires some { 0 < length delims.now }
+    requires short { number + length from.now < 2 ^ 63 }
+    requires same { length to.old ≡ length from.now }
+    ensures number { result ≡ number + count_by (is_byte ending) from.now }
+    ensures replaced { to.new ≡ with_turns ending delims.now number from.now }
+{
+    let (mut turn, mut at) = replace_most(delims, ending, number, from, to);
+    while at < from.len() {
+        to[at] = from[at];
+        if from[at] == ending {
+            to[at] = delims[turn.place].unwrap_or(ending);
+            turn = turn.next(delims);
+        }
+        at += 1;
+    }
+    turn.number
 }

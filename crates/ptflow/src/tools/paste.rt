@@ -9,10 +9,12 @@ ghost use Rattle.ptflow.specs.Pastes.{glued_from, times};
 ghost use Rattle.ptflow.specs.Workings.Paste.RowTurns.{AreSet, FillsRow, is_write};
 
 pub(crate) mod serial;
+mod whole_rows;
 
 use crate::faults::FlowFault;
 use crate::slots::need_slots;
 use crate::tools::paste::serial::{Cell, begin_cell};
+use crate::tools::paste::whole_rows::pass_row;
 use ptlangs::delims::Delims;
 use ptlangs::jobs::PasteJob;
 use ptlines::{LineFault, LineReader, Out, Sink, Source, Store, WriteFault};
@@ -90,10 +92,12 @@ fn push_row<A: Allocator + Copy, W: Sink>(
 /// reader take its lines in turn. There are rows until every reader that is named has ended, and one that has ended
 /// gives empty cells. A row ends with newline, or with byte 0 with `-z` (this project's own choice).
 ///
-/// A slot of the store for each cell, which is added if it is missing, holds its line. Where a slot is refused, nothing
-/// is read or pushed. Nothing of a row is pushed before all its cells are known, and then all of it is, before anything
-/// more is read. What is staged is sent before a read that may have to wait ([`LineReader::send_before_wait`]). On an
-/// output that has faulted nothing is read. Without cells nothing is read or pushed.
+/// A row whose lines all lie whole in what the readers hold is pushed from there, if they are at most 16. Of any other
+/// row, a slot of the store for each cell, which is added if it is missing, holds its line. Where a slot is refused,
+/// nothing is read or pushed. Nothing of a row is pushed before all its cells are known, and then all of it is, before
+/// anything more is read. What is staged is sent before a read that may have to wait
+/// ([`LineReader::send_before_wait`]). On an output that has faulted nothing is read. Without cells nothing is read or
+/// pushed.
 /// # Errors
 /// `Read` with the place of a reader whose read failed, `Write` where a write failed; `Memory` where a growth of the
 /// store was refused, and the store is then denied.
@@ -114,7 +118,11 @@ pub fn paste<A: Allocator + Copy, S: Source, R: Source, W: Sink>(
     set_endings(cells, job.zero, readers);
     need_slots(store, cells.len())?;
     let ending = if job.zero { 0 } else { b'\n' };
+    let mut room = [0; 8208];
     'rows: loop {
+        if pass_row(&job.delims, ending, cells, readers, &mut room, out)? {
+            continue;
+        }
         if !fill_row(cells, readers, store, out)? {
             return Ok(());
         }

@@ -1,3 +1,5 @@
+-- A turn takes one block, and what the tool says of that block carries the invariant on. Each way out is a lemma of
+-- `PassLemmas` or of `BlockLemmas`. The budget falls, since a block that is not empty was consumed.
 use Rattle.std.proofs.Common.{◌≡◌, ℕ, List, [], ◌++◌, length, refl, sym, ◌∙◌, ap, append_assoc, arith}
 use Rattle.std.proofs.lemmas.Bool.{eqb-true}
 use Rattle.std.proofs.lemmas.List.{nil_from_length}

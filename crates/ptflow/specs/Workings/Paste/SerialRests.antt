@@ -1,9 +1,12 @@
 -- What `paste` in series writes of the rest of a text.
-use Rattle.std.specs.Prelude.{◌≡◌, ◌<◌, ◌==◌, ℕ, ◌+◌, List, [], ◌∷◌, ◌++◌, Bool, true, false, Option, Some, length, if◌then◌else◌}
+use Rattle.std.specs.Prelude.{◌≡◌, ◌<◌, ◌≤◌, ◌==◌, ℕ, ◌+◌, ◌%◌, List, [], ◌∷◌, ◌++◌, Bool, true, false, Option, Some, length, take, unwrap_or, if◌then◌else◌}
+use Rattle.std.specs.List.{count_by}
+use Rattle.memchr.specs.Find.{is_byte}
 use Rattle.ptlines.specs.Text.{lines}
 use Rattle.ptlangs.specs.DelimLists.{delim_at}
 use Rattle.ptflow.specs.Pastes.{delimiter, glued_from}
 use Rattle.ptflow.specs.declared.kernels.replacing.EndsTo.{EndsTo}
+use Rattle.ptflow.specs.declared.kernels.replacing.Turn.{Turn}
 use Rattle.ptflow.specs.declared.tools.paste.serial.Cell.{Cell}
 
 -- the lines that come in the cell of this number, or behind it if it has ended
@@ -46,3 +49,18 @@ IsAlways delims delim = (number : ℕ) → delim_at delims number ≡ Some delim
 -- what a byte becomes where the byte that ends a line becomes a delimiter
 abbrev pub with_delimiter : EndsTo → ℕ → ℕ
 with_delimiter to b = if b == to.ending then to.delim else b
+
+-- what bytes become where their ends of lines become the delimiters from this number on; an end whose delimiter is empty
+-- stays
+abbrev pub with_turns : ℕ → List (Option ℕ) → ℕ → List ℕ → List ℕ
+with_turns end delims number [] = []
+with_turns end delims number (b ∷ bytes) =
+    if b == end then unwrap_or (delim_at delims number) end ∷ with_turns end delims (number + 1) bytes
+    else b ∷ with_turns end delims number bytes
+
+-- the first so many bytes are replaced so, and the turn is the one behind them
+abbrev pub IsTurnedTo : ℕ → List (Option ℕ) → ℕ → Turn → ℕ → List ℕ → List ℕ → Type 0
+IsTurnedTo end delims number turn at from to =
+    (at ≤ length from) × (length to ≡ length from)
+    × (turn.number ≡ number + count_by (is_byte end) (take at from)) × (turn.place ≡ turn.number % length delims)
+    × (take at to ≡ with_turns end delims number (take at from))

@@ -10,7 +10,7 @@ ghost use Rattle.ptflow.specs.Workings.Paste.SerialRests.{serial_rest, begun, le
 
 use crate::blocks::{BlockTool, over_blocks};
 use crate::faults::FlowFault;
-use crate::kernels::replacing::{EndsTo, replace_ends};
+use crate::kernels::replacing::{EndsTo, replace_ends, replace_in_turn};
 use ptlangs::delims::Delims;
 use ptlangs::jobs::PasteJob;
 use ptlines::{LineReader, Out, Sink, Source, Store, WriteFault, copy_near, find_near};
@@ -65,11 +65,11 @@ pub(crate) fn begin_cell<A: Allocator, W: Sink>(
 }
 
 // What is written of a block, and room for what a copy changes behind it.
-type Written = [u8; 8208];
+pub(crate) type Written = [u8; 8208];
 
 // Puts what stands behind the cell of this number, and says where that ends.
 #[inline(always)]
-fn put_delimiter<A: Allocator>(
+pub(crate) fn put_delimiter<A: Allocator>(
     delims: &Delims<A>,
     number: u64,
     into: &mut Written,
@@ -86,6 +86,16 @@ fn put_delimiter<A: Allocator>(
         }
         None => at,
     }
+}
+
+// The delimiter that stands behind every cell, if the list has no other.
+fn always_of<A: Allocator>(delims: &Delims<A>) -> Option<u8>
+    ensures { IfSome result (λ delim. IsAlways delims.now delim) }
+{
+    if delims.count() == 1 {
+        return delims.at(0);
+    }
+    None
 }
 
 // Copies bytes that come in the cell of this number, and in place of each end of a line the delimiter behind its cell.
@@ -116,44 +126,43 @@ fn put_pieces<A: Allocator>(
     (at + rest.len(), number)
 }
 
-// The same, where one delimiter stands behind every cell if it is told.
+// The same, many bytes at a time where every delimiter is a byte, so that what is written is as long as what came.
 #[inline(always)]
 fn put_cells<A: Allocator>(
     delims: &Delims<A>,
-    always: Option<u8>,
     ending: u8,
     number: u64,
     bytes: &[u8],
     into: &mut Written,
 ) -> (usize, u64)
-    requires always { IfSome always (λ delim. IsAlways delims.now delim) }
     requires room { length bytes.now ≤ 8192 }
     requires short { number + length bytes.now < 2 ^ 63 }
     ensures puts { Puts ending delims.now number bytes.now result.1 [] (take result.0 into.new) }
     ensures near { result.0 ≤ length bytes.now }
     ensures bound { result.1 ≤ number + length bytes.now }
 {
-    match always {
-        Some(delim) => {
-            let count = bytes.len();
-            replace_ends(EndsTo { ending, delim }, bytes, &mut into[..count]);
-            (count, number)
-        }
-        None => put_pieces(delims, ending, number, bytes, into),
+    let count = bytes.len();
+    let list = delims.as_slice();
+    if let Some(delim) = always_of(delims) {
+        replace_ends(EndsTo { ending, delim }, bytes, &mut into[..count]);
+        return (count, number);
     }
+    if list.contains(&None) {
+        return put_pieces(delims, ending, number, bytes, into);
+    }
+    let number = replace_in_turn(list, ending, number, bytes, &mut into[..count]);
+    (count, number)
 }
 
 // Copies what is written of a block that comes in the cell of this number. No delimiter is written behind the last
 // cell before more comes. The answer is where that ends, and the cell in which the next block comes.
 fn put_block<A: Allocator>(
     delims: &Delims<A>,
-    always: Option<u8>,
     ending: u8,
     number: u64,
     block: &[u8],
     into: &mut Written,
 ) -> (usize, Cell)
-    requires always { IfSome always (λ delim. IsAlways delims.now delim) }
     requires some { 0 < length block.now }
     requires room { length block.now ≤ 8192 }
     requires short { number + length block.now ≤ 2 ^ 63 }
@@ -163,7 +172,7 @@ fn put_block<A: Allocator>(
 {
     let count = block.len() - 1;
     let last = block[count];
-    let (at, number) = put_cells(delims, always, ending, number, &block[..count], into);
+    let (at, number) = put_cells(delims, ending, number, &block[..count], into);
     if last == ending {
         return (
             at,
@@ -186,14 +195,12 @@ fn put_block<A: Allocator>(
 // Pushes what is written of a block that comes in this cell. The answer is the cell in which the next block comes.
 fn push_cells<A: Allocator, W: Sink>(
     delims: &Delims<A>,
-    always: Option<u8>,
     ending: u8,
     cell: Cell,
     block: &[u8],
     written: &mut Written,
     out: &mut Out<W>,
 ) -> Result<Cell, WriteFault>
-    requires always { IfSome always (λ delim. IsAlways delims.now delim) }
     requires room { length block.now ≤ 8192 }
     requires short { cell.number + length block.now < 2 ^ 63 }
     requires clean { out.old.faulted ≡ false }
@@ -208,47 +215,34 @@ fn push_cells<A: Allocator, W: Sink>(
         return Ok(cell);
     }
     let begun = begin_cell(delims, cell, out)?;
-    let (count, after) = put_block(delims, always, ending, begun.number, block, written);
+    let (count, after) = put_block(delims, ending, begun.number, block, written);
     out.push(&written[..count])?;
     Ok(after)
 }
 
-// The delimiter that stands behind every cell, if the list has no other.
-fn always_of<A: Allocator>(delims: &Delims<A>) -> Option<u8>
-    ensures { IfSome result (λ delim. IsAlways delims.now delim) }
-{
-    if delims.count() == 1 {
-        return delims.at(0);
-    }
-    None
-}
-
-/// The delimiters, the one that stands behind every cell if the list has no other, the byte that ends a line, the cell
-/// in which the next byte comes, and a place for what is written of a block.
+/// The delimiters, the byte that ends a line, the cell in which the next byte comes, and a place for what is written of
+/// a block.
 #[derive(Drop)]
 struct SerialPaste<'a, A: Allocator> {
     delims: &'a Delims<A>,
-    always: Option<u8>,
     ending: u8,
     cell: Cell,
     written: Written,
 }
 
 impl<'a, A: Allocator> BlockTool for SerialPaste<'a, A> {
-    ghost use Rattle.std.specs.Prelude.{◌≡◌, ℕ, IfSome};
-    ghost use Rattle.ptflow.specs.Workings.Paste.SerialRests.{serial_rest, IsAlways};
+    ghost use Rattle.std.specs.Prelude.{◌≡◌};
+    ghost use Rattle.ptflow.specs.Workings.Paste.SerialRests.{serial_rest};
 
     ghost rest = { λ t. serial_rest t.ending t.delims.now t.cell };
 
     ghost counted = { λ t. t.cell.number };
 
-    ghost Holds = { λ s t. (t.delims.now ≡ s.delims.now) × (t.ending ≡ s.ending)
-        × IfSome t.always (λ delim. IsAlways t.delims.now delim) };
+    ghost Holds = { λ s t. (t.delims.now ≡ s.delims.now) × (t.ending ≡ s.ending) };
 
     fn push_block<W: Sink>(&mut self, block: &[u8], out: &mut Out<W>) -> Result<(), WriteFault> {
         self.cell = push_cells(
             self.delims,
-            self.always,
             self.ending,
             self.cell,
             block,
@@ -278,7 +272,6 @@ fn over_row<A: Allocator, S: Source, R: Source, W: Sink>(
 {
     let mut tool = SerialPaste {
         delims: &job.delims,
-        always: always_of(&job.delims),
         ending: reader.ending(),
         cell: Cell {
             number: 0,

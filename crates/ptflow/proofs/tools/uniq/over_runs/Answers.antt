@@ -1,3 +1,5 @@
+-- A turn takes one line by way of a slot, and then the lines of the block whose end is there. Both carry `Turning` on,
+-- and each way out is a lemma of `UniqPasses`. The budget falls with the line, and the block adds nothing to it.
 use Rattle.std.proofs.Common.{◌≡◌, ℕ, [], ◌∷◌, take, ◌∙◌, ap, subst}
 use Rattle.std.proofs.lemmas.Result.{err_from_is_err_and}
 use Rattle.ptlines.specs.Text.{text, ended_lines, IsLine, longest}

@@ -1,3 +1,5 @@
+-- The runs in front of the open one were passed, whatever comes, and what is kept of the open run is its first line
+-- (`Turning`).
 use Rattle.ptlines.specs.Readers.{budget}
 use Rattle.ptlangs.specs.Jobs.{uniq_job}
 use Rattle.ptflow.specs.Workings.Uniq.OpenLines.{open_run_of}

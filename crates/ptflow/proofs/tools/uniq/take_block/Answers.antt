@@ -1,3 +1,6 @@
+-- The first lines of the block may go on with the open run. Where one does not, that run is pushed, and with it the
+-- runs that end in the block. The last run stays open, whatever comes (`BlockRuns`). What is taken are the lines whose
+-- end is there.
 use Rattle.std.proofs.Common.{◌+◌, ◌∷◌, [], ℕ, List, length, drop, sym, ap, subst, arith}
 use Rattle.std.proofs.lemmas.List.{take_rest, length-take-le}
 use Rattle.ptlines.specs.Text.{text, ended_lines}

@@ -1,3 +1,4 @@
+-- The selected bytes up to here were copied, and the intervals that are left choose among those behind (`Choosing`).
 use Rattle.std.proofs.Common.{take, drop}
 use Rattle.ptflow.proofs.OfBytes.Chosen.{Choosing}
 use Rattle.ptflow.proofs.tools.cut.bytes.copy_selected.Given as goal

@@ -1,3 +1,5 @@
+-- The lowest bit that is left is the next end. The line up to it is cut, and the next line begins behind it; then that
+-- bit is taken away. As many turns are made as the mask has bits, so at the end no bit is left.
 use Rattle.std.proofs.Common.{◌≡◌, ◌<◌, ◌+◌, ◌-◌, ◌++◌, suc, ℕ, List, map, take, drop, ◌∙◌, ap, subst, arith}
 use Rattle.std.specs.Int.RustNames.{count_ones}
 use Rattle.std.specs.List.{count_by}

@@ -1,3 +1,5 @@
+-- The bits that are left are the ends that were not come to. What was written is the cut of the bytes up to the start
+-- of the line at which the loop stands, and is no longer than they are.
 use Rattle.std.proofs.Common.{◌≡◌, ◌+◌, ◌≤◌, map, take, drop}
 use Rattle.std.specs.List.{count_by}
 use Rattle.std.specs.Simd.Lanes.{mask_l, chunk}

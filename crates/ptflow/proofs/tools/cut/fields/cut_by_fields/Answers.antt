@@ -1,3 +1,5 @@
+-- A turn takes one line by way of the slot, and then the lines of the block whose end is there; both carry `LineRun`
+-- on, and each way out is a lemma of `LineLemmas`. The budget falls with the line, and the block adds nothing to it.
 use Rattle.std.proofs.Common.{◌≡◌, ℕ, [], take, max, ◌∙◌, subst, arith}
 use Rattle.std.proofs.lemmas.Result.{err_from_is_err_and}
 use Rattle.ptlines.specs.Text.{text, lines, ended_lines, longest, IsLine}

@@ -1,3 +1,4 @@
+-- What is written of the lines that came was pushed, and the slot holds no more than one of them (`LineRun`).
 use Rattle.ptlines.specs.Readers.{budget}
 use Rattle.ptlangs.specs.Jobs.{cut_job}
 use Rattle.ptflow.specs.Workings.Cut.CutRests.{cut_from}

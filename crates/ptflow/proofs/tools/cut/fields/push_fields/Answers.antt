@@ -1,3 +1,5 @@
+-- As in `put_fields`, an interval is walked in two steps, to its first field and behind its last one. But its slice is
+-- pushed, and a push may fail: then what was pushed is a beginning of the selected fields.
 use Rattle.std.proofs.Common.{◌+◌, ◌-◌, ◌≤◌, ◌++◌, ℕ, List, [], take, drop, get_or, length, refl, sym, ◌∙◌, ap, subst, arith}
 use Rattle.std.proofs.lemmas.List.{take_all, take_rest, drop_all, append-nil}
 use Rattle.std.specs.List.{join_with_byte}

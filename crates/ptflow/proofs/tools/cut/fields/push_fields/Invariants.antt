@@ -1,3 +1,4 @@
+-- What was pushed, and what comes of the intervals that are left, from here on, are the selected fields of the line.
 use Rattle.std.proofs.Common.{◌≡◌, ◌≤◌, [], drop}
 use Rattle.ptlangs.specs.Jobs.{cut_job}
 use Rattle.ptflow.specs.Cuts.{cut_fields}

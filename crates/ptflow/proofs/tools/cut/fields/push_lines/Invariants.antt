@@ -1,3 +1,5 @@
+-- The room has what is written of the lines that were taken off the block, whatever comes, and is no fuller than they
+-- are long.
 use Rattle.std.proofs.Common.{◌≡◌, ◌+◌, ◌≤◌, ◌++◌, ℕ, List, length, take}
 use Rattle.ptlines.specs.Text.{ended_lines}
 use Rattle.ptlangs.specs.Jobs.{cut_job}

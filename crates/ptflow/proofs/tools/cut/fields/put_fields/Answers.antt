@@ -1,3 +1,6 @@
+-- An interval is walked in two steps: to the start of its first field, and to the end of its last one (`FieldWalks`).
+-- What lies between is one slice, with a delimiter in front of it if it is not the first. A walk that meets the end of
+-- the line leaves no field to come.
 use Rattle.std.proofs.Common.{◌≡◌, ◌+◌, ◌-◌, ◌≤◌, ◌++◌, ℕ, List, take, drop, get_or, refl, sym, ◌∙◌, ap, arith, append_assoc, length-drop}
 use Rattle.std.proofs.lemmas.List.{take-take, length-take-le}
 use Rattle.std.specs.List.{join_with_byte}

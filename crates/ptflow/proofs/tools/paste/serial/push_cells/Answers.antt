@@ -1,3 +1,5 @@
+-- What stands in front of the cell is pushed, and then what is written of the block: both are what is written of the
+-- block in this cell, whatever comes. Where a push fails, what was pushed is a beginning of that.
 use Rattle.std.proofs.Common.{◌<◌, ◌≤◌, [], length, take, refl, ap, arith, subst}
 use Rattle.std.proofs.lemmas.Bool.Decides.{nat_tests}
 use Rattle.std.proofs.lemmas.List.{drop_all}

@@ -1,3 +1,4 @@
+-- The bytes in front of this place were replaced by their images.
 use Rattle.std.proofs.Common.{length, ◌-◌}
 use Rattle.ptlangs.specs.TrTables.{image}
 use Rattle.ptflow.specs.Workings.Bytes.Lanes.{IsMovedTo}

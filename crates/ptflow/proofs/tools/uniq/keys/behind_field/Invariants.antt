@@ -1,3 +1,4 @@
+-- The blanks in front belong to the first field, so what is behind it is the same without them.
 use Rattle.std.proofs.Common.{◌≡◌, length}
 use Rattle.ptflow.proofs.OfUniq.UniqKeys.{behind}
 use Rattle.ptflow.proofs.tools.uniq.keys.behind_field.Given as goal

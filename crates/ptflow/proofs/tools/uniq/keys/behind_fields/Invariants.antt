@@ -1,3 +1,4 @@
+-- Behind each field that was passed, one field less is to be passed.
 use Rattle.std.proofs.Common.{◌≡◌, ◌-◌}
 use Rattle.ptflow.proofs.OfUniq.UniqKeys.{behind}
 use Rattle.ptflow.proofs.tools.uniq.keys.behind_fields.Given as goal

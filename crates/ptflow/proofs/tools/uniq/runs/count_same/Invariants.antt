@@ -1,3 +1,4 @@
+-- The lines that were passed all have the key of the first line, which was computed once.
 use Rattle.std.proofs.Common.{◌≡◌, length}
 use Rattle.ptlangs.specs.Jobs.{uniq_job}
 use Rattle.ptflow.specs.Uniqs.{key}

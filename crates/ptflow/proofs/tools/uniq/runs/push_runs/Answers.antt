@@ -1,3 +1,5 @@
+-- A line with the key of the open run makes it longer by one. Any other line ends it and begins the next one, and what
+-- is written of the run that ended is pushed, or waits. Each case carries `Running` on.
 use Rattle.std.proofs.Common.{◌≡◌, ◌+◌, ◌-◌, Option, Some, List, [], ℕ, length, take, refl, sym, ◌∙◌, subst, arith}
 use Rattle.std.specs.Prelude.{slice_range}
 use Rattle.std.proofs.lemmas.List.{take_rest}

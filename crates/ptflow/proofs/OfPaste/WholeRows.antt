@@ -1,0 +1,207 @@
+-- Rows of `paste` whose cells lie whole in what the readers hold: they are told by the slots that filling them would fill.
+use Rattle.std.proofs.Common.{◌≡◌, ⊎_elim, inl, ℕ, zero, suc, ◌+◌, ◌-◌, ◌<◌, ◌≤◌, ◌^◌, Bool, true, false, cond, List, [], ◌∷◌, ◌++◌, Option, None, Some, length, take, drop, set, get_or, refl, sym, ◌∙◌, ap, subst, arith, append_assoc, length-append, length-drop}
+use Rattle.std.specs.Prelude.{nat_lt}
+use Rattle.std.proofs.lemmas.Bool.{cases_eq, cases_lt}
+use Rattle.std.proofs.lemmas.Bool.Decides.{nat_tests}
+use Rattle.std.proofs.lemmas.List.{append-nil, length-set, drop-drop, take_more_set, get_or-set_same, get_or-set_other, get_or_past, ext_get_or}
+use Rattle.memchr.specs.Find.{IsFirstByte, is_byte}
+use Rattle.ptlines.specs.Readers.{Reader, Goes, IsSound}
+use Rattle.ptlines.specs.Slots.{Slots, with_line}
+use Rattle.ptlines.specs.Fills.{GivesLine}
+use Rattle.ptlines.proofs.Scanned.{before_end, take_end, goes_front}
+use Rattle.ptflow.specs.PastePasses.{no_reader, reader_at}
+use Rattle.ptflow.specs.Workings.Paste.RowTurns.{RowFilled}
+use Rattle.ptflow.specs.Workings.Paste.SerialRests.{row_rest, row_from, begun, lead}
+use Rattle.ptflow.specs.Workings.Paste.WholeRows.{in_front, AreTaken, Holds, HoldsRow}
+use Rattle.ptflow.proofs.OfPaste.RowTurns.{at_same, at_other, Filling, filling_starts, filling_line, filling_done}
+use Rattle.ptflow.proofs.OfPaste.SerialRests.{row_begun, row_line, row_end}
+use Rattle.ptflow.proofs.OfPaste.SheetRows.{first_cell}
+
+-- a line that lies whole in what a reader holds
+held_line : (b r : Reader) (at : ℕ) (store : Slots) (slot : ℕ) → b.fault ≡ None → b.pulled < 2 ^ 63 → IsFirstByte (is_byte b.ending) b.held (Some at)
+    → r ≡ record b { held = drop (at + 1) b.held } → GivesLine b r store (with_line store slot (take at b.held)) slot
+held_line b r at store slot clean short first step =
+    let goes = subst (λ (x : List ℕ). Goes b r x) (take_end b.ending b.held at first) (goes_front b r (at + 1) clean (omega (arith, first.0.high)) step) in
+    let new_short : r.pulled < 2 ^ 63 = goes.short short in
+    record {
+      line = take at b.held;
+      ending = b.ending ∷ [];
+      goes = goes;
+      whole = before_end b.ending b.held at first;
+      ends = inl refl;
+      stored = refl;
+      less = omega (arith, goes.reads.count, new_short, short, length-append (take at b.held) (b.ending ∷ []));
+    }
+
+sound_held : (b r : Reader) (n : ℕ) → IsSound b → r ≡ record b { held = drop n b.held } → IsSound r
+sound_held b r n s step = subst IsSound (sym step) (record {
+  held = omega (arith, length-drop n b.held, s.held);
+  count = omega (arith, length-drop n b.held, s.count);
+  end = s.end;
+  long = s.long;
+  unfailed = s.unfailed;
+})
+
+-- the place behind a cell is that in front of the next one
+behind_cell : (end : ℕ) (delims : List (Option ℕ)) (n : ℕ) (more : List (List ℕ)) → row_rest end delims (begun (in_front n)).number true more ≡ row_from end delims (in_front (n + 1)) more
+behind_cell end delims zero more = refl
+behind_cell end delims (suc n) more =
+    let some : nat_lt 0 (suc n) ≡ true = grind (arith, nat_tests) in
+    let later : nat_lt 0 (suc n + 1) ≡ true = grind (arith, nat_tests) in
+    let same : suc n - 1 + 1 ≡ suc n + 1 - 1 = omega arith in
+    let number : (begun (in_front (suc n))).number ≡ suc n + 1 - 1 = ap (λ (t : Bool). cond {A = ℕ} t (suc n - 1 + 1) (suc n - 1)) some ∙ same in
+    λ i. row_rest end delims (number i) (sym later i) more
+
+-- So many cells were put: their lines are in the slots of a store, and they were taken of readers, neither of which is
+-- there.
+pub record Putting (end : ℕ) (delims : List (Option ℕ)) (cells : List ℕ) (n : ℕ) (old : List Reader) (taken written : List ℕ) (before : Slots) : Type 0 where
+  pub mid : List Reader
+  pub store : Slots
+  pub came : Bool
+  pub filling : Filling cells n old mid before store came
+  pub began : 0 < n → came ≡ true
+  pub moved : AreTaken taken old mid
+  pub peak : before.peak ≤ store.peak
+  pub on : (more : List (List ℕ)) → row_from end delims first_cell (take n store.lines ++ more) ≡ written ++ row_from end delims (in_front n) more
+
+module _ (end : ℕ) (delims : List (Option ℕ)) (cells : List ℕ) (old : List Reader) where
+  pub putting_starts : (taken : List ℕ) → ((p : ℕ) → get_or taken p 0 ≡ 0) → (before : Slots) → Putting end delims cells 0 old taken [] before
+  putting_starts taken none before = record {
+    mid = old;
+    store = before;
+    came = false;
+    filling = filling_starts cells old before;
+    began = λ some. absurd (omega (arith, some));
+    moved = record { count = refl; held = λ p. ap (λ (n : ℕ). record (reader_at old p) { held = drop n (reader_at old p).held }) (sym (none p)) };
+    peak = omega arith;
+    on = λ more. refl;
+  }
+
+  module _ (n : ℕ) (taken : List ℕ) (low : n < length cells) (within : get_or cells n 0 < length old) (place_low : get_or cells n 0 < length taken) (at : ℕ) where
+    abbrev place : ℕ
+    place = get_or cells n 0
+
+    abbrev was : Reader
+    was = reader_at old (get_or cells n 0)
+
+    abbrev now_taken : List ℕ
+    now_taken = set taken (get_or cells n 0) (get_or taken (get_or cells n 0) 0 + (at + 1))
+
+    abbrev line_of : List ℕ
+    line_of = take at (drop (get_or taken (get_or cells n 0) 0) (reader_at old (get_or cells n 0)).held)
+
+    module _ (clean : (reader_at old (get_or cells n 0)).fault ≡ None) (ends : (reader_at old (get_or cells n 0)).ending ≡ end) (sound : IsSound (reader_at old (get_or cells n 0)))
+        (found : IsFirstByte (is_byte end) (drop (get_or taken (get_or cells n 0) 0) (reader_at old (get_or cells n 0)).held) (Some at)) where
+      -- no more is taken than is held
+      pub holds_more : Holds old taken → Holds old now_taken
+      holds_more holds p = ⊎_elim
+          (λ same. omega (
+            arith,
+            ap (λ (q : ℕ). get_or now_taken q 0) same,
+            get_or-set_same taken place (get_or taken place 0 + (at + 1)) 0 place_low,
+            ap (λ (q : ℕ). length (reader_at old q).held) same,
+            found.0.high,
+            length-drop (get_or taken place 0) was.held,
+            holds place,
+          ))
+          (λ differ. omega (arith, holds p, get_or-set_other taken place p (get_or taken place 0 + (at + 1)) 0 differ))
+          (cases_eq p place)
+
+      module _ (written next : List ℕ) (is : next ≡ (written ++ lead delims (in_front n)) ++ line_of) (before : Slots) (room : length cells ≤ length before.lines) (h : Putting end delims cells n old taken written before) where
+        abbrev mid_reader : Reader
+        mid_reader = record was { held = drop (get_or taken place 0) was.held }
+
+        abbrev new_reader : Reader
+        new_reader = record was { held = drop (get_or taken place 0 + (at + 1)) was.held }
+
+        moved_on : (let x : Reader = new_reader in let y : Reader = record mid_reader { held = drop (at + 1) (drop (get_or taken place 0) was.held) } in x ≡ y)
+        moved_on = λ i. record was { held = sym (drop-drop (at + 1) (get_or taken place 0) was.held) i }
+
+        gives : GivesLine mid_reader new_reader h.store (with_line h.store n line_of) n
+        gives = held_line mid_reader new_reader at h.store n clean (sound.long clean) (subst (λ (e : ℕ). IsFirstByte (is_byte e) (drop (get_or taken place 0) was.held) (Some at)) (sym ends) found) moved_on
+
+        room_here : n < length h.store.lines
+        room_here = omega (arith, low, room, h.filling.taken.same)
+
+        within_mid : place < length h.mid
+        within_mid = omega (arith, within, h.moved.count)
+
+        moved_next : AreTaken now_taken old (set h.mid place new_reader)
+        moved_next = record { count = length-set h.mid place new_reader ∙ h.moved.count; held = held }
+          where
+            held : (p : ℕ) → reader_at (set h.mid place new_reader) p ≡ record (reader_at old p) { held = drop (get_or now_taken p 0) (reader_at old p).held }
+            held p = ⊎_elim
+                (λ same.
+                ap (reader_at (set h.mid place new_reader)) same ∙ at_same h.mid place new_reader within_mid
+                ∙ ap (λ (k : ℕ). record was { held = drop k was.held }) (sym (get_or-set_same taken place (get_or taken place 0 + (at + 1)) 0 place_low))
+                ∙ ap (λ (q : ℕ). record (reader_at old q) { held = drop (get_or now_taken q 0) (reader_at old q).held }) (sym same))
+                (λ differ.
+                at_other h.mid place p new_reader differ ∙ h.moved.held p
+                ∙ ap (λ (k : ℕ). record (reader_at old p) { held = drop k (reader_at old p).held }) (sym (get_or-set_other taken place p (get_or taken place 0 + (at + 1)) 0 differ)))
+                (cases_eq p place)
+
+        on_next : (more : List (List ℕ)) → row_from end delims first_cell (take (n + 1) (set h.store.lines n line_of) ++ more) ≡ next ++ row_from end delims (in_front (n + 1)) more
+        on_next more =
+            ap (λ (l : List (List ℕ)). row_from end delims first_cell (l ++ more)) (take_more_set h.store.lines n line_of room_here)
+            ∙ ap (row_from end delims first_cell) (append_assoc (take n h.store.lines) (line_of ∷ []) more)
+            ∙ h.on (line_of ∷ more)
+            ∙ ap (λ (l : List ℕ). written ++ l) (row_begun end delims (in_front n) line_of more ∙ ap (λ (l : List ℕ). lead delims (in_front n) ++ l) (row_line end delims (begun (in_front n)).number line_of more
+            ∙ ap (λ (l : List ℕ). line_of ++ l) (behind_cell end delims n more)))
+            ∙ sym (append_assoc written (lead delims (in_front n)) (line_of ++ row_from end delims (in_front (n + 1)) more))
+            ∙ sym (append_assoc (written ++ lead delims (in_front n)) line_of (row_from end delims (in_front (n + 1)) more))
+            ∙ ap (λ (l : List ℕ). l ++ row_from end delims (in_front (n + 1)) more) (sym is)
+
+        pub putting_more : Putting end delims cells (n + 1) old now_taken next before
+        putting_more = record {
+          mid = set h.mid place new_reader;
+          store = with_line h.store n line_of;
+          came = true;
+          filling = filling_line cells n old h.mid before h.store h.came h.filling low within_mid room_here mid_reader (sym (h.moved.held place)) clean new_reader (with_line h.store n line_of)
+              (sound_held was new_reader (get_or taken place 0 + (at + 1)) sound refl) gives;
+          began = λ some. refl;
+          moved = moved_next;
+          peak = omega (arith, h.peak);
+          on = on_next;
+        }
+
+  -- all cells were put
+  pub putting_done : (n : ℕ) (taken written next : List ℕ) → n ≡ length cells → 0 < length cells → next ≡ written ++ end ∷ [] → ((before : Slots) → length cells ≤ length before.lines → Putting end delims cells n old taken written before)
+      → HoldsRow end delims cells old taken next
+  putting_done n taken written next all some is holds new moved before room =
+      let h = holds before room in
+      let same : h.mid ≡ new = ext_get_or no_reader h.mid new (h.moved.count ∙ sym moved.count) (λ p low. h.moved.held p ∙ sym (moved.held p)) in
+      let came : h.came ≡ true = h.began (omega (arith, all, some)) in
+      record {
+        store = h.store;
+        filled = subst (λ (r : List Reader). RowFilled cells old r before h.store true) same
+            (subst (λ (t : Bool). RowFilled cells old h.mid before h.store t) came (filling_done cells n old h.mid before h.store h.came all h.filling));
+        peak = h.peak;
+        is = is ∙ ap (λ (l : List ℕ). written ++ l) (sym (row_end end delims (in_front n))) ∙ sym (h.on [])
+            ∙ ap (row_from end delims first_cell) (append-nil (take n h.store.lines)) ∙ ap (λ (k : ℕ). row_from end delims first_cell (take k h.store.lines)) all;
+      }
+
+-- ---- what was put is taken
+
+-- the bytes of one reader more
+abbrev pub moved_at : List ℕ → Reader → ℕ → Reader
+moved_at taken r p = record r { held = drop (get_or taken p 0) r.held }
+
+module _ (taken : List ℕ) (old now : List Reader) (n : ℕ) (front : (p : ℕ) → p < n → reader_at now p ≡ moved_at taken (reader_at old p) p) (rest : (p : ℕ) → n ≤ p → reader_at now p ≡ reader_at old p) where
+  module _ (b r : Reader) (low : n < length now) (is_read : b ≡ reader_at now n) (step : r ≡ moved_at taken b n) where
+    pub taking_front : (p : ℕ) → p < n + 1 → reader_at (set now n r) p ≡ moved_at taken (reader_at old p) p
+    taking_front p under = ⊎_elim
+        (λ same. ap (reader_at (set now n r)) same ∙ at_same now n r low ∙ step ∙ ap (λ (x : Reader). moved_at taken x n) (is_read ∙ rest n (omega arith)) ∙ ap (λ (q : ℕ). moved_at taken (reader_at old q) q) (sym same))
+        (λ differ. at_other now n p r differ ∙ front p (omega (arith, under, differ)))
+        (cases_eq p n)
+
+    pub taking_rest : (p : ℕ) → n + 1 ≤ p → reader_at (set now n r) p ≡ reader_at old p
+    taking_rest p over = at_other now n p r (λ same. absurd (omega (arith, over, same))) ∙ rest p (omega (arith, over))
+
+  pub taking_done : length old ≤ n → length now ≡ length old → Holds old taken → AreTaken taken old now
+  taking_done all count holds = record { count = count; held = λ p. ⊎_elim (λ under. front p under) (λ over. rest p over ∙ past p over) (cases_lt p n) }
+    where
+      past : (p : ℕ) → n ≤ p → reader_at old p ≡ moved_at taken (reader_at old p) p
+      past p over =
+          let nobody : reader_at old p ≡ no_reader = get_or_past old p no_reader (omega (arith, over, all)) in
+          let none : get_or taken p 0 ≡ 0 = omega (arith, holds p, ap (λ (r : Reader). length r.held) nobody) in
+          ap (λ (k : ℕ). record (reader_at old p) { held = drop k (reader_at old p).held }) (sym none)

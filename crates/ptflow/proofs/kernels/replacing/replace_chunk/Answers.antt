@@ -1,0 +1,72 @@
+use Rattle.std.proofs.Common.{◌≡◌, ◌+◌, ◌%◌, ◌++◌, suc, ℕ, None, List, map, length, take, slice_index_or, slice_set, sym, ◌∙◌, ap, arith}
+use Rattle.std.specs.Prelude.{unwrap_or}
+use Rattle.std.specs.Int.RustNames.{count_ones}
+use Rattle.std.specs.Simd.Lanes.{mask_l, chunk}
+use Rattle.std.proofs.lemmas.List.{length-take-le, length-set}
+use Rattle.std.proofs.lemmas.Simd.{ones-mask_l, take_more_put_chunk, length-put_chunk, length-chunk}
+use lib.Count.{count_trailing_zeros}
+use Rattle.memchr.specs.Find.{is_byte}
+use Rattle.ptlangs.specs.DelimLists.{delim_at}
+use Rattle.ptflow.proofs.OfBytes.Nths.{without, cleared, behind_set}
+use Rattle.ptflow.proofs.OfPaste.Turns.{first_turns, turn_on, all_turned, set_in_chunk}
+use Rattle.ptflow.proofs.kernels.replacing.replace_chunk.Goals as goal
+
+pub loop-end-init : goal.loop-end-init
+loop-end-init c =
+    let at = c.args.at in
+    let long = length-chunk at 64 c.args.from.now c.requires.room in
+    record {
+      bits = c.marks-marked.ensures;
+      place = c.requires.turn;
+      number = omega arith;
+      long = length-put_chunk at c.args.to.now (chunk at 64 c.args.from.now) ∙ c.requires.same;
+      replaced = take_more_put_chunk at c.args.to.now (chunk at 64 c.args.from.now) (at + 64) (omega (arith, long)) (omega (arith, long, c.requires.same, c.requires.room));
+    }
+
+pub bounds-to-end : goal.bounds-to-end
+bounds-to-end c =
+    let p = is_byte c.args.ending in
+    let loop = c.loop-end in
+    let v = chunk c.args.at 64 c.args.from.now in
+    let counted = ap count_ones c.marks-marked.ensures ∙ ones-mask_l p v in
+    let here = behind_set p v loop._end loop.marked (omega (arith, length-chunk c.args.at 64 c.args.from.now c.requires.room)) (omega (arith, counted, c.loop-end-test.true)) loop.invariant.bits in
+    omega (arith, loop.invariant.long, c.requires.room, here.0, length-chunk c.args.at 64 c.args.from.now c.requires.room)
+
+pub loop-end-preserved : goal.loop-end-preserved
+loop-end-preserved c =
+    let end = c.args.ending in
+    let p = is_byte end in
+    let delims = c.args.delims.now in
+    let at = c.args.at in
+    let loop = c.loop-end in
+    let n = loop._end in
+    let first = c.args.turn.number in
+    let v = chunk at 64 c.args.from.now in
+    let long = length-chunk at 64 c.args.from.now c.requires.room in
+    let counted = ap count_ones c.marks-marked.ensures ∙ ones-mask_l p v in
+    let k = count_trailing_zeros 64 loop.marked in
+    let here = behind_set p v n loop.marked (omega (arith, long)) (omega (arith, counted, c.loop-end-test.true)) loop.invariant.bits in
+    let next : suc n ≡ n + 1 = omega arith in
+    let delim : c.unwrap_or.result ≡ unwrap_or (delim_at delims (first + n)) end = c.unwrap_or.ensures ∙ ap (λ (m : ℕ). unwrap_or (slice_index_or delims m None) end) (loop.invariant.place ∙ ap (λ (m : ℕ). m % length delims) loop.invariant.number) in
+    let front : length (take at c.args.to.now) ≡ at = length-take-le at c.args.to.now (omega (arith, c.requires.same, c.requires.room)) in
+    record {
+      bits = cleared n loop.marked (map p v) loop.auto.marked-fits.fits loop.invariant.bits ∙ ap (λ (m : ℕ). mask_l (without m (map p v))) next;
+      place = c.next-turn.ensures.place ∙ ap (λ (m : ℕ). m % length delims) (sym c.next-turn.ensures.number);
+      number = omega (arith, c.next-turn.ensures.number, loop.invariant.number);
+      long = length-set loop.to (at + k) c.unwrap_or.result ∙ loop.invariant.long;
+      replaced =
+          set_in_chunk loop.to (take at c.args.to.now) (first_turns end delims n first v) at 64 k c.unwrap_or.result loop.invariant.replaced front (omega (arith, here.0, long))
+          ∙ ap (λ (l : List ℕ). take at c.args.to.now ++ l) (ap (slice_set (first_turns end delims n first v) k) delim ∙ turn_on end delims n first v k here ∙ ap (λ (m : ℕ). first_turns end delims m first v) next);
+    }
+
+pub returns-clause-number : goal.returns-clause-number
+returns-clause-number c =
+    let v = chunk c.args.at 64 c.args.from.now in
+    let counted = ap count_ones c.marks-marked.ensures ∙ ones-mask_l (is_byte c.args.ending) v in
+    omega (arith, c.loop-end.invariant.number, counted, c.loop-end-test.false, c.loop-end.auto)
+
+pub returns-clause-replaced : goal.returns-clause-replaced
+returns-clause-replaced c =
+    let v = chunk c.args.at 64 c.args.from.now in
+    let counted = ap count_ones c.marks-marked.ensures ∙ ones-mask_l (is_byte c.args.ending) v in
+    c.loop-end.invariant.replaced ∙ ap (λ l. take c.args.at c.args.to.now ++ l) (all_turned c.args.ending c.args.delims.now c.args.turn.number v c.loop-end._end (omega (arith, counted, c.loop-end-test.false, c.loop-end.auto)))

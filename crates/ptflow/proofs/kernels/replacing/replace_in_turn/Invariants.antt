@@ -1,0 +1,9 @@
+use Rattle.std.proofs.Common.{◌-◌, length}
+use Rattle.ptflow.specs.Workings.Paste.SerialRests.{IsTurnedTo}
+use Rattle.ptflow.proofs.kernels.replacing.replace_in_turn.Given as goal
+
+abbrev pub invariant-loop-at : goal.invariant-loop-at
+invariant-loop-at l = IsTurnedTo l.ending l.delims l.number l.turn l.at l.from l.to
+
+abbrev pub decreases-loop-at : goal.decreases-loop-at
+decreases-loop-at l = length l.from - l.at
