@@ -141,7 +141,8 @@ rows_of_both = refl
 cut_behind_a_row : paste (tabs false) (0 ∷ 1 ∷ []) (at (codes "1\n2\n" ∷ codes "x\ny\n" ∷ [])) ++ paste (tabs false) (0 ∷ 1 ∷ []) (at (codes "3\n" ∷ codes "z\n" ∷ [])) ≡ codes "1\tx\n2\ty\n3\tz\n"
 cut_behind_a_row = refl
 
-cut_behind_other_rows : paste (tabs false) (0 ∷ 1 ∷ []) (at (codes "1\n2\n" ∷ codes "x\n" ∷ [])) ++ paste (tabs false) (0 ∷ 1 ∷ []) (at (codes "3\n" ∷ codes "y\nz\n" ∷ [])) ≡ codes "1\tx\n2\t\n3\ty\n\tz\n"
+cut_behind_other_rows : paste (tabs false) (0 ∷ 1 ∷ []) (at (codes "1\n2\n" ∷ codes "x\n" ∷ []))
+    ++ paste (tabs false) (0 ∷ 1 ∷ []) (at (codes "3\n" ∷ codes "y\nz\n" ∷ [])) ≡ codes "1\tx\n2\t\n3\ty\n\tz\n"
 cut_behind_other_rows = refl
 
 -- cells that share an input take more than one line of it in a row
@@ -155,7 +156,8 @@ shared_inside_a_row : paste (tabs false) (0 ∷ 0 ∷ []) (at (codes "1\n" ∷ [
 shared_inside_a_row = refl
 
 -- one input ends before the row behind which all are cut
-ends_before_the_row : paste (tabs false) (0 ∷ 1 ∷ []) (at (codes "1\n2\n" ∷ codes "x" ∷ [])) ++ paste (tabs false) (0 ∷ 1 ∷ []) (at (codes "3\n" ∷ [] ∷ [])) ≡ paste (tabs false) (0 ∷ 1 ∷ []) (at (codes "1\n2\n3\n" ∷ codes "x" ∷ []))
+ends_before_the_row : paste (tabs false) (0 ∷ 1 ∷ []) (at (codes "1\n2\n" ∷ codes "x" ∷ [])) ++ paste (tabs false) (0 ∷ 1 ∷ []) (at (codes "3\n" ∷ [] ∷ []))
+    ≡ paste (tabs false) (0 ∷ 1 ∷ []) (at (codes "1\n2\n3\n" ∷ codes "x" ∷ []))
 ends_before_the_row = refl
 
 by_the_law_of_paste : paste (tabs false) (0 ∷ 1 ∷ []) (λ place. at (codes "1\n2\n" ∷ codes "x" ∷ []) place ++ at (codes "3\n" ∷ [] ∷ []) place)
@@ -170,7 +172,8 @@ by_the_law_of_paste = paste_of_parts (tabs false) (0 ∷ 1 ∷ []) 2 (at (codes 
         let not_second : (1 == suc (suc n)) ≡ false = grind (arith, nat_tests) in
         absurd (omega (arith, named, ap {B = ℕ} (λ (t : Bool). cond t 1 0) not_first, ap {B = ℕ} (λ (t : Bool). cond t 1 0) not_second))
 
-not_paste_of_any_parts : ((job : Paste) (cells : List ℕ) (a b : ℕ → List ℕ) → ((place : ℕ) → IsWhole job.end (a place)) → paste job cells (λ place. a place ++ b place) ≡ paste job cells a ++ paste job cells b) → ⊥
+not_paste_of_any_parts : ((job : Paste) (cells : List ℕ) (a b : ℕ → List ℕ) → ((place : ℕ) → IsWhole job.end (a place))
+    → paste job cells (λ place. a place ++ b place) ≡ paste job cells a ++ paste job cells b) → ⊥
 not_paste_of_any_parts law = omega (arith, ap length (law (tabs false) (0 ∷ 1 ∷ []) (at (codes "1\n2\n" ∷ codes "x\n" ∷ [])) (at (codes "3\n" ∷ codes "y\nz\n" ∷ [])) whole))
   where
     whole : (place : ℕ) → IsWhole 10 (at (codes "1\n2\n" ∷ codes "x\n" ∷ []) place)

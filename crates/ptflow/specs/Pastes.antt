@@ -1,5 +1,6 @@
 -- What `paste` writes.
-use Rattle.std.specs.Prelude.{ℕ, ◌+◌, ◌%◌, ◌==◌, ◌||◌, List, [], ◌∷◌, ◌++◌, Bool, length, take, max, map, filter, zip, fold, count_by, sum_by, nat_lt, Option, option_to_list, slice_index_or, if◌then◌else◌}
+use Rattle.std.specs.Prelude.{ℕ, ◌+◌, ◌%◌, ◌==◌, ◌||◌, List, [], ◌∷◌, ◌++◌, Bool, length, take, max, map, filter, zip, fold, count_by, sum_by, nat_lt, Option}
+use Rattle.std.specs.Prelude.{option_to_list, slice_index_or, if◌then◌else◌}
 use Rattle.std.specs.List.{enumerate_from, range_with_len, list_all}
 use Rattle.ptlines.specs.Text.{text, lines, longest_line}
 use Rattle.ptlines.specs.Inputs.{Given, whole_lines}

@@ -30,7 +30,8 @@ use Rattle.ptrun.proofs.Order.{places_within}
 use Rattle.ptrun.proofs.Runs.{headline_of}
 
 -- words that were read as this command
-pub asked_ok : {A : Type 0} (command : Result (code.Command A) UseFault) (words : List (List ℕ)) (c : code.Command A) → command ≡ Ok c → IsMeant command (meaning words) → asked_as command words ≡ command_meaning (seen c)
+pub asked_ok : {A : Type 0} (command : Result (code.Command A) UseFault) (words : List (List ℕ)) (c : code.Command A) → command ≡ Ok c
+    → IsMeant command (meaning words) → asked_as command words ≡ command_meaning (seen c)
 asked_ok command words c is m = rw is (ap (meaning_in (tool_word words)) (rw is at m))
 
 refused_in : (words : List (List ℕ)) (f : Option Fault) → IsFault f (meaning words)
@@ -57,7 +58,8 @@ place_differs (File i) (File j) differ = ⊎_elim (λ k. absurd (differ (let sam
 two_places : (t : Paired) (order : List Input) → AreTwo order → (of_two t).takes (places order) ≡ true
 two_places t order two = rw (two.are) (ap not (place_differs two.first two.second two.differ))
 
-takes : (told : Job) (order : List Input) → ((u : jobs.Uniq) → told ≡ RunUniq u → length order ≡ 1) → ((u : jobs.Paste) → told ≡ RunPaste u → nat_le (length order) 512 ≡ true) → (is_of_two told ≡ true → AreTwo order) → is_taking told (places order) ≡ true
+takes : (told : Job) (order : List Input) → ((u : jobs.Uniq) → told ≡ RunUniq u → length order ≡ 1)
+    → ((u : jobs.Paste) → told ≡ RunPaste u → nat_le (length order) 512 ≡ true) → (is_of_two told ≡ true → AreTwo order) → is_taking told (places order) ≡ true
 takes (RunCut u) order one few two = refl
 takes (RunPaste u) order one few two = ap (λ (n : ℕ). nat_le n 512) (length-map order place) ∙ few u refl
 takes (RunUniq u) order one few two = ap (λ (n : ℕ). n == 1) (length-map order place ∙ one u refl)
@@ -66,14 +68,18 @@ takes (RunJoin u) order one few two = two_places (join_tool u) order (two refl)
 takes (RunTr u) order one few two = refl
 
 fit_spelled : (words : List (List ℕ)) (c : Command) → SpellsCommand words c → Fit c
-fit_spelled words c (Spelled name rest tool os operands named s allowed) =
-    (λ k d within. omega (arith, places_within 0 (inputs tool operands) k d within), takes (job tool os operands) (order_from 0 (inputs tool operands)) (sole_input tool os operands) (λ u is. few_inputs tool os operands u allowed.inputs is) (two_inputs tool os operands allowed.inputs))
+fit_spelled words c (Spelled name rest tool os operands named s allowed) = (
+  λ k d within. omega (arith, places_within 0 (inputs tool operands) k d within),
+  takes (job tool os operands) (order_from 0 (inputs tool operands))
+      (sole_input tool os operands) (λ u is. few_inputs tool os operands u allowed.inputs is) (two_inputs tool os operands allowed.inputs),
+)
 
 pub operands_fit : {A : Type 0} (command : Result (code.Command A) UseFault) (words : List (List ℕ)) (c : code.Command A) → command ≡ Ok c → IsMeant command (meaning words) → Fit (seen c)
 operands_fit command words c is m = fit_spelled words (seen c) ((meant_as_spelled words (seen c)).1 (rw is at m))
 
 -- where memory was not denied, the run is what the words ask for
-pub headline_asked : {A : Type 0} (command : Result (code.Command A) UseFault) (words : List (List ℕ)) (old new : List Reader) (before : Sinks) (o : Outcome) → All IsFresh old → IsRun (asked_as command words) old new before o
+pub headline_asked : {A : Type 0} (command : Result (code.Command A) UseFault) (words : List (List ℕ)) (old new : List Reader) (before : Sinks) (o : Outcome)
+    → All IsFresh old → IsRun (asked_as command words) old new before o
     → is_denied command ≡ false → Headline (asked words) old new before o
 headline_asked command words old new before o fresh run roomy =
     let same : asked_as command words ≡ asked words = rw roomy refl in

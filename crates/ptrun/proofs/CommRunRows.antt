@@ -86,7 +86,8 @@ are_named = refl
 abbrev pub received : List ℕ → List ℕ → List (Option Given)
 received f g = Some (record { bytes = []; ended = false }) ∷ Some (record { bytes = f; ended = true }) ∷ Some (record { bytes = g; ended = false }) ∷ []
 
-decided_before_a_failed_read : map (λ (row : List ℕ × List ℕ). (asked (words "comm f g")).decided (received row.0 row.1)) ((codes "a\nc\n", codes "b\n") ∷ (codes "a\nb\na\n", codes "a\nb\n") ∷ (codes "b\na\n", codes "c\nd") ∷ []) ≡ codes "a\n" ∷ codes "\t\ta\n" ∷ codes "b\n" ∷ []
+decided_before_a_failed_read : map (λ (row : List ℕ × List ℕ). (asked (words "comm f g")).decided (received row.0 row.1))
+    ((codes "a\nc\n", codes "b\n") ∷ (codes "a\nb\na\n", codes "a\nb\n") ∷ (codes "b\na\n", codes "c\nd") ∷ []) ≡ codes "a\n" ∷ codes "\t\ta\n" ∷ codes "b\n" ∷ []
 decided_before_a_failed_read = refl
 
 -- twice the longest line of each is held

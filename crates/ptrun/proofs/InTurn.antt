@@ -1,5 +1,6 @@
 -- A tool that goes over its operands, one after another.
-use Rattle.std.proofs.Common.{◌≡◌, ◌≢◌, ⊎_elim, inl, inr, ℕ, ◌<◌, ◌≤◌, ◌^◌, ◌||◌, Bool, true, false, cond, List, [], ◌∷◌, ◌++◌, Option, Some, None, Result, Ok, Err, ◌+◌, length, map, set, max, refl, sym, ◌∙◌, ap, subst, arith, append_assoc, length-append, length-set}
+use Rattle.std.proofs.Common.{◌≡◌, ◌≢◌, ⊎_elim, inl, inr, ℕ, ◌<◌, ◌≤◌, ◌^◌, ◌||◌, Bool, true, false, cond, List, [], ◌∷◌, ◌++◌, Option, Some, None, Result, Ok}
+use Rattle.std.proofs.Common.{Err, ◌+◌, length, map, set, max, refl, sym, ◌∙◌, ap, subst, arith, append_assoc, length-append, length-set}
 use Rattle.std.specs.Prelude.{flat_map, option_map, is_none, slice_get}
 use Rattle.std.specs.List.{list_any}
 use Rattle.std.specs.Io.KnownBytes.{prepend_known}
@@ -23,7 +24,8 @@ use Rattle.ptlines.specs.Inputs as one
 use Rattle.ptflow.specs.Passes as pass
 use Rattle.ptflow.specs.declared.faults.FlowFault.{FlowFault}
 use Rattle.ptflow.specs.declared.faults.FlowFault.TheVariants.{Read, Write, Memory}
-use Rattle.ptrun.specs.Worlds.{World, Received, at, is_unopened, AllowsAt, Allows, is_in, found, founds, opened, sources, reader_at, no_reader, shut, CameAt, IsReceived, IsNew, IsFresh, HasFailed, IsTooLong}
+use Rattle.ptrun.specs.Worlds.{World, Received, at, is_unopened, AllowsAt, Allows, is_in, found, founds, opened, sources, reader_at, no_reader, shut, CameAt}
+use Rattle.ptrun.specs.Worlds.{IsReceived, IsNew, IsFresh, HasFailed, IsTooLong}
 use Rattle.ptrun.specs.Sayings.{Tells}
 use Rattle.ptrun.specs.Meanings.{unopened}
 use Rattle.ptrun.specs.Messages.{not_opened, name_of}
@@ -36,7 +38,8 @@ use Rattle.ptrun.specs.declared.engine.Done.TheVariants.{Whole, Unopened}
 use Rattle.ptrun.specs.Runs.{Cause}
 use Rattle.ptrun.specs.Engines.{blame, last_words, status_after, IsWithin, Went}
 use Rattle.ptrun.proofs.Sayings.{tells_trans, tells_nothing}
-use Rattle.ptrun.proofs.Sources.{is_in-same, is_in-other, same_or_other, at_each, sources_at, sources_opened, sources_refused, unopened_more, unopened_same, any_same, any_more, largest-append, take_with, EndedAt, least, at-least, bytes_at, decided_founds}
+use Rattle.ptrun.proofs.Sources.{is_in-same, is_in-other, same_or_other, at_each, sources_at, sources_opened, sources_refused, unopened_more, unopened_same}
+use Rattle.ptrun.proofs.Sources.{any_same, any_more, largest-append, take_with, EndedAt, least, at-least, bytes_at, decided_founds}
 
 -- its source has said its end, and it can be asked again
 pub record IsSpent (r : Reader) : Type 0 where
@@ -61,7 +64,8 @@ abbrev pub done_with : Bool → Done
 done_with any = cond any Unopened Whole
 
 -- the operands that are done
-pub record Pass (word : List ℕ) (t : Tool) (names : List (List ℕ)) (old now : List Reader) (was is : Output) (told heard : SinkState) (before store : Slots) (done : List ℕ) (so_far : Done) : Type 0 where
+pub record Pass (word : List ℕ) (t : Tool) (names : List (List ℕ)) (old now : List Reader) (was is : Output) (told heard : SinkState) (before store : Slots)
+    (done : List ℕ) (so_far : Done) : Type 0 where
   pub gave : Received
   pub same_length : length now ≡ length old
   pub long : length gave ≡ length old
@@ -181,7 +185,8 @@ agreed None v g is a = cc
 agreed (Some h) None g is a = absurd a
 agreed (Some h) (Some b) g is a = let same : h ≡ g = cc in (b, refl, subst (λ (k : Given). one.Agrees k b) same a)
 
-fits : (seen : Bool) (old now new : Reader) (g e : Given) → IfSeen seen old now g → Came now new e → (b : List ℕ) → one.Agrees (record { bytes = g.bytes ++ e.bytes; ended = e.ended }) b → one.Agrees e (cond seen [] b)
+fits : (seen : Bool) (old now new : Reader) (g e : Given) → IfSeen seen old now g → Came now new e → (b : List ℕ)
+    → one.Agrees (record { bytes = g.bytes ++ e.bytes; ended = e.ended }) b → one.Agrees e (cond seen [] b)
 fits true old now new g e k came b a =
     let none = ended_gives_nothing now new e came k.1.done.held k.1.done.ended in
     record { rest = []; is = sym (append-nil e.bytes ∙ none.0); whole = λ _. refl }
@@ -266,21 +271,25 @@ module _ (word : List ℕ) (t : Tool) (names : List (List ℕ)) (old : List Read
   }
 
   -- all that the operands that are done decided was pushed
-  works_all : ((g : Given) → g.ended ≡ true → t.decided g ≡ t.text g.bytes) → (now : List Reader) (is : Output) (heard : SinkState) (store : Slots) (order : List ℕ) (so_far : Done) (k : Pass word t names old now was is told heard before store order so_far)
+  works_all : ((g : Given) → g.ended ≡ true → t.decided g ≡ t.text g.bytes)
+      → (now : List Reader) (is : Output) (heard : SinkState) (store : Slots) (order : List ℕ) (so_far : Done) (k : Pass word t names old now was is told heard before store order so_far)
       → Begins (each_decided t k.gave order) k.pushed
   works_all law now is heard store order so_far k = record { rest = []; is = sym all ∙ sym (append-nil (each_decided t k.gave order)) }
     where
       all : each_decided t k.gave order ≡ k.pushed
       all =
           ap (λ (l : List Given). flat_map t.decided (up_to_open l)) (sym (append-nil (sources nothing_left k.gave order)))
-          ∙ decided_founds t law k.gave [] order [] (λ q seen. ended_at (reader_at old q) (reader_at now q) (at k.gave q) (subst (λ (b : Bool). PlaceIs b (reader_at old q) (reader_at now q) (at k.gave q)) seen (k.places q)))
+          ∙ decided_founds t law k.gave [] order [] (λ q seen. ended_at (reader_at old q) (reader_at now q) (at k.gave q)
+          (subst (λ (b : Bool). PlaceIs b (reader_at old q) (reader_at now q) (at k.gave q)) seen (k.places q)))
           ∙ append-nil (each_out t (least k.gave) order) ∙ sym (k.out (least k.gave) (agrees_least k.gave))
 
-  pub keeps_all : ((g : Given) → g.ended ≡ true → t.decided g ≡ t.text g.bytes) → (now : List Reader) (is : Output) (heard : SinkState) (store : Slots) (order : List ℕ) (so_far : Done) (k : Pass word t names old now was is told heard before store order so_far)
+  pub keeps_all : ((g : Given) → g.ended ≡ true → t.decided g ≡ t.text g.bytes)
+      → (now : List Reader) (is : Output) (heard : SinkState) (store : Slots) (order : List ℕ) (so_far : Done) (k : Pass word t names old now was is told heard before store order so_far)
       → LastEarlier t (sources nothing_left k.gave order) (λ decided. PassedOn decided was is k.pushed)
   keeps_all law now is heard store order so_far k =
       let works = works_all law now is heard store order so_far k in
-      all_earlier t (sources nothing_left k.gave order) (λ decided. PassedOn decided was is k.pushed) (record { begins = works; sends = sends_now was is k.pushed (each_decided t k.gave order) k.wrote k.clean works })
+      all_earlier t (sources nothing_left k.gave order) (λ decided. PassedOn decided was is k.pushed)
+      (record { begins = works; sends = sends_now was is k.pushed (each_decided t k.gave order) k.wrote k.clean works })
 
   pub pass_all : (now : List Reader) (is : Output) (heard : SinkState) (store : Slots) (order : List ℕ) (so_far : Done)
       → (k : Pass word t names old now was is told heard before store order so_far) → LastEarlier t (sources nothing_left k.gave order) (λ decided. PassedOn decided was is k.pushed)
@@ -306,7 +315,8 @@ module _ (word : List ℕ) (t : Tool) (names : List (List ℕ)) (old : List Read
       λ w agrees. ends_with so_far (list_any (shut old) order) (list_any (is_unopened w) order) k.so_far_is (any_same (shut old) (is_unopened w) order (refused_same old now k.gave w came agrees)),
     );
     place = within_any so_far (list_any (shut old) order) k.so_far_is;
-    untouched = λ q other. unseen_same (is_in order q) (reader_at old q) (reader_at now q) (at k.gave q) (ap (λ (l : List ℕ). is_in l q) (sym (take_all (length order + 1) order (omega arith))) ∙ other) (k.places q);
+    untouched = λ q other. unseen_same (is_in order q) (reader_at old q) (reader_at now q) (at k.gave q)
+        (ap (λ (l : List ℕ). is_in l q) (sym (take_all (length order + 1) order (omega arith))) ∙ other) (k.places q);
     true_so_far = λ w agrees. record { rest = []; is = sym (k.out w agrees) ∙ sym (append-nil k.pushed) };
     told_read = λ q failed clean. absurd (none q failed);
     sure = λ q failed clean. absurd (none q failed);
@@ -331,7 +341,8 @@ module _ (word : List ℕ) (t : Tool) (names : List (List ℕ)) (old : List Read
   -- ---- an operand that could not be opened
 
   pub pass_unopened : (now : List Reader) (is : Output) (heard heard' : SinkState) (store : Slots) (done : List ℕ) (so_far : Done) (p : ℕ)
-      → Pass word t names old now was is told heard before store done so_far → (reader_at now p).refused ≡ true → Tells heard heard' (not_opened word (name_of names p)) → Pass word t names old now was is told heard' before store (done ++ p ∷ []) Unopened
+      → Pass word t names old now was is told heard before store done so_far → (reader_at now p).refused ≡ true
+      → Tells heard heard' (not_opened word (name_of names p)) → Pass word t names old now was is told heard' before store (done ++ p ∷ []) Unopened
   pass_unopened now is heard heard' store done so_far p k refused says = record {
     gave = k.gave;
     same_length = k.same_length;
@@ -340,7 +351,9 @@ module _ (word : List ℕ) (t : Tool) (names : List (List ℕ)) (old : List Read
     pushed = k.pushed;
     wrote = k.wrote;
     out = λ w agrees. k.out w agrees ∙ ap (λ (l : List (List ℕ)). flat_map t.text l) (sym (nothing w agrees));
-    tells = subst (λ (l : List ℕ). Tells told heard' l) (sym (unopened_more word names (shut old) done p ∙ ap (λ (b : Bool). unopened word names (shut old) done ++ cond b (not_opened word (name_of names p)) []) old_refused)) (tells_trans told heard heard' (unopened word names (shut old) done) (not_opened word (name_of names p)) k.tells says);
+    tells = subst (λ (l : List ℕ). Tells told heard' l) (sym (unopened_more word names (shut old) done p
+        ∙ ap (λ (b : Bool). unopened word names (shut old) done ++ cond b (not_opened word (name_of names p)) []) old_refused))
+        (tells_trans told heard heard' (unopened word names (shut old) done) (not_opened word (name_of names p)) k.tells says);
     so_far_is = sym (ap done_with (any_more (shut old) done p ∙ ap (λ (b : Bool). list_any (shut old) done || b) old_refused ∙ or_true (list_any (shut old) done)));
     clean = k.clean;
     roomy = k.roomy;
@@ -356,12 +369,14 @@ module _ (word : List ℕ) (t : Tool) (names : List (List ℕ)) (old : List Read
       old_refused = sym (place_refused (is_in done p) (reader_at old p) (reader_at now p) (at k.gave p) (k.places p)) ∙ refused
 
       places : (q : ℕ) → PlaceIs (is_in (done ++ p ∷ []) q) (reader_at old q) (reader_at now q) (at k.gave q)
-      places q = ⊎_elim (λ same. any_seen (is_in done q) (is_in (done ++ p ∷ []) q) (reader_at old q) (reader_at now q) (at k.gave q) (ap (λ (n : ℕ). (reader_at old n).refused) (sym same) ∙ old_refused) (k.places q))
+      places q = ⊎_elim (λ same. any_seen (is_in done q) (is_in (done ++ p ∷ []) q) (reader_at old q) (reader_at now q) (at k.gave q)
+          (ap (λ (n : ℕ). (reader_at old n).refused) (sym same) ∙ old_refused) (k.places q))
           (λ other. subst (λ (b : Bool). PlaceIs b (reader_at old q) (reader_at now q) (at k.gave q)) (sym (is_in-other done p q other)) (k.places q)) (same_or_other p q)
 
       nothing : (w : World) → Allows k.gave w → sources [] w (done ++ p ∷ []) ≡ sources [] w done
       nothing w agrees =
-          let none = none_of (at w p) (sym (refused_at (reader_at old p) (reader_at now p) (at k.gave p) (at w p) (came_at (is_in done p) (reader_at old p) (reader_at now p) (at k.gave p) (fresh p) (k.places p)) (agrees p)) ∙ old_refused) in
+          let none = none_of (at w p) (sym (refused_at (reader_at old p) (reader_at now p) (at k.gave p) (at w p)
+          (came_at (is_in done p) (reader_at old p) (reader_at now p) (at k.gave p) (fresh p) (k.places p)) (agrees p)) ∙ old_refused) in
           sources_refused [] w done p (ap (λ (v : Option (List ℕ)). option_map (λ (b : List ℕ). cond (is_in done p) [] b) v) none)
 
   -- ---- an operand that was opened
@@ -415,7 +430,8 @@ module _ (word : List ℕ) (t : Tool) (names : List (List ℕ)) (old : List Read
 
         same : p ≡ q → AllowsAt (at k.gave q) (at w q)
         same is_q = subst (λ (n : ℕ). AllowsAt (at k.gave n) (at w n)) is_q
-            (agrees_some (at k.gave p) (at w p) y.g y.is (λ b is_b. agrees_before y.g e.given b still (subst (λ (c : List ℕ). one.Agrees (given_now y.g) c) (some_same (sym here.1 ∙ is_b)) here.2)) here.0 here.1)
+            (agrees_some (at k.gave p) (at w p) y.g y.is (λ b is_b. agrees_before y.g e.given b still
+            (subst (λ (c : List ℕ). one.Agrees (given_now y.g) c) (some_same (sym here.1 ∙ is_b)) here.2)) here.0 here.1)
           where
             some_same : {a b : List ℕ} → Some a ≡ Some b → a ≡ b
             some_same is_same = cc
@@ -469,7 +485,8 @@ module _ (word : List ℕ) (t : Tool) (names : List (List ℕ)) (old : List Read
       wrote = wrote_here;
       out = λ w agrees. let f = finds w agrees in
           (λ i. k.out w (back w agrees) i ++ (e.whole ok ∙ ap t.text (sym (all f.bytes f.agrees)) ∙ sym (append-nil (t.text f.bytes))) i) ∙ sym (out_here w [] f);
-      tells = subst (λ (l : List ℕ). Tells told heard l) (sym (unopened_more word names (shut old) done p ∙ ap (λ (b : Bool). unopened word names (shut old) done ++ cond b (not_opened word (name_of names p)) []) y.opened ∙ append-nil (unopened word names (shut old) done))) k.tells;
+      tells = subst (λ (l : List ℕ). Tells told heard l) (sym (unopened_more word names (shut old) done p
+          ∙ ap (λ (b : Bool). unopened word names (shut old) done ++ cond b (not_opened word (name_of names p)) []) y.opened ∙ append-nil (unopened word names (shut old) done))) k.tells;
       so_far_is = k.so_far_is ∙ sym (ap done_with (any_more (shut old) done p ∙ ap (λ (b : Bool). list_any (shut old) done || b) y.opened ∙ or_false (list_any (shut old) done)));
       clean = end.clean;
       roomy = end.denied;
@@ -500,11 +517,13 @@ module _ (word : List ℕ) (t : Tool) (names : List (List ℕ)) (old : List Read
     old_calm : is_in done p ≡ false → (reader_at old p).failed ≡ false
     old_calm unseen = ap (λ (r : Reader). r.failed) (sym (unseen_same (is_in done p) (reader_at old p) (reader_at now p) (at k.gave p) unseen (k.places p))) ∙ calm
 
-    cause_of : (more : List ℕ) (fault : FlowFault) → Ends (reader_at now p) new is' store' (Err fault) → Cause (one_by_one word t names (done ++ p ∷ more)) gave' old now' is'.faulted store'.denied (length done) (blame p fault)
+    cause_of : (more : List ℕ) (fault : FlowFault) → Ends (reader_at now p) new is' store' (Err fault)
+        → Cause (one_by_one word t names (done ++ p ∷ more)) gave' old now' is'.faulted store'.denied (length done) (blame p fault)
     cause_of more (Read place) r = (
       nth_here done more p,
       ap (λ (l : List ℕ). is_in l p) (take-append_seam done (p ∷ more))
-          ∙ ⊎_elim (λ f. (unseen_of (is_in done p) (reader_at old p) (reader_at now p) new y.g e.given y.if_seen e.came f.2).0) (λ l. not_seen_long (is_in done p) (reader_at old p) (reader_at now p) new y.g e.given y.if_seen e.came l.0) r.cause,
+          ∙ ⊎_elim (λ f. (unseen_of (is_in done p) (reader_at old p) (reader_at now p) new y.g e.given y.if_seen e.came f.2).0)
+          (λ l. not_seen_long (is_in done p) (reader_at old p) (reader_at now p) new y.g e.given y.if_seen e.came l.0) r.cause,
       ⊎_elim (λ f. inl (y.opened, old_calm (unseen_of (is_in done p) (reader_at old p) (reader_at now p) new y.g e.given y.if_seen e.came f.2).0, ap (λ (n : Reader). n.failed) reader_here ∙ f.0))
           (λ l. inr (subst IsTooLong (sym gave_here) (let first = fresh p y.opened in omega (arith, l.0, came_here.count, ap length first.held, first.pulled)))) r.cause,
       r.clean,
@@ -534,7 +553,8 @@ module _ (word : List ℕ) (t : Tool) (names : List (List ℕ)) (old : List Read
 
     -- the operands that are done decided all of what they give
     abbrev pub Decided : Type 0
-    Decided = (later : List Given) → flat_map t.decided (up_to_open (opened (founds nothing_left gave' [] done) ++ later)) ≡ flat_map t.text (opened (founds [] (least gave') [] done)) ++ flat_map t.decided (up_to_open later)
+    Decided = (later : List Given) → flat_map t.decided (up_to_open (opened (founds nothing_left gave' [] done) ++ later))
+        ≡ flat_map t.text (opened (founds [] (least gave') [] done)) ++ flat_map t.decided (up_to_open later)
 
     pub decided_by_law : ((g : Given) → g.ended ≡ true → t.decided g ≡ t.text g.bytes) → Decided
     decided_by_law law later = decided_founds t law gave' [] done later ended_before
@@ -567,7 +587,8 @@ module _ (word : List ℕ) (t : Tool) (names : List (List ℕ)) (old : List Read
       begins_here : Begins (decided_of t (came_before ++ earlier ∷ [])) (k.pushed ++ e.pushed)
       begins_here = record {
         rest = one_keeps.works.begins.rest;
-        is = ap (λ (l : List ℕ). k.pushed ++ l) one_keeps.works.begins.is ∙ sym (append_assoc k.pushed (t.decided earlier) one_keeps.works.begins.rest) ∙ ap (λ (l : List ℕ). l ++ one_keeps.works.begins.rest) (sym decided_here);
+        is = ap (λ (l : List ℕ). k.pushed ++ l) one_keeps.works.begins.is ∙ sym (append_assoc k.pushed (t.decided earlier) one_keeps.works.begins.rest)
+            ∙ ap (λ (l : List ℕ). l ++ one_keeps.works.begins.rest) (sym decided_here);
       }
 
       keeps_here : LastEarlier t (sources nothing_left gave' (done ++ p ∷ [])) (λ bytes. PassedOn bytes was is' (k.pushed ++ e.pushed))
@@ -607,7 +628,8 @@ module _ (word : List ℕ) (t : Tool) (names : List (List ℕ)) (old : List Read
           later_is : flat_map t.decided (up_to_open (opened (found nothing_left gave' done p ∷ founds nothing_left gave' (done ++ p ∷ []) more))) ≡ t.decided e.given
           later_is =
               ap (λ (o : Option Given). flat_map t.decided (up_to_open (opened (o ∷ founds nothing_left gave' (done ++ p ∷ []) more)))) found_is
-              ∙ ap (λ (b : Bool). t.decided e.given ++ flat_map t.decided (cond b (up_to_open (opened (founds nothing_left gave' (done ++ p ∷ []) more))) [])) (e.came.ended ∙ going) ∙ append-nil (t.decided e.given)
+              ∙ ap (λ (b : Bool). t.decided e.given ++ flat_map t.decided (cond b (up_to_open (opened (founds nothing_left gave' (done ++ p ∷ []) more))) []))
+              (e.came.ended ∙ going) ∙ append-nil (t.decided e.given)
 
           all : each_decided t gave' (done ++ p ∷ more) ≡ k.pushed ++ t.decided e.given
           all =
@@ -625,7 +647,8 @@ module _ (word : List ℕ) (t : Tool) (names : List (List ℕ)) (old : List Read
         within = omega (arith, length-append done (p ∷ more));
         said = unopened word names (shut old) done;
         tells = k.tells;
-        names = λ w agrees. unopened_same word names (shut old) (is_unopened w) done (refused_same old now' gave' w received' agrees) ∙ ap (unopened word names (is_unopened w)) (sym (take-append_seam done (p ∷ more)));
+        names = λ w agrees. unopened_same word names (shut old) (is_unopened w) done (refused_same old now' gave' w received' agrees)
+            ∙ ap (unopened word names (is_unopened w)) (sym (take-append_seam done (p ∷ more)));
         ends = cause_of more fault end;
         place = named_within fault;
         untouched = λ q other. untouched_at q (ap (λ (l : List ℕ). is_in l q) (sym (take_with done p more)) ∙ other);
@@ -659,4 +682,5 @@ module _ (word : List ℕ) (t : Tool) (names : List (List ℕ)) (old : List Read
           untouched_at q unseen = ⊎_elim (λ same. absurd (false≢true (sym unseen ∙ ap (is_in (done ++ p ∷ [])) (sym same) ∙ is_in-same done p))) other (same_or_other p q)
             where
               other : p ≢ q → reader_at now' q ≡ reader_at old q
-              other differs = get_or-set_other now p q new no_reader (λ is_p. differs (sym is_p)) ∙ unseen_same (is_in done q) (reader_at old q) (reader_at now q) (at k.gave q) (sym (is_in-other done p q differs) ∙ unseen) (k.places q)
+              other differs = get_or-set_other now p q new no_reader (λ is_p. differs (sym is_p))
+                  ∙ unseen_same (is_in done q) (reader_at old q) (reader_at now q) (at k.gave q) (sym (is_in-other done p q differs) ∙ unseen) (k.places q)

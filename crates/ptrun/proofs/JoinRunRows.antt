@@ -52,7 +52,9 @@ unfolding lib.Utf8.encode
 are_named = refl
 
 -- a read of g fails: keys below that of the last line that came of it are decided, and none behind a disorder
-decided_before_a_failed_read : map (λ (row : List ℕ × List ℕ). (asked (words "join -a 1 f g")).decided (received row.0 row.1)) ((codes "a 1\nb 2\n", codes "a x\nb y\n") ∷ (codes "a 1\nb 2\n", codes "a x\nb") ∷ (codes "0\na 1\n", codes "a x\n") ∷ (codes "b 1\na 2\n", codes "b x\nc y\n") ∷ []) ≡ codes "a 1 x\n" ∷ [] ∷ codes "0\n" ∷ codes "b 1 x\n" ∷ []
+decided_before_a_failed_read : map (λ (row : List ℕ × List ℕ). (asked (words "join -a 1 f g")).decided (received row.0 row.1))
+    ((codes "a 1\nb 2\n", codes "a x\nb y\n") ∷ (codes "a 1\nb 2\n", codes "a x\nb") ∷ (codes "0\na 1\n", codes "a x\n") ∷
+    (codes "b 1\na 2\n", codes "b x\nc y\n") ∷ []) ≡ codes "a 1 x\n" ∷ [] ∷ codes "0\n" ∷ codes "b 1 x\n" ∷ []
 decided_before_a_failed_read = refl
 
 -- twice the longest line of each, and the lines of g that have one key

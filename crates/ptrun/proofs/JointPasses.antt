@@ -2,7 +2,8 @@
 --
 -- Where one could not be opened, nothing is to be done. Else what the tool did is the run but its last words, and a
 -- tool with one input did what its one pass did.
-use Rattle.std.proofs.Common.{◌≡◌, ⊎_elim, ℕ, suc, ◌+◌, ◌<◌, ◌≤◌, ◌||◌, ◌==◌, Bool, true, false, cond, List, [], ◌∷◌, ◌++◌, Option, Some, None, Result, Ok, Err, length, take, drop, get_or, map, set, max, refl, sym, ◌∙◌, ap, subst, arith, take-append-drop}
+use Rattle.std.proofs.Common.{◌≡◌, ⊎_elim, ℕ, suc, ◌+◌, ◌<◌, ◌≤◌, ◌||◌, ◌==◌, Bool, true, false, cond, List, [], ◌∷◌, ◌++◌, Option, Some, None, Result, Ok, Err}
+use Rattle.std.proofs.Common.{length, take, drop, get_or, map, set, max, refl, sym, ◌∙◌, ap, subst, arith, take-append-drop}
 use Rattle.std.specs.Prelude.{All, flat_map, is_none, unwrap_or, slice_get, option_map}
 use Rattle.std.specs.List.{list_any}
 use Rattle.std.proofs.lemmas.List.{append-nil, take_all}
@@ -38,13 +39,15 @@ use Rattle.ptrun.proofs.InTurn.{Pass, refused_same, pass_nothing, pass_last, pas
 
 -- ---- an operand could not be opened
 
-pub lacking_does_nothing : (word : List ℕ) (t : JointTool) (names : List (List ℕ)) (places : List ℕ) (is_shut : ℕ → Bool) → list_any is_shut places ≡ true → (w : World) → ((q : ℕ) → is_shut q ≡ is_unopened w q)
+pub lacking_does_nothing : (word : List ℕ) (t : JointTool) (names : List (List ℕ)) (places : List ℕ) (is_shut : ℕ → Bool) → list_any is_shut places ≡ true
+    → (w : World) → ((q : ℕ) → is_shut q ≡ is_unopened w q)
     → ((together word t names places).out w ≡ []) × ((together word t names places).closing w ≡ []) × ((together word t names places).status w ≡ 1)
 lacking_does_nothing word t names places is_shut any w same =
     let lacking : lacks places w ≡ true = sym (any_same is_shut (is_unopened w) places same) ∙ any in
     rw lacking (refl, refl, refl)
 
-lacking_decides_nothing : (word : List ℕ) (t : JointTool) (names : List (List ℕ)) (places : List ℕ) (is_shut : ℕ → Bool) → list_any is_shut places ≡ true → (r : Received) → ((q : ℕ) → is_shut q ≡ is_unopened r q)
+lacking_decides_nothing : (word : List ℕ) (t : JointTool) (names : List (List ℕ)) (places : List ℕ) (is_shut : ℕ → Bool) → list_any is_shut places ≡ true
+    → (r : Received) → ((q : ℕ) → is_shut q ≡ is_unopened r q)
     → (together word t names places).decided r ≡ []
 lacking_decides_nothing word t names places is_shut any r same = ap (λ (b : Bool). cond b [] (t.decided places (given_in r))) (sym (any_same is_shut (is_unopened r) places same) ∙ any)
 
@@ -53,12 +56,14 @@ pub none_named : (word : List ℕ) (names : List (List ℕ)) (test : ℕ → Boo
 none_named word names test [] none = refl
 none_named word names test (p ∷ places) none = by_test (test p) none (none_named word names test places)
   where
-    by_test : (b : Bool) → (b || list_any test places) ≡ false → (list_any test places ≡ false → unopened word names test places ≡ []) → cond b (not_opened word (name_of names p)) [] ++ unopened word names test places ≡ []
+    by_test : (b : Bool) → (b || list_any test places) ≡ false → (list_any test places ≡ false → unopened word names test places ≡ [])
+        → cond b (not_opened word (name_of names p)) [] ++ unopened word names test places ≡ []
     by_test true none_is later = absurd (false≢true (sym none_is))
     by_test false none_is later = later none_is
 
 none_before : (test : ℕ → Bool) (places : List ℕ) (n : ℕ) → list_any test places ≡ false → list_any test (take n places) ≡ false
-none_before test places n none = first (list_any test (take n places)) (list_any test (drop n places)) (sym (list_any-append test (take n places) (drop n places)) ∙ ap (list_any test) (take-append-drop n places) ∙ none)
+none_before test places n none = first (list_any test (take n places)) (list_any test (drop n places))
+    (sym (list_any-append test (take n places) (drop n places)) ∙ ap (list_any test) (take-append-drop n places) ∙ none)
   where
     first : (a b : Bool) → (a || b) ≡ false → a ≡ false
     first true b is = is
@@ -66,13 +71,16 @@ none_before test places n none = first (list_any test (take n places)) (list_any
 
 -- one more operand, which is named if it could not be opened
 module _ (word : List ℕ) (names : List (List ℕ)) (is_shut : ℕ → Bool) (done : List ℕ) (p : ℕ) where
-  pub named_more : (told heard heard' : SinkState) → Tells told heard (unopened word names is_shut done) → is_shut p ≡ true → Tells heard heard' (not_opened word (name_of names p)) → Tells told heard' (unopened word names is_shut (done ++ p ∷ []))
+  pub named_more : (told heard heard' : SinkState) → Tells told heard (unopened word names is_shut done) → is_shut p ≡ true
+      → Tells heard heard' (not_opened word (name_of names p)) → Tells told heard' (unopened word names is_shut (done ++ p ∷ []))
   named_more told heard heard' k is says =
-      subst (λ (l : List ℕ). Tells told heard' l) (sym (unopened_more word names is_shut done p ∙ ap (λ (b : Bool). unopened word names is_shut done ++ cond b (not_opened word (name_of names p)) []) is))
+      subst (λ (l : List ℕ). Tells told heard' l) (sym (unopened_more word names is_shut done p
+      ∙ ap (λ (b : Bool). unopened word names is_shut done ++ cond b (not_opened word (name_of names p)) []) is))
       (tells_trans told heard heard' (unopened word names is_shut done) (not_opened word (name_of names p)) k says)
 
   pub named_same : is_shut p ≡ false → unopened word names is_shut (done ++ p ∷ []) ≡ unopened word names is_shut done
-  named_same is = unopened_more word names is_shut done p ∙ ap (λ (b : Bool). unopened word names is_shut done ++ cond b (not_opened word (name_of names p)) []) is ∙ append-nil (unopened word names is_shut done)
+  named_same is = unopened_more word names is_shut done p ∙ ap (λ (b : Bool). unopened word names is_shut done
+      ++ cond b (not_opened word (name_of names p)) []) is ∙ append-nil (unopened word names is_shut done)
 
   pub any_now : is_shut p ≡ true → list_any is_shut (done ++ p ∷ []) ≡ true
   any_now is = any_more is_shut done p ∙ ap (λ (b : Bool). list_any is_shut done || b) is ∙ or_true (list_any is_shut done)
@@ -90,7 +98,14 @@ module _ (word : List ℕ) (names : List (List ℕ)) (is_shut : ℕ → Bool) (d
 
 pub checks_of : (word : List ℕ) (t : JointTool) (names : List (List ℕ)) (places : List ℕ) (inputs : List Reader) (told heard : SinkState) (lacking : Bool) → lacking ≡ list_any (shut inputs) places
     → Tells told heard (unopened word names (shut inputs) places) → Checks (together word t names places) inputs told heard lacking
-checks_of word t names places inputs told heard true is tells = record { is = is; tells = tells; nothing = λ _. lacking_does_nothing word t names places (shut inputs) (sym is); at_once = λ _. refl; undecided = λ _. lacking_decides_nothing word t names places (shut inputs) (sym is) }
+checks_of word t names places inputs told heard true is tells = record {
+  is = is;
+  tells = tells;
+  nothing = λ _. lacking_does_nothing word t names places
+      (shut inputs) (sym is);
+  at_once = λ _. refl;
+  undecided = λ _. lacking_decides_nothing word t names places (shut inputs) (sym is);
+}
 checks_of word t names places inputs told heard false is tells = record {
   is = is;
   tells = subst (λ (l : List ℕ). Tells told heard l) (none_named word names (shut inputs) places (sym is)) tells;
@@ -125,7 +140,8 @@ refused_received : (old now : Reader) (o : Option Given) → CameAt old now o �
 refused_received old now None k = k.0
 refused_received old now (Some g) k = k.0
 
-ends_with : (word : List ℕ) (names : List (List ℕ)) (found : Option (ℕ × ℕ)) → (last_words word names (Ok (done_of found)) ≡ disorder_text word names found) × (status_after (Ok (done_of found)) ≡ disorder_status found)
+ends_with : (word : List ℕ) (names : List (List ℕ)) (found : Option (ℕ × ℕ)) → (last_words word names (Ok (done_of found)) ≡ disorder_text word names found)
+    × (status_after (Ok (done_of found)) ≡ disorder_status found)
 ends_with word names None = (refl, refl)
 ends_with word names (Some found) = (refl, refl)
 
@@ -214,7 +230,8 @@ sole_decided : (f : Given → List ℕ) (o : Option Given) → is_none o ≡ fal
 sole_decided f None is = absurd (false≢true (sym is))
 sole_decided f (Some g) is = one_decided f g
 
-module _ (word : List ℕ) (t : Tool) (names : List (List ℕ)) (old : List Reader) (fresh : (q : ℕ) → IsFresh (reader_at old q)) (was is : Output) (told : SinkState) (before store : Slots) (p : ℕ) (new : Reader) (result : Result (Unit {0}) FlowFault)
+module _ (word : List ℕ) (t : Tool) (names : List (List ℕ)) (old : List Reader) (fresh : (q : ℕ) → IsFresh (reader_at old q)) (was is : Output)
+    (told : SinkState) (before store : Slots) (p : ℕ) (new : Reader) (result : Result (Unit {0}) FlowFault)
     (clean : was.faulted ≡ false) (roomy : before.denied ≡ false) (empty : total before.lines ≡ 0)
     (within : p < length old) (is_open : (reader_at old p).refused ≡ false) (calm : (reader_at old p).failed ≡ false) (e : IsPass t (reader_at old p) new was is before store result) where
   module _ (all : List Reader) (done : Result Done FlowFault) (k : Went (one_by_one word t names (p ∷ [])) old all was is told told before store done) where
@@ -264,7 +281,8 @@ module _ (word : List ℕ) (t : Tool) (names : List (List ℕ)) (old : List Read
 
             decided_there : decided_of t (up.0.earlier ∷ []) ≡ t.decided (given_in (set k.received place (Some up.0.earlier)) p)
             decided_there = one_decided t.decided up.0.earlier
-                ∙ sym (subst (λ (n : ℕ). t.decided (given_in (set k.received n (Some up.0.earlier)) p) ≡ t.decided up.0.earlier) same (ap (λ (o : Option Given). t.decided (unwrap_or o nothing_left)) (at_set k.received p came up.0.earlier is_here)))
+                ∙ sym (subst (λ (n : ℕ). t.decided (given_in (set k.received n (Some up.0.earlier)) p) ≡ t.decided up.0.earlier) same
+                (ap (λ (o : Option Given). t.decided (unwrap_or o nothing_left)) (at_set k.received p came up.0.earlier is_here)))
 
   start : Pass word t names old old was was told told before before [] Whole
   start = pass_nothing word t names old fresh was told before clean roomy empty

@@ -1,5 +1,6 @@
 -- What had been decided two blocks earlier of the last operand; and what of it reached the sink.
-use Rattle.std.proofs.Common.{◌≡◌, ◌≢◌, ⊎_elim, ℕ, zero, suc, ◌+◌, ◌≤◌, Bool, false, List, [], ◌∷◌, ◌++◌, set, Option, Some, None, is_none, length, take, drop, refl, sym, ◌∙◌, ap, subst, arith, length-append, length-drop, take-append-drop}
+use Rattle.std.proofs.Common.{◌≡◌, ◌≢◌, ⊎_elim, ℕ, zero, suc, ◌+◌, ◌≤◌, Bool, false, List, [], ◌∷◌, ◌++◌, set, Option, Some, None, is_none, length, take, drop}
+use Rattle.std.proofs.Common.{refl, sym, ◌∙◌, ap, subst, arith, length-append, length-drop, take-append-drop}
 use Rattle.std.specs.Io.KnownBytes.{append_known}
 use Rattle.std.proofs.lemmas.List.{append-nil, get_or-set_other, nil_from_length}
 use Rattle.std.proofs.Math.Seq.{take-append_seam}
@@ -97,7 +98,8 @@ sends_behind was mid is pushed bytes wrote clean s = by_known was.taken refl
     by_known : (known : Option (List ℕ)) → was.taken ≡ known → SendsOn was is (pushed ++ bytes)
     by_known None none = record {
       sent = was.staged ++ (pushed ++ bytes);
-      taken = s.taken ∙ ap (λ (k : Option (List ℕ)). append_known k s.sent) (wrote.kept.is ∙ ap (λ (k : Option (List ℕ)). append_known k wrote.kept.front) none) ∙ sym (ap (λ (k : Option (List ℕ)). append_known k (was.staged ++ (pushed ++ bytes))) none);
+      taken = s.taken ∙ ap (λ (k : Option (List ℕ)). append_known k s.sent)
+          (wrote.kept.is ∙ ap (λ (k : Option (List ℕ)). append_known k wrote.kept.front) none) ∙ sym (ap (λ (k : Option (List ℕ)). append_known k (was.staged ++ (pushed ++ bytes))) none);
       most = omega (arith, length-append was.staged (pushed ++ bytes));
     }
     by_known (Some known) is_known = record {
@@ -109,7 +111,8 @@ sends_behind was mid is pushed bytes wrote clean s = by_known was.taken refl
         wrote.staged,
         length-append wrote.kept.front s.sent,
         length-append pushed bytes,
-        ap known_length (sym (ap (λ (k : Option (List ℕ)). append_known (append_known k wrote.kept.front) mid.staged) is_known) ∙ sym (ap (λ (k : Option (List ℕ)). append_known k mid.staged) wrote.kept.is) ∙ wrote.whole clean
+        ap known_length (sym (ap (λ (k : Option (List ℕ)). append_known (append_known k wrote.kept.front) mid.staged) is_known)
+            ∙ sym (ap (λ (k : Option (List ℕ)). append_known k mid.staged) wrote.kept.is) ∙ wrote.whole clean
             ∙ ap (λ (k : Option (List ℕ)). append_known (append_known k was.staged) pushed) is_known),
         length-append (known ++ wrote.kept.front) mid.staged,
         length-append known wrote.kept.front,
@@ -141,7 +144,8 @@ module _ (bytes : List ℕ) (was is is' : Output) (pushed front rest : List ℕ)
         k.sends.most,
         ap length empty,
         length-drop (length front) bytes,
-        ap known_length (sym (ap (λ (o : Option (List ℕ)). append_known o front) is_known) ∙ sym taken ∙ kept.is ∙ ap (λ (o : Option (List ℕ)). append_known o kept.front) (k.sends.taken ∙ ap (λ (o : Option (List ℕ)). append_known o k.sends.sent) is_known)),
+        ap known_length (sym (ap (λ (o : Option (List ℕ)). append_known o front) is_known) ∙ sym taken ∙ kept.is
+            ∙ ap (λ (o : Option (List ℕ)). append_known o kept.front) (k.sends.taken ∙ ap (λ (o : Option (List ℕ)). append_known o k.sends.sent) is_known)),
         length-append known front,
         length-append (known ++ k.sends.sent) kept.front,
         length-append known k.sends.sent,

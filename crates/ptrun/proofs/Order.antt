@@ -1,5 +1,6 @@
 -- The operands of a command in their order, as places.
-use Rattle.std.proofs.Common.{◌≡◌, ℕ, zero, suc, ◌+◌, ◌<◌, ◌≤◌, Bool, true, false, cond, List, [], ◌∷◌, ◌++◌, Result, length, take, drop, get_or, sym, ◌∙◌, ap, subst, arith, append_assoc, take-append-drop}
+use Rattle.std.proofs.Common.{◌≡◌, ℕ, zero, suc, ◌+◌, ◌<◌, ◌≤◌, Bool, true, false, cond, List, [], ◌∷◌, ◌++◌, Result, length, take, drop, get_or, sym, ◌∙◌, ap}
+use Rattle.std.proofs.Common.{subst, arith, append_assoc, take-append-drop}
 use Rattle.std.proofs.lemmas.List.{take_more, get_or-map, length-map, take_all}
 use Rattle.std.proofs.lemmas.Bool.{false≢true}
 use Rattle.ptlines.specs.Readers.{Reader}
@@ -62,7 +63,9 @@ pub places_within : (n : ℕ) (operands : List (List ℕ)) → All (λ o. place 
 places_within n [] = All-nil (λ (o : Input). place o < n + 0 + 1)
 places_within n (operand ∷ operands) = by_test (is_standard operand) (places_within n operands) (places_within (n + 1) operands)
   where
-    by_test : (t : Bool) → All (λ o. place o < n + length (file_names operands) + 1) (order_from n operands) → All (λ o. place o < n + 1 + length (file_names operands) + 1) (order_from (n + 1) operands)
+    by_test : (t : Bool) → All (λ o. place o < n + length (file_names operands) + 1) (order_from n operands)
+        → All (λ o. place o < n + 1 + length (file_names operands) + 1) (order_from (n + 1) operands)
         → All (λ o. place o < n + length (cond (not t) (operand ∷ file_names operands) (file_names operands)) + 1) (cond t (Standard ∷ order_from n operands) (File n ∷ order_from (n + 1) operands))
     by_test true here later = All-cons (λ (o : Input). place o < n + length (file_names operands) + 1) Standard (order_from n operands) (omega arith) here
-    by_test false here later = All-cons (λ (o : Input). place o < n + length (operand ∷ file_names operands) + 1) (File n) (order_from (n + 1) operands) (omega arith) (λ k d within. omega (arith, later k d within))
+    by_test false here later = All-cons (λ (o : Input). place o < n + length (operand ∷ file_names operands) + 1) (File n) (order_from (n + 1) operands)
+        (omega arith) (λ k d within. omega (arith, later k d within))

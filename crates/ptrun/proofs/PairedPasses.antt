@@ -1,5 +1,6 @@
 -- A tool with two inputs did what its one merge did.
-use Rattle.std.proofs.Common.{◌≡◌, ◌⊎◌, ⊎_elim, inl, inr, ℕ, suc, ◌<◌, ◌≤◌, ◌^◌, ◌||◌, ◌&&◌, ◌==◌, Bool, true, false, List, [], ◌∷◌, Option, Some, None, Result, Ok, Err, length, map, set, get_or, refl, sym, ◌∙◌, ap, subst, arith, length-set}
+use Rattle.std.proofs.Common.{◌≡◌, ◌⊎◌, ⊎_elim, inl, inr, ℕ, suc, ◌<◌, ◌≤◌, ◌^◌, ◌||◌, ◌&&◌, ◌==◌, Bool, true, false, List, [], ◌∷◌, Option, Some, None, Result}
+use Rattle.std.proofs.Common.{Ok, Err, length, map, set, get_or, refl, sym, ◌∙◌, ap, subst, arith, length-set}
 use Rattle.std.specs.Prelude.{All, unwrap_or, option_map, not}
 use Rattle.std.specs.List.{list_any}
 use Rattle.std.proofs.lemmas.List.{get_or-set_same, get_or-set_other, length-map}
@@ -128,7 +129,8 @@ module _ (t : keyed.Tool) (places : List ℕ) (old : List Reader) (was : Output)
     at_side First =
         get_or-set_other (set nothing p (Some (e.given First))) q p (Some (e.given Second)) None two.apart
         ∙ get_or-set_same nothing p (Some (e.given First)) None (omega (arith, within First, length-map old received_of))
-    at_side Second = get_or-set_same (set nothing p (Some (e.given First))) q (Some (e.given Second)) None (omega (arith, within Second, length-map old received_of, length-set nothing p (Some (e.given First))))
+    at_side Second = get_or-set_same (set nothing p (Some (e.given First))) q (Some (e.given Second)) None
+        (omega (arith, within Second, length-map old received_of, length-set nothing p (Some (e.given First))))
 
     at_other : (k : ℕ) → (p ≡ k → ⊥) → (q ≡ k → ⊥) → at received k ≡ at nothing k
     at_other k first second =
@@ -182,7 +184,8 @@ module _ (t : keyed.Tool) (places : List ℕ) (old : List Reader) (was : Output)
     length_at side = let n = new_at side in omega (arith, (came_at side).count, ap length n.held, n.pulled)
 
     not_long : ((side : Side) → (reader_at new (place_of side)).pulled < 2 ^ 63) → (k : ℕ) → IsTooLong (at received k) → ⊥
-    not_long short = by_place (λ k. IsTooLong (at received k) → ⊥) (λ side long. mine side (subst IsTooLong (at_side side) long)) (λ k first second long. nothing_long old fresh k (subst IsTooLong (at_other k first second) long))
+    not_long short = by_place (λ k. IsTooLong (at received k) → ⊥) (λ side long. mine side (subst IsTooLong (at_side side) long))
+        (λ k first second long. nothing_long old fresh k (subst IsTooLong (at_other k first second) long))
       where
         mine : (side : Side) → 2 ^ 63 ≤ length (e.given side).bytes → ⊥
         mine side long = omega (arith, short side, length_at side, long)
@@ -252,14 +255,17 @@ module _ (t : keyed.Tool) (places : List ℕ) (old : List Reader) (was : Output)
     abbrev unread : ℕ → Result Done FlowFault
     unread k = Err (Read k)
 
-    told_read : (r : Result (Unit {0}) MergeFault) → Ends (seen (reader_at old p) (reader_at old q) was before) (seen (reader_at new p) (reader_at new q) is store) r → (k : ℕ) → HasFailed old new k → is.faulted ≡ false → told_at place_of r ≡ Err (Read k)
+    told_read : (r : Result (Unit {0}) MergeFault) → Ends (seen (reader_at old p) (reader_at old q) was before)
+        (seen (reader_at new p) (reader_at new q) is store) r → (k : ℕ) → HasFailed old new k → is.faulted ≡ false → told_at place_of r ≡ Err (Read k)
     told_read (Ok u) ends k failed clean = absurd (none_failed ends.failed k failed)
-    told_read (Err (faults.Read First)) ends k failed clean = by_place (λ k. HasFailed old new k → unread p ≡ unread k) mine (λ k first second failed. absurd (not_elsewhere k first second failed)) k failed
+    told_read (Err (faults.Read First)) ends k failed clean = by_place (λ k. HasFailed old new k → unread p ≡ unread k) mine
+        (λ k first second failed. absurd (not_elsewhere k first second failed)) k failed
       where
         mine : (side : Side) → HasFailed old new (place_of side) → unread p ≡ unread (place_of side)
         mine First failed = refl
         mine Second failed = absurd (false≢true (sym (ends.others ∙ calm Second) ∙ failed.2))
-    told_read (Err (faults.Read Second)) ends k failed clean = by_place (λ k. HasFailed old new k → unread q ≡ unread k) mine (λ k first second failed. absurd (not_elsewhere k first second failed)) k failed
+    told_read (Err (faults.Read Second)) ends k failed clean = by_place (λ k. HasFailed old new k → unread q ≡ unread k) mine
+        (λ k first second failed. absurd (not_elsewhere k first second failed)) k failed
       where
         mine : (side : Side) → HasFailed old new (place_of side) → unread q ≡ unread (place_of side)
         mine First failed = absurd (false≢true (sym (ends.others ∙ calm First) ∙ failed.2))
@@ -276,12 +282,16 @@ module _ (t : keyed.Tool) (places : List ℕ) (old : List Reader) (was : Output)
       wrote = e.wrote;
       ends = ended result e.ends (λ w agrees. e.whole (of_operands places (text_in w)) (agreed w agrees));
       place = within_told result;
-      untouched = λ k other. others k (λ same. false≢true (sym other ∙ subst (λ j. is_in places j ≡ true) same (in_places First))) (λ same. false≢true (sym other ∙ subst (λ j. is_in places j ≡ true) same (in_places Second)));
+      untouched = λ k other. others k (λ same. false≢true (sym other ∙ subst (λ j. is_in places j ≡ true) same (in_places First)))
+          (λ same. false≢true (sym other ∙ subst (λ j. is_in places j ≡ true) same (in_places Second)));
       true_so_far = λ w agrees. e.true_so_far (of_operands places (text_in w)) (agreed w agrees);
       told_read = told_read result e.ends;
-      sure = λ k failed clean. subst (λ g. Begins (decided t g) e.pushed) (sym given_is) (by_place (λ k. HasFailed old new k → Begins (decided t e.given) e.pushed) (λ side failed. sure_at side failed.2 clean) (λ k first second failed. absurd (not_elsewhere k first second failed)) k failed);
+      sure = λ k failed clean. subst (λ g. Begins (decided t g) e.pushed) (sym given_is)
+          (by_place (λ k. HasFailed old new k → Begins (decided t e.given) e.pushed) (λ side failed. sure_at side failed.2 clean)
+          (λ k first second failed. absurd (not_elsewhere k first second failed)) k failed);
       keeps_up = by_place
-          (λ k. (came : Given) → is_in places k ≡ true → at received k ≡ Some came → (before : Before came) × PassedOn (decided t (of_operands places (given_in (set received k (Some before.earlier))))) was is e.pushed)
+          (λ k. (came : Given) → is_in places k ≡ true → at received k ≡ Some came → (before : Before came)
+          × PassedOn (decided t (of_operands places (given_in (set received k (Some before.earlier))))) was is e.pushed)
           (λ side came named is_there. keeps_side side came (some_same (sym (at_side side) ∙ is_there)))
           (λ k first second came named is_there. absurd (not_in k first second named));
       peak = λ w agrees. e.peak (of_operands places (text_in w)) (agreed w agrees);
@@ -314,7 +324,8 @@ module _ (t : keyed.Tool) (places : List ℕ) (old : List Reader) (was : Output)
             each Second First = ap (given_in (set received q (Some g))) (operand_is First) ∙ unwrapped (get_or-set_other received q p (Some g) None two.apart ∙ at_side First)
             each Second Second = ap (given_in (set received q (Some g))) (operand_is Second) ∙ unwrapped (at_set received q (e.given Second) g (at_side Second))
 
-        keeps_side : (side : Side) (g : Given) → e.given side ≡ g → (cut : Before g) × PassedOn (decided t (of_operands places (given_in (set received (place_of side) (Some cut.earlier))))) was is e.pushed
+        keeps_side : (side : Side) (g : Given) → e.given side ≡ g → (cut : Before g)
+            × PassedOn (decided t (of_operands places (given_in (set received (place_of side) (Some cut.earlier))))) was is e.pushed
         keeps_side side g same = subst (λ (g : Given). (cut : Before g) × PassedOn (decided t (of_operands places (given_in (set received (place_of side) (Some cut.earlier))))) was is e.pushed) same (
           cut,
           record {

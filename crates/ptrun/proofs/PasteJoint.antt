@@ -1,5 +1,6 @@
 -- `paste` over its operands together: what its pass says of places, as what is said of inputs.
-use Rattle.std.proofs.Common.{◌≡◌, ◌⊎◌, ⊎_elim, inl, inr, ℕ, zero, suc, ◌+◌, ◌<◌, ◌≤◌, ◌==◌, ◌||◌, Bool, true, false, cond, List, [], ◌∷◌, ◌++◌, Option, Some, None, Result, Ok, Err, length, take, get_or, map, set, max, refl, sym, ◌∙◌, ap, subst, arith}
+use Rattle.std.proofs.Common.{◌≡◌, ◌⊎◌, ⊎_elim, inl, inr, ℕ, zero, suc, ◌+◌, ◌<◌, ◌≤◌, ◌==◌, ◌||◌, Bool, true, false, cond, List, [], ◌∷◌, ◌++◌, Option, Some}
+use Rattle.std.proofs.Common.{None, Result, Ok, Err, length, take, get_or, map, set, max, refl, sym, ◌∙◌, ap, subst, arith}
 use Rattle.std.specs.Prelude.{sum_by, unwrap_or}
 use Rattle.std.specs.List.{list_any}
 use Rattle.std.proofs.lemmas.Bool.{false≢true, eq-eqb}
@@ -90,7 +91,8 @@ sum_each f g cells same = sum_of f cells ∙ ap (sum_by (λ n. n)) same ∙ sym 
 
 module _ (job : Paste) (cells : List ℕ) where
   paste_same : (f g : ℕ → List ℕ) → ((p : ℕ) → 0 < times cells p → f p ≡ g p) → paste job cells f ≡ paste job cells g
-  paste_same f g same = ap (λ (cols : List (List (List ℕ))). sheet job (rows cols)) (columns_same cells (λ p. lines job.end (f p)) (λ p. lines job.end (g p)) (λ p some. ap (lines job.end) (same p some)))
+  paste_same f g same = ap (λ (cols : List (List (List ℕ))). sheet job (rows cols))
+      (columns_same cells (λ p. lines job.end (f p)) (λ p. lines job.end (g p)) (λ p some. ap (lines job.end) (same p some)))
 
   decided_same : (f g : ℕ → Given) → ((p : ℕ) → 0 < times cells p → f p ≡ g p) → paste_decided job cells f ≡ paste_decided job cells g
   decided_same f g same = λ i.
@@ -200,7 +202,8 @@ module _ (job : Paste) (places : List ℕ) (old : List Reader) (was : Output) (b
     keeps_at : (q : ℕ) (g : Given) → 0 < times places q → at received q ≡ Some g
         → (before : Before g) × PassedOn (paste_decided job places (given_in (set received q (Some before.earlier)))) was is k.pushed
     keeps_at q g some is_there =
-        subst (λ (h : Given). (before : Before h) × PassedOn (paste_decided job places (given_in (set received q (Some before.earlier)))) was is k.pushed) (some_same (sym (given_at q (is_open q some)) ∙ is_there)) (
+        subst (λ (h : Given). (before : Before h) × PassedOn (paste_decided job places (given_in (set received q (Some before.earlier)))) was is k.pushed)
+        (some_same (sym (given_at q (is_open q some)) ∙ is_there)) (
           cut,
           record {
             begins = subst (λ (l : List ℕ). Begins l k.pushed) (sym decided_is) up.works.begins;
@@ -238,7 +241,14 @@ module _ (job : Paste) (places : List ℕ) (old : List Reader) (was : Output) (b
     }
 
     pub rows_done : result ≡ Ok tt → IsJointPass (of_rows job) places old new was is before store (Ok Whole)
-    rows_done ok = joint_of (Ok Whole) (record { out = whole; is_done = λ w agrees. refl; written = e.clean; roomy = e.denied; read = λ q. ⊎_elim (λ failed. not_failed q (e.failed q) failed) (λ long. short q long) }) tt (λ q failed clean. absurd (not_failed q (e.failed q) failed))
+    rows_done ok = joint_of (Ok Whole) (record {
+      out = whole;
+      is_done = λ w agrees. refl;
+      written = e.clean;
+      roomy = e.denied;
+      read = λ q. ⊎_elim
+          (λ failed. not_failed q (e.failed q) failed) (λ long. short q long);
+    }) tt (λ q failed clean. absurd (not_failed q (e.failed q) failed))
       where
         e : RowsFinished places old new is store
         e = subst (λ (r : Result (Unit {0}) FlowFault). RowsEnd places old new is store r) ok k.ends

@@ -74,11 +74,13 @@ are_left = refl
 decided_before_a_failed_read : (asked (codes "cut" ∷ codes "-c" ∷ codes "1-3" ∷ [])).decided (Some (record { bytes = codes "abcd\nab"; ended = false }) ∷ []) ≡ codes "abc\n"
 decided_before_a_failed_read = refl
 
-fields_decided_before_a_failed_read : (asked (codes "cut" ∷ codes "-d" ∷ codes ":" ∷ codes "-f" ∷ codes "1" ∷ [])).decided (Some (record { bytes = codes "a:b\nc:d"; ended = false }) ∷ []) ≡ codes "a\n"
+fields_decided_before_a_failed_read : (asked (codes "cut" ∷ codes "-d" ∷ codes ":" ∷ codes "-f" ∷ codes "1" ∷ [])).decided
+    (Some (record { bytes = codes "a:b\nc:d"; ended = false }) ∷ []) ≡ codes "a\n"
 fields_decided_before_a_failed_read = refl
 
 -- before a failed read of the second operand, the first was refused
-said_of_the_first_operand : named (asked (codes "cut" ∷ codes "-c" ∷ codes "1" ∷ codes "g" ∷ codes "f" ∷ codes "h" ∷ [])) (Some [] ∷ None ∷ Some (codes "x") ∷ None ∷ []) 1 ≡ codes "cut: g: cannot be opened\n"
+said_of_the_first_operand : named (asked (codes "cut" ∷ codes "-c" ∷ codes "1" ∷ codes "g" ∷ codes "f" ∷ codes "h" ∷ []))
+    (Some [] ∷ None ∷ Some (codes "x") ∷ None ∷ []) 1 ≡ codes "cut: g: cannot be opened\n"
 said_of_the_first_operand = refl
 
 -- a read fails behind the first line that byte 0 ends
@@ -86,7 +88,8 @@ decided_of_lines_that_byte_0_ends : (asked (words "cut -z -c 1")).decided (Some 
 decided_of_lines_that_byte_0_ends = refl
 
 -- a read fails, and nothing of the last run is decided
-nothing_of_the_last_run : map (λ (row : List (List ℕ) × List ℕ). (asked row.0).decided (Some (record { bytes = row.1; ended = false }) ∷ [])) ((words "uniq", codes "a\na\nb") ∷ (words "uniq -c", codes "a\nb\nc") ∷ []) ≡ [] ∷ codes "1 a\n" ∷ []
+nothing_of_the_last_run : map (λ (row : List (List ℕ) × List ℕ). (asked row.0).decided (Some (record { bytes = row.1; ended = false }) ∷ []))
+    ((words "uniq", codes "a\na\nb") ∷ (words "uniq -c", codes "a\nb\nc") ∷ []) ≡ [] ∷ codes "1 a\n" ∷ []
 unfolding digits
 nothing_of_the_last_run = refl
 

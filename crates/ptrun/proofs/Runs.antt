@@ -60,13 +60,16 @@ reached_of was new pushed empty w = by_known was.taken refl
     by_known (Some t) is = record {
       front = w.kept.front;
       rest = new.staged ++ w.beginning.front;
-      split = append_cancel_left t pushed (w.kept.front ++ (new.staged ++ w.beginning.front)) (some_same (sym before_is ∙ w.beginning.is ∙ ap (λ (k : Option (List ℕ)). append_known k w.beginning.front) after_is)
+      split = append_cancel_left t pushed (w.kept.front ++ (new.staged ++ w.beginning.front))
+          (some_same (sym before_is ∙ w.beginning.is ∙ ap (λ (k : Option (List ℕ)). append_known k w.beginning.front) after_is)
           ∙ append_assoc (t ++ w.kept.front) new.staged w.beginning.front ∙ append_assoc t w.kept.front (new.staged ++ w.beginning.front));
       taken = w.kept.is;
       whole = λ clean none.
-          let same : t ++ w.kept.front ≡ t ++ pushed = some_same (sym (after_is ∙ ap (λ (l : List ℕ). Some ((t ++ w.kept.front) ++ l)) none ∙ ap (λ (l : List ℕ). Some l) (append-nil (t ++ w.kept.front))) ∙ w.whole clean ∙ before_is) in
+          let same : t ++ w.kept.front ≡ t ++ pushed = some_same (sym (after_is ∙ ap (λ (l : List ℕ). Some ((t ++ w.kept.front) ++ l)) none
+          ∙ ap (λ (l : List ℕ). Some l) (append-nil (t ++ w.kept.front))) ∙ w.whole clean ∙ before_is) in
           let all : w.kept.front ≡ pushed = append_cancel_left t w.kept.front pushed same in
-          let split : pushed ≡ w.kept.front ++ (new.staged ++ w.beginning.front) = append_cancel_left t pushed (w.kept.front ++ (new.staged ++ w.beginning.front)) (some_same (sym before_is ∙ w.beginning.is ∙ ap (λ (k : Option (List ℕ)). append_known k w.beginning.front) after_is)
+          let split : pushed ≡ w.kept.front ++ (new.staged ++ w.beginning.front) = append_cancel_left t pushed
+          (w.kept.front ++ (new.staged ++ w.beginning.front)) (some_same (sym before_is ∙ w.beginning.is ∙ ap (λ (k : Option (List ℕ)). append_known k w.beginning.front) after_is)
           ∙ append_assoc (t ++ w.kept.front) new.staged w.beginning.front ∙ append_assoc t w.kept.front (new.staged ++ w.beginning.front)) in
           nil_from_length (new.staged ++ w.beginning.front) (omega (arith, ap length all, ap length split, length-append w.kept.front (new.staged ++ w.beginning.front)));
       unknown = λ none. absurd (some_known (sym is ∙ none));
@@ -79,7 +82,8 @@ reached_of was new pushed empty w = by_known was.taken refl
         some_known same = cc
 
         before_is : append_known (text was) pushed ≡ Some (t ++ pushed)
-        before_is = ap (λ (k : Option (List ℕ)). append_known (append_known k was.staged) pushed) is ∙ ap (λ (l : List ℕ). Some ((t ++ l) ++ pushed)) empty ∙ ap (λ (l : List ℕ). Some (l ++ pushed)) (append-nil t)
+        before_is = ap (λ (k : Option (List ℕ)). append_known (append_known k was.staged) pushed) is ∙ ap (λ (l : List ℕ). Some ((t ++ l) ++ pushed)) empty
+            ∙ ap (λ (l : List ℕ). Some (l ++ pushed)) (append-nil t)
 
         after_is : text new ≡ Some ((t ++ w.kept.front) ++ new.staged)
         after_is = ap (λ (k : Option (List ℕ)). append_known k new.staged) (w.kept.is ∙ ap (λ (k : Option (List ℕ)). append_known k w.kept.front) is)
@@ -120,7 +124,8 @@ headline_of m old new before o fresh k w tells none fine roomy = by_fault k.faul
     by_fault : (fault : Option FlowFault) → EndsAs m k.received old new k.written k.said o k.behind fault → IsExact m w before o
     by_fault None e = record {
       out = k.took ∙ ap (λ (l : List ℕ). append_known before.out.taken l) (e.0.out w agrees);
-      messages = λ heard_all. k.tells.taken ∙ ap (λ (l : List ℕ). append_known before.messages.taken l) (sym (append-nil k.tells.front) ∙ ap (λ (l : List ℕ). k.tells.front ++ l) (sym (k.tells.whole heard_all)) ∙ sym k.tells.split ∙ (e.1 w agrees).0);
+      messages = λ heard_all. k.tells.taken ∙ ap (λ (l : List ℕ). append_known before.messages.taken l)
+          (sym (append-nil k.tells.front) ∙ ap (λ (l : List ℕ). k.tells.front ++ l) (sym (k.tells.whole heard_all)) ∙ sym k.tells.split ∙ (e.1 w agrees).0);
       status_is = (e.1 w agrees).1;
       bounded = k.bounded w agrees;
     }
@@ -136,8 +141,10 @@ none_failed : (old : List Reader) (q : ℕ) → HasFailed old old q → ⊥
 none_failed old q failed = false≢true (sym failed.1 ∙ failed.2)
 
 -- Nothing was to be read, and the output is left alone.
-module _ (m : Meaning) (at_once : m.in_turn ≡ None) (old : List Reader) (undecided : (r : Received) → ((q : ℕ) → shut old q ≡ is_unopened r q) → m.decided r ≡ []) (fresh : All IsFresh old) (out told heard : SinkState) (fine : out.failed ≡ false) (text : List ℕ) (tells : Tells told heard text) where
-  unread : (o : Outcome) → o.out ≡ out → o.messages ≡ heard → o.peak ≡ 0 → (n : ℕ) (fault : Option FlowFault) → EndsAs m (map received_of old) old old [] text o n fault → IsRun m old old (sinks out told) o
+module _ (m : Meaning) (at_once : m.in_turn ≡ None) (old : List Reader) (undecided : (r : Received) → ((q : ℕ) → shut old q ≡ is_unopened r q) → m.decided r
+    ≡ []) (fresh : All IsFresh old) (out told heard : SinkState) (fine : out.failed ≡ false) (text : List ℕ) (tells : Tells told heard text) where
+  unread : (o : Outcome) → o.out ≡ out → o.messages ≡ heard → o.peak ≡ 0 → (n : ℕ) (fault : Option FlowFault)
+      → EndsAs m (map received_of old) old old [] text o n fault → IsRun m old old (sinks out told) o
   unread o same said none n fault ends = record {
     received = map received_of old;
     came = nothing_read old (fresh_all old fresh);
@@ -154,7 +161,8 @@ module _ (m : Meaning) (at_once : m.in_turn ≡ None) (old : List Reader) (undec
     told = λ q failed clean. absurd (none_failed old q failed);
     sure = λ q failed clean. absurd (none_failed old q failed);
     keeps_up = subst (λ (kind : Option Tool). EarlierAs m (map received_of old) n (λ decided. KeptUp decided [] o.out.failed) kind) (sym at_once)
-        (nothing_decided m.places m.decided (map received_of old) o.out.failed (λ r same. undecided r (λ q. refused_received (reader_at old q) (reader_at old q) (at (map received_of old) q) (nothing_read old (fresh_all old fresh) q) ∙ sym (same q))));
+        (nothing_decided m.places m.decided (map received_of old) o.out.failed
+        (λ r same. undecided r (λ q. refused_received (reader_at old q) (reader_at old q) (at (map received_of old) q) (nothing_read old (fresh_all old fresh) q) ∙ sym (same q))));
     bounded = λ w agrees. omega (arith, none);
   }
 
@@ -179,7 +187,8 @@ pub lacking : (m : Meaning) (old : List Reader) → All IsFresh old → (out tol
     → ((r : Received) → ((q : ℕ) → shut old q ≡ is_unopened r q) → m.decided r ≡ [])
     → IsRun m old old (sinks out told) (record { out = out; messages = heard; status = 1; peak = 0; denied = false })
 lacking m old fresh out told heard fine tells nothing at_once undecided =
-    unread m at_once old undecided fresh out told heard fine (unopened m.tool m.names (shut old) m.places) tells (record { out = out; messages = heard; status = 1; peak = 0; denied = false }) refl refl refl (length m.places) None (
+    unread m at_once old undecided fresh out told heard fine (unopened m.tool m.names (shut old) m.places) tells
+    (record { out = out; messages = heard; status = 1; peak = 0; denied = false }) refl refl refl (length m.places) None (
       record {
         all = refl;
         out = λ w agrees. sym (nothing w (same w agrees)).0;
@@ -188,7 +197,8 @@ lacking m old fresh out told heard fine tells nothing at_once undecided =
         read = λ q. ⊎_elim (λ failed. none_failed old q failed) (λ long. nothing_long old (fresh_all old fresh) q long);
       },
       λ w agrees. (
-        unopened_same m.tool m.names (shut old) (is_unopened w) m.places (same w agrees) ∙ ap (unopened m.tool m.names (is_unopened w)) (sym (take-length m.places)) ∙ sym (append-nil (named m w (length m.places)))
+        unopened_same m.tool m.names (shut old) (is_unopened w) m.places (same w agrees)
+            ∙ ap (unopened m.tool m.names (is_unopened w)) (sym (take-length m.places)) ∙ sym (append-nil (named m w (length m.places)))
             ∙ ap (λ (l : List ℕ). named m w (length m.places) ++ l) (sym (nothing w (same w agrees)).1),
         sym (nothing w (same w agrees)).2,
       ),
@@ -230,8 +240,10 @@ named_of m old new was is is' told heard before store went ended k f = by_fault 
     by_fault false clean = subst (IsWithin (length old)) (sym (f.clean clean).0) k.place
 
 module _ (m : Meaning) (old new : List Reader) (was is is' : Output) (told heard : SinkState) (before store : Slots) (went ended : Result Done FlowFault) (out : SinkState) (o : Outcome)
-    (k : Went m old new was is told heard before store went) (f : Finishes is is' went ended) (says : Tells heard o.messages (last_words m.tool m.names ended)) (status_is : o.status ≡ status_after ended)
-    (made : was ≡ record { taken = out.taken; staged = []; faulted = false; pending = out.pending }) (last_taken : o.out.taken ≡ is'.taken) (last_failed : o.out.failed ≡ is'.faulted) (last_pending : o.out.pending ≡ is'.pending)
+    (k : Went m old new was is told heard before store went) (f : Finishes is is' went ended) (says : Tells heard o.messages (last_words m.tool m.names ended))
+    (status_is : o.status ≡ status_after ended)
+    (made : was ≡ record { taken = out.taken; staged = []; faulted = false; pending = out.pending }) (last_taken : o.out.taken ≡ is'.taken)
+    (last_failed : o.out.failed ≡ is'.faulted) (last_pending : o.out.pending ≡ is'.pending)
     (low : before.peak ≡ 0) (peak_is : o.peak ≡ store.peak) (denied_is : o.denied ≡ store.denied) where
   wrote_all : (b : Bool) → is.faulted ≡ b → Wrote was is' k.pushed
   wrote_all true faulted = subst (λ (o : Output). Wrote was o k.pushed) (sym (f.wrote.stays faulted)) k.wrote
@@ -260,7 +272,8 @@ module _ (m : Meaning) (old new : List Reader) (was is is' : Output) (told heard
     ends : EndsAs m k.received old new reached.front (k.said ++ last) o k.behind fault
     told_read : (place : ℕ) → HasFailed old new place → o.out.failed ≡ false → fault ≡ Some (Read place)
 
-  stopped : (fault : FlowFault) → ended ≡ Err fault → Cause m k.received old new o.out.failed o.denied k.behind fault → ((place : ℕ) → HasFailed old new place → o.out.failed ≡ false → ended ≡ Err (Read place)) → Ending
+  stopped : (fault : FlowFault) → ended ≡ Err fault → Cause m k.received old new o.out.failed o.denied k.behind fault
+      → ((place : ℕ) → HasFailed old new place → o.out.failed ≡ false → ended ≡ Err (Read place)) → Ending
   stopped fault is_err cause reads = record {
     fault = Some fault;
     ends = record {
@@ -298,7 +311,8 @@ module _ (m : Meaning) (old new : List Reader) (was is is' : Output) (told heard
       same = (f.clean clean).0 ∙ is_ok
   clean_ending (Err fault) is_err e clean =
       stopped fault ((f.clean clean).0 ∙ is_err)
-      (subst (λ (b : Bool). Cause m k.received old new b o.denied k.behind fault) ((f.clean clean).2 ∙ sym (last_failed ∙ clean)) (subst (λ (b : Bool). Cause m k.received old new is.faulted b k.behind fault) (sym denied_is) e))
+      (subst (λ (b : Bool). Cause m k.received old new b o.denied k.behind fault) ((f.clean clean).2 ∙ sym (last_failed ∙ clean))
+      (subst (λ (b : Bool). Cause m k.received old new is.faulted b k.behind fault) (sym denied_is) e))
       (λ place failed fine. (f.clean clean).0 ∙ k.told_read place failed (f.clean clean).2)
 
   ending : (b : Bool) → is'.faulted ≡ b → Ending

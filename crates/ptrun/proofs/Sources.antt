@@ -1,5 +1,6 @@
 -- What the operands find, one more operand at a time.
-use Rattle.std.proofs.Common.{◌≡◌, ◌≢◌, ◌⊎◌, ⊎_elim, inl, inr, ℕ, zero, suc, ◌<◌, ◌==◌, ◌||◌, Bool, true, false, cond, List, [], ◌∷◌, ◌++◌, Option, Some, None, ◌+◌, length, take, map, get_or, set, max, refl, sym, ◌∙◌, ap, subst, arith, append_assoc, add-one}
+use Rattle.std.proofs.Common.{◌≡◌, ◌≢◌, ◌⊎◌, ⊎_elim, inl, inr, ℕ, zero, suc, ◌<◌, ◌==◌, ◌||◌, Bool, true, false, cond, List, [], ◌∷◌, ◌++◌, Option, Some, None}
+use Rattle.std.proofs.Common.{◌+◌, length, take, map, get_or, set, max, refl, sym, ◌∙◌, ap, subst, arith, append_assoc, add-one}
 use Rattle.std.specs.Prelude.{flat_map, option_map}
 use Rattle.std.specs.List.{list_any}
 use Rattle.std.proofs.lemmas.List.{append-nil, get_or-set_same, get_or-set_other}
@@ -65,7 +66,8 @@ module _ {X : Type 0} (rest : X) (xs : List (Option X)) where
   pub sources_at : (done : List ℕ) (p : ℕ) (more : List ℕ) → sources rest xs (done ++ p ∷ more) ≡ sources rest xs done ++ opened (found rest xs done p ∷ founds rest xs (done ++ p ∷ []) more)
   sources_at done p more = ap opened (founds-append [] done (p ∷ more)) ∙ filter_map-append (λ (o : Option X). o) (founds rest xs [] done) (found rest xs done p ∷ founds rest xs (done ++ p ∷ []) more)
 
-  pub sources_opened : (done : List ℕ) (p : ℕ) (more : List ℕ) (x : X) → found rest xs done p ≡ Some x → sources rest xs (done ++ p ∷ more) ≡ sources rest xs done ++ x ∷ opened (founds rest xs (done ++ p ∷ []) more)
+  pub sources_opened : (done : List ℕ) (p : ℕ) (more : List ℕ) (x : X) → found rest xs done p ≡ Some x → sources rest xs (done ++ p ∷ more)
+      ≡ sources rest xs done ++ x ∷ opened (founds rest xs (done ++ p ∷ []) more)
   sources_opened done p more x is = sources_at done p more ∙ ap (λ (o : Option X). sources rest xs done ++ opened (o ∷ founds rest xs (done ++ p ∷ []) more)) is
 
   pub sources_refused : (done : List ℕ) (p : ℕ) → found rest xs done p ≡ None → sources rest xs (done ++ p ∷ []) ≡ sources rest xs done
@@ -73,9 +75,11 @@ module _ {X : Type 0} (rest : X) (xs : List (Option X)) where
 
 -- ---- names
 
-pub unopened_more : (tool : List ℕ) (names : List (List ℕ)) (test : ℕ → Bool) (done : List ℕ) (p : ℕ) → unopened tool names test (done ++ p ∷ []) ≡ unopened tool names test done ++ (cond (test p) (not_opened tool (name_of names p)) [])
+pub unopened_more : (tool : List ℕ) (names : List (List ℕ)) (test : ℕ → Bool) (done : List ℕ) (p : ℕ) → unopened tool names test (done ++ p ∷ [])
+    ≡ unopened tool names test done ++ (cond (test p) (not_opened tool (name_of names p)) [])
 unopened_more tool names test done p =
-    flat_map-append (λ (q : ℕ). cond (test q) (not_opened tool (name_of names q)) []) done (p ∷ []) ∙ ap (λ (l : List ℕ). unopened tool names test done ++ l) (append-nil (cond (test p) (not_opened tool (name_of names p)) []))
+    flat_map-append (λ (q : ℕ). cond (test q) (not_opened tool (name_of names q)) []) done (p ∷ [])
+    ∙ ap (λ (l : List ℕ). unopened tool names test done ++ l) (append-nil (cond (test p) (not_opened tool (name_of names p)) []))
 
 pub unopened_same : (tool : List ℕ) (names : List (List ℕ)) (f g : ℕ → Bool) (ps : List ℕ) → ((p : ℕ) → f p ≡ g p) → unopened tool names f ps ≡ unopened tool names g ps
 unopened_same tool names f g [] same = refl
@@ -123,7 +127,8 @@ module _ (t : Tool) (law : (g : Given) → g.ended ≡ true → t.decided g ≡ 
   pub decided_founds : (before ps : List ℕ) (later : List Given) → ((q : ℕ) → is_in ps q ≡ true → EndedAt (at r q))
       → flat_map t.decided (up_to_open (opened (founds nothing_left r before ps) ++ later)) ≡ flat_map t.text (opened (founds [] (least r) before ps)) ++ flat_map t.decided (up_to_open later)
   decided_founds before [] later ended = refl
-  decided_founds before (p ∷ ps) later ended = by_input (at r p) (at (least r) p) (at-least r p) (ended p (first (p == p) (grind (arith, nat_tests)))) (is_in before p) (decided_founds (before ++ p ∷ []) ps later others)
+  decided_founds before (p ∷ ps) later ended = by_input (at r p) (at (least r) p) (at-least r p) (ended p (first (p == p) (grind (arith, nat_tests))))
+      (is_in before p) (decided_founds (before ++ p ∷ []) ps later others)
     where
       first : (b : Bool) → b ≡ true → (b || is_in ps p) ≡ true
       first b is = ap (λ (c : Bool). c || is_in ps p) is
@@ -135,16 +140,23 @@ module _ (t : Tool) (law : (g : Given) → g.ended ≡ true → t.decided g ≡ 
           later_one true = refl
           later_one false = is
 
-      one : (g : Given) → g.ended ≡ true → flat_map t.decided (up_to_open (opened (founds nothing_left r (before ++ p ∷ []) ps) ++ later)) ≡ flat_map t.text (opened (founds [] (least r) (before ++ p ∷ []) ps)) ++ flat_map t.decided (up_to_open later)
-          → flat_map t.decided (up_to_open (g ∷ opened (founds nothing_left r (before ++ p ∷ []) ps) ++ later)) ≡ (t.text g.bytes ++ flat_map t.text (opened (founds [] (least r) (before ++ p ∷ []) ps))) ++ flat_map t.decided (up_to_open later)
+      one : (g : Given) → g.ended ≡ true → flat_map t.decided (up_to_open (opened (founds nothing_left r (before ++ p ∷ []) ps) ++ later))
+          ≡ flat_map t.text (opened (founds [] (least r) (before ++ p ∷ []) ps)) ++ flat_map t.decided (up_to_open later)
+          → flat_map t.decided (up_to_open (g ∷ opened (founds nothing_left r (before ++ p ∷ []) ps) ++ later))
+          ≡ (t.text g.bytes ++ flat_map t.text (opened (founds [] (least r) (before ++ p ∷ []) ps))) ++ flat_map t.decided (up_to_open later)
       one g is further =
           ap (λ (b : Bool). t.decided g ++ flat_map t.decided (cond b (up_to_open (opened (founds nothing_left r (before ++ p ∷ []) ps) ++ later)) [])) is
           ∙ (λ i. law g is i ++ further i) ∙ sym (append_assoc (t.text g.bytes) (flat_map t.text (opened (founds [] (least r) (before ++ p ∷ []) ps))) (flat_map t.decided (up_to_open later)))
 
       by_input : (o : Option Given) (w : Option (List ℕ)) → w ≡ bytes_at o → EndedAt o → (seen : Bool)
-          → flat_map t.decided (up_to_open (opened (founds nothing_left r (before ++ p ∷ []) ps) ++ later)) ≡ flat_map t.text (opened (founds [] (least r) (before ++ p ∷ []) ps)) ++ flat_map t.decided (up_to_open later)
+          → flat_map t.decided (up_to_open (opened (founds nothing_left r (before ++ p ∷ []) ps) ++ later))
+          ≡ flat_map t.text (opened (founds [] (least r) (before ++ p ∷ []) ps)) ++ flat_map t.decided (up_to_open later)
           → flat_map t.decided (up_to_open (opened (option_map (λ (g : Given). cond seen nothing_left g) o ∷ founds nothing_left r (before ++ p ∷ []) ps) ++ later))
           ≡ flat_map t.text (opened (option_map (λ (b : List ℕ). cond seen [] b) w ∷ founds [] (least r) (before ++ p ∷ []) ps)) ++ flat_map t.decided (up_to_open later)
-      by_input None w is e seen further = further ∙ ap (λ (v : Option (List ℕ)). flat_map t.text (opened (option_map (λ (b : List ℕ). cond seen [] b) v ∷ founds [] (least r) (before ++ p ∷ []) ps)) ++ flat_map t.decided (up_to_open later)) (sym is)
-      by_input (Some g) w is e true further = one nothing_left refl further ∙ ap (λ (v : Option (List ℕ)). flat_map t.text (opened (option_map (λ (b : List ℕ). cond true [] b) v ∷ founds [] (least r) (before ++ p ∷ []) ps)) ++ flat_map t.decided (up_to_open later)) (sym is)
-      by_input (Some g) w is e false further = one g e further ∙ ap (λ (v : Option (List ℕ)). flat_map t.text (opened (option_map (λ (b : List ℕ). cond false [] b) v ∷ founds [] (least r) (before ++ p ∷ []) ps)) ++ flat_map t.decided (up_to_open later)) (sym is)
+      by_input None w is e seen further = further ∙ ap (λ (v : Option (List ℕ)). flat_map t.text
+          (opened (option_map (λ (b : List ℕ). cond seen [] b) v ∷ founds [] (least r) (before ++ p ∷ []) ps)) ++ flat_map t.decided (up_to_open later)) (sym is)
+      by_input (Some g) w is e true further = one nothing_left refl further
+          ∙ ap (λ (v : Option (List ℕ)). flat_map t.text (opened (option_map (λ (b : List ℕ). cond true [] b) v ∷ founds [] (least r) (before ++ p ∷ []) ps))
+          ++ flat_map t.decided (up_to_open later)) (sym is)
+      by_input (Some g) w is e false further = one g e further ∙ ap (λ (v : Option (List ℕ)). flat_map t.text
+          (opened (option_map (λ (b : List ℕ). cond false [] b) v ∷ founds [] (least r) (before ++ p ∷ []) ps)) ++ flat_map t.decided (up_to_open later)) (sym is)

@@ -17,7 +17,8 @@ module _ (inputs front back : List Reader) (low high : ℕ) (split : inputs ≡ 
   none_left = omega arith
 
   pub was_low : (d : Reader) → get_or front low d ≡ reader_at inputs low
-  was_low d = get_or_default front low d no_reader (omega (arith, size, below)) ∙ sym (ap (λ l. get_or l low no_reader) split ∙ get_or_append_left front back no_reader low (omega (arith, size, below)))
+  was_low d = get_or_default front low d no_reader (omega (arith, size, below))
+      ∙ sym (ap (λ l. get_or l low no_reader) split ∙ get_or_append_left front back no_reader low (omega (arith, size, below)))
 
   pub was_high : (d : Reader) → 0 < length back → get_or back 0 d ≡ reader_at inputs high
   was_high d some =

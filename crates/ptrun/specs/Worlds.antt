@@ -1,5 +1,6 @@
 -- What a command finds: its inputs by place. And what came of them.
-use Rattle.std.specs.Prelude.{◌≡◌, ℕ, ◌+◌, ◌==◌, ◌<◌, ◌≤◌, ◌^◌, List, [], ◌∷◌, ◌++◌, Bool, true, false, Option, Some, None, if◌then◌else◌, slice_index_or, option_map, filter_map, is_none, length, ⊤, All}
+use Rattle.std.specs.Prelude.{◌≡◌, ℕ, ◌+◌, ◌==◌, ◌<◌, ◌≤◌, ◌^◌, List, [], ◌∷◌, ◌++◌, Bool, true, false, Option, Some, None, if◌then◌else◌, slice_index_or}
+use Rattle.std.specs.Prelude.{option_map, filter_map, is_none, length, ⊤, All}
 use Rattle.std.specs.List.{list_any}
 use Rattle.ptlines.specs.Readers.{Reader, unread}
 use Rattle.ptlines.specs.Inputs.{Given, Came}

@@ -1,6 +1,7 @@
 -- The items of a list that intervals choose. Intervals that lie apart choose one behind another, and each chooses a
 -- slice; so what all choose is the slices in a row.
-use Rattle.std.proofs.Common.{◌≡◌, ⊎_elim, ℕ, zero, suc, ◌+◌, ◌-◌, ◌<◌, ◌≤◌, Bool, true, false, cond, ◌&&◌, ◌||◌, List, [], ◌∷◌, ◌++◌, length, take, drop, get_or, min, append_assoc, length-drop, subst, refl, sym, ◌∙◌, ap, arith}
+use Rattle.std.proofs.Common.{◌≡◌, ⊎_elim, ℕ, zero, suc, ◌+◌, ◌-◌, ◌<◌, ◌≤◌, Bool, true, false, cond, ◌&&◌, ◌||◌, List, [], ◌∷◌, ◌++◌, length, take, drop}
+use Rattle.std.proofs.Common.{get_or, min, append_assoc, length-drop, subst, refl, sym, ◌∙◌, ap, arith}
 use Rattle.std.specs.Prelude.{nat_le}
 use Rattle.std.proofs.lemmas.Bool.{cases_order, false≢true}
 use Rattle.std.proofs.lemmas.Bool.Decides.{nat_tests}
@@ -46,13 +47,16 @@ chosen_step : {X : Type 0} (x : X) (all first others : List X) (a b : Bool) → 
     → cond (a || b) (x ∷ all) all ≡ cond a (x ∷ first) first ++ cond b (x ∷ others) others
 chosen_step x all first others true true apart none more = absurd (false≢true (sym (apart refl)))
 chosen_step {X} x all first others true false apart none more = ap (λ (l : List X). x ∷ l) more
-chosen_step {X} x all first others false true apart none more = ap (λ (l : List X). x ∷ l) (more ∙ ap (λ (l : List X). l ++ others) (none refl)) ∙ ap (λ (l : List X). l ++ x ∷ others) (sym (none refl))
+chosen_step {X} x all first others false true apart none more = ap (λ (l : List X). x ∷ l) (more ∙ ap (λ (l : List X). l ++ others) (none refl))
+    ∙ ap (λ (l : List X). l ++ x ∷ others) (sym (none refl))
 chosen_step x all first others false false apart none more = more
 
 -- the first interval chooses, and then the others
-pub chosen_first : {X : Type 0} (r : Interval) (rs : List Interval) (n : ℕ) (xs : List X) → AreApart (r.last + 1) rs → chosen (is_selected (r ∷ rs)) n xs ≡ chosen (lies_in r) n xs ++ chosen (is_selected rs) n xs
+pub chosen_first : {X : Type 0} (r : Interval) (rs : List Interval) (n : ℕ) (xs : List X) → AreApart (r.last + 1) rs → chosen (is_selected (r ∷ rs)) n xs
+    ≡ chosen (lies_in r) n xs ++ chosen (is_selected rs) n xs
 chosen_first r rs n [] apart = refl
-chosen_first {X} r rs n (x ∷ xs) apart = chosen_step x (chosen (is_selected (r ∷ rs)) (n + 1) xs) (chosen (lies_in r) (n + 1) xs) (chosen (is_selected rs) (n + 1) xs) (lies_in r n) (is_selected rs n) here there (chosen_first r rs (n + 1) xs apart)
+chosen_first {X} r rs n (x ∷ xs) apart = chosen_step x (chosen (is_selected (r ∷ rs)) (n + 1) xs) (chosen (lies_in r) (n + 1) xs)
+    (chosen (is_selected rs) (n + 1) xs) (lies_in r n) (is_selected rs n) here there (chosen_first r rs (n + 1) xs apart)
   where
     late : (n ≤ r.last → ⊥) → r.last < n
     late not = ⊎_elim (λ is. absurd (not (omega (arith, is)))) (λ h. ⊎_elim (λ low. absurd (not (omega (arith, low)))) (λ high. high) h) (cases_order n r.last)
@@ -83,7 +87,8 @@ chosen_slice r n (x ∷ xs) i zero is js = chosen_past r n (x ∷ xs) (omega (ar
 chosen_slice {X} r n (x ∷ xs) zero (suc j) is js =
     let whole : suc j - 0 ≡ suc j = omega arith in
     let rest : j - 0 ≡ j = omega arith in
-    rw (inside r n (omega (arith, is)) (omega (arith, js)), whole) (ap (λ (l : List X). x ∷ l) (chosen_slice r (n + 1) xs zero j (omega (arith, is)) (omega (arith, js)) ∙ ap (λ (k : ℕ). take k xs) rest))
+    rw (inside r n (omega (arith, is)) (omega (arith, js)), whole) (ap (λ (l : List X). x ∷ l)
+    (chosen_slice r (n + 1) xs zero j (omega (arith, is)) (omega (arith, js)) ∙ ap (λ (k : ℕ). take k xs) rest))
 chosen_slice r n (x ∷ xs) (suc i) (suc j) is js =
     let same : suc j - suc i ≡ j - i = omega arith in
     rw (below r n (omega (arith, is)), same) (chosen_slice r (n + 1) xs i j (omega (arith, is)) (omega (arith, js)))
@@ -130,7 +135,8 @@ module _ (all : List Interval) (before : ℕ) (piece tail was : List ℕ) (start
       choosing_room = omega (arith, k.near, apart.0, apart.1)
 
       -- what the interval chooses was copied
-      pub choosing_more : r.last < before + 1 + length piece → Choosing all (i + 1) before piece tail was (is ++ chosen (lies_in r) (before + 1) piece) start (at + ((r.last - before) - (r.first - (before + 1))))
+      pub choosing_more : r.last < before + 1 + length piece → Choosing all (i + 1) before piece tail was (is ++ chosen (lies_in r) (before + 1) piece) start
+          (at + ((r.last - before) - (r.first - (before + 1))))
       choosing_more short = record { front = next; low = r.last + 1; apart = apart.2; near = omega (arith, choosing_room); within = omega (arith, choosing_room, short) }
 
       -- where the interval reaches the end of the piece, what it chooses begins no farther in front than what stands there ends
@@ -139,7 +145,8 @@ module _ (all : List Interval) (before : ℕ) (piece tail was : List ℕ) (start
 
       pub choosing_ends : before + length piece ≤ r.last → is ++ (chosen (lies_in r) (before + 1) piece ++ tail) ≡ was ++ (chosen (is_selected all) (before + 1) piece ++ tail)
       choosing_ends reaches =
-          ap (λ (l : List ℕ). is ++ (chosen (lies_in r) (before + 1) piece ++ (l ++ tail))) (sym (chosen_none (is_selected rs) (before + 1) piece (λ m low high. not_selected rs (r.last + 1) m apart.2 (omega arith))))
+          ap (λ (l : List ℕ). is ++ (chosen (lies_in r) (before + 1) piece ++ (l ++ tail)))
+          (sym (chosen_none (is_selected rs) (before + 1) piece (λ m low high. not_selected rs (r.last + 1) m apart.2 (omega arith))))
           ∙ sym (append_assoc is (chosen (lies_in r) (before + 1) piece) (chosen (is_selected rs) (before + 1) piece ++ tail)) ∙ next
 
 -- a slice of the bytes, which lies in the piece in front of them
@@ -157,7 +164,8 @@ slice_is r before count bytes within short =
         same : i ≤ j → take (j - i) (drop i (take count bytes)) ≡ take (j - i) (drop i bytes)
         same low =
             let all : i + (count - i) ≡ count = omega arith in
-            ap (λ (c : ℕ). take (j - i) (drop i (take c bytes))) (sym all) ∙ ap (λ (l : List ℕ). take (j - i) l) (drop-take i (count - i) bytes) ∙ take-take (j - i) (count - i) (drop i bytes) (omega arith)
+            ap (λ (c : ℕ). take (j - i) (drop i (take c bytes))) (sym all) ∙ ap (λ (l : List ℕ). take (j - i) l) (drop-take i (count - i) bytes)
+            ∙ take-take (j - i) (count - i) (drop i bytes) (omega arith)
 
         past : j < i → take (j - i) (drop i (take count bytes)) ≡ take (j - i) (drop i bytes)
         past high = let none : j - i ≡ 0 = omega arith in rw none refl
@@ -177,7 +185,8 @@ rest_is r before count bytes within reaches =
     all_of i fits = ⊎_elim (λ is. near (omega (arith, is))) (λ h. ⊎_elim (λ low. near (omega (arith, low))) far h) (cases_order i count)
       where
         near : i ≤ count → take ((r.last + 1 - (before + 1)) - i) (drop i (take count bytes)) ≡ drop (min i count) (take count bytes)
-        near low = let least : min i count ≡ i = omega arith in take_all ((r.last + 1 - (before + 1)) - i) (drop i (take count bytes)) (omega (arith, length-drop i (take count bytes))) ∙ ap (λ (k : ℕ). drop k (take count bytes)) (sym least)
+        near low = let least : min i count ≡ i = omega arith in take_all ((r.last + 1 - (before + 1)) - i) (drop i (take count bytes))
+            (omega (arith, length-drop i (take count bytes))) ∙ ap (λ (k : ℕ). drop k (take count bytes)) (sym least)
 
         far : count < i → take ((r.last + 1 - (before + 1)) - i) (drop i (take count bytes)) ≡ drop (min i count) (take count bytes)
         far high =
@@ -216,7 +225,8 @@ module _ (all : List Interval) (before count end : ℕ) (bytes was : List ℕ) (
     pub copied_ends : (from : ℕ) → from ≡ min (at_i.first - (before + 1)) count → before + count ≤ at_i.last → is' ≡ is ++ take (end - from) (drop from bytes)
         → is' ≡ was ++ (chosen (is_selected all) (before + 1) piece ++ tail)
     copied_ends from from_is reaches copied =
-        copied ∙ ap (λ (l : List ℕ). is ++ l) (cut_off from end bytes (omega (arith, from_is, in_piece)) ∙ ap (λ (n : ℕ). drop n (take end bytes)) from_is ∙ rest_is at_i before count (take end bytes) (omega (arith, long, in_piece)) reaches)
+        copied ∙ ap (λ (l : List ℕ). is ++ l) (cut_off from end bytes (omega (arith, from_is, in_piece)) ∙ ap (λ (n : ℕ). drop n (take end bytes)) from_is
+        ∙ rest_is at_i before count (take end bytes) (omega (arith, long, in_piece)) reaches)
         ∙ choosing_ends all before piece tail was start i is at k within (omega (arith, piece_long, reaches))
 
     pub copied_more : (from to : ℕ) → from ≡ at_i.first - (before + 1) → to ≡ at_i.last - before → at_i.last < before + count → is' ≡ is ++ take (to - from) (drop from bytes)

@@ -1,5 +1,6 @@
 -- Bytes for which a test holds, put to the front.
-use Rattle.std.proofs.Common.{◌≡◌, ℕ, suc, ◌+◌, ◌<◌, ◌≤◌, ◌^◌, ◌%◌, Bool, true, false, not, cond, List, [], ◌∷◌, ◌++◌, length, take, set, get_or, length-set, take_all, zero, ℤ, map, refl, sym, ap, ◌∙◌, arith, add-zero, w8, Fits, pos, negsuc}
+use Rattle.std.proofs.Common.{◌≡◌, ℕ, suc, ◌+◌, ◌<◌, ◌≤◌, ◌^◌, ◌%◌, Bool, true, false, not, cond, List, [], ◌∷◌, ◌++◌, length, take, set, get_or, length-set}
+use Rattle.std.proofs.Common.{take_all, zero, ℤ, map, refl, sym, ap, ◌∙◌, arith, add-zero, w8, Fits, pos, negsuc}
 use Rattle.std.specs.Prelude.{filter}
 use Rattle.std.specs.Int.{from_bool, cast_unsigned, bit_not}
 use Rattle.std.specs.Simd.Lanes.{mask_l, top, chunk}
@@ -43,7 +44,8 @@ module _ (test : ℕ → Bool) (from into : List ℕ) (at count : ℕ) (before :
   }
 
   -- one more
-  pub keeps_byte : (after : List ℕ) (end : ℕ) → at < length from → at < 8224 → after ≡ set into count (get_or from at 0) → end ≡ count + from_bool (test (get_or from at 0)) → Keeps test from (at + 1) after end
+  pub keeps_byte : (after : List ℕ) (end : ℕ) → at < length from → at < 8224 → after ≡ set into count (get_or from at 0) → end
+      ≡ count + from_bool (test (get_or from at 0)) → Keeps test from (at + 1) after end
   keeps_byte after end room small is ended = record {
     within = omega (arith, room);
     few = omega (arith, ended, one_at_most (test b), before.few);

@@ -1,6 +1,7 @@
 -- The n-th item of a list that passes a test, by the bits of a mask, of which the lowest are cleared; and that the fields
 -- behind the n-th delimiter start there.
-use Rattle.std.proofs.Common.{◌≡◌, ⊎_elim, ℕ, zero, suc, ◌+◌, ◌-◌, ◌*◌, ◌/◌, ◌%◌, ◌^◌, ◌<◌, ◌≤◌, min, Bool, true, false, cond, not, Option, None, Some, List, [], ◌∷◌, ◌++◌, length, map, take, drop, get_or, refl, sym, ◌∙◌, ap, ap₂, subst, arith, get_or-take, take-append-drop, length-drop}
+use Rattle.std.proofs.Common.{◌≡◌, ⊎_elim, ℕ, zero, suc, ◌+◌, ◌-◌, ◌*◌, ◌/◌, ◌%◌, ◌^◌, ◌<◌, ◌≤◌, min, Bool, true, false, cond, not, Option, None, Some, List}
+use Rattle.std.proofs.Common.{[], ◌∷◌, ◌++◌, length, map, take, drop, get_or, refl, sym, ◌∙◌, ap, ap₂, subst, arith, get_or-take, take-append-drop, length-drop}
 use Rattle.std.specs.Int.RustNames.{count_ones}
 use Rattle.std.specs.List.{count_by, prefix_len}
 use Rattle.std.specs.Simd.Lanes.{mask_l, chunk}
@@ -152,7 +153,8 @@ module _ (p : ℕ → Bool) (bytes : List ℕ) where
 
   -- the place that the mask of a chunk gives
   pub behind_in_chunk : (at left marked count k : ℕ) → at + 64 ≤ length bytes → marked ≡ mask_l (map p (chunk at 64 bytes)) → count ≡ count_ones marked → 0 < left → left ≤ count
-      → ((test : ℕ → Bool) (xs : List ℕ) → length xs ≤ 64 → marked ≡ mask_l (map test xs) → left - 1 < count_by test xs → IsBehind test 0 (left - 1) xs k) → IsBehind p 0 (left - 1) (chunk at 64 bytes) k
+      → ((test : ℕ → Bool) (xs : List ℕ) → length xs ≤ 64 → marked ≡ mask_l (map test xs) → left - 1 < count_by test xs → IsBehind test 0 (left - 1) xs k)
+      → IsBehind p 0 (left - 1) (chunk at 64 bytes) k
   behind_in_chunk at left marked count k room is counted some le found =
       found p (chunk at 64 bytes) (omega (arith, length-chunk at 64 bytes room)) is (omega (arith, counted, ap count_ones is ∙ ones-mask_l p (chunk at 64 bytes)))
 
@@ -196,7 +198,8 @@ module _ (p : ℕ → Bool) (bytes : List ℕ) where
 
     pub first_of_all : NoneBefore (Passes p bytes) 0 (length bytes) k × Passes p bytes k
     first_of_all =
-        first_is k (subst (λ (l : List ℕ). IsBehind p 0 0 l k) (take_all (length bytes) bytes (omega arith)) (first_front (length bytes) (omega (arith, room, near size 0 0 k (omega arith) in_front)) (omega arith)))
+        first_is k (subst (λ (l : List ℕ). IsBehind p 0 0 l k) (take_all (length bytes) bytes (omega arith))
+        (first_front (length bytes) (omega (arith, room, near size 0 0 k (omega arith) in_front)) (omega arith)))
 
 -- ---- fields
 
@@ -266,10 +269,18 @@ module _ (d : ℕ) (line : List ℕ) where
 module _ (p : ℕ → Bool) (bytes : List ℕ) (start end : ℕ) (fits : end < length bytes) (is : p (get_or bytes end 0) ≡ true) (same : count_by p (take end bytes) ≡ count_by p (take start bytes)) where
   pub one_behind : count_by p (take (end + 1) bytes) ≡ count_by p (take end bytes) + 1
   one_behind =
-      omega (arith, ap (count_by p) (take_more bytes end 0 fits), sum_by-append (λ b. cond (p b) 1 0) (take end bytes) (get_or bytes end 0 ∷ []), sum_by-cons (λ b. cond (p b) 1 0) (get_or bytes end 0) [], ap (λ (t : Bool). cond {A = ℕ} t 1 0) is)
+      omega (
+        arith,
+        ap (count_by p) (take_more bytes end 0 fits),
+        sum_by-append (λ b. cond (p b) 1 0) (take end bytes) (get_or bytes end 0 ∷ []),
+        sum_by-cons
+            (λ b. cond (p b) 1 0) (get_or bytes end 0) [],
+        ap (λ (t : Bool). cond {A = ℕ} t 1 0) is,
+      )
 
   pub in_order : start ≤ end
-  in_order = ⊎_elim (λ e. omega (arith, e)) (λ h. ⊎_elim (λ less. absurd (omega (arith, less, same, one_behind, count_up_to p bytes (end + 1) start (omega (arith, less))))) (λ more. omega (arith, more)) h) (cases_order end start)
+  in_order = ⊎_elim (λ e. omega (arith, e)) (λ h. ⊎_elim (λ less. absurd
+      (omega (arith, less, same, one_behind, count_up_to p bytes (end + 1) start (omega (arith, less))))) (λ more. omega (arith, more)) h) (cases_order end start)
 
   pub next_is : NoneBefore (Passes p (drop start bytes)) 0 (length (drop start bytes)) (end - start) × Passes p (drop start bytes) (end - start)
   next_is =
@@ -277,7 +288,14 @@ module _ (p : ℕ → Bool) (bytes : List ℕ) (start end : ℕ) (fits : end < l
       first_is p (drop start bytes) (end - start) (
         omega (arith, length-drop start bytes, fits, in_order),
         ap p (get_or-drop start bytes (end - start) 0 ∙ ap (λ (n : ℕ). get_or bytes n 0) whole) ∙ is,
-        omega (arith, same, ap (λ (n : ℕ). count_by p (take n bytes)) whole, ap (count_by p) (take-add start (end - start) bytes), sum_by-append (λ b. cond (p b) 1 0) (take start bytes) (take (end - start) (drop start bytes))),
+        omega (
+          arith,
+          same,
+          ap (λ (n : ℕ). count_by p (take n bytes)) whole,
+          ap (count_by p) (take-add start (end - start) bytes),
+          sum_by-append
+              (λ b. cond (p b) 1 0) (take start bytes) (take (end - start) (drop start bytes)),
+        ),
       )
 
 -- the next end of a line among 64 bytes, of which so many were gone over, where the line starts at this place

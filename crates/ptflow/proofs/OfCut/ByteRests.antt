@@ -31,7 +31,8 @@ module _ (end : ℕ) (selected : ℕ → Bool) where
   rest_of_all [] = refl
   rest_of_all (line ∷ ls) = sym (append_assoc (chosen_from selected 1 line) (end ∷ []) (cut_text ls))
 
-  pub rest_line : (before : ℕ) (line rest : List ℕ) → IsLine end line → cut_rest end selected before (line ++ end ∷ rest) ≡ (chosen_from selected (before + 1) line ++ end ∷ []) ++ cut_rest end selected 0 rest
+  pub rest_line : (before : ℕ) (line rest : List ℕ) → IsLine end line → cut_rest end selected before (line ++ end ∷ rest)
+      ≡ (chosen_from selected (before + 1) line ++ end ∷ []) ++ cut_rest end selected 0 rest
   rest_line before line rest whole =
       ap (rest_of_lines end selected before) (lines_first end line rest whole) ∙ sym (append_assoc (chosen_from selected (before + 1) line) (end ∷ []) (cut_text (lines end rest)))
       ∙ ap (λ (l : List ℕ). (chosen_from selected (before + 1) line ++ end ∷ []) ++ l) (sym (rest_of_all (lines end rest)))
@@ -54,12 +55,14 @@ module _ (end : ℕ) (selected : ℕ → Bool) where
       by_test false = refl
 
   -- a piece of a line
-  pub rest_piece : (before : ℕ) (piece rest : List ℕ) → IsLine end piece → cut_rest end selected before (piece ++ rest) ≡ chosen_from selected (before + 1) piece ++ cut_rest end selected (before + length piece) rest
+  pub rest_piece : (before : ℕ) (piece rest : List ℕ) → IsLine end piece → cut_rest end selected before (piece ++ rest)
+      ≡ chosen_from selected (before + 1) piece ++ cut_rest end selected (before + length piece) rest
   rest_piece before [] rest whole = let same : before + 0 ≡ before = omega arith in ap (λ (n : ℕ). cut_rest end selected n rest) (sym same)
   rest_piece before (b ∷ piece) rest whole =
       let same : before + 1 + length piece ≡ before + length (b ∷ piece) = omega arith in
       let first : cut_rest end selected before ((b ∷ piece) ++ rest) ≡ chosen_from selected (before + 1) (b ∷ []) ++ cut_rest end selected (before + 1) (piece ++ rest) =
-      ap (λ (t : Bool). rest_of_lines end selected before (cond t ([] ∷ lines end (piece ++ rest)) (onto_first b (lines end (piece ++ rest))))) (other_byte end b whole.0) ∙ rest_onto before b (lines end (piece ++ rest)) in
+      ap (λ (t : Bool). rest_of_lines end selected before (cond t ([] ∷ lines end (piece ++ rest)) (onto_first b (lines end (piece ++ rest)))))
+      (other_byte end b whole.0) ∙ rest_onto before b (lines end (piece ++ rest)) in
       first ∙ ap (λ (l : List ℕ). chosen_from selected (before + 1) (b ∷ []) ++ l) (rest_piece (before + 1) piece rest whole.1)
       ∙ sym (append_assoc (chosen_from selected (before + 1) (b ∷ [])) (chosen_from selected (before + 1 + 1) piece) (cut_rest end selected (before + 1 + length piece) rest))
       ∙ ap (λ (l : List ℕ). l ++ cut_rest end selected (before + 1 + length piece) rest) (chosen_onto (before + 1) b piece)
@@ -68,14 +71,16 @@ module _ (end : ℕ) (selected : ℕ → Bool) where
 -- the selected bytes of the line in front, and its end
 module _ (end : ℕ) (bytes : List ℕ) (at : ℕ) (first : IsFirstByte (is_byte end) bytes (Some at)) where
   pub line_on : (selected : ℕ → Bool) (before : ℕ) (more : List ℕ)
-      → cut_rest end selected before (bytes ++ more) ≡ (chosen_from selected (before + 1) (take at (take (at + 1) bytes)) ++ drop at (take (at + 1) bytes)) ++ cut_rest end selected 0 (drop (at + 1) bytes ++ more)
+      → cut_rest end selected before (bytes ++ more) ≡ (chosen_from selected (before + 1) (take at (take (at + 1) bytes)) ++ drop at (take (at + 1) bytes))
+      ++ cut_rest end selected 0 (drop (at + 1) bytes ++ more)
   line_on selected before more =
       ap (cut_rest end selected before) (ap (λ (l : List ℕ). l ++ more) (split_of end bytes at first) ∙ append_assoc (take at bytes) (end ∷ drop (at + 1) bytes) more)
       ∙ rest_line end selected before (take at bytes) (drop (at + 1) bytes ++ more) (before_end end bytes at first)
       ∙ (λ i. (chosen_from selected (before + 1) (sym (line_of end bytes at first) i) ++ sym (end_of end bytes at first) i) ++ cut_rest end selected 0 (drop (at + 1) bytes ++ more))
 
 -- lines that are empty
-pub empty_lines : (end : ℕ) (selected : ℕ → Bool) (ends more : List ℕ) → mask_l (map (is_byte end) ends) + 1 ≡ 2 ^ length ends → cut_rest end selected 0 (ends ++ more) ≡ ends ++ cut_rest end selected 0 more
+pub empty_lines : (end : ℕ) (selected : ℕ → Bool) (ends more : List ℕ) → mask_l (map (is_byte end) ends) + 1 ≡ 2 ^ length ends
+    → cut_rest end selected 0 (ends ++ more) ≡ ends ++ cut_rest end selected 0 more
 empty_lines end selected [] more all = refl
 empty_lines end selected (b ∷ ends) more all = by_test (is_byte end b) refl all (empty_lines end selected ends more)
   where
@@ -90,7 +95,8 @@ empty_lines end selected (b ∷ ends) more all = by_test (is_byte end b) refl al
     by_test false is every next = absurd (omega (arith, every, pow-succ' 2 (length ends)))
 
 -- 64 of them that stand at a place of a block, where no byte of a line came earlier
-pub ends_on : (end : ℕ) (selected : ℕ → Bool) (block : List ℕ) (from start now marked : ℕ) → from + 64 ≤ length block → start ≡ from → now ≡ 0 → marked ≡ mask_l (map (is_byte end) (chunk from 64 block)) → marked ≡ 2 ^ 64 - 1
+pub ends_on : (end : ℕ) (selected : ℕ → Bool) (block : List ℕ) (from start now marked : ℕ) → from + 64 ≤ length block → start ≡ from → now ≡ 0 → marked
+    ≡ mask_l (map (is_byte end) (chunk from 64 block)) → marked ≡ 2 ^ 64 - 1
     → (more : List ℕ) → cut_rest end selected now (drop start block ++ more) ≡ chunk start 64 block ++ cut_rest end selected now (drop (start + 64) block ++ more)
 ends_on end selected block from start now marked room here none is all more =
     let ends = chunk start 64 block in

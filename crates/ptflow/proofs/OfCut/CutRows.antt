@@ -38,4 +38,22 @@ record CutRows : Type 0 where
   at_the_end : cut_decided (cut_by false 10 (byte ":") (from_to 1 1 ∷ [])) (record { bytes = codes "a:b\nc:d"; ended = true }) ≡ codes "a\nc\n"
 
 rows : CutRows
-rows = record { in_input_order = refl; three_elements = refl; last_line_unended = refl; short_lines = refl; far_byte = refl; no_bytes = refl; lines_end_with_zero = refl; repeated_field_once = refl; no_field_selected = refl; to_the_last_field = refl; no_delimiter = refl; empty_fields = refl; tab_between = refl; fields_apart = refl; newline_between = refl; amid_a_line = refl; at_the_end = refl }
+rows = record {
+  in_input_order = refl;
+  three_elements = refl;
+  last_line_unended = refl;
+  short_lines = refl;
+  far_byte = refl;
+  no_bytes = refl;
+  lines_end_with_zero = refl;
+  repeated_field_once = refl;
+  no_field_selected = refl;
+  to_the_last_field = refl;
+  no_delimiter = refl;
+  empty_fields = refl;
+  tab_between = refl;
+  fields_apart = refl;
+  newline_between = refl;
+  amid_a_line = refl;
+  at_the_end = refl;
+}

@@ -1,6 +1,7 @@
 -- What `cut` by fields writes of the first lines of a block: of a line with the delimiter its fields, and lines without it
 -- as they are, or nothing.
-use Rattle.std.proofs.Common.{◌≡◌, ℕ, zero, suc, ◌+◌, ◌-◌, ◌<◌, ◌≤◌, ◌==◌, ◌⊎◌, inl, inr, Bool, true, false, cond, List, [], ◌∷◌, ◌++◌, length, take, drop, get_or, Option, None, Some, refl, sym, ◌∙◌, ap, ap₂, subst, arith, append_assoc, get_or-take, take-append-drop}
+use Rattle.std.proofs.Common.{◌≡◌, ℕ, zero, suc, ◌+◌, ◌-◌, ◌<◌, ◌≤◌, ◌==◌, ◌⊎◌, inl, inr, Bool, true, false, cond, List, [], ◌∷◌, ◌++◌, length, take, drop}
+use Rattle.std.proofs.Common.{get_or, Option, None, Some, refl, sym, ◌∙◌, ap, ap₂, subst, arith, append_assoc, get_or-take, take-append-drop}
 use Rattle.std.specs.Prelude.{◌≢◌, unwrap_or}
 use Rattle.std.specs.List.{flat_map}
 use Rattle.std.proofs.lemmas.List.{append-nil, take-take, take_more, take_all, length-take-le}
@@ -26,7 +27,8 @@ ended-append end (l ∷ ls) bytes whole =
 text_of_ended : (end : ℕ) (front : List ℕ) → text end (ended_lines end (front ++ end ∷ [])) ≡ front ++ end ∷ []
 text_of_ended end front = ap (text end) ((the_ended_lines end [] tt).1 front) ∙ by_cases ((the_lines end (front ++ end ∷ [])).0.1)
   where
-    by_cases : let bytes = front ++ end ∷ [] in ((text end (lines end bytes) ≡ bytes) ⊎ ((bytes ≢ []) × ¬ EndsWithByte end bytes × (text end (lines end bytes) ≡ bytes ++ end ∷ []))) → text end (lines end bytes) ≡ bytes
+    by_cases : let bytes = front ++ end ∷ [] in ((text end (lines end bytes) ≡ bytes)
+        ⊎ ((bytes ≢ []) × ¬ EndsWithByte end bytes × (text end (lines end bytes) ≡ bytes ++ end ∷ []))) → text end (lines end bytes) ≡ bytes
     by_cases (inl is) = is
     by_cases (inr other) = absurd (other.1 (front, refl))
 
@@ -70,7 +72,8 @@ module _ (job : Cut) (end : ℕ) (bytes : List ℕ) (size : ℕ) (some : 0 < siz
     taken = ap (text end) lines_are ∙ text-append end front (ended_lines end (drop size bytes)) ∙ ap (λ (l : List ℕ). l ++ text end (ended_lines end (drop size bytes))) texts;
     on = λ more.
         let rest = ended_lines end (drop size bytes) ++ more in
-        ap (λ (l : List ℕ). old ++ l) (ap (λ (ls : List (List ℕ)). cut_lines job (ls ++ more)) lines_are ∙ ap (cut_lines job) (append_assoc front (ended_lines end (drop size bytes)) more) ∙ cut_lines-append job front rest)
+        ap (λ (l : List ℕ). old ++ l) (ap (λ (ls : List (List ℕ)). cut_lines job (ls ++ more)) lines_are
+        ∙ ap (cut_lines job) (append_assoc front (ended_lines end (drop size bytes)) more) ∙ cut_lines-append job front rest)
         ∙ sym (append_assoc old (cut_lines job front) (cut_lines job rest)) ∙ ap (λ (l : List ℕ). l ++ cut_lines job rest) (sym is);
   }
 
@@ -78,7 +81,8 @@ module _ (job : Cut) (by_fields : job.fields ≡ true) (end : ℕ) (same : end �
   -- one line, of which these bytes are written
   pub puts_line : (out old new : List ℕ) → cut_line job (take to bytes) ≡ out ∷ [] → new ≡ old ++ (out ++ take 1 (drop to bytes)) → PutsLines job end bytes (to + 1) old new
   puts_line out old new is put =
-      puts job end bytes (to + 1) (omega arith) (omega (arith, first.0.high)) (take to bytes ∷ []) (append-nil (take to bytes ++ end ∷ []) ∙ sym (take_end end bytes to first)) (ended_next end bytes to first) old new
+      puts job end bytes (to + 1) (omega arith) (omega (arith, first.0.high)) (take to bytes ∷ [])
+      (append-nil (take to bytes ++ end ∷ []) ∙ sym (take_end end bytes to first)) (ended_next end bytes to first) old new
       (put ∙ ap (λ (l : List ℕ). old ++ l) (ap (λ (l : List ℕ). out ++ take 1 l) (drop_end end bytes to first) ∙ ap (λ (b : ℕ). out ++ b ∷ []) same ∙ sym (line_written job (take to bytes) out is)))
 
   -- all whole lines up to a place; the delimiter is not in them
@@ -97,7 +101,8 @@ module _ (job : Cut) (by_fields : job.fields ≡ true) (end : ℕ) (same : end �
 
     lines_are : ended_lines end bytes ≡ front ++ ended_lines end (drop size bytes)
     lines_are =
-        ap (ended_lines end) (sym (take-append-drop size bytes) ∙ ap (λ (l : List ℕ). l ++ drop size bytes) (sym texts)) ∙ ended-append end front (drop size bytes) (parts_of end (take size bytes)).whole
+        ap (ended_lines end) (sym (take-append-drop size bytes) ∙ ap (λ (l : List ℕ). l ++ drop size bytes) (sym texts))
+        ∙ ended-append end front (drop size bytes) (parts_of end (take size bytes)).whole
 
     free_up_to : (n : ℕ) → n ≤ up_to → IsLine job.delimiter (take n bytes)
     free_up_to n le = subst (IsLine job.delimiter) (take-take n up_to bytes le) (free_front job.delimiter n (take up_to bytes) free)
@@ -125,7 +130,8 @@ free_before d bytes None none = subst (IsLine d) (sym (take_all (length bytes) b
 free_before d bytes (Some at) first = before_end d bytes at first
 
 -- the first delimiter of some bytes is the first one of the line in front that it stands in
-pub first_within : (d : ℕ) (bytes : List ℕ) (r : Option ℕ) (to : ℕ) → IsFirstByte (is_byte d) bytes r → unwrap_or r (length bytes) < to → to ≤ length bytes → IsFirstByte (is_byte d) (take to bytes) (Some (unwrap_or r (length bytes)))
+pub first_within : (d : ℕ) (bytes : List ℕ) (r : Option ℕ) (to : ℕ) → IsFirstByte (is_byte d) bytes r → unwrap_or r (length bytes) < to → to ≤ length bytes
+    → IsFirstByte (is_byte d) (take to bytes) (Some (unwrap_or r (length bytes)))
 first_within d bytes None to none lt le = absurd (omega (arith, lt, le))
 first_within d bytes (Some at) to first lt le = (
   record {

@@ -45,7 +45,8 @@ module _ (job : Cut) (line : List ℕ) where
 
 module _ (job : Cut) where
   pub cut_lines-append : (xs ys : List (List ℕ)) → cut_lines job (xs ++ ys) ≡ cut_lines job xs ++ cut_lines job ys
-  cut_lines-append xs ys = ap (λ (ls : List (List ℕ)). flat_map (λ l. l ++ job.end ∷ []) ls) (flat_map-append (cut_line job) xs ys) ∙ text-append job.end (flat_map (cut_line job) xs) (flat_map (cut_line job) ys)
+  cut_lines-append xs ys = ap (λ (ls : List (List ℕ)). flat_map (λ l. l ++ job.end ∷ []) ls) (flat_map-append (cut_line job) xs ys)
+      ∙ text-append job.end (flat_map (cut_line job) xs) (flat_map (cut_line job) ys)
 
   -- all that was pushed is decided
   cut_sure : (ls : List (List ℕ)) (pushed : List ℕ) → cut_lines job (ls ++ []) ≡ pushed ++ cut_lines job [] → Begins (cut_lines job ls) pushed
@@ -61,7 +62,6 @@ module _ (job : Cut) where
     decided = λ store given passed now on. cut_sure (whole_lines job.end given) passed (on []);
     size = λ bytes. omega arith;
     slots = ap (λ b. cond b 1 0) by_fields;
-    ends = refl;
     ends = refl;
     some = omega arith;
   }

@@ -1,6 +1,7 @@
 -- The fields of a line, and where they start. In front of each delimiter one field ends, so the place behind the n-th
 -- is where the fields behind the first n start.
-use Rattle.std.proofs.Common.{◌≡◌, ℕ, ◌+◌, ◌<◌, ◌==◌, ◌-◌, ◌≤◌, Bool, true, false, cond, Option, None, Some, MatchOption, ◌⊎◌, inl, inr, List, [], ◌∷◌, ◌++◌, length, take, drop, get_or, slice_set, refl, sym, ◌∙◌, ap, subst, arith, length-drop}
+use Rattle.std.proofs.Common.{◌≡◌, ℕ, ◌+◌, ◌<◌, ◌==◌, ◌-◌, ◌≤◌, Bool, true, false, cond, Option, None, Some, MatchOption, ◌⊎◌, inl, inr, List, [], ◌∷◌, ◌++◌}
+use Rattle.std.proofs.Common.{length, take, drop, get_or, slice_set, refl, sym, ◌∙◌, ap, subst, arith, length-drop}
 use Rattle.std.specs.Prelude.{IfSome}
 use Rattle.std.specs.List.{onto_first, join_with_byte}
 use Rattle.std.proofs.Math.Seq.{take-add}
@@ -54,7 +55,8 @@ module _ (d : ℕ) where
       fits = omega (arith, t.fits, length-drop a line, s.fits);
       count = omega (arith, s.count, t.count);
       front =
-          take-add a p (d ∷ line) ∙ (λ i. s.front i ++ take p (s.behind i)) ∙ ap (λ (l : List ℕ). led d (take m (fields d line)) ++ l) (t.front ∙ ap (λ (fs : List (List ℕ)). led d (take n fs)) (sym s.later))
+          take-add a p (d ∷ line) ∙ (λ i. s.front i ++ take p (s.behind i))
+          ∙ ap (λ (l : List ℕ). led d (take m (fields d line)) ++ l) (t.front ∙ ap (λ (fs : List (List ℕ)). led d (take n fs)) (sym s.later))
           ∙ sym (led-append (take m (fields d line)) (take n (drop m (fields d line)))) ∙ ap (led d) (sym (take-add m n (fields d line)));
       behind = sym (drop-drop p a (d ∷ line)) ∙ ap (drop p) s.behind ∙ t.behind ∙ ap (λ (l : List ℕ). d ∷ l) (drop-drop p a line);
       later = sym (drop-drop n m (fields d line)) ∙ ap (drop n) s.later ∙ t.later ∙ ap (fields d) (drop-drop p a line);

@@ -58,7 +58,8 @@ module _ (d : ℕ) (all : List Interval) (line tail : List ℕ) where
     -- no interval is left
     pub walking_done : length all ≤ i → to_come ≡ tail
     walking_done past =
-        ap (λ (l : List Interval). laid d lead (chosen (is_selected l) number here) ++ tail) (drop_all i all past) ∙ only_tail (chosen (is_selected []) number here) (chosen_none (is_selected []) number here (λ m low high. refl))
+        ap (λ (l : List Interval). laid d lead (chosen (is_selected l) number here) ++ tail) (drop_all i all past)
+        ∙ only_tail (chosen (is_selected []) number here) (chosen_none (is_selected []) number here (λ m low high. refl))
 
     module _ (within : i < length all) where
       abbrev r : Interval
@@ -88,7 +89,8 @@ module _ (d : ℕ) (all : List Interval) (line tail : List ℕ) where
       walking_short few =
           let far : AreApart (r.first - 1) (r ∷ rs) = (omega (arith, apart.0), apart.1, apart.2) in
           ap (λ (l : List Interval). laid d lead (chosen (is_selected l) number here) ++ tail) these
-          ∙ only_tail (chosen (is_selected (r ∷ rs)) number here) (chosen_none (is_selected (r ∷ rs)) number here (λ m low high. not_selected (r ∷ rs) (r.first - 1) m far (omega (arith, few, not_past))))
+          ∙ only_tail (chosen (is_selected (r ∷ rs)) number here) (chosen_none (is_selected (r ∷ rs)) number here
+          (λ m low high. not_selected (r ∷ rs) (r.first - 1) m far (omega (arith, few, not_past))))
 
       module _ (skipped : ℕ) (s : StartsAt d skip (drop at line) skipped) where
         abbrev from : ℕ
@@ -137,7 +139,8 @@ module _ (d : ℕ) (all : List Interval) (line tail : List ℕ) where
           slice_is =
               let many : (next - 1) - (from - lead) ≡ (passed - 1) + lead = omega (arith, some, w.passed) in
               let all_of : (1 - lead) + ((passed - 1) + lead) ≡ passed = omega (arith, some, w.begun) in
-              (λ i. take (many i) (lead_drop i)) ∙ sym (drop-take (1 - lead) ((passed - 1) + lead) (d ∷ rest)) ∙ ap (λ (k : ℕ). drop (1 - lead) (take k (d ∷ rest))) all_of ∙ ap (drop (1 - lead)) p.front
+              (λ i. take (many i) (lead_drop i)) ∙ sym (drop-take (1 - lead) ((passed - 1) + lead) (d ∷ rest))
+              ∙ ap (λ (k : ℕ). drop (1 - lead) (take k (d ∷ rest))) all_of ∙ ap (drop (1 - lead)) p.front
 
           others : chosen (is_selected rs) number here ≡ chosen (is_selected rs) (r.last + 1) (fields d (drop next line))
           others =
@@ -150,7 +153,8 @@ module _ (d : ℕ) (all : List Interval) (line tail : List ℕ) where
           next_is =
               let more = chosen (is_selected rs) (r.last + 1) (fields d (drop next line)) in
               let long : 1 - lead ≤ length (led d (take size (fields d rest))) = omega (arith, some, ap length (sym p.front), length-take-le passed (d ∷ rest) (omega (arith, p.fits))) in
-              ap (λ (l : List Interval). laid d lead (chosen (is_selected l) number here) ++ tail) these ∙ ap (λ (fs : List (List ℕ)). laid d lead fs ++ tail) (here_is ∙ ap (λ (l : List (List ℕ)). take size (fields d rest) ++ l) others)
+              ap (λ (l : List Interval). laid d lead (chosen (is_selected l) number here) ++ tail) these
+              ∙ ap (λ (fs : List (List ℕ)). laid d lead fs ++ tail) (here_is ∙ ap (λ (l : List (List ℕ)). take size (fields d rest) ++ l) others)
               ∙ ap (λ (l : List ℕ). l ++ tail) (ap (drop (1 - lead)) (led-append d (take size (fields d rest)) more) ∙ drop-append-le (1 - lead) (led d (take size (fields d rest))) (led d more) long)
               ∙ append_assoc (laid d lead (take size (fields d rest))) (led d more) tail
 
@@ -178,7 +182,8 @@ module _ (d : ℕ) (all : List Interval) (line tail : List ℕ) where
 
             same : to_come ≡ laid d lead (fields d rest) ++ tail
             same = ap (λ (l : List Interval). laid d lead (chosen (is_selected l) number here) ++ tail) these ∙ ap (λ (fs : List (List ℕ)). laid d lead fs ++ tail)
-                (here_is ∙ (λ i. take_all size (fields d rest) few i ++ chosen_none (is_selected rs) number here (λ m low high. not_selected rs (r.last + 1) m apart.2 (omega (arith, number_of, not_past, apart.1))) i) ∙ append-nil (fields d rest))
+                (here_is ∙ (λ i. take_all size (fields d rest) few i ++ chosen_none (is_selected rs) number here
+                (λ m low high. not_selected rs (r.last + 1) m apart.2 (omega (arith, number_of, not_past, apart.1))) i) ∙ append-nil (fields d rest))
 
             slice : drop (from - lead) bytes ≡ laid d lead (fields d rest) ++ tail
             slice =

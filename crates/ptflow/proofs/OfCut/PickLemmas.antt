@@ -1,5 +1,6 @@
 -- The places that are selected of a short line, place by place, and the bytes that a row of them puts in front.
-use Rattle.std.proofs.Common.{◌≡◌, ◌⊎◌, inl, inr, ℕ, zero, suc, ◌+◌, ◌-◌, ◌<◌, ◌≤◌, Bool, true, false, cond, List, [], ◌∷◌, ◌++◌, map, length, take, drop, set, get_or, get_or-set_same, get_or-set_other, length-set, length-append, append_assoc, refl, sym, ◌∙◌, ap, arith, w8}
+use Rattle.std.proofs.Common.{◌≡◌, ◌⊎◌, inl, inr, ℕ, zero, suc, ◌+◌, ◌-◌, ◌<◌, ◌≤◌, Bool, true, false, cond, List, [], ◌∷◌, ◌++◌, map, length, take, drop, set}
+use Rattle.std.proofs.Common.{get_or, get_or-set_same, get_or-set_other, length-set, length-append, append_assoc, refl, sym, ◌∙◌, ap, arith, w8}
 use Rattle.std.specs.Prelude.{All}
 use Rattle.std.proofs.lemmas.Bool.{cases_order}
 use Rattle.std.specs.List.{range_with_len}
@@ -26,7 +27,8 @@ module _ (selected : ℕ → Bool) where
       next = omega arith
 
       by_test : (t : Bool) → chosen_from selected (n + 1) (xs ++ ys) ≡ chosen_from selected (n + 1) xs ++ chosen_from selected (n + length (x ∷ xs)) ys
-          → cond t (x ∷ chosen_from selected (n + 1) (xs ++ ys)) (chosen_from selected (n + 1) (xs ++ ys)) ≡ cond t (x ∷ chosen_from selected (n + 1) xs) (chosen_from selected (n + 1) xs) ++ chosen_from selected (n + length (x ∷ xs)) ys
+          → cond t (x ∷ chosen_from selected (n + 1) (xs ++ ys)) (chosen_from selected (n + 1) (xs ++ ys))
+          ≡ cond t (x ∷ chosen_from selected (n + 1) xs) (chosen_from selected (n + 1) xs) ++ chosen_from selected (n + length (x ∷ xs)) ys
       by_test true more = ap (λ (l : List X). x ∷ l) more
       by_test false more = more
 

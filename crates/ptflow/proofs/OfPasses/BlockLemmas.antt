@@ -19,7 +19,8 @@ use Rattle.ptflow.proofs.OfPasses.ReaderFacts.{given_of, may_come, goes_past}
 use Rattle.ptflow.proofs.OfPasses.PassLemmas.{Midway, Works, Stored, stored_nothing, reached_nothing, pass_read, pass_write, pass_done, pass_unended}
 
 -- No more is counted than was given.
-module _ (reader shown : Reader) (block : List ℕ) (goes : Goes reader shown []) (held : shown.held ≡ block) (sound : IsSound reader) (counted : ℕ) (few : counted ≤ reader.pulled - length reader.held) where
+module _ (reader shown : Reader) (block : List ℕ) (goes : Goes reader shown []) (held : shown.held ≡ block) (sound : IsSound reader) (counted : ℕ)
+    (few : counted ≤ reader.pulled - length reader.held) where
   pub counted_block : counted + length block ≤ shown.pulled
   counted_block = omega (arith, few, sound.count, goes.reads.count, ap length held)
 
@@ -33,7 +34,8 @@ module _ {X : Type 0} (rest_from : X → List ℕ → List ℕ) (start : X) wher
 
   module _ (now : X) (old reader shown : Reader) (block : List ℕ) (was is : Output) (m : Midway rest_from start now old reader was is) (goes : Goes reader shown []) (held : shown.held ≡ block) where
     -- the block was passed on and consumed
-    unfoldable pub midway_more : (next : X) (new : Reader) (is' : Output) → new ≡ record shown { held = drop (length block) shown.held } → Continues rest_from now next block is is' → is'.faulted ≡ false → Midway rest_from start next old new was is'
+    unfoldable pub midway_more : (next : X) (new : Reader) (is' : Output) → new ≡ record shown { held = drop (length block) shown.held }
+        → Continues rest_from now next block is is' → is'.faulted ≡ false → Midway rest_from start next old new was is'
     midway_more next new is' consumed c clean = record {
       given = m.given ++ block;
       pushed = m.pushed ++ c.pushed;
@@ -50,7 +52,8 @@ module _ {X : Type 0} (rest_from : X → List ℕ → List ℕ) (start : X) wher
         whole : Goes reader new block
         whole = subst (λ (b : List ℕ). Goes reader new b) (take_all (length block) block (omega arith)) (goes_past reader shown new block (length block) goes held (omega arith) consumed)
 
-module _ {X : Type 0} (tool : Tool) (rest_from : X → List ℕ → List ℕ) (Holds : X → X → Type 0) (start : X) (b : IsBlockTool tool rest_from Holds start) (now : X) (old reader new : Reader) (was is : Output) (store : Slots)
+module _ {X : Type 0} (tool : Tool) (rest_from : X → List ℕ → List ℕ) (Holds : X → X → Type 0) (start : X) (b : IsBlockTool tool rest_from Holds start)
+    (now : X) (old reader new : Reader) (was is : Output) (store : Slots)
     (m : Midway rest_from start now old reader was is) (ready : IsReady old store) (sound : IsSound reader) (reads : Reads reader new []) (is_sound : IsSound new) (holds : Holds start now)
     (all : (rest : List ℕ) → rest_from start (m.given ++ rest) ≡ m.pushed ++ rest_from now rest) where
   -- what was passed on before this block
@@ -74,11 +77,13 @@ module _ {X : Type 0} (tool : Tool) (rest_from : X → List ℕ → List ℕ) (H
     where
       decided : new.held ≡ [] → new.ended ≡ false → Begins (tool.decided (given_of (m.given ++ []) new)) m.pushed
       decided empty going =
-          subst (λ (g : Given). Begins (tool.decided g) m.pushed) (λ i. record { bytes = (sym (append-nil m.given) ∙ sym (append-nil (m.given ++ [])) ∙ ap (λ (l : List ℕ). (m.given ++ []) ++ l) (sym empty)) i; ended = sym going i })
+          subst (λ (g : Given). Begins (tool.decided g) m.pushed) (λ i. record
+          { bytes = (sym (append-nil m.given) ∙ sym (append-nil (m.given ++ [])) ∙ ap (λ (l : List ℕ). (m.given ++ []) ++ l) (sym empty)) i; ended = sym going i })
           (b.decided m.given m.pushed now holds all)
 
   -- a write failed amid the block that is held
-  pub block_write : (is' : Output) (block : List ℕ) → new.held ≡ block → Halts rest_from now block is is' → is'.faulted ≡ true → new.failed ≡ reader.failed → IsPass tool old new was is' store store (Err Write)
+  pub block_write : (is' : Output) (block : List ℕ) → new.held ≡ block → Halts rest_from now block is is' → is'.faulted ≡ true → new.failed ≡ reader.failed
+      → IsPass tool old new was is' store store (Err Write)
   block_write is' block held h fault same =
       pass_write rest_from start tool b.text now old reader new was is store store m ready sound [] reads stored works is' h.pushed h.wrote fault same ready.roomy
       (λ rest may. subst (λ (l : List ℕ). Begins h.pushed (rest_from now (l ++ rest))) (sym held) (h.true_so_far rest))
@@ -89,7 +94,8 @@ module _ {X : Type 0} (tool : Tool) (rest_from : X → List ℕ → List ℕ) (H
 
   module _ (is' : Output) (wrote : Wrote is is' (rest_from now [])) (done : IsDone new) (same : new.failed ≡ reader.failed) where
     pub block_done : is'.faulted ≡ false → new.fault ≡ None → new.pulled < 2 ^ 63 → IsPass tool old new was is' store store (Ok tt)
-    block_done fine fault short = pass_done rest_from start tool b.text now old reader new was is store store m ready sound [] reads stored works is' wrote done refl same ready.roomy fine fault short ready.empty
+    block_done fine fault short = pass_done rest_from start tool b.text now old reader new was is store store m ready sound [] reads stored works is' wrote
+        done refl same ready.roomy fine fault short ready.empty
 
     pub block_unended : is'.faulted ≡ true → IsPass tool old new was is' store store (Err Write)
     block_unended fault = pass_unended rest_from start tool b.text now old reader new was is store store m ready sound [] reads stored works is' wrote done refl same ready.roomy fault

@@ -1,6 +1,7 @@
 -- Laws of the lines of a text: whole lines and the piece behind them, the longest line, and the lines of a block one by
 -- one. All of them go by the first end in some bytes, in front of which no other stands.
-use Rattle.std.proofs.Common.{◌≡◌, ℕ, ◌+◌, ◌≤◌, ◌==◌, Bool, true, false, cond, List, [], ◌∷◌, ◌++◌, length, max, refl, sym, ◌∙◌, ap, arith, take-append-drop, ◌-◌, Some, take, drop, append_assoc, length-append}
+use Rattle.std.proofs.Common.{◌≡◌, ℕ, ◌+◌, ◌≤◌, ◌==◌, Bool, true, false, cond, List, [], ◌∷◌, ◌++◌, length, max, refl, sym, ◌∙◌, ap, arith, take-append-drop}
+use Rattle.std.proofs.Common.{◌-◌, Some, take, drop, append_assoc, length-append}
 use Rattle.std.specs.List.{onto_first}
 use Rattle.std.proofs.lemmas.Bool.{eqb-true, eqb-false}
 use Rattle.ptlines.specs.Text.{text, lines, ended_lines, onto_line, IsLine, AreLines, longest}
@@ -34,7 +35,8 @@ parts_of end (b ∷ bytes) =
 pub ended_front : (end : ℕ) (bytes rest : List ℕ) → lines end (bytes ++ rest) ≡ ended_lines end bytes ++ lines end ((parts_of end bytes).piece ++ rest)
 ended_front end bytes rest =
     let p = parts_of end bytes in
-    ap (λ (l : List ℕ). lines end (l ++ rest)) p.is ∙ ap (lines end) (append_assoc (text end (ended_lines end bytes)) p.piece rest) ∙ lines_of_text end (ended_lines end bytes) (p.piece ++ rest) p.whole
+    ap (λ (l : List ℕ). lines end (l ++ rest)) p.is ∙ ap (lines end) (append_assoc (text end (ended_lines end bytes)) p.piece rest)
+    ∙ lines_of_text end (ended_lines end bytes) (p.piece ++ rest) p.whole
 
 -- ---- the longest line
 
@@ -74,7 +76,8 @@ module _ (end : ℕ) (bytes : List ℕ) (at : ℕ) (first : IsFirstByte (is_byte
   pub end_of : drop at (take (at + 1) bytes) ≡ end ∷ []
   end_of =
       let long : length (take at bytes) ≡ at = length-take-le at bytes (omega (arith, first.0.high)) in
-      ap (drop at) (take_end end bytes at first) ∙ drop-append-le at (take at bytes) (end ∷ []) (omega (arith, long)) ∙ ap (λ (l : List ℕ). l ++ end ∷ []) (drop_all at (take at bytes) (omega (arith, long)))
+      ap (drop at) (take_end end bytes at first) ∙ drop-append-le at (take at bytes) (end ∷ []) (omega (arith, long))
+      ∙ ap (λ (l : List ℕ). l ++ end ∷ []) (drop_all at (take at bytes) (omega (arith, long)))
 
   pub split_of : bytes ≡ take at bytes ++ end ∷ drop (at + 1) bytes
   split_of = sym (take-append-drop at bytes) ∙ ap (λ (l : List ℕ). take at bytes ++ l) (drop_end end bytes at first)
@@ -94,7 +97,8 @@ module _ (end : ℕ) where
     ended_next = ap (ended_lines end) (split_of end rest at first) ∙ ended_first end (take at rest) (drop (at + 1) rest) (before_end end rest at first)
 
   -- these lines in front were taken too
-  pub taken_more : (block rest : List ℕ) (size : ℕ) → text end (ended_lines end rest) ≡ take size rest ++ text end (ended_lines end (drop size rest)) → Taken end block rest → Taken end block (drop size rest)
+  pub taken_more : (block rest : List ℕ) (size : ℕ) → text end (ended_lines end rest) ≡ take size rest ++ text end (ended_lines end (drop size rest))
+      → Taken end block rest → Taken end block (drop size rest)
   taken_more block rest size texts t =
       let front = take size rest in record {
         front = t.front ++ front;

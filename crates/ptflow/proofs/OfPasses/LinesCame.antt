@@ -1,5 +1,6 @@
 -- The lines that came of a reader.
-use Rattle.std.proofs.Common.{◌≡◌, ◌⊎◌, ⊎_elim, inl, inr, ℕ, zero, suc, ◌-◌, ◌==◌, ◌<◌, ◌≤◌, Bool, true, false, cond, List, [], ◌∷◌, ◌++◌, length, take, drop, max, refl, sym, ◌∙◌, ap, subst, arith, append_assoc, length-append, length-drop, take-append-drop}
+use Rattle.std.proofs.Common.{◌≡◌, ◌⊎◌, ⊎_elim, inl, inr, ℕ, zero, suc, ◌-◌, ◌==◌, ◌<◌, ◌≤◌, Bool, true, false, cond, List, [], ◌∷◌, ◌++◌, length, take, drop}
+use Rattle.std.proofs.Common.{max, refl, sym, ◌∙◌, ap, subst, arith, append_assoc, length-append, length-drop, take-append-drop}
 use Rattle.std.specs.List.{onto_first}
 use Rattle.std.proofs.lemmas.Bool.{false≢true}
 use Rattle.std.proofs.lemmas.List.{append-nil}
@@ -51,7 +52,8 @@ module _ (end : ℕ) (now : Reader) (given : List ℕ) (ls : List (List ℕ)) (k
   came_longest input a =
       omega (
         arith,
-        ap longest (ap (lines end) (a.is ∙ append_assoc given now.held a.rest) ∙ lines_on (now.held ++ a.rest) (λ done. λ i. done.held i ++ a.whole done.ended i)) ∙ longest-append ls (lines end (now.held ++ a.rest)),
+        ap longest (ap (lines end) (a.is ∙ append_assoc given now.held a.rest)
+            ∙ lines_on (now.held ++ a.rest) (λ done. λ i. done.held i ++ a.whole done.ended i)) ∙ longest-append ls (lines end (now.held ++ a.rest)),
       )
 
   -- a beginning of a line came
@@ -96,7 +98,8 @@ module _ (end : ℕ) (now : Reader) (given : List ℕ) (ls : List (List ℕ)) (k
       | inl ends ↦ (λ i. lines end (append_assoc e.line ((ends ∙ ap (λ (b : ℕ). b ∷ []) same) i) rest i)) ∙ lines_first end e.line rest free
       | inr last ↦
           let none = may last.2 in
-          (λ i. lines end ((e.line ++ last.0 i) ++ none i)) ∙ ap (lines end) (append-nil (e.line ++ []) ∙ append-nil e.line) ∙ lines_last end e.line free last.1 ∙ ap (λ (l : List ℕ). e.line ∷ lines end l) (sym none)
+          (λ i. lines end ((e.line ++ last.0 i) ++ none i)) ∙ ap (lines end) (append-nil (e.line ++ []) ∙ append-nil e.line)
+          ∙ lines_last end e.line free last.1 ∙ ap (λ (l : List ℕ). e.line ∷ lines end l) (sym none)
     ]
 
     pub lines_more : LinesCame end new (given ++ (e.line ++ e.ending)) (ls ++ e.line ∷ [])
@@ -107,7 +110,8 @@ module _ (end : ℕ) (now : Reader) (given : List ℕ) (ls : List (List ℕ)) (k
         opened o = elim e.ends [
           | inl ends ↦ inl ((λ i. o.0 i ++ (e.line ++ (ends ∙ ap (λ (b : ℕ). b ∷ []) same) i)) ∙ sym (text_push end ls e.line), AreLines_push end ls e.line o.1 free)
           | inr last ↦ inr (
-            ap (lines end) ((λ i. o.0 i ++ (e.line ++ last.0 i)) ∙ ap (λ (l : List ℕ). text end ls ++ l) (append-nil e.line)) ∙ lines_of_text end ls e.line o.1 ∙ ap (λ (l : List (List ℕ)). ls ++ l) (lines_last end e.line free last.1),
+            ap (lines end) ((λ i. o.0 i ++ (e.line ++ last.0 i)) ∙ ap (λ (l : List ℕ). text end ls ++ l) (append-nil e.line)) ∙ lines_of_text end ls e.line o.1
+                ∙ ap (λ (l : List (List ℕ)). ls ++ l) (lines_last end e.line free last.1),
             last.2,
           )
         ]
@@ -121,7 +125,8 @@ are_append end [] ys a b = b
 are_append end (x ∷ xs) ys a b = (a.0, are_append end xs ys a.1 b)
 
 -- some whole lines came behind those that came
-pub lines_block : (end : ℕ) (reader : Reader) (given : List ℕ) (ls : List (List ℕ)) → LinesCame end reader given ls → (new : Reader) (more : List (List ℕ)) → Goes reader new (text end more) → AreLines end more → LinesCame end new (given ++ text end more) (ls ++ more)
+pub lines_block : (end : ℕ) (reader : Reader) (given : List ℕ) (ls : List (List ℕ)) → LinesCame end reader given ls → (new : Reader) (more : List (List ℕ))
+    → Goes reader new (text end more) → AreLines end more → LinesCame end new (given ++ text end more) (ls ++ more)
 lines_block end reader given ls k new more goes are = record {
   so_far = ⊎_elim
       (λ o. inl (ap (λ (l : List ℕ). l ++ text end more) o.0 ∙ sym (text-append end ls more), are_append end ls more o.1 are))
@@ -161,7 +166,8 @@ module _ (end : ℕ) (now new : Reader) (given : List ℕ) (ls : List (List ℕ)
         before = record {
           earlier = record { bytes = given ++ take n line; ended = false };
           last = drop n line ++ behind;
-          split = append_assoc given piece new.held ∙ ap (λ (l : List ℕ). given ++ l) (is ∙ ap (λ (l : List ℕ). l ++ behind) (sym (take-append-drop n line)) ∙ append_assoc (take n line) (drop n line) behind)
+          split = append_assoc given piece new.held ∙ ap (λ (l : List ℕ). given ++ l)
+              (is ∙ ap (λ (l : List ℕ). l ++ behind) (sym (take-append-drop n line)) ∙ append_assoc (take n line) (drop n line) behind)
               ∙ sym (append_assoc given (take n line) (drop n line ++ behind));
           short = omega (arith, short, length-append (drop n line) behind, length-drop n line);
           ended = λ never. absurd (false≢true never);

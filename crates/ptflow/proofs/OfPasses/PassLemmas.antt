@@ -27,7 +27,8 @@ pub reached_nothing : (old : Reader) (was : Output) → old.fault ≡ None → w
 reached_nothing old was readable clean = record { goes = goes_nothing old readable; wrote = wrote_nothing was; clean = clean }
 
 -- what was staged was sent
-abbrev pub reached_sent : (old reader : Reader) (was is is' : Output) (given pushed : List ℕ) → Reached old reader was is given pushed → Wrote is is' [] → is'.faulted ≡ false → Reached old reader was is' given pushed
+abbrev pub reached_sent : (old reader : Reader) (was is is' : Output) (given pushed : List ℕ) → Reached old reader was is given pushed → Wrote is is' []
+    → is'.faulted ≡ false → Reached old reader was is' given pushed
 reached_sent old reader was is is' given pushed r wrote clean = record {
   goes = r.goes;
   wrote = subst (λ (b : List ℕ). Wrote was is' b) (append-nil pushed) (wrote_trans was is is' pushed [] r.clean r.wrote wrote);
@@ -41,8 +42,10 @@ pub record Midway {X : Type 0} (rest_from : X → List ℕ → List ℕ) (start 
   pub reached : Reached old reader was is given pushed
   pub on : (rest : List ℕ) → (IsDone reader → rest ≡ []) → rest_from start (given ++ rest) ≡ pushed ++ rest_from now rest
 
-abbrev pub midway_sent : {X : Type 0} (rest_from : X → List ℕ → List ℕ) (start now : X) (old reader : Reader) (was is is' : Output) → Midway rest_from start now old reader was is → Wrote is is' [] → is'.faulted ≡ false → Midway rest_from start now old reader was is'
-midway_sent rest_from start now old reader was is is' m wrote clean = record { given = m.given; pushed = m.pushed; reached = reached_sent old reader was is is' m.given m.pushed m.reached wrote clean; on = m.on }
+abbrev pub midway_sent : {X : Type 0} (rest_from : X → List ℕ → List ℕ) (start now : X) (old reader : Reader) (was is is' : Output)
+    → Midway rest_from start now old reader was is → Wrote is is' [] → is'.faulted ≡ false → Midway rest_from start now old reader was is'
+midway_sent rest_from start now old reader was is is' m wrote clean = record
+    { given = m.given; pushed = m.pushed; reached = reached_sent old reader was is is' m.given m.pushed m.reached wrote clean; on = m.on }
 
 -- what was decided of one input two blocks earlier, or less, was pushed
 abbrev pub Works : Tool → Given → List ℕ → Type 0
@@ -84,7 +87,8 @@ pass_halted tool old was before ready fault = record {
 }
 
 -- the slots were refused
-module _ (tool : Tool) (old : Reader) (was : Output) (before store : Slots) (ready : IsReady old before) (sound : IsSound old) (clean : was.faulted ≡ false) (adds : Adds before store tool.slots) (same : store.peak ≡ before.peak) (denied : store.denied ≡ true) where
+module _ (tool : Tool) (old : Reader) (was : Output) (before store : Slots) (ready : IsReady old before) (sound : IsSound old) (clean : was.faulted ≡ false)
+    (adds : Adds before store tool.slots) (same : store.peak ≡ before.peak) (denied : store.denied ≡ true) where
   came_before : (decided : Begins (tool.decided (record { bytes = []; ended = false })) []) → Works tool (given_of [] old) []
   came_before decided = record {
     before = λ u. record {
@@ -116,7 +120,8 @@ module _ (tool : Tool) (old : Reader) (was : Output) (before store : Slots) (rea
   }
 
 -- a tool that is lent a store that is not denied, and leaves it alone, tells no want of memory
-pub never_memory : (tool : Tool) (old new : Reader) (was is : Output) (store : Slots) (result : Result (Unit {0}) FlowFault) → store.denied ≡ false → IsPass tool old new was is store store result → result ≡ Err Memory → ⊥
+pub never_memory : (tool : Tool) (old new : Reader) (was is : Output) (store : Slots) (result : Result (Unit {0}) FlowFault) → store.denied ≡ false
+    → IsPass tool old new was is store store result → result ≡ Err Memory → ⊥
 never_memory tool old new was is store result roomy p e =
     let ends : Ends old new is store (Err Memory) = subst (λ (r : Result (Unit {0}) FlowFault). Ends old new is store r) e p.ends in
     false≢true (sym roomy ∙ ends.denied)
@@ -149,8 +154,10 @@ module _ {X : Type 0} (rest_from : X → List ℕ → List ℕ) (start : X) (too
   more : (is' : Output) (bytes : List ℕ) → Wrote is is' bytes → keeps_up is' (m.pushed ++ bytes)
   more = keeps_more (λ given. tool.decided (given tt)) (λ u. given_of (m.given ++ piece) new) was is m.pushed works m.reached.wrote m.reached.clean
 
-  pass : (is' : Output) (pushed : List ℕ) (result : Result (Unit {0}) FlowFault) → Wrote was is' pushed → keeps_up is' pushed → Ends old new is' store result → ((input : List ℕ) → Agrees (given_of (m.given ++ piece) new) input → Begins pushed (tool.text input))
-      → (new.failed ≡ true → is'.faulted ≡ false → Begins (tool.decided (given_of (m.given ++ piece) new)) pushed) → (result ≡ Ok tt → pushed ≡ tool.text ((m.given ++ piece) ++ new.held)) → IsPass tool old new was is' before store result
+  pass : (is' : Output) (pushed : List ℕ) (result : Result (Unit {0}) FlowFault) → Wrote was is' pushed → keeps_up is' pushed → Ends old new is' store result
+      → ((input : List ℕ) → Agrees (given_of (m.given ++ piece) new) input → Begins pushed (tool.text input))
+      → (new.failed ≡ true → is'.faulted ≡ false → Begins (tool.decided (given_of (m.given ++ piece) new)) pushed)
+      → (result ≡ Ok tt → pushed ≡ tool.text ((m.given ++ piece) ++ new.held)) → IsPass tool old new was is' before store result
   pass is' pushed result wrote keeps ends true_so_far sure whole = record {
     given = given_of (m.given ++ piece) new;
     came = came_of old new (m.given ++ piece) (reads_trans old reader new m.given piece m.reached.goes.reads reads);
@@ -172,7 +179,8 @@ module _ {X : Type 0} (rest_from : X → List ℕ → List ℕ) (start : X) (too
   begins input a = record { rest = rest_from now (piece ++ (new.held ++ a.rest)); is = text_of input a }
 
   -- a read failed
-  pub pass_read : HasReadCause reader new → store.denied ≡ false → (new.held ≡ [] → new.ended ≡ false → Begins (tool.decided (given_of (m.given ++ piece) new)) m.pushed) → IsPass tool old new was is before store (Err (Read 0))
+  pub pass_read : HasReadCause reader new → store.denied ≡ false → (new.held ≡ [] → new.ended ≡ false
+      → Begins (tool.decided (given_of (m.given ++ piece) new)) m.pushed) → IsPass tool old new was is before store (Err (Read 0))
   pass_read cause roomy decided =
       pass is m.pushed (Err (Read 0)) m.reached.wrote still
       (record { cause = ⊎_elim (λ c. inl c) (λ c. inr (c.0, same_failed c.1)) cause; clean = m.reached.clean; denied = roomy; only = refl })
@@ -215,4 +223,5 @@ module _ {X : Type 0} (rest_from : X → List ℕ → List ℕ) (start : X) (too
 
     -- and a write failed while it was pushed
     pub pass_unended : is'.faulted ≡ true → IsPass tool old new was is' before store (Err Write)
-    pass_unended fault = pass_write is' (rest_from now []) wrote fault same roomy (λ rest whole. record { rest = []; is = ap (rest_from now) (nothing_left rest whole) ∙ sym (append-nil (rest_from now [])) })
+    pass_unended fault = pass_write is' (rest_from now []) wrote fault same roomy
+        (λ rest whole. record { rest = []; is = ap (rest_from now) (nothing_left rest whole) ∙ sym (append-nil (rest_from now [])) })

@@ -53,7 +53,8 @@ pub never_failed : (old reader : Reader) (store : Slots) (bytes : List ℕ) → 
 never_failed old reader store bytes ready goes sound = sound.unfailed (goes.reads.refused ∙ ready.opened) goes.fault
 
 -- the first bytes of a block that was shown were consumed
-pub goes_past : (now shown new : Reader) (block : List ℕ) (count : ℕ) → Goes now shown [] → shown.held ≡ block → count ≤ length block → new ≡ record shown { held = drop count shown.held } → Goes now new (take count block)
+pub goes_past : (now shown new : Reader) (block : List ℕ) (count : ℕ) → Goes now shown [] → shown.held ≡ block → count ≤ length block → new
+    ≡ record shown { held = drop count shown.held } → Goes now new (take count block)
 goes_past now shown new block count goes held fits consumed =
     goes_trans now shown new [] (take count block) goes
     (subst (λ (b : List ℕ). Goes shown new b) (ap (take count) held) (goes_front shown new count goes.fault (omega (arith, fits, ap length held)) consumed))

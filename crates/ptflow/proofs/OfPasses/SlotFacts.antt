@@ -52,7 +52,8 @@ keeps_more width most more before store k high = record {
 }
 
 -- another line is in a slot
-pub keeps_line : (width most : ℕ) (before store new : Slots) (slot : ℕ) (bytes : List ℕ) → Keeps width most before store → slot < width → length bytes ≤ most → new ≡ with_line store slot bytes → Keeps width most before new
+pub keeps_line : (width most : ℕ) (before store new : Slots) (slot : ℕ) (bytes : List ℕ) → Keeps width most before store → slot < width → length bytes ≤ most
+    → new ≡ with_line store slot bytes → Keeps width most before new
 keeps_line width most before store new slot bytes k within fits is = record {
   denied = ap (λ (s : Slots). s.denied) is ∙ k.denied;
   adds = record {
@@ -72,7 +73,12 @@ keeps_line width most before store new slot bytes k within fits is = record {
     short i low = ⊎_elim here there (cases_eq i slot)
       where
         here : i ≡ slot → length (get_or new.lines i []) ≤ most
-        here same = omega (arith, fits, ap length (ap (λ (s : Slots). get_or s.lines i []) is ∙ ap (λ (n : ℕ). get_or (set store.lines slot bytes) n []) same ∙ get_or-set_same store.lines slot bytes [] (omega (arith, within, k.adds.all k.denied))))
+        here same = omega (
+          arith,
+          fits,
+          ap length (ap (λ (s : Slots). get_or s.lines i []) is ∙ ap (λ (n : ℕ). get_or (set store.lines slot bytes) n []) same
+              ∙ get_or-set_same store.lines slot bytes [] (omega (arith, within, k.adds.all k.denied))),
+        )
 
         there : (i ≡ slot → ⊥) → length (get_or new.lines i []) ≤ most
         there other = omega (arith, k.short i low, ap length (ap (λ (s : Slots). get_or s.lines i []) is ∙ get_or-set_other store.lines slot i bytes [] other))

@@ -18,10 +18,12 @@ module _ (top : ℕ → ℕ) where
 total_split : (width : ℕ) (ls : List (List ℕ)) → total ls ≡ total (take width ls) + total (drop width ls)
 total_split width ls = ap total (sym (take-append-drop width ls)) ∙ sum_by-append length (take width ls) (drop width ls)
 
-pub cells_total : (cells : List ℕ) (top : ℕ → ℕ) (ls : List (List ℕ)) → ((c : ℕ) → c < length cells → length (get_or ls c []) ≤ top (get_or cells c 0)) → total (drop (length cells) ls) ≡ 0 → total ls ≤ sum_by top cells
+pub cells_total : (cells : List ℕ) (top : ℕ → ℕ) (ls : List (List ℕ)) → ((c : ℕ) → c < length cells → length (get_or ls c []) ≤ top (get_or cells c 0))
+    → total (drop (length cells) ls) ≡ 0 → total ls ≤ sum_by top cells
 cells_total cells top ls short others = omega (arith, total_split (length cells) ls, front_total top cells ls short, others)
 
-pub cells_start : (cells : List ℕ) (top : ℕ → ℕ) (before store : Slots) → Adds before store (length cells) → store.denied ≡ false → total store.lines ≡ 0 → store.peak ≡ before.peak → KeepsCells cells top before store
+pub cells_start : (cells : List ℕ) (top : ℕ → ℕ) (before store : Slots) → Adds before store (length cells) → store.denied ≡ false → total store.lines ≡ 0
+    → store.peak ≡ before.peak → KeepsCells cells top before store
 cells_start cells top before store adds denied empty peak = record {
   denied = denied;
   adds = adds;
@@ -31,7 +33,8 @@ cells_start cells top before store adds denied empty peak = record {
 }
 
 -- another line is in the slot of a cell
-pub cells_line : (cells : List ℕ) (top : ℕ → ℕ) (before store new : Slots) (column : ℕ) (bytes : List ℕ) → KeepsCells cells top before store → column < length cells → length bytes ≤ top (get_or cells column 0) → new ≡ with_line store column bytes → KeepsCells cells top before new
+pub cells_line : (cells : List ℕ) (top : ℕ → ℕ) (before store new : Slots) (column : ℕ) (bytes : List ℕ) → KeepsCells cells top before store → column
+    < length cells → length bytes ≤ top (get_or cells column 0) → new ≡ with_line store column bytes → KeepsCells cells top before new
 cells_line cells top before store new column bytes k within fits is = record {
   denied = ap (λ (s : Slots). s.denied) is ∙ k.denied;
   adds = record {
@@ -55,7 +58,8 @@ cells_line cells top before store new column bytes k within fits is = record {
           arith,
           fits,
           ap (λ (n : ℕ). top (get_or cells n 0)) same,
-          ap length (ap (λ (s : Slots). get_or s.lines c []) is ∙ ap (λ (n : ℕ). get_or (set store.lines column bytes) n []) same ∙ get_or-set_same store.lines column bytes [] (omega (arith, within, k.adds.all k.denied))),
+          ap length (ap (λ (s : Slots). get_or s.lines c []) is ∙ ap (λ (n : ℕ). get_or (set store.lines column bytes) n []) same
+              ∙ get_or-set_same store.lines column bytes [] (omega (arith, within, k.adds.all k.denied))),
         )
 
         there : (c ≡ column → ⊥) → length (get_or new.lines c []) ≤ top (get_or cells c 0)

@@ -1,5 +1,6 @@
 -- The columns and rows of a grid, one row after another.
-use Rattle.std.proofs.Common.{◌≡◌, ◌≢◌, ◌⊎◌, ⊎_elim, inl, inr, ℕ, zero, suc, ◌+◌, ◌-◌, ◌*◌, ◌%◌, ◌<◌, ◌≤◌, ◌==◌, ◌&&◌, ◌||◌, Bool, true, false, cond, List, [], ◌∷◌, ◌++◌, length, take, drop, get_or, map, max, refl, sym, ◌∙◌, ap, arith, length-append, length-drop}
+use Rattle.std.proofs.Common.{◌≡◌, ◌≢◌, ◌⊎◌, ⊎_elim, inl, inr, ℕ, zero, suc, ◌+◌, ◌-◌, ◌*◌, ◌%◌, ◌<◌, ◌≤◌, ◌==◌, ◌&&◌, ◌||◌, Bool, true, false, cond, List, []}
+use Rattle.std.proofs.Common.{◌∷◌, ◌++◌, length, take, drop, get_or, map, max, refl, sym, ◌∙◌, ap, arith, length-append, length-drop}
 use Rattle.std.specs.Prelude.{fold, slice_index_or, nat_lt}
 use Rattle.std.specs.List.{enumerate_from, range_with_len}
 use Rattle.std.proofs.lemmas.Bool.{eq-eqb}
@@ -104,7 +105,8 @@ rows_step cols some = by_height (height cols) refl some
     by_height zero is some = absurd (omega arith)
     by_height (suc h) is some =
         let less : h ≡ height (map (drop 1) cols) = omega (arith, height_from 0 cols, is) in
-        ap (λ (n : ℕ). map (row cols) (range_with_len 0 n)) is ∙ ap (λ (l : List Column). row cols 0 ∷ l) (rows_later cols 0 h ∙ ap (λ (n : ℕ). map (row (map (drop 1) cols)) (range_with_len 0 n)) less)
+        ap (λ (n : ℕ). map (row cols) (range_with_len 0 n)) is ∙ ap (λ (l : List Column). row cols 0 ∷ l)
+        (rows_later cols 0 h ∙ ap (λ (n : ℕ). map (row (map (drop 1) cols)) (range_with_len 0 n)) less)
 
 height_least : (a : ℕ) (cols : List Column) → a ≤ fold max a (map length cols)
 height_least a [] = omega arith
@@ -191,7 +193,8 @@ module _ (cells : List ℕ) where
       ∙ each_same (λ c p. slice_index_or (every (times cells p) (times (take c cells) p) (ins p)) 0 []) (λ c p. slice_index_or (ins p) (times (take c cells) p) []) cells
       (λ c low. every_first (times cells (get_or cells c 0)) (times (take c cells) (get_or cells c 0)) (times_below c low) (ins (get_or cells c 0)))
 
-  pub column_at : (ins : ℕ → Column) (c : ℕ) → c < length cells → get_or (columns cells ins) c [] ≡ every (times cells (get_or cells c 0)) (times (take c cells) (get_or cells c 0)) (ins (get_or cells c 0))
+  pub column_at : (ins : ℕ → Column) (c : ℕ) → c < length cells → get_or (columns cells ins) c []
+      ≡ every (times cells (get_or cells c 0)) (times (take c cells) (get_or cells c 0)) (ins (get_or cells c 0))
   column_at ins c low = get_or-each (λ c p. every (times cells p) (times (take c cells) p) (ins p)) cells c [] low
 
   pub length-columns : (ins : ℕ → Column) → length (columns cells ins) ≡ length cells
@@ -228,7 +231,8 @@ module _ (cells : List ℕ) where
         rows_step (columns cells ins) high
         ∙ (λ i. (columns_first ins ∙ each_same (λ c p. slice_index_or (got p ++ more p) (times (take c cells) p) []) (λ c p. slice_index_or (got p) (times (take c cells) p) []) cells
         (λ d within. got_is (get_or cells d 0) (times (take d cells) (get_or cells d 0)) (times_below d within))) i
-        ∷ rows ((columns_rest ins ∙ each_same (λ c p. every (times cells p) (times (take c cells) p) (drop (times cells p) (got p ++ more p))) (λ c p. every (times cells p) (times (take c cells) p) (more p)) cells
+        ∷ rows ((columns_rest ins ∙ each_same (λ c p. every (times cells p) (times (take c cells) p) (drop (times cells p) (got p ++ more p)))
+        (λ c p. every (times cells p) (times (take c cells) p) (more p)) cells
         (λ d within. ap (every (times cells (get_or cells d 0)) (times (take d cells) (get_or cells d 0))) (rest_is (get_or cells d 0)))) i))
 
   pub grid_none : (ins : ℕ → Column) → ((p : ℕ) → 0 < times cells p → ins p ≡ []) → rows (columns cells ins) ≡ []
@@ -257,8 +261,10 @@ pub neither : (t rest : Bool) → rest ≡ false → (t && rest) ≡ false
 neither true rest is = is
 neither false rest is = refl
 
-pub known_false : (cols : List Column) (ended : List Bool) (r c : ℕ) → c < length cols → c < length ended → get_or ended c true ≡ false → length (get_or cols c []) ≤ r → is_row_known cols ended r ≡ false
+pub known_false : (cols : List Column) (ended : List Bool) (r c : ℕ) → c < length cols → c < length ended → get_or ended c true ≡ false
+    → length (get_or cols c []) ≤ r → is_row_known cols ended r ≡ false
 known_false [] ended r c low within going few = absurd (omega arith)
 known_false (col ∷ cols) [] r c low within going few = absurd (omega arith)
 known_false (col ∷ cols) (e ∷ ended) r zero low within going few = rw (going, not_below r (length col) few) refl
-known_false (col ∷ cols) (e ∷ ended) r (suc c) low within going few = neither (e || nat_lt r (length col)) (is_row_known cols ended r) (known_false cols ended r c (omega arith) (omega arith) going few)
+known_false (col ∷ cols) (e ∷ ended) r (suc c) low within going few = neither (e || nat_lt r (length col)) (is_row_known cols ended r)
+    (known_false cols ended r c (omega arith) (omega arith) going few)

@@ -1,5 +1,6 @@
 -- `paste` of texts that are cut behind the same row.
-use Rattle.std.proofs.Common.{◌≡◌, ◌⊎◌, inl, inr, ⊎_elim, ℕ, zero, suc, ◌+◌, ◌*◌, ◌<◌, ◌≤◌, List, [], ◌∷◌, ◌++◌, length, take, drop, get_or, map, refl, sym, ◌∙◌, ap, arith, append_assoc, take-append-drop, length-drop}
+use Rattle.std.proofs.Common.{◌≡◌, ◌⊎◌, inl, inr, ⊎_elim, ℕ, zero, suc, ◌+◌, ◌*◌, ◌<◌, ◌≤◌, List, [], ◌∷◌, ◌++◌, length, take, drop, get_or, map, refl, sym}
+use Rattle.std.proofs.Common.{◌∙◌, ap, arith, append_assoc, take-append-drop, length-drop}
 use Rattle.std.specs.Prelude.{slice_index_or}
 use Rattle.std.proofs.lemmas.Bool.{cases_lt}
 use Rattle.std.proofs.lemmas.List.{append-nil, map-append, length-take-le, take_all, drop_all}
@@ -53,7 +54,11 @@ module _ (cells : List ℕ) where
     first_taken : Taken cells (first ins) (λ p. rest ins p ++ more p)
     first_taken = record {
       all = λ p. ⊎_elim
-          (λ few. inr (ap (λ (l : Column). l ++ more p) (drop_all (times cells p) (ins p) (omega (arith, few))) ∙ reach p few, omega (arith, ap length (take_all (times cells p) (ins p) (omega (arith, few))), few)))
+          (λ few. inr (
+            ap (λ (l : Column). l ++ more p) (drop_all (times cells p) (ins p) (omega (arith, few)))
+                ∙ reach p few,
+            omega (arith, ap length (take_all (times cells p) (ins p) (omega (arith, few))), few),
+          ))
           (λ many. inl (length-take-le (times cells p) (ins p) (omega (arith, many))))
           (cases_lt (length (ins p)) (times cells p));
     }
@@ -121,7 +126,8 @@ module _ (cells : List ℕ) where
 
   rows-append : (n : ℕ) (ins more : ℕ → Column) → Reach n ins more → Append ins more
   rows-append zero ins more reach =
-      append_none ins more (λ c low. nothing (ins (get_or cells c 0)) (⊎_elim (λ all. omega (arith, all)) (λ few. omega (arith, few.1)) (reach (get_or cells c 0) (omega (arith, times_below cells c low)))))
+      append_none ins more (λ c low. nothing (ins (get_or cells c 0)) (⊎_elim (λ all. omega (arith, all)) (λ few. omega (arith, few.1))
+      (reach (get_or cells c 0) (omega (arith, times_below cells c low)))))
   rows-append (suc n) ins more reach = ⊎_elim
       (λ here. append_row n ins more reach here.0 here.1 here.2 (rows-append n (rest ins) more (later n ins more reach)))
       (append_last n ins more reach)
@@ -135,7 +141,8 @@ pub paste_of_parts : PasteOfParts
 paste_of_parts job cells n a b cut =
     let ins : ℕ → Column = λ p. lines job.end (a p) in
     let more : ℕ → Column = λ p. lines job.end (b p) in
-    ap (λ (cols : List Column). sheet job (rows cols)) (columns_same cells (λ p. lines job.end (a p ++ b p)) (λ p. ins p ++ more p) (λ c low. both (get_or cells c 0) (cut (get_or cells c 0) (omega (arith, times_below cells c low)))))
+    ap (λ (cols : List Column). sheet job (rows cols)) (columns_same cells (λ p. lines job.end (a p ++ b p)) (λ p. ins p ++ more p)
+    (λ c low. both (get_or cells c 0) (cut (get_or cells c 0) (omega (arith, times_below cells c low)))))
     ∙ ap (sheet job) (rows-append cells n ins more (λ p named. reach p (cut p named)))
     ∙ sheet-append job (rows (columns cells ins)) (rows (columns cells more))
   where
@@ -145,6 +152,7 @@ paste_of_parts job cells n a b cut =
         ap (λ (l : List ℕ). lines job.end (a p ++ l)) is.0 ∙ ap (lines job.end) (append-nil (a p)) ∙ sym (append-nil (lines job.end (a p)))
         ∙ ap (λ (l : List ℕ). lines job.end (a p) ++ lines job.end l) (sym is.0)
 
-    reach : (p : ℕ) → HasRows job.end n (times cells p) (a p) (b p) → (length (lines job.end (a p)) ≡ n * times cells p) ⊎ ((lines job.end (b p) ≡ []) × (length (lines job.end (a p)) ≤ n * times cells p))
+    reach : (p : ℕ) → HasRows job.end n (times cells p) (a p) (b p) → (length (lines job.end (a p)) ≡ n * times cells p)
+        ⊎ ((lines job.end (b p) ≡ []) × (length (lines job.end (a p)) ≤ n * times cells p))
     reach p (inl is) = inl is.1
     reach p (inr is) = inr (ap (lines job.end) is.0, is.1)

@@ -1,5 +1,6 @@
 -- `paste`, row by row: the rows that were passed, and the grid of the lines to come, are the whole grid, whatever comes.
-use Rattle.std.proofs.Common.{◌≡◌, ◌≢◌, ⊎_elim, inl, inr, ℕ, suc, ◌+◌, ◌*◌, ◌<◌, ◌≤◌, ◌==◌, ◌^◌, Bool, true, false, cond, List, [], ◌∷◌, ◌++◌, None, Ok, Err, length, take, get_or, max, refl, sym, ◌∙◌, ap, subst, arith, append_assoc, length-append}
+use Rattle.std.proofs.Common.{◌≡◌, ◌≢◌, ⊎_elim, inl, inr, ℕ, suc, ◌+◌, ◌*◌, ◌<◌, ◌≤◌, ◌==◌, ◌^◌, Bool, true, false, cond, List, [], ◌∷◌, ◌++◌, None, Ok, Err}
+use Rattle.std.proofs.Common.{length, take, get_or, max, refl, sym, ◌∙◌, ap, subst, arith, append_assoc, length-append}
 use Rattle.std.specs.Prelude.{All, sum_by, slice_index_or}
 use Rattle.std.proofs.lemmas.Bool.{cases_eq, cases_lt, false≢true, eq-eqb, eqb-true}
 use Rattle.std.proofs.lemmas.Bool.Decides.{nat_tests}
@@ -97,7 +98,8 @@ pub record Pasting (job : Paste) (cells : List ℕ) (set now : List Reader) (was
   pub same : length now ≡ length set
 
 module _ (job : Paste) (cells : List ℕ) where
-  pub pasting_starts : (set : List Reader) (was : Output) (first store : Slots) → was.faulted ≡ false → Adds first store (length cells) → store.denied ≡ false → total store.lines ≡ 0 → store.peak ≡ first.peak → Pasting job cells set set was was first store
+  pub pasting_starts : (set : List Reader) (was : Output) (first store : Slots) → was.faulted ≡ false → Adds first store (length cells) → store.denied ≡ false
+      → total store.lines ≡ 0 → store.peak ≡ first.peak → Pasting job cells set set was was first store
   pasting_starts set was first store clean adds allowed empty peak = record {
     n = 0;
     ls = λ p. [];
@@ -112,7 +114,8 @@ module _ (job : Paste) (cells : List ℕ) where
   }
 
   -- what was staged was sent
-  pub pasting_sent : (set now : List Reader) (was is sent : Output) (first store : Slots) → Pasting job cells set now was is first store → Wrote is sent [] → sent.faulted ≡ false → Pasting job cells set now was sent first store
+  pub pasting_sent : (set now : List Reader) (was is sent : Output) (first store : Slots) → Pasting job cells set now was is first store → Wrote is sent []
+      → sent.faulted ≡ false → Pasting job cells set now was sent first store
   pasting_sent set now was is sent first store s wrote clean = record {
     n = s.n;
     ls = s.ls;
@@ -126,17 +129,22 @@ module _ (job : Paste) (cells : List ℕ) where
     same = s.same;
   }
 
-  module _ (set now : List Reader) (was is : Output) (first store : Slots) (s : Pasting job cells set now was is first store) (named_end : (p : ℕ) → 0 < times cells p → (reader_at set p).ending ≡ job.end) where
+  module _ (set now : List Reader) (was is : Output) (first store : Slots) (s : Pasting job cells set now was is first store)
+      (named_end : (p : ℕ) → 0 < times cells p → (reader_at set p).ending ≡ job.end) where
     -- the lines of a row, by the job's byte
-    row_took : (c : ℕ) (new : List Reader) (after : Slots) (got : ℕ → Column) → RowTaken cells c now new store after got → (p : ℕ) → Took job.end (reader_at now p) (reader_at new p) (times (take c cells) p) (got p)
+    row_took : (c : ℕ) (new : List Reader) (after : Slots) (got : ℕ → Column) → RowTaken cells c now new store after got → (p : ℕ)
+        → Took job.end (reader_at now p) (reader_at new p) (times (take c cells) p) (got p)
     row_took c new after got t p = retook job.end (reader_at now p) (reader_at new p) (times (take c cells) p) (got p)
         (λ some. (s.took p).reads.ending ∙ named_end p (omega (arith, some, times_front cells c p))) (t.took p)
 
-    all_took : (c : ℕ) (new : List Reader) (after : Slots) (got : ℕ → Column) → RowTaken cells c now new store after got → (p : ℕ) → Took job.end (reader_at set p) (reader_at new p) (s.n * times cells p + times (take c cells) p) (s.ls p ++ got p)
-    all_took c new after got t p = took_more job.end (reader_at set p) (reader_at now p) (reader_at new p) (s.n * times cells p) (times (take c cells) p) (s.ls p) (got p) (s.took p) (row_took c new after got t p)
+    all_took : (c : ℕ) (new : List Reader) (after : Slots) (got : ℕ → Column) → RowTaken cells c now new store after got → (p : ℕ)
+        → Took job.end (reader_at set p) (reader_at new p) (s.n * times cells p + times (take c cells) p) (s.ls p ++ got p)
+    all_took c new after got t p = took_more job.end (reader_at set p) (reader_at now p) (reader_at new p) (s.n * times cells p) (times (take c cells) p)
+        (s.ls p) (got p) (s.took p) (row_took c new after got t p)
 
     -- more of each input may come only where it was not done
-    rest_on : (p : ℕ) (q : Reader) (bytes rest : List ℕ) → Reads (reader_at now p) q bytes → (IsDone q → rest ≡ []) → lines job.end ((s.took p).bytes ++ (bytes ++ rest)) ≡ s.ls p ++ lines job.end (bytes ++ rest)
+    rest_on : (p : ℕ) (q : Reader) (bytes rest : List ℕ) → Reads (reader_at now p) q bytes → (IsDone q → rest ≡ [])
+        → lines job.end ((s.took p).bytes ++ (bytes ++ rest)) ≡ s.ls p ++ lines job.end (bytes ++ rest)
     rest_on p q bytes rest reads may = lines_on job.end (reader_at now p) (s.took p).bytes (s.ls p) (s.took p).came (bytes ++ rest) (may_come (reader_at now p) q bytes rest reads may)
 
     module _ (new : List Reader) (after : Slots) (got : ℕ → Column) (t : RowTaken cells (length cells) now new store after got) where
@@ -147,10 +155,12 @@ module _ (job : Paste) (cells : List ℕ) where
       whole_took p = subst (λ (l : List ℕ). Took job.end (reader_at now p) (reader_at new p) (times l p) (got p)) every_cell (row_took (length cells) new after got t p)
 
       -- behind the lines of the row
-      behind : (more : ℕ → Column) → ((p : ℕ) → IsDone (reader_at new p) → more p ≡ []) → rows (columns cells (λ p. (s.ls p ++ got p) ++ more p)) ≡ s.passed ++ rows (columns cells (λ p. got p ++ more p))
+      behind : (more : ℕ → Column) → ((p : ℕ) → IsDone (reader_at new p) → more p ≡ []) → rows (columns cells (λ p. (s.ls p ++ got p) ++ more p)) ≡ s.passed
+          ++ rows (columns cells (λ p. got p ++ more p))
       behind more may =
           (λ i. rows (columns cells (λ p. append_assoc (s.ls p) (got p) (more p) i)))
-          ∙ s.on (λ p. got p ++ more p) (λ p done. (λ i. none_of_done job.end (reader_at now p) (reader_at new p) (times cells p) (got p) (whole_took p) done i ++ may p (stays_done (reader_at now p) (reader_at new p) (whole_took p).bytes done (whole_took p).reads) i))
+          ∙ s.on (λ p. got p ++ more p) (λ p done. (λ i. none_of_done job.end (reader_at now p) (reader_at new p) (times cells p) (got p) (whole_took p) done i
+          ++ may p (stays_done (reader_at now p) (reader_at new p) (whole_took p).bytes done (whole_took p).reads) i))
 
       more_kept : (top : ℕ → ℕ) → ((p : ℕ) → longest (s.ls p ++ got p) ≤ top p) → KeepsCells cells top first after
       more_kept top high =
@@ -189,7 +199,8 @@ module _ (job : Paste) (cells : List ℕ) where
               ∙ sym (append_assoc s.passed (each (λ c p. slice_index_or (got p) (times (take c cells) p) []) cells ∷ []) (rows (columns cells more)));
           wrote = subst (λ (b : List ℕ). Wrote was is' b) (sym (sheet-append job s.passed (each (λ c p. slice_index_or (got p) (times (take c cells) p) []) cells ∷ [])))
               (wrote_trans was is is' (sheet job s.passed) (sheet job (each (λ c p. slice_index_or (got p) (times (take c cells) p) []) cells ∷ [])) s.clean s.wrote
-              (subst (λ (b : List ℕ). Wrote is is' b) (ap (λ (l : List (List ℕ)). glued_from job.delimiters 0 l ++ job.end ∷ []) slots_are ∙ sym (append-nil (glued_from job.delimiters 0 (each (λ c p. slice_index_or (got p) (times (take c cells) p) []) cells) ++ job.end ∷ []))) wrote));
+              (subst (λ (b : List ℕ). Wrote is is' b) (ap (λ (l : List (List ℕ)). glued_from job.delimiters 0 l ++ job.end ∷ []) slots_are
+              ∙ sym (append-nil (glued_from job.delimiters 0 (each (λ c p. slice_index_or (got p) (times (take c cells) p) []) cells) ++ job.end ∷ []))) wrote));
           clean = clean;
           kept = kept;
           same = t.count ∙ s.same;
@@ -198,11 +209,13 @@ module _ (job : Paste) (cells : List ℕ) where
             taken : (more : ℕ → Column) → ((p : ℕ) → IsDone (reader_at new p) → more p ≡ []) → Taken cells got more
             taken more may = record { all = λ p. ⊎_elim (λ same. inl same) (λ few. inr (may p few.0, few.1)) (whole_took p).enough }
 
-        pub pasting_more : (is' : Output) → Wrote is is' (glued_from job.delimiters 0 (take (length cells) after.lines) ++ job.end ∷ []) → is'.faulted ≡ false → Pasting job cells set new was is' first after
+        pub pasting_more : (is' : Output) → Wrote is is' (glued_from job.delimiters 0 (take (length cells) after.lines) ++ job.end ∷ []) → is'.faulted ≡ false
+            → Pasting job cells set new was is' first after
         pasting_more is' wrote clean = row_passed after more_kept is' wrote clean
 
         -- the same where its cells were in no slots
-        pub pasting_unstored : (is' : Output) → Wrote is is' (glued_from job.delimiters 0 (take (length cells) after.lines) ++ job.end ∷ []) → is'.faulted ≡ false → Pasting job cells set new was is' first store
+        pub pasting_unstored : (is' : Output) → Wrote is is' (glued_from job.delimiters 0 (take (length cells) after.lines) ++ job.end ∷ []) → is'.faulted
+            ≡ false → Pasting job cells set new was is' first store
         pasting_unstored is' wrote clean = row_passed store (λ top high. s.kept top (λ p. omega (arith, high p, longest-append (s.ls p) (got p)))) is' wrote clean
 
 none_in : (cells : List ℕ) → sum_by (λ (p : ℕ). 0) cells ≡ 0
@@ -239,7 +252,8 @@ module _ (end : ℕ) (cells : List ℕ) (old set : List Reader) (first : Slots) 
       (cases_lt 0 (times cells p))
 
 -- the slots were refused
-pub paste_unslotted : (job : Paste) (cells : List ℕ) (old set : List Reader) (was : Output) (first store : Slots) → was.faulted ≡ false → AreReady cells old first → AreSet job.end cells old set → Adds first store (length cells) → store.peak ≡ first.peak → store.denied ≡ true
+pub paste_unslotted : (job : Paste) (cells : List ℕ) (old set : List Reader) (was : Output) (first store : Slots) → was.faulted ≡ false
+    → AreReady cells old first → AreSet job.end cells old set → Adds first store (length cells) → store.peak ≡ first.peak → store.denied ≡ true
     → IsPastePass job cells old set was was first store (Err Memory)
 paste_unslotted job cells old set was first store writable ready are_set adds same denied = record {
   given = λ p. given_of [] (reader_at set p);
@@ -262,7 +276,8 @@ paste_unslotted job cells old set was first store writable ready are_set adds sa
   halted = λ fault. absurd (false≢true (sym writable ∙ fault));
 }
 
-module _ (job : Paste) (cells : List ℕ) (old set now : List Reader) (was is : Output) (first store : Slots) (s : Pasting job cells set now was is first store) (writable : was.faulted ≡ false) (ready : AreReady cells old first) (are_set : AreSet job.end cells old set) where
+module _ (job : Paste) (cells : List ℕ) (old set now : List Reader) (was is : Output) (first store : Slots) (s : Pasting job cells set now was is first store)
+    (writable : was.faulted ≡ false) (ready : AreReady cells old first) (are_set : AreSet job.end cells old set) where
   named_end : (p : ℕ) → 0 < times cells p → (reader_at set p).ending ≡ job.end
   named_end = end_of job.end cells old set first ready are_set
 
@@ -367,8 +382,10 @@ module _ (job : Paste) (cells : List ℕ) (old set now : List Reader) (was is : 
     untouched_by p none same = same ∙ (s.took p).none (let zero_is : s.n * times cells p ≡ s.n * 0 = ap (λ (k : ℕ). s.n * k) none in zero_is ∙ omega arith) ∙ (are_set p).left none
 
   -- a growth of a slot was refused
-  module _ (new : List Reader) (extra : ℕ → List ℕ) (reads : (p : ℕ) → Reads (reader_at now p) (reader_at new p) (extra p)) (same : (p : ℕ) → (reader_at new p).failed ≡ (reader_at now p).failed) (left : (p : ℕ) → times cells p ≡ 0 → reader_at new p ≡ reader_at now p) (after : Slots)
-      (adds : Adds first after (length cells)) (peak : (texts : ℕ → List ℕ) → ((p : ℕ) → Agrees (given_by new extra reads p) (texts p)) → after.peak ≤ max first.peak (paste_size job cells texts)) where
+  module _ (new : List Reader) (extra : ℕ → List ℕ) (reads : (p : ℕ) → Reads (reader_at now p) (reader_at new p) (extra p))
+      (same : (p : ℕ) → (reader_at new p).failed ≡ (reader_at now p).failed) (left : (p : ℕ) → times cells p ≡ 0 → reader_at new p ≡ reader_at now p) (after : Slots)
+      (adds : Adds first after (length cells)) (peak : (texts : ℕ → List ℕ) → ((p : ℕ) → Agrees (given_by new extra reads p) (texts p)) → after.peak
+      ≤ max first.peak (paste_size job cells texts)) where
     pub paste_memory : after.denied ≡ true → length cells ≤ length after.lines → ((p : ℕ) → 0 < times cells p → WorksBy new extra reads p)
         → IsPastePass job cells old new was is first after (Err Memory)
     paste_memory denied room works = record {
@@ -430,7 +447,8 @@ module _ (job : Paste) (cells : List ℕ) (old set now : List Reader) (was is : 
         row_few p = omega (arith, row_count p, length-append (s.ls p) (got p), at_most (s.took p), at_most (took_by p))
 
     -- a write failed while it was pushed
-    pub paste_write : (c : ℕ) → c < length cells → length (got (get_or cells c 0)) ≡ times (take c cells) (get_or cells c 0) + 1 → (is' : Output) → Wrote is is' (glued_from job.delimiters 0 (take (length cells) after.lines) ++ job.end ∷ []) → is'.faulted ≡ true
+    pub paste_write : (c : ℕ) → c < length cells → length (got (get_or cells c 0)) ≡ times (take c cells) (get_or cells c 0) + 1 → (is' : Output)
+        → Wrote is is' (glued_from job.delimiters 0 (take (length cells) after.lines) ++ job.end ∷ []) → is'.faulted ≡ true
         → IsPastePass job cells old new was is' first after (Err Write)
     paste_write c low last is' wrote fault = record {
       given = given_by new row_bytes row_reads;
@@ -466,7 +484,10 @@ module _ (job : Paste) (cells : List ℕ) (old set now : List Reader) (was is : 
             (λ i. rows (columns cells (λ p. lines_are texts a p i)))
             ∙ behind job cells set now was is first store s named_end new after got t (later texts a) (λ p done. ap (lines job.end) (may texts a p done))
             ∙ ap (λ (l : List (List (List ℕ))). s.passed ++ l) (
-            grid_step cells got (later texts a) (record { all = λ p. ⊎_elim (λ same. inl same) (λ few. inr (ap (lines job.end) (may texts a p few.0), few.1)) (took_by p).enough }) c low (omega (arith, last))
+            grid_step cells got (later texts a) (record {
+              all = λ p. ⊎_elim (λ same. inl same) (λ few. inr (ap (lines job.end) (may texts a p few.0), few.1))
+                  (took_by p).enough;
+            }) c low (omega (arith, last))
             ∙ (λ i. sym (slots_are job cells set now was is first store s named_end new after got t c low last) i ∷ rows (columns cells (later texts a)))
             )
 
@@ -481,7 +502,8 @@ module _ (job : Paste) (cells : List ℕ) (old set now : List Reader) (was is : 
       done_by : (p : ℕ) → 0 < times cells p → IsDone (reader_at new p)
       done_by p some = ⊎_elim (λ same. absurd (omega (arith, same, some, ap length (none p)))) (λ few. few.0) (took_by p).enough
 
-      nothing_left : (texts : ℕ → List ℕ) (a : (p : ℕ) → Agrees (given_by new row_bytes row_reads p) (texts p)) (p : ℕ) → 0 < times cells p → lines job.end (row_bytes p ++ ((reader_at new p).held ++ (a p).rest)) ≡ []
+      nothing_left : (texts : ℕ → List ℕ) (a : (p : ℕ) → Agrees (given_by new row_bytes row_reads p) (texts p)) (p : ℕ) → 0 < times cells p
+          → lines job.end (row_bytes p ++ ((reader_at new p).held ++ (a p).rest)) ≡ []
       nothing_left texts a p some =
           let rest : (reader_at new p).held ++ (a p).rest ≡ [] = λ i. (done_by p some).held i ++ (a p).whole (done_by p some).ended i in
           lines_on job.end (reader_at new p) (row_bytes p) (got p) (took_by p).came ((reader_at new p).held ++ (a p).rest) (λ done. rest) ∙ (λ i. none p i ++ lines job.end (rest i))
@@ -501,8 +523,10 @@ module _ (job : Paste) (cells : List ℕ) (old set now : List Reader) (was is : 
       whole_is : sheet job s.passed ≡ paste job cells (λ p. (given_by new row_bytes row_reads p).bytes)
       whole_is =
           let texts : ℕ → List ℕ = λ p. (given_by new row_bytes row_reads p).bytes in
-          let a : (p : ℕ) → Agrees (given_by new row_bytes row_reads p) (texts p) = λ p. record { rest = []; is = sym (append-nil (given_by new row_bytes row_reads p).bytes); whole = λ ended. refl } in
-          sym (ap (sheet job) (rows_by new row_bytes row_reads texts a ∙ ap (λ (l : List (List (List ℕ))). s.passed ++ l) (grid_none cells (λ p. lines job.end (row_bytes p ++ ((reader_at new p).held ++ []))) (nothing_left texts a)) ∙ append-nil s.passed))
+          let a : (p : ℕ) → Agrees (given_by new row_bytes row_reads p) (texts p) = λ p. record
+          { rest = []; is = sym (append-nil (given_by new row_bytes row_reads p).bytes); whole = λ ended. refl } in
+          sym (ap (sheet job) (rows_by new row_bytes row_reads texts a ∙ ap (λ (l : List (List (List ℕ))). s.passed ++ l)
+          (grid_none cells (λ p. lines job.end (row_bytes p ++ ((reader_at new p).held ++ []))) (nothing_left texts a)) ∙ append-nil s.passed))
 
       no_more : (p : ℕ) → 0 < times cells p → more_by new row_bytes row_reads p ≡ []
       no_more p some =
@@ -571,8 +595,10 @@ module _ (job : Paste) (cells : List ℕ) (old set now : List Reader) (was is : 
 
     reads_to : (p : ℕ) → Reads (reader_at now p) (reader_at new p) (extra p)
     reads_to p = ⊎_elim
-        (λ same. subst (λ (b : List ℕ). Reads (reader_at now p) (reader_at new p) b) (sym (extra_here p same)) (reads_trans (reader_at now p) (reader_at mid p) (reader_at new p) (took_to p).bytes piece (took_to p).reads (reads_at p same)))
-        (λ differ. subst (λ (r : Reader). Reads (reader_at now p) r (extra p)) (sym (others p differ)) (subst (λ (b : List ℕ). Reads (reader_at now p) (reader_at mid p) b) (sym (extra_there p differ)) (took_to p).reads))
+        (λ same. subst (λ (b : List ℕ). Reads (reader_at now p) (reader_at new p) b) (sym (extra_here p same))
+        (reads_trans (reader_at now p) (reader_at mid p) (reader_at new p) (took_to p).bytes piece (took_to p).reads (reads_at p same)))
+        (λ differ. subst (λ (r : Reader). Reads (reader_at now p) r (extra p)) (sym (others p differ))
+        (subst (λ (b : List ℕ). Reads (reader_at now p) (reader_at mid p) b) (sym (extra_there p differ)) (took_to p).reads))
         (cases_eq p here)
 
     lines_to : (p : ℕ) → LinesCame job.end (reader_at mid p) ((s.took p).bytes ++ (took_to p).bytes) (s.ls p ++ got p)
@@ -599,7 +625,8 @@ module _ (job : Paste) (cells : List ℕ) (old set now : List Reader) (was is : 
       short_to : (p : ℕ) → longest (s.ls p ++ got p) ≤ longest_line job.end (texts p)
       short_to p = ⊎_elim
           (λ same. omega (arith, here_short p same))
-          (λ differ. came_longest job.end (reader_at mid p) ((s.took p).bytes ++ (took_to p).bytes) (s.ls p ++ got p) (lines_to p) (texts p) (subst (λ (g : Given). Agrees g (texts p)) (given_there p differ) (a p)))
+          (λ differ. came_longest job.end (reader_at mid p) ((s.took p).bytes ++ (took_to p).bytes) (s.ls p ++ got p) (lines_to p) (texts p)
+          (subst (λ (g : Given). Agrees g (texts p)) (given_there p differ) (a p)))
           (cases_eq p here)
 
       kept_to : KeepsCells cells (λ p. longest_line job.end (texts p)) first (with_line held c piece)
@@ -631,7 +658,8 @@ module _ (job : Paste) (cells : List ℕ) (old set now : List Reader) (was is : 
       cut_here =
           cut_piece job.end ((length s.passed + 1) * times cells here) (reader_at mid here) (reader_at new here)
           ((s.took here).bytes ++ (took_to here).bytes) (s.ls here ++ got here) (lines_to here) going piece ((s.took here).bytes ++ extra here)
-          (ap (λ (b : List ℕ). (s.took here).bytes ++ b) (extra_here here refl) ∙ sym (append_assoc (s.took here).bytes (took_to here).bytes piece)) (free_to here refl) (few (held_now here here_named))
+          (ap (λ (b : List ℕ). (s.took here).bytes ++ b) (extra_here here refl) ∙ sym (append_assoc (s.took here).bytes (took_to here).bytes piece))
+          (free_to here refl) (few (held_now here here_named))
           (omega (arith, row_count here, lines_few here, times_below cells c low))
 
       -- another one, up to the last line that it gave
@@ -652,7 +680,8 @@ module _ (job : Paste) (cells : List ℕ) (old set now : List Reader) (was is : 
           (sym (append-nil ((s.took here).bytes ++ extra here)) ∙ ap (λ (b : List ℕ). ((s.took here).bytes ++ extra here) ++ b) (sym empty)) open_end
 
     -- what was staged could not be sent
-    pub paste_broke_write : (is' : Output) → Wrote is is' [] → is'.faulted ≡ true → reader_at new here ≡ reader_at mid here → (reader_at mid here).ended ≡ false → IsPastePass job cells old new was is' first held (Err Write)
+    pub paste_broke_write : (is' : Output) → Wrote is is' [] → is'.faulted ≡ true → reader_at new here ≡ reader_at mid here → (reader_at mid here).ended
+        ≡ false → IsPastePass job cells old new was is' first held (Err Write)
     paste_broke_write is' wrote fault same going = record {
       given = given_by new extra reads_to;
       came = came_by new extra reads_to;
@@ -672,7 +701,8 @@ module _ (job : Paste) (cells : List ℕ) (old set now : List Reader) (was is : 
     }
       where
         failed_to : (p : ℕ) → (reader_at new p).failed ≡ (reader_at now p).failed
-        failed_to p = ⊎_elim (λ at. ap (λ (q : ℕ). (reader_at new q).failed) at ∙ ap (λ (r : Reader). r.failed) same ∙ ap (λ (q : ℕ). (reader_at mid q).failed) (sym at) ∙ (took_to p).failed) (failed_there p) (cases_eq p here)
+        failed_to p = ⊎_elim (λ at. ap (λ (q : ℕ). (reader_at new q).failed) at ∙ ap (λ (r : Reader). r.failed) same
+            ∙ ap (λ (q : ℕ). (reader_at mid q).failed) (sym at) ∙ (took_to p).failed) (failed_there p) (cases_eq p here)
 
         held_kept : KeepsCells cells (λ p. longest (s.ls p ++ got p)) first held
         held_kept = held_by (λ p. longest (s.ls p ++ got p)) (λ p. omega arith)
@@ -681,7 +711,8 @@ module _ (job : Paste) (cells : List ℕ) (old set now : List Reader) (was is : 
         held_in texts a = held_by (λ p. longest_line job.end (texts p)) (short_to texts a)
 
     -- a growth was refused
-    pub paste_broke_memory : (after : Slots) → after ≡ with_denied (with_line held c piece) → (reader_at new here).failed ≡ (reader_at mid here).failed → 0 < length (reader_at new here).held → (length (reader_at now here).held ≤ 8192 → length (reader_at new here).held ≤ 8192)
+    pub paste_broke_memory : (after : Slots) → after ≡ with_denied (with_line held c piece) → (reader_at new here).failed ≡ (reader_at mid here).failed → 0
+        < length (reader_at new here).held → (length (reader_at now here).held ≤ 8192 → length (reader_at new here).held ≤ 8192)
         → IsPastePass job cells old new was is first after (Err Memory)
     paste_broke_memory after is_after same left few =
         paste_memory new extra reads_to
@@ -700,7 +731,8 @@ module _ (job : Paste) (cells : List ℕ) (old set now : List Reader) (was is : 
         denied = ap (λ (s : Slots). s.denied) is_after
 
     -- the read failed
-    pub paste_broke_read : (after : Slots) → after ≡ with_line held c piece → HasReadCause (reader_at mid here) (reader_at new here) → (length (reader_at now here).held ≤ 8192 → length (reader_at new here).held ≤ 8192) → IsPastePass job cells old new was is first after (Err (Read here))
+    pub paste_broke_read : (after : Slots) → after ≡ with_line held c piece → HasReadCause (reader_at mid here) (reader_at new here)
+        → (length (reader_at now here).held ≤ 8192 → length (reader_at new here).held ≤ 8192) → IsPastePass job cells old new was is first after (Err (Read here))
     paste_broke_read after is_after cause few = record {
       given = given_by new extra reads_to;
       came = came_by new extra reads_to;
@@ -718,7 +750,8 @@ module _ (job : Paste) (cells : List ℕ) (old set now : List Reader) (was is : 
       sure = λ p some failed fine. ⊎_elim
           (λ same. ⊎_elim
           (λ k. decided_to may_have_more few k.1 k.2)
-          (λ k. absurd (false≢true (sym (k.1 ∙ (took_to here).failed ∙ (s.took here).failed ∙ failed_set here ∙ never_failed here here_named) ∙ ap (λ (q : ℕ). (reader_at new q).failed) (sym same) ∙ failed)))
+          (λ k. absurd (false≢true (sym (k.1 ∙ (took_to here).failed ∙ (s.took here).failed ∙ failed_set here ∙ never_failed here here_named)
+          ∙ ap (λ (q : ℕ). (reader_at new q).failed) (sym same) ∙ failed)))
           cause)
           (λ differ. absurd (false≢true (sym (failed_by new extra reads_to p (failed_there p differ) ∙ never_failed p some) ∙ failed)))
           (cases_eq p here);
@@ -738,14 +771,16 @@ module _ (job : Paste) (cells : List ℕ) (old set now : List Reader) (was is : 
             cause
 
 -- a row could not be filled
-pub paste_broke : (job : Paste) (cells : List ℕ) (old set now : List Reader) (was is is' : Output) (first store : Slots) (s : Pasting job cells set now was is first store) → was.faulted ≡ false → AreReady cells old first → AreSet job.end cells old set → (new : List Reader) (after : Slots) (e : FlowFault)
+pub paste_broke : (job : Paste) (cells : List ℕ) (old set now : List Reader) (was is is' : Output) (first store : Slots)
+    (s : Pasting job cells set now was is first store) → was.faulted ≡ false → AreReady cells old first → AreSet job.end cells old set → (new : List Reader) (after : Slots) (e : FlowFault)
     → FillsRow cells now new store after (Err e) → Wrote is is' [] → is'.faulted ≡ is_write (Err e) → IsPastePass job cells old new was is' first after (Err e)
 paste_broke job cells old set now was is is' first store s writable ready are_set new after (Read place) f wrote clean =
     let b = f.0 in
     let k = b.breaks in
     let t = pasting_sent job cells set now was is is' first store s wrote clean in
     subst (λ (p : ℕ). IsPastePass job cells old new was is' first after (Err (Read p))) (sym f.1)
-    (paste_broke_read job cells old set now was is' first store t writable ready are_set new b.column b.within b.got b.mid b.held b.taken k.piece k.faults.reads k.faults.whole b.others after k.stored k.cause b.few)
+    (paste_broke_read job cells old set now was is' first store t writable ready are_set new b.column b.within b.got b.mid b.held b.taken k.piece
+    k.faults.reads k.faults.whole b.others after k.stored k.cause b.few)
 paste_broke job cells old set now was is is' first store s writable ready are_set new after Write f wrote fault =
     let k = f.breaks in
     let here = get_or cells f.column 0 in
@@ -755,7 +790,8 @@ paste_broke job cells old set now was is is' first store s writable ready are_se
 paste_broke job cells old set now was is is' first store s writable ready are_set new after Memory f wrote clean =
     let k = f.breaks in
     let t = pasting_sent job cells set now was is is' first store s wrote clean in
-    paste_broke_memory job cells old set now was is' first store t writable ready are_set new f.column f.within f.got f.mid f.held f.taken k.piece k.faults.reads k.faults.whole f.others after k.stored k.failed k.left f.few
+    paste_broke_memory job cells old set now was is' first store t writable ready are_set new f.column f.within f.got f.mid f.held f.taken k.piece
+    k.faults.reads k.faults.whole f.others after k.stored k.failed k.left f.few
 
 -- the slots are there
 pub pasting_room : (job : Paste) (cells : List ℕ) (set now : List Reader) (was is : Output) (first store : Slots) → Pasting job cells set now was is first store → length cells ≤ length store.lines
@@ -764,7 +800,8 @@ pasting_room job cells set now was is first store s =
     omega (arith, k.adds.all k.denied)
 
 -- nothing was done
-pub paste_halted : (job : Paste) (cells : List ℕ) (old : List Reader) (was : Output) (first : Slots) → AreReady cells old first → was.faulted ≡ true → IsPastePass job cells old old was was first first (Err Write)
+pub paste_halted : (job : Paste) (cells : List ℕ) (old : List Reader) (was : Output) (first : Slots) → AreReady cells old first → was.faulted ≡ true
+    → IsPastePass job cells old old was was first first (Err Write)
 paste_halted job cells old was first ready fault = record {
   given = λ p. given_of [] (reader_at old p);
   came = λ p. came_of (reader_at old p) (reader_at old p) [] (reads_nothing (reader_at old p));
@@ -785,11 +822,13 @@ paste_halted job cells old was first ready fault = record {
 -- ---- rows that lie whole in what the readers hold
 
 -- nothing happened
-pub pasting_still : (job : Paste) (cells : List ℕ) (set now new : List Reader) (was is is' : Output) (first store : Slots) → Pasting job cells set now was is first store → new ≡ now → is' ≡ is → Pasting job cells set new was is' first store
+pub pasting_still : (job : Paste) (cells : List ℕ) (set now new : List Reader) (was is is' : Output) (first store : Slots)
+    → Pasting job cells set now was is first store → new ≡ now → is' ≡ is → Pasting job cells set new was is' first store
 pasting_still job cells set now new was is is' first store s same out =
     subst (λ (o : Output). Pasting job cells set new was o first store) (sym out) (subst (λ (r : List Reader). Pasting job cells set r was is first store) (sym same) s)
 
-module _ (job : Paste) (cells : List ℕ) (set now new : List Reader) (was is is' : Output) (first store : Slots) (s : Pasting job cells set now was is first store) (p : PassedRow job.end job.delimiters cells now new is is') where
+module _ (job : Paste) (cells : List ℕ) (set now new : List Reader) (was is is' : Output) (first store : Slots)
+    (s : Pasting job cells set now was is first store) (p : PassedRow job.end job.delimiters cells now new is is') where
   row_filled : FillsWhole job.end job.delimiters cells now new p.written store
   row_filled = p.fills store (pasting_room job cells set now was is first store s)
 
@@ -808,7 +847,8 @@ module _ (job : Paste) (cells : List ℕ) (set now new : List Reader) (was is is
       pasting_unstored job cells set now was is first store s named_end new row_filled.store r.got r.taken k.0 k.1 k.2 is' row_wrote clean
 
   -- a write failed while it was pushed
-  pub paste_whole_write : (old : List Reader) → was.faulted ≡ false → AreReady cells old first → AreSet job.end cells old set → is'.faulted ≡ true → IsPastePass job cells old new was is' first store (Err Write)
+  pub paste_whole_write : (old : List Reader) → was.faulted ≡ false → AreReady cells old first → AreSet job.end cells old set → is'.faulted ≡ true
+      → IsPastePass job cells old new was is' first store (Err Write)
   paste_whole_write old writable ready are_set fault = record {
     given = i.given;
     came = i.came;

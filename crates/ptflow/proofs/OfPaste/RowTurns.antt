@@ -1,5 +1,6 @@
 -- The readers and slots of the cells of a row, one cell after another.
-use Rattle.std.proofs.Common.{◌≡◌, ◌≢◌, ⊎_elim, ℕ, zero, suc, ◌+◌, ◌<◌, ◌≤◌, ◌==◌, ◌||◌, Bool, true, false, cond, List, [], ◌∷◌, ◌++◌, None, Ok, length, take, get_or, set, refl, sym, ◌∙◌, ap, subst, arith, length-append}
+use Rattle.std.proofs.Common.{◌≡◌, ◌≢◌, ⊎_elim, ℕ, zero, suc, ◌+◌, ◌<◌, ◌≤◌, ◌==◌, ◌||◌, Bool, true, false, cond, List, [], ◌∷◌, ◌++◌, None, Ok, length, take}
+use Rattle.std.proofs.Common.{get_or, set, refl, sym, ◌∙◌, ap, subst, arith, length-append}
 use Rattle.std.specs.Prelude.{sum_by, slice_index_or}
 use Rattle.std.proofs.lemmas.Bool.{cases_eq, cases_lt, false≢true, eq-eqb}
 use Rattle.std.proofs.lemmas.Bool.Decides.{nat_tests}
@@ -98,21 +99,31 @@ module _ (cells : List ℕ) (n : ℕ) (old now : List Reader) (before store : Sl
           (took_more (reader_at old q).ending (reader_at old q) (reader_at now q) r (times (take n cells) q) 1 (got q) ls (t.took q)
           (subst (λ (p : ℕ). Took (reader_at old p).ending (reader_at now p) r 1 ls) (sym same) took))
 
-      elsewhere : (q ≡ get_or cells n 0 → ⊥) → Took (reader_at old q).ending (reader_at old q) (reader_at (set now (get_or cells n 0) r) q) (times (take (n + 1) cells) q) (more_at (get_or cells n 0) ls got q)
+      elsewhere : (q ≡ get_or cells n 0 → ⊥) → Took (reader_at old q).ending (reader_at old q) (reader_at (set now (get_or cells n 0) r) q)
+          (times (take (n + 1) cells) q) (more_at (get_or cells n 0) ls got q)
       elsewhere differ = rw (more_there (get_or cells n 0) ls got q differ, times_other cells n q low (λ e. differ (sym e)), at_other now (get_or cells n 0) q r differ) (t.took q)
 
   -- what a cell in front has stays
-  old_cell : (c : ℕ) → c < n → slice_index_or (got (get_or cells c 0)) (times (take c cells) (get_or cells c 0)) [] ≡ slice_index_or (more_at (get_or cells n 0) ls got (get_or cells c 0)) (times (take c cells) (get_or cells c 0)) []
+  old_cell : (c : ℕ) → c < n → slice_index_or (got (get_or cells c 0)) (times (take c cells) (get_or cells c 0)) []
+      ≡ slice_index_or (more_at (get_or cells n 0) ls got (get_or cells c 0)) (times (take c cells) (get_or cells c 0)) []
   old_cell c less = ⊎_elim here elsewhere (cases_eq (get_or cells c 0) (get_or cells n 0))
     where
-      elsewhere : (get_or cells c 0 ≡ get_or cells n 0 → ⊥) → slice_index_or (got (get_or cells c 0)) (times (take c cells) (get_or cells c 0)) [] ≡ slice_index_or (more_at (get_or cells n 0) ls got (get_or cells c 0)) (times (take c cells) (get_or cells c 0)) []
+      elsewhere : (get_or cells c 0 ≡ get_or cells n 0 → ⊥) → slice_index_or (got (get_or cells c 0)) (times (take c cells) (get_or cells c 0)) []
+          ≡ slice_index_or (more_at (get_or cells n 0) ls got (get_or cells c 0)) (times (take c cells) (get_or cells c 0)) []
       elsewhere differ = ap (λ (l : List (List ℕ)). slice_index_or l (times (take c cells) (get_or cells c 0)) []) (sym (more_there (get_or cells n 0) ls got (get_or cells c 0) differ))
 
-      here : get_or cells c 0 ≡ get_or cells n 0 → slice_index_or (got (get_or cells c 0)) (times (take c cells) (get_or cells c 0)) [] ≡ slice_index_or (more_at (get_or cells n 0) ls got (get_or cells c 0)) (times (take c cells) (get_or cells c 0)) []
+      here : get_or cells c 0 ≡ get_or cells n 0 → slice_index_or (got (get_or cells c 0)) (times (take c cells) (get_or cells c 0)) []
+          ≡ slice_index_or (more_at (get_or cells n 0) ls got (get_or cells c 0)) (times (take c cells) (get_or cells c 0)) []
       here same =
           let p = get_or cells c 0 in
           let j = times (take c cells) p in
-          let under : j < times (take n cells) p = omega (arith, times_here cells c p (omega (arith, less, low)) refl, times_front (take n cells) (c + 1) p, ap (λ (l : List ℕ). times l p) (take-take (c + 1) n cells (omega (arith, less)))) in
+          let under : j < times (take n cells) p = omega (
+            arith,
+            times_here cells c p (omega (arith, less, low)) refl,
+            times_front (take n cells) (c + 1) p,
+            ap
+                (λ (l : List ℕ). times l p) (take-take (c + 1) n cells (omega (arith, less))),
+          ) in
           ⊎_elim
           (λ all. sym (get_or_append_left (got p) ls [] j (omega (arith, all, under))))
           (λ few. let none : ls ≡ [] = none_of_done (reader_at old (get_or cells n 0)).ending (reader_at now (get_or cells n 0)) r 1 ls took (subst (λ (p : ℕ). IsDone (reader_at now p)) same few.0) in
@@ -181,7 +192,8 @@ filling_starts cells old before = record {
   less = λ came. absurd (false≢true came);
 }
 
-module _ (cells : List ℕ) (n : ℕ) (old now : List Reader) (before store : Slots) (came : Bool) (f : Filling cells n old now before store came) (low : n < length cells) (within : get_or cells n 0 < length now) (room : n < length store.lines)
+module _ (cells : List ℕ) (n : ℕ) (old now : List Reader) (before store : Slots) (came : Bool) (f : Filling cells n old now before store came)
+    (low : n < length cells) (within : get_or cells n 0 < length now) (room : n < length store.lines)
     (b : Reader) (is_read : b ≡ reader_at now (get_or cells n 0)) (clean : b.fault ≡ None) (r : Reader) (after : Slots) (sound : IsSound r) where
   same_end : b.ending ≡ (reader_at old (get_or cells n 0)).ending
   same_end = ap (λ (x : Reader). x.ending) is_read ∙ (f.taken.took (get_or cells n 0)).reads.ending
@@ -194,10 +206,12 @@ module _ (cells : List ℕ) (n : ℕ) (old now : List Reader) (before store : Sl
   pub filling_line : (e : GivesLine b r store after n) → Filling cells (n + 1) old (set now (get_or cells n 0) r) before after true
   filling_line e =
       let p = get_or cells n 0 in
-      let took : Took (reader_at old p).ending (reader_at now p) r 1 (e.line ∷ []) = subst (λ (x : Reader). Took (reader_at old p).ending x r 1 (e.line ∷ [])) is_read (took_line (reader_at old p).ending b r store after n e same_end clean sound) in
+      let took : Took (reader_at old p).ending (reader_at now p) r 1 (e.line ∷ []) = subst
+      (λ (x : Reader). Took (reader_at old p).ending x r 1 (e.line ∷ [])) is_read (took_line (reader_at old p).ending b r store after n e same_end clean sound) in
       let all : length (f.got p) ≡ times (take n cells) p =
       ⊎_elim (λ same. same) (λ few. absurd (omega (arith, ap length (none_of_done (reader_at old p).ending (reader_at now p) r 1 (e.line ∷ []) took few.0)))) (f.taken.took p).enough in
-      let there : e.line ≡ slice_index_or (f.got p ++ e.line ∷ []) (times (take n cells) p) [] = sym (get_or-append_seam (f.got p) e.line [] []) ∙ ap (λ (i : ℕ). slice_index_or (f.got p ++ e.line ∷ []) i []) all in
+      let there : e.line ≡ slice_index_or (f.got p ++ e.line ∷ []) (times (take n cells) p) [] = sym (get_or-append_seam (f.got p) e.line [] [])
+      ∙ ap (λ (i : ℕ). slice_index_or (f.got p ++ e.line ∷ []) i []) all in
       let less : sum_by budget (set now p r) < sum_by budget old = omega (arith, f.least, e.less, ap budget is_read, sum_by-set budget now p r no_reader within) in
       record {
         got = more_at p (e.line ∷ []) f.got;
@@ -212,9 +226,11 @@ module _ (cells : List ℕ) (n : ℕ) (old now : List Reader) (before store : Sl
   pub filling_end : Goes b r [] → IsDone r → after ≡ with_line store n [] → Filling cells (n + 1) old (set now (get_or cells n 0) r) before after came
   filling_end goes done stored =
       let p = get_or cells n 0 in
-      let took : Took (reader_at old p).ending (reader_at now p) r 1 [] = subst (λ (x : Reader). Took (reader_at old p).ending x r 1 []) is_read (took_end (reader_at old p).ending b r goes done clean sound) in
+      let took : Took (reader_at old p).ending (reader_at now p) r 1 [] = subst (λ (x : Reader). Took (reader_at old p).ending x r 1 []) is_read
+      (took_end (reader_at old p).ending b r goes done clean sound) in
       let few : length (f.got p) ≤ times (take n cells) p = ⊎_elim (λ same. omega (arith, same)) (λ few. few.1) (f.taken.took p).enough in
-      let there : [] ≡ slice_index_or (f.got p ++ []) (times (take n cells) p) [] = sym (ap (λ (l : List (List ℕ)). slice_index_or l (times (take n cells) p) []) (append-nil (f.got p)) ∙ get_or_past (f.got p) (times (take n cells) p) [] few) in
+      let there : [] ≡ slice_index_or (f.got p ++ []) (times (take n cells) p) [] = sym
+      (ap (λ (l : List (List ℕ)). slice_index_or l (times (take n cells) p) []) (append-nil (f.got p)) ∙ get_or_past (f.got p) (times (take n cells) p) [] few) in
       let least : sum_by budget (set now p r) ≤ sum_by budget old = budgets (omega (arith, goes.reads.count)) in
       record {
         got = more_at p [] f.got;
@@ -238,7 +254,8 @@ module _ (cells : List ℕ) (n : ℕ) (old now : List Reader) (before store : Sl
   filling_next true e = subst (λ (t : Bool). Filling cells (n + 1) old (set now (get_or cells n 0) r) before after t) (sym (or-true came)) (filling_line e)
   filling_next false e = subst (λ (t : Bool). Filling cells (n + 1) old (set now (get_or cells n 0) r) before after t) (sym (or-false came)) (filling_end e.0 e.1 e.2)
 
-pub filling_done : (cells : List ℕ) (n : ℕ) (old now : List Reader) (before store : Slots) (came : Bool) → n ≡ length cells → Filling cells n old now before store came → RowFilled cells old now before store came
+pub filling_done : (cells : List ℕ) (n : ℕ) (old now : List Reader) (before store : Slots) (came : Bool) → n ≡ length cells
+    → Filling cells n old now before store came → RowFilled cells old now before store came
 filling_done cells n old now before store came all f = record {
   got = f.got;
   taken = subst (λ (m : ℕ). RowTaken cells m old now before store f.got) all f.taken;
@@ -248,8 +265,10 @@ filling_done cells n old now before store came all f = record {
 }
 
 -- what was asked of the reader of the cell failed
-pub filling_breaks : (Breaks : Reader → Reader → Slots → Slots → ℕ → Type 0) (cells : List ℕ) (n : ℕ) (old now : List Reader) (before store after : Slots) (came : Bool) (b r : Reader) → Filling cells n old now before store came → n < length cells
-    → get_or cells n 0 < length now → b ≡ reader_at now (get_or cells n 0) → Breaks b r store after n → (length b.held ≤ 8192 → length r.held ≤ 8192) → (x : RowBroken Breaks cells old (set now (get_or cells n 0) r) before after) × (get_or cells n 0 ≡ get_or cells x.column 0)
+pub filling_breaks : (Breaks : Reader → Reader → Slots → Slots → ℕ → Type 0) (cells : List ℕ) (n : ℕ) (old now : List Reader) (before store after : Slots)
+    (came : Bool) (b r : Reader) → Filling cells n old now before store came → n < length cells
+    → get_or cells n 0 < length now → b ≡ reader_at now (get_or cells n 0) → Breaks b r store after n → (length b.held ≤ 8192 → length r.held ≤ 8192)
+    → (x : RowBroken Breaks cells old (set now (get_or cells n 0) r) before after) × (get_or cells n 0 ≡ get_or cells x.column 0)
 filling_breaks Breaks cells n old now before store after came b r f low within is_read breaks few = (
   record {
     column = n;
@@ -258,9 +277,11 @@ filling_breaks Breaks cells n old now before store after came b r f low within i
     mid = now;
     held = store;
     taken = f.taken;
-    breaks = subst (λ (x : Reader). Breaks x (reader_at (set now (get_or cells n 0) r) (get_or cells n 0)) store after n) is_read (subst (λ (x : Reader). Breaks b x store after n) (sym (at_same now (get_or cells n 0) r within)) breaks);
+    breaks = subst (λ (x : Reader). Breaks x (reader_at (set now (get_or cells n 0) r) (get_or cells n 0)) store after n) is_read
+        (subst (λ (x : Reader). Breaks b x store after n) (sym (at_same now (get_or cells n 0) r within)) breaks);
     others = λ q differ. at_other now (get_or cells n 0) q r differ;
-    few = λ held. subst (λ (x : Reader). length x.held ≤ 8192) (sym (at_same now (get_or cells n 0) r within)) (few (subst (λ (x : Reader). length x.held ≤ 8192) (sym is_read) ((f.taken.took (get_or cells n 0)).held held)));
+    few = λ held. subst (λ (x : Reader). length x.held ≤ 8192) (sym (at_same now (get_or cells n 0) r within))
+        (few (subst (λ (x : Reader). length x.held ≤ 8192) (sym is_read) ((f.taken.took (get_or cells n 0)).held held)));
   },
   refl,
 )

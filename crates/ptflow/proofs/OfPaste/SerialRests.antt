@@ -1,5 +1,6 @@
 -- What `paste` in series writes of the rest of a text, byte by byte and block by block.
-use Rattle.std.proofs.Common.{◌≡◌, ◌≢◌, ℕ, ◌+◌, ◌==◌, ◌<◌, ◌≤◌, Bool, true, false, cond, List, [], ◌∷◌, ◌++◌, Option, Some, length, map, take, drop, length-append, refl, sym, ◌∙◌, ap, arith, append_assoc}
+use Rattle.std.proofs.Common.{◌≡◌, ◌≢◌, ℕ, ◌+◌, ◌==◌, ◌<◌, ◌≤◌, Bool, true, false, cond, List, [], ◌∷◌, ◌++◌, Option, Some, length, map, take, drop}
+use Rattle.std.proofs.Common.{length-append, refl, sym, ◌∙◌, ap, arith, append_assoc}
 use Rattle.std.specs.Prelude.{option_to_list, unwrap_or}
 use Rattle.std.specs.List.{onto_first, count_by}
 use Rattle.std.proofs.lemmas.List.{append-nil, append_cancel_right}
@@ -30,7 +31,8 @@ module _ (end : ℕ) (delims : List (Option ℕ)) where
   pub row_line : (number : ℕ) (line : List ℕ) (more : List (List ℕ)) → row_rest end delims number false (line ∷ more) ≡ line ++ row_rest end delims number true more
   row_line number line [] = refl
   row_line number line (l ∷ more) =
-      append_assoc (line ++ delimiter delims number) (glued_from delims (number + 1) (l ∷ more)) (end ∷ []) ∙ append_assoc line (delimiter delims number) (glued_from delims (number + 1) (l ∷ more) ++ end ∷ [])
+      append_assoc (line ++ delimiter delims number) (glued_from delims (number + 1) (l ∷ more)) (end ∷ [])
+      ∙ append_assoc line (delimiter delims number) (glued_from delims (number + 1) (l ∷ more) ++ end ∷ [])
 
   -- one more byte of the first line
   row_byte : (number b : ℕ) (ls : List (List ℕ)) → row_rest end delims number false (onto_first b ls) ≡ b ∷ row_rest end delims number false ls
@@ -39,10 +41,12 @@ module _ (end : ℕ) (delims : List (Option ℕ)) where
   row_byte number b (l ∷ m ∷ ls) = refl
 
   -- the cell to which the next line belongs
-  pub row_begun : (cell : Cell) (line : List ℕ) (more : List (List ℕ)) → row_rest end delims cell.number cell.ended (line ∷ more) ≡ lead delims cell ++ row_rest end delims (begun cell).number false (line ∷ more)
+  pub row_begun : (cell : Cell) (line : List ℕ) (more : List (List ℕ)) → row_rest end delims cell.number cell.ended (line ∷ more) ≡ lead delims cell
+      ++ row_rest end delims (begun cell).number false (line ∷ more)
   row_begun cell line more = by_ended cell.ended
     where
-      by_ended : (t : Bool) → row_rest end delims cell.number t (line ∷ more) ≡ cond t (delimiter delims cell.number) [] ++ row_rest end delims (cond t (cell.number + 1) cell.number) false (line ∷ more)
+      by_ended : (t : Bool) → row_rest end delims cell.number t (line ∷ more) ≡ cond t (delimiter delims cell.number) []
+          ++ row_rest end delims (cond t (cell.number + 1) cell.number) false (line ∷ more)
       by_ended true = refl
       by_ended false = refl
 
@@ -66,18 +70,23 @@ module _ (end : ℕ) (delims : List (Option ℕ)) where
   pub begun_on : (cell : Cell) (rest : List ℕ) → 0 < length rest → (more : List ℕ) → serial_rest end delims cell (rest ++ more) ≡ lead delims cell ++ serial_rest end delims (begun cell) (rest ++ more)
   begun_on cell rest some more = begun_some cell (rest ++ more) (omega (arith, some, length-append rest more))
 
-  pub begins : (start cell : Cell) (block rest : List ℕ) (was is is' : Output) → Amid (serial_rest end delims) start cell block rest was is → 0 < length rest → Wrote is is' (lead delims cell) → is'.faulted ≡ false → Amid (serial_rest end delims) start (begun cell) block rest was is'
-  begins start cell block rest was is is' a some wrote clean = amid_more (serial_rest end delims) start cell (begun cell) block rest rest (lead delims cell) was is is' a wrote (begun_on cell rest some) clean
+  pub begins : (start cell : Cell) (block rest : List ℕ) (was is is' : Output) → Amid (serial_rest end delims) start cell block rest was is → 0 < length rest
+      → Wrote is is' (lead delims cell) → is'.faulted ≡ false → Amid (serial_rest end delims) start (begun cell) block rest was is'
+  begins start cell block rest was is is' a some wrote clean = amid_more (serial_rest end delims) start cell (begun cell) block rest rest
+      (lead delims cell) was is is' a wrote (begun_on cell rest some) clean
 
   -- a line of the cell, up to its end
   pub cell_on : (number : ℕ) (rest : List ℕ) (at : ℕ) → IsFirstByte (is_byte end) rest (Some at) → (more : List ℕ)
-      → serial_rest end delims (record { number = number; ended = false }) (rest ++ more) ≡ take at rest ++ serial_rest end delims (record { number = number; ended = true }) (drop (at + 1) rest ++ more)
+      → serial_rest end delims (record { number = number; ended = false }) (rest ++ more) ≡ take at rest
+      ++ serial_rest end delims (record { number = number; ended = true }) (drop (at + 1) rest ++ more)
   cell_on number rest at first more =
       ap (λ (l : List ℕ). row_rest end delims number false (lines end l)) (ap (λ (l : List ℕ). l ++ more) (split_of end rest at first) ∙ append_assoc (take at rest) (end ∷ drop (at + 1) rest) more)
-      ∙ ap (row_rest end delims number false) (lines_first end (take at rest) (drop (at + 1) rest ++ more) (before_end end rest at first)) ∙ row_line number (take at rest) (lines end (drop (at + 1) rest ++ more))
+      ∙ ap (row_rest end delims number false) (lines_first end (take at rest) (drop (at + 1) rest ++ more) (before_end end rest at first))
+      ∙ row_line number (take at rest) (lines end (drop (at + 1) rest ++ more))
 
   -- a piece of a line of the cell
-  pub piece_on : (number : ℕ) (piece : List ℕ) → IsLine end piece → (more : List ℕ) → row_rest end delims number false (lines end (piece ++ more)) ≡ piece ++ row_rest end delims number false (lines end more)
+  pub piece_on : (number : ℕ) (piece : List ℕ) → IsLine end piece → (more : List ℕ) → row_rest end delims number false (lines end (piece ++ more)) ≡ piece
+      ++ row_rest end delims number false (lines end more)
   piece_on number [] free more = refl
   piece_on number (b ∷ piece) free more =
       ap (λ (t : Bool). row_rest end delims number false (cond t ([] ∷ lines end (piece ++ more)) (onto_first b (lines end (piece ++ more))))) (other_byte end b free.0)
@@ -111,7 +120,8 @@ module _ (end : ℕ) (delims : List (Option ℕ)) where
       puts more some ∙ ap (λ (l : List ℕ). written ++ l) (piece_on now rest free more) ∙ sym (append_assoc written rest next) ∙ ap (λ (l : List ℕ). l ++ next) (sym copied)
 
   -- the last byte of a block ends its line
-  pub puts_ended : (number now : ℕ) (bytes written : List ℕ) → Puts end delims number bytes now [] written → PutsBlock end delims number (bytes ++ end ∷ []) (record { number = now; ended = true }) written
+  pub puts_ended : (number now : ℕ) (bytes written : List ℕ) → Puts end delims number bytes now [] written
+      → PutsBlock end delims number (bytes ++ end ∷ []) (record { number = now; ended = true }) written
   puts_ended number now bytes written puts more =
       ap (λ (l : List ℕ). row_rest end delims number false (lines end l)) (append_assoc bytes (end ∷ []) more)
       ∙ puts (end ∷ more) (omega arith)
@@ -145,7 +155,8 @@ module _ (end : ℕ) (delims : List (Option ℕ)) where
         done : List ℕ
         done = map (with_delimiter (record { ending = end; delim = delim })) bytes ++ row_rest end delims m false (lines end more)
 
-        by_test : ((k : ℕ) → row_rest end delims k false (lines end left) ≡ done) → (t : Bool) → row_rest end delims n false (cond t ([] ∷ lines end left) (onto_first b (lines end left))) ≡ cond t delim b ∷ done
+        by_test : ((k : ℕ) → row_rest end delims k false (lines end left) ≡ done) → (t : Bool)
+            → row_rest end delims n false (cond t ([] ∷ lines end left) (onto_first b (lines end left))) ≡ cond t delim b ∷ done
         by_test next true =
             row_line n [] (lines end left)
             ∙ begun_some (record { number = n; ended = true }) left (omega (arith, some, length-append bytes more))
@@ -197,7 +208,11 @@ module _ (end : ℕ) (delims : List (Option ℕ)) where
   glued_begins : (number : ℕ) (xs ys : List (List ℕ)) → Begins (glued_from delims number xs) (glued_from delims number (xs ++ ys))
   glued_begins number [] ys = record { rest = glued_from delims number ys; is = refl }
   glued_begins number (x ∷ []) [] = record { rest = []; is = sym (append-nil x) }
-  glued_begins number (x ∷ []) (y ∷ ys) = record { rest = delimiter delims number ++ glued_from delims (number + 1) (y ∷ ys); is = append_assoc x (delimiter delims number) (glued_from delims (number + 1) (y ∷ ys)) }
+  glued_begins number (x ∷ []) (y ∷ ys) = record {
+    rest = delimiter delims number
+        ++ glued_from delims (number + 1) (y ∷ ys);
+    is = append_assoc x (delimiter delims number) (glued_from delims (number + 1) (y ∷ ys));
+  }
   glued_begins number (x ∷ z ∷ xs) ys =
       let b = glued_begins (number + 1) (z ∷ xs) ys in record {
         rest = b.rest;
@@ -212,7 +227,8 @@ module _ (end : ℕ) (delims : List (Option ℕ)) where
       by_ended false = refl
 
 -- what was pushed of these bytes has their whole lines in front
-pub serial_is_decided : (job : Paste) (given pushed : List ℕ) (now : Cell) → ((rest : List ℕ) → serial_rest job.end job.delimiters (record { number = 0; ended = false }) (given ++ rest) ≡ pushed ++ serial_rest job.end job.delimiters now rest)
+pub serial_is_decided : (job : Paste) (given pushed : List ℕ) (now : Cell)
+    → ((rest : List ℕ) → serial_rest job.end job.delimiters (record { number = 0; ended = false }) (given ++ rest) ≡ pushed ++ serial_rest job.end job.delimiters now rest)
     → Begins (serial_decided job (record { bytes = given; ended = false })) pushed
 serial_is_decided job given pushed now on =
     let p = parts_of job.end given in

@@ -20,7 +20,8 @@ module _ (end : ℕ) (delims : List (Option ℕ)) (all : List (List ℕ)) (was :
       let b = h.true_so_far [] in
       subst (λ (l : List ℕ). Wrote was is l) (sym b.is ∙ ap (row_from end delims first_cell) (append-nil all)) (wrote_past was is h.pushed b.rest fault h.wrote)
 
-  module _ (cell : Cell) (line : List ℕ) (rest : List (List ℕ)) (is is1 : Output) (a : Amid (row_from end delims) first_cell cell all (line ∷ rest) was is) (led : Wrote is is1 (lead delims cell)) where
+  module _ (cell : Cell) (line : List ℕ) (rest : List (List ℕ)) (is is1 : Output) (a : Amid (row_from end delims) first_cell cell all (line ∷ rest) was is)
+      (led : Wrote is is1 (lead delims cell)) where
     led_on : (more : List (List ℕ)) → row_from end delims cell ((line ∷ rest) ++ more) ≡ lead delims cell ++ row_from end delims (begun cell) ((line ∷ rest) ++ more)
     led_on more = row_begun end delims cell line (rest ++ more)
 

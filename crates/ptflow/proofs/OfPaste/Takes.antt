@@ -62,7 +62,8 @@ took_more end a b c m n xs ys p q = record {
       (λ same. ⊎_elim (λ all. inl (omega (arith, same, all, length-append xs ys))) (λ few. inr (few.0, omega (arith, same, few.1, length-append xs ys))) q.enough)
       (λ few. inr (
         stays_done b c q.bytes few.0 q.reads,
-        (let none : [] ≡ ys = ap (lines end) (sym (done_gives_nothing b c q.bytes few.0 q.reads).0) ∙ lines_are_given end c q.bytes ys q.came in omega (arith, few.1, ap length none, length-append xs ys)),
+        (let none : [] ≡ ys = ap (lines end) (sym (done_gives_nothing b c q.bytes few.0 q.reads).0)
+            ∙ lines_are_given end c q.bytes ys q.came in omega (arith, few.1, ap length none, length-append xs ys)),
       ))
       p.enough;
 }

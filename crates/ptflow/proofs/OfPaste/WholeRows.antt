@@ -1,5 +1,6 @@
 -- Rows of `paste` whose cells lie whole in what the readers hold: they are told by the slots that filling them would fill.
-use Rattle.std.proofs.Common.{◌≡◌, ⊎_elim, inl, ℕ, zero, suc, ◌+◌, ◌-◌, ◌<◌, ◌≤◌, ◌^◌, Bool, true, false, cond, List, [], ◌∷◌, ◌++◌, Option, None, Some, length, take, drop, set, get_or, refl, sym, ◌∙◌, ap, subst, arith, append_assoc, length-append, length-drop}
+use Rattle.std.proofs.Common.{◌≡◌, ⊎_elim, inl, ℕ, zero, suc, ◌+◌, ◌-◌, ◌<◌, ◌≤◌, ◌^◌, Bool, true, false, cond, List, [], ◌∷◌, ◌++◌, Option, None, Some, length}
+use Rattle.std.proofs.Common.{take, drop, set, get_or, refl, sym, ◌∙◌, ap, subst, arith, append_assoc, length-append, length-drop}
 use Rattle.std.specs.Prelude.{nat_lt}
 use Rattle.std.proofs.lemmas.Bool.{cases_eq, cases_lt}
 use Rattle.std.proofs.lemmas.Bool.Decides.{nat_tests}
@@ -107,7 +108,8 @@ module _ (end : ℕ) (delims : List (Option ℕ)) (cells : List ℕ) (old : List
           (λ differ. omega (arith, holds p, get_or-set_other taken place p (get_or taken place 0 + (at + 1)) 0 differ))
           (cases_eq p place)
 
-      module _ (written next : List ℕ) (is : next ≡ (written ++ lead delims (in_front n)) ++ line_of) (before : Slots) (room : length cells ≤ length before.lines) (h : Putting end delims cells n old taken written before) where
+      module _ (written next : List ℕ) (is : next ≡ (written ++ lead delims (in_front n)) ++ line_of) (before : Slots)
+          (room : length cells ≤ length before.lines) (h : Putting end delims cells n old taken written before) where
         abbrev mid_reader : Reader
         mid_reader = record was { held = drop (get_or taken place 0) was.held }
 
@@ -118,7 +120,8 @@ module _ (end : ℕ) (delims : List (Option ℕ)) (cells : List ℕ) (old : List
         moved_on = λ i. record was { held = sym (drop-drop (at + 1) (get_or taken place 0) was.held) i }
 
         gives : GivesLine mid_reader new_reader h.store (with_line h.store n line_of) n
-        gives = held_line mid_reader new_reader at h.store n clean (sound.long clean) (subst (λ (e : ℕ). IsFirstByte (is_byte e) (drop (get_or taken place 0) was.held) (Some at)) (sym ends) found) moved_on
+        gives = held_line mid_reader new_reader at h.store n clean (sound.long clean)
+            (subst (λ (e : ℕ). IsFirstByte (is_byte e) (drop (get_or taken place 0) was.held) (Some at)) (sym ends) found) moved_on
 
         room_here : n < length h.store.lines
         room_here = omega (arith, low, room, h.filling.taken.same)
@@ -145,7 +148,8 @@ module _ (end : ℕ) (delims : List (Option ℕ)) (cells : List ℕ) (old : List
             ap (λ (l : List (List ℕ)). row_from end delims first_cell (l ++ more)) (take_more_set h.store.lines n line_of room_here)
             ∙ ap (row_from end delims first_cell) (append_assoc (take n h.store.lines) (line_of ∷ []) more)
             ∙ h.on (line_of ∷ more)
-            ∙ ap (λ (l : List ℕ). written ++ l) (row_begun end delims (in_front n) line_of more ∙ ap (λ (l : List ℕ). lead delims (in_front n) ++ l) (row_line end delims (begun (in_front n)).number line_of more
+            ∙ ap (λ (l : List ℕ). written ++ l) (row_begun end delims (in_front n) line_of more
+            ∙ ap (λ (l : List ℕ). lead delims (in_front n) ++ l) (row_line end delims (begun (in_front n)).number line_of more
             ∙ ap (λ (l : List ℕ). line_of ++ l) (behind_cell end delims n more)))
             ∙ sym (append_assoc written (lead delims (in_front n)) (line_of ++ row_from end delims (in_front (n + 1)) more))
             ∙ sym (append_assoc (written ++ lead delims (in_front n)) line_of (row_from end delims (in_front (n + 1)) more))
@@ -165,7 +169,8 @@ module _ (end : ℕ) (delims : List (Option ℕ)) (cells : List ℕ) (old : List
         }
 
   -- all cells were put
-  pub putting_done : (n : ℕ) (taken written next : List ℕ) → n ≡ length cells → 0 < length cells → next ≡ written ++ end ∷ [] → ((before : Slots) → length cells ≤ length before.lines → Putting end delims cells n old taken written before)
+  pub putting_done : (n : ℕ) (taken written next : List ℕ) → n ≡ length cells → 0 < length cells → next ≡ written ++ end ∷ []
+      → ((before : Slots) → length cells ≤ length before.lines → Putting end delims cells n old taken written before)
       → HoldsRow end delims cells old taken next
   putting_done n taken written next all some is holds new moved before room =
       let h = holds before room in
@@ -186,11 +191,13 @@ module _ (end : ℕ) (delims : List (Option ℕ)) (cells : List ℕ) (old : List
 abbrev pub moved_at : List ℕ → Reader → ℕ → Reader
 moved_at taken r p = record r { held = drop (get_or taken p 0) r.held }
 
-module _ (taken : List ℕ) (old now : List Reader) (n : ℕ) (front : (p : ℕ) → p < n → reader_at now p ≡ moved_at taken (reader_at old p) p) (rest : (p : ℕ) → n ≤ p → reader_at now p ≡ reader_at old p) where
+module _ (taken : List ℕ) (old now : List Reader) (n : ℕ) (front : (p : ℕ) → p < n → reader_at now p ≡ moved_at taken (reader_at old p) p)
+    (rest : (p : ℕ) → n ≤ p → reader_at now p ≡ reader_at old p) where
   module _ (b r : Reader) (low : n < length now) (is_read : b ≡ reader_at now n) (step : r ≡ moved_at taken b n) where
     pub taking_front : (p : ℕ) → p < n + 1 → reader_at (set now n r) p ≡ moved_at taken (reader_at old p) p
     taking_front p under = ⊎_elim
-        (λ same. ap (reader_at (set now n r)) same ∙ at_same now n r low ∙ step ∙ ap (λ (x : Reader). moved_at taken x n) (is_read ∙ rest n (omega arith)) ∙ ap (λ (q : ℕ). moved_at taken (reader_at old q) q) (sym same))
+        (λ same. ap (reader_at (set now n r)) same ∙ at_same now n r low ∙ step ∙ ap (λ (x : Reader). moved_at taken x n) (is_read ∙ rest n (omega arith))
+        ∙ ap (λ (q : ℕ). moved_at taken (reader_at old q) q) (sym same))
         (λ differ. at_other now n p r differ ∙ front p (omega (arith, under, differ)))
         (cases_eq p n)
 

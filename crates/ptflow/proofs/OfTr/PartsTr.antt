@@ -67,7 +67,8 @@ one_byte tables last byte stays stays_too =
     by_test false = refl
 
 pub tr_behind_byte : TrBehindByte
-tr_behind_byte tables byte a b ends kept unsqueezed = tr_of_parts tables a b (λ c is begins. ap (λ (o : Option ℕ). squeezes tables (unwrap_or o c)) (same_last c (image tables byte) (tr tables a) is last) ∙ unsqueezed)
+tr_behind_byte tables byte a b ends kept unsqueezed = tr_of_parts tables a b
+    (λ c is begins. ap (λ (o : Option ℕ). squeezes tables (unwrap_or o c)) (same_last c (image tables byte) (tr tables a) is last) ∙ unsqueezed)
   where
     last : EndsWith (image tables byte) (tr tables a)
     last = (

@@ -1,6 +1,7 @@
 -- Bytes that stay where repeats are squeezed. Whether one stays is told by it and the byte in front of it, so a text is
 -- worked in pieces, each of them with the byte in front of it.
-use Rattle.std.proofs.Common.{◌≡◌, ℕ, zero, suc, ◌%◌, ◌^◌, map, bit_and, negsuc, pos, ◌+◌, ◌-◌, ◌*◌, ◌<◌, ◌≤◌, ◌&&◌, not, eqb, Bool, true, false, cond, List, [], ◌∷◌, ◌++◌, Option, Some, length, take, drop, set, get_or, refl, sym, ◌∙◌, ap, arith, append_assoc, add-one, drop-cons, w8}
+use Rattle.std.proofs.Common.{◌≡◌, ℕ, zero, suc, ◌%◌, ◌^◌, map, bit_and, negsuc, pos, ◌+◌, ◌-◌, ◌*◌, ◌<◌, ◌≤◌, ◌&&◌, not, eqb, Bool, true, false, cond, List}
+use Rattle.std.proofs.Common.{[], ◌∷◌, ◌++◌, Option, Some, length, take, drop, set, get_or, refl, sym, ◌∙◌, ap, arith, append_assoc, add-one, drop-cons, w8}
 use Rattle.std.specs.Option.{option_eq}
 use Rattle.std.specs.Int.{bit_not, cast_unsigned}
 use Rattle.std.specs.Simd.Lanes.{zip2, chunk, Each1, mask_l, top}
@@ -19,10 +20,12 @@ module _ (squeezed : ℕ → Bool) where
   behind_on : (last : ℕ) (xs ys : List ℕ) → squeeze_behind squeezed last (xs ++ ys) ≡ squeeze_behind squeezed last xs ++ squeeze_behind squeezed (get_or (last ∷ xs) (length xs) 0) ys
   behind_on last [] ys = refl
   behind_on last (b ∷ xs) ys =
-      behind_one squeezed last b (xs ++ ys) ∙ by_test (behind_on b xs ys) (stays squeezed (last, b)) ∙ ap (λ (l : List ℕ). l ++ squeeze_behind squeezed (get_or (b ∷ xs) (length xs) 0) ys) (sym (behind_one squeezed last b xs))
+      behind_one squeezed last b (xs ++ ys) ∙ by_test (behind_on b xs ys) (stays squeezed (last, b))
+      ∙ ap (λ (l : List ℕ). l ++ squeeze_behind squeezed (get_or (b ∷ xs) (length xs) 0) ys) (sym (behind_one squeezed last b xs))
     where
       by_test : squeeze_behind squeezed b (xs ++ ys) ≡ squeeze_behind squeezed b xs ++ squeeze_behind squeezed (get_or (b ∷ xs) (length xs) 0) ys → (s : Bool)
-          → cond s (b ∷ squeeze_behind squeezed b (xs ++ ys)) (squeeze_behind squeezed b (xs ++ ys)) ≡ cond s (b ∷ squeeze_behind squeezed b xs) (squeeze_behind squeezed b xs) ++ squeeze_behind squeezed (get_or (b ∷ xs) (length xs) 0) ys
+          → cond s (b ∷ squeeze_behind squeezed b (xs ++ ys)) (squeeze_behind squeezed b (xs ++ ys))
+          ≡ cond s (b ∷ squeeze_behind squeezed b xs) (squeeze_behind squeezed b xs) ++ squeeze_behind squeezed (get_or (b ∷ xs) (length xs) 0) ys
       by_test more true = ap (λ (l : List ℕ). b ∷ l) more
       by_test more false = more
 
@@ -31,7 +34,8 @@ module _ (squeezed : ℕ → Bool) where
   chosen_behind last [] = refl
   chosen_behind last (b ∷ bytes) = ap (λ (l : List ℕ). cond (stays squeezed (last, b)) (b ∷ l) l) (chosen_behind b bytes) ∙ sym (behind_one squeezed last b bytes)
 
-  one_more : (into rest : List ℕ) (count b : ℕ) (again : Bool) → count < length into → take (count + bool_byte (not again)) (set into count b) ++ rest ≡ take count into ++ cond (not again) (b ∷ rest) rest
+  one_more : (into rest : List ℕ) (count b : ℕ) (again : Bool) → count < length into → take (count + bool_byte (not again)) (set into count b) ++ rest
+      ≡ take count into ++ cond (not again) (b ∷ rest) rest
   one_more into rest count b true room = let same : count + 0 ≡ count = omega arith in ap (λ (l : List ℕ). l ++ rest) (rw same (take-set into count b))
   one_more into rest count b false room = ap (λ (l : List ℕ). l ++ rest) (take_more_set into count b room) ∙ append_assoc (take count into) (b ∷ []) rest
 
@@ -42,7 +46,8 @@ module _ (squeezed : ℕ → Bool) where
     pub within : at ≤ length from
     pub counted : count ≤ at
 
-  pub squeezing_starts : (last : Option ℕ) (from into : List ℕ) (again : Bool) (count : ℕ) → 0 < length from → 0 < length into → again ≡ (option_eq eqb last (Some (get_or from 0 0)) && squeezed (get_or from 0 0))
+  pub squeezing_starts : (last : Option ℕ) (from into : List ℕ) (again : Bool) (count : ℕ) → 0 < length from → 0 < length into → again
+      ≡ (option_eq eqb last (Some (get_or from 0 0)) && squeezed (get_or from 0 0))
       → count ≡ bool_byte (not again) → Squeezing from (set into 0 (get_or from 0 0)) 1 count (squeeze_from squeezed last from)
   squeezing_starts last [] into again count some room is n = absurd (omega arith)
   squeezing_starts last (b ∷ from) into again count some room is n = record {
@@ -129,14 +134,16 @@ in_front_of from at n behind room =
     let last = get_or from (at - 1) 0 in
     let next : suc (at - 1) ≡ at = omega arith in
     let front : drop (at - 1) from ≡ last ∷ drop at from = drop-cons from (at - 1) 0 (omega arith) ∙ ap (λ (k : ℕ). last ∷ drop k from) next in
-    ap (take (suc n)) front ∙ ap (λ (l : List ℕ). last ∷ l) (sym (take-take n (suc n) (drop at from) (omega arith))) ∙ ap (λ (k : ℕ). take k (last ∷ chunk at (suc n) from)) (sym (length-chunk at (suc n) from room))
+    ap (take (suc n)) front ∙ ap (λ (l : List ℕ). last ∷ l) (sym (take-take n (suc n) (drop at from) (omega arith)))
+    ∙ ap (λ (k : ℕ). take k (last ∷ chunk at (suc n) from)) (sym (length-chunk at (suc n) from room))
 
 -- the mask of the lanes that are no repeat of the byte in front of them
 pub stays_mask : (test : ℕ → Bool) (front bytes : List ℕ) → length front ≡ length bytes → length bytes ≤ 64
     → mask_l (map (top 7) (map (bit_not w8) (zip2 bit_and (zip2 (λ a b. cond (eqb a b) 255 0) front bytes) (map (cast_unsigned w8) (mask_of test bytes))))) % 2 ^ 64
     ≡ mask_l (zip2 (λ a b. not (eqb a b && test b)) front bytes)
 stays_mask test front bytes same few =
-    ap (λ (ms : List Bool). mask_l ms % 2 ^ 64) (lanes front bytes) ∙ mask_l-mod (zip2 (λ a b. not (eqb a b && test b)) front bytes) 64 (omega (arith, length-zip2 (λ a b. not (eqb a b && test b)) front bytes same))
+    ap (λ (ms : List Bool). mask_l ms % 2 ^ 64) (lanes front bytes) ∙ mask_l-mod (zip2 (λ a b. not (eqb a b && test b)) front bytes) 64
+    (omega (arith, length-zip2 (λ a b. not (eqb a b && test b)) front bytes same))
   where
     lane : (e t : Bool) → top 7 (bit_not w8 (bit_and (cond e 255 0) (cast_unsigned w8 (cond t (negsuc 0) (pos 0))))) ≡ not (e && t)
     lane true true = refl
@@ -144,7 +151,8 @@ stays_mask test front bytes same few =
     lane false true = refl
     lane false false = refl
 
-    lanes : (front bytes : List ℕ) → map (top 7) (map (bit_not w8) (zip2 bit_and (zip2 (λ a b. cond (eqb a b) 255 0) front bytes) (map (cast_unsigned w8) (mask_of test bytes)))) ≡ zip2 (λ a b. not (eqb a b && test b)) front bytes
+    lanes : (front bytes : List ℕ) → map (top 7) (map (bit_not w8) (zip2 bit_and (zip2 (λ a b. cond (eqb a b) 255 0) front bytes)
+        (map (cast_unsigned w8) (mask_of test bytes)))) ≡ zip2 (λ a b. not (eqb a b && test b)) front bytes
     lanes [] bytes = refl
     lanes (a ∷ front) [] = refl
     lanes (a ∷ front) (b ∷ bytes) = λ i. lane (eqb a b) (test b) i ∷ lanes front bytes i
@@ -152,7 +160,8 @@ stays_mask test front bytes same few =
 -- where no byte is the same as the one in front of it, all bytes stay
 pub none_repeats : (test : ℕ → Bool) (front bytes : List ℕ) → length front ≡ length bytes → length bytes ≤ 64
     → mask_l (map (top 7) (zip2 (λ a b. cond (eqb a b) 255 0) front bytes)) % 2 ^ 64 ≡ 0 → chosen_by (zip2 (λ a b. not (eqb a b && test b)) front bytes) bytes ≡ bytes
-none_repeats test front bytes same few none = all_stay front bytes same (sym (mask_l-mod (zip2 eqb front bytes) 64 (omega (arith, few, same, length-zip2 eqb front bytes same))) ∙ ap (λ (ms : List Bool). mask_l ms % 2 ^ 64) (sym (tops_compared w8 eqb front bytes)) ∙ none)
+none_repeats test front bytes same few none = all_stay front bytes same (sym
+    (mask_l-mod (zip2 eqb front bytes) 64 (omega (arith, few, same, length-zip2 eqb front bytes same))) ∙ ap (λ (ms : List Bool). mask_l ms % 2 ^ 64) (sym (tops_compared w8 eqb front bytes)) ∙ none)
   where
     all_stay : (xs ys : List ℕ) → length xs ≡ length ys → mask_l (zip2 eqb xs ys) ≡ 0 → chosen_by (zip2 (λ a b. not (eqb a b && test b)) xs ys) ys ≡ ys
     all_stay [] [] long nil = refl

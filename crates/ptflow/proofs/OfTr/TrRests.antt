@@ -33,7 +33,8 @@ module _ (squeezed : ℕ → Bool) where
       both true y h = refl
       both false y h = cc
 
-  behind_append : (last : ℕ) (xs ys : List ℕ) → squeeze_behind squeezed last (xs ++ ys) ≡ squeeze_behind squeezed last xs ++ squeeze_from squeezed (last_or (Some last) (squeeze_behind squeezed last xs)) ys
+  behind_append : (last : ℕ) (xs ys : List ℕ) → squeeze_behind squeezed last (xs ++ ys) ≡ squeeze_behind squeezed last xs
+      ++ squeeze_from squeezed (last_or (Some last) (squeeze_behind squeezed last xs)) ys
   behind_append last [] ys = refl
   behind_append last (b ∷ xs) ys =
       behind_one last b (xs ++ ys) ∙ by_test (behind_append b xs ys) (stays squeezed (last, b)) (repeats last b)
@@ -83,17 +84,24 @@ module _ (t : Tables) where
   front_on last block rest = ap (squeeze_from (squeezes t) last) (translated_append block rest) ∙ from_append (squeezes t) last (translated t block) (translated t rest)
 
   -- the last of what is written of a block was written last then
-  pub block_on : (last after : Option ℕ) (block written rest : List ℕ) → written ≡ tr_rest t last block → after ≡ option_or (slice_get written (length written - 1)) last → tr_rest t last (block ++ rest) ≡ written ++ tr_rest t after rest
+  pub block_on : (last after : Option ℕ) (block written rest : List ℕ) → written ≡ tr_rest t last block → after
+      ≡ option_or (slice_get written (length written - 1)) last → tr_rest t last (block ++ rest) ≡ written ++ tr_rest t after rest
   block_on last after block written rest made end = front_on last block rest ∙ (λ i. sym made i ++ tr_rest t (sym (end ∙ last_is last written ∙ ap (last_or last) made) i) rest)
 
   -- what is written of a block is squeezed after it was translated, and that after bytes of it were deleted
-  pub passes_make : (last : Option ℕ) (block kept mapped written : List ℕ) → kept ≡ filter (λ b. not (deletes t b)) block → mapped ≡ map (image t) kept → written ≡ squeeze_from (squeezes t) last mapped → written ≡ tr_rest t last block
+  pub passes_make : (last : Option ℕ) (block kept mapped written : List ℕ) → kept ≡ filter (λ b. not (deletes t b)) block → mapped ≡ map (image t) kept
+      → written ≡ squeeze_from (squeezes t) last mapped → written ≡ tr_rest t last block
   passes_make last block kept mapped written k m w = w ∙ ap (squeeze_from (squeezes t) last) (m ∙ ap (map (image t)) k)
 
   pub block_begins : (last : Option ℕ) (block written rest : List ℕ) → written ≡ tr_rest t last block → Begins written (tr_rest t last (block ++ rest))
-  block_begins last block written rest made = record { rest = tr_rest t (last_or last (tr_rest t last block)) rest; is = front_on last block rest ∙ ap (λ (l : List ℕ). l ++ tr_rest t (last_or last (tr_rest t last block)) rest) (sym made) }
+  block_begins last block written rest made = record {
+    rest = tr_rest t (last_or last (tr_rest t last block)) rest;
+    is = front_on last block rest
+        ∙ ap (λ (l : List ℕ). l ++ tr_rest t (last_or last (tr_rest t last block)) rest) (sym made);
+  }
 
-  pub rest_decided : (given pushed : List ℕ) (now : Option ℕ) → ((rest : List ℕ) → tr_rest t None (given ++ rest) ≡ pushed ++ tr_rest t now rest) → Begins (tr_decided t (record { bytes = given; ended = false })) pushed
+  pub rest_decided : (given pushed : List ℕ) (now : Option ℕ) → ((rest : List ℕ) → tr_rest t None (given ++ rest) ≡ pushed ++ tr_rest t now rest)
+      → Begins (tr_decided t (record { bytes = given; ended = false })) pushed
   rest_decided given pushed now on = record {
     rest = [];
     is = sym (append-nil pushed) ∙ ap (λ (l : List ℕ). pushed ++ l) (sym (rest_nothing now)) ∙ sym (on []) ∙ ap (tr t) (append-nil given) ∙ sym (append-nil (tr t given));

@@ -23,4 +23,13 @@ record TrRows : Type 0 where
 
 rows : TrRows
 unfolding all_bytes
-rows = record { words_on_lines = refl; second_filled_with_its_last = refl; deleted_then_squeezed = refl; octal_escape_and_count = refl; complement_deleted = refl; repeats_squeezed = refl; nothing_of_nothing = refl }
+rows = record {
+  words_on_lines = refl;
+  second_filled_with_its_last = refl;
+  deleted_then_squeezed = refl;
+  octal_escape_and_count = refl;
+  complement_deleted =
+      refl;
+  repeats_squeezed = refl;
+  nothing_of_nothing = refl;
+}

@@ -102,7 +102,8 @@ module _ (job : Uniq) (end : ℕ) (first block : List ℕ) where
         both : (m : ℕ) → 0 < m → (nat_lt 0 m && is_same job first (take at rest)) ≡ true
         both m some = rw same (grind (arith, nat_tests))
 
-    pub counting_ends : ((line : List ℕ) (more : List (List ℕ)) → ended_lines end rest ≡ line ∷ more → is_same job first line ≡ false) → GoesOnWith job end first block (record { count = count; passed = length block - length rest })
+    pub counting_ends : ((line : List ℕ) (more : List (List ℕ)) → ended_lines end rest ≡ line ∷ more → is_same job first line ≡ false)
+        → GoesOnWith job end first block (record { count = count; passed = length block - length rest })
     counting_ends turns = record {
       front = c.front;
       number = c.number;
@@ -118,7 +119,8 @@ module _ (job : Uniq) (end : ℕ) (first block : List ℕ) where
     counting_done none = counting_ends (λ line more is. absurd (omega (arith, ap length (sym (ended_none end rest none) ∙ is))))
 
     -- another key
-    pub counting_turns : (at : ℕ) → IsFirstByte (is_byte end) rest (Some at) → is_same job first (take at rest) ≡ false → GoesOnWith job end first block (record { count = count; passed = length block - length rest })
+    pub counting_turns : (at : ℕ) → IsFirstByte (is_byte end) rest (Some at) → is_same job first (take at rest) ≡ false
+        → GoesOnWith job end first block (record { count = count; passed = length block - length rest })
     counting_turns at found turns = counting_ends (λ line more is. subst (λ (l : List ℕ). is_same job first l ≡ false) (same_head (sym (ended_next end rest at found) ∙ is)) turns)
 
 -- ---- what waits
@@ -131,20 +133,31 @@ pub span_join : (block : List ℕ) (a b : Span) → IsSpan block a → IsSpan bl
 span_join block a b fits next touch =
     let front = span_of block a in
     let back = span_of block b in
-    let long : b.to - a.from ≡ length (front ++ back) = omega (arith, length-append front back, length_range block a.from a.to fits.ordered fits.within, length_range block b.from b.to next.ordered next.within, touch, fits.ordered, next.ordered) in
+    let long : b.to - a.from ≡ length (front ++ back) = omega (
+      arith,
+      length-append front back,
+      length_range block a.from a.to fits.ordered fits.within,
+      length_range block b.from b.to next.ordered next.within,
+      touch,
+      fits.ordered,
+      next.ordered,
+    ) in
     let split : drop a.from block ≡ (front ++ back) ++ drop b.to block =
-    drop_split block a.from a.to fits.ordered ∙ ap (λ (l : List ℕ). front ++ l) (ap (λ n. drop n block) touch ∙ drop_split block b.from b.to next.ordered) ∙ sym (append_assoc front back (drop b.to block)) in
+    drop_split block a.from a.to fits.ordered ∙ ap (λ (l : List ℕ). front ++ l) (ap (λ n. drop n block) touch ∙ drop_split block b.from b.to next.ordered)
+    ∙ sym (append_assoc front back (drop b.to block)) in
     (λ i. take (long i) (split i)) ∙ take_at (front ++ back) (drop b.to block) (length (front ++ back)) refl
 
 pub run_text_shown : (show : Show) (count : ℕ) (bytes : List ℕ) → is_shown show count ≡ true → lead show count ++ bytes ≡ run_text show count bytes
 run_text_shown show count bytes shown = sym (rw shown refl)
 
-pub waits_joined : (show : Show) (count : ℕ) (block : List ℕ) (waiting line : Span) (out : Output) → IsSpan block waiting → IsSpan block line → waiting.to ≡ line.from → lead show count ≡ [] → is_shown show count ≡ true
+pub waits_joined : (show : Show) (count : ℕ) (block : List ℕ) (waiting line : Span) (out : Output) → IsSpan block waiting → IsSpan block line → waiting.to
+    ≡ line.from → lead show count ≡ [] → is_shown show count ≡ true
     → Waits (span_of block waiting ++ run_text show count (span_of block line)) block (record { from = waiting.from; to = line.to }) out out
 waits_joined show count block waiting line out fits next touch none shown = record {
   pushed = [];
   wrote = wrote_nothing out;
-  all = span_join block waiting line fits next touch ∙ ap (λ (l : List ℕ). span_of block waiting ++ l) (ap (λ (l : List ℕ). l ++ span_of block line) (sym none) ∙ run_text_shown show count (span_of block line) shown);
+  all = span_join block waiting line fits next touch ∙ ap (λ (l : List ℕ). span_of block waiting ++ l)
+      (ap (λ (l : List ℕ). l ++ span_of block line) (sym none) ∙ run_text_shown show count (span_of block line) shown);
   span = record { ordered = omega (arith, fits.ordered, next.ordered, touch); within = next.within };
 }
 
@@ -179,7 +192,8 @@ other_count n t other = rw other (by_test (nat_lt 0 n))
     by_test false = refl
 
 -- the line in front of the rest, with its end
-line_in_block : (end : ℕ) (block rest : List ℕ) (front : List (List ℕ)) → InFront end block rest front → (at : ℕ) → IsFirstByte (is_byte end) rest (Some at) → (from to : ℕ) → from ≡ length block - length rest → to ≡ from + at + 1
+line_in_block : (end : ℕ) (block rest : List ℕ) (front : List (List ℕ)) → InFront end block rest front → (at : ℕ) → IsFirstByte (is_byte end) rest (Some at)
+    → (from to : ℕ) → from ≡ length block - length rest → to ≡ from + at + 1
     → (slice_range block from to ≡ take at rest ++ end ∷ []) × (from < to) × (to ≤ length block)
 line_in_block end block rest front lies at first from to from_is to_is = (
   (λ i. take (size i) (drop (from_is i) block)) ∙ ap (take (at + 1)) (front_drop end block rest front lies) ∙ take_end end rest at first,
@@ -255,14 +269,16 @@ module _ (job : Uniq) (block : List ℕ) where
             ∙ sym (append_assoc r.passed (open_run (run_of r.first count)) (runs_behind job (run_of next 1) more))
 
         -- what waited, and what is written of the run, is what is written of all runs but the next
-        all_entries : (pushed waiting' : List ℕ) → pushed ++ waiting' ≡ span_of block waiting ++ run_text job.show count (span_of block line) → (r.pushed ++ pushed) ++ waiting' ≡ entries job (r.passed ++ open_run (run_of r.first count))
+        all_entries : (pushed waiting' : List ℕ) → pushed ++ waiting' ≡ span_of block waiting ++ run_text job.show count (span_of block line)
+            → (r.pushed ++ pushed) ++ waiting' ≡ entries job (r.passed ++ open_run (run_of r.first count))
         all_entries pushed waiting' all =
             append_assoc r.pushed pushed waiting' ∙ ap (λ (l : List ℕ). r.pushed ++ l) all ∙ sym (append_assoc r.pushed (span_of block waiting) (run_text job.show count (span_of block line)))
             ∙ (λ i. r.waits i ++ run_text job.show count (r.whole i)) ∙ ap (λ (l : List ℕ). entries job r.passed ++ l) (sym (open_is job (run_of r.first count)))
             ∙ sym (entries-append job r.passed (open_run (run_of r.first count)))
 
         pub running_turn : (is' : Output) (now : Span) → Waits (span_of block waiting ++ run_text job.show count (span_of block line)) block now is is' → is'.faulted ≡ false
-            → (from to : ℕ) → from ≡ length block - length rest → to ≡ from + at + 1 → (own' : List ℕ) → own' ≡ key job next → Running job block (drop (at + 1) rest) 1 (record { from = from; to = to }) now own' was is'
+            → (from to : ℕ) → from ≡ length block - length rest → to ≡ from + at + 1 → (own' : List ℕ) → own' ≡ key job next
+            → Running job block (drop (at + 1) rest) 1 (record { from = from; to = to }) now own' was is'
         running_turn is' now w clean from to from_is to_is own' own_is' =
             let l = line_in_block job.end block rest r.front r.lies at found from to from_is to_is in record {
               front = r.front ++ next ∷ [];
@@ -283,12 +299,14 @@ module _ (job : Uniq) (block : List ℕ) where
             }
 
         -- a write failed
-        pub running_halts : (is' : Output) → is'.faulted ≡ true → Wrote is is' (span_of block waiting ++ run_text job.show count (span_of block line)) → RunsHalt job (run_of [] 0) (ended_lines job.end block) was is'
+        pub running_halts : (is' : Output) → is'.faulted ≡ true → Wrote is is' (span_of block waiting ++ run_text job.show count (span_of block line))
+            → RunsHalt job (run_of [] 0) (ended_lines job.end block) was is'
         running_halts is' fault wrote = record {
           passed = r.passed ++ open_run (run_of r.first count);
           fault = fault;
           wrote = subst (λ (b : List ℕ). Wrote was is' b)
-              (sym (append-nil (r.pushed ++ (span_of block waiting ++ run_text job.show count (span_of block line)))) ∙ all_entries (span_of block waiting ++ run_text job.show count (span_of block line)) [] (append-nil (span_of block waiting ++ run_text job.show count (span_of block line))))
+              (sym (append-nil (r.pushed ++ (span_of block waiting ++ run_text job.show count (span_of block line))))
+              ∙ all_entries (span_of block waiting ++ run_text job.show count (span_of block line)) [] (append-nil (span_of block waiting ++ run_text job.show count (span_of block line))))
               (wrote_trans was is is' r.pushed (span_of block waiting ++ run_text job.show count (span_of block line)) r.clean r.wrote wrote);
           true_so_far = λ more.
               let behind = ended_lines job.end (drop (at + 1) rest) ++ more in
@@ -313,7 +331,8 @@ module _ (job : Uniq) (block : List ℕ) where
         passed = r.passed;
         wrote = all_wrote;
         clean = clean;
-        on = λ more. ap (λ (l : List (List ℕ)). runs_behind job (run_of [] 0) (l ++ more)) all_lines ∙ r.on more ∙ ap (λ (l : List ℕ). r.passed ++ runs_behind job (run_of l count) more) (sym first_is);
+        on = λ more. ap (λ (l : List (List ℕ)). runs_behind job (run_of [] 0) (l ++ more)) all_lines ∙ r.on more
+            ∙ ap (λ (l : List ℕ). r.passed ++ runs_behind job (run_of l count) more) (sym first_is);
         count = omega (arith, r.few, ap length all_lines);
         some = λ h. omega (arith, r.some);
       }

@@ -1,5 +1,6 @@
 -- The run that is open, with the lines that are taken one by one and block by block.
-use Rattle.std.proofs.Common.{◌≡◌, ℕ, ◌+◌, ◌<◌, ◌&&◌, Bool, true, false, cond, List, [], ◌∷◌, ◌++◌, Option, None, Some, length, take, drop, set, refl, sym, ◌∙◌, ap, subst, arith, append_assoc, length-append, take-append-drop}
+use Rattle.std.proofs.Common.{◌≡◌, ℕ, ◌+◌, ◌<◌, ◌&&◌, Bool, true, false, cond, List, [], ◌∷◌, ◌++◌, Option, None, Some, length, take, drop, set, refl, sym, ◌∙◌}
+use Rattle.std.proofs.Common.{ap, subst, arith, append_assoc, length-append, take-append-drop}
 use Rattle.std.specs.Prelude.{nat_lt, swap}
 use Rattle.std.specs.Option.{is_some}
 use Rattle.std.proofs.Math.Seq.{take-append-add}
@@ -29,7 +30,8 @@ use Rattle.ptflow.proofs.OfUniq.OpenRuns.{behind_more, behind_turn, entries-appe
 pub swapped_first : (store after : Slots) → 1 < length store.lines → after ≡ record store { lines = swap store.lines 0 1 } → line after 0 ≡ line store 1
 swapped_first store after slots is = ap (λ (s : Slots). line s 0) is ∙ by_lines store.lines slots
   where
-    by_lines : (lines : List (List ℕ)) → 1 < length lines → line (record { lines = swap lines 0 1; peak = store.peak; denied = store.denied }) 0 ≡ line (record { lines = lines; peak = store.peak; denied = store.denied }) 1
+    by_lines : (lines : List (List ℕ)) → 1 < length lines → line (record { lines = swap lines 0 1; peak = store.peak; denied = store.denied }) 0
+        ≡ line (record { lines = lines; peak = store.peak; denied = store.denied }) 1
     by_lines [] slots = absurd (omega (arith, slots))
     by_lines (a ∷ []) slots = absurd (omega (arith, slots))
     by_lines (a ∷ b ∷ rest) slots = refl
@@ -77,7 +79,8 @@ uniq_line_tool job start none = record {
 -- ---- one line
 
 -- whether it is of the run, by a test of the bytes that were seen
-pub line_tested : (job : Uniq) (count : ℕ) (first next seen came : List ℕ) (tested answer : Bool) → tested ≡ (nat_lt 0 count && is_same job seen came) → seen ≡ first → came ≡ next → tested ≡ answer → (nat_lt 0 count && is_same job first next) ≡ answer
+pub line_tested : (job : Uniq) (count : ℕ) (first next seen came : List ℕ) (tested answer : Bool) → tested ≡ (nat_lt 0 count && is_same job seen came) → seen
+    ≡ first → came ≡ next → tested ≡ answer → (nat_lt 0 count && is_same job first next) ≡ answer
 line_tested job count first next seen came tested answer is seen_is came_is answered = (λ i. nat_lt 0 count && is_same job (sym seen_is i) (sym came_is i)) ∙ sym is ∙ answered
 
 module _ (job : Uniq) (run : Run) (next : List ℕ) where
@@ -119,7 +122,8 @@ module _ (job : Uniq) (end : ℕ) (first block : List ℕ) (same : Same) (g : Go
   run = run_of first (count + same.count)
 
   went_on : (more : List (List ℕ)) → runs_behind job (run_of first count) (ended_lines end block ++ more) ≡ runs_behind job run (ended_lines end rest ++ more)
-  went_on more = ap (λ (l : List (List ℕ)). runs_behind job (run_of first count) (l ++ more)) g.split ∙ ap (runs_behind job (run_of first count)) (append_assoc g.front (ended_lines end rest) more) ∙ g.on count some (ended_lines end rest ++ more)
+  went_on more = ap (λ (l : List (List ℕ)). runs_behind job (run_of first count) (l ++ more)) g.split
+      ∙ ap (runs_behind job (run_of first count)) (append_assoc g.front (ended_lines end rest) more) ∙ g.on count some (ended_lines end rest ++ more)
 
   many : length (ended_lines end block) ≡ same.count + length (ended_lines end rest)
   many = omega (arith, ap length g.split, length-append g.front (ended_lines end rest), g.number)
@@ -155,7 +159,8 @@ module _ (job : Uniq) (end : ℕ) (first block : List ℕ) (same : Same) (g : Go
       block_run_halts fault = record { passed = open_run run; wrote = wrote; fault = fault; true_so_far = λ more. (runs_behind job (run_of [] 0) (ended_lines end rest ++ more), turned more) }
 
       both_wrote : (passed : List Run) → is.faulted ≡ false → Wrote is is' (entries job passed) → Wrote was is' (entries job (open_run run ++ passed))
-      both_wrote passed clean more = subst (λ (b : List ℕ). Wrote was is' b) (sym (entries-append job (open_run run) passed)) (wrote_trans was is is' (entries job (open_run run)) (entries job passed) clean wrote more)
+      both_wrote passed clean more = subst (λ (b : List ℕ). Wrote was is' b) (sym (entries-append job (open_run run) passed))
+          (wrote_trans was is is' (entries job (open_run run)) (entries job passed) clean wrote more)
 
       pub block_turns : is.faulted ≡ false → (after : Run) → RunsOn job (run_of [] 0) after (ended_lines end rest) is is' → RunsOn job (run_of first count) after (ended_lines end block) was is'
       block_turns clean after r = record {

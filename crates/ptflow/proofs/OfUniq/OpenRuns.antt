@@ -61,15 +61,18 @@ module _ (job : Uniq) where
 
   -- ---- one line more
 
-  pub behind_more : (run : Run) (line : List ℕ) (more : List (List ℕ)) → (nat_lt 0 run.count && is_same job run.line line) ≡ true → runs_behind job run (line ∷ more) ≡ runs_behind job (run_of run.line (run.count + 1)) more
-  behind_more run line more goes = by_tests (nat_lt 0 run.count) (is_same job run.line line) goes ∙ ap (λ (t : Bool). cond t (runs_from job (run_of run.line (run.count + 1)) more) (runs job more)) (sym (some_lines run.count))
+  pub behind_more : (run : Run) (line : List ℕ) (more : List (List ℕ)) → (nat_lt 0 run.count && is_same job run.line line) ≡ true
+      → runs_behind job run (line ∷ more) ≡ runs_behind job (run_of run.line (run.count + 1)) more
+  behind_more run line more goes = by_tests (nat_lt 0 run.count) (is_same job run.line line) goes
+      ∙ ap (λ (t : Bool). cond t (runs_from job (run_of run.line (run.count + 1)) more) (runs job more)) (sym (some_lines run.count))
     where
       by_tests : (t s : Bool) → (t && s) ≡ true → cond t (chosen line more run.line run.count s) (runs job (line ∷ more)) ≡ runs_from job (run_of run.line (run.count + 1)) more
       by_tests true true goes = refl
       by_tests true false goes = cc
       by_tests false s goes = cc
 
-  pub behind_turn : (run : Run) (line : List ℕ) (more : List (List ℕ)) → (nat_lt 0 run.count && is_same job run.line line) ≡ false → runs_behind job run (line ∷ more) ≡ open_run run ++ runs_behind job (run_of line 1) more
+  pub behind_turn : (run : Run) (line : List ℕ) (more : List (List ℕ)) → (nat_lt 0 run.count && is_same job run.line line) ≡ false
+      → runs_behind job run (line ∷ more) ≡ open_run run ++ runs_behind job (run_of line 1) more
   behind_turn run line more turns = by_tests (nat_lt 0 run.count) (is_same job run.line line) turns
     where
       by_tests : (t s : Bool) → (t && s) ≡ false → cond t (chosen line more run.line run.count s) (runs job (line ∷ more)) ≡ cond t (run ∷ []) [] ++ runs_from job (run_of line 1) more

@@ -33,7 +33,8 @@ module _ (job : Uniq) where
   onto_front : (line : List ℕ) (run : Run) (rs others : List Run) → onto_runs job line ((run ∷ rs) ++ others) ≡ onto_runs job line (run ∷ rs) ++ others
   onto_front line run rs others = by_test (is_same job line run.line)
     where
-      by_test : (t : Bool) → cond t (run_of line (run.count + 1) ∷ (rs ++ others)) (run_of line 1 ∷ run ∷ (rs ++ others)) ≡ cond t (run_of line (run.count + 1) ∷ rs) (run_of line 1 ∷ run ∷ rs) ++ others
+      by_test : (t : Bool) → cond t (run_of line (run.count + 1) ∷ (rs ++ others)) (run_of line 1 ∷ run ∷ (rs ++ others))
+          ≡ cond t (run_of line (run.count + 1) ∷ rs) (run_of line 1 ∷ run ∷ rs) ++ others
       by_test true = refl
       by_test false = refl
 
@@ -48,7 +49,8 @@ module _ (job : Uniq) where
       ∙ ap (λ (rs : List Run). run_of x 1 ∷ rs) (sym r.2)
   runs-append (x ∷ z ∷ xs) ys change =
       let r = onto_is z (runs job xs) in
-      ap (onto_runs job x) (runs-append (z ∷ xs) ys (λ last first ends begins. change last first (x ∷ ends.0, ap (λ (l : List (List ℕ)). x ∷ l) ends.1) begins) ∙ ap (λ (rs : List Run). rs ++ runs job ys) r.2)
+      ap (onto_runs job x) (runs-append (z ∷ xs) ys (λ last first ends begins. change last first (x ∷ ends.0, ap (λ (l : List (List ℕ)). x ∷ l) ends.1) begins)
+      ∙ ap (λ (rs : List Run). rs ++ runs job ys) r.2)
       ∙ onto_front x (run_of z r.0) r.1 (runs job ys)
       ∙ ap (λ (rs : List Run). onto_runs job x rs ++ runs job ys) (sym r.2)
 
@@ -111,7 +113,8 @@ module _ (job : Uniq) (taken : List ℕ → Bool) where
   onto_other x [] others = refl
   onto_other x (r ∷ rs) others = rw (other_key job x r.line others.0) refl
 
-  onto_apart : (x : List ℕ) (rs : List Run) → line_taken x ≡ true → AllByRecursion (λ (run : Run). key job x ≢ key job run.line) rs → onto_runs job x (filter run_taken rs) ≡ filter run_taken (onto_runs job x rs)
+  onto_apart : (x : List ℕ) (rs : List Run) → line_taken x ≡ true → AllByRecursion (λ (run : Run). key job x ≢ key job run.line) rs
+      → onto_runs job x (filter run_taken rs) ≡ filter run_taken (onto_runs job x rs)
   onto_apart x rs is others =
       onto_other x (filter run_taken rs) (all_filter (λ (run : Run). key job x ≢ key job run.line) run_taken rs others)
       ∙ ap (λ (t : Bool). cond t (run_of x 1 ∷ filter run_taken rs) (filter run_taken rs)) (sym is)

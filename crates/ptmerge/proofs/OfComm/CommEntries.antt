@@ -93,7 +93,8 @@ module _ (job : Comm) (cmp : Cmp) (key : Side → Key) where
 
   pub written_second : (x : List ℕ) → key Second x ≡ x → by_keys (comm_by job cmp key) all_keys (alone Second x) ≡ entries_in job.hide2 (tab_unless job.hide1) 1 x
   written_second x whole =
-      rw ((bytes_decides (key Second x) (key Second x)).1 refl) (append-nil (entries job (key Second x) 0 1) ∙ only_second job (key Second x) 1 ∙ ap (entries_in job.hide2 (tab_unless job.hide1) 1) whole)
+      rw ((bytes_decides (key Second x) (key Second x)).1 refl) (append-nil (entries job (key Second x) 0 1) ∙ only_second job (key Second x) 1
+      ∙ ap (entries_in job.hide2 (tab_unless job.hide1) 1) whole)
 
   -- and of a line that both have
   pub written_both : IsKeyOrder cmp → (x y : List ℕ) → key First x ≡ x → key Second y ≡ key First x

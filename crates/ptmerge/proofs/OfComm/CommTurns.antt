@@ -85,7 +85,8 @@ breaks_slots s place was is before after Write e = absurd e
 breaks_slots s place was is before after Memory e = ap (λ (t : Slots). length t.lines) e.0.stored ∙ length-set before.lines place.previous e.0.piece
 breaks_slots s place was is before after (faults.Disorder file number) e = absurd e
 
-pub passes_slots : (key : Key) (cmp : Cmp) (s : Side) (place next : Sorted) (was is : Reader) (before after : Slots) (out : Output) (fault : MergeFault) → PassesLine key cmp s place next was is before after out (Err fault) → length after.lines ≡ length before.lines
+pub passes_slots : (key : Key) (cmp : Cmp) (s : Side) (place next : Sorted) (was is : Reader) (before after : Slots) (out : Output) (fault : MergeFault)
+    → PassesLine key cmp s place next was is before after out (Err fault) → length after.lines ≡ length before.lines
 passes_slots key cmp s place next was is before after out fault (inl e) = ap (λ (t : Slots). length t.lines) e.1.store
 passes_slots key cmp s place next was is before after out fault (inr e) = breaks_slots s place was is before after fault e.1
 
@@ -94,10 +95,13 @@ pub adds_of : (before after : Slots) → length after.lines ≡ max (length befo
 adds_of before after count = record { least = omega (arith, count); most = omega (arith, count); all = λ _. count }
 
 -- a line that both inputs have is passed
-pass_both : (job : Comm) (cmp : Cmp) (key : Side → Key) (o : IsKeyOrder cmp) (b : Side → Bound) (p q : Side → Lines) (was is new : Output) → is.faulted ≡ false → Merging (comm_by job cmp key) b p was is → (x y : List ℕ) → key First x ≡ key Second y → b First ≡ From (key First x) → b Second ≡ From (key Second y)
-    → q First ≡ p First ++ x ∷ [] → q Second ≡ p Second ++ y ∷ [] → Wrote is new (text job.end (by_keys (comm_by job cmp key) all_keys (both (x ∷ []) (y ∷ [])))) → Merging (comm_by job cmp key) b q was new × Late (comm_by job cmp key) b q was new
+pass_both : (job : Comm) (cmp : Cmp) (key : Side → Key) (o : IsKeyOrder cmp) (b : Side → Bound) (p q : Side → Lines) (was is new : Output) → is.faulted ≡ false
+    → Merging (comm_by job cmp key) b p was is → (x y : List ℕ) → key First x ≡ key Second y → b First ≡ From (key First x) → b Second ≡ From (key Second y)
+    → q First ≡ p First ++ x ∷ [] → q Second ≡ p Second ++ y ∷ [] → Wrote is new
+    (text job.end (by_keys (comm_by job cmp key) all_keys (both (x ∷ []) (y ∷ [])))) → Merging (comm_by job cmp key) b q was new × Late (comm_by job cmp key) b q was new
 pass_both job cmp key o b p q was is new clean m x y same at1 at2 all1 all2 wrote =
-    subst (λ (l : Side → Lines). Merging (comm_by job cmp key) b l was new × Late (comm_by job cmp key) b l was new) (λ i side. each side i) (passes (comm_by job cmp key) b p f was is new clean m coming front unders wrote)
+    subst (λ (l : Side → Lines). Merging (comm_by job cmp key) b l was new × Late (comm_by job cmp key) b l was new) (λ i side. each side i)
+    (passes (comm_by job cmp key) b p f was is new clean m coming front unders wrote)
   where
     f : Side → Lines
     f = both (x ∷ []) (y ∷ [])
@@ -146,13 +150,15 @@ module _ (job : Comm) (cmp : Cmp) (key : Side → Key) (o : IsKeyOrder cmp) (old
   Done new result = IsMerge (comm_by job cmp key) old new result
 
   -- no input is longer than the inputs that agree
-  pub bounded : (store after : Slots) (s : Side) (place : Sorted) (ls all : Side → Lines) (piece : List ℕ) → HasSlots s place → Keeps old.store store (λ side. longest (ls side)) → ((side : Side) → longest (ls side) ≤ longest (all side)) → length piece ≤ longest (all s)
+  pub bounded : (store after : Slots) (s : Side) (place : Sorted) (ls all : Side → Lines) (piece : List ℕ) → HasSlots s place
+      → Keeps old.store store (λ side. longest (ls side)) → ((side : Side) → longest (ls side) ≤ longest (all side)) → length piece ≤ longest (all s)
       → FitsIn (comm_by job cmp key) old.store (with_line store place.previous piece) all
   bounded store after s place ls all piece slots k up fits =
       let kept = keeps_line old.store store (with_line store place.previous piece) s place (λ side. longest (ls side)) (λ side. longest (all side)) piece slots k up fits refl in
       (kept.peak, omega (arith, kept.slots))
 
-  module _ (now : State) (place : Side → Sorted) (ls p : Side → Lines) (b : Side → Bound) (sides : BothStand (comm_by job cmp key) old.reader now.reader place now.store ls p b) (keeps : Keeps old.store now.store (λ side. longest (ls side)))
+  module _ (now : State) (place : Side → Sorted) (ls p : Side → Lines) (b : Side → Bound)
+      (sides : BothStand (comm_by job cmp key) old.reader now.reader place now.store ls p b) (keeps : Keeps old.store now.store (λ side. longest (ls side)))
       (slots : (side : Side) → HasSlots side (place side)) where
     four : 4 ≤ length now.store.lines
     four = (has_lines_total now.store.lines (λ side. longest (ls side)) 0 keeps.lines).0
@@ -167,27 +173,33 @@ module _ (job : Comm) (cmp : Cmp) (key : Side → Key) (o : IsKeyOrder cmp) (old
     pub standing : (side : Side) → GoneBy side (p side)
     standing side = gone_standing job.end cmp (key side) (old.reader side) (now.reader side) (place side) now.store (ls side) (p side) (b side) (sides side)
 
-    pub passing : (s : Side) → (place s).stand ≡ Head → (new : Reader) (piece : List ℕ) → Reads (now.reader s) new piece → IsLine (now.reader s).ending piece → IsSound new → Gone job.end cmp (key s) (old.reader s) (now.reader s) new piece (ls s) (ls s) (b s)
+    pub passing : (s : Side) → (place s).stand ≡ Head → (new : Reader) (piece : List ℕ) → Reads (now.reader s) new piece → IsLine (now.reader s).ending piece
+        → IsSound new → Gone job.end cmp (key s) (old.reader s) (now.reader s) new piece (ls s) (ls s) (b s)
     passing s head new piece reads free sound =
         let h = passed_at (comm_by job cmp key) o old.reader now.reader place now.store ls p b sides slots four s head in
-        subst (λ d. Gone job.end cmp (key s) (old.reader s) (now.reader s) new piece (ls s) (ls s) d) (sym h.bound) (gone_passed job.end cmp o (key s) (old.reader s) (now.reader s) new piece (ls s) (key s (line now.store (place s).standing)) (sides s).got reads free sound h.begun)
+        subst (λ d. Gone job.end cmp (key s) (old.reader s) (now.reader s) new piece (ls s) (ls s) d) (sym h.bound)
+        (gone_passed job.end cmp o (key s) (old.reader s) (now.reader s) new piece (ls s) (key s (line now.store (place s).standing)) (sides s).got reads free sound h.begun)
 
     pub passing_now : (s : Side) → (place s).stand ≡ Head → GoneBy s (ls s)
     passing_now s head = passing s head (now.reader s) [] (reads_nothing (now.reader s)) tt (sides s).sound
 
     -- a write failed
-    pub unwritten : (q : Side → Lines) (new : Output) → Merging (comm_by job cmp key) b q old.out new → Late (comm_by job cmp key) b q old.out new → ((side : Side) → GoneBy side (q side)) → new.faulted ≡ true → Done (record { reader = now.reader; out = new; store = now.store }) (Err Write)
+    pub unwritten : (q : Side → Lines) (new : Output) → Merging (comm_by job cmp key) b q old.out new → Late (comm_by job cmp key) b q old.out new
+        → ((side : Side) → GoneBy side (q side)) → new.faulted ≡ true → Done (record { reader = now.reader; out = new; store = now.store }) (Err Write)
     unwritten q new m late g fault =
-        stops (comm_by job cmp key) o old (record { reader = now.reader; out = new; store = now.store }) now.reader (λ side. []) ls q b g m late (Err Write) (record { faulted = fault; failed = went; denied = keeps.denied })
+        stops (comm_by job cmp key) o old (record { reader = now.reader; out = new; store = now.store }) now.reader (λ side. []) ls q b g m late (Err Write)
+        (record { faulted = fault; failed = went; denied = keeps.denied })
         (λ side fail. absurd (false≢true (sym (went side ∙ unfailed side) ∙ fail))) tt (λ all w. (omega (arith, keeps.peak, (w First).1, (w Second).1), omega (arith, keeps.slots)))
 
     -- the next line of an input could not be read
-    pub unread : (s : Side) → (place s).stand ≡ Head → (q : Side → Lines) (out : Output) → out.faulted ≡ false → Merging (comm_by job cmp key) b q old.out out → q s ≡ ls s → GoneBy (other s) (q (other s)) → (new : Reader) (after : Slots) (fault : MergeFault)
+    pub unread : (s : Side) → (place s).stand ≡ Head → (q : Side → Lines) (out : Output) → out.faulted ≡ false → Merging (comm_by job cmp key) b q old.out out
+        → q s ≡ ls s → GoneBy (other s) (q (other s)) → (new : Reader) (after : Slots) (fault : MergeFault)
         → CannotRead s (place s) (now.reader s) new now.store after fault → Done (record { reader = put s new now.reader; out = out; store = after }) (Err fault)
     unread s head q out clean m same rest new after fault moves =
         let h = passed_at (comm_by job cmp key) o old.reader now.reader place now.store ls p b sides slots four s head in
         breaks (comm_by job cmp key) o old (record { reader = now.reader; out = out; store = now.store }) ls q b m unfailed went clean s (place s) new after fault
-        (λ r piece reads free sound. subst (λ l. Gone job.end cmp (key s) (old.reader s) (now.reader s) r piece (ls s) l (b s)) (sym same) (passing s head r piece reads free sound)) (sym same) (Some (key s (line now.store (place s).standing)))
+        (λ r piece reads free sound. subst (λ l. Gone job.end cmp (key s) (old.reader s) (now.reader s) r piece (ls s) l (b s)) (sym same)
+        (passing s head r piece reads free sound)) (sym same) (Some (key s (line now.store (place s).standing)))
         (subst (λ l. Begun cmp (key s) l (Some (key s (line now.store (place s).standing)))) (sym same) h.begun) rest keeps.denied
         (λ piece all w. bounded now.store after s (place s) ls all piece (slots s) keeps (λ side. omega (arith, (w side).1)) (omega (arith, (w s).1, ap length (put_same s piece (λ side. []))))) moves
 
@@ -196,10 +208,12 @@ module _ (job : Comm) (cmp : Cmp) (key : Side → Key) (o : IsKeyOrder cmp) (old
         → Next job.end cmp (key s) (old.reader s) new next (place s).previous now.store after (ls s) (Some (key s (line now.store (place s).standing)))
     goes s head new next after comes = next_at (comm_by job cmp key) o old.reader now.reader place now.store ls p b sides slots four s head new next after comes
 
-    module _ (s : Side) (head : (place s).stand ≡ Head) (new : Reader) (next : Sorted) (after : Slots) (n : Next job.end cmp (key s) (old.reader s) new next (place s).previous now.store after (ls s) (Some (key s (line now.store (place s).standing)))) where
+    module _ (s : Side) (head : (place s).stand ≡ Head) (new : Reader) (next : Sorted) (after : Slots)
+        (n : Next job.end cmp (key s) (old.reader s) new next (place s).previous now.store after (ls s) (Some (key s (line now.store (place s).standing)))) where
       pub keeps_on : Keeps old.store after (λ side. longest (put s n.now_ls ls side))
       keeps_on = keeps_line old.store now.store after s (place s) (λ side. longest (ls side)) (λ side. longest (put s n.now_ls ls side)) n.bytes (slots s) keeps
-          (put_each (λ side (l : Lines). longest (ls side) ≤ longest l) s n.now_ls ls n.longer (λ side. omega arith)) (subst (λ (l : Lines). length n.bytes ≤ longest l) (sym (put_same s n.now_ls ls)) n.fits) n.stored
+          (put_each (λ side (l : Lines). longest (ls side) ≤ longest l) s n.now_ls ls n.longer (λ side. omega arith))
+          (subst (λ (l : Lines). length n.bytes ≤ longest l) (sym (put_same s n.now_ls ls)) n.fits) n.stored
 
       pub sides_go : BothStand (comm_by job cmp key) old.reader (put s new now.reader) (put s next place) after (put s n.now_ls ls) (put s (ls s) p) (put s n.bound b)
       sides_go = sides_on (comm_by job cmp key) o old.reader now.reader place now.store ls p b sides slots four s head new next after n
@@ -214,7 +228,8 @@ module _ (job : Comm) (cmp : Cmp) (key : Side → Key) (o : IsKeyOrder cmp) (old
 
     -- ---- a line that one input alone has
 
-    module _ (s : Side) (step : IsAlone cmp key place now.store s) (new : Output) (wrote : Wrote now.out new (text job.end (by_keys (comm_by job cmp key) all_keys (alone s (line now.store (place s).standing))))) where
+    module _ (s : Side) (step : IsAlone cmp key place now.store s) (new : Output)
+        (wrote : Wrote now.out new (text job.end (by_keys (comm_by job cmp key) all_keys (alone s (line now.store (place s).standing))))) where
       abbrev q : Side → Lines
       q = put s (r.ls s) r.p
 
@@ -222,14 +237,16 @@ module _ (job : Comm) (cmp : Cmp) (key : Side → Key) (o : IsKeyOrder cmp) (old
       pushed_alone =
           let x = line now.store (place s).standing in
           let h = passed job.end cmp (key s) (old.reader s) (now.reader s) (place s) now.store (r.ls s) (r.p s) (r.b s) step.stands (r.sides s) in
-          let a = ahead cmp o (key (other s)) (key s x) (place (other s)).stand (place (other s)) now.store (now.reader (other s)) (r.ls (other s)) (r.p (other s)) (r.b (other s)) step.before (r.sides (other s)).stands in
+          let a = ahead cmp o (key (other s)) (key s x) (place (other s)).stand (place (other s)) now.store (now.reader (other s)) (r.ls (other s))
+          (r.p (other s)) (r.b (other s)) step.before (r.sides (other s)).stands in
           subst (λ (l : Lines). Merging (comm_by job cmp key) r.b (put s l r.p) old.out new × Late (comm_by job cmp key) r.b (put s l r.p) old.out new) (sym h.all)
           (pass_one (comm_by job cmp key) o (line_by_line job cmp key) s x r.b r.p old.out now.out new clean r.merging h.bound a.0 a.1 wrote)
 
       merging_alone : Merging (comm_by job cmp key) r.b (put s (r.ls s) r.p) old.out new
       merging_alone = pushed_alone.0
 
-      pub alone_on : (reader : Reader) (next : Sorted) (after : Slots) → Comes (key s) cmp (place s) next (now.reader s) reader now.store after → Running (comm_by job cmp key) old (record { reader = put s reader now.reader; out = new; store = after }) (put s next place)
+      pub alone_on : (reader : Reader) (next : Sorted) (after : Slots) → Comes (key s) cmp (place s) next (now.reader s) reader now.store after
+          → Running (comm_by job cmp key) old (record { reader = put s reader now.reader; out = new; store = after }) (put s next place)
       alone_on reader next after comes =
           let n = goes now place r.ls r.p r.b r.sides r.keeps slots s step.stands reader next after comes in
           record {
@@ -244,12 +261,15 @@ module _ (job : Comm) (cmp : Cmp) (key : Side → Key) (o : IsKeyOrder cmp) (old
       pub alone_unwritten : new.faulted ≡ true → IsMerge (comm_by job cmp key) old (record { reader = now.reader; out = new; store = now.store }) (Err Write)
       alone_unwritten fault =
           unwritten now place r.ls r.p r.b r.sides r.keeps slots (put s (r.ls s) r.p) new merging_alone pushed_alone.1
-          (put_each (λ side (l : Lines). Gone job.end cmp (key side) (old.reader side) (now.reader side) (now.reader side) [] (r.ls side) l (r.b side)) s (r.ls s) r.p (passing_now now place r.ls r.p r.b r.sides r.keeps slots s step.stands) stand) fault
+          (put_each (λ side (l : Lines). Gone job.end cmp (key side) (old.reader side) (now.reader side) (now.reader side) [] (r.ls side) l (r.b side)) s
+          (r.ls s) r.p (passing_now now place r.ls r.p r.b r.sides r.keeps slots s step.stands) stand) fault
 
-      pub alone_unread : new.faulted ≡ false → (reader : Reader) (after : Slots) (fault : MergeFault) → CannotRead s (place s) (now.reader s) reader now.store after fault → IsMerge (comm_by job cmp key) old (record { reader = put s reader now.reader; out = new; store = after }) (Err fault)
+      pub alone_unread : new.faulted ≡ false → (reader : Reader) (after : Slots) (fault : MergeFault)
+          → CannotRead s (place s) (now.reader s) reader now.store after fault → IsMerge (comm_by job cmp key) old (record { reader = put s reader now.reader; out = new; store = after }) (Err fault)
       alone_unread fine reader after fault moves =
           unread now place r.ls r.p r.b r.sides r.keeps slots s step.stands (put s (r.ls s) r.p) new fine merging_alone (put_same s (r.ls s) r.p)
-          (subst (λ (l : Lines). Gone job.end cmp (key (other s)) (old.reader (other s)) (now.reader (other s)) (now.reader (other s)) [] (r.ls (other s)) l (r.b (other s))) (sym (put_other s (r.ls s) r.p)) (stand (other s))) reader after fault moves
+          (subst (λ (l : Lines). Gone job.end cmp (key (other s)) (old.reader (other s)) (now.reader (other s)) (now.reader (other s)) [] (r.ls (other s)) l
+          (r.b (other s))) (sym (put_other s (r.ls s) r.p)) (stand (other s))) reader after fault moves
 
       -- the turn could not be ended
       pub alone_stops : (reader : Reader) (next : Sorted) (after : Slots) (fault : MergeFault) → PassesLine (key s) cmp s (place s) next (now.reader s) reader now.store after new (Err fault)
@@ -267,7 +287,8 @@ module _ (job : Comm) (cmp : Cmp) (key : Side → Key) (o : IsKeyOrder cmp) (old
       pushed_both =
           let h1 = passed job.end cmp (key First) (old.reader First) (now.reader First) (place First) now.store (r.ls First) (r.p First) (r.b First) step.first (r.sides First) in
           let h2 = passed job.end cmp (key Second) (old.reader Second) (now.reader Second) (place Second) now.store (r.ls Second) (r.p Second) (r.b Second) step.second (r.sides Second) in
-          pass_both job cmp key o r.b r.p (both (r.ls First) (r.ls Second)) old.out now.out new clean r.merging (line now.store (place First).standing) (line now.store (place Second).standing) step.same h1.bound h2.bound h1.all h2.all wrote
+          pass_both job cmp key o r.b r.p (both (r.ls First) (r.ls Second)) old.out now.out new clean r.merging (line now.store (place First).standing)
+          (line now.store (place Second).standing) step.same h1.bound h2.bound h1.all h2.all wrote
 
       pub merging_both : Merging (comm_by job cmp key) r.b (both (r.ls First) (r.ls Second)) old.out new
       merging_both = pushed_both.0
@@ -284,12 +305,16 @@ module _ (job : Comm) (cmp : Cmp) (key : Side → Key) (o : IsKeyOrder cmp) (old
           unwritten now place r.ls r.p r.b r.sides r.keeps slots (both (r.ls First) (r.ls Second)) new merging_both pushed_both.1
           (elim [ First ↦ passing_now now place r.ls r.p r.b r.sides r.keeps slots First step.first | Second ↦ passing_now now place r.ls r.p r.b r.sides r.keeps slots Second step.second ]) fault
 
-      pub both_unread : new.faulted ≡ false → (reader : Reader) (after : Slots) (fault : MergeFault) → CannotRead First (place First) (now.reader First) reader now.store after fault → IsMerge (comm_by job cmp key) old (record { reader = put First reader now.reader; out = new; store = after }) (Err fault)
+      pub both_unread : new.faulted ≡ false → (reader : Reader) (after : Slots) (fault : MergeFault)
+          → CannotRead First (place First) (now.reader First) reader now.store after fault
+          → IsMerge (comm_by job cmp key) old (record { reader = put First reader now.reader; out = new; store = after }) (Err fault)
       both_unread fine reader after fault moves =
-          unread now place r.ls r.p r.b r.sides r.keeps slots First step.first (both (r.ls First) (r.ls Second)) new fine merging_both refl (passing_now now place r.ls r.p r.b r.sides r.keeps slots Second step.second) reader after fault moves
+          unread now place r.ls r.p r.b r.sides r.keeps slots First step.first (both (r.ls First) (r.ls Second)) new fine merging_both refl
+          (passing_now now place r.ls r.p r.b r.sides r.keeps slots Second step.second) reader after fault moves
 
       -- the turn could not be gone on with
-      pub both_stops : (reader : Reader) (next : Sorted) (after : Slots) (fault : MergeFault) → PassesLine (key First) cmp First (place First) next (now.reader First) reader now.store after new (Err fault)
+      pub both_stops : (reader : Reader) (next : Sorted) (after : Slots) (fault : MergeFault)
+          → PassesLine (key First) cmp First (place First) next (now.reader First) reader now.store after new (Err fault)
           → IsMerge (comm_by job cmp key) old (record { reader = put First reader now.reader; out = new; store = after }) (Err fault)
       both_stops reader next after fault (inl e) = subst (IsMerge (comm_by job cmp key) old (record { reader = put First reader now.reader; out = new; store = after })) (λ i. Err (sym e.0 i))
           (subst (λ (f : Side → Reader). IsMerge (comm_by job cmp key) old (record { reader = f; out = new; store = after }) (Err Write)) (same_reader First reader now.reader e.1.unread)
@@ -315,29 +340,43 @@ module _ (job : Comm) (cmp : Cmp) (key : Side → Key) (o : IsKeyOrder cmp) (old
         pub both_on : (reader2 : Reader) (next2 : Sorted) (after : Slots) → Comes (key Second) cmp (place Second) next2 (now.reader Second) reader2 mid after
             → Running (comm_by job cmp key) old (record { reader = both reader reader2; out = new; store = after }) (both next next2)
         both_on reader2 next2 after comes =
-            let n = goes (record { reader = put First reader now.reader; out = new; store = mid }) (put First next place) (put First w.n.now_ls r.ls) (put First (r.ls First) r.p) (put First w.n.bound r.b) sides1 keeps1 slots' Second step.second reader2 next2 after comes in
+            let n = goes (record { reader = put First reader now.reader; out = new; store = mid }) (put First next place) (put First w.n.now_ls r.ls)
+            (put First (r.ls First) r.p) (put First w.n.bound r.b) sides1 keeps1 slots' Second step.second reader2 next2 after comes in
             record {
               ls = put Second n.now_ls (put First w.n.now_ls r.ls);
               p = both (r.ls First) (r.ls Second);
               b = put Second n.bound (put First w.n.bound r.b);
-              sides = sides_go (record { reader = put First reader now.reader; out = new; store = mid }) (put First next place) (put First w.n.now_ls r.ls) (put First (r.ls First) r.p) (put First w.n.bound r.b) sides1 keeps1 slots' Second step.second reader2 next2 after n;
-              merging = merging_go (record { reader = put First reader now.reader; out = new; store = mid }) (put First next place) (put First w.n.now_ls r.ls) (put First (r.ls First) r.p) (put First w.n.bound r.b) sides1 keeps1 slots' Second step.second reader2 next2 after n (both (r.ls First) (r.ls Second)) new merging1;
-              keeps = keeps_on (record { reader = put First reader now.reader; out = new; store = mid }) (put First next place) (put First w.n.now_ls r.ls) (put First (r.ls First) r.p) (put First w.n.bound r.b) sides1 keeps1 slots' Second step.second reader2 next2 after n;
+              sides = sides_go (record { reader = put First reader now.reader; out = new; store = mid }) (put First next place) (put First w.n.now_ls r.ls)
+                  (put First (r.ls First) r.p) (put First w.n.bound r.b) sides1 keeps1 slots' Second step.second reader2 next2 after n;
+              merging = merging_go (record { reader = put First reader now.reader; out = new; store = mid }) (put First next place) (put First w.n.now_ls r.ls)
+                  (put First (r.ls First) r.p) (put First w.n.bound r.b) sides1 keeps1 slots' Second step.second reader2 next2 after n (both (r.ls First) (r.ls Second)) new merging1;
+              keeps = keeps_on (record { reader = put First reader now.reader; out = new; store = mid }) (put First next place) (put First w.n.now_ls r.ls)
+                  (put First (r.ls First) r.p) (put First w.n.bound r.b) sides1 keeps1 slots' Second step.second reader2 next2 after n;
             }
 
         -- what was staged could not be sent before the second input was read
-        pub both_unsent : (out : Output) → out.faulted ≡ false → Wrote old.out out (text job.end (by_keys (comm_by job cmp key) all_keys (both (r.ls First) (r.ls Second)))) → Wrote out new [] → new.faulted ≡ true → IsMerge (comm_by job cmp key) old (record { reader = put First reader now.reader; out = new; store = mid }) (Err Write)
+        pub both_unsent : (out : Output) → out.faulted ≡ false → Wrote old.out out
+            (text job.end (by_keys (comm_by job cmp key) all_keys (both (r.ls First) (r.ls Second)))) → Wrote out new [] → new.faulted ≡ true
+            → IsMerge (comm_by job cmp key) old (record { reader = put First reader now.reader; out = new; store = mid }) (Err Write)
         both_unsent out fine pushed sent fault =
-            unwritten (record { reader = put First reader now.reader; out = new; store = mid }) (put First next place) (put First w.n.now_ls r.ls) (put First (r.ls First) r.p) (put First w.n.bound r.b) sides1 keeps1 slots' (both (r.ls First) (r.ls Second)) new merging1 (late_none (comm_by job cmp key) (put First w.n.bound r.b) (both (r.ls First) (r.ls Second)) old.out out new fine pushed sent)
+            unwritten (record { reader = put First reader now.reader; out = new; store = mid }) (put First next place) (put First w.n.now_ls r.ls)
+            (put First (r.ls First) r.p) (put First w.n.bound r.b) sides1 keeps1 slots' (both (r.ls First) (r.ls Second)) new merging1
+            (late_none (comm_by job cmp key) (put First w.n.bound r.b) (both (r.ls First) (r.ls Second)) old.out out new fine pushed sent)
             (elim [
-              | First ↦ standing (record { reader = put First reader now.reader; out = new; store = mid }) (put First next place) (put First w.n.now_ls r.ls) (put First (r.ls First) r.p) (put First w.n.bound r.b) sides1 keeps1 slots' First
-              | Second ↦ passing_now (record { reader = put First reader now.reader; out = new; store = mid }) (put First next place) (put First w.n.now_ls r.ls) (put First (r.ls First) r.p) (put First w.n.bound r.b) sides1 keeps1 slots' Second step.second
+              | First ↦ standing (record { reader = put First reader now.reader; out = new; store = mid }) (put First next place) (put First w.n.now_ls r.ls)
+                  (put First (r.ls First) r.p) (put First w.n.bound r.b) sides1 keeps1 slots' First
+              | Second ↦ passing_now (record { reader = put First reader now.reader; out = new; store = mid }) (put First next place)
+                  (put First w.n.now_ls r.ls) (put First (r.ls First) r.p) (put First w.n.bound r.b) sides1 keeps1 slots' Second step.second
             ]) fault
 
-        pub both_unread_second : new.faulted ≡ false → (reader2 : Reader) (after : Slots) (fault : MergeFault) → CannotRead Second (place Second) (now.reader Second) reader2 mid after fault → IsMerge (comm_by job cmp key) old (record { reader = both reader reader2; out = new; store = after }) (Err fault)
+        pub both_unread_second : new.faulted ≡ false → (reader2 : Reader) (after : Slots) (fault : MergeFault)
+            → CannotRead Second (place Second) (now.reader Second) reader2 mid after fault
+            → IsMerge (comm_by job cmp key) old (record { reader = both reader reader2; out = new; store = after }) (Err fault)
         both_unread_second fine reader2 after fault moves =
-            unread (record { reader = put First reader now.reader; out = new; store = mid }) (put First next place) (put First w.n.now_ls r.ls) (put First (r.ls First) r.p) (put First w.n.bound r.b) sides1 keeps1 slots' Second step.second (both (r.ls First) (r.ls Second)) new fine merging1 refl
-            (standing (record { reader = put First reader now.reader; out = new; store = mid }) (put First next place) (put First w.n.now_ls r.ls) (put First (r.ls First) r.p) (put First w.n.bound r.b) sides1 keeps1 slots' First) reader2 after fault moves
+            unread (record { reader = put First reader now.reader; out = new; store = mid }) (put First next place) (put First w.n.now_ls r.ls)
+            (put First (r.ls First) r.p) (put First w.n.bound r.b) sides1 keeps1 slots' Second step.second (both (r.ls First) (r.ls Second)) new fine merging1 refl
+            (standing (record { reader = put First reader now.reader; out = new; store = mid }) (put First next place) (put First w.n.now_ls r.ls)
+            (put First (r.ls First) r.p) (put First w.n.bound r.b) sides1 keeps1 slots' First) reader2 after fault moves
 
     -- ---- the end
 
@@ -345,13 +384,26 @@ module _ (job : Comm) (cmp : Cmp) (key : Side → Key) (o : IsKeyOrder cmp) (old
       empty : total after.lines ≡ 0
       empty = omega (arith, clear.emptied, (has_lines_total now.store.lines (λ side. longest (r.ls side)) 0 r.keeps.lines).2)
 
-      concludes : (result : Result (Unit {0}) MergeFault) → Ends old (record { reader = now.reader; out = now.out; store = after }) result → Concludes (comm_by job cmp key) r.b result → IsMerge (comm_by job cmp key) old (record { reader = now.reader; out = now.out; store = after }) result
+      concludes : (result : Result (Unit {0}) MergeFault) → Ends old (record { reader = now.reader; out = now.out; store = after }) result
+          → Concludes (comm_by job cmp key) r.b result → IsMerge (comm_by job cmp key) old (record { reader = now.reader; out = now.out; store = after }) result
       concludes result ends at =
-          stops (comm_by job cmp key) o old (record { reader = now.reader; out = now.out; store = after }) now.reader (λ side. []) r.ls r.p r.b stand r.merging (late_none (comm_by job cmp key) r.b r.p old.out now.out now.out clean r.merging.wrote (wrote_nothing now.out)) result ends
+          stops (comm_by job cmp key) o old (record { reader = now.reader; out = now.out; store = after }) now.reader (λ side. []) r.ls r.p r.b stand r.merging
+          (late_none (comm_by job cmp key) r.b r.p old.out now.out now.out clean r.merging.wrote (wrote_nothing now.out)) result ends
           (λ side fail. absurd (false≢true (sym (went now place r.ls r.p r.b r.sides r.keeps slots side ∙ unfailed side) ∙ fail))) at
-          (λ all w. (omega (arith, clear.peak, (has_lines_total now.store.lines (λ side. longest (r.ls side)) 0 r.keeps.lines).1, r.keeps.peak, (w First).1, (w Second).1), omega (arith, clear.slots, r.keeps.slots)))
+          (λ all w. (
+            omega (
+              arith,
+              clear.peak,
+              (has_lines_total now.store.lines (λ side. longest (r.ls side)) 0 r.keeps.lines).1,
+              r.keeps.peak,
+              (w First).1,
+              (w Second).1,
+            ),
+            omega (arith, clear.slots, r.keeps.slots),
+          ))
 
-      pub ended : ((side : Side) → IsSound (old.reader side)) → ((side : Side) → (old.reader side).fault ≡ None) → ((side : Side) → (place side).stand ≡ Ended) → IsMerge (comm_by job cmp key) old (record { reader = now.reader; out = now.out; store = after }) (Ok tt)
+      pub ended : ((side : Side) → IsSound (old.reader side)) → ((side : Side) → (old.reader side).fault ≡ None) → ((side : Side) → (place side).stand ≡ Ended)
+          → IsMerge (comm_by job cmp key) old (record { reader = now.reader; out = now.out; store = after }) (Ok tt)
       ended sound readable step =
           let e = all_ended (comm_by job cmp key) old.reader now.reader place now.store r.ls r.p r.b r.sides step in
           concludes (Ok tt) (record {
@@ -364,7 +416,8 @@ module _ (job : Comm) (cmp : Cmp) (key : Side → Key) (o : IsKeyOrder cmp) (old
             empty = empty;
           }) (λ side. (e side).0)
 
-      pub fallen : (s : Side) (n : ℕ) → IsDecided cmp key place now.store s n → IsMerge (comm_by job cmp key) old (record { reader = now.reader; out = now.out; store = after }) (Err (faults.Disorder s n))
+      pub fallen : (s : Side) (n : ℕ) → IsDecided cmp key place now.store s n
+          → IsMerge (comm_by job cmp key) old (record { reader = now.reader; out = now.out; store = after }) (Err (faults.Disorder s n))
       fallen s n step = concludes (Err (faults.Disorder s n)) (record {
         fault = λ side. (r.sides side).got.goes.fault;
         failed = went now place r.ls r.p r.b r.sides r.keeps slots;

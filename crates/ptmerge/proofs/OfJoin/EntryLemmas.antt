@@ -1,5 +1,6 @@
 -- What is written of lines, field by field.
-use Rattle.std.proofs.Common.{◌≡◌, ℕ, zero, suc, ◌+◌, ◌-◌, ◌<◌, ◌≤◌, ◌==◌, Bool, true, false, cond, ◌||◌, ◌&&◌, List, [], ◌∷◌, ◌++◌, Option, None, Some, length, take, drop, get_or, map, refl, sym, ◌∙◌, ap, arith}
+use Rattle.std.proofs.Common.{◌≡◌, ℕ, zero, suc, ◌+◌, ◌-◌, ◌<◌, ◌≤◌, ◌==◌, Bool, true, false, cond, ◌||◌, ◌&&◌, List, [], ◌∷◌, ◌++◌, Option, None, Some, length}
+use Rattle.std.proofs.Common.{take, drop, get_or, map, refl, sym, ◌∙◌, ap, arith}
 use Rattle.std.specs.Prelude.{filter, remove, unwrap_or}
 use Rattle.std.specs.List.{slice_split, onto_first, join_with_byte}
 use Rattle.std.proofs.lemmas.Bool.{eqb-true}
@@ -45,7 +46,8 @@ pub others_rest : (byte n : ℕ) (fs more : Lines) (f : List ℕ) → n ≡ 0 �
 others_rest byte n fs more f last is = λ k. led byte (remove (is k) (last k))
 
 -- the entry without an output list, and with one
-pub entry_plain : (job : Join) (k : List ℕ) (fs1 fs2 : Lines) → job.list ≡ None → entry job k fs1 fs2 ≡ k ++ (led (between job.separator) (others job.field1 fs1) ++ led (between job.separator) (others job.field2 fs2))
+pub entry_plain : (job : Join) (k : List ℕ) (fs1 fs2 : Lines) → job.list ≡ None → entry job k fs1 fs2 ≡ k
+    ++ (led (between job.separator) (others job.field1 fs1) ++ led (between job.separator) (others job.field2 fs2))
 entry_plain job k fs1 fs2 none =
     ap (λ (l : Option (List OutField)). join_with_byte (between job.separator) (written job k fs1 fs2 l)) none ∙ join_led (between job.separator) k (others job.field1 fs1 ++ others job.field2 fs2)
     ∙ ap (λ (l : List ℕ). k ++ l) (led-append (between job.separator) (others job.field1 fs1) (others job.field2 fs2))
@@ -100,7 +102,8 @@ tidy_says false [] tidy = record { word = []; more = []; split = refl; is = refl
 tidy_says false (b ∷ bytes) tidy = by (b == 9) (b == 32) refl tidy (tidy_says false bytes) (tidy_says true bytes)
   where
     by : (tab space : Bool) → (b == 32) ≡ space → cond (tab || (false && space)) false (is_tidy space bytes) ≡ true → (is_tidy false bytes ≡ true → GoesOnBy (slice_split is_blank bytes) bytes)
-        → (is_tidy true bytes ≡ true → led 32 (filter has_bytes (slice_split is_blank bytes)) ≡ 32 ∷ bytes) → GoesOnBy (cond (space || tab) ([] ∷ slice_split is_blank bytes) (onto_first b (slice_split is_blank bytes))) (b ∷ bytes)
+        → (is_tidy true bytes ≡ true → led 32 (filter has_bytes (slice_split is_blank bytes)) ≡ 32 ∷ bytes)
+        → GoesOnBy (cond (space || tab) ([] ∷ slice_split is_blank bytes) (onto_first b (slice_split is_blank bytes))) (b ∷ bytes)
     by true space e h more words = cc
     by false true e h more words = record { word = []; more = slice_split is_blank bytes; split = refl; is = words h ∙ ap (λ (x : ℕ). x ∷ bytes) (sym (eqb-true b 32 e)) }
     by false false e h more words = let m = more h in record { word = b ∷ m.word; more = m.more; split = ap (onto_first b) m.split; is = ap (λ (l : List ℕ). b ∷ l) m.is }

@@ -1,5 +1,6 @@
 -- The fields of a line, one after another, and what is written of them.
-use Rattle.std.proofs.Common.{◌≡◌, ℕ, zero, suc, ◌+◌, ◌-◌, ◌<◌, ◌≤◌, ◌==◌, Bool, true, false, ltb, cond, List, [], ◌∷◌, Option, None, Some, length, drop, get_or, refl, sym, ◌∙◌, ap, subst, arith, min, ◌||◌}
+use Rattle.std.proofs.Common.{◌≡◌, ℕ, zero, suc, ◌+◌, ◌-◌, ◌<◌, ◌≤◌, ◌==◌, Bool, true, false, ltb, cond, List, [], ◌∷◌, Option, None, Some, length, drop}
+use Rattle.std.proofs.Common.{get_or, refl, sym, ◌∙◌, ap, subst, arith, min, ◌||◌}
 use Rattle.std.specs.Prelude.{filter, position, MatchOption}
 use Rattle.std.specs.List.{slice_split, position_or_len}
 use Rattle.std.proofs.lemmas.Bool.Decides.{nat_tests}
@@ -24,10 +25,12 @@ before i n h = grind (arith, nat_tests)
 
 pub found_at : (c : ℕ) (bytes : List ℕ) (r : Option ℕ) → IsFirstByte (is_byte c) bytes r → r ≡ position (ends_field (Some c)) bytes
 found_at c bytes None none =
-    let is : position_or_len (λ b. b == c) bytes ≡ length bytes = position_or_len_is (λ b. b == c) bytes (length bytes) 0 (omega arith) (λ k lt. not_true (get_or bytes k 0 == c) (none k (omega arith) lt)) (λ bad. absurd (omega (arith, bad))) in
+    let is : position_or_len (λ b. b == c) bytes ≡ length bytes = position_or_len_is (λ b. b == c) bytes (length bytes) 0 (omega arith)
+    (λ k lt. not_true (get_or bytes k 0 == c) (none k (omega arith) lt)) (λ bad. absurd (omega (arith, bad))) in
     sym (ap (λ i. cond (ltb i (length bytes)) (Some i) None) is ∙ ap (λ t. cond t (Some (length bytes)) None) (past (length bytes)))
 found_at c bytes (Some at) first =
-    let is : position_or_len (λ b. b == c) bytes ≡ at = position_or_len_is (λ b. b == c) bytes at 0 (omega (arith, first.0.high)) (λ k lt. not_true (get_or bytes k 0 == c) (first.0.before k (omega arith) lt)) (λ _. first.1) in
+    let is : position_or_len (λ b. b == c) bytes ≡ at = position_or_len_is (λ b. b == c) bytes at 0 (omega (arith, first.0.high))
+    (λ k lt. not_true (get_or bytes k 0 == c) (first.0.before k (omega arith) lt)) (λ _. first.1) in
     sym (ap (λ i. cond (ltb i (length bytes)) (Some i) None) is ∙ ap (λ t. cond t (Some at) None) (before at (length bytes) first.0.high))
 
 -- the first blank, by the first space and the first tab among the first 16 bytes
@@ -60,7 +63,8 @@ module _ (bytes : List ℕ) (room : 16 ≤ length bytes) where
 
   pub least_first : (a b : ℕ) → IsFirst (Passes (is_byte 32) bytes) 0 16 (Some a) → IsFirst (Passes (is_byte 9) bytes) 0 16 (Some b) → Some (min a b) ≡ position is_blank bytes
   least_first a b s t =
-      at_first (min a b) (omega (arith, s.0.high)) (λ k lt. neither (get_or bytes k 0) (s.0.before k (omega arith) (omega (arith, lt))) (t.0.before k (omega arith) (omega (arith, lt)))) (by (ltb b a) refl)
+      at_first (min a b) (omega (arith, s.0.high)) (λ k lt. neither (get_or bytes k 0) (s.0.before k (omega arith) (omega (arith, lt)))
+      (t.0.before k (omega arith) (omega (arith, lt)))) (by (ltb b a) refl)
     where
       by : (u : Bool) → ltb b a ≡ u → is_blank (get_or bytes (min a b) 0) ≡ true
       by true e = let is : min a b ≡ b = grind (arith, nat_tests) in is_tab (get_or bytes (min a b) 0) (ap (λ i. get_or bytes i 0 == 9) is ∙ t.1)

@@ -1,5 +1,6 @@
 -- Where the fields of a line stand in it.
-use Rattle.std.proofs.Common.{◌≡◌, ℕ, suc, ◌+◌, ◌-◌, ◌<◌, ◌==◌, Bool, true, false, cond, ltb, List, [], ◌∷◌, ◌++◌, Option, Some, None, length, take, drop, get_or, refl, sym, ◌∙◌, ap, subst, arith, append_assoc}
+use Rattle.std.proofs.Common.{◌≡◌, ℕ, suc, ◌+◌, ◌-◌, ◌<◌, ◌==◌, Bool, true, false, cond, ltb, List, [], ◌∷◌, ◌++◌, Option, Some, None, length, take, drop}
+use Rattle.std.proofs.Common.{get_or, refl, sym, ◌∙◌, ap, subst, arith, append_assoc}
 use Rattle.std.specs.Prelude.{IfSome, MatchOption, filter, is_some, position, unwrap_or}
 use Rattle.std.specs.List.{position_or_len, slice_split}
 use Rattle.std.proofs.Math.Seq.{drop-cons}
@@ -32,7 +33,11 @@ field_in (Some l) bytes field behind e p = piece_in l bytes field behind e p
 
 -- what is left behind a piece is the end of the line too
 pub end_behind : (line field left : List ℕ) → IsPiece line field (Some left) → EndOf line left
-end_behind line field left p = (p.front ++ (field ++ (p.ends.0 ∷ [])), p.is ∙ ap (λ (l : List ℕ). p.front ++ (field ++ l)) p.ends.1 ∙ ap (λ (l : List ℕ). p.front ++ l) (sym (append_assoc field (p.ends.0 ∷ []) left)) ∙ sym (append_assoc p.front (field ++ (p.ends.0 ∷ [])) left))
+end_behind line field left p = (
+  p.front ++ (field ++ (p.ends.0 ∷ [])),
+  p.is ∙ ap (λ (l : List ℕ). p.front ++ (field ++ l)) p.ends.1
+      ∙ ap (λ (l : List ℕ). p.front ++ l) (sym (append_assoc field (p.ends.0 ∷ []) left)) ∙ sym (append_assoc p.front (field ++ (p.ends.0 ∷ [])) left),
+)
 
 pub end_of_end : (line bytes left : List ℕ) → EndOf line bytes → EndOf bytes left → EndOf line left
 end_of_end line bytes left a b = (a.0 ++ b.0, a.1 ∙ ap (λ (l : List ℕ). a.0 ++ l) b.1 ∙ sym (append_assoc a.0 b.0 left))
@@ -60,7 +65,8 @@ low : (i n : ℕ) → ltb i n ≡ true → i < n
 low i n h = grind (arith, nat_tests)
 
 located : (p : ℕ → Bool) (bytes : List ℕ) (at : ℕ) → position p bytes ≡ Some at → at < length bytes
-located p bytes at h = let t = some_when (ltb (position_or_len p bytes) (length bytes)) (position_or_len p bytes) at h in subst (λ (n : ℕ). n < length bytes) t.1 (low (position_or_len p bytes) (length bytes) t.0)
+located p bytes at h = let t = some_when (ltb (position_or_len p bytes) (length bytes)) (position_or_len p bytes) at h in subst
+    (λ (n : ℕ). n < length bytes) t.1 (low (position_or_len p bytes) (length bytes) t.0)
 
 -- the bytes in front of the first one that passes, with those behind it left
 pub piece_at : (p : ℕ → Bool) (bytes : List ℕ) (at : ℕ) → position p bytes ≡ Some at → IsPiece bytes (take at bytes) (Some (take (length bytes - (at + 1)) (drop (at + 1) bytes)))
@@ -94,7 +100,8 @@ word_dropped : (field : List ℕ) (fs : List (List ℕ)) → has_bytes field ≡
 word_dropped field fs none = ap (λ (t : Bool). cond t (field ∷ filter has_bytes fs) (filter has_bytes fs)) none
 
 pub word_passed : (separator : Option ℕ) (bytes field : List ℕ) (behind : Option (List ℕ)) → is_some separator ≡ false → (length field == 0) ≡ true
-    → MatchOption behind (slice_split (ends_field separator) bytes ≡ field ∷ []) (λ left. slice_split (ends_field separator) bytes ≡ field ∷ slice_split (ends_field separator) left) → fields_left separator behind ≡ fields_left separator (Some bytes)
+    → MatchOption behind (slice_split (ends_field separator) bytes ≡ field ∷ [])
+    (λ left. slice_split (ends_field separator) bytes ≡ field ∷ slice_split (ends_field separator) left) → fields_left separator behind ≡ fields_left separator (Some bytes)
 word_passed (Some c) bytes field behind none empty first = absurd (false≢true (sym none))
 word_passed None bytes field None none empty first = sym (ap (filter has_bytes) first ∙ word_dropped field [] (empty_word field empty))
 word_passed None bytes field (Some left) none empty first = sym (ap (filter has_bytes) first ∙ word_dropped field (slice_split is_blank left) (empty_word field empty))

@@ -1,5 +1,6 @@
 -- The slots of a group of lines.
-use Rattle.std.proofs.Common.{◌≡◌, ◌⊎◌, inl, inr, ℕ, ◌+◌, ◌-◌, ◌≤◌, ◌<◌, Bool, true, false, length-drop, List, [], ◌∷◌, ◌++◌, length, map, take, drop, get_or, set, max, refl, sym, ap, ◌∙◌, subst, arith}
+use Rattle.std.proofs.Common.{◌≡◌, ◌⊎◌, inl, inr, ℕ, ◌+◌, ◌-◌, ◌≤◌, ◌<◌, Bool, true, false, length-drop, List, [], ◌∷◌, ◌++◌, length, map, take, drop, get_or}
+use Rattle.std.proofs.Common.{set, max, refl, sym, ap, ◌∙◌, subst, arith}
 use Rattle.std.proofs.lemmas.List.{append-nil, length-set, length-take-le, drop_more, get_or-take, get_or-drop, drop-set-add, take_more, length_push, drop_all}
 use Rattle.std.specs.Prelude.{nat_lt}
 use Rattle.std.proofs.lemmas.Bool.{ltb-false, ltb-true}
@@ -22,11 +23,13 @@ group_from store end slot fits from low =
     let at : (slot - 4) < (end - 4) = omega arith in
     let next : (slot - 4) + 1 ≡ (slot + 1) - 4 = omega arith in
     let back : 4 + (slot - 4) ≡ slot = omega arith in
-    let is : get_or (take (end - 4) rest) (slot - 4) [] ≡ line store slot = get_or-take (end - 4) rest (slot - 4) [] at ∙ get_or-drop 4 store.lines (slot - 4) [] ∙ ap (λ i. get_or store.lines i []) back in
+    let is : get_or (take (end - 4) rest) (slot - 4) [] ≡ line store slot = get_or-take (end - 4) rest (slot - 4) [] at
+    ∙ get_or-drop 4 store.lines (slot - 4) [] ∙ ap (λ i. get_or store.lines i []) back in
     drop_more (take (end - 4) rest) (slot - 4) [] (omega (arith, length-take-le (end - 4) rest count)) ∙ (λ i. is i ∷ drop (next i) (take (end - 4) rest))
 
 pub group_end : (store : Slots) (end slot : ℕ) → end ≤ length store.lines → end ≤ slot → drop (slot - 4) (group store end) ≡ []
-group_end store end slot fits past = drop_all (slot - 4) (take (end - 4) (drop 4 store.lines)) (omega (arith, length-drop 4 store.lines, length-take-le (end - 4) (drop 4 store.lines) (omega (arith, length-drop 4 store.lines))))
+group_end store end slot fits past = drop_all (slot - 4) (take (end - 4) (drop 4 store.lines))
+    (omega (arith, length-drop 4 store.lines, length-take-le (end - 4) (drop 4 store.lines) (omega (arith, length-drop 4 store.lines))))
 
 pub group_more : (store : Slots) (end : ℕ) → 4 ≤ end → end < length store.lines → group store (end + 1) ≡ group store end ++ line store end ∷ []
 group_more store end from within =
@@ -99,7 +102,8 @@ added_total s = omega (arith, sum_by_push length s.lines [])
 pub grown_slots : (before made : Slots) (slot : ℕ) → IsGrown before made slot → (length before.lines ≤ length made.lines) × (length made.lines ≤ max (length before.lines) (slot + 1))
 grown_slots before made slot g = by g.grown (nat_lt slot (length before.lines)) refl
   where
-    by : (made ≡ before) ⊎ (made ≡ with_added before) → (b : Bool) → nat_lt slot (length before.lines) ≡ b → (length before.lines ≤ length made.lines) × (length made.lines ≤ max (length before.lines) (slot + 1))
+    by : (made ≡ before) ⊎ (made ≡ with_added before) → (b : Bool) → nat_lt slot (length before.lines) ≡ b → (length before.lines ≤ length made.lines)
+        × (length made.lines ≤ max (length before.lines) (slot + 1))
     by (inl e) b is = let same = ap (λ (s : Slots). length s.lines) e in (omega (arith, same), omega (arith, same))
     by (inr e) true is = let same = ap (λ (s : Slots). length s.lines) (g.there (ltb-true slot (length before.lines) is)) in (omega (arith, same), omega (arith, same))
     by (inr e) false is =
@@ -108,7 +112,13 @@ grown_slots before made slot g = by g.grown (nat_lt slot (length before.lines)) 
         (omega (arith, more), omega (arith, more, past))
 
 pub refused_copy : (before made : Slots) (to : ℕ) → IsGrown before made to → IsRefused before (with_denied (with_line made to [])) to
-refused_copy before made to g = record { denied = refl; most = omega (arith, length-set made.lines to [], grown_slots before made to g); slots = omega (arith, length-set made.lines to [], (facts g.grown).0); peak = omega (arith, (facts g.grown).1, (facts g.grown).2, total_set made.lines to [] g.within) }
+refused_copy before made to g = record {
+  denied = refl;
+  most = omega (arith, length-set made.lines to [], grown_slots before made to g);
+  slots = omega
+      (arith, length-set made.lines to [], (facts g.grown).0);
+  peak = omega (arith, (facts g.grown).1, (facts g.grown).2, total_set made.lines to [] g.within);
+}
   where
     facts : (made ≡ before) ⊎ (made ≡ with_added before) → (length before.lines ≤ length made.lines) × (total made.lines ≡ total before.lines) × (made.peak ≡ before.peak)
     facts (inl e) = (omega (arith, ap (λ (s : Slots). length s.lines) e), ap (λ (s : Slots). total s.lines) e, ap (λ (s : Slots). s.peak) e)

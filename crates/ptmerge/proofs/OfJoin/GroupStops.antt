@@ -56,21 +56,26 @@ pub record Within (tool : Tool) (was mid : Output) (p g : Side → Lines) (d : S
 
 -- these entries are a beginning of the group's, whatever comes
 abbrev pub StartsWith : Tool → (Side → Lines) → (Side → Bound) → List ℕ → Lines → Type 0
-StartsWith tool g d k extra = (w : List ℕ → Bool) (r : Side → Lines) → ((side : Side) → Coming tool.cmp (tool.key side) (d side) (r side)) → w k ≡ true → (rest : Lines) × (by_keys tool w (λ side. g side ++ r side) ≡ extra ++ rest)
+StartsWith tool g d k extra = (w : List ℕ → Bool) (r : Side → Lines) → ((side : Side) → Coming tool.cmp (tool.key side) (d side) (r side)) → w k ≡ true
+    → (rest : Lines) × (by_keys tool w (λ side. g side ++ r side) ≡ extra ++ rest)
 
 module _ (tool : Tool) (o : IsKeyOrder tool.cmp) (old new : State) (now : Side → Reader) (piece : Side → List ℕ) (mid : Output) (ls p g : Side → Lines) (d : Side → Bound) (k : List ℕ) (extra : Lines)
-    (gone : (side : Side) → Gone tool.end tool.cmp (tool.key side) (old.reader side) (now side) (new.reader side) (piece side) (ls side) (p side ++ g side) (d side)) (m : Within tool old.out mid p g d k)
+    (gone : (side : Side) → Gone tool.end tool.cmp (tool.key side) (old.reader side) (now side) (new.reader side) (piece side) (ls side) (p side ++ g side)
+    (d side)) (m : Within tool old.out mid p g d k)
     (wrote : Wrote mid new.out (text tool.end extra)) (starts : StartsWith tool g d k extra) where
   abbrev given : Side → Given
   given side = given_of ((gone side).got.given ++ piece side) (new.reader side)
 
   behind : (r : Side → Lines) → ((side : Side) → Coming tool.cmp (tool.key side) (d side) (r side)) → (side : Side) → EachKey (AtMost tool.cmp k) (tool.key side) (g side ++ r side)
   behind r c side =
-      EachKey-append (AtMost tool.cmp k) (tool.key side) (g side) (r side) (EachKey-weaker (λ x. x ≡ k) (AtMost tool.cmp k) (λ x e. subst (AtMost tool.cmp k) (sym e) (self_at_most tool.cmp o k)) (tool.key side) (g side) (m.own side)) (m.beyond side (r side) (c side))
+      EachKey-append (AtMost tool.cmp k) (tool.key side) (g side) (r side)
+      (EachKey-weaker (λ x. x ≡ k) (AtMost tool.cmp k) (λ x e. subst (AtMost tool.cmp k) (sym e) (self_at_most tool.cmp o k)) (tool.key side) (g side)
+      (m.own side)) (m.beyond side (r side) (c side))
 
   -- of two lists that go on so: what is in order, and what falls
   module _ (all : Side → Lines) (more : (side : Side) → More (now side) (ls side) (all side)) where
-    future : (side : Side) → (r : Lines) × (ordered_part tool.cmp (tool.key side) (ls side ++ (more side).more) ≡ (p side ++ g side) ++ r) × Coming tool.cmp (tool.key side) (d side) r × Falling tool.cmp (d side) (fall tool.cmp (tool.key side) (ls side ++ (more side).more))
+    future : (side : Side) → (r : Lines) × (ordered_part tool.cmp (tool.key side) (ls side ++ (more side).more) ≡ (p side ++ g side) ++ r)
+        × Coming tool.cmp (tool.key side) (d side) r × Falling tool.cmp (d side) (fall tool.cmp (tool.key side) (ls side ++ (more side).more))
     future side = (gone side).reaches.future (more side).more (follows (d side) (more side).more (λ e. (more side).done ((gone side).over e)))
 
     falling : (side : Side) → Falling tool.cmp (d side) (fall tool.cmp (tool.key side) (all side))
@@ -100,11 +105,13 @@ module _ (tool : Tool) (o : IsKeyOrder tool.cmp) (old new : State) (now : Side �
         let dec = is_decided tool ended all in
         let rest = down_begins tool o dec (down_decided tool o ended all) p in
         let none : by_keys tool dec (λ side. g side ++ (future side).0) ≡ [] = none_wanted tool dec (λ side. g side ++ (future side).0) (λ side.
-        EachKey-weaker (AtMost tool.cmp k) (λ x. dec x ≡ false) (λ x h. not_decided tool o ended all of x (past x ∙ not_below tool.cmp o x k h)) (tool.key side) (g side ++ (future side).0) (behind (λ s. (future s).0) (λ s. (future s).2) side)) in
+        EachKey-weaker (AtMost tool.cmp k) (λ x. dec x ≡ false) (λ x h. not_decided tool o ended all of x (past x ∙ not_below tool.cmp o x k h))
+        (tool.key side) (g side ++ (future side).0) (behind (λ s. (future s).0) (λ s. (future s).2) side)) in
         let known : decided_entries tool ended all ≡ by_keys tool dec p = parts dec ∙ ap (λ l. by_keys tool dec p ++ l) none ∙ append-nil (by_keys tool dec p) in
         record {
           rest = text tool.end (rest.0 ++ extra);
-          is = ap (text tool.end) (ap (λ l. l ++ extra) rest.1 ∙ append_assoc (by_keys tool dec p) rest.0 extra ∙ ap (λ l. l ++ (rest.0 ++ extra)) (sym known)) ∙ text-append tool.end (decided_entries tool ended all) (rest.0 ++ extra);
+          is = ap (text tool.end) (ap (λ l. l ++ extra) rest.1 ∙ append_assoc (by_keys tool dec p) rest.0 extra ∙ ap (λ l. l ++ (rest.0 ++ extra)) (sym known))
+              ∙ text-append tool.end (decided_entries tool ended all) (rest.0 ++ extra);
         }
       where
         past : (x : List ℕ) → is_past tool.cmp (tool.key of) (ended of) (all of) x ≡ is_lt (tool.cmp x k)
@@ -113,7 +120,8 @@ module _ (tool : Tool) (o : IsKeyOrder tool.cmp) (old new : State) (now : Side �
   known : (side : Side) → Known tool.end (old.reader side) (now side) (new.reader side) (ls side) (piece side) (gone side).got (gone side).reads (gone side).line (whole_lines tool.end (given side))
   known side = got_known tool.end (old.reader side) (now side) (new.reader side) (ls side) (piece side) (gone side).got (gone side).reads (gone side).line
 
-  input_lines : (input : Side → List ℕ) → Agree given input → (side : Side) → More (now side) (ls side) (lines tool.end (input side)) × (max (longest (ls side)) (length (piece side)) ≤ longest (lines tool.end (input side)))
+  input_lines : (input : Side → List ℕ) → Agree given input → (side : Side) → More (now side) (ls side) (lines tool.end (input side))
+      × (max (longest (ls side)) (length (piece side)) ≤ longest (lines tool.end (input side)))
   input_lines input a side = got_lines tool.end (old.reader side) (now side) (new.reader side) (ls side) (piece side) (gone side).got (gone side).reads (gone side).line (input side) (a side)
 
   -- what was decided two blocks earlier of one input was pushed
@@ -124,14 +132,16 @@ module _ (tool : Tool) (o : IsKeyOrder tool.cmp) (old new : State) (now : Side �
     abbrev whole : Side → Lines
     whole side = whole_lines tool.end (given side)
 
-    next : (side : Side) → (r : Lines) × (ordered_part tool.cmp (tool.key side) (whole_lines tool.end (given side)) ≡ (p side ++ g side) ++ r) × EachKey (AtMost tool.cmp k) (tool.key side) (g side ++ r)
+    next : (side : Side) → (r : Lines) × (ordered_part tool.cmp (tool.key side) (whole_lines tool.end (given side)) ≡ (p side ++ g side) ++ r)
+        × EachKey (AtMost tool.cmp k) (tool.key side) (g side ++ r)
     next side =
         let f = future (λ s. whole_lines tool.end (given s)) (λ s. (known s).known) in
         ((f side).0, ap (ordered_part tool.cmp (tool.key side)) (known side).known.is ∙ (f side).1, behind (λ s. (f s).0) (λ s. (f s).2) side)
 
     backs : (side : Side) → Back tool.end (given side) (p side ++ g side)
     backs side =
-        back tool.end (gone side).got.given (piece side) (ls side) (p side ++ g side) (now side) (new.reader side) (gone side).got.so_far (subst (λ (e : ℕ). IsLine e (piece side)) (gone side).got.ending (gone side).line) (gone side).sound.held (gone side).near
+        back tool.end (gone side).got.given (piece side) (ls side) (p side ++ g side) (now side) (new.reader side) (gone side).got.so_far
+        (subst (λ (e : ℕ). IsLine e (piece side)) (gone side).got.ending (gone side).line) (gone side).sound.held (gone side).near
 
     under : (t side : Side) → EachKey (λ x. AtMost tool.cmp x k) (tool.key side) (p side ++ g side)
     under t side =
@@ -142,7 +152,9 @@ module _ (tool : Tool) (o : IsKeyOrder tool.cmp) (old new : State) (now : Side �
     works = works_off tool o given p (λ side. p side ++ g side) g (λ side. From k) backs (λ side. refl) under next of
 
     keeps : Keeps (text tool.end (by_keys tool all_keys p ++ extra))
-    keeps = subst Keeps (sym (text-append tool.end (by_keys tool all_keys p) extra)) (keeps_more (λ came. decided tool (put of (came tt) given)) (λ u. given of) old.out mid (text tool.end (by_keys tool all_keys p)) works m.merging.wrote m.clean new.out (text tool.end extra) wrote)
+    keeps = subst Keeps (sym (text-append tool.end (by_keys tool all_keys p) extra))
+        (keeps_more (λ came. decided tool (put of (came tt) given)) (λ u. given of) old.out mid
+        (text tool.end (by_keys tool all_keys p)) works m.merging.wrote m.clean new.out (text tool.end extra) wrote)
 
     -- nor was a disorder settled
     ends_by : (before : Before (given of)) × (settled tool (put of before.earlier given) ≡ false)
@@ -150,13 +162,17 @@ module _ (tool : Tool) (o : IsKeyOrder tool.cmp) (old new : State) (now : Side �
         let falls = falling (λ s. whole_lines tool.end (given s)) (λ s. (known s).known) in
         unsettled tool o given p (λ side. p side ++ g side) g (λ side. From k) backs (λ side. refl) under next of
         (EachKey-weaker (λ x. AtMost tool.cmp x k) (λ x. FallFrom tool.cmp x (fall tool.cmp (tool.key (other of)) (whole_lines tool.end (given (other of)))))
-        (λ x h. under_fall tool.cmp o (d (other of)) x (fall tool.cmp (tool.key (other of)) (whole_lines tool.end (given (other of)))) (under_down tool.cmp o (d (other of)) x k h (m.under (other of))) (falls (other of))) (tool.key of) (p of ++ g of) (under of of))
+        (λ x h. under_fall tool.cmp o (d (other of)) x (fall tool.cmp (tool.key (other of)) (whole_lines tool.end (given (other of))))
+        (under_down tool.cmp o (d (other of)) x k h (m.under (other of))) (falls (other of))) (tool.key of) (p of ++ g of) (under of of))
 
-  pub halts : (fault : MergeFault) → Ends old new (Err fault) → ((side : Side) → (new.reader side).failed ≡ true → FailsIn tool.cmp (tool.key side) k (new.reader side) (ls side)) → ((input : Side → List ℕ) (pushed : List ℕ) → IsWhole tool input pushed (Err fault))
-      → ((all : Side → Lines) → ((side : Side) → More (now side) (ls side) (all side) × (max (longest (ls side)) (length (piece side)) ≤ longest (all side))) → FitsIn tool old.store new.store all) → IsMerge tool old new (Err fault)
+  pub halts : (fault : MergeFault) → Ends old new (Err fault) → ((side : Side) → (new.reader side).failed ≡ true
+      → FailsIn tool.cmp (tool.key side) k (new.reader side) (ls side)) → ((input : Side → List ℕ) (pushed : List ℕ) → IsWhole tool input pushed (Err fault))
+      → ((all : Side → Lines) → ((side : Side) → More (now side) (ls side) (all side) × (max (longest (ls side)) (length (piece side)) ≤ longest (all side)))
+      → FitsIn tool old.store new.store all) → IsMerge tool old new (Err fault)
   halts fault ends failed whole fits = record {
     given = given;
-    came = λ side. came_of (old.reader side) (new.reader side) ((gone side).got.given ++ piece side) (reads_trans (old.reader side) (now side) (new.reader side) (gone side).got.given (piece side) (gone side).got.goes.reads (gone side).reads);
+    came = λ side. came_of (old.reader side) (new.reader side) ((gone side).got.given ++ piece side)
+        (reads_trans (old.reader side) (now side) (new.reader side) (gone side).got.given (piece side) (gone side).got.goes.reads (gone side).reads);
     pushed = text tool.end (by_keys tool all_keys p ++ extra);
     wrote = subst (λ (t : List ℕ). Wrote old.out new.out t) (sym (text-append tool.end (by_keys tool all_keys p) extra))
         (wrote_trans old.out mid new.out (text tool.end (by_keys tool all_keys p)) (text tool.end extra) m.clean m.merging.wrote wrote);
@@ -167,7 +183,8 @@ module _ (tool : Tool) (o : IsKeyOrder tool.cmp) (old new : State) (now : Side �
     sure = λ side fail clean.
         let f = failed side fail in
         let exact = (known side).exact f.held f.ended in
-        sure_is (λ s. whole_lines tool.end (given s)) (λ s. (known s).known) (λ s. (new.reader s).ended) side f.ended (ap (fall tool.cmp (tool.key side)) exact ∙ f.rises) (ap (λ (l : Lines). last_or None (map (tool.key side) l)) exact ∙ f.last);
+        sure_is (λ s. whole_lines tool.end (given s)) (λ s. (known s).known) (λ s. (new.reader s).ended) side f.ended
+        (ap (fall tool.cmp (tool.key side)) exact ∙ f.rises) (ap (λ (l : Lines). last_or None (map (tool.key side) l)) exact ∙ f.last);
     keeps_up = λ side clean. keeps side;
     ends_at_once = λ side clean. ends_by side;
     peak = λ input a. (fits (lines_of tool input) (input_lines input a)).0;

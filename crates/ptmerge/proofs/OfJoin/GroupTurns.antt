@@ -1,5 +1,6 @@
 -- A group of lines of one key: its lines are gathered, paired and closed.
-use Rattle.std.proofs.Common.{◌≡◌, ◌⊎◌, ⊎_elim, inl, inr, ℕ, ◌+◌, ◌*◌, ◌≤◌, ◌<◌, Bool, true, false, cond, List, [], ◌∷◌, ◌++◌, Option, Some, None, Err, length, map, max, refl, sym, ◌∙◌, ap, subst, arith, append_assoc}
+use Rattle.std.proofs.Common.{◌≡◌, ◌⊎◌, ⊎_elim, inl, inr, ℕ, ◌+◌, ◌*◌, ◌≤◌, ◌<◌, Bool, true, false, cond, List, [], ◌∷◌, ◌++◌, Option, Some, None, Err, length}
+use Rattle.std.proofs.Common.{map, max, refl, sym, ◌∙◌, ap, subst, arith, append_assoc}
 use Rattle.std.specs.List.{last_or}
 use Rattle.std.proofs.lemmas.Bool.{false≢true}
 use Rattle.std.proofs.lemmas.List.{append-nil}
@@ -51,10 +52,12 @@ last_push key d (y ∷ q) x = last_push key (Some (key y)) q x
 
 -- ---- what is written of a group
 
-module _ (tool : Tool) (o : IsKeyOrder tool.cmp) (pairs : List ℕ → Lines → Lines → Lines) (laws : IsPairing tool pairs) (k : List ℕ) (g : Side → Lines) (own : (side : Side) → EachKey (λ x. x ≡ k) (tool.key side) (g side)) where
+module _ (tool : Tool) (o : IsKeyOrder tool.cmp) (pairs : List ℕ → Lines → Lines → Lines) (laws : IsPairing tool pairs) (k : List ℕ) (g : Side → Lines)
+    (own : (side : Side) → EachKey (λ x. x ≡ k) (tool.key side) (g side)) where
   -- a group in front of lines of no lesser keys
   front : (w : List ℕ → Bool) (r : Side → Lines) → ((side : Side) → EachKey (AtMost tool.cmp k) (tool.key side) (r side))
-      → by_keys tool w (λ side. g side ++ r side) ≡ cond (w k) (tool.entries k (g First ++ with_key (tool.key First) (r First) k) (g Second ++ with_key (tool.key Second) (r Second) k)) [] ++ by_keys tool w (others_of tool o k r)
+      → by_keys tool w (λ side. g side ++ r side) ≡ cond (w k) (tool.entries k (g First ++ with_key (tool.key First) (r First) k)
+      (g Second ++ with_key (tool.key Second) (r Second) k)) [] ++ by_keys tool w (others_of tool o k r)
   front w r beyond =
       let in_front = λ (side : Side). with_key-front tool o (tool.key side) k (g side) (r side) (own side) in
       least_first tool o w k (λ side. g side ++ r side) (λ side. at_most-same tool o (tool.key side) k (g side) (r side) (own side) (beyond side)) (laws.alone.none k)
@@ -66,7 +69,8 @@ module _ (tool : Tool) (o : IsKeyOrder tool.cmp) (pairs : List ℕ → Lines →
   starts_pairs (a ∷ f) c [] some = absurd (omega (arith, some))
   starts_pairs (a ∷ f) c (b ∷ s) some = (pairs k c (b ∷ s), laws.whole k a b (f ++ c) s ∙ laws.more k (a ∷ f) c (b ∷ s))
 
-  pub starts : (d : Side → Bound) → ((side : Side) (r : Lines) → Coming tool.cmp (tool.key side) (d side) r → EachKey (AtMost tool.cmp k) (tool.key side) r) → (g First ≡ []) ⊎ ((0 < length (g Second)) × IsAbove tool.cmp (tool.key Second) k (d Second))
+  pub starts : (d : Side → Bound) → ((side : Side) (r : Lines) → Coming tool.cmp (tool.key side) (d side) r → EachKey (AtMost tool.cmp k) (tool.key side) r)
+      → (g First ≡ []) ⊎ ((0 < length (g Second)) × IsAbove tool.cmp (tool.key Second) k (d Second))
       → StartsWith tool g d k (pairs k (g First) (g Second))
   starts d beyond (inl none) w r c wanted =
       (by_keys tool w (λ side. g side ++ r side), ap (λ l. l ++ by_keys tool w (λ side. g side ++ r side)) (sym (ap (λ (l : Lines). pairs k l (g Second)) none ∙ laws.none k (g Second))))
@@ -75,7 +79,8 @@ module _ (tool : Tool) (o : IsKeyOrder tool.cmp) (pairs : List ℕ → Lines →
       let s = starts_pairs (g First) (with_key (tool.key First) (r First) k) (g Second) above.0 in (
         s.0 ++ by_keys tool w (others_of tool o k r),
         front w r (λ side. beyond side (r side) (c side))
-            ∙ (λ i. cond (wanted i) (tool.entries k (g First ++ with_key (tool.key First) (r First) k) ((ap (λ (l : Lines). g Second ++ l) none ∙ append-nil (g Second)) i)) [] ++ by_keys tool w (others_of tool o k r))
+            ∙ (λ i. cond (wanted i) (tool.entries k (g First ++ with_key (tool.key First) (r First) k)
+            ((ap (λ (l : Lines). g Second ++ l) none ∙ append-nil (g Second)) i)) [] ++ by_keys tool w (others_of tool o k r))
             ∙ ap (λ l. l ++ by_keys tool w (others_of tool o k r)) s.1 ∙ append_assoc (pairs k (g First) (g Second)) s.0 (by_keys tool w (others_of tool o k r)),
       )
 
@@ -85,7 +90,8 @@ module _ (tool : Tool) (o : IsKeyOrder tool.cmp) (pairs : List ℕ → Lines →
   own_entries (a ∷ f) (b ∷ s) some1 some2 = laws.whole k a b f s
 
   -- a group behind which only greater keys come
-  pub closes : (d : Side → Bound) (p : Side → Lines) (was mid is : Output) → Within tool was mid p g d k → ((side : Side) → 0 < length (g side)) → ((side : Side) → IsAbove tool.cmp (tool.key side) k (d side)) → Wrote mid is (text tool.end (pairs k (g First) (g Second)))
+  pub closes : (d : Side → Bound) (p : Side → Lines) (was mid is : Output) → Within tool was mid p g d k → ((side : Side) → 0 < length (g side))
+      → ((side : Side) → IsAbove tool.cmp (tool.key side) k (d side)) → Wrote mid is (text tool.end (pairs k (g First) (g Second)))
       → Merging tool d (λ side. p side ++ g side) was is
   closes d p was mid is m some above wrote =
       record {
@@ -110,27 +116,31 @@ module _ (tool : Tool) (o : IsKeyOrder tool.cmp) (pairs : List ℕ → Lines →
       greater_is : (w : List ℕ → Bool) (r : Side → Lines) → ((side : Side) → Coming tool.cmp (tool.key side) (d side) (r side)) → by_keys tool w r ≡ by_keys tool w (others_of tool o k r)
       greater_is w r c =
           least_first tool o w k r (λ side. m.beyond side (r side) (c side)) (laws.alone.none k)
-          ∙ (λ i. cond (w k) (tool.entries k (with_key-above tool o (tool.key First) k (r First) (above First (r First) (c First)) i) (with_key-above tool o (tool.key Second) k (r Second) (above Second (r Second) (c Second)) i)) [] ++ by_keys tool w (others_of tool o k r))
+          ∙ (λ i. cond (w k) (tool.entries k (with_key-above tool o (tool.key First) k (r First) (above First (r First) (c First)) i)
+          (with_key-above tool o (tool.key Second) k (r Second) (above Second (r Second) (c Second)) i)) [] ++ by_keys tool w (others_of tool o k r))
           ∙ ap (λ l. l ++ by_keys tool w (others_of tool o k r)) (nothing (w k))
         where
           nothing : (t : Bool) → cond t (tool.entries k [] []) [] ≡ []
           nothing true = laws.alone.none k
           nothing false = refl
 
-      splits_off : (w : List ℕ → Bool) (r : Side → Lines) → ((side : Side) → Coming tool.cmp (tool.key side) (d side) (r side)) → by_keys tool w (λ side. g side ++ r side) ≡ by_keys tool w g ++ by_keys tool w r
+      splits_off : (w : List ℕ → Bool) (r : Side → Lines) → ((side : Side) → Coming tool.cmp (tool.key side) (d side) (r side))
+          → by_keys tool w (λ side. g side ++ r side) ≡ by_keys tool w g ++ by_keys tool w r
       splits_off w r c =
           front w r (λ side. m.beyond side (r side) (c side)) ∙ (λ i. cond (w k) (tool.entries k (none r c First i) (none r c Second i)) [] ++ by_keys tool w (others_of tool o k r))
           ∙ (λ i. sym (alone_is w) i ++ sym (greater_is w r c) i)
 
       all : by_keys tool all_keys (λ side. p side ++ g side) ≡ by_keys tool all_keys p ++ pairs k (g First) (g Second)
       all =
-          m.merging.splits.split all_keys g (λ side. EachKey-weaker (λ x. x ≡ k) (AtMost tool.cmp k) (λ x e. subst (AtMost tool.cmp k) (sym e) (self_at_most tool.cmp o k)) (tool.key side) (g side) (own side))
+          m.merging.splits.split all_keys g (λ side. EachKey-weaker (λ x. x ≡ k) (AtMost tool.cmp k)
+          (λ x e. subst (AtMost tool.cmp k) (sym e) (self_at_most tool.cmp o k)) (tool.key side) (g side) (own side))
           ∙ ap (λ l. by_keys tool all_keys p ++ l) (alone_is all_keys ∙ own_entries (g First) (g Second) (some First) (some Second))
 
 -- ---- where a group stands
 
 -- an input is past the lines of the key k where it stands at no line with it
-pub past_group : (cmp : Cmp) (o : IsKeyOrder cmp) (key : Key) (k : List ℕ) (stand : Stand) (place : Sorted) (store : Slots) (now : Reader) (ls p : Lines) (b : Bound) → Stands cmp key stand place store now ls p b → Under cmp b k → (stand ≡ Head → ¬ (key (line store place.standing) ≡ k)) → IsAbove cmp key k b
+pub past_group : (cmp : Cmp) (o : IsKeyOrder cmp) (key : Key) (k : List ℕ) (stand : Stand) (place : Sorted) (store : Slots) (now : Reader) (ls p : Lines)
+    (b : Bound) → Stands cmp key stand place store now ls p b → Under cmp b k → (stand ≡ Head → ¬ (key (line store place.standing) ≡ k)) → IsAbove cmp key k b
 past_group cmp o key k Head place store now ls p b st under other =
     let head = key (line store place.standing) in
     let at_most : AtMost cmp k head = subst (λ d. Under cmp d k) st.2 under in
@@ -139,7 +149,8 @@ past_group cmp o key k Head place store now ls p b st under other =
 past_group cmp o key k Ended place store now ls p b st under other = subst (λ d. IsAbove cmp key k d) (sym st.0) (λ r none. subst (EachKey (Above cmp k) key) (sym none) tt)
 past_group cmp o key k (Disorder n) place store now ls p b st under other = subst (λ d. IsAbove cmp key k d) (sym st) (λ r none. subst (EachKey (Above cmp k) key) (sym none) tt)
 
-module _ (tool : Tool) (o : IsKeyOrder tool.cmp) (pairs : List ℕ → Lines → Lines → Lines) (laws : IsPairing tool pairs) (old : State) (unfailed : (side : Side) → (old.reader side).failed ≡ false) where
+module _ (tool : Tool) (o : IsKeyOrder tool.cmp) (pairs : List ℕ → Lines → Lines → Lines) (laws : IsPairing tool pairs) (old : State)
+    (unfailed : (side : Side) → (old.reader side).failed ≡ false) where
   -- the group g of the key k, whose entries so far were pushed; its second input's lines end in front of this slot
   pub record Grouped (now : State) (place : Side → Sorted) (end : ℕ) (k : List ℕ) (g : Side → Lines) : Type 0 where
     pub ls : Side → Lines
@@ -193,27 +204,35 @@ module _ (tool : Tool) (o : IsKeyOrder tool.cmp) (pairs : List ℕ → Lines →
       within_more now_g own = record { merging = q.within.merging; clean = q.within.clean; own = own; beyond = q.within.beyond; under = q.within.under }
 
       -- the next line could not be read, where what was pushed is a beginning of the group's entries
-      module _ (now_g : Side → Lines) (own : (side : Side) → EachKey (λ z. z ≡ k) (tool.key side) (now_g side)) (mine : now_g s ≡ g s ++ line now.store (place s).standing ∷ []) (others : now_g (other s) ≡ g (other s))
-          (out : Output) (clean : out.faulted ≡ false) (extra : Lines) (wrote : Wrote q.mid out (text tool.end extra)) (begins : StartsWith tool now_g q.d k extra) (made : Slots) (denied : made.denied ≡ false)
-          (fits : (piece : List ℕ) (all : Side → Lines) → ((side : Side) → More (now.reader side) (q.ls side) (all side) × (max (longest (q.ls side)) (length (put s piece (λ t. []) side)) ≤ longest (all side))) → FitsIn tool old.store (with_line made (place s).previous piece) all) where
+      module _ (now_g : Side → Lines) (own : (side : Side) → EachKey (λ z. z ≡ k) (tool.key side) (now_g side))
+          (mine : now_g s ≡ g s ++ line now.store (place s).standing ∷ []) (others : now_g (other s) ≡ g (other s))
+          (out : Output) (clean : out.faulted ≡ false) (extra : Lines) (wrote : Wrote q.mid out (text tool.end extra))
+          (begins : StartsWith tool now_g q.d k extra) (made : Slots) (denied : made.denied ≡ false)
+          (fits : (piece : List ℕ) (all : Side → Lines) → ((side : Side) → More (now.reader side) (q.ls side) (all side)
+          × (max (longest (q.ls side)) (length (put s piece (λ t. []) side)) ≤ longest (all side))) → FitsIn tool old.store (with_line made (place s).previous piece) all) where
         gone_of : (t : Side) (new : Reader) (piece : List ℕ) → Gone tool.end tool.cmp (tool.key t) (old.reader t) (now.reader t) new piece (q.ls t) (q.p t ++ now_g t) (q.d t)
             → Gone tool.end tool.cmp (tool.key (other t)) (old.reader (other t)) (now.reader (other t)) (now.reader (other t)) [] (q.ls (other t)) (q.p (other t) ++ now_g (other t)) (q.d (other t))
-            → (side : Side) → Gone tool.end tool.cmp (tool.key side) (old.reader side) (now.reader side) (put t new now.reader side) (put t piece (λ u. []) side) (q.ls side) (q.p side ++ now_g side) (q.d side)
+            → (side : Side) → Gone tool.end tool.cmp (tool.key side) (old.reader side) (now.reader side) (put t new now.reader side)
+            (put t piece (λ u. []) side) (q.ls side) (q.p side ++ now_g side) (q.d side)
         gone_of First new piece a b First = a
         gone_of First new piece a b Second = b
         gone_of Second new piece a b First = b
         gone_of Second new piece a b Second = a
 
         gone_is : (new : Reader) (piece : List ℕ) → Reads (now.reader s) new piece → IsLine (now.reader s).ending piece → IsSound new
-            → (side : Side) → Gone tool.end tool.cmp (tool.key side) (old.reader side) (now.reader side) (put s new now.reader side) (put s piece (λ u. []) side) (q.ls side) (q.p side ++ now_g side) (q.d side)
+            → (side : Side) → Gone tool.end tool.cmp (tool.key side) (old.reader side) (now.reader side) (put s new now.reader side)
+            (put s piece (λ u. []) side) (q.ls side) (q.p side ++ now_g side) (q.d side)
         gone_is new piece reads free sound =
-            gone_of s new piece (subst (λ (l : Lines). Gone tool.end tool.cmp (tool.key s) (old.reader s) (now.reader s) new piece (q.ls s) (q.p s ++ l) (q.d s)) (sym mine) (passing new piece reads free sound))
-            (subst (λ (l : Lines). Gone tool.end tool.cmp (tool.key (other s)) (old.reader (other s)) (now.reader (other s)) (now.reader (other s)) [] (q.ls (other s)) (q.p (other s) ++ l) (q.d (other s))) (sym others) (standing (other s)))
+            gone_of s new piece (subst (λ (l : Lines). Gone tool.end tool.cmp (tool.key s) (old.reader s) (now.reader s) new piece (q.ls s) (q.p s ++ l)
+            (q.d s)) (sym mine) (passing new piece reads free sound))
+            (subst (λ (l : Lines). Gone tool.end tool.cmp (tool.key (other s)) (old.reader (other s)) (now.reader (other s)) (now.reader (other s)) []
+            (q.ls (other s)) (q.p (other s) ++ l) (q.d (other s))) (sym others) (standing (other s)))
 
         stays : (new : Reader) → new.failed ≡ (now.reader s).failed → (side : Side) → (put s new now.reader side).failed ≡ (old.reader side).failed
         stays new same = by s (same ∙ went s) (went (other s))
           where
-            by : (t : Side) → new.failed ≡ (old.reader t).failed → (now.reader (other t)).failed ≡ (old.reader (other t)).failed → (side : Side) → (put t new now.reader side).failed ≡ (old.reader side).failed
+            by : (t : Side) → new.failed ≡ (old.reader t).failed → (now.reader (other t)).failed ≡ (old.reader (other t)).failed → (side : Side)
+                → (put t new now.reader side).failed ≡ (old.reader side).failed
             by First a b First = a
             by First a b Second = b
             by Second a b First = b
@@ -222,18 +241,22 @@ module _ (tool : Tool) (o : IsKeyOrder tool.cmp) (pairs : List ℕ → Lines →
         not_failed : (side : Side) (r : Reader) → r.failed ≡ (old.reader side).failed → r.failed ≡ true → FailsIn tool.cmp (tool.key side) k r (q.ls side)
         not_failed side r same fail = absurd (false≢true (sym (same ∙ unfailed side) ∙ fail))
 
-        pub group_breaks : (new : Reader) (after : Slots) (fault : MergeFault) → CannotRead s (place s) (now.reader s) new made after fault → IsMerge tool old (record { reader = put s new now.reader; out = out; store = after }) (Err fault)
+        pub group_breaks : (new : Reader) (after : Slots) (fault : MergeFault) → CannotRead s (place s) (now.reader s) new made after fault
+            → IsMerge tool old (record { reader = put s new now.reader; out = out; store = after }) (Err fault)
         group_breaks new after (Read file) moves =
             let e = moves.0 in
             let cause : HasReadCause (old.reader s) new = ⊎_elim (λ h. inl h) (λ h. inr (h.0, h.1 ∙ went s)) e.cause in
             subst (λ f. IsMerge tool old (record { reader = put s new now.reader; out = out; store = after }) (Err (Read f))) (sym moves.1)
-            (halts tool o old (record { reader = put s new now.reader; out = out; store = after }) now.reader (put s e.piece (λ u. [])) q.mid q.ls q.p now_g q.d k extra (gone_is new e.piece e.faults.reads e.faults.whole moves.2) (within_more now_g own) wrote begins (Read s)
+            (halts tool o old (record { reader = put s new now.reader; out = out; store = after }) now.reader
+            (put s e.piece (λ u. [])) q.mid q.ls q.p now_g q.d k extra (gone_is new e.piece e.faults.reads e.faults.whole moves.2) (within_more now_g own) wrote begins (Read s)
             (record {
               cause = subst (λ r. HasReadCause (old.reader s) r) (sym (put_same s new now.reader)) cause;
               others = by s (went (other s));
               clean = clean;
               denied = ap (λ (t : Slots). t.denied) e.stored ∙ denied;
-            }) (failed e.cause) (λ input pushed. tt) (subst (λ (t : Slots). (all : Side → Lines) → ((side : Side) → More (now.reader side) (q.ls side) (all side) × (max (longest (q.ls side)) (length (put s e.piece (λ u. []) side)) ≤ longest (all side))) → FitsIn tool old.store t all) (sym e.stored) (fits e.piece)))
+            }) (failed e.cause) (λ input pushed. tt) (subst (λ (t : Slots). (all : Side → Lines)
+            → ((side : Side) → More (now.reader side) (q.ls side) (all side)
+            × (max (longest (q.ls side)) (length (put s e.piece (λ u. []) side)) ≤ longest (all side))) → FitsIn tool old.store t all) (sym e.stored) (fits e.piece)))
           where
             by : (t : Side) → (now.reader (other t)).failed ≡ (old.reader (other t)).failed → (put t new now.reader (other t)).failed ≡ (old.reader (other t)).failed
             by First a = a
@@ -245,7 +268,8 @@ module _ (tool : Tool) (o : IsKeyOrder tool.cmp) (pairs : List ℕ → Lines →
                 mine_fails : new.failed ≡ true → FailsIn tool.cmp (tool.key s) k new (q.ls s)
                 mine_fails fail = ⊎_elim (λ h. fails_in new h.1 h.2) (λ h. not_failed s new (h.1 ∙ went s) fail) cause
 
-                each : (t : Side) → (new.failed ≡ true → FailsIn tool.cmp (tool.key t) k new (q.ls t)) → ((now.reader (other t)).failed ≡ true → FailsIn tool.cmp (tool.key (other t)) k (now.reader (other t)) (q.ls (other t)))
+                each : (t : Side) → (new.failed ≡ true → FailsIn tool.cmp (tool.key t) k new (q.ls t))
+                    → ((now.reader (other t)).failed ≡ true → FailsIn tool.cmp (tool.key (other t)) k (now.reader (other t)) (q.ls (other t)))
                     → (side : Side) → (put t new now.reader side).failed ≡ true → FailsIn tool.cmp (tool.key side) k (put t new now.reader side) (q.ls side)
                 each First a b First = a
                 each First a b Second = b
@@ -254,7 +278,10 @@ module _ (tool : Tool) (o : IsKeyOrder tool.cmp) (pairs : List ℕ → Lines →
         group_breaks new after Write moves = absurd moves
         group_breaks new after Memory moves =
             let e = moves.0 in
-            halts tool o old (record { reader = put s new now.reader; out = out; store = after }) now.reader (put s e.piece (λ u. [])) q.mid q.ls q.p now_g q.d k extra (gone_is new e.piece e.faults.reads e.faults.whole moves.1) (within_more now_g own) wrote begins Memory
-            (record { denied = ap (λ (t : Slots). t.denied) e.stored; failed = stays new e.failed; clean = clean }) (λ side. not_failed side (put s new now.reader side) (stays new e.failed side)) (λ input pushed. tt)
-            (subst (λ (t : Slots). (all : Side → Lines) → ((side : Side) → More (now.reader side) (q.ls side) (all side) × (max (longest (q.ls side)) (length (put s e.piece (λ u. []) side)) ≤ longest (all side))) → FitsIn tool old.store t all) (sym e.stored) (fits e.piece))
+            halts tool o old (record { reader = put s new now.reader; out = out; store = after }) now.reader
+            (put s e.piece (λ u. [])) q.mid q.ls q.p now_g q.d k extra (gone_is new e.piece e.faults.reads e.faults.whole moves.1) (within_more now_g own) wrote begins Memory
+            (record { denied = ap (λ (t : Slots). t.denied) e.stored; failed = stays new e.failed; clean = clean })
+            (λ side. not_failed side (put s new now.reader side) (stays new e.failed side)) (λ input pushed. tt)
+            (subst (λ (t : Slots). (all : Side → Lines) → ((side : Side) → More (now.reader side) (q.ls side) (all side)
+            × (max (longest (q.ls side)) (length (put s e.piece (λ u. []) side)) ≤ longest (all side))) → FitsIn tool old.store t all) (sym e.stored) (fits e.piece))
         group_breaks new after (faults.Disorder file number) moves = absurd moves

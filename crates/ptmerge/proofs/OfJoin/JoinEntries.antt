@@ -32,14 +32,16 @@ module _ (job : Join) (k : List ℕ) where
   alone1_more : (x : List ℕ) (g : Lines) → alone1 job k (x ∷ g) ≡ alone1 job k (x ∷ []) ++ alone1 job k g
   alone1_more x g = by job.unpaired1
     where
-      by : (t : Bool) → cond t (map (λ a. entry job k (fields job.separator a) []) (x ∷ g)) [] ≡ cond t (map (λ a. entry job k (fields job.separator a) []) (x ∷ [])) [] ++ cond t (map (λ a. entry job k (fields job.separator a) []) g) []
+      by : (t : Bool) → cond t (map (λ a. entry job k (fields job.separator a) []) (x ∷ g)) []
+          ≡ cond t (map (λ a. entry job k (fields job.separator a) []) (x ∷ [])) [] ++ cond t (map (λ a. entry job k (fields job.separator a) []) g) []
       by true = refl
       by false = refl
 
   alone2_more : (x : List ℕ) (g : Lines) → alone2 job k (x ∷ g) ≡ alone2 job k (x ∷ []) ++ alone2 job k g
   alone2_more x g = by job.unpaired2
     where
-      by : (t : Bool) → cond t (map (λ b. entry job k [] (fields job.separator b)) (x ∷ g)) [] ≡ cond t (map (λ b. entry job k [] (fields job.separator b)) (x ∷ [])) [] ++ cond t (map (λ b. entry job k [] (fields job.separator b)) g) []
+      by : (t : Bool) → cond t (map (λ b. entry job k [] (fields job.separator b)) (x ∷ g)) []
+          ≡ cond t (map (λ b. entry job k [] (fields job.separator b)) (x ∷ [])) [] ++ cond t (map (λ b. entry job k [] (fields job.separator b)) g) []
       by true = refl
       by false = refl
 
@@ -61,7 +63,8 @@ module _ (job : Join) (k : List ℕ) where
       each a = map (λ b. entry job k (fields job.separator a) (fields job.separator b)) c
 
       by : (t : Bool) → cond t (flat_map (λ a. map (λ b. entry job k (fields job.separator a) (fields job.separator b)) c) (f ++ g)) []
-          ≡ cond t (flat_map (λ a. map (λ b. entry job k (fields job.separator a) (fields job.separator b)) c) f) [] ++ cond t (flat_map (λ a. map (λ b. entry job k (fields job.separator a) (fields job.separator b)) c) g) []
+          ≡ cond t (flat_map (λ a. map (λ b. entry job k (fields job.separator a) (fields job.separator b)) c) f) []
+          ++ cond t (flat_map (λ a. map (λ b. entry job k (fields job.separator a) (fields job.separator b)) c) g) []
       by true = flat_map-append (λ a. map (λ b. entry job k (fields job.separator a) (fields job.separator b)) c) f g
       by false = refl
 

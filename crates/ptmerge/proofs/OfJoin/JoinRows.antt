@@ -52,7 +52,12 @@ first_files_line_first : writes default_join (codes "a 1\na 2\nc 9\n") (codes "a
 first_files_line_first = refl
 
 output_list :
-    writes (record default_join { unpaired2 = true; empty = codes "-"; list = Some (items.Join ∷ items.Field files.First 2 ∷ items.Field files.Second 2 ∷ []) }) (codes "a 1\na 2\nc 9\n") (codes "a x\na y\nb z\n")
+    writes (record default_join {
+      unpaired2 = true;
+      empty = codes "-";
+      list = Some
+          (items.Join ∷ items.Field files.First 2 ∷ items.Field files.Second 2 ∷ []);
+    }) (codes "a 1\na 2\nc 9\n") (codes "a x\na y\nb z\n")
     ≡ codes "a 1 x\na 1 y\na 2 x\na 2 y\nb - z\n"
 output_list = refl
 
@@ -66,7 +71,13 @@ unpaired_of_both : writes (record default_join { unpaired1 = true; unpaired2 = t
 unpaired_of_both = refl
 
 empty_fields_replaced :
-    writes (record default_join { separator = Some (byte ":"); list = Some (items.Field files.First 2 ∷ items.Join ∷ items.Field files.Second 3 ∷ []); empty = codes "X"; unpaired1 = true }) (codes "a:\nb:q\n") (codes "b:r\n") ≡ codes "X:a:X\nq:b:X\n"
+    writes (record default_join {
+      separator = Some (byte ":");
+      list = Some
+          (items.Field files.First 2 ∷ items.Join ∷ items.Field files.Second 3 ∷ []);
+      empty = codes "X";
+      unpaired1 = true;
+    }) (codes "a:\nb:q\n") (codes "b:r\n") ≡ codes "X:a:X\nq:b:X\n"
 empty_fields_replaced = refl
 
 no_replacement_without_a_list : writes (record default_join { separator = Some (byte ","); empty = codes "X" }) (codes "a,\n") (codes "a,b\n") ≡ codes "a,,b\n"

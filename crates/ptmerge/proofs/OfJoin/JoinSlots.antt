@@ -1,5 +1,6 @@
 -- What the store of `join` holds: two lines of each input, and behind them the group.
-use Rattle.std.proofs.Common.{◌≡◌, ◌⊎◌, inl, inr, ℕ, ◌+◌, ◌*◌, ◌-◌, ◌≤◌, ◌<◌, Bool, true, false, cond, List, [], ◌∷◌, ◌++◌, length, max, take, drop, get_or, set, refl, sym, ap, ◌∙◌, subst, arith, append_assoc, length-append, length-drop}
+use Rattle.std.proofs.Common.{◌≡◌, ◌⊎◌, inl, inr, ℕ, ◌+◌, ◌*◌, ◌-◌, ◌≤◌, ◌<◌, Bool, true, false, cond, List, [], ◌∷◌, ◌++◌, length, max, take, drop, get_or}
+use Rattle.std.proofs.Common.{set, refl, sym, ap, ◌∙◌, subst, arith, append_assoc, length-append, length-drop}
 use Rattle.std.specs.Prelude.{bytes_eq}
 use Rattle.std.specs.Cmp.Lexicographic.{bytes_decides}
 use Rattle.std.proofs.lemmas.List.{length-set, drop-set-add, drop-set-lt, length_push}
@@ -55,7 +56,8 @@ module _ (m : Lines → ℕ) (laws : IsMeasure m) (key : Key) where
   greatest_has ls (x ∷ p) y w = omega (arith, greatest_has ls p y w)
 
   -- lines of one key measure no more than the greatest group
-  measure_in : (k : List ℕ) (p g : Lines) (y : List ℕ) (w : Lines) → EachKey (λ x. x ≡ k) key (g ++ y ∷ []) → key y ≡ k → m (g ++ y ∷ []) ≤ greatest_of m key (((p ++ g) ++ y ∷ []) ++ w) (((p ++ g) ++ y ∷ []) ++ w)
+  measure_in : (k : List ℕ) (p g : Lines) (y : List ℕ) (w : Lines) → EachKey (λ x. x ≡ k) key (g ++ y ∷ []) → key y ≡ k → m (g ++ y ∷ [])
+      ≤ greatest_of m key (((p ++ g) ++ y ∷ []) ++ w) (((p ++ g) ++ y ∷ []) ++ w)
   measure_in k p g y w own is =
       let ls = ((p ++ g) ++ y ∷ []) ++ w in
       let split : ls ≡ p ++ ((g ++ y ∷ []) ++ w) = ap (λ (l : Lines). l ++ w) (append_assoc p g (y ∷ [])) ∙ append_assoc p (g ++ y ∷ []) w in
@@ -91,8 +93,14 @@ same_lines (a ∷ b ∷ c ∷ d ∷ rest) [] m more now h four same is = absurd 
 same_lines (a ∷ b ∷ c ∷ d ∷ rest) (s ∷ []) m more now h four same is = absurd (omega (arith, four))
 same_lines (a ∷ b ∷ c ∷ d ∷ rest) (s ∷ t ∷ []) m more now h four same is = absurd (omega (arith, four))
 same_lines (a ∷ b ∷ c ∷ d ∷ rest) (s ∷ t ∷ u ∷ []) m more now h four same is = absurd (omega (arith, four))
-same_lines (a ∷ b ∷ c ∷ d ∷ rest) (s ∷ t ∷ u ∷ v ∷ end) m more now h four same is =
-    (omega (arith, h.0, ap length (same 0 (omega arith))), omega (arith, h.1, ap length (same 1 (omega arith))), omega (arith, h.2, ap length (same 2 (omega arith))), omega (arith, h.3, ap length (same 3 (omega arith))), is)
+same_lines (a ∷ b ∷ c ∷ d ∷ rest) (s ∷ t ∷ u ∷ v ∷ end) m more now h four same is = (
+  omega (arith, h.0, ap length (same 0 (omega arith))),
+  omega (arith, h.1, ap length (same 1 (omega arith))),
+  omega
+      (arith, h.2, ap length (same 2 (omega arith))),
+  omega (arith, h.3, ap length (same 3 (omega arith))),
+  is,
+)
 
 -- The store of `join`: of these lines two of each input, and the lines of the group behind them.
 pub record Keeping (key : Key) (before store : Slots) (ls : Side → Lines) (g : Lines) : Type 0 where
@@ -130,7 +138,8 @@ keeping_starts key before store ls k = record {
 }
 
 -- a line of an input goes into the slot of the line before
-pub keeping_line : (key : Key) (before store after : Slots) (s : Side) (place : Sorted) (ls now : Side → Lines) (g : Lines) (x : List ℕ) → HasSlots s place → place.previous < 4 → Keeping key before store ls g → ((side : Side) → longest (ls side) ≤ longest (now side)) → length x ≤ longest (now s)
+pub keeping_line : (key : Key) (before store after : Slots) (s : Side) (place : Sorted) (ls now : Side → Lines) (g : Lines) (x : List ℕ) → HasSlots s place
+    → place.previous < 4 → Keeping key before store ls g → ((side : Side) → longest (ls side) ≤ longest (now side)) → length x ≤ longest (now s)
     → (more : Lines) → now Second ≡ ls Second ++ more → after ≡ with_line store place.previous x → Keeping key before after now g
 keeping_line key before store after s place ls now g x slots low k up fit more goes_on is = subst (λ t. Keeping key before t now g) (sym is) (record {
   tail = k.tail;
@@ -182,7 +191,16 @@ module _ (key : Key) (before store : Slots) (ls : Side → Lines) (g : Lines) (k
   grown made to made_so = by made (grown_slots store made to made_so) made_so.grown
     where
       by : (t : Slots) → (length store.lines ≤ length t.lines) × (length t.lines ≤ max (length store.lines) (to + 1)) → (t ≡ store) ⊎ (t ≡ with_added store) → Grown store t g to
-      by t slots (inl e) = record { tail = k.tail; split = ap (λ (s : Slots). drop 4 s.lines) e ∙ k.split; empty = k.empty; same = λ i low. ap (λ (s : Slots). line s i) e; slots = slots; peak = ap (λ (s : Slots). s.peak) e; denied = ap (λ (s : Slots). s.denied) e }
+      by t slots (inl e) = record {
+        tail = k.tail;
+        split = ap (λ (s : Slots). drop 4 s.lines) e
+            ∙ k.split;
+        empty = k.empty;
+        same = λ i low. ap (λ (s : Slots). line s i) e;
+        slots = slots;
+        peak = ap (λ (s : Slots). s.peak) e;
+        denied = ap (λ (s : Slots). s.denied) e;
+      }
       by t slots (inr e) = record {
         tail = k.tail ++ [] ∷ [];
         split = ap (λ (s : Slots). drop 4 s.lines) e ∙ drop_push store.lines [] k.four ∙ ap (λ (l : Lines). l ++ [] ∷ []) k.split ∙ append_assoc g k.tail ([] ∷ []);
@@ -194,7 +212,8 @@ module _ (key : Key) (before store : Slots) (ls : Side → Lines) (g : Lines) (k
       }
 
   -- a line is kept behind the group
-  module _ (made : Slots) (to : ℕ) (y : List ℕ) (at : to ≡ 4 + length g) (w : Grown store made g to) (within : to < length made.lines) (largest : (l : Lines) → InGroup key (g ++ y ∷ []) (ls Second ++ l)) where
+  module _ (made : Slots) (to : ℕ) (y : List ℕ) (at : to ≡ 4 + length g) (w : Grown store made g to) (within : to < length made.lines)
+      (largest : (l : Lines) → InGroup key (g ++ y ∷ []) (ls Second ++ l)) where
     abbrev after : Slots
     after = with_line made to y
 
@@ -237,11 +256,16 @@ module _ (key : Key) (before store : Slots) (ls : Side → Lines) (g : Lines) (k
     pub keeping : Keeping key before after ls (g ++ y ∷ [])
     pub same : (i : ℕ) → i < 4 → line after i ≡ line store i
 
-  pub keeping_kept : (after : Slots) (from to : ℕ) (y : List ℕ) → to ≡ 4 + length g → from < 4 → IsKept store after from to → line store from ≡ y → ((l : Lines) → InGroup key (g ++ y ∷ []) (ls Second ++ l)) → Kept after y
+  pub keeping_kept : (after : Slots) (from to : ℕ) (y : List ℕ) → to ≡ 4 + length g → from < 4 → IsKept store after from to → line store from ≡ y
+      → ((l : Lines) → InGroup key (g ++ y ∷ []) (ls Second ++ l)) → Kept after y
   keeping_kept after from to y at low e is largest =
       let w = grown e.made to e.grown in
       let copied : after ≡ with_line e.made to y = e.copied ∙ ap (λ (l : List ℕ). with_line e.made to l) (w.same from low ∙ is) in
-      subst (λ t. Kept t y) (sym copied) (record { keeping = by_tail e.made to y at w e.grown.within largest w.tail w.empty (room e.made to y at w e.grown.within largest) (dropped e.made to y at w e.grown.within largest); same = first_same e.made to y at w e.grown.within largest })
+      subst (λ t. Kept t y) (sym copied) (record {
+        keeping = by_tail e.made to y at w e.grown.within largest w.tail w.empty
+            (room e.made to y at w e.grown.within largest) (dropped e.made to y at w e.grown.within largest);
+        same = first_same e.made to y at w e.grown.within largest;
+      })
 
   -- the group is emptied
   pub keeping_cleared : (after : Slots) (end : ℕ) → end ≡ 4 + length g → IsGroupCleared store after end → Keeping key before after ls []

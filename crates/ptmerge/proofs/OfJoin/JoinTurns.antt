@@ -1,5 +1,6 @@
 -- What each turn of `join` does, and each way out of it.
-use Rattle.std.proofs.Common.{◌≡◌, ◌⊎◌, inl, inr, ℕ, ◌+◌, ◌*◌, ◌≤◌, ◌<◌, ◌&&◌, Bool, true, false, List, [], ◌∷◌, ◌++◌, Some, None, Result, Ok, Err, length, max, refl, sym, ◌∙◌, ap, subst, arith, append_assoc}
+use Rattle.std.proofs.Common.{◌≡◌, ◌⊎◌, inl, inr, ℕ, ◌+◌, ◌*◌, ◌≤◌, ◌<◌, ◌&&◌, Bool, true, false, List, [], ◌∷◌, ◌++◌, Some, None, Result, Ok, Err, length, max}
+use Rattle.std.proofs.Common.{refl, sym, ◌∙◌, ap, subst, arith, append_assoc}
 use Rattle.std.specs.Prelude.{bytes_eq}
 use Rattle.std.specs.Cmp.Lexicographic.{bytes_decides}
 use Rattle.std.proofs.lemmas.Bool.{false≢true}
@@ -74,7 +75,8 @@ put_more : (s : Side) (ls : Side → Lines) (now more : Lines) → now ≡ ls s 
 put_more First ls now more e = ([], sym (append-nil (ls Second)))
 put_more Second ls now more e = (more, e)
 
-module _ (tool : Tool) (o : IsKeyOrder tool.cmp) (pairs : List ℕ → Lines → Lines → Lines) (laws : IsPairing tool pairs) (old : State) (unfailed : (side : Side) → (old.reader side).failed ≡ false) where
+module _ (tool : Tool) (o : IsKeyOrder tool.cmp) (pairs : List ℕ → Lines → Lines → Lines) (laws : IsPairing tool pairs) (old : State)
+    (unfailed : (side : Side) → (old.reader side).failed ≡ false) where
   abbrev pub Holding : Slots → (Side → Lines) → Lines → Type 0
   Holding store ls g = Keeping (tool.key Second) old.store store ls g
 
@@ -114,7 +116,8 @@ module _ (tool : Tool) (o : IsKeyOrder tool.cmp) (pairs : List ℕ → Lines →
   starts_between now place r = record { ls = r.ls; p = r.p; b = r.b; sides = r.sides; merging = r.merging; keeps = keeping_starts (tool.key Second) old.store now.store r.ls r.keeps }
 
   -- the inputs that go on with these lines have these measures
-  size_of : (store : Slots) (ls : Side → Lines) (g : Lines) (h : Keeping (tool.key Second) old.store store ls g) (all : Side → Lines) → ((side : Side) → longest (ls side) ≤ longest (all side)) → (more : Lines) → all Second ≡ ls Second ++ more
+  size_of : (store : Slots) (ls : Side → Lines) (g : Lines) (h : Keeping (tool.key Second) old.store store ls g) (all : Side → Lines)
+      → ((side : Side) → longest (ls side) ≤ longest (all side)) → (more : Lines) → all Second ≡ ls Second ++ more
       → (2 * longest (ls First) + 2 * longest (ls Second) + h.most ≤ tool.size all) × (4 + h.count ≤ tool.slots all)
   size_of store ls g h all up more is =
       let large : h.most ≤ largest_group (tool.key Second) (all Second) = subst (λ (l : Lines). h.most ≤ largest_group (tool.key Second) l) (sym is) (h.largest more) in
@@ -125,7 +128,8 @@ module _ (tool : Tool) (o : IsKeyOrder tool.cmp) (pairs : List ℕ → Lines →
   held store ls g h = omega (arith, (has_lines_total store.lines (λ side. longest (ls side)) (total g) h.lines).1, h.fits)
 
   -- a piece of one more line is no more than the measure
-  peak_line : (store : Slots) (s : Side) (place : Sorted) (ls all : Side → Lines) (g : Lines) (piece : List ℕ) → HasSlots s place → Keeping (tool.key Second) old.store store ls g → ((side : Side) → longest (ls side) ≤ longest (all side)) → length piece ≤ longest (all s)
+  peak_line : (store : Slots) (s : Side) (place : Sorted) (ls all : Side → Lines) (g : Lines) (piece : List ℕ) → HasSlots s place
+      → Keeping (tool.key Second) old.store store ls g → ((side : Side) → longest (ls side) ≤ longest (all side)) → length piece ≤ longest (all s)
       → (more : Lines) → all Second ≡ ls Second ++ more → FitsIn tool old.store (with_line store place.previous piece) all
   peak_line store s place ls all g piece slots h up fit more is =
       let k = keeping_line (tool.key Second) old.store store (with_line store place.previous piece) s place ls all g piece slots (low_slot s place slots).1 h up fit more is refl in
@@ -133,7 +137,8 @@ module _ (tool : Tool) (o : IsKeyOrder tool.cmp) (pairs : List ℕ → Lines →
       (omega (arith, k.peak, size.0), omega (arith, k.slots, size.1))
 
   -- a store that holds no more, and has no more slots
-  fits_kept : (store after : Slots) (ls : Side → Lines) (g : Lines) (h : Keeping (tool.key Second) old.store store ls g) (all : Side → Lines) → after.peak ≤ max store.peak (total store.lines) → length after.lines ≡ length store.lines → ((side : Side) → longest (ls side) ≤ longest (all side)) → (more : Lines) → all Second ≡ ls Second ++ more
+  fits_kept : (store after : Slots) (ls : Side → Lines) (g : Lines) (h : Keeping (tool.key Second) old.store store ls g) (all : Side → Lines) → after.peak
+      ≤ max store.peak (total store.lines) → length after.lines ≡ length store.lines → ((side : Side) → longest (ls side) ≤ longest (all side)) → (more : Lines) → all Second ≡ ls Second ++ more
       → FitsIn tool old.store after all
   fits_kept store after ls g h all peak same up more is =
       let size = size_of store ls g h all up more is in
@@ -149,7 +154,8 @@ module _ (tool : Tool) (o : IsKeyOrder tool.cmp) (pairs : List ℕ → Lines →
     stand side = gone_standing tool.end tool.cmp (tool.key side) (old.reader side) (now.reader side) (place side) now.store (r.ls side) (r.p side) (r.b side) (r.sides side)
 
     -- a line that one input alone has
-    module _ (s : Side) (step : IsAlone tool.cmp tool.key place now.store s) (new : Output) (wrote : Wrote now.out new (text tool.end (by_keys tool all_keys (alone s (line now.store (place s).standing))))) where
+    module _ (s : Side) (step : IsAlone tool.cmp tool.key place now.store s) (new : Output)
+        (wrote : Wrote now.out new (text tool.end (by_keys tool all_keys (alone s (line now.store (place s).standing))))) where
       x : List ℕ
       x = line now.store (place s).standing
 
@@ -157,14 +163,16 @@ module _ (tool : Tool) (o : IsKeyOrder tool.cmp) (pairs : List ℕ → Lines →
       pushed_alone =
           let y = line now.store (place s).standing in
           let h = passed_at tool o old.reader now.reader place now.store r.ls r.p r.b r.sides slots r.keeps.four s step.stands in
-          let a = ahead tool.cmp o (tool.key (other s)) (tool.key s y) (place (other s)).stand (place (other s)) now.store (now.reader (other s)) (r.ls (other s)) (r.p (other s)) (r.b (other s)) step.before (r.sides (other s)).stands in
+          let a = ahead tool.cmp o (tool.key (other s)) (tool.key s y) (place (other s)).stand (place (other s)) now.store (now.reader (other s))
+          (r.ls (other s)) (r.p (other s)) (r.b (other s)) step.before (r.sides (other s)).stands in
           subst (λ (l : Lines). Merging tool r.b (put s l r.p) old.out new × Late tool r.b (put s l r.p) old.out new) (sym h.all)
           (pass_one tool o laws.alone s y r.b r.p old.out now.out new clean r.merging h.bound a.0 a.1 wrote)
 
       merging_alone : Merging tool r.b (put s (r.ls s) r.p) old.out new
       merging_alone = pushed_alone.0
 
-      pub alone_on : (reader : Reader) (next : Sorted) (after : Slots) → Comes (tool.key s) tool.cmp (place s) next (now.reader s) reader now.store after → Between (record { reader = put s reader now.reader; out = new; store = after }) (put s next place)
+      pub alone_on : (reader : Reader) (next : Sorted) (after : Slots) → Comes (tool.key s) tool.cmp (place s) next (now.reader s) reader now.store after
+          → Between (record { reader = put s reader now.reader; out = new; store = after }) (put s next place)
       alone_on reader next after comes =
           let n = next_at tool o old.reader now.reader place now.store r.ls r.p r.b r.sides slots r.keeps.four s step.stands reader next after comes in
           let m = put_more s r.ls n.now_ls n.more n.goes_on in
@@ -175,10 +183,12 @@ module _ (tool : Tool) (o : IsKeyOrder tool.cmp) (pairs : List ℕ → Lines →
             sides = sides_on tool o old.reader now.reader place now.store r.ls r.p r.b r.sides slots r.keeps.four s step.stands reader next after n;
             merging = merging_on tool o old.reader now.reader place now.store r.ls r.p r.b r.sides slots r.keeps.four s step.stands reader next after n (put s (r.ls s) r.p) old.out new merging_alone;
             keeps = keeping_line (tool.key Second) old.store now.store after s (place s) r.ls (put s n.now_ls r.ls) [] n.bytes (slots s) (low_slot s (place s) (slots s)).1 r.keeps
-                (put_each (λ side (l : Lines). longest (r.ls side) ≤ longest l) s n.now_ls r.ls n.longer (λ side. omega arith)) (subst (λ (l : Lines). length n.bytes ≤ longest l) (sym (put_same s n.now_ls r.ls)) n.fits) m.0 m.1 n.stored;
+                (put_each (λ side (l : Lines). longest (r.ls side) ≤ longest l) s n.now_ls r.ls n.longer (λ side. omega arith))
+                (subst (λ (l : Lines). length n.bytes ≤ longest l) (sym (put_same s n.now_ls r.ls)) n.fits) m.0 m.1 n.stored;
           }
 
-      passing_one : (reader : Reader) (piece : List ℕ) → Reads (now.reader s) reader piece → IsLine (now.reader s).ending piece → IsSound reader → Gone tool.end tool.cmp (tool.key s) (old.reader s) (now.reader s) reader piece (r.ls s) (r.ls s) (r.b s)
+      passing_one : (reader : Reader) (piece : List ℕ) → Reads (now.reader s) reader piece → IsLine (now.reader s).ending piece → IsSound reader
+          → Gone tool.end tool.cmp (tool.key s) (old.reader s) (now.reader s) reader piece (r.ls s) (r.ls s) (r.b s)
       passing_one reader piece reads free sound =
           let h = passed_at tool o old.reader now.reader place now.store r.ls r.p r.b r.sides slots r.keeps.four s step.stands in
           subst (λ d. Gone tool.end tool.cmp (tool.key s) (old.reader s) (now.reader s) reader piece (r.ls s) (r.ls s) d) (sym h.bound)
@@ -187,21 +197,26 @@ module _ (tool : Tool) (o : IsKeyOrder tool.cmp) (pairs : List ℕ → Lines →
       alone_unwritten : new.faulted ≡ true → IsMerge tool old (record { reader = now.reader; out = new; store = now.store }) (Err Write)
       alone_unwritten fault =
           stops tool o old (record { reader = now.reader; out = new; store = now.store }) now.reader (λ side. []) r.ls (put s (r.ls s) r.p) r.b
-          (put_each (λ side (l : Lines). Gone tool.end tool.cmp (tool.key side) (old.reader side) (now.reader side) (now.reader side) [] (r.ls side) l (r.b side)) s (r.ls s) r.p (passing_one (now.reader s) [] (reads_nothing (now.reader s)) tt (r.sides s).sound) stand)
+          (put_each (λ side (l : Lines). Gone tool.end tool.cmp (tool.key side) (old.reader side) (now.reader side) (now.reader side) [] (r.ls side) l
+          (r.b side)) s (r.ls s) r.p (passing_one (now.reader s) [] (reads_nothing (now.reader s)) tt (r.sides s).sound) stand)
           merging_alone pushed_alone.1 (Err Write) (record { faulted = fault; failed = went; denied = r.keeps.denied })
           (λ side fail. absurd (false≢true (sym (went side ∙ unfailed side) ∙ fail))) tt
           (λ all w. fits_kept now.store now.store r.ls [] r.keeps all (omega arith) refl (λ side. omega (arith, (w side).1)) (w Second).0.more (w Second).0.is)
 
-      alone_unread : new.faulted ≡ false → (reader : Reader) (after : Slots) (fault : MergeFault) → CannotRead s (place s) (now.reader s) reader now.store after fault → IsMerge tool old (record { reader = put s reader now.reader; out = new; store = after }) (Err fault)
+      alone_unread : new.faulted ≡ false → (reader : Reader) (after : Slots) (fault : MergeFault)
+          → CannotRead s (place s) (now.reader s) reader now.store after fault → IsMerge tool old (record { reader = put s reader now.reader; out = new; store = after }) (Err fault)
       alone_unread fine reader after fault moves =
           let h = passed_at tool o old.reader now.reader place now.store r.ls r.p r.b r.sides slots r.keeps.four s step.stands in
           let q = put s (r.ls s) r.p in
           let same : put s (r.ls s) r.p s ≡ r.ls s = put_same s (r.ls s) r.p in
           breaks tool o old (record { reader = now.reader; out = new; store = now.store }) r.ls (put s (r.ls s) r.p) r.b merging_alone unfailed went fine s (place s) reader after fault
-          (λ rd piece reads free sound. subst (λ l. Gone tool.end tool.cmp (tool.key s) (old.reader s) (now.reader s) rd piece (r.ls s) l (r.b s)) (sym same) (passing_one rd piece reads free sound)) (sym same) (Some (tool.key s (line now.store (place s).standing)))
+          (λ rd piece reads free sound. subst (λ l. Gone tool.end tool.cmp (tool.key s) (old.reader s) (now.reader s) rd piece (r.ls s) l (r.b s)) (sym same)
+          (passing_one rd piece reads free sound)) (sym same) (Some (tool.key s (line now.store (place s).standing)))
           (subst (λ l. Begun tool.cmp (tool.key s) l (Some (tool.key s (line now.store (place s).standing)))) (sym same) h.begun)
-          (subst (λ (l : Lines). Gone tool.end tool.cmp (tool.key (other s)) (old.reader (other s)) (now.reader (other s)) (now.reader (other s)) [] (r.ls (other s)) l (r.b (other s))) (sym (put_other s (r.ls s) r.p)) (stand (other s))) r.keeps.denied
-          (λ piece all w. peak_line now.store s (place s) r.ls all [] piece (slots s) r.keeps (λ side. omega (arith, (w side).1)) (omega (arith, (w s).1, ap length (put_same s piece (λ side. [])))) (w Second).0.more (w Second).0.is) moves
+          (subst (λ (l : Lines). Gone tool.end tool.cmp (tool.key (other s)) (old.reader (other s)) (now.reader (other s)) (now.reader (other s)) []
+          (r.ls (other s)) l (r.b (other s))) (sym (put_other s (r.ls s) r.p)) (stand (other s))) r.keeps.denied
+          (λ piece all w. peak_line now.store s (place s) r.ls all [] piece (slots s) r.keeps (λ side. omega (arith, (w side).1))
+          (omega (arith, (w s).1, ap length (put_same s piece (λ side. [])))) (w Second).0.more (w Second).0.is) moves
 
       pub alone_stops : (reader : Reader) (next : Sorted) (after : Slots) (fault : MergeFault) → PassesLine (tool.key s) tool.cmp s (place s) next (now.reader s) reader now.store after new (Err fault)
           → IsMerge tool old (record { reader = put s reader now.reader; out = new; store = after }) (Err fault)
@@ -227,8 +242,10 @@ module _ (tool : Tool) (o : IsKeyOrder tool.cmp) (pairs : List ℕ → Lines →
             d = λ side. From k;
             mid = now.out;
             sides = elim [
-              | First ↦ subst (λ e. SidedOf First now.reader place now.store (r.ls First) (r.p First ++ []) e) h1.bound (subst (λ (l : Lines). SidedOf First now.reader place now.store (r.ls First) l (r.b First)) (sym (append-nil (r.p First))) (r.sides First))
-              | Second ↦ subst (λ e. SidedOf Second now.reader place now.store (r.ls Second) (r.p Second ++ []) e) at2 (subst (λ (l : Lines). SidedOf Second now.reader place now.store (r.ls Second) l (r.b Second)) (sym (append-nil (r.p Second))) (r.sides Second))
+              | First ↦ subst (λ e. SidedOf First now.reader place now.store (r.ls First) (r.p First ++ []) e) h1.bound
+                  (subst (λ (l : Lines). SidedOf First now.reader place now.store (r.ls First) l (r.b First)) (sym (append-nil (r.p First))) (r.sides First))
+              | Second ↦ subst (λ e. SidedOf Second now.reader place now.store (r.ls Second) (r.p Second ++ []) e) at2
+                  (subst (λ (l : Lines). SidedOf Second now.reader place now.store (r.ls Second) l (r.b Second)) (sym (append-nil (r.p Second))) (r.sides Second))
             ];
             within = record {
               merging = subst (λ (f : Side → Bound). Merging tool f r.p old.out now.out) (λ i side. bounds side i) r.merging;
@@ -252,13 +269,16 @@ module _ (tool : Tool) (o : IsKeyOrder tool.cmp) (pairs : List ℕ → Lines →
       empty : total after.lines ≡ 0
       empty = omega (arith, clear.emptied, (has_lines_total now.store.lines (λ side. longest (r.ls side)) 0 r.keeps.lines).2)
 
-      concludes : (result : Result (Unit {0}) MergeFault) → Ends old (record { reader = now.reader; out = now.out; store = after }) result → Concludes tool r.b result → IsMerge tool old (record { reader = now.reader; out = now.out; store = after }) result
+      concludes : (result : Result (Unit {0}) MergeFault) → Ends old (record { reader = now.reader; out = now.out; store = after }) result
+          → Concludes tool r.b result → IsMerge tool old (record { reader = now.reader; out = now.out; store = after }) result
       concludes result ends at =
-          stops tool o old (record { reader = now.reader; out = now.out; store = after }) now.reader (λ side. []) r.ls r.p r.b stand r.merging (late_none tool r.b r.p old.out now.out now.out clean r.merging.wrote (wrote_nothing now.out)) result ends
+          stops tool o old (record { reader = now.reader; out = now.out; store = after }) now.reader (λ side. []) r.ls r.p r.b stand r.merging
+          (late_none tool r.b r.p old.out now.out now.out clean r.merging.wrote (wrote_nothing now.out)) result ends
           (λ side fail. absurd (false≢true (sym (went side ∙ unfailed side) ∙ fail))) at
           (λ all w. fits_kept now.store after r.ls [] r.keeps all clear.peak clear.slots (λ side. omega (arith, (w side).1)) (w Second).0.more (w Second).0.is)
 
-      pub ended : ((side : Side) → IsSound (old.reader side)) → ((side : Side) → (old.reader side).fault ≡ None) → ((side : Side) → (place side).stand ≡ Ended) → IsMerge tool old (record { reader = now.reader; out = now.out; store = after }) (Ok tt)
+      pub ended : ((side : Side) → IsSound (old.reader side)) → ((side : Side) → (old.reader side).fault ≡ None) → ((side : Side) → (place side).stand ≡ Ended)
+          → IsMerge tool old (record { reader = now.reader; out = now.out; store = after }) (Ok tt)
       ended sound readable step =
           let e = all_ended tool old.reader now.reader place now.store r.ls r.p r.b r.sides step in
           concludes (Ok tt) (record {
@@ -297,11 +317,13 @@ module _ (tool : Tool) (o : IsKeyOrder tool.cmp) (pairs : List ℕ → Lines →
     all_second = (passed_at tool o old.reader now.reader place now.store r.q.ls (λ side. r.q.p side ++ both [] r.g side) r.q.d r.q.sides slots r.q.keeps.four Second r.head2).all
 
     in_group : (l : Lines) → InGroup (tool.key Second) (r.g ++ line now.store (place Second).standing ∷ []) (r.q.ls Second ++ l)
-    in_group l = subst (λ (z : Lines). InGroup (tool.key Second) (r.g ++ line now.store (place Second).standing ∷ []) (z ++ l)) (sym all_second) (group_in (tool.key Second) r.k (r.q.p Second) r.g (line now.store (place Second).standing) l (own_now Second) r.key2)
+    in_group l = subst (λ (z : Lines). InGroup (tool.key Second) (r.g ++ line now.store (place Second).standing ∷ []) (z ++ l)) (sym all_second)
+        (group_in (tool.key Second) r.k (r.q.p Second) r.g (line now.store (place Second).standing) l (own_now Second) r.key2)
 
     kept_of : (made : Slots) → IsKept now.store made (place Second).standing end → Kept (tool.key Second) old.store now.store r.q.ls r.g r.q.keeps made (line now.store (place Second).standing)
     kept_of made e =
-        keeping_kept (tool.key Second) old.store now.store r.q.ls r.g r.q.keeps made (place Second).standing end (line now.store (place Second).standing) r.q.at (low_slot Second (place Second) (slots Second)).0 e refl
+        keeping_kept (tool.key Second) old.store now.store r.q.ls r.g r.q.keeps made (place Second).standing end
+        (line now.store (place Second).standing) r.q.at (low_slot Second (place Second) (slots Second)).0 e refl
         in_group
 
     -- nothing was pushed of the group
@@ -310,7 +332,8 @@ module _ (tool : Tool) (o : IsKeyOrder tool.cmp) (pairs : List ℕ → Lines →
 
     -- one more line was kept, and the second input went on
     pub record GoesOn (reader : Reader) (next : Sorted) (after : Slots) : Type 0 where
-      pub q : Grouped tool o pairs laws old unfailed (record { reader = put Second reader now.reader; out = now.out; store = after }) (put Second next place) (end + 1) r.k (both [] (r.g ++ line now.store (place Second).standing ∷ []))
+      pub q : Grouped tool o pairs laws old unfailed (record { reader = put Second reader now.reader; out = now.out; store = after }) (put Second next place)
+          (end + 1) r.k (both [] (r.g ++ line now.store (place Second).standing ∷ []))
       pub head1 : (place First).stand ≡ Head
       pub key1 : tool.key First (line after (place First).standing) ≡ r.k
       pub says : next.same ≡ (is_head next.stand && bytes_eq r.k (tool.key Second (line after next.standing)))
@@ -318,10 +341,13 @@ module _ (tool : Tool) (o : IsKeyOrder tool.cmp) (pairs : List ℕ → Lines →
     pub gathered : (reader : Reader) (next : Sorted) (after : Slots) → Gathered (tool.key Second) tool.cmp (place Second) next (now.reader Second) reader now.store after end → GoesOn reader next after
     gathered reader next after e =
         let kept = kept_of e.made e.kept in
-        let at_made = λ (side : Side). sided_keeps tool.end tool.cmp (tool.key side) (old.reader side) (now.reader side) (place side) now.store e.made (r.q.ls side) (r.q.p side ++ both [] r.g side) (r.q.d side) (kept.same (place side).standing (low_slot side (place side) (slots side)).0) (kept.same (place side).previous (low_slot side (place side) (slots side)).1) (r.q.sides side) in
+        let at_made = λ (side : Side). sided_keeps tool.end tool.cmp (tool.key side) (old.reader side) (now.reader side) (place side) now.store e.made
+        (r.q.ls side) (r.q.p side ++ both [] r.g side) (r.q.d side) (kept.same (place side).standing (low_slot side (place side) (slots side)).0)
+        (kept.same (place side).previous (low_slot side (place side) (slots side)).1) (r.q.sides side) in
         let n = next_at tool o old.reader now.reader place e.made r.q.ls (λ side. r.q.p side ++ both [] r.g side) r.q.d at_made slots kept.keeping.four Second r.head2 reader next after e.came in
         let on = sides_on tool o old.reader now.reader place e.made r.q.ls (λ side. r.q.p side ++ both [] r.g side) r.q.d at_made slots kept.keeping.four Second r.head2 reader next after n in
-        let key_made : tool.key Second (line e.made (place Second).standing) ≡ r.k = ap (tool.key Second) (kept.same (place Second).standing (low_slot Second (place Second) (slots Second)).0) ∙ r.key2 in
+        let key_made : tool.key Second (line e.made (place Second).standing)
+        ≡ r.k = ap (tool.key Second) (kept.same (place Second).standing (low_slot Second (place Second) (slots Second)).0) ∙ r.key2 in
         let apart = first_apart in
         record {
           q = record {
@@ -331,7 +357,8 @@ module _ (tool : Tool) (o : IsKeyOrder tool.cmp) (pairs : List ℕ → Lines →
             mid = r.q.mid;
             sides = elim [
               | First ↦ on First
-              | Second ↦ subst (λ (l : Lines). SidedOf Second (put Second reader now.reader) (put Second next place) after n.now_ls l n.bound) (all_second ∙ append_assoc (r.q.p Second) r.g (line now.store (place Second).standing ∷ [])) (on Second)
+              | Second ↦ subst (λ (l : Lines). SidedOf Second (put Second reader now.reader) (put Second next place) after n.now_ls l n.bound)
+                  (all_second ∙ append_assoc (r.q.p Second) r.g (line now.store (place Second).standing ∷ [])) (on Second)
             ];
             within = record {
               merging = r.q.within.merging;
@@ -340,16 +367,20 @@ module _ (tool : Tool) (o : IsKeyOrder tool.cmp) (pairs : List ℕ → Lines →
               beyond = elim [ First ↦ r.q.within.beyond First | Second ↦ λ l c. subst (λ (z : List ℕ). EachKey (AtMost tool.cmp z) (tool.key Second) l) key_made (n.coming l c) ];
               under = elim [ First ↦ r.q.within.under First | Second ↦ n.under r.k (subst (λ (z : List ℕ). AtMost tool.cmp r.k z) (sym key_made) (self_at_most tool.cmp o r.k)) ];
             };
-            keeps = keeping_line (tool.key Second) old.store e.made after Second (place Second) r.q.ls (put Second n.now_ls r.q.ls) (r.g ++ line now.store (place Second).standing ∷ []) n.bytes (slots Second) (low_slot Second (place Second) (slots Second)).1 kept.keeping
+            keeps = keeping_line (tool.key Second) old.store e.made after Second (place Second) r.q.ls (put Second n.now_ls r.q.ls)
+                (r.g ++ line now.store (place Second).standing ∷ []) n.bytes (slots Second) (low_slot Second (place Second) (slots Second)).1 kept.keeping
                 (put_each (λ side (l : Lines). longest (r.q.ls side) ≤ longest l) Second n.now_ls r.q.ls n.longer (λ side. omega arith)) n.fits n.more n.goes_on n.stored;
             wrote = subst (λ (l : Lines). Wrote r.q.mid now.out (text tool.end l)) (sym (laws.none r.k (r.g ++ line now.store (place Second).standing ∷ []))) wrote_none;
             at = omega (arith, r.q.at, length_push r.g (line now.store (place Second).standing));
           };
           head1 = r.head1;
           key1 =
-              ap (λ (t : Slots). tool.key First (line t (place First).standing)) n.stored ∙ ap (tool.key First) (line_other e.made (place Second).previous (place First).standing n.bytes apart ∙ kept.same (place First).standing (low_slot First (place First) (slots First)).0)
+              ap (λ (t : Slots). tool.key First (line t (place First).standing)) n.stored
+              ∙ ap (tool.key First) (line_other e.made (place Second).previous (place First).standing n.bytes apart
+              ∙ kept.same (place First).standing (low_slot First (place First) (slots First)).0)
               ∙ r.key1;
-          says = comes_repeats tool.cmp o (tool.key Second) (place Second) next (now.reader Second) reader e.made after some (omega (arith, kept.keeping.four, (low_slot Second (place Second) (slots Second)).1)) e.came
+          says = comes_repeats tool.cmp o (tool.key Second) (place Second) next (now.reader Second) reader e.made after some
+              (omega (arith, kept.keeping.four, (low_slot Second (place Second) (slots Second)).1)) e.came
               ∙ ap (λ (k : List ℕ). is_head next.stand && bytes_eq k (tool.key Second (line after next.standing))) key_made;
         }
       where
@@ -381,27 +412,39 @@ module _ (tool : Tool) (o : IsKeyOrder tool.cmp) (pairs : List ℕ → Lines →
       -- or it could not be sent
       pub not_sent : out.faulted ≡ true → IsMerge tool old (record { reader = now.reader; out = out; store = now.store }) (Err Write)
       not_sent fault =
-          halts tool o old (record { reader = now.reader; out = out; store = now.store }) now.reader (λ side. []) r.q.mid r.q.ls r.q.p (both [] r.g) r.q.d r.k [] (standing tool o pairs laws old unfailed now place end r.k (both [] r.g) r.q slots) r.q.within
-          (subst (λ (l : Lines). Wrote r.q.mid out (text tool.end l)) (laws.none r.k r.g) wrote_still) (λ w l c wanted. (by_keys tool w (λ side. both [] r.g side ++ l side), refl)) Write (record { faulted = fault; failed = went_in; denied = r.q.keeps.denied })
+          halts tool o old (record { reader = now.reader; out = out; store = now.store }) now.reader (λ side. []) r.q.mid r.q.ls r.q.p
+          (both [] r.g) r.q.d r.k [] (standing tool o pairs laws old unfailed now place end r.k (both [] r.g) r.q slots) r.q.within
+          (subst (λ (l : Lines). Wrote r.q.mid out (text tool.end l)) (laws.none r.k r.g) wrote_still)
+          (λ w l c wanted. (by_keys tool w (λ side. both [] r.g side ++ l side), refl)) Write (record { faulted = fault; failed = went_in; denied = r.q.keeps.denied })
           (λ side fail. absurd (false≢true (sym (went_in side ∙ unfailed side) ∙ fail))) (λ input pushed. tt)
           (λ all w. fits_kept now.store now.store r.q.ls r.g r.q.keeps all (omega arith) refl (λ side. omega (arith, (w side).1)) (w Second).0.more (w Second).0.is)
 
     -- a line could not be kept, or the next one not read
-    pub not_gathered : (reader : Reader) (next : Sorted) (after : Slots) (fault : MergeFault) → Gathers (tool.key Second) tool.cmp (place Second) next (now.reader Second) reader now.store after end (Err fault)
+    pub not_gathered : (reader : Reader) (next : Sorted) (after : Slots) (fault : MergeFault)
+        → Gathers (tool.key Second) tool.cmp (place Second) next (now.reader Second) reader now.store after end (Err fault)
         → IsMerge tool old (record { reader = put Second reader now.reader; out = now.out; store = after }) (Err fault)
     not_gathered reader next after fault (inl e) = subst (IsMerge tool old (record { reader = put Second reader now.reader; out = now.out; store = after })) (λ i. Err (sym e.memory i))
         (subst (λ (f : Side → Reader). IsMerge tool old (record { reader = f; out = now.out; store = after }) (Err Memory)) (same_reader Second reader now.reader e.unread)
-        (halts tool o old (record { reader = now.reader; out = now.out; store = after }) now.reader (λ side. []) r.q.mid r.q.ls r.q.p (both [] r.g) r.q.d r.k [] (standing tool o pairs laws old unfailed now place end r.k (both [] r.g) r.q slots) r.q.within wrote_none (λ w l c wanted. (by_keys tool w (λ side. both [] r.g side ++ l side), refl)) Memory
+        (halts tool o old (record { reader = now.reader; out = now.out; store = after }) now.reader (λ side. []) r.q.mid r.q.ls r.q.p
+        (both [] r.g) r.q.d r.k [] (standing tool o pairs laws old unfailed now place end r.k (both [] r.g) r.q slots) r.q.within wrote_none
+        (λ w l c wanted. (by_keys tool w (λ side. both [] r.g side ++ l side), refl)) Memory
         (record { denied = e.refused.denied; failed = went_in; clean = clean }) (λ side fail. absurd (false≢true (sym (went_in side ∙ unfailed side) ∙ fail))) (λ input pushed. tt)
         (λ all w.
         let size = size_of now.store r.q.ls r.g r.q.keeps all (λ side. omega (arith, (w side).1)) (w Second).0.more (w Second).0.is in
-        let many : length (r.g ++ line now.store (place Second).standing ∷ []) ≤ most_lines (tool.key Second) (all Second) = subst (λ (l : Lines). length (r.g ++ line now.store (place Second).standing ∷ []) ≤ most_lines (tool.key Second) l) (sym (w Second).0.is) (in_group (w Second).0.more).1 in
-        (omega (arith, e.refused.peak, held now.store r.q.ls r.g r.q.keeps, r.q.keeps.peak, size.0), omega (arith, e.refused.most, r.q.at, r.q.keeps.slots, size.1, many, laws.slots all, length_push r.g (line now.store (place Second).standing))))))
+        let many : length (r.g ++ line now.store (place Second).standing ∷ [])
+        ≤ most_lines (tool.key Second) (all Second) = subst (λ (l : Lines). length (r.g ++ line now.store (place Second).standing ∷ [])
+        ≤ most_lines (tool.key Second) l) (sym (w Second).0.is) (in_group (w Second).0.more).1 in (
+          omega (arith, e.refused.peak, held now.store r.q.ls r.g r.q.keeps, r.q.keeps.peak, size.0),
+          omega
+              (arith, e.refused.most, r.q.at, r.q.keeps.slots, size.1, many, laws.slots all, length_push r.g (line now.store (place Second).standing)),
+        ))))
     not_gathered reader next after fault (inr e) =
         let kept = kept_of e.made e.kept in
-        group_breaks tool o pairs laws old unfailed now place end r.k (both [] r.g) r.q slots Second r.head2 r.key2 (both [] (r.g ++ line now.store (place Second).standing ∷ [])) own_now refl refl now.out clean [] wrote_none
+        group_breaks tool o pairs laws old unfailed now place end r.k (both [] r.g) r.q slots Second r.head2 r.key2
+        (both [] (r.g ++ line now.store (place Second).standing ∷ [])) own_now refl refl now.out clean [] wrote_none
         (λ w l c wanted. (by_keys tool w (λ side. both [] (r.g ++ line now.store (place Second).standing ∷ []) side ++ l side), refl)) e.made kept.keeping.denied
-        (λ piece all w. peak_line e.made Second (place Second) r.q.ls all (r.g ++ line now.store (place Second).standing ∷ []) piece (slots Second) kept.keeping (λ side. omega (arith, (w side).1)) (omega (arith, (w Second).1)) (w Second).0.more (w Second).0.is) reader after fault e.breaks
+        (λ piece all w. peak_line e.made Second (place Second) r.q.ls all (r.g ++ line now.store (place Second).standing ∷ []) piece
+        (slots Second) kept.keeping (λ side. omega (arith, (w side).1)) (omega (arith, (w Second).1)) (w Second).0.more (w Second).0.is) reader after fault e.breaks
 
   module _ (now : State) (place : Side → Sorted) (end : ℕ) (r : Pairing now place end) (slots : (side : Side) → HasSlots side (place side)) (new : Output)
       (wrote : Wrote now.out new (text tool.end (pairs r.k (line now.store (place First).standing ∷ []) (r.g Second)))) (clean : now.out.faulted ≡ false) where
@@ -417,12 +460,15 @@ module _ (tool : Tool) (o : IsKeyOrder tool.cmp) (pairs : List ℕ → Lines →
 
     wrote_more : Wrote r.q.mid new (text tool.end (pairs r.k (r.g First ++ line now.store (place First).standing ∷ []) (r.g Second)))
     wrote_more = subst (λ (t : List ℕ). Wrote r.q.mid new t)
-        (sym (ap (text tool.end) (laws.more r.k (r.g First) (line now.store (place First).standing ∷ []) (r.g Second)) ∙ text-append tool.end (pairs r.k (r.g First) (r.g Second)) (pairs r.k (line now.store (place First).standing ∷ []) (r.g Second))))
-        (wrote_trans r.q.mid now.out new (text tool.end (pairs r.k (r.g First) (r.g Second))) (text tool.end (pairs r.k (line now.store (place First).standing ∷ []) (r.g Second))) clean r.q.wrote wrote)
+        (sym (ap (text tool.end) (laws.more r.k (r.g First) (line now.store (place First).standing ∷ []) (r.g Second))
+        ∙ text-append tool.end (pairs r.k (r.g First) (r.g Second)) (pairs r.k (line now.store (place First).standing ∷ []) (r.g Second))))
+        (wrote_trans r.q.mid now.out new (text tool.end (pairs r.k (r.g First) (r.g Second)))
+        (text tool.end (pairs r.k (line now.store (place First).standing ∷ []) (r.g Second))) clean r.q.wrote wrote)
 
     -- the first input went on
     pub paired : (reader : Reader) (next : Sorted) (after : Slots) → Comes (tool.key First) tool.cmp (place First) next (now.reader First) reader now.store after
-        → (q : Grouped tool o pairs laws old unfailed (record { reader = put First reader now.reader; out = new; store = after }) (put First next place) end r.k (both (r.g First ++ line now.store (place First).standing ∷ []) (r.g Second)))
+        → (q : Grouped tool o pairs laws old unfailed (record { reader = put First reader now.reader; out = new; store = after })
+        (put First next place) end r.k (both (r.g First ++ line now.store (place First).standing ∷ []) (r.g Second)))
         × IsAbove tool.cmp (tool.key Second) r.k (q.d Second)
     paired reader next after comes =
         let n = next_at tool o old.reader now.reader place now.store r.q.ls (λ side. r.q.p side ++ r.g side) r.q.d r.q.sides slots r.q.keeps.four First r.head1 reader next after comes in
@@ -434,7 +480,8 @@ module _ (tool : Tool) (o : IsKeyOrder tool.cmp) (pairs : List ℕ → Lines →
             d = put First n.bound r.q.d;
             mid = r.q.mid;
             sides = elim [
-              | First ↦ subst (λ (l : Lines). SidedOf First (put First reader now.reader) (put First next place) after n.now_ls l n.bound) (all ∙ append_assoc (r.q.p First) (r.g First) (line now.store (place First).standing ∷ [])) (on First)
+              | First ↦ subst (λ (l : Lines). SidedOf First (put First reader now.reader) (put First next place) after n.now_ls l n.bound)
+                  (all ∙ append_assoc (r.q.p First) (r.g First) (line now.store (place First).standing ∷ [])) (on First)
               | Second ↦ on Second
             ];
             within = record {
@@ -444,7 +491,8 @@ module _ (tool : Tool) (o : IsKeyOrder tool.cmp) (pairs : List ℕ → Lines →
               beyond = elim [ First ↦ λ l c. subst (λ (w : List ℕ). EachKey (AtMost tool.cmp w) (tool.key First) l) r.key1 (n.coming l c) | Second ↦ r.q.within.beyond Second ];
               under = elim [ First ↦ n.under r.k (subst (λ (w : List ℕ). AtMost tool.cmp r.k w) (sym r.key1) (self_at_most tool.cmp o r.k)) | Second ↦ r.q.within.under Second ];
             };
-            keeps = keeping_line (tool.key Second) old.store now.store after First (place First) r.q.ls (put First n.now_ls r.q.ls) (r.g Second) n.bytes (slots First) (low_slot First (place First) (slots First)).1 r.q.keeps
+            keeps = keeping_line (tool.key Second) old.store now.store after First (place First) r.q.ls (put First n.now_ls r.q.ls) (r.g Second) n.bytes
+                (slots First) (low_slot First (place First) (slots First)).1 r.q.keeps
                 (put_each (λ side (l : Lines). longest (r.q.ls side) ≤ longest l) First n.now_ls r.q.ls n.longer (λ side. omega arith)) n.fits [] (sym (append-nil (r.q.ls Second))) n.stored;
             wrote = wrote_more;
             at = r.q.at;
@@ -455,44 +503,54 @@ module _ (tool : Tool) (o : IsKeyOrder tool.cmp) (pairs : List ℕ → Lines →
     went_pair : (side : Side) → (now.reader side).failed ≡ (old.reader side).failed
     went_pair side = (r.q.sides side).got.goes.failed
 
-    pub pair_stops : (reader : Reader) (next : Sorted) (after : Slots) (fault : MergeFault) → PassesLine (tool.key First) tool.cmp First (place First) next (now.reader First) reader now.store after new (Err fault)
+    pub pair_stops : (reader : Reader) (next : Sorted) (after : Slots) (fault : MergeFault)
+        → PassesLine (tool.key First) tool.cmp First (place First) next (now.reader First) reader now.store after new (Err fault)
         → IsMerge tool old (record { reader = put First reader now.reader; out = new; store = after }) (Err fault)
     pair_stops reader next after fault (inl e) = subst (IsMerge tool old (record { reader = put First reader now.reader; out = new; store = after })) (λ i. Err (sym e.0 i))
         (subst (λ (f : Side → Reader). IsMerge tool old (record { reader = f; out = new; store = after }) (Err Write)) (same_reader First reader now.reader e.1.unread)
         (subst (λ t. IsMerge tool old (record { reader = now.reader; out = new; store = t }) (Err Write)) (sym e.1.store)
-        (halts tool o old (record { reader = now.reader; out = new; store = now.store }) now.reader (λ side. []) r.q.mid r.q.ls r.q.p now_g r.q.d r.k (pairs r.k (r.g First ++ line now.store (place First).standing ∷ []) (r.g Second))
+        (halts tool o old (record { reader = now.reader; out = new; store = now.store }) now.reader (λ side. []) r.q.mid r.q.ls r.q.p now_g r.q.d r.k
+        (pairs r.k (r.g First ++ line now.store (place First).standing ∷ []) (r.g Second))
         (elim [
           | First ↦ passing tool o pairs laws old unfailed now place end r.k r.g r.q slots First r.head1 r.key1 (now.reader First) [] (reads_nothing (now.reader First)) tt (r.q.sides First).sound
           | Second ↦ standing tool o pairs laws old unfailed now place end r.k r.g r.q slots Second
-        ]) (record { merging = r.q.within.merging; clean = r.q.within.clean; own = own_pair; beyond = r.q.within.beyond; under = r.q.within.under }) wrote_more (starts tool o pairs laws r.k now_g own_pair r.q.d r.q.within.beyond (inr (r.some, r.above))) Write
+        ]) (record { merging = r.q.within.merging; clean = r.q.within.clean; own = own_pair; beyond = r.q.within.beyond; under = r.q.within.under }) wrote_more
+        (starts tool o pairs laws r.k now_g own_pair r.q.d r.q.within.beyond (inr (r.some, r.above))) Write
         (record { faulted = e.1.faulted; failed = went_pair; denied = r.q.keeps.denied }) (λ side fail. absurd (false≢true (sym (went_pair side ∙ unfailed side) ∙ fail))) (λ input pushed. tt)
         (λ all w. fits_kept now.store now.store r.q.ls (r.g Second) r.q.keeps all (omega arith) refl (λ side. omega (arith, (w side).1)) (w Second).0.more (w Second).0.is))))
     pair_stops reader next after fault (inr e) =
-        group_breaks tool o pairs laws old unfailed now place end r.k r.g r.q slots First r.head1 r.key1 now_g own_pair refl refl new e.0 (pairs r.k (r.g First ++ line now.store (place First).standing ∷ []) (r.g Second)) wrote_more
+        group_breaks tool o pairs laws old unfailed now place end r.k r.g r.q slots First r.head1 r.key1 now_g own_pair refl refl new e.0
+        (pairs r.k (r.g First ++ line now.store (place First).standing ∷ []) (r.g Second)) wrote_more
         (starts tool o pairs laws r.k now_g own_pair r.q.d r.q.within.beyond (inr (r.some, r.above))) now.store r.q.keeps.denied
-        (λ piece all w. peak_line now.store First (place First) r.q.ls all (r.g Second) piece (slots First) r.q.keeps (λ side. omega (arith, (w side).1)) (omega (arith, (w First).1)) (w Second).0.more (w Second).0.is) reader after fault e.1
+        (λ piece all w. peak_line now.store First (place First) r.q.ls all (r.g Second) piece (slots First) r.q.keeps (λ side. omega (arith, (w side).1))
+        (omega (arith, (w First).1)) (w Second).0.more (w Second).0.is) reader after fault e.1
 
   -- the group is closed
-  pub closed : (now : State) (place : Side → Sorted) (end : ℕ) (k : List ℕ) (g : Side → Lines) (q : Grouped tool o pairs laws old unfailed now place end k g) → (slots : (side : Side) → HasSlots side (place side)) → ((side : Side) → 0 < length (g side)) → ((side : Side) → IsAbove tool.cmp (tool.key side) k (q.d side))
+  pub closed : (now : State) (place : Side → Sorted) (end : ℕ) (k : List ℕ) (g : Side → Lines) (q : Grouped tool o pairs laws old unfailed now place end k g)
+      → (slots : (side : Side) → HasSlots side (place side)) → ((side : Side) → 0 < length (g side)) → ((side : Side) → IsAbove tool.cmp (tool.key side) k (q.d side))
       → (after : Slots) → IsGroupCleared now.store after end → Between (record { reader = now.reader; out = now.out; store = after }) place
   closed now place end k g q slots some above after clear = record {
     ls = q.ls;
     p = λ side. q.p side ++ g side;
     b = q.d;
     sides = λ side.
-        sided_keeps tool.end tool.cmp (tool.key side) (old.reader side) (now.reader side) (place side) now.store after (q.ls side) (q.p side ++ g side) (q.d side) (clear.others (place side).standing (inl (low_slot side (place side) (slots side)).0))
+        sided_keeps tool.end tool.cmp (tool.key side) (old.reader side) (now.reader side) (place side) now.store after (q.ls side) (q.p side ++ g side)
+        (q.d side) (clear.others (place side).standing (inl (low_slot side (place side) (slots side)).0))
         (clear.others (place side).previous (inl (low_slot side (place side) (slots side)).1)) (q.sides side);
     merging = closes tool o pairs laws k g q.within.own q.d q.p old.out q.mid now.out q.within some above q.wrote;
     keeps = keeping_cleared (tool.key Second) old.store now.store q.ls (g Second) q.keeps after end q.at clear;
   }
 
   -- an input is past the group's key
-  pub is_past : (now : State) (place : Side → Sorted) (end : ℕ) (k : List ℕ) (g : Side → Lines) (q : Grouped tool o pairs laws old unfailed now place end k g) (s : Side) → ((place s).stand ≡ Head → ¬ (tool.key s (line now.store (place s).standing) ≡ k)) → IsAbove tool.cmp (tool.key s) k (q.d s)
-  is_past now place end k g q s other = past_group tool.cmp o (tool.key s) k (place s).stand (place s) now.store (now.reader s) (q.ls s) (q.p s ++ g s) (q.d s) (q.sides s).stands (q.within.under s) other
+  pub is_past : (now : State) (place : Side → Sorted) (end : ℕ) (k : List ℕ) (g : Side → Lines) (q : Grouped tool o pairs laws old unfailed now place end k g)
+      (s : Side) → ((place s).stand ≡ Head → ¬ (tool.key s (line now.store (place s).standing) ≡ k)) → IsAbove tool.cmp (tool.key s) k (q.d s)
+  is_past now place end k g q s other = past_group tool.cmp o (tool.key s) k (place s).stand (place s) now.store (now.reader s) (q.ls s) (q.p s ++ g s) (q.d s)
+      (q.sides s).stands (q.within.under s) other
 
   -- ---- what follows once it is known whether the key goes on
 
-  module _ (now : State) (place : Side → Sorted) (end : ℕ) (r : Gathering now place end) (slots : (side : Side) → HasSlots side (place side)) (clean : now.out.faulted ≡ false) (reader : Reader) (next : Sorted) (after : Slots) (goes : GoesOn now place end r slots clean reader next after) where
+  module _ (now : State) (place : Side → Sorted) (end : ℕ) (r : Gathering now place end) (slots : (side : Side) → HasSlots side (place side))
+      (clean : now.out.faulted ≡ false) (reader : Reader) (next : Sorted) (after : Slots) (goes : GoesOn now place end r slots clean reader next after) where
     abbrev then_now : State
     then_now = record { reader = put Second reader now.reader; out = now.out; store = after }
 
@@ -511,22 +569,26 @@ module _ (tool : Tool) (o : IsKeyOrder tool.cmp) (pairs : List ℕ → Lines →
           g = both [] (r.g ++ line now.store (place Second).standing ∷ []);
           q = goes.q;
           some = some_now;
-          above = is_past (record { reader = put Second reader now.reader; out = now.out; store = after }) (put Second next place) (end + 1) r.k (both [] (r.g ++ line now.store (place Second).standing ∷ [])) goes.q Second
+          above = is_past (record { reader = put Second reader now.reader; out = now.out; store = after }) (put Second next place) (end + 1) r.k
+              (both [] (r.g ++ line now.store (place Second).standing ∷ [])) goes.q Second
               (λ e same. lacks_key next.stand r.k (tool.key Second (line after next.standing)) (sym goes.says ∙ is) e (sym same));
           head1 = goes.head1;
           key1 = goes.key1;
         }
 
   module _ (now : State) (place : Side → Sorted) (end : ℕ) (r : Pairing now place end) (slots : (side : Side) → HasSlots side (place side)) (new : Output)
-      (wrote : Wrote now.out new (text tool.end (pairs r.k (line now.store (place First).standing ∷ []) (r.g Second)))) (clean : now.out.faulted ≡ false) (reader : Reader) (next : Sorted) (after : Slots)
+      (wrote : Wrote now.out new (text tool.end (pairs r.k (line now.store (place First).standing ∷ []) (r.g Second)))) (clean : now.out.faulted ≡ false)
+      (reader : Reader) (next : Sorted) (after : Slots)
       (comes : Comes (tool.key First) tool.cmp (place First) next (now.reader First) reader now.store after) where
-    went_on : (q : Grouped tool o pairs laws old unfailed (record { reader = put First reader now.reader; out = new; store = after }) (put First next place) end r.k (both (r.g First ++ line now.store (place First).standing ∷ []) (r.g Second))) × IsAbove tool.cmp (tool.key Second) r.k (q.d Second)
+    went_on : (q : Grouped tool o pairs laws old unfailed (record { reader = put First reader now.reader; out = new; store = after })
+        (put First next place) end r.k (both (r.g First ++ line now.store (place First).standing ∷ []) (r.g Second))) × IsAbove tool.cmp (tool.key Second) r.k (q.d Second)
     went_on = paired now place end r slots new wrote clean reader next after comes
 
     says : next.same ≡ (is_head next.stand && bytes_eq r.k (tool.key First (line after next.standing)))
     says =
         let here = passed_at tool o old.reader now.reader place now.store r.q.ls (λ side. r.q.p side ++ r.g side) r.q.d r.q.sides slots r.q.keeps.four First r.head1 in
-        comes_repeats tool.cmp o (tool.key First) (place First) next (now.reader First) reader now.store after here.some (omega (arith, r.q.keeps.four, (low_slot First (place First) (slots First)).1)) comes
+        comes_repeats tool.cmp o (tool.key First) (place First) next (now.reader First) reader now.store after here.some
+        (omega (arith, r.q.keeps.four, (low_slot First (place First) (slots First)).1)) comes
         ∙ ap (λ (k : List ℕ). is_head next.stand && bytes_eq k (tool.key First (line after next.standing))) r.key1
 
     pub pairs_on : next.same ≡ true → Pairing (record { reader = put First reader now.reader; out = new; store = after }) (put First next place) end
@@ -538,15 +600,19 @@ module _ (tool : Tool) (o : IsKeyOrder tool.cmp) (pairs : List ℕ → Lines →
     pub pair_end : (4 ≤ end) × (end ≤ length after.lines)
     pair_end = (omega (arith, went_on.0.at), end_within (tool.key Second) old.store after went_on.0.ls (r.g Second) went_on.0.keeps end went_on.0.at)
 
-    pub group_closed : next.same ≡ false → ((side : Side) → HasSlots side (put First next place side)) → (cleared : Slots) → IsGroupCleared after cleared end → Between (record { reader = put First reader now.reader; out = new; store = cleared }) (put First next place)
+    pub group_closed : next.same ≡ false → ((side : Side) → HasSlots side (put First next place side)) → (cleared : Slots) → IsGroupCleared after cleared end
+        → Between (record { reader = put First reader now.reader; out = new; store = cleared }) (put First next place)
     group_closed is slots2 cleared clear =
-        let mine = is_past (record { reader = put First reader now.reader; out = new; store = after }) (put First next place) end r.k (both (r.g First ++ line now.store (place First).standing ∷ []) (r.g Second)) went_on.0 First
+        let mine = is_past (record { reader = put First reader now.reader; out = new; store = after }) (put First next place) end r.k
+        (both (r.g First ++ line now.store (place First).standing ∷ []) (r.g Second)) went_on.0 First
         (λ e same. lacks_key next.stand r.k (tool.key First (line after next.standing)) (sym says ∙ is) e (sym same)) in
-        closed (record { reader = put First reader now.reader; out = new; store = after }) (put First next place) end r.k (both (r.g First ++ line now.store (place First).standing ∷ []) (r.g Second)) went_on.0 slots2
+        closed (record { reader = put First reader now.reader; out = new; store = after }) (put First next place) end r.k
+        (both (r.g First ++ line now.store (place First).standing ∷ []) (r.g Second)) went_on.0 slots2
         (elim [ First ↦ omega (arith, length_push (r.g First) (line now.store (place First).standing)) | Second ↦ r.some ]) (elim [ First ↦ mine | Second ↦ went_on.1 ]) cleared clear
 
   -- how many slots there are where no line could be gathered
-  pub gather_slots : (key : Key) (cmp : Cmp) (place next : Sorted) (was is : Reader) (before after : Slots) (end : ℕ) (fault : MergeFault) → Gathers key cmp place next was is before after end (Err fault) → 4 ≤ length before.lines → (length before.lines ≤ length after.lines) × (4 ≤ length after.lines)
+  pub gather_slots : (key : Key) (cmp : Cmp) (place next : Sorted) (was is : Reader) (before after : Slots) (end : ℕ) (fault : MergeFault)
+      → Gathers key cmp place next was is before after end (Err fault) → 4 ≤ length before.lines → (length before.lines ≤ length after.lines) × (4 ≤ length after.lines)
   gather_slots key cmp place next was is before after end fault (inl e) four = (e.refused.slots, omega (arith, e.refused.slots))
   gather_slots key cmp place next was is before after end fault (inr e) four =
       let count = breaks_slots Second place was is e.made after fault e.breaks in

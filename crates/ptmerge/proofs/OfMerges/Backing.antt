@@ -1,5 +1,6 @@
 -- What had come of an input two blocks earlier: only lines that are passed.
-use Rattle.std.proofs.Common.{◌≡◌, ◌⊎◌, ⊎_elim, inl, inr, ℕ, ◌+◌, ◌≤◌, Bool, true, false, cond, List, [], ◌∷◌, ◌++◌, Option, Some, None, length, map, refl, sym, ◌∙◌, ap, subst, arith, append_assoc, length-append}
+use Rattle.std.proofs.Common.{◌≡◌, ◌⊎◌, ⊎_elim, inl, inr, ℕ, ◌+◌, ◌≤◌, Bool, true, false, cond, List, [], ◌∷◌, ◌++◌, Option, Some, None, length, map, refl, sym}
+use Rattle.std.proofs.Common.{◌∙◌, ap, subst, arith, append_assoc, length-append}
 use Rattle.std.specs.List.{last_or}
 use Rattle.std.proofs.lemmas.List.{append-nil}
 use Rattle.ptlines.specs.Inputs.{Given, whole_lines}
@@ -132,7 +133,8 @@ Near ls p piece = (ls ≡ p) ⊎ ((x : List ℕ) × (ls ≡ p ++ x ∷ []) × (p
 
 module _ (end : ℕ) (given piece : List ℕ) (ls p : Lines) (now new : Reader) (far : Far end given ls now) (free : IsLine end piece) (few : length new.held ≤ 8192) where
   -- where what is held is left out
-  unheld : (whole : Lines) (tail : List ℕ) → given ++ piece ≡ text end whole ++ tail → AreLines end whole → IsLine end tail → (rest : Lines) → p ≡ whole ++ rest → Back end (given_of (given ++ piece) new) p
+  unheld : (whole : Lines) (tail : List ℕ) → given ++ piece ≡ text end whole ++ tail → AreLines end whole → IsLine end tail → (rest : Lines) → p ≡ whole
+      ++ rest → Back end (given_of (given ++ piece) new) p
   unheld whole tail is all line rest split = record {
     before = record { earlier = record { bytes = given ++ piece; ended = false }; last = new.held; split = refl; short = omega (arith, few); ended = λ e. cc };
     going = refl;

@@ -62,7 +62,8 @@ pub fall_is : (cmp : Cmp) (key : Key) (ls : Lines) → fall cmp key ls ≡ fall_
 fall_is cmp key ls =
     let same : length (ordered_after cmp key None ls) + 1 ≡ (0 + length (ordered_after cmp key None ls)) + 1 = omega arith in
     ap (λ part. if nat_lt (length part) (length ls) then Some (record { last_key = unwrap_or (last_or None (map key part)) []; line = length part + 1 }) else None) (ordered_is cmp key ls)
-    ∙ (λ i. if nat_lt (length (ordered_after cmp key None ls)) (length ls) then Some (record { last_key = unwrap_or (last_or None (map key (ordered_after cmp key None ls))) []; line = same i }) else None)
+    ∙ (λ i. if nat_lt (length (ordered_after cmp key None ls)) (length ls) then Some
+    (record { last_key = unwrap_or (last_or None (map key (ordered_after cmp key None ls))) []; line = same i }) else None)
     ∙ by_length_is cmp key None 0 ls
 
 -- lines in order, up to a last key
@@ -76,7 +77,8 @@ begun_none cmp key = record { ordered = ordered_is cmp key; falling = fall_is cm
 pub begun_more : (cmp : Cmp) (key : Key) (q : Lines) (last : Option (List ℕ)) (x : List ℕ) → Begun cmp key q last → falls cmp last (key x) ≡ false → Begun cmp key (q ++ x ∷ []) (Some (key x))
 begun_more cmp key q last x b rises = record {
   ordered = λ w.
-      ap (ordered_part cmp key) (append_assoc q (x ∷ []) w) ∙ b.ordered (x ∷ w) ∙ ap (λ t. q ++ cond t [] (x ∷ ordered_after cmp key (Some (key x)) w)) rises ∙ sym (append_assoc q (x ∷ []) (ordered_after cmp key (Some (key x)) w));
+      ap (ordered_part cmp key) (append_assoc q (x ∷ []) w) ∙ b.ordered (x ∷ w) ∙ ap (λ t. q ++ cond t [] (x ∷ ordered_after cmp key (Some (key x)) w)) rises
+      ∙ sym (append_assoc q (x ∷ []) (ordered_after cmp key (Some (key x)) w));
   falling = λ w.
       ap (fall cmp key) (append_assoc q (x ∷ []) w) ∙ b.falling (x ∷ w) ∙ ap (λ t. cond t (Some (fall_at last (length q))) (fall_after cmp key (Some (key x)) (length q + 1) w)) rises
       ∙ ap (λ n. fall_after cmp key (Some (key x)) n w) (sym (length_push q x));
@@ -87,7 +89,8 @@ abbrev pub FallFrom : Cmp → List ℕ → Option Fall → Type 0
 FallFrom cmp k None = Unit {0}
 FallFrom cmp k (Some d) = AtMost cmp k d.last_key
 
-pub after_from : (cmp : Cmp) (o : IsKeyOrder cmp) (key : Key) (k : List ℕ) (n : ℕ) (w : Lines) → EachKey (AtMost cmp k) key (ordered_after cmp key (Some k) w) × FallFrom cmp k (fall_after cmp key (Some k) n w)
+pub after_from : (cmp : Cmp) (o : IsKeyOrder cmp) (key : Key) (k : List ℕ) (n : ℕ) (w : Lines) → EachKey (AtMost cmp k) key (ordered_after cmp key (Some k) w)
+    × FallFrom cmp k (fall_after cmp key (Some k) n w)
 after_from cmp o key k n [] = (tt, tt)
 after_from cmp o key k n (x ∷ w) = by (is_gt (cmp k (key x))) refl (after_from cmp o key (key x) (n + 1) w)
   where
@@ -98,7 +101,14 @@ after_from cmp o key k n (x ∷ w) = by (is_gt (cmp k (key x))) refl (after_from
     by : (b : Bool) → is_gt (cmp k (key x)) ≡ b → EachKey (AtMost cmp (key x)) key (ordered_after cmp key (Some (key x)) w) × FallFrom cmp (key x) (fall_after cmp key (Some (key x)) (n + 1) w)
         → EachKey (AtMost cmp k) key (cond b [] (x ∷ ordered_after cmp key (Some (key x)) w)) × FallFrom cmp k (cond b (Some (fall_at (Some k) n)) (fall_after cmp key (Some (key x)) (n + 1) w))
     by true h ih = (tt, self_at_most cmp o k)
-    by false h ih = ((h, EachKey-weaker (AtMost cmp (key x)) (AtMost cmp k) (λ y a. at_most_trans cmp o k (key x) y h a) key (ordered_after cmp key (Some (key x)) w) ih.0), up h (fall_after cmp key (Some (key x)) (n + 1) w) ih.1)
+    by false h ih = (
+      (
+        h,
+        EachKey-weaker (AtMost cmp (key x)) (AtMost cmp k) (λ y a. at_most_trans cmp o k (key x) y h a) key
+            (ordered_after cmp key (Some (key x)) w) ih.0,
+      ),
+      up h (fall_after cmp key (Some (key x)) (n + 1) w) ih.1,
+    )
 
 -- What is still to come of an input: nothing is known; keys, and a fall, from k on; no lines, and this fall; no lines and no fall.
 pub data Bound : Type 0 where
@@ -172,7 +182,8 @@ reaches_head cmp o key p x g = record {
 }
 
 -- a line that falls
-pub reaches_fallen : (cmp : Cmp) (key : Key) (p : Lines) (k x : List ℕ) → Begun cmp key p (Some k) → is_gt (cmp k (key x)) ≡ true → Reaches cmp key (p ++ x ∷ []) p (Fallen (record { last_key = k; line = length p + 1 }))
+pub reaches_fallen : (cmp : Cmp) (key : Key) (p : Lines) (k x : List ℕ) → Begun cmp key p (Some k) → is_gt (cmp k (key x)) ≡ true
+    → Reaches cmp key (p ++ x ∷ []) p (Fallen (record { last_key = k; line = length p + 1 }))
 reaches_fallen cmp key p k x g falls = record {
   future = λ w _. (
     [],

@@ -24,7 +24,8 @@ kept_none w key [] e = refl
 kept_none w key (x ∷ ls) e = rw e.0 (kept_none w key ls e.1)
 
 -- two lists that differ in lines that are left out
-kept_same : (w : List ℕ → Bool) (key : Key) (xs ys rest tail : Lines) → xs ++ rest ≡ ys ++ tail → EachKey (λ k. w k ≡ false) key rest → EachKey (λ k. w k ≡ false) key tail → filter (λ line. w (key line)) xs ≡ filter (λ line. w (key line)) ys
+kept_same : (w : List ℕ → Bool) (key : Key) (xs ys rest tail : Lines) → xs ++ rest ≡ ys ++ tail → EachKey (λ k. w k ≡ false) key rest
+    → EachKey (λ k. w k ≡ false) key tail → filter (λ line. w (key line)) xs ≡ filter (λ line. w (key line)) ys
 kept_same w key xs ys rest tail same none1 none2 =
     let f : List ℕ → Bool = λ line. w (key line) in
     sym (append-nil (filter f xs)) ∙ ap (λ (l : Lines). filter f xs ++ l) (sym (kept_none w key rest none1)) ∙ sym (filter-append f xs rest) ∙ ap (filter f) same
@@ -52,13 +53,17 @@ decided_of_passed tool o ended ls p of going rises differ =
     past : (k : List ℕ) → is_past tool.cmp (tool.key of) (ended of) (ls of) k ≡ is_below tool.cmp k (last_or None (map (tool.key of) (ls of)))
     past k = λ i. cond (going i || is_some (rises i)) true (is_below tool.cmp k (last_or None (map (tool.key of) (ls of))))
 
-    unwanted : (side : Side) (xs : Lines) → EachKey (λ k. is_below tool.cmp k (last_or None (map (tool.key of) (ls of))) ≡ false) (tool.key side) xs → EachKey (λ k. is_decided tool ended ls k ≡ false) (tool.key side) xs
-    unwanted side xs e = EachKey-weaker (λ k. is_below tool.cmp k (last_or None (map (tool.key of) (ls of))) ≡ false) (λ k. is_decided tool ended ls k ≡ false) (λ k h. not_decided tool o ended ls of k (past k ∙ h)) (tool.key side) xs e
+    unwanted : (side : Side) (xs : Lines) → EachKey (λ k. is_below tool.cmp k (last_or None (map (tool.key of) (ls of))) ≡ false) (tool.key side) xs
+        → EachKey (λ k. is_decided tool ended ls k ≡ false) (tool.key side) xs
+    unwanted side xs e = EachKey-weaker (λ k. is_below tool.cmp k (last_or None (map (tool.key of) (ls of))) ≡ false) (λ k. is_decided tool ended ls k ≡ false)
+        (λ k h. not_decided tool o ended ls of k (past k ∙ h)) (tool.key side) xs e
 
-    kept : (side : Side) → filter (λ line. is_decided tool ended ls (tool.key side line)) (ordered_part tool.cmp (tool.key side) (ls side)) ≡ filter (λ line. is_decided tool ended ls (tool.key side line)) (p side)
+    kept : (side : Side) → filter (λ line. is_decided tool ended ls (tool.key side line)) (ordered_part tool.cmp (tool.key side) (ls side))
+        ≡ filter (λ line. is_decided tool ended ls (tool.key side line)) (p side)
     kept side =
         let d = differ side in
-        kept_same (is_decided tool ended ls) (tool.key side) (ordered_part tool.cmp (tool.key side) (ls side)) (p side) d.rest d.tail d.same (unwanted side d.rest d.none_rest) (unwanted side d.tail d.none_tail)
+        kept_same (is_decided tool ended ls) (tool.key side) (ordered_part tool.cmp (tool.key side) (ls side)) (p side) d.rest d.tail d.same
+        (unwanted side d.rest d.none_rest) (unwanted side d.tail d.none_tail)
 
 -- ---- a disorder
 
@@ -79,16 +84,19 @@ not_settled tool o ended ls of going rises = by of going rises
     past s on none e up =
         not_decided tool o ended ls s e ((λ i. cond (on i || is_some (none i)) true (is_below tool.cmp e (last_or None (map (tool.key s) (ls s))))) ∙ below_last tool.cmp o (tool.key s) (ls s) e up)
 
-    first : (f g : Option Fall) → f ≡ None → ended First ≡ false → fall tool.cmp (tool.key First) (ls First) ≡ None → EachKey (λ k. FallFrom tool.cmp k g) (tool.key First) (ls First) → is_settled tool ended ls (disorder_of tool.cmp f g) ≡ false
+    first : (f g : Option Fall) → f ≡ None → ended First ≡ false → fall tool.cmp (tool.key First) (ls First) ≡ None
+        → EachKey (λ k. FallFrom tool.cmp k g) (tool.key First) (ls First) → is_settled tool ended ls (disorder_of tool.cmp f g) ≡ false
     first None None e on none up = refl
     first None (Some d) e on none up = past First on none d.last_key up
     first (Some c) g e on none up = cc
 
-    second : (f g : Option Fall) → g ≡ None → ended Second ≡ false → fall tool.cmp (tool.key Second) (ls Second) ≡ None → EachKey (λ k. FallFrom tool.cmp k f) (tool.key Second) (ls Second) → is_settled tool ended ls (disorder_of tool.cmp f g) ≡ false
+    second : (f g : Option Fall) → g ≡ None → ended Second ≡ false → fall tool.cmp (tool.key Second) (ls Second) ≡ None
+        → EachKey (λ k. FallFrom tool.cmp k f) (tool.key Second) (ls Second) → is_settled tool ended ls (disorder_of tool.cmp f g) ≡ false
     second None None e on none up = refl
     second (Some d) None e on none up = past Second on none d.last_key up
     second f (Some c) e on none up = cc
 
-    by : (s : Side) → ended s ≡ false → fall tool.cmp (tool.key s) (ls s) ≡ None → EachKey (λ k. FallFrom tool.cmp k (fall tool.cmp (tool.key (other s)) (ls (other s)))) (tool.key s) (ls s) → is_settled tool ended ls (disorder tool ls) ≡ false
+    by : (s : Side) → ended s ≡ false → fall tool.cmp (tool.key s) (ls s) ≡ None
+        → EachKey (λ k. FallFrom tool.cmp k (fall tool.cmp (tool.key (other s)) (ls (other s)))) (tool.key s) (ls s) → is_settled tool ended ls (disorder tool ls) ≡ false
     by First on none up = first (fall tool.cmp (tool.key First) (ls First)) (fall tool.cmp (tool.key Second) (ls Second)) none on none up
     by Second on none up = second (fall tool.cmp (tool.key First) (ls First)) (fall tool.cmp (tool.key Second) (ls Second)) none on none up

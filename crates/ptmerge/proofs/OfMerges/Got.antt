@@ -42,7 +42,8 @@ done_gives_nothing now new bytes done reads =
     let none : length bytes + length new.held ≡ 0 = omega (arith, reads.count, still.0, ap length done.held) in
     (nil_from_length bytes (omega (arith, none)), nil_from_length new.held (omega (arith, none)), still.1)
 
-pub got_more : (end : ℕ) (old now new : Reader) (ls : List (List ℕ)) (before after : Slots) (slot : ℕ) → Got end old now ls → (e : GivesLine now new before after slot) → Got end old new (ls ++ e.line ∷ [])
+pub got_more : (end : ℕ) (old now new : Reader) (ls : List (List ℕ)) (before after : Slots) (slot : ℕ) → Got end old now ls
+    → (e : GivesLine now new before after slot) → Got end old new (ls ++ e.line ∷ [])
 got_more end old now new ls before after slot c e = record {
   given = c.given ++ (e.line ++ e.ending);
   so_far = ⊎_elim opened closed c.so_far;
@@ -57,7 +58,8 @@ got_more end old now new ls before after slot c e = record {
     opened o = elim e.ends [
       | inl ends ↦ inl ((λ i. o.0 i ++ (e.line ++ (ends ∙ ap (λ (b : ℕ). b ∷ []) c.ending) i)) ∙ sym (text_push end ls e.line), AreLines_push end ls e.line o.1 free)
       | inr last ↦ inr (
-        ap (lines end) ((λ i. o.0 i ++ (e.line ++ last.0 i)) ∙ ap (λ (l : List ℕ). text end ls ++ l) (append-nil e.line)) ∙ lines_of_text end ls e.line o.1 ∙ ap (λ (l : List (List ℕ)). ls ++ l) (lines_last end e.line free last.1),
+        ap (lines end) ((λ i. o.0 i ++ (e.line ++ last.0 i)) ∙ ap (λ (l : List ℕ). text end ls ++ l) (append-nil e.line)) ∙ lines_of_text end ls e.line o.1
+            ∙ ap (λ (l : List (List ℕ)). ls ++ l) (lines_last end e.line free last.1),
         last.2,
       )
     ]
@@ -141,7 +143,8 @@ module _ (end : ℕ) (old now new : Reader) (ls : List (List ℕ)) (piece : List
     where
       by_end : (t : Bool) → new.ended ≡ t → Known (whole_lines end (given_of (c.given ++ piece) new))
       by_end true e =
-          let all : whole_lines end (given_of (c.given ++ piece) new) ≡ lines end ((c.given ++ piece) ++ new.held) = λ i. whole_lines end (record { bytes = (c.given ++ piece) ++ new.held; ended = e i }) in
+          let all : whole_lines end (given_of (c.given ++ piece) new) ≡ lines end ((c.given ++ piece) ++ new.held) = λ i. whole_lines end
+          (record { bytes = (c.given ++ piece) ++ new.held; ended = e i }) in
           let w = (got_lines ((c.given ++ piece) ++ new.held) (record { rest = []; is = sym (append-nil ((c.given ++ piece) ++ new.held)); whole = λ _. refl })).0 in
           record { known = record { more = w.more; is = all ∙ w.is; done = w.done }; exact = λ _ going. absurd (false≢true (sym going ∙ e)) }
       by_end false e = ⊎_elim opened (λ k. absurd (false≢true (sym e ∙ (nothing k).2))) c.so_far
@@ -155,5 +158,6 @@ module _ (end : ℕ) (old now new : Reader) (ls : List (List ℕ)) (piece : List
               all ∙ ap (ended_lines end) (sym (append-nil ((c.given ++ piece) ++ new.held)) ∙ front_of o []) ∙ ended_more end ls (piece ++ (new.held ++ [])) o.1 in
               record {
                 known = record { more = ended_lines end (piece ++ (new.held ++ [])); is = is; done = λ d. absurd (false≢true (sym e ∙ (done_gives_nothing now new piece d reads).2)) };
-                exact = λ empty _. is ∙ ap (λ (l : List ℕ). ls ++ ended_lines end l) (ap (λ (l : List ℕ). piece ++ (l ++ [])) empty ∙ append-nil piece) ∙ ap (λ (l : List (List ℕ)). ls ++ l) (ended_none end piece free) ∙ append-nil ls;
+                exact = λ empty _. is ∙ ap (λ (l : List ℕ). ls ++ ended_lines end l) (ap (λ (l : List ℕ). piece ++ (l ++ [])) empty ∙ append-nil piece)
+                    ∙ ap (λ (l : List (List ℕ)). ls ++ l) (ended_none end piece free) ∙ append-nil ls;
               }

@@ -36,7 +36,8 @@ abbrev behind : Lines → Given
 behind ls = record { bytes = text 10 ls ++ replicate 20000 120; ended = false }
 
 -- two blocks earlier they had come
-had_come : (ls : Lines) → AreLines 10 ls → length (text 10 ls) ≤ 3600 → (b : Before (record { bytes = text 10 ls ++ replicate 20000 120; ended = false })) → (b.earlier.ended ≡ false) × (whole_lines 10 b.earlier ≡ ls)
+had_come : (ls : Lines) → AreLines 10 ls → length (text 10 ls) ≤ 3600 → (b : Before (record { bytes = text 10 ls ++ replicate 20000 120; ended = false }))
+    → (b.earlier.ended ≡ false) × (whole_lines 10 b.earlier ≡ ls)
 had_come ls all few b =
     let many : length {A = ℕ} (replicate 20000 120) ≡ 20000 = length-replicate {A = ℕ} 20000 120 in
     let f = front_of (text 10 ls) (replicate 20000 120) b.earlier.bytes b.last b.split
@@ -65,7 +66,8 @@ b_then_a = ((not_ten 98 (omega arith), tt), ((not_ten 97 (omega arith), tt), tt)
 
 -- nothing was pushed, where "a" was decided before 20,000 bytes more came
 nothing_pushed : (was is : Output)
-    → KeepsUp {I = Unit {0}} (λ came. decided (comm_tool default_comm) (put First (came tt) (both (behind ((97 ∷ []) ∷ (98 ∷ []) ∷ [])) nothing_left))) (λ u. behind ((97 ∷ []) ∷ (98 ∷ []) ∷ [])) was is [] → ⊥
+    → KeepsUp {I = Unit {0}} (λ came. decided (comm_tool default_comm) (put First (came tt) (both (behind ((97 ∷ []) ∷ (98 ∷ []) ∷ [])) nothing_left)))
+    (λ u. behind ((97 ∷ []) ∷ (98 ∷ []) ∷ [])) was is [] → ⊥
 nothing_pushed was is k =
     let b = k.works.before tt in
     let come = had_come ((97 ∷ []) ∷ (98 ∷ []) ∷ []) a_then_b (omega arith) b in

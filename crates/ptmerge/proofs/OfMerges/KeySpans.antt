@@ -25,7 +25,8 @@ use Rattle.ptmerge.proofs.OfMerges.Slotted.{line_added, line_other}
 use Rattle.ptmerge.proofs.OfMerges.Turning.{own_slots, slots_apart}
 
 -- what stands between two texts
-pub span_between : (front field tail line : List ℕ) (span : Span) → line ≡ front ++ (field ++ tail) → length line ≡ length front + (length field + length tail) → span.start ≡ length front → span.end ≡ length front + length field → IsSpan line field span
+pub span_between : (front field tail line : List ℕ) (span : Span) → line ≡ front ++ (field ++ tail) → length line ≡ length front + (length field + length tail)
+    → span.start ≡ length front → span.end ≡ length front + length field → IsSpan line field span
 span_between front field tail line span is count start end = record {
   ordered = omega (arith, start, end);
   within = omega (arith, count, end);
@@ -63,32 +64,38 @@ first_stands key cmp number last next e =
     let r = cmp (key last) (key next) in
     (sym (ap (λ (b : Bool). cond (b && is_gt r) (Disorder (number + 1)) Head) t), sym (ap (λ (b : Bool). b && is_eq r) t))
 
-pub later_stands : (key : Key) (cmp : Cmp) (number : ℕ) (last next : List ℕ) (r : Ordering) → 0 < number → r ≡ cmp (key last) (key next) → (cond (is_gt r) (Disorder (number + 1)) Head ≡ stand_at key cmp number last next) × (is_eq r ≡ same_at key cmp number last next)
+pub later_stands : (key : Key) (cmp : Cmp) (number : ℕ) (last next : List ℕ) (r : Ordering) → 0 < number → r ≡ cmp (key last) (key next)
+    → (cond (is_gt r) (Disorder (number + 1)) Head ≡ stand_at key cmp number last next) × (is_eq r ≡ same_at key cmp number last next)
 later_stands key cmp number last next r some is =
     let t : nat_lt 0 number ≡ true = grind (arith, nat_tests) in
     (λ i. cond (sym t i && is_gt (is i)) (Disorder (number + 1)) Head, λ i. sym t i && is_eq (is i))
 
 -- the spans are those of the same lines, whatever other slots hold
-pub spans_keep : (key : Key) (place : Sorted) (before after : Slots) → line after place.standing ≡ line before place.standing → line after place.previous ≡ line before place.previous → HasSpans key place before → HasSpans key place after
+pub spans_keep : (key : Key) (place : Sorted) (before after : Slots) → line after place.standing ≡ line before place.standing → line after place.previous
+    ≡ line before place.previous → HasSpans key place before → HasSpans key place after
 spans_keep key place before after same1 same2 h = record {
   head = λ e. subst (λ (l : List ℕ). IsSpan l (key l) place.key) (sym same1) (h.head e);
   last = λ e. subst (λ (l : List ℕ). IsSpan l (key l) place.last) (sym same2) (h.last e);
 }
 
 -- an input that goes on changes one slot
-pub comes_keeps : (key : Key) (cmp : Cmp) (place next : Sorted) (now new : Reader) (before after : Slots) (slot : ℕ) → place.previous ≢ slot → Comes key cmp place next now new before after → line after slot ≡ line before slot
+pub comes_keeps : (key : Key) (cmp : Cmp) (place next : Sorted) (now new : Reader) (before after : Slots) (slot : ℕ) → place.previous ≢ slot
+    → Comes key cmp place next now new before after → line after slot ≡ line before slot
 comes_keeps key cmp place next now new before after slot apart (inl e) = ap (λ (s : Slots). line s slot) e.gives.stored ∙ line_other before place.previous slot e.gives.line apart
 comes_keeps key cmp place next now new before after slot apart (inr e) = ap (λ (s : Slots). line s slot) e.empty ∙ line_other before place.previous slot [] apart
 
 -- and so the other input's spans are what they were
-pub others_spans : (s : Side) (own key : Key) (cmp : Cmp) (place next still : Sorted) (now new : Reader) (before after : Slots) → HasSlots s place → HasSlots (other s) still → Comes own cmp place next now new before after → HasSpans key still before
+pub others_spans : (s : Side) (own key : Key) (cmp : Cmp) (place next still : Sorted) (now new : Reader) (before after : Slots) → HasSlots s place
+    → HasSlots (other s) still → Comes own cmp place next now new before after → HasSpans key still before
     → HasSpans key still after
 others_spans s own key cmp place next still now new before after here there comes =
     let apart = slots_apart s place still here there in
-    spans_keep key still before after (comes_keeps own cmp place next now new before after still.standing apart.0 comes) (comes_keeps own cmp place next now new before after still.previous apart.1 comes)
+    spans_keep key still before after (comes_keeps own cmp place next now new before after still.standing apart.0 comes)
+    (comes_keeps own cmp place next now new before after still.previous apart.1 comes)
 
 -- the slots behind the first four may change
-pub placed_keeps : (key : Side → Key) (one two : Sorted) (before after : Slots) → IsPlaced key one two before → length before.lines ≤ length after.lines → ((slot : ℕ) → slot < 4 → line after slot ≡ line before slot) → IsPlaced key one two after
+pub placed_keeps : (key : Side → Key) (one two : Sorted) (before after : Slots) → IsPlaced key one two before → length before.lines ≤ length after.lines
+    → ((slot : ℕ) → slot < 4 → line after slot ≡ line before slot) → IsPlaced key one two after
 placed_keeps key one two before after p least same = record {
   first = p.first;
   second = p.second;

@@ -83,7 +83,8 @@ module _ (cmp : Cmp) (o : IsKeyOrder cmp) where
   others_above k [] e = tt
   others_above k (y ∷ ks) e = by (others_above k ks e.1) (least_or_above cmp o k y e.0)
     where
-      by : Each (Above cmp k) (others k ks) → ((bytes_eq y k ≡ true) × (y ≡ k)) ⊎ ((bytes_eq y k ≡ false) × (cmp y k ≡ Greater)) → Each (Above cmp k) (cond (bytes_eq y k) (others k ks) (y ∷ others k ks))
+      by : Each (Above cmp k) (others k ks) → ((bytes_eq y k ≡ true) × (y ≡ k)) ⊎ ((bytes_eq y k ≡ false) × (cmp y k ≡ Greater))
+          → Each (Above cmp k) (cond (bytes_eq y k) (others k ks) (y ∷ others k ks))
       by ih (inl h) = rw h.0 ih
       by ih (inr h) = rw h.0 (h.1, ih)
 
@@ -99,12 +100,14 @@ module _ (cmp : Cmp) (o : IsKeyOrder cmp) where
       same true = insert_again k (distinct cmp (others k ks))
       same false = insert_least k (distinct cmp (others k ks)) above
 
-      other : (b : Bool) → cmp y k ≡ Greater → insert_key cmp y (cond b (k ∷ distinct cmp (others k ks)) (distinct cmp (others k ks))) ≡ cond b (k ∷ insert_key cmp y (distinct cmp (others k ks))) (insert_key cmp y (distinct cmp (others k ks)))
+      other : (b : Bool) → cmp y k ≡ Greater → insert_key cmp y (cond b (k ∷ distinct cmp (others k ks)) (distinct cmp (others k ks)))
+          ≡ cond b (k ∷ insert_key cmp y (distinct cmp (others k ks))) (insert_key cmp y (distinct cmp (others k ks)))
       other true g = insert_above k y (distinct cmp (others k ks)) g
       other false g = refl
 
       by : distinct cmp ks ≡ cond (has k ks) (k ∷ distinct cmp (others k ks)) (distinct cmp (others k ks)) → ((bytes_eq y k ≡ true) × (y ≡ k)) ⊎ ((bytes_eq y k ≡ false) × (cmp y k ≡ Greater))
-          → insert_key cmp y (distinct cmp ks) ≡ cond (cond (bytes_eq y k) true (has k ks)) (k ∷ distinct cmp (cond (bytes_eq y k) (others k ks) (y ∷ others k ks))) (distinct cmp (cond (bytes_eq y k) (others k ks) (y ∷ others k ks)))
+          → insert_key cmp y (distinct cmp ks) ≡ cond (cond (bytes_eq y k) true (has k ks))
+          (k ∷ distinct cmp (cond (bytes_eq y k) (others k ks) (y ∷ others k ks))) (distinct cmp (cond (bytes_eq y k) (others k ks) (y ∷ others k ks)))
       by ih (inl h) = rw h.0 (ap (λ z. insert_key cmp z (distinct cmp ks)) h.1 ∙ ap (insert_key cmp k) ih ∙ same (has k ks))
       by ih (inr h) = rw h.0 (ap (insert_key cmp y) ih ∙ other (has k ks) h.1)
 
@@ -112,12 +115,15 @@ others-keys : (key1 key2 : Key) (k : List ℕ) (xs ys : Lines) → others k (map
 others-keys key1 key2 k [] [] = refl
 others-keys key1 key2 k [] (y ∷ ys) = by (others-keys key1 key2 k [] ys) (bytes_eq (key2 y) k)
   where
-    by : others k (map key2 ys) ≡ map key2 (without key2 k ys) → (b : Bool) → cond b (others k (map key2 ys)) (key2 y ∷ others k (map key2 ys)) ≡ map key2 (cond b (without key2 k ys) (y ∷ without key2 k ys))
+    by : others k (map key2 ys) ≡ map key2 (without key2 k ys) → (b : Bool) → cond b (others k (map key2 ys)) (key2 y ∷ others k (map key2 ys))
+        ≡ map key2 (cond b (without key2 k ys) (y ∷ without key2 k ys))
     by ih true = ih
     by ih false = ap (λ l. key2 y ∷ l) ih
 others-keys key1 key2 k (x ∷ xs) ys = by (others-keys key1 key2 k xs ys) (bytes_eq (key1 x) k)
   where
-    by : others k (map key1 xs ++ map key2 ys) ≡ map key1 (without key1 k xs) ++ map key2 (without key2 k ys) → (b : Bool) → cond b (others k (map key1 xs ++ map key2 ys)) (key1 x ∷ others k (map key1 xs ++ map key2 ys)) ≡ map key1 (cond b (without key1 k xs) (x ∷ without key1 k xs)) ++ map key2 (without key2 k ys)
+    by : others k (map key1 xs ++ map key2 ys) ≡ map key1 (without key1 k xs) ++ map key2 (without key2 k ys) → (b : Bool)
+        → cond b (others k (map key1 xs ++ map key2 ys)) (key1 x ∷ others k (map key1 xs ++ map key2 ys))
+        ≡ map key1 (cond b (without key1 k xs) (x ∷ without key1 k xs)) ++ map key2 (without key2 k ys)
     by ih true = ih
     by ih false = ap (λ l. key1 x ∷ l) ih
 
@@ -126,12 +132,14 @@ with_key_none : (key1 key2 : Key) (k : List ℕ) (xs ys : Lines) → has k (map 
 with_key_none key1 key2 k [] [] h = (refl, refl)
 with_key_none key1 key2 k [] (y ∷ ys) h = by (with_key_none key1 key2 k [] ys) (bytes_eq (key2 y) k) h
   where
-    by : (has k (map key2 ys) ≡ false → (with_key key1 [] k ≡ []) × (with_key key2 ys k ≡ [])) → (b : Bool) → cond b true (has k (map key2 ys)) ≡ false → (with_key key1 [] k ≡ []) × (cond b (y ∷ with_key key2 ys k) (with_key key2 ys k) ≡ [])
+    by : (has k (map key2 ys) ≡ false → (with_key key1 [] k ≡ []) × (with_key key2 ys k ≡ [])) → (b : Bool) → cond b true (has k (map key2 ys)) ≡ false
+        → (with_key key1 [] k ≡ []) × (cond b (y ∷ with_key key2 ys k) (with_key key2 ys k) ≡ [])
     by ih true h = cc
     by ih false h = ih h
 with_key_none key1 key2 k (x ∷ xs) ys h = by (with_key_none key1 key2 k xs ys) (bytes_eq (key1 x) k) h
   where
-    by : (has k (map key1 xs ++ map key2 ys) ≡ false → (with_key key1 xs k ≡ []) × (with_key key2 ys k ≡ [])) → (b : Bool) → cond b true (has k (map key1 xs ++ map key2 ys)) ≡ false → (cond b (x ∷ with_key key1 xs k) (with_key key1 xs k) ≡ []) × (with_key key2 ys k ≡ [])
+    by : (has k (map key1 xs ++ map key2 ys) ≡ false → (with_key key1 xs k ≡ []) × (with_key key2 ys k ≡ [])) → (b : Bool)
+        → cond b true (has k (map key1 xs ++ map key2 ys)) ≡ false → (cond b (x ∷ with_key key1 xs k) (with_key key1 xs k) ≡ []) × (with_key key2 ys k ≡ [])
     by ih true h = cc
     by ih false h = ih h
 
@@ -146,7 +154,8 @@ with_key_without key k q (x ∷ xs) n = by (with_key_without key k q xs n) (byte
       | false ↦ λ f. refl
     ] (bytes_decides (key x) q).0
 
-    by : with_key key (without key k xs) q ≡ with_key key xs q → (b : Bool) → bytes_eq (key x) k ≡ b → with_key key (cond b (without key k xs) (x ∷ without key k xs)) q ≡ cond (bytes_eq (key x) q) (x ∷ with_key key xs q) (with_key key xs q)
+    by : with_key key (without key k xs) q ≡ with_key key xs q → (b : Bool) → bytes_eq (key x) k ≡ b
+        → with_key key (cond b (without key k xs) (x ∷ without key k xs)) q ≡ cond (bytes_eq (key x) q) (x ∷ with_key key xs q) (with_key key xs q)
     by ih true e = rw (apart ((bytes_decides (key x) k).0 e)) ih
     by ih false e = ap (λ l. cond (bytes_eq (key x) q) (x ∷ l) l) ih
 
@@ -162,7 +171,8 @@ module _ (tool : Tool) (o : IsKeyOrder tool.cmp) where
   over_others w k ls [] e = refl
   over_others w k ls (q ∷ ks) e = by (over_others w k ls ks e.1) (w q)
     where
-      by : over w ls ks ≡ over w (others_of k ls) ks → (b : Bool) → flat_map (entries_of tool ls) (cond b (q ∷ filter w ks) (filter w ks)) ≡ flat_map (entries_of tool (others_of k ls)) (cond b (q ∷ filter w ks) (filter w ks))
+      by : over w ls ks ≡ over w (others_of k ls) ks → (b : Bool) → flat_map (entries_of tool ls) (cond b (q ∷ filter w ks) (filter w ks))
+          ≡ flat_map (entries_of tool (others_of k ls)) (cond b (q ∷ filter w ks) (filter w ks))
       by ih true =
           let n = above_not_same tool.cmp o k q e.0 in
           λ i. tool.entries q (sym (with_key_without (tool.key First) k q (ls First) n) i) (sym (with_key_without (tool.key Second) k q (ls Second) n) i) ++ ih i
@@ -213,7 +223,8 @@ module _ (tool : Tool) (o : IsKeyOrder tool.cmp) where
   glued false all a b rest e = refl
 
   -- Lines of the least key, and then lines of no lesser keys.
-  pub front_first : (w : List ℕ → Bool) (k : List ℕ) (f r : Side → Lines) → ((side : Side) → EachKey (λ x. x ≡ k) (tool.key side) (f side)) → ((side : Side) → EachKey (AtMost tool.cmp k) (tool.key side) (r side)) → tool.entries k [] [] ≡ []
+  pub front_first : (w : List ℕ → Bool) (k : List ℕ) (f r : Side → Lines) → ((side : Side) → EachKey (λ x. x ≡ k) (tool.key side) (f side))
+      → ((side : Side) → EachKey (AtMost tool.cmp k) (tool.key side) (r side)) → tool.entries k [] [] ≡ []
       → tool.entries k (f First ++ with_key (tool.key First) (r First) k) (f Second ++ with_key (tool.key Second) (r Second) k) ≡ tool.entries k (f First) (f Second) ++ entries_of tool r k
       → by_keys tool w (λ side. f side ++ r side) ≡ by_keys tool w f ++ by_keys tool w r
   front_first w k f r s a none law =
@@ -227,7 +238,8 @@ module _ (tool : Tool) (o : IsKeyOrder tool.cmp) where
       (λ i. by_keys tool w (λ side. sym (append-nil (f side)) i)) ∙ alone
       ∙ (λ i. cond (w k) (tool.entries k (((alone_in First).0 ∙ append-nil (f First)) i) (((alone_in Second).0 ∙ append-nil (f Second)) i)) [] ++ by_keys tool w (λ side. (alone_in side).1 i)) in
       whole ∙ (λ i. cond (w k) (tool.entries k ((in_front First).0 i) ((in_front Second).0 i)) [] ++ by_keys tool w (λ side. (in_front side).1 i))
-      ∙ glued (w k) (tool.entries k (f First ++ with_key (tool.key First) (r First) k) (f Second ++ with_key (tool.key Second) (r Second) k)) (tool.entries k (f First) (f Second)) (entries_of tool r k) rest law
+      ∙ glued (w k) (tool.entries k (f First ++ with_key (tool.key First) (r First) k) (f Second ++ with_key (tool.key Second) (r Second) k))
+      (tool.entries k (f First) (f Second)) (entries_of tool r k) rest law
       ∙ (λ i. sym first i ++ sym later i)
 
   -- no line above the key has it

@@ -48,7 +48,8 @@ pub record Late (tool : Tool) (b : Side → Bound) (p : Side → Lines) (was is 
   pub coming : (side : Side) (r : Lines) → Coming tool.cmp (tool.key side) (b side) r → Coming tool.cmp (tool.key side) (b side) (tail side ++ r)
 
 -- all was pushed by then, and nothing behind it
-pub late_none : (tool : Tool) (b : Side → Bound) (p : Side → Lines) (was mid is : Output) → mid.faulted ≡ false → Wrote was mid (text tool.end (by_keys tool all_keys p)) → Wrote mid is [] → Late tool b p was is
+pub late_none : (tool : Tool) (b : Side → Bound) (p : Side → Lines) (was mid is : Output) → mid.faulted ≡ false
+    → Wrote was mid (text tool.end (by_keys tool all_keys p)) → Wrote mid is [] → Late tool b p was is
 late_none tool b p was mid is clean wrote more = record {
   mid = mid;
   front = p;
@@ -66,7 +67,8 @@ late_none tool b p was mid is clean wrote more = record {
 pub passes : (tool : Tool) (b : Side → Bound) (p f : Side → Lines) (was is new : Output) → is.faulted ≡ false → Merging tool b p was is
     → ((side : Side) (r : Lines) → Coming tool.cmp (tool.key side) (b side) r → Coming tool.cmp (tool.key side) (b side) (f side ++ r))
     → ((w : List ℕ → Bool) (r : Side → Lines) → ((side : Side) → Coming tool.cmp (tool.key side) (b side) (r side)) → by_keys tool w (λ side. f side ++ r side) ≡ by_keys tool w f ++ by_keys tool w r)
-    → ((of side : Side) → EachKey (Under tool.cmp (b of)) (tool.key side) (f side)) → Wrote is new (text tool.end (by_keys tool all_keys f)) → Merging tool b (λ side. p side ++ f side) was new × Late tool b (λ side. p side ++ f side) was new
+    → ((of side : Side) → EachKey (Under tool.cmp (b of)) (tool.key side) (f side)) → Wrote is new (text tool.end (by_keys tool all_keys f))
+    → Merging tool b (λ side. p side ++ f side) was new × Late tool b (λ side. p side ++ f side) was new
 passes tool b p f was is new clean m coming front under wrote =
     let all : by_keys tool all_keys (λ side. p side ++ f side) ≡ by_keys tool all_keys p ++ by_keys tool all_keys f =
     m.splits.split all_keys f (λ side. subst (Coming tool.cmp (tool.key side) (b side)) (append-nil (f side)) (coming side [] (coming_none tool.cmp (tool.key side) (b side)))) in
@@ -75,7 +77,8 @@ passes tool b p f was is new clean m coming front under wrote =
       record {
         splits = splits_step tool b b p f m.splits coming front;
         under = λ of side. EachKey-append (Under tool.cmp (b of)) (tool.key side) (p side) (f side) (m.under of side) (under of side);
-        wrote = subst (λ (t : List ℕ). Wrote was new t) (sym both_texts) (wrote_trans was is new (text tool.end (by_keys tool all_keys p)) (text tool.end (by_keys tool all_keys f)) clean m.wrote wrote);
+        wrote = subst (λ (t : List ℕ). Wrote was new t) (sym both_texts)
+            (wrote_trans was is new (text tool.end (by_keys tool all_keys p)) (text tool.end (by_keys tool all_keys f)) clean m.wrote wrote);
       },
       record {
         mid = is;
@@ -92,11 +95,14 @@ passes tool b p f was is new clean m coming front under wrote =
     )
 
 -- an input has gone to its next line
-pub settles : (tool : Tool) (b : Side → Bound) (p : Side → Lines) (was is : Output) (s : Side) (d : Bound) → Merging tool b p was is → ((r : Lines) → Coming tool.cmp (tool.key s) d r → Coming tool.cmp (tool.key s) (b s) r) → ((k : List ℕ) → Under tool.cmp (b s) k → Under tool.cmp d k)
+pub settles : (tool : Tool) (b : Side → Bound) (p : Side → Lines) (was is : Output) (s : Side) (d : Bound) → Merging tool b p was is
+    → ((r : Lines) → Coming tool.cmp (tool.key s) d r → Coming tool.cmp (tool.key s) (b s) r) → ((k : List ℕ) → Under tool.cmp (b s) k → Under tool.cmp d k)
     → Merging tool (put s d b) p was is
 settles tool b p was is s d m coming under = record {
-  splits = splits_later tool b (put s d b) p m.splits (put_each (λ side e. (r : Lines) → Coming tool.cmp (tool.key side) e r → Coming tool.cmp (tool.key side) (b side) r) s d b coming (λ side r c. c));
-  under = λ of side. put_each (λ t e. EachKey (Under tool.cmp e) (tool.key side) (p side)) s d b (EachKey-weaker (Under tool.cmp (b s)) (Under tool.cmp d) under (tool.key side) (p side) (m.under s side)) (λ t. m.under t side) of;
+  splits = splits_later tool b (put s d b) p m.splits (put_each (λ side e. (r : Lines) → Coming tool.cmp (tool.key side) e r
+      → Coming tool.cmp (tool.key side) (b side) r) s d b coming (λ side r c. c));
+  under = λ of side. put_each (λ t e. EachKey (Under tool.cmp e) (tool.key side) (p side)) s d b
+      (EachKey-weaker (Under tool.cmp (b s)) (Under tool.cmp d) under (tool.key side) (p side) (m.under s side)) (λ t. m.under t side) of;
   wrote = m.wrote;
 }
 
@@ -139,7 +145,8 @@ module _ (cmp : Cmp) (o : IsKeyOrder cmp) where
   coming_under key Over x r u c = subst (EachKey (AtMost cmp x) key) (sym c) tt
 
   -- nothing that may come of one input is below the last key that passed of another
-  pub past_none : (key other_key : Key) (b : Bound) (p r : Lines) → EachKey (Under cmp b) key p → Coming cmp other_key b r → EachKey (λ k. is_below cmp k (last_or None (map key p)) ≡ false) other_key r
+  pub past_none : (key other_key : Key) (b : Bound) (p r : Lines) → EachKey (Under cmp b) key p → Coming cmp other_key b r
+      → EachKey (λ k. is_below cmp k (last_or None (map key p)) ≡ false) other_key r
   past_none key other_key b p r u c = by (last_or None (map key p)) refl
     where
       none : (xs : Lines) → EachKey (λ k. false ≡ false) other_key xs
@@ -194,7 +201,8 @@ module _ (tool : Tool) (o : IsKeyOrder tool.cmp) (ended : Side → Bool) (ls : S
   down_decided a b g h =
       let up : (List ℕ → Bool) = up_to tool.cmp (disorder tool ls) in
       let past : (Side → List ℕ → Bool) = λ side. is_past tool.cmp (tool.key side) (ended side) (ls side) in
-      all_three (up b) (past First b) (past Second b) (up a) (past First a) (past Second a) (down_up_to tool.cmp o (disorder tool ls) a b g) (down_past tool.cmp o (tool.key First) (ended First) (ls First) a b g)
+      all_three (up b) (past First b) (past Second b) (up a) (past First a) (past Second a) (down_up_to tool.cmp o (disorder tool ls) a b g)
+      (down_past tool.cmp o (tool.key First) (ended First) (ls First) a b g)
       (down_past tool.cmp o (tool.key Second) (ended Second) (ls Second) a b g) h
 
   -- no key is decided that is not past in this input
@@ -217,8 +225,10 @@ module _ (tool : Tool) (o : IsKeyOrder tool.cmp) (b : Side → Bound) (p : Side 
   seen_all ls s =
       let w = up_to tool.cmp (disorder tool ls) in
       let pass : (k : List ℕ) → Under tool.cmp (b First) k → Under tool.cmp (b Second) k → w k ≡ true =
-      λ k u1 u2. passed_is_wanted tool.cmp o (b First) (b Second) (fall tool.cmp (tool.key First) (ls First)) (fall tool.cmp (tool.key Second) (ls Second)) k (s.falling First) (s.falling Second) u1 u2 in
-      let first = all_wanted tool w p (λ side. both_under (tool.key side) (Under tool.cmp (b First)) (Under tool.cmp (b Second)) (λ k. w k ≡ true) pass (p side) (m.under First side) (m.under Second side)) in
+      λ k u1 u2. passed_is_wanted tool.cmp o (b First) (b Second) (fall tool.cmp (tool.key First) (ls First)) (fall tool.cmp (tool.key Second) (ls Second)) k
+      (s.falling First) (s.falling Second) u1 u2 in
+      let first = all_wanted tool w p (λ side. both_under (tool.key side) (Under tool.cmp (b First)) (Under tool.cmp (b Second)) (λ k. w k ≡ true) pass
+      (p side) (m.under First side) (m.under Second side)) in
       (λ i. by_keys tool w (λ side. s.parts side i)) ∙ m.splits.split w s.r s.coming ∙ ap (λ l. l ++ by_keys tool w s.r) first
 
   -- what is decided, where all lines that came of this input are passed and more may come, was pushed
@@ -229,7 +239,8 @@ module _ (tool : Tool) (o : IsKeyOrder tool.cmp) (b : Side → Bound) (p : Side 
       let rest = down_begins tool o dec (down_decided tool o ended ls) p in
       let none : by_keys tool dec s.r ≡ [] = none_wanted tool dec s.r (λ side.
       EachKey-weaker (λ k. is_below tool.cmp k (last_or None (map (tool.key of) (p of))) ≡ false) (λ k. dec k ≡ false)
-      (λ k h. not_decided tool o ended ls of k (past k ∙ h)) (tool.key side) (s.r side) (past_none tool.cmp o (tool.key of) (tool.key side) (b side) (p of) (s.r side) (m.under side of) (s.coming side))) in
+      (λ k h. not_decided tool o ended ls of k (past k ∙ h)) (tool.key side) (s.r side)
+      (past_none tool.cmp o (tool.key of) (tool.key side) (b side) (p of) (s.r side) (m.under side of) (s.coming side))) in
       let known : decided_entries tool ended ls ≡ by_keys tool dec p =
       (λ i. by_keys tool dec (λ side. s.parts side i)) ∙ m.splits.split dec s.r s.coming ∙ ap (λ l. by_keys tool dec p ++ l) none ∙ append-nil (by_keys tool dec p) in
       record { rest = text tool.end rest.0; is = ap (text tool.end) (rest.1 ∙ ap (λ l. l ++ rest.0) (sym known)) ∙ text-append tool.end (decided_entries tool ended ls) rest.0 }

@@ -56,7 +56,8 @@ has_lines_total (a ∷ b ∷ c ∷ d ∷ rest) m more h =
     (omega arith, omega (arith, s0, s1, s2, s3), omega (arith, s0, s1, s2, s3))
 
 -- a line of an input goes into the slot of the line before
-pub set_line : (s : Side) (place : Sorted) (xs : List (List ℕ)) (m k : Side → ℕ) (more : ℕ) (x : List ℕ) → HasSlots s place → HasLines m more xs → ((side : Side) → m side ≤ k side) → length x ≤ k s → HasLines k more (set xs place.previous x)
+pub set_line : (s : Side) (place : Sorted) (xs : List (List ℕ)) (m k : Side → ℕ) (more : ℕ) (x : List ℕ) → HasSlots s place → HasLines m more xs
+    → ((side : Side) → m side ≤ k side) → length x ≤ k s → HasLines k more (set xs place.previous x)
 set_line s place [] m k more x slots h up l = absurd h
 set_line s place (a ∷ []) m k more x slots h up l = absurd h
 set_line s place (a ∷ b ∷ []) m k more x slots h up l = absurd h
@@ -99,7 +100,8 @@ keeps_none before store four allowed empty = record {
   denied = four.denied ∙ allowed;
 }
 
-pub keeps_line : (before store after : Slots) (s : Side) (place : Sorted) (m k : Side → ℕ) (x : List ℕ) → HasSlots s place → Keeps before store m → ((side : Side) → m side ≤ k side) → length x ≤ k s → after ≡ with_line store place.previous x → Keeps before after k
+pub keeps_line : (before store after : Slots) (s : Side) (place : Sorted) (m k : Side → ℕ) (x : List ℕ) → HasSlots s place → Keeps before store m
+    → ((side : Side) → m side ≤ k side) → length x ≤ k s → after ≡ with_line store place.previous x → Keeps before after k
 keeps_line before store after s place m k x slots kept up fits is = subst (λ t. Keeps before t k) (sym is) (record {
   lines = inside;
   peak = omega (arith, kept.peak, up First, up Second, (has_lines_total (set store.lines place.previous x) k 0 inside).1);
@@ -138,7 +140,20 @@ four_cleared s a b c d four is0 is1 is2 is3 =
     let e3 = emptied c d 3 (omega (arith, e0.slots, e1.slots, e2.slots)) is3 in
     record {
       slots = e3.slots ∙ e2.slots ∙ e1.slots ∙ e0.slots;
-      emptied = omega (arith, e0.less, e1.less, e2.less, e3.less, e0.others 1 (λ e. cc), e0.others 2 (λ e. cc), e0.others 3 (λ e. cc), e1.others 2 (λ e. cc), e1.others 3 (λ e. cc), e2.others 3 (λ e. cc));
+      emptied = omega (
+        arith,
+        e0.less,
+        e1.less,
+        e2.less,
+        e3.less,
+        e0.others 1 (λ e. cc),
+        e0.others 2 (λ e. cc),
+        e0.others 3 (λ e. cc),
+        e1.others 2
+            (λ e. cc),
+        e1.others 3 (λ e. cc),
+        e2.others 3 (λ e. cc),
+      );
       peak = omega (arith, e0.peak, e1.peak, e2.peak, e3.peak, e0.less, e1.less, e2.less);
       denied = e3.denied ∙ e2.denied ∙ e1.denied ∙ e0.denied;
     }

@@ -111,17 +111,20 @@ module _ (tool : Tool) where
 
   -- Whatever may come of both lists, and whichever keys are wanted: first comes what is written of the lines that are passed.
   pub record Splits (b : Side → Bound) (p : Side → Lines) : Type 0 where
-    pub split : (w : List ℕ → Bool) (r : Side → Lines) → ((side : Side) → Coming tool.cmp (tool.key side) (b side) (r side)) → by_keys tool w (λ side. p side ++ r side) ≡ by_keys tool w p ++ by_keys tool w r
+    pub split : (w : List ℕ → Bool) (r : Side → Lines) → ((side : Side) → Coming tool.cmp (tool.key side) (b side) (r side))
+        → by_keys tool w (λ side. p side ++ r side) ≡ by_keys tool w p ++ by_keys tool w r
 
   pub splits_none : (b : Side → Bound) → Splits b (λ side. [])
   splits_none b = record { split = λ w r c. refl }
 
   -- less may come
-  pub splits_later : (b d : Side → Bound) (p : Side → Lines) → Splits b p → ((side : Side) (r : Lines) → Coming tool.cmp (tool.key side) (d side) r → Coming tool.cmp (tool.key side) (b side) r) → Splits d p
+  pub splits_later : (b d : Side → Bound) (p : Side → Lines) → Splits b p
+      → ((side : Side) (r : Lines) → Coming tool.cmp (tool.key side) (d side) r → Coming tool.cmp (tool.key side) (b side) r) → Splits d p
   splits_later b d p s u = record { split = λ w r c. s.split w r (λ side. u side (r side) (c side)) }
 
   -- lines are passed whose entries come first of all that may come
-  pub splits_step : (b d : Side → Bound) (p f : Side → Lines) → Splits b p → ((side : Side) (r : Lines) → Coming tool.cmp (tool.key side) (d side) r → Coming tool.cmp (tool.key side) (b side) (f side ++ r))
+  pub splits_step : (b d : Side → Bound) (p f : Side → Lines) → Splits b p
+      → ((side : Side) (r : Lines) → Coming tool.cmp (tool.key side) (d side) r → Coming tool.cmp (tool.key side) (b side) (f side ++ r))
       → ((w : List ℕ → Bool) (r : Side → Lines) → MayCome d r → by_keys tool w (λ side. f side ++ r side) ≡ by_keys tool w f ++ by_keys tool w r) → Splits d (λ side. p side ++ f side)
   splits_step b d p f s u front = record {
     split = λ w r c.

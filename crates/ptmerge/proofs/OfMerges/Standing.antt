@@ -43,9 +43,11 @@ pub record Sided (end : ℕ) (cmp : Cmp) (key : Key) (old now : Reader) (place :
   pub stands : Stands cmp key place.stand place store now ls p b
 
 -- other slots may change
-pub sided_keeps : (end : ℕ) (cmp : Cmp) (key : Key) (old now : Reader) (place : Sorted) (before after : Slots) (ls p : Lines) (b : Bound) → line after place.standing ≡ line before place.standing → line after place.previous ≡ line before place.previous
+pub sided_keeps : (end : ℕ) (cmp : Cmp) (key : Key) (old now : Reader) (place : Sorted) (before after : Slots) (ls p : Lines) (b : Bound)
+    → line after place.standing ≡ line before place.standing → line after place.previous ≡ line before place.previous
     → Sided end cmp key old now place before ls p b → Sided end cmp key old now place after ls p b
-sided_keeps end cmp key old now place before after ls p b same1 same2 s = record { got = s.got; sound = s.sound; near = s.near; number = s.number; reaches = s.reaches; stands = by place.stand s.stands }
+sided_keeps end cmp key old now place before after ls p b same1 same2 s = record
+    { got = s.got; sound = s.sound; near = s.near; number = s.number; reaches = s.reaches; stands = by place.stand s.stands }
   where
     by : (t : Stand) → Stands cmp key t place before now ls p b → Stands cmp key t place after now ls p b
     by Head st = (st.0 ∙ ap (λ (x : List ℕ). p ++ x ∷ []) (sym same1), subst (λ (x : List ℕ). Begun cmp key ls (Some (key x))) (sym same1) st.1, st.2 ∙ ap (λ (x : List ℕ). From (key x)) (sym same1))
@@ -59,7 +61,8 @@ pub record Passed (cmp : Cmp) (key : Key) (place : Sorted) (store : Slots) (ls p
   pub bound : b ≡ From (key (line store place.standing))
   pub some : 0 < place.number
 
-pub passed : (end : ℕ) (cmp : Cmp) (key : Key) (old now : Reader) (place : Sorted) (store : Slots) (ls p : Lines) (b : Bound) → place.stand ≡ Head → Sided end cmp key old now place store ls p b → Passed cmp key place store ls p b
+pub passed : (end : ℕ) (cmp : Cmp) (key : Key) (old now : Reader) (place : Sorted) (store : Slots) (ls p : Lines) (b : Bound) → place.stand ≡ Head
+    → Sided end cmp key old now place store ls p b → Passed cmp key place store ls p b
 passed end cmp key old now place store ls p b e s =
     let st : Stands cmp key Head place store now ls p b = subst (λ t. Stands cmp key t place store now ls p b) e s.stands in
     record { all = st.0; begun = st.1; bound = st.2; some = omega (arith, s.number, ap length st.0, length_push p (line store place.standing)) }
@@ -110,10 +113,12 @@ stand_is cmp key (Some k) place store next l =
     ∙ ap (λ (j : List ℕ). cond (is_gt (cmp j (key next))) (Disorder (place.number + 1)) Head) (sym l.1)
 
 module _ (end : ℕ) (cmp : Cmp) (o : IsKeyOrder cmp) (key : Key) (old now new : Reader) (place next : Sorted) (before after : Slots) (ls : Lines) (last : Option (List ℕ)) where
-  from_next : (x : List ℕ) → falls cmp last (key x) ≡ false → ((r : Lines) → EachKey (AtMost cmp (key x)) key r → Coming cmp key (behind last) r) × ((k : List ℕ) → Under cmp (behind last) k → AtMost cmp k (key x))
+  from_next : (x : List ℕ) → falls cmp last (key x) ≡ false → ((r : Lines) → EachKey (AtMost cmp (key x)) key r → Coming cmp key (behind last) r)
+      × ((k : List ℕ) → Under cmp (behind last) k → AtMost cmp k (key x))
   from_next x rises = by last rises
     where
-      by : (l : Option (List ℕ)) → falls cmp l (key x) ≡ false → ((r : Lines) → EachKey (AtMost cmp (key x)) key r → Coming cmp key (behind l) r) × ((k : List ℕ) → Under cmp (behind l) k → AtMost cmp k (key x))
+      by : (l : Option (List ℕ)) → falls cmp l (key x) ≡ false → ((r : Lines) → EachKey (AtMost cmp (key x)) key r → Coming cmp key (behind l) r)
+          × ((k : List ℕ) → Under cmp (behind l) k → AtMost cmp k (key x))
       by None h = (λ r c. tt, λ k u. absurd u)
       by (Some j) h = (λ r c. EachKey-weaker (AtMost cmp (key x)) (AtMost cmp j) (λ y a. at_most_trans cmp o j (key x) y h a) key r c, λ k u. at_most_trans cmp o k j (key x) u h)
 
@@ -129,7 +134,8 @@ module _ (end : ℕ) (cmp : Cmp) (o : IsKeyOrder cmp) (key : Key) (old now new :
   counts : (x : List ℕ) → place.number ≡ length ls → place.number + 1 ≡ length (ls ++ x ∷ [])
   counts x number = omega (arith, number, length_push ls x)
 
-  at_head : (e : GivesLine now new before after place.previous) → IsSound new → place.previous < length before.lines → Got end old now ls → place.number ≡ length ls → Begun cmp key ls last → falls cmp last (key e.line) ≡ false → (same : Bool) → Goal (turned Head (place.number + 1) same)
+  at_head : (e : GivesLine now new before after place.previous) → IsSound new → place.previous < length before.lines → Got end old now ls → place.number
+      ≡ length ls → Begun cmp key ls last → falls cmp last (key e.line) ≡ false → (same : Bool) → Goal (turned Head (place.number + 1) same)
   at_head e sound within got number begun rises same =
       let now_is : line after place.previous ≡ e.line = ap (λ (s : Slots). line s place.previous) e.stored ∙ line_of before place.previous e.line within in
       let more = begun_more cmp key ls last e.line begun rises in
@@ -159,7 +165,8 @@ module _ (end : ℕ) (cmp : Cmp) (o : IsKeyOrder cmp) (key : Key) (old now new :
         fits = (longer_by e.line).1;
       }
 
-  at_fall : (e : GivesLine now new before after place.previous) → IsSound new → place.standing ≢ place.previous → Got end old now ls → place.number ≡ length ls → Begun cmp key ls last → LastIs key last place before → falls cmp last (key e.line) ≡ true
+  at_fall : (e : GivesLine now new before after place.previous) → IsSound new → place.standing ≢ place.previous → Got end old now ls → place.number ≡ length ls
+      → Begun cmp key ls last → LastIs key last place before → falls cmp last (key e.line) ≡ true
       → (same : Bool) → Goal (turned (Disorder (place.number + 1)) (place.number + 1) same)
   at_fall e sound apart got number begun is falls_now same = by last begun is falls_now
     where
@@ -167,7 +174,8 @@ module _ (end : ℕ) (cmp : Cmp) (o : IsKeyOrder cmp) (key : Key) (old now new :
           → Next end cmp key old new (turned (Disorder (place.number + 1)) (place.number + 1) same) place.previous before after ls l
       by None b i f = absurd (false≢true f)
       by (Some k) b i f =
-          let kept : line after place.standing ≡ line before place.standing = ap (λ (s : Slots). line s place.standing) e.stored ∙ line_other before place.previous place.standing e.line (λ is. apart (sym is)) in
+          let kept : line after place.standing ≡ line before place.standing = ap (λ (s : Slots). line s place.standing) e.stored
+          ∙ line_other before place.previous place.standing e.line (λ is. apart (sym is)) in
           let key_is : k ≡ key (line after place.standing) = i.1 ∙ ap key (sym kept) in
           let count : length ls + 1 ≡ place.number + 1 = omega arith in
           record {
@@ -217,7 +225,8 @@ module _ (end : ℕ) (cmp : Cmp) (o : IsKeyOrder cmp) (key : Key) (old now new :
       over None r none = tt
       over (Some k) r none = subst (EachKey (AtMost cmp k) key) (sym none) tt
 
-  pub goes_next : place.previous < length before.lines → place.standing ≢ place.previous → Got end old now ls → place.number ≡ length ls → Begun cmp key ls last → LastIs key last place before → Comes key cmp place next now new before after
+  pub goes_next : place.previous < length before.lines → place.standing ≢ place.previous → Got end old now ls → place.number ≡ length ls
+      → Begun cmp key ls last → LastIs key last place before → Comes key cmp place next now new before after
       → Next end cmp key old new next place.previous before after ls last
   goes_next within apart got number begun is (inl e) = by (falls cmp last (key e.gives.line)) refl
     where
@@ -233,7 +242,8 @@ module _ (end : ℕ) (cmp : Cmp) (o : IsKeyOrder cmp) (key : Key) (old now new :
   goes_next within apart got number begun is (inr e) = subst Goal (sym e.place) (at_end e got number begun)
 
 -- each step leaves less to do
-pub comes_less : (key : Key) (cmp : Cmp) (place next : Sorted) (now new : Reader) (before after : Slots) → place.stand ≡ Head → Comes key cmp place next now new before after → budget new + alive next.stand < budget now + alive place.stand
+pub comes_less : (key : Key) (cmp : Cmp) (place next : Sorted) (now new : Reader) (before after : Slots) → place.stand ≡ Head
+    → Comes key cmp place next now new before after → budget new + alive next.stand < budget now + alive place.stand
 comes_less key cmp place next now new before after head (inl e) = omega (arith, e.gives.less, alive_most next.stand, ap alive head)
 comes_less key cmp place next now new before after head (inr e) = omega (arith, e.goes.reads.count, ap (λ (q : Sorted). alive q.stand) e.place, ap alive head)
 
@@ -245,7 +255,8 @@ stands_same n Less = refl
 stands_same n Equal = refl
 stands_same n Greater = refl
 
-pub comes_repeats : (cmp : Cmp) (o : IsKeyOrder cmp) (key : Key) (place next : Sorted) (now new : Reader) (before after : Slots) → 0 < place.number → place.previous < length before.lines → Comes key cmp place next now new before after
+pub comes_repeats : (cmp : Cmp) (o : IsKeyOrder cmp) (key : Key) (place next : Sorted) (now new : Reader) (before after : Slots) → 0 < place.number
+    → place.previous < length before.lines → Comes key cmp place next now new before after
     → next.same ≡ (is_head next.stand && bytes_eq (key (line before place.standing)) (key (line after next.standing)))
 comes_repeats cmp o key place next now new before after some within (inl e) = subst Goal (sym e.place) here
   where
@@ -261,11 +272,13 @@ comes_repeats cmp o key place next now new before after some within (inl e) = su
     now_is : e.gives.line ≡ line after place.previous
     now_is = sym (ap (λ (s : Slots). line s place.previous) e.gives.stored ∙ line_of before place.previous e.gives.line within)
 
-    here : same_at key cmp place.number (line before place.standing) e.gives.line ≡ (is_head (stand_at key cmp place.number (line before place.standing) e.gives.line) && bytes_eq last (key (line after place.previous)))
+    here : same_at key cmp place.number (line before place.standing) e.gives.line
+        ≡ (is_head (stand_at key cmp place.number (line before place.standing) e.gives.line) && bytes_eq last (key (line after place.previous)))
     here =
         let r = cmp last (key e.gives.line) in
         let m = place.number + 1 in
         ap (λ (t : Bool). t && is_eq r) counted ∙ stands_same m r ∙ ap (λ (t : Bool). is_head (cond (t && is_gt r) (Disorder m) Head) && is_eq r) (sym counted)
-        ∙ ap (λ (t : Bool). is_head (stand_at key cmp place.number (line before place.standing) e.gives.line) && t) (equal_is cmp o last (key e.gives.line) ∙ ap (λ (l : List ℕ). bytes_eq last (key l)) now_is)
+        ∙ ap (λ (t : Bool). is_head (stand_at key cmp place.number (line before place.standing) e.gives.line) && t)
+        (equal_is cmp o last (key e.gives.line) ∙ ap (λ (l : List ℕ). bytes_eq last (key l)) now_is)
 comes_repeats cmp o key place next now new before after some within (inr e) =
     subst (λ (q : Sorted). q.same ≡ (is_head q.stand && bytes_eq (key (line before place.standing)) (key (line after q.standing)))) (sym e.place) refl

@@ -45,8 +45,18 @@ pub record Gone (end : ℕ) (cmp : Cmp) (key : Key) (old now new : Reader) (piec
   pub over : b ≡ Over → IsDone now
 
 -- an input at which a merge stands
-pub gone_standing : (end : ℕ) (cmp : Cmp) (key : Key) (old now : Reader) (place : Sorted) (store : Slots) (ls p : Lines) (b : Bound) → Sided end cmp key old now place store ls p b → Gone end cmp key old now now [] ls p b
-gone_standing end cmp key old now place store ls p b s = record { got = s.got; reads = reads_nothing now; line = tt; sound = s.sound; near = s.near; reaches = s.reaches; over = over place.stand s.stands }
+pub gone_standing : (end : ℕ) (cmp : Cmp) (key : Key) (old now : Reader) (place : Sorted) (store : Slots) (ls p : Lines) (b : Bound)
+    → Sided end cmp key old now place store ls p b → Gone end cmp key old now now [] ls p b
+gone_standing end cmp key old now place store ls p b s = record {
+  got = s.got;
+  reads = reads_nothing now;
+  line = tt;
+  sound = s.sound;
+  near = s.near;
+  reaches =
+      s.reaches;
+  over = over place.stand s.stands;
+}
   where
     over : (t : Stand) → Stands cmp key t place store now ls p b → b ≡ Over → IsDone now
     over Head st e = (let bad = sym st.2 ∙ e in cc)
@@ -54,13 +64,17 @@ gone_standing end cmp key old now place store ls p b s = record { got = s.got; r
     over (Disorder n) st e = (let bad = sym st ∙ e in cc)
 
 -- an input all whose lines are passed, and what came of one more
-pub gone_passed : (end : ℕ) (cmp : Cmp) (o : IsKeyOrder cmp) (key : Key) (old now new : Reader) (piece : List ℕ) (ls : Lines) (k : List ℕ) → Got end old now ls → Reads now new piece → IsLine now.ending piece → IsSound new → Begun cmp key ls (Some k)
+pub gone_passed : (end : ℕ) (cmp : Cmp) (o : IsKeyOrder cmp) (key : Key) (old now new : Reader) (piece : List ℕ) (ls : Lines) (k : List ℕ) → Got end old now ls
+    → Reads now new piece → IsLine now.ending piece → IsSound new → Begun cmp key ls (Some k)
     → Gone end cmp key old now new piece ls ls (From k)
-gone_passed end cmp o key old now new piece ls k got reads line sound begun = record { got = got; reads = reads; line = line; sound = sound; near = inl refl; reaches = reaches_passed cmp o key ls k begun; over = λ e. cc }
+gone_passed end cmp o key old now new piece ls k got reads line sound begun = record
+    { got = got; reads = reads; line = line; sound = sound; near = inl refl; reaches = reaches_passed cmp o key ls k begun; over = λ e. cc }
 
 -- an input of which no line came
-pub gone_free : (end : ℕ) (cmp : Cmp) (key : Key) (old new : Reader) (piece : List ℕ) → old.fault ≡ None → old.ending ≡ end → Reads old new piece → IsLine old.ending piece → IsSound new → Gone end cmp key old old new piece [] [] Free
-gone_free end cmp key old new piece clean ending reads line sound = record { got = got_none end old clean ending; reads = reads; line = line; sound = sound; near = inl refl; reaches = reaches_free cmp key; over = λ e. cc }
+pub gone_free : (end : ℕ) (cmp : Cmp) (key : Key) (old new : Reader) (piece : List ℕ) → old.fault ≡ None → old.ending ≡ end → Reads old new piece
+    → IsLine old.ending piece → IsSound new → Gone end cmp key old old new piece [] [] Free
+gone_free end cmp key old new piece clean ending reads line sound = record
+    { got = got_none end old clean ending; reads = reads; line = line; sound = sound; near = inl refl; reaches = reaches_free cmp key; over = λ e. cc }
 
 -- a read of an input failed, all whose lines are passed
 pub record Fails (cmp : Cmp) (key : Key) (new : Reader) (ls p : Lines) : Type 0 where
@@ -83,7 +97,8 @@ Concludes tool b (Err Write) = Unit {0}
 Concludes tool b (Err Memory) = Unit {0}
 
 module _ (tool : Tool) (o : IsKeyOrder tool.cmp) (old new : State) (now : Side → Reader) (piece : Side → List ℕ) (ls p : Side → Lines) (b : Side → Bound)
-    (g : (side : Side) → Gone tool.end tool.cmp (tool.key side) (old.reader side) (now side) (new.reader side) (piece side) (ls side) (p side) (b side)) (m : Merging tool b p old.out new.out) (late : Late tool b p old.out new.out) where
+    (g : (side : Side) → Gone tool.end tool.cmp (tool.key side) (old.reader side) (now side) (new.reader side) (piece side) (ls side) (p side) (b side))
+    (m : Merging tool b p old.out new.out) (late : Late tool b p old.out new.out) where
   abbrev given : Side → Given
   given side = given_of ((g side).got.given ++ piece side) (new.reader side)
 
@@ -97,7 +112,8 @@ module _ (tool : Tool) (o : IsKeyOrder tool.cmp) (old new : State) (now : Side �
         falling = λ side. subst (λ l. Falling tool.cmp (b side) (fall tool.cmp (tool.key side) l)) (sym (w side).is) (future side).3;
       }
 
-  input_lines : (input : Side → List ℕ) → Agree given input → (side : Side) → More (now side) (ls side) (lines tool.end (input side)) × (max (longest (ls side)) (length (piece side)) ≤ longest (lines tool.end (input side)))
+  input_lines : (input : Side → List ℕ) → Agree given input → (side : Side) → More (now side) (ls side) (lines tool.end (input side))
+      × (max (longest (ls side)) (length (piece side)) ≤ longest (lines tool.end (input side)))
   input_lines input a side = got_lines tool.end (old.reader side) (now side) (new.reader side) (ls side) (piece side) (g side).got (g side).reads (g side).line (input side) (a side)
 
   known : (side : Side) → Known tool.end (old.reader side) (now side) (new.reader side) (ls side) (piece side) (g side).got (g side).reads (g side).line (whole_lines tool.end (given side))
@@ -113,33 +129,41 @@ module _ (tool : Tool) (o : IsKeyOrder tool.cmp) (old new : State) (now : Side �
 
     backs : (side : Side) → Back tool.end (given side) (p side)
     backs side =
-        back tool.end (g side).got.given (piece side) (ls side) (p side) (now side) (new.reader side) (g side).got.so_far (subst (λ (e : ℕ). IsLine e (piece side)) (g side).got.ending (g side).line) (g side).sound.held (g side).near
+        back tool.end (g side).got.given (piece side) (ls side) (p side) (now side) (new.reader side) (g side).got.so_far
+        (subst (λ (e : ℕ). IsLine e (piece side)) (g side).got.ending (g side).line) (g side).sound.held (g side).near
 
     works : WorksOff {I = Unit {0}} (λ came. decided tool (put of (came tt) given)) (λ u. given of) (text tool.end (by_keys tool all_keys late.front))
-    works = works_off tool o given late.front p late.tail b backs late.split m.under (λ side. (whole_seen.r side, whole_seen.parts side, late.coming side (whole_seen.r side) (whole_seen.coming side))) of
+    works = works_off tool o given late.front p late.tail b backs late.split m.under
+        (λ side. (whole_seen.r side, whole_seen.parts side, late.coming side (whole_seen.r side) (whole_seen.coming side))) of
 
     keeps : Keeps (text tool.end (by_keys tool all_keys p))
-    keeps = subst Keeps late.all (keeps_more (λ came. decided tool (put of (came tt) given)) (λ u. given of) old.out late.mid (text tool.end (by_keys tool all_keys late.front)) works late.wrote late.clean new.out late.bytes late.more)
+    keeps = subst Keeps late.all (keeps_more (λ came. decided tool (put of (came tt) given)) (λ u. given of) old.out late.mid
+        (text tool.end (by_keys tool all_keys late.front)) works late.wrote late.clean new.out late.bytes late.more)
 
     -- nor was a disorder settled
     ends_by : (before : Before (given of)) × (settled tool (put of before.earlier given) ≡ false)
     ends_by =
         unsettled tool o given late.front p late.tail b backs late.split m.under (λ side. (whole_seen.r side, whole_seen.parts side, late.coming side (whole_seen.r side) (whole_seen.coming side))) of
         (EachKey-weaker (Under tool.cmp (b (other of))) (λ k. FallFrom tool.cmp k (fall tool.cmp (tool.key (other of)) (whole_lines tool.end (given (other of)))))
-        (λ k u. under_fall tool.cmp o (b (other of)) k (fall tool.cmp (tool.key (other of)) (whole_lines tool.end (given (other of)))) u (whole_seen.falling (other of))) (tool.key of) (p of) (m.under (other of) of))
+        (λ k u. under_fall tool.cmp o (b (other of)) k (fall tool.cmp (tool.key (other of)) (whole_lines tool.end (given (other of)))) u
+        (whole_seen.falling (other of))) (tool.key of) (p of) (m.under (other of) of))
 
-  pub stops : (result : Result (Unit {0}) MergeFault) → Ends old new result → ((side : Side) → (new.reader side).failed ≡ true → Fails tool.cmp (tool.key side) (new.reader side) (ls side) (p side)) → Concludes tool b result
-      → ((all : Side → Lines) → ((side : Side) → More (now side) (ls side) (all side) × (max (longest (ls side)) (length (piece side)) ≤ longest (all side))) → FitsIn tool old.store new.store all) → IsMerge tool old new result
+  pub stops : (result : Result (Unit {0}) MergeFault) → Ends old new result
+      → ((side : Side) → (new.reader side).failed ≡ true → Fails tool.cmp (tool.key side) (new.reader side) (ls side) (p side)) → Concludes tool b result
+      → ((all : Side → Lines) → ((side : Side) → More (now side) (ls side) (all side) × (max (longest (ls side)) (length (piece side)) ≤ longest (all side)))
+      → FitsIn tool old.store new.store all) → IsMerge tool old new result
   stops result ends failed concludes fits = record {
     given = given;
-    came = λ side. came_of (old.reader side) (new.reader side) ((g side).got.given ++ piece side) (reads_trans (old.reader side) (now side) (new.reader side) (g side).got.given (piece side) (g side).got.goes.reads (g side).reads);
+    came = λ side. came_of (old.reader side) (new.reader side) ((g side).got.given ++ piece side)
+        (reads_trans (old.reader side) (now side) (new.reader side) (g side).got.given (piece side) (g side).got.goes.reads (g side).reads);
     pushed = text tool.end done;
     wrote = m.wrote;
     ends = ends;
     true_so_far = λ input a. record { rest = text tool.end (later input a); is = all_of input a ∙ text-append tool.end done (later input a) };
     sure = λ side fail clean.
         let f = failed side fail in
-        decided_begins tool o b p old.out new.out m (λ s. (new.reader s).ended) (λ s. whole_lines tool.end (given s)) (seen_of (λ s. whole_lines tool.end (given s)) (λ s. (known s).known)) side f.last f.ended ((known side).exact f.held f.ended ∙ f.all) f.begun;
+        decided_begins tool o b p old.out new.out m (λ s. (new.reader s).ended) (λ s. whole_lines tool.end (given s))
+        (seen_of (λ s. whole_lines tool.end (given s)) (λ s. (known s).known)) side f.last f.ended ((known side).exact f.held f.ended ∙ f.all) f.begun;
     keeps_up = λ side clean. keeps side;
     ends_at_once = λ side clean. ends_by side;
     peak = λ input a. (fits (lines_of tool input) (input_lines input a)).0;
@@ -163,7 +187,8 @@ module _ (tool : Tool) (o : IsKeyOrder tool.cmp) (old new : State) (now : Side �
       by (Ok u) over input a =
           let s = seen_in input a in
           let none : (side : Side) → s.r side ≡ [] = λ side. subst (λ c. Coming tool.cmp (tool.key side) c (s.r side)) (over side) (s.coming side) in
-          let rises : (side : Side) → fall tool.cmp (tool.key side) (lines_of tool input side) ≡ None = λ side. subst (λ c. Falling tool.cmp c (fall tool.cmp (tool.key side) (lines_of tool input side))) (over side) (s.falling side) in (
+          let rises : (side : Side) → fall tool.cmp (tool.key side) (lines_of tool input side)
+          ≡ None = λ side. subst (λ c. Falling tool.cmp c (fall tool.cmp (tool.key side) (lines_of tool input side))) (over side) (s.falling side) in (
             sym (all_of input a ∙ ap (text tool.end) ((λ i. done ++ by_keys tool (up_to tool.cmp (disorder tool (lines_of tool input))) (λ side. none side i)) ∙ append-nil done)),
             λ i. disorder_of tool.cmp (rises First i) (rises Second i),
           )
@@ -183,7 +208,13 @@ module _ (old new : State) (set : Side → Reader) (end : ℕ) (is : (side : Sid
 
   ends_set : (result : Result (Unit {0}) MergeFault) → Ends (record { reader = set; out = old.out; store = old.store }) new result → Ends old new result
   ends_set (Ok u) e = record { done = e.done; fault = e.fault; failed = λ side. e.failed side ∙ same_failed side; short = e.short; clean = e.clean; denied = e.denied; empty = e.empty }
-  ends_set (Err (Read side)) e = record { cause = cause_set (old.reader side) (set side) end (is side) (new.reader side) e.cause; others = e.others ∙ same_failed (other side); clean = e.clean; denied = e.denied }
+  ends_set (Err (Read side)) e = record {
+    cause = cause_set (old.reader side) (set side) end (is side) (new.reader side) e.cause;
+    others = e.others
+        ∙ same_failed (other side);
+    clean = e.clean;
+    denied = e.denied;
+  }
   ends_set (Err Write) e = record { faulted = e.faulted; failed = λ side. e.failed side ∙ same_failed side; denied = e.denied }
   ends_set (Err Memory) e = record { denied = e.denied; failed = λ side. e.failed side ∙ same_failed side; clean = e.clean }
   ends_set (Err (faults.Disorder side number)) e = record { fault = e.fault; failed = λ s. e.failed s ∙ same_failed s; clean = e.clean; denied = e.denied; empty = e.empty }

@@ -23,9 +23,11 @@ front_has P key [] ys e = tt
 front_has P key (x ∷ xs) ys e = (e.0, front_has P key xs ys e.1)
 
 -- q are the passed lines; of p all entries were pushed, and behind them come the others of q
-module _ (tool : Tool) (o : IsKeyOrder tool.cmp) (given : Side → Given) (p q tail : Side → Lines) (bound : Side → Bound) (backs : (side : Side) → Back tool.end (given side) (q side)) (split : (side : Side) → q side ≡ p side ++ tail side)
+module _ (tool : Tool) (o : IsKeyOrder tool.cmp) (given : Side → Given) (p q tail : Side → Lines) (bound : Side → Bound)
+    (backs : (side : Side) → Back tool.end (given side) (q side)) (split : (side : Side) → q side ≡ p side ++ tail side)
     (under : (of side : Side) → EachKey (Under tool.cmp (bound of)) (tool.key side) (q side))
-    (future : (side : Side) → (r : Lines) × (ordered_part tool.cmp (tool.key side) (whole_lines tool.end (given side)) ≡ q side ++ r) × Coming tool.cmp (tool.key side) (bound side) (tail side ++ r)) where
+    (future : (side : Side) → (r : Lines) × (ordered_part tool.cmp (tool.key side) (whole_lines tool.end (given side)) ≡ q side ++ r)
+    × Coming tool.cmp (tool.key side) (bound side) (tail side ++ r)) where
   module _ (of : Side) where
     abbrev whole : Lines
     whole = (backs of).whole
@@ -33,7 +35,8 @@ module _ (tool : Tool) (o : IsKeyOrder tool.cmp) (given : Side → Given) (p q t
     in_order : Rises tool.cmp (tool.key of) None (whole ++ (backs of).rest)
     in_order =
         subst (Rises tool.cmp (tool.key of) None) (backs of).split
-        (rises_front tool.cmp (tool.key of) None (q of) (future of).0 (subst (Rises tool.cmp (tool.key of) None) (future of).1 (rises_ordered tool.cmp (tool.key of) (whole_lines tool.end (given of)))))
+        (rises_front tool.cmp (tool.key of) None (q of) (future of).0 (subst (Rises tool.cmp (tool.key of) None) (future of).1
+        (rises_ordered tool.cmp (tool.key of) (whole_lines tool.end (given of)))))
 
     ordered : (ordered_part tool.cmp (tool.key of) whole ≡ whole) × (fall tool.cmp (tool.key of) whole ≡ None)
     ordered = rises_in_order tool.cmp (tool.key of) whole (rises_front tool.cmp (tool.key of) None whole (backs of).rest in_order)
@@ -57,7 +60,8 @@ module _ (tool : Tool) (o : IsKeyOrder tool.cmp) (given : Side → Given) (p q t
     others side = record {
       rest = [];
       tail = tail side ++ (future side).0;
-      same = append-nil (ordered_part tool.cmp (tool.key side) (whole_lines tool.end (given side))) ∙ (future side).1 ∙ ap (λ (l : Lines). l ++ (future side).0) (split side) ∙ append_assoc (p side) (tail side) (future side).0;
+      same = append-nil (ordered_part tool.cmp (tool.key side) (whole_lines tool.end (given side))) ∙ (future side).1
+          ∙ ap (λ (l : Lines). l ++ (future side).0) (split side) ∙ append_assoc (p side) (tail side) (future side).0;
       none_rest = tt;
       none_tail = above side;
     }
@@ -80,17 +84,21 @@ module _ (tool : Tool) (o : IsKeyOrder tool.cmp) (given : Side → Given) (p q t
         each : (side : Side) → Differ tool (last_or None (map (tool.key of) whole)) (tool.key side) (ordered_part tool.cmp (tool.key side) (whole_lines tool.end (mix side))) (p side)
         each = side_case (λ side. Differ tool (last_or None (map (tool.key of) whole)) (tool.key side) (ordered_part tool.cmp (tool.key side) (whole_lines tool.end (mix side))) (p side)) of
             (subst (λ (l : Lines). Differ tool (last_or None (map (tool.key of) whole)) (tool.key of) (ordered_part tool.cmp (tool.key of) l) (p of)) (sym whole_now) mine)
-            (subst (λ (g : Given). Differ tool (last_or None (map (tool.key of) whole)) (tool.key (other of)) (ordered_part tool.cmp (tool.key (other of)) (whole_lines tool.end g)) (p (other of))) (sym (put_other of (backs of).before.earlier given)) (others (other of)))
+            (subst (λ (g : Given). Differ tool (last_or None (map (tool.key of) whole)) (tool.key (other of))
+            (ordered_part tool.cmp (tool.key (other of)) (whole_lines tool.end g)) (p (other of))) (sym (put_other of (backs of).before.earlier given)) (others (other of)))
 
     pub works_off : WorksOff {I = Unit {0}} (λ came. decided tool (put of (came tt) given)) (λ u. given of) (text tool.end (by_keys tool all_keys p))
     works_off = record { before = λ u. (backs of).before; begins = begins }
 
     -- and no disorder was settled
-    pub unsettled : EachKey (λ k. FallFrom tool.cmp k (fall tool.cmp (tool.key (other of)) (whole_lines tool.end (given (other of))))) (tool.key of) (q of) → (before : Before (given of)) × (settled tool (put of before.earlier given) ≡ false)
+    pub unsettled : EachKey (λ k. FallFrom tool.cmp k (fall tool.cmp (tool.key (other of)) (whole_lines tool.end (given (other of))))) (tool.key of) (q of)
+        → (before : Before (given of)) × (settled tool (put of before.earlier given) ≡ false)
     unsettled up = (
       (backs of).before,
-      not_settled tool o (λ side. (mix side).ended) (λ side. whole_lines tool.end (mix side)) of (ap (λ (g : Given). g.ended) (put_same of (backs of).before.earlier given) ∙ (backs of).going) (ap (fall tool.cmp (tool.key of)) whole_now ∙ ordered.1)
-          (subst (λ (g : Given). EachKey (λ k. FallFrom tool.cmp k (fall tool.cmp (tool.key (other of)) (whole_lines tool.end g))) (tool.key of) (whole_lines tool.end (mix of))) (sym (put_other of (backs of).before.earlier given))
+      not_settled tool o (λ side. (mix side).ended) (λ side. whole_lines tool.end (mix side)) of
+          (ap (λ (g : Given). g.ended) (put_same of (backs of).before.earlier given) ∙ (backs of).going) (ap (fall tool.cmp (tool.key of)) whole_now ∙ ordered.1)
+          (subst (λ (g : Given). EachKey (λ k. FallFrom tool.cmp k (fall tool.cmp (tool.key (other of)) (whole_lines tool.end g))) (tool.key of)
+          (whole_lines tool.end (mix of))) (sym (put_other of (backs of).before.earlier given))
           (subst (EachKey (λ k. FallFrom tool.cmp k (fall tool.cmp (tool.key (other of)) (whole_lines tool.end (given (other of))))) (tool.key of)) (sym whole_now)
           (front_has (λ k. FallFrom tool.cmp k (fall tool.cmp (tool.key (other of)) (whole_lines tool.end (given (other of))))) (tool.key of) whole (backs of).rest
           (subst (EachKey (λ k. FallFrom tool.cmp k (fall tool.cmp (tool.key (other of)) (whole_lines tool.end (given (other of))))) (tool.key of)) (backs of).split up)))),

@@ -59,7 +59,8 @@ module _ (p : List ℕ → Bool) where
         by : (r : Ordering) → cmp k x ≡ r → (b : Bool) → p x ≡ b → filter p (insert_key cmp k xs) ≡ insert_key cmp k (filter p xs)
             → filter p (match_ordering r (k ∷ x ∷ xs) (x ∷ xs) (x ∷ insert_key cmp k xs)) ≡ insert_key cmp k (cond b (x ∷ filter p xs) (filter p xs))
         by Less e true f ih = rw (h, f, e) refl
-        by Less e false f ih = rw (h, f) (sym (insert_least cmp o k (filter p xs) (each_kept (Above cmp k) xs (Each-weaker (Above cmp x) (Above cmp k) (λ y g. above_trans cmp o k x y (ap is_gt e) g) xs a.0))))
+        by Less e false f ih = rw (h, f) (sym (insert_least cmp o k (filter p xs)
+            (each_kept (Above cmp k) xs (Each-weaker (Above cmp x) (Above cmp k) (λ y g. above_trans cmp o k x y (ap is_gt e) g) xs a.0))))
         by Equal e true f ih = rw (f, e) refl
         by Equal e false f ih = let bad : true ≡ false = sym h ∙ ap p (o.exact k x e) ∙ f in cc
         by Greater e true f ih = rw (f, e) (ap (λ l. x ∷ l) ih)
@@ -120,7 +121,8 @@ module _ (p : List ℕ → Bool) where
     entries_kept : {A : Type 0} (g : List ℕ → List A)
         → flat_map g (by_keys tool all_keys part) ≡ flat_map (λ k. flat_map g (entries_of tool ls k)) (filter p (distinct tool.cmp (keys tool ls)))
     entries_kept {A} g =
-        ap (λ ds. flat_map g (flat_map (entries_of tool part) ds)) (filter_true (distinct tool.cmp (keys tool part)) ∙ ap (distinct tool.cmp) keys_of_part ∙ sym (distinct_kept tool.cmp o (keys tool ls)))
+        ap (λ ds. flat_map g (flat_map (entries_of tool part) ds)) (filter_true (distinct tool.cmp (keys tool part)) ∙ ap (distinct tool.cmp) keys_of_part
+        ∙ sym (distinct_kept tool.cmp o (keys tool ls)))
         ∙ each_of (filter p (distinct tool.cmp (keys tool ls))) (each_passes (distinct tool.cmp (keys tool ls)))
       where
         each_of : (ds : Lines) → Each (λ k. p k ≡ true) ds → flat_map g (flat_map (entries_of tool part) ds) ≡ flat_map (λ k. flat_map g (entries_of tool ls k)) ds
@@ -144,7 +146,8 @@ module _ (p : List ℕ → Bool) where
 module _ {A : Type 0} where
   -- two lists change places
   changed : (u v w : List A) → IsPermutation (u ++ (v ++ w)) (v ++ (u ++ w))
-  changed u v w = subst (λ l. IsPermutation l (v ++ (u ++ w))) (append_assoc u v w) (subst (λ l. IsPermutation ((u ++ v) ++ w) l) (append_assoc v u w) (IsPermutation-append_left w (u ++ v) (v ++ u) (IsPermutation-append_comm u v)))
+  changed u v w = subst (λ l. IsPermutation l (v ++ (u ++ w))) (append_assoc u v w)
+      (subst (λ l. IsPermutation ((u ++ v) ++ w) l) (append_assoc v u w) (IsPermutation-append_left w (u ++ v) (v ++ u) (IsPermutation-append_comm u v)))
 
   -- with u at the number j
   abbrev with_at : ℕ → List A → (ℕ → List A) → ℕ → List A
@@ -168,7 +171,8 @@ module _ {A : Type 0} where
           → IsPermutation (u ++ (g a ++ rest)) (cond b (u ++ g a) (g a) ++ flat_map (with_at j u g) (range_with_len (a + 1) n))
       by true e ih =
           let same : j ≡ a = eqb-true j a e in
-          subst (λ l. IsPermutation (u ++ (g a ++ rest)) l) (sym (append_assoc u (g a) rest) ∙ ap (λ l. (u ++ g a) ++ l) (sym (none_at j u g (a + 1) n (omega (arith, same))))) (IsPermutation-refl (u ++ (g a ++ rest)))
+          subst (λ l. IsPermutation (u ++ (g a ++ rest)) l) (sym (append_assoc u (g a) rest)
+          ∙ ap (λ l. (u ++ g a) ++ l) (sym (none_at j u g (a + 1) n (omega (arith, same))))) (IsPermutation-refl (u ++ (g a ++ rest)))
       by false e ih =
           let apart : a + 1 ≤ j = grind (arith, nat_tests, e, low) in
           IsPermutation-trans (u ++ (g a ++ rest)) (g a ++ (u ++ rest)) (g a ++ flat_map (with_at j u g) (range_with_len (a + 1) n)) (changed u (g a) rest)
@@ -189,7 +193,8 @@ module _ {A : Type 0} where
       (IsPermutation-trans (f k ++ flat_map f ks) (f k ++ all) (flat_map (with_at (part_of k) (f k) g) (range_with_len 0 parts))
       (IsPermutation-append_right (f k) (flat_map f ks) all (of_each f part_of parts below ks)) (one_at (part_of k) (f k) g 0 parts (omega arith) (omega (arith, below k))))
     where
-      at : (b : Bool) (i : ℕ) → cond b (f k ++ flat_map f (filter (λ k. part_of k == i) ks)) (flat_map f (filter (λ k. part_of k == i) ks)) ≡ flat_map f (cond b (k ∷ filter (λ k. part_of k == i) ks) (filter (λ k. part_of k == i) ks))
+      at : (b : Bool) (i : ℕ) → cond b (f k ++ flat_map f (filter (λ k. part_of k == i) ks)) (flat_map f (filter (λ k. part_of k == i) ks))
+          ≡ flat_map f (cond b (k ∷ filter (λ k. part_of k == i) ks) (filter (λ k. part_of k == i) ks))
       at true i = refl
       at false i = refl
 
@@ -246,7 +251,8 @@ of_keys tool o inputs part_of parts in_order below =
     of_part : (i : ℕ) → written_lines tool (dealt tool part_of inputs i) ≡ flat_map each (filter (goes_to i) ds)
     of_part i =
         (λ t. lines tool.end (text tool.end (merged_entries tool (λ side. lines_dealt tool.end (λ line. part_of (tool.key side line) == i) (inputs side) t))))
-        ∙ ap (λ es. lines tool.end (text tool.end es)) (merged_in_order tool o (part_lines i) (part_order i)) ∙ written (by_keys tool all_keys (part_lines i)) ∙ entries_kept (goes_to i) tool o ls entry_lines
+        ∙ ap (λ es. lines tool.end (text tool.end es)) (merged_in_order tool o (part_lines i) (part_order i)) ∙ written (by_keys tool all_keys (part_lines i))
+        ∙ entries_kept (goes_to i) tool o ls entry_lines
 
     whole : written_lines tool inputs ≡ flat_map each ds
     whole =

@@ -42,7 +42,8 @@ by_limits cmp None (Some g) k = refl
 by_limits cmp (Some f) None k = refl
 by_limits cmp (Some f) (Some g) k = by (is_lt (cmp g.last_key f.last_key))
   where
-    by : (b : Bool) → up_to cmp (cond {A = Option Disorder} b (Some (record { file = Second; fall = g })) (Some (record { file = First; fall = f }))) k ≡ cond b (is_le (cmp k g.last_key)) (is_le (cmp k f.last_key))
+    by : (b : Bool) → up_to cmp (cond {A = Option Disorder} b (Some (record { file = Second; fall = g })) (Some (record { file = First; fall = f }))) k
+        ≡ cond b (is_le (cmp k g.last_key)) (is_le (cmp k f.last_key))
     by true = refl
     by false = refl
 
@@ -78,7 +79,8 @@ module _ (cmp : Cmp) (o : IsKeyOrder cmp) (key : Key) where
   goes_on last n m [] h = (refl, refl)
   goes_on last n m (y ∷ ys) h = rw h.0 (refl, uncounted (Some (key y)) (n + 1) (m + 1) ys)
 
-  appended : (last : Option (List ℕ)) (n : ℕ) (xs ys : Lines) → fall_after cmp key last n xs ≡ None → EachKey (λ k. falls cmp last k ≡ false) key ys → EachKey (λ k. EachKey (λ l. cmp k l ≡ Less) key ys) key xs
+  appended : (last : Option (List ℕ)) (n : ℕ) (xs ys : Lines) → fall_after cmp key last n xs ≡ None → EachKey (λ k. falls cmp last k ≡ false) key ys
+      → EachKey (λ k. EachKey (λ l. cmp k l ≡ Less) key ys) key xs
       → (ordered_after cmp key last (xs ++ ys) ≡ xs ++ ordered_after cmp key None ys) × (behind (fall_after cmp key last n (xs ++ ys)) ≡ behind (fall_after cmp key None 0 ys))
   appended last n [] ys e h b = goes_on last n 0 ys h
   appended last n (x ∷ xs) ys e h b =
@@ -137,7 +139,8 @@ module _ (cmp : Cmp) (o : IsKeyOrder cmp) (key : Key) where
       later None h k g = refl
       later (Some l) h k g = at_most_trans cmp o l (key x) k h g
 
-      by : (b : Bool) → falls cmp from (key x) ≡ false → fall_after cmp key (Some (key x)) (m + 1) (filter p xs) ≡ None → fall_after cmp key from m (filter p xs) ≡ None → fall_after cmp key from m (cond b (x ∷ filter p xs) (filter p xs)) ≡ None
+      by : (b : Bool) → falls cmp from (key x) ≡ false → fall_after cmp key (Some (key x)) (m + 1) (filter p xs) ≡ None
+          → fall_after cmp key from m (filter p xs) ≡ None → fall_after cmp key from m (cond b (x ∷ filter p xs) (filter p xs)) ≡ None
       by true h kept left_out = rw h kept
       by false h kept left_out = left_out
 
@@ -170,7 +173,8 @@ module _ (tool : Tool) (o : IsKeyOrder tool.cmp) where
     side_below : (side : Side) → EachKey (λ k. EachKey (λ l. tool.cmp k l ≡ Less) (tool.key side) (b side)) (tool.key side) (a side)
     side_below side =
         of_keys side (λ k. EachKey (λ l. tool.cmp k l ≡ Less) (tool.key side) (b side)) a
-        (Each-weaker (λ k. Each (λ l. tool.cmp k l ≡ Less) (keys tool b)) (λ k. EachKey (λ l. tool.cmp k l ≡ Less) (tool.key side) (b side)) (λ k h. of_keys side (λ l. tool.cmp k l ≡ Less) b h) (keys tool a) below)
+        (Each-weaker (λ k. Each (λ l. tool.cmp k l ≡ Less) (keys tool b)) (λ k. EachKey (λ l. tool.cmp k l ≡ Less) (tool.key side) (b side))
+        (λ k h. of_keys side (λ l. tool.cmp k l ≡ Less) b h) (keys tool a) below)
 
     both_go_on : (side : Side) → (ordered_part tool.cmp (tool.key side) (a side ++ b side) ≡ a side ++ ordered_part tool.cmp (tool.key side) (b side))
         × (behind (fall tool.cmp (tool.key side) (a side ++ b side)) ≡ behind (fall tool.cmp (tool.key side) (b side)))
@@ -180,7 +184,8 @@ module _ (tool : Tool) (o : IsKeyOrder tool.cmp) where
     same_wanted : (k : List ℕ) → up_to tool.cmp (disorder tool (λ side. a side ++ b side)) k ≡ up_to tool.cmp (disorder tool b) k
     same_wanted k =
         by_limits tool.cmp (fall tool.cmp (tool.key First) (a First ++ b First)) (fall tool.cmp (tool.key Second) (a Second ++ b Second)) k
-        ∙ (λ i. is_within tool.cmp ((both_go_on First).1 i) ((both_go_on Second).1 i) k) ∙ sym (by_limits tool.cmp (fall tool.cmp (tool.key First) (b First)) (fall tool.cmp (tool.key Second) (b Second)) k)
+        ∙ (λ i. is_within tool.cmp ((both_go_on First).1 i) ((both_go_on Second).1 i) k)
+        ∙ sym (by_limits tool.cmp (fall tool.cmp (tool.key First) (b First)) (fall tool.cmp (tool.key Second) (b Second)) k)
 
     -- of the first lists all keys are wanted
     first_wanted : (side : Side) → EachKey (λ k. up_to tool.cmp (disorder tool b) k ≡ true) (tool.key side) (a side)
@@ -200,6 +205,7 @@ module _ (tool : Tool) (o : IsKeyOrder tool.cmp) where
     pub entries_together : merged_entries tool (λ side. a side ++ b side) ≡ merged_entries tool a ++ merged_entries tool b
     entries_together =
         let w = up_to tool.cmp (disorder tool b) in
-        let low = Each-weaker (λ k. Each (λ l. tool.cmp k l ≡ Less) (keys tool b)) (λ k. Each (λ l. tool.cmp k l ≡ Less) (keys tool (ordered tool b))) (λ k h. keys_in_order (λ l. tool.cmp k l ≡ Less) b h) (keys tool a) below in
+        let low = Each-weaker (λ k. Each (λ l. tool.cmp k l ≡ Less) (keys tool b)) (λ k. Each (λ l. tool.cmp k l ≡ Less) (keys tool (ordered tool b)))
+        (λ k h. keys_in_order (λ l. tool.cmp k l ≡ Less) b h) (keys tool a) below in
         (λ i. by_keys tool (λ k. same_wanted k i) (λ side. (both_go_on side).0 i)) ∙ by_keys_of_parts tool o a (ordered tool b) low w
         ∙ ap (λ l. l ++ merged_entries tool b) (all_wanted tool w a first_wanted ∙ sym (merged_in_order a in_order))

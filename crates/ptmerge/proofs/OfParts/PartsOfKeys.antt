@@ -79,7 +79,8 @@ module _ (cmp : Cmp) (o : IsKeyOrder cmp) where
   above_distinct : (ks ls : Lines) → EachBelow cmp ks ls → Each (λ l. Each (λ x. cmp l x ≡ Greater) (distinct cmp ks)) ls
   above_distinct ks ls e =
       Each-weaker (λ l. Each (λ k. cmp k l ≡ Less) ks) (λ l. Each (λ x. cmp l x ≡ Greater) (distinct cmp ks))
-      (λ l h. Each-distinct cmp (λ x. cmp l x ≡ Greater) ks (Each-weaker (λ k. cmp k l ≡ Less) (λ x. cmp l x ≡ Greater) (λ k less. less_flips cmp o k l less) ks h)) ls (turned (λ k l. cmp k l ≡ Less) ks ls e)
+      (λ l h. Each-distinct cmp (λ x. cmp l x ≡ Greater) ks (Each-weaker (λ k. cmp k l ≡ Less) (λ x. cmp l x ≡ Greater)
+      (λ k less. less_flips cmp o k l less) ks h)) ls (turned (λ k l. cmp k l ≡ Less) ks ls e)
 
   -- The distinct keys of two lists of keys, each with a part below all of both other parts.
   pub distinct_of_parts : (k1 k2 m1 m2 : Lines) → EachBelow cmp (k1 ++ m1) (k2 ++ m2) → distinct cmp ((k1 ++ k2) ++ (m1 ++ m2)) ≡ distinct cmp (k1 ++ m1) ++ distinct cmp (k2 ++ m2)
@@ -90,7 +91,8 @@ module _ (cmp : Cmp) (o : IsKeyOrder cmp) where
       let k2_m1 = above_distinct m1 k2 (each_right (λ k. Each (λ l. cmp k l ≡ Less) k2) k1 m1 of_first) in
       let k1_both = below_distinct k1 (k2 ++ m2) (each_left (λ k. Each (λ l. cmp k l ≡ Less) (k2 ++ m2)) k1 m1 e) in
       ap (distinct cmp) (append_assoc k1 k2 (m1 ++ m2)) ∙ distinct_onto k1 (k2 ++ (m1 ++ m2)) ∙ ap (onto k1) (
-      distinct_onto k2 (m1 ++ m2) ∙ ap (onto k2) (distinct_onto m1 m2 ∙ onto_low m1 [] (distinct cmp m2) m1_m2 ∙ ap (λ l. l ++ distinct cmp m2) (sym (distinct_onto m1 []) ∙ ap (distinct cmp) (append-nil m1)))
+      distinct_onto k2 (m1 ++ m2) ∙ ap (onto k2) (distinct_onto m1 m2 ∙ onto_low m1 [] (distinct cmp m2) m1_m2
+      ∙ ap (λ l. l ++ distinct cmp m2) (sym (distinct_onto m1 []) ∙ ap (distinct cmp) (append-nil m1)))
       ∙ onto_high k2 (distinct cmp m1) (distinct cmp m2) k2_m1 ∙ ap (λ l. distinct cmp m1 ++ l) (sym (distinct_onto k2 m2))
       ) ∙ onto_low k1 (distinct cmp m1) (distinct cmp (k2 ++ m2)) k1_both ∙ ap (λ l. l ++ distinct cmp (k2 ++ m2)) (sym (distinct_onto k1 m1))
 
@@ -160,7 +162,8 @@ module _ (tool : Tool) (o : IsKeyOrder tool.cmp) (a b : Side → Lines) (below :
       let ks = distinct tool.cmp (keys tool a) in
       let ls = distinct tool.cmp (keys tool b) in
       let f : List ℕ → Lines = entries_of tool both_parts in
-      let is_first = Each-weaker (λ k. Each (λ l. tool.cmp k l ≡ Less) (keys tool b)) (λ k. f k ≡ entries_of tool a k) of_first ks (Each-distinct tool.cmp (λ k. Each (λ l. tool.cmp k l ≡ Less) (keys tool b)) (keys tool a) below) in
+      let is_first = Each-weaker (λ k. Each (λ l. tool.cmp k l ≡ Less) (keys tool b)) (λ k. f k ≡ entries_of tool a k) of_first ks
+      (Each-distinct tool.cmp (λ k. Each (λ l. tool.cmp k l ≡ Less) (keys tool b)) (keys tool a) below) in
       let is_second = Each-weaker (λ l. Each (λ k. tool.cmp k l ≡ Less) (keys tool a)) (λ l. f l ≡ entries_of tool b l) of_second ls
       (Each-distinct tool.cmp (λ l. Each (λ k. tool.cmp k l ≡ Less) (keys tool a)) (keys tool b) (turned (λ k l. tool.cmp k l ≡ Less) (keys tool a) (keys tool b) below)) in
       ap (λ l. flat_map f (filter w l)) keys_of_parts ∙ ap (flat_map f) (filter-append w ks ls) ∙ flat_map-append f (filter w ks) (filter w ls)

@@ -56,7 +56,8 @@ backwards_is_cut = record {
   below = ((refl, (refl, tt)), ((refl, (refl, tt)), tt));
 }
 
-comm_backwards_in_parts : writes (comm_tool backwards) (codes "c\0b\0a") (codes "a\0") ≡ writes (comm_tool backwards) (codes "c\0b\0") (codes "") ++ writes (comm_tool backwards) (codes "a") (codes "a\0")
+comm_backwards_in_parts : writes (comm_tool backwards) (codes "c\0b\0a") (codes "a\0") ≡ writes (comm_tool backwards) (codes "c\0b\0") (codes "")
+    ++ writes (comm_tool backwards) (codes "a") (codes "a\0")
 comm_backwards_in_parts = comm_of_parts backwards (both (codes "c\0b\0") (codes "")) (both (codes "a") (codes "a\0")) backwards_is_cut
 
 comm_backwards_of_both : writes (comm_tool backwards) (codes "c\0b\0") (codes "") ++ writes (comm_tool backwards) (codes "a") (codes "a\0") ≡ codes "c\0b\0\t\ta\0"
@@ -110,12 +111,20 @@ not_by_size : ((first second : Side → List ℕ) → AreWhole compares first �
 not_by_size law = omega (arith, ap length (law (both (codes "a\n") (codes "")) (both (codes "") (codes "a\n")) (each_whole 10 (codes "a\n") (codes "") (inr (codes "a", refl)) (inl refl)) refl))
 
 not_joined_by_size : ((first second : Side → List ℕ) → AreWhole joins first → AreInOrder joins first → IsWritten joins first second) → ⊥
-not_joined_by_size law = omega (arith, ap length (law (both (codes "a 1\n") (codes "")) (both (codes "") (codes "a x\n")) (each_whole 10 (codes "a 1\n") (codes "") (inr (codes "a 1", refl)) (inl refl)) refl))
+not_joined_by_size law = omega (
+  arith,
+  ap length (law (both (codes "a 1\n") (codes "")) (both (codes "") (codes "a x\n"))
+      (each_whole 10 (codes "a 1\n") (codes "") (inr (codes "a 1", refl)) (inl refl)) refl),
+)
 
 -- a first part out of order
 not_out_of_order : ((first second : Side → List ℕ) → AreWhole compares first → AreBelow compares first second → IsWritten compares first second) → ⊥
 not_out_of_order law =
-    omega (arith, ap length (law (both (codes "b\na\n") (codes "")) (both (codes "c\n") (codes "")) (each_whole 10 (codes "b\na\n") (codes "") (inr (codes "b\na", refl)) (inl refl)) ((refl, tt), ((refl, tt), tt))))
+    omega (
+      arith,
+      ap length (law (both (codes "b\na\n") (codes "")) (both (codes "c\n") (codes ""))
+          (each_whole 10 (codes "b\na\n") (codes "") (inr (codes "b\na", refl)) (inl refl)) ((refl, tt), ((refl, tt), tt))),
+    )
 
 not_joined_out_of_order : ((first second : Side → List ℕ) → AreWhole joins first → AreBelow joins first second → IsWritten joins first second) → ⊥
 not_joined_out_of_order law =
@@ -172,18 +181,21 @@ abbrev dealt_by_line : Tool → (List ℕ → ℕ) → (Side → List ℕ) → �
 dealt_by_line tool part_of inputs i side = text tool.end (filter (λ line. part_of line == i) (lines_of tool inputs side))
 
 not_by_line :
-    ((inputs : Side → List ℕ) (part_of : List ℕ → ℕ) (parts : ℕ) → AreInOrder joins inputs → ((line : List ℕ) → part_of line < parts) → IsPermutation (written_lines joins inputs) (parts_write joins (dealt_by_line joins part_of inputs) parts))
+    ((inputs : Side → List ℕ) (part_of : List ℕ → ℕ) (parts : ℕ) → AreInOrder joins inputs → ((line : List ℕ) → part_of line < parts)
+    → IsPermutation (written_lines joins inputs) (parts_write joins (dealt_by_line joins part_of inputs) parts))
     → ⊥
 not_by_line law =
     omega (arith, length_permutation (codes "a 1 x" ∷ []) [] (law (both (codes "a 1\n") (codes "a x\n")) one_apart 2 refl one_apart_below))
 
 -- inputs out of order
 not_by_key_out_of_order :
-    ((inputs : Side → List ℕ) (part_of : List ℕ → ℕ) (parts : ℕ) → ((key : List ℕ) → part_of key < parts) → IsPermutation (written_lines joins inputs) (parts_write joins (dealt joins part_of inputs) parts)) → ⊥
+    ((inputs : Side → List ℕ) (part_of : List ℕ → ℕ) (parts : ℕ) → ((key : List ℕ) → part_of key < parts)
+    → IsPermutation (written_lines joins inputs) (parts_write joins (dealt joins part_of inputs) parts)) → ⊥
 not_by_key_out_of_order law =
     omega (arith, length_permutation (codes "b 1 x" ∷ []) (codes "a 2 y" ∷ codes "b 1 x" ∷ []) (law (both (codes "b 1\na 2\n") (codes "a y\nb x\n")) b_apart 2 b_apart_below))
 
 -- a key that goes to none of the parts
 not_without_its_part :
-    ((inputs : Side → List ℕ) (part_of : List ℕ → ℕ) (parts : ℕ) → AreInOrder compares inputs → IsPermutation (written_lines compares inputs) (parts_write compares (dealt compares part_of inputs) parts)) → ⊥
+    ((inputs : Side → List ℕ) (part_of : List ℕ → ℕ) (parts : ℕ) → AreInOrder compares inputs
+    → IsPermutation (written_lines compares inputs) (parts_write compares (dealt compares part_of inputs) parts)) → ⊥
 not_without_its_part law = omega (arith, length_permutation (codes "a" ∷ []) [] (law (both (codes "a\n") (codes "")) (λ key. 7) 2 refl))

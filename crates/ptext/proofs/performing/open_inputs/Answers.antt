@@ -10,5 +10,10 @@ pub loop-name-preserved : goal.loop-name-preserved
 loop-name-preserved g c = record {
   count = omega (arith, c.in_ok-push-2.ensures.len, c.loop-name.invariant.count);
   fresh = rw (c.in_ok-push-2.ensures.items) (All-push IsFresh c.loop-name.inputs.items c.match-open.reader c.loop-name.invariant.fresh
-      (elim c.match-open.branch [ in-Ok w ↦ rw (w.reader-is, w.file-reader.ensures) (λ opened. record { held = refl; ended = ap (λ (s : SourceState). s.ended) w.new.ensures; pulled = refl; fault = refl }) | in-Err w ↦ rw (w.reader-is, w.refused-reader.ensures) (λ opened. absurd (false≢true (sym opened))) ]));
+      (elim c.match-open.branch [
+        | in-Ok w ↦ rw (w.reader-is, w.file-reader.ensures)
+            (λ opened. record { held = refl; ended = ap (λ (s : SourceState). s.ended) w.new.ensures; pulled = refl; fault = refl })
+        | in-Err w ↦ rw
+            (w.reader-is, w.refused-reader.ensures) (λ opened. absurd (false≢true (sym opened)))
+      ]));
 }

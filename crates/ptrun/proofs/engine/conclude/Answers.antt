@@ -10,19 +10,22 @@ use Rattle.ptrun.specs.Sayings.{Tells, line_of}
 use Rattle.ptrun.proofs.Sayings.{tells_nothing}
 use Rattle.ptrun.proofs.engine.conclude.Goals as goal
 
-says : (tool : List ℕ) (names : List (List ℕ)) (old new : SinkState) (ended is : Result Done FlowFault) → ended ≡ is → Tells old new (last_words tool names is) → Tells old new (last_words tool names ended)
+says : (tool : List ℕ) (names : List (List ℕ)) (old new : SinkState) (ended is : Result Done FlowFault) → ended ≡ is → Tells old new (last_words tool names is)
+    → Tells old new (last_words tool names ended)
 says tool names old new ended is same tells = subst (λ (r : Result Done FlowFault). Tells old new (last_words tool names r)) (sym same) tells
 
 pub returns-in-Ok-Whole-clause-said : goal.returns-in-Ok-Whole-clause-said
 returns-in-Ok-Whole-clause-said g c = says _ _ _ _ _ (Ok Whole) (c.in-Ok-Whole.is ∙ ap (λ (d : Done). Ok d) (rw c.in-Ok-Whole.is at c.in-Ok-Whole.field-0-is)) (tells_nothing c.args.voice.now)
 
 pub returns-in-Ok-Unopened-clause-said : goal.returns-in-Ok-Unopened-clause-said
-returns-in-Ok-Unopened-clause-said g c = says _ _ _ _ _ (Ok Unopened) (c.in-Ok-Unopened.is ∙ ap (λ (d : Done). Ok d) (rw c.in-Ok-Unopened.is at c.in-Ok-Unopened.field-0-is)) (tells_nothing c.args.voice.now)
+returns-in-Ok-Unopened-clause-said g c = says _ _ _ _ _ (Ok Unopened) (c.in-Ok-Unopened.is
+    ∙ ap (λ (d : Done). Ok d) (rw c.in-Ok-Unopened.is at c.in-Ok-Unopened.field-0-is)) (tells_nothing c.args.voice.now)
 
 pub returns-in-Err-Read-clause-said : goal.returns-in-Err-Read-clause-said
 returns-in-Err-Read-clause-said g c =
     says _ _ _ _ _ (Err (Read c.in-Err-Read.place)) (c.in-Err-Read.is ∙ ap (λ (f : FlowFault). Err f) (rw c.in-Err-Read.is at c.in-Err-Read.field-0-is))
-    (subst (λ (text : List ℕ). Tells c.args.voice.now c.say-in-Err-Read.new.self text) (λ i. line_of (c.tool-tool.ensures i ∷ codes ": " ∷ c.name_at.ensures i ∷ codes ": read failed" ∷ [])) c.say-in-Err-Read.ensures)
+    (subst (λ (text : List ℕ). Tells c.args.voice.now c.say-in-Err-Read.new.self text)
+    (λ i. line_of (c.tool-tool.ensures i ∷ codes ": " ∷ c.name_at.ensures i ∷ codes ": read failed" ∷ [])) c.say-in-Err-Read.ensures)
 
 pub returns-in-Err-Write-clause-said : goal.returns-in-Err-Write-clause-said
 returns-in-Err-Write-clause-said g c =

@@ -9,8 +9,17 @@ loop-input-init c = c.new-cells.ensures
 
 pub push-requires : goal.push-requires
 push-requires c =
-    let i = c.loop-input.input-index in
-    (omega arith, omega (arith, ap length c.loop-input.invariant, length-take-le i (places c.args.order.now) (omega (arith, length-map c.args.order.now place, c.loop-input-test.true)), c.loop-input-test.true, c.requires.few))
+    let i = c.loop-input.input-index in (
+      omega arith,
+      omega (
+        arith,
+        ap length c.loop-input.invariant,
+        length-take-le i (places c.args.order.now)
+            (omega (arith, length-map c.args.order.now place, c.loop-input-test.true)),
+        c.loop-input-test.true,
+        c.requires.few,
+      ),
+    )
 
 pub loop-input-preserved : goal.loop-input-preserved
 loop-input-preserved c =

@@ -1,3 +1,4 @@
+-- The cells so far name the places of the inputs so far, in order.
 use Rattle.std.proofs.Common.{◌≡◌, take}
 use Rattle.ptrun.specs.Operands.{places}
 use Rattle.ptrun.proofs.joint.cells_of.Given as goal

@@ -1,3 +1,4 @@
+-- Each turn passes one more operand. One that stops the pass stops the run there, and the others are left alone.
 use Rattle.std.proofs.Common.{◌<◌, ℕ, List, [], ◌∷◌, Ok, Err, ◌+◌, length, take, drop, get_or, set, sym, ◌∙◌, ap, subst}
 use Rattle.std.specs.Prelude.{codes}
 use Rattle.std.proofs.lemmas.List.{get_or_default, set-get_or}
@@ -14,7 +15,8 @@ use Rattle.ptrun.proofs.operands.go_over_each.Goals.{then-is_refused, else-is_re
 
 pub loop-input-init : goal.loop-input-init
 loop-input-init g c =
-    pass_nothing (g.T.OneByOne.word c.args.tool.now) (g.T.OneByOne.tool c.args.tool.now) (words_seen c.args.names.now) c.args.inputs.now (fresh_all c.args.inputs.now c.requires.fresh) c.args.out.now c.args.voice.now c.args.store.now
+    pass_nothing (g.T.OneByOne.word c.args.tool.now) (g.T.OneByOne.tool c.args.tool.now) (words_seen c.args.names.now) c.args.inputs.now
+    (fresh_all c.args.inputs.now c.requires.fresh) c.args.out.now c.args.voice.now c.args.store.now
     c.requires.writable c.requires.roomy c.requires.empty
 
 pub go_over-requires : goal.go_over-requires
@@ -52,15 +54,20 @@ loop-input-preserved g c =
     let next = places_next c.args.order.now i _ p c.loop-input-test.true c.place_of-place.ensures in
     elim c.if-is_refused.branch [
       | then-is_refused w ↦
-          let says = subst (λ (l : List ℕ). Tells c.loop-input.voice w.say.new.self l) (λ j. line_of (w.name.ensures j ∷ codes ": " ∷ w.name_at.ensures j ∷ codes ": cannot be opened" ∷ [])) w.say.ensures in
+          let says = subst (λ (l : List ℕ). Tells c.loop-input.voice w.say.new.self l)
+          (λ j. line_of (w.name.ensures j ∷ codes ": " ∷ w.name_at.ensures j ∷ codes ": cannot be opened" ∷ [])) w.say.ensures in
           rw (w.inputs-is, set-get_or now p c.index-inputs-place.result, w.store-is, w.out-is, w.voice-is, w.done-is, next)
-          (pass_unopened word t names old fresh c.args.out.now c.args.voice.now c.args.store.now now c.loop-input.out c.loop-input.voice w.say.new.self c.loop-input.store done c.loop-input.done p k (refused ∙ w.if-is_refused.true) says)
+          (pass_unopened word t names old fresh c.args.out.now c.args.voice.now c.args.store.now now c.loop-input.out c.loop-input.voice w.say.new.self
+          c.loop-input.store done c.loop-input.done p k (refused ∙ w.if-is_refused.true) says)
       | else-is_refused+in-Ok w ↦
           let ready = ready_of (is_in done p) (reader_at old p) (reader_at now p) (at k.gave p) (fresh p) (refused ∙ w.if-is_refused.false) (k.places p) in
-          let calm = ap (λ (r : Reader). r.failed) (sym here) ∙ c.is_refused.ensures.sound.unfailed (sym c.is_refused.ensures.refused ∙ w.if-is_refused.false) (ap (λ (r : Reader). r.fault) here ∙ ready.fault) in
-          let run = pass_here t (get_or now p c.index-inputs-place.result) (reader_at now p) w.go_over.new.reader c.loop-input.out w.go_over.new.out c.loop-input.store w.go_over.new.store w.go_over.result here w.go_over.ensures in
+          let calm = ap (λ (r : Reader). r.failed) (sym here) ∙ c.is_refused.ensures.sound.unfailed (sym c.is_refused.ensures.refused ∙ w.if-is_refused.false)
+          (ap (λ (r : Reader). r.fault) here ∙ ready.fault) in
+          let run = pass_here t (get_or now p c.index-inputs-place.result)
+          (reader_at now p) w.go_over.new.reader c.loop-input.out w.go_over.new.out c.loop-input.store w.go_over.new.store w.go_over.result here w.go_over.ensures in
           rw (w.inputs-is, w.store-is, w.out-is, w.voice-is, w.done-is, next)
-          (pass_done word t names old fresh c.args.out.now c.args.voice.now c.args.store.now now c.loop-input.out w.go_over.new.out c.loop-input.voice c.loop-input.store w.go_over.new.store done c.loop-input.done p w.go_over.new.reader w.go_over.result
+          (pass_done word t names old fresh c.args.out.now c.args.voice.now c.args.store.now now c.loop-input.out w.go_over.new.out c.loop-input.voice
+          c.loop-input.store w.go_over.new.store done c.loop-input.done p w.go_over.new.reader w.go_over.result
           k in_old (refused ∙ w.if-is_refused.false) calm run w.in-Ok.is)
     ]
 
@@ -83,14 +90,19 @@ returns-in-Err g c =
     let here = get_or_default now p c.index-inputs-place.result no_reader within in
     let opened = ap (λ (r : Reader). r.refused) (sym here) ∙ sym c.is_refused.ensures.refused ∙ c.if-is_refused.false in
     let ready = ready_of (is_in done p) (reader_at old p) (reader_at now p) (at k.gave p) (fresh p) opened (k.places p) in
-    let calm = ap (λ (r : Reader). r.failed) (sym here) ∙ c.is_refused.ensures.sound.unfailed (sym c.is_refused.ensures.refused ∙ c.if-is_refused.false) (ap (λ (r : Reader). r.fault) here ∙ ready.fault) in
-    let run = pass_here t (get_or now p c.index-inputs-place.result) (reader_at now p) c.go_over.new.reader c.loop-input.out c.go_over.new.out c.loop-input.store c.go_over.new.store c.go_over.result here c.go_over.ensures in
+    let calm = ap (λ (r : Reader). r.failed) (sym here) ∙ c.is_refused.ensures.sound.unfailed (sym c.is_refused.ensures.refused ∙ c.if-is_refused.false)
+    (ap (λ (r : Reader). r.fault) here ∙ ready.fault) in
+    let run = pass_here t (get_or now p c.index-inputs-place.result) (reader_at now p) c.go_over.new.reader c.loop-input.out c.go_over.new.out
+    c.loop-input.store c.go_over.new.store c.go_over.result here c.go_over.ensures in
     rw c.at_operand.ensures
-    (subst (λ (o : List ℕ). Went (one_by_one word t names o) old (set now p c.go_over.new.reader) c.args.out.now c.go_over.new.out c.args.voice.now c.loop-input.voice c.args.store.now c.go_over.new.store (Err (blame p c.in-Err.fault)))
+    (subst (λ (o : List ℕ). Went (one_by_one word t names o) old (set now p c.go_over.new.reader) c.args.out.now c.go_over.new.out c.args.voice.now
+    c.loop-input.voice c.args.store.now c.go_over.new.store (Err (blame p c.in-Err.fault)))
     (places_split order i _ p c.loop-input-test.true c.place_of-place.ensures)
-    (pass_stopped word t names old fresh c.args.out.now c.args.voice.now c.args.store.now now c.loop-input.out c.go_over.new.out c.loop-input.voice c.loop-input.store c.go_over.new.store done c.loop-input.done p c.go_over.new.reader c.go_over.result
+    (pass_stopped word t names old fresh c.args.out.now c.args.voice.now c.args.store.now now c.loop-input.out c.go_over.new.out c.loop-input.voice
+    c.loop-input.store c.go_over.new.store done c.loop-input.done p c.go_over.new.reader c.go_over.result
     k in_old opened calm run
-    (decided_by_law word t names old fresh c.args.out.now c.args.voice.now c.args.store.now now c.loop-input.out c.go_over.new.out c.loop-input.voice c.loop-input.store c.go_over.new.store done c.loop-input.done p c.go_over.new.reader c.go_over.result
+    (decided_by_law word t names old fresh c.args.out.now c.args.voice.now c.args.store.now now c.loop-input.out c.go_over.new.out c.loop-input.voice
+    c.loop-input.store c.go_over.new.store done c.loop-input.done p c.go_over.new.reader c.go_over.result
     k in_old opened calm run (g.met.T.OneByOne.all_decided c.args.tool.now))
     more c.in-Err.fault c.in-Err.is))
 
@@ -99,9 +111,12 @@ returns g c =
     let word = g.T.OneByOne.word c.args.tool.now in
     let t = g.T.OneByOne.tool c.args.tool.now in
     let names = words_seen c.args.names.now in
-    subst (λ (o : List ℕ). Went (one_by_one word t names o) c.args.inputs.now c.loop-input.inputs c.args.out.now c.loop-input.out c.args.voice.now c.loop-input.voice c.args.store.now c.loop-input.store (Ok c.loop-input.done))
+    subst (λ (o : List ℕ). Went (one_by_one word t names o) c.args.inputs.now c.loop-input.inputs c.args.out.now c.loop-input.out c.args.voice.now
+    c.loop-input.voice c.args.store.now c.loop-input.store (Ok c.loop-input.done))
     (places_end c.args.order.now c.loop-input.input-index c.loop-input-test.false)
-    (pass_all word t names c.args.inputs.now (fresh_all c.args.inputs.now c.requires.fresh) c.args.out.now c.args.voice.now c.args.store.now c.loop-input.inputs c.loop-input.out c.loop-input.voice c.loop-input.store
+    (pass_all word t names c.args.inputs.now (fresh_all c.args.inputs.now c.requires.fresh) c.args.out.now c.args.voice.now c.args.store.now
+    c.loop-input.inputs c.loop-input.out c.loop-input.voice c.loop-input.store
     (take c.loop-input.input-index (places c.args.order.now)) c.loop-input.done c.loop-input.invariant
-    (keeps_all word t names c.args.inputs.now (fresh_all c.args.inputs.now c.requires.fresh) c.args.out.now c.args.voice.now c.args.store.now (g.met.T.OneByOne.all_decided c.args.tool.now) c.loop-input.inputs c.loop-input.out c.loop-input.voice c.loop-input.store
+    (keeps_all word t names c.args.inputs.now (fresh_all c.args.inputs.now c.requires.fresh) c.args.out.now c.args.voice.now c.args.store.now
+    (g.met.T.OneByOne.all_decided c.args.tool.now) c.loop-input.inputs c.loop-input.out c.loop-input.voice c.loop-input.store
     (take c.loop-input.input-index (places c.args.order.now)) c.loop-input.done c.loop-input.invariant))

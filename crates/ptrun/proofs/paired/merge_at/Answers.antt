@@ -1,3 +1,4 @@
+-- Two places of the list of readers are lent out, whichever comes first, and both orders of the places are one merge.
 use Rattle.std.proofs.Common.{◌≡◌, ℕ, ◌+◌, ◌<◌, ◌≤◌, sym, arith}
 use Rattle.ptrun.proofs.TwoReaders.{was_low, was_high, are_lent}
 use Rattle.ptrun.proofs.paired.merge_at.Goals as goal
@@ -15,7 +16,8 @@ merge_two-requires g c =
     let s = c.split_at_mut-front in
     rw (
       was_low c.args.inputs.now s.result.0.now s.result.1.now c.args.first c.args.second s.ensures.value s.ensures.front_len c.if-first-second.true c.requires.within.1 c.index-front-first.result,
-      was_high c.args.inputs.now s.result.0.now s.result.1.now c.args.first c.args.second s.ensures.value s.ensures.front_len c.if-first-second.true c.requires.within.1 c.index-back-0.result (some_left _ _ _ s.ensures.back_len c.requires.within.1),
+      was_high c.args.inputs.now s.result.0.now s.result.1.now c.args.first c.args.second s.ensures.value s.ensures.front_len c.if-first-second.true
+          c.requires.within.1 c.index-back-0.result (some_left _ _ _ s.ensures.back_len c.requires.within.1),
     )
     c.requires.ready
 
@@ -25,35 +27,40 @@ merge_two-requires-else-first-second g c =
     let lower = below c.args.first c.args.second c.if-first-second.false c.requires.apart in
     rw (
       was_low c.args.inputs.now s.result.0.now s.result.1.now c.args.second c.args.first s.ensures.value s.ensures.front_len lower c.requires.within.0 c.index-front-second.result,
-      was_high c.args.inputs.now s.result.0.now s.result.1.now c.args.second c.args.first s.ensures.value s.ensures.front_len lower c.requires.within.0 c.index-back-0-else-first-second.result (some_left _ _ _ s.ensures.back_len c.requires.within.0),
+      was_high c.args.inputs.now s.result.0.now s.result.1.now c.args.second c.args.first s.ensures.value s.ensures.front_len lower c.requires.within.0
+          c.index-back-0-else-first-second.result (some_left _ _ _ s.ensures.back_len c.requires.within.0),
     )
     c.requires.ready
 
 pub returns-then-first-second-clause-merged : goal.returns-then-first-second-clause-merged
 returns-then-first-second-clause-merged g c =
     let s = c.split_at_mut-front in
-    let k = are_lent c.args.inputs.now s.result.0.now s.result.1.now c.args.first c.args.second s.ensures.value s.ensures.front_len c.if-first-second.true c.requires.within.1 c.merge_two.new.first c.merge_two.new.second
+    let k = are_lent c.args.inputs.now s.result.0.now s.result.1.now c.args.first c.args.second s.ensures.value s.ensures.front_len c.if-first-second.true
+    c.requires.within.1 c.merge_two.new.first c.merge_two.new.second
     c.index-front-first.result c.index-back-0.result (some_left _ _ _ s.ensures.back_len c.requires.within.1) in
     rw (sym k.was_low, sym k.was_high, k.is_low, k.is_high) c.merge_two.ensures.merged
 
 pub returns-then-first-second-clause-sound : goal.returns-then-first-second-clause-sound
 returns-then-first-second-clause-sound g c =
     let s = c.split_at_mut-front in
-    let k = are_lent c.args.inputs.now s.result.0.now s.result.1.now c.args.first c.args.second s.ensures.value s.ensures.front_len c.if-first-second.true c.requires.within.1 c.merge_two.new.first c.merge_two.new.second
+    let k = are_lent c.args.inputs.now s.result.0.now s.result.1.now c.args.first c.args.second s.ensures.value s.ensures.front_len c.if-first-second.true
+    c.requires.within.1 c.merge_two.new.first c.merge_two.new.second
     c.index-front-first.result c.index-back-0.result (some_left _ _ _ s.ensures.back_len c.requires.within.1) in
     rw (sym k.was_low, sym k.was_high, k.is_low, k.is_high) c.merge_two.ensures.sound
 
 pub returns-then-first-second-clause-others : goal.returns-then-first-second-clause-others
 returns-then-first-second-clause-others g c =
     let s = c.split_at_mut-front in
-    (are_lent c.args.inputs.now s.result.0.now s.result.1.now c.args.first c.args.second s.ensures.value s.ensures.front_len c.if-first-second.true c.requires.within.1 c.merge_two.new.first c.merge_two.new.second
+    (are_lent c.args.inputs.now s.result.0.now s.result.1.now c.args.first c.args.second s.ensures.value s.ensures.front_len c.if-first-second.true
+    c.requires.within.1 c.merge_two.new.first c.merge_two.new.second
     c.index-front-first.result c.index-back-0.result (some_left _ _ _ s.ensures.back_len c.requires.within.1)).others
 
 pub returns-else-first-second-clause-merged : goal.returns-else-first-second-clause-merged
 returns-else-first-second-clause-merged g c =
     let s = c.split_at_mut-front-else-first-second in
     let w = c.merge_two-else-first-second in
-    let k = are_lent c.args.inputs.now s.result.0.now s.result.1.now c.args.second c.args.first s.ensures.value s.ensures.front_len (below c.args.first c.args.second c.if-first-second.false c.requires.apart) c.requires.within.0 w.new.second w.new.first
+    let k = are_lent c.args.inputs.now s.result.0.now s.result.1.now c.args.second c.args.first s.ensures.value s.ensures.front_len
+    (below c.args.first c.args.second c.if-first-second.false c.requires.apart) c.requires.within.0 w.new.second w.new.first
     c.index-front-second.result c.index-back-0-else-first-second.result (some_left _ _ _ s.ensures.back_len c.requires.within.0) in
     rw (sym k.was_low, sym k.was_high, k.is_low, k.is_high) w.ensures.merged
 
@@ -61,7 +68,8 @@ pub returns-else-first-second-clause-sound : goal.returns-else-first-second-clau
 returns-else-first-second-clause-sound g c =
     let s = c.split_at_mut-front-else-first-second in
     let w = c.merge_two-else-first-second in
-    let k = are_lent c.args.inputs.now s.result.0.now s.result.1.now c.args.second c.args.first s.ensures.value s.ensures.front_len (below c.args.first c.args.second c.if-first-second.false c.requires.apart) c.requires.within.0 w.new.second w.new.first
+    let k = are_lent c.args.inputs.now s.result.0.now s.result.1.now c.args.second c.args.first s.ensures.value s.ensures.front_len
+    (below c.args.first c.args.second c.if-first-second.false c.requires.apart) c.requires.within.0 w.new.second w.new.first
     c.index-front-second.result c.index-back-0-else-first-second.result (some_left _ _ _ s.ensures.back_len c.requires.within.0) in
     rw (sym k.was_low, sym k.was_high, k.is_low, k.is_high) w.ensures.sound
 
@@ -70,5 +78,6 @@ returns-else-first-second-clause-others g c =
     let s = c.split_at_mut-front-else-first-second in
     let w = c.merge_two-else-first-second in
     λ place first second.
-    (are_lent c.args.inputs.now s.result.0.now s.result.1.now c.args.second c.args.first s.ensures.value s.ensures.front_len (below c.args.first c.args.second c.if-first-second.false c.requires.apart) c.requires.within.0 w.new.second w.new.first
+    (are_lent c.args.inputs.now s.result.0.now s.result.1.now c.args.second c.args.first s.ensures.value s.ensures.front_len
+    (below c.args.first c.args.second c.if-first-second.false c.requires.apart) c.requires.within.0 w.new.second w.new.first
     c.index-front-second.result c.index-back-0-else-first-second.result (some_left _ _ _ s.ensures.back_len c.requires.within.0)).others place second first

@@ -1,3 +1,4 @@
+-- Each arm has an engine; what it is called on is what the words name, and its contract is the run of that command.
 use Rattle.std.proofs.Common.{refl}
 use Rattle.std.specs.Prelude.{codes}
 use Rattle.ptlangs.specs.Jobs.{cut_job, paste_job, uniq_job, comm_job, join_job}
@@ -15,7 +16,8 @@ use Rattle.ptrun.proofs.running.run_command.Goals as goal
 
 pub run_engine-requires-clause-given : goal.run_engine-requires-clause-given
 run_engine-requires-clause-given g c =
-    given_of (one_by_one (codes "cut") (cut_tool (cut_job c.in-Cut.tool)) (words_seen c.in-Cut.operands.names.items) (places c.in-Cut.operands.order.items)) c.args.inputs.now c.in-Cut.operands.order.items refl
+    given_of (one_by_one (codes "cut") (cut_tool (cut_job c.in-Cut.tool)) (words_seen c.in-Cut.operands.names.items) (places c.in-Cut.operands.order.items))
+    c.args.inputs.now c.in-Cut.operands.order.items refl
     (rw c.in-Cut.is at c.requires.fresh) (rw c.in-Cut.is at c.requires.fits)
 
 pub run_engine-requires-in-Tr-clause-given : goal.run_engine-requires-in-Tr-clause-given
@@ -25,7 +27,8 @@ run_engine-requires-in-Tr-clause-given g c =
 
 pub run_engine-requires-in-Uniq-clause-given : goal.run_engine-requires-in-Uniq-clause-given
 run_engine-requires-in-Uniq-clause-given g c =
-    given_of (together (codes "uniq") (of_one (uniq_tool (uniq_job c.in-Uniq.tool))) (words_seen c.in-Uniq.operands.names.items) (places c.in-Uniq.operands.order.items)) c.args.inputs.now c.in-Uniq.operands.order.items refl
+    given_of (together (codes "uniq") (of_one (uniq_tool (uniq_job c.in-Uniq.tool))) (words_seen c.in-Uniq.operands.names.items)
+    (places c.in-Uniq.operands.order.items)) c.args.inputs.now c.in-Uniq.operands.order.items refl
     (rw c.in-Uniq.is at c.requires.fresh) (rw c.in-Uniq.is at c.requires.fits)
 
 pub run_engine-requires-in-Uniq-clause-taken : goal.run_engine-requires-in-Uniq-clause-taken
@@ -33,12 +36,14 @@ run_engine-requires-in-Uniq-clause-taken g c = rw c.in-Uniq.is at c.requires.tak
 
 pub run_engine-requires-then-tool-clause-given : goal.run_engine-requires-then-tool-clause-given
 run_engine-requires-then-tool-clause-given g c =
-    given_of (one_by_one (codes "paste") (serial_tool (paste_job c.in-Paste.tool)) (words_seen c.in-Paste.operands.names.items) (places c.in-Paste.operands.order.items)) c.args.inputs.now c.in-Paste.operands.order.items refl
+    given_of (one_by_one (codes "paste") (serial_tool (paste_job c.in-Paste.tool)) (words_seen c.in-Paste.operands.names.items)
+    (places c.in-Paste.operands.order.items)) c.args.inputs.now c.in-Paste.operands.order.items refl
     (rw c.in-Paste.is at c.requires.fresh) (rw c.in-Paste.is at c.requires.fits)
 
 pub run_engine-requires-else-tool-clause-given : goal.run_engine-requires-else-tool-clause-given
 run_engine-requires-else-tool-clause-given g c =
-    given_of (together (codes "paste") (of_rows (paste_job c.in-Paste.tool)) (words_seen c.in-Paste.operands.names.items) (places c.in-Paste.operands.order.items)) c.args.inputs.now c.in-Paste.operands.order.items refl
+    given_of (together (codes "paste") (of_rows (paste_job c.in-Paste.tool)) (words_seen c.in-Paste.operands.names.items)
+    (places c.in-Paste.operands.order.items)) c.args.inputs.now c.in-Paste.operands.order.items refl
     (rw c.in-Paste.is at c.requires.fresh) (rw c.in-Paste.is at c.requires.fits)
 
 pub returns-else-tool-clause-quiet : goal.returns-else-tool-clause-quiet
@@ -64,7 +69,8 @@ returns-in-Uniq-clause-run g c = rw c.in-Uniq.is c.run_engine-in-Uniq.ensures.ru
 
 pub run_engine-requires-in-Comm-clause-given : goal.run_engine-requires-in-Comm-clause-given
 run_engine-requires-in-Comm-clause-given g c =
-    given_of (together (codes "comm") (of_two (comm_tool (comm_job c.in-Comm.tool))) (words_seen c.in-Comm.operands.names.items) (places c.in-Comm.operands.order.items)) c.args.inputs.now c.in-Comm.operands.order.items refl
+    given_of (together (codes "comm") (of_two (comm_tool (comm_job c.in-Comm.tool))) (words_seen c.in-Comm.operands.names.items)
+    (places c.in-Comm.operands.order.items)) c.args.inputs.now c.in-Comm.operands.order.items refl
     (rw c.in-Comm.is at c.requires.fresh) (rw c.in-Comm.is at c.requires.fits)
 
 pub run_engine-requires-in-Comm-clause-taken : goal.run_engine-requires-in-Comm-clause-taken
@@ -78,7 +84,8 @@ returns-in-Comm-clause-run g c = rw c.in-Comm.is c.run_engine-in-Comm.ensures.ru
 
 pub run_engine-requires-in-Join-clause-given : goal.run_engine-requires-in-Join-clause-given
 run_engine-requires-in-Join-clause-given g c =
-    given_of (together (codes "join") (of_two (join_tool (join_job c.in-Join.tool))) (words_seen c.in-Join.operands.names.items) (places c.in-Join.operands.order.items)) c.args.inputs.now c.in-Join.operands.order.items refl
+    given_of (together (codes "join") (of_two (join_tool (join_job c.in-Join.tool))) (words_seen c.in-Join.operands.names.items)
+    (places c.in-Join.operands.order.items)) c.args.inputs.now c.in-Join.operands.order.items refl
     (rw c.in-Join.is at c.requires.fresh) (rw c.in-Join.is at c.requires.fits)
 
 pub run_engine-requires-in-Join-clause-taken : goal.run_engine-requires-in-Join-clause-taken

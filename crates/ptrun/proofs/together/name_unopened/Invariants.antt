@@ -1,3 +1,4 @@
+-- Of the inputs so far, each that could not be opened was named, in order.
 use Rattle.std.proofs.Common.{◌≡◌, take}
 use Rattle.std.specs.List.{list_any}
 use Rattle.ptopts.specs.Meant.{words_seen}

@@ -1,3 +1,4 @@
+-- Each byte so far was put, as this way moves it.
 use Rattle.std.proofs.Common.{length, ◌-◌}
 use Rattle.ptflow.specs.Workings.Bytes.Lanes.{IsMovedTo}
 use Rattle.ptflow.proofs.kernels.lanes.move_most.Given as goal

@@ -1,3 +1,4 @@
+-- Each byte so far was put, as the stretches move it.
 use Rattle.std.proofs.Common.{length, ◌-◌}
 use Rattle.ptlangs.specs.TrShifts.{shifted}
 use Rattle.ptflow.specs.Workings.Bytes.Lanes.{IsMovedTo}

@@ -12,7 +12,8 @@ pub returns-then-is_none : goal.returns-then-is_none
 returns-then-is_none c =
     let ss = c.args.shifts.now in
     moved_same (by_reach c.of-a.result) (shifted ss) _ c.args.from.now _
-    (λ b low. one_moves ss c.stretch.ensures.few b _ (c.of-a.ensures b low ∙ ap (told b) c.stretch.ensures.found) (sym (ap (λ (o : Option (ℕ × ℕ × ℕ)). is_some o) c.stretch-3.ensures.found) ∙ c.is_none.ensures ∙ ap not c.if-is_none.true))
+    (λ b low. one_moves ss c.stretch.ensures.few b _ (c.of-a.ensures b low ∙ ap (told b) c.stretch.ensures.found)
+    (sym (ap (λ (o : Option (ℕ × ℕ × ℕ)). is_some o) c.stretch-3.ensures.found) ∙ c.is_none.ensures ∙ ap not c.if-is_none.true))
     c.type_inv.from c.move_most.ensures
 
 pub returns-then-is_none-2 : goal.returns-then-is_none-2

@@ -1,3 +1,4 @@
+-- The row begins with the places of the flags so far that are true.
 use Rattle.ptflow.proofs.OfBytes.ChosenLanes.{RowBegun}
 use Rattle.ptflow.proofs.kernels.packing.row_of.Given as goal
 

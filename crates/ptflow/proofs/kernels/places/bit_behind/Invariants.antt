@@ -1,3 +1,4 @@
+-- Each turn cleared the lowest bit that was set.
 use Rattle.std.proofs.Common.{◌≡◌, Bool, List}
 use Rattle.std.specs.Simd.Lanes.{mask_l}
 use Rattle.ptflow.proofs.OfBytes.Nths.{without}

@@ -1,3 +1,4 @@
+-- A chunk with fewer places than are wanted is passed whole; otherwise the place is found by its bit.
 use Rattle.std.proofs.Common.{◌≡◌, ◌+◌, ◌-◌, ℕ, take, subst, ◌∙◌, ap, arith}
 use Rattle.std.specs.Int.RustNames.{count_ones}
 use Rattle.std.specs.List.{count_by}
@@ -14,7 +15,8 @@ overflow_add-place c =
     let left = c.loop-at.left in
     let k = c.bit_behind.result in
     let bytes = c.args.bytes.now in
-    let here = behind_in_chunk (is_byte c.args.byte) bytes at left c.marks-marked.result c.from-count.result k (omega arith) c.marks-marked.ensures c.from-count.ensures c.loop-at.invariant.0 c.if-left-count.true c.bit_behind.ensures in
+    let here = behind_in_chunk (is_byte c.args.byte) bytes at left c.marks-marked.result c.from-count.result k
+    (omega arith) c.marks-marked.ensures c.from-count.ensures c.loop-at.invariant.0 c.if-left-count.true c.bit_behind.ensures in
     omega (arith, near (is_byte c.args.byte) bytes 64 at (left - 1) k (omega arith) here)
 
 pub returns-then-place-to : goal.returns-then-place-to
@@ -24,7 +26,8 @@ returns-then-place-to c =
     let k = c.bit_behind.result in
     let bytes = c.args.bytes.now in
     let p = is_byte c.args.byte in
-    let here = behind_in_chunk p bytes at left c.marks-marked.result c.from-count.result k (omega arith) c.marks-marked.ensures c.from-count.ensures c.loop-at.invariant.0 c.if-left-count.true c.bit_behind.ensures in
+    let here = behind_in_chunk p bytes at left c.marks-marked.result c.from-count.result k
+    (omega arith) c.marks-marked.ensures c.from-count.ensures c.loop-at.invariant.0 c.if-left-count.true c.bit_behind.ensures in
     let before : count_by p (take at bytes) + (left - 1) ≡ c.args.number - 1 = omega (arith, c.loop-at.invariant.0, c.loop-at.invariant.2) in
     subst (λ (n : ℕ). IsBehind p 0 n (take c.args.to bytes) (at + k)) before (behind_front p bytes 64 at (left - 1) k (omega arith) here c.args.to c.if-place-to.true c.requires.within)
 
@@ -35,7 +38,8 @@ returns-else-place-to c =
     let k = c.bit_behind.result in
     let bytes = c.args.bytes.now in
     let p = is_byte c.args.byte in
-    let here = behind_in_chunk p bytes at left c.marks-marked.result c.from-count.result k (omega arith) c.marks-marked.ensures c.from-count.ensures c.loop-at.invariant.0 c.if-left-count.true c.bit_behind.ensures in
+    let here = behind_in_chunk p bytes at left c.marks-marked.result c.from-count.result k
+    (omega arith) c.marks-marked.ensures c.from-count.ensures c.loop-at.invariant.0 c.if-left-count.true c.bit_behind.ensures in
     omega (arith, c.loop-at.invariant.0, c.loop-at.invariant.2, count_front p bytes 64 at (left - 1) k (omega arith) here, count_up_to p bytes c.args.to (at + k) c.if-place-to.false)
 
 pub loop-at-preserved : goal.loop-at-preserved

@@ -1,3 +1,5 @@
+-- The places that were passed and those still to be found are together as many as were asked for, and one at least is
+-- to be found.
 use Rattle.std.proofs.Common.{◌≡◌, ◌<◌, ◌≤◌, ◌+◌, ◌-◌, length, take}
 use Rattle.std.specs.List.{count_by}
 use Rattle.memchr.specs.Find.{is_byte}

@@ -1,3 +1,4 @@
+-- The places that were passed and those still to be found are together as many as were asked for.
 use Rattle.std.proofs.Common.{◌≡◌, ◌<◌, ◌+◌, take}
 use Rattle.std.specs.List.{count_by}
 use Rattle.memchr.specs.Find.{is_byte}

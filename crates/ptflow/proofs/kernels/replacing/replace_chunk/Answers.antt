@@ -1,3 +1,5 @@
+-- The ends of a chunk are the bits of its mask, in order; each turn sets the lowest one to the delimiter whose turn it
+-- is.
 use Rattle.std.proofs.Common.{◌≡◌, ◌+◌, ◌%◌, ◌++◌, suc, ℕ, None, List, map, length, take, slice_index_or, slice_set, sym, ◌∙◌, ap, arith}
 use Rattle.std.specs.Prelude.{unwrap_or}
 use Rattle.std.specs.Int.RustNames.{count_ones}

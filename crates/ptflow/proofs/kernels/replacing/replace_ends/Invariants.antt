@@ -1,3 +1,4 @@
+-- Each byte so far was put, and each line end as the delimiter.
 use Rattle.std.proofs.Common.{length, ◌-◌}
 use Rattle.ptflow.specs.Workings.Bytes.Lanes.{IsMovedTo}
 use Rattle.ptflow.specs.Workings.Paste.SerialRests.{with_delimiter}

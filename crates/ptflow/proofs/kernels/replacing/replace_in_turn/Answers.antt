@@ -1,3 +1,4 @@
+-- Whole chunks come first, and then the bytes behind them, one by one; the turn goes on from one to the other.
 use Rattle.std.proofs.Common.{◌≤◌, ◌+◌, ◌%◌, ℕ, length, take, refl, sym, ◌∙◌, ap, arith}
 use Rattle.std.specs.List.{count_by}
 use Rattle.std.proofs.lemmas.List.{take_all, length-take-le, length-set}

@@ -1,3 +1,5 @@
+-- The first byte stays or goes by the byte that was written before the block; each other one by the byte in front of
+-- it.
 use Rattle.std.proofs.Common.{◌≡◌, ◌≤◌, ◌<◌, zero, suc, ◌+◌, ◌-◌, drop, ℕ, ◌++◌, ◌&&◌, eqb, Bool, List, Some, false, length, take, get_or, arith, ap, ◌∙◌, slice_index_or, w8}
 use Rattle.std.specs.Option.{option_eq}
 use Rattle.std.proofs.lemmas.Simd.{chunk-fits}
@@ -13,7 +15,8 @@ pub loop-at-init : goal.loop-at-init
 loop-at-init c =
     let flag = λ (b : ℕ). slice_index_or c.args.flags.now b false in
     let again = ap (λ (same : Bool). same && flag c.from.result) c.eq.ensures ∙ ap (λ (b : ℕ). option_eq eqb c.args.last (Some (get_or c.args.from.now 0 0)) && flag b) c.from.ensures in
-    squeezing_starts flag c.args.last c.args.from.now c.args.into.now _ c.from-count.result (some (length c.args.from.now) c.if-is_empty.ensures) (omega (arith, c.told-into)) again c.from-count.ensures
+    squeezing_starts flag c.args.last c.args.from.now c.args.into.now _ c.from-count.result (some (length c.args.from.now) c.if-is_empty.ensures)
+    (omega (arith, c.told-into)) again c.from-count.ensures
 
 pub loop-at-preserved : goal.loop-at-preserved
 loop-at-preserved c =
@@ -22,7 +25,8 @@ loop-at-preserved c =
     let flag = λ (b : ℕ). slice_index_or c.args.flags.now b false in
     let room : at + 16 ≤ length from = omega (arith, c.loop-at.invariant.within) in
     let same = same_behind (holds c.args.set) flag c.requires.set (get_or from (at - 1) 0) (take 16 (drop at from)) (chunk-fits w8 at 16 from c.type_inv.from) in
-    squeezing_piece flag from c.loop-at.into at c.loop-at.count _ c.loop-at.invariant c.squeeze_lanes-count.new.into c.squeeze_lanes-count.result 16 (omega arith) room c.squeeze_lanes-count.ensures.end
+    squeezing_piece flag from c.loop-at.into at c.loop-at.count _ c.loop-at.invariant c.squeeze_lanes-count.new.into c.squeeze_lanes-count.result 16
+    (omega arith) room c.squeeze_lanes-count.ensures.end
     (c.squeeze_lanes-count.ensures.squeezed ∙ ap (λ (l : List ℕ). take c.loop-at.count c.loop-at.into ++ l) same)
 
 pub overflow_sub-from : goal.overflow_sub-from

@@ -1,3 +1,5 @@
+-- What was put stands in front of what is left of the bytes that are still to be squeezed, each with the byte in front
+-- of it.
 use Rattle.std.proofs.Common.{◌-◌, ◌++◌, false, length, take, drop, slice_index, slice_index_or}
 use Rattle.ptflow.specs.Translations.{squeeze_behind}
 use Rattle.ptflow.proofs.OfTr.SqueezeLemmas.{Squeezing}

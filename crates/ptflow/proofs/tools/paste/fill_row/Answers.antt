@@ -1,3 +1,5 @@
+-- Each turn fills one more cell, or leaves it empty where its reader has ended. A read or a growth that fails stops
+-- the row, of which nothing was pushed.
 use Rattle.std.proofs.Common.{◌≡◌, ◌<◌, ℕ, Bool, true, false, [], None, length, get_or, refl, sym, ◌∙◌, ap, arith}
 use Rattle.std.proofs.lemmas.Bool.{false≢true}
 use Rattle.std.proofs.lemmas.List.Elements.{All-get_or}
@@ -36,7 +38,8 @@ returns-in_err-send_before_wait g c =
     let e = err_from_is_err_and c.from_residual.result c.from_residual.ensures.1 in
     rw (e.1, e.2)
     (record {
-      fills = (filling_breaks NotAsked cells column c.args.readers.now now c.args.store.now c.loop-column.store c.loop-column.store c.loop-column.came b b f c.loop-column-test.true within (at_index now place c.index-readers-place.result within) (refl, refl, going) (λ held. held)).0;
+      fills = (filling_breaks NotAsked cells column c.args.readers.now now c.args.store.now c.loop-column.store c.loop-column.store c.loop-column.came b b f
+          c.loop-column-test.true within (at_index now place c.index-readers-place.result within) (refl, refl, going) (λ held. held)).0;
       wrote = wrote_trans c.args.out.now c.loop-column.out c.send_before_wait.new.out [] [] c.loop-column.invariant.clean c.loop-column.invariant.wrote c.send_before_wait.ensures.wrote;
       faulted = c.in_err-send_before_wait.ensures.fault;
     })
@@ -53,7 +56,8 @@ returns-in-Err-Read g c =
     let is_read = at_index now place c.index-readers-place.result within in
     let clean : b.fault ≡ None = ap (λ (r : Reader). r.fault) is_read ∙ (f.taken.took place).fault ∙ c.requires.readable place (omega (arith, times_below cells column c.loop-column-test.true)) in
     record {
-      fills = filling_breaks BreaksRead cells column c.args.readers.now now c.args.store.now c.loop-column.store c.fill.new.store c.loop-column.came b c.fill.new.self f c.loop-column-test.true within is_read
+      fills = filling_breaks BreaksRead cells column c.args.readers.now now c.args.store.now c.loop-column.store c.fill.new.store c.loop-column.came b
+          c.fill.new.self f c.loop-column-test.true within is_read
           (rw c.in-Err-Read.field-0-is at (c.in-Err-Read.ensures.fills clean)) (λ held. c.in-Err-Read.ensures.is_sound.held);
       wrote = wrote_trans c.args.out.now c.loop-column.out c.send_before_wait.new.out [] [] c.loop-column.invariant.clean c.loop-column.invariant.wrote c.send_before_wait.ensures.wrote;
       faulted = c.in_ok-send_before_wait.ensures.clean;
@@ -71,7 +75,8 @@ returns-in-Err-Memory g c =
     let is_read = at_index now place c.index-readers-place.result within in
     let clean : b.fault ≡ None = ap (λ (r : Reader). r.fault) is_read ∙ (f.taken.took place).fault ∙ c.requires.readable place (omega (arith, times_below cells column c.loop-column-test.true)) in
     record {
-      fills = (filling_breaks BreaksMemory cells column c.args.readers.now now c.args.store.now c.loop-column.store c.fill.new.store c.loop-column.came b c.fill.new.self f c.loop-column-test.true within is_read
+      fills = (filling_breaks BreaksMemory cells column c.args.readers.now now c.args.store.now c.loop-column.store c.fill.new.store c.loop-column.came b
+          c.fill.new.self f c.loop-column-test.true within is_read
           (rw c.in-Err-Memory.field-0-is at (c.in-Err-Memory.ensures.fills clean)) (λ held. c.in-Err-Memory.ensures.is_sound.held)).0;
       wrote = wrote_trans c.args.out.now c.loop-column.out c.send_before_wait.new.out [] [] c.loop-column.invariant.clean c.loop-column.invariant.wrote c.send_before_wait.ensures.wrote;
       faulted = c.in_ok-send_before_wait.ensures.clean;
@@ -90,7 +95,8 @@ loop-column-preserved g c =
     let is_read = at_index now place c.index-readers-place.result within in
     let clean : b.fault ≡ None = ap (λ (r : Reader). r.fault) is_read ∙ (f.taken.took place).fault ∙ c.requires.readable place (omega (arith, times_below cells column c.loop-column-test.true)) in
     record {
-      filling = filling_next cells column c.args.readers.now now c.args.store.now c.loop-column.store c.loop-column.came f c.loop-column-test.true within room b is_read clean c.fill.new.self c.fill.new.store c.in-Ok.ensures.is_sound c.in-Ok.has_line (c.in-Ok.ensures.fills clean);
+      filling = filling_next cells column c.args.readers.now now c.args.store.now c.loop-column.store c.loop-column.came f c.loop-column-test.true within room
+          b is_read clean c.fill.new.self c.fill.new.store c.in-Ok.ensures.is_sound c.in-Ok.has_line (c.in-Ok.ensures.fills clean);
       wrote = wrote_trans c.args.out.now c.loop-column.out c.send_before_wait.new.out [] [] c.loop-column.invariant.clean c.loop-column.invariant.wrote c.send_before_wait.ensures.wrote;
       clean = c.in_ok-send_before_wait.ensures.clean;
     }

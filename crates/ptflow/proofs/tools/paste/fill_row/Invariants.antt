@@ -1,3 +1,4 @@
+-- The cells so far stand in their slots; nothing was pushed, but what was staged may have been sent.
 use Rattle.std.proofs.Common.{◌≡◌, false, []}
 use Rattle.ptlines.specs.Outputs.{Wrote}
 use Rattle.ptflow.proofs.OfPaste.RowTurns.{Filling}

@@ -1,3 +1,4 @@
+-- The rows so far were pushed, and the grid of the lines to come has the others, whatever comes.
 use Rattle.std.specs.Prelude.{sum_by}
 use Rattle.ptlines.specs.Readers.{budget}
 use Rattle.ptlangs.specs.Jobs.{paste_job}

@@ -1,3 +1,4 @@
+-- The cells so far were pushed, each behind its delimiter; the others are to come.
 use Rattle.std.proofs.Common.{◌≤◌, take, drop}
 use Rattle.ptflow.specs.Workings.Paste.SerialRests.{row_from}
 use Rattle.ptflow.proofs.OfPasses.Continuations.{Amid}

@@ -1,3 +1,4 @@
+-- The readers of the cells so far end lines with the byte of the job; nothing else has changed.
 use Rattle.std.proofs.Common.{take}
 use Rattle.ptlangs.specs.Jobs.{ending}
 use Rattle.ptflow.specs.Workings.Paste.RowTurns.{AreSet}

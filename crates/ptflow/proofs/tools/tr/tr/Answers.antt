@@ -24,4 +24,5 @@ returns-clause-pass g c =
     store ready
 
 pub returns-clause-no_memory : goal.returns-clause-no_memory
-returns-clause-no_memory g c = never_memory (tr_tool c.args.plan.now) c.args.reader.now c.over_blocks.new.reader c.args.out.now c.over_blocks.new.out no_slots c.over_blocks.result refl (returns-clause-pass g c no_slots c.requires)
+returns-clause-no_memory g c = never_memory (tr_tool c.args.plan.now) c.args.reader.now c.over_blocks.new.reader c.args.out.now c.over_blocks.new.out no_slots
+    c.over_blocks.result refl (returns-clause-pass g c no_slots c.requires)

@@ -1,3 +1,4 @@
+-- An output that has failed is left alone; otherwise both orders are one proof, over the order that the job names.
 use Rattle.std.proofs.Common.{sym, ◌∙◌, subst}
 use Rattle.std.proofs.lemmas.Bool.{false≢true}
 use Rattle.ptlangs.specs.Jobs.{comm_job}
@@ -22,7 +23,8 @@ returns-then-job-clause-merged g c =
     let new = seen c.comm_in_order.new.first c.comm_in_order.new.second c.comm_in_order.new.out c.comm_in_order.new.store in
     let is = set_is c.args.first.now c.args.second.now c.set_ending.new.self c.set_ending-2.new.self c.args.job.now.zero c.set_ending.ensures.set c.set_ending-2.ensures.set in
     merge_set old new set job.end is (comm_tool job) c.comm_in_order.result
-    (subst (λ t. IsMerge (comm_by job (line_cmp t) whole_line) (seen c.set_ending.new.self c.set_ending-2.new.self c.args.out.now c.args.store.now) new c.comm_in_order.result) (sym c.if-job.true) c.comm_in_order.ensures.merged)
+    (subst (λ t. IsMerge (comm_by job (line_cmp t) whole_line) (seen c.set_ending.new.self c.set_ending-2.new.self c.args.out.now c.args.store.now) new
+    c.comm_in_order.result) (sym c.if-job.true) c.comm_in_order.ensures.merged)
 
 pub returns-clause-merged : goal.returns-clause-merged
 returns-clause-merged g c =
@@ -32,7 +34,8 @@ returns-clause-merged g c =
     let new = seen c.comm_in_order-2.new.first c.comm_in_order-2.new.second c.comm_in_order-2.new.out c.comm_in_order-2.new.store in
     let is = set_is c.args.first.now c.args.second.now c.set_ending.new.self c.set_ending-2.new.self c.args.job.now.zero c.set_ending.ensures.set c.set_ending-2.ensures.set in
     merge_set old new set job.end is (comm_tool job) c.comm_in_order-2.result
-    (subst (λ t. IsMerge (comm_by job (line_cmp t) whole_line) (seen c.set_ending.new.self c.set_ending-2.new.self c.args.out.now c.args.store.now) new c.comm_in_order-2.result) (sym c.if-job.false) c.comm_in_order-2.ensures.merged)
+    (subst (λ t. IsMerge (comm_by job (line_cmp t) whole_line) (seen c.set_ending.new.self c.set_ending-2.new.self c.args.out.now c.args.store.now) new
+    c.comm_in_order-2.result) (sym c.if-job.false) c.comm_in_order-2.ensures.merged)
 
 pub returns-then-job-clause-halted : goal.returns-then-job-clause-halted
 returns-then-job-clause-halted g c = λ fault. absurd (false≢true (sym c.if-has_failed.false ∙ c.has_failed.ensures ∙ fault))

@@ -1,3 +1,4 @@
+-- An output that has failed is left alone; otherwise both orders are one proof, over the order that the job names.
 use Rattle.std.proofs.Common.{sym, ◌∙◌, subst}
 use Rattle.std.proofs.lemmas.Bool.{false≢true}
 use Rattle.ptlangs.specs.Jobs.{join_job}
@@ -22,7 +23,8 @@ returns-then-job-clause-merged g c =
     let new = seen c.join_in_order.new.first c.join_in_order.new.second c.join_in_order.new.out c.join_in_order.new.store in
     let is = set_is c.args.first.now c.args.second.now c.set_ending.new.self c.set_ending-2.new.self c.args.job.now.zero c.set_ending.ensures.set c.set_ending-2.ensures.set in
     merge_set old new set job.end is (join_tool job) c.join_in_order.result
-    (subst (λ t. IsMerge (join_by job (line_cmp t) (join_key job)) (seen c.set_ending.new.self c.set_ending-2.new.self c.args.out.now c.args.store.now) new c.join_in_order.result) (sym c.if-job.true) c.join_in_order.ensures.merged)
+    (subst (λ t. IsMerge (join_by job (line_cmp t) (join_key job)) (seen c.set_ending.new.self c.set_ending-2.new.self c.args.out.now c.args.store.now) new
+    c.join_in_order.result) (sym c.if-job.true) c.join_in_order.ensures.merged)
 
 pub returns-clause-merged : goal.returns-clause-merged
 returns-clause-merged g c =
@@ -32,7 +34,8 @@ returns-clause-merged g c =
     let new = seen c.join_in_order-2.new.first c.join_in_order-2.new.second c.join_in_order-2.new.out c.join_in_order-2.new.store in
     let is = set_is c.args.first.now c.args.second.now c.set_ending.new.self c.set_ending-2.new.self c.args.job.now.zero c.set_ending.ensures.set c.set_ending-2.ensures.set in
     merge_set old new set job.end is (join_tool job) c.join_in_order-2.result
-    (subst (λ t. IsMerge (join_by job (line_cmp t) (join_key job)) (seen c.set_ending.new.self c.set_ending-2.new.self c.args.out.now c.args.store.now) new c.join_in_order-2.result) (sym c.if-job.false) c.join_in_order-2.ensures.merged)
+    (subst (λ t. IsMerge (join_by job (line_cmp t) (join_key job)) (seen c.set_ending.new.self c.set_ending-2.new.self c.args.out.now c.args.store.now) new
+    c.join_in_order-2.result) (sym c.if-job.false) c.join_in_order-2.ensures.merged)
 
 pub returns-then-job-clause-halted : goal.returns-then-job-clause-halted
 returns-then-job-clause-halted g c = λ fault. absurd (false≢true (sym c.if-has_failed.false ∙ c.has_failed.ensures ∙ fault))

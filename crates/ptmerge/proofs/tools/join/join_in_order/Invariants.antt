@@ -1,3 +1,6 @@
+-- Between keys, the entries of the lines that are passed were pushed. While a group is gathered or paired, the entries
+-- of its key so far were pushed too, and the rest of them come next, whatever else comes. Each turn passes a line, or
+-- goes on to the next phase of the group.
 use Rattle.std.proofs.Common.{◌≡◌, ◌+◌, ◌*◌, false}
 use Rattle.ptlangs.specs.Jobs.{join_job}
 use Rattle.ptlines.specs.Readers.{budget}
@@ -16,7 +19,8 @@ abbrev pub invariant-turns : goal.invariant-turns
 invariant-turns g l = record {
   o : IsKeyOrder (g.K.KeyOrder.order l.fn.order);
   unfailed : (side : Side) → (both l.fn.first l.fn.second side).failed ≡ false;
-  phased : Phased (join_by (join_job l.job) (g.K.KeyOrder.order l.fn.order) (g.K.KeyOrder.key_of l.fn.order)) o (pairs_of (join_job l.job)) (join_pairs (join_job l.job) (g.K.KeyOrder.order l.fn.order) (g.K.KeyOrder.key_of l.fn.order)) (seen l.fn.first l.fn.second l.fn.out l.fn.store)
+  phased : Phased (join_by (join_job l.job) (g.K.KeyOrder.order l.fn.order) (g.K.KeyOrder.key_of l.fn.order)) o (pairs_of (join_job l.job))
+      (join_pairs (join_job l.job) (g.K.KeyOrder.order l.fn.order) (g.K.KeyOrder.key_of l.fn.order)) (seen l.fn.first l.fn.second l.fn.out l.fn.store)
       unfailed l.phase (seen l.first l.second l.out l.store) (both l.merge.first l.merge.second) l.end;
   placed : IsPlaced (g.K.KeyOrder.key_of l.merge.order) l.merge.first l.merge.second l.store;
   lent1 : IsLent l.merge.first l.first;

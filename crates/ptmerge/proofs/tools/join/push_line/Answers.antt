@@ -8,10 +8,12 @@ use Rattle.ptmerge.proofs.tools.join.push_line.Goals as goal
 pub returns-in_err-push_entry-clause-wrote : goal.returns-in_err-push_entry-clause-wrote
 returns-in_err-push_entry-clause-wrote g c =
     let job = join_job c.args.job.now in
-    wrote_past c.args.out.now c.push_entry.new.out (entry job c.args.key.now (fields_left job.separator (option_copied c.args.one)) (fields_left job.separator (option_copied c.args.two))) (c.args.ending ∷ []) c.in_err-push_entry.ensures.fault c.push_entry.ensures.wrote
+    wrote_past c.args.out.now c.push_entry.new.out (entry job c.args.key.now (fields_left job.separator (option_copied c.args.one))
+    (fields_left job.separator (option_copied c.args.two))) (c.args.ending ∷ []) c.in_err-push_entry.ensures.fault c.push_entry.ensures.wrote
 
 pub returns-clause-wrote : goal.returns-clause-wrote
 returns-clause-wrote g c =
     let job = join_job c.args.job.now in
-    wrote_trans c.args.out.now c.push_entry.new.out c.push.new.self (entry job c.args.key.now (fields_left job.separator (option_copied c.args.one)) (fields_left job.separator (option_copied c.args.two))) (c.args.ending ∷ [])
+    wrote_trans c.args.out.now c.push_entry.new.out c.push.new.self (entry job c.args.key.now (fields_left job.separator (option_copied c.args.one))
+    (fields_left job.separator (option_copied c.args.two))) (c.args.ending ∷ [])
     c.in_ok-push_entry.ensures.clean c.push_entry.ensures.wrote c.push.ensures.wrote

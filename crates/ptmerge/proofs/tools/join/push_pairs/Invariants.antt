@@ -1,3 +1,4 @@
+-- The pairs with the lines of the group so far were pushed; those with the others are to come.
 use Rattle.std.proofs.Common.{◌≤◌, ◌-◌, [], ◌∷◌, map, drop}
 use Rattle.ptlangs.specs.Jobs.{join_job}
 use Rattle.ptlines.specs.Text.{text}

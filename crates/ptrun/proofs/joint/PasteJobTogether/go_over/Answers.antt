@@ -1,3 +1,4 @@
+-- Its cells name the places of its operands, so what `paste` says of places is what the run says of operands.
 use Rattle.std.proofs.Common.{ℕ, List, length, sym, ◌∙◌, subst, arith}
 use Rattle.std.proofs.lemmas.Result.{err_from_is_err_and}
 use Rattle.ptlangs.specs.Jobs.{paste_job}
@@ -27,7 +28,8 @@ returns-in_err-paste g c =
     let e = err_from_is_err_and c.from_residual.result c.from_residual.ensures.1 in
     rw (e.1, e.2)
     (rows_stopped job order old c.args.out.now c.args.store.now c.requires c.paste.new.readers c.paste.new.out c.paste.new.store c.paste.result
-    (subst (λ (cells : List ℕ). IsPastePass job cells old c.paste.new.readers c.args.out.now c.paste.new.out c.args.store.now c.paste.new.store c.paste.result) is_cells c.paste.ensures) c.in_err-paste.field-0.0 c.in_err-paste.was)
+    (subst (λ (cells : List ℕ). IsPastePass job cells old c.paste.new.readers c.args.out.now c.paste.new.out c.args.store.now c.paste.new.store c.paste.result)
+    is_cells c.paste.ensures) c.in_err-paste.field-0.0 c.in_err-paste.was)
 
 pub returns : goal.returns
 returns g c =
@@ -36,4 +38,5 @@ returns g c =
     let old = c.args.inputs.now in
     let is_cells = c.deref.ensures.0 ∙ c.cells_of.ensures in
     rows_done job order old c.args.out.now c.args.store.now c.requires c.paste.new.readers c.paste.new.out c.paste.new.store c.paste.result
-    (subst (λ (cells : List ℕ). IsPastePass job cells old c.paste.new.readers c.args.out.now c.paste.new.out c.args.store.now c.paste.new.store c.paste.result) is_cells c.paste.ensures) c.in_ok-paste.was
+    (subst (λ (cells : List ℕ). IsPastePass job cells old c.paste.new.readers c.args.out.now c.paste.new.out c.args.store.now c.paste.new.store c.paste.result)
+    is_cells c.paste.ensures) c.in_ok-paste.was

@@ -13,7 +13,8 @@ returns-in-Ok g c =
     let p = c.place_of-place.result in
     let only = sole_of c.args.order.now _ p c.requires.taken c.place_of-place.ensures in
     let here = get_or_default old p c.index-inputs-place.result no_reader (sole_within (places c.args.order.now) p (length old) c.requires.fits only) in
-    lone_done (uniq_tool (uniq_job c.args.self.now)) (places c.args.order.now) old c.args.out.now c.uniq.new.out c.args.store.now c.uniq.new.store p _ c.uniq.new.reader c.uniq.result c.requires only here
+    lone_done (uniq_tool (uniq_job c.args.self.now)) (places c.args.order.now) old c.args.out.now c.uniq.new.out c.args.store.now c.uniq.new.store p _
+    c.uniq.new.reader c.uniq.result c.requires only here
     c.is_refused-refused.ensures.sound c.uniq.ensures c.in-Ok.is
 
 pub returns-in-Err : goal.returns-in-Err
@@ -23,5 +24,6 @@ returns-in-Err g c =
     let only = sole_of c.args.order.now _ p c.requires.taken c.place_of-place.ensures in
     let here = get_or_default old p c.index-inputs-place.result no_reader (sole_within (places c.args.order.now) p (length old) c.requires.fits only) in
     rw c.at_operand.ensures
-    (lone_stopped (uniq_tool (uniq_job c.args.self.now)) (places c.args.order.now) old c.args.out.now c.uniq.new.out c.args.store.now c.uniq.new.store p _ c.uniq.new.reader c.uniq.result c.requires only here
+    (lone_stopped (uniq_tool (uniq_job c.args.self.now)) (places c.args.order.now) old c.args.out.now c.uniq.new.out c.args.store.now c.uniq.new.store p _
+    c.uniq.new.reader c.uniq.result c.requires only here
     c.is_refused-refused.ensures.sound c.uniq.ensures c.in-Err.fault c.in-Err.is)

@@ -12,4 +12,5 @@ returns g c =
     rw c.done_at.ensures
     (two_went (g.T.Paired.tool c.args.self.now.tool) (places c.args.order.now) c.args.inputs.now c.args.out.now c.args.store.now c.place_of-first.result c.place_of-second.result
     (two_of c.args.order.now _ _ c.place_of-first.result c.place_of-second.result c.requires.taken c.place_of-first.ensures c.place_of-second.ensures) c.requires
-    c.merge_at-ended.new.inputs c.merge_at-ended.new.out c.merge_at-ended.new.store c.merge_at-ended.result c.merge_at-ended.ensures.sound c.merge_at-ended.ensures.others c.merge_at-ended.ensures.merged)
+    c.merge_at-ended.new.inputs c.merge_at-ended.new.out c.merge_at-ended.new.store c.merge_at-ended.result c.merge_at-ended.ensures.sound
+    c.merge_at-ended.ensures.others c.merge_at-ended.ensures.merged)

@@ -20,6 +20,8 @@ pub returns : goal.returns
 returns g c =
     let e = c.args.self.now in
     let inputs = c.args.inputs.now in
-    checks_of (g.T.Together.word e.tool) (g.T.Together.tool e.tool) (words_seen e.operands.names.items) (places e.operands.order.items) inputs c.args.voice.now c.name_unopened.new.voice c.name_unopened.result
+    checks_of (g.T.Together.word e.tool) (g.T.Together.tool e.tool) (words_seen e.operands.names.items)
+    (places e.operands.order.items) inputs c.args.voice.now c.name_unopened.new.voice c.name_unopened.result
     (subst (λ (order : List Input). c.name_unopened.result ≡ list_any (shut inputs) (places order)) c.deref.ensures.value c.name_unopened.ensures.any)
-    (subst (λ (l : List ℕ). Tells c.args.voice.now c.name_unopened.new.voice l) (λ i. unopened (c.name.ensures i) (words_seen (c.deref-2.ensures.value i)) (shut inputs) (places (c.deref.ensures.value i))) c.name_unopened.ensures.said)
+    (subst (λ (l : List ℕ). Tells c.args.voice.now c.name_unopened.new.voice l)
+    (λ i. unopened (c.name.ensures i) (words_seen (c.deref-2.ensures.value i)) (shut inputs) (places (c.deref.ensures.value i))) c.name_unopened.ensures.said)

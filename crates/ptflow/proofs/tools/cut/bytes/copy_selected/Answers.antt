@@ -12,7 +12,8 @@ pub loop-interval-preserved : goal.loop-interval-preserved
 loop-interval-preserved c =
     copied_more c.args.selected.now c.args.before c.args.count c.args.end c.args.bytes.now (take c.args.at c.args.into.now) c.args.at c.requires.within.0 c.requires.within.1
     c.loop-interval.interval-index (take c.loop-interval.at c.loop-interval.into) c.loop-interval.at c.loop-interval.invariant c.loop-interval-test.true
-    _ c.saturating_sub-from.result c.saturating_sub-to.result c.saturating_sub-from.ensures c.saturating_sub-to.ensures (omega (arith, c.if-last-interval.false)) c.copy_near-in-loop-interval.ensures.copied
+    _ c.saturating_sub-from.result c.saturating_sub-to.result c.saturating_sub-from.ensures c.saturating_sub-to.ensures
+    (omega (arith, c.if-last-interval.false)) c.copy_near-in-loop-interval.ensures.copied
 
 pub returns-clause-copied : goal.returns-clause-copied
 returns-clause-copied c =

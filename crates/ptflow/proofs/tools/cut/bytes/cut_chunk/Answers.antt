@@ -22,7 +22,8 @@ returns-then-step-eq0-clause-cut c =
     let step = c.args.step in
     rw c.copy_ends.ensures.step
     (λ start bytes so_far.
-    cut_on end list start bytes step.before step.before (drop step.start block) (drop (step.start + 64) block) (take step.at c.args.into.now) _ (chunk step.start 64 block) so_far c.copy_ends.ensures.copied
+    cut_on end list start bytes step.before step.before (drop step.start block) (drop (step.start + 64) block) (take step.at c.args.into.now) _
+    (chunk step.start 64 block) so_far c.copy_ends.ensures.copied
     (ends_on end (is_selected list) block c.args.from step.start step.before c.marks-marked.result c.requires.within.0 c.if-step-from.true c.if-step-eq0.true c.marks-marked.ensures c.if-marked.true))
 
 pub overflow_sub-end : goal.overflow_sub-end
@@ -30,14 +31,16 @@ overflow_sub-end c =
     let p = is_byte c.args.ending in
     let loop = c.loop-end in
     let counted = ap count_ones c.marks-marked.ensures ∙ ones-mask_l p (chunk c.args.from 64 c.args.block.now) in
-    end_order c.args.ending c.args.block.now c.args.from loop._end loop.marked loop.step.start c.requires.within.0 (omega (arith, counted, c.loop-end-test.true)) loop.invariant.bits loop.invariant.ends
+    end_order c.args.ending c.args.block.now c.args.from loop._end loop.marked loop.step.start c.requires.within.0
+    (omega (arith, counted, c.loop-end-test.true)) loop.invariant.bits loop.invariant.ends
 
 pub copy_line-at-requires-clause-within : goal.copy_line-at-requires-clause-within
 copy_line-at-requires-clause-within c =
     let p = is_byte c.args.ending in
     let loop = c.loop-end in
     let counted = ap count_ones c.marks-marked.ensures ∙ ones-mask_l p (chunk c.args.from 64 c.args.block.now) in
-    let first = end_first c.args.ending c.args.block.now c.args.from loop._end loop.marked loop.step.start c.requires.within.0 (omega (arith, counted, c.loop-end-test.true)) loop.invariant.bits loop.invariant.ends in
+    let first = end_first c.args.ending c.args.block.now c.args.from loop._end loop.marked loop.step.start c.requires.within.0
+    (omega (arith, counted, c.loop-end-test.true)) loop.invariant.bits loop.invariant.ends in
     rw take_rest first.0.high
 
 pub copy_line-at-requires-clause-room : goal.copy_line-at-requires-clause-room
@@ -84,7 +87,8 @@ loop-end-preserved c =
       cut = λ start bytes so_far.
           cut_on end list start bytes loop.step.before 0 rest (drop (e + 1) block) (take loop.step.at loop.into) _ (chosen_piece list loop.step.before (e - s) (take (e - s + 1) rest))
           (loop.invariant.cut start bytes so_far) copied
-          (subst (λ (l : List ℕ). (more : List ℕ) → rest_by end list loop.step.before (rest ++ more) ≡ chosen_piece list loop.step.before (e - s) (take (e - s + 1) rest) ++ rest_by end list 0 (l ++ more)) left (line_on end rest (e - s) first (is_selected list) loop.step.before));
+          (subst (λ (l : List ℕ). (more : List ℕ) → rest_by end list loop.step.before (rest ++ more)
+          ≡ chosen_piece list loop.step.before (e - s) (take (e - s + 1) rest) ++ rest_by end list 0 (l ++ more)) left (line_on end rest (e - s) first (is_selected list) loop.step.before));
       bound = omega arith;
       near = omega (arith, c.copy_line-at.ensures.near, loop.invariant.near, order);
     }

@@ -25,4 +25,5 @@ returns-clause-cut c =
     let rest = c.lines.rest.now in
     λ start bytes so_far.
     cut_on c.args.ending list start bytes c.lines.before (c.lines.before + length rest) rest [] (take c.lines.at c.lines.into) _ (chosen_piece list c.lines.before (length rest) rest)
-    (c.lines.invariant.cut start bytes so_far) (rw (take_all (length rest) rest (omega arith)) at c.copy_selected-at.ensures.copied) (piece_on c.args.ending (is_selected list) c.lines.before rest (no_end c.args.ending rest c.in_default.ensures))
+    (c.lines.invariant.cut start bytes so_far) (rw (take_all (length rest) rest (omega arith)) at c.copy_selected-at.ensures.copied)
+    (piece_on c.args.ending (is_selected list) c.lines.before rest (no_end c.args.ending rest c.in_default.ensures))

@@ -12,7 +12,8 @@ pub returns-then-count-eq0-clause-found : goal.returns-then-count-eq0-clause-fou
 returns-then-count-eq0-clause-found c =
     let d = c.args.delimiter in
     let o = c.field_start.result in
-    subst (λ (l : List ℕ). MatchOption o (length (fields d l) ≤ c.args.count) (StartsAt d c.args.count l)) (sym (rest_of c.args.from c.args.to c.args.bytes.now (omega arith))) (rw take_rest at c.field_start.ensures)
+    subst (λ (l : List ℕ). MatchOption o (length (fields d l) ≤ c.args.count) (StartsAt d c.args.count l))
+    (sym (rest_of c.args.from c.args.to c.args.bytes.now (omega arith))) (rw take_rest at c.field_start.ensures)
 
 pub returns-then-count-eq0-clause-start : goal.returns-then-count-eq0-clause-start
 returns-then-count-eq0-clause-start c =
@@ -22,7 +23,8 @@ returns-then-count-eq0-clause-start c =
     let found : MatchOption o (length (fields d line) ≤ c.args.count) (StartsAt d c.args.count line) = rw take_rest at c.field_start.ensures in
     elim c.then-count-eq0.branch [
       | then-count-eq0-via-then-count-eq0 w ↦ start_kept d (length (fields d line) ≤ c.args.count) line o c.args.from c.args.first c.args.count c.requires.start (inl w.if-count-eq0.true) found
-      | then-count-eq0-via-else-count-eq0+then-from-first w ↦ start_kept d (length (fields d line) ≤ c.args.count) line o c.args.from c.args.first c.args.count c.requires.start (inr w.if-from-first.true) found
+      | then-count-eq0-via-else-count-eq0+then-from-first w ↦ start_kept d
+          (length (fields d line) ≤ c.args.count) line o c.args.from c.args.first c.args.count c.requires.start (inr w.if-from-first.true) found
     ]
 
 pub returns-in_err-passed-clause-found : goal.returns-in_err-passed-clause-found
@@ -48,4 +50,5 @@ returns-clause-found c =
     let zero : c.args.from ≡ 0 = c.requires.start c.if-from-first.false in
     let within : behind ≤ c.args.to = omega (arith, c.requires.first.0.high, length-take-le c.args.to bytes c.requires.within.1) in
     let s = subst (λ (l : List ℕ). StartsAt d (c.args.count - 1) l passed) (sym (rest_of behind c.args.to bytes within)) (rw take_rest at c.in_ok-passed.ensures) in
-    subst (λ (n : ℕ). StartsAt d c.args.count (drop n line) (behind + passed)) (sym zero) (starts_past_first d line c.args.first c.args.count c.requires.first (omega (arith, c.if-count-eq0.false)) passed s)
+    subst (λ (n : ℕ). StartsAt d c.args.count (drop n line) (behind + passed)) (sym zero)
+    (starts_past_first d line c.args.first c.args.count c.requires.first (omega (arith, c.if-count-eq0.false)) passed s)

@@ -20,7 +20,8 @@ loop-interval-init g c =
     let line = c.args.line.now in
     let all = c.intervals-selected.result.now in record {
       front = front_starts (cut_fields (cut_job c.args.job.now) line) (coming d all line [] 1 0 0) c.args.out.now
-          (sym (append-nil (cut_fields (cut_job c.args.job.now) line)) ∙ ap (λ (l : List Interval). join_with_byte d (chosen (is_selected l) 1 (fields d line)) ++ []) (sym c.intervals-selected.ensures.kept) ∙ all_coming d all line [])
+          (sym (append-nil (cut_fields (cut_job c.args.job.now) line)) ∙ ap
+          (λ (l : List Interval). join_with_byte d (chosen (is_selected l) 1 (fields d line)) ++ []) (sym c.intervals-selected.ensures.kept) ∙ all_coming d all line [])
           c.requires.clean;
       walk = walking_starts d all line [] c.intervals-selected.ensures.apart;
       known = λ le. refl;
@@ -41,7 +42,8 @@ returns-in_default-clause-wrote g c =
     let l = c.loop-interval in
     let r = get_or all l.interval-index (record { first = 0; last = 0 }) in
     front_ends (cut_fields (cut_job c.args.job.now) line) (coming d (drop l.interval-index all) line [] l.number l.at l.lead) c.args.out.now l.out l.invariant.front l.out []
-    (walking_short d all line [] l.interval-index l.number l.at l.lead l.invariant.walk c.loop-interval-test.true (few d line (r.first - l.number) l.at c.in_default.ensures.found)) (wrote_nothing l.out)
+    (walking_short d all line [] l.interval-index l.number l.at l.lead l.invariant.walk c.loop-interval-test.true
+    (few d line (r.first - l.number) l.at c.in_default.ensures.found)) (wrote_nothing l.out)
 
 pub returns-in_default-field_behind-clause-wrote : goal.returns-in_default-field_behind-clause-wrote
 returns-in_default-field_behind-clause-wrote g c =
@@ -52,8 +54,10 @@ returns-in_default-field_behind-clause-wrote g c =
     let r = get_or all l.interval-index (record { first = 0; last = 0 }) in
     let from = l.at + c.in-Some.skipped in
     let s = found d line (r.first - l.number) l.at c.in-Some.skipped c.in-Some.ensures.found in
-    front_ends (cut_fields (cut_job c.args.job.now) line) (coming d (drop l.interval-index all) line [] l.number l.at l.lead) c.args.out.now l.out l.invariant.front c.push.new.self (drop (from - l.lead) line)
-    (walking_ends d all line [] l.interval-index l.number l.at l.lead l.invariant.walk c.loop-interval-test.true c.in-Some.skipped s (length line) line (sym (take_all (length line) line (omega arith))) (sym (drop_all (length line) line (omega arith)))
+    front_ends (cut_fields (cut_job c.args.job.now) line) (coming d (drop l.interval-index all) line [] l.number l.at l.lead) c.args.out.now l.out
+    l.invariant.front c.push.new.self (drop (from - l.lead) line)
+    (walking_ends d all line [] l.interval-index l.number l.at l.lead l.invariant.walk c.loop-interval-test.true c.in-Some.skipped s (length line) line
+    (sym (take_all (length line) line (omega arith))) (sym (drop_all (length line) line (omega arith)))
     (few d line (r.last - r.first + 1) from c.in_default-field_behind.ensures.found))
     (rw take_rest at c.push.ensures.wrote)
 
@@ -71,7 +75,8 @@ returns-in_err-push-clause-wrote g c =
     let p = found d line (r.last - r.first + 1) from c.in-Some-field_behind.passed c.in-Some-field_behind.ensures.found in
     front_fails (cut_fields (cut_job c.args.job.now) line) (coming d (drop i all) line [] l.number l.at l.lead) c.args.out.now l.out l.invariant.front c.push-in-loop-interval.new.self
     (take ((next - 1) - (from - l.lead)) (drop (from - l.lead) line)) (coming d (drop (i + 1) all) line [] (r.last + 1) next 1)
-    (walking_slice d all line [] i l.number l.at l.lead l.invariant.walk c.loop-interval-test.true c.in-Some.skipped s c.in-Some-field_behind.passed p) c.in_err-push.ensures.wrote c.in_err-push.ensures.fault
+    (walking_slice d all line [] i l.number l.at l.lead l.invariant.walk c.loop-interval-test.true c.in-Some.skipped s c.in-Some-field_behind.passed p)
+    c.in_err-push.ensures.wrote c.in_err-push.ensures.fault
 
 pub loop-interval-preserved : goal.loop-interval-preserved
 loop-interval-preserved g c =
@@ -87,7 +92,8 @@ loop-interval-preserved g c =
     let p = found d line (r.last - r.first + 1) from c.in-Some-field_behind.passed c.in-Some-field_behind.ensures.found in record {
       front = front_more (cut_fields (cut_job c.args.job.now) line) (coming d (drop i all) line [] l.number l.at l.lead) c.args.out.now l.out l.invariant.front c.push-in-loop-interval.new.self
           (take ((next - 1) - (from - l.lead)) (drop (from - l.lead) line)) (coming d (drop (i + 1) all) line [] (r.last + 1) next 1)
-          (walking_slice d all line [] i l.number l.at l.lead l.invariant.walk c.loop-interval-test.true c.in-Some.skipped s c.in-Some-field_behind.passed p) c.in_ok-push.ensures.wrote c.in_ok-push.ensures.clean;
+          (walking_slice d all line [] i l.number l.at l.lead l.invariant.walk c.loop-interval-test.true c.in-Some.skipped s c.in-Some-field_behind.passed p)
+          c.in_ok-push.ensures.wrote c.in_ok-push.ensures.clean;
       walk = walking_more d all line [] i l.number l.at l.lead l.invariant.walk c.loop-interval-test.true c.in-Some.skipped s c.in-Some-field_behind.passed p;
       known = c.in-Some-field_behind.ensures.start;
     }

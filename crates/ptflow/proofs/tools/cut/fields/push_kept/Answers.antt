@@ -33,7 +33,8 @@ returns-in_err-push-in-None-clause-wrote g c =
     (wrote_past c.args.out.now c.push.new.self line (job.end ∷ []) c.in_err-push-in-None.ensures.fault c.in_err-push-in-None.ensures.wrote)
 
 -- the bytes that are written of the line were pushed, and its end behind them
-ends : (job : Cut) (line bytes : List ℕ) (end : ℕ) (was out mid is : Output) → cut_line job line ≡ bytes ∷ [] → end ≡ job.end → mid ≡ out → Wrote was out bytes → out.faulted ≡ false → Wrote mid is (end ∷ [])
+ends : (job : Cut) (line bytes : List ℕ) (end : ℕ) (was out mid is : Output) → cut_line job line ≡ bytes ∷ [] → end ≡ job.end → mid ≡ out → Wrote was out bytes
+    → out.faulted ≡ false → Wrote mid is (end ∷ [])
     → Wrote was is (cut_lines job (line ∷ []))
 ends job line bytes end was out mid is one same here wrote clean ended =
     rw (line_written job line bytes one)
@@ -47,7 +48,9 @@ returns-clause-wrote g c =
     let d = c.args.job.now.delim in
     elim c.match-find_near.branch [
       | in-Some+in_ok-push_fields-in-Some w ↦ ends job line (cut_fields job line) c.args.ending c.args.out.now w.push_fields.new.out c.match-find_near.out c.push-2.new.self
-          (of_fields job by line (found d line (Some w.in-Some.first) w.in-Some.ensures)) c.requires.ending w.out-is w.in_ok-push_fields-in-Some.ensures.wrote w.in_ok-push_fields-in-Some.ensures.clean c.push-2.ensures.wrote
+          (of_fields job by line (found d line (Some w.in-Some.first) w.in-Some.ensures)) c.requires.ending w.out-is w.in_ok-push_fields-in-Some.ensures.wrote
+          w.in_ok-push_fields-in-Some.ensures.clean c.push-2.ensures.wrote
       | in-None+else-job+in_ok-push-in-None w ↦ ends job line line c.args.ending c.args.out.now w.push.new.self c.match-find_near.out c.push-2.new.self
-          (of_line job by line (found d line None w.in-None.ensures) w.if-job.false) c.requires.ending w.out-is w.in_ok-push-in-None.ensures.wrote w.in_ok-push-in-None.ensures.clean c.push-2.ensures.wrote
+          (of_line job by line (found d line None w.in-None.ensures) w.if-job.false) c.requires.ending w.out-is w.in_ok-push-in-None.ensures.wrote
+          w.in_ok-push-in-None.ensures.clean c.push-2.ensures.wrote
     ]

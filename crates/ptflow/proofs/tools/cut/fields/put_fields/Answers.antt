@@ -33,7 +33,8 @@ returns-in_default-clause-put g c =
     let bytes = c.args.bytes.now in
     let to = c.args.to in
     let l = c.loop-interval in
-    let same = walking_short c.args.job.now.delim c.intervals-selected.result.now (take to bytes) (take 1 (drop to bytes)) l.interval-index l.number l.at l.lead l.invariant.walk c.loop-interval-test.true c.in_default.ensures.found in
+    let same = walking_short c.args.job.now.delim c.intervals-selected.result.now (take to bytes)
+    (take 1 (drop to bytes)) l.interval-index l.number l.at l.lead l.invariant.walk c.loop-interval-test.true c.in_default.ensures.found in
     put_byte l.room bytes l.end to (omega (arith, l.invariant.high, l.invariant.long, l.invariant.walk.fits, length-take-le to bytes (omega arith))) c.requires.within
     ∙ ap (λ (b : List ℕ). take l.end l.room ++ b) (sym same) ∙ sym l.invariant.put
 
@@ -71,7 +72,8 @@ loop-interval-preserved g c =
     let copied : take l.end l.room ++ take size (drop (from - l.lead) line) ≡ take (l.end + size) c.copy_near-in-loop-interval.new.into =
     ap (λ (b : List ℕ). take l.end l.room ++ b) (slice_of (from - l.lead) size to bytes within) ∙ sym c.copy_near-in-loop-interval.ensures.copied in record {
       put = l.invariant.put
-          ∙ ap (λ (b : List ℕ). take l.end l.room ++ b) (walking_slice d all line tail i l.number l.at l.lead l.invariant.walk c.loop-interval-test.true c.in-Some.skipped s c.in-Some-field_behind.passed p)
+          ∙ ap (λ (b : List ℕ). take l.end l.room ++ b) (walking_slice d all line tail i l.number l.at l.lead l.invariant.walk c.loop-interval-test.true
+          c.in-Some.skipped s c.in-Some-field_behind.passed p)
           ∙ sym (append_assoc (take l.end l.room) (take size (drop (from - l.lead) line)) more) ∙ ap (λ (b : List ℕ). b ++ more) copied;
       walk = walking_more d all line tail i l.number l.at l.lead l.invariant.walk c.loop-interval-test.true c.in-Some.skipped s c.in-Some-field_behind.passed p;
       known = c.in-Some-field_behind.ensures.start;
@@ -85,6 +87,7 @@ returns-clause-put g c =
     let bytes = c.args.bytes.now in
     let to = c.args.to in
     let l = c.loop-interval in
-    let same = walking_done c.args.job.now.delim c.intervals-selected.result.now (take to bytes) (take 1 (drop to bytes)) l.interval-index l.number l.at l.lead l.invariant.walk c.loop-interval-test.false in
+    let same = walking_done c.args.job.now.delim c.intervals-selected.result.now (take to bytes)
+    (take 1 (drop to bytes)) l.interval-index l.number l.at l.lead l.invariant.walk c.loop-interval-test.false in
     put_byte l.room bytes l.end to (omega (arith, l.invariant.high, l.invariant.long, l.invariant.walk.fits, length-take-le to bytes (omega arith))) c.requires.within
     ∙ ap (λ (b : List ℕ). take l.end l.room ++ b) (sym same) ∙ sym l.invariant.put

@@ -25,7 +25,8 @@ returns-clause-picked c selected is =
     let few : kept ≤ 16 = omega (arith, pick_few selected pick is count c.requires.short, c.requires.short) in
     ap (λ (n : ℕ). take (at + n) (put_chunk at into lanes)) c.from.ensures
     ∙ chosen_stored at kept into lanes (length-swz_l w8 16 v 0 pick.row ∙ is.long) few c.requires.room
-    ∙ ap (λ (l : List ℕ). take at into ++ l) (pick_line selected pick is count v c.requires.short (length-take-le 16 c.args.bytes.now c.requires.within) ∙ ap (chosen_from selected 1) (take-take count 16 c.args.bytes.now c.requires.short))
+    ∙ ap (λ (l : List ℕ). take at into ++ l) (pick_line selected pick is count v c.requires.short (length-take-le 16 c.args.bytes.now c.requires.within)
+    ∙ ap (chosen_from selected 1) (take-take count 16 c.args.bytes.now c.requires.short))
 
 pub returns-clause-near : goal.returns-clause-near
 returns-clause-near c = omega (arith, c.from.ensures, pick_few c.requires.pick.0 c.args.pick.now c.requires.pick.1 c.args.count c.requires.short)

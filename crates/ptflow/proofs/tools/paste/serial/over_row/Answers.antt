@@ -15,7 +15,8 @@ returns g c =
       text = λ bytes. ap (λ (e : ℕ). serial_rest e job.delimiters (record { number = 0; ended = false }) bytes) end;
       decided = λ given pushed now holds on.
           serial_is_decided job given pushed now.cell
-          (λ rest. (λ i. serial_rest (sym end i) job.delimiters (record { number = 0; ended = false }) (given ++ rest)) ∙ on rest ∙ (λ i. pushed ++ serial_rest ((holds.1 ∙ end) i) (holds.0 i) now.cell rest));
+          (λ rest. (λ i. serial_rest (sym end i) job.delimiters (record { number = 0; ended = false }) (given ++ rest)) ∙ on rest
+          ∙ (λ i. pushed ++ serial_rest ((holds.1 ∙ end) i) (holds.0 i) now.cell rest));
       slots = refl;
     })
     store ready

@@ -25,7 +25,8 @@ returns-in_err-begun-clause-halts g c =
     let out = c.args.out.now in
     let long : 0 < length block = grind (arith, nat_tests) in
     on_err c.from_residual.result
-    (amid_halts (serial_rest end delims) cell cell (begun cell) block block block (lead delims cell) out out c.begin_cell.new.out (amid_starts (serial_rest end delims) cell block out c.requires.clean) c.begin_cell.ensures.wrote (begun_on end delims cell block long))
+    (amid_halts (serial_rest end delims) cell cell (begun cell) block block block (lead delims cell) out out c.begin_cell.new.out
+    (amid_starts (serial_rest end delims) cell block out c.requires.clean) c.begin_cell.ensures.wrote (begun_on end delims cell block long))
 
 pub put_block-count-requires-clause-short : goal.put_block-count-requires-clause-short
 put_block-count-requires-clause-short g c = omega (arith, ap (λ (x : Cell). x.number) c.in_ok-begun.ensures.begun, begun_number c.args.cell, c.requires.short)
@@ -43,7 +44,8 @@ returns-in_err-push-clause-halts g c =
     let puts = subst (λ (x : Cell). PutsBlock end delims x.number block after written) c.in_ok-begun.ensures.begun c.put_block-count.ensures.puts in
     on_err c.from_residual-in_err-push.result
     (amid_halts (serial_rest end delims) cell (begun cell) after block block [] written out c.begin_cell.new.out c.push.new.self
-    (begins end delims cell cell block block out out c.begin_cell.new.out (amid_starts (serial_rest end delims) cell block out c.requires.clean) long c.begin_cell.ensures.wrote c.in_ok-begun.ensures.clean)
+    (begins end delims cell cell block block out out c.begin_cell.new.out
+    (amid_starts (serial_rest end delims) cell block out c.requires.clean) long c.begin_cell.ensures.wrote c.in_ok-begun.ensures.clean)
     c.push.ensures.wrote puts)
 
 pub returns-clause-continues : goal.returns-clause-continues
@@ -59,5 +61,6 @@ returns-clause-continues g c =
     let puts = subst (λ (x : Cell). PutsBlock end delims x.number block after written) c.in_ok-begun.ensures.begun c.put_block-count.ensures.puts in
     amid_over (serial_rest end delims) cell after block [] out c.push.new.self
     (amid_more (serial_rest end delims) cell (begun cell) after block block [] written out c.begin_cell.new.out c.push.new.self
-    (begins end delims cell cell block block out out c.begin_cell.new.out (amid_starts (serial_rest end delims) cell block out c.requires.clean) long c.begin_cell.ensures.wrote c.in_ok-begun.ensures.clean)
+    (begins end delims cell cell block block out out c.begin_cell.new.out
+    (amid_starts (serial_rest end delims) cell block out c.requires.clean) long c.begin_cell.ensures.wrote c.in_ok-begun.ensures.clean)
     c.push.ensures.wrote puts c.in_ok-push.ensures.clean) refl

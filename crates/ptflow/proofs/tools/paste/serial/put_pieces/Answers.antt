@@ -25,7 +25,8 @@ pub returns-clause-puts : goal.returns-clause-puts
 returns-clause-puts g c =
     let rest = c.pieces.rest.now in
     let all : length rest - 0 ≡ length rest = omega arith in
-    puts_piece c.args.ending c.args.delims.now c.args.number c.pieces.number c.args.bytes.now rest (take c.pieces.at c.pieces.into) _ c.pieces.invariant.puts (no_end c.args.ending rest c.in_default.ensures)
+    puts_piece c.args.ending c.args.delims.now c.args.number c.pieces.number c.args.bytes.now rest (take c.pieces.at c.pieces.into) _ c.pieces.invariant.puts
+    (no_end c.args.ending rest c.in_default.ensures)
     (rw all at c.copy_near-2.ensures.copied ∙ ap (λ (l : List ℕ). take c.pieces.at c.pieces.into ++ l) (take_all (length rest) rest (omega arith)))
 
 pub returns-clause-bound : goal.returns-clause-bound

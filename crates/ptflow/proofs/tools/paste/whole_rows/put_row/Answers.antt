@@ -1,3 +1,5 @@
+-- Each turn puts one more cell behind its delimiter, if it is whole in what its reader holds; what was taken of each
+-- reader is counted.
 use Rattle.std.proofs.Common.{◌≡◌, ◌+◌, ◌-◌, ◌<◌, ◌++◌, ℕ, List, Some, length, take, drop, get_or, ◌∙◌, ap, subst, arith}
 use Rattle.std.proofs.lemmas.List.{take_rest, take_more_set, length-set}
 use Rattle.std.proofs.lemmas.List.Elements.{All-get_or}
@@ -52,10 +54,12 @@ loop-column-preserved g c =
     let held_is : c.held.result.now ≡ (reader_at readers place).held = c.held.ensures.held ∙ ap (λ (r : Reader). r.held) is_read in
     let found = subst (λ (h : List ℕ). IsFirstByte (is_byte end) (drop (get_or taken place 0) h) (Some count)) held_is (rw take_rest at c.in_ok-count.ensures) in
     let all : count - 0 ≡ count = omega arith in
-    let is : take (c.put_lead-from.result + count) c.copy_near.new.into ≡ (take c.loop-column.end c.loop-column.into ++ lead delims (in_front n)) ++ take count (drop (get_or taken place 0) (reader_at readers place).held) =
+    let is : take (c.put_lead-from.result + count) c.copy_near.new.into ≡ (take c.loop-column.end c.loop-column.into ++ lead delims (in_front n))
+    ++ take count (drop (get_or taken place 0) (reader_at readers place).held) =
     (rw (all, take_rest) at c.copy_near.ensures.copied) ∙ (λ i. c.put_lead-from.ensures.put i ++ take count (drop (get_or taken place 0) (held_is i))) in
     record {
-      puts = λ before room. putting_more end delims cells readers n taken low within place_low count ready.0 ready.1 sound found (take c.loop-column.end c.loop-column.into) _ is before room (inv.puts before room);
+      puts = λ before room. putting_more end delims cells readers n taken low within place_low count ready.0 ready.1 sound found
+          (take c.loop-column.end c.loop-column.into) _ is before room (inv.puts before room);
       holds = holds_more end delims cells readers n taken low within place_low count ready.0 ready.1 sound found inv.holds;
       near = omega (arith, c.if-count-from.false, c.put_lead-from.ensures.near, inv.near);
       places = length-set taken place (get_or taken place 0 + (count + 1)) ∙ inv.places;

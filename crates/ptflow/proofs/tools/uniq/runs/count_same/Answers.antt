@@ -1,3 +1,4 @@
+-- Each turn takes a line with the key of the run; the first line with another key ends the count.
 use Rattle.std.proofs.Common.{◌≡◌, refl, true, false, Bool, not, take, ◌∙◌, arith}
 use Rattle.std.specs.Prelude.{bytes_eq}
 use Rattle.std.proofs.lemmas.List.{take_rest}
@@ -17,7 +18,8 @@ returns-then-ne c =
     let job = uniq_job c.args.job.now in
     let line = take c.in-Some.at c.lines.rest.now in
     counting_turns job c.args.ending c.args.first.now c.args.block.now c.lines.rest.now c.lines.count c.lines.invariant.counting c.in-Some.at c.in-Some.ensures
-    (same_by_keys job c.args.first.now line c.key-own.result.now c.key.result.now c.lines.invariant.own c.key.ensures ∙ flip (bytes_eq c.key-own.result.now c.key.result.now) c.ne.result false c.ne.ensures c.if-ne.true)
+    (same_by_keys job c.args.first.now line c.key-own.result.now c.key.result.now c.lines.invariant.own c.key.ensures
+    ∙ flip (bytes_eq c.key-own.result.now c.key.result.now) c.ne.result false c.ne.ensures c.if-ne.true)
 
 pub overflow_add-count : goal.overflow_add-count
 overflow_add-count c =
@@ -30,9 +32,11 @@ lines-preserved c =
     let line = take c.in-Some.at c.lines.rest.now in
     rw take_rest (record {
       counting = counting_more job c.args.ending c.args.first.now c.args.block.now c.lines.rest.now c.lines.count c.lines.invariant.counting c.in-Some.at c.in-Some.ensures
-          (same_by_keys job c.args.first.now line c.key-own.result.now c.key.result.now c.lines.invariant.own c.key.ensures ∙ flip (bytes_eq c.key-own.result.now c.key.result.now) c.ne.result true c.ne.ensures c.if-ne.false);
+          (same_by_keys job c.args.first.now line c.key-own.result.now c.key.result.now c.lines.invariant.own c.key.ensures
+          ∙ flip (bytes_eq c.key-own.result.now c.key.result.now) c.ne.result true c.ne.ensures c.if-ne.false);
       own = c.lines.invariant.own;
     })
 
 pub returns : goal.returns
-returns c = counting_done (uniq_job c.args.job.now) c.args.ending c.args.first.now c.args.block.now c.lines.rest.now c.lines.count c.lines.invariant.counting (no_end c.args.ending c.lines.rest.now c.in_default.ensures)
+returns c = counting_done (uniq_job c.args.job.now) c.args.ending c.args.first.now c.args.block.now c.lines.rest.now c.lines.count c.lines.invariant.counting
+    (no_end c.args.ending c.lines.rest.now c.in_default.ensures)

@@ -10,7 +10,8 @@ use Rattle.ptflow.proofs.tools.uniq.runs.let_wait.Goals as goal
 
 pub returns-then-waiting-line-clause-waits : goal.returns-then-waiting-line-clause-waits
 returns-then-waiting-line-clause-waits g c =
-    waits_joined c.args.show c.args.count c.args.block.now c.args.waiting c.args.line c.args.out.now c.requires.waiting c.requires.line c.if-waiting-line.true (c.has_lead.ensures c.if-not-has_lead.true c.args.count)
+    waits_joined c.args.show c.args.count c.args.block.now c.args.waiting c.args.line c.args.out.now c.requires.waiting c.requires.line c.if-waiting-line.true
+    (c.has_lead.ensures c.if-not-has_lead.true c.args.count)
     (sym c.is_shown.ensures ∙ c.if-not-is_shown.false)
 
 pub returns-in_err-push_waiting-clause-wrote : goal.returns-in_err-push_waiting-clause-wrote

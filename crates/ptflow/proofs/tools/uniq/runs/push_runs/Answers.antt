@@ -20,7 +20,8 @@ first_end end end' hay r same = subst (λ (b : ℕ). IsFirstByte (is_byte b) hay
 pub lines-init : goal.lines-init
 lines-init g c =
     let job = uniq_job c.args.job.now in
-    rw take_rest (running_starts job c.args.block.now c.args.at (first_end c.args.ending job.end c.args.block.now (Some c.args.at) c.requires.ending c.requires.first) c.key-own.result.now c.key-own.ensures c.args.out.now c.requires.clean)
+    rw take_rest (running_starts job c.args.block.now c.args.at (first_end c.args.ending job.end c.args.block.now
+    (Some c.args.at) c.requires.ending c.requires.first) c.key-own.result.now c.key-own.ensures c.args.out.now c.requires.clean)
 
 pub overflow_add-count : goal.overflow_add-count
 overflow_add-count g c =
@@ -33,7 +34,8 @@ lines-preserved-then-eq g c =
     let r = c.lines.invariant in
     let rest = c.lines.rest.now in
     let at = c.in-Some.at in
-    rw take_rest (running_more job c.args.block.now rest c.lines.count c.lines.line c.lines.waiting c.lines.own.now c.args.out.now c.lines.out r at (first_end c.args.ending job.end rest (Some at) c.requires.ending c.in-Some.ensures)
+    rw take_rest (running_more job c.args.block.now rest c.lines.count c.lines.line c.lines.waiting c.lines.own.now c.args.out.now c.lines.out r at
+    (first_end c.args.ending job.end rest (Some at) c.requires.ending c.in-Some.ensures)
     (same_by_keys job r.first (take at rest) c.lines.own.now c.key-next.result.now r.own_is c.key-next.ensures ∙ sym c.eq.ensures ∙ c.if-eq.true))
 
 pub returns-in_err-waiting-clause-halts : goal.returns-in_err-waiting-clause-halts
@@ -44,7 +46,8 @@ returns-in_err-waiting-clause-halts g c =
     let at = c.in-Some.at in
     on_err c.from_residual.result
     (subst (λ (b : ℕ). RunsHalt job (run_of [] 0) (ended_lines b c.args.block.now) c.args.out.now c.let_wait.new.out) (sym c.requires.ending)
-    (running_halts job c.args.block.now rest c.lines.count c.lines.line c.lines.waiting c.lines.own.now c.args.out.now c.lines.out r at (first_end c.args.ending job.end rest (Some at) c.requires.ending c.in-Some.ensures)
+    (running_halts job c.args.block.now rest c.lines.count c.lines.line c.lines.waiting c.lines.own.now c.args.out.now c.lines.out r at
+    (first_end c.args.ending job.end rest (Some at) c.requires.ending c.in-Some.ensures)
     (same_by_keys job r.first (take at rest) c.lines.own.now c.key-next.result.now r.own_is c.key-next.ensures ∙ sym c.eq.ensures ∙ c.if-eq.false)
     c.let_wait.new.out c.in_err-waiting.ensures.fault c.in_err-waiting.ensures.wrote))
 
@@ -54,9 +57,11 @@ lines-preserved g c =
     let r = c.lines.invariant in
     let rest = c.lines.rest.now in
     let at = c.in-Some.at in
-    rw take_rest (running_turn job c.args.block.now rest c.lines.count c.lines.line c.lines.waiting c.lines.own.now c.args.out.now c.lines.out r at (first_end c.args.ending job.end rest (Some at) c.requires.ending c.in-Some.ensures)
+    rw take_rest (running_turn job c.args.block.now rest c.lines.count c.lines.line c.lines.waiting c.lines.own.now c.args.out.now c.lines.out r at
+    (first_end c.args.ending job.end rest (Some at) c.requires.ending c.in-Some.ensures)
     (same_by_keys job r.first (take at rest) c.lines.own.now c.key-next.result.now r.own_is c.key-next.ensures ∙ sym c.eq.ensures ∙ c.if-eq.false)
-    c.let_wait.new.out c.in_ok-waiting.waiting c.in_ok-waiting.ensures.waits c.in_ok-waiting.ensures.clean (length c.args.block.now - length rest) (length c.args.block.now - length rest + at + 1) refl refl c.key-next.result.now c.key-next.ensures)
+    c.let_wait.new.out c.in_ok-waiting.waiting c.in_ok-waiting.ensures.waits c.in_ok-waiting.ensures.clean (length c.args.block.now - length rest)
+    (length c.args.block.now - length rest + at + 1) refl refl c.key-next.result.now c.key-next.ensures)
 
 pub returns-in_err-push-clause-halts : goal.returns-in_err-push-clause-halts
 returns-in_err-push-clause-halts g c =
@@ -76,7 +81,8 @@ pub returns-clause-continues : goal.returns-clause-continues
 returns-clause-continues g c =
     let job = uniq_job c.args.job.now in
     let rest = c.lines.rest.now in
-    subst (λ (b : ℕ). RunsOn job (run_of [] 0) (run_of (slice_range c.args.block.now c.lines.line.from (c.lines.line.to - 1)) c.lines.count) (ended_lines b c.args.block.now) c.args.out.now c.push.new.self) (sym c.requires.ending)
+    subst (λ (b : ℕ). RunsOn job (run_of [] 0) (run_of (slice_range c.args.block.now c.lines.line.from (c.lines.line.to - 1)) c.lines.count)
+    (ended_lines b c.args.block.now) c.args.out.now c.push.new.self) (sym c.requires.ending)
     (running_done job c.args.block.now rest c.lines.count c.lines.line c.lines.waiting c.lines.own.now c.args.out.now c.lines.out c.lines.invariant
     (subst (λ (b : ℕ). IsLine b rest) c.requires.ending (no_end c.args.ending rest c.in_default.ensures)) c.push.new.self c.push.ensures.wrote c.in_ok-push.ensures.clean)
 

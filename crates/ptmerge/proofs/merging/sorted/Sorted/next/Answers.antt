@@ -21,12 +21,26 @@ returns-clause-moves g c =
     let span = c.span-self.result in
     let some : 0 < old.number = grind (arith, nat_tests, c.if-number-eq0.false) in
     let e = rw c.in-Ok-true.field-0-test at (c.in-Ok-true.ensures.fills c.requires.clean) in
-    let last_is : line after old.standing ≡ line before old.standing = ap (λ (s : Slots). line s old.standing) e.stored ∙ line_other before old.previous old.standing e.line (λ is. c.requires.apart (sym is)) in
+    let last_is : line after old.standing ≡ line before old.standing = ap (λ (s : Slots). line s old.standing) e.stored
+    ∙ line_other before old.previous old.standing e.line (λ is. c.requires.apart (sym is)) in
     let next_is : line after old.previous ≡ e.line = ap (λ (s : Slots). line s old.previous) e.stored ∙ line_of before old.previous e.line c.requires.previous in
     let last : c.last_key.result.now ≡ key (line before old.standing) = c.last_key.ensures ∙ (λ i. slice_range (last_is i) old.key.start old.key.end) ∙ (c.requires.key some).bytes_are in
-    let next : c.head_key.result.now ≡ key e.line = c.head_key.ensures ∙ (λ i. slice_range (sym c.line.ensures i) span.start span.end) ∙ c.span-self.ensures.bytes_are ∙ ap key (c.line.ensures ∙ next_is) in
+    let next : c.head_key.result.now ≡ key e.line = c.head_key.ensures ∙ (λ i. slice_range (sym c.line.ensures i) span.start span.end)
+    ∙ c.span-self.ensures.bytes_are ∙ ap key (c.line.ensures ∙ next_is) in
     let is : c.cmp-ordering.result ≡ cmp (key (line before old.standing)) (key e.line) = c.cmp-ordering.ensures ∙ (λ i. cmp (last i) (next i)) in
     let stands = later_stands key cmp old.number (line before old.standing) e.line c.cmp-ordering.result some is in
     let stand = c.stand_at-self.ensures ∙ ap (λ t. if t then Disorder (old.number + 1) else Head) c.is_gt.ensures ∙ stands.0 in
     let same = c.is_eq-self.ensures ∙ stands.1 in
-    inl (record { gives = e; place = λ i. record { standing = old.previous; previous = old.standing; number = old.number + 1; stand = stand i; same = same i; key = span; last = old.key }; sound = c.fill.ensures.is_sound })
+    inl (record {
+      gives = e;
+      place = λ i. record {
+        standing = old.previous;
+        previous = old.standing;
+        number = old.number + 1;
+        stand = stand i;
+        same = same i;
+        key = span;
+        last = old.key;
+      };
+      sound = c.fill.ensures.is_sound;
+    })

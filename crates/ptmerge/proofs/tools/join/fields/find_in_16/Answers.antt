@@ -18,4 +18,5 @@ returns c =
     let test = is_byte c.args.byte in
     let is_mask = bitmask_splat w8 eqb (chunk 0 16 bytes) 16 c.args.byte (length-chunk 0 16 bytes c.requires) (omega arith) in
     let some : mask_l (map test (chunk 0 16 bytes)) ≡ 0 → ⊥ = λ none. c.if-marked-eq0.false (is_mask ∙ none) in
-    subst (λ (m : ℕ). NoneBefore (Passes test bytes) 0 16 (count_trailing_zeros 64 m) × Passes test bytes (count_trailing_zeros 64 m)) (sym is_mask) (first_marked test bytes c.requires (omega (arith, some)))
+    subst (λ (m : ℕ). NoneBefore (Passes test bytes) 0 16 (count_trailing_zeros 64 m) × Passes test bytes (count_trailing_zeros 64 m)) (sym is_mask)
+    (first_marked test bytes c.requires (omega (arith, some)))

@@ -1,3 +1,4 @@
+-- The line is tidy where the rest is, behind the byte that came last.
 use Rattle.std.proofs.Common.{◌≡◌, true, drop}
 use Rattle.ptmerge.specs.JoinFields.{is_tidy}
 use Rattle.ptmerge.proofs.tools.join.fields.is_tidy.Given as goal

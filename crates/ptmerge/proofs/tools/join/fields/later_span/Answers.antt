@@ -15,4 +15,5 @@ loop-passed-preserved c =
 
 pub span_before-requires : goal.span_before-requires
 span_before-requires c =
-    in_whole c.args.line.now (option_copied c.loop-passed.left) c.in-Some-next_field.field.now (option_copied c.in-Some-next_field.behind) c.loop-passed.invariant.ends c.in-Some-next_field.ensures.placed
+    in_whole c.args.line.now (option_copied c.loop-passed.left) c.in-Some-next_field.field.now
+    (option_copied c.in-Some-next_field.behind) c.loop-passed.invariant.ends c.in-Some-next_field.ensures.placed

@@ -17,7 +17,8 @@ pieces-preserved c =
     let field = c.first_piece.result.0.now in
     let none = sym c.is_some.ensures ∙ c.if-is_some.false in
     let empty = sym c.is_empty.ensures ∙ c.if-not-is_empty.false in
-    let word = elim c.first_piece.result.1 as (λ o. MatchOption o (splits c.in-Some.bytes.now ≡ field ∷ []) (λ b. splits c.in-Some.bytes.now ≡ field ∷ splits b.now) → fields_left c.args.separator (option_copied o) ≡ fields_left c.args.separator (Some c.in-Some.bytes.now)) [
+    let word = elim c.first_piece.result.1 as (λ o. MatchOption o (splits c.in-Some.bytes.now ≡ field ∷ [])
+    (λ b. splits c.in-Some.bytes.now ≡ field ∷ splits b.now) → fields_left c.args.separator (option_copied o) ≡ fields_left c.args.separator (Some c.in-Some.bytes.now)) [
       | None ↦ λ m. word_passed c.args.separator c.in-Some.bytes.now field None none empty m
       | Some b ↦ λ m. word_passed c.args.separator c.in-Some.bytes.now field (Some b.now) none empty m
     ] in

@@ -1,3 +1,4 @@
+-- Only blanks in front of a field were taken away, so the fields that are left are the same.
 use Rattle.std.proofs.Common.{◌≡◌, option_copied}
 use Rattle.ptmerge.specs.JoinFields.{fields_left}
 use Rattle.ptmerge.proofs.OfJoin.FieldLemmas.{left_length}

@@ -1,3 +1,4 @@
+-- What is left are the fields behind those that were passed.
 use Rattle.std.proofs.Common.{◌≡◌, drop, Some}
 use Rattle.ptmerge.specs.JoinFields.{fields_left}
 use Rattle.ptmerge.proofs.tools.join.fields.nth_piece.Given as goal

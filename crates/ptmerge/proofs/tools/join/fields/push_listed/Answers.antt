@@ -1,3 +1,4 @@
+-- The first field of a list has nothing in front of it, so it is pushed before the loop; each turn pushes one more.
 use Rattle.std.proofs.Common.{◌-◌, ◌∷◌, ◌++◌, ℕ, sym, subst, take, drop, map, length, option_copied, ◌∙◌}
 use Rattle.ptlangs.specs.Jobs.{join_job}
 use Rattle.ptlangs.specs.declared.outlist.OutField.{OutField}
@@ -17,8 +18,10 @@ returns-in_err-push-clause-wrote g c =
     let items = c.args.items.now in
     let left = led (between job.separator) (map f (take (length items - 1) (drop 1 items))) in
     let all = entry job c.args.key.now fs1 fs2 in
-    let is = entry_listed job c.args.key.now fs1 fs2 items c.requires.listed ∙ listed_first f items _ c.in-len1-up.len_at_least c.listed_field.result.now c.listed_field.ensures (between job.separator) in
-    amid_fails c.args.out.now c.args.out.now c.push.new.self all c.listed_field.result.now left (amid_as c.args.out.now c.args.out.now all all (c.listed_field.result.now ++ left) is (amid_starts c.args.out.now all c.requires.clean)) c.push.ensures.wrote c.in_err-push.ensures.fault
+    let is = entry_listed job c.args.key.now fs1 fs2 items c.requires.listed
+    ∙ listed_first f items _ c.in-len1-up.len_at_least c.listed_field.result.now c.listed_field.ensures (between job.separator) in
+    amid_fails c.args.out.now c.args.out.now c.push.new.self all c.listed_field.result.now left
+    (amid_as c.args.out.now c.args.out.now all all (c.listed_field.result.now ++ left) is (amid_starts c.args.out.now all c.requires.clean)) c.push.ensures.wrote c.in_err-push.ensures.fault
 
 pub items-init : goal.items-init
 items-init g c =
@@ -29,8 +32,10 @@ items-init g c =
     let items = c.args.items.now in
     let left = led (between job.separator) (map f (take (length items - 1) (drop 1 items))) in
     let all = entry job c.args.key.now fs1 fs2 in
-    let is = entry_listed job c.args.key.now fs1 fs2 items c.requires.listed ∙ listed_first f items _ c.in-len1-up.len_at_least c.listed_field.result.now c.listed_field.ensures (between job.separator) in
-    amid_more c.args.out.now c.args.out.now c.push.new.self all c.listed_field.result.now left (amid_as c.args.out.now c.args.out.now all all (c.listed_field.result.now ++ left) is (amid_starts c.args.out.now all c.requires.clean)) c.push.ensures.wrote c.in_ok-push.ensures.clean
+    let is = entry_listed job c.args.key.now fs1 fs2 items c.requires.listed
+    ∙ listed_first f items _ c.in-len1-up.len_at_least c.listed_field.result.now c.listed_field.ensures (between job.separator) in
+    amid_more c.args.out.now c.args.out.now c.push.new.self all c.listed_field.result.now left
+    (amid_as c.args.out.now c.args.out.now all all (c.listed_field.result.now ++ left) is (amid_starts c.args.out.now all c.requires.clean)) c.push.ensures.wrote c.in_ok-push.ensures.clean
 
 pub returns-in_err-push_led-clause-wrote : goal.returns-in_err-push_led-clause-wrote
 returns-in_err-push_led-clause-wrote g c =
@@ -45,7 +50,8 @@ returns-in_err-push_led-clause-wrote g c =
     let all = entry job c.args.key.now fs1 fs2 in
     let byte = c.unwrap_or-lead.ensures ∙ sym (between_is job.separator) in
     amid_fails c.args.out.now c.items.out c.push_led.new.out all (b ∷ bytes) left
-    (amid_as c.args.out.now c.items.out all (led b (map f items)) ((b ∷ bytes) ++ left) (listed_more f items _ c.in-len1-up-rest.len_at_least bytes c.listed_field-in-len1-up-rest.ensures b) c.items.invariant)
+    (amid_as c.args.out.now c.items.out all (led b (map f items)) ((b ∷ bytes) ++ left)
+    (listed_more f items _ c.in-len1-up-rest.len_at_least bytes c.listed_field-in-len1-up-rest.ensures b) c.items.invariant)
     (subst (λ (d : ℕ). Wrote c.items.out c.push_led.new.out (d ∷ bytes)) byte c.push_led.ensures.wrote) c.in_err-push_led.ensures.fault
 
 pub items-preserved : goal.items-preserved
@@ -61,5 +67,6 @@ items-preserved g c =
     let all = entry job c.args.key.now fs1 fs2 in
     let byte = c.unwrap_or-lead.ensures ∙ sym (between_is job.separator) in
     amid_more c.args.out.now c.items.out c.push_led.new.out all (b ∷ bytes) left
-    (amid_as c.args.out.now c.items.out all (led b (map f items)) ((b ∷ bytes) ++ left) (listed_more f items _ c.in-len1-up-rest.len_at_least bytes c.listed_field-in-len1-up-rest.ensures b) c.items.invariant)
+    (amid_as c.args.out.now c.items.out all (led b (map f items)) ((b ∷ bytes) ++ left)
+    (listed_more f items _ c.in-len1-up-rest.len_at_least bytes c.listed_field-in-len1-up-rest.ensures b) c.items.invariant)
     (subst (λ (d : ℕ). Wrote c.items.out c.push_led.new.out (d ∷ bytes)) byte c.push_led.ensures.wrote) c.in_ok-push_led.ensures.clean

@@ -1,3 +1,4 @@
+-- The fields so far were pushed, but for the key, which is left out where its place comes.
 use Rattle.std.proofs.Common.{◌-◌, option_copied}
 use Rattle.std.specs.Prelude.{remove}
 use Rattle.ptmerge.specs.Join.{between, others}
@@ -7,4 +8,5 @@ use Rattle.ptmerge.proofs.tools.join.fields.push_others.Given as goal
 
 abbrev pub invariant-loop-passed : goal.invariant-loop-passed
 invariant-loop-passed g l =
-    Amid l.fn.out l.out (led (between l.separator) (others l.number (fields_left l.separator (option_copied l.line)))) (led (between l.separator) (remove (fields_left l.separator (option_copied l.left)) ((l.number - 1) - l._passed)))
+    Amid l.fn.out l.out (led (between l.separator) (others l.number (fields_left l.separator (option_copied l.line))))
+    (led (between l.separator) (remove (fields_left l.separator (option_copied l.left)) ((l.number - 1) - l._passed)))

@@ -1,3 +1,4 @@
+-- The words so far were pushed, each behind a space; the others are to come.
 use Rattle.std.proofs.Common.{None, Some, option_copied}
 use Rattle.ptmerge.specs.JoinFields.{fields_left, led}
 use Rattle.ptmerge.proofs.OfJoin.Amid.{Amid}
