@@ -62,6 +62,5 @@ module _ (job : Cut) where
     size = λ bytes. omega arith;
     slots = ap (λ b. cond b 1 0) by_fields;
     ends = refl;
-    ends = refl;
     some = omega arith;
   }
