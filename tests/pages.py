@@ -1,7 +1,8 @@
 #!/usr/bin/env python3
 """Runs the examples of the README, the pages and the docs where they stand, lints the pages, and asks whether the options
 of the pages and of the completion are those of the program, whether its messages stand in the pages, whether these
-name the version, and whether the docs name definitions, tests, modules and paths that there are.
+name the version, whether the uses that docs/COMPARISON.md calls refused are refused, and whether the docs name
+definitions, tests, modules and paths that there are.
 
   python3 tests/pages.py PROGRAM
 
@@ -38,6 +39,8 @@ COMPLETED = [
     ("ptext cut -f1 -", ["-b", "-c", "-d", "-f", "-n", "-s", "-z"]),
     ("ptext cut -f 1 man/ptext-c", ["man/ptext-comm.1", "man/ptext-cut.1"]),
     ("ptext tr -d ", []),
+    ("ptext join -a ", ["1", "2"]),
+    ("ptext join -rv ", ["1", "2"]),
     ("ptext comm f -", []),
     ("ptext uniq -- -", []),
 ]
@@ -141,7 +144,7 @@ def letters_of_page(tool):
 
 
 def completed(words):
-    """What bash completes behind these words."""
+    """What bash completes after these words."""
     text = f'. "{TOP}/completion/ptext"; COMP_WORDS=("$@"); COMP_CWORD=$(($# - 1)); _ptext; echo "${{COMPREPLY[@]}}"'
     did = subprocess.run(["bash", "-c", text, "bash", *words], cwd=TOP, capture_output=True, text=True, check=False)
     return did.stdout.split()
@@ -192,6 +195,23 @@ def lacking_messages():
     return "".join(f"not in the pages: {it}\n" for it in lacking)
 
 
+def taken_uses(program):
+    """Uses of GNU's tools that docs/COMPARISON.md calls refused, and that are not refused with status 2."""
+    with open(f"{TOP}/docs/COMPARISON.md", encoding="utf-8") as it:
+        table = it.read().partition("## What to write instead\n")[2].partition("\n## ")[0]
+    uses = [use for row in re.findall(r"^\| (.*?) \| ", table, re.M) for use in re.findall(r"`([^`]+)`", row)]
+    found = [] if uses else ["docs/COMPARISON.md has no refused uses\n"]
+    with tempfile.TemporaryDirectory() as room:
+        for name in "fg":
+            with open(f"{room}/{name}", "w", encoding="ascii") as it:
+                it.write("a\n")
+        for use in [it.replace("tool ", f"{tool} ") for it in uses for tool in (TOOLS if it.startswith("tool ") else [""])]:
+            words = ["sh", "-c", f'"$0" {use}', program]
+            did = subprocess.run(words, cwd=room, stdin=subprocess.DEVNULL, capture_output=True, check=False)
+            found += [] if did.returncode == 2 and did.stderr and not did.stdout else [f"docs/COMPARISON.md: not refused: {use}\n"]
+    return "".join(found)
+
+
 def lacking_names():
     """Definitions, rows, tests and cases that docs/POSIX.md names and that are not there."""
     with open(f"{TOP}/docs/POSIX.md", encoding="utf-8") as it:
@@ -208,7 +228,7 @@ def lacking_names():
     lacking += [it for it in set(re.findall(r"`(\w+Rows)`", text)) - {"FileRows"} if not glob.glob(f"{TOP}/crates/*/proofs/**/{it}.antt", recursive=True)]
     tests = set(re.findall(r"`(pt\w+)::(\w+)::(\w+)`", text))
     lacking += ["::".join(it) for it in tests if not holds(f"{it[0]}/src/{it[1]}.rt", rf"^fn {it[2]}\b")]
-    # Titles stand behind program.sh, up to the end of a cell or a sentence.
+    # Titles stand after program.sh, up to the end of a cell or a sentence.
     for titles in re.findall(r'program\.sh, ("[^|.;`]*")', text):
         lacking += [it for it in re.findall(r'"([^"]*)"', titles) if f'same "{it}"' not in cases]
     return "".join(f"docs/POSIX.md names what is not there: {it}\n" for it in sorted(lacking))
@@ -241,7 +261,7 @@ def main():
         print(f"left out: the examples of {side} (the system has no such version)")
     counts = [run_all(file, os.path.abspath(sys.argv[1]), known) for file in FILES]
     good, bad = (sum(it) for it in zip(*counts))
-    found = lint() + other_versions() + wrong_options(os.path.abspath(sys.argv[1])) + lacking_messages() + lacking_names() + lacking_paths()
+    found = lint() + other_versions() + wrong_options(os.path.abspath(sys.argv[1])) + lacking_messages() + taken_uses(os.path.abspath(sys.argv[1])) + lacking_names() + lacking_paths()
     print(f"{found}{good} of {good + bad} examples as wanted")
     return 1 if bad or found else 0
 
