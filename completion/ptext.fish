@@ -1,4 +1,5 @@
-# Completion of ptext for fish: the tools, the options of each, files, and the classes of tr. Options stand before operands.
+# Completion of ptext for fish: the tools, the options of each, files, and the classes of tr. Options stand before
+# operands.
 
 # __ptext_is TOOL..: whether the first word is one of these
 function __ptext_is
@@ -25,7 +26,9 @@ function __ptext_options
     while set -q words[$place]
         string match -qr '^-.' -- $words[$place]; and test $words[$place] != --; or return
         # A letter with a value at the end of a word takes the next word.
-        test -n "$valued"; and string match -qr "^-[^$valued]*[$valued]\$" -- $words[$place]; and set place (math $place + 1)
+        if test -n "$valued"; and string match -qr "^-[^$valued]*[$valued]\$" -- $words[$place]
+            set place (math $place + 1)
+        end
         set place (math $place + 1)
     end
 end

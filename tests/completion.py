@@ -18,7 +18,10 @@ import time
 TOP = os.path.dirname(os.path.dirname(os.path.realpath(__file__)))
 # How each shell is started, and what is typed first. (@ stands for the folder of the completions.)
 SHELLS = {
-    "bash": (["bash", "--norc", "--noprofile", "-i"], "bind 'set bell-style none'; bind 'set enable-bracketed-paste off'; . @/ptext"),
+    "bash": (
+        ["bash", "--norc", "--noprofile", "-i"],
+        "bind 'set bell-style none'; bind 'set enable-bracketed-paste off'; . @/ptext",
+    ),
     "zsh": (["zsh", "-f", "-i"], "fpath=(@ $fpath); autoload -U compinit; compinit -u -D; unsetopt beep; LISTMAX=999"),
     "fish": (["fish", "--no-config", "-i"], "source @/ptext.fish"),
 }
@@ -30,6 +33,7 @@ COMPLETED = [
     ("ptext tr -d 'a-f[:dig", "ptext tr -d 'a-f[:digit:]"),
     ("ptext tr '[:lower:]' '[:up", "ptext tr '[:lower:]' '[:upper:]"),
 ]
+CLASSES = "alnum alpha blank cntrl digit graph lower print punct space upper xdigit".split()
 # What is typed before two tabs, and the words that are offered.
 OFFERED = [
     ("ptext ", ["cut", "paste", "join", "comm", "uniq", "tr"]),
@@ -41,7 +45,7 @@ OFFERED = [
     ("ptext tr -", ["-C", "-c", "-d", "-s"]),
     ("ptext cut -sf 1 -", ["-d", "-z"]),
     ("ptext join -a ", ["1", "2"]),
-    ("ptext tr -d '[:", ["alnum", "alpha", "blank", "cntrl", "digit", "graph", "lower", "print", "punct", "space", "upper", "xdigit"]),
+    ("ptext tr -d '[:", CLASSES),
 ]
 # What is typed before two tabs where an operand stands already, and the words that are not offered there.
 NOT_OFFERED = [
@@ -49,7 +53,9 @@ NOT_OFFERED = [
     ("ptext cut -f 1 lonely -", ["-b", "-c", "-d", "-n", "-s", "-z"]),
     ("ptext comm -- -", ["-1", "-2", "-3", "-r", "-z"]),
 ]
-ESCAPES = re.compile(rb"\x1b\[[0-?]*[ -/]*[@-~]|\x1b\][^\x07\x1b]*(?:\x07|\x1b\\)|\x1b[()=>#][A-Z0-9]?|[\r\x07\x08\x0e\x0f]|\x1b.")
+ESCAPES = re.compile(
+    rb"\x1b\[[0-?]*[ -/]*[@-~]|\x1b\][^\x07\x1b]*(?:\x07|\x1b\\)|\x1b[()=>#][A-Z0-9]?|[\r\x07\x08\x0e\x0f]|\x1b."
+)
 
 
 class Terminal:
@@ -126,7 +132,8 @@ def wrong_of(shell, room):
             if good:
                 break
         if not good:
-            found.append(f"{shell}: `{typed}` and a tab: wanted {'' if offered else 'none of '}{wanted}, the terminal has {said!r}\n")
+            asked = wanted if offered else f"none of {wanted}"
+            found.append(f"{shell}: `{typed}` and a tab: wanted {asked}, the terminal has {said!r}\n")
     return found
 
 
