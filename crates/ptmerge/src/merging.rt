@@ -8,7 +8,6 @@ ghost use Rattle.ptlines.specs.Readers.{IsSound};
 ghost use Rattle.ptlines.specs.Slots.{line};
 ghost use Rattle.ptmerge.specs.declared.faults.MergeFault.TheVariants.{Write};
 ghost use Rattle.ptmerge.specs.Places.{Advances};
-ghost use Rattle.ptmerge.specs.Spans.{is_broken};
 ghost use Rattle.ptmerge.specs.Sides.{both, other};
 ghost use Rattle.ptmerge.specs.Steps.{inputs, IsPlaced, IsLent, IsNext, Starts, CannotStart};
 
@@ -210,23 +209,29 @@ impl<K: KeyOrder> Merge<K> {
             result.now ≡ K.key_of self.now.order side (line store.now place.standing) }
     {
         match side {
-            Side::First => self.first.head_key(store),
-            Side::Second => self.second.head_key(store),
+            Side::First => {
+                let line = store.line(self.first.standing);
+                self.order.key(side, self.first.key, line)
+            }
+            Side::Second => {
+                let line = store.line(self.second.standing);
+                self.order.key(side, self.second.key, line)
+            }
         }
     }
 
-    // The last key of an input in front of the line at which its order breaks.
+    // The key of the line before the one at which an input stands, which is looked for anew.
     #[inline(always)]
     fn last_key<'a, A: Allocator + Copy>(&self, side: Side, store: &'a Store<A>) -> &'a [u8]
-        requires placed { IsPlaced (K.key_of self.now.order) self.now.first self.now.second store.now }
-        requires broken { is_broken (both self.now.first self.now.second side).stand ≡ true }
+        requires { IsPlaced (K.key_of self.now.order) self.now.first self.now.second store.now }
         ensures { let place = both self.now.first self.now.second side in
             result.now ≡ K.key_of self.now.order side (line store.now place.previous) }
     {
-        match side {
-            Side::First => self.first.last_key(store),
-            Side::Second => self.second.last_key(store),
-        }
+        let line = match side {
+            Side::First => store.line(self.first.previous),
+            Side::Second => store.line(self.second.previous),
+        };
+        self.order.key(side, self.order.span(side, line), line)
     }
 
     // The slot of the line at which an input stands.
