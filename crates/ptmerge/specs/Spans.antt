@@ -4,7 +4,7 @@ use Rattle.std.specs.List.{slice_range}
 use Rattle.ptlines.specs.Slots.{Slots, line}
 use Rattle.ptmerge.specs.declared.order.Span.{Span}
 use Rattle.ptmerge.specs.declared.merging.sorted.Sorted.{Sorted}
-use Rattle.ptmerge.specs.declared.merging.sorted.Stand.TheVariants.{Head}
+use Rattle.ptmerge.specs.declared.merging.sorted.Stand.TheVariants.{Head, Disorder}
 use Rattle.ptmerge.specs.Orders.{Key}
 
 -- these bytes of a line are the part of it
@@ -13,6 +13,7 @@ pub record IsSpan (line bytes : List ℕ) (span : Span) : Type 0 where
   pub within : span.end ≤ length line
   pub bytes_are : slice_range line span.start span.end ≡ bytes
 
--- the key of the line at which an input stands is where the span says
-pub record HasSpan (key : Key) (place : Sorted) (store : Slots) : Type 0 where
+-- what is noted of the line at which an input stands: where its key is, or, where the order breaks, its number
+pub record IsNoted (key : Key) (place : Sorted) (store : Slots) : Type 0 where
   pub head : place.stand ≡ Head → IsSpan (line store place.standing) (key (line store place.standing)) place.key
+  pub broken : (number : ℕ) → place.stand ≡ Disorder number → number ≡ place.number

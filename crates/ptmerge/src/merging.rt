@@ -113,6 +113,7 @@ impl<K: KeyOrder> Merge<K> {
         ensures { let place = both self.now.first self.now.second in
             IsNext (K.order self.now.order) (K.key_of self.now.order) place store.now result }
     {
+        // The number of a line out of order is how many came, and is taken from there.
         match (self.first.stand, self.second.stand) {
             (Stand::Head, Stand::Head) => {
                 let a = self.key(Side::First, store);
@@ -124,35 +125,35 @@ impl<K: KeyOrder> Merge<K> {
                 }
             }
             (Stand::Head, Stand::Ended) => Step::First,
-            (Stand::Head, Stand::Disorder(number)) => {
+            (Stand::Head, Stand::Disorder(_)) => {
                 let a = self.key(Side::First, store);
                 let last = self.last_key(Side::Second, store);
                 if self.order.cmp(a, last).is_gt() {
-                    Step::Stop(Side::Second, number)
+                    Step::Stop(Side::Second, self.second.number)
                 } else {
                     Step::First
                 }
             }
             (Stand::Ended, Stand::Head) => Step::Second,
             (Stand::Ended, Stand::Ended) => Step::End,
-            (Stand::Ended, Stand::Disorder(number)) => Step::Stop(Side::Second, number),
-            (Stand::Disorder(number), Stand::Head) => {
+            (Stand::Ended, Stand::Disorder(_)) => Step::Stop(Side::Second, self.second.number),
+            (Stand::Disorder(_), Stand::Head) => {
                 let b = self.key(Side::Second, store);
                 let last = self.last_key(Side::First, store);
                 if self.order.cmp(b, last).is_gt() {
-                    Step::Stop(Side::First, number)
+                    Step::Stop(Side::First, self.first.number)
                 } else {
                     Step::Second
                 }
             }
-            (Stand::Disorder(number), Stand::Ended) => Step::Stop(Side::First, number),
-            (Stand::Disorder(first), Stand::Disorder(second)) => {
+            (Stand::Disorder(_), Stand::Ended) => Step::Stop(Side::First, self.first.number),
+            (Stand::Disorder(_), Stand::Disorder(_)) => {
                 let a = self.last_key(Side::First, store);
                 let b = self.last_key(Side::Second, store);
                 if self.order.cmp(a, b).is_gt() {
-                    Step::Stop(Side::Second, second)
+                    Step::Stop(Side::Second, self.second.number)
                 } else {
-                    Step::Stop(Side::First, first)
+                    Step::Stop(Side::First, self.first.number)
                 }
             }
         }

@@ -1,28 +1,22 @@
 -- Where the keys of lines stand in them.
-use Rattle.std.proofs.Common.{◌≡◌, ◌≢◌, ◌⊎◌, inl, inr, ℕ, ◌+◌, ◌-◌, ◌≤◌, ◌<◌, ◌&&◌, Bool, true, false, cond, List, [], ◌++◌, length, take, sym, ◌∙◌, ap, subst, arith}
+use Rattle.std.proofs.Common.{◌≡◌, ◌⊎◌, inl, inr, ℕ, ◌+◌, ◌≤◌, ◌<◌, ◌&&◌, true, cond, List, [], length, sym, ◌∙◌, ap, subst, arith}
 use Rattle.std.specs.Prelude.{nat_lt}
-use Rattle.std.specs.List.{slice_range}
 use Rattle.std.specs.declared.cmp.Ordering.{Ordering}
 use Rattle.std.specs.Ordering.{is_eq, is_gt}
 use Rattle.std.proofs.lemmas.Bool.Decides.{nat_tests}
 use Rattle.std.proofs.lemmas.List.{length-set, length_push}
-use Rattle.std.proofs.Math.Seq.{take-append_seam, drop-append_seam}
-use Rattle.ptlines.specs.Readers.{Reader}
 use Rattle.ptlines.specs.Slots.{Slots, line, with_added}
 use Rattle.ptmerge.specs.declared.order.Side.{Side}
 use Rattle.ptmerge.specs.declared.order.Side.TheVariants.{First, Second}
-use Rattle.ptmerge.specs.declared.order.Span.{Span}
 use Rattle.ptmerge.specs.declared.merging.sorted.Sorted.{Sorted}
 use Rattle.ptmerge.specs.Groups.{IsKept}
 use Rattle.ptmerge.specs.Orders.{Cmp, Key}
-use Rattle.ptmerge.specs.declared.merging.sorted.Stand.{Stand}
-use Rattle.ptmerge.specs.declared.merging.sorted.Stand.TheVariants.{Head, Ended, Disorder}
-use Rattle.ptmerge.specs.Places.{Comes, HasSlots, same_at, stand_at}
-use Rattle.ptmerge.specs.Sides.{other}
-use Rattle.ptmerge.specs.Spans.{IsSpan, HasSpan}
+use Rattle.ptmerge.specs.declared.merging.sorted.Stand.TheVariants.{Head, Disorder}
+use Rattle.ptmerge.specs.Places.{same_at, stand_at}
+use Rattle.ptmerge.specs.Spans.{IsSpan, IsNoted}
 use Rattle.ptmerge.specs.Steps.{IsPlaced}
 use Rattle.ptmerge.proofs.OfMerges.Slotted.{line_added, line_other}
-use Rattle.ptmerge.proofs.OfMerges.Turning.{own_slots, slots_apart}
+use Rattle.ptmerge.proofs.OfMerges.Turning.{own_slots}
 
 -- where an input stands at a line that is not its first one
 pub later_stands : (key : Key) (cmp : Cmp) (number : ℕ) (last next : List ℕ) (r : Ordering) → 0 < number → r ≡ cmp (key last) (key next)
@@ -31,10 +25,13 @@ later_stands key cmp number last next r some is =
     let t : nat_lt 0 number ≡ true = grind (arith, nat_tests) in
     (λ i. cond (sym t i && is_gt (is i)) (Disorder (number + 1)) Head, λ i. sym t i && is_eq (is i))
 
--- the span is that of the same line, whatever other slots hold
-span_keeps : (key : Key) (place : Sorted) (before after : Slots) → line after place.standing ≡ line before place.standing
-    → HasSpan key place before → HasSpan key place after
-span_keeps key place before after same span = record { head = λ stands. subst (λ (l : List ℕ). IsSpan l (key l) place.key) (sym same) (span.head stands) }
+-- what is noted is of the same line, whatever other slots hold
+noted_keeps : (key : Key) (place : Sorted) (before after : Slots) → line after place.standing ≡ line before place.standing
+    → IsNoted key place before → IsNoted key place after
+noted_keeps key place before after same noted = record {
+  head = λ stands. subst (λ (l : List ℕ). IsSpan l (key l) place.key) (sym same) (noted.head stands);
+  broken = noted.broken;
+}
 
 -- the slots behind the first four may change
 pub placed_keeps : (key : Side → Key) (one two : Sorted) (before after : Slots) → IsPlaced key one two before → length before.lines ≤ length after.lines
@@ -43,8 +40,8 @@ placed_keeps key one two before after p least same = record {
   first = p.first;
   second = p.second;
   slots = omega (arith, p.slots, least);
-  span1 = span_keeps (key First) one before after (same one.standing (omega (arith, low1))) p.span1;
-  span2 = span_keeps (key Second) two before after (same two.standing (omega (arith, low2))) p.span2;
+  noted1 = noted_keeps (key First) one before after (same one.standing (omega (arith, low1))) p.noted1;
+  noted2 = noted_keeps (key Second) two before after (same two.standing (omega (arith, low2))) p.noted2;
 }
   where
     low1 : one.standing ≤ 1

@@ -4,7 +4,7 @@ ghost use Rattle.std.specs.Prelude.{◌≡◌, ◌≢◌, ◌≤◌, ◌<◌, �
 ghost use Rattle.ptlines.specs.Slots.{line};
 ghost use Rattle.ptlines.specs.Readers.{IsSound, budget};
 ghost use Rattle.ptmerge.specs.Places.{Advances, fresh, slot_of};
-ghost use Rattle.ptmerge.specs.Spans.{HasSpan, IsSpan};
+ghost use Rattle.ptmerge.specs.Spans.{IsNoted, IsSpan};
 
 use crate::faults::MergeFault;
 use crate::order::{KeyOrder, Side, Span};
@@ -84,7 +84,7 @@ impl Sorted {
         ensures moves { let key = K.key_of order.now side in
             Advances key (K.order order.now) side self.old self.new reader.old reader.new store.old store.new result }
         ensures slots { length store.new.lines ≡ length store.old.lines }
-        ensures span { OnOk result (HasSpan (K.key_of order.now side) self.new store.new) }
+        ensures noted { OnOk result (IsNoted (K.key_of order.now side) self.new store.new) }
     {
         let slot = self.standing;
         self.standing = self.previous;

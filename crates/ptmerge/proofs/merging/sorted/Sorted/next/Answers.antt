@@ -2,7 +2,6 @@
 -- two keys that are compared are the keys of both lines.
 use Rattle.std.proofs.Common.{◌≡◌, ◌<◌, ◌+◌, sym, ap, ◌∙◌, inl, arith}
 use Rattle.std.specs.Prelude.{if◌then◌else◌}
-use Rattle.std.specs.List.{slice_range}
 use Rattle.std.proofs.lemmas.Bool.Decides.{nat_tests}
 use Rattle.ptlines.specs.Slots.{Slots, line}
 use Rattle.ptlines.proofs.Filling.{line_of}
