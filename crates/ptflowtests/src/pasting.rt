@@ -32,7 +32,8 @@ fn cells_share_a_reader(rt: HostRuntime) -> Result<(), Fail> {
     Ok(())
 }
 
-// The rows of a block are one put, and the flush at the end is the other call.
+// The rows of a block are one put, and the flush at the end is the other call. (The first row fills the block, and the
+// others lie whole in it.)
 #[test]
 fn rows_are_sent_together(rt: HostRuntime) -> Result<(), Fail> {
     let job = PasteJob {
@@ -40,7 +41,7 @@ fn rows_are_sent_together(rt: HostRuntime) -> Result<(), Fail> {
         delims: Delims::tab(rt.alloc())?,
         zero: false,
     };
-    let text = b"1\n2\n3\n4\n";
+    let text = b"1\n2\n3\n4\n5\n6\n";
     let reader: Reader<'_> = LineReader::standard(Pieces::new(text, usize::MAX, u64::MAX));
     let mut readers = [reader];
     let mut store = Store::new(rt.alloc(), 0)?;
