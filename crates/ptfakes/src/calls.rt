@@ -1,3 +1,5 @@
+//! How many calls pass before every later one fails.
+
 ghost use Rattle.std.specs.Prelude.{◌≡◌, ◌<◌, ◌↔◌, IsTrue};
 ghost use Rattle.ptfakes.specs.Calls.{count_after};
 

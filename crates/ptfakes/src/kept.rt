@@ -1,3 +1,5 @@
+//! A sink that keeps what it takes in memory, up to given limits.
+
 ghost use Rattle.std.specs.Prelude.{◌≡◌, ◌<◌, length};
 ghost use Rattle.ptlines.specs.Sinks.{Puts, Flushes};
 ghost use Rattle.ptfakes.specs.Keeps.{KeepsFlush, KeepsPut, new_keeping, sink_of};

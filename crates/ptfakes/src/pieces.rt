@@ -1,3 +1,5 @@
+//! A source that gives a text in pieces, and may fail.
+
 ghost use Rattle.std.specs.Prelude.{◌≡◌, ◌<◌, length};
 ghost use Rattle.ptlines.specs.Sources.{Pulls};
 ghost use Rattle.ptfakes.specs.Feeds.{Feeds, new_feed, source_of};

@@ -1,3 +1,5 @@
+//! A source that gives one byte many times.
+
 ghost use Rattle.std.specs.Prelude.{◌≡◌, ◌<◌, length, replicate};
 ghost use Rattle.ptlines.specs.Sources.{Pulls};
 ghost use Rattle.ptfakes.specs.Feeds.{Feeds, new_feed, source_of};

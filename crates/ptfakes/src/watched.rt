@@ -1,3 +1,5 @@
+//! A source whose pulls are counted.
+
 ghost use Rattle.std.specs.Prelude.{◌≡◌};
 
 use ptlines::{Failed, Source};

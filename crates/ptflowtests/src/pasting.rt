@@ -32,6 +32,27 @@ fn cells_share_a_reader(rt: HostRuntime) -> Result<(), Fail> {
     Ok(())
 }
 
+// The rows of a block are one put, and the flush at the end is the other call. (The first row fills the block, and the
+// others lie whole in it.)
+#[test]
+fn rows_are_sent_together(rt: HostRuntime) -> Result<(), Fail> {
+    let job = PasteJob {
+        serial: false,
+        delims: Delims::tab(rt.alloc())?,
+        zero: false,
+    };
+    let text = b"1\n2\n3\n4\n5\n6\n";
+    let reader: Reader<'_> = LineReader::standard(Pieces::new(text, usize::MAX, u64::MAX));
+    let mut readers = [reader];
+    let mut store = Store::new(rt.alloc(), 0)?;
+    let mut out = Out::new(Kept::new(rt.alloc()));
+    let told = paste(&job, &[0, 0], &mut readers, &mut store, &mut out);
+    same(&rt, &told, &Ok(()));
+    same(&rt, &out.finish(), &Ok(()));
+    same(&rt, &out.into_sink().calls(), &2);
+    Ok(())
+}
+
 // An input that comes in pieces of so many bytes, and a sink that takes so many.
 #[derive(Clone, Copy)]
 struct Case<'a> {

@@ -1,3 +1,5 @@
+//! The law of a text that is cut into two parts.
+
 ghost use Rattle.ptlines.specs.Parts.{LinesOfParts};
 
 /// The lines of two parts of a text are the lines of the text, in order, where the first part is whole: it is empty

@@ -6,7 +6,7 @@ ghost use Rattle.memchr.specs.Find.{IsFirst, IsFirstByte, Nowhere, Passes, is_by
 use memchr::memchr;
 use std::simd::prelude::*;
 
-/// The first of the N places from one on that holds the byte, by one look.
+/// The first place that holds the byte, of N from `at` on, which are compared all at once.
 #[inline(always)]
 pub fn find_in<const N: usize>(byte: u8, bytes: &[u8], at: usize) -> Option<usize>
     requires lanes { N ≤ 64 }

@@ -1,3 +1,5 @@
+//! What bytes are written to.
+
 ghost use Rattle.std.specs.Prelude.{◌≡◌, false, length, ◌<◌};
 ghost use Rattle.ptlines.specs.Sinks.{SinkState, Puts, Flushes};
 

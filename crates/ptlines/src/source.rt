@@ -1,3 +1,5 @@
+//! What bytes are read from, and where the bytes of a reader come from.
+
 ghost use Rattle.std.specs.Prelude.{length, ◌<◌};
 ghost use Rattle.ptlines.specs.Sources.{SourceState, Pulls};
 

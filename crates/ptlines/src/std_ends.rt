@@ -1,3 +1,5 @@
+//! Readers and writers of std as sources and sinks.
+
 ghost use Rattle.std.specs.Prelude.{◌≡◌, false};
 
 use crate::sink::{Failed, Sink};

@@ -1,3 +1,5 @@
+//! Numbered slots for lines, whose bytes are counted.
+
 ghost use Rattle.std.specs.Prelude.{◌≡◌, ℕ, ◌<◌, ◌≤◌, ◌≢◌, true, false, [], ◌∷◌, ◌++◌, length, take, drop, ◌+◌, replicate, swap, slice_set, slice_index_or, IfOk, OnOk, OnErr};
 ghost use Rattle.ptlines.specs.Slots.{AreShort, line, total, with_line, with_added, with_denied};
 

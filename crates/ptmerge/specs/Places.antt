@@ -26,7 +26,7 @@ no_bytes = record { start = 0; end = 0 }
 
 -- an input of which nothing was read
 abbrev pub fresh : Side → Sorted
-fresh side = record { standing = slot_of side + 1; previous = slot_of side; number = 0; stand = Ended; same = false; key = no_bytes; last = no_bytes }
+fresh side = record { standing = slot_of side + 1; previous = slot_of side; number = 0; stand = Ended; same = false; key = no_bytes }
 
 -- the two slots of an input, in one order or the other
 abbrev pub HasSlots : Side → Sorted → Type 0
@@ -51,7 +51,6 @@ pub record Arrives (key : Key) (cmp : Cmp) (old new : Sorted) (was is : Reader) 
     stand = stand_at key cmp old.number (line before old.standing) gives.line;
     same = same_at key cmp old.number (line before old.standing) gives.line;
     key = new.key;
-    last = new.last;
   }
   pub sound : IsSound is
 
@@ -60,7 +59,7 @@ pub record Closes (old new : Sorted) (was is : Reader) (before after : Slots) : 
   pub goes : Goes was is []
   pub done : IsDone is
   pub empty : after ≡ with_line before old.previous []
-  pub place : new ≡ record { standing = old.previous; previous = old.standing; number = old.number; stand = Ended; same = false; key = new.key; last = new.last }
+  pub place : new ≡ record { standing = old.previous; previous = old.standing; number = old.number; stand = Ended; same = false; key = new.key }
   pub sound : IsSound is
 
 -- an input went to its next line, or found none

@@ -15,7 +15,7 @@ use Rattle.ptmerge.specs.declared.merging.sorted.Stand.TheVariants.{Head, Ended,
 use Rattle.ptmerge.specs.Orders.{Cmp, Key}
 use Rattle.ptmerge.specs.Places.{HasSlots, Comes, CannotRead, fresh}
 use Rattle.ptmerge.specs.Sides.{both, other}
-use Rattle.ptmerge.specs.Spans.{HasSpans}
+use Rattle.ptmerge.specs.Spans.{IsNoted}
 use Rattle.ptmerge.specs.Stores.{HasFour, HasNoSlots}
 
 -- two readers, and the store that holds their lines
@@ -26,13 +26,13 @@ pub record Inputs : Type 0 where
 abbrev pub inputs : Reader → Reader → Slots → Inputs
 inputs first second store = record { reader = both first second; store = store }
 
--- the lines of both inputs are in the first four slots, and their keys where the spans say
+-- the lines of both inputs are in the first four slots, and those at which they stand are noted
 pub record IsPlaced (key : Side → Key) (one two : Sorted) (store : Slots) : Type 0 where
   pub first : HasSlots First one
   pub second : HasSlots Second two
   pub slots : 4 ≤ length store.lines
-  pub spans1 : HasSpans (key First) one store
-  pub spans2 : HasSpans (key Second) two store
+  pub noted1 : IsNoted (key First) one store
+  pub noted2 : IsNoted (key Second) two store
 
 -- this reader has given the lines at which the input stands, and no fault
 pub record IsLent (place : Sorted) (reader : Reader) : Type 0 where

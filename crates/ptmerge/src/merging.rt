@@ -8,7 +8,6 @@ ghost use Rattle.ptlines.specs.Readers.{IsSound};
 ghost use Rattle.ptlines.specs.Slots.{line};
 ghost use Rattle.ptmerge.specs.declared.faults.MergeFault.TheVariants.{Write};
 ghost use Rattle.ptmerge.specs.Places.{Advances};
-ghost use Rattle.ptmerge.specs.Spans.{is_broken};
 ghost use Rattle.ptmerge.specs.Sides.{both, other};
 ghost use Rattle.ptmerge.specs.Steps.{inputs, IsPlaced, IsLent, IsNext, Starts, CannotStart};
 
@@ -114,6 +113,7 @@ impl<K: KeyOrder> Merge<K> {
         ensures { let place = both self.now.first self.now.second in
             IsNext (K.order self.now.order) (K.key_of self.now.order) place store.now result }
     {
+        // The number of a line out of order is how many came, and is taken from there.
         match (self.first.stand, self.second.stand) {
             (Stand::Head, Stand::Head) => {
                 let a = self.key(Side::First, store);
@@ -125,35 +125,35 @@ impl<K: KeyOrder> Merge<K> {
                 }
             }
             (Stand::Head, Stand::Ended) => Step::First,
-            (Stand::Head, Stand::Disorder(number)) => {
+            (Stand::Head, Stand::Disorder(_)) => {
                 let a = self.key(Side::First, store);
                 let last = self.last_key(Side::Second, store);
                 if self.order.cmp(a, last).is_gt() {
-                    Step::Stop(Side::Second, number)
+                    Step::Stop(Side::Second, self.second.number)
                 } else {
                     Step::First
                 }
             }
             (Stand::Ended, Stand::Head) => Step::Second,
             (Stand::Ended, Stand::Ended) => Step::End,
-            (Stand::Ended, Stand::Disorder(number)) => Step::Stop(Side::Second, number),
-            (Stand::Disorder(number), Stand::Head) => {
+            (Stand::Ended, Stand::Disorder(_)) => Step::Stop(Side::Second, self.second.number),
+            (Stand::Disorder(_), Stand::Head) => {
                 let b = self.key(Side::Second, store);
                 let last = self.last_key(Side::First, store);
                 if self.order.cmp(b, last).is_gt() {
-                    Step::Stop(Side::First, number)
+                    Step::Stop(Side::First, self.first.number)
                 } else {
                     Step::Second
                 }
             }
-            (Stand::Disorder(number), Stand::Ended) => Step::Stop(Side::First, number),
-            (Stand::Disorder(first), Stand::Disorder(second)) => {
+            (Stand::Disorder(_), Stand::Ended) => Step::Stop(Side::First, self.first.number),
+            (Stand::Disorder(_), Stand::Disorder(_)) => {
                 let a = self.last_key(Side::First, store);
                 let b = self.last_key(Side::Second, store);
                 if self.order.cmp(a, b).is_gt() {
-                    Step::Stop(Side::Second, second)
+                    Step::Stop(Side::Second, self.second.number)
                 } else {
-                    Step::Stop(Side::First, first)
+                    Step::Stop(Side::First, self.first.number)
                 }
             }
         }
@@ -210,23 +210,29 @@ impl<K: KeyOrder> Merge<K> {
             result.now ≡ K.key_of self.now.order side (line store.now place.standing) }
     {
         match side {
-            Side::First => self.first.head_key(store),
-            Side::Second => self.second.head_key(store),
+            Side::First => {
+                let line = store.line(self.first.standing);
+                self.order.key(side, self.first.key, line)
+            }
+            Side::Second => {
+                let line = store.line(self.second.standing);
+                self.order.key(side, self.second.key, line)
+            }
         }
     }
 
-    // The last key of an input in front of the line at which its order breaks.
+    // The key of the line before the one at which an input stands, which is looked for anew.
     #[inline(always)]
     fn last_key<'a, A: Allocator + Copy>(&self, side: Side, store: &'a Store<A>) -> &'a [u8]
-        requires placed { IsPlaced (K.key_of self.now.order) self.now.first self.now.second store.now }
-        requires broken { is_broken (both self.now.first self.now.second side).stand ≡ true }
+        requires { IsPlaced (K.key_of self.now.order) self.now.first self.now.second store.now }
         ensures { let place = both self.now.first self.now.second side in
             result.now ≡ K.key_of self.now.order side (line store.now place.previous) }
     {
-        match side {
-            Side::First => self.first.last_key(store),
-            Side::Second => self.second.last_key(store),
-        }
+        let line = match side {
+            Side::First => store.line(self.first.previous),
+            Side::Second => store.line(self.second.previous),
+        };
+        self.order.key(side, self.order.span(side, line), line)
     }
 
     // The slot of the line at which an input stands.

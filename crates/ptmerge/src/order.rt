@@ -54,6 +54,11 @@ pub trait KeyOrder: Drop {
     fn span(&self, side: Side, line: &[u8]) -> Span
         ensures { IsSpan line.now (key_of self.now side line.now) result };
 
+    /// The key of a line of an input, which stands there.
+    fn key<'a>(&self, side: Side, span: Span, line: &'a [u8]) -> &'a [u8]
+        requires { IsSpan line.now (key_of self.now side line.now) span }
+        ensures { result.now ≡ key_of self.now side line.now };
+
     /// Compares two keys.
     fn cmp(&self, a: &[u8], b: &[u8]) -> Ordering
         ensures { result ≡ order self.now a.now b.now };
@@ -86,6 +91,12 @@ impl KeyOrder for WholeLine {
         }
     }
 
+    // The span tells nothing here, so a merge by whole lines need not keep it.
+    #[inline(always)]
+    fn key<'a>(&self, _side: Side, _span: Span, line: &'a [u8]) -> &'a [u8] {
+        line
+    }
+
     #[inline(always)]
     fn cmp(&self, a: &[u8], b: &[u8]) -> Ordering {
         compare(a, b)
@@ -115,6 +126,11 @@ impl<K: KeyOrder> KeyOrder for Descending<K> {
     #[inline(always)]
     fn span(&self, side: Side, line: &[u8]) -> Span {
         self.of.span(side, line)
+    }
+
+    #[inline(always)]
+    fn key<'a>(&self, side: Side, span: Span, line: &'a [u8]) -> &'a [u8] {
+        self.of.key(side, span, line)
     }
 
     #[inline(always)]
@@ -152,6 +168,11 @@ impl KeyOrder for FieldKeys {
             Side::Second => self.second,
         };
         field_span(self.separator, number, line)
+    }
+
+    #[inline(always)]
+    fn key<'a>(&self, _side: Side, span: Span, line: &'a [u8]) -> &'a [u8] {
+        span.of(line)
     }
 
     #[inline(always)]

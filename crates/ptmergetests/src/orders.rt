@@ -27,6 +27,10 @@ impl KeyOrder for Behind {
         }
     }
 
+    fn key<'a>(&self, _side: Side, span: Span, line: &'a [u8]) -> &'a [u8] {
+        span.of(line)
+    }
+
     fn cmp(&self, a: &[u8], b: &[u8]) -> Ordering {
         a.cmp(b)
     }

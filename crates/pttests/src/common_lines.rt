@@ -326,6 +326,16 @@ fn the_message_is_cut_short(rt: HostRuntime) -> Result<(), Fail> {
     expect(&rt, rt.alloc(), &case, &tells("b\n", "comm: f: l"))
 }
 
+// A message of usual length is one call of the sink.
+#[test]
+fn the_message_is_one_write(rt: HostRuntime) -> Result<(), Fail> {
+    let files = [Input::Whole(b"b\na\n"), Input::Whole(b"")];
+    let mut case = over_files(COMMON, &files);
+    case.messages = Limits { passing: 1, ..FREE };
+    let message = "comm: f: line 2 is out of order\n";
+    expect(&rt, rt.alloc(), &case, &tells("b\n", message))
+}
+
 #[test]
 fn refused_files_are_named(rt: HostRuntime) -> Result<(), Fail> {
     let unread = Input::Failing(b"b\na\n", 1, 0);

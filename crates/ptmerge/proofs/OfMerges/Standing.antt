@@ -123,7 +123,7 @@ module _ (end : ℕ) (cmp : Cmp) (o : IsKeyOrder cmp) (key : Key) (old now new :
       by (Some j) h = (λ r c. EachKey-weaker (AtMost cmp (key x)) (AtMost cmp j) (λ y a. at_most_trans cmp o j (key x) y h a) key r c, λ k u. at_most_trans cmp o k j (key x) u h)
 
   abbrev turned : Stand → ℕ → Bool → Sorted
-  turned stand number same = record { standing = place.previous; previous = place.standing; number = number; stand = stand; same = same; key = next.key; last = next.last }
+  turned stand number same = record { standing = place.previous; previous = place.standing; number = number; stand = stand; same = same; key = next.key }
 
   abbrev Goal : Sorted → Type 0
   Goal q = Next end cmp key old new q place.previous before after ls last

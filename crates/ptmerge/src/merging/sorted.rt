@@ -1,11 +1,10 @@
 //! One input of a merge: the line at which it stands, and whether its keys go on in order.
 
 ghost use Rattle.std.specs.Prelude.{◌≡◌, ◌≢◌, ◌≤◌, ◌<◌, ◌+◌, ◌^◌, None, length, if◌then◌else◌, OnOk};
-ghost use Rattle.std.specs.List.{slice_range};
 ghost use Rattle.ptlines.specs.Slots.{line};
 ghost use Rattle.ptlines.specs.Readers.{IsSound, budget};
 ghost use Rattle.ptmerge.specs.Places.{Advances, fresh, slot_of};
-ghost use Rattle.ptmerge.specs.Spans.{HasSpans, IsSpan};
+ghost use Rattle.ptmerge.specs.Spans.{IsNoted, IsSpan};
 
 use crate::faults::MergeFault;
 use crate::order::{KeyOrder, Side, Span};
@@ -21,8 +20,8 @@ pub enum Stand {
 }
 
 // An input whose order is watched: the slots of the line at which it stands and of the line before, how many lines
-// came, where it stands, whether it stands at a line with the key of the line before, and where the keys of the two
-// lines stand in them. Its reader is lent to each call that reads.
+// came, where it stands, whether it stands at a line with the key of the line before, and where the key of the line at
+// which it stands is in it. Its reader is lent to each call that reads.
 #[derive(Clone, Copy, Drop)]
 pub struct Sorted {
     pub standing: usize,
@@ -31,7 +30,6 @@ pub struct Sorted {
     pub stand: Stand,
     pub same: bool,
     pub key: Span,
-    pub last: Span,
 }
 
 // Where an input stands at a line of this number that is not its first one.
@@ -64,7 +62,6 @@ impl Sorted {
             stand: Stand::Ended,
             same: false,
             key: Span { start: 0, end: 0 },
-            last: Span { start: 0, end: 0 },
         }
     }
 
@@ -87,11 +84,11 @@ impl Sorted {
         ensures moves { let key = K.key_of order.now side in
             Advances key (K.order order.now) side self.old self.new reader.old reader.new store.old store.new result }
         ensures slots { length store.new.lines ≡ length store.old.lines }
-        ensures spans { OnOk result (HasSpans (K.key_of order.now side) self.new store.new) }
+        ensures noted { OnOk result (IsNoted (K.key_of order.now side) self.new store.new) }
     {
-        let last = self.standing;
+        let slot = self.standing;
         self.standing = self.previous;
-        self.previous = last;
+        self.previous = slot;
         match reader.fill(store, self.standing) {
             Ok(true) => {}
             Ok(false) => {
@@ -102,7 +99,7 @@ impl Sorted {
             Err(LineFault::Read) => return Err(MergeFault::Read(side)),
             Err(LineFault::Memory) => return Err(MergeFault::Memory),
         }
-        self.last = self.key;
+        let last_span = self.key;
         self.key = order.span(side, store.line(self.standing));
         let number = self.number;
         self.number += 1;
@@ -111,31 +108,11 @@ impl Sorted {
             self.same = false;
             return Ok(());
         }
-        let ordering = order.cmp(self.last_key(store), self.head_key(store));
+        let last = order.key(side, last_span, store.line(self.previous));
+        let head = order.key(side, self.key, store.line(self.standing));
+        let ordering = order.cmp(last, head);
         self.stand = stand_at(self.number, ordering.is_gt());
         self.same = ordering.is_eq();
         Ok(())
-    }
-
-    // The key of the line at which it stands.
-    #[inline(always)]
-    pub fn head_key<'a, A: Allocator + Copy>(&self, store: &'a Store<A>) -> &'a [u8]
-        requires slot { self.now.standing < length store.now.lines }
-        requires ordered { self.now.key.start ≤ self.now.key.end }
-        requires within { self.now.key.end ≤ length (line store.now self.now.standing) }
-        ensures { result.now ≡ slice_range (line store.now self.now.standing) self.now.key.start self.now.key.end }
-    {
-        self.key.of(store.line(self.standing))
-    }
-
-    // The key of the line before.
-    #[inline(always)]
-    pub fn last_key<'a, A: Allocator + Copy>(&self, store: &'a Store<A>) -> &'a [u8]
-        requires slot { self.now.previous < length store.now.lines }
-        requires ordered { self.now.last.start ≤ self.now.last.end }
-        requires within { self.now.last.end ≤ length (line store.now self.now.previous) }
-        ensures { result.now ≡ slice_range (line store.now self.now.previous) self.now.last.start self.now.last.end }
-    {
-        self.last.of(store.line(self.previous))
     }
 }

@@ -1,3 +1,4 @@
+-- No input so far was refused, since the loop ends at the first that was.
 use Rattle.std.proofs.Common.{◌≡◌, false, take}
 use Rattle.std.specs.List.{list_any}
 use Rattle.ptext.proofs.performing.is_any_refused.Given as goal

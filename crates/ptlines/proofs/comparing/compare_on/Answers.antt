@@ -1,4 +1,4 @@
-use Rattle.std.proofs.Common.{◌≡◌, ◌-◌, ◌≤◌, ◌+◌, length, take, min, ap, sym, ◌∙◌, subst, ℕ, arith}
+use Rattle.std.proofs.Common.{◌≡◌, ◌-◌, ◌+◌, take, ◌∙◌, subst, ℕ, arith}
 use Rattle.ptlines.proofs.Ordered.{eight_differ, eight_same, fewer_same, lengths_decide}
 use Rattle.ptlines.proofs.comparing.compare_on.Goals as goal
 

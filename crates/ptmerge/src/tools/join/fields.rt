@@ -1,7 +1,6 @@
 //! The fields of a line of `join`, and writing them.
 ghost use Rattle.std.specs.Prelude.{◌≡◌, ◌++◌, ◌∷◌, [], None, Some, ◌<◌, ◌≤◌, ◌-◌, length, position, option_copied, true, false, OnOk, OnErr, IfSome, MatchOption};
 ghost use Rattle.std.specs.List.{slice_split};
-ghost use Rattle.memchr.specs.Find.{IsFirst, Passes, is_byte};
 ghost use Rattle.ptlines.specs.Outputs.{Wrote};
 ghost use Rattle.ptlangs.specs.Jobs.{join_job};
 ghost use Rattle.ptmerge.specs.Join.{is_blank, nth_field, others, between, filled, named, entry};
@@ -11,29 +10,13 @@ ghost use Rattle.ptmerge.specs.Spans.{IsSpan};
 use crate::order::Span;
 use ptlangs::jobs::JoinJob;
 use ptlangs::outlist::{File, OutField, OutList};
-use ptlines::{Out, Sink, WriteFault, find_near};
+use ptlines::{Out, Sink, WriteFault, find_in, find_near};
 use std::alloc::Allocator;
-use std::simd::prelude::*;
 
 fn is_blank(byte: u8) -> bool
     ensures { result ≡ is_blank byte }
 {
     byte == b' ' || byte == b'\t'
-}
-
-// The first of the first 16 places that holds the byte.
-#[inline(always)]
-fn find_in_16(byte: u8, bytes: &[u8]) -> Option<usize>
-    requires { 16 ≤ length bytes.now }
-    ensures { IsFirst (Passes (is_byte byte) bytes.now) 0 16 result }
-{
-    let marked = u8x16::from_slice(bytes)
-        .simd_eq(u8x16::splat(byte))
-        .to_bitmask();
-    if marked == 0 {
-        return None;
-    }
-    Some(marked.trailing_zeros() as usize)
 }
 
 // The first blank, byte by byte.
@@ -52,7 +35,9 @@ fn find_blank(bytes: &[u8]) -> Option<usize>
     if bytes.len() < 16 {
         return find_blank_far(bytes);
     }
-    match (find_in_16(b' ', bytes), find_in_16(b'\t', bytes)) {
+    let space = find_in::<16>(b' ', bytes, 0);
+    let tab = find_in::<16>(b'\t', bytes, 0);
+    match (space, tab) {
         (None, None) => find_blank_far(bytes),
         (Some(space), None) => Some(space),
         (None, Some(tab)) => Some(tab),

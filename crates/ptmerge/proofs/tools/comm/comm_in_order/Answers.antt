@@ -525,6 +525,20 @@ returns-in_err-advance-in-Both-clause-refused g c =
           c.advance.new.store c.in_err-advance-in-Both.field-0.0 c.in_err-advance-in-Both.ensures.moves ∙ count,
     ))
 
+pub steps-smaller-in-Continue-branch-2 : goal.steps-smaller-in-Continue-branch-2
+steps-smaller-in-Continue-branch-2 g c =
+    let less = comes_less (g.K.KeyOrder.key_of c.steps.merge.order sides.First)
+    (g.K.KeyOrder.order c.steps.merge.order) c.steps.merge.first c.pass.new.merge.first c.steps.first c.pass.new.reader c.steps.store
+    c.pass.new.store c.in-First.ensures.stands c.in_ok-pass-in-First.ensures.passes.1 in
+    omega (arith, less, ap (λ (q : Sorted). alive q.stand) c.pass.ensures.others)
+
+pub steps-smaller-in-Continue-branch-3 : goal.steps-smaller-in-Continue-branch-3
+steps-smaller-in-Continue-branch-3 g c =
+    let less = comes_less (g.K.KeyOrder.key_of c.steps.merge.order sides.Second)
+    (g.K.KeyOrder.order c.steps.merge.order) c.steps.merge.second c.pass-in-Second.new.merge.second c.steps.second c.pass-in-Second.new.reader c.steps.store
+    c.pass-in-Second.new.store c.in-Second.ensures.stands c.in_ok-pass-in-Second.ensures.passes.1 in
+    omega (arith, less, ap (λ (q : Sorted). alive q.stand) c.pass-in-Second.ensures.others)
+
 pub steps-smaller : goal.steps-smaller
 steps-smaller g c =
     let others : c.pass-in-Both.new.merge.second ≡ c.steps.merge.second = c.pass-in-Both.ensures.others in

@@ -753,6 +753,22 @@ returns-in_err-pass_alone-in-Second-clause-refused g c =
           c.in_err-pass_alone-in-Second.ensures.passes,
     ))
 
+pub returns-in_err-pass_alone-in-Second-clause-slots : goal.returns-in_err-pass_alone-in-Second-clause-slots
+returns-in_err-pass_alone-in-Second-clause-slots g c =
+    let i = c.turns.invariant in
+    let cmp = g.K.KeyOrder.order c.args.order in
+    let key = g.K.KeyOrder.key_of c.args.order in
+    let job = join_job c.args.job.now in
+    let old = seen c.args.first.now c.args.second.now c.args.out.now c.args.store.now in
+    let now = seen c.turns.first c.turns.second c.turns.out c.turns.store in
+    let place = both c.turns.merge.first c.turns.merge.second in
+    let least = at_least (join_by job cmp key) i.o (pairs_of job) (join_pairs job cmp key) old i.unfailed c.turns.phase now place c.turns.end i.phased in
+    let same = passes_slots (g.K.KeyOrder.key_of c.turns.merge.order sides.Second)
+    (g.K.KeyOrder.order c.turns.merge.order) sides.Second c.turns.merge.second c.pass_alone-in-Second.new.merge.second c.turns.second
+    c.pass_alone-in-Second.new.reader c.turns.store c.pass_alone-in-Second.new.store c.pass_alone-in-Second.new.out c.in_err-pass_alone-in-Second.field-0.0
+    c.in_err-pass_alone-in-Second.ensures.passes in
+    record { least = omega (arith, least, same); all = λ _. omega (arith, i.placed.slots, same) }
+
 pub returns-in_err-pass_pairs-in-Pairing-clause-slots : goal.returns-in_err-pass_pairs-in-Pairing-clause-slots
 returns-in_err-pass_pairs-in-Pairing-clause-slots g c =
     let i = c.turns.invariant in

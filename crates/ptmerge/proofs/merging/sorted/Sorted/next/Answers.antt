@@ -2,7 +2,6 @@
 -- two keys that are compared are the keys of both lines.
 use Rattle.std.proofs.Common.{◌≡◌, ◌<◌, ◌+◌, sym, ap, ◌∙◌, inl, arith}
 use Rattle.std.specs.Prelude.{if◌then◌else◌}
-use Rattle.std.specs.List.{slice_range}
 use Rattle.std.proofs.lemmas.Bool.Decides.{nat_tests}
 use Rattle.ptlines.specs.Slots.{Slots, line}
 use Rattle.ptlines.proofs.Filling.{line_of}
@@ -24,9 +23,8 @@ returns-clause-moves g c =
     let last_is : line after old.standing ≡ line before old.standing = ap (λ (s : Slots). line s old.standing) e.stored
     ∙ line_other before old.previous old.standing e.line (λ is. c.requires.apart (sym is)) in
     let next_is : line after old.previous ≡ e.line = ap (λ (s : Slots). line s old.previous) e.stored ∙ line_of before old.previous e.line c.requires.previous in
-    let last : c.last_key.result.now ≡ key (line before old.standing) = c.last_key.ensures ∙ (λ i. slice_range (last_is i) old.key.start old.key.end) ∙ (c.requires.key some).bytes_are in
-    let next : c.head_key.result.now ≡ key e.line = c.head_key.ensures ∙ (λ i. slice_range (sym c.line.ensures i) span.start span.end)
-    ∙ c.span-self.ensures.bytes_are ∙ ap key (c.line.ensures ∙ next_is) in
+    let last : c.key-last.result.now ≡ key (line before old.standing) = c.key-last.ensures ∙ ap key (c.line-2.ensures ∙ last_is) in
+    let next : c.key-head.result.now ≡ key e.line = c.key-head.ensures ∙ ap key (c.line-3.ensures ∙ next_is) in
     let is : c.cmp-ordering.result ≡ cmp (key (line before old.standing)) (key e.line) = c.cmp-ordering.ensures ∙ (λ i. cmp (last i) (next i)) in
     let stands = later_stands key cmp old.number (line before old.standing) e.line c.cmp-ordering.result some is in
     let stand = c.stand_at-self.ensures ∙ ap (λ t. if t then Disorder (old.number + 1) else Head) c.is_gt.ensures ∙ stands.0 in
@@ -40,7 +38,6 @@ returns-clause-moves g c =
         stand = stand i;
         same = same i;
         key = span;
-        last = old.key;
       };
       sound = c.fill.ensures.is_sound;
     })
