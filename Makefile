@@ -1,10 +1,11 @@
 # make                      proves everything below the program, builds it, and leaves build/ptext
-# make check                what to run while working: proves what changed since SINCE, what stands on it, its tests, and
-#                           the wrong bodies of the changed crates (SINCE=COMMIT; origin/main where it is known, else HEAD~1)
-# make test                 the gate: every proof from nothing, the must-fail edits, all tests; then the program that the gate
-#                           built, its pages, its installation and its packages
-# make bench                ratios to the system's tools by the length of a line: table, data and chart in bench/; and the
-#                           tools over parts of their input, on all processors
+# make check                what to run while working: proves what changed since SINCE, what stands on it, its tests,
+#                           and the wrong bodies of the changed crates (SINCE=COMMIT; origin/main where it is known,
+#                           else HEAD~1)
+# make test                 the gate: every proof from scratch, the must-fail edits, all tests; then the program that
+#                           the gate built, its pages, its installation and its packages
+# make bench                ratios to the system's tools by the length of a line: table, data and chart in bench/; and
+#                           the tools over parts of their input, on all processors
 # make compare N=5000       random words and inputs, against the system's tools (docs/COMPARISON.md)
 # make install PREFIX=..    installs the program, its pages and completion into PREFIX (/usr/local), below DESTDIR
 # make install-tools        adds PREFIX/libexec/ptext/bin with each tool by its own name: for who puts it into PATH

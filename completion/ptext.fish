@@ -1,9 +1,36 @@
-# Completion of ptext for fish: the tools, the options of each, files, and the classes of tr. Options stand before operands.
+# Completion of ptext for fish: the tools, the options of each, files, and the classes of tr. Options stand before
+# operands.
 
 # __ptext_is TOOL..: whether the first word is one of these
 function __ptext_is
     set -l words (commandline -opc)
     set -q words[2]; and contains -- $words[2] $argv
+end
+
+# __ptext_options TOOL..: whether the first word is one of these, and no operand stands before the cursor
+function __ptext_options
+    __ptext_is $argv; or return
+    set -l words (commandline -opc)
+    set -l valued
+    switch $words[2]
+        case cut
+            set valued bcdf
+        case paste
+            set valued d
+        case join
+            set valued 12aeotv
+        case uniq
+            set valued fs
+    end
+    set -l place 3
+    while set -q words[$place]
+        string match -qr '^-.' -- $words[$place]; and test $words[$place] != --; or return
+        # A letter with a value at the end of a word takes the next word.
+        if test -n "$valued"; and string match -qr "^-[^$valued]*[$valued]\$" -- $words[$place]
+            set place (math $place + 1)
+        end
+        set place (math $place + 1)
+    end
 end
 
 # __ptext_classes: where the word at the cursor ends in "[:" and letters, the classes that go on so
@@ -28,39 +55,39 @@ complete -c ptext -n __ptext_has_no_tool -a comm -d 'Show which lines two sorted
 complete -c ptext -n __ptext_has_no_tool -a uniq -d 'Write one line of each run of equal lines'
 complete -c ptext -n __ptext_has_no_tool -a tr -d 'Replace, delete and squeeze bytes'
 complete -c ptext -n '__ptext_is cut paste join comm uniq' -F
-complete -c ptext -n '__ptext_is cut paste join comm uniq' -s z -d 'Lines end with byte 0'
-complete -c ptext -n '__ptext_is comm join' -s r -d 'Descending order'
+complete -c ptext -n '__ptext_options cut paste join comm uniq' -s z -d 'Lines end with byte 0'
+complete -c ptext -n '__ptext_options comm join' -s r -d 'Descending order'
 
-complete -c ptext -n '__ptext_is cut' -s b -x -d 'Select bytes'
-complete -c ptext -n '__ptext_is cut' -s c -x -d 'Select characters'
-complete -c ptext -n '__ptext_is cut' -s f -x -d 'Select fields'
-complete -c ptext -n '__ptext_is cut' -s d -x -d 'The delimiter, one byte'
-complete -c ptext -n '__ptext_is cut' -s n -d 'Changes nothing'
-complete -c ptext -n '__ptext_is cut' -s s -d 'Leave out lines without the delimiter'
+complete -c ptext -n '__ptext_options cut' -s b -x -d 'Select bytes'
+complete -c ptext -n '__ptext_options cut' -s c -x -d 'Select characters'
+complete -c ptext -n '__ptext_options cut' -s f -x -d 'Select fields'
+complete -c ptext -n '__ptext_options cut' -s d -x -d 'The delimiter, one byte'
+complete -c ptext -n '__ptext_options cut' -s n -d 'Changes nothing'
+complete -c ptext -n '__ptext_options cut' -s s -d 'Leave out lines without the delimiter'
 
-complete -c ptext -n '__ptext_is paste' -s d -x -d 'The delimiters'
-complete -c ptext -n '__ptext_is paste' -s s -d 'One file after another'
+complete -c ptext -n '__ptext_options paste' -s d -x -d 'The delimiters'
+complete -c ptext -n '__ptext_options paste' -s s -d 'One file after another'
 
-complete -c ptext -n '__ptext_is join' -s a -x -a '1 2' -d 'Add lines of this file that pair with none'
-complete -c ptext -n '__ptext_is join' -s v -x -a '1 2' -d 'Only lines of this file that pair with none'
-complete -c ptext -n '__ptext_is join' -s e -x -d 'What fills empty fields'
-complete -c ptext -n '__ptext_is join' -s o -x -d 'The fields that are written'
-complete -c ptext -n '__ptext_is join' -s t -x -d 'The separator, one byte'
-complete -c ptext -n '__ptext_is join' -s 1 -x -d 'The join field of the first file'
-complete -c ptext -n '__ptext_is join' -s 2 -x -d 'The join field of the second file'
+complete -c ptext -n '__ptext_options join' -s a -x -a '1 2' -d 'Add lines of this file that pair with none'
+complete -c ptext -n '__ptext_options join' -s v -x -a '1 2' -d 'Only lines of this file that pair with none'
+complete -c ptext -n '__ptext_options join' -s e -x -d 'What fills empty fields'
+complete -c ptext -n '__ptext_options join' -s o -x -d 'The fields that are written'
+complete -c ptext -n '__ptext_options join' -s t -x -d 'The separator, one byte'
+complete -c ptext -n '__ptext_options join' -s 1 -x -d 'The join field of the first file'
+complete -c ptext -n '__ptext_options join' -s 2 -x -d 'The join field of the second file'
 
-complete -c ptext -n '__ptext_is comm' -s 1 -d 'Without lines of the first file alone'
-complete -c ptext -n '__ptext_is comm' -s 2 -d 'Without lines of the second file alone'
-complete -c ptext -n '__ptext_is comm' -s 3 -d 'Without common lines'
+complete -c ptext -n '__ptext_options comm' -s 1 -d 'Without lines of the first file alone'
+complete -c ptext -n '__ptext_options comm' -s 2 -d 'Without lines of the second file alone'
+complete -c ptext -n '__ptext_options comm' -s 3 -d 'Without common lines'
 
-complete -c ptext -n '__ptext_is uniq' -s c -d 'Counts in front'
-complete -c ptext -n '__ptext_is uniq' -s d -d 'Only repeated lines'
-complete -c ptext -n '__ptext_is uniq' -s u -d 'Only lines that are not repeated'
-complete -c ptext -n '__ptext_is uniq' -s f -x -d 'Fields to pass over'
-complete -c ptext -n '__ptext_is uniq' -s s -x -d 'Bytes to pass over'
+complete -c ptext -n '__ptext_options uniq' -s c -d 'Counts before the lines'
+complete -c ptext -n '__ptext_options uniq' -s d -d 'Only repeated lines'
+complete -c ptext -n '__ptext_options uniq' -s u -d 'Only lines that are not repeated'
+complete -c ptext -n '__ptext_options uniq' -s f -x -d 'Fields to pass over'
+complete -c ptext -n '__ptext_options uniq' -s s -x -d 'Bytes to pass over'
 
-complete -c ptext -n '__ptext_is tr' -s c -d 'The complement of the first string'
-complete -c ptext -n '__ptext_is tr' -s C -d 'The complement of the first string'
-complete -c ptext -n '__ptext_is tr' -s d -d 'Delete'
-complete -c ptext -n '__ptext_is tr' -s s -d 'Squeeze repeats'
+complete -c ptext -n '__ptext_options tr' -s c -d 'The complement of the first string'
+complete -c ptext -n '__ptext_options tr' -s C -d 'The complement of the first string'
+complete -c ptext -n '__ptext_options tr' -s d -d 'Delete'
+complete -c ptext -n '__ptext_options tr' -s s -d 'Squeeze repeats'
 complete -c ptext -n '__ptext_is tr' -a '(__ptext_classes)'

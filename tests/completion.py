@@ -18,11 +18,14 @@ import time
 TOP = os.path.dirname(os.path.dirname(os.path.realpath(__file__)))
 # How each shell is started, and what is typed first. (@ stands for the folder of the completions.)
 SHELLS = {
-    "bash": (["bash", "--norc", "--noprofile", "-i"], "bind 'set bell-style none'; bind 'set enable-bracketed-paste off'; . @/ptext"),
+    "bash": (
+        ["bash", "--norc", "--noprofile", "-i"],
+        "bind 'set bell-style none'; bind 'set enable-bracketed-paste off'; . @/ptext",
+    ),
     "zsh": (["zsh", "-f", "-i"], "fpath=(@ $fpath); autoload -U compinit; compinit -u -D; unsetopt beep; LISTMAX=999"),
     "fish": (["fish", "--no-config", "-i"], "source @/ptext.fish"),
 }
-# What is typed in front of one tab, and what stands on the line behind it.
+# What is typed before one tab, and what stands on the line after it.
 COMPLETED = [
     ("ptext uni", "ptext uniq"),
     ("ptext cut -f 1 lo", "ptext cut -f 1 lonely"),
@@ -30,7 +33,8 @@ COMPLETED = [
     ("ptext tr -d 'a-f[:dig", "ptext tr -d 'a-f[:digit:]"),
     ("ptext tr '[:lower:]' '[:up", "ptext tr '[:lower:]' '[:upper:]"),
 ]
-# What is typed in front of two tabs, and the words that are offered.
+CLASSES = "alnum alpha blank cntrl digit graph lower print punct space upper xdigit".split()
+# What is typed before two tabs, and the words that are offered.
 OFFERED = [
     ("ptext ", ["cut", "paste", "join", "comm", "uniq", "tr"]),
     ("ptext cut -", ["-b", "-c", "-d", "-f", "-n", "-s", "-z"]),
@@ -39,9 +43,19 @@ OFFERED = [
     ("ptext comm -", ["-1", "-2", "-3", "-r", "-z"]),
     ("ptext uniq -", ["-c", "-d", "-f", "-s", "-u", "-z"]),
     ("ptext tr -", ["-C", "-c", "-d", "-s"]),
-    ("ptext tr -d '[:", ["alnum", "alpha", "blank", "cntrl", "digit", "graph", "lower", "print", "punct", "space", "upper", "xdigit"]),
+    ("ptext cut -sf 1 -", ["-d", "-z"]),
+    ("ptext join -a ", ["1", "2"]),
+    ("ptext tr -d '[:", CLASSES),
 ]
-ESCAPES = re.compile(rb"\x1b\[[0-?]*[ -/]*[@-~]|\x1b\][^\x07\x1b]*(?:\x07|\x1b\\)|\x1b[()=>#][A-Z0-9]?|[\r\x07\x08\x0e\x0f]|\x1b.")
+# What is typed before two tabs where an operand stands already, and the words that are not offered there.
+NOT_OFFERED = [
+    ("ptext uniq lonely -", ["-c", "-d", "-f", "-s", "-u", "-z"]),
+    ("ptext cut -f 1 lonely -", ["-b", "-c", "-d", "-n", "-s", "-z"]),
+    ("ptext comm -- -", ["-1", "-2", "-3", "-r", "-z"]),
+]
+ESCAPES = re.compile(
+    rb"\x1b\[[0-?]*[ -/]*[@-~]|\x1b\][^\x07\x1b]*(?:\x07|\x1b\\)|\x1b[()=>#][A-Z0-9]?|[\r\x07\x08\x0e\x0f]|\x1b."
+)
 
 
 class Terminal:
@@ -95,7 +109,8 @@ def wrong_of(shell, room):
     """What a shell does not complete as wanted. As terminals are slow at times, each is tried again."""
     words, first = SHELLS[shell]
     found = []
-    for typed, wanted in COMPLETED + OFFERED:
+    rows = [*((*it, True) for it in COMPLETED + OFFERED), *((*it, False) for it in NOT_OFFERED)]
+    for typed, wanted, offered in rows:
         for attempt in (1, 2, 4):
             at = Terminal(words, room)
             at.type("\n", 0.5 * attempt)
@@ -110,12 +125,15 @@ def wrong_of(shell, room):
             else:
                 came = b"".join(at.type(it, 0.5 * attempt) for it in (typed, "\t", "\t"))
                 said = shown(came)
-                good = set(wanted) in (offers(said, typed, wanted), offers(shown(came, b" "), typed, wanted))
+                found_there = (offers(said, typed, wanted), offers(shown(came, b" "), typed, wanted))
+                # What was typed is on the terminal, so nothing is not offered for want of time.
+                good = set(wanted) in found_there if offered else typed in said and not any(found_there)
             at.close()
             if good:
                 break
         if not good:
-            found.append(f"{shell}: `{typed}` and a tab: wanted {wanted}, the terminal has {said!r}\n")
+            asked = wanted if offered else f"none of {wanted}"
+            found.append(f"{shell}: `{typed}` and a tab: wanted {asked}, the terminal has {said!r}\n")
     return found
 
 
@@ -134,7 +152,7 @@ def main():
             except OSError as why:
                 print(f"left out: completion in {shell} (no terminal: {why})")
                 continue
-            count += len(COMPLETED) + len(OFFERED)
+            count += len(COMPLETED) + len(OFFERED) + len(NOT_OFFERED)
     print("".join(wrong), end="")
     print(f"{count - len(wrong)} of {count} words are completed as wanted")
     return 1 if wrong else 0

@@ -70,7 +70,8 @@ mkdir -p "$room/used/bin" "$room/used/share/man"
 install install PREFIX="$room/used" DESTDIR=
 install install PREFIX="$room/used" DESTDIR=
 install uninstall PREFIX="$room/used" DESTDIR=
-is "what was there stays" ". ./bin ./share ./share/man ./share/other " "$(cd "$room/used" && find . | sort | tr '\n' ' ')"
+is "what was there stays" ". ./bin ./share ./share/man ./share/other " \
+    "$(cd "$room/used" && find . | sort | tr '\n' ' ')"
 
 # A DESTDIR that does not begin with a slash is below the folder in which make runs.
 rm -rf "$top/build/rooted"
@@ -83,7 +84,8 @@ rmdir "$top/build/rooted"
 
 # Each says what it did, in one line.
 mkdir "$room/said.here"
-is "what install says" "installed in $room/said.here: bin/ptext, 7 pages in share/man/man1, completion for bash, zsh and fish" \
+is "what install says" \
+    "installed in $room/said.here: bin/ptext, 7 pages in share/man/man1, completion for bash, zsh and fish" \
     "$(make -s -C "$top" install PREFIX="$room/said.here" DESTDIR=)"
 is "what install-tools says" "installed in $room/said.here/libexec/ptext/bin: cut, paste, join, comm, uniq, tr" \
     "$(make -s -C "$top" install-tools PREFIX="$room/said.here" DESTDIR= | tail -n 1)"

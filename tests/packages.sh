@@ -24,7 +24,8 @@ python3 "$top/tools/dist.py" archives "$room/one" >"$room/said"
 for file in "ptext-$version.tar.gz" "ptext-$version-linux-x86_64.tar.gz" SHA256SUMS; do
     is "$file, made twice" same "$(cmp -s "$room/one/$file" "$room/two/$file" && echo same)"
 done
-is "what is said" "made $room/two/ptext-$version.tar.gz, ptext-$version-linux-x86_64.tar.gz and SHA256SUMS" "$(cat "$room/said")"
+is "what is said" \
+    "made $room/two/ptext-$version.tar.gz, ptext-$version-linux-x86_64.tar.gz and SHA256SUMS" "$(cat "$room/said")"
 is "checksums" "" "$(cd "$room/one" && sha256sum --quiet -c SHA256SUMS 2>&1)"
 
 mkdir "$room/source" "$room/program"
@@ -33,14 +34,16 @@ tar -xzf "$room/one/ptext-$version-linux-x86_64.tar.gz" -C "$room/program" --str
 is "the source has its parts" yes "$(cd "$room/source" && [ -s Makefile ] && [ -s crates.txt ] && [ -s crates/ptext/src/main.rt ] && echo yes)"
 is "the source has nothing that was built" "" "$(cd "$room/source" && find . -name '*.rlib' -o -name build)"
 is "the program of the archive" acd "$(echo abcd | "$room/program/bin/ptext" cut -c 3-,1)"
-is "its parts" "CHANGELOG.md CONTRIBUTING.md LICENSE-APACHE LICENSE-MIT README.md bench bin docs share" "$(ls "$room/program" | sort | tr '\n' ' ' | sed 's/ $//')"
+is "its parts" "CHANGELOG.md CONTRIBUTING.md LICENSE-APACHE LICENSE-MIT README.md bench bin docs share" \
+    "$(ls "$room/program" | sort | tr '\n' ' ' | sed 's/ $//')"
 for page in $(grep -o '\(docs\|bench\)/[A-Za-z]*[.][a-z]*' "$room/program/README.md" | sort -u); do
     is "$page, which its README names" yes "$([ -s "$room/program/$page" ] && echo yes)"
 done
 # An archive of the unpacked source is the same archive.
 mkdir "$room/source/build" && cp "$top/build/ptext" "$room/source/build"
 python3 "$room/source/tools/dist.py" archives "$room/three" >"$room/said"
-is "an archive of the archive" same "$(cmp -s "$room/one/ptext-$version.tar.gz" "$room/three/ptext-$version.tar.gz" && echo same)"
+is "an archive of the archive" same "$(cmp -s "$room/one/ptext-$version.tar.gz" \
+    "$room/three/ptext-$version.tar.gz" && echo same)"
 
 if command -v dpkg-deb >/dev/null; then
     deb=ptext_$version-1_amd64.deb
@@ -53,7 +56,8 @@ if command -v dpkg-deb >/dev/null; then
         mkdir -p "$room/root/var/lib/dpkg/updates" "$room/root/var/lib/dpkg/info"
         : >"$room/root/var/lib/dpkg/status"
         # (Images of small systems leave pages out; here all is installed.)
-        dpkg --root="$room/root" --path-include='/*' --log=/dev/null --force-depends --force-script-chrootless -i "$room/one/$deb" >"$room/said" 2>&1 \
+        dpkg --root="$room/root" --path-include='/*' --log=/dev/null --force-depends --force-script-chrootless \
+            -i "$room/one/$deb" >"$room/said" 2>&1 \
             || { cat "$room/said"; bad=$((bad + 1)); }
         is "the program of the package" acd "$(echo abcd | "$room/root/usr/bin/ptext" cut -c 3-,1)"
         is "its tools by name" 'exec /usr/bin/ptext uniq "$@"' "$(tail -n 1 "$room/root/usr/libexec/ptext/bin/uniq")"
@@ -62,7 +66,8 @@ if command -v dpkg-deb >/dev/null; then
             is "$page, to read in the package" yes "$([ -s "$about/$page" ] && echo yes)"
         done
         is "its pages" 7 "$(ls "$room/root/usr/share/man/man1" | grep -c '^ptext.*\.1\.gz$')"
-        dpkg --root="$room/root" --log=/dev/null --force-script-chrootless -P ptext >"$room/said" 2>&1 || { cat "$room/said"; bad=$((bad + 1)); }
+        dpkg --root="$room/root" --log=/dev/null --force-script-chrootless -P ptext >"$room/said" 2>&1 ||
+            { cat "$room/said"; bad=$((bad + 1)); }
         is "nothing is left of the package" "" "$(find "$room/root" -name '*ptext*')"
     else
         echo "left out: the installation of the package (it takes dpkg, and root)"

@@ -1,15 +1,16 @@
 #!/usr/bin/env python3
-"""Runs the examples of the README, the pages and the docs where they stand, lints the pages, and asks whether the options
-of the pages and of the completion are those of the program, whether its messages stand in the pages, whether these
-name the version, and whether the docs name definitions, tests, modules and paths that there are.
+"""Runs the examples of the README, the pages and the docs where they stand, lints the pages, and asks whether the
+options of the pages and of the completion are those of the program, whether its messages stand in the pages, whether
+these name the version, whether the uses that docs/COMPARISON.md calls refused are refused, and whether the docs name
+definitions, tests, modules and paths that there are.
 
   python3 tests/pages.py PROGRAM
 
 An example is a line `$ COMMAND` in a block, and the lines below it are what it says: output and messages, as a terminal
 shows them. The commands of one file run in their order and in one folder, in which `ptext` is PROGRAM. A line
-`gnu$ COMMAND` is an example of GNU's tools, and `busybox$ COMMAND` one of busybox's: these are left out where the system
-has another version than docs/COMPARISON.md speaks of. So are, with a line that says so, the lint where there is no
-mandoc, and the completion where there is no bash.
+`gnu$ COMMAND` is an example of GNU's tools, and `busybox$ COMMAND` one of busybox's: these are left out where the
+system has another version than docs/COMPARISON.md speaks of. So are, with a line that says so, the lint where there is
+no mandoc, and the completion where there is no bash.
 """
 import glob
 import os
@@ -38,6 +39,8 @@ COMPLETED = [
     ("ptext cut -f1 -", ["-b", "-c", "-d", "-f", "-n", "-s", "-z"]),
     ("ptext cut -f 1 man/ptext-c", ["man/ptext-comm.1", "man/ptext-cut.1"]),
     ("ptext tr -d ", []),
+    ("ptext join -a ", ["1", "2"]),
+    ("ptext join -rv ", ["1", "2"]),
     ("ptext comm f -", []),
     ("ptext uniq -- -", []),
 ]
@@ -100,8 +103,11 @@ def run_all(file, program, known):
     return good, bad
 
 
-# What the lint says that is meant so: the pages name each other before they are installed, and their version in the footer.
-MEANT = re.compile(r"STYLE: (referenced manual not found|operating system explicitly specified)|^mandoc: outdated mandoc.db")
+# What the lint says that is meant so: the pages name each other before they are installed, and their version in the
+# footer.
+MEANT = re.compile(
+    r"STYLE: (referenced manual not found|operating system explicitly specified)|^mandoc: outdated mandoc.db"
+)
 
 
 def lint():
@@ -120,7 +126,8 @@ def other_versions():
     with open(f"{TOP}/VERSION", encoding="ascii") as it:
         version = it.read().strip()
     found = []
-    named = [("CHANGELOG.md", f"## {version}\n"), ("README.md", f"ptext_{version}-1_amd64.deb"), ("README.md", f"ptext-{version}-linux")]
+    named = [("CHANGELOG.md", f"## {version}\n")]
+    named += [("README.md", it) for it in (f"ptext_{version}-1_amd64.deb", f"ptext-{version}-linux")]
     for file, wanted in [*((it, f".Os ptext {version}\n") for it in FILES if it.endswith(".1")), *named]:
         with open(f"{TOP}/{file}", encoding="utf-8") as it:
             found += [] if wanted in it.read() else [f"{file} does not name version {version}\n"]
@@ -130,7 +137,8 @@ def other_versions():
 def letters_of_program(program, tool):
     """The letters that the program does not call unknown."""
     words = [[program, tool, f"-{it}"] for it in string.ascii_letters + string.digits]
-    said = [subprocess.run(it, stdin=subprocess.DEVNULL, capture_output=True, text=True, check=False).stderr for it in words]
+    how = {"stdin": subprocess.DEVNULL, "capture_output": True, "text": True, "check": False}
+    said = [subprocess.run(it, **how).stderr for it in words]
     return {it[2][1] for it, text in zip(words, said) if "unknown option" not in text}
 
 
@@ -141,7 +149,7 @@ def letters_of_page(tool):
 
 
 def completed(words):
-    """What bash completes behind these words."""
+    """What bash completes after these words."""
     text = f'. "{TOP}/completion/ptext"; COMP_WORDS=("$@"); COMP_CWORD=$(($# - 1)); _ptext; echo "${{COMPREPLY[@]}}"'
     did = subprocess.run(["bash", "-c", text, "bash", *words], cwd=TOP, capture_output=True, text=True, check=False)
     return did.stdout.split()
@@ -185,11 +193,32 @@ def lacking_messages():
             texts[name] = it.read()
     forms = [form_of(it) for it in re.findall(r"^\.It (.*: .*)$", texts["man/ptext.1"], re.M)]
     rows = [it.partition("|")[0] for it in texts["tests/refused.txt"].splitlines() if not it.startswith("#")]
-    wanted = [it for row in re.findall(r"^want '.*' '(.+)'$", texts["tests/program.sh"], re.M) for it in row.split("\\n") if it]
+    cases = re.findall(r"^want '.*' '(.+)'$", texts["tests/program.sh"], re.M)
+    wanted = [it for row in cases for it in row.split("\\n") if it]
     lacking = [it for it in rows + wanted if not any(re.fullmatch(form, it) for form in forms)]
     kinds = {it.rpartition(" ")[2] for it in rows if "wrong string" in it}
     lacking += [it for it in sorted(kinds) if f"\n.It {it}\n" not in texts["man/ptext-tr.1"]]
     return "".join(f"not in the pages: {it}\n" for it in lacking)
+
+
+def taken_uses(program):
+    """Uses of GNU's tools that docs/COMPARISON.md calls refused, and that are not refused with status 2."""
+    with open(f"{TOP}/docs/COMPARISON.md", encoding="utf-8") as it:
+        table = it.read().partition("## What to write instead\n")[2].partition("\n## ")[0]
+    uses = [use for row in re.findall(r"^\| (.*?) \| ", table, re.M) for use in re.findall(r"`([^`]+)`", row)]
+    found = [] if uses else ["docs/COMPARISON.md has no refused uses\n"]
+    with tempfile.TemporaryDirectory() as room:
+        for name in "fg":
+            with open(f"{room}/{name}", "w", encoding="ascii") as it:
+                it.write("a\n")
+        # `tool` stands for any of the six.
+        each = [it.replace("tool", tool, 1) for it in uses if it.startswith("tool ") for tool in TOOLS]
+        for use in each + [it for it in uses if not it.startswith("tool ")]:
+            words = ["sh", "-c", f'"$0" {use}', program]
+            did = subprocess.run(words, cwd=room, stdin=subprocess.DEVNULL, capture_output=True, check=False)
+            refused = did.returncode == 2 and did.stderr and not did.stdout
+            found += [] if refused else [f"docs/COMPARISON.md: not refused: {use}\n"]
+    return "".join(found)
 
 
 def lacking_names():
@@ -203,19 +232,21 @@ def lacking_names():
         texts = [open(it, encoding="utf-8").read() for it in glob.glob(f"{TOP}/crates/{pattern}", recursive=True)]
         return any(re.search(words, it, re.M) for it in texts)
 
-    found = [f"{one}.{two}" for one, two in set(re.findall(r"`([A-Z]\w+)\.(\w+)`", text)) if (one, two) != ("File", "name")]
-    lacking = [it for it in found if not holds(f"*/specs/**/{it.split('.')[0]}.antt", rf"^(abbrev )?(pub )?(unfoldable )?(pub )?(record |data )?{it.split('.')[1]}\b")]
-    lacking += [it for it in set(re.findall(r"`(\w+Rows)`", text)) - {"FileRows"} if not glob.glob(f"{TOP}/crates/*/proofs/**/{it}.antt", recursive=True)]
+    found = set(re.findall(r"`([A-Z]\w+)\.(\w+)`", text)) - {("File", "name")}
+    begin = r"^(abbrev )?(pub )?(unfoldable )?(pub )?(record |data )?"
+    lacking = [f"{one}.{two}" for one, two in found if not holds(f"*/specs/**/{one}.antt", rf"{begin}{two}\b")]
+    rows = set(re.findall(r"`(\w+Rows)`", text)) - {"FileRows"}
+    lacking += [it for it in rows if not glob.glob(f"{TOP}/crates/*/proofs/**/{it}.antt", recursive=True)]
     tests = set(re.findall(r"`(pt\w+)::(\w+)::(\w+)`", text))
     lacking += ["::".join(it) for it in tests if not holds(f"{it[0]}/src/{it[1]}.rt", rf"^fn {it[2]}\b")]
-    # Titles stand behind program.sh, up to the end of a cell or a sentence.
+    # Titles stand after program.sh, up to the end of a cell or a sentence.
     for titles in re.findall(r'program\.sh, ("[^|.;`]*")', text):
         lacking += [it for it in re.findall(r'"([^"]*)"', titles) if f'same "{it}"' not in cases]
     return "".join(f"docs/POSIX.md names what is not there: {it}\n" for it in sorted(lacking))
 
 
 def lacking_paths():
-    """Paths in crates/ that a text names, and modules, types and definitions that one of NAMING does, that are not there."""
+    """Paths in crates/ that a text names, and modules, types and definitions that NAMING does, that are not there."""
     paths = glob.glob(f"{TOP}/crates/*/[ps]*/**/*.*t*", recursive=True)
     known = {os.path.basename(it).partition(".")[0] for it in paths}
     for path in [it for it in paths if "/proofs/" not in it]:
@@ -228,7 +259,8 @@ def lacking_paths():
         for path in re.findall(r"\b(?:crates/|(?<=`)pt[a-z]+/)[\w/*.-]*[\w*]", text):
             ends = [f"{TOP}/crates/{path.removeprefix('crates/')}{it}" for it in ("", ".rt", ".antt")]
             found += [] if any(glob.glob(it) for it in ends) else [f"{file} names a path that is not there: {path}\n"]
-        words = set(re.findall(r"\b[A-Z][a-z]\w+", " ".join(re.findall(r"`[^`\n]+`", text)))) if file in NAMING else set()
+        spans = " ".join(re.findall(r"`[^`\n]+`", text)) if file in NAMING else ""
+        words = set(re.findall(r"\b[A-Z][a-z]\w+", spans))
         found += [f"{file} names what is not there: {it}\n" for it in sorted(words - known)]
     return "".join(found)
 
@@ -239,9 +271,11 @@ def main():
     known = {side: has(side) for side in VERSIONS}
     for side in [it for it in known if not known[it]]:
         print(f"left out: the examples of {side} (the system has no such version)")
-    counts = [run_all(file, os.path.abspath(sys.argv[1]), known) for file in FILES]
+    program = os.path.abspath(sys.argv[1])
+    counts = [run_all(file, program, known) for file in FILES]
     good, bad = (sum(it) for it in zip(*counts))
-    found = lint() + other_versions() + wrong_options(os.path.abspath(sys.argv[1])) + lacking_messages() + lacking_names() + lacking_paths()
+    found = lint() + other_versions() + wrong_options(program) + lacking_messages() + taken_uses(program)
+    found += lacking_names() + lacking_paths()
     print(f"{found}{good} of {good + bad} examples as wanted")
     return 1 if bad or found else 0
 

@@ -43,7 +43,8 @@ repeated() {
     for _ in 1 2 3 4 5 6 7 8; do cat "$1" "$1" "$1" "$1" "$1" "$1" "$1" "$1"; done
 }
 
-# The inputs: lines like a log's, of 64 KB or more repeated; runs of equal lines, some longer than a part; two sorted files.
+# The inputs: lines like a log's, of 64 KB or more repeated; runs of equal lines, some longer than a part; two sorted
+# files.
 awk 'BEGIN { for (n = 0; n < 15000; n++)
     printf "2026-11-22T10:%02d:%02dZ  host%d web[%d]:   GET /items/%d %d %d\n",
         n / 60 % 60, n % 60, n % 17, n * 31 % 9973, n, 200 + n % 5, n * 7919 % 65536 }' >piece
@@ -123,8 +124,8 @@ run "parallel -S : --pipepart -k --block 20M -a log 'ptext cut -d \" \" -f 1,3'"
 ptext cut -d " " -f 1,3 log >want
 cmp -s out want || failed "parallel -S :"
 
-# As Hadoop streaming and Spark do it. Splits that end behind lines go to mappers, or partitions to `pipe`: put together in
-# their order, the files that these write are the result of the whole.
+# As Hadoop streaming and Spark do it. Splits that end after lines go to mappers, or partitions to `pipe`: put together
+# in their order, the files that these write are the result of the whole.
 mkdir splits
 head -n 200000 log >part
 split -a 2 -d -l 30001 part splits/
@@ -134,8 +135,8 @@ for mapper in 'ptext cut -d " " -f 1,3' 'ptext tr a-z A-Z' 'ptext tr -d 0-9'; do
     cmp -s out want || failed "as a mapper: $mapper"
 done
 
-# The lines of the mappers are dealt out to three reducers by their keys, and each is given its lines in the order of the
-# keys. The lines of all reducers are those of the whole, in some order.
+# The lines of the mappers are dealt out to three reducers by their keys, and each is given its lines in the order of
+# the keys. The lines of all reducers are those of the whole, in some order.
 dealt() {
     awk -v to="$1" -v field="$2" '
         BEGIN { for (n = 1; n < 256; n++) code[sprintf("%c", n)] = n }

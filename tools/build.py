@@ -5,8 +5,8 @@ builds the program.
   python3 tools/build.py
 
 A crate is proved once those are that it stands on, by `rt lib`. As rt locks the folders of a crate and of all below it,
-each crate is proved in a folder of its own, build/side/NAME, over copies of what it stands on; then what was proved goes
-back to crates/NAME/out. Kept proofs hold in any folder, so what stands already is not proved again.
+each crate is proved in a folder of its own, build/side/NAME, over copies of what it stands on; then what was proved
+goes back to crates/NAME/out. Kept proofs hold in any folder, so what stands already is not proved again.
 """
 import fcntl
 import os
