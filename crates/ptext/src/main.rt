@@ -36,7 +36,7 @@ fn closed_streams(rt: &HostRuntime) -> [io::Result<fs::File>; 3] {
     [fs::open(rt, "/"), fs::open(rt, "/"), fs::open(rt, "/")]
 }
 
-// The words behind the program's own name.
+// The words after the program's own name.
 fn command_words(rt: &HostRuntime) -> io::Result<Vec<String>> {
     Ok(env::args(rt)?.skip(1).collect(rt.alloc())?)
 }

@@ -99,7 +99,7 @@ impl<A: Allocator> Delims<A> {
         self.kept.as_slice().len()
     }
 
-    /// The delimiter behind a column, counted from 0, or `None` for the empty string. Behind the
+    /// The delimiter after a column, counted from 0, or `None` for the empty string. After the
     /// last element comes the first one again.
     pub fn at(&self, column: u64) -> Option<u8>
         ensures { result ≡ delim_at self.now column }
@@ -130,7 +130,7 @@ fn check(text: &[u8]) -> Result<(), DelimFault>
     }
 }
 
-/// The first delimiter of a list, and what stands behind it.
+/// The first delimiter of a list, and what stands after it.
 fn first_delim(text: &[u8]) -> Result<(Option<u8>, &[u8]), DelimFault>
     ensures first { MatchResult result
         (λ found. delim_list text.now ≡ put_first found.0 (delims found.1.now))

@@ -31,7 +31,7 @@ pub enum SetFaultKind {
     EquivPlace = 7,
     /// `[c*n]` stands in `string1`.
     RepeatPlace = 8,
-    /// The count of `[c*n]` has a digit 8 or 9 behind a leading zero, or is above 65535. This
+    /// The count of `[c*n]` has a digit 8 or 9 after a leading zero, or is above 65535. This
     /// project's own choice.
     RepeatSize = 9,
     /// A second `[c*]` or `[c*0]` stands in `string2`. This project's own choice.

@@ -70,7 +70,7 @@ pub struct UniqJob {
     pub show: Show,
     /// How many fields are passed over before lines are compared (`-f`). The default is 0.
     pub fields: u64,
-    /// How many bytes are passed over behind these fields (`-s`). The default is 0.
+    /// How many bytes are passed over after these fields (`-s`). The default is 0.
     pub chars: u64,
     /// Whether lines end with byte 0 (`-z`), and not with newline. This project's own option.
     pub zero: bool,

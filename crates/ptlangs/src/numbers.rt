@@ -28,7 +28,7 @@ pub fn decimal(text: &[u8]) -> Option<u64>
     Some(value)
 }
 
-/// The first element of a list, and what stands behind the comma, space or tab that ends it, or
+/// The first element of a list, and what stands after the comma, space or tab that ends it, or
 /// `None` if nothing ends it.
 pub(crate) fn first_element(text: &[u8]) -> (&[u8], Option<&[u8]>)
     ensures first { MatchOption result.1

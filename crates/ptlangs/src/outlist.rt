@@ -91,7 +91,7 @@ impl<A: Allocator> OutList<A> {
     }
 
     /// The element at a place, counted from 0, as two numbers: (0, 0) for the join field, else the
-    /// file, 1 or 2, and the field, counted from 1. `None` behind the last element.
+    /// file, 1 or 2, and the field, counted from 1. `None` after the last element.
     pub fn at(&self, place: usize) -> Option<(u8, u64)>
         ensures { result ≡ field_at self.now place }
     {

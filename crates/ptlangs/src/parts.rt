@@ -29,7 +29,7 @@ pub(crate) enum Part {
     Repeat(u8, Option<u16>),
 }
 
-/// The place behind this plain byte, if it stands here.
+/// The place after this plain byte, if it stands here.
 #[tactic(auto, using(crate::proofs::TrBehind::behind_steps))]
 fn behind_byte(text: &[u8], at: usize, byte: u8) -> Option<usize>
     requires plain { byte ≢ 92 }
@@ -45,7 +45,7 @@ fn behind_byte(text: &[u8], at: usize, byte: u8) -> Option<usize>
     }
 }
 
-/// The place behind these two plain bytes, if they stand here.
+/// The place after these two plain bytes, if they stand here.
 fn behind_bytes(text: &[u8], at: usize, first: u8, second: u8) -> Option<usize>
     requires plain { first ≢ 92 }
     requires plain_second { second ≢ 92 }
@@ -76,7 +76,7 @@ fn letters_len(bytes: &[u8]) -> usize
         .count()
 }
 
-/// The place behind the digits that stand here.
+/// The place after the digits that stand here.
 fn behind_digits(text: &[u8], at: usize) -> usize
     requires { at ≤ length text.now }
     ensures run { slice_range text.now at result
@@ -89,7 +89,7 @@ fn behind_digits(text: &[u8], at: usize) -> usize
     at + digits_len(&text[at..])
 }
 
-/// The place behind the lower-case letters that stand here.
+/// The place after the lower-case letters that stand here.
 fn behind_letters(text: &[u8], at: usize) -> usize
     requires { at ≤ length text.now }
     ensures run { slice_range text.now at result
@@ -126,7 +126,7 @@ fn count_of(digits: &[u8]) -> Option<u16>
     Some(number(digits, 8, 65535)? as u16)
 }
 
-/// A repeat, from behind its bracket, and the place behind it.
+/// A repeat whose opening bracket was passed, and the place after it.
 fn repeat(text: &[u8], at: usize) -> Option<(Part, usize)>
     requires { at ≤ length text.now }
     ensures reads { option_map (found_in text.now) result ≡ repeat_at (units_from text.now at) }
@@ -144,7 +144,7 @@ fn repeat(text: &[u8], at: usize) -> Option<(Part, usize)>
     Some((Part::Repeat(byte, count_of(&text[digits..end])), next))
 }
 
-/// A class, from behind its bracket, and the place behind it.
+/// A class whose opening bracket was passed, and the place after it.
 fn class(text: &[u8], at: usize) -> Option<(Part, usize)>
     requires { at ≤ length text.now }
     ensures reads { option_map (found_in text.now) result ≡ class_at (units_from text.now at) }
@@ -160,7 +160,7 @@ fn class(text: &[u8], at: usize) -> Option<(Part, usize)>
     Some((Part::Class(CharClass::named(&text[name..end])), next))
 }
 
-/// An equivalence, from behind its bracket, and the place behind it.
+/// An equivalence whose opening bracket was passed, and the place after it.
 fn equivalence(text: &[u8], at: usize) -> Option<(Part, usize)>
     requires { at ≤ length text.now }
     ensures reads { option_map (found_in text.now) result
@@ -178,7 +178,7 @@ fn equivalence(text: &[u8], at: usize) -> Option<(Part, usize)>
     Some((Part::Equivalence(byte), next))
 }
 
-/// A form in brackets at this place, and the place behind it.
+/// A form in brackets at this place, and the place after it.
 fn form(text: &[u8], at: usize) -> Option<(Part, usize)>
     requires { at ≤ length text.now }
     ensures reads { option_map (found_in text.now) result ≡ form_at (units_from text.now at) }
@@ -195,7 +195,7 @@ fn form(text: &[u8], at: usize) -> Option<(Part, usize)>
     equivalence(text, inside)
 }
 
-/// The part at this place, and the place behind it.
+/// The part at this place, and the place after it.
 pub(crate) fn part_at(text: &[u8], at: usize) -> Result<(Part, usize), SetFaultKind>
     requires { at < length text.now }
     ensures reads { ok_map (found_in text.now) result ≡ first_part (units_from text.now at) }
@@ -213,7 +213,7 @@ pub(crate) fn part_at(text: &[u8], at: usize) -> Result<(Part, usize), SetFaultK
     }
 }
 
-/// The range from this byte up to the unit at this place, and the place behind it.
+/// The range from this byte up to the unit at this place, and the place after it.
 fn range(text: &[u8], first: u8, at: usize) -> Result<(Part, usize), SetFaultKind>
     requires { at < length text.now }
     ensures reads { ok_map (found_in text.now) result

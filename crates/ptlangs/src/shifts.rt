@@ -47,7 +47,7 @@ impl Shifts {
         }
     }
 
-    // Takes a byte that is moved in front of the others. False is that there is no room for one more stretch.
+    // Takes a byte that is moved and stands before the others. False is that there is no room for one more stretch.
     fn put_in_front(&mut self, byte: u8, by: u8) -> bool
         ensures put { result ≡ true → self.new ≡ in_front byte by self.old }
         ensures full { result ≡ false → 4 < length (in_front byte by self.old) }
@@ -87,8 +87,8 @@ impl Shifts {
         image
     }
 
-    /// The first and the last byte and the shift of the stretch at a place, counted from 0; they ascend. `few` stands
-    /// beside `found` since the invariant behind it speaks of private fields: by it a caller has room for all of them.
+    /// The first and the last byte and the shift of the stretch at a place, counted from 0; they ascend. `few` is a
+    /// clause of its own beside `found`, since it follows from private fields: by it a caller has room for all of them.
     pub fn stretch(&self, place: usize) -> Option<(u8, u8, u8)>
         ensures found { result ≡ option_map (λ s. (s.first, s.last, s.by)) (slice_get self.now place) }
         ensures few { length self.now ≤ 4 }

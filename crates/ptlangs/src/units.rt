@@ -102,7 +102,7 @@ fn escape(bytes: &[u8]) -> (SetUnit, usize)
     }
 }
 
-/// The unit at this place, and the place behind it.
+/// The unit at this place, and the place after it.
 #[tactic(auto, using(crate::proofs::TrNumbers::unit_steps))]
 pub(crate) fn unit(text: &[u8], at: usize) -> (SetUnit, usize)
     requires { at < length text.now }

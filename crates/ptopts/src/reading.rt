@@ -72,8 +72,8 @@ fn valued_option<'a>(
     })
 }
 
-/// Reads the options of an option word, before a next word, behind these. Answers whether the next word is
-/// the value of the last.
+/// Reads the options of an option word, and adds them to those before it. Answers whether the next word is the value
+/// of the last.
 fn read_group<'a, A: Allocator + Copy>(
     tool: Tool,
     word: &'a str,
@@ -101,7 +101,7 @@ fn read_group<'a, A: Allocator + Copy>(
     Ok(false)
 }
 
-/// The words behind a group, of which the first may be its value.
+/// The words after a group, of which the first may be its value.
 fn after_group<'a>(words: &'a [&'a str], takes_next: bool) -> &'a [&'a str]
     ensures { words_seen result.now ≡ behind_taken takes_next (words_seen words.now) }
 {
@@ -118,7 +118,7 @@ pub(crate) struct Reading<'a, A: Allocator = Global> {
     pub operands: &'a [&'a str],
 }
 
-/// Reads the words behind a tool's name.
+/// Reads the words after a tool's name.
 pub(crate) fn read_words<'a, A: Allocator + Copy>(
     alloc: A,
     tool: Tool,
