@@ -19,8 +19,8 @@ def drawn(means):
         return ratio / most * HEIGHT
 
     parts = [
-        f'<svg xmlns="http://www.w3.org/2000/svg" viewBox="0 0 {width} {bottom + 40}" width="{width}" height="{bottom + 40}" '
-        'font-family="sans-serif" fill="#222">\n',
+        f'<svg xmlns="http://www.w3.org/2000/svg" viewBox="0 0 {width} {bottom + 40}" '
+        f'width="{width}" height="{bottom + 40}" font-family="sans-serif" fill="#222">\n',
         "<title>Time of ptext divided by the time of GNU's tools, by tool and length of line</title>\n",
         f'<rect width="{width}" height="{bottom + 40}" fill="#fff"/>\n',
         text(LEFT, 20, "Time of ptext / time of GNU's tool (lower is faster)", "start", 14, ' font-weight="bold"'),
@@ -34,14 +34,17 @@ def drawn(means):
         ratio = tenths / 4
         y = bottom - height_of(ratio)
         colour, thick = ("#c00", 1.5) if ratio == 1 else ("#ddd", 1)
-        parts.append(f'<line x1="{LEFT}" y1="{y:.1f}" x2="{width - 8}" y2="{y:.1f}" stroke="{colour}" stroke-width="{thick}"/>\n')
+        parts.append(
+            f'<line x1="{LEFT}" y1="{y:.1f}" x2="{width - 8}" y2="{y:.1f}" stroke="{colour}" stroke-width="{thick}"/>\n'
+        )
         parts.append(text(LEFT - 6, y + 4, "GNU 1" if ratio == 1 else f"{ratio:g}", "end", 11))
     for number, (tool, ratios) in enumerate(means.items()):
         left = LEFT + GAP / 2 + number * group
         for place, length in enumerate(LENGTHS):
             x, tall = left + place * BAR, height_of(ratios[length])
             parts.append(
-                f'<rect x="{x:.0f}" y="{bottom - tall:.1f}" width="{BAR - 2}" height="{tall:.1f}" fill="{SHADES[place]}"/>\n'
+                f'<rect x="{x:.0f}" y="{bottom - tall:.1f}" width="{BAR - 2}" height="{tall:.1f}" '
+                f'fill="{SHADES[place]}"/>\n'
             )
             parts.append(text(x + (BAR - 2) / 2, bottom - tall - 3, f"{ratios[length]:.2f}".lstrip("0"), size=10))
         parts.append(text(left + BAR * len(LENGTHS) / 2, bottom + 20, tool, size=14))

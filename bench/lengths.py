@@ -114,7 +114,10 @@ def measured(folder, ptext, other, quick):
                 few = instructions_a_line(folder, ptext, made, separator, words, length) if counted else None
                 rows.append((tool, " ".join(words), length, ours, theirs, few))
                 said = "" if few is None else f"{few:10.0f} instructions a line"
-                print(f"{length:6} bytes  {rows[-1][1]:28} {ours:7.3f} s {theirs:7.3f} s {ours / theirs:6.2f}{said}", flush=True)
+                print(
+                    f"{length:6} bytes  {rows[-1][1]:28} {ours:7.3f} s {theirs:7.3f} s {ours / theirs:6.2f}{said}",
+                    flush=True,
+                )
     return rows
 
 
@@ -131,7 +134,11 @@ def table(rows):
     """Ratio, and instructions a line behind it, of each command and length; then the means of the tools."""
     text = ["| command | " + " | ".join(f"{it:,}" for it in LENGTHS) + " |", "|---" * (len(LENGTHS) + 1) + "|"]
     for words in dict.fromkeys(row[1] for row in rows):
-        cells = [f"{row[3] / row[4]:.2f}" + ("" if row[5] is None else f" ({row[5]:,.0f})") for row in rows if row[1] == words]
+        cells = [
+            f"{row[3] / row[4]:.2f}" + ("" if row[5] is None else f" ({row[5]:,.0f})")
+            for row in rows
+            if row[1] == words
+        ]
         text.append(f"| `{words}` | " + " | ".join(cells) + " |")
     for tool, means in means_of(rows).items():
         text.append(f"| **{tool}**, geometric mean | " + " | ".join(f"**{means[it]:.2f}**" for it in LENGTHS) + " |")
@@ -165,11 +172,13 @@ def keep_table(path, text):
 def run(folder, ptext, other, quick, to):
     load = os.getloadavg()[0]
     rows = measured(folder, ptext, other, quick)
+    part = 10 if quick else 1
     said = (
-        f"Ratios by the bytes of a line, without its newline, and in brackets the instructions of `ptext` a line.\n"
-        f"{'Each command once' if quick else f'The best of {RUNS} runs'}, over {LINES // (10 if quick else 1):,} lines or "
-        f"{(SIZE >> 20) / (10 if quick else 1):g} MB, whichever is less, on {os.cpu_count()} processors; other work on the machine "
-        f"at the start: {load:.1f} of them.\n`OTHER` is the second input, of lines as long; `FILE` is the first once more.\n\n"
+        "Ratios by the bytes of a line, without its newline, and in brackets the instructions of `ptext` a line.\n"
+        f"{'Each command once' if quick else f'The best of {RUNS} runs'}, over {LINES // part:,} lines or "
+        f"{(SIZE >> 20) / part:g} MB, whichever is less, on {os.cpu_count()} processors; other work on the "
+        f"machine at the start: {load:.1f} of them.\n"
+        "`OTHER` is the second input, of lines as long; `FILE` is the first once more.\n\n"
     )
     os.makedirs(to, exist_ok=True)
     write(to, "speed.tsv", data(rows))

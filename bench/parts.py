@@ -4,8 +4,8 @@
   bench/parts.py PTEXT [MEGABYTES]
 
 Each input has 512 MB unless told otherwise; it was written just before, so that it is read from memory. The best of
-three runs counts, and the output is thrown away. `cut`, `tr` and `uniq` have their file cut by `parallel` as it goes, into one
-part for each processor. The files of `paste`, `comm` and `join` are cut beforehand; that time stands apart.
+three runs counts, and the output is thrown away. `cut`, `tr` and `uniq` have their file cut by `parallel` as it goes,
+into one part for each processor. The files of `paste`, `comm` and `join` are cut beforehand; that time stands apart.
 docs/PARALLEL.md says where an input may be cut.
 """
 
@@ -74,13 +74,19 @@ def main():
         for name in ("bin", "rows", "lines", "keys"):
             os.mkdir(name)
         os.symlink(ptext, "bin/ptext")
-        os.environ.update(LC_ALL="C", PARALLEL="--will-cite", PARALLEL_HOME=folder, PATH=f"{folder}/bin:{os.environ['PATH']}")
+        os.environ.update(
+            LC_ALL="C", PARALLEL="--will-cite", PARALLEL_HOME=folder, PATH=f"{folder}/bin:{os.environ['PATH']}"
+        )
         write_lines("log", size, log_line)
         write_lines("left", size, lambda number: f"{number * 2:010} first__________ second_________\n")
         write_lines("right", size, lambda number: f"{number * 3:010} first__________ second_________\n")
         print(f"| tool | one process | {cores} processors | cut beforehand |\n|---|---|---|---|")
         for tool, cutting, whole, parts in CASES:
-            cut = "" if not cutting else cutting.replace("CORES", str(cores)).replace("CUT", f"{TOP}/tools/cut_at_keys.sh")
+            cut = (
+                ""
+                if not cutting
+                else cutting.replace("CORES", str(cores)).replace("CUT", f"{TOP}/tools/cut_at_keys.sh")
+            )
             taken = f"{seconds(cut):.2f} s" if cut else ""
             one, many = (min(seconds(command) for _ in range(RUNS)) for command in (whole, parts))
             print(f"| `{tool}` | {one:.2f} s | {many:.2f} s | {taken} |", flush=True)

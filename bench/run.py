@@ -239,7 +239,9 @@ def main():
     parser = argparse.ArgumentParser(description="Ratios of ptext to the system's tools.")
     parser.add_argument("--against", metavar="OTHER", help="another build of ptext, in place of the system's tools")
     parser.add_argument("--quick", action="store_true", help="by length: few lines, each command once")
-    parser.add_argument("--to", metavar="FOLDER", default=HERE, help="by length: where table, data and chart are written")
+    parser.add_argument(
+        "--to", metavar="FOLDER", default=HERE, help="by length: where table, data and chart are written"
+    )
     parser.add_argument("ptext", help="the program")
     parser.add_argument("names", nargs="*", help="of the inputs, or 'all'; none: by the length of a line")
     given = parser.parse_args()

@@ -77,14 +77,30 @@ CASES = {
     # Decided are the entries whose key is below the last key of each input that may go on.
     "comm": [
         lines("comm @ file", ("0\n", ""), ("1\n", "0\n"), ("22\n", "\t\t1\n"), ("24\n", "22\n"), last="\t23\n24\n"),
-        lines("comm -3 @ &", ("a\n", ""), ("b\n", "", 1), ("b\n", "a\n"), ("c\n", ""), ("d\n", "", 1), ("e\n", "c\n"),
-              last="\td\ne\n"),
+        lines(
+            "comm -3 @ &",
+            ("a\n", ""),
+            ("b\n", "", 1),
+            ("b\n", "a\n"),
+            ("c\n", ""),
+            ("d\n", "", 1),
+            ("e\n", "c\n"),
+            last="\td\ne\n",
+        ),
         lines("comm -z @ &", ("a\0", ""), ("b\0", "", 1), ("b\0", "a\0"), last="\t\tb\0"),
     ],
     "join": [
         lines("join @ file", ("0 x\n", ""), ("1 y\n", ""), ("2 z\n", "1 y\n"), ("23 u\n", ""), last="23 u\n"),
-        lines("join -a 1 @ &", ("a 1\n", ""), ("b 2\n", "", 1), ("b 3\n", "a 1\n"), ("c 4\n", ""),
-              ("d 5\n", "b 3 2\n", 1), ("d 6\n", "c 4\n"), last="d 6 5\n"),
+        lines(
+            "join -a 1 @ &",
+            ("a 1\n", ""),
+            ("b 2\n", "", 1),
+            ("b 3\n", "a 1\n"),
+            ("c 4\n", ""),
+            ("d 5\n", "b 3 2\n", 1),
+            ("d 6\n", "c 4\n"),
+            last="d 6 5\n",
+        ),
         lines("join -z @ &", ("a\0", ""), ("a\0", "", 1), ("b\0", ""), ("b\0", "a\0", 1), last="b\0"),
         # What stands in front of a pair comes out with it, before the line behind the pair is waited for.
         lines("join -a 1 @ &", ("b 2\nc 1\n", "", 1), ("a 1\nb 3\n", "a 1\nb 3 2\n")),
@@ -94,8 +110,9 @@ CASES = {
         lines("cut -f 1 @", (MANY, MANY), (MORE, MORE), ("e\n", "e\n")),
         lines("tr a x", (MANY, MANY.replace("a", "x")), (MORE, MORE), ("e", "e")),
         lines("uniq @", (NUMBERS, NUMBERS[:-7]), (MORE, "013640\n"), ("e\n", "cd\n"), last="e\n"),
-        lines("paste -s @", (MANY, MANY[:-1].replace("\n", "\t")), (MORE, "\t" + MORE[:-1].replace("\n", "\t")),
-              last="\n"),
+        lines(
+            "paste -s @", (MANY, MANY[:-1].replace("\n", "\t")), (MORE, "\t" + MORE[:-1].replace("\n", "\t")), last="\n"
+        ),
         lines("paste @", (MANY, MANY), (MORE, MORE), ("e\n", "e\n")),
         lines("comm @ file", (NUMBERS, NUMBERS), ("2\n", "\t1\n"), last="2\n\t23\n"),
         lines("join -a 1 @ file", (NUMBERS, NUMBERS), ("2\n", ""), last="2\n"),

@@ -96,10 +96,17 @@ def locked(crates):
 
 
 def followed(what, words, folder):
-    """Runs a command, and says how far it is as it goes; where it fails, all that it said. Answers whether it ended well."""
+    """Runs a command, and says how far it is as it goes; where it fails, all that it said. Answers whether it ended
+    well."""
     said = []
     with open(os.devnull, encoding="ascii") as nothing:
-        how = {"stdin": nothing, "stdout": subprocess.PIPE, "stderr": subprocess.STDOUT, "text": True, "errors": "replace"}
+        how = {
+            "stdin": nothing,
+            "stdout": subprocess.PIPE,
+            "stderr": subprocess.STDOUT,
+            "text": True,
+            "errors": "replace",
+        }
         with subprocess.Popen(words, cwd=folder, **how) as child:
             for line in child.stdout:
                 said.append(line)
@@ -127,11 +134,13 @@ class Build:
 
     def ready(self):
         """The crates that can be proved now; first the one for which the longest chain of text waits."""
-        return sorted((it for it in self.left if below(it, self.uses) <= set(self.done)), key=lambda it: -self.chains[it])
+        return sorted(
+            (it for it in self.left if below(it, self.uses) <= set(self.done)), key=lambda it: -self.chains[it]
+        )
 
     def jobs(self, crate, others, processors):
-        """How many jobs a crate gets beside so many others: one, or two where the longest chain waits for it. Two take a
-        quarter more of the processor than one, and at best three quarters of the time."""
+        """How many jobs a crate gets beside so many others: one, or two where the longest chain waits for it. Two take
+        a quarter more of the processor than one, and at best three quarters of the time."""
         is_first = all(self.chains[crate] >= self.chains[it] for it in [*self.left, *self.running])
         is_room = others == 0 or processors >= 4
         return min(2, processors - sum(self.running.values())) if is_first and is_room else 1
@@ -191,8 +200,8 @@ def main():
     began = time.monotonic()
     build = Build(uses)
     say(
-        f"proving {build.count} libraries, then the program, and building it. From nothing that takes 10 to 15 minutes on "
-        "four processors; what is proved already is not proved again."
+        f"proving {build.count} libraries, then the program, and building it. From nothing that takes 10 to 15 minutes "
+        "on four processors; what is proved already is not proved again."
     )
     held = locked(build.left)
     shutil.rmtree(SIDE, ignore_errors=True)

@@ -59,7 +59,9 @@ def has_tests(crate):
 def ran(what, words, folder):
     """Runs a command, shows what it says where it fails, and says what it took of the processor."""
     before = resource.getrusage(resource.RUSAGE_CHILDREN)
-    did = subprocess.run(words, cwd=folder, stdin=subprocess.DEVNULL, stdout=subprocess.PIPE, stderr=subprocess.STDOUT, text=True)
+    did = subprocess.run(
+        words, cwd=folder, stdin=subprocess.DEVNULL, stdout=subprocess.PIPE, stderr=subprocess.STDOUT, text=True
+    )
     after = resource.getrusage(resource.RUSAGE_CHILDREN)
     took = after.ru_utime + after.ru_stime - before.ru_utime - before.ru_stime
     if did.returncode:
@@ -72,7 +74,9 @@ def main():
     since = commit(sys.argv[1:])
     if not shutil.which("rt"):
         return "there is no rt in PATH: it comes with the kit that the README names (export PATH=/opt/rattle/bin:$PATH)"
-    if subprocess.run(["git", "rev-parse", "-q", "--verify", f"{since}^{{commit}}"], cwd=TOP, capture_output=True).returncode:
+    if subprocess.run(
+        ["git", "rev-parse", "-q", "--verify", f"{since}^{{commit}}"], cwd=TOP, capture_output=True
+    ).returncode:
         return f"git knows no commit {since} here: name one that it knows, make check SINCE=COMMIT"
     with open(f"{TOP}/crates.txt", encoding="utf-8") as it:
         uses = uses_of(it.read())

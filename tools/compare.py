@@ -330,7 +330,9 @@ LISTED = [
     Listed("`paste` needs an operand", "paste", lambda case: not case.operands, "refused", "number of operands"),
     Listed("A line out of order is a fault", "comm join", disorder, put=put_in_order),
     Listed("Descending order", "comm join", lambda case: case.has("r"), put=put_ascending),
-    Listed("`-e` fills what `-o` names", "join", lambda case: case.has("e") and not case.has("o"), put=put_without("e")),
+    Listed(
+        "`-e` fills what `-o` names", "join", lambda case: case.has("e") and not case.has("o"), put=put_without("e")
+    ),
     Listed("Blanks at the end of a line make no field", "join", has_last_blanks, put=put_without_last_blanks),
     Listed("An empty line has one empty field with `-t`", "join", has_empty_line, put=put_field),
     Listed("An empty string of `tr`", "tr", lambda case: "" in case.operands, "refused", "empty"),
@@ -494,7 +496,7 @@ JOIN_FIELDS = ["0", "1.1", "1.2", "2.1", "2.2", "1.3", "2.3"]
 JOIN_LISTS = ["", "1.0", "0,", "00", "3.1", "1", f"1.{MOST + 1}"]
 JOIN_SEPARATORS = [",", ":", " ", "a"], ["", "\n", "ab", r"\0"]
 JOIN_NUMBERS = ["1", "2", "2", "3"], ["0", "+1", str(MOST + 1)]
-SET_UNITS = ["a", "b", "z", "A", "-", "[", "]", "*", ":", "=", ".", ",", " ", "é", r"\n", r"\t", r"\\", r"\055", r"\0012", r"\377"]
+SET_UNITS = list("abzA-[]*:=., é") + [r"\n", r"\t", r"\\", r"\055", r"\0012", r"\377"]
 SET_CLASSES = ["[:lower:]", "[:upper:]", "[:digit:]", "[:space:]", "[:alpha:]"]
 SET_PARTS = [*SET_UNITS, *SET_CLASSES, "a-c", "x-z", "0-9", "A-Z", "[=a=]", "[x*]", "[y*2]", "[y*02]"]
 SET_FORMS = ["[:foo:]", "[:alpha", "[::]", "[==]", "[a*x]", "[a*99999]", "[a*08]", "[x*][y*]", "[-a"]
@@ -588,7 +590,9 @@ def operands_of(tool, options, rng):
         return ([rng.choice(names)] + ["out"] * (rng.random() < 0.2)) * (rng.random() < 0.7)
     if tool in ("comm", "join"):
         return rng.sample(sorted(set(names)), 2) if rng.random() < 0.98 else rng.choice([["f"], ["-", "-"]])
-    return [rng.choice(names) for _ in range(rng.choice([0, 1, 1, 2, 3, 4]) or (tool == "paste" and rng.random() < 0.8))]
+    return [
+        rng.choice(names) for _ in range(rng.choice([0, 1, 1, 2, 3, 4]) or (tool == "paste" and rng.random() < 0.8))
+    ]
 
 
 def some_line(rng, end, kind):

@@ -66,7 +66,9 @@ def built(rt, crate, tests):
         words = [rt.rtlib.RATTLE, "build", *crate.words(["--jobs", "1"], tests=tests, keeps=False), "--empty-contracts"]
         if tests or crate.is_program:
             words += ["--toolchain", f"{rt.KIT}/toolchain", "--backend", "llvm"]
-        ran = subprocess.run([*words, "-o", f"{room}/made"], cwd=room, stdin=subprocess.DEVNULL, capture_output=True, text=True)
+        ran = subprocess.run(
+            [*words, "-o", f"{room}/made"], cwd=room, stdin=subprocess.DEVNULL, capture_output=True, text=True
+        )
     if ran.returncode:
         print(ran.stdout[-2000:] + ran.stderr[-2000:])
     return not ran.returncode
@@ -137,7 +139,7 @@ FUNCTION = re.compile(r"(?P<indent> {4})?(?P<pub>pub )?(?:pub\(\w+\) )?(?:unsafe
 
 
 def functions(folder, crate):
-    """The functions of a crate: file, place of the first byte, name, whether it is public, and whether it has a body."""
+    """The functions of a crate: file, place of the first byte, name, whether it is public, whether it has a body."""
     lib = read(f"{folder}/src/lib.rt")
     given = set(re.findall(r"\w+", " ".join(re.findall(r"^pub use (.*?);", lib, re.M | re.S))))
     for at, _, files in os.walk(f"{folder}/src"):
@@ -156,8 +158,14 @@ def functions(folder, crate):
                 it = FUNCTION.match(line)
                 if it and bool(it["indent"]) == bool(owner):
                     root = owner or it["name"]
-                    is_public = (is_open or root in given) and (bool(it["pub"]) or bool(inner)) and (not owner or owner in shown)
-                    name = "::".join([crate, *([module] if is_open and module != "lib" else []), *([owner] if owner else [])])
+                    is_public = (
+                        (is_open or root in given)
+                        and (bool(it["pub"]) or bool(inner))
+                        and (not owner or owner in shown)
+                    )
+                    name = "::".join(
+                        [crate, *([module] if is_open and module != "lib" else []), *([owner] if owner else [])]
+                    )
                     name += f": {inner}::{it['name']}" if inner else f"::{it['name']}"
                     body = re.compile(r"^( {4})?\{\}$|\{\}$|^( {4})?\{$|\{$", re.M).search(text, place)
                     yield path, place, name, is_public, not (body and body[0].endswith("{}"))

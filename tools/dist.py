@@ -1,8 +1,8 @@
 #!/usr/bin/env python3
 """Makes what is handed on: archives, and a Debian package. Made twice of the same files, they have the same bytes.
 
-  python3 tools/dist.py archives FOLDER     ptext-VERSION.tar.gz, the source; ptext-VERSION-linux-x86_64.tar.gz, the stripped
-                                            program with its pages, docs and completion; SHA256SUMS of both
+  python3 tools/dist.py archives FOLDER     ptext-VERSION.tar.gz, the source; ptext-VERSION-linux-x86_64.tar.gz, the
+                                            stripped program with its pages, docs and completion; SHA256SUMS of both
   python3 tools/dist.py deb FOLDER          ptext_VERSION-1_amd64.deb, with the same, and each tool under its own name
 """
 import gzip
@@ -37,7 +37,11 @@ def source_files():
     for at, folders, names in os.walk(TOP):
         inside = os.path.relpath(at, TOP)
         is_crate = os.path.dirname(inside) == "crates"
-        folders[:] = [it for it in folders if not (it == "out" and is_crate or it in ("build", ".git") and inside == "." or it == "__pycache__")]
+        folders[:] = [
+            it
+            for it in folders
+            if not (it == "out" and is_crate or it in ("build", ".git") and inside == "." or it == "__pycache__")
+        ]
         found += [os.path.normpath(f"{inside}/{it}") for it in names]
     return sorted(found)
 
@@ -66,7 +70,11 @@ def texts():
 
 def archives(folder):
     named = f"ptext-{VERSION}"
-    archive(f"{folder}/{named}.tar.gz", named, [(it, mode_of(f"{TOP}/{it}"), bytes_of(f"{TOP}/{it}")) for it in source_files()])
+    archive(
+        f"{folder}/{named}.tar.gz",
+        named,
+        [(it, mode_of(f"{TOP}/{it}"), bytes_of(f"{TOP}/{it}")) for it in source_files()],
+    )
     built = f"{named}-linux-x86_64"
     licenses = [(it, 0o644, bytes_of(f"{TOP}/{it}")) for it in LICENSES]
     archive(f"{folder}/{built}.tar.gz", built, [*files("", False), *texts(), *licenses])
@@ -137,7 +145,9 @@ def package_files():
         page = name.startswith("share/man/")
         found.append((f"usr/{name}.gz" if page else f"usr/{name}", mode, packed(text) if page else text))
     found += [(f"usr/libexec/ptext/bin/{name}", 0o755, script("/usr", name)) for name in NAMES]
-    about, date = "usr/share/doc/ptext", subprocess.run(["date", "-u", "-R", "-d", f"@{TIME}"], check=True, capture_output=True)
+    about, date = "usr/share/doc/ptext", subprocess.run(
+        ["date", "-u", "-R", "-d", f"@{TIME}"], check=True, capture_output=True
+    )
     found.append((f"{about}/changelog.gz", 0o644, packed(bytes_of(f"{TOP}/CHANGELOG.md"))))
     found += [(f"{about}/{name}", mode, text) for name, mode, text in texts() if name != "CHANGELOG.md"]
     changes = CHANGES.format(version=VERSION, date=date.stdout.decode().strip())

@@ -140,7 +140,9 @@ def install(place, with_tools=False):
         print(f"installed in {place.root}/libexec/ptext/bin: {', '.join(NAMES)}")
     else:
         pages = sum("/man1/" in name for name, _, _ in given)
-        print(f"installed in {place.root}: bin/ptext, {pages} pages in share/man/man1, completion for bash, zsh and fish")
+        print(
+            f"installed in {place.root}: bin/ptext, {pages} pages in share/man/man1, completion for bash, zsh and fish"
+        )
     return 0
 
 
