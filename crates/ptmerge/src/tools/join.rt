@@ -2,13 +2,13 @@
 //!
 //! `groups` are those lines, `fields` the fields of a line and the entry that is written of two.
 
-ghost use Rattle.std.specs.Prelude.{◌≡◌, ◌<◌, ◌≤◌, ℕ, List, ◌++◌, ◌∷◌, [], option_copied, false, true, length, OnOk, OnErr};
+ghost use Rattle.std.specs.Prelude.{◌≡◌, ◌<◌, ◌≤◌, ℕ, List, ◌++◌, ◌∷◌, [], option_copied, false, true, length, IfSome, OnOk, OnErr};
 ghost use Rattle.ptlangs.specs.Jobs.{join_job};
 ghost use Rattle.ptlines.specs.Outputs.{Wrote};
-ghost use Rattle.ptlines.specs.Slots.{line};
+ghost use Rattle.ptlines.specs.Slots.{line, line as line_of};
 ghost use Rattle.ptlines.specs.Text.{text};
 ghost use Rattle.ptlines.specs.Readers.{IsSound};
-ghost use Rattle.ptmerge.specs.Groups.{AddsLeast, group};
+ghost use Rattle.ptmerge.specs.Groups.{AddsLeast, end_slot, first_slot, group};
 ghost use Rattle.ptmerge.specs.Merges.{IsMerge, IsReady, IsUnread, Untouched, ended_by, seen};
 ghost use Rattle.ptmerge.specs.declared.order.Side.{Side as Sided};
 ghost use Rattle.ptmerge.specs.Join.{alone_entry, entry, join_by, join_key, join_tool, pairs_of};
@@ -26,8 +26,8 @@ use crate::faults::MergeFault;
 use crate::merging::slots::clear_four;
 use crate::merging::{Merge, Step, send_before_wait};
 use crate::order::{Descending, FieldKeys, KeyOrder, Side};
-use crate::tools::join::fields::{nth_field, push_entry};
-use crate::tools::join::groups::{clear_group, gather};
+use crate::tools::join::fields::push_entry;
+use crate::tools::join::groups::{clear_group, gather, group_slots};
 use ptlangs::jobs::JoinJob;
 use ptlines::{LineReader, Out, Sink, Source, Store, WriteFault};
 use std::alloc::Allocator;
@@ -41,7 +41,9 @@ fn push_line<A: Allocator, W: Sink>(
     ending: u8,
     out: &mut Out<W>,
 ) -> Result<(), WriteFault>
-    requires { out.old.faulted ≡ false }
+    requires keyed1 { IfSome (option_copied one) (λ line. join_key (join_job job.now) Of.First line ≡ key.now) }
+    requires keyed2 { IfSome (option_copied two) (λ line. join_key (join_job job.now) Of.Second line ≡ key.now) }
+    requires clean { out.old.faulted ≡ false }
     ensures wrote { Wrote out.old out.new (entry (join_job job.now) key.now
         (fields_left (join_job job.now).separator (option_copied one.entry))
         (fields_left (join_job job.now).separator (option_copied two.entry)) ++ ending ∷ []) }
@@ -56,11 +58,13 @@ fn push_line<A: Allocator, W: Sink>(
 fn push_alone<A: Allocator, W: Sink>(
     job: &JoinJob<A>,
     side: Side,
+    key: &[u8],
     line: &[u8],
     ending: u8,
     out: &mut Out<W>,
 ) -> Result<(), WriteFault>
-    requires { out.old.faulted ≡ false }
+    requires keyed { join_key (join_job job.now) side line.now ≡ key.now }
+    requires clean { out.old.faulted ≡ false }
     ensures wrote { Wrote out.old out.new (text ending (alone_entry (join_job job.now) side line.now)) }
     ensures clean { OnOk result (out.new.faulted ≡ false) }
     ensures fault { OnErr result (out.new.faulted ≡ true) }
@@ -70,32 +74,34 @@ fn push_alone<A: Allocator, W: Sink>(
             if !job.unpaired[0] {
                 return Ok(());
             }
-            let key = nth_field(job.sep, job.field[0], Some(line));
             push_line(job, key, Some(line), None, ending, out)
         }
         Side::Second => {
             if !job.unpaired[1] {
                 return Ok(());
             }
-            let key = nth_field(job.sep, job.field[1], Some(line));
             push_line(job, key, None, Some(line), ending, out)
         }
     }
 }
 
-// Pushes the entries of a line of the first input and each line of the group.
+// Pushes the entries of a line of the first input and each line of the group, which stands in these slots.
 fn push_pairs<A: Allocator + Copy, W: Sink>(
     job: &JoinJob<A>,
     key: &[u8],
     line: &[u8],
+    from: usize,
     end: usize,
     store: &Store<A>,
     ending: u8,
     out: &mut Out<W>,
 ) -> Result<(), WriteFault>
     requires within { end ≤ length store.now.lines }
+    requires keyed1 { join_key (join_job job.now) Of.First line.now ≡ key.now }
+    requires keyed2 { (slot : ℕ) → from ≤ slot → slot < end →
+        join_key (join_job job.now) Of.Second (line_of store.now slot) ≡ key.now }
     requires clean { out.old.faulted ≡ false }
-    ensures wrote { let pairs = pairs_of (join_job job.now) key.now (line.now ∷ []) (group store.now end) in
+    ensures wrote { let pairs = pairs_of (join_job job.now) key.now (line.now ∷ []) (group store.now from end) in
         Wrote out.old out.new (text ending pairs) }
     ensures clean { OnOk result (out.new.faulted ≡ false) }
     ensures fault { OnErr result (out.new.faulted ≡ true) }
@@ -103,7 +109,7 @@ fn push_pairs<A: Allocator + Copy, W: Sink>(
     if !job.pairs {
         return Ok(());
     }
-    for slot in 4..end {
+    for slot in from..end {
         push_line(job, key, Some(line), Some(store.line(slot)), ending, out)?;
     }
     Ok(())
@@ -122,6 +128,7 @@ fn pass_alone<K: KeyOrder, A: Allocator + Copy, S: Source, R: Source, W: Sink>(
     requires placed { IsPlaced (K.key_of merge.old.order) merge.old.first merge.old.second store.old }
     requires stands { (both merge.old.first merge.old.second side).stand ≡ stands.Head }
     requires lent { IsLent (both merge.old.first merge.old.second side) reader.old }
+    requires keys { (side : Sided) (line : List ℕ) → K.key_of merge.old.order side line ≡ join_key (join_job job.now) side line }
     requires clean { out.old.faulted ≡ false }
     ensures wrote { let standing = line store.old (both merge.old.first merge.old.second side).standing in
         Wrote out.old out.new (text ending (alone_entry (join_job job.now) side standing)) }
@@ -135,7 +142,8 @@ fn pass_alone<K: KeyOrder, A: Allocator + Copy, S: Source, R: Source, W: Sink>(
     ensures placed { OnOk result (IsPlaced (K.key_of merge.new.order) merge.new.first merge.new.second store.new) }
     ensures lent { OnOk result (IsLent (both merge.new.first merge.new.second side) reader.new) }
 {
-    match push_alone(job, side, merge.head(side, store), ending, out) {
+    let key = merge.key(side, store);
+    match push_alone(job, side, key, merge.head(side, store), ending, out) {
         Ok(()) => {}
         Err(_) => return Err(MergeFault::Write),
     }
@@ -156,11 +164,16 @@ fn pass_pairs<K: KeyOrder, A: Allocator + Copy, S: Source, R: Source, W: Sink>(
     requires placed { IsPlaced (K.key_of merge.old.order) merge.old.first merge.old.second store.old }
     requires stands { merge.old.first.stand ≡ stands.Head }
     requires lent { IsLent merge.old.first reader.old }
-    requires within { end ≤ length store.old.lines }
+    requires within { (4 ≤ end) × (end ≤ length store.old.lines) }
+    requires keys { (side : Sided) (line : List ℕ) → K.key_of merge.old.order side line ≡ join_key (join_job job.now) side line }
+    requires keyed { (slot : ℕ) → first_slot merge.old.second end ≤ slot → slot < end_slot merge.old.second end →
+        join_key (join_job job.now) Of.Second (line store.old slot)
+        ≡ K.key_of merge.old.order Of.First (line store.old merge.old.first.standing) }
     requires clean { out.old.faulted ≡ false }
     ensures wrote { let standing = line store.old merge.old.first.standing in
         let key = K.key_of merge.old.order Of.First standing in
-        Wrote out.old out.new (text ending (pairs_of (join_job job.now) key (standing ∷ []) (group store.old end))) }
+        let lines = group store.old (first_slot merge.old.second end) (end_slot merge.old.second end) in
+        Wrote out.old out.new (text ending (pairs_of (join_job job.now) key (standing ∷ []) lines)) }
     ensures passes { let key = K.key_of merge.old.order Of.First in
         PassesLine key (K.order merge.old.order) Of.First
         merge.old.first merge.new.first reader.old reader.new store.old store.new out.new result }
@@ -171,7 +184,8 @@ fn pass_pairs<K: KeyOrder, A: Allocator + Copy, S: Source, R: Source, W: Sink>(
 {
     let key = merge.key(Side::First, store);
     let line = merge.head(Side::First, store);
-    match push_pairs(job, key, line, end, store, ending, out) {
+    let (from, to) = group_slots(merge, end);
+    match push_pairs(job, key, line, from, to, store, ending, out) {
         Ok(()) => {}
         Err(_) => return Err(MergeFault::Write),
     }
@@ -262,8 +276,8 @@ fn join_in_order<K: KeyOrder, A: Allocator + Copy, S: Source, R: Source, W: Sink
 /// with byte 0 (its own options).
 ///
 /// The slots 0 to 3 of the store are used, which are added before the first read where they are missing, and behind
-/// them a slot for each of the second input's lines of one key; after `Ok` and `Disorder` all are empty. Where one of
-/// the first four is refused, nothing is read or pushed. On an output that has failed nothing is done. Neither input is
+/// them a slot for each of the second input's lines of one key, where there are several; after `Ok` and `Disorder` all
+/// are empty. Where one of the first four is refused, nothing is read or pushed. On an output that has failed nothing is done. Neither input is
 /// read more than two blocks ahead of what is pushed, or behind a disorder, whatever came of the other. The pairs of a
 /// key are pushed once all lines of the second input with it came. That what was pushed is sent before a read that may
 /// have to wait is tested, and no clause.
