@@ -1,9 +1,8 @@
 //! A search for a byte that is near.
 
-ghost use Rattle.std.specs.Prelude.{◌≤◌, ◌+◌, length};
-ghost use Rattle.memchr.specs.Find.{IsFirst, IsFirstByte, Nowhere, Passes, is_byte};
+ghost use Rattle.std.specs.Prelude.{◌≤◌, ◌<◌, ◌+◌, length};
+ghost use Rattle.memchr.specs.Find.{IsFirst, IsFirstByte, Passes, is_byte};
 
-use memchr::memchr;
 use std::simd::prelude::*;
 
 /// The first place that holds the byte, of N from `at` on, which are compared all at once.
@@ -22,18 +21,51 @@ pub fn find_in<const N: usize>(byte: u8, bytes: &[u8], at: usize) -> Option<usiz
     Some(at + marked.trailing_zeros() as usize)
 }
 
-// The first place of a byte, of which none stands in front of `from`. Apart, so that what is near is found without a
-// call.
-#[inline(never)]
-fn find_far(byte: u8, bytes: &[u8], from: usize) -> Option<usize>
-    requires within { from ≤ length bytes.now }
-    requires passed { Nowhere (Passes (is_byte byte) bytes.now) 0 from }
+// The first place of a byte among N bytes or up to twice as many: in the first N or in the last N, which may overlap.
+#[inline(always)]
+fn find_ends<const N: usize>(byte: u8, bytes: &[u8]) -> Option<usize>
+    requires lanes { N ≤ 64 }
+    requires few { (N ≤ length bytes.now) × (length bytes.now ≤ N + N) }
     ensures { IsFirstByte (is_byte byte) bytes.now result }
 {
-    if bytes.len() < 64 {
-        return memchr(byte, bytes);
+    match find_in::<N>(byte, bytes, 0) {
+        Some(at) => Some(at),
+        None => find_in::<N>(byte, bytes, bytes.len() - N),
     }
-    let mut at = from;
+}
+
+// The first place of a byte among fewer than 16.
+#[inline(never)]
+fn find_few(byte: u8, bytes: &[u8]) -> Option<usize>
+    requires { length bytes.now < 16 }
+    ensures { IsFirstByte (is_byte byte) bytes.now result }
+{
+    if bytes.len() >= 8 {
+        return find_ends::<8>(byte, bytes);
+    }
+    if bytes.len() >= 4 {
+        return find_ends::<4>(byte, bytes);
+    }
+    match bytes.len() {
+        0 => None,
+        1 => find_ends::<1>(byte, bytes),
+        _ => find_ends::<2>(byte, bytes),
+    }
+}
+
+// The first place of a byte among 16 or more. Apart, so that what is near is found without a call.
+#[inline(never)]
+fn find_far(byte: u8, bytes: &[u8]) -> Option<usize>
+    requires { 16 ≤ length bytes.now }
+    ensures { IsFirstByte (is_byte byte) bytes.now result }
+{
+    if bytes.len() <= 32 {
+        return find_ends::<16>(byte, bytes);
+    }
+    if bytes.len() <= 64 {
+        return find_ends::<32>(byte, bytes);
+    }
+    let mut at = 0;
     while bytes.len() - at >= 64 {
         let near = find_in::<64>(byte, bytes, at);
         if near.is_some() {
@@ -51,11 +83,11 @@ pub fn find_near(byte: u8, bytes: &[u8]) -> Option<usize>
     ensures { IsFirstByte (is_byte byte) bytes.now result }
 {
     if bytes.len() < 16 {
-        return find_far(byte, bytes, 0);
+        return find_few(byte, bytes);
     }
     let near = find_in::<16>(byte, bytes, 0);
     if near.is_some() {
         return near;
     }
-    find_far(byte, bytes, 16)
+    find_far(byte, bytes)
 }

@@ -514,7 +514,9 @@ fn a_byte_is_found(rt: HostRuntime) -> Result<(), Fail> {
     same(&rt, &find_in::<2>(b'\n', few, 0), &None);
     same(&rt, &find_in::<16>(b'\n', few, 6), &None);
     same(&rt, &find_near(b'\n', b""), &None);
-    for place in [0, 1, 15, 16, 29, 30, 31, 32, 33, 63, 64, 65, 8191, 20000] {
+    for place in [
+        0, 1, 2, 3, 4, 6, 7, 8, 12, 15, 16, 29, 30, 31, 32, 33, 63, 64, 65, 8191, 20000,
+    ] {
         finds(&rt, rt.alloc(), place)?;
     }
     Ok(())
