@@ -146,10 +146,10 @@ stop_done old now new before so_far after slot Memory f s = record {
   left = s.3;
 }
 
--- a line whose end is near was put into the slot at once
-module _ (old new : Reader) (block : List ℕ) (start end at : ℕ) (before after : Slots) (slot : ℕ) where
+-- a line whose end is one of the next n bytes was put into the slot at once
+module _ (n : ℕ) (old new : Reader) (block : List ℕ) (start end at : ℕ) (before after : Slots) (slot : ℕ) where
   -- the search went over the whole block
-  near_first : start ≤ at → at < end → end ≤ length block → slice_range block start end ≡ old.held → IsFirst (Passes (is_byte old.ending) block) start (start + 64) (Some at)
+  near_first : start ≤ at → at < end → end ≤ length block → slice_range block start end ≡ old.held → IsFirst (Passes (is_byte old.ending) block) start (start + n) (Some at)
       → IsFirstByte (is_byte old.ending) old.held (Some (at - start))
   near_first low high fits held first = (
     record {
@@ -157,7 +157,7 @@ module _ (old new : Reader) (block : List ℕ) (start end at : ℕ) (before afte
       high = omega (arith, low, high, length_range block start end (omega (arith, low, high)) fits, ap length held);
       before = λ k from to passes. first.0.before (start + k) (omega arith) (omega (arith, to, low)) (sym (there k (omega (arith, to, low, high))) ∙ passes);
     },
-    there (at - start) (omega (arith, low, high)) ∙ ap (λ (n : ℕ). is_byte old.ending (get_or block n 0)) back ∙ first.1,
+    there (at - start) (omega (arith, low, high)) ∙ ap (λ (k : ℕ). is_byte old.ending (get_or block k 0)) back ∙ first.1,
   )
     where
       back : start + (at - start) ≡ at
@@ -167,7 +167,7 @@ module _ (old new : Reader) (block : List ℕ) (start end at : ℕ) (before afte
       there k near = ap (is_byte old.ending) (ap (λ (l : List ℕ). get_or l k 0) (sym held) ∙ get_or-chunk start (end - start) block k 0 near)
 
   pub near_done : old.fault ≡ None → old.pulled < 2 ^ 63 → at < end → end ≤ length block → slice_range block start end ≡ old.held
-      → IsFirst (Passes (is_byte old.ending) block) start (start + 64) (Some at)
+      → IsFirst (Passes (is_byte old.ending) block) start (start + n) (Some at)
       → new ≡ record old { held = slice_range block (at + 1) end } → after ≡ with_line before slot (take (at - start) (drop start block)) → GivesLine old new before after slot
   near_done clean short high fits held first step stored =
       let size = at - start in
@@ -176,7 +176,7 @@ module _ (old new : Reader) (block : List ℕ) (start end at : ℕ) (before afte
       let within : size + 1 ≤ length old.held = omega (arith, found.0.high) in
       let past : start + (size + 1) ≡ at + 1 = omega (arith, low) in
       let rest : slice_range block (at + 1) end ≡ drop (size + 1) old.held =
-      ap (λ (n : ℕ). slice_range block n end) (sym past) ∙ rest_is block start end (size + 1) old.held (omega (arith, low, high)) fits held within in
+      ap (λ (k : ℕ). slice_range block k end) (sym past) ∙ rest_is block start end (size + 1) old.held (omega (arith, low, high)) fits held within in
       let moved : new ≡ record old { held = drop (size + 1) old.held } = step ∙ ap (λ (h : List ℕ). record old { held = h }) rest in
       let front : take size (drop start block) ≡ take size old.held =
       sym (take-take size (end - start) (drop start block) (omega (arith, low, high))) ∙ ap (take size) held in

@@ -76,7 +76,12 @@ list_of_8 xs l =
     later_4 (a ∷ b ∷ c ∷ []) l = absurd (omega arith)
     later_4 (a ∷ b ∷ c ∷ d ∷ xs) l = list_of_4 xs (omega arith)
 
--- what is read of as many bytes as a word has
+-- what is read of one byte, and of as many bytes as a word has
+word_1 : (at : ℕ) (xs : List ℕ) → at + 1 ≤ length xs → get_or xs at 0 ≡ number 0 (take 1 (drop at xs))
+word_1 at [] l = absurd (omega arith)
+word_1 zero (x ∷ xs) l = omega arith
+word_1 (suc at) (x ∷ xs) l = word_1 at xs (omega (arith, l))
+
 word_4 : (xs : List ℕ) → length xs ≡ 4 → from_be_bytes w32 xs ≡ number 0 xs
 word_4 xs l =
     let digits : from_be_bytes w32 xs ≡ number 0 (get_or xs 0 0 ∷ get_or xs 1 0 ∷ get_or xs 2 0 ∷ get_or xs 3 0 ∷ []) = omega arith in
@@ -154,6 +159,13 @@ module _ (at : ℕ) (a b : List ℕ) (x y : ℕ) (fa : (k : ℕ) → Fits w8 (ge
 
     pub four_same : x ≡ y → take (at + 4) a ≡ take (at + 4) b
     four_same is = words_same 4 at a b x y la lb fa fb same first_4 second_4 is
+
+  module _ (la : at + 1 ≤ length a) (lb : at + 1 ≤ length b) (first : x ≡ get_or a at 0) (second : y ≡ get_or b at 0) where
+    pub byte_differs : (x ≡ y → ⊥) → nat_cmp x y ≡ byte_cmp a b
+    byte_differs other = words_differ 1 at a b x y la lb fa fb same (first ∙ word_1 at a la) (second ∙ word_1 at b lb) other
+
+    pub byte_same : x ≡ y → take (at + 1) a ≡ take (at + 1) b
+    byte_same is = words_same 1 at a b x y la lb fa fb same (first ∙ word_1 at a la) (second ∙ word_1 at b lb) is
 
   module _ (la : at + 8 ≤ length a) (lb : at + 8 ≤ length b) (first : x ≡ from_be_bytes w64 (take 8 (drop at a))) (second : y ≡ from_be_bytes w64 (take 8 (drop at b))) where
     first_8 : x ≡ number 0 (take 8 (drop at a))

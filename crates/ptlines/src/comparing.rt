@@ -41,6 +41,20 @@ fn compare_far(a: &[u8], b: &[u8]) -> Ordering
     a.cmp(b)
 }
 
+// Byte order where the shorter one has a few bytes: one after another.
+#[inline(always)]
+fn compare_each(a: &[u8], b: &[u8]) -> Ordering
+    ensures { result ≡ byte_cmp a.now b.now }
+{
+    let least = a.len().min(b.len());
+    for at in 0..least {
+        if a[at] != b[at] {
+            return a[at].cmp(&b[at]);
+        }
+    }
+    a.len().cmp(&b.len())
+}
+
 // Byte order where the shorter one has less than 8 bytes: the first 4 and the last 4, which may overlap.
 #[inline(always)]
 fn compare_few(a: &[u8], b: &[u8]) -> Ordering
@@ -49,7 +63,7 @@ fn compare_few(a: &[u8], b: &[u8]) -> Ordering
 {
     let least = a.len().min(b.len());
     if least < 4 {
-        return compare_far(a, b);
+        return compare_each(a, b);
     }
     let (x, y) = (four(a, 0), four(b, 0));
     if x != y {

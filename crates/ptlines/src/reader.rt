@@ -290,9 +290,14 @@ impl<S: Source, R: Source> LineReader<S, R> {
         self.scan(store, slot)
     }
 
-    // Puts the next line into a slot, if its end is near in the block. False is that it is not, and nothing happens.
+    // Puts the next line into a slot, if its end is one of the next N bytes. False is that it is not, and nothing happens.
     #[inline(always)]
-    fn fill_near<A: Allocator + Copy>(&mut self, store: &mut Store<A>, slot: usize) -> bool
+    fn fill_near<const N: usize, A: Allocator + Copy>(
+        &mut self,
+        store: &mut Store<A>,
+        slot: usize,
+    ) -> bool
+        requires lanes { N ≤ 64 }
         requires clean { self.old.fault ≡ None }
         requires in_store { slot < length store.old.lines }
         ensures line { result ≡ true → GivesLine self.old self.new store.old store.new slot }
@@ -301,13 +306,13 @@ impl<S: Source, R: Source> LineReader<S, R> {
         ensures sound { IsSound self.new }
     {
         let from = self.start;
-        let Some(at) = find_in::<64>(self.ending, &self.block, from) else {
+        let Some(at) = find_in::<N>(self.ending, &self.block, from) else {
             return false;
         };
         if at >= self.end {
             return false;
         }
-        store.put_near(slot, &self.block, from, at - from);
+        store.put_near::<N>(slot, &self.block, from, at - from);
         self.start = at + 1;
         true
     }
@@ -358,7 +363,8 @@ impl<S: Source, R: Source> LineReader<S, R> {
         if let Some(fault) = self.fault() {
             return Err(fault);
         }
-        if self.fill_near(store, slot) {
+        // Of a short line fewer bytes are compared and stored.
+        if self.fill_near::<16, A>(store, slot) || self.fill_near::<64, A>(store, slot) {
             return Ok(true);
         }
         self.fill_far(store, slot)

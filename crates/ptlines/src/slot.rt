@@ -7,7 +7,7 @@ use std::marker::Model;
 use std::simd::prelude::*;
 
 // The first `size` bytes of the buffer are the line. At least 64 more stand behind them, whatever they are, so that
-// a line of less than 64 bytes is put into the slot by one store of 64.
+// a line of less than 64 bytes is put into the slot by one store of 16 or of 64.
 #[derive(Drop)]
 pub(crate) struct Slot<A: Allocator + Copy> {
     buffer: Vec<u8, A>,
@@ -59,14 +59,15 @@ impl<A: Allocator + Copy> Slot<A> {
         self.size = 0;
     }
 
-    // Makes the line these bytes, which are less than 64, of a place behind which 64 can be looked at.
+    // Makes the line these bytes, which are less than N, of a place behind which N can be looked at.
     #[inline(always)]
-    pub(crate) fn put_near(&mut self, bytes: &[u8], from: usize, size: usize)
-        requires near { size < 64 }
-        requires within { from + 64 ≤ length bytes.now }
+    pub(crate) fn put_near<const N: usize>(&mut self, bytes: &[u8], from: usize, size: usize)
+        requires lanes { N ≤ 64 }
+        requires near { size < N }
+        requires within { from + N ≤ length bytes.now }
         ensures { self.new ≡ take size (drop from bytes.now) }
     {
-        u8x64::from_slice(&bytes[from..]).copy_to_slice(&mut self.buffer);
+        Simd::<u8, N>::from_slice(&bytes[from..]).copy_to_slice(&mut self.buffer);
         self.size = size;
     }
 

@@ -143,16 +143,23 @@ impl<A: Allocator + Copy> Store<A> {
         self.held -= count as u128;
     }
 
-    // Makes a slot hold a line of less than 64 bytes, from a place behind which 64 bytes can be looked at.
+    // Makes a slot hold a line of less than N bytes, from a place behind which N bytes can be looked at.
     #[inline(always)]
-    pub(crate) fn put_near(&mut self, slot: usize, bytes: &[u8], from: usize, size: usize)
+    pub(crate) fn put_near<const N: usize>(
+        &mut self,
+        slot: usize,
+        bytes: &[u8],
+        from: usize,
+        size: usize,
+    )
         requires in_store { slot < length self.old.lines }
-        requires near { size < 64 }
-        requires within { from + 64 ≤ length bytes.now }
+        requires lanes { N ≤ 64 }
+        requires near { size < N }
+        requires within { from + N ≤ length bytes.now }
         ensures { self.new ≡ with_line self.old slot (take size (drop from bytes.now)) }
     {
         let was = self.slots[slot].size();
-        self.slots[slot].put_near(bytes, from, size);
+        self.slots[slot].put_near::<N>(bytes, from, size);
         self.held = self.held - was as u128 + size as u128;
         self.peak = self.peak.max(self.held);
     }

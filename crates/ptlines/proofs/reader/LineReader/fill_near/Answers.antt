@@ -17,6 +17,6 @@ returns-clause-line g c given =
       ap
           (λ (r : Reader). r.pulled) c.self.view_is,
     ) in
-    let first = subst (λ (b : ℕ). IsFirst (Passes (is_byte b) r.block) r.start (r.start + 64) (Some c.in-Some.at)) (ap (λ (r : Reader). r.ending) c.self.view_is) c.in-Some.ensures in
-    near_done c.args.self.now _ r.block r.start r.end c.in-Some.at c.args.store.now c.put_near.new.self c.args.slot c.requires.clean short high fits held first
+    let first = subst (λ (b : ℕ). IsFirst (Passes (is_byte b) r.block) r.start (r.start + g.row.N) (Some c.in-Some.at)) (ap (λ (r : Reader). r.ending) c.self.view_is) c.in-Some.ensures in
+    near_done g.row.N c.args.self.now _ r.block r.start r.end c.in-Some.at c.args.store.now c.put_near.new.self c.args.slot c.requires.clean short high fits held first
     (λ i. record (c.self.view_is i) { held = slice_range r.block (c.in-Some.at + 1) r.end }) c.put_near.ensures

@@ -9,9 +9,10 @@ pub returns : goal.returns
 returns g c =
     let buffer = c.self.inside.buffer in
     let was = c.deref_mut.result.now in
-    let lanes = chunk c.args.from 64 c.args.bytes.now in
+    let n = g.row.N in
+    let lanes = chunk c.args.from n c.args.bytes.now in
     let long : length (put_chunk 0 was lanes) ≡ buffer.len = length-put_chunk 0 was lanes ∙ c.deref_mut.ensures.len in
-    let room : 64 ≤ length was = omega (arith, c.self.invariant.1, c.deref_mut.ensures.len) in
-    let few : c.args.size ≤ 64 = omega (arith, c.requires.near) in
+    let room : n ≤ length was = omega (arith, c.requires.lanes, c.self.invariant.1, c.deref_mut.ensures.len) in
+    let few : c.args.size ≤ n = omega (arith, c.requires.near) in
     ap (take c.args.size) (with_items_is buffer (put_chunk 0 was lanes) long)
-    ∙ first_copied c.args.size 64 c.args.from was c.args.bytes.now few room c.requires.within
+    ∙ first_copied c.args.size n c.args.from was c.args.bytes.now few room c.requires.within
