@@ -10,3 +10,4 @@ pub mod JoinEntries
 pub mod JoinRows
 pub mod JoinSlots
 pub mod JoinTurns
+pub mod Lanes

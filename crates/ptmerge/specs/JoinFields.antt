@@ -1,6 +1,7 @@
 -- What is left of a line whose fields are taken one after another.
-use Rattle.std.specs.Prelude.{◌≡◌, ◌++◌, ℕ, MatchOption, ◌==◌, List, [], ◌∷◌, Option, Some, None, Bool, false, not, ◌||◌, ◌&&◌, if◌then◌else◌}
+use Rattle.std.specs.Prelude.{◌≡◌, ◌++◌, ℕ, MatchOption, ◌==◌, List, [], ◌∷◌, Option, Some, None, Bool, false, true, not, ◌||◌, ◌&&◌, ◌-◌, slice_index, if◌then◌else◌}
 use Rattle.std.specs.List.{flat_map}
+use Rattle.memchr.specs.Find.{Nowhere}
 use Rattle.ptmerge.specs.Keyed.{Lines}
 use Rattle.ptmerge.specs.Join.{fields, is_blank}
 
@@ -22,6 +23,19 @@ led byte fs = flat_map (λ f. byte ∷ f) fs
 abbrev pub is_tidy : Bool → List ℕ → Bool
 is_tidy blank [] = not blank
 is_tidy blank (b ∷ bytes) = if (b == 9) || (blank && (b == 32)) then false else is_tidy (b == 32) bytes
+
+-- a tab, or a space behind another one
+abbrev pub is_uneven : ℕ → ℕ → Bool
+is_uneven before b = (b == 9) || ((before == 32) && (b == 32))
+
+-- the byte at a place is such a one
+abbrev pub UnevenAt : List ℕ → ℕ → Type 0
+UnevenAt bytes k = is_uneven (slice_index bytes (k - 1)) (slice_index bytes k) ≡ true
+
+-- Whether no byte from one place up to another is a tab, or a space behind another one.
+pub record IsEven (bytes : List ℕ) (from to : ℕ) (even : Bool) : Type 0 where
+  pub so : even ≡ true → Nowhere (UnevenAt bytes) from to
+  pub not_so : even ≡ false → ¬ Nowhere (UnevenAt bytes) from to
 
 -- These bytes are a field in front of what is left of a line: with one byte between them, or at the end.
 pub record IsPiece (line field : List ℕ) (behind : Option (List ℕ)) : Type 0 where

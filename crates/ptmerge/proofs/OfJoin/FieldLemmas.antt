@@ -1,13 +1,13 @@
 -- The fields of a line, one after another, and what is written of them.
-use Rattle.std.proofs.Common.{◌≡◌, ℕ, zero, suc, ◌+◌, ◌-◌, ◌<◌, ◌≤◌, ◌==◌, Bool, true, false, ltb, cond, List, [], ◌∷◌, Option, None, Some, length, drop}
-use Rattle.std.proofs.Common.{get_or, refl, sym, ◌∙◌, ap, subst, arith, min, ◌||◌}
+use Rattle.std.proofs.Common.{◌≡◌, ℕ, zero, suc, ◌+◌, ◌-◌, ◌<◌, ◌≤◌, Bool, true, false, ltb, cond, List, [], ◌∷◌, Option, None, Some, length, drop}
+use Rattle.std.proofs.Common.{get_or, refl, sym, ◌∙◌, ap, subst, arith}
 use Rattle.std.specs.Prelude.{filter, position, MatchOption}
 use Rattle.std.specs.List.{slice_split, position_or_len}
 use Rattle.std.proofs.lemmas.Bool.Decides.{nat_tests}
 use Rattle.std.proofs.lemmas.List.{get_or-drop, drop-drop}
 use Rattle.std.proofs.lemmas.List.Sums.{position_or_len_is}
-use Rattle.memchr.specs.Find.{IsFirst, IsFirstByte, Passes, is_byte}
-use Rattle.ptmerge.specs.Join.{fields, nth_field, has_bytes, is_blank}
+use Rattle.memchr.specs.Find.{IsFirstByte}
+use Rattle.ptmerge.specs.Join.{fields, nth_field, has_bytes}
 use Rattle.ptmerge.specs.JoinFields.{ends_field, fields_left}
 use Rattle.ptmerge.specs.Keyed.{Lines}
 
@@ -23,52 +23,15 @@ past n = grind (arith, nat_tests)
 before : (i n : ℕ) → i < n → ltb i n ≡ true
 before i n h = grind (arith, nat_tests)
 
-pub found_at : (c : ℕ) (bytes : List ℕ) (r : Option ℕ) → IsFirstByte (is_byte c) bytes r → r ≡ position (ends_field (Some c)) bytes
-found_at c bytes None none =
-    let is : position_or_len (λ b. b == c) bytes ≡ length bytes = position_or_len_is (λ b. b == c) bytes (length bytes) 0 (omega arith)
-    (λ k lt. not_true (get_or bytes k 0 == c) (none k (omega arith) lt)) (λ bad. absurd (omega (arith, bad))) in
+pub found_at : (test : ℕ → Bool) (bytes : List ℕ) (r : Option ℕ) → IsFirstByte test bytes r → r ≡ position test bytes
+found_at test bytes None none =
+    let is : position_or_len test bytes ≡ length bytes = position_or_len_is test bytes (length bytes) 0 (omega arith)
+    (λ k lt. not_true (test (get_or bytes k 0)) (none k (omega arith) lt)) (λ bad. absurd (omega (arith, bad))) in
     sym (ap (λ i. cond (ltb i (length bytes)) (Some i) None) is ∙ ap (λ t. cond t (Some (length bytes)) None) (past (length bytes)))
-found_at c bytes (Some at) first =
-    let is : position_or_len (λ b. b == c) bytes ≡ at = position_or_len_is (λ b. b == c) bytes at 0 (omega (arith, first.0.high))
-    (λ k lt. not_true (get_or bytes k 0 == c) (first.0.before k (omega arith) lt)) (λ _. first.1) in
+found_at test bytes (Some at) first =
+    let is : position_or_len test bytes ≡ at = position_or_len_is test bytes at 0 (omega (arith, first.0.high))
+    (λ k lt. not_true (test (get_or bytes k 0)) (first.0.before k (omega arith) lt)) (λ _. first.1) in
     sym (ap (λ i. cond (ltb i (length bytes)) (Some i) None) is ∙ ap (λ t. cond t (Some at) None) (before at (length bytes) first.0.high))
-
--- the first blank, by the first space and the first tab among the first 16 bytes
-module _ (bytes : List ℕ) (room : 16 ≤ length bytes) where
-  at_first : (at : ℕ) → at < length bytes → ((k : ℕ) → k < at → is_blank (get_or bytes k 0) ≡ false) → is_blank (get_or bytes at 0) ≡ true → Some at ≡ position is_blank bytes
-  at_first at low none here =
-      let is : position_or_len is_blank bytes ≡ at = position_or_len_is is_blank bytes at 0 (omega arith) none (λ _. here) in
-      sym (ap (λ i. cond (ltb i (length bytes)) (Some i) None) is ∙ ap (λ t. cond t (Some at) None) (before at (length bytes) low))
-
-  neither : (b : ℕ) → ¬ ((b == 32) ≡ true) → ¬ ((b == 9) ≡ true) → is_blank b ≡ false
-  neither b n m = λ i. not_true (b == 32) n i || not_true (b == 9) m i
-
-  is_space : (b : ℕ) → (b == 32) ≡ true → is_blank b ≡ true
-  is_space b e = λ i. e i || (b == 9)
-
-  is_tab : (b : ℕ) → (b == 9) ≡ true → is_blank b ≡ true
-  is_tab b e = by (b == 32)
-    where
-      by : (t : Bool) → (t || (b == 9)) ≡ true
-      by true = refl
-      by false = e
-
-  pub space_first : (at : ℕ) → IsFirst (Passes (is_byte 32) bytes) 0 16 (Some at) → IsFirst (Passes (is_byte 9) bytes) 0 16 None → Some at ≡ position is_blank bytes
-  space_first at s t =
-      at_first at (omega (arith, s.0.high)) (λ k lt. neither (get_or bytes k 0) (s.0.before k (omega arith) lt) (t k (omega arith) (omega (arith, s.0.high)))) (is_space (get_or bytes at 0) s.1)
-
-  pub tab_first : (at : ℕ) → IsFirst (Passes (is_byte 32) bytes) 0 16 None → IsFirst (Passes (is_byte 9) bytes) 0 16 (Some at) → Some at ≡ position is_blank bytes
-  tab_first at s t =
-      at_first at (omega (arith, t.0.high)) (λ k lt. neither (get_or bytes k 0) (s k (omega arith) (omega (arith, t.0.high))) (t.0.before k (omega arith) lt)) (is_tab (get_or bytes at 0) t.1)
-
-  pub least_first : (a b : ℕ) → IsFirst (Passes (is_byte 32) bytes) 0 16 (Some a) → IsFirst (Passes (is_byte 9) bytes) 0 16 (Some b) → Some (min a b) ≡ position is_blank bytes
-  least_first a b s t =
-      at_first (min a b) (omega (arith, s.0.high)) (λ k lt. neither (get_or bytes k 0) (s.0.before k (omega arith) (omega (arith, lt)))
-      (t.0.before k (omega arith) (omega (arith, lt)))) (by (ltb b a) refl)
-    where
-      by : (u : Bool) → ltb b a ≡ u → is_blank (get_or bytes (min a b) 0) ≡ true
-      by true e = let is : min a b ≡ b = grind (arith, nat_tests) in is_tab (get_or bytes (min a b) 0) (ap (λ i. get_or bytes i 0 == 9) is ∙ t.1)
-      by false e = let is : min a b ≡ a = grind (arith, nat_tests) in is_space (get_or bytes (min a b) 0) (ap (λ i. get_or bytes i 0 == 32) is ∙ s.1)
 
 -- ---- one field after another
 

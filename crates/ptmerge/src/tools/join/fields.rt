@@ -1,17 +1,19 @@
 //! The fields of a line of `join`, and writing them.
-ghost use Rattle.std.specs.Prelude.{◌≡◌, ◌++◌, ◌∷◌, [], None, Some, ◌<◌, ◌≤◌, ◌-◌, length, position, option_copied, true, false, OnOk, OnErr, IfSome, MatchOption};
+ghost use Rattle.std.specs.Prelude.{◌≡◌, ◌++◌, ◌∷◌, [], None, Some, ◌<◌, ◌≤◌, ◌+◌, ◌-◌, length, position, option_copied, true, false, OnOk, OnErr, IfSome, MatchOption};
 ghost use Rattle.std.specs.List.{slice_split};
 ghost use Rattle.ptlines.specs.Outputs.{Wrote};
 ghost use Rattle.ptlangs.specs.Jobs.{join_job};
 ghost use Rattle.ptmerge.specs.Join.{is_blank, nth_field, others, between, filled, named, entry};
-ghost use Rattle.ptmerge.specs.JoinFields.{IsFieldIn, IsPiece, ends_field, fields_left, is_tidy, led};
+ghost use Rattle.memchr.specs.Find.{IsFirst, IsFirstByte, Passes};
+ghost use Rattle.ptmerge.specs.JoinFields.{IsFieldIn, IsPiece, IsEven, ends_field, fields_left, is_tidy, led};
 ghost use Rattle.ptmerge.specs.Spans.{IsSpan};
 
 use crate::order::Span;
 use ptlangs::jobs::JoinJob;
 use ptlangs::outlist::{File, OutField, OutList};
-use ptlines::{Out, Sink, WriteFault, find_in, find_near};
+use ptlines::{Out, Sink, WriteFault, find_near};
 use std::alloc::Allocator;
+use std::simd::prelude::*;
 
 fn is_blank(byte: u8) -> bool
     ensures { result ≡ is_blank byte }
@@ -19,29 +21,82 @@ fn is_blank(byte: u8) -> bool
     byte == b' ' || byte == b'\t'
 }
 
-// The first blank, byte by byte.
+// The first blank among the N bytes from a place on, which are looked at all at once.
+#[inline(always)]
+fn find_blank_in<const N: usize>(bytes: &[u8], at: usize) -> Option<usize>
+    requires lanes { N ≤ 64 }
+    requires within { at + N ≤ length bytes.now }
+    ensures { IsFirst (Passes is_blank bytes.now) at (at + N) result }
+{
+    let lanes = Simd::<u8, N>::from_slice(&bytes[at..]);
+    let blank = lanes.simd_eq(Simd::splat(b' ')) | lanes.simd_eq(Simd::splat(b'\t'));
+    let marked = blank.to_bitmask();
+    if marked == 0 {
+        return None;
+    }
+    Some(at + marked.trailing_zeros() as usize)
+}
+
+// The first blank among N bytes or up to twice as many: in the first N or in the last N, which may overlap.
+#[inline(always)]
+fn find_blank_ends<const N: usize>(bytes: &[u8]) -> Option<usize>
+    requires lanes { N ≤ 64 }
+    requires few { (N ≤ length bytes.now) × (length bytes.now ≤ N + N) }
+    ensures { IsFirstByte is_blank bytes.now result }
+{
+    match find_blank_in::<N>(bytes, 0) {
+        Some(at) => Some(at),
+        None => find_blank_in::<N>(bytes, bytes.len() - N),
+    }
+}
+
+// The first blank among fewer than 16 bytes.
+#[inline(never)]
+fn find_blank_few(bytes: &[u8]) -> Option<usize>
+    requires { length bytes.now < 16 }
+    ensures { IsFirstByte is_blank bytes.now result }
+{
+    if bytes.len() >= 8 {
+        return find_blank_ends::<8>(bytes);
+    }
+    if bytes.len() >= 4 {
+        return find_blank_ends::<4>(bytes);
+    }
+    match bytes.len() {
+        0 => None,
+        1 => find_blank_ends::<1>(bytes),
+        _ => find_blank_ends::<2>(bytes),
+    }
+}
+
+// The first blank among 16 bytes or more. Apart, so that what is near is found without a call.
 #[inline(never)]
 fn find_blank_far(bytes: &[u8]) -> Option<usize>
-    ensures { result ≡ position is_blank bytes.now }
+    requires { 16 ≤ length bytes.now }
+    ensures { IsFirstByte is_blank bytes.now result }
 {
-    bytes.iter().position(|byte| is_blank(*byte))
+    let mut at = 0;
+    while bytes.len() - at >= 16 {
+        let near = find_blank_in::<16>(bytes, at);
+        if near.is_some() {
+            return near;
+        }
+        at += 16;
+    }
+    find_blank_in::<16>(bytes, bytes.len() - 16)
 }
 
 // The first blank, which often is one of the first 16 bytes.
 #[inline(always)]
 fn find_blank(bytes: &[u8]) -> Option<usize>
-    ensures { result ≡ position is_blank bytes.now }
+    ensures { IsFirstByte is_blank bytes.now result }
 {
     if bytes.len() < 16 {
-        return find_blank_far(bytes);
+        return find_blank_few(bytes);
     }
-    let space = find_in::<16>(b' ', bytes, 0);
-    let tab = find_in::<16>(b'\t', bytes, 0);
-    match (space, tab) {
-        (None, None) => find_blank_far(bytes),
-        (Some(space), None) => Some(space),
-        (None, Some(tab)) => Some(tab),
-        (Some(space), Some(tab)) => Some(space.min(tab)),
+    match find_blank_in::<16>(bytes, 0) {
+        Some(at) => Some(at),
+        None => find_blank_far(bytes),
     }
 }
 
@@ -242,18 +297,86 @@ fn push_led<W: Sink>(byte: u8, field: &[u8], out: &mut Out<W>) -> Result<(), Wri
     out.push_line(&[byte], field, b"")
 }
 
+// Whether of the N bytes from a place on none is a tab, or a space behind another one.
+#[inline(always)]
+fn is_even_in<const N: usize>(bytes: &[u8], at: usize) -> bool
+    requires lanes { N ≤ 64 }
+    requires behind { 0 < at }
+    requires within { at + N ≤ length bytes.now }
+    ensures { IsEven bytes.now at (at + N) result }
+{
+    let space = Simd::splat(b' ');
+    let before = Simd::<u8, N>::from_slice(&bytes[at - 1..]);
+    let lanes = Simd::<u8, N>::from_slice(&bytes[at..]);
+    let doubled = before.simd_eq(space) & lanes.simd_eq(space);
+    let uneven = lanes.simd_eq(Simd::splat(b'\t')) | doubled;
+    uneven.to_bitmask() == 0
+}
+
+// The same of all bytes behind the first one, which are N or up to twice as many: the first N and the last N.
+#[inline(always)]
+fn is_even_at_ends<const N: usize>(bytes: &[u8]) -> bool
+    requires lanes { N ≤ 64 }
+    requires few { (N < length bytes.now) × (length bytes.now ≤ N + N + 1) }
+    ensures { IsEven bytes.now 1 (length bytes.now) result }
+{
+    is_even_in::<N>(bytes, 1) && is_even_in::<N>(bytes, bytes.len() - N)
+}
+
+// The same of fewer than 17 bytes.
+#[inline(always)]
+fn is_even_few(bytes: &[u8]) -> bool
+    requires { (0 < length bytes.now) × (length bytes.now ≤ 16) }
+    ensures { IsEven bytes.now 1 (length bytes.now) result }
+{
+    if bytes.len() > 8 {
+        return is_even_at_ends::<8>(bytes);
+    }
+    if bytes.len() > 4 {
+        return is_even_at_ends::<4>(bytes);
+    }
+    match bytes.len() {
+        1 => true,
+        2 => is_even_at_ends::<1>(bytes),
+        _ => is_even_at_ends::<2>(bytes),
+    }
+}
+
+// The same of more than 16 bytes.
+#[inline(always)]
+fn is_even_far(bytes: &[u8]) -> bool
+    requires { 16 < length bytes.now }
+    ensures { IsEven bytes.now 1 (length bytes.now) result }
+{
+    if bytes.len() <= 33 {
+        return is_even_at_ends::<16>(bytes);
+    }
+    if bytes.len() <= 64 {
+        return is_even_at_ends::<32>(bytes);
+    }
+    let mut at = 1;
+    while bytes.len() - at >= 64 {
+        if !is_even_in::<64>(bytes, at) {
+            return false;
+        }
+        at += 64;
+    }
+    is_even_in::<64>(bytes, bytes.len() - 64)
+}
+
 // Whether these bytes are words with one space between each two.
+#[inline(never)]
 fn is_tidy(bytes: &[u8]) -> bool
     ensures { result ≡ is_tidy true bytes.now }
 {
-    let mut blank = true;
-    for byte in bytes {
-        if *byte == b'\t' || (blank && *byte == b' ') {
-            return false;
-        }
-        blank = *byte == b' ';
+    if bytes.is_empty() || is_blank(bytes[0]) || bytes[bytes.len() - 1] == b' ' {
+        return false;
     }
-    !blank
+    if bytes.len() <= 16 {
+        is_even_few(bytes)
+    } else {
+        is_even_far(bytes)
+    }
 }
 
 // Pushes all fields of what is left of a line, each with a space in front of it.
