@@ -3,7 +3,7 @@ use Rattle.std.proofs.Common.{◌≡◌, ◌⊎◌, inl, inr, ℕ, ◌+◌, ◌*
 use Rattle.std.proofs.Common.{set, refl, sym, ap, ◌∙◌, subst, arith, append_assoc, length-append, length-drop}
 use Rattle.std.specs.Prelude.{bytes_eq}
 use Rattle.std.specs.Cmp.Lexicographic.{bytes_decides}
-use Rattle.std.proofs.lemmas.List.{length-set, drop-set-add, drop-set-lt, length_push}
+use Rattle.std.proofs.lemmas.List.{get_or-drop, length-set, drop-set-add, drop-set-lt, length_push}
 use Rattle.std.proofs.lemmas.List.Sums.{sum_by-append, sum_by_push, sum_by-cons}
 use Rattle.std.proofs.Math.ListN.{get_or-append}
 use Rattle.ptlines.specs.Slots.{Slots, line, total, with_line, with_added}
@@ -290,6 +290,13 @@ module _ (key : Key) (before store : Slots) (ls : Side → Lines) (g : Lines) (k
         four = four;
         denied = c.denied ∙ k.denied;
       }
+
+  -- the lines of the group stand in its slots
+  pub kept_line : (slot : ℕ) → 4 ≤ slot → slot < 4 + length g → line store slot ≡ get_or g (slot - 4) []
+  kept_line slot from low =
+      let back : 4 + (slot - 4) ≡ slot = omega arith in
+      sym (ap (λ i. get_or store.lines i []) back) ∙ sym (get_or-drop 4 store.lines (slot - 4) [])
+      ∙ ap (λ (l : Lines). get_or l (slot - 4) []) k.split ∙ get_or-append g k.tail [] (slot - 4) (omega (arith, from, low))
 
   pub group_is : (end : ℕ) → end ≡ 4 + length g → group store end ≡ g
   group_is end at =

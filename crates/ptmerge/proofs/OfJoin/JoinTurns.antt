@@ -1,5 +1,5 @@
 -- What each turn of `join` does, and each way out of it.
-use Rattle.std.proofs.Common.{◌≡◌, ◌⊎◌, inl, inr, ℕ, ◌+◌, ◌*◌, ◌≤◌, ◌<◌, ◌&&◌, Bool, true, false, List, [], ◌∷◌, ◌++◌, Some, None, Result, Ok, Err, length, max}
+use Rattle.std.proofs.Common.{◌≡◌, ◌⊎◌, inl, inr, ℕ, ◌+◌, ◌-◌, ◌*◌, ◌≤◌, ◌<◌, ◌&&◌, Bool, true, false, List, [], ◌∷◌, ◌++◌, Some, None, Result, Ok, Err, length, max}
 use Rattle.std.proofs.Common.{refl, sym, ◌∙◌, ap, subst, arith, append_assoc}
 use Rattle.std.specs.Prelude.{bytes_eq}
 use Rattle.std.specs.Cmp.Lexicographic.{bytes_decides}
@@ -36,8 +36,8 @@ use Rattle.ptmerge.proofs.OfComm.CommTurns.{Running, breaks_slots, same_reader}
 use Rattle.ptmerge.proofs.OfMerges.Got.{reads_nothing}
 use Rattle.ptmerge.proofs.OfJoin.GroupStops.{halts}
 use Rattle.ptmerge.proofs.OfJoin.GroupTurns.{Grouped, IsPairing, closes, group_breaks, own_more, passing, past_group, standing, starts}
-use Rattle.ptmerge.proofs.OfJoin.JoinSlots.{InGroup, Keeping, Kept, end_within, group_in, keeping_cleared, keeping_kept, keeping_line, keeping_starts}
-use Rattle.ptmerge.proofs.OfMerges.Least.{EachKey}
+use Rattle.ptmerge.proofs.OfJoin.JoinSlots.{InGroup, Keeping, Kept, end_within, group_in, kept_line, keeping_cleared, keeping_kept, keeping_line, keeping_starts}
+use Rattle.ptmerge.proofs.OfMerges.Least.{EachKey, EachKey-at}
 use Rattle.ptmerge.proofs.OfMerges.Orders.{IsKeyOrder, AtMost, self_at_most}
 use Rattle.ptmerge.proofs.OfMerges.Pairs.{put_each, put_other, put_same}
 use Rattle.ptmerge.proofs.OfMerges.Passing.{Late, Merging, late_none}
@@ -524,6 +524,12 @@ module _ (tool : Tool) (o : IsKeyOrder tool.cmp) (pairs : List ℕ → Lines →
         (starts tool o pairs laws r.k now_g own_pair r.q.d r.q.within.beyond (inr (r.some, r.above))) now.store r.q.keeps.denied
         (λ piece all w. peak_line now.store First (place First) r.q.ls all (r.g Second) piece (slots First) r.q.keeps (λ side. omega (arith, (w side).1))
         (omega (arith, (w First).1)) (w Second).0.more (w Second).0.is) reader after fault e.1
+
+  -- each line of the group has its key
+  pub keyed_slot : (now : State) (place : Side → Sorted) (end : ℕ) (r : Pairing now place end) (slot : ℕ) → 4 ≤ slot → slot < end → tool.key Second (line now.store slot) ≡ r.k
+  keyed_slot now place end r slot from low =
+      ap (tool.key Second) (kept_line (tool.key Second) old.store now.store r.q.ls (r.g Second) r.q.keeps slot from (omega (arith, low, r.q.at)))
+      ∙ EachKey-at (λ x. x ≡ r.k) (tool.key Second) (r.g Second) (slot - 4) (omega (arith, from, low, r.q.at)) (r.q.within.own Second)
 
   -- the group is closed
   pub closed : (now : State) (place : Side → Sorted) (end : ℕ) (k : List ℕ) (g : Side → Lines) (q : Grouped tool o pairs laws old unfailed now place end k g)

@@ -1,5 +1,5 @@
 -- The entries of a least key come first, and then those of the lines of other keys.
-use Rattle.std.proofs.Common.{◌≡◌, ◌⊎◌, inl, inr, ℕ, List, [], ◌∷◌, ◌++◌, Bool, true, false, cond, refl, ap, sym, ◌∙◌, subst, map, append_assoc}
+use Rattle.std.proofs.Common.{◌≡◌, ◌⊎◌, inl, inr, ℕ, ◌<◌, arith, length, get_or, suc, zero, List, [], ◌∷◌, ◌++◌, Bool, true, false, cond, refl, ap, sym, ◌∙◌, subst, map, append_assoc}
 use Rattle.std.proofs.lemmas.List.{append-nil}
 use Rattle.std.specs.Prelude.{filter, bytes_eq, flat_map}
 use Rattle.std.specs.declared.cmp.Ordering.TheVariants.{Less, Equal, Greater}
@@ -24,6 +24,11 @@ EachKey P key (x ∷ xs) = P (key x) × EachKey P key xs
 pub Each-weaker : (P Q : List ℕ → Type 0) → ((x : List ℕ) → P x → Q x) → (xs : Lines) → Each P xs → Each Q xs
 Each-weaker P Q f [] e = tt
 Each-weaker P Q f (x ∷ xs) e = (f x e.0, Each-weaker P Q f xs e.1)
+
+pub EachKey-at : (P : List ℕ → Type 0) (key : Key) (xs : Lines) (i : ℕ) → i < length xs → EachKey P key xs → P (key (get_or xs i []))
+EachKey-at P key [] i low e = absurd (omega (arith, low))
+EachKey-at P key (x ∷ xs) zero low e = e.0
+EachKey-at P key (x ∷ xs) (suc i) low e = EachKey-at P key xs i (omega (arith, low)) e.1
 
 pub EachKey-weaker : (P Q : List ℕ → Type 0) → ((x : List ℕ) → P x → Q x) → (key : Key) (xs : Lines) → EachKey P key xs → EachKey Q key xs
 EachKey-weaker P Q f key [] e = tt

@@ -2,10 +2,10 @@
 //!
 //! `groups` are those lines, `fields` the fields of a line and the entry that is written of two.
 
-ghost use Rattle.std.specs.Prelude.{◌≡◌, ◌<◌, ◌≤◌, ℕ, List, ◌++◌, ◌∷◌, [], option_copied, false, true, length, OnOk, OnErr};
+ghost use Rattle.std.specs.Prelude.{◌≡◌, ◌<◌, ◌≤◌, ℕ, List, ◌++◌, ◌∷◌, [], option_copied, false, true, length, IfSome, OnOk, OnErr};
 ghost use Rattle.ptlangs.specs.Jobs.{join_job};
 ghost use Rattle.ptlines.specs.Outputs.{Wrote};
-ghost use Rattle.ptlines.specs.Slots.{line};
+ghost use Rattle.ptlines.specs.Slots.{line, line as line_of};
 ghost use Rattle.ptlines.specs.Text.{text};
 ghost use Rattle.ptlines.specs.Readers.{IsSound};
 ghost use Rattle.ptmerge.specs.Groups.{AddsLeast, group};
@@ -26,7 +26,7 @@ use crate::faults::MergeFault;
 use crate::merging::slots::clear_four;
 use crate::merging::{Merge, Step, send_before_wait};
 use crate::order::{Descending, FieldKeys, KeyOrder, Side};
-use crate::tools::join::fields::{nth_field, push_entry};
+use crate::tools::join::fields::push_entry;
 use crate::tools::join::groups::{clear_group, gather};
 use ptlangs::jobs::JoinJob;
 use ptlines::{LineReader, Out, Sink, Source, Store, WriteFault};
@@ -41,7 +41,9 @@ fn push_line<A: Allocator, W: Sink>(
     ending: u8,
     out: &mut Out<W>,
 ) -> Result<(), WriteFault>
-    requires { out.old.faulted ≡ false }
+    requires keyed1 { IfSome (option_copied one) (λ line. join_key (join_job job.now) Of.First line ≡ key.now) }
+    requires keyed2 { IfSome (option_copied two) (λ line. join_key (join_job job.now) Of.Second line ≡ key.now) }
+    requires clean { out.old.faulted ≡ false }
     ensures wrote { Wrote out.old out.new (entry (join_job job.now) key.now
         (fields_left (join_job job.now).separator (option_copied one.entry))
         (fields_left (join_job job.now).separator (option_copied two.entry)) ++ ending ∷ []) }
@@ -56,11 +58,13 @@ fn push_line<A: Allocator, W: Sink>(
 fn push_alone<A: Allocator, W: Sink>(
     job: &JoinJob<A>,
     side: Side,
+    key: &[u8],
     line: &[u8],
     ending: u8,
     out: &mut Out<W>,
 ) -> Result<(), WriteFault>
-    requires { out.old.faulted ≡ false }
+    requires keyed { join_key (join_job job.now) side line.now ≡ key.now }
+    requires clean { out.old.faulted ≡ false }
     ensures wrote { Wrote out.old out.new (text ending (alone_entry (join_job job.now) side line.now)) }
     ensures clean { OnOk result (out.new.faulted ≡ false) }
     ensures fault { OnErr result (out.new.faulted ≡ true) }
@@ -70,14 +74,12 @@ fn push_alone<A: Allocator, W: Sink>(
             if !job.unpaired[0] {
                 return Ok(());
             }
-            let key = nth_field(job.sep, job.field[0], Some(line));
             push_line(job, key, Some(line), None, ending, out)
         }
         Side::Second => {
             if !job.unpaired[1] {
                 return Ok(());
             }
-            let key = nth_field(job.sep, job.field[1], Some(line));
             push_line(job, key, None, Some(line), ending, out)
         }
     }
@@ -94,6 +96,9 @@ fn push_pairs<A: Allocator + Copy, W: Sink>(
     out: &mut Out<W>,
 ) -> Result<(), WriteFault>
     requires within { end ≤ length store.now.lines }
+    requires keyed1 { join_key (join_job job.now) Of.First line.now ≡ key.now }
+    requires keyed2 { (slot : ℕ) → 4 ≤ slot → slot < end →
+        join_key (join_job job.now) Of.Second (line_of store.now slot) ≡ key.now }
     requires clean { out.old.faulted ≡ false }
     ensures wrote { let pairs = pairs_of (join_job job.now) key.now (line.now ∷ []) (group store.now end) in
         Wrote out.old out.new (text ending pairs) }
@@ -122,6 +127,7 @@ fn pass_alone<K: KeyOrder, A: Allocator + Copy, S: Source, R: Source, W: Sink>(
     requires placed { IsPlaced (K.key_of merge.old.order) merge.old.first merge.old.second store.old }
     requires stands { (both merge.old.first merge.old.second side).stand ≡ stands.Head }
     requires lent { IsLent (both merge.old.first merge.old.second side) reader.old }
+    requires keys { (side : Sided) (line : List ℕ) → K.key_of merge.old.order side line ≡ join_key (join_job job.now) side line }
     requires clean { out.old.faulted ≡ false }
     ensures wrote { let standing = line store.old (both merge.old.first merge.old.second side).standing in
         Wrote out.old out.new (text ending (alone_entry (join_job job.now) side standing)) }
@@ -135,7 +141,8 @@ fn pass_alone<K: KeyOrder, A: Allocator + Copy, S: Source, R: Source, W: Sink>(
     ensures placed { OnOk result (IsPlaced (K.key_of merge.new.order) merge.new.first merge.new.second store.new) }
     ensures lent { OnOk result (IsLent (both merge.new.first merge.new.second side) reader.new) }
 {
-    match push_alone(job, side, merge.head(side, store), ending, out) {
+    let key = merge.key(side, store);
+    match push_alone(job, side, key, merge.head(side, store), ending, out) {
         Ok(()) => {}
         Err(_) => return Err(MergeFault::Write),
     }
@@ -157,6 +164,10 @@ fn pass_pairs<K: KeyOrder, A: Allocator + Copy, S: Source, R: Source, W: Sink>(
     requires stands { merge.old.first.stand ≡ stands.Head }
     requires lent { IsLent merge.old.first reader.old }
     requires within { end ≤ length store.old.lines }
+    requires keys { (side : Sided) (line : List ℕ) → K.key_of merge.old.order side line ≡ join_key (join_job job.now) side line }
+    requires keyed { (slot : ℕ) → 4 ≤ slot → slot < end →
+        join_key (join_job job.now) Of.Second (line store.old slot)
+        ≡ K.key_of merge.old.order Of.First (line store.old merge.old.first.standing) }
     requires clean { out.old.faulted ≡ false }
     ensures wrote { let standing = line store.old merge.old.first.standing in
         let key = K.key_of merge.old.order Of.First standing in

@@ -22,7 +22,7 @@ use Rattle.ptmerge.proofs.OfJoin.JoinEntries.{join_pairs, written_alone}
 use Rattle.ptmerge.proofs.OfJoin.JoinSlots.{group_is}
 use Rattle.ptmerge.proofs.OfJoin.JoinTurns.{Between, Gathering, Pairing, Phased, alone_on, alone_stops, as_between, as_gathering, as_pairing, at_least, end_in}
 use Rattle.ptmerge.proofs.OfJoin.JoinTurns.{ended, fallen, gather_slots, gathered, gathering_sent, gathers_on, group_closed, not_gathered, not_sent, opens}
-use Rattle.ptmerge.proofs.OfJoin.JoinTurns.{pair_stops, pairs_next, pairs_on, starts_between}
+use Rattle.ptmerge.proofs.OfJoin.JoinTurns.{keyed_slot, pair_stops, pairs_next, pairs_on, starts_between}
 use Rattle.ptmerge.proofs.OfMerges.KeySpans.{placed_keeps}
 use Rattle.ptmerge.proofs.OfMerges.Orders.{IsKeyOrder}
 use Rattle.ptmerge.proofs.OfMerges.Pairs.{both_each}
@@ -587,6 +587,24 @@ pass_pairs-requires-clause-within g c =
     let slots = slots_of c.turns.merge.first c.turns.merge.second c.turns.store i.placed in
     let end : c.ending-ending.result ≡ job.end = c.ending-ending.ensures ∙ c.requires.ending.0 in
     (end_in tool i.o pairs laws old i.unfailed c.turns.phase now place c.turns.end i.phased).1
+
+pub pass_pairs-requires-clause-keyed : goal.pass_pairs-requires-clause-keyed
+pass_pairs-requires-clause-keyed g c =
+    let i = c.turns.invariant in
+    let cmp = g.K.KeyOrder.order c.args.order in
+    let key = g.K.KeyOrder.key_of c.args.order in
+    let job = join_job c.args.job.now in
+    let tool = join_by job cmp key in
+    let pairs = pairs_of job in
+    let laws = join_pairs job cmp key in
+    let old = seen c.args.first.now c.args.second.now c.args.out.now c.args.store.now in
+    let now = seen c.turns.first c.turns.second c.turns.out c.turns.store in
+    let place = both c.turns.merge.first c.turns.merge.second in
+    let r = as_pairing tool i.o pairs laws old i.unfailed c.turns.phase now place c.turns.end i.phased c.in-Pairing.is in
+    let x = line c.turns.store c.turns.merge.first.standing in
+    let key_is : g.K.KeyOrder.key_of c.turns.merge.order sides.First x ≡ r.k = ap (λ k. g.K.KeyOrder.key_of k sides.First x) i.order ∙ r.key1 in
+    λ slot from low. sym (c.requires.keys sides.Second (line c.turns.store slot))
+    ∙ keyed_slot tool i.o pairs laws old i.unfailed now place c.turns.end r slot from low ∙ sym key_is
 
 pub returns-in_err-pass_pairs-in-Pairing-clause-merged : goal.returns-in_err-pass_pairs-in-Pairing-clause-merged
 returns-in_err-pass_pairs-in-Pairing-clause-merged g c =
