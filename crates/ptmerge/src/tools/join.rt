@@ -1,6 +1,7 @@
 //! `join`. It stands on the merge, and keeps the second input's lines of one key at a time.
 //!
-//! `groups` are those lines, `fields` the fields of a line and the entry that is written of two.
+//! `groups` are those lines, `fields` the fields of a line and the entry that is written of two, and `blanks` finds what
+//! stands between words.
 
 ghost use Rattle.std.specs.Prelude.{◌≡◌, ◌<◌, ◌≤◌, ℕ, List, ◌++◌, ◌∷◌, [], option_copied, false, true, length, IfSome, OnOk, OnErr};
 ghost use Rattle.ptlangs.specs.Jobs.{join_job};
@@ -19,6 +20,7 @@ ghost use Rattle.ptmerge.specs.Steps.{IsPlaced, IsLent};
 ghost use Rattle.ptmerge.specs.declared.order.Side.TheVariants as Of;
 ghost use Rattle.ptmerge.specs.declared.merging.sorted.Stand.TheVariants as stands;
 
+mod blanks;
 pub(crate) mod fields;
 mod groups;
 
@@ -50,8 +52,7 @@ fn push_line<A: Allocator, W: Sink>(
     ensures clean { OnOk result (out.new.faulted ≡ false) }
     ensures fault { OnErr result (out.new.faulted ≡ true) }
 {
-    push_entry(job, key, one, two, out)?;
-    out.push(&[ending])
+    push_entry(job, key, one, two, ending, out)
 }
 
 // Pushes the entry of a line that pairs with none, if it is asked for.
