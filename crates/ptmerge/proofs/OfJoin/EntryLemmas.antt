@@ -5,7 +5,7 @@ use Rattle.std.specs.Prelude.{filter, remove, unwrap_or}
 use Rattle.std.specs.List.{slice_split, onto_first, join_with_byte}
 use Rattle.std.proofs.lemmas.Bool.{eqb-true}
 use Rattle.std.proofs.Math.Seq.{drop-append_seam}
-use Rattle.std.proofs.lemmas.List.{append-nil, length-append, length-drop, take_all}
+use Rattle.std.proofs.lemmas.List.{append-nil, length-drop, take_all}
 use Rattle.std.proofs.lemmas.List.Concat.{flat_map-append}
 use Rattle.ptlangs.specs.Jobs.{Join}
 use Rattle.ptlangs.specs.declared.outlist.OutField.{OutField}
@@ -127,9 +127,6 @@ behind_key key rest line is =
     take_all (length line - length key) (drop (length key) line) (omega (arith, length-drop (length key) line))
     ∙ ap (drop (length key)) is ∙ drop-append_seam key rest
 
-pub key_within : (key rest line : List ℕ) → line ≡ key ++ rest → length key ≤ length line
-key_within key rest line is = omega (arith, ap length is, length-append key rest)
-
 -- the entry of a pair of such lines
 pub pair_is : (job : Join) (key one two : List ℕ) (end : ℕ) (fs1 fs2 : Lines) → job.list ≡ None → one ≡ key ++ led (between job.separator) (others job.field1 fs1)
     → two ≡ key ++ led (between job.separator) (others job.field2 fs2)
@@ -140,3 +137,21 @@ pair_is job key one two end fs1 fs2 none first second =
     ap (λ (l : List ℕ). one ++ l ++ end ∷ []) (behind_key key ys two second)
     ∙ ap (λ (l : List ℕ). l ++ ys ++ end ∷ []) first
     ∙ ap (λ (l : List ℕ). l ++ end ∷ []) (append_assoc key xs ys ∙ sym (entry_plain job key fs1 fs2 none))
+
+-- the entry of such a line alone
+pub first_is : (job : Join) (key line : List ℕ) (fs : Lines) → job.list ≡ None → line ≡ key ++ led (between job.separator) (others job.field1 fs) → line ≡ entry job key fs []
+first_is job key line fs none is =
+    let b = between job.separator in
+    let xs = led b (others job.field1 fs) in
+    is
+    ∙ ap (λ (l : List ℕ). key ++ l) (sym (append-nil xs))
+    ∙ ap (λ (l : List ℕ). key ++ (xs ++ l)) (sym (others_none b (job.field2 - 1) [] refl))
+    ∙ sym (entry_plain job key fs [] none)
+
+pub second_is : (job : Join) (key line : List ℕ) (fs : Lines) → job.list ≡ None → line ≡ key ++ led (between job.separator) (others job.field2 fs) → line ≡ entry job key [] fs
+second_is job key line fs none is =
+    let b = between job.separator in
+    let ys = led b (others job.field2 fs) in
+    is
+    ∙ ap (λ (l : List ℕ). key ++ (l ++ ys)) (sym (others_none b (job.field1 - 1) [] refl))
+    ∙ sym (entry_plain job key [] fs none)

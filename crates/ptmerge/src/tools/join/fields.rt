@@ -276,21 +276,34 @@ fn push_others<W: Sink>(
     }
 }
 
-// What an element of the output list names: the join field, or a field of a line.
-fn named_field<'a>(
-    separator: Option<u8>,
+// What an element of the output list names: the join field, or a field of a line, which may be the join field too.
+fn named_field<'a, A: Allocator>(
+    job: &JoinJob<A>,
     item: OutField,
     key: &'a [u8],
     one: Option<&'a [u8]>,
     two: Option<&'a [u8]>,
 ) -> &'a [u8]
+    requires keyed1 { IfSome (option_copied one) (λ line. join_key (join_job job.now) First line ≡ key.now) }
+    requires keyed2 { IfSome (option_copied two) (λ line. join_key (join_job job.now) Second line ≡ key.now) }
     ensures { result.now ≡ named item key.now
-        (fields_left separator (option_copied one.entry)) (fields_left separator (option_copied two.entry)) }
+        (fields_left (join_job job.now).separator (option_copied one.entry))
+        (fields_left (join_job job.now).separator (option_copied two.entry)) }
 {
     match item {
         OutField::Join => key,
-        OutField::Field(File::First, number) => nth_field(separator, number, one),
-        OutField::Field(File::Second, number) => nth_field(separator, number, two),
+        OutField::Field(File::First, number) => {
+            if one.is_some() && number == job.field[0] {
+                return key;
+            }
+            nth_field(job.sep, number, one)
+        }
+        OutField::Field(File::Second, number) => {
+            if two.is_some() && number == job.field[1] {
+                return key;
+            }
+            nth_field(job.sep, number, two)
+        }
     }
 }
 
@@ -302,11 +315,13 @@ fn listed_field<'a, A: Allocator>(
     one: Option<&'a [u8]>,
     two: Option<&'a [u8]>,
 ) -> &'a [u8]
+    requires keyed1 { IfSome (option_copied one) (λ line. join_key (join_job job.now) First line ≡ key.now) }
+    requires keyed2 { IfSome (option_copied two) (λ line. join_key (join_job job.now) Second line ≡ key.now) }
     ensures { result.now ≡ filled (join_job job.now).empty (named item key.now
         (fields_left (join_job job.now).separator (option_copied one.entry))
         (fields_left (join_job job.now).separator (option_copied two.entry))) }
 {
-    let field = named_field(job.sep, item, key, one, two);
+    let field = named_field(job, item, key, one, two);
     if field.is_empty() {
         return job.empty.as_slice();
     }
@@ -323,6 +338,8 @@ fn push_listed<A: Allocator, W: Sink>(
     out: &mut Out<W>,
 ) -> Result<(), WriteFault>
     requires listed { (join_job job.now).list ≡ Some items.now }
+    requires keyed1 { IfSome (option_copied one) (λ line. join_key (join_job job.now) First line ≡ key.now) }
+    requires keyed2 { IfSome (option_copied two) (λ line. join_key (join_job job.now) Second line ≡ key.now) }
     requires clean { out.old.faulted ≡ false }
     ensures wrote { Wrote out.old out.new (entry (join_job job.now) key.now
         (fields_left (join_job job.now).separator (option_copied one.entry))
@@ -351,7 +368,9 @@ fn push_fields<A: Allocator, W: Sink>(
     two: Option<&[u8]>,
     out: &mut Out<W>,
 ) -> Result<(), WriteFault>
-    requires { out.old.faulted ≡ false }
+    requires keyed1 { IfSome (option_copied one) (λ line. join_key (join_job job.now) First line ≡ key.now) }
+    requires keyed2 { IfSome (option_copied two) (λ line. join_key (join_job job.now) Second line ≡ key.now) }
+    requires clean { out.old.faulted ≡ false }
     ensures wrote { Wrote out.old out.new (entry (join_job job.now) key.now
         (fields_left (join_job job.now).separator (option_copied one.entry))
         (fields_left (join_job job.now).separator (option_copied two.entry))) }
@@ -403,6 +422,12 @@ pub(crate) fn push_entry<A: Allocator, W: Sink>(
             if stands_as_written(job.sep, job.field[0], first)
                 && stands_as_written(job.sep, job.field[1], second) => {
             out.push_line(first, &second[key.len()..], &[ending])
+        }
+        (None, Some(line), None) if stands_as_written(job.sep, job.field[0], line) => {
+            out.push_line(line, b"", &[ending])
+        }
+        (None, None, Some(line)) if stands_as_written(job.sep, job.field[1], line) => {
+            out.push_line(b"", line, &[ending])
         }
         _ => {
             push_fields(job, key, one, two, out)?;

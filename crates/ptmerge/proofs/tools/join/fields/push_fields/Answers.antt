@@ -18,7 +18,7 @@ returns-in_err-push-in-None-clause-wrote g c =
     let all = entry job c.args.key.now fs1 fs2 in
     amid_fails c.args.out.now c.args.out.now c.push.new.self all c.args.key.now (xs ++ ys)
     (amid_as c.args.out.now c.args.out.now all all (c.args.key.now ++ (xs ++ ys)) (entry_plain job c.args.key.now fs1 fs2 c.in-None.is)
-    (amid_starts c.args.out.now all c.requires)) c.push.ensures.wrote c.in_err-push-in-None.ensures.fault
+    (amid_starts c.args.out.now all c.requires.clean)) c.push.ensures.wrote c.in_err-push-in-None.ensures.fault
 
 pub returns-in_err-push_others-in-None-clause-wrote : goal.returns-in_err-push_others-in-None-clause-wrote
 returns-in_err-push_others-in-None-clause-wrote g c =
@@ -30,7 +30,7 @@ returns-in_err-push_others-in-None-clause-wrote g c =
     let all = entry job c.args.key.now fs1 fs2 in
     let a = amid_more c.args.out.now c.args.out.now c.push.new.self all c.args.key.now (xs ++ ys)
     (amid_as c.args.out.now c.args.out.now all all (c.args.key.now ++ (xs ++ ys)) (entry_plain job c.args.key.now fs1 fs2 c.in-None.is)
-    (amid_starts c.args.out.now all c.requires)) c.push.ensures.wrote c.in_ok-push-in-None.ensures.clean in
+    (amid_starts c.args.out.now all c.requires.clean)) c.push.ensures.wrote c.in_ok-push-in-None.ensures.clean in
     amid_fails c.args.out.now c.push.new.self c.push_others.new.out all xs ys a c.push_others.ensures.wrote c.in_err-push_others-in-None.ensures.fault
 
 pub returns-in_ok-push_others-in-None-clause-wrote : goal.returns-in_ok-push_others-in-None-clause-wrote
@@ -43,6 +43,6 @@ returns-in_ok-push_others-in-None-clause-wrote g c =
     let all = entry job c.args.key.now fs1 fs2 in
     let a = amid_more c.args.out.now c.args.out.now c.push.new.self all c.args.key.now (xs ++ ys)
     (amid_as c.args.out.now c.args.out.now all all (c.args.key.now ++ (xs ++ ys)) (entry_plain job c.args.key.now fs1 fs2 c.in-None.is)
-    (amid_starts c.args.out.now all c.requires)) c.push.ensures.wrote c.in_ok-push-in-None.ensures.clean in
+    (amid_starts c.args.out.now all c.requires.clean)) c.push.ensures.wrote c.in_ok-push-in-None.ensures.clean in
     let b = amid_more c.args.out.now c.push.new.self c.push_others.new.out all xs ys a c.push_others.ensures.wrote c.in_ok-push_others-in-None.ensures.clean in
     amid_ends c.args.out.now c.push_others.new.out c.push_others-in-None.new.out all ys b c.push_others-in-None.ensures.wrote
