@@ -1,5 +1,5 @@
 -- The second input's lines of one key, in the slots behind the first four.
-use Rattle.std.specs.Prelude.{◌≡◌, ◌⊎◌, ℕ, ◌+◌, ◌-◌, ◌≤◌, ◌<◌, true, false, Bool, length, take, drop, max, Result, Ok, Err}
+use Rattle.std.specs.Prelude.{◌≡◌, ◌⊎◌, ℕ, ◌==◌, if◌then◌else◌, ◌+◌, ◌-◌, ◌≤◌, ◌<◌, true, false, Bool, length, take, drop, max, Result, Ok, Err}
 use Rattle.ptlines.specs.Readers.{Reader}
 use Rattle.ptlines.specs.Slots.{Slots, line, total, with_line, with_added}
 use Rattle.ptmerge.specs.declared.faults.MergeFault.{MergeFault}
@@ -12,9 +12,17 @@ use Rattle.ptmerge.specs.Keyed.{Lines}
 use Rattle.ptmerge.specs.Orders.{Cmp, Key}
 use Rattle.ptmerge.specs.Places.{CannotRead, Comes}
 
--- the lines of the group, whose slots end in front of this one
-abbrev pub group : Slots → ℕ → Lines
-group store end = take (end - 4) (drop 4 store.lines)
+-- the lines of the slots from one on, up to another
+abbrev pub group : Slots → ℕ → ℕ → Lines
+group store from end = take (end - from) (drop from store.lines)
+
+-- The slots of a group, where those of its kept lines end in front of this one: they begin behind the first four. Where
+-- none is kept, the group is the line before the one at which the second input stands.
+abbrev pub first_slot : Sorted → ℕ → ℕ
+first_slot second end = if end == 4 then second.previous else 4
+
+abbrev pub end_slot : Sorted → ℕ → ℕ
+end_slot second end = if end == 4 then second.previous + 1 else end
 
 abbrev pub is_head : Stand → Bool
 is_head Head = true
@@ -44,32 +52,32 @@ pub record IsRefused (before after : Slots) (slot : ℕ) : Type 0 where
 pub record IsGroupCleared (before after : Slots) (end : ℕ) : Type 0 where
   pub slots : length after.lines ≡ length before.lines
   pub others : (i : ℕ) → (i < 4) ⊎ (end ≤ i) → line after i ≡ line before i
-  pub emptied : total (drop 4 after.lines) + total (group before end) ≡ total (drop 4 before.lines)
+  pub emptied : total (drop 4 after.lines) + total (group before 4 end) ≡ total (drop 4 before.lines)
   pub less : total after.lines ≤ total before.lines
   pub peak : after.peak ≤ max before.peak (total before.lines)
   pub denied : after.denied ≡ before.denied
 
--- the line at which the second input stands was kept, and the input went to its next line
-pub record Gathered (key : Key) (cmp : Cmp) (old new : Sorted) (was is : Reader) (before after : Slots) (end : ℕ) : Type 0 where
-  pub made : Slots
-  pub kept : IsKept before made old.standing end
-  pub came : Comes key cmp old new was is made after
+-- the line before the one at which the second input now stands was kept; or it stays where it is, as the group's only one
+abbrev pub KeepsLast : Sorted → Slots → Slots → ℕ → ℕ → Type 0
+KeepsLast new made after end next =
+    ((new.same ≡ false) × (end ≡ 4) × (next ≡ end) × (after ≡ made)) ⊎ ((next ≡ end + 1) × IsKept made after new.previous end)
 
--- the line was kept, and the next one could not be read
-pub record NotRead (old : Sorted) (was is : Reader) (before after : Slots) (end : ℕ) (fault : MergeFault) : Type 0 where
+-- the second input went to its next line, and the one before was kept where it has to be
+pub record Gathered (key : Key) (cmp : Cmp) (old new : Sorted) (was is : Reader) (before after : Slots) (end next : ℕ) : Type 0 where
   pub made : Slots
-  pub kept : IsKept before made old.standing end
-  pub breaks : CannotRead Second old was is made after fault
+  pub came : Comes key cmp old new was is before made
+  pub kept : KeepsLast new made after end next
 
--- the line could not be kept
-pub record NotKept (was is : Reader) (before after : Slots) (end : ℕ) (fault : MergeFault) : Type 0 where
+-- the second input went to its next line, and the one before could not be kept
+pub record NotKept (key : Key) (cmp : Cmp) (old new : Sorted) (was is : Reader) (before after : Slots) (end : ℕ) (fault : MergeFault) : Type 0 where
+  pub made : Slots
+  pub came : Comes key cmp old new was is before made
   pub memory : fault ≡ Memory
-  pub refused : IsRefused before after end
-  pub unread : is ≡ was
+  pub refused : IsRefused made after end
 
 abbrev pub Gathers : Key → Cmp → Sorted → Sorted → Reader → Reader → Slots → Slots → ℕ → Result ℕ MergeFault → Type 0
-Gathers key cmp old new was is before after end (Ok next) = (next ≡ end + 1) × Gathered key cmp old new was is before after end
-Gathers key cmp old new was is before after end (Err fault) = NotKept was is before after end fault ⊎ NotRead old was is before after end fault
+Gathers key cmp old new was is before after end (Ok next) = Gathered key cmp old new was is before after end next
+Gathers key cmp old new was is before after end (Err fault) = NotKept key cmp old new was is before after end fault ⊎ CannotRead Second old was is before after fault
 
 -- Slots were added where fewer than these were there; where a growth was refused, perhaps fewer.
 pub record AddsLeast (before after : Slots) (slots : ℕ) : Type 0 where

@@ -235,13 +235,14 @@ impl<K: KeyOrder> Merge<K> {
         self.order.key(side, self.order.span(side, line), line)
     }
 
-    // The slot of the line at which an input stands.
-    pub(crate) fn slot(&self, side: Side) -> usize
-        ensures { result ≡ (both self.now.first self.now.second side).standing }
+    // The slot of the line before the one at which an input stands.
+    #[inline(always)]
+    pub(crate) fn slot_before(&self, side: Side) -> usize
+        ensures { result ≡ (both self.now.first self.now.second side).previous }
     {
         match side {
-            Side::First => self.first.standing,
-            Side::Second => self.second.standing,
+            Side::First => self.first.previous,
+            Side::Second => self.second.previous,
         }
     }
 

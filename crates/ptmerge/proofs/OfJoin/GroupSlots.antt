@@ -16,28 +16,35 @@ use Rattle.ptmerge.specs.Keyed.{Lines}
 use Rattle.ptmerge.proofs.OfMerges.Slotted.{line_other}
 
 -- the lines of the group from a slot on
-pub group_from : (store : Slots) (end slot : ℕ) → end ≤ length store.lines → 4 ≤ slot → slot < end → drop (slot - 4) (group store end) ≡ line store slot ∷ drop ((slot + 1) - 4) (group store end)
-group_from store end slot fits from low =
-    let rest = drop 4 store.lines in
-    let count : end - 4 ≤ length rest = omega (arith, length-drop 4 store.lines) in
-    let at : (slot - 4) < (end - 4) = omega arith in
-    let next : (slot - 4) + 1 ≡ (slot + 1) - 4 = omega arith in
-    let back : 4 + (slot - 4) ≡ slot = omega arith in
-    let is : get_or (take (end - 4) rest) (slot - 4) [] ≡ line store slot = get_or-take (end - 4) rest (slot - 4) [] at
-    ∙ get_or-drop 4 store.lines (slot - 4) [] ∙ ap (λ i. get_or store.lines i []) back in
-    drop_more (take (end - 4) rest) (slot - 4) [] (omega (arith, length-take-le (end - 4) rest count)) ∙ (λ i. is i ∷ drop (next i) (take (end - 4) rest))
+pub group_from : (store : Slots) (from end slot : ℕ) → end ≤ length store.lines → from ≤ slot → slot < end
+    → drop (slot - from) (group store from end) ≡ line store slot ∷ drop ((slot + 1) - from) (group store from end)
+group_from store from end slot fits least low =
+    let rest = drop from store.lines in
+    let count : end - from ≤ length rest = omega (arith, length-drop from store.lines) in
+    let at : (slot - from) < (end - from) = omega arith in
+    let next : (slot - from) + 1 ≡ (slot + 1) - from = omega arith in
+    let back : from + (slot - from) ≡ slot = omega arith in
+    let is : get_or (take (end - from) rest) (slot - from) [] ≡ line store slot = get_or-take (end - from) rest (slot - from) [] at
+    ∙ get_or-drop from store.lines (slot - from) [] ∙ ap (λ i. get_or store.lines i []) back in
+    drop_more (take (end - from) rest) (slot - from) [] (omega (arith, length-take-le (end - from) rest count)) ∙ (λ i. is i ∷ drop (next i) (take (end - from) rest))
 
-pub group_end : (store : Slots) (end slot : ℕ) → end ≤ length store.lines → end ≤ slot → drop (slot - 4) (group store end) ≡ []
-group_end store end slot fits past = drop_all (slot - 4) (take (end - 4) (drop 4 store.lines))
-    (omega (arith, length-drop 4 store.lines, length-take-le (end - 4) (drop 4 store.lines) (omega (arith, length-drop 4 store.lines))))
+pub group_end : (store : Slots) (from end slot : ℕ) → end ≤ length store.lines → end ≤ slot → drop (slot - from) (group store from end) ≡ []
+group_end store from end slot fits past = drop_all (slot - from) (take (end - from) (drop from store.lines))
+    (omega (arith, length-drop from store.lines, length-take-le (end - from) (drop from store.lines) (omega (arith, length-drop from store.lines))))
 
-pub group_more : (store : Slots) (end : ℕ) → 4 ≤ end → end < length store.lines → group store (end + 1) ≡ group store end ++ line store end ∷ []
-group_more store end from within =
-    let rest = drop 4 store.lines in
-    let next : (end + 1) - 4 ≡ (end - 4) + 1 = omega arith in
-    let back : 4 + (end - 4) ≡ end = omega arith in
-    ap (λ n. take n rest) next ∙ take_more rest (end - 4) [] (omega (arith, length-drop 4 store.lines))
-    ∙ ap (λ (l : List ℕ). take (end - 4) rest ++ l ∷ []) (get_or-drop 4 store.lines (end - 4) [] ∙ ap (λ i. get_or store.lines i []) back)
+pub group_more : (store : Slots) (from end : ℕ) → from ≤ end → end < length store.lines → group store from (end + 1) ≡ group store from end ++ line store end ∷ []
+group_more store from end least within =
+    let rest = drop from store.lines in
+    let next : (end + 1) - from ≡ (end - from) + 1 = omega arith in
+    let back : from + (end - from) ≡ end = omega arith in
+    ap (λ n. take n rest) next ∙ take_more rest (end - from) [] (omega (arith, length-drop from store.lines))
+    ∙ ap (λ (l : List ℕ). take (end - from) rest ++ l ∷ []) (get_or-drop from store.lines (end - from) [] ∙ ap (λ i. get_or store.lines i []) back)
+
+-- one slot has one line
+pub group_one : (store : Slots) (slot : ℕ) → slot < length store.lines → group store slot (slot + 1) ≡ line store slot ∷ []
+group_one store slot within =
+    let none : slot - slot ≡ 0 = omega arith in
+    group_more store slot slot (omega arith) within ∙ ap (λ n. take n (drop slot store.lines) ++ line store slot ∷ []) none
 
 -- ---- what is written
 
@@ -86,8 +93,8 @@ clears_more a s t slot from within c is = subst (λ u. IsGroupCleared a u (slot 
         let d : drop 4 (set s.lines slot []) ≡ set rest (slot - 4) [] = ap (λ i. drop 4 (set s.lines i [])) (sym back) ∙ drop-set-add 4 s.lines (slot - 4) [] in
         omega (arith, ap total d, ap length at, total_set rest (slot - 4) [] (omega (arith, length-drop 4 s.lines)))
 
-    grows : total (group a (slot + 1)) ≡ total (group a slot) + length (line a slot)
-    grows = ap total (group_more a slot from within) ∙ sum_by_push length (group a slot) (line a slot)
+    grows : total (group a 4 (slot + 1)) ≡ total (group a 4 slot) + length (line a slot)
+    grows = ap total (group_more a 4 slot from within) ∙ sum_by_push length (group a 4 slot) (line a slot)
 
     others : (i : ℕ) → (i < 4) ⊎ (slot + 1 ≤ i) → line (with_line s slot []) i ≡ line a i
     others i (inl h) = line_other s slot i [] (λ e. absurd (omega (arith, e))) ∙ c.others i (inl h)

@@ -151,19 +151,20 @@ past_group cmp o key k (Disorder n) place store now ls p b st under other = subs
 
 module _ (tool : Tool) (o : IsKeyOrder tool.cmp) (pairs : List ℕ → Lines → Lines → Lines) (laws : IsPairing tool pairs) (old : State)
     (unfailed : (side : Side) → (old.reader side).failed ≡ false) where
-  -- the group g of the key k, whose entries so far were pushed; its second input's lines end in front of this slot
-  pub record Grouped (now : State) (place : Side → Sorted) (end : ℕ) (k : List ℕ) (g : Side → Lines) : Type 0 where
+  -- the group g of the key k, whose entries so far were pushed; the lines that are kept end in front of this slot
+  pub record Grouped (now : State) (place : Side → Sorted) (end : ℕ) (k : List ℕ) (g : Side → Lines) (kept : Lines) : Type 0 where
     pub ls : Side → Lines
     pub p : Side → Lines
     pub d : Side → Bound
     pub mid : Output
     pub sides : BothStand tool old.reader now.reader place now.store ls (λ side. p side ++ g side) d
     pub within : Within tool old.out mid p g d k
-    pub keeps : Keeping (tool.key Second) old.store now.store ls (g Second)
+    pub keeps : Keeping (tool.key Second) old.store now.store ls kept
     pub wrote : Wrote mid now.out (text tool.end (pairs k (g First) (g Second)))
-    pub at : end ≡ 4 + length (g Second)
+    pub at : end ≡ 4 + length kept
 
-  module _ (now : State) (place : Side → Sorted) (end : ℕ) (k : List ℕ) (g : Side → Lines) (q : Grouped now place end k g) (slots : (side : Side) → HasSlots side (place side)) where
+  module _ (now : State) (place : Side → Sorted) (end : ℕ) (k : List ℕ) (g : Side → Lines) (kept : Lines)
+      (q : Grouped now place end k g kept) (slots : (side : Side) → HasSlots side (place side)) where
     went : (side : Side) → (now.reader side).failed ≡ (old.reader side).failed
     went side = (q.sides side).got.goes.failed
 

@@ -271,7 +271,7 @@ module _ (key : Key) (before store : Slots) (ls : Side → Lines) (g : Lines) (k
   pub keeping_cleared : (after : Slots) (end : ℕ) → end ≡ 4 + length g → IsGroupCleared store after end → Keeping key before after ls []
   keeping_cleared after end at c =
       let size : end - 4 ≡ length g = omega (arith, at) in
-      let all : group store end ≡ g = ap (λ n. take n (drop 4 store.lines)) size ∙ ap (take (length g)) k.split ∙ take_front g k.tail in
+      let all : group store 4 end ≡ g = ap (λ n. take n (drop 4 store.lines)) size ∙ ap (take (length g)) k.split ∙ take_front g k.tail in
       let none : total (drop 4 after.lines) ≡ 0 = omega (arith, c.emptied, ap total all, ap total k.split, sum_by-append length g k.tail, k.empty) in
       let four : 4 ≤ length after.lines = omega (arith, k.four, c.slots) in
       record {
@@ -298,7 +298,7 @@ module _ (key : Key) (before store : Slots) (ls : Side → Lines) (g : Lines) (k
       sym (ap (λ i. get_or store.lines i []) back) ∙ sym (get_or-drop 4 store.lines (slot - 4) [])
       ∙ ap (λ (l : Lines). get_or l (slot - 4) []) k.split ∙ get_or-append g k.tail [] (slot - 4) (omega (arith, from, low))
 
-  pub group_is : (end : ℕ) → end ≡ 4 + length g → group store end ≡ g
+  pub group_is : (end : ℕ) → end ≡ 4 + length g → group store 4 end ≡ g
   group_is end at =
       let size : end - 4 ≡ length g = omega (arith, at) in
       ap (λ n. take n (drop 4 store.lines)) size ∙ ap (take (length g)) k.split ∙ take_front g k.tail

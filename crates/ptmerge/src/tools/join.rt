@@ -9,7 +9,7 @@ ghost use Rattle.ptlines.specs.Outputs.{Wrote};
 ghost use Rattle.ptlines.specs.Slots.{line, line as line_of};
 ghost use Rattle.ptlines.specs.Text.{text};
 ghost use Rattle.ptlines.specs.Readers.{IsSound};
-ghost use Rattle.ptmerge.specs.Groups.{AddsLeast, group};
+ghost use Rattle.ptmerge.specs.Groups.{AddsLeast, end_slot, first_slot, group};
 ghost use Rattle.ptmerge.specs.Merges.{IsMerge, IsReady, IsUnread, Untouched, ended_by, seen};
 ghost use Rattle.ptmerge.specs.declared.order.Side.{Side as Sided};
 ghost use Rattle.ptmerge.specs.Join.{alone_entry, entry, join_by, join_key, join_tool, pairs_of};
@@ -29,7 +29,7 @@ use crate::merging::slots::clear_four;
 use crate::merging::{Merge, Step, send_before_wait};
 use crate::order::{Descending, FieldKeys, KeyOrder, Side};
 use crate::tools::join::fields::push_entry;
-use crate::tools::join::groups::{clear_group, gather};
+use crate::tools::join::groups::{clear_group, gather, group_slots};
 use ptlangs::jobs::JoinJob;
 use ptlines::{LineReader, Out, Sink, Source, Store, WriteFault};
 use std::alloc::Allocator;
@@ -86,11 +86,12 @@ fn push_alone<A: Allocator, W: Sink>(
     }
 }
 
-// Pushes the entries of a line of the first input and each line of the group.
+// Pushes the entries of a line of the first input and each line of the group, which stands in these slots.
 fn push_pairs<A: Allocator + Copy, W: Sink>(
     job: &JoinJob<A>,
     key: &[u8],
     line: &[u8],
+    from: usize,
     end: usize,
     store: &Store<A>,
     ending: u8,
@@ -98,10 +99,10 @@ fn push_pairs<A: Allocator + Copy, W: Sink>(
 ) -> Result<(), WriteFault>
     requires within { end ≤ length store.now.lines }
     requires keyed1 { join_key (join_job job.now) Of.First line.now ≡ key.now }
-    requires keyed2 { (slot : ℕ) → 4 ≤ slot → slot < end →
+    requires keyed2 { (slot : ℕ) → from ≤ slot → slot < end →
         join_key (join_job job.now) Of.Second (line_of store.now slot) ≡ key.now }
     requires clean { out.old.faulted ≡ false }
-    ensures wrote { let pairs = pairs_of (join_job job.now) key.now (line.now ∷ []) (group store.now end) in
+    ensures wrote { let pairs = pairs_of (join_job job.now) key.now (line.now ∷ []) (group store.now from end) in
         Wrote out.old out.new (text ending pairs) }
     ensures clean { OnOk result (out.new.faulted ≡ false) }
     ensures fault { OnErr result (out.new.faulted ≡ true) }
@@ -109,7 +110,7 @@ fn push_pairs<A: Allocator + Copy, W: Sink>(
     if !job.pairs {
         return Ok(());
     }
-    for slot in 4..end {
+    for slot in from..end {
         push_line(job, key, Some(line), Some(store.line(slot)), ending, out)?;
     }
     Ok(())
@@ -164,15 +165,16 @@ fn pass_pairs<K: KeyOrder, A: Allocator + Copy, S: Source, R: Source, W: Sink>(
     requires placed { IsPlaced (K.key_of merge.old.order) merge.old.first merge.old.second store.old }
     requires stands { merge.old.first.stand ≡ stands.Head }
     requires lent { IsLent merge.old.first reader.old }
-    requires within { end ≤ length store.old.lines }
+    requires within { (4 ≤ end) × (end ≤ length store.old.lines) }
     requires keys { (side : Sided) (line : List ℕ) → K.key_of merge.old.order side line ≡ join_key (join_job job.now) side line }
-    requires keyed { (slot : ℕ) → 4 ≤ slot → slot < end →
+    requires keyed { (slot : ℕ) → first_slot merge.old.second end ≤ slot → slot < end_slot merge.old.second end →
         join_key (join_job job.now) Of.Second (line store.old slot)
         ≡ K.key_of merge.old.order Of.First (line store.old merge.old.first.standing) }
     requires clean { out.old.faulted ≡ false }
     ensures wrote { let standing = line store.old merge.old.first.standing in
         let key = K.key_of merge.old.order Of.First standing in
-        Wrote out.old out.new (text ending (pairs_of (join_job job.now) key (standing ∷ []) (group store.old end))) }
+        let lines = group store.old (first_slot merge.old.second end) (end_slot merge.old.second end) in
+        Wrote out.old out.new (text ending (pairs_of (join_job job.now) key (standing ∷ []) lines)) }
     ensures passes { let key = K.key_of merge.old.order Of.First in
         PassesLine key (K.order merge.old.order) Of.First
         merge.old.first merge.new.first reader.old reader.new store.old store.new out.new result }
@@ -183,7 +185,8 @@ fn pass_pairs<K: KeyOrder, A: Allocator + Copy, S: Source, R: Source, W: Sink>(
 {
     let key = merge.key(Side::First, store);
     let line = merge.head(Side::First, store);
-    match push_pairs(job, key, line, end, store, ending, out) {
+    let (from, to) = group_slots(merge, end);
+    match push_pairs(job, key, line, from, to, store, ending, out) {
         Ok(()) => {}
         Err(_) => return Err(MergeFault::Write),
     }
@@ -274,11 +277,11 @@ fn join_in_order<K: KeyOrder, A: Allocator + Copy, S: Source, R: Source, W: Sink
 /// with byte 0 (its own options).
 ///
 /// The slots 0 to 3 of the store are used, which are added before the first read where they are missing, and behind
-/// them a slot for each of the second input's lines of one key; after `Ok` and `Disorder` all are empty. Where one of
-/// the first four is refused, nothing is read or pushed. On an output that has failed nothing is done. Neither input is
-/// read more than two blocks ahead of what is pushed, or behind a disorder, whatever came of the other. The pairs of a
-/// key are pushed once all lines of the second input with it came. That what was pushed is sent before a read that may
-/// have to wait is tested, and no clause.
+/// them a slot for each of the second input's lines of one key, where there are several; after `Ok` and `Disorder` all
+/// are empty. Where one of the first four is refused, nothing is read or pushed. On an output that has failed nothing
+/// is done. Neither input is read more than two blocks ahead of what is pushed, or behind a disorder, whatever came of
+/// the other. The pairs of a key are pushed once all lines of the second input with it came. That what was pushed is
+/// sent before a read that may have to wait is tested, and no clause.
 /// # Errors
 /// `Read`, with the input, or `Write` where a read or a write failed; `Memory` where a growth of the store was refused,
 /// and the store is then denied; `Disorder`, with the input and the line, where an input is out of order: then all

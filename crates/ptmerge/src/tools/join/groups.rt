@@ -3,7 +3,7 @@ ghost use Rattle.std.specs.Prelude.{◌≡◌, ◌≤◌, ◌<◌, ◌+◌, ◌-
 ghost use Rattle.ptlines.specs.Slots.{line, total, with_denied};
 ghost use Rattle.ptmerge.specs.declared.order.Side.TheVariants as Of;
 ghost use Rattle.ptmerge.specs.declared.merging.sorted.Stand.TheVariants as stands;
-ghost use Rattle.ptmerge.specs.Groups.{Gathers, IsGroupCleared, IsGrown, IsKept, IsRefused, group};
+ghost use Rattle.ptmerge.specs.Groups.{Gathers, IsGroupCleared, IsGrown, IsKept, IsRefused, end_slot, first_slot};
 ghost use Rattle.ptmerge.specs.Steps.{IsLent, IsPlaced};
 
 use crate::faults::MergeFault;
@@ -41,8 +41,8 @@ fn keep_line<A: Allocator + Copy>(
     Ok(store.slots().min(to + 1))
 }
 
-// Keeps the line at which the second input stands, and goes to its next line. The answer is the slot behind the kept
-// lines.
+// Goes to the second input's next line, and keeps the one before. Where the next line has another key and none was kept,
+// that one is the group, and stays where it is. The answer is the slot behind the kept lines.
 pub(crate) fn gather<K: KeyOrder, A: Allocator + Copy, S: Source, R: Source>(
     merge: &mut Merge<K>,
     end: usize,
@@ -61,12 +61,27 @@ pub(crate) fn gather<K: KeyOrder, A: Allocator + Copy, S: Source, R: Source>(
     ensures placed { OnOk result (IsPlaced (K.key_of merge.new.order) merge.new.first merge.new.second store.new) }
     ensures lent { OnOk result (IsLent merge.new.second reader.new) }
 {
-    let next = match keep_line(store, merge.slot(Side::Second), end) {
-        Ok(next) => next,
-        Err(_) => return Err(MergeFault::Memory),
-    };
     merge.advance(Side::Second, reader, store)?;
-    Ok(next)
+    if end == 4 && !merge.repeats(Side::Second) {
+        return Ok(end);
+    }
+    match keep_line(store, merge.slot_before(Side::Second), end) {
+        Ok(next) => Ok(next),
+        Err(_) => Err(MergeFault::Memory),
+    }
+}
+
+// The slots of the group, where the kept lines end in front of this one: its first slot, and the one behind its last.
+#[inline(always)]
+pub(crate) fn group_slots<K: KeyOrder>(merge: &Merge<K>, end: usize) -> (usize, usize)
+    requires { merge.now.second.previous < 4 }
+    ensures { (result.0 ≡ first_slot merge.now.second end) × (result.1 ≡ end_slot merge.now.second end) }
+{
+    if end == 4 {
+        let only = merge.slot_before(Side::Second);
+        return (only, only + 1);
+    }
+    (4, end)
 }
 
 // Empties the slots of the group.

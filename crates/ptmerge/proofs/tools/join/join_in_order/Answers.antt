@@ -1,6 +1,6 @@
 -- Each way out of a turn names the turn that it stops in: between keys (`JoinTurns`), while a group is gathered
 -- (`GroupTurns`), or while it is paired (`GroupStops`). Clauses on slots and on refused slots are answered beside it.
-use Rattle.std.proofs.Common.{◌≡◌, ◌+◌, ℕ, [], ◌∷◌, Err, refl, sym, ◌∙◌, ap, subst, arith, inl}
+use Rattle.std.proofs.Common.{◌≡◌, ℕ, [], ◌∷◌, Err, refl, sym, ◌∙◌, ap, subst, arith, inl}
 use Rattle.std.proofs.lemmas.Result.{err_from_is_err_and}
 use Rattle.ptlangs.specs.Jobs.{join_job}
 use Rattle.ptlines.specs.Readers.{Reader, IsSound}
@@ -9,7 +9,7 @@ use Rattle.ptmerge.specs.declared.tools.join.Phase.{Phase}
 use Rattle.ptmerge.specs.declared.order.Side.{Side}
 use Rattle.ptmerge.specs.declared.order.Side.TheVariants as sides
 use Rattle.ptmerge.specs.declared.merging.sorted.Sorted.{Sorted}
-use Rattle.ptmerge.specs.Groups.{Gathered, Gathers, group}
+use Rattle.ptmerge.specs.Groups.{Gathered, Gathers, end_slot, first_slot, group}
 use Rattle.ptmerge.specs.Join.{alone_entry, join_by, pairs_of}
 use Rattle.ptmerge.specs.Keyed.{by_keys}
 use Rattle.ptmerge.specs.LinePasses.{PassesLine}
@@ -19,9 +19,8 @@ use Rattle.ptmerge.specs.Sides.{both}
 use Rattle.ptmerge.specs.Steps.{AreEqual, IsAlone, IsDecided, IsLent, inputs}
 use Rattle.ptmerge.proofs.OfComm.CommTurns.{comes_slots, passes_slots, readable_of, slots_of, unfailed_of, wrote_as}
 use Rattle.ptmerge.proofs.OfJoin.JoinEntries.{join_pairs, written_alone}
-use Rattle.ptmerge.proofs.OfJoin.JoinSlots.{group_is}
 use Rattle.ptmerge.proofs.OfJoin.JoinTurns.{Between, Gathering, Pairing, Phased, alone_on, alone_stops, as_between, as_gathering, as_pairing, at_least, end_in}
-use Rattle.ptmerge.proofs.OfJoin.JoinTurns.{ended, fallen, gather_slots, gathered, gathering_sent, gathers_on, group_closed, not_gathered, not_sent, opens}
+use Rattle.ptmerge.proofs.OfJoin.JoinTurns.{ended, fallen, gather_slots, gathering_sent, gathers_on, group_closed, group_stands, not_gathered, not_sent, opens}
 use Rattle.ptmerge.proofs.OfJoin.JoinTurns.{keyed_slot, pair_stops, pairs_next, pairs_on, starts_between}
 use Rattle.ptmerge.proofs.OfMerges.KeySpans.{placed_keeps}
 use Rattle.ptmerge.proofs.OfMerges.Orders.{IsKeyOrder}
@@ -437,15 +436,14 @@ turns-preserved-then-not-repeats g c =
     let clean = c.in_ok-send_before_wait-in-Gathering.ensures.clean in
     let is = c.in_ok-end-in-Gathering.ensures.gathers in
     let moved = subst (λ k. Gathered (g.K.KeyOrder.key_of k sides.Second)
-    (g.K.KeyOrder.order k) c.turns.merge.second c.gather.new.merge.second c.turns.second c.gather.new.reader c.turns.store c.gather.new.store c.turns.end) i.order is.1 in
-    let goes = gathered tool i.o pairs laws old i.unfailed sent place c.turns.end r slots clean c.gather.new.reader c.gather.new.merge.second c.gather.new.store moved in
+    (g.K.KeyOrder.order k) c.turns.merge.second c.gather.new.merge.second c.turns.second c.gather.new.reader c.turns.store c.gather.new.store c.turns.end
+    c.in_ok-end-in-Gathering.end) i.order is in
     let next = c.gather.new.merge.second in
     let after = c.gather.new.store in
     let says : c.repeats.result ≡ next.same = c.repeats.ensures in
     let then_now = seen c.turns.first c.gather.new.reader c.send_before_wait.new.out c.gather.new.store in
-    let t = pairs_next tool i.o pairs laws old i.unfailed sent place c.turns.end r slots clean c.gather.new.reader next after goes (sym says ∙ c.if-not-repeats.true) in
-    let u = subst (λ (e : ℕ). Pairing tool i.o pairs laws old i.unfailed then_now (both c.gather.new.merge.first next) e) (sym is.0)
-    (subst (λ (q : Sorted). Pairing tool i.o pairs laws old i.unfailed then_now (both q next) (c.turns.end + 1)) (sym c.gather.ensures.other) t) in
+    let t = pairs_next tool i.o pairs laws old i.unfailed sent place c.turns.end r slots clean c.gather.new.reader next after c.in_ok-end-in-Gathering.end moved (sym says ∙ c.if-not-repeats.true) in
+    let u = subst (λ (q : Sorted). Pairing tool i.o pairs laws old i.unfailed then_now (both q next) c.in_ok-end-in-Gathering.end) (sym c.gather.ensures.other) t in
     record {
       o = i.o;
       unfailed = i.unfailed;
@@ -477,15 +475,14 @@ turns-preserved-else-not-repeats g c =
     let clean = c.in_ok-send_before_wait-in-Gathering.ensures.clean in
     let is = c.in_ok-end-in-Gathering.ensures.gathers in
     let moved = subst (λ k. Gathered (g.K.KeyOrder.key_of k sides.Second)
-    (g.K.KeyOrder.order k) c.turns.merge.second c.gather.new.merge.second c.turns.second c.gather.new.reader c.turns.store c.gather.new.store c.turns.end) i.order is.1 in
-    let goes = gathered tool i.o pairs laws old i.unfailed sent place c.turns.end r slots clean c.gather.new.reader c.gather.new.merge.second c.gather.new.store moved in
+    (g.K.KeyOrder.order k) c.turns.merge.second c.gather.new.merge.second c.turns.second c.gather.new.reader c.turns.store c.gather.new.store c.turns.end
+    c.in_ok-end-in-Gathering.end) i.order is in
     let next = c.gather.new.merge.second in
     let after = c.gather.new.store in
     let says : c.repeats.result ≡ next.same = c.repeats.ensures in
     let then_now = seen c.turns.first c.gather.new.reader c.send_before_wait.new.out c.gather.new.store in
-    let t = gathers_on tool i.o pairs laws old i.unfailed sent place c.turns.end r slots clean c.gather.new.reader next after goes (sym says ∙ c.if-not-repeats.false) in
-    let u = subst (λ (e : ℕ). Gathering tool i.o pairs laws old i.unfailed then_now (both c.gather.new.merge.first next) e) (sym is.0)
-    (subst (λ (q : Sorted). Gathering tool i.o pairs laws old i.unfailed then_now (both q next) (c.turns.end + 1)) (sym c.gather.ensures.other) t) in
+    let t = gathers_on tool i.o pairs laws old i.unfailed sent place c.turns.end r slots clean c.gather.new.reader next after c.in_ok-end-in-Gathering.end moved (sym says ∙ c.if-not-repeats.false) in
+    let u = subst (λ (q : Sorted). Gathering tool i.o pairs laws old i.unfailed then_now (both q next) c.in_ok-end-in-Gathering.end) (sym c.gather.ensures.other) t in
     record {
       o = i.o;
       unfailed = i.unfailed;
@@ -515,7 +512,7 @@ turns-smaller-else-not-repeats g c =
     let r = as_gathering tool i.o pairs laws old i.unfailed c.turns.phase now place c.turns.end i.phased c.in-Gathering.is in
     let is = c.in_ok-end-in-Gathering.ensures.gathers in
     let less = comes_less (g.K.KeyOrder.key_of c.turns.merge.order sides.Second)
-    (g.K.KeyOrder.order c.turns.merge.order) c.turns.merge.second c.gather.new.merge.second c.turns.second c.gather.new.reader is.1.made c.gather.new.store r.head2 is.1.came in
+    (g.K.KeyOrder.order c.turns.merge.order) c.turns.merge.second c.gather.new.merge.second c.turns.second c.gather.new.reader c.turns.store is.made r.head2 is.came in
     omega (arith, less, ap (λ (q : Sorted). alive q.stand) c.gather.ensures.other)
 
 pub turns-smaller-then-not-repeats : goal.turns-smaller-then-not-repeats
@@ -533,7 +530,7 @@ turns-smaller-then-not-repeats g c =
     let r = as_gathering tool i.o pairs laws old i.unfailed c.turns.phase now place c.turns.end i.phased c.in-Gathering.is in
     let is = c.in_ok-end-in-Gathering.ensures.gathers in
     let less = comes_less (g.K.KeyOrder.key_of c.turns.merge.order sides.Second)
-    (g.K.KeyOrder.order c.turns.merge.order) c.turns.merge.second c.gather.new.merge.second c.turns.second c.gather.new.reader is.1.made c.gather.new.store r.head2 is.1.came in
+    (g.K.KeyOrder.order c.turns.merge.order) c.turns.merge.second c.gather.new.merge.second c.turns.second c.gather.new.reader c.turns.store is.made r.head2 is.came in
     omega (arith, less, ap (λ (q : Sorted). alive q.stand) c.gather.ensures.other)
 
 pub turns-smaller-then-not-repeats-2 : goal.turns-smaller-then-not-repeats-2
@@ -586,7 +583,7 @@ pass_pairs-requires-clause-within g c =
     let place = both c.turns.merge.first c.turns.merge.second in
     let slots = slots_of c.turns.merge.first c.turns.merge.second c.turns.store i.placed in
     let end : c.ending-ending.result ≡ job.end = c.ending-ending.ensures ∙ c.requires.ending.0 in
-    (end_in tool i.o pairs laws old i.unfailed c.turns.phase now place c.turns.end i.phased).1
+    end_in tool i.o pairs laws old i.unfailed c.turns.phase now place c.turns.end i.phased
 
 pub pass_pairs-requires-clause-keyed : goal.pass_pairs-requires-clause-keyed
 pass_pairs-requires-clause-keyed g c =
@@ -600,11 +597,12 @@ pass_pairs-requires-clause-keyed g c =
     let old = seen c.args.first.now c.args.second.now c.args.out.now c.args.store.now in
     let now = seen c.turns.first c.turns.second c.turns.out c.turns.store in
     let place = both c.turns.merge.first c.turns.merge.second in
+    let slots = slots_of c.turns.merge.first c.turns.merge.second c.turns.store i.placed in
     let r = as_pairing tool i.o pairs laws old i.unfailed c.turns.phase now place c.turns.end i.phased c.in-Pairing.is in
     let x = line c.turns.store c.turns.merge.first.standing in
     let key_is : g.K.KeyOrder.key_of c.turns.merge.order sides.First x ≡ r.k = ap (λ k. g.K.KeyOrder.key_of k sides.First x) i.order ∙ r.key1 in
     λ slot from low. sym (c.requires.keys sides.Second (line c.turns.store slot))
-    ∙ keyed_slot tool i.o pairs laws old i.unfailed now place c.turns.end r slot from low ∙ sym key_is
+    ∙ keyed_slot tool i.o pairs laws old i.unfailed now place c.turns.end r slots slot from low ∙ sym key_is
 
 pub returns-in_err-pass_pairs-in-Pairing-clause-merged : goal.returns-in_err-pass_pairs-in-Pairing-clause-merged
 returns-in_err-pass_pairs-in-Pairing-clause-merged g c =
@@ -624,9 +622,11 @@ returns-in_err-pass_pairs-in-Pairing-clause-merged g c =
     let x = line c.turns.store c.turns.merge.first.standing in
     let own = g.K.KeyOrder.key_of c.turns.merge.order sides.First x in
     let key_is : own ≡ r.k = ap (λ k. g.K.KeyOrder.key_of k sides.First x) i.order ∙ r.key1 in
-    let group_of : group c.turns.store c.turns.end ≡ r.g sides.Second = group_is (key sides.Second) c.args.store.now c.turns.store r.q.ls (r.g sides.Second) r.q.keeps c.turns.end r.q.at in
-    let pair_is : pairs_of job r.k (x ∷ []) (r.g sides.Second) ≡ pairs_of job own (x ∷ []) (group c.turns.store c.turns.end) = λ j. pairs_of job (sym key_is j) (x ∷ []) (sym group_of j) in
-    let wrote = wrote_as job.end c.ending-ending.result (pairs_of job own (x ∷ []) (group c.turns.store c.turns.end))
+    let from = first_slot c.turns.merge.second c.turns.end in
+    let to = end_slot c.turns.merge.second c.turns.end in
+    let group_of : group c.turns.store from to ≡ r.g sides.Second = group_stands tool i.o pairs laws old i.unfailed now place c.turns.end r slots in
+    let pair_is : pairs_of job r.k (x ∷ []) (r.g sides.Second) ≡ pairs_of job own (x ∷ []) (group c.turns.store from to) = λ j. pairs_of job (sym key_is j) (x ∷ []) (sym group_of j) in
+    let wrote = wrote_as job.end c.ending-ending.result (pairs_of job own (x ∷ []) (group c.turns.store from to))
     (pairs_of job r.k (x ∷ []) (r.g sides.Second)) c.turns.out c.pass_pairs.new.out end pair_is c.pass_pairs.ensures.wrote in
     let e = err_from_is_err_and c.from_residual-in_err-pass_pairs-in-Pairing.result c.from_residual-in_err-pass_pairs-in-Pairing.ensures.1 in
     let passes = subst (λ k. PassesLine (g.K.KeyOrder.key_of k sides.First)
@@ -674,9 +674,11 @@ turns-preserved-then-not-repeats-2 g c =
     let x = line c.turns.store c.turns.merge.first.standing in
     let own = g.K.KeyOrder.key_of c.turns.merge.order sides.First x in
     let key_is : own ≡ r.k = ap (λ k. g.K.KeyOrder.key_of k sides.First x) i.order ∙ r.key1 in
-    let group_of : group c.turns.store c.turns.end ≡ r.g sides.Second = group_is (key sides.Second) c.args.store.now c.turns.store r.q.ls (r.g sides.Second) r.q.keeps c.turns.end r.q.at in
-    let pair_is : pairs_of job r.k (x ∷ []) (r.g sides.Second) ≡ pairs_of job own (x ∷ []) (group c.turns.store c.turns.end) = λ j. pairs_of job (sym key_is j) (x ∷ []) (sym group_of j) in
-    let wrote = wrote_as job.end c.ending-ending.result (pairs_of job own (x ∷ []) (group c.turns.store c.turns.end))
+    let from = first_slot c.turns.merge.second c.turns.end in
+    let to = end_slot c.turns.merge.second c.turns.end in
+    let group_of : group c.turns.store from to ≡ r.g sides.Second = group_stands tool i.o pairs laws old i.unfailed now place c.turns.end r slots in
+    let pair_is : pairs_of job r.k (x ∷ []) (r.g sides.Second) ≡ pairs_of job own (x ∷ []) (group c.turns.store from to) = λ j. pairs_of job (sym key_is j) (x ∷ []) (sym group_of j) in
+    let wrote = wrote_as job.end c.ending-ending.result (pairs_of job own (x ∷ []) (group c.turns.store from to))
     (pairs_of job r.k (x ∷ []) (r.g sides.Second)) c.turns.out c.pass_pairs.new.out end pair_is c.pass_pairs.ensures.wrote in
     let comes = subst (λ k. Comes (g.K.KeyOrder.key_of k sides.First) (g.K.KeyOrder.order k) c.turns.merge.first c.pass_pairs.new.merge.first c.turns.first
     c.pass_pairs.new.reader c.turns.store c.pass_pairs.new.store) i.order c.in_ok-pass_pairs-in-Pairing.ensures.passes.1 in
@@ -721,9 +723,11 @@ turns-preserved g c =
     let x = line c.turns.store c.turns.merge.first.standing in
     let own = g.K.KeyOrder.key_of c.turns.merge.order sides.First x in
     let key_is : own ≡ r.k = ap (λ k. g.K.KeyOrder.key_of k sides.First x) i.order ∙ r.key1 in
-    let group_of : group c.turns.store c.turns.end ≡ r.g sides.Second = group_is (key sides.Second) c.args.store.now c.turns.store r.q.ls (r.g sides.Second) r.q.keeps c.turns.end r.q.at in
-    let pair_is : pairs_of job r.k (x ∷ []) (r.g sides.Second) ≡ pairs_of job own (x ∷ []) (group c.turns.store c.turns.end) = λ j. pairs_of job (sym key_is j) (x ∷ []) (sym group_of j) in
-    let wrote = wrote_as job.end c.ending-ending.result (pairs_of job own (x ∷ []) (group c.turns.store c.turns.end))
+    let from = first_slot c.turns.merge.second c.turns.end in
+    let to = end_slot c.turns.merge.second c.turns.end in
+    let group_of : group c.turns.store from to ≡ r.g sides.Second = group_stands tool i.o pairs laws old i.unfailed now place c.turns.end r slots in
+    let pair_is : pairs_of job r.k (x ∷ []) (r.g sides.Second) ≡ pairs_of job own (x ∷ []) (group c.turns.store from to) = λ j. pairs_of job (sym key_is j) (x ∷ []) (sym group_of j) in
+    let wrote = wrote_as job.end c.ending-ending.result (pairs_of job own (x ∷ []) (group c.turns.store from to))
     (pairs_of job r.k (x ∷ []) (r.g sides.Second)) c.turns.out c.pass_pairs.new.out end pair_is c.pass_pairs.ensures.wrote in
     let comes = subst (λ k. Comes (g.K.KeyOrder.key_of k sides.First) (g.K.KeyOrder.order k) c.turns.merge.first c.pass_pairs.new.merge.first c.turns.first
     c.pass_pairs.new.reader c.turns.store c.pass_pairs.new.store) i.order c.in_ok-pass_pairs-in-Pairing.ensures.passes.1 in

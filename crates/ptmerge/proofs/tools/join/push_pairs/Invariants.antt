@@ -9,7 +9,7 @@ use Rattle.ptmerge.proofs.tools.join.push_pairs.Given as goal
 
 abbrev pub invariant-loop-slot : goal.invariant-loop-slot
 invariant-loop-slot g l = record {
-  amid : Amid l.fn.out l.out (text l.ending (pairs_of (join_job l.job) l.key (l.line ∷ []) (group l.store l.end)))
-      (text l.ending (map (λ b. entry (join_job l.job) l.key (fields (join_job l.job).separator l.line) (fields (join_job l.job).separator b)) (drop (l.slot - 4) (group l.store l.end))));
-  from : 4 ≤ l.slot;
+  amid : Amid l.fn.out l.out (text l.ending (pairs_of (join_job l.job) l.key (l.line ∷ []) (group l.store l.from l.end)))
+      (text l.ending (map (λ b. entry (join_job l.job) l.key (fields (join_job l.job).separator l.line) (fields (join_job l.job).separator b)) (drop (l.slot - l.from) (group l.store l.from l.end))));
+  from : l.from ≤ l.slot;
 }
