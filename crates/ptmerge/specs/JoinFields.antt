@@ -3,7 +3,7 @@ use Rattle.std.specs.Prelude.{◌≡◌, ◌++◌, ℕ, MatchOption, ◌==◌, L
 use Rattle.std.specs.List.{flat_map}
 use Rattle.memchr.specs.Find.{Nowhere}
 use Rattle.ptmerge.specs.Keyed.{Lines}
-use Rattle.ptmerge.specs.Join.{fields, is_blank}
+use Rattle.ptmerge.specs.Join.{between, fields, is_blank}
 
 -- where a byte ends a field
 abbrev pub ends_field : Option ℕ → ℕ → Bool
@@ -18,6 +18,11 @@ fields_left separator (Some bytes) = fields separator bytes
 -- each field, with this byte in front of it
 abbrev pub led : ℕ → Lines → List ℕ
 led byte fs = flat_map (λ f. byte ∷ f) fs
+
+-- A line stands as its fields are written, and that with this number comes first.
+pub record IsAsWritten (separator : Option ℕ) (number : ℕ) (line : List ℕ) : Type 0 where
+  pub first : number - 1 ≡ 0
+  pub is : led (between separator) (fields separator line) ≡ between separator ∷ line
 
 -- words with one space between each two, and no blanks in front or behind; whether a blank stands in front of the bytes
 abbrev pub is_tidy : Bool → List ℕ → Bool

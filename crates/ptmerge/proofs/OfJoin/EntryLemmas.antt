@@ -1,14 +1,15 @@
 -- What is written of lines, field by field.
 use Rattle.std.proofs.Common.{◌≡◌, ℕ, zero, suc, ◌+◌, ◌-◌, ◌<◌, ◌≤◌, ◌==◌, Bool, true, false, cond, ◌||◌, ◌&&◌, List, [], ◌∷◌, ◌++◌, Option, None, Some, length}
-use Rattle.std.proofs.Common.{take, drop, get_or, map, refl, sym, ◌∙◌, ap, arith}
+use Rattle.std.proofs.Common.{take, drop, get_or, map, append_assoc, refl, sym, ◌∙◌, ap, arith}
 use Rattle.std.specs.Prelude.{filter, remove, unwrap_or}
 use Rattle.std.specs.List.{slice_split, onto_first, join_with_byte}
 use Rattle.std.proofs.lemmas.Bool.{eqb-true}
-use Rattle.std.proofs.lemmas.List.{append-nil, take_all}
+use Rattle.std.proofs.Math.Seq.{drop-append_seam}
+use Rattle.std.proofs.lemmas.List.{append-nil, length-drop, take_all}
 use Rattle.std.proofs.lemmas.List.Concat.{flat_map-append}
 use Rattle.ptlangs.specs.Jobs.{Join}
 use Rattle.ptlangs.specs.declared.outlist.OutField.{OutField}
-use Rattle.ptmerge.specs.Join.{between, entry, filled, has_bytes, is_blank, named, others, written}
+use Rattle.ptmerge.specs.Join.{between, entry, filled, has_bytes, is_blank, named, nth_field, others, written}
 use Rattle.ptmerge.specs.JoinFields.{is_tidy, led}
 use Rattle.ptmerge.specs.Keyed.{Lines}
 
@@ -110,3 +111,47 @@ tidy_says false (b ∷ bytes) tidy = by (b == 9) (b == 32) refl tidy (tidy_says 
 
 pub tidy_words : (bytes : List ℕ) → is_tidy true bytes ≡ true → led 32 (filter has_bytes (slice_split is_blank bytes)) ≡ 32 ∷ bytes
 tidy_words bytes tidy = tidy_says true bytes tidy
+
+-- ---- lines that stand as they are written
+
+-- such a line is the field of this number, and the others behind it
+pub line_is : (b n : ℕ) (fs : Lines) (line key : List ℕ) → led b fs ≡ b ∷ line → n - 1 ≡ 0 → nth_field n fs ≡ key → line ≡ key ++ led b (others n fs)
+line_is b n [] line key is first keyed = cc
+line_is b n (f ∷ fs) line key is first keyed =
+    let same : f ≡ key = ap (λ (k : ℕ). get_or (f ∷ fs) k []) (sym first) ∙ keyed in
+    sym (ap (drop 1) is) ∙ ap (λ (l : List ℕ). l ++ led b fs) same ∙ ap (λ (k : ℕ). key ++ led b (remove (f ∷ fs) k)) (sym first)
+
+-- what is behind its first field
+pub behind_key : (key rest line : List ℕ) → line ≡ key ++ rest → take (length line - length key) (drop (length key) line) ≡ rest
+behind_key key rest line is =
+    take_all (length line - length key) (drop (length key) line) (omega (arith, length-drop (length key) line))
+    ∙ ap (drop (length key)) is ∙ drop-append_seam key rest
+
+-- the entry of a pair of such lines
+pub pair_is : (job : Join) (key one two : List ℕ) (end : ℕ) (fs1 fs2 : Lines) → job.list ≡ None → one ≡ key ++ led (between job.separator) (others job.field1 fs1)
+    → two ≡ key ++ led (between job.separator) (others job.field2 fs2)
+    → one ++ take (length two - length key) (drop (length key) two) ++ end ∷ [] ≡ entry job key fs1 fs2 ++ end ∷ []
+pair_is job key one two end fs1 fs2 none first second =
+    let xs = led (between job.separator) (others job.field1 fs1) in
+    let ys = led (between job.separator) (others job.field2 fs2) in
+    ap (λ (l : List ℕ). one ++ l ++ end ∷ []) (behind_key key ys two second)
+    ∙ ap (λ (l : List ℕ). l ++ ys ++ end ∷ []) first
+    ∙ ap (λ (l : List ℕ). l ++ end ∷ []) (append_assoc key xs ys ∙ sym (entry_plain job key fs1 fs2 none))
+
+-- the entry of such a line alone
+pub first_is : (job : Join) (key line : List ℕ) (fs : Lines) → job.list ≡ None → line ≡ key ++ led (between job.separator) (others job.field1 fs) → line ≡ entry job key fs []
+first_is job key line fs none is =
+    let b = between job.separator in
+    let xs = led b (others job.field1 fs) in
+    is
+    ∙ ap (λ (l : List ℕ). key ++ l) (sym (append-nil xs))
+    ∙ ap (λ (l : List ℕ). key ++ (xs ++ l)) (sym (others_none b (job.field2 - 1) [] refl))
+    ∙ sym (entry_plain job key fs [] none)
+
+pub second_is : (job : Join) (key line : List ℕ) (fs : Lines) → job.list ≡ None → line ≡ key ++ led (between job.separator) (others job.field2 fs) → line ≡ entry job key [] fs
+second_is job key line fs none is =
+    let b = between job.separator in
+    let ys = led b (others job.field2 fs) in
+    is
+    ∙ ap (λ (l : List ℕ). key ++ (l ++ ys)) (sym (others_none b (job.field1 - 1) [] refl))
+    ∙ sym (entry_plain job key [] fs none)

@@ -1,6 +1,7 @@
 //! `join`. It stands on the merge, and keeps the second input's lines of one key at a time.
 //!
-//! `groups` are those lines, `fields` the fields of a line and the entry that is written of two.
+//! `groups` are those lines, `fields` the fields of a line and the entry that is written of two, and `blanks` finds what
+//! stands between words.
 
 ghost use Rattle.std.specs.Prelude.{◌≡◌, ◌<◌, ◌≤◌, ℕ, List, ◌++◌, ◌∷◌, [], option_copied, false, true, length, IfSome, OnOk, OnErr};
 ghost use Rattle.ptlangs.specs.Jobs.{join_job};
@@ -19,6 +20,7 @@ ghost use Rattle.ptmerge.specs.Steps.{IsPlaced, IsLent};
 ghost use Rattle.ptmerge.specs.declared.order.Side.TheVariants as Of;
 ghost use Rattle.ptmerge.specs.declared.merging.sorted.Stand.TheVariants as stands;
 
+mod blanks;
 pub(crate) mod fields;
 mod groups;
 
@@ -50,8 +52,7 @@ fn push_line<A: Allocator, W: Sink>(
     ensures clean { OnOk result (out.new.faulted ≡ false) }
     ensures fault { OnErr result (out.new.faulted ≡ true) }
 {
-    push_entry(job, key, one, two, out)?;
-    out.push(&[ending])
+    push_entry(job, key, one, two, ending, out)
 }
 
 // Pushes the entry of a line that pairs with none, if it is asked for.
@@ -277,10 +278,10 @@ fn join_in_order<K: KeyOrder, A: Allocator + Copy, S: Source, R: Source, W: Sink
 ///
 /// The slots 0 to 3 of the store are used, which are added before the first read where they are missing, and behind
 /// them a slot for each of the second input's lines of one key, where there are several; after `Ok` and `Disorder` all
-/// are empty. Where one of the first four is refused, nothing is read or pushed. On an output that has failed nothing is done. Neither input is
-/// read more than two blocks ahead of what is pushed, or behind a disorder, whatever came of the other. The pairs of a
-/// key are pushed once all lines of the second input with it came. That what was pushed is sent before a read that may
-/// have to wait is tested, and no clause.
+/// are empty. Where one of the first four is refused, nothing is read or pushed. On an output that has failed nothing
+/// is done. Neither input is read more than two blocks ahead of what is pushed, or behind a disorder, whatever came of
+/// the other. The pairs of a key are pushed once all lines of the second input with it came. That what was pushed is
+/// sent before a read that may have to wait is tested, and no clause.
 /// # Errors
 /// `Read`, with the input, or `Write` where a read or a write failed; `Memory` where a growth of the store was refused,
 /// and the store is then denied; `Disorder`, with the input and the line, where an input is out of order: then all

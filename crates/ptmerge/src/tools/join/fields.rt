@@ -3,102 +3,17 @@ ghost use Rattle.std.specs.Prelude.{◌≡◌, ◌++◌, ◌∷◌, [], None, So
 ghost use Rattle.std.specs.List.{slice_split};
 ghost use Rattle.ptlines.specs.Outputs.{Wrote};
 ghost use Rattle.ptlangs.specs.Jobs.{join_job};
-ghost use Rattle.ptmerge.specs.Join.{is_blank, nth_field, others, between, filled, named, entry};
-ghost use Rattle.memchr.specs.Find.{IsFirst, IsFirstByte, Passes};
-ghost use Rattle.ptmerge.specs.JoinFields.{IsFieldIn, IsPiece, IsEven, ends_field, fields_left, is_tidy, led};
+ghost use Rattle.ptmerge.specs.Join.{nth_field, others, between, filled, named, entry, join_key};
+ghost use Rattle.ptmerge.specs.JoinFields.{IsAsWritten, IsFieldIn, IsPiece, ends_field, fields_left, led};
 ghost use Rattle.ptmerge.specs.Spans.{IsSpan};
+ghost use Rattle.ptmerge.specs.declared.order.Side.TheVariants.{First, Second};
 
 use crate::order::Span;
+use crate::tools::join::blanks::{find_blank, is_tidy};
 use ptlangs::jobs::JoinJob;
 use ptlangs::outlist::{File, OutField, OutList};
 use ptlines::{Out, Sink, WriteFault, find_near};
 use std::alloc::Allocator;
-use std::simd::prelude::*;
-
-fn is_blank(byte: u8) -> bool
-    ensures { result ≡ is_blank byte }
-{
-    byte == b' ' || byte == b'\t'
-}
-
-// The first blank among the N bytes from a place on, which are looked at all at once.
-#[inline(always)]
-fn find_blank_in<const N: usize>(bytes: &[u8], at: usize) -> Option<usize>
-    requires lanes { N ≤ 64 }
-    requires within { at + N ≤ length bytes.now }
-    ensures { IsFirst (Passes is_blank bytes.now) at (at + N) result }
-{
-    let lanes = Simd::<u8, N>::from_slice(&bytes[at..]);
-    let blank = lanes.simd_eq(Simd::splat(b' ')) | lanes.simd_eq(Simd::splat(b'\t'));
-    let marked = blank.to_bitmask();
-    if marked == 0 {
-        return None;
-    }
-    Some(at + marked.trailing_zeros() as usize)
-}
-
-// The first blank among N bytes or up to twice as many: in the first N or in the last N, which may overlap.
-#[inline(always)]
-fn find_blank_ends<const N: usize>(bytes: &[u8]) -> Option<usize>
-    requires lanes { N ≤ 64 }
-    requires few { (N ≤ length bytes.now) × (length bytes.now ≤ N + N) }
-    ensures { IsFirstByte is_blank bytes.now result }
-{
-    match find_blank_in::<N>(bytes, 0) {
-        Some(at) => Some(at),
-        None => find_blank_in::<N>(bytes, bytes.len() - N),
-    }
-}
-
-// The first blank among fewer than 16 bytes.
-#[inline(never)]
-fn find_blank_few(bytes: &[u8]) -> Option<usize>
-    requires { length bytes.now < 16 }
-    ensures { IsFirstByte is_blank bytes.now result }
-{
-    if bytes.len() >= 8 {
-        return find_blank_ends::<8>(bytes);
-    }
-    if bytes.len() >= 4 {
-        return find_blank_ends::<4>(bytes);
-    }
-    match bytes.len() {
-        0 => None,
-        1 => find_blank_ends::<1>(bytes),
-        _ => find_blank_ends::<2>(bytes),
-    }
-}
-
-// The first blank among 16 bytes or more. Apart, so that what is near is found without a call.
-#[inline(never)]
-fn find_blank_far(bytes: &[u8]) -> Option<usize>
-    requires { 16 ≤ length bytes.now }
-    ensures { IsFirstByte is_blank bytes.now result }
-{
-    let mut at = 0;
-    while bytes.len() - at >= 16 {
-        let near = find_blank_in::<16>(bytes, at);
-        if near.is_some() {
-            return near;
-        }
-        at += 16;
-    }
-    find_blank_in::<16>(bytes, bytes.len() - 16)
-}
-
-// The first blank, which often is one of the first 16 bytes.
-#[inline(always)]
-fn find_blank(bytes: &[u8]) -> Option<usize>
-    ensures { IsFirstByte is_blank bytes.now result }
-{
-    if bytes.len() < 16 {
-        return find_blank_few(bytes);
-    }
-    match find_blank_in::<16>(bytes, 0) {
-        Some(at) => Some(at),
-        None => find_blank_far(bytes),
-    }
-}
 
 // The place where the first field of these bytes ends, if anything ends it.
 #[inline(always)]
@@ -297,88 +212,6 @@ fn push_led<W: Sink>(byte: u8, field: &[u8], out: &mut Out<W>) -> Result<(), Wri
     out.push_line(&[byte], field, b"")
 }
 
-// Whether of the N bytes from a place on none is a tab, or a space behind another one.
-#[inline(always)]
-fn is_even_in<const N: usize>(bytes: &[u8], at: usize) -> bool
-    requires lanes { N ≤ 64 }
-    requires behind { 0 < at }
-    requires within { at + N ≤ length bytes.now }
-    ensures { IsEven bytes.now at (at + N) result }
-{
-    let space = Simd::splat(b' ');
-    let before = Simd::<u8, N>::from_slice(&bytes[at - 1..]);
-    let lanes = Simd::<u8, N>::from_slice(&bytes[at..]);
-    let doubled = before.simd_eq(space) & lanes.simd_eq(space);
-    let uneven = lanes.simd_eq(Simd::splat(b'\t')) | doubled;
-    uneven.to_bitmask() == 0
-}
-
-// The same of all bytes behind the first one, which are N or up to twice as many: the first N and the last N.
-#[inline(always)]
-fn is_even_at_ends<const N: usize>(bytes: &[u8]) -> bool
-    requires lanes { N ≤ 64 }
-    requires few { (N < length bytes.now) × (length bytes.now ≤ N + N + 1) }
-    ensures { IsEven bytes.now 1 (length bytes.now) result }
-{
-    is_even_in::<N>(bytes, 1) && is_even_in::<N>(bytes, bytes.len() - N)
-}
-
-// The same of fewer than 17 bytes.
-#[inline(always)]
-fn is_even_few(bytes: &[u8]) -> bool
-    requires { (0 < length bytes.now) × (length bytes.now ≤ 16) }
-    ensures { IsEven bytes.now 1 (length bytes.now) result }
-{
-    if bytes.len() > 8 {
-        return is_even_at_ends::<8>(bytes);
-    }
-    if bytes.len() > 4 {
-        return is_even_at_ends::<4>(bytes);
-    }
-    match bytes.len() {
-        1 => true,
-        2 => is_even_at_ends::<1>(bytes),
-        _ => is_even_at_ends::<2>(bytes),
-    }
-}
-
-// The same of more than 16 bytes.
-#[inline(always)]
-fn is_even_far(bytes: &[u8]) -> bool
-    requires { 16 < length bytes.now }
-    ensures { IsEven bytes.now 1 (length bytes.now) result }
-{
-    if bytes.len() <= 33 {
-        return is_even_at_ends::<16>(bytes);
-    }
-    if bytes.len() <= 64 {
-        return is_even_at_ends::<32>(bytes);
-    }
-    let mut at = 1;
-    while bytes.len() - at >= 64 {
-        if !is_even_in::<64>(bytes, at) {
-            return false;
-        }
-        at += 64;
-    }
-    is_even_in::<64>(bytes, bytes.len() - 64)
-}
-
-// Whether these bytes are words with one space between each two.
-#[inline(never)]
-fn is_tidy(bytes: &[u8]) -> bool
-    ensures { result ≡ is_tidy true bytes.now }
-{
-    if bytes.is_empty() || is_blank(bytes[0]) || bytes[bytes.len() - 1] == b' ' {
-        return false;
-    }
-    if bytes.len() <= 16 {
-        is_even_few(bytes)
-    } else {
-        is_even_far(bytes)
-    }
-}
-
 // Pushes all fields of what is left of a line, each with a space in front of it.
 fn push_words<W: Sink>(bytes: &[u8], out: &mut Out<W>) -> Result<(), WriteFault>
     requires { out.old.faulted ≡ false }
@@ -443,21 +276,34 @@ fn push_others<W: Sink>(
     }
 }
 
-// What an element of the output list names: the join field, or a field of a line.
-fn named_field<'a>(
-    separator: Option<u8>,
+// What an element of the output list names: the join field, or a field of a line, which may be the join field too.
+fn named_field<'a, A: Allocator>(
+    job: &JoinJob<A>,
     item: OutField,
     key: &'a [u8],
     one: Option<&'a [u8]>,
     two: Option<&'a [u8]>,
 ) -> &'a [u8]
+    requires keyed1 { IfSome (option_copied one) (λ line. join_key (join_job job.now) First line ≡ key.now) }
+    requires keyed2 { IfSome (option_copied two) (λ line. join_key (join_job job.now) Second line ≡ key.now) }
     ensures { result.now ≡ named item key.now
-        (fields_left separator (option_copied one.entry)) (fields_left separator (option_copied two.entry)) }
+        (fields_left (join_job job.now).separator (option_copied one.entry))
+        (fields_left (join_job job.now).separator (option_copied two.entry)) }
 {
     match item {
         OutField::Join => key,
-        OutField::Field(File::First, number) => nth_field(separator, number, one),
-        OutField::Field(File::Second, number) => nth_field(separator, number, two),
+        OutField::Field(File::First, number) => {
+            if one.is_some() && number == job.field[0] {
+                return key;
+            }
+            nth_field(job.sep, number, one)
+        }
+        OutField::Field(File::Second, number) => {
+            if two.is_some() && number == job.field[1] {
+                return key;
+            }
+            nth_field(job.sep, number, two)
+        }
     }
 }
 
@@ -469,11 +315,13 @@ fn listed_field<'a, A: Allocator>(
     one: Option<&'a [u8]>,
     two: Option<&'a [u8]>,
 ) -> &'a [u8]
+    requires keyed1 { IfSome (option_copied one) (λ line. join_key (join_job job.now) First line ≡ key.now) }
+    requires keyed2 { IfSome (option_copied two) (λ line. join_key (join_job job.now) Second line ≡ key.now) }
     ensures { result.now ≡ filled (join_job job.now).empty (named item key.now
         (fields_left (join_job job.now).separator (option_copied one.entry))
         (fields_left (join_job job.now).separator (option_copied two.entry))) }
 {
-    let field = named_field(job.sep, item, key, one, two);
+    let field = named_field(job, item, key, one, two);
     if field.is_empty() {
         return job.empty.as_slice();
     }
@@ -490,6 +338,8 @@ fn push_listed<A: Allocator, W: Sink>(
     out: &mut Out<W>,
 ) -> Result<(), WriteFault>
     requires listed { (join_job job.now).list ≡ Some items.now }
+    requires keyed1 { IfSome (option_copied one) (λ line. join_key (join_job job.now) First line ≡ key.now) }
+    requires keyed2 { IfSome (option_copied two) (λ line. join_key (join_job job.now) Second line ≡ key.now) }
     requires clean { out.old.faulted ≡ false }
     ensures wrote { Wrote out.old out.new (entry (join_job job.now) key.now
         (fields_left (join_job job.now).separator (option_copied one.entry))
@@ -510,15 +360,17 @@ fn push_listed<A: Allocator, W: Sink>(
     Ok(())
 }
 
-// Pushes what is written of a pair of lines, or of one of them, and of which this is the join field.
-pub(crate) fn push_entry<A: Allocator, W: Sink>(
+// Pushes the fields that are written of a pair of lines, or of one of them, and of which this is the join field.
+fn push_fields<A: Allocator, W: Sink>(
     job: &JoinJob<A>,
     key: &[u8],
     one: Option<&[u8]>,
     two: Option<&[u8]>,
     out: &mut Out<W>,
 ) -> Result<(), WriteFault>
-    requires { out.old.faulted ≡ false }
+    requires keyed1 { IfSome (option_copied one) (λ line. join_key (join_job job.now) First line ≡ key.now) }
+    requires keyed2 { IfSome (option_copied two) (λ line. join_key (join_job job.now) Second line ≡ key.now) }
+    requires clean { out.old.faulted ≡ false }
     ensures wrote { Wrote out.old out.new (entry (join_job job.now) key.now
         (fields_left (join_job job.now).separator (option_copied one.entry))
         (fields_left (join_job job.now).separator (option_copied two.entry))) }
@@ -531,6 +383,55 @@ pub(crate) fn push_entry<A: Allocator, W: Sink>(
             out.push(key)?;
             push_others(job.sep, job.field[0], one, out)?;
             push_others(job.sep, job.field[1], two, out)
+        }
+    }
+}
+
+// Whether a line stands as its fields are written, of which the one with this number comes first.
+#[inline(always)]
+fn stands_as_written(separator: Option<u8>, number: u64, line: &[u8]) -> bool
+    ensures { result ≡ true → IsAsWritten separator number line.now }
+{
+    match separator {
+        Some(_) => number <= 1,
+        None => number <= 1 && is_tidy(line),
+    }
+}
+
+// Pushes the entry of a pair of lines, or of one of them, and of which this is the join field, and the byte that ends
+// it. Lines that stand as they are written are pushed whole, the second one without its join field.
+pub(crate) fn push_entry<A: Allocator, W: Sink>(
+    job: &JoinJob<A>,
+    key: &[u8],
+    one: Option<&[u8]>,
+    two: Option<&[u8]>,
+    ending: u8,
+    out: &mut Out<W>,
+) -> Result<(), WriteFault>
+    requires keyed1 { IfSome (option_copied one) (λ line. join_key (join_job job.now) First line ≡ key.now) }
+    requires keyed2 { IfSome (option_copied two) (λ line. join_key (join_job job.now) Second line ≡ key.now) }
+    requires clean { out.old.faulted ≡ false }
+    ensures wrote { Wrote out.old out.new (entry (join_job job.now) key.now
+        (fields_left (join_job job.now).separator (option_copied one.entry))
+        (fields_left (join_job job.now).separator (option_copied two.entry)) ++ ending ∷ []) }
+    ensures clean { OnOk result (out.new.faulted ≡ false) }
+    ensures fault { OnErr result (out.new.faulted ≡ true) }
+{
+    match (&job.list, one, two) {
+        (None, Some(first), Some(second))
+            if stands_as_written(job.sep, job.field[0], first)
+                && stands_as_written(job.sep, job.field[1], second) => {
+            out.push_line(first, &second[key.len()..], &[ending])
+        }
+        (None, Some(line), None) if stands_as_written(job.sep, job.field[0], line) => {
+            out.push_line(line, b"", &[ending])
+        }
+        (None, None, Some(line)) if stands_as_written(job.sep, job.field[1], line) => {
+            out.push_line(b"", line, &[ending])
+        }
+        _ => {
+            push_fields(job, key, one, two, out)?;
+            out.push(&[ending])
         }
     }
 }

@@ -6,7 +6,7 @@ use Rattle.memchr.specs.Find.{NoneBefore, Passes}
 use Rattle.ptlines.proofs.Masks.{nowhere_marked_at, first_marked_at}
 use Rattle.ptmerge.specs.Join.{is_blank}
 use Rattle.ptmerge.proofs.OfJoin.Lanes.{blank_mask}
-use Rattle.ptmerge.proofs.tools.join.fields.find_blank_in.Goals as goal
+use Rattle.ptmerge.proofs.tools.join.blanks.find_blank_in.Goals as goal
 
 pub returns-then-marked-eq0 : goal.returns-then-marked-eq0
 returns-then-marked-eq0 g c =

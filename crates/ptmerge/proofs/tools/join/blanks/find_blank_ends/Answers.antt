@@ -2,7 +2,7 @@ use Rattle.std.proofs.Common.{◌≡◌, ◌+◌, ◌-◌, ℕ, Option, length, 
 use Rattle.memchr.specs.Find.{IsFirst, Passes}
 use Rattle.ptlines.proofs.Masks.{first_behind}
 use Rattle.ptmerge.specs.Join.{is_blank}
-use Rattle.ptmerge.proofs.tools.join.fields.find_blank_ends.Goals as goal
+use Rattle.ptmerge.proofs.tools.join.blanks.find_blank_ends.Goals as goal
 
 pub returns-in-None : goal.returns-in-None
 returns-in-None g c =

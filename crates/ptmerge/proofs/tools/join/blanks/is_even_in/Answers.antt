@@ -1,5 +1,5 @@
 use Rattle.ptmerge.proofs.OfJoin.Lanes.{even_lanes}
-use Rattle.ptmerge.proofs.tools.join.fields.is_even_in.Goals as goal
+use Rattle.ptmerge.proofs.tools.join.blanks.is_even_in.Goals as goal
 
 pub returns : goal.returns
 returns g c = even_lanes c.args.bytes.now c.args.at g.row.N c.requires.behind c.requires.within c.requires.lanes

@@ -2,7 +2,7 @@
 use Rattle.std.proofs.Common.{◌-◌, ◌≤◌, length}
 use Rattle.memchr.specs.Find.{Nowhere}
 use Rattle.ptmerge.specs.JoinFields.{UnevenAt}
-use Rattle.ptmerge.proofs.tools.join.fields.is_even_far.Given as goal
+use Rattle.ptmerge.proofs.tools.join.blanks.is_even_far.Given as goal
 
 abbrev pub invariant-loop-at : goal.invariant-loop-at
 invariant-loop-at l = (1 ≤ l.at) × (l.at ≤ length l.bytes) × Nowhere (UnevenAt l.bytes) 1 l.at

@@ -2,7 +2,7 @@
 use Rattle.std.proofs.Common.{◌-◌, ◌≤◌, length}
 use Rattle.memchr.specs.Find.{Nowhere, Passes}
 use Rattle.ptmerge.specs.Join.{is_blank}
-use Rattle.ptmerge.proofs.tools.join.fields.find_blank_far.Given as goal
+use Rattle.ptmerge.proofs.tools.join.blanks.find_blank_far.Given as goal
 
 abbrev pub invariant-loop-at : goal.invariant-loop-at
 invariant-loop-at l = (l.at ≤ length l.bytes) × Nowhere (Passes is_blank l.bytes) 0 l.at
