@@ -5,6 +5,7 @@ pub mod PartsPaste
 pub mod PasteKeepsUp
 pub mod PasteLemmas
 pub mod PasteRows
+pub mod OneReader
 pub mod RowTurns
 pub mod SerialRests
 pub mod SheetRows

@@ -9,6 +9,7 @@ ghost use Rattle.ptflow.specs.Pastes.{glued_from, times};
 ghost use Rattle.ptflow.specs.Workings.Paste.RowTurns.{AreSet, FillsRow, is_write};
 
 pub(crate) mod serial;
+mod one_reader;
 mod whole_rows;
 
 use crate::faults::FlowFault;
