@@ -1,5 +1,6 @@
 -- `paste`.
 pub mod CellSlots
+pub mod GivenRows
 pub mod Grids
 pub mod PartsPaste
 pub mod PasteKeepsUp

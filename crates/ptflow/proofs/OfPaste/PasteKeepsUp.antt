@@ -11,7 +11,7 @@ use Rattle.std.proofs.lemmas.List.Sums.{sum_by-cons}
 use Rattle.ptlines.specs.Text.{text, lines, ended_lines, onto_line, IsLine, AreLines}
 use Rattle.ptlines.specs.Inputs.{Given, Begins, whole_lines}
 use Rattle.ptlines.specs.KeepingUp.{WorksOff}
-use Rattle.ptlines.specs.Readers.{Reader, IsDone}
+use Rattle.ptlines.specs.Readers.{Reader, Reads, IsDone}
 use Rattle.ptlines.proofs.TextLaws.{text-append, text_push, ended_of_text, the_lines}
 use Rattle.ptlangs.specs.Jobs.{Paste}
 use Rattle.ptflow.specs.Cuts.{chosen_from}
@@ -20,7 +20,7 @@ use Rattle.ptflow.specs.Pastes.{glued_from, every, times, columns, height, row, 
 use Rattle.ptflow.specs.Workings.Paste.TakenLines.{LinesCame}
 use Rattle.ptflow.proofs.OfCut.PickLemmas.{chosen_append}
 use Rattle.ptflow.proofs.OfPaste.Grids.{Column, each, each_same, map_each_of, times_below, column_at, length-columns, every_short, neither, known_false}
-use Rattle.ptflow.proofs.OfPasses.LinesCame.{line_take}
+use Rattle.ptflow.proofs.OfPasses.LinesCame.{line_take, lines_are_given}
 use Rattle.ptflow.proofs.OfPasses.ReaderFacts.{given_of}
 
 -- ---- one input is cut back
@@ -129,6 +129,22 @@ lines_front end (b ∷ front) last = by_test (b == end) (lines end (front ++ las
     by_test true all xs later = (later.0, ap (λ (l : Column). [] ∷ l) later.1)
     by_test false all [] later = (onto_first b all, refl)
     by_test false all (x ∷ xs) later = (later.0, ap (onto_first b) later.1)
+
+-- by what was given before the last bytes, if those lay in what was held
+pub cut_before : (end most : ℕ) (now new : Reader) (given more : List ℕ) (ls : Column) → LinesCame end now given ls → Reads now new more → new.pulled ≡ now.pulled
+    → length now.held ≤ 8192 → length ls < most → CutBack end most (given_of (given ++ more) new)
+cut_before end most now new given more ls came reads still held few = record {
+  front = given;
+  last = more ++ new.held;
+  split = append_assoc given more new.held;
+  short = omega (arith, reads.count, still, held, length-append more new.held);
+  few = let f = lines_front end given [] in omega (
+    arith,
+    few,
+    ap length (sym (lines_are_given end now given ls came) ∙ ap (lines end) (sym (append-nil given)) ∙ f.1),
+    length-append (ended_lines end given) f.0,
+  );
+}
 
 whole_front : (end : ℕ) (came : Given) (front last : List ℕ) → came.bytes ≡ front ++ last → (more : Column) × (whole_lines end came ≡ ended_lines end front ++ more)
 whole_front end came front last split = by_end came.ended

@@ -4,14 +4,14 @@ use Rattle.std.proofs.Common.{length, take, get_or, max, refl, sym, ◌∙◌, a
 use Rattle.std.specs.Prelude.{All, sum_by, slice_index_or}
 use Rattle.std.proofs.lemmas.Bool.{cases_eq, cases_lt, false≢true, eq-eqb, eqb-true}
 use Rattle.std.proofs.lemmas.Bool.Decides.{nat_tests}
-use Rattle.std.proofs.lemmas.List.{append-nil, nil_from_length, take_all, length-take-le, get_or-take}
+use Rattle.std.proofs.lemmas.List.{append-nil}
 use Rattle.std.proofs.lemmas.List.Elements.{All-get_or, All-from_get_or}
 use Rattle.std.proofs.lemmas.List.Sums.{sum_by-cons}
 use Rattle.ptlines.specs.Text.{text, lines, ended_lines, IsLine, AreLines, longest, longest_line}
 use Rattle.ptlines.specs.Inputs.{Given, Begins, Agrees, Came, whole_lines}
 use Rattle.ptlines.specs.KeepingUp.{KeepsUp}
 use Rattle.ptlines.specs.Outputs.{Output, Wrote}
-use Rattle.ptlines.specs.Readers.{Reader, Reads, IsDone, HasReadCause, budget}
+use Rattle.ptlines.specs.Readers.{Reader, Reads, IsDone, HasReadCause}
 use Rattle.ptlines.specs.Slots.{Slots, line, total, with_line, with_denied}
 use Rattle.ptlines.proofs.Coming.{came_of, came_of_set}
 use Rattle.ptlines.proofs.Filling.{reads_trans}
@@ -24,17 +24,17 @@ use Rattle.ptflow.specs.PastePasses.{reader_at, put_at, IsReadable, AreReady, Re
 use Rattle.ptflow.specs.Pastes.{glued_from, times, columns, rows, sheet, paste, paste_decided, paste_size}
 use Rattle.ptflow.specs.Workings.Paste.RowTurns.{AreSet, KeepsCells, RowTaken, FillsRow, is_write}
 use Rattle.ptflow.specs.Workings.Paste.TakenLines.{LinesCame, Took}
-use Rattle.ptflow.specs.Workings.Paste.WholeRows.{FillsWhole, PassedRow}
+use Rattle.ptflow.specs.Workings.Paste.WholeRows.{GivesRows, PushedRows}
 use Rattle.ptflow.specs.declared.faults.FlowFault.{FlowFault}
 use Rattle.ptflow.specs.declared.faults.FlowFault.TheVariants.{Read, Write, Memory}
 use Rattle.ptflow.proofs.OfPaste.CellSlots.{cells_start, cells_line, cells_total}
-use Rattle.ptflow.proofs.OfPaste.Grids.{Column, each, each_is, times_below, times_front, Taken, grid_step, grid_none}
+use Rattle.ptflow.proofs.OfPaste.GivenRows.{gives_trans, gives_row, cells_took, whole_took}
+use Rattle.ptflow.proofs.OfPaste.Grids.{Column, times_below, times_front, grid_none}
 use Rattle.ptflow.proofs.OfPasses.LineLaws.{longest-append}
 use Rattle.ptflow.proofs.OfPasses.LinesCame.{lines_on, came_longest, piece_longest}
-use Rattle.ptflow.proofs.OfPaste.PasteKeepsUp.{CutBack, WorksAt, cut_piece, cut_held, cut_lines, works_whole, works_behind, begins_behind, sheet-append}
-use Rattle.ptflow.proofs.OfPaste.RowTurns.{none_of_done}
-use Rattle.ptflow.proofs.OfPasses.ReaderFacts.{given_of, done_gives_nothing, stays_done, may_come}
-use Rattle.ptflow.proofs.OfPaste.Takes.{reads_nothing, took_nothing, took_more, lines_trans}
+use Rattle.ptflow.proofs.OfPaste.PasteKeepsUp.{CutBack, WorksAt, cut_piece, cut_held, cut_before, cut_lines, works_whole, works_behind, begins_behind, sheet-append}
+use Rattle.ptflow.proofs.OfPasses.ReaderFacts.{given_of, done_gives_nothing, may_come}
+use Rattle.ptflow.proofs.OfPaste.Takes.{reads_nothing, took_nothing, lines_trans}
 
 -- ---- places that cells name
 
@@ -51,15 +51,9 @@ named_at (x ∷ cells) p some = by_test (x == p) refl (named_at cells p)
 pub all_named : (P : ℕ → Type 0) (cells : List ℕ) → All P cells → (p : ℕ) → 0 < times cells p → P p
 all_named P cells all p some = let n = named_at cells p some in subst P n.2 (All-get_or P cells n.0 0 n.1 all)
 
--- lines of a reader by another byte than that of its own, where none was taken
-retook : (end : ℕ) (b c : Reader) (n : ℕ) (ys : Column) → (0 < n → b.ending ≡ end) → Took b.ending b c n ys → Took end b c n ys
-retook end b c n ys same t = ⊎_elim (λ some. subst (λ (e : ℕ). Took e b c n ys) (same some) t) none (cases_lt 0 n)
-  where
-    none : n ≤ 0 → Took end b c n ys
-    none few =
-        let zero_is : n ≡ 0 = omega arith in
-        let empty : ys ≡ [] = nil_from_length ys (⊎_elim (λ is. omega (arith, is)) (λ is. omega (arith, is.1)) t.enough) in
-        rw (t.none zero_is, empty, zero_is) (took_nothing end b)
+-- rows take nothing of a reader that no cell names
+none_of : (n : ℕ) {k : ℕ} → k ≡ 0 → n * k ≡ 0
+none_of n none = ap (λ (k : ℕ). n * k) none ∙ omega arith
 
 -- no more lines than were asked for
 at_most : {end : ℕ} {b c : Reader} {n : ℕ} {ys : Column} → Took end b c n ys → length ys ≤ n
@@ -86,11 +80,9 @@ known_on end now given ls k rest false may = ⊎_elim
 
 -- These rows were passed, and these lines are those of the inputs in them.
 pub record Pasting (job : Paste) (cells : List ℕ) (set now : List Reader) (was is : Output) (first store : Slots) : Type 0 where
-  pub n : ℕ
   pub ls : ℕ → Column
   pub passed : List (List (List ℕ))
-  pub count : length passed ≡ n
-  pub took : (p : ℕ) → Took job.end (reader_at set p) (reader_at now p) (n * times cells p) (ls p)
+  pub took : (p : ℕ) → Took job.end (reader_at set p) (reader_at now p) (length passed * times cells p) (ls p)
   pub on : (more : ℕ → Column) → ((p : ℕ) → IsDone (reader_at now p) → more p ≡ []) → rows (columns cells (λ p. ls p ++ more p)) ≡ passed ++ rows (columns cells more)
   pub wrote : Wrote was is (sheet job passed)
   pub clean : is.faulted ≡ false
@@ -101,10 +93,8 @@ module _ (job : Paste) (cells : List ℕ) where
   pub pasting_starts : (set : List Reader) (was : Output) (first store : Slots) → was.faulted ≡ false → Adds first store (length cells) → store.denied ≡ false
       → total store.lines ≡ 0 → store.peak ≡ first.peak → Pasting job cells set set was was first store
   pasting_starts set was first store clean adds allowed empty peak = record {
-    n = 0;
     ls = λ p. [];
     passed = [];
-    count = refl;
     took = λ p. let none : 0 * times cells p ≡ 0 = omega arith in rw none (took_nothing job.end (reader_at set p));
     on = λ more may. refl;
     wrote = wrote_nothing was;
@@ -117,10 +107,8 @@ module _ (job : Paste) (cells : List ℕ) where
   pub pasting_sent : (set now : List Reader) (was is sent : Output) (first store : Slots) → Pasting job cells set now was is first store → Wrote is sent []
       → sent.faulted ≡ false → Pasting job cells set now was sent first store
   pasting_sent set now was is sent first store s wrote clean = record {
-    n = s.n;
     ls = s.ls;
     passed = s.passed;
-    count = s.count;
     took = s.took;
     on = s.on;
     wrote = subst (λ (b : List ℕ). Wrote was sent b) (append-nil (sheet job s.passed)) (wrote_trans was is sent (sheet job s.passed) [] s.clean s.wrote wrote);
@@ -131,92 +119,52 @@ module _ (job : Paste) (cells : List ℕ) where
 
   module _ (set now : List Reader) (was is : Output) (first store : Slots) (s : Pasting job cells set now was is first store)
       (named_end : (p : ℕ) → 0 < times cells p → (reader_at set p).ending ≡ job.end) where
-    -- the lines of a row, by the job's byte
-    row_took : (c : ℕ) (new : List Reader) (after : Slots) (got : ℕ → Column) → RowTaken cells c now new store after got → (p : ℕ)
-        → Took job.end (reader_at now p) (reader_at new p) (times (take c cells) p) (got p)
-    row_took c new after got t p = retook job.end (reader_at now p) (reader_at new p) (times (take c cells) p) (got p)
-        (λ some. (s.took p).reads.ending ∙ named_end p (omega (arith, some, times_front cells c p))) (t.took p)
-
-    all_took : (c : ℕ) (new : List Reader) (after : Slots) (got : ℕ → Column) → RowTaken cells c now new store after got → (p : ℕ)
-        → Took job.end (reader_at set p) (reader_at new p) (s.n * times cells p + times (take c cells) p) (s.ls p ++ got p)
-    all_took c new after got t p = took_more job.end (reader_at set p) (reader_at now p) (reader_at new p) (s.n * times cells p) (times (take c cells) p)
-        (s.ls p) (got p) (s.took p) (row_took c new after got t p)
+    now_end : (p : ℕ) → 0 < times cells p → (reader_at now p).ending ≡ job.end
+    now_end p some = (s.took p).reads.ending ∙ named_end p some
 
     -- more of each input may come only where it was not done
     rest_on : (p : ℕ) (q : Reader) (bytes rest : List ℕ) → Reads (reader_at now p) q bytes → (IsDone q → rest ≡ [])
         → lines job.end ((s.took p).bytes ++ (bytes ++ rest)) ≡ s.ls p ++ lines job.end (bytes ++ rest)
     rest_on p q bytes rest reads may = lines_on job.end (reader_at now p) (s.took p).bytes (s.ls p) (s.took p).came (bytes ++ rest) (may_come (reader_at now p) q bytes rest reads may)
 
+    -- rows more were passed
+    pub pasting_on : (new : List Reader) (ls : ℕ → Column) (more : List (List (List ℕ))) → GivesRows job.end cells now new ls more → (held : Slots)
+        → ((top : ℕ → ℕ) → ((p : ℕ) → longest (s.ls p ++ ls p) ≤ top p) → KeepsCells cells top first held)
+        → (is' : Output) → Wrote is is' (sheet job more) → is'.faulted ≡ false → Pasting job cells set new was is' first held
+    pasting_on new ls more g held kept is' wrote clean =
+        let all = gives_trans job.end cells set now new s.ls ls s.passed more (record { took = s.took; on = s.on; count = s.same }) g in record {
+          ls = λ p. s.ls p ++ ls p;
+          passed = s.passed ++ more;
+          took = all.took;
+          on = all.on;
+          wrote = subst (λ (b : List ℕ). Wrote was is' b) (sym (sheet-append job s.passed more)) (wrote_trans was is is' (sheet job s.passed) (sheet job more) s.clean s.wrote wrote);
+          clean = clean;
+          kept = kept;
+          same = all.count;
+        }
+
+    -- the same where their cells were in no slots
+    pub pasting_unstored : (new : List Reader) (ls : ℕ → Column) (more : List (List (List ℕ))) → GivesRows job.end cells now new ls more → (is' : Output)
+        → Wrote is is' (sheet job more) → is'.faulted ≡ false → Pasting job cells set new was is' first store
+    pasting_unstored new ls more g is' wrote clean =
+        pasting_on new ls more g store (λ top high. s.kept top (λ p. omega (arith, high p, longest-append (s.ls p) (ls p)))) is' wrote clean
+
+    -- a row came by way of the slots
     module _ (new : List Reader) (after : Slots) (got : ℕ → Column) (t : RowTaken cells (length cells) now new store after got) where
-      every_cell : take (length cells) cells ≡ cells
-      every_cell = take_all (length cells) cells (omega arith)
-
-      whole_took : (p : ℕ) → Took job.end (reader_at now p) (reader_at new p) (times cells p) (got p)
-      whole_took p = subst (λ (l : List ℕ). Took job.end (reader_at now p) (reader_at new p) (times l p) (got p)) every_cell (row_took (length cells) new after got t p)
-
-      -- behind the lines of the row
-      behind : (more : ℕ → Column) → ((p : ℕ) → IsDone (reader_at new p) → more p ≡ []) → rows (columns cells (λ p. (s.ls p ++ got p) ++ more p)) ≡ s.passed
-          ++ rows (columns cells (λ p. got p ++ more p))
-      behind more may =
-          (λ i. rows (columns cells (λ p. append_assoc (s.ls p) (got p) (more p) i)))
-          ∙ s.on (λ p. got p ++ more p) (λ p done. (λ i. none_of_done job.end (reader_at now p) (reader_at new p) (times cells p) (got p) (whole_took p) done i
-          ++ may p (stays_done (reader_at now p) (reader_at new p) (whole_took p).bytes done (whole_took p).reads) i))
-
       more_kept : (top : ℕ → ℕ) → ((p : ℕ) → longest (s.ls p ++ got p) ≤ top p) → KeepsCells cells top first after
       more_kept top high =
           t.kept first top (s.kept top (λ p. omega (arith, high p, longest-append (s.ls p) (got p)))) (λ p. omega (arith, high p, longest-append (s.ls p) (got p)))
 
-      more_took : (p : ℕ) → Took job.end (reader_at set p) (reader_at new p) ((s.n + 1) * times cells p) (s.ls p ++ got p)
-      more_took p =
-          let all : (s.n + 1) * times cells p ≡ s.n * times cells p + times cells p = omega arith in
-          rw all (took_more job.end (reader_at set p) (reader_at now p) (reader_at new p) (s.n * times cells p) (times cells p) (s.ls p) (got p) (s.took p) (whole_took p))
-
-      -- a row that some cell has
       module _ (c : ℕ) (low : c < length cells) (last : length (got (get_or cells c 0)) ≡ times (take c cells) (get_or cells c 0) + 1) where
-        some : times (take c cells) (get_or cells c 0) < length (got (get_or cells c 0))
-        some = omega (arith, last)
-
-        row_of : List (List ℕ)
-        row_of = each (λ c p. slice_index_or (got p) (times (take c cells) p) []) cells
-
-        room : length cells ≤ length after.lines
-        room = omega (arith, (more_kept (λ p. longest (s.ls p ++ got p)) (λ p. omega arith)).adds.all (more_kept (λ p. longest (s.ls p ++ got p)) (λ p. omega arith)).denied)
-
-        slots_are : take (length cells) after.lines ≡ each (λ c p. slice_index_or (got p) (times (take c cells) p) []) cells
-        slots_are =
-            each_is (λ c p. slice_index_or (got p) (times (take c cells) p) []) cells (take (length cells) after.lines) [] (length-take-le (length cells) after.lines room)
-            (λ d within. get_or-take (length cells) after.lines d [] within ∙ t.slots d within)
-
-        row_passed : (held : Slots) → ((top : ℕ → ℕ) → ((p : ℕ) → longest (s.ls p ++ got p) ≤ top p) → KeepsCells cells top first held)
-            → (is' : Output) → Wrote is is' (glued_from job.delimiters 0 (take (length cells) after.lines) ++ job.end ∷ []) → is'.faulted ≡ false → Pasting job cells set new was is' first held
-        row_passed held kept is' wrote clean = record {
-          n = s.n + 1;
-          ls = λ p. s.ls p ++ got p;
-          passed = s.passed ++ each (λ c p. slice_index_or (got p) (times (take c cells) p) []) cells ∷ [];
-          count = omega (arith, s.count, length-append s.passed (each (λ c p. slice_index_or (got p) (times (take c cells) p) []) cells ∷ []));
-          took = more_took;
-          on = λ more may. behind more may ∙ ap (λ (l : List (List (List ℕ))). s.passed ++ l) (grid_step cells got more (taken more may) c low some)
-              ∙ sym (append_assoc s.passed (each (λ c p. slice_index_or (got p) (times (take c cells) p) []) cells ∷ []) (rows (columns cells more)));
-          wrote = subst (λ (b : List ℕ). Wrote was is' b) (sym (sheet-append job s.passed (each (λ c p. slice_index_or (got p) (times (take c cells) p) []) cells ∷ [])))
-              (wrote_trans was is is' (sheet job s.passed) (sheet job (each (λ c p. slice_index_or (got p) (times (take c cells) p) []) cells ∷ [])) s.clean s.wrote
-              (subst (λ (b : List ℕ). Wrote is is' b) (ap (λ (l : List (List ℕ)). glued_from job.delimiters 0 l ++ job.end ∷ []) slots_are
-              ∙ sym (append-nil (glued_from job.delimiters 0 (each (λ c p. slice_index_or (got p) (times (take c cells) p) []) cells) ++ job.end ∷ []))) wrote));
-          clean = clean;
-          kept = kept;
-          same = t.count ∙ s.same;
-        }
-          where
-            taken : (more : ℕ → Column) → ((p : ℕ) → IsDone (reader_at new p) → more p ≡ []) → Taken cells got more
-            taken more may = record { all = λ p. ⊎_elim (λ same. inl same) (λ few. inr (may p few.0, few.1)) (whole_took p).enough }
+        row_gives : GivesRows job.end cells now new got (take (length cells) after.lines ∷ [])
+        row_gives =
+            let k = more_kept (λ p. longest (s.ls p ++ got p)) (λ p. omega arith) in
+            gives_row job.end cells now new store after got now_end t (omega (arith, k.adds.all k.denied)) c low last
 
         pub pasting_more : (is' : Output) → Wrote is is' (glued_from job.delimiters 0 (take (length cells) after.lines) ++ job.end ∷ []) → is'.faulted ≡ false
             → Pasting job cells set new was is' first after
-        pasting_more is' wrote clean = row_passed after more_kept is' wrote clean
-
-        -- the same where its cells were in no slots
-        pub pasting_unstored : (is' : Output) → Wrote is is' (glued_from job.delimiters 0 (take (length cells) after.lines) ++ job.end ∷ []) → is'.faulted
-            ≡ false → Pasting job cells set new was is' first store
-        pasting_unstored is' wrote clean = row_passed store (λ top high. s.kept top (λ p. omega (arith, high p, longest-append (s.ls p) (got p)))) is' wrote clean
+        pasting_more is' wrote clean = pasting_on new got (take (length cells) after.lines ∷ []) row_gives after more_kept is'
+            (subst (λ (b : List ℕ). Wrote is is' b) (sym (append-nil (glued_from job.delimiters 0 (take (length cells) after.lines) ++ job.end ∷ []))) wrote) clean
 
 none_in : (cells : List ℕ) → sum_by (λ (p : ℕ). 0) cells ≡ 0
 none_in [] = refl
@@ -379,7 +327,7 @@ module _ (job : Paste) (cells : List ℕ) (old set now : List Reader) (was is : 
     failed_by p same = same ∙ (s.took p).failed ∙ failed_set p
 
     untouched_by : (p : ℕ) → times cells p ≡ 0 → reader_at new p ≡ reader_at now p → reader_at new p ≡ reader_at old p
-    untouched_by p none same = same ∙ (s.took p).none (let zero_is : s.n * times cells p ≡ s.n * 0 = ap (λ (k : ℕ). s.n * k) none in zero_is ∙ omega arith) ∙ (are_set p).left none
+    untouched_by p none same = same ∙ (s.took p).none (none_of (length s.passed) none) ∙ (are_set p).left none
 
   -- a growth of a slot was refused
   module _ (new : List Reader) (extra : ℕ → List ℕ) (reads : (p : ℕ) → Reads (reader_at now p) (reader_at new p) (extra p))
@@ -405,10 +353,92 @@ module _ (job : Paste) (cells : List ℕ) (old set now : List Reader) (was is : 
       halted = λ fault. absurd (false≢true (sym writable ∙ fault));
     }
 
-  -- a row was taken
+  -- rows were taken
+  module _ (new : List Reader) (ls : ℕ → Column) (more : List (List (List ℕ))) (g : GivesRows job.end cells now new ls more) where
+    abbrev rows_bytes : ℕ → List ℕ
+    rows_bytes p = (g.took p).bytes
+
+    abbrev rows_reads : (p : ℕ) → Reads (reader_at now p) (reader_at new p) (rows_bytes p)
+    rows_reads p = (g.took p).reads
+
+    rows_came : (p : ℕ) → LinesCame job.end (reader_at new p) ((s.took p).bytes ++ rows_bytes p) (s.ls p ++ ls p)
+    rows_came p = lines_trans job.end (reader_at now p) (reader_at new p) (s.took p).bytes (rows_bytes p) (s.ls p) (ls p) (s.took p).came (rows_reads p) (g.took p).came
+
+    rows_longest : (texts : ℕ → List ℕ) → ((p : ℕ) → Agrees (given_by new rows_bytes rows_reads p) (texts p)) → (p : ℕ) → longest (s.ls p ++ ls p) ≤ longest_line job.end (texts p)
+    rows_longest texts a p = came_longest job.end (reader_at new p) ((s.took p).bytes ++ rows_bytes p) (s.ls p ++ ls p) (rows_came p) (texts p) (a p)
+
+    -- one row decides no more than was passed, up to the last line of it that an input gave
+    works_row : length more ≡ 1 → (p : ℕ) → 0 < times cells p → WorksBy new rows_bytes rows_reads p
+    works_row one p some =
+        works_by new rows_bytes rows_reads p some
+        (cut_lines job.end (reader_at new p) ((s.took p).bytes ++ rows_bytes p) ((g.took p).held (held_now p some)) ((length s.passed + 1) * times cells p)
+        (s.ls p ++ ls p) (rows_came p) (omega (arith, some, count)) (omega (arith, count, count_one, length-append (s.ls p) (ls p), at_most (s.took p), at_most (g.took p))))
+      where
+        count : (length s.passed + 1) * times cells p ≡ length s.passed * times cells p + times cells p
+        count = omega arith
+
+        count_one : length more * times cells p ≡ times cells p
+        count_one = ap (λ (n : ℕ). n * times cells p) one ∙ omega arith
+
+    -- and rows that lay in what was held do not, up to them
+    works_held : ((p : ℕ) → (reader_at new p).pulled ≡ (reader_at now p).pulled) → (p : ℕ) → 0 < times cells p → WorksBy new rows_bytes rows_reads p
+    works_held still p some =
+        works_by new rows_bytes rows_reads p some
+        (cut_before job.end ((length s.passed + 1) * times cells p) (reader_at now p) (reader_at new p) (s.took p).bytes (rows_bytes p) (s.ls p) (s.took p).came (rows_reads p) (still p)
+        (held_now p some) (omega (arith, some, count, at_most (s.took p))))
+      where
+        count : (length s.passed + 1) * times cells p ≡ length s.passed * times cells p + times cells p
+        count = omega arith
+
+    -- a write failed while they were pushed
+    pub paste_write : (is' : Output) → Wrote is is' (sheet job more) → is'.faulted ≡ true → (after : Slots) → after.denied ≡ false → Adds first after (length cells)
+        → ((texts : ℕ → List ℕ) → ((p : ℕ) → Agrees (given_by new rows_bytes rows_reads p) (texts p)) → after.peak ≤ max first.peak (paste_size job cells texts))
+        → ((p : ℕ) → 0 < times cells p → WorksBy new rows_bytes rows_reads p) → IsPastePass job cells old new was is' first after (Err Write)
+    paste_write is' wrote fault after allowed adds peak works = record {
+      given = given_by new rows_bytes rows_reads;
+      came = came_by new rows_bytes rows_reads;
+      pushed = sheet job s.passed ++ sheet job more;
+      wrote = wrote_trans was is is' (sheet job s.passed) (sheet job more) s.clean s.wrote wrote;
+      ends = record { faulted = fault; failed = λ p. failed_by new rows_bytes rows_reads p (g.took p).failed; denied = allowed };
+      true_so_far = λ texts a. record { rest = sheet job (rows (columns cells (later texts a))); is = all texts a };
+      sure = λ p some failed clean. absurd (false≢true (sym clean ∙ fault));
+      keeps_up = λ p some clean. keeps_past new rows_bytes rows_reads is' (sheet job more) wrote p (works p some);
+      whole = λ ok. cc;
+      peak = peak;
+      slots = λ clean. adds;
+      refused = λ clean few. absurd (omega (arith, few, adds.all allowed));
+      untouched = λ p none. untouched_by new rows_bytes rows_reads p none ((g.took p).none (none_of (length more) none));
+      halted = λ halted. absurd (false≢true (sym writable ∙ halted));
+    }
+      where
+        later : (texts : ℕ → List ℕ) → ((p : ℕ) → Agrees (given_by new rows_bytes rows_reads p) (texts p)) → ℕ → Column
+        later texts a p = lines job.end ((reader_at new p).held ++ (a p).rest)
+
+        may : (texts : ℕ → List ℕ) (a : (p : ℕ) → Agrees (given_by new rows_bytes rows_reads p) (texts p)) (p : ℕ) → IsDone (reader_at new p) → (reader_at new p).held ++ (a p).rest ≡ []
+        may texts a p done = λ i. done.held i ++ (a p).whole done.ended i
+
+        lines_are : (texts : ℕ → List ℕ) (a : (p : ℕ) → Agrees (given_by new rows_bytes rows_reads p) (texts p)) (p : ℕ) → lines job.end (texts p) ≡ (s.ls p ++ ls p) ++ later texts a p
+        lines_are texts a p =
+            ap (lines job.end) ((a p).is ∙ append_assoc ((s.took p).bytes ++ rows_bytes p) (reader_at new p).held (a p).rest)
+            ∙ lines_on job.end (reader_at new p) ((s.took p).bytes ++ rows_bytes p) (s.ls p ++ ls p) (rows_came p) ((reader_at new p).held ++ (a p).rest) (may texts a p)
+
+        rows_are : (texts : ℕ → List ℕ) (a : (p : ℕ) → Agrees (given_by new rows_bytes rows_reads p) (texts p))
+            → rows (columns cells (λ p. lines job.end (texts p))) ≡ (s.passed ++ more) ++ rows (columns cells (later texts a))
+        rows_are texts a =
+            (λ i. rows (columns cells (λ p. lines_are texts a p i)))
+            ∙ (gives_trans job.end cells set now new s.ls ls s.passed more (record { took = s.took; on = s.on; count = s.same }) g).on (later texts a)
+            (λ p done. ap (lines job.end) (may texts a p done))
+
+        all : (texts : ℕ → List ℕ) (a : (p : ℕ) → Agrees (given_by new rows_bytes rows_reads p) (texts p))
+            → paste job cells texts ≡ (sheet job s.passed ++ sheet job more) ++ sheet job (rows (columns cells (later texts a)))
+        all texts a =
+            ap (sheet job) (rows_are texts a) ∙ sheet-append job (s.passed ++ more) (rows (columns cells (later texts a)))
+            ∙ ap (λ (b : List ℕ). b ++ sheet job (rows (columns cells (later texts a)))) (sheet-append job s.passed more)
+
+  -- a row came by way of the slots
   module _ (new : List Reader) (after : Slots) (got : ℕ → Column) (t : RowTaken cells (length cells) now new store after got) where
     took_by : (p : ℕ) → Took job.end (reader_at now p) (reader_at new p) (times cells p) (got p)
-    took_by p = whole_took job cells set now was is first store s named_end new after got t p
+    took_by p = whole_took job.end cells now new store after got (now_end job cells set now was is first store s named_end) t p
 
     abbrev row_bytes : ℕ → List ℕ
     row_bytes p = (took_by p).bytes
@@ -422,80 +452,25 @@ module _ (job : Paste) (cells : List ℕ) (old set now : List Reader) (was is : 
     lines_came : (p : ℕ) → LinesCame job.end (reader_at new p) ((s.took p).bytes ++ row_bytes p) (s.ls p ++ got p)
     lines_came p = lines_trans job.end (reader_at now p) (reader_at new p) (s.took p).bytes (row_bytes p) (s.ls p) (got p) (s.took p).came (row_reads p) (took_by p).came
 
+    kept_when : (top : ℕ → ℕ) → ((p : ℕ) → longest (s.ls p ++ got p) ≤ top p) → KeepsCells cells top first after
+    kept_when = more_kept job cells set now was is first store s named_end new after got t
+
     kept_by : (texts : ℕ → List ℕ) → ((p : ℕ) → Agrees (given_by new row_bytes row_reads p) (texts p)) → KeepsCells cells (λ p. longest_line job.end (texts p)) first after
-    kept_by texts a =
-        more_kept job cells set now was is first store s named_end new after got t (λ p. longest_line job.end (texts p))
+    kept_by texts a = kept_when (λ p. longest_line job.end (texts p))
         (λ p. came_longest job.end (reader_at new p) ((s.took p).bytes ++ row_bytes p) (s.ls p ++ got p) (lines_came p) (texts p) (a p))
 
     any_kept : KeepsCells cells (λ p. longest (s.ls p ++ got p)) first after
-    any_kept = more_kept job cells set now was is first store s named_end new after got t (λ p. longest (s.ls p ++ got p)) (λ p. omega arith)
-
-    -- up to the last line of the row that an input gave
-    works_row : (p : ℕ) → 0 < times cells p → WorksBy new row_bytes row_reads p
-    works_row p some =
-        works_by new row_bytes row_reads p some
-        (cut_lines job.end (reader_at new p) ((s.took p).bytes ++ row_bytes p) ((took_by p).held (held_now p some)) ((length s.passed + 1) * times cells p)
-        (s.ls p ++ got p) (lines_came p) (row_some p some) (row_few p))
-      where
-        row_count : (p : ℕ) → (length s.passed + 1) * times cells p ≡ s.n * times cells p + times cells p
-        row_count p = ap (λ (n : ℕ). (n + 1) * times cells p) s.count ∙ omega arith
-
-        row_some : (p : ℕ) → 0 < times cells p → 0 < (length s.passed + 1) * times cells p
-        row_some p some = omega (arith, some, row_count p)
-
-        row_few : (p : ℕ) → length (s.ls p ++ got p) ≤ (length s.passed + 1) * times cells p
-        row_few p = omega (arith, row_count p, length-append (s.ls p) (got p), at_most (s.took p), at_most (took_by p))
+    any_kept = kept_when (λ p. longest (s.ls p ++ got p)) (λ p. omega arith)
 
     -- a write failed while it was pushed
-    pub paste_write : (c : ℕ) → c < length cells → length (got (get_or cells c 0)) ≡ times (take c cells) (get_or cells c 0) + 1 → (is' : Output)
+    pub paste_row_write : (c : ℕ) → c < length cells → length (got (get_or cells c 0)) ≡ times (take c cells) (get_or cells c 0) + 1 → (is' : Output)
         → Wrote is is' (glued_from job.delimiters 0 (take (length cells) after.lines) ++ job.end ∷ []) → is'.faulted ≡ true
         → IsPastePass job cells old new was is' first after (Err Write)
-    paste_write c low last is' wrote fault = record {
-      given = given_by new row_bytes row_reads;
-      came = came_by new row_bytes row_reads;
-      pushed = sheet job s.passed ++ (glued_from job.delimiters 0 (take (length cells) after.lines) ++ job.end ∷ []);
-      wrote = wrote_trans was is is' (sheet job s.passed) (glued_from job.delimiters 0 (take (length cells) after.lines) ++ job.end ∷ []) s.clean s.wrote wrote;
-      ends = record { faulted = fault; failed = λ p. failed_by new row_bytes row_reads p (took_by p).failed; denied = any_kept.denied };
-      true_so_far = λ texts a. record { rest = sheet job (rows (columns cells (later texts a))); is = all texts a };
-      sure = λ p some failed clean. absurd (false≢true (sym clean ∙ fault));
-      keeps_up = λ p some clean. keeps_past new row_bytes row_reads is' (glued_from job.delimiters 0 (take (length cells) after.lines) ++ job.end ∷ []) wrote p (works_row p some);
-      whole = λ ok. cc;
-      peak = λ texts a. (kept_by texts a).peak;
-      slots = λ clean. any_kept.adds;
-      refused = λ clean few. absurd (omega (arith, few, any_kept.adds.all any_kept.denied));
-      untouched = λ p none. untouched_by new row_bytes row_reads p none (left_by p none);
-      halted = λ halted. absurd (false≢true (sym writable ∙ halted));
-    }
-      where
-        later : (texts : ℕ → List ℕ) → ((p : ℕ) → Agrees (given_by new row_bytes row_reads p) (texts p)) → ℕ → Column
-        later texts a p = lines job.end ((reader_at new p).held ++ (a p).rest)
-
-        may : (texts : ℕ → List ℕ) (a : (p : ℕ) → Agrees (given_by new row_bytes row_reads p) (texts p)) (p : ℕ) → IsDone (reader_at new p) → (reader_at new p).held ++ (a p).rest ≡ []
-        may texts a p done = λ i. done.held i ++ (a p).whole done.ended i
-
-        lines_are : (texts : ℕ → List ℕ) (a : (p : ℕ) → Agrees (given_by new row_bytes row_reads p) (texts p)) (p : ℕ) → lines job.end (texts p) ≡ (s.ls p ++ got p) ++ later texts a p
-        lines_are texts a p =
-            ap (lines job.end) ((a p).is ∙ append_assoc ((s.took p).bytes ++ row_bytes p) (reader_at new p).held (a p).rest)
-            ∙ lines_on job.end (reader_at new p) ((s.took p).bytes ++ row_bytes p) (s.ls p ++ got p) (lines_came p) ((reader_at new p).held ++ (a p).rest) (may texts a p)
-
-        row_is : (texts : ℕ → List ℕ) (a : (p : ℕ) → Agrees (given_by new row_bytes row_reads p) (texts p))
-            → rows (columns cells (λ p. lines job.end (texts p))) ≡ s.passed ++ (take (length cells) after.lines ∷ rows (columns cells (later texts a)))
-        row_is texts a =
-            (λ i. rows (columns cells (λ p. lines_are texts a p i)))
-            ∙ behind job cells set now was is first store s named_end new after got t (later texts a) (λ p done. ap (lines job.end) (may texts a p done))
-            ∙ ap (λ (l : List (List (List ℕ))). s.passed ++ l) (
-            grid_step cells got (later texts a) (record {
-              all = λ p. ⊎_elim (λ same. inl same) (λ few. inr (ap (lines job.end) (may texts a p few.0), few.1))
-                  (took_by p).enough;
-            }) c low (omega (arith, last))
-            ∙ (λ i. sym (slots_are job cells set now was is first store s named_end new after got t c low last) i ∷ rows (columns cells (later texts a)))
-            )
-
-        all : (texts : ℕ → List ℕ) (a : (p : ℕ) → Agrees (given_by new row_bytes row_reads p) (texts p))
-            → paste job cells texts ≡ (sheet job s.passed ++ (glued_from job.delimiters 0 (take (length cells) after.lines) ++ job.end ∷ [])) ++ sheet job (rows (columns cells (later texts a)))
-        all texts a =
-            ap (sheet job) (row_is texts a) ∙ sheet-append job s.passed (take (length cells) after.lines ∷ rows (columns cells (later texts a)))
-            ∙ sym (append_assoc (sheet job s.passed) (glued_from job.delimiters 0 (take (length cells) after.lines) ++ job.end ∷ []) (sheet job (rows (columns cells (later texts a)))))
+    paste_row_write c low last is' wrote fault =
+        let row : List (List ℕ) = take (length cells) after.lines in
+        let g = row_gives job cells set now was is first store s named_end new after got t c low last in
+        paste_write new got (row ∷ []) g is' (subst (λ (b : List ℕ). Wrote is is' b) (sym (append-nil (glued_from job.delimiters 0 row ++ job.end ∷ []))) wrote) fault after
+        any_kept.denied any_kept.adds (λ texts a. (kept_when (λ p. longest_line job.end (texts p)) (rows_longest new got (row ∷ []) g texts a)).peak) (works_row new got (row ∷ []) g refl)
 
     -- no cell has a line
     module _ (none : (p : ℕ) → got p ≡ []) where
@@ -579,7 +554,7 @@ module _ (job : Paste) (cells : List ℕ) (old set now : List Reader) (was is : 
     here_named = omega (arith, times_below cells c low)
 
     took_to : (p : ℕ) → Took job.end (reader_at now p) (reader_at mid p) (times (take c cells) p) (got p)
-    took_to p = row_took job cells set now was is first store s named_end c mid held got t p
+    took_to p = cells_took job.end cells now mid store held got (now_end job cells set now was is first store s named_end) c t p
 
     abbrev extra : ℕ → List ℕ
     extra p = cond (p == here) ((took_to p).bytes ++ piece) (took_to p).bytes
@@ -648,10 +623,10 @@ module _ (job : Paste) (cells : List ℕ) (old set now : List Reader) (was is : 
 
     -- a reader that may have more is the one that holds the row up
     module _ (going : IsDone (reader_at mid here) → ⊥) (few : length (reader_at now here).held ≤ 8192 → length (reader_at new here).held ≤ 8192) where
-      row_count : (p : ℕ) → (length s.passed + 1) * times cells p ≡ s.n * times cells p + times cells p
-      row_count p = ap (λ (n : ℕ). (n + 1) * times cells p) s.count ∙ omega arith
+      row_count : (p : ℕ) → (length s.passed + 1) * times cells p ≡ length s.passed * times cells p + times cells p
+      row_count p = omega arith
 
-      lines_few : (p : ℕ) → length (s.ls p ++ got p) ≤ s.n * times cells p + times (take c cells) p
+      lines_few : (p : ℕ) → length (s.ls p ++ got p) ≤ length s.passed * times cells p + times (take c cells) p
       lines_few p = omega (arith, length-append (s.ls p) (got p), at_most (s.took p), at_most (took_to p))
 
       abbrev cut_here : CutBy new extra reads_to here
@@ -828,49 +803,21 @@ pasting_still job cells set now new was is is' first store s same out =
     subst (λ (o : Output). Pasting job cells set new was o first store) (sym out) (subst (λ (r : List Reader). Pasting job cells set r was is first store) (sym same) s)
 
 module _ (job : Paste) (cells : List ℕ) (set now new : List Reader) (was is is' : Output) (first store : Slots)
-    (s : Pasting job cells set now was is first store) (p : PassedRow job.end job.delimiters cells now new is is') where
-  row_filled : FillsWhole job.end job.delimiters cells now new p.written store
-  row_filled = p.fills store (pasting_room job cells set now was is first store s)
+    (s : Pasting job cells set now was is first store) (p : PushedRows job.end job.delimiters cells now new is is') where
+  rows_wrote : Wrote is is' (sheet job p.held.passed)
+  rows_wrote = subst (λ (b : List ℕ). Wrote is is' b) p.held.is p.wrote
 
-  row_wrote : Wrote is is' (glued_from job.delimiters 0 (take (length cells) row_filled.store.lines) ++ job.end ∷ [])
-  row_wrote = subst (λ (b : List ℕ). Wrote is is' b) row_filled.is p.wrote
+  -- rows were passed
+  pub pasting_held : ((q : ℕ) → 0 < times cells q → (reader_at set q).ending ≡ job.end) → is'.faulted ≡ false → Pasting job cells set new was is' first store
+  pasting_held named_end clean = pasting_unstored job cells set now was is first store s named_end new p.held.ls p.held.passed p.held.gives is' rows_wrote clean
 
-  -- less is left
-  pub passed_less : sum_by budget new < sum_by budget now
-  passed_less = row_filled.filled.less refl
-
-  -- a row was passed
-  pub pasting_whole : ((p : ℕ) → 0 < times cells p → (reader_at set p).ending ≡ job.end) → is'.faulted ≡ false → Pasting job cells set new was is' first store
-  pasting_whole named_end clean =
-      let r = row_filled.filled in
-      let k = r.some refl in
-      pasting_unstored job cells set now was is first store s named_end new row_filled.store r.got r.taken k.0 k.1 k.2 is' row_wrote clean
-
-  -- a write failed while it was pushed
-  pub paste_whole_write : (old : List Reader) → was.faulted ≡ false → AreReady cells old first → AreSet job.end cells old set → is'.faulted ≡ true
+  -- a write failed while they were pushed
+  pub paste_held_write : (old : List Reader) → was.faulted ≡ false → AreReady cells old first → AreSet job.end cells old set → is'.faulted ≡ true
       → IsPastePass job cells old new was is' first store (Err Write)
-  paste_whole_write old writable ready are_set fault = record {
-    given = i.given;
-    came = i.came;
-    pushed = i.pushed;
-    wrote = i.wrote;
-    ends = record { faulted = i.ends.faulted; failed = i.ends.failed; denied = k.denied };
-    true_so_far = i.true_so_far;
-    sure = i.sure;
-    keeps_up = i.keeps_up;
-    whole = i.whole;
-    peak = λ texts a. omega (arith, row_filled.peak, i.peak texts a);
-    slots = λ clean. k.adds;
-    refused = λ clean few. absurd (omega (arith, few, k.adds.all k.denied));
-    untouched = i.untouched;
-    halted = λ halted. absurd (false≢true (sym writable ∙ halted));
-  }
-    where
-      i : IsPastePass job cells old new was is' first row_filled.store (Err Write)
-      i =
-          let r = row_filled.filled in
-          let c = r.some refl in
-          paste_write job cells old set now was is first store s writable ready are_set new row_filled.store r.got r.taken c.0 c.1 c.2 is' row_wrote fault
-
-      k : KeepsCells cells (λ p. longest (s.ls p)) first store
-      k = s.kept (λ p. longest (s.ls p)) (λ p. omega arith)
+  paste_held_write old writable ready are_set fault =
+      let h = p.held in
+      let k = s.kept (λ q. longest (s.ls q)) (λ q. omega arith) in
+      let longest_of = rows_longest job cells old set now was is first store s writable ready are_set new h.ls h.passed h.gives in
+      paste_write job cells old set now was is first store s writable ready are_set new h.ls h.passed h.gives is' rows_wrote fault store k.denied k.adds
+      (λ texts a. (s.kept (λ q. longest_line job.end (texts q)) (λ q. omega (arith, longest_of texts a q, longest-append (s.ls q) (h.ls q)))).peak)
+      (works_held job cells old set now was is first store s writable ready are_set new h.ls h.passed h.gives h.pulled)

@@ -15,7 +15,7 @@ mod whole_rows;
 use crate::faults::FlowFault;
 use crate::slots::need_slots;
 use crate::tools::paste::serial::{Cell, begin_cell};
-use crate::tools::paste::whole_rows::pass_row;
+use crate::tools::paste::whole_rows::pass_rows;
 use ptlangs::delims::Delims;
 use ptlangs::jobs::PasteJob;
 use ptlines::{LineFault, LineReader, Out, Sink, Source, Store, WriteFault};
@@ -121,7 +121,7 @@ pub fn paste<A: Allocator + Copy, S: Source, R: Source, W: Sink>(
     let ending = if job.zero { 0 } else { b'\n' };
     let mut room = [0; 8208];
     'rows: loop {
-        if pass_row(&job.delims, ending, cells, readers, &mut room, out)? {
+        if pass_rows(&job.delims, ending, cells, readers, &mut room, out)? {
             continue;
         }
         if !fill_row(cells, readers, store, out)? {

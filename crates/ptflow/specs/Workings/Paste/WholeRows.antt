@@ -1,12 +1,15 @@
 -- Rows of `paste` whose cells lie whole in what the readers hold.
-use Rattle.std.specs.Prelude.{◌≡◌, ℕ, ◌-◌, ◌<◌, ◌≤◌, Bool, true, false, List, [], ◌∷◌, ◌++◌, None, Option, Result, Ok, Err, length, take, drop, nat_lt, slice_index_or}
+use Rattle.std.specs.Prelude.{◌≡◌, ℕ, ◌-◌, ◌*◌, ◌<◌, ◌≤◌, Bool, true, false, List, [], ◌∷◌, ◌++◌, None, Option, Result, Ok, Err}
+use Rattle.std.specs.Prelude.{length, map, take, drop, nat_lt, slice_index_or, sum_by}
+use Rattle.ptlines.specs.Text.{text}
 use Rattle.ptlines.specs.Outputs.{Output, Wrote}
-use Rattle.ptlines.specs.Readers.{Reader}
+use Rattle.ptlines.specs.Readers.{Reader, IsDone, budget}
 use Rattle.ptlines.specs.Slots.{Slots}
 use Rattle.ptlines.specs.declared.out.WriteFault.{WriteFault}
 use Rattle.ptflow.specs.PastePasses.{reader_at}
-use Rattle.ptflow.specs.Pastes.{times, glued_from}
+use Rattle.ptflow.specs.Pastes.{times, glued_from, columns, rows}
 use Rattle.ptflow.specs.Workings.Paste.RowTurns.{RowFilled}
+use Rattle.ptflow.specs.Workings.Paste.TakenLines.{Took}
 use Rattle.ptflow.specs.declared.tools.paste.serial.Cell.{Cell}
 
 -- where a row stands in front of the cell of a column: behind the cell in front of it, if there is one
@@ -38,13 +41,29 @@ pub record FillsWhole (end : ℕ) (delims : List (Option ℕ)) (cells : List ℕ
 abbrev pub HoldsRow : ℕ → List (Option ℕ) → List ℕ → List Reader → List ℕ → List ℕ → Type 0
 HoldsRow end delims cells old taken written = (new : List Reader) → AreTaken taken old new → (before : Slots) → length cells ≤ length before.lines → FillsWhole end delims cells old new written before
 
--- a row that lies whole in what the readers held was taken, and pushed
-pub record PassedRow (end : ℕ) (delims : List (Option ℕ)) (cells : List ℕ) (old new : List Reader) (was is : Output) : Type 0 where
+-- These rows are the first ones of what the readers give, whatever comes behind them, and their lines were taken.
+pub record GivesRows (end : ℕ) (cells : List ℕ) (old new : List Reader) (ls : ℕ → List (List ℕ)) (passed : List (List (List ℕ))) : Type 0 where
+  pub took : (place : ℕ) → Took end (reader_at old place) (reader_at new place) (length passed * times cells place) (ls place)
+  pub on : (more : ℕ → List (List ℕ)) → ((place : ℕ) → IsDone (reader_at new place) → more place ≡ [])
+      → rows (columns cells (λ place. ls place ++ more place)) ≡ passed ++ rows (columns cells more)
+  pub count : length new ≡ length old
+
+-- Rows were taken of what the readers hold, one or more, and this is written of them.
+pub record HeldRows (end : ℕ) (delims : List (Option ℕ)) (cells : List ℕ) (old new : List Reader) (written : List ℕ) : Type 0 where
+  pub ls : ℕ → List (List ℕ)
+  pub passed : List (List (List ℕ))
+  pub gives : GivesRows end cells old new ls passed
+  pub pulled : (place : ℕ) → (reader_at new place).pulled ≡ (reader_at old place).pulled
+  pub less : sum_by budget new < sum_by budget old
+  pub is : written ≡ text end (map (glued_from delims 0) passed)
+
+-- and it was pushed at once
+pub record PushedRows (end : ℕ) (delims : List (Option ℕ)) (cells : List ℕ) (old new : List Reader) (was is : Output) : Type 0 where
   pub written : List ℕ
-  pub fills : (before : Slots) → length cells ≤ length before.lines → FillsWhole end delims cells old new written before
+  pub held : HeldRows end delims cells old new written
   pub wrote : Wrote was is written
 
-abbrev pub PassesRow : ℕ → List (Option ℕ) → List ℕ → List Reader → List Reader → Output → Output → Result Bool WriteFault → Type 0
-PassesRow end delims cells old new was is (Ok true) = PassedRow end delims cells old new was is × (is.faulted ≡ false)
-PassesRow end delims cells old new was is (Ok false) = (new ≡ old) × (is ≡ was)
-PassesRow end delims cells old new was is (Err fault) = PassedRow end delims cells old new was is × (is.faulted ≡ true)
+abbrev pub PassesRows : ℕ → List (Option ℕ) → List ℕ → List Reader → List Reader → Output → Output → Result Bool WriteFault → Type 0
+PassesRows end delims cells old new was is (Ok true) = PushedRows end delims cells old new was is × (is.faulted ≡ false)
+PassesRows end delims cells old new was is (Ok false) = (new ≡ old) × (is ≡ was)
+PassesRows end delims cells old new was is (Err fault) = PushedRows end delims cells old new was is × (is.faulted ≡ true)

@@ -5,7 +5,7 @@ ghost use Rattle.ptlangs.specs.Jobs.{paste_job};
 ghost use Rattle.ptflow.specs.PastePasses.{reader_at};
 ghost use Rattle.ptflow.specs.Pastes.{times};
 ghost use Rattle.ptflow.specs.Workings.Paste.SerialRests.{lead};
-ghost use Rattle.ptflow.specs.Workings.Paste.WholeRows.{in_front, AreReadable, Holds, AreTaken, HoldsRow, PassesRow};
+ghost use Rattle.ptflow.specs.Workings.Paste.WholeRows.{in_front, AreReadable, Holds, AreTaken, HoldsRow, PassesRows};
 
 use crate::tools::paste::serial::{Written, put_delimiter};
 use ptlangs::delims::Delims;
@@ -76,9 +76,10 @@ fn consume_taken<S: Source, R: Source>(readers: &mut [LineReader<S, R>], taken: 
     }
 }
 
-// Passes the next row, if it lies whole in what the readers hold. False is that it does not, and nothing happens.
+// Passes the next rows, if one at least lies whole in what the readers hold. False is that none does, and nothing
+// happens.
 #[inline(always)]
-pub(crate) fn pass_row<A: Allocator, S: Source, R: Source, W: Sink>(
+pub(crate) fn pass_rows<A: Allocator, S: Source, R: Source, W: Sink>(
     delims: &Delims<A>,
     ending: u8,
     cells: &[usize],
@@ -88,7 +89,7 @@ pub(crate) fn pass_row<A: Allocator, S: Source, R: Source, W: Sink>(
 ) -> Result<bool, WriteFault>
     requires within { All (λ place. place < length readers.old) cells.now }
     requires readable { AreReadable ending cells.now readers.old }
-    ensures { PassesRow ending delims.now cells.now readers.old readers.new out.old out.new result }
+    ensures { PassesRows ending delims.now cells.now readers.old readers.new out.old out.new result }
 {
     if cells.is_empty() || readers.len() > 16 {
         return Ok(false);
