@@ -2,11 +2,11 @@
 pub mod CellSlots
 pub mod GivenRows
 pub mod Grids
+pub mod OneReader
 pub mod PartsPaste
 pub mod PasteKeepsUp
 pub mod PasteLemmas
 pub mod PasteRows
-pub mod OneReader
 pub mod RowTurns
 pub mod SerialRests
 pub mod SheetRows

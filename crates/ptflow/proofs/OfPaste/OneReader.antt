@@ -1,16 +1,16 @@
 -- Rows whose cells all name one reader: the ends in what it holds are replaced in turn.
-use Rattle.std.proofs.Common.{◌≡◌, ◌≢◌, ℕ, zero, suc, ◌+◌, ◌-◌, ◌*◌, ◌/◌, ◌%◌, ◌==◌, ◌<◌, ◌≤◌, Bool, true, false, cond, List, [], ◌∷◌, ◌++◌, Option, None, Some, All, length}
+use Rattle.std.proofs.Common.{◌≡◌, ◌≢◌, ℕ, zero, suc, ◌+◌, ◌-◌, ◌*◌, ◌%◌, ◌<◌, ◌≤◌, Bool, cond, List, [], ◌∷◌, ◌++◌, Option, None, Some, All, length}
 use Rattle.std.proofs.Common.{map, take, drop, set, get_or, refl, sym, ◌∙◌, ap, subst, arith, append_assoc, length-append, length-drop, take-append-drop, ⊎_elim, inl}
-use Rattle.std.specs.Prelude.{unwrap_or, slice_index_or, sum_by}
+use Rattle.std.specs.Prelude.{unwrap_or, slice_index_or, option_to_list}
 use Rattle.std.specs.List.{count_by}
-use Rattle.std.proofs.lemmas.Bool.{cases_eq, eq-eqb}
+use Rattle.std.proofs.lemmas.Bool.{cases_eq, cases_lt, eq-eqb}
 use Rattle.std.proofs.lemmas.Nat.{mod-mul-add}
-use Rattle.std.proofs.lemmas.List.{append-nil, take_more, take_all, nil_from_length, length-take-le, length-set, get_or-take, take_at}
+use Rattle.std.proofs.lemmas.List.{take_more, take_all, nil_from_length, length-take-le, length-set, get_or_append_left, get_or_push, take_at}
 use Rattle.std.proofs.lemmas.List.Elements.{All-get_or}
 use Rattle.std.proofs.lemmas.List.Sums.{sum_by-cons, sum_by-append, sum_by-set}
 use Rattle.memchr.specs.Find.{is_byte}
 use Rattle.ptlines.specs.Text.{text, lines, IsLine, AreLines, EndsWithByte}
-use Rattle.ptlines.specs.Readers.{Reader, Goes, IsSound, IsDone, budget}
+use Rattle.ptlines.specs.Readers.{Reader, Goes, IsSound, budget}
 use Rattle.ptlines.proofs.Scanned.{goes_front}
 use Rattle.ptlines.proofs.TextLaws.{same_byte, other_byte, text-append, lines_are, the_lines}
 use Rattle.ptlangs.specs.DelimLists.{delim_at}
@@ -19,12 +19,48 @@ use Rattle.ptflow.specs.Pastes.{delimiter, glued_from, times, columns, rows}
 use Rattle.ptflow.specs.Workings.Paste.OneReader.{AreTurns, AreTurnsOfOne, AreRows}
 use Rattle.ptflow.specs.Workings.Paste.SerialRests.{with_turns}
 use Rattle.ptflow.specs.Workings.Paste.TakenLines.{Took}
-use Rattle.ptflow.specs.Workings.Paste.WholeRows.{GivesRows, HeldRows}
+use Rattle.ptflow.specs.Workings.Paste.WholeRows.{AreReadable, HeldRows}
 use Rattle.ptflow.proofs.OfBytes.Nths.{none_counted}
-use Rattle.ptflow.proofs.OfPaste.Grids.{Column, Taken, each, each_is, grid_step, times_here, times_other}
-use Rattle.ptflow.proofs.OfPaste.RowTurns.{at_same, at_other}
+use Rattle.ptflow.proofs.OfPaste.Grids.{Column, Taken, each_is, grid_step, times_here, times_other, times_below}
+use Rattle.ptflow.proofs.OfPaste.RowTurns.{at_same, at_other, at_index}
 use Rattle.ptflow.proofs.OfPaste.Takes.{took_nothing}
 use Rattle.ptflow.proofs.OfPaste.Turns.{turns-append, length-turns}
+
+-- ---- the turns of a row
+
+-- the bytes behind the cells in front of a column
+pub record TurnsSoFar (delims : List (Option ℕ)) (n : ℕ) (turns : List (Option ℕ)) : Type 0 where
+  pub count : length turns + 1 ≡ n
+  pub between : (c : ℕ) → c + 1 < n → (d : ℕ) × (slice_index_or turns c None ≡ Some d) × (delimiter delims c ≡ d ∷ [])
+
+module _ (delims : List (Option ℕ)) (n : ℕ) (turns after : List (Option ℕ)) (t : TurnsSoFar delims n turns) where
+  -- those that are there stay
+  stays : (turn : Option ℕ) → after ≡ turns ++ turn ∷ [] → (c : ℕ) → c + 1 < n → (d : ℕ) × (slice_index_or after c None ≡ Some d) × (delimiter delims c ≡ d ∷ [])
+  stays turn is c low =
+      let b = t.between c low in
+      (b.0, ap (λ (l : List (Option ℕ)). slice_index_or l c None) is ∙ get_or_append_left turns (turn ∷ []) None c (omega (arith, low, t.count)) ∙ b.1, b.2)
+
+  at_end : (turn : Option ℕ) → after ≡ turns ++ turn ∷ [] → (c : ℕ) → c + 1 ≡ n → slice_index_or after c None ≡ turn
+  at_end turn is c here = ap (λ (l : List (Option ℕ)). slice_index_or l c None) is ∙ get_or_push turns turn None c (omega (arith, here, t.count))
+
+  pub turns_more : (d : ℕ) → after ≡ turns ++ Some d ∷ [] → delim_at delims (n - 1) ≡ Some d → TurnsSoFar delims (n + 1) after
+  turns_more d is delim = record {
+    count = omega (arith, ap length is, length-append turns (Some d ∷ []), t.count);
+    between = λ c low. ⊎_elim
+        (λ before. stays (Some d) is c before)
+        (λ here.
+        let last : c + 1 ≡ n = omega (arith, here, low) in
+        let number : c ≡ n - 1 = omega (arith, last) in
+        (d, at_end (Some d) is c last, ap (delimiter delims) number ∙ ap option_to_list delim))
+        (cases_lt (c + 1) n);
+  }
+
+  pub turns_done : (size : ℕ) → n ≡ size → after ≡ turns ++ None ∷ [] → AreTurns delims size after
+  turns_done size all is = record {
+    count = omega (arith, ap length is, length-append turns (None ∷ []), t.count, all);
+    between = λ c low. stays None is c (omega (arith, low, all));
+    last = λ c here. at_end None is c (omega (arith, here, all));
+  }
 
 -- ---- whole rows are known by the number of their ends
 
@@ -41,8 +77,7 @@ ends_with : (end : ℕ) (bytes : List ℕ) → bytes ≢ [] → (0 < length byte
 ends_with end [] some last = absurd (some refl)
 ends_with end (b ∷ bs) some last =
     let n = length bs in
-    let there : length (b ∷ bs) - 1 ≡ n = omega arith in
-    (
+    let there : length (b ∷ bs) - 1 ≡ n = omega arith in (
       take n (b ∷ bs),
       sym (take_all (n + 1) (b ∷ bs) (omega arith)) ∙ take_more (b ∷ bs) n 0 (omega arith)
           ∙ ap (λ (x : ℕ). take n (b ∷ bs) ++ x ∷ []) (ap (λ (k : ℕ). get_or (b ∷ bs) k 0) (sym there) ∙ last (omega arith)),
@@ -182,10 +217,12 @@ module _ (cells : List ℕ) (place : ℕ) (same : (c : ℕ) → c < length cells
       ∙ ap (λ (r : List (List ℕ)). r ∷ rows (columns cells more)) (sym (each_is (λ c q. slice_index_or (only place ls q) (times (take c cells) q) []) cells ls [] long cell))
     where
       taken : Taken cells (only place ls) more
-      taken = record { all = λ q. inl (⊎_elim
-          (λ here. ap length (only_here place ls q here) ∙ long ∙ sym named_all ∙ ap (times cells) (sym here))
-          (λ there. ap length (only_there place ls q there) ∙ sym (named_not q there))
-          (cases_eq q place)) }
+      taken = record {
+        all = λ q. inl (⊎_elim
+            (λ here. ap length (only_here place ls q here) ∙ long ∙ sym named_all ∙ ap (times cells) (sym here))
+            (λ there. ap length (only_there place ls q there) ∙ sym (named_not q there))
+            (cases_eq q place));
+      }
 
       cell : (c : ℕ) → c < length cells → get_or ls c [] ≡ slice_index_or (only place ls (get_or cells c 0)) (times (take c cells) (get_or cells c 0)) []
       cell c low = sym (ap (λ (l : Column). slice_index_or l (times (take c cells) (get_or cells c 0)) []) (only_here place ls (get_or cells c 0) (same c low))
@@ -279,8 +316,8 @@ module _ (end : ℕ) (delims : List (Option ℕ)) (cells : List ℕ) (turns : Li
   pub held_rows : HeldRows end delims cells old new (with_turns end turns 0 (take count was.held))
   held_rows = record {
     passed = rows_in (length cells) rs.count rs.ls;
+    ls = only place rs.ls;
     gives = record {
-      ls = only place rs.ls;
       took = all_took;
       on = λ more may. rows_on cells place same t.some rs.count rs.ls more rs.long;
       count = length-set old place now;
@@ -295,3 +332,21 @@ module _ (end : ℕ) (delims : List (Option ℕ)) (cells : List ℕ) (turns : Li
         ap (with_turns end turns 0) rs.is ∙ ap (λ (m : ℕ). with_turns end turns m (text end rs.ls)) start
         ∙ rows_turned end (length cells) delims turns t.in_turn t.some 0 rs.count rs.ls rs.whole rs.long;
   }
+
+-- the same by what was put
+pub held_put : (end : ℕ) (delims : List (Option ℕ)) (cells : List ℕ) (turns : List (Option ℕ)) → AreTurnsOfOne delims cells turns → (old : List Reader)
+    → All (λ place. place < length old) cells → AreReadable end cells old
+    → (d : Reader) → IsSound (get_or old (get_or cells 0 0) d) → (bytes : List ℕ) → bytes ≡ (get_or old (get_or cells 0 0) d).held
+    → (count : ℕ) → 0 < count → count ≤ length bytes → AreRows end (length turns) (take count bytes)
+    → (e r : Reader) → r ≡ record (get_or old (get_or cells 0 0) e) { held = drop count (get_or old (get_or cells 0 0) e).held } → (written : List ℕ) → written ≡ with_turns end turns 0 (take count bytes)
+    → HeldRows end delims cells old (set old (get_or cells 0 0) r) written
+held_put end delims cells turns t old within readable d sound bytes is_held count some few rs e r step written put =
+    let p = get_or cells 0 0 in
+    let low : p < length old = All-get_or (λ (q : ℕ). q < length old) cells 0 0 t.some within in
+    let ready = readable p (omega (arith, times_below cells 0 t.some)) in
+    let held_is : bytes ≡ (reader_at old p).held = is_held ∙ ap (λ (x : Reader). x.held) (at_index old p d low) in
+    let rows = subst (λ (n : ℕ). AreRows end n (take count (reader_at old p).held)) t.in_turn.count (subst (λ (l : List ℕ). AreRows end (length turns) (take count l)) held_is rs) in
+    subst (λ (w : List ℕ). HeldRows end delims cells old (set old p r) w) (sym (put ∙ ap (λ (l : List ℕ). with_turns end turns 0 (take count l)) held_is))
+    (subst (λ (x : Reader). HeldRows end delims cells old (set old p x) (with_turns end turns 0 (take count (reader_at old p).held)))
+    (sym (step ∙ ap (λ (x : Reader). record x { held = drop count x.held }) (at_index old p e low)))
+    (held_rows end delims cells turns t old low ready.0 ready.1 (subst IsSound (at_index old p d low) sound) count some (omega (arith, few, ap length held_is)) rows))

@@ -8,14 +8,14 @@ ghost use Rattle.ptflow.specs.PastePasses.{AreReady, IsPastePass, reader_at};
 ghost use Rattle.ptflow.specs.Pastes.{glued_from, times};
 ghost use Rattle.ptflow.specs.Workings.Paste.RowTurns.{AreSet, FillsRow, is_write};
 
-pub(crate) mod serial;
 mod one_reader;
+pub(crate) mod serial;
 mod whole_rows;
 
 use crate::faults::FlowFault;
 use crate::slots::need_slots;
+use crate::tools::paste::one_reader::{pass_held_rows, turns_of_one};
 use crate::tools::paste::serial::{Cell, begin_cell};
-use crate::tools::paste::whole_rows::pass_rows;
 use ptlangs::delims::Delims;
 use ptlangs::jobs::PasteJob;
 use ptlines::{LineFault, LineReader, Out, Sink, Source, Store, WriteFault};
@@ -119,9 +119,10 @@ pub fn paste<A: Allocator + Copy, S: Source, R: Source, W: Sink>(
     set_endings(cells, job.zero, readers);
     need_slots(store, cells.len())?;
     let ending = if job.zero { 0 } else { b'\n' };
+    let turns = turns_of_one(&job.delims, cells);
     let mut room = [0; 8208];
     'rows: loop {
-        if pass_rows(&job.delims, ending, cells, readers, &mut room, out)? {
+        if pass_held_rows(&turns, &job.delims, ending, cells, readers, &mut room, out)? {
             continue;
         }
         if !fill_row(cells, readers, store, out)? {

@@ -10,6 +10,7 @@ ghost use Rattle.ptflow.specs.Workings.Paste.WholeRows.{AreReadable, PassesRows}
 
 use crate::kernels::replacing::replace_in_turn;
 use crate::tools::paste::serial::Written;
+use crate::tools::paste::whole_rows::pass_rows;
 use arrayvec::ArrayVec;
 use ptlangs::delims::Delims;
 use ptlines::{LineReader, Out, Sink, Source, WriteFault};
@@ -71,9 +72,9 @@ fn put_rows(turns: &[Option<u8>], ending: u8, bytes: &[u8], into: &mut Written) 
     end_before(ending, bytes, number % turns.len() as u64)
 }
 
-// Passes the rows that lie whole in what the reader holds, if all cells name one. False is that there are none, and nothing
-// happens.
-pub(crate) fn pass_rows_of_one<A: Allocator, S: Source, R: Source, W: Sink>(
+// Passes the next rows, if one at least lies whole in what the readers hold. False is that none does, and nothing
+// happens. Of one reader all such rows are passed at once.
+pub(crate) fn pass_held_rows<A: Allocator, S: Source, R: Source, W: Sink>(
     turns: &Option<Turns>,
     delims: &Delims<A>,
     ending: u8,
@@ -88,7 +89,7 @@ pub(crate) fn pass_rows_of_one<A: Allocator, S: Source, R: Source, W: Sink>(
     ensures { PassesRows ending delims.now cells.now readers.old readers.new out.old out.new result }
 {
     let Some(turns) = turns else {
-        return Ok(false);
+        return pass_rows(delims, ending, cells, readers, into, out);
     };
     let place = cells[0];
     let count = put_rows(turns, ending, readers[place].held(), into);

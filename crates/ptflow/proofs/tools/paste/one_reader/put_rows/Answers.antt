@@ -1,8 +1,5 @@
-use Rattle.std.proofs.Common.{◌≡◌, ◌<◌, ◌/◌, ◌-◌, length, take, get_or, sym, ◌∙◌, ap, arith, length-take, get_or-take}
-use Rattle.std.specs.List.{count_by}
+use Rattle.std.proofs.Common.{◌≡◌, ◌/◌, ◌-◌, length, take, get_or, ◌∙◌, ap, arith, get_or-take}
 use Rattle.std.proofs.lemmas.List.{take-append-le, length-take-le}
-use Rattle.memchr.specs.Find.{is_byte}
-use Rattle.ptflow.specs.Workings.Paste.SerialRests.{with_turns}
 use Rattle.ptflow.proofs.OfPaste.OneReader.{rows_known, turns-take}
 use Rattle.ptflow.proofs.OfPaste.Turns.{length-turns}
 use Rattle.ptflow.proofs.tools.paste.one_reader.put_rows.Goals as goal
