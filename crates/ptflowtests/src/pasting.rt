@@ -1,5 +1,7 @@
 //! `paste`, in rows and in series, over readers.
 
+ghost use Rattle.std.specs.Prelude.{◌<◌, All};
+
 use crate::comparing::{holds_of, same};
 use ptfakes::texts::{byte_at, text_of};
 use ptfakes::{Kept, Pieces, Refusing, Watched};
@@ -51,6 +53,68 @@ fn rows_are_sent_together(rt: HostRuntime) -> Result<(), Fail> {
     same(&rt, &out.finish(), &Ok(()));
     same(&rt, &out.into_sink().calls(), &2);
     Ok(())
+}
+
+// A number by which long outputs are told apart (FNV-1a).
+fn digest(bytes: &[u8]) -> u64 {
+    let mut number: u64 = 0xcbf2_9ce4_8422_2325;
+    for byte in bytes {
+        number = (number ^ u64::from(*byte)).wrapping_mul(0x0100_0000_01b3);
+    }
+    number
+}
+
+// 400 lines of up to 100 bytes, but for one that is longer than a block.
+fn lines_over_blocks(alloc: Global, ending: u8, ended: bool) -> Result<Vec<u8>, AllocError> {
+    let mut lengths = Vec::new(alloc);
+    for number in 0..400usize {
+        lengths.push(if number == 201 {
+            9000
+        } else {
+            number * 37 % 101
+        })?;
+    }
+    text_of(alloc, &lengths, ending, ended)
+}
+
+// What is written of them where all cells name their reader has this digest, whatever the pieces in which they come.
+fn rows_of_one_reader(
+    rt: &impl Abort,
+    alloc: Global,
+    cells: &[usize],
+    zero: bool,
+    ended: bool,
+    wanted: u64,
+) -> Result<(), Fail>
+    requires { All (λ place. place < 1) cells.now }
+{
+    let job = PasteJob {
+        serial: false,
+        delims: Delims::read(alloc, b",;:")?,
+        zero,
+    };
+    let text = lines_over_blocks(alloc, if zero { 0 } else { b'\n' }, ended)?;
+    for size in [1, 7, 8191, usize::MAX] {
+        let reader: Reader<'_> = LineReader::standard(Pieces::new(&text, size, u64::MAX));
+        let mut readers = [reader];
+        let mut store = Store::new(alloc, 0)?;
+        let mut out = Out::new(Kept::new(alloc));
+        let told = paste(&job, cells, &mut readers, &mut store, &mut out);
+        same(rt, &told, &Ok(()));
+        same(rt, &out.finish(), &Ok(()));
+        same(rt, &digest(out.into_sink().bytes()), &wanted);
+    }
+    Ok(())
+}
+
+// The digests are of what GNU's `paste -d ',;:' - -` and so on wrote of these lines. Rows cross the ends of blocks, one
+// has the long line, and of 3 and 7 columns the last row is short.
+#[test]
+fn rows_of_one_reader_over_blocks(rt: HostRuntime) -> Result<(), Fail> {
+    let alloc = rt.alloc();
+    rows_of_one_reader(&rt, alloc, &[0, 0], false, true, 0x2d87_e996_c991_47fe)?;
+    rows_of_one_reader(&rt, alloc, &[0, 0, 0], false, false, 0x7e70_6cd7_79c7_89ce)?;
+    rows_of_one_reader(&rt, alloc, &[0; 7], true, true, 0x7cdd_b415_9467_0554)
 }
 
 // An input that comes in pieces of so many bytes, and a sink that takes so many.

@@ -1,4 +1,5 @@
 -- `paste`.
+pub mod OneReader
 pub mod RowTurns
 pub mod SerialRests
 pub mod TakenLines

@@ -8,13 +8,14 @@ ghost use Rattle.ptflow.specs.PastePasses.{AreReady, IsPastePass, reader_at};
 ghost use Rattle.ptflow.specs.Pastes.{glued_from, times};
 ghost use Rattle.ptflow.specs.Workings.Paste.RowTurns.{AreSet, FillsRow, is_write};
 
+mod one_reader;
 pub(crate) mod serial;
 mod whole_rows;
 
 use crate::faults::FlowFault;
 use crate::slots::need_slots;
+use crate::tools::paste::one_reader::{pass_held_rows, turns_of_one};
 use crate::tools::paste::serial::{Cell, begin_cell};
-use crate::tools::paste::whole_rows::pass_rows;
 use ptlangs::delims::Delims;
 use ptlangs::jobs::PasteJob;
 use ptlines::{LineFault, LineReader, Out, Sink, Source, Store, WriteFault};
@@ -93,11 +94,13 @@ fn push_row<A: Allocator + Copy, W: Sink>(
 /// gives empty cells. A row ends with newline, or with byte 0 with `-z` (this project's own choice).
 ///
 /// A row of at most 8,192 bytes whose lines all lie whole in what the readers hold is pushed from there, if there are
-/// at most 16 readers. Of any other row, as of each row behind the end of an input, a slot of the store for each cell
-/// holds its line. The slots that are missing are added first; where one is refused, nothing is read or pushed. Nothing
-/// of a row is pushed before all its cells are known, and then all of it is, before anything more is read. What is
-/// staged is sent before a read that may have to wait ([`LineReader::send_before_wait`]). On an output that has faulted
-/// nothing is read. Without cells nothing is read or pushed.
+/// at most 16 readers. Where at most 64 cells all name one reader, and no delimiter between them is empty, all rows
+/// that lie whole in what it holds are pushed at once. Of any other row, as of each row behind the end of an input, a
+/// slot of the store for each cell holds its line. The slots that are missing are added first; where one is refused,
+/// nothing is read or pushed. Nothing of a row is pushed before all its cells are known, and then all of it is, before
+/// anything more is read. What is staged is sent before a read that may have to wait
+/// ([`LineReader::send_before_wait`]). On an output that has faulted nothing is read. Without cells nothing is read or
+/// pushed.
 /// # Errors
 /// `Read` with the place of a reader whose read failed, `Write` where a write failed; `Memory` where a growth of the
 /// store was refused, and the store is then denied.
@@ -118,9 +121,10 @@ pub fn paste<A: Allocator + Copy, S: Source, R: Source, W: Sink>(
     set_endings(cells, job.zero, readers);
     need_slots(store, cells.len())?;
     let ending = if job.zero { 0 } else { b'\n' };
+    let turns = turns_of_one(&job.delims, cells);
     let mut room = [0; 8208];
     'rows: loop {
-        if pass_rows(&job.delims, ending, cells, readers, &mut room, out)? {
+        if pass_held_rows(&turns, &job.delims, ending, cells, readers, &mut room, out)? {
             continue;
         }
         if !fill_row(cells, readers, store, out)? {

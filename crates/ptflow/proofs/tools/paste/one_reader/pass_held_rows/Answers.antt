@@ -1,0 +1,36 @@
+-- What the reader at the place of the first cell holds begins with whole rows, and what was put of them is pushed.
+use Rattle.std.proofs.Common.{take, sym, subst, arith}
+use Rattle.std.proofs.lemmas.Result.{err_from_is_err_and}
+use Rattle.ptflow.specs.Workings.Paste.OneReader.{AreTurnsOfOne}
+use Rattle.ptflow.proofs.OfPaste.OneReader.{held_put}
+use Rattle.ptflow.proofs.tools.paste.one_reader.pass_held_rows.Goals as goal
+
+pub returns-in_err-push : goal.returns-in_err-push
+returns-in_err-push g c =
+    let e = err_from_is_err_and c.from_residual.result c.from_residual.ensures.1 in
+    let t = subst (AreTurnsOfOne c.args.delims.now c.args.cells.now) (sym c.deref.ensures.0) (rw c.in-Some.is at c.requires.in_turn) in
+    rw (e.1) (
+      record {
+        written = take c.put_rows-count.result c.put_rows-count.new.into;
+        held = held_put c.args.ending c.args.delims.now c.args.cells.now c.deref.result.now t c.args.readers.now c.requires.within c.requires.readable
+            c.index-readers-place.result c.held.ensures.sound c.held.result.now c.held.ensures.held
+            c.put_rows-count.result (omega (arith, c.if-count-eq0.false)) c.put_rows-count.ensures.within c.put_rows-count.ensures.rows
+            c.index-readers-place-2.result c.consume.new.self c.consume.ensures.consumed (take c.put_rows-count.result c.put_rows-count.new.into) c.put_rows-count.ensures.put;
+        wrote = c.push.ensures.wrote;
+      },
+      c.in_err-push.ensures.fault,
+    )
+
+pub returns : goal.returns
+returns g c =
+    let t = subst (AreTurnsOfOne c.args.delims.now c.args.cells.now) (sym c.deref.ensures.0) (rw c.in-Some.is at c.requires.in_turn) in (
+      record {
+        written = take c.put_rows-count.result c.put_rows-count.new.into;
+        held = held_put c.args.ending c.args.delims.now c.args.cells.now c.deref.result.now t c.args.readers.now c.requires.within c.requires.readable
+            c.index-readers-place.result c.held.ensures.sound c.held.result.now c.held.ensures.held
+            c.put_rows-count.result (omega (arith, c.if-count-eq0.false)) c.put_rows-count.ensures.within c.put_rows-count.ensures.rows
+            c.index-readers-place-2.result c.consume.new.self c.consume.ensures.consumed (take c.put_rows-count.result c.put_rows-count.new.into) c.put_rows-count.ensures.put;
+        wrote = c.push.ensures.wrote;
+      },
+      c.in_ok-push.ensures.clean,
+    )

@@ -1,0 +1,44 @@
+-- Each turn but the last is the byte of a delimiter, since an empty one was answered by none; the last is the end's own.
+use Rattle.std.proofs.Common.{◌≡◌, ℕ, length, get_or, sym, ◌∙◌, ap, arith, ⊎_elim}
+use Rattle.std.proofs.lemmas.Bool.{cases_lt, eqb-false}
+use Rattle.std.proofs.lemmas.List.Elements.{All-from_get_or}
+use Rattle.ptflow.proofs.OfPaste.OneReader.{turns_more, turns_done}
+use Rattle.ptflow.proofs.tools.paste.one_reader.turns_of_one.Goals as goal
+
+pub loop-column-init : goal.loop-column-init
+loop-column-init g c = record {
+  so_far = record { count = omega (arith, ap length c.new-turns.ensures); between = λ k low. absurd (omega (arith, low)) };
+  same = λ k low. let first : k ≡ 0 = omega (arith, low) in ap (λ (m : ℕ). get_or c.args.cells.now m 0) first;
+}
+
+pub push-requires : goal.push-requires
+push-requires g c = (omega arith, omega (arith, c.loop-column.invariant.so_far.count, c.loop-column-test.true, c.if-cells-gt64.false))
+
+pub loop-column-preserved : goal.loop-column-preserved
+loop-column-preserved g c =
+    let n = c.loop-column.column in
+    let inv = c.loop-column.invariant in
+    record {
+      so_far = turns_more c.args.delims.now n c.loop-column.turns.items c.push.new.self.items inv.so_far c.in_ok-delim.delim c.push.ensures.items (sym c.at.ensures ∙ c.in_ok-delim.was);
+      same = λ k near. ⊎_elim
+          (λ before. inv.same k before)
+          (λ last. (let here : k ≡ n = omega (arith, last, near) in ap (λ (m : ℕ). get_or c.args.cells.now m 0) here) ∙ c.if-cells-column.false)
+          (cases_lt k n);
+    }
+
+pub push-requires-2 : goal.push-requires-2
+push-requires-2 g c =
+    let some = eqb-false (length c.args.cells.now) 0 (sym c.if-is_empty.ensures) in
+    (omega arith, omega (arith, some, c.loop-column.invariant.so_far.count, c.loop-column.auto.column-end, c.if-cells-gt64.false))
+
+pub returns : goal.returns
+returns g c =
+    let n = c.loop-column.column in
+    let cells = c.args.cells.now in
+    let some = eqb-false (length cells) 0 (sym c.if-is_empty.ensures) in
+    let all : n ≡ length cells = omega (arith, some, c.loop-column-test.false, c.loop-column.auto.column-end, c.loop-column.auto.column) in
+    record {
+      some = omega (arith, some);
+      same = All-from_get_or (λ (p : ℕ). p ≡ get_or cells 0 0) cells 0 (λ k low. c.loop-column.invariant.same k (omega (arith, low, all)));
+      in_turn = turns_done c.args.delims.now n c.loop-column.turns.items c.push-2.new.self.items c.loop-column.invariant.so_far (length cells) all c.push-2.ensures.items;
+    }

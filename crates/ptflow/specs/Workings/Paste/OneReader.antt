@@ -1,0 +1,24 @@
+-- Rows of `paste` whose cells all name one reader.
+use Rattle.std.specs.Prelude.{◌≡◌, ℕ, ◌+◌, ◌*◌, ◌<◌, List, [], ◌∷◌, None, Option, Some, All, length, slice_index_or}
+use Rattle.ptlines.specs.Text.{text, AreLines}
+use Rattle.ptflow.specs.Pastes.{delimiter}
+
+-- what stands behind each of n cells: a delimiter, which is a byte, and behind the last one the end of the row
+pub record AreTurns (delims : List (Option ℕ)) (n : ℕ) (turns : List (Option ℕ)) : Type 0 where
+  pub count : length turns ≡ n
+  pub between : (c : ℕ) → c + 1 < n → (d : ℕ) × (slice_index_or turns c None ≡ Some d) × (delimiter delims c ≡ d ∷ [])
+  pub last : (c : ℕ) → c + 1 ≡ n → slice_index_or turns c None ≡ None
+
+-- the same, where all cells name one reader
+pub record AreTurnsOfOne (delims : List (Option ℕ)) (cells : List ℕ) (turns : List (Option ℕ)) : Type 0 where
+  pub some : 0 < length cells
+  pub same : All (λ place. place ≡ slice_index_or cells 0 0) cells
+  pub in_turn : AreTurns delims (length cells) turns
+
+-- these bytes are the lines of whole rows of n cells
+pub record AreRows (end n : ℕ) (bytes : List ℕ) : Type 0 where
+  pub count : ℕ
+  pub ls : List (List ℕ)
+  pub is : bytes ≡ text end ls
+  pub whole : AreLines end ls
+  pub long : length ls ≡ count * n

@@ -1,0 +1,102 @@
+//! Rows of `paste` whose cells all name one reader: they are what it holds, where the ends of lines become in turn what
+//! stands behind each cell.
+
+ghost use Rattle.std.specs.Prelude.{◌≡◌, ◌<◌, ◌≤◌, ◌+◌, ◌-◌, ℕ, All, None, IfSome, length, slice_index_or, take};
+ghost use Rattle.std.specs.List.{count_by};
+ghost use Rattle.memchr.specs.Find.{is_byte};
+ghost use Rattle.ptflow.specs.Workings.Paste.OneReader.{AreTurnsOfOne, AreRows};
+ghost use Rattle.ptflow.specs.Workings.Paste.SerialRests.{with_turns};
+ghost use Rattle.ptflow.specs.Workings.Paste.WholeRows.{AreReadable, PassesRows};
+
+use crate::kernels::replacing::replace_in_turn;
+use crate::tools::paste::serial::Written;
+use crate::tools::paste::whole_rows::pass_rows;
+use arrayvec::ArrayVec;
+use ptlangs::delims::Delims;
+use ptlines::{LineReader, Out, Sink, Source, WriteFault};
+use std::alloc::Allocator;
+
+/// What stands behind each cell of a row: a delimiter, and behind the last one the end that is there.
+pub(crate) type Turns = ArrayVec<Option<u8>, 64>;
+
+// The turns of a row, if its cells, which are few, all name one reader, and a byte stands between each two of them.
+pub(crate) fn turns_of_one<A: Allocator>(delims: &Delims<A>, cells: &[usize]) -> Option<Turns>
+    ensures { IfSome result (λ turns. AreTurnsOfOne delims.now cells.now turns.items) }
+{
+    if cells.is_empty() || cells.len() > 64 {
+        return None;
+    }
+    let mut turns = ArrayVec::new();
+    for column in 1..cells.len() {
+        if cells[column] != cells[0] {
+            return None;
+        }
+        let delim = delims.at(column as u64 - 1)?;
+        turns.push(Some(delim));
+    }
+    turns.push(None);
+    Some(turns)
+}
+
+// The place behind the last end of a line behind which so many more ends stand, or 0.
+fn end_before(ending: u8, bytes: &[u8], over: u64) -> usize
+    requires { over ≤ count_by (is_byte ending) bytes.now }
+    ensures within { result ≤ length bytes.now }
+    ensures counted { count_by (is_byte ending) (take result bytes.now) + over ≡ count_by (is_byte ending) bytes.now }
+    ensures ends { 0 < result → slice_index_or bytes.now (result - 1) 0 ≡ ending }
+{
+    let mut left = over;
+    let mut at = bytes.len();
+    while at > 0 {
+        if bytes[at - 1] == ending {
+            if left == 0 {
+                return at;
+            }
+            left -= 1;
+        }
+        at -= 1;
+    }
+    0
+}
+
+// Puts the rows that lie whole in these bytes, and says where they end.
+fn put_rows(turns: &[Option<u8>], ending: u8, bytes: &[u8], into: &mut Written) -> usize
+    requires some { 0 < length turns.now }
+    requires room { length bytes.now ≤ 8192 }
+    ensures within { result ≤ length bytes.now }
+    ensures rows { AreRows ending (length turns.now) (take result bytes.now) }
+    ensures put { take result into.new ≡ with_turns ending turns.now 0 (take result bytes.now) }
+{
+    let count = bytes.len();
+    let number = replace_in_turn(turns, ending, 0, bytes, &mut into[..count]);
+    end_before(ending, bytes, number % turns.len() as u64)
+}
+
+// Passes the next rows, if one at least lies whole in what the readers hold. False is that none does, and nothing
+// happens. Of one reader all such rows are passed at once.
+pub(crate) fn pass_held_rows<A: Allocator, S: Source, R: Source, W: Sink>(
+    turns: &Option<Turns>,
+    delims: &Delims<A>,
+    ending: u8,
+    cells: &[usize],
+    readers: &mut [LineReader<S, R>],
+    into: &mut Written,
+    out: &mut Out<W>,
+) -> Result<bool, WriteFault>
+    requires in_turn { IfSome turns.now (λ list. AreTurnsOfOne delims.now cells.now list.items) }
+    requires within { All (λ place. place < length readers.old) cells.now }
+    requires readable { AreReadable ending cells.now readers.old }
+    ensures { PassesRows ending delims.now cells.now readers.old readers.new out.old out.new result }
+{
+    let Some(turns) = turns else {
+        return pass_rows(delims, ending, cells, readers, into, out);
+    };
+    let place = cells[0];
+    let count = put_rows(turns, ending, readers[place].held(), into);
+    if count == 0 {
+        return Ok(false);
+    }
+    readers[place].consume(count);
+    out.push(&into[..count])?;
+    Ok(true)
+}
