@@ -1,1 +1,2 @@
+pub mod RefusingParts
 pub mod Repeating
