@@ -1,5 +1,6 @@
 //! `comm` over sources and sinks of the tests.
 
+use crate::comparing::same;
 use ptfakes::{Kept, Pieces, Refusing};
 use ptlangs::jobs::CommJob;
 use ptlines::{LineReader, Out, Store};
@@ -63,7 +64,7 @@ fn expect(
     bytes: &[u8],
 ) -> Result<(), Fail> {
     let (result, kept, _peak) = run(alloc, alloc, case)?;
-    assert_eq!(rt; result, expected);
+    same(rt, &result, &expected);
     assert!(rt; kept.bytes() == bytes);
     Ok(())
 }
@@ -128,7 +129,7 @@ fn nothing_is_read_behind_a_line_out_of_order(rt: HostRuntime) -> Result<(), Fai
 // How many calls of the sink there were: each put, and the flush at the end.
 fn calls(rt: &impl Abort, alloc: Global, case: &Case<'_>) -> Result<u64, Fail> {
     let (result, kept, _peak) = run(alloc, alloc, case)?;
-    assert_eq!(rt; result, Ok(()));
+    same(rt, &result, &Ok(()));
     Ok(kept.calls())
 }
 
@@ -136,12 +137,12 @@ fn calls(rt: &impl Abort, alloc: Global, case: &Case<'_>) -> Result<u64, Fail> {
 #[test]
 fn what_is_staged_is_sent_before_a_read(rt: HostRuntime) -> Result<(), Fail> {
     let mut turns = over(b"a\nc\n", b"b\nd\n");
-    assert_eq!(rt; calls(&rt, rt.alloc(), &turns)?, 5);
+    same(&rt, &calls(&rt, rt.alloc(), &turns)?, &5);
     turns.size = usize::MAX;
-    assert_eq!(rt; calls(&rt, rt.alloc(), &turns)?, 3);
+    same(&rt, &calls(&rt, rt.alloc(), &turns)?, &3);
     let mut common = over(b"a\nb\n", b"a\n");
     common.size = 4;
-    assert_eq!(rt; calls(&rt, rt.alloc(), &common)?, 3);
+    same(&rt, &calls(&rt, rt.alloc(), &common)?, &3);
     Ok(())
 }
 
@@ -155,10 +156,10 @@ fn nothing_is_read_behind_a_failed_write(rt: HostRuntime) -> Result<(), Fail> {
     lines.size = usize::MAX;
     lines.passing = [2, 1];
     let (result, _kept, _peak) = run(rt.alloc(), rt.alloc(), &lines)?;
-    assert_eq!(rt; result, Err(MergeFault::Read(Side::First)));
+    same(&rt, &result, &Err(MergeFault::Read(Side::First)));
     lines.room = 0;
     let (result, _kept, _peak) = run(rt.alloc(), rt.alloc(), &lines)?;
-    assert_eq!(rt; result, Err(MergeFault::Write));
+    same(&rt, &result, &Err(MergeFault::Write));
     Ok(())
 }
 
@@ -182,9 +183,9 @@ fn each_read_fails_in_turn(rt: HostRuntime) -> Result<(), Fail> {
         let (result, kept, _peak) = run(rt.alloc(), rt.alloc(), &lines)?;
         assert!(rt; b"\t\ta\na\nb\n\tc\n".starts_with(kept.bytes()));
         if passing < 7 {
-            assert_eq!(rt; result, Err(MergeFault::Read(Side::First)));
+            same(&rt, &result, &Err(MergeFault::Read(Side::First)));
         } else {
-            assert_eq!(rt; result, Ok(()));
+            same(&rt, &result, &Ok(()));
         }
     }
     Ok(())
@@ -200,10 +201,10 @@ fn each_growth_refused_in_turn(rt: HostRuntime) -> Result<(), Fail> {
         assert!(rt; peak <= 4);
         if alloc.refused() {
             reached = passing + 1;
-            assert_eq!(rt; result, Err(MergeFault::Memory));
+            same(&rt, &result, &Err(MergeFault::Memory));
             assert!(rt; b"\t\ta\na\nb\n\tc\n".starts_with(kept.bytes()));
         } else {
-            assert_eq!(rt; result, Ok(()));
+            same(&rt, &result, &Ok(()));
             assert!(rt; kept.bytes() == b"\t\ta\na\nb\n\tc\n".as_slice());
         }
     }

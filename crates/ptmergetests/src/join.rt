@@ -1,5 +1,6 @@
 //! `join` over sources and sinks of the tests.
 
+use crate::comparing::same;
 use ptfakes::{Kept, Pieces, Refusing};
 use ptlangs::jobs::JoinJob;
 use ptlangs::outlist::OutList;
@@ -69,7 +70,7 @@ fn expect(
     for size in [1usize, 7, 4096] {
         case.size = size;
         let (result, kept, _peak) = run(alloc, alloc, job, &case)?;
-        assert_eq!(rt; result, expected);
+        same(rt, &result, &expected);
         assert!(rt; kept.bytes() == bytes);
     }
     Ok(())
@@ -192,26 +193,26 @@ fn nothing_is_read_behind_a_line_out_of_order(rt: HostRuntime) -> Result<(), Fai
     let mut lines = over(b"b\na\nc\n", b"a\nb\nc\nd\n");
     lines.passing = [2, 3];
     let (result, kept, _peak) = run(rt.alloc(), rt.alloc(), &job, &lines)?;
-    assert_eq!(rt; result, Err(MergeFault::Disorder(Side::First, 2)));
+    same(&rt, &result, &Err(MergeFault::Disorder(Side::First, 2)));
     assert!(rt; kept.bytes() == b"b\n".as_slice());
     lines.passing = [2, 2];
     let (result, _kept, _peak) = run(rt.alloc(), rt.alloc(), &job, &lines)?;
-    assert_eq!(rt; result, Err(MergeFault::Read(Side::Second)));
+    same(&rt, &result, &Err(MergeFault::Read(Side::Second)));
     let mut lines = over(b"a\nb\nc\nd\n", b"b\na\nc\n");
     lines.passing = [3, 2];
     let (result, kept, _peak) = run(rt.alloc(), rt.alloc(), &job, &lines)?;
-    assert_eq!(rt; result, Err(MergeFault::Disorder(Side::Second, 2)));
+    same(&rt, &result, &Err(MergeFault::Disorder(Side::Second, 2)));
     assert!(rt; kept.bytes() == b"b\n".as_slice());
     lines.passing = [2, 2];
     let (result, _kept, _peak) = run(rt.alloc(), rt.alloc(), &job, &lines)?;
-    assert_eq!(rt; result, Err(MergeFault::Read(Side::First)));
+    same(&rt, &result, &Err(MergeFault::Read(Side::First)));
     Ok(())
 }
 
 // How many calls of the sink there were: each put, and the flush at the end.
 fn calls(rt: &impl Abort, alloc: Global, job: &JoinJob, case: &Case<'_>) -> Result<u64, Fail> {
     let (result, kept, _peak) = run(alloc, alloc, job, case)?;
-    assert_eq!(rt; result, Ok(()));
+    same(rt, &result, &Ok(()));
     Ok(kept.calls())
 }
 
@@ -221,15 +222,15 @@ fn what_is_staged_is_sent_before_a_read(rt: HostRuntime) -> Result<(), Fail> {
     let mut job = JoinJob::new(rt.alloc());
     job.unpaired = [true, true];
     let mut turns = over(b"a\nc\n", b"b\nd\n");
-    assert_eq!(rt; calls(&rt, rt.alloc(), &job, &turns)?, 5);
+    same(&rt, &calls(&rt, rt.alloc(), &job, &turns)?, &5);
     turns.size = usize::MAX;
-    assert_eq!(rt; calls(&rt, rt.alloc(), &job, &turns)?, 3);
+    same(&rt, &calls(&rt, rt.alloc(), &job, &turns)?, &3);
     let mut gathers = over(b"a\nb\n", b"b 2\n");
     gathers.size = 4;
-    assert_eq!(rt; calls(&rt, rt.alloc(), &job, &gathers)?, 3);
+    same(&rt, &calls(&rt, rt.alloc(), &job, &gathers)?, &3);
     let mut pairs = over(b"a 1\nc 1\n", b"a 2\nd\n");
     pairs.size = 4;
-    assert_eq!(rt; calls(&rt, rt.alloc(), &job, &pairs)?, 4);
+    same(&rt, &calls(&rt, rt.alloc(), &job, &pairs)?, &4);
     Ok(())
 }
 
@@ -246,10 +247,10 @@ fn nothing_is_read_behind_a_failed_write(rt: HostRuntime) -> Result<(), Fail> {
     lines.size = usize::MAX;
     lines.passing = [2, 3];
     let (result, _kept, _peak) = run(rt.alloc(), rt.alloc(), &job, &lines)?;
-    assert_eq!(rt; result, Err(MergeFault::Read(Side::First)));
+    same(&rt, &result, &Err(MergeFault::Read(Side::First)));
     lines.room = 0;
     let (result, _kept, _peak) = run(rt.alloc(), rt.alloc(), &job, &lines)?;
-    assert_eq!(rt; result, Err(MergeFault::Write));
+    same(&rt, &result, &Err(MergeFault::Write));
     Ok(())
 }
 
@@ -288,7 +289,7 @@ fn a_group_is_kept_until_its_last_pair(rt: HostRuntime) -> Result<(), Fail> {
     let job = JoinJob::new(rt.alloc());
     let case = over(b"a 1\na 2\nb 3\nc 4\n", b"a x\na y\na z\nb u\nc v\nc w\n");
     let (result, kept, peak) = run(rt.alloc(), rt.alloc(), &job, &case)?;
-    assert_eq!(rt; result, Ok(()));
+    same(&rt, &result, &Ok(()));
     let pairs = b"a 1 x\na 1 y\na 1 z\na 2 x\na 2 y\na 2 z\nb 3 u\nc 4 v\nc 4 w\n";
     assert!(rt; kept.bytes() == pairs.as_slice());
     assert!(rt; peak <= 2 * 3 + 2 * 3 + 9);
@@ -302,7 +303,7 @@ fn a_read_that_fails(rt: HostRuntime) -> Result<(), Fail> {
     let mut case = over(b"a\nc\n", b"b\n");
     case.passing = [u64::MAX, 1];
     let (result, kept, _peak) = run(rt.alloc(), rt.alloc(), &job, &case)?;
-    assert_eq!(rt; result, Err(MergeFault::Read(Side::Second)));
+    same(&rt, &result, &Err(MergeFault::Read(Side::Second)));
     assert!(rt; kept.bytes() == b"a\nb\n".as_slice());
     Ok(())
 }
@@ -334,7 +335,7 @@ fn each_read_fails_in_turn(rt: HostRuntime) -> Result<(), Fail> {
         case.passing = [u64::MAX, passing];
         let (result, kept, _peak) = run(rt.alloc(), rt.alloc(), &job, &case)?;
         assert!(rt; PAIRS.starts_with(kept.bytes()));
-        assert_eq!(rt; result, Err(MergeFault::Read(Side::Second)));
+        same(&rt, &result, &Err(MergeFault::Read(Side::Second)));
     }
     Ok(())
 }
@@ -350,10 +351,10 @@ fn each_growth_refused_in_turn(rt: HostRuntime) -> Result<(), Fail> {
         assert!(rt; peak <= 21);
         if alloc.refused() {
             reached = passing + 1;
-            assert_eq!(rt; result, Err(MergeFault::Memory));
+            same(&rt, &result, &Err(MergeFault::Memory));
             assert!(rt; PAIRS.starts_with(kept.bytes()));
         } else {
-            assert_eq!(rt; result, Ok(()));
+            same(&rt, &result, &Ok(()));
             assert!(rt; kept.bytes() == PAIRS);
         }
     }

@@ -4,6 +4,8 @@
 #[cfg(test)]
 mod comm;
 #[cfg(test)]
+mod comparing;
+#[cfg(test)]
 mod join;
 #[cfg(test)]
 mod orders;
