@@ -169,6 +169,41 @@ fn runs_of_blanks(rt: HostRuntime) -> Result<(), Fail> {
     expect(&rt, rt.alloc(), &job, first, second, Ok(()), pairs)
 }
 
+// A line of so many words, with one space between each two, and a blank more behind the word at this place.
+fn words(alloc: Global, count: usize, place: usize, blank: u8) -> Result<Vec<u8>, Fail> {
+    let mut line = Vec::new(alloc);
+    for at in 0..count {
+        if at > 0 {
+            line.push(b' ')?;
+        }
+        line.push(b'k')?;
+        if at == place {
+            line.push(blank)?;
+        }
+    }
+    line.push(b'\n')?;
+    Ok(line)
+}
+
+#[test]
+fn a_blank_more_at_each_place(rt: HostRuntime) -> Result<(), Fail> {
+    let job = JoinJob::new(rt.alloc());
+    for count in [2usize, 3, 5, 6, 9, 10, 17, 18, 33, 34, 66] {
+        let tidy = words(rt.alloc(), count, count, b' ')?;
+        for place in 0..count {
+            let more = words(
+                rt.alloc(),
+                count,
+                place,
+                if place < 4 { b'\t' } else { b' ' },
+            )?;
+            expect(&rt, rt.alloc(), &job, &more, b"k", Ok(()), &tidy)?;
+            expect(&rt, rt.alloc(), &job, b"k", &more, Ok(()), &tidy)?;
+        }
+    }
+    Ok(())
+}
+
 #[test]
 fn inputs_out_of_order(rt: HostRuntime) -> Result<(), Fail> {
     let job = JoinJob::new(rt.alloc());
