@@ -1,6 +1,6 @@
 -- Rows that are the first ones of what readers give, and whose lines were taken.
 use Rattle.std.proofs.Common.{◌≡◌, ⊎_elim, inl, inr, ℕ, ◌+◌, ◌*◌, ◌<◌, ◌≤◌, List, [], ◌∷◌, ◌++◌, Option, false, length, take, get_or, map}
-use Rattle.std.proofs.Common.{refl, sym, ◌∙◌, ap, subst, arith, append_assoc, length-append}
+use Rattle.std.proofs.Common.{true, false, refl, sym, ◌∙◌, ap, subst, arith, append_assoc, length-append}
 use Rattle.std.specs.Prelude.{slice_index_or}
 use Rattle.std.proofs.lemmas.Bool.{cases_lt}
 use Rattle.std.proofs.lemmas.List.{append-nil, nil_from_length, take_all, length-take-le, get_or-take, length-map, map-append}
@@ -10,9 +10,9 @@ use Rattle.ptlines.specs.Slots.{Slots}
 use Rattle.ptlines.proofs.TextLaws.{text-append}
 use Rattle.ptflow.specs.PastePasses.{reader_at}
 use Rattle.ptflow.specs.Pastes.{glued_from, times, columns, rows}
-use Rattle.ptflow.specs.Workings.Paste.RowTurns.{RowTaken}
+use Rattle.ptflow.specs.Workings.Paste.RowTurns.{RowTaken, RowFilled}
 use Rattle.ptflow.specs.Workings.Paste.TakenLines.{Took}
-use Rattle.ptflow.specs.Workings.Paste.WholeRows.{AreReadable, AreTaken, FillsWhole, GivesRows, HeldRows}
+use Rattle.ptflow.specs.Workings.Paste.WholeRows.{GivesRows, HeldRows}
 use Rattle.ptflow.proofs.OfPaste.Grids.{Column, each, each_is, times_front, Taken, grid_step}
 use Rattle.ptflow.proofs.OfPaste.RowTurns.{none_of_done}
 use Rattle.ptflow.proofs.OfPasses.ReaderFacts.{stays_done}
@@ -80,9 +80,15 @@ module _ (end : ℕ) (cells : List ℕ) where
 
 -- ---- rows that lie whole in what the readers hold
 
--- a slot for a cell
-empty_slot : ℕ → List ℕ
+abbrev pub empty_slot : ℕ → List ℕ
 empty_slot cell = []
+
+-- slots that the cells of a row could fill
+abbrev pub blank : List ℕ → Slots
+blank cells = record { lines = map empty_slot cells; peak = 0; denied = false }
+
+pub length_blank : (cells : List ℕ) → length (blank cells).lines ≡ length cells
+length_blank cells = length-map cells empty_slot
 
 module _ (end : ℕ) (delims : List (Option ℕ)) (cells : List ℕ) where
   -- rows, and then more
@@ -96,19 +102,17 @@ module _ (end : ℕ) (delims : List (Option ℕ)) (cells : List ℕ) where
     is = (λ i. p.is i ++ q.is i) ∙ sym (ap (text end) (map-append (glued_from delims 0) p.passed q.passed) ∙ text-append end (map (glued_from delims 0) p.passed) (map (glued_from delims 0) q.passed));
   }
 
-  -- one row, by slots that its cells could have filled
-  pub held_row : (old new : List Reader) (taken written : List ℕ) → AreReadable end cells old → AreTaken taken old new
-      → ((before : Slots) → length cells ≤ length before.lines → FillsWhole end delims cells old new written before) → HeldRows end delims cells old new written
-  held_row old new taken written readable moved fills =
-      let blank : Slots = record { lines = map empty_slot cells; peak = 0; denied = false } in
-      let f = fills blank (omega (arith, length-map cells empty_slot)) in
-      let r = f.filled in
+  -- one row, by the slots that its cells could have filled
+  pub held_row : (old new : List Reader) → ((p : ℕ) → 0 < times cells p → (reader_at old p).ending ≡ end) → ((p : ℕ) → (reader_at new p).pulled ≡ (reader_at old p).pulled)
+      → (store : Slots) → RowFilled cells old new (blank cells) store true → (written : List ℕ) → written ≡ glued_from delims 0 (take (length cells) store.lines) ++ end ∷ []
+      → HeldRows end delims cells old new written
+  held_row old new named_end still store r written is =
       let k = r.some refl in
       record {
         ls = r.got;
-        passed = take (length cells) f.store.lines ∷ [];
-        gives = gives_row end cells old new blank f.store r.got (λ p some. (readable p some).1) r.taken (omega (arith, r.taken.same, length-map cells empty_slot)) k.0 k.1 k.2;
-        pulled = λ place. ap (λ (x : Reader). x.pulled) (moved.held place);
+        passed = take (length cells) store.lines ∷ [];
+        gives = gives_row end cells old new (blank cells) store r.got named_end r.taken (omega (arith, r.taken.same, length_blank cells)) k.0 k.1 k.2;
+        pulled = still;
         less = r.less refl;
-        is = f.is ∙ sym (append-nil (glued_from delims 0 (take (length cells) f.store.lines) ++ end ∷ []));
+        is = is ∙ sym (append-nil (glued_from delims 0 (take (length cells) store.lines) ++ end ∷ []));
       }

@@ -1,10 +1,10 @@
 -- Rows of `paste` whose cells lie whole in what the readers hold: they are told by the slots that filling them would fill.
-use Rattle.std.proofs.Common.{◌≡◌, ⊎_elim, inl, ℕ, zero, suc, ◌+◌, ◌-◌, ◌<◌, ◌≤◌, ◌^◌, Bool, true, false, cond, List, [], ◌∷◌, ◌++◌, Option, None, Some, length}
+use Rattle.std.proofs.Common.{◌≡◌, ⊎_elim, inl, inr, ℕ, zero, suc, ◌+◌, ◌-◌, ◌<◌, ◌≤◌, ◌^◌, Bool, true, false, cond, List, [], ◌∷◌, ◌++◌, Option, None, Some, length}
 use Rattle.std.proofs.Common.{take, drop, set, get_or, refl, sym, ◌∙◌, ap, subst, arith, append_assoc, length-append, length-drop}
 use Rattle.std.specs.Prelude.{nat_lt}
 use Rattle.std.proofs.lemmas.Bool.{cases_eq, cases_lt}
 use Rattle.std.proofs.lemmas.Bool.Decides.{nat_tests}
-use Rattle.std.proofs.lemmas.List.{append-nil, length-set, drop-drop, take_more_set, get_or-set_same, get_or-set_other, get_or_past, ext_get_or}
+use Rattle.std.proofs.lemmas.List.{append-nil, take-take, take-append-le, length-take-le, length-set, drop-drop, take_more_set, get_or-set_same, get_or-set_other, get_or_past, ext_get_or}
 use Rattle.memchr.specs.Find.{IsFirstByte, is_byte}
 use Rattle.ptlines.specs.Readers.{Reader, Goes, IsSound}
 use Rattle.ptlines.specs.Slots.{Slots, with_line}
@@ -13,7 +13,8 @@ use Rattle.ptlines.proofs.Scanned.{before_end, take_end, goes_front}
 use Rattle.ptflow.specs.PastePasses.{no_reader, reader_at}
 use Rattle.ptflow.specs.Workings.Paste.RowTurns.{RowFilled}
 use Rattle.ptflow.specs.Workings.Paste.SerialRests.{row_rest, row_from, begun, lead}
-use Rattle.ptflow.specs.Workings.Paste.WholeRows.{in_front, AreTaken, Holds, HoldsRow}
+use Rattle.ptflow.specs.Workings.Paste.WholeRows.{in_front, AreReadable, AreTaken, Holds, HeldRows, HoldsTo, PutsRow, PutsRows}
+use Rattle.ptflow.proofs.OfPaste.GivenRows.{blank, length_blank, held_row, held_trans}
 use Rattle.ptflow.proofs.OfPaste.RowTurns.{at_same, at_other, Filling, filling_starts, filling_line, filling_done}
 use Rattle.ptflow.proofs.OfPaste.SerialRests.{row_begun, row_line, row_end}
 use Rattle.ptflow.proofs.OfPaste.SheetRows.{first_cell}
@@ -55,26 +56,24 @@ behind_cell end delims (suc n) more =
 
 -- So many cells were put: their lines are in the slots of a store, and they were taken of readers, neither of which is
 -- there.
-pub record Putting (end : ℕ) (delims : List (Option ℕ)) (cells : List ℕ) (n : ℕ) (old : List Reader) (taken written : List ℕ) (before : Slots) : Type 0 where
+pub record Putting (end : ℕ) (delims : List (Option ℕ)) (cells : List ℕ) (n : ℕ) (old from : List Reader) (taken written : List ℕ) : Type 0 where
   pub mid : List Reader
   pub store : Slots
   pub came : Bool
-  pub filling : Filling cells n old mid before store came
+  pub filling : Filling cells n from mid (blank cells) store came
   pub began : 0 < n → came ≡ true
   pub moved : AreTaken taken old mid
-  pub peak : before.peak ≤ store.peak
   pub on : (more : List (List ℕ)) → row_from end delims first_cell (take n store.lines ++ more) ≡ written ++ row_from end delims (in_front n) more
 
-module _ (end : ℕ) (delims : List (Option ℕ)) (cells : List ℕ) (old : List Reader) where
-  pub putting_starts : (taken : List ℕ) → ((p : ℕ) → get_or taken p 0 ≡ 0) → (before : Slots) → Putting end delims cells 0 old taken [] before
-  putting_starts taken none before = record {
-    mid = old;
-    store = before;
+module _ (end : ℕ) (delims : List (Option ℕ)) (cells : List ℕ) (old from : List Reader) where
+  pub putting_starts : (taken : List ℕ) → AreTaken taken old from → Putting end delims cells 0 old from taken []
+  putting_starts taken moved = record {
+    mid = from;
+    store = blank cells;
     came = false;
-    filling = filling_starts cells old before;
+    filling = filling_starts cells from (blank cells);
     began = λ some. absurd (omega (arith, some));
-    moved = record { count = refl; held = λ p. ap (λ (n : ℕ). record (reader_at old p) { held = drop n (reader_at old p).held }) (sym (none p)) };
-    peak = omega arith;
+    moved = moved;
     on = λ more. refl;
   }
 
@@ -108,8 +107,7 @@ module _ (end : ℕ) (delims : List (Option ℕ)) (cells : List ℕ) (old : List
           (λ differ. omega (arith, holds p, get_or-set_other taken place p (get_or taken place 0 + (at + 1)) 0 differ))
           (cases_eq p place)
 
-      module _ (written next : List ℕ) (is : next ≡ (written ++ lead delims (in_front n)) ++ line_of) (before : Slots)
-          (room : length cells ≤ length before.lines) (h : Putting end delims cells n old taken written before) where
+      module _ (written next : List ℕ) (is : next ≡ (written ++ lead delims (in_front n)) ++ line_of) (h : Putting end delims cells n old from taken written) where
         abbrev mid_reader : Reader
         mid_reader = record was { held = drop (get_or taken place 0) was.held }
 
@@ -124,7 +122,7 @@ module _ (end : ℕ) (delims : List (Option ℕ)) (cells : List ℕ) (old : List
             (subst (λ (e : ℕ). IsFirstByte (is_byte e) (drop (get_or taken place 0) was.held) (Some at)) (sym ends) found) moved_on
 
         room_here : n < length h.store.lines
-        room_here = omega (arith, low, room, h.filling.taken.same)
+        room_here = omega (arith, low, length_blank cells, h.filling.taken.same)
 
         within_mid : place < length h.mid
         within_mid = omega (arith, within, h.moved.count)
@@ -155,35 +153,63 @@ module _ (end : ℕ) (delims : List (Option ℕ)) (cells : List ℕ) (old : List
             ∙ sym (append_assoc (written ++ lead delims (in_front n)) line_of (row_from end delims (in_front (n + 1)) more))
             ∙ ap (λ (l : List ℕ). l ++ row_from end delims (in_front (n + 1)) more) (sym is)
 
-        pub putting_more : Putting end delims cells (n + 1) old now_taken next before
+        pub putting_more : Putting end delims cells (n + 1) old from now_taken next
         putting_more = record {
           mid = set h.mid place new_reader;
           store = with_line h.store n line_of;
           came = true;
-          filling = filling_line cells n old h.mid before h.store h.came h.filling low within_mid room_here mid_reader (sym (h.moved.held place)) clean new_reader (with_line h.store n line_of)
+          filling = filling_line cells n from h.mid (blank cells) h.store h.came h.filling low within_mid room_here mid_reader (sym (h.moved.held place)) clean new_reader (with_line h.store n line_of)
               (sound_held was new_reader (get_or taken place 0 + (at + 1)) sound refl) gives;
           began = λ some. refl;
           moved = moved_next;
-          peak = omega (arith, h.peak);
           on = on_next;
         }
 
   -- all cells were put
-  pub putting_done : (n : ℕ) (taken written next : List ℕ) → n ≡ length cells → 0 < length cells → next ≡ written ++ end ∷ []
-      → ((before : Slots) → length cells ≤ length before.lines → Putting end delims cells n old taken written before)
-      → HoldsRow end delims cells old taken next
-  putting_done n taken written next all some is holds new moved before room =
-      let h = holds before room in
-      let same : h.mid ≡ new = ext_get_or no_reader h.mid new (h.moved.count ∙ sym moved.count) (λ p low. h.moved.held p ∙ sym (moved.held p)) in
+  pub putting_done : (n : ℕ) (before taken written next : List ℕ) → n ≡ length cells → 0 < length cells → AreReadable end cells old → AreTaken before old from
+      → next ≡ written ++ end ∷ [] → Putting end delims cells n old from taken written → HoldsTo end delims cells old from taken next
+  putting_done n before taken written next all some readable began is h =
       let came : h.came ≡ true = h.began (omega (arith, all, some)) in
       record {
-        store = h.store;
-        filled = subst (λ (r : List Reader). RowFilled cells old r before h.store true) same
-            (subst (λ (t : Bool). RowFilled cells old h.mid before h.store t) came (filling_done cells n old h.mid before h.store h.came all h.filling));
-        peak = h.peak;
-        is = is ∙ ap (λ (l : List ℕ). written ++ l) (sym (row_end end delims (in_front n))) ∙ sym (h.on [])
-            ∙ ap (row_from end delims first_cell) (append-nil (take n h.store.lines)) ∙ ap (λ (k : ℕ). row_from end delims first_cell (take k h.store.lines)) all;
+        new = h.mid;
+        moved = h.moved;
+        rows = held_row end delims cells from h.mid (λ p named. ap (λ (r : Reader). r.ending) (began.held p) ∙ (readable p named).1)
+            (λ p. ap (λ (r : Reader). r.pulled) (h.moved.held p) ∙ sym (ap (λ (r : Reader). r.pulled) (began.held p))) h.store
+            (subst (λ (t : Bool). RowFilled cells from h.mid (blank cells) h.store t) came (filling_done cells n from h.mid (blank cells) h.store h.came all h.filling)) next
+            (is ∙ ap (λ (l : List ℕ). written ++ l) (sym (row_end end delims (in_front n))) ∙ sym (h.on [])
+            ∙ ap (row_from end delims first_cell) (append-nil (take n h.store.lines)) ∙ ap (λ (k : ℕ). row_from end delims first_cell (take k h.store.lines)) all);
       }
+
+-- ---- rows
+
+-- what stands in front of what was put
+pub front_kept : (at end : ℕ) (now old written : List ℕ) → at ≤ end → at ≤ length old → take end now ≡ take at old ++ written → take at now ≡ take at old
+front_kept at end now old written low fits is =
+    sym (take-take at end now low) ∙ ap (take at) is ∙ take-append-le at (take at old) written (omega (arith, length-take-le at old fits)) ∙ take-take at at old (omega arith)
+
+module _ (end : ℕ) (delims : List (Option ℕ)) (cells : List ℕ) (old : List Reader) where
+  -- nothing was taken
+  pub taken_none : (taken : List ℕ) → ((p : ℕ) → get_or taken p 0 ≡ 0) → AreTaken taken old old
+  taken_none taken none = record { count = refl; held = λ p. ap (λ (n : ℕ). record (reader_at old p) { held = drop n (reader_at old p).held }) (sym (none p)) }
+
+  -- one row more
+  pub rows_more : (before taken front put : List ℕ) → PutsRows end delims cells old before front → PutsRow end delims cells old before taken front put → PutsRows end delims cells old taken put
+  rows_more before taken front put so_far r = inr (⊎_elim first next so_far)
+    where
+      first : (front ≡ []) × AreTaken before old old → HoldsTo end delims cells old old taken put
+      first none = subst (HoldsTo end delims cells old old taken) (sym (r.is ∙ ap (λ (l : List ℕ). l ++ r.written) none.0)) (r.row old none.1)
+
+      next : HoldsTo end delims cells old old before front → HoldsTo end delims cells old old taken put
+      next h =
+          let k = r.row h.new h.moved in
+          record { new = k.new; moved = k.moved; rows = subst (HeldRows end delims cells old k.new) (sym r.is) (held_trans end delims cells old h.new k.new front r.written h.rows k.rows) }
+
+  -- all of them were taken of the readers
+  pub rows_taken : (taken put : List ℕ) (new : List Reader) → 0 < length put → PutsRows end delims cells old taken put → AreTaken taken old new → HeldRows end delims cells old new put
+  rows_taken taken put new some rows moved = ⊎_elim
+      (λ none. absurd (omega (arith, some, ap length none.0)))
+      (λ h. subst (λ (r : List Reader). HeldRows end delims cells old r put) (ext_get_or no_reader h.new new (h.moved.count ∙ sym moved.count) (λ p low. h.moved.held p ∙ sym (moved.held p))) h.rows)
+      rows
 
 -- ---- what was put is taken
 

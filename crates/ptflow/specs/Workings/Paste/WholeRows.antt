@@ -1,14 +1,12 @@
 -- Rows of `paste` whose cells lie whole in what the readers hold.
-use Rattle.std.specs.Prelude.{◌≡◌, ℕ, ◌-◌, ◌*◌, ◌<◌, ◌≤◌, Bool, true, false, List, [], ◌∷◌, ◌++◌, None, Option, Result, Ok, Err}
-use Rattle.std.specs.Prelude.{length, map, take, drop, nat_lt, slice_index_or, sum_by}
+use Rattle.std.specs.Prelude.{◌≡◌, ℕ, ◌-◌, ◌*◌, ◌<◌, ◌≤◌, ◌⊎◌, Bool, true, false, List, [], ◌++◌, None, Option, Result, Ok, Err}
+use Rattle.std.specs.Prelude.{length, map, drop, nat_lt, slice_index_or, sum_by}
 use Rattle.ptlines.specs.Text.{text}
 use Rattle.ptlines.specs.Outputs.{Output, Wrote}
 use Rattle.ptlines.specs.Readers.{Reader, IsDone, budget}
-use Rattle.ptlines.specs.Slots.{Slots}
 use Rattle.ptlines.specs.declared.out.WriteFault.{WriteFault}
 use Rattle.ptflow.specs.PastePasses.{reader_at}
 use Rattle.ptflow.specs.Pastes.{times, glued_from, columns, rows}
-use Rattle.ptflow.specs.Workings.Paste.RowTurns.{RowFilled}
 use Rattle.ptflow.specs.Workings.Paste.TakenLines.{Took}
 use Rattle.ptflow.specs.declared.tools.paste.serial.Cell.{Cell}
 
@@ -29,18 +27,6 @@ pub record AreTaken (taken : List ℕ) (old new : List Reader) : Type 0 where
   pub count : length new ≡ length old
   pub held : (place : ℕ) → reader_at new place ≡ record (reader_at old place) { held = drop (slice_index_or taken place 0) (reader_at old place).held }
 
--- This is written of the row that is filled where so many bytes are taken of each reader, if its cells went to the slots
--- of a store.
-pub record FillsWhole (end : ℕ) (delims : List (Option ℕ)) (cells : List ℕ) (old new : List Reader) (written : List ℕ) (before : Slots) : Type 0 where
-  pub store : Slots
-  pub filled : RowFilled cells old new before store true
-  pub peak : before.peak ≤ store.peak
-  pub is : written ≡ glued_from delims 0 (take (length cells) store.lines) ++ end ∷ []
-
--- The readers hold a whole row, and this is written of it.
-abbrev pub HoldsRow : ℕ → List (Option ℕ) → List ℕ → List Reader → List ℕ → List ℕ → Type 0
-HoldsRow end delims cells old taken written = (new : List Reader) → AreTaken taken old new → (before : Slots) → length cells ≤ length before.lines → FillsWhole end delims cells old new written before
-
 -- These rows are the first ones of what the readers give, whatever comes behind them, and their lines were taken.
 pub record GivesRows (end : ℕ) (cells : List ℕ) (old new : List Reader) (ls : ℕ → List (List ℕ)) (passed : List (List (List ℕ))) : Type 0 where
   pub took : (place : ℕ) → Took end (reader_at old place) (reader_at new place) (length passed * times cells place) (ls place)
@@ -56,6 +42,22 @@ pub record HeldRows (end : ℕ) (delims : List (Option ℕ)) (cells : List ℕ) 
   pub pulled : (place : ℕ) → (reader_at new place).pulled ≡ (reader_at old place).pulled
   pub less : sum_by budget new < sum_by budget old
   pub is : written ≡ text end (map (glued_from delims 0) passed)
+
+-- So many bytes are taken of each reader once these rows are taken too.
+pub record HoldsTo (end : ℕ) (delims : List (Option ℕ)) (cells : List ℕ) (old from : List Reader) (taken written : List ℕ) : Type 0 where
+  pub new : List Reader
+  pub moved : AreTaken taken old new
+  pub rows : HeldRows end delims cells from new written
+
+-- A row more was put, after which so many bytes are taken of each reader, and before it so many were.
+pub record PutsRow (end : ℕ) (delims : List (Option ℕ)) (cells : List ℕ) (old : List Reader) (before taken front put : List ℕ) : Type 0 where
+  pub written : List ℕ
+  pub is : put ≡ front ++ written
+  pub row : (from : List Reader) → AreTaken before old from → HoldsTo end delims cells old from taken written
+
+-- Of the rows that were put nothing is left out, if any was put.
+abbrev pub PutsRows : ℕ → List (Option ℕ) → List ℕ → List Reader → List ℕ → List ℕ → Type 0
+PutsRows end delims cells old taken put = (put ≡ [] × AreTaken taken old old) ⊎ HoldsTo end delims cells old old taken put
 
 -- and it was pushed at once
 pub record PushedRows (end : ℕ) (delims : List (Option ℕ)) (cells : List ℕ) (old new : List Reader) (was is : Output) : Type 0 where

@@ -1,35 +1,54 @@
 //! Rows of `paste` whose cells all lie whole in the blocks of their readers.
 
-ghost use Rattle.std.specs.Prelude.{◌≡◌, ◌<◌, ◌≤◌, ◌+◌, ◌++◌, ◌^◌, ℕ, length, take, All, None, IfSome, slice_index_or};
+ghost use Rattle.std.specs.Prelude.{◌≡◌, ◌<◌, ◌≤◌, ◌+◌, ◌++◌, ◌^◌, length, take, All, None, IfSome};
 ghost use Rattle.ptlangs.specs.Jobs.{paste_job};
 ghost use Rattle.ptflow.specs.PastePasses.{reader_at};
 ghost use Rattle.ptflow.specs.Pastes.{times};
+ghost use Rattle.ptlangs.specs.DelimLists.{delim_at};
 ghost use Rattle.ptflow.specs.Workings.Paste.SerialRests.{lead};
-ghost use Rattle.ptflow.specs.Workings.Paste.WholeRows.{in_front, AreReadable, Holds, AreTaken, HoldsRow, PassesRows};
+ghost use Rattle.ptflow.specs.Workings.Paste.WholeRows.{in_front, AreReadable, Holds, AreTaken, PutsRow, PutsRows, PassesRows};
 
-use crate::tools::paste::serial::{Written, put_delimiter};
+use crate::tools::paste::serial::Written;
 use ptlangs::delims::Delims;
 use ptlines::{LineReader, Out, Sink, Source, WriteFault, copy_near, find_near};
 use std::alloc::Allocator;
 
 // How many bytes are taken of each of few readers, by its place.
-type Taken = [usize; 16];
+type Taken = [u16; 16];
+
+// The delimiter behind a column, without a division where the list is long enough.
+#[inline(always)]
+fn delim_behind<A: Allocator>(delims: &Delims<A>, column: usize) -> Option<u8>
+    ensures { result ≡ delim_at delims.now column }
+{
+    let list = delims.as_slice();
+    if column < list.len() {
+        return list[column];
+    }
+    delims.at(column as u64)
+}
 
 // Puts the delimiter that stands in front of a cell, if there is one, and says where it ends.
 #[inline(always)]
 fn put_lead<A: Allocator>(delims: &Delims<A>, column: usize, into: &mut Written, at: usize) -> usize
-    requires room { at < 8192 }
+    requires room { at ≤ 8192 }
     ensures put { take result into.new ≡ take at into.old ++ lead delims.now (in_front column) }
-    ensures near { result ≤ at + 1 }
+    ensures near { (at ≤ result) × (result ≤ at + 1) }
 {
     if column == 0 {
         return at;
     }
-    put_delimiter(delims, column as u64 - 1, into, at)
+    match delim_behind(delims, column - 1) {
+        Some(byte) => {
+            into[at] = byte;
+            at + 1
+        }
+        None => at,
+    }
 }
 
-// Puts the next row, if each cell's line lies whole in what its reader holds, and all of them in the room. The answer is
-// where it ends, and `taken` has how many bytes it takes of each reader, which are still held.
+// Puts the next row, if each cell's line lies whole in what its reader holds, and the row in the room. The answer is
+// where it ends, and `taken` has how many bytes are taken of each reader then, which are still held.
 #[inline(always)]
 fn put_row<A: Allocator, S: Source, R: Source>(
     delims: &Delims<A>,
@@ -38,30 +57,62 @@ fn put_row<A: Allocator, S: Source, R: Source>(
     readers: &[LineReader<S, R>],
     taken: &mut Taken,
     into: &mut Written,
+    at: usize,
 ) -> Option<usize>
-    requires few { length readers.now ≤ 16 }
-    requires some { 0 < length cells.now }
+    requires few { (length readers.now ≤ 16) × (0 < length cells.now) }
     requires within { All (λ place. place < length readers.now) cells.now }
     requires readable { AreReadable ending cells.now readers.now }
-    requires none { (place : ℕ) → slice_index_or taken.old place 0 ≡ 0 }
-    ensures near { IfSome result (λ end. end ≤ 8192) }
+    requires held { Holds readers.now taken.old }
+    requires room { at ≤ 8192 }
+    ensures near { IfSome result (λ end. (at < end) × (end ≤ 8192)) }
     ensures held { IfSome result (λ end. Holds readers.now taken.new) }
-    ensures row { IfSome result (λ end. HoldsRow ending delims.now cells.now readers.now taken.new (take end into.new)) }
+    ensures row { IfSome result
+        (λ end. PutsRow ending delims.now cells.now readers.now taken.old taken.new (take at into.old) (take end into.new)) }
+    ensures kept { take at into.new ≡ take at into.old }
 {
-    let mut end = 0;
+    let mut end = at;
     for (column, place) in cells.iter().enumerate() {
         let from = put_lead(delims, column, into, end);
-        let rest = &readers[*place].held()[taken[*place]..];
+        let begin = taken[*place] as usize;
+        let rest = &readers[*place].held()[begin..];
         let count = find_near(ending, rest)?;
-        if count >= 8192 - from {
+        if from + count >= 8192 {
             return None;
         }
         copy_near(rest, 0, count, into, from);
         end = from + count;
-        taken[*place] += count + 1;
+        taken[*place] = (begin + (count + 1)) as u16;
     }
     into[end] = ending;
     Some(end + 1)
+}
+
+// Puts as many of the next rows as lie whole in what the readers hold, and in the room. The answer is where they end,
+// and how many bytes they take of each reader.
+#[inline(always)]
+fn put_rows<A: Allocator, S: Source, R: Source>(
+    delims: &Delims<A>,
+    ending: u8,
+    cells: &[usize],
+    readers: &[LineReader<S, R>],
+    into: &mut Written,
+) -> (usize, Taken)
+    requires few { (length readers.now ≤ 16) × (0 < length cells.now) }
+    requires within { All (λ place. place < length readers.now) cells.now }
+    requires readable { AreReadable ending cells.now readers.now }
+    ensures near { result.0 ≤ 8192 }
+    ensures held { Holds readers.now result.1 }
+    ensures rows { PutsRows ending delims.now cells.now readers.now result.1 (take result.0 into.new) }
+{
+    let mut taken: Taken = [0; 16];
+    let mut end = 0;
+    'rows: loop {
+        let before = taken;
+        match put_row(delims, ending, cells, readers, &mut taken, into, end) {
+            Some(next) => end = next,
+            None => return (end, before),
+        }
+    }
 }
 
 // Moves past what was taken of each reader.
@@ -72,7 +123,7 @@ fn consume_taken<S: Source, R: Source>(readers: &mut [LineReader<S, R>], taken: 
     ensures { AreTaken taken.now readers.old readers.new }
 {
     for place in 0..readers.len() {
-        readers[place].consume(taken[place]);
+        readers[place].consume(taken[place] as usize);
     }
 }
 
@@ -94,10 +145,10 @@ pub(crate) fn pass_rows<A: Allocator, S: Source, R: Source, W: Sink>(
     if cells.is_empty() || readers.len() > 16 {
         return Ok(false);
     }
-    let mut taken = [0; 16];
-    let Some(end) = put_row(delims, ending, cells, readers, &mut taken, into) else {
+    let (end, taken) = put_rows(delims, ending, cells, readers, into);
+    if end == 0 {
         return Ok(false);
-    };
+    }
     consume_taken(readers, &taken);
     out.push(&into[..end])?;
     Ok(true)

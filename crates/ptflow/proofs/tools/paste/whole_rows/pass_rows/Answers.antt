@@ -1,17 +1,20 @@
-use Rattle.std.proofs.Common.{take}
+use Rattle.std.proofs.Common.{◌<◌, length, take, arith}
+use Rattle.std.proofs.lemmas.List.{length-take-le}
 use Rattle.std.proofs.lemmas.Result.{err_from_is_err_and}
-use Rattle.ptflow.proofs.OfPaste.GivenRows.{held_row}
+use Rattle.ptflow.proofs.OfPaste.WholeRows.{rows_taken}
 use Rattle.ptflow.proofs.tools.paste.whole_rows.pass_rows.Goals as goal
 
 pub returns-in_err-push : goal.returns-in_err-push
 returns-in_err-push g c =
     let e = err_from_is_err_and c.from_residual.result c.from_residual.ensures.1 in
-    let written = take c.in-Some.end c.put_row.new.into in
+    let end = c.put_rows-end.result.0 in
+    let put = take end c.put_rows-end.new.into in
+    let some : 0 < length put = omega (arith, c.if-end-eq0.false, length-take-le end c.put_rows-end.new.into (omega (arith, c.put_rows-end.ensures.near, c.put_rows-end.auto.into, c.told-into))) in
     rw (e.1) (
       record {
-        written = written;
-        held = held_row c.args.ending c.args.delims.now c.args.cells.now c.args.readers.now c.consume_taken.new.readers c.put_row.new.taken written
-            c.requires.readable c.consume_taken.ensures (c.in-Some.ensures.row c.consume_taken.new.readers c.consume_taken.ensures);
+        written = put;
+        held = rows_taken c.args.ending c.args.delims.now c.args.cells.now c.args.readers.now c.put_rows-end.result.1 put c.consume_taken.new.readers some
+            c.put_rows-end.ensures.rows c.consume_taken.ensures;
         wrote = c.push.ensures.wrote;
       },
       c.in_err-push.ensures.fault,
@@ -19,11 +22,13 @@ returns-in_err-push g c =
 
 pub returns : goal.returns
 returns g c =
-    let written = take c.in-Some.end c.put_row.new.into in (
+    let end = c.put_rows-end.result.0 in
+    let put = take end c.put_rows-end.new.into in
+    let some : 0 < length put = omega (arith, c.if-end-eq0.false, length-take-le end c.put_rows-end.new.into (omega (arith, c.put_rows-end.ensures.near, c.put_rows-end.auto.into, c.told-into))) in (
       record {
-        written = written;
-        held = held_row c.args.ending c.args.delims.now c.args.cells.now c.args.readers.now c.consume_taken.new.readers c.put_row.new.taken written
-            c.requires.readable c.consume_taken.ensures (c.in-Some.ensures.row c.consume_taken.new.readers c.consume_taken.ensures);
+        written = put;
+        held = rows_taken c.args.ending c.args.delims.now c.args.cells.now c.args.readers.now c.put_rows-end.result.1 put c.consume_taken.new.readers some
+            c.put_rows-end.ensures.rows c.consume_taken.ensures;
         wrote = c.push.ensures.wrote;
       },
       c.in_ok-push.ensures.clean,
