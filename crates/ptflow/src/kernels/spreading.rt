@@ -17,7 +17,8 @@ pub(crate) type Spread = ArrayVec<u8, 128>;
 
 /// Puts what ends become behind one another.
 pub(crate) fn spread_of(turns: &[Option<u8>], ending: u8) -> Spread
-    requires { 0 < length turns.now }
+    requires some { 0 < length turns.now }
+    requires few { length turns.now ≤ 64 }
     ensures { IsSpread ending turns.now result.items }
 {
     let mut spread = ArrayVec::new();
@@ -39,8 +40,6 @@ fn spread_chunk(
     to: &mut [u8],
 ) -> Turn
     requires turn { turn.place ≡ turn.number % length turns.now }
-    requires some { 0 < length turns.now }
-    requires few { length turns.now ≤ 64 }
     requires spread { IsSpread ending turns.now spread.now }
     requires short { turn.number + 64 < 2 ^ 63 }
     requires room { at + 64 ≤ length from.now }
@@ -71,8 +70,6 @@ fn spread_most(
     from: &[u8],
     to: &mut [u8],
 ) -> (Turn, usize)
-    requires some { 0 < length turns.now }
-    requires few { length turns.now ≤ 64 }
     requires spread { IsSpread ending turns.now spread.now }
     requires short { length from.now < 2 ^ 63 }
     requires same { length to.old ≡ length from.now }
@@ -95,8 +92,6 @@ pub(crate) fn replace_by_spread(
     from: &[u8],
     to: &mut [u8],
 ) -> u64
-    requires some { 0 < length turns.now }
-    requires few { length turns.now ≤ 64 }
     requires spread { IsSpread ending turns.now spread.now }
     requires short { length from.now < 2 ^ 63 }
     requires same { length to.old ≡ length from.now }

@@ -89,8 +89,6 @@ fn put_rows(
     bytes: &[u8],
     into: &mut Written,
 ) -> usize
-    requires some { 0 < length turns.now }
-    requires few { length turns.now ≤ 64 }
     requires spread { IsSpread ending turns.now spread.now }
     requires room { length bytes.now ≤ 8192 }
     ensures within { result ≤ length bytes.now }

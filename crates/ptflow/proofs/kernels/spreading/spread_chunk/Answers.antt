@@ -1,7 +1,6 @@
 -- The ends of a chunk are the bits of its mask, in order; each turn sets the lowest one to the byte whose turn it is.
 use Rattle.std.proofs.Common.{◌≡◌, ◌+◌, ◌%◌, ◌++◌, ◌<◌, suc, ℕ, None, List, map, length, take, slice_index_or, slice_set, sym, ◌∙◌, ap, arith}
 use Rattle.std.specs.Prelude.{unwrap_or}
-use Rattle.std.specs.List.{count_by}
 use Rattle.std.specs.Int.RustNames.{count_ones}
 use Rattle.std.specs.Simd.Lanes.{mask_l, chunk}
 use Rattle.std.proofs.Math.Nat.{mod-lt, mod-add-mod}
@@ -49,7 +48,7 @@ loop-behind-preserved c =
     let counted = ap count_ones c.marks-marked.ensures ∙ ones-mask_l p v in
     let k = count_trailing_zeros 64 loop.marked in
     let few : n < 64 = omega (arith, counted, c.loop-behind-test.true, count_by-le-length p v, long) in
-    let low : place < 64 = omega (arith, c.requires.turn, mod-lt first c.requires.some, c.requires.few) in
+    let low : place < 64 = omega (arith, c.requires.turn, mod-lt first c.requires.spread.some, c.requires.spread.few) in
     let here = behind_set p v n loop.marked (omega (arith, long)) (omega (arith, counted, c.loop-behind-test.true)) loop.invariant.bits in
     let next : suc n ≡ n + 1 = omega arith in
     let byte : slice_index_or c.args.spread.now (place + n) 0 ≡ unwrap_or (delim_at turns (first + n)) end =
@@ -77,8 +76,8 @@ bounds-spread-turn c =
       count_by-le-length p v,
       length-chunk c.args.at 64 c.args.from.now c.requires.room,
       c.requires.turn,
-      mod-lt c.args.turn.number c.requires.some,
-      c.requires.few,
+      mod-lt c.args.turn.number c.requires.spread.some,
+      c.requires.spread.few,
       c.requires.spread.size,
     )
 

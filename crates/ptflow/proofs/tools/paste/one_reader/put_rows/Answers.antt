@@ -11,7 +11,7 @@ returns-clause-rows c =
     let long : length (take at bytes) ≡ at = length-take-le at bytes c.end_before.ensures.within in
     rows_known c.args.ending (length c.args.turns.now) (c.replace_by_spread-number.result / length c.args.turns.now) (take at bytes)
     (λ some. get_or-take at bytes (length (take at bytes) - 1) 0 (omega (arith, some, long)) ∙ ap (λ n. get_or bytes (n - 1) 0) long ∙ c.end_before.ensures.ends (omega (arith, some, long)))
-    (omega (arith, c.end_before.ensures.counted, c.replace_by_spread-number.ensures.number, c.requires.some))
+    (omega (arith, c.end_before.ensures.counted, c.replace_by_spread-number.ensures.number, c.requires.spread.some))
 
 pub returns-clause-put : goal.returns-clause-put
 returns-clause-put c =
