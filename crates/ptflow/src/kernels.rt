@@ -12,4 +12,5 @@ pub(crate) mod packing;
 pub(crate) mod places;
 pub(crate) mod replacing;
 pub(crate) mod sets;
+pub(crate) mod spreading;
 pub(crate) mod squeezing;

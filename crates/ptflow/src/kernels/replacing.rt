@@ -43,13 +43,13 @@ pub(crate) fn replace_ends(by: EndsTo, from: &[u8], to: &mut [u8])
 // How many ends of lines were met, and the place in the list of the delimiter that is next.
 #[derive(Clone, Copy)]
 pub(crate) struct Turn {
-    number: u64,
-    place: usize,
+    pub number: u64,
+    pub place: usize,
 }
 
 impl Turn {
     // The turn of this number.
-    fn of(number: u64, delims: &[Option<u8>]) -> Turn
+    pub(crate) fn of(number: u64, delims: &[Option<u8>]) -> Turn
         requires { 0 < length delims.now }
         ensures number { result.number ≡ number }
         ensures place { result.place ≡ number % length delims.now }
@@ -73,6 +73,26 @@ impl Turn {
         Turn {
             number: self.number + 1,
             place: if behind == delims.len() { 0 } else { behind },
+        }
+    }
+
+    // The turn behind so many.
+    #[inline(always)]
+    pub(crate) fn behind(self, count: usize, delims: &[Option<u8>]) -> Turn
+        requires place { self.place ≡ self.number % length delims.now }
+        requires some { 0 < length delims.now }
+        requires short { self.number + count < 2 ^ 63 }
+        ensures number { result.number ≡ self.number + count }
+        ensures place { result.place ≡ (self.number + count) % length delims.now }
+    {
+        let place = self.place + count;
+        Turn {
+            number: self.number + count as u64,
+            place: if place < delims.len() {
+                place
+            } else {
+                place % delims.len()
+            },
         }
     }
 }

@@ -121,7 +121,7 @@ pub fn paste<A: Allocator + Copy, S: Source, R: Source, W: Sink>(
     set_endings(cells, job.zero, readers);
     need_slots(store, cells.len())?;
     let ending = if job.zero { 0 } else { b'\n' };
-    let turns = turns_of_one(&job.delims, cells);
+    let turns = turns_of_one(&job.delims, ending, cells);
     let mut room = [0; 8208];
     'rows: loop {
         if pass_held_rows(&turns, &job.delims, ending, cells, readers, &mut room, out)? {

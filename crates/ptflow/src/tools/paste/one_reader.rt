@@ -4,11 +4,11 @@
 ghost use Rattle.std.specs.Prelude.{◌≡◌, ◌<◌, ◌≤◌, ◌+◌, ◌-◌, ℕ, All, None, IfSome, length, slice_index_or, take};
 ghost use Rattle.std.specs.List.{count_by};
 ghost use Rattle.memchr.specs.Find.{is_byte};
-ghost use Rattle.ptflow.specs.Workings.Paste.OneReader.{AreTurnsOfOne, AreRows};
+ghost use Rattle.ptflow.specs.Workings.Paste.OneReader.{AreTurnsOfOne, AreRows, IsSpread};
 ghost use Rattle.ptflow.specs.Workings.Paste.SerialRests.{with_turns};
 ghost use Rattle.ptflow.specs.Workings.Paste.WholeRows.{AreReadable, PassesRows};
 
-use crate::kernels::replacing::replace_in_turn;
+use crate::kernels::spreading::{Spread, replace_by_spread, spread_of};
 use crate::tools::paste::serial::Written;
 use crate::tools::paste::whole_rows::pass_rows;
 use arrayvec::ArrayVec;
@@ -16,11 +16,19 @@ use ptlangs::delims::Delims;
 use ptlines::{LineReader, Out, Sink, Source, WriteFault};
 use std::alloc::Allocator;
 
-/// What stands behind each cell of a row: a delimiter, and behind the last one the end that is there.
-pub(crate) type Turns = ArrayVec<Option<u8>, 64>;
+/// What stands behind each cell of a row: a delimiter, and behind the last one the end that is there. The same is spread
+/// over 128 ends.
+#[derive(Drop)]
+pub(crate) struct Turns {
+    list: ArrayVec<Option<u8>, 64>,
+    spread: Spread,
+}
 
-// The turns of a row, if its cells, which are few, all name one reader, and a byte stands between each two of them.
-pub(crate) fn turns_of_one<A: Allocator>(delims: &Delims<A>, cells: &[usize]) -> Option<Turns>
+// What stands behind each cell, if they are few and all name one reader, and a byte stands between each two of them.
+fn list_of_one<A: Allocator>(
+    delims: &Delims<A>,
+    cells: &[usize],
+) -> Option<ArrayVec<Option<u8>, 64>>
     ensures { IfSome result (λ turns. AreTurnsOfOne delims.now cells.now turns.items) }
 {
     if cells.is_empty() || cells.len() > 64 {
@@ -36,6 +44,20 @@ pub(crate) fn turns_of_one<A: Allocator>(delims: &Delims<A>, cells: &[usize]) ->
     }
     turns.push(None);
     Some(turns)
+}
+
+// The turns of a row, if it is one of those.
+pub(crate) fn turns_of_one<A: Allocator>(
+    delims: &Delims<A>,
+    ending: u8,
+    cells: &[usize],
+) -> Option<Turns>
+    ensures { IfSome result (λ turns. AreTurnsOfOne delims.now cells.now turns.list.items
+        × IsSpread ending turns.list.items turns.spread.items) }
+{
+    let list = list_of_one(delims, cells)?;
+    let spread = spread_of(&list, ending);
+    Some(Turns { list, spread })
 }
 
 // The place behind the last end of a line behind which so many more ends stand, or 0.
@@ -60,15 +82,21 @@ fn end_before(ending: u8, bytes: &[u8], over: u64) -> usize
 }
 
 // Puts the rows that lie whole in these bytes, and says where they end.
-fn put_rows(turns: &[Option<u8>], ending: u8, bytes: &[u8], into: &mut Written) -> usize
-    requires some { 0 < length turns.now }
+fn put_rows(
+    turns: &[Option<u8>],
+    spread: &[u8],
+    ending: u8,
+    bytes: &[u8],
+    into: &mut Written,
+) -> usize
+    requires spread { IsSpread ending turns.now spread.now }
     requires room { length bytes.now ≤ 8192 }
     ensures within { result ≤ length bytes.now }
     ensures rows { AreRows ending (length turns.now) (take result bytes.now) }
     ensures put { take result into.new ≡ with_turns ending turns.now 0 (take result bytes.now) }
 {
     let count = bytes.len();
-    let number = replace_in_turn(turns, ending, 0, bytes, &mut into[..count]);
+    let number = replace_by_spread(turns, spread, ending, bytes, &mut into[..count]);
     end_before(ending, bytes, number % turns.len() as u64)
 }
 
@@ -83,7 +111,8 @@ pub(crate) fn pass_held_rows<A: Allocator, S: Source, R: Source, W: Sink>(
     into: &mut Written,
     out: &mut Out<W>,
 ) -> Result<bool, WriteFault>
-    requires in_turn { IfSome turns.now (λ list. AreTurnsOfOne delims.now cells.now list.items) }
+    requires in_turn { IfSome turns.now (λ t. AreTurnsOfOne delims.now cells.now t.list.items
+        × IsSpread ending t.list.items t.spread.items) }
     requires within { All (λ place. place < length readers.old) cells.now }
     requires readable { AreReadable ending cells.now readers.old }
     ensures { PassesRows ending delims.now cells.now readers.old readers.new out.old out.new result }
@@ -92,7 +121,8 @@ pub(crate) fn pass_held_rows<A: Allocator, S: Source, R: Source, W: Sink>(
         return pass_rows(delims, ending, cells, readers, into, out);
     };
     let place = cells[0];
-    let count = put_rows(turns, ending, readers[place].held(), into);
+    let bytes = readers[place].held();
+    let count = put_rows(&turns.list, &turns.spread, ending, bytes, into);
     if count == 0 {
         return Ok(false);
     }

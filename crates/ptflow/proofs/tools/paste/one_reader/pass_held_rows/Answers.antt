@@ -8,12 +8,12 @@ use Rattle.ptflow.proofs.tools.paste.one_reader.pass_held_rows.Goals as goal
 pub returns-in_err-push : goal.returns-in_err-push
 returns-in_err-push g c =
     let e = err_from_is_err_and c.from_residual.result c.from_residual.ensures.1 in
-    let t = subst (AreTurnsOfOne c.args.delims.now c.args.cells.now) (sym c.deref.ensures.0) (rw c.in-Some.is at c.requires.in_turn) in
+    let t = subst (AreTurnsOfOne c.args.delims.now c.args.cells.now) (sym c.deref.ensures.0) ((rw c.in-Some.is at c.requires.in_turn).0) in
     rw (e.1) (
       record {
         written = take c.put_rows-count.result c.put_rows-count.new.into;
         held = held_put c.args.ending c.args.delims.now c.args.cells.now c.deref.result.now t c.args.readers.now c.requires.within c.requires.readable
-            c.index-readers-place.result c.held.ensures.sound c.held.result.now c.held.ensures.held
+            c.index-readers-place.result c.held-bytes.ensures.sound c.held-bytes.result.now c.held-bytes.ensures.held
             c.put_rows-count.result (omega (arith, c.if-count-eq0.false)) c.put_rows-count.ensures.within c.put_rows-count.ensures.rows
             c.index-readers-place-2.result c.consume.new.self c.consume.ensures.consumed (take c.put_rows-count.result c.put_rows-count.new.into) c.put_rows-count.ensures.put;
         wrote = c.push.ensures.wrote;
@@ -23,11 +23,11 @@ returns-in_err-push g c =
 
 pub returns : goal.returns
 returns g c =
-    let t = subst (AreTurnsOfOne c.args.delims.now c.args.cells.now) (sym c.deref.ensures.0) (rw c.in-Some.is at c.requires.in_turn) in (
+    let t = subst (AreTurnsOfOne c.args.delims.now c.args.cells.now) (sym c.deref.ensures.0) ((rw c.in-Some.is at c.requires.in_turn).0) in (
       record {
         written = take c.put_rows-count.result c.put_rows-count.new.into;
         held = held_put c.args.ending c.args.delims.now c.args.cells.now c.deref.result.now t c.args.readers.now c.requires.within c.requires.readable
-            c.index-readers-place.result c.held.ensures.sound c.held.result.now c.held.ensures.held
+            c.index-readers-place.result c.held-bytes.ensures.sound c.held-bytes.result.now c.held-bytes.ensures.held
             c.put_rows-count.result (omega (arith, c.if-count-eq0.false)) c.put_rows-count.ensures.within c.put_rows-count.ensures.rows
             c.index-readers-place-2.result c.consume.new.self c.consume.ensures.consumed (take c.put_rows-count.result c.put_rows-count.new.into) c.put_rows-count.ensures.put;
         wrote = c.push.ensures.wrote;

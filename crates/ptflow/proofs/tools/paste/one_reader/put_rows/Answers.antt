@@ -9,9 +9,9 @@ returns-clause-rows c =
     let bytes = c.args.bytes.now in
     let at = c.end_before.result in
     let long : length (take at bytes) ≡ at = length-take-le at bytes c.end_before.ensures.within in
-    rows_known c.args.ending (length c.args.turns.now) (c.replace_in_turn-number.result / length c.args.turns.now) (take at bytes)
+    rows_known c.args.ending (length c.args.turns.now) (c.replace_by_spread-number.result / length c.args.turns.now) (take at bytes)
     (λ some. get_or-take at bytes (length (take at bytes) - 1) 0 (omega (arith, some, long)) ∙ ap (λ n. get_or bytes (n - 1) 0) long ∙ c.end_before.ensures.ends (omega (arith, some, long)))
-    (omega (arith, c.end_before.ensures.counted, c.replace_in_turn-number.ensures.number, c.requires.some))
+    (omega (arith, c.end_before.ensures.counted, c.replace_by_spread-number.ensures.number, c.requires.spread.some))
 
 pub returns-clause-put : goal.returns-clause-put
 returns-clause-put c =
@@ -19,6 +19,6 @@ returns-clause-put c =
     let turns = c.args.turns.now in
     let bytes = c.args.bytes.now in
     let at = c.end_before.result in
-    let long : length (c.replace_in_turn-number.new.to) ≡ length bytes = ap length c.replace_in_turn-number.ensures.replaced ∙ length-turns end turns 0 bytes in
-    take-append-le at c.replace_in_turn-number.new.to _ (omega (arith, c.end_before.ensures.within, long))
-    ∙ ap (take at) c.replace_in_turn-number.ensures.replaced ∙ turns-take end turns at 0 bytes c.end_before.ensures.within
+    let long : length (c.replace_by_spread-number.new.to) ≡ length bytes = ap length c.replace_by_spread-number.ensures.replaced ∙ length-turns end turns 0 bytes in
+    take-append-le at c.replace_by_spread-number.new.to _ (omega (arith, c.end_before.ensures.within, long))
+    ∙ ap (take at) c.replace_by_spread-number.ensures.replaced ∙ turns-take end turns at 0 bytes c.end_before.ensures.within

@@ -3,7 +3,7 @@ use Rattle.std.proofs.Common.{◌≡◌, ℕ, length, get_or, sym, ◌∙◌, ap
 use Rattle.std.proofs.lemmas.Bool.{cases_lt, eqb-false}
 use Rattle.std.proofs.lemmas.List.Elements.{All-from_get_or}
 use Rattle.ptflow.proofs.OfPaste.OneReader.{turns_more, turns_done}
-use Rattle.ptflow.proofs.tools.paste.one_reader.turns_of_one.Goals as goal
+use Rattle.ptflow.proofs.tools.paste.one_reader.list_of_one.Goals as goal
 
 pub loop-column-init : goal.loop-column-init
 loop-column-init g c = record {

@@ -1,7 +1,7 @@
 -- The cells so far name the first one's reader, and the turns so far are the bytes behind them.
 use Rattle.std.proofs.Common.{◌≡◌, ◌<◌, ℕ, get_or}
 use Rattle.ptflow.proofs.OfPaste.OneReader.{TurnsSoFar}
-use Rattle.ptflow.proofs.tools.paste.one_reader.turns_of_one.Given as goal
+use Rattle.ptflow.proofs.tools.paste.one_reader.list_of_one.Given as goal
 
 abbrev pub invariant-loop-column : goal.invariant-loop-column
 invariant-loop-column g l = record {

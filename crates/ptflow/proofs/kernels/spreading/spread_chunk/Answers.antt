@@ -1,0 +1,97 @@
+-- The ends of a chunk are the bits of its mask, in order; each turn sets the lowest one to the byte whose turn it is.
+use Rattle.std.proofs.Common.{◌≡◌, ◌+◌, ◌%◌, ◌++◌, ◌<◌, suc, ℕ, None, List, map, length, take, slice_index_or, slice_set, sym, ◌∙◌, ap, arith}
+use Rattle.std.specs.Prelude.{unwrap_or}
+use Rattle.std.specs.Int.RustNames.{count_ones}
+use Rattle.std.specs.Simd.Lanes.{mask_l, chunk}
+use Rattle.std.proofs.Math.Nat.{mod-lt, mod-add-mod}
+use Rattle.std.proofs.lemmas.List.{length-take-le, length-set}
+use Rattle.std.proofs.lemmas.List.Sums.{count_by-le-length}
+use Rattle.std.proofs.lemmas.Simd.{ones-mask_l, take_more_put_chunk, length-put_chunk, length-chunk}
+use lib.Count.{count_trailing_zeros}
+use Rattle.memchr.specs.Find.{is_byte}
+use Rattle.ptlangs.specs.DelimLists.{delim_at}
+use Rattle.ptflow.proofs.OfBytes.Nths.{without, cleared, behind_set}
+use Rattle.ptflow.proofs.OfPaste.Turns.{first_turns, turn_on, all_turned, set_in_chunk}
+use Rattle.ptflow.proofs.kernels.spreading.spread_chunk.Goals as goal
+
+pub loop-behind-init : goal.loop-behind-init
+loop-behind-init c =
+    let at = c.args.at in
+    let long = length-chunk at 64 c.args.from.now c.requires.room in
+    record {
+      bits = c.marks-marked.ensures;
+      long = length-put_chunk at c.args.to.now (chunk at 64 c.args.from.now) ∙ c.requires.same;
+      replaced = take_more_put_chunk at c.args.to.now (chunk at 64 c.args.from.now) (at + 64) (omega (arith, long)) (omega (arith, long, c.requires.same, c.requires.room));
+    }
+
+pub bounds-to-end : goal.bounds-to-end
+bounds-to-end c =
+    let p = is_byte c.args.ending in
+    let loop = c.loop-behind in
+    let v = chunk c.args.at 64 c.args.from.now in
+    let counted = ap count_ones c.marks-marked.ensures ∙ ones-mask_l p v in
+    let here = behind_set p v loop.behind loop.marked (omega (arith, length-chunk c.args.at 64 c.args.from.now c.requires.room)) (omega (arith, counted, c.loop-behind-test.true)) loop.invariant.bits in
+    omega (arith, loop.invariant.long, c.requires.room, here.0, length-chunk c.args.at 64 c.args.from.now c.requires.room)
+
+pub loop-behind-preserved : goal.loop-behind-preserved
+loop-behind-preserved c =
+    let end = c.args.ending in
+    let p = is_byte end in
+    let turns = c.args.turns.now in
+    let at = c.args.at in
+    let loop = c.loop-behind in
+    let n = loop.behind in
+    let first = c.args.turn.number in
+    let place = c.args.turn.place in
+    let v = chunk at 64 c.args.from.now in
+    let long = length-chunk at 64 c.args.from.now c.requires.room in
+    let counted = ap count_ones c.marks-marked.ensures ∙ ones-mask_l p v in
+    let k = count_trailing_zeros 64 loop.marked in
+    let few : n < 64 = omega (arith, counted, c.loop-behind-test.true, count_by-le-length p v, long) in
+    let low : place < 64 = omega (arith, c.requires.turn, mod-lt first c.requires.spread.some, c.requires.spread.few) in
+    let here = behind_set p v n loop.marked (omega (arith, long)) (omega (arith, counted, c.loop-behind-test.true)) loop.invariant.bits in
+    let next : suc n ≡ n + 1 = omega arith in
+    let byte : slice_index_or c.args.spread.now (place + n) 0 ≡ unwrap_or (delim_at turns (first + n)) end =
+    c.requires.spread.at (place + n) (omega (arith, few, low))
+    ∙ ap (λ (m : ℕ). unwrap_or (slice_index_or turns m None) end) (ap (λ (m : ℕ). (m + n) % length turns) c.requires.turn ∙ mod-add-mod first (length turns) n) in
+    let front : length (take at c.args.to.now) ≡ at = length-take-le at c.args.to.now (omega (arith, c.requires.same, c.requires.room)) in
+    record {
+      bits = cleared n loop.marked (map p v) loop.auto.marked-fits.fits loop.invariant.bits ∙ ap (λ (m : ℕ). mask_l (without m (map p v))) next;
+      long = length-set loop.to (at + k) (slice_index_or c.args.spread.now (place + n) 0) ∙ loop.invariant.long;
+      replaced =
+          set_in_chunk loop.to (take at c.args.to.now) (first_turns end turns n first v) at 64 k (slice_index_or c.args.spread.now (place + n) 0) loop.invariant.replaced front (omega (arith, here.0, long))
+          ∙ ap (λ (l : List ℕ). take at c.args.to.now ++ l) (ap (slice_set (first_turns end turns n first v) k) byte ∙ turn_on end turns n first v k here
+          ∙ ap (λ (m : ℕ). first_turns end turns m first v) next);
+    }
+
+pub bounds-spread-turn : goal.bounds-spread-turn
+bounds-spread-turn c =
+    let p = is_byte c.args.ending in
+    let v = chunk c.args.at 64 c.args.from.now in
+    let counted = ap count_ones c.marks-marked.ensures ∙ ones-mask_l p v in
+    omega (
+      arith,
+      counted,
+      c.loop-behind-test.true,
+      count_by-le-length p v,
+      length-chunk c.args.at 64 c.args.from.now c.requires.room,
+      c.requires.turn,
+      mod-lt c.args.turn.number c.requires.spread.some,
+      c.requires.spread.few,
+      c.requires.spread.size,
+    )
+
+pub returns-clause-next : goal.returns-clause-next
+returns-clause-next c =
+    let v = chunk c.args.at 64 c.args.from.now in
+    let counted = ap count_ones c.marks-marked.ensures ∙ ones-mask_l (is_byte c.args.ending) v in (
+      c.behind.ensures.place ∙ ap (λ (m : ℕ). m % length c.args.turns.now) (sym c.behind.ensures.number),
+      c.behind.ensures.number ∙ ap (λ (m : ℕ). c.args.turn.number + m) counted,
+    )
+
+pub returns-clause-replaced : goal.returns-clause-replaced
+returns-clause-replaced c =
+    let v = chunk c.args.at 64 c.args.from.now in
+    let counted = ap count_ones c.marks-marked.ensures ∙ ones-mask_l (is_byte c.args.ending) v in
+    c.loop-behind.invariant.replaced ∙ ap (λ l. take c.args.at c.args.to.now ++ l)
+    (all_turned c.args.ending c.args.turns.now c.args.turn.number v c.loop-behind.behind (omega (arith, counted, c.loop-behind-test.false, c.loop-behind.auto)))

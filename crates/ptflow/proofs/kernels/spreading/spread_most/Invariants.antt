@@ -1,0 +1,10 @@
+-- Each byte so far was put, each line end as the byte whose turn it was; the turn is that of the next end.
+use Rattle.std.proofs.Common.{◌-◌, length}
+use Rattle.ptflow.specs.Workings.Paste.SerialRests.{IsTurnedTo}
+use Rattle.ptflow.proofs.kernels.spreading.spread_most.Given as goal
+
+abbrev pub invariant-loop-at : goal.invariant-loop-at
+invariant-loop-at l = IsTurnedTo l.ending l.turns 0 l.turn l.at l.from l.to
+
+abbrev pub decreases-loop-at : goal.decreases-loop-at
+decreases-loop-at l = length l.from - l.at
