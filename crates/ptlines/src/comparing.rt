@@ -41,7 +41,7 @@ fn compare_far(a: &[u8], b: &[u8]) -> Ordering
     a.cmp(b)
 }
 
-// Byte order where the shorter one has a few bytes: one after another.
+// Byte order, one byte after another. It is for fewer than 4 bytes.
 #[inline(always)]
 fn compare_each(a: &[u8], b: &[u8]) -> Ordering
     ensures { result ≡ byte_cmp a.now b.now }
@@ -55,7 +55,8 @@ fn compare_each(a: &[u8], b: &[u8]) -> Ordering
     a.len().cmp(&b.len())
 }
 
-// Byte order where the shorter one has less than 8 bytes: the first 4 and the last 4, which may overlap.
+// Byte order where the shorter one has fewer than 8 bytes: by its first 4 and its last 4, which may overlap, or one
+// byte after another where it has fewer than 4.
 #[inline(always)]
 fn compare_few(a: &[u8], b: &[u8]) -> Ordering
     requires { min (length a.now) (length b.now) < 8 }

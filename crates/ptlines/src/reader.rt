@@ -27,8 +27,8 @@ enum Step {
     End,
 }
 
-/// Gives the lines of a source, or its bytes, through a block of 8,192 bytes. A line ends with newline, or
-/// with byte 0 after [`set_ending`](LineReader::set_ending); a last piece without that byte is a line too, unless it is empty.
+/// Gives the lines of a source, or its bytes, through a block of 8,192 bytes. A line ends with newline, or with byte 0
+/// after [`set_ending`](LineReader::set_ending); a last piece without that byte is a line too, unless it is empty.
 /// Whatever call was made last, at most 8,192 bytes are held that were not given.
 #[derive(Drop)]
 pub struct LineReader<S: Source, R: Source> {
@@ -290,7 +290,8 @@ impl<S: Source, R: Source> LineReader<S, R> {
         self.scan(store, slot)
     }
 
-    // Puts the next line into a slot, if its end is one of the next N bytes. False is that it is not, and nothing happens.
+    // Puts the next line into a slot, if its end is one of the next N bytes. False is that it is not, and nothing
+    // happens.
     #[inline(always)]
     fn fill_near<const N: usize, A: Allocator + Copy>(
         &mut self,
@@ -363,7 +364,7 @@ impl<S: Source, R: Source> LineReader<S, R> {
         if let Some(fault) = self.fault() {
             return Err(fault);
         }
-        // Of a short line fewer bytes are compared and stored.
+        // A line of fewer than 16 bytes takes a shorter load and store.
         if self.fill_near::<16, A>(store, slot) || self.fill_near::<64, A>(store, slot) {
             return Ok(true);
         }

@@ -1,4 +1,4 @@
-//! A search for a byte that is near.
+//! A search for a byte, which is fast where the byte is near or the bytes are few.
 
 ghost use Rattle.std.specs.Prelude.{◌≤◌, ◌<◌, ◌+◌, length};
 ghost use Rattle.memchr.specs.Find.{IsFirst, IsFirstByte, Passes, is_byte};
@@ -76,8 +76,8 @@ fn find_far(byte: u8, bytes: &[u8]) -> Option<usize>
     find_in::<64>(byte, bytes, bytes.len() - 64)
 }
 
-/// The first place of a byte, as `memchr` finds it, but faster where it is one of the first 16, as the
-/// end of a line or of a field often is.
+/// The first place of a byte, as `memchr` finds it, but faster where it is one of the first 16, as the end of a line or
+/// of a field often is, and where there are fewer than 16 bytes.
 #[inline(always)]
 pub fn find_near(byte: u8, bytes: &[u8]) -> Option<usize>
     ensures { IsFirstByte (is_byte byte) bytes.now result }

@@ -7,7 +7,7 @@ use std::marker::Model;
 use std::simd::prelude::*;
 
 // The first `size` bytes of the buffer are the line. At least 64 more stand behind them, whatever they are, so that
-// a line of less than 64 bytes is put into the slot by one store of 16 or of 64.
+// a line of fewer than 64 bytes is put into the slot by one store of 16 or of 64 bytes.
 #[derive(Drop)]
 pub(crate) struct Slot<A: Allocator + Copy> {
     buffer: Vec<u8, A>,
@@ -59,7 +59,7 @@ impl<A: Allocator + Copy> Slot<A> {
         self.size = 0;
     }
 
-    // Makes the line these bytes, which are less than N, of a place behind which N can be looked at.
+    // Makes the line the `size` bytes from a place on, which are fewer than N. N bytes can be looked at there.
     #[inline(always)]
     pub(crate) fn put_near<const N: usize>(&mut self, bytes: &[u8], from: usize, size: usize)
         requires lanes { N ≤ 64 }

@@ -143,7 +143,7 @@ impl<A: Allocator + Copy> Store<A> {
         self.held -= count as u128;
     }
 
-    // Makes a slot hold a line of less than N bytes, from a place behind which N bytes can be looked at.
+    // Makes a slot hold the `size` bytes from a place on, which are fewer than N. N bytes can be looked at there.
     #[inline(always)]
     pub(crate) fn put_near<const N: usize>(
         &mut self,

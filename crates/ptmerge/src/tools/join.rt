@@ -1,7 +1,7 @@
 //! `join`. It stands on the merge, and keeps the second input's lines of one key at a time.
 //!
-//! `groups` are those lines, `fields` the fields of a line and the entry that is written of two, and `blanks` finds what
-//! stands between words.
+//! `groups` are those lines, `fields` the fields of a line and the entry that is written of two, and `blanks` finds
+//! what stands between words.
 
 ghost use Rattle.std.specs.Prelude.{◌≡◌, ◌<◌, ◌≤◌, ℕ, List, ◌++◌, ◌∷◌, [], option_copied, false, true, length, IfSome, OnOk, OnErr};
 ghost use Rattle.ptlangs.specs.Jobs.{join_job};
@@ -86,7 +86,8 @@ fn push_alone<A: Allocator, W: Sink>(
     }
 }
 
-// Pushes the entries of a line of the first input and each line of the group, which stands in these slots.
+// Pushes the entries of a line of the first input and each line of the group, which has the slots from `from` to before
+// `end`.
 fn push_pairs<A: Allocator + Copy, W: Sink>(
     job: &JoinJob<A>,
     key: &[u8],

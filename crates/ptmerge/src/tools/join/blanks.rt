@@ -1,4 +1,4 @@
-//! Blanks: the first one of some bytes, and whether words stand with one space between each two, by vectors.
+//! Blanks, looked for by vectors: the first one, and whether words stand with one space between each two.
 ghost use Rattle.std.specs.Prelude.{◌≡◌, ◌<◌, ◌≤◌, ◌+◌, length, true};
 ghost use Rattle.memchr.specs.Find.{IsFirst, IsFirstByte, Passes};
 ghost use Rattle.ptmerge.specs.Join.{is_blank};
@@ -91,7 +91,7 @@ pub(crate) fn find_blank(bytes: &[u8]) -> Option<usize>
     }
 }
 
-// Whether of the N bytes from a place on none is a tab, or a space behind another one.
+// Whether none of the N bytes from a place on is a tab, or a space right after another one.
 #[inline(always)]
 fn is_even_in<const N: usize>(bytes: &[u8], at: usize) -> bool
     requires lanes { N ≤ 64 }

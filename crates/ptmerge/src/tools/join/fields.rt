@@ -139,7 +139,7 @@ pub(crate) fn nth_field<'a>(separator: Option<u8>, number: u64, line: Option<&'a
     }
 }
 
-// Where a field stands in a line, of which this is left behind it.
+// Where a field stands in a line, of which `behind` is what is left after the field.
 #[inline(always)]
 fn span_before(line: &[u8], field: &[u8], behind: Option<&[u8]>) -> Span
     requires { IsPiece line.now field.now (option_copied behind) }

@@ -1,4 +1,5 @@
-//! The second input's lines of one key, which `join` keeps in slots of its own.
+//! The group: the second input's lines of one key. Where there are several, `join` copies them to slots of their own;
+//! one alone stays where it was read.
 ghost use Rattle.std.specs.Prelude.{◌≡◌, ◌≤◌, ◌<◌, ◌+◌, ◌-◌, length, IfOk, OnOk, OnErr};
 ghost use Rattle.ptlines.specs.Slots.{line, total, with_denied};
 ghost use Rattle.ptmerge.specs.declared.order.Side.TheVariants as Of;
@@ -41,8 +42,8 @@ fn keep_line<A: Allocator + Copy>(
     Ok(store.slots().min(to + 1))
 }
 
-// Goes to the second input's next line, and keeps the one before. Where the next line has another key and none was kept,
-// that one is the group, and stays where it is. The answer is the slot behind the kept lines.
+// Goes to the second input's next line, and copies the line before it to the group's slots. Where that line is the only
+// one of its key, it stays where it is. The answer is the slot behind the copied lines.
 pub(crate) fn gather<K: KeyOrder, A: Allocator + Copy, S: Source, R: Source>(
     merge: &mut Merge<K>,
     end: usize,
@@ -71,7 +72,7 @@ pub(crate) fn gather<K: KeyOrder, A: Allocator + Copy, S: Source, R: Source>(
     }
 }
 
-// The slots of the group, where the kept lines end in front of this one: its first slot, and the one behind its last.
+// The slots of the group, whose copied lines end before slot `end`: its first slot, and the one behind its last.
 #[inline(always)]
 pub(crate) fn group_slots<K: KeyOrder>(merge: &Merge<K>, end: usize) -> (usize, usize)
     requires { merge.now.second.previous < 4 }
