@@ -24,7 +24,8 @@ returns-then-step-eq0-clause-cut c =
     (λ start bytes so_far.
     cut_on end list start bytes step.before step.before (drop step.start block) (drop (step.start + 64) block) (take step.at c.args.into.now) _
     (chunk step.start 64 block) so_far c.copy_ends.ensures.copied
-    (ends_on end (is_selected list) block c.args.from step.start step.before c.marks-marked.result (omega (arith, c.requires.within.0)) c.if-step-from.true c.if-step-eq0.true c.marks-marked.ensures c.if-marked.true))
+    (ends_on end (is_selected list) block c.args.from step.start step.before c.marks-marked.result (omega (arith, c.requires.within.0)) c.if-step-from.true c.if-step-eq0.true
+    c.marks-marked.ensures c.if-marked.true))
 
 pub overflow_sub-end : goal.overflow_sub-end
 overflow_sub-end c =
