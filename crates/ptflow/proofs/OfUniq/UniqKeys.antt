@@ -1,9 +1,10 @@
 -- The key of a line, by one walk.
-use Rattle.std.proofs.Common.{◌≡◌, ℕ, zero, suc, ◌+◌, ◌<◌, Bool, true, false, cond, List, [], ◌∷◌, None, Some, length, drop, get_or, refl, sym, ◌∙◌, ap, arith}
-use Rattle.std.specs.Prelude.{slice_get}
+use Rattle.std.proofs.Common.{◌≡◌, ℕ, zero, suc, ◌+◌, ◌<◌, ◌≤◌, Bool, true, false, cond, ◌||◌, min, ltb, List, [], ◌∷◌, None, Some, length, drop, get_or, refl, sym, ◌∙◌, ap, arith}
+use Rattle.std.specs.Prelude.{slice_get, ◌==◌}
 use Rattle.std.specs.Option.{option_map_or}
 use Rattle.std.proofs.lemmas.List.{drop-drop}
-use Rattle.memchr.specs.Find.{IsFirstByte, is_byte2}
+use Rattle.std.proofs.lemmas.Bool.Decides.{nat_tests}
+use Rattle.memchr.specs.Find.{IsFirstByte, Nowhere, Passes, is_byte, is_byte2}
 use Rattle.ptflow.specs.Uniqs.{is_blank, ends_word, word_ends, after_fields}
 use Rattle.ptflow.specs.Workings.Uniq.UniqWords.{after_bytes}
 
@@ -85,9 +86,9 @@ pub blank_first : (rest behind_it : List ℕ) → 0 < length rest → behind_it 
 blank_first [] behind_it long is blank = absurd (omega (arith, long))
 blank_first (b ∷ bytes) behind_it long is blank = behind_blank b bytes blank ∙ ap (behind 1) (sym is)
 
-pub other_first : (rest behind_it : List ℕ) → 0 < length rest → behind_it ≡ drop 1 rest → is_blank (get_or rest 0 0) ≡ false → behind 1 rest ≡ after_bytes behind_it
-other_first [] behind_it long is other = absurd (omega (arith, long))
-other_first (b ∷ bytes) behind_it long is other = behind_other b bytes other ∙ ap after_bytes (sym is)
+pub other_first : (rest : List ℕ) → 0 < length rest → is_blank (get_or rest 0 0) ≡ false → behind 1 rest ≡ after_bytes rest
+other_first [] long other = absurd (omega (arith, long))
+other_first (b ∷ bytes) long other = behind_other b bytes other ∙ sym (ap (λ (t : Bool). cond t (b ∷ bytes) (after_bytes bytes)) other)
 
 -- by a search for the first blank
 blank_here : (b : ℕ) (bytes : List ℕ) → is_blank b ≡ true → after_bytes (b ∷ bytes) ≡ b ∷ bytes
@@ -114,3 +115,52 @@ after_found line at first = after_at line at first.0.high (λ k lt. first.0.befo
 
 pub after_not_found : (line : List ℕ) → IsFirstByte (is_byte2 32 9) line None → after_bytes line ≡ []
 after_not_found line none = after_none line (λ k lt. none k (omega arith) lt)
+
+-- byte by byte
+pub blank_front : (line : List ℕ) (at : ℕ) → at < length line → is_blank (get_or line at 0) ≡ true → after_bytes (drop at line) ≡ drop at line
+blank_front [] at high blank = absurd (omega (arith, high))
+blank_front (b ∷ bytes) zero high blank = blank_here b bytes blank
+blank_front (b ∷ bytes) (suc at) high blank = blank_front bytes at (omega (arith, high)) blank
+
+pub other_front : (line : List ℕ) (at : ℕ) → at < length line → is_blank (get_or line at 0) ≡ false → after_bytes (drop at line) ≡ after_bytes (drop (suc at) line)
+other_front [] at high other = absurd (omega (arith, high))
+other_front (b ∷ bytes) zero high other = ap (λ (t : Bool). cond t (b ∷ bytes) (after_bytes bytes)) other
+other_front (b ∷ bytes) (suc at) high other = other_front bytes at (omega (arith, high)) other
+
+-- what stands in front of a place where there are no blanks is passed
+pub blanks_later : (line : List ℕ) (at : ℕ) → at ≤ length line → ((k : ℕ) → k < at → is_blank (get_or line k 0) ≡ true → ⊥) → after_bytes line ≡ after_bytes (drop at line)
+blanks_later line zero high none = refl
+blanks_later [] (suc at) high none = refl
+blanks_later (b ∷ bytes) (suc at) high none = other_here b bytes (none 0 (omega arith)) ∙ blanks_later bytes at (omega (arith, high)) (λ k lt. none (suc k) (omega (arith, lt)))
+
+neither : (b : ℕ) → ((b == 32) ≡ true → ⊥) → ((b == 9) ≡ true → ⊥) → is_blank b ≡ true → ⊥
+neither b space tab = by (b == 32) (b == 9) space tab
+  where
+    by : (s t : Bool) → (s ≡ true → ⊥) → (t ≡ true → ⊥) → (s || t) ≡ true → ⊥
+    by true t no_space no_tab is = no_space refl
+    by false t no_space no_tab is = no_tab is
+
+is_space : (b : ℕ) → (b == 32) ≡ true → is_blank b ≡ true
+is_space b e = ap (λ (s : Bool). s || (b == 9)) e
+
+is_tab : (b : ℕ) → (b == 9) ≡ true → is_blank b ≡ true
+is_tab b e = by_test (b == 32)
+  where
+    by_test : (s : Bool) → (s || (b == 9)) ≡ true
+    by_test true = refl
+    by_test false = e
+
+-- by a search for a space and one for a tab
+module _ (line : List ℕ) (a b : ℕ) (no_space : Nowhere (Passes (is_byte 32) line) 0 a) (no_tab : Nowhere (Passes (is_byte 9) line) 0 b) where
+  none_here : (k : ℕ) → k < min a b → is_blank (get_or line k 0) ≡ true → ⊥
+  none_here k lt = neither (get_or line k 0) (no_space k (omega arith) (omega (arith, lt))) (no_tab k (omega arith) (omega (arith, lt)))
+
+  pub both_later : min a b ≤ length line → after_bytes line ≡ after_bytes (drop (min a b) line)
+  both_later high = blanks_later line (min a b) high none_here
+
+  pub both_near : (n : ℕ) → (a < n → Passes (is_byte 32) line a) → (b < n → Passes (is_byte 9) line b) → n ≤ length line → min a b < n → after_bytes line ≡ drop (min a b) line
+  both_near n space tab high near = after_at line (min a b) (omega (arith, high, near)) none_here (by (ltb b a) refl)
+    where
+      by : (u : Bool) → ltb b a ≡ u → is_blank (get_or line (min a b) 0) ≡ true
+      by true e = let is : min a b ≡ b = grind (arith, nat_tests) in is_tab (get_or line (min a b) 0) (ap (λ i. get_or line i 0 == 9) is ∙ tab (omega (arith, is, near)))
+      by false e = let is : min a b ≡ a = grind (arith, nat_tests) in is_space (get_or line (min a b) 0) (ap (λ i. get_or line i 0 == 32) is ∙ space (omega (arith, is, near)))

@@ -70,7 +70,8 @@ fn copy_selected(
 }
 
 // Copies the selected bytes of a line, the first `count` of these bytes, and the byte that ends it. In front of it
-// stand `before` bytes of the line. The answer is where that ends. Most lines come whole, and many are short.
+// stand `before` bytes of the line. The answer is where that ends. Most lines come whole, and many are short; so that
+// nothing else is asked of each line, 16 bytes can be looked at.
 #[inline(always)]
 fn copy_line(
     by: &Selection,
@@ -81,6 +82,7 @@ fn copy_line(
     at: usize,
 ) -> usize
     requires by { IsSelection by.now }
+    requires lanes { 16 ≤ length bytes.now }
     requires within { count < length bytes.now }
     requires short { before + count < 2 ^ 63 }
     requires room { at + count < 8192 }
@@ -88,7 +90,7 @@ fn copy_line(
         ≡ take at into.old ++ chosen_piece by.now.selected.now before count (take (count + 1) bytes.now) }
     ensures near { result ≤ at + count + 1 }
 {
-    if before > 0 || count > 16 || bytes.len() < 16 {
+    if before > 0 || count > 16 {
         return copy_selected(by.selected, before, bytes, count, count + 1, into, at);
     }
     let at = put_picked(&by.pick, bytes, count, into, at);
@@ -122,8 +124,9 @@ fn copy_ends(block: &[u8], step: Step, into: &mut [u8]) -> Step
     }
 }
 
-// Copies what is written of the lines that end among the 64 bytes from a place on, of which the first is told. The
-// answer is the first line behind them. Apart, so that what a line needs stays in registers.
+// Copies what is written of the lines that end among the 64 bytes from a place on, behind which 16 more stand, and of
+// which the first is told. The answer is the first line behind them. Apart, so that what a line needs stays in
+// registers.
 #[inline(never)]
 fn cut_chunk(
     by: &Selection,
@@ -134,7 +137,7 @@ fn cut_chunk(
     into: &mut Written,
 ) -> Step
     requires by { IsSelection by.now }
-    requires within { (from + 64 ≤ length block.now) × (length block.now ≤ 8192) }
+    requires within { (from + 80 ≤ length block.now) × (length block.now ≤ 8192) }
     requires line { IsLineAt ending block.now from step.start }
     requires short { step.before + length block.now < 2 ^ 63 }
     requires room { step.at ≤ step.start }
@@ -185,7 +188,7 @@ fn cut_rest(
     let mut rest = bytes;
     let mut at = at;
     'lines: while let Some(count) = find_near(ending, rest) {
-        at = copy_line(by, before, rest, count, into, at);
+        at = copy_selected(by.selected, before, rest, count, count + 1, into, at);
         before = 0;
         rest = &rest[count + 1..];
     }
@@ -216,7 +219,7 @@ fn cut_pieces(
         at: 0,
     };
     let mut from = 0;
-    while block.len() - from >= 64 {
+    while block.len() - from >= 80 {
         step = cut_chunk(by, ending, block, from, step, into);
         from += 64;
     }

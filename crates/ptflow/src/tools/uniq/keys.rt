@@ -1,12 +1,14 @@
 //! The part of a line that `uniq` compares.
 
-ghost use Rattle.std.specs.Prelude.{◌≡◌};
+ghost use Rattle.std.specs.Prelude.{◌≡◌, ◌<◌, ◌≤◌, length};
+ghost use Rattle.memchr.specs.Find.{Nowhere, Passes, is_byte};
 ghost use Rattle.ptlangs.specs.Jobs.{uniq_job};
 ghost use Rattle.ptflow.specs.Uniqs.{is_blank, after_fields, key};
 ghost use Rattle.ptflow.specs.Workings.Uniq.UniqWords.{after_bytes};
 
 use memchr::memchr2;
 use ptlangs::jobs::UniqJob;
+use ptlines::find_in;
 
 fn is_blank(byte: u8) -> bool
     ensures { result ≡ is_blank byte }
@@ -14,14 +16,71 @@ fn is_blank(byte: u8) -> bool
     byte == b' ' || byte == b'\t'
 }
 
-// What stands behind the bytes in front that are no blanks.
-fn behind_bytes(line: &[u8]) -> &[u8]
+// What stands behind the bytes in front that are no blanks. Apart, so that a near blank is found without a call.
+#[inline(never)]
+fn behind_far(line: &[u8]) -> &[u8]
     ensures { result.now ≡ after_bytes line.now }
 {
     match memchr2(b' ', b'\t', line) {
         Some(at) => &line[at..],
         None => &line[line.len()..],
     }
+}
+
+// The first place of a byte among the first N, or N.
+#[inline(always)]
+fn first_of<const N: usize>(byte: u8, line: &[u8]) -> usize
+    requires lanes { N ≤ 64 }
+    requires within { N ≤ length line.now }
+    ensures before { Nowhere (Passes (is_byte byte) line.now) 0 result }
+    ensures found { result < N → Passes (is_byte byte) line.now result }
+    ensures within { result ≤ N }
+{
+    match find_in::<N>(byte, line, 0) {
+        Some(at) => at,
+        None => N,
+    }
+}
+
+// The same as `behind_far`, where a blank often is one of the first N bytes.
+#[inline(always)]
+fn behind_near<const N: usize>(line: &[u8]) -> &[u8]
+    requires lanes { N ≤ 64 }
+    requires within { N ≤ length line.now }
+    ensures { result.now ≡ after_bytes line.now }
+{
+    let at = first_of::<N>(b' ', line).min(first_of::<N>(b'\t', line));
+    if at < N {
+        return &line[at..];
+    }
+    behind_far(&line[N..])
+}
+
+// The same byte by byte.
+#[inline(always)]
+fn behind_few(line: &[u8]) -> &[u8]
+    ensures { result.now ≡ after_bytes line.now }
+{
+    for at in 0..line.len() {
+        if is_blank(line[at]) {
+            return &line[at..];
+        }
+    }
+    &line[line.len()..]
+}
+
+// What stands behind the bytes in front that are no blanks.
+#[inline(always)]
+fn behind_bytes(line: &[u8]) -> &[u8]
+    ensures { result.now ≡ after_bytes line.now }
+{
+    if line.len() >= 16 {
+        return behind_near::<16>(line);
+    }
+    if line.len() >= 8 {
+        return behind_near::<8>(line);
+    }
+    behind_few(line)
 }
 
 // What stands behind the first field of a line, which is blanks and then other bytes.
@@ -31,7 +90,7 @@ fn behind_field(line: &[u8]) -> &[u8]
     let mut rest = line;
     'blanks: while let [byte, behind @ ..] = rest {
         if !is_blank(*byte) {
-            return behind_bytes(behind);
+            return behind_bytes(rest);
         }
         rest = behind;
     }

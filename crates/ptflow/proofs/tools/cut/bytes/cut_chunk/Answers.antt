@@ -24,14 +24,15 @@ returns-then-step-eq0-clause-cut c =
     (λ start bytes so_far.
     cut_on end list start bytes step.before step.before (drop step.start block) (drop (step.start + 64) block) (take step.at c.args.into.now) _
     (chunk step.start 64 block) so_far c.copy_ends.ensures.copied
-    (ends_on end (is_selected list) block c.args.from step.start step.before c.marks-marked.result c.requires.within.0 c.if-step-from.true c.if-step-eq0.true c.marks-marked.ensures c.if-marked.true))
+    (ends_on end (is_selected list) block c.args.from step.start step.before c.marks-marked.result (omega (arith, c.requires.within.0)) c.if-step-from.true c.if-step-eq0.true
+    c.marks-marked.ensures c.if-marked.true))
 
 pub overflow_sub-end : goal.overflow_sub-end
 overflow_sub-end c =
     let p = is_byte c.args.ending in
     let loop = c.loop-end in
     let counted = ap count_ones c.marks-marked.ensures ∙ ones-mask_l p (chunk c.args.from 64 c.args.block.now) in
-    end_order c.args.ending c.args.block.now c.args.from loop._end loop.marked loop.step.start c.requires.within.0
+    end_order c.args.ending c.args.block.now c.args.from loop._end loop.marked loop.step.start (omega (arith, c.requires.within.0))
     (omega (arith, counted, c.loop-end-test.true)) loop.invariant.bits loop.invariant.ends
 
 pub copy_line-at-requires-clause-within : goal.copy_line-at-requires-clause-within
@@ -39,7 +40,7 @@ copy_line-at-requires-clause-within c =
     let p = is_byte c.args.ending in
     let loop = c.loop-end in
     let counted = ap count_ones c.marks-marked.ensures ∙ ones-mask_l p (chunk c.args.from 64 c.args.block.now) in
-    let first = end_first c.args.ending c.args.block.now c.args.from loop._end loop.marked loop.step.start c.requires.within.0
+    let first = end_first c.args.ending c.args.block.now c.args.from loop._end loop.marked loop.step.start (omega (arith, c.requires.within.0))
     (omega (arith, counted, c.loop-end-test.true)) loop.invariant.bits loop.invariant.ends in
     rw take_rest first.0.high
 
@@ -51,8 +52,8 @@ copy_line-at-requires-clause-room c =
     let some : loop._end < count_by p (chunk c.args.from 64 c.args.block.now) = omega (arith, counted, c.loop-end-test.true) in
     omega (
       arith,
-      end_order c.args.ending c.args.block.now c.args.from loop._end loop.marked loop.step.start c.requires.within.0 some loop.invariant.bits loop.invariant.ends,
-      end_near c.args.ending c.args.block.now c.args.from loop._end loop.marked loop.step.start c.requires.within.0 some loop.invariant.bits loop.invariant.ends,
+      end_order c.args.ending c.args.block.now c.args.from loop._end loop.marked loop.step.start (omega (arith, c.requires.within.0)) some loop.invariant.bits loop.invariant.ends,
+      end_near c.args.ending c.args.block.now c.args.from loop._end loop.marked loop.step.start (omega (arith, c.requires.within.0)) some loop.invariant.bits loop.invariant.ends,
       loop.invariant.near,
       c.requires.within.0,
       c.requires.within.1,
@@ -72,9 +73,9 @@ loop-end-preserved c =
     let counted = ap count_ones c.marks-marked.ensures ∙ ones-mask_l p (chunk from 64 block) in
     let some : n < count_by p (chunk from 64 block) = omega (arith, counted, c.loop-end-test.true) in
     let e = from + count_trailing_zeros 64 loop.marked in
-    let order = end_order end block from n loop.marked s c.requires.within.0 some loop.invariant.bits loop.invariant.ends in
-    let near = end_near end block from n loop.marked s c.requires.within.0 some loop.invariant.bits loop.invariant.ends in
-    let first = end_first end block from n loop.marked s c.requires.within.0 some loop.invariant.bits loop.invariant.ends in
+    let order = end_order end block from n loop.marked s (omega (arith, c.requires.within.0)) some loop.invariant.bits loop.invariant.ends in
+    let near = end_near end block from n loop.marked s (omega (arith, c.requires.within.0)) some loop.invariant.bits loop.invariant.ends in
+    let first = end_first end block from n loop.marked s (omega (arith, c.requires.within.0)) some loop.invariant.bits loop.invariant.ends in
     let next : suc n ≡ n + 1 = omega arith in
     let behind : s + (e - s + 1) ≡ e + 1 = omega (arith, order) in
     let rest = drop s block in
@@ -83,7 +84,7 @@ loop-end-preserved c =
     record {
       bits = cleared n loop.marked bits loop.auto.marked-fits.fits loop.invariant.bits ∙ ap (λ (k : ℕ). mask_l (without k bits)) next;
       within = omega (arith, near);
-      ends = end_counted end block from n loop.marked s c.requires.within.0 some loop.invariant.bits loop.invariant.ends;
+      ends = end_counted end block from n loop.marked s (omega (arith, c.requires.within.0)) some loop.invariant.bits loop.invariant.ends;
       cut = λ start bytes so_far.
           cut_on end list start bytes loop.step.before 0 rest (drop (e + 1) block) (take loop.step.at loop.into) _ (chosen_piece list loop.step.before (e - s) (take (e - s + 1) rest))
           (loop.invariant.cut start bytes so_far) copied

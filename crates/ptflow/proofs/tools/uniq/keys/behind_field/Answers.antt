@@ -5,7 +5,7 @@ use Rattle.ptflow.proofs.tools.uniq.keys.behind_field.Goals as goal
 
 pub returns-then-not-is_blank : goal.returns-then-not-is_blank
 returns-then-not-is_blank c =
-    c.behind_bytes.ensures ∙ sym (other_first c.blanks.rest.now _ c.in-len1-up.len_at_least (take_rest c.blanks.rest.now 1)
+    c.behind_bytes.ensures ∙ sym (other_first c.blanks.rest.now c.in-len1-up.len_at_least
     (sym c.is_blank.ensures ∙ c.if-not-is_blank.true)) ∙ c.blanks.invariant ∙ sym (after_one c.args.line.now)
 
 pub blanks-preserved : goal.blanks-preserved

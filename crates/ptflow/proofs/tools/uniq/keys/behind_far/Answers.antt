@@ -1,7 +1,7 @@
 use Rattle.std.proofs.Common.{length, sym, ◌∙◌, arith}
 use Rattle.std.proofs.lemmas.List.{take_rest, drop_all}
 use Rattle.ptflow.proofs.OfUniq.UniqKeys.{after_found, after_not_found}
-use Rattle.ptflow.proofs.tools.uniq.keys.behind_bytes.Goals as goal
+use Rattle.ptflow.proofs.tools.uniq.keys.behind_far.Goals as goal
 
 pub returns-in-Some : goal.returns-in-Some
 returns-in-Some c = take_rest c.args.line.now c.in-Some.at ∙ sym (after_found c.args.line.now c.in-Some.at c.in-Some.ensures)
