@@ -308,7 +308,8 @@ module _ (end : ℕ) (delims : List (Option ℕ)) (cells : List ℕ) (turns : Li
 
       there : q ≢ place → Took end (reader_at old q) (reader_at new q) (length (rows_in (length cells) rs.count rs.ls) * times cells q) (only place rs.ls q)
       there differ =
-          let most : 0 ≡ length (rows_in (length cells) rs.count rs.ls) * times cells q = omega (arith, ap (λ (m : ℕ). length (rows_in (length cells) rs.count rs.ls) * m) (named_not cells place same q differ)) in
+          let most : 0 ≡ length (rows_in (length cells) rs.count rs.ls) * times cells q =
+          omega (arith, ap (λ (m : ℕ). length (rows_in (length cells) rs.count rs.ls) * m) (named_not cells place same q differ)) in
           subst (λ (l : Column). Took end (reader_at old q) (reader_at new q) (length (rows_in (length cells) rs.count rs.ls) * times cells q) l) (sym (only_there place rs.ls q differ))
           (subst (λ (m : ℕ). Took end (reader_at old q) (reader_at new q) m []) most
           (subst (λ (r : Reader). Took end (reader_at old q) r 0 []) (sym (at_other old place q now differ)) (took_nothing end (reader_at old q))))
@@ -338,7 +339,8 @@ pub held_put : (end : ℕ) (delims : List (Option ℕ)) (cells : List ℕ) (turn
     → All (λ place. place < length old) cells → AreReadable end cells old
     → (d : Reader) → IsSound (get_or old (get_or cells 0 0) d) → (bytes : List ℕ) → bytes ≡ (get_or old (get_or cells 0 0) d).held
     → (count : ℕ) → 0 < count → count ≤ length bytes → AreRows end (length turns) (take count bytes)
-    → (e r : Reader) → r ≡ record (get_or old (get_or cells 0 0) e) { held = drop count (get_or old (get_or cells 0 0) e).held } → (written : List ℕ) → written ≡ with_turns end turns 0 (take count bytes)
+    → (e r : Reader) → r ≡ record (get_or old (get_or cells 0 0) e) { held = drop count (get_or old (get_or cells 0 0) e).held }
+    → (written : List ℕ) → written ≡ with_turns end turns 0 (take count bytes)
     → HeldRows end delims cells old (set old (get_or cells 0 0) r) written
 held_put end delims cells turns t old within readable d sound bytes is_held count some few rs e r step written put =
     let p = get_or cells 0 0 in
