@@ -1,4 +1,4 @@
-//! The second input's lines of one key, which `join` keeps in slots of its own.
+//! The second input's lines of one key. Where there are several, `join` keeps them in slots of their own.
 ghost use Rattle.std.specs.Prelude.{◌≡◌, ◌≤◌, ◌<◌, ◌+◌, ◌-◌, length, IfOk, OnOk, OnErr};
 ghost use Rattle.ptlines.specs.Slots.{line, total, with_denied};
 ghost use Rattle.ptmerge.specs.declared.order.Side.TheVariants as Of;
