@@ -1,4 +1,4 @@
--- The second input's lines of one key, in the slots behind the first four.
+-- The second input's lines of one key: in the slots behind the first four, or, where it is one, where it was read.
 use Rattle.std.specs.Prelude.{◌≡◌, ◌⊎◌, ℕ, ◌==◌, if◌then◌else◌, ◌+◌, ◌-◌, ◌≤◌, ◌<◌, true, false, Bool, length, take, drop, max, Result, Ok, Err}
 use Rattle.ptlines.specs.Readers.{Reader}
 use Rattle.ptlines.specs.Slots.{Slots, line, total, with_line, with_added}
