@@ -1,6 +1,7 @@
 //! Rows of `paste` whose cells all lie whole in the blocks of their readers.
 
-ghost use Rattle.std.specs.Prelude.{◌≡◌, ◌<◌, ◌≤◌, ◌+◌, ◌++◌, ◌^◌, length, take, All, None, IfSome};
+ghost use Rattle.std.specs.Prelude.{◌≡◌, ◌<◌, ◌≤◌, ◌+◌, ◌++◌, ◌^◌, length, take, All, None, Some, IfSome};
+ghost use Rattle.memchr.specs.Find.{IsFirstByte, is_byte};
 ghost use Rattle.ptlangs.specs.Jobs.{paste_job};
 ghost use Rattle.ptflow.specs.PastePasses.{reader_at};
 ghost use Rattle.ptflow.specs.Pastes.{times};
@@ -10,8 +11,9 @@ ghost use Rattle.ptflow.specs.Workings.Paste.WholeRows.{in_front, AreReadable, H
 
 use crate::tools::paste::serial::Written;
 use ptlangs::delims::Delims;
-use ptlines::{LineReader, Out, Sink, Source, WriteFault, copy_near, find_near};
+use ptlines::{LineReader, Out, Sink, Source, WriteFault, copy_near, find_in, find_near};
 use std::alloc::Allocator;
+use std::simd::prelude::*;
 
 // How many bytes are taken of each of few readers, by its place.
 type Taken = [u16; 16];
@@ -47,6 +49,59 @@ fn put_lead<A: Allocator>(delims: &Delims<A>, column: usize, into: &mut Written,
     }
 }
 
+// Copies the first 64 bytes.
+#[inline(always)]
+fn copy_first(bytes: &[u8], into: &mut [u8], at: usize)
+    requires within { 64 ≤ length bytes.now }
+    requires room { at + 64 ≤ length into.old }
+    ensures long { length into.new ≡ length into.old }
+    ensures copied { take (at + 64) into.new ≡ take at into.old ++ take 64 bytes.now }
+{
+    u8x64::from_slice(bytes).copy_to_slice(&mut into[at..]);
+}
+
+// Puts the line with which these bytes begin, if it is whole and there is room for it, and says how long it is. Apart, so
+// that a short line is put without a call.
+#[inline(never)]
+fn put_far(ending: u8, bytes: &[u8], into: &mut Written, at: usize) -> Option<usize>
+    requires { at ≤ 8193 }
+    ensures line { IfSome result (λ count. IsFirstByte (is_byte ending) bytes.now (Some count)) }
+    ensures put { IfSome result (λ count. take (at + count) into.new ≡ take at into.old ++ take count bytes.now) }
+    ensures near { IfSome result (λ count. at + count < 8192) }
+    ensures kept { take at into.new ≡ take at into.old }
+{
+    if bytes.len() >= 64 && at < 8128 {
+        if let Some(count) = find_in::<64>(ending, bytes, 0) {
+            copy_first(bytes, into, at);
+            return Some(count);
+        }
+    }
+    let count = find_near(ending, bytes)?;
+    if at + count >= 8192 {
+        return None;
+    }
+    copy_near(bytes, 0, count, into, at);
+    Some(count)
+}
+
+// The same: a line whose end is one of the first 16 bytes is put by the look that finds it.
+#[inline(always)]
+fn put_line(ending: u8, bytes: &[u8], into: &mut Written, at: usize) -> Option<usize>
+    requires { at ≤ 8193 }
+    ensures line { IfSome result (λ count. IsFirstByte (is_byte ending) bytes.now (Some count)) }
+    ensures put { IfSome result (λ count. take (at + count) into.new ≡ take at into.old ++ take count bytes.now) }
+    ensures near { IfSome result (λ count. at + count < 8192) }
+    ensures kept { take at into.new ≡ take at into.old }
+{
+    if bytes.len() >= 16 && at < 8176 {
+        if let Some(count) = find_in::<16>(ending, bytes, 0) {
+            copy_near(bytes, 0, count, into, at);
+            return Some(count);
+        }
+    }
+    put_far(ending, bytes, into, at)
+}
+
 // Puts the next row, if each cell's line lies whole in what its reader holds, and the row in the room. The answer is
 // where it ends, and `taken` has how many bytes are taken of each reader then, which are still held.
 #[inline(always)]
@@ -75,11 +130,7 @@ fn put_row<A: Allocator, S: Source, R: Source>(
         let from = put_lead(delims, column, into, end);
         let begin = taken[*place] as usize;
         let rest = &readers[*place].held()[begin..];
-        let count = find_near(ending, rest)?;
-        if from + count >= 8192 {
-            return None;
-        }
-        copy_near(rest, 0, count, into, from);
+        let count = put_line(ending, rest, into, from)?;
         end = from + count;
         taken[*place] = (begin + (count + 1)) as u16;
     }
@@ -88,8 +139,8 @@ fn put_row<A: Allocator, S: Source, R: Source>(
 }
 
 // Puts as many of the next rows as lie whole in what the readers hold, and in the room. The answer is where they end,
-// and how many bytes they take of each reader.
-#[inline(always)]
+// and how many bytes they take of each reader. Apart, so that the loop has all registers.
+#[inline(never)]
 fn put_rows<A: Allocator, S: Source, R: Source>(
     delims: &Delims<A>,
     ending: u8,

@@ -1,6 +1,6 @@
 -- Each turn puts one more cell behind its delimiter, if it is whole in what its reader holds; what was taken of each
 -- reader is counted.
-use Rattle.std.proofs.Common.{append_assoc, refl, sym, [], ◌∷◌, ◌≡◌, ◌+◌, ◌-◌, ◌<◌, ◌++◌, ℕ, List, Some, length, take, drop, get_or, ◌∙◌, ap, subst, arith}
+use Rattle.std.proofs.Common.{append_assoc, refl, sym, [], ◌∷◌, ◌≡◌, ◌+◌, ◌<◌, ◌++◌, ℕ, List, Some, length, take, drop, get_or, ◌∙◌, ap, subst, arith}
 use Rattle.std.proofs.lemmas.List.{append-nil, take_rest, take_more_set, length-set}
 use Rattle.std.proofs.lemmas.List.Elements.{All-get_or}
 use Rattle.memchr.specs.Find.{IsFirstByte, is_byte}
@@ -51,12 +51,11 @@ loop-column-preserved g c =
     let ready = c.requires.readable place (omega (arith, times_below cells n low)) in
     let sound = subst IsSound is_read c.held.ensures.sound in
     let held_is : c.held.result.now ≡ (reader_at readers place).held = c.held.ensures.held ∙ ap (λ (r : Reader). r.held) is_read in
-    let found = subst (λ (h : List ℕ). IsFirstByte (is_byte end) (drop (get_or taken place 0) h) (Some count)) held_is (rw take_rest at c.in_ok-count.ensures) in
-    let all : count - 0 ≡ count = omega arith in
+    let found = subst (λ (h : List ℕ). IsFirstByte (is_byte end) (drop (get_or taken place 0) h) (Some count)) held_is (rw take_rest at c.in_ok-count.ensures.line) in
     let lead_of = lead delims (in_front n) in
     let line = take count (drop (get_or taken place 0) (reader_at readers place).held) in
-    let is : take (c.put_lead-from.result + count) c.copy_near.new.into ≡ take c.args.at c.args.into.now ++ ((inv.written ++ lead_of) ++ line) =
-    (rw (all, take_rest) at c.copy_near.ensures.copied) ∙ (λ i. (c.put_lead-from.ensures.put ∙ ap (λ (l : List ℕ). l ++ lead_of) inv.is
+    let is : take (c.put_lead-from.result + count) c.put_line.new.into ≡ take c.args.at c.args.into.now ++ ((inv.written ++ lead_of) ++ line) =
+    (rw take_rest at c.in_ok-count.ensures.put) ∙ (λ i. (c.put_lead-from.ensures.put ∙ ap (λ (l : List ℕ). l ++ lead_of) inv.is
     ∙ append_assoc (take c.args.at c.args.into.now) inv.written lead_of) i ++ take count (drop (get_or taken place 0) (held_is i)))
     ∙ append_assoc (take c.args.at c.args.into.now) (inv.written ++ lead_of) line in
     record {
@@ -65,26 +64,18 @@ loop-column-preserved g c =
       puts = λ from moved. putting_more end delims cells readers from n taken low within place_low count ready.0 ready.1 sound found inv.written _ refl (inv.puts from moved);
       kept = front_kept c.args.at _ _ c.args.into.now ((inv.written ++ lead_of) ++ line) (omega (arith, c.put_lead-from.ensures.near.0, inv.near.0)) (omega (arith, c.requires.room, c.told-into)) is;
       holds = holds_more end delims cells readers readers n taken low within place_low count ready.0 ready.1 sound found inv.holds;
-      near = (omega (arith, c.put_lead-from.ensures.near.0, inv.near.0), omega (arith, c.if-from-count-ge8192.false), λ some. omega (arith, c.if-from-count-ge8192.false));
+      near = (omega (arith, c.put_lead-from.ensures.near.0, inv.near.0), omega (arith, c.in_ok-count.ensures.near), λ some. omega (arith, c.in_ok-count.ensures.near));
       places = length-set taken place (get_or taken place 0 + (count + 1)) ∙ inv.places;
-      room = c.copy_near.ensures.long ∙ c.put_lead-from.array_long;
+      room = c.put_line.array_long;
     }
 
 pub returns-in_err-count-clause-kept : goal.returns-in_err-count-clause-kept
 returns-in_err-count-clause-kept g c =
     let inv = c.loop-column.invariant in
     let lead_of = lead c.args.delims.now (in_front c.loop-column.column) in
-    front_kept c.args.at c.put_lead-from.result c.put_lead-from.new.into c.args.into.now (inv.written ++ lead_of)
+    front_kept c.args.at c.put_lead-from.result c.put_line.new.into c.args.into.now (inv.written ++ lead_of)
     (omega (arith, c.put_lead-from.ensures.near.0, inv.near.0)) (omega (arith, c.requires.room, c.told-into))
-    (c.put_lead-from.ensures.put ∙ ap (λ (l : List ℕ). l ++ lead_of) inv.is ∙ append_assoc (take c.args.at c.args.into.now) inv.written lead_of)
-
-pub returns-then-from-count-ge8192-clause-kept : goal.returns-then-from-count-ge8192-clause-kept
-returns-then-from-count-ge8192-clause-kept g c =
-    let inv = c.loop-column.invariant in
-    let lead_of = lead c.args.delims.now (in_front c.loop-column.column) in
-    front_kept c.args.at c.put_lead-from.result c.put_lead-from.new.into c.args.into.now (inv.written ++ lead_of)
-    (omega (arith, c.put_lead-from.ensures.near.0, inv.near.0)) (omega (arith, c.requires.room, c.told-into))
-    (c.put_lead-from.ensures.put ∙ ap (λ (l : List ℕ). l ++ lead_of) inv.is ∙ append_assoc (take c.args.at c.args.into.now) inv.written lead_of)
+    (c.put_line.ensures.kept ∙ c.put_lead-from.ensures.put ∙ ap (λ (l : List ℕ). l ++ lead_of) inv.is ∙ append_assoc (take c.args.at c.args.into.now) inv.written lead_of)
 
 pub returns-clause-near : goal.returns-clause-near
 returns-clause-near g c =
