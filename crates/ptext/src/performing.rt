@@ -21,8 +21,8 @@ use std::fs::{self, Files};
 ///
 /// The output file of `uniq` is created, or emptied, once the input was opened, and not where the input could not be
 /// opened or the words were refused: then nothing is written. `out` is handed back as it came, unless the words mean a
-/// command whose output is no file. A file that is input and output is emptied before it is read (POSIX leaves it open).
-/// The source has neither ended nor failed, and neither sink has failed.
+/// command whose output is no file. A file that is input and output is emptied before it is read (POSIX leaves it
+/// open). The source has neither ended nor failed, and neither sink has failed.
 pub fn perform<'a, R: Files, A: Allocator + Copy, S: Source, W: Sink, E: Sink>(
     rt: &R,
     alloc: A,

@@ -14,8 +14,8 @@ use crate::slots::need_slots;
 use ptlines::{LineFault, LineReader, Out, Sink, Source, Store, WriteFault};
 use std::alloc::Allocator;
 
-/// Such a tool. A line comes in the last of its slots, since it may come in pieces; the lines behind it are worked where
-/// they lie in the reader's block.
+/// Such a tool. A line comes in the last of its slots, since it may come in pieces; the lines behind it are worked
+/// where they lie in the reader's block.
 pub(crate) trait LineTool {
     /// What it has from line to line.
     type State;

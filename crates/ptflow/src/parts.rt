@@ -10,7 +10,7 @@ pub fn parts_of_cut()
 
 /// `tr` may be run on parts of a file, wherever it is cut, if it squeezes nothing. With `-s` what is written of a part
 /// and what is written of the next one must not meet in a byte that is squeezed: it would be written twice.
-/// So cut behind a byte that is not deleted, and is written as one that `-s` does not squeeze: a newline, in most
+/// So cut after a byte that is not deleted, and is written as one that `-s` does not squeeze: a newline, in most
 /// commands. Where a byte that is squeezed was written at both sides, take one of the two away.
 /// The call does nothing: its contract is the law.
 pub fn parts_of_tr()
@@ -28,14 +28,14 @@ pub fn parts_of_uniq()
 {}
 
 /// Where equal keys stand together, as in a sorted file, the lines may be dealt out by their keys, each in their order:
-/// what `uniq` writes of the lines of some keys is what it writes of the runs with these keys. So all the parts together
-/// have what is written of the file, and each of them has it in order.
-/// The call does nothing: its contract is the law.
+/// what `uniq` writes of the lines of some keys is what it writes of the runs with these keys. So all the parts
+/// together have what is written of the file, and each of them has it in order. The call does nothing: its contract is
+/// the law.
 pub fn uniq_by_key()
     ensures { UniqByKey }
 {}
 
-/// `paste` in rows may be run on parts of its files, where all are cut behind the same row: of each file the first part
+/// `paste` in rows may be run on parts of its files, where all are cut after the same row: of each file the first part
 /// has as many lines as there are rows, or that times the operands that name the file, and ends with the byte that ends
 /// a line. A file may also come to its end before that row; its second part is empty then.
 /// There is no such law for `-s`, which writes one row of a file, whatever it holds.

@@ -57,10 +57,12 @@ pub record IsGroupCleared (before after : Slots) (end : ℕ) : Type 0 where
   pub peak : after.peak ≤ max before.peak (total before.lines)
   pub denied : after.denied ≡ before.denied
 
--- the line before the one at which the second input now stands was kept; or it stays where it is, as the group's only one
+-- The line before the one at which the second input now stands stays where it is, as the group's only one; or it was kept,
+-- as one of several.
 abbrev pub KeepsLast : Sorted → Slots → Slots → ℕ → ℕ → Type 0
 KeepsLast new made after end next =
-    ((new.same ≡ false) × (end ≡ 4) × (next ≡ end) × (after ≡ made)) ⊎ ((next ≡ end + 1) × IsKept made after new.previous end)
+    ((new.same ≡ false) × (end ≡ 4) × (next ≡ end) × (after ≡ made))
+    ⊎ ((next ≡ end + 1) × IsKept made after new.previous end × ((new.same ≡ true) ⊎ (4 < end)))
 
 -- the second input went to its next line, and the one before was kept where it has to be
 pub record Gathered (key : Key) (cmp : Cmp) (old new : Sorted) (was is : Reader) (before after : Slots) (end next : ℕ) : Type 0 where

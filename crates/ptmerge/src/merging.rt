@@ -69,8 +69,8 @@ pub(crate) fn send_before_wait<S: Source, R: Source, W: Sink>(
 impl<K: KeyOrder> Merge<K> {
     ghost use Rattle.ptmerge.specs.declared.merging.sorted.Stand.TheVariants as stands;
 
-    /// Adds the slots that are missing of the first four, and reads the first line of each input. All other slots are as
-    /// they were.
+    /// Adds the slots that are missing of the first four, and reads the first line of each input. All other slots are
+    /// as they were.
     /// # Errors
     /// `Read` where a read failed; `Memory` where a growth of the store was refused, and the store is then denied.
     pub fn start<A: Allocator + Copy, S: Source, R: Source>(

@@ -26,7 +26,7 @@ pub enum Side {
 pub struct Span {
     /// The place of its first byte.
     pub start: usize,
-    /// The place behind its last byte.
+    /// The place after its last byte.
     pub end: usize,
 }
 

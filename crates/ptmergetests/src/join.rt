@@ -331,6 +331,18 @@ fn a_group_is_kept_until_its_last_pair(rt: HostRuntime) -> Result<(), Fail> {
     Ok(())
 }
 
+// The bytes of four lines: a line that is the only one of its key is not copied.
+#[test]
+fn a_line_alone_of_its_key_is_kept_once(rt: HostRuntime) -> Result<(), Fail> {
+    let job = JoinJob::new(rt.alloc());
+    let case = over(b"a 1\nb 2\nc 3\n", b"a x\nb y\nc z\n");
+    let (result, kept, peak) = run(rt.alloc(), rt.alloc(), &job, &case)?;
+    same(&rt, &result, &Ok(()));
+    assert!(rt; kept.bytes() == b"a 1 x\nb 2 y\nc 3 z\n".as_slice());
+    assert!(rt; peak == 4 * 3);
+    Ok(())
+}
+
 #[test]
 fn a_read_that_fails(rt: HostRuntime) -> Result<(), Fail> {
     let mut job = JoinJob::new(rt.alloc());

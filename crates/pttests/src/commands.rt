@@ -276,7 +276,8 @@ pub fn expect_refused(
     Ok(())
 }
 
-/// A command over standard input and a file that cannot be opened: this is said, and nothing is read, written or flushed.
+/// A command over standard input and a file that cannot be opened: this is said, and nothing is read, written or
+/// flushed.
 pub fn expect_untouched(
     rt: &impl Abort,
     alloc: Global,

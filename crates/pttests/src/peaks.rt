@@ -150,8 +150,8 @@ fn expect_sent(
     Ok(())
 }
 
-// Words, the first file if there are two, what stands in the last file in front of a long line, what is decided of that,
-// and what is said.
+// Words, the first file if there are two, what stands in the last file in front of a long line, what is decided of
+// that, and what is said.
 type Sent = (
     &'static [&'static str],
     &'static str,

@@ -389,8 +389,8 @@ fn classes_are_of_ascii(rt: HostRuntime) -> Result<(), Fail> {
     Ok(())
 }
 
-// The first bytes, the last bytes and the shifts of the stretches of a plan, one after another; none where there are too
-// many.
+// The first bytes, the last bytes and the shifts of the stretches of a plan, one after another; none where there are
+// too many.
 fn stretches_of(alloc: Global, s1: &str, s2: &str) -> Result<Option<Vec<u8>>, Fail> {
     let plan = CharPlan::read(Form::Translate, false, s1.as_bytes(), Some(s2.as_bytes()))?;
     let Some(shifts) = plan.shifts() else {

@@ -17,9 +17,9 @@ use ptlangs::jobs::CutJob;
 use ptlines::{LineReader, Out, Sink, Source, Store};
 use std::alloc::Allocator;
 
-/// Writes the selected parts of each line of a reader, and behind each line the byte that ends it (XCU, `cut`), which is
-/// byte 0 with `-z` (this project's own choice). A byte is a character, and `-n` changes nothing. Fields are written
-/// behind one another with the delimiter between them; a line without the delimiter is written whole, or not at all
+/// Writes the selected parts of each line of a reader, and after each line the byte that ends it (XCU, `cut`), which
+/// is byte 0 with `-z` (this project's own choice). A byte is a character, and `-n` changes nothing. Fields are written
+/// one after another with the delimiter between them; a line without the delimiter is written whole, or not at all
 /// with `-s`. A line of which no field is selected is written as an empty line (this project's own choice).
 ///
 /// For bytes nothing is kept, and the store stays as it was. For fields the first slot, which is added if the store

@@ -1,5 +1,5 @@
-//! `paste` in rows: line k of each input makes row k. `serial` is `paste -s`, which goes over one input after another and
-//! stands on the loop over blocks.
+//! `paste` in rows: line k of each input makes row k. `serial` is `paste -s`, which goes over one input after another
+//! and stands on the loop over blocks.
 
 ghost use Rattle.std.specs.Prelude.{◌≡◌, ◌<◌, ◌≤◌, ◌+◌, ◌^◌, ℕ, length, take, true, false, None, [], ◌∷◌, ◌++◌, All, OnOk, OnErr, IfOk};
 ghost use Rattle.ptlines.specs.Outputs.{Wrote};
@@ -95,7 +95,7 @@ fn push_row<A: Allocator + Copy, W: Sink>(
 ///
 /// A row of at most 8,192 bytes whose lines all lie whole in what the readers hold is pushed from there, if there are
 /// at most 16 readers. Where at most 64 cells all name one reader, and no delimiter between them is empty, all rows
-/// that lie whole in what it holds are pushed at once. Of any other row, as of each row behind the end of an input, a
+/// that lie whole in what it holds are pushed at once. Of any other row, as of each row after the end of an input, a
 /// slot of the store for each cell holds its line. The slots that are missing are added first; where one is refused,
 /// nothing is read or pushed. Nothing of a row is pushed before all its cells are known, and then all of it is, before
 /// anything more is read. What is staged is sent before a read that may have to wait

@@ -29,8 +29,8 @@ fn goes_on(job: &UniqJob, count: u64, first: &[u8], line: &[u8]) -> bool
     count > 0 && key(job, first) == key(job, line)
 }
 
-// The run that is open: how many lines it has, and its first line, if that was kept of a block. Otherwise the first slot
-// holds that line.
+// The run that is open: how many lines it has, and its first line, if that was kept of a block. Otherwise the first
+// slot holds that line.
 #[derive(Drop)]
 pub(crate) struct Open {
     pub count: u64,
@@ -146,13 +146,13 @@ impl LineTool for UniqJob {
 }
 
 /// Writes one line of each run of lines in a row with equal keys, the first of them (XCU, `uniq`; which of them is this
-/// project's own choice); by the job with the length of the run and a space in front, or only of runs of two lines or
-/// more, or only of lines that stand alone. The key of a line is what stands behind the fields and bytes that are passed
-/// over, and is empty where there is no more (XCU, `uniq`). A line ends with newline, or with byte 0 with `-z` (this
-/// project's own choice), and then a newline is no blank.
+/// project's own choice); by the job after the length of the run and a space, or only of runs of two lines or
+/// more, or only of lines that stand alone. The key of a line is what comes after the fields and bytes that are
+/// passed over, and is empty where there is no more (XCU, `uniq`). A line ends with newline, or with byte 0 with `-z`
+/// (this project's own choice), and then a newline is no blank.
 ///
-/// Two slots of the store, which are added if they are missing, hold the first line of the run and the line behind
-/// it. Nothing of a run is pushed before the next key or the end is known. On an output that has faulted nothing is read.
+/// Two slots of the store, which are added if they are missing, hold the first line of the run and the line after it.
+/// Nothing of a run is pushed before the next key or the end is known. On an output that has faulted nothing is read.
 /// # Errors
 /// `Read` or `Write` where a read or a write failed; `Memory` where a growth of the store was refused, and the store
 /// is then denied.

@@ -136,7 +136,8 @@ rest_tidy b (x ∷ xs) is = by (is_uneven b x) refl is (rest_tidy x xs)
     at_each here more (suc (suc k)) low high uneven =
         more (suc k) (omega arith) (omega (arith, high)) (subst (λ (T : Type 0). T) (sym (next_place b x xs (suc k) (omega arith))) uneven)
 
-    by : (t : Bool) → is_uneven b x ≡ t → cond t false (is_tidy (x == 32) xs) ≡ true → (is_tidy (x == 32) xs ≡ true → Nowhere (UnevenAt (x ∷ xs)) 1 (length (x ∷ xs)) × ((get_or (x ∷ xs) (length xs) 0 == 32) ≡ false))
+    by : (t : Bool) → is_uneven b x ≡ t → cond t false (is_tidy (x == 32) xs) ≡ true
+        → (is_tidy (x == 32) xs ≡ true → Nowhere (UnevenAt (x ∷ xs)) 1 (length (x ∷ xs)) × ((get_or (x ∷ xs) (length xs) 0 == 32) ≡ false))
         → Nowhere (UnevenAt (b ∷ x ∷ xs)) 1 (length (b ∷ x ∷ xs)) × ((get_or (x ∷ xs) (length xs) 0 == 32) ≡ false)
     by true e h more = absurd (false≢true h)
     by false e h more = (at_each e (more h).0, (more h).1)

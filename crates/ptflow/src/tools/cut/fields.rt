@@ -269,8 +269,8 @@ impl<A: Allocator + Copy> LineTool for CutJob<A> {
         Ok(())
     }
 
-    // Of fields no more is written than is read, so all of it is put in a room and pushed at once. Apart, so that what the
-    // loop needs stays in registers.
+    // Of fields no more is written than is read, so all of it is put in a room and pushed at once. Apart, so that what
+    // the loop needs stays in registers.
     #[inline(never)]
     fn take_block<B: Allocator + Copy, W: Sink>(
         &self,

@@ -16,8 +16,8 @@ use ptlangs::delims::Delims;
 use ptlines::{LineReader, Out, Sink, Source, WriteFault};
 use std::alloc::Allocator;
 
-/// What stands behind each cell of a row: a delimiter, and behind the last one the end that is there. The same is spread
-/// over 128 ends.
+/// What stands behind each cell of a row: a delimiter, and behind the last one the end that is there. The same is
+/// spread over 128 ends.
 #[derive(Drop)]
 pub(crate) struct Turns {
     list: ArrayVec<Option<u8>, 64>,

@@ -282,7 +282,7 @@ fn over_row<A: Allocator, S: Source, R: Source, W: Sink>(
     over_blocks(&mut tool, reader, out)
 }
 
-/// Writes the lines of a reader in one row, with the delimiters of the list between them, the first behind the first
+/// Writes the lines of a reader in one row, with the delimiters of the list between them, the first after the first
 /// line (XCU, `paste`, option `-s`). The row ends with newline, or with byte 0 with `-z` (this project's own choice). A
 /// reader without lines is an empty row (this project's own choice).
 ///

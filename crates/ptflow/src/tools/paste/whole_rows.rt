@@ -60,8 +60,8 @@ fn copy_first(bytes: &[u8], into: &mut [u8], at: usize)
     u8x64::from_slice(bytes).copy_to_slice(&mut into[at..]);
 }
 
-// Puts the line with which these bytes begin, if it is whole and there is room for it, and says how long it is. Apart, so
-// that a short line is put without a call.
+// Puts the line with which these bytes begin, if it is whole and there is room for it, and says how long it is. Apart,
+// so that a short line is put without a call.
 #[inline(never)]
 fn put_far(ending: u8, bytes: &[u8], into: &mut Written, at: usize) -> Option<usize>
     requires { at ≤ 8193 }

@@ -129,8 +129,9 @@ fn push_waiting<W: Sink>(
     push_lead(show, count, out)
 }
 
-// Lets what is written of a run wait behind what waits already, where both are one piece of the block; else that is pushed
-// first. The run has so many lines, and its first line, with its end, is in the block. The answer is what waits then.
+// Lets what is written of a run wait behind what waits already, where both are one piece of the block; else that is
+// pushed first. The run has so many lines, and its first line, with its end, is in the block. The answer is what waits
+// then.
 #[inline(always)]
 fn let_wait<W: Sink>(
     show: Show,
@@ -173,8 +174,8 @@ pub(crate) struct LastRun {
     pub passed: usize,
 }
 
-// Pushes what is written of the runs of the lines whose end is in the block, but for the last run. The first line ends at
-// this place. Apart, so that what the loop needs stays in registers.
+// Pushes what is written of the runs of the lines whose end is in the block, but for the last run. The first line ends
+// at this place. Apart, so that what the loop needs stays in registers.
 #[inline(never)]
 pub(crate) fn push_runs<W: Sink>(
     job: &UniqJob,
