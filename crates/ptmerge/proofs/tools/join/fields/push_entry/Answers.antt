@@ -54,7 +54,7 @@ returns-in-None-Some-None-clause-wrote g c =
     let w = c.stands_as_written-in-None-two.ensures c.if-stands_as_written-3.true in
     let whole = line_is (between job.separator) job.field1 fs line key w.is w.first keyed in
     subst (λ o. Wrote c.args.out.now c.push_line-in-None-Some-None.new.self
-        (entry job key (fields_left job.separator (option_copied o)) (fields_left job.separator (option_copied c.args.two)) ++ c.args.ending ∷ []))
+    (entry job key (fields_left job.separator (option_copied o)) (fields_left job.separator (option_copied c.args.two)) ++ c.args.ending ∷ []))
     (sym c.in-None-Some-None.is-1)
     (subst (λ o. Wrote c.args.out.now c.push_line-in-None-Some-None.new.self (entry job key fs (fields_left job.separator (option_copied o)) ++ c.args.ending ∷ []))
     (sym c.in-None-Some-None.is-2)
@@ -71,7 +71,7 @@ returns-in-None-None-Some-clause-wrote g c =
     let w = c.stands_as_written-in-Some-this.ensures c.if-stands_as_written-4.true in
     let whole = line_is (between job.separator) job.field2 fs line key w.is w.first keyed in
     subst (λ o. Wrote c.args.out.now c.push_line-in-None-None-Some.new.self
-        (entry job key (fields_left job.separator (option_copied o)) (fields_left job.separator (option_copied c.args.two)) ++ c.args.ending ∷ []))
+    (entry job key (fields_left job.separator (option_copied o)) (fields_left job.separator (option_copied c.args.two)) ++ c.args.ending ∷ []))
     (sym c.in-None-None-Some.is-1)
     (subst (λ o. Wrote c.args.out.now c.push_line-in-None-None-Some.new.self (entry job key [] (fields_left job.separator (option_copied o)) ++ c.args.ending ∷ []))
     (sym c.in-None-None-Some.is-2)
