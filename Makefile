@@ -8,7 +8,7 @@
 #                           the tools over parts of their input, on all processors
 # make compare N=5000       random words and inputs, against the system's tools (docs/COMPARISON.md)
 # make install PREFIX=..    installs the program, its pages and completion into PREFIX (/usr/local), below DESTDIR
-# make install-tools        adds PREFIX/libexec/ptext/bin with each tool by its own name: for who puts it into PATH
+# make install-tools        adds PREFIX/libexec/ptext/bin with each tool by its own name, a folder to put into PATH
 # make uninstall PREFIX=..  takes away exactly what these two installed
 # make dist                 build/dist: an archive of the source, one of the program, and their checksums
 # make deb                  build/dist: a Debian package
