@@ -19,13 +19,14 @@ use Rattle.ptrun.specs.KeepingUp.{PassedOn, AnyEarlier, Earlier}
 use Rattle.ptrun.specs.Together.{JointTool, text_in, given_in}
 use Rattle.ptrun.specs.Sayings.{Tells}
 use Rattle.ptrun.specs.Messages.{failure, out_of_order}
-use Rattle.ptrun.specs.Runs.{IsWhole, Cause}
+use Rattle.ptrun.specs.Runs.{IsWhole, Cause, Sinks, Outcome, IsRun, IsQuiet}
 
--- no input was read, each operand has one, and each file has a name
+-- no input was read, each operand has one, each file has a name, and the tool takes these operands
 pub record AreGiven (m : Meaning) (inputs : List Reader) : Type 0 where
   pub fresh : All IsFresh inputs
   pub fits : All (λ p. p < length inputs) m.places
   pub named : length inputs ≡ length m.names + 1
+  pub taken : m.takes ≡ true
 
 -- Whether inputs are lacking, so that nothing is read or written; if so, those that could not be opened were named, and there is nothing else to do.
 pub record Checks (m : Meaning) (inputs : List Reader) (told heard : SinkState) (lacking : Bool) : Type 0 where
@@ -120,6 +121,12 @@ pub record Went (m : Meaning) (old new : List Reader) (was is : Output) (told he
   pub sure : (place : ℕ) → HasFailed old new place → is.faulted ≡ false → Begins (m.decided received) pushed
   pub keeps_up : Earlier m received behind (λ decided. PassedOn decided was is pushed)
   pub peak : (w : World) → Allows received w → store.peak ≤ max before.peak (m.bound w)
+
+-- A run that was lent a store: what it reports of memory is the store's, and where it is quiet all is as it was.
+pub record Ran (m : Meaning) (old new : List Reader) (handed : Sinks) (o : Outcome) (lent left : Slots) : Type 0 where
+  pub run : IsRun m old new handed o
+  pub quiet : m.quiet (shut old) ≡ true → (new ≡ old) × (left ≡ lent) × IsQuiet handed.out o
+  pub store : (o.peak ≡ left.peak) × (o.denied ≡ left.denied)
 
 -- ---- a tool that takes all its inputs together
 

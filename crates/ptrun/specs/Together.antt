@@ -99,6 +99,7 @@ together word t names places = record {
   in_turn = None;
   closing = λ w. if lacks places w then [] else disorder_text word names (t.disorder places (text_in w));
   quiet = λ is_shut. list_any is_shut places;
+  takes = t.takes places;
   places = places;
   begun = λ n. places;
   tool = word;

@@ -1,12 +1,11 @@
 //! A tool over all its inputs, and the run around it.
 
-ghost use Rattle.std.specs.Prelude.{◌≡◌, ◌<◌, ◌+◌, ◌≤◌, Bool, true, false, length};
-ghost use Rattle.ptrun.specs.Engines.{AreGiven, Checks, IsStart, Went, Finishes, IsWithin, last_words, status_after};
+ghost use Rattle.std.specs.Prelude.{◌≡◌, ◌+◌, ◌≤◌, length};
+ghost use Rattle.ptrun.specs.Engines.{AreGiven, Checks, IsStart, Went, Ran, Finishes, IsWithin, last_words, status_after};
 ghost use Rattle.ptrun.specs.Meanings.{Meaning};
 ghost use Rattle.ptrun.specs.Messages.{name_of};
-ghost use Rattle.ptrun.specs.Runs.{IsRun, IsQuiet, IsUnused, sinks, outcome};
+ghost use Rattle.ptrun.specs.Runs.{AreUnused, sinks, outcome};
 ghost use Rattle.ptrun.specs.Sayings.{Tells};
-ghost use Rattle.ptrun.specs.Worlds.{shut};
 
 use crate::report::{Report, quiet_report, report_of};
 use crate::voice::Voice;
@@ -30,9 +29,6 @@ pub(crate) enum Done {
 pub(crate) trait Engine<A: Allocator + Copy>: Drop {
     /// What it is to do.
     ghost meaning: { Self → Meaning };
-
-    /// Whether its operands are such as the tool takes.
-    ghost suits: { Self → Bool };
 
     /// The word that names the tool.
     fn tool(&self) -> &str
@@ -60,8 +56,7 @@ pub(crate) trait Engine<A: Allocator + Copy>: Drop {
         out: &mut Out<W>,
         voice: &mut Voice<E>,
     ) -> Result<Done, FlowFault>
-        requires start { IsStart (meaning self.now) inputs.old out.old store.old }
-        requires taken { suits self.now ≡ true }
+        requires { IsStart (meaning self.now) inputs.old out.old store.old }
         ensures { Went (meaning self.now) inputs.old inputs.new out.old out.new voice.old voice.new
             store.old store.new result };
 }
@@ -75,14 +70,9 @@ pub(crate) fn run_engine<A: Allocator + Copy, G: Engine<A>, S: Source, R: Source
     voice: Voice<E>,
 ) -> Report<W, E>
     requires given { AreGiven (G.meaning engine.now) inputs.old }
-    requires taken { G.suits engine.now ≡ true }
-    requires writable { (W.state out).failed ≡ false }
-    requires unused { IsUnused store.old }
-    ensures run { IsRun (G.meaning engine.now) inputs.old inputs.new (sinks (W.state out) voice)
-        (outcome W.state E.state result) }
-    ensures quiet { (G.meaning engine.now).quiet (shut inputs.old) ≡ true →
-        (inputs.new ≡ inputs.old) × (store.new ≡ store.old) × IsQuiet (W.state out) (outcome W.state E.state result) }
-    ensures store { (result.peak ≡ store.new.peak) × (result.denied ≡ store.new.denied) }
+    requires unused { AreUnused store.old (sinks (W.state out) voice) }
+    ensures { Ran (G.meaning engine.now) inputs.old inputs.new (sinks (W.state out) voice)
+        (outcome W.state E.state result) store.old store.new }
 {
     let mut voice = voice;
     if engine.lacks_inputs(inputs, &mut voice) {
