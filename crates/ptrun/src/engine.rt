@@ -31,7 +31,7 @@ pub(crate) trait Engine<A: Allocator + Copy>: Drop {
     /// What the definitions say that it is to do.
     ghost meaning: { Self → Meaning };
 
-    /// Whether the tool takes operands such as these.
+    /// Whether its operands are such as the tool takes.
     ghost suits: { Self → Bool };
 
     /// The word that names the tool.
