@@ -220,7 +220,7 @@ fn push_cells<A: Allocator, W: Sink>(
     Ok(after)
 }
 
-/// The delimiters, the byte that ends a line, the cell in which the next byte comes, and a place for what is written of
+/// The delimiters, the byte that ends a line, the cell in which the next byte comes, and room for what is written for
 /// a block.
 #[derive(Drop)]
 struct SerialPaste<'a, A: Allocator> {
