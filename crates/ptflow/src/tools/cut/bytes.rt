@@ -21,7 +21,7 @@ use ptlines::{LineReader, Out, Sink, Source, WriteFault, copy_near, find_near};
 use std::alloc::Allocator;
 use std::simd::prelude::*;
 
-// What is written for a block, which is at most as long as the block, and room for what a copy changes after it.
+// What is written of a block, which is at most as long as the block, and room for what a copy changes behind it.
 type Written = [u8; 8208];
 
 /// What is selected of each line, and which places these are of a short one.
@@ -124,8 +124,8 @@ fn copy_ends(block: &[u8], step: Step, into: &mut [u8]) -> Step
     }
 }
 
-// Copies what is written for the lines that end among the 64 bytes from a place on, after which 16 more come, and of
-// which the first is given. The answer is the first line after them. Out of line, so that what a line needs stays in
+// Copies what is written of the lines that end among the 64 bytes from a place on, behind which 16 more stand, and of
+// which the first is told. The answer is the first line behind them. Apart, so that what a line needs stays in
 // registers.
 #[inline(never)]
 fn cut_chunk(
@@ -166,8 +166,8 @@ fn cut_chunk(
     step
 }
 
-// Copies what is written for bytes, of whose first line `before` bytes came earlier. The answer is where that ends, and
-// how many bytes have come of the line that goes on after them.
+// Copies what is written of bytes, of whose first line `before` bytes came earlier. The answer is where that ends, and
+// how many bytes have come of the line that goes on behind them.
 fn cut_rest(
     by: &Selection,
     ending: u8,
@@ -196,8 +196,8 @@ fn cut_rest(
     (at, before + rest.len() as u64)
 }
 
-// Copies what is written for a block, of whose first line `before` bytes came earlier. The answer is where that ends,
-// and how many bytes have come of the line that goes on after the block.
+// Copies what is written of a block, of whose first line `before` bytes came earlier. The answer is where that ends,
+// and how many bytes have come of the line that goes on behind the block.
 #[inline(always)]
 fn cut_pieces(
     by: &Selection,
@@ -226,8 +226,8 @@ fn cut_pieces(
     cut_rest(by, ending, step.before, &block[step.start..], into, step.at)
 }
 
-// Pushes what is written for a block, of whose first line `before` bytes came earlier. The answer is how many bytes
-// have come of the line that goes on after the block.
+// Pushes what is written of a block, of whose first line `before` bytes came earlier. The answer is how many bytes
+// have come of the line that goes on behind the block.
 #[inline(never)]
 fn push_pieces<W: Sink>(
     by: &Selection,
@@ -254,7 +254,7 @@ fn push_pieces<W: Sink>(
 }
 
 /// What is selected of each line, the byte that ends a line, how many bytes have come of the line that goes on, and a
-/// place for what is written for a block.
+/// place for what is written of a block.
 #[derive(Drop)]
 struct ByteCut<'a> {
     by: Selection<'a>,
@@ -295,7 +295,7 @@ impl<'a> BlockTool for ByteCut<'a> {
     }
 }
 
-// Writes the selected bytes of each line of a reader, and after each line the byte that ends it. No line is kept:
+// Writes the selected bytes of each line of a reader, and behind each line the byte that ends it. No line is kept:
 // what was selected is pushed before the next read.
 pub(crate) fn cut_by_bytes<A: Allocator + Copy, S: Source, R: Source, W: Sink>(
     job: &CutJob<A>,
