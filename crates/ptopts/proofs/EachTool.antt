@@ -1,6 +1,6 @@
 -- What is seen of each tool by looking at its row: a line for each.
-use Rattle.std.proofs.Common.{◌≡◌, ℕ, Bool, true, false, List, None, length, refl, not}
-use Rattle.std.specs.Prelude.{⊤, tt, nat_le, nat_lt}
+use Rattle.std.proofs.Common.{◌≡◌, ℕ, true, false, List, None, length, refl, not}
+use Rattle.std.specs.Prelude.{⊤, nat_le, nat_lt}
 use Rattle.std.specs.List.{list_all}
 use Rattle.ptopts.specs.declared.tool.Tool.{Tool}
 use Rattle.ptopts.specs.declared.tool.Tool.TheVariants.{Cut, Paste, Uniq, Comm, Join, Tr}

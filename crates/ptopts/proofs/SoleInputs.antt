@@ -1,6 +1,6 @@
 -- How many inputs a tool reads.
 use Rattle.std.proofs.Common.{◌≡◌, ℕ, suc, ◌+◌, ◌&&◌, Bool, true, false, cond, List, [], ◌∷◌, Option, Some, None, length, take, refl, ◌∙◌, ap, arith}
-use Rattle.std.specs.Prelude.{⊤, not, nat_le}
+use Rattle.std.specs.Prelude.{not, nat_le}
 use Rattle.std.specs.List.{list_all}
 use Rattle.std.proofs.lemmas.Bool.Decides.{nat_tests}
 use Rattle.ptopts.specs.declared.tool.Tool.TheVariants.{Paste}

@@ -110,7 +110,7 @@ returns-in-Err g c =
     k in_old opened calm run
     (decided_by_law word t names old fresh c.args.out.now c.args.voice.now c.args.store.now now c.loop-input.out c.go_over.new.out c.loop-input.voice
     c.loop-input.store c.go_over.new.store done c.loop-input.done p c.go_over.new.reader c.go_over.result
-    k in_old opened calm run (at_end _ (g.met.T.OneByOne.all_decided c.args.tool.now)))
+    k in_old opened calm run (at_end t (g.met.T.OneByOne.all_decided c.args.tool.now)))
     more c.in-Err.fault c.in-Err.is))
 
 pub returns : goal.returns
@@ -125,5 +125,5 @@ returns g c =
     c.loop-input.inputs c.loop-input.out c.loop-input.voice c.loop-input.store
     (take c.loop-input.input-index (places c.args.order.now)) c.loop-input.done c.loop-input.invariant
     (keeps_all word t names c.args.inputs.now (fresh_all c.args.inputs.now c.requires.fresh) c.args.out.now c.args.voice.now c.args.store.now
-    (at_end _ (g.met.T.OneByOne.all_decided c.args.tool.now)) c.loop-input.inputs c.loop-input.out c.loop-input.voice c.loop-input.store
+    (at_end t (g.met.T.OneByOne.all_decided c.args.tool.now)) c.loop-input.inputs c.loop-input.out c.loop-input.voice c.loop-input.store
     (take c.loop-input.input-index (places c.args.order.now)) c.loop-input.done c.loop-input.invariant))
