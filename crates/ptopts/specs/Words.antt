@@ -44,7 +44,7 @@ abbrev pub begins_with_operand : List (List ℕ) → Bool
 begins_with_operand [] = true
 begins_with_operand (word ∷ words) = not (is_dashed word)
 
--- ---- the grammar: words, the options in them, and the operands behind these
+-- ---- the grammar: words, the options in them, and the operands after these
 
 abbrev pub AreFlags : Tool → List ℕ → Type 0
 AreFlags tool letters = IsTrue (list_all (is_flag tool) letters)

@@ -28,7 +28,8 @@ pub record AreGiven (m : Meaning) (inputs : List Reader) : Type 0 where
   pub named : length inputs ≡ length m.names + 1
   pub taken : m.takes ≡ true
 
--- Whether inputs are lacking, so that nothing is read or written; if so, those that could not be opened were named, and there is nothing else to do.
+-- Whether inputs are lacking, so that nothing is read or written; if so, those that could not be opened were named, and
+-- there is nothing else to do.
 pub record Checks (m : Meaning) (inputs : List Reader) (told heard : SinkState) (lacking : Bool) : Type 0 where
   pub is : lacking ≡ m.quiet (shut inputs)
   pub tells : Tells told heard (if lacking then unopened m.tool m.names (shut inputs) m.places else [])
@@ -79,7 +80,7 @@ blame p (Read place) = Read p
 blame p Write = Write
 blame p Memory = Memory
 
--- what is true of each reader is true of two, before a call and behind it
+-- what is true of each reader is true of two, before a call and after it
 pub record AreSound (first second first' second' : Reader) : Type 0 where
   pub first_was : IsSound first
   pub second_was : IsSound second
@@ -152,7 +153,7 @@ pub record JointWhole (t : JointTool) (places : List ℕ) (r : Received) (old ne
   pub roomy : denied ≡ false
   pub read : (place : ℕ) → HasFailed old new place ⊎ IsTooLong (at r place) → ⊥
 
--- how it ended, and which failure is told: one that was, and no other
+-- how it ended, and which failure is named: one that happened, and no other
 abbrev pub JointEnds : JointTool → List ℕ → Received → List Reader → List Reader → List ℕ → Bool → Bool → Result Done FlowFault → Type 0
 JointEnds t places r old new pushed failed denied (Ok done) = JointWhole t places r old new pushed failed denied done
 JointEnds t places r old new pushed failed denied (Err (Read p)) = (is_in places p ≡ true) × (HasFailed old new p ⊎ IsTooLong (at r p)) × (failed ≡ false) × (denied ≡ false)

@@ -14,20 +14,20 @@ use ptflow::FlowFault;
 use ptlines::{LineReader, Out, Sink, Source, Store};
 use std::alloc::Allocator;
 
-/// How a tool ended that no failure stopped.
+/// How a tool ended, if no failure stopped it.
 #[derive(Clone, Copy)]
 pub(crate) enum Done {
     /// All is written.
     Whole,
-    /// All that there is without the inputs that could not be opened; they were named.
+    /// All is written but for inputs that could not be opened; these were named.
     Unopened,
-    /// All that comes before a line out of order: the place of its input, and its number, counted from 1.
+    /// All is written that comes before a line out of order: the place of its input, and its number, counted from 1.
     Disorder(usize, u64),
 }
 
 /// A tool over all its inputs.
 pub(crate) trait Engine<A: Allocator + Copy>: Drop {
-    /// What it is to do.
+    /// What the definitions say that it is to do.
     ghost meaning: { Self → Meaning };
 
     /// The word that names the tool.
@@ -39,7 +39,7 @@ pub(crate) trait Engine<A: Allocator + Copy>: Drop {
         requires { place ≤ length (meaning self.now).names }
         ensures { result.now ≡ name_of (meaning self.now).names place };
 
-    /// Whether inputs are lacking without which nothing is read or written; if so, they were named.
+    /// Names the missing inputs if nothing is to be read or written without them. Answers whether there is one.
     fn lacks_inputs<S: Source, R: Source, E: Sink>(
         &self,
         inputs: &[LineReader<S, R>],
@@ -85,7 +85,7 @@ pub(crate) fn run_engine<A: Allocator + Copy, G: Engine<A>, S: Source, R: Source
     report_of(store, status, out, voice)
 }
 
-// Sends what is staged. A write that failed is the fault, whatever else was.
+// Sends what is staged. If a write fails, that is the fault, whatever happened before.
 fn finish<W: Sink>(out: &mut Out<W>, went: Result<Done, FlowFault>) -> Result<Done, FlowFault>
     ensures { Finishes out.old out.new went result }
 {
@@ -95,7 +95,7 @@ fn finish<W: Sink>(out: &mut Out<W>, went: Result<Done, FlowFault>) -> Result<Do
     }
 }
 
-// Says the last words of a run. The answer is the status.
+// Says the last message of a run, if there is one. The answer is the status.
 fn conclude<A: Allocator + Copy, G: Engine<A>, E: Sink>(
     engine: &G,
     ended: Result<Done, FlowFault>,
