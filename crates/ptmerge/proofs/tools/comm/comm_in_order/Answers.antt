@@ -148,10 +148,9 @@ returns-in_err-go_on-in-Both g c =
     let p = c.pass-in-Both.ensures in
     let n = c.go_on.new in
     let e = c.from_residual-in_err-go_on-in-Both in
-    let stopped = rw p.order at c.in_err-go_on-in-Both.ensures.passes in
     let l = second_stops i.turn c.in-Both.ensures c.pass-in-Both.new.out c.ending-ending.result (c.ending-ending.ensures ∙ c.requires.ending.0)
     c.lead-lead3.result.now c.lead-lead3.ensures p.wrote c.in_ok-pass-in-Both.ensures.passes n.out c.go_on.ensures.sent n.self.first n.self.second n.reader n.store
-    c.in_err-go_on-in-Both.field-0.0 (told (err_from_is_err_and e.result e.ensures.1)) stopped in
+    c.in_err-go_on-in-Both.field-0.0 (told (err_from_is_err_and e.result e.ensures.1)) c.in_err-go_on-in-Both.ensures.passes in
     record { merged = rw (← i.order) l.merged; refused = l.refused; slots = l.slots }
 
 pub returns-in-End : goal.returns-in-End
