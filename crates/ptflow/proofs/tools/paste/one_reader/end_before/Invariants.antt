@@ -1,4 +1,4 @@
--- As many ends as were passed stand behind this place.
+-- As many ends as were passed come after this place.
 use Rattle.std.proofs.Common.{◌≡◌, ◌+◌, ◌≤◌, length, take}
 use Rattle.std.specs.List.{count_by}
 use Rattle.memchr.specs.Find.{is_byte}
