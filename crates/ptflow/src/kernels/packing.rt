@@ -47,7 +47,7 @@ pub(crate) fn put_lanes(v: u8x16, into: &mut [u8], at: usize)
     v.copy_to_slice(&mut into[at..]);
 }
 
-// Puts the 64 bytes from a place on after the first `end` bytes of `into`.
+// Puts the 64 bytes from a place on behind the first `end` bytes of `into`.
 #[inline(always)]
 pub(crate) fn put_chunk(from: &[u8], at: usize, into: &mut [u8], end: usize)
     requires lanes { at + 64 ≤ length from.now }
