@@ -1,12 +1,11 @@
 -- What is known at each turn of `join`, and what comes of the turn.
-use Rattle.std.proofs.Common.{◌≡◌, ◌⊎◌, inl, inr, ℕ, ◌+◌, ◌*◌, ◌≤◌, ◌<◌, true, false, List, [], ◌∷◌, None, Result, Ok, Err, length, refl, sym, ◌∙◌, ap, subst, arith}
+use Rattle.std.proofs.Common.{◌≡◌, inl, inr, ℕ, ◌+◌, ◌*◌, ◌≤◌, ◌<◌, true, false, List, [], ◌∷◌, None, Result, Ok, Err, length, refl, sym, ◌∙◌, ap, subst, arith}
 use Rattle.ptlangs.specs.Jobs.{Join}
 use Rattle.ptlines.specs.Outputs.{Output, Wrote}
 use Rattle.ptlines.specs.Readers.{Reader, IsSound, budget}
 use Rattle.ptlines.specs.Slots.{Slots, line, total}
 use Rattle.ptlines.specs.Text.{text}
 use Rattle.ptmerge.specs.declared.faults.MergeFault.{MergeFault}
-use Rattle.ptmerge.specs.declared.faults.MergeFault.TheVariants.{Write}
 use Rattle.ptmerge.specs.declared.faults.MergeFault.TheVariants as faults
 use Rattle.ptmerge.specs.declared.tools.join.Phase.{Phase}
 use Rattle.ptmerge.specs.declared.tools.join.Phase.TheVariants as phases
@@ -261,7 +260,8 @@ module _ {job : Join} {cmp : Cmp} {key : Side → Key} {old : State} {phase : Ph
     pub ended : {after : Slots} → IsCleared now.store after → ((side : Side) → (both one two side).stand ≡ Ended)
         → Leaves (join_by job cmp key) old (record { reader = now.reader; out = now.out; store = after }) (Ok tt)
     ended {after} clear step = leaves (omega (arith, clear.slots))
-        (join_turns.ended (join_by job cmp key) t.opened.o (pairs_of job) (join_pairs job cmp key) old t.opened.unfailed now (both one two) between.0 slots t.clean after clear t.opened.sound t.opened.readable step)
+        (join_turns.ended (join_by job cmp key) t.opened.o (pairs_of job) (join_pairs job cmp key) old t.opened.unfailed now (both one two)
+        between.0 slots t.clean after clear t.opened.sound t.opened.readable step)
 
     pub fallen : {after : Slots} → IsCleared now.store after → {s : Side} {n : ℕ} → IsDecided cmp key (both one two) now.store s n
         → Leaves (join_by job cmp key) old (record { reader = now.reader; out = now.out; store = after }) (Err (faults.Disorder s n))
@@ -278,13 +278,15 @@ module _ {job : Join} {cmp : Cmp} {key : Side → Key} {old : State} {phase : Ph
     gather_stands = stands_at Second gathering.head2
 
     pub gather_less : {one2 two2 : Sorted} {reader : Reader} {after : Slots} {out : Output} {to : ℕ}
-        → Gathered (key Second) cmp two two2 (now.reader Second) reader now.store after end to → CanGoOn key Second one two one2 two2 reader after out → left (put Second reader now.reader) one2 two2 < left now.reader one two
+        → Gathered (key Second) cmp two two2 (now.reader Second) reader now.store after end to → CanGoOn key Second one two one2 two2 reader after out
+        → left (put Second reader now.reader) one2 two2 < left now.reader one two
     gather_less {one2} {two2} {reader} h on = less (key Second) cmp Second one two one2 two2 now.reader reader now.store h.made gathering.head2 on.others h.came
 
     module _ {out : Output} (sent : Wrote now.out out []) where
       gathering_sent : Gathering (join_by job cmp key) t.opened.o (pairs_of job) (join_pairs job cmp key) old t.opened.unfailed
           (record { reader = now.reader; out = out; store = now.store }) (both one two) end
-      gathering_sent = gather_turns.gathering_sent (join_by job cmp key) t.opened.o (pairs_of job) (join_pairs job cmp key) old t.opened.unfailed now (both one two) end gathering slots t.clean out sent
+      gathering_sent = gather_turns.gathering_sent (join_by job cmp key) t.opened.o (pairs_of job) (join_pairs job cmp key) old t.opened.unfailed now (both one two) end
+          gathering slots t.clean out sent
 
       pub gather_stops : (two2 : Sorted) (reader : Reader) (after : Slots) (fault : MergeFault) {r : Result (Unit {0}) MergeFault} → r ≡ Err fault
           → Gathers (key Second) cmp two two2 (now.reader Second) reader now.store after out end (Err fault)
@@ -293,7 +295,8 @@ module _ {job : Join} {cmp : Cmp} {key : Side → Key} {old : State} {phase : Ph
           (leaves (omega (arith, ap (λ (z : Slots). length z.lines) e.1.store)) (same_state (join_by job cmp key) old Second now out reader after fault e.0 e.1
           (gather_turns.not_sent (join_by job cmp key) t.opened.o (pairs_of job) (join_pairs job cmp key) old t.opened.unfailed now (both one two) end gathering slots t.clean out sent e.1.faulted)))
       gather_stops two2 reader after fault is_fault (inr e) = subst (Leaves (join_by job cmp key) old (record { reader = put Second reader now.reader; out = out; store = after })) (sym is_fault)
-          (leaves (gather_slots (join_by job cmp key) t.opened.o (pairs_of job) (join_pairs job cmp key) old t.opened.unfailed (key Second) cmp two two2 (now.reader Second) reader now.store after end fault e.1)
+          (leaves (gather_slots (join_by job cmp key) t.opened.o (pairs_of job) (join_pairs job cmp key) old t.opened.unfailed (key Second) cmp two two2
+          (now.reader Second) reader now.store after end fault e.1)
           (gather_turns.not_gathered (join_by job cmp key) t.opened.o (pairs_of job) (join_pairs job cmp key) old t.opened.unfailed
           (record { reader = now.reader; out = out; store = now.store }) (both one two) end gathering_sent slots e.0 reader two2 after fault e.1))
 
@@ -333,7 +336,8 @@ module _ {job : Join} {cmp : Cmp} {key : Side → Key} {old : State} {phase : Ph
     pair_less {one2} {two2} {reader} {after} h = less (key First) cmp First one two one2 two2 now.reader reader now.store after pairing.head1 h.on.others h.came
 
     module _ {new : Output} {e : ℕ} (ends : e ≡ job.end)
-        (pushed : Wrote now.out new (text e (pairs_of job (key First (line now.store one.standing)) (line now.store one.standing ∷ []) (group now.store (first_slot two end) (end_slot two end))))) where
+        (pushed : Wrote now.out new (text e (pairs_of job (key First (line now.store one.standing)) (line now.store one.standing ∷ [])
+        (group now.store (first_slot two end) (end_slot two end))))) where
       wrote_pairs : Wrote now.out new (text job.end (pairs_of job pairing.k (line now.store one.standing ∷ []) (pairing.g Second)))
       wrote_pairs =
           let x = line now.store one.standing in

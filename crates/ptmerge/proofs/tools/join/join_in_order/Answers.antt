@@ -69,8 +69,8 @@ returns-in_err-pass_alone-in-Second g c =
     let i = c.turns.invariant in
     let n = c.pass_alone-in-Second.new in
     let e = c.from_residual-in_err-pass_alone-in-Second in
-    let l = alone_stops i.turn c.in-Between.is sides.Second c.in-Second.ensures (c.ending-ending.ensures ∙ c.requires.ending.0) c.pass_alone-in-Second.ensures.wrote n.merge.first n.merge.second n.reader n.store
-    c.in_err-pass_alone-in-Second.field-0.0 (told (err_from_is_err_and e.result e.ensures.1)) c.in_err-pass_alone-in-Second.ensures.passes in
+    let l = alone_stops i.turn c.in-Between.is sides.Second c.in-Second.ensures (c.ending-ending.ensures ∙ c.requires.ending.0) c.pass_alone-in-Second.ensures.wrote
+    n.merge.first n.merge.second n.reader n.store c.in_err-pass_alone-in-Second.field-0.0 (told (err_from_is_err_and e.result e.ensures.1)) c.in_err-pass_alone-in-Second.ensures.passes in
     record { merged = rw (← i.order) l.merged; refused = l.refused; slots = l.slots }
 
 pub turns-preserved-in-Both : goal.turns-preserved-in-Both
