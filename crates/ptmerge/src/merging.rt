@@ -257,6 +257,7 @@ impl<K: KeyOrder> Merge<K> {
             Side::Second => self.second.same,
         }
     }
+
     // Goes to the next line of an input that stands at one, by its own reader. What is staged is sent first, if that line
     // may have to be waited for.
     #[inline(always)]

@@ -21,7 +21,7 @@ use Rattle.ptmerge.specs.declared.merging.sorted.Stand.TheVariants.{Head, Ended,
 use Rattle.ptmerge.specs.Groups.{group, is_head}
 use Rattle.ptmerge.specs.Join.{largest_group, most_lines}
 use Rattle.ptmerge.specs.Keyed.{Lines, Tool, by_keys}
-use Rattle.ptmerge.specs.LinePasses.{IsUnwritten, PassesLine}
+use Rattle.ptmerge.specs.LinePasses.{PassesLine}
 use Rattle.ptmerge.specs.Merges.{State, Ends, IsMerge}
 use Rattle.ptmerge.specs.Orders.{Cmp, Key}
 use Rattle.ptmerge.specs.Places.{CannotRead, Comes, HasSlots}
@@ -29,7 +29,7 @@ use Rattle.ptmerge.specs.Sides.{put, other}
 use Rattle.ptmerge.specs.Steps.{IsAlone, IsDecided}
 use Rattle.ptmerge.specs.Stores.{IsCleared}
 use Rattle.ptmerge.proofs.OfMerges.Bounds.{Bound, Begun}
-use Rattle.ptmerge.proofs.OfComm.CommTurns.{Running, same_reader}
+use Rattle.ptmerge.proofs.OfComm.CommTurns.{same_state, Running}
 use Rattle.ptmerge.proofs.OfMerges.Got.{reads_nothing}
 use Rattle.ptmerge.proofs.OfJoin.GroupTurns.{IsPairing}
 use Rattle.ptmerge.proofs.OfJoin.JoinSlots.{Keeping, keeping_line, keeping_starts}
@@ -77,15 +77,6 @@ comes_places key cmp old new was is before after (inr e) = (ap (λ (q : Sorted).
 pub exchanged : (s : Side) (old new : Sorted) → (new.standing ≡ old.previous) × (new.previous ≡ old.standing) → HasSlots s old → HasSlots s new
 exchanged s old new e (inl h) = inr (e.0 ∙ h.1, e.1 ∙ h.0)
 exchanged s old new e (inr h) = inl (e.0 ∙ h.1, e.1 ∙ h.0)
-
--- a write failed, and nothing more was read
-pub same_state : (tool : Tool) (old : State) (s : Side) (now : State) (out : Output) (reader : Reader) (after : Slots) (fault : MergeFault) → fault ≡ Write
-    → IsUnwritten (now.reader s) reader now.store after out → IsMerge tool old (record { reader = now.reader; out = out; store = now.store }) (Err Write)
-    → IsMerge tool old (record { reader = put s reader now.reader; out = out; store = after }) (Err fault)
-same_state tool old s now out reader after fault is e m =
-    subst (IsMerge tool old (record { reader = put s reader now.reader; out = out; store = after })) (λ i. Err (sym is i))
-    (subst (λ (f : Side → Reader). IsMerge tool old (record { reader = f; out = out; store = after }) (Err Write)) (same_reader s reader now.reader e.unread)
-    (subst (λ t. IsMerge tool old (record { reader = now.reader; out = out; store = t }) (Err Write)) (sym e.store) m))
 
 -- what an input's lines go on with, where one input went on
 pub put_more : (s : Side) (ls : Side → Lines) (now more : Lines) → now ≡ ls s ++ more → (m : Lines) × (put s now ls Second ≡ ls Second ++ m)

@@ -34,7 +34,8 @@ use Rattle.ptmerge.proofs.OfMerges.Pairs.{put_each}
 use Rattle.ptmerge.proofs.OfMerges.Slotted.{line_other}
 use Rattle.ptmerge.proofs.OfMerges.Standing.{comes_repeats, sided_keeps}
 use Rattle.ptmerge.proofs.OfMerges.Turning.{IsAbove, next_at, own_slots, passed_at, sides_on}
-use Rattle.ptmerge.proofs.OfJoin.JoinTurns.{Between, Held, SidedOf, fits_kept, has_key, lacks_key, low_slot, peak_line, same_state}
+use Rattle.ptmerge.proofs.OfComm.CommTurns.{same_state}
+use Rattle.ptmerge.proofs.OfJoin.JoinTurns.{Between, Held, SidedOf, fits_kept, has_key, lacks_key, low_slot, peak_line}
 
 module _ (tool : Tool) (o : IsKeyOrder tool.cmp) (pairs : List ℕ → Lines → Lines → Lines) (laws : IsPairing tool pairs) (old : State)
     (unfailed : (side : Side) → (old.reader side).failed ≡ false) where

@@ -1,8 +1,8 @@
 -- What is known at each turn of `join`, and what comes of the turn.
-use Rattle.std.proofs.Common.{◌≡◌, inl, inr, ℕ, ◌+◌, ◌*◌, ◌≤◌, ◌<◌, true, false, List, [], ◌∷◌, None, Result, Ok, Err, length, refl, sym, ◌∙◌, ap, subst, arith}
+use Rattle.std.proofs.Common.{◌≡◌, inl, inr, ℕ, ◌≤◌, ◌<◌, true, false, List, [], ◌∷◌, None, Result, Ok, Err, length, refl, sym, ◌∙◌, ap, subst, arith}
 use Rattle.ptlangs.specs.Jobs.{Join}
 use Rattle.ptlines.specs.Outputs.{Output, Wrote}
-use Rattle.ptlines.specs.Readers.{Reader, IsSound, budget}
+use Rattle.ptlines.specs.Readers.{Reader, IsSound}
 use Rattle.ptlines.specs.Slots.{Slots, line, total}
 use Rattle.ptlines.specs.Text.{text}
 use Rattle.ptmerge.specs.declared.faults.MergeFault.{MergeFault}
@@ -19,25 +19,25 @@ use Rattle.ptmerge.specs.Keyed.{Lines, Tool, by_keys}
 use Rattle.ptmerge.specs.LinePasses.{CanGoOn, HasPassed, Passes, StandsAt}
 use Rattle.ptmerge.specs.Merges.{State, IsMerge, IsReady, IsUnread, seen}
 use Rattle.ptmerge.specs.Orders.{Cmp, Key}
-use Rattle.ptmerge.specs.Places.{Comes, HasSlots}
-use Rattle.ptmerge.specs.Sides.{both, put, other}
+use Rattle.ptmerge.specs.Places.{HasSlots}
+use Rattle.ptmerge.specs.Sides.{both, put}
 use Rattle.ptmerge.specs.Steps.{AreEqual, CannotStart, IsAlone, IsDecided, IsLent, IsPlaced, Starts, inputs}
 use Rattle.ptmerge.specs.Stores.{IsCleared}
-use Rattle.ptmerge.proofs.OfComm.CommTurns.{comes_slots, passes_slots, readable_of, slots_of, unfailed_of, wrote_as}
+use Rattle.ptmerge.proofs.OfComm.CommTurns.{comes_slots, passes_slots, readable_of, same_state, slots_of, unfailed_of, wrote_as}
 use Rattle.ptmerge.proofs.OfJoin.JoinEntries.{join_pairs, written_alone}
 use Rattle.ptmerge.proofs.OfJoin.GatherTurns.{Gathering, gather_slots}
 use Rattle.ptmerge.proofs.OfJoin.GatherTurns as gather_turns
 use Rattle.ptmerge.proofs.OfJoin.GroupTurns.{IsPairing}
 use Rattle.ptmerge.proofs.OfJoin.JoinSlots.{end_within}
-use Rattle.ptmerge.proofs.OfJoin.JoinTurns.{Between, same_state}
+use Rattle.ptmerge.proofs.OfJoin.JoinTurns.{Between}
 use Rattle.ptmerge.proofs.OfJoin.JoinTurns as join_turns
 use Rattle.ptmerge.proofs.OfJoin.PairTurns.{Pairing}
 use Rattle.ptmerge.proofs.OfJoin.PairTurns as pair_turns
+use Rattle.ptmerge.proofs.OfMerges.GoingOn.{left, less, lent_on, place_is}
 use Rattle.ptmerge.proofs.OfMerges.KeySpans.{placed_keeps}
 use Rattle.ptmerge.proofs.OfMerges.Orders.{IsKeyOrder}
 use Rattle.ptmerge.proofs.OfMerges.Pairs.{both_each}
 use Rattle.ptmerge.proofs.OfMerges.Splitting.{all_keys}
-use Rattle.ptmerge.proofs.OfMerges.Standing.{alive, comes_less}
 use Rattle.ptmerge.proofs.OfMerges.Starting.{starts_badly, starts_well, start_refused}
 use Rattle.ptmerge.proofs.OfMerges.Turning.{alone}
 
@@ -125,33 +125,6 @@ pub record Leaves (tool : Tool) (old new : State) (result : Result (Unit {0}) Me
   pub merged : IsMerge tool old new result
   pub refused : length new.store.lines < 4 → IsUnread old new
   pub slots : AddsLeast old.store new.store 4
-
--- a fault that is handed on
-pub told : {T E : Type 0} {r : Result T E} {fault : E} → (y : E) × (r ≡ Err y) × (y ≡ fault) → r ≡ Err fault
-told x = x.1 ∙ ap (λ y. Err y) x.2
-
--- how much is left to do
-abbrev pub left : (Side → Reader) → Sorted → Sorted → ℕ
-left reader one two = (budget (reader First) + alive one.stand) + (budget (reader Second) + alive two.stand)
-
-less : (key : Key) (cmp : Cmp) (s : Side) (one two one2 two2 : Sorted) (f : Side → Reader) (reader : Reader) (before after : Slots) → (both one two s).stand ≡ Head
-    → both one2 two2 (other s) ≡ both one two (other s) → Comes key cmp (both one two s) (both one2 two2 s) (f s) reader before after → left (put s reader f) one2 two2 < left f one two
-less key cmp First one two one2 two2 f reader before after head same came =
-    omega (arith, comes_less key cmp one one2 (f First) reader before after head came, ap (λ (q : Sorted). alive q.stand) same)
-less key cmp Second one two one2 two2 f reader before after head same came =
-    omega (arith, comes_less key cmp two two2 (f Second) reader before after head came, ap (λ (q : Sorted). alive q.stand) same)
-
--- where the inputs stand once this one went on
-place_is : (s : Side) (one two one2 two2 : Sorted) → both one2 two2 (other s) ≡ both one two (other s) → put s (both one2 two2 s) (both one two) ≡ both one2 two2
-place_is First one two one2 two2 same = λ i. both one2 (sym same i)
-place_is Second one two one2 two2 same = λ i. both (sym same i) two2
-
-lent_on : (s : Side) (one two one2 two2 : Sorted) (f : Side → Reader) (reader : Reader) → both one2 two2 (other s) ≡ both one two (other s)
-    → IsLent (both one2 two2 s) reader → ((side : Side) → IsLent (both one two side) (f side)) → (side : Side) → IsLent (both one2 two2 side) (put s reader f side)
-lent_on First one two one2 two2 f reader same h all First = h
-lent_on First one two one2 two2 f reader same h all Second = subst (λ (q : Sorted). IsLent q (f Second)) (sym same) (all Second)
-lent_on Second one two one2 two2 f reader same h all First = subst (λ (q : Sorted). IsLent q (f First)) (sym same) (all First)
-lent_on Second one two one2 two2 f reader same h all Second = h
 
 -- ---- the start
 

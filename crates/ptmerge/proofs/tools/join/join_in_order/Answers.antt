@@ -4,7 +4,8 @@ use Rattle.std.proofs.lemmas.Result.{err_from_is_err_and}
 use Rattle.ptlangs.specs.Jobs.{join_job}
 use Rattle.ptmerge.specs.declared.order.Side.TheVariants as sides
 use Rattle.ptmerge.proofs.OfJoin.Turns.{alone_on, alone_stops, begins, ended, end_there, fallen, gather_less, gather_stands, gather_stops, gathers_on, group_closed, group_there, opened}
-use Rattle.ptmerge.proofs.OfJoin.Turns.{opens, pair_group, pair_less, pair_stands, pair_stops, pairs_next, pairs_on, stands_at, start_stops, start_unread, told}
+use Rattle.ptmerge.proofs.OfJoin.Turns.{opens, pair_group, pair_less, pair_stands, pair_stops, pairs_next, pairs_on, stands_at, start_stops, start_unread}
+use Rattle.ptmerge.proofs.OfMerges.GoingOn.{told}
 use Rattle.ptmerge.proofs.tools.join.join_in_order.Goals as goal
 
 pub returns-in_err-merge-clause-merged : goal.returns-in_err-merge-clause-merged
@@ -74,9 +75,7 @@ returns-in_err-pass_alone-in-Second g c =
     record { merged = rw (← i.order) l.merged; refused = l.refused; slots = l.slots }
 
 pub turns-preserved-in-Both : goal.turns-preserved-in-Both
-turns-preserved-in-Both g c =
-    let i = c.turns.invariant in
-    record { turn = opens i.turn c.in-Between.is c.in-Both.ensures; order = i.order }
+turns-preserved-in-Both g c = record { turn = opens c.turns.invariant.turn c.in-Between.is c.in-Both.ensures; order = c.turns.invariant.order }
 
 pub returns-in-End : goal.returns-in-End
 returns-in-End g c =

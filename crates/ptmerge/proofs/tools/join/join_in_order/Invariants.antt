@@ -5,7 +5,8 @@ use Rattle.std.proofs.Common.{◌≡◌, ◌+◌, ◌*◌}
 use Rattle.ptlangs.specs.Jobs.{join_job}
 use Rattle.ptmerge.specs.Merges.{seen}
 use Rattle.ptmerge.specs.Sides.{both}
-use Rattle.ptmerge.proofs.OfJoin.Turns.{IsTurn, left, rank}
+use Rattle.ptmerge.proofs.OfJoin.Turns.{IsTurn, rank}
+use Rattle.ptmerge.proofs.OfMerges.GoingOn.{left}
 use Rattle.ptmerge.proofs.tools.join.join_in_order.Given as goal
 
 abbrev pub invariant-turns : goal.invariant-turns
