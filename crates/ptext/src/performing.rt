@@ -16,11 +16,11 @@ use ptrun::{Report, run, say};
 use std::alloc::{AllocError, Allocator};
 use std::fs::{self, Files};
 
-/// Runs the command of these words: opens the files that it names, in order, before anything is read, and hands
-/// the report of the run back. A file that cannot be opened is named by the run when its turn comes.
+/// Runs the command of these words: opens the files that it names, in order, before anything is read, and
+/// returns the report of the run. A file that cannot be opened is named by the run when its turn comes.
 ///
 /// The output file of `uniq` is created, or emptied, once the input was opened, and not where the input could not be
-/// opened or the words were refused: then nothing is written. `out` is handed back as it came, unless the words mean a
+/// opened or the words were refused: then nothing is written. `out` is returned as it came, unless the words mean a
 /// command whose output is no file. A file that is input and output is emptied before it is read (POSIX leaves it
 /// open). The source has neither ended nor failed, and neither sink has failed.
 pub fn perform<'a, R: Files, A: Allocator + Copy, S: Source, W: Sink, E: Sink>(

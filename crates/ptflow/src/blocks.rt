@@ -10,7 +10,7 @@ use ptlines::{LineReader, Out, Sink, Source, WriteFault};
 
 /// Such a tool, with what it carries from block to block.
 pub(crate) trait BlockTool: Drop {
-    /// What is written of the rest of an input.
+    /// What is written for the rest of an input.
     ghost rest: { Self → List ℕ → List ℕ };
 
     /// How many bytes it may have counted.
@@ -19,7 +19,7 @@ pub(crate) trait BlockTool: Drop {
     /// What is true of it, where it was the first at the start.
     ghost Holds: { Self → Self → Type 0 };
 
-    /// Pushes what is written of a block.
+    /// Pushes what is written for a block.
     fn push_block<W: Sink>(&mut self, block: &[u8], out: &mut Out<W>) -> Result<(), WriteFault>
         requires room { length block.now ≤ 8192 }
         requires short { counted self.old + length block.now < 2 ^ 63 }

@@ -9,7 +9,7 @@ pub enum FlowFault {
     Read(usize),
     /// 2: a write failed.
     Write,
-    /// 3: a growth of the store was refused; the store is denied.
+    /// 3: the store was refused memory (`Store::denied`).
     Memory,
 }
 

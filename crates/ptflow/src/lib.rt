@@ -2,8 +2,8 @@
 //!
 //! - `tools` has a room for each tool: its engine, and what only this tool needs.
 //! - `kernels` works on bytes many at a time, and knows no reader.
-//! - `blocks` is the loop that tools over blocks share, `lines` that of tools over lines, and `slots` what tools that keep
-//!   lines ask of a store.
+//! - `blocks` is the loop that tools over blocks share, `lines` that of tools over lines, and `slots` what tools that
+//!   keep lines ask of a store.
 //! - `parts` says which tools may be run on parts of their input.
 #![tactic(auto)]
 

@@ -14,7 +14,7 @@ use crate::slots::need_slots;
 use ptlines::{LineFault, LineReader, Out, Sink, Source, Store, WriteFault};
 use std::alloc::Allocator;
 
-/// Such a tool. A line comes in the last of its slots, since it may come in pieces; the lines behind it are worked
+/// Such a tool. A line comes in the last of its slots, since it may come in pieces; the lines after it are worked
 /// where they lie in the reader's block.
 pub(crate) trait LineTool {
     /// What it has from line to line.
@@ -32,7 +32,7 @@ pub(crate) trait LineTool {
 
     ghost carried: { Self.State → Slots → Carried };
 
-    /// What it makes of the rest of the lines, and what is written of that.
+    /// What it makes of the rest of the lines, and what is written for that.
     ghost Item: { Type 0 };
 
     ghost rest: { Self → Carried → List (List ℕ) → List Item };

@@ -1,4 +1,4 @@
-//! The list of `paste`: what stands between the columns of a line.
+//! The list of `paste`: the delimiters between the columns of a line.
 ghost use Rattle.std.specs.Prelude.{◌≡◌, ◌<◌, [], ◌∷◌, length, None, Err, IfOk, MatchResult};
 ghost use Rattle.std.specs.Result.{result_err};
 ghost use Rattle.ptlangs.specs.Answers.{Judges};
@@ -13,9 +13,9 @@ use std::marker::Model;
 pub enum DelimFault {
     /// The list is empty.
     Empty = 1,
-    /// A backslash stands at the end, or before a byte that is none of `n`, `t`, `\` and `0`.
+    /// There is a backslash at the end, or before a byte that is none of `n`, `t`, `\` and `0`.
     Escape = 2,
-    /// A growth of memory was refused.
+    /// A request for memory was refused.
     Memory = 3,
 }
 
@@ -48,13 +48,13 @@ impl<A: Allocator> Model for Delims<A> {
 
 impl<A: Allocator> Delims<A> {
     /// Reads a list: bytes that stand for themselves, and the escapes `\n`, `\t`, `\\` and `\0`, a
-    /// newline, a tab, a backslash and the empty string (XCU, `paste`, option `-d`). What follows
+    /// newline, a tab, a backslash and the empty string (POSIX.1-2017, XCU, `paste`, option `-d`). What follows
     /// `\0` makes no difference, and any other escape is refused (this project's own choices).
     ///
     /// # Errors
     ///
-    /// The fault of the first faulty element. `Memory` is answered only over a list without a fault, since the whole
-    /// list is judged before memory is asked for.
+    /// The fault of the first faulty element. `Memory` is answered only for a list without a fault, since the whole
+    /// list is checked before memory is asked for.
     pub fn read(alloc: A, text: &[u8]) -> Result<Delims<A>, DelimFault>
         ensures { Judges (λ d. d) fault_of result (delim_list text.now) }
     {
@@ -71,11 +71,11 @@ impl<A: Allocator> Delims<A> {
         }
     }
 
-    /// The list of one tab, which `paste` uses where it is given none (XCU, `paste`, option `-d`).
+    /// The list of one tab, which `paste` uses without `-d` (POSIX.1-2017, XCU, `paste`, description).
     ///
     /// # Errors
     ///
-    /// A growth of memory was refused.
+    /// A request for memory was refused.
     pub fn tab(alloc: A) -> Result<Delims<A>, AllocError>
         ensures { IfOk result (λ d. d ≡ Some 9 ∷ []) }
     {
@@ -92,7 +92,7 @@ impl<A: Allocator> Delims<A> {
         &self.kept[..]
     }
 
-    /// How many there are.
+    /// How many delimiters the list has: at least one.
     pub fn count(&self) -> usize
         ensures { result ≡ length self.now }
     {
@@ -108,8 +108,8 @@ impl<A: Allocator> Delims<A> {
     }
 }
 
-/// Nothing at run time: its contract says that the lists which [`Delims::read`] accepts are those
-/// of the grammar, and mean what the grammar says.
+/// Does nothing at run time. Its contract says that the lists which [`Delims::read`] accepts are those of the grammar,
+/// and mean what the grammar says.
 pub fn accepts_the_grammar()
     ensures { AcceptsTheGrammar }
 {}
@@ -130,7 +130,7 @@ fn check(text: &[u8]) -> Result<(), DelimFault>
     }
 }
 
-/// The first delimiter of a list, and what stands after it.
+/// The first delimiter of a list, and what follows it.
 fn first_delim(text: &[u8]) -> Result<(Option<u8>, &[u8]), DelimFault>
     ensures first { MatchResult result
         (λ found. delim_list text.now ≡ put_first found.0 (delims found.1.now))

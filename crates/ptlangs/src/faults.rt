@@ -24,8 +24,8 @@ pub enum SetFaultKind {
     Descending = 4,
     /// `[:name:]` names no class of characters.
     UnknownClass = 5,
-    /// A class stands in a `string2` that translates, and does not face its other case in
-    /// `string1`. That a complement has none to face is this project's own choice.
+    /// A class stands in a `string2` that translates, and is not `[:lower:]` or `[:upper:]` with the other one at the
+    /// same place of `string1`. That a complemented `string1` has no class there is this project's own choice.
     ClassPlace = 6,
     /// `[=c=]` stands in a `string2` that translates.
     EquivPlace = 7,
@@ -36,7 +36,7 @@ pub enum SetFaultKind {
     RepeatSize = 9,
     /// A second `[c*]` or `[c*0]` stands in `string2`. This project's own choice.
     SecondFill = 10,
-    /// Memory ran out. The reading of strings takes none, and never answers this.
+    /// Memory ran out. Strings are read without any memory, so this is never answered.
     Memory = 11,
 }
 

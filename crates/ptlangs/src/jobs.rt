@@ -1,4 +1,4 @@
-//! What each tool is told by its options, with its defaults.
+//! What the options of each tool ask for, with the defaults: one type of job for each tool.
 ghost use Rattle.std.specs.Prelude.{◌≡◌, IfOk};
 ghost use Rattle.ptlangs.specs.Jobs.{paste_job, default_paste, join_job, default_join};
 
@@ -27,7 +27,7 @@ pub struct CutJob<A: Allocator = Global> {
 pub struct PasteJob<A: Allocator = Global> {
     /// Whether the lines of one file at a time are put in a row (`-s`), and not one line of each.
     pub serial: bool,
-    /// What stands between the columns (`-d`). The default is a tab.
+    /// The delimiters between the columns (`-d`). The default is a tab.
     pub delims: Delims<A>,
     /// Whether lines end with byte 0 (`-z`), and not with newline. This project's own option.
     pub zero: bool,
@@ -38,7 +38,7 @@ impl<A: Allocator> PasteJob<A> {
     ///
     /// # Errors
     ///
-    /// A growth of memory was refused.
+    /// A request for memory was refused.
     pub fn new(alloc: A) -> Result<PasteJob<A>, AllocError>
         ensures { IfOk result (λ job. paste_job job ≡ default_paste) }
     {
@@ -59,7 +59,7 @@ pub enum Show {
     Counts,
     /// Only those of runs of two lines or more (`-d`).
     Repeated,
-    /// Only lines that stand alone (`-u`).
+    /// Only lines that are not repeated: those of runs of one line (`-u`).
     Single,
 }
 
@@ -68,9 +68,9 @@ pub enum Show {
 pub struct UniqJob {
     /// Which lines are written.
     pub show: Show,
-    /// How many fields are passed over before lines are compared (`-f`). The default is 0.
+    /// How many fields at the start of each line are ignored when lines are compared (`-f`). The default is 0.
     pub fields: u64,
-    /// How many bytes are passed over after these fields (`-s`). The default is 0.
+    /// How many bytes after these fields are ignored too (`-s`). The default is 0.
     pub chars: u64,
     /// Whether lines end with byte 0 (`-z`), and not with newline. This project's own option.
     pub zero: bool,
@@ -99,7 +99,7 @@ pub struct CommJob {
     pub hide: [bool; 3],
     /// Whether lines end with byte 0 (`-z`), and not with newline. This project's own option.
     pub zero: bool,
-    /// Whether the lines stand in descending order (`-r`), and not in ascending order. This project's own option.
+    /// Whether the lines are in descending order (`-r`), and not in ascending order. This project's own option.
     pub descending: bool,
 }
 
@@ -127,7 +127,7 @@ pub struct JoinJob<A: Allocator = Global> {
     /// For each of the two files, whether its lines that pair with none are written (`-a`, `-v`).
     /// By default they are not.
     pub unpaired: [bool; 2],
-    /// What stands for an empty field that the output list names (`-e`). The default is nothing.
+    /// What is written in place of an empty field that the output list names (`-e`). The default is nothing.
     pub empty: Vec<u8, A>,
     /// Which fields are written (`-o`), or `None` for the join field and then the others.
     pub list: Option<OutList<A>>,
@@ -137,8 +137,7 @@ pub struct JoinJob<A: Allocator = Global> {
     pub field: [u64; 2],
     /// Whether lines end with byte 0 (`-z`), and not with newline. This project's own option.
     pub zero: bool,
-    /// Whether the join fields stand in descending order (`-r`), and not in ascending order. This project's own
-    /// option.
+    /// Whether the join fields are in descending order (`-r`), and not in ascending order. This project's own option.
     pub descending: bool,
 }
 

@@ -1,5 +1,5 @@
-//! The small languages of the options and operands of `cut`, `paste`, `uniq`, `comm`, `join` and `tr`, and the
-//! jobs that they say.
+//! The small languages in the options and operands of `cut`, `paste`, `uniq`, `comm`, `join` and `tr` (lists, numbers,
+//! the strings of `tr`), and the jobs of the tools: what their options ask for.
 #![tactic(auto)]
 
 mod classes;

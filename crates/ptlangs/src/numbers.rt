@@ -28,8 +28,8 @@ pub fn decimal(text: &[u8]) -> Option<u64>
     Some(value)
 }
 
-/// The first element of a list, and what stands after the comma, space or tab that ends it, or
-/// `None` if nothing ends it.
+/// The first element of a list, and what follows the comma, space or tab that ends it: `None` if the element ends with
+/// the list.
 pub(crate) fn first_element(text: &[u8]) -> (&[u8], Option<&[u8]>)
     ensures first { MatchOption result.1
         (elements text.now ≡ result.0.now ∷ [])
@@ -42,7 +42,7 @@ pub(crate) fn first_element(text: &[u8]) -> (&[u8], Option<&[u8]>)
     }
 }
 
-/// Whether the byte stands between elements.
+/// Whether the byte separates elements: a comma, a space or a tab.
 fn is_separator(byte: u8) -> bool
     ensures { result ≡ is_separator byte }
 {

@@ -15,7 +15,7 @@ pub enum File {
     Second = 2,
 }
 
-/// What one element of an output list stands for.
+/// What one element of an output list names.
 #[derive(Clone, Copy, Debug, PartialEq, Eq)]
 pub enum OutField {
     /// The join field.
@@ -35,7 +35,7 @@ pub enum OutFault {
     Zero = 3,
     /// The number of a field is above `u64::MAX`.
     TooLarge = 4,
-    /// A growth of memory was refused.
+    /// A request for memory was refused.
     Memory = 5,
 }
 
@@ -66,14 +66,14 @@ impl<A: Allocator> Model for OutList<A> {
 }
 
 impl<A: Allocator> OutList<A> {
-    /// Reads a list: elements `0`, the join field, and `1.n` and `2.n`, a field of the first and
-    /// of the second file, between single commas, spaces and tabs (XCU, `join`, option `-o`; that
-    /// separators may be mixed is this project's own choice).
+    /// Reads a list: elements `0`, the join field, and `1.n` and `2.n`, a field of the first and of the second file,
+    /// between single commas, spaces and tabs (POSIX.1-2017, XCU, `join`, option `-o`; that separators may be mixed is
+    /// this project's own choice).
     ///
     /// # Errors
     ///
-    /// The fault of the first faulty element. `Memory` is answered only over a list without a fault, since the whole
-    /// list is judged before memory is asked for.
+    /// The fault of the first faulty element. `Memory` is answered only for a list without a fault, since the whole
+    /// list is checked before memory is asked for.
     pub fn read(alloc: A, text: &[u8]) -> Result<OutList<A>, OutFault>
         ensures { Judges (λ l. l) fault_of result (out_list text.now) }
     {
@@ -90,8 +90,8 @@ impl<A: Allocator> OutList<A> {
         }
     }
 
-    /// The element at a place, counted from 0, as two numbers: (0, 0) for the join field, else the
-    /// file, 1 or 2, and the field, counted from 1. `None` after the last element.
+    /// The element at a place, counted from 0, as two numbers: (0, 0) for the join field, and otherwise the file, 1 or
+    /// 2, and the field, counted from 1. `None` if the list has no element at that place.
     pub fn at(&self, place: usize) -> Option<(u8, u64)>
         ensures { result ≡ field_at self.now place }
     {
@@ -110,8 +110,8 @@ impl<A: Allocator> OutList<A> {
     }
 }
 
-/// Nothing at run time: its contract says that the lists which [`OutList::read`] accepts are those
-/// of the grammar, and mean what the grammar says.
+/// Does nothing at run time. Its contract says that the lists which [`OutList::read`] accepts are those of the grammar,
+/// and mean what the grammar says.
 pub fn accepts_the_grammar()
     ensures { AcceptsTheGrammar }
 {}
@@ -133,7 +133,7 @@ fn check(text: &[u8]) -> Result<(), OutFault>
     }
 }
 
-/// The field that one element stands for.
+/// The field that one element names.
 fn read_element(text: &[u8]) -> Result<OutField, OutFault>
     ensures { result ≡ element text.now }
 {

@@ -229,8 +229,9 @@ fn range(text: &[u8], first: u8, at: usize) -> Result<(Part, usize), SetFaultKin
     Ok((Part::Range(first, last), next))
 }
 
-/// The units and parts that are read are those of the grammar of POSIX.1-2017 (XCU, tr), as `specs/TrUnits.antt` and
-/// `specs/TrParts.antt` state it case by case, and a string is refused for the fault of its first faulty part.
+/// Does nothing at run time. Its contract says that the units and parts which are read are those of the grammar of
+/// POSIX.1-2017 (XCU, tr), as `specs/TrUnits.antt` and `specs/TrParts.antt` state it case by case, and that a string is
+/// refused for the fault of its first faulty part.
 pub fn parts_are_of_the_grammar()
     ensures units { UnitsAreSpelled }
     ensures parts { IsGrammar }

@@ -8,7 +8,7 @@ use crate::classes::{CharClass, span_get, span_len};
 use crate::faults::SetFaultKind;
 use crate::parts::{Part, part_at};
 
-/// Where a string stands, and so what it may hold.
+/// Which string of which form it is, and so what it may hold.
 #[derive(Clone, Copy)]
 pub(crate) enum Place {
     /// The first string.

@@ -1,4 +1,4 @@
-//! Where the bytes of an array of `tr` stand.
+//! The places of the bytes in an array of `tr`.
 ghost use Rattle.std.specs.Prelude.{◌≡◌, ◌+◌, ◌*◌, ◌^◌, ◌<◌, ◌≤◌, ◌++◌, ◌∷◌, [], ℕ, List, IfOk, length, map, replicate};
 ghost use Rattle.ptlangs.specs.TrClasses.{span, all_bytes, class_bytes};
 ghost use Rattle.std.specs.Result.{result_map_both};
@@ -18,7 +18,7 @@ pub(crate) struct Places {
     length: u128,
 }
 
-/// The table of an empty array: no byte stands in it.
+/// The table of an empty array: no byte is in it.
 #[tactic(auto, using(crate::proofs::TrPlaces::none_contained))]
 pub(crate) fn no_bytes() -> [bool; 256]
     ensures { result ≡ map (λ b. has_byte b []) all_bytes }
@@ -123,14 +123,14 @@ impl Places {
         self.length
     }
 
-    /// The last place of a byte, if it stands in the array.
+    /// The last place of a byte, if it is in the array.
     pub(crate) fn last(&self, byte: u8) -> Option<u128>
         ensures { (bytes : List ℕ) → self.now ≡ places_of bytes → result ≡ last_place byte bytes }
     {
         self.last[usize::from(byte)]
     }
 
-    /// For each byte, whether it stands in the array.
+    /// For each byte, whether it is in the array.
     pub(crate) fn contained(&self) -> [bool; 256]
         ensures { (bytes : List ℕ) → self.now ≡ places_of bytes
             → result ≡ map (λ b. has_byte b bytes) all_bytes }
@@ -142,7 +142,7 @@ impl Places {
         table
     }
 
-    /// The places of the array of all bytes that do not stand in this one, ascending.
+    /// The places of the array of all bytes that are not in this one, ascending.
     pub(crate) fn complement(&self) -> Places
         ensures places { (bytes : List ℕ) → self.now ≡ places_of bytes
             → result ≡ places_of (complement_of bytes) }

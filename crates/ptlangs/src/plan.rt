@@ -43,7 +43,7 @@ impl Form {
         }
     }
 
-    /// Where the second string stands.
+    /// What the second string is for.
     fn second_place(self) -> Place
         ensures { result ≡ second_place self }
     {
@@ -53,9 +53,9 @@ impl Form {
         }
     }
 
-    /// Whether the classes of the second string stand where they may. Bytes that are squeezed alone
-    /// may be any class; else each class faces its other case in the first string, where a
-    /// complement has none.
+    /// Whether the second string has classes only where they are allowed. If it is only for squeezing, any class is
+    /// allowed. Otherwise a class needs its other case at the same place of the first string, and a complement has
+    /// none.
     fn may_pair(self, complement: bool, s1: &[u8], second: &Second) -> Result<bool, SetFaultKind>
         requires { second.now.fill < 2 ^ 100 }
         ensures { (firsts ps : List Piece) → string_pieces Place.First s1.now ≡ Ok firsts
@@ -91,7 +91,7 @@ fn read_first(complement: bool, s1: &[u8]) -> Result<Places, SetFaultKind>
 }
 
 /// What `tr` does to each byte: whether it is deleted, what it becomes, and whether its repeats are
-/// squeezed. A reading of strings takes no memory.
+/// squeezed. To read a plan from its strings takes no memory.
 #[derive(Debug, Clone, Copy, PartialEq, Eq)]
 pub struct CharPlan {
     deleted: [bool; 256],
@@ -118,14 +118,14 @@ impl CharPlan {
     /// locale over ASCII: one byte is one character, and order is by value. Where the standard
     /// leaves a choice, these are this project's own: a second array that is shorter than the first
     /// is filled up with its last byte, and what is longer is not used to translate; a byte that
-    /// stands twice in the first array becomes what its last place says; squeezing looks at the
+    /// is in the first array twice becomes what its last place says; squeezing looks at the
     /// whole of the second array; `[c*]` fills up to the first array's length in every form; no
-    /// class is looked for at the upper end of a range; a complement has no class to face.
+    /// class is looked for at the upper end of a range; no class is paired with a complement.
     ///
     /// # Errors
     ///
-    /// The leftmost fault of `s1`, else that of `s2`, else a class of `s2` that does not face its
-    /// other case. No memory is taken, so `SetFaultKind::Memory` is never answered.
+    /// The leftmost fault of `s1`; if it has none, that of `s2`; if it has none, a class of `s2` without its other case
+    /// at the same place of `s1`. No memory is taken, so `SetFaultKind::Memory` is never answered.
     pub fn read(
         form: Form,
         complement: bool,
@@ -267,9 +267,9 @@ impl CharPlan {
         &self.deleted
     }
 
-    /// What the plan adds to bytes, where that is at most four stretches of bytes, each moved by one shift; a byte that
-    /// becomes itself is in none. It takes no memory. `moves` follows from `found` by the law of stretches, and
-    /// stands here for callers: they rest on what becomes of a byte, and not on how stretches are found.
+    /// The plan as at most four stretches of neighbouring bytes, to each of which one shift is added; a byte that
+    /// becomes itself is in none. `None` if more would be needed. It takes no memory. (The clause `moves` follows from
+    /// `found`. It is there for callers who need to know what becomes of a byte, and not how stretches are found.)
     pub fn shifts(&self) -> Option<Shifts>
         ensures found { MatchOption result (4 < length (stretches self.now)) (λ s. s ≡ stretches self.now) }
         ensures moves { IfSome result (λ s. Move s self.now) }
@@ -292,14 +292,14 @@ impl CharPlan {
     }
 }
 
-/// What the tables of a plan say of each byte is what the two arrays say, as `specs/TrPlan.antt`
-/// defines it.
+/// Does nothing at run time. Its contract says that the tables of a plan say of each byte what the two arrays say, as
+/// `specs/TrPlan.antt` defines it.
 pub fn tables_hold_the_plan()
     ensures { HoldPlan }
 {}
 
-/// Nothing at run time: its contract says that no strings are refused for want of memory, so that [`CharPlan::read`]
-/// never answers `SetFaultKind::Memory`.
+/// Does nothing at run time. Its contract says that no string is refused because memory ran out, so that
+/// [`CharPlan::read`] never answers `SetFaultKind::Memory`.
 pub fn no_string_wants_memory()
     ensures { NeverMemory }
 {}

@@ -29,7 +29,7 @@ pub enum ListFault {
     TooLarge = 4,
     /// An element is none of `n`, `n-m`, `-m` and `n-`.
     Malformed = 5,
-    /// A growth of memory was refused.
+    /// A request for memory was refused.
     Memory = 6,
 }
 
@@ -74,14 +74,14 @@ impl<A: Allocator> Model for Ranges<A> {
 }
 
 impl<A: Allocator + Copy> Ranges<A> {
-    /// Reads a list: elements `n`, `n-m`, `-m` and `n-`, between single commas, spaces and tabs,
-    /// in any order (XCU, `cut`, options `-b`, `-c` and `-f`; that separators may be mixed is this
-    /// project's own choice).
+    /// Reads a list: elements `n`, `n-m`, `-m` and `n-`, between single commas, spaces and tabs, in any order
+    /// (POSIX.1-2017, XCU, `cut`, options `-b`, `-c` and `-f`; that separators may be mixed is this project's own
+    /// choice).
     ///
     /// # Errors
     ///
-    /// The fault of the first faulty element. `Memory` is answered only over a list without a fault, since the whole
-    /// list is judged before memory is asked for.
+    /// The fault of the first faulty element. `Memory` is answered only for a list without a fault, since the whole
+    /// list is checked before memory is asked for.
     pub fn read(alloc: A, text: &[u8]) -> Result<Ranges<A>, ListFault>
         ensures { Judges is_selected fault_of result (selection text.now) }
     {
@@ -111,8 +111,8 @@ impl<A: Allocator> Ranges<A> {
     }
 }
 
-/// Nothing at run time: its contract says that the lists which [`Ranges::read`] accepts are those
-/// of the grammar, and mean what the grammar says.
+/// Does nothing at run time. Its contract says that the lists which [`Ranges::read`] accepts are those of the grammar,
+/// and mean what the grammar says.
 pub fn accepts_the_grammar()
     ensures { AcceptsTheGrammar }
 {}
@@ -181,14 +181,14 @@ fn read_ends(first: &[u8], last: &[u8]) -> Result<Interval, ListFault>
     Ok(Interval { first, last })
 }
 
-/// Whether the text can stand beside a dash: a number, or nothing.
+/// Whether the text may come before or after a dash: a number, or nothing.
 fn is_end(text: &[u8]) -> bool
     ensures { result ≡ is_end text.now }
 {
     text.is_empty() || is_decimal(text)
 }
 
-/// The number beside a dash, or the one that stands for nothing there.
+/// The number before or after a dash, or if there is none, the one that is meant.
 fn read_end(text: &[u8], default: u64) -> Result<u64, ListFault>
     requires { IsTrue (is_end text.now) }
     ensures { MatchResult result

@@ -1,4 +1,4 @@
-//! The second string of `tr`: the bytes at the places of its array, and where its classes stand.
+//! The second string of `tr`: the bytes at the places of its array, and the places of its classes.
 ghost use Rattle.std.specs.Prelude.{◌≡◌, ◌+◌, ◌^◌, ◌<◌, ◌≤◌, ◌∷◌, [], ℕ, List, Ok, slice_get};
 ghost use Rattle.ptlangs.specs.declared.pieces.Piece.{Piece};
 ghost use Rattle.ptlangs.specs.TrPlan.{array, collected, pieces_of, class_places, stands_at as stands, is_paired as paired};
@@ -33,8 +33,8 @@ impl<'a> Second<'a> {
         Ok(None)
     }
 
-    /// Whether each class faces its other case in the first string, a class with as many members
-    /// before it.
+    /// Whether each class has its other case at the same place of the first string: a class with as
+    /// many members before it.
     pub(crate) fn is_paired(&self, first: &[u8]) -> Result<bool, SetFaultKind>
         requires { self.now.fill < 2 ^ 100 }
         ensures { (fs ps : List Piece) → HasPieces Place.First first.now fs → SecondHas self.now ps
@@ -52,8 +52,8 @@ impl<'a> Second<'a> {
     }
 }
 
-/// Whether a piece of the second string with so many members before it is no class, or faces its
-/// other case in the first string.
+/// Whether a piece of the second string with so many members before it is no class, or has its
+/// other case at the same place of the first string.
 fn is_faced(first: &[u8], at: u128, piece: Piece) -> Result<bool, SetFaultKind>
     ensures { (n : ℕ) (fs : List Piece) → HasPieces Place.First first.now fs
         → result ≡ Ok (paired (class_places 0 0 fs) (class_places n at (piece ∷ []))) }

@@ -1,4 +1,4 @@
-//! How `tr` moves bytes: by stretches of them.
+//! Stretches of neighbouring bytes that `tr` moves by one shift.
 
 ghost use Rattle.std.specs.Prelude.{◌≡◌, ◌<◌, ◌≤◌, ◌-◌, ℕ, length, true, false, IfSome, MatchOption, slice_get, slice_index, option_map, []};
 ghost use Rattle.ptlangs.specs.TrShifts.{in_front, stretches_from, shifted};
@@ -13,7 +13,7 @@ pub(crate) struct Stretch {
     pub(crate) by: u8,
 }
 
-/// What a plan of `tr` adds to bytes, modulo 256: at most four stretches of bytes, each with its shift.
+/// A plan of `tr` as at most four stretches of bytes, each with the number that is added to its bytes, modulo 256.
 #[derive(Drop)]
 pub struct Shifts {
     // The last bytes come first.
@@ -47,7 +47,7 @@ impl Shifts {
         }
     }
 
-    // Takes a byte that is moved and stands before the others. False is that there is no room for one more stretch.
+    // Takes a byte that is moved and comes before the others. False: there is no room for one more stretch.
     fn put_in_front(&mut self, byte: u8, by: u8) -> bool
         ensures put { result ≡ true → self.new ≡ in_front byte by self.old }
         ensures full { result ≡ false → 4 < length (in_front byte by self.old) }
@@ -87,8 +87,9 @@ impl Shifts {
         image
     }
 
-    /// The first and the last byte and the shift of the stretch at a place, counted from 0; they ascend. `few` is a
-    /// clause of its own beside `found`, since it follows from private fields: by it a caller has room for all of them.
+    /// The first byte, the last byte and the shift of the stretch at a place, counted from 0; stretches ascend. `None`
+    /// if there is no stretch at that place. (By the clause `few` callers know how many there can be: it follows from
+    /// private fields.)
     pub fn stretch(&self, place: usize) -> Option<(u8, u8, u8)>
         ensures found { result ≡ option_map (λ s. (s.first, s.last, s.by)) (slice_get self.now place) }
         ensures few { length self.now ≤ 4 }

@@ -52,7 +52,7 @@ pub(crate) fn number(digits: &[u8], base: u32, limit: u32) -> Option<u32>
     Some(value)
 }
 
-/// The byte that a backslash before this byte, which is no octal digit, stands for.
+/// The byte that a backslash and this byte, which is no octal digit, stand for.
 fn escaped_byte(byte: u8) -> u8
     ensures { result ≡ escaped byte }
 {

@@ -1,4 +1,4 @@
-//! Byte order.
+//! The order of lines by the values of their bytes.
 
 ghost use Rattle.std.specs.Prelude.{◌≡◌, ◌≤◌, ◌<◌, ◌+◌, length, take, drop, min};
 ghost use Rattle.std.specs.Int.{w32, w64, from_be_bytes};
@@ -33,7 +33,7 @@ fn four(bytes: &[u8], at: usize) -> u32
     u32::from_be_bytes([bytes[at], bytes[at + 1], bytes[at + 2], bytes[at + 3]])
 }
 
-// Byte order, as std finds it. Apart, so that what a few words tell is told without a call.
+// Byte order, as std finds it. It is out of line, so that short lines are compared without a call.
 #[inline(never)]
 fn compare_far(a: &[u8], b: &[u8]) -> Ordering
     ensures { result ≡ byte_cmp a.now b.now }
@@ -41,7 +41,7 @@ fn compare_far(a: &[u8], b: &[u8]) -> Ordering
     a.cmp(b)
 }
 
-// Byte order, one byte after another. It is for fewer than 4 bytes.
+// Byte order, one byte after another, for fewer than 4 bytes.
 #[inline(always)]
 fn compare_each(a: &[u8], b: &[u8]) -> Ordering
     ensures { result ≡ byte_cmp a.now b.now }
@@ -77,7 +77,7 @@ fn compare_few(a: &[u8], b: &[u8]) -> Ordering
     a.len().cmp(&b.len())
 }
 
-// Byte order behind 8 bytes that are the same: 8 at a time, of which the last may overlap the ones before.
+// Byte order where the first 8 bytes are the same: by 8 more at a time, of which the last may overlap the ones before.
 #[inline(never)]
 fn compare_on(a: &[u8], b: &[u8]) -> Ordering
     requires long { (8 ≤ length a.now) × (8 ≤ length b.now) }
@@ -103,7 +103,8 @@ fn compare_on(a: &[u8], b: &[u8]) -> Ordering
     a.len().cmp(&b.len())
 }
 
-/// Byte order, as `cmp` of slices finds it, but faster where lines are short or differ in their first bytes.
+/// Compares by the values of bytes, as `cmp` of slices does: the first byte that differs decides, and a proper prefix
+/// comes before the longer slice. It is faster than that where lines are short or differ in their first bytes.
 #[inline(always)]
 pub fn compare(a: &[u8], b: &[u8]) -> Ordering
     ensures { result ≡ byte_cmp a.now b.now }

@@ -26,9 +26,11 @@ pub use source::Source;
 pub use std_ends::{FromRead, FromWrite};
 pub use store::{LineFault, Store};
 
-/// The lines of a text, as the contracts define them, are the one list of pieces without the ending byte
-/// whose text it is, and those whose end came are the lines up to the last end.
-/// The call does nothing: its contract is the law.
+/// A text can be split into lines in one way only: its lines, as the contracts define them, are the one list of pieces
+/// without the byte that ends a line which, put together with it, are the text. And the lines that are known to be
+/// whole before the end of the input was reached are those up to the last such byte.
+///
+/// The call does nothing at run time. It is there for its contract, which states these two theorems.
 pub fn lines_are_unique()
     ensures unique { LinesAreUnique }
     ensures ended { EndedLinesAreLines }

@@ -1,4 +1,4 @@
-//! The lines of a source, or its bytes, each given once.
+//! A reader that gives the lines of a source, or its bytes, each once.
 
 ghost use Rattle.std.specs.Prelude.{◌≡◌, ◌<◌, ◌≤◌, ℕ, true, false, None, [], IfSome, IfOk, OnOk, OnErr, length, take, drop, if◌then◌else◌};
 ghost use Rattle.memchr.specs.Find.{IsFirstByte, is_byte};
@@ -27,13 +27,15 @@ enum Step {
     End,
 }
 
-/// Gives the lines of a source, or its bytes, through a block of 8,192 bytes. A line ends with newline, or with byte 0
-/// after [`set_ending`](LineReader::set_ending); a last piece without that byte is a line too, unless it is empty.
-/// Whatever call was made last, at most 8,192 bytes are held that were not given.
+/// Gives the lines of a source ([`fill`](LineReader::fill)), or its bytes ([`block`](LineReader::block) and
+/// [`consume`](LineReader::consume)), through a block of 8,192 bytes. A line ends with newline, or with byte 0 after
+/// [`set_ending`](LineReader::set_ending). A last piece without that byte is a line too, unless it is empty. No call
+/// reads more than one block ahead: at most 8,192 bytes were read and not given.
 #[derive(Drop)]
 pub struct LineReader<S: Source, R: Source> {
     origin: Origin<S, R>,
-    // What stands behind `end` is no part of the input; a margin of 64 bytes can always be looked at.
+    // The bytes from `end` on are no part of the input. There are 64 more than a block has, so that vectors of up to
+    // 64 bytes can be loaded at any place of the block.
     block: [u8; 8256],
     start: usize,
     end: usize,
@@ -60,7 +62,7 @@ impl<S: Source, R: Source> Model for LineReader<S, R> {
         r.pulled r.fault (is_refused r.origin) r.ending) };
 }
 
-// Pulls into the front of a block, and so not into its margin.
+// Reads into the first 8,192 bytes of a block, and not into the 64 after them.
 fn pull_front<S: Source, R: Source>(
     origin: &mut Origin<S, R>,
     block: &mut [u8],
@@ -92,7 +94,7 @@ impl<S: Source, R: Source> LineReader<S, R> {
         }
     }
 
-    /// A reader of standard input, which has neither ended nor failed.
+    /// A reader of standard input. The source must be new: it has neither ended nor failed.
     pub fn standard(source: S) -> Self
         requires unfailed { (S.state source).failed ≡ false }
         requires unended { (S.state source).ended ≡ false }
@@ -101,7 +103,7 @@ impl<S: Source, R: Source> LineReader<S, R> {
         Self::over(Origin::Standard(source))
     }
 
-    /// A reader of a file, which has neither ended nor failed.
+    /// A reader of a file. The source must be new: it has neither ended nor failed.
     pub fn file(source: R) -> Self
         requires unfailed { (R.state source).failed ≡ false }
         requires unended { (R.state source).ended ≡ false }
@@ -110,7 +112,7 @@ impl<S: Source, R: Source> LineReader<S, R> {
         Self::over(Origin::File(source))
     }
 
-    /// A file that could not be opened. It is not read.
+    /// The reader of a file that could not be opened. It has no source: a call that reads answers `Read`.
     pub fn refused() -> Self
         ensures { result ≡ new_reader refused_state true }
     {
@@ -125,7 +127,7 @@ impl<S: Source, R: Source> LineReader<S, R> {
         matches!(&self.origin, Origin::Refused)
     }
 
-    /// From now on lines end with byte 0, or else with newline.
+    /// From now on lines end with byte 0 if `zero` is true, and otherwise with newline.
     pub fn set_ending(&mut self, zero: bool)
         ensures set { self.new ≡ record self.old { ending = if zero then 0 else 10 } }
         ensures was_sound { IsSound self.old }
@@ -141,7 +143,7 @@ impl<S: Source, R: Source> LineReader<S, R> {
         self.ending
     }
 
-    /// The bytes of the block that were not given. Nothing is read, so an empty slice says nothing of the end.
+    /// The bytes that were read and not yet given. Nothing is read, so an empty slice does not mean the end.
     #[inline(always)]
     pub fn held(&self) -> &[u8]
         ensures held { result.now ≡ self.now.held }
@@ -150,7 +152,7 @@ impl<S: Source, R: Source> LineReader<S, R> {
         &self.block[self.start..self.end]
     }
 
-    // The fault that was answered, if there was one.
+    // The fault that an earlier call has answered, if one did.
     #[inline(always)]
     fn fault(&self) -> Option<LineFault>
         ensures fault { result ≡ self.now.fault }
@@ -159,7 +161,7 @@ impl<S: Source, R: Source> LineReader<S, R> {
         self.fault
     }
 
-    // Whether the source has said its end.
+    // Whether a read has answered the end of the source.
     #[inline(always)]
     fn has_ended(&self) -> bool
         ensures ended { result ≡ self.now.ended }
@@ -168,7 +170,7 @@ impl<S: Source, R: Source> LineReader<S, R> {
         self.ended
     }
 
-    /// Moves past bytes of the block: at most as many as [`held`](LineReader::held) shows.
+    /// Gives the first `count` of the bytes that [`held`](LineReader::held) shows: they are not shown again.
     pub fn consume(&mut self, count: usize)
         requires { count ≤ length self.old.held }
         ensures consumed { self.new ≡ record self.old { held = drop count self.old.held } }
@@ -177,7 +179,7 @@ impl<S: Source, R: Source> LineReader<S, R> {
         self.start += count;
     }
 
-    // Fills the block, which is empty, by one read. False is that the source has said its end.
+    // Fills the block, which is empty, by one read. False: the source has ended.
     fn refill(&mut self) -> Result<bool, LineFault>
         requires empty { self.old.held ≡ [] }
         requires clean { self.old.fault ≡ None }
@@ -290,8 +292,8 @@ impl<S: Source, R: Source> LineReader<S, R> {
         self.scan(store, slot)
     }
 
-    // Puts the next line into a slot, if its end is one of the next N bytes. False is that it is not, and nothing
-    // happens.
+    // Puts the next line into a slot, if its end is one of the next N bytes. False: it is not, and nothing was
+    // done.
     #[inline(always)]
     fn fill_near<const N: usize, A: Allocator + Copy>(
         &mut self,
@@ -342,12 +344,13 @@ impl<S: Source, R: Source> LineReader<S, R> {
         }
     }
 
-    /// Puts the next line into a slot, without the byte that ends it. False is the end, and the slot is then empty.
-    /// The line is given once that byte was read, or the source has said its end.
+    /// Puts the next line into a slot of the store, without the byte that ends it. False means that there is no further
+    /// line; the slot is then empty. As many reads are made as the line needs: up to the byte that ends it, or the end.
     /// # Errors
-    /// `Read` where a read failed, or 2^63 bytes or more came; `Memory` where the slot could not grow, and the
-    /// store is then denied. The slot then has a beginning of the line. Later calls answer the same and do nothing.
-    /// (That there are as many slots as before follows from the other clauses; callers ask for it at every exit.)
+    /// `Read` where a read failed, or where 2^63 bytes or more came of the source; `Memory` where the slot could not
+    /// grow ([`denied`](Store::denied) is then true). In both cases the slot has a prefix of the line, and all later
+    /// calls answer the same fault and do nothing.
+    // (The clause `slots` follows from the others. It is there since callers need it at every exit.)
     pub fn fill<A: Allocator + Copy>(
         &mut self,
         store: &mut Store<A>,
@@ -378,12 +381,15 @@ impl<S: Source, R: Source> LineReader<S, R> {
         find_near(self.ending(), self.held()).is_some()
     }
 
-    /// Sends what is staged, if the next line may have to be waited for: the block holds no whole line, the source has
-    /// not said its end, and its last read came short of the block, or there was none yet. So a terminal or a pipe is
-    /// not asked for a line while output waits; where reads fill the block, no more is sent than without this call. Two
-    /// waits are left: a read that filled the block may be the last one for long, and [`fill`](LineReader::fill) reads
-    /// on until its line is whole. That what is staged is sent is tested, and no clause: how much the last read brought
-    /// is no part of what a reader is.
+    /// Sends the staged output if [`fill`](LineReader::fill) may have to wait for the next line: no whole line is held,
+    /// the end has not been reached, and the last read did not fill the block, or there was none yet. So no terminal or
+    /// pipe is waited for while output is held back. Where reads fill the block, as those of files do, nothing is sent.
+    ///
+    /// Output may still wait in two cases: if a read fills the block and no more input comes for long, and if `fill`
+    /// has begun a line whose end takes long to come. The contract says that the staged output is sent or nothing is
+    /// done; when it is sent is tested and not proved, as a reader's model does not have the size of the last read.
+    /// # Errors
+    /// `Write` where a write failed.
     #[inline(always)]
     pub fn send_before_wait<W: Sink>(&self, out: &mut Out<W>) -> Result<(), WriteFault>
         requires { out.old.faulted ≡ false }
@@ -415,9 +421,11 @@ impl<S: Source, R: Source> LineReader<S, R> {
         out.send()
     }
 
-    /// The bytes of the block that were not given, after one read where there were none; an empty slice is the end.
+    /// The bytes that were read and not yet given; if there are none, one read is made first. An empty slice means the
+    /// end. To give them, call [`consume`](LineReader::consume).
     /// # Errors
-    /// `Read` where the read failed, or 2^63 bytes or more came. Later calls answer the same and read nothing.
+    /// `Read` where the read failed, or where 2^63 bytes or more came of the source. All later calls answer the same
+    /// fault and read nothing.
     pub fn block(&mut self) -> Result<&[u8], LineFault>
         ensures* after { sem 𝓛 (Rests (the_row S.row R.row S.Source R.Source) self.entry
             (λ new. Blocks self.old new result)) }

@@ -1,11 +1,12 @@
-//! A search for a byte, which is fast where the byte is near or the bytes are few.
+//! A search for a byte, which is fast where it is one of the first bytes, or where there are few.
 
 ghost use Rattle.std.specs.Prelude.{◌≤◌, ◌<◌, ◌+◌, length};
 ghost use Rattle.memchr.specs.Find.{IsFirst, IsFirstByte, Passes, is_byte};
 
 use std::simd::prelude::*;
 
-/// The first place that holds the byte, of N from `at` on, which are compared all at once.
+/// The place of the first such byte among the N bytes from `at` on, which are compared all at once; N is at most 64.
+/// The place is counted from the start of `bytes`.
 #[inline(always)]
 pub fn find_in<const N: usize>(byte: u8, bytes: &[u8], at: usize) -> Option<usize>
     requires lanes { N ≤ 64 }
@@ -53,7 +54,7 @@ fn find_few(byte: u8, bytes: &[u8]) -> Option<usize>
     }
 }
 
-// The first place of a byte among 16 or more. Apart, so that what is near is found without a call.
+// The first place of a byte among 16 or more. It is out of line, so that what is near is found without a call.
 #[inline(never)]
 fn find_far(byte: u8, bytes: &[u8]) -> Option<usize>
     requires { 16 ≤ length bytes.now }
@@ -76,8 +77,8 @@ fn find_far(byte: u8, bytes: &[u8]) -> Option<usize>
     find_in::<64>(byte, bytes, bytes.len() - 64)
 }
 
-/// The first place of a byte, as `memchr` finds it, but faster where it is one of the first 16, as the end of a line or
-/// of a field often is, and where there are fewer than 16 bytes.
+/// The place of the first such byte, as `memchr` finds it. It is faster than that where the byte is one of the first
+/// 16, as the end of a line or of a field often is, and where there are fewer than 16 bytes.
 #[inline(always)]
 pub fn find_near(byte: u8, bytes: &[u8]) -> Option<usize>
     ensures { IsFirstByte (is_byte byte) bytes.now result }

@@ -6,8 +6,8 @@ use std::alloc::{AllocError, Allocator};
 use std::marker::Model;
 use std::simd::prelude::*;
 
-// The first `size` bytes of the buffer are the line. At least 64 more stand behind them, whatever they are, so that
-// a line of fewer than 64 bytes is put into the slot by one store of 16 or of 64 bytes.
+// The first `size` bytes of the buffer are the line. At least 64 more follow, whatever they are, so that a line of
+// fewer than 64 bytes is put into the slot by one store of 16 or of 64 bytes.
 #[derive(Drop)]
 pub(crate) struct Slot<A: Allocator + Copy> {
     buffer: Vec<u8, A>,
@@ -71,7 +71,7 @@ impl<A: Allocator + Copy> Slot<A> {
         self.size = size;
     }
 
-    // Puts bytes behind the line. Where the growth is refused nothing changes.
+    // Appends bytes to the line. Where memory is refused nothing changes.
     pub(crate) fn append(&mut self, bytes: &[u8]) -> Result<(), AllocError>
         ensures ok { OnOk result (self.new ≡ self.old ++ bytes.now) }
         ensures err { OnErr result (self.new ≡ self.old) }

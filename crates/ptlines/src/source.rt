@@ -1,17 +1,20 @@
-//! What bytes are read from, and where the bytes of a reader come from.
+//! What bytes are read from: a trait for any source, and the three kinds of input that a reader has.
 
 ghost use Rattle.std.specs.Prelude.{length, ◌<◌};
 ghost use Rattle.ptlines.specs.Sources.{SourceState, Pulls};
 
 use crate::sink::Failed;
 
-/// What bytes are read from, as a file or a pipe.
+/// What bytes are read from, such as a file or a pipe.
 pub trait Source: Drop {
-    /// The bytes that are left, where the source tells them, and whether it has said its end or failed.
+    /// What contracts know of a source: the bytes that are left (of a real file they are unknown), whether a read has
+    /// answered the end, and whether one has failed.
     ghost state: { Self → SourceState };
 
-    /// Moves some of the bytes that are left, from the first on, to the front of `into`, which is not empty.
-    /// The answer is how many they are; none at all is the end.
+    /// Reads the next bytes into the front of `into`, which must not be empty, and answers how many they are: at least
+    /// one, or 0 at the end.
+    /// # Errors
+    /// `Failed` where the read failed. No byte of the source is lost, but `into` may have been written to.
     fn pull(&mut self, into: &mut [u8]) -> Result<usize, Failed>
         requires { 0 < length into.old }
         ensures pulled { Pulls (state self.old) (state self.new) into.new result };

@@ -1,4 +1,4 @@
-//! Readers and writers of std as sources and sinks.
+//! Readers and writers of the standard library as sources and sinks.
 
 ghost use Rattle.std.specs.Prelude.{◌≡◌, false};
 
@@ -7,8 +7,9 @@ use crate::source::Source;
 use std::io::{Read, Write};
 use std::marker::Model;
 
-/// A reader of std as a source. It keeps whether the reader has ended or failed. As a source it tells no bytes;
-/// the contract of `pull` passes on what std tells of the bytes that the reader has left.
+/// A reader of the standard library as a source. It notes whether the reader has ended or failed. The trait's part of
+/// the contract says nothing of which bytes are read; the clause `bytes` of `pull` passes on what the standard
+/// library's contract says of them.
 #[derive(Drop)]
 pub struct FromRead<R: Read> {
     reader: R,
@@ -64,9 +65,9 @@ impl<R: Read + Drop> Source for FromRead<R> {
     }
 }
 
-/// A writer of std as a sink. It keeps whether the writer has failed, and whether something was written and not yet
-/// flushed. As a sink it tells no bytes;
-/// the contract of `put` passes on what std tells of the bytes that the writer holds.
+/// A writer of the standard library as a sink. It notes whether the writer has failed, and whether bytes were written
+/// and not yet flushed. The trait's part of the contract says nothing of which bytes were written; the clauses `bytes`
+/// of `put` and `flush` pass on what the standard library's contract says of them.
 #[derive(Drop)]
 pub struct FromWrite<W: Write> {
     writer: W,
@@ -83,7 +84,7 @@ impl<W: Write> Model for FromWrite<W> {
 }
 
 impl<W: Write> FromWrite<W> {
-    /// A sink that has not failed, and of which nothing waits for a flush.
+    /// A sink that has not failed, and in which nothing waits for a flush.
     pub fn new(writer: W) -> Self
         ensures { result ≡ record { taken = W.contents writer; failed = false; pending = false } }
     {

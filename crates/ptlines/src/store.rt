@@ -7,16 +7,17 @@ use crate::slot::Slot;
 use std::alloc::{AllocError, Allocator, Global};
 use std::marker::Model;
 
-/// Why no line was given. It is final.
+/// Why a reader gave no line or block. It is final: the reader answers it from then on.
 #[derive(Clone, Copy, Debug, PartialEq, Eq)]
 pub enum LineFault {
-    /// A read failed, or 2^63 bytes or more came from one reader.
+    /// A read failed, or 2^63 bytes or more came of one source.
     Read = 1,
-    /// A growth was refused.
+    /// A request for memory was refused.
     Memory = 2,
 }
 
-/// Numbered slots, each of which holds the bytes of a line. The bytes are counted, the slots are not.
+/// Numbered slots, from 0, each of which holds the bytes of one line. It counts the bytes of all lines, and keeps the
+/// most that they ever were. What the slots and their buffers take beside that is not counted.
 #[derive(Drop)]
 pub struct Store<A: Allocator + Copy = Global> {
     slots: Vec<Slot<A>, A>,
@@ -37,7 +38,7 @@ impl<A: Allocator + Copy> Model for Store<A> {
     ghost invariant = { λ s. (s.held ≡ total s.slots.items) × (s.held ≤ s.peak) × AreShort s.slots.items };
 }
 
-// Puts the line of one slot behind that of another.
+// Appends the line of one slot to that of another.
 fn append_from<A: Allocator + Copy>(
     slots: &mut [Slot<A>],
     from: usize,
@@ -84,9 +85,9 @@ impl<A: Allocator + Copy> Store<A> {
         }
     }
 
-    /// A store of so many empty slots.
+    /// A store with this number of empty slots.
     /// # Errors
-    /// `Memory` where a growth was refused.
+    /// `Memory` where a request for memory was refused.
     pub fn new(alloc: A, slots: usize) -> Result<Self, LineFault>
         ensures made { IfOk result (λ s. s ≡ record { lines = replicate slots []; peak = 0; denied = false }) }
         ensures memory { OnErr result (result ≡ Err LineFault.Memory) }
@@ -98,9 +99,9 @@ impl<A: Allocator + Copy> Store<A> {
         Ok(made)
     }
 
-    /// Adds an empty slot, and says its number.
+    /// Adds an empty slot, and answers its number.
     /// # Errors
-    /// `Memory` where the growth was refused: then the store is denied, and nothing else changes.
+    /// `Memory` where a request for memory was refused. [`denied`](Store::denied) is then true; nothing else changes.
     pub fn add(&mut self) -> Result<usize, LineFault>
         ensures added { IfOk result (λ slot. slot ≡ length self.old.lines) }
         ensures ok { OnOk result (self.new ≡ with_added self.old) }
@@ -164,7 +165,7 @@ impl<A: Allocator + Copy> Store<A> {
         self.peak = self.peak.max(self.held);
     }
 
-    // Puts bytes behind those of a slot. Where the growth is refused the store is denied, and nothing else changes.
+    // Appends bytes to those of a slot. Where memory is refused the store is denied, and nothing else changes.
     pub(crate) fn append(&mut self, slot: usize, bytes: &[u8]) -> Result<(), LineFault>
         requires { slot < length self.old.lines }
         ensures ok { OnOk result (self.new ≡ with_line self.old slot (line self.old slot ++ bytes.now)) }
@@ -186,7 +187,8 @@ impl<A: Allocator + Copy> Store<A> {
 
     /// Makes the slot `to` hold the bytes of another slot, `from`.
     /// # Errors
-    /// `Memory` where the growth was refused: then the store is denied, `to` is empty, and nothing else changes.
+    /// `Memory` where a request for memory was refused. [`denied`](Store::denied) is then true, and `to` is empty;
+    /// nothing else changes.
     pub fn copy(&mut self, from: usize, to: usize) -> Result<(), LineFault>
         requires from_in { from < length self.old.lines }
         requires to_in { to < length self.old.lines }
@@ -209,7 +211,7 @@ impl<A: Allocator + Copy> Store<A> {
         }
     }
 
-    /// Exchanges two slots.
+    /// Exchanges the lines of two slots.
     pub fn swap(&mut self, a: usize, b: usize)
         requires a_in { a < length self.old.lines }
         requires b_in { b < length self.old.lines }
@@ -218,7 +220,7 @@ impl<A: Allocator + Copy> Store<A> {
         self.slots.swap(a, b);
     }
 
-    /// How many bytes the slots hold. (That `peak` is no less is true of every store, and told here alone.)
+    /// How many bytes the lines of all slots have together. It is never more than [`peak`](Store::peak).
     pub fn now(&self) -> u128
         ensures now { result ≡ total self.now.lines }
         ensures below { result ≤ self.now.peak }
@@ -226,14 +228,14 @@ impl<A: Allocator + Copy> Store<A> {
         self.held
     }
 
-    /// The most that the slots ever held.
+    /// The most bytes that the lines of all slots ever had together.
     pub fn peak(&self) -> u128
         ensures { result ≡ self.now.peak }
     {
         self.peak
     }
 
-    /// Whether a growth was refused.
+    /// Whether a request of this store for memory was ever refused.
     pub fn denied(&self) -> bool
         ensures { result ≡ self.now.denied }
     {

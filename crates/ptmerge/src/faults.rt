@@ -9,7 +9,7 @@ pub enum MergeFault {
     Read(Side),
     /// 2: a write failed.
     Write,
-    /// 3: a growth of the store was refused; the store is denied.
+    /// 3: the store was refused memory (`Store::denied`).
     Memory,
     /// 4: this input is out of order at the line of this number, counted from 1. All that was decided is pushed.
     Disorder(Side, u64),

@@ -21,7 +21,7 @@ use crate::order::{KeyOrder, Side};
 use ptlines::{LineReader, Out, Sink, Source, Store};
 use std::alloc::Allocator;
 
-/// Which standing lines have the least key, or why none comes next.
+/// Which of the two current lines has the least key, or both, or why none comes next.
 #[derive(Clone, Copy, Debug, PartialEq, Eq)]
 pub enum Step {
     /// That of the first input alone.
@@ -32,16 +32,16 @@ pub enum Step {
     Both,
     /// There are no more lines.
     End,
-    /// This input is out of order at the line of this number, counted from 1, and no standing line has a key that is
+    /// This input is out of order at the line of this number, counted from 1, and no current line has a key that is
     /// at most its last one in order. Of two inputs that are out of order it is the one with the lesser last key, or
     /// else the first.
     Stop(Side, u64),
 }
 
-/// Two inputs in order, taken together by their keys. The line at which each stands is in the store, in one of the
+/// Two inputs in order, taken together by their keys. The current line of each is in the store, in one of the
 /// slots 0 to 3: from `start` on these slots are left as they are, and each input is lent its own reader. After a fault
 /// no call is made any more. `placed` and `lent` are what the next calls require of a caller; they follow from how the
-/// inputs moved, and stand as clauses so that no caller has to derive them.
+/// inputs moved, and are clauses so that no caller has to derive them.
 #[derive(Drop)]
 pub struct Merge<K: KeyOrder> {
     order: K,
@@ -106,7 +106,7 @@ impl<K: KeyOrder> Merge<K> {
         })
     }
 
-    /// Which standing lines come next.
+    /// Which of the two current lines comes next, or both.
     #[inline(always)]
     pub fn step<A: Allocator + Copy>(&self, store: &Store<A>) -> Step
         requires { IsPlaced (K.key_of self.now.order) self.now.first self.now.second store.now }
@@ -159,7 +159,7 @@ impl<K: KeyOrder> Merge<K> {
         }
     }
 
-    /// The line at which an input stands.
+    /// The current line of an input.
     #[inline(always)]
     pub fn head<'a, A: Allocator + Copy>(&self, side: Side, store: &'a Store<A>) -> &'a [u8]
         requires placed { IsPlaced (K.key_of self.now.order) self.now.first self.now.second store.now }
@@ -172,7 +172,7 @@ impl<K: KeyOrder> Merge<K> {
         }
     }
 
-    /// Goes to the next line of an input that stands at one, by its own reader.
+    /// Goes from the current line of an input to its next one. `reader` has to be that of this input.
     /// # Errors
     /// `Read` where a read failed; `Memory` where a growth of the store was refused, and the store is then denied.
     #[inline(always)]

@@ -47,14 +47,14 @@ pub trait KeyOrder: Drop {
     /// The keys of the lines of each input.
     ghost key_of: { Self → Of → Key };
 
-    /// How two keys stand to each other.
+    /// Which of two keys comes first, or that they are equal.
     ghost order: { Self → Cmp };
 
-    /// Where the key of a line of an input stands in it.
+    /// The place of the key in a line of an input.
     fn span(&self, side: Side, line: &[u8]) -> Span
         ensures { IsSpan line.now (key_of self.now side line.now) result };
 
-    /// The key of a line of an input, which stands there.
+    /// The key of a line of an input: the bytes at that place.
     fn key<'a>(&self, side: Side, span: Span, line: &'a [u8]) -> &'a [u8]
         requires { IsSpan line.now (key_of self.now side line.now) span }
         ensures { result.now ≡ key_of self.now side line.now };
@@ -70,7 +70,7 @@ pub trait KeyOrder: Drop {
     ghost exact: { (s : Self) (a b : List ℕ) → order s a b ≡ Equal → a ≡ b };
 }
 
-/// A line is its own key. Keys are compared byte by byte, and a proper beginning comes before the longer one.
+/// A line is its own key. Keys are compared byte by byte, and a proper prefix comes before the longer one.
 #[derive(Drop)]
 pub struct WholeLine;
 

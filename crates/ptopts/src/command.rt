@@ -47,7 +47,7 @@ impl<'a, A: Allocator + Copy> Command<'a, A> {
     ///
     /// # Errors
     ///
-    /// The first fault, or `Memory` where a growth was refused; then the first word names a tool.
+    /// The first fault, or `Memory` where memory was refused; that can happen only once the first word named a tool.
     pub fn read(alloc: A, words: &'a [&'a str]) -> Result<Command<'a, A>, UseFault<'a>>
         ensures meant { IsMeant result (meaning (words_seen words.now)) }
         ensures memory { result ≡ Err UseFault.Memory → NamesTool (words_seen words.now) }

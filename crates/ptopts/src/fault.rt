@@ -5,8 +5,8 @@ ghost use Rattle.std.specs.Prelude.{◌≡◌};
 use ptlangs::SetFault;
 use std::alloc::{AllocError, AllocFailed};
 
-/// Why words are no command. Which fault is the first is this project's own choice. Each has a number, which its text
-/// says: a variant with a payload can have none of its own.
+/// Why words are no command. Which fault is the first is this project's own choice. Each has a number, which its
+/// comment gives, since a variant with a payload cannot have a discriminant.
 #[derive(Clone, Copy, Debug, PartialEq, Eq)]
 pub enum UseFault<'a> {
     /// Fault 1. The first word names no tool, or there is none.
@@ -30,7 +30,7 @@ pub enum UseFault<'a> {
     /// Fault 10 for the first string of `tr`, fault 11 for the second: which of them is refused, and why. The kind
     /// is never `SetFaultKind::Memory`.
     String(SetFault),
-    /// Fault 12. A growth of memory was refused.
+    /// Fault 12. A request for memory was refused.
     Memory,
 }
 

@@ -10,12 +10,12 @@ use std::alloc::Allocator;
 /// What a run did.
 #[derive(Drop)]
 pub struct Report<W, E> {
-    /// 0; 1 for a file that could not be opened, a line out of order, a failed read or write, or want of memory;
+    /// 0; 1 for a file that could not be opened, a line out of order, a failed read or write, or refused memory;
     /// 2 for refused words.
     pub status: u8,
     /// The most bytes of lines that were kept at any moment.
     pub peak: u128,
-    /// Whether a growth of the run's store was refused.
+    /// Whether the run's store was refused memory.
     pub denied: bool,
     /// The output's sink.
     pub out: W,

@@ -145,11 +145,10 @@ impl LineTool for UniqJob {
     }
 }
 
-/// Writes one line of each run of lines in a row with equal keys, the first of them (XCU, `uniq`; which of them is this
-/// project's own choice); by the job after the length of the run and a space, or only of runs of two lines or
-/// more, or only of lines that stand alone. The key of a line is what comes after the fields and bytes that are
-/// passed over, and is empty where there is no more (XCU, `uniq`). A line ends with newline, or with byte 0 with `-z`
-/// (this project's own choice), and then a newline is no blank.
+/// Writes the first line of each run of lines in a row with equal keys (XCU, `uniq`). The job may ask for the length of
+/// the run and a space before the line, or only for runs of two lines or more, or only for runs of one. The key of a
+/// line is what follows the fields and bytes that are passed over; it is empty if nothing does (XCU, `uniq`). A line
+/// ends with newline, or with byte 0 with `-z` (this project's own choice), and then a newline is no blank.
 ///
 /// Two slots of the store, which are added if they are missing, hold the first line of the run and the line after it.
 /// Nothing of a run is pushed before the next key or the end is known. On an output that has faulted nothing is read.
