@@ -13,7 +13,7 @@ use std::alloc::Allocator;
 
 /// What a tool does with each of its inputs.
 pub(crate) trait OneByOne<A: Allocator + Copy>: Drop {
-    /// What it is to do.
+    /// What the definitions say that it is to do.
     ghost tool: { Self → Tool };
 
     /// The word that names it.
@@ -32,7 +32,7 @@ pub(crate) trait OneByOne<A: Allocator + Copy>: Drop {
         requires { IsReady reader.old store.old }
         ensures { IsPass (tool self.now) reader.old reader.new out.old out.new store.old store.new result };
 
-    /// Where the end of an input was said, all of it is decided.
+    /// Once the end of an input was reached, all of its output is decided.
     ghost all_decided: { (s : Self) (g : Given) → g.ended ≡ true → (tool s).decided g ≡ (tool s).text g.bytes };
 }
 

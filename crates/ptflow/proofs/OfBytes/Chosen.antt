@@ -26,7 +26,7 @@ below r n low = grind (arith, nat_tests)
 last_of : (r : Interval) (n : ℕ) → lies_in r n ≡ true → n ≤ r.last
 last_of r n inside = grind (arith, nat_tests)
 
-above : (r : Interval) (n : ℕ) → r.last < n → lies_in r n ≡ false
+pub above : (r : Interval) (n : ℕ) → r.last < n → lies_in r n ≡ false
 above r n high = grind (arith, nat_tests)
 
 -- intervals that lie apart above a number do not have it

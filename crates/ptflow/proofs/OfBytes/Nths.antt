@@ -172,7 +172,7 @@ module _ (p : ℕ → Bool) (bytes : List ℕ) where
     h.1,
   )
 
-  some_counted : (xs : List ℕ) → 0 < mask_l (map p xs) → 0 < count_by p xs
+  pub some_counted : (xs : List ℕ) → 0 < mask_l (map p xs) → 0 < count_by p xs
   some_counted [] lt = absurd (omega (arith, lt))
   some_counted (x ∷ xs) lt = omega (arith, sum_by-cons (λ b. cond (p b) 1 0) x xs, by_test (p x) (mask_l (map p xs)) (count_by p xs) lt (some_counted xs))
     where

@@ -16,8 +16,6 @@ use Rattle.ptflow.proofs.OfPasses.LineLaws.{split_of, line_of, end_of, Parts, pa
 use Rattle.ptflow.specs.Cuts.{chosen_from, cut_line, cut, cut_decided}
 use Rattle.ptflow.specs.Workings.Cut.CutRests.{rest_of_lines, cut_rest, rest_by, IsCutTo}
 use Rattle.ptlines.specs.Inputs.{Begins}
-use Rattle.ptlines.specs.Outputs.{Output, Wrote}
-use Rattle.ptflow.specs.Workings.Passes.Continuations.{Halts}
 use Rattle.ptlangs.specs.Jobs.{Cut}
 use Rattle.ptlangs.specs.declared.ranges.Interval.{Interval}
 
@@ -124,10 +122,6 @@ module _ (end : ℕ) (list : List Interval) (start : ℕ) (block : List ℕ) whe
   cut_on now next rest rest' was is bytes cut copied on more =
       cut more ∙ ap (λ (l : List ℕ). was ++ l) (on more) ∙ sym (append_assoc was bytes (rest_by end list next (rest' ++ more)))
       ∙ ap (λ (l : List ℕ). l ++ rest_by end list next (rest' ++ more)) (sym copied)
-
-  -- a write of it failed
-  pub cut_halts : (now : ℕ) (written : List ℕ) (was is : Output) → IsCutTo end list start block now [] written → Wrote was is written → Halts (rest_by end list) start block was is
-  cut_halts now written was is cut wrote = record { pushed = written; wrote = wrote; true_so_far = λ more. record { rest = rest_by end list now more; is = cut more } }
 
 module _ (job : Cut) (by_bytes : job.fields ≡ false) where
   abbrev end : ℕ

@@ -1,12 +1,15 @@
 -- The places that are selected of a short line, place by place, and the bytes that a row of them puts in front.
-use Rattle.std.proofs.Common.{◌≡◌, ◌⊎◌, inl, inr, ℕ, zero, suc, ◌+◌, ◌-◌, ◌<◌, ◌≤◌, Bool, true, false, cond, List, [], ◌∷◌, ◌++◌, map, length, take, drop, set}
+use Rattle.std.proofs.Common.{◌≡◌, ◌⊎◌, inl, inr, ℕ, zero, suc, ◌+◌, ◌-◌, ◌<◌, ◌≤◌, Bool, true, false, cond, List, [], ◌∷◌, ◌++◌, map, length, take, drop, set, min, ⊎_elim, ◌&&◌}
 use Rattle.std.proofs.Common.{get_or, get_or-set_same, get_or-set_other, length-set, length-append, append_assoc, refl, sym, ◌∙◌, ap, arith, w8}
-use Rattle.std.specs.Prelude.{All}
-use Rattle.std.proofs.lemmas.Bool.{cases_order}
-use Rattle.std.specs.List.{range_with_len}
+use Rattle.std.specs.Prelude.{All, nat_le}
+use Rattle.std.proofs.lemmas.Bool.{cases_order, false≢true}
+use Rattle.std.specs.List.{range_with_len, list_all}
+use Rattle.std.proofs.lemmas.Bool.Decides.{nat_tests}
+use Rattle.std.proofs.Math.Seq.{take-add}
+use Rattle.ptflow.proofs.OfBytes.Chosen.{above, chosen_none}
 use Rattle.std.specs.Simd.Lanes.{pick_l, Each1}
 use Rattle.std.proofs.lemmas.Simd.{Each1-from_get_or, swz_l, pick_l-range_with_len}
-use Rattle.std.proofs.lemmas.List.{take_more, take_at, drop_at, take-map, take-take, take-append-le, take_all, take_more_set, length-take-le}
+use Rattle.std.proofs.lemmas.List.{take_more, take_at, drop_at, take-map, take-take, take-append-le, take_all, take_more_set, length-take-le, append-nil}
 use Rattle.std.proofs.lemmas.List.Elements.{All-set}
 use Rattle.std.proofs.lemmas.List.FromFn.{length-range_with_len}
 use mir.Val.{bool_byte}
@@ -17,6 +20,14 @@ use Rattle.ptflow.specs.Workings.Cut.CutRests.{chosen_piece}
 use Rattle.ptflow.specs.Workings.Cut.Picks.{picked, IsPick}
 use Rattle.ptflow.specs.declared.tools.cut.picking.Pick.{Pick}
 use Rattle.ptflow.proofs.OfBytes.ChosenLanes.{shuffled, written_more}
+
+last_low : (r : Interval) (place : ℕ) → nat_le r.last 16 ≡ true → 16 < place → r.last < place
+last_low r place low later = grind (arith, nat_tests)
+
+length-take-le' : {X : Type 0} (n : ℕ) (xs : List X) → length (take n xs) ≤ n
+length-take-le' zero xs = omega arith
+length-take-le' (suc n) [] = omega arith
+length-take-le' (suc n) (x ∷ xs) = omega (arith, length-take-le' n xs)
 
 module _ (selected : ℕ → Bool) where
   pub chosen_append : {X : Type 0} (n : ℕ) (xs ys : List X) → chosen_from selected n (xs ++ ys) ≡ chosen_from selected n xs ++ chosen_from selected (n + length xs) ys
@@ -125,13 +136,40 @@ module _ (selected : ℕ → Bool) where
           ap (λ (l : List ℕ). get_or l k 0) after_is ∙ get_or-set_other counts (place + 1) k (count + one) 0 (λ e. omega (arith, e, less)) ∙ begun.counted k (omega (arith, less))
       by_cases k (inr (inr more)) upto = absurd (omega (arith, more, upto))
 
-  pub pick_whole : (count : ℕ) (row counts : List ℕ) → PickBegun 16 count row counts → IsPick selected (record { row = row; counts = counts })
-  pick_whole count row counts begun = record {
+  pub pick_whole : (count most : ℕ) (row counts : List ℕ) → PickBegun 16 count row counts → ((place : ℕ) → 16 < place → place ≤ most → selected place ≡ false)
+      → IsPick selected (record { row = row; counts = counts; most = most })
+  pick_whole count most row counts begun past = record {
     places = ap (λ (n : ℕ). take n row) (sym begun.is) ∙ begun.places;
     long = begun.long;
     lanes = begun.lanes;
     counts = begun.counted;
+    most = past;
   }
+
+  -- ---- a line of which only the first 16 places are selected
+
+  pub few_enough : {X : Type 0} (most count : ℕ) (xs : List X) → ((place : ℕ) → 16 < place → place ≤ most → selected place ≡ false) → count ≤ most → count ≤ length xs
+      → chosen_from selected 1 (take (min count 16) xs) ≡ chosen_from selected 1 (take count xs)
+  few_enough {X} most count xs past upto within = ⊎_elim (λ e. near (omega (arith, e))) (λ h. ⊎_elim (λ low. near (omega (arith, low))) far h) (cases_order count 16)
+    where
+      near : count ≤ 16 → chosen_from selected 1 (take (min count 16) xs) ≡ chosen_from selected 1 (take count xs)
+      near low = let least : min count 16 ≡ count = omega arith in ap (λ (k : ℕ). chosen_from selected 1 (take k xs)) least
+
+      far : 16 < count → chosen_from selected 1 (take (min count 16) xs) ≡ chosen_from selected 1 (take count xs)
+      far high =
+          let least : min count 16 ≡ 16 = omega arith in
+          let whole : 16 + (count - 16) ≡ count = omega arith in
+          let others = take (count - 16) (drop 16 xs) in
+          let front : length (take 16 xs) ≡ 16 = length-take-le 16 xs (omega (arith, high, within)) in
+          let long : length others ≤ count - 16 = length-take-le' (count - 16) (drop 16 xs) in
+          let none : chosen_from selected (1 + length (take 16 xs)) others ≡ [] =
+          chosen_none selected (1 + length (take 16 xs)) others (λ k low upper. past k (omega (arith, low, front)) (omega (arith, upper, front, long, whole, upto))) in
+          ap (λ (k : ℕ). chosen_from selected 1 (take k xs)) least
+          ∙ sym (append-nil (chosen_from selected 1 (take 16 xs)))
+          ∙ ap (λ (l : List X). chosen_from selected 1 (take 16 xs) ++ l) (sym none)
+          ∙ sym (chosen_append 1 (take 16 xs) others)
+          ∙ ap (chosen_from selected 1) (sym (take-add 16 (count - 16) xs))
+          ∙ ap (λ (k : ℕ). chosen_from selected 1 (take k xs)) whole
 
   -- ---- the bytes of a line that the row puts in front
 
@@ -163,6 +201,16 @@ module _ (selected : ℕ → Bool) where
 
     pub pick_lanes : Each1 (λ place. place < 16) pick.row
     pick_lanes = Each1-from_get_or (λ place. place < 16) pick.row 0 (λ i low. is.lanes i 0 low)
+
+-- places after the first 16, where none of the intervals goes on after them
+pub none_after : (rs : List Interval) (place : ℕ) → list_all (λ r. nat_le r.last 16) rs ≡ true → 16 < place → is_selected rs place ≡ false
+none_after [] place all later = refl
+none_after (r ∷ rs) place all later = by_test (nat_le r.last 16) refl all (λ more. none_after rs place more later)
+  where
+    by_test : (t : Bool) → nat_le r.last 16 ≡ t → (t && list_all (λ x. nat_le x.last 16) rs) ≡ true
+        → (list_all (λ x. nat_le x.last 16) rs ≡ true → is_selected rs place ≡ false) → is_selected (r ∷ rs) place ≡ false
+    by_test true low more next = rw (above r place (last_low r place low later)) (next more)
+    by_test false low more next = absurd (false≢true more)
 
 -- the selected bytes of a line that is whole, and the byte that ends it
 pub line_put : (list : List Interval) (before count end : ℕ) (bytes was into : List ℕ) → before ≡ 0 → count < length bytes → end < length into

@@ -162,7 +162,7 @@ stays_mask test front bytes same few =
 
 -- ---- pieces of 64 bytes
 
--- which bytes are the same as the one in front of them, and which of them go
+-- which bytes are the same as the one before them, and which of them go
 abbrev pub same_flags : ℕ → List ℕ → List Bool
 same_flags k from = zip2 eqb (chunk (k - 1) 16 from) (chunk k 16 from)
 
@@ -187,7 +187,7 @@ gone_lanes test (x ∷ xs) (y ∷ ys) = λ i. lane (eqb x y) (test y) i ∷ gone
     lane false true = refl
     lane false false = refl
 
--- where no byte is the same as the one in front of it, none goes
+-- if no byte is the same as the one before it, none goes
 pub none_same : (test : ℕ → Bool) (xs ys : List ℕ) → mask_l (zip2 eqb xs ys) ≡ 0 → mask_l (zip2 (λ a b. eqb a b && test b) xs ys) ≡ 0
 none_same test [] ys none = refl
 none_same test (x ∷ xs) [] none = refl

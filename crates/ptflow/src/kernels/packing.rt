@@ -37,7 +37,7 @@ impl Shuffles {
     }
 }
 
-// Puts the 64 bytes from a place on behind the first `end` bytes of `into`.
+// Puts the 64 bytes from a place on after the first `end` bytes of `into`.
 #[inline(always)]
 pub(crate) fn put_chunk(from: &[u8], at: usize, into: &mut [u8], end: usize)
     requires lanes { at + 64 ≤ length from.now }
@@ -63,7 +63,7 @@ fn pack_eight(shuffles: &Shuffles, v: u8x16, keep: u8, into: &mut [u8], at: usiz
     at + keep.count_ones() as usize
 }
 
-// Puts the lanes whose flag is true from a place on, and says where they end. What stood behind them may change.
+// Puts the lanes whose flag is true from a place on, and says where they end. What was after them may change.
 #[inline(always)]
 pub(crate) fn pack(shuffles: &Shuffles, v: u8x16, keep: u64, into: &mut [u8], at: usize) -> usize
     requires packing { IsPacking shuffles.now }

@@ -11,8 +11,8 @@ use crate::kernels::packing::{Shuffles, pack, put_chunk};
 use crate::kernels::sets::ByteSet;
 use std::simd::prelude::*;
 
-// Puts those of 16 bytes that stay behind the first `count` bytes of `into`, and says where they end. `before` has the
-// byte in front of each.
+// Puts those of 16 bytes that stay after the first `count` bytes of `into`, and says where they end. `before` has the
+// byte before each.
 #[inline(always)]
 fn squeeze_lanes(
     set: ByteSet,
@@ -32,8 +32,8 @@ fn squeeze_lanes(
     pack(shuffles, bytes, (!gone).to_bitmask(), into, count)
 }
 
-// Puts those of the 64 bytes from a place on that stay behind the first `count` bytes of `into`, and says where they
-// end. Where all of them stay they are put as they are, which shows at once if no byte repeats the one in front of it.
+// Puts those of the 64 bytes from a place on that stay after the first `count` bytes of `into`, and says where they
+// end. If all of them stay they are put as they are, which shows at once if no byte repeats the one before it.
 #[inline(always)]
 fn squeeze_chunk(
     set: ByteSet,
@@ -83,7 +83,7 @@ fn squeeze_chunk(
     squeeze_lanes(set, shuffles, before_d, d, into, third)
 }
 
-// Puts the bytes from a place on that stay behind the first `count` bytes of `into`, and says where they end.
+// Puts the bytes from a place on that stay after the first `count` bytes of `into`, and says where they end.
 #[inline(always)]
 fn squeeze_rest(
     flags: &[bool; 256],
@@ -147,7 +147,7 @@ fn squeeze_tail(
 }
 
 /// Puts the bytes that stay to the front of `into`, and says how many they are. Repeats of the bytes whose flag is true
-/// are squeezed, and `last` stands in front of the bytes, if anything does. `set` has the same flags.
+/// are squeezed, and `last` comes before the bytes, if anything does. `set` has the same flags.
 #[inline(never)]
 pub(crate) fn squeeze_block(
     set: ByteSet,

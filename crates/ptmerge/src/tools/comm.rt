@@ -34,7 +34,7 @@ fn lead(hide1: bool, hide2: bool) -> &'static [u8]
     }
 }
 
-// Pushes a line of a column behind what stands in front of it, unless the column is left out.
+// Pushes a line of a column after what comes before it, unless the column is left out.
 #[inline(always)]
 fn push_entry<W: Sink>(
     hidden: bool,

@@ -7,6 +7,7 @@ use Rattle.ptlangs.specs.CutLists.{is_selected}
 use Rattle.ptlangs.specs.Jobs.{Cut}
 use Rattle.ptlangs.specs.declared.ranges.Interval.{Interval}
 use Rattle.ptflow.specs.Cuts.{chosen_from, cut_lines}
+use Rattle.ptflow.specs.declared.tools.cut.bytes.Step.{Step}
 
 -- ---- bytes: the state is how many bytes of the line that goes on have come
 
@@ -37,6 +38,12 @@ CutsOn end list before rest was now left is =
 abbrev pub IsLineAt : ℕ → List ℕ → ℕ → ℕ → Type 0
 IsLineAt end block at start =
     (start ≤ at) × (count_by (is_byte end) (take start block) ≡ count_by (is_byte end) (take at block))
+
+-- from one line of a block to another, with what was written in front of each; no more was written than was passed
+pub record GoesOn (end : ℕ) (list : List Interval) (block : List ℕ) (was : Step) (old : List ℕ) (now : Step) (new : List ℕ) : Type 0 where
+  pub cut : CutsOn end list was.before (drop was.start block) old now.before (drop now.start block) new
+  pub bound : now.before ≤ was.before
+  pub near : now.at ≤ now.start
 
 -- ---- fields: nothing is carried from line to line
 

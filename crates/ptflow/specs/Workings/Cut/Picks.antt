@@ -1,5 +1,5 @@
 -- The places of a short line that are selected.
-use Rattle.std.specs.Prelude.{◌≡◌, ◌<◌, ◌≤◌, ℕ, List, Bool, All, length, take, slice_index}
+use Rattle.std.specs.Prelude.{◌≡◌, ◌<◌, ◌≤◌, ℕ, List, Bool, false, All, length, take, slice_index}
 use Rattle.std.specs.List.{range_with_len}
 use Rattle.ptlangs.specs.CutLists.{is_selected, AreApart}
 use Rattle.ptflow.specs.Cuts.{chosen_from}
@@ -11,12 +11,13 @@ abbrev pub picked : (ℕ → Bool) → ℕ → List ℕ
 picked selected count = chosen_from selected 1 (range_with_len 0 count)
 
 -- In front are those of the first 16 places, and behind them any places of sixteen lanes; each count is how many a line
--- of so many bytes has.
+-- of so many bytes has. None of the places after these is selected, up to the greatest length.
 pub record IsPick (selected : ℕ → Bool) (pick : Pick) : Type 0 where
   pub places : take (length (picked selected 16)) pick.row ≡ picked selected 16
   pub long : length pick.row ≡ 16
   pub lanes : All (λ place. place < 16) pick.row
   pub counts : (count : ℕ) → count ≤ 16 → slice_index pick.counts count ≡ length (picked selected count)
+  pub most : (place : ℕ) → 16 < place → place ≤ pick.most → selected place ≡ false
 
 -- the intervals of a selection lie apart, and its places are theirs
 abbrev pub IsSelection : Selection → Type 0

@@ -1,13 +1,14 @@
 //! `cut` by bytes.
 
-ghost use Rattle.std.specs.Prelude.{◌≡◌, ◌<◌, ◌≤◌, ◌+◌, ◌^◌, ℕ, length, take, drop, ◌++◌, true, false, None, [], ◌∷◌, OnOk, OnErr, IfOk, ◌==◌, if◌then◌else◌};
-ghost use Rattle.std.specs.Simd.Lanes.{chunk};
+ghost use Rattle.std.specs.Prelude.{◌≡◌, ◌<◌, ◌≤◌, ◌+◌, ◌^◌, length, map, take, drop, ◌++◌, true, false, None, [], ◌∷◌, OnOk, OnErr, IfOk, ◌==◌, if◌then◌else◌};
+ghost use Rattle.std.specs.Simd.Lanes.{mask_l, chunk};
+ghost use Rattle.memchr.specs.Find.{is_byte};
 ghost use Rattle.ptlines.specs.Outputs.{Wrote};
 ghost use Rattle.ptlangs.specs.CutLists.{AreApart};
 ghost use Rattle.ptlangs.specs.Jobs.{cut_job};
 ghost use Rattle.ptflow.specs.Cuts.{cut_tool};
 ghost use Rattle.ptflow.specs.Passes.{IsBarePass};
-ghost use Rattle.ptflow.specs.Workings.Cut.CutRests.{rest_by, chosen_piece, IsCutTo, IsLineAt, CutsOn};
+ghost use Rattle.ptflow.specs.Workings.Cut.CutRests.{rest_by, chosen_piece, IsCutTo, IsLineAt, CutsOn, GoesOn};
 ghost use Rattle.ptflow.specs.Workings.Passes.Continuations.{Continues, Halts};
 ghost use Rattle.ptflow.specs.Workings.Cut.Picks.{IsSelection};
 
@@ -33,8 +34,8 @@ pub(crate) struct Selection<'a> {
 
 // Copies the selected bytes of a piece of a line, the first `count` of these bytes, and then the bytes up to `end`:
 // the one that ends the line, or none. In front of the piece stand `before` bytes of the line. The answer is where
-// that ends.
-#[inline(always)]
+// that ends. Apart, so that most lines are copied without what this needs in registers.
+#[inline(never)]
 fn copy_selected(
     selected: &[Interval],
     before: u64,
@@ -90,7 +91,7 @@ fn copy_line(
         ≡ take at into.old ++ chosen_piece by.now.selected.now before count (take (count + 1) bytes.now) }
     ensures near { result ≤ at + count + 1 }
 {
-    if before > 0 || count > 16 {
+    if before > 0 || count > by.pick.most {
         return copy_selected(by.selected, before, bytes, count, count + 1, into, at);
     }
     let at = put_picked(&by.pick, bytes, count, into, at);
@@ -124,33 +125,31 @@ fn copy_ends(block: &[u8], step: Step, into: &mut [u8]) -> Step
     }
 }
 
-// Copies what is written of the lines that end among the 64 bytes from a place on, behind which 16 more stand, and of
-// which the first is told. The answer is the first line behind them. Apart, so that what a line needs stays in
-// registers.
+// Copies what is written of the lines that end among the 64 bytes from a place on, after which 16 more stand; the mask
+// of their ends is given. The answer is the first line after them. Apart, so that what a line needs stays in registers.
 #[inline(never)]
 fn cut_chunk(
     by: &Selection,
     ending: u8,
     block: &[u8],
     from: usize,
+    marked: u64,
     step: Step,
     into: &mut Written,
 ) -> Step
     requires by { IsSelection by.now }
     requires within { (from + 80 ≤ length block.now) × (length block.now ≤ 8192) }
+    requires marked { (marked ≡ mask_l (map (is_byte ending) (chunk from 64 block.now))) × (0 < marked) }
     requires line { IsLineAt ending block.now from step.start }
     requires short { step.before + length block.now < 2 ^ 63 }
     requires room { step.at ≤ step.start }
-    ensures line { IsLineAt ending block.now (from + 64) result.start }
-    ensures cut { CutsOn ending by.now.selected.now step.before (drop step.start block.now) (take step.at into.old)
-        result.before (drop result.start block.now) (take result.at into.new) }
-    ensures bound { result.before ≤ step.before }
-    ensures near { result.at ≤ result.start }
+    ensures on { GoesOn ending by.now.selected.now block.now step (take step.at into.old) result (take result.at into.new) }
+    ensures passed { (from < result.start) × (result.start ≤ from + 64) }
 {
-    let mut marked = marks(ending, block, from);
     if marked == u64::MAX && step.start == from && step.before == 0 {
         return copy_ends(block, step, into);
     }
+    let mut marked = marked;
     let mut step = step;
     for _end in 0..marked.count_ones() {
         let end = from + marked.trailing_zeros() as usize;
@@ -198,7 +197,7 @@ fn cut_rest(
 
 // Copies what is written of a block, of whose first line `before` bytes came earlier. The answer is where that ends,
 // and how many bytes have come of the line that goes on behind the block.
-#[inline(always)]
+#[inline(never)]
 fn cut_pieces(
     by: &Selection,
     ending: u8,
@@ -220,37 +219,15 @@ fn cut_pieces(
     };
     let mut from = 0;
     while block.len() - from >= 80 {
-        step = cut_chunk(by, ending, block, from, step, into);
-        from += 64;
+        let marked = marks(ending, block, from);
+        if marked == 0 {
+            from += 64;
+        } else {
+            step = cut_chunk(by, ending, block, from, marked, step, into);
+            from = step.start;
+        }
     }
     cut_rest(by, ending, step.before, &block[step.start..], into, step.at)
-}
-
-// Pushes what is written of a block, of whose first line `before` bytes came earlier. The answer is how many bytes
-// have come of the line that goes on behind the block.
-#[inline(never)]
-fn push_pieces<W: Sink>(
-    by: &Selection,
-    ending: u8,
-    before: u64,
-    block: &[u8],
-    written: &mut Written,
-    out: &mut Out<W>,
-) -> Result<u64, WriteFault>
-    requires by { IsSelection by.now }
-    requires room { length block.now ≤ 8192 }
-    requires short { before + length block.now < 2 ^ 63 }
-    requires clean { out.old.faulted ≡ false }
-    ensures continues { IfOk result
-        (λ n. Continues (rest_by ending by.now.selected.now) before n block.now out.old out.new) }
-    ensures bound { IfOk result (λ n. n ≤ before + length block.now) }
-    ensures halts { OnErr result (Halts (rest_by ending by.now.selected.now) before block.now out.old out.new) }
-    ensures clean { OnOk result (out.new.faulted ≡ false) }
-    ensures fault { OnErr result (out.new.faulted ≡ true) }
-{
-    let (count, before) = cut_pieces(by, ending, before, block, written);
-    out.push(&written[..count])?;
-    Ok(before)
 }
 
 /// What is selected of each line, the byte that ends a line, how many bytes have come of the line that goes on, and a
@@ -275,14 +252,15 @@ impl<'a> BlockTool for ByteCut<'a> {
     ghost Holds = { λ s t. IsSelection t.by × (t.by.selected.now ≡ s.by.selected.now) × (t.ending ≡ s.ending) };
 
     fn push_block<W: Sink>(&mut self, block: &[u8], out: &mut Out<W>) -> Result<(), WriteFault> {
-        self.before = push_pieces(
+        let (count, before) = cut_pieces(
             &self.by,
             self.ending,
             self.before,
             block,
             &mut self.written,
-            out,
-        )?;
+        );
+        out.push(&self.written[..count])?;
+        self.before = before;
         Ok(())
     }
 

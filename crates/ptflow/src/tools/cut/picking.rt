@@ -1,19 +1,36 @@
 //! Of short lines, the bytes at the same places: by one shuffle.
 
-ghost use Rattle.std.specs.Prelude.{◌≡◌, ◌≤◌, ◌+◌, ◌++◌, ℕ, Bool, length, take};
+ghost use Rattle.std.specs.Prelude.{◌≡◌, ◌<◌, ◌≤◌, ◌+◌, ◌++◌, ℕ, Bool, false, length, take, nat_le};
+ghost use Rattle.std.specs.List.{list_all};
 ghost use Rattle.ptlangs.specs.CutLists.{is_selected};
 ghost use Rattle.ptflow.specs.Cuts.{chosen_from};
 ghost use Rattle.ptflow.specs.Workings.Cut.Picks.{IsPick};
 
-use ptlangs::ranges::Ranges;
+use ptlangs::ranges::{Interval, Ranges};
 use std::alloc::Allocator;
 use std::simd::prelude::*;
 
-// The selected ones of the first 16 places, and how many of them a line of so many bytes has.
+// The selected ones of the first 16 places, how many of them a line of so many bytes has, and up to what length these
+// are all that is selected of a line.
 #[derive(Clone, Copy)]
 pub(crate) struct Pick {
     row: u8x16,
     counts: [u8; 17],
+    pub most: usize,
+}
+
+// Whether no place after the first 16 is selected.
+fn is_short(selected: &[Interval]) -> bool
+    ensures { result ≡ list_all (λ interval. nat_le interval.last 16) selected.now }
+{
+    selected.iter().all(|interval| interval.last <= 16)
+}
+
+// Up to what length the first 16 places are all that is selected of a line.
+fn greatest_length(selected: &[Interval]) -> usize
+    ensures { (place : ℕ) → 16 < place → place ≤ result → is_selected selected.now place ≡ false }
+{
+    if is_short(selected) { usize::MAX } else { 16 }
 }
 
 impl Pick {
@@ -32,12 +49,13 @@ impl Pick {
         Pick {
             row: u8x16::from_array(row),
             counts,
+            most: greatest_length(list.intervals()),
         }
     }
 }
 
 // Puts the selected ones of the first `count` bytes into `into`, from the place `at` on, and says where they end. What
-// stood behind them may change.
+// was after them may change.
 #[inline(always)]
 pub(crate) fn put_picked(
     pick: &Pick,
@@ -47,8 +65,8 @@ pub(crate) fn put_picked(
     at: usize,
 ) -> usize
     requires pick { (selected : ℕ → Bool) × IsPick selected pick.now }
-    requires short { count ≤ 16 }
-    requires within { 16 ≤ length bytes.now }
+    requires short { count ≤ pick.now.most }
+    requires within { (16 ≤ length bytes.now) × (count ≤ length bytes.now) }
     requires room { at + 16 ≤ length into.old }
     ensures long { length into.new ≡ length into.old }
     ensures picked { (selected : ℕ → Bool) → IsPick selected pick.now
@@ -57,5 +75,5 @@ pub(crate) fn put_picked(
 {
     let lanes = u8x16::from_slice(bytes).swizzle_dyn(pick.row);
     lanes.copy_to_slice(&mut into[at..]);
-    at + usize::from(pick.counts[count])
+    at + usize::from(pick.counts[count.min(16)])
 }

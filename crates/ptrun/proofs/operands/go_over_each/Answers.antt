@@ -8,7 +8,8 @@ use Rattle.ptrun.specs.Worlds.{reader_at, no_reader, is_in, at}
 use Rattle.ptrun.specs.Sayings.{Tells, line_of}
 use Rattle.ptrun.specs.Operands.{places, one_by_one}
 use Rattle.ptrun.specs.Engines.{blame, Went}
-use Rattle.ptrun.proofs.InTurn.{pass_nothing, keeps_all, pass_all, pass_unopened, pass_done, pass_stopped, decided_by_law, ready_of}
+use Rattle.ptrun.proofs.InTurn.{pass_nothing, keeps_all, pass_all, pass_unopened, pass_done, pass_stopped, decided_by_law}
+use Rattle.ptrun.proofs.OnePlace.{ready_of}
 use Rattle.ptrun.proofs.Order.{fresh_all, places_next, places_split, places_end, pass_here}
 use Rattle.ptrun.proofs.operands.go_over_each.Goals as goal
 use Rattle.ptrun.proofs.operands.go_over_each.Goals.{then-is_refused, else-is_refused+in-Ok}

@@ -11,27 +11,30 @@ use Rattle.memchr.specs.Find.{is_byte}
 use Rattle.ptlangs.specs.CutLists.{is_selected}
 use Rattle.ptflow.specs.Workings.Cut.CutRests.{chosen_piece, rest_by}
 use Rattle.ptflow.proofs.OfCut.ByteRests.{line_on, ends_on, cut_on}
-use Rattle.ptflow.proofs.OfBytes.Nths.{without, cleared, end_near, end_order, end_first, end_counted, count_chunk}
+use Rattle.ptflow.proofs.OfBytes.Nths.{without, cleared, end_near, end_order, end_first, end_counted, some_counted}
 use Rattle.ptflow.proofs.tools.cut.bytes.cut_chunk.Goals as goal
 
-pub returns-then-step-eq0-clause-cut : goal.returns-then-step-eq0-clause-cut
-returns-then-step-eq0-clause-cut c =
+pub returns-then-step-eq0-clause-on : goal.returns-then-step-eq0-clause-on
+returns-then-step-eq0-clause-on c =
     let end = c.args.ending in
     let list = c.args.by.now.selected.now in
     let block = c.args.block.now in
     let step = c.args.step in
-    rw c.copy_ends.ensures.step
-    (λ start bytes so_far.
-    cut_on end list start bytes step.before step.before (drop step.start block) (drop (step.start + 64) block) (take step.at c.args.into.now) _
-    (chunk step.start 64 block) so_far c.copy_ends.ensures.copied
-    (ends_on end (is_selected list) block c.args.from step.start step.before c.marks-marked.result (omega (arith, c.requires.within.0)) c.if-step-from.true c.if-step-eq0.true
-    c.marks-marked.ensures c.if-marked.true))
+    rw c.copy_ends.ensures.step (record {
+      cut = λ start bytes so_far.
+          cut_on end list start bytes step.before step.before (drop step.start block) (drop (step.start + 64) block) (take step.at c.args.into.now) _
+          (chunk step.start 64 block) so_far c.copy_ends.ensures.copied
+          (ends_on end (is_selected list) block c.args.from step.start step.before c.args.marked (omega (arith, c.requires.within.0)) c.if-step-from.true c.if-step-eq0.true
+          c.requires.marked.0 c.if-marked-eq18446744073709551615.true);
+      bound = omega arith;
+      near = omega (arith, c.requires.room);
+    })
 
 pub overflow_sub-end : goal.overflow_sub-end
 overflow_sub-end c =
     let p = is_byte c.args.ending in
     let loop = c.loop-end in
-    let counted = ap count_ones c.marks-marked.ensures ∙ ones-mask_l p (chunk c.args.from 64 c.args.block.now) in
+    let counted = ap count_ones c.requires.marked.0 ∙ ones-mask_l p (chunk c.args.from 64 c.args.block.now) in
     end_order c.args.ending c.args.block.now c.args.from loop._end loop.marked loop.step.start (omega (arith, c.requires.within.0))
     (omega (arith, counted, c.loop-end-test.true)) loop.invariant.bits loop.invariant.ends
 
@@ -39,7 +42,7 @@ pub copy_line-at-requires-clause-within : goal.copy_line-at-requires-clause-with
 copy_line-at-requires-clause-within c =
     let p = is_byte c.args.ending in
     let loop = c.loop-end in
-    let counted = ap count_ones c.marks-marked.ensures ∙ ones-mask_l p (chunk c.args.from 64 c.args.block.now) in
+    let counted = ap count_ones c.requires.marked.0 ∙ ones-mask_l p (chunk c.args.from 64 c.args.block.now) in
     let first = end_first c.args.ending c.args.block.now c.args.from loop._end loop.marked loop.step.start (omega (arith, c.requires.within.0))
     (omega (arith, counted, c.loop-end-test.true)) loop.invariant.bits loop.invariant.ends in
     rw take_rest first.0.high
@@ -48,13 +51,13 @@ pub copy_line-at-requires-clause-room : goal.copy_line-at-requires-clause-room
 copy_line-at-requires-clause-room c =
     let p = is_byte c.args.ending in
     let loop = c.loop-end in
-    let counted = ap count_ones c.marks-marked.ensures ∙ ones-mask_l p (chunk c.args.from 64 c.args.block.now) in
+    let counted = ap count_ones c.requires.marked.0 ∙ ones-mask_l p (chunk c.args.from 64 c.args.block.now) in
     let some : loop._end < count_by p (chunk c.args.from 64 c.args.block.now) = omega (arith, counted, c.loop-end-test.true) in
     omega (
       arith,
       end_order c.args.ending c.args.block.now c.args.from loop._end loop.marked loop.step.start (omega (arith, c.requires.within.0)) some loop.invariant.bits loop.invariant.ends,
       end_near c.args.ending c.args.block.now c.args.from loop._end loop.marked loop.step.start (omega (arith, c.requires.within.0)) some loop.invariant.bits loop.invariant.ends,
-      loop.invariant.near,
+      loop.invariant.on.near,
       c.requires.within.0,
       c.requires.within.1,
     )
@@ -70,7 +73,7 @@ loop-end-preserved c =
     let s = loop.step.start in
     let list = c.args.by.now.selected.now in
     let bits = map p (chunk from 64 block) in
-    let counted = ap count_ones c.marks-marked.ensures ∙ ones-mask_l p (chunk from 64 block) in
+    let counted = ap count_ones c.requires.marked.0 ∙ ones-mask_l p (chunk from 64 block) in
     let some : n < count_by p (chunk from 64 block) = omega (arith, counted, c.loop-end-test.true) in
     let e = from + count_trailing_zeros 64 loop.marked in
     let order = end_order end block from n loop.marked s (omega (arith, c.requires.within.0)) some loop.invariant.bits loop.invariant.ends in
@@ -85,19 +88,23 @@ loop-end-preserved c =
       bits = cleared n loop.marked bits loop.auto.marked-fits.fits loop.invariant.bits ∙ ap (λ (k : ℕ). mask_l (without k bits)) next;
       within = omega (arith, near);
       ends = end_counted end block from n loop.marked s (omega (arith, c.requires.within.0)) some loop.invariant.bits loop.invariant.ends;
-      cut = λ start bytes so_far.
-          cut_on end list start bytes loop.step.before 0 rest (drop (e + 1) block) (take loop.step.at loop.into) _ (chosen_piece list loop.step.before (e - s) (take (e - s + 1) rest))
-          (loop.invariant.cut start bytes so_far) copied
-          (subst (λ (l : List ℕ). (more : List ℕ) → rest_by end list loop.step.before (rest ++ more)
-          ≡ chosen_piece list loop.step.before (e - s) (take (e - s + 1) rest) ++ rest_by end list 0 (l ++ more)) left (line_on end rest (e - s) first (is_selected list) loop.step.before));
-      bound = omega arith;
-      near = omega (arith, c.copy_line-at.ensures.near, loop.invariant.near, order);
+      on = record {
+        cut = λ start bytes so_far.
+            cut_on end list start bytes loop.step.before 0 rest (drop (e + 1) block) (take loop.step.at loop.into) _ (chosen_piece list loop.step.before (e - s) (take (e - s + 1) rest))
+            (loop.invariant.on.cut start bytes so_far) copied
+            (subst (λ (l : List ℕ). (more : List ℕ) → rest_by end list loop.step.before (rest ++ more)
+            ≡ chosen_piece list loop.step.before (e - s) (take (e - s + 1) rest) ++ rest_by end list 0 (l ++ more)) left (line_on end rest (e - s) first (is_selected list) loop.step.before));
+        bound = omega arith;
+        near = omega (arith, c.copy_line-at.ensures.near, loop.invariant.on.near, order);
+      };
+      passed = λ some_turns. omega arith;
     }
 
-pub returns-clause-line : goal.returns-clause-line
-returns-clause-line c =
+pub returns-clause-passed : goal.returns-clause-passed
+returns-clause-passed c =
     let p = is_byte c.args.ending in
     let loop = c.loop-end in
-    let block = c.args.block.now in
-    let counted = ap count_ones c.marks-marked.ensures ∙ ones-mask_l p (chunk c.args.from 64 block) in
-    (loop.invariant.within, omega (arith, loop.invariant.ends, counted, c.loop-end-test.false, c.loop-end.auto, count_chunk p block c.args.from))
+    let bytes = chunk c.args.from 64 c.args.block.now in
+    let counted = ap count_ones c.requires.marked.0 ∙ ones-mask_l p bytes in
+    let some = some_counted p bytes bytes (subst (λ (n : ℕ). 0 < n) c.requires.marked.0 c.requires.marked.1) in
+    (loop.invariant.passed (omega (arith, some, counted, c.loop-end-test.false)), loop.invariant.within)

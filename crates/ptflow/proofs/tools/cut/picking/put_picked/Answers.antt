@@ -4,7 +4,7 @@ use Rattle.std.specs.Simd.Lanes.{put_chunk}
 use Rattle.std.proofs.lemmas.List.{take-take, length-take-le}
 use Rattle.ptflow.specs.Cuts.{chosen_from}
 use Rattle.ptflow.proofs.OfBytes.ChosenLanes.{chosen_stored}
-use Rattle.ptflow.proofs.OfCut.PickLemmas.{pick_line, pick_few, pick_lanes}
+use Rattle.ptflow.proofs.OfCut.PickLemmas.{pick_line, pick_few, pick_lanes, few_enough}
 use Rattle.ptflow.proofs.tools.cut.picking.put_picked.Goals as goal
 
 pub swizzle-lanes : goal.swizzle-lanes
@@ -21,12 +21,16 @@ returns-clause-picked c selected is =
     let count = c.args.count in
     let into = c.args.into.now in
     let lanes = swz_l w8 16 v 0 pick.row in
-    let kept = get_or pick.counts count 0 in
-    let few : kept ≤ 16 = omega (arith, pick_few selected pick is count c.requires.short, c.requires.short) in
+    let near = c.min.result in
+    let short : near ≤ 16 = omega (arith, c.min.ensures) in
+    let kept = get_or pick.counts near 0 in
+    let few : kept ≤ 16 = omega (arith, pick_few selected pick is near short) in
     ap (λ (n : ℕ). take (at + n) (put_chunk at into lanes)) c.from.ensures
     ∙ chosen_stored at kept into lanes (length-swz_l w8 16 v 0 pick.row ∙ is.long) few c.requires.room
-    ∙ ap (λ (l : List ℕ). take at into ++ l) (pick_line selected pick is count v c.requires.short (length-take-le 16 c.args.bytes.now c.requires.within)
-    ∙ ap (chosen_from selected 1) (take-take count 16 c.args.bytes.now c.requires.short))
+    ∙ ap (λ (l : List ℕ). take at into ++ l) (pick_line selected pick is near v short (length-take-le 16 c.args.bytes.now c.requires.within.0)
+    ∙ ap (chosen_from selected 1) (take-take near 16 c.args.bytes.now short)
+    ∙ ap (λ (k : ℕ). chosen_from selected 1 (take k c.args.bytes.now)) c.min.ensures
+    ∙ few_enough selected pick.most count c.args.bytes.now is.most c.requires.short c.requires.within.1)
 
 pub returns-clause-near : goal.returns-clause-near
-returns-clause-near c = omega (arith, c.from.ensures, pick_few c.requires.pick.0 c.args.pick.now c.requires.pick.1 c.args.count c.requires.short)
+returns-clause-near c = omega (arith, c.from.ensures, pick_few c.requires.pick.0 c.args.pick.now c.requires.pick.1 c.min.result (omega (arith, c.min.ensures)), c.min.ensures)

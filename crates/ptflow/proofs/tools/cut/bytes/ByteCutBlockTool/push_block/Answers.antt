@@ -1,0 +1,25 @@
+use Rattle.std.proofs.Common.{take}
+use Rattle.ptflow.specs.Workings.Cut.CutRests.{rest_by}
+use Rattle.ptflow.proofs.OfPasses.Continuations.{on_err}
+use Rattle.ptflow.proofs.tools.cut.bytes.ByteCutBlockTool.push_block.Goals as goal
+
+pub returns-in_err-push-clause-halts : goal.returns-in_err-push-clause-halts
+returns-in_err-push-clause-halts g c =
+    let tool = c.args.self.now in
+    let made = c.cut_pieces-count in
+    on_err c.from_residual.result
+    (record {
+      pushed = take made.result.0 made.new.into;
+      wrote = c.push.ensures.wrote;
+      true_so_far = λ more. record {
+        rest = rest_by tool.ending tool.by.selected.now made.result.1 more;
+        is = made.ensures.cut more;
+      };
+    })
+
+pub returns-clause-continues : goal.returns-clause-continues
+returns-clause-continues g c = record {
+  pushed = take c.cut_pieces-count.result.0 c.cut_pieces-count.new.into;
+  wrote = c.push.ensures.wrote;
+  on = c.cut_pieces-count.ensures.cut;
+}

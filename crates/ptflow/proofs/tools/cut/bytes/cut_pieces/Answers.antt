@@ -1,0 +1,22 @@
+-- A chunk without an end is passed, and the line goes on.
+use Rattle.std.proofs.Common.{[], ap, arith, ◌∙◌}
+use Rattle.std.specs.Int.RustNames.{count_ones}
+use Rattle.std.specs.Simd.Lanes.{chunk}
+use Rattle.std.proofs.lemmas.Simd.{ones-mask_l}
+use Rattle.memchr.specs.Find.{is_byte}
+use Rattle.ptflow.proofs.OfBytes.Nths.{count_chunk}
+use Rattle.ptflow.proofs.tools.cut.bytes.cut_pieces.Goals as goal
+
+pub loop-from-preserved-then-marked-eq0 : goal.loop-from-preserved-then-marked-eq0
+loop-from-preserved-then-marked-eq0 c =
+    let p = is_byte c.args.ending in
+    let block = c.args.block.now in
+    let loop = c.loop-from in
+    let none = ap count_ones c.if-marked-eq0.true ∙ ones-mask_l p [] in
+    let counted = ap count_ones c.marks-marked.ensures ∙ ones-mask_l p (chunk loop.from 64 block) in record {
+      within = omega arith;
+      line = (omega (arith, loop.invariant.line.0), omega (arith, loop.invariant.line.1, count_chunk p block loop.from, none, counted));
+      cut = loop.invariant.cut;
+      bound = loop.invariant.bound;
+      near = loop.invariant.near;
+    }
