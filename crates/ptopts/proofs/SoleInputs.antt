@@ -1,15 +1,14 @@
 -- How many inputs a tool reads.
 use Rattle.std.proofs.Common.{◌≡◌, ℕ, suc, ◌+◌, ◌&&◌, Bool, true, false, cond, List, [], ◌∷◌, Option, Some, None, length, take, refl, ◌∙◌, ap, arith}
-use Rattle.std.specs.Prelude.{⊤, not, nat_le}
+use Rattle.std.specs.Prelude.{not, nat_le}
 use Rattle.std.specs.List.{list_all}
 use Rattle.std.proofs.lemmas.Bool.Decides.{nat_tests}
-use Rattle.ptopts.specs.declared.tool.Tool.{Tool}
-use Rattle.ptopts.specs.declared.tool.Tool.TheVariants.{Cut, Paste, Uniq, Comm, Join, Tr}
+use Rattle.ptopts.specs.declared.tool.Tool.TheVariants.{Paste}
 use Rattle.ptopts.specs.declared.inputs.Input.{Input}
 use Rattle.ptopts.specs.declared.inputs.Input.TheVariants.{Standard, File}
 use Rattle.ptopts.specs.Words.{GivenOption}
 use Rattle.ptopts.specs.Faults.{Fault, Operands, StandardTwice, is_between, is_standard, operands_fault}
-use Rattle.ptopts.specs.Commands.{Job, RunPaste, RunUniq, RunComm, RunJoin, job, inputs, or_standard, order_from}
+use Rattle.ptopts.specs.Commands.{or_standard, order_from}
 
 order_length : (n : ℕ) (operands : List (List ℕ)) → length (order_from n operands) ≡ length operands
 order_length n [] = refl
@@ -25,7 +24,7 @@ one_of [] = refl
 one_of (word ∷ words) = refl
 
 -- uniq has one input
-sole_input : (operands : List (List ℕ)) → length (order_from 0 (take 1 (or_standard operands))) ≡ 1
+pub sole_input : (operands : List (List ℕ)) → length (order_from 0 (take 1 (or_standard operands))) ≡ 1
 sole_input operands = order_length 0 (take 1 (or_standard operands)) ∙ one_of operands
 
 few_of : (some few : Bool) → cond (not ((some && few) && true)) (Some Operands) None ≡ None → few ≡ true
@@ -34,7 +33,7 @@ few_of true false none = cc
 few_of false few none = cc
 
 -- paste has at most 512 inputs
-few_inputs : (os : List GivenOption) (operands : List (List ℕ)) → operands_fault Paste os operands ≡ None → nat_le (length (order_from 0 operands)) 512 ≡ true
+pub few_inputs : (os : List GivenOption) (operands : List (List ℕ)) → operands_fault Paste os operands ≡ None → nat_le (length (order_from 0 operands)) 512 ≡ true
 few_inputs os operands none = ap (λ (n : ℕ). nat_le n 512) (order_length 0 operands) ∙ few_of (nat_le 1 (length operands)) (nat_le (length operands) 512) none
 
 -- two inputs, which are not the same
@@ -51,7 +50,7 @@ two_of false true once = record { first = File 0; second = Standard; are = refl;
 two_of false false once = record { first = File 0; second = File 1; are = refl; differ = λ same. cc }
 
 -- comm and join have two inputs, and standard input is one of them at most
-two_inputs : (operands : List (List ℕ)) → cond (not (is_between 2 2 (length operands) && true)) (Some Operands)
+pub two_inputs : (operands : List (List ℕ)) → cond (not (is_between 2 2 (length operands) && true)) (Some Operands)
     (cond (list_all is_standard operands) (Some StandardTwice) None) ≡ None → AreTwo (order_from 0 operands)
 two_inputs [] none = cc
 two_inputs (a ∷ []) none = cc
@@ -68,20 +67,3 @@ two_inputs (a ∷ b ∷ c ∷ more) none = absurd (blamed (is_between 2 2 (lengt
     blamed : (fits : Bool) (other : Option Fault) → fits ≡ false → cond (not (fits && true)) (Some Operands) other ≡ None → ⊥
     blamed true other is some = cc
     blamed false other is some = cc
-
--- what is known of the inputs of a job beside that they are there
-abbrev pub AreTaken : Job → List Input → Type 0
-AreTaken (RunUniq told) order = length order ≡ 1
-AreTaken (RunPaste told) order = nat_le (length order) 512 ≡ true
-AreTaken (RunComm told) order = AreTwo order
-AreTaken (RunJoin told) order = AreTwo order
-AreTaken _ order = ⊤
-
-pub are_taken : (tool : Tool) (os : List GivenOption) (operands : List (List ℕ)) → operands_fault tool os operands ≡ None
-    → AreTaken (job tool os operands) (order_from 0 (inputs tool operands))
-are_taken Cut os operands none = tt
-are_taken Paste os operands none = few_inputs os operands none
-are_taken Uniq os operands none = sole_input operands
-are_taken Comm os operands none = two_inputs operands none
-are_taken Join os operands none = two_inputs operands none
-are_taken Tr os operands none = tt

@@ -15,7 +15,8 @@ use Rattle.ptopts.specs.declared.inputs.Input.{Input}
 use Rattle.ptopts.specs.declared.inputs.Input.TheVariants.{Standard, File}
 use Rattle.ptopts.specs.Laws.{SpellsCommand, Spelled}
 use Rattle.ptopts.proofs.Accepted.{meant_as_spelled}
-use Rattle.ptopts.proofs.SoleInputs.{AreTwo, AreTaken, are_taken}
+use Rattle.ptopts.proofs.SoleInputs.{AreTwo}
+use Rattle.ptopts.proofs.EachTool.{AreTaken, are_taken}
 use Rattle.ptopts.specs.Faults.{Fault}
 use Rattle.ptopts.specs.Commands.{Command, Job, RunCut, RunPaste, RunUniq, RunComm, RunJoin, RunTr, meaning, inputs}
 use Rattle.ptopts.specs.Meant.{meant, seen, IsMeant}
