@@ -16,6 +16,12 @@ import tempfile
 import time
 
 TOP = os.path.dirname(os.path.dirname(os.path.realpath(__file__)))
+sys.dont_write_bytecode = True
+sys.path.insert(0, f"{TOP}/tools")
+
+from names import NAMES, letters_of
+
+FLAGS, VALUED = letters_of("flags"), letters_of("valued")
 # How each shell is started, and what is typed first. (@ stands for the folder of the completions.)
 SHELLS = {
     "bash": (
@@ -36,13 +42,8 @@ COMPLETED = [
 CLASSES = "alnum alpha blank cntrl digit graph lower print punct space upper xdigit".split()
 # What is typed before two tabs, and the words that are offered.
 OFFERED = [
-    ("ptext ", ["cut", "paste", "join", "comm", "uniq", "tr"]),
-    ("ptext cut -", ["-b", "-c", "-d", "-f", "-n", "-s", "-z"]),
-    ("ptext paste -", ["-d", "-s", "-z"]),
-    ("ptext join -", ["-1", "-2", "-a", "-e", "-o", "-r", "-t", "-v", "-z"]),
-    ("ptext comm -", ["-1", "-2", "-3", "-r", "-z"]),
-    ("ptext uniq -", ["-c", "-d", "-f", "-s", "-u", "-z"]),
-    ("ptext tr -", ["-C", "-c", "-d", "-s"]),
+    ("ptext ", NAMES),
+    *((f"ptext {tool} -", [f"-{it}" for it in FLAGS[tool] + VALUED[tool]]) for tool in NAMES),
     ("ptext cut -sf 1 -", ["-d", "-z"]),
     ("ptext join -a ", ["1", "2"]),
     ("ptext tr -d '[:", CLASSES),

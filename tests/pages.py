@@ -21,8 +21,12 @@ import subprocess
 import sys
 import tempfile
 
-TOOLS = ["cut", "paste", "join", "comm", "uniq", "tr"]
 TOP = os.path.dirname(os.path.dirname(os.path.realpath(__file__)))
+sys.dont_write_bytecode = True
+sys.path.insert(0, f"{TOP}/tools")
+
+from names import NAMES as TOOLS
+
 DOCS = ["README.md", "CONTRIBUTING.md", "CHANGELOG.md", "bench/README.md"]
 PAGES = [*glob.glob("man/*.1", root_dir=TOP), *glob.glob("docs/*.md", root_dir=TOP)]
 FILES = [*[it for it in DOCS if os.path.exists(f"{TOP}/{it}")], *sorted(PAGES)]
@@ -211,7 +215,7 @@ def taken_uses(program):
         for name in "fg":
             with open(f"{room}/{name}", "w", encoding="ascii") as it:
                 it.write("a\n")
-        # `tool` stands for any of the six.
+        # `tool` stands for any of them.
         each = [it.replace("tool", tool, 1) for it in uses if it.startswith("tool ") for tool in TOOLS]
         for use in each + [it for it in uses if not it.startswith("tool ")]:
             words = ["sh", "-c", f'"$0" {use}', program]

@@ -139,11 +139,13 @@ class Build:
         )
 
     def jobs(self, crate, others, processors):
-        """How many jobs a crate gets beside so many others: one, or two where the longest chain waits for it. Two take
-        a quarter more of the processor than one, and at best three quarters of the time."""
-        is_first = all(self.chains[crate] >= self.chains[it] for it in [*self.left, *self.running])
+        """How many jobs a crate gets beside so many others: one, or two where the longest chain waits for it, or one
+        that is nearly as long. Two take a quarter more of the processor than one, and at best three quarters of the
+        time."""
+        longest = max(self.chains[it] for it in [*self.left, *self.running])
+        is_near = self.chains[crate] >= 0.85 * longest
         is_room = others == 0 or processors >= 4
-        return min(2, processors - sum(self.running.values())) if is_first and is_room else 1
+        return min(2, processors - sum(self.running.values())) if is_near and is_room else 1
 
     def prove(self, crate, jobs):
         began, good = time.monotonic(), False

@@ -20,11 +20,14 @@ import tempfile
 import threading
 from typing import Callable, NamedTuple, Optional
 
+sys.dont_write_bytecode = True
+
+from names import letters_of
+
 TOP = os.path.dirname(os.path.dirname(os.path.realpath(__file__)))
 MOST = 2**64 - 1
 MOST_SHOWN = 300
-FLAGS = {"cut": "nsz", "paste": "sz", "uniq": "cduz", "comm": "123rz", "join": "rz", "tr": "cCds"}
-VALUED = {"cut": "bcfd", "paste": "d", "uniq": "fs", "comm": "", "join": "aveot12", "tr": ""}
+FLAGS, VALUED = letters_of("flags"), letters_of("valued")
 THEIRS = {"cut": "", "paste": "", "uniq": "iD", "comm": "", "join": "i", "tr": "t"}
 
 

@@ -6,8 +6,11 @@
       `rt ci` tries them: the crate is proved once more, and each edit is checked over what was kept of that; with
       --quick over a copy of what `rt check` kept in the crate's folder, so that the edits alone are measured
   python3 tools/costs.py slow [--count N] [CRATE..]
-      the slowest functions of each crate's proof from nothing; what a function is the first to need of the
-      lemmas is counted with it
+      the slowest functions of each crate's proof from nothing, its tests among them; what a function is the first
+      to need of the lemmas is counted with it
+  python3 tools/costs.py kept [--count N] [CRATE..]
+      the same by the clock, of the modules that `rt check --jobs 1` from nothing left in out/incremental, told by
+      their files' times: Lts has the ways through a function, and Proof its goals
   python3 tools/costs.py list [CRATE..]
       each public function of the six libraries and the wrong bodies that belong to it, and where one is missing
 
@@ -119,7 +122,8 @@ def slow(rt, crates, count):
     for crate in crates:
         with tempfile.TemporaryDirectory(prefix="costs-") as room:
             copied(rt, crate, room)
-            words = [rt.rtlib.RATTLE, "check", *crate.words(["--jobs", "1"], keeps=False), "--progress"]
+            flags = crate.words(["--jobs", "1"], tests=crate.has_tests(), keeps=False)
+            words = [rt.rtlib.RATTLE, "check", *flags, "--progress"]
             found, before = [], 0.0
             pipes = {"stdin": subprocess.DEVNULL, "stdout": subprocess.PIPE, "stderr": subprocess.STDOUT}
             with subprocess.Popen(words, cwd=room, text=True, **pipes) as ran:
@@ -132,6 +136,31 @@ def slow(rt, crates, count):
         print(f"== {crate.name}: {before:.0f} s, {len(found)} functions")
         for took, name in sorted(found, reverse=True)[:count]:
             say(took, name)
+
+
+# The module of a function's that a file holds, behind the function's path.
+PART = re.compile(r"\.(Lts|Proof|Answers|Invariants|Statement|Tie|Code|Met|TheLink|Symbol)\b.*$")
+
+
+def kept(crates, count):
+    for crate in crates:
+        files = []
+        for at, _, names in os.walk(f"{crate.folder}/out/incremental"):
+            files += [(os.stat(f"{at}/{it}").st_mtime, it) for it in names if it.endswith(".oantt")]
+        parts, functions, before = {}, {}, None
+        for time_of, name in sorted(files):
+            label = name[: -len(".oantt")].replace(f"Rattle-{crate.name}-", "").removesuffix(".decls")
+            part = PART.search(f".{label}")
+            kind = part[1] if part else "the rest"
+            took = time_of - (time_of if before is None else before)
+            parts[kind] = parts.get(kind, 0) + took
+            at = (PART.sub("", label), kind)
+            functions[at] = functions.get(at, 0) + took
+            before = time_of
+        said = ", ".join(f"{kind} {took:.0f}" for kind, took in sorted(parts.items(), key=lambda it: -it[1])[:5])
+        print(f"== {crate.name}: {sum(parts.values()):.0f} s: {said}")
+        for (name, kind), took in sorted(functions.items(), key=lambda it: -it[1])[:count]:
+            say(took, f"{name} {kind}")
 
 
 IMPL = re.compile(r"(?:unsafe )?impl(?:<.*?>)? (?:(?P<of>[\w:]+(?:<.*?>)?) for )?(?P<type>\w+)")
@@ -203,7 +232,7 @@ def listing(rt, crates):
 
 def main():
     given = argparse.ArgumentParser(description=__doc__, formatter_class=argparse.RawDescriptionHelpFormatter)
-    given.add_argument("what", choices=["times", "slow", "list"])
+    given.add_argument("what", choices=["times", "slow", "kept", "list"])
     given.add_argument("crates", nargs="*")
     given.add_argument("--parts", default="proof,tests,edits")
     given.add_argument("--edit", default="", help="only the wrong bodies whose names match this")
@@ -214,6 +243,8 @@ def main():
     crates = [it for it in rt.rtlib.crates_below(TOP) if not asked.crates or it.name in asked.crates]
     if asked.what == "list":
         return listing(rt, crates)
+    if asked.what == "kept":
+        return kept(crates, asked.count)
     for crate in crates:
         if any(dep.build_rlib(["--jobs", "1"], anew=False) for dep in crate.below()):
             return f"a library below {crate.name} is not proved"

@@ -18,7 +18,8 @@ import tempfile
 
 sys.dont_write_bytecode = True
 
-from install import NAMES, TOP, bytes_of, files, script, stripped
+from install import TOP, bytes_of, files, script, stripped
+from names import LISTED, NAMES
 
 VERSION = bytes_of(f"{TOP}/VERSION").decode().strip()
 LICENSES = ["LICENSE-MIT", "LICENSE-APACHE"]
@@ -116,7 +117,7 @@ Architecture: amd64
 Maintainer: The ptext authors <ptext@ptext.invalid>
 Installed-Size: {size}
 Depends: libc6 (>= {libc})
-Description: cut, paste, join, comm, uniq and tr in one proved program
+Description: {tools} in one proved program
  The six POSIX tools for lines and fields as one program, whose first word
  names the tool. What it writes, what it says and how it ends is proved, for
  every command line and every input. If a read, a write or a request for memory
@@ -163,7 +164,8 @@ def deb(folder):
     with tempfile.TemporaryDirectory() as room:
         given = package_files()
         size = sum(len(text) // 1024 + 1 for _, _, text in given)
-        control = CONTROL.format(version=VERSION, size=size, libc=needed_libc(stripped(f"{TOP}/build/ptext")))
+        tools, libc = LISTED.replace(" or ", " and "), needed_libc(stripped(f"{TOP}/build/ptext"))
+        control = CONTROL.format(tools=tools, version=VERSION, size=size, libc=libc)
         sums = "".join(f"{hashlib.md5(text).hexdigest()}  {name}\n" for name, _, text in sorted(given))
         given += [("DEBIAN/control", 0o644, control.encode()), ("DEBIAN/md5sums", 0o644, sums.encode())]
         os.umask(0o022)

@@ -2,7 +2,7 @@
 """Installs the built program, its pages and its completion, and takes away exactly what was installed.
 
   python3 tools/install.py install PREFIX [DESTDIR]     the program, the pages, the completion
-  python3 tools/install.py tools PREFIX [DESTDIR]       libexec/ptext/bin: a script for each of the six names
+  python3 tools/install.py tools PREFIX [DESTDIR]       libexec/ptext/bin: a script for each tool
   python3 tools/install.py uninstall PREFIX [DESTDIR]   all of it, and the folders that were made for it
 
 Each file and each folder that was made is noted in share/ptext/installed. DESTDIR stands in front of every path that is
@@ -16,8 +16,11 @@ import subprocess
 import sys
 import tempfile
 
+sys.dont_write_bytecode = True
+
+from names import NAMES
+
 TOP = os.path.dirname(os.path.dirname(os.path.realpath(__file__)))
-NAMES = ["cut", "paste", "join", "comm", "uniq", "tr"]
 NOTED = "share/ptext/installed"
 # Each file that is installed, its mode, and where it comes from. (The program is stripped.)
 COMPLETION = [

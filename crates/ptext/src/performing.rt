@@ -1,13 +1,13 @@
 //! A command over real files.
 
-ghost use Rattle.std.specs.Prelude.{◌≡◌, ◌+◌, false, length, All, IfOk, vec_len, option_map};
+ghost use Rattle.std.specs.Prelude.{◌≡◌, ◌+◌, false, length, All, IfOk, Err, vec_len, option_map};
 ghost use Rattle.std.specs.List.{list_any};
 ghost use Rattle.ptlines.specs.Readers.{Reader};
 ghost use Rattle.ptext.specs.Outlets.{output_over, is_standard, means_standard};
 ghost use Rattle.ptopts.specs.Commands.{meaning};
-ghost use Rattle.ptopts.specs.Meant.{words_seen};
+ghost use Rattle.ptopts.specs.Meant.{words_seen, IsMeant, NamesTool};
 ghost use Rattle.ptrun.specs.Asked.{count_of};
-ghost use Rattle.ptrun.specs.Worlds.{IsFresh};
+ghost use Rattle.ptrun.specs.Worlds.{AreFresh, IsFresh};
 
 use crate::outlet::Outlet;
 use ptlines::{FromRead, FromWrite, LineReader, Sink, Source};
@@ -38,23 +38,44 @@ pub fn perform<'a, R: Files, A: Allocator + Copy, S: Source, W: Sink, E: Sink>(
     ensures kept { means_standard (meaning (words_seen words.now)) ≡ false → result.out ≡ out }
 {
     let command = Command::read(alloc, words);
-    let Ok(mut inputs) = inputs_of(rt, alloc, &command, standard) else {
-        return report_no_memory(out, messages);
-    };
+    match inputs_of(rt, alloc, &command, standard) {
+        Ok(mut inputs) => run_over(rt, alloc, command, words, &mut inputs, out, messages),
+        Err(_) => report_no_memory(out, messages),
+    }
+}
+
+// Runs a command over its inputs, and hands `out` back as `perform` does. It is lent the inputs, so that its exits
+// need not let them go.
+fn run_over<R: Files, A: Allocator + Copy, S: Source, W: Sink, E: Sink>(
+    rt: &R,
+    alloc: A,
+    command: Result<Command<'_, A>, UseFault<'_>>,
+    words: &[&str],
+    inputs: &mut [LineReader<S, FromRead<R::File>>],
+    out: W,
+    messages: E,
+) -> Report<W, E>
+    requires meant { IsMeant command (meaning (words_seen words.now)) }
+    requires memory { command ≡ Err UseFault.Memory → NamesTool (words_seen words.now) }
+    requires fresh { AreFresh (count_of command) inputs.old }
+    requires writable { (W.state out).failed ≡ false }
+    requires heard { (E.state messages).failed ≡ false }
+    ensures kept { means_standard (meaning (words_seen words.now)) ≡ false → result.out ≡ out }
+{
     if is_to_standard(&command) {
         let mut out = out;
         let standard: Outlet<'_, W, FromWrite<R::File>> = Outlet::Standard(&mut out);
-        let report = without_output(run(alloc, command, words, &mut inputs, standard, messages));
+        let report = without_output(run(alloc, command, words, inputs, standard, messages));
         return with_output(report, out);
     }
-    let outlet: Outlet<'_, W, FromWrite<R::File>> = match output_of(&command, &inputs) {
+    let outlet: Outlet<'_, W, FromWrite<R::File>> = match output_of(&command, inputs) {
         Some(name) => match fs::create(rt, name) {
             Ok(file) => Outlet::File(FromWrite::new(file)),
             Err(_) => return report_no_output(name, out, messages),
         },
         None => Outlet::Closed(false),
     };
-    let report = without_output(run(alloc, command, words, &mut inputs, outlet, messages));
+    let report = without_output(run(alloc, command, words, inputs, outlet, messages));
     with_output(report, out)
 }
 

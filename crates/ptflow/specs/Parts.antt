@@ -18,7 +18,7 @@ BeginsWith {X} x xs = (rest : List X) × (xs ≡ x ∷ rest)
 abbrev pub EndsWith : {X : Type 0} → X → List X → Type 0
 EndsWith {X} x xs = (front : List X) × (xs ≡ front ++ x ∷ [])
 
--- ---- cut: behind any line
+-- ---- cut: after any line
 
 abbrev pub CutOfParts : Type 0
 CutOfParts = (job : Cut) (a b : List ℕ) → IsWhole job.end a → cut job (a ++ b) ≡ cut job a ++ cut job b
@@ -39,7 +39,7 @@ MeetUnsqueezed tables a b = (byte : ℕ) → EndsWith byte (tr tables a) → Beg
 abbrev pub TrOfParts : Type 0
 TrOfParts = (tables : Tables) (a b : List ℕ) → MeetUnsqueezed tables a b → tr tables (a ++ b) ≡ tr tables a ++ tr tables b
 
--- behind a byte that is not deleted, and becomes one that is not squeezed
+-- after a byte that is not deleted, and becomes one that is not squeezed
 abbrev pub TrBehindByte : Type 0
 TrBehindByte = (tables : Tables) (byte : ℕ) (a b : List ℕ) → EndsWith byte a → deletes tables byte ≡ false → squeezes tables (image tables byte) ≡ false
     → tr tables (a ++ b) ≡ tr tables a ++ tr tables b
@@ -49,7 +49,7 @@ abbrev pub TrMeetsTwice : Type 0
 TrMeetsTwice = (tables : Tables) (byte : ℕ) (a b rest : List ℕ) → squeezes tables byte ≡ true → EndsWith byte (tr tables a) → tr tables b ≡ byte ∷ rest
     → tr tables (a ++ b) ≡ tr tables a ++ rest
 
--- ---- uniq: behind any line that has another key than the next one
+-- ---- uniq: after any line that has another key than the next one
 
 -- the last line of one part and the first of the other have two keys
 abbrev pub KeysChange : Uniq → List ℕ → List ℕ → Type 0
@@ -70,7 +70,7 @@ abbrev pub UniqByKey : Type 0
 UniqByKey = (job : Uniq) (taken : List ℕ → Bool) (bytes : List ℕ) → let ls = lines job.end bytes in AreGrouped job ls
     → uniq job (text job.end (filter (λ line. taken (key job line)) ls)) ≡ entries job (filter (λ (run : Run). taken (key job run.line)) (runs job ls))
 
--- ---- paste in rows: behind the same row in all inputs
+-- ---- paste in rows: after the same row in all inputs
 
 -- So many rows take all lines of the first part, where so many cells name it. It has as many and is whole,
 -- or no more and the second part is empty.
@@ -78,7 +78,7 @@ abbrev pub HasRows : ℕ → ℕ → ℕ → List ℕ → List ℕ → Type 0
 HasRows end rows cells a b =
     (IsWhole end a × (length (lines end a) ≡ rows * cells)) ⊎ ((b ≡ []) × (length (lines end a) ≤ rows * cells))
 
--- the parts of the inputs are told by their places
+-- the parts of the inputs are given by the places of the inputs
 abbrev pub PasteOfParts : Type 0
 PasteOfParts = (job : Paste) (cells : List ℕ) (rows : ℕ) (a b : ℕ → List ℕ)
     → ((place : ℕ) → 0 < times cells place → HasRows job.end rows (times cells place) (a place) (b place))

@@ -49,7 +49,7 @@ pub record MemoryBroke (old new : Reader) (out : Output) (store : Slots) : Type 
   pub failed : new.failed ≡ old.failed
   pub clean : out.faulted ≡ false
 
--- how a pass ended, and which fault is told
+-- how a pass ended, and which fault was answered
 abbrev pub Ends : Reader → Reader → Output → Slots → Result (Unit {0}) FlowFault → Type 0
 Ends old new out store (Ok u) = Finished old new out store
 Ends old new out store (Err (Read place)) = ReadBroke old new out store place

@@ -72,7 +72,7 @@ pub record RowMemoryBroke (old new : List Reader) (out : Output) (store : Slots)
   pub failed : NoReadBroke old new
   pub clean : out.faulted ≡ false
 
--- how it ended, and which fault is told
+-- how it ended, and which fault was answered
 abbrev pub RowsEnd : List ℕ → List Reader → List Reader → Output → Slots → Result (Unit {0}) FlowFault → Type 0
 RowsEnd cells old new out store (Ok u) = RowsFinished cells old new out store
 RowsEnd cells old new out store (Err (Read place)) = RowReadBroke cells old new out store place
@@ -91,7 +91,7 @@ pub record NothingRead (end : ℕ) (cells : List ℕ) (old new : List Reader) (w
   pub readers : (place : ℕ) → 0 < times cells place → reader_at new place ≡ record (reader_at old place) { ending = end }
   pub output : is ≡ was
 
--- What came of each reader is told by its place, and so are the texts that may stand behind it.
+-- What came of each reader is given by its place, and so are the texts that it may be a prefix of.
 pub record IsPastePass (job : Paste) (cells : List ℕ) (old new : List Reader) (was is : Output) (before store : Slots) (result : Result (Unit {0}) FlowFault) : Type 0 where
   pub given : ℕ → Given
   pub came : (place : ℕ) → Came (reader_at old place) (reader_at new place) (given place)

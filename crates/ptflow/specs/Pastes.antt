@@ -9,7 +9,7 @@ use Rattle.ptlangs.specs.Jobs.{Paste}
 use Rattle.ptflow.specs.Cuts.{chosen_from}
 use Rattle.ptflow.specs.Tools.{Tool}
 
--- what stands between the cells c and c + 1: a byte or nothing
+-- the delimiter between the cells c and c + 1: a byte or nothing
 abbrev pub delimiter : List (Option ℕ) → ℕ → List ℕ
 delimiter delims c = option_to_list (delim_at delims c)
 
@@ -25,7 +25,8 @@ glued_from delims c (x ∷ y ∷ more) = x ++ delimiter delims c ++ glued_from d
 abbrev pub paste_serial : Paste → List ℕ → List ℕ
 paste_serial job bytes = glued_from job.delimiters 0 (lines job.end bytes) ++ job.end ∷ []
 
--- what is decided once a part of the text came: its whole lines, and the end of the row where the end of the text was said
+-- what is decided once a part of the text came: its whole lines, and the end of the row where the end of the text was
+-- said
 abbrev pub serial_decided : Paste → Given → List ℕ
 serial_decided job given = glued_from job.delimiters 0 (whole_lines job.end given) ++ (if given.ended then job.end ∷ [] else [])
 
@@ -43,7 +44,8 @@ every k j ls = chosen_from (λ i. i % k == j) 0 ls
 abbrev pub times : List ℕ → ℕ → ℕ
 times cells place = count_by (λ p. p == place) cells
 
--- The column of each cell, where the inputs are told by their places: cells that name one input take its lines in turn.
+-- The column of each cell, where the inputs are given by their places: cells that name one input take its lines in
+-- turn.
 abbrev pub columns : List ℕ → (ℕ → List (List ℕ)) → List (List (List ℕ))
 columns cells inputs = map (λ (cell : ℕ × ℕ). every (times cells cell.1) (times (take cell.0 cells) cell.1) (inputs cell.1)) (enumerate_from 0 cells)
 
@@ -66,7 +68,7 @@ sheet job rs = text job.end (map (glued_from job.delimiters 0) rs)
 abbrev pub paste : Paste → List ℕ → (ℕ → List ℕ) → List ℕ
 paste job cells texts = sheet job (rows (columns cells (λ place. lines job.end (texts place))))
 
--- each cell of row r is there, or lies behind an end
+-- each cell of row r is there, or its input has ended before
 abbrev pub is_row_known : List (List (List ℕ)) → List Bool → ℕ → Bool
 is_row_known cols ended r = list_all (λ (c : List (List ℕ) × Bool). c.1 || nat_lt r (length c.0)) (zip cols ended)
 

@@ -8,7 +8,7 @@ use Rattle.ptflow.specs.Tools.{Tool}
 abbrev pub stays : (ℕ → Bool) → ℕ × ℕ → Bool
 stays squeezed pair = not ((pair.0 == pair.1) && squeezed pair.1)
 
--- the bytes behind the byte `last` that stay
+-- the bytes that stay of those after the byte `last`
 abbrev pub squeeze_behind : (ℕ → Bool) → ℕ → List ℕ → List ℕ
 squeeze_behind squeezed last bytes = map (λ (pair : ℕ × ℕ). pair.1) (filter (stays squeezed) (zip (last ∷ bytes) bytes))
 

@@ -23,7 +23,7 @@ abbrev pub word_ends : ℕ → List ℕ → List ℕ
 word_ends i [] = []
 word_ends i (b ∷ bytes) = if ends_word b bytes then i ∷ word_ends (i + 1) bytes else word_ends (i + 1) bytes
 
--- what stands behind the n-th word end, and nothing where there are fewer
+-- what follows the n-th end of a word, and nothing where there are fewer
 abbrev pub after_fields : ℕ → List ℕ → List ℕ
 after_fields zero line = line
 after_fields (suc n) line = option_map_or (λ end. drop (end + 1) line) (slice_get (word_ends 0 line) n) []
@@ -41,7 +41,7 @@ pub record Run : Type 0 where
   pub line : List ℕ
   pub count : ℕ
 
--- The runs, where a line stands in front of them: it is one of the first run, if that has its key, or a run by itself.
+-- The runs, where a line comes before them: it is one of the first run, if that has its key, or a run by itself.
 abbrev pub onto_runs : Uniq → List ℕ → List Run → List Run
 onto_runs job line [] = record { line = line; count = 1 } ∷ []
 onto_runs job line (run ∷ more) =
@@ -77,7 +77,7 @@ all_but_last (x ∷ y ∷ more) = x ∷ all_but_last (y ∷ more)
 abbrev pub uniq_decided : Uniq → Given → List ℕ
 uniq_decided job given = entries job (all_but_last (runs job (whole_lines job.end given)))
 
--- the store holds the first line of a run and the line behind it
+-- the store holds the first line of a run and the line after it
 abbrev pub uniq_tool : Uniq → Tool
 uniq_tool job =
     record { text = uniq job; decided = uniq_decided job; size = λ bytes. 2 * longest_line job.end bytes; slots = 2; end = job.end }

@@ -8,15 +8,15 @@ ghost use Rattle.ptflow.specs.Workings.Passes.Continuations.{Continues, Halts};
 use crate::faults::FlowFault;
 use ptlines::{LineReader, Out, Sink, Source, WriteFault};
 
-/// Such a tool, with what it carries from block to block.
+/// A tool that works block by block, as it is after the blocks so far: it carries something from one to the next.
 pub(crate) trait BlockTool: Drop {
-    /// What is written for the rest of an input.
+    /// What is written for the rest of an input by the tool as it is.
     ghost rest: { Self → List ℕ → List ℕ };
 
-    /// How many bytes it may have counted.
+    /// The most that any of its counters of bytes can be. It stays below 2^63, so that none overflows.
     ghost counted: { Self → ℕ };
 
-    /// What is true of it, where it was the first at the start.
+    /// Its invariant: what is true of the second, the tool as it is, if the first is the tool as it was at the start.
     ghost Holds: { Self → Self → Type 0 };
 
     /// Pushes what is written for a block.
@@ -32,7 +32,7 @@ pub(crate) trait BlockTool: Drop {
         ensures clean { OnOk result (out.new.faulted ≡ false) }
         ensures fault { OnErr result (out.new.faulted ≡ true) };
 
-    /// Pushes what is written at the end.
+    /// Pushes what is written once the input has ended.
     fn push_end<W: Sink>(&self, out: &mut Out<W>) -> Result<(), WriteFault>
         requires { out.old.faulted ≡ false }
         ensures wrote { Wrote out.old out.new (rest self.now []) }

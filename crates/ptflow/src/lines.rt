@@ -14,10 +14,10 @@ use crate::slots::need_slots;
 use ptlines::{LineFault, LineReader, Out, Sink, Source, Store, WriteFault};
 use std::alloc::Allocator;
 
-/// Such a tool. A line comes in the last of its slots, since it may come in pieces; the lines after it are worked
-/// where they lie in the reader's block.
+/// A tool that works line by line. The next line of a reader is put into the tool's last slot, since it may come in
+/// pieces; the lines after it are worked on where they lie in the reader's block.
 pub(crate) trait LineTool {
-    /// What it has from line to line.
+    /// What it carries from line to line, beside the lines in its slots.
     type State;
 
     /// How many slots it uses.
@@ -27,25 +27,25 @@ pub(crate) trait LineTool {
 
     ghost tool: { Self → Tool };
 
-    /// What it carries from line to line: its state, with what it keeps in the slots.
+    /// All that it carries from line to line: its state, and the lines in its slots.
     ghost Carried: { Type 0 };
 
     ghost carried: { Self.State → Slots → Carried };
 
-    /// What it makes of the rest of the lines, and what is written for that.
+    /// What it makes of the rest of the lines: a list of items, such as runs. `written` is what is written for these.
     ghost Item: { Type 0 };
 
     ghost rest: { Self → Carried → List (List ℕ) → List Item };
 
     ghost written: { Self → List Item → List ℕ };
 
-    /// Of how many lines it holds back what is written.
+    /// The number of lines for which it holds back what is written.
     ghost counted: { Carried → ℕ };
 
-    /// It may be used where this byte ends lines.
+    /// Whether it may be used where this byte ends lines.
     ghost Fits: { Self → ℕ → Type 0 };
 
-    /// Takes the line in the last slot.
+    /// Works on the line in the last slot.
     fn take_line<A: Allocator + Copy, W: Sink>(
         &self,
         ending: u8,
@@ -65,7 +65,7 @@ pub(crate) trait LineTool {
         ensures swapped { OnOk result (IsSwapped SLOTS store.old store.new) }
         ensures same { OnErr result (store.new ≡ store.old) };
 
-    /// Takes the lines whose end is in the block. The answer is how many bytes these are.
+    /// Works on the lines whose end is in the block. The answer is how many bytes these are, with their ends.
     fn take_block<A: Allocator + Copy, W: Sink>(
         &self,
         ending: u8,
@@ -86,7 +86,7 @@ pub(crate) trait LineTool {
             (carried state.old store.now) (ended_lines ending block.now) out.old out.new) }
         ensures passed { IfOk result (λ count. PassesLines ending block.now count) };
 
-    /// Pushes what is written at the end, and empties all slots but the last.
+    /// Pushes what is written once the input has ended, and empties all slots but the last.
     fn push_end<A: Allocator + Copy, W: Sink>(
         &self,
         ending: u8,

@@ -34,7 +34,7 @@ abbrev pub delim_list : List ℕ → Result (List (Option ℕ)) DelimFault
 delim_list [] = Err Empty
 delim_list (b ∷ bs) = delims (b ∷ bs)
 
--- the delimiter behind a column, where the list is used in turn
+-- the delimiter after a column, where the list is used in turn
 abbrev pub delim_at : List (Option ℕ) → ℕ → Option ℕ
 delim_at ds column = slice_index_or ds (column % length ds) None
 
@@ -46,7 +46,7 @@ pub data IsDelim : List ℕ → Option ℕ → Type 0 where
   Backslash : IsDelim (codes "\\\\") (Some backslash)
   Nothing : IsDelim (codes "\\0") None
 
--- elements behind one another
+-- elements one after another
 pub data IsDelimList : List ℕ → List (Option ℕ) → Type 0 where
   Last : (e : List ℕ) (d : Option ℕ) → IsDelim e d → IsDelimList e (d ∷ [])
   More : (e bs : List ℕ) (d : Option ℕ) (ds : List (Option ℕ)) → IsDelim e d → IsDelimList bs ds → IsDelimList (e ++ bs) (d ∷ ds)

@@ -1,4 +1,4 @@
--- What the tools are told by their options.
+-- What the options of the tools ask for.
 use Rattle.std.specs.Prelude.{ℕ, List, [], ◌∷◌, Bool, true, false, Option, Some, None, slice_index, slice_index_or}
 use Rattle.ptlangs.specs.CutLists.{is_selected}
 use Rattle.ptlangs.specs.declared.jobs.CutJob.{CutJob}
@@ -15,7 +15,7 @@ abbrev pub ending : Bool → ℕ
 ending true = 0
 ending false = 10
 
--- what `cut` is told
+-- what `cut` is to do
 pub record Cut : Type 0 where
   -- fields, and not bytes
   pub fields : Bool
@@ -36,7 +36,7 @@ cut_job job = record {
   end = ending job.zero;
 }
 
--- what `paste` is told
+-- what `paste` is to do
 pub record Paste : Type 0 where
   -- the lines of one file in a row
   pub serial : Bool
@@ -52,7 +52,7 @@ paste_job job = record { serial = job.serial; delimiters = job.delims; end = end
 abbrev pub default_paste : Paste
 default_paste = record { serial = false; delimiters = Some 9 ∷ []; end = 10 }
 
--- what `uniq` is told
+-- what `uniq` is to do
 pub record Uniq : Type 0 where
   pub show : Show
   -- how many fields, and then how many bytes, are not compared
@@ -68,7 +68,7 @@ uniq_job job = record { show = job.show; fields = job.fields; chars = job.chars;
 abbrev pub default_uniq : Uniq
 default_uniq = record { show = All; fields = 0; chars = 0; end = 10 }
 
--- what `comm` is told
+-- what `comm` is to do
 pub record Comm : Type 0 where
   -- the columns that are left out
   pub hide1 : Bool
@@ -92,7 +92,7 @@ comm_job job = record {
 abbrev pub default_comm : Comm
 default_comm = record { hide1 = false; hide2 = false; hide3 = false; end = 10; descending = false }
 
--- what `join` is told
+-- what `join` is to do
 pub record Join : Type 0 where
   -- pairs of lines are written
   pub pairs : Bool

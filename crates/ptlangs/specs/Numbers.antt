@@ -45,7 +45,7 @@ abbrev pub each : {A B E : Type 0} → (A → Result B E) → List A → Result 
 each read [] = Ok []
 each read (x ∷ xs) = and_then (read x) (λ y. put_first y (each read xs))
 
--- The same as a grammar: elements between single separators, where `Says` tells what an element says.
+-- The same as a grammar: elements between single separators, where `Says` relates an element to what it says.
 pub data IsListOf {A : Type 0} (Says : List ℕ → A → Type 0) : List ℕ → List A → Type 0 where
   Last : (e : List ℕ) (x : A) → Says e x → IsListOf Says e (x ∷ [])
   More : (e : List ℕ) (s : ℕ) (bs : List ℕ) (x : A) (xs : List A) → Says e x → is_separator s ≡ true → IsListOf Says bs xs → IsListOf Says (e ++ s ∷ bs) (x ∷ xs)

@@ -21,7 +21,7 @@ field_of file number =
     else (if nat_lt greatest (value number) then Err TooLarge
     else (if value number == 0 then Err Zero else Ok (Field file (value number))))
 
--- behind the name of a file, a point and a number
+-- after the number of a file, a point and a number
 abbrev pub pointed : ℕ → ℕ → List ℕ → Result OutField OutFault
 pointed name point number =
     if not (point == byte ".") then Err Malformed

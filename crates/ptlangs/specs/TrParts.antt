@@ -71,14 +71,14 @@ abbrev pub AreParts : List SetUnit → List Part → Type 0
 AreParts us [] = us ≡ []
 AreParts us (p ∷ ps) = (rest : List SetUnit) × Begins us p rest × AreParts rest ps
 
--- ---- the same, computed: a part that stands in front, and the rest behind it
+-- ---- the same, computed: the first part, and the rest after it
 
 abbrev pub is_plain : ℕ → SetUnit → Bool
 is_plain c (Plain b) = b == c
 is_plain c (Escaped b) = false
 is_plain c (Faulty k) = false
 
--- what follows this plain byte, if it stands in front
+-- what follows this plain byte, if it comes first
 abbrev pub behind : ℕ → List SetUnit → Option (List SetUnit)
 behind c [] = None
 behind c (u ∷ us) = if is_plain c u then Some us else None
@@ -87,7 +87,7 @@ behind c (u ∷ us) = if is_plain c u then Some us else None
 abbrev pub behind_two : ℕ → ℕ → List SetUnit → Option (List SetUnit)
 behind_two c d us = option_and_then (behind d) (behind c us)
 
--- the plain bytes that stand in front and pass
+-- the first plain bytes that pass
 abbrev pub plain_run : (ℕ → Bool) → List SetUnit → List ℕ
 plain_run test [] = []
 plain_run test (Plain b ∷ us) = if test b then b ∷ plain_run test us else []
@@ -101,7 +101,7 @@ behind_run test us = drop (length (plain_run test us)) us
 abbrev pub with_rest : Part → Option (List SetUnit) → Option (Part × List SetUnit)
 with_rest p rest = option_map (λ (us : List SetUnit). (p, us)) rest
 
--- each form, from behind its opening bracket
+-- each form, from the unit after its opening bracket
 abbrev pub repeat_digits : ℕ → List SetUnit → Option (Part × List SetUnit)
 repeat_digits v us = with_rest (Repeat v (repeat_count (plain_run is_ascii_digit us))) (behind (byte "]") (behind_run is_ascii_digit us))
 
@@ -145,7 +145,7 @@ abbrev pub range_to : ℕ → Result ℕ SetFaultKind → List SetUnit → Resul
 range_to a (Err k) us = Err k
 range_to a (Ok b) us = if nat_lt b a then Err Descending else Ok (Range a b, us)
 
--- a alone, or a range from a, by what follows a dash behind it
+-- a alone, or a range from a, by what follows a dash after it
 abbrev pub from_byte : ℕ → List SetUnit → Option (List SetUnit) → Result (Part × List SetUnit) SetFaultKind
 from_byte a us None = Ok (Single a, us)
 from_byte a us (Some []) = Ok (Single a, us)
@@ -159,7 +159,7 @@ abbrev pub or_unit : Option (Part × List SetUnit) → SetUnit → List SetUnit 
 or_unit (Some found) u us = Ok found
 or_unit None u us = from_unit (byte_of u) us
 
--- the part in front of these units, and the rest behind it
+-- the first part of these units, and the rest after it
 abbrev pub first_part : List SetUnit → Result (Part × List SetUnit) SetFaultKind
 first_part [] = Err Empty
 first_part (u ∷ us) = or_unit (form_at (u ∷ us)) u us
@@ -169,7 +169,7 @@ abbrev pub parts_from : Result (Part × List SetUnit) SetFaultKind → (List Set
 parts_from (Ok found) more = Ok found.0 ∷ more found.1
 parts_from (Err k) more = Err k ∷ []
 
--- the parts of the units behind the first `skip`
+-- the parts of the units after the first `skip`
 abbrev pub parts_behind : List SetUnit → ℕ → List (Result Part SetFaultKind)
 parts_behind [] skip = []
 parts_behind (u ∷ us) zero = parts_from (first_part (u ∷ us)) (λ rest. parts_behind us (length us - length rest))

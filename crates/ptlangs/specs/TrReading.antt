@@ -18,7 +18,7 @@ use Rattle.ptlangs.specs.TrUnits.{units}
 abbrev pub units_from : List ℕ → ℕ → List SetUnit
 units_from text at = units (drop at text)
 
--- a part that code found, and the units from the place behind it
+-- a part that code found, and the units from the place after it
 abbrev pub found_in : List ℕ → Part × ℕ → Part × List SetUnit
 found_in text found = (found.0, units_from text found.1)
 
@@ -30,7 +30,7 @@ ok_map {A} {B} {E} f r = result_map_both f (λ (e : E). e) r
 abbrev pub pieces_left : Pieces → List (Result Piece SetFaultKind)
 pieces_left p = pieces p.place p.filled (parts (units_from p.text.now p.at))
 
--- where each byte stands last in an array, and the array's length
+-- the last place of each byte in an array, and the array's length
 abbrev pub places_of : List ℕ → Places
 places_of bytes = record { last = map (λ b. last_place b bytes) all_bytes; length = length bytes }
 

@@ -9,7 +9,7 @@ shift_of b becomes = (becomes + (256 - b)) % 256
 
 -- ---- the stretches of a table
 
--- a byte that is moved, in front of the stretches of the bytes behind it: the first of them grows if it goes on there
+-- a byte that is moved, before the stretches of the bytes after it: the first of them grows if it goes on there
 abbrev pub in_front : ℕ → ℕ → List Stretch → List Stretch
 in_front b by [] = record { first = b; last = b; by = by } ∷ []
 in_front b by (s ∷ more) =
@@ -17,7 +17,7 @@ in_front b by (s ∷ more) =
     then record { first = b; last = s.last; by = by } ∷ more
     else record { first = b; last = b; by = by } ∷ s ∷ more
 
--- the stretches from a byte on, of which and of those behind it these are the images
+-- the stretches from a byte on: these are the images of it and of the bytes after it
 abbrev pub stretches_from : ℕ → List ℕ → List Stretch
 stretches_from b [] = []
 stretches_from b (becomes ∷ more) =

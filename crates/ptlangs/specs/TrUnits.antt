@@ -60,7 +60,7 @@ pub data SpellsUnits : List ℕ → List SetUnit → Type 0 where
 
 -- ---- the same, computed
 
--- the octal digits behind a backslash: at most three
+-- the octal digits after a backslash: at most three
 abbrev pub octal_run : List ℕ → List ℕ
 octal_run bs = take_while is_octal_digit (take 3 bs)
 
@@ -77,7 +77,7 @@ after_backslash (c ∷ bs) =
 abbrev pub unit_at : ℕ → List ℕ → SetUnit × ℕ
 unit_at b bs = if b == byte "\\" then after_backslash bs else (Plain b, 0)
 
--- the units of the bytes behind the first `skip`
+-- the units of the bytes after the first `skip`
 abbrev pub units_behind : List ℕ → ℕ → List SetUnit
 units_behind [] skip = []
 units_behind (b ∷ bs) zero = (unit_at b bs).0 ∷ units_behind bs (unit_at b bs).1

@@ -14,7 +14,7 @@ abbrev pub Moves : Reader → Reader → Slots → Slots → ℕ → ℕ → Res
 Moves old new before after slot count (Ok u) = (new ≡ record old { held = drop count old.held }) × (after ≡ with_line before slot (line before slot ++ take count old.held))
 Moves old new before after slot count (Err fault) = (new ≡ record old { fault = Some Memory }) × (after ≡ with_denied before) × (fault ≡ Memory)
 
--- the slot has these bytes behind those that it had
+-- the slot has these bytes after those that it had
 abbrev pub Grows : Slots → Slots → ℕ → List ℕ → Type 0
 Grows before after slot bytes = after ≡ with_line before slot (line before slot ++ bytes)
 
@@ -27,7 +27,7 @@ pub record GivesPiece (old new : Reader) (before after : Slots) (slot : ℕ) : T
   pub empty : new.held ≡ []
   pub grows : Grows before after slot piece
 
--- a piece was given, and the byte that ends the line behind it passed
+-- a piece was given, and the byte after it, which ends the line, was passed
 pub record GivesEnd (old new : Reader) (before after : Slots) (slot : ℕ) : Type 0 where
   pub piece : List ℕ
   pub goes : Goes old new (piece ++ old.ending ∷ [])
@@ -55,14 +55,14 @@ pub record GivesLine (old new : Reader) (before after : Slots) (slot : ℕ) : Ty
   pub stored : after ≡ with_line before slot line
   pub less : budget new < budget old
 
--- A beginning of the next line was given, and a read failed.
+-- A prefix of the next line was given, and a read failed.
 pub record BreaksRead (old new : Reader) (before after : Slots) (slot : ℕ) : Type 0 where
   pub piece : List ℕ
   pub faults : Faults old new piece Read
   pub cause : HasReadCause old new
   pub stored : after ≡ with_line before slot piece
 
--- A beginning of the next line was given, and a growth was refused; what comes next is still held.
+-- A prefix of the next line was given, and a growth was refused; what comes next is still held.
 pub record BreaksMemory (old new : Reader) (before after : Slots) (slot : ℕ) : Type 0 where
   pub piece : List ℕ
   pub faults : Faults old new piece Memory

@@ -1,4 +1,4 @@
--- What came of an input, and the inputs that it may be the beginning of.
+-- What came of an input, and the inputs of which it may be a prefix.
 use Rattle.std.specs.Prelude.{◌≡◌, ◌+◌, ℕ, Bool, true, List, [], ◌++◌, length, if◌then◌else◌}
 use Rattle.std.specs.Io.KnownBytes.{prepend_known, IsAtEnd}
 use Rattle.ptlines.specs.Text.{lines, ended_lines}
@@ -17,7 +17,7 @@ nothing_left = record { bytes = []; ended = true }
 abbrev pub whole_lines : ℕ → Given → List (List ℕ)
 whole_lines end given = if given.ended then lines end given.bytes else ended_lines end given.bytes
 
--- xs is a beginning of ys
+-- xs is a prefix of ys
 pub record Begins (xs ys : List ℕ) : Type 0 where
   pub rest : List ℕ
   pub is : ys ≡ xs ++ rest
@@ -28,7 +28,8 @@ pub record Agrees (given : Given) (input : List ℕ) : Type 0 where
   pub is : input ≡ given.bytes ++ rest
   pub whole : given.ended ≡ true → rest ≡ []
 
--- What came of a reader's source; the bytes that the reader held before stand in front. It doesn't matter which byte ends a line.
+-- What came of a reader's source, after the bytes that the reader held before. It doesn't matter which byte ends a
+-- line.
 pub record Came (old new : Reader) (given : Given) : Type 0 where
   pub moved : unread old ≡ prepend_known given.bytes new.left
   pub count : new.pulled + length old.held ≡ old.pulled + length given.bytes

@@ -1,4 +1,5 @@
--- Reading does not run ahead of writing, however it ends. Inputs are told by whatever names them: one alone, a side, a place.
+-- Reading does not run ahead of writing, however it ends. Inputs are given by whatever names them: one alone, a side, a
+-- place.
 use Rattle.std.specs.Prelude.{◌≡◌, ◌≤◌, ◌+◌, ℕ, true, List, ◌++◌, length, max}
 use Rattle.std.specs.Io.KnownBytes.{append_known}
 use Rattle.ptlines.specs.Inputs.{Given, Begins}
@@ -17,7 +18,7 @@ pub record WorksOff {I : Type 0} (decided : (I → Given) → List ℕ) (came : 
   pub before : (i : I) → Before (came i)
   pub begins : Begins (decided (λ i. (before i).earlier)) pushed
 
--- Of what was staged, and of these bytes behind it, all but a block has reached the sink.
+-- Of what was staged, and of these bytes after it, all but a block has reached the sink.
 pub record SendsOn (was is : Output) (bytes : List ℕ) : Type 0 where
   pub sent : List ℕ
   pub taken : is.taken ≡ append_known was.taken sent

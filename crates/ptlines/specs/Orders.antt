@@ -11,10 +11,10 @@ use Rattle.std.proofs.lemmas.Map.Text.{is_eq-slice_cmp}
 abbrev pub Cmp : Type 0
 Cmp = List ℕ → List ℕ → Ordering
 
--- by byte value, and a proper beginning before the longer text
+-- by byte value, and a proper prefix before the longer text
 abbrev pub byte_cmp : Cmp
 byte_cmp = slice_cmp nat_cmp
 
--- it tells all texts apart
+-- it finds no two different texts equal
 pub same_bytes : (a b : List ℕ) → byte_cmp a b ≡ Equal → a ≡ b
 same_bytes a b e = (bytes_decides a b).0 (sym (is_eq-slice_cmp a b) ∙ ap is_eq e)

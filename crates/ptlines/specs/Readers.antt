@@ -35,7 +35,7 @@ reader_of source held pulled fault refused ending = record {
 abbrev pub new_reader : SourceState → Bool → Reader
 new_reader source refused = reader_of source [] 0 None refused 10
 
--- the bytes that the reader has not given, where its source tells them
+-- the bytes that the reader has not given, if those of its source are known
 abbrev pub unread : Reader → Option (List ℕ)
 unread r = prepend_known r.held r.left
 

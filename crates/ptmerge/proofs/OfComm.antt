@@ -2,3 +2,4 @@
 pub mod CommEntries
 pub mod CommRows
 pub mod CommTurns
+pub mod Turns

@@ -2,6 +2,7 @@
 pub mod Backing
 pub mod Bounds
 pub mod Deciding
+pub mod GoingOn
 pub mod Got
 pub mod KeepingUpRows
 pub mod KeySpans

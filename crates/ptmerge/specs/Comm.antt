@@ -8,7 +8,7 @@ use Rattle.ptmerge.specs.declared.order.Side.TheVariants.{First, Second}
 use Rattle.ptmerge.specs.Keyed.{Tool}
 use Rattle.ptmerge.specs.Orders.{Cmp, Key, line_cmp, whole_line}
 
--- a tab for a column in front that is shown
+-- a tab for an earlier column that is shown
 abbrev pub tab_unless : Bool → List ℕ
 tab_unless hidden = if hidden then [] else byte "\t" ∷ []
 
@@ -16,7 +16,8 @@ tab_unless hidden = if hidden then [] else byte "\t" ∷ []
 abbrev pub entries_in : Bool → List ℕ → ℕ → List ℕ → List (List ℕ)
 entries_in hidden lead n line = if hidden then [] else replicate n (lead ++ line)
 
--- the entries of a line that is there c1 and c2 times: as many common ones as both have, and then what is left over in one
+-- the entries of a line that is there c1 and c2 times: as many common ones as both have, and then what is left over in
+-- one
 abbrev pub entries : Comm → List ℕ → ℕ → ℕ → List (List ℕ)
 entries job line c1 c2 =
     entries_in job.hide3 (tab_unless job.hide1 ++ tab_unless job.hide2) (min c1 c2) line

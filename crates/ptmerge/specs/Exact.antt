@@ -1,4 +1,4 @@
--- Byte order tells all texts apart.
+-- Byte order finds no two different texts equal.
 use Rattle.std.specs.Prelude.{◌≡◌, ℕ, List}
 use Rattle.std.proofs.Common.{sym}
 use Rattle.std.specs.declared.cmp.Ordering.TheVariants.{Equal}

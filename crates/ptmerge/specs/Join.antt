@@ -46,7 +46,7 @@ join_key job = field_keys job.separator job.field1 job.field2
 
 -- ---- what is written of a pair of lines, or of one
 
--- what stands between two fields
+-- what is written between two fields
 abbrev pub between : Option ℕ → ℕ
 between (Some c) = c
 between None = byte " "

@@ -57,13 +57,13 @@ by_keys tool wanted ls = flat_map (entries_of tool ls) (filter wanted (distinct 
 
 -- ---- disorder
 
--- the longest beginning whose keys never fall
+-- the longest prefix whose keys never fall
 abbrev pub ordered_part : Cmp → Key → Lines → Lines
 ordered_part cmp key [] = []
 ordered_part cmp key (x ∷ []) = x ∷ []
 ordered_part cmp key (x ∷ y ∷ more) = cond (is_gt (cmp (key x) (key y))) (x ∷ []) (x ∷ ordered_part cmp key (y ∷ more))
 
--- a list falls: behind which key, and at which line, counted from 1
+-- a list falls: after which key, and at which line, counted from 1
 pub record Fall : Type 0 where
   pub last_key : List ℕ
   pub line : ℕ
@@ -80,7 +80,7 @@ pub record Disorder : Type 0 where
   pub file : Side
   pub fall : Fall
 
--- of two inputs that fall, the one that falls behind the lesser key, or else the first
+-- of two inputs that fall, the one that falls after the lesser key, or else the first
 abbrev pub disorder_of : Cmp → Option Fall → Option Fall → Option Disorder
 disorder_of cmp None None = None
 disorder_of cmp None (Some b) = Some (record { file = Second; fall = b })
@@ -138,7 +138,7 @@ decided_entries tool ended ls = by_keys tool (is_decided tool ended ls) (ordered
 abbrev pub decided : Tool → (Side → Given) → List ℕ
 decided tool given = text tool.end (decided_entries tool (λ side. (given side).ended) (λ side. whole_lines tool.end (given side)))
 
--- a disorder is settled once its last key is decided: all that is in front of it
+-- a disorder is settled once its last key is decided: all that comes before it
 abbrev pub is_settled : Tool → (Side → Bool) → (Side → Lines) → Option Disorder → Bool
 is_settled tool ended ls None = false
 is_settled tool ended ls (Some d) = is_decided tool ended ls d.fall.last_key

@@ -107,7 +107,8 @@ abbrev pub Names : Option Disorder → Side → ℕ → Type 0
 Names None side number = ⊥
 Names (Some d) side number = (d.file ≡ side) × (d.fall.line ≡ number)
 
--- all was pushed that is written of two texts: they are in order, or this one is out of order at the line of this number
+-- all was pushed that is written of two texts: they are in order, or this one is out of order at the line of this
+-- number
 abbrev pub IsWhole : Tool → (Side → List ℕ) → List ℕ → Result (Unit {0}) MergeFault → Type 0
 IsWhole tool input pushed (Ok u) = (pushed ≡ merged tool input) × (disorder tool (lines_of tool input) ≡ None)
 IsWhole tool input pushed (Err (faults.Disorder side number)) = (pushed ≡ merged tool input) × Names (disorder tool (lines_of tool input)) side number
@@ -130,7 +131,7 @@ pub record IsMerge (tool : Tool) (old new : State) (result : Result (Unit {0}) M
   -- and so was, whatever failed and whatever came of the other input, what was decided two blocks of this one earlier
   pub keeps_up : (side : Side) → old.out.faulted ≡ false
       → KeepsUp {I = Unit {0}} (λ came. decided tool (put side (came tt) given)) (λ u. given side) old.out new.out pushed
-  -- nor is read on behind a disorder: it was not settled two blocks of this input earlier, whatever came of the other
+  -- nor is read on after a disorder: it was not settled two blocks of this input earlier, whatever came of the other
   pub ends_at_once : (side : Side) → old.out.faulted ≡ false
       → (before : Before (given side)) × (settled tool (put side before.earlier given) ≡ false)
   -- the store held no more than the inputs' measure

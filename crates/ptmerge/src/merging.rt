@@ -7,6 +7,7 @@ ghost use Rattle.ptlines.specs.Outputs.{Wrote};
 ghost use Rattle.ptlines.specs.Readers.{IsSound};
 ghost use Rattle.ptlines.specs.Slots.{line};
 ghost use Rattle.ptmerge.specs.declared.faults.MergeFault.TheVariants.{Write};
+ghost use Rattle.ptmerge.specs.LinePasses.{Passes, StandsAt};
 ghost use Rattle.ptmerge.specs.Places.{Advances};
 ghost use Rattle.ptmerge.specs.Sides.{both, other};
 ghost use Rattle.ptmerge.specs.Steps.{inputs, IsPlaced, IsLent, IsNext, Starts, CannotStart};
@@ -255,5 +256,28 @@ impl<K: KeyOrder> Merge<K> {
             Side::First => self.first.same,
             Side::Second => self.second.same,
         }
+    }
+
+    // Goes to the next line of an input that stands at one, by its own reader. What is staged is sent first, if that line
+    // may have to be waited for.
+    #[inline(always)]
+    pub(crate) fn go_on<A: Allocator + Copy, S: Source, R: Source, W: Sink>(
+        &mut self,
+        side: Side,
+        reader: &mut LineReader<S, R>,
+        store: &mut Store<A>,
+        out: &mut Out<W>,
+    ) -> Result<(), MergeFault>
+        requires stands { let key = K.key_of self.old.order in
+            StandsAt key side self.old.first self.old.second reader.old store.old }
+        requires clean { out.old.faulted ≡ false }
+        ensures sent { Wrote out.old out.new [] }
+        ensures passes { let key = K.key_of self.old.order in
+            Passes key (K.order self.old.order) side self.old.first self.old.second self.new.first self.new.second
+            reader.old reader.new store.old store.new out.new result }
+        ensures order { self.new.order ≡ self.old.order }
+    {
+        send_before_wait(reader, out)?;
+        self.advance(side, reader, store)
     }
 }

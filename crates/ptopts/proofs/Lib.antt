@@ -1,5 +1,6 @@
 pub mod Accepted
 pub mod Chosen
+pub mod EachTool
 pub mod Groups
 pub mod Judged
 mod MeantRows

@@ -3,14 +3,12 @@ use Rattle.std.proofs.Common.{◌≡◌, ℕ, suc, ◌+◌, ◌&&◌, Bool, true
 use Rattle.std.specs.Prelude.{not, nat_le}
 use Rattle.std.specs.List.{list_all}
 use Rattle.std.proofs.lemmas.Bool.Decides.{nat_tests}
-use Rattle.ptlangs.specs.Jobs as jobs
-use Rattle.ptopts.specs.declared.tool.Tool.{Tool}
-use Rattle.ptopts.specs.declared.tool.Tool.TheVariants.{Cut, Paste, Uniq, Comm, Join, Tr}
+use Rattle.ptopts.specs.declared.tool.Tool.TheVariants.{Paste}
 use Rattle.ptopts.specs.declared.inputs.Input.{Input}
 use Rattle.ptopts.specs.declared.inputs.Input.TheVariants.{Standard, File}
 use Rattle.ptopts.specs.Words.{GivenOption}
 use Rattle.ptopts.specs.Faults.{Fault, Operands, StandardTwice, is_between, is_standard, operands_fault}
-use Rattle.ptopts.specs.Commands.{Job, RunPaste, RunUniq, RunComm, RunJoin, job, inputs, or_standard, order_from}
+use Rattle.ptopts.specs.Commands.{or_standard, order_from}
 
 order_length : (n : ℕ) (operands : List (List ℕ)) → length (order_from n operands) ≡ length operands
 order_length n [] = refl
@@ -26,13 +24,8 @@ one_of [] = refl
 one_of (word ∷ words) = refl
 
 -- uniq has one input
-pub sole_input : (tool : Tool) (os : List GivenOption) (operands : List (List ℕ)) (told : jobs.Uniq) → job tool os operands ≡ RunUniq told → length (order_from 0 (inputs tool operands)) ≡ 1
-sole_input Cut os operands told is = cc
-sole_input Paste os operands told is = cc
-sole_input Uniq os operands told is = order_length 0 (take 1 (or_standard operands)) ∙ one_of operands
-sole_input Comm os operands told is = cc
-sole_input Join os operands told is = cc
-sole_input Tr os operands told is = cc
+pub sole_input : (operands : List (List ℕ)) → length (order_from 0 (take 1 (or_standard operands))) ≡ 1
+sole_input operands = order_length 0 (take 1 (or_standard operands)) ∙ one_of operands
 
 few_of : (some few : Bool) → cond (not ((some && few) && true)) (Some Operands) None ≡ None → few ≡ true
 few_of true true none = refl
@@ -40,14 +33,8 @@ few_of true false none = cc
 few_of false few none = cc
 
 -- paste has at most 512 inputs
-pub few_inputs : (tool : Tool) (os : List GivenOption) (operands : List (List ℕ)) (told : jobs.Paste) → operands_fault tool os operands ≡ None
-    → job tool os operands ≡ RunPaste told → nat_le (length (order_from 0 (inputs tool operands))) 512 ≡ true
-few_inputs Cut os operands told none is = cc
-few_inputs Paste os operands told none is = ap (λ (n : ℕ). nat_le n 512) (order_length 0 operands) ∙ few_of (nat_le 1 (length operands)) (nat_le (length operands) 512) none
-few_inputs Uniq os operands told none is = cc
-few_inputs Comm os operands told none is = cc
-few_inputs Join os operands told none is = cc
-few_inputs Tr os operands told none is = cc
+pub few_inputs : (os : List GivenOption) (operands : List (List ℕ)) → operands_fault Paste os operands ≡ None → nat_le (length (order_from 0 operands)) 512 ≡ true
+few_inputs os operands none = ap (λ (n : ℕ). nat_le n 512) (order_length 0 operands) ∙ few_of (nat_le 1 (length operands)) (nat_le (length operands) 512) none
 
 -- two inputs, which are not the same
 pub record AreTwo (order : List Input) : Type 0 where
@@ -62,16 +49,17 @@ two_of true false once = record { first = Standard; second = File 0; are = refl;
 two_of false true once = record { first = File 0; second = Standard; are = refl; differ = λ same. cc }
 two_of false false once = record { first = File 0; second = File 1; are = refl; differ = λ same. cc }
 
-two_operands : (operands : List (List ℕ)) → cond (not (is_between 2 2 (length operands) && true)) (Some Operands)
+-- comm and join have two inputs, and standard input is one of them at most
+pub two_inputs : (operands : List (List ℕ)) → cond (not (is_between 2 2 (length operands) && true)) (Some Operands)
     (cond (list_all is_standard operands) (Some StandardTwice) None) ≡ None → AreTwo (order_from 0 operands)
-two_operands [] none = cc
-two_operands (a ∷ []) none = cc
-two_operands (a ∷ b ∷ []) none = two_of (is_standard a) (is_standard b) (unblamed (is_standard a && (is_standard b && true)) none)
+two_inputs [] none = cc
+two_inputs (a ∷ []) none = cc
+two_inputs (a ∷ b ∷ []) none = two_of (is_standard a) (is_standard b) (unblamed (is_standard a && (is_standard b && true)) none)
   where
     unblamed : (twice : Bool) → cond twice (Some StandardTwice) None ≡ None → twice ≡ false
     unblamed true some = cc
     unblamed false some = refl
-two_operands (a ∷ b ∷ c ∷ more) none = absurd (blamed (is_between 2 2 (length (a ∷ b ∷ c ∷ more))) _ (too_many (length more)) none)
+two_inputs (a ∷ b ∷ c ∷ more) none = absurd (blamed (is_between 2 2 (length (a ∷ b ∷ c ∷ more))) _ (too_many (length more)) none)
   where
     too_many : (n : ℕ) → is_between 2 2 (suc (suc (suc n))) ≡ false
     too_many n = grind (arith, nat_tests)
@@ -79,19 +67,3 @@ two_operands (a ∷ b ∷ c ∷ more) none = absurd (blamed (is_between 2 2 (len
     blamed : (fits : Bool) (other : Option Fault) → fits ≡ false → cond (not (fits && true)) (Some Operands) other ≡ None → ⊥
     blamed true other is some = cc
     blamed false other is some = cc
-
--- comm and join
-abbrev pub is_of_two : Job → Bool
-is_of_two (RunComm told) = true
-is_of_two (RunJoin told) = true
-is_of_two _ = false
-
--- comm and join have two inputs, and standard input is one of them at most
-pub two_inputs : (tool : Tool) (os : List GivenOption) (operands : List (List ℕ)) → operands_fault tool os operands ≡ None → is_of_two (job tool os operands)
-    ≡ true → AreTwo (order_from 0 (inputs tool operands))
-two_inputs Cut os operands none is = cc
-two_inputs Paste os operands none is = cc
-two_inputs Uniq os operands none is = cc
-two_inputs Comm os operands none is = two_operands operands none
-two_inputs Join os operands none is = two_operands operands none
-two_inputs Tr os operands none is = cc

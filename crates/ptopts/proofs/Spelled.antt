@@ -4,8 +4,8 @@ use Rattle.std.specs.Prelude.{IsTrue, slice_get, nat_lt, ◌<◌}
 use Rattle.std.specs.List.{list_all}
 use Rattle.std.proofs.lemmas.Bool.{and_parts, eqb-true, or_cases, not-true, ne_eqb, cases_Bool, ltb-true}
 use Rattle.ptopts.specs.declared.tool.Tool.{Tool}
-use Rattle.ptopts.specs.declared.tool.Tool.TheVariants.{Cut, Paste, Uniq, Comm, Join, Tr}
 use Rattle.ptopts.specs.Syntax.{syntax}
+use Rattle.ptopts.proofs.EachTool.{row_is}
 use Rattle.ptopts.specs.Words.{has_letter, is_flag, takes_value, GivenOption, flag, with_value, AreFlags, Spells, OperandsAlone, EndOfOptions, Flags}
 use Rattle.ptopts.specs.Words.{ValueAttached, ValueNext, Event, Given, events_in, takes_next, Reading, reading_from, prefixed, begins_with_operand}
 
@@ -17,33 +17,8 @@ all_of p (c ∷ cs) l a h =
     ⊎_elim (λ e. subst (λ x. p x ≡ true) (eqb-true c l e) both.0) (all_of p cs l both.1) (or_cases (c == l) (has_letter l cs) h)
 
 -- no letter with a value is a flag
-disjoint : (tool : Tool) → list_all (λ l. not (is_flag tool l)) (syntax tool).valued ≡ true
-disjoint Cut = refl
-disjoint Paste = refl
-disjoint Uniq = refl
-disjoint Comm = refl
-disjoint Join = refl
-disjoint Tr = refl
-
 pub no_flag : (tool : Tool) (l : ℕ) → takes_value tool l ≡ true → is_flag tool l ≡ false
-no_flag tool l h = not-true (is_flag tool l) (all_of (λ x. not (is_flag tool x)) (syntax tool).valued l (disjoint tool) h)
-
--- a dash is no letter
-dash_is_no_flag : (tool : Tool) → is_flag tool 45 ≡ false
-dash_is_no_flag Cut = refl
-dash_is_no_flag Paste = refl
-dash_is_no_flag Uniq = refl
-dash_is_no_flag Comm = refl
-dash_is_no_flag Join = refl
-dash_is_no_flag Tr = refl
-
-dash_takes_no_value : (tool : Tool) → takes_value tool 45 ≡ false
-dash_takes_no_value Cut = refl
-dash_takes_no_value Paste = refl
-dash_takes_no_value Uniq = refl
-dash_takes_no_value Comm = refl
-dash_takes_no_value Join = refl
-dash_takes_no_value Tr = refl
+no_flag tool l h = not-true (is_flag tool l) (all_of (λ x. not (is_flag tool x)) (syntax tool).valued l (row_is tool).disjoint h)
 
 not_dash : (l : ℕ) (cs : List ℕ) → has_letter l cs ≡ true → has_letter 45 cs ≡ false → (l ≡ 45) → ⊥
 not_dash l cs h n e = let bad : has_letter 45 cs ≡ true = subst (λ x. has_letter x cs ≡ true) e h in cc
@@ -84,9 +59,9 @@ group_is_read tool l ls ws n = rw (ne_eqb l 45 n) refl
 valued_group : (tool : Tool) (fs : List ℕ) (l : ℕ) (rest : List ℕ) (ws : List (List ℕ)) → AreFlags tool fs → takes_value tool l ≡ true
     → reading_from tool false ((45 ∷ fs ++ l ∷ rest) ∷ ws)
     ≡ prefixed (events_in tool (45 ∷ fs ++ l ∷ rest) (slice_get ws 0) (fs ++ l ∷ rest)) (reading_from tool (takes_next tool (fs ++ l ∷ rest)) ws)
-valued_group tool [] l rest ws a t = group_is_read tool l rest ws (not_dash l (syntax tool).valued t (dash_takes_no_value tool))
+valued_group tool [] l rest ws a t = group_is_read tool l rest ws (not_dash l (syntax tool).valued t (row_is tool).dash_takes_no_value)
 valued_group tool (f ∷ fs) l rest ws a t =
-    group_is_read tool f (fs ++ l ∷ rest) ws (not_dash f (syntax tool).flags (and_parts (is_flag tool f) (list_all (is_flag tool) fs) a).0 (dash_is_no_flag tool))
+    group_is_read tool f (fs ++ l ∷ rest) ws (not_dash f (syntax tool).flags (and_parts (is_flag tool f) (list_all (is_flag tool) fs) a).0 (row_is tool).dash_is_no_flag)
 
 -- what a group is read as, once its events and what it takes are known
 group_gives : (tool : Tool) (ws : List (List ℕ)) (es es' : List Event) (t t' : Bool) → es ≡ es' → t ≡ t'
@@ -136,7 +111,7 @@ pub spelled : (tool : Tool) {ws : List (List ℕ)} {options : List GivenOption} 
 spelled tool (OperandsAlone operands first) = ends_here tool operands first
 spelled tool (EndOfOptions operands) = refl
 spelled tool (Flags f fs words options operands a s) =
-    group_is_read tool f fs words (not_dash f (syntax tool).flags (and_parts (is_flag tool f) (list_all (is_flag tool) fs) a).0 (dash_is_no_flag tool))
+    group_is_read tool f fs words (not_dash f (syntax tool).flags (and_parts (is_flag tool f) (list_all (is_flag tool) fs) a).0 (row_is tool).dash_is_no_flag)
     ∙ (group_gives tool words _ _ _ _ (events_in-all_flags tool (45 ∷ f ∷ fs) (slice_get words 0) (f ∷ fs) a) (takes_next-all_flags tool (f ∷ fs) a)
     ∙ (ap (prefixed (map Given (map flag (f ∷ fs)))) (spelled tool s) ∙ join_flags (f ∷ fs) options operands))
 spelled tool (ValueAttached fs l b bs words options operands a t s) =
@@ -155,13 +130,5 @@ spelled tool (ValueNext fs l value words options operands a t s) =
     ∙ (ap (prefixed (map Given (map flag fs) ++ Given (with_value l value) ∷ [])) (spelled tool s) ∙ join_group fs (with_value l value) options operands))
 
 -- the letters are ASCII
-valued_are_ascii : (tool : Tool) → list_all (λ l. nat_lt l 128) (syntax tool).valued ≡ true
-valued_are_ascii Cut = refl
-valued_are_ascii Paste = refl
-valued_are_ascii Uniq = refl
-valued_are_ascii Comm = refl
-valued_are_ascii Join = refl
-valued_are_ascii Tr = refl
-
 pub valued_is_ascii : (tool : Tool) (l : ℕ) → takes_value tool l ≡ true → l < 128
-valued_is_ascii tool l h = ltb-true l 128 (all_of (λ x. nat_lt x 128) (syntax tool).valued l (valued_are_ascii tool) h)
+valued_is_ascii tool l h = ltb-true l 128 (all_of (λ x. nat_lt x 128) (syntax tool).valued l (row_is tool).ascii h)

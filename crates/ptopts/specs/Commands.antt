@@ -21,7 +21,7 @@ use Rattle.ptopts.specs.declared.inputs.Input.TheVariants.{Standard, File}
 use Rattle.ptopts.specs.Words.{GivenOption, tool_named, Reading, reading, options, has, value_of, values_of}
 use Rattle.ptopts.specs.Faults.{Fault, NoTool, first_of, end_given, list_given, reading_fault, combination_fault, values_fault, operands_fault, strings_fault, plan_given, is_standard}
 
--- what a tool is told
+-- what a tool is to do
 pub data Job : Type 0 where
   RunCut : jobs.Cut → Job
   RunPaste : jobs.Paste → Job

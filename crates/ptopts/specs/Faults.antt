@@ -15,7 +15,7 @@ use Rattle.ptlangs.specs.declared.faults.SetFault.{SetFault}
 use Rattle.ptlangs.specs.declared.plan.Form.{Form}
 use Rattle.ptlangs.specs.declared.plan.Form.TheVariants.{Translate, TranslateSqueeze, Squeeze, Delete, DeleteSqueeze}
 use Rattle.ptopts.specs.declared.tool.Tool.{Tool}
-use Rattle.ptopts.specs.declared.tool.Tool.TheVariants.{Cut, Paste, Uniq, Comm, Join, Tr}
+use Rattle.ptopts.specs.declared.tool.Tool.TheVariants.{Cut, Paste, Uniq, Join, Tr}
 use Rattle.ptopts.specs.declared.tool.Combination.{Combination}
 use Rattle.ptopts.specs.declared.tool.Combination.TheVariants.{Apart, OneOf}
 use Rattle.ptopts.specs.Syntax.{syntax}
@@ -126,14 +126,13 @@ values_fault Cut options = first_of (map (value_fault options) (
     ∷ (byte "d", is_delimiter (end_given options)) ∷ []))
 values_fault Paste options = value_fault options (byte "d", is_delimiter_list)
 values_fault Uniq options = first_of (map (value_fault options) ((byte "f", is_count) ∷ (byte "s", is_count) ∷ []))
-values_fault Comm options = None
 values_fault Join options = first_of (
     each_value_fault options (byte "a", is_file_number)
     ∷ each_value_fault options (byte "v", is_file_number)
     ∷ map (value_fault options) (
     (byte "o", is_output_list) ∷ (byte "t", is_delimiter (end_given options))
     ∷ (byte "1", is_field_number) ∷ (byte "2", is_field_number) ∷ []))
-values_fault Tr options = None
+values_fault _ options = None
 
 -- ---- operands
 

@@ -62,7 +62,7 @@ pub record ReadsWords (tool : Tool) (words : List (List ℕ)) (os : List GivenOp
 abbrev pub FailsWords : Tool → List (List ℕ) → UseFault → Type 0
 FailsWords tool words e = OnSome (meant e) (reading_fault tool [] (reading tool words).events ≡ meant e)
 
--- the words behind a group that took the next one, or did not
+-- the words after a group that took the next one, or did not
 abbrev pub behind_taken : Bool → List (List ℕ) → List (List ℕ)
 behind_taken true [] = []
 behind_taken true (word ∷ words) = words

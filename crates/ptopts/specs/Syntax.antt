@@ -44,6 +44,10 @@ row flags valued repeatable combinations least most once = record {
   once = once;
 }
 
+-- the tools by their names
+abbrev pub tools : List (List ℕ × Tool)
+tools = (codes "cut", Cut) ∷ (codes "paste", Paste) ∷ (codes "join", Join) ∷ (codes "comm", Comm) ∷ (codes "uniq", Uniq) ∷ (codes "tr", Tr) ∷ []
+
 abbrev pub combinations : Tool → List Combination
 combinations Cut =
     apart "bc" ∷ apart "bf" ∷ apart "cf" ∷ one_of "bcf"

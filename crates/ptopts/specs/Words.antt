@@ -6,11 +6,7 @@ use Rattle.std.specs.Option.{option_map_or}
 use Rattle.std.specs.Str.{byte}
 use Rattle.ptlangs.specs.Numbers.{is_empty}
 use Rattle.ptopts.specs.declared.tool.Tool.{Tool}
-use Rattle.ptopts.specs.declared.tool.Tool.TheVariants.{Cut, Paste, Uniq, Comm, Join, Tr}
-use Rattle.ptopts.specs.Syntax.{syntax}
-
-abbrev pub tools : List (List ℕ × Tool)
-tools = (codes "cut", Cut) ∷ (codes "paste", Paste) ∷ (codes "uniq", Uniq) ∷ (codes "comm", Comm) ∷ (codes "join", Join) ∷ (codes "tr", Tr) ∷ []
+use Rattle.ptopts.specs.Syntax.{syntax, tools}
 
 abbrev pub tool_named : List ℕ → Option Tool
 tool_named name = option_map (λ (t : List ℕ × Tool). t.1) (find (λ (t : List ℕ × Tool). bytes_eq name t.0) tools)
@@ -48,7 +44,7 @@ abbrev pub begins_with_operand : List (List ℕ) → Bool
 begins_with_operand [] = true
 begins_with_operand (word ∷ words) = not (is_dashed word)
 
--- ---- the grammar: words, the options in them, and the operands behind these
+-- ---- the grammar: words, the options in them, and the operands after these
 
 abbrev pub AreFlags : Tool → List ℕ → Type 0
 AreFlags tool letters = IsTrue (list_all (is_flag tool) letters)

@@ -15,3 +15,4 @@ pub use command::Command;
 pub use fault::UseFault;
 pub use grammar::{commands_are_spelled, words_have_one_reading};
 pub use inputs::{Input, Inputs};
+pub use tool::TOOLS;

@@ -4,7 +4,10 @@ ghost use Rattle.std.specs.Prelude.{◌≡◌, Bool};
 ghost use Rattle.ptopts.specs.Syntax.{syntax, row_seen};
 ghost use Rattle.ptopts.specs.Words.{tool_named, is_flag, takes_value, has_letter};
 
-/// One of the six tools.
+/// The names of the tools, as a sentence lists them.
+pub const TOOLS: &str = "cut, paste, join, comm, uniq or tr";
+
+/// One of the tools.
 #[derive(Clone, Copy, Debug, PartialEq, Eq)]
 pub(crate) enum Tool {
     Cut,
@@ -129,9 +132,9 @@ impl Tool {
         match name {
             "cut" => Some(Tool::Cut),
             "paste" => Some(Tool::Paste),
-            "uniq" => Some(Tool::Uniq),
-            "comm" => Some(Tool::Comm),
             "join" => Some(Tool::Join),
+            "comm" => Some(Tool::Comm),
+            "uniq" => Some(Tool::Uniq),
             "tr" => Some(Tool::Tr),
             _ => None,
         }

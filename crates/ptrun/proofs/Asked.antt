@@ -1,7 +1,8 @@
 -- What is asked for by words, as the command that was read of them says it.
-use Rattle.std.proofs.Common.{◌≡◌, ⊎_elim, ℕ, ◌+◌, ◌<◌, ◌==◌, true, false, cond, List, Option, Some, None, Result, Ok, Err, length, refl, ◌∙◌, ap, subst, arith}
+use Rattle.std.proofs.Common.{◌≡◌, ⊎_elim, ℕ, ◌+◌, ◌<◌, ◌==◌, Bool, true, false, cond, List, Option, Some, None, Result, Ok, Err, length, refl, ◌∙◌, ap, sym, subst, arith}
 use Rattle.std.specs.Prelude.{All, is_none, not, nat_le}
 use Rattle.std.proofs.lemmas.List.{length-map}
+use Rattle.std.proofs.lemmas.List.Elements.{All-map}
 use Rattle.std.proofs.lemmas.Bool.Decides.{nat_tests, eqb_tells}
 use Rattle.ptlangs.specs.Answers.{IsFault}
 use Rattle.ptlines.specs.Readers.{Reader}
@@ -10,21 +11,22 @@ use Rattle.ptopts.specs.declared.command.Command as code
 use Rattle.ptmerge.specs.Comm.{comm_tool}
 use Rattle.ptmerge.specs.Join.{join_tool}
 use Rattle.ptmerge.specs.Keyed.{Tool as Paired}
-use Rattle.ptlangs.specs.Jobs as jobs
 use Rattle.ptopts.specs.declared.inputs.Input.{Input}
 use Rattle.ptopts.specs.declared.inputs.Input.TheVariants.{Standard, File}
 use Rattle.ptopts.specs.Laws.{SpellsCommand, Spelled}
 use Rattle.ptopts.proofs.Accepted.{meant_as_spelled}
-use Rattle.ptopts.proofs.SoleInputs.{AreTwo, is_of_two, sole_input, few_inputs, two_inputs}
+use Rattle.ptopts.proofs.SoleInputs.{AreTwo}
+use Rattle.ptopts.proofs.EachTool.{AreTaken, are_taken}
 use Rattle.ptopts.specs.Faults.{Fault}
-use Rattle.ptopts.specs.Commands.{Command, Job, RunCut, RunPaste, RunUniq, RunComm, RunJoin, RunTr, meaning, job, inputs, order_from}
+use Rattle.ptopts.specs.Commands.{Command, Job, RunCut, RunPaste, RunUniq, RunComm, RunJoin, RunTr, meaning, inputs}
 use Rattle.ptopts.specs.Meant.{meant, seen, IsMeant}
 use Rattle.ptrun.specs.Meanings.{Meaning}
 use Rattle.ptrun.specs.Messages.{said_of, status_of}
 use Rattle.ptrun.specs.Operands.{place, places}
+use Rattle.ptrun.specs.Engines.{AreGiven}
 use Rattle.ptrun.specs.Together.{of_two}
-use Rattle.ptrun.specs.Asked.{saying, is_taking, command_meaning, meaning_in, tool_word, asked, asked_as, is_denied}
-use Rattle.ptrun.specs.Worlds.{IsFresh}
+use Rattle.ptrun.specs.Asked.{saying, job_meaning, command_meaning, meaning_in, tool_word, asked, asked_as, is_denied}
+use Rattle.ptrun.specs.Worlds.{IsFresh, AreFresh}
 use Rattle.ptrun.specs.Runs.{Sinks, Outcome, IsRun, Headline}
 use Rattle.ptrun.proofs.Order.{places_within}
 use Rattle.ptrun.proofs.Runs.{headline_of}
@@ -44,10 +46,6 @@ pub asked_refused : {A : Type 0} (command : Result (code.Command A) UseFault) (w
     → asked_as command words ≡ saying (said_of (tool_word words) (meant fault)) (status_of (meant fault))
 asked_refused command words fault is m = rw is (refused_in words (meant fault) (subst (λ r. IsMeant r (meaning words)) is m))
 
--- each operand has a reader, and the tool takes them
-abbrev pub Fit : Command → Type 0
-Fit c = All (λ o. place o < length c.names + 1) c.order × (is_taking c.job (places c.order) ≡ true)
-
 place_differs : (a b : Input) → (a ≡ b → ⊥) → (place a == place b) ≡ false
 place_differs Standard Standard differ = absurd (differ refl)
 place_differs Standard (File j) differ = grind (arith, nat_tests)
@@ -58,24 +56,40 @@ place_differs (File i) (File j) differ = ⊎_elim (λ k. absurd (differ (let sam
 two_places : (t : Paired) (order : List Input) → AreTwo order → (of_two t).takes (places order) ≡ true
 two_places t order two = rw (two.are) (ap not (place_differs two.first two.second two.differ))
 
-takes : (told : Job) (order : List Input) → ((u : jobs.Uniq) → told ≡ RunUniq u → length order ≡ 1)
-    → ((u : jobs.Paste) → told ≡ RunPaste u → nat_le (length order) 512 ≡ true) → (is_of_two told ≡ true → AreTwo order) → is_taking told (places order) ≡ true
-takes (RunCut u) order one few two = refl
-takes (RunPaste u) order one few two = ap (λ (n : ℕ). nat_le n 512) (length-map order place) ∙ few u refl
-takes (RunUniq u) order one few two = ap (λ (n : ℕ). n == 1) (length-map order place ∙ one u refl)
-takes (RunComm u) order one few two = two_places (comm_tool u) order (two refl)
-takes (RunJoin u) order one few two = two_places (join_tool u) order (two refl)
-takes (RunTr u) order one few two = refl
+-- what is asked for over files of these names and operands at these places, which the tool takes
+record IsOver (m : Meaning) (names : List (List ℕ)) (places : List ℕ) : Type 0 where
+  named : m.names ≡ names
+  placed : m.places ≡ places
+  taken : m.takes ≡ true
 
-fit_spelled : (words : List (List ℕ)) (c : Command) → SpellsCommand words c → Fit c
-fit_spelled words c (Spelled name rest tool os operands named s allowed) = (
-  λ k d within. omega (arith, places_within 0 (inputs tool operands) k d within),
-  takes (job tool os operands) (order_from 0 (inputs tool operands))
-      (sole_input tool os operands) (λ u is. few_inputs tool os operands u allowed.inputs is) (two_inputs tool os operands allowed.inputs),
-)
+either : (t : Bool) (m n : Meaning) (names : List (List ℕ)) (places : List ℕ) → IsOver m names places → IsOver n names places → IsOver (cond t m n) names places
+either true m n names places first second = first
+either false m n names places first second = second
 
-pub operands_fit : {A : Type 0} (command : Result (code.Command A) UseFault) (words : List (List ℕ)) (c : code.Command A) → command ≡ Ok c → IsMeant command (meaning words) → Fit (seen c)
-operands_fit command words c is m = fit_spelled words (seen c) ((meant_as_spelled words (seen c)).1 (rw is at m))
+are_over : (told : Job) (order : List Input) (names : List (List ℕ)) → AreTaken told order → IsOver (job_meaning told names (places order)) names (places order)
+are_over (RunCut u) order names taken = record { named = refl; placed = refl; taken = refl }
+are_over (RunPaste u) order names few =
+    either u.serial _ _ names _ (record { named = refl; placed = refl; taken = refl })
+    (record { named = refl; placed = refl; taken = ap (λ (n : ℕ). nat_le n 512) (length-map order place) ∙ few })
+are_over (RunUniq u) order names one = record { named = refl; placed = refl; taken = ap (λ (n : ℕ). n == 1) (length-map order place ∙ one) }
+are_over (RunComm u) order names two = record { named = refl; placed = refl; taken = two_places (comm_tool u) order two }
+are_over (RunJoin u) order names two = record { named = refl; placed = refl; taken = two_places (join_tool u) order two }
+are_over (RunTr u) order names taken = record { named = refl; placed = refl; taken = refl }
+
+given_spelled : (words : List (List ℕ)) (c : Command) (readers : List Reader) → SpellsCommand words c → AreFresh (length c.names) readers → AreGiven (command_meaning c) readers
+given_spelled words c readers (Spelled name rest tool os operands named s allowed) fresh =
+    let is = are_over c.job c.order c.names (are_taken tool os operands allowed.inputs) in record {
+      fresh = fresh.1;
+      fits = subst (λ (l : List ℕ). All (λ (p : ℕ). p < length readers) l) (sym is.placed) (All-map (λ (p : ℕ). p < length readers) place c.order
+          (λ k d within. omega (arith, places_within 0 (inputs tool operands) k d within, fresh.0)));
+      named = fresh.0 ∙ ap (λ (l : List (List ℕ)). length l + 1) (sym is.named);
+      taken = is.taken;
+    }
+
+-- each operand of words without a fault has a reader, and the tool takes these operands
+pub operands_given : {A : Type 0} (command : Result (code.Command A) UseFault) (words : List (List ℕ)) (c : code.Command A) (readers : List Reader) → command ≡ Ok c
+    → IsMeant command (meaning words) → AreFresh (length (seen c).names) readers → AreGiven (command_meaning (seen c)) readers
+operands_given command words c readers is m fresh = given_spelled words (seen c) readers ((meant_as_spelled words (seen c)).1 (rw is at m)) fresh
 
 -- where memory was not denied, the run is what the words ask for
 pub headline_asked : {A : Type 0} (command : Result (code.Command A) UseFault) (words : List (List ℕ)) (old new : List Reader) (before : Sinks) (o : Outcome)

@@ -35,7 +35,8 @@ use Rattle.ptrun.specs.Engines.{Checks, AreReady, blame, last_words, status_afte
 use Rattle.ptrun.proofs.Sayings.{tells_nothing, tells_trans}
 use Rattle.ptrun.proofs.Sources.{any_same, any_more, unopened_more}
 use Rattle.ptrun.proofs.Order.{fresh_all, pass_here}
-use Rattle.ptrun.proofs.InTurn.{Pass, refused_same, pass_nothing, pass_last, pass_stopped}
+use Rattle.ptrun.proofs.OnePlace.{refused_same}
+use Rattle.ptrun.proofs.InTurn.{Pass, pass_nothing, pass_last, pass_stopped}
 
 -- ---- an operand could not be opened
 

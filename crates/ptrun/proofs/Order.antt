@@ -9,12 +9,10 @@ use Rattle.ptlines.specs.Slots.{Slots}
 use Rattle.ptflow.specs.Tools.{Tool}
 use Rattle.ptflow.specs.Passes.{IsPass}
 use Rattle.ptflow.specs.declared.faults.FlowFault.{FlowFault}
-use Rattle.ptrun.specs.Worlds.{reader_at, no_reader, IsFresh, AreFresh}
-use Rattle.ptrun.specs.Meanings.{Meaning}
+use Rattle.ptrun.specs.Worlds.{reader_at, no_reader, IsFresh}
 use Rattle.ptrun.specs.Operands.{place, places}
 use Rattle.std.specs.Prelude.{All, not}
-use Rattle.std.proofs.lemmas.List.Elements.{All-nil, All-cons, All-map}
-use Rattle.ptrun.specs.Engines.{AreGiven}
+use Rattle.std.proofs.lemmas.List.Elements.{All-nil, All-cons}
 use Rattle.ptopts.specs.Faults.{is_standard}
 use Rattle.ptopts.specs.Commands.{file_names, order_from}
 use Rattle.ptopts.specs.declared.inputs.Input.{Input}
@@ -28,14 +26,6 @@ fresh_all (r ∷ readers) h (suc q) = fresh_all readers (λ k d within. h (suc k
 
 pub place_fits : (order : List Input) (n i : ℕ) (d : Input) → All (λ p. p < n) (places order) → i < length order → place (get_or order i d) < n
 place_fits order n i d fits within = subst (λ (k : ℕ). k < n) (get_or-map place order i d 0 within) (fits i 0 (omega (arith, within, length-map order place)))
-
--- each operand has a reader, and each file has a name
-pub given_of : (m : Meaning) (inputs : List Reader) (order : List Input) → m.places ≡ places order → AreFresh (length m.names) inputs → All (λ o. place o < length inputs) order → AreGiven m inputs
-given_of m inputs order same fresh fits = record {
-  fresh = fresh.1;
-  fits = subst (λ (l : List ℕ). All (λ (p : ℕ). p < length inputs) l) (sym same) (All-map (λ (p : ℕ). p < length inputs) place order fits);
-  named = fresh.0;
-}
 
 -- the operands before the i-th, it, and those behind
 pub places_next : (order : List Input) (i : ℕ) (d : Input) (p : ℕ) → i < length order → p ≡ place (get_or order i d) → take (i + 1) (places order) ≡ take i (places order) ++ p ∷ []

@@ -33,7 +33,7 @@ use Rattle.ptrun.specs.Together.{of_two, operand, of_operands, text_in, given_in
 use Rattle.ptrun.specs.Engines.{AreReady, AreSound, IsWithin, told_at, done_of, JointEnds, IsJointPass}
 use Rattle.ptrun.proofs.Sources.{same_or_other}
 use Rattle.ptrun.proofs.Order.{fresh_all}
-use Rattle.ptrun.proofs.InTurn.{received_of, nothing_read, nothing_long}
+use Rattle.ptrun.proofs.OnePlace.{received_of, nothing_read, nothing_long}
 
 -- ---- two operands
 

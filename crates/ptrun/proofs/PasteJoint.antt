@@ -30,7 +30,7 @@ use Rattle.ptrun.specs.declared.engine.Done.TheVariants.{Whole}
 use Rattle.ptrun.specs.Worlds.{World, Received, at, Allows, is_in, reader_at, shut, CameAt, IsReceived, HasFailed, IsTooLong}
 use Rattle.ptrun.specs.Together.{of_rows, text_in, given_in}
 use Rattle.ptrun.specs.Engines.{AreReady, JointEnds, IsJointPass, IsWithin}
-use Rattle.ptrun.proofs.InTurn.{agreed}
+use Rattle.ptrun.proofs.OnePlace.{agreed}
 use Rattle.ptrun.proofs.Order.{fresh_all}
 use Rattle.ptrun.proofs.Sources.{same_or_other}
 

@@ -1,12 +1,17 @@
 -- What is said of words that are refused, by each tool and for each reason: one row for each.
 use Rattle.std.proofs.Common.{◌≡◌, ℕ, List, [], ◌∷◌, ◌++◌, refl, codes, map, replicate}
 use Rattle.ptopts.proofs.RowWords.{words}
+use Rattle.ptopts.specs.Syntax.{tools}
 use Rattle.ptrun.specs.Asked.{asked, saying}
+use Rattle.ptrun.specs.Messages.{names_listed}
+
+three_are_listed : names_listed (words "one two three") ≡ codes "one, two or three"
+three_are_listed = refl
 
 abbrev rows : List (List (List ℕ) × List ℕ)
 rows =
-    ([], codes "ptext: first word: cut, paste, join, comm, uniq or tr")
-    ∷ (words "cat", codes "ptext: first word: cut, paste, join, comm, uniq or tr")
+    ([], codes "ptext: first word: " ++ names_listed (map (λ t. t.0) tools))
+    ∷ (words "cat", codes "ptext: first word: " ++ names_listed (map (λ t. t.0) tools))
     ∷ (words "cut", codes "cut: one of -b, -c and -f is needed")
     ∷ (words "cut -d :: -s", codes "cut: one of -b, -c and -f is needed")
     ∷ (words "cut -xb", codes "cut: unknown option in -xb")

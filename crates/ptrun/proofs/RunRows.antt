@@ -36,7 +36,6 @@ rows =
     ∷ (words "cut -b 1,3-2", input (codes "abc\n"), refuses (codes "cut: wrong value for option -b: 1,3-2\n"))
     ∷ (words "cut -b 1,,2", input (codes "abc\n"), refuses (codes "cut: wrong value for option -b: 1,,2\n"))
     ∷ (words "cut -c 1 f g h", Some [] ∷ Some (codes "ab\n") ∷ None ∷ Some (codes "cd\n") ∷ [], record { out = codes "a\nc\n"; messages = codes "cut: g: cannot be opened\n"; status = 1 })
-    ∷ ([], input [], refuses (codes "ptext: first word: cut, paste, join, comm, uniq or tr\n"))
     ∷ (words "cut", input [], refuses (codes "cut: one of -b, -c and -f is needed\n"))
     ∷ (words "cut -xb", input [], refuses (codes "cut: unknown option in -xb\n"))
     ∷ (words "cut -b 1 -b 2", input [], refuses (codes "cut: option -b is given twice\n"))

@@ -33,7 +33,7 @@ use Rattle.ptrun.specs.Asked.{saying}
 use Rattle.ptrun.proofs.Sayings.{tells_trans}
 use Rattle.ptrun.proofs.Order.{fresh_all}
 use Rattle.ptrun.proofs.Sources.{unopened_same}
-use Rattle.ptrun.proofs.InTurn.{nothing_read, nothing_long, received_of, refused_same}
+use Rattle.ptrun.proofs.OnePlace.{nothing_read, nothing_long, received_of, refused_same}
 
 -- ---- what reached the sink
 

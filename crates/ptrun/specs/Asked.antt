@@ -27,6 +27,7 @@ saying text status = record {
   in_turn = None;
   closing = λ w. text;
   quiet = λ is_shut. true;
+  takes = true;
   places = [];
   begun = λ n. [];
   tool = [];
@@ -47,14 +48,6 @@ job_meaning (RunUniq job) names places = together (codes "uniq") (of_one (uniq_t
 job_meaning (RunComm job) names places = together (codes "comm") (of_two (comm_tool job)) names places
 job_meaning (RunJoin job) names places = together (codes "join") (of_two (join_tool job)) names places
 job_meaning (RunTr tables) names places = one_by_one (codes "tr") (tr_tool tables) names places
-
--- whether the tool takes operands at these places
-abbrev pub is_taking : Job → List ℕ → Bool
-is_taking (RunPaste job) places = (of_rows job).takes places
-is_taking (RunUniq job) places = (of_one (uniq_tool job)).takes places
-is_taking (RunComm job) places = (of_two (comm_tool job)).takes places
-is_taking (RunJoin job) places = (of_two (join_tool job)).takes places
-is_taking _ places = true
 
 abbrev pub command_meaning : Command → Meaning
 command_meaning c = job_meaning c.job c.names (places c.order)

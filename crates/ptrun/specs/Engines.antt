@@ -19,15 +19,17 @@ use Rattle.ptrun.specs.KeepingUp.{PassedOn, AnyEarlier, Earlier}
 use Rattle.ptrun.specs.Together.{JointTool, text_in, given_in}
 use Rattle.ptrun.specs.Sayings.{Tells}
 use Rattle.ptrun.specs.Messages.{failure, out_of_order}
-use Rattle.ptrun.specs.Runs.{IsWhole, Cause}
+use Rattle.ptrun.specs.Runs.{IsWhole, Cause, Sinks, Outcome, IsRun, IsQuiet}
 
--- no input was read, each operand has one, and each file has a name
+-- no input was read, each operand has one, each file has a name, and the tool takes these operands
 pub record AreGiven (m : Meaning) (inputs : List Reader) : Type 0 where
   pub fresh : All IsFresh inputs
   pub fits : All (λ p. p < length inputs) m.places
   pub named : length inputs ≡ length m.names + 1
+  pub taken : m.takes ≡ true
 
--- Whether inputs are lacking, so that nothing is read or written; if so, those that could not be opened were named, and there is nothing else to do.
+-- Whether inputs are lacking, so that nothing is read or written; if so, those that could not be opened were named, and
+-- there is nothing else to do.
 pub record Checks (m : Meaning) (inputs : List Reader) (told heard : SinkState) (lacking : Bool) : Type 0 where
   pub is : lacking ≡ m.quiet (shut inputs)
   pub tells : Tells told heard (if lacking then unopened m.tool m.names (shut inputs) m.places else [])
@@ -78,7 +80,7 @@ blame p (Read place) = Read p
 blame p Write = Write
 blame p Memory = Memory
 
--- what is true of each reader is true of two, before a call and behind it
+-- what is true of each reader is true of two, before a call and after it
 pub record AreSound (first second first' second' : Reader) : Type 0 where
   pub first_was : IsSound first
   pub second_was : IsSound second
@@ -121,6 +123,12 @@ pub record Went (m : Meaning) (old new : List Reader) (was is : Output) (told he
   pub keeps_up : Earlier m received behind (λ decided. PassedOn decided was is pushed)
   pub peak : (w : World) → Allows received w → store.peak ≤ max before.peak (m.bound w)
 
+-- A run that was lent a store: what it reports of memory is the store's, and where it is quiet all is as it was.
+pub record Ran (m : Meaning) (old new : List Reader) (handed : Sinks) (o : Outcome) (lent left : Slots) : Type 0 where
+  pub run : IsRun m old new handed o
+  pub quiet : m.quiet (shut old) ≡ true → (new ≡ old) × (left ≡ lent) × IsQuiet handed.out o
+  pub store : (o.peak ≡ left.peak) × (o.denied ≡ left.denied)
+
 -- ---- a tool that takes all its inputs together
 
 -- how such a tool finds things: each operand was opened and not yet read
@@ -145,7 +153,7 @@ pub record JointWhole (t : JointTool) (places : List ℕ) (r : Received) (old ne
   pub roomy : denied ≡ false
   pub read : (place : ℕ) → HasFailed old new place ⊎ IsTooLong (at r place) → ⊥
 
--- how it ended, and which failure is told: one that was, and no other
+-- how it ended, and which failure is named: one that happened, and no other
 abbrev pub JointEnds : JointTool → List ℕ → Received → List Reader → List Reader → List ℕ → Bool → Bool → Result Done FlowFault → Type 0
 JointEnds t places r old new pushed failed denied (Ok done) = JointWhole t places r old new pushed failed denied done
 JointEnds t places r old new pushed failed denied (Err (Read p)) = (is_in places p ≡ true) × (HasFailed old new p ⊎ IsTooLong (at r p)) × (failed ≡ false) × (denied ≡ false)

@@ -26,17 +26,20 @@ pub record KeptUp (bytes written : List ℕ) (failed : Bool) : Type 0 where
 abbrev pub begun_of : Received → List ℕ → ℕ → List Given
 begun_of r places n = sources nothing_left r (take (n + 1) places)
 
--- P holds of what operands in turn had decided two blocks of the last one earlier, or less. Those before it count whole.
+-- P holds of what operands in turn had decided two blocks of the last one earlier, or less. Those before it count
+-- whole.
 abbrev pub LastEarlier : Tool → List Given → (List ℕ → Type 0) → Type 0
 LastEarlier t came P = (done : List Given) (last : Given) → came ≡ done ++ last ∷ []
     → (before : Before last) × P (decided_of t (done ++ before.earlier ∷ []))
 
--- P holds of what had been decided two blocks earlier, or less, of the input at any of these places, whatever came of the others.
+-- P holds of what had been decided two blocks earlier, or less, of the input at any of these places, whatever came of
+-- the others.
 abbrev pub AnyEarlier : List ℕ → (Received → List ℕ) → Received → (List ℕ → Type 0) → Type 0
 AnyEarlier places decided r P = (place : ℕ) (came : Given) → is_in places place ≡ true → at r place ≡ Some came
     → (before : Before came) × P (decided (set r place (Some before.earlier)))
 
--- P holds of what had been decided two blocks earlier, or less, of the last operand; or of any, where they are taken together.
+-- P holds of what had been decided two blocks earlier, or less, of the last operand; or of any, where they are taken
+-- together.
 abbrev pub EarlierAs : Meaning → Received → ℕ → (List ℕ → Type 0) → Option Tool → Type 0
 EarlierAs m r n P (Some t) = LastEarlier t (begun_of r m.places n) P
 EarlierAs m r n P None = AnyEarlier m.places m.decided r P

@@ -1,5 +1,5 @@
 -- The messages. Each ends with newline.
-use Rattle.std.specs.Prelude.{ℕ, ◌-◌, ◌==◌, List, [], ◌∷◌, Option, Some, None, codes, decimal, encode_utf8, if◌then◌else◌, slice_index_or}
+use Rattle.std.specs.Prelude.{ℕ, ◌-◌, ◌==◌, List, [], ◌∷◌, ◌++◌, map, Option, Some, None, codes, decimal, encode_utf8, if◌then◌else◌, slice_index_or}
 use Rattle.ptlangs.specs.declared.faults.SetFault.{SetFault}
 use Rattle.ptlangs.specs.declared.faults.SetString.{SetString}
 use Rattle.ptlangs.specs.declared.faults.SetString.TheVariants as string
@@ -8,6 +8,7 @@ use Rattle.ptlangs.specs.declared.faults.SetFaultKind.TheVariants as kind
 use Rattle.ptflow.specs.declared.faults.FlowFault.{FlowFault}
 use Rattle.ptflow.specs.declared.faults.FlowFault.TheVariants.{Read, Write, Memory}
 use Rattle.ptopts.specs.Faults.{Fault, NoTool, Unknown, NeedsValue, Twice, Together, Value, Operands, StandardTwice, NeedsList, InString}
+use Rattle.ptopts.specs.Syntax.{tools}
 use Rattle.ptrun.specs.Sayings.{line_of}
 
 abbrev pub string_word : SetString → List ℕ
@@ -31,9 +32,19 @@ kind_word kind.Memory = codes "memory"
 abbrev pub string_refusal : SetFault → List ℕ
 string_refusal fault = line_of (codes "tr: wrong " ∷ string_word fault.string ∷ codes ": " ∷ kind_word fault.kind ∷ [])
 
+-- a name and those after it, as a sentence lists them
+abbrev pub listed : List ℕ → List (List ℕ) → List ℕ
+listed name [] = name
+listed name (next ∷ []) = name ++ codes " or " ++ next
+listed name (next ∷ after ∷ more) = name ++ codes ", " ++ listed next (after ∷ more)
+
+abbrev pub names_listed : List (List ℕ) → List ℕ
+names_listed [] = []
+names_listed (name ∷ names) = listed name names
+
 -- why the words of a tool were refused
 abbrev pub refusal : List ℕ → Fault → List ℕ
-refusal tool NoTool = line_of (codes "ptext: first word: cut, paste, join, comm, uniq or tr" ∷ [])
+refusal tool NoTool = line_of (codes "ptext: first word: " ∷ names_listed (map (λ t. t.0) tools) ∷ [])
 refusal tool (Unknown word) = line_of (tool ∷ codes ": unknown option in " ∷ word ∷ [])
 refusal tool (NeedsValue l) = line_of (tool ∷ codes ": option -" ∷ encode_utf8 l ∷ codes " needs a value" ∷ [])
 refusal tool (Twice l) = line_of (tool ∷ codes ": option -" ∷ encode_utf8 l ∷ codes " is given twice" ∷ [])

@@ -1,5 +1,5 @@
 -- A tool that goes over its inputs one by one; those that could not be opened are named and passed over.
-use Rattle.std.specs.Prelude.{Some, ℕ, ◌+◌, false, List, [], ◌∷◌, map, flat_map, max, take, if◌then◌else◌}
+use Rattle.std.specs.Prelude.{Some, ℕ, ◌+◌, true, false, List, [], ◌∷◌, map, flat_map, max, take, if◌then◌else◌}
 use Rattle.std.specs.List.{list_any}
 use Rattle.ptlines.specs.Inputs.{Given, nothing_left}
 use Rattle.ptopts.specs.declared.inputs.Input.{Input}
@@ -40,6 +40,7 @@ one_by_one word t names places = record {
   in_turn = Some t;
   closing = λ w. [];
   quiet = λ is_shut. false;
+  takes = true;
   places = places;
   begun = λ n. take (n + 1) places;
   tool = word;

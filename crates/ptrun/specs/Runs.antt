@@ -65,7 +65,7 @@ Cause m r old new failed denied n (Read p) =
 Cause m r old new failed denied n Write = failed ≡ true
 Cause m r old new failed denied n Memory = (denied ≡ true) × (failed ≡ false)
 
--- It stopped behind n operands: of those it had said what there is to say, and then it told the failure.
+-- It stopped after n operands: it had said what there is to say of those, and then it named the failure.
 pub record IsStopped (m : Meaning) (r : Received) (old new : List Reader) (said : List ℕ)
     (o : Outcome) (n : ℕ) (fault : FlowFault) : Type 0 where
   pub within : n ≤ length m.places
@@ -99,14 +99,14 @@ pub record IsRun (m : Meaning) (old new : List Reader) (before : Sinks) (o : Out
   pub untouched : (place : ℕ) → is_in (m.begun behind) place ≡ false → reader_at new place ≡ reader_at old place
   -- nothing is written that would have to be taken back
   pub true_so_far : (w : World) → Allows received w → Begins written (m.out w)
-  -- a read that failed is told, and nothing decided is kept back
+  -- a read that failed is named, and nothing decided is kept back
   pub told : (place : ℕ) → HasFailed old new place → o.out.failed ≡ false → fault ≡ Some (Read place)
   pub sure : (place : ℕ) → HasFailed old new place → o.out.failed ≡ false → Begins (m.decided received) written
   -- nor is it, whatever failed, but for what came of an input in the last two blocks
   pub keeps_up : Earlier m received behind (λ decided. KeptUp decided written o.out.failed)
   pub bounded : (w : World) → Allows received w → o.peak ≤ m.bound w
 
--- Where nothing failed, the run is what the world that the readers tell asks for.
+-- Where nothing failed, the run does what is asked for in the world whose bytes the readers have.
 pub record IsExact (m : Meaning) (w : World) (before : Sinks) (o : Outcome) : Type 0 where
   pub out : o.out.taken ≡ append_known before.out.taken (m.out w)
   pub messages : o.messages.failed ≡ false → o.messages.taken ≡ append_known before.messages.taken (messages m w)

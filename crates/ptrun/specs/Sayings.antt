@@ -12,7 +12,7 @@ texts parts = map (λ p. p.now) parts
 abbrev pub line_of : List (List ℕ) → List ℕ
 line_of parts = flat_map (λ p. p) parts ++ 10 ∷ []
 
--- a beginning of the text was taken, and not flushed; `all` says that it is all of it
+-- a prefix of the text was taken, and not flushed; `all` says that it is all of it
 pub record Says (old new : SinkState) (text : List ℕ) (all : Bool) : Type 0 where
   pub front : List ℕ
   pub rest : List ℕ
@@ -22,7 +22,8 @@ pub record Says (old new : SinkState) (text : List ℕ) (all : Bool) : Type 0 wh
   pub whole : all ≡ true → (rest ≡ []) × (new.failed ≡ false)
   pub broken : all ≡ false → (0 < length rest) × (new.failed ≡ true)
 
--- A beginning of the text was taken, and not flushed, and all unless the sink has failed; one that has failed takes no more.
+-- A prefix of the text was taken, and not flushed, and all unless the sink has failed; one that has failed takes no
+-- more.
 pub record Tells (old new : SinkState) (text : List ℕ) : Type 0 where
   pub front : List ℕ
   pub rest : List ℕ

@@ -1,4 +1,5 @@
--- A tool that takes all its inputs together: where one could not be opened, all such are named and nothing else is done.
+-- A tool that takes all its inputs together: where one could not be opened, all such are named and nothing else is
+-- done.
 use Rattle.std.specs.Prelude.{ℕ, ◌==◌, ◌&&◌, Bool, List, [], Option, Some, None, length, nat_le, unwrap_or, slice_index_or, option_map, not, if◌then◌else◌}
 use Rattle.std.specs.List.{list_any}
 use Rattle.ptlines.specs.Inputs.{Given, nothing_left}
@@ -13,7 +14,8 @@ use Rattle.ptrun.specs.Worlds.{World, Received, at, is_unopened}
 use Rattle.ptrun.specs.Meanings.{Meaning}
 use Rattle.ptrun.specs.Messages.{out_of_order}
 
--- What a tool does with its inputs, whatever the tool: the operands are places, and the inputs are told by their places.
+-- What a tool does with its inputs, whatever the tool: the operands are places, and the inputs are given by their
+-- places.
 pub record JointTool : Type 0 where
   -- what is written of the inputs
   pub text : List ℕ → (ℕ → List ℕ) → List ℕ
@@ -99,6 +101,7 @@ together word t names places = record {
   in_turn = None;
   closing = λ w. if lacks places w then [] else disorder_text word names (t.disorder places (text_in w));
   quiet = λ is_shut. list_any is_shut places;
+  takes = t.takes places;
   places = places;
   begun = λ n. places;
   tool = word;

@@ -101,11 +101,11 @@ abbrev pub IsTooLong : Option Given → Type 0
 IsTooLong None = ⊥
 IsTooLong (Some g) = 2 ^ 63 ≤ length g.bytes
 
--- the readers tell this input
+-- the readers have the bytes of this input
 abbrev pub TellsAt : Reader → Option (List ℕ) → Type 0
 TellsAt r None = r.refused ≡ true
 TellsAt r (Some bytes) = (r.refused ≡ false) × (unread r ≡ Some bytes) × (length bytes < 2 ^ 63)
 
--- the readers tell this world, and each input has fewer than 2^63 bytes
+-- the readers have the bytes of this world, and each input has fewer than 2^63 bytes
 abbrev pub TellsWorld : List Reader → World → Type 0
 TellsWorld readers w = (place : ℕ) → TellsAt (reader_at readers place) (at w place)

@@ -1,12 +1,11 @@
 //! A tool over all its inputs, and the run around it.
 
-ghost use Rattle.std.specs.Prelude.{◌≡◌, ◌<◌, ◌+◌, ◌≤◌, Bool, true, false, length};
-ghost use Rattle.ptrun.specs.Engines.{AreGiven, Checks, IsStart, Went, Finishes, IsWithin, last_words, status_after};
+ghost use Rattle.std.specs.Prelude.{◌≡◌, ◌+◌, ◌≤◌, length};
+ghost use Rattle.ptrun.specs.Engines.{AreGiven, Checks, IsStart, Went, Ran, Finishes, IsWithin, last_words, status_after};
 ghost use Rattle.ptrun.specs.Meanings.{Meaning};
 ghost use Rattle.ptrun.specs.Messages.{name_of};
-ghost use Rattle.ptrun.specs.Runs.{IsRun, IsQuiet, IsUnused, sinks, outcome};
+ghost use Rattle.ptrun.specs.Runs.{AreUnused, sinks, outcome};
 ghost use Rattle.ptrun.specs.Sayings.{Tells};
-ghost use Rattle.ptrun.specs.Worlds.{shut};
 
 use crate::report::{Report, quiet_report, report_of};
 use crate::voice::Voice;
@@ -15,24 +14,21 @@ use ptflow::FlowFault;
 use ptlines::{LineReader, Out, Sink, Source, Store};
 use std::alloc::Allocator;
 
-/// How a tool ended that no failure stopped.
+/// How a tool ended, if no failure stopped it.
 #[derive(Clone, Copy)]
 pub(crate) enum Done {
     /// All is written.
     Whole,
-    /// All that there is without the inputs that could not be opened; they were named.
+    /// All is written but for inputs that could not be opened; these were named.
     Unopened,
-    /// All that comes before a line out of order: the place of its input, and its number, counted from 1.
+    /// All is written that comes before a line out of order: the place of its input, and its number, counted from 1.
     Disorder(usize, u64),
 }
 
 /// A tool over all its inputs.
 pub(crate) trait Engine<A: Allocator + Copy>: Drop {
-    /// What it is to do.
+    /// What the definitions say that it is to do.
     ghost meaning: { Self → Meaning };
-
-    /// Whether its operands are such as the tool takes.
-    ghost suits: { Self → Bool };
 
     /// The word that names the tool.
     fn tool(&self) -> &str
@@ -43,7 +39,7 @@ pub(crate) trait Engine<A: Allocator + Copy>: Drop {
         requires { place ≤ length (meaning self.now).names }
         ensures { result.now ≡ name_of (meaning self.now).names place };
 
-    /// Whether inputs are lacking without which nothing is read or written; if so, they were named.
+    /// Names the missing inputs if nothing is to be read or written without them. Answers whether there is one.
     fn lacks_inputs<S: Source, R: Source, E: Sink>(
         &self,
         inputs: &[LineReader<S, R>],
@@ -60,8 +56,7 @@ pub(crate) trait Engine<A: Allocator + Copy>: Drop {
         out: &mut Out<W>,
         voice: &mut Voice<E>,
     ) -> Result<Done, FlowFault>
-        requires start { IsStart (meaning self.now) inputs.old out.old store.old }
-        requires taken { suits self.now ≡ true }
+        requires { IsStart (meaning self.now) inputs.old out.old store.old }
         ensures { Went (meaning self.now) inputs.old inputs.new out.old out.new voice.old voice.new
             store.old store.new result };
 }
@@ -75,14 +70,9 @@ pub(crate) fn run_engine<A: Allocator + Copy, G: Engine<A>, S: Source, R: Source
     voice: Voice<E>,
 ) -> Report<W, E>
     requires given { AreGiven (G.meaning engine.now) inputs.old }
-    requires taken { G.suits engine.now ≡ true }
-    requires writable { (W.state out).failed ≡ false }
-    requires unused { IsUnused store.old }
-    ensures run { IsRun (G.meaning engine.now) inputs.old inputs.new (sinks (W.state out) voice)
-        (outcome W.state E.state result) }
-    ensures quiet { (G.meaning engine.now).quiet (shut inputs.old) ≡ true →
-        (inputs.new ≡ inputs.old) × (store.new ≡ store.old) × IsQuiet (W.state out) (outcome W.state E.state result) }
-    ensures store { (result.peak ≡ store.new.peak) × (result.denied ≡ store.new.denied) }
+    requires unused { AreUnused store.old (sinks (W.state out) voice) }
+    ensures { Ran (G.meaning engine.now) inputs.old inputs.new (sinks (W.state out) voice)
+        (outcome W.state E.state result) store.old store.new }
 {
     let mut voice = voice;
     if engine.lacks_inputs(inputs, &mut voice) {
@@ -95,7 +85,7 @@ pub(crate) fn run_engine<A: Allocator + Copy, G: Engine<A>, S: Source, R: Source
     report_of(store, status, out, voice)
 }
 
-// Sends what is staged. A write that failed is the fault, whatever else was.
+// Sends what is staged. If a write fails, that is the fault, whatever happened before.
 fn finish<W: Sink>(out: &mut Out<W>, went: Result<Done, FlowFault>) -> Result<Done, FlowFault>
     ensures { Finishes out.old out.new went result }
 {
@@ -105,7 +95,7 @@ fn finish<W: Sink>(out: &mut Out<W>, went: Result<Done, FlowFault>) -> Result<Do
     }
 }
 
-// Says the last words of a run. The answer is the status.
+// Says the last message of a run, if there is one. The answer is the status.
 fn conclude<A: Allocator + Copy, G: Engine<A>, E: Sink>(
     engine: &G,
     ended: Result<Done, FlowFault>,

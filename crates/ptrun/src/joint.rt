@@ -16,7 +16,7 @@ use std::alloc::Allocator;
 
 /// What a tool does with all its inputs.
 pub(crate) trait Together<A: Allocator + Copy>: Drop {
-    /// What it is to do.
+    /// What the definitions say that it is to do.
     ghost tool: { Self → JointTool };
 
     /// The word that names it.

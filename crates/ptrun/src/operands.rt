@@ -24,14 +24,11 @@ pub(crate) struct InTurn<'a, A: Allocator + Copy, T: OneByOne<A>> {
 }
 
 impl<'a, A: Allocator + Copy, T: OneByOne<A>> Engine<A> for InTurn<'a, A, T> {
-    ghost use Rattle.std.specs.Prelude.{true};
     ghost use Rattle.ptopts.specs.Meant.{words_seen};
     ghost use Rattle.ptrun.specs.Operands.{places, one_by_one};
 
     ghost meaning = { λ e. one_by_one (T.word e.tool) (T.tool e.tool)
         (words_seen e.operands.names.items) (places e.operands.order.items) };
-
-    ghost suits = { λ e. true };
 
     fn tool(&self) -> &str {
         self.tool.name()

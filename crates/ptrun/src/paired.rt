@@ -20,7 +20,7 @@ use std::alloc::Allocator;
 
 /// What a tool does with the lines of two inputs.
 pub(crate) trait Paired<A: Allocator + Copy>: Drop {
-    /// What it is to do.
+    /// What the definitions say that it is to do.
     ghost tool: { Self → Tool };
 
     /// The word that names it.

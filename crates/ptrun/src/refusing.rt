@@ -9,7 +9,7 @@ ghost use Rattle.ptrun.specs.Messages.{said_of, status_of, string_refusal};
 use crate::voice::Voice;
 use ptlangs::{SetFault, SetFaultKind, SetString};
 use ptlines::Sink;
-use ptopts::UseFault;
+use ptopts::{TOOLS, UseFault};
 
 // Says why the words of a tool were refused. The answer is the status.
 pub(crate) fn refuse<E: Sink>(tool: &str, fault: UseFault<'_>, voice: &mut Voice<E>) -> u8
@@ -17,7 +17,7 @@ pub(crate) fn refuse<E: Sink>(tool: &str, fault: UseFault<'_>, voice: &mut Voice
     ensures status { result ≡ status_of (meant fault.entry) }
 {
     match fault {
-        UseFault::Tool => voice.say(&["ptext: first word: cut, paste, join, comm, uniq or tr"]),
+        UseFault::Tool => voice.say(&["ptext: first word: ", TOOLS]),
         UseFault::Unknown(word) => voice.say(&[tool, ": unknown option in ", word]),
         UseFault::NeedsValue(letter) => {
             voice.say(&[

@@ -33,8 +33,6 @@ impl<'a, A: Allocator + Copy, T: Together<A>> Engine<A> for AllTogether<'a, A, T
     ghost meaning = { λ e. together (T.word e.tool) (T.tool e.tool)
         (words_seen e.operands.names.items) (places e.operands.order.items) };
 
-    ghost suits = { λ e. (T.tool e.tool).takes (places e.operands.order.items) };
-
     fn tool(&self) -> &str {
         self.tool.name()
     }

@@ -1,7 +1,6 @@
 //! The tools that go over their inputs one by one.
 
 ghost use Rattle.std.specs.Prelude.{◌≡◌, ℕ, List, true};
-ghost use Rattle.ptlines.specs.Inputs.{Given};
 ghost use Rattle.ptflow.specs.Passes.{IsReady, IsPass};
 ghost use Rattle.ptflow.specs.Tools.{Tool};
 
@@ -13,7 +12,7 @@ use std::alloc::Allocator;
 
 /// What a tool does with each of its inputs.
 pub(crate) trait OneByOne<A: Allocator + Copy>: Drop {
-    /// What it is to do.
+    /// What the definitions say that it is to do.
     ghost tool: { Self → Tool };
 
     /// The word that names it.
@@ -32,21 +31,21 @@ pub(crate) trait OneByOne<A: Allocator + Copy>: Drop {
         requires { IsReady reader.old store.old }
         ensures { IsPass (tool self.now) reader.old reader.new out.old out.new store.old store.new result };
 
-    /// Where the end of an input was said, all of it is decided.
-    ghost all_decided: { (s : Self) (g : Given) → g.ended ≡ true → (tool s).decided g ≡ (tool s).text g.bytes };
+    /// Once the end of an input was reached, all of its output is decided.
+    ghost all_decided: { (s : Self) (bytes : List ℕ) →
+        (tool s).decided (record { bytes = bytes; ended = true }) ≡ (tool s).text bytes };
 }
 
 impl<A: Allocator + Copy> OneByOne<A> for CutJob<A> {
-    ghost use Rattle.std.specs.Prelude.{codes};
+    ghost use Rattle.std.specs.Prelude.{refl, codes};
     ghost use Rattle.ptlangs.specs.Jobs.{cut_job};
     ghost use Rattle.ptflow.specs.Cuts.{cut_tool};
-    ghost use Rattle.ptrun.specs.Laws.{cut_all_decided};
 
     ghost tool = { λ job. cut_tool (cut_job job) };
 
     ghost word = { λ job. codes "cut" };
 
-    ghost all_decided = { λ job. cut_all_decided (cut_job job) };
+    ghost all_decided = { λ job bytes. refl };
 
     fn name(&self) -> &str {
         "cut"
@@ -63,16 +62,15 @@ impl<A: Allocator + Copy> OneByOne<A> for CutJob<A> {
 }
 
 impl<A: Allocator + Copy> OneByOne<A> for PasteJob<A> {
-    ghost use Rattle.std.specs.Prelude.{codes};
+    ghost use Rattle.std.specs.Prelude.{refl, codes};
     ghost use Rattle.ptlangs.specs.Jobs.{paste_job};
     ghost use Rattle.ptflow.specs.Pastes.{serial_tool};
-    ghost use Rattle.ptrun.specs.Laws.{paste_all_decided};
 
     ghost tool = { λ job. serial_tool (paste_job job) };
 
     ghost word = { λ job. codes "paste" };
 
-    ghost all_decided = { λ job. paste_all_decided (paste_job job) };
+    ghost all_decided = { λ job bytes. refl };
 
     fn name(&self) -> &str {
         "paste"
@@ -96,7 +94,7 @@ impl<A: Allocator + Copy> OneByOne<A> for CharPlan {
 
     ghost word = { λ plan. codes "tr" };
 
-    ghost all_decided = { λ plan g ended. refl };
+    ghost all_decided = { λ plan bytes. refl };
 
     fn name(&self) -> &str {
         "tr"

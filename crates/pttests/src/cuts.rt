@@ -4,7 +4,7 @@ use crate::commands::{
     Expected, Input, Limits, Row, SIZES, assert_left, expect, expect_rows, expect_without_growth,
     over_files, over_standard, run_over, writes,
 };
-use crate::comparing::{holds_of, same};
+use crate::comparing::{holds_of, same, same_of};
 use ptfakes::Refusing;
 use ptfakes::texts::{ENDINGS, byte_at, text_of, text_with};
 use std::alloc::{AllocError, Global};
@@ -76,6 +76,24 @@ fn a_read_that_fails_is_the_last_message(rt: HostRuntime) -> Result<(), Fail> {
 
 const LENGTHS: &[usize] = &[0, 1, 8191, 8192, 8193, 20000];
 
+// These bytes are written of a text, and none is held, whatever the pieces. `length` says which text it is.
+fn expect_bytes<'a>(
+    rt: &impl Abort,
+    alloc: Global,
+    words: &'a [&'a str],
+    text: &'a [u8],
+    length: usize,
+    bytes: &[u8],
+) -> Result<(), Fail> {
+    for size in SIZES {
+        let report = run_over(rt, alloc, alloc, &over_standard(words, text, *size))?;
+        let of = (length, *size);
+        holds_of(rt, &of, report.out.bytes() == bytes);
+        same_of(rt, &of, &(report.status, report.peak), &(0, 0));
+    }
+    Ok(())
+}
+
 // Three lines, of which the last has no end: `cut` ends it, unless it is empty.
 fn cut_across_blocks(
     rt: &impl Abort,
@@ -88,15 +106,7 @@ fn cut_across_blocks(
     let cut = text_with(alloc, &[short, 3, short], ending, length > 0, other)?;
     let option = format!(in alloc; "{flags}c")?;
     let words = ["cut", option.as_str(), "1-8000,8000-8192"];
-    for size in SIZES {
-        let case = over_standard(&words, &text, *size);
-        let report = run_over(rt, alloc, alloc, &case)?;
-        same(rt, &report.status, &0);
-        let is_cut = report.out.bytes() == cut.as_slice();
-        holds_of(rt, &(length, *size), is_cut);
-        same(rt, &report.peak, &0);
-    }
-    Ok(())
+    expect_bytes(rt, alloc, &words, &text, length, &cut)
 }
 
 #[test]
@@ -135,12 +145,7 @@ fn cut_behind(
     let cut = chosen_of(alloc, &lengths, ending)?;
     let option = format!(in alloc; "{flags}b")?;
     let words = ["cut", option.as_str(), "2,4-5"];
-    for size in SIZES {
-        let case = over_standard(&words, &text, *size);
-        let report = run_over(rt, alloc, alloc, &case)?;
-        assert!(rt; report.out.bytes() == cut.as_slice(), "{length} by {size}");
-    }
-    Ok(())
+    expect_bytes(rt, alloc, &words, &text, length, &cut)
 }
 
 #[test]
@@ -160,16 +165,10 @@ fn empty_lines_stay(rt: HostRuntime) -> Result<(), Fail> {
     for _more in 0..40 {
         lines.extend_from_slice(&text)?;
     }
-    let empty = [b'\n'; 200];
-    for size in SIZES {
-        let case = over_standard(&["cut", "-c", "1-3"], &lines, *size);
-        let report = run_over(&rt, rt.alloc(), rt.alloc(), &case)?;
-        assert!(rt; report.out.bytes() == lines.as_slice(), "by {size}");
-        let case = over_standard(&["cut", "-c", "2-"], &empty, *size);
-        let report = run_over(&rt, rt.alloc(), rt.alloc(), &case)?;
-        assert!(rt; report.out.bytes() == empty.as_slice(), "by {size}");
-    }
-    Ok(())
+    let words = ["cut", "-c", "1-3"];
+    expect_bytes(&rt, rt.alloc(), &words, &lines, lines.len(), &lines)?;
+    let (words, empty) = (["cut", "-c", "2-"], [b'\n'; 200]);
+    expect_bytes(&rt, rt.alloc(), &words, &empty, empty.len(), &empty)
 }
 
 #[test]

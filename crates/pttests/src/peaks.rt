@@ -128,6 +128,18 @@ fn the_bound_of_uniq_is_reached(rt: HostRuntime) -> Result<(), Fail> {
     Ok(())
 }
 
+// What a command writes begins so.
+fn expect_beginning(
+    rt: &impl Abort,
+    own: Global,
+    case: &Case<'_>,
+    beginning: &str,
+) -> Result<(), Fail> {
+    let report = run_over(rt, own, own, case)?;
+    assert!(rt; report.out.bytes().starts_with(beginning.as_bytes()));
+    Ok(())
+}
+
 // Refuses the last growth of a command: what was decided before it is written, though no block of output was full.
 fn expect_sent(
     rt: &impl Abort,
@@ -136,12 +148,11 @@ fn expect_sent(
     decided: &str,
     message: &str,
 ) -> Result<(), Fail> {
-    let whole = run_over(rt, own, own, case)?;
+    expect_beginning(rt, own, case, decided)?;
     let last = growths(rt, own, case)?.saturating_sub(1);
     let alloc = Refusing::after(own, last);
     let mut store = Store::empty(&alloc);
     let report = run_in(rt, &mut store, &alloc, own, case)?;
-    assert!(rt; whole.out.bytes().starts_with(report.out.bytes()));
     same(rt, &report.out.bytes(), &decided.as_bytes());
     same(rt, &report.messages.bytes(), &message.as_bytes());
     let left = (report.status, report.denied, store.denied());

@@ -9,8 +9,6 @@ use Rattle.std.proofs.lemmas.List.{take_more_set, take-set, take_more, append-ni
 use Rattle.std.proofs.lemmas.List.Elements.{filter-append}
 use Rattle.std.proofs.Math.Seq.{take-add}
 use Rattle.ptflow.specs.Workings.Bytes.ByteSets.{Keeps, mask_of}
-use Rattle.ptflow.specs.Workings.Bytes.Packings.{chosen_by}
-use Rattle.ptflow.proofs.OfBytes.ChosenLanes.{chosen_by_test}
 
 -- the lanes that are not in a mask
 not_tops : (test : ℕ → Bool) (v : List ℕ) → map (top 7) (map (bit_not w8) (map (cast_unsigned w8) (mask_of test v))) ≡ map (λ b. not (test b)) v
@@ -30,17 +28,17 @@ keep_bits test v lanes long is =
     ∙ mask_l-mod (map (λ b. not (test b)) v) 64 (omega (arith, length-map v (λ b. not (test b)), long))
 
 module _ (test : ℕ → Bool) (from into : List ℕ) (at count : ℕ) (before : Keeps test from at into count) where
-  -- sixteen more
-  pub keeps_lanes : (after : List ℕ) (end : ℕ) → at + 16 ≤ length from → end ≤ count + 16 → length after ≡ length into
-      → take end after ≡ take count into ++ chosen_by (map test (chunk at 16 from)) (chunk at 16 from) → Keeps test from (at + 16) after end
-  keeps_lanes after end room few long put = record {
+  -- a piece more
+  pub keeps_piece : (size : ℕ) (after : List ℕ) (end : ℕ) → at + size ≤ length from → end ≤ count + size → length after ≡ 8224
+      → take end after ≡ take count into ++ filter test (chunk at size from) → Keeps test from (at + size) after end
+  keeps_piece size after end room few long put = record {
     within = room;
-    few = omega (arith, before.few);
-    room = long ∙ before.room;
+    few = omega (arith, few, before.few);
+    room = long;
     kept = put
-        ∙ (λ i. before.kept i ++ chosen_by_test test (chunk at 16 from) i)
-        ∙ sym (filter-append test (take at from) (chunk at 16 from))
-        ∙ ap (filter test) (sym (take-add at 16 from));
+        ∙ (λ i. before.kept i ++ filter test (chunk at size from))
+        ∙ sym (filter-append test (take at from) (chunk at size from))
+        ∙ ap (filter test) (sym (take-add at size from));
   }
 
   -- one more

@@ -43,7 +43,7 @@ pub(crate) fn move_most<M: Mover>(by: M, from: &[u8], to: &mut [u8]) -> usize
     at
 }
 
-/// A stretch: its first byte, how far behind that its last byte lies, and its shift.
+/// A stretch: its first byte, how far after that its last byte is, and its shift.
 #[derive(Clone, Copy)]
 struct Reach {
     first: u8,

@@ -1,7 +1,7 @@
 //! Bytes that stay are put side by side, 16 at a time.
 
 ghost use Rattle.std.specs.Prelude.{◌≡◌, ◌≤◌, ◌+◌, ◌++◌, ℕ, List, Bool, length, take};
-ghost use Rattle.std.specs.Simd.Lanes.{mask_l};
+ghost use Rattle.std.specs.Simd.Lanes.{mask_l, chunk};
 ghost use Rattle.ptflow.specs.Workings.Bytes.Packings.{IsPacking, IsRow, chosen_by};
 
 use std::array;
@@ -47,6 +47,17 @@ pub(crate) fn put_lanes(v: u8x16, into: &mut [u8], at: usize)
     v.copy_to_slice(&mut into[at..]);
 }
 
+// Puts the 64 bytes from a place on behind the first `end` bytes of `into`.
+#[inline(always)]
+pub(crate) fn put_chunk(from: &[u8], at: usize, into: &mut [u8], end: usize)
+    requires lanes { at + 64 ≤ length from.now }
+    requires room { end + 64 ≤ length into.old }
+    ensures long { length into.new ≡ length into.old }
+    ensures put { take (end + 64) into.new ≡ take end into.old ++ chunk at 64 from.now }
+{
+    u8x64::from_slice(&from[at..]).copy_to_slice(&mut into[end..]);
+}
+
 // Puts those of the first eight lanes whose flag is true from a place on, and says where they end.
 #[inline(always)]
 fn pack_eight(shuffles: &Shuffles, v: u8x16, keep: u8, into: &mut [u8], at: usize) -> usize
@@ -62,7 +73,7 @@ fn pack_eight(shuffles: &Shuffles, v: u8x16, keep: u8, into: &mut [u8], at: usiz
     at + keep.count_ones() as usize
 }
 
-// Puts the lanes whose flag is true from a place on, and says where they end. What stood behind them may change.
+// Puts the lanes whose flag is true from a place on, and says where they end. What was after them may change.
 #[inline(always)]
 pub(crate) fn pack(shuffles: &Shuffles, v: u8x16, keep: u64, into: &mut [u8], at: usize) -> usize
     requires packing { IsPacking shuffles.now }

@@ -31,7 +31,7 @@ fn marks_16(byte: u8, bytes: &[u8]) -> u64
         .to_bitmask()
 }
 
-// The place of the bit that is set behind so many others.
+// The place of the set bit that comes after so many others.
 #[inline(always)]
 fn bit_behind(marked: u64, count: u64) -> usize
     ensures { (test : ℕ → Bool) (bytes : List ℕ) → length bytes ≤ 64 → marked ≡ mask_l (map test bytes)
@@ -102,7 +102,7 @@ fn first_place(byte: u8, bytes: &[u8], to: usize) -> Option<usize>
     nth_far(byte, bytes, to, 1)
 }
 
-/// The place of the byte with this number, counted from 1, among the first `to` bytes. Some bytes behind these are
+/// The place of the byte with this number, counted from 1, among the first `to` bytes. Some bytes after these are
 /// looked at too, since a vector of them is as cheap as a part of it.
 #[inline(always)]
 pub(crate) fn nth_place(byte: u8, bytes: &[u8], to: usize, number: u64) -> Option<usize>

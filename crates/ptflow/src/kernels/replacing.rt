@@ -60,7 +60,7 @@ impl Turn {
         }
     }
 
-    // The turn behind this one.
+    // The turn after this one.
     #[inline(always)]
     fn next(self, delims: &[Option<u8>]) -> Turn
         requires place { self.place ≡ self.number % length delims.now }
@@ -76,7 +76,7 @@ impl Turn {
         }
     }
 
-    // The turn behind so many.
+    // The turn after so many.
     #[inline(always)]
     pub(crate) fn behind(self, count: usize, delims: &[Option<u8>]) -> Turn
         requires place { self.place ≡ self.number % length delims.now }
@@ -98,7 +98,7 @@ impl Turn {
 }
 
 // Makes the 64 bytes of `to` from a place on what those of `from` become, where the ends of lines become the delimiters
-// in turn. The answer is the turn behind them.
+// in turn. The answer is the turn after them.
 #[inline(never)]
 fn replace_chunk(
     delims: &[Option<u8>],
@@ -131,7 +131,7 @@ fn replace_chunk(
     turn
 }
 
-// The same of all but the last bytes. The answer is the turn behind them, and how many they are.
+// The same of all but the last bytes. The answer is the turn after them, and how many they are.
 #[inline(always)]
 fn replace_most(
     delims: &[Option<u8>],

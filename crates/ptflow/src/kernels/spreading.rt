@@ -15,7 +15,7 @@ use std::simd::prelude::*;
 /// What ends become, turn after turn, and again and again: at each of the first 64 turns there are 64 more.
 pub(crate) type Spread = ArrayVec<u8, 128>;
 
-/// Puts what ends become behind one another.
+/// Puts what ends become one after another.
 pub(crate) fn spread_of(turns: &[Option<u8>], ending: u8) -> Spread
     requires some { 0 < length turns.now }
     requires few { length turns.now ≤ 64 }
@@ -28,7 +28,7 @@ pub(crate) fn spread_of(turns: &[Option<u8>], ending: u8) -> Spread
     spread
 }
 
-// Makes the 64 bytes of `to` from a place on what those of `from` become. The answer is the turn behind them.
+// Makes the 64 bytes of `to` from a place on what those of `from` become. The answer is the turn after them.
 #[inline(never)]
 fn spread_chunk(
     turns: &[Option<u8>],
@@ -61,7 +61,7 @@ fn spread_chunk(
     turn.behind(count, turns)
 }
 
-// The same of all but the last bytes. The answer is the turn behind them, and how many they are.
+// The same of all but the last bytes. The answer is the turn after them, and how many they are.
 #[inline(always)]
 fn spread_most(
     turns: &[Option<u8>],

@@ -10,7 +10,7 @@ use crate::kernels::packing::{Shuffles, pack, put_lanes};
 use crate::kernels::sets::ByteSet;
 use std::simd::prelude::*;
 
-// Puts those of the 16 bytes from a place on that stay behind the first `count` bytes of `into`, and says where they
+// Puts those of the 16 bytes from a place on that stay after the first `count` bytes of `into`, and says where they
 // end.
 #[inline(always)]
 fn squeeze_lanes(
@@ -41,7 +41,7 @@ fn squeeze_lanes(
     pack(shuffles, bytes, (!gone).to_bitmask(), into, count)
 }
 
-// Puts the bytes from a place on that stay behind the first `count` bytes of `into`, and says where they end.
+// Puts the bytes from a place on that stay after the first `count` bytes of `into`, and says where they end.
 #[inline(always)]
 fn squeeze_rest(
     flags: &[bool; 256],
@@ -72,7 +72,7 @@ fn squeeze_rest(
 }
 
 /// Puts the bytes that stay to the front of `into`, and says how many they are. Repeats of the bytes whose flag is true
-/// are squeezed, and `last` stands in front of the bytes, if anything does. `set` has the same flags.
+/// are squeezed, and `last` comes before the bytes, if anything does. `set` has the same flags.
 #[inline(never)]
 pub(crate) fn squeeze_block(
     set: ByteSet,

@@ -91,7 +91,7 @@ impl<'a> Translation<'a> {
         images
     }
 
-    // The bytes that stay where `last` stands in front of them, if anything does; `into` has room for them.
+    // The bytes that stay where `last` comes before them, if anything does; `into` has room for them.
     fn squeezed<'b>(&self, last: Option<u8>, bytes: &'b [u8], into: &'b mut [u8; 8224]) -> &'b [u8]
         requires squeezing { IsSetIfAny self.now.squeezing self.now.plan.now.squeezed }
         requires packing { IsPacking self.now.shuffles }
@@ -154,7 +154,7 @@ impl<'a> BlockTool for Translator<'a> {
 /// Writes each byte of a reader as the plan says (XCU, `tr`): the bytes that are not deleted, each replaced by its
 /// image, and of each run of one byte whose repeats are squeezed only the first. A byte is a character.
 ///
-/// No memory is taken. What is written of the bytes that came is pushed before the next read. On an output that has
+/// No memory is taken. What is written for the bytes that came is pushed before the next read. On an output that has
 /// faulted nothing is read.
 /// # Errors
 /// `Read` or `Write` where a read or a write failed.

@@ -18,7 +18,7 @@ use Rattle.ptmerge.specs.declared.merging.sorted.Stand.TheVariants.{Head, Ended}
 use Rattle.ptmerge.specs.Comm.{comm_by}
 use Rattle.ptmerge.specs.Keyed.{Lines, Tool, by_keys, with_key}
 use Rattle.ptmerge.specs.Merges.{State, IsMerge, IsReady, Ends}
-use Rattle.ptmerge.specs.LinePasses.{PassesLine}
+use Rattle.ptmerge.specs.LinePasses.{IsUnwritten, PassesLine}
 use Rattle.ptmerge.specs.Orders.{Cmp, Key}
 use Rattle.ptmerge.specs.Places.{CannotRead, Comes, HasSlots}
 use Rattle.ptmerge.specs.Sides.{both, put, other}
@@ -55,6 +55,15 @@ same_reader s reader f same = λ i side. each s same side i
     each First e Second = refl
     each Second e First = refl
     each Second e Second = sym e
+
+-- a write failed, and nothing more was read
+pub same_state : (tool : Tool) (old : State) (s : Side) (now : State) (out : Output) (reader : Reader) (after : Slots) (fault : MergeFault) → fault ≡ Write
+    → IsUnwritten (now.reader s) reader now.store after out → IsMerge tool old (record { reader = now.reader; out = out; store = now.store }) (Err Write)
+    → IsMerge tool old (record { reader = put s reader now.reader; out = out; store = after }) (Err fault)
+same_state tool old s now out reader after fault is e m =
+    subst (IsMerge tool old (record { reader = put s reader now.reader; out = out; store = after })) (λ i. Err (sym is i))
+    (subst (λ (f : Side → Reader). IsMerge tool old (record { reader = f; out = out; store = after }) (Err Write)) (same_reader s reader now.reader e.unread)
+    (subst (λ t. IsMerge tool old (record { reader = now.reader; out = out; store = t }) (Err Write)) (sym e.store) m))
 
 -- no source has failed whose reader is sound
 pub unfailed_of : (first second : Reader) (store : Slots) → IsReady first second store → IsSound first × IsSound second → (side : Side) → (both first second side).failed ≡ false
@@ -143,12 +152,6 @@ pass_both job cmp key o b p q was is new clean m x y same at1 at2 all1 all2 wrot
     unders of Second = (subst (Under cmp (b of)) same (under_of of), tt)
 
 module _ (job : Comm) (cmp : Cmp) (key : Side → Key) (o : IsKeyOrder cmp) (old : State) (unfailed : (side : Side) → (old.reader side).failed ≡ false) where
-  abbrev pub tool : Tool
-  tool = comm_by job cmp key
-
-  abbrev pub Done : State → Result (Unit {0}) MergeFault → Type 0
-  Done new result = IsMerge (comm_by job cmp key) old new result
-
   -- no input is longer than the inputs that agree
   pub bounded : (store after : Slots) (s : Side) (place : Sorted) (ls all : Side → Lines) (piece : List ℕ) → HasSlots s place
       → Keeps old.store store (λ side. longest (ls side)) → ((side : Side) → longest (ls side) ≤ longest (all side)) → length piece ≤ longest (all s)
@@ -185,7 +188,7 @@ module _ (job : Comm) (cmp : Cmp) (key : Side → Key) (o : IsKeyOrder cmp) (old
 
     -- a write failed
     pub unwritten : (q : Side → Lines) (new : Output) → Merging (comm_by job cmp key) b q old.out new → Late (comm_by job cmp key) b q old.out new
-        → ((side : Side) → GoneBy side (q side)) → new.faulted ≡ true → Done (record { reader = now.reader; out = new; store = now.store }) (Err Write)
+        → ((side : Side) → GoneBy side (q side)) → new.faulted ≡ true → IsMerge (comm_by job cmp key) old (record { reader = now.reader; out = new; store = now.store }) (Err Write)
     unwritten q new m late g fault =
         stops (comm_by job cmp key) o old (record { reader = now.reader; out = new; store = now.store }) now.reader (λ side. []) ls q b g m late (Err Write)
         (record { faulted = fault; failed = went; denied = keeps.denied })
@@ -194,7 +197,7 @@ module _ (job : Comm) (cmp : Cmp) (key : Side → Key) (o : IsKeyOrder cmp) (old
     -- the next line of an input could not be read
     pub unread : (s : Side) → (place s).stand ≡ Head → (q : Side → Lines) (out : Output) → out.faulted ≡ false → Merging (comm_by job cmp key) b q old.out out
         → q s ≡ ls s → GoneBy (other s) (q (other s)) → (new : Reader) (after : Slots) (fault : MergeFault)
-        → CannotRead s (place s) (now.reader s) new now.store after fault → Done (record { reader = put s new now.reader; out = out; store = after }) (Err fault)
+        → CannotRead s (place s) (now.reader s) new now.store after fault → IsMerge (comm_by job cmp key) old (record { reader = put s new now.reader; out = out; store = after }) (Err fault)
     unread s head q out clean m same rest new after fault moves =
         let h = passed_at (comm_by job cmp key) o old.reader now.reader place now.store ls p b sides slots four s head in
         breaks (comm_by job cmp key) o old (record { reader = now.reader; out = out; store = now.store }) ls q b m unfailed went clean s (place s) new after fault
@@ -258,26 +261,17 @@ module _ (job : Comm) (cmp : Cmp) (key : Side → Key) (o : IsKeyOrder cmp) (old
             keeps = keeps_on now place r.ls r.p r.b r.sides r.keeps slots s step.stands reader next after n;
           }
 
-      pub alone_unwritten : new.faulted ≡ true → IsMerge (comm_by job cmp key) old (record { reader = now.reader; out = new; store = now.store }) (Err Write)
-      alone_unwritten fault =
-          unwritten now place r.ls r.p r.b r.sides r.keeps slots (put s (r.ls s) r.p) new merging_alone pushed_alone.1
-          (put_each (λ side (l : Lines). Gone job.end cmp (key side) (old.reader side) (now.reader side) (now.reader side) [] (r.ls side) l (r.b side)) s
-          (r.ls s) r.p (passing_now now place r.ls r.p r.b r.sides r.keeps slots s step.stands) stand) fault
-
-      pub alone_unread : new.faulted ≡ false → (reader : Reader) (after : Slots) (fault : MergeFault)
-          → CannotRead s (place s) (now.reader s) reader now.store after fault → IsMerge (comm_by job cmp key) old (record { reader = put s reader now.reader; out = new; store = after }) (Err fault)
-      alone_unread fine reader after fault moves =
-          unread now place r.ls r.p r.b r.sides r.keeps slots s step.stands (put s (r.ls s) r.p) new fine merging_alone (put_same s (r.ls s) r.p)
-          (subst (λ (l : Lines). Gone job.end cmp (key (other s)) (old.reader (other s)) (now.reader (other s)) (now.reader (other s)) [] (r.ls (other s)) l
-          (r.b (other s))) (sym (put_other s (r.ls s) r.p)) (stand (other s))) reader after fault moves
-
       -- the turn could not be ended
       pub alone_stops : (reader : Reader) (next : Sorted) (after : Slots) (fault : MergeFault) → PassesLine (key s) cmp s (place s) next (now.reader s) reader now.store after new (Err fault)
           → IsMerge (comm_by job cmp key) old (record { reader = put s reader now.reader; out = new; store = after }) (Err fault)
-      alone_stops reader next after fault (inl e) = subst (IsMerge (comm_by job cmp key) old (record { reader = put s reader now.reader; out = new; store = after })) (λ i. Err (sym e.0 i))
-          (subst (λ (f : Side → Reader). IsMerge (comm_by job cmp key) old (record { reader = f; out = new; store = after }) (Err Write)) (same_reader s reader now.reader e.1.unread)
-          (subst (λ t. IsMerge (comm_by job cmp key) old (record { reader = now.reader; out = new; store = t }) (Err Write)) (sym e.1.store) (alone_unwritten e.1.faulted)))
-      alone_stops reader next after fault (inr e) = alone_unread e.0 reader after fault e.1
+      alone_stops reader next after fault (inl e) = same_state (comm_by job cmp key) old s now new reader after fault e.0 e.1
+          (unwritten now place r.ls r.p r.b r.sides r.keeps slots (put s (r.ls s) r.p) new merging_alone pushed_alone.1
+          (put_each (λ side (l : Lines). Gone job.end cmp (key side) (old.reader side) (now.reader side) (now.reader side) [] (r.ls side) l (r.b side)) s
+          (r.ls s) r.p (passing_now now place r.ls r.p r.b r.sides r.keeps slots s step.stands) stand) e.1.faulted)
+      alone_stops reader next after fault (inr e) =
+          unread now place r.ls r.p r.b r.sides r.keeps slots s step.stands (put s (r.ls s) r.p) new e.0 merging_alone (put_same s (r.ls s) r.p)
+          (subst (λ (l : Lines). Gone job.end cmp (key (other s)) (old.reader (other s)) (now.reader (other s)) (now.reader (other s)) [] (r.ls (other s)) l
+          (r.b (other s))) (sym (put_other s (r.ls s) r.p)) (stand (other s))) reader after fault e.1
 
     -- ---- a line that both inputs have
 
@@ -300,34 +294,21 @@ module _ (job : Comm) (cmp : Cmp) (key : Side → Key) (o : IsKeyOrder cmp) (old
       pub midway : (reader : Reader) (next : Sorted) (mid : Slots) → Comes (key First) cmp (place First) next (now.reader First) reader now.store mid → Midway reader next mid
       midway reader next mid comes = record { n = goes now place r.ls r.p r.b r.sides r.keeps slots First step.first reader next mid comes }
 
-      pub both_unwritten : new.faulted ≡ true → IsMerge (comm_by job cmp key) old (record { reader = now.reader; out = new; store = now.store }) (Err Write)
-      both_unwritten fault =
-          unwritten now place r.ls r.p r.b r.sides r.keeps slots (both (r.ls First) (r.ls Second)) new merging_both pushed_both.1
-          (elim [ First ↦ passing_now now place r.ls r.p r.b r.sides r.keeps slots First step.first | Second ↦ passing_now now place r.ls r.p r.b r.sides r.keeps slots Second step.second ]) fault
-
-      pub both_unread : new.faulted ≡ false → (reader : Reader) (after : Slots) (fault : MergeFault)
-          → CannotRead First (place First) (now.reader First) reader now.store after fault
-          → IsMerge (comm_by job cmp key) old (record { reader = put First reader now.reader; out = new; store = after }) (Err fault)
-      both_unread fine reader after fault moves =
-          unread now place r.ls r.p r.b r.sides r.keeps slots First step.first (both (r.ls First) (r.ls Second)) new fine merging_both refl
-          (passing_now now place r.ls r.p r.b r.sides r.keeps slots Second step.second) reader after fault moves
-
       -- the turn could not be gone on with
       pub both_stops : (reader : Reader) (next : Sorted) (after : Slots) (fault : MergeFault)
           → PassesLine (key First) cmp First (place First) next (now.reader First) reader now.store after new (Err fault)
           → IsMerge (comm_by job cmp key) old (record { reader = put First reader now.reader; out = new; store = after }) (Err fault)
-      both_stops reader next after fault (inl e) = subst (IsMerge (comm_by job cmp key) old (record { reader = put First reader now.reader; out = new; store = after })) (λ i. Err (sym e.0 i))
-          (subst (λ (f : Side → Reader). IsMerge (comm_by job cmp key) old (record { reader = f; out = new; store = after }) (Err Write)) (same_reader First reader now.reader e.1.unread)
-          (subst (λ t. IsMerge (comm_by job cmp key) old (record { reader = now.reader; out = new; store = t }) (Err Write)) (sym e.1.store) (both_unwritten e.1.faulted)))
-      both_stops reader next after fault (inr e) = both_unread e.0 reader after fault e.1
+      both_stops reader next after fault (inl e) = same_state (comm_by job cmp key) old First now new reader after fault e.0 e.1
+          (unwritten now place r.ls r.p r.b r.sides r.keeps slots (both (r.ls First) (r.ls Second)) new merging_both pushed_both.1
+          (elim [
+            | First ↦ passing_now now place r.ls r.p r.b r.sides r.keeps slots First step.first
+            | Second ↦ passing_now now place r.ls r.p r.b r.sides r.keeps slots Second step.second
+          ]) e.1.faulted)
+      both_stops reader next after fault (inr e) =
+          unread now place r.ls r.p r.b r.sides r.keeps slots First step.first (both (r.ls First) (r.ls Second)) new e.0 merging_both refl
+          (passing_now now place r.ls r.p r.b r.sides r.keeps slots Second step.second) reader after fault e.1
 
       module _ (reader : Reader) (next : Sorted) (mid : Slots) (w : Midway reader next mid) (slots' : (side : Side) → HasSlots side (put First next place side)) where
-        abbrev between : State
-        between = record { reader = put First reader now.reader; out = new; store = mid }
-
-        abbrev ls1 : Side → Lines
-        ls1 = put First w.n.now_ls r.ls
-
         sides1 : BothStand (comm_by job cmp key) old.reader (put First reader now.reader) (put First next place) mid (put First w.n.now_ls r.ls) (put First (r.ls First) r.p) (put First w.n.bound r.b)
         sides1 = sides_go now place r.ls r.p r.b r.sides r.keeps slots First step.first reader next mid w.n
 
@@ -354,12 +335,14 @@ module _ (job : Comm) (cmp : Cmp) (key : Side → Key) (o : IsKeyOrder cmp) (old
                   (put First (r.ls First) r.p) (put First w.n.bound r.b) sides1 keeps1 slots' Second step.second reader2 next2 after n;
             }
 
-        -- what was staged could not be sent before the second input was read
-        pub both_unsent : (out : Output) → out.faulted ≡ false → Wrote old.out out
-            (text job.end (by_keys (comm_by job cmp key) all_keys (both (r.ls First) (r.ls Second)))) → Wrote out new [] → new.faulted ≡ true
-            → IsMerge (comm_by job cmp key) old (record { reader = put First reader now.reader; out = new; store = mid }) (Err Write)
-        both_unsent out fine pushed sent fault =
-            unwritten (record { reader = put First reader now.reader; out = new; store = mid }) (put First next place) (put First w.n.now_ls r.ls)
+        -- the turn could not be ended
+        pub second_stops : (out : Output) → out.faulted ≡ false → Wrote old.out out
+            (text job.end (by_keys (comm_by job cmp key) all_keys (both (r.ls First) (r.ls Second)))) → Wrote out new [] → (reader2 : Reader) (next2 : Sorted) (after : Slots) (fault : MergeFault)
+            → PassesLine (key Second) cmp Second (place Second) next2 (now.reader Second) reader2 mid after new (Err fault)
+            → IsMerge (comm_by job cmp key) old (record { reader = both reader reader2; out = new; store = after }) (Err fault)
+        second_stops out fine pushed sent reader2 next2 after fault (inl e) =
+            same_state (comm_by job cmp key) old Second (record { reader = put First reader now.reader; out = new; store = mid }) new reader2 after fault e.0 e.1
+            (unwritten (record { reader = put First reader now.reader; out = new; store = mid }) (put First next place) (put First w.n.now_ls r.ls)
             (put First (r.ls First) r.p) (put First w.n.bound r.b) sides1 keeps1 slots' (both (r.ls First) (r.ls Second)) new merging1
             (late_none (comm_by job cmp key) (put First w.n.bound r.b) (both (r.ls First) (r.ls Second)) old.out out new fine pushed sent)
             (elim [
@@ -367,16 +350,12 @@ module _ (job : Comm) (cmp : Cmp) (key : Side → Key) (o : IsKeyOrder cmp) (old
                   (put First (r.ls First) r.p) (put First w.n.bound r.b) sides1 keeps1 slots' First
               | Second ↦ passing_now (record { reader = put First reader now.reader; out = new; store = mid }) (put First next place)
                   (put First w.n.now_ls r.ls) (put First (r.ls First) r.p) (put First w.n.bound r.b) sides1 keeps1 slots' Second step.second
-            ]) fault
-
-        pub both_unread_second : new.faulted ≡ false → (reader2 : Reader) (after : Slots) (fault : MergeFault)
-            → CannotRead Second (place Second) (now.reader Second) reader2 mid after fault
-            → IsMerge (comm_by job cmp key) old (record { reader = both reader reader2; out = new; store = after }) (Err fault)
-        both_unread_second fine reader2 after fault moves =
+            ]) e.1.faulted)
+        second_stops out fine pushed sent reader2 next2 after fault (inr e) =
             unread (record { reader = put First reader now.reader; out = new; store = mid }) (put First next place) (put First w.n.now_ls r.ls)
-            (put First (r.ls First) r.p) (put First w.n.bound r.b) sides1 keeps1 slots' Second step.second (both (r.ls First) (r.ls Second)) new fine merging1 refl
+            (put First (r.ls First) r.p) (put First w.n.bound r.b) sides1 keeps1 slots' Second step.second (both (r.ls First) (r.ls Second)) new e.0 merging1 refl
             (standing (record { reader = put First reader now.reader; out = new; store = mid }) (put First next place) (put First w.n.now_ls r.ls)
-            (put First (r.ls First) r.p) (put First w.n.bound r.b) sides1 keeps1 slots' First) reader2 after fault moves
+            (put First (r.ls First) r.p) (put First w.n.bound r.b) sides1 keeps1 slots' First) reader2 after fault e.1
 
     -- ---- the end
 

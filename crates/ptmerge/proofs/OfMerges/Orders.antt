@@ -63,9 +63,6 @@ module _ (cmp : Cmp) (o : IsKeyOrder cmp) where
   pub less_at_most : (a b : List ℕ) → cmp a b ≡ Less → AtMost cmp a b
   less_at_most a b l = ap is_gt l
 
-  pub same_at_most : (a b : List ℕ) → cmp a b ≡ Equal → AtMost cmp a b
-  same_at_most a b e = ap is_gt e
-
   -- k is y, or before it
   pub least_or_above : (k y : List ℕ) → AtMost cmp k y → ((bytes_eq y k ≡ true) × (y ≡ k)) ⊎ ((bytes_eq y k ≡ false) × (cmp y k ≡ Greater))
   least_or_above k y h = by (cmp k y) refl h
@@ -111,9 +108,6 @@ module _ (cmp : Cmp) (o : IsKeyOrder cmp) where
 
   pub at_most_is_le : (a b : List ℕ) → AtMost cmp a b → is_le (cmp a b) ≡ true
   at_most_is_le a b = elim (cmp a b) as (λ r. is_gt r ≡ false → is_le r ≡ true) [ Less ↦ λ h. refl | Equal ↦ λ h. refl | Greater ↦ λ h. cc ]
-
-  pub not_le_above : (a b : List ℕ) → is_le (cmp a b) ≡ false → cmp a b ≡ Greater
-  not_le_above a b = elim (cmp a b) as (λ r. is_le r ≡ false → r ≡ Greater) [ Less ↦ λ h. cc | Equal ↦ λ h. cc | Greater ↦ λ h. refl ]
 
   pub above_not_le : (a b : List ℕ) → cmp a b ≡ Greater → is_le (cmp a b) ≡ false
   above_not_le a b g = ap is_le g

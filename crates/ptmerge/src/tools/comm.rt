@@ -8,16 +8,14 @@ ghost use Rattle.ptlines.specs.Slots.{line};
 ghost use Rattle.ptlines.specs.Text.{text};
 ghost use Rattle.ptmerge.specs.Comm.{comm_by, comm_tool, tab_unless, entries_in};
 ghost use Rattle.ptmerge.specs.Merges.{IsMerge, IsReady, IsUnread, Untouched, ended_by, seen};
-ghost use Rattle.ptmerge.specs.LinePasses.{PassesLine};
-ghost use Rattle.ptmerge.specs.Sides.{both, other};
-ghost use Rattle.ptmerge.specs.Steps.{IsPlaced, IsLent};
+ghost use Rattle.ptmerge.specs.LinePasses.{Passes, StandsAt};
+ghost use Rattle.ptmerge.specs.Sides.{both};
 ghost use Rattle.ptmerge.specs.Stores.{Adds};
 ghost use Rattle.ptmerge.specs.declared.order.Side.{Side as Of};
-ghost use Rattle.ptmerge.specs.declared.merging.sorted.Stand.TheVariants as stands;
 
 use crate::faults::MergeFault;
 use crate::merging::slots::clear_four;
-use crate::merging::{Merge, Step, send_before_wait};
+use crate::merging::{Merge, Step};
 use crate::order::{Descending, KeyOrder, Side, WholeLine};
 use ptlangs::jobs::CommJob;
 use ptlines::{LineReader, Out, Sink, Source, Store, WriteFault};
@@ -34,7 +32,7 @@ fn lead(hide1: bool, hide2: bool) -> &'static [u8]
     }
 }
 
-// Pushes a line of a column behind what stands in front of it, unless the column is left out.
+// Pushes a line of a column after what comes before it, unless the column is left out.
 #[inline(always)]
 fn push_entry<W: Sink>(
     hidden: bool,
@@ -66,28 +64,21 @@ fn pass<K: KeyOrder, A: Allocator + Copy, S: Source, R: Source, W: Sink>(
     store: &mut Store<A>,
     out: &mut Out<W>,
 ) -> Result<(), MergeFault>
-    requires placed { IsPlaced (K.key_of merge.old.order) merge.old.first merge.old.second store.old }
-    requires stands { (both merge.old.first merge.old.second side).stand ≡ stands.Head }
-    requires lent { IsLent (both merge.old.first merge.old.second side) reader.old }
+    requires stands { let key = K.key_of merge.old.order in
+        StandsAt key side merge.old.first merge.old.second reader.old store.old }
     requires clean { out.old.faulted ≡ false }
     ensures wrote { let standing = line store.old (both merge.old.first merge.old.second side).standing in
         Wrote out.old out.new (text ending (entries_in hidden lead.now 1 standing)) }
-    ensures passes { let was = both merge.old.first merge.old.second side in
-        let is = both merge.new.first merge.new.second side in
-        let key = K.key_of merge.old.order side in
-        PassesLine key (K.order merge.old.order) side was is reader.old reader.new store.old store.new out.new result }
-    ensures others { let was = both merge.old.first merge.old.second (other side) in
-        both merge.new.first merge.new.second (other side) ≡ was }
+    ensures passes { let key = K.key_of merge.old.order in
+        Passes key (K.order merge.old.order) side merge.old.first merge.old.second merge.new.first merge.new.second
+        reader.old reader.new store.old store.new out.new result }
     ensures order { merge.new.order ≡ merge.old.order }
-    ensures placed { OnOk result (IsPlaced (K.key_of merge.new.order) merge.new.first merge.new.second store.new) }
-    ensures lent { OnOk result (IsLent (both merge.new.first merge.new.second side) reader.new) }
 {
     match push_entry(hidden, lead, merge.head(side, store), ending, out) {
         Ok(()) => {}
         Err(_) => return Err(MergeFault::Write),
     }
-    send_before_wait(reader, out)?;
-    merge.advance(side, reader, store)
+    merge.go_on(side, reader, store, out)
 }
 
 // `comm` in an order whose keys are the lines, over readers whose ending is set.
@@ -149,8 +140,7 @@ fn comm_in_order<K: KeyOrder, A: Allocator + Copy, S: Source, R: Source, W: Sink
                     store,
                     out,
                 )?;
-                send_before_wait(second, out)?;
-                merge.advance(Side::Second, second, store)?;
+                merge.go_on(Side::Second, second, store, out)?;
             }
             Step::End => {
                 clear_four(store);

@@ -1,6 +1,6 @@
 //! `join`. It stands on the merge, and keeps the second input's lines of one key at a time.
 //!
-//! `groups` are those lines, `fields` the fields of a line and the entry that is written of two, and `blanks` finds
+//! `groups` are those lines, `fields` the fields of a line and the entry that is written for two, and `blanks` finds
 //! what stands between words.
 
 ghost use Rattle.std.specs.Prelude.{◌≡◌, ◌<◌, ◌≤◌, ℕ, List, ◌++◌, ◌∷◌, [], option_copied, false, true, length, IfSome, OnOk, OnErr};
@@ -34,7 +34,7 @@ use ptlangs::jobs::JoinJob;
 use ptlines::{LineReader, Out, Sink, Source, Store, WriteFault};
 use std::alloc::Allocator;
 
-// Pushes what is written of a pair of lines, or of one of them, and the byte that ends it.
+// Pushes what is written for a pair of lines, or of one of them, and the byte that ends it.
 fn push_line<A: Allocator, W: Sink>(
     job: &JoinJob<A>,
     key: &[u8],

@@ -22,7 +22,7 @@ use std::alloc::Allocator;
 // What a block of lines is cut to, and 16 bytes more, which a copy of few bytes may change.
 type Room = [u8; 8192 + 16];
 
-// Where the field starts that so many fields stand in front of, in a line that is the first `to` of these bytes, or
+// Where the field starts that comes after so many fields, in a line that is the first `to` of these bytes, or
 // `None` if the line has no more than these.
 #[inline(always)]
 fn field_start(delimiter: u8, bytes: &[u8], to: usize, count: u64) -> Option<usize>
@@ -42,7 +42,7 @@ fn field_start(delimiter: u8, bytes: &[u8], to: usize, count: u64) -> Option<usi
 }
 
 // The same of what stands in a line from a place on, counted from there. The line's first delimiter, which was found
-// before, is not searched again: the place is the line's start, or behind that delimiter.
+// before, is not searched again: the place is the line's start, or after that delimiter.
 #[inline(always)]
 fn field_behind(
     delimiter: u8,
@@ -68,7 +68,7 @@ fn field_behind(
 }
 
 // Pushes the selected fields of a line, whose first delimiter stands at `first`; it may be longer than any room.
-// Neighbouring fields are pushed as one slice, which a delimiter in front of them begins.
+// Neighbouring fields are pushed as one slice, which begins with the delimiter before them.
 fn push_fields<A: Allocator + Copy, W: Sink>(
     job: &CutJob<A>,
     first: usize,
@@ -84,7 +84,7 @@ fn push_fields<A: Allocator + Copy, W: Sink>(
 {
     let selected = job.list.intervals();
     let to = line.len();
-    // The field of this number starts at this place, and so many delimiters stand in front of the next slice.
+    // The field of this number starts at this place, and so many delimiters stand before the next slice.
     let mut number = 1;
     let mut at = 0;
     let mut lead = 0;
@@ -105,7 +105,7 @@ fn push_fields<A: Allocator + Copy, W: Sink>(
     Ok(())
 }
 
-// Pushes what is written of a line that comes without the byte that ends it.
+// Pushes what is written for a line that comes without the byte that ends it.
 fn push_kept<A: Allocator + Copy, W: Sink>(
     job: &CutJob<A>,
     ending: u8,
@@ -132,7 +132,7 @@ fn push_kept<A: Allocator + Copy, W: Sink>(
     out.push(&[ending])
 }
 
-// Puts the selected fields of a line, the first `to` of these bytes, and then the byte behind it, which ends it, to the
+// Puts the selected fields of a line, the first `to` of these bytes, and then the byte after it, which ends it, to the
 // place `start` of a room. The line's first delimiter stands at `first`. The answer is where what was put ends.
 #[inline(always)]
 fn put_fields<A: Allocator + Copy>(
@@ -196,8 +196,8 @@ fn whole_lines(ending: u8, bytes: &[u8], to: usize, up_to: usize) -> usize
     }
 }
 
-// Puts what is written of the first lines of these bytes to a place of a room: of the first line, which ends at `to`,
-// and where the delimiter is not in it, of all whole lines in front of the first delimiter. The answer is how many
+// Puts what is written for the first lines of these bytes to a place of a room: of the first line, which ends at `to`,
+// and where the delimiter is not in it, of all whole lines before the first delimiter. The answer is how many
 // bytes these lines are, and where what was put ends.
 #[inline(always)]
 fn put_lines<A: Allocator + Copy>(
@@ -303,7 +303,7 @@ impl<A: Allocator + Copy> LineTool for CutJob<A> {
     }
 }
 
-// Writes the selected fields of each line of a reader, and behind each line the byte that ends it.
+// Writes the selected fields of each line of a reader, and after each line the byte that ends it.
 pub(crate) fn cut_by_fields<A: Allocator + Copy, S: Source, R: Source, W: Sink>(
     job: &CutJob<A>,
     reader: &mut LineReader<S, R>,

@@ -55,7 +55,7 @@ impl Pick {
 }
 
 // Puts the selected ones of the first `count` bytes into `into`, from the place `at` on, and says where they end. What
-// stood behind them may change.
+// was after them may change.
 #[inline(always)]
 pub(crate) fn put_picked(
     pick: &Pick,

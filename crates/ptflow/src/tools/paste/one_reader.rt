@@ -1,5 +1,5 @@
 //! Rows of `paste` whose cells all name one reader: they are what it holds, where the ends of lines become in turn what
-//! stands behind each cell.
+//! follows each cell.
 
 ghost use Rattle.std.specs.Prelude.{◌≡◌, ◌<◌, ◌≤◌, ◌+◌, ◌-◌, ℕ, All, None, IfSome, length, slice_index_or, take};
 ghost use Rattle.std.specs.List.{count_by};
@@ -16,7 +16,7 @@ use ptlangs::delims::Delims;
 use ptlines::{LineReader, Out, Sink, Source, WriteFault};
 use std::alloc::Allocator;
 
-/// What stands behind each cell of a row: a delimiter, and behind the last one the end that is there. The same is
+/// What follows each cell of a row: a delimiter, and after the last one the end that is there. The same is
 /// spread over 128 ends.
 #[derive(Drop)]
 pub(crate) struct Turns {
@@ -24,7 +24,7 @@ pub(crate) struct Turns {
     spread: Spread,
 }
 
-// What stands behind each cell, if they are few and all name one reader, and a byte stands between each two of them.
+// What follows each cell, if they are few and all name one reader, and a byte stands between each two of them.
 fn list_of_one<A: Allocator>(
     delims: &Delims<A>,
     cells: &[usize],
@@ -60,7 +60,7 @@ pub(crate) fn turns_of_one<A: Allocator>(
     Some(Turns { list, spread })
 }
 
-// The place behind the last end of a line behind which so many more ends stand, or 0.
+// The place after the last end of a line after which so many more ends come, or 0.
 fn end_before(ending: u8, bytes: &[u8], over: u64) -> usize
     requires { over ≤ count_by (is_byte ending) bytes.now }
     ensures within { result ≤ length bytes.now }

@@ -16,14 +16,14 @@ use ptlangs::jobs::PasteJob;
 use ptlines::{LineReader, Out, Sink, Source, Store, WriteFault, copy_near, find_near};
 use std::alloc::Allocator;
 
-/// A cell of a row: its number, and whether it has ended, so that a delimiter stands in front of what follows.
+/// A cell of a row: its number, and whether it has ended, so that a delimiter comes before what follows.
 #[derive(Clone, Copy)]
 pub(crate) struct Cell {
     pub number: u64,
     pub ended: bool,
 }
 
-// Pushes what stands behind the cell of this number.
+// Pushes what follows the cell of this number.
 pub(crate) fn push_delimiter<A: Allocator, W: Sink>(
     delims: &Delims<A>,
     number: u64,
@@ -64,10 +64,10 @@ pub(crate) fn begin_cell<A: Allocator, W: Sink>(
     })
 }
 
-// What is written of a block, and room for what a copy changes behind it.
+// What is written for a block, and room for what a copy changes after it.
 pub(crate) type Written = [u8; 8208];
 
-// Puts what stands behind the cell of this number, and says where that ends.
+// Puts what follows the cell of this number, and says where that ends.
 #[inline(always)]
 pub(crate) fn put_delimiter<A: Allocator>(
     delims: &Delims<A>,
@@ -88,7 +88,7 @@ pub(crate) fn put_delimiter<A: Allocator>(
     }
 }
 
-// The delimiter that stands behind every cell, if the list has no other.
+// The delimiter that follows every cell, if the list has no other.
 fn always_of<A: Allocator>(delims: &Delims<A>) -> Option<u8>
     ensures { IfSome result (λ delim. IsAlways delims.now delim) }
 {
@@ -98,7 +98,7 @@ fn always_of<A: Allocator>(delims: &Delims<A>) -> Option<u8>
     None
 }
 
-// Copies bytes that come in the cell of this number, and in place of each end of a line the delimiter behind its cell.
+// Copies bytes that come in the cell of this number, and in place of each end of a line the delimiter after its cell.
 // The answer is where that ends, and the number of the cell in which more comes.
 fn put_pieces<A: Allocator>(
     delims: &Delims<A>,
@@ -154,7 +154,7 @@ fn put_cells<A: Allocator>(
     (count, number)
 }
 
-// Copies what is written of a block that comes in the cell of this number. No delimiter is written behind the last
+// Copies what is written for a block that comes in the cell of this number. No delimiter is written after the last
 // cell before more comes. The answer is where that ends, and the cell in which the next block comes.
 fn put_block<A: Allocator>(
     delims: &Delims<A>,
@@ -192,7 +192,7 @@ fn put_block<A: Allocator>(
     )
 }
 
-// Pushes what is written of a block that comes in this cell. The answer is the cell in which the next block comes.
+// Pushes what is written for a block that comes in this cell. The answer is the cell in which the next block comes.
 fn push_cells<A: Allocator, W: Sink>(
     delims: &Delims<A>,
     ending: u8,
@@ -220,7 +220,7 @@ fn push_cells<A: Allocator, W: Sink>(
     Ok(after)
 }
 
-/// The delimiters, the byte that ends a line, the cell in which the next byte comes, and a place for what is written of
+/// The delimiters, the byte that ends a line, the cell in which the next byte comes, and room for what is written for
 /// a block.
 #[derive(Drop)]
 struct SerialPaste<'a, A: Allocator> {
@@ -258,7 +258,7 @@ impl<'a, A: Allocator> BlockTool for SerialPaste<'a, A> {
     }
 }
 
-// Writes the lines of a reader in one row. No line is kept: what is written of the bytes that came is pushed before
+// Writes the lines of a reader in one row. No line is kept: what is written for the bytes that came is pushed before
 // the next read.
 fn over_row<A: Allocator, S: Source, R: Source, W: Sink>(
     job: &PasteJob<A>,
@@ -286,7 +286,7 @@ fn over_row<A: Allocator, S: Source, R: Source, W: Sink>(
 /// line (XCU, `paste`, option `-s`). The row ends with newline, or with byte 0 with `-z` (this project's own choice). A
 /// reader without lines is an empty row (this project's own choice).
 ///
-/// No line is kept, and the store stays as it was. What is written of the bytes that came is pushed before the next
+/// No line is kept, and the store stays as it was. What is written for the bytes that came is pushed before the next
 /// read. On an output that has faulted nothing is read.
 /// # Errors
 /// `Read` or `Write` where a read or a write failed.

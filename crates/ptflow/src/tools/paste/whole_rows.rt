@@ -18,7 +18,7 @@ use std::simd::prelude::*;
 // How many bytes are taken of each of few readers, by its place.
 type Taken = [u16; 16];
 
-// The delimiter behind a column, without a division where the list is long enough.
+// The delimiter after a column, without a division where the list is long enough.
 #[inline(always)]
 fn delim_behind<A: Allocator>(delims: &Delims<A>, column: usize) -> Option<u8>
     ensures { result ≡ delim_at delims.now column }
@@ -30,7 +30,7 @@ fn delim_behind<A: Allocator>(delims: &Delims<A>, column: usize) -> Option<u8>
     delims.at(column as u64)
 }
 
-// Puts the delimiter that stands in front of a cell, if there is one, and says where it ends.
+// Puts the delimiter that comes before a cell, if there is one, and says where it ends.
 #[inline(always)]
 fn put_lead<A: Allocator>(delims: &Delims<A>, column: usize, into: &mut Written, at: usize) -> usize
     requires room { at ≤ 8192 }
@@ -139,7 +139,7 @@ fn put_row<A: Allocator, S: Source, R: Source>(
 }
 
 // Puts as many of the next rows as lie whole in what the readers hold, and in the room. The answer is where they end,
-// and how many bytes they take of each reader. Apart, so that the loop has all registers.
+// and how many bytes they take of each reader. Out of line, so that the loop has all registers.
 #[inline(never)]
 fn put_rows<A: Allocator, S: Source, R: Source>(
     delims: &Delims<A>,

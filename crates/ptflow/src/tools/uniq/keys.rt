@@ -16,7 +16,7 @@ fn is_blank(byte: u8) -> bool
     byte == b' ' || byte == b'\t'
 }
 
-// What stands behind the bytes in front that are no blanks. Apart, so that a near blank is found without a call.
+// What follows the first bytes that are no blanks. Out of line, so that a near blank is found without a call.
 #[inline(never)]
 fn behind_far(line: &[u8]) -> &[u8]
     ensures { result.now ≡ after_bytes line.now }
@@ -69,7 +69,7 @@ fn behind_few(line: &[u8]) -> &[u8]
     &line[line.len()..]
 }
 
-// What stands behind the bytes in front that are no blanks.
+// What follows the first bytes that are no blanks.
 #[inline(always)]
 fn behind_bytes(line: &[u8]) -> &[u8]
     ensures { result.now ≡ after_bytes line.now }
@@ -83,7 +83,7 @@ fn behind_bytes(line: &[u8]) -> &[u8]
     behind_few(line)
 }
 
-// What stands behind the first field of a line, which is blanks and then other bytes.
+// What follows the first field of a line, which is blanks and then other bytes.
 fn behind_field(line: &[u8]) -> &[u8]
     ensures { result.now ≡ after_fields 1 line.now }
 {
@@ -97,7 +97,7 @@ fn behind_field(line: &[u8]) -> &[u8]
     rest
 }
 
-// What stands behind so many fields of a line. Apart, since few jobs pass over fields.
+// What follows so many fields of a line. Out of line, since few jobs pass over fields.
 #[inline(never)]
 fn behind_fields(fields: u64, line: &[u8]) -> &[u8]
     ensures { result.now ≡ after_fields fields line.now }

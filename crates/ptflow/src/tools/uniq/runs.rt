@@ -14,7 +14,7 @@ use itoa::Buffer;
 use ptlangs::jobs::{Show, UniqJob};
 use ptlines::{Out, Sink, WriteFault, find_near};
 
-// Whether something is written of a run of so many lines.
+// Whether something is written for a run of so many lines.
 fn is_shown(show: Show, count: u64) -> bool
     ensures { result ≡ is_shown show count }
 {
@@ -25,7 +25,7 @@ fn is_shown(show: Show, count: u64) -> bool
     }
 }
 
-// Whether something stands in front of a run's line.
+// Whether something comes before a run's line.
 fn has_lead(show: Show) -> bool
     ensures { result ≡ false → (count : ℕ) → lead show count ≡ [] }
 {
@@ -35,7 +35,7 @@ fn has_lead(show: Show) -> bool
     }
 }
 
-// Pushes what stands in front of a run's line.
+// Pushes what comes before a run's line.
 fn push_lead<W: Sink>(show: Show, count: u64, out: &mut Out<W>) -> Result<(), WriteFault>
     requires { out.old.faulted ≡ false }
     ensures wrote { Wrote out.old out.new (lead show count) }
@@ -52,7 +52,7 @@ fn push_lead<W: Sink>(show: Show, count: u64, out: &mut Out<W>) -> Result<(), Wr
     }
 }
 
-// Pushes what is written of a run of so many lines. These are the bytes of its first line, and behind them its end.
+// Pushes what is written for a run of so many lines. These are the bytes of its first line, and after them its end.
 pub(crate) fn push_run<W: Sink>(
     show: Show,
     count: u64,
@@ -80,7 +80,7 @@ pub(crate) struct Same {
     pub passed: usize,
 }
 
-// The lines in front of a block that go on with the run whose first line this is. Apart, as the other loop is.
+// The first lines of a block that go on with the run whose first line this is. Out of line, as the other loop is.
 #[inline(never)]
 pub(crate) fn count_same(job: &UniqJob, ending: u8, first: &[u8], block: &[u8]) -> Same
     requires { length block.now < 2 ^ 63 }
@@ -112,7 +112,7 @@ pub(crate) struct Span {
     pub to: usize,
 }
 
-// Pushes bytes that wait, and behind them what stands in front of a run's line. Apart, since it is seldom needed.
+// Pushes bytes that wait, and after them what comes before a run's line. Out of line, since it is seldom needed.
 #[inline(never)]
 fn push_waiting<W: Sink>(
     show: Show,
@@ -129,7 +129,7 @@ fn push_waiting<W: Sink>(
     push_lead(show, count, out)
 }
 
-// Lets what is written of a run wait behind what waits already, where both are one piece of the block; else that is
+// Lets what is written for a run wait after what waits already, where both are one piece of the block; else that is
 // pushed first. The run has so many lines, and its first line, with its end, is in the block. The answer is what waits
 // then.
 #[inline(always)]
@@ -174,8 +174,8 @@ pub(crate) struct LastRun {
     pub passed: usize,
 }
 
-// Pushes what is written of the runs of the lines whose end is in the block, but for the last run. The first line ends
-// at this place. Apart, so that what the loop needs stays in registers.
+// Pushes what is written for the runs of the lines whose end is in the block, but for the last run. The first line ends
+// at this place. Out of line, so that what the loop needs stays in registers.
 #[inline(never)]
 pub(crate) fn push_runs<W: Sink>(
     job: &UniqJob,

@@ -60,7 +60,7 @@ fn find_blank_few(bytes: &[u8]) -> Option<usize>
     }
 }
 
-// The first blank among 16 bytes or more. Apart, so that what is near is found without a call.
+// The first blank among 16 bytes or more. Out of line, so that what is near is found without a call.
 #[inline(never)]
 fn find_blank_far(bytes: &[u8]) -> Option<usize>
     requires { 16 ≤ length bytes.now }
@@ -107,7 +107,7 @@ fn is_even_in<const N: usize>(bytes: &[u8], at: usize) -> bool
     uneven.to_bitmask() == 0
 }
 
-// The same of all bytes behind the first one, which are N or up to twice as many: the first N and the last N.
+// The same of all bytes after the first one, which are N or up to twice as many: the first N and the last N.
 #[inline(always)]
 fn is_even_at_ends<const N: usize>(bytes: &[u8]) -> bool
     requires lanes { N ≤ 64 }

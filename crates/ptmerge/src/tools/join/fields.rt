@@ -26,7 +26,7 @@ fn field_end(separator: Option<u8>, bytes: &[u8]) -> Option<usize>
     }
 }
 
-// What stands in front of the first byte that ends a field, and what is left behind it, if there is one.
+// What comes before the first byte that ends a field, and what is left after it, if there is one.
 #[inline(always)]
 fn first_piece(separator: Option<u8>, bytes: &[u8]) -> (&[u8], Option<&[u8]>)
     ensures first { MatchOption result.1
@@ -42,7 +42,7 @@ fn first_piece(separator: Option<u8>, bytes: &[u8]) -> (&[u8], Option<&[u8]>)
     }
 }
 
-// The first field of what is left of a line, and what is left behind it, or `None` if there are no more fields.
+// The first field of what is left of a line, and what is left after it, or `None` if there are no more fields.
 fn next_field<'a>(
     separator: Option<u8>,
     line: Option<&'a [u8]>,
@@ -212,7 +212,7 @@ fn push_led<W: Sink>(byte: u8, field: &[u8], out: &mut Out<W>) -> Result<(), Wri
     out.push_line(&[byte], field, b"")
 }
 
-// Pushes all fields of what is left of a line, each with a space in front of it.
+// Pushes all fields of what is left of a line, each with a space before it.
 fn push_words<W: Sink>(bytes: &[u8], out: &mut Out<W>) -> Result<(), WriteFault>
     requires { out.old.faulted ≡ false }
     ensures wrote { Wrote out.old out.new (led 32 (fields_left None (Some bytes.now))) }
@@ -230,7 +230,7 @@ fn push_words<W: Sink>(bytes: &[u8], out: &mut Out<W>) -> Result<(), WriteFault>
     Ok(())
 }
 
-// Pushes all fields of what is left of a line, each with what stands between fields in front of it.
+// Pushes all fields of what is left of a line, each with what stands between fields before it.
 fn push_left<W: Sink>(
     separator: Option<u8>,
     line: Option<&[u8]>,
@@ -248,7 +248,7 @@ fn push_left<W: Sink>(
     }
 }
 
-// Pushes all fields of a line but the one with this number, each with what stands between fields in front of it.
+// Pushes all fields of a line but the one with this number, each with what stands between fields before it.
 fn push_others<W: Sink>(
     separator: Option<u8>,
     number: u64,
@@ -307,7 +307,7 @@ fn named_field<'a, A: Allocator>(
     }
 }
 
-// What is written of an element of the output list: what it names, or where that is empty what stands for it.
+// What is written for an element of the output list: what it names, or where that is empty what stands for it.
 fn listed_field<'a, A: Allocator>(
     job: &'a JoinJob<A>,
     item: OutField,
@@ -328,7 +328,7 @@ fn listed_field<'a, A: Allocator>(
     field
 }
 
-// Pushes what is written of a pair of lines, or of one of them, with an output list.
+// Pushes what is written for a pair of lines, or of one of them, with an output list.
 fn push_listed<A: Allocator, W: Sink>(
     job: &JoinJob<A>,
     items: &[OutField],
@@ -360,7 +360,7 @@ fn push_listed<A: Allocator, W: Sink>(
     Ok(())
 }
 
-// Pushes the fields that are written of a pair of lines, or of one of them, and of which this is the join field.
+// Pushes the fields that are written for a pair of lines, or of one of them, and of which this is the join field.
 fn push_fields<A: Allocator, W: Sink>(
     job: &JoinJob<A>,
     key: &[u8],

@@ -25,7 +25,7 @@ fn need_slot<A: Allocator + Copy>(store: &mut Store<A>, slot: usize) -> Result<(
     Ok(())
 }
 
-// Copies the line of a slot to another one, which is added if it is missing. The answer is the slot behind that one.
+// Copies the line of a slot to another one, which is added if it is missing. The answer is the slot after that one.
 fn keep_line<A: Allocator + Copy>(
     store: &mut Store<A>,
     from: usize,
@@ -43,7 +43,7 @@ fn keep_line<A: Allocator + Copy>(
 }
 
 // Goes to the second input's next line, and copies the line before it to the group's slots. Where that line is the only
-// one of its key, it stays where it is. The answer is the slot behind the copied lines.
+// one of its key, it stays where it is. The answer is the slot after the copied lines.
 pub(crate) fn gather<K: KeyOrder, A: Allocator + Copy, S: Source, R: Source>(
     merge: &mut Merge<K>,
     end: usize,
@@ -72,7 +72,7 @@ pub(crate) fn gather<K: KeyOrder, A: Allocator + Copy, S: Source, R: Source>(
     }
 }
 
-// The slots of the group, whose copied lines end before slot `end`: its first slot, and the one behind its last.
+// The slots of the group, whose copied lines end before slot `end`: its first slot, and the one after its last.
 #[inline(always)]
 pub(crate) fn group_slots<K: KeyOrder>(merge: &Merge<K>, end: usize) -> (usize, usize)
     requires { merge.now.second.previous < 4 }

@@ -1,17 +1,24 @@
 -- Each turn passes one more operand. One that stops the pass stops the run there, and the others are left alone.
-use Rattle.std.proofs.Common.{◌<◌, ℕ, List, [], ◌∷◌, Ok, Err, ◌+◌, length, take, drop, get_or, set, sym, ◌∙◌, ap, subst}
+use Rattle.std.proofs.Common.{◌≡◌, ◌<◌, ℕ, Bool, true, List, [], ◌∷◌, Ok, Err, ◌+◌, length, take, drop, get_or, set, sym, ◌∙◌, ap, subst}
 use Rattle.std.specs.Prelude.{codes}
 use Rattle.std.proofs.lemmas.List.{get_or_default, set-get_or}
 use Rattle.ptlines.specs.Readers.{Reader}
+use Rattle.ptlines.specs.Inputs.{Given}
+use Rattle.ptflow.specs.Tools.{Tool}
 use Rattle.ptopts.specs.Meant.{words_seen}
 use Rattle.ptrun.specs.Worlds.{reader_at, no_reader, is_in, at}
 use Rattle.ptrun.specs.Sayings.{Tells, line_of}
 use Rattle.ptrun.specs.Operands.{places, one_by_one}
 use Rattle.ptrun.specs.Engines.{blame, Went}
-use Rattle.ptrun.proofs.InTurn.{pass_nothing, keeps_all, pass_all, pass_unopened, pass_done, pass_stopped, decided_by_law, ready_of}
+use Rattle.ptrun.proofs.InTurn.{pass_nothing, keeps_all, pass_all, pass_unopened, pass_done, pass_stopped, decided_by_law}
+use Rattle.ptrun.proofs.OnePlace.{ready_of}
 use Rattle.ptrun.proofs.Order.{fresh_all, places_next, places_split, places_end, pass_here}
 use Rattle.ptrun.proofs.operands.go_over_each.Goals as goal
 use Rattle.ptrun.proofs.operands.go_over_each.Goals.{then-is_refused, else-is_refused+in-Ok}
+
+-- where the end of an input was said, all of it is decided
+at_end : (t : Tool) → ((bytes : List ℕ) → t.decided (record { bytes = bytes; ended = true }) ≡ t.text bytes) → (g : Given) → g.ended ≡ true → t.decided g ≡ t.text g.bytes
+at_end t law g ended = ap (λ (b : Bool). t.decided (record { bytes = g.bytes; ended = b })) ended ∙ law g.bytes
 
 pub loop-input-init : goal.loop-input-init
 loop-input-init g c =
@@ -103,7 +110,7 @@ returns-in-Err g c =
     k in_old opened calm run
     (decided_by_law word t names old fresh c.args.out.now c.args.voice.now c.args.store.now now c.loop-input.out c.go_over.new.out c.loop-input.voice
     c.loop-input.store c.go_over.new.store done c.loop-input.done p c.go_over.new.reader c.go_over.result
-    k in_old opened calm run (g.met.T.OneByOne.all_decided c.args.tool.now))
+    k in_old opened calm run (at_end t (g.met.T.OneByOne.all_decided c.args.tool.now)))
     more c.in-Err.fault c.in-Err.is))
 
 pub returns : goal.returns
@@ -118,5 +125,5 @@ returns g c =
     c.loop-input.inputs c.loop-input.out c.loop-input.voice c.loop-input.store
     (take c.loop-input.input-index (places c.args.order.now)) c.loop-input.done c.loop-input.invariant
     (keeps_all word t names c.args.inputs.now (fresh_all c.args.inputs.now c.requires.fresh) c.args.out.now c.args.voice.now c.args.store.now
-    (g.met.T.OneByOne.all_decided c.args.tool.now) c.loop-input.inputs c.loop-input.out c.loop-input.voice c.loop-input.store
+    (at_end t (g.met.T.OneByOne.all_decided c.args.tool.now)) c.loop-input.inputs c.loop-input.out c.loop-input.voice c.loop-input.store
     (take c.loop-input.input-index (places c.args.order.now)) c.loop-input.done c.loop-input.invariant))

@@ -1,6 +1,6 @@
 -- Words that are refused are answered by their message alone. Otherwise the run is that of the command, and the
 -- headline is a reading of it in the world that the readers tell.
-use Rattle.std.proofs.Common.{ℕ, List, false, sym, subst, arith}
+use Rattle.std.proofs.Common.{ℕ, List, false, sym, subst}
 use Rattle.ptopts.specs.Meant.{words_seen, meant}
 use Rattle.ptlines.specs.Sinks.{SinkState}
 use Rattle.ptrun.specs.Asked.{tool_word}
@@ -8,21 +8,16 @@ use Rattle.ptrun.specs.Messages.{said_of, status_of}
 use Rattle.ptrun.specs.Meanings.{Meaning}
 use Rattle.ptrun.specs.Runs.{IsRun, sinks}
 use Rattle.ptrun.specs.Sayings.{Tells}
-use Rattle.ptrun.proofs.Asked.{asked_ok, asked_refused, operands_fit, headline_asked}
+use Rattle.ptrun.proofs.Asked.{asked_ok, asked_refused, operands_given, headline_asked}
 use Rattle.ptrun.proofs.Runs.{only_said}
 use Rattle.ptrun.proofs.running.run_with_store.Goals as goal
 
-pub run_command-requires-clause-fresh : goal.run_command-requires-clause-fresh
-run_command-requires-clause-fresh g c = rw c.in-Ok.is at c.requires.fresh
+pub run_command-requires-clause-given : goal.run_command-requires-clause-given
+run_command-requires-clause-given g c =
+    operands_given c.args.command (words_seen c.args.words.now) c.in-Ok.command c.args.inputs.now c.in-Ok.is c.requires.meant (rw c.in-Ok.is at c.requires.fresh)
 
-pub run_command-requires-clause-fits : goal.run_command-requires-clause-fits
-run_command-requires-clause-fits g c =
-    let fit = operands_fit c.args.command (words_seen c.args.words.now) c.in-Ok.command c.in-Ok.is c.requires.meant in
-    let fresh = rw c.in-Ok.is at c.requires.fresh in
-    λ k d within. omega (arith, fit.0 k d within, fresh.0)
-
-pub run_command-requires-clause-taken : goal.run_command-requires-clause-taken
-run_command-requires-clause-taken g c = (operands_fit c.args.command (words_seen c.args.words.now) c.in-Ok.command c.in-Ok.is c.requires.meant).1
+pub run_command-requires-clause-unused : goal.run_command-requires-clause-unused
+run_command-requires-clause-unused g c = rw c.new-voice.ensures c.requires.unused
 
 pub returns-in-Err-clause-run : goal.returns-in-Err-clause-run
 returns-in-Err-clause-run g c =

@@ -1,5 +1,5 @@
 use Rattle.std.proofs.Common.{◌++◌, sym, ◌∙◌}
-use Rattle.ptrun.proofs.Sayings.{joined_more, joined_all}
+use Rattle.ptrun.proofs.Sayings.{joined_more}
 use Rattle.ptrun.proofs.voice.line_of.Goals as goal
 
 pub loop-part-preserved : goal.loop-part-preserved

@@ -8,7 +8,7 @@ pub loop-at-init : goal.loop-at-init
 loop-at-init c =
     let seen = c.keep_most-at.ensures in
     keeps_same (λ b. not (holds c.args.set b)) (λ b. not (get_or c.args.flags.now b false)) c.args.from.now c.keep_most-at.new.into c.keep_most-at.result.0 c.keep_most-at.result.1
-    (λ b byte. ap not (c.requires.set b byte)) c.type_inv.from seen.looked seen.within c.keep_most-at.array_long seen.kept
+    (λ b byte. ap not (c.requires.set b byte)) c.type_inv.from seen.within seen.few seen.room seen.kept
 
 pub loop-at-preserved : goal.loop-at-preserved
 loop-at-preserved c =

@@ -1,0 +1,10 @@
+-- Of the bytes so far, those that are not in the set were put, in order.
+use Rattle.std.proofs.Common.{not, length, ◌-◌}
+use Rattle.ptflow.specs.Workings.Bytes.ByteSets.{Keeps, holds}
+use Rattle.ptflow.proofs.kernels.keeping.keep_chunks.Given as goal
+
+abbrev pub invariant-loop-at : goal.invariant-loop-at
+invariant-loop-at l = Keeps (λ b. not (holds l.set b)) l.from l.at l.into l.count
+
+abbrev pub decreases-loop-at : goal.decreases-loop-at
+decreases-loop-at l = length l.from - l.at

@@ -1,0 +1,13 @@
+use Rattle.std.proofs.Common.{ℕ, List, ◌++◌, Bool, not, take, map, ap, ◌∙◌}
+use Rattle.std.proofs.lemmas.List.{length-map}
+use Rattle.ptflow.specs.Workings.Bytes.ByteSets.{holds}
+use Rattle.ptflow.proofs.OfBytes.ChosenLanes.{chosen_by_test}
+use Rattle.ptflow.proofs.OfBytes.KeptBytes.{keep_bits}
+use Rattle.ptflow.proofs.kernels.keeping.keep_lanes.Goals as goal
+
+pub returns-clause-kept : goal.returns-clause-kept
+returns-clause-kept c =
+    let keeps : ℕ → Bool = λ b. not (holds c.args.set b) in
+    let bytes = c.args.bytes in
+    c.pack.ensures.packed (map keeps bytes) (length-map bytes keeps ∙ c.fits-bytes.0) (keep_bits (holds c.args.set) bytes _ c.fits-bytes.0 c.test-keep.ensures)
+    ∙ ap (λ (l : List ℕ). take c.args.count c.args.into.now ++ l) (chosen_by_test keeps bytes)

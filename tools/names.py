@@ -1,0 +1,22 @@
+"""The names of the tools, in the order in which a sentence lists them, and the letters that each takes. Both are said
+once, in crates/ptopts/src/tool.rt."""
+import os
+import re
+
+SOURCE = os.path.join(os.path.dirname(os.path.dirname(os.path.realpath(__file__))), "crates/ptopts/src/tool.rt")
+
+
+def listed():
+    with open(SOURCE, encoding="utf-8") as it:
+        return re.search(r'^pub const TOOLS: &str = "(.*)";$', it.read(), re.M)[1]
+
+
+def letters_of(part):
+    """For each tool, the letters of one part of what it takes: `flags` or `valued`."""
+    with open(SOURCE, encoding="utf-8") as it:
+        rows = re.findall(rf'^const (\w+): Syntax = Syntax \{{.*?\n    {part}: b"(\w*)",', it.read(), re.M | re.S)
+    return {name.lower(): found for name, found in rows}
+
+
+LISTED = listed()
+NAMES = re.split(", | or ", LISTED)
