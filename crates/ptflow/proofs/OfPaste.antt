@@ -2,6 +2,7 @@
 pub mod CellSlots
 pub mod GivenRows
 pub mod Grids
+pub mod LastEnds
 pub mod OneReader
 pub mod PartsPaste
 pub mod PasteKeepsUp

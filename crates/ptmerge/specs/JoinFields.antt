@@ -15,7 +15,7 @@ abbrev pub fields_left : Option ℕ → Option (List ℕ) → Lines
 fields_left separator None = []
 fields_left separator (Some bytes) = fields separator bytes
 
--- each field, with this byte in front of it
+-- each field, with this byte before it
 abbrev pub led : ℕ → Lines → List ℕ
 led byte fs = flat_map (λ f. byte ∷ f) fs
 
@@ -24,12 +24,12 @@ pub record IsAsWritten (separator : Option ℕ) (number : ℕ) (line : List ℕ)
   pub first : number - 1 ≡ 0
   pub is : led (between separator) (fields separator line) ≡ between separator ∷ line
 
--- words with one space between each two, and no blanks in front or behind; whether a blank stands in front of the bytes
+-- words with one space between each two, and no blanks before or after; whether a blank comes before the bytes
 abbrev pub is_tidy : Bool → List ℕ → Bool
 is_tidy blank [] = not blank
 is_tidy blank (b ∷ bytes) = if (b == 9) || (blank && (b == 32)) then false else is_tidy (b == 32) bytes
 
--- a tab, or a space behind another one
+-- a tab, or a space after another one
 abbrev pub is_uneven : ℕ → ℕ → Bool
 is_uneven before b = (b == 9) || ((before == 32) && (b == 32))
 
@@ -37,12 +37,12 @@ is_uneven before b = (b == 9) || ((before == 32) && (b == 32))
 abbrev pub UnevenAt : List ℕ → ℕ → Type 0
 UnevenAt bytes k = is_uneven (slice_index bytes (k - 1)) (slice_index bytes k) ≡ true
 
--- Whether no byte from one place up to another is a tab, or a space behind another one.
+-- Whether no byte from one place up to another is a tab, or a space after another one.
 pub record IsEven (bytes : List ℕ) (from to : ℕ) (even : Bool) : Type 0 where
   pub so : even ≡ true → Nowhere (UnevenAt bytes) from to
   pub not_so : even ≡ false → ¬ Nowhere (UnevenAt bytes) from to
 
--- These bytes are a field in front of what is left of a line: with one byte between them, or at the end.
+-- These bytes are a field before what is left of a line: with one byte between them, or at the end.
 pub record IsPiece (line field : List ℕ) (behind : Option (List ℕ)) : Type 0 where
   pub front : List ℕ
   pub tail : List ℕ

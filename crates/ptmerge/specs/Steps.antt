@@ -49,7 +49,7 @@ abbrev pub last_key : (Side → Key) → (Side → Sorted) → Slots → Side �
 last_key key place store side = key side (line store (place side).previous)
 
 -- A key goes before what an input has yet to give, where it stands so:
--- at a line of a greater key, or at its end, or out of order behind a key that is not less.
+-- at a line of a greater key, or at its end, or out of order after a key that is not less.
 abbrev pub GoesBefore : Cmp → List ℕ → Stand → List ℕ → List ℕ → Type 0
 GoesBefore cmp k Head head last = is_gt (cmp head k) ≡ true
 GoesBefore cmp k Ended head last = Unit {0}

@@ -23,7 +23,7 @@ IsSetOf set flags = (b : ℕ) → b < 256 → holds set b ≡ slice_index_or fla
 abbrev pub mask_of : (ℕ → Bool) → List ℕ → List ℤ
 mask_of test v = map (λ b. if test b then negsuc 0 else pos 0) v
 
--- of the first bytes of a text those for which a test holds stand in front, and what stands behind them is open
+-- of the first bytes of a text those for which a test holds come first, and what follows them is open
 pub record Keeps (test : ℕ → Bool) (from : List ℕ) (at : ℕ) (into : List ℕ) (count : ℕ) : Type 0 where
   pub within : at ≤ length from
   pub few : count ≤ at

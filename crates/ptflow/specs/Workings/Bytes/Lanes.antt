@@ -5,11 +5,11 @@ use Rattle.ptflow.specs.declared.kernels.lanes.Reach.{Reach}
 use Rattle.ptflow.specs.declared.kernels.lanes.Two.{Two}
 use Rattle.ptflow.specs.declared.kernels.lanes.Four.{Four}
 
--- what a stretch adds to a byte: the byte is in it if it lies no further behind the first byte than the last one does
+-- what a stretch adds to a byte: the byte is in it if it is no further after the first byte than the last one is
 abbrev pub reach_adds : Reach → ℕ → ℕ
 reach_adds s b = if nat_le ((b + (256 - s.first)) % 256) s.width then s.by else 0
 
--- the same where the first and the last byte are told, if there is such a stretch
+-- the same where the first and the last byte are given, if there is such a stretch
 abbrev pub told_adds : Option (ℕ × ℕ × ℕ) → ℕ → ℕ
 told_adds None b = 0
 told_adds (Some told) b = added (record { first = told.0; last = told.1; by = told.2 }) b

@@ -2,7 +2,7 @@
 use Rattle.std.specs.Prelude.{◌≡◌, ℕ, ◌-◌, ◌<◌, Bool, true, List, Option, length, take, slice_index_or, MatchOption}
 use Rattle.std.specs.List.{count_by}
 
--- the item at this place passes, and so many in front of it do
+-- the item at this place passes, and so many before it do
 abbrev pub IsBehind : {X : Type 0} → (X → Bool) → X → ℕ → List X → ℕ → Type 0
 IsBehind test default count items at =
     (at < length items) × (test (slice_index_or items at default) ≡ true) × (count_by test (take at items) ≡ count)

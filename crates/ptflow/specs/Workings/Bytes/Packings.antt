@@ -14,7 +14,7 @@ chosen_by (flag ∷ flags) (x ∷ xs) = if flag then x ∷ chosen_by flags xs el
 abbrev pub places_of : List Bool → List ℕ
 places_of flags = chosen_by flags (range_with_len 0 (length flags))
 
--- In front are the places of the flags that are true, and behind them any places of sixteen lanes.
+-- First come the places of the flags that are true, and after them any places of sixteen lanes.
 pub record IsRow (flags : List Bool) (row : List ℕ) : Type 0 where
   pub places : take (length (places_of flags)) row ≡ places_of flags
   pub long : length row ≡ 16

@@ -6,11 +6,11 @@ use Rattle.std.specs.List.{flat_map, slice_split}
 abbrev pub fields : ℕ → List ℕ → List (List ℕ)
 fields delimiter line = slice_split (λ b. b == delimiter) line
 
--- each field, and a delimiter in front of it
+-- each field, and a delimiter before it
 abbrev pub led : ℕ → List (List ℕ) → List ℕ
 led delimiter fs = flat_map (λ field. delimiter ∷ field) fs
 
--- With one more delimiter in front of a line, its first n fields end where the delimiter in front of this place stands.
+-- With one more delimiter before a line, its first n fields end where the delimiter before this place is.
 pub record StartsAt (delimiter n : ℕ) (line : List ℕ) (at : ℕ) : Type 0 where
   pub fits : at ≤ length line
   pub count : n ≤ at

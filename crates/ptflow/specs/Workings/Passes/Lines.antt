@@ -6,7 +6,7 @@ use Rattle.ptlines.specs.Slots.{Slots, total, with_line}
 use Rattle.ptlines.specs.Text.{text, lines, ended_lines, longest_line}
 use Rattle.ptflow.specs.Tools.{Tool}
 
--- These lines came: what was passed on stands in front of what is made of the rest, whatever comes. Of no more lines than
+-- These lines came: what was passed on comes before what is made of the rest, whatever comes. Of no more lines than
 -- came what is written is held back.
 pub record LinesOn {X E : Type 0} (rest_from : X → List (List ℕ) → List E) (written : List E → List ℕ) (counted : X → ℕ) (before after : X) (ls : List (List ℕ)) (was is : Output) : Type 0 where
   pub passed : List E
@@ -16,7 +16,7 @@ pub record LinesOn {X E : Type 0} (rest_from : X → List (List ℕ) → List E)
   pub count : counted after ≤ counted before + length ls
   pub some : 0 < length ls → 0 < counted after
 
--- A write failed amid these lines: what was passed on is a beginning of what is made, whatever comes.
+-- A write failed amid these lines: what was passed on is a prefix of what is made, whatever comes.
 pub record LinesHalt {X E : Type 0} (rest_from : X → List (List ℕ) → List E) (written : List E → List ℕ) (before : X) (ls : List (List ℕ)) (was is : Output) : Type 0 where
   pub passed : List E
   pub wrote : Wrote was is (written passed)
@@ -35,7 +35,7 @@ PassesLines end block count = (count ≤ length block) × (take count block ≡ 
 abbrev pub IsSwapped : ℕ → Slots → Slots → Type 0
 IsSwapped slots before after = (after ≡ before) ⊎ (after ≡ record before { lines = swap before.lines 0 (slots - 1) })
 
--- so many slots in front were emptied
+-- so many slots, the first ones, were emptied
 pub record Empties (count : ℕ) (before after : Slots) : Type 0 where
   pub size : length after.lines ≡ length before.lines
   pub denied : after.denied ≡ before.denied

@@ -4,7 +4,7 @@ use Rattle.ptlines.specs.Text.{text, AreLines}
 use Rattle.ptlangs.specs.DelimLists.{delim_at}
 use Rattle.ptflow.specs.Pastes.{delimiter}
 
--- what stands behind each of n cells: a delimiter, which is a byte, and behind the last one the end of the row
+-- what follows each of n cells: a delimiter, which is a byte, and after the last one the end of the row
 pub record AreTurns (delims : List (Option ℕ)) (n : ℕ) (turns : List (Option ℕ)) : Type 0 where
   pub count : length turns ≡ n
   pub between : (c : ℕ) → c + 1 < n → (d : ℕ) × (slice_index_or turns c None ≡ Some d) × (delimiter delims c ≡ d ∷ [])

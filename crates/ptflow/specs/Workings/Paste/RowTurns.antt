@@ -50,7 +50,7 @@ pub record RowFilled (cells : List ℕ) (old new : List Reader) (before store : 
   pub none : came ≡ false → (place : ℕ) → got place ≡ []
   pub less : came ≡ true → sum_by budget new < sum_by budget old
 
--- the cells in front of a cell have their lines, and its reader has these lines and this state
+-- the cells before a cell have their lines, and its reader has these lines and this state
 pub record RowBroken (Breaks : Reader → Reader → Slots → Slots → ℕ → Type 0) (cells : List ℕ) (old new : List Reader) (before store : Slots) : Type 0 where
   pub column : ℕ
   pub within : column < length cells

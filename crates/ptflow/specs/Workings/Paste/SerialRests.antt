@@ -9,7 +9,7 @@ use Rattle.ptflow.specs.declared.kernels.replacing.EndsTo.{EndsTo}
 use Rattle.ptflow.specs.declared.kernels.replacing.Turn.{Turn}
 use Rattle.ptflow.specs.declared.tools.paste.serial.Cell.{Cell}
 
--- the lines that come in the cell of this number, or behind it if it has ended
+-- the lines that come in the cell of this number, or after it if it has ended
 abbrev pub row_rest : ℕ → List (Option ℕ) → ℕ → Bool → List (List ℕ) → List ℕ
 row_rest end delims number false ls = glued_from delims number ls ++ end ∷ []
 row_rest end delims number true [] = end ∷ []
@@ -22,7 +22,7 @@ row_from end delims cell ls = row_rest end delims cell.number cell.ended ls
 abbrev pub serial_rest : ℕ → List (Option ℕ) → Cell → List ℕ → List ℕ
 serial_rest end delims cell rest = row_from end delims cell (lines end rest)
 
--- the cell to which the next byte belongs, and what stands in front of that
+-- the cell to which the next byte belongs, and what comes before that
 abbrev pub begun : Cell → Cell
 begun cell = record { number = if cell.ended then cell.number + 1 else cell.number; ended = false }
 
@@ -30,19 +30,19 @@ abbrev pub lead : List (Option ℕ) → Cell → List ℕ
 lead delims cell = if cell.ended then delimiter delims cell.number else []
 
 -- Of these bytes, which come in the cell of one number, all but the rest were taken, and this was written of them; the
--- rest comes in the cell of another number. So it is whatever comes behind, if anything does.
+-- rest comes in the cell of another number. So it is whatever follows, if anything does.
 abbrev pub Puts : ℕ → List (Option ℕ) → ℕ → List ℕ → ℕ → List ℕ → List ℕ → Type 0
 Puts end delims number bytes now rest written =
     (more : List ℕ) → 0 < length more
     → row_rest end delims number false (lines end (bytes ++ more)) ≡ written ++ row_rest end delims now false (lines end (rest ++ more))
 
--- This was written of a block that comes in the cell of this number, and what comes behind it comes in the cell
+-- This was written for a block that comes in the cell of this number, and what comes after it comes in the cell
 -- `after`.
 abbrev pub PutsBlock : ℕ → List (Option ℕ) → ℕ → List ℕ → Cell → List ℕ → Type 0
 PutsBlock end delims number block after written =
     (more : List ℕ) → row_rest end delims number false (lines end (block ++ more)) ≡ written ++ serial_rest end delims after more
 
--- the delimiter behind every cell is this one
+-- the delimiter after every cell is this one
 abbrev pub IsAlways : List (Option ℕ) → ℕ → Type 0
 IsAlways delims delim = (number : ℕ) → delim_at delims number ≡ Some delim
 
@@ -58,7 +58,7 @@ with_turns end delims number (b ∷ bytes) =
     if b == end then unwrap_or (delim_at delims number) end ∷ with_turns end delims (number + 1) bytes
     else b ∷ with_turns end delims number bytes
 
--- the first so many bytes are replaced so, and the turn is the one behind them
+-- the first so many bytes are replaced so, and the turn is the one after them
 abbrev pub IsTurnedTo : ℕ → List (Option ℕ) → ℕ → Turn → ℕ → List ℕ → List ℕ → Type 0
 IsTurnedTo end delims number turn at from to =
     (at ≤ length from) × (length to ≡ length from)

@@ -10,7 +10,7 @@ use Rattle.ptflow.specs.Pastes.{times, glued_from, columns, rows}
 use Rattle.ptflow.specs.Workings.Paste.TakenLines.{Took}
 use Rattle.ptflow.specs.declared.tools.paste.serial.Cell.{Cell}
 
--- where a row stands in front of the cell of a column: behind the cell in front of it, if there is one
+-- the place in a row before the cell of a column: after the cell before it, if there is one
 abbrev pub in_front : ℕ → Cell
 in_front column = record { number = column - 1; ended = nat_lt 0 column }
 
@@ -27,7 +27,7 @@ pub record AreTaken (taken : List ℕ) (old new : List Reader) : Type 0 where
   pub count : length new ≡ length old
   pub held : (place : ℕ) → reader_at new place ≡ record (reader_at old place) { held = drop (slice_index_or taken place 0) (reader_at old place).held }
 
--- These rows are the first ones of what the readers give, whatever comes behind them, and their lines were taken.
+-- These rows are the first ones of what the readers give, whatever comes after them, and their lines were taken.
 pub record GivesRows (end : ℕ) (cells : List ℕ) (old new : List Reader) (ls : ℕ → List (List ℕ)) (passed : List (List (List ℕ))) : Type 0 where
   pub took : (place : ℕ) → Took end (reader_at old place) (reader_at new place) (length passed * times cells place) (ls place)
   pub on : (more : ℕ → List (List ℕ)) → ((place : ℕ) → IsDone (reader_at new place) → more place ≡ [])

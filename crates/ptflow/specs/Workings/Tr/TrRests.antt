@@ -9,7 +9,7 @@ use Rattle.ptflow.specs.Workings.Bytes.ByteSets.{IsSetOf}
 use Rattle.ptflow.specs.Workings.Tr.Mappings.{IsMapping}
 use Rattle.ptflow.specs.Workings.Bytes.Packings.{IsPacking}
 
--- the bytes that stay, where `last` stands in front, if there is such a byte
+-- the bytes that stay, where `last` comes before them, if there is such a byte
 abbrev pub squeeze_from : (ℕ → Bool) → Option ℕ → List ℕ → List ℕ
 squeeze_from squeezed None bytes = squeeze squeezed bytes
 squeeze_from squeezed (Some last) bytes = squeeze_behind squeezed last bytes

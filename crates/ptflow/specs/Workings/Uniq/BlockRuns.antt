@@ -9,7 +9,7 @@ use Rattle.ptflow.specs.Workings.Uniq.OpenRuns.{count_of, runs_behind, run_of}
 use Rattle.ptflow.specs.declared.tools.uniq.runs.Same.{Same}
 use Rattle.ptflow.specs.declared.tools.uniq.runs.Span.{Span}
 
--- these lines came behind those of an open run: some runs were passed on, and this run is open behind them
+-- these lines came after those of an open run: some runs were passed on, and this run is open after them
 abbrev pub RunsOn : Uniq → Run → Run → List (List ℕ) → Output → Output → Type 0
 RunsOn job before after ls was is = LinesOn (runs_behind job) (entries job) count_of before after ls was is
 
@@ -17,7 +17,7 @@ RunsOn job before after ls was is = LinesOn (runs_behind job) (entries job) coun
 abbrev pub RunsHalt : Uniq → Run → List (List ℕ) → Output → Output → Type 0
 RunsHalt job before ls was is = LinesHalt (runs_behind job) (entries job) before ls was is
 
--- So many lines in front of a block are of the run with this first line, and the next one that is whole is not.
+-- So many of the first lines of a block are of the run with this first line, and the next one that is whole is not.
 pub record GoesOnWith (job : Uniq) (end : ℕ) (first block : List ℕ) (same : Same) : Type 0 where
   pub front : List (List ℕ)
   pub number : length front ≡ same.count

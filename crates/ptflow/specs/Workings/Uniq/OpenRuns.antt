@@ -15,7 +15,7 @@ count_of run = run.count
 abbrev pub open_run : Run → List Run
 open_run run = if nat_lt 0 run.count then run ∷ [] else []
 
--- the runs of lines that come behind the lines of a run
+-- the runs of lines that come after the lines of a run
 abbrev pub runs_from : Uniq → Run → List (List ℕ) → List Run
 runs_from job run [] = run ∷ []
 runs_from job run (line ∷ more) =
@@ -33,7 +33,7 @@ is_shown Counts count = nat_lt 0 count
 is_shown Repeated count = nat_lt 1 count
 is_shown Single count = count == 1
 
--- what stands in front of the line
+-- what comes before the line
 abbrev pub lead : Show → ℕ → List ℕ
 lead All count = []
 lead Counts count = decimal count ++ 32 ∷ []

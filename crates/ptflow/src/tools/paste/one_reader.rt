@@ -8,10 +8,12 @@ ghost use Rattle.ptflow.specs.Workings.Paste.OneReader.{AreTurnsOfOne, AreRows, 
 ghost use Rattle.ptflow.specs.Workings.Paste.SerialRests.{with_turns};
 ghost use Rattle.ptflow.specs.Workings.Paste.WholeRows.{AreReadable, PassesRows};
 
+use crate::kernels::places::nth_place;
 use crate::kernels::spreading::{Spread, replace_by_spread, spread_of};
 use crate::tools::paste::serial::Written;
 use crate::tools::paste::whole_rows::pass_rows;
 use arrayvec::ArrayVec;
+use memchr::memrchr;
 use ptlangs::delims::Delims;
 use ptlines::{LineReader, Out, Sink, Source, WriteFault};
 use std::alloc::Allocator;
@@ -67,22 +69,22 @@ fn end_before(ending: u8, bytes: &[u8], over: u64) -> usize
     ensures counted { count_by (is_byte ending) (take result bytes.now) + over ≡ count_by (is_byte ending) bytes.now }
     ensures ends { 0 < result → slice_index_or bytes.now (result - 1) 0 ≡ ending }
 {
-    let mut left = over;
     let mut at = bytes.len();
-    while at > 0 {
-        if bytes[at - 1] == ending {
-            if left == 0 {
-                return at;
-            }
-            left -= 1;
+    for _passed in 0..over {
+        match memrchr(ending, &bytes[..at]) {
+            Some(last) => at = last,
+            None => return 0,
         }
-        at -= 1;
     }
-    0
+    match memrchr(ending, &bytes[..at]) {
+        Some(last) => last + 1,
+        None => 0,
+    }
 }
 
-// Puts the rows that lie whole in these bytes, and says where they end.
-fn put_rows(
+// Puts the rows that lie whole in these bytes, and says where they end. Bytes that lack a whole row, as those of long
+// lines, are only searched.
+fn put_held_rows(
     turns: &[Option<u8>],
     spread: &[u8],
     ending: u8,
@@ -96,6 +98,9 @@ fn put_rows(
     ensures put { take result into.new ≡ with_turns ending turns.now 0 (take result bytes.now) }
 {
     let count = bytes.len();
+    if nth_place(ending, bytes, count, turns.len() as u64).is_none() {
+        return 0;
+    }
     let number = replace_by_spread(turns, spread, ending, bytes, &mut into[..count]);
     end_before(ending, bytes, number % turns.len() as u64)
 }
@@ -122,7 +127,7 @@ pub(crate) fn pass_held_rows<A: Allocator, S: Source, R: Source, W: Sink>(
     };
     let place = cells[0];
     let bytes = readers[place].held();
-    let count = put_rows(&turns.list, &turns.spread, ending, bytes, into);
+    let count = put_held_rows(&turns.list, &turns.spread, ending, bytes, into);
     if count == 0 {
         return Ok(false);
     }

@@ -49,15 +49,33 @@ fn put_lead<A: Allocator>(delims: &Delims<A>, column: usize, into: &mut Written,
     }
 }
 
-// Copies the first 64 bytes.
+// Copies the first N bytes.
 #[inline(always)]
-fn copy_first(bytes: &[u8], into: &mut [u8], at: usize)
-    requires within { 64 ≤ length bytes.now }
-    requires room { at + 64 ≤ length into.old }
+fn copy_first<const N: usize>(bytes: &[u8], into: &mut [u8], at: usize)
+    requires within { N ≤ length bytes.now }
+    requires room { at + N ≤ length into.old }
     ensures long { length into.new ≡ length into.old }
-    ensures copied { take (at + 64) into.new ≡ take at into.old ++ take 64 bytes.now }
+    ensures copied { take (at + N) into.new ≡ take at into.old ++ take N bytes.now }
 {
-    u8x64::from_slice(bytes).copy_to_slice(&mut into[at..]);
+    Simd::<u8, N>::from_slice(bytes).copy_to_slice(&mut into[at..]);
+}
+
+// Puts the line with which these bytes begin, if it is whole and there is room for it, and says how long it is. Apart,
+// so that what is found by one look needs no call.
+#[inline(never)]
+fn put_copied(ending: u8, bytes: &[u8], into: &mut Written, at: usize) -> Option<usize>
+    requires { at ≤ 8193 }
+    ensures line { IfSome result (λ count. IsFirstByte (is_byte ending) bytes.now (Some count)) }
+    ensures put { IfSome result (λ count. take (at + count) into.new ≡ take at into.old ++ take count bytes.now) }
+    ensures near { IfSome result (λ count. at + count < 8192) }
+    ensures kept { take at into.new ≡ take at into.old }
+{
+    let count = find_near(ending, bytes)?;
+    if at + count >= 8192 {
+        return None;
+    }
+    copy_near(bytes, 0, count, into, at);
+    Some(count)
 }
 
 // Puts the line with which these bytes begin, if it is whole and there is room for it, and says how long it is. Apart,
@@ -71,17 +89,16 @@ fn put_far(ending: u8, bytes: &[u8], into: &mut Written, at: usize) -> Option<us
     ensures kept { take at into.new ≡ take at into.old }
 {
     if bytes.len() >= 64 && at < 8128 {
+        if let Some(count) = find_in::<32>(ending, bytes, 0) {
+            copy_first::<32>(bytes, into, at);
+            return Some(count);
+        }
         if let Some(count) = find_in::<64>(ending, bytes, 0) {
-            copy_first(bytes, into, at);
+            copy_first::<64>(bytes, into, at);
             return Some(count);
         }
     }
-    let count = find_near(ending, bytes)?;
-    if at + count >= 8192 {
-        return None;
-    }
-    copy_near(bytes, 0, count, into, at);
-    Some(count)
+    put_copied(ending, bytes, into, at)
 }
 
 // The same: a line whose end is one of the first 16 bytes is put by the look that finds it.

@@ -11,11 +11,11 @@ returns-in_err-push g c =
     let t = subst (AreTurnsOfOne c.args.delims.now c.args.cells.now) (sym c.deref.ensures.0) ((rw c.in-Some.is at c.requires.in_turn).0) in
     rw (e.1) (
       record {
-        written = take c.put_rows-count.result c.put_rows-count.new.into;
+        written = take c.put_held_rows-count.result c.put_held_rows-count.new.into;
         held = held_put c.args.ending c.args.delims.now c.args.cells.now c.deref.result.now t c.args.readers.now c.requires.within c.requires.readable
             c.index-readers-place.result c.held-bytes.ensures.sound c.held-bytes.result.now c.held-bytes.ensures.held
-            c.put_rows-count.result (omega (arith, c.if-count-eq0.false)) c.put_rows-count.ensures.within c.put_rows-count.ensures.rows
-            c.index-readers-place-2.result c.consume.new.self c.consume.ensures.consumed (take c.put_rows-count.result c.put_rows-count.new.into) c.put_rows-count.ensures.put;
+            c.put_held_rows-count.result (omega (arith, c.if-count-eq0.false)) c.put_held_rows-count.ensures.within c.put_held_rows-count.ensures.rows
+            c.index-readers-place-2.result c.consume.new.self c.consume.ensures.consumed (take c.put_held_rows-count.result c.put_held_rows-count.new.into) c.put_held_rows-count.ensures.put;
         wrote = c.push.ensures.wrote;
       },
       c.in_err-push.ensures.fault,
@@ -25,11 +25,11 @@ pub returns : goal.returns
 returns g c =
     let t = subst (AreTurnsOfOne c.args.delims.now c.args.cells.now) (sym c.deref.ensures.0) ((rw c.in-Some.is at c.requires.in_turn).0) in (
       record {
-        written = take c.put_rows-count.result c.put_rows-count.new.into;
+        written = take c.put_held_rows-count.result c.put_held_rows-count.new.into;
         held = held_put c.args.ending c.args.delims.now c.args.cells.now c.deref.result.now t c.args.readers.now c.requires.within c.requires.readable
             c.index-readers-place.result c.held-bytes.ensures.sound c.held-bytes.result.now c.held-bytes.ensures.held
-            c.put_rows-count.result (omega (arith, c.if-count-eq0.false)) c.put_rows-count.ensures.within c.put_rows-count.ensures.rows
-            c.index-readers-place-2.result c.consume.new.self c.consume.ensures.consumed (take c.put_rows-count.result c.put_rows-count.new.into) c.put_rows-count.ensures.put;
+            c.put_held_rows-count.result (omega (arith, c.if-count-eq0.false)) c.put_held_rows-count.ensures.within c.put_held_rows-count.ensures.rows
+            c.index-readers-place-2.result c.consume.new.self c.consume.ensures.consumed (take c.put_held_rows-count.result c.put_held_rows-count.new.into) c.put_held_rows-count.ensures.put;
         wrote = c.push.ensures.wrote;
       },
       c.in_ok-push.ensures.clean,

@@ -2,7 +2,7 @@ use Rattle.std.proofs.Common.{◌≡◌, ◌/◌, ◌-◌, length, take, get_or,
 use Rattle.std.proofs.lemmas.List.{take-append-le, length-take-le}
 use Rattle.ptflow.proofs.OfPaste.OneReader.{rows_known, turns-take}
 use Rattle.ptflow.proofs.OfPaste.Turns.{length-turns}
-use Rattle.ptflow.proofs.tools.paste.one_reader.put_rows.Goals as goal
+use Rattle.ptflow.proofs.tools.paste.one_reader.put_held_rows.Goals as goal
 
 pub returns-clause-rows : goal.returns-clause-rows
 returns-clause-rows c =
