@@ -1,6 +1,7 @@
 -- What `cut` writes of the rest of a text, and of a piece of a line.
-use Rattle.std.specs.Prelude.{◌≡◌, ◌<◌, ◌≤◌, ℕ, ◌+◌, ◌==◌, List, [], ◌∷◌, ◌++◌, Bool, length, map, take, drop, if◌then◌else◌}
+use Rattle.std.specs.Prelude.{◌≡◌, ◌<◌, ◌≤◌, ℕ, ◌+◌, ◌^◌, ◌==◌, List, [], ◌∷◌, ◌++◌, Bool, length, map, take, drop, if◌then◌else◌}
 use Rattle.std.specs.List.{count_by}
+use Rattle.std.specs.Simd.Lanes.{mask_l, chunk}
 use Rattle.memchr.specs.Find.{is_byte}
 use Rattle.ptlines.specs.Text.{text, lines, ended_lines}
 use Rattle.ptlangs.specs.CutLists.{is_selected}
@@ -38,6 +39,19 @@ CutsOn end list before rest was now left is =
 abbrev pub IsLineAt : ℕ → List ℕ → ℕ → ℕ → Type 0
 IsLineAt end block at start =
     (start ≤ at) × (count_by (is_byte end) (take start block) ≡ count_by (is_byte end) (take at block))
+
+-- The 64 bytes from a place of a block on have ends of lines, and a bit of the mask for each; 16 bytes stand after them.
+pub record HasEnds (end : ℕ) (block : List ℕ) (from marked : ℕ) : Type 0 where
+  pub within : from + 80 ≤ length block
+  pub most : length block ≤ 8192
+  pub is : marked ≡ mask_l (map (is_byte end) (chunk from 64 block))
+  pub some : 0 < marked
+
+-- At this place of a block the line stands that the step tells of. No more was written than was passed.
+pub record IsStepAt (end : ℕ) (block : List ℕ) (at : ℕ) (step : Step) : Type 0 where
+  pub line : IsLineAt end block at step.start
+  pub short : step.before + length block < 2 ^ 63
+  pub near : step.at ≤ step.start
 
 -- from one line of a block to another, with what was written in front of each; no more was written than was passed
 pub record GoesOn (end : ℕ) (list : List Interval) (block : List ℕ) (was : Step) (old : List ℕ) (now : Step) (new : List ℕ) : Type 0 where

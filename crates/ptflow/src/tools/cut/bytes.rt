@@ -1,14 +1,13 @@
 //! `cut` by bytes.
 
-ghost use Rattle.std.specs.Prelude.{◌≡◌, ◌<◌, ◌≤◌, ◌+◌, ◌^◌, length, map, take, drop, ◌++◌, true, false, None, [], ◌∷◌, OnOk, OnErr, IfOk, ◌==◌, if◌then◌else◌};
-ghost use Rattle.std.specs.Simd.Lanes.{mask_l, chunk};
-ghost use Rattle.memchr.specs.Find.{is_byte};
+ghost use Rattle.std.specs.Prelude.{◌≡◌, ◌<◌, ◌≤◌, ◌+◌, ◌^◌, length, take, drop, ◌++◌, true, false, None, [], ◌∷◌, OnOk, OnErr, ◌==◌, if◌then◌else◌};
+ghost use Rattle.std.specs.Simd.Lanes.{chunk};
 ghost use Rattle.ptlines.specs.Outputs.{Wrote};
 ghost use Rattle.ptlangs.specs.CutLists.{AreApart};
 ghost use Rattle.ptlangs.specs.Jobs.{cut_job};
 ghost use Rattle.ptflow.specs.Cuts.{cut_tool};
 ghost use Rattle.ptflow.specs.Passes.{IsBarePass};
-ghost use Rattle.ptflow.specs.Workings.Cut.CutRests.{rest_by, chosen_piece, IsCutTo, IsLineAt, CutsOn, GoesOn};
+ghost use Rattle.ptflow.specs.Workings.Cut.CutRests.{rest_by, chosen_piece, IsCutTo, CutsOn, HasEnds, IsStepAt, GoesOn};
 ghost use Rattle.ptflow.specs.Workings.Passes.Continuations.{Continues, Halts};
 ghost use Rattle.ptflow.specs.Workings.Cut.Picks.{IsSelection};
 
@@ -138,11 +137,8 @@ fn cut_chunk(
     into: &mut Written,
 ) -> Step
     requires by { IsSelection by.now }
-    requires within { (from + 80 ≤ length block.now) × (length block.now ≤ 8192) }
-    requires marked { (marked ≡ mask_l (map (is_byte ending) (chunk from 64 block.now))) × (0 < marked) }
-    requires line { IsLineAt ending block.now from step.start }
-    requires short { step.before + length block.now < 2 ^ 63 }
-    requires room { step.at ≤ step.start }
+    requires ends { HasEnds ending block.now from marked }
+    requires step { IsStepAt ending block.now from step }
     ensures on { GoesOn ending by.now.selected.now block.now step (take step.at into.old) result (take result.at into.new) }
     ensures passed { (from < result.start) × (result.start ≤ from + 64) }
 {
