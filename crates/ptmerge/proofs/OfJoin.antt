@@ -3,6 +3,7 @@ pub mod Amid
 pub mod EntryLemmas
 pub mod FieldLemmas
 pub mod FieldSpans
+pub mod GatherTurns
 pub mod GroupSlots
 pub mod GroupStops
 pub mod GroupTurns
@@ -11,3 +12,5 @@ pub mod JoinRows
 pub mod JoinSlots
 pub mod JoinTurns
 pub mod Lanes
+pub mod PairTurns
+pub mod Turns

@@ -1,14 +1,16 @@
 -- The second input's lines of one key: in the slots behind the first four, or, where it is one, where it was read.
-use Rattle.std.specs.Prelude.{◌≡◌, ◌⊎◌, ℕ, ◌==◌, if◌then◌else◌, ◌+◌, ◌-◌, ◌≤◌, ◌<◌, true, false, Bool, length, take, drop, max, Result, Ok, Err}
+use Rattle.std.specs.Prelude.{◌≡◌, ◌⊎◌, ℕ, ◌==◌, if◌then◌else◌, ◌+◌, ◌-◌, ◌≤◌, ◌<◌, true, false, Bool, List, length, take, drop, max, Result, Ok, Err}
+use Rattle.ptlines.specs.Outputs.{Output}
 use Rattle.ptlines.specs.Readers.{Reader}
 use Rattle.ptlines.specs.Slots.{Slots, line, total, with_line, with_added}
 use Rattle.ptmerge.specs.declared.faults.MergeFault.{MergeFault}
-use Rattle.ptmerge.specs.declared.faults.MergeFault.TheVariants.{Memory}
+use Rattle.ptmerge.specs.declared.faults.MergeFault.TheVariants.{Write, Memory}
 use Rattle.ptmerge.specs.declared.order.Side.TheVariants.{Second}
 use Rattle.ptmerge.specs.declared.merging.sorted.Sorted.{Sorted}
 use Rattle.ptmerge.specs.declared.merging.sorted.Stand.{Stand}
 use Rattle.ptmerge.specs.declared.merging.sorted.Stand.TheVariants.{Head, Ended, Disorder}
 use Rattle.ptmerge.specs.Keyed.{Lines}
+use Rattle.ptmerge.specs.LinePasses.{IsUnwritten}
 use Rattle.ptmerge.specs.Orders.{Cmp, Key}
 use Rattle.ptmerge.specs.Places.{CannotRead, Comes}
 
@@ -77,9 +79,19 @@ pub record NotKept (key : Key) (cmp : Cmp) (old new : Sorted) (was is : Reader) 
   pub memory : fault ≡ Memory
   pub refused : IsRefused made after end
 
-abbrev pub Gathers : Key → Cmp → Sorted → Sorted → Reader → Reader → Slots → Slots → ℕ → Result ℕ MergeFault → Type 0
-Gathers key cmp old new was is before after end (Ok next) = Gathered key cmp old new was is before after end next
-Gathers key cmp old new was is before after end (Err fault) = NotKept key cmp old new was is before after end fault ⊎ CannotRead Second old was is before after fault
+-- the next line could not be read, or the one before not be kept
+abbrev pub NotGathered : Key → Cmp → Sorted → Sorted → Reader → Reader → Slots → Slots → ℕ → MergeFault → Type 0
+NotGathered key cmp old new was is before after end fault = NotKept key cmp old new was is before after end fault ⊎ CannotRead Second old was is before after fault
+
+abbrev pub Gathers : Key → Cmp → Sorted → Sorted → Reader → Reader → Slots → Slots → Output → ℕ → Result ℕ MergeFault → Type 0
+Gathers key cmp old new was is before after out end (Ok next) = Gathered key cmp old new was is before after end next
+Gathers key cmp old new was is before after out end (Err fault) =
+    ((fault ≡ Write) × IsUnwritten was is before after out) ⊎ ((out.faulted ≡ false) × NotGathered key cmp old new was is before after end fault)
+
+-- the group's slots are there, and its lines have this key
+pub record IsGroup (key : Key) (second : Sorted) (store : Slots) (end : ℕ) (k : List ℕ) : Type 0 where
+  pub within : (4 ≤ end) × (end ≤ length store.lines)
+  pub keyed : (slot : ℕ) → first_slot second end ≤ slot → slot < end_slot second end → key (line store slot) ≡ k
 
 -- Slots were added where fewer than these were there; where a growth was refused, perhaps fewer.
 pub record AddsLeast (before after : Slots) (slots : ℕ) : Type 0 where

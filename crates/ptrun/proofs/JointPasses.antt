@@ -21,7 +21,7 @@ use Rattle.ptflow.specs.declared.faults.FlowFault.{FlowFault}
 use Rattle.ptflow.specs.declared.faults.FlowFault.TheVariants.{Read, Write, Memory}
 use Rattle.ptrun.specs.declared.engine.Done.{Done}
 use Rattle.ptrun.specs.declared.engine.Done.TheVariants.{Whole}
-use Rattle.ptrun.specs.Worlds.{World, Received, at, is_unopened, Allows, is_in, sources, opened, reader_at, shut, CameAt, IsFresh}
+use Rattle.ptrun.specs.Worlds.{World, Received, at, is_unopened, Allows, is_in, sources, opened, reader_at, shut, IsFresh}
 use Rattle.ptrun.specs.Meanings.{unopened}
 use Rattle.ptrun.specs.Sayings.{Tells}
 use Rattle.ptrun.specs.Messages.{not_opened, name_of}
@@ -35,7 +35,7 @@ use Rattle.ptrun.specs.Engines.{Checks, AreReady, blame, last_words, status_afte
 use Rattle.ptrun.proofs.Sayings.{tells_nothing, tells_trans}
 use Rattle.ptrun.proofs.Sources.{any_same, any_more, unopened_more}
 use Rattle.ptrun.proofs.Order.{fresh_all, pass_here}
-use Rattle.ptrun.proofs.OnePlace.{refused_same}
+use Rattle.ptrun.proofs.OnePlace.{refused_same, refused_received}
 use Rattle.ptrun.proofs.InTurn.{Pass, pass_nothing, pass_last, pass_stopped}
 
 -- ---- an operand could not be opened
@@ -136,10 +136,6 @@ first_at (q ∷ places) p there = ⊎_elim same (other (first_at places p)) (eqb
         record { index = suc f.index; within = omega (arith, f.within); here = f.here; before = ap (λ (b : Bool). b || is_in (take f.index places) p) is.0 ∙ f.before }
 
 -- ---- a run but its last words
-
-refused_received : (old now : Reader) (o : Option Given) → CameAt old now o → old.refused ≡ is_none o
-refused_received old now None k = k.0
-refused_received old now (Some g) k = k.0
 
 ends_with : (word : List ℕ) (names : List (List ℕ)) (found : Option (ℕ × ℕ)) → (last_words word names (Ok (done_of found)) ≡ disorder_text word names found)
     × (status_after (Ok (done_of found)) ≡ disorder_status found)

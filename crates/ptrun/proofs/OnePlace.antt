@@ -134,6 +134,10 @@ refused_at old now (Some g) (Some b) k a = k.0
 pub refused_same : (old now : List Reader) (r : Received) (w : World) → IsReceived old now r → Allows r w → (q : ℕ) → (reader_at old q).refused ≡ is_unopened w q
 refused_same old now r w reading agrees q = refused_at (reader_at old q) (reader_at now q) (at r q) (at w q) (reading q) (agrees q)
 
+pub refused_received : (old now : Reader) (o : Option Given) → CameAt old now o → old.refused ≡ is_none o
+refused_received old now None k = k.0
+refused_received old now (Some g) k = k.0
+
 pub none_of : (v : Option (List ℕ)) → is_none v ≡ true → v ≡ None
 none_of None is = refl
 none_of (Some b) is = absurd (false≢true is)

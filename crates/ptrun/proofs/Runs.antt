@@ -4,7 +4,7 @@
 -- headline is a reading of the run in the world that the readers tell: it is allowed by what was received, and each
 -- cause of a failure contradicts a premise.
 use Rattle.std.proofs.Common.{◌≡◌, ⊎_elim, inl, ℕ, Bool, true, false, List, [], ◌++◌, Option, Some, None, Result, Ok, Err, length, map, refl, sym, ◌∙◌, ap, subst, arith, append_assoc, length-append}
-use Rattle.std.specs.Prelude.{All, is_none}
+use Rattle.std.specs.Prelude.{All}
 use Rattle.std.specs.Io.KnownBytes.{append_known, prepend_known, IsAtEnd}
 use Rattle.std.proofs.lemmas.List.{append-nil, append_cancel_left, nil_from_length}
 use Rattle.std.proofs.lemmas.Bool.{false≢true}
@@ -33,7 +33,7 @@ use Rattle.ptrun.specs.Asked.{saying}
 use Rattle.ptrun.proofs.Sayings.{tells_trans}
 use Rattle.ptrun.proofs.Order.{fresh_all}
 use Rattle.ptrun.proofs.Sources.{unopened_same}
-use Rattle.ptrun.proofs.OnePlace.{nothing_read, nothing_long, received_of, refused_same}
+use Rattle.ptrun.proofs.OnePlace.{nothing_read, nothing_long, received_of, refused_same, refused_received}
 
 -- ---- what reached the sink
 
@@ -132,10 +132,6 @@ headline_of m old new before o fresh k w tells none fine roomy = by_fault k.faul
     by_fault (Some fault) e = absurd (unfailed k.behind fault e.cause)
 
 -- ---- a run that reads nothing
-
-refused_received : (old now : Reader) (o : Option Given) → CameAt old now o → old.refused ≡ is_none o
-refused_received old now None k = k.0
-refused_received old now (Some g) k = k.0
 
 none_failed : (old : List Reader) (q : ℕ) → HasFailed old old q → ⊥
 none_failed old q failed = false≢true (sym failed.1 ∙ failed.2)

@@ -89,7 +89,7 @@ module _ (fa fb fc fd : List Bool) (la : length fa ≡ 16) (lb : length fb ≡ 1
 
 -- ---- pieces of 64 bytes
 
-chunk_parts : (at n m : ℕ) (from : List ℕ) → chunk at (n + m) from ≡ chunk at n from ++ chunk (at + n) m from
+pub chunk_parts : (at n m : ℕ) (from : List ℕ) → chunk at (n + m) from ≡ chunk at n from ++ chunk (at + n) m from
 chunk_parts at n m from = take-add n m (drop at from) ∙ ap (λ (l : List ℕ). chunk at n from ++ take m l) (drop-drop n at from)
 
 pub chunk_in_four : (at : ℕ) (from : List ℕ) → chunk at 64 from ≡ ((chunk at 16 from ++ chunk (at + 16) 16 from) ++ chunk (at + 32) 16 from) ++ chunk (at + 48) 16 from

@@ -8,16 +8,28 @@ use Rattle.std.specs.Simd.Lanes.{zip2, chunk, Each1, mask_l, top}
 use mir.Val.{bool_byte, Fits}
 use Rattle.std.proofs.Math.Facts.{Fits-lt-pow}
 use Rattle.std.proofs.lemmas.List.{append-nil, take-append-drop, drop-drop, drop_all, take-set, take_more_set, take-take}
-use Rattle.std.proofs.lemmas.Simd.{get_or-chunk, length-chunk, length-zip2, mask_l-mod, tops_compared}
+use Rattle.std.proofs.lemmas.Simd.{get_or-chunk, length-chunk, length-zip2, mask_l-mod}
 use Rattle.ptflow.specs.Translations.{stays, squeeze_behind}
 use Rattle.ptflow.specs.Workings.Bytes.ByteSets.{mask_of}
 use Rattle.ptflow.specs.Workings.Bytes.Packings.{chosen_by}
 use Rattle.ptflow.specs.Workings.Tr.TrRests.{squeeze_from}
+use Rattle.ptflow.proofs.OfBytes.FourLanes.{lanes_of, chunk_parts, chunk_in_four}
 use Rattle.ptflow.proofs.OfTr.TrRests.{behind_one, from_one}
+
+-- the last byte of a piece
+piece_ends : (from : List ℕ) (at size : ℕ) → 0 < size → at + size ≤ length from
+    → get_or (get_or from (at - 1) 0 ∷ chunk at size from) (length (chunk at size from)) 0 ≡ get_or from (at + size - 1) 0
+piece_ends from at zero some room = absurd (omega arith)
+piece_ends from at (suc n) some room =
+    let long : length (chunk at (suc n) from) ≡ suc n = length-chunk at (suc n) from room in
+    let place : at + suc n - 1 ≡ at + n = omega arith in
+    ap (λ (k : ℕ). get_or (get_or from (at - 1) 0 ∷ chunk at (suc n) from) k 0) long
+    ∙ get_or-chunk at (suc n) from n 0 (omega arith)
+    ∙ ap (λ (k : ℕ). get_or from k 0) (sym place)
 
 module _ (squeezed : ℕ → Bool) where
   -- a piece and the next one, with the last byte of the piece in front of it
-  behind_on : (last : ℕ) (xs ys : List ℕ) → squeeze_behind squeezed last (xs ++ ys) ≡ squeeze_behind squeezed last xs ++ squeeze_behind squeezed (get_or (last ∷ xs) (length xs) 0) ys
+  pub behind_on : (last : ℕ) (xs ys : List ℕ) → squeeze_behind squeezed last (xs ++ ys) ≡ squeeze_behind squeezed last xs ++ squeeze_behind squeezed (get_or (last ∷ xs) (length xs) 0) ys
   behind_on last [] ys = refl
   behind_on last (b ∷ xs) ys =
       behind_one squeezed last b (xs ++ ys) ∙ by_test (behind_on b xs ys) (stays squeezed (last, b))
@@ -99,7 +111,7 @@ module _ (squeezed : ℕ → Bool) where
         let piece = take size (drop at from) in
         let long : length piece ≡ size = length-chunk at size from room in
         let split : drop at from ≡ piece ++ drop (at + size) from = sym (take-append-drop size (drop at from)) ∙ ap (λ (l : List ℕ). piece ++ l) (drop-drop size at from) in
-        let end : get_or (last ∷ piece) (length piece) 0 ≡ get_or from (at + size - 1) 0 = at_end size some room in
+        let end = piece_ends from at size some room in
         record {
           is =
               ap (λ (l : List ℕ). l ++ squeeze_behind squeezed (get_or from (at + size - 1) 0) (drop (at + size) from)) made
@@ -112,15 +124,6 @@ module _ (squeezed : ℕ → Bool) where
           within = omega arith;
           counted = omega (arith, s.counted);
         }
-      where
-        at_end : (size : ℕ) → 0 < size → at + size ≤ length from → get_or (get_or from (at - 1) 0 ∷ take size (drop at from)) (length (take size (drop at from))) 0 ≡ get_or from (at + size - 1) 0
-        at_end zero some room = absurd (omega arith)
-        at_end (suc n) some room =
-            let long : length (take (suc n) (drop at from)) ≡ suc n = length-chunk at (suc n) from room in
-            let place : at + suc n - 1 ≡ at + n = omega arith in
-            ap (λ (k : ℕ). get_or (get_or from (at - 1) 0 ∷ take (suc n) (drop at from)) k 0) long
-            ∙ get_or-chunk at (suc n) from n 0 (omega arith)
-            ∙ ap (λ (k : ℕ). get_or from k 0) (sym place)
 
     -- no byte is left
     pub squeezing_ends : length from ≤ at → take count into ≡ whole
@@ -157,22 +160,97 @@ stays_mask test front bytes same few =
     lanes (a ∷ front) [] = refl
     lanes (a ∷ front) (b ∷ bytes) = λ i. lane (eqb a b) (test b) i ∷ lanes front bytes i
 
--- where no byte is the same as the one in front of it, all bytes stay
-pub none_repeats : (test : ℕ → Bool) (front bytes : List ℕ) → length front ≡ length bytes → length bytes ≤ 64
-    → mask_l (map (top 7) (zip2 (λ a b. cond (eqb a b) 255 0) front bytes)) % 2 ^ 64 ≡ 0 → chosen_by (zip2 (λ a b. not (eqb a b && test b)) front bytes) bytes ≡ bytes
-none_repeats test front bytes same few none = all_stay front bytes same (sym
-    (mask_l-mod (zip2 eqb front bytes) 64 (omega (arith, few, same, length-zip2 eqb front bytes same))) ∙ ap (λ (ms : List Bool). mask_l ms % 2 ^ 64) (sym (tops_compared w8 eqb front bytes)) ∙ none)
+-- ---- pieces of 64 bytes
+
+-- which bytes are the same as the one before them, and which of them go
+abbrev pub same_flags : ℕ → List ℕ → List Bool
+same_flags k from = zip2 eqb (chunk (k - 1) 16 from) (chunk k 16 from)
+
+abbrev pub gone_flags : (ℕ → Bool) → ℕ → List ℕ → List Bool
+gone_flags test k from = zip2 (λ a b. eqb a b && test b) (chunk (k - 1) 16 from) (chunk k 16 from)
+
+-- the lanes of these flags
+pub same_lanes : (xs ys : List ℕ) → zip2 (λ a b. cond (eqb a b) 255 0) xs ys ≡ lanes_of (zip2 eqb xs ys)
+same_lanes [] ys = refl
+same_lanes (x ∷ xs) [] = refl
+same_lanes (x ∷ xs) (y ∷ ys) = ap (λ (l : List ℕ). cond (eqb x y) 255 0 ∷ l) (same_lanes xs ys)
+
+pub gone_lanes : (test : ℕ → Bool) (xs ys : List ℕ)
+    → zip2 bit_and (zip2 (λ a b. cond (eqb a b) 255 0) xs ys) (map (cast_unsigned w8) (mask_of test ys)) ≡ lanes_of (zip2 (λ a b. eqb a b && test b) xs ys)
+gone_lanes test [] ys = refl
+gone_lanes test (x ∷ xs) [] = refl
+gone_lanes test (x ∷ xs) (y ∷ ys) = λ i. lane (eqb x y) (test y) i ∷ gone_lanes test xs ys i
   where
-    all_stay : (xs ys : List ℕ) → length xs ≡ length ys → mask_l (zip2 eqb xs ys) ≡ 0 → chosen_by (zip2 (λ a b. not (eqb a b && test b)) xs ys) ys ≡ ys
-    all_stay [] [] long nil = refl
-    all_stay [] (y ∷ ys) long nil = absurd (omega (arith, long))
-    all_stay (x ∷ xs) [] long nil = absurd (omega (arith, long))
-    all_stay (x ∷ xs) (y ∷ ys) long nil = by_test (eqb x y) (mask_l (zip2 eqb xs ys)) nil (λ none. all_stay xs ys (omega (arith, long)) none)
-      where
-        by_test : (t : Bool) (m : ℕ) → cond t 1 0 + 2 * m ≡ 0 → (m ≡ 0 → chosen_by (zip2 (λ a b. not (eqb a b && test b)) xs ys) ys ≡ ys)
-            → cond (not (t && test y)) (y ∷ chosen_by (zip2 (λ a b. not (eqb a b && test b)) xs ys) ys) (chosen_by (zip2 (λ a b. not (eqb a b && test b)) xs ys) ys) ≡ y ∷ ys
-        by_test true m nil more = absurd (omega (arith, nil))
-        by_test false m nil more = ap (λ (l : List ℕ). y ∷ l) (more (omega (arith, nil)))
+    lane : (e t : Bool) → bit_and (cond e 255 0) (cast_unsigned w8 (cond t (negsuc 0) (pos 0))) ≡ cond (e && t) 255 0
+    lane true true = refl
+    lane true false = refl
+    lane false true = refl
+    lane false false = refl
+
+-- if no byte is the same as the one before it, none goes
+pub none_same : (test : ℕ → Bool) (xs ys : List ℕ) → mask_l (zip2 eqb xs ys) ≡ 0 → mask_l (zip2 (λ a b. eqb a b && test b) xs ys) ≡ 0
+none_same test [] ys none = refl
+none_same test (x ∷ xs) [] none = refl
+none_same test (x ∷ xs) (y ∷ ys) none = by_test (none_same test xs ys) (eqb x y) none
+  where
+    by_test : (mask_l (zip2 eqb xs ys) ≡ 0 → mask_l (zip2 (λ a b. eqb a b && test b) xs ys) ≡ 0) → (t : Bool) → cond t 1 0 + 2 * mask_l (zip2 eqb xs ys) ≡ 0
+        → cond (t && test y) 1 0 + 2 * mask_l (zip2 (λ a b. eqb a b && test b) xs ys) ≡ 0
+    by_test rest true none = absurd (omega (arith, none))
+    by_test rest false none = omega (arith, rest (omega (arith, none)))
+
+none_goes : (test : ℕ → Bool) (xs ys : List ℕ) → length xs ≡ length ys → mask_l (zip2 (λ a b. eqb a b && test b) xs ys) ≡ 0
+    → chosen_by (zip2 (λ a b. not (eqb a b && test b)) xs ys) ys ≡ ys
+none_goes test [] [] long nil = refl
+none_goes test [] (y ∷ ys) long nil = absurd (omega (arith, long))
+none_goes test (x ∷ xs) [] long nil = absurd (omega (arith, long))
+none_goes test (x ∷ xs) (y ∷ ys) long nil = by_test (none_goes test xs ys (omega (arith, long))) (eqb x y && test y) nil
+  where
+    by_test : (mask_l (zip2 (λ a b. eqb a b && test b) xs ys) ≡ 0 → chosen_by (zip2 (λ a b. not (eqb a b && test b)) xs ys) ys ≡ ys)
+        → (t : Bool) → cond t 1 0 + 2 * mask_l (zip2 (λ a b. eqb a b && test b) xs ys) ≡ 0
+        → cond (not t) (y ∷ chosen_by (zip2 (λ a b. not (eqb a b && test b)) xs ys) ys) (chosen_by (zip2 (λ a b. not (eqb a b && test b)) xs ys) ys) ≡ y ∷ ys
+    by_test rest true nil = absurd (omega (arith, nil))
+    by_test rest false nil = ap (λ (l : List ℕ). y ∷ l) (rest (omega (arith, nil)))
+
+module _ (test : ℕ → Bool) (from : List ℕ) where
+  -- what stays of the 16 bytes from a place on
+  abbrev pub stays_at : ℕ → List ℕ
+  stays_at k = chosen_by (zip2 (λ a b. not (eqb a b && test b)) (chunk (k - 1) 16 from) (chunk k 16 from)) (chunk k 16 from)
+
+  pub stays_piece : (k : ℕ) → 0 < k → k + 16 ≤ length from → stays_at k ≡ squeeze_behind test (get_or from (k - 1) 0) (chunk k 16 from)
+  stays_piece k behind room =
+      ap (λ (front : List ℕ). chosen_by (zip2 (λ a b. not (eqb a b && test b)) front (chunk k 16 from)) (chunk k 16 from)) (in_front_of from k 15 behind room)
+      ∙ chosen_behind test (get_or from (k - 1) 0) (chunk k 16 from)
+
+  behind_parts : (at n m : ℕ) → 0 < n → at + n ≤ length from → squeeze_behind test (get_or from (at - 1) 0) (chunk at (n + m) from)
+      ≡ squeeze_behind test (get_or from (at - 1) 0) (chunk at n from) ++ squeeze_behind test (get_or from (at + n - 1) 0) (chunk (at + n) m from)
+  behind_parts at n m some room =
+      let last = get_or from (at - 1) 0 in
+      ap (squeeze_behind test last) (chunk_parts at n m from)
+      ∙ behind_on test last (chunk at n from) (chunk (at + n) m from)
+      ∙ ap (λ (b : ℕ). squeeze_behind test last (chunk at n from) ++ squeeze_behind test b (chunk (at + n) m from)) (piece_ends from at n some room)
+
+  -- what stays of 64 bytes, 16 after 16
+  pub stays_in_four : (at : ℕ) → 0 < at → at + 64 ≤ length from
+      → ((stays_at at ++ stays_at (at + 16)) ++ stays_at (at + 32)) ++ stays_at (at + 48) ≡ squeeze_behind test (get_or from (at - 1) 0) (chunk at 64 from)
+  stays_in_four at behind room =
+      let s = λ (k : ℕ). squeeze_behind test (get_or from (k - 1) 0) (chunk k 16 from) in
+      (λ i. ((stays_piece at behind (omega (arith, room)) i ++ stays_piece (at + 16) (omega arith) (omega (arith, room)) i)
+      ++ stays_piece (at + 32) (omega arith) (omega (arith, room)) i) ++ stays_piece (at + 48) (omega arith) (omega (arith, room)) i)
+      ∙ ap (λ (l : List ℕ). (l ++ s (at + 32)) ++ s (at + 48)) (sym (behind_parts at 16 16 (omega arith) (omega (arith, room))))
+      ∙ ap (λ (l : List ℕ). l ++ s (at + 48)) (sym (behind_parts at 32 16 (omega arith) (omega (arith, room))))
+      ∙ sym (behind_parts at 48 16 (omega arith) (omega (arith, room)))
+
+  -- where no byte goes, all of them stay
+  pub all_stay_in_four : (at : ℕ) → 0 < at → at + 64 ≤ length from
+      → (mask_l (gone_flags test at from) ≡ 0) × (mask_l (gone_flags test (at + 16) from) ≡ 0) × (mask_l (gone_flags test (at + 32) from) ≡ 0)
+      × (mask_l (gone_flags test (at + 48) from) ≡ 0) → squeeze_behind test (get_or from (at - 1) 0) (chunk at 64 from) ≡ chunk at 64 from
+  all_stay_in_four at behind room none =
+      let stay = λ (k : ℕ) (some : 0 < k) (there : k + 16 ≤ length from). none_goes test (chunk (k - 1) 16 from) (chunk k 16 from)
+      (length-chunk (k - 1) 16 from (omega (arith, some, there)) ∙ sym (length-chunk k 16 from there)) in
+      sym (stays_in_four at behind room)
+      ∙ (λ i. ((stay at behind (omega (arith, room)) none.0 i ++ stay (at + 16) (omega arith) (omega (arith, room)) none.1 i)
+      ++ stay (at + 32) (omega arith) (omega (arith, room)) none.2 i) ++ stay (at + 48) (omega arith) (omega (arith, room)) none.3 i)
+      ∙ sym (chunk_in_four at from)
 
 -- tests that agree on bytes squeeze the same repeats
 pub same_behind : (p q : ℕ → Bool) → ((b : ℕ) → b < 256 → p b ≡ q b) → (last : ℕ) (bytes : List ℕ) → Each1 (Fits w8) bytes → squeeze_behind p last bytes ≡ squeeze_behind q last bytes

@@ -9,7 +9,7 @@ use crate::kernels::packing::{Shuffles, pack, put_chunk};
 use crate::kernels::sets::ByteSet;
 use std::simd::prelude::*;
 
-// Puts those of 16 bytes that are not in the set behind the first `count` bytes of `into`, and says where they end.
+// Puts those of 16 bytes that are not in the set after the first `count` bytes of `into`, and says where they end.
 #[inline(always)]
 fn keep_lanes(
     set: ByteSet,

@@ -37,17 +37,7 @@ impl Shuffles {
     }
 }
 
-// Puts all lanes from a place on.
-#[inline(always)]
-pub(crate) fn put_lanes(v: u8x16, into: &mut [u8], at: usize)
-    requires room { at + 16 ≤ length into.old }
-    ensures long { length into.new ≡ length into.old }
-    ensures put { take (at + 16) into.new ≡ take at into.old ++ v }
-{
-    v.copy_to_slice(&mut into[at..]);
-}
-
-// Puts the 64 bytes from a place on behind the first `end` bytes of `into`.
+// Puts the 64 bytes from a place on after the first `end` bytes of `into`.
 #[inline(always)]
 pub(crate) fn put_chunk(from: &[u8], at: usize, into: &mut [u8], end: usize)
     requires lanes { at + 64 ≤ length from.now }

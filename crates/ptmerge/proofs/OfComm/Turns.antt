@@ -158,7 +158,15 @@ module _ {job : Comm} {cmp : Cmp} {key : Side → Key} {old now : State} {one tw
           (leaves (passes_slots (key s) cmp s (both one two s) (both one2 two2 s) (now.reader s) reader now.store after new fault h)
           (turns.alone_stops job cmp key t.opened.o old t.opened.unfailed now (both one two) t.running slots t.clean s step new wrote reader (both one2 two2 s) after fault h))
 
-  -- a line that both inputs have
+  -- a line that both inputs have: the first one went on, and the second one stands at it
+  pub second_stands : AreEqual cmp key (both one two) now.store → {one2 two2 : Sorted} {reader : Reader} {after : Slots} {mid : Output}
+      → HasPassed key cmp First one two one2 two2 (now.reader First) reader now.store after mid → StandsAt key Second one2 two2 (now.reader Second) after
+  second_stands step h = record {
+    placed = h.on.placed;
+    head = ap (λ (q : Sorted). q.stand) h.on.others ∙ step.second;
+    lent = subst (λ (q : Sorted). IsLent q (now.reader Second)) (sym h.on.others) (t.lent Second);
+  }
+
   module _ (step : AreEqual cmp key (both one two) now.store) (mid : Output) (e : ℕ) (ends : e ≡ job.end) (lead : List ℕ) (led : lead ≡ tab_unless job.hide1 ++ tab_unless job.hide2)
       (pushed : Wrote now.out mid (text e (entries_in job.hide3 lead 1 (line now.store one.standing)))) where
     wrote_pair : Wrote now.out mid (text job.end (by_keys (comm_by job cmp key) all_keys (both (line now.store one.standing ∷ []) (line now.store two.standing ∷ []))))
@@ -177,13 +185,6 @@ module _ {job : Comm} {cmp : Cmp} {key : Side → Key} {old now : State} {one tw
 
     -- the first input went on
     module _ {one2 two2 : Sorted} {reader : Reader} {after : Slots} (h : HasPassed key cmp First one two one2 two2 (now.reader First) reader now.store after mid) where
-      pub second_stands : StandsAt key Second one2 two2 (now.reader Second) after
-      second_stands = record {
-        placed = h.on.placed;
-        head = ap (λ (q : Sorted). q.stand) h.on.others ∙ step.second;
-        lent = subst (λ (q : Sorted). IsLent q (now.reader Second)) (sym h.on.others) (t.lent Second);
-      }
-
       slots2 : (side : Side) → HasSlots side (both one2 two side)
       slots2 = both_each HasSlots one2 two h.on.placed.first t.placed.second
 
@@ -208,7 +209,7 @@ module _ {job : Comm} {cmp : Cmp} {key : Side → Key} {old now : State} {one tw
           pair_less = omega (
             arith,
             less (key First) cmp First one two one2 two2 now.reader reader now.store after step.first h.on.others h.came,
-            less (key Second) cmp Second one2 two2 one3 two3 (put First reader now.reader) reader2 after last second_stands.head k.on.others k.came,
+            less (key Second) cmp Second one2 two2 one3 two3 (put First reader now.reader) reader2 after last (second_stands step h).head k.on.others k.came,
           )
 
           pub pair_on : IsTurn job cmp key old (record { reader = both reader reader2; out = new; store = last }) one3 two3

@@ -9,16 +9,14 @@ ghost use Rattle.ptlines.specs.Outputs.{Wrote};
 ghost use Rattle.ptlines.specs.Slots.{line, line as line_of};
 ghost use Rattle.ptlines.specs.Text.{text};
 ghost use Rattle.ptlines.specs.Readers.{IsSound};
-ghost use Rattle.ptmerge.specs.Groups.{AddsLeast, end_slot, first_slot, group};
+ghost use Rattle.ptmerge.specs.Groups.{AddsLeast, IsGroup, end_slot, first_slot, group};
 ghost use Rattle.ptmerge.specs.Merges.{IsMerge, IsReady, IsUnread, Untouched, ended_by, seen};
 ghost use Rattle.ptmerge.specs.declared.order.Side.{Side as Sided};
 ghost use Rattle.ptmerge.specs.Join.{alone_entry, entry, join_by, join_key, join_tool, pairs_of};
 ghost use Rattle.ptmerge.specs.JoinFields.{fields_left};
-ghost use Rattle.ptmerge.specs.LinePasses.{PassesLine};
-ghost use Rattle.ptmerge.specs.Sides.{both, other};
-ghost use Rattle.ptmerge.specs.Steps.{IsPlaced, IsLent};
+ghost use Rattle.ptmerge.specs.LinePasses.{Passes, StandsAt};
+ghost use Rattle.ptmerge.specs.Sides.{both};
 ghost use Rattle.ptmerge.specs.declared.order.Side.TheVariants as Of;
-ghost use Rattle.ptmerge.specs.declared.merging.sorted.Stand.TheVariants as stands;
 
 mod blanks;
 pub(crate) mod fields;
@@ -26,7 +24,7 @@ mod groups;
 
 use crate::faults::MergeFault;
 use crate::merging::slots::clear_four;
-use crate::merging::{Merge, Step, send_before_wait};
+use crate::merging::{Merge, Step};
 use crate::order::{Descending, FieldKeys, KeyOrder, Side};
 use crate::tools::join::fields::push_entry;
 use crate::tools::join::groups::{clear_group, gather, group_slots};
@@ -127,30 +125,23 @@ fn pass_alone<K: KeyOrder, A: Allocator + Copy, S: Source, R: Source, W: Sink>(
     store: &mut Store<A>,
     out: &mut Out<W>,
 ) -> Result<(), MergeFault>
-    requires placed { IsPlaced (K.key_of merge.old.order) merge.old.first merge.old.second store.old }
-    requires stands { (both merge.old.first merge.old.second side).stand ≡ stands.Head }
-    requires lent { IsLent (both merge.old.first merge.old.second side) reader.old }
+    requires stands { let key = K.key_of merge.old.order in
+        StandsAt key side merge.old.first merge.old.second reader.old store.old }
     requires keys { (side : Sided) (line : List ℕ) → K.key_of merge.old.order side line ≡ join_key (join_job job.now) side line }
     requires clean { out.old.faulted ≡ false }
     ensures wrote { let standing = line store.old (both merge.old.first merge.old.second side).standing in
         Wrote out.old out.new (text ending (alone_entry (join_job job.now) side standing)) }
-    ensures passes { let was = both merge.old.first merge.old.second side in
-        let is = both merge.new.first merge.new.second side in
-        let key = K.key_of merge.old.order side in
-        PassesLine key (K.order merge.old.order) side was is reader.old reader.new store.old store.new out.new result }
-    ensures others { let was = both merge.old.first merge.old.second (other side) in
-        both merge.new.first merge.new.second (other side) ≡ was }
+    ensures passes { let key = K.key_of merge.old.order in
+        Passes key (K.order merge.old.order) side merge.old.first merge.old.second merge.new.first merge.new.second
+        reader.old reader.new store.old store.new out.new result }
     ensures order { merge.new.order ≡ merge.old.order }
-    ensures placed { OnOk result (IsPlaced (K.key_of merge.new.order) merge.new.first merge.new.second store.new) }
-    ensures lent { OnOk result (IsLent (both merge.new.first merge.new.second side) reader.new) }
 {
     let key = merge.key(side, store);
     match push_alone(job, side, key, merge.head(side, store), ending, out) {
         Ok(()) => {}
         Err(_) => return Err(MergeFault::Write),
     }
-    send_before_wait(reader, out)?;
-    merge.advance(side, reader, store)
+    merge.go_on(side, reader, store, out)
 }
 
 // Pushes the entries of the line at which the first input stands and the group, and goes to its next line.
@@ -163,26 +154,20 @@ fn pass_pairs<K: KeyOrder, A: Allocator + Copy, S: Source, R: Source, W: Sink>(
     store: &mut Store<A>,
     out: &mut Out<W>,
 ) -> Result<(), MergeFault>
-    requires placed { IsPlaced (K.key_of merge.old.order) merge.old.first merge.old.second store.old }
-    requires stands { merge.old.first.stand ≡ stands.Head }
-    requires lent { IsLent merge.old.first reader.old }
-    requires within { (4 ≤ end) × (end ≤ length store.old.lines) }
+    requires stands { let key = K.key_of merge.old.order in
+        StandsAt key Of.First merge.old.first merge.old.second reader.old store.old }
+    requires group { let key = K.key_of merge.old.order Of.First (line store.old merge.old.first.standing) in
+        IsGroup (join_key (join_job job.now) Of.Second) merge.old.second store.old end key }
     requires keys { (side : Sided) (line : List ℕ) → K.key_of merge.old.order side line ≡ join_key (join_job job.now) side line }
-    requires keyed { (slot : ℕ) → first_slot merge.old.second end ≤ slot → slot < end_slot merge.old.second end →
-        join_key (join_job job.now) Of.Second (line store.old slot)
-        ≡ K.key_of merge.old.order Of.First (line store.old merge.old.first.standing) }
     requires clean { out.old.faulted ≡ false }
     ensures wrote { let standing = line store.old merge.old.first.standing in
         let key = K.key_of merge.old.order Of.First standing in
         let lines = group store.old (first_slot merge.old.second end) (end_slot merge.old.second end) in
         Wrote out.old out.new (text ending (pairs_of (join_job job.now) key (standing ∷ []) lines)) }
-    ensures passes { let key = K.key_of merge.old.order Of.First in
-        PassesLine key (K.order merge.old.order) Of.First
-        merge.old.first merge.new.first reader.old reader.new store.old store.new out.new result }
-    ensures others { merge.new.second ≡ merge.old.second }
+    ensures passes { let key = K.key_of merge.old.order in
+        Passes key (K.order merge.old.order) Of.First merge.old.first merge.old.second merge.new.first merge.new.second
+        reader.old reader.new store.old store.new out.new result }
     ensures order { merge.new.order ≡ merge.old.order }
-    ensures placed { OnOk result (IsPlaced (K.key_of merge.new.order) merge.new.first merge.new.second store.new) }
-    ensures lent { OnOk result (IsLent merge.new.first reader.new) }
 {
     let key = merge.key(Side::First, store);
     let line = merge.head(Side::First, store);
@@ -191,8 +176,7 @@ fn pass_pairs<K: KeyOrder, A: Allocator + Copy, S: Source, R: Source, W: Sink>(
         Ok(()) => {}
         Err(_) => return Err(MergeFault::Write),
     }
-    send_before_wait(reader, out)?;
-    merge.advance(Side::First, reader, store)
+    merge.go_on(Side::First, reader, store, out)
 }
 
 // What a turn of `join` does: goes between groups, gathers the second input's lines of a key, or pairs them.
@@ -252,8 +236,7 @@ fn join_in_order<K: KeyOrder, A: Allocator + Copy, S: Source, R: Source, W: Sink
                 }
             },
             Phase::Gathering => {
-                send_before_wait(second, out)?;
-                end = gather(&mut merge, end, second, store)?;
+                end = gather(&mut merge, end, second, store, out)?;
                 if !merge.repeats(Side::Second) {
                     phase = Phase::Pairing;
                 }

@@ -22,7 +22,7 @@ use ptlines::{LineReader, Out, Sink, Source, WriteFault, copy_near, find_near};
 use std::alloc::Allocator;
 use std::simd::prelude::*;
 
-// What is written of a block, which is at most as long as the block, and room for what a copy changes behind it.
+// What is written for a block, which is at most as long as the block, and room for what a copy changes after it.
 type Written = [u8; 8208];
 
 /// What is selected of each line, and which places these are of a short one.
@@ -34,7 +34,7 @@ pub(crate) struct Selection<'a> {
 
 // Copies the selected bytes of a piece of a line, the first `count` of these bytes, and then the bytes up to `end`:
 // the one that ends the line, or none. In front of the piece stand `before` bytes of the line. The answer is where
-// that ends. Apart, so that most lines are copied without what this needs in registers.
+// that ends. Out of line, so that most lines are copied without what this needs in registers.
 #[inline(never)]
 fn copy_selected(
     selected: &[Interval],
@@ -125,7 +125,7 @@ fn copy_ends(block: &[u8], step: Step, into: &mut [u8]) -> Step
     }
 }
 
-// Copies what is written of the lines that end among the 64 bytes from a place on, after which 16 more stand; the mask
+// Copies what is written for the lines that end among the 64 bytes from a place on, after which 16 more come; the mask
 // of their ends is given. The answer is the first line after them. Apart, so that what a line needs stays in registers.
 #[inline(never)]
 fn cut_chunk(
@@ -165,8 +165,8 @@ fn cut_chunk(
     step
 }
 
-// Copies what is written of bytes, of whose first line `before` bytes came earlier. The answer is where that ends, and
-// how many bytes have come of the line that goes on behind them.
+// Copies what is written for bytes, of whose first line `before` bytes came earlier. The answer is where that ends, and
+// how many bytes have come of the line that goes on after them.
 fn cut_rest(
     by: &Selection,
     ending: u8,
@@ -195,8 +195,8 @@ fn cut_rest(
     (at, before + rest.len() as u64)
 }
 
-// Copies what is written of a block, of whose first line `before` bytes came earlier. The answer is where that ends,
-// and how many bytes have come of the line that goes on behind the block.
+// Copies what is written for a block, of whose first line `before` bytes came earlier. The answer is where that ends,
+// and how many bytes have come of the line that goes on after the block.
 #[inline(never)]
 fn cut_pieces(
     by: &Selection,
@@ -231,7 +231,7 @@ fn cut_pieces(
 }
 
 /// What is selected of each line, the byte that ends a line, how many bytes have come of the line that goes on, and a
-/// place for what is written of a block.
+/// place for what is written for a block.
 #[derive(Drop)]
 struct ByteCut<'a> {
     by: Selection<'a>,
@@ -273,7 +273,7 @@ impl<'a> BlockTool for ByteCut<'a> {
     }
 }
 
-// Writes the selected bytes of each line of a reader, and behind each line the byte that ends it. No line is kept:
+// Writes the selected bytes of each line of a reader, and after each line the byte that ends it. No line is kept:
 // what was selected is pushed before the next read.
 pub(crate) fn cut_by_bytes<A: Allocator + Copy, S: Source, R: Source, W: Sink>(
     job: &CutJob<A>,

@@ -1,16 +1,16 @@
 //! The group: the second input's lines of one key. Where there are several, `join` copies them to slots of their own;
 //! one alone stays where it was read.
-ghost use Rattle.std.specs.Prelude.{◌≡◌, ◌≤◌, ◌<◌, ◌+◌, ◌-◌, length, IfOk, OnOk, OnErr};
+ghost use Rattle.std.specs.Prelude.{◌≡◌, ◌≤◌, ◌<◌, ◌+◌, ◌-◌, [], false, length, IfOk, OnOk, OnErr};
+ghost use Rattle.ptlines.specs.Outputs.{Wrote};
 ghost use Rattle.ptlines.specs.Slots.{line, total, with_denied};
 ghost use Rattle.ptmerge.specs.declared.order.Side.TheVariants as Of;
-ghost use Rattle.ptmerge.specs.declared.merging.sorted.Stand.TheVariants as stands;
 ghost use Rattle.ptmerge.specs.Groups.{Gathers, IsGroupCleared, IsGrown, IsKept, IsRefused, end_slot, first_slot};
-ghost use Rattle.ptmerge.specs.Steps.{IsLent, IsPlaced};
+ghost use Rattle.ptmerge.specs.LinePasses.{CanGoOn, StandsAt};
 
 use crate::faults::MergeFault;
 use crate::merging::Merge;
 use crate::order::{KeyOrder, Side};
-use ptlines::{LineFault, LineReader, Source, Store};
+use ptlines::{LineFault, LineReader, Out, Sink, Source, Store};
 use std::alloc::Allocator;
 
 // Adds the slot with this number if it is missing.
@@ -44,25 +44,26 @@ fn keep_line<A: Allocator + Copy>(
 
 // Goes to the second input's next line, and copies the line before it to the group's slots. Where that line is the only
 // one of its key, it stays where it is. The answer is the slot after the copied lines.
-pub(crate) fn gather<K: KeyOrder, A: Allocator + Copy, S: Source, R: Source>(
+pub(crate) fn gather<K: KeyOrder, A: Allocator + Copy, S: Source, R: Source, W: Sink>(
     merge: &mut Merge<K>,
     end: usize,
     reader: &mut LineReader<S, R>,
     store: &mut Store<A>,
+    out: &mut Out<W>,
 ) -> Result<usize, MergeFault>
-    requires placed { IsPlaced (K.key_of merge.old.order) merge.old.first merge.old.second store.old }
-    requires stands { merge.old.second.stand ≡ stands.Head }
-    requires lent { IsLent merge.old.second reader.old }
+    requires stands { let key = K.key_of merge.old.order in
+        StandsAt key Of.Second merge.old.first merge.old.second reader.old store.old }
     requires group { (4 ≤ end) × (end ≤ length store.old.lines) }
+    requires clean { out.old.faulted ≡ false }
+    ensures sent { Wrote out.old out.new [] }
     ensures gathers { let key = K.key_of merge.old.order Of.Second in
         Gathers key (K.order merge.old.order)
-        merge.old.second merge.new.second reader.old reader.new store.old store.new end result }
-    ensures other { merge.new.first ≡ merge.old.first }
+        merge.old.second merge.new.second reader.old reader.new store.old store.new out.new end result }
+    ensures on { OnOk result (CanGoOn (K.key_of merge.old.order) Of.Second merge.old.first merge.old.second
+        merge.new.first merge.new.second reader.new store.new out.new) }
     ensures order { merge.new.order ≡ merge.old.order }
-    ensures placed { OnOk result (IsPlaced (K.key_of merge.new.order) merge.new.first merge.new.second store.new) }
-    ensures lent { OnOk result (IsLent merge.new.second reader.new) }
 {
-    merge.advance(Side::Second, reader, store)?;
+    merge.go_on(Side::Second, reader, store, out)?;
     if end == 4 && !merge.repeats(Side::Second) {
         return Ok(end);
     }

@@ -32,52 +32,27 @@ merge_two-requires-else-first-second g c =
     )
     c.requires.ready
 
-pub returns-then-first-second-clause-merged : goal.returns-then-first-second-clause-merged
-returns-then-first-second-clause-merged g c =
+pub returns-then-first-second : goal.returns-then-first-second
+returns-then-first-second g c =
     let s = c.split_at_mut-front in
     let k = are_lent c.args.inputs.now s.result.0.now s.result.1.now c.args.first c.args.second s.ensures.value s.ensures.front_len c.if-first-second.true
     c.requires.within.1 c.merge_two.new.first c.merge_two.new.second
     c.index-front-first.result c.index-back-0.result (some_left _ _ _ s.ensures.back_len c.requires.within.1) in
-    rw (sym k.was_low, sym k.was_high, k.is_low, k.is_high) c.merge_two.ensures.merged
+    record {
+      merged = rw (sym k.was_low, sym k.was_high, k.is_low, k.is_high) c.merge_two.ensures.merged;
+      others = k.others;
+      sound = rw (sym k.was_low, sym k.was_high, k.is_low, k.is_high) c.merge_two.ensures.sound;
+    }
 
-pub returns-then-first-second-clause-sound : goal.returns-then-first-second-clause-sound
-returns-then-first-second-clause-sound g c =
-    let s = c.split_at_mut-front in
-    let k = are_lent c.args.inputs.now s.result.0.now s.result.1.now c.args.first c.args.second s.ensures.value s.ensures.front_len c.if-first-second.true
-    c.requires.within.1 c.merge_two.new.first c.merge_two.new.second
-    c.index-front-first.result c.index-back-0.result (some_left _ _ _ s.ensures.back_len c.requires.within.1) in
-    rw (sym k.was_low, sym k.was_high, k.is_low, k.is_high) c.merge_two.ensures.sound
-
-pub returns-then-first-second-clause-others : goal.returns-then-first-second-clause-others
-returns-then-first-second-clause-others g c =
-    let s = c.split_at_mut-front in
-    (are_lent c.args.inputs.now s.result.0.now s.result.1.now c.args.first c.args.second s.ensures.value s.ensures.front_len c.if-first-second.true
-    c.requires.within.1 c.merge_two.new.first c.merge_two.new.second
-    c.index-front-first.result c.index-back-0.result (some_left _ _ _ s.ensures.back_len c.requires.within.1)).others
-
-pub returns-else-first-second-clause-merged : goal.returns-else-first-second-clause-merged
-returns-else-first-second-clause-merged g c =
+pub returns-else-first-second : goal.returns-else-first-second
+returns-else-first-second g c =
     let s = c.split_at_mut-front-else-first-second in
     let w = c.merge_two-else-first-second in
     let k = are_lent c.args.inputs.now s.result.0.now s.result.1.now c.args.second c.args.first s.ensures.value s.ensures.front_len
     (below c.args.first c.args.second c.if-first-second.false c.requires.apart) c.requires.within.0 w.new.second w.new.first
     c.index-front-second.result c.index-back-0-else-first-second.result (some_left _ _ _ s.ensures.back_len c.requires.within.0) in
-    rw (sym k.was_low, sym k.was_high, k.is_low, k.is_high) w.ensures.merged
-
-pub returns-else-first-second-clause-sound : goal.returns-else-first-second-clause-sound
-returns-else-first-second-clause-sound g c =
-    let s = c.split_at_mut-front-else-first-second in
-    let w = c.merge_two-else-first-second in
-    let k = are_lent c.args.inputs.now s.result.0.now s.result.1.now c.args.second c.args.first s.ensures.value s.ensures.front_len
-    (below c.args.first c.args.second c.if-first-second.false c.requires.apart) c.requires.within.0 w.new.second w.new.first
-    c.index-front-second.result c.index-back-0-else-first-second.result (some_left _ _ _ s.ensures.back_len c.requires.within.0) in
-    rw (sym k.was_low, sym k.was_high, k.is_low, k.is_high) w.ensures.sound
-
-pub returns-else-first-second-clause-others : goal.returns-else-first-second-clause-others
-returns-else-first-second-clause-others g c =
-    let s = c.split_at_mut-front-else-first-second in
-    let w = c.merge_two-else-first-second in
-    λ place first second.
-    (are_lent c.args.inputs.now s.result.0.now s.result.1.now c.args.second c.args.first s.ensures.value s.ensures.front_len
-    (below c.args.first c.args.second c.if-first-second.false c.requires.apart) c.requires.within.0 w.new.second w.new.first
-    c.index-front-second.result c.index-back-0-else-first-second.result (some_left _ _ _ s.ensures.back_len c.requires.within.0)).others place second first
+    record {
+      merged = rw (sym k.was_low, sym k.was_high, k.is_low, k.is_high) w.ensures.merged;
+      others = λ place first second. k.others place second first;
+      sound = rw (sym k.was_low, sym k.was_high, k.is_low, k.is_high) w.ensures.sound;
+    }

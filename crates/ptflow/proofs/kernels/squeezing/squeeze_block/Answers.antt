@@ -23,29 +23,29 @@ loop-at-preserved c =
     let from = c.args.from.now in
     let at = c.loop-at.at in
     let flag = λ (b : ℕ). slice_index_or c.args.flags.now b false in
-    let room : at + 16 ≤ length from = omega (arith, c.loop-at.invariant.within) in
-    let same = same_behind (holds c.args.set) flag c.requires.set (get_or from (at - 1) 0) (take 16 (drop at from)) (chunk-fits w8 at 16 from c.type_inv.from) in
-    squeezing_piece flag from c.loop-at.into at c.loop-at.count _ c.loop-at.invariant c.squeeze_lanes-count.new.into c.squeeze_lanes-count.result 16
-    (omega arith) room c.squeeze_lanes-count.ensures.end
-    (c.squeeze_lanes-count.ensures.squeezed ∙ ap (λ (l : List ℕ). take c.loop-at.count c.loop-at.into ++ l) same)
+    let room : at + 64 ≤ length from = omega (arith, c.loop-at.invariant.within) in
+    let same = same_behind (holds c.args.set) flag c.requires.set (get_or from (at - 1) 0) (take 64 (drop at from)) (chunk-fits w8 at 64 from c.type_inv.from) in
+    squeezing_piece flag from c.loop-at.into at c.loop-at.count _ c.loop-at.invariant c.squeeze_chunk-count.new.into c.squeeze_chunk-count.result 64
+    (omega arith) room c.squeeze_chunk-count.ensures.end
+    (c.squeeze_chunk-count.ensures.squeezed ∙ ap (λ (l : List ℕ). take c.loop-at.count c.loop-at.into ++ l) same)
 
 pub overflow_sub-from : goal.overflow_sub-from
 overflow_sub-from c = c.loop-at.invariant.within
 
-pub squeeze_lanes-count-requires-clause-behind : goal.squeeze_lanes-count-requires-clause-behind
-squeeze_lanes-count-requires-clause-behind c = c.loop-at.invariant.behind
+pub squeeze_chunk-count-requires-clause-behind : goal.squeeze_chunk-count-requires-clause-behind
+squeeze_chunk-count-requires-clause-behind c = c.loop-at.invariant.behind
 
-pub squeeze_lanes-count-requires-clause-room : goal.squeeze_lanes-count-requires-clause-room
-squeeze_lanes-count-requires-clause-room c = omega (arith, c.loop-at.invariant.counted, c.loop-at.invariant.within)
+pub squeeze_chunk-count-requires-clause-room : goal.squeeze_chunk-count-requires-clause-room
+squeeze_chunk-count-requires-clause-room c = omega (arith, c.loop-at.invariant.counted, c.loop-at.invariant.within)
 
-pub squeeze_rest-requires-clause-behind : goal.squeeze_rest-requires-clause-behind
-squeeze_rest-requires-clause-behind c = c.loop-at.invariant.behind
+pub squeeze_tail-requires-clause-behind : goal.squeeze_tail-requires-clause-behind
+squeeze_tail-requires-clause-behind c = c.loop-at.invariant.behind
 
-pub squeeze_rest-requires-clause-within : goal.squeeze_rest-requires-clause-within
-squeeze_rest-requires-clause-within c = c.loop-at.invariant.within
+pub squeeze_tail-requires-clause-within : goal.squeeze_tail-requires-clause-within
+squeeze_tail-requires-clause-within c = c.loop-at.invariant.within
 
-pub squeeze_rest-requires-clause-counted : goal.squeeze_rest-requires-clause-counted
-squeeze_rest-requires-clause-counted c = c.loop-at.invariant.counted
+pub squeeze_tail-requires-clause-counted : goal.squeeze_tail-requires-clause-counted
+squeeze_tail-requires-clause-counted c = c.loop-at.invariant.counted
 
 pub returns-clause-squeezed : goal.returns-clause-squeezed
-returns-clause-squeezed c = c.squeeze_rest.ensures.squeezed ∙ c.loop-at.invariant.is
+returns-clause-squeezed c = c.squeeze_tail.ensures.squeezed ∙ c.loop-at.invariant.is

@@ -24,9 +24,8 @@ opened g c =
 
 pub returns-in_err-merge : goal.returns-in_err-merge
 returns-in_err-merge g c =
-    let e = c.from_residual in
     let l = start_stops (opened g (goal.at.returns-in_err-merge g c).After-start) c.start.new.first c.start.new.second c.start.new.store
-    c.in_err-merge.field-0.0 (told (err_from_is_err_and e.result e.ensures.1)) c.in_err-merge.ensures.breaks in
+    c.in_err-merge.field-0.0 (told (err_from_is_err_and c.from_residual.result c.from_residual.ensures.1)) c.in_err-merge.ensures.breaks in
     record { merged = l.merged; refused = l.refused; slots = l.slots }
 
 pub steps-init : goal.steps-init
@@ -53,13 +52,8 @@ pass-requires-in-Both g c = let t = c.steps.invariant.turn in record { stands = 
 
 pub go_on-requires : goal.go_on-requires
 go_on-requires g c =
-    let p = c.pass-in-Both.ensures in
     let passed = c.in_ok-pass-in-Both.ensures.passes in
-    record {
-      stands = rw p.order (second_stands c.steps.invariant.turn c.in-Both.ensures c.pass-in-Both.new.out c.ending-ending.result
-          (c.ending-ending.ensures ∙ c.requires.ending.0) c.lead-lead3.result.now c.lead-lead3.ensures p.wrote passed);
-      clean = passed.on.clean;
-    }
+    record { stands = rw c.pass-in-Both.ensures.order (second_stands c.steps.invariant.turn c.in-Both.ensures passed); clean = passed.on.clean }
 
 pub clear_four-requires : goal.clear_four-requires
 clear_four-requires g c = c.steps.invariant.turn.placed.slots
@@ -117,28 +111,28 @@ pub returns-in_err-pass-in-First : goal.returns-in_err-pass-in-First
 returns-in_err-pass-in-First g c =
     let i = c.steps.invariant in
     let n = c.pass.new in
-    let e = c.from_residual-in_err-pass-in-First in
     let l = alone_stops i.turn sides.First c.in-First.ensures n.out c.ending-ending.result (c.ending-ending.ensures ∙ c.requires.ending.0) [] refl
-    c.pass.ensures.wrote n.merge.first n.merge.second n.reader n.store c.in_err-pass-in-First.field-0.0 (told (err_from_is_err_and e.result e.ensures.1)) c.in_err-pass-in-First.ensures.passes in
+    c.pass.ensures.wrote n.merge.first n.merge.second n.reader n.store c.in_err-pass-in-First.field-0.0
+    (told (err_from_is_err_and c.from_residual-in_err-pass-in-First.result c.from_residual-in_err-pass-in-First.ensures.1)) c.in_err-pass-in-First.ensures.passes in
     record { merged = rw (← i.order) l.merged; refused = l.refused; slots = l.slots }
 
 pub returns-in_err-pass-in-Second : goal.returns-in_err-pass-in-Second
 returns-in_err-pass-in-Second g c =
     let i = c.steps.invariant in
     let n = c.pass-in-Second.new in
-    let e = c.from_residual-in_err-pass-in-Second in
     let l = alone_stops i.turn sides.Second c.in-Second.ensures n.out c.ending-ending.result (c.ending-ending.ensures ∙ c.requires.ending.0)
     c.lead-lead2.result.now (c.lead-lead2.ensures ∙ append-nil (tab_unless (comm_job c.args.job.now).hide1)) c.pass-in-Second.ensures.wrote
-    n.merge.first n.merge.second n.reader n.store c.in_err-pass-in-Second.field-0.0 (told (err_from_is_err_and e.result e.ensures.1)) c.in_err-pass-in-Second.ensures.passes in
+    n.merge.first n.merge.second n.reader n.store c.in_err-pass-in-Second.field-0.0
+    (told (err_from_is_err_and c.from_residual-in_err-pass-in-Second.result c.from_residual-in_err-pass-in-Second.ensures.1)) c.in_err-pass-in-Second.ensures.passes in
     record { merged = rw (← i.order) l.merged; refused = l.refused; slots = l.slots }
 
 pub returns-in_err-pass-in-Both : goal.returns-in_err-pass-in-Both
 returns-in_err-pass-in-Both g c =
     let i = c.steps.invariant in
     let n = c.pass-in-Both.new in
-    let e = c.from_residual-in_err-pass-in-Both in
     let l = pair_stops i.turn c.in-Both.ensures n.out c.ending-ending.result (c.ending-ending.ensures ∙ c.requires.ending.0) c.lead-lead3.result.now c.lead-lead3.ensures
-    c.pass-in-Both.ensures.wrote n.merge.first n.merge.second n.reader n.store c.in_err-pass-in-Both.field-0.0 (told (err_from_is_err_and e.result e.ensures.1))
+    c.pass-in-Both.ensures.wrote n.merge.first n.merge.second n.reader n.store c.in_err-pass-in-Both.field-0.0
+    (told (err_from_is_err_and c.from_residual-in_err-pass-in-Both.result c.from_residual-in_err-pass-in-Both.ensures.1))
     c.in_err-pass-in-Both.ensures.passes in
     record { merged = rw (← i.order) l.merged; refused = l.refused; slots = l.slots }
 
@@ -147,20 +141,17 @@ returns-in_err-go_on-in-Both g c =
     let i = c.steps.invariant in
     let p = c.pass-in-Both.ensures in
     let n = c.go_on.new in
-    let e = c.from_residual-in_err-go_on-in-Both in
     let l = second_stops i.turn c.in-Both.ensures c.pass-in-Both.new.out c.ending-ending.result (c.ending-ending.ensures ∙ c.requires.ending.0)
     c.lead-lead3.result.now c.lead-lead3.ensures p.wrote c.in_ok-pass-in-Both.ensures.passes n.out c.go_on.ensures.sent n.self.first n.self.second n.reader n.store
-    c.in_err-go_on-in-Both.field-0.0 (told (err_from_is_err_and e.result e.ensures.1)) c.in_err-go_on-in-Both.ensures.passes in
+    c.in_err-go_on-in-Both.field-0.0 (told (err_from_is_err_and c.from_residual-in_err-go_on-in-Both.result c.from_residual-in_err-go_on-in-Both.ensures.1)) c.in_err-go_on-in-Both.ensures.passes in
     record { merged = rw (← i.order) l.merged; refused = l.refused; slots = l.slots }
 
 pub returns-in-End : goal.returns-in-End
 returns-in-End g c =
-    let i = c.steps.invariant in
-    let l = ended i.turn c.clear_four.ensures c.in-End.ensures in
-    record { merged = rw (← i.order) l.merged; refused = l.refused; slots = l.slots }
+    let l = ended c.steps.invariant.turn c.clear_four.ensures c.in-End.ensures in
+    record { merged = rw (← c.steps.invariant.order) l.merged; refused = l.refused; slots = l.slots }
 
 pub returns-in-Stop : goal.returns-in-Stop
 returns-in-Stop g c =
-    let i = c.steps.invariant in
-    let l = fallen i.turn c.clear_four-in-Stop.ensures c.in-Stop.ensures in
-    record { merged = rw (← i.order) l.merged; refused = l.refused; slots = l.slots }
+    let l = fallen c.steps.invariant.turn c.clear_four-in-Stop.ensures c.in-Stop.ensures in
+    record { merged = rw (← c.steps.invariant.order) l.merged; refused = l.refused; slots = l.slots }

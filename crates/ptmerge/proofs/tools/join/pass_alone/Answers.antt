@@ -8,16 +8,9 @@ use Rattle.ptmerge.specs.Sides.{both}
 use Rattle.ptmerge.proofs.OfMerges.Sending.{wrote_and_sent}
 use Rattle.ptmerge.proofs.tools.join.pass_alone.Goals as goal
 
-pub returns-in_err-send_before_wait-clause-wrote : goal.returns-in_err-send_before_wait-clause-wrote
-returns-in_err-send_before_wait-clause-wrote g c =
-    let pushed = λ (l : List ℕ). text c.args.ending (alone_entry (join_job c.args.job.now) c.args.side l) in
-    wrote_and_sent c.args.out.now c.push_alone.new.out c.send_before_wait.new.out
-    (pushed (line c.args.store.now (both c.args.merge.now.first c.args.merge.now.second c.args.side).standing)) c.in-Ok.ensures.clean
-    (subst (λ (l : List ℕ). Wrote c.args.out.now c.push_alone.new.out (pushed l)) c.head.ensures c.push_alone.ensures.wrote) c.send_before_wait.ensures.wrote
-
 pub returns-clause-wrote : goal.returns-clause-wrote
 returns-clause-wrote g c =
     let pushed = λ (l : List ℕ). text c.args.ending (alone_entry (join_job c.args.job.now) c.args.side l) in
-    wrote_and_sent c.args.out.now c.push_alone.new.out c.send_before_wait.new.out
+    wrote_and_sent c.args.out.now c.push_alone.new.out c.go_on.new.out
     (pushed (line c.args.store.now (both c.args.merge.now.first c.args.merge.now.second c.args.side).standing)) c.in-Ok.ensures.clean
-    (subst (λ (l : List ℕ). Wrote c.args.out.now c.push_alone.new.out (pushed l)) c.head.ensures c.push_alone.ensures.wrote) c.send_before_wait.ensures.wrote
+    (subst (λ (l : List ℕ). Wrote c.args.out.now c.push_alone.new.out (pushed l)) c.head.ensures c.push_alone.ensures.wrote) c.go_on.ensures.sent
