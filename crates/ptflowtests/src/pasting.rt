@@ -77,8 +77,8 @@ fn lines_over_blocks(alloc: Global, ending: u8, ended: bool) -> Result<Vec<u8>, 
     text_of(alloc, &lengths, ending, ended)
 }
 
-// What is written of them where all cells name their reader has this digest, whatever the pieces in which they come.
-fn rows_of_one_reader(
+// What is written of them by two readers has this digest, whatever the pieces in which they come.
+fn rows_over_blocks(
     rt: &impl Abort,
     alloc: Global,
     cells: &[usize],
@@ -86,7 +86,7 @@ fn rows_of_one_reader(
     ended: bool,
     wanted: u64,
 ) -> Result<(), Fail>
-    requires { All (λ place. place < 1) cells.now }
+    requires { All (λ place. place < 2) cells.now }
 {
     let job = PasteJob {
         serial: false,
@@ -96,7 +96,8 @@ fn rows_of_one_reader(
     let text = lines_over_blocks(alloc, if zero { 0 } else { b'\n' }, ended)?;
     for size in [1, 7, 8191, usize::MAX] {
         let reader: Reader<'_> = LineReader::standard(Pieces::new(&text, size, u64::MAX));
-        let mut readers = [reader];
+        let other: Reader<'_> = LineReader::standard(Pieces::new(&text, size, u64::MAX));
+        let mut readers = [reader, other];
         let mut store = Store::new(alloc, 0)?;
         let mut out = Out::new(Kept::new(alloc));
         let told = paste(&job, cells, &mut readers, &mut store, &mut out);
@@ -112,9 +113,17 @@ fn rows_of_one_reader(
 #[test]
 fn rows_of_one_reader_over_blocks(rt: HostRuntime) -> Result<(), Fail> {
     let alloc = rt.alloc();
-    rows_of_one_reader(&rt, alloc, &[0, 0], false, true, 0x2d87_e996_c991_47fe)?;
-    rows_of_one_reader(&rt, alloc, &[0, 0, 0], false, false, 0x7e70_6cd7_79c7_89ce)?;
-    rows_of_one_reader(&rt, alloc, &[0; 7], true, true, 0x7cdd_b415_9467_0554)
+    rows_over_blocks(&rt, alloc, &[0, 0], false, true, 0x2d87_e996_c991_47fe)?;
+    rows_over_blocks(&rt, alloc, &[0, 0, 0], false, false, 0x7e70_6cd7_79c7_89ce)?;
+    rows_over_blocks(&rt, alloc, &[0; 7], true, true, 0x7cdd_b415_9467_0554)
+}
+
+// The same of two readers, of which the first has two columns in the second case.
+#[test]
+fn rows_of_two_readers_over_blocks(rt: HostRuntime) -> Result<(), Fail> {
+    let alloc = rt.alloc();
+    rows_over_blocks(&rt, alloc, &[0, 1], false, false, 0xed5c_fbfc_5a2a_4391)?;
+    rows_over_blocks(&rt, alloc, &[0, 1, 0], true, true, 0x9bde_08fe_70b4_1009)
 }
 
 // An input that comes in pieces of so many bytes, and a sink that takes so many.
