@@ -1,4 +1,5 @@
--- Worked examples of the parts of texts: what a law says of some, and what comes of a cut that does not meet its condition.
+-- Worked examples of the parts of texts: what a law says of some, and what comes of a cut that does not meet its
+-- condition.
 use Rattle.std.proofs.Common.{◌≡◌, ◌==◌, cond, inl, inr, ℕ, List, [], ◌∷◌, ◌++◌, Bool, true, false, length, refl, ap, arith, codes, Option, Some, None, Result, Ok, Err, ◌<◌, ◌∙◌, sym, zero, suc}
 use Rattle.std.specs.Prelude.{slice_index_or, unwrap_or, filter, bytes_eq}
 use Rattle.std.specs.Fmt.{digits}

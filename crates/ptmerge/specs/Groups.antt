@@ -59,8 +59,8 @@ pub record IsGroupCleared (before after : Slots) (end : ℕ) : Type 0 where
   pub peak : after.peak ≤ max before.peak (total before.lines)
   pub denied : after.denied ≡ before.denied
 
--- The line before the one at which the second input now stands stays where it is, as the group's only one; or it was kept,
--- as one of several.
+-- The line before the one at which the second input now stands stays where it is, as the group's only one; or it was
+-- kept, as one of several.
 abbrev pub KeepsLast : Sorted → Slots → Slots → ℕ → ℕ → Type 0
 KeepsLast new made after end next =
     ((new.same ≡ false) × (end ≡ 4) × (next ≡ end) × (after ≡ made))

@@ -55,8 +55,8 @@ GoesBefore cmp k Head head last = is_gt (cmp head k) ≡ true
 GoesBefore cmp k Ended head last = Unit {0}
 GoesBefore cmp k (Disorder n) head last = is_gt (cmp k last) ≡ false
 
--- Nothing that is yet to come is at most the last key l of an input that is out of order, where the other one stands so;
--- and of two that are out of order this one is named, since its last key is the lesser, or as the first.
+-- Nothing that is yet to come is at most the last key l of an input that is out of order, where the other one stands
+-- so; and of two that are out of order this one is named, since its last key is the lesser, or as the first.
 abbrev pub IsNamed : Cmp → Side → List ℕ → Stand → List ℕ → List ℕ → Type 0
 IsNamed cmp side l Head head last = is_gt (cmp head l) ≡ true
 IsNamed cmp side l Ended head last = Unit {0}

@@ -258,8 +258,8 @@ impl<K: KeyOrder> Merge<K> {
         }
     }
 
-    // Goes to the next line of an input that stands at one, by its own reader. What is staged is sent first, if that line
-    // may have to be waited for.
+    // Goes to the next line of an input that stands at one, by its own reader. What is staged is sent first, if that
+    // line may have to be waited for.
     #[inline(always)]
     pub(crate) fn go_on<A: Allocator + Copy, S: Source, R: Source, W: Sink>(
         &mut self,

@@ -1,4 +1,5 @@
--- Runs that do not keep up. Of two operands in turn the first was done, and nothing came of the second; or much came of one.
+-- Runs that do not keep up. Of two operands in turn the first was done, and nothing came of the second; or much came of
+-- one.
 use Rattle.std.proofs.Common.{◌≡◌, ℕ, ◌+◌, ◌<◌, ◌≤◌, Bool, true, false, List, [], ◌∷◌, ◌++◌, Some, ap, arith, codes, length, refl, length-append}
 use Rattle.std.specs.Prelude.{flat_map, unwrap_or, replicate}
 use Rattle.std.proofs.lemmas.List.{length-replicate}

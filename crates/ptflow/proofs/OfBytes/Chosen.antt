@@ -93,8 +93,9 @@ chosen_slice r n (x ∷ xs) (suc i) (suc j) is js =
     let same : suc j - suc i ≡ j - i = omega arith in
     rw (below r n (omega (arith, is)), same) (chosen_slice r (n + 1) xs i j (omega (arith, is)) (omega (arith, js)))
 
--- What the intervals so far choose of a piece stands behind what stood there, and what is still to come is chosen by the
--- others; behind it comes the tail. What stands there ends at `at`, which is no farther on than the intervals so far reach.
+-- What the intervals so far choose of a piece stands behind what stood there, and what is still to come is chosen by
+-- the others; behind it comes the tail. What stands there ends at `at`, which is no farther on than the intervals so
+-- far reach.
 pub record Choosing (all : List Interval) (i before : ℕ) (piece tail was is : List ℕ) (start at : ℕ) : Type 0 where
   pub front : is ++ (chosen (is_selected (drop i all)) (before + 1) piece ++ tail) ≡ was ++ (chosen (is_selected all) (before + 1) piece ++ tail)
   pub low : ℕ
@@ -139,7 +140,8 @@ module _ (all : List Interval) (before : ℕ) (piece tail was : List ℕ) (start
           (at + ((r.last - before) - (r.first - (before + 1))))
       choosing_more short = record { front = next; low = r.last + 1; apart = apart.2; near = omega (arith, choosing_room); within = omega (arith, choosing_room, short) }
 
-      -- where the interval reaches the end of the piece, what it chooses begins no farther in front than what stands there ends
+      -- where the interval reaches the end of the piece, what it chooses begins no farther in front than what stands
+      -- there ends
       pub choosing_end : at ≤ start + min (r.first - (before + 1)) (length piece)
       choosing_end = omega (arith, k.near, k.within, apart.0)
 

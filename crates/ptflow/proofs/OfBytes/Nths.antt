@@ -1,5 +1,5 @@
--- The n-th item of a list that passes a test, by the bits of a mask, of which the lowest are cleared; and that the fields
--- behind the n-th delimiter start there.
+-- The n-th item of a list that passes a test, by the bits of a mask, of which the lowest are cleared; and that the
+-- fields behind the n-th delimiter start there.
 use Rattle.std.proofs.Common.{◌≡◌, ⊎_elim, ℕ, zero, suc, ◌+◌, ◌-◌, ◌*◌, ◌/◌, ◌%◌, ◌^◌, ◌<◌, ◌≤◌, min, Bool, true, false, cond, not, Option, None, Some, List}
 use Rattle.std.proofs.Common.{[], ◌∷◌, ◌++◌, length, map, take, drop, get_or, refl, sym, ◌∙◌, ap, ap₂, subst, arith, get_or-take, take-append-drop, length-drop}
 use Rattle.std.specs.Int.RustNames.{count_ones}

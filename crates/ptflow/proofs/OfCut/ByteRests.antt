@@ -1,5 +1,5 @@
--- What `cut` by bytes writes of the rest of a text, a piece at a time. A piece of a line adds to the places counted, and
--- an end of a line sets them back; from no place on this is what it is to write of whole lines.
+-- What `cut` by bytes writes of the rest of a text, a piece at a time. A piece of a line adds to the places counted,
+-- and an end of a line sets them back; from no place on this is what it is to write of whole lines.
 use Rattle.std.proofs.Common.{◌≡◌, ℕ, suc, ◌+◌, ◌-◌, ◌≤◌, ◌*◌, ◌^◌, ◌==◌, Bool, true, false, cond, List, [], ◌∷◌, ◌++◌, map, length, take, drop, Some, refl, sym, ◌∙◌, ap, arith, append_assoc}
 use Rattle.std.specs.List.{onto_first, flat_map}
 use Rattle.std.specs.Simd.Lanes.{mask_l, chunk}

@@ -1,5 +1,5 @@
--- What `cut` by fields writes of the first lines of a block: of a line with the delimiter its fields, and lines without it
--- as they are, or nothing.
+-- What `cut` by fields writes of the first lines of a block: of a line with the delimiter its fields, and lines without
+-- it as they are, or nothing.
 use Rattle.std.proofs.Common.{◌≡◌, ℕ, zero, suc, ◌+◌, ◌-◌, ◌<◌, ◌≤◌, ◌==◌, ◌⊎◌, inl, inr, Bool, true, false, cond, List, [], ◌∷◌, ◌++◌, length, take, drop}
 use Rattle.std.proofs.Common.{get_or, Option, None, Some, refl, sym, ◌∙◌, ap, ap₂, subst, arith, append_assoc, get_or-take, take-append-drop}
 use Rattle.std.specs.Prelude.{◌≢◌, unwrap_or}

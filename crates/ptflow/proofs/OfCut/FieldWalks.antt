@@ -13,8 +13,8 @@ use Rattle.ptflow.proofs.OfCut.FieldPlaces.{led-append, led_fields, join_led}
 abbrev pub laid : ℕ → ℕ → List (List ℕ) → List ℕ
 laid d lead fs = drop (1 - lead) (led d fs)
 
--- What is still to come of a line whose field of this number starts at this place, where these intervals are left; behind
--- it comes the tail.
+-- What is still to come of a line whose field of this number starts at this place, where these intervals are left;
+-- behind it comes the tail.
 abbrev pub coming : ℕ → List Interval → List ℕ → List ℕ → ℕ → ℕ → ℕ → List ℕ
 coming d others line tail number at lead = laid d lead (chosen (is_selected others) number (fields d (drop at line))) ++ tail
 

@@ -1,5 +1,5 @@
--- A tool that works line by line, whatever it carries. What was passed on of the lines that came, and what is made of the
--- lines to come, is the whole, whatever comes; so midway it is what PassLemmas asks for.
+-- A tool that works line by line, whatever it carries. What was passed on of the lines that came, and what is made of
+-- the lines to come, is the whole, whatever comes; so midway it is what PassLemmas asks for.
 use Rattle.std.proofs.Common.{◌≡◌, ℕ, ◌+◌, ◌-◌, ◌*◌, ◌≤◌, ◌^◌, true, false, List, [], ◌∷◌, ◌++◌, Ok, Err, length, drop, max, refl, sym, ◌∙◌, ap, subst, arith, append_assoc, length-append}
 use Rattle.std.proofs.Math.Nat.{mul-le-mul_left}
 use Rattle.std.proofs.lemmas.Bool.{false≢true}

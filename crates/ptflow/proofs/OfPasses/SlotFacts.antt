@@ -1,5 +1,5 @@
--- What a tool that works line by line keeps in the store: a line at most in each of its slots, and nothing in the others.
--- So the store holds no more than so many times the longest of these lines.
+-- What a tool that works line by line keeps in the store: a line at most in each of its slots, and nothing in the
+-- others. So the store holds no more than so many times the longest of these lines.
 use Rattle.std.proofs.Common.{◌≡◌, ℕ, zero, suc, ◌+◌, ◌-◌, ◌*◌, ◌<◌, ◌≤◌, false, List, [], ◌∷◌, length, take, drop, set, get_or, max, refl, sym, ◌∙◌, ap, subst, arith, ⊎_elim, take-append-drop}
 use Rattle.std.specs.Prelude.{swap}
 use Rattle.std.proofs.Math.Nat.{mul-le-mul_left}

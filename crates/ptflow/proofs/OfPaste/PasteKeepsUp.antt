@@ -268,8 +268,8 @@ module _ (job : Paste) (cells : List ℕ) (came : ℕ → Given) where
             (subst (λ (rs : List (List (List ℕ))). Begins (sheet job rs) (sheet job passed)) (sym first) (first_begin job k.0 passed));
       }
 
-  -- The rows that were passed, where the input at a place, cut back, has fewer lines than one row more would take. It is
-  -- not known to end, so a row that is known then has all its cells among those lines, and is one of the whole grid.
+  -- The rows that were passed, where the input at a place, cut back, has fewer lines than one row more would take. It
+  -- is not known to end, so a row that is known then has all its cells among those lines, and is one of the whole grid.
   module _ (passed more : List (List (List ℕ))) (all : rows (grid came) ≡ passed ++ more) (here : ℕ) (named : 0 < times cells here)
       (cut : CutBack job.end ((length passed + 1) * times cells here) (came here)) where
     abbrev front : Given

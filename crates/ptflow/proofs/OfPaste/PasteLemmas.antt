@@ -1,4 +1,5 @@
--- `paste`, row by row: the rows that were passed, and the grid of the lines to come, are the whole grid, whatever comes.
+-- `paste`, row by row: the rows that were passed, and the grid of the lines to come, are the whole grid, whatever
+-- comes.
 use Rattle.std.proofs.Common.{◌≡◌, ◌≢◌, ⊎_elim, inl, inr, ℕ, suc, ◌+◌, ◌*◌, ◌<◌, ◌≤◌, ◌==◌, ◌^◌, Bool, true, false, cond, List, [], ◌∷◌, ◌++◌, None, Ok, Err}
 use Rattle.std.proofs.Common.{length, take, get_or, max, refl, sym, ◌∙◌, ap, subst, arith, append_assoc, length-append}
 use Rattle.std.specs.Prelude.{All, sum_by, slice_index_or}

@@ -1,4 +1,5 @@
--- Rows of `paste` whose cells lie whole in what the readers hold: they are told by the slots that filling them would fill.
+-- Rows of `paste` whose cells lie whole in what the readers hold: they are told by the slots that filling them would
+-- fill.
 use Rattle.std.proofs.Common.{◌≡◌, ⊎_elim, inl, inr, ℕ, zero, suc, ◌+◌, ◌-◌, ◌<◌, ◌≤◌, ◌^◌, Bool, true, false, cond, List, [], ◌∷◌, ◌++◌, Option, None, Some, length}
 use Rattle.std.proofs.Common.{take, drop, set, get_or, refl, sym, ◌∙◌, ap, subst, arith, append_assoc, length-append, length-drop}
 use Rattle.std.specs.Prelude.{nat_lt}

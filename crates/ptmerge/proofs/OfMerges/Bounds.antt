@@ -110,7 +110,8 @@ after_from cmp o key k n (x ∷ w) = by (is_gt (cmp k (key x))) refl (after_from
       up h (fall_after cmp key (Some (key x)) (n + 1) w) ih.1,
     )
 
--- What is still to come of an input: nothing is known; keys, and a fall, from k on; no lines, and this fall; no lines and no fall.
+-- What is still to come of an input: nothing is known; keys, and a fall, from k on; no lines, and this fall; no lines
+-- and no fall.
 pub data Bound : Type 0 where
   Free : Bound
   From : List ℕ → Bound
@@ -149,7 +150,8 @@ coming_none cmp key (From k) = tt
 coming_none cmp key (Fallen d) = refl
 coming_none cmp key Over = refl
 
--- The lines ls have come, of which p are passed: each list that goes on with them is in order up to p and some that may come.
+-- The lines ls have come, of which p are passed: each list that goes on with them is in order up to p and some that may
+-- come.
 pub record Reaches (cmp : Cmp) (key : Key) (ls p : Lines) (b : Bound) : Type 0 where
   pub future : (w : Lines) → Follows b w → (r : Lines) × (ordered_part cmp key (ls ++ w) ≡ p ++ r) × Coming cmp key b r × Falling cmp b (fall cmp key (ls ++ w))
 

@@ -48,7 +48,8 @@ had_come ls all few b =
     going : b.earlier.ended ≡ false
     going = elim b.earlier.ended as (λ t. (t ≡ true → false ≡ true) → t ≡ false) [ true ↦ λ h. absurd (false≢true (h refl)) | false ↦ λ h. refl ] b.ended
 
--- what is decided, and whether a disorder is settled, where these lines of the first input came and the second has ended with none
+-- what is decided, and whether a disorder is settled, where these lines of the first input came and the second has
+-- ended with none
 abbrev decides : Bool → Lines → List ℕ
 decides ended ls = text 10 (decided_entries (comm_tool default_comm) (both ended true) (both ls []))
 

@@ -33,8 +33,8 @@ pub record Merging (tool : Tool) (b : Side → Bound) (p : Side → Lines) (was 
 pub merging_none : (tool : Tool) (was : Output) → Merging tool (λ side. Free) (λ side. []) was was
 merging_none tool was = record { splits = splits_none tool (λ side. Free); under = λ of side. tt; wrote = wrote_nothing was }
 
--- What was pushed of the passed lines, by a time at which no write had failed: of the last ones perhaps nothing, and they come
--- first of all that may still come.
+-- What was pushed of the passed lines, by a time at which no write had failed: of the last ones perhaps nothing, and
+-- they come first of all that may still come.
 pub record Late (tool : Tool) (b : Side → Bound) (p : Side → Lines) (was is : Output) : Type 0 where
   pub mid : Output
   pub front : Side → Lines

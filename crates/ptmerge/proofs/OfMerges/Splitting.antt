@@ -109,7 +109,8 @@ module _ (tool : Tool) where
   abbrev pub MayCome : (Side → Bound) → (Side → Lines) → Type 0
   MayCome b r = (side : Side) → Coming tool.cmp (tool.key side) (b side) (r side)
 
-  -- Whatever may come of both lists, and whichever keys are wanted: first comes what is written of the lines that are passed.
+  -- Whatever may come of both lists, and whichever keys are wanted: first comes what is written of the lines that are
+  -- passed.
   pub record Splits (b : Side → Bound) (p : Side → Lines) : Type 0 where
     pub split : (w : List ℕ → Bool) (r : Side → Lines) → ((side : Side) → Coming tool.cmp (tool.key side) (b side) (r side))
         → by_keys tool w (λ side. p side ++ r side) ≡ by_keys tool w p ++ by_keys tool w r

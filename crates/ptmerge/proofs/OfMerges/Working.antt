@@ -1,4 +1,5 @@
--- Reading does not run ahead of writing: what was decided two blocks earlier of one input was pushed, whatever came of the other.
+-- Reading does not run ahead of writing: what was decided two blocks earlier of one input was pushed, whatever came of
+-- the other.
 use Rattle.std.proofs.Common.{◌≡◌, ℕ, false, List, [], ◌∷◌, ◌++◌, Option, None, map, sym, ◌∙◌, ap, subst, append_assoc}
 use Rattle.std.proofs.lemmas.List.{append-nil}
 use Rattle.std.specs.List.{last_or}

@@ -156,7 +156,8 @@ module _ (tool : Tool) (o : IsKeyOrder tool.cmp) (a b : Side → Lines) (below :
       let none2 = each_key (λ y. bytes_eq y k ≡ false) key2 (a Second) (each_right (λ y. bytes_eq y k ≡ false) (map key1 (a First)) (map key2 (a Second)) apart) in
       λ i. tool.entries k (with_key_of_second key1 k (a First) (b First) none1 i) (with_key_of_second key2 k (a Second) (b Second) none2 i)
 
-  -- The entries of lists that are put together are those of the lists with the lesser keys, and then those of the others.
+  -- The entries of lists that are put together are those of the lists with the lesser keys, and then those of the
+  -- others.
   pub by_keys_of_parts : (w : List ℕ → Bool) → by_keys tool w both_parts ≡ by_keys tool w a ++ by_keys tool w b
   by_keys_of_parts w =
       let ks = distinct tool.cmp (keys tool a) in

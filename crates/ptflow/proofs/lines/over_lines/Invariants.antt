@@ -1,5 +1,5 @@
--- The lines that came make what was passed on, and then what is made of the lines to come in the state that was reached.
--- A turn adds a line by way of the last slot, and the lines of a block.
+-- The lines that came make what was passed on, and then what is made of the lines to come in the state that was
+-- reached. A turn adds a line by way of the last slot, and the lines of a block.
 use Rattle.ptlines.specs.Readers.{budget}
 use Rattle.ptflow.proofs.OfPasses.LineLemmas.{LineRun}
 use Rattle.ptflow.proofs.lines.over_lines.Given as goal

@@ -40,7 +40,8 @@ abbrev pub IsLineAt : ℕ → List ℕ → ℕ → ℕ → Type 0
 IsLineAt end block at start =
     (start ≤ at) × (count_by (is_byte end) (take start block) ≡ count_by (is_byte end) (take at block))
 
--- The 64 bytes from a place of a block on have ends of lines, and a bit of the mask for each; 16 bytes stand after them.
+-- The 64 bytes from a place of a block on have ends of lines, and a bit of the mask for each; 16 bytes stand after
+-- them.
 pub record HasEnds (end : ℕ) (block : List ℕ) (from marked : ℕ) : Type 0 where
   pub within : from + 80 ≤ length block
   pub most : length block ≤ 8192

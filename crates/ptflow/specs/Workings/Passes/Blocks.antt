@@ -7,7 +7,8 @@ use Rattle.ptflow.specs.Passes.{IsBarePass}
 use Rattle.ptflow.specs.Tools.{Tool}
 use Rattle.ptflow.specs.declared.faults.FlowFault.{FlowFault}
 
--- What is written of a rest that comes in the state x is `rest_from x`; so this tool, where it begins in the state `start`.
+-- What is written of a rest that comes in the state x is `rest_from x`; so this tool, where it begins in the state
+-- `start`.
 pub record IsBlockTool {X : Type 0} (tool : Tool) (rest_from : X → List ℕ → List ℕ) (Holds : X → X → Type 0) (start : X) : Type 0 where
   pub text : (bytes : List ℕ) → rest_from start bytes ≡ tool.text bytes
   pub decided : (given pushed : List ℕ) (now : X) → Holds start now

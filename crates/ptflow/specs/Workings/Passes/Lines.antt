@@ -42,8 +42,8 @@ pub record Empties (count : ℕ) (before after : Slots) : Type 0 where
   pub left : total after.lines ≡ total (drop count before.lines)
   pub peak : after.peak ≤ max before.peak (total before.lines)
 
--- What is written of lines that come in the state x is `written (rest_from x ..)`, and so is all that this tool writes in
--- the state at the start. The last of its slots is for the line that comes.
+-- What is written of lines that come in the state x is `written (rest_from x ..)`, and so is all that this tool writes
+-- in the state at the start. The last of its slots is for the line that comes.
 pub record IsLineTool {S X E : Type 0} (tool : Tool) (state : S → Slots → X) (rest_from : X → List (List ℕ) → List E) (written : List E → List ℕ) (counted : X → ℕ)
     (end width : ℕ) (start : S) : Type 0 where
   pub apart : (xs ys : List E) → written (xs ++ ys) ≡ written xs ++ written ys

@@ -50,8 +50,8 @@ IsAlways delims delim = (number : ℕ) → delim_at delims number ≡ Some delim
 abbrev pub with_delimiter : EndsTo → ℕ → ℕ
 with_delimiter to b = if b == to.ending then to.delim else b
 
--- what bytes become where their ends of lines become the delimiters from this number on; an end whose delimiter is empty
--- stays
+-- what bytes become where their ends of lines become the delimiters from this number on; an end whose delimiter is
+-- empty stays
 abbrev pub with_turns : ℕ → List (Option ℕ) → ℕ → List ℕ → List ℕ
 with_turns end delims number [] = []
 with_turns end delims number (b ∷ bytes) =

@@ -1,5 +1,5 @@
--- Each row was passed, by one way or the other, and then the invariant holds again; where none was passed, nothing happened
--- or the readers are done.
+-- Each row was passed, by one way or the other, and then the invariant holds again; where none was passed, nothing
+-- happened or the readers are done.
 use Rattle.std.proofs.Common.{◌≡◌, ℕ, Bool, true, Ok, Err, [], ◌∷◌, ◌++◌, length, take, sym, ◌∙◌, ap, subst, arith}
 use Rattle.std.proofs.lemmas.Result.{err_from_is_err_and}
 use Rattle.ptlines.specs.Outputs.{Wrote}

@@ -19,4 +19,5 @@ returns-in-Some-find_in-clause-put c =
 
 pub returns-in-Some-find_in-clause-kept : goal.returns-in-Some-find_in-clause-kept
 returns-in-Some-find_in-clause-kept c =
-    front_kept c.args.at (c.args.at + 64) c.copy_first-in-Some-find_in.new.into c.args.into.now _ (omega arith) (omega (arith, c.if-at-lt8128.true, c.told-into)) c.copy_first-in-Some-find_in.ensures.copied
+    front_kept c.args.at (c.args.at + 64) c.copy_first-in-Some-find_in.new.into c.args.into.now _ (omega arith)
+    (omega (arith, c.if-at-lt8128.true, c.told-into)) c.copy_first-in-Some-find_in.ensures.copied
