@@ -1,5 +1,5 @@
-"""The names of the tools, in the order in which a sentence lists them, and the letters that each takes. Both are said
-once, in crates/ptopts/src/tool.rt."""
+"""The names of the tools, in the order in which a sentence lists them, and the letters that each takes: both are read
+from crates/ptopts/src/tool.rt, so that no script lists them."""
 import os
 import re
 

@@ -77,7 +77,7 @@ fn lines_over_blocks(alloc: Global, ending: u8, ended: bool) -> Result<Vec<u8>, 
     text_of(alloc, &lengths, ending, ended)
 }
 
-// What is written of them by two readers has this digest, whatever the pieces in which they come.
+// What `paste` writes for cells of one reader or two has this digest, whatever the pieces in which the lines come.
 fn rows_over_blocks(
     rt: &impl Abort,
     alloc: Global,

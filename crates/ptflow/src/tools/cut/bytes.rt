@@ -125,7 +125,8 @@ fn copy_ends(block: &[u8], step: Step, into: &mut [u8]) -> Step
 }
 
 // Copies what is written for the lines that end among the 64 bytes from a place on, after which 16 more come; the mask
-// of their ends is given. The answer is the first line after them. Apart, so that what a line needs stays in registers.
+// of their ends is given. The answer is the first line after them. Out of line, so that what a line needs stays in
+// registers.
 #[inline(never)]
 fn cut_chunk(
     by: &Selection,

@@ -179,8 +179,8 @@ fn put_fields<A: Allocator + Copy>(
     end + 1
 }
 
-// How many bytes the whole lines are that stand up to a place, and at least the first line, which ends at `to`. Apart,
-// since few lines are without the delimiter where others have it.
+// How many bytes the whole lines up to a place have, and at least the first line, which ends at `to`. Out of line, since
+// few lines are without the delimiter where others have it.
 #[inline(never)]
 fn whole_lines(ending: u8, bytes: &[u8], to: usize, up_to: usize) -> usize
     requires first { IsFirstByte (is_byte ending) bytes.now (Some to) }
@@ -269,8 +269,8 @@ impl<A: Allocator + Copy> LineTool for CutJob<A> {
         Ok(())
     }
 
-    // Of fields no more is written than is read, so all of it is put in a room and pushed at once. Apart, so that what
-    // the loop needs stays in registers.
+    // Of fields no more is written than is read, so all of it is put in a room and pushed at once. Out of line, so
+    // that what the loop needs stays in registers.
     #[inline(never)]
     fn take_block<B: Allocator + Copy, W: Sink>(
         &self,

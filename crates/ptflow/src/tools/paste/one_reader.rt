@@ -105,8 +105,8 @@ fn put_held_rows(
     end_before(ending, bytes, number % turns.len() as u64)
 }
 
-// Passes the next rows, if one at least lies whole in what the readers hold. False is that none does, and nothing
-// happens. Of one reader all such rows are passed at once.
+// Passes the next rows, if one at least lies whole in what the readers hold. False is that no row was passed, and
+// nothing happened. Of one reader all such rows are passed at once.
 pub(crate) fn pass_held_rows<A: Allocator, S: Source, R: Source, W: Sink>(
     turns: &Option<Turns>,
     delims: &Delims<A>,

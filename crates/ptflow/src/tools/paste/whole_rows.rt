@@ -60,8 +60,8 @@ fn copy_first<const N: usize>(bytes: &[u8], into: &mut [u8], at: usize)
     Simd::<u8, N>::from_slice(bytes).copy_to_slice(&mut into[at..]);
 }
 
-// Puts the line with which these bytes begin, if it is whole and there is room for it, and says how long it is. Apart,
-// so that what is found by one look needs no call.
+// Puts the line with which these bytes begin, whatever its length, if it is whole and there is room for it, and says how
+// long it is. Out of line, so that what is found by one look needs no call.
 #[inline(never)]
 fn put_copied(ending: u8, bytes: &[u8], into: &mut Written, at: usize) -> Option<usize>
     requires { at ≤ 8193 }
@@ -78,8 +78,8 @@ fn put_copied(ending: u8, bytes: &[u8], into: &mut Written, at: usize) -> Option
     Some(count)
 }
 
-// Puts the line with which these bytes begin, if it is whole and there is room for it, and says how long it is. Apart,
-// so that a short line is put without a call.
+// The same: a line whose end is one of the first 64 bytes is put by the look that finds it. Out of line, so that a line
+// of at most 15 bytes needs no call.
 #[inline(never)]
 fn put_far(ending: u8, bytes: &[u8], into: &mut Written, at: usize) -> Option<usize>
     requires { at ≤ 8193 }
@@ -101,7 +101,7 @@ fn put_far(ending: u8, bytes: &[u8], into: &mut Written, at: usize) -> Option<us
     put_copied(ending, bytes, into, at)
 }
 
-// The same: a line whose end is one of the first 16 bytes is put by the look that finds it.
+// The same: a line whose end is one of the first 16 bytes is put by the look that finds it, here in the loop.
 #[inline(always)]
 fn put_line(ending: u8, bytes: &[u8], into: &mut Written, at: usize) -> Option<usize>
     requires { at ≤ 8193 }
@@ -195,8 +195,8 @@ fn consume_taken<S: Source, R: Source>(readers: &mut [LineReader<S, R>], taken: 
     }
 }
 
-// Passes the next rows, if one at least lies whole in what the readers hold. False is that none does, and nothing
-// happens.
+// Passes the next rows, if one at least lies whole in what the readers hold. False is that no row was passed, and
+// nothing happened.
 #[inline(always)]
 pub(crate) fn pass_rows<A: Allocator, S: Source, R: Source, W: Sink>(
     delims: &Delims<A>,
