@@ -14,6 +14,8 @@ mod ordering;
 #[cfg(test)]
 mod reading;
 #[cfg(test)]
+mod searching;
+#[cfg(test)]
 mod slots;
 #[cfg(test)]
 mod storing;

@@ -3,7 +3,7 @@
 use crate::comparing::{holds_of, same, same_of};
 use ptfakes::texts::{is_line, lines_of, text_of};
 use ptfakes::{Pieces, Refusing, Repeated, Watched};
-use ptlines::{LineFault, LineReader, Source, Store, find_in, find_near};
+use ptlines::{LineFault, LineReader, Source, Store};
 use std::alloc::{Allocator, Global};
 use std::cell::Cell;
 use std::process::Abort;
@@ -492,32 +492,5 @@ fn a_very_long_line(rt: HostRuntime) -> Result<(), Fail> {
     assert!(rt; current(&rt, &store).iter().all(|byte| *byte == b'a'));
     ends(&rt, &mut reader, &mut store);
     same(&rt, &(store.peak(), store.now()), &(1_000_000, 0));
-    Ok(())
-}
-
-// One byte among others, at each of these places.
-fn finds(rt: &impl Abort, alloc: Global, place: usize) -> Result<(), Fail> {
-    let mut bytes = text_of(alloc, &[place], b'\n', true)?;
-    same(rt, &find_near(b'\n', &bytes), &Some(place));
-    same_of(rt, &place, &find_near(0, &bytes), &None);
-    bytes.extend_from_slice(b"\n\0\n")?;
-    same(rt, &find_near(b'\n', &bytes), &Some(place));
-    same(rt, &find_near(0, &bytes), &Some(place.saturating_add(2)));
-    Ok(())
-}
-
-#[test]
-fn a_byte_is_found(rt: HostRuntime) -> Result<(), Fail> {
-    let few = b"ab\ncd\n0123456789abcdef";
-    same(&rt, &find_in::<4>(b'\n', few, 0), &Some(2));
-    same(&rt, &find_in::<4>(b'\n', few, 3), &Some(5));
-    same(&rt, &find_in::<2>(b'\n', few, 0), &None);
-    same(&rt, &find_in::<16>(b'\n', few, 6), &None);
-    same(&rt, &find_near(b'\n', b""), &None);
-    for place in [
-        0, 1, 2, 3, 4, 6, 7, 8, 12, 15, 16, 29, 30, 31, 32, 33, 63, 64, 65, 8191, 20000,
-    ] {
-        finds(&rt, rt.alloc(), place)?;
-    }
     Ok(())
 }

@@ -2,7 +2,7 @@
 
 use crate::commands::{
     Case, Expected, FREE, Input, Limits, Row, SIZES, expect, expect_growths_refused, expect_rows,
-    expect_untouched, expect_without_growth, growths, over_files, over_standard, run_over, writes,
+    expect_untouched, expect_without_growth, over_files, over_standard, run_over, writes,
 };
 use crate::comparing::{holds_of, same};
 use ptfakes::texts::text_of;
@@ -231,11 +231,11 @@ const F: &[u8] = b"1\n2\n3\n";
 
 const G: &[u8] = b"x\ny";
 
-const BESIDE: &[&str] = &["paste", "f", "g"];
+pub const BESIDE: &[&str] = &["paste", "f", "g"];
 
 const BESIDE_OUT: &str = "1\tx\n2\ty\n3\t\n";
 
-const SERIES: &[&str] = &["paste", "-s", "f", "g"];
+pub const SERIES: &[&str] = &["paste", "-s", "f", "g"];
 
 const SERIES_OUT: &str = "1\t2\t3\nx\ty\n";
 
@@ -458,59 +458,4 @@ fn each_growth_is_refused(rt: HostRuntime) -> Result<(), Fail> {
     expect_growths_refused(&rt, rt.alloc(), &series, &writes(SERIES_OUT), NO_MEMORY)?;
     let three = over_standard(THREE, b"1\n2\n3\n4\n", 1);
     expect_growths_refused(&rt, rt.alloc(), &three, &writes(THREE_OUT), NO_MEMORY)
-}
-
-// Adds one to a number in decimal digits.
-fn add_one(digits: &mut [u8]) {
-    for digit in digits.iter_mut().rev() {
-        if *digit < b'9' {
-            *digit += 1;
-            return;
-        }
-        *digit = b'0';
-    }
-}
-
-// So many numbers of six digits in turn, each in a line.
-fn numbers(alloc: Global, count: usize) -> Result<Vec<u8>, AllocError> {
-    let mut digits = [b'0'; 6];
-    let mut text = Vec::new(alloc);
-    for _ in 0..count {
-        text.extend_from_slice(&digits)?;
-        text.push(b'\n')?;
-        add_one(&mut digits);
-    }
-    Ok(text)
-}
-
-// How often memory is asked for over so many files with so many lines, some of which cross the ends of pieces.
-fn growths_over(
-    rt: &impl Abort,
-    alloc: Global,
-    words: &[&str],
-    files: usize,
-    lines: usize,
-) -> Result<u64, Fail> {
-    let text = numbers(alloc, lines)?;
-    let both = [Input::Pieces(&text, 20), Input::Pieces(&text, 20)];
-    growths(rt, alloc, &over_files(&*words, &both[..files.min(2)]))
-}
-
-/// Expects that memory is asked for as often over 10 lines as over 100,000, in so many files, which are one or two.
-pub fn expect_steady_memory(
-    rt: &impl Abort,
-    alloc: Global,
-    words: &[&str],
-    files: usize,
-) -> Result<(), Fail> {
-    let few = growths_over(rt, alloc, &*words, files, 10)?;
-    let many = growths_over(rt, alloc, &*words, files, 100_000)?;
-    same(rt, &many, &few);
-    Ok(())
-}
-
-#[test]
-fn memory_does_not_grow_with_the_lines(rt: HostRuntime) -> Result<(), Fail> {
-    expect_steady_memory(&rt, rt.alloc(), BESIDE, 2)?;
-    expect_steady_memory(&rt, rt.alloc(), SERIES, 2)
 }

@@ -1,10 +1,10 @@
 //! `comm`.
 
-use crate::columns::expect_steady_memory;
 use crate::commands::{
     Expected, FREE, Input, Limits, SIZES, expect, expect_growths_refused, expect_only_said,
     over_files, writes,
 };
+use crate::steady_memory::expect_steady_memory;
 use std::test::Fail;
 
 /// Words, the two files, and what is written.

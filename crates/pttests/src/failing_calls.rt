@@ -1,11 +1,11 @@
 //! Each read, each write and the flush of a run fail in turn.
 
-use crate::columns::expect_steady_memory;
 use crate::commands::{
     Case, Expected, Input, Limits, expect, expect_growths_refused, over_files, over_standard,
     run_over, writes,
 };
 use crate::comparing::same;
+use crate::steady_memory::expect_steady_memory;
 use std::alloc::Global;
 use std::process::Abort;
 use std::test::Fail;

@@ -1,10 +1,10 @@
 //! `join` in whole runs.
 
-use crate::columns::expect_steady_memory;
 use crate::commands::{
     Expected, Input, Limits, SIZES, expect, expect_growths_refused, expect_only_said,
     expect_untouched, over_files, writes,
 };
+use crate::steady_memory::expect_steady_memory;
 use std::test::Fail;
 
 /// Words, the two files, what is written, and what is said.

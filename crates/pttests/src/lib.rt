@@ -28,4 +28,6 @@ mod refusals;
 #[cfg(test)]
 mod repeats;
 #[cfg(test)]
+mod steady_memory;
+#[cfg(test)]
 mod unread;

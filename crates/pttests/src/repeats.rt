@@ -1,11 +1,11 @@
 //! `uniq`.
 
-use crate::columns::expect_steady_memory;
 use crate::commands::{
     Expected, Input, Limits, Row, SIZES, assert_left, expect, expect_growths_refused, expect_rows,
     over_files, over_standard, run_over, writes,
 };
 use crate::comparing::{holds_of, same};
+use crate::steady_memory::expect_steady_memory;
 use std::alloc::Global;
 use std::process::Abort;
 use std::test::Fail;

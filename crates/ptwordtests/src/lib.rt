@@ -17,3 +17,7 @@ mod ranges;
 mod strings;
 #[cfg(test)]
 mod words;
+#[cfg(test)]
+mod words_of_join;
+#[cfg(test)]
+mod words_of_tr;

@@ -1,9 +1,8 @@
-//! Words of all tools.
+//! Words of all tools; those of `join` and `tr` have files of their own.
 
 use crate::comparing::same;
 use ptfakes::Refusing;
 use ptlangs::jobs::{CommJob, Show, UniqJob};
-use ptlangs::outlist::{File, OutField};
 use ptlangs::ranges::Interval;
 use ptlangs::{SetFault, SetFaultKind, SetString};
 use ptopts::{Command, Input, UseFault};
@@ -15,7 +14,7 @@ use std::test::Fail;
 type Refused<'a> = (&'a [&'a str], UseFault<'a>);
 
 /// Whether a command has these inputs in this order, and this output.
-fn has_files(
+pub fn has_files(
     rt: &impl Abort,
     command: &Command,
     order: &[Input],
@@ -420,161 +419,6 @@ fn the_words_of_comm(rt: HostRuntime) -> Result<(), Fail> {
         let order = [Input::File(0), Input::Standard];
         has_files(&rt, &command, &order, &["f"], None);
         is_comm(&rt, &command, *job);
-    }
-    Ok(())
-}
-
-struct Join {
-    words: &'static [&'static str],
-    pairs: bool,
-    unpaired: [bool; 2],
-    empty: &'static [u8],
-    list: Option<&'static [OutField]>,
-    sep: Option<u8>,
-    field: [u64; 2],
-}
-
-const JOINS: &[Join] = &[
-    Join {
-        words: &["join", "-", "g"],
-        pairs: true,
-        unpaired: [false, false],
-        empty: b"",
-        list: None,
-        sep: None,
-        field: [1, 1],
-    },
-    Join {
-        words: &["join", "-a", "2", "-e", "-", "-o", "0,1.2 2.2", "-", "g"],
-        pairs: true,
-        unpaired: [false, true],
-        empty: b"-",
-        list: Some(&[
-            OutField::Join,
-            OutField::Field(File::First, 2),
-            OutField::Field(File::Second, 2),
-        ]),
-        sep: None,
-        field: [1, 1],
-    },
-    Join {
-        words: &["join", "-t", ",", "-v", "1", "-v1", "-e", "", "-", "g"],
-        pairs: false,
-        unpaired: [true, false],
-        empty: b"",
-        list: None,
-        sep: Some(b','),
-        field: [1, 1],
-    },
-    Join {
-        words: &[
-            "join",
-            "-t\t",
-            "-a1",
-            "-a2",
-            "-13",
-            "-2",
-            "18446744073709551615",
-            "-eé",
-            "--",
-            "-",
-            "g",
-        ],
-        pairs: true,
-        unpaired: [true, true],
-        empty: b"\xc3\xa9",
-        list: None,
-        sep: Some(b'\t'),
-        field: [3, u64::MAX],
-    },
-];
-
-fn is_join(rt: &impl Abort, command: &Command, row: &Join) {
-    let Command::Join(job, _) = command else {
-        return assert!(rt; false);
-    };
-    same(rt, &(job.pairs, job.sep), &(row.pairs, row.sep));
-    same(rt, &job.unpaired, &row.unpaired);
-    same(rt, &job.empty.as_slice(), &row.empty);
-    same(rt, &job.list.as_ref().map(|list| list.fields()), &row.list);
-    same(rt, &job.field, &row.field);
-}
-
-#[test]
-fn the_words_of_join(rt: HostRuntime) -> Result<(), Fail> {
-    for row in JOINS {
-        let command = Command::read(rt.alloc(), row.words)?;
-        let order = [Input::Standard, Input::File(0)];
-        has_files(&rt, &command, &order, &["g"], None);
-        is_join(&rt, &command, row);
-    }
-    Ok(())
-}
-
-/// Words, some bytes, what becomes of each, and whether what it becomes is squeezed.
-struct Tr {
-    words: &'static [&'static str],
-    bytes: &'static [u8],
-    images: &'static [Option<u8>],
-    squeezed: &'static [bool],
-}
-
-const TRS: &[Tr] = &[
-    Tr {
-        words: &["tr", "a-c", "-"],
-        bytes: b"abd",
-        images: &[Some(b'-'), Some(b'-'), Some(b'd')],
-        squeezed: &[false, false, false],
-    },
-    Tr {
-        words: &["tr", "-ss", "--", "-d", "xy"],
-        bytes: b"-d",
-        images: &[Some(b'x'), Some(b'y')],
-        squeezed: &[true, true],
-    },
-    Tr {
-        words: &["tr", "-Cs", "a"],
-        bytes: b"ab",
-        images: &[Some(b'a'), Some(b'b')],
-        squeezed: &[false, true],
-    },
-    Tr {
-        words: &["tr", "-d", "-c", "[:alpha:]"],
-        bytes: b"a1",
-        images: &[Some(b'a'), None],
-        squeezed: &[false, false],
-    },
-    Tr {
-        words: &["tr", "-ds", "0-9", "ab"],
-        bytes: b"a1c",
-        images: &[Some(b'a'), None, Some(b'c')],
-        squeezed: &[true, false, false],
-    },
-];
-
-fn is_tr(rt: &impl Abort, command: &Command, row: &Tr) {
-    let Command::Tr(plan, _) = command else {
-        return assert!(rt; false);
-    };
-    for (place, byte) in row.bytes.iter().enumerate() {
-        let image = if plan.deletes(*byte) {
-            None
-        } else {
-            Some(plan.image(*byte))
-        };
-        same(rt, &Some(&image), &row.images.get(place));
-        if let Some(image) = image {
-            same(rt, &Some(&plan.squeezes(image)), &row.squeezed.get(place));
-        }
-    }
-}
-
-#[test]
-fn the_words_of_tr(rt: HostRuntime) -> Result<(), Fail> {
-    for row in TRS {
-        let command = Command::read(rt.alloc(), row.words)?;
-        has_files(&rt, &command, &[Input::Standard], &[], None);
-        is_tr(&rt, &command, row);
     }
     Ok(())
 }
