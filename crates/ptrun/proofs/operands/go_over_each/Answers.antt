@@ -1,7 +1,8 @@
 -- Each turn passes one more operand. One that stops the pass stops the run there, and the others are left alone.
-use Rattle.std.proofs.Common.{◌≡◌, ◌<◌, ℕ, Bool, true, List, [], ◌∷◌, Ok, Err, ◌+◌, length, take, drop, get_or, set, sym, ◌∙◌, ap, subst}
+use Rattle.std.proofs.Common.{◌≡◌, ◌<◌, ℕ, Bool, true, List, [], ◌∷◌, Ok, Err, ◌+◌, length, take, drop, get_or, set, sym, ◌∙◌, ap, subst, arith}
 use Rattle.std.specs.Prelude.{codes}
 use Rattle.std.proofs.lemmas.List.{get_or_default, set-get_or}
+use borrow.Author.Rules.{scaled_Fits}
 use Rattle.ptlines.specs.Readers.{Reader}
 use Rattle.ptlines.specs.Inputs.{Given}
 use Rattle.ptflow.specs.Tools.{Tool}
@@ -127,3 +128,18 @@ returns g c =
     (keeps_all word t names c.args.inputs.now (fresh_all c.args.inputs.now c.requires.fresh) c.args.out.now c.args.voice.now c.args.store.now
     (at_end t (g.met.T.OneByOne.all_decided c.args.tool.now)) c.loop-input.inputs c.loop-input.out c.loop-input.voice c.loop-input.store
     (take c.loop-input.input-index (places c.args.order.now)) c.loop-input.done c.loop-input.invariant))
+
+pub bounds-inputs-place : goal.bounds-inputs-place
+bounds-inputs-place g c =
+    let low = subst (λ (n : ℕ). n < length c.args.inputs.now) (sym c.place_of-place.ensures) (c.requires.fits c.loop-input.input-index _ c.loop-input-test.true) in
+    omega (arith, low, c.loop-input.auto.inputs)
+
+pub offset_bounds-inputs-place : goal.offset_bounds-inputs-place
+offset_bounds-inputs-place g c =
+    let low = subst (λ (n : ℕ). n < length c.args.inputs.now) (sym c.place_of-place.ensures) (c.requires.fits c.loop-input.input-index _ c.loop-input-test.true) in
+    search (scaled_Fits, low)
+
+pub name_at-requires : goal.name_at-requires
+name_at-requires g c =
+    let low = subst (λ (n : ℕ). n < length c.args.inputs.now) (sym c.place_of-place.ensures) (c.requires.fits c.loop-input.input-index _ c.loop-input-test.true) in
+    omega (arith, low, c.requires.count)

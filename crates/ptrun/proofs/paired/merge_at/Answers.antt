@@ -1,5 +1,6 @@
 -- Two places of the list of readers are lent out, whichever comes first, and both orders of the places are one merge.
-use Rattle.std.proofs.Common.{◌≡◌, ℕ, ◌+◌, ◌<◌, ◌≤◌, sym, arith}
+use Rattle.std.proofs.Common.{◌≡◌, ℕ, ◌+◌, ◌<◌, ◌≤◌, sym, subst, arith}
+use borrow.Author.Rules.{scaled_Fits}
 use Rattle.ptrun.proofs.TwoReaders.{was_low, was_high, are_lent}
 use Rattle.ptrun.proofs.paired.merge_at.Goals as goal
 
@@ -56,3 +57,14 @@ returns-else-first-second g c =
       others = λ place first second. k.others place second first;
       sound = rw (sym k.was_low, sym k.was_high, k.is_low, k.is_high) w.ensures.sound;
     }
+
+pub offset_bounds-front-first : goal.offset_bounds-front-first
+offset_bounds-front-first g c =
+    let low = subst (λ (n : ℕ). c.args.first < n) (sym c.split_at_mut-front.ensures.front_len) c.if-first-second.true in
+    search (scaled_Fits, low)
+
+pub offset_bounds-front-second : goal.offset_bounds-front-second
+offset_bounds-front-second g c =
+    let low = subst (λ (n : ℕ). c.args.second < n) (sym c.split_at_mut-front-else-first-second.ensures.front_len)
+        (below c.args.first c.args.second c.if-first-second.false c.requires.apart) in
+    search (scaled_Fits, low)

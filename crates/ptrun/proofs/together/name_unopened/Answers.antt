@@ -1,7 +1,8 @@
 -- Each turn names one more input, if it could not be opened.
-use Rattle.std.proofs.Common.{◌<◌, ℕ, List, [], ◌∷◌, length, take, refl, sym, ◌∙◌, ap, subst}
+use Rattle.std.proofs.Common.{◌<◌, ℕ, List, [], ◌∷◌, length, take, refl, sym, ◌∙◌, ap, subst, arith}
 use Rattle.std.specs.Prelude.{codes}
 use Rattle.std.proofs.lemmas.List.{get_or_default}
+use borrow.Author.Rules.{scaled_Fits}
 use Rattle.ptlines.specs.Readers.{Reader}
 use Rattle.ptopts.specs.Meant.{words_seen}
 use Rattle.ptrun.specs.Operands.{places}
@@ -41,3 +42,17 @@ loop-input-preserved g c =
         any_is = k.any_is ∙ sym (any_before tool names (shut inputs) done p (refused ∙ w.if-is_refused.false));
       })
     ]
+
+pub bounds-inputs-place : goal.bounds-inputs-place
+bounds-inputs-place g c =
+    subst (λ (n : ℕ). n < length c.args.inputs.now) (sym c.place_of-place.ensures) (c.requires.fits c.loop-input.input-index _ c.loop-input-test.true)
+
+pub offset_bounds-inputs-place : goal.offset_bounds-inputs-place
+offset_bounds-inputs-place g c =
+    let low = subst (λ (n : ℕ). n < length c.args.inputs.now) (sym c.place_of-place.ensures) (c.requires.fits c.loop-input.input-index _ c.loop-input-test.true) in
+    search (scaled_Fits, low, arith)
+
+pub name_at-requires : goal.name_at-requires
+name_at-requires g c =
+    let low = subst (λ (n : ℕ). n < length c.args.inputs.now) (sym c.place_of-place.ensures) (c.requires.fits c.loop-input.input-index _ c.loop-input-test.true) in
+    omega (arith, low, c.requires.count)

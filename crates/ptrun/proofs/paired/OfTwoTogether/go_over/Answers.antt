@@ -1,3 +1,4 @@
+use Rattle.std.proofs.Common.{ℕ, ◌<◌, List, All, length, subst, arith}
 use Rattle.ptrun.specs.Operands.{places}
 use Rattle.ptrun.proofs.PairedPasses.{two_of, two_ready, two_went}
 use Rattle.ptrun.proofs.paired.OfTwoTogether.go_over.Goals as goal
@@ -14,3 +15,13 @@ returns g c =
     (two_of c.args.order.now _ _ c.place_of-first.result c.place_of-second.result c.requires.taken c.place_of-first.ensures c.place_of-second.ensures) c.requires
     c.merge_at-ended.new.inputs c.merge_at-ended.new.out c.merge_at-ended.new.store c.merge_at-ended.result c.merge_at-ended.ensures.sound
     c.merge_at-ended.ensures.others c.merge_at-ended.ensures.merged)
+
+pub merge_at-ended-requires-clause-within : goal.merge_at-ended-requires-clause-within
+merge_at-ended-requires-clause-within g c =
+    let two = two_of c.args.order.now _ _ c.place_of-first.result c.place_of-second.result c.requires.taken c.place_of-first.ensures c.place_of-second.ensures in
+    let fits = subst (λ (l : List ℕ). All (λ q. q < length c.args.inputs.now) l) two.are c.requires.fits in
+    (fits 0 0 (omega arith), fits 1 0 (omega arith))
+
+pub merge_at-ended-requires-clause-apart : goal.merge_at-ended-requires-clause-apart
+merge_at-ended-requires-clause-apart g c =
+    (two_of c.args.order.now _ _ c.place_of-first.result c.place_of-second.result c.requires.taken c.place_of-first.ensures c.place_of-second.ensures).apart
