@@ -2,19 +2,21 @@
 -- fill.
 use Rattle.std.proofs.Common.{◌≡◌, ⊎_elim, inl, inr, ℕ, zero, suc, ◌+◌, ◌-◌, ◌<◌, ◌≤◌, ◌^◌, Bool, true, false, cond, List, [], ◌∷◌, ◌++◌, Option, None, Some, length}
 use Rattle.std.proofs.Common.{take, drop, set, get_or, refl, sym, ◌∙◌, ap, subst, arith, append_assoc, length-append, length-drop}
-use Rattle.std.specs.Prelude.{nat_lt}
+use Rattle.std.specs.Prelude.{nat_lt, Result, Err}
 use Rattle.std.proofs.lemmas.Bool.{cases_eq, cases_lt}
 use Rattle.std.proofs.lemmas.Bool.Decides.{nat_tests}
 use Rattle.std.proofs.lemmas.List.{append-nil, take-take, take-append-le, length-take-le, length-set, drop-drop, take_more_set, get_or-set_same, get_or-set_other, get_or_past, ext_get_or}
 use Rattle.memchr.specs.Find.{IsFirstByte, is_byte}
 use Rattle.ptlines.specs.Readers.{Reader, Goes, IsSound}
+use Rattle.ptlines.specs.Outputs.{Output}
+use Rattle.ptlines.specs.declared.out.WriteFault.{WriteFault}
 use Rattle.ptlines.specs.Slots.{Slots, with_line}
 use Rattle.ptlines.specs.Fills.{GivesLine}
 use Rattle.ptlines.proofs.Scanned.{before_end, take_end, goes_front}
 use Rattle.ptflow.specs.PastePasses.{no_reader, reader_at}
 use Rattle.ptflow.specs.Workings.Paste.RowTurns.{RowFilled}
 use Rattle.ptflow.specs.Workings.Paste.SerialRests.{row_rest, row_from, begun, lead}
-use Rattle.ptflow.specs.Workings.Paste.WholeRows.{in_front, AreReadable, AreTaken, Holds, HeldRows, HoldsTo, PutsRow, PutsRows}
+use Rattle.ptflow.specs.Workings.Paste.WholeRows.{in_front, AreReadable, AreTaken, Holds, HeldRows, HoldsTo, PassesRows, PushedRows, PutsRow, PutsRows}
 use Rattle.ptflow.proofs.OfPaste.GivenRows.{blank, length_blank, held_row, held_trans}
 use Rattle.ptflow.proofs.OfPaste.RowTurns.{at_same, at_other, Filling, filling_starts, filling_line, filling_done}
 use Rattle.ptflow.proofs.OfPaste.SerialRests.{row_begun, row_line, row_end}
@@ -211,6 +213,11 @@ module _ (end : ℕ) (delims : List (Option ℕ)) (cells : List ℕ) (old : List
       (λ none. absurd (omega (arith, some, ap length none.0)))
       (λ h. subst (λ (r : List Reader). HeldRows end delims cells old r put) (ext_get_or no_reader h.new new (h.moved.count ∙ sym moved.count) (λ p low. h.moved.held p ∙ sym (moved.held p))) h.rows)
       rows
+
+-- what was pushed when the write of it failed
+pub pushed_breaks : (end : ℕ) (delims : List (Option ℕ)) (cells : List ℕ) (old new : List Reader) (was is : Output) (result : Result Bool WriteFault) (fault : WriteFault)
+    → result ≡ Err fault → PushedRows end delims cells old new was is → is.faulted ≡ true → PassesRows end delims cells old new was is result
+pushed_breaks end delims cells old new was is result fault failed pushed broke = subst (PassesRows end delims cells old new was is) (sym failed) (pushed, broke)
 
 -- ---- what was put is taken
 

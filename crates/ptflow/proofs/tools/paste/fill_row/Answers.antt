@@ -1,6 +1,7 @@
 -- Each turn fills one more cell, or leaves it empty where its reader has ended. A read or a growth that fails stops
 -- the row, of which nothing was pushed.
 use Rattle.std.proofs.Common.{◌≡◌, ◌<◌, ℕ, Bool, true, false, [], None, length, get_or, refl, sym, ◌∙◌, ap, arith}
+use borrow.Author.Rules.{scaled_Fits}
 use Rattle.std.proofs.lemmas.Bool.{false≢true}
 use Rattle.std.proofs.lemmas.List.Elements.{All-get_or}
 use Rattle.std.proofs.lemmas.Result.{err_from_is_err_and}
@@ -100,3 +101,13 @@ loop-column-preserved g c =
       wrote = wrote_trans c.args.out.now c.loop-column.out c.send_before_wait.new.out [] [] c.loop-column.invariant.clean c.loop-column.invariant.wrote c.send_before_wait.ensures.wrote;
       clean = c.in_ok-send_before_wait.ensures.clean;
     }
+
+pub bounds-readers-place : goal.bounds-readers-place
+bounds-readers-place g c =
+    omega (arith, All-get_or (λ (p : ℕ). p < length c.args.readers.now) c.args.cells.now c.loop-column.column 0 c.loop-column-test.true c.requires.within,
+      c.loop-column.auto.readers)
+
+pub offset_bounds-readers-place : goal.offset_bounds-readers-place
+offset_bounds-readers-place g c =
+    let low = All-get_or (λ (p : ℕ). p < length c.args.readers.now) c.args.cells.now c.loop-column.column 0 c.loop-column-test.true c.requires.within in
+    search (scaled_Fits, low)

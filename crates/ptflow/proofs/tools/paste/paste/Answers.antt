@@ -164,3 +164,10 @@ returns-in_err-push_row g c =
     (paste_row_write job c.args.cells.now c.args.readers.now c.set_endings.new.readers c.pass_held_rows.new.readers c.args.out.now c.fill_row.new.out c.args.store.now
     c.rows.store s (sym c.has_failed.ensures ∙ c.if-has_failed.false) c.requires c.set_endings.ensures
     c.fill_row.new.readers c.fill_row.new.store r.got r.taken k.0 k.1 k.2 c.push_row.new.out wrote c.in_err-push_row.ensures.fault)
+
+pub pass_held_rows-requires-clause-within : goal.pass_held_rows-requires-clause-within
+pass_held_rows-requires-clause-within g c = λ k d low. omega (arith, c.requires.within k d low, c.rows.auto.readers, c.set_endings.auto.readers)
+
+pub fill_row-requires-clause-within : goal.fill_row-requires-clause-within
+fill_row-requires-clause-within g c =
+    λ k d low. omega (arith, c.requires.within k d low, c.pass_held_rows.auto.readers, c.rows.auto.readers, c.set_endings.auto.readers)

@@ -1,6 +1,7 @@
 use Rattle.std.proofs.Common.{◌≡◌, ◌<◌, ℕ, Bool, true, false, cond, length, get_or, refl, ◌∙◌, arith}
 use Rattle.std.proofs.lemmas.List.Elements.{All-get_or}
 use Rattle.ptlangs.specs.Jobs.{ending}
+use borrow.Author.Rules.{scaled_Fits}
 use Rattle.ptflow.proofs.OfPaste.RowTurns.{at_index, set_more}
 use Rattle.ptflow.proofs.tools.paste.set_endings.Goals as goal
 
@@ -16,3 +17,13 @@ loop-place-preserved g c =
     let within : get_or cells i 0 < length now = omega (arith, All-get_or (λ (p : ℕ). p < length c.args.readers.now) cells i 0 c.loop-place-test.true c.requires, c.loop-place.auto.readers) in
     set_more (ending c.args.zero) cells i c.args.readers.now now c.set_ending.new.self c.loop-place-test.true within c.loop-place.invariant
     (c.set_ending.ensures.set ∙ (λ j. record (at_index now (get_or cells i 0) c.index-readers-place.result within j) { ending = ending_is c.args.zero j })) c.set_ending.ensures.is_sound
+
+pub bounds-readers-place : goal.bounds-readers-place
+bounds-readers-place g c =
+    let low = All-get_or (λ (p : ℕ). p < length c.args.readers.now) c.args.cells.now c.loop-place.place-index 0 c.loop-place-test.true c.requires in
+    omega (arith, low, c.loop-place.auto.readers)
+
+pub offset_bounds-readers-place : goal.offset_bounds-readers-place
+offset_bounds-readers-place g c =
+    let low = All-get_or (λ (p : ℕ). p < length c.args.readers.now) c.args.cells.now c.loop-place.place-index 0 c.loop-place-test.true c.requires in
+    search (scaled_Fits, low)

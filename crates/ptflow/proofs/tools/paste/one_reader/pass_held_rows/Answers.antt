@@ -1,25 +1,30 @@
 -- What the reader at the place of the first cell holds begins with whole rows, and what was put of them is pushed.
-use Rattle.std.proofs.Common.{take, sym, subst, arith}
+use Rattle.std.proofs.Common.{ℕ, ◌<◌, length, take, set, get_or, sym, ◌∙◌, ap, subst, arith}
+use Rattle.std.proofs.lemmas.List.Elements.{All-get_or}
 use Rattle.std.proofs.lemmas.Result.{err_from_is_err_and}
+use borrow.Author.Rules.{scaled_Fits}
+use Rattle.ptlines.specs.Readers.{Reader}
 use Rattle.ptflow.specs.Workings.Paste.OneReader.{AreTurnsOfOne}
 use Rattle.ptflow.proofs.OfPaste.OneReader.{held_put}
+use Rattle.ptflow.proofs.OfPaste.RowTurns.{at_index}
+use Rattle.ptflow.proofs.OfPaste.WholeRows.{pushed_breaks}
 use Rattle.ptflow.proofs.tools.paste.one_reader.pass_held_rows.Goals as goal
 
 pub returns-in_err-push : goal.returns-in_err-push
 returns-in_err-push g c =
     let e = err_from_is_err_and c.from_residual.result c.from_residual.ensures.1 in
     let t = subst (AreTurnsOfOne c.args.delims.now c.args.cells.now) (sym c.deref.ensures.0) ((rw c.in-Some.is at c.requires.in_turn).0) in
-    rw (e.1) (
-      record {
+    pushed_breaks c.args.ending c.args.delims.now c.args.cells.now c.args.readers.now
+      (set c.args.readers.now (get_or c.args.cells.now 0 0) c.consume.new.self) c.args.out.now c.push.new.self c.from_residual.result e.0 e.1
+      (record {
         written = take c.put_held_rows-count.result c.put_held_rows-count.new.into;
         held = held_put c.args.ending c.args.delims.now c.args.cells.now c.deref.result.now t c.args.readers.now c.requires.within c.requires.readable
             c.index-readers-place.result c.held-bytes.ensures.sound c.held-bytes.result.now c.held-bytes.ensures.held
             c.put_held_rows-count.result (omega (arith, c.if-count-eq0.false)) c.put_held_rows-count.ensures.within c.put_held_rows-count.ensures.rows
             c.index-readers-place-2.result c.consume.new.self c.consume.ensures.consumed (take c.put_held_rows-count.result c.put_held_rows-count.new.into) c.put_held_rows-count.ensures.put;
         wrote = c.push.ensures.wrote;
-      },
-      c.in_err-push.ensures.fault,
-    )
+      })
+      c.in_err-push.ensures.fault
 
 pub returns : goal.returns
 returns g c =
@@ -34,3 +39,29 @@ returns g c =
       },
       c.in_ok-push.ensures.clean,
     )
+
+pub bounds-readers-place : goal.bounds-readers-place
+bounds-readers-place g c =
+    All-get_or (λ (p : ℕ). p < length c.args.readers.now) c.args.cells.now 0 0 ((rw c.in-Some.is at c.requires.in_turn).0).some c.requires.within
+
+pub offset_bounds-readers-place : goal.offset_bounds-readers-place
+offset_bounds-readers-place g c =
+    let low = All-get_or (λ (p : ℕ). p < length c.args.readers.now) c.args.cells.now 0 0 ((rw c.in-Some.is at c.requires.in_turn).0).some c.requires.within in
+    search (scaled_Fits, low)
+
+pub bounds-readers-place-2 : goal.bounds-readers-place-2
+bounds-readers-place-2 g c =
+    All-get_or (λ (p : ℕ). p < length c.args.readers.now) c.args.cells.now 0 0 ((rw c.in-Some.is at c.requires.in_turn).0).some c.requires.within
+
+pub offset_bounds-readers-place-2 : goal.offset_bounds-readers-place-2
+offset_bounds-readers-place-2 g c =
+    let low = All-get_or (λ (p : ℕ). p < length c.args.readers.now) c.args.cells.now 0 0 ((rw c.in-Some.is at c.requires.in_turn).0).some c.requires.within in
+    search (scaled_Fits, low)
+
+pub consume-requires : goal.consume-requires
+consume-requires g c =
+    let readers = c.args.readers.now in
+    let place = get_or c.args.cells.now 0 0 in
+    let low = All-get_or (λ (p : ℕ). p < length readers) c.args.cells.now 0 0 ((rw c.in-Some.is at c.requires.in_turn).0).some c.requires.within in
+    let same = at_index readers place c.index-readers-place.result low ∙ sym (at_index readers place c.index-readers-place-2.result low) in
+    omega (arith, c.put_held_rows-count.ensures.within, ap length (c.held-bytes.ensures.held ∙ ap (λ (r : Reader). r.held) same))
