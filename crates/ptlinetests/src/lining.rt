@@ -1,6 +1,6 @@
 //! Lines that are pushed at once, with what leads them and their end.
 
-use crate::comparing::same;
+use crate::comparing::{holds_of, same};
 use ptfakes::Kept;
 use ptfakes::texts::byte_at;
 use ptlines::{Out, WriteFault};
@@ -25,7 +25,27 @@ fn line_of(alloc: Global, length: usize) -> Result<Vec<u8>, AllocError> {
     Ok(bytes)
 }
 
-// Pushes so many bytes, and then a line, and looks at what was staged and what is written in the end.
+// So many bytes, then a line, and then others.
+fn wanted_of(alloc: Global, front: usize, lead: &[u8], line: &[u8]) -> Result<Vec<u8>, AllocError> {
+    let mut wanted = Vec::new(alloc);
+    wanted.resize(front, b'.')?;
+    wanted.extend_from_slice(lead)?;
+    wanted.extend_from_slice(line)?;
+    wanted.extend_from_slice(b"\nnext")?;
+    Ok(wanted)
+}
+
+// Pushes bytes, then a line, and then others.
+fn written(rt: &impl Abort, alloc: Global, front: &[u8], lead: &[u8], line: &[u8]) -> Kept {
+    let mut out = Out::new(Kept::new(alloc));
+    same(rt, &out.push(front), &Ok(()));
+    same(rt, &out.push_line(lead, line, b"\n"), &Ok(()));
+    same(rt, &out.push(b"next"), &Ok(()));
+    same(rt, &out.finish(), &Ok(()));
+    out.into_sink()
+}
+
+// Pushes so many bytes, and then a line, and looks at what is written in the end.
 fn pushes(
     rt: &impl Abort,
     alloc: Global,
@@ -36,23 +56,11 @@ fn pushes(
     let around = line_of(alloc, length)?;
     assert!(rt; around.len() == length.saturating_add(5));
     let line = &around[2..2 + length];
-    let mut wanted = Vec::new(alloc);
-    wanted.resize(front, b'.')?;
-    let mut out = Out::new(Kept::new(alloc));
-    same(rt, &out.push(&wanted), &Ok(()));
-    wanted.extend_from_slice(lead)?;
-    wanted.extend_from_slice(line)?;
-    wanted.push(b'\n')?;
-    same(rt, &out.push_line(lead, line, b"\n"), &Ok(()));
-    same(rt, &out.push(b"next"), &Ok(()));
-    wanted.extend_from_slice(b"next")?;
-    same(rt, &out.finish(), &Ok(()));
-    let kept = out.into_sink();
-    assert!(rt;
-        kept.bytes() == wanted.as_slice(),
-        "{front} {} {length}",
-        lead.len()
-    );
+    let wanted = wanted_of(alloc, front, lead, line)?;
+    assert!(rt; front <= wanted.len());
+    let kept = written(rt, alloc, &wanted[..front], lead, line);
+    let of = (front, lead.len(), length);
+    holds_of(rt, &of, kept.bytes() == wanted.as_slice());
     Ok(())
 }
 

@@ -7,3 +7,8 @@ use std::process::Abort;
 pub fn same<T: PartialEq + Debug>(rt: &impl Abort, found: &T, wanted: &T) {
     assert_eq!(rt; found, wanted);
 }
+
+/// Ends the test unless this holds, and says of what.
+pub fn holds_of<W: Debug>(rt: &impl Abort, of: &W, fact: bool) {
+    assert!(rt; fact, "{of:?}");
+}

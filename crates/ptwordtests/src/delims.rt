@@ -3,6 +3,7 @@
 use crate::comparing::same;
 use ptfakes::Refusing;
 use ptlangs::delims::{DelimFault, Delims};
+use std::process::Abort;
 use std::test::Fail;
 
 const ACCEPTED: &[(&[u8], &[Option<u8>])] = &[
@@ -31,11 +32,16 @@ const REFUSED: &[(&[u8], DelimFault)] = &[
 fn keeps_the_delimiters(rt: HostRuntime) -> Result<(), Fail> {
     for (list, delims) in ACCEPTED {
         let read = Delims::read(rt.alloc(), list)?;
-        for (column, delim) in delims.iter().chain(delims.iter()).enumerate() {
-            same(&rt, &read.at(column as u64), delim);
-        }
+        has_twice(&rt, &read, delims);
     }
     Ok(())
+}
+
+// The delimiters are these, and then these again.
+fn has_twice(rt: &impl Abort, read: &Delims, delims: &[Option<u8>]) {
+    for (column, delim) in delims.iter().chain(delims.iter()).enumerate() {
+        same(rt, &read.at(column as u64), delim);
+    }
 }
 
 #[test]
@@ -43,10 +49,7 @@ fn refuses_by_the_first_faulty_element(rt: HostRuntime) {
     // The first growth would be refused: no list with a fault asks for one.
     let alloc = Refusing::after(rt.alloc(), 0);
     for (list, fault) in REFUSED {
-        match Delims::read(&alloc, list) {
-            Ok(_) => assert!(rt; false),
-            Err(found) => same(&rt, &found, fault),
-        }
+        same(&rt, &Delims::read(&alloc, list).err(), &Some(*fault));
     }
 }
 

@@ -1,10 +1,12 @@
 //! Worked strings of `tr`.
 
+use crate::comparing::{holds_of, same};
 use ptlangs::{
     CharPlan, Form, SetFault, SetFaultKind, SetString, parts_are_of_the_grammar,
     tables_hold_the_plan,
 };
 use std::alloc::{AllocError, Global};
+use std::process::Abort;
 use std::test::Fail;
 
 /// A form, a complement or not, the strings, some bytes and what `tr` writes of them.
@@ -334,15 +336,25 @@ fn written(alloc: Global, plan: &CharPlan, input: &[u8]) -> Result<Vec<u8>, Allo
     Ok(output)
 }
 
+fn writes(
+    rt: &impl Abort,
+    alloc: Global,
+    plan: &CharPlan,
+    input: &[u8],
+    output: &[u8],
+) -> Result<(), AllocError> {
+    let bytes = written(alloc, plan, input)?;
+    same(rt, &bytes.as_slice(), &output);
+    Ok(())
+}
+
 #[test]
 fn strings_are_meant(rt: HostRuntime) -> Result<(), Fail> {
     for Row(form, complement, s1, s2, input, output) in ROWS {
-        let plan = read(*form, *complement, s1, *s2).ok_or("the count of strings")?;
-        let Ok(plan) = plan else {
+        let Some(Ok(plan)) = read(*form, *complement, s1, *s2) else {
             return Err(Fail::from("a string is refused"));
         };
-        let bytes = written(rt.alloc(), &plan, input.as_bytes())?;
-        assert_eq!(rt; bytes.as_slice(), output.as_bytes(), "{s1} {s2:?}");
+        writes(&rt, rt.alloc(), &plan, input.as_bytes(), output.as_bytes())?;
     }
     Ok(())
 }
@@ -360,33 +372,37 @@ fn strings_are_refused(rt: HostRuntime) -> Result<(), Fail> {
     Ok(())
 }
 
+// Each class, and whether it contains this byte.
+fn classes_of(byte: u8) -> [(&'static str, bool); 12] {
+    [
+        ("[:alnum:]", byte.is_ascii_alphanumeric()),
+        ("[:alpha:]", byte.is_ascii_alphabetic()),
+        ("[:blank:]", byte == b' ' || byte == b'\t'),
+        ("[:cntrl:]", byte.is_ascii_control()),
+        ("[:digit:]", byte.is_ascii_digit()),
+        ("[:graph:]", byte.is_ascii_graphic()),
+        ("[:lower:]", byte.is_ascii_lowercase()),
+        ("[:print:]", byte.is_ascii_graphic() || byte == b' '),
+        ("[:punct:]", byte.is_ascii_punctuation()),
+        ("[:space:]", byte == b' ' || (9..=13).contains(&byte)),
+        ("[:upper:]", byte.is_ascii_uppercase()),
+        ("[:xdigit:]", byte.is_ascii_hexdigit()),
+    ]
+}
+
+fn is_in_class(rt: &impl Abort, class: &str, byte: u8, contains: bool) {
+    let plan = CharPlan::read(Form::Delete, false, class.as_bytes(), None);
+    let is_so = plan.is_ok_and(|plan| plan.deletes(byte) == contains);
+    holds_of(rt, &(class, byte), is_so);
+}
+
 #[test]
-fn classes_are_of_ascii(rt: HostRuntime) -> Result<(), Fail> {
+fn classes_are_of_ascii(rt: HostRuntime) {
     for byte in u8::MIN..=u8::MAX {
-        let classes = [
-            ("[:alnum:]", byte.is_ascii_alphanumeric()),
-            ("[:alpha:]", byte.is_ascii_alphabetic()),
-            ("[:blank:]", byte == b' ' || byte == b'\t'),
-            ("[:cntrl:]", byte.is_ascii_control()),
-            ("[:digit:]", byte.is_ascii_digit()),
-            ("[:graph:]", byte.is_ascii_graphic()),
-            ("[:lower:]", byte.is_ascii_lowercase()),
-            ("[:print:]", byte.is_ascii_graphic() || byte == b' '),
-            ("[:punct:]", byte.is_ascii_punctuation()),
-            ("[:space:]", byte == b' ' || (9..=13).contains(&byte)),
-            ("[:upper:]", byte.is_ascii_uppercase()),
-            ("[:xdigit:]", byte.is_ascii_hexdigit()),
-        ];
-        for (class, contains) in classes {
-            let plan = CharPlan::read(Form::Delete, false, class.as_bytes(), None);
-            assert_eq!(rt;
-                plan.map(|plan| plan.deletes(byte)),
-                Ok(contains),
-                "{class} {byte}"
-            );
+        for (class, contains) in classes_of(byte) {
+            is_in_class(&rt, class, byte, contains);
         }
     }
-    Ok(())
 }
 
 // The first bytes, the last bytes and the shifts of the stretches of a plan, one after another; none where there are

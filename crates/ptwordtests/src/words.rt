@@ -1,29 +1,91 @@
 //! Words of all tools; those of `join` and `tr` have files of their own.
 
 use crate::comparing::same;
+use crate::words_of_join::{Join, is_join};
+use crate::words_of_tr::{Tr, is_tr};
 use ptfakes::Refusing;
 use ptlangs::jobs::{CommJob, Show, UniqJob};
 use ptlangs::ranges::Interval;
 use ptlangs::{SetFault, SetFaultKind, SetString};
 use ptopts::{Command, Input, UseFault};
-use std::alloc::Global;
+use std::alloc::{Allocator, Global};
 use std::process::Abort;
 use std::test::Fail;
 
 /// Words, and the fault that is found in them.
 type Refused<'a> = (&'a [&'a str], UseFault<'a>);
 
-/// Whether a command has these inputs in this order, and this output.
-pub fn has_files(
+/// What words mean.
+#[derive(Clone, Copy)]
+pub enum Meant {
+    /// A command with these files, and this job.
+    Of(Files, Job),
+    /// One over so many inputs.
+    Inputs(usize),
+    /// One whose lines end with byte 0 or not, and descend or not.
+    Lines(bool, bool),
+}
+
+/// The inputs of a command in their order, the names in it, and its output.
+#[derive(Clone, Copy)]
+pub struct Files {
+    pub order: &'static [Input],
+    pub names: &'static [&'static str],
+    pub output: Option<&'static str>,
+}
+
+/// What a command is to do.
+#[derive(Clone, Copy)]
+pub enum Job {
+    Cut(&'static Cut),
+    Paste(&'static Paste),
+    Uniq(UniqJob),
+    Comm(CommJob),
+    Join(&'static Join),
+    Tr(&'static Tr),
+}
+
+/// Reads words, and looks at the command.
+pub fn expect_meant(
     rt: &impl Abort,
-    command: &Command,
-    order: &[Input],
-    names: &[&str],
-    output: Option<&str>,
-) {
-    same(rt, &command.inputs().order.as_slice(), &order);
-    same(rt, &command.names(), &names);
-    same(rt, &command.output(), &output);
+    alloc: Global,
+    words: &[&str],
+    meant: &Meant,
+) -> Result<(), Fail> {
+    let command = Command::read(alloc, words)?;
+    is_meant(rt, &command, meant);
+    Ok(())
+}
+
+fn is_meant(rt: &impl Abort, command: &Command, meant: &Meant) {
+    match meant {
+        Meant::Of(files, job) => {
+            has_files(rt, command, files);
+            has_job(rt, command, job);
+        }
+        Meant::Inputs(count) => same(rt, &command.inputs().order.len(), count),
+        Meant::Lines(zero, descending) => {
+            same(rt, &ends_and_orders(command), &(*zero, *descending));
+        }
+    }
+}
+
+fn has_job(rt: &impl Abort, command: &Command, job: &Job) {
+    match job {
+        Job::Cut(row) => is_cut(rt, command, row),
+        Job::Paste(row) => is_paste(rt, command, row),
+        Job::Uniq(job) => is_uniq(rt, command, *job),
+        Job::Comm(job) => is_comm(rt, command, *job),
+        Job::Join(row) => is_join(rt, command, row),
+        Job::Tr(row) => is_tr(rt, command, row),
+    }
+}
+
+/// Whether a command has these inputs in this order, and this output.
+fn has_files(rt: &impl Abort, command: &Command, files: &Files) {
+    same(rt, &command.inputs().order.as_slice(), &files.order);
+    same(rt, &command.names(), &files.names);
+    same(rt, &command.output(), &files.output);
 }
 
 /// One row for each fault; all others are proved in ptopts, and the built program is run on them.
@@ -76,7 +138,7 @@ fn refused_words(rt: HostRuntime) {
     }
 }
 
-struct Cut {
+pub struct Cut {
     words: &'static [&'static str],
     fields: bool,
     list: &'static [Interval],
@@ -115,12 +177,7 @@ fn ends_and_orders(command: &Command) -> (bool, bool) {
 #[test]
 fn lines_that_end_with_zero_and_descend(rt: HostRuntime) -> Result<(), Fail> {
     for (words, zero, descending) in ENDS_AND_ORDERS {
-        let command = Command::read(rt.alloc(), words)?;
-        assert_eq!(rt;
-            ends_and_orders(&command),
-            (*zero, *descending),
-            "of {words:?}"
-        );
+        expect_meant(&rt, rt.alloc(), words, &Meant::Lines(*zero, *descending))?;
     }
     Ok(())
 }
@@ -198,28 +255,20 @@ fn is_cut(rt: &impl Abort, command: &Command, row: &Cut) {
 #[test]
 fn the_words_of_cut(rt: HostRuntime) -> Result<(), Fail> {
     for row in CUTS {
-        let command = Command::read(rt.alloc(), row.words)?;
-        has_files(&rt, &command, row.order, row.names, None);
-        is_cut(&rt, &command, row);
+        let files = Files {
+            order: row.order,
+            names: row.names,
+            output: None,
+        };
+        let meant = Meant::Of(files, Job::Cut(row));
+        expect_meant(&rt, rt.alloc(), row.words, &meant)?;
     }
     Ok(())
 }
 
 /// Whether these words are refused by this fault.
 fn is_refused(rt: &impl Abort, alloc: Global, words: &[&str], fault: UseFault) {
-    match Command::read(alloc, words) {
-        Ok(_) => assert!(rt; false),
-        Err(found) => same(rt, &found, &fault),
-    }
-}
-
-/// Whether these words name so many inputs.
-fn are_accepted(rt: &impl Abort, alloc: Global, words: &[&str], inputs: usize) -> Result<(), Fail> {
-    let Ok(command) = Command::read(alloc, words) else {
-        return Err(Fail::from("words are refused"));
-    };
-    same(rt, &command.inputs().order.len(), &inputs);
-    Ok(())
+    same(rt, &Command::read(alloc, words).err(), &Some(fault));
 }
 
 #[test]
@@ -228,7 +277,7 @@ fn at_most_512_operands(rt: HostRuntime) -> Result<(), Fail> {
     words[0] = "cut";
     words[1] = "-b1";
     is_refused(&rt, rt.alloc(), &words, UseFault::Operands);
-    are_accepted(&rt, rt.alloc(), &words[..514], 512)?;
+    expect_meant(&rt, rt.alloc(), &words[..514], &Meant::Inputs(512))?;
     words[1] = "-b0";
     is_refused(&rt, rt.alloc(), &words, UseFault::Value(b'b', "0"));
     Ok(())
@@ -239,11 +288,11 @@ fn at_least_one_operand_of_paste(rt: HostRuntime) -> Result<(), Fail> {
     let mut words = ["-"; 514];
     words[0] = "paste";
     is_refused(&rt, rt.alloc(), &words, UseFault::Operands);
-    are_accepted(&rt, rt.alloc(), &words[..513], 512)?;
-    are_accepted(&rt, rt.alloc(), &words[..2], 1)
+    expect_meant(&rt, rt.alloc(), &words[..513], &Meant::Inputs(512))?;
+    expect_meant(&rt, rt.alloc(), &words[..2], &Meant::Inputs(1))
 }
 
-struct Paste {
+pub struct Paste {
     words: &'static [&'static str],
     serial: bool,
     delims: [Option<u8>; 3],
@@ -283,9 +332,13 @@ fn is_paste(rt: &impl Abort, command: &Command, row: &Paste) {
 #[test]
 fn the_words_of_paste(rt: HostRuntime) -> Result<(), Fail> {
     for row in PASTES {
-        let command = Command::read(rt.alloc(), row.words)?;
-        has_files(&rt, &command, row.order, row.names, None);
-        is_paste(&rt, &command, row);
+        let files = Files {
+            order: row.order,
+            names: row.names,
+            output: None,
+        };
+        let meant = Meant::Of(files, Job::Paste(row));
+        expect_meant(&rt, rt.alloc(), row.words, &meant)?;
     }
     Ok(())
 }
@@ -371,9 +424,13 @@ fn is_uniq(rt: &impl Abort, command: &Command, wanted: UniqJob) {
 #[test]
 fn the_words_of_uniq(rt: HostRuntime) -> Result<(), Fail> {
     for row in UNIQS {
-        let command = Command::read(rt.alloc(), row.words)?;
-        has_files(&rt, &command, row.order, row.names, row.output);
-        is_uniq(&rt, &command, row.job);
+        let files = Files {
+            order: row.order,
+            names: row.names,
+            output: row.output,
+        };
+        let meant = Meant::Of(files, Job::Uniq(row.job));
+        expect_meant(&rt, rt.alloc(), row.words, &meant)?;
     }
     Ok(())
 }
@@ -405,6 +462,12 @@ const COMMS: &[(&[&str], CommJob)] = &[
     ),
 ];
 
+const OF_COMM: Files = Files {
+    order: &[Input::File(0), Input::Standard],
+    names: &["f"],
+    output: None,
+};
+
 fn is_comm(rt: &impl Abort, command: &Command, wanted: CommJob) {
     match command {
         Command::Comm(job, _) => same(rt, job, &wanted),
@@ -415,12 +478,23 @@ fn is_comm(rt: &impl Abort, command: &Command, wanted: CommJob) {
 #[test]
 fn the_words_of_comm(rt: HostRuntime) -> Result<(), Fail> {
     for (words, job) in COMMS {
-        let command = Command::read(rt.alloc(), words)?;
-        let order = [Input::File(0), Input::Standard];
-        has_files(&rt, &command, &order, &["f"], None);
-        is_comm(&rt, &command, *job);
+        let meant = Meant::Of(OF_COMM, Job::Comm(*job));
+        expect_meant(&rt, rt.alloc(), words, &meant)?;
     }
     Ok(())
+}
+
+// Whether memory was refused to the reading of words. Else they name these files.
+fn is_denied<A: Allocator>(
+    rt: &impl Abort,
+    read: &Result<Command<'_, A>, UseFault<'_>>,
+    names: &[&str],
+) -> bool {
+    match read {
+        Ok(command) => same(rt, &command.names(), &names),
+        Err(fault) => same(rt, fault, &UseFault::Memory),
+    }
+    read.is_err()
 }
 
 /// How many growths of reading these words can be refused, each in turn.
@@ -428,35 +502,33 @@ fn growths<'a>(rt: &impl Abort, alloc: Global, words: &'a [&'a str], names: &[&s
     let mut refused = 0u64;
     for passed in 0..16u64 {
         let refusing = Refusing::after(alloc, passed);
-        match Command::read(&refusing, words) {
-            Ok(command) => same(rt, &command.names(), &names),
-            Err(fault) => {
-                same(rt, &(fault, refused), &(UseFault::Memory, passed));
-                refused = refused.wrapping_add(1);
-            }
+        let read = Command::read(&refusing, words);
+        if is_denied(rt, &read, names) {
+            same(rt, &refused, &passed);
+            refused = refused.wrapping_add(1);
         }
     }
     refused
 }
 
+/// Words, the files that they name, and how many growths their reading asks for.
+const GROWTHS: &[(&[&str], &[&str], u64)] = &[
+    (
+        &["cut", "-s", "-d,", "-f", "1,3", "f", "-", "g"],
+        &["f", "g"],
+        5,
+    ),
+    (&["paste", "-s", "-d,;", "f", "-"], &["f"], 4),
+    (&["paste", "f"], &["f"], 3),
+    (&["uniq", "-c", "f", "out"], &["f"], 3),
+    (&["comm", "-1", "f", "g"], &["f", "g"], 3),
+    (&["join", "-o", "0", "-ex", "f", "-"], &["f"], 5),
+    (&["tr", "-d", "a"], &[], 2),
+];
+
 #[test]
 fn each_growth_refused_in_turn(rt: HostRuntime) {
-    let cut = ["cut", "-s", "-d,", "-f", "1,3", "f", "-", "g"];
-    same(&rt, &growths(&rt, rt.alloc(), &cut, &["f", "g"]), &5);
-    let paste = ["paste", "-s", "-d,;", "f", "-"];
-    same(&rt, &growths(&rt, rt.alloc(), &paste, &["f"]), &4);
-    same(&rt, &growths(&rt, rt.alloc(), &["paste", "f"], &["f"]), &3);
-    same(
-        &rt,
-        &growths(&rt, rt.alloc(), &["uniq", "-c", "f", "out"], &["f"]),
-        &3,
-    );
-    same(
-        &rt,
-        &growths(&rt, rt.alloc(), &["comm", "-1", "f", "g"], &["f", "g"]),
-        &3,
-    );
-    let join = ["join", "-o", "0", "-ex", "f", "-"];
-    same(&rt, &growths(&rt, rt.alloc(), &join, &["f"]), &5);
-    same(&rt, &growths(&rt, rt.alloc(), &["tr", "-d", "a"], &[]), &2);
+    for (words, names, count) in GROWTHS {
+        same(&rt, &growths(&rt, rt.alloc(), words, names), count);
+    }
 }

@@ -1,13 +1,13 @@
 //! Words of `join`.
 
 use crate::comparing::same;
-use crate::words::has_files;
+use crate::words::{Files, Job, Meant, expect_meant};
 use ptlangs::outlist::{File, OutField};
 use ptopts::{Command, Input};
 use std::process::Abort;
 use std::test::Fail;
 
-struct Join {
+pub struct Join {
     words: &'static [&'static str],
     pairs: bool,
     unpaired: [bool; 2],
@@ -72,7 +72,14 @@ const JOINS: &[Join] = &[
     },
 ];
 
-fn is_join(rt: &impl Abort, command: &Command, row: &Join) {
+const OF_JOIN: Files = Files {
+    order: &[Input::Standard, Input::File(0)],
+    names: &["g"],
+    output: None,
+};
+
+/// Whether a command is this one of `join`.
+pub fn is_join(rt: &impl Abort, command: &Command, row: &Join) {
     let Command::Join(job, _) = command else {
         return assert!(rt; false);
     };
@@ -86,10 +93,8 @@ fn is_join(rt: &impl Abort, command: &Command, row: &Join) {
 #[test]
 fn the_words_of_join(rt: HostRuntime) -> Result<(), Fail> {
     for row in JOINS {
-        let command = Command::read(rt.alloc(), row.words)?;
-        let order = [Input::Standard, Input::File(0)];
-        has_files(&rt, &command, &order, &["g"], None);
-        is_join(&rt, &command, row);
+        let meant = Meant::Of(OF_JOIN, Job::Join(row));
+        expect_meant(&rt, rt.alloc(), row.words, &meant)?;
     }
     Ok(())
 }

@@ -1,13 +1,13 @@
 //! Words of `tr`.
 
 use crate::comparing::same;
-use crate::words::has_files;
+use crate::words::{Files, Job, Meant, expect_meant};
 use ptopts::{Command, Input};
 use std::process::Abort;
 use std::test::Fail;
 
 /// Words, some bytes, what becomes of each, and whether what it becomes is squeezed.
-struct Tr {
+pub struct Tr {
     words: &'static [&'static str],
     bytes: &'static [u8],
     images: &'static [Option<u8>],
@@ -47,7 +47,14 @@ const TRS: &[Tr] = &[
     },
 ];
 
-fn is_tr(rt: &impl Abort, command: &Command, row: &Tr) {
+const OF_TR: Files = Files {
+    order: &[Input::Standard],
+    names: &[],
+    output: None,
+};
+
+/// Whether a command is this one of `tr`.
+pub fn is_tr(rt: &impl Abort, command: &Command, row: &Tr) {
     let Command::Tr(plan, _) = command else {
         return assert!(rt; false);
     };
@@ -67,9 +74,8 @@ fn is_tr(rt: &impl Abort, command: &Command, row: &Tr) {
 #[test]
 fn the_words_of_tr(rt: HostRuntime) -> Result<(), Fail> {
     for row in TRS {
-        let command = Command::read(rt.alloc(), row.words)?;
-        has_files(&rt, &command, &[Input::Standard], &[], None);
-        is_tr(&rt, &command, row);
+        let meant = Meant::Of(OF_TR, Job::Tr(row));
+        expect_meant(&rt, rt.alloc(), row.words, &meant)?;
     }
     Ok(())
 }

@@ -1,10 +1,16 @@
-//! Tests of the engines that go over one input at a time, over readers and outputs.
+//! Tests of the engines and of a merge, over readers and outputs.
 #![tactic(auto)]
 
 #[cfg(test)]
+mod comm;
+#[cfg(test)]
 mod comparing;
 #[cfg(test)]
+mod join;
+#[cfg(test)]
 mod lengths;
+#[cfg(test)]
+mod orders;
 #[cfg(test)]
 mod pasting;
 #[cfg(test)]
