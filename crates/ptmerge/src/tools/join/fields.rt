@@ -290,6 +290,7 @@ fn push_others<W: Sink>(
 }
 
 // What an element of the output list names: the join field, or a field of a line, which may be the join field too.
+#[inline(always)]
 fn named_field<'a, A: Allocator>(
     job: &JoinJob<A>,
     item: OutField,
@@ -321,6 +322,7 @@ fn named_field<'a, A: Allocator>(
 }
 
 // What is written for an element of the output list: what it names, or where that is empty what stands for it.
+#[inline(always)]
 fn listed_field<'a, A: Allocator>(
     job: &'a JoinJob<A>,
     item: OutField,
