@@ -96,9 +96,8 @@ fn push_pairs<A: Allocator + Copy, W: Sink>(
     Ok(())
 }
 
-// Pushes the entry of the line at which an input stands, which pairs with none, and goes to its next line. Out of line,
-// so that the merge stays in memory and is not moved between registers at each turn.
-#[inline(never)]
+// Pushes the entry of the line at which an input stands, which pairs with none, and goes to its next line.
+#[inline(always)]
 fn pass_alone<K: KeyOrder, A: Allocator + Copy, S: Source, R: Source, W: Sink>(
     merge: &mut Merge<K>,
     job: &JoinJob<A>,
