@@ -186,7 +186,7 @@ fn first_end(separator: Option<u8>, bytes: &[u8]) -> usize
 }
 
 // Where the first word of a line stands in it.
-#[inline(never)]
+#[inline(always)]
 #[tactic(auto, using(crate::proofs::OfJoin::FieldSpans::first_word_span))]
 fn word_span(line: &[u8]) -> Span
     ensures { IsSpan line.now (nth_field 1 (fields_left None (Some line.now))) result }
