@@ -1,6 +1,6 @@
 -- What is left of a line whose fields are taken one after another.
-use Rattle.std.specs.Prelude.{◌≡◌, ◌++◌, ℕ, MatchOption, ◌==◌, List, [], ◌∷◌, Option, Some, None, Bool, false, true, not, ◌||◌, ◌&&◌, ◌-◌, slice_index, if◌then◌else◌}
-use Rattle.std.specs.List.{flat_map}
+use Rattle.std.specs.Prelude.{◌≡◌, ◌≤◌, ◌++◌, ℕ, length, take, MatchOption, ◌==◌, List, [], ◌∷◌, Option, Some, None, Bool, false, true, not, ◌||◌, ◌&&◌, ◌-◌, slice_index, if◌then◌else◌}
+use Rattle.std.specs.List.{flat_map, slice_split}
 use Rattle.memchr.specs.Find.{Nowhere}
 use Rattle.ptmerge.specs.Keyed.{Lines}
 use Rattle.ptmerge.specs.Join.{between, fields, is_blank}
@@ -52,3 +52,9 @@ pub record IsPiece (line field : List ℕ) (behind : Option (List ℕ)) : Type 0
 -- the same, of what is left of a line
 abbrev pub IsFieldIn : Option (List ℕ) → List ℕ → Option (List ℕ) → Type 0
 IsFieldIn left field behind = MatchOption left ⊥ (λ bytes. IsPiece bytes field behind)
+
+-- The first piece of some bytes ends at this place.
+pub record EndsFirst (separator : Option ℕ) (bytes : List ℕ) (end : ℕ) : Type 0 where
+  pub behind : Lines
+  pub is : slice_split (ends_field separator) bytes ≡ take end bytes ∷ behind
+  pub within : end ≤ length bytes

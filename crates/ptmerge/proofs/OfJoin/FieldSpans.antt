@@ -1,5 +1,5 @@
 -- Where the fields of a line stand in it.
-use Rattle.std.proofs.Common.{◌≡◌, ℕ, suc, ◌+◌, ◌-◌, ◌<◌, ◌==◌, Bool, true, false, cond, ltb, List, [], ◌∷◌, ◌++◌, Option, Some, None, length, take, drop}
+use Rattle.std.proofs.Common.{◌≡◌, ℕ, zero, suc, ◌+◌, ◌-◌, ◌<◌, ◌≤◌, ◌==◌, Bool, true, false, cond, ltb, List, [], ◌∷◌, ◌++◌, Option, Some, None, length, take, drop}
 use Rattle.std.proofs.Common.{get_or, refl, sym, ◌∙◌, ap, subst, arith, append_assoc}
 use Rattle.std.specs.Prelude.{IfSome, MatchOption, filter, is_some, position, unwrap_or}
 use Rattle.std.specs.List.{position_or_len, slice_split}
@@ -7,8 +7,9 @@ use Rattle.std.proofs.Math.Seq.{drop-cons}
 use Rattle.std.proofs.lemmas.Bool.{false≢true}
 use Rattle.std.proofs.lemmas.Bool.Decides.{nat_tests}
 use Rattle.std.proofs.lemmas.List.{length-drop, take-append-drop, take_all}
-use Rattle.ptmerge.specs.Join.{has_bytes, is_blank}
-use Rattle.ptmerge.specs.JoinFields.{IsFieldIn, IsPiece, ends_field, fields_left}
+use Rattle.ptlangs.proofs.Elements.{split_around, split_whole}
+use Rattle.ptmerge.specs.Join.{has_bytes, is_blank, nth_field}
+use Rattle.ptmerge.specs.JoinFields.{EndsFirst, IsFieldIn, IsPiece, ends_field, fields_left}
 use Rattle.ptmerge.specs.Spans.{IsSpan}
 
 -- the end of a line
@@ -82,6 +83,47 @@ piece_at p bytes at is = record {
 
     rest : take (length bytes - (at + 1)) (drop (at + 1) bytes) ≡ drop (at + 1) bytes
     rest = take_all (length bytes - (at + 1)) (drop (at + 1) bytes) (omega (arith, length-drop (at + 1) bytes))
+
+-- the same place, as the end of the first piece
+pub ends_at : (separator : Option ℕ) (bytes : List ℕ) (at : ℕ) → position (ends_field separator) bytes ≡ Some at → EndsFirst separator bytes at
+ends_at separator bytes at is = record {
+  behind = slice_split (ends_field separator) (take (length bytes - (at + 1)) (drop (at + 1) bytes));
+  is = split_around (ends_field separator) bytes at is;
+  within = omega (arith, located (ends_field separator) bytes at is);
+}
+
+pub ends_whole : (separator : Option ℕ) (bytes : List ℕ) → position (ends_field separator) bytes ≡ None → EndsFirst separator bytes (length bytes)
+ends_whole separator bytes none = record {
+  behind = [];
+  is = split_whole (ends_field separator) bytes none ∙ ap (λ (l : List ℕ). l ∷ []) (sym (take_all (length bytes) bytes (omega arith)));
+  within = omega arith;
+}
+
+-- the first piece stands at the front
+front_span : (line bytes : List ℕ) (end : ℕ) → end ≤ length line → take end line ≡ bytes → IsSpan line bytes (record { start = 0; end = end })
+front_span line bytes end within is = record { ordered = omega arith; within = within; bytes_are = ap (λ (n : ℕ). take n line) whole ∙ is }
+  where
+    whole : end - 0 ≡ end
+    whole = omega arith
+
+pub first_piece_span : (c number end : ℕ) (line : List ℕ) → number ≤ 1 → EndsFirst (Some c) line end
+    → IsSpan line (nth_field number (fields_left (Some c) (Some line))) (record { start = 0; end = end })
+first_piece_span c number end line low e =
+    let first : number - 1 ≡ 0 = omega (arith, low) in
+    front_span line (nth_field number (fields_left (Some c) (Some line))) end e.within
+    (sym ((λ i. get_or (e.is i) (first i) [])))
+
+word_first : (line bytes : List ℕ) (end : ℕ) (behind : List (List ℕ)) → 0 < end → end ≤ length line
+    → get_or (filter has_bytes (take end line ∷ behind)) 0 [] ≡ take end line
+word_first [] bytes end behind some within = absurd (omega (arith, some, within))
+word_first (x ∷ xs) bytes zero behind some within = absurd (omega (arith, some))
+word_first (x ∷ xs) bytes (suc end) behind some within = refl
+
+pub first_word_span : (end : ℕ) (line : List ℕ) → EndsFirst None line end → 0 < end
+    → IsSpan line (nth_field 1 (fields_left None (Some line))) (record { start = 0; end = end })
+first_word_span end line e some =
+    front_span line (nth_field 1 (fields_left None (Some line))) end e.within
+    (sym (ap (λ fs. get_or (filter has_bytes fs) 0 []) e.is ∙ word_first line [] end e.behind some e.within))
 
 -- no bytes stand at the front
 pub span_none : (line bytes : List ℕ) → bytes ≡ [] → IsSpan line bytes (record { start = 0; end = 0 })

@@ -26,34 +26,14 @@ use crate::faults::MergeFault;
 use crate::merging::slots::clear_four;
 use crate::merging::{Merge, Step};
 use crate::order::{Descending, FieldKeys, KeyOrder, Side};
-use crate::tools::join::fields::push_entry;
+use crate::tools::join::fields::{push_first, push_pair, push_second};
 use crate::tools::join::groups::{clear_group, gather, group_slots};
 use ptlangs::jobs::JoinJob;
 use ptlines::{LineReader, Out, Sink, Source, Store, WriteFault};
 use std::alloc::Allocator;
 
-// Pushes what is written for a pair of lines, or of one of them, and the byte that ends it.
-fn push_line<A: Allocator, W: Sink>(
-    job: &JoinJob<A>,
-    key: &[u8],
-    one: Option<&[u8]>,
-    two: Option<&[u8]>,
-    ending: u8,
-    out: &mut Out<W>,
-) -> Result<(), WriteFault>
-    requires keyed1 { IfSome (option_copied one) (λ line. join_key (join_job job.now) Of.First line ≡ key.now) }
-    requires keyed2 { IfSome (option_copied two) (λ line. join_key (join_job job.now) Of.Second line ≡ key.now) }
-    requires clean { out.old.faulted ≡ false }
-    ensures wrote { Wrote out.old out.new (entry (join_job job.now) key.now
-        (fields_left (join_job job.now).separator (option_copied one.entry))
-        (fields_left (join_job job.now).separator (option_copied two.entry)) ++ ending ∷ []) }
-    ensures clean { OnOk result (out.new.faulted ≡ false) }
-    ensures fault { OnErr result (out.new.faulted ≡ true) }
-{
-    push_entry(job, key, one, two, ending, out)
-}
-
 // Pushes the entry of a line that pairs with none, if it is asked for.
+#[inline(always)]
 fn push_alone<A: Allocator, W: Sink>(
     job: &JoinJob<A>,
     side: Side,
@@ -73,19 +53,20 @@ fn push_alone<A: Allocator, W: Sink>(
             if !job.unpaired[0] {
                 return Ok(());
             }
-            push_line(job, key, Some(line), None, ending, out)
+            push_first(job, key, line, ending, out)
         }
         Side::Second => {
             if !job.unpaired[1] {
                 return Ok(());
             }
-            push_line(job, key, None, Some(line), ending, out)
+            push_second(job, key, line, ending, out)
         }
     }
 }
 
 // Pushes the entries of a line of the first input and each line of the group, which has the slots from `from` to before
 // `end`.
+#[inline(always)]
 fn push_pairs<A: Allocator + Copy, W: Sink>(
     job: &JoinJob<A>,
     key: &[u8],
@@ -110,12 +91,13 @@ fn push_pairs<A: Allocator + Copy, W: Sink>(
         return Ok(());
     }
     for slot in from..end {
-        push_line(job, key, Some(line), Some(store.line(slot)), ending, out)?;
+        push_pair(job, key, line, store.line(slot), ending, out)?;
     }
     Ok(())
 }
 
 // Pushes the entry of the line at which an input stands, which pairs with none, and goes to its next line.
+#[inline(always)]
 fn pass_alone<K: KeyOrder, A: Allocator + Copy, S: Source, R: Source, W: Sink>(
     merge: &mut Merge<K>,
     job: &JoinJob<A>,

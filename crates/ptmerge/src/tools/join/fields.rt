@@ -3,8 +3,8 @@ ghost use Rattle.std.specs.Prelude.{◌≡◌, ◌++◌, ◌∷◌, [], None, So
 ghost use Rattle.std.specs.List.{slice_split};
 ghost use Rattle.ptlines.specs.Outputs.{Wrote};
 ghost use Rattle.ptlangs.specs.Jobs.{join_job};
-ghost use Rattle.ptmerge.specs.Join.{nth_field, others, between, filled, named, entry, join_key};
-ghost use Rattle.ptmerge.specs.JoinFields.{IsAsWritten, IsFieldIn, IsPiece, ends_field, fields_left, led};
+ghost use Rattle.ptmerge.specs.Join.{fields, nth_field, others, between, filled, named, entry, join_key};
+ghost use Rattle.ptmerge.specs.JoinFields.{EndsFirst, IsAsWritten, IsFieldIn, IsPiece, ends_field, fields_left, led};
 ghost use Rattle.ptmerge.specs.Spans.{IsSpan};
 ghost use Rattle.ptmerge.specs.declared.order.Side.TheVariants.{First, Second};
 
@@ -174,29 +174,42 @@ fn later_span(separator: Option<u8>, number: u64, line: &[u8]) -> Span
     }
 }
 
+// Where the first piece of these bytes ends.
+#[inline(always)]
+fn first_end(separator: Option<u8>, bytes: &[u8]) -> usize
+    ensures { EndsFirst separator bytes.now result }
+{
+    match field_end(separator, bytes) {
+        Some(end) => end,
+        None => bytes.len(),
+    }
+}
+
 // Where the first word of a line stands in it.
-#[inline(never)]
+#[inline(always)]
+#[tactic(auto, using(crate::proofs::OfJoin::FieldSpans::first_word_span))]
 fn word_span(line: &[u8]) -> Span
     ensures { IsSpan line.now (nth_field 1 (fields_left None (Some line.now))) result }
 {
-    let (word, behind) = first_piece(None, line);
-    if word.is_empty() {
+    let end = first_end(None, line);
+    if end == 0 {
         return later_span(None, 1, line);
     }
-    span_before(line, word, behind)
+    Span { start: 0, end }
 }
 
 // Where the field with this number stands in a line, or a span of no bytes where it is not there. Most join fields are
 // the first.
 #[inline(always)]
+#[tactic(auto, using(crate::proofs::OfJoin::FieldSpans::first_piece_span))]
 pub(crate) fn field_span(separator: Option<u8>, number: u64, line: &[u8]) -> Span
     ensures { IsSpan line.now (nth_field number (fields_left separator (Some line.now))) result }
 {
     match separator {
-        Some(byte) if number <= 1 => {
-            let (piece, behind) = first_piece(Some(byte), line);
-            span_before(line, piece, behind)
-        }
+        Some(byte) if number <= 1 => Span {
+            start: 0,
+            end: first_end(Some(byte), line),
+        },
         None if number <= 1 => word_span(line),
         _ => later_span(separator, number, line),
     }
@@ -277,6 +290,7 @@ fn push_others<W: Sink>(
 }
 
 // What an element of the output list names: the join field, or a field of a line, which may be the join field too.
+#[inline(always)]
 fn named_field<'a, A: Allocator>(
     job: &JoinJob<A>,
     item: OutField,
@@ -308,6 +322,7 @@ fn named_field<'a, A: Allocator>(
 }
 
 // What is written for an element of the output list: what it names, or where that is empty what stands for it.
+#[inline(always)]
 fn listed_field<'a, A: Allocator>(
     job: &'a JoinJob<A>,
     item: OutField,
@@ -398,9 +413,10 @@ fn stands_as_written(separator: Option<u8>, number: u64, line: &[u8]) -> bool
     }
 }
 
-// Pushes the entry of a pair of lines, or of one of them, and of which this is the join field, and the byte that ends
-// it. Lines that stand as they are written are pushed whole, the second one without its join field.
-pub(crate) fn push_entry<A: Allocator, W: Sink>(
+// Pushes the entry of a pair of lines, or of one of them, field by field, and the byte that ends it. Out of line, so
+// that the code for lines that stand as they are written is short.
+#[inline(never)]
+fn push_entry<A: Allocator, W: Sink>(
     job: &JoinJob<A>,
     key: &[u8],
     one: Option<&[u8]>,
@@ -417,21 +433,83 @@ pub(crate) fn push_entry<A: Allocator, W: Sink>(
     ensures clean { OnOk result (out.new.faulted ≡ false) }
     ensures fault { OnErr result (out.new.faulted ≡ true) }
 {
-    match (&job.list, one, two) {
-        (None, Some(first), Some(second))
+    push_fields(job, key, one, two, out)?;
+    out.push(&[ending])
+}
+
+// Pushes the entry of a pair of lines, of which this is the join field, and the byte that ends it. Lines that stand as
+// they are written are pushed whole, the second one without its join field.
+#[inline(never)]
+pub(crate) fn push_pair<A: Allocator, W: Sink>(
+    job: &JoinJob<A>,
+    key: &[u8],
+    first: &[u8],
+    second: &[u8],
+    ending: u8,
+    out: &mut Out<W>,
+) -> Result<(), WriteFault>
+    requires keyed1 { join_key (join_job job.now) First first.now ≡ key.now }
+    requires keyed2 { join_key (join_job job.now) Second second.now ≡ key.now }
+    requires clean { out.old.faulted ≡ false }
+    ensures wrote { let separator = (join_job job.now).separator in Wrote out.old out.new
+        (entry (join_job job.now) key.now (fields separator first.now) (fields separator second.now) ++ ending ∷ []) }
+    ensures clean { OnOk result (out.new.faulted ≡ false) }
+    ensures fault { OnErr result (out.new.faulted ≡ true) }
+{
+    match &job.list {
+        None
             if stands_as_written(job.sep, job.field[0], first)
                 && stands_as_written(job.sep, job.field[1], second) => {
             out.push_line(first, &second[key.len()..], &[ending])
         }
-        (None, Some(line), None) if stands_as_written(job.sep, job.field[0], line) => {
+        _ => push_entry(job, key, Some(first), Some(second), ending, out),
+    }
+}
+
+// Pushes the entry of a line of the first input, which pairs with none, and the byte that ends it.
+#[inline(never)]
+pub(crate) fn push_first<A: Allocator, W: Sink>(
+    job: &JoinJob<A>,
+    key: &[u8],
+    line: &[u8],
+    ending: u8,
+    out: &mut Out<W>,
+) -> Result<(), WriteFault>
+    requires keyed { join_key (join_job job.now) First line.now ≡ key.now }
+    requires clean { out.old.faulted ≡ false }
+    ensures wrote { let separator = (join_job job.now).separator in
+        Wrote out.old out.new (entry (join_job job.now) key.now (fields separator line.now) [] ++ ending ∷ []) }
+    ensures clean { OnOk result (out.new.faulted ≡ false) }
+    ensures fault { OnErr result (out.new.faulted ≡ true) }
+{
+    match &job.list {
+        None if stands_as_written(job.sep, job.field[0], line) => {
             out.push_line(line, b"", &[ending])
         }
-        (None, None, Some(line)) if stands_as_written(job.sep, job.field[1], line) => {
+        _ => push_entry(job, key, Some(line), None, ending, out),
+    }
+}
+
+// The same of the second input.
+#[inline(never)]
+pub(crate) fn push_second<A: Allocator, W: Sink>(
+    job: &JoinJob<A>,
+    key: &[u8],
+    line: &[u8],
+    ending: u8,
+    out: &mut Out<W>,
+) -> Result<(), WriteFault>
+    requires keyed { join_key (join_job job.now) Second line.now ≡ key.now }
+    requires clean { out.old.faulted ≡ false }
+    ensures wrote { let separator = (join_job job.now).separator in
+        Wrote out.old out.new (entry (join_job job.now) key.now [] (fields separator line.now) ++ ending ∷ []) }
+    ensures clean { OnOk result (out.new.faulted ≡ false) }
+    ensures fault { OnErr result (out.new.faulted ≡ true) }
+{
+    match &job.list {
+        None if stands_as_written(job.sep, job.field[1], line) => {
             out.push_line(b"", line, &[ending])
         }
-        _ => {
-            push_fields(job, key, one, two, out)?;
-            out.push(&[ending])
-        }
+        _ => push_entry(job, key, None, Some(line), ending, out),
     }
 }

@@ -43,7 +43,9 @@ fn keep_line<A: Allocator + Copy>(
 }
 
 // Goes to the second input's next line, and copies the line before it to the group's slots. Where that line is the only
-// one of its key, it stays where it is. The answer is the slot after the copied lines.
+// one of its key, it stays where it is. The answer is the slot after the copied lines. Out of line, so that the merge
+// stays in memory and is not moved between registers at each turn.
+#[inline(never)]
 pub(crate) fn gather<K: KeyOrder, A: Allocator + Copy, S: Source, R: Source, W: Sink>(
     merge: &mut Merge<K>,
     end: usize,

@@ -25,8 +25,8 @@ loop-slot-init g c =
       from = omega arith;
     }
 
-pub returns-in_err-push_line-clause-wrote : goal.returns-in_err-push_line-clause-wrote
-returns-in_err-push_line-clause-wrote g c =
+pub returns-in_err-push_pair-clause-wrote : goal.returns-in_err-push_pair-clause-wrote
+returns-in_err-push_pair-clause-wrote g c =
     let job = join_job c.args.job.now in
     let e = c.args.ending in
     let x = c.args.line.now in
@@ -39,9 +39,9 @@ returns-in_err-push_line-clause-wrote g c =
     let y = line c.args.store.now slot in
     let left = text e (map entry_of (drop ((slot + 1) - c.args.from) gr)) in
     let is = ap (λ l. text e (map entry_of l)) (group_from c.args.store.now c.args.from c.args.end slot c.requires.within i.from c.loop-slot-test.true) in
-    amid_fails c.args.out.now c.loop-slot.out c.push_line.new.out all (entry_of y ++ e ∷ []) left
+    amid_fails c.args.out.now c.loop-slot.out c.push_pair.new.out all (entry_of y ++ e ∷ []) left
     (amid_as c.args.out.now c.loop-slot.out all (text e (map entry_of (drop (slot - c.args.from) gr))) ((entry_of y ++ e ∷ []) ++ left) is i.amid)
-    (rw (sym c.line.ensures) c.push_line.ensures.wrote) c.in_err-push_line.ensures.fault
+    (rw (sym c.line.ensures) c.push_pair.ensures.wrote) c.in_err-push_pair.ensures.fault
 
 pub loop-slot-preserved : goal.loop-slot-preserved
 loop-slot-preserved g c =
@@ -58,9 +58,9 @@ loop-slot-preserved g c =
     let left = text e (map entry_of (drop ((slot + 1) - c.args.from) gr)) in
     let is = ap (λ l. text e (map entry_of l)) (group_from c.args.store.now c.args.from c.args.end slot c.requires.within i.from c.loop-slot-test.true) in
     record {
-      amid = amid_more c.args.out.now c.loop-slot.out c.push_line.new.out all (entry_of y ++ e ∷ []) left
+      amid = amid_more c.args.out.now c.loop-slot.out c.push_pair.new.out all (entry_of y ++ e ∷ []) left
           (amid_as c.args.out.now c.loop-slot.out all (text e (map entry_of (drop (slot - c.args.from) gr))) ((entry_of y ++ e ∷ []) ++ left) is i.amid)
-          (rw (sym c.line.ensures) c.push_line.ensures.wrote) c.in_ok-push_line.ensures.clean;
+          (rw (sym c.line.ensures) c.push_pair.ensures.wrote) c.in_ok-push_pair.ensures.clean;
       from = omega (arith, i.from);
     }
 
