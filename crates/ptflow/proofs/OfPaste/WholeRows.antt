@@ -5,7 +5,8 @@ use Rattle.std.proofs.Common.{take, drop, set, get_or, refl, sym, ◌∙◌, ap,
 use Rattle.std.specs.Prelude.{nat_lt}
 use Rattle.std.proofs.lemmas.Bool.{cases_eq, cases_lt}
 use Rattle.std.proofs.lemmas.Bool.Decides.{nat_tests}
-use Rattle.std.proofs.lemmas.List.{append-nil, take-take, take-append-le, length-take-le, length-set, drop-drop, take_more_set, get_or-set_same, get_or-set_other, get_or-replicate, get_or_past, ext_get_or}
+use Rattle.std.proofs.lemmas.List.{append-nil, take-take, take-append-le, length-take-le, length-set, drop-drop}
+use Rattle.std.proofs.lemmas.List.{take_more_set, get_or-set_same, get_or-set_other, get_or-replicate, get_or_past, ext_get_or}
 use Rattle.memchr.specs.Find.{IsFirstByte, is_byte}
 use Rattle.ptlines.specs.Readers.{Reader, Goes, IsSound}
 use Rattle.ptlines.specs.Slots.{Slots, with_line}

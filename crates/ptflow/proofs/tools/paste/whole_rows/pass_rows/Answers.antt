@@ -1,4 +1,4 @@
-use Rattle.std.proofs.Common.{◌<◌, length, take, arith}
+use Rattle.std.proofs.Common.{◌<◌, ◌≤◌, length, take, arith}
 use Rattle.std.proofs.lemmas.List.{length-take-le}
 use Rattle.std.proofs.lemmas.Result.{err_from_is_err_and}
 use Rattle.ptflow.proofs.OfPaste.WholeRows.{rows_taken}
@@ -9,7 +9,8 @@ returns-in_err-push g c =
     let e = err_from_is_err_and c.from_residual.result c.from_residual.ensures.1 in
     let end = c.put_whole_rows-end.result.0 in
     let put = take end c.put_whole_rows-end.new.into in
-    let some : 0 < length put = omega (arith, c.if-end-eq0.false, length-take-le end c.put_whole_rows-end.new.into (omega (arith, c.put_whole_rows-end.ensures.near, c.put_whole_rows-end.auto.into, c.told-into))) in
+    let fits : end ≤ length c.put_whole_rows-end.new.into = omega (arith, c.put_whole_rows-end.ensures.near, c.put_whole_rows-end.auto.into, c.told-into) in
+    let some : 0 < length put = omega (arith, c.if-end-eq0.false, length-take-le end c.put_whole_rows-end.new.into fits) in
     rw (e.1) (
       record {
         written = put;
@@ -24,7 +25,8 @@ pub returns : goal.returns
 returns g c =
     let end = c.put_whole_rows-end.result.0 in
     let put = take end c.put_whole_rows-end.new.into in
-    let some : 0 < length put = omega (arith, c.if-end-eq0.false, length-take-le end c.put_whole_rows-end.new.into (omega (arith, c.put_whole_rows-end.ensures.near, c.put_whole_rows-end.auto.into, c.told-into))) in (
+    let fits : end ≤ length c.put_whole_rows-end.new.into = omega (arith, c.put_whole_rows-end.ensures.near, c.put_whole_rows-end.auto.into, c.told-into) in
+    let some : 0 < length put = omega (arith, c.if-end-eq0.false, length-take-le end c.put_whole_rows-end.new.into fits) in (
       record {
         written = put;
         held = rows_taken c.args.ending c.args.delims.now c.args.cells.now c.args.readers.now c.put_whole_rows-end.result.1 put c.consume_taken.new.readers some

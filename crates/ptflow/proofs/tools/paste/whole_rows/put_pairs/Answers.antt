@@ -22,15 +22,35 @@ overflow_add-passed g c =
 
 pub overflow_add-passed-in-Some : goal.overflow_add-passed-in-Some
 overflow_add-passed-in-Some g c =
-    omega (arith, (rw take_rest at c.in-Some.ensures.row.first.0.high), length-drop c.rows.passed c.held-first.result.now, c.rows.invariant.low, c.held-first.ensures.sound.held, ap length c.held-first.ensures.held)
+    omega (
+      arith,
+      (rw take_rest at c.in-Some.ensures.row.first.0.high),
+      length-drop c.rows.passed c.held-first.result.now,
+      c.rows.invariant.low,
+      c.held-first.ensures.sound.held,
+      ap length c.held-first.ensures.held,
+    )
 
 pub overflow_add-passed_other : goal.overflow_add-passed_other
 overflow_add-passed_other g c =
-    omega (arith, (rw take_rest at c.in-Some.ensures.row.second.0.high), length-drop c.rows.passed_other c.held-second.result.now, c.held-second.ensures.sound.held, ap length c.held-second.ensures.held)
+    omega (
+      arith,
+      (rw take_rest at c.in-Some.ensures.row.second.0.high),
+      length-drop c.rows.passed_other c.held-second.result.now,
+      c.held-second.ensures.sound.held,
+      ap length c.held-second.ensures.held,
+    )
 
 pub overflow_add-passed_other-in-Some : goal.overflow_add-passed_other-in-Some
 overflow_add-passed_other-in-Some g c =
-    omega (arith, (rw take_rest at c.in-Some.ensures.row.second.0.high), length-drop c.rows.passed_other c.held-second.result.now, c.rows.invariant.low_other, c.held-second.ensures.sound.held, ap length c.held-second.ensures.held)
+    omega (
+      arith,
+      (rw take_rest at c.in-Some.ensures.row.second.0.high),
+      length-drop c.rows.passed_other c.held-second.result.now,
+      c.rows.invariant.low_other,
+      c.held-second.ensures.sound.held,
+      ap length c.held-second.ensures.held,
+    )
 
 pub overflow_cast-taken : goal.overflow_cast-taken
 overflow_cast-taken g c = omega (arith, c.rows.invariant.low, c.held-first.ensures.sound.held, ap length c.held-first.ensures.held)
