@@ -4,6 +4,7 @@ pub mod GivenRows
 pub mod Grids
 pub mod LastEnds
 pub mod OneReader
+pub mod PairRows
 pub mod PartsPaste
 pub mod PasteKeepsUp
 pub mod PasteLemmas

@@ -1,11 +1,12 @@
 -- Rows of `paste` whose cells lie whole in what the readers hold: they are told by the slots that filling them would
 -- fill.
 use Rattle.std.proofs.Common.{◌≡◌, ⊎_elim, inl, inr, ℕ, zero, suc, ◌+◌, ◌-◌, ◌<◌, ◌≤◌, ◌^◌, Bool, true, false, cond, List, [], ◌∷◌, ◌++◌, Option, None, Some, length}
-use Rattle.std.proofs.Common.{take, drop, set, get_or, refl, sym, ◌∙◌, ap, subst, arith, append_assoc, length-append, length-drop}
+use Rattle.std.proofs.Common.{take, drop, set, get_or, refl, sym, ◌∙◌, ap, subst, arith, append_assoc, length-append, length-drop, replicate}
 use Rattle.std.specs.Prelude.{nat_lt, Result, Err}
 use Rattle.std.proofs.lemmas.Bool.{cases_eq, cases_lt}
 use Rattle.std.proofs.lemmas.Bool.Decides.{nat_tests}
-use Rattle.std.proofs.lemmas.List.{append-nil, take-take, take-append-le, length-take-le, length-set, drop-drop, take_more_set, get_or-set_same, get_or-set_other, get_or_past, ext_get_or}
+use Rattle.std.proofs.lemmas.List.{append-nil, take-take, take-append-le, length-take-le, length-set, drop-drop}
+use Rattle.std.proofs.lemmas.List.{take_more_set, get_or-set_same, get_or-set_other, get_or-replicate, get_or_past, ext_get_or}
 use Rattle.memchr.specs.Find.{IsFirstByte, is_byte}
 use Rattle.ptlines.specs.Readers.{Reader, Goes, IsSound}
 use Rattle.ptlines.specs.Outputs.{Output}
@@ -190,10 +191,36 @@ pub front_kept : (at end : ℕ) (now old written : List ℕ) → at ≤ end → 
 front_kept at end now old written low fits is =
     sym (take-take at end now low) ∙ ap (take at) is ∙ take-append-le at (take at old) written (omega (arith, length-take-le at old fits)) ∙ take-take at at old (omega arith)
 
+-- what stands in front of a delimiter
+pub lead_kept : (at end : ℕ) (now mid front old written lead_of : List ℕ) → at ≤ end → at ≤ length old → take end now ≡ take end mid → take end mid ≡ front ++ lead_of
+    → front ≡ take at old ++ written → take at now ≡ take at old
+lead_kept at end now mid front old written lead_of low fits kept put is =
+    front_kept at end now old (written ++ lead_of) low fits (kept ∙ put ∙ ap (λ (l : List ℕ). l ++ lead_of) is ∙ append_assoc (take at old) written lead_of)
+
+-- what is put behind a delimiter, and behind a row
+pub line_put : (base written lead_of line front mid put : List ℕ) → put ≡ mid ++ line → mid ≡ front ++ lead_of → front ≡ base ++ written → put ≡ base ++ ((written ++ lead_of) ++ line)
+line_put base written lead_of line front mid put put_is mid_is is =
+    put_is ∙ ap (λ (l : List ℕ). l ++ line) (mid_is ∙ ap (λ (l : List ℕ). l ++ lead_of) is ∙ append_assoc base written lead_of) ∙ append_assoc base (written ++ lead_of) line
+
+pub end_put : (base written front put end_of : List ℕ) → put ≡ front ++ end_of → front ≡ base ++ written → put ≡ base ++ (written ++ end_of)
+end_put base written front put end_of put_is is = put_is ∙ ap (λ (l : List ℕ). l ++ end_of) is ∙ append_assoc base written end_of
+
+-- nothing is taken of any reader
+abbrev pub nothing : List ℕ
+nothing = replicate {A = ℕ} 16 0
+
+pub zeros : (p : ℕ) → get_or {A = ℕ} nothing p 0 ≡ 0
+zeros p = ⊎_elim (λ low. get_or-replicate {A = ℕ} 16 p 0 0 low) (λ past. get_or_past nothing p 0 past) (cases_lt p 16)
+
 module _ (end : ℕ) (delims : List (Option ℕ)) (cells : List ℕ) (old : List Reader) where
-  -- nothing was taken
-  pub taken_none : (taken : List ℕ) → ((p : ℕ) → get_or taken p 0 ≡ 0) → AreTaken taken old old
-  taken_none taken none = record { count = refl; held = λ p. ap (λ (n : ℕ). record (reader_at old p) { held = drop n (reader_at old p).held }) (sym (none p)) }
+  pub rows_none : PutsRows end delims cells old nothing []
+  rows_none = inl (refl, record { count = refl; held = λ p. ap (λ (n : ℕ). record (reader_at old p) { held = drop n (reader_at old p).held }) (sym (zeros p)) })
+
+  pub holds_none : Holds old nothing
+  holds_none p = omega (arith, zeros p)
+
+  pub rows_kept : (taken put now : List ℕ) → now ≡ put → PutsRows end delims cells old taken put → PutsRows end delims cells old taken now
+  rows_kept taken put now same = subst (PutsRows end delims cells old taken) (sym same)
 
   -- one row more
   pub rows_more : (before taken front put : List ℕ) → PutsRows end delims cells old before front → PutsRow end delims cells old before taken front put → PutsRows end delims cells old taken put

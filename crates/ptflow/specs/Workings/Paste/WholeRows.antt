@@ -1,12 +1,14 @@
 -- Rows of `paste` whose cells lie whole in what the readers hold.
-use Rattle.std.specs.Prelude.{◌≡◌, ℕ, ◌-◌, ◌*◌, ◌<◌, ◌≤◌, ◌⊎◌, Bool, true, false, List, [], ◌++◌, None, Option, Result, Ok, Err}
-use Rattle.std.specs.Prelude.{length, map, drop, nat_lt, slice_index_or, sum_by}
+use Rattle.std.specs.Prelude.{◌≡◌, ℕ, ◌-◌, ◌*◌, ◌<◌, ◌≤◌, ◌⊎◌, Bool, true, false, List, [], ◌∷◌, ◌++◌, None, Some, Option, Result, Ok, Err}
+use Rattle.std.specs.Prelude.{length, map, take, drop, nat_lt, slice_index_or, sum_by}
+use Rattle.memchr.specs.Find.{IsFirstByte, is_byte}
 use Rattle.ptlines.specs.Text.{text}
 use Rattle.ptlines.specs.Outputs.{Output, Wrote}
 use Rattle.ptlines.specs.Readers.{Reader, IsDone, budget}
 use Rattle.ptlines.specs.declared.out.WriteFault.{WriteFault}
 use Rattle.ptflow.specs.PastePasses.{reader_at}
 use Rattle.ptflow.specs.Pastes.{times, glued_from, columns, rows}
+use Rattle.ptflow.specs.Workings.Paste.SerialRests.{lead}
 use Rattle.ptflow.specs.Workings.Paste.TakenLines.{Took}
 use Rattle.ptflow.specs.declared.tools.paste.serial.Cell.{Cell}
 
@@ -49,10 +51,18 @@ pub record HoldsTo (end : ℕ) (delims : List (Option ℕ)) (cells : List ℕ) (
   pub moved : AreTaken taken old new
   pub rows : HeldRows end delims cells from new written
 
--- A row more was put, after which so many bytes are taken of each reader, and before it so many were.
+-- This row is put of the lines with which the bytes of two cells begin, and which are so long.
+pub record PutsPair (end : ℕ) (delims : List (Option ℕ)) (one two : List ℕ) (count other : ℕ) (front put : List ℕ) : Type 0 where
+  pub first : IsFirstByte (is_byte end) one (Some count)
+  pub second : IsFirstByte (is_byte end) two (Some other)
+  pub is : put ≡ front ++ (((take count one ++ lead delims (in_front 1)) ++ take other two) ++ end ∷ [])
+
+-- A row more was put, after which so many bytes are taken of each reader, which are still held, and before it so many
+-- were.
 pub record PutsRow (end : ℕ) (delims : List (Option ℕ)) (cells : List ℕ) (old : List Reader) (before taken front put : List ℕ) : Type 0 where
   pub written : List ℕ
   pub is : put ≡ front ++ written
+  pub held : Holds old taken
   pub row : (from : List Reader) → AreTaken before old from → HoldsTo end delims cells old from taken written
 
 -- Of the rows that were put nothing is left out, if any was put.

@@ -1,13 +1,13 @@
 //! Rows of `paste` whose cells all lie whole in the blocks of their readers.
 
-ghost use Rattle.std.specs.Prelude.{◌≡◌, ◌<◌, ◌≤◌, ◌+◌, ◌++◌, ◌^◌, length, take, All, None, Some, IfSome};
+ghost use Rattle.std.specs.Prelude.{◌≡◌, ◌≢◌, ◌<◌, ◌≤◌, ◌+◌, ◌++◌, ◌^◌, length, take, slice_index_or, All, None, Some, IfNone, IfSome};
 ghost use Rattle.memchr.specs.Find.{IsFirstByte, is_byte};
 ghost use Rattle.ptlangs.specs.Jobs.{paste_job};
 ghost use Rattle.ptflow.specs.PastePasses.{reader_at};
 ghost use Rattle.ptflow.specs.Pastes.{times};
 ghost use Rattle.ptlangs.specs.DelimLists.{delim_at};
 ghost use Rattle.ptflow.specs.Workings.Paste.SerialRests.{lead};
-ghost use Rattle.ptflow.specs.Workings.Paste.WholeRows.{in_front, AreReadable, Holds, AreTaken, PutsRow, PutsRows, PassesRows};
+ghost use Rattle.ptflow.specs.Workings.Paste.WholeRows.{in_front, AreReadable, Holds, AreTaken, PutsPair, PutsRow, PutsRows, PassesRows};
 
 use crate::tools::paste::serial::Written;
 use ptlangs::delims::Delims;
@@ -137,7 +137,6 @@ fn put_row<A: Allocator, S: Source, R: Source>(
     requires held { Holds readers.now taken.old }
     requires room { at ≤ 8192 }
     ensures near { IfSome result (λ end. (at < end) × (end ≤ 8192)) }
-    ensures held { IfSome result (λ end. Holds readers.now taken.new) }
     ensures row { IfSome result
         (λ end. PutsRow ending delims.now cells.now readers.now taken.old taken.new (take at into.old) (take end into.new)) }
     ensures kept { take at into.new ≡ take at into.old }
@@ -153,6 +152,70 @@ fn put_row<A: Allocator, S: Source, R: Source>(
     }
     into[end] = ending;
     Some(end + 1)
+}
+
+// Puts the next row of two cells, if the line with which the bytes of each begin is whole, and there is room for the row.
+// The answer is how long the lines are, and where the row ends.
+#[inline(always)]
+fn put_pair<A: Allocator>(
+    delims: &Delims<A>,
+    ending: u8,
+    first: &[u8],
+    second: &[u8],
+    into: &mut Written,
+    at: usize,
+) -> Option<(usize, usize, usize)>
+    requires { at ≤ 8192 }
+    ensures row { IfSome result (λ answer. PutsPair ending delims.now first.now second.now answer.0 answer.1
+        (take at into.old) (take answer.2 into.new)) }
+    ensures near { IfSome result (λ answer. (at < answer.2) × (answer.2 ≤ 8192)) }
+    ensures kept { IfNone result (take at into.new ≡ take at into.old) }
+{
+    let count = put_line(ending, first, into, at)?;
+    let from = put_lead(delims, 1, into, at + count);
+    let other = put_line(ending, second, into, from)?;
+    into[from + other] = ending;
+    Some((count, other, from + other + 1))
+}
+
+// As `put_rows`, of two cells of two readers. How many bytes are taken of each stays in a register from row to row.
+#[inline(never)]
+fn put_pairs<A: Allocator, S: Source, R: Source>(
+    delims: &Delims<A>,
+    ending: u8,
+    cells: &[usize],
+    readers: &[LineReader<S, R>],
+    into: &mut Written,
+) -> (usize, Taken)
+    requires few { length readers.now ≤ 16 }
+    requires two { (length cells.now ≡ 2) × (slice_index_or cells.now 0 0 ≢ slice_index_or cells.now 1 0) }
+    requires within { All (λ place. place < length readers.now) cells.now }
+    requires readable { AreReadable ending cells.now readers.now }
+    ensures near { result.0 ≤ 8192 }
+    ensures held { Holds readers.now result.1 }
+    ensures rows { PutsRows ending delims.now cells.now readers.now result.1 (take result.0 into.new) }
+{
+    let first = readers[cells[0]].held();
+    let second = readers[cells[1]].held();
+    let mut passed = 0;
+    let mut passed_other = 0;
+    let mut end = 0;
+    'rows: while let Some((count, other, next)) = put_pair(
+        delims,
+        ending,
+        &first[passed..],
+        &second[passed_other..],
+        into,
+        end,
+    ) {
+        passed += count + 1;
+        passed_other += other + 1;
+        end = next;
+    }
+    let mut taken: Taken = [0; 16];
+    taken[cells[0]] = passed as u16;
+    taken[cells[1]] = passed_other as u16;
+    (end, taken)
 }
 
 // Puts as many of the next rows as lie whole in what the readers hold, and in the room. The answer is where they end,
@@ -181,6 +244,28 @@ fn put_rows<A: Allocator, S: Source, R: Source>(
             None => return (end, before),
         }
     }
+}
+
+// The same, whatever the cells are.
+#[inline(always)]
+fn put_whole_rows<A: Allocator, S: Source, R: Source>(
+    delims: &Delims<A>,
+    ending: u8,
+    cells: &[usize],
+    readers: &[LineReader<S, R>],
+    into: &mut Written,
+) -> (usize, Taken)
+    requires few { (length readers.now ≤ 16) × (0 < length cells.now) }
+    requires within { All (λ place. place < length readers.now) cells.now }
+    requires readable { AreReadable ending cells.now readers.now }
+    ensures near { result.0 ≤ 8192 }
+    ensures held { Holds readers.now result.1 }
+    ensures rows { PutsRows ending delims.now cells.now readers.now result.1 (take result.0 into.new) }
+{
+    if cells.len() == 2 && cells[0] != cells[1] {
+        return put_pairs(delims, ending, cells, readers, into);
+    }
+    put_rows(delims, ending, cells, readers, into)
 }
 
 // Moves past what was taken of each reader.
@@ -213,7 +298,7 @@ pub(crate) fn pass_rows<A: Allocator, S: Source, R: Source, W: Sink>(
     if cells.is_empty() || readers.len() > 16 {
         return Ok(false);
     }
-    let (end, taken) = put_rows(delims, ending, cells, readers, into);
+    let (end, taken) = put_whole_rows(delims, ending, cells, readers, into);
     if end == 0 {
         return Ok(false);
     }

@@ -1,6 +1,6 @@
 -- Each turn puts one more cell behind its delimiter, if it is whole in what its reader holds; what was taken of each
 -- reader is counted.
-use Rattle.std.proofs.Common.{append_assoc, refl, sym, [], ◌∷◌, ◌≡◌, ◌+◌, ◌<◌, ◌++◌, ℕ, List, Some, length, take, drop, get_or, ◌∙◌, ap, subst, arith}
+use Rattle.std.proofs.Common.{refl, sym, [], ◌∷◌, ◌≡◌, ◌+◌, ◌<◌, ◌++◌, ℕ, List, Some, length, take, drop, get_or, ◌∙◌, ap, subst, arith}
 use Rattle.std.proofs.lemmas.List.{append-nil, take_rest, take_more_set, length-set}
 use Rattle.std.proofs.lemmas.List.Elements.{All-get_or}
 use Rattle.memchr.specs.Find.{IsFirstByte, is_byte}
@@ -10,7 +10,7 @@ use Rattle.ptflow.specs.Workings.Paste.SerialRests.{lead}
 use Rattle.ptflow.specs.Workings.Paste.WholeRows.{in_front}
 use Rattle.ptflow.proofs.OfPaste.Grids.{times_below}
 use Rattle.ptflow.proofs.OfPaste.RowTurns.{at_index}
-use Rattle.ptflow.proofs.OfPaste.WholeRows.{putting_starts, putting_more, putting_done, holds_more, front_kept}
+use Rattle.ptflow.proofs.OfPaste.WholeRows.{putting_starts, putting_more, putting_done, holds_more, front_kept, lead_kept, line_put, end_put}
 use Rattle.ptflow.proofs.tools.paste.whole_rows.put_row.Goals as goal
 
 pub loop-column-init : goal.loop-column-init
@@ -33,6 +33,78 @@ pub bounds-taken-place-in-loop-column : goal.bounds-taken-place-in-loop-column
 bounds-taken-place-in-loop-column g c =
     omega (arith, All-get_or (λ (p : ℕ). p < length c.args.readers.now) c.args.cells.now c.loop-column.column 0 c.loop-column-test.true c.requires.within, c.requires.few.0)
 
+pub offset_bounds-readers-place : goal.offset_bounds-readers-place
+offset_bounds-readers-place g c =
+    omega (arith, All-get_or (λ (p : ℕ). p < length c.args.readers.now) c.args.cells.now c.loop-column.column 0 c.loop-column-test.true c.requires.within)
+
+pub bounds-readers-place : goal.bounds-readers-place
+bounds-readers-place g c =
+    All-get_or (λ (p : ℕ). p < length c.args.readers.now) c.args.cells.now c.loop-column.column 0 c.loop-column-test.true c.requires.within
+
+pub put_lead-from-requires : goal.put_lead-from-requires
+put_lead-from-requires g c = record { room = c.loop-column.invariant.near.1 }
+
+pub slice_bounds-rest-count : goal.slice_bounds-rest-count
+slice_bounds-rest-count g c =
+    let readers = c.args.readers.now in
+    let place = get_or c.args.cells.now c.loop-column.column 0 in
+    let is_read = c.index-readers-place.is ∙ at_index readers place c.index-readers-place.result
+    (All-get_or (λ (p : ℕ). p < length readers) c.args.cells.now c.loop-column.column 0 c.loop-column-test.true c.requires.within) in
+    let held_is : c.held.result.now ≡ (reader_at readers place).held = c.held.ensures.held ∙ ap (λ (r : Reader). r.held) is_read in
+    omega (arith, c.loop-column.invariant.holds place, ap length held_is)
+
+pub slice_bounds-rest-start : goal.slice_bounds-rest-start
+slice_bounds-rest-start g c =
+    let readers = c.args.readers.now in
+    let place = get_or c.args.cells.now c.loop-column.column 0 in
+    let is_read = c.index-readers-place.is ∙ at_index readers place c.index-readers-place.result
+    (All-get_or (λ (p : ℕ). p < length readers) c.args.cells.now c.loop-column.column 0 c.loop-column-test.true c.requires.within) in
+    let held_is : c.held.result.now ≡ (reader_at readers place).held = c.held.ensures.held ∙ ap (λ (r : Reader). r.held) is_read in
+    omega (arith, c.loop-column.invariant.holds place, ap length held_is)
+
+pub slice_bounds-rest-end : goal.slice_bounds-rest-end
+slice_bounds-rest-end g c =
+    let readers = c.args.readers.now in
+    let place = get_or c.args.cells.now c.loop-column.column 0 in
+    let is_read = c.index-readers-place.is ∙ at_index readers place c.index-readers-place.result
+    (All-get_or (λ (p : ℕ). p < length readers) c.args.cells.now c.loop-column.column 0 c.loop-column-test.true c.requires.within) in
+    let held_is : c.held.result.now ≡ (reader_at readers place).held = c.held.ensures.held ∙ ap (λ (r : Reader). r.held) is_read in
+    omega (arith, c.loop-column.invariant.holds place, ap length held_is)
+
+pub put_line-requires : goal.put_line-requires
+put_line-requires g c =
+    omega (arith, c.put_lead-from.ensures.near, c.loop-column.invariant.near.1)
+
+pub overflow_add-end : goal.overflow_add-end
+overflow_add-end g c = omega (arith, c.in_ok-count.ensures.near)
+
+pub overflow_add-taken : goal.overflow_add-taken
+overflow_add-taken g c = omega (arith, c.in_ok-count.ensures.near)
+
+pub overflow_add-taken-in-loop-column : goal.overflow_add-taken-in-loop-column
+overflow_add-taken-in-loop-column g c =
+    let readers = c.args.readers.now in
+    let place = get_or c.args.cells.now c.loop-column.column 0 in
+    let is_read = c.index-readers-place.is ∙ at_index readers place c.index-readers-place.result
+    (All-get_or (λ (p : ℕ). p < length readers) c.args.cells.now c.loop-column.column 0 c.loop-column-test.true c.requires.within) in
+    let sound = subst IsSound is_read c.held.ensures.sound in
+    omega (arith, c.loop-column.invariant.holds place, sound.held, c.in_ok-count.ensures.near)
+
+pub overflow_cast-taken : goal.overflow_cast-taken
+overflow_cast-taken g c =
+    let readers = c.args.readers.now in
+    let place = get_or c.args.cells.now c.loop-column.column 0 in
+    let is_read = c.index-readers-place.is ∙ at_index readers place c.index-readers-place.result
+    (All-get_or (λ (p : ℕ). p < length readers) c.args.cells.now c.loop-column.column 0 c.loop-column-test.true c.requires.within) in
+    let sound = subst IsSound is_read c.held.ensures.sound in
+    omega (arith, c.loop-column.invariant.holds place, sound.held, c.in_ok-count.ensures.near)
+
+pub bounds-into-end : goal.bounds-into-end
+bounds-into-end g c = omega (arith, c.loop-column.invariant.near.1)
+
+pub overflow_add-result : goal.overflow_add-result
+overflow_add-result g c = omega (arith, c.loop-column.invariant.near.1)
+
 pub loop-column-preserved : goal.loop-column-preserved
 loop-column-preserved g c =
     let end = c.args.ending in
@@ -54,10 +126,10 @@ loop-column-preserved g c =
     let found = subst (λ (h : List ℕ). IsFirstByte (is_byte end) (drop (get_or taken place 0) h) (Some count)) held_is (rw take_rest at c.in_ok-count.ensures.line) in
     let lead_of = lead delims (in_front n) in
     let line = take count (drop (get_or taken place 0) (reader_at readers place).held) in
-    let is : take (c.put_lead-from.result + count) c.put_line.new.into ≡ take c.args.at c.args.into.now ++ ((inv.written ++ lead_of) ++ line) =
-    (rw take_rest at c.in_ok-count.ensures.put) ∙ (λ i. (c.put_lead-from.ensures.put ∙ ap (λ (l : List ℕ). l ++ lead_of) inv.is
-    ∙ append_assoc (take c.args.at c.args.into.now) inv.written lead_of) i ++ take count (drop (get_or taken place 0) (held_is i)))
-    ∙ append_assoc (take c.args.at c.args.into.now) (inv.written ++ lead_of) line in
+    let is = line_put (take c.args.at c.args.into.now) inv.written lead_of line (take c.loop-column.end c.loop-column.into) (take c.put_lead-from.result c.put_lead-from.new.into)
+    (take (c.put_lead-from.result + count) c.put_line.new.into)
+    ((rw take_rest at c.in_ok-count.ensures.put) ∙ ap (λ (h : List ℕ). take c.put_lead-from.result c.put_lead-from.new.into ++ take count (drop (get_or taken place 0) h)) held_is)
+    c.put_lead-from.ensures.put inv.is in
     record {
       written = (inv.written ++ lead_of) ++ line;
       is = is;
@@ -73,9 +145,8 @@ pub returns-in_err-count-clause-kept : goal.returns-in_err-count-clause-kept
 returns-in_err-count-clause-kept g c =
     let inv = c.loop-column.invariant in
     let lead_of = lead c.args.delims.now (in_front c.loop-column.column) in
-    front_kept c.args.at c.put_lead-from.result c.put_line.new.into c.args.into.now (inv.written ++ lead_of)
-    (omega (arith, c.put_lead-from.ensures.near.0, inv.near.0)) (omega (arith, c.requires.room, c.told-into))
-    (c.put_line.ensures.kept ∙ c.put_lead-from.ensures.put ∙ ap (λ (l : List ℕ). l ++ lead_of) inv.is ∙ append_assoc (take c.args.at c.args.into.now) inv.written lead_of)
+    lead_kept c.args.at c.put_lead-from.result c.put_line.new.into c.put_lead-from.new.into (take c.loop-column.end c.loop-column.into) c.args.into.now inv.written lead_of
+    (omega (arith, c.put_lead-from.ensures.near.0, inv.near.0)) (omega (arith, c.requires.room, c.told-into)) c.put_line.ensures.kept c.put_lead-from.ensures.put inv.is
 
 pub returns-clause-near : goal.returns-clause-near
 returns-clause-near g c =
@@ -88,8 +159,19 @@ returns-clause-row g c =
     let inv = c.loop-column.invariant in
     record {
       written = inv.written ++ c.args.ending ∷ [];
-      is = take_more_set c.loop-column.into c.loop-column.end c.args.ending (omega (arith, inv.near, inv.room)) ∙ ap (λ (l : List ℕ). l ++ c.args.ending ∷ []) inv.is
-          ∙ append_assoc (take c.args.at c.args.into.now) inv.written (c.args.ending ∷ []);
+      is = end_put (take c.args.at c.args.into.now) inv.written (take c.loop-column.end c.loop-column.into) _ (c.args.ending ∷ [])
+          (take_more_set c.loop-column.into c.loop-column.end c.args.ending (omega (arith, inv.near, inv.room))) inv.is;
+      held = inv.holds;
       row = λ from moved. putting_done c.args.ending c.args.delims.now c.args.cells.now c.args.readers.now from c.loop-column.column c.args.taken.now c.loop-column.taken inv.written _
           (omega (arith, c.loop-column-test.false, c.loop-column.auto.column-end)) c.requires.few.1 c.requires.readable moved refl (inv.puts from moved);
     }
+
+pub returns-clause-kept : goal.returns-clause-kept
+returns-clause-kept g c =
+    let inv = c.loop-column.invariant in
+    front_kept c.args.at (c.loop-column.end + 1) _ c.args.into.now (inv.written ++ c.args.ending ∷ []) (omega (arith, inv.near.0)) (omega (arith, c.requires.room, c.told-into))
+    (end_put (take c.args.at c.args.into.now) inv.written (take c.loop-column.end c.loop-column.into) _ (c.args.ending ∷ [])
+    (take_more_set c.loop-column.into c.loop-column.end c.args.ending (omega (arith, inv.near, inv.room))) inv.is)
+
+pub bounds-cells-column : goal.bounds-cells-column
+bounds-cells-column g c = c.loop-column-test.true
