@@ -66,5 +66,5 @@ offset_bounds-front-first g c =
 pub offset_bounds-front-second : goal.offset_bounds-front-second
 offset_bounds-front-second g c =
     let low = subst (λ (n : ℕ). c.args.second < n) (sym c.split_at_mut-front-else-first-second.ensures.front_len)
-        (below c.args.first c.args.second c.if-first-second.false c.requires.apart) in
+    (below c.args.first c.args.second c.if-first-second.false c.requires.apart) in
     search (scaled_Fits, low)

@@ -104,8 +104,11 @@ loop-column-preserved g c =
 
 pub bounds-readers-place : goal.bounds-readers-place
 bounds-readers-place g c =
-    omega (arith, All-get_or (λ (p : ℕ). p < length c.args.readers.now) c.args.cells.now c.loop-column.column 0 c.loop-column-test.true c.requires.within,
-      c.loop-column.auto.readers)
+    omega (
+      arith,
+      All-get_or (λ (p : ℕ). p < length c.args.readers.now) c.args.cells.now c.loop-column.column 0 c.loop-column-test.true c.requires.within,
+      c.loop-column.auto.readers,
+    )
 
 pub offset_bounds-readers-place : goal.offset_bounds-readers-place
 offset_bounds-readers-place g c =

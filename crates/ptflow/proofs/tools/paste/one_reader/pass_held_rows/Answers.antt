@@ -15,16 +15,16 @@ returns-in_err-push g c =
     let e = err_from_is_err_and c.from_residual.result c.from_residual.ensures.1 in
     let t = subst (AreTurnsOfOne c.args.delims.now c.args.cells.now) (sym c.deref.ensures.0) ((rw c.in-Some.is at c.requires.in_turn).0) in
     pushed_breaks c.args.ending c.args.delims.now c.args.cells.now c.args.readers.now
-      (set c.args.readers.now (get_or c.args.cells.now 0 0) c.consume.new.self) c.args.out.now c.push.new.self c.from_residual.result e.0 e.1
-      (record {
-        written = take c.put_held_rows-count.result c.put_held_rows-count.new.into;
-        held = held_put c.args.ending c.args.delims.now c.args.cells.now c.deref.result.now t c.args.readers.now c.requires.within c.requires.readable
-            c.index-readers-place.result c.held-bytes.ensures.sound c.held-bytes.result.now c.held-bytes.ensures.held
-            c.put_held_rows-count.result (omega (arith, c.if-count-eq0.false)) c.put_held_rows-count.ensures.within c.put_held_rows-count.ensures.rows
-            c.index-readers-place-2.result c.consume.new.self c.consume.ensures.consumed (take c.put_held_rows-count.result c.put_held_rows-count.new.into) c.put_held_rows-count.ensures.put;
-        wrote = c.push.ensures.wrote;
-      })
-      c.in_err-push.ensures.fault
+    (set c.args.readers.now (get_or c.args.cells.now 0 0) c.consume.new.self) c.args.out.now c.push.new.self c.from_residual.result e.0 e.1
+    (record {
+      written = take c.put_held_rows-count.result c.put_held_rows-count.new.into;
+      held = held_put c.args.ending c.args.delims.now c.args.cells.now c.deref.result.now t c.args.readers.now c.requires.within c.requires.readable
+          c.index-readers-place.result c.held-bytes.ensures.sound c.held-bytes.result.now c.held-bytes.ensures.held
+          c.put_held_rows-count.result (omega (arith, c.if-count-eq0.false)) c.put_held_rows-count.ensures.within c.put_held_rows-count.ensures.rows
+          c.index-readers-place-2.result c.consume.new.self c.consume.ensures.consumed (take c.put_held_rows-count.result c.put_held_rows-count.new.into) c.put_held_rows-count.ensures.put;
+      wrote = c.push.ensures.wrote;
+    })
+    c.in_err-push.ensures.fault
 
 pub returns : goal.returns
 returns g c =

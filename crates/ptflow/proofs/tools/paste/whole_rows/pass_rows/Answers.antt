@@ -12,14 +12,14 @@ returns-in_err-push g c =
     let fits : end ≤ length c.put_whole_rows-end.new.into = omega (arith, c.put_whole_rows-end.ensures.near, c.put_whole_rows-end.auto.into, c.told-into) in
     let some : 0 < length put = omega (arith, c.if-end-eq0.false, length-take-le end c.put_whole_rows-end.new.into fits) in
     pushed_breaks c.args.ending c.args.delims.now c.args.cells.now c.args.readers.now c.consume_taken.new.readers
-      c.args.out.now c.push.new.self c.from_residual.result e.0 e.1
-      (record {
-        written = put;
-        held = rows_taken c.args.ending c.args.delims.now c.args.cells.now c.args.readers.now c.put_whole_rows-end.result.1 put c.consume_taken.new.readers some
-            c.put_whole_rows-end.ensures.rows c.consume_taken.ensures;
-        wrote = c.push.ensures.wrote;
-      })
-      c.in_err-push.ensures.fault
+    c.args.out.now c.push.new.self c.from_residual.result e.0 e.1
+    (record {
+      written = put;
+      held = rows_taken c.args.ending c.args.delims.now c.args.cells.now c.args.readers.now c.put_whole_rows-end.result.1 put c.consume_taken.new.readers some
+          c.put_whole_rows-end.ensures.rows c.consume_taken.ensures;
+      wrote = c.push.ensures.wrote;
+    })
+    c.in_err-push.ensures.fault
 
 pub returns : goal.returns
 returns g c =
