@@ -11,6 +11,9 @@
   python3 tools/costs.py kept [--count N] [CRATE..]
       the same by the clock, of the modules that `rt check --jobs 1` from nothing left in out/incremental, told by
       their files' times: Lts has the ways through a function, and Proof its goals
+  python3 tools/costs.py goals [--count N] [CRATE..]
+      the dearest goals and lemmas among what a check kept, in millions of the checker's own steps, of which it takes
+      some 1.5 million a second; it notes them beside each declaration, in a form of its own that may change
   python3 tools/costs.py list [CRATE..]
       each public function of the six libraries and the wrong bodies that belong to it, and where one is missing
 
@@ -20,6 +23,7 @@ edit names, as `list` prints them. Crates are named as in crates.txt; without on
 import argparse
 import importlib.machinery
 import importlib.util
+import json
 import os
 import re
 import resource
@@ -163,6 +167,27 @@ def kept(crates, count):
             say(took, f"{name} {kind}")
 
 
+# What the checker notes of the declarations of a module, in the file that it keeps of them.
+NOTES = re.compile(r'\[\{"aux":')
+
+
+def goals(crates, count):
+    for crate in crates:
+        found = {}
+        for at, _, names in os.walk(f"{crate.folder}/out/incremental"):
+            for name in (it for it in names if it.endswith(".decls.oantt")):
+                label = name[: -len(".decls.oantt")].replace(f"Rattle-{crate.name}-", "")
+                with open(f"{at}/{name}", "rb") as it:
+                    said = it.read().decode("latin-1")
+                for place in NOTES.finditer(said):
+                    for noted in json.JSONDecoder().raw_decode(said, place.start())[0]:
+                        steps = sum(it for it in noted.get("steps") or [] if isinstance(it, int))
+                        found[f"{label} {noted['name']}"] = steps
+        print(f"== {crate.name}: {sum(found.values()) / 1e6:.0f} million steps, {len(found)} declarations")
+        for name, steps in sorted(found.items(), key=lambda it: -it[1])[:count]:
+            print(f"{steps / 1e6:8.1f}  {name}")
+
+
 IMPL = re.compile(r"(?:unsafe )?impl(?:<.*?>)? (?:(?P<of>[\w:]+(?:<.*?>)?) for )?(?P<type>\w+)")
 FUNCTION = re.compile(r"(?P<indent> {4})?(?P<pub>pub )?(?:pub\(\w+\) )?(?:unsafe )?fn (?P<name>\w+)")
 
@@ -232,7 +257,7 @@ def listing(rt, crates):
 
 def main():
     given = argparse.ArgumentParser(description=__doc__, formatter_class=argparse.RawDescriptionHelpFormatter)
-    given.add_argument("what", choices=["times", "slow", "kept", "list"])
+    given.add_argument("what", choices=["times", "slow", "kept", "goals", "list"])
     given.add_argument("crates", nargs="*")
     given.add_argument("--parts", default="proof,tests,edits")
     given.add_argument("--edit", default="", help="only the wrong bodies whose names match this")
@@ -245,6 +270,8 @@ def main():
         return listing(rt, crates)
     if asked.what == "kept":
         return kept(crates, asked.count)
+    if asked.what == "goals":
+        return goals(crates, asked.count)
     for crate in crates:
         if any(dep.build_rlib(["--jobs", "1"], anew=False) for dep in crate.below()):
             return f"a library below {crate.name} is not proved"
