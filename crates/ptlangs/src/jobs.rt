@@ -51,10 +51,9 @@ impl<A: Allocator> PasteJob<A> {
 }
 
 /// Which lines `uniq` writes.
-#[derive(Clone, Copy, Debug, Default, PartialEq, Eq)]
+#[derive(Clone, Copy, Debug, PartialEq, Eq)]
 pub enum Show {
     /// One line of each run of equal ones.
-    #[default]
     All,
     /// The same, with the length of the run before it (`-c`).
     Counts,
@@ -65,7 +64,7 @@ pub enum Show {
 }
 
 /// What `uniq` is to do.
-#[derive(Clone, Copy, Debug, Default, PartialEq, Eq)]
+#[derive(Clone, Copy, Debug, PartialEq, Eq)]
 pub struct UniqJob {
     /// Which lines are written.
     pub show: Show,
@@ -77,8 +76,24 @@ pub struct UniqJob {
     pub zero: bool,
 }
 
+impl Default for UniqJob {
+    ghost use Rattle.std.specs.Prelude.{◌≡◌};
+    ghost use Rattle.ptlangs.specs.Jobs.{uniq_job, default_uniq};
+
+    ghost is_default = { λ job. uniq_job job ≡ default_uniq };
+
+    fn default() -> UniqJob {
+        UniqJob {
+            show: Show::All,
+            fields: 0,
+            chars: 0,
+            zero: false,
+        }
+    }
+}
+
 /// What `comm` is to do.
-#[derive(Clone, Copy, Debug, Default, PartialEq, Eq)]
+#[derive(Clone, Copy, Debug, PartialEq, Eq)]
 pub struct CommJob {
     /// For each of the three columns, whether it is left out (`-1`, `-2`, `-3`). By default none is.
     pub hide: [bool; 3],
@@ -86,6 +101,21 @@ pub struct CommJob {
     pub zero: bool,
     /// Whether the lines are in descending order (`-r`), and not in ascending order. This project's own option.
     pub descending: bool,
+}
+
+impl Default for CommJob {
+    ghost use Rattle.std.specs.Prelude.{◌≡◌};
+    ghost use Rattle.ptlangs.specs.Jobs.{comm_job, default_comm};
+
+    ghost is_default = { λ job. comm_job job ≡ default_comm };
+
+    fn default() -> CommJob {
+        CommJob {
+            hide: [false; 3],
+            zero: false,
+            descending: false,
+        }
+    }
 }
 
 /// What `join` is to do.
