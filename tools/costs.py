@@ -12,7 +12,7 @@
       the same by the clock, of the modules that `rt check --jobs 1` from nothing left in out/incremental, told by
       their files' times: Lts has the ways through a function, and Proof its goals
   python3 tools/costs.py goals [--count N] [CRATE..]
-      the dearest goals and lemmas among what a check kept, in millions of the checker's own steps, of which it takes
+      the costliest goals and lemmas among what a check kept, in millions of the checker's own steps, of which it takes
       some 1.5 million a second; it notes them beside each declaration, in a form of its own that may change
   python3 tools/costs.py list [CRATE..]
       each public function of the six libraries and the wrong bodies that belong to it, and where one is missing
@@ -171,18 +171,23 @@ def kept(crates, count):
 NOTES = re.compile(r'\[\{"aux":')
 
 
+def noted(path):
+    """What the checker noted of each declaration of a module."""
+    with open(path, "rb") as it:
+        said = it.read().decode("utf-8", "replace")
+    for place in NOTES.finditer(said):
+        yield from json.JSONDecoder().raw_decode(said, place.start())[0]
+
+
 def goals(crates, count):
     for crate in crates:
         found = {}
         for at, _, names in os.walk(f"{crate.folder}/out/incremental"):
             for name in (it for it in names if it.endswith(".decls.oantt")):
                 label = name[: -len(".decls.oantt")].replace(f"Rattle-{crate.name}-", "")
-                with open(f"{at}/{name}", "rb") as it:
-                    said = it.read().decode("latin-1")
-                for place in NOTES.finditer(said):
-                    for noted in json.JSONDecoder().raw_decode(said, place.start())[0]:
-                        steps = sum(it for it in noted.get("steps") or [] if isinstance(it, int))
-                        found[f"{label} {noted['name']}"] = steps
+                for note in noted(f"{at}/{name}"):
+                    steps = sum(it for it in note.get("steps") or [] if isinstance(it, int))
+                    found[f"{label} {note['name']}"] = steps
         print(f"== {crate.name}: {sum(found.values()) / 1e6:.0f} million steps, {len(found)} declarations")
         for name, steps in sorted(found.items(), key=lambda it: -it[1])[:count]:
             print(f"{steps / 1e6:8.1f}  {name}")
@@ -265,7 +270,7 @@ def main():
     given.add_argument("--count", type=int, default=20)
     asked = given.parse_intermixed_args()
     rt = toolchain()
-    crates = [it for it in rt.rtlib.crates_below(TOP) if not asked.crates or it.name in asked.crates]
+    crates = [it for it in rt.rtlib.crates_below(f"{TOP}/crates") if not asked.crates or it.name in asked.crates]
     if asked.what == "list":
         return listing(rt, crates)
     if asked.what == "kept":

@@ -22,7 +22,7 @@ pub record PairRows (end : ℕ) (delims : List (Option ℕ)) (cells : List ℕ) 
   pub rest : (p : ℕ) → p ≢ get_or cells 0 0 → p ≢ get_or cells 1 0 → get_or taken p 0 ≡ 0
   pub long : length taken ≡ 16
 
--- the same of equal bytes
+-- `PutsPair` of equal bytes
 pub pair_of : (end : ℕ) (delims : List (Option ℕ)) (count other : ℕ) (front put one two a b : List ℕ) → one ≡ a → two ≡ b
     → PutsPair end delims one two count other front put → PutsPair end delims a b count other front put
 pair_of end delims count other front put one two a b same both r =

@@ -51,14 +51,15 @@ pub record HoldsTo (end : ℕ) (delims : List (Option ℕ)) (cells : List ℕ) (
   pub moved : AreTaken taken old new
   pub rows : HeldRows end delims cells from new written
 
--- This row is put of the lines with which the bytes of two cells begin, and which are so long.
+-- One row more was put: the lines, of these lengths, with which the bytes of two cells begin, with the delimiter between
+-- them and the end of the row.
 pub record PutsPair (end : ℕ) (delims : List (Option ℕ)) (one two : List ℕ) (count other : ℕ) (front put : List ℕ) : Type 0 where
   pub first : IsFirstByte (is_byte end) one (Some count)
   pub second : IsFirstByte (is_byte end) two (Some other)
   pub is : put ≡ front ++ (((take count one ++ lead delims (in_front 1)) ++ take other two) ++ end ∷ [])
 
--- A row more was put, after which so many bytes are taken of each reader, which are still held, and before it so many
--- were.
+-- One row more was put. Before it so many bytes were taken of each reader, and after it so many, all of which are still
+-- held.
 pub record PutsRow (end : ℕ) (delims : List (Option ℕ)) (cells : List ℕ) (old : List Reader) (before taken front put : List ℕ) : Type 0 where
   pub written : List ℕ
   pub is : put ≡ front ++ written

@@ -60,8 +60,8 @@ fn copy_first<const N: usize>(bytes: &[u8], into: &mut [u8], at: usize)
     Simd::<u8, N>::from_slice(bytes).copy_to_slice(&mut into[at..]);
 }
 
-// Puts the line with which these bytes begin, whatever its length, if it is whole and there is room for it, and says how
-// long it is. Out of line, so that what is found by one look needs no call.
+// Puts the line with which these bytes begin, whatever its length, if it is whole and there is room for it, and says
+// how long it is. Out of line, so that what is found by one look needs no call.
 #[inline(never)]
 fn put_copied(ending: u8, bytes: &[u8], into: &mut Written, at: usize) -> Option<usize>
     requires { at ≤ 8193 }
@@ -154,8 +154,8 @@ fn put_row<A: Allocator, S: Source, R: Source>(
     Some(end + 1)
 }
 
-// Puts the next row of two cells, if the line with which the bytes of each begin is whole, and there is room for the row.
-// The answer is how long the lines are, and where the row ends.
+// Puts the next row of two cells, if the lines with which their bytes begin are whole and there is room for the row. The
+// answer is how long the lines are, and where the row ends.
 #[inline(always)]
 fn put_pair<A: Allocator>(
     delims: &Delims<A>,
@@ -178,7 +178,36 @@ fn put_pair<A: Allocator>(
     Some((count, other, from + other + 1))
 }
 
-// As `put_rows`, of two cells of two readers. How many bytes are taken of each stays in a register from row to row.
+// Puts as many of the next rows as lie whole in what the readers hold, and in the room. The answer is where they end,
+// and how many bytes they take of each reader. Out of line, so that the loop has all registers.
+#[inline(never)]
+fn put_rows<A: Allocator, S: Source, R: Source>(
+    delims: &Delims<A>,
+    ending: u8,
+    cells: &[usize],
+    readers: &[LineReader<S, R>],
+    into: &mut Written,
+) -> (usize, Taken)
+    requires few { (length readers.now ≤ 16) × (0 < length cells.now) }
+    requires within { All (λ place. place < length readers.now) cells.now }
+    requires readable { AreReadable ending cells.now readers.now }
+    ensures near { result.0 ≤ 8192 }
+    ensures held { Holds readers.now result.1 }
+    ensures rows { PutsRows ending delims.now cells.now readers.now result.1 (take result.0 into.new) }
+{
+    let mut taken: Taken = [0; 16];
+    let mut end = 0;
+    'rows: loop {
+        let before = taken;
+        match put_row(delims, ending, cells, readers, &mut taken, into, end) {
+            Some(next) => end = next,
+            None => return (end, before),
+        }
+    }
+}
+
+// The same for two cells of two readers: how many bytes are taken of each stays in a register from row to row. Out of
+// line, for the same reason.
 #[inline(never)]
 fn put_pairs<A: Allocator, S: Source, R: Source>(
     delims: &Delims<A>,
@@ -218,35 +247,7 @@ fn put_pairs<A: Allocator, S: Source, R: Source>(
     (end, taken)
 }
 
-// Puts as many of the next rows as lie whole in what the readers hold, and in the room. The answer is where they end,
-// and how many bytes they take of each reader. Out of line, so that the loop has all registers.
-#[inline(never)]
-fn put_rows<A: Allocator, S: Source, R: Source>(
-    delims: &Delims<A>,
-    ending: u8,
-    cells: &[usize],
-    readers: &[LineReader<S, R>],
-    into: &mut Written,
-) -> (usize, Taken)
-    requires few { (length readers.now ≤ 16) × (0 < length cells.now) }
-    requires within { All (λ place. place < length readers.now) cells.now }
-    requires readable { AreReadable ending cells.now readers.now }
-    ensures near { result.0 ≤ 8192 }
-    ensures held { Holds readers.now result.1 }
-    ensures rows { PutsRows ending delims.now cells.now readers.now result.1 (take result.0 into.new) }
-{
-    let mut taken: Taken = [0; 16];
-    let mut end = 0;
-    'rows: loop {
-        let before = taken;
-        match put_row(delims, ending, cells, readers, &mut taken, into, end) {
-            Some(next) => end = next,
-            None => return (end, before),
-        }
-    }
-}
-
-// The same, whatever the cells are.
+// The same, by `put_pairs` where there are two cells of two readers.
 #[inline(always)]
 fn put_whole_rows<A: Allocator, S: Source, R: Source>(
     delims: &Delims<A>,
