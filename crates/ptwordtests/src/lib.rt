@@ -8,6 +8,8 @@ mod delims;
 #[cfg(test)]
 mod jobs;
 #[cfg(test)]
+mod meant;
+#[cfg(test)]
 mod numbers;
 #[cfg(test)]
 mod outlist;

@@ -1,6 +1,6 @@
 //! Worked strings of `tr`.
 
-use crate::comparing::{holds_of, same};
+use crate::comparing::holds_of;
 use ptlangs::{
     CharPlan, Form, SetFault, SetFaultKind, SetString, parts_are_of_the_grammar,
     tables_hold_the_plan,
@@ -336,15 +336,16 @@ fn written(alloc: Global, plan: &CharPlan, input: &[u8]) -> Result<Vec<u8>, Allo
     Ok(output)
 }
 
+// Ends the test unless the plan of these strings makes this output of this input.
 fn writes(
     rt: &impl Abort,
     alloc: Global,
+    strings: &(&str, Option<&str>),
     plan: &CharPlan,
-    input: &[u8],
-    output: &[u8],
+    (input, output): (&[u8], &[u8]),
 ) -> Result<(), AllocError> {
     let bytes = written(alloc, plan, input)?;
-    same(rt, &bytes.as_slice(), &output);
+    holds_of(rt, strings, bytes.as_slice() == output);
     Ok(())
 }
 
@@ -354,7 +355,8 @@ fn strings_are_meant(rt: HostRuntime) -> Result<(), Fail> {
         let Some(Ok(plan)) = read(*form, *complement, s1, *s2) else {
             return Err(Fail::from("a string is refused"));
         };
-        writes(&rt, rt.alloc(), &plan, input.as_bytes(), output.as_bytes())?;
+        let texts = (input.as_bytes(), output.as_bytes());
+        writes(&rt, rt.alloc(), &(*s1, *s2), &plan, texts)?;
     }
     Ok(())
 }

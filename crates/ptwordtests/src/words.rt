@@ -1,8 +1,7 @@
-//! Words of all tools; those of `join` and `tr` have files of their own.
+//! The words of each tool and what they mean; those of `join` and `tr` have files of their own.
 
 use crate::comparing::same;
-use crate::words_of_join::{Join, is_join};
-use crate::words_of_tr::{Tr, is_tr};
+use crate::meant::{Files, Job, Meant, expect_meant};
 use ptfakes::Refusing;
 use ptlangs::jobs::{CommJob, Show, UniqJob};
 use ptlangs::ranges::Interval;
@@ -14,79 +13,6 @@ use std::test::Fail;
 
 /// Words, and the fault that is found in them.
 type Refused<'a> = (&'a [&'a str], UseFault<'a>);
-
-/// What words mean.
-#[derive(Clone, Copy)]
-pub enum Meant {
-    /// A command with these files, and this job.
-    Of(Files, Job),
-    /// One over so many inputs.
-    Inputs(usize),
-    /// One whose lines end with byte 0 or not, and descend or not.
-    Lines(bool, bool),
-}
-
-/// The inputs of a command in their order, the names in it, and its output.
-#[derive(Clone, Copy)]
-pub struct Files {
-    pub order: &'static [Input],
-    pub names: &'static [&'static str],
-    pub output: Option<&'static str>,
-}
-
-/// What a command is to do.
-#[derive(Clone, Copy)]
-pub enum Job {
-    Cut(&'static Cut),
-    Paste(&'static Paste),
-    Uniq(UniqJob),
-    Comm(CommJob),
-    Join(&'static Join),
-    Tr(&'static Tr),
-}
-
-/// Reads words, and looks at the command.
-pub fn expect_meant(
-    rt: &impl Abort,
-    alloc: Global,
-    words: &[&str],
-    meant: &Meant,
-) -> Result<(), Fail> {
-    let command = Command::read(alloc, words)?;
-    is_meant(rt, &command, meant);
-    Ok(())
-}
-
-fn is_meant(rt: &impl Abort, command: &Command, meant: &Meant) {
-    match meant {
-        Meant::Of(files, job) => {
-            has_files(rt, command, files);
-            has_job(rt, command, job);
-        }
-        Meant::Inputs(count) => same(rt, &command.inputs().order.len(), count),
-        Meant::Lines(zero, descending) => {
-            same(rt, &ends_and_orders(command), &(*zero, *descending));
-        }
-    }
-}
-
-fn has_job(rt: &impl Abort, command: &Command, job: &Job) {
-    match job {
-        Job::Cut(row) => is_cut(rt, command, row),
-        Job::Paste(row) => is_paste(rt, command, row),
-        Job::Uniq(job) => is_uniq(rt, command, *job),
-        Job::Comm(job) => is_comm(rt, command, *job),
-        Job::Join(row) => is_join(rt, command, row),
-        Job::Tr(row) => is_tr(rt, command, row),
-    }
-}
-
-/// Whether a command has these inputs in this order, and this output.
-fn has_files(rt: &impl Abort, command: &Command, files: &Files) {
-    same(rt, &command.inputs().order.as_slice(), &files.order);
-    same(rt, &command.names(), &files.names);
-    same(rt, &command.output(), &files.output);
-}
 
 /// One row for each fault; all others are proved in ptopts, and the built program is run on them.
 const REFUSED: &[Refused] = &[
@@ -138,6 +64,7 @@ fn refused_words(rt: HostRuntime) {
     }
 }
 
+/// Words, and the job that they mean.
 pub struct Cut {
     words: &'static [&'static str],
     fields: bool,
@@ -163,21 +90,18 @@ const ENDS_AND_ORDERS: &[(&[&str], bool, bool)] = &[
     (&["join", "-r", "-t", ",", "-a", "1", "f", "g"], false, true),
 ];
 
-fn ends_and_orders(command: &Command) -> (bool, bool) {
-    match command {
-        Command::Cut(job, _) => (job.zero, false),
-        Command::Paste(job, _) => (job.zero, false),
-        Command::Uniq(job, _) => (job.zero, false),
-        Command::Comm(job, _) => (job.zero, job.descending),
-        Command::Join(job, _) => (job.zero, job.descending),
-        Command::Tr(_, _) => (false, false),
-    }
-}
-
 #[test]
 fn lines_that_end_with_zero_and_descend(rt: HostRuntime) -> Result<(), Fail> {
     for (words, zero, descending) in ENDS_AND_ORDERS {
-        expect_meant(&rt, rt.alloc(), words, &Meant::Lines(*zero, *descending))?;
+        expect_meant(
+            &rt,
+            rt.alloc(),
+            words,
+            &Meant::Lines {
+                zero: *zero,
+                descending: *descending,
+            },
+        )?;
     }
     Ok(())
 }
@@ -240,7 +164,8 @@ const CUTS: &[Cut] = &[
     },
 ];
 
-fn is_cut(rt: &impl Abort, command: &Command, row: &Cut) {
+/// Ends the test unless a command is this one of `cut`.
+pub fn is_cut(rt: &impl Abort, command: &Command, row: &Cut) {
     let Command::Cut(job, _) = command else {
         return assert!(rt; false);
     };
@@ -292,6 +217,7 @@ fn at_least_one_operand_of_paste(rt: HostRuntime) -> Result<(), Fail> {
     expect_meant(&rt, rt.alloc(), &words[..2], &Meant::Inputs(1))
 }
 
+/// Words, and the job that they mean.
 pub struct Paste {
     words: &'static [&'static str],
     serial: bool,
@@ -317,7 +243,8 @@ const PASTES: &[Paste] = &[
     },
 ];
 
-fn is_paste(rt: &impl Abort, command: &Command, row: &Paste) {
+/// Ends the test unless a command is this one of `paste`.
+pub fn is_paste(rt: &impl Abort, command: &Command, row: &Paste) {
     let Command::Paste(job, _) = command else {
         return assert!(rt; false);
     };
@@ -414,7 +341,8 @@ const UNIQS: &[Uniq] = &[
     },
 ];
 
-fn is_uniq(rt: &impl Abort, command: &Command, wanted: UniqJob) {
+/// Ends the test unless a command is `uniq` with this job.
+pub fn is_uniq(rt: &impl Abort, command: &Command, wanted: UniqJob) {
     match command {
         Command::Uniq(job, _) => same(rt, job, &wanted),
         _ => assert!(rt; false),
@@ -468,7 +396,8 @@ const OF_COMM: Files = Files {
     output: None,
 };
 
-fn is_comm(rt: &impl Abort, command: &Command, wanted: CommJob) {
+/// Ends the test unless a command is `comm` with this job.
+pub fn is_comm(rt: &impl Abort, command: &Command, wanted: CommJob) {
     match command {
         Command::Comm(job, _) => same(rt, job, &wanted),
         _ => assert!(rt; false),
@@ -484,7 +413,8 @@ fn the_words_of_comm(rt: HostRuntime) -> Result<(), Fail> {
     Ok(())
 }
 
-// Whether memory was refused to the reading of words. Else they name these files.
+// Whether memory was refused where words were read, which is the only fault that may be found. Else they name these
+// files.
 fn is_denied<A: Allocator>(
     rt: &impl Abort,
     read: &Result<Command<'_, A>, UseFault<'_>>,

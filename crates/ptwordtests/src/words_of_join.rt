@@ -1,12 +1,13 @@
 //! Words of `join`.
 
 use crate::comparing::same;
-use crate::words::{Files, Job, Meant, expect_meant};
+use crate::meant::{Files, Job, Meant, expect_meant};
 use ptlangs::outlist::{File, OutField};
 use ptopts::{Command, Input};
 use std::process::Abort;
 use std::test::Fail;
 
+/// Words, and the job that they mean.
 pub struct Join {
     words: &'static [&'static str],
     pairs: bool,
@@ -78,7 +79,7 @@ const OF_JOIN: Files = Files {
     output: None,
 };
 
-/// Whether a command is this one of `join`.
+/// Ends the test unless a command is this one of `join`.
 pub fn is_join(rt: &impl Abort, command: &Command, row: &Join) {
     let Command::Join(job, _) = command else {
         return assert!(rt; false);

@@ -1,7 +1,7 @@
 //! Words of `tr`.
 
 use crate::comparing::same;
-use crate::words::{Files, Job, Meant, expect_meant};
+use crate::meant::{Files, Job, Meant, expect_meant};
 use ptopts::{Command, Input};
 use std::process::Abort;
 use std::test::Fail;
@@ -53,7 +53,7 @@ const OF_TR: Files = Files {
     output: None,
 };
 
-/// Whether a command is this one of `tr`.
+/// Ends the test unless a command is this one of `tr`.
 pub fn is_tr(rt: &impl Abort, command: &Command, row: &Tr) {
     let Command::Tr(plan, _) = command else {
         return assert!(rt; false);
