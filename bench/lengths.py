@@ -1,5 +1,7 @@
 """The same commands over inputs of equal size whose lines are of one length, from 0 to 10,000 bytes."""
 
+import functools
+import itertools
 import os
 import shutil
 import statistics
@@ -8,8 +10,7 @@ import chart
 from measuring import FILE, OTHER, RUNS, compare, instructions
 
 LENGTHS = [0, 1, 2, 4, 8, 16, 30, 100, 1000, 10000]
-# An input has so many lines, or fewer where it would have more bytes than this.
-LINES = 3000000
+# What an input has, and the greater one of two.
 SIZE = 32 << 20
 COUNTED_LINES = 30000
 COUNTED_SIZE = 1 << 20
@@ -17,20 +18,37 @@ LETTERS = "abcdefghijklmnopqrstuvwxyz"
 KEY = 8
 
 
+@functools.cache
+def words_of(length):
+    """All words of so many letters, in order."""
+    return ["".join(letters) for letters in itertools.product(LETTERS, repeat=length)]
+
+
 def word(number, length):
     """The number in letters, so that words of one length ascend as their numbers do."""
-    letters = []
-    for _ in range(length):
-        number, last = divmod(number, 26)
-        letters.append(LETTERS[last])
-    return "".join(reversed(letters))
+    if length <= KEY // 2:
+        return words_of(length)[number]
+    first, last = divmod(number, 26 ** (KEY // 2))
+    return words_of(length - KEY // 2)[first] + words_of(KEY // 2)[last]
 
 
-def lines(length, numbers, among, separator):
-    """Lines that ascend: a key of up to 8 letters, and behind it fields of 7 letters. Short ones repeat."""
+def kept(count, lacks):
+    """How many of the first numbers are left without each third one, from this one on; without none, all of them."""
+    return count if lacks is None else count - (count + 2 - lacks) // 3
+
+
+def lines(length, count, lacks, among, separator):
+    """A line for each of the first numbers that are kept. Lines ascend: a key of up to 8 letters, which are `among` in
+    number if so many letters have so many words, and after it fields of 7 letters. Keys that are fewer repeat."""
     key = min(length, KEY)
     rest = ((separator + "xyzxyzx") * (length // 8 + 1))[: length - key] + "\n"
-    return "".join(word(number * 26**key // among, key) + rest for number in numbers)
+    words = 26**key
+    if words >= among:
+        numbers = (it for it in range(count) if lacks is None or it % 3 != lacks)
+        return "".join(word(it * words // among, key) + rest for it in numbers)
+    # The numbers from which on each word stands, and from which on the next one does.
+    ends = [min(-(-it * among // words), count) for it in range(words + 1)]
+    return "".join((word(it, key) + rest) * (kept(ends[it + 1], lacks) - kept(ends[it], lacks)) for it in range(words))
 
 
 def in_thirds(kind):
@@ -39,18 +57,18 @@ def in_thirds(kind):
 
     def made(length, count, separator):
         among = count * 3 // 2
-        first = lines(length, (it for it in range(among) if it % 3 != 2), among, separator)
+        first = lines(length, among, 2, among, separator)
         if kind == "both":
-            return first, lines(length, (it for it in range(among) if it % 3 != 0), among, separator)
+            return first, lines(length, among, 0, among, separator)
         # Each key once: a key of the first that is there many times pairs with one line.
         keys = min(among, 26 ** min(length, KEY))
-        return first, lines(length, (it for it in range(keys) if it % 3 != 0 or keys == 1), keys, separator)
+        return first, lines(length, keys, None if keys == 1 else 0, keys, separator)
 
     return made
 
 
 def alone(length, count, separator):
-    return lines(length, range(count), count, separator), ""
+    return lines(length, count, None, count, separator), ""
 
 
 def fields(length, count, separator):
@@ -102,7 +120,7 @@ def measured(folder, ptext, other, quick):
     counted = shutil.which("valgrind") is not None
     rows = []
     for length in LENGTHS:
-        count = min(LINES, SIZE // (length + 1)) // (10 if quick else 1)
+        count = SIZE // (length + 1) // (10 if quick else 1)
         inputs = {}
         for tool, cases in CASES.items():
             for made, separator, words in cases:
@@ -175,9 +193,8 @@ def run(folder, ptext, other, quick, to):
     part = 10 if quick else 1
     said = (
         "Ratios by the bytes of a line, without its newline, and in brackets the instructions of `ptext` a line.\n"
-        f"{'Each command once' if quick else f'The best of {RUNS} runs'}, over {LINES // part:,} lines or "
-        f"{(SIZE >> 20) / part:g} MB, whichever is less, on {os.cpu_count()} processors; other work on the "
-        f"machine at the start: {load:.1f} of them.\n"
+        f"{'Each command once' if quick else f'The best of {RUNS} runs'}, over {(SIZE >> 20) / part:g} MB, on "
+        f"{os.cpu_count()} processors; other work on the machine at the start: {load:.1f} of them.\n"
         "`OTHER` is the second input, of lines as long; `FILE` is the first once more.\n\n"
     )
     os.makedirs(to, exist_ok=True)
