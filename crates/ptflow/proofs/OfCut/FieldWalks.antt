@@ -85,7 +85,7 @@ module _ (d : ℕ) (all : List Interval) (line tail : List ℕ) where
       apart : AreApart w.low (r ∷ rs)
       apart = subst (λ (l : List Interval). AreApart w.low l) these w.apart
 
-      not_past : number + lead ≤ r.first
+      pub not_past : number + lead ≤ r.first
       not_past = omega (arith, w.low_is, apart.0)
 
       -- the line ends in front of the interval

@@ -12,7 +12,7 @@ use Rattle.ptflow.specs.Cuts.{cut_fields}
 use Rattle.ptflow.specs.Workings.Cut.FieldPlaces.{fields, StartsAt}
 use Rattle.ptflow.proofs.OfBytes.Chosen.{chosen}
 use Rattle.ptflow.proofs.OfPasses.Fronts.{front_starts, front_more, front_fails, front_ends}
-use Rattle.ptflow.proofs.OfCut.FieldWalks.{step_fits, coming, all_coming, walking_starts, walking_done, walking_short, walking_ends, walking_slice, walking_more}
+use Rattle.ptflow.proofs.OfCut.FieldWalks.{not_past, step_fits, coming, all_coming, walking_starts, walking_done, walking_short, walking_ends, walking_slice, walking_more}
 use Rattle.ptflow.proofs.tools.cut.fields.push_fields.Goals as goal
 
 pub loop-interval-init : goal.loop-interval-init
@@ -132,7 +132,13 @@ overflow_add-from g c =
     omega (arith, near, c.requires.short)
 
 pub field_behind-requires-clause-first : goal.field_behind-requires-clause-first
-field_behind-requires-clause-first g c =     subst (λ (l : List ℕ). IsFirstByte (is_byte c.args.job.now.delim) l (Some c.args.first)) (sym (take_all (length c.args.line.now) c.args.line.now (omega arith))) c.requires.first
+field_behind-requires-clause-first g c = subst (λ (l : List ℕ). IsFirstByte (is_byte c.args.job.now.delim) l (Some c.args.first)) (sym (take_all (length c.args.line.now) c.args.line.now (omega arith))) c.requires.first
 
 pub field_behind-requires-in-loop-interval-clause-first : goal.field_behind-requires-in-loop-interval-clause-first
-field_behind-requires-in-loop-interval-clause-first g c =     subst (λ (l : List ℕ). IsFirstByte (is_byte c.args.job.now.delim) l (Some c.args.first)) (sym (take_all (length c.args.line.now) c.args.line.now (omega arith))) c.requires.first
+field_behind-requires-in-loop-interval-clause-first g c = subst (λ (l : List ℕ). IsFirstByte (is_byte c.args.job.now.delim) l (Some c.args.first)) (sym (take_all (length c.args.line.now) c.args.line.now (omega arith))) c.requires.first
+
+pub overflow_add-last : goal.overflow_add-last
+overflow_add-last g c =
+    let l = c.loop-interval in
+    let w = l.invariant.walk in
+    omega (arith, not_past c.args.job.now.delim c.intervals-selected.result.now c.args.line.now [] l.interval-index l.number l.at l.lead w c.loop-interval-test.true, w.low_is)

@@ -9,7 +9,7 @@ use Rattle.ptlangs.specs.declared.ranges.Interval.{Interval}
 use Rattle.ptflow.specs.Workings.Cut.FieldPlaces.{fields}
 use Rattle.ptflow.proofs.OfBytes.Chosen.{chosen}
 use Rattle.ptflow.proofs.OfCut.FieldPlaces.{rest_of, slice_of, line_with_end, put_byte}
-use Rattle.ptflow.proofs.OfCut.FieldWalks.{step_fits, coming, all_coming, walking_starts, walking_done, walking_short, walking_ends, walking_slice, walking_more}
+use Rattle.ptflow.proofs.OfCut.FieldWalks.{not_past, step_fits, coming, all_coming, walking_starts, walking_done, walking_short, walking_ends, walking_slice, walking_more}
 use Rattle.ptflow.proofs.tools.cut.fields.put_fields.Goals as goal
 
 pub loop-interval-init : goal.loop-interval-init
@@ -137,3 +137,17 @@ copy_near-requires-clause-within g c =
     let line = take c.args.to c.args.bytes.now in
     let near = step_fits line l.at c.in-Some.skipped l.invariant.walk.fits c.in-Some.ensures.found in
     (omega (arith, near, length-take-le c.args.to c.args.bytes.now (omega arith), c.requires.within), omega (arith, c.requires.within))
+
+pub overflow_add-last : goal.overflow_add-last
+overflow_add-last g c =
+    let l = c.loop-interval in
+    let w = l.invariant.walk in
+    omega (arith, not_past c.args.job.now.delim c.intervals-selected.result.now (take c.args.to c.args.bytes.now) (take 1 (drop c.args.to c.args.bytes.now)) l.interval-index l.number l.at l.lead w c.loop-interval-test.true, w.low_is)
+
+pub copy_near-requires-in-loop-interval-clause-room : goal.copy_near-requires-in-loop-interval-clause-room
+copy_near-requires-in-loop-interval-clause-room g c =
+    let l = c.loop-interval in
+    let line = take c.args.to c.args.bytes.now in
+    let near = step_fits line l.at c.in-Some.skipped l.invariant.walk.fits c.in-Some.ensures.found in
+    let far = step_fits line (l.at + c.in-Some.skipped) c.in-Some-field_behind.passed near c.in-Some-field_behind.ensures.found in
+    omega (arith, far, l.invariant.high, l.invariant.long, length-take-le c.args.to c.args.bytes.now (omega arith), c.requires.within, c.requires.room)
