@@ -1,7 +1,7 @@
 -- What was staged is sent before each read, so each answer first passes over that. Behind the line that came by way of
 -- the last slot what is staged is sent again, and the lines of the block follow. Each exit is one of the ends of a
 -- pass.
-use Rattle.std.proofs.Common.{ℕ, length, ap, refl, ◌∙◌, subst, arith}
+use Rattle.std.proofs.Common.{ℕ, refl, ◌∙◌, subst, arith}
 use Rattle.std.proofs.lemmas.Result.{err_from_is_err_and}
 use Rattle.ptlines.specs.Text.{IsLine}
 use Rattle.ptflow.proofs.OfPasses.LineLemmas.{run_starts, run_unslotted, run_sent, run_count, run_room, run_unsent, run_line, run_line_halts, filled_count}
@@ -134,15 +134,3 @@ turns-preserved g c =
     let shows = (rw c.in-Ok.is at c.block.follows.holds-at-none.shows) u.reached.goes.fault in
     let rest = c.in_ok-passed-in-Ok.ensures in
     run_block c.requires.tool u c.ending-ending.ensures shows.0 shows.1 rest.passed c.consume.ensures.consumed rest.continues
-
-pub consume-requires : goal.consume-requires
-consume-requires g c =
-    let e = rw (c.in-Ok-true.field-0-test, c.SLOTS-slots.ensures) at (c.in-Ok-true.ensures.fills c.turns.invariant.reached.goes.fault) in
-    let shows = (rw c.in-Ok.is at c.block.follows.holds-at-none.shows) e.goes.fault in
-    omega (arith, c.in_ok-passed-in-Ok.ensures.passed.0, ap length shows.1)
-
-pub take_block-requires-clause-short : goal.take_block-requires-clause-short
-take_block-requires-clause-short g c =
-    let e = rw (c.in-Ok-true.field-0-test, c.SLOTS-slots.ensures) at (c.in-Ok-true.ensures.fills c.turns.invariant.reached.goes.fault) in
-    let shows = (rw c.in-Ok.is at c.block.follows.holds-at-none.shows) e.goes.fault in
-    omega (arith, c.block.follows.holds-at-none.is_sound.held, ap length shows.1)
