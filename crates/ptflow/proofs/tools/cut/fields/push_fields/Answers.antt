@@ -113,7 +113,9 @@ overflow_add-number g c =
     let l = c.loop-interval in
     let line = c.args.line.now in
     let near = step_fits line l.at c.in-Some.skipped l.invariant.walk.fits (found c.args.job.now.delim line _ l.at c.in-Some.skipped c.in-Some.ensures.found) in
-    let far = step_fits line (l.at + c.in-Some.skipped) c.in-Some-field_behind.passed near (found c.args.job.now.delim line _ (l.at + c.in-Some.skipped) c.in-Some-field_behind.passed c.in-Some-field_behind.ensures.found) in
+    let from = l.at + c.in-Some.skipped in
+    let far = step_fits line from c.in-Some-field_behind.passed near
+    (found c.args.job.now.delim line _ from c.in-Some-field_behind.passed c.in-Some-field_behind.ensures.found) in
     omega (arith, far, c.in-Some-field_behind.ensures.found.count, c.in-Some.ensures.found.count, l.invariant.walk.count, c.requires.short)
 
 pub overflow_add-at : goal.overflow_add-at
@@ -121,7 +123,9 @@ overflow_add-at g c =
     let l = c.loop-interval in
     let line = c.args.line.now in
     let near = step_fits line l.at c.in-Some.skipped l.invariant.walk.fits (found c.args.job.now.delim line _ l.at c.in-Some.skipped c.in-Some.ensures.found) in
-    let far = step_fits line (l.at + c.in-Some.skipped) c.in-Some-field_behind.passed near (found c.args.job.now.delim line _ (l.at + c.in-Some.skipped) c.in-Some-field_behind.passed c.in-Some-field_behind.ensures.found) in
+    let from = l.at + c.in-Some.skipped in
+    let far = step_fits line from c.in-Some-field_behind.passed near
+    (found c.args.job.now.delim line _ from c.in-Some-field_behind.passed c.in-Some-field_behind.ensures.found) in
     omega (arith, far, c.requires.short)
 
 pub overflow_add-from : goal.overflow_add-from
@@ -132,10 +136,16 @@ overflow_add-from g c =
     omega (arith, near, c.requires.short)
 
 pub field_behind-requires-clause-first : goal.field_behind-requires-clause-first
-field_behind-requires-clause-first g c = subst (λ (l : List ℕ). IsFirstByte (is_byte c.args.job.now.delim) l (Some c.args.first)) (sym (take_all (length c.args.line.now) c.args.line.now (omega arith))) c.requires.first
+field_behind-requires-clause-first g c =
+    let line = c.args.line.now in
+    subst (λ (l : List ℕ). IsFirstByte (is_byte c.args.job.now.delim) l (Some c.args.first))
+    (sym (take_all (length line) line (omega arith))) c.requires.first
 
 pub field_behind-requires-in-loop-interval-clause-first : goal.field_behind-requires-in-loop-interval-clause-first
-field_behind-requires-in-loop-interval-clause-first g c = subst (λ (l : List ℕ). IsFirstByte (is_byte c.args.job.now.delim) l (Some c.args.first)) (sym (take_all (length c.args.line.now) c.args.line.now (omega arith))) c.requires.first
+field_behind-requires-in-loop-interval-clause-first g c =
+    let line = c.args.line.now in
+    subst (λ (l : List ℕ). IsFirstByte (is_byte c.args.job.now.delim) l (Some c.args.first))
+    (sym (take_all (length line) line (omega arith))) c.requires.first
 
 pub overflow_add-last : goal.overflow_add-last
 overflow_add-last g c =

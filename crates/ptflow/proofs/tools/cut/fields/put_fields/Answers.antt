@@ -98,7 +98,9 @@ overflow_add-number g c =
     let line = take c.args.to c.args.bytes.now in
     let near = step_fits line l.at c.in-Some.skipped l.invariant.walk.fits c.in-Some.ensures.found in
     let far = step_fits line (l.at + c.in-Some.skipped) c.in-Some-field_behind.passed near c.in-Some-field_behind.ensures.found in
-    omega (arith, far, c.in-Some-field_behind.ensures.found.count, c.in-Some.ensures.found.count, l.invariant.walk.count, length-take-le c.args.to c.args.bytes.now (omega arith), c.requires.within, c.requires.short)
+    let s = c.in-Some.ensures.found in
+    let p = c.in-Some-field_behind.ensures.found in
+    omega (arith, far, p.count, s.count, l.invariant.walk.count, length-take-le c.args.to c.args.bytes.now (omega arith), c.requires.within, c.requires.short)
 
 pub overflow_add-end : goal.overflow_add-end
 overflow_add-end g c =
@@ -142,7 +144,13 @@ pub overflow_add-last : goal.overflow_add-last
 overflow_add-last g c =
     let l = c.loop-interval in
     let w = l.invariant.walk in
-    omega (arith, not_past c.args.job.now.delim c.intervals-selected.result.now (take c.args.to c.args.bytes.now) (take 1 (drop c.args.to c.args.bytes.now)) l.interval-index l.number l.at l.lead w c.loop-interval-test.true, w.low_is)
+    let all = c.intervals-selected.result.now in
+    omega (
+      arith,
+      not_past c.args.job.now.delim all (take c.args.to c.args.bytes.now) (take 1 (drop c.args.to c.args.bytes.now)) l.interval-index l.number l.at l.lead w
+          c.loop-interval-test.true,
+      w.low_is,
+    )
 
 pub copy_near-requires-in-loop-interval-clause-room : goal.copy_near-requires-in-loop-interval-clause-room
 copy_near-requires-in-loop-interval-clause-room g c =
