@@ -28,6 +28,10 @@ pub record Walking (d : ℕ) (others : List Interval) (line : List ℕ) (number 
   pub apart : AreApart low others
   pub low_is : low + 1 ≡ number + lead
 
+-- a step ends within the line
+pub step_fits : {d n : ℕ} (line : List ℕ) (at skipped : ℕ) → at ≤ length line → StartsAt d n (drop at line) skipped → at + skipped ≤ length line
+step_fits line at skipped fits s = omega (arith, s.fits, length-drop at line, fits)
+
 -- the selected fields of a line are to come
 pub all_coming : (d : ℕ) (all : List Interval) (line tail : List ℕ) → join_with_byte d (chosen (is_selected all) 1 (fields d line)) ++ tail ≡ coming d all line tail 1 0 0
 all_coming d all line tail = ap (λ (l : List ℕ). l ++ tail) (join_led d (chosen (is_selected all) 1 (fields d line)))
@@ -81,7 +85,7 @@ module _ (d : ℕ) (all : List Interval) (line tail : List ℕ) where
       apart : AreApart w.low (r ∷ rs)
       apart = subst (λ (l : List Interval). AreApart w.low l) these w.apart
 
-      not_past : number + lead ≤ r.first
+      pub not_past : number + lead ≤ r.first
       not_past = omega (arith, w.low_is, apart.0)
 
       -- the line ends in front of the interval

@@ -1,6 +1,6 @@
 -- A tool that works line by line, whatever it carries. What was passed on of the lines that came, and what is made of
 -- the lines to come, is the whole, whatever comes; so midway it is what PassLemmas asks for.
-use Rattle.std.proofs.Common.{◌≡◌, ℕ, ◌+◌, ◌-◌, ◌*◌, ◌≤◌, ◌^◌, true, false, List, [], ◌∷◌, ◌++◌, Ok, Err, length, drop, max, refl, sym, ◌∙◌, ap, subst, arith, append_assoc, length-append}
+use Rattle.std.proofs.Common.{◌≡◌, Bool, ℕ, ◌+◌, ◌-◌, ◌*◌, ◌≤◌, ◌^◌, true, false, List, [], ◌∷◌, ◌++◌, Ok, Err, length, drop, max, refl, sym, ◌∙◌, ap, subst, arith, append_assoc, length-append}
 use Rattle.std.proofs.Math.Nat.{mul-le-mul_left}
 use Rattle.std.proofs.lemmas.Bool.{false≢true}
 use Rattle.std.proofs.lemmas.List.{nil_from_length, get_or-set_same}
@@ -9,7 +9,7 @@ use Rattle.ptlines.specs.Inputs.{Given, whole_lines, Begins, Agrees}
 use Rattle.ptlines.specs.Outputs.{Output, Wrote}
 use Rattle.ptlines.specs.Readers.{Reader, Reads, Goes, IsDone, IsSound, HasReadCause}
 use Rattle.ptlines.specs.Slots.{Slots, line, with_line, with_denied}
-use Rattle.ptlines.specs.Fills.{GivesLine}
+use Rattle.ptlines.specs.Fills.{Fills, GivesLine}
 use Rattle.ptlines.proofs.Filling.{goes_trans}
 use Rattle.ptlines.proofs.Pushed.{wrote_trans}
 use Rattle.ptflow.specs.Tools.{Tool}
@@ -36,6 +36,12 @@ pub record LineRun {S X E : Type 0} (state : S → Slots → X) (rest_from : X �
   pub on : (more : List (List ℕ)) → rest_from (state start first) (ls ++ more) ≡ passed ++ rest_from now more
   pub count : counted now ≤ 1 + length ls
   pub keeps : Keeps width (longest ls) before store
+
+-- what `fill` says where a line came, of the slot before this many
+pub came_line : {slots width : ℕ} {came : Bool} {old new : Reader} {before after : Slots} → slots ≡ width → came ≡ true → Fills old new before after (slots - 1) (Ok came)
+    → GivesLine old new before after (width - 1)
+came_line {slots} {width} {came} {old} {new} {before} {after} same is fills =
+    subst (λ (n : ℕ). GivesLine old new before after (n - 1)) same (subst (λ (b : Bool). Fills old new before after (slots - 1) (Ok b)) is fills)
 
 module _ {S X E : Type 0} {tool : Tool} {state : S → Slots → X} {rest_from : X → List (List ℕ) → List E} {written : List E → List ℕ} {counted : X → ℕ} {end width : ℕ} {start : S}
     (t : IsLineTool tool state rest_from written counted end width start) where

@@ -10,7 +10,7 @@ use Rattle.ptlines.specs.Slots.{Slots, total}
 use Rattle.ptlines.proofs.Filling.{reads_trans}
 use Rattle.ptlines.proofs.Pushed.{wrote_nothing, wrote_trans}
 use Rattle.ptflow.specs.Tools.{Tool}
-use Rattle.ptflow.specs.Passes.{IsReady, Ends, Adds, IsPass}
+use Rattle.ptflow.specs.Passes.{IsReady, Ends, Adds, IsPass, IsBarePass}
 use Rattle.ptlines.specs.KeepingUp.{WorksOff, KeepsUp}
 use Rattle.ptlines.proofs.Sending.{keeps_still, keeps_more}
 use Rattle.ptflow.specs.declared.faults.FlowFault.{FlowFault}
@@ -85,6 +85,41 @@ pass_halted tool old was before ready fault = record {
   unused = λ none. refl;
   halted = λ h. record { told = refl; same_reader = refl; same_output = refl; same_store = refl };
 }
+
+-- a reader whose lines end with another byte from now on is read as it is
+module _ (tool : Tool) (end : ℕ) (old set new : Reader) (was is : Output) (before store : Slots) (same : set ≡ record old { ending = end }) where
+  ends_set : (result : Result (Unit {0}) FlowFault) → Ends (record old { ending = end }) new is store result → Ends old new is store result
+  ends_set (Ok u) e = record { done = e.done; fault = e.fault; failed = e.failed; clean = e.clean; denied = e.denied; empty = e.empty; short = e.short }
+  ends_set (Err (Read place)) e = record { cause = e.cause; clean = e.clean; denied = e.denied; only = e.only }
+  ends_set (Err Write) e = record { faulted = e.faulted; failed = e.failed; denied = e.denied }
+  ends_set (Err Memory) e = record { denied = e.denied; failed = e.failed; clean = e.clean }
+
+  pub pass_set : (result : Result (Unit {0}) FlowFault) → was.faulted ≡ false → IsPass tool set new was is before store result → IsPass tool old new was is before store result
+  pass_set result clean pass =
+      let p = subst (λ (r : Reader). IsPass tool r new was is before store result) same pass in
+      record {
+        given = p.given;
+        came = record { moved = p.came.moved; count = p.came.count; ended = p.came.ended; refused = p.came.refused; still = p.came.still; end = p.came.end };
+        pushed = p.pushed;
+        wrote = p.wrote;
+        ends = ends_set result p.ends;
+        true_so_far = p.true_so_far;
+        sure = p.sure;
+        keeps_up = p.keeps_up;
+        whole = p.whole;
+        peak = p.peak;
+        slots = p.slots;
+        refused = λ fine few. record { same_reader = (p.refused fine few).same_reader; same_output = (p.refused fine few).same_output };
+        unused = p.unused;
+        halted = λ fault. absurd (false≢true (sym clean ∙ fault));
+      }
+
+-- the same, lent no store
+pub bare_set : (tool : Tool) (end : ℕ) (old set new : Reader) (was is : Output) (store : Slots) → set ≡ record old { ending = end } → (result : Result (Unit {0}) FlowFault)
+    → was.faulted ≡ false → IsReady old store → IsBarePass tool set new was is result → IsPass tool old new was is store store result
+bare_set tool end old set new was is store same result clean ready bare =
+    pass_set tool end old set new was is store store same result clean
+    (bare store (subst (λ (r : Reader). IsReady r store) (sym same) (record { opened = ready.opened; readable = ready.readable; roomy = ready.roomy; empty = ready.empty })))
 
 -- the slots were refused
 module _ (tool : Tool) (old : Reader) (was : Output) (before store : Slots) (ready : IsReady old before) (sound : IsSound old) (clean : was.faulted ≡ false)

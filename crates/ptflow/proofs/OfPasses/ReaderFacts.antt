@@ -1,5 +1,5 @@
 -- Facts about readers and outputs that each engine starts from.
-use Rattle.std.proofs.Common.{◌≡◌, ℕ, ◌+◌, ◌<◌, ◌≤◌, false, true, List, [], ◌++◌, None, length, take, drop, refl, sym, ◌∙◌, ap, subst, arith, length-append, length-drop}
+use Rattle.std.proofs.Common.{◌≡◌, ℕ, ◌+◌, ◌<◌, ◌≤◌, ◌^◌, false, true, List, [], ◌++◌, None, length, take, drop, refl, sym, ◌∙◌, ap, subst, arith, length-append, length-drop}
 use Rattle.std.proofs.lemmas.List.{nil_from_length}
 use Rattle.ptlines.specs.Inputs.{Given, Came}
 use Rattle.ptlines.specs.Readers.{Reader, Reads, Goes, IsDone, IsSound, unread, budget}
@@ -58,6 +58,12 @@ pub goes_past : (now shown new : Reader) (block : List ℕ) (count : ℕ) → Go
 goes_past now shown new block count goes held fits consumed =
     goes_trans now shown new [] (take count block) goes
     (subst (λ (b : List ℕ). Goes shown new b) (ap (take count) held) (goes_front shown new count goes.fault (omega (arith, fits, ap length held)) consumed))
+
+-- a block that is not empty was taken
+pub block_less : (now shown new : Reader) (block : List ℕ) → Goes now shown [] → shown.held ≡ block → length shown.held ≤ shown.pulled → (length block ≡ 0 → ⊥)
+    → new ≡ record shown { held = drop (length block) shown.held } → shown.pulled < 2 ^ 63 → budget new < budget now
+block_less now shown new block goes held count some consumed short =
+    omega (arith, goes.reads.count, count, some, ap length held, short, ap (λ (r : Reader). r.pulled) consumed, ap (λ (r : Reader). length r.held) consumed, length-drop (length block) shown.held)
 
 -- a line was given, and behind it some of the next block
 pub budget_less : (old now shown new : Reader) (count : ℕ) → budget now < budget old → Goes now shown [] → new ≡ record shown { held = drop count shown.held } → budget new < budget old

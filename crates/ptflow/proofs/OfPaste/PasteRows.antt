@@ -76,15 +76,15 @@ letters_free zero = tt
 letters_free (suc n) = (λ same. absurd (omega (arith, same)), letters_free n)
 
 -- of a first line that is empty, and enough of the second, the first came two blocks earlier
-line_came : (came : Given) → came.bytes ≡ 10 ∷ replicate 20000 120 → came.ended ≡ false → (b : Before came) → (b.earlier.ended ≡ false) × (whole_lines 10 b.earlier ≡ [] ∷ [])
-line_came came is going b = by_end b.earlier.ended refl
+line_came : (n : ℕ) → 16384 ≤ n → (came : Given) → came.bytes ≡ 10 ∷ replicate n 120 → came.ended ≡ false → (b : Before came) → (b.earlier.ended ≡ false) × (whole_lines 10 b.earlier ≡ [] ∷ [])
+line_came n long came is going b = by_end b.earlier.ended refl
   where
-    by_bytes : (bytes last : List ℕ) → 10 ∷ replicate 20000 120 ≡ bytes ++ last → length last ≤ 16384 → ended_lines 10 bytes ≡ [] ∷ []
-    by_bytes [] last split short = absurd (omega (arith, ap length split, length-replicate {A = ℕ} 20000 120, short))
+    by_bytes : (bytes last : List ℕ) → 10 ∷ replicate n 120 ≡ bytes ++ last → length last ≤ 16384 → ended_lines 10 bytes ≡ [] ∷ []
+    by_bytes [] last split short = absurd (omega (arith, ap length split, length-replicate {A = ℕ} n 120, long, short))
     by_bytes (x ∷ bytes) last split short =
         let first : 10 ≡ x = ap (λ (l : List ℕ). slice_index_or l 0 0) split in
-        let rest : replicate 20000 120 ≡ bytes ++ last = ap (drop 1) split in
-        ap (λ (y : ℕ). ended_lines 10 (y ∷ bytes)) (sym first) ∙ ap (λ (l : List (List ℕ)). [] ∷ l) (ended_none 10 bytes (free_front bytes last (subst (IsLine 10) rest (letters_free 20000))))
+        let rest : replicate n 120 ≡ bytes ++ last = ap (drop 1) split in
+        ap (λ (y : ℕ). ended_lines 10 (y ∷ bytes)) (sym first) ∙ ap (λ (l : List (List ℕ)). [] ∷ l) (ended_none 10 bytes (free_front bytes last (subst (IsLine 10) rest (letters_free n))))
 
     by_end : (e : Bool) → b.earlier.ended ≡ e → (b.earlier.ended ≡ false) × (whole_lines 10 b.earlier ≡ [] ∷ [])
     by_end true ended = absurd (false≢true (sym going ∙ b.ended ended))
@@ -100,7 +100,7 @@ decided_of = paste_decided (job (Some 9 ∷ [])) (0 ∷ 1 ∷ 2 ∷ [])
 -- a paste that pushes nothing of such inputs does not keep up
 no_row_pushed : (was is : Output) → KeepsUp {I = Unit {0}} (λ came. decided_of (put_at 2 (came tt) far_ahead)) (λ u. far_ahead 2) was is [] → ⊥
 no_row_pushed was is k =
-    let then : ((k.works.before tt).earlier.ended ≡ false) × (whole_lines 10 (k.works.before tt).earlier ≡ [] ∷ []) = line_came (far_ahead 2) refl refl (k.works.before tt) in
+    let then : ((k.works.before tt).earlier.ended ≡ false) × (whole_lines 10 (k.works.before tt).earlier ≡ [] ∷ []) = line_came 20000 (omega arith) (far_ahead 2) refl refl (k.works.before tt) in
     let decided : decided_of (put_at 2 (k.works.before tt).earlier far_ahead) ≡ codes "a\t\t\n" =
     λ i. sheet (job (Some 9 ∷ [])) (known_rows (columns (0 ∷ 1 ∷ 2 ∷ []) (λ place. slice_index_or ((codes "a" ∷ []) ∷ [] ∷ then.1 i ∷ []) place [])) (true ∷ true ∷ then.0 i ∷ [])) in
     absurd (omega (arith, ap length k.works.begins.is, ap length decided, length-append (decided_of (put_at 2 (k.works.before tt).earlier far_ahead)) k.works.begins.rest))

@@ -1,12 +1,12 @@
 -- A turn takes one block, and what the tool says of that block carries the invariant on. Each way out is a lemma of
 -- `PassLemmas` or of `BlockLemmas`. The budget falls, since a block that is not empty was consumed.
 use Rattle.std.proofs.Common.{◌≡◌, ℕ, List, [], ◌++◌, length, refl, sym, ◌∙◌, ap, append_assoc, arith}
-use Rattle.std.proofs.lemmas.Bool.{eqb-true}
+use Rattle.std.proofs.lemmas.Bool.{eqb-true, eqb-false}
 use Rattle.std.proofs.lemmas.List.{nil_from_length}
 use Rattle.std.proofs.lemmas.Result.{err_from_is_err_and}
 use Rattle.ptflow.proofs.OfPasses.BlockLemmas.{midway_starts, midway_more, counted_block, counted_more, block_read, block_write, block_unsent, block_done, block_unended}
 use Rattle.ptflow.proofs.OfPasses.PassLemmas.{midway_sent}
-use Rattle.ptflow.proofs.OfPasses.ReaderFacts.{goes_nothing}
+use Rattle.ptflow.proofs.OfPasses.ReaderFacts.{goes_nothing, block_less}
 use Rattle.ptflow.proofs.blocks.over_blocks.Goals as goal
 
 pub turns-init : goal.turns-init
@@ -114,3 +114,11 @@ turns-preserved g c =
 
 pub push_block-requires-clause-holds : goal.push_block-requires-clause-holds
 push_block-requires-clause-holds g c = (c.args.tool.now, c.turns.invariant.holds)
+
+pub turns-smaller : goal.turns-smaller
+turns-smaller g c =
+    let shown = c.block.follows.lender-at-none in
+    let shows = (rw c.in-Ok.is at c.block.follows.holds-at-none.shows) c.turns.invariant.midway.reached.goes.fault in
+    let some = eqb-false (length c.in-Ok.block.now) 0 (sym c.is_empty.ensures ∙ c.if-is_empty.false) in
+    block_less c.turns.reader shown c.consume.new.self c.in-Ok.block.now shows.0 shows.1 c.block.follows.holds-at-none.is_sound.count some c.consume.ensures.consumed
+    (c.block.follows.holds-at-none.is_sound.long shows.0.fault)

@@ -4,7 +4,7 @@
 use Rattle.std.proofs.Common.{ℕ, refl, ◌∙◌, subst, arith}
 use Rattle.std.proofs.lemmas.Result.{err_from_is_err_and}
 use Rattle.ptlines.specs.Text.{IsLine}
-use Rattle.ptflow.proofs.OfPasses.LineLemmas.{run_starts, run_unslotted, run_sent, run_count, run_room, run_unsent, run_line, run_line_halts, filled_count}
+use Rattle.ptflow.proofs.OfPasses.LineLemmas.{came_line, run_starts, run_unslotted, run_sent, run_count, run_room, run_unsent, run_line, run_line_halts, filled_count}
 use Rattle.ptflow.proofs.OfPasses.LineLemmas.{run_broken, run_memory, run_no_block, run_done, run_unended, run_block, run_block_halts}
 use Rattle.ptflow.proofs.OfPasses.ReaderFacts.{budget_less}
 use Rattle.ptflow.proofs.OfPasses.SlotFacts.{keeps_starts}
@@ -32,13 +32,13 @@ returns-in_err-send_before_wait g c =
 pub take_line-requires-clause-few : goal.take_line-requires-clause-few
 take_line-requires-clause-few g c =
     let r = run_sent c.requires.tool c.turns.invariant c.send_before_wait.ensures.wrote c.in_ok-send_before_wait.ensures.clean in
-    let e = rw (c.in-Ok-true.field-0-test, c.SLOTS-slots.ensures) at (c.in-Ok-true.ensures.fills r.reached.goes.fault) in
+    let e = came_line c.SLOTS-slots.ensures c.in-Ok-true.field-0-test (c.in-Ok-true.ensures.fills r.reached.goes.fault) in
     filled_count c.requires.tool r c.requires.sound c.fill.ensures.was_sound e.line e.stored
 
 pub returns-in_err-take_line-in-Ok-true : goal.returns-in_err-take_line-in-Ok-true
 returns-in_err-take_line-in-Ok-true g c =
     let r = run_sent c.requires.tool c.turns.invariant c.send_before_wait.ensures.wrote c.in_ok-send_before_wait.ensures.clean in
-    let e = rw (c.in-Ok-true.field-0-test, c.SLOTS-slots.ensures) at (c.in-Ok-true.ensures.fills r.reached.goes.fault) in
+    let e = came_line c.SLOTS-slots.ensures c.in-Ok-true.field-0-test (c.in-Ok-true.ensures.fills r.reached.goes.fault) in
     let x = err_from_is_err_and c.from_residual-in_err-take_line-in-Ok-true.result c.from_residual-in_err-take_line-in-Ok-true.ensures.1 in
     rw (x.1, x.2, c.in_err-take_line-in-Ok-true.ensures.same)
     (run_line_halts c.requires.tool r e c.requires.ready c.fill.ensures.was_sound c.fill.ensures.is_sound c.in_err-take_line-in-Ok-true.ensures.halts)
@@ -75,7 +75,7 @@ returns-in-Err-Memory g c =
 pub returns-in_err-send_before_wait-2 : goal.returns-in_err-send_before_wait-2
 returns-in_err-send_before_wait-2 g c =
     let r = run_sent c.requires.tool c.turns.invariant c.send_before_wait.ensures.wrote c.in_ok-send_before_wait.ensures.clean in
-    let e = rw (c.in-Ok-true.field-0-test, c.SLOTS-slots.ensures) at (c.in-Ok-true.ensures.fills r.reached.goes.fault) in
+    let e = came_line c.SLOTS-slots.ensures c.in-Ok-true.field-0-test (c.in-Ok-true.ensures.fills r.reached.goes.fault) in
     let took = c.in_ok-take_line-in-Ok-true.ensures in
     let v = run_line c.requires.tool r e took.continues took.swapped in
     let x = err_from_is_err_and c.from_residual-in_err-send_before_wait-2.result c.from_residual-in_err-send_before_wait-2.ensures.1 in
@@ -83,7 +83,7 @@ returns-in_err-send_before_wait-2 g c =
 
 pub turns-smaller : goal.turns-smaller
 turns-smaller g c =
-    let e = rw (c.in-Ok-true.field-0-test, c.SLOTS-slots.ensures) at (c.in-Ok-true.ensures.fills c.turns.invariant.reached.goes.fault) in
+    let e = came_line c.SLOTS-slots.ensures c.in-Ok-true.field-0-test (c.in-Ok-true.ensures.fills c.turns.invariant.reached.goes.fault) in
     let shown = c.block.follows.lender-at-none in
     let shows = (rw c.in-Ok.is at c.block.follows.holds-at-none.shows) e.goes.fault in
     budget_less c.turns.reader c.fill.new.self shown c.consume.new.self c.in_ok-passed-in-Ok.passed e.less shows.0 c.consume.ensures.consumed
@@ -91,21 +91,21 @@ turns-smaller g c =
 pub take_block-requires-clause-open : goal.take_block-requires-clause-open
 take_block-requires-clause-open g c =
     let r = run_sent c.requires.tool c.turns.invariant c.send_before_wait.ensures.wrote c.in_ok-send_before_wait.ensures.clean in
-    let e = rw (c.in-Ok-true.field-0-test, c.SLOTS-slots.ensures) at (c.in-Ok-true.ensures.fills r.reached.goes.fault) in
+    let e = came_line c.SLOTS-slots.ensures c.in-Ok-true.field-0-test (c.in-Ok-true.ensures.fills r.reached.goes.fault) in
     let took = c.in_ok-take_line-in-Ok-true.ensures in
     (took.continues.some (omega arith), run_count c.requires.tool (run_line c.requires.tool r e took.continues took.swapped) c.requires.sound c.fill.ensures.is_sound)
 
 pub take_block-requires-clause-slots : goal.take_block-requires-clause-slots
 take_block-requires-clause-slots g c =
     let r = run_sent c.requires.tool c.turns.invariant c.send_before_wait.ensures.wrote c.in_ok-send_before_wait.ensures.clean in
-    let e = rw (c.in-Ok-true.field-0-test, c.SLOTS-slots.ensures) at (c.in-Ok-true.ensures.fills r.reached.goes.fault) in
+    let e = came_line c.SLOTS-slots.ensures c.in-Ok-true.field-0-test (c.in-Ok-true.ensures.fills r.reached.goes.fault) in
     let took = c.in_ok-take_line-in-Ok-true.ensures in
     run_room c.requires.tool (run_line c.requires.tool r e took.continues took.swapped)
 
 pub returns-in_err-passed-in-Ok : goal.returns-in_err-passed-in-Ok
 returns-in_err-passed-in-Ok g c =
     let r = run_sent c.requires.tool c.turns.invariant c.send_before_wait.ensures.wrote c.in_ok-send_before_wait.ensures.clean in
-    let e = rw (c.in-Ok-true.field-0-test, c.SLOTS-slots.ensures) at (c.in-Ok-true.ensures.fills r.reached.goes.fault) in
+    let e = came_line c.SLOTS-slots.ensures c.in-Ok-true.field-0-test (c.in-Ok-true.ensures.fills r.reached.goes.fault) in
     let took = c.in_ok-take_line-in-Ok-true.ensures in
     let v = run_line c.requires.tool r e took.continues took.swapped in
     let u = run_sent c.requires.tool v c.send_before_wait-in-turns.ensures.wrote c.in_ok-send_before_wait-2.ensures.clean in
@@ -117,7 +117,7 @@ returns-in_err-passed-in-Ok g c =
 pub returns-in-Err : goal.returns-in-Err
 returns-in-Err g c =
     let r = run_sent c.requires.tool c.turns.invariant c.send_before_wait.ensures.wrote c.in_ok-send_before_wait.ensures.clean in
-    let e = rw (c.in-Ok-true.field-0-test, c.SLOTS-slots.ensures) at (c.in-Ok-true.ensures.fills r.reached.goes.fault) in
+    let e = came_line c.SLOTS-slots.ensures c.in-Ok-true.field-0-test (c.in-Ok-true.ensures.fills r.reached.goes.fault) in
     let took = c.in_ok-take_line-in-Ok-true.ensures in
     let v = run_line c.requires.tool r e took.continues took.swapped in
     let u = run_sent c.requires.tool v c.send_before_wait-in-turns.ensures.wrote c.in_ok-send_before_wait-2.ensures.clean in
@@ -127,7 +127,7 @@ returns-in-Err g c =
 pub turns-preserved : goal.turns-preserved
 turns-preserved g c =
     let r = run_sent c.requires.tool c.turns.invariant c.send_before_wait.ensures.wrote c.in_ok-send_before_wait.ensures.clean in
-    let e = rw (c.in-Ok-true.field-0-test, c.SLOTS-slots.ensures) at (c.in-Ok-true.ensures.fills r.reached.goes.fault) in
+    let e = came_line c.SLOTS-slots.ensures c.in-Ok-true.field-0-test (c.in-Ok-true.ensures.fills r.reached.goes.fault) in
     let took = c.in_ok-take_line-in-Ok-true.ensures in
     let v = run_line c.requires.tool r e took.continues took.swapped in
     let u = run_sent c.requires.tool v c.send_before_wait-in-turns.ensures.wrote c.in_ok-send_before_wait-2.ensures.clean in

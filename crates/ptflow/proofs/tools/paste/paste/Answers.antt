@@ -1,7 +1,9 @@
 -- Each row was passed, by one way or the other, and then the invariant holds again; where none was passed, nothing
 -- happened or the readers are done.
-use Rattle.std.proofs.Common.{◌≡◌, ℕ, Bool, true, Ok, Err, [], ◌∷◌, ◌++◌, length, take, sym, ◌∙◌, ap, subst, arith}
+use Rattle.std.proofs.Common.{◌≡◌, ◌<◌, ℕ, List, Bool, true, Ok, Err, [], ◌∷◌, ◌++◌, length, take, sym, ◌∙◌, ap, subst, arith}
 use Rattle.std.proofs.lemmas.Result.{err_from_is_err_and}
+use Rattle.std.specs.Prelude.{sum_by}
+use Rattle.ptlines.specs.Readers.{Reader, budget}
 use Rattle.ptlines.specs.Outputs.{Wrote}
 use Rattle.ptlangs.specs.Jobs.{paste_job, ending}
 use Rattle.ptflow.specs.Pastes.{glued_from}
@@ -171,3 +173,12 @@ pass_held_rows-requires-clause-within g c = λ k d low. omega (arith, c.requires
 pub fill_row-requires-clause-within : goal.fill_row-requires-clause-within
 fill_row-requires-clause-within g c =
     λ k d low. omega (arith, c.requires.within k d low, c.pass_held_rows.auto.readers, c.rows.auto.readers, c.set_endings.auto.readers)
+
+pub rows-smaller : goal.rows-smaller
+rows-smaller g c =
+    let still = subst (λ (t : Bool). PassesRows c.if-job.ending c.args.job.now.delims c.args.cells.now c.rows.readers c.pass_held_rows.new.readers c.rows.out
+    c.pass_held_rows.new.out (Ok t)) c.if-branch.false c.in_ok-pass_held_rows.ensures in
+    subst (λ (rs : List Reader). sum_by budget c.fill_row.new.readers < sum_by budget rs) still.0 (c.in_ok-fill_row.ensures.fills.less c.if-not-branch.false)
+
+pub set_endings-requires : goal.set_endings-requires
+set_endings-requires g c = c.requires.within

@@ -1,6 +1,8 @@
-use Rattle.std.proofs.Common.{◌≡◌, ◌<◌, ℕ, Bool, true, false, cond, length, get_or, refl, ◌∙◌, arith}
+use Rattle.std.proofs.Common.{◌≡◌, ◌<◌, ℕ, List, subst, Bool, true, false, cond, length, get_or, refl, ◌∙◌, arith}
+use Rattle.std.proofs.lemmas.List.{take_all}
 use Rattle.std.proofs.lemmas.List.Elements.{All-get_or}
 use Rattle.ptlangs.specs.Jobs.{ending}
+use Rattle.ptflow.specs.Workings.Paste.RowTurns.{AreSet}
 use borrow.Author.Rules.{scaled_Fits}
 use Rattle.ptflow.proofs.OfPaste.RowTurns.{at_index, set_more}
 use Rattle.ptflow.proofs.tools.paste.set_endings.Goals as goal
@@ -27,3 +29,8 @@ pub offset_bounds-readers-place : goal.offset_bounds-readers-place
 offset_bounds-readers-place g c =
     let low = All-get_or (λ (p : ℕ). p < length c.args.readers.now) c.args.cells.now c.loop-place.place-index 0 c.loop-place-test.true c.requires in
     search (scaled_Fits, low)
+
+pub returns : goal.returns
+returns g c =
+    subst (λ (l : List ℕ). AreSet (ending c.args.zero) l c.args.readers.now c.loop-place.readers)
+    (take_all c.loop-place.place-index c.args.cells.now c.loop-place-test.false) c.loop-place.invariant

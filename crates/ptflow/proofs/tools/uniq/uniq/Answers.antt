@@ -1,7 +1,7 @@
 use Rattle.std.proofs.Common.{◌≡◌, Bool, true, false, cond, refl, sym, ◌∙◌}
 use Rattle.ptlangs.specs.Jobs.{ending, uniq_job}
 use Rattle.ptflow.specs.Uniqs.{uniq_tool}
-use Rattle.ptflow.proofs.OfPasses.PassLemmas.{pass_halted}
+use Rattle.ptflow.proofs.OfPasses.PassLemmas.{pass_halted, pass_set}
 use Rattle.ptflow.proofs.OfUniq.OpenLines.{uniq_line_tool}
 use Rattle.ptflow.proofs.tools.uniq.uniq.Goals as goal
 
@@ -14,3 +14,8 @@ ends false = refl
 
 pub over_lines-requires-clause-tool : goal.over_lines-requires-clause-tool
 over_lines-requires-clause-tool g c = rw (c.set_ending.ensures.set, ends c.args.job.now.zero) (uniq_line_tool (uniq_job c.args.job.now) _ refl)
+
+pub returns : goal.returns
+returns g c =
+    pass_set (uniq_tool (uniq_job c.args.job.now)) (cond c.args.job.now.zero 0 10) c.args.reader.now c.set_ending.new.self c.over_lines.new.reader c.args.out.now c.over_lines.new.out
+    c.args.store.now c.over_lines.new.store c.set_ending.ensures.set c.over_lines.result (sym c.has_failed.ensures ∙ c.if-has_failed.false) c.over_lines.ensures

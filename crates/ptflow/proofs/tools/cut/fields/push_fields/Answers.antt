@@ -1,8 +1,9 @@
 -- As in `put_fields`, an interval is walked in two steps, to its first field and behind its last one. But its slice is
 -- pushed, and a push may fail: then what was pushed is a beginning of the selected fields.
-use Rattle.std.proofs.Common.{◌+◌, ◌-◌, ◌≤◌, ◌++◌, ℕ, List, [], take, drop, get_or, length, refl, sym, ◌∙◌, ap, subst, arith}
+use Rattle.std.proofs.Common.{Some, ◌+◌, ◌-◌, ◌≤◌, ◌++◌, ℕ, List, [], take, drop, get_or, length, refl, sym, ◌∙◌, ap, subst, arith}
 use Rattle.std.proofs.lemmas.List.{take_all, take_rest, drop_all, append-nil}
 use Rattle.std.specs.List.{join_with_byte}
+use Rattle.memchr.specs.Find.{IsFirstByte, is_byte}
 use Rattle.ptlines.proofs.Pushed.{wrote_nothing}
 use Rattle.ptlangs.specs.CutLists.{is_selected}
 use Rattle.ptlangs.specs.Jobs.{cut_job}
@@ -11,7 +12,7 @@ use Rattle.ptflow.specs.Cuts.{cut_fields}
 use Rattle.ptflow.specs.Workings.Cut.FieldPlaces.{fields, StartsAt}
 use Rattle.ptflow.proofs.OfBytes.Chosen.{chosen}
 use Rattle.ptflow.proofs.OfPasses.Fronts.{front_starts, front_more, front_fails, front_ends}
-use Rattle.ptflow.proofs.OfCut.FieldWalks.{coming, all_coming, walking_starts, walking_done, walking_short, walking_ends, walking_slice, walking_more}
+use Rattle.ptflow.proofs.OfCut.FieldWalks.{not_past, step_fits, coming, all_coming, walking_starts, walking_done, walking_short, walking_ends, walking_slice, walking_more}
 use Rattle.ptflow.proofs.tools.cut.fields.push_fields.Goals as goal
 
 pub loop-interval-init : goal.loop-interval-init
@@ -106,3 +107,48 @@ returns-clause-wrote g c =
     let l = c.loop-interval in
     front_ends (cut_fields (cut_job c.args.job.now) line) (coming d (drop l.interval-index all) line [] l.number l.at l.lead) c.args.out.now l.out l.invariant.front l.out []
     (walking_done d all line [] l.interval-index l.number l.at l.lead l.invariant.walk c.loop-interval-test.false) (wrote_nothing l.out)
+
+pub overflow_add-number : goal.overflow_add-number
+overflow_add-number g c =
+    let l = c.loop-interval in
+    let line = c.args.line.now in
+    let near = step_fits line l.at c.in-Some.skipped l.invariant.walk.fits (found c.args.job.now.delim line _ l.at c.in-Some.skipped c.in-Some.ensures.found) in
+    let from = l.at + c.in-Some.skipped in
+    let far = step_fits line from c.in-Some-field_behind.passed near
+    (found c.args.job.now.delim line _ from c.in-Some-field_behind.passed c.in-Some-field_behind.ensures.found) in
+    omega (arith, far, c.in-Some-field_behind.ensures.found.count, c.in-Some.ensures.found.count, l.invariant.walk.count, c.requires.short)
+
+pub overflow_add-at : goal.overflow_add-at
+overflow_add-at g c =
+    let l = c.loop-interval in
+    let line = c.args.line.now in
+    let near = step_fits line l.at c.in-Some.skipped l.invariant.walk.fits (found c.args.job.now.delim line _ l.at c.in-Some.skipped c.in-Some.ensures.found) in
+    let from = l.at + c.in-Some.skipped in
+    let far = step_fits line from c.in-Some-field_behind.passed near
+    (found c.args.job.now.delim line _ from c.in-Some-field_behind.passed c.in-Some-field_behind.ensures.found) in
+    omega (arith, far, c.requires.short)
+
+pub overflow_add-from : goal.overflow_add-from
+overflow_add-from g c =
+    let l = c.loop-interval in
+    let line = c.args.line.now in
+    let near = step_fits line l.at c.in-Some.skipped l.invariant.walk.fits (found c.args.job.now.delim line _ l.at c.in-Some.skipped c.in-Some.ensures.found) in
+    omega (arith, near, c.requires.short)
+
+pub field_behind-requires-clause-first : goal.field_behind-requires-clause-first
+field_behind-requires-clause-first g c =
+    let line = c.args.line.now in
+    subst (λ (l : List ℕ). IsFirstByte (is_byte c.args.job.now.delim) l (Some c.args.first))
+    (sym (take_all (length line) line (omega arith))) c.requires.first
+
+pub field_behind-requires-in-loop-interval-clause-first : goal.field_behind-requires-in-loop-interval-clause-first
+field_behind-requires-in-loop-interval-clause-first g c =
+    let line = c.args.line.now in
+    subst (λ (l : List ℕ). IsFirstByte (is_byte c.args.job.now.delim) l (Some c.args.first))
+    (sym (take_all (length line) line (omega arith))) c.requires.first
+
+pub overflow_add-last : goal.overflow_add-last
+overflow_add-last g c =
+    let l = c.loop-interval in
+    let w = l.invariant.walk in
+    omega (arith, not_past c.args.job.now.delim c.intervals-selected.result.now c.args.line.now [] l.interval-index l.number l.at l.lead w c.loop-interval-test.true, w.low_is)

@@ -9,7 +9,7 @@ use Rattle.ptlangs.specs.declared.ranges.Interval.{Interval}
 use Rattle.ptflow.specs.Workings.Cut.FieldPlaces.{fields}
 use Rattle.ptflow.proofs.OfBytes.Chosen.{chosen}
 use Rattle.ptflow.proofs.OfCut.FieldPlaces.{rest_of, slice_of, line_with_end, put_byte}
-use Rattle.ptflow.proofs.OfCut.FieldWalks.{coming, all_coming, walking_starts, walking_done, walking_short, walking_ends, walking_slice, walking_more}
+use Rattle.ptflow.proofs.OfCut.FieldWalks.{not_past, step_fits, coming, all_coming, walking_starts, walking_done, walking_short, walking_ends, walking_slice, walking_more}
 use Rattle.ptflow.proofs.tools.cut.fields.put_fields.Goals as goal
 
 pub loop-interval-init : goal.loop-interval-init
@@ -91,3 +91,71 @@ returns-clause-put g c =
     (take 1 (drop to bytes)) l.interval-index l.number l.at l.lead l.invariant.walk c.loop-interval-test.false in
     put_byte l.room bytes l.end to (omega (arith, l.invariant.high, l.invariant.long, l.invariant.walk.fits, length-take-le to bytes (omega arith))) c.requires.within
     ∙ ap (λ (b : List ℕ). take l.end l.room ++ b) (sym same) ∙ sym l.invariant.put
+
+pub overflow_add-number : goal.overflow_add-number
+overflow_add-number g c =
+    let l = c.loop-interval in
+    let line = take c.args.to c.args.bytes.now in
+    let near = step_fits line l.at c.in-Some.skipped l.invariant.walk.fits c.in-Some.ensures.found in
+    let far = step_fits line (l.at + c.in-Some.skipped) c.in-Some-field_behind.passed near c.in-Some-field_behind.ensures.found in
+    let s = c.in-Some.ensures.found in
+    let p = c.in-Some-field_behind.ensures.found in
+    omega (arith, far, p.count, s.count, l.invariant.walk.count, length-take-le c.args.to c.args.bytes.now (omega arith), c.requires.within, c.requires.short)
+
+pub overflow_add-end : goal.overflow_add-end
+overflow_add-end g c =
+    let l = c.loop-interval in
+    let line = take c.args.to c.args.bytes.now in
+    let near = step_fits line l.at c.in-Some.skipped l.invariant.walk.fits c.in-Some.ensures.found in
+    let far = step_fits line (l.at + c.in-Some.skipped) c.in-Some-field_behind.passed near c.in-Some-field_behind.ensures.found in
+    omega (arith, far, l.invariant.high, length-take-le c.args.to c.args.bytes.now (omega arith), c.requires.within, c.requires.room)
+
+pub overflow_add-at : goal.overflow_add-at
+overflow_add-at g c =
+    let l = c.loop-interval in
+    let line = take c.args.to c.args.bytes.now in
+    let near = step_fits line l.at c.in-Some.skipped l.invariant.walk.fits c.in-Some.ensures.found in
+    let far = step_fits line (l.at + c.in-Some.skipped) c.in-Some-field_behind.passed near c.in-Some-field_behind.ensures.found in
+    omega (arith, far, length-take-le c.args.to c.args.bytes.now (omega arith), c.requires.within, c.requires.short)
+
+pub overflow_add-from : goal.overflow_add-from
+overflow_add-from g c =
+    let l = c.loop-interval in
+    let line = take c.args.to c.args.bytes.now in
+    let near = step_fits line l.at c.in-Some.skipped l.invariant.walk.fits c.in-Some.ensures.found in
+    omega (arith, near, length-take-le c.args.to c.args.bytes.now (omega arith), c.requires.within, c.requires.short)
+
+pub copy_near-requires-in-loop-interval-clause-within : goal.copy_near-requires-in-loop-interval-clause-within
+copy_near-requires-in-loop-interval-clause-within g c =
+    let l = c.loop-interval in
+    let line = take c.args.to c.args.bytes.now in
+    let near = step_fits line l.at c.in-Some.skipped l.invariant.walk.fits c.in-Some.ensures.found in
+    let far = step_fits line (l.at + c.in-Some.skipped) c.in-Some-field_behind.passed near c.in-Some-field_behind.ensures.found in
+    (omega (arith, c.in-Some-field_behind.ensures.found.count), omega (arith, far, length-take-le c.args.to c.args.bytes.now (omega arith), c.requires.within))
+
+pub copy_near-requires-clause-within : goal.copy_near-requires-clause-within
+copy_near-requires-clause-within g c =
+    let l = c.loop-interval in
+    let line = take c.args.to c.args.bytes.now in
+    let near = step_fits line l.at c.in-Some.skipped l.invariant.walk.fits c.in-Some.ensures.found in
+    (omega (arith, near, length-take-le c.args.to c.args.bytes.now (omega arith), c.requires.within), omega (arith, c.requires.within))
+
+pub overflow_add-last : goal.overflow_add-last
+overflow_add-last g c =
+    let l = c.loop-interval in
+    let w = l.invariant.walk in
+    let all = c.intervals-selected.result.now in
+    omega (
+      arith,
+      not_past c.args.job.now.delim all (take c.args.to c.args.bytes.now) (take 1 (drop c.args.to c.args.bytes.now)) l.interval-index l.number l.at l.lead w
+          c.loop-interval-test.true,
+      w.low_is,
+    )
+
+pub copy_near-requires-in-loop-interval-clause-room : goal.copy_near-requires-in-loop-interval-clause-room
+copy_near-requires-in-loop-interval-clause-room g c =
+    let l = c.loop-interval in
+    let line = take c.args.to c.args.bytes.now in
+    let near = step_fits line l.at c.in-Some.skipped l.invariant.walk.fits c.in-Some.ensures.found in
+    let far = step_fits line (l.at + c.in-Some.skipped) c.in-Some-field_behind.passed near c.in-Some-field_behind.ensures.found in
+    omega (arith, far, l.invariant.high, l.invariant.long, length-take-le c.args.to c.args.bytes.now (omega arith), c.requires.within, c.requires.room)

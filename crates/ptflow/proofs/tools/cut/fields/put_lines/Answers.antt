@@ -2,6 +2,7 @@
 -- another, or passed over.
 use Rattle.std.proofs.Common.{◌≡◌, ◌+◌, ◌-◌, ◌++◌, ℕ, Some, take, length, sym, subst, arith}
 use Rattle.std.specs.Prelude.{unwrap_or}
+use Rattle.memchr.specs.Find.{IsFirstByte, is_byte}
 use Rattle.ptlines.specs.Text.{IsLine}
 use Rattle.ptlangs.specs.Jobs.{cut_job}
 use Rattle.ptflow.specs.Cuts.{cut_fields}
@@ -43,3 +44,10 @@ returns-clause-put g c =
     puts_kept (cut_job c.args.job.now) c.requires.by_fields c.args.ending c.requires.ending bytes c.args.to c.requires.first size.result
     c.unwrap_or-first.result size.ensures.within.0 size.ensures.within.1 size.ensures.ended
     size.ensures.up_to c.if-first-to.false free (take c.args.start c.args.room.now) (take (c.args.start + size.result) c.copy_near.new.into) c.if-job.false copied
+
+pub put_fields-requires-clause-first : goal.put_fields-requires-clause-first
+put_fields-requires-clause-first g c =
+    let bytes = c.args.bytes.now in
+    let d = c.args.job.now.delim in
+    subst (λ (n : ℕ). IsFirstByte (is_byte d) (take c.args.to bytes) (Some n)) (sym c.unwrap_or-first.ensures)
+    (first_within d bytes c.find_near.result c.args.to c.find_near.ensures (omega (arith, c.unwrap_or-first.ensures, c.if-first-to.true)) (omega (arith, c.requires.first.0.high)))

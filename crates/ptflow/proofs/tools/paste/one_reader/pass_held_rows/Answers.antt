@@ -65,3 +65,15 @@ consume-requires g c =
     let low = All-get_or (λ (p : ℕ). p < length readers) c.args.cells.now 0 0 ((rw c.in-Some.is at c.requires.in_turn).0).some c.requires.within in
     let same = at_index readers place c.index-readers-place.result low ∙ sym (at_index readers place c.index-readers-place-2.result low) in
     omega (arith, c.put_held_rows-count.ensures.within, ap length (c.held-bytes.ensures.held ∙ ap (λ (r : Reader). r.held) same))
+
+pub put_held_rows-count-requires-clause-spread : goal.put_held_rows-count-requires-clause-spread
+put_held_rows-count-requires-clause-spread g c = rw (c.deref.ensures.0, c.deref-2.ensures.0) ((rw c.in-Some.is at c.requires.in_turn).1)
+
+pub put_held_rows-count-requires-clause-room : goal.put_held_rows-count-requires-clause-room
+put_held_rows-count-requires-clause-room g c = omega (arith, c.held-bytes.ensures.sound.held, ap length c.held-bytes.ensures.held)
+
+pub pass_rows-requires-clause-within : goal.pass_rows-requires-clause-within
+pass_rows-requires-clause-within g c = c.requires.within
+
+pub bounds-cells-0 : goal.bounds-cells-0
+bounds-cells-0 g c = ((rw c.in-Some.is at c.requires.in_turn).0).some

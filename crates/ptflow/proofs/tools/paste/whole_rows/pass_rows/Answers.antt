@@ -35,3 +35,9 @@ returns g c =
       },
       c.in_ok-push.ensures.clean,
     )
+
+pub consume_taken-requires-clause-held : goal.consume_taken-requires-clause-held
+consume_taken-requires-clause-held g c = c.put_whole_rows-end.ensures.held
+
+pub put_whole_rows-end-requires-clause-within : goal.put_whole_rows-end-requires-clause-within
+put_whole_rows-end-requires-clause-within g c = c.requires.within

@@ -175,3 +175,11 @@ returns-clause-kept g c =
 
 pub bounds-cells-column : goal.bounds-cells-column
 bounds-cells-column g c = c.loop-column-test.true
+
+pub offset_bounds-taken-place : goal.offset_bounds-taken-place
+offset_bounds-taken-place g c =
+    omega (arith, All-get_or (λ (p : ℕ). p < length c.args.readers.now) c.args.cells.now c.loop-column.column 0 c.loop-column-test.true c.requires.within, c.requires.few.0)
+
+pub bounds-taken-place : goal.bounds-taken-place
+bounds-taken-place g c =
+    omega (arith, All-get_or (λ (p : ℕ). p < length c.args.readers.now) c.args.cells.now c.loop-column.column 0 c.loop-column-test.true c.requires.within, c.requires.few.0)

@@ -23,3 +23,12 @@ pub returns-in-None-clause-rows : goal.returns-in-None-clause-rows
 returns-in-None-clause-rows g c =
     rows_kept c.args.ending c.args.delims.now c.args.cells.now c.args.readers.now c.rows.taken (take c.rows.end c.rows.into) (take c.rows.end c.put_row.new.into)
     c.put_row.ensures.kept c.rows.invariant.rows
+
+pub returns-in-None-clause-held : goal.returns-in-None-clause-held
+returns-in-None-clause-held g c = c.rows.invariant.holds
+
+pub put_row-requires-clause-within : goal.put_row-requires-clause-within
+put_row-requires-clause-within g c = c.requires.within
+
+pub put_row-requires-clause-held : goal.put_row-requires-clause-held
+put_row-requires-clause-held g c = c.rows.invariant.holds

@@ -4,7 +4,7 @@ use Rattle.std.specs.Prelude.{bytes_eq}
 use Rattle.std.proofs.lemmas.List.{take_rest}
 use Rattle.ptlines.proofs.Scanned.{no_end}
 use Rattle.ptlangs.specs.Jobs.{uniq_job}
-use Rattle.ptflow.proofs.OfUniq.BlockRuns.{same_by_keys, counting_few, counting_more, counting_turns, counting_done}
+use Rattle.ptflow.proofs.OfUniq.BlockRuns.{front_size, same_by_keys, counting_few, counting_more, counting_turns, counting_done}
 use Rattle.ptflow.proofs.tools.uniq.runs.count_same.Goals as goal
 
 flip : (b r : Bool) (t : Bool) → r ≡ not b → r ≡ not t → b ≡ t
@@ -40,3 +40,8 @@ lines-preserved c =
 pub returns : goal.returns
 returns c = counting_done (uniq_job c.args.job.now) c.args.ending c.args.first.now c.args.block.now c.lines.rest.now c.lines.count c.lines.invariant.counting
     (no_end c.args.ending c.lines.rest.now c.in_default.ensures)
+
+pub overflow_add-rest : goal.overflow_add-rest
+overflow_add-rest c =
+    let k = c.lines.invariant.counting in
+    omega (arith, c.in-Some.ensures.0.high, front_size c.args.ending c.args.block.now c.lines.rest.now k.front k.lies, c.requires)

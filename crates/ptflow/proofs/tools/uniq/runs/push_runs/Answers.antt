@@ -10,7 +10,7 @@ use Rattle.ptlangs.specs.Jobs.{uniq_job}
 use Rattle.ptflow.specs.Workings.Uniq.BlockRuns.{RunsOn, RunsHalt}
 use Rattle.ptflow.specs.Workings.Uniq.OpenRuns.{run_of}
 use Rattle.ptflow.proofs.OfPasses.Continuations.{on_err}
-use Rattle.ptflow.proofs.OfUniq.BlockRuns.{same_by_keys, running_starts, running_few, running_more, running_turn, running_halts, running_done, running_unended, running_passed}
+use Rattle.ptflow.proofs.OfUniq.BlockRuns.{front_size, same_by_keys, running_starts, running_few, running_more, running_turn, running_halts, running_done, running_unended, running_passed}
 use Rattle.ptflow.proofs.tools.uniq.runs.push_runs.Goals as goal
 
 -- the byte that ends a line is the job's
@@ -95,3 +95,8 @@ returns-clause-passed g c =
           (running_passed job c.args.block.now rest c.lines.count c.lines.line c.lines.waiting c.lines.own.now c.args.out.now c.lines.out c.lines.invariant
           (subst (λ (b : ℕ). IsLine b rest) c.requires.ending (no_end c.args.ending rest c.in_default.ensures)) c.push.new.self c.push.ensures.wrote),
     )
+
+pub overflow_add-line-else-eq-2 : goal.overflow_add-line-else-eq-2
+overflow_add-line-else-eq-2 g c =
+    let i = c.lines.invariant in
+    omega (arith, c.in-Some.ensures.0.high, front_size (uniq_job c.args.job.now).end c.args.block.now c.lines.rest.now i.front i.lies, c.requires.short)
