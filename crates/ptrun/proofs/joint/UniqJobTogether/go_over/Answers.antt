@@ -9,7 +9,7 @@ use Rattle.ptrun.proofs.JointPasses.{sole_of, sole_within, lone_done, lone_stopp
 use Rattle.ptopts.specs.declared.inputs.Input.TheVariants.{Standard}
 use Rattle.std.proofs.lemmas.Bool.{false≢true}
 use Rattle.ptlines.specs.Readers.{Reader}
-use Rattle.ptrun.proofs.Order.{fresh_all, place_fits}
+use Rattle.ptrun.proofs.Order.{place_fits}
 use Rattle.ptrun.proofs.joint.UniqJobTogether.go_over.Goals as goal
 
 pub returns-in-Ok : goal.returns-in-Ok
@@ -57,20 +57,6 @@ prove-unreachable-requires g c =
     let here = get_or_default old p c.index-inputs-place.result no_reader (sole_within (places c.args.order.now) p (length old) c.requires.fits only) in
     let opened = ap (λ (r : Reader). r.refused) here ∙ sole_open (places c.args.order.now) old p c.requires.opened only in
     false≢true (sym opened ∙ sym c.is_refused-refused.ensures.refused ∙ c.if-prove.true)
-
-pub uniq-requires : goal.uniq-requires
-uniq-requires g c =
-    let old = c.args.inputs.now in
-    let p = c.place_of-place.result in
-    let only = sole_of c.args.order.now _ p c.requires.taken c.place_of-place.ensures in
-    let here = get_or_default old p c.index-inputs-place.result no_reader (sole_within (places c.args.order.now) p (length old) c.requires.fits only) in
-    let opened = sym c.is_refused-refused.ensures.refused ∙ c.if-prove.false in
-    record {
-      opened = opened;
-      readable = ap (λ (r : Reader). r.fault) here ∙ (fresh_all old c.requires.fresh p (ap (λ (r : Reader). r.refused) (sym here) ∙ opened)).fault;
-      roomy = c.requires.roomy;
-      empty = c.requires.empty;
-    }
 
 pub bounds-order-0 : goal.bounds-order-0
 bounds-order-0 g c = sole_there c.args.order.now c.requires.taken

@@ -1,7 +1,7 @@
-use Rattle.std.proofs.Common.{List, subst, sym}
+use Rattle.std.proofs.Common.{List, subst}
 use Rattle.ptopts.specs.declared.inputs.Input.{Input}
 use Rattle.ptopts.specs.Meant.{words_seen}
-use Rattle.ptrun.specs.Engines.{IsJointPass, AreReady}
+use Rattle.ptrun.specs.Engines.{IsJointPass}
 use Rattle.ptrun.specs.Operands.{places}
 use Rattle.ptrun.proofs.JointPasses.{joint_went}
 use Rattle.ptrun.proofs.together.AllTogetherEngine.go.Goals as goal
@@ -15,16 +15,3 @@ returns g c =
     (subst (λ (order : List Input). IsJointPass (g.T.Together.tool e.tool)
     (places order) c.args.inputs.now c.go_over.new.inputs c.args.out.now c.go_over.new.out c.args.store.now c.go_over.new.store c.go_over.result)
     c.deref.ensures.value c.go_over.ensures)
-
-pub go_over-requires : goal.go_over-requires
-go_over-requires g c =
-    subst (λ (order : List Input). AreReady (g.T.Together.tool c.args.self.now.tool) (places order) c.args.inputs.now c.args.out.now c.args.store.now)
-    (sym c.deref.ensures.value) (record {
-      taken = c.requires.given.taken;
-      fresh = c.requires.given.fresh;
-      fits = c.requires.given.fits;
-      opened = c.requires.complete;
-      writable = c.requires.writable;
-      roomy = c.requires.roomy;
-      empty = c.requires.empty;
-    })
