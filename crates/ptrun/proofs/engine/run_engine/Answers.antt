@@ -19,15 +19,6 @@ conclude-status-requires g c =
     c.lacks_inputs.new.voice c.go-went.new.voice c.args.store.now c.go-went.new.store
     c.go-went.result c.finish-ended.result c.go-went.ensures c.finish-ended.ensures)
 
-pub go-went-requires : goal.go-went-requires
-go-went-requires g c = record {
-  given = c.requires.given;
-  complete = sym c.lacks_inputs.ensures.is ∙ c.if-lacks_inputs.false;
-  writable = ap (λ (o : Output). o.faulted) c.new-out.ensures;
-  roomy = c.requires.unused.store.roomy;
-  empty = c.requires.unused.store.empty;
-}
-
 pub returns-then-lacks_inputs : goal.returns-then-lacks_inputs
 returns-then-lacks_inputs g c =
     rw c.quiet_report.ensures (record {
