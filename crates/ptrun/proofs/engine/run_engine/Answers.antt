@@ -1,8 +1,7 @@
 -- An input that a tool needs at once may be lacking, and then nothing is read; otherwise the engine goes, and the end
 -- of the run follows from how it ended.
-use Rattle.std.proofs.Common.{◌≡◌, ℕ, Bool, true, false, cond, List, [], refl, sym, ◌∙◌, ap, subst}
+use Rattle.std.proofs.Common.{◌≡◌, ℕ, Bool, true, false, cond, List, [], refl, sym, ◌∙◌, subst}
 use Rattle.std.proofs.lemmas.Bool.{false≢true}
-use Rattle.ptlines.specs.Outputs.{Output}
 use Rattle.ptlines.specs.Sinks.{SinkState}
 use Rattle.ptrun.specs.Worlds.{shut}
 use Rattle.ptrun.specs.Meanings.{unopened}
