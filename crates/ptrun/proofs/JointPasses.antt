@@ -315,6 +315,17 @@ sole_of (o ∷ u ∷ order) d p one is = absurd (false≢true (sym (more_than_on
     more_than_one : (n : ℕ) → (suc (suc n) == 1) ≡ false
     more_than_one n = grind (arith, nat_tests)
 
+pub sole_there : (order : List Input) → (length (places order) == 1) ≡ true → 0 < length order
+sole_there [] one = absurd (false≢true one)
+sole_there (o ∷ order) one = omega arith
+
+pub sole_open : (places : List ℕ) (old : List Reader) (p : ℕ) → list_any (shut old) places ≡ false → places ≡ p ∷ [] → (reader_at old p).refused ≡ false
+sole_open places old p opened only = first (shut old p) (subst (λ (l : List ℕ). list_any (shut old) l ≡ false) only opened)
+  where
+    first : (b : Bool) → (b || false) ≡ false → b ≡ false
+    first true none_is = none_is
+    first false none_is = refl
+
 pub sole_within : (places : List ℕ) (p n : ℕ) → All (λ q. q < n) places → places ≡ p ∷ [] → p < n
 sole_within places p n fits only = subst (λ (l : List ℕ). All (λ q. q < n) l) only fits 0 0 (omega arith)
 
@@ -325,11 +336,7 @@ module _ (t : Tool) (places : List ℕ) (old : List Reader) (was is : Output) (b
   fresh = fresh_all old ready.fresh
 
   is_open : (reader_at old p).refused ≡ false
-  is_open = first (shut old p) (subst (λ (l : List ℕ). list_any (shut old) l ≡ false) only ready.opened)
-    where
-      first : (b : Bool) → (b || false) ≡ false → b ≡ false
-      first true none_is = none_is
-      first false none_is = refl
+  is_open = sole_open places old p ready.opened only
 
   calm : (reader_at old p).failed ≡ false
   calm = ap (λ (x : Reader). x.failed) (sym here) ∙ sound.unfailed (ap (λ (x : Reader). x.refused) here ∙ is_open) (ap (λ (x : Reader). x.fault) here ∙ (fresh p is_open).fault)

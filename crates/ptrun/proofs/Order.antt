@@ -13,6 +13,8 @@ use Rattle.ptrun.specs.Worlds.{reader_at, no_reader, IsFresh}
 use Rattle.ptrun.specs.Operands.{place, places}
 use Rattle.std.specs.Prelude.{All, not}
 use Rattle.std.proofs.lemmas.List.Elements.{All-nil, All-cons}
+use Rattle.std.specs.Borrow.{Bor}
+use Rattle.ptopts.specs.Meant.{words_seen}
 use Rattle.ptopts.specs.Faults.{is_standard}
 use Rattle.ptopts.specs.Commands.{file_names, order_from}
 use Rattle.ptopts.specs.declared.inputs.Input.{Input}
@@ -26,6 +28,10 @@ fresh_all (r ∷ readers) h (suc q) = fresh_all readers (λ k d within. h (suc k
 
 pub place_fits : (order : List Input) (n i : ℕ) (d : Input) → All (λ p. p < n) (places order) → i < length order → place (get_or order i d) < n
 place_fits order n i d fits within = subst (λ (k : ℕ). k < n) (get_or-map place order i d 0 within) (fits i 0 (omega (arith, within, length-map order place)))
+
+-- a name is seen as its text, so there are as many
+pub names_counted : (names : List (Bor (List ℕ))) (n : ℕ) → n ≡ length (words_seen names) + 1 → n ≡ length names + 1
+names_counted names n is = is ∙ ap (λ (k : ℕ). k + 1) (length-map names (λ (w : Bor (List ℕ)). w.now))
 
 -- the operands before the i-th, it, and those behind
 pub places_next : (order : List Input) (i : ℕ) (d : Input) (p : ℕ) → i < length order → p ≡ place (get_or order i d) → take (i + 1) (places order) ≡ take i (places order) ++ p ∷ []

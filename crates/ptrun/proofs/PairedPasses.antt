@@ -58,6 +58,11 @@ two_of (a ∷ b ∷ c ∷ more) d e p q taken is_p is_q = absurd (false≢true (
     more_than_two : (n : ℕ) → (suc (suc (suc n)) == 2) ≡ false
     more_than_two n = grind (arith, nat_tests)
 
+pub two_there : (order : List Input) → ((length (places_of order) == 2) && not (operand (places_of order) First == operand (places_of order) Second)) ≡ true → 1 < length order
+two_there [] taken = absurd (false≢true taken)
+two_there (a ∷ []) taken = absurd (false≢true taken)
+two_there (a ∷ b ∷ order) taken = omega arith
+
 -- each of them is there
 pub two_within : (places : List ℕ) (p q n : ℕ) → TwoPlaces places p q → All (λ k. k < n) places → (p < n) × (q < n)
 two_within places p q n two fits = let both_fit = subst (λ (l : List ℕ). All (λ k. k < n) l) two.are fits in (both_fit 0 0 (omega arith), both_fit 1 0 (omega arith))

@@ -1,7 +1,10 @@
-use Rattle.std.proofs.Common.{arith, ap, sym, refl}
-use Rattle.std.proofs.lemmas.List.Elements.{All-push}
+use Rattle.std.proofs.Common.{◌≡◌, ◌≤◌, ◌+◌, ℕ, List, [], length, arith, ap, sym, refl, ◌∙◌}
+use Rattle.std.specs.Borrow.{Bor}
+use Rattle.std.proofs.lemmas.List.{length-map}
+use Rattle.std.proofs.lemmas.List.Elements.{All-nil, All-push}
 use Rattle.std.proofs.lemmas.Bool.{false≢true}
 use Rattle.ptlines.specs.Sources.{SourceState}
+use Rattle.ptopts.specs.Meant.{words_seen}
 use Rattle.ptrun.specs.Worlds.{IsFresh}
 use Rattle.ptext.proofs.performing.open_inputs.Goals as goal
 use Rattle.ptext.proofs.performing.open_inputs.Goals.{in-Ok, in-Err}
@@ -17,3 +20,19 @@ loop-name-preserved g c = record {
             (w.reader-is, w.refused-reader.ensures) (λ opened. absurd (false≢true (sym opened)))
       ]));
 }
+
+pub loop-name-init : goal.loop-name-init
+loop-name-init g c = record {
+  count = c.in_ok-push.ensures.len ∙ ap (λ (n : ℕ). n + 1) c.new-inputs.ensures.len;
+  fresh = rw (c.in_ok-push.ensures.items, c.new-inputs.ensures.items)
+      (All-push IsFresh [] c.standard.result (All-nil IsFresh)
+      (rw c.standard.ensures (λ opened. record { held = refl; ended = c.requires.unended; pulled = refl; fault = refl })));
+}
+
+-- one for each name, and one before them
+counted : (names : List (Bor (List ℕ))) (count i : ℕ) → count ≡ i + 1 → i ≤ length names → length names ≤ i → count ≡ length (words_seen names) + 1
+counted names count i is within all = omega (arith, is, within, all, length-map names (λ (w : Bor (List ℕ)). w.now))
+
+pub returns-clause-count : goal.returns-clause-count
+returns-clause-count g c =
+    counted c.args.names.now _ c.loop-name.name-index c.loop-name.invariant.count c.loop-name.auto.name-index-end c.loop-name-test.false

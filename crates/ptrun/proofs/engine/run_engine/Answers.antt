@@ -1,8 +1,7 @@
 -- An input that a tool needs at once may be lacking, and then nothing is read; otherwise the engine goes, and the end
 -- of the run follows from how it ended.
-use Rattle.std.proofs.Common.{◌≡◌, ℕ, Bool, true, false, cond, List, [], refl, sym, ◌∙◌, ap, subst}
+use Rattle.std.proofs.Common.{◌≡◌, ℕ, Bool, true, false, cond, List, [], refl, sym, ◌∙◌, subst}
 use Rattle.std.proofs.lemmas.Bool.{false≢true}
-use Rattle.ptlines.specs.Outputs.{Output}
 use Rattle.ptlines.specs.Sinks.{SinkState}
 use Rattle.ptrun.specs.Worlds.{shut}
 use Rattle.ptrun.specs.Meanings.{unopened}
@@ -18,15 +17,6 @@ conclude-status-requires g c =
     (named_of (g.G.Engine.meaning c.args.engine.now) c.args.inputs.now c.go-went.new.inputs c.new-out.result c.go-went.new.out c.finish-ended.new.out
     c.lacks_inputs.new.voice c.go-went.new.voice c.args.store.now c.go-went.new.store
     c.go-went.result c.finish-ended.result c.go-went.ensures c.finish-ended.ensures)
-
-pub go-went-requires : goal.go-went-requires
-go-went-requires g c = record {
-  given = c.requires.given;
-  complete = sym c.lacks_inputs.ensures.is ∙ c.if-lacks_inputs.false;
-  writable = ap (λ (o : Output). o.faulted) c.new-out.ensures;
-  roomy = c.requires.unused.store.roomy;
-  empty = c.requires.unused.store.empty;
-}
 
 pub returns-then-lacks_inputs : goal.returns-then-lacks_inputs
 returns-then-lacks_inputs g c =

@@ -14,6 +14,7 @@ use Rattle.ptrun.specs.Engines.{blame, Went}
 use Rattle.ptrun.proofs.InTurn.{pass_nothing, keeps_all, pass_all, pass_unopened, pass_done, pass_stopped, decided_by_law}
 use Rattle.ptrun.proofs.OnePlace.{ready_of}
 use Rattle.ptrun.proofs.Order.{fresh_all, places_next, places_split, places_end, pass_here}
+use Rattle.ptopts.specs.declared.inputs.Input.TheVariants.{Standard}
 use Rattle.ptrun.proofs.operands.go_over_each.Goals as goal
 use Rattle.ptrun.proofs.operands.go_over_each.Goals.{then-is_refused, else-is_refused+in-Ok}
 
@@ -143,3 +144,8 @@ pub name_at-requires : goal.name_at-requires
 name_at-requires g c =
     let low = subst (λ (n : ℕ). n < length c.args.inputs.now) (sym c.place_of-place.ensures) (c.requires.fits c.loop-input.input-index _ c.loop-input-test.true) in
     omega (arith, low, c.requires.count)
+
+pub place_of-place-requires : goal.place_of-place-requires
+place_of-place-requires g c =
+    let low = c.requires.fits c.loop-input.input-index Standard c.loop-input-test.true in
+    omega (arith, low)

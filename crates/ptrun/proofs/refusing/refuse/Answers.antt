@@ -21,3 +21,15 @@ returns-in-Operands-clause-said g c = rw (c.in-Operands.is) c.say-in-Operands.en
 
 pub returns-in-StandardTwice-clause-said : goal.returns-in-StandardTwice-clause-said
 returns-in-StandardTwice-clause-said g c = rw (c.in-StandardTwice.is) c.say-in-StandardTwice.ensures
+
+pub returns-in-Twice-clause-said : goal.returns-in-Twice-clause-said
+returns-in-Twice-clause-said g c =
+    let letter = c.encode_utf8-in-Twice.ensures.value ∙ ap encode_utf8 c.from-in-Twice.ensures in
+    let says : List ℕ → List ℕ = λ a. line_of (c.args.tool.now ∷ codes ": option -" ∷ a ∷ codes " is given twice" ∷ []) in
+    rw (c.in-Twice.is) (subst (λ (text : List ℕ). Tells c.args.voice.now c.say-in-Twice.new.self text) (λ i. says (letter i)) c.say-in-Twice.ensures)
+
+pub returns-in-NeedsValue-clause-said : goal.returns-in-NeedsValue-clause-said
+returns-in-NeedsValue-clause-said g c =
+    let letter = c.encode_utf8.ensures.value ∙ ap encode_utf8 c.from.ensures in
+    let says : List ℕ → List ℕ = λ a. line_of (c.args.tool.now ∷ codes ": option -" ∷ a ∷ codes " needs a value" ∷ []) in
+    rw (c.in-NeedsValue.is) (subst (λ (text : List ℕ). Tells c.args.voice.now c.say-in-NeedsValue.new.self text) (λ i. says (letter i)) c.say-in-NeedsValue.ensures)

@@ -9,8 +9,11 @@ use Rattle.ptrun.specs.Operands.{places}
 use Rattle.ptrun.specs.Sayings.{Tells, line_of}
 use Rattle.ptrun.specs.Worlds.{no_reader, shut}
 use Rattle.ptrun.proofs.Sayings.{tells_nothing}
-use Rattle.ptrun.proofs.Order.{places_next}
+use Rattle.ptrun.proofs.Order.{places_next, places_end}
 use Rattle.ptrun.proofs.JointPasses.{named_more, named_same, any_now, any_before}
+use Rattle.ptopts.specs.declared.inputs.Input.TheVariants.{Standard}
+use Rattle.std.specs.List.{list_any}
+use Rattle.ptrun.specs.Meanings.{unopened}
 use Rattle.ptrun.proofs.together.name_unopened.Goals as goal
 use Rattle.ptrun.proofs.together.name_unopened.Goals.{then-is_refused, else-is_refused}
 
@@ -56,3 +59,18 @@ pub name_at-requires : goal.name_at-requires
 name_at-requires g c =
     let low = subst (λ (n : ℕ). n < length c.args.inputs.now) (sym c.place_of-place.ensures) (c.requires.fits c.loop-input.input-index _ c.loop-input-test.true) in
     omega (arith, low, c.requires.count)
+
+pub place_of-place-requires : goal.place_of-place-requires
+place_of-place-requires g c =
+    let low = c.requires.fits c.loop-input.input-index Standard c.loop-input-test.true in
+    omega (arith, low)
+
+pub returns-clause-said : goal.returns-clause-said
+returns-clause-said g c =
+    subst (λ (l : List ℕ). Tells c.args.voice.now c.loop-input.voice (unopened c.args.tool.now (words_seen c.args.names.now) (shut c.args.inputs.now) l))
+    (places_end c.args.order.now c.loop-input.input-index c.loop-input-test.false) c.loop-input.invariant.said
+
+pub returns-clause-any : goal.returns-clause-any
+returns-clause-any g c =
+    c.loop-input.invariant.any_is
+    ∙ ap (λ (l : List ℕ). list_any (shut c.args.inputs.now) l) (places_end c.args.order.now c.loop-input.input-index c.loop-input-test.false)

@@ -1,10 +1,14 @@
 -- Its cells name the places of its operands, so what `paste` says of places is what the run says of operands.
-use Rattle.std.proofs.Common.{ℕ, List, length, sym, ◌∙◌, subst, arith}
+use Rattle.std.proofs.Common.{◌≡◌, ◌≤◌, true, ℕ, List, length, sym, ◌∙◌, subst, arith}
+use Rattle.std.specs.Prelude.{nat_le}
+use Rattle.std.proofs.lemmas.Bool.{leb-true}
+use Rattle.std.proofs.lemmas.List.{length-map}
 use Rattle.std.proofs.lemmas.Result.{err_from_is_err_and}
 use Rattle.ptlangs.specs.Jobs.{paste_job}
 use Rattle.ptflow.specs.PastePasses.{IsPastePass}
 use Rattle.ptflow.specs.PastePasses as pass
-use Rattle.ptrun.specs.Operands.{places}
+use Rattle.ptopts.specs.declared.inputs.Input.{Input}
+use Rattle.ptrun.specs.Operands.{place, places}
 use Rattle.ptrun.proofs.Order.{place_fits}
 use Rattle.ptrun.proofs.PasteJoint.{cells_ready, rows_done, rows_stopped}
 use Rattle.ptrun.proofs.joint.PasteJobTogether.go_over.Goals as goal
@@ -40,3 +44,9 @@ returns g c =
     rows_done job order old c.args.out.now c.args.store.now c.requires c.paste.new.readers c.paste.new.out c.paste.new.store c.paste.result
     (subst (λ (cells : List ℕ). IsPastePass job cells old c.paste.new.readers c.args.out.now c.paste.new.out c.args.store.now c.paste.new.store c.paste.result)
     is_cells c.paste.ensures) c.in_ok-paste.was
+
+few_of : (order : List Input) → nat_le (length (places order)) 512 ≡ true → length order ≤ 512
+few_of order taken = omega (arith, leb-true (length (places order)) 512 taken, length-map order place)
+
+pub cells_of-requires-clause-few : goal.cells_of-requires-clause-few
+cells_of-requires-clause-few g c = few_of c.args.order.now c.requires.taken
