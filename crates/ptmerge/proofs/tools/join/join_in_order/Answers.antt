@@ -3,23 +3,18 @@ use Rattle.std.proofs.Common.{sym, ◌∙◌, arith}
 use Rattle.std.proofs.lemmas.Result.{err_from_is_err_and}
 use Rattle.ptlangs.specs.Jobs.{join_job}
 use Rattle.ptmerge.specs.declared.order.Side.TheVariants as sides
-use Rattle.ptmerge.proofs.OfJoin.Turns.{alone_on, alone_stops, begins, ended, end_there, fallen, gather_less, gather_stands, gather_stops, gathers_on, group_closed, group_there, opened}
-use Rattle.ptmerge.proofs.OfJoin.Turns.{opens, pair_group, pair_less, pair_stands, pair_stops, pairs_next, pairs_on, stands_at, start_stops, start_unread}
+use Rattle.ptmerge.proofs.OfJoin.Turns.{alone_less, alone_on, alone_stops, begins, ended, end_there, fallen, gather_less, gather_stands, gather_stops, gathers_on, group_closed, group_there, opened}
+use Rattle.ptmerge.proofs.OfJoin.Turns.{opens, pair_group, pair_less, pair_stands, pair_stops, pairs_next, pairs_on, stands_at, start_stops}
 use Rattle.ptmerge.proofs.OfMerges.GoingOn.{told}
 use Rattle.ptmerge.proofs.tools.join.join_in_order.Goals as goal
 
-pub returns-in_err-merge-clause-merged : goal.returns-in_err-merge-clause-merged
-returns-in_err-merge-clause-merged g c =
+pub returns-in_err-merge : goal.returns-in_err-merge
+returns-in_err-merge g c =
     let a = opened (join_job c.args.job.now) (g.K.KeyOrder.order c.args.order) (g.K.KeyOrder.key_of c.args.order) c.args.first.now c.args.second.now c.args.out.now c.args.store.now
     (record { total = g.met.K.KeyOrder.total c.args.order; exact = g.met.K.KeyOrder.exact c.args.order }) c.requires.keys c.requires.ready c.requires.sound c.requires.ending c.requires.writable in
-    start_stops a c.start.new.first c.start.new.second c.start.new.store c.in_err-merge.field-0.0 c.in_err-merge.ensures.breaks
-    (told (err_from_is_err_and c.from_residual.result c.from_residual.ensures.1))
-
-pub returns-in_err-merge-clause-refused : goal.returns-in_err-merge-clause-refused
-returns-in_err-merge-clause-refused g c =
-    let a = opened (join_job c.args.job.now) (g.K.KeyOrder.order c.args.order) (g.K.KeyOrder.key_of c.args.order) c.args.first.now c.args.second.now c.args.out.now c.args.store.now
-    (record { total = g.met.K.KeyOrder.total c.args.order; exact = g.met.K.KeyOrder.exact c.args.order }) c.requires.keys c.requires.ready c.requires.sound c.requires.ending c.requires.writable in
-    start_unread a c.start.new.first c.start.new.second c.start.new.store c.in_err-merge.field-0.0 c.in_err-merge.ensures.breaks
+    let l = start_stops a c.start.new.first c.start.new.second c.start.new.store c.in_err-merge.field-0.0 c.in_err-merge.ensures.breaks
+    (told (err_from_is_err_and c.from_residual.result c.from_residual.ensures.1)) in
+    record { merged = l.merged; refused = l.refused; slots = l.slots }
 
 pub turns-init : goal.turns-init
 turns-init g c =
@@ -55,6 +50,12 @@ turns-preserved-in-Continue-branch-3 g c =
       turn = rw p.order (alone_on i.turn c.in-Between.is sides.Second c.in-Second.ensures (c.ending-ending.ensures ∙ c.requires.ending.0) p.wrote c.in_ok-pass_alone-in-Second.ensures.passes);
       order = p.order ∙ i.order;
     }
+
+pub turns-smaller-in-Continue-branch-2 : goal.turns-smaller-in-Continue-branch-2
+turns-smaller-in-Continue-branch-2 g c = omega (arith, alone_less c.turns.invariant.turn c.in-Between.is c.in-First.ensures.stands c.in_ok-pass_alone-in-First.ensures.passes)
+
+pub turns-smaller-in-Continue-branch-3 : goal.turns-smaller-in-Continue-branch-3
+turns-smaller-in-Continue-branch-3 g c = omega (arith, alone_less c.turns.invariant.turn c.in-Between.is c.in-Second.ensures.stands c.in_ok-pass_alone-in-Second.ensures.passes)
 
 pub returns-in_err-pass_alone-in-First : goal.returns-in_err-pass_alone-in-First
 returns-in_err-pass_alone-in-First g c =
