@@ -1,5 +1,5 @@
 -- What is known at each turn of `join`, and what comes of the turn.
-use Rattle.std.proofs.Common.{◌≡◌, inl, inr, ℕ, ◌≤◌, ◌<◌, true, false, List, [], ◌∷◌, None, Result, Ok, Err, length, refl, sym, ◌∙◌, ap, subst, arith}
+use Rattle.std.proofs.Common.{◌≡◌, inl, inr, ℕ, ◌+◌, ◌*◌, ◌≤◌, ◌<◌, true, false, List, [], ◌∷◌, None, Result, Ok, Err, length, refl, sym, ◌∙◌, ap, subst, arith}
 use Rattle.ptlangs.specs.Jobs.{Join}
 use Rattle.ptlines.specs.Outputs.{Output, Wrote}
 use Rattle.ptlines.specs.Readers.{Reader, IsSound}
@@ -82,6 +82,19 @@ abbrev pub rank : Phase → ℕ
 rank phases.Between = 1
 rank phases.Gathering = 0
 rank phases.Pairing = 0
+
+rank_few : (p : Phase) → rank p ≤ 1
+rank_few phases.Between = omega arith
+rank_few phases.Gathering = omega arith
+rank_few phases.Pairing = omega arith
+
+-- less is left to do, whatever the phases
+pub falls : (p q : Phase) {a b : ℕ} → a < b → 3 * a + rank p < 3 * b + rank q
+falls p q less = omega (arith, less, rank_few p)
+
+-- a group is gathered next
+pub opens_less : {q : Phase} (n : ℕ) → q ≡ phases.Between → 3 * n + rank phases.Gathering < 3 * n + rank q
+opens_less n is = omega (arith, ap rank is)
 
 -- ---- a turn
 
