@@ -1,9 +1,9 @@
 -- The count of the bytes in the slots, and what a write of one slot does to it.
 use Rattle.std.proofs.Common.{◌≡◌, ◌≢◌, ℕ, zero, suc, ◌+◌, ◌^◌, ◌<◌, ◌≤◌, List, [], ◌∷◌, ◌++◌, length, take, drop, get_or, sym, ◌∙◌, ap, arith, set, take-append-drop, subst, refl}
 use Rattle.std.proofs.lemmas.List.{get_or-take, get_or-drop, set-get_or, get_or-set_same, get_or-set_other, set-set}
-use Rattle.std.proofs.lemmas.List.Elements.{All-set, All-get_or}
+use Rattle.std.proofs.lemmas.List.Elements.{All-append, All-set, All-get_or}
 use Rattle.std.specs.Prelude.{swap}
-use Rattle.std.proofs.lemmas.List.Sums.{sum_by-set, sum_by-le}
+use Rattle.std.proofs.lemmas.List.Sums.{sum_by-append, sum_by-set, sum_by-le}
 use Rattle.std.proofs.lemmas.List.Sorted.{sum_by-IsPermutation, IsPermutation-swap}
 use Rattle.ptlines.specs.Slots.{AreShort, total}
 
@@ -47,6 +47,29 @@ module _ {X : Type 0} where
   set_before [] at (suc cut) w near = refl
   set_before (x ∷ xs) zero (suc cut) w near = ap (λ (l : List X). w ∷ l) (take-append-drop cut xs)
   set_before (x ∷ xs) (suc at) (suc cut) w near = ap (λ (l : List X). x ∷ l) (set_before xs at cut w (omega (arith, near)))
+
+-- a slot that had one line was given another: its line was counted, and what the count is then
+module _ (lines : List (List ℕ)) (slot held : ℕ) (had : List ℕ) (within : slot < length lines) (was : had ≡ get_or lines slot had) (counts : held ≡ total lines) where
+  pub counted_in : length had ≤ held
+  counted_in = omega (arith, total_set lines slot [] within, ap length (was ∙ same_at lines slot had [] within), counts)
+
+  pub counted_set : (new : List ℕ) {now peak : ℕ} → AreShort lines → length new ≤ 2 ^ 63 → now + length had ≡ held + length new → now ≤ peak
+      → (now ≡ total (set lines slot new)) × (now ≤ peak) × AreShort (set lines slot new)
+  counted_set new short few moves low =
+      (omega (arith, total_set lines slot new within, ap length (was ∙ same_at lines slot had [] within), counts, moves), low, All-set Short lines slot new few short)
+
+empty_short : AreShort ([] ∷ [])
+empty_short zero d within = omega arith
+empty_short (suc k) d within = absurd (omega (arith, within))
+
+-- an empty slot was added
+pub counted_added : (lines : List (List ℕ)) {after : List (List ℕ)} {held peak : ℕ} → after ≡ lines ++ [] ∷ [] → held ≡ total lines → held ≤ peak → AreShort lines
+    → (held ≡ total after) × (held ≤ peak) × AreShort after
+counted_added lines {after} {held} is counts low short = (
+  omega (arith, counts, ap total is, sum_by-append length lines ([] ∷ [])),
+  low,
+  subst AreShort (sym is) (All-append Short lines ([] ∷ []) short empty_short),
+)
 
 -- a line was put behind another one, which stands behind the cut
 module _ (lines front back : List (List ℕ)) (from to : ℕ) (d e new more : List ℕ) (near : from < to) (within : to < length lines)

@@ -1,0 +1,6 @@
+use Rattle.ptlines.proofs.Counted.{counted_added}
+use Rattle.ptlines.proofs.store.Store.add.Goals as goal
+
+pub invariant_of-self : goal.invariant_of-self
+invariant_of-self g c =
+    counted_added c.self.inside.slots.items c.in-Ok.ensures.ok c.self.invariant.0 c.self.invariant.1 c.self.invariant.2
