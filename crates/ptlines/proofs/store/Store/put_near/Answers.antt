@@ -1,7 +1,7 @@
 use Rattle.std.proofs.Common.{◌≡◌, ◌≤◌, ◌<◌, length, drop, sym, ◌∙◌, ap, subst, arith, length-drop}
 use Rattle.std.proofs.lemmas.List.{length-take-le}
 use Rattle.ptlines.specs.Slots.{Slots}
-use Rattle.ptlines.proofs.Counted.{counted_in, counted_set, fits}
+use Rattle.ptlines.proofs.Counted.{counted_in, counted_set, fits, written}
 use Rattle.ptlines.proofs.store.Store.put_near.Goals as goal
 
 pub overflow_sub-self : goal.overflow_sub-self
@@ -25,3 +25,6 @@ invariant_of-self g c =
     let long : length c.put_near.new.self ≡ c.args.size = ap length c.put_near.ensures ∙ length-take-le c.args.size (drop c.args.from bytes) room in
     counted_set s.slots.items c.args.slot s.held c.index.result.now low c.index.ensures c.self.invariant.0 c.put_near.new.self c.self.invariant.2
     (omega (arith, long, c.requires.near, c.requires.lanes)) (omega (arith, few, long, c.size-was.ensures.size)) (omega (arith, c.max-self-inside.ensures))
+
+pub returns : goal.returns
+returns g c = written c.args.slot c.self.view_is c.put_near.ensures (invariant_of-self g c).0 c.max-self-inside.ensures
