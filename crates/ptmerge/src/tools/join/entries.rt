@@ -1,8 +1,8 @@
 //! What `join` writes for a pair of lines, or for one of them.
-ghost use Rattle.std.specs.Prelude.{◌≡◌, ◌++◌, ◌∷◌, [], None, Some, ◌<◌, ◌+◌, ◌-◌, option_copied, true, false, OnOk, OnErr, IfSome};
+ghost use Rattle.std.specs.Prelude.{◌≡◌, ◌++◌, ◌∷◌, [], None, Some, option_copied, true, false, OnOk, OnErr, IfSome};
 ghost use Rattle.ptlines.specs.Outputs.{Wrote};
 ghost use Rattle.ptlangs.specs.Jobs.{join_job};
-ghost use Rattle.ptmerge.specs.Join.{fields, nth_field, others, between, filled, named, entry, join_key};
+ghost use Rattle.ptmerge.specs.Join.{fields, others, between, filled, named, entry, join_key};
 ghost use Rattle.ptmerge.specs.JoinFields.{IsAsWritten, fields_left, led};
 ghost use Rattle.ptmerge.specs.declared.order.Side.TheVariants.{First, Second};
 

@@ -1,7 +1,7 @@
 //! The fields of a line of `join`.
-ghost use Rattle.std.specs.Prelude.{◌≡◌, ◌∷◌, [], None, Some, ◌<◌, ◌+◌, ◌-◌, length, position, option_copied, IfSome, MatchOption};
+ghost use Rattle.std.specs.Prelude.{◌≡◌, ◌∷◌, [], None, Some, ◌<◌, length, position, option_copied, IfSome, MatchOption};
 ghost use Rattle.std.specs.List.{slice_split};
-ghost use Rattle.ptmerge.specs.Join.{fields, nth_field, others, between, entry};
+ghost use Rattle.ptmerge.specs.Join.{nth_field};
 ghost use Rattle.ptmerge.specs.JoinFields.{EndsFirst, IsFieldIn, IsPiece, ends_field, fields_left};
 ghost use Rattle.ptmerge.specs.Spans.{IsSpan};
 
