@@ -1,5 +1,5 @@
 -- Each turn goes on to the next by one lemma of `Turns`, and each way out of it leaves what the clauses say.
-use Rattle.std.proofs.Common.{◌≡◌, [], refl, sym, ◌∙◌, subst}
+use Rattle.std.proofs.Common.{[], refl, ◌∙◌, subst}
 use Rattle.std.proofs.lemmas.List.{append-nil}
 use Rattle.std.proofs.lemmas.Result.{err_from_is_err_and}
 use Rattle.ptlangs.specs.Jobs.{comm_job}

@@ -4,7 +4,8 @@ use Rattle.std.proofs.lemmas.Result.{err_from_is_err_and}
 use Rattle.ptlangs.specs.Jobs.{join_job}
 use Rattle.ptmerge.specs.declared.order.Side.TheVariants as sides
 use Rattle.ptmerge.specs.declared.tools.join.Phase.TheVariants as phases
-use Rattle.ptmerge.proofs.OfJoin.Turns.{alone_less, alone_on, alone_stops, begins, ended, end_there, fallen, falls, gather_less, gather_stands, gather_stops, gathers_on, group_closed, group_there, opened}
+use Rattle.ptmerge.proofs.OfJoin.Turns.{alone_less, alone_on, alone_stops, begins}
+use Rattle.ptmerge.proofs.OfJoin.Turns.{ended, end_there, fallen, falls, gather_less, gather_stands, gather_stops, gathers_on, group_closed, group_there, opened}
 use Rattle.ptmerge.proofs.OfJoin.Turns.{opens, opens_less, pair_group, pair_less, pair_stands, pair_stops, pairs_next, pairs_on, stands_at, start_stops}
 use Rattle.ptmerge.proofs.OfMerges.GoingOn.{told}
 use Rattle.ptmerge.proofs.tools.join.join_in_order.Goals as goal
@@ -130,10 +131,12 @@ turns-preserved-else-not-repeats g c =
     }
 
 pub turns-smaller-else-not-repeats : goal.turns-smaller-else-not-repeats
-turns-smaller-else-not-repeats g c = falls c.turns.phase c.turns.phase (gather_less c.turns.invariant.turn c.in-Gathering.is c.in_ok-end-in-Gathering.ensures.gathers c.in_ok-end-in-Gathering.ensures.on)
+turns-smaller-else-not-repeats g c =
+    falls c.turns.phase c.turns.phase (gather_less c.turns.invariant.turn c.in-Gathering.is c.in_ok-end-in-Gathering.ensures.gathers c.in_ok-end-in-Gathering.ensures.on)
 
 pub turns-smaller-then-not-repeats : goal.turns-smaller-then-not-repeats
-turns-smaller-then-not-repeats g c = falls phases.Pairing c.turns.phase (gather_less c.turns.invariant.turn c.in-Gathering.is c.in_ok-end-in-Gathering.ensures.gathers c.in_ok-end-in-Gathering.ensures.on)
+turns-smaller-then-not-repeats g c =
+    falls phases.Pairing c.turns.phase (gather_less c.turns.invariant.turn c.in-Gathering.is c.in_ok-end-in-Gathering.ensures.gathers c.in_ok-end-in-Gathering.ensures.on)
 
 pub turns-smaller-then-not-repeats-2 : goal.turns-smaller-then-not-repeats-2
 turns-smaller-then-not-repeats-2 g c = falls phases.Between c.turns.phase (pair_less c.turns.invariant.turn c.in-Pairing.is c.in_ok-pass_pairs-in-Pairing.ensures.passes)
