@@ -1,11 +1,11 @@
 -- The count of the bytes in the slots, and what a write of one slot does to it.
 use Rattle.std.proofs.Common.{◌≡◌, ◌≢◌, ℕ, zero, suc, ◌+◌, ◌^◌, ◌<◌, ◌≤◌, List, [], ◌∷◌, ◌++◌, length, take, drop, get_or, sym, ◌∙◌, ap, arith, set, take-append-drop, subst, refl}
 use Rattle.std.proofs.lemmas.List.{get_or-take, get_or-drop, set-get_or, get_or-set_same, get_or-set_other, set-set}
-use Rattle.std.proofs.lemmas.List.Elements.{All-set, All-get_or}
-use Rattle.std.specs.Prelude.{swap}
-use Rattle.std.proofs.lemmas.List.Sums.{sum_by-set, sum_by-le}
+use Rattle.std.proofs.lemmas.List.Elements.{All-append, All-set, All-get_or}
+use Rattle.std.specs.Prelude.{swap, max}
+use Rattle.std.proofs.lemmas.List.Sums.{sum_by-append, sum_by-set, sum_by-le}
 use Rattle.std.proofs.lemmas.List.Sorted.{sum_by-IsPermutation, IsPermutation-swap}
-use Rattle.ptlines.specs.Slots.{AreShort, total}
+use Rattle.ptlines.specs.Slots.{Slots, AreShort, total, with_line}
 
 -- the total after a write of one line
 pub total_set : (lines : List (List ℕ)) (slot : ℕ) (bytes : List ℕ) → slot < length lines → total (set lines slot bytes) + length (get_or lines slot []) ≡ total lines + length bytes
@@ -48,20 +48,53 @@ module _ {X : Type 0} where
   set_before (x ∷ xs) zero (suc cut) w near = ap (λ (l : List X). w ∷ l) (take-append-drop cut xs)
   set_before (x ∷ xs) (suc at) (suc cut) w near = ap (λ (l : List X). x ∷ l) (set_before xs at cut w (omega (arith, near)))
 
+-- a slot that had one line was given another: its line was counted, and what the count is then
+module _ (lines : List (List ℕ)) (slot held : ℕ) (had : List ℕ) (within : slot < length lines) (was : had ≡ get_or lines slot had) (counts : held ≡ total lines) where
+  pub counted_in : length had ≤ held
+  counted_in = omega (arith, total_set lines slot [] within, ap length (was ∙ same_at lines slot had [] within), counts)
+
+  pub counted_set : (new : List ℕ) {now peak : ℕ} → AreShort lines → length new ≤ 2 ^ 63 → now + length had ≡ held + length new → now ≤ peak
+      → (now ≡ total (set lines slot new)) × (now ≤ peak) × AreShort (set lines slot new)
+  counted_set new short few moves low =
+      (omega (arith, total_set lines slot new within, ap length (was ∙ same_at lines slot had [] within), counts, moves), low, All-set Short lines slot new few short)
+
+empty_short : AreShort ([] ∷ [])
+empty_short zero d within = omega arith
+empty_short (suc k) d within = absurd (omega (arith, within))
+
+-- what the store is once a slot was written
+pub written : {before now : Slots} (slot : ℕ) {new bytes : List ℕ} {held peak : ℕ} → before ≡ now → new ≡ bytes → held ≡ total (set before.lines slot new)
+    → peak ≡ max before.peak held → record before { lines = set before.lines slot new; peak = peak } ≡ with_line now slot bytes
+written {before} slot {new} is new_is counts peak_is =
+    (λ i. record before { lines = set before.lines slot new; peak = (peak_is ∙ ap (max before.peak) counts) i }) ∙ (λ i. with_line (is i) slot (new_is i))
+
+-- an empty slot was added
+pub counted_added : (lines : List (List ℕ)) {after : List (List ℕ)} {held peak : ℕ} → after ≡ lines ++ [] ∷ [] → held ≡ total lines → held ≤ peak → AreShort lines
+    → (held ≡ total after) × (held ≤ peak) × AreShort after
+counted_added lines {after} {held} is counts low short = (
+  omega (arith, counts, ap total is, sum_by-append length lines ([] ∷ [])),
+  low,
+  subst AreShort (sym is) (All-append Short lines ([] ∷ []) short empty_short),
+)
+
 -- a line was put behind another one, which stands behind the cut
 module _ (lines front back : List (List ℕ)) (from to : ℕ) (d e new more : List ℕ) (near : from < to) (within : to < length lines)
     (front_is : front ≡ take to lines) (back_is : back ≡ drop to lines) where
   behind_is : front ++ set back 0 new ≡ set lines to new
   behind_is = (λ i. front_is i ++ set (back_is i) 0 new) ∙ set_behind lines to new within
 
+  had_behind : get_or back 0 d ≡ get_or lines to []
+  had_behind = let here : to + 0 ≡ to = omega arith in
+      ap (λ (l : List (List ℕ)). get_or l 0 d) back_is ∙ get_or-drop to lines 0 d ∙ ap (λ (n : ℕ). get_or lines n d) here ∙ same_at lines to d [] within
+
+  pub same_behind : new ≡ get_or back 0 d → front ++ set back 0 new ≡ lines
+  same_behind new_is = behind_is ∙ ap (set lines to) (new_is ∙ had_behind) ∙ set-get_or lines to []
+
   pub appended_behind : more ≡ get_or front from e → new ≡ get_or back 0 d ++ more → front ++ set back 0 new ≡ set lines to (get_or lines to [] ++ get_or lines from [])
   appended_behind more_is new_is =
-      let here : to + 0 ≡ to = omega arith in
-      let had : get_or back 0 d ≡ get_or lines to [] = ap (λ (l : List (List ℕ)). get_or l 0 d) back_is ∙ get_or-drop to lines 0 d
-      ∙ ap (λ (n : ℕ). get_or lines n d) here ∙ same_at lines to d [] within in
       let added : more ≡ get_or lines from [] = more_is ∙ ap (λ (l : List (List ℕ)). get_or l from e) front_is ∙ get_or-take to lines from e near
       ∙ same_at lines from e [] (omega (arith, near, within)) in
-      behind_is ∙ ap (set lines to) (new_is ∙ (λ i. had i ++ added i))
+      behind_is ∙ ap (set lines to) (new_is ∙ (λ i. had_behind i ++ added i))
 
   pub short_behind : length new ≤ 2 ^ 63 → AreShort lines → AreShort (front ++ set back 0 new)
   short_behind few short = subst AreShort (sym behind_is) (All-set Short lines to new few short)

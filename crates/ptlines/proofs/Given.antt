@@ -3,7 +3,7 @@ use Rattle.std.proofs.Common.{◌≡◌, ℕ, ◌+◌, ◌-◌, ◌≤◌, List,
 use Rattle.std.specs.Prelude.{slice_range}
 use Rattle.std.proofs.lemmas.List.{take-take, drop-drop, drop-take}
 use Rattle.std.specs.Io.KnownBytes.{prepend_known, IsAtEnd}
-use Rattle.ptlines.specs.Readers.{Reader, Reads}
+use Rattle.ptlines.specs.Readers.{Reader, IsSound, Reads}
 use Rattle.ptlines.proofs.Known.{prepend_known-append}
 
 pub length_range : (b : List ℕ) (s e : ℕ) → s ≤ e → e ≤ length b → length (slice_range b s e) + s ≡ e
@@ -32,6 +32,11 @@ reads_front old new n fits held left pulled refused ending ended = record {
   count = omega (arith, ap length held, length-drop n old.held, length-take n old.held, pulled);
   refused = refused;
 }
+
+-- a reader that holds less is sound too
+pub sound_less : {r : Reader} (held : List ℕ) → IsSound r → length held ≤ length r.held → IsSound (record r { held = held })
+sound_less held sound less =
+    record { held = omega (arith, less, sound.held); count = omega (arith, less, sound.count); end = sound.end; long = sound.long; unfailed = sound.unfailed }
 
 -- the rest of what is held, where a reader's block is moved on
 pub rest_is : (b : List ℕ) (s e n : ℕ) (held : List ℕ) → s ≤ e → e ≤ length b → slice_range b s e ≡ held → n ≤ length held → slice_range b (s + n) e ≡ drop n held

@@ -1,5 +1,5 @@
 -- Where an input of a merge stands, and what going to its next line does.
-use Rattle.std.specs.Prelude.{◌≡◌, ◌⊎◌, ℕ, ◌+◌, ◌&&◌, nat_lt, if◌then◌else◌, Bool, false, List, [], Result, Ok, Err}
+use Rattle.std.specs.Prelude.{◌≡◌, ◌≢◌, ◌⊎◌, ℕ, ◌+◌, ◌<◌, ◌&&◌, nat_lt, if◌then◌else◌, Bool, false, List, [], length, Result, Ok, Err}
 use Rattle.std.specs.Ordering.{is_eq, is_gt}
 use Rattle.ptlines.specs.Readers.{Reader, Goes, IsDone, IsSound}
 use Rattle.ptlines.specs.Slots.{Slots, line, with_line}
@@ -32,6 +32,12 @@ fresh side = record { standing = slot_of side + 1; previous = slot_of side; numb
 abbrev pub HasSlots : Side → Sorted → Type 0
 HasSlots side place =
     ((place.standing ≡ slot_of side) × (place.previous ≡ slot_of side + 1)) ⊎ ((place.standing ≡ slot_of side + 1) × (place.previous ≡ slot_of side))
+
+-- both slots of an input are there, and they are two
+pub record AreThere (place : Sorted) (store : Slots) : Type 0 where
+  pub standing : place.standing < length store.lines
+  pub previous : place.previous < length store.lines
+  pub apart : place.standing ≢ place.previous
 
 -- where an input stands of which so many lines came, the last of which was this one, and then this one
 abbrev pub stand_at : Key → Cmp → ℕ → List ℕ → List ℕ → Stand

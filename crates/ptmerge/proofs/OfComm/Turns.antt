@@ -1,5 +1,5 @@
 -- What is known at each turn of `comm`, and what comes of the turn.
-use Rattle.std.proofs.Common.{◌≡◌, ℕ, ◌≤◌, ◌<◌, Bool, false, List, [], ◌∷◌, ◌++◌, None, Result, Ok, Err, length, max, sym, ◌∙◌, ap, subst, arith}
+use Rattle.std.proofs.Common.{◌≡◌, ℕ, ◌<◌, Bool, false, List, [], ◌∷◌, ◌++◌, None, Result, Ok, Err, length, sym, ◌∙◌, ap, subst, arith}
 use Rattle.ptlangs.specs.Jobs.{Comm}
 use Rattle.ptlines.specs.Outputs.{Output, Wrote}
 use Rattle.ptlines.specs.Readers.{Reader, IsSound}

@@ -1,5 +1,5 @@
 -- What each turn of `join` does in which a line of a group is gathered, and each way out of it.
-use Rattle.std.proofs.Common.{◌≡◌, inl, inr, ℕ, ◌+◌, ◌-◌, ◌≤◌, ◌<◌, ◌&&◌, true, false, List, [], ◌∷◌, ◌++◌, Err, length}
+use Rattle.std.proofs.Common.{◌≡◌, inl, inr, ℕ, ◌+◌, ◌≤◌, ◌<◌, ◌&&◌, true, false, List, [], ◌∷◌, ◌++◌, Err, length}
 use Rattle.std.proofs.Common.{refl, sym, ◌∙◌, ap, subst, arith, append_assoc}
 use Rattle.std.specs.Prelude.{bytes_eq}
 use Rattle.std.proofs.lemmas.Bool.{false≢true}
@@ -15,7 +15,7 @@ use Rattle.ptmerge.specs.declared.order.Side.{Side}
 use Rattle.ptmerge.specs.declared.order.Side.TheVariants.{First, Second}
 use Rattle.ptmerge.specs.declared.merging.sorted.Sorted.{Sorted}
 use Rattle.ptmerge.specs.declared.merging.sorted.Stand.TheVariants.{Head}
-use Rattle.ptmerge.specs.Groups.{Gathered, IsKept, KeepsLast, NotGathered, group, is_head}
+use Rattle.ptmerge.specs.Groups.{Gathered, IsKept, KeepsLast, NotGathered, is_head}
 use Rattle.ptmerge.specs.Join.{most_lines}
 use Rattle.ptmerge.specs.Keyed.{Lines, Tool, by_keys}
 use Rattle.ptmerge.specs.Merges.{State, IsMerge}

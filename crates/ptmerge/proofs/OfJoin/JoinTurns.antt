@@ -1,5 +1,5 @@
 -- What each turn of `join` between two groups does, and each way out of it.
-use Rattle.std.proofs.Common.{◌≡◌, ◌⊎◌, inl, inr, ℕ, ◌+◌, ◌-◌, ◌*◌, ◌≤◌, ◌<◌, ◌&&◌, Bool, true, false, List, [], ◌∷◌, ◌++◌, Some, None, Result, Ok, Err, length, max}
+use Rattle.std.proofs.Common.{◌≡◌, ◌⊎◌, inl, inr, ℕ, ◌+◌, ◌*◌, ◌≤◌, ◌<◌, ◌&&◌, Bool, true, false, List, [], ◌∷◌, ◌++◌, Some, None, Result, Ok, Err, length, max}
 use Rattle.std.proofs.Common.{refl, sym, ◌∙◌, ap, subst, arith}
 use Rattle.std.specs.Prelude.{bytes_eq}
 use Rattle.std.specs.Cmp.Lexicographic.{bytes_decides}
@@ -18,7 +18,7 @@ use Rattle.ptmerge.specs.declared.order.Side.TheVariants.{First, Second}
 use Rattle.ptmerge.specs.declared.merging.sorted.Sorted.{Sorted}
 use Rattle.ptmerge.specs.declared.merging.sorted.Stand.{Stand}
 use Rattle.ptmerge.specs.declared.merging.sorted.Stand.TheVariants.{Head, Ended, Disorder}
-use Rattle.ptmerge.specs.Groups.{group, is_head}
+use Rattle.ptmerge.specs.Groups.{is_head}
 use Rattle.ptmerge.specs.Join.{largest_group, most_lines}
 use Rattle.ptmerge.specs.Keyed.{Lines, Tool, by_keys}
 use Rattle.ptmerge.specs.LinePasses.{PassesLine}

@@ -187,3 +187,10 @@ empty_untidy (b ∷ xs) empty = let none : suc (length xs) ≡ 0 = eqb-true (suc
 pub some_bytes : (bytes : List ℕ) → (length bytes == 0) ≡ false → 0 < length bytes
 some_bytes [] some = absurd (false≢true (sym some))
 some_bytes (b ∷ xs) some = omega arith
+
+-- where a part is not even, the whole is not
+pub part_uneven : (bytes : List ℕ) (from to : ℕ) {at end : ℕ} {part all : Bool} → IsEven bytes at end part → part ≡ false → all ≡ false → from ≤ at → end ≤ to → IsEven bytes from to all
+part_uneven bytes from to e uneven is front back = record {
+  so = λ even. absurd (false≢true (sym is ∙ even));
+  not_so = λ same nowhere. e.not_so uneven (λ k low high. nowhere k (omega (arith, front, low)) (omega (arith, back, high)));
+}

@@ -1,5 +1,5 @@
 -- What is known at each turn of `join`, and what comes of the turn.
-use Rattle.std.proofs.Common.{◌≡◌, inl, inr, ℕ, ◌≤◌, ◌<◌, true, false, List, [], ◌∷◌, None, Result, Ok, Err, length, refl, sym, ◌∙◌, ap, subst, arith}
+use Rattle.std.proofs.Common.{◌≡◌, inl, inr, ℕ, ◌+◌, ◌*◌, ◌≤◌, ◌<◌, true, false, List, [], ◌∷◌, None, Result, Ok, Err, length, refl, sym, ◌∙◌, ap, subst, arith}
 use Rattle.ptlangs.specs.Jobs.{Join}
 use Rattle.ptlines.specs.Outputs.{Output, Wrote}
 use Rattle.ptlines.specs.Readers.{Reader, IsSound}
@@ -38,7 +38,7 @@ use Rattle.ptmerge.proofs.OfMerges.KeySpans.{placed_keeps}
 use Rattle.ptmerge.proofs.OfMerges.Orders.{IsKeyOrder}
 use Rattle.ptmerge.proofs.OfMerges.Pairs.{both_each}
 use Rattle.ptmerge.proofs.OfMerges.Splitting.{all_keys}
-use Rattle.ptmerge.proofs.OfMerges.Starting.{starts_badly, starts_well, start_refused}
+use Rattle.ptmerge.proofs.OfMerges.Starting.{starts_badly, starts_well, start_refused, start_slots}
 use Rattle.ptmerge.proofs.OfMerges.Turning.{alone}
 
 -- ---- the phases
@@ -82,6 +82,19 @@ abbrev pub rank : Phase → ℕ
 rank phases.Between = 1
 rank phases.Gathering = 0
 rank phases.Pairing = 0
+
+rank_few : (p : Phase) → rank p ≤ 1
+rank_few phases.Between = omega arith
+rank_few phases.Gathering = omega arith
+rank_few phases.Pairing = omega arith
+
+-- less is left to do, whatever the phases
+pub falls : (p q : Phase) {a b : ℕ} → a < b → 3 * a + rank p < 3 * b + rank q
+falls p q less = omega (arith, less, rank_few p)
+
+-- a group is gathered next
+pub opens_less : {q : Phase} (n : ℕ) → q ≡ phases.Between → 3 * n + rank phases.Gathering < 3 * n + rank q
+opens_less n is = omega (arith, ap rank is)
 
 -- ---- a turn
 
@@ -148,12 +161,14 @@ module _ {job : Join} {cmp : Cmp} {key : Side → Key} {old : State} (a : IsOpen
 
   module _ (first second : Reader) (store : Slots) (fault : MergeFault)
       (cannot : CannotStart key cmp (record { reader = old.reader; store = old.store }) (record { reader = both first second; store = store }) fault) where
-    pub start_stops : {r : Result (Unit {0}) MergeFault} → r ≡ Err fault → IsMerge (join_by job cmp key) old (seen first second old.out store) r
-    start_stops is_fault = subst (IsMerge (join_by job cmp key) old (seen first second old.out store)) (sym is_fault)
-        (starts_badly (join_by job cmp key) a.o (λ ls. (omega arith, omega arith)) old a.readable a.ending a.unfailed a.sound a.writable a.allowed a.empty first second store fault cannot)
-
-    pub start_unread : length store.lines < 4 → IsUnread old (seen first second old.out store)
-    start_unread = start_refused (join_by job cmp key) a.o (λ ls. (omega arith, omega arith)) old a.readable a.ending a.unfailed a.sound a.writable a.allowed a.empty first second store fault cannot
+    pub start_stops : {r : Result (Unit {0}) MergeFault} → r ≡ Err fault → Leaves (join_by job cmp key) old (seen first second old.out store) r
+    start_stops is_fault =
+        let adds = start_slots (join_by job cmp key) a.o (λ ls. (omega arith, omega arith)) old a.readable a.ending a.unfailed a.sound a.writable a.allowed a.empty first second store fault cannot in
+        subst (Leaves (join_by job cmp key) old (seen first second old.out store)) (sym is_fault) (record {
+          merged = starts_badly (join_by job cmp key) a.o (λ ls. (omega arith, omega arith)) old a.readable a.ending a.unfailed a.sound a.writable a.allowed a.empty first second store fault cannot;
+          refused = start_refused (join_by job cmp key) a.o (λ ls. (omega arith, omega arith)) old a.readable a.ending a.unfailed a.sound a.writable a.allowed a.empty first second store fault cannot;
+          slots = record { least = adds.least; all = λ allowed. omega (arith, adds.all allowed) };
+        })
 
 module _ {job : Join} {cmp : Cmp} {key : Side → Key} {old : State} {phase : Phase} {now : State} {one two : Sorted} {end : ℕ}
     (t : IsTurn job cmp key old phase now one two end) where
@@ -194,6 +209,10 @@ module _ {job : Join} {cmp : Cmp} {key : Side → Key} {old : State} {phase : Ph
   module _ (is : phase ≡ phases.Between) where
     between : Between (join_by job cmp key) t.opened.o (pairs_of job) (join_pairs job cmp key) old t.opened.unfailed now (both one two) × (end ≡ 4)
     between = as_between (join_by job cmp key) t.opened.o (pairs_of job) (join_pairs job cmp key) old t.opened.unfailed phase now (both one two) end t.phased is
+
+    pub alone_less : {s : Side} {one2 two2 : Sorted} {reader : Reader} {after : Slots} {new : Output} → (both one two s).stand ≡ Head
+        → HasPassed key cmp s one two one2 two2 (now.reader s) reader now.store after new → left (put s reader now.reader) one2 two2 < left now.reader one two
+    alone_less {s} {one2} {two2} {reader} {after} head h = less (key s) cmp s one two one2 two2 now.reader reader now.store after head h.on.others h.came
 
     module _ (s : Side) (step : IsAlone cmp key (both one two) now.store s) {new : Output} {e : ℕ} (ends : e ≡ job.end)
         (pushed : Wrote now.out new (text e (alone_entry job s (line now.store (both one two s).standing)))) where

@@ -1,9 +1,9 @@
 //! One input of a merge: the line at which it stands, and whether its keys go on in order.
 
-ghost use Rattle.std.specs.Prelude.{◌≡◌, ◌≢◌, ◌≤◌, ◌<◌, ◌+◌, ◌^◌, None, length, if◌then◌else◌, OnOk};
+ghost use Rattle.std.specs.Prelude.{◌≡◌, ◌≤◌, ◌<◌, ◌+◌, ◌^◌, None, length, if◌then◌else◌, OnOk};
 ghost use Rattle.ptlines.specs.Slots.{line};
 ghost use Rattle.ptlines.specs.Readers.{IsSound, budget};
-ghost use Rattle.ptmerge.specs.Places.{Advances, fresh, slot_of};
+ghost use Rattle.ptmerge.specs.Places.{Advances, AreThere, fresh, slot_of};
 ghost use Rattle.ptmerge.specs.Spans.{IsNoted, IsSpan};
 
 use crate::faults::MergeFault;
@@ -74,9 +74,7 @@ impl Sorted {
         reader: &mut LineReader<S, R>,
         store: &mut Store<A>,
     ) -> Result<(), MergeFault>
-        requires standing { self.old.standing < length store.old.lines }
-        requires previous { self.old.previous < length store.old.lines }
-        requires apart { self.old.standing ≢ self.old.previous }
+        requires there { AreThere self.old store.old }
         requires clean { reader.old.fault ≡ None }
         requires counted { self.old.number + budget reader.old ≤ 2 ^ 63 }
         requires key { let last = line store.old self.old.standing in

@@ -1,7 +1,7 @@
 //! `join`. It stands on the merge, and keeps the second input's lines of one key at a time.
 //!
-//! `groups` are those lines, `fields` the fields of a line and the entry that is written for two, and `blanks` finds
-//! what stands between words.
+//! `groups` are those lines, `fields` the fields of a line, `entries` what is written for two lines or for one, and
+//! `blanks` finds what stands between words.
 
 ghost use Rattle.std.specs.Prelude.{◌≡◌, ◌<◌, ◌≤◌, ℕ, List, ◌++◌, ◌∷◌, [], option_copied, false, true, length, IfSome, OnOk, OnErr};
 ghost use Rattle.ptlangs.specs.Jobs.{join_job};
@@ -19,6 +19,7 @@ ghost use Rattle.ptmerge.specs.Sides.{both};
 ghost use Rattle.ptmerge.specs.declared.order.Side.TheVariants as Of;
 
 mod blanks;
+mod entries;
 pub(crate) mod fields;
 mod groups;
 
@@ -26,7 +27,7 @@ use crate::faults::MergeFault;
 use crate::merging::slots::clear_four;
 use crate::merging::{Merge, Step};
 use crate::order::{Descending, FieldKeys, KeyOrder, Side};
-use crate::tools::join::fields::{push_first, push_pair, push_second};
+use crate::tools::join::entries::{push_first, push_pair, push_second};
 use crate::tools::join::groups::{clear_group, gather, group_slots};
 use ptlangs::jobs::JoinJob;
 use ptlines::{LineReader, Out, Sink, Source, Store, WriteFault};

@@ -1,5 +1,6 @@
-use Rattle.std.proofs.Common.{◌<◌, Result, Ok, Err, OnOk, OnErr, arith}
-use Rattle.ptlines.proofs.Counted.{appended_behind, short_behind, appended_before, same_before, short_before}
+use Rattle.std.proofs.Common.{◌<◌, ℕ, Result, Ok, Err, OnOk, OnErr, sym, subst, arith}
+use borrow.Author.Rules.{scaled_Fits}
+use Rattle.ptlines.proofs.Counted.{appended_behind, short_behind, appended_before, same_before, same_behind, short_before}
 use Rattle.ptlines.proofs.store.append_from.Goals as goal
 
 on_ok : {E : Type 0} (r : Result (Unit {0}) E) (P Q : Type 0) → (P → Q) → OnOk r P → OnOk r Q
@@ -38,3 +39,19 @@ returns-else-from-to-clause-short g c =
     let near : c.args.to < c.args.from = omega (arith, c.if-from-to.false, c.requires.differ) in
     short_before c.args.slots.now _ _ c.args.from c.args.to c.index-front-to.result c.line-else-from-to.result.now c.append-else-from-to.new.self
     c.line-else-from-to.result.now near c.requires.from_in c.split_at_mut-front-else-from-to.ensures.front c.split_at_mut-front-else-from-to.ensures.back c.append-else-from-to.ensures.short
+
+pub offset_bounds-front-from : goal.offset_bounds-front-from
+offset_bounds-front-from g c =
+    let low = subst (λ (n : ℕ). c.args.from < n) (sym c.split_at_mut-front.ensures.front_len) c.if-from-to.true in
+    search (scaled_Fits, low)
+
+pub offset_bounds-front-to : goal.offset_bounds-front-to
+offset_bounds-front-to g c =
+    let near : c.args.to < c.args.from = omega (arith, c.if-from-to.false, c.requires.differ) in
+    let low = subst (λ (n : ℕ). c.args.to < n) (sym c.split_at_mut-front-else-from-to.ensures.front_len) near in
+    search (scaled_Fits, low)
+
+pub returns-then-from-to-clause-err : goal.returns-then-from-to-clause-err
+returns-then-from-to-clause-err g c =
+    on_err c.append.result _ _ (same_behind c.args.slots.now _ _ c.args.from c.args.to _ c.line.result.now c.append.new.self c.line.result.now c.if-from-to.true
+    c.requires.to_in c.split_at_mut-front.ensures.front c.split_at_mut-front.ensures.back) c.append.ensures.err

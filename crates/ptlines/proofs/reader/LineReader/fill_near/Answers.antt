@@ -1,8 +1,9 @@
 use Rattle.std.proofs.Common.{ℕ, ◌+◌, Some, subst, ◌<◌, ◌≤◌, ◌^◌, length, ◌∙◌, ap, arith}
 use Rattle.std.specs.Prelude.{slice_range}
 use Rattle.memchr.specs.Find.{IsFirst, Passes, is_byte}
-use Rattle.ptlines.specs.Readers.{Reader}
+use Rattle.ptlines.specs.Readers.{Reader, IsSound}
 use Rattle.ptlines.proofs.Filling.{near_done}
+use Rattle.ptlines.proofs.Given.{length_range, sound_less}
 use Rattle.ptlines.proofs.reader.LineReader.fill_near.Goals as goal
 
 pub returns-clause-line : goal.returns-clause-line
@@ -20,3 +21,17 @@ returns-clause-line g c given =
     let first = subst (λ (b : ℕ). IsFirst (Passes (is_byte b) r.block) r.start (r.start + g.row.N) (Some c.in-Some.at)) (ap (λ (r : Reader). r.ending) c.self.view_is) c.in-Some.ensures in
     near_done g.row.N c.args.self.now _ r.block r.start r.end c.in-Some.at c.args.store.now c.put_near.new.self c.args.slot c.requires.clean short high fits held first
     (λ i. record (c.self.view_is i) { held = slice_range r.block (c.in-Some.at + 1) r.end }) c.put_near.ensures
+
+pub returns-clause-sound : goal.returns-clause-sound
+returns-clause-sound g c =
+    let r = c.self.inside in
+    let fits : r.end ≤ length r.block = omega (arith, c.self.invariant.1, c.self.told) in
+    let high : c.in-Some.at < r.end = omega (arith, c.if-at-self.false) in
+    let less = length_range r.block (c.in-Some.at + 1) r.end (omega (arith, high)) fits in
+    sound_less _ c.self.invariant.3 (omega (arith, less, length_range r.block r.start r.end c.self.invariant.0 fits, c.in-Some.ensures.0.low))
+
+pub returns-in_default-clause-sound : goal.returns-in_default-clause-sound
+returns-in_default-clause-sound g c = subst IsSound c.self.view_is c.self.invariant.3
+
+pub returns-then-at-self-clause-sound : goal.returns-then-at-self-clause-sound
+returns-then-at-self-clause-sound g c = subst IsSound c.self.view_is c.self.invariant.3

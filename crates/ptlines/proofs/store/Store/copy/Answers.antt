@@ -1,6 +1,6 @@
 -- The slot that is copied from lies in front of the cut or behind it; either way one slot is set, and the sum of all
 -- lengths grows by its line. Where the growth is refused the slots are those from before.
-use Rattle.std.proofs.Common.{◌≡◌, [], get_or, set, max, sym, ◌∙◌, ap, subst, arith}
+use Rattle.std.proofs.Common.{◌≡◌, true, [], get_or, set, max, sym, ◌∙◌, ap, subst, arith}
 use Rattle.std.proofs.lemmas.List.{with_items_is}
 use Rattle.std.specs.Vec.{with_items}
 use Rattle.ptlines.specs.Slots.{Slots, AreShort, total}
@@ -46,3 +46,11 @@ returns-in-Ok-clause-ok g c =
     omega (arith, c.max-self-inside.ensures, all.1, all.2, ap (λ (t : Slots). t.peak) emptied) in
     let denied = ap (λ (t : Slots). t.denied) emptied in
     λ i. record { lines = (whole ∙ lines) i; peak = peak i; denied = denied i }
+
+pub returns-in-Err-clause-err : goal.returns-in-Err-clause-err
+returns-in-Err-clause-err g c =
+    let s = c.self.inside in
+    let emptied = c.self.view_is ∙ c.clear.ensures in
+    let whole = with_items_is s.slots c.append_from.new.slots (c.append_from.auto.slots ∙ c.deref_mut.ensures.len) in
+    let lines = whole ∙ c.in-Err.ensures.err ∙ c.deref_mut.ensures.value ∙ ap (λ (t : Slots). t.lines) emptied in
+    λ i. record { lines = lines i; peak = (emptied i).peak; denied = true }

@@ -1,5 +1,5 @@
 -- Each turn goes on to the next by one lemma of `Turns`, and each way out of it leaves what the clauses say.
-use Rattle.std.proofs.Common.{◌≡◌, [], refl, sym, ◌∙◌, subst}
+use Rattle.std.proofs.Common.{[], refl, ◌∙◌, subst}
 use Rattle.std.proofs.lemmas.List.{append-nil}
 use Rattle.std.proofs.lemmas.Result.{err_from_is_err_and}
 use Rattle.ptlangs.specs.Jobs.{comm_job}
@@ -41,19 +41,18 @@ steps-init g c =
 pub step-requires : goal.step-requires
 step-requires g c = c.steps.invariant.turn.placed
 
-pub pass-requires : goal.pass-requires
-pass-requires g c = let t = c.steps.invariant.turn in record { stands = stands_at t sides.First c.in-First.ensures.stands; clean = t.clean }
+pub pass-requires-clause-stands : goal.pass-requires-clause-stands
+pass-requires-clause-stands g c = stands_at c.steps.invariant.turn sides.First c.in-First.ensures.stands
 
-pub pass-requires-in-Second : goal.pass-requires-in-Second
-pass-requires-in-Second g c = let t = c.steps.invariant.turn in record { stands = stands_at t sides.Second c.in-Second.ensures.stands; clean = t.clean }
+pub pass-requires-in-Second-clause-stands : goal.pass-requires-in-Second-clause-stands
+pass-requires-in-Second-clause-stands g c = stands_at c.steps.invariant.turn sides.Second c.in-Second.ensures.stands
 
-pub pass-requires-in-Both : goal.pass-requires-in-Both
-pass-requires-in-Both g c = let t = c.steps.invariant.turn in record { stands = stands_at t sides.First c.in-Both.ensures.first; clean = t.clean }
+pub pass-requires-in-Both-clause-stands : goal.pass-requires-in-Both-clause-stands
+pass-requires-in-Both-clause-stands g c = stands_at c.steps.invariant.turn sides.First c.in-Both.ensures.first
 
-pub go_on-requires : goal.go_on-requires
-go_on-requires g c =
-    let passed = c.in_ok-pass-in-Both.ensures.passes in
-    record { stands = rw c.pass-in-Both.ensures.order (second_stands c.steps.invariant.turn c.in-Both.ensures passed); clean = passed.on.clean }
+pub go_on-requires-clause-stands : goal.go_on-requires-clause-stands
+go_on-requires-clause-stands g c =
+    rw c.pass-in-Both.ensures.order (second_stands c.steps.invariant.turn c.in-Both.ensures c.in_ok-pass-in-Both.ensures.passes)
 
 pub clear_four-requires : goal.clear_four-requires
 clear_four-requires g c = c.steps.invariant.turn.placed.slots

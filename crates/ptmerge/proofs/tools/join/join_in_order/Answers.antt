@@ -1,25 +1,22 @@
 -- Each turn goes on to the next by one lemma of `Turns`, and each way out of it leaves what the clauses say.
-use Rattle.std.proofs.Common.{sym, ◌∙◌, arith}
+use Rattle.std.proofs.Common.{sym, ◌∙◌}
 use Rattle.std.proofs.lemmas.Result.{err_from_is_err_and}
 use Rattle.ptlangs.specs.Jobs.{join_job}
 use Rattle.ptmerge.specs.declared.order.Side.TheVariants as sides
-use Rattle.ptmerge.proofs.OfJoin.Turns.{alone_on, alone_stops, begins, ended, end_there, fallen, gather_less, gather_stands, gather_stops, gathers_on, group_closed, group_there, opened}
-use Rattle.ptmerge.proofs.OfJoin.Turns.{opens, pair_group, pair_less, pair_stands, pair_stops, pairs_next, pairs_on, stands_at, start_stops, start_unread}
+use Rattle.ptmerge.specs.declared.tools.join.Phase.TheVariants as phases
+use Rattle.ptmerge.proofs.OfJoin.Turns.{alone_less, alone_on, alone_stops, begins}
+use Rattle.ptmerge.proofs.OfJoin.Turns.{ended, end_there, fallen, falls, gather_less, gather_stands, gather_stops, gathers_on, group_closed, group_there, opened}
+use Rattle.ptmerge.proofs.OfJoin.Turns.{opens, opens_less, pair_group, pair_less, pair_stands, pair_stops, pairs_next, pairs_on, stands_at, start_stops}
 use Rattle.ptmerge.proofs.OfMerges.GoingOn.{told}
 use Rattle.ptmerge.proofs.tools.join.join_in_order.Goals as goal
 
-pub returns-in_err-merge-clause-merged : goal.returns-in_err-merge-clause-merged
-returns-in_err-merge-clause-merged g c =
+pub returns-in_err-merge : goal.returns-in_err-merge
+returns-in_err-merge g c =
     let a = opened (join_job c.args.job.now) (g.K.KeyOrder.order c.args.order) (g.K.KeyOrder.key_of c.args.order) c.args.first.now c.args.second.now c.args.out.now c.args.store.now
     (record { total = g.met.K.KeyOrder.total c.args.order; exact = g.met.K.KeyOrder.exact c.args.order }) c.requires.keys c.requires.ready c.requires.sound c.requires.ending c.requires.writable in
-    start_stops a c.start.new.first c.start.new.second c.start.new.store c.in_err-merge.field-0.0 c.in_err-merge.ensures.breaks
-    (told (err_from_is_err_and c.from_residual.result c.from_residual.ensures.1))
-
-pub returns-in_err-merge-clause-refused : goal.returns-in_err-merge-clause-refused
-returns-in_err-merge-clause-refused g c =
-    let a = opened (join_job c.args.job.now) (g.K.KeyOrder.order c.args.order) (g.K.KeyOrder.key_of c.args.order) c.args.first.now c.args.second.now c.args.out.now c.args.store.now
-    (record { total = g.met.K.KeyOrder.total c.args.order; exact = g.met.K.KeyOrder.exact c.args.order }) c.requires.keys c.requires.ready c.requires.sound c.requires.ending c.requires.writable in
-    start_unread a c.start.new.first c.start.new.second c.start.new.store c.in_err-merge.field-0.0 c.in_err-merge.ensures.breaks
+    let l = start_stops a c.start.new.first c.start.new.second c.start.new.store c.in_err-merge.field-0.0 c.in_err-merge.ensures.breaks
+    (told (err_from_is_err_and c.from_residual.result c.from_residual.ensures.1)) in
+    record { merged = l.merged; refused = l.refused; slots = l.slots }
 
 pub turns-init : goal.turns-init
 turns-init g c =
@@ -56,6 +53,12 @@ turns-preserved-in-Continue-branch-3 g c =
       order = p.order ∙ i.order;
     }
 
+pub turns-smaller-in-Continue-branch-2 : goal.turns-smaller-in-Continue-branch-2
+turns-smaller-in-Continue-branch-2 g c = falls c.turns.phase c.turns.phase (alone_less c.turns.invariant.turn c.in-Between.is c.in-First.ensures.stands c.in_ok-pass_alone-in-First.ensures.passes)
+
+pub turns-smaller-in-Continue-branch-3 : goal.turns-smaller-in-Continue-branch-3
+turns-smaller-in-Continue-branch-3 g c = falls c.turns.phase c.turns.phase (alone_less c.turns.invariant.turn c.in-Between.is c.in-Second.ensures.stands c.in_ok-pass_alone-in-Second.ensures.passes)
+
 pub returns-in_err-pass_alone-in-First : goal.returns-in_err-pass_alone-in-First
 returns-in_err-pass_alone-in-First g c =
     let i = c.turns.invariant in
@@ -76,6 +79,9 @@ returns-in_err-pass_alone-in-Second g c =
 
 pub turns-preserved-in-Both : goal.turns-preserved-in-Both
 turns-preserved-in-Both g c = record { turn = opens c.turns.invariant.turn c.in-Between.is c.in-Both.ensures; order = c.turns.invariant.order }
+
+pub turns-smaller-in-Both : goal.turns-smaller-in-Both
+turns-smaller-in-Both g c = opens_less _ c.in-Between.is
 
 pub returns-in-End : goal.returns-in-End
 returns-in-End g c =
@@ -125,16 +131,18 @@ turns-preserved-else-not-repeats g c =
     }
 
 pub turns-smaller-else-not-repeats : goal.turns-smaller-else-not-repeats
-turns-smaller-else-not-repeats g c = omega (arith, gather_less c.turns.invariant.turn c.in-Gathering.is c.in_ok-end-in-Gathering.ensures.gathers c.in_ok-end-in-Gathering.ensures.on)
+turns-smaller-else-not-repeats g c =
+    falls c.turns.phase c.turns.phase (gather_less c.turns.invariant.turn c.in-Gathering.is c.in_ok-end-in-Gathering.ensures.gathers c.in_ok-end-in-Gathering.ensures.on)
 
 pub turns-smaller-then-not-repeats : goal.turns-smaller-then-not-repeats
-turns-smaller-then-not-repeats g c = omega (arith, gather_less c.turns.invariant.turn c.in-Gathering.is c.in_ok-end-in-Gathering.ensures.gathers c.in_ok-end-in-Gathering.ensures.on)
+turns-smaller-then-not-repeats g c =
+    falls phases.Pairing c.turns.phase (gather_less c.turns.invariant.turn c.in-Gathering.is c.in_ok-end-in-Gathering.ensures.gathers c.in_ok-end-in-Gathering.ensures.on)
 
 pub turns-smaller-then-not-repeats-2 : goal.turns-smaller-then-not-repeats-2
-turns-smaller-then-not-repeats-2 g c = omega (arith, pair_less c.turns.invariant.turn c.in-Pairing.is c.in_ok-pass_pairs-in-Pairing.ensures.passes)
+turns-smaller-then-not-repeats-2 g c = falls phases.Between c.turns.phase (pair_less c.turns.invariant.turn c.in-Pairing.is c.in_ok-pass_pairs-in-Pairing.ensures.passes)
 
 pub turns-smaller : goal.turns-smaller
-turns-smaller g c = omega (arith, pair_less c.turns.invariant.turn c.in-Pairing.is c.in_ok-pass_pairs-in-Pairing.ensures.passes)
+turns-smaller g c = falls c.turns.phase c.turns.phase (pair_less c.turns.invariant.turn c.in-Pairing.is c.in_ok-pass_pairs-in-Pairing.ensures.passes)
 
 pub pass_pairs-requires-clause-stands : goal.pass_pairs-requires-clause-stands
 pass_pairs-requires-clause-stands g c = pair_stands c.turns.invariant.turn c.in-Pairing.is

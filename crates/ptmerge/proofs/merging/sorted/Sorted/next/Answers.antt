@@ -21,8 +21,8 @@ returns-clause-moves g c =
     let some : 0 < old.number = grind (arith, nat_tests, c.if-number-eq0.false) in
     let e = rw c.in-Ok-true.field-0-test at (c.in-Ok-true.ensures.fills c.requires.clean) in
     let last_is : line after old.standing ≡ line before old.standing = ap (λ (s : Slots). line s old.standing) e.stored
-    ∙ line_other before old.previous old.standing e.line (λ is. c.requires.apart (sym is)) in
-    let next_is : line after old.previous ≡ e.line = ap (λ (s : Slots). line s old.previous) e.stored ∙ line_of before old.previous e.line c.requires.previous in
+    ∙ line_other before old.previous old.standing e.line (λ is. c.requires.there.apart (sym is)) in
+    let next_is : line after old.previous ≡ e.line = ap (λ (s : Slots). line s old.previous) e.stored ∙ line_of before old.previous e.line c.requires.there.previous in
     let last : c.key-last.result.now ≡ key (line before old.standing) = c.key-last.ensures ∙ ap key (c.line-2.ensures ∙ last_is) in
     let next : c.key-head.result.now ≡ key e.line = c.key-head.ensures ∙ ap key (c.line-3.ensures ∙ next_is) in
     let is : c.cmp-ordering.result ≡ cmp (key (line before old.standing)) (key e.line) = c.cmp-ordering.ensures ∙ (λ i. cmp (last i) (next i)) in

@@ -1,7 +1,7 @@
 use Rattle.std.proofs.Common.{ℕ, List, ◌∷◌, subst}
 use Rattle.std.proofs.lemmas.List.{append-nil}
 use Rattle.ptlines.specs.Outputs.{Wrote}
-use Rattle.ptmerge.proofs.tools.join.fields.push_led.Goals as goal
+use Rattle.ptmerge.proofs.tools.join.entries.push_led.Goals as goal
 
 pub returns-clause-wrote : goal.returns-clause-wrote
 returns-clause-wrote g c =

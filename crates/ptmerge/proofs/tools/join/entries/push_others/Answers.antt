@@ -6,7 +6,7 @@ use Rattle.ptmerge.specs.Join.{between, others}
 use Rattle.ptmerge.specs.JoinFields.{fields_left, led}
 use Rattle.ptmerge.proofs.OfJoin.Amid.{amid_as, amid_more, amid_fails, amid_ends}
 use Rattle.ptmerge.proofs.OfJoin.EntryLemmas.{others_more, others_rest, between_is}
-use Rattle.ptmerge.proofs.tools.join.fields.push_others.Goals as goal
+use Rattle.ptmerge.proofs.tools.join.entries.push_others.Goals as goal
 
 pub returns-in_err-push_led-clause-wrote : goal.returns-in_err-push_led-clause-wrote
 returns-in_err-push_led-clause-wrote g c =

@@ -6,7 +6,7 @@ use Rattle.ptmerge.specs.Join.{between, entry, others}
 use Rattle.ptmerge.specs.JoinFields.{fields_left, led}
 use Rattle.ptmerge.proofs.OfJoin.Amid.{amid_as, amid_more, amid_fails, amid_starts, amid_ends}
 use Rattle.ptmerge.proofs.OfJoin.EntryLemmas.{entry_plain}
-use Rattle.ptmerge.proofs.tools.join.fields.push_fields.Goals as goal
+use Rattle.ptmerge.proofs.tools.join.entries.push_fields.Goals as goal
 
 pub returns-in_err-push-in-None-clause-wrote : goal.returns-in_err-push-in-None-clause-wrote
 returns-in_err-push-in-None-clause-wrote g c =

@@ -4,7 +4,7 @@ use Rattle.ptmerge.specs.Keyed.{Lines}
 use Rattle.ptmerge.proofs.OfJoin.Amid.{amid_as, amid_more, amid_fails, amid_starts}
 use Rattle.ptmerge.proofs.OfJoin.EntryLemmas.{tidy_words}
 use Rattle.ptlines.specs.Outputs.{Wrote}
-use Rattle.ptmerge.proofs.tools.join.fields.push_words.Goals as goal
+use Rattle.ptmerge.proofs.tools.join.entries.push_words.Goals as goal
 
 pub returns-in_err-push_led-clause-wrote : goal.returns-in_err-push_led-clause-wrote
 returns-in_err-push_led-clause-wrote g c =

@@ -2,7 +2,7 @@ use Rattle.std.proofs.Common.{◌≤◌, ℕ, Option, subst, sym, ◌∙◌, ari
 use Rattle.std.proofs.lemmas.Bool.Decides.{nat_tests}
 use Rattle.ptmerge.specs.JoinFields.{IsAsWritten}
 use Rattle.ptmerge.proofs.OfJoin.EntryLemmas.{led_fields, tidy_words}
-use Rattle.ptmerge.proofs.tools.join.fields.stands_as_written.Goals as goal
+use Rattle.ptmerge.proofs.tools.join.entries.stands_as_written.Goals as goal
 
 pub returns-in-Some : goal.returns-in-Some
 returns-in-Some c = λ is.

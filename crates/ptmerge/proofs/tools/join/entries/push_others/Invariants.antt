@@ -4,7 +4,7 @@ use Rattle.std.specs.Prelude.{remove}
 use Rattle.ptmerge.specs.Join.{between, others}
 use Rattle.ptmerge.specs.JoinFields.{fields_left, led}
 use Rattle.ptmerge.proofs.OfJoin.Amid.{Amid}
-use Rattle.ptmerge.proofs.tools.join.fields.push_others.Given as goal
+use Rattle.ptmerge.proofs.tools.join.entries.push_others.Given as goal
 
 abbrev pub invariant-loop-passed : goal.invariant-loop-passed
 invariant-loop-passed g l =

@@ -3,7 +3,7 @@ use Rattle.ptlangs.specs.Jobs.{join_job}
 use Rattle.ptlines.proofs.Pushed.{wrote_trans, wrote_past}
 use Rattle.ptmerge.specs.Join.{entry}
 use Rattle.ptmerge.specs.JoinFields.{fields_left}
-use Rattle.ptmerge.proofs.tools.join.fields.push_entry.Goals as goal
+use Rattle.ptmerge.proofs.tools.join.entries.push_entry.Goals as goal
 
 pub returns-in_err-push_fields-clause-wrote : goal.returns-in_err-push_fields-clause-wrote
 returns-in_err-push_fields-clause-wrote g c =

@@ -3,7 +3,7 @@ use Rattle.ptlangs.specs.Jobs.{join_job}
 use Rattle.ptlines.specs.Outputs.{Wrote}
 use Rattle.ptmerge.specs.Join.{between, fields}
 use Rattle.ptmerge.proofs.OfJoin.EntryLemmas.{line_is, second_is}
-use Rattle.ptmerge.proofs.tools.join.fields.push_second.Goals as goal
+use Rattle.ptmerge.proofs.tools.join.entries.push_second.Goals as goal
 
 pub returns-in-None-clause-wrote : goal.returns-in-None-clause-wrote
 returns-in-None-clause-wrote g c =

@@ -4,7 +4,7 @@ use Rattle.ptlangs.specs.Jobs.{join_job}
 use Rattle.ptmerge.specs.Join.{between, entry, filled, named}
 use Rattle.ptmerge.specs.JoinFields.{fields_left, led}
 use Rattle.ptmerge.proofs.OfJoin.Amid.{Amid}
-use Rattle.ptmerge.proofs.tools.join.fields.push_listed.Given as goal
+use Rattle.ptmerge.proofs.tools.join.entries.push_listed.Given as goal
 
 abbrev pub invariant-items : goal.invariant-items
 invariant-items g l =

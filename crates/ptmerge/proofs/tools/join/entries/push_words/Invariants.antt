@@ -3,7 +3,7 @@ use Rattle.std.proofs.Common.{None, Some, option_copied}
 use Rattle.ptmerge.specs.JoinFields.{fields_left, led}
 use Rattle.ptmerge.proofs.OfJoin.Amid.{Amid}
 use Rattle.std.proofs.Common.{length}
-use Rattle.ptmerge.proofs.tools.join.fields.push_words.Given as goal
+use Rattle.ptmerge.proofs.tools.join.entries.push_words.Given as goal
 
 abbrev pub invariant-words : goal.invariant-words
 invariant-words g l = Amid l.fn.out l.out (led 32 (fields_left None (Some l.bytes))) (led 32 (fields_left None (option_copied l.left)))

@@ -7,7 +7,7 @@ use Rattle.ptmerge.specs.Join.{between, entry, filled, named}
 use Rattle.ptmerge.specs.JoinFields.{fields_left, led}
 use Rattle.ptmerge.proofs.OfJoin.Amid.{amid_as, amid_more, amid_fails, amid_starts}
 use Rattle.ptmerge.proofs.OfJoin.EntryLemmas.{between_is, entry_listed, listed_first, listed_more}
-use Rattle.ptmerge.proofs.tools.join.fields.push_listed.Goals as goal
+use Rattle.ptmerge.proofs.tools.join.entries.push_listed.Goals as goal
 
 pub returns-in_err-push-clause-wrote : goal.returns-in_err-push-clause-wrote
 returns-in_err-push-clause-wrote g c =

@@ -1,0 +1,23 @@
+use Rattle.std.proofs.Common.{◌<◌, length, sym, ap, subst, arith}
+use Rattle.ptlines.specs.Slots.{Slots}
+use Rattle.ptlines.proofs.Counted.{counted_in, counted_set, written}
+use Rattle.ptlines.proofs.store.Store.clear.Goals as goal
+
+pub overflow_sub-self : goal.overflow_sub-self
+overflow_sub-self g c =
+    let s = c.self.inside in
+    let low = subst (λ (t : Slots). c.args.slot < length t.lines) (sym c.self.view_is) c.requires in
+    omega (arith, counted_in s.slots.items c.args.slot s.held c.index.result.now low c.index.ensures c.self.invariant.0, c.size-count.ensures.size)
+
+pub invariant_of-self : goal.invariant_of-self
+invariant_of-self g c =
+    let s = c.self.inside in
+    let low = subst (λ (t : Slots). c.args.slot < length t.lines) (sym c.self.view_is) c.requires in
+    let few = counted_in s.slots.items c.args.slot s.held c.index.result.now low c.index.ensures c.self.invariant.0 in
+    counted_set s.slots.items c.args.slot s.held c.index.result.now low c.index.ensures c.self.invariant.0 c.clear.new.self c.self.invariant.2
+    (omega (arith, ap length c.clear.ensures)) (omega (arith, few, ap length c.clear.ensures, c.size-count.ensures.size)) (omega (arith, c.self.invariant.1))
+
+pub returns : goal.returns
+returns g c =
+    let k = invariant_of-self g c in
+    written c.args.slot c.self.view_is c.clear.ensures k.0 (omega (arith, k.1))
