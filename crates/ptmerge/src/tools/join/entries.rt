@@ -1,4 +1,5 @@
 //! What `join` writes for a pair of lines, or for one of them.
+
 ghost use Rattle.std.specs.Prelude.{◌≡◌, ◌++◌, ◌∷◌, [], None, Some, option_copied, true, false, OnOk, OnErr, IfSome};
 ghost use Rattle.ptlines.specs.Outputs.{Wrote};
 ghost use Rattle.ptlangs.specs.Jobs.{join_job};
@@ -236,7 +237,8 @@ fn push_entry<A: Allocator, W: Sink>(
 }
 
 // Pushes the entry of a pair of lines, of which this is the join field, and the byte that ends it. Lines that stand as
-// they are written are pushed whole, the second one without its join field.
+// they are written are pushed whole, the second one without its join field. Out of line, so that its caller, which
+// passes the lines of a key, stays short.
 #[inline(never)]
 pub(crate) fn push_pair<A: Allocator, W: Sink>(
     job: &JoinJob<A>,
@@ -264,7 +266,7 @@ pub(crate) fn push_pair<A: Allocator, W: Sink>(
     }
 }
 
-// Pushes the entry of a line of the first input, which pairs with none, and the byte that ends it.
+// Pushes the entry of a line of the first input, which pairs with none, and the byte that ends it. Out of line, as above.
 #[inline(never)]
 pub(crate) fn push_first<A: Allocator, W: Sink>(
     job: &JoinJob<A>,
