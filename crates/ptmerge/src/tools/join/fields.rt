@@ -1,4 +1,5 @@
 //! The fields of a line of `join`.
+
 ghost use Rattle.std.specs.Prelude.{◌≡◌, ◌∷◌, [], None, Some, ◌<◌, length, position, option_copied, IfSome, MatchOption};
 ghost use Rattle.std.specs.List.{slice_split};
 ghost use Rattle.ptmerge.specs.Join.{nth_field};
