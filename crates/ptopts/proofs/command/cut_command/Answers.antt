@@ -1,0 +1,12 @@
+use Rattle.std.proofs.Common.{refl, ap, sym}
+use Rattle.ptopts.specs.declared.tool.Tool.TheVariants.{Cut}
+use Rattle.ptopts.specs.Commands.{RunCut}
+use Rattle.ptopts.specs.Meant.{words_seen}
+use Rattle.ptopts.specs.Steps.{options_seen}
+use Rattle.ptopts.proofs.Judged.{judged_ok}
+use Rattle.ptopts.proofs.command.cut_command.Goals as goal
+
+pub returns : goal.returns
+returns g c =
+    judged_ok Cut (options_seen c.args.options.now) (words_seen c.args.operands.now) c.in_ok-inputs.inputs
+    c.in_ok-job.ensures.fault c.in_ok-inputs.ensures.fault refl (ap RunCut (sym c.in_ok-job.ensures.job)) c.in_ok-inputs.ensures.inputs
