@@ -1,7 +1,6 @@
 //! The command that words mean.
 
 ghost use Rattle.std.specs.Prelude.{◌≡◌, IfOk, None, option_map};
-ghost use Rattle.ptopts.specs.declared.tool.Tool.TheVariants.{Cut, Paste, Uniq, Comm, Join, Tr};
 ghost use Rattle.ptopts.specs.Faults.{combination_fault, operands_fault};
 ghost use Rattle.ptopts.specs.Commands.{judged, meaning, inputs, output};
 ghost use Rattle.ptopts.specs.Meant.{words_seen, seen, IsMeant, NamesTool};
@@ -109,92 +108,31 @@ fn read_command<'a, A: Allocator + Copy>(
     ensures { IsMeant result (judged tool (options_seen options.now) (words_seen operands.now)) }
 {
     match tool {
-        Tool::Cut => cut_command(alloc, options, operands),
-        Tool::Paste => paste_command(alloc, options, operands),
-        Tool::Uniq => uniq_command(alloc, options, operands),
-        Tool::Comm => comm_command(alloc, options, operands),
-        Tool::Join => join_command(alloc, options, operands),
-        Tool::Tr => tr_command(alloc, options, operands),
+        Tool::Cut => {
+            let job = cut_job(alloc, options)?;
+            Ok(Command::Cut(job, read_inputs(alloc, tool, options, operands)?))
+        }
+        Tool::Paste => {
+            let job = paste_job(alloc, options)?;
+            Ok(Command::Paste(job, read_inputs(alloc, tool, options, operands)?))
+        }
+        Tool::Uniq => {
+            let job = uniq_job(options)?;
+            Ok(Command::Uniq(job, read_inputs(alloc, tool, options, operands)?))
+        }
+        Tool::Comm => {
+            let job = comm_job(options);
+            Ok(Command::Comm(job, read_inputs(alloc, tool, options, operands)?))
+        }
+        Tool::Join => {
+            let job = join_job(alloc, options)?;
+            Ok(Command::Join(job, read_inputs(alloc, tool, options, operands)?))
+        }
+        Tool::Tr => {
+            let inputs = read_inputs(alloc, tool, options, operands)?;
+            Ok(Command::Tr(char_plan(options, operands)?, inputs))
+        }
     }
-}
-
-/// The command of `cut`.
-fn cut_command<'a, A: Allocator + Copy>(
-    alloc: A,
-    options: &[GivenOption<'a>],
-    operands: &[&'a str],
-) -> Result<Command<'a, A>, UseFault<'a>>
-    requires { combination_fault Cut (options_seen options.now) ≡ None }
-    ensures { IsMeant result (judged Cut (options_seen options.now) (words_seen operands.now)) }
-{
-    let job = cut_job(alloc, options)?;
-    let inputs = read_inputs(alloc, Tool::Cut, options, operands)?;
-    Ok(Command::Cut(job, inputs))
-}
-
-/// The command of `paste`.
-fn paste_command<'a, A: Allocator + Copy>(
-    alloc: A,
-    options: &[GivenOption<'a>],
-    operands: &[&'a str],
-) -> Result<Command<'a, A>, UseFault<'a>>
-    ensures { IsMeant result (judged Paste (options_seen options.now) (words_seen operands.now)) }
-{
-    let job = paste_job(alloc, options)?;
-    let inputs = read_inputs(alloc, Tool::Paste, options, operands)?;
-    Ok(Command::Paste(job, inputs))
-}
-
-/// The command of `uniq`.
-fn uniq_command<'a, A: Allocator + Copy>(
-    alloc: A,
-    options: &[GivenOption<'a>],
-    operands: &[&'a str],
-) -> Result<Command<'a, A>, UseFault<'a>>
-    ensures { IsMeant result (judged Uniq (options_seen options.now) (words_seen operands.now)) }
-{
-    let job = uniq_job(options)?;
-    let inputs = read_inputs(alloc, Tool::Uniq, options, operands)?;
-    Ok(Command::Uniq(job, inputs))
-}
-
-/// The command of `comm`.
-fn comm_command<'a, A: Allocator + Copy>(
-    alloc: A,
-    options: &[GivenOption<'a>],
-    operands: &[&'a str],
-) -> Result<Command<'a, A>, UseFault<'a>>
-    ensures { IsMeant result (judged Comm (options_seen options.now) (words_seen operands.now)) }
-{
-    let job = comm_job(options);
-    let inputs = read_inputs(alloc, Tool::Comm, options, operands)?;
-    Ok(Command::Comm(job, inputs))
-}
-
-/// The command of `join`.
-fn join_command<'a, A: Allocator + Copy>(
-    alloc: A,
-    options: &[GivenOption<'a>],
-    operands: &[&'a str],
-) -> Result<Command<'a, A>, UseFault<'a>>
-    ensures { IsMeant result (judged Join (options_seen options.now) (words_seen operands.now)) }
-{
-    let job = join_job(alloc, options)?;
-    let inputs = read_inputs(alloc, Tool::Join, options, operands)?;
-    Ok(Command::Join(job, inputs))
-}
-
-/// The command of `tr`.
-fn tr_command<'a, A: Allocator + Copy>(
-    alloc: A,
-    options: &[GivenOption<'a>],
-    operands: &[&'a str],
-) -> Result<Command<'a, A>, UseFault<'a>>
-    ensures { IsMeant result (judged Tr (options_seen options.now) (words_seen operands.now)) }
-{
-    check_operands(Tool::Tr, options, operands)?;
-    let plan = char_plan(options, operands)?;
-    Ok(Command::Tr(plan, inputs_named(alloc, Tool::Tr, operands)?))
 }
 
 /// The inputs of a tool that takes these operands.
