@@ -1,10 +1,13 @@
 -- The options of words while these are read.
-use Rattle.std.proofs.Common.{◌≡◌, ℕ, List, [], ◌∷◌, ◌++◌, Bool, true, false, refl, ap, sym, ◌∙◌, append_assoc, Option, Some, None, drop, append-nil}
+use Rattle.std.proofs.Common.{◌≡◌, ℕ, List, [], ◌∷◌, ◌++◌, Bool, true, false, refl, ap, sym, ◌∙◌, append_assoc, Option, Some, None, drop, append-nil, ◌<◌, ◌≤◌, length, arith}
 use Rattle.std.specs.Prelude.{slice_get, OnSome}
+use Rattle.std.specs.Borrow.{Bor}
+use Rattle.std.proofs.lemmas.List.{length-map}
 use Rattle.std.proofs.lemmas.List.Elements.{filter_map-append}
 use Rattle.ptopts.specs.declared.tool.Tool.{Tool}
 use Rattle.ptopts.specs.Words.{is_dashed, is_end_of_options, GivenOption, Event, events_of, takes_next, Reading, reading, reading_from, prefixed, option_in, options}
 use Rattle.ptopts.specs.Faults.{Fault, reading_fault}
+use Rattle.ptopts.specs.Meant.{words_seen}
 use Rattle.ptopts.specs.Steps.{options_among, behind_taken, ReadsGroup, ReadsWords}
 
 -- what was read of the words, and what these words behind it are, are the whole
@@ -68,3 +71,16 @@ module _ (tool : Tool) (words : List (List ℕ)) where
   group_fails os word more (Some f) ends dashed fails r =
       let is = reading-group word more (takes_next tool (drop 1 word)) ends dashed refl in
       r.faults ∙ rw is (fails (reading tool (behind_taken (takes_next tool (drop 1 word)) more)).events)
+
+behind_within : (taken : Bool) (words : List (List ℕ)) → length (behind_taken taken words) ≤ length words
+behind_within true [] = omega arith
+behind_within true (word ∷ words) = omega arith
+behind_within false [] = omega arith
+behind_within false (word ∷ words) = omega arith
+
+-- after a word and what it took fewer are left
+pub left_smaller : (taken : Bool) (words left : List (Bor (List ℕ))) (word : Bor (List ℕ)) (more : List (Bor (List ℕ)))
+    → words ≡ word ∷ more → words_seen left ≡ behind_taken taken (words_seen more) → length left < length words
+left_smaller taken words left word more split behind =
+    let now : Bor (List ℕ) → List ℕ = λ w. w.now in
+    omega (arith, ap length split, ap length behind, behind_within taken (words_seen more), length-map left now, length-map more now)
