@@ -1,5 +1,5 @@
-//! What words mean, whatever the tool: a command is read in one place, and looked at in another. What a function owns is
-//! let go at each of its exits, and each exit is proved.
+//! What words mean, whatever the tool: a command is read in one place, and looked at in another. What a function owns
+//! is let go at each of its exits, and each exit is proved.
 
 use crate::comparing::{holds_of, same};
 use crate::words::{Cut, Paste, is_comm, is_cut, is_paste, is_uniq};

@@ -63,8 +63,8 @@ fn nth_slow(byte: u8, bytes: &[u8], from: usize, to: usize, number: u64) -> Opti
     None
 }
 
-// The place of the byte with this number, counted from 1, among the first `to` bytes, 64 at a time. Out of line, so that
-// the first place is found without a call.
+// The place of the byte with this number, counted from 1, among the first `to` bytes, 64 at a time. Out of line, so
+// that the first place is found without a call.
 #[inline(never)]
 fn nth_far(byte: u8, bytes: &[u8], to: usize, number: u64) -> Option<usize>
     requires within { to ≤ length bytes.now }

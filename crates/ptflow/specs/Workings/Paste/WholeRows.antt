@@ -51,8 +51,8 @@ pub record HoldsTo (end : ℕ) (delims : List (Option ℕ)) (cells : List ℕ) (
   pub moved : AreTaken taken old new
   pub rows : HeldRows end delims cells from new written
 
--- One row more was put: the lines, of these lengths, with which the bytes of two cells begin, with the delimiter between
--- them and the end of the row.
+-- One row more was put: the lines, of these lengths, with which the bytes of two cells begin, with the delimiter
+-- between them and the end of the row.
 pub record PutsPair (end : ℕ) (delims : List (Option ℕ)) (one two : List ℕ) (count other : ℕ) (front put : List ℕ) : Type 0 where
   pub first : IsFirstByte (is_byte end) one (Some count)
   pub second : IsFirstByte (is_byte end) two (Some other)

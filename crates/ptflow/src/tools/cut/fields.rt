@@ -179,8 +179,8 @@ fn put_fields<A: Allocator + Copy>(
     end + 1
 }
 
-// How many bytes the whole lines up to a place have, and at least the first line, which ends at `to`. Out of line, since
-// few lines are without the delimiter where others have it.
+// How many bytes the whole lines up to a place have, and at least the first line, which ends at `to`. Out of line,
+// since few lines are without the delimiter where others have it.
 #[inline(never)]
 fn whole_lines(ending: u8, bytes: &[u8], to: usize, up_to: usize) -> usize
     requires first { IsFirstByte (is_byte ending) bytes.now (Some to) }

@@ -154,8 +154,8 @@ fn put_row<A: Allocator, S: Source, R: Source>(
     Some(end + 1)
 }
 
-// Puts the next row of two cells, if the lines with which their bytes begin are whole and there is room for the row. The
-// answer is how long the lines are, and where the row ends.
+// Puts the next row of two cells, if the lines with which their bytes begin are whole and there is room for the row.
+// The answer is how long the lines are, and where the row ends.
 #[inline(always)]
 fn put_pair<A: Allocator>(
     delims: &Delims<A>,

@@ -266,7 +266,8 @@ pub(crate) fn push_pair<A: Allocator, W: Sink>(
     }
 }
 
-// Pushes the entry of a line of the first input, which pairs with none, and the byte that ends it. Out of line, as above.
+// Pushes the entry of a line of the first input, which pairs with none, and the byte that ends it. Out of line, for
+// the same reason.
 #[inline(never)]
 pub(crate) fn push_first<A: Allocator, W: Sink>(
     job: &JoinJob<A>,
