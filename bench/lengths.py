@@ -1,4 +1,5 @@
-"""The same commands over inputs of equal size whose lines are of one length, from 0 to 10,000 bytes."""
+"""The same commands over inputs whose lines are of one length, from 0 to 10,000 bytes. They are of equal size, but for
+the shortest lines of two inputs."""
 
 import functools
 import itertools
@@ -10,8 +11,10 @@ import chart
 from measuring import FILE, OTHER, RUNS, compare, instructions
 
 LENGTHS = [0, 1, 2, 4, 8, 16, 30, 100, 1000, 10000]
-# What an input has, and the greater one of two.
+# The bytes of an input, and of the greater one of two.
 SIZE = 32 << 20
+# The most lines of an input of join or comm: GNU's tools take half a minute over 32 MB of empty ones.
+LINES = 5000000
 COUNTED_LINES = 30000
 COUNTED_SIZE = 1 << 20
 LETTERS = "abcdefghijklmnopqrstuvwxyz"
@@ -33,24 +36,27 @@ def word(number, length):
 
 
 def kept(count, lacks):
-    """How many of the first numbers are left without each third one, from this one on; without none, all of them."""
+    """How many of the first numbers are left if each third one is taken away, the first of these being `lacks`; all, if
+    that is None."""
     return count if lacks is None else count - (count + 2 - lacks) // 3
 
 
 def lines(length, count, lacks, among, separator):
-    """A line for each of the first numbers that are kept. Lines ascend: a key of up to 8 letters, which are `among` in
-    number if so many letters have so many words, and after it fields of 7 letters. Keys that are fewer repeat."""
+    """Lines for the first numbers, without each third one from `lacks` on. They ascend. Each is a key of up to 8
+    letters, and after it fields of 7 letters. There are `among` keys, or all words of so many letters if these are
+    fewer; then keys repeat."""
     key = min(length, KEY)
     rest = ((separator + "xyzxyzx") * (length // 8 + 1))[: length - key] + "\n"
     words = 26**key
     if words >= among:
         numbers = (it for it in range(count) if lacks is None or it % 3 != lacks)
         return "".join(word(it * words // among, key) + rest for it in numbers)
-    # The numbers from which on each word stands, and from which on the next one does.
+    # The numbers at which each word begins, and the one at which the last word ends.
     ends = [min(-(-it * among // words), count) for it in range(words + 1)]
     return "".join((word(it, key) + rest) * (kept(ends[it + 1], lacks) - kept(ends[it], lacks)) for it in range(words))
 
 
+@functools.cache
 def in_thirds(kind):
     """The lines of two inputs of one length: of the places of both, the first lacks each third one, and the second
     another third; so half of each is common."""
@@ -120,9 +126,10 @@ def measured(folder, ptext, other, quick):
     counted = shutil.which("valgrind") is not None
     rows = []
     for length in LENGTHS:
-        count = SIZE // (length + 1) // (10 if quick else 1)
         inputs = {}
         for tool, cases in CASES.items():
+            whole = SIZE // (length + 1)
+            count = (min(whole, LINES) if tool in ("join", "comm") else whole) // (10 if quick else 1)
             for made, separator, words in cases:
                 if (made, separator) not in inputs:
                     place = len(inputs)
@@ -193,8 +200,9 @@ def run(folder, ptext, other, quick, to):
     part = 10 if quick else 1
     said = (
         "Ratios by the bytes of a line, without its newline, and in brackets the instructions of `ptext` a line.\n"
-        f"{'Each command once' if quick else f'The best of {RUNS} runs'}, over {(SIZE >> 20) / part:g} MB, on "
-        f"{os.cpu_count()} processors; other work on the machine at the start: {load:.1f} of them.\n"
+        f"{'Each command once' if quick else f'The best of {RUNS} runs'}, over {(SIZE >> 20) / part:g} MB (`join` "
+        f"and `comm` over at most {LINES // part:,} lines), on {os.cpu_count()} processors; other work on the machine "
+        f"at the start: {load:.1f} of them.\n"
         "`OTHER` is the second input, of lines as long; `FILE` is the first once more.\n\n"
     )
     os.makedirs(to, exist_ok=True)
