@@ -136,14 +136,13 @@ module _ (selected : ℕ → Bool) where
           ap (λ (l : List ℕ). get_or l k 0) after_is ∙ get_or-set_other counts (place + 1) k (count + one) 0 (λ e. omega (arith, e, less)) ∙ begun.counted k (omega (arith, less))
       by_cases k (inr (inr more)) upto = absurd (omega (arith, more, upto))
 
-  pub pick_whole : (count most : ℕ) (row counts : List ℕ) → PickBegun 16 count row counts → 16 ≤ most → ((place : ℕ) → 16 < place → place ≤ most → selected place ≡ false)
+  pub pick_whole : (count most : ℕ) (row counts : List ℕ) → PickBegun 16 count row counts → ((place : ℕ) → 16 < place → place ≤ most → selected place ≡ false)
       → IsPick selected (record { row = row; counts = counts; most = most })
-  pick_whole count most row counts begun high past = record {
+  pick_whole count most row counts begun past = record {
     places = ap (λ (n : ℕ). take n row) (sym begun.is) ∙ begun.places;
     long = begun.long;
     lanes = begun.lanes;
     counts = begun.counted;
-    least = high;
     most = past;
   }
 

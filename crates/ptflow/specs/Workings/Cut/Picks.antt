@@ -17,7 +17,6 @@ pub record IsPick (selected : ℕ → Bool) (pick : Pick) : Type 0 where
   pub long : length pick.row ≡ 16
   pub lanes : All (λ place. place < 16) pick.row
   pub counts : (count : ℕ) → count ≤ 16 → slice_index pick.counts count ≡ length (picked selected count)
-  pub least : 16 ≤ pick.most
   pub most : (place : ℕ) → 16 < place → place ≤ pick.most → selected place ≡ false
 
 -- the intervals of a selection lie apart, and its places are theirs

@@ -70,35 +70,8 @@ fn copy_selected(
 }
 
 // Copies the selected bytes of a line, the first `count` of these bytes, and the byte that ends it. In front of it
-// stand `before` bytes of the line. The answer is where that ends. Out of line, as `copy_selected` is.
-#[inline(never)]
-fn copy_long(
-    by: &Selection,
-    before: u64,
-    bytes: &[u8],
-    count: usize,
-    into: &mut Written,
-    at: usize,
-) -> usize
-    requires by { IsSelection by.now }
-    requires lanes { 16 ≤ length bytes.now }
-    requires within { count < length bytes.now }
-    requires short { before + count < 2 ^ 63 }
-    requires room { at + count < 8192 }
-    ensures copied { take result into.new
-        ≡ take at into.old ++ chosen_piece by.now.selected.now before count (take (count + 1) bytes.now) }
-    ensures near { result ≤ at + count + 1 }
-{
-    if before > 0 || count > by.pick.most {
-        return copy_selected(by.selected, before, bytes, count, count + 1, into, at);
-    }
-    let at = put_picked(&by.pick, bytes, count, into, at);
-    into[at] = bytes[count];
-    at + 1
-}
-
-// The same of any line. Most lines come whole, and many are short; so that nothing else is asked of each line, 16 bytes
-// can be looked at.
+// stand `before` bytes of the line. The answer is where that ends. Most lines come whole, and many are short; so that
+// nothing else is asked of each line, 16 bytes can be looked at.
 #[inline(always)]
 fn copy_line(
     by: &Selection,
@@ -117,8 +90,8 @@ fn copy_line(
         ≡ take at into.old ++ chosen_piece by.now.selected.now before count (take (count + 1) bytes.now) }
     ensures near { result ≤ at + count + 1 }
 {
-    if before > 0 || count > 16 {
-        return copy_long(by, before, bytes, count, into, at);
+    if before > 0 || count > by.pick.most {
+        return copy_selected(by.selected, before, bytes, count, count + 1, into, at);
     }
     let at = put_picked(&by.pick, bytes, count, into, at);
     into[at] = bytes[count];

@@ -28,8 +28,7 @@ fn is_short(selected: &[Interval]) -> bool
 
 // Up to what length the first 16 places are all that is selected of a line.
 fn greatest_length(selected: &[Interval]) -> usize
-    ensures least { 16 ≤ result }
-    ensures most { (place : ℕ) → 16 < place → place ≤ result → is_selected selected.now place ≡ false }
+    ensures { (place : ℕ) → 16 < place → place ≤ result → is_selected selected.now place ≡ false }
 {
     if is_short(selected) { usize::MAX } else { 16 }
 }

@@ -9,6 +9,3 @@ returns-clause-copied c =
     let none : c.args.before ≡ 0 = omega (arith, c.if-before-gt0.false) in
     line_put list c.args.before c.args.count c.put_picked-at.result c.args.bytes.now (take c.args.at c.args.into.now) c.put_picked-at.new.into none c.requires.within
     (omega (arith, c.put_picked-at.ensures.near, c.requires.room, c.put_picked-at.ensures.long, c.told-into)) (c.put_picked-at.ensures.picked (is_selected list) c.requires.by.1)
-
-pub put_picked-at-requires-clause-short : goal.put_picked-at-requires-clause-short
-put_picked-at-requires-clause-short c = omega (arith, c.if-before-gt0.false, c.requires.by.1.least)

@@ -18,5 +18,5 @@ returns g c =
     let loop = c.loop-place in
     let selected = is_selected c.args.list.now in
     let all = subst (λ (n : ℕ). PickBegun selected n loop.count loop.row loop.counts) (omega (arith, c.loop-place-test.false, loop.auto)) loop.invariant in
-    pick_whole selected loop.count _ loop.row loop.counts all c.greatest_length.ensures.least
-    (λ place later upto. ap (λ (l : List Interval). is_selected l place) (sym c.intervals.ensures.kept) ∙ c.greatest_length.ensures.most place later upto)
+    pick_whole selected loop.count _ loop.row loop.counts all
+    (λ place later upto. ap (λ (l : List Interval). is_selected l place) (sym c.intervals.ensures.kept) ∙ c.greatest_length.ensures place later upto)
