@@ -28,9 +28,7 @@ pub(crate) trait BlockTool: Drop {
         ensures continues { OnOk result (Continues rest self.old self.new block.now out.old out.new) }
         ensures counts { counted self.new ≤ counted self.old + length block.now }
         ensures holds { (start : Self) → Holds start self.old → Holds start self.new }
-        ensures halts { OnErr result (Halts rest self.old block.now out.old out.new) }
-        ensures clean { OnOk result (out.new.faulted ≡ false) }
-        ensures fault { OnErr result (out.new.faulted ≡ true) };
+        ensures halts { OnErr result (Halts rest self.old block.now out.old out.new) };
 
     /// Pushes what is written once the input has ended.
     fn push_end<W: Sink>(&self, out: &mut Out<W>) -> Result<(), WriteFault>

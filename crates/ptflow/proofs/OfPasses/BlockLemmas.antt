@@ -35,14 +35,14 @@ module _ {X : Type 0} (rest_from : X → List ℕ → List ℕ) (start : X) wher
   module _ (now : X) (old reader shown : Reader) (block : List ℕ) (was is : Output) (m : Midway rest_from start now old reader was is) (goes : Goes reader shown []) (held : shown.held ≡ block) where
     -- the block was passed on and consumed
     unfoldable pub midway_more : (next : X) (new : Reader) (is' : Output) → new ≡ record shown { held = drop (length block) shown.held }
-        → Continues rest_from now next block is is' → is'.faulted ≡ false → Midway rest_from start next old new was is'
-    midway_more next new is' consumed c clean = record {
+        → Continues rest_from now next block is is' → Midway rest_from start next old new was is'
+    midway_more next new is' consumed c = record {
       given = m.given ++ block;
       pushed = m.pushed ++ c.pushed;
       reached = record {
         goes = goes_trans old reader new m.given block m.reached.goes whole;
         wrote = wrote_trans was is is' m.pushed c.pushed m.reached.clean m.reached.wrote c.wrote;
-        clean = clean;
+        clean = c.clean;
       };
       on = λ rest may.
           ap (rest_from start) (append_assoc m.given block rest) ∙ m.on (block ++ rest) (may_come reader new block rest whole.reads may)
@@ -82,15 +82,15 @@ module _ {X : Type 0} (tool : Tool) (rest_from : X → List ℕ → List ℕ) (H
           (b.decided m.given m.pushed now holds all)
 
   -- a write failed amid the block that is held
-  pub block_write : (is' : Output) (block : List ℕ) → new.held ≡ block → Halts rest_from now block is is' → is'.faulted ≡ true → new.failed ≡ reader.failed
+  pub block_write : (is' : Output) (block : List ℕ) → new.held ≡ block → Halts rest_from now block is is' → new.failed ≡ reader.failed
       → IsPass tool old new was is' store store (Err Write)
-  block_write is' block held h fault same =
-      pass_write rest_from start tool b.text now old reader new was is store store m ready sound [] reads stored works is' h.pushed h.wrote fault same ready.roomy
+  block_write is' block held h same =
+      pass_write rest_from start tool b.text now old reader new was is store store m ready sound [] reads stored works is' h.pushed h.wrote h.fault same ready.roomy
       (λ rest may. subst (λ (l : List ℕ). Begins h.pushed (rest_from now (l ++ rest))) (sym held) (h.true_so_far rest))
 
   -- what was staged could not be sent
   pub block_unsent : (is' : Output) → Wrote is is' [] → is'.faulted ≡ true → new.failed ≡ reader.failed → IsPass tool old new was is' store store (Err Write)
-  block_unsent is' wrote fault same = block_write is' new.held refl (halts_before rest_from now new.held is is' wrote) fault same
+  block_unsent is' wrote fault same = block_write is' new.held refl (halts_before rest_from now new.held is is' wrote fault) same
 
   module _ (is' : Output) (wrote : Wrote is is' (rest_from now [])) (done : IsDone new) (same : new.failed ≡ reader.failed) where
     pub block_done : is'.faulted ≡ false → new.fault ≡ None → new.pulled < 2 ^ 63 → IsPass tool old new was is' store store (Ok tt)

@@ -15,10 +15,10 @@ first_cell = record { number = 0; ended = false }
 
 module _ (end : ℕ) (delims : List (Option ℕ)) (all : List (List ℕ)) (was : Output) where
   -- a write failed
-  halted : (is : Output) → Halts (row_from end delims) first_cell all was is → is.faulted ≡ true → Wrote was is (glued_from delims 0 all ++ end ∷ [])
-  halted is h fault =
+  halted : (is : Output) → Halts (row_from end delims) first_cell all was is → Wrote was is (glued_from delims 0 all ++ end ∷ [])
+  halted is h =
       let b = h.true_so_far [] in
-      subst (λ (l : List ℕ). Wrote was is l) (sym b.is ∙ ap (row_from end delims first_cell) (append-nil all)) (wrote_past was is h.pushed b.rest fault h.wrote)
+      subst (λ (l : List ℕ). Wrote was is l) (sym b.is ∙ ap (row_from end delims first_cell) (append-nil all)) (wrote_past was is h.pushed b.rest h.fault h.wrote)
 
   module _ (cell : Cell) (line : List ℕ) (rest : List (List ℕ)) (is is1 : Output) (a : Amid (row_from end delims) first_cell cell all (line ∷ rest) was is)
       (led : Wrote is is1 (lead delims cell)) where
@@ -26,7 +26,7 @@ module _ (end : ℕ) (delims : List (Option ℕ)) (all : List (List ℕ)) (was :
     led_on more = row_begun end delims cell line (rest ++ more)
 
     pub row_unled : is1.faulted ≡ true → Wrote was is1 (glued_from delims 0 all ++ end ∷ [])
-    row_unled fault = halted is1 (amid_halts (row_from end delims) first_cell cell (begun cell) all (line ∷ rest) (line ∷ rest) (lead delims cell) was is is1 a led led_on) fault
+    row_unled fault = halted is1 (amid_halts (row_from end delims) first_cell cell (begun cell) all (line ∷ rest) (line ∷ rest) (lead delims cell) was is is1 a led led_on fault)
 
     module _ (clean : is1.faulted ≡ false) (is2 : Output) (wrote : Wrote is1 is2 line) where
       abbrev ended : Cell
@@ -39,7 +39,7 @@ module _ (end : ℕ) (delims : List (Option ℕ)) (all : List (List ℕ)) (was :
       line_on more = row_line end delims (begun cell).number line (rest ++ more)
 
       pub row_cut : is2.faulted ≡ true → Wrote was is2 (glued_from delims 0 all ++ end ∷ [])
-      row_cut fault = halted is2 (amid_halts (row_from end delims) first_cell (begun cell) ended all (line ∷ rest) rest line was is1 is2 begun_amid wrote line_on) fault
+      row_cut fault = halted is2 (amid_halts (row_from end delims) first_cell (begun cell) ended all (line ∷ rest) rest line was is1 is2 begun_amid wrote line_on fault)
 
       pub row_more : is2.faulted ≡ false → Amid (row_from end delims) first_cell ended all rest was is2
       row_more fine = amid_more (row_from end delims) first_cell (begun cell) ended all (line ∷ rest) rest line was is1 is2 begun_amid wrote line_on fine

@@ -4,7 +4,7 @@ ghost use Rattle.std.specs.Prelude.{◌≡◌, ◌<◌, ◌≤◌, ◌+◌, ◌%
 ghost use Rattle.std.specs.List.{count_by};
 ghost use Rattle.std.specs.Simd.Lanes.{chunk};
 ghost use Rattle.memchr.specs.Find.{is_byte};
-ghost use Rattle.ptflow.specs.Workings.Paste.SerialRests.{with_delimiter, with_turns, IsTurnedTo};
+ghost use Rattle.ptflow.specs.Workings.Paste.SerialRests.{with_delimiter, with_turns, IsTurnBehind, IsTurnedTo};
 
 use crate::kernels::lanes::{Mover, move_most};
 use crate::kernels::places::marks;
@@ -114,8 +114,7 @@ fn replace_chunk(
     requires room { at + 64 ≤ length from.now }
     requires same { length to.old ≡ length from.now }
     ensures long { length to.new ≡ length from.now }
-    ensures place { result.place ≡ result.number % length delims.now }
-    ensures number { result.number ≡ turn.number + count_by (is_byte ending) (chunk at 64 from.now) }
+    ensures next { IsTurnBehind delims.now turn (count_by (is_byte ending) (chunk at 64 from.now)) result }
     ensures replaced { take (at + 64) to.new
         ≡ take at to.old ++ with_turns ending delims.now turn.number (chunk at 64 from.now) }
 {

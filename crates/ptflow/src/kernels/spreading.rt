@@ -5,7 +5,7 @@ ghost use Rattle.std.specs.List.{count_by};
 ghost use Rattle.std.specs.Simd.Lanes.{chunk};
 ghost use Rattle.memchr.specs.Find.{is_byte};
 ghost use Rattle.ptflow.specs.Workings.Paste.OneReader.{IsSpread};
-ghost use Rattle.ptflow.specs.Workings.Paste.SerialRests.{with_turns, IsTurnedTo};
+ghost use Rattle.ptflow.specs.Workings.Paste.SerialRests.{with_turns, IsTurnBehind, IsTurnedTo};
 
 use crate::kernels::places::marks;
 use crate::kernels::replacing::{Turn, replace_in_turn};
@@ -45,8 +45,7 @@ fn spread_chunk(
     requires room { at + 64 ≤ length from.now }
     requires same { length to.old ≡ length from.now }
     ensures long { length to.new ≡ length from.now }
-    ensures next { (result.place ≡ result.number % length turns.now)
-        × (result.number ≡ turn.number + count_by (is_byte ending) (chunk at 64 from.now)) }
+    ensures next { IsTurnBehind turns.now turn (count_by (is_byte ending) (chunk at 64 from.now)) result }
     ensures replaced { take (at + 64) to.new
         ≡ take at to.old ++ with_turns ending turns.now turn.number (chunk at 64 from.now) }
 {

@@ -61,7 +61,7 @@ returns-in_err-push_block-in-Ok g c =
     rw (e.1, e.2)
     (block_write t g.T.BlockTool.rest g.T.BlockTool.Holds c.args.tool.now tool c.turns.tool c.args.reader.now c.turns.reader c.block.follows.lender-at-none
     c.args.out.now c.send_before_wait.new.out store m ready b.was_sound shows.0.reads b.is_sound c.turns.invariant.holds c.turns.invariant.all
-    c.push_block.new.out c.in-Ok.block.now shows.1 c.in_err-push_block-in-Ok.ensures.halts c.in_err-push_block-in-Ok.ensures.fault shows.0.failed)
+    c.push_block.new.out c.in-Ok.block.now shows.1 c.in_err-push_block-in-Ok.ensures.halts shows.0.failed)
 
 pub returns-then-is_empty : goal.returns-then-is_empty
 returns-then-is_empty g c =
@@ -102,7 +102,7 @@ turns-preserved g c =
     let block = c.in-Ok.block.now in
     record {
       midway = midway_more g.T.BlockTool.rest c.args.tool.now c.turns.tool c.args.reader.now c.turns.reader shown block c.args.out.now c.send_before_wait.new.out m shows.0 shows.1
-          c.push_block.new.self c.consume.new.self c.push_block.new.out c.consume.ensures.consumed e.continues e.clean;
+          c.push_block.new.self c.consume.new.self c.push_block.new.out c.consume.ensures.consumed e.continues;
       all = λ rest.
           ap (g.T.BlockTool.rest c.args.tool.now) (append_assoc i.midway.given block rest) ∙ i.all (block ++ rest)
           ∙ ap (λ (l : List ℕ). i.midway.pushed ++ l) (e.continues.on rest)

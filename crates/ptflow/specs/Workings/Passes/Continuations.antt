@@ -1,5 +1,5 @@
 -- What was pushed for some items of an input, bytes or lines, stated for every continuation of it.
-use Rattle.std.specs.Prelude.{◌≡◌, ℕ, List, ◌++◌}
+use Rattle.std.specs.Prelude.{◌≡◌, ℕ, true, false, List, ◌++◌}
 use Rattle.ptlines.specs.Inputs.{Begins}
 use Rattle.ptlines.specs.Outputs.{Output, Wrote}
 
@@ -8,10 +8,12 @@ use Rattle.ptlines.specs.Outputs.{Output, Wrote}
 pub record Continues {X Y : Type 0} (rest_from : X → List Y → List ℕ) (before after : X) (items : List Y) (was is : Output) : Type 0 where
   pub pushed : List ℕ
   pub wrote : Wrote was is pushed
+  pub clean : is.faulted ≡ false
   pub on : (rest : List Y) → rest_from before (items ++ rest) ≡ pushed ++ rest_from after rest
 
 -- A write failed amid these items: what was pushed is a prefix of what is written, whatever comes.
 pub record Halts {X Y : Type 0} (rest_from : X → List Y → List ℕ) (before : X) (items : List Y) (was is : Output) : Type 0 where
   pub pushed : List ℕ
   pub wrote : Wrote was is pushed
+  pub fault : is.faulted ≡ true
   pub true_so_far : (rest : List Y) → Begins pushed (rest_from before (items ++ rest))

@@ -58,6 +58,10 @@ with_turns end delims number (b ∷ bytes) =
     if b == end then unwrap_or (delim_at delims number) end ∷ with_turns end delims (number + 1) bytes
     else b ∷ with_turns end delims number bytes
 
+-- this turn comes so many turns after another, and its place is that of its number
+abbrev pub IsTurnBehind : List (Option ℕ) → Turn → ℕ → Turn → Type 0
+IsTurnBehind delims turn count after = (after.place ≡ after.number % length delims) × (after.number ≡ turn.number + count)
+
 -- the first so many bytes are replaced so, and the turn is the one after them
 abbrev pub IsTurnedTo : ℕ → List (Option ℕ) → ℕ → Turn → ℕ → List ℕ → List ℕ → Type 0
 IsTurnedTo end delims number turn at from to =

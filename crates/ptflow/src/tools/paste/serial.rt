@@ -208,8 +208,6 @@ fn push_cells<A: Allocator, W: Sink>(
         (λ after. Continues (serial_rest ending delims.now) cell after block.now out.old out.new) }
     ensures bound { IfOk result (λ after. after.number ≤ cell.number + length block.now) }
     ensures halts { OnErr result (Halts (serial_rest ending delims.now) cell block.now out.old out.new) }
-    ensures clean { OnOk result (out.new.faulted ≡ false) }
-    ensures fault { OnErr result (out.new.faulted ≡ true) }
 {
     if block.is_empty() {
         return Ok(cell);

@@ -63,11 +63,11 @@ loop-end-preserved c =
           ∙ ap (λ (m : ℕ). first_turns end delims m first v) next);
     }
 
-pub returns-clause-number : goal.returns-clause-number
-returns-clause-number c =
+pub returns-clause-next : goal.returns-clause-next
+returns-clause-next c =
     let v = chunk c.args.at 64 c.args.from.now in
     let counted = ap count_ones c.marks-marked.ensures ∙ ones-mask_l (is_byte c.args.ending) v in
-    omega (arith, c.loop-end.invariant.number, counted, c.loop-end-test.false, c.loop-end.auto)
+    (c.loop-end.invariant.place, omega (arith, c.loop-end.invariant.number, counted, c.loop-end-test.false, c.loop-end.auto))
 
 pub returns-clause-replaced : goal.returns-clause-replaced
 returns-clause-replaced c =

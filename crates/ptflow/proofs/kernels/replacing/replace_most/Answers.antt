@@ -24,4 +24,4 @@ loop-at-preserved c =
     let made = c.replace_chunk-turn in
     turned_more c.args.ending c.args.delims.now c.args.number c.loop-at.at 64 c.loop-at.turn made.result c.args.from.now c.loop-at.to made.new.to
     c.loop-at.invariant (omega (arith, c.loop-at-test.true))
-    made.ensures.long made.ensures.number made.ensures.place made.ensures.replaced
+    made.ensures.long made.ensures.next.1 made.ensures.next.0 made.ensures.replaced

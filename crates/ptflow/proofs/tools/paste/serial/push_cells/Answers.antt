@@ -26,7 +26,8 @@ returns-in_err-begun-clause-halts g c =
     let long : 0 < length block = grind (arith, nat_tests) in
     on_err c.from_residual.result
     (amid_halts (serial_rest end delims) cell cell (begun cell) block block block (lead delims cell) out out c.begin_cell.new.out
-    (amid_starts (serial_rest end delims) cell block out c.requires.clean) c.begin_cell.ensures.wrote (begun_on end delims cell block long))
+    (amid_starts (serial_rest end delims) cell block out c.requires.clean) c.begin_cell.ensures.wrote (begun_on end delims cell block long)
+    c.in_err-begun.ensures.fault)
 
 pub put_block-count-requires-clause-short : goal.put_block-count-requires-clause-short
 put_block-count-requires-clause-short g c = omega (arith, ap (λ (x : Cell). x.number) c.in_ok-begun.ensures.begun, begun_number c.args.cell, c.requires.short)
@@ -46,7 +47,7 @@ returns-in_err-push-clause-halts g c =
     (amid_halts (serial_rest end delims) cell (begun cell) after block block [] written out c.begin_cell.new.out c.push.new.self
     (begins end delims cell cell block block out out c.begin_cell.new.out
     (amid_starts (serial_rest end delims) cell block out c.requires.clean) long c.begin_cell.ensures.wrote c.in_ok-begun.ensures.clean)
-    c.push.ensures.wrote puts)
+    c.push.ensures.wrote puts c.in_err-push.ensures.fault)
 
 pub returns-clause-continues : goal.returns-clause-continues
 returns-clause-continues g c =

@@ -10,7 +10,8 @@ returns-in_err-push-clause-halts g c =
     let block = c.args.block.now in
     let written = c.squeezed-written.result.now in
     let made = passes_make t.by.plan.now t.last block c.kept-kept.result.now c.mapped-mapped.result.now written c.kept-kept.ensures.kept c.mapped-mapped.ensures c.squeezed-written.ensures in
-    on_err c.from_residual.result (record { pushed = written; wrote = c.push.ensures.wrote; true_so_far = λ rest. block_begins t.by.plan.now t.last block written rest made })
+    on_err c.from_residual.result
+    (record { pushed = written; wrote = c.push.ensures.wrote; fault = c.in_err-push.ensures.fault; true_so_far = λ rest. block_begins t.by.plan.now t.last block written rest made })
 
 pub returns-clause-continues : goal.returns-clause-continues
 returns-clause-continues g c =
@@ -21,5 +22,6 @@ returns-clause-continues g c =
     record {
       pushed = written;
       wrote = c.push.ensures.wrote;
+      clean = c.in_ok-push.ensures.clean;
       on = λ rest. block_on t.by.plan.now t.last c.or-self.result block written rest made (c.or-self.ensures ∙ ap (λ (o : Option ℕ). option_or o t.last) (c.copied.ensures ∙ c.last.ensures.value));
     }

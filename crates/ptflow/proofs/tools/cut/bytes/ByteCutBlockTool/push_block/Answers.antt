@@ -11,6 +11,7 @@ returns-in_err-push-clause-halts g c =
     (record {
       pushed = take made.result.0 made.new.into;
       wrote = c.push.ensures.wrote;
+      fault = c.in_err-push.ensures.fault;
       true_so_far = λ more. record {
         rest = rest_by tool.ending tool.by.selected.now made.result.1 more;
         is = made.ensures.cut more;
@@ -21,5 +22,6 @@ pub returns-clause-continues : goal.returns-clause-continues
 returns-clause-continues g c = record {
   pushed = take c.cut_pieces-count.result.0 c.cut_pieces-count.new.into;
   wrote = c.push.ensures.wrote;
+  clean = c.in_ok-push.ensures.clean;
   on = c.cut_pieces-count.ensures.cut;
 }
