@@ -6,9 +6,10 @@ pub mod LastEnds
 pub mod OneReader
 pub mod PairRows
 pub mod PartsPaste
+pub mod PasteEnds
 pub mod PasteKeepsUp
-pub mod PasteLemmas
 pub mod PasteRows
+pub mod Pastings
 pub mod RowTurns
 pub mod SerialRests
 pub mod SheetRows

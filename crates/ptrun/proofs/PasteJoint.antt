@@ -22,7 +22,7 @@ use Rattle.ptflow.specs.PastePasses.{put_at, IsReadable, ReadAll, RowsFinished, 
 use Rattle.ptflow.specs.PastePasses as pass
 use Rattle.ptflow.specs.Pastes.{times, every, columns, rows, known_rows, sheet, paste, paste_decided, paste_size}
 use Rattle.ptflow.proofs.OfPaste.Grids.{each_same, times_below}
-use Rattle.ptflow.proofs.OfPaste.PasteLemmas.{named_at, all_named}
+use Rattle.ptflow.proofs.OfPaste.Pastings.{named_at, all_named}
 use Rattle.ptflow.specs.declared.faults.FlowFault.{FlowFault}
 use Rattle.ptflow.specs.declared.faults.FlowFault.TheVariants.{Read, Write, Memory}
 use Rattle.ptrun.specs.declared.engine.Done.{Done}

@@ -8,8 +8,8 @@ use Rattle.ptlines.specs.Outputs.{Wrote}
 use Rattle.ptlangs.specs.Jobs.{paste_job, ending}
 use Rattle.ptflow.specs.Pastes.{glued_from}
 use Rattle.ptflow.specs.Workings.Paste.WholeRows.{PassesRows}
-use Rattle.ptflow.proofs.OfPaste.PasteLemmas.{pasting_still, pasting_held, paste_held_write, paste_halted, paste_unslotted, pasting_starts}
-use Rattle.ptflow.proofs.OfPaste.PasteLemmas.{pasting_sent, pasting_room, pasting_more, paste_broke, paste_done, paste_row_write, end_of, fault_of}
+use Rattle.ptflow.proofs.OfPaste.PasteEnds.{paste_held_write, paste_halted, paste_unslotted, paste_broke, paste_done, paste_row_write}
+use Rattle.ptflow.proofs.OfPaste.Pastings.{pasting_still, pasting_held, pasting_starts, pasting_sent, pasting_room, pasting_more, end_of, fault_of}
 use Rattle.ptflow.proofs.tools.paste.paste.Goals as goal
 use Rattle.ptflow.proofs.tools.paste.paste.Goals.{then-job, else-job}
 

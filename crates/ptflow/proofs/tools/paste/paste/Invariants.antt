@@ -2,7 +2,7 @@
 use Rattle.std.specs.Prelude.{sum_by}
 use Rattle.ptlines.specs.Readers.{budget}
 use Rattle.ptlangs.specs.Jobs.{paste_job}
-use Rattle.ptflow.proofs.OfPaste.PasteLemmas.{Pasting}
+use Rattle.ptflow.proofs.OfPaste.Pastings.{Pasting}
 use Rattle.ptflow.proofs.tools.paste.paste.Given as goal
 
 abbrev pub invariant-rows : goal.invariant-rows
