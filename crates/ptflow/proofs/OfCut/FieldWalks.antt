@@ -32,6 +32,11 @@ pub record Walking (d : ℕ) (others : List Interval) (line : List ℕ) (number 
 pub step_fits : {d n : ℕ} (line : List ℕ) (at skipped : ℕ) → at ≤ length line → StartsAt d n (drop at line) skipped → at + skipped ≤ length line
 step_fits line at skipped fits s = omega (arith, s.fits, length-drop at line, fits)
 
+-- and so does a second one behind it
+pub slice_fits : {d n m : ℕ} (line : List ℕ) (at skipped passed : ℕ) → at ≤ length line → StartsAt d n (drop at line) skipped → StartsAt d m (drop (at + skipped) line) passed
+    → at + skipped + passed ≤ length line
+slice_fits line at skipped passed fits s p = step_fits line (at + skipped) passed (step_fits line at skipped fits s) p
+
 -- the selected fields of a line are to come
 pub all_coming : (d : ℕ) (all : List Interval) (line tail : List ℕ) → join_with_byte d (chosen (is_selected all) 1 (fields d line)) ++ tail ≡ coming d all line tail 1 0 0
 all_coming d all line tail = ap (λ (l : List ℕ). l ++ tail) (join_led d (chosen (is_selected all) 1 (fields d line)))

@@ -7,6 +7,7 @@ use Rattle.ptlines.specs.Readers.{Reader, Reads, Goes, IsDone, IsSound, HasReadC
 use Rattle.ptlines.specs.Inputs.{Given, Begins, Agrees}
 use Rattle.ptlines.specs.Outputs.{Output, Wrote}
 use Rattle.ptlines.specs.Slots.{Slots, total}
+use Rattle.ptlines.proofs.Coming.{came_set}
 use Rattle.ptlines.proofs.Filling.{reads_trans}
 use Rattle.ptlines.proofs.Pushed.{wrote_nothing, wrote_trans}
 use Rattle.ptflow.specs.Tools.{Tool}
@@ -99,7 +100,7 @@ module _ (tool : Tool) (end : ℕ) (old set new : Reader) (was is : Output) (bef
       let p = subst (λ (r : Reader). IsPass tool r new was is before store result) same pass in
       record {
         given = p.given;
-        came = record { moved = p.came.moved; count = p.came.count; ended = p.came.ended; refused = p.came.refused; still = p.came.still; end = p.came.end };
+        came = came_set old (record old { ending = end }) end refl new p.given p.came;
         pushed = p.pushed;
         wrote = p.wrote;
         ends = ends_set result p.ends;

@@ -2,11 +2,12 @@
 -- fill.
 use Rattle.std.proofs.Common.{◌≡◌, ⊎_elim, inl, inr, ℕ, zero, suc, ◌+◌, ◌-◌, ◌<◌, ◌≤◌, ◌^◌, Bool, true, false, cond, List, [], ◌∷◌, ◌++◌, Option, None, Some, length}
 use Rattle.std.proofs.Common.{take, drop, set, get_or, refl, sym, ◌∙◌, ap, subst, arith, append_assoc, length-append, length-drop, replicate}
-use Rattle.std.specs.Prelude.{nat_lt, Result, Err}
+use Rattle.std.specs.Prelude.{All, nat_lt, Result, Err}
 use Rattle.std.proofs.lemmas.Bool.{cases_eq, cases_lt}
 use Rattle.std.proofs.lemmas.Bool.Decides.{nat_tests}
 use Rattle.std.proofs.lemmas.List.{append-nil, take-take, take-append-le, length-take-le, length-set, drop-drop}
 use Rattle.std.proofs.lemmas.List.{take_more_set, get_or-set_same, get_or-set_other, get_or-replicate, get_or_past, ext_get_or}
+use Rattle.std.proofs.lemmas.List.Elements.{All-get_or}
 use Rattle.memchr.specs.Find.{IsFirstByte, is_byte}
 use Rattle.ptlines.specs.Readers.{Reader, Goes, IsSound}
 use Rattle.ptlines.specs.Outputs.{Output}
@@ -19,9 +20,17 @@ use Rattle.ptflow.specs.Workings.Paste.RowTurns.{RowFilled}
 use Rattle.ptflow.specs.Workings.Paste.SerialRests.{row_rest, row_from, begun, lead}
 use Rattle.ptflow.specs.Workings.Paste.WholeRows.{in_front, AreReadable, AreTaken, Holds, HeldRows, HoldsTo, PassesRows, PushedRows, PutsRow, PutsRows}
 use Rattle.ptflow.proofs.OfPaste.GivenRows.{blank, length_blank, held_row, held_trans}
-use Rattle.ptflow.proofs.OfPaste.RowTurns.{at_same, at_other, Filling, filling_starts, filling_line, filling_done}
+use Rattle.ptflow.proofs.OfPaste.RowTurns.{at_index, at_same, at_other, Filling, filling_starts, filling_line, filling_done}
 use Rattle.ptflow.proofs.OfPaste.SerialRests.{row_begun, row_line, row_end}
 use Rattle.ptflow.proofs.OfPaste.SheetRows.{first_cell}
+
+-- what was taken of the reader of a cell is in the bytes that were read of it
+pub taken_fits : (cells : List ℕ) (readers : List Reader) (taken : List ℕ) (n : ℕ) → n < length cells → All (λ (p : ℕ). p < length readers) cells → Holds readers taken
+    → {r : Reader} → r ≡ get_or readers (get_or cells n 0) r → (bytes : List ℕ) → bytes ≡ r.held → get_or taken (get_or cells n 0) 0 ≤ length bytes
+taken_fits cells readers taken n low within holds {r} is bytes held =
+    let place = get_or cells n 0 in
+    let same = is ∙ at_index readers place r (All-get_or (λ (p : ℕ). p < length readers) cells n 0 low within) in
+    omega (arith, holds place, ap length (held ∙ ap (λ (x : Reader). x.held) same))
 
 -- a line that lies whole in what a reader holds
 held_line : (b r : Reader) (at : ℕ) (store : Slots) (slot : ℕ) → b.fault ≡ None → b.pulled < 2 ^ 63 → IsFirstByte (is_byte b.ending) b.held (Some at)

@@ -12,7 +12,7 @@ use Rattle.ptflow.specs.Cuts.{cut_fields}
 use Rattle.ptflow.specs.Workings.Cut.FieldPlaces.{fields, StartsAt}
 use Rattle.ptflow.proofs.OfBytes.Chosen.{chosen}
 use Rattle.ptflow.proofs.OfPasses.Fronts.{front_starts, front_more, front_fails, front_ends}
-use Rattle.ptflow.proofs.OfCut.FieldWalks.{not_past, step_fits, coming, all_coming, walking_starts, walking_done, walking_short, walking_ends, walking_slice, walking_more}
+use Rattle.ptflow.proofs.OfCut.FieldWalks.{not_past, step_fits, slice_fits, coming, all_coming, walking_starts, walking_done, walking_short, walking_ends, walking_slice, walking_more}
 use Rattle.ptflow.proofs.tools.cut.fields.push_fields.Goals as goal
 
 pub loop-interval-init : goal.loop-interval-init
@@ -112,20 +112,18 @@ pub overflow_add-number : goal.overflow_add-number
 overflow_add-number g c =
     let l = c.loop-interval in
     let line = c.args.line.now in
-    let near = step_fits line l.at c.in-Some.skipped l.invariant.walk.fits (found c.args.job.now.delim line _ l.at c.in-Some.skipped c.in-Some.ensures.found) in
-    let from = l.at + c.in-Some.skipped in
-    let far = step_fits line from c.in-Some-field_behind.passed near
-    (found c.args.job.now.delim line _ from c.in-Some-field_behind.passed c.in-Some-field_behind.ensures.found) in
+    let far = slice_fits line l.at c.in-Some.skipped c.in-Some-field_behind.passed l.invariant.walk.fits
+    (found c.args.job.now.delim line _ l.at c.in-Some.skipped c.in-Some.ensures.found)
+    (found c.args.job.now.delim line _ (l.at + c.in-Some.skipped) c.in-Some-field_behind.passed c.in-Some-field_behind.ensures.found) in
     omega (arith, far, c.in-Some-field_behind.ensures.found.count, c.in-Some.ensures.found.count, l.invariant.walk.count, c.requires.short)
 
 pub overflow_add-at : goal.overflow_add-at
 overflow_add-at g c =
     let l = c.loop-interval in
     let line = c.args.line.now in
-    let near = step_fits line l.at c.in-Some.skipped l.invariant.walk.fits (found c.args.job.now.delim line _ l.at c.in-Some.skipped c.in-Some.ensures.found) in
-    let from = l.at + c.in-Some.skipped in
-    let far = step_fits line from c.in-Some-field_behind.passed near
-    (found c.args.job.now.delim line _ from c.in-Some-field_behind.passed c.in-Some-field_behind.ensures.found) in
+    let far = slice_fits line l.at c.in-Some.skipped c.in-Some-field_behind.passed l.invariant.walk.fits
+    (found c.args.job.now.delim line _ l.at c.in-Some.skipped c.in-Some.ensures.found)
+    (found c.args.job.now.delim line _ (l.at + c.in-Some.skipped) c.in-Some-field_behind.passed c.in-Some-field_behind.ensures.found) in
     omega (arith, far, c.requires.short)
 
 pub overflow_add-from : goal.overflow_add-from

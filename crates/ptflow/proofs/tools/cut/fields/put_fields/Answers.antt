@@ -9,7 +9,7 @@ use Rattle.ptlangs.specs.declared.ranges.Interval.{Interval}
 use Rattle.ptflow.specs.Workings.Cut.FieldPlaces.{fields}
 use Rattle.ptflow.proofs.OfBytes.Chosen.{chosen}
 use Rattle.ptflow.proofs.OfCut.FieldPlaces.{rest_of, slice_of, line_with_end, put_byte}
-use Rattle.ptflow.proofs.OfCut.FieldWalks.{not_past, step_fits, coming, all_coming, walking_starts, walking_done, walking_short, walking_ends, walking_slice, walking_more}
+use Rattle.ptflow.proofs.OfCut.FieldWalks.{not_past, step_fits, slice_fits, coming, all_coming, walking_starts, walking_done, walking_short, walking_ends, walking_slice, walking_more}
 use Rattle.ptflow.proofs.tools.cut.fields.put_fields.Goals as goal
 
 pub loop-interval-init : goal.loop-interval-init
@@ -96,8 +96,7 @@ pub overflow_add-number : goal.overflow_add-number
 overflow_add-number g c =
     let l = c.loop-interval in
     let line = take c.args.to c.args.bytes.now in
-    let near = step_fits line l.at c.in-Some.skipped l.invariant.walk.fits c.in-Some.ensures.found in
-    let far = step_fits line (l.at + c.in-Some.skipped) c.in-Some-field_behind.passed near c.in-Some-field_behind.ensures.found in
+    let far = slice_fits line l.at c.in-Some.skipped c.in-Some-field_behind.passed l.invariant.walk.fits c.in-Some.ensures.found c.in-Some-field_behind.ensures.found in
     let s = c.in-Some.ensures.found in
     let p = c.in-Some-field_behind.ensures.found in
     omega (arith, far, p.count, s.count, l.invariant.walk.count, length-take-le c.args.to c.args.bytes.now (omega arith), c.requires.within, c.requires.short)
@@ -106,16 +105,14 @@ pub overflow_add-end : goal.overflow_add-end
 overflow_add-end g c =
     let l = c.loop-interval in
     let line = take c.args.to c.args.bytes.now in
-    let near = step_fits line l.at c.in-Some.skipped l.invariant.walk.fits c.in-Some.ensures.found in
-    let far = step_fits line (l.at + c.in-Some.skipped) c.in-Some-field_behind.passed near c.in-Some-field_behind.ensures.found in
+    let far = slice_fits line l.at c.in-Some.skipped c.in-Some-field_behind.passed l.invariant.walk.fits c.in-Some.ensures.found c.in-Some-field_behind.ensures.found in
     omega (arith, far, l.invariant.high, length-take-le c.args.to c.args.bytes.now (omega arith), c.requires.within, c.requires.room)
 
 pub overflow_add-at : goal.overflow_add-at
 overflow_add-at g c =
     let l = c.loop-interval in
     let line = take c.args.to c.args.bytes.now in
-    let near = step_fits line l.at c.in-Some.skipped l.invariant.walk.fits c.in-Some.ensures.found in
-    let far = step_fits line (l.at + c.in-Some.skipped) c.in-Some-field_behind.passed near c.in-Some-field_behind.ensures.found in
+    let far = slice_fits line l.at c.in-Some.skipped c.in-Some-field_behind.passed l.invariant.walk.fits c.in-Some.ensures.found c.in-Some-field_behind.ensures.found in
     omega (arith, far, length-take-le c.args.to c.args.bytes.now (omega arith), c.requires.within, c.requires.short)
 
 pub overflow_add-from : goal.overflow_add-from
@@ -129,8 +126,7 @@ pub copy_near-requires-in-loop-interval-clause-within : goal.copy_near-requires-
 copy_near-requires-in-loop-interval-clause-within g c =
     let l = c.loop-interval in
     let line = take c.args.to c.args.bytes.now in
-    let near = step_fits line l.at c.in-Some.skipped l.invariant.walk.fits c.in-Some.ensures.found in
-    let far = step_fits line (l.at + c.in-Some.skipped) c.in-Some-field_behind.passed near c.in-Some-field_behind.ensures.found in
+    let far = slice_fits line l.at c.in-Some.skipped c.in-Some-field_behind.passed l.invariant.walk.fits c.in-Some.ensures.found c.in-Some-field_behind.ensures.found in
     (omega (arith, c.in-Some-field_behind.ensures.found.count), omega (arith, far, length-take-le c.args.to c.args.bytes.now (omega arith), c.requires.within))
 
 pub copy_near-requires-clause-within : goal.copy_near-requires-clause-within
@@ -156,6 +152,5 @@ pub copy_near-requires-in-loop-interval-clause-room : goal.copy_near-requires-in
 copy_near-requires-in-loop-interval-clause-room g c =
     let l = c.loop-interval in
     let line = take c.args.to c.args.bytes.now in
-    let near = step_fits line l.at c.in-Some.skipped l.invariant.walk.fits c.in-Some.ensures.found in
-    let far = step_fits line (l.at + c.in-Some.skipped) c.in-Some-field_behind.passed near c.in-Some-field_behind.ensures.found in
+    let far = slice_fits line l.at c.in-Some.skipped c.in-Some-field_behind.passed l.invariant.walk.fits c.in-Some.ensures.found c.in-Some-field_behind.ensures.found in
     omega (arith, far, l.invariant.high, l.invariant.long, length-take-le c.args.to c.args.bytes.now (omega arith), c.requires.within, c.requires.room)

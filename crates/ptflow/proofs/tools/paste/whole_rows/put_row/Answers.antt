@@ -10,7 +10,7 @@ use Rattle.ptflow.specs.Workings.Paste.SerialRests.{lead}
 use Rattle.ptflow.specs.Workings.Paste.WholeRows.{in_front}
 use Rattle.ptflow.proofs.OfPaste.Grids.{times_below}
 use Rattle.ptflow.proofs.OfPaste.RowTurns.{at_index}
-use Rattle.ptflow.proofs.OfPaste.WholeRows.{putting_starts, putting_more, putting_done, holds_more, front_kept, lead_kept, line_put, end_put}
+use Rattle.ptflow.proofs.OfPaste.WholeRows.{taken_fits, putting_starts, putting_more, putting_done, holds_more, front_kept, lead_kept, line_put, end_put}
 use Rattle.ptflow.proofs.tools.paste.whole_rows.put_row.Goals as goal
 
 pub loop-column-init : goal.loop-column-init
@@ -46,30 +46,21 @@ put_lead-from-requires g c = record { room = c.loop-column.invariant.near.1 }
 
 pub slice_bounds-rest-count : goal.slice_bounds-rest-count
 slice_bounds-rest-count g c =
-    let readers = c.args.readers.now in
-    let place = get_or c.args.cells.now c.loop-column.column 0 in
-    let is_read = c.index-readers-place.is ∙ at_index readers place c.index-readers-place.result
-    (All-get_or (λ (p : ℕ). p < length readers) c.args.cells.now c.loop-column.column 0 c.loop-column-test.true c.requires.within) in
-    let held_is : c.held.result.now ≡ (reader_at readers place).held = c.held.ensures.held ∙ ap (λ (r : Reader). r.held) is_read in
-    omega (arith, c.loop-column.invariant.holds place, ap length held_is)
+    let fits = taken_fits c.args.cells.now c.args.readers.now c.loop-column.taken c.loop-column.column c.loop-column-test.true c.requires.within c.loop-column.invariant.holds
+    c.index-readers-place.is c.held.result.now c.held.ensures.held in
+    omega (arith, fits)
 
 pub slice_bounds-rest-start : goal.slice_bounds-rest-start
 slice_bounds-rest-start g c =
-    let readers = c.args.readers.now in
-    let place = get_or c.args.cells.now c.loop-column.column 0 in
-    let is_read = c.index-readers-place.is ∙ at_index readers place c.index-readers-place.result
-    (All-get_or (λ (p : ℕ). p < length readers) c.args.cells.now c.loop-column.column 0 c.loop-column-test.true c.requires.within) in
-    let held_is : c.held.result.now ≡ (reader_at readers place).held = c.held.ensures.held ∙ ap (λ (r : Reader). r.held) is_read in
-    omega (arith, c.loop-column.invariant.holds place, ap length held_is)
+    let fits = taken_fits c.args.cells.now c.args.readers.now c.loop-column.taken c.loop-column.column c.loop-column-test.true c.requires.within c.loop-column.invariant.holds
+    c.index-readers-place.is c.held.result.now c.held.ensures.held in
+    omega (arith, fits)
 
 pub slice_bounds-rest-end : goal.slice_bounds-rest-end
 slice_bounds-rest-end g c =
-    let readers = c.args.readers.now in
-    let place = get_or c.args.cells.now c.loop-column.column 0 in
-    let is_read = c.index-readers-place.is ∙ at_index readers place c.index-readers-place.result
-    (All-get_or (λ (p : ℕ). p < length readers) c.args.cells.now c.loop-column.column 0 c.loop-column-test.true c.requires.within) in
-    let held_is : c.held.result.now ≡ (reader_at readers place).held = c.held.ensures.held ∙ ap (λ (r : Reader). r.held) is_read in
-    omega (arith, c.loop-column.invariant.holds place, ap length held_is)
+    let fits = taken_fits c.args.cells.now c.args.readers.now c.loop-column.taken c.loop-column.column c.loop-column-test.true c.requires.within c.loop-column.invariant.holds
+    c.index-readers-place.is c.held.result.now c.held.ensures.held in
+    omega (arith, fits)
 
 pub put_line-requires : goal.put_line-requires
 put_line-requires g c =
@@ -83,21 +74,15 @@ overflow_add-taken g c = omega (arith, c.in_ok-count.ensures.near)
 
 pub overflow_add-taken-in-loop-column : goal.overflow_add-taken-in-loop-column
 overflow_add-taken-in-loop-column g c =
-    let readers = c.args.readers.now in
-    let place = get_or c.args.cells.now c.loop-column.column 0 in
-    let is_read = c.index-readers-place.is ∙ at_index readers place c.index-readers-place.result
-    (All-get_or (λ (p : ℕ). p < length readers) c.args.cells.now c.loop-column.column 0 c.loop-column-test.true c.requires.within) in
-    let sound = subst IsSound is_read c.held.ensures.sound in
-    omega (arith, c.loop-column.invariant.holds place, sound.held, c.in_ok-count.ensures.near)
+    let fits = taken_fits c.args.cells.now c.args.readers.now c.loop-column.taken c.loop-column.column c.loop-column-test.true c.requires.within c.loop-column.invariant.holds
+    c.index-readers-place.is c.held.result.now c.held.ensures.held in
+    omega (arith, fits, ap length c.held.ensures.held, c.held.ensures.sound.held, c.in_ok-count.ensures.near)
 
 pub overflow_cast-taken : goal.overflow_cast-taken
 overflow_cast-taken g c =
-    let readers = c.args.readers.now in
-    let place = get_or c.args.cells.now c.loop-column.column 0 in
-    let is_read = c.index-readers-place.is ∙ at_index readers place c.index-readers-place.result
-    (All-get_or (λ (p : ℕ). p < length readers) c.args.cells.now c.loop-column.column 0 c.loop-column-test.true c.requires.within) in
-    let sound = subst IsSound is_read c.held.ensures.sound in
-    omega (arith, c.loop-column.invariant.holds place, sound.held, c.in_ok-count.ensures.near)
+    let fits = taken_fits c.args.cells.now c.args.readers.now c.loop-column.taken c.loop-column.column c.loop-column-test.true c.requires.within c.loop-column.invariant.holds
+    c.index-readers-place.is c.held.result.now c.held.ensures.held in
+    omega (arith, fits, ap length c.held.ensures.held, c.held.ensures.sound.held, c.in_ok-count.ensures.near)
 
 pub bounds-into-end : goal.bounds-into-end
 bounds-into-end g c = omega (arith, c.loop-column.invariant.near.1)
