@@ -15,7 +15,8 @@ use Rattle.ptflow.specs.declared.faults.FlowFault.TheVariants.{Read, Write}
 use Rattle.ptflow.specs.Workings.Passes.Blocks.{IsBlockTool}
 use Rattle.ptflow.specs.Workings.Passes.Continuations.{Continues, Halts}
 use Rattle.ptflow.proofs.OfPasses.Continuations.{halts_before}
-use Rattle.ptflow.proofs.OfPasses.ReaderFacts.{given_of, may_come, goes_past}
+use Rattle.ptlines.proofs.Coming.{given_of}
+use Rattle.ptflow.proofs.OfPasses.ReaderFacts.{may_come, goes_past}
 use Rattle.ptflow.proofs.OfPasses.PassLemmas.{Midway, Works, Stored, stored_nothing, reached_nothing, pass_read, pass_write, pass_done, pass_unended}
 
 -- No more is counted than was given.

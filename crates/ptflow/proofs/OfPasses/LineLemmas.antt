@@ -20,7 +20,8 @@ use Rattle.ptflow.specs.declared.faults.FlowFault.TheVariants.{Read, Write, Memo
 use Rattle.ptflow.proofs.OfPasses.LineLaws.{parts_of, ended_front, longest-append}
 use Rattle.ptflow.proofs.OfPasses.LinesCame.{lines_none, lines_few, lines_on, lines_more, lines_block, line_front, came_longest, piece_longest, whole_before, before_line, behind_line}
 use Rattle.ptflow.proofs.OfPasses.PassLemmas.{Reached, reached_nothing, reached_sent, Midway, Works, Stored, pass_unslotted, pass_read, pass_memory, pass_write, pass_done, pass_unended}
-use Rattle.ptflow.proofs.OfPasses.ReaderFacts.{given_of, goes_nothing, goes_past}
+use Rattle.ptlines.proofs.Coming.{given_of}
+use Rattle.ptflow.proofs.OfPasses.ReaderFacts.{goes_nothing, goes_past}
 use Rattle.ptflow.proofs.OfPasses.SlotFacts.{Keeps, keeps_more, keeps_line, keeps_swapped, emptied}
 
 -- These lines came, and each of `width` slots has a line at most.

@@ -13,7 +13,8 @@ use Rattle.ptlines.specs.Fills.{GivesLine}
 use Rattle.ptlines.proofs.TextLaws.{lines_of_text, lines_last, lines_first, lines-text, text-append, text_push, AreLines_push, ended_of_text}
 use Rattle.ptflow.specs.Workings.Paste.TakenLines.{LinesCame}
 use Rattle.ptflow.proofs.OfPasses.LineLaws.{longest_piece, longest-append}
-use Rattle.ptflow.proofs.OfPasses.ReaderFacts.{given_of, done_gives_nothing, stays_done}
+use Rattle.ptlines.proofs.Coming.{given_of}
+use Rattle.ptflow.proofs.OfPasses.ReaderFacts.{done_gives_nothing, stays_done}
 
 longest_front : (end : ℕ) (ls : List (List ℕ)) (piece rest : List ℕ) → AreLines end ls → IsLine end piece → max (longest ls) (length piece) ≤ longest (lines end (text end ls ++ (piece ++ rest)))
 longest_front end ls piece rest whole free = omega (arith, ap longest (lines_of_text end ls (piece ++ rest) whole) ∙ longest-append ls (lines end (piece ++ rest)), longest_piece end piece rest free)

@@ -7,7 +7,7 @@ use Rattle.ptlines.specs.Readers.{Reader, Reads, Goes, IsDone, IsSound, HasReadC
 use Rattle.ptlines.specs.Inputs.{Given, Begins, Agrees}
 use Rattle.ptlines.specs.Outputs.{Output, Wrote}
 use Rattle.ptlines.specs.Slots.{Slots, total}
-use Rattle.ptlines.proofs.Coming.{came_set}
+use Rattle.ptlines.proofs.Coming.{given_of, came_of, came_set}
 use Rattle.ptlines.proofs.Filling.{reads_trans}
 use Rattle.ptlines.proofs.Pushed.{wrote_nothing, wrote_trans}
 use Rattle.ptflow.specs.Tools.{Tool}
@@ -16,7 +16,7 @@ use Rattle.ptlines.specs.KeepingUp.{WorksOff, KeepsUp}
 use Rattle.ptlines.proofs.Sending.{keeps_still, keeps_more}
 use Rattle.ptflow.specs.declared.faults.FlowFault.{FlowFault}
 use Rattle.ptflow.specs.declared.faults.FlowFault.TheVariants.{Read, Write, Memory}
-use Rattle.ptflow.proofs.OfPasses.ReaderFacts.{goes_nothing, given_of, came_of, done_gives_nothing, never_failed}
+use Rattle.ptflow.proofs.OfPasses.ReaderFacts.{goes_nothing, done_gives_nothing, never_failed}
 
 -- these bytes were given, and those pushed
 pub record Reached (old reader : Reader) (was is : Output) (given pushed : List ℕ) : Type 0 where

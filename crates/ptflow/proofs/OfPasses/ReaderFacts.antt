@@ -1,11 +1,10 @@
 -- Facts about readers and outputs that each engine starts from.
-use Rattle.std.proofs.Common.{◌≡◌, ℕ, ◌+◌, ◌<◌, ◌≤◌, ◌^◌, false, true, List, [], ◌++◌, None, length, take, drop, refl, sym, ◌∙◌, ap, subst, arith, length-append, length-drop}
+use Rattle.std.proofs.Common.{◌≡◌, ℕ, ◌+◌, ◌<◌, ◌≤◌, ◌^◌, false, true, List, [], ◌++◌, None, length, take, drop, refl, sym, ◌∙◌, ap, subst, arith, length-drop}
 use Rattle.std.proofs.lemmas.List.{nil_from_length}
-use Rattle.ptlines.specs.Inputs.{Given, Came}
 use Rattle.ptlines.specs.Readers.{Reader, Reads, Goes, IsDone, IsSound, unread, budget}
 use Rattle.ptlines.specs.Slots.{Slots}
 use Rattle.ptlines.proofs.Filling.{goes_trans}
-use Rattle.ptlines.proofs.Known.{prepend_known-nil, prepend_known-append}
+use Rattle.ptlines.proofs.Known.{prepend_known-nil}
 use Rattle.ptlines.proofs.Scanned.{goes_front}
 use Rattle.ptflow.specs.Passes.{IsReady}
 
@@ -16,20 +15,6 @@ goes_nothing r clean = record {
   fault = clean;
   failed = refl;
   short = λ h. h;
-}
-
--- what came of a reader that has given these bytes
-abbrev pub given_of : List ℕ → Reader → Given
-given_of bytes reader = record { bytes = bytes ++ reader.held; ended = reader.ended }
-
-pub came_of : (old new : Reader) (bytes : List ℕ) → Reads old new bytes → Came old new (given_of bytes new)
-came_of old new bytes reads = record {
-  moved = reads.moved ∙ prepend_known-append bytes new.held new.left;
-  count = omega (arith, reads.count, length-append bytes new.held);
-  ended = refl;
-  refused = reads.refused;
-  still = reads.still;
-  end = reads.end;
 }
 
 -- where nothing can come any more, nothing came

@@ -11,7 +11,7 @@ use Rattle.ptlines.specs.Inputs.{Given, Begins, Agrees, whole_lines}
 use Rattle.ptlines.specs.Outputs.{Output, Wrote}
 use Rattle.ptlines.specs.Readers.{Reader, Reads, IsDone, HasReadCause}
 use Rattle.ptlines.specs.Slots.{Slots, with_line, with_denied}
-use Rattle.ptlines.proofs.Coming.{came_of}
+use Rattle.ptlines.proofs.Coming.{given_of, came_of}
 use Rattle.ptlines.proofs.Filling.{reads_trans}
 use Rattle.ptlines.proofs.Pushed.{wrote_nothing, wrote_trans}
 use Rattle.ptlines.proofs.Sending.{keeps_still}
@@ -30,7 +30,7 @@ use Rattle.ptflow.proofs.OfPaste.Grids.{Column, times_below, times_front, grid_n
 use Rattle.ptflow.proofs.OfPasses.LineLaws.{longest-append}
 use Rattle.ptflow.proofs.OfPasses.LinesCame.{lines_on, came_longest, piece_longest}
 use Rattle.ptflow.proofs.OfPaste.PasteKeepsUp.{CutBack, cut_piece, cut_held, cut_lines, works_whole, works_behind, sheet-append}
-use Rattle.ptflow.proofs.OfPasses.ReaderFacts.{given_of, done_gives_nothing}
+use Rattle.ptflow.proofs.OfPasses.ReaderFacts.{done_gives_nothing}
 use Rattle.ptflow.proofs.OfPaste.Takes.{reads_nothing, lines_trans}
 use Rattle.ptflow.proofs.OfPaste.Pastings.{Pasting, pasting_sent, failed_of, unfailed_of, came_since, none_in, none_of, at_most, now_end, row_gives, rows_wrote, AmidRows}
 use Rattle.ptflow.proofs.OfPaste.Pastings.{named_end, failed_set, fault_set, never_failed, short_set, held_now, given_by, came_by, rows_by, begins_by, whole_by, more_by, rows_whole}

@@ -21,7 +21,7 @@ use Rattle.ptflow.specs.Workings.Paste.TakenLines.{LinesCame}
 use Rattle.ptflow.proofs.OfCut.PickLemmas.{chosen_append}
 use Rattle.ptflow.proofs.OfPaste.Grids.{Column, each, each_same, map_each_of, times_below, column_at, length-columns, every_short, neither, known_false}
 use Rattle.ptflow.proofs.OfPasses.LinesCame.{line_take, lines_are_given}
-use Rattle.ptflow.proofs.OfPasses.ReaderFacts.{given_of}
+use Rattle.ptlines.proofs.Coming.{given_of}
 
 -- ---- one input is cut back
 

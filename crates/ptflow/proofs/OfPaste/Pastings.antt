@@ -13,7 +13,7 @@ use Rattle.ptlines.specs.KeepingUp.{KeepsUp}
 use Rattle.ptlines.specs.Outputs.{Output, Wrote}
 use Rattle.ptlines.specs.Readers.{Reader, Reads, IsDone}
 use Rattle.ptlines.specs.Slots.{Slots, line, total}
-use Rattle.ptlines.proofs.Coming.{came_of, came_of_set}
+use Rattle.ptlines.proofs.Coming.{given_of, came_of, came_of_set}
 use Rattle.ptlines.proofs.Filling.{reads_trans}
 use Rattle.ptlines.proofs.Pushed.{wrote_nothing, wrote_trans}
 use Rattle.ptlines.proofs.Sending.{keeps_still, keeps_more}
@@ -31,7 +31,7 @@ use Rattle.ptflow.proofs.OfPaste.Grids.{Column}
 use Rattle.ptflow.proofs.OfPasses.LineLaws.{longest-append}
 use Rattle.ptflow.proofs.OfPasses.LinesCame.{lines_on, came_longest}
 use Rattle.ptflow.proofs.OfPaste.PasteKeepsUp.{CutBack, WorksAt, cut_before, cut_lines, works_behind, begins_behind, sheet-append}
-use Rattle.ptflow.proofs.OfPasses.ReaderFacts.{given_of, done_gives_nothing, may_come}
+use Rattle.ptflow.proofs.OfPasses.ReaderFacts.{done_gives_nothing, may_come}
 use Rattle.ptflow.proofs.OfPaste.Takes.{took_nothing, lines_trans}
 
 -- ---- places that cells name
