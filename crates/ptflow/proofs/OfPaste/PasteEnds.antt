@@ -34,7 +34,8 @@ use Rattle.ptflow.proofs.OfPasses.ReaderFacts.{done_gives_nothing}
 use Rattle.ptflow.proofs.OfPaste.Takes.{reads_nothing, lines_trans}
 use Rattle.ptflow.proofs.OfPaste.Pastings.{Pasting, pasting_sent, failed_of, unfailed_of, came_since, none_in, none_of, at_most, now_end, row_gives, rows_wrote, AmidRows}
 use Rattle.ptflow.proofs.OfPaste.Pastings.{named_end, failed_set, fault_set, never_failed, short_set, held_now, given_by, came_by, rows_by, begins_by, whole_by, more_by, rows_whole}
-use Rattle.ptflow.proofs.OfPaste.Pastings.{WorksBy, CutBy, works_by, begins_by_cut, keeps_by, keeps_past, failed_by, untouched_by, rows_bytes, rows_reads, rows_came, rows_longest, works_row, works_held, took_by, row_bytes, row_reads, left_by, kept_when, kept_by, any_kept}
+use Rattle.ptflow.proofs.OfPaste.Pastings.{WorksBy, CutBy, works_by, begins_by_cut, keeps_by, keeps_past, failed_by, untouched_by, rows_bytes, rows_reads}
+use Rattle.ptflow.proofs.OfPaste.Pastings.{rows_came, rows_longest, works_row, works_held, took_by, row_bytes, row_reads, left_by, kept_when, kept_by, any_kept}
 
 -- the slots were refused
 pub paste_unslotted : (job : Paste) (cells : List ℕ) (old set : List Reader) (was : Output) (first store : Slots) → was.faulted ≡ false
