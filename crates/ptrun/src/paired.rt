@@ -1,7 +1,8 @@
 //! The tools that take the lines of two inputs together, by their keys.
 
-ghost use Rattle.std.specs.Prelude.{◌≡◌, ◌<◌, ℕ, List, length, true, false};
+ghost use Rattle.std.specs.Prelude.{◌≡◌, ◌<◌, ℕ, List, None, length, true, false};
 ghost use Rattle.ptlines.specs.Readers.{IsSound};
+ghost use Rattle.ptlines.specs.Slots.{total};
 ghost use Rattle.ptmerge.specs.Keyed.{Tool};
 ghost use Rattle.ptmerge.specs.Merges.{IsReady, IsMerge, seen};
 ghost use Rattle.ptmerge.specs.Sides.{both};
@@ -158,7 +159,9 @@ fn merge_two<A: Allocator + Copy, T: Paired<A>, S: Source, R: Source, W: Sink>(
     store: &mut Store<A>,
     out: &mut Out<W>,
 ) -> Result<(), MergeFault>
-    requires { IsReady first.old second.old store.old }
+    requires readers { (first.old.refused ≡ false) × (second.old.refused ≡ false)
+        × (first.old.fault ≡ None) × (second.old.fault ≡ None) }
+    requires store { (store.old.denied ≡ false) × (total store.old.lines ≡ 0) }
     ensures merged { IsMerge (T.tool tool.now) (seen first.old second.old out.old store.old)
         (seen first.new second.new out.new store.new) result }
     ensures sound { AreSound first.old second.old first.new second.new }

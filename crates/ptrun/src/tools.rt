@@ -1,8 +1,9 @@
 //! The tools that go over their inputs one by one.
 
-ghost use Rattle.std.specs.Prelude.{◌≡◌, ℕ, List, true};
-ghost use Rattle.ptflow.specs.Passes.{IsReady, IsPass};
+ghost use Rattle.std.specs.Prelude.{◌≡◌, ℕ, List, None, true, false};
+ghost use Rattle.ptflow.specs.Passes.{IsPass};
 ghost use Rattle.ptflow.specs.Tools.{Tool};
+ghost use Rattle.ptlines.specs.Slots.{total};
 
 use ptflow::{FlowFault, cut, paste_serial, tr};
 use ptlangs::CharPlan;
@@ -28,7 +29,10 @@ pub(crate) trait OneByOne<A: Allocator + Copy>: Drop {
         store: &mut Store<A>,
         out: &mut Out<W>,
     ) -> Result<(), FlowFault>
-        requires { IsReady reader.old store.old }
+        requires opened { reader.old.refused ≡ false }
+        requires readable { reader.old.fault ≡ None }
+        requires roomy { store.old.denied ≡ false }
+        requires empty { total store.old.lines ≡ 0 }
         ensures { IsPass (tool self.now) reader.old reader.new out.old out.new store.old store.new result };
 
     /// Once the end of an input was reached, all of its output is decided.

@@ -28,8 +28,11 @@ loop-input-init g c =
     (fresh_all c.args.inputs.now c.requires.fresh) c.args.out.now c.args.voice.now c.args.store.now
     c.requires.writable c.requires.roomy c.requires.empty
 
-pub go_over-requires : goal.go_over-requires
-go_over-requires g c =
+pub go_over-requires-clause-opened : goal.go_over-requires-clause-opened
+go_over-requires-clause-opened g c = sym c.is_refused.ensures.refused ∙ c.if-is_refused.false
+
+pub go_over-requires-clause-readable : goal.go_over-requires-clause-readable
+go_over-requires-clause-readable g c =
     let p = c.place_of-place.result in
     let now = c.loop-input.inputs in
     let k = c.loop-input.invariant in
@@ -37,12 +40,13 @@ go_over-requires g c =
     let within : p < length now = subst (λ (n : ℕ). p < n) (sym k.same_length) in_old in
     let here = get_or_default now p c.index-inputs-place.result no_reader within in
     let opened = sym c.is_refused.ensures.refused ∙ c.if-is_refused.false in
-    record {
-      opened = opened;
-      readable = ap (λ (r : Reader). r.fault) here ∙ (ready_of _ _ _ _ (fresh_all c.args.inputs.now c.requires.fresh p) (ap (λ (r : Reader). r.refused) (sym here) ∙ opened) (k.places p)).fault;
-      roomy = k.roomy;
-      empty = k.empty;
-    }
+    ap (λ (r : Reader). r.fault) here ∙ (ready_of _ _ _ _ (fresh_all c.args.inputs.now c.requires.fresh p) (ap (λ (r : Reader). r.refused) (sym here) ∙ opened) (k.places p)).fault
+
+pub go_over-requires-clause-roomy : goal.go_over-requires-clause-roomy
+go_over-requires-clause-roomy g c = c.loop-input.invariant.roomy
+
+pub go_over-requires-clause-empty : goal.go_over-requires-clause-empty
+go_over-requires-clause-empty g c = c.loop-input.invariant.empty
 
 pub loop-input-preserved : goal.loop-input-preserved
 loop-input-preserved g c =

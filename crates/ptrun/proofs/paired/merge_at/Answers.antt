@@ -12,18 +12,18 @@ some_left rest high all is within = omega (arith, is, within)
 below : (first second : ℕ) → second ≤ first → (first ≡ second → ⊥) → second < first
 below first second least apart = omega (arith, least, apart)
 
-pub merge_two-requires : goal.merge_two-requires
-merge_two-requires g c =
+pub merge_two-requires-clause-readers : goal.merge_two-requires-clause-readers
+merge_two-requires-clause-readers g c =
     let s = c.split_at_mut-front in
     rw (
       was_low c.args.inputs.now s.result.0.now s.result.1.now c.args.first c.args.second s.ensures.value s.ensures.front_len c.if-first-second.true c.requires.within.1 c.index-front-first.result,
       was_high c.args.inputs.now s.result.0.now s.result.1.now c.args.first c.args.second s.ensures.value s.ensures.front_len c.if-first-second.true
           c.requires.within.1 c.index-back-0.result (some_left _ _ _ s.ensures.back_len c.requires.within.1),
     )
-    c.requires.ready
+    (c.requires.ready.opened1, c.requires.ready.opened2, c.requires.ready.readable1, c.requires.ready.readable2)
 
-pub merge_two-requires-else-first-second : goal.merge_two-requires-else-first-second
-merge_two-requires-else-first-second g c =
+pub merge_two-requires-else-first-second-clause-readers : goal.merge_two-requires-else-first-second-clause-readers
+merge_two-requires-else-first-second-clause-readers g c =
     let s = c.split_at_mut-front-else-first-second in
     let lower = below c.args.first c.args.second c.if-first-second.false c.requires.apart in
     rw (
@@ -31,7 +31,7 @@ merge_two-requires-else-first-second g c =
       was_high c.args.inputs.now s.result.0.now s.result.1.now c.args.second c.args.first s.ensures.value s.ensures.front_len lower c.requires.within.0
           c.index-back-0-else-first-second.result (some_left _ _ _ s.ensures.back_len c.requires.within.0),
     )
-    c.requires.ready
+    (c.requires.ready.opened1, c.requires.ready.opened2, c.requires.ready.readable1, c.requires.ready.readable2)
 
 pub returns-then-first-second : goal.returns-then-first-second
 returns-then-first-second g c =

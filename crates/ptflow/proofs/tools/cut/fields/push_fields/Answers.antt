@@ -150,3 +150,28 @@ overflow_add-last g c =
     let l = c.loop-interval in
     let w = l.invariant.walk in
     omega (arith, not_past c.args.job.now.delim c.intervals-selected.result.now c.args.line.now [] l.interval-index l.number l.at l.lead w c.loop-interval-test.true, w.low_is)
+
+-- a place in the line, less the delimiter in front of it, lies in the line too
+back : (from lead size : ℕ) → from ≤ size → from - lead ≤ size
+back from lead size near = omega (arith, near)
+
+pub slice_bounds-push-start : goal.slice_bounds-push-start
+slice_bounds-push-start g c =
+    let l = c.loop-interval in
+    let line = c.args.line.now in
+    back _ l.lead _ (step_fits line l.at c.in-Some.skipped l.invariant.walk.fits (found c.args.job.now.delim line _ l.at c.in-Some.skipped c.in-Some.ensures.found))
+
+pub slice_bounds-push-count : goal.slice_bounds-push-count
+slice_bounds-push-count g c =
+    let l = c.loop-interval in
+    let line = c.args.line.now in
+    back _ l.lead _ (step_fits line l.at c.in-Some.skipped l.invariant.walk.fits (found c.args.job.now.delim line _ l.at c.in-Some.skipped c.in-Some.ensures.found))
+
+itself : (size : ℕ) → size ≤ size
+itself size = omega arith
+
+pub field_behind-requires-in-loop-interval-clause-within : goal.field_behind-requires-in-loop-interval-clause-within
+field_behind-requires-in-loop-interval-clause-within g c =
+    let l = c.loop-interval in
+    let line = c.args.line.now in
+    (step_fits line l.at c.in-Some.skipped l.invariant.walk.fits (found c.args.job.now.delim line _ l.at c.in-Some.skipped c.in-Some.ensures.found), itself (length line))
