@@ -29,9 +29,11 @@ pub returns-in_err-check_combination : goal.returns-in_err-check_combination
 returns-in_err-check_combination c =
     let p = err_from_is_err_and c.from_residual.result c.from_residual.ensures.1 in
     let found = c.in_err-check_combination.ensures in
-    let first = first_found (combined_fault (options_seen c.args.options.now)) c.syntax.result.combinations.now c.loop-combination.combination-index _ _ c.loop-combination-test.true found.0 found.1 in
+    let first = first_found (combined_fault (options_seen c.args.options.now)) c.syntax.result.combinations.now
+    c.loop-combination.combination-index _ _ c.loop-combination-test.true found.0 found.1 in
     rw (p.1, p.2) (found.0, first ∙ sym c.loop-combination.invariant)
 
 pub loop-combination-preserved : goal.loop-combination-preserved
 loop-combination-preserved c =
-    c.loop-combination.invariant ∙ none_found (combined_fault (options_seen c.args.options.now)) c.syntax.result.combinations.now c.loop-combination.combination-index _ c.loop-combination-test.true c.in_ok-check_combination.ensures
+    c.loop-combination.invariant ∙ none_found (combined_fault (options_seen c.args.options.now)) c.syntax.result.combinations.now
+    c.loop-combination.combination-index _ c.loop-combination-test.true c.in_ok-check_combination.ensures
