@@ -42,7 +42,7 @@ abbrev pub behind : {A E : Type 0} → List A → Result (List A) E → Result (
 behind xs (Ok ys) = Ok (xs ++ ys)
 behind xs (Err e) = Err e
 
-behind_nothing : {A E : Type 0} (r : Result (List A) E) → behind [] r ≡ r
+pub behind_nothing : {A E : Type 0} (r : Result (List A) E) → behind [] r ≡ r
 behind_nothing (Ok ys) = refl
 behind_nothing (Err e) = refl
 

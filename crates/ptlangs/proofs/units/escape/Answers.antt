@@ -1,5 +1,5 @@
 use Rattle.std.proofs.Common.{Some, None, rules}
-use Rattle.ptlangs.proofs.TrNumbers.{octal_unit}
+use Rattle.ptlangs.proofs.TrNumbers.{octal_unit, octal_digits}
 use Rattle.ptlangs.proofs.units.escape.Goals as goal
 
 pub returns-in-Some-number-clause-unit : goal.returns-in-Some-number-clause-unit
@@ -9,3 +9,6 @@ returns-in-Some-number-clause-unit c =
 pub returns-in-None-clause-unit : goal.returns-in-None-clause-unit
 returns-in-None-clause-unit c =
     octal_unit c.args.bytes.now c.in-Some.first c.octal_len-count.result None (search rules) (search rules) (search rules) (search rules)
+
+pub number-requires-clause-digits : goal.number-requires-clause-digits
+number-requires-clause-digits c = rw c.octal_len-count.ensures (octal_digits c.args.bytes.now)
