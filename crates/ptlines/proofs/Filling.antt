@@ -2,7 +2,7 @@
 use Rattle.std.proofs.Common.{◌≡◌, ℕ, ◌+◌, ◌-◌, ◌^◌, ◌<◌, ◌≤◌, None, Some, get_or, take, drop, Bool, List, [], ◌∷◌, ◌++◌, Option, length, set, max, refl, sym}
 use Rattle.std.proofs.Common.{◌∙◌, ap, subst, arith, append_assoc, length-append}
 use Rattle.std.proofs.lemmas.Bool.Decides.{nat_tests}
-use Rattle.std.proofs.lemmas.List.{append-nil, set-set, length-set, get_or-set_same, take-take}
+use Rattle.std.proofs.lemmas.List.{append-nil, set-set, length-set, get_or-set_same, take-take, get_or-take}
 use Rattle.std.specs.Io.KnownBytes.{prepend_known}
 use Rattle.ptlines.specs.Slots.{Slots, line, total, with_line, with_denied}
 use Rattle.std.proofs.Common.{false, not, ◌==◌, inl, inr, ⊎_elim, Ok, Err}
@@ -17,7 +17,6 @@ use Rattle.ptlines.proofs.Scanned.{IsLine-append, before_end, take_end, goes_fro
 use Rattle.ptlines.proofs.Given.{length_range, rest_is}
 use Rattle.memchr.specs.Find.{IsFirst, IsFirstByte, Passes, is_byte}
 use Rattle.std.specs.Prelude.{slice_range}
-use Rattle.std.proofs.lemmas.Simd.{get_or-chunk}
 
 pub reads_trans : (a b c : Reader) (xs ys : List ℕ) → Reads a b xs → Reads b c ys → Reads a c (xs ++ ys)
 reads_trans a b c xs ys p q = record {
@@ -146,40 +145,35 @@ stop_done old now new before so_far after slot Memory f s = record {
   left = s.3;
 }
 
--- a line whose end is one of the next n bytes was put into the slot at once
-module _ (n : ℕ) (old new : Reader) (block : List ℕ) (start end at : ℕ) (before after : Slots) (slot : ℕ) where
-  -- the search went over the whole block
-  near_first : start ≤ at → at < end → end ≤ length block → slice_range block start end ≡ old.held → IsFirst (Passes (is_byte old.ending) block) start (start + n) (Some at)
-      → IsFirstByte (is_byte old.ending) old.held (Some (at - start))
-  near_first low high fits held first = (
+-- a line whose end is one of the next n bytes, which begin `front`, was put into the slot at once
+module _ (n : ℕ) (old new : Reader) (block front : List ℕ) (start end size : ℕ) (before after : Slots) (slot : ℕ) where
+  -- the search went beyond what is held
+  near_first : start + size < end → end - start ≤ length old.held → take (end - start) front ≡ old.held → IsFirst (Passes (is_byte old.ending) front) 0 n (Some size)
+      → IsFirstByte (is_byte old.ending) old.held (Some size)
+  near_first high fits held first = (
     record {
       low = omega arith;
-      high = omega (arith, low, high, length_range block start end (omega (arith, low, high)) fits, ap length held);
-      before = λ k from to passes. first.0.before (start + k) (omega arith) (omega (arith, to, low)) (sym (there k (omega (arith, to, low, high))) ∙ passes);
+      high = omega (arith, high, fits);
+      before = λ k from to passes. first.0.before k from to (sym (there k (omega (arith, to, high))) ∙ passes);
     },
-    there (at - start) (omega (arith, low, high)) ∙ ap (λ (k : ℕ). is_byte old.ending (get_or block k 0)) back ∙ first.1,
+    there size (omega (arith, high)) ∙ first.1,
   )
     where
-      back : start + (at - start) ≡ at
-      back = omega (arith, low)
+      there : (k : ℕ) → k < end - start → is_byte old.ending (get_or old.held k 0) ≡ is_byte old.ending (get_or front k 0)
+      there k near = ap (is_byte old.ending) (ap (λ (l : List ℕ). get_or l k 0) (sym held) ∙ get_or-take (end - start) front k 0 near)
 
-      there : (k : ℕ) → k < end - start → is_byte old.ending (get_or old.held k 0) ≡ is_byte old.ending (get_or block (start + k) 0)
-      there k near = ap (is_byte old.ending) (ap (λ (l : List ℕ). get_or l k 0) (sym held) ∙ get_or-chunk start (end - start) block k 0 near)
-
-  pub near_done : old.fault ≡ None → old.pulled < 2 ^ 63 → at < end → end ≤ length block → slice_range block start end ≡ old.held
-      → IsFirst (Passes (is_byte old.ending) block) start (start + n) (Some at)
-      → new ≡ record old { held = slice_range block (at + 1) end } → after ≡ with_line before slot (take (at - start) (drop start block)) → GivesLine old new before after slot
-  near_done clean short high fits held first step stored =
-      let size = at - start in
-      let low : start ≤ at = first.0.low in
-      let found = near_first low high fits held first in
+  pub near_done : old.fault ≡ None → old.pulled < 2 ^ 63 → start + size < end → end ≤ length block → slice_range block start end ≡ old.held → take (end - start) front ≡ old.held
+      → IsFirst (Passes (is_byte old.ending) front) 0 n (Some size)
+      → new ≡ record old { held = slice_range block (start + size + 1) end } → after ≡ with_line before slot (take size front) → GivesLine old new before after slot
+  near_done clean short high fits held is_front first step stored =
+      let long : end - start ≤ length old.held = omega (arith, length_range block start end (omega (arith, high)) fits, ap length held) in
+      let found = near_first high long is_front first in
       let within : size + 1 ≤ length old.held = omega (arith, found.0.high) in
-      let past : start + (size + 1) ≡ at + 1 = omega (arith, low) in
-      let rest : slice_range block (at + 1) end ≡ drop (size + 1) old.held =
-      ap (λ (k : ℕ). slice_range block k end) (sym past) ∙ rest_is block start end (size + 1) old.held (omega (arith, low, high)) fits held within in
+      let past : start + (size + 1) ≡ start + size + 1 = omega arith in
+      let rest : slice_range block (start + size + 1) end ≡ drop (size + 1) old.held =
+      ap (λ (k : ℕ). slice_range block k end) (sym past) ∙ rest_is block start end (size + 1) old.held (omega (arith, high)) fits held within in
       let moved : new ≡ record old { held = drop (size + 1) old.held } = step ∙ ap (λ (h : List ℕ). record old { held = h }) rest in
-      let front : take size (drop start block) ≡ take size old.held =
-      sym (take-take size (end - start) (drop start block) (omega (arith, low, high))) ∙ ap (take size) held in
+      let line : take size front ≡ take size old.held = sym (take-take size (end - start) front (omega (arith, high))) ∙ ap (take size) is_front in
       let goes = subst (λ (b : List ℕ). Goes old new b) (take_end old.ending old.held size found) (goes_front old new (size + 1) clean within moved) in
       record {
         line = take size old.held;
@@ -187,6 +181,6 @@ module _ (n : ℕ) (old new : Reader) (block : List ℕ) (start end at : ℕ) (b
         goes = goes;
         whole = before_end old.ending old.held size found;
         ends = inl refl;
-        stored = stored ∙ ap (with_line before slot) front;
+        stored = stored ∙ ap (with_line before slot) line;
         less = spends old new (take size old.held ++ old.ending ∷ []) goes (omega (arith, length-append (take size old.held) (old.ending ∷ []))) short;
       }

@@ -13,7 +13,7 @@ ghost use Rattle.ptlines.specs.Fills.{Moves, Steps, GivesLine, Fills, Blocks};
 ghost use Rattle.ptlines.specs.contracts.reader.LineReader.{the_row};
 
 use crate::out::{Out, WriteFault};
-use crate::search::{find_in, find_near};
+use crate::search::{find_in_64, find_near};
 use crate::sink::{Failed, Sink};
 use crate::source::{Origin, Source};
 use crate::store::{LineFault, Store};
@@ -292,15 +292,10 @@ impl<S: Source, R: Source> LineReader<S, R> {
         self.scan(store, slot)
     }
 
-    // Puts the next line into a slot, if its end is one of the next N bytes. False: it is not, and nothing was
+    // Puts the next line into a slot, if its end is one of the next 64 bytes. False: it is not, and nothing was
     // done.
     #[inline(always)]
-    fn fill_near<const N: usize, A: Allocator + Copy>(
-        &mut self,
-        store: &mut Store<A>,
-        slot: usize,
-    ) -> bool
-        requires lanes { N ≤ 64 }
+    fn fill_near<A: Allocator + Copy>(&mut self, store: &mut Store<A>, slot: usize) -> bool
         requires clean { self.old.fault ≡ None }
         requires in_store { slot < length store.old.lines }
         ensures line { result ≡ true → GivesLine self.old self.new store.old store.new slot }
@@ -308,14 +303,15 @@ impl<S: Source, R: Source> LineReader<S, R> {
         ensures slots { length store.new.lines ≡ length store.old.lines }
         ensures sound { IsSound self.new }
     {
-        let from = self.start;
-        let Some(at) = find_in::<N>(self.ending, &self.block, from) else {
+        let front = &self.block[self.start..];
+        let Some(size) = find_in_64(self.ending, front) else {
             return false;
         };
+        let at = self.start + size;
         if at >= self.end {
             return false;
         }
-        store.put_near::<N>(slot, &self.block, from, at - from);
+        store.put_near(slot, front, size);
         self.start = at + 1;
         true
     }
@@ -367,8 +363,7 @@ impl<S: Source, R: Source> LineReader<S, R> {
         if let Some(fault) = self.fault() {
             return Err(fault);
         }
-        // A line of fewer than 16 bytes takes a shorter load and store.
-        if self.fill_near::<16, A>(store, slot) || self.fill_near::<64, A>(store, slot) {
+        if self.fill_near(store, slot) {
             return Ok(true);
         }
         self.fill_far(store, slot)

@@ -1,9 +1,33 @@
 //! A search for a byte, which is fast where it is one of the first bytes, or where there are few.
 
-ghost use Rattle.std.specs.Prelude.{◌≤◌, ◌<◌, ◌+◌, length};
+ghost use Rattle.std.specs.Prelude.{◌≡◌, ◌≤◌, ◌<◌, ◌+◌, length, map};
+ghost use Rattle.std.specs.Simd.Lanes.{mask_l, chunk};
 ghost use Rattle.memchr.specs.Find.{IsFirst, IsFirstByte, Passes, is_byte};
 
 use std::simd::prelude::*;
+
+// A bit for each of the N bytes from `at` on, the lowest for the first: whether it is this byte. N is at most 64.
+#[inline(always)]
+fn marks_in<const N: usize>(byte: u8, bytes: &[u8], at: usize) -> u64
+    requires lanes { N ≤ 64 }
+    requires within { at + N ≤ length bytes.now }
+    ensures { result ≡ mask_l (map (is_byte byte) (chunk at N bytes.now)) }
+{
+    Simd::<u8, N>::from_slice(&bytes[at..])
+        .simd_eq(Simd::splat(byte))
+        .to_bitmask()
+}
+
+// The same for 48 bytes.
+#[inline(always)]
+fn marks_in_48(byte: u8, bytes: &[u8], at: usize) -> u64
+    requires { at + 48 ≤ length bytes.now }
+    ensures { result ≡ mask_l (map (is_byte byte) (chunk at 48 bytes.now)) }
+{
+    marks_in::<16>(byte, bytes, at)
+        | marks_in::<16>(byte, bytes, at + 16) << 16
+        | marks_in::<16>(byte, bytes, at + 32) << 32
+}
 
 /// The place of the first such byte among the N bytes from `at` on, which are compared all at once; N is at most 64.
 /// The place is counted from the start of `bytes`.
@@ -13,13 +37,36 @@ pub fn find_in<const N: usize>(byte: u8, bytes: &[u8], at: usize) -> Option<usiz
     requires within { at + N ≤ length bytes.now }
     ensures { IsFirst (Passes (is_byte byte) bytes.now) at (at + N) result }
 {
-    let marked = Simd::<u8, N>::from_slice(&bytes[at..])
-        .simd_eq(Simd::splat(byte))
-        .to_bitmask();
+    let marked = marks_in::<N>(byte, bytes, at);
     if marked == 0 {
         return None;
     }
     Some(at + marked.trailing_zeros() as usize)
+}
+
+// The same for 48 bytes.
+#[inline(always)]
+fn find_in_48(byte: u8, bytes: &[u8], at: usize) -> Option<usize>
+    requires { at + 48 ≤ length bytes.now }
+    ensures { IsFirst (Passes (is_byte byte) bytes.now) at (at + 48) result }
+{
+    let marked = marks_in_48(byte, bytes, at);
+    if marked == 0 {
+        return None;
+    }
+    Some(at + marked.trailing_zeros() as usize)
+}
+
+// The place of the first such byte among the first 64. Of these 16 are compared alone: the byte is often one of them.
+#[inline(always)]
+pub(crate) fn find_in_64(byte: u8, bytes: &[u8]) -> Option<usize>
+    requires { 64 ≤ length bytes.now }
+    ensures { IsFirst (Passes (is_byte byte) bytes.now) 0 64 result }
+{
+    match find_in::<16>(byte, bytes, 0) {
+        Some(at) => Some(at),
+        None => find_in_48(byte, bytes, 16),
+    }
 }
 
 // The first place of a byte among N bytes or up to twice as many: in the first N or in the last N, which may overlap.

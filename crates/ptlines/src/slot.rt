@@ -59,15 +59,30 @@ impl<A: Allocator + Copy> Slot<A> {
         self.size = 0;
     }
 
-    // Makes the line the `size` bytes from a place on, which are fewer than N. N bytes can be looked at there.
+    // Makes the line the first `size` bytes, which are fewer than 64, although 64 are there. Fewer than 16 take a
+    // shorter store.
     #[inline(always)]
-    pub(crate) fn put_near<const N: usize>(&mut self, bytes: &[u8], from: usize, size: usize)
+    pub(crate) fn put_near(&mut self, bytes: &[u8], size: usize)
+        requires near { size < 64 }
+        requires within { 64 ≤ length bytes.now }
+        ensures { self.new ≡ take size bytes.now }
+    {
+        if size < 16 {
+            self.put_lanes::<16>(bytes, size);
+        } else {
+            self.put_lanes::<64>(bytes, size);
+        }
+    }
+
+    // Makes the line the first `size` bytes, which are fewer than N, although N are there.
+    #[inline(always)]
+    fn put_lanes<const N: usize>(&mut self, bytes: &[u8], size: usize)
         requires lanes { N ≤ 64 }
         requires near { size < N }
-        requires within { from + N ≤ length bytes.now }
-        ensures { self.new ≡ take size (drop from bytes.now) }
+        requires within { N ≤ length bytes.now }
+        ensures { self.new ≡ take size bytes.now }
     {
-        Simd::<u8, N>::from_slice(&bytes[from..]).copy_to_slice(&mut self.buffer);
+        Simd::<u8, N>::from_slice(bytes).copy_to_slice(&mut self.buffer);
         self.size = size;
     }
 
