@@ -11,7 +11,8 @@ use Rattle.std.proofs.lemmas.List.FromFn.{length-range_with_len, get_or-range_wi
 use Rattle.std.proofs.Math.Seq.{take-append-add}
 use Rattle.std.proofs.lemmas.Grind.{and_numeral}
 use Rattle.std.proofs.lemmas.Bool.Decides.{nat_tests}
-use Rattle.std.proofs.Math.Nat.{pow-succ', mul_assoc}
+use Rattle.std.proofs.Math.Nat.{pow-succ'}
+use Rattle.ptlines.proofs.Masks.{mask_of_parts}
 use Rattle.ptflow.specs.Workings.Bytes.Packings.{chosen_by, places_of, IsRow, IsPacking}
 use Rattle.ptflow.specs.declared.kernels.packing.Shuffles.{Shuffles}
 
@@ -50,10 +51,6 @@ chosen_by_parts {X} (true ∷ front) back (x ∷ xs) = ap (λ (ys : List X). x �
 chosen_by_parts (false ∷ front) back (x ∷ xs) = chosen_by_parts front back xs
 
 -- ---- the mask of flags
-
-mask_of_parts : (front back : List Bool) → mask_l (front ++ back) ≡ mask_l front + 2 ^ length front * mask_l back
-mask_of_parts [] back = omega arith
-mask_of_parts (f ∷ front) back = omega (arith, mask_of_parts front back, ap (λ (p : ℕ). p * mask_l back) (pow-succ' 2 (length front)), mul_assoc 2 (2 ^ length front) (mask_l back))
 
 -- the flags of a mask
 abbrev pub flags_of : ℕ → ℕ → List Bool
