@@ -5,13 +5,13 @@ use Rattle.ptlines.proofs.Counted.{counted_in, counted_set, fits, written}
 use Rattle.ptlines.proofs.store.Store.put_near.Goals as goal
 
 -- what is held once the line of a slot is some of these bytes
-put_count : (lines : List (List ℕ)) (slot held : ℕ) (had : List ℕ) → slot < length lines → had ≡ get_or lines slot had → held ≡ total lines → AreShort lines
-    → (was : ℕ) → was ≡ length had → (bytes : List ℕ) (size : ℕ) → size < 64 → 64 ≤ length bytes → (new : List ℕ) → new ≡ take size bytes
-    → held - was + size ≡ total (set lines slot new)
-put_count lines slot held had low is counts short was was_is bytes size near within new new_is =
+put_counted : (lines : List (List ℕ)) (slot held : ℕ) (had : List ℕ) → slot < length lines → had ≡ get_or lines slot had → held ≡ total lines → AreShort lines
+    → (was : ℕ) → was ≡ length had → (bytes : List ℕ) (n size : ℕ) → n ≤ 64 → size < n → n ≤ length bytes → (new : List ℕ) → new ≡ take size bytes
+    → (peak : ℕ) → held - was + size ≤ peak → (held - was + size ≡ total (set lines slot new)) × (held - was + size ≤ peak) × AreShort (set lines slot new)
+put_counted lines slot held had low is counts short was was_is bytes n size lanes near within new new_is peak less =
     let few = counted_in lines slot held had low is counts in
     let long : length new ≡ size = ap length new_is ∙ length-take-le size bytes (omega (arith, near, within)) in
-    (counted_set lines slot held had low is counts new {now = held - was + size} {peak = held - was + size} short (omega (arith, long, near)) (omega (arith, few, long, was_is)) (omega arith)).0
+    counted_set lines slot held had low is counts new short (omega (arith, long, near, lanes)) (omega (arith, few, long, was_is)) less
 
 pub overflow_sub-self : goal.overflow_sub-self
 overflow_sub-self g c =
@@ -22,22 +22,25 @@ overflow_sub-self g c =
 pub overflow_add-self : goal.overflow_add-self
 overflow_add-self g c =
     let s = c.self.inside.slots in
-    omega (arith, fits s.items c.args.size c.self.invariant.2 (omega (arith, s.ok, s.small)) (omega (arith, c.requires.near)), c.self.invariant.0)
+    omega (arith, fits s.items c.args.size c.self.invariant.2 (omega (arith, s.ok, s.small)) (omega (arith, c.requires.near, c.requires.lanes)), c.self.invariant.0)
+
+-- the peak is what is held now, or stays
+pub invariant_of-self : goal.invariant_of-self
+invariant_of-self g c =
+    let s = c.self.inside in
+    let low = subst (λ (t : Slots). c.args.slot < length t.lines) (sym c.self.view_is) c.requires.in_store in
+    put_counted s.slots.items c.args.slot s.held c.index.result.now low c.index.ensures c.self.invariant.0 c.self.invariant.2 c.size-was.result c.size-was.ensures.size
+    c.args.bytes.now g.row.N c.args.size c.requires.lanes c.requires.near c.requires.within c.put_near.new.self c.put_near.ensures _ (omega arith)
+
+pub invariant_of-self-else-self : goal.invariant_of-self-else-self
+invariant_of-self-else-self g c =
+    let s = c.self.inside in
+    let low = subst (λ (t : Slots). c.args.slot < length t.lines) (sym c.self.view_is) c.requires.in_store in
+    put_counted s.slots.items c.args.slot s.held c.index.result.now low c.index.ensures c.self.invariant.0 c.self.invariant.2 c.size-was.result c.size-was.ensures.size
+    c.args.bytes.now g.row.N c.args.size c.requires.lanes c.requires.near c.requires.within c.put_near.new.self c.put_near.ensures s.peak (omega (arith, c.if-self.false))
 
 pub returns-then-self : goal.returns-then-self
-returns-then-self g c =
-    let s = c.self.inside in
-    let low = subst (λ (t : Slots). c.args.slot < length t.lines) (sym c.self.view_is) c.requires.in_store in
-    written c.args.slot c.self.view_is c.put_near.ensures
-    (put_count s.slots.items c.args.slot s.held c.index.result.now low c.index.ensures c.self.invariant.0 c.self.invariant.2 c.size-was.result c.size-was.ensures.size
-    c.args.bytes.now c.args.size c.requires.near c.requires.within c.put_near.new.self c.put_near.ensures)
-    (omega (arith, c.self.invariant.1, c.if-self.true))
+returns-then-self g c = written c.args.slot c.self.view_is c.put_near.ensures (invariant_of-self g c).0 (omega (arith, c.self.invariant.1, c.if-self.true))
 
 pub returns-else-self : goal.returns-else-self
-returns-else-self g c =
-    let s = c.self.inside in
-    let low = subst (λ (t : Slots). c.args.slot < length t.lines) (sym c.self.view_is) c.requires.in_store in
-    written c.args.slot c.self.view_is c.put_near.ensures
-    (put_count s.slots.items c.args.slot s.held c.index.result.now low c.index.ensures c.self.invariant.0 c.self.invariant.2 c.size-was.result c.size-was.ensures.size
-    c.args.bytes.now c.args.size c.requires.near c.requires.within c.put_near.new.self c.put_near.ensures)
-    (omega (arith, c.self.invariant.1, c.if-self.false))
+returns-else-self g c = written c.args.slot c.self.view_is c.put_near.ensures (invariant_of-self-else-self g c).0 (omega (arith, c.self.invariant.1, c.if-self.false))
