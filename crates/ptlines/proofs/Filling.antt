@@ -1,8 +1,8 @@
 -- A line that comes in pieces.
-use Rattle.std.proofs.Common.{◌≡◌, ℕ, ◌+◌, ◌-◌, ◌^◌, ◌<◌, ◌≤◌, None, Some, take, drop, Bool, List, [], ◌∷◌, ◌++◌, Option, length, set, max, refl, sym}
+use Rattle.std.proofs.Common.{◌≡◌, ℕ, ◌+◌, ◌-◌, ◌^◌, ◌<◌, ◌≤◌, None, Some, get_or, take, drop, Bool, List, [], ◌∷◌, ◌++◌, Option, length, set, max, refl, sym}
 use Rattle.std.proofs.Common.{◌∙◌, ap, subst, arith, append_assoc, length-append}
 use Rattle.std.proofs.lemmas.Bool.Decides.{nat_tests}
-use Rattle.std.proofs.lemmas.List.{append-nil, set-set, length-set, get_or-set_same, take-take}
+use Rattle.std.proofs.lemmas.List.{append-nil, set-set, length-set, get_or-set_same, take-take, get_or-take}
 use Rattle.std.specs.Io.KnownBytes.{prepend_known}
 use Rattle.ptlines.specs.Slots.{Slots, line, total, with_line, with_denied}
 use Rattle.std.proofs.Common.{false, not, ◌==◌, inl, inr, ⊎_elim, Ok, Err}
@@ -14,8 +14,8 @@ use Rattle.ptlines.specs.Fills.{GivesPiece, GivesEnd, GivesLine, Stops, Fills, G
 use Rattle.ptlines.proofs.Known.{prepend_known-append}
 use Rattle.ptlines.proofs.Counted.{total_set}
 use Rattle.ptlines.proofs.Scanned.{IsLine-append, before_end, take_end, goes_front}
-use Rattle.ptlines.proofs.Given.{rest_is}
-use Rattle.memchr.specs.Find.{IsFirstByte, is_byte}
+use Rattle.ptlines.proofs.Given.{length_range, rest_is}
+use Rattle.memchr.specs.Find.{IsFirst, IsFirstByte, Passes, is_byte}
 use Rattle.std.specs.Prelude.{slice_range}
 
 pub reads_trans : (a b c : Reader) (xs ys : List ℕ) → Reads a b xs → Reads b c ys → Reads a c (xs ++ ys)
@@ -145,24 +145,42 @@ stop_done old now new before so_far after slot Memory f s = record {
   left = s.3;
 }
 
--- a line whose end is held was put into the slot at once
-pub near_done : (old new : Reader) (block front : List ℕ) (start end size : ℕ) (before after : Slots) (slot : ℕ) → old.fault ≡ None → old.pulled < 2 ^ 63
-    → start + size < end → end ≤ length block → slice_range block start end ≡ old.held → take (end - start) front ≡ old.held → IsFirstByte (is_byte old.ending) old.held (Some size)
-    → new ≡ record old { held = slice_range block (start + size + 1) end } → after ≡ with_line before slot (take size front) → GivesLine old new before after slot
-near_done old new block front start end size before after slot clean short high fits held is_front found step stored =
-    let within : size + 1 ≤ length old.held = omega (arith, found.0.high) in
-    let past : start + (size + 1) ≡ start + size + 1 = omega arith in
-    let rest : slice_range block (start + size + 1) end ≡ drop (size + 1) old.held =
-    ap (λ (k : ℕ). slice_range block k end) (sym past) ∙ rest_is block start end (size + 1) old.held (omega (arith, high)) fits held within in
-    let moved : new ≡ record old { held = drop (size + 1) old.held } = step ∙ ap (λ (h : List ℕ). record old { held = h }) rest in
-    let line : take size front ≡ take size old.held = sym (take-take size (end - start) front (omega (arith, high))) ∙ ap (take size) is_front in
-    let goes = subst (λ (b : List ℕ). Goes old new b) (take_end old.ending old.held size found) (goes_front old new (size + 1) clean within moved) in
+-- a line whose end is one of the next n bytes, which begin `front`, was put into the slot at once
+module _ (n : ℕ) (old new : Reader) (block front : List ℕ) (start end size : ℕ) (before after : Slots) (slot : ℕ) where
+  -- the search went beyond what is held
+  near_first : start + size < end → end - start ≤ length old.held → take (end - start) front ≡ old.held → IsFirst (Passes (is_byte old.ending) front) 0 n (Some size)
+      → IsFirstByte (is_byte old.ending) old.held (Some size)
+  near_first high fits held first = (
     record {
-      line = take size old.held;
-      ending = old.ending ∷ [];
-      goes = goes;
-      whole = before_end old.ending old.held size found;
-      ends = inl refl;
-      stored = stored ∙ ap (with_line before slot) line;
-      less = spends old new (take size old.held ++ old.ending ∷ []) goes (omega (arith, length-append (take size old.held) (old.ending ∷ []))) short;
-    }
+      low = omega arith;
+      high = omega (arith, high, fits);
+      before = λ k from to passes. first.0.before k from to (sym (there k (omega (arith, to, high))) ∙ passes);
+    },
+    there size (omega (arith, high)) ∙ first.1,
+  )
+    where
+      there : (k : ℕ) → k < end - start → is_byte old.ending (get_or old.held k 0) ≡ is_byte old.ending (get_or front k 0)
+      there k near = ap (is_byte old.ending) (ap (λ (l : List ℕ). get_or l k 0) (sym held) ∙ get_or-take (end - start) front k 0 near)
+
+  pub near_done : old.fault ≡ None → old.pulled < 2 ^ 63 → start + size < end → end ≤ length block → slice_range block start end ≡ old.held → take (end - start) front ≡ old.held
+      → IsFirst (Passes (is_byte old.ending) front) 0 n (Some size)
+      → new ≡ record old { held = slice_range block (start + size + 1) end } → after ≡ with_line before slot (take size front) → GivesLine old new before after slot
+  near_done clean short high fits held is_front first step stored =
+      let long : end - start ≤ length old.held = omega (arith, length_range block start end (omega (arith, high)) fits, ap length held) in
+      let found = near_first high long is_front first in
+      let within : size + 1 ≤ length old.held = omega (arith, found.0.high) in
+      let past : start + (size + 1) ≡ start + size + 1 = omega arith in
+      let rest : slice_range block (start + size + 1) end ≡ drop (size + 1) old.held =
+      ap (λ (k : ℕ). slice_range block k end) (sym past) ∙ rest_is block start end (size + 1) old.held (omega (arith, high)) fits held within in
+      let moved : new ≡ record old { held = drop (size + 1) old.held } = step ∙ ap (λ (h : List ℕ). record old { held = h }) rest in
+      let line : take size front ≡ take size old.held = sym (take-take size (end - start) front (omega (arith, high))) ∙ ap (take size) is_front in
+      let goes = subst (λ (b : List ℕ). Goes old new b) (take_end old.ending old.held size found) (goes_front old new (size + 1) clean within moved) in
+      record {
+        line = take size old.held;
+        ending = old.ending ∷ [];
+        goes = goes;
+        whole = before_end old.ending old.held size found;
+        ends = inl refl;
+        stored = stored ∙ ap (with_line before slot) line;
+        less = spends old new (take size old.held ++ old.ending ∷ []) goes (omega (arith, length-append (take size old.held) (old.ending ∷ []))) short;
+      }

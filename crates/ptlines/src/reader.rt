@@ -1,6 +1,6 @@
 //! A reader that gives the lines of a source, or its bytes, each once.
 
-ghost use Rattle.std.specs.Prelude.{◌≡◌, ◌<◌, ◌≤◌, ℕ, true, false, None, Some, [], IfSome, IfOk, OnOk, OnErr, length, take, drop, if◌then◌else◌};
+ghost use Rattle.std.specs.Prelude.{◌≡◌, ◌<◌, ◌≤◌, ℕ, true, false, None, [], IfSome, IfOk, OnOk, OnErr, length, take, drop, if◌then◌else◌};
 ghost use Rattle.memchr.specs.Find.{IsFirstByte, is_byte};
 ghost use Rattle.ptlines.specs.Outputs.{MaySend, Wrote};
 ghost use Rattle.std.specs.Borrow.{sem};
@@ -13,7 +13,7 @@ ghost use Rattle.ptlines.specs.Fills.{Moves, Steps, GivesLine, Fills, Blocks};
 ghost use Rattle.ptlines.specs.contracts.reader.LineReader.{the_row};
 
 use crate::out::{Out, WriteFault};
-use crate::search::{find_in, find_in_48, find_near};
+use crate::search::{find_in_64, find_near};
 use crate::sink::{Failed, Sink};
 use crate::source::{Origin, Source};
 use crate::store::{LineFault, Store};
@@ -292,36 +292,8 @@ impl<S: Source, R: Source> LineReader<S, R> {
         self.scan(store, slot)
     }
 
-    // Puts the first `size` held bytes into a slot as a line, and passes its end, which is the next byte. False: the
-    // next byte is no longer held, and nothing was done. Fewer than N bytes are put, by one store of N.
-    #[inline(always)]
-    fn take_near<const N: usize, A: Allocator + Copy>(
-        &mut self,
-        store: &mut Store<A>,
-        slot: usize,
-        size: usize,
-    ) -> bool
-        requires lanes { N ≤ 64 }
-        requires near { size < N }
-        requires first { size < length self.old.held → IsFirstByte (is_byte self.old.ending) self.old.held (Some size) }
-        requires clean { self.old.fault ≡ None }
-        requires in_store { slot < length store.old.lines }
-        ensures line { result ≡ true → GivesLine self.old self.new store.old store.new slot }
-        ensures none { result ≡ false → (self.new ≡ self.old) × (store.new ≡ store.old) }
-        ensures slots { length store.new.lines ≡ length store.old.lines }
-        ensures sound { IsSound self.new }
-    {
-        let at = self.start + size;
-        if at >= self.end {
-            return false;
-        }
-        store.put_near::<N>(slot, &self.block[self.start..], size);
-        self.start = at + 1;
-        true
-    }
-
     // Puts the next line into a slot, if its end is one of the next 64 bytes. False: it is not, and nothing was
-    // done. A line of fewer than 16 bytes takes a shorter look and a shorter store.
+    // done.
     #[inline(always)]
     fn fill_near<A: Allocator + Copy>(&mut self, store: &mut Store<A>, slot: usize) -> bool
         requires clean { self.old.fault ≡ None }
@@ -332,13 +304,16 @@ impl<S: Source, R: Source> LineReader<S, R> {
         ensures sound { IsSound self.new }
     {
         let front = &self.block[self.start..];
-        if let Some(size) = find_in::<16>(self.ending, front, 0) {
-            return self.take_near::<16, A>(store, slot, size);
+        let Some(size) = find_in_64(self.ending, front) else {
+            return false;
+        };
+        let at = self.start + size;
+        if at >= self.end {
+            return false;
         }
-        match find_in_48(self.ending, front, 16) {
-            Some(size) => self.take_near::<64, A>(store, slot, size),
-            None => false,
-        }
+        store.put_near(slot, front, size);
+        self.start = at + 1;
+        true
     }
 
     // Puts the next line into a slot, in pieces, whether its end is near or far. It does what `fill` does.

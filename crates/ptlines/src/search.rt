@@ -46,7 +46,7 @@ pub fn find_in<const N: usize>(byte: u8, bytes: &[u8], at: usize) -> Option<usiz
 
 // The same for 48 bytes.
 #[inline(always)]
-pub(crate) fn find_in_48(byte: u8, bytes: &[u8], at: usize) -> Option<usize>
+fn find_in_48(byte: u8, bytes: &[u8], at: usize) -> Option<usize>
     requires { at + 48 ≤ length bytes.now }
     ensures { IsFirst (Passes (is_byte byte) bytes.now) at (at + 48) result }
 {
@@ -55,6 +55,18 @@ pub(crate) fn find_in_48(byte: u8, bytes: &[u8], at: usize) -> Option<usize>
         return None;
     }
     Some(at + marked.trailing_zeros() as usize)
+}
+
+// The place of the first such byte among the first 64. Of these 16 are compared alone: the byte is often one of them.
+#[inline(always)]
+pub(crate) fn find_in_64(byte: u8, bytes: &[u8]) -> Option<usize>
+    requires { 64 ≤ length bytes.now }
+    ensures { IsFirst (Passes (is_byte byte) bytes.now) 0 64 result }
+{
+    match find_in::<16>(byte, bytes, 0) {
+        Some(at) => Some(at),
+        None => find_in_48(byte, bytes, 16),
+    }
 }
 
 // The first place of a byte among N bytes or up to twice as many: in the first N or in the last N, which may overlap.

@@ -59,9 +59,24 @@ impl<A: Allocator + Copy> Slot<A> {
         self.size = 0;
     }
 
+    // Makes the line the first `size` bytes, which are fewer than 64, although 64 are there. Fewer than 16 take a
+    // shorter store.
+    #[inline(always)]
+    pub(crate) fn put_near(&mut self, bytes: &[u8], size: usize)
+        requires near { size < 64 }
+        requires within { 64 ≤ length bytes.now }
+        ensures { self.new ≡ take size bytes.now }
+    {
+        if size < 16 {
+            self.put_lanes::<16>(bytes, size);
+        } else {
+            self.put_lanes::<64>(bytes, size);
+        }
+    }
+
     // Makes the line the first `size` bytes, which are fewer than N, although N are there.
     #[inline(always)]
-    pub(crate) fn put_near<const N: usize>(&mut self, bytes: &[u8], size: usize)
+    fn put_lanes<const N: usize>(&mut self, bytes: &[u8], size: usize)
         requires lanes { N ≤ 64 }
         requires near { size < N }
         requires within { N ≤ length bytes.now }

@@ -144,17 +144,16 @@ impl<A: Allocator + Copy> Store<A> {
         self.held -= count as u128;
     }
 
-    // Makes a slot hold the first `size` bytes, which are fewer than N, although N are there.
+    // Makes a slot hold the first `size` bytes, which are fewer than 64, although 64 are there.
     #[inline(always)]
-    pub(crate) fn put_near<const N: usize>(&mut self, slot: usize, bytes: &[u8], size: usize)
+    pub(crate) fn put_near(&mut self, slot: usize, bytes: &[u8], size: usize)
         requires in_store { slot < length self.old.lines }
-        requires lanes { N ≤ 64 }
-        requires near { size < N }
-        requires within { N ≤ length bytes.now }
+        requires near { size < 64 }
+        requires within { 64 ≤ length bytes.now }
         ensures { self.new ≡ with_line self.old slot (take size bytes.now) }
     {
         let was = self.slots[slot].size();
-        self.slots[slot].put_near::<N>(bytes, size);
+        self.slots[slot].put_near(bytes, size);
         self.held = self.held - was as u128 + size as u128;
         if self.held > self.peak {
             self.peak = self.held;

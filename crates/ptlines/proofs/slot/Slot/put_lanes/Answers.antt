@@ -3,7 +3,7 @@ use Rattle.std.proofs.lemmas.List.{with_items_is}
 use Rattle.std.proofs.lemmas.Simd.{length-put_chunk}
 use Rattle.std.specs.Simd.Lanes.{put_chunk}
 use Rattle.ptlines.proofs.Copied.{first_copied}
-use Rattle.ptlines.proofs.slot.Slot.put_near.Goals as goal
+use Rattle.ptlines.proofs.slot.Slot.put_lanes.Goals as goal
 
 pub returns : goal.returns
 returns g c =
