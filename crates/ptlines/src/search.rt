@@ -1,8 +1,9 @@
 //! A search for a byte, which is fast where it is one of the first bytes, or where there are few.
 
-ghost use Rattle.std.specs.Prelude.{◌≡◌, ◌≤◌, ◌<◌, ◌+◌, length, map};
+ghost use Rattle.std.specs.Prelude.{◌≡◌, ◌≤◌, ◌<◌, ◌≢◌, ◌+◌, Some, length, map};
+ghost use Rattle.std.specs.Int.Count.{count_trailing_zeros};
 ghost use Rattle.std.specs.Simd.Lanes.{mask_l, chunk};
-ghost use Rattle.memchr.specs.Find.{IsFirst, IsFirstByte, Passes, is_byte};
+ghost use Rattle.memchr.specs.Find.{Nowhere, IsFirst, IsFirstByte, Passes, is_byte};
 
 use std::simd::prelude::*;
 
@@ -57,16 +58,31 @@ fn find_in_48(byte: u8, bytes: &[u8], at: usize) -> Option<usize>
     Some(at + marked.trailing_zeros() as usize)
 }
 
-// The place of the first such byte among the first 64. Of these 16 are compared alone: the byte is often one of them.
+// Bits for the first 64 bytes. Only those for the first 16 are there if one of these is set, as it often is.
+#[inline(always)]
+fn marks_near(byte: u8, bytes: &[u8]) -> u64
+    requires { 64 ≤ length bytes.now }
+    ensures none { result ≡ 0 → Nowhere (Passes (is_byte byte) bytes.now) 0 64 }
+    ensures first { result ≢ 0 → IsFirst (Passes (is_byte byte) bytes.now) 0 64 (Some (count_trailing_zeros 64 result)) }
+{
+    let near = marks_in::<16>(byte, bytes, 0);
+    if near != 0 {
+        return near;
+    }
+    marks_in_48(byte, bytes, 16) << 16
+}
+
+// The place of the first such byte among the first 64.
 #[inline(always)]
 pub(crate) fn find_in_64(byte: u8, bytes: &[u8]) -> Option<usize>
     requires { 64 ≤ length bytes.now }
     ensures { IsFirst (Passes (is_byte byte) bytes.now) 0 64 result }
 {
-    match find_in::<16>(byte, bytes, 0) {
-        Some(at) => Some(at),
-        None => find_in_48(byte, bytes, 16),
+    let marked = marks_near(byte, bytes);
+    if marked == 0 {
+        return None;
     }
+    Some(marked.trailing_zeros() as usize)
 }
 
 // The first place of a byte among N bytes or up to twice as many: in the first N or in the last N, which may overlap.
