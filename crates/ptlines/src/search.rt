@@ -63,7 +63,8 @@ fn find_in_48(byte: u8, bytes: &[u8], at: usize) -> Option<usize>
 fn marks_near(byte: u8, bytes: &[u8]) -> u64
     requires { 64 ≤ length bytes.now }
     ensures none { result ≡ 0 → Nowhere (Passes (is_byte byte) bytes.now) 0 64 }
-    ensures first { result ≢ 0 → IsFirst (Passes (is_byte byte) bytes.now) 0 64 (Some (count_trailing_zeros 64 result)) }
+    ensures first { result ≢ 0
+        → IsFirst (Passes (is_byte byte) bytes.now) 0 64 (Some (count_trailing_zeros 64 result)) }
 {
     let near = marks_in::<16>(byte, bytes, 0);
     if near != 0 {
