@@ -1,6 +1,6 @@
 //! A line, and a buffer that is longer than it.
 
-ghost use Rattle.std.specs.Prelude.{◌≡◌, ◌<◌, ◌≤◌, ◌+◌, ◌^◌, [], ◌++◌, length, take, drop, IfOk, OnOk, OnErr};
+ghost use Rattle.std.specs.Prelude.{◌≡◌, ◌<◌, ◌≤◌, ◌+◌, ◌^◌, [], ◌++◌, length, take, IfOk, OnOk, OnErr};
 
 use std::alloc::{AllocError, Allocator};
 use std::marker::Model;
@@ -59,8 +59,8 @@ impl<A: Allocator + Copy> Slot<A> {
         self.size = 0;
     }
 
-    // Makes the line the first `size` bytes, which are fewer than 64, although 64 are there. Fewer than 16 take a
-    // shorter store.
+    // Makes the first `size` bytes the line. They are fewer than 64, but there are at least 64, so that whole vectors are
+    // copied. Fewer than 16 take a shorter store.
     #[inline(always)]
     pub(crate) fn put_near(&mut self, bytes: &[u8], size: usize)
         requires near { size < 64 }
@@ -74,7 +74,7 @@ impl<A: Allocator + Copy> Slot<A> {
         }
     }
 
-    // Makes the line the first `size` bytes, which are fewer than N, although N are there.
+    // The same of fewer than N bytes, where there are at least N.
     #[inline(always)]
     fn put_lanes<const N: usize>(&mut self, bytes: &[u8], size: usize)
         requires lanes { N ≤ 64 }

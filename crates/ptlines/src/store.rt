@@ -1,6 +1,6 @@
 //! Numbered slots for lines, whose bytes are counted.
 
-ghost use Rattle.std.specs.Prelude.{◌≡◌, ℕ, ◌<◌, ◌≤◌, ◌≢◌, true, false, [], ◌∷◌, ◌++◌, length, take, drop, ◌+◌, replicate, swap, slice_set, slice_index_or, IfOk, OnOk, OnErr};
+ghost use Rattle.std.specs.Prelude.{◌≡◌, ℕ, ◌<◌, ◌≤◌, ◌≢◌, true, false, [], ◌∷◌, ◌++◌, length, take, ◌+◌, replicate, swap, slice_set, slice_index_or, IfOk, OnOk, OnErr};
 ghost use Rattle.ptlines.specs.Slots.{AreShort, line, total, with_line, with_added, with_denied};
 
 use crate::slot::Slot;
@@ -144,7 +144,7 @@ impl<A: Allocator + Copy> Store<A> {
         self.held -= count as u128;
     }
 
-    // Makes a slot hold the first `size` bytes, which are fewer than 64, although 64 are there.
+    // Makes a slot hold the first `size` bytes. They are fewer than 64, but there are at least 64.
     #[inline(always)]
     pub(crate) fn put_near(&mut self, slot: usize, bytes: &[u8], size: usize)
         requires in_store { slot < length self.old.lines }
@@ -155,6 +155,7 @@ impl<A: Allocator + Copy> Store<A> {
         let was = self.slots[slot].size();
         self.slots[slot].put_near(bytes, size);
         self.held = self.held - was as u128 + size as u128;
+        // It is written only where it grew, since this is done for each line.
         if self.held > self.peak {
             self.peak = self.held;
         }

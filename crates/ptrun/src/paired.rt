@@ -151,7 +151,8 @@ fn merge_at<A: Allocator + Copy, T: Paired<A>, S: Source, R: Source, W: Sink>(
     }
 }
 
-// Goes over two inputs, and tells what is true of each reader.
+// Goes over two inputs, and tells what is true of each reader. It requires the parts of `IsReady` one by one: each is
+// then proved by itself, which takes less time.
 fn merge_two<A: Allocator + Copy, T: Paired<A>, S: Source, R: Source, W: Sink>(
     tool: &T,
     first: &mut LineReader<S, R>,

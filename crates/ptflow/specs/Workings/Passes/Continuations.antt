@@ -3,7 +3,7 @@ use Rattle.std.specs.Prelude.{◌≡◌, ℕ, true, false, List, ◌++◌}
 use Rattle.ptlines.specs.Inputs.{Begins}
 use Rattle.ptlines.specs.Outputs.{Output, Wrote}
 
--- These items were taken, and what was pushed for them comes before whatever is written for the rest.
+-- These items were taken and no write failed; what was pushed for them comes before whatever is written for the rest.
 -- `rest_from x` is what is written of a rest that comes in the state x.
 pub record Continues {X Y : Type 0} (rest_from : X → List Y → List ℕ) (before after : X) (items : List Y) (was is : Output) : Type 0 where
   pub pushed : List ℕ

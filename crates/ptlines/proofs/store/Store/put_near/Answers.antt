@@ -1,3 +1,4 @@
+-- The line of a slot is replaced, so what is held changes by the difference of two lengths. The peak is then what is held, or stays.
 use Rattle.std.proofs.Common.{◌≡◌, ◌≤◌, ◌<◌, ◌+◌, ◌-◌, ℕ, List, length, take, get_or, set, sym, ◌∙◌, ap, subst, arith}
 use Rattle.std.proofs.lemmas.List.{length-take-le}
 use Rattle.ptlines.specs.Slots.{Slots, AreShort, total}
