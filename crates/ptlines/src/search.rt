@@ -58,8 +58,8 @@ fn find_in_48(byte: u8, bytes: &[u8], at: usize) -> Option<usize>
     Some(at + marked.trailing_zeros() as usize)
 }
 
-// Bits for the first 64 bytes, the lowest of which is right. The first 16 are looked at by themselves, since the byte is
-// often one of them; the others are looked at if it is not.
+// Bits for the first 64 bytes, the lowest of which is right. The first 16 are looked at by themselves, since the byte
+// is often one of them; the others are looked at if it is not.
 #[inline(always)]
 fn marks_near(byte: u8, bytes: &[u8]) -> u64
     requires { 64 ≤ length bytes.now }

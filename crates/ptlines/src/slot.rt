@@ -59,8 +59,8 @@ impl<A: Allocator + Copy> Slot<A> {
         self.size = 0;
     }
 
-    // Makes the first `size` bytes the line. They are fewer than 64, but there are at least 64, so that whole vectors are
-    // copied. Fewer than 16 take a shorter store.
+    // Makes the first `size` bytes the line. They are fewer than 64, but there are at least 64, so that whole vectors
+    // are copied. Fewer than 16 take a shorter store.
     #[inline(always)]
     pub(crate) fn put_near(&mut self, bytes: &[u8], size: usize)
         requires near { size < 64 }
