@@ -37,19 +37,12 @@ filter_true (k ∷ ks) = ap (λ l. k ∷ l) (filter_true ks)
 module _ (p : List ℕ → Bool) where
   each_kept : (P : List ℕ → Type 0) (ks : Lines) → Each P ks → Each P (filter p ks)
   each_kept P [] e = tt
-  each_kept P (k ∷ ks) e = by (p k) (each_kept P ks e.1)
-    where
-      by : (b : Bool) → Each P (filter p ks) → Each P (cond b (k ∷ filter p ks) (filter p ks))
-      by true ih = (e.0, ih)
-      by false ih = ih
+  each_kept P (k ∷ ks) e = elim (p k) as (λ b. Each P (cond b (k ∷ filter p ks) (filter p ks))) [ true ↦ (e.0, each_kept P ks e.1) | false ↦ each_kept P ks e.1 ]
 
   each_passes : (ks : Lines) → Each (λ k. p k ≡ true) (filter p ks)
   each_passes [] = tt
-  each_passes (k ∷ ks) = by (p k) refl (each_passes ks)
-    where
-      by : (b : Bool) → p k ≡ b → Each (λ k. p k ≡ true) (filter p ks) → Each (λ k. p k ≡ true) (cond b (k ∷ filter p ks) (filter p ks))
-      by true h ih = (h, ih)
-      by false h ih = ih
+  each_passes (k ∷ ks) = elim (p k) as (λ b. p k ≡ b → Each (λ k. p k ≡ true) (cond b (k ∷ filter p ks) (filter p ks)))
+      [ true ↦ λ h. (h, each_passes ks) | false ↦ λ h. each_passes ks ] refl
 
   module _ (cmp : Cmp) (o : IsKeyOrder cmp) where
     insert_kept : (k : List ℕ) (xs : Lines) → Ascends cmp xs → p k ≡ true → filter p (insert_key cmp k xs) ≡ insert_key cmp k (filter p xs)
@@ -90,11 +83,8 @@ module _ (p : List ℕ → Bool) where
 
   keys_kept : (key : Key) (ls : Lines) → map key (kept key ls) ≡ filter p (map key ls)
   keys_kept key [] = refl
-  keys_kept key (x ∷ ls) = by (p (key x)) (keys_kept key ls)
-    where
-      by : (b : Bool) → map key (kept key ls) ≡ filter p (map key ls) → map key (cond b (x ∷ kept key ls) (kept key ls)) ≡ cond b (key x ∷ filter p (map key ls)) (filter p (map key ls))
-      by true ih = ap (λ l. key x ∷ l) ih
-      by false ih = ih
+  keys_kept key (x ∷ ls) = elim (p (key x)) as (λ b. map key (cond b (x ∷ kept key ls) (kept key ls)) ≡ cond b (key x ∷ filter p (map key ls)) (filter p (map key ls)))
+      [ true ↦ ap (λ l. key x ∷ l) (keys_kept key ls) | false ↦ keys_kept key ls ]
 
   -- all lines of a key go where the key goes
   with_key_kept : (key : Key) (k : List ℕ) (ls : Lines) → p k ≡ true → with_key key (kept key ls) k ≡ with_key key ls k
@@ -118,20 +108,6 @@ module _ (p : List ℕ → Bool) where
         ∙ sym (filter-append p (map (tool.key First) (ls First)) (map (tool.key Second) (ls Second)))
 
     -- what is written of a part is what is written of the keys of the whole that go to it
-    entries_kept : {A : Type 0} (g : List ℕ → List A)
-        → flat_map g (by_keys tool all_keys part) ≡ flat_map (λ k. flat_map g (entries_of tool ls k)) (filter p (distinct tool.cmp (keys tool ls)))
-    entries_kept {A} g =
-        ap (λ ds. flat_map g (flat_map (entries_of tool part) ds)) (filter_true (distinct tool.cmp (keys tool part)) ∙ ap (distinct tool.cmp) keys_of_part
-        ∙ sym (distinct_kept tool.cmp o (keys tool ls)))
-        ∙ each_of (filter p (distinct tool.cmp (keys tool ls))) (each_passes (distinct tool.cmp (keys tool ls)))
-      where
-        each_of : (ds : Lines) → Each (λ k. p k ≡ true) ds → flat_map g (flat_map (entries_of tool part) ds) ≡ flat_map (λ k. flat_map g (entries_of tool ls k)) ds
-        each_of [] e = refl
-        each_of (d ∷ ds) e =
-            flat_map-append g (entries_of tool part d) (flat_map (entries_of tool part) ds)
-            ∙ (λ i. flat_map g (tool.entries d (with_key_kept (tool.key First) d (ls First) e.0 i) (with_key_kept (tool.key Second) d (ls Second) e.0 i)) ++ each_of ds e.1 i)
-
-    -- and so are the entries of some of the keys
     pub by_keys_kept : by_keys tool all_keys (λ side. filter (λ line. p (tool.key side line)) (ls side)) ≡ by_keys tool p ls
     by_keys_kept =
         ap (flat_map (entries_of tool part)) (filter_true (distinct tool.cmp (keys tool part)) ∙ ap (distinct tool.cmp) keys_of_part ∙ sym (distinct_kept tool.cmp o (keys tool ls)))
@@ -205,13 +181,13 @@ lines_of_entries : (end : ℕ) (es : Lines) → lines end (text end es) ≡ flat
 lines_of_entries end [] = refl
 lines_of_entries end (e ∷ es) = the_lines_of_parts end (e ++ end ∷ []) (text end es) (inr (e, refl)) ∙ ap (λ l. lines end (e ++ end ∷ []) ++ l) (lines_of_entries end es)
 
+nested : (g : List ℕ → Lines) (f : List ℕ → Lines) (ks : Lines) → flat_map g (flat_map f ks) ≡ flat_map (λ k. flat_map g (f k)) ks
+nested g f [] = refl
+nested g f (k ∷ ks) = flat_map-append g (f k) (flat_map f ks) ∙ ap (λ l. flat_map g (f k) ++ l) (nested g f ks)
+
 lines_kept : (end : ℕ) (q : List ℕ → Bool) (ls : Lines) → AreLines end ls → AreLines end (filter q ls)
 lines_kept end q [] e = tt
-lines_kept end q (x ∷ ls) e = by (q x) (lines_kept end q ls e.1)
-  where
-    by : (b : Bool) → AreLines end (filter q ls) → AreLines end (cond b (x ∷ filter q ls) (filter q ls))
-    by true ih = (e.0, ih)
-    by false ih = ih
+lines_kept end q (x ∷ ls) e = elim (q x) as (λ b. AreLines end (cond b (x ∷ filter q ls) (filter q ls))) [ true ↦ (e.0, lines_kept end q ls e.1) | false ↦ lines_kept end q ls e.1 ]
 
 -- the lines of a text that is made of lines of another one
 lines_dealt : (end : ℕ) (q : List ℕ → Bool) (bytes : List ℕ) → lines end (text end (filter q (lines end bytes))) ≡ filter q (lines end bytes)
@@ -252,16 +228,12 @@ of_keys tool o inputs part_of parts in_order below =
     of_part i =
         (λ t. lines tool.end (text tool.end (merged_entries tool (λ side. lines_dealt tool.end (λ line. part_of (tool.key side line) == i) (inputs side) t))))
         ∙ ap (λ es. lines tool.end (text tool.end es)) (merged_in_order tool o (part_lines i) (part_order i)) ∙ written (by_keys tool all_keys (part_lines i))
-        ∙ entries_kept (goes_to i) tool o ls entry_lines
+        ∙ ap (flat_map entry_lines) (by_keys_kept (goes_to i) tool o ls) ∙ nested entry_lines (entries_of tool ls) (filter (goes_to i) ds)
 
     whole : written_lines tool inputs ≡ flat_map each ds
     whole =
         ap (λ es. lines tool.end (text tool.end es)) (merged_in_order tool o ls in_order) ∙ written (by_keys tool all_keys ls)
-        ∙ ap (λ ks. flat_map entry_lines (flat_map (entries_of tool ls) ks)) (filter_true ds) ∙ nested ds
-      where
-        nested : (ks : Lines) → flat_map entry_lines (flat_map (entries_of tool ls) ks) ≡ flat_map each ks
-        nested [] = refl
-        nested (k ∷ ks) = flat_map-append entry_lines (entries_of tool ls k) (flat_map (entries_of tool ls) ks) ∙ ap (λ l. each k ++ l) (nested ks)
+        ∙ ap (λ ks. flat_map entry_lines (flat_map (entries_of tool ls) ks)) (filter_true ds) ∙ nested entry_lines (entries_of tool ls) ds
 
 pub comm_of_keys : CommByKey
 comm_of_keys job = of_keys (comm_tool job) (line_order job.descending)
