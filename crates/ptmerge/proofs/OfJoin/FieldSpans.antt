@@ -1,11 +1,12 @@
 -- Where the fields of a line stand in it.
-use Rattle.std.proofs.Common.{◌≡◌, ℕ, zero, suc, ◌+◌, ◌-◌, ◌<◌, ◌≤◌, ◌==◌, Bool, true, false, cond, ltb, List, [], ◌∷◌, ◌++◌, Option, Some, None, length, take, drop}
-use Rattle.std.proofs.Common.{get_or, refl, sym, ◌∙◌, ap, subst, arith, append_assoc}
-use Rattle.std.specs.Prelude.{IfSome, MatchOption, filter, is_some, position, unwrap_or}
-use Rattle.std.specs.List.{position_or_len, slice_split}
+use Rattle.std.proofs.Common.{◌≡◌, ℕ, zero, suc, ◌+◌, ◌-◌, ◌<◌, ◌≤◌, ◌==◌, Bool, true, false, cond, List, [], ◌∷◌, ◌++◌, Option, Some, None, length, take, drop}
+use Rattle.std.proofs.Common.{get_or, refl, sym, ◌∙◌, ap, arith, append_assoc}
+use Rattle.std.specs.Prelude.{IfSome, MatchOption, filter, is_some, position}
+use Rattle.std.specs.List.{slice_split}
 use Rattle.std.proofs.Math.Seq.{drop-cons}
 use Rattle.std.proofs.lemmas.Bool.{false≢true}
 use Rattle.std.proofs.lemmas.Bool.Decides.{nat_tests}
+use Rattle.std.proofs.lemmas.List.Quantifiers.{position-Some}
 use Rattle.std.proofs.lemmas.List.{length-drop, take-append-drop, take_all}
 use Rattle.ptlangs.proofs.Elements.{split_around, split_whole}
 use Rattle.ptmerge.specs.Join.{has_bytes, is_blank, nth_field}
@@ -19,10 +20,6 @@ EndOf line left = (front : List ℕ) × (line ≡ front ++ left)
 -- what is left of a line, if anything is
 abbrev pub LeftOf : Option (List ℕ) → Option (List ℕ) → Type 0
 LeftOf line left = IfSome left (λ b. MatchOption line ⊥ (λ l. EndOf l b))
-
-pub left_whole : (line : Option (List ℕ)) → LeftOf line line
-left_whole None = tt
-left_whole (Some l) = ([], refl)
 
 -- a piece of the end of a line is a piece of the line
 pub piece_in : (line bytes field : List ℕ) (behind : Option (List ℕ)) → EndOf line bytes → IsPiece bytes field behind → IsPiece line field behind
@@ -58,24 +55,13 @@ in_whole line (Some bytes) field behind e p = piece_in line bytes field behind e
 
 -- ---- the first piece
 
-some_when : (t : Bool) (n i : ℕ) → cond t (Some n) None ≡ Some i → (t ≡ true) × (n ≡ i)
-some_when true n i h = (refl, ap (λ (o : Option ℕ). unwrap_or o 0) h)
-some_when false n i h = cc
-
-low : (i n : ℕ) → ltb i n ≡ true → i < n
-low i n h = grind (arith, nat_tests)
-
-located : (p : ℕ → Bool) (bytes : List ℕ) (at : ℕ) → position p bytes ≡ Some at → at < length bytes
-located p bytes at h = let t = some_when (ltb (position_or_len p bytes) (length bytes)) (position_or_len p bytes) at h in subst
-    (λ (n : ℕ). n < length bytes) t.1 (low (position_or_len p bytes) (length bytes) t.0)
-
 -- the bytes in front of the first one that passes, with those behind it left
 pub piece_at : (p : ℕ → Bool) (bytes : List ℕ) (at : ℕ) → position p bytes ≡ Some at → IsPiece bytes (take at bytes) (Some (take (length bytes - (at + 1)) (drop (at + 1) bytes)))
 piece_at p bytes at is = record {
   front = [];
   tail = drop at bytes;
   is = sym (take-append-drop at bytes);
-  ends = (get_or bytes at 0, drop-cons bytes at 0 (located p bytes at is) ∙ (λ i. get_or bytes at 0 ∷ drop (step i) bytes) ∙ ap (λ (l : List ℕ). get_or bytes at 0 ∷ l) (sym rest));
+  ends = (get_or bytes at 0, drop-cons bytes at 0 ((position-Some p bytes at 0 is).0) ∙ (λ i. get_or bytes at 0 ∷ drop (step i) bytes) ∙ ap (λ (l : List ℕ). get_or bytes at 0 ∷ l) (sym rest));
 }
   where
     step : suc at ≡ at + 1
@@ -89,7 +75,7 @@ pub ends_at : (separator : Option ℕ) (bytes : List ℕ) (at : ℕ) → positio
 ends_at separator bytes at is = record {
   behind = slice_split (ends_field separator) (take (length bytes - (at + 1)) (drop (at + 1) bytes));
   is = split_around (ends_field separator) bytes at is;
-  within = omega (arith, located (ends_field separator) bytes at is);
+  within = omega (arith, (position-Some (ends_field separator) bytes at 0 is).0);
 }
 
 pub ends_whole : (separator : Option ℕ) (bytes : List ℕ) → position (ends_field separator) bytes ≡ None → EndsFirst separator bytes (length bytes)

@@ -2,6 +2,7 @@
 use Rattle.std.proofs.Common.{◌≡◌, ℕ, zero, suc, ◌+◌, ◌-◌, ◌%◌, ◌^◌, ◌<◌, ◌≤◌, ◌==◌, ◌||◌, ◌&&◌, eqb, not, Bool, true, false, cond, List, [], ◌∷◌, length, map, replicate, get_or}
 use Rattle.std.proofs.Common.{bit_and, bit_or, refl, sym, ◌∙◌, ap, subst, arith}
 use Rattle.std.proofs.lemmas.Bool.{eqb-true, false≢true}
+use Rattle.std.proofs.lemmas.List.{length-map}
 use Rattle.std.proofs.lemmas.Simd.{get_or-chunk, get_or-zip2, length-chunk, length-zip2, mask_l-mod}
 use Rattle.std.specs.Simd.Lanes.{chunk, mask_l, top, zip2}
 use Rattle.memchr.specs.Find.{Nowhere}
@@ -25,12 +26,8 @@ blank_lanes [] n long = refl
 blank_lanes (b ∷ v) zero long = absurd (omega (arith, long))
 blank_lanes (b ∷ v) (suc n) long = λ i. blank_lane (eqb b 32) (eqb b 9) i ∷ blank_lanes v n (omega (arith, long)) i
 
-length-map : (test : ℕ → Bool) (v : List ℕ) → length (map test v) ≡ length v
-length-map test [] = refl
-length-map test (b ∷ v) = ap suc (length-map test v)
-
 pub blank_mask : (v : List ℕ) (n : ℕ) → length v ≡ n → n ≤ 64 → mask_l (map (top 7) (zip2 bit_or (same v n 32) (same v n 9))) % 2 ^ 64 ≡ mask_l (map is_blank v)
-blank_mask v n long few = ap (λ (ms : List Bool). mask_l ms % 2 ^ 64) (blank_lanes v n long) ∙ mask_l-mod (map is_blank v) 64 (omega (arith, length-map is_blank v, long, few))
+blank_mask v n long few = ap (λ (ms : List Bool). mask_l ms % 2 ^ 64) (blank_lanes v n long) ∙ mask_l-mod (map is_blank v) 64 (omega (arith, length-map v is_blank, long, few))
 
 -- ---- a tab, or a space behind another one
 

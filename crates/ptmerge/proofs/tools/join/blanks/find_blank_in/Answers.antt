@@ -1,4 +1,3 @@
-use Rattle.std.proofs.Common.{◌≡◌}
 use Rattle.std.proofs.lemmas.Simd.{length-chunk}
 use Rattle.std.specs.Simd.Lanes.{chunk}
 use Rattle.ptlines.proofs.Masks.{nowhere_marked, first_marked}
