@@ -9,9 +9,8 @@ use Rattle.ptlines.specs.Slots.{Slots, line, total, with_line, with_added, with_
 use Rattle.ptlines.specs.Text.{text}
 use Rattle.ptlines.proofs.Counted.{total_set}
 use Rattle.ptlangs.specs.Jobs.{Join}
-use Rattle.ptmerge.specs.declared.order.Side.TheVariants.{First, Second}
 use Rattle.ptmerge.specs.Groups.{IsGroupCleared, IsGrown, IsRefused, group}
-use Rattle.ptmerge.specs.Join.{alone_entry, entry, fields, join_key, pairs_of}
+use Rattle.ptmerge.specs.Join.{entry, fields, pairs_of}
 use Rattle.ptmerge.specs.Keyed.{Lines}
 use Rattle.ptmerge.proofs.OfMerges.Slotted.{line_other}
 
@@ -48,16 +47,12 @@ group_one store slot within =
 
 -- ---- what is written
 
-module _ (job : Join) (end : ℕ) (line : List ℕ) where
-  pub alone_text1 : job.unpaired1 ≡ true → text end (alone_entry job First line) ≡ entry job (join_key job First line) (fields job.separator line) [] ++ end ∷ []
-  alone_text1 asked = rw asked (append-nil (entry job (join_key job First line) (fields job.separator line) [] ++ end ∷ []))
+-- the entry of two lines of a key
+abbrev pub pair_of : Join → List ℕ → List ℕ → List ℕ → List ℕ
+pair_of job k first second = entry job k (fields job.separator first) (fields job.separator second)
 
-  pub alone_text2 : job.unpaired2 ≡ true → text end (alone_entry job Second line) ≡ entry job (join_key job Second line) [] (fields job.separator line) ++ end ∷ []
-  alone_text2 asked = rw asked (append-nil (entry job (join_key job Second line) [] (fields job.separator line) ++ end ∷ []))
-
-  pub pairs_text : (k : List ℕ) (g : Lines) → job.pairs ≡ true
-      → text end (pairs_of job k (line ∷ []) g) ≡ text end (map (λ b. entry job k (fields job.separator line) (fields job.separator b)) g)
-  pairs_text k g asked = rw asked (ap (text end) (append-nil (map (λ b. entry job k (fields job.separator line) (fields job.separator b)) g)))
+pub pairs_text : (job : Join) (end : ℕ) (x k : List ℕ) (g : Lines) → job.pairs ≡ true → text end (pairs_of job k (x ∷ []) g) ≡ text end (map (pair_of job k x) g)
+pairs_text job end x k g asked = rw asked (ap (text end) (append-nil (map (pair_of job k x) g)))
 
 -- ---- clearing
 
