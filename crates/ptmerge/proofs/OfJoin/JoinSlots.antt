@@ -1,11 +1,12 @@
 -- What the store of `join` holds: two lines of each input, and behind them the group.
-use Rattle.std.proofs.Common.{◌≡◌, ◌⊎◌, inl, inr, ℕ, ◌+◌, ◌*◌, ◌-◌, ◌≤◌, ◌<◌, Bool, true, false, cond, List, [], ◌∷◌, ◌++◌, length, max, take, drop, get_or}
+use Rattle.std.proofs.Common.{◌≡◌, ◌⊎◌, inl, inr, ℕ, ◌+◌, ◌*◌, ◌-◌, ◌≤◌, ◌<◌, Bool, true, false, cond, List, [], ◌∷◌, ◌++◌, Option, length, max, drop, get_or}
 use Rattle.std.proofs.Common.{set, refl, sym, ap, ◌∙◌, subst, arith, append_assoc, length-append, length-drop}
 use Rattle.std.specs.Prelude.{bytes_eq}
 use Rattle.std.specs.Cmp.Lexicographic.{bytes_decides}
-use Rattle.std.proofs.lemmas.List.{get_or-drop, length-set, drop-set-add, drop-set-lt, length_push}
+use Rattle.std.proofs.lemmas.List.{append-nil, drop-append-le, drop-set-add, drop-set-lt, get_or-drop, length-set, length_push, set_at, take_at}
 use Rattle.std.proofs.lemmas.List.Sums.{sum_by-append, sum_by_push, sum_by-cons}
 use Rattle.std.proofs.Math.ListN.{get_or-append}
+use Rattle.ptlines.specs.Readers.{Reader}
 use Rattle.ptlines.specs.Slots.{Slots, line, total, with_line, with_added}
 use Rattle.ptlines.specs.Text.{longest}
 use Rattle.ptmerge.specs.declared.order.Side.{Side}
@@ -14,11 +15,15 @@ use Rattle.ptmerge.specs.declared.merging.sorted.Sorted.{Sorted}
 use Rattle.ptmerge.specs.Groups.{IsGroupCleared, IsGrown, IsKept, group}
 use Rattle.ptmerge.specs.Join.{greatest_of, largest_group, most_lines}
 use Rattle.ptmerge.specs.Keyed.{Lines, with_key}
-use Rattle.ptmerge.specs.Orders.{Key}
+use Rattle.ptmerge.specs.Orders.{Cmp, Key}
 use Rattle.ptmerge.specs.Places.{HasSlots}
+use Rattle.ptmerge.specs.Sides.{put}
 use Rattle.ptmerge.proofs.OfJoin.GroupSlots.{grown_slots}
 use Rattle.ptmerge.proofs.OfMerges.Least.{EachKey}
-use Rattle.ptmerge.proofs.OfMerges.Slotted.{HasLines, Keeps, has_lines_total, line_other, set_line}
+use Rattle.ptmerge.proofs.OfMerges.Slotted.{HasLines, Keeps, has_lines_total, line_added, line_other, set_line}
+use Rattle.ptmerge.proofs.OfMerges.Pairs.{put_each, put_same}
+use Rattle.ptmerge.proofs.OfMerges.Standing.{Next}
+use Rattle.ptmerge.proofs.OfMerges.Turning.{own_slots}
 
 -- ---- the largest group
 
@@ -62,8 +67,7 @@ module _ (m : Lines → ℕ) (laws : IsMeasure m) (key : Key) where
       let ls = ((p ++ g) ++ y ∷ []) ++ w in
       let split : ls ≡ p ++ ((g ++ y ∷ []) ++ w) = ap (λ (l : Lines). l ++ w) (append_assoc p g (y ∷ [])) ∙ append_assoc p (g ++ y ∷ []) w in
       let at : ls ≡ (p ++ g) ++ y ∷ w = append_assoc (p ++ g) (y ∷ []) w in
-      let in_group : m (g ++ y ∷ []) ≤ m (with_key key ls k) =
-      subst (λ (l : Lines). m (g ++ y ∷ []) ≤ m (with_key key l k)) (sym split) (omega (arith, with_key-own k (g ++ y ∷ []) w own, with_key-behind k p ((g ++ y ∷ []) ++ w))) in
+      let in_group : m (g ++ y ∷ []) ≤ m (with_key key ls k) = rw split (omega (arith, with_key-own k (g ++ y ∷ []) w own, with_key-behind k p ((g ++ y ∷ []) ++ w))) in
       let greatest : m (with_key key ls (key y)) ≤ greatest_of m key ls ls = subst (λ (l : Lines). m (with_key key ls (key y)) ≤ greatest_of m key ls l) (sym at) (greatest_has ls (p ++ g) y w) in
       omega (arith, in_group, greatest, ap (λ (z : List ℕ). m (with_key key ls z)) is)
 
@@ -77,30 +81,16 @@ group_in key k p g y w own is = (measure_in total by_bytes key k p g y w own is,
 -- ---- what the slots hold
 
 drop_total : (xs : Lines) (m : Side → ℕ) (more : ℕ) → HasLines m more xs → total (drop 4 xs) ≡ more
-drop_total [] m more h = absurd h
-drop_total (a ∷ []) m more h = absurd h
-drop_total (a ∷ b ∷ []) m more h = absurd h
-drop_total (a ∷ b ∷ c ∷ []) m more h = absurd h
 drop_total (a ∷ b ∷ c ∷ d ∷ rest) m more h = h.4
+drop_total xs m more h = absurd h
 
 -- the first four slots are the same, and behind them are so many bytes
 same_lines : (xs ys : Lines) (m : Side → ℕ) (more now : ℕ) → HasLines m more xs → 4 ≤ length ys → ((i : ℕ) → i < 4 → get_or ys i [] ≡ get_or xs i []) → total (drop 4 ys) ≡ now → HasLines m now ys
-same_lines [] ys m more now h four same is = absurd h
-same_lines (a ∷ []) ys m more now h four same is = absurd h
-same_lines (a ∷ b ∷ []) ys m more now h four same is = absurd h
-same_lines (a ∷ b ∷ c ∷ []) ys m more now h four same is = absurd h
-same_lines (a ∷ b ∷ c ∷ d ∷ rest) [] m more now h four same is = absurd (omega (arith, four))
-same_lines (a ∷ b ∷ c ∷ d ∷ rest) (s ∷ []) m more now h four same is = absurd (omega (arith, four))
-same_lines (a ∷ b ∷ c ∷ d ∷ rest) (s ∷ t ∷ []) m more now h four same is = absurd (omega (arith, four))
-same_lines (a ∷ b ∷ c ∷ d ∷ rest) (s ∷ t ∷ u ∷ []) m more now h four same is = absurd (omega (arith, four))
-same_lines (a ∷ b ∷ c ∷ d ∷ rest) (s ∷ t ∷ u ∷ v ∷ end) m more now h four same is = (
-  omega (arith, h.0, ap length (same 0 (omega arith))),
-  omega (arith, h.1, ap length (same 1 (omega arith))),
-  omega
-      (arith, h.2, ap length (same 2 (omega arith))),
-  omega (arith, h.3, ap length (same 3 (omega arith))),
-  is,
-)
+same_lines (a ∷ b ∷ c ∷ d ∷ rest) (s ∷ t ∷ u ∷ v ∷ end) m more now h four same is =
+    let at = λ (i : ℕ) (low : i < 4). ap length (same i low) in
+    (omega (arith, h.0, at 0 (omega arith)), omega (arith, h.1, at 1 (omega arith)), omega (arith, h.2, at 2 (omega arith)), omega (arith, h.3, at 3 (omega arith)), is)
+same_lines (a ∷ b ∷ c ∷ d ∷ rest) ys m more now h four same is = absurd (omega (arith, four))
+same_lines xs ys m more now h four same is = absurd h
 
 -- The store of `join`: of these lines two of each input, and the lines of the group behind them.
 pub record Keeping (key : Key) (before store : Slots) (ls : Side → Lines) (g : Lines) : Type 0 where
@@ -119,8 +109,8 @@ pub record Keeping (key : Key) (before store : Slots) (ls : Side → Lines) (g :
   pub four : 4 ≤ length store.lines
   pub denied : store.denied ≡ false
 
-pub keeping_starts : (key : Key) (before store : Slots) (ls : Side → Lines) → Keeps before store (λ side. longest (ls side)) → Keeping key before store ls []
-keeping_starts key before store ls k = record {
+pub keeping_starts : {key : Key} {before store : Slots} {ls : Side → Lines} → Keeps before store (λ side. longest (ls side)) → Keeping key before store ls []
+keeping_starts {key} {before} {store} {ls} k = record {
   tail = drop 4 store.lines;
   split = refl;
   empty = drop_total store.lines (λ side. longest (ls side)) 0 k.lines;
@@ -137,29 +127,49 @@ keeping_starts key before store ls k = record {
   denied = k.denied;
 }
 
+-- the slots of an input are among the first four
+pub low_slot : (s : Side) (place : Sorted) → HasSlots s place → (place.standing < 4) × (place.previous < 4)
+low_slot First place h = let w = own_slots First place h in (omega (arith, w), omega (arith, w))
+low_slot Second place h = let w = own_slots Second place h in (omega (arith, w), omega (arith, w))
+
 -- a line of an input goes into the slot of the line before
-pub keeping_line : (key : Key) (before store after : Slots) (s : Side) (place : Sorted) (ls now : Side → Lines) (g : Lines) (x : List ℕ) → HasSlots s place
-    → place.previous < 4 → Keeping key before store ls g → ((side : Side) → longest (ls side) ≤ longest (now side)) → length x ≤ longest (now s)
-    → (more : Lines) → now Second ≡ ls Second ++ more → after ≡ with_line store place.previous x → Keeping key before after now g
-keeping_line key before store after s place ls now g x slots low k up fit more goes_on is = subst (λ t. Keeping key before t now g) (sym is) (record {
+pub keeping_line : {key : Key} {before store after : Slots} {ls now : Side → Lines} {g : Lines} (s : Side) (place : Sorted) → HasSlots s place → (x : List ℕ) → Keeping key before store ls g
+    → ((side : Side) → longest (ls side) ≤ longest (now side)) → length x ≤ longest (now s) → (more : Lines) × (now Second ≡ ls Second ++ more) → after ≡ with_line store place.previous x
+    → Keeping key before after now g
+keeping_line {key} {before} {store} {after} {ls} {now} {g} s place slots x k up fit goes_on is = rw is (record {
   tail = k.tail;
-  split = drop-set-lt 4 store.lines place.previous x low ∙ k.split;
+  split = drop-set-lt 4 store.lines place.previous x (low_slot s place slots).1 ∙ k.split;
   empty = k.empty;
   lines = inside;
   most = k.most;
   fits = k.fits;
   peak = omega (arith, k.peak, k.fits, up First, up Second, (has_lines_total (set store.lines place.previous x) (λ side. longest (now side)) (total g) inside).1);
-  largest = λ w. subst (λ (l : Lines). k.most ≤ largest_group key l) (sym (ap (λ (l : Lines). l ++ w) goes_on ∙ append_assoc (ls Second) more w)) (k.largest (more ++ w));
+  largest = λ w. rw (goes_on.1, append_assoc (ls Second) goes_on.0 w) (k.largest (goes_on.0 ++ w));
   count = k.count;
-  counted = λ w. subst (λ (l : Lines). k.count ≤ most_lines key l) (sym (ap (λ (l : Lines). l ++ w) goes_on ∙ append_assoc (ls Second) more w)) (k.counted (more ++ w));
-  slots = omega (arith, k.slots, length-set store.lines place.previous x);
-  least = omega (arith, k.least, length-set store.lines place.previous x);
-  four = omega (arith, k.four, length-set store.lines place.previous x);
+  counted = λ w. rw (goes_on.1, append_assoc (ls Second) goes_on.0 w) (k.counted (goes_on.0 ++ w));
+  slots = omega (arith, k.slots, size);
+  least = omega (arith, k.least, size);
+  four = omega (arith, k.four, size);
   denied = k.denied;
 })
   where
     inside : HasLines (λ side. longest (now side)) (total g) (set store.lines place.previous x)
     inside = set_line s place store.lines (λ side. longest (ls side)) (λ side. longest (now side)) (total g) x slots k.lines up fit
+
+    size : length (set store.lines place.previous x) ≡ length store.lines
+    size = length-set store.lines place.previous x
+
+-- what an input's lines go on with, where one input went on
+pub put_more : (s : Side) (ls : Side → Lines) (now more : Lines) → now ≡ ls s ++ more → (m : Lines) × (put s now ls Second ≡ ls Second ++ m)
+put_more First ls now more e = ([], sym (append-nil (ls Second)))
+put_more Second ls now more e = (more, e)
+
+-- an input goes to its next line
+pub keeping_next : {key own : Key} {before store after : Slots} {ls : Side → Lines} {g : Lines} {cmp : Cmp} {end : ℕ} {old new : Reader} {next : Sorted} {last : Option (List ℕ)} (s : Side) (place : Sorted)
+    → HasSlots s place → Keeping key before store ls g → (n : Next end cmp own old new next place.previous store after (ls s) last) → Keeping key before after (put s n.now_ls ls) g
+keeping_next {key} {own} {before} {store} {after} {ls} s place slots k n = keeping_line s place slots n.bytes k
+    (put_each (λ side (l : Lines). longest (ls side) ≤ longest l) s n.now_ls ls n.longer (λ side. omega arith))
+    (subst (λ (l : Lines). length n.bytes ≤ longest l) (sym (put_same s n.now_ls ls)) n.fits) (put_more s ls n.now_ls n.more n.goes_on) n.stored
 
 -- where the slots were made that were missing
 record Grown (store made : Slots) (g : Lines) (to : ℕ) : Type 0 where
@@ -171,68 +181,40 @@ record Grown (store made : Slots) (g : Lines) (to : ℕ) : Type 0 where
   peak : made.peak ≡ store.peak
   denied : made.denied ≡ store.denied
 
-drop_push : (xs : Lines) (y : List ℕ) → 4 ≤ length xs → drop 4 (xs ++ y ∷ []) ≡ drop 4 xs ++ y ∷ []
-drop_push [] y four = absurd (omega (arith, four))
-drop_push (a ∷ []) y four = absurd (omega (arith, four))
-drop_push (a ∷ b ∷ []) y four = absurd (omega (arith, four))
-drop_push (a ∷ b ∷ c ∷ []) y four = absurd (omega (arith, four))
-drop_push (a ∷ b ∷ c ∷ d ∷ xs) y four = refl
-
-set_behind : (g : Lines) (z y : List ℕ) (t : Lines) → set (g ++ z ∷ t) (length g) y ≡ (g ++ y ∷ []) ++ t
-set_behind [] z y t = refl
-set_behind (x ∷ g) z y t = ap (λ (l : Lines). x ∷ l) (set_behind g z y t)
-
-take_front : (g t : Lines) → take (length g) (g ++ t) ≡ g
-take_front [] t = refl
-take_front (x ∷ g) t = ap (λ (l : Lines). x ∷ l) (take_front g t)
-
-module _ (key : Key) (before store : Slots) (ls : Side → Lines) (g : Lines) (k : Keeping key before store ls g) where
+module _ {key : Key} {before store : Slots} {ls : Side → Lines} {g : Lines} (k : Keeping key before store ls g) where
   grown : (made : Slots) (to : ℕ) → IsGrown store made to → Grown store made g to
   grown made to made_so = by made (grown_slots store made to made_so) made_so.grown
     where
       by : (t : Slots) → (length store.lines ≤ length t.lines) × (length t.lines ≤ max (length store.lines) (to + 1)) → (t ≡ store) ⊎ (t ≡ with_added store) → Grown store t g to
-      by t slots (inl e) = record {
-        tail = k.tail;
-        split = ap (λ (s : Slots). drop 4 s.lines) e
-            ∙ k.split;
-        empty = k.empty;
-        same = λ i low. ap (λ (s : Slots). line s i) e;
-        slots = slots;
-        peak = ap (λ (s : Slots). s.peak) e;
-        denied = ap (λ (s : Slots). s.denied) e;
-      }
-      by t slots (inr e) = record {
+      by t slots (inl e) = rw e (record { tail = k.tail; split = k.split; empty = k.empty; same = λ i low. refl; slots = rw e at slots; peak = refl; denied = refl })
+      by t slots (inr e) = rw e (record {
         tail = k.tail ++ [] ∷ [];
-        split = ap (λ (s : Slots). drop 4 s.lines) e ∙ drop_push store.lines [] k.four ∙ ap (λ (l : Lines). l ++ [] ∷ []) k.split ∙ append_assoc g k.tail ([] ∷ []);
+        split = drop-append-le 4 store.lines ([] ∷ []) k.four ∙ ap (λ (l : Lines). l ++ [] ∷ []) k.split ∙ append_assoc g k.tail ([] ∷ []);
         empty = omega (arith, sum_by_push length k.tail [], k.empty);
-        same = λ i low. ap (λ (s : Slots). line s i) e ∙ get_or-append store.lines ([] ∷ []) [] i (omega (arith, k.four));
-        slots = slots;
-        peak = ap (λ (s : Slots). s.peak) e;
-        denied = ap (λ (s : Slots). s.denied) e;
-      }
+        same = λ i low. line_added store i;
+        slots = rw e at slots;
+        peak = refl;
+        denied = refl;
+      })
 
-  -- a line is kept behind the group
+  -- what keeping a line behind the group leaves
+  pub record Kept (after : Slots) (y : List ℕ) : Type 0 where
+    pub keeping : Keeping key before after ls (g ++ y ∷ [])
+    pub same : (i : ℕ) → i < 4 → line after i ≡ line store i
+
   module _ (made : Slots) (to : ℕ) (y : List ℕ) (at : to ≡ 4 + length g) (w : Grown store made g to) (within : to < length made.lines)
       (largest : (l : Lines) → InGroup key (g ++ y ∷ []) (ls Second ++ l)) where
-    abbrev after : Slots
-    after = with_line made to y
-
-    dropped : drop 4 (set made.lines to y) ≡ set (g ++ w.tail) (length g) y
-    dropped = ap (λ i. drop 4 (set made.lines i y)) at ∙ drop-set-add 4 made.lines (length g) y ∙ ap (λ (l : Lines). set l (length g) y) w.split
-
     first_same : (i : ℕ) → i < 4 → get_or (set made.lines to y) i [] ≡ get_or store.lines i []
     first_same i low = line_other made to i y (λ e. absurd (omega (arith, at, e))) ∙ w.same i low
-
-    room : length g + 1 ≤ length (g ++ w.tail)
-    room = omega (arith, within, at, ap length w.split, length-drop 4 made.lines)
 
     by_tail : (t : Lines) → total t ≡ 0 → length g + 1 ≤ length (g ++ t) → drop 4 (set made.lines to y) ≡ set (g ++ t) (length g) y → Keeping key before (with_line made to y) ls (g ++ y ∷ [])
     by_tail [] none some is = absurd (omega (arith, some, length-append g []))
     by_tail (z ∷ t) none some is =
-        let split : drop 4 (set made.lines to y) ≡ (g ++ y ∷ []) ++ t = is ∙ set_behind g z y t in
+        let split : drop 4 (set made.lines to y) ≡ (g ++ y ∷ []) ++ t = is ∙ set_at g z t y (length g) refl ∙ sym (append_assoc g (y ∷ []) t) in
         let empty : total t ≡ 0 = omega (arith, none, sum_by-cons length z t) in
         let sum : total (drop 4 (set made.lines to y)) ≡ total (g ++ y ∷ []) = omega (arith, ap total split, sum_by-append length (g ++ y ∷ []) t, empty) in
-        let four : 4 ≤ length (set made.lines to y) = omega (arith, k.four, w.slots, length-set made.lines to y) in
+        let size = length-set made.lines to y in
+        let four : 4 ≤ length (set made.lines to y) = omega (arith, k.four, w.slots, size) in
         let inside = same_lines store.lines (set made.lines to y) (λ side. longest (ls side)) (total g) (total (g ++ y ∷ [])) k.lines four first_same sum in
         record {
           tail = t;
@@ -245,34 +227,42 @@ module _ (key : Key) (before store : Slots) (ls : Side → Lines) (g : Lines) (k
           largest = λ l. omega (arith, k.largest l, largest l);
           count = max k.count (length (g ++ y ∷ []));
           counted = λ l. omega (arith, k.counted l, largest l);
-          slots = omega (arith, at, k.slots, w.slots, length-set made.lines to y, length_push g y);
-          least = omega (arith, k.least, w.slots, length-set made.lines to y);
+          slots = omega (arith, at, k.slots, w.slots, size, length_push g y);
+          least = omega (arith, k.least, w.slots, size);
           four = four;
           denied = w.denied ∙ k.denied;
         }
 
-  -- what keeping a line leaves
-  pub record Kept (after : Slots) (y : List ℕ) : Type 0 where
-    pub keeping : Keeping key before after ls (g ++ y ∷ [])
-    pub same : (i : ℕ) → i < 4 → line after i ≡ line store i
+    kept : Kept (with_line made to y) y
+    kept = record {
+      keeping = by_tail w.tail w.empty (omega (arith, within, at, ap length w.split, length-drop 4 made.lines))
+          (rw at (drop-set-add 4 made.lines (length g) y) ∙ ap (λ (l : Lines). set l (length g) y) w.split);
+      same = first_same;
+    }
 
-  pub keeping_kept : (after : Slots) (from to : ℕ) (y : List ℕ) → to ≡ 4 + length g → from < 4 → IsKept store after from to → line store from ≡ y
+  pub keeping_kept : {after : Slots} {from to : ℕ} → to ≡ 4 + length g → from < 4 → IsKept store after from to → {y : List ℕ} → line store from ≡ y
       → ((l : Lines) → InGroup key (g ++ y ∷ []) (ls Second ++ l)) → Kept after y
-  keeping_kept after from to y at low e is largest =
+  keeping_kept {after} {from} {to} at low e {y} is largest =
       let w = grown e.made to e.grown in
-      let copied : after ≡ with_line e.made to y = e.copied ∙ ap (λ (l : List ℕ). with_line e.made to l) (w.same from low ∙ is) in
-      subst (λ t. Kept t y) (sym copied) (record {
-        keeping = by_tail e.made to y at w e.grown.within largest w.tail w.empty
-            (room e.made to y at w e.grown.within largest) (dropped e.made to y at w e.grown.within largest);
-        same = first_same e.made to y at w e.grown.within largest;
-      })
+      rw (e.copied, w.same from low, is) (kept e.made to y at w e.grown.within largest)
+
+  -- the lines of the group stand in its slots
+  pub kept_line : (slot : ℕ) → 4 ≤ slot → slot < 4 + length g → line store slot ≡ get_or g (slot - 4) []
+  kept_line slot from low =
+      let back : 4 + (slot - 4) ≡ slot = omega arith in
+      sym (ap (λ i. get_or store.lines i []) back) ∙ sym (get_or-drop 4 store.lines (slot - 4) [])
+      ∙ ap (λ (l : Lines). get_or l (slot - 4) []) k.split ∙ get_or-append g k.tail [] (slot - 4) (omega (arith, from, low))
+
+  pub group_is : {end : ℕ} → end ≡ 4 + length g → group store 4 end ≡ g
+  group_is at = rw k.split (take_at g k.tail _ (omega (arith, at)))
+
+  pub end_within : {end : ℕ} → end ≡ 4 + length g → end ≤ length store.lines
+  end_within at = omega (arith, at, k.four, ap length k.split, length-append g k.tail, length-drop 4 store.lines)
 
   -- the group is emptied
-  pub keeping_cleared : (after : Slots) (end : ℕ) → end ≡ 4 + length g → IsGroupCleared store after end → Keeping key before after ls []
-  keeping_cleared after end at c =
-      let size : end - 4 ≡ length g = omega (arith, at) in
-      let all : group store 4 end ≡ g = ap (λ n. take n (drop 4 store.lines)) size ∙ ap (take (length g)) k.split ∙ take_front g k.tail in
-      let none : total (drop 4 after.lines) ≡ 0 = omega (arith, c.emptied, ap total all, ap total k.split, sum_by-append length g k.tail, k.empty) in
+  pub keeping_cleared : {after : Slots} {end : ℕ} → end ≡ 4 + length g → IsGroupCleared store after end → Keeping key before after ls []
+  keeping_cleared {after} at c =
+      let none : total (drop 4 after.lines) ≡ 0 = omega (arith, c.emptied, ap total (group_is at), ap total k.split, sum_by-append length g k.tail, k.empty) in
       let four : 4 ≤ length after.lines = omega (arith, k.four, c.slots) in
       record {
         tail = drop 4 after.lines;
@@ -290,18 +280,3 @@ module _ (key : Key) (before store : Slots) (ls : Side → Lines) (g : Lines) (k
         four = four;
         denied = c.denied ∙ k.denied;
       }
-
-  -- the lines of the group stand in its slots
-  pub kept_line : (slot : ℕ) → 4 ≤ slot → slot < 4 + length g → line store slot ≡ get_or g (slot - 4) []
-  kept_line slot from low =
-      let back : 4 + (slot - 4) ≡ slot = omega arith in
-      sym (ap (λ i. get_or store.lines i []) back) ∙ sym (get_or-drop 4 store.lines (slot - 4) [])
-      ∙ ap (λ (l : Lines). get_or l (slot - 4) []) k.split ∙ get_or-append g k.tail [] (slot - 4) (omega (arith, from, low))
-
-  pub group_is : (end : ℕ) → end ≡ 4 + length g → group store 4 end ≡ g
-  group_is end at =
-      let size : end - 4 ≡ length g = omega (arith, at) in
-      ap (λ n. take n (drop 4 store.lines)) size ∙ ap (take (length g)) k.split ∙ take_front g k.tail
-
-  pub end_within : (end : ℕ) → end ≡ 4 + length g → end ≤ length store.lines
-  end_within end at = omega (arith, at, k.four, ap length k.split, length-append g k.tail, length-drop 4 store.lines)

@@ -5,7 +5,7 @@ use Rattle.ptlangs.specs.Jobs.{join_job}
 use Rattle.ptmerge.specs.declared.order.Side.TheVariants as sides
 use Rattle.ptmerge.specs.declared.tools.join.Phase.TheVariants as phases
 use Rattle.ptmerge.proofs.OfJoin.Turns.{alone_less, alone_on, alone_stops, begins}
-use Rattle.ptmerge.proofs.OfJoin.Turns.{ended, end_there, fallen, falls, gather_less, gather_stands, gather_stops, gathers_on, group_closed, group_there, opened}
+use Rattle.ptmerge.proofs.OfJoin.Turns.{ended, fallen, falls, gather_less, gather_stands, gather_stops, gathers_on, group_closed, group_there, opened}
 use Rattle.ptmerge.proofs.OfJoin.Turns.{opens, opens_less, pair_group, pair_less, pair_stands, pair_stops, pairs_next, pairs_on, stands_at, start_stops}
 use Rattle.ptmerge.proofs.OfMerges.GoingOn.{told}
 use Rattle.ptmerge.proofs.tools.join.join_in_order.Goals as goal
@@ -25,7 +25,7 @@ turns-init g c =
     let e = c.in_ok-merge.ensures in
     let placed = rw e.order at e.placed in
     record {
-      turn = rw e.order (begins a c.start.new.first c.start.new.second c.start.new.store c.in_ok-merge.merge.first c.in_ok-merge.merge.second e.starts placed e.lent);
+      turn = rw e.order (begins a e.starts placed e.lent);
       order = e.order;
     }
 
@@ -40,7 +40,7 @@ turns-preserved-in-Continue-branch-2 g c =
     let i = c.turns.invariant in
     let p = c.pass_alone.ensures in
     record {
-      turn = rw p.order (alone_on i.turn c.in-Between.is sides.First c.in-First.ensures (c.ending-ending.ensures ∙ c.requires.ending.0) p.wrote c.in_ok-pass_alone-in-First.ensures.passes);
+      turn = rw p.order (alone_on i.turn c.in-Between.is c.in-First.ensures (c.ending-ending.ensures ∙ c.requires.ending.0) p.wrote c.in_ok-pass_alone-in-First.ensures.passes);
       order = p.order ∙ i.order;
     }
 
@@ -49,7 +49,7 @@ turns-preserved-in-Continue-branch-3 g c =
     let i = c.turns.invariant in
     let p = c.pass_alone-in-Second.ensures in
     record {
-      turn = rw p.order (alone_on i.turn c.in-Between.is sides.Second c.in-Second.ensures (c.ending-ending.ensures ∙ c.requires.ending.0) p.wrote c.in_ok-pass_alone-in-Second.ensures.passes);
+      turn = rw p.order (alone_on i.turn c.in-Between.is c.in-Second.ensures (c.ending-ending.ensures ∙ c.requires.ending.0) p.wrote c.in_ok-pass_alone-in-Second.ensures.passes);
       order = p.order ∙ i.order;
     }
 
@@ -64,7 +64,7 @@ returns-in_err-pass_alone-in-First g c =
     let i = c.turns.invariant in
     let n = c.pass_alone.new in
     let e = c.from_residual-in_err-pass_alone-in-First in
-    let l = alone_stops i.turn c.in-Between.is sides.First c.in-First.ensures (c.ending-ending.ensures ∙ c.requires.ending.0) c.pass_alone.ensures.wrote n.merge.first n.merge.second n.reader n.store
+    let l = alone_stops i.turn c.in-Between.is c.in-First.ensures (c.ending-ending.ensures ∙ c.requires.ending.0) c.pass_alone.ensures.wrote n.merge.first n.merge.second n.reader n.store
     c.in_err-pass_alone-in-First.field-0.0 (told (err_from_is_err_and e.result e.ensures.1)) c.in_err-pass_alone-in-First.ensures.passes in
     record { merged = rw (← i.order) l.merged; refused = l.refused; slots = l.slots }
 
@@ -73,7 +73,7 @@ returns-in_err-pass_alone-in-Second g c =
     let i = c.turns.invariant in
     let n = c.pass_alone-in-Second.new in
     let e = c.from_residual-in_err-pass_alone-in-Second in
-    let l = alone_stops i.turn c.in-Between.is sides.Second c.in-Second.ensures (c.ending-ending.ensures ∙ c.requires.ending.0) c.pass_alone-in-Second.ensures.wrote
+    let l = alone_stops i.turn c.in-Between.is c.in-Second.ensures (c.ending-ending.ensures ∙ c.requires.ending.0) c.pass_alone-in-Second.ensures.wrote
     n.merge.first n.merge.second n.reader n.store c.in_err-pass_alone-in-Second.field-0.0 (told (err_from_is_err_and e.result e.ensures.1)) c.in_err-pass_alone-in-Second.ensures.passes in
     record { merged = rw (← i.order) l.merged; refused = l.refused; slots = l.slots }
 
@@ -99,7 +99,7 @@ pub gather-requires-clause-stands : goal.gather-requires-clause-stands
 gather-requires-clause-stands g c = gather_stands c.turns.invariant.turn c.in-Gathering.is
 
 pub gather-requires-clause-group : goal.gather-requires-clause-group
-gather-requires-clause-group g c = end_there c.turns.invariant.turn
+gather-requires-clause-group g c = c.turns.invariant.turn.phased.end_in
 
 pub returns-in_err-end-in-Gathering : goal.returns-in_err-end-in-Gathering
 returns-in_err-end-in-Gathering g c =
