@@ -121,10 +121,8 @@ pub record IsTurn (job : Join) (cmp : Cmp) (key : Side → Key) (old : State) (p
   pub clean : now.out.faulted ≡ false
 
 -- what a call leaves that ends so
-pub record Leaves (tool : Tool) (old new : State) (result : Result (Unit {0}) MergeFault) : Type 0 where
-  pub merged : IsMerge tool old new result
-  pub refused : length new.store.lines < 4 → IsUnread old new
-  pub slots : AddsLeast old.store new.store 4
+abbrev pub Leaves : Tool → State → State → Result (Unit {0}) MergeFault → Type 0
+Leaves tool old new result = record { merged : IsMerge tool old new result; refused : length new.store.lines < 4 → IsUnread old new; slots : AddsLeast old.store new.store 4 }
 
 -- ---- the start
 

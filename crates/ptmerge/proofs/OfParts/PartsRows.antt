@@ -140,12 +140,12 @@ not_joined_out_of_order law =
 abbrev b_apart : List ℕ → ℕ
 b_apart key = cond (bytes_eq key (codes "b")) 1 0
 
+below_two : (t : Bool) → cond t 1 0 < 2
+below_two true = omega arith
+below_two false = omega arith
+
 b_apart_below : (key : List ℕ) → b_apart key < 2
-b_apart_below key = by (bytes_eq key (codes "b"))
-  where
-    by : (t : Bool) → cond t 1 0 < 2
-    by true = omega arith
-    by false = omega arith
+b_apart_below key = below_two (bytes_eq key (codes "b"))
 
 abbrev three : Side → List ℕ
 three = both (codes "a 1\nb 2\nc 3\n") (codes "a x\nb y\nc z\n")
@@ -170,11 +170,7 @@ abbrev one_apart : List ℕ → ℕ
 one_apart line = cond (bytes_eq line (codes "a 1")) 1 0
 
 one_apart_below : (line : List ℕ) → one_apart line < 2
-one_apart_below line = by (bytes_eq line (codes "a 1"))
-  where
-    by : (t : Bool) → cond t 1 0 < 2
-    by true = omega arith
-    by false = omega arith
+one_apart_below line = below_two (bytes_eq line (codes "a 1"))
 
 -- dealt out by something else than the key, as by the whole line
 abbrev dealt_by_line : Tool → (List ℕ → ℕ) → (Side → List ℕ) → ℕ → Side → List ℕ

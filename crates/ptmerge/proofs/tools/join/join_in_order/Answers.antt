@@ -14,9 +14,8 @@ pub returns-in_err-merge : goal.returns-in_err-merge
 returns-in_err-merge g c =
     let a = opened (join_job c.args.job.now) (g.K.KeyOrder.order c.args.order) (g.K.KeyOrder.key_of c.args.order) c.args.first.now c.args.second.now c.args.out.now c.args.store.now
     (record { total = g.met.K.KeyOrder.total c.args.order; exact = g.met.K.KeyOrder.exact c.args.order }) c.requires.keys c.requires.ready c.requires.sound c.requires.ending c.requires.writable in
-    let l = start_stops a c.start.new.first c.start.new.second c.start.new.store c.in_err-merge.field-0.0 c.in_err-merge.ensures.breaks
-    (told (err_from_is_err_and c.from_residual.result c.from_residual.ensures.1)) in
-    record { merged = l.merged; refused = l.refused; slots = l.slots }
+    start_stops a c.start.new.first c.start.new.second c.start.new.store c.in_err-merge.field-0.0 c.in_err-merge.ensures.breaks
+    (told (err_from_is_err_and c.from_residual.result c.from_residual.ensures.1))
 
 pub turns-init : goal.turns-init
 turns-init g c =
@@ -64,18 +63,16 @@ returns-in_err-pass_alone-in-First g c =
     let i = c.turns.invariant in
     let n = c.pass_alone.new in
     let e = c.from_residual-in_err-pass_alone-in-First in
-    let l = alone_stops i.turn c.in-Between.is c.in-First.ensures (c.ending-ending.ensures ∙ c.requires.ending.0) c.pass_alone.ensures.wrote n.merge.first n.merge.second n.reader n.store
-    c.in_err-pass_alone-in-First.field-0.0 (told (err_from_is_err_and e.result e.ensures.1)) c.in_err-pass_alone-in-First.ensures.passes in
-    record { merged = rw (← i.order) l.merged; refused = l.refused; slots = l.slots }
+    rw (← i.order) (alone_stops i.turn c.in-Between.is c.in-First.ensures (c.ending-ending.ensures ∙ c.requires.ending.0) c.pass_alone.ensures.wrote n.merge.first n.merge.second n.reader n.store
+    c.in_err-pass_alone-in-First.field-0.0 (told (err_from_is_err_and e.result e.ensures.1)) c.in_err-pass_alone-in-First.ensures.passes)
 
 pub returns-in_err-pass_alone-in-Second : goal.returns-in_err-pass_alone-in-Second
 returns-in_err-pass_alone-in-Second g c =
     let i = c.turns.invariant in
     let n = c.pass_alone-in-Second.new in
     let e = c.from_residual-in_err-pass_alone-in-Second in
-    let l = alone_stops i.turn c.in-Between.is c.in-Second.ensures (c.ending-ending.ensures ∙ c.requires.ending.0) c.pass_alone-in-Second.ensures.wrote
-    n.merge.first n.merge.second n.reader n.store c.in_err-pass_alone-in-Second.field-0.0 (told (err_from_is_err_and e.result e.ensures.1)) c.in_err-pass_alone-in-Second.ensures.passes in
-    record { merged = rw (← i.order) l.merged; refused = l.refused; slots = l.slots }
+    rw (← i.order) (alone_stops i.turn c.in-Between.is c.in-Second.ensures (c.ending-ending.ensures ∙ c.requires.ending.0) c.pass_alone-in-Second.ensures.wrote
+    n.merge.first n.merge.second n.reader n.store c.in_err-pass_alone-in-Second.field-0.0 (told (err_from_is_err_and e.result e.ensures.1)) c.in_err-pass_alone-in-Second.ensures.passes)
 
 pub turns-preserved-in-Both : goal.turns-preserved-in-Both
 turns-preserved-in-Both g c = record { turn = opens c.turns.invariant.turn c.in-Between.is c.in-Both.ensures; order = c.turns.invariant.order }
@@ -86,14 +83,12 @@ turns-smaller-in-Both g c = opens_less _ c.in-Between.is
 pub returns-in-End : goal.returns-in-End
 returns-in-End g c =
     let i = c.turns.invariant in
-    let l = ended i.turn c.in-Between.is c.clear_four.ensures c.in-End.ensures in
-    record { merged = rw (← i.order) l.merged; refused = l.refused; slots = l.slots }
+    rw (← i.order) (ended i.turn c.in-Between.is c.clear_four.ensures c.in-End.ensures)
 
 pub returns-in-Stop : goal.returns-in-Stop
 returns-in-Stop g c =
     let i = c.turns.invariant in
-    let l = fallen i.turn c.in-Between.is c.clear_four-in-Stop.ensures c.in-Stop.ensures in
-    record { merged = rw (← i.order) l.merged; refused = l.refused; slots = l.slots }
+    rw (← i.order) (fallen i.turn c.in-Between.is c.clear_four-in-Stop.ensures c.in-Stop.ensures)
 
 pub gather-requires-clause-stands : goal.gather-requires-clause-stands
 gather-requires-clause-stands g c = gather_stands c.turns.invariant.turn c.in-Gathering.is
@@ -106,9 +101,8 @@ returns-in_err-end-in-Gathering g c =
     let i = c.turns.invariant in
     let n = c.gather.new in
     let e = c.from_residual-in_err-end-in-Gathering in
-    let l = gather_stops i.turn c.in-Gathering.is c.gather.ensures.sent n.merge.second n.reader n.store
-    c.in_err-end-in-Gathering.field-0.0 (told (err_from_is_err_and e.result e.ensures.1)) c.in_err-end-in-Gathering.ensures.gathers in
-    record { merged = rw (← i.order) l.merged; refused = l.refused; slots = l.slots }
+    rw (← i.order) (gather_stops i.turn c.in-Gathering.is c.gather.ensures.sent n.merge.second n.reader n.store
+    c.in_err-end-in-Gathering.field-0.0 (told (err_from_is_err_and e.result e.ensures.1)) c.in_err-end-in-Gathering.ensures.gathers)
 
 pub turns-preserved-then-not-repeats : goal.turns-preserved-then-not-repeats
 turns-preserved-then-not-repeats g c =
@@ -155,9 +149,8 @@ returns-in_err-pass_pairs-in-Pairing g c =
     let i = c.turns.invariant in
     let n = c.pass_pairs.new in
     let e = c.from_residual-in_err-pass_pairs-in-Pairing in
-    let l = pair_stops i.turn c.in-Pairing.is (c.ending-ending.ensures ∙ c.requires.ending.0) c.pass_pairs.ensures.wrote n.merge.first n.merge.second n.reader n.store
-    c.in_err-pass_pairs-in-Pairing.field-0.0 (told (err_from_is_err_and e.result e.ensures.1)) c.in_err-pass_pairs-in-Pairing.ensures.passes in
-    record { merged = rw (← i.order) l.merged; refused = l.refused; slots = l.slots }
+    rw (← i.order) (pair_stops i.turn c.in-Pairing.is (c.ending-ending.ensures ∙ c.requires.ending.0) c.pass_pairs.ensures.wrote n.merge.first n.merge.second n.reader n.store
+    c.in_err-pass_pairs-in-Pairing.field-0.0 (told (err_from_is_err_and e.result e.ensures.1)) c.in_err-pass_pairs-in-Pairing.ensures.passes)
 
 pub clear_group-requires : goal.clear_group-requires
 clear_group-requires g c =
