@@ -50,8 +50,8 @@ pub opens : {call : Call} {now : State} {place : Side → Sorted} → Between ca
     → AreEqual call.cmp call.key place now.store → Gathering call now place 4
 opens {call} {now} {place} r slots clean step =
     let k = call.key First (line now.store (place First).standing) in
-    let h1 = passed_at call.tool call.o call.old.reader now.reader place now.store r.ls r.p r.b r.sides slots r.keeps.four First step.first in
-    let h2 = passed_at call.tool call.o call.old.reader now.reader place now.store r.ls r.p r.b r.sides slots r.keeps.four Second step.second in
+    let h1 = passed_at call.tool call.o _ _ _ _ _ _ _ r.sides slots r.keeps.four First step.first in
+    let h2 = passed_at call.tool call.o _ _ _ _ _ _ _ r.sides slots r.keeps.four Second step.second in
     let bounds : (side : Side) → r.b side ≡ From k = elim [ First ↦ h1.bound | Second ↦ rw step.same h2.bound ] in
     let none : (side : Side) → r.p side ≡ r.p side ++ both [] [] side = elim [ First ↦ sym (append-nil (r.p First)) | Second ↦ sym (append-nil (r.p Second)) ] in
     record {
@@ -98,7 +98,7 @@ module _ {call : Call} {now : State} {place : Side → Sorted} {end : ℕ} (r : 
   -- what was staged before the group was sent
   module _ {out : Output} (clean : now.out.faulted ≡ false) (sent : Wrote now.out out []) where
     wrote_still : Wrote r.q.mid out (text call.end (call.pairs r.k [] r.g))
-    wrote_still = wrote_and_sent r.q.mid now.out out (text call.end (call.pairs r.k [] r.g)) clean r.q.wrote sent
+    wrote_still = wrote_and_sent _ _ _ _ clean r.q.wrote sent
 
     pub gathering_sent : Gathering call (record now { out = out }) place end
     gathering_sent = record {

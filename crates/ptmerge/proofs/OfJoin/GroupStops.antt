@@ -105,7 +105,7 @@ module _ {tool : Tool} (o : IsKeyOrder tool.cmp) (old new : State) {now : Side �
     parts w = (λ i. by_keys tool w (λ side. ((future side).1 ∙ append_assoc (p side) (g side) (later side)) i)) ∙ m.merging.splits.split w (λ side. g side ++ later side) later_behind
 
     wanted : (x : List ℕ) → AtMost tool.cmp x k → up_to tool.cmp (disorder tool all) x ≡ true
-    wanted x h = passed_is_wanted tool.cmp o (d First) (d Second) (fall tool.cmp (tool.key First) (all First)) (fall tool.cmp (tool.key Second) (all Second)) x
+    wanted x h = passed_is_wanted _ o (d First) (d Second) _ _ x
         (future First).3 (future Second).3 (under_k First x h) (under_k Second x h)
 
     all_is : (rest : Lines) × (merged_entries tool all ≡ (front ++ extra) ++ rest)
@@ -135,11 +135,11 @@ module _ {tool : Tool} (o : IsKeyOrder tool.cmp) (old new : State) {now : Side �
         past x = λ i. cond (going i || is_some (rises i)) true (is_below tool.cmp x (last i))
 
   known : (side : Side) → Known tool.end (old.reader side) (now side) (new.reader side) (ls side) (piece side) (gone side).got (gone side).reads (gone side).line (whole side)
-  known side = got_known tool.end (old.reader side) (now side) (new.reader side) (ls side) (piece side) (gone side).got (gone side).reads (gone side).line
+  known side = got_known _ _ _ _ _ _ (gone side).got (gone side).reads (gone side).line
 
   input_lines : (input : Side → List ℕ) → Agree given input → (side : Side) → More (now side) (ls side) (lines tool.end (input side))
       × (max (longest (ls side)) (length (piece side)) ≤ longest (lines tool.end (input side)))
-  input_lines input a side = got_lines tool.end (old.reader side) (now side) (new.reader side) (ls side) (piece side) (gone side).got (gone side).reads (gone side).line (input side) (a side)
+  input_lines input a side = got_lines _ _ _ _ _ _ (gone side).got (gone side).reads (gone side).line (input side) (a side)
 
   -- what was decided two blocks earlier of one input was pushed
   module _ (of : Side) where
@@ -150,7 +150,7 @@ module _ {tool : Tool} (o : IsKeyOrder tool.cmp) (old new : State) {now : Side �
 
     backs : (side : Side) → Back tool.end (given side) (p side ++ g side)
     backs side =
-        back tool.end (gone side).got.given (piece side) (ls side) (p side ++ g side) (now side) (new.reader side) (gone side).got.so_far
+        back _ _ _ _ _ _ (new.reader side) (gone side).got.so_far
         (subst (λ (e : ℕ). IsLine e (piece side)) (gone side).got.ending (gone side).line) (gone side).sound.held (gone side).near
 
     under : (t side : Side) → EachKey (λ x. AtMost tool.cmp x k) (tool.key side) (p side ++ g side)
@@ -173,10 +173,10 @@ module _ {tool : Tool} (o : IsKeyOrder tool.cmp) (old new : State) {now : Side �
       → ((input : Side → List ℕ) (pushed : List ℕ) → IsWhole tool input pushed (Err fault)) → Fits tool old.store now ls piece new.store → IsMerge tool old new (Err fault)
   halts ends failed is_whole fits = record {
     given = given;
-    came = λ side. came_of (old.reader side) (new.reader side) ((gone side).got.given ++ piece side)
-        (reads_trans (old.reader side) (now side) (new.reader side) (gone side).got.given (piece side) (gone side).got.goes.reads (gone side).reads);
+    came = λ side. came_of _ _ _
+        (reads_trans _ _ _ _ _ (gone side).got.goes.reads (gone side).reads);
     pushed = text tool.end (front ++ extra);
-    wrote = rw text-append (wrote_trans old.out mid new.out (text tool.end front) (text tool.end extra) m.clean m.merging.wrote wrote);
+    wrote = rw text-append (wrote_trans _ _ _ _ _ m.clean m.merging.wrote wrote);
     ends = ends;
     true_so_far = λ input a.
         let is = all_is (lines_of tool input) (λ side. (input_lines input a side).0) in

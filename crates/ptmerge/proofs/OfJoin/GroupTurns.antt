@@ -110,7 +110,7 @@ pub stand_still : (tool : Tool) {old now : Side → Reader} {place : Side → So
     → ((side : Side) → HasSlots side (place side)) → ((i : ℕ) → i < 4 → line after i ≡ line before i) → BothStand tool old now place after ls p b
 stand_still tool {old} {now} {place} {before} {after} {ls} {p} {b} sides slots same side =
     let low = low_slot side (place side) (slots side) in
-    sided_keeps tool.end tool.cmp (tool.key side) (old side) (now side) (place side) before after (ls side) (p side) (b side)
+    sided_keeps _ _ _ _ _ _ _ _ _ _ _
     (same (place side).standing low.0) (same (place side).previous low.1) (sides side)
 
 -- ---- what is written of a group
@@ -158,7 +158,7 @@ module _ (call : Call) {was mid : Output} {p g : Side → Lines} {d : Side → B
         under = λ of side. EachKey-append (Under call.cmp (d of)) (call.key side) (p side) (g side)
             (EachKey-weaker (λ x. AtMost call.cmp x k) (Under call.cmp (d of)) (λ x h. under_down call.o (d of) x k h (m.under of)) (call.key side) (p side) (m.merging.under First side))
             (own_keys (Under call.cmp (d of)) (call.key side) k (g side) (m.under of) (m.own side));
-        wrote = rw (all, text-append call.end (by_keys call.tool all_keys p) (call.pairs k (g First) (g Second))) (wrote_trans was mid is (text call.end (by_keys call.tool all_keys p)) (text call.end (call.pairs k (g First) (g Second))) m.clean m.merging.wrote wrote);
+        wrote = rw (all, text-append call.end (by_keys call.tool all_keys p) (call.pairs k (g First) (g Second))) (wrote_trans _ _ _ _ _ m.clean m.merging.wrote wrote);
       }
     where
       -- no more lines of the key come
@@ -262,7 +262,7 @@ module _ {call : Call} {now : State} {place : Side → Sorted} {end : ℕ} {k : 
   went side = (q.sides side).got.goes.failed
 
   pub standing : (side : Side) → Gone call.end call.cmp (call.key side) (call.old.reader side) (now.reader side) (now.reader side) [] (q.ls side) (q.p side ++ g side) (q.d side)
-  standing side = gone_standing call.end call.cmp (call.key side) (call.old.reader side) (now.reader side) (place side) now.store (q.ls side) (q.p side ++ g side) (q.d side) (q.sides side)
+  standing side = gone_standing _ _ _ _ _ _ _ _ _ _ (q.sides side)
 
   -- the store holds other lines of the group
   pub grouped_keeps : ((side : Side) → HasSlots side (place side)) → {after : Slots} → ((i : ℕ) → i < 4 → line after i ≡ line now.store i) → {lines : Lines}
@@ -281,7 +281,7 @@ module _ {call : Call} {now : State} {place : Side → Sorted} {end : ℕ} {k : 
   x = line now.store (place s).standing
 
   at_head : Passed call.cmp (call.key s) (place s) now.store (q.ls s) (q.p s ++ g s) (q.d s)
-  at_head = passed_at call.tool call.o call.old.reader now.reader place now.store q.ls (λ side. q.p side ++ g side) q.d q.sides l.slots q.keeps.four s l.head
+  at_head = passed_at call.tool call.o _ _ _ _ _ _ _ q.sides l.slots q.keeps.four s l.head
 
   -- with the line at which it stands
   pub with_head : q.ls s ≡ q.p s ++ (g s ++ line now.store (place s).standing ∷ [])
@@ -307,8 +307,7 @@ module _ {call : Call} {now : State} {place : Side → Sorted} {end : ℕ} {k : 
       (put s piece (λ t. []) side) (q.ls side) (q.p side ++ grown now place s g side) (q.d side)
   passing new piece reads free sound =
       by s (subst (λ (l : Lines). Gone call.end call.cmp (call.key s) (call.old.reader s) (now.reader s) new piece (q.ls s) l (q.d s)) with_head
-      (rw at_head.bound (gone_passed call.end call.cmp call.o (call.key s) (call.old.reader s) (now.reader s) new piece (q.ls s)
-      (call.key s x) (q.sides s).got reads free sound at_head.begun))) (standing q (other s))
+      (rw at_head.bound (gone_passed _ _ call.o _ _ _ _ _ _ _ (q.sides s).got reads free sound at_head.begun))) (standing q (other s))
     where
       by : (t : Side) → Gone call.end call.cmp (call.key t) (call.old.reader t) (now.reader t) new piece (q.ls t) (q.p t ++ (g t ++ line now.store (place t).standing ∷ [])) (q.d t)
           → Gone call.end call.cmp (call.key (other t)) (call.old.reader (other t)) (now.reader (other t)) (now.reader (other t)) []
@@ -346,7 +345,7 @@ module _ {call : Call} {now : State} {place : Side → Sorted} {end : ℕ} {k : 
   -- it goes to its next line
   module _ {reader : Reader} {next : Sorted} {after : Slots} (comes : Comes (call.key s) call.cmp (place s) next (now.reader s) reader now.store after) where
     gone_to : Next call.end call.cmp (call.key s) (call.old.reader s) reader next (place s).previous now.store after (q.ls s) (Some (call.key s (line now.store (place s).standing)))
-    gone_to = next_at call.tool call.o call.old.reader now.reader place now.store q.ls (λ side. q.p side ++ g side) q.d q.sides l.slots q.keeps.four s l.head reader next after comes
+    gone_to = next_at call.tool call.o _ _ _ _ _ _ _ q.sides l.slots q.keeps.four s l.head reader next after comes
 
     pub next_slots : (side : Side) → HasSlots side (put s next place side)
     next_slots = put_each HasSlots s next place (exchanged s (place s) next (comes_places comes) (l.slots s)) l.slots
@@ -393,7 +392,7 @@ module _ {call : Call} {now : State} {place : Side → Sorted} {end : ℕ} {k : 
             mid = q.mid;
             sides = subst (λ (f : Side → Lines). BothStand call.tool call.old.reader (put s reader now.reader) (put s next place) after (put s n.now_ls q.ls) f (put s n.bound q.d))
                 (λ i side. put_behind s q.p g (q.ls s) (g s ++ x ∷ []) with_head side i)
-                (sides_on call.tool call.o call.old.reader now.reader place now.store q.ls (λ side. q.p side ++ g side) q.d q.sides l.slots q.keeps.four s l.head reader next after n);
+                (sides_on call.tool call.o _ _ _ _ _ _ _ q.sides l.slots q.keeps.four s l.head reader next after n);
             within = record {
               merging = q.within.merging;
               clean = q.within.clean;

@@ -50,7 +50,7 @@ module _ {call : Call} {now : State} {place : Side → Sorted} (r : Between call
   went side = (r.sides side).got.goes.failed
 
   stand : (side : Side) → Gone call.end call.cmp (call.key side) (call.old.reader side) (now.reader side) (now.reader side) [] (r.ls side) (r.p side) (r.b side)
-  stand side = gone_standing call.end call.cmp (call.key side) (call.old.reader side) (now.reader side) (place side) now.store (r.ls side) (r.p side) (r.b side) (r.sides side)
+  stand side = gone_standing _ _ _ _ _ _ _ _ _ _ (r.sides side)
 
   -- a line that one input alone has
   module _ (slots : (side : Side) → HasSlots side (place side)) {s : Side} (step : IsAlone call.cmp call.key place now.store s) {new : Output}
@@ -59,7 +59,7 @@ module _ {call : Call} {now : State} {place : Side → Sorted} (r : Between call
     q = put s (r.ls s) r.p
 
     at_head : Passed call.cmp (call.key s) (place s) now.store (r.ls s) (r.p s) (r.b s)
-    at_head = passed_at call.tool call.o call.old.reader now.reader place now.store r.ls r.p r.b r.sides slots r.keeps.four s step.stands
+    at_head = passed_at call.tool call.o _ _ _ _ _ _ _ r.sides slots r.keeps.four s step.stands
 
     pushed_alone : Merging call.tool r.b (put s (r.ls s) r.p) call.old.out new × Late call.tool r.b (put s (r.ls s) r.p) call.old.out new
     pushed_alone =
@@ -72,20 +72,19 @@ module _ {call : Call} {now : State} {place : Side → Sorted} (r : Between call
     pub alone_on : {reader : Reader} {next : Sorted} {after : Slots} → Comes (call.key s) call.cmp (place s) next (now.reader s) reader now.store after
         → Between call (moved now s reader new after) (put s next place)
     alone_on {reader} {next} {after} comes =
-        let n = next_at call.tool call.o call.old.reader now.reader place now.store r.ls r.p r.b r.sides slots r.keeps.four s step.stands reader next after comes in
+        let n = next_at call.tool call.o _ _ _ _ _ _ _ r.sides slots r.keeps.four s step.stands reader next after comes in
         record {
           ls = put s n.now_ls r.ls;
           p = q;
           b = put s n.bound r.b;
-          sides = sides_on call.tool call.o call.old.reader now.reader place now.store r.ls r.p r.b r.sides slots r.keeps.four s step.stands reader next after n;
-          merging = merging_on call.tool call.o call.old.reader now.reader place now.store r.ls r.p r.b r.sides slots r.keeps.four s step.stands reader next after n q call.old.out new pushed_alone.0;
+          sides = sides_on call.tool call.o _ _ _ _ _ _ _ r.sides slots r.keeps.four s step.stands reader next after n;
+          merging = merging_on call.tool call.o _ _ _ _ _ _ _ r.sides slots r.keeps.four s step.stands reader next after n q call.old.out new pushed_alone.0;
           keeps = keeping_next s (place s) (slots s) r.keeps n;
         }
 
     passing_one : (reader : Reader) (piece : List ℕ) → Reads (now.reader s) reader piece → IsLine (now.reader s).ending piece → IsSound reader
         → Gone call.end call.cmp (call.key s) (call.old.reader s) (now.reader s) reader piece (r.ls s) (r.ls s) (r.b s)
-    passing_one reader piece reads free sound = rw at_head.bound (gone_passed call.end call.cmp call.o (call.key s) (call.old.reader s) (now.reader s) reader piece (r.ls s)
-        (call.key s (line now.store (place s).standing)) (r.sides s).got reads free sound at_head.begun)
+    passing_one reader piece reads free sound = rw at_head.bound (gone_passed _ _ call.o _ _ _ _ _ _ _ (r.sides s).got reads free sound at_head.begun)
 
     pub alone_stops : {reader : Reader} (next : Sorted) {after : Slots} (fault : MergeFault) → PassesLine (call.key s) call.cmp s (place s) next (now.reader s) reader now.store after new (Err fault)
         → IsMerge call.tool call.old (moved now s reader new after) (Err fault)
@@ -109,13 +108,13 @@ module _ {call : Call} {now : State} {place : Side → Sorted} (r : Between call
     concludes : (result : Result (Unit {0}) MergeFault) → Ends call.old (record now { store = after }) result → Concludes call.tool r.b result → IsMerge call.tool call.old (record now { store = after }) result
     concludes result ends at =
         stops call.tool call.o call.old (record now { store = after }) now.reader (λ side. []) r.ls r.p r.b stand r.merging
-        (late_none call.tool r.b r.p call.old.out now.out now.out clean r.merging.wrote (wrote_nothing now.out)) result ends (λ side. not_failed call side (went side)) at
+        (late_none call.tool _ _ _ _ _ clean r.merging.wrote (wrote_nothing now.out)) result ends (λ side. not_failed call side (went side)) at
         (fits_kept call r.keeps after clear.peak clear.slots)
 
     pub ended : ((side : Side) → IsSound (call.old.reader side)) → ((side : Side) → (call.old.reader side).fault ≡ None) → ((side : Side) → (place side).stand ≡ Ended)
         → IsMerge call.tool call.old (record now { store = after }) (Ok tt)
     ended sound readable step =
-        let e = all_ended call.tool call.old.reader now.reader place now.store r.ls r.p r.b r.sides step in
+        let e = all_ended call.tool _ _ _ _ _ _ _ r.sides step in
         concludes (Ok tt) (record {
           done = λ side. (e side).1;
           fault = λ side. (r.sides side).got.goes.fault;
@@ -133,4 +132,4 @@ module _ {call : Call} {now : State} {place : Side → Sorted} (r : Between call
       clean = clean;
       denied = clear.denied ∙ r.keeps.denied;
       empty = empty;
-    }) (stops_at call.tool call.o call.old.reader now.reader place now.store r.ls r.p r.b r.sides s n step)
+    }) (stops_at call.tool call.o _ _ _ _ _ _ _ r.sides s n step)

@@ -101,7 +101,7 @@ module _ {call : Call} {now : State} {place : Side → Sorted} {end : ℕ} (r : 
 
       wrote_more : Wrote r.q.mid new (text call.end (call.pairs r.k (r.g First ++ z) (r.g Second)))
       wrote_more = rw (call.laws.more r.k (r.g First) z (r.g Second), text-append call.end (call.pairs r.k (r.g First) (r.g Second)) (call.pairs r.k z (r.g Second)))
-          (wrote_trans r.q.mid now.out new (text call.end (call.pairs r.k (r.g First) (r.g Second))) (text call.end (call.pairs r.k z (r.g Second))) clean r.q.wrote wrote)
+          (wrote_trans _ _ _ _ _ clean r.q.wrote wrote)
 
       begins : StartsWith call.tool (grown now place First r.g) r.q.d r.k (call.pairs r.k (r.g First ++ z) (r.g Second))
       begins = starts call (within_more at_line) r.some r.above

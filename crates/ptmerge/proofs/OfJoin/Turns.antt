@@ -131,7 +131,7 @@ module _ {job : Join} {cmp : Cmp} {key : Side → Key} {old : State} (a : IsOpen
       → IsPlaced key one two store → IsLent one first × IsLent two second → IsTurn job cmp key old phases.Between (seen first second old.out store) one two 4
   begins {first} {second} {store} {one} {two} starts placed lent = record {
     opened = a;
-    phased = in_between refl (starts_between (starts_well (join_by job cmp key) a.o (λ ls. (omega arith, omega arith)) old a.readable a.ending a.unfailed a.sound a.writable a.allowed a.empty
+    phased = in_between refl (starts_between (starts_well (join_by job cmp key) a.o (λ ls. (omega arith, omega arith)) _ a.readable a.ending a.unfailed a.sound a.writable a.allowed a.empty
         (inputs first second store) (both one two) placed.first starts)) refl;
     placed = placed;
     lent = elim [ First ↦ lent.0 | Second ↦ lent.1 ];
@@ -144,8 +144,8 @@ module _ {job : Join} {cmp : Cmp} {key : Side → Key} {old : State} (a : IsOpen
   start_stops first second store fault cannot is_fault =
       let adds = start_slots (join_by job cmp key) a.o (λ ls. (omega arith, omega arith)) old a.readable a.ending a.unfailed a.sound a.writable a.allowed a.empty first second store fault cannot in
       rw is_fault (record {
-        merged = starts_badly (join_by job cmp key) a.o (λ ls. (omega arith, omega arith)) old a.readable a.ending a.unfailed a.sound a.writable a.allowed a.empty first second store fault cannot;
-        refused = start_refused (join_by job cmp key) a.o (λ ls. (omega arith, omega arith)) old a.readable a.ending a.unfailed a.sound a.writable a.allowed a.empty first second store fault cannot;
+        merged = starts_badly (join_by job cmp key) a.o (λ ls. (omega arith, omega arith)) _ a.readable a.ending a.unfailed a.sound a.writable a.allowed a.empty first second store fault cannot;
+        refused = start_refused (join_by job cmp key) a.o (λ ls. (omega arith, omega arith)) _ a.readable a.ending a.unfailed a.sound a.writable a.allowed a.empty first second store fault cannot;
         slots = record { least = adds.least; all = λ allowed. omega (arith, adds.all allowed) };
       })
 
@@ -180,7 +180,7 @@ module _ {job : Join} {cmp : Cmp} {key : Side → Key} {old : State} {phase : Ph
   module _ (is : phase ≡ phases.Between) where
     pub alone_less : {s : Side} {one2 two2 : Sorted} {reader : Reader} {after : Slots} {new : Output} → (both one two s).stand ≡ Head
         → HasPassed key cmp s one two one2 two2 (now.reader s) reader now.store after new → left (put s reader now.reader) one2 two2 < left now.reader one two
-    alone_less {s} {one2} {two2} {reader} {after} head h = less (key s) cmp s one two one2 two2 now.reader reader now.store after head h.on.others h.came
+    alone_less {s} {one2} {two2} {reader} {after} head h = less _ _ s one two one2 two2 _ _ _ _ head h.on.others h.came
 
     module _ {s : Side} (step : IsAlone cmp key (both one two) now.store s) {new : Output} {e : ℕ} (ends : e ≡ job.end)
         (pushed : Wrote now.out new (text e (alone_entry job s (line now.store (both one two s).standing)))) where
@@ -193,7 +193,7 @@ module _ {job : Join} {cmp : Cmp} {key : Side → Key} {old : State} {phase : Ph
 
       pub alone_stops : (one2 two2 : Sorted) (reader : Reader) (after : Slots) (fault : MergeFault) {r : Result (Unit {0}) MergeFault} → r ≡ Err fault
           → Passes key cmp s one two one2 two2 (now.reader s) reader now.store after new (Err fault) → Leaves (join_by job cmp key) old (moved now s reader new after) r
-      alone_stops one2 two2 reader after fault is_fault h = leaves is_fault (omega (arith, passes_slots (key s) cmp s (both one two s) (both one2 two2 s) (now.reader s) reader now.store after new fault h))
+      alone_stops one2 two2 reader after fault is_fault h = leaves is_fault (omega (arith, passes_slots (key s) cmp s (both one two s) (both one2 two2 s) _ _ _ _ _ fault h))
           (join_turns.alone_stops (t.phased.between is).0 t.clean slots step wrote (both one2 two2 s) fault h)
 
     pub opens : AreEqual cmp key (both one two) now.store → IsTurn job cmp key old phases.Gathering now one two end
@@ -221,7 +221,7 @@ module _ {job : Join} {cmp : Cmp} {key : Side → Key} {old : State} {phase : Ph
     pub gather_less : {one2 two2 : Sorted} {reader : Reader} {after : Slots} {out : Output} {to : ℕ}
         → Gathered (key Second) cmp two two2 (now.reader Second) reader now.store after end to → CanGoOn key Second one two one2 two2 reader after out
         → left (put Second reader now.reader) one2 two2 < left now.reader one two
-    gather_less {one2} {two2} {reader} h on = less (key Second) cmp Second one two one2 two2 now.reader reader now.store h.made (t.phased.gathering is).head2 on.others h.came
+    gather_less {one2} {two2} {reader} h on = less _ _ Second one two one2 two2 now.reader _ _ _ (t.phased.gathering is).head2 on.others h.came
 
     module _ {out : Output} (sent : Wrote now.out out []) where
       gathering_sent : Gathering (call_of t.opened) (record now { out = out }) (both one two) end
@@ -259,7 +259,7 @@ module _ {job : Join} {cmp : Cmp} {key : Side → Key} {old : State} {phase : Ph
 
     pub pair_less : {one2 two2 : Sorted} {reader : Reader} {after : Slots} {new : Output}
         → HasPassed key cmp First one two one2 two2 (now.reader First) reader now.store after new → left (put First reader now.reader) one2 two2 < left now.reader one two
-    pair_less {one2} {two2} {reader} {after} h = less (key First) cmp First one two one2 two2 now.reader reader now.store after pairing.head1 h.on.others h.came
+    pair_less {one2} {two2} {reader} {after} h = less _ _ First one two one2 two2 now.reader _ _ _ pairing.head1 h.on.others h.came
 
     module _ {new : Output} {e : ℕ} (ends : e ≡ job.end)
         (pushed : Wrote now.out new (text e (pairs_of job (key First (line now.store one.standing)) (line now.store one.standing ∷ [])
@@ -269,12 +269,12 @@ module _ {job : Join} {cmp : Cmp} {key : Side → Key} {old : State} {phase : Ph
 
       pub pair_stops : (one2 two2 : Sorted) (reader : Reader) (after : Slots) (fault : MergeFault) {r : Result (Unit {0}) MergeFault} → r ≡ Err fault
           → Passes key cmp First one two one2 two2 (now.reader First) reader now.store after new (Err fault) → Leaves (join_by job cmp key) old (moved now First reader new after) r
-      pair_stops one2 two2 reader after fault is_fault h = leaves is_fault (omega (arith, passes_slots (key First) cmp First one one2 (now.reader First) reader now.store after new fault h))
+      pair_stops one2 two2 reader after fault is_fault h = leaves is_fault (omega (arith, passes_slots (key First) cmp First one one2 _ _ _ _ _ fault h))
           (pair_turns.pair_stops pairing slots wrote_pairs t.clean reader one2 fault h)
 
       module _ {one2 two2 : Sorted} {reader : Reader} {after : Slots} (h : HasPassed key cmp First one two one2 two2 (now.reader First) reader now.store after new) where
         pub group_there : (4 ≤ end) × (end ≤ length after.lines)
-        group_there = (t.phased.end_in.0, omega (arith, t.phased.end_in.1, comes_slots (key First) cmp one one2 (now.reader First) reader now.store after h.came))
+        group_there = (t.phased.end_in.0, omega (arith, t.phased.end_in.1, comes_slots _ _ _ _ _ _ _ _ h.came))
 
         pub pairs_on : one2.same ≡ true → IsTurn job cmp key old phase (moved now First reader new after) one2 two2 end
         pairs_on same = went_on First h.on (in_pairing is (pair_turns.pairs_on pairing slots wrote_pairs t.clean h.came same))
