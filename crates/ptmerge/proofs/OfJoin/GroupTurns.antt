@@ -23,7 +23,7 @@ use Rattle.ptmerge.specs.declared.merging.sorted.Stand.{Stand}
 use Rattle.ptmerge.specs.declared.merging.sorted.Stand.TheVariants.{Head, Ended, Disorder}
 use Rattle.ptmerge.specs.Groups.{is_head}
 use Rattle.ptmerge.specs.Join.{largest_group, most_lines}
-use Rattle.ptmerge.specs.Keyed.{Lines, Tool, by_keys, fall, with_key}
+use Rattle.ptmerge.specs.Keyed.{Lines, Tool, by_keys, entries_of, fall, with_key}
 use Rattle.ptmerge.specs.Merges.{State, IsMerge}
 use Rattle.ptmerge.specs.Orders.{Cmp, Key}
 use Rattle.ptmerge.specs.Places.{CannotRead, Comes, HasSlots}
@@ -32,7 +32,7 @@ use Rattle.ptmerge.specs.Steps.{GoesBefore}
 use Rattle.ptmerge.proofs.OfMerges.Bounds.{Bound, From, Coming, Under}
 use Rattle.ptmerge.proofs.OfJoin.GroupStops.{EachComes, FailsIn, Fits, StartsWith, Within, halts, own_keys, under_down}
 use Rattle.ptmerge.proofs.OfJoin.JoinSlots.{Keeping, keeping_line, keeping_next, low_slot, put_more}
-use Rattle.ptmerge.proofs.OfMerges.Least.{EachKey, EachKey-append, EachKey-weaker, at_most-same, least_first, others_of, with_key-above, with_key-front}
+use Rattle.ptmerge.proofs.OfMerges.Least.{EachKey, EachKey-append, EachKey-weaker, at_most-same, front_first, least_first, others_of, with_key-above, with_key-front}
 use Rattle.ptmerge.proofs.OfMerges.Orders.{IsKeyOrder, AtMost, least_or_above, self_at_most}
 use Rattle.ptmerge.proofs.OfMerges.Pairs.{put_each, put_other, put_same}
 use Rattle.ptmerge.proofs.OfMerges.Passing.{Merging}
@@ -65,16 +65,17 @@ pub record Call : Type 0 where
 abbrev pub moved : State → Side → Reader → Output → Slots → State
 moved now s reader out store = record { reader = put s reader now.reader; out = out; store = store }
 
+-- these lines of an input came, of which those are passed, and a piece of one more
+abbrev pub GoneOf : Call → State → Side → Reader → List ℕ → Lines → Lines → Bound → Type 0
+GoneOf call now side new piece ls p b = Gone call.end call.cmp (call.key side) (call.old.reader side) (now.reader side) new piece ls p b
+
 -- a read that has not failed did not fail
 pub not_failed : (call : Call) (side : Side) {b : Bool} {X : Type 0} → b ≡ (call.old.reader side).failed → b ≡ true → X
 not_failed call side same fail = absurd (false≢true (sym (same ∙ call.unfailed side) ∙ fail))
 
-last_push : (key : Key) (q : Lines) (x : List ℕ) → last_or None (map key (q ++ x ∷ [])) ≡ Some (key x)
-last_push key q x = by q None
-  where
-    by : (q : Lines) (d : Option (List ℕ)) → last_or d (map key (q ++ x ∷ [])) ≡ Some (key x)
-    by [] d = refl
-    by (y ∷ q) d = by q (Some (key y))
+last_push : (key : Key) (q : Lines) (x : List ℕ) (d : Option (List ℕ)) → last_or d (map key (q ++ x ∷ [])) ≡ Some (key x)
+last_push key [] x d = refl
+last_push key (y ∷ q) x d = last_push key q x (Some (key y))
 
 -- ---- what the store holds
 
@@ -145,9 +146,8 @@ module _ (call : Call) {was mid : Output} {p g : Side → Lines} {d : Side → B
   }
 
   own_entries : (f s : Lines) → 0 < length f → 0 < length s → call.entries k f s ≡ call.pairs k f s
-  own_entries [] s some1 some2 = absurd (omega (arith, some1))
-  own_entries (a ∷ f) [] some1 some2 = absurd (omega (arith, some2))
   own_entries (a ∷ f) (b ∷ s) some1 some2 = call.laws.whole k a b f s
+  own_entries f s some1 some2 = absurd (omega (arith, some1, some2))
 
   -- a group behind which only greater keys come
   pub closes : {is : Output} → ((side : Side) → 0 < length (g side)) → ((side : Side) → IsAbove call.cmp (call.key side) k (d side))
@@ -166,56 +166,35 @@ module _ (call : Call) {was mid : Output} {p g : Side → Lines} {d : Side → B
       none r c side = with_key-above call.tool call.o (call.key side) k (r side) (above side (r side) (c side))
 
       -- what is written of the group alone
-      alone_is : (w : List ℕ → Bool) → by_keys call.tool w g ≡ cond (w k) (call.entries k (g First) (g Second)) []
-      alone_is w =
-          (λ i. by_keys call.tool w (λ side. sym (append-nil (g side)) i)) ∙ front w (λ side. []) (λ side. tt)
-          ∙ (λ i. cond (w k) (call.entries k (append-nil (g First) i) (append-nil (g Second) i)) [] ++ []) ∙ append-nil (cond (w k) (call.entries k (g First) (g Second)) [])
-
-      -- and of lines of greater keys
-      greater_is : (w : List ℕ → Bool) (r : Side → Lines) → EachComes call.tool d r → by_keys call.tool w r ≡ by_keys call.tool w (others_of call.tool call.o k r)
-      greater_is w r c =
-          least_first call.tool call.o w k r (λ side. m.beyond side (r side) (c side)) (call.laws.alone.none k)
-          ∙ (λ i. cond (w k) (call.entries k (none r c First i) (none r c Second i)) [] ++ by_keys call.tool w (others_of call.tool call.o k r))
-          ∙ ap (λ l. l ++ by_keys call.tool w (others_of call.tool call.o k r)) (nothing (w k))
-        where
-          nothing : (t : Bool) → cond t (call.entries k [] []) [] ≡ []
-          nothing true = call.laws.alone.none k
-          nothing false = refl
+      alone_is : by_keys call.tool all_keys g ≡ call.entries k (g First) (g Second)
+      alone_is = (λ i. by_keys call.tool all_keys (λ side. sym (append-nil (g side)) i)) ∙ front all_keys (λ side. []) (λ side. tt) ∙ (rw (append-nil (g First), append-nil (g Second), append-nil) refl)
 
       splits_off : (w : List ℕ → Bool) (r : Side → Lines) → EachComes call.tool d r → by_keys call.tool w (λ side. g side ++ r side) ≡ by_keys call.tool w g ++ by_keys call.tool w r
       splits_off w r c =
-          front w r (λ side. m.beyond side (r side) (c side))
-          ∙ (λ i. cond (w k) (call.entries k (g First ++ none r c First i) (g Second ++ none r c Second i)) [] ++ by_keys call.tool w (others_of call.tool call.o k r))
-          ∙ (λ i. cond (w k) (call.entries k (append-nil (g First) i) (append-nil (g Second) i)) [] ++ by_keys call.tool w (others_of call.tool call.o k r))
-          ∙ (λ i. sym (alone_is w) i ++ sym (greater_is w r c) i)
+          let nothing : entries_of call.tool r k ≡ [] = (λ i. call.entries k (none r c First i) (none r c Second i)) ∙ call.laws.alone.none k in
+          front_first call.tool call.o w k g r m.own (λ side. m.beyond side (r side) (c side)) (call.laws.alone.none k)
+          (rw (none r c First, none r c Second, append-nil (g First), append-nil (g Second), nothing, append-nil) refl)
 
       all : by_keys call.tool all_keys (λ side. p side ++ g side) ≡ by_keys call.tool all_keys p ++ call.pairs k (g First) (g Second)
       all =
           m.merging.splits.split all_keys g (λ side. own_keys (AtMost call.cmp k) (call.key side) k (g side) (self_at_most call.cmp call.o k) (m.own side))
-          ∙ ap (λ l. by_keys call.tool all_keys p ++ l) (alone_is all_keys ∙ own_entries (g First) (g Second) (some First) (some Second))
+          ∙ ap (λ l. by_keys call.tool all_keys p ++ l) (alone_is ∙ own_entries (g First) (g Second) (some First) (some Second))
 
 -- ---- where a group stands
 
-stands_head : (s : Stand) → is_head s ≡ true → s ≡ Head
-stands_head Head h = refl
-stands_head Ended h = cc
-stands_head (Disorder n) h = cc
-
-both_true : (a b : Bool) → (a && b) ≡ true → (a ≡ true) × (b ≡ true)
-both_true true b h = (refl, h)
-both_true false b h = cc
-
 pub has_key : (s : Stand) (a b : List ℕ) → (is_head s && bytes_eq a b) ≡ true → (s ≡ Head) × (b ≡ a)
-has_key s a b h = let t = both_true (is_head s) (bytes_eq a b) h in (stands_head s t.0, sym ((bytes_decides a b).0 t.1))
+has_key Head a b h = (refl, sym ((bytes_decides a b).0 h))
+has_key Ended a b h = cc
+has_key (Disorder n) a b h = cc
 
 pub lacks_key : (s : Stand) (a b : List ℕ) → (is_head s && bytes_eq a b) ≡ false → s ≡ Head → ¬ (b ≡ a)
-lacks_key s a b h e same = (let bad : true ≡ false = sym (λ i. is_head (e i) && (bytes_decides a b).1 (sym same) i) ∙ h in absurd (false≢true (sym bad)))
+lacks_key s a b h e same = false≢true (sym h ∙ (rw (e, same, (bytes_decides a a).1 refl) refl))
 
 -- an input that goes on has its slots exchanged
 pub comes_places : {key : Key} {cmp : Cmp} {old new : Sorted} {was is : Reader} {before after : Slots} → Comes key cmp old new was is before after
     → (new.standing ≡ old.previous) × (new.previous ≡ old.standing)
-comes_places (inl e) = (ap (λ (q : Sorted). q.standing) e.place, ap (λ (q : Sorted). q.previous) e.place)
-comes_places (inr e) = (ap (λ (q : Sorted). q.standing) e.place, ap (λ (q : Sorted). q.previous) e.place)
+comes_places (inl e) = rw e.place (refl, refl)
+comes_places (inr e) = rw e.place (refl, refl)
 
 exchanged : (s : Side) (old new : Sorted) → (new.standing ≡ old.previous) × (new.previous ≡ old.standing) → HasSlots s old → HasSlots s new
 exchanged s old new e (inl h) = inr (e.0 ∙ h.1, e.1 ∙ h.0)
@@ -224,6 +203,14 @@ exchanged s old new e (inr h) = inl (e.0 ∙ h.1, e.1 ∙ h.0)
 -- a group with the line at which this input stands
 abbrev pub grown : State → (Side → Sorted) → Side → (Side → Lines) → Side → Lines
 grown now place s g = put s (g s ++ line now.store (place s).standing ∷ []) g
+
+-- three things of an input were changed
+put_three : (P : Side → Reader → List ℕ → Lines → Type 0) (s : Side) (x : Reader) (y : List ℕ) (z : Lines) (f : Side → Reader) (g : Side → List ℕ) (h : Side → Lines) → P s x y z
+    → ((side : Side) → P side (f side) (g side) (h side)) → (side : Side) → P side (put s x f side) (put s y g side) (put s z h side)
+put_three P First x y z f g h a b First = a
+put_three P First x y z f g h a b Second = b Second
+put_three P Second x y z f g h a b First = b First
+put_three P Second x y z f g h a b Second = a
 
 -- what is put behind one of two lists
 put_behind : (s : Side) (p g : Side → Lines) (l m : Lines) → l ≡ p s ++ m → (side : Side) → put s l (λ side. p side ++ g side) side ≡ p side ++ put s m g side
@@ -261,7 +248,7 @@ module _ {call : Call} {now : State} {place : Side → Sorted} {end : ℕ} {k : 
   pub went : (side : Side) → (now.reader side).failed ≡ (call.old.reader side).failed
   went side = (q.sides side).got.goes.failed
 
-  pub standing : (side : Side) → Gone call.end call.cmp (call.key side) (call.old.reader side) (now.reader side) (now.reader side) [] (q.ls side) (q.p side ++ g side) (q.d side)
+  pub standing : (side : Side) → GoneOf call now side (now.reader side) [] (q.ls side) (q.p side ++ g side) (q.d side)
   standing side = gone_standing _ _ _ _ _ _ _ _ _ _ (q.sides side)
 
   -- the store holds other lines of the group
@@ -299,25 +286,14 @@ module _ {call : Call} {now : State} {place : Side → Sorted} {end : ℕ} {k : 
     held = held;
     ended = ended;
     rises = ap (fall call.cmp (call.key s)) (sym (append-nil (q.ls s))) ∙ at_head.begun.falling [];
-    last = ap (λ (l : Lines). last_or None (map (call.key s) l)) at_head.all ∙ last_push (call.key s) (q.p s ++ g s) x ∙ ap (λ (l : List ℕ). Some l) l.is;
+    last = ap (λ (l : Lines). last_or None (map (call.key s) l)) at_head.all ∙ last_push (call.key s) (q.p s ++ g s) x None ∙ ap (λ (l : List ℕ). Some l) l.is;
   }
 
   pub passing : (new : Reader) (piece : List ℕ) → Reads (now.reader s) new piece → IsLine (now.reader s).ending piece → IsSound new
-      → (side : Side) → Gone call.end call.cmp (call.key side) (call.old.reader side) (now.reader side) (put s new now.reader side)
-      (put s piece (λ t. []) side) (q.ls side) (q.p side ++ grown now place s g side) (q.d side)
-  passing new piece reads free sound =
-      by s (subst (λ (l : Lines). Gone call.end call.cmp (call.key s) (call.old.reader s) (now.reader s) new piece (q.ls s) l (q.d s)) with_head
-      (rw at_head.bound (gone_passed _ _ call.o _ _ _ _ _ _ _ (q.sides s).got reads free sound at_head.begun))) (standing q (other s))
-    where
-      by : (t : Side) → Gone call.end call.cmp (call.key t) (call.old.reader t) (now.reader t) new piece (q.ls t) (q.p t ++ (g t ++ line now.store (place t).standing ∷ [])) (q.d t)
-          → Gone call.end call.cmp (call.key (other t)) (call.old.reader (other t)) (now.reader (other t)) (now.reader (other t)) []
-          (q.ls (other t)) (q.p (other t) ++ g (other t)) (q.d (other t))
-          → (side : Side) → Gone call.end call.cmp (call.key side) (call.old.reader side) (now.reader side) (put t new now.reader side)
-          (put t piece (λ u. []) side) (q.ls side) (q.p side ++ grown now place t g side) (q.d side)
-      by First a b First = a
-      by First a b Second = b
-      by Second a b First = b
-      by Second a b Second = a
+      → (side : Side) → GoneOf call now side (put s new now.reader side) (put s piece (λ t. []) side) (q.ls side) (q.p side ++ grown now place s g side) (q.d side)
+  passing new piece reads free sound = put_three (λ side r t m. GoneOf call now side r t (q.ls side) (q.p side ++ m) (q.d side)) s new piece (g s ++ x ∷ []) now.reader (λ t. []) g
+      (subst (λ (l : Lines). GoneOf call now s new piece (q.ls s) l (q.d s)) with_head
+      (rw at_head.bound (gone_passed _ _ call.o _ _ _ _ _ _ _ (q.sides s).got reads free sound at_head.begun))) (standing q)
 
   -- the next line could not be read, where what was pushed is a beginning of the group's entries
   module _ {out : Output} (clean : out.faulted ≡ false) {extra : Lines} (begins : StartsWith call.tool (grown now place s g) q.d k extra)

@@ -23,7 +23,7 @@ use Rattle.ptmerge.specs.Stores.{IsCleared}
 use Rattle.ptmerge.proofs.OfMerges.Bounds.{Bound}
 use Rattle.ptmerge.proofs.OfComm.CommTurns.{same_state, Running}
 use Rattle.ptmerge.proofs.OfMerges.Got.{reads_nothing}
-use Rattle.ptmerge.proofs.OfJoin.GroupTurns.{Call, fits_kept, moved, not_failed, peak_line}
+use Rattle.ptmerge.proofs.OfJoin.GroupTurns.{Call, GoneOf, fits_kept, moved, not_failed, peak_line}
 use Rattle.ptmerge.proofs.OfJoin.JoinSlots.{Keeping, keeping_next, keeping_starts}
 use Rattle.ptmerge.proofs.OfMerges.Pairs.{put_each, put_other, put_same}
 use Rattle.ptmerge.proofs.OfMerges.Passing.{Late, Merging, late_none}
@@ -49,7 +49,7 @@ module _ {call : Call} {now : State} {place : Side → Sorted} (r : Between call
   went : (side : Side) → (now.reader side).failed ≡ (call.old.reader side).failed
   went side = (r.sides side).got.goes.failed
 
-  stand : (side : Side) → Gone call.end call.cmp (call.key side) (call.old.reader side) (now.reader side) (now.reader side) [] (r.ls side) (r.p side) (r.b side)
+  stand : (side : Side) → GoneOf call now side (now.reader side) [] (r.ls side) (r.p side) (r.b side)
   stand side = gone_standing _ _ _ _ _ _ _ _ _ _ (r.sides side)
 
   -- a line that one input alone has
@@ -83,14 +83,14 @@ module _ {call : Call} {now : State} {place : Side → Sorted} (r : Between call
         }
 
     passing_one : (reader : Reader) (piece : List ℕ) → Reads (now.reader s) reader piece → IsLine (now.reader s).ending piece → IsSound reader
-        → Gone call.end call.cmp (call.key s) (call.old.reader s) (now.reader s) reader piece (r.ls s) (r.ls s) (r.b s)
+        → GoneOf call now s reader piece (r.ls s) (r.ls s) (r.b s)
     passing_one reader piece reads free sound = rw at_head.bound (gone_passed _ _ call.o _ _ _ _ _ _ _ (r.sides s).got reads free sound at_head.begun)
 
     pub alone_stops : {reader : Reader} (next : Sorted) {after : Slots} (fault : MergeFault) → PassesLine (call.key s) call.cmp s (place s) next (now.reader s) reader now.store after new (Err fault)
         → IsMerge call.tool call.old (moved now s reader new after) (Err fault)
     alone_stops {reader} next {after} fault (inl e) = same_state call.tool call.old s now new reader after fault e.0 e.1
         (stops call.tool call.o call.old (record now { out = new }) now.reader (λ side. []) r.ls q r.b
-        (put_each (λ side (l : Lines). Gone call.end call.cmp (call.key side) (call.old.reader side) (now.reader side) (now.reader side) [] (r.ls side) l (r.b side)) s (r.ls s) r.p
+        (put_each (λ side (l : Lines). GoneOf call now side (now.reader side) [] (r.ls side) l (r.b side)) s (r.ls s) r.p
         (passing_one (now.reader s) [] (reads_nothing (now.reader s)) tt (r.sides s).sound) stand)
         pushed_alone.0 pushed_alone.1 (Err Write) (record { faulted = e.1.faulted; failed = went; denied = r.keeps.denied }) (λ side. not_failed call side (went side)) tt
         (fits_kept call r.keeps now.store (omega arith) refl))
