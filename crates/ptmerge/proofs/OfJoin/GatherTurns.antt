@@ -114,7 +114,7 @@ module _ {call : Call} {now : State} {place : Side → Sorted} {end : ℕ} (r : 
     -- or it could not be sent
     pub not_sent : out.faulted ≡ true → IsMerge call.tool call.old (record now { out = out }) (Err Write)
     not_sent fault =
-        halts call.o call.old (record now { out = out }) r.q.within (starts_none call r.q.within) (rw (call.laws.none r.k r.g) at wrote_still) (standing r.q)
+        halts call.o _ _ r.q.within (starts_none call r.q.within) (rw (call.laws.none r.k r.g) at wrote_still) (standing r.q)
         (record { faulted = fault; failed = went r.q; denied = r.q.keeps.denied }) (λ side. not_failed call side (went r.q side)) (λ input pushed. tt) (fits_kept call r.q.keeps now.store (omega arith) refl)
 
   -- the second input went on
@@ -187,7 +187,7 @@ module _ {call : Call} {now : State} {place : Side → Sorted} {end : ℕ} (r : 
         → IsMerge call.tool call.old (moved now Second reader now.out after) (Err fault)
     not_gathered clean fault (inl e) =
         let q = (on e.came).group in
-        rw e.memory (halts call.o call.old (moved now Second reader now.out after) q.within (starts_none call q.within) (rw (call.laws.none r.k (r.g ++ y ∷ [])) at q.wrote) (standing q)
+        rw e.memory (halts call.o _ _ q.within (starts_none call q.within) (rw (call.laws.none r.k (r.g ++ y ∷ [])) at q.wrote) (standing q)
         (record { denied = e.refused.denied; failed = went q; clean = clean }) (λ side. not_failed call side (went q side)) (λ input pushed. tt) (λ all w.
         let size = size_of call q.keeps all (λ side. omega (arith, (w side).1)) ((w Second).0.more, (w Second).0.is) in
         let many : length (r.g ++ y ∷ []) ≤ most_lines (call.key Second) (all Second) = rw (w Second).0.is (inside e.came (w Second).0.more).1 in (
@@ -197,7 +197,7 @@ module _ {call : Call} {now : State} {place : Side → Sorted} {end : ℕ} (r : 
     not_gathered clean fault (inr e) = group_breaks at_line clean (starts_none call (within_more at_line)) wrote_none reader fault e
 
 -- how many slots there are where no line could be gathered
-pub gather_slots : (key : Key) (cmp : Cmp) (place next : Sorted) (was is : Reader) (before after : Slots) (end : ℕ) (fault : MergeFault)
+pub gather_slots : {key : Key} {cmp : Cmp} {place next : Sorted} {was is : Reader} {before after : Slots} {end : ℕ} (fault : MergeFault)
     → NotGathered key cmp place next was is before after end fault → length before.lines ≤ length after.lines
-gather_slots key cmp place next was is before after end fault (inl e) = omega (arith, comes_slots key cmp place next was is before e.made e.came, e.refused.slots)
-gather_slots key cmp place next was is before after end fault (inr e) = omega (arith, breaks_slots Second place was is before after fault e)
+gather_slots fault (inl e) = omega (arith, comes_slots _ _ _ _ _ _ _ _ e.came, e.refused.slots)
+gather_slots {place = place} {was = was} {is = is} {before = before} {after = after} fault (inr e) = omega (arith, breaks_slots Second place was is before after fault e)

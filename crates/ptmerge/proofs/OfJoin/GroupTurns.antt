@@ -301,7 +301,7 @@ module _ {call : Call} {now : State} {place : Side → Sorted} {end : ℕ} {k : 
     pub group_breaks : {after : Slots} (fault : MergeFault) → CannotRead s (place s) (now.reader s) new now.store after fault → IsMerge call.tool call.old (moved now s new out after) (Err fault)
     group_breaks {after} (Read file) moves =
         let e = moves.0 in
-        rw moves.1 (halts call.o call.old (moved now s new out after) within_more begins wrote (passing new e.piece e.faults.reads e.faults.whole moves.2) (record {
+        rw moves.1 (halts call.o _ _ within_more begins wrote (passing new e.piece e.faults.reads e.faults.whole moves.2) (record {
           cause = rw (put_same s new now.reader) (⊎_elim (λ h. inl h) (λ h. inr (h.0, h.1 ∙ went q s)) e.cause);
           others = rw (put_other s new now.reader) (went q (other s));
           clean = clean;
@@ -313,7 +313,7 @@ module _ {call : Call} {now : State} {place : Side → Sorted} {end : ℕ} {k : 
     group_breaks {after} Memory moves =
         let e = moves.0 in
         let failed = put_each (λ side (r : Reader). r.failed ≡ (call.old.reader side).failed) s new now.reader (e.failed ∙ went q s) (went q) in
-        halts call.o call.old (moved now s new out after) within_more begins wrote (passing new e.piece e.faults.reads e.faults.whole moves.1)
+        halts call.o _ _ within_more begins wrote (passing new e.piece e.faults.reads e.faults.whole moves.1)
         (record { denied = ap (λ (t : Slots). t.denied) e.stored; failed = failed; clean = clean }) (λ side. not_failed call side (failed side))
         (λ input pushed. tt) (rw e.stored (peak_line call q.keeps s (place s) (l.slots s) e.piece))
     group_breaks (faults.Disorder file number) moves = absurd moves

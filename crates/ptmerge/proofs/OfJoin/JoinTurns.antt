@@ -67,7 +67,7 @@ module _ {call : Call} {now : State} {place : Side → Sorted} (r : Between call
         let a = ahead call.cmp call.o (call.key (other s)) (call.key s x) (place (other s)).stand (place (other s)) now.store (now.reader (other s))
         (r.ls (other s)) (r.p (other s)) (r.b (other s)) step.before (r.sides (other s)).stands in
         subst (λ (l : Lines). Merging call.tool r.b (put s l r.p) call.old.out new × Late call.tool r.b (put s l r.p) call.old.out new) (sym at_head.all)
-        (pass_one call.tool call.o call.laws.alone s x r.b r.p call.old.out now.out new clean r.merging at_head.bound a.0 a.1 wrote)
+        (pass_one call.tool call.o call.laws.alone s x r.b r.p _ _ _ clean r.merging at_head.bound a.0 a.1 wrote)
 
     pub alone_on : {reader : Reader} {next : Sorted} {after : Slots} → Comes (call.key s) call.cmp (place s) next (now.reader s) reader now.store after
         → Between call (moved now s reader new after) (put s next place)
@@ -78,7 +78,7 @@ module _ {call : Call} {now : State} {place : Side → Sorted} (r : Between call
           p = q;
           b = put s n.bound r.b;
           sides = sides_on call.tool call.o _ _ _ _ _ _ _ r.sides slots r.keeps.four s step.stands reader next after n;
-          merging = merging_on call.tool call.o _ _ _ _ _ _ _ r.sides slots r.keeps.four s step.stands reader next after n q call.old.out new pushed_alone.0;
+          merging = merging_on call.tool call.o _ _ _ _ _ _ _ r.sides slots r.keeps.four s step.stands reader next after n q _ _ pushed_alone.0;
           keeps = keeping_next s (place s) (slots s) r.keeps n;
         }
 
@@ -88,8 +88,8 @@ module _ {call : Call} {now : State} {place : Side → Sorted} (r : Between call
 
     pub alone_stops : {reader : Reader} (next : Sorted) {after : Slots} (fault : MergeFault) → PassesLine (call.key s) call.cmp s (place s) next (now.reader s) reader now.store after new (Err fault)
         → IsMerge call.tool call.old (moved now s reader new after) (Err fault)
-    alone_stops {reader} next {after} fault (inl e) = same_state call.tool call.old s now new reader after fault e.0 e.1
-        (stops call.tool call.o call.old (record now { out = new }) now.reader (λ side. []) r.ls q r.b
+    alone_stops {reader} next {after} fault (inl e) = same_state _ _ s now _ reader _ _ e.0 e.1
+        (stops call.tool call.o _ _ _ _ _ _ _
         (put_each (λ side (l : Lines). GoneOf call now side (now.reader side) [] (r.ls side) l (r.b side)) s (r.ls s) r.p
         (passing_one (now.reader s) [] (reads_nothing (now.reader s)) tt (r.sides s).sound) stand)
         pushed_alone.0 pushed_alone.1 (Err Write) (record { faulted = e.1.faulted; failed = went; denied = r.keeps.denied }) (λ side. not_failed call side (went side)) tt
@@ -107,7 +107,7 @@ module _ {call : Call} {now : State} {place : Side → Sorted} (r : Between call
 
     concludes : (result : Result (Unit {0}) MergeFault) → Ends call.old (record now { store = after }) result → Concludes call.tool r.b result → IsMerge call.tool call.old (record now { store = after }) result
     concludes result ends at =
-        stops call.tool call.o call.old (record now { store = after }) now.reader (λ side. []) r.ls r.p r.b stand r.merging
+        stops call.tool call.o _ _ _ _ _ _ _ stand r.merging
         (late_none call.tool _ _ _ _ _ clean r.merging.wrote (wrote_nothing now.out)) result ends (λ side. not_failed call side (went side)) at
         (fits_kept call r.keeps after clear.peak clear.slots)
 

@@ -108,7 +108,7 @@ module _ {call : Call} {now : State} {place : Side → Sorted} {end : ℕ} (r : 
 
       pub pair_stops : (reader : Reader) (next : Sorted) {after : Slots} (fault : MergeFault) → PassesLine (call.key First) call.cmp First (place First) next (now.reader First) reader now.store after new (Err fault)
           → IsMerge call.tool call.old (moved now First reader new after) (Err fault)
-      pair_stops reader next {after} fault (inl e) = same_state call.tool call.old First now new reader after fault e.0 e.1
+      pair_stops reader next {after} fault (inl e) = same_state _ _ First now _ reader _ _ e.0 e.1
           (halts call.o call.old (record now { out = new }) {now = now.reader} {piece = λ side. []} {ls = r.q.ls} (within_more at_line) begins wrote_more
           (elim [ First ↦ passing at_line (now.reader First) [] (reads_nothing (now.reader First)) tt (r.q.sides First).sound First | Second ↦ standing r.q Second ])
           (record { faulted = e.1.faulted; failed = went r.q; denied = r.q.keeps.denied }) (λ side. not_failed call side (went r.q side)) (λ input pushed. tt)

@@ -185,7 +185,7 @@ module _ {job : Join} {cmp : Cmp} {key : Side → Key} {old : State} {phase : Ph
     module _ {s : Side} (step : IsAlone cmp key (both one two) now.store s) {new : Output} {e : ℕ} (ends : e ≡ job.end)
         (pushed : Wrote now.out new (text e (alone_entry job s (line now.store (both one two s).standing)))) where
       wrote : Wrote now.out new (text job.end (by_keys (join_by job cmp key) all_keys (alone s (line now.store (both one two s).standing))))
-      wrote = let x = line now.store (both one two s).standing in wrote_as job.end e _ _ now.out new ends (written_alone job cmp key s x (t.opened.keys s x)) pushed
+      wrote = let x = line now.store (both one two s).standing in wrote_as _ _ _ _ _ _ ends (written_alone job cmp key s x (t.opened.keys s x)) pushed
 
       pub alone_on : {one2 two2 : Sorted} {reader : Reader} {after : Slots} → HasPassed key cmp s one two one2 two2 (now.reader s) reader now.store after new
           → IsTurn job cmp key old phase (moved now s reader new after) one2 two2 end
@@ -230,8 +230,8 @@ module _ {job : Join} {cmp : Cmp} {key : Side → Key} {old : State} {phase : Ph
       pub gather_stops : (two2 : Sorted) (reader : Reader) (after : Slots) (fault : MergeFault) {r : Result (Unit {0}) MergeFault} → r ≡ Err fault
           → Gathers (key Second) cmp two two2 (now.reader Second) reader now.store after out end (Err fault) → Leaves (join_by job cmp key) old (moved now Second reader out after) r
       gather_stops two2 reader after fault is_fault (inl e) = leaves is_fault (omega (arith, ap (λ (z : Slots). length z.lines) e.1.store))
-          (same_state (join_by job cmp key) old Second now out reader after fault e.0 e.1 (gather_turns.not_sent (t.phased.gathering is) slots t.clean sent e.1.faulted))
-      gather_stops two2 reader after fault is_fault (inr e) = leaves is_fault (gather_slots (key Second) cmp two two2 (now.reader Second) reader now.store after end fault e.1)
+          (same_state _ _ Second now _ reader _ _ e.0 e.1 (gather_turns.not_sent (t.phased.gathering is) slots t.clean sent e.1.faulted))
+      gather_stops two2 reader after fault is_fault (inr e) = leaves is_fault (gather_slots fault e.1)
           (gather_turns.not_gathered gathering_sent slots e.0 fault e.1)
 
       module _ {one2 two2 : Sorted} {reader : Reader} {after : Slots} {to : ℕ}
@@ -265,7 +265,7 @@ module _ {job : Join} {cmp : Cmp} {key : Side → Key} {old : State} {phase : Ph
         (pushed : Wrote now.out new (text e (pairs_of job (key First (line now.store one.standing)) (line now.store one.standing ∷ [])
         (group now.store (first_slot two end) (end_slot two end))))) where
       wrote_pairs : Wrote now.out new (text job.end (pairs_of job pairing.k (line now.store one.standing ∷ []) (pairing.g Second)))
-      wrote_pairs = wrote_as job.end e _ _ now.out new ends (λ j. pairs_of job (sym pairing.key1 j) (line now.store one.standing ∷ []) (sym (pair_turns.group_stands pairing slots) j)) pushed
+      wrote_pairs = wrote_as _ _ _ _ _ _ ends (λ j. pairs_of job (sym pairing.key1 j) (line now.store one.standing ∷ []) (sym (pair_turns.group_stands pairing slots) j)) pushed
 
       pub pair_stops : (one2 two2 : Sorted) (reader : Reader) (after : Slots) (fault : MergeFault) {r : Result (Unit {0}) MergeFault} → r ≡ Err fault
           → Passes key cmp First one two one2 two2 (now.reader First) reader now.store after new (Err fault) → Leaves (join_by job cmp key) old (moved now First reader new after) r
@@ -284,6 +284,6 @@ module _ {job : Join} {cmp : Cmp} {key : Side → Key} {old : State} {phase : Ph
             (record {
               clean = h.on.clean;
               others = h.on.others;
-              placed = placed_keeps key one2 two2 after cleared h.on.placed (omega (arith, clear.slots)) (λ slot low. clear.others slot (inl low));
+              placed = placed_keeps _ _ _ _ _ h.on.placed (omega (arith, clear.slots)) (λ slot low. clear.others slot (inl low));
               lent = h.on.lent;
             }) (in_between refl (pair_turns.group_closed pairing slots wrote_pairs t.clean h.came same clear) refl)

@@ -151,8 +151,8 @@ module _ {A : Type 0} where
           ∙ ap (λ l. (u ++ g a) ++ l) (sym (none_at j u g (a + 1) n (omega (arith, same))))) (IsPermutation-refl (u ++ (g a ++ rest)))
       by false e ih =
           let apart : a + 1 ≤ j = grind (arith, nat_tests, e, low) in
-          IsPermutation-trans (u ++ (g a ++ rest)) (g a ++ (u ++ rest)) (g a ++ flat_map (with_at j u g) (range_with_len (a + 1) n)) (changed u (g a) rest)
-          (IsPermutation-append_right (g a) (u ++ rest) (flat_map (with_at j u g) (range_with_len (a + 1) n)) (ih apart))
+          IsPermutation-trans _ _ _ (changed u (g a) rest)
+          (IsPermutation-append_right (g a) _ _ (ih apart))
 
   -- Of some keys, those that go to each part.
   of_each : (f : List ℕ → List A) (part_of : List ℕ → ℕ) (parts : ℕ) → ((k : List ℕ) → part_of k < parts) → (ks : Lines)
@@ -166,8 +166,7 @@ module _ {A : Type 0} where
       let g : ℕ → List A = λ i. flat_map f (filter (λ k. part_of k == i) ks) in
       let all : List A = flat_map g (range_with_len 0 parts) in
       subst (λ (h : ℕ → List A). IsPermutation (f k ++ flat_map f ks) (flat_map h (range_with_len 0 parts))) (λ t i. at (part_of k == i) i t)
-      (IsPermutation-trans (f k ++ flat_map f ks) (f k ++ all) (flat_map (with_at (part_of k) (f k) g) (range_with_len 0 parts))
-      (IsPermutation-append_right (f k) (flat_map f ks) all (of_each f part_of parts below ks)) (one_at (part_of k) (f k) g 0 parts (omega arith) (omega (arith, below k))))
+      (IsPermutation-trans _ _ _ (IsPermutation-append_right (f k) _ _ (of_each f part_of parts below ks)) (one_at (part_of k) (f k) g 0 parts (omega arith) (omega (arith, below k))))
     where
       at : (b : Bool) (i : ℕ) → cond b (f k ++ flat_map f (filter (λ k. part_of k == i) ks)) (flat_map f (filter (λ k. part_of k == i) ks))
           ≡ flat_map f (cond b (k ∷ filter (λ k. part_of k == i) ks) (filter (λ k. part_of k == i) ks))
