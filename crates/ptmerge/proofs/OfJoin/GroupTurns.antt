@@ -1,5 +1,5 @@
 -- A group of lines of one key: its lines are gathered, paired and closed.
-use Rattle.std.proofs.Common.{◌≡◌, ⊎_elim, inl, inr, ℕ, ◌+◌, ◌*◌, ◌≤◌, ◌<◌, ◌&&◌, Bool, true, false, cond, List, [], ◌∷◌, ◌++◌, Option, Some, None, Err, length}
+use Rattle.std.proofs.Common.{◌≡◌, ◌⊎◌, ⊎_elim, inl, inr, ℕ, ◌+◌, ◌*◌, ◌≤◌, ◌<◌, ◌&&◌, Bool, true, false, cond, List, [], ◌∷◌, ◌++◌, Option, Some, None, Err, length}
 use Rattle.std.proofs.Common.{map, max, refl, sym, ◌∙◌, ap, subst, arith, append_assoc}
 use Rattle.std.specs.List.{last_or}
 use Rattle.std.specs.Prelude.{bytes_eq}
@@ -24,6 +24,7 @@ use Rattle.ptmerge.specs.declared.merging.sorted.Stand.TheVariants.{Head, Ended,
 use Rattle.ptmerge.specs.Groups.{is_head}
 use Rattle.ptmerge.specs.Join.{largest_group, most_lines}
 use Rattle.ptmerge.specs.Keyed.{Lines, Tool, by_keys, entries_of, fall, with_key}
+use Rattle.ptmerge.specs.LinePasses.{IsUnwritten}
 use Rattle.ptmerge.specs.Merges.{State, IsMerge}
 use Rattle.ptmerge.specs.Orders.{Cmp, Key}
 use Rattle.ptmerge.specs.Places.{CannotRead, Comes, HasSlots}
@@ -68,6 +69,11 @@ moved now s reader out store = record { reader = put s reader now.reader; out = 
 -- these lines of an input came, of which those are passed, and a piece of one more
 abbrev pub GoneOf : Call → State → Side → Reader → List ℕ → Lines → Lines → Bound → Type 0
 GoneOf call now side new piece ls p b = Gone call.end call.cmp (call.key side) (call.old.reader side) (now.reader side) new piece ls p b
+
+-- a write failed, or the next line of an input could not be read
+abbrev pub NotPassed : State → Side → Sorted → Reader → Slots → Output → MergeFault → Type 0
+NotPassed now s place reader after new fault =
+    ((fault ≡ Write) × IsUnwritten (now.reader s) reader now.store after new) ⊎ ((new.faulted ≡ false) × CannotRead s place (now.reader s) reader now.store after fault)
 
 -- a read that has not failed did not fail
 pub not_failed : (call : Call) (side : Side) {b : Bool} {X : Type 0} → b ≡ (call.old.reader side).failed → b ≡ true → X

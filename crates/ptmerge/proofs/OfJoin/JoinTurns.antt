@@ -14,7 +14,6 @@ use Rattle.ptmerge.specs.declared.order.Side.TheVariants.{Second}
 use Rattle.ptmerge.specs.declared.merging.sorted.Sorted.{Sorted}
 use Rattle.ptmerge.specs.declared.merging.sorted.Stand.TheVariants.{Ended}
 use Rattle.ptmerge.specs.Keyed.{Lines, by_keys}
-use Rattle.ptmerge.specs.LinePasses.{PassesLine}
 use Rattle.ptmerge.specs.Merges.{State, Ends, IsMerge}
 use Rattle.ptmerge.specs.Places.{Comes, HasSlots}
 use Rattle.ptmerge.specs.Sides.{put, other}
@@ -23,7 +22,7 @@ use Rattle.ptmerge.specs.Stores.{IsCleared}
 use Rattle.ptmerge.proofs.OfMerges.Bounds.{Bound}
 use Rattle.ptmerge.proofs.OfComm.CommTurns.{same_state, Running}
 use Rattle.ptmerge.proofs.OfMerges.Got.{reads_nothing}
-use Rattle.ptmerge.proofs.OfJoin.GroupTurns.{Call, GoneOf, fits_kept, moved, not_failed, peak_line}
+use Rattle.ptmerge.proofs.OfJoin.GroupTurns.{Call, GoneOf, NotPassed, fits_kept, moved, not_failed, peak_line}
 use Rattle.ptmerge.proofs.OfJoin.JoinSlots.{Keeping, keeping_next, keeping_starts}
 use Rattle.ptmerge.proofs.OfMerges.Pairs.{put_each, put_other, put_same}
 use Rattle.ptmerge.proofs.OfMerges.Passing.{Late, Merging, late_none}
@@ -86,15 +85,14 @@ module _ {call : Call} {now : State} {place : Side → Sorted} (r : Between call
         → GoneOf call now s reader piece (r.ls s) (r.ls s) (r.b s)
     passing_one reader piece reads free sound = rw at_head.bound (gone_passed _ _ call.o _ _ _ _ _ _ _ (r.sides s).got reads free sound at_head.begun)
 
-    pub alone_stops : {reader : Reader} (next : Sorted) {after : Slots} (fault : MergeFault) → PassesLine (call.key s) call.cmp s (place s) next (now.reader s) reader now.store after new (Err fault)
-        → IsMerge call.tool call.old (moved now s reader new after) (Err fault)
-    alone_stops {reader} next {after} fault (inl e) = same_state _ _ s now _ reader _ _ e.0 e.1
+    pub alone_stops : {reader : Reader} {after : Slots} {fault : MergeFault} → NotPassed now s (place s) reader after new fault → IsMerge call.tool call.old (moved now s reader new after) (Err fault)
+    alone_stops {reader} (inl e) = same_state _ _ s now _ reader _ _ e.0 e.1
         (stops call.tool call.o _ _ _ _ _ _ _
         (put_each (λ side (l : Lines). GoneOf call now side (now.reader side) [] (r.ls side) l (r.b side)) s (r.ls s) r.p
         (passing_one (now.reader s) [] (reads_nothing (now.reader s)) tt (r.sides s).sound) stand)
         pushed_alone.0 pushed_alone.1 (Err Write) (record { faulted = e.1.faulted; failed = went; denied = r.keeps.denied }) (λ side. not_failed call side (went side)) tt
         (fits_kept call r.keeps now.store (omega arith) refl))
-    alone_stops {reader} next {after} fault (inr e) =
+    alone_stops {reader} {after} {fault} (inr e) =
         let same : put s (r.ls s) r.p s ≡ r.ls s = put_same s (r.ls s) r.p in
         breaks call.tool call.o call.old (record now { out = new }) r.ls q r.b pushed_alone.0 call.unfailed went e.0 s (place s) reader after fault
         (λ new piece reads free sound. rw same (passing_one new piece reads free sound)) (sym same) (Some (call.key s (line now.store (place s).standing)))

@@ -16,14 +16,13 @@ use Rattle.ptmerge.specs.declared.merging.sorted.Sorted.{Sorted}
 use Rattle.ptmerge.specs.declared.merging.sorted.Stand.TheVariants.{Head}
 use Rattle.ptmerge.specs.Groups.{IsGroupCleared, end_slot, first_slot, group}
 use Rattle.ptmerge.specs.Keyed.{Lines}
-use Rattle.ptmerge.specs.LinePasses.{PassesLine}
 use Rattle.ptmerge.specs.Merges.{State, IsMerge}
 use Rattle.ptmerge.specs.Places.{Comes, HasSlots}
 use Rattle.ptmerge.specs.Sides.{put}
 use Rattle.ptmerge.proofs.OfMerges.Got.{reads_nothing}
 use Rattle.ptmerge.proofs.OfJoin.GroupStops.{StartsWith, halts}
 use Rattle.ptmerge.proofs.OfJoin.GroupSlots.{group_one}
-use Rattle.ptmerge.proofs.OfJoin.GroupTurns.{AtLine, Call, GoneOn, Grouped, closes, fits_kept, goes_on, goes_past, gone_on, group_breaks, grown, is_past, moved, next_slots, not_failed}
+use Rattle.ptmerge.proofs.OfJoin.GroupTurns.{AtLine, Call, GoneOn, Grouped, NotPassed, closes, fits_kept, goes_on, goes_past, gone_on, group_breaks, grown, is_past, moved, next_slots, not_failed}
 use Rattle.ptmerge.proofs.OfJoin.GroupTurns.{others_stay, passing, stand_still, standing, starts, went, within_more}
 use Rattle.ptmerge.proofs.OfJoin.JoinSlots.{group_is, kept_line, keeping_cleared, low_slot}
 use Rattle.ptmerge.proofs.OfMerges.Least.{EachKey, EachKey-at}
@@ -106,14 +105,13 @@ module _ {call : Call} {now : State} {place : Side → Sorted} {end : ℕ} (r : 
       begins : StartsWith call.tool (grown now place First r.g) r.q.d r.k (call.pairs r.k (r.g First ++ z) (r.g Second))
       begins = starts call (within_more at_line) r.some r.above
 
-      pub pair_stops : (reader : Reader) (next : Sorted) {after : Slots} (fault : MergeFault) → PassesLine (call.key First) call.cmp First (place First) next (now.reader First) reader now.store after new (Err fault)
-          → IsMerge call.tool call.old (moved now First reader new after) (Err fault)
-      pair_stops reader next {after} fault (inl e) = same_state _ _ First now _ reader _ _ e.0 e.1
+      pub pair_stops : {reader : Reader} {after : Slots} {fault : MergeFault} → NotPassed now First (place First) reader after new fault → IsMerge call.tool call.old (moved now First reader new after) (Err fault)
+      pair_stops {reader} (inl e) = same_state _ _ First now _ reader _ _ e.0 e.1
           (halts call.o call.old (record now { out = new }) {now = now.reader} {piece = λ side. []} {ls = r.q.ls} (within_more at_line) begins wrote_more
           (elim [ First ↦ passing at_line (now.reader First) [] (reads_nothing (now.reader First)) tt (r.q.sides First).sound First | Second ↦ standing r.q Second ])
           (record { faulted = e.1.faulted; failed = went r.q; denied = r.q.keeps.denied }) (λ side. not_failed call side (went r.q side)) (λ input pushed. tt)
           (fits_kept call r.q.keeps now.store (omega arith) refl))
-      pair_stops reader next fault (inr e) = group_breaks at_line e.0 begins wrote_more reader fault e.1
+      pair_stops {reader} {fault = fault} (inr e) = group_breaks at_line e.0 begins wrote_more reader fault e.1
 
       module _ {reader : Reader} {next : Sorted} {after : Slots} (comes : Comes (call.key First) call.cmp (place First) next (now.reader First) reader now.store after) where
         on : GoneOn at_line comes new

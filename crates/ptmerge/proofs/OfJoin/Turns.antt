@@ -16,7 +16,7 @@ use Rattle.ptmerge.specs.declared.merging.sorted.Stand.TheVariants.{Head, Ended}
 use Rattle.ptmerge.specs.Groups.{AddsLeast, Gathered, Gathers, IsGroup, IsGroupCleared, end_slot, first_slot, group}
 use Rattle.ptmerge.specs.Join.{alone_entry, join_by, join_key, pairs_of}
 use Rattle.ptmerge.specs.Keyed.{Tool, by_keys}
-use Rattle.ptmerge.specs.LinePasses.{CanGoOn, HasPassed, Passes, StandsAt}
+use Rattle.ptmerge.specs.LinePasses.{CanGoOn, HasPassed, StandsAt}
 use Rattle.ptmerge.specs.Merges.{State, IsMerge, IsReady, IsUnread, seen}
 use Rattle.ptmerge.specs.Orders.{Cmp, Key}
 use Rattle.ptmerge.specs.Places.{HasSlots}
@@ -27,7 +27,7 @@ use Rattle.ptmerge.proofs.OfComm.CommTurns.{comes_slots, passes_slots, readable_
 use Rattle.ptmerge.proofs.OfJoin.JoinEntries.{join_pairs, written_alone}
 use Rattle.ptmerge.proofs.OfJoin.GatherTurns.{Gathering, gather_slots}
 use Rattle.ptmerge.proofs.OfJoin.GatherTurns as gather_turns
-use Rattle.ptmerge.proofs.OfJoin.GroupTurns.{Call, moved}
+use Rattle.ptmerge.proofs.OfJoin.GroupTurns.{Call, NotPassed, moved}
 use Rattle.ptmerge.proofs.OfJoin.JoinSlots.{end_within}
 use Rattle.ptmerge.proofs.OfJoin.JoinTurns.{Between, starts_between}
 use Rattle.ptmerge.proofs.OfJoin.JoinTurns as join_turns
@@ -138,10 +138,10 @@ module _ {job : Join} {cmp : Cmp} {key : Side → Key} {old : State} (a : IsOpen
     clean = a.writable;
   }
 
-  pub start_stops : (first second : Reader) (store : Slots) (fault : MergeFault)
+  pub start_stops : {first second : Reader} {store : Slots} {fault : MergeFault}
       → CannotStart key cmp (record { reader = old.reader; store = old.store }) (record { reader = both first second; store = store }) fault
       → {r : Result (Unit {0}) MergeFault} → r ≡ Err fault → Leaves (join_by job cmp key) old (seen first second old.out store) r
-  start_stops first second store fault cannot is_fault =
+  start_stops {first} {second} {store} {fault} cannot is_fault =
       let adds = start_slots (join_by job cmp key) a.o (λ ls. (omega arith, omega arith)) old a.readable a.ending a.unfailed a.sound a.writable a.allowed a.empty first second store fault cannot in
       rw is_fault (record {
         merged = starts_badly (join_by job cmp key) a.o (λ ls. (omega arith, omega arith)) _ a.readable a.ending a.unfailed a.sound a.writable a.allowed a.empty first second store fault cannot;
@@ -191,10 +191,10 @@ module _ {job : Join} {cmp : Cmp} {key : Side → Key} {old : State} {phase : Ph
           → IsTurn job cmp key old phase (moved now s reader new after) one2 two2 end
       alone_on h = went_on s h.on (in_between is (join_turns.alone_on (t.phased.between is).0 t.clean slots step wrote h.came) (t.phased.between is).1)
 
-      pub alone_stops : (one2 two2 : Sorted) (reader : Reader) (after : Slots) (fault : MergeFault) {r : Result (Unit {0}) MergeFault} → r ≡ Err fault
-          → Passes key cmp s one two one2 two2 (now.reader s) reader now.store after new (Err fault) → Leaves (join_by job cmp key) old (moved now s reader new after) r
-      alone_stops one2 two2 reader after fault is_fault h = leaves is_fault (omega (arith, passes_slots (key s) cmp s (both one two s) (both one2 two2 s) _ _ _ _ _ fault h))
-          (join_turns.alone_stops (t.phased.between is).0 t.clean slots step wrote (both one2 two2 s) fault h)
+      pub alone_stops : {reader : Reader} {after : Slots} {fault : MergeFault} {r : Result (Unit {0}) MergeFault} → r ≡ Err fault
+          → NotPassed now s (both one two s) reader after new fault → Leaves (join_by job cmp key) old (moved now s reader new after) r
+      alone_stops {fault = fault} is_fault h = leaves is_fault (omega (arith, passes_slots (key s) cmp s (both one two s) (both one two s) _ _ _ _ _ fault h))
+          (join_turns.alone_stops (t.phased.between is).0 t.clean slots step wrote h)
 
     pub opens : AreEqual cmp key (both one two) now.store → IsTurn job cmp key old phases.Gathering now one two end
     opens step = record {
@@ -227,12 +227,11 @@ module _ {job : Join} {cmp : Cmp} {key : Side → Key} {old : State} {phase : Ph
       gathering_sent : Gathering (call_of t.opened) (record now { out = out }) (both one two) end
       gathering_sent = gather_turns.gathering_sent (t.phased.gathering is) slots t.clean sent
 
-      pub gather_stops : (two2 : Sorted) (reader : Reader) (after : Slots) (fault : MergeFault) {r : Result (Unit {0}) MergeFault} → r ≡ Err fault
+      pub gather_stops : {two2 : Sorted} {reader : Reader} {after : Slots} {fault : MergeFault} {r : Result (Unit {0}) MergeFault} → r ≡ Err fault
           → Gathers (key Second) cmp two two2 (now.reader Second) reader now.store after out end (Err fault) → Leaves (join_by job cmp key) old (moved now Second reader out after) r
-      gather_stops two2 reader after fault is_fault (inl e) = leaves is_fault (omega (arith, ap (λ (z : Slots). length z.lines) e.1.store))
+      gather_stops {reader = reader} is_fault (inl e) = leaves is_fault (omega (arith, ap (λ (z : Slots). length z.lines) e.1.store))
           (same_state _ _ Second now _ reader _ _ e.0 e.1 (gather_turns.not_sent (t.phased.gathering is) slots t.clean sent e.1.faulted))
-      gather_stops two2 reader after fault is_fault (inr e) = leaves is_fault (gather_slots fault e.1)
-          (gather_turns.not_gathered gathering_sent slots e.0 fault e.1)
+      gather_stops {fault = fault} is_fault (inr e) = leaves is_fault (gather_slots fault e.1) (gather_turns.not_gathered gathering_sent slots e.0 fault e.1)
 
       module _ {one2 two2 : Sorted} {reader : Reader} {after : Slots} {to : ℕ}
           (h : Gathered (key Second) cmp two two2 (now.reader Second) reader now.store after end to) (on : CanGoOn key Second one two one2 two2 reader after out) where
@@ -267,10 +266,9 @@ module _ {job : Join} {cmp : Cmp} {key : Side → Key} {old : State} {phase : Ph
       wrote_pairs : Wrote now.out new (text job.end (pairs_of job pairing.k (line now.store one.standing ∷ []) (pairing.g Second)))
       wrote_pairs = wrote_as _ _ _ _ _ _ ends (λ j. pairs_of job (sym pairing.key1 j) (line now.store one.standing ∷ []) (sym (pair_turns.group_stands pairing slots) j)) pushed
 
-      pub pair_stops : (one2 two2 : Sorted) (reader : Reader) (after : Slots) (fault : MergeFault) {r : Result (Unit {0}) MergeFault} → r ≡ Err fault
-          → Passes key cmp First one two one2 two2 (now.reader First) reader now.store after new (Err fault) → Leaves (join_by job cmp key) old (moved now First reader new after) r
-      pair_stops one2 two2 reader after fault is_fault h = leaves is_fault (omega (arith, passes_slots (key First) cmp First one one2 _ _ _ _ _ fault h))
-          (pair_turns.pair_stops pairing slots wrote_pairs t.clean reader one2 fault h)
+      pub pair_stops : {reader : Reader} {after : Slots} {fault : MergeFault} {r : Result (Unit {0}) MergeFault} → r ≡ Err fault
+          → NotPassed now First one reader after new fault → Leaves (join_by job cmp key) old (moved now First reader new after) r
+      pair_stops {fault = fault} is_fault h = leaves is_fault (omega (arith, passes_slots (key First) cmp First one one _ _ _ _ _ fault h)) (pair_turns.pair_stops pairing slots wrote_pairs t.clean h)
 
       module _ {one2 two2 : Sorted} {reader : Reader} {after : Slots} (h : HasPassed key cmp First one two one2 two2 (now.reader First) reader now.store after new) where
         pub group_there : (4 ≤ end) × (end ≤ length after.lines)

@@ -14,8 +14,9 @@ pub returns-in_err-merge : goal.returns-in_err-merge
 returns-in_err-merge g c =
     let a = opened (join_job c.args.job.now) (g.K.KeyOrder.order c.args.order) (g.K.KeyOrder.key_of c.args.order) c.args.first.now c.args.second.now c.args.out.now c.args.store.now
     (record { total = g.met.K.KeyOrder.total c.args.order; exact = g.met.K.KeyOrder.exact c.args.order }) c.requires.keys c.requires.ready c.requires.sound c.requires.ending c.requires.writable in
-    start_stops a c.start.new.first c.start.new.second c.start.new.store c.in_err-merge.field-0.0 c.in_err-merge.ensures.breaks
-    (told (err_from_is_err_and c.from_residual.result c.from_residual.ensures.1))
+    start_stops a c.in_err-merge.ensures.breaks
+   
+    (told (err_from_is_err_and _ c.from_residual.ensures.1))
 
 pub turns-init : goal.turns-init
 turns-init g c =
@@ -61,18 +62,14 @@ turns-smaller-in-Continue-branch-3 g c = falls c.turns.phase c.turns.phase (alon
 pub returns-in_err-pass_alone-in-First : goal.returns-in_err-pass_alone-in-First
 returns-in_err-pass_alone-in-First g c =
     let i = c.turns.invariant in
-    let n = c.pass_alone.new in
-    let e = c.from_residual-in_err-pass_alone-in-First in
-    rw (← i.order) (alone_stops i.turn c.in-Between.is c.in-First.ensures (c.ending-ending.ensures ∙ c.requires.ending.0) c.pass_alone.ensures.wrote n.merge.first n.merge.second n.reader n.store
-    c.in_err-pass_alone-in-First.field-0.0 (told (err_from_is_err_and e.result e.ensures.1)) c.in_err-pass_alone-in-First.ensures.passes)
+    rw (← i.order) (alone_stops i.turn c.in-Between.is c.in-First.ensures (c.ending-ending.ensures ∙ c.requires.ending.0) c.pass_alone.ensures.wrote
+    (told (err_from_is_err_and _ c.from_residual-in_err-pass_alone-in-First.ensures.1)) c.in_err-pass_alone-in-First.ensures.passes)
 
 pub returns-in_err-pass_alone-in-Second : goal.returns-in_err-pass_alone-in-Second
 returns-in_err-pass_alone-in-Second g c =
     let i = c.turns.invariant in
-    let n = c.pass_alone-in-Second.new in
-    let e = c.from_residual-in_err-pass_alone-in-Second in
     rw (← i.order) (alone_stops i.turn c.in-Between.is c.in-Second.ensures (c.ending-ending.ensures ∙ c.requires.ending.0) c.pass_alone-in-Second.ensures.wrote
-    n.merge.first n.merge.second n.reader n.store c.in_err-pass_alone-in-Second.field-0.0 (told (err_from_is_err_and e.result e.ensures.1)) c.in_err-pass_alone-in-Second.ensures.passes)
+    (told (err_from_is_err_and _ c.from_residual-in_err-pass_alone-in-Second.ensures.1)) c.in_err-pass_alone-in-Second.ensures.passes)
 
 pub turns-preserved-in-Both : goal.turns-preserved-in-Both
 turns-preserved-in-Both g c = record { turn = opens c.turns.invariant.turn c.in-Between.is c.in-Both.ensures; order = c.turns.invariant.order }
@@ -99,10 +96,8 @@ gather-requires-clause-group g c = c.turns.invariant.turn.phased.end_in
 pub returns-in_err-end-in-Gathering : goal.returns-in_err-end-in-Gathering
 returns-in_err-end-in-Gathering g c =
     let i = c.turns.invariant in
-    let n = c.gather.new in
-    let e = c.from_residual-in_err-end-in-Gathering in
-    rw (← i.order) (gather_stops i.turn c.in-Gathering.is c.gather.ensures.sent n.merge.second n.reader n.store
-    c.in_err-end-in-Gathering.field-0.0 (told (err_from_is_err_and e.result e.ensures.1)) c.in_err-end-in-Gathering.ensures.gathers)
+    rw (← i.order) (gather_stops i.turn c.in-Gathering.is c.gather.ensures.sent
+    (told (err_from_is_err_and _ c.from_residual-in_err-end-in-Gathering.ensures.1)) c.in_err-end-in-Gathering.ensures.gathers)
 
 pub turns-preserved-then-not-repeats : goal.turns-preserved-then-not-repeats
 turns-preserved-then-not-repeats g c =
@@ -147,10 +142,8 @@ pass_pairs-requires-clause-group g c = pair_group c.turns.invariant.turn c.in-Pa
 pub returns-in_err-pass_pairs-in-Pairing : goal.returns-in_err-pass_pairs-in-Pairing
 returns-in_err-pass_pairs-in-Pairing g c =
     let i = c.turns.invariant in
-    let n = c.pass_pairs.new in
-    let e = c.from_residual-in_err-pass_pairs-in-Pairing in
-    rw (← i.order) (pair_stops i.turn c.in-Pairing.is (c.ending-ending.ensures ∙ c.requires.ending.0) c.pass_pairs.ensures.wrote n.merge.first n.merge.second n.reader n.store
-    c.in_err-pass_pairs-in-Pairing.field-0.0 (told (err_from_is_err_and e.result e.ensures.1)) c.in_err-pass_pairs-in-Pairing.ensures.passes)
+    rw (← i.order) (pair_stops i.turn c.in-Pairing.is (c.ending-ending.ensures ∙ c.requires.ending.0) c.pass_pairs.ensures.wrote
+    (told (err_from_is_err_and _ c.from_residual-in_err-pass_pairs-in-Pairing.ensures.1)) c.in_err-pass_pairs-in-Pairing.ensures.passes)
 
 pub clear_group-requires : goal.clear_group-requires
 clear_group-requires g c =
