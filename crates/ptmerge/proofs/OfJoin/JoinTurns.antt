@@ -29,7 +29,7 @@ use Rattle.ptmerge.proofs.OfMerges.Passing.{Late, Merging, late_none}
 use Rattle.ptmerge.proofs.OfMerges.Slotted.{has_lines_total}
 use Rattle.ptmerge.proofs.OfMerges.Splitting.{all_keys}
 use Rattle.ptmerge.proofs.OfMerges.Standing.{Passed}
-use Rattle.ptmerge.proofs.OfMerges.Stopping.{Concludes, Gone, gone_passed, gone_standing, stops}
+use Rattle.ptmerge.proofs.OfMerges.Stopping.{Concludes, gone_passed, gone_standing, stops}
 use Rattle.ptmerge.proofs.OfMerges.Turning.{BothStand, ahead, all_ended, alone, breaks, merging_on, next_at, pass_one, passed_at, sides_on, stops_at}
 
 -- no group is open

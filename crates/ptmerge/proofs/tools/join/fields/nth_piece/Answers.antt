@@ -13,6 +13,5 @@ returns-in_default-None c =
 
 pub loop-passed-preserved : goal.loop-passed-preserved
 loop-passed-preserved c =
-    let all = fields_left (Some c.args.separator) (Some c.args.line.now) in
     let split = MatchOption-at_some _ _ _ c.in_default-Some.is-1 c.first_piece.ensures.first in
-    dropped_more all (fields_left (Some c.args.separator) (Some c.in_default-Some.behind.now)) _ c.loop-passed._passed (c.loop-passed.invariant ∙ split)
+    dropped_more _ _ _ c.loop-passed._passed (c.loop-passed.invariant ∙ split)
