@@ -1,5 +1,5 @@
 -- The slots of a group of lines.
-use Rattle.std.proofs.Common.{◌≡◌, ◌⊎◌, inl, inr, ℕ, ◌+◌, ◌-◌, ◌≤◌, ◌<◌, Bool, true, false, length-drop, List, [], ◌∷◌, ◌++◌, length, map, take, drop, get_or}
+use Rattle.std.proofs.Common.{◌≡◌, ◌⊎◌, ⊎_elim, inl, inr, ℕ, ◌+◌, ◌-◌, ◌≤◌, ◌<◌, Bool, true, false, length-drop, List, [], ◌∷◌, ◌++◌, length, map, take, drop, get_or}
 use Rattle.std.proofs.Common.{set, max, refl, sym, ap, ◌∙◌, subst, arith}
 use Rattle.std.proofs.lemmas.List.{append-nil, length-set, length-take-le, drop_more, get_or-take, get_or-drop, drop-set-add, take_more, length_push, drop_all}
 use Rattle.std.specs.Prelude.{nat_lt}
@@ -60,7 +60,7 @@ pub clears_none : (s : Slots) → IsGroupCleared s s 4
 clears_none s = record { slots = refl; others = λ i _. refl; emptied = omega arith; less = omega arith; peak = omega arith; denied = refl }
 
 pub clears_more : (a s t : Slots) (slot : ℕ) → 4 ≤ slot → slot < length a.lines → IsGroupCleared a s slot → t ≡ with_line s slot [] → IsGroupCleared a t (slot + 1)
-clears_more a s t slot from within c is = subst (λ u. IsGroupCleared a u (slot + 1)) (sym is) (record {
+clears_more a s t slot from within c is = rw is (record {
   slots = length-set s.lines slot [] ∙ c.slots;
   others = others;
   emptied = omega (arith, here, c.emptied, grows);
@@ -102,16 +102,10 @@ added_total s = omega (arith, sum_by_push length s.lines [])
 
 -- how many slots there are where one was made
 pub grown_slots : (before made : Slots) (slot : ℕ) → IsGrown before made slot → (length before.lines ≤ length made.lines) × (length made.lines ≤ max (length before.lines) (slot + 1))
-grown_slots before made slot g = by g.grown (nat_lt slot (length before.lines)) refl
-  where
-    by : (made ≡ before) ⊎ (made ≡ with_added before) → (b : Bool) → nat_lt slot (length before.lines) ≡ b → (length before.lines ≤ length made.lines)
-        × (length made.lines ≤ max (length before.lines) (slot + 1))
-    by (inl e) b is = let same = ap (λ (s : Slots). length s.lines) e in (omega (arith, same), omega (arith, same))
-    by (inr e) true is = let same = ap (λ (s : Slots). length s.lines) (g.there (ltb-true slot (length before.lines) is)) in (omega (arith, same), omega (arith, same))
-    by (inr e) false is =
-        let more = ap (λ (s : Slots). length s.lines) e ∙ length_push before.lines [] in
-        let past = ltb-false slot (length before.lines) is in
-        (omega (arith, more), omega (arith, more, past))
+grown_slots before made slot g =
+    let kept : slot < length before.lines → length made.lines ≡ length before.lines = λ low. ap (λ (s : Slots). length s.lines) (g.there low) in
+    ⊎_elim (λ e. let same = ap (λ (s : Slots). length s.lines) e in (omega (arith, same), omega (arith, same)))
+    (λ e. let more = ap (λ (s : Slots). length s.lines) e ∙ length_push before.lines [] in (omega (arith, more), grind (arith, more, kept))) g.grown
 
 pub refused_copy : (before made : Slots) (to : ℕ) → IsGrown before made to → IsRefused before (with_denied (with_line made to [])) to
 refused_copy before made to g = record {
@@ -123,5 +117,5 @@ refused_copy before made to g = record {
 }
   where
     facts : (made ≡ before) ⊎ (made ≡ with_added before) → (length before.lines ≤ length made.lines) × (total made.lines ≡ total before.lines) × (made.peak ≡ before.peak)
-    facts (inl e) = (omega (arith, ap (λ (s : Slots). length s.lines) e), ap (λ (s : Slots). total s.lines) e, ap (λ (s : Slots). s.peak) e)
-    facts (inr e) = (omega (arith, ap (λ (s : Slots). length s.lines) e, length_push before.lines []), ap (λ (s : Slots). total s.lines) e ∙ added_total before, ap (λ (s : Slots). s.peak) e)
+    facts (inl e) = rw e (omega arith, refl, refl)
+    facts (inr e) = rw e (omega (arith, length_push before.lines []), added_total before, refl)

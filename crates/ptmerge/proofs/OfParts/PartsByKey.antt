@@ -61,21 +61,16 @@ module _ (p : List ℕ → Bool) where
 
     insert_left_out : (k : List ℕ) (xs : Lines) → p k ≡ false → filter p (insert_key cmp k xs) ≡ filter p xs
     insert_left_out k [] h = rw h refl
-    insert_left_out k (x ∷ xs) h = by (cmp k x) (insert_left_out k xs h)
-      where
-        by : (r : Ordering) → filter p (insert_key cmp k xs) ≡ filter p xs → filter p (match_ordering r (k ∷ x ∷ xs) (x ∷ xs) (x ∷ insert_key cmp k xs)) ≡ filter p (x ∷ xs)
-        by Less ih = rw h refl
-        by Equal ih = refl
-        by Greater ih = ap (λ l. cond (p x) (x ∷ l) l) ih
+    insert_left_out k (x ∷ xs) h = elim (cmp k x) as (λ r. filter p (match_ordering r (k ∷ x ∷ xs) (x ∷ xs) (x ∷ insert_key cmp k xs)) ≡ filter p (x ∷ xs))
+        [ Less ↦ rw h refl | Equal ↦ refl | Greater ↦ ap (λ l. cond (p x) (x ∷ l) l) (insert_left_out k xs h) ]
 
     -- the distinct keys of a part are those of the whole that go to it
     distinct_kept : (ks : Lines) → filter p (distinct cmp ks) ≡ distinct cmp (filter p ks)
     distinct_kept [] = refl
-    distinct_kept (k ∷ ks) = by (p k) refl (distinct_kept ks)
-      where
-        by : (b : Bool) → p k ≡ b → filter p (distinct cmp ks) ≡ distinct cmp (filter p ks) → filter p (insert_key cmp k (distinct cmp ks)) ≡ distinct cmp (cond b (k ∷ filter p ks) (filter p ks))
-        by true h ih = insert_kept k (distinct cmp ks) (ascends_distinct cmp o ks) h ∙ ap (insert_key cmp k) ih
-        by false h ih = insert_left_out k (distinct cmp ks) h ∙ ih
+    distinct_kept (k ∷ ks) = elim (p k) as (λ b. p k ≡ b → filter p (insert_key cmp k (distinct cmp ks)) ≡ distinct cmp (cond b (k ∷ filter p ks) (filter p ks))) [
+      | true ↦ λ h. insert_kept k (distinct cmp ks) (ascends_distinct cmp o ks) h ∙ ap (insert_key cmp k) (distinct_kept ks)
+      | false ↦ λ h. insert_left_out k (distinct cmp ks) h ∙ distinct_kept ks
+    ] refl
 
   -- the lines whose keys go to it
   abbrev kept : Key → Lines → Lines

@@ -18,11 +18,9 @@ no_fall_first : (cmp : Cmp) (f g : Option Fall) → disorder_of cmp f g ≡ None
 no_fall_first cmp None None e = (refl, refl)
 no_fall_first cmp None (Some d) e = cc
 no_fall_first cmp (Some d) None e = cc
-no_fall_first cmp (Some d) (Some g) e = by (is_lt (cmp g.last_key d.last_key)) e
-  where
-    by : (b : Bool) → cond {A = Option Disorder} b (Some (record { file = Second; fall = g })) (Some (record { file = First; fall = d })) ≡ None → (Some d ≡ None) × (Some g ≡ None)
-    by true e = cc
-    by false e = cc
+no_fall_first cmp (Some d) (Some g) e = elim (is_lt (cmp g.last_key d.last_key)) as (λ b.
+    cond {A = Option Disorder} b (Some (record { file = Second; fall = g })) (Some (record { file = First; fall = d })) ≡ None → (Some d ≡ None) × (Some g ≡ None))
+    [ true ↦ λ e. cc | false ↦ λ e. cc ] e
 
 -- behind which key it falls
 abbrev pub behind : Option Fall → Option (List ℕ)
@@ -123,16 +121,14 @@ module _ (cmp : Cmp) (o : IsKeyOrder cmp) (key : Key) where
   kept_after p last from n m [] up e = refl
   kept_after p last from n m (x ∷ xs) up e =
       let r = rises (falls cmp last (key x)) (fall_at last n) (fall_after cmp key (Some (key x)) (n + 1) xs) e in
-      by (p x) (up (key x) r.0) (kept_after p (Some (key x)) (Some (key x)) (n + 1) (m + 1) xs (λ k h. h) r.1) (kept_after p (Some (key x)) from (n + 1) m xs (later from (up (key x) r.0)) r.1)
+      elim (p x) as (λ b. fall_after cmp key from m (cond b (x ∷ filter p xs) (filter p xs)) ≡ None) [
+        | true ↦ rw (up (key x) r.0) (kept_after p (Some (key x)) (Some (key x)) (n + 1) (m + 1) xs (λ k h. h) r.1)
+        | false ↦ kept_after p (Some (key x)) from (n + 1) m xs (later from (up (key x) r.0)) r.1
+      ]
     where
       later : (from : Option (List ℕ)) → falls cmp from (key x) ≡ false → (k : List ℕ) → falls cmp (Some (key x)) k ≡ false → falls cmp from k ≡ false
       later None h k g = refl
       later (Some l) h k g = at_most_trans cmp o l (key x) k h g
-
-      by : (b : Bool) → falls cmp from (key x) ≡ false → fall_after cmp key (Some (key x)) (m + 1) (filter p xs) ≡ None
-          → fall_after cmp key from m (filter p xs) ≡ None → fall_after cmp key from m (cond b (x ∷ filter p xs) (filter p xs)) ≡ None
-      by true h kept left_out = rw h kept
-      by false h kept left_out = left_out
 
   -- some lines of a list in order are in order
   pub in_order_kept : (p : List ℕ → Bool) (xs : Lines) → fall cmp key xs ≡ None → fall cmp key (filter p xs) ≡ None

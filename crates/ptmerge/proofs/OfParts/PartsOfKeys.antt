@@ -59,13 +59,8 @@ module _ (cmp : Cmp) (o : IsKeyOrder cmp) where
 
   insert_low : (k : List ℕ) (xs ys : Lines) → Each (Above cmp k) ys → insert_key cmp k (xs ++ ys) ≡ insert_key cmp k xs ++ ys
   insert_low k [] ys a = insert_least cmp o k ys a
-  insert_low k (x ∷ xs) ys a = by (cmp k x) (insert_low k xs ys a)
-    where
-      by : (r : Ordering) → insert_key cmp k (xs ++ ys) ≡ insert_key cmp k xs ++ ys
-          → match_ordering r (k ∷ x ∷ (xs ++ ys)) (x ∷ (xs ++ ys)) (x ∷ insert_key cmp k (xs ++ ys)) ≡ match_ordering r (k ∷ x ∷ xs) (x ∷ xs) (x ∷ insert_key cmp k xs) ++ ys
-      by Less ih = refl
-      by Equal ih = refl
-      by Greater ih = ap (λ l. x ∷ l) ih
+  insert_low k (x ∷ xs) ys a = elim (cmp k x) as (λ r. match_ordering r (k ∷ x ∷ (xs ++ ys)) (x ∷ (xs ++ ys)) (x ∷ insert_key cmp k (xs ++ ys))
+      ≡ match_ordering r (k ∷ x ∷ xs) (x ∷ xs) (x ∷ insert_key cmp k xs) ++ ys) [ Less ↦ refl | Equal ↦ refl | Greater ↦ ap (λ l. x ∷ l) (insert_low k xs ys a) ]
 
   insert_high : (k : List ℕ) (xs ys : Lines) → Each (λ x. cmp k x ≡ Greater) xs → insert_key cmp k (xs ++ ys) ≡ xs ++ insert_key cmp k ys
   insert_high k [] ys e = refl
@@ -125,11 +120,8 @@ with_key_of_second key k xs ys e = filter-append (λ line. bytes_eq (key line) k
 
 same_entries : (f g : List ℕ → Lines) (w : List ℕ → Bool) (ks : Lines) → Each (λ k. f k ≡ g k) ks → flat_map f (filter w ks) ≡ flat_map g (filter w ks)
 same_entries f g w [] e = refl
-same_entries f g w (k ∷ ks) e = by (w k) (same_entries f g w ks e.1)
-  where
-    by : (b : Bool) → flat_map f (filter w ks) ≡ flat_map g (filter w ks) → flat_map f (cond b (k ∷ filter w ks) (filter w ks)) ≡ flat_map g (cond b (k ∷ filter w ks) (filter w ks))
-    by true ih = λ i. e.0 i ++ ih i
-    by false ih = ih
+same_entries f g w (k ∷ ks) e = elim (w k) as (λ b. flat_map f (cond b (k ∷ filter w ks) (filter w ks)) ≡ flat_map g (cond b (k ∷ filter w ks) (filter w ks)))
+    [ true ↦ λ i. e.0 i ++ same_entries f g w ks e.1 i | false ↦ same_entries f g w ks e.1 ]
 
 module _ (tool : Tool) (o : IsKeyOrder tool.cmp) (a b : Side → Lines) (below : EachBelow tool.cmp (keys tool a) (keys tool b)) where
   abbrev both_parts : Side → Lines
