@@ -22,36 +22,26 @@ abbrev pub LeftOf : Option (List ℕ) → Option (List ℕ) → Type 0
 LeftOf line left = IfSome left (λ b. MatchOption line ⊥ (λ l. EndOf l b))
 
 -- a piece of the end of a line is a piece of the line
-pub piece_in : (line bytes field : List ℕ) (behind : Option (List ℕ)) → EndOf line bytes → IsPiece bytes field behind → IsPiece line field behind
-piece_in line bytes field behind e p = record { front = e.0 ++ p.front; tail = p.tail; is = e.1 ∙ ap (λ (l : List ℕ). e.0 ++ l) p.is ∙ sym (append_assoc e.0 p.front (field ++ p.tail)); ends = p.ends }
+piece_in : {line bytes field : List ℕ} {behind : Option (List ℕ)} → EndOf line bytes → IsPiece bytes field behind → IsPiece line field behind
+piece_in e p = record { front = e.0 ++ p.front; tail = p.tail; is = rw (e.1, p.is) (simp append_assoc); ends = p.ends }
 
-pub field_in : (line : Option (List ℕ)) (bytes field : List ℕ) (behind : Option (List ℕ)) → LeftOf line (Some bytes) → IsPiece bytes field behind → IsFieldIn line field behind
-field_in None bytes field behind e p = absurd e
-field_in (Some l) bytes field behind e p = piece_in l bytes field behind e p
+pub field_in : (line : Option (List ℕ)) {bytes field : List ℕ} {behind : Option (List ℕ)} → LeftOf line (Some bytes) → IsPiece bytes field behind → IsFieldIn line field behind
+field_in None e p = absurd e
+field_in (Some l) e p = piece_in e p
 
--- what is left behind a piece is the end of the line too
-pub end_behind : (line field left : List ℕ) → IsPiece line field (Some left) → EndOf line left
-end_behind line field left p = (
-  p.front ++ (field ++ (p.ends.0 ∷ [])),
-  p.is ∙ ap (λ (l : List ℕ). p.front ++ (field ++ l)) p.ends.1
-      ∙ ap (λ (l : List ℕ). p.front ++ l) (sym (append_assoc field (p.ends.0 ∷ []) left)) ∙ sym (append_assoc p.front (field ++ (p.ends.0 ∷ [])) left),
-)
-
-pub end_of_end : (line bytes left : List ℕ) → EndOf line bytes → EndOf bytes left → EndOf line left
-end_of_end line bytes left a b = (a.0 ++ b.0, a.1 ∙ ap (λ (l : List ℕ). a.0 ++ l) b.1 ∙ sym (append_assoc a.0 b.0 left))
-
-pub left_behind : (line : Option (List ℕ)) (bytes field : List ℕ) (behind : Option (List ℕ)) → LeftOf line (Some bytes) → IsPiece bytes field behind → LeftOf line behind
-left_behind line bytes field None e p = tt
-left_behind None bytes field (Some left) e p = absurd e
-left_behind (Some l) bytes field (Some left) e p = end_of_end l bytes left e (end_behind bytes field left p)
+-- what is left behind a piece of the end of a line is the end of the line too
+pub left_behind : (line : Option (List ℕ)) {bytes field : List ℕ} (behind : Option (List ℕ)) → LeftOf line (Some bytes) → IsPiece bytes field behind → LeftOf line behind
+left_behind line None e p = tt
+left_behind None (Some left) e p = absurd e
+left_behind (Some l) {field = field} (Some left) e p = (e.0 ++ (p.front ++ (field ++ (p.ends.0 ∷ []))), rw (e.1, p.is, p.ends.1) (simp append_assoc))
 
 pub left_next : (line left : Option (List ℕ)) (field : List ℕ) (behind : Option (List ℕ)) → LeftOf line left → IsFieldIn left field behind → LeftOf line behind
 left_next line None field behind e p = absurd p
-left_next line (Some bytes) field behind e p = left_behind line bytes field behind e p
+left_next line (Some bytes) field behind e p = left_behind line behind e p
 
 pub in_whole : (line : List ℕ) (left : Option (List ℕ)) (field : List ℕ) (behind : Option (List ℕ)) → LeftOf (Some line) left → IsFieldIn left field behind → IsPiece line field behind
 in_whole line None field behind e p = absurd p
-in_whole line (Some bytes) field behind e p = piece_in line bytes field behind e p
+in_whole line (Some bytes) field behind e p = piece_in e p
 
 -- ---- the first piece
 

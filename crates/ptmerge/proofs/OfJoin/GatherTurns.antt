@@ -1,5 +1,5 @@
 -- What each turn of `join` does in which a line of a group is gathered, and each way out of it.
-use Rattle.std.proofs.Common.{◌≡◌, inl, inr, ℕ, ◌+◌, ◌≤◌, false, true, List, [], ◌∷◌, ◌++◌, Err, length}
+use Rattle.std.proofs.Common.{◌≡◌, ⊎_elim, inl, inr, ℕ, ◌+◌, ◌≤◌, false, true, List, [], ◌∷◌, ◌++◌, Err, length}
 use Rattle.std.proofs.Common.{refl, sym, ◌∙◌, subst, arith, append_assoc}
 use Rattle.std.proofs.lemmas.Bool.{false≢true}
 use Rattle.std.proofs.lemmas.List.{append-nil, length_push, nil_from_length}
@@ -166,21 +166,14 @@ module _ {call : Call} {now : State} {place : Side → Sorted} {end : ℕ} (r : 
   module _ {reader : Reader} {next : Sorted} {after : Slots} where
     pub gathers_on : {to : ℕ} → Gathered (call.key Second) call.cmp (place Second) next (now.reader Second) reader now.store after end to → next.same ≡ true
         → Gathering call (moved now Second reader now.out after) (put Second next place) to
-    gathers_on {to} e is = by e.kept
-      where
-        by : KeepsLast next e.made after end to → Gathering call (moved now Second reader now.out after) (put Second next place) to
-        by (inl h) = absurd (false≢true (sym h.0 ∙ is))
-        by (inr h) = rw h.0 (gathers_more e.came h.1 is)
+    gathers_on e is = ⊎_elim (λ h. absurd (false≢true (sym h.0 ∙ is))) (λ h. rw h.0 (gathers_more e.came h.1 is)) e.kept
 
     pub pairs_next : {to : ℕ} → Gathered (call.key Second) call.cmp (place Second) next (now.reader Second) reader now.store after end to → next.same ≡ false
         → Pairing call (moved now Second reader now.out after) (put Second next place) to
-    pairs_next {to} e is = by e.kept
-      where
-        by : KeepsLast next e.made after end to → Pairing call (moved now Second reader now.out after) (put Second next place) to
-        by (inl h) =
-            let none = nil_from_length r.g (omega (arith, h.1, r.q.at)) in
-            rw (h.2, h.3) (pairs_by e.came (on e.came).group is refl refl (inr (none, rw (last_stays at_line e.came, none) refl)))
-        by (inr h) = rw h.0 (pairs_by e.came (group_on e.came h.1) is (stays1 e.came h.1) (stays2 e.came h.1) (inl refl))
+    pairs_next e is = ⊎_elim (λ h.
+        let none = nil_from_length r.g (omega (arith, h.1, r.q.at)) in
+        rw (h.2, h.3) (pairs_by e.came (on e.came).group is refl refl (inr (none, rw (last_stays at_line e.came, none) refl))))
+        (λ h. rw h.0 (pairs_by e.came (group_on e.came h.1) is (stays1 e.came h.1) (stays2 e.came h.1) (inl refl))) e.kept
 
     -- a line could not be kept, or the next one not read
     pub not_gathered : now.out.faulted ≡ false → (fault : MergeFault) → NotGathered (call.key Second) call.cmp (place Second) next (now.reader Second) reader now.store after end fault

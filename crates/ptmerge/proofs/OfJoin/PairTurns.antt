@@ -1,5 +1,5 @@
 -- What each turn of `join` does in which a line is paired with its group, and each way out of it.
-use Rattle.std.proofs.Common.{◌≡◌, ◌⊎◌, inl, inr, ℕ, ◌+◌, ◌-◌, ◌==◌, ◌≤◌, ◌<◌, true, false, List, [], ◌∷◌, ◌++◌, Err, length}
+use Rattle.std.proofs.Common.{◌≡◌, ◌⊎◌, ⊎_elim, inl, inr, ℕ, ◌+◌, ◌-◌, ◌==◌, ◌≤◌, ◌<◌, true, false, List, [], ◌∷◌, ◌++◌, Err, length}
 use Rattle.std.proofs.Common.{refl, sym, ◌∙◌, ap, subst, arith}
 use Rattle.std.proofs.lemmas.Bool.Decides.{nat_tests}
 use Rattle.std.proofs.lemmas.List.{length_push}
@@ -68,28 +68,22 @@ module _ {call : Call} {now : State} {place : Side → Sorted} {end : ℕ} (r : 
 
   -- the group's lines have its key
   pub keyed_slot : (slot : ℕ) → first_slot (place Second) end ≤ slot → slot < end_slot (place Second) end → call.key Second (line now.store slot) ≡ r.k
-  keyed_slot slot from low = by r.lines_in
-    where
-      by : Held now.store (place Second) r.kept (r.g Second) → call.key Second (line now.store slot) ≡ r.k
-      by (inl same) =
-          let least : 4 ≤ slot = rw (is_kept same) at from in
-          let most : slot < end = rw (is_kept same) at low in
-          ap (call.key Second) (kept_line r.q.keeps slot least (omega (arith, most, r.q.at)))
-          ∙ EachKey-at (λ x. x ≡ r.k) (call.key Second) r.kept (slot - 4) (omega (arith, least, most, r.q.at)) (rw same (r.q.within.own Second))
-      by (inr h) =
-          let least : (place Second).previous ≤ slot = rw (is_alone h.0) at from in
-          let most : slot < (place Second).previous + 1 = rw (is_alone h.0) at low in
-          let is : slot ≡ (place Second).previous = omega (arith, least, most) in
-          rw is (subst (EachKey (λ x. x ≡ r.k) (call.key Second)) h.1 (r.q.within.own Second)).0
+  keyed_slot slot from low = ⊎_elim (λ same.
+      let least : 4 ≤ slot = rw (is_kept same) at from in
+      let most : slot < end = rw (is_kept same) at low in
+      ap (call.key Second) (kept_line r.q.keeps slot least (omega (arith, most, r.q.at)))
+      ∙ EachKey-at (λ x. x ≡ r.k) (call.key Second) r.kept (slot - 4) (omega (arith, least, most, r.q.at)) (rw same (r.q.within.own Second)))
+      (λ h.
+      let least : (place Second).previous ≤ slot = rw (is_alone h.0) at from in
+      let most : slot < (place Second).previous + 1 = rw (is_alone h.0) at low in
+      let is : slot ≡ (place Second).previous = omega (arith, least, most) in
+      rw is (subst (EachKey (λ x. x ≡ r.k) (call.key Second)) h.1 (r.q.within.own Second)).0) r.lines_in
 
   module _ (slots : (side : Side) → HasSlots side (place side)) where
     -- and stand in its slots
     pub group_stands : group now.store (first_slot (place Second) end) (end_slot (place Second) end) ≡ r.g Second
-    group_stands = by r.lines_in
-      where
-        by : Held now.store (place Second) r.kept (r.g Second) → group now.store (first_slot (place Second) end) (end_slot (place Second) end) ≡ r.g Second
-        by (inl same) = rw (is_kept same) (group_is r.q.keeps r.q.at ∙ same)
-        by (inr h) = rw (is_alone h.0) (group_one now.store (place Second).previous (omega (arith, r.q.keeps.four, (low_slot Second (place Second) (slots Second)).1)) ∙ sym h.1)
+    group_stands = ⊎_elim (λ same. rw (is_kept same) (group_is r.q.keeps r.q.at ∙ same))
+        (λ h. rw (is_alone h.0) (group_one now.store (place Second).previous (omega (arith, r.q.keeps.four, (low_slot Second (place Second) (slots Second)).1)) ∙ sym h.1)) r.lines_in
 
     module _ {new : Output} (wrote : Wrote now.out new (text call.end (call.pairs r.k (line now.store (place First).standing ∷ []) (r.g Second)))) (clean : now.out.faulted ≡ false) where
       at_line : AtLine r.q First
