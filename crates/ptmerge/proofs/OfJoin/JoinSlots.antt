@@ -50,11 +50,10 @@ module _ (m : Lines → ℕ) (laws : IsMeasure m) (key : Key) where
 
   with_key-behind : (k : List ℕ) (p r : Lines) → m (with_key key r k) ≤ m (with_key key (p ++ r) k)
   with_key-behind k [] r = omega arith
-  with_key-behind k (x ∷ p) r = by (bytes_eq (key x) k) (with_key-behind k p r)
-    where
-      by : (t : Bool) → m (with_key key r k) ≤ m (with_key key (p ++ r) k) → m (with_key key r k) ≤ m (cond t (x ∷ with_key key (p ++ r) k) (with_key key (p ++ r) k))
-      by true h = omega (arith, h, laws.grows x (with_key key (p ++ r) k))
-      by false h = h
+  with_key-behind k (x ∷ p) r =
+      let ih = with_key-behind k p r in
+      elim (bytes_eq (key x) k) as (λ t. m (with_key key r k) ≤ m (cond t (x ∷ with_key key (p ++ r) k) (with_key key (p ++ r) k)))
+      [ true ↦ omega (arith, ih, laws.grows x (with_key key (p ++ r) k)) | false ↦ ih ]
 
   greatest_has : (ls p : Lines) (y : List ℕ) (w : Lines) → m (with_key key ls (key y)) ≤ greatest_of m key ls (p ++ y ∷ w)
   greatest_has ls [] y w = omega arith
@@ -64,12 +63,9 @@ module _ (m : Lines → ℕ) (laws : IsMeasure m) (key : Key) where
   measure_in : (k : List ℕ) (p g : Lines) (y : List ℕ) (w : Lines) → EachKey (λ x. x ≡ k) key (g ++ y ∷ []) → key y ≡ k → m (g ++ y ∷ [])
       ≤ greatest_of m key (((p ++ g) ++ y ∷ []) ++ w) (((p ++ g) ++ y ∷ []) ++ w)
   measure_in k p g y w own is =
-      let ls = ((p ++ g) ++ y ∷ []) ++ w in
-      let split : ls ≡ p ++ ((g ++ y ∷ []) ++ w) = ap (λ (l : Lines). l ++ w) (append_assoc p g (y ∷ [])) ∙ append_assoc p (g ++ y ∷ []) w in
-      let at : ls ≡ (p ++ g) ++ y ∷ w = append_assoc (p ++ g) (y ∷ []) w in
-      let in_group : m (g ++ y ∷ []) ≤ m (with_key key ls k) = rw split (omega (arith, with_key-own k (g ++ y ∷ []) w own, with_key-behind k p ((g ++ y ∷ []) ++ w))) in
-      let greatest : m (with_key key ls (key y)) ≤ greatest_of m key ls ls = subst (λ (l : Lines). m (with_key key ls (key y)) ≤ greatest_of m key ls l) (sym at) (greatest_has ls (p ++ g) y w) in
-      omega (arith, in_group, greatest, ap (λ (z : List ℕ). m (with_key key ls z)) is)
+      let in_group : m (g ++ y ∷ []) ≤ m (with_key key ((p ++ g) ++ y ∷ w) (key y)) = rw (is, append_assoc p g (y ∷ w), ← append_assoc g (y ∷ []) w)
+          (omega (arith, with_key-own k (g ++ y ∷ []) w own, with_key-behind k p ((g ++ y ∷ []) ++ w))) in
+      rw (append_assoc (p ++ g) (y ∷ []) w) (omega (arith, in_group, greatest_has ((p ++ g) ++ y ∷ w) (p ++ g) y w))
 
 -- these lines are no more, in bytes and in number, than those of some key
 abbrev pub InGroup : Key → Lines → Lines → Type 0

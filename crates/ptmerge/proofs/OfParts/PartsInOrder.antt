@@ -136,8 +136,8 @@ module _ (cmp : Cmp) (o : IsKeyOrder cmp) (key : Key) where
 
 module _ (tool : Tool) (o : IsKeyOrder tool.cmp) where
   pub none_falls : (ls : Side → Lines) → disorder tool ls ≡ None → (side : Side) → fall tool.cmp (tool.key side) (ls side) ≡ None
-  none_falls ls e First = (no_fall_first tool.cmp (fall tool.cmp (tool.key First) (ls First)) (fall tool.cmp (tool.key Second) (ls Second)) e).0
-  none_falls ls e Second = (no_fall_first tool.cmp (fall tool.cmp (tool.key First) (ls First)) (fall tool.cmp (tool.key Second) (ls Second)) e).1
+  none_falls ls e First = (no_fall_first tool.cmp _ _ e).0
+  none_falls ls e Second = (no_fall_first tool.cmp _ _ e).1
 
   pub no_disorder : (ls : Side → Lines) → ((side : Side) → fall tool.cmp (tool.key side) (ls side) ≡ None) → disorder tool ls ≡ None
   no_disorder ls e = λ i. disorder_of tool.cmp (e First i) (e Second i)
@@ -165,9 +165,9 @@ module _ (tool : Tool) (o : IsKeyOrder tool.cmp) where
     -- the same keys are wanted
     same_wanted : (k : List ℕ) → up_to tool.cmp (disorder tool (λ side. a side ++ b side)) k ≡ up_to tool.cmp (disorder tool b) k
     same_wanted k =
-        by_limits tool.cmp (fall tool.cmp (tool.key First) (a First ++ b First)) (fall tool.cmp (tool.key Second) (a Second ++ b Second)) k
+        by_limits tool.cmp _ _ k
         ∙ (λ i. is_within tool.cmp ((both_go_on First).1 i) ((both_go_on Second).1 i) k)
-        ∙ sym (by_limits tool.cmp (fall tool.cmp (tool.key First) (b First)) (fall tool.cmp (tool.key Second) (b Second)) k)
+        ∙ sym (by_limits tool.cmp _ _ k)
 
     -- of the first lists all keys are wanted
     first_wanted : (side : Side) → EachKey (λ k. up_to tool.cmp (disorder tool b) k ≡ true) (tool.key side) (a side)
@@ -177,11 +177,10 @@ module _ (tool : Tool) (o : IsKeyOrder tool.cmp) where
       where
         wanted : (k : List ℕ) → IsBelow tool.cmp (keys tool b) k → up_to tool.cmp (disorder tool b) k ≡ true
         wanted k h =
-            let key1 = tool.key First in
-            let key2 = tool.key Second in
-            passed_is_wanted tool.cmp o (begins_at tool.cmp o key1 (b First)) (begins_at tool.cmp o key2 (b Second)) (fall tool.cmp key1 (b First)) (fall tool.cmp key2 (b Second)) k
-            (falls_behind tool.cmp o key1 (b First)) (falls_behind tool.cmp o key2 (b Second))
-            (under_first tool.cmp o key1 k (b First) (of_keys tool First (λ l. tool.cmp k l ≡ Less) b h)) (under_first tool.cmp o key2 k (b Second) (of_keys tool Second (λ l. tool.cmp k l ≡ Less) b h))
+            let falls = λ (side : Side). falls_behind tool.cmp o (tool.key side) (b side) in
+            let under = λ (side : Side). under_first tool.cmp o (tool.key side) k (b side) (of_keys tool side (λ l. tool.cmp k l ≡ Less) b h) in
+            passed_is_wanted _ o (begins_at tool.cmp o (tool.key First) (b First)) (begins_at tool.cmp o (tool.key Second) (b Second)) _ _ k
+            (falls First) (falls Second) (under First) (under Second)
 
     -- The entries of lists that are put together are those of the first ones, and then those of the others.
     pub entries_together : merged_entries tool (λ side. a side ++ b side) ≡ merged_entries tool a ++ merged_entries tool b

@@ -139,13 +139,15 @@ module _ (tool : Tool) (o : IsKeyOrder tool.cmp) (a b : Side → Lines) (below :
   of_first k e =
       let none = λ (side : Side). of_keys tool side (λ y. bytes_eq y k ≡ false) b
       (Each-weaker (λ l. tool.cmp k l ≡ Less) (λ y. bytes_eq y k ≡ false) (λ y less. above_not_same tool.cmp o k y (less_flips tool.cmp o k y less)) (keys tool b) e) in
-      λ i. tool.entries k (with_key_of_first (tool.key First) k (a First) (b First) (none First) i) (with_key_of_first (tool.key Second) k (a Second) (b Second) (none Second) i)
+      let part = λ (side : Side). with_key_of_first (tool.key side) k (a side) (b side) (none side) in
+      λ i. tool.entries k (part First i) (part Second i)
 
   of_second : (k : List ℕ) → Each (λ l. tool.cmp l k ≡ Less) (keys tool a) → entries_of tool both_parts k ≡ entries_of tool b k
   of_second k e =
       let none = λ (side : Side). of_keys tool side (λ y. bytes_eq y k ≡ false) a
       (Each-weaker (λ l. tool.cmp l k ≡ Less) (λ y. bytes_eq y k ≡ false) (λ y less. less_not_same tool.cmp o k y less) (keys tool a) e) in
-      λ i. tool.entries k (with_key_of_second (tool.key First) k (a First) (b First) (none First) i) (with_key_of_second (tool.key Second) k (a Second) (b Second) (none Second) i)
+      let part = λ (side : Side). with_key_of_second (tool.key side) k (a side) (b side) (none side) in
+      λ i. tool.entries k (part First i) (part Second i)
 
   -- The entries of lists that are put together are those of the lists with the lesser keys, and then those of the
   -- others.
