@@ -25,9 +25,9 @@ use Rattle.ptmerge.specs.Steps.{AreEqual}
 use Rattle.ptmerge.proofs.OfMerges.Bounds.{Bound, From}
 use Rattle.ptmerge.proofs.OfComm.CommTurns.{breaks_slots, comes_slots}
 use Rattle.ptmerge.proofs.OfJoin.GroupStops.{halts}
-use Rattle.ptmerge.proofs.OfJoin.GroupTurns.{AtLine, Call, GoneOn, Grouped, fits_kept, goes_on, goes_past, gone_on, group_breaks, grouped_keeps, is_past, last_stays, moved, next_slots, not_failed}
+use Rattle.ptmerge.proofs.OfJoin.GroupTurns.{head_of, AtLine, Call, GoneOn, Grouped, fits_kept, goes_on, goes_past, gone_on, group_breaks, grouped_keeps, is_past, last_stays, moved, next_slots, not_failed}
 use Rattle.ptmerge.proofs.OfJoin.GroupTurns.{others_stay, own_more, size_of, standing, starts_none, went, with_head, within_more}
-use Rattle.ptmerge.proofs.OfJoin.JoinSlots.{InGroup, Kept, group_in, keeping_kept, low_slot}
+use Rattle.ptmerge.proofs.OfJoin.JoinSlots.{AllSlots, InGroup, Kept, group_in, keeping_kept, low_slot}
 use Rattle.ptmerge.proofs.OfMerges.Orders.{self_at_most}
 use Rattle.ptmerge.proofs.OfMerges.Passing.{Merging}
 use Rattle.ptmerge.proofs.OfMerges.Sending.{wrote_and_sent}
@@ -41,15 +41,15 @@ pub record Gathering (call : Call) (now : State) (place : Side → Sorted) (end 
   pub g : Lines
   pub q : Grouped call now place end k (both [] g) g
   pub head1 : (place First).stand ≡ Head
-  pub key1 : call.key First (line now.store (place First).standing) ≡ k
+  pub key1 : call.key First (head_of now place First) ≡ k
   pub head2 : (place Second).stand ≡ Head
-  pub key2 : call.key Second (line now.store (place Second).standing) ≡ k
+  pub key2 : call.key Second (head_of now place Second) ≡ k
 
 -- both inputs have a key, and a group of it opens
-pub opens : {call : Call} {now : State} {place : Side → Sorted} → Between call now place → ((side : Side) → HasSlots side (place side)) → now.out.faulted ≡ false
+pub opens : {call : Call} {now : State} {place : Side → Sorted} → Between call now place → AllSlots place → now.out.faulted ≡ false
     → AreEqual call.cmp call.key place now.store → Gathering call now place 4
 opens {call} {now} {place} r slots clean step =
-    let k = call.key First (line now.store (place First).standing) in
+    let k = call.key First (head_of now place First) in
     let h1 = passed_at call.tool call.o _ _ _ _ _ _ _ r.sides slots r.keeps.four First step.first in
     let h2 = passed_at call.tool call.o _ _ _ _ _ _ _ r.sides slots r.keeps.four Second step.second in
     let bounds : (side : Side) → r.b side ≡ From k = elim [ First ↦ h1.bound | Second ↦ rw step.same h2.bound ] in
@@ -81,9 +81,9 @@ opens {call} {now} {place} r slots clean step =
       key2 = sym step.same;
     }
 
-module _ {call : Call} {now : State} {place : Side → Sorted} {end : ℕ} (r : Gathering call now place end) (slots : (side : Side) → HasSlots side (place side)) where
+module _ {call : Call} {now : State} {place : Side → Sorted} {end : ℕ} (r : Gathering call now place end) (slots : AllSlots place) where
   abbrev y : List ℕ
-  y = line now.store (place Second).standing
+  y = head_of now place Second
 
   -- nothing was pushed of the group
   wrote_none : Wrote r.q.mid now.out []

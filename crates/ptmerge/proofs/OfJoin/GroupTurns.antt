@@ -32,7 +32,7 @@ use Rattle.ptmerge.specs.Sides.{put, other}
 use Rattle.ptmerge.specs.Steps.{GoesBefore}
 use Rattle.ptmerge.proofs.OfMerges.Bounds.{Bound, From, Coming, Under}
 use Rattle.ptmerge.proofs.OfJoin.GroupStops.{EachComes, FailsIn, Fits, StartsWith, Within, halts, own_keys, under_down}
-use Rattle.ptmerge.proofs.OfJoin.JoinSlots.{Keeping, keeping_line, keeping_next, low_slot, put_more}
+use Rattle.ptmerge.proofs.OfJoin.JoinSlots.{AllSlots, Keeping, keeping_line, keeping_next, low_slot, put_more}
 use Rattle.ptmerge.proofs.OfMerges.Least.{EachKey, EachKey-append, EachKey-weaker, at_most-same, front_first, least_first, others_of, with_key-above, with_key-front}
 use Rattle.ptmerge.proofs.OfMerges.Orders.{IsKeyOrder, AtMost, least_or_above, self_at_most}
 use Rattle.ptmerge.proofs.OfMerges.Pairs.{put_each, put_other, put_same}
@@ -61,6 +61,10 @@ pub record Call : Type 0 where
   pub laws : IsPairing tool pairs
   pub old : State
   pub unfailed : (side : Side) → (old.reader side).failed ≡ false
+
+-- the line at which an input stands
+abbrev pub head_of : State → (Side → Sorted) → Side → List ℕ
+head_of now place s = line now.store (place s).standing
 
 -- an input went on, and this is the output and the store
 abbrev pub moved : State → Side → Reader → Output → Slots → State
@@ -114,7 +118,7 @@ module _ (call : Call) {store : Slots} {ls : Side → Lines} {g : Lines} (h : Ke
 
 -- both inputs stand as they did where the first four slots are the same
 pub stand_still : (tool : Tool) {old now : Side → Reader} {place : Side → Sorted} {before after : Slots} {ls p : Side → Lines} {b : Side → Bound} → BothStand tool old now place before ls p b
-    → ((side : Side) → HasSlots side (place side)) → ((i : ℕ) → i < 4 → line after i ≡ line before i) → BothStand tool old now place after ls p b
+    → AllSlots place → ((i : ℕ) → i < 4 → line after i ≡ line before i) → BothStand tool old now place after ls p b
 stand_still tool {old} {now} {place} {before} {after} {ls} {p} {b} sides slots same side =
     let low = low_slot side (place side) (slots side) in
     sided_keeps _ _ _ _ _ _ _ _ _ _ _
@@ -208,7 +212,7 @@ exchanged s old new e (inr h) = inl (e.0 ∙ h.1, e.1 ∙ h.0)
 
 -- a group with the line at which this input stands
 abbrev pub grown : State → (Side → Sorted) → Side → (Side → Lines) → Side → Lines
-grown now place s g = put s (g s ++ line now.store (place s).standing ∷ []) g
+grown now place s g = put s (g s ++ head_of now place s ∷ []) g
 
 -- three things of an input were changed
 put_three : (P : Side → Reader → List ℕ → Lines → Type 0) (s : Side) (x : Reader) (y : List ℕ) (z : Lines) (f : Side → Reader) (g : Side → List ℕ) (h : Side → Lines) → P s x y z
@@ -239,15 +243,15 @@ pub record Grouped (call : Call) (now : State) (place : Side → Sorted) (end : 
 
 module _ {call : Call} {now : State} {place : Side → Sorted} {end : ℕ} {k : List ℕ} {g : Side → Lines} {kept : Lines} (q : Grouped call now place end k g kept) where
   -- an input is past the lines of the key where it stands at no line with it
-  pub is_past : (s : Side) → ((place s).stand ≡ Head → ¬ (call.key s (line now.store (place s).standing) ≡ k)) → IsAbove call.cmp (call.key s) k (q.d s)
+  pub is_past : (s : Side) → ((place s).stand ≡ Head → ¬ (call.key s (head_of now place s) ≡ k)) → IsAbove call.cmp (call.key s) k (q.d s)
   is_past s other = (ahead call.cmp call.o (call.key s) k (place s).stand (place s) now.store (now.reader s) (q.ls s) (q.p s ++ g s) (q.d s)
       (by (place s).stand (q.sides s).stands other) (q.sides s).stands).0
     where
       by : (t : Stand) → Stands call.cmp (call.key s) t (place s) now.store (now.reader s) (q.ls s) (q.p s ++ g s) (q.d s)
-          → (t ≡ Head → ¬ (call.key s (line now.store (place s).standing) ≡ k))
-          → GoesBefore call.cmp k t (call.key s (line now.store (place s).standing)) (call.key s (line now.store (place s).previous))
+          → (t ≡ Head → ¬ (call.key s (head_of now place s) ≡ k))
+          → GoesBefore call.cmp k t (call.key s (head_of now place s)) (call.key s (line now.store (place s).previous))
       by Head st other = ap is_gt (⊎_elim (λ same. absurd (other refl same.1)) (λ h. h.1)
-          (least_or_above call.cmp call.o k (call.key s (line now.store (place s).standing)) (subst (λ b. Under call.cmp b k) st.2 (q.within.under s))))
+          (least_or_above call.cmp call.o k (call.key s (head_of now place s)) (subst (λ b. Under call.cmp b k) st.2 (q.within.under s))))
       by Ended st other = tt
       by (Disorder n) st other = subst (λ b. Under call.cmp b k) st (q.within.under s)
 
@@ -258,26 +262,26 @@ module _ {call : Call} {now : State} {place : Side → Sorted} {end : ℕ} {k : 
   standing side = gone_standing _ _ _ _ _ _ _ _ _ _ (q.sides side)
 
   -- the store holds other lines of the group
-  pub grouped_keeps : ((side : Side) → HasSlots side (place side)) → {after : Slots} → ((i : ℕ) → i < 4 → line after i ≡ line now.store i) → {lines : Lines}
+  pub grouped_keeps : AllSlots place → {after : Slots} → ((i : ℕ) → i < 4 → line after i ≡ line now.store i) → {lines : Lines}
       → Keeping (call.key Second) call.old.store after q.ls lines → {to : ℕ} → to ≡ 4 + length lines → Grouped call (record now { store = after }) place to k g lines
   grouped_keeps slots same keeps at = record
       { ls = q.ls; p = q.p; d = q.d; mid = q.mid; sides = stand_still call.tool q.sides slots same; within = q.within; keeps = keeps; wrote = q.wrote; at = at }
 
   -- an input stands at one more line of the group
   pub record AtLine (s : Side) : Type 0 where
-    pub slots : (side : Side) → HasSlots side (place side)
+    pub slots : AllSlots place
     pub head : (place s).stand ≡ Head
-    pub is : call.key s (line now.store (place s).standing) ≡ k
+    pub is : call.key s (head_of now place s) ≡ k
 
 module _ {call : Call} {now : State} {place : Side → Sorted} {end : ℕ} {k : List ℕ} {g : Side → Lines} {kept : Lines} {q : Grouped call now place end k g kept} {s : Side} (l : AtLine q s) where
   abbrev x : List ℕ
-  x = line now.store (place s).standing
+  x = head_of now place s
 
   at_head : Passed call.cmp (call.key s) (place s) now.store (q.ls s) (q.p s ++ g s) (q.d s)
   at_head = passed_at call.tool call.o _ _ _ _ _ _ _ q.sides l.slots q.keeps.four s l.head
 
   -- with the line at which it stands
-  pub with_head : q.ls s ≡ q.p s ++ (g s ++ line now.store (place s).standing ∷ [])
+  pub with_head : q.ls s ≡ q.p s ++ (g s ++ head_of now place s ∷ [])
   with_head = at_head.all ∙ append_assoc (q.p s) (g s) (x ∷ [])
 
   pub own_more : (side : Side) → EachKey (λ z. z ≡ k) (call.key side) (grown now place s g side)
@@ -326,10 +330,10 @@ module _ {call : Call} {now : State} {place : Side → Sorted} {end : ℕ} {k : 
 
   -- it goes to its next line
   module _ {reader : Reader} {next : Sorted} {after : Slots} (comes : Comes (call.key s) call.cmp (place s) next (now.reader s) reader now.store after) where
-    gone_to : Next call.end call.cmp (call.key s) (call.old.reader s) reader next (place s).previous now.store after (q.ls s) (Some (call.key s (line now.store (place s).standing)))
+    gone_to : Next call.end call.cmp (call.key s) (call.old.reader s) reader next (place s).previous now.store after (q.ls s) (Some (call.key s (head_of now place s)))
     gone_to = next_at call.tool call.o _ _ _ _ _ _ _ q.sides l.slots q.keeps.four s l.head reader next after comes
 
-    pub next_slots : (side : Side) → HasSlots side (put s next place side)
+    pub next_slots : AllSlots (put s next place)
     next_slots = put_each HasSlots s next place (exchanged s (place s) next (comes_places comes) (l.slots s)) l.slots
 
     -- the lines of the other input, and the one before, stay where they are
@@ -339,7 +343,7 @@ module _ {call : Call} {now : State} {place : Side → Sorted} {end : ℕ} {k : 
         let apart = slots_apart s (place s) (place (other s)) (l.slots s) (l.slots (other s)) in
         (rw n.stored (line_other now.store (place s).previous (place (other s)).standing n.bytes apart.0), rw n.stored (line_other now.store (place s).previous (place (other s)).previous n.bytes apart.1))
 
-    pub last_stays : line after next.previous ≡ line now.store (place s).standing
+    pub last_stays : line after next.previous ≡ head_of now place s
     last_stays =
         let n = gone_to in
         rw ((comes_places comes).1, n.stored) (line_other now.store (place s).previous (place s).standing n.bytes (λ e. (own_slots s (place s) (l.slots s)).0 (sym e)))

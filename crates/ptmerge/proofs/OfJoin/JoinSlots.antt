@@ -123,6 +123,10 @@ keeping_starts {key} {before} {store} {ls} k = record {
   denied = k.denied;
 }
 
+-- each input has its two slots
+abbrev pub AllSlots : (Side → Sorted) → Type 0
+AllSlots place = (side : Side) → HasSlots side (place side)
+
 -- the slots of an input are among the first four
 pub low_slot : (s : Side) (place : Sorted) → HasSlots s place → (place.standing < 4) × (place.previous < 4)
 low_slot First place h = let w = own_slots First place h in (omega (arith, w), omega (arith, w))

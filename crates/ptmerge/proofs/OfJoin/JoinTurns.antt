@@ -22,8 +22,8 @@ use Rattle.ptmerge.specs.Stores.{IsCleared}
 use Rattle.ptmerge.proofs.OfMerges.Bounds.{Bound}
 use Rattle.ptmerge.proofs.OfComm.CommTurns.{same_state, Running}
 use Rattle.ptmerge.proofs.OfMerges.Got.{reads_nothing}
-use Rattle.ptmerge.proofs.OfJoin.GroupTurns.{Call, GoneOf, NotPassed, fits_kept, moved, not_failed, peak_line}
-use Rattle.ptmerge.proofs.OfJoin.JoinSlots.{Keeping, keeping_next, keeping_starts}
+use Rattle.ptmerge.proofs.OfJoin.GroupTurns.{head_of, Call, GoneOf, NotPassed, fits_kept, moved, not_failed, peak_line}
+use Rattle.ptmerge.proofs.OfJoin.JoinSlots.{AllSlots, Keeping, keeping_next, keeping_starts}
 use Rattle.ptmerge.proofs.OfMerges.Pairs.{put_each, put_other, put_same}
 use Rattle.ptmerge.proofs.OfMerges.Passing.{Late, Merging, late_none}
 use Rattle.ptmerge.proofs.OfMerges.Slotted.{has_lines_total}
@@ -52,8 +52,8 @@ module _ {call : Call} {now : State} {place : Side → Sorted} (r : Between call
   stand side = gone_standing _ _ _ _ _ _ _ _ _ _ (r.sides side)
 
   -- a line that one input alone has
-  module _ (slots : (side : Side) → HasSlots side (place side)) {s : Side} (step : IsAlone call.cmp call.key place now.store s) {new : Output}
-      (wrote : Wrote now.out new (text call.end (by_keys call.tool all_keys (alone s (line now.store (place s).standing))))) where
+  module _ (slots : AllSlots place) {s : Side} (step : IsAlone call.cmp call.key place now.store s) {new : Output}
+      (wrote : Wrote now.out new (text call.end (by_keys call.tool all_keys (alone s (head_of now place s))))) where
     abbrev q : Side → Lines
     q = put s (r.ls s) r.p
 
@@ -62,7 +62,7 @@ module _ {call : Call} {now : State} {place : Side → Sorted} (r : Between call
 
     pushed_alone : Merging call.tool r.b (put s (r.ls s) r.p) call.old.out new × Late call.tool r.b (put s (r.ls s) r.p) call.old.out new
     pushed_alone =
-        let x = line now.store (place s).standing in
+        let x = head_of now place s in
         let a = ahead call.cmp call.o (call.key (other s)) (call.key s x) (place (other s)).stand (place (other s)) now.store (now.reader (other s))
         (r.ls (other s)) (r.p (other s)) (r.b (other s)) step.before (r.sides (other s)).stands in
         subst (λ (l : Lines). Merging call.tool r.b (put s l r.p) call.old.out new × Late call.tool r.b (put s l r.p) call.old.out new) (sym at_head.all)
@@ -95,7 +95,7 @@ module _ {call : Call} {now : State} {place : Side → Sorted} (r : Between call
     alone_stops {reader} {after} {fault} (inr e) =
         let same : put s (r.ls s) r.p s ≡ r.ls s = put_same s (r.ls s) r.p in
         breaks call.tool call.o call.old (record now { out = new }) r.ls q r.b pushed_alone.0 call.unfailed went e.0 s (place s) reader after fault
-        (λ new piece reads free sound. rw same (passing_one new piece reads free sound)) (sym same) (Some (call.key s (line now.store (place s).standing)))
+        (λ new piece reads free sound. rw same (passing_one new piece reads free sound)) (sym same) (Some (call.key s (head_of now place s)))
         (rw same at_head.begun) (rw (put_other s (r.ls s) r.p) (stand (other s))) r.keeps.denied (λ piece. peak_line call r.keeps s (place s) (slots s) piece) e.1
 
   -- the end

@@ -22,9 +22,9 @@ use Rattle.ptmerge.specs.Sides.{put}
 use Rattle.ptmerge.proofs.OfMerges.Got.{reads_nothing}
 use Rattle.ptmerge.proofs.OfJoin.GroupStops.{StartsWith, halts}
 use Rattle.ptmerge.proofs.OfJoin.GroupSlots.{group_one}
-use Rattle.ptmerge.proofs.OfJoin.GroupTurns.{AtLine, Call, GoneOn, Grouped, NotPassed, closes, fits_kept, goes_on, goes_past, gone_on, group_breaks, grown, is_past, moved, next_slots, not_failed}
+use Rattle.ptmerge.proofs.OfJoin.GroupTurns.{head_of, AtLine, Call, GoneOn, Grouped, NotPassed, closes, fits_kept, goes_on, goes_past, gone_on, group_breaks, grown, is_past, moved, next_slots, not_failed}
 use Rattle.ptmerge.proofs.OfJoin.GroupTurns.{others_stay, passing, stand_still, standing, starts, went, within_more}
-use Rattle.ptmerge.proofs.OfJoin.JoinSlots.{group_is, kept_line, keeping_cleared, low_slot}
+use Rattle.ptmerge.proofs.OfJoin.JoinSlots.{AllSlots, group_is, kept_line, keeping_cleared, low_slot}
 use Rattle.ptmerge.proofs.OfMerges.Least.{EachKey, EachKey-at}
 use Rattle.ptmerge.proofs.OfMerges.Turning.{IsAbove}
 use Rattle.ptmerge.proofs.OfComm.CommTurns.{same_state}
@@ -44,11 +44,11 @@ pub record Pairing (call : Call) (now : State) (place : Side → Sorted) (end : 
   pub some : 0 < length (g Second)
   pub above : IsAbove call.cmp (call.key Second) k (q.d Second)
   pub head1 : (place First).stand ≡ Head
-  pub key1 : call.key First (line now.store (place First).standing) ≡ k
+  pub key1 : call.key First (head_of now place First) ≡ k
 
 -- a group is closed
 pub closed : {call : Call} {now : State} {place : Side → Sorted} {end : ℕ} {k : List ℕ} {g : Side → Lines} {kept : Lines} (q : Grouped call now place end k g kept)
-    → ((side : Side) → HasSlots side (place side)) → ((side : Side) → 0 < length (g side)) → ((side : Side) → IsAbove call.cmp (call.key side) k (q.d side))
+    → AllSlots place → ((side : Side) → 0 < length (g side)) → ((side : Side) → IsAbove call.cmp (call.key side) k (q.d side))
     → {after : Slots} → IsGroupCleared now.store after end → Between call (record now { store = after }) place
 closed {call} {now} {place} {end} {k} {g} q slots some above clear = record {
   ls = q.ls;
@@ -79,18 +79,18 @@ module _ {call : Call} {now : State} {place : Side → Sorted} {end : ℕ} (r : 
       let is : slot ≡ (place Second).previous = omega (arith, least, most) in
       rw is (subst (EachKey (λ x. x ≡ r.k) (call.key Second)) h.1 (r.q.within.own Second)).0) r.lines_in
 
-  module _ (slots : (side : Side) → HasSlots side (place side)) where
+  module _ (slots : AllSlots place) where
     -- and stand in its slots
     pub group_stands : group now.store (first_slot (place Second) end) (end_slot (place Second) end) ≡ r.g Second
     group_stands = ⊎_elim (λ same. rw (is_kept same) (group_is r.q.keeps r.q.at ∙ same))
         (λ h. rw (is_alone h.0) (group_one now.store (place Second).previous (omega (arith, r.q.keeps.four, (low_slot Second (place Second) (slots Second)).1)) ∙ sym h.1)) r.lines_in
 
-    module _ {new : Output} (wrote : Wrote now.out new (text call.end (call.pairs r.k (line now.store (place First).standing ∷ []) (r.g Second)))) (clean : now.out.faulted ≡ false) where
+    module _ {new : Output} (wrote : Wrote now.out new (text call.end (call.pairs r.k (head_of now place First ∷ []) (r.g Second)))) (clean : now.out.faulted ≡ false) where
       at_line : AtLine r.q First
       at_line = record { slots = slots; head = r.head1; is = r.key1 }
 
       abbrev z : Lines
-      z = line now.store (place First).standing ∷ []
+      z = head_of now place First ∷ []
 
       wrote_more : Wrote r.q.mid new (text call.end (call.pairs r.k (r.g First ++ z) (r.g Second)))
       wrote_more = rw (call.laws.more r.k (r.g First) z (r.g Second), text-append call.end (call.pairs r.k (r.g First) (r.g Second)) (call.pairs r.k z (r.g Second)))
@@ -131,5 +131,5 @@ module _ {call : Call} {now : State} {place : Side → Sorted} {end : ℕ} (r : 
 
         pub group_closed : next.same ≡ false → {cleared : Slots} → IsGroupCleared after cleared end → Between call (moved now First reader new cleared) (put First next place)
         group_closed same clear = closed on.group (next_slots at_line comes)
-            (elim [ First ↦ omega (arith, length_push (r.g First) (line now.store (place First).standing)) | Second ↦ r.some ])
+            (elim [ First ↦ omega (arith, length_push (r.g First) (head_of now place First)) | Second ↦ r.some ])
             (elim [ First ↦ is_past on.group First (goes_past at_line comes same) | Second ↦ above_on ]) clear

@@ -27,7 +27,7 @@ use Rattle.ptmerge.proofs.OfComm.CommTurns.{comes_slots, passes_slots, readable_
 use Rattle.ptmerge.proofs.OfJoin.JoinEntries.{join_pairs, written_alone}
 use Rattle.ptmerge.proofs.OfJoin.GatherTurns.{Gathering, gather_slots}
 use Rattle.ptmerge.proofs.OfJoin.GatherTurns as gather_turns
-use Rattle.ptmerge.proofs.OfJoin.GroupTurns.{Call, NotPassed, moved}
+use Rattle.ptmerge.proofs.OfJoin.GroupTurns.{head_of, Call, NotPassed, moved}
 use Rattle.ptmerge.proofs.OfJoin.JoinSlots.{end_within}
 use Rattle.ptmerge.proofs.OfJoin.JoinTurns.{Between, starts_between}
 use Rattle.ptmerge.proofs.OfJoin.JoinTurns as join_turns
@@ -183,9 +183,9 @@ module _ {job : Join} {cmp : Cmp} {key : Side → Key} {old : State} {phase : Ph
     alone_less {s} {one2} {two2} {reader} {after} head h = less _ _ s one two one2 two2 _ _ _ _ head h.on.others h.came
 
     module _ {s : Side} (step : IsAlone cmp key (both one two) now.store s) {new : Output} {e : ℕ} (ends : e ≡ job.end)
-        (pushed : Wrote now.out new (text e (alone_entry job s (line now.store (both one two s).standing)))) where
-      wrote : Wrote now.out new (text job.end (by_keys (join_by job cmp key) all_keys (alone s (line now.store (both one two s).standing))))
-      wrote = let x = line now.store (both one two s).standing in wrote_as _ _ _ _ _ _ ends (written_alone job cmp key s x (t.opened.keys s x)) pushed
+        (pushed : Wrote now.out new (text e (alone_entry job s (head_of now (both one two) s)))) where
+      wrote : Wrote now.out new (text job.end (by_keys (join_by job cmp key) all_keys (alone s (head_of now (both one two) s))))
+      wrote = let x = head_of now (both one two) s in wrote_as _ _ _ _ _ _ ends (written_alone job cmp key s x (t.opened.keys s x)) pushed
 
       pub alone_on : {one2 two2 : Sorted} {reader : Reader} {after : Slots} → HasPassed key cmp s one two one2 two2 (now.reader s) reader now.store after new
           → IsTurn job cmp key old phase (moved now s reader new after) one2 two2 end
