@@ -127,68 +127,70 @@ stand_still tool {old} {now} {place} {before} {after} {ls} {p} {b} sides slots s
 -- ---- what is written of a group
 
 module _ (call : Call) {was mid : Output} {p g : Side → Lines} {d : Side → Bound} {k : List ℕ} (m : Within call.tool was mid p g d k) where
+  open call use {cmp, entries, key, laws, o, pairs, tool}
+
   -- a group in front of lines of no lesser keys
-  front : (w : List ℕ → Bool) (r : Side → Lines) → ((side : Side) → EachKey (AtMost call.cmp k) (call.key side) (r side))
-      → by_keys call.tool w (λ side. g side ++ r side) ≡ cond (w k) (call.entries k (g First ++ with_key (call.key First) (r First) k)
-      (g Second ++ with_key (call.key Second) (r Second) k)) [] ++ by_keys call.tool w (others_of call.tool call.o k r)
+  front : (w : List ℕ → Bool) (r : Side → Lines) → ((side : Side) → EachKey (AtMost cmp k) (key side) (r side))
+      → by_keys tool w (λ side. g side ++ r side) ≡ cond (w k) (entries k (g First ++ with_key (key First) (r First) k)
+      (g Second ++ with_key (key Second) (r Second) k)) [] ++ by_keys tool w (others_of tool o k r)
   front w r beyond =
-      let in_front = λ (side : Side). with_key-front call.tool call.o (call.key side) k (g side) (r side) (m.own side) in
-      least_first call.tool call.o w k (λ side. g side ++ r side) (λ side. at_most-same call.tool call.o (call.key side) k (g side) (r side) (m.own side) (beyond side)) (call.laws.alone.none k)
-      ∙ (λ i. cond (w k) (call.entries k ((in_front First).0 i) ((in_front Second).0 i)) [] ++ by_keys call.tool w (λ side. (in_front side).1 i))
+      let in_front = λ (side : Side). with_key-front tool o (key side) k (g side) (r side) (m.own side) in
+      least_first tool o w k (λ side. g side ++ r side) (λ side. at_most-same tool o (key side) k (g side) (r side) (m.own side) (beyond side)) (laws.alone.none k)
+      ∙ (λ i. cond (w k) (entries k ((in_front First).0 i) ((in_front Second).0 i)) [] ++ by_keys tool w (λ side. (in_front side).1 i))
 
   -- the pairs of a group come first, whichever lines of its key the first input still has
-  starts_pairs : (f c s : Lines) → 0 < length s → (rest : Lines) × (call.entries k (f ++ c) s ≡ call.pairs k f s ++ rest)
-  starts_pairs [] c s some = (call.entries k c s, rw (call.laws.none k s) refl)
+  starts_pairs : (f c s : Lines) → 0 < length s → (rest : Lines) × (entries k (f ++ c) s ≡ pairs k f s ++ rest)
+  starts_pairs [] c s some = (entries k c s, rw (laws.none k s) refl)
   starts_pairs (a ∷ f) c [] some = absurd (omega (arith, some))
-  starts_pairs (a ∷ f) c (b ∷ s) some = (call.pairs k c (b ∷ s), call.laws.whole k a b (f ++ c) s ∙ call.laws.more k (a ∷ f) c (b ∷ s))
+  starts_pairs (a ∷ f) c (b ∷ s) some = (pairs k c (b ∷ s), laws.whole k a b (f ++ c) s ∙ laws.more k (a ∷ f) c (b ∷ s))
 
-  pub starts_none : StartsWith call.tool g d k []
-  starts_none = record { rest = λ w r c wanted. (by_keys call.tool w (λ side. g side ++ r side), refl) }
+  pub starts_none : StartsWith tool g d k []
+  starts_none = record { rest = λ w r c wanted. (by_keys tool w (λ side. g side ++ r side), refl) }
 
-  pub starts : 0 < length (g Second) → IsAbove call.cmp (call.key Second) k (d Second) → StartsWith call.tool g d k (call.pairs k (g First) (g Second))
+  pub starts : 0 < length (g Second) → IsAbove cmp (key Second) k (d Second) → StartsWith tool g d k (pairs k (g First) (g Second))
   starts some above = record {
     rest = λ w r c wanted.
-        let none : with_key (call.key Second) (r Second) k ≡ [] = with_key-above call.tool call.o (call.key Second) k (r Second) (above (r Second) (c Second)) in
-        let s = starts_pairs (g First) (with_key (call.key First) (r First) k) (g Second) some in (
-          s.0 ++ by_keys call.tool w (others_of call.tool call.o k r),
-          front w r (λ side. m.beyond side (r side) (c side)) ∙ (rw (wanted, none, append-nil (g Second), s.1) (append_assoc (call.pairs k (g First) (g Second)) s.0 (by_keys call.tool w (others_of call.tool call.o k r)))),
+        let none : with_key (key Second) (r Second) k ≡ [] = with_key-above tool o (key Second) k (r Second) (above (r Second) (c Second)) in
+        let s = starts_pairs (g First) (with_key (key First) (r First) k) (g Second) some in (
+          s.0 ++ by_keys tool w (others_of tool o k r),
+          front w r (λ side. m.beyond side (r side) (c side)) ∙ (rw (wanted, none, append-nil (g Second), s.1) (append_assoc (pairs k (g First) (g Second)) s.0 (by_keys tool w (others_of tool o k r)))),
         );
   }
 
-  own_entries : (f s : Lines) → 0 < length f → 0 < length s → call.entries k f s ≡ call.pairs k f s
-  own_entries (a ∷ f) (b ∷ s) some1 some2 = call.laws.whole k a b f s
+  own_entries : (f s : Lines) → 0 < length f → 0 < length s → entries k f s ≡ pairs k f s
+  own_entries (a ∷ f) (b ∷ s) some1 some2 = laws.whole k a b f s
   own_entries f s some1 some2 = absurd (omega (arith, some1, some2))
 
   -- a group behind which only greater keys come
-  pub closes : {is : Output} → ((side : Side) → 0 < length (g side)) → ((side : Side) → IsAbove call.cmp (call.key side) k (d side))
-      → Wrote mid is (text call.end (call.pairs k (g First) (g Second))) → Merging call.tool d (λ side. p side ++ g side) was is
+  pub closes : {is : Output} → ((side : Side) → 0 < length (g side)) → ((side : Side) → IsAbove cmp (key side) k (d side))
+      → Wrote mid is (text call.end (pairs k (g First) (g Second))) → Merging tool d (λ side. p side ++ g side) was is
   closes {is} some above wrote =
       record {
-        splits = splits_step call.tool (λ side. From k) d p g m.merging.splits (λ side r c. at_most-same call.tool call.o (call.key side) k (g side) r (m.own side) (m.beyond side r c)) splits_off;
-        under = λ of side. EachKey-append (Under call.cmp (d of)) (call.key side) (p side) (g side)
-            (EachKey-weaker (λ x. AtMost call.cmp x k) (Under call.cmp (d of)) (λ x h. under_down call.o (d of) x k h (m.under of)) (call.key side) (p side) (m.merging.under First side))
-            (own_keys (Under call.cmp (d of)) (call.key side) k (g side) (m.under of) (m.own side));
-        wrote = rw (all, text-append call.end (by_keys call.tool all_keys p) (call.pairs k (g First) (g Second))) (wrote_trans _ _ _ _ _ m.clean m.merging.wrote wrote);
+        splits = splits_step tool (λ side. From k) d p g m.merging.splits (λ side r c. at_most-same tool o (key side) k (g side) r (m.own side) (m.beyond side r c)) splits_off;
+        under = λ of side. EachKey-append (Under cmp (d of)) (key side) (p side) (g side)
+            (EachKey-weaker (λ x. AtMost cmp x k) (Under cmp (d of)) (λ x h. under_down o (d of) x k h (m.under of)) (key side) (p side) (m.merging.under First side))
+            (own_keys (Under cmp (d of)) (key side) k (g side) (m.under of) (m.own side));
+        wrote = rw (all, text-append call.end (by_keys tool all_keys p) (pairs k (g First) (g Second))) (wrote_trans _ _ _ _ _ m.clean m.merging.wrote wrote);
       }
     where
       -- no more lines of the key come
-      none : (r : Side → Lines) → EachComes call.tool d r → (side : Side) → with_key (call.key side) (r side) k ≡ []
-      none r c side = with_key-above call.tool call.o (call.key side) k (r side) (above side (r side) (c side))
+      none : (r : Side → Lines) → EachComes tool d r → (side : Side) → with_key (key side) (r side) k ≡ []
+      none r c side = with_key-above tool o (key side) k (r side) (above side (r side) (c side))
 
       -- what is written of the group alone
-      alone_is : by_keys call.tool all_keys g ≡ call.entries k (g First) (g Second)
-      alone_is = (λ i. by_keys call.tool all_keys (λ side. sym (append-nil (g side)) i)) ∙ front all_keys (λ side. []) (λ side. tt) ∙ (rw (append-nil (g First), append-nil (g Second), append-nil) refl)
+      alone_is : by_keys tool all_keys g ≡ entries k (g First) (g Second)
+      alone_is = (λ i. by_keys tool all_keys (λ side. sym (append-nil (g side)) i)) ∙ front all_keys (λ side. []) (λ side. tt) ∙ (rw (append-nil (g First), append-nil (g Second), append-nil) refl)
 
-      splits_off : (w : List ℕ → Bool) (r : Side → Lines) → EachComes call.tool d r → by_keys call.tool w (λ side. g side ++ r side) ≡ by_keys call.tool w g ++ by_keys call.tool w r
+      splits_off : (w : List ℕ → Bool) (r : Side → Lines) → EachComes tool d r → by_keys tool w (λ side. g side ++ r side) ≡ by_keys tool w g ++ by_keys tool w r
       splits_off w r c =
-          let nothing : entries_of call.tool r k ≡ [] = (λ i. call.entries k (none r c First i) (none r c Second i)) ∙ call.laws.alone.none k in
-          front_first call.tool call.o w k g r m.own (λ side. m.beyond side (r side) (c side)) (call.laws.alone.none k)
+          let nothing : entries_of tool r k ≡ [] = (λ i. entries k (none r c First i) (none r c Second i)) ∙ laws.alone.none k in
+          front_first tool o w k g r m.own (λ side. m.beyond side (r side) (c side)) (laws.alone.none k)
           (rw (none r c First, none r c Second, append-nil (g First), append-nil (g Second), nothing, append-nil) refl)
 
-      all : by_keys call.tool all_keys (λ side. p side ++ g side) ≡ by_keys call.tool all_keys p ++ call.pairs k (g First) (g Second)
+      all : by_keys tool all_keys (λ side. p side ++ g side) ≡ by_keys tool all_keys p ++ pairs k (g First) (g Second)
       all =
-          m.merging.splits.split all_keys g (λ side. own_keys (AtMost call.cmp k) (call.key side) k (g side) (self_at_most call.cmp call.o k) (m.own side))
-          ∙ ap (λ l. by_keys call.tool all_keys p ++ l) (alone_is ∙ own_entries (g First) (g Second) (some First) (some Second))
+          m.merging.splits.split all_keys g (λ side. own_keys (AtMost cmp k) (key side) k (g side) (self_at_most cmp o k) (m.own side))
+          ∙ ap (λ l. by_keys tool all_keys p ++ l) (alone_is ∙ own_entries (g First) (g Second) (some First) (some Second))
 
 -- ---- where a group stands
 
@@ -242,20 +244,22 @@ pub record Grouped (call : Call) (now : State) (place : Side → Sorted) (end : 
   pub at : end ≡ 4 + length kept
 
 module _ {call : Call} {now : State} {place : Side → Sorted} {end : ℕ} {k : List ℕ} {g : Side → Lines} {kept : Lines} (q : Grouped call now place end k g kept) where
+  open call use {cmp, key, o, old, tool}
+
   -- an input is past the lines of the key where it stands at no line with it
-  pub is_past : (s : Side) → ((place s).stand ≡ Head → ¬ (call.key s (head_of now place s) ≡ k)) → IsAbove call.cmp (call.key s) k (q.d s)
-  is_past s other = (ahead call.cmp call.o (call.key s) k (place s).stand (place s) now.store (now.reader s) (q.ls s) (q.p s ++ g s) (q.d s)
+  pub is_past : (s : Side) → ((place s).stand ≡ Head → ¬ (key s (head_of now place s) ≡ k)) → IsAbove cmp (key s) k (q.d s)
+  is_past s other = (ahead cmp o (key s) k (place s).stand (place s) now.store (now.reader s) (q.ls s) (q.p s ++ g s) (q.d s)
       (by (place s).stand (q.sides s).stands other) (q.sides s).stands).0
     where
-      by : (t : Stand) → Stands call.cmp (call.key s) t (place s) now.store (now.reader s) (q.ls s) (q.p s ++ g s) (q.d s)
-          → (t ≡ Head → ¬ (call.key s (head_of now place s) ≡ k))
-          → GoesBefore call.cmp k t (call.key s (head_of now place s)) (call.key s (line now.store (place s).previous))
+      by : (t : Stand) → Stands cmp (key s) t (place s) now.store (now.reader s) (q.ls s) (q.p s ++ g s) (q.d s)
+          → (t ≡ Head → ¬ (key s (head_of now place s) ≡ k))
+          → GoesBefore cmp k t (key s (head_of now place s)) (key s (line now.store (place s).previous))
       by Head st other = ap is_gt (⊎_elim (λ same. absurd (other refl same.1)) (λ h. h.1)
-          (least_or_above call.cmp call.o k (call.key s (head_of now place s)) (subst (λ b. Under call.cmp b k) st.2 (q.within.under s))))
+          (least_or_above cmp o k (key s (head_of now place s)) (subst (λ b. Under cmp b k) st.2 (q.within.under s))))
       by Ended st other = tt
-      by (Disorder n) st other = subst (λ b. Under call.cmp b k) st (q.within.under s)
+      by (Disorder n) st other = subst (λ b. Under cmp b k) st (q.within.under s)
 
-  pub went : (side : Side) → (now.reader side).failed ≡ (call.old.reader side).failed
+  pub went : (side : Side) → (now.reader side).failed ≡ (old.reader side).failed
   went side = (q.sides side).got.goes.failed
 
   pub standing : (side : Side) → GoneOf call now side (now.reader side) [] (q.ls side) (q.p side ++ g side) (q.d side)
@@ -263,75 +267,77 @@ module _ {call : Call} {now : State} {place : Side → Sorted} {end : ℕ} {k : 
 
   -- the store holds other lines of the group
   pub grouped_keeps : AllSlots place → {after : Slots} → ((i : ℕ) → i < 4 → line after i ≡ line now.store i) → {lines : Lines}
-      → Keeping (call.key Second) call.old.store after q.ls lines → {to : ℕ} → to ≡ 4 + length lines → Grouped call (record now { store = after }) place to k g lines
+      → Keeping (key Second) old.store after q.ls lines → {to : ℕ} → to ≡ 4 + length lines → Grouped call (record now { store = after }) place to k g lines
   grouped_keeps slots same keeps at = record
-      { ls = q.ls; p = q.p; d = q.d; mid = q.mid; sides = stand_still call.tool q.sides slots same; within = q.within; keeps = keeps; wrote = q.wrote; at = at }
+      { ls = q.ls; p = q.p; d = q.d; mid = q.mid; sides = stand_still tool q.sides slots same; within = q.within; keeps = keeps; wrote = q.wrote; at = at }
 
   -- an input stands at one more line of the group
   pub record AtLine (s : Side) : Type 0 where
     pub slots : AllSlots place
     pub head : (place s).stand ≡ Head
-    pub is : call.key s (head_of now place s) ≡ k
+    pub is : key s (head_of now place s) ≡ k
 
 module _ {call : Call} {now : State} {place : Side → Sorted} {end : ℕ} {k : List ℕ} {g : Side → Lines} {kept : Lines} {q : Grouped call now place end k g kept} {s : Side} (l : AtLine q s) where
+  open call use {cmp, key, o, old, pairs, tool}
+
   abbrev x : List ℕ
   x = head_of now place s
 
-  at_head : Passed call.cmp (call.key s) (place s) now.store (q.ls s) (q.p s ++ g s) (q.d s)
-  at_head = passed_at call.tool call.o _ _ _ _ _ _ _ q.sides l.slots q.keeps.four s l.head
+  at_head : Passed cmp (key s) (place s) now.store (q.ls s) (q.p s ++ g s) (q.d s)
+  at_head = passed_at tool o _ _ _ _ _ _ _ q.sides l.slots q.keeps.four s l.head
 
   -- with the line at which it stands
   pub with_head : q.ls s ≡ q.p s ++ (g s ++ head_of now place s ∷ [])
   with_head = at_head.all ∙ append_assoc (q.p s) (g s) (x ∷ [])
 
-  pub own_more : (side : Side) → EachKey (λ z. z ≡ k) (call.key side) (grown now place s g side)
-  own_more = put_each (λ side (l : Lines). EachKey (λ z. z ≡ k) (call.key side) l) s (g s ++ x ∷ []) g
-      (EachKey-append (λ z. z ≡ k) (call.key s) (g s) (x ∷ []) (q.within.own s) (l.is, tt)) q.within.own
+  pub own_more : (side : Side) → EachKey (λ z. z ≡ k) (key side) (grown now place s g side)
+  own_more = put_each (λ side (l : Lines). EachKey (λ z. z ≡ k) (key side) l) s (g s ++ x ∷ []) g
+      (EachKey-append (λ z. z ≡ k) (key s) (g s) (x ∷ []) (q.within.own s) (l.is, tt)) q.within.own
 
-  pub within_more : Within call.tool call.old.out q.mid q.p (grown now place s g) q.d k
+  pub within_more : Within tool old.out q.mid q.p (grown now place s g) q.d k
   within_more = record { merging = q.within.merging; clean = q.within.clean; own = own_more; beyond = q.within.beyond; under = q.within.under }
 
-  fails_in : (new : Reader) → new.held ≡ [] → new.ended ≡ false → FailsIn call.cmp (call.key s) k new (q.ls s)
+  fails_in : (new : Reader) → new.held ≡ [] → new.ended ≡ false → FailsIn cmp (key s) k new (q.ls s)
   fails_in new held ended = record {
     held = held;
     ended = ended;
-    rises = ap (fall call.cmp (call.key s)) (sym (append-nil (q.ls s))) ∙ at_head.begun.falling [];
-    last = ap (λ (l : Lines). last_or None (map (call.key s) l)) at_head.all ∙ last_push (call.key s) (q.p s ++ g s) x None ∙ ap (λ (l : List ℕ). Some l) l.is;
+    rises = ap (fall cmp (key s)) (sym (append-nil (q.ls s))) ∙ at_head.begun.falling [];
+    last = ap (λ (l : Lines). last_or None (map (key s) l)) at_head.all ∙ last_push (key s) (q.p s ++ g s) x None ∙ ap (λ (l : List ℕ). Some l) l.is;
   }
 
   pub passing : (new : Reader) (piece : List ℕ) → Reads (now.reader s) new piece → IsLine (now.reader s).ending piece → IsSound new
       → (side : Side) → GoneOf call now side (put s new now.reader side) (put s piece (λ t. []) side) (q.ls side) (q.p side ++ grown now place s g side) (q.d side)
   passing new piece reads free sound = put_three (λ side r t m. GoneOf call now side r t (q.ls side) (q.p side ++ m) (q.d side)) s new piece (g s ++ x ∷ []) now.reader (λ t. []) g
       (subst (λ (l : Lines). GoneOf call now s new piece (q.ls s) l (q.d s)) with_head
-      (rw at_head.bound (gone_passed _ _ call.o _ _ _ _ _ _ _ (q.sides s).got reads free sound at_head.begun))) (standing q)
+      (rw at_head.bound (gone_passed _ _ o _ _ _ _ _ _ _ (q.sides s).got reads free sound at_head.begun))) (standing q)
 
   -- the next line could not be read, where what was pushed is a beginning of the group's entries
-  module _ {out : Output} (clean : out.faulted ≡ false) {extra : Lines} (begins : StartsWith call.tool (grown now place s g) q.d k extra)
+  module _ {out : Output} (clean : out.faulted ≡ false) {extra : Lines} (begins : StartsWith tool (grown now place s g) q.d k extra)
       (wrote : Wrote q.mid out (text call.end extra)) (new : Reader) where
-    pub group_breaks : {after : Slots} (fault : MergeFault) → CannotRead s (place s) (now.reader s) new now.store after fault → IsMerge call.tool call.old (moved now s new out after) (Err fault)
+    pub group_breaks : {after : Slots} (fault : MergeFault) → CannotRead s (place s) (now.reader s) new now.store after fault → IsMerge tool old (moved now s new out after) (Err fault)
     group_breaks {after} (Read file) moves =
         let e = moves.0 in
-        rw moves.1 (halts call.o _ _ within_more begins wrote (passing new e.piece e.faults.reads e.faults.whole moves.2) (record {
+        rw moves.1 (halts o _ _ within_more begins wrote (passing new e.piece e.faults.reads e.faults.whole moves.2) (record {
           cause = rw (put_same s new now.reader) (⊎_elim (λ h. inl h) (λ h. inr (h.0, h.1 ∙ went q s)) e.cause);
           others = rw (put_other s new now.reader) (went q (other s));
           clean = clean;
           denied = rw e.stored q.keeps.denied;
-        }) (put_each (λ side (r : Reader). r.failed ≡ true → FailsIn call.cmp (call.key side) k r (q.ls side)) s new now.reader
+        }) (put_each (λ side (r : Reader). r.failed ≡ true → FailsIn cmp (key side) k r (q.ls side)) s new now.reader
         (λ fail. ⊎_elim (λ h. fails_in new h.1 h.2) (λ h. not_failed call s (h.1 ∙ went q s) fail) e.cause) (λ side. not_failed call side (went q side)))
         (λ input pushed. tt) (rw e.stored (peak_line call q.keeps s (place s) (l.slots s) e.piece)))
     group_breaks Write moves = absurd moves
     group_breaks {after} Memory moves =
         let e = moves.0 in
-        let failed = put_each (λ side (r : Reader). r.failed ≡ (call.old.reader side).failed) s new now.reader (e.failed ∙ went q s) (went q) in
-        halts call.o _ _ within_more begins wrote (passing new e.piece e.faults.reads e.faults.whole moves.1)
+        let failed = put_each (λ side (r : Reader). r.failed ≡ (old.reader side).failed) s new now.reader (e.failed ∙ went q s) (went q) in
+        halts o _ _ within_more begins wrote (passing new e.piece e.faults.reads e.faults.whole moves.1)
         (record { denied = ap (λ (t : Slots). t.denied) e.stored; failed = failed; clean = clean }) (λ side. not_failed call side (failed side))
         (λ input pushed. tt) (rw e.stored (peak_line call q.keeps s (place s) (l.slots s) e.piece))
     group_breaks (faults.Disorder file number) moves = absurd moves
 
   -- it goes to its next line
-  module _ {reader : Reader} {next : Sorted} {after : Slots} (comes : Comes (call.key s) call.cmp (place s) next (now.reader s) reader now.store after) where
-    gone_to : Next call.end call.cmp (call.key s) (call.old.reader s) reader next (place s).previous now.store after (q.ls s) (Some (call.key s (head_of now place s)))
-    gone_to = next_at call.tool call.o _ _ _ _ _ _ _ q.sides l.slots q.keeps.four s l.head reader next after comes
+  module _ {reader : Reader} {next : Sorted} {after : Slots} (comes : Comes (key s) cmp (place s) next (now.reader s) reader now.store after) where
+    gone_to : Next call.end cmp (key s) (old.reader s) reader next (place s).previous now.store after (q.ls s) (Some (key s (head_of now place s)))
+    gone_to = next_at tool o _ _ _ _ _ _ _ q.sides l.slots q.keeps.four s l.head reader next after comes
 
     pub next_slots : AllSlots (put s next place)
     next_slots = put_each HasSlots s next place (exchanged s (place s) next (comes_places comes) (l.slots s)) l.slots
@@ -348,18 +354,18 @@ module _ {call : Call} {now : State} {place : Side → Sorted} {end : ℕ} {k : 
         let n = gone_to in
         rw ((comes_places comes).1, n.stored) (line_other now.store (place s).previous (place s).standing n.bytes (λ e. (own_slots s (place s) (l.slots s)).0 (sym e)))
 
-    says : next.same ≡ (is_head next.stand && bytes_eq k (call.key s (line after next.standing)))
+    says : next.same ≡ (is_head next.stand && bytes_eq k (key s (line after next.standing)))
     says =
-        comes_repeats call.cmp call.o (call.key s) (place s) next (now.reader s) reader now.store after at_head.some
+        comes_repeats cmp o (key s) (place s) next (now.reader s) reader now.store after at_head.some
         (omega (arith, q.keeps.four, (low_slot s (place s) (l.slots s)).1)) comes
-        ∙ ap (λ (z : List ℕ). is_head next.stand && bytes_eq z (call.key s (line after next.standing))) l.is
+        ∙ ap (λ (z : List ℕ). is_head next.stand && bytes_eq z (key s (line after next.standing))) l.is
 
     -- whether that line has the group's key, too
-    pub goes_on : next.same ≡ true → (next.stand ≡ Head) × (call.key s (line after next.standing) ≡ k)
-    goes_on same = has_key next.stand k (call.key s (line after next.standing)) (sym says ∙ same)
+    pub goes_on : next.same ≡ true → (next.stand ≡ Head) × (key s (line after next.standing) ≡ k)
+    goes_on same = has_key next.stand k (key s (line after next.standing)) (sym says ∙ same)
 
-    pub goes_past : next.same ≡ false → next.stand ≡ Head → ¬ (call.key s (line after next.standing) ≡ k)
-    goes_past same = lacks_key next.stand k (call.key s (line after next.standing)) (sym says ∙ same)
+    pub goes_past : next.same ≡ false → next.stand ≡ Head → ¬ (key s (line after next.standing) ≡ k)
+    goes_past same = lacks_key next.stand k (key s (line after next.standing)) (sym says ∙ same)
 
     -- the line before is of the group
     pub record GoneOn (new : Output) : Type 0 where
@@ -367,7 +373,7 @@ module _ {call : Call} {now : State} {place : Side → Sorted} {end : ℕ} {k : 
       pub bound : group.d (other s) ≡ q.d (other s)
       pub more : (l : Lines) × (group.ls Second ≡ q.ls Second ++ l)
 
-    pub gone_on : {new : Output} → Wrote q.mid new (text call.end (call.pairs k (grown now place s g First) (grown now place s g Second))) → GoneOn new
+    pub gone_on : {new : Output} → Wrote q.mid new (text call.end (pairs k (grown now place s g First) (grown now place s g Second))) → GoneOn new
     gone_on wrote =
         let n = gone_to in
         record {
@@ -376,16 +382,16 @@ module _ {call : Call} {now : State} {place : Side → Sorted} {end : ℕ} {k : 
             p = q.p;
             d = put s n.bound q.d;
             mid = q.mid;
-            sides = subst (λ (f : Side → Lines). BothStand call.tool call.old.reader (put s reader now.reader) (put s next place) after (put s n.now_ls q.ls) f (put s n.bound q.d))
+            sides = subst (λ (f : Side → Lines). BothStand tool old.reader (put s reader now.reader) (put s next place) after (put s n.now_ls q.ls) f (put s n.bound q.d))
                 (λ i side. put_behind s q.p g (q.ls s) (g s ++ x ∷ []) with_head side i)
-                (sides_on call.tool call.o _ _ _ _ _ _ _ q.sides l.slots q.keeps.four s l.head reader next after n);
+                (sides_on tool o _ _ _ _ _ _ _ q.sides l.slots q.keeps.four s l.head reader next after n);
             within = record {
               merging = q.within.merging;
               clean = q.within.clean;
               own = own_more;
-              beyond = put_each (λ side (b : Bound). (r : Lines) → Coming call.cmp (call.key side) b r → EachKey (AtMost call.cmp k) (call.key side) r) s n.bound q.d
-                  (λ r c. subst (λ (z : List ℕ). EachKey (AtMost call.cmp z) (call.key s) r) l.is (n.coming r c)) q.within.beyond;
-              under = put_each (λ side (b : Bound). Under call.cmp b k) s n.bound q.d (n.under k (rw l.is (self_at_most call.cmp call.o k))) q.within.under;
+              beyond = put_each (λ side (b : Bound). (r : Lines) → Coming cmp (key side) b r → EachKey (AtMost cmp k) (key side) r) s n.bound q.d
+                  (λ r c. subst (λ (z : List ℕ). EachKey (AtMost cmp z) (key s) r) l.is (n.coming r c)) q.within.beyond;
+              under = put_each (λ side (b : Bound). Under cmp b k) s n.bound q.d (n.under k (rw l.is (self_at_most cmp o k))) q.within.under;
             };
             keeps = keeping_next s (place s) (l.slots s) q.keeps n;
             wrote = wrote;

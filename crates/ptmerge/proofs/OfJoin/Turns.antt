@@ -121,8 +121,8 @@ pub record IsTurn (job : Join) (cmp : Cmp) (key : Side → Key) (old : State) (p
   pub clean : now.out.faulted ≡ false
 
 -- what a call leaves that ends so
-abbrev pub Leaves : Tool → State → State → Result (Unit {0}) MergeFault → Type 0
-Leaves tool old new result = record { merged : IsMerge tool old new result; refused : length new.store.lines < 4 → IsUnread old new; slots : AddsLeast old.store new.store 4 }
+abbrev pub Leaves : Join → Cmp → (Side → Key) → State → State → Result (Unit {0}) MergeFault → Type 0
+Leaves job cmp key old new result = record { merged : IsMerge (join_by job cmp key) old new result; refused : length new.store.lines < 4 → IsUnread old new; slots : AddsLeast old.store new.store 4 }
 
 -- ---- the start
 
@@ -140,7 +140,7 @@ module _ {job : Join} {cmp : Cmp} {key : Side → Key} {old : State} (a : IsOpen
 
   pub start_stops : {first second : Reader} {store : Slots} {fault : MergeFault}
       → CannotStart key cmp (record { reader = old.reader; store = old.store }) (record { reader = both first second; store = store }) fault
-      → {r : Result (Unit {0}) MergeFault} → r ≡ Err fault → Leaves (join_by job cmp key) old (seen first second old.out store) r
+      → {r : Result (Unit {0}) MergeFault} → r ≡ Err fault → Leaves job cmp key old (seen first second old.out store) r
   start_stops {first} {second} {store} {fault} cannot is_fault =
       let adds = start_slots (join_by job cmp key) a.o (λ ls. (omega arith, omega arith)) old a.readable a.ending a.unfailed a.sound a.writable a.allowed a.empty first second store fault cannot in
       rw is_fault (record {
@@ -155,7 +155,7 @@ module _ {job : Join} {cmp : Cmp} {key : Side → Key} {old : State} {phase : Ph
   slots = slots_of one two now.store t.placed
 
   leaves : {new : State} {fault : Result (Unit {0}) MergeFault} {r : Result (Unit {0}) MergeFault} → r ≡ fault → length now.store.lines ≤ length new.store.lines
-      → IsMerge (join_by job cmp key) old new fault → Leaves (join_by job cmp key) old new r
+      → IsMerge (join_by job cmp key) old new fault → Leaves job cmp key old new r
   leaves is more merged = record {
     merged = rw is merged;
     refused = λ few. absurd (omega (arith, few, more, t.placed.slots));
@@ -192,7 +192,7 @@ module _ {job : Join} {cmp : Cmp} {key : Side → Key} {old : State} {phase : Ph
       alone_on h = went_on s h.on (in_between is (join_turns.alone_on (t.phased.between is).0 t.clean slots step wrote h.came) (t.phased.between is).1)
 
       pub alone_stops : {reader : Reader} {after : Slots} {fault : MergeFault} {r : Result (Unit {0}) MergeFault} → r ≡ Err fault
-          → NotPassed now s (both one two s) reader after new fault → Leaves (join_by job cmp key) old (moved now s reader new after) r
+          → NotPassed now s (both one two s) reader after new fault → Leaves job cmp key old (moved now s reader new after) r
       alone_stops {fault = fault} is_fault h = leaves is_fault (omega (arith, passes_slots (key s) cmp s (both one two s) (both one two s) _ _ _ _ _ fault h))
           (join_turns.alone_stops (t.phased.between is).0 t.clean slots step wrote h)
 
@@ -205,11 +205,11 @@ module _ {job : Join} {cmp : Cmp} {key : Side → Key} {old : State} {phase : Ph
       clean = t.clean;
     }
 
-    pub ended : {after : Slots} → IsCleared now.store after → ((side : Side) → (both one two side).stand ≡ Ended) → Leaves (join_by job cmp key) old (record now { store = after }) (Ok tt)
+    pub ended : {after : Slots} → IsCleared now.store after → ((side : Side) → (both one two side).stand ≡ Ended) → Leaves job cmp key old (record now { store = after }) (Ok tt)
     ended clear step = leaves refl (omega (arith, clear.slots)) (join_turns.ended (t.phased.between is).0 t.clean clear t.opened.sound t.opened.readable step)
 
     pub fallen : {after : Slots} → IsCleared now.store after → {s : Side} {n : ℕ} → IsDecided cmp key (both one two) now.store s n
-        → Leaves (join_by job cmp key) old (record now { store = after }) (Err (faults.Disorder s n))
+        → Leaves job cmp key old (record now { store = after }) (Err (faults.Disorder s n))
     fallen clear step = leaves refl (omega (arith, clear.slots)) (join_turns.fallen (t.phased.between is).0 t.clean clear step)
 
   -- ---- while a group is gathered
@@ -228,7 +228,7 @@ module _ {job : Join} {cmp : Cmp} {key : Side → Key} {old : State} {phase : Ph
       gathering_sent = gather_turns.gathering_sent (t.phased.gathering is) slots t.clean sent
 
       pub gather_stops : {two2 : Sorted} {reader : Reader} {after : Slots} {fault : MergeFault} {r : Result (Unit {0}) MergeFault} → r ≡ Err fault
-          → Gathers (key Second) cmp two two2 (now.reader Second) reader now.store after out end (Err fault) → Leaves (join_by job cmp key) old (moved now Second reader out after) r
+          → Gathers (key Second) cmp two two2 (now.reader Second) reader now.store after out end (Err fault) → Leaves job cmp key old (moved now Second reader out after) r
       gather_stops {reader = reader} is_fault (inl e) = leaves is_fault (omega (arith, ap (λ (z : Slots). length z.lines) e.1.store))
           (same_state _ _ Second now _ reader _ _ e.0 e.1 (gather_turns.not_sent (t.phased.gathering is) slots t.clean sent e.1.faulted))
       gather_stops {fault = fault} is_fault (inr e) = leaves is_fault (gather_slots fault e.1) (gather_turns.not_gathered gathering_sent slots e.0 fault e.1)
@@ -267,7 +267,7 @@ module _ {job : Join} {cmp : Cmp} {key : Side → Key} {old : State} {phase : Ph
       wrote_pairs = wrote_as _ _ _ _ _ _ ends (λ j. pairs_of job (sym pairing.key1 j) (line now.store one.standing ∷ []) (sym (pair_turns.group_stands pairing slots) j)) pushed
 
       pub pair_stops : {reader : Reader} {after : Slots} {fault : MergeFault} {r : Result (Unit {0}) MergeFault} → r ≡ Err fault
-          → NotPassed now First one reader after new fault → Leaves (join_by job cmp key) old (moved now First reader new after) r
+          → NotPassed now First one reader after new fault → Leaves job cmp key old (moved now First reader new after) r
       pair_stops {fault = fault} is_fault h = leaves is_fault (omega (arith, passes_slots (key First) cmp First one one _ _ _ _ _ fault h)) (pair_turns.pair_stops pairing slots wrote_pairs t.clean h)
 
       module _ {one2 two2 : Sorted} {reader : Reader} {after : Slots} (h : HasPassed key cmp First one two one2 two2 (now.reader First) reader now.store after new) where
