@@ -82,22 +82,24 @@ opens {call} {now} {place} r slots clean step =
     }
 
 module _ {call : Call} {now : State} {place : Side → Sorted} {end : ℕ} (r : Gathering call now place end) (slots : AllSlots place) where
+  open call use {cmp, key, laws, o, old, pairs, tool}
+
   abbrev y : List ℕ
   y = head_of now place Second
 
   -- nothing was pushed of the group
   wrote_none : Wrote r.q.mid now.out []
-  wrote_none = rw (call.laws.none r.k r.g) at r.q.wrote
+  wrote_none = rw (laws.none r.k r.g) at r.q.wrote
 
   at_line : AtLine r.q Second
   at_line = record { slots = slots; head = r.head2; is = r.key2 }
 
-  in_group : (l : Lines) → InGroup (call.key Second) (r.g ++ y ∷ []) (r.q.ls Second ++ l)
-  in_group l = rw (with_head at_line, ← append_assoc (r.q.p Second) r.g (y ∷ [])) (group_in (call.key Second) r.k (r.q.p Second) r.g y l (own_more at_line Second) r.key2)
+  in_group : (l : Lines) → InGroup (key Second) (r.g ++ y ∷ []) (r.q.ls Second ++ l)
+  in_group l = rw (with_head at_line, ← append_assoc (r.q.p Second) r.g (y ∷ [])) (group_in (key Second) r.k (r.q.p Second) r.g y l (own_more at_line Second) r.key2)
 
   -- what was staged before the group was sent
   module _ {out : Output} (clean : now.out.faulted ≡ false) (sent : Wrote now.out out []) where
-    wrote_still : Wrote r.q.mid out (text call.end (call.pairs r.k [] r.g))
+    wrote_still : Wrote r.q.mid out (text call.end (pairs r.k [] r.g))
     wrote_still = wrote_and_sent _ _ _ _ clean r.q.wrote sent
 
     pub gathering_sent : Gathering call (record now { out = out }) place end
@@ -112,20 +114,20 @@ module _ {call : Call} {now : State} {place : Side → Sorted} {end : ℕ} (r : 
     }
 
     -- or it could not be sent
-    pub not_sent : out.faulted ≡ true → IsMerge call.tool call.old (record now { out = out }) (Err Write)
+    pub not_sent : out.faulted ≡ true → IsMerge tool old (record now { out = out }) (Err Write)
     not_sent fault =
-        halts call.o _ _ r.q.within (starts_none call r.q.within) (rw (call.laws.none r.k r.g) at wrote_still) (standing r.q)
+        halts o _ _ r.q.within (starts_none call r.q.within) (rw (laws.none r.k r.g) at wrote_still) (standing r.q)
         (record { faulted = fault; failed = went r.q; denied = r.q.keeps.denied }) (λ side. not_failed call side (went r.q side)) (λ input pushed. tt) (fits_kept call r.q.keeps now.store (omega arith) refl)
 
   -- the second input went on
-  module _ {reader : Reader} {next : Sorted} {made : Slots} (comes : Comes (call.key Second) call.cmp (place Second) next (now.reader Second) reader now.store made) where
+  module _ {reader : Reader} {next : Sorted} {made : Slots} (comes : Comes (key Second) cmp (place Second) next (now.reader Second) reader now.store made) where
     on : GoneOn at_line comes now.out
-    on = gone_on at_line comes (rw (call.laws.none r.k (r.g ++ y ∷ [])) wrote_none)
+    on = gone_on at_line comes (rw (laws.none r.k (r.g ++ y ∷ [])) wrote_none)
 
-    inside : (l : Lines) → InGroup (call.key Second) (r.g ++ y ∷ []) (on.group.ls Second ++ l)
+    inside : (l : Lines) → InGroup (key Second) (r.g ++ y ∷ []) (on.group.ls Second ++ l)
     inside l = rw (on.more.1, append_assoc (r.q.ls Second) on.more.0 l) (in_group (on.more.0 ++ l))
 
-    key1_on : call.key First (line made (place First).standing) ≡ r.k
+    key1_on : key First (line made (place First).standing) ≡ r.k
     key1_on = rw (others_stay at_line comes).0 r.key1
 
     -- the line before was kept, too
@@ -164,11 +166,11 @@ module _ {call : Call} {now : State} {place : Side → Sorted} {end : ℕ} (r : 
         }
 
   module _ {reader : Reader} {next : Sorted} {after : Slots} where
-    pub gathers_on : {to : ℕ} → Gathered (call.key Second) call.cmp (place Second) next (now.reader Second) reader now.store after end to → next.same ≡ true
+    pub gathers_on : {to : ℕ} → Gathered (key Second) cmp (place Second) next (now.reader Second) reader now.store after end to → next.same ≡ true
         → Gathering call (moved now Second reader now.out after) (put Second next place) to
     gathers_on e is = ⊎_elim (λ h. absurd (false≢true (sym h.0 ∙ is))) (λ h. rw h.0 (gathers_more e.came h.1 is)) e.kept
 
-    pub pairs_next : {to : ℕ} → Gathered (call.key Second) call.cmp (place Second) next (now.reader Second) reader now.store after end to → next.same ≡ false
+    pub pairs_next : {to : ℕ} → Gathered (key Second) cmp (place Second) next (now.reader Second) reader now.store after end to → next.same ≡ false
         → Pairing call (moved now Second reader now.out after) (put Second next place) to
     pairs_next e is = ⊎_elim (λ h.
         let none = nil_from_length r.g (omega (arith, h.1, r.q.at)) in
@@ -176,16 +178,16 @@ module _ {call : Call} {now : State} {place : Side → Sorted} {end : ℕ} (r : 
         (λ h. rw h.0 (pairs_by e.came (group_on e.came h.1) is (stays1 e.came h.1) (stays2 e.came h.1) (inl refl))) e.kept
 
     -- a line could not be kept, or the next one not read
-    pub not_gathered : now.out.faulted ≡ false → (fault : MergeFault) → NotGathered (call.key Second) call.cmp (place Second) next (now.reader Second) reader now.store after end fault
-        → IsMerge call.tool call.old (moved now Second reader now.out after) (Err fault)
+    pub not_gathered : now.out.faulted ≡ false → (fault : MergeFault) → NotGathered (key Second) cmp (place Second) next (now.reader Second) reader now.store after end fault
+        → IsMerge tool old (moved now Second reader now.out after) (Err fault)
     not_gathered clean fault (inl e) =
         let q = (on e.came).group in
-        rw e.memory (halts call.o _ _ q.within (starts_none call q.within) (rw (call.laws.none r.k (r.g ++ y ∷ [])) at q.wrote) (standing q)
+        rw e.memory (halts o _ _ q.within (starts_none call q.within) (rw (laws.none r.k (r.g ++ y ∷ [])) at q.wrote) (standing q)
         (record { denied = e.refused.denied; failed = went q; clean = clean }) (λ side. not_failed call side (went q side)) (λ input pushed. tt) (λ all w.
         let size = size_of call q.keeps all (λ side. omega (arith, (w side).1)) ((w Second).0.more, (w Second).0.is) in
-        let many : length (r.g ++ y ∷ []) ≤ most_lines (call.key Second) (all Second) = rw (w Second).0.is (inside e.came (w Second).0.more).1 in (
+        let many : length (r.g ++ y ∷ []) ≤ most_lines (key Second) (all Second) = rw (w Second).0.is (inside e.came (w Second).0.more).1 in (
           omega (arith, e.refused.peak, q.keeps.peak, size),
-          omega (arith, e.refused.most, q.at, q.keeps.slots, size, many, call.laws.slots all, length_push r.g y),
+          omega (arith, e.refused.most, q.at, q.keeps.slots, size, many, laws.slots all, length_push r.g y),
         )))
     not_gathered clean fault (inr e) = group_breaks at_line clean (starts_none call (within_more at_line)) wrote_none reader fault e
 

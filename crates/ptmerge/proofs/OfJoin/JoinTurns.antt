@@ -45,57 +45,59 @@ pub starts_between : {call : Call} {now : State} {place : Side → Sorted} → R
 starts_between r = record { ls = r.ls; p = r.p; b = r.b; sides = r.sides; merging = r.merging; keeps = keeping_starts r.keeps }
 
 module _ {call : Call} {now : State} {place : Side → Sorted} (r : Between call now place) (clean : now.out.faulted ≡ false) where
-  went : (side : Side) → (now.reader side).failed ≡ (call.old.reader side).failed
+  open call use {cmp, key, o, old, tool}
+
+  went : (side : Side) → (now.reader side).failed ≡ (old.reader side).failed
   went side = (r.sides side).got.goes.failed
 
   stand : (side : Side) → GoneOf call now side (now.reader side) [] (r.ls side) (r.p side) (r.b side)
   stand side = gone_standing _ _ _ _ _ _ _ _ _ _ (r.sides side)
 
   -- a line that one input alone has
-  module _ (slots : AllSlots place) {s : Side} (step : IsAlone call.cmp call.key place now.store s) {new : Output}
-      (wrote : Wrote now.out new (text call.end (by_keys call.tool all_keys (alone s (head_of now place s))))) where
+  module _ (slots : AllSlots place) {s : Side} (step : IsAlone cmp key place now.store s) {new : Output}
+      (wrote : Wrote now.out new (text call.end (by_keys tool all_keys (alone s (head_of now place s))))) where
     abbrev q : Side → Lines
     q = put s (r.ls s) r.p
 
-    at_head : Passed call.cmp (call.key s) (place s) now.store (r.ls s) (r.p s) (r.b s)
-    at_head = passed_at call.tool call.o _ _ _ _ _ _ _ r.sides slots r.keeps.four s step.stands
+    at_head : Passed cmp (key s) (place s) now.store (r.ls s) (r.p s) (r.b s)
+    at_head = passed_at tool o _ _ _ _ _ _ _ r.sides slots r.keeps.four s step.stands
 
-    pushed_alone : Merging call.tool r.b (put s (r.ls s) r.p) call.old.out new × Late call.tool r.b (put s (r.ls s) r.p) call.old.out new
+    pushed_alone : Merging tool r.b (put s (r.ls s) r.p) old.out new × Late tool r.b (put s (r.ls s) r.p) old.out new
     pushed_alone =
         let x = head_of now place s in
-        let a = ahead call.cmp call.o (call.key (other s)) (call.key s x) (place (other s)).stand (place (other s)) now.store (now.reader (other s))
+        let a = ahead cmp o (key (other s)) (key s x) (place (other s)).stand (place (other s)) now.store (now.reader (other s))
         (r.ls (other s)) (r.p (other s)) (r.b (other s)) step.before (r.sides (other s)).stands in
-        subst (λ (l : Lines). Merging call.tool r.b (put s l r.p) call.old.out new × Late call.tool r.b (put s l r.p) call.old.out new) (sym at_head.all)
-        (pass_one call.tool call.o call.laws.alone s x r.b r.p _ _ _ clean r.merging at_head.bound a.0 a.1 wrote)
+        subst (λ (l : Lines). Merging tool r.b (put s l r.p) old.out new × Late tool r.b (put s l r.p) old.out new) (sym at_head.all)
+        (pass_one tool o call.laws.alone s x r.b r.p _ _ _ clean r.merging at_head.bound a.0 a.1 wrote)
 
-    pub alone_on : {reader : Reader} {next : Sorted} {after : Slots} → Comes (call.key s) call.cmp (place s) next (now.reader s) reader now.store after
+    pub alone_on : {reader : Reader} {next : Sorted} {after : Slots} → Comes (key s) cmp (place s) next (now.reader s) reader now.store after
         → Between call (moved now s reader new after) (put s next place)
     alone_on {reader} {next} {after} comes =
-        let n = next_at call.tool call.o _ _ _ _ _ _ _ r.sides slots r.keeps.four s step.stands reader next after comes in
+        let n = next_at tool o _ _ _ _ _ _ _ r.sides slots r.keeps.four s step.stands reader next after comes in
         record {
           ls = put s n.now_ls r.ls;
           p = q;
           b = put s n.bound r.b;
-          sides = sides_on call.tool call.o _ _ _ _ _ _ _ r.sides slots r.keeps.four s step.stands reader next after n;
-          merging = merging_on call.tool call.o _ _ _ _ _ _ _ r.sides slots r.keeps.four s step.stands reader next after n q _ _ pushed_alone.0;
+          sides = sides_on tool o _ _ _ _ _ _ _ r.sides slots r.keeps.four s step.stands reader next after n;
+          merging = merging_on tool o _ _ _ _ _ _ _ r.sides slots r.keeps.four s step.stands reader next after n q _ _ pushed_alone.0;
           keeps = keeping_next s (place s) (slots s) r.keeps n;
         }
 
     passing_one : (reader : Reader) (piece : List ℕ) → Reads (now.reader s) reader piece → IsLine (now.reader s).ending piece → IsSound reader
         → GoneOf call now s reader piece (r.ls s) (r.ls s) (r.b s)
-    passing_one reader piece reads free sound = rw at_head.bound (gone_passed _ _ call.o _ _ _ _ _ _ _ (r.sides s).got reads free sound at_head.begun)
+    passing_one reader piece reads free sound = rw at_head.bound (gone_passed _ _ o _ _ _ _ _ _ _ (r.sides s).got reads free sound at_head.begun)
 
-    pub alone_stops : {reader : Reader} {after : Slots} {fault : MergeFault} → NotPassed now s (place s) reader after new fault → IsMerge call.tool call.old (moved now s reader new after) (Err fault)
+    pub alone_stops : {reader : Reader} {after : Slots} {fault : MergeFault} → NotPassed now s (place s) reader after new fault → IsMerge tool old (moved now s reader new after) (Err fault)
     alone_stops {reader} (inl e) = same_state _ _ s now _ reader _ _ e.0 e.1
-        (stops call.tool call.o _ _ _ _ _ _ _
+        (stops tool o _ _ _ _ _ _ _
         (put_each (λ side (l : Lines). GoneOf call now side (now.reader side) [] (r.ls side) l (r.b side)) s (r.ls s) r.p
         (passing_one (now.reader s) [] (reads_nothing (now.reader s)) tt (r.sides s).sound) stand)
         pushed_alone.0 pushed_alone.1 (Err Write) (record { faulted = e.1.faulted; failed = went; denied = r.keeps.denied }) (λ side. not_failed call side (went side)) tt
         (fits_kept call r.keeps now.store (omega arith) refl))
     alone_stops {reader} {after} {fault} (inr e) =
         let same : put s (r.ls s) r.p s ≡ r.ls s = put_same s (r.ls s) r.p in
-        breaks call.tool call.o call.old (record now { out = new }) r.ls q r.b pushed_alone.0 call.unfailed went e.0 s (place s) reader after fault
-        (λ new piece reads free sound. rw same (passing_one new piece reads free sound)) (sym same) (Some (call.key s (head_of now place s)))
+        breaks tool o old (record now { out = new }) r.ls q r.b pushed_alone.0 call.unfailed went e.0 s (place s) reader after fault
+        (λ new piece reads free sound. rw same (passing_one new piece reads free sound)) (sym same) (Some (key s (head_of now place s)))
         (rw same at_head.begun) (rw (put_other s (r.ls s) r.p) (stand (other s))) r.keeps.denied (λ piece. peak_line call r.keeps s (place s) (slots s) piece) e.1
 
   -- the end
@@ -103,16 +105,16 @@ module _ {call : Call} {now : State} {place : Side → Sorted} (r : Between call
     empty : total after.lines ≡ 0
     empty = omega (arith, clear.emptied, (has_lines_total now.store.lines (λ side. longest (r.ls side)) 0 r.keeps.lines).2)
 
-    concludes : (result : Result (Unit {0}) MergeFault) → Ends call.old (record now { store = after }) result → Concludes call.tool r.b result → IsMerge call.tool call.old (record now { store = after }) result
+    concludes : (result : Result (Unit {0}) MergeFault) → Ends old (record now { store = after }) result → Concludes tool r.b result → IsMerge tool old (record now { store = after }) result
     concludes result ends at =
-        stops call.tool call.o _ _ _ _ _ _ _ stand r.merging
-        (late_none call.tool _ _ _ _ _ clean r.merging.wrote (wrote_nothing now.out)) result ends (λ side. not_failed call side (went side)) at
+        stops tool o _ _ _ _ _ _ _ stand r.merging
+        (late_none tool _ _ _ _ _ clean r.merging.wrote (wrote_nothing now.out)) result ends (λ side. not_failed call side (went side)) at
         (fits_kept call r.keeps after clear.peak clear.slots)
 
-    pub ended : ((side : Side) → IsSound (call.old.reader side)) → ((side : Side) → (call.old.reader side).fault ≡ None) → ((side : Side) → (place side).stand ≡ Ended)
-        → IsMerge call.tool call.old (record now { store = after }) (Ok tt)
+    pub ended : ((side : Side) → IsSound (old.reader side)) → ((side : Side) → (old.reader side).fault ≡ None) → ((side : Side) → (place side).stand ≡ Ended)
+        → IsMerge tool old (record now { store = after }) (Ok tt)
     ended sound readable step =
-        let e = all_ended call.tool _ _ _ _ _ _ _ r.sides step in
+        let e = all_ended tool _ _ _ _ _ _ _ r.sides step in
         concludes (Ok tt) (record {
           done = λ side. (e side).1;
           fault = λ side. (r.sides side).got.goes.fault;
@@ -123,11 +125,11 @@ module _ {call : Call} {now : State} {place : Side → Sorted} (r : Between call
           empty = empty;
         }) (λ side. (e side).0)
 
-    pub fallen : {s : Side} {n : ℕ} → IsDecided call.cmp call.key place now.store s n → IsMerge call.tool call.old (record now { store = after }) (Err (faults.Disorder s n))
+    pub fallen : {s : Side} {n : ℕ} → IsDecided cmp key place now.store s n → IsMerge tool old (record now { store = after }) (Err (faults.Disorder s n))
     fallen {s} {n} step = concludes (Err (faults.Disorder s n)) (record {
       fault = λ side. (r.sides side).got.goes.fault;
       failed = went;
       clean = clean;
       denied = clear.denied ∙ r.keeps.denied;
       empty = empty;
-    }) (stops_at call.tool call.o _ _ _ _ _ _ _ r.sides s n step)
+    }) (stops_at tool o _ _ _ _ _ _ _ r.sides s n step)

@@ -60,6 +60,8 @@ closed {call} {now} {place} {end} {k} {g} q slots some above clear = record {
 }
 
 module _ {call : Call} {now : State} {place : Side → Sorted} {end : ℕ} (r : Pairing call now place end) where
+  open call use {cmp, key, laws, o, old, pairs, tool}
+
   is_kept : r.kept ≡ r.g Second → (end == 4) ≡ false
   is_kept same = let more : 4 < end = omega (arith, r.q.at, ap length same, r.some) in grind (arith, nat_tests)
 
@@ -67,17 +69,17 @@ module _ {call : Call} {now : State} {place : Side → Sorted} {end : ℕ} (r : 
   is_alone none = let four : end ≡ 4 = omega (arith, r.q.at, ap length none) in grind (arith, nat_tests)
 
   -- the group's lines have its key
-  pub keyed_slot : (slot : ℕ) → first_slot (place Second) end ≤ slot → slot < end_slot (place Second) end → call.key Second (line now.store slot) ≡ r.k
+  pub keyed_slot : (slot : ℕ) → first_slot (place Second) end ≤ slot → slot < end_slot (place Second) end → key Second (line now.store slot) ≡ r.k
   keyed_slot slot from low = ⊎_elim (λ same.
       let least : 4 ≤ slot = rw (is_kept same) at from in
       let most : slot < end = rw (is_kept same) at low in
-      ap (call.key Second) (kept_line r.q.keeps slot least (omega (arith, most, r.q.at)))
-      ∙ EachKey-at (λ x. x ≡ r.k) (call.key Second) r.kept (slot - 4) (omega (arith, least, most, r.q.at)) (rw same (r.q.within.own Second)))
+      ap (key Second) (kept_line r.q.keeps slot least (omega (arith, most, r.q.at)))
+      ∙ EachKey-at (λ x. x ≡ r.k) (key Second) r.kept (slot - 4) (omega (arith, least, most, r.q.at)) (rw same (r.q.within.own Second)))
       (λ h.
       let least : (place Second).previous ≤ slot = rw (is_alone h.0) at from in
       let most : slot < (place Second).previous + 1 = rw (is_alone h.0) at low in
       let is : slot ≡ (place Second).previous = omega (arith, least, most) in
-      rw is (subst (EachKey (λ x. x ≡ r.k) (call.key Second)) h.1 (r.q.within.own Second)).0) r.lines_in
+      rw is (subst (EachKey (λ x. x ≡ r.k) (key Second)) h.1 (r.q.within.own Second)).0) r.lines_in
 
   module _ (slots : AllSlots place) where
     -- and stand in its slots
@@ -85,33 +87,33 @@ module _ {call : Call} {now : State} {place : Side → Sorted} {end : ℕ} (r : 
     group_stands = ⊎_elim (λ same. rw (is_kept same) (group_is r.q.keeps r.q.at ∙ same))
         (λ h. rw (is_alone h.0) (group_one now.store (place Second).previous (omega (arith, r.q.keeps.four, (low_slot Second (place Second) (slots Second)).1)) ∙ sym h.1)) r.lines_in
 
-    module _ {new : Output} (wrote : Wrote now.out new (text call.end (call.pairs r.k (head_of now place First ∷ []) (r.g Second)))) (clean : now.out.faulted ≡ false) where
+    module _ {new : Output} (wrote : Wrote now.out new (text call.end (pairs r.k (head_of now place First ∷ []) (r.g Second)))) (clean : now.out.faulted ≡ false) where
       at_line : AtLine r.q First
       at_line = record { slots = slots; head = r.head1; is = r.key1 }
 
       abbrev z : Lines
       z = head_of now place First ∷ []
 
-      wrote_more : Wrote r.q.mid new (text call.end (call.pairs r.k (r.g First ++ z) (r.g Second)))
-      wrote_more = rw (call.laws.more r.k (r.g First) z (r.g Second), text-append call.end (call.pairs r.k (r.g First) (r.g Second)) (call.pairs r.k z (r.g Second)))
+      wrote_more : Wrote r.q.mid new (text call.end (pairs r.k (r.g First ++ z) (r.g Second)))
+      wrote_more = rw (laws.more r.k (r.g First) z (r.g Second), text-append call.end (pairs r.k (r.g First) (r.g Second)) (pairs r.k z (r.g Second)))
           (wrote_trans _ _ _ _ _ clean r.q.wrote wrote)
 
-      begins : StartsWith call.tool (grown now place First r.g) r.q.d r.k (call.pairs r.k (r.g First ++ z) (r.g Second))
+      begins : StartsWith tool (grown now place First r.g) r.q.d r.k (pairs r.k (r.g First ++ z) (r.g Second))
       begins = starts call (within_more at_line) r.some r.above
 
-      pub pair_stops : {reader : Reader} {after : Slots} {fault : MergeFault} → NotPassed now First (place First) reader after new fault → IsMerge call.tool call.old (moved now First reader new after) (Err fault)
+      pub pair_stops : {reader : Reader} {after : Slots} {fault : MergeFault} → NotPassed now First (place First) reader after new fault → IsMerge tool old (moved now First reader new after) (Err fault)
       pair_stops {reader} (inl e) = same_state _ _ First now _ reader _ _ e.0 e.1
-          (halts call.o call.old (record now { out = new }) {now = now.reader} {piece = λ side. []} {ls = r.q.ls} (within_more at_line) begins wrote_more
+          (halts o old (record now { out = new }) {now = now.reader} {piece = λ side. []} {ls = r.q.ls} (within_more at_line) begins wrote_more
           (elim [ First ↦ passing at_line (now.reader First) [] (reads_nothing (now.reader First)) tt (r.q.sides First).sound First | Second ↦ standing r.q Second ])
           (record { faulted = e.1.faulted; failed = went r.q; denied = r.q.keeps.denied }) (λ side. not_failed call side (went r.q side)) (λ input pushed. tt)
           (fits_kept call r.q.keeps now.store (omega arith) refl))
       pair_stops {reader} {fault = fault} (inr e) = group_breaks at_line e.0 begins wrote_more reader fault e.1
 
-      module _ {reader : Reader} {next : Sorted} {after : Slots} (comes : Comes (call.key First) call.cmp (place First) next (now.reader First) reader now.store after) where
+      module _ {reader : Reader} {next : Sorted} {after : Slots} (comes : Comes (key First) cmp (place First) next (now.reader First) reader now.store after) where
         on : GoneOn at_line comes new
         on = gone_on at_line comes wrote_more
 
-        above_on : IsAbove call.cmp (call.key Second) r.k (on.group.d Second)
+        above_on : IsAbove cmp (key Second) r.k (on.group.d Second)
         above_on = rw on.bound r.above
 
         pub pairs_on : next.same ≡ true → Pairing call (moved now First reader new after) (put First next place) end
