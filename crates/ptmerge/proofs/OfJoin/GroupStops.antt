@@ -74,121 +74,123 @@ Fits tool before now ls piece after = (all : Side → Lines)
 module _ {tool : Tool} (o : IsKeyOrder tool.cmp) (old new : State) {now : Side → Reader} {piece : Side → List ℕ} {mid : Output} {ls p g : Side → Lines} {d : Side → Bound} {k : List ℕ}
     {extra : Lines} (m : Within tool old.out mid p g d k) (starts : StartsWith tool g d k extra) (wrote : Wrote mid new.out (text tool.end extra))
     (gone : (side : Side) → Gone tool.end tool.cmp (tool.key side) (old.reader side) (now side) (new.reader side) (piece side) (ls side) (p side ++ g side) (d side)) where
+  open tool use {cmp, end, key}
+
   abbrev given : Side → Given
   given side = given_of ((gone side).got.given ++ piece side) (new.reader side)
 
   abbrev whole : Side → Lines
-  whole side = whole_lines tool.end (given side)
+  whole side = whole_lines end (given side)
 
   abbrev front : Lines
   front = by_keys tool all_keys p
 
-  behind : (r : Side → Lines) → EachComes tool d r → (side : Side) → EachKey (AtMost tool.cmp k) (tool.key side) (g side ++ r side)
-  behind r c side = at_most-same tool o (tool.key side) k (g side) (r side) (m.own side) (m.beyond side (r side) (c side))
+  behind : (r : Side → Lines) → EachComes tool d r → (side : Side) → EachKey (AtMost cmp k) (key side) (g side ++ r side)
+  behind r c side = at_most-same tool o (key side) k (g side) (r side) (m.own side) (m.beyond side (r side) (c side))
 
-  under_k : (side : Side) (x : List ℕ) → AtMost tool.cmp x k → Under tool.cmp (d side) x
+  under_k : (side : Side) (x : List ℕ) → AtMost cmp x k → Under cmp (d side) x
   under_k side x h = under_down o (d side) x k h (m.under side)
 
   -- of two lists that go on so: what is in order, and what falls
   module _ (all : Side → Lines) (more : (side : Side) → More (now side) (ls side) (all side)) where
-    future : (side : Side) → (r : Lines) × (ordered_part tool.cmp (tool.key side) (all side) ≡ (p side ++ g side) ++ r)
-        × Coming tool.cmp (tool.key side) (d side) r × Falling tool.cmp (d side) (fall tool.cmp (tool.key side) (all side))
+    future : (side : Side) → (r : Lines) × (ordered_part cmp (key side) (all side) ≡ (p side ++ g side) ++ r)
+        × Coming cmp (key side) (d side) r × Falling cmp (d side) (fall cmp (key side) (all side))
     future side = rw (more side).is ((gone side).reaches.future (more side).more (follows (d side) (more side).more (λ e. (more side).done ((gone side).over e))))
 
     abbrev later : Side → Lines
     later side = (future side).0
 
-    later_behind : (side : Side) → EachKey (AtMost tool.cmp k) (tool.key side) (g side ++ later side)
+    later_behind : (side : Side) → EachKey (AtMost cmp k) (key side) (g side ++ later side)
     later_behind = behind later (λ side. (future side).2)
 
     parts : (w : List ℕ → Bool) → by_keys tool w (ordered tool all) ≡ by_keys tool w p ++ by_keys tool w (λ side. g side ++ later side)
     parts w = (λ i. by_keys tool w (λ side. ((future side).1 ∙ append_assoc (p side) (g side) (later side)) i)) ∙ m.merging.splits.split w (λ side. g side ++ later side) later_behind
 
-    wanted : (x : List ℕ) → AtMost tool.cmp x k → up_to tool.cmp (disorder tool all) x ≡ true
+    wanted : (x : List ℕ) → AtMost cmp x k → up_to cmp (disorder tool all) x ≡ true
     wanted x h = passed_is_wanted _ o (d First) (d Second) _ _ x
         (future First).3 (future Second).3 (under_k First x h) (under_k Second x h)
 
     all_is : (rest : Lines) × (merged_entries tool all ≡ (front ++ extra) ++ rest)
     all_is =
-        let w = up_to tool.cmp (disorder tool all) in
-        let s = starts.rest w later (λ side. (future side).2) (wanted k (self_at_most tool.cmp o k)) in
-        let passed = all_wanted tool w p (λ side. EachKey-weaker (λ x. AtMost tool.cmp x k) (λ x. w x ≡ true) wanted (tool.key side) (p side) (m.merging.under First side)) in
+        let w = up_to cmp (disorder tool all) in
+        let s = starts.rest w later (λ side. (future side).2) (wanted k (self_at_most cmp o k)) in
+        let passed = all_wanted tool w p (λ side. EachKey-weaker (λ x. AtMost cmp x k) (λ x. w x ≡ true) wanted (key side) (p side) (m.merging.under First side)) in
         (s.0, parts w ∙ (λ i. passed i ++ s.1 i) ∙ sym (append_assoc front extra s.0))
 
     -- nothing of the group or behind it is decided where a line of the group came last and more may come
-    sure_is : (ended : Side → Bool) (of : Side) → ended of ≡ false → fall tool.cmp (tool.key of) (all of) ≡ None → last_or None (map (tool.key of) (all of)) ≡ Some k
-        → Begins (text tool.end (decided_entries tool ended all)) (text tool.end (front ++ extra))
+    sure_is : (ended : Side → Bool) (of : Side) → ended of ≡ false → fall cmp (key of) (all of) ≡ None → last_or None (map (key of) (all of)) ≡ Some k
+        → Begins (text end (decided_entries tool ended all)) (text end (front ++ extra))
     sure_is ended of going rises last =
         let dec = is_decided tool ended all in
         let rest = down_begins tool o dec (down_decided tool o ended all) p in
         let none : by_keys tool dec (λ side. g side ++ later side) ≡ [] = none_wanted tool dec (λ side. g side ++ later side) (λ side.
-        EachKey-weaker (AtMost tool.cmp k) (λ x. dec x ≡ false) (λ x h. not_decided tool o ended all of x (past x ∙ not_below tool.cmp o x k h))
-        (tool.key side) (g side ++ later side) (later_behind side)) in
+        EachKey-weaker (AtMost cmp k) (λ x. dec x ≡ false) (λ x h. not_decided tool o ended all of x (past x ∙ not_below cmp o x k h))
+        (key side) (g side ++ later side) (later_behind side)) in
         let known : decided_entries tool ended all ≡ by_keys tool dec p = parts dec ∙ ap (λ l. by_keys tool dec p ++ l) none ∙ append-nil (by_keys tool dec p) in
         record {
-          rest = text tool.end (rest.0 ++ extra);
-          is = ap (text tool.end) (ap (λ l. l ++ extra) rest.1 ∙ append_assoc (by_keys tool dec p) rest.0 extra ∙ ap (λ l. l ++ (rest.0 ++ extra)) (sym known))
-              ∙ text-append tool.end (decided_entries tool ended all) (rest.0 ++ extra);
+          rest = text end (rest.0 ++ extra);
+          is = ap (text end) (ap (λ l. l ++ extra) rest.1 ∙ append_assoc (by_keys tool dec p) rest.0 extra ∙ ap (λ l. l ++ (rest.0 ++ extra)) (sym known))
+              ∙ text-append end (decided_entries tool ended all) (rest.0 ++ extra);
         }
       where
-        past : (x : List ℕ) → is_past tool.cmp (tool.key of) (ended of) (all of) x ≡ is_lt (tool.cmp x k)
-        past x = λ i. cond (going i || is_some (rises i)) true (is_below tool.cmp x (last i))
+        past : (x : List ℕ) → is_past cmp (key of) (ended of) (all of) x ≡ is_lt (cmp x k)
+        past x = λ i. cond (going i || is_some (rises i)) true (is_below cmp x (last i))
 
-  known : (side : Side) → Known tool.end (old.reader side) (now side) (new.reader side) (ls side) (piece side) (gone side).got (gone side).reads (gone side).line (whole side)
+  known : (side : Side) → Known end (old.reader side) (now side) (new.reader side) (ls side) (piece side) (gone side).got (gone side).reads (gone side).line (whole side)
   known side = got_known _ _ _ _ _ _ (gone side).got (gone side).reads (gone side).line
 
-  input_lines : (input : Side → List ℕ) → Agree given input → (side : Side) → More (now side) (ls side) (lines tool.end (input side))
-      × (max (longest (ls side)) (length (piece side)) ≤ longest (lines tool.end (input side)))
+  input_lines : (input : Side → List ℕ) → Agree given input → (side : Side) → More (now side) (ls side) (lines end (input side))
+      × (max (longest (ls side)) (length (piece side)) ≤ longest (lines end (input side)))
   input_lines input a side = got_lines _ _ _ _ _ _ (gone side).got (gone side).reads (gone side).line (input side) (a side)
 
   -- what was decided two blocks earlier of one input was pushed
   module _ (of : Side) where
-    next : (side : Side) → (r : Lines) × (ordered_part tool.cmp (tool.key side) (whole side) ≡ (p side ++ g side) ++ r) × EachKey (AtMost tool.cmp k) (tool.key side) (g side ++ r)
+    next : (side : Side) → (r : Lines) × (ordered_part cmp (key side) (whole side) ≡ (p side ++ g side) ++ r) × EachKey (AtMost cmp k) (key side) (g side ++ r)
     next side =
         let known_more = λ (s : Side). (known s).known in
         (later whole known_more side, (future whole known_more side).1, later_behind whole known_more side)
 
-    backs : (side : Side) → Back tool.end (given side) (p side ++ g side)
+    backs : (side : Side) → Back end (given side) (p side ++ g side)
     backs side =
         back _ _ _ _ _ _ (new.reader side) (gone side).got.so_far
         (subst (λ (e : ℕ). IsLine e (piece side)) (gone side).got.ending (gone side).line) (gone side).sound.held (gone side).near
 
-    under : (t side : Side) → EachKey (λ x. AtMost tool.cmp x k) (tool.key side) (p side ++ g side)
-    under t side = EachKey-append (λ x. AtMost tool.cmp x k) (tool.key side) (p side) (g side) (m.merging.under t side)
-        (own_keys (λ x. AtMost tool.cmp x k) (tool.key side) k (g side) (self_at_most tool.cmp o k) (m.own side))
+    under : (t side : Side) → EachKey (λ x. AtMost cmp x k) (key side) (p side ++ g side)
+    under t side = EachKey-append (λ x. AtMost cmp x k) (key side) (p side) (g side) (m.merging.under t side)
+        (own_keys (λ x. AtMost cmp x k) (key side) k (g side) (self_at_most cmp o k) (m.own side))
 
-    keeps : KeepsUp {I = Unit {0}} (λ came. decided tool (put of (came tt) given)) (λ u. given of) old.out new.out (text tool.end (front ++ extra))
-    keeps = rw text-append (keeps_more (λ came. decided tool (put of (came tt) given)) (λ u. given of) old.out mid (text tool.end front)
-        (works_off tool o given p (λ side. p side ++ g side) g (λ side. From k) backs (λ side. refl) under next of) m.merging.wrote m.clean new.out (text tool.end extra) wrote)
+    keeps : KeepsUp {I = Unit {0}} (λ came. decided tool (put of (came tt) given)) (λ u. given of) old.out new.out (text end (front ++ extra))
+    keeps = rw text-append (keeps_more (λ came. decided tool (put of (came tt) given)) (λ u. given of) old.out mid (text end front)
+        (works_off tool o given p (λ side. p side ++ g side) g (λ side. From k) backs (λ side. refl) under next of) m.merging.wrote m.clean new.out (text end extra) wrote)
 
     -- nor was a disorder settled
     ends_by : (before : Before (given of)) × (settled tool (put of before.earlier given) ≡ false)
     ends_by =
-        let other_fall = fall tool.cmp (tool.key (other of)) (whole (other of)) in
+        let other_fall = fall cmp (key (other of)) (whole (other of)) in
         unsettled tool o given p (λ side. p side ++ g side) g (λ side. From k) backs (λ side. refl) under next of
-        (EachKey-weaker (λ x. AtMost tool.cmp x k) (λ x. FallFrom tool.cmp x other_fall)
-        (λ x h. under_fall tool.cmp o (d (other of)) x other_fall (under_k (other of) x h) (future whole (λ s. (known s).known) (other of)).3) (tool.key of) (p of ++ g of) (under of of))
+        (EachKey-weaker (λ x. AtMost cmp x k) (λ x. FallFrom cmp x other_fall)
+        (λ x h. under_fall cmp o (d (other of)) x other_fall (under_k (other of) x h) (future whole (λ s. (known s).known) (other of)).3) (key of) (p of ++ g of) (under of of))
 
-  pub halts : {fault : MergeFault} → Ends old new (Err fault) → ((side : Side) → (new.reader side).failed ≡ true → FailsIn tool.cmp (tool.key side) k (new.reader side) (ls side))
+  pub halts : {fault : MergeFault} → Ends old new (Err fault) → ((side : Side) → (new.reader side).failed ≡ true → FailsIn cmp (key side) k (new.reader side) (ls side))
       → ((input : Side → List ℕ) (pushed : List ℕ) → IsWhole tool input pushed (Err fault)) → Fits tool old.store now ls piece new.store → IsMerge tool old new (Err fault)
   halts ends failed is_whole fits = record {
     given = given;
     came = λ side. came_of _ _ _
         (reads_trans _ _ _ _ _ (gone side).got.goes.reads (gone side).reads);
-    pushed = text tool.end (front ++ extra);
+    pushed = text end (front ++ extra);
     wrote = rw text-append (wrote_trans _ _ _ _ _ m.clean m.merging.wrote wrote);
     ends = ends;
     true_so_far = λ input a.
         let is = all_is (lines_of tool input) (λ side. (input_lines input a side).0) in
-        record { rest = text tool.end is.0; is = ap (text tool.end) is.1 ∙ text-append tool.end (front ++ extra) is.0 };
+        record { rest = text end is.0; is = ap (text end) is.1 ∙ text-append end (front ++ extra) is.0 };
     sure = λ side fail clean.
         let f = failed side fail in
         let exact = (known side).exact f.held f.ended in
         sure_is whole (λ s. (known s).known) (λ s. (new.reader s).ended) side f.ended
-        (ap (fall tool.cmp (tool.key side)) exact ∙ f.rises) (ap (λ (l : Lines). last_or None (map (tool.key side) l)) exact ∙ f.last);
+        (ap (fall cmp (key side)) exact ∙ f.rises) (ap (λ (l : Lines). last_or None (map (key side) l)) exact ∙ f.last);
     keeps_up = λ side clean. keeps side;
     ends_at_once = λ side clean. ends_by side;
     peak = λ input a. (fits (lines_of tool input) (input_lines input a)).0;
     slots = λ input a. (fits (lines_of tool input) (input_lines input a)).1;
-    whole = λ input a. is_whole input (text tool.end (front ++ extra));
+    whole = λ input a. is_whole input (text end (front ++ extra));
   }

@@ -135,58 +135,60 @@ module _ (cmp : Cmp) (o : IsKeyOrder cmp) (key : Key) where
   in_order_kept p xs e = fall_is cmp key (filter p xs) ∙ kept_after p None None 0 0 xs (λ k h. h) (sym (fall_is cmp key xs) ∙ e)
 
 module _ (tool : Tool) (o : IsKeyOrder tool.cmp) where
-  pub none_falls : (ls : Side → Lines) → disorder tool ls ≡ None → (side : Side) → fall tool.cmp (tool.key side) (ls side) ≡ None
-  none_falls ls e First = (no_fall_first tool.cmp _ _ e).0
-  none_falls ls e Second = (no_fall_first tool.cmp _ _ e).1
+  open tool use {cmp, key}
 
-  pub no_disorder : (ls : Side → Lines) → ((side : Side) → fall tool.cmp (tool.key side) (ls side) ≡ None) → disorder tool ls ≡ None
-  no_disorder ls e = λ i. disorder_of tool.cmp (e First i) (e Second i)
+  pub none_falls : (ls : Side → Lines) → disorder tool ls ≡ None → (side : Side) → fall cmp (key side) (ls side) ≡ None
+  none_falls ls e First = (no_fall_first cmp _ _ e).0
+  none_falls ls e Second = (no_fall_first cmp _ _ e).1
+
+  pub no_disorder : (ls : Side → Lines) → ((side : Side) → fall cmp (key side) (ls side) ≡ None) → disorder tool ls ≡ None
+  no_disorder ls e = λ i. disorder_of cmp (e First i) (e Second i)
 
   -- what is written of lists in order is what is written of all their keys
   pub merged_in_order : (ls : Side → Lines) → disorder tool ls ≡ None → merged_entries tool ls ≡ by_keys tool all_keys ls
-  merged_in_order ls e = λ i. by_keys tool (up_to tool.cmp (e i)) (λ side. ordered_whole tool.cmp o (tool.key side) (ls side) (none_falls ls e side) i)
+  merged_in_order ls e = λ i. by_keys tool (up_to cmp (e i)) (λ side. ordered_whole cmp o (key side) (ls side) (none_falls ls e side) i)
 
   keys_in_order : (P : List ℕ → Type 0) (ls : Side → Lines) → Each P (keys tool ls) → Each P (keys tool (ordered tool ls))
   keys_in_order P ls e =
-      let in_order = λ (side : Side). each_ordered tool.cmp o (tool.key side) P (ls side) (of_keys tool side P ls e) in
-      Each-keys P (tool.key First) (tool.key Second) (ordered tool ls First) (ordered tool ls Second) (in_order First) (in_order Second)
+      let in_order = λ (side : Side). each_ordered cmp o (key side) P (ls side) (of_keys tool side P ls e) in
+      Each-keys P (key First) (key Second) (ordered tool ls First) (ordered tool ls Second) (in_order First) (in_order Second)
 
-  module _ (a b : Side → Lines) (in_order : disorder tool a ≡ None) (below : EachBelow tool.cmp (keys tool a) (keys tool b)) where
-    side_below : (side : Side) → EachKey (λ k. EachKey (λ l. tool.cmp k l ≡ Less) (tool.key side) (b side)) (tool.key side) (a side)
+  module _ (a b : Side → Lines) (in_order : disorder tool a ≡ None) (below : EachBelow cmp (keys tool a) (keys tool b)) where
+    side_below : (side : Side) → EachKey (λ k. EachKey (λ l. cmp k l ≡ Less) (key side) (b side)) (key side) (a side)
     side_below side =
-        of_keys tool side (λ k. EachKey (λ l. tool.cmp k l ≡ Less) (tool.key side) (b side)) a
-        (Each-weaker (IsBelow tool.cmp (keys tool b)) (λ k. EachKey (λ l. tool.cmp k l ≡ Less) (tool.key side) (b side))
-        (λ k h. of_keys tool side (λ l. tool.cmp k l ≡ Less) b h) (keys tool a) below)
+        of_keys tool side (λ k. EachKey (λ l. cmp k l ≡ Less) (key side) (b side)) a
+        (Each-weaker (IsBelow cmp (keys tool b)) (λ k. EachKey (λ l. cmp k l ≡ Less) (key side) (b side))
+        (λ k h. of_keys tool side (λ l. cmp k l ≡ Less) b h) (keys tool a) below)
 
-    both_go_on : (side : Side) → (ordered_part tool.cmp (tool.key side) (a side ++ b side) ≡ a side ++ ordered_part tool.cmp (tool.key side) (b side))
-        × (behind (fall tool.cmp (tool.key side) (a side ++ b side)) ≡ behind (fall tool.cmp (tool.key side) (b side)))
-    both_go_on side = together tool.cmp o (tool.key side) (a side) (b side) (none_falls a in_order side) (side_below side)
+    both_go_on : (side : Side) → (ordered_part cmp (key side) (a side ++ b side) ≡ a side ++ ordered_part cmp (key side) (b side))
+        × (behind (fall cmp (key side) (a side ++ b side)) ≡ behind (fall cmp (key side) (b side)))
+    both_go_on side = together cmp o (key side) (a side) (b side) (none_falls a in_order side) (side_below side)
 
     -- the same keys are wanted
-    same_wanted : (k : List ℕ) → up_to tool.cmp (disorder tool (λ side. a side ++ b side)) k ≡ up_to tool.cmp (disorder tool b) k
+    same_wanted : (k : List ℕ) → up_to cmp (disorder tool (λ side. a side ++ b side)) k ≡ up_to cmp (disorder tool b) k
     same_wanted k =
-        by_limits tool.cmp _ _ k
-        ∙ (λ i. is_within tool.cmp ((both_go_on First).1 i) ((both_go_on Second).1 i) k)
-        ∙ sym (by_limits tool.cmp _ _ k)
+        by_limits cmp _ _ k
+        ∙ (λ i. is_within cmp ((both_go_on First).1 i) ((both_go_on Second).1 i) k)
+        ∙ sym (by_limits cmp _ _ k)
 
     -- of the first lists all keys are wanted
-    first_wanted : (side : Side) → EachKey (λ k. up_to tool.cmp (disorder tool b) k ≡ true) (tool.key side) (a side)
+    first_wanted : (side : Side) → EachKey (λ k. up_to cmp (disorder tool b) k ≡ true) (key side) (a side)
     first_wanted side =
-        of_keys tool side (λ k. up_to tool.cmp (disorder tool b) k ≡ true) a
-        (Each-weaker (IsBelow tool.cmp (keys tool b)) (λ k. up_to tool.cmp (disorder tool b) k ≡ true) wanted (keys tool a) below)
+        of_keys tool side (λ k. up_to cmp (disorder tool b) k ≡ true) a
+        (Each-weaker (IsBelow cmp (keys tool b)) (λ k. up_to cmp (disorder tool b) k ≡ true) wanted (keys tool a) below)
       where
-        wanted : (k : List ℕ) → IsBelow tool.cmp (keys tool b) k → up_to tool.cmp (disorder tool b) k ≡ true
+        wanted : (k : List ℕ) → IsBelow cmp (keys tool b) k → up_to cmp (disorder tool b) k ≡ true
         wanted k h =
-            let falls = λ (side : Side). falls_behind tool.cmp o (tool.key side) (b side) in
-            let under = λ (side : Side). under_first tool.cmp o (tool.key side) k (b side) (of_keys tool side (λ l. tool.cmp k l ≡ Less) b h) in
-            passed_is_wanted _ o (begins_at tool.cmp o (tool.key First) (b First)) (begins_at tool.cmp o (tool.key Second) (b Second)) _ _ k
+            let falls = λ (side : Side). falls_behind cmp o (key side) (b side) in
+            let under = λ (side : Side). under_first cmp o (key side) k (b side) (of_keys tool side (λ l. cmp k l ≡ Less) b h) in
+            passed_is_wanted _ o (begins_at cmp o (key First) (b First)) (begins_at cmp o (key Second) (b Second)) _ _ k
             (falls First) (falls Second) (under First) (under Second)
 
     -- The entries of lists that are put together are those of the first ones, and then those of the others.
     pub entries_together : merged_entries tool (λ side. a side ++ b side) ≡ merged_entries tool a ++ merged_entries tool b
     entries_together =
-        let w = up_to tool.cmp (disorder tool b) in
-        let low = Each-weaker (IsBelow tool.cmp (keys tool b)) (IsBelow tool.cmp (keys tool (ordered tool b)))
-        (λ k h. keys_in_order (λ l. tool.cmp k l ≡ Less) b h) (keys tool a) below in
+        let w = up_to cmp (disorder tool b) in
+        let low = Each-weaker (IsBelow cmp (keys tool b)) (IsBelow cmp (keys tool (ordered tool b)))
+        (λ k h. keys_in_order (λ l. cmp k l ≡ Less) b h) (keys tool a) below in
         (λ i. by_keys tool (λ k. same_wanted k i) (λ side. (both_go_on side).0 i)) ∙ by_keys_of_parts tool o a (ordered tool b) low w
         ∙ ap (λ l. l ++ merged_entries tool b) (all_wanted tool w a first_wanted ∙ sym (merged_in_order a in_order))

@@ -124,41 +124,43 @@ same_entries f g w (k ∷ ks) e = elim (w k) as (λ b. flat_map f (cond b (k ∷
     [ true ↦ λ i. e.0 i ++ same_entries f g w ks e.1 i | false ↦ same_entries f g w ks e.1 ]
 
 module _ (tool : Tool) (o : IsKeyOrder tool.cmp) (a b : Side → Lines) (below : EachBelow tool.cmp (keys tool a) (keys tool b)) where
+  open tool use {cmp, entries, key}
+
   abbrev both_parts : Side → Lines
   both_parts side = a side ++ b side
 
-  keys_of_parts : distinct tool.cmp (keys tool both_parts) ≡ distinct tool.cmp (keys tool a) ++ distinct tool.cmp (keys tool b)
+  keys_of_parts : distinct cmp (keys tool both_parts) ≡ distinct cmp (keys tool a) ++ distinct cmp (keys tool b)
   keys_of_parts =
-      let key1 = tool.key First in
-      let key2 = tool.key Second in
-      (λ i. distinct tool.cmp (map-append key1 (a First) (b First) i ++ map-append key2 (a Second) (b Second) i))
-      ∙ distinct_of_parts tool.cmp o (map key1 (a First)) (map key1 (b First)) (map key2 (a Second)) (map key2 (b Second)) below
+      let key1 = key First in
+      let key2 = key Second in
+      (λ i. distinct cmp (map-append key1 (a First) (b First) i ++ map-append key2 (a Second) (b Second) i))
+      ∙ distinct_of_parts cmp o (map key1 (a First)) (map key1 (b First)) (map key2 (a Second)) (map key2 (b Second)) below
 
   -- the entries of a key are those of the part that has it
-  of_first : (k : List ℕ) → IsBelow tool.cmp (keys tool b) k → entries_of tool both_parts k ≡ entries_of tool a k
+  of_first : (k : List ℕ) → IsBelow cmp (keys tool b) k → entries_of tool both_parts k ≡ entries_of tool a k
   of_first k e =
       let none = λ (side : Side). of_keys tool side (λ y. bytes_eq y k ≡ false) b
-      (Each-weaker (λ l. tool.cmp k l ≡ Less) (λ y. bytes_eq y k ≡ false) (λ y less. above_not_same tool.cmp o k y (less_flips tool.cmp o k y less)) (keys tool b) e) in
-      let part = λ (side : Side). with_key_of_first (tool.key side) k (a side) (b side) (none side) in
-      λ i. tool.entries k (part First i) (part Second i)
+      (Each-weaker (λ l. cmp k l ≡ Less) (λ y. bytes_eq y k ≡ false) (λ y less. above_not_same cmp o k y (less_flips cmp o k y less)) (keys tool b) e) in
+      let part = λ (side : Side). with_key_of_first (key side) k (a side) (b side) (none side) in
+      λ i. entries k (part First i) (part Second i)
 
-  of_second : (k : List ℕ) → Each (λ l. tool.cmp l k ≡ Less) (keys tool a) → entries_of tool both_parts k ≡ entries_of tool b k
+  of_second : (k : List ℕ) → Each (λ l. cmp l k ≡ Less) (keys tool a) → entries_of tool both_parts k ≡ entries_of tool b k
   of_second k e =
       let none = λ (side : Side). of_keys tool side (λ y. bytes_eq y k ≡ false) a
-      (Each-weaker (λ l. tool.cmp l k ≡ Less) (λ y. bytes_eq y k ≡ false) (λ y less. less_not_same tool.cmp o k y less) (keys tool a) e) in
-      let part = λ (side : Side). with_key_of_second (tool.key side) k (a side) (b side) (none side) in
-      λ i. tool.entries k (part First i) (part Second i)
+      (Each-weaker (λ l. cmp l k ≡ Less) (λ y. bytes_eq y k ≡ false) (λ y less. less_not_same cmp o k y less) (keys tool a) e) in
+      let part = λ (side : Side). with_key_of_second (key side) k (a side) (b side) (none side) in
+      λ i. entries k (part First i) (part Second i)
 
   -- The entries of lists that are put together are those of the lists with the lesser keys, and then those of the
   -- others.
   pub by_keys_of_parts : (w : List ℕ → Bool) → by_keys tool w both_parts ≡ by_keys tool w a ++ by_keys tool w b
   by_keys_of_parts w =
-      let ks = distinct tool.cmp (keys tool a) in
-      let ls = distinct tool.cmp (keys tool b) in
+      let ks = distinct cmp (keys tool a) in
+      let ls = distinct cmp (keys tool b) in
       let f : List ℕ → Lines = entries_of tool both_parts in
-      let is_first = Each-weaker (IsBelow tool.cmp (keys tool b)) (λ k. f k ≡ entries_of tool a k) of_first ks
-      (Each-distinct tool.cmp (IsBelow tool.cmp (keys tool b)) (keys tool a) below) in
-      let is_second = Each-weaker (λ l. Each (λ k. tool.cmp k l ≡ Less) (keys tool a)) (λ l. f l ≡ entries_of tool b l) of_second ls
-      (Each-distinct tool.cmp (λ l. Each (λ k. tool.cmp k l ≡ Less) (keys tool a)) (keys tool b) (turned (λ k l. tool.cmp k l ≡ Less) (keys tool a) (keys tool b) below)) in
+      let is_first = Each-weaker (IsBelow cmp (keys tool b)) (λ k. f k ≡ entries_of tool a k) of_first ks
+      (Each-distinct cmp (IsBelow cmp (keys tool b)) (keys tool a) below) in
+      let is_second = Each-weaker (λ l. Each (λ k. cmp k l ≡ Less) (keys tool a)) (λ l. f l ≡ entries_of tool b l) of_second ls
+      (Each-distinct cmp (λ l. Each (λ k. cmp k l ≡ Less) (keys tool a)) (keys tool b) (turned (λ k l. cmp k l ≡ Less) (keys tool a) (keys tool b) below)) in
       ap (λ l. flat_map f (filter w l)) keys_of_parts ∙ ap (flat_map f) (filter-append w ks ls) ∙ flat_map-append f (filter w ks) (filter w ls)
       ∙ (λ i. same_entries f (entries_of tool a) w ks is_first i ++ same_entries f (entries_of tool b) w ls is_second i)
