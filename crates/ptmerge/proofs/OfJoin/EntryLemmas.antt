@@ -5,7 +5,7 @@ use Rattle.std.specs.Prelude.{filter, remove, unwrap_or}
 use Rattle.std.specs.List.{slice_split, onto_first, join_with_byte}
 use Rattle.std.proofs.lemmas.Bool.{eqb-true}
 use Rattle.std.proofs.Math.Seq.{drop-append_seam}
-use Rattle.std.proofs.lemmas.List.{append-nil, length-drop, take_all}
+use Rattle.std.proofs.lemmas.List.{append-nil, length-append, length-drop, take_all}
 use Rattle.std.proofs.lemmas.List.Concat.{flat_map-append}
 use Rattle.ptlangs.specs.Jobs.{Join}
 use Rattle.ptlangs.specs.declared.outlist.OutField.{OutField}
@@ -100,35 +100,38 @@ module _ (job : Join) (one two : Option (List ℕ)) (none : job.list ≡ None) {
 
 -- ---- words with one space between each two are written as they stand
 
+abbrev pieces : List ℕ → Lines
+pieces bytes = slice_split is_blank bytes
+
 -- these pieces of some bytes are a word that goes on, and then others
-record GoesOnBy (pieces : Lines) (bytes : List ℕ) : Type 0 where
+record GoesOnBy (split : Lines) (bytes : List ℕ) : Type 0 where
   word : List ℕ
   more : Lines
-  split : pieces ≡ word ∷ more
+  is_split : split ≡ word ∷ more
   is : word ++ led 32 (filter has_bytes more) ≡ bytes
 
 abbrev Says : Bool → List ℕ → Type 0
-Says true bytes = led 32 (filter has_bytes (slice_split is_blank bytes)) ≡ 32 ∷ bytes
-Says false bytes = GoesOnBy (slice_split is_blank bytes) bytes
+Says true bytes = led 32 (filter has_bytes (pieces bytes)) ≡ 32 ∷ bytes
+Says false bytes = GoesOnBy (pieces bytes) bytes
 
 tidy_says : (blank : Bool) (bytes : List ℕ) → is_tidy blank bytes ≡ true → Says blank bytes
 tidy_says true [] tidy = cc
 tidy_says true (b ∷ bytes) tidy = by (b == 9) (b == 32) tidy (tidy_says false bytes)
   where
-    by : (tab space : Bool) → cond (tab || (true && space)) false (is_tidy space bytes) ≡ true → (is_tidy false bytes ≡ true → GoesOnBy (slice_split is_blank bytes) bytes)
-        → led 32 (filter has_bytes (cond (space || tab) ([] ∷ slice_split is_blank bytes) (onto_first b (slice_split is_blank bytes)))) ≡ 32 ∷ b ∷ bytes
+    by : (tab space : Bool) → cond (tab || (true && space)) false (is_tidy space bytes) ≡ true → (is_tidy false bytes ≡ true → GoesOnBy (pieces bytes) bytes)
+        → led 32 (filter has_bytes (cond (space || tab) ([] ∷ pieces bytes) (onto_first b (pieces bytes)))) ≡ 32 ∷ b ∷ bytes
     by true space h more = cc
     by false true h more = cc
-    by false false h more = let m = more h in (λ i. led 32 (filter has_bytes (onto_first b (m.split i)))) ∙ ap (λ (l : List ℕ). 32 ∷ b ∷ l) m.is
-tidy_says false [] tidy = record { word = []; more = []; split = refl; is = refl }
+    by false false h more = let m = more h in (λ i. led 32 (filter has_bytes (onto_first b (m.is_split i)))) ∙ ap (λ (l : List ℕ). 32 ∷ b ∷ l) m.is
+tidy_says false [] tidy = record { word = []; more = []; is_split = refl; is = refl }
 tidy_says false (b ∷ bytes) tidy = by (b == 9) (b == 32) refl tidy (tidy_says false bytes) (tidy_says true bytes)
   where
-    by : (tab space : Bool) → (b == 32) ≡ space → cond (tab || (false && space)) false (is_tidy space bytes) ≡ true → (is_tidy false bytes ≡ true → GoesOnBy (slice_split is_blank bytes) bytes)
-        → (is_tidy true bytes ≡ true → led 32 (filter has_bytes (slice_split is_blank bytes)) ≡ 32 ∷ bytes)
-        → GoesOnBy (cond (space || tab) ([] ∷ slice_split is_blank bytes) (onto_first b (slice_split is_blank bytes))) (b ∷ bytes)
+    by : (tab space : Bool) → (b == 32) ≡ space → cond (tab || (false && space)) false (is_tidy space bytes) ≡ true → (is_tidy false bytes ≡ true → GoesOnBy (pieces bytes) bytes)
+        → (is_tidy true bytes ≡ true → led 32 (filter has_bytes (pieces bytes)) ≡ 32 ∷ bytes)
+        → GoesOnBy (cond (space || tab) ([] ∷ pieces bytes) (onto_first b (pieces bytes))) (b ∷ bytes)
     by true space e h more words = cc
-    by false true e h more words = record { word = []; more = slice_split is_blank bytes; split = refl; is = words h ∙ ap (λ (x : ℕ). x ∷ bytes) (sym (eqb-true b 32 e)) }
-    by false false e h more words = let m = more h in record { word = b ∷ m.word; more = m.more; split = ap (onto_first b) m.split; is = ap (λ (l : List ℕ). b ∷ l) m.is }
+    by false true e h more words = record { word = []; more = pieces bytes; is_split = refl; is = words h ∙ ap (λ (x : ℕ). x ∷ bytes) (sym (eqb-true b 32 e)) }
+    by false false e h more words = let m = more h in record { word = b ∷ m.word; more = m.more; is_split = ap (onto_first b) m.is_split; is = ap (λ (l : List ℕ). b ∷ l) m.is }
 
 pub tidy_words : (bytes : List ℕ) → is_tidy true bytes ≡ true → led 32 (filter has_bytes (slice_split is_blank bytes)) ≡ 32 ∷ bytes
 tidy_words bytes tidy = tidy_says true bytes tidy
@@ -138,15 +141,11 @@ tidy_words bytes tidy = tidy_says true bytes tidy
 -- such a line is the field of this number, and the others behind it
 line_is : (b n : ℕ) (fs : Lines) (line key : List ℕ) → led b fs ≡ b ∷ line → n - 1 ≡ 0 → nth_field n fs ≡ key → line ≡ key ++ led b (others n fs)
 line_is b n [] line key is first keyed = cc
-line_is b n (f ∷ fs) line key is first keyed =
-    let same : f ≡ key = ap (λ (k : ℕ). get_or (f ∷ fs) k []) (sym first) ∙ keyed in
-    sym (ap (drop 1) is) ∙ ap (λ (l : List ℕ). l ++ led b fs) same ∙ ap (λ (k : ℕ). key ++ led b (remove (f ∷ fs) k)) (sym first)
+line_is b n (f ∷ fs) line key is first keyed = let same : f ≡ key = rw first at keyed in sym (ap (drop 1) is) ∙ (rw (first, same) refl)
 
 -- what is behind its first field
 behind_key : (key rest line : List ℕ) → line ≡ key ++ rest → take (length line - length key) (drop (length key) line) ≡ rest
-behind_key key rest line is =
-    take_all (length line - length key) (drop (length key) line) (omega (arith, length-drop (length key) line))
-    ∙ ap (drop (length key)) is ∙ drop-append_seam key rest
+behind_key key rest line is = rw (is, drop-append_seam key rest) (take_all (length (key ++ rest) - length key) rest (omega (arith, length-append key rest)))
 
 module _ (job : Join) (key : List ℕ) (none : job.list ≡ None) where
   abbrev b : ℕ
@@ -169,12 +168,9 @@ module _ (job : Join) (key : List ℕ) (none : job.list ≡ None) where
   pub first_is : (line : List ℕ) → IsAsWritten job.separator job.field1 line → nth_field job.field1 (fields job.separator line) ≡ key → line ≡ entry job key (fields job.separator line) []
   first_is line w keyed =
       let fs = fields job.separator line in
-      let xs = led b (others job.field1 fs) in
-      line_is b job.field1 fs line key w.is w.first keyed ∙ ap (λ (l : List ℕ). key ++ l) (sym (append-nil xs))
-      ∙ ap (λ (l : List ℕ). key ++ (xs ++ l)) (sym (others_none b (job.field2 - 1))) ∙ sym (entry_plain job key fs [] none)
+      rw (entry_plain job key fs [] none, others_none b (job.field2 - 1), append-nil (led b (others job.field1 fs))) (line_is b job.field1 fs line key w.is w.first keyed)
 
   pub second_is : (line : List ℕ) → IsAsWritten job.separator job.field2 line → nth_field job.field2 (fields job.separator line) ≡ key → line ≡ entry job key [] (fields job.separator line)
   second_is line w keyed =
       let fs = fields job.separator line in
-      line_is b job.field2 fs line key w.is w.first keyed
-      ∙ ap (λ (l : List ℕ). key ++ (l ++ led b (others job.field2 fs))) (sym (others_none b (job.field1 - 1))) ∙ sym (entry_plain job key [] fs none)
+      rw (entry_plain job key [] fs none, others_none b (job.field1 - 1)) (line_is b job.field2 fs line key w.is w.first keyed)
