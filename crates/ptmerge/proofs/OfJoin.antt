@@ -1,7 +1,6 @@
 -- `join`.
 pub mod Amid
 pub mod EntryLemmas
-pub mod FieldLemmas
 pub mod FieldSpans
 pub mod GatherTurns
 pub mod GroupSlots
@@ -9,8 +8,6 @@ pub mod GroupStops
 pub mod GroupTurns
 pub mod JoinEntries
 pub mod JoinRows
-pub mod JoinSlots
-pub mod JoinTurns
 pub mod Lanes
 pub mod PairTurns
 pub mod Turns

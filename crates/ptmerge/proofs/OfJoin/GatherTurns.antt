@@ -27,12 +27,12 @@ use Rattle.ptmerge.proofs.OfComm.CommTurns.{breaks_slots, comes_slots}
 use Rattle.ptmerge.proofs.OfJoin.GroupStops.{halts}
 use Rattle.ptmerge.proofs.OfJoin.GroupTurns.{head_of, AtLine, Call, GoneOn, Grouped, fits_kept, goes_on, goes_past, gone_on, group_breaks, grouped_keeps, is_past, last_stays, moved, next_slots, not_failed}
 use Rattle.ptmerge.proofs.OfJoin.GroupTurns.{others_stay, own_more, size_of, standing, starts_none, went, with_head, within_more}
-use Rattle.ptmerge.proofs.OfJoin.JoinSlots.{AllSlots, InGroup, Kept, group_in, keeping_kept, low_slot}
+use Rattle.ptmerge.proofs.OfJoin.GroupSlots.{AllSlots, InGroup, Kept, group_in, keeping_kept, low_slot}
 use Rattle.ptmerge.proofs.OfMerges.Orders.{self_at_most}
 use Rattle.ptmerge.proofs.OfMerges.Passing.{Merging}
 use Rattle.ptmerge.proofs.OfMerges.Sending.{wrote_and_sent}
 use Rattle.ptmerge.proofs.OfMerges.Turning.{BothStand, passed_at}
-use Rattle.ptmerge.proofs.OfJoin.JoinTurns.{Between}
+use Rattle.ptmerge.proofs.OfJoin.PairTurns.{Between}
 use Rattle.ptmerge.proofs.OfJoin.PairTurns.{Held, Pairing}
 
 -- the second input's lines of a key are gathered, one of which stands

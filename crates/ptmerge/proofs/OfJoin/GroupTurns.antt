@@ -32,7 +32,7 @@ use Rattle.ptmerge.specs.Sides.{put, other}
 use Rattle.ptmerge.specs.Steps.{GoesBefore}
 use Rattle.ptmerge.proofs.OfMerges.Bounds.{Bound, From, Coming, Under}
 use Rattle.ptmerge.proofs.OfJoin.GroupStops.{EachComes, FailsIn, Fits, StartsWith, Within, halts, own_keys, under_down}
-use Rattle.ptmerge.proofs.OfJoin.JoinSlots.{AllSlots, Keeping, keeping_line, keeping_next, low_slot, put_more}
+use Rattle.ptmerge.proofs.OfJoin.GroupSlots.{AllSlots, Keeping, keeping_line, keeping_next, low_slot, put_more}
 use Rattle.ptmerge.proofs.OfMerges.Least.{EachKey, EachKey-append, EachKey-weaker, at_most-same, front_first, least_first, others_of, with_key-above, with_key-front}
 use Rattle.ptmerge.proofs.OfMerges.Orders.{IsKeyOrder, AtMost, least_or_above, self_at_most}
 use Rattle.ptmerge.proofs.OfMerges.Pairs.{put_each, put_other, put_same}

@@ -28,9 +28,8 @@ use Rattle.ptmerge.proofs.OfJoin.JoinEntries.{join_pairs, written_alone}
 use Rattle.ptmerge.proofs.OfJoin.GatherTurns.{Gathering, gather_slots}
 use Rattle.ptmerge.proofs.OfJoin.GatherTurns as gather_turns
 use Rattle.ptmerge.proofs.OfJoin.GroupTurns.{head_of, Call, NotPassed, moved}
-use Rattle.ptmerge.proofs.OfJoin.JoinSlots.{end_within}
-use Rattle.ptmerge.proofs.OfJoin.JoinTurns.{Between, starts_between}
-use Rattle.ptmerge.proofs.OfJoin.JoinTurns as join_turns
+use Rattle.ptmerge.proofs.OfJoin.GroupSlots.{end_within}
+use Rattle.ptmerge.proofs.OfJoin.PairTurns.{Between, starts_between}
 use Rattle.ptmerge.proofs.OfJoin.PairTurns.{Pairing}
 use Rattle.ptmerge.proofs.OfJoin.PairTurns as pair_turns
 use Rattle.ptmerge.proofs.OfMerges.GoingOn.{left, less, lent_on, place_is}
@@ -189,12 +188,12 @@ module _ {job : Join} {cmp : Cmp} {key : Side → Key} {old : State} {phase : Ph
 
       pub alone_on : {one2 two2 : Sorted} {reader : Reader} {after : Slots} → HasPassed key cmp s one two one2 two2 (now.reader s) reader now.store after new
           → IsTurn job cmp key old phase (moved now s reader new after) one2 two2 end
-      alone_on h = went_on s h.on (in_between is (join_turns.alone_on (t.phased.between is).0 t.clean slots step wrote h.came) (t.phased.between is).1)
+      alone_on h = went_on s h.on (in_between is (pair_turns.alone_on (t.phased.between is).0 t.clean slots step wrote h.came) (t.phased.between is).1)
 
       pub alone_stops : {reader : Reader} {after : Slots} {fault : MergeFault} {r : Result (Unit {0}) MergeFault} → r ≡ Err fault
           → NotPassed now s (both one two s) reader after new fault → Leaves job cmp key old (moved now s reader new after) r
       alone_stops {fault = fault} is_fault h = leaves is_fault (omega (arith, passes_slots (key s) cmp s (both one two s) (both one two s) _ _ _ _ _ fault h))
-          (join_turns.alone_stops (t.phased.between is).0 t.clean slots step wrote h)
+          (pair_turns.alone_stops (t.phased.between is).0 t.clean slots step wrote h)
 
     pub opens : AreEqual cmp key (both one two) now.store → IsTurn job cmp key old phases.Gathering now one two end
     opens step = record {
@@ -206,11 +205,11 @@ module _ {job : Join} {cmp : Cmp} {key : Side → Key} {old : State} {phase : Ph
     }
 
     pub ended : {after : Slots} → IsCleared now.store after → ((side : Side) → (both one two side).stand ≡ Ended) → Leaves job cmp key old (record now { store = after }) (Ok tt)
-    ended clear step = leaves refl (omega (arith, clear.slots)) (join_turns.ended (t.phased.between is).0 t.clean clear t.opened.sound t.opened.readable step)
+    ended clear step = leaves refl (omega (arith, clear.slots)) (pair_turns.ended (t.phased.between is).0 t.clean clear t.opened.sound t.opened.readable step)
 
     pub fallen : {after : Slots} → IsCleared now.store after → {s : Side} {n : ℕ} → IsDecided cmp key (both one two) now.store s n
         → Leaves job cmp key old (record now { store = after }) (Err (faults.Disorder s n))
-    fallen clear step = leaves refl (omega (arith, clear.slots)) (join_turns.fallen (t.phased.between is).0 t.clean clear step)
+    fallen clear step = leaves refl (omega (arith, clear.slots)) (pair_turns.fallen (t.phased.between is).0 t.clean clear step)
 
   -- ---- while a group is gathered
 

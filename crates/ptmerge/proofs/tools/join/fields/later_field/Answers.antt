@@ -1,5 +1,5 @@
 use Rattle.std.proofs.Common.{◌∙◌}
-use Rattle.ptmerge.proofs.OfJoin.FieldLemmas.{dropped_more}
+use Rattle.ptmerge.proofs.OfJoin.FieldSpans.{dropped_more}
 use Rattle.ptmerge.proofs.tools.join.fields.later_field.Goals as goal
 
 pub loop-passed-preserved : goal.loop-passed-preserved
