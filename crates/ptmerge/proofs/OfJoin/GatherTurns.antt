@@ -1,6 +1,5 @@
 -- What each turn of `join` does in which a line of a group is gathered, and each way out of it.
-use Rattle.std.proofs.Common.{◌≡◌, ⊎_elim, inl, inr, ℕ, ◌+◌, ◌≤◌, false, true, List, [], ◌∷◌, ◌++◌, Err, length}
-use Rattle.std.proofs.Common.{refl, sym, ◌∙◌, subst, arith, append_assoc}
+use Rattle.std.proofs.Common.{◌≡◌, ⊎_elim, inl, inr, ℕ, ◌+◌, ◌≤◌, false, true, List, [], ◌∷◌, ◌++◌, Err, length, refl, sym, ◌∙◌, subst, arith, append_assoc}
 use Rattle.std.proofs.lemmas.Bool.{false≢true}
 use Rattle.std.proofs.lemmas.List.{append-nil, length_push, nil_from_length}
 use Rattle.ptlines.specs.Outputs.{Output, Wrote}
@@ -14,26 +13,25 @@ use Rattle.ptmerge.specs.declared.order.Side.{Side}
 use Rattle.ptmerge.specs.declared.order.Side.TheVariants.{First, Second}
 use Rattle.ptmerge.specs.declared.merging.sorted.Sorted.{Sorted}
 use Rattle.ptmerge.specs.declared.merging.sorted.Stand.TheVariants.{Head}
-use Rattle.ptmerge.specs.Groups.{Gathered, IsKept, KeepsLast, NotGathered}
+use Rattle.ptmerge.specs.Groups.{Gathered, IsKept, NotGathered}
 use Rattle.ptmerge.specs.Join.{most_lines}
 use Rattle.ptmerge.specs.Keyed.{Lines}
 use Rattle.ptmerge.specs.Merges.{State, IsMerge}
 use Rattle.ptmerge.specs.Orders.{Cmp, Key}
-use Rattle.ptmerge.specs.Places.{Comes, HasSlots}
+use Rattle.ptmerge.specs.Places.{Comes}
 use Rattle.ptmerge.specs.Sides.{both, put}
 use Rattle.ptmerge.specs.Steps.{AreEqual}
 use Rattle.ptmerge.proofs.OfMerges.Bounds.{Bound, From}
 use Rattle.ptmerge.proofs.OfComm.CommTurns.{breaks_slots, comes_slots}
 use Rattle.ptmerge.proofs.OfJoin.GroupStops.{halts}
-use Rattle.ptmerge.proofs.OfJoin.GroupTurns.{head_of, AtLine, Call, GoneOn, Grouped, fits_kept, goes_on, goes_past, gone_on, group_breaks, grouped_keeps, is_past, last_stays, moved, next_slots, not_failed}
-use Rattle.ptmerge.proofs.OfJoin.GroupTurns.{others_stay, own_more, size_of, standing, starts_none, went, with_head, within_more}
+use Rattle.ptmerge.proofs.OfJoin.GroupTurns.{head_of, AtLine, Call, GoneOn, Grouped, fits_kept, goes_on, goes_past, gone_on, group_breaks, grouped_keeps, is_past, last_stays}
+use Rattle.ptmerge.proofs.OfJoin.GroupTurns.{moved, next_slots, not_failed, others_stay, own_more, size_of, standing, starts_none, went, with_head, within_more}
 use Rattle.ptmerge.proofs.OfJoin.GroupSlots.{AllSlots, InGroup, Kept, group_in, keeping_kept, low_slot}
 use Rattle.ptmerge.proofs.OfMerges.Orders.{self_at_most}
 use Rattle.ptmerge.proofs.OfMerges.Passing.{Merging}
 use Rattle.ptmerge.proofs.OfMerges.Sending.{wrote_and_sent}
 use Rattle.ptmerge.proofs.OfMerges.Turning.{BothStand, passed_at}
-use Rattle.ptmerge.proofs.OfJoin.PairTurns.{Between}
-use Rattle.ptmerge.proofs.OfJoin.PairTurns.{Held, Pairing}
+use Rattle.ptmerge.proofs.OfJoin.PairTurns.{Between, Held, Pairing}
 
 -- the second input's lines of a key are gathered, one of which stands
 pub record Gathering (call : Call) (now : State) (place : Side → Sorted) (end : ℕ) : Type 0 where

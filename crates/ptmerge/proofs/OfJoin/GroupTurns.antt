@@ -1,6 +1,6 @@
 -- A group of lines of one key: its lines are gathered, paired and closed.
-use Rattle.std.proofs.Common.{◌≡◌, ◌⊎◌, ⊎_elim, inl, inr, ℕ, ◌+◌, ◌*◌, ◌≤◌, ◌<◌, ◌&&◌, Bool, true, false, cond, List, [], ◌∷◌, ◌++◌, Option, Some, None, Err, length}
-use Rattle.std.proofs.Common.{map, max, refl, sym, ◌∙◌, ap, subst, arith, append_assoc}
+use Rattle.std.proofs.Common.{◌≡◌, ◌⊎◌, ⊎_elim, inl, inr, ℕ, ◌+◌, ◌*◌, ◌≤◌, ◌<◌, ◌&&◌, Bool, true, false, cond, List, [], ◌∷◌, ◌++◌, Option, Some, None, Err, length, map}
+use Rattle.std.proofs.Common.{max, refl, sym, ◌∙◌, ap, subst, arith, append_assoc}
 use Rattle.std.specs.List.{last_or}
 use Rattle.std.specs.Prelude.{bytes_eq}
 use Rattle.std.specs.Cmp.Lexicographic.{bytes_decides}
@@ -15,7 +15,6 @@ use Rattle.ptlines.proofs.Pushed.{wrote_trans}
 use Rattle.ptlines.proofs.TextLaws.{text-append}
 use Rattle.ptmerge.specs.declared.faults.MergeFault.{MergeFault}
 use Rattle.ptmerge.specs.declared.faults.MergeFault.TheVariants.{Read, Write, Memory}
-use Rattle.ptmerge.specs.declared.faults.MergeFault.TheVariants as faults
 use Rattle.ptmerge.specs.declared.order.Side.{Side}
 use Rattle.ptmerge.specs.declared.order.Side.TheVariants.{First, Second}
 use Rattle.ptmerge.specs.declared.merging.sorted.Sorted.{Sorted}
@@ -42,6 +41,7 @@ use Rattle.ptmerge.proofs.OfMerges.Splitting.{all_keys, splits_step}
 use Rattle.ptmerge.proofs.OfMerges.Standing.{Next, Passed, Stands, comes_repeats, sided_keeps}
 use Rattle.ptmerge.proofs.OfMerges.Stopping.{Gone, gone_passed, gone_standing}
 use Rattle.ptmerge.proofs.OfMerges.Turning.{BothStand, IsAbove, IsLineByLine, ahead, next_at, own_slots, passed_at, sides_on, slots_apart}
+use Rattle.ptmerge.specs.declared.faults.MergeFault.TheVariants as faults
 
 -- what is written of a key that both inputs have: its pairs
 pub record IsPairing (tool : Tool) (pairs : List ℕ → Lines → Lines → Lines) : Type 0 where

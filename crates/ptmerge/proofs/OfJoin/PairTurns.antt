@@ -14,7 +14,7 @@ use Rattle.ptmerge.specs.declared.merging.sorted.Sorted.{Sorted}
 use Rattle.ptmerge.specs.declared.merging.sorted.Stand.TheVariants.{Ended, Head}
 use Rattle.ptmerge.specs.Keyed.{Lines, by_keys}
 use Rattle.ptmerge.specs.Merges.{State, Ends, IsMerge}
-use Rattle.ptmerge.specs.Places.{Comes, HasSlots}
+use Rattle.ptmerge.specs.Places.{Comes}
 use Rattle.ptmerge.specs.Sides.{put, other}
 use Rattle.ptmerge.specs.Steps.{IsAlone, IsDecided}
 use Rattle.ptmerge.specs.Stores.{IsCleared}
@@ -23,7 +23,7 @@ use Rattle.ptmerge.proofs.OfComm.CommTurns.{same_state, Running}
 use Rattle.ptmerge.proofs.OfMerges.Got.{reads_nothing}
 use Rattle.ptmerge.proofs.OfJoin.GroupTurns.{head_of, Call, GoneOf, NotPassed, fits_kept, moved, not_failed, peak_line, AtLine, GoneOn, Grouped, closes, goes_on, goes_past}
 use Rattle.ptmerge.proofs.OfJoin.GroupTurns.{gone_on, group_breaks, grown, is_past, next_slots, others_stay, passing, stand_still, standing, starts, went, within_more}
-use Rattle.ptmerge.proofs.OfJoin.GroupSlots.{AllSlots, Keeping, keeping_next, keeping_starts, group_is, kept_line, keeping_cleared, low_slot}
+use Rattle.ptmerge.proofs.OfJoin.GroupSlots.{AllSlots, Keeping, keeping_next, keeping_starts, group_is, kept_line, keeping_cleared, low_slot, group_one}
 use Rattle.ptmerge.proofs.OfMerges.Pairs.{put_each, put_other, put_same}
 use Rattle.ptmerge.proofs.OfMerges.Passing.{Late, Merging, late_none}
 use Rattle.ptmerge.proofs.OfMerges.Slotted.{has_lines_total}
@@ -36,7 +36,6 @@ use Rattle.std.proofs.lemmas.List.{length_push}
 use Rattle.ptlines.proofs.TextLaws.{text-append}
 use Rattle.ptmerge.specs.Groups.{IsGroupCleared, end_slot, first_slot, group}
 use Rattle.ptmerge.proofs.OfJoin.GroupStops.{StartsWith, halts}
-use Rattle.ptmerge.proofs.OfJoin.GroupSlots.{group_one}
 use Rattle.ptmerge.proofs.OfMerges.Least.{EachKey, EachKey-at}
 use Rattle.ptmerge.specs.declared.faults.MergeFault.TheVariants as faults
 

@@ -1,17 +1,23 @@
--- Lists in order: put behind one another, and some of their lines.
+-- Lists in order: put behind one another, and some of their lines; and texts in parts.
 use Rattle.std.proofs.Common.{◌≡◌, ℕ, ◌+◌, List, [], ◌∷◌, ◌++◌, Bool, true, false, cond, Option, Some, None, refl, ap, sym, ◌∙◌, subst}
 use Rattle.std.specs.Prelude.{filter}
 use Rattle.std.specs.Ordering.{is_le, is_lt}
 use Rattle.std.specs.declared.cmp.Ordering.TheVariants.{Less}
 use Rattle.ptmerge.specs.declared.order.Side.{Side}
 use Rattle.ptmerge.specs.declared.order.Side.TheVariants.{First, Second}
-use Rattle.ptmerge.specs.Keyed.{Lines, Tool, Disorder, Fall, by_keys, disorder, disorder_of, fall, keys, merged_entries, ordered, ordered_part, up_to}
+use Rattle.ptmerge.specs.Keyed.{Lines, Tool, Disorder, Fall, by_keys, disorder, disorder_of, fall, keys, merged_entries, ordered, ordered_part, up_to, lines_of}
 use Rattle.ptmerge.specs.Orders.{Cmp, Key}
 use Rattle.ptmerge.proofs.OfMerges.Bounds.{Bound, FallFrom, Falling, From, Over, Under, after_from, fall_after, fall_at, fall_is, falls, ordered_after, ordered_is}
 use Rattle.ptmerge.proofs.OfMerges.Least.{Each, EachKey, Each-keys, Each-weaker}
-use Rattle.ptmerge.proofs.OfMerges.Orders.{IsKeyOrder, at_most_trans, less_at_most}
+use Rattle.ptmerge.proofs.OfMerges.Orders.{IsKeyOrder, at_most_trans, less_at_most, line_order}
 use Rattle.ptmerge.proofs.OfParts.PartsOfKeys.{EachBelow, IsBelow, by_keys_of_parts, of_keys}
 use Rattle.ptmerge.proofs.OfMerges.Splitting.{all_keys, all_wanted, passed_is_wanted}
+use Rattle.ptlines.specs.Text.{text}
+use Rattle.ptlines.proofs.PartLaws.{the_lines_of_parts}
+use Rattle.ptlines.proofs.TextLaws.{text-append}
+use Rattle.ptmerge.specs.Comm.{comm_tool}
+use Rattle.ptmerge.specs.Join.{join_tool}
+use Rattle.ptmerge.specs.Parts.{IsOfParts, PartsOfComm, PartsOfJoin}
 
 -- no fall
 no_fall_first : (cmp : Cmp) (f g : Option Fall) → disorder_of cmp f g ≡ None → (f ≡ None) × (g ≡ None)
@@ -192,3 +198,18 @@ module _ (tool : Tool) (o : IsKeyOrder tool.cmp) where
         (λ k h. keys_in_order (λ l. cmp k l ≡ Less) b h) (keys tool a) below in
         (λ i. by_keys tool (λ k. same_wanted k i) (λ side. (both_go_on side).0 i)) ∙ by_keys_of_parts tool o a (ordered tool b) low w
         ∙ ap (λ l. l ++ merged_entries tool b) (all_wanted tool w a first_wanted ∙ sym (merged_in_order a in_order))
+
+-- ---- texts in parts
+
+pub of_parts : (tool : Tool) → IsKeyOrder tool.cmp → IsOfParts tool
+of_parts tool o first second cut =
+    let a : Side → Lines = lines_of tool first in
+    let b : Side → Lines = lines_of tool second in
+    ap (text tool.end) ((λ i. merged_entries tool (λ side. the_lines_of_parts tool.end (first side) (second side) (cut.whole side) i)) ∙ entries_together tool o a b cut.in_order cut.below)
+    ∙ text-append tool.end (merged_entries tool a) (merged_entries tool b)
+
+pub comm_of_parts : PartsOfComm
+comm_of_parts job = of_parts (comm_tool job) (line_order job.descending)
+
+pub join_of_parts : PartsOfJoin
+join_of_parts job = of_parts (join_tool job) (line_order job.descending)

@@ -15,7 +15,7 @@ use Rattle.ptmerge.specs.Keyed.{Lines, Tool, keys, lines_of, merged}
 use Rattle.ptmerge.specs.Parts.{AllBelow, AreCutByKey, AreInOrder, dealt, written_lines}
 use Rattle.ptmerge.specs.Sides.{both}
 use Rattle.ptmerge.proofs.OfParts.PartsByKey.{comm_of_keys, join_of_keys}
-use Rattle.ptmerge.proofs.OfParts.PartsLaws.{comm_of_parts, join_of_parts}
+use Rattle.ptmerge.proofs.OfParts.PartsInOrder.{comm_of_parts, join_of_parts}
 
 abbrev compares : Tool
 compares = comm_tool default_comm

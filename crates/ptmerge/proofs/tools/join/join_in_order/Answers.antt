@@ -2,12 +2,11 @@
 use Rattle.std.proofs.Common.{sym, ◌∙◌}
 use Rattle.std.proofs.lemmas.Result.{err_from_is_err_and}
 use Rattle.ptlangs.specs.Jobs.{join_job}
+use Rattle.ptmerge.proofs.OfJoin.Turns.{alone_less, alone_on, alone_stops, begins, ended, fallen, falls, gather_less, gather_stands, gather_stops, gathers_on, group_closed}
+use Rattle.ptmerge.proofs.OfJoin.Turns.{group_there, opened, opens, opens_less, pair_group, pair_less, pair_stands, pair_stops, pairs_next, pairs_on, stands_at, start_stops}
+use Rattle.ptmerge.proofs.OfMerges.GoingOn.{told}
 use Rattle.ptmerge.specs.declared.order.Side.TheVariants as sides
 use Rattle.ptmerge.specs.declared.tools.join.Phase.TheVariants as phases
-use Rattle.ptmerge.proofs.OfJoin.Turns.{alone_less, alone_on, alone_stops, begins}
-use Rattle.ptmerge.proofs.OfJoin.Turns.{ended, fallen, falls, gather_less, gather_stands, gather_stops, gathers_on, group_closed, group_there, opened}
-use Rattle.ptmerge.proofs.OfJoin.Turns.{opens, opens_less, pair_group, pair_less, pair_stands, pair_stops, pairs_next, pairs_on, stands_at, start_stops}
-use Rattle.ptmerge.proofs.OfMerges.GoingOn.{told}
 use Rattle.ptmerge.proofs.tools.join.join_in_order.Goals as goal
 
 pub returns-in_err-merge : goal.returns-in_err-merge

@@ -1,6 +1,5 @@
 use Rattle.std.proofs.Common.{◌∙◌, Some, option_copied}
-use Rattle.ptmerge.proofs.OfJoin.FieldSpans.{dropped_more}
-use Rattle.ptmerge.proofs.OfJoin.FieldSpans.{in_whole, left_next}
+use Rattle.ptmerge.proofs.OfJoin.FieldSpans.{dropped_more, in_whole, left_next}
 use Rattle.ptmerge.proofs.tools.join.fields.later_span.Goals as goal
 
 pub loop-passed-preserved : goal.loop-passed-preserved
