@@ -31,7 +31,7 @@ use Rattle.ptmerge.specs.Steps.{AreEqual, CannotStart, IsAlone, IsDecided, IsLen
 use Rattle.ptmerge.specs.Stores.{IsCleared}
 use Rattle.ptmerge.proofs.OfComm.CommTurns.{comes_slots, passes_slots, readable_of, same_state, slots_of, unfailed_of, wrote_as}
 use Rattle.ptmerge.proofs.OfJoin.GatherTurns.{Gathering, gather_slots}
-use Rattle.ptmerge.proofs.OfJoin.GroupSlots.{end_within}
+use Rattle.ptmerge.proofs.OfJoin.GroupSlots.{end_within, pair_of}
 use Rattle.ptmerge.proofs.OfJoin.PairTurns.{Between, starts_between, Pairing}
 use Rattle.ptmerge.proofs.OfMerges.GoingOn.{left, less, lent_on, place_is}
 use Rattle.ptmerge.proofs.OfMerges.KeySpans.{placed_keeps}
@@ -53,32 +53,31 @@ each_asked : (t : Bool) (xs ys : Lines) → cond t (xs ++ ys) [] ≡ cond t xs [
 each_asked true xs ys = refl
 each_asked false xs ys = refl
 
-module _ (job : Join) (k : List ℕ) where
-  alone1_more : (x : List ℕ) (g : Lines) → alone1 job k (x ∷ g) ≡ alone1 job k (x ∷ []) ++ alone1 job k g
-  alone1_more x g = each_asked job.unpaired1 (entry job k (fields job.separator x) [] ∷ []) (map (λ a. entry job k (fields job.separator a) []) g)
-
-  alone2_more : (x : List ℕ) (g : Lines) → alone2 job k (x ∷ g) ≡ alone2 job k (x ∷ []) ++ alone2 job k g
-  alone2_more x g = each_asked job.unpaired2 (entry job k [] (fields job.separator x) ∷ []) (map (λ b. entry job k [] (fields job.separator b)) g)
-
-  first_alone : (g : Lines) → join_entries job k g [] ≡ alone1 job k g
-  first_alone [] = none_asked job.unpaired2 ∙ sym (none_asked job.unpaired1)
-  first_alone (a ∷ g) = refl
-
-  pairs_more : (f g c : Lines) → pairs_of job k (f ++ g) c ≡ pairs_of job k f c ++ pairs_of job k g c
-  pairs_more f g c =
-      let each = λ (a : List ℕ). map (λ b. entry job k (fields job.separator a) (fields job.separator b)) c in
-      ap (λ l. cond job.pairs l []) (flat_map-append each f g) ∙ each_asked job.pairs (flat_map each f) (flat_map each g)
-
 module _ (job : Join) (cmp : Cmp) (key : Side → Key) where
+  first_alone : (k : List ℕ) (g : Lines) → join_entries job k g [] ≡ alone1 job k g
+  first_alone k [] = none_asked job.unpaired2 ∙ sym (none_asked job.unpaired1)
+  first_alone k (a ∷ g) = refl
+
   line_by_line : IsLineByLine (join_by job cmp key)
   line_by_line = record {
     none = λ k. none_asked job.unpaired2;
-    first = λ k x g. alone1_more job k x g ∙ ap (λ l. alone1 job k (x ∷ []) ++ l) (sym (first_alone job k g));
-    second = λ k x g. alone2_more job k x g;
+    first = λ k x g.
+        let of = λ (a : List ℕ). entry job k (fields job.separator a) [] in
+        each_asked job.unpaired1 (of x ∷ []) (map of g) ∙ ap (λ l. alone1 job k (x ∷ []) ++ l) (sym (first_alone k g));
+    second = λ k x g. let of = λ (b : List ℕ). entry job k [] (fields job.separator b) in each_asked job.unpaired2 (of x ∷ []) (map of g);
   }
 
   pub join_pairs : IsPairing (join_by job cmp key) (pairs_of job)
-  join_pairs = record { alone = line_by_line; none = λ k g. none_asked job.pairs; more = λ k f g c. pairs_more job k f g c; whole = λ k a b f g. refl; size = λ ls. refl; slots = λ ls. refl }
+  join_pairs = record {
+    alone = line_by_line;
+    none = λ k g. none_asked job.pairs;
+    more = λ k f g c.
+        let each = λ (a : List ℕ). map (pair_of job k a) c in
+        ap (λ l. cond job.pairs l []) (flat_map-append each f g) ∙ each_asked job.pairs (flat_map each f) (flat_map each g);
+    whole = λ k a b f g. refl;
+    size = λ ls. refl;
+    slots = λ ls. refl;
+  }
 
   -- what is written of a line of one input alone
   pub written_alone : (s : Side) (x : List ℕ) → key s x ≡ join_key job s x → by_keys (join_by job cmp key) all_keys (alone s x) ≡ alone_entry job s x
@@ -175,7 +174,7 @@ module _ {job : Join} {cmp : Cmp} {key : Side → Key} {old : State} (a : IsOpen
       → IsPlaced key one two store → IsLent one first × IsLent two second → IsTurn job cmp key old phases.Between (seen first second old.out store) one two 4
   begins {first} {second} {store} {one} {two} starts placed lent = record {
     opened = a;
-    phased = in_between refl (starts_between (starts_well (join_by job cmp key) a.o (λ ls. (omega arith, omega arith)) _ a.readable a.ending a.unfailed a.sound a.writable a.allowed a.empty
+    phased = in_between refl (starts_between (starts_well _ a.o (λ ls. (omega arith, omega arith)) _ a.readable a.ending a.unfailed a.sound a.writable a.allowed a.empty
         (inputs first second store) (both one two) placed.first starts)) refl;
     placed = placed;
     lent = elim [ First ↦ lent.0 | Second ↦ lent.1 ];
@@ -188,7 +187,7 @@ module _ {job : Join} {cmp : Cmp} {key : Side → Key} {old : State} (a : IsOpen
   start_stops {first} {second} {store} {fault} cannot is_fault =
       let adds = start_slots (join_by job cmp key) a.o (λ ls. (omega arith, omega arith)) old a.readable a.ending a.unfailed a.sound a.writable a.allowed a.empty first second store fault cannot in
       rw is_fault (record {
-        merged = starts_badly (join_by job cmp key) a.o (λ ls. (omega arith, omega arith)) _ a.readable a.ending a.unfailed a.sound a.writable a.allowed a.empty first second store fault cannot;
+        merged = starts_badly _ a.o (λ ls. (omega arith, omega arith)) _ a.readable a.ending a.unfailed a.sound a.writable a.allowed a.empty first second store fault cannot;
         refused = start_refused (join_by job cmp key) a.o (λ ls. (omega arith, omega arith)) _ a.readable a.ending a.unfailed a.sound a.writable a.allowed a.empty first second store fault cannot;
         slots = record { least = adds.least; all = λ allowed. omega (arith, adds.all allowed) };
       })
