@@ -205,9 +205,8 @@ pub record Keeping (key : Key) (before store : Slots) (ls : Side → Lines) (g :
   pub most : ℕ
   pub fits : total g ≤ most
   pub peak : store.peak ≤ max before.peak (2 * longest (ls First) + 2 * longest (ls Second) + most)
-  pub largest : (w : Lines) → most ≤ largest_group key (ls Second ++ w)
   pub count : ℕ
-  pub counted : (w : Lines) → count ≤ most_lines key (ls Second ++ w)
+  pub known : (w : Lines) → (most ≤ largest_group key (ls Second ++ w)) × (count ≤ most_lines key (ls Second ++ w))
   pub slots : length store.lines ≤ max (length before.lines) (4 + count)
   pub least : length before.lines ≤ length store.lines
   pub four : 4 ≤ length store.lines
@@ -222,9 +221,8 @@ keeping_starts {key} {before} {store} {ls} k = record {
   most = 0;
   fits = omega arith;
   peak = omega (arith, k.peak);
-  largest = λ w. omega arith;
   count = 0;
-  counted = λ w. omega arith;
+  known = λ w. (omega arith, omega arith);
   slots = omega (arith, k.slots);
   least = omega (arith, k.slots);
   four = omega (arith, k.slots);
@@ -252,9 +250,8 @@ keeping_line {key} {before} {store} {after} {ls} {now} {g} s place slots x k up 
   most = k.most;
   fits = k.fits;
   peak = omega (arith, k.peak, k.fits, up First, up Second, (has_lines_total (set store.lines place.previous x) (λ side. longest (now side)) (total g) inside).1);
-  largest = λ w. rw (goes_on.1, append_assoc (ls Second) goes_on.0 w) (k.largest (goes_on.0 ++ w));
   count = k.count;
-  counted = λ w. rw (goes_on.1, append_assoc (ls Second) goes_on.0 w) (k.counted (goes_on.0 ++ w));
+  known = λ w. rw (goes_on.1, append_assoc (ls Second) goes_on.0 w) (k.known (goes_on.0 ++ w));
   slots = omega (arith, k.slots, size);
   least = omega (arith, k.least, size);
   four = omega (arith, k.four, size);
@@ -291,11 +288,10 @@ record Grown (store made : Slots) (g : Lines) (to : ℕ) : Type 0 where
 
 module _ {key : Key} {before store : Slots} {ls : Side → Lines} {g : Lines} (k : Keeping key before store ls g) where
   grown : (made : Slots) (to : ℕ) → IsGrown store made to → Grown store made g to
-  grown made to made_so = by made (grown_slots store made to made_so) made_so.grown
-    where
-      by : (t : Slots) → (length store.lines ≤ length t.lines) × (length t.lines ≤ max (length store.lines) (to + 1)) → (t ≡ store) ⊎ (t ≡ with_added store) → Grown store t g to
-      by t slots (inl e) = rw e (record { tail = k.tail; split = k.split; empty = k.empty; same = λ i low. refl; slots = rw e at slots; peak = refl; denied = refl })
-      by t slots (inr e) = rw e (record {
+  grown made to made_so =
+      let slots = grown_slots store made to made_so in
+      ⊎_elim (λ e. rw e (record { tail = k.tail; split = k.split; empty = k.empty; same = λ i low. refl; slots = rw e at slots; peak = refl; denied = refl }))
+      (λ e. rw e (record {
         tail = k.tail ++ [] ∷ [];
         split = drop-append-le 4 store.lines ([] ∷ []) k.four ∙ ap (λ (l : Lines). l ++ [] ∷ []) k.split ∙ append_assoc g k.tail ([] ∷ []);
         empty = omega (arith, sum_by_push length k.tail [], k.empty);
@@ -303,7 +299,7 @@ module _ {key : Key} {before store : Slots} {ls : Side → Lines} {g : Lines} (k
         slots = rw e at slots;
         peak = refl;
         denied = refl;
-      })
+      })) made_so.grown
 
   -- what keeping a line behind the group leaves
   pub record Kept (after : Slots) (y : List ℕ) : Type 0 where
@@ -332,9 +328,8 @@ module _ {key : Key} {before store : Slots} {ls : Side → Lines} {g : Lines} (k
           most = max k.most (total (g ++ y ∷ []));
           fits = omega arith;
           peak = omega (arith, k.peak, w.peak, (has_lines_total (set made.lines to y) (λ side. longest (ls side)) (total (g ++ y ∷ [])) inside).1);
-          largest = λ l. omega (arith, k.largest l, largest l);
           count = max k.count (length (g ++ y ∷ []));
-          counted = λ l. omega (arith, k.counted l, largest l);
+          known = λ l. (omega (arith, k.known l, largest l), omega (arith, k.known l, largest l));
           slots = omega (arith, at, k.slots, w.slots, size, length_push g y);
           least = omega (arith, k.least, w.slots, size);
           four = four;
@@ -380,9 +375,8 @@ module _ {key : Key} {before store : Slots} {ls : Side → Lines} {g : Lines} (k
         most = k.most;
         fits = omega arith;
         peak = omega (arith, c.peak, k.peak, k.fits, (has_lines_total store.lines (λ side. longest (ls side)) (total g) k.lines).1);
-        largest = k.largest;
         count = k.count;
-        counted = k.counted;
+        known = k.known;
         slots = omega (arith, k.slots, c.slots);
         least = omega (arith, k.least, c.slots);
         four = four;

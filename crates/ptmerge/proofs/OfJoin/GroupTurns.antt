@@ -94,10 +94,9 @@ pub size_of : (call : Call) {store : Slots} {ls : Side → Lines} {g : Lines} (h
     → ((side : Side) → longest (ls side) ≤ longest (all side)) → (more : Lines) × (all Second ≡ ls Second ++ more)
     → (2 * longest (ls First) + 2 * longest (ls Second) + h.most ≤ call.size all) × (4 + h.count ≤ call.slots all) × (total store.lines ≤ 2 * longest (ls First) + 2 * longest (ls Second) + h.most)
 size_of call {store} {ls} {g} h all up more =
-    let large : h.most ≤ largest_group (call.key Second) (all Second) = rw more.1 (h.largest more.0) in
-    let many : h.count ≤ most_lines (call.key Second) (all Second) = rw more.1 (h.counted more.0) in (
-      omega (arith, large, call.laws.size all, up First, up Second),
-      omega (arith, many, call.laws.slots all),
+    let known : (h.most ≤ largest_group (call.key Second) (all Second)) × (h.count ≤ most_lines (call.key Second) (all Second)) = rw more.1 (h.known more.0) in (
+      omega (arith, known, call.laws.size all, up First, up Second),
+      omega (arith, known, call.laws.slots all),
       omega (arith, (has_lines_total store.lines (λ side. longest (ls side)) (total g) h.lines).1, h.fits),
     )
 
