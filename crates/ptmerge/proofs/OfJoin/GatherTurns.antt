@@ -1,5 +1,5 @@
 -- What each turn of `join` does in which a line of a group is gathered, and each way out of it.
-use Rattle.std.proofs.Common.{◌≡◌, ⊎_elim, inl, inr, ℕ, ◌+◌, ◌≤◌, false, true, List, [], ◌∷◌, ◌++◌, Err, length, refl, sym, ◌∙◌, subst, arith, append_assoc}
+use Rattle.std.proofs.Common.{◌≡◌, ⊎_elim, inl, inr, ℕ, ◌+◌, ◌≤◌, ◌<◌, false, true, List, [], ◌∷◌, ◌++◌, Err, length, refl, sym, ◌∙◌, subst, arith, append_assoc}
 use Rattle.std.proofs.lemmas.Bool.{false≢true}
 use Rattle.std.proofs.lemmas.List.{append-nil, length_push, nil_from_length}
 use Rattle.ptlines.specs.Outputs.{Output, Wrote}
@@ -125,8 +125,27 @@ module _ {call : Call} {now : State} {place : Side → Sorted} {end : ℕ} (r : 
     inside : (l : Lines) → InGroup (key Second) (r.g ++ y ∷ []) (on.group.ls Second ++ l)
     inside l = rw (on.more.1, append_assoc (r.q.ls Second) on.more.0 l) (in_group (on.more.0 ++ l))
 
-    key1_on : key First (line made (place First).standing) ≡ r.k
-    key1_on = rw (others_stay at_line comes).0 r.key1
+    -- the first four slots stay as they are
+    module _ (after : Slots) (same : (i : ℕ) → i < 4 → line after i ≡ line made i) where
+      key1_on : key First (line after (place First).standing) ≡ r.k
+      key1_on = rw (same (place First).standing (low_slot First (place First) (slots First)).0, (others_stay at_line comes).0) r.key1
+
+      stays : line after next.standing ≡ line made next.standing
+      stays = same next.standing (low_slot Second next (next_slots at_line comes Second)).0
+
+      pairs_by : {to : ℕ} {kept : Lines} → Grouped call (moved now Second reader now.out after) (put Second next place) to r.k (both [] (r.g ++ y ∷ [])) kept → next.same ≡ false
+          → Held after next kept (r.g ++ y ∷ []) → Pairing call (moved now Second reader now.out after) (put Second next place) to
+      pairs_by {kept = kept} q other lines_in = record {
+        k = r.k;
+        g = both [] (r.g ++ y ∷ []);
+        kept = kept;
+        q = q;
+        lines_in = lines_in;
+        some = omega (arith, length_push r.g y);
+        above = is_past q Second (λ e is. goes_past at_line comes other e (rw stays at is));
+        head1 = r.head1;
+        key1 = key1_on;
+      }
 
     -- the line before was kept, too
     module _ {after : Slots} (kept : IsKept made after next.previous end) where
@@ -136,32 +155,10 @@ module _ {call : Call} {now : State} {place : Side → Sorted} {end : ℕ} (r : 
       group_on : Grouped call (moved now Second reader now.out after) (put Second next place) (end + 1) r.k (both [] (r.g ++ y ∷ [])) (r.g ++ y ∷ [])
       group_on = grouped_keeps on.group (next_slots at_line comes) kept_too.same kept_too.keeping (omega (arith, r.q.at, length_push r.g y))
 
-      stays1 : line after (place First).standing ≡ line made (place First).standing
-      stays1 = kept_too.same (place First).standing (low_slot First (place First) (slots First)).0
-
-      stays2 : line after next.standing ≡ line made next.standing
-      stays2 = kept_too.same next.standing (low_slot Second next (next_slots at_line comes Second)).0
-
-      pub gathers_more : next.same ≡ true → Gathering call (moved now Second reader now.out after) (put Second next place) (end + 1)
+      gathers_more : next.same ≡ true → Gathering call (moved now Second reader now.out after) (put Second next place) (end + 1)
       gathers_more same =
           let h = goes_on at_line comes same in
-          record { k = r.k; g = r.g ++ y ∷ []; q = group_on; head1 = r.head1; key1 = rw stays1 key1_on; head2 = h.0; key2 = rw stays2 h.1 }
-
-    pub pairs_by : {after : Slots} {to : ℕ} {kept : Lines} (q : Grouped call (moved now Second reader now.out after) (put Second next place) to r.k (both [] (r.g ++ y ∷ [])) kept)
-        → next.same ≡ false → line after (place First).standing ≡ line made (place First).standing → line after next.standing ≡ line made next.standing
-        → Held after next kept (r.g ++ y ∷ []) → Pairing call (moved now Second reader now.out after) (put Second next place) to
-    pairs_by {kept = kept} q same same1 same2 lines_in =
-        record {
-          k = r.k;
-          g = both [] (r.g ++ y ∷ []);
-          kept = kept;
-          q = q;
-          lines_in = lines_in;
-          some = omega (arith, length_push r.g y);
-          above = is_past q Second (λ e is. goes_past at_line comes same e (rw same2 at is));
-          head1 = r.head1;
-          key1 = rw same1 key1_on;
-        }
+          record { k = r.k; g = r.g ++ y ∷ []; q = group_on; head1 = r.head1; key1 = key1_on after kept_too.same; head2 = h.0; key2 = rw (stays after kept_too.same) h.1 }
 
   module _ {reader : Reader} {next : Sorted} {after : Slots} where
     pub gathers_on : {to : ℕ} → Gathered (key Second) cmp (place Second) next (now.reader Second) reader now.store after end to → next.same ≡ true
@@ -172,8 +169,8 @@ module _ {call : Call} {now : State} {place : Side → Sorted} {end : ℕ} (r : 
         → Pairing call (moved now Second reader now.out after) (put Second next place) to
     pairs_next e is = ⊎_elim (λ h.
         let none = nil_from_length r.g (omega (arith, h.1, r.q.at)) in
-        rw (h.2, h.3) (pairs_by e.came (on e.came).group is refl refl (inr (none, rw (last_stays at_line e.came, none) refl))))
-        (λ h. rw h.0 (pairs_by e.came (group_on e.came h.1) is (stays1 e.came h.1) (stays2 e.came h.1) (inl refl))) e.kept
+        rw (h.2, h.3) (pairs_by e.came _ (λ i low. refl) (on e.came).group is (inr (none, rw (last_stays at_line e.came, none) refl))))
+        (λ h. rw h.0 (pairs_by e.came _ (kept_too e.came h.1).same (group_on e.came h.1) is (inl refl))) e.kept
 
     -- a line could not be kept, or the next one not read
     pub not_gathered : now.out.faulted ≡ false → (fault : MergeFault) → NotGathered (key Second) cmp (place Second) next (now.reader Second) reader now.store after end fault
