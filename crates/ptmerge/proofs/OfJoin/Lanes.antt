@@ -26,8 +26,12 @@ blank_lanes [] n long = refl
 blank_lanes (b ∷ v) zero long = absurd (omega (arith, long))
 blank_lanes (b ∷ v) (suc n) long = λ i. blank_lane (eqb b 32) (eqb b 9) i ∷ blank_lanes v n (omega (arith, long)) i
 
-pub blank_mask : (v : List ℕ) (n : ℕ) → length v ≡ n → n ≤ 64 → mask_l (map (top 7) (zip2 bit_or (same v n 32) (same v n 9))) % 2 ^ 64 ≡ mask_l (map is_blank v)
-blank_mask v n long few = ap (λ (ms : List Bool). mask_l ms % 2 ^ 64) (blank_lanes v n long) ∙ mask_l-mod (map is_blank v) 64 (omega (arith, length-map v is_blank, long, few))
+pub blank_mask : (bytes : List ℕ) (at n : ℕ) → at + n ≤ length bytes → n ≤ 64
+    → mask_l (map (top 7) (zip2 bit_or (same (chunk at n bytes) n 32) (same (chunk at n bytes) n 9))) % 2 ^ 64 ≡ mask_l (map is_blank (chunk at n bytes))
+blank_mask bytes at n within few =
+    let v = chunk at n bytes in
+    let long = length-chunk at n bytes within in
+    ap (λ (ms : List Bool). mask_l ms % 2 ^ 64) (blank_lanes v n long) ∙ mask_l-mod (map is_blank v) 64 (omega (arith, length-map v is_blank, long, few))
 
 -- ---- a tab, or a space behind another one
 
