@@ -26,7 +26,7 @@ use Rattle.ptmerge.specs.Orders.{Cmp, Key}
 use Rattle.ptmerge.specs.Sides.{other, put}
 use Rattle.ptmerge.proofs.OfMerges.Backing.{Back, back}
 use Rattle.ptmerge.proofs.OfMerges.Bounds.{Bound, Free, From, Fallen, Over, Coming, FallFrom, Falling, Under}
-use Rattle.ptmerge.proofs.OfMerges.Got.{More, Known, got_known, got_lines}
+use Rattle.ptmerge.proofs.OfMerges.Got.{More, got_known, got_lines}
 use Rattle.ptmerge.proofs.OfMerges.Least.{EachKey, EachKey-append, EachKey-weaker, at_most-same}
 use Rattle.ptmerge.proofs.OfMerges.Orders.{IsKeyOrder, AtMost, at_most_trans, self_at_most}
 use Rattle.ptmerge.proofs.OfMerges.Passing.{Merging, down_decided, follows, not_below, not_decided}
@@ -137,8 +137,8 @@ module _ {tool : Tool} (o : IsKeyOrder tool.cmp) (old new : State) {now : Side �
         past : (x : List ℕ) → is_past cmp (key of) (ended of) (all of) x ≡ is_lt (cmp x k)
         past x = λ i. cond (going i || is_some (rises i)) true (is_below cmp x (last i))
 
-  known : (side : Side) → Known end (old.reader side) (now side) (new.reader side) (ls side) (piece side) (gone side).got (gone side).reads (gone side).line (whole side)
-  known side = got_known _ _ _ _ _ _ (gone side).got (gone side).reads (gone side).line
+  known : (side : Side) → More (now side) (ls side) (whole side)
+  known side = (got_known _ _ _ _ _ _ (gone side).got (gone side).reads (gone side).line).known
 
   input_lines : (input : Side → List ℕ) → Agree given input → (side : Side) → More (now side) (ls side) (lines end (input side))
       × (max (longest (ls side)) (length (piece side)) ≤ longest (lines end (input side)))
@@ -147,9 +147,7 @@ module _ {tool : Tool} (o : IsKeyOrder tool.cmp) (old new : State) {now : Side �
   -- what was decided two blocks earlier of one input was pushed
   module _ (of : Side) where
     next : (side : Side) → (r : Lines) × (ordered_part cmp (key side) (whole side) ≡ (p side ++ g side) ++ r) × EachKey (AtMost cmp k) (key side) (g side ++ r)
-    next side =
-        let known_more = λ (s : Side). (known s).known in
-        (later whole known_more side, (future whole known_more side).1, later_behind whole known_more side)
+    next side = (later whole known side, (future whole known side).1, later_behind whole known side)
 
     backs : (side : Side) → Back end (given side) (p side ++ g side)
     backs side =
@@ -170,7 +168,7 @@ module _ {tool : Tool} (o : IsKeyOrder tool.cmp) (old new : State) {now : Side �
         let other_fall = fall cmp (key (other of)) (whole (other of)) in
         unsettled tool o given p (λ side. p side ++ g side) g (λ side. From k) backs (λ side. refl) under next of
         (EachKey-weaker (λ x. AtMost cmp x k) (λ x. FallFrom cmp x other_fall)
-        (λ x h. under_fall cmp o (d (other of)) x other_fall (under_k (other of) x h) (future whole (λ s. (known s).known) (other of)).3) (key of) (p of ++ g of) (under of of))
+        (λ x h. under_fall cmp o (d (other of)) x other_fall (under_k (other of) x h) (future whole known (other of)).3) (key of) (p of ++ g of) (under of of))
 
   pub halts : {fault : MergeFault} → Ends old new (Err fault) → ((side : Side) → (new.reader side).failed ≡ true → FailsIn cmp (key side) k (new.reader side) (ls side))
       → ((input : Side → List ℕ) (pushed : List ℕ) → IsWhole tool input pushed (Err fault)) → Fits tool old.store now ls piece new.store → IsMerge tool old new (Err fault)
@@ -186,8 +184,8 @@ module _ {tool : Tool} (o : IsKeyOrder tool.cmp) (old new : State) {now : Side �
         record { rest = text end is.0; is = ap (text end) is.1 ∙ text-append end (front ++ extra) is.0 };
     sure = λ side fail clean.
         let f = failed side fail in
-        let exact = (known side).exact f.held f.ended in
-        sure_is whole (λ s. (known s).known) (λ s. (new.reader s).ended) side f.ended
+        let exact = (got_known _ _ _ _ _ _ (gone side).got (gone side).reads (gone side).line).exact f.held f.ended in
+        sure_is whole known (λ s. (new.reader s).ended) side f.ended
         (ap (fall cmp (key side)) exact ∙ f.rises) (ap (λ (l : Lines). last_or None (map (key side) l)) exact ∙ f.last);
     keeps_up = λ side clean. keeps side;
     ends_at_once = λ side clean. ends_by side;
