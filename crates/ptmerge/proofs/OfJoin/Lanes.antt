@@ -2,7 +2,7 @@
 use Rattle.std.proofs.Common.{◌≡◌, ⊎_elim, ℕ, zero, suc, ◌+◌, ◌-◌, ◌%◌, ◌^◌, ◌<◌, ◌≤◌, ◌==◌, ◌||◌, ◌&&◌, eqb, not, Bool, true, false, cond, List, [], ◌∷◌, length, map}
 use Rattle.std.proofs.Common.{replicate, get_or, bit_and, bit_or, refl, sym, ◌∙◌, ap, subst, arith}
 use Rattle.std.proofs.lemmas.Bool.{eqb-true, false≢true, or_cases, or_left, or_parts, or_right}
-use Rattle.std.proofs.lemmas.List.{length-map}
+use Rattle.std.proofs.lemmas.List.{get_or_past, length-map}
 use Rattle.std.proofs.lemmas.Simd.{get_or-chunk, get_or-zip2, length-chunk, length-zip2, mask_l-mod}
 use Rattle.std.specs.Simd.Lanes.{chunk, mask_l, top, zip2}
 use Rattle.memchr.specs.Find.{Nowhere}
@@ -51,8 +51,7 @@ uneven_lanes (a ∷ u) (b ∷ v) (suc n) lu lv = λ i. uneven_lane (eqb b 9) (eq
 uneven_lanes u v n lu lv = absurd (omega (arith, lu, lv))
 
 none_set : (ms : List Bool) → mask_l ms ≡ 0 → (k : ℕ) → get_or ms k false ≡ false
-none_set [] none zero = refl
-none_set [] none (suc k) = refl
+none_set [] none k = get_or_past [] k false (omega arith)
 none_set (true ∷ ms) none k = absurd (omega (arith, none))
 none_set (false ∷ ms) none zero = refl
 none_set (false ∷ ms) none (suc k) = none_set ms (omega (arith, none)) k

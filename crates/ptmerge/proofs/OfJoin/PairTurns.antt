@@ -1,4 +1,4 @@
--- What each turn of `join` does between two groups, and in which a line is paired with its group, and each way out of it.
+-- What each turn of `join` does between two groups, and while a line is paired with its group, and each way out of it.
 use Rattle.std.proofs.Common.{◌≡◌, inl, inr, ℕ, false, List, [], Some, None, Result, Ok, Err, refl, sym, ◌∙◌, subst, arith, ◌⊎◌, ⊎_elim, ◌+◌, ◌-◌, ◌==◌, ◌≤◌, ◌<◌, true, ◌∷◌}
 use Rattle.std.proofs.Common.{◌++◌, length, ap}
 use Rattle.ptlines.specs.Outputs.{Output, Wrote}

@@ -94,23 +94,25 @@ module _ (p : List ℕ → Bool) where
       by false f false e ih = ih
 
   module _ (tool : Tool) (o : IsKeyOrder tool.cmp) (ls : Side → Lines) where
+    open tool use {cmp, entries, key}
+
     abbrev part : Side → Lines
-    part side = kept (tool.key side) (ls side)
+    part side = kept (key side) (ls side)
 
     keys_of_part : keys tool part ≡ filter p (keys tool ls)
     keys_of_part =
-        (λ i. keys_kept (tool.key First) (ls First) i ++ keys_kept (tool.key Second) (ls Second) i)
-        ∙ sym (filter-append p (map (tool.key First) (ls First)) (map (tool.key Second) (ls Second)))
+        (λ i. keys_kept (key First) (ls First) i ++ keys_kept (key Second) (ls Second) i)
+        ∙ sym (filter-append p (map (key First) (ls First)) (map (key Second) (ls Second)))
 
     -- what is written of a part is what is written of the keys of the whole that go to it
-    pub by_keys_kept : by_keys tool all_keys (λ side. filter (λ line. p (tool.key side line)) (ls side)) ≡ by_keys tool p ls
+    pub by_keys_kept : by_keys tool all_keys (λ side. filter (λ line. p (key side line)) (ls side)) ≡ by_keys tool p ls
     by_keys_kept =
-        ap (flat_map (entries_of tool part)) (filter_true (distinct tool.cmp (keys tool part)) ∙ ap (distinct tool.cmp) keys_of_part ∙ sym (distinct_kept tool.cmp o (keys tool ls)))
-        ∙ each_of (filter p (distinct tool.cmp (keys tool ls))) (each_passes (distinct tool.cmp (keys tool ls)))
+        ap (flat_map (entries_of tool part)) (filter_true (distinct cmp (keys tool part)) ∙ ap (distinct cmp) keys_of_part ∙ sym (distinct_kept cmp o (keys tool ls)))
+        ∙ each_of (filter p (distinct cmp (keys tool ls))) (each_passes (distinct cmp (keys tool ls)))
       where
         each_of : (ds : Lines) → Each (λ k. p k ≡ true) ds → flat_map (entries_of tool part) ds ≡ flat_map (entries_of tool ls) ds
         each_of [] e = refl
-        each_of (d ∷ ds) e = λ i. tool.entries d (with_key_kept (tool.key First) d (ls First) e.0 i) (with_key_kept (tool.key Second) d (ls Second) e.0 i) ++ each_of ds e.1 i
+        each_of (d ∷ ds) e = λ i. entries d (with_key_kept (key First) d (ls First) e.0 i) (with_key_kept (key Second) d (ls Second) e.0 i) ++ each_of ds e.1 i
 
 -- ---- in some order
 
