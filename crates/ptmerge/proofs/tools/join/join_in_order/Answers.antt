@@ -88,9 +88,6 @@ returns-in-Stop g c =
 pub gather-requires-clause-stands : goal.gather-requires-clause-stands
 gather-requires-clause-stands g c = gather_stands c.turns.invariant.turn c.in-Gathering.is
 
-pub gather-requires-clause-group : goal.gather-requires-clause-group
-gather-requires-clause-group g c = c.turns.invariant.turn.phased.end_in
-
 pub returns-in_err-end-in-Gathering : goal.returns-in_err-end-in-Gathering
 returns-in_err-end-in-Gathering g c =
     let i = c.turns.invariant in
