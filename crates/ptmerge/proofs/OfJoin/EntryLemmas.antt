@@ -63,7 +63,8 @@ abbrev pub item_of : Join → List ℕ → Option (List ℕ) → Option (List �
 item_of job k one two i = filled job.empty (named i k (fields_left job.separator one) (fields_left job.separator two))
 
 -- the entry of a list begins with its first item
-pub entry_listed : (job : Join) (k : List ℕ) (one two : Option (List ℕ)) (items : List OutField) (d : OutField) → job.list ≡ Some items → 1 ≤ length items → {bytes : List ℕ} → bytes ≡ item_of job k one two (get_or items 0 d)
+pub entry_listed : (job : Join) (k : List ℕ) (one two : Option (List ℕ)) (items : List OutField) (d : OutField) → job.list ≡ Some items → 1 ≤ length items
+    → {bytes : List ℕ} → bytes ≡ item_of job k one two (get_or items 0 d)
     → entry job k (fields_left job.separator one) (fields_left job.separator two)
     ≡ bytes ++ led (between job.separator) (map (item_of job k one two) (take (length items - 1) (drop 1 items)))
 entry_listed job k one two items d is some {bytes} first =

@@ -115,7 +115,8 @@ module _ {call : Call} {now : State} {place : Side → Sorted} {end : ℕ} (r : 
     pub not_sent : out.faulted ≡ true → IsMerge tool old (record now { out = out }) (Err Write)
     not_sent fault =
         halts o _ _ r.q.within (starts_none call r.q.within) (rw (laws.none r.k r.g) at wrote_still) (standing r.q)
-        (record { faulted = fault; failed = went r.q; denied = r.q.keeps.denied }) (λ side. not_failed call side (went r.q side)) (λ input pushed. tt) (fits_kept call r.q.keeps now.store (omega arith) refl)
+        (record { faulted = fault; failed = went r.q; denied = r.q.keeps.denied }) (λ side. not_failed call side (went r.q side)) (λ input pushed. tt)
+        (fits_kept call r.q.keeps now.store (omega arith) refl)
 
   -- the second input went on
   module _ {reader : Reader} {next : Sorted} {made : Slots} (comes : Comes (key Second) cmp (place Second) next (now.reader Second) reader now.store made) where

@@ -270,7 +270,8 @@ put_more First ls now more e = ([], sym (append-nil (ls Second)))
 put_more Second ls now more e = (more, e)
 
 -- an input goes to its next line
-pub keeping_next : {key own : Key} {before store after : Slots} {ls : Side → Lines} {g : Lines} {cmp : Cmp} {end : ℕ} {old new : Reader} {next : Sorted} {last : Option (List ℕ)} (s : Side) (place : Sorted)
+pub keeping_next : {key own : Key} {before store after : Slots} {ls : Side → Lines} {g : Lines} {cmp : Cmp} {end : ℕ} {old new : Reader} {next : Sorted}
+    {last : Option (List ℕ)} (s : Side) (place : Sorted)
     → HasSlots s place → Keeping key before store ls g → (n : Next end cmp own old new next place.previous store after (ls s) last) → Keeping key before after (put s n.now_ls ls) g
 keeping_next {key} {own} {before} {store} {after} {ls} s place slots k n = keeping_line s place slots n.bytes k
     (put_each (λ side (l : Lines). longest (ls side) ≤ longest l) s n.now_ls ls n.longer (λ side. omega arith))

@@ -152,7 +152,8 @@ module _ (call : Call) {was mid : Output} {p g : Side → Lines} {d : Side → B
         let none : with_key (key Second) (r Second) k ≡ [] = with_key-above tool o (key Second) k (r Second) (above (r Second) (c Second)) in
         let s = starts_pairs (g First) (with_key (key First) (r First) k) (g Second) some in (
           s.0 ++ by_keys tool w (others_of tool o k r),
-          front w r (λ side. m.beyond side (r side) (c side)) ∙ (rw (wanted, none, append-nil (g Second), s.1) (append_assoc (pairs k (g First) (g Second)) s.0 (by_keys tool w (others_of tool o k r)))),
+          front w r (λ side. m.beyond side (r side) (c side))
+              ∙ (rw (wanted, none, append-nil (g Second), s.1) (append_assoc (pairs k (g First) (g Second)) s.0 (by_keys tool w (others_of tool o k r)))),
         );
   }
 
@@ -345,8 +346,10 @@ module _ {call : Call} {now : State} {place : Side → Sorted} {end : ℕ} {k : 
     pub others_stay : (line after (place (other s)).standing ≡ line now.store (place (other s)).standing) × (line after (place (other s)).previous ≡ line now.store (place (other s)).previous)
     others_stay =
         let n = gone_to in
-        let apart = slots_apart s (place s) (place (other s)) (l.slots s) (l.slots (other s)) in
-        (rw n.stored (line_other now.store (place s).previous (place (other s)).standing n.bytes apart.0), rw n.stored (line_other now.store (place s).previous (place (other s)).previous n.bytes apart.1))
+        let apart = slots_apart s (place s) (place (other s)) (l.slots s) (l.slots (other s)) in (
+          rw n.stored (line_other now.store (place s).previous (place (other s)).standing n.bytes apart.0),
+          rw n.stored (line_other now.store (place s).previous (place (other s)).previous n.bytes apart.1),
+        )
 
     pub last_stays : line after next.previous ≡ head_of now place s
     last_stays =

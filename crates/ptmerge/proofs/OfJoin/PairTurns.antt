@@ -214,7 +214,8 @@ module _ {call : Call} {now : State} {place : Side → Sorted} {end : ℕ} (r : 
       begins : StartsWith tool (grown now place First r.g) r.q.d r.k (pairs r.k (r.g First ++ z) (r.g Second))
       begins = starts call (within_more at_line) r.some r.above
 
-      pub pair_stops : {reader : Reader} {after : Slots} {fault : MergeFault} → NotPassed now First (place First) reader after new fault → IsMerge tool old (moved now First reader new after) (Err fault)
+      pub pair_stops : {reader : Reader} {after : Slots} {fault : MergeFault} → NotPassed now First (place First) reader after new fault
+          → IsMerge tool old (moved now First reader new after) (Err fault)
       pair_stops {reader} (inl e) = same_state _ _ First now _ reader _ _ e.0 e.1
           (halts o old (record now { out = new }) {now = now.reader} {piece = λ side. []} {ls = r.q.ls} (within_more at_line) begins wrote_more
           (elim [ First ↦ passing at_line (now.reader First) [] (reads_nothing (now.reader First)) tt (r.q.sides First).sound First | Second ↦ standing r.q Second ])

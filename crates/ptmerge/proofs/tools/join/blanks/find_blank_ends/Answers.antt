@@ -1,5 +1,5 @@
-use Rattle.std.proofs.Common.{◌≡◌, ◌+◌, ◌-◌, ℕ, Option, length, subst, arith}
-use Rattle.memchr.specs.Find.{IsFirst, Passes}
+use Rattle.std.proofs.Common.{◌≡◌, ◌+◌, ◌-◌, length, arith}
+use Rattle.memchr.specs.Find.{Passes}
 use Rattle.ptlines.proofs.Masks.{first_behind}
 use Rattle.ptmerge.specs.Join.{is_blank}
 use Rattle.ptmerge.proofs.tools.join.blanks.find_blank_ends.Goals as goal
