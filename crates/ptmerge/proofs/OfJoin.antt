@@ -1,16 +1,12 @@
 -- `join`.
 pub mod Amid
 pub mod EntryLemmas
-pub mod FieldLemmas
 pub mod FieldSpans
 pub mod GatherTurns
 pub mod GroupSlots
 pub mod GroupStops
 pub mod GroupTurns
-pub mod JoinEntries
 pub mod JoinRows
-pub mod JoinSlots
-pub mod JoinTurns
 pub mod Lanes
 pub mod PairTurns
 pub mod Turns

@@ -1,6 +1,5 @@
 -- Tools over two inputs that are cut into parts, or dealt out by their keys.
 pub mod PartsByKey
 pub mod PartsInOrder
-pub mod PartsLaws
 pub mod PartsOfKeys
 pub mod PartsRows

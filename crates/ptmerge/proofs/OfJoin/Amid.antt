@@ -1,5 +1,6 @@
 -- What was pushed of some bytes, and what is still to be pushed.
-use Rattle.std.proofs.Common.{◌≡◌, true, false, ℕ, List, [], ◌++◌, refl, sym, ◌∙◌, subst, append_assoc}
+use Rattle.std.proofs.Common.{◌≡◌, true, false, ℕ, List, [], ◌∷◌, ◌++◌, refl, sym, ◌∙◌, append_assoc}
+use Rattle.std.specs.List.{flat_map}
 use Rattle.std.proofs.lemmas.List.{append-nil}
 use Rattle.ptlines.specs.Outputs.{Output, Wrote}
 use Rattle.ptlines.proofs.Pushed.{wrote_trans, wrote_past, wrote_nothing}
@@ -11,29 +12,36 @@ pub record Amid (was is : Output) (all left : List ℕ) : Type 0 where
   pub wrote : Wrote was is done
   pub clean : is.faulted ≡ false
 
-pub amid_starts : (was : Output) (all : List ℕ) → was.faulted ≡ false → Amid was was all all
-amid_starts was all clean = record { done = []; split = refl; wrote = wrote_nothing was; clean = clean }
+pub amid_starts : {was : Output} {all left : List ℕ} → all ≡ left → was.faulted ≡ false → Amid was was all left
+amid_starts {was} is clean = record { done = []; split = is; wrote = wrote_nothing was; clean = clean }
 
-pub amid_as : (was is : Output) (all left same : List ℕ) → left ≡ same → Amid was is all left → Amid was is all same
-amid_as was is all left same e a = subst (λ (l : List ℕ). Amid was is all l) e a
+-- a push failed, of the first bytes or of others
+pub first_fails : {was new : Output} {all bytes : List ℕ} (left : List ℕ) → all ≡ bytes ++ left → Wrote was new bytes → new.faulted ≡ true → Wrote was new all
+first_fails {was} {new} {all} {bytes} left is wrote fault = rw is (wrote_past was new bytes left fault wrote)
 
-pub amid_more : (was is new : Output) (all bytes left : List ℕ) → Amid was is all (bytes ++ left) → Wrote is new bytes → new.faulted ≡ false → Amid was new all left
-amid_more was is new all bytes left a wrote clean = record {
+pub amid_fails : {was is new : Output} {all bytes now : List ℕ} (left : List ℕ) → now ≡ bytes ++ left → Amid was is all now → Wrote is new bytes → new.faulted ≡ true → Wrote was new all
+amid_fails {was} {is} {new} {all} {bytes} left e a wrote fault =
+    first_fails left (a.split ∙ (rw e (sym (append_assoc a.done bytes left)))) (wrote_trans was is new a.done bytes a.clean a.wrote wrote) fault
+
+pub amid_more : {was is new : Output} {all bytes now left : List ℕ} → now ≡ bytes ++ left → Amid was is all now → Wrote is new bytes → new.faulted ≡ false → Amid was new all left
+amid_more {was} {is} {new} {all} {bytes} {now} {left} e a wrote clean = record {
   done = a.done ++ bytes;
-  split = a.split ∙ sym (append_assoc a.done bytes left);
+  split = a.split ∙ (rw e (sym (append_assoc a.done bytes left)));
   wrote = wrote_trans was is new a.done bytes a.clean a.wrote wrote;
   clean = clean;
 }
 
--- a push failed
-pub amid_fails : (was is new : Output) (all bytes left : List ℕ) → Amid was is all (bytes ++ left) → Wrote is new bytes → new.faulted ≡ true → Wrote was new all
-amid_fails was is new all bytes left a wrote fault =
-    subst (λ (l : List ℕ). Wrote was new l) (append_assoc a.done bytes left ∙ sym a.split) (wrote_past was new (a.done ++ bytes) left fault (wrote_trans was is new a.done bytes a.clean a.wrote wrote))
-
 -- the last bytes are pushed, or a push of them failed
-pub amid_ends : (was is new : Output) (all bytes : List ℕ) → Amid was is all bytes → Wrote is new bytes → Wrote was new all
-amid_ends was is new all bytes a wrote = subst (λ (l : List ℕ). Wrote was new l) (sym a.split) (wrote_trans was is new a.done bytes a.clean a.wrote wrote)
+pub amid_ends : {was is new : Output} {all bytes now : List ℕ} → now ≡ bytes → Amid was is all now → Wrote is new bytes → Wrote was new all
+amid_ends {was} {is} {new} {all} {bytes} e a wrote = rw (a.split, e) (wrote_trans was is new a.done bytes a.clean a.wrote wrote)
 
--- nothing is left
-pub amid_done : (was is : Output) (all : List ℕ) → Amid was is all [] → Wrote was is all
-amid_done was is all a = subst (λ (l : List ℕ). Wrote was is l) (sym (a.split ∙ append-nil a.done)) a.wrote
+-- what is pushed of each of some things, one after another
+module _ {X : Type 0} (f : X → List ℕ) {xs more : List X} {x : X} (is : xs ≡ x ∷ more) {was now new : Output} {all : List ℕ} (a : Amid was now all (flat_map f xs)) (wrote : Wrote now new (f x)) where
+  pub each_more : new.faulted ≡ false → Amid was new all (flat_map f more)
+  each_more = amid_more (rw is refl) a wrote
+
+  pub each_fails : new.faulted ≡ true → Wrote was new all
+  each_fails = amid_fails (flat_map f more) (rw is refl) a wrote
+
+pub each_done : {X : Type 0} (f : X → List ℕ) {xs : List X} → xs ≡ [] → {was is : Output} {all : List ℕ} → Amid was is all (flat_map f xs) → Wrote was is all
+each_done f e a = rw (a.split, e, append-nil) a.wrote

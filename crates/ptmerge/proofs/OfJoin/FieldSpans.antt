@@ -1,16 +1,56 @@
--- Where the fields of a line stand in it.
-use Rattle.std.proofs.Common.{◌≡◌, ℕ, zero, suc, ◌+◌, ◌-◌, ◌<◌, ◌≤◌, ◌==◌, Bool, true, false, cond, ltb, List, [], ◌∷◌, ◌++◌, Option, Some, None, length, take, drop}
-use Rattle.std.proofs.Common.{get_or, refl, sym, ◌∙◌, ap, subst, arith, append_assoc}
-use Rattle.std.specs.Prelude.{IfSome, MatchOption, filter, is_some, position, unwrap_or}
+-- The fields of a line, one after another, and where they stand in it.
+use Rattle.std.proofs.Common.{◌≡◌, ℕ, suc, ◌+◌, ◌-◌, ◌≤◌, Bool, true, false, ltb, List, [], ◌∷◌, Option, None, Some, length, drop, get_or, refl, sym, ◌∙◌, ap, arith, zero}
+use Rattle.std.proofs.Common.{◌<◌, ◌==◌, cond, ◌++◌, take, append_assoc}
+use Rattle.std.specs.Prelude.{position, IfSome, MatchOption, filter, is_some}
 use Rattle.std.specs.List.{position_or_len, slice_split}
+use Rattle.std.proofs.lemmas.Bool.Decides.{nat_tests}
+use Rattle.std.proofs.lemmas.List.{drop-drop, drop_all, get_or_past, length-drop, take-append-drop, take_all}
+use Rattle.std.proofs.lemmas.List.Sums.{position_or_len_is}
+use Rattle.memchr.specs.Find.{IsFirstByte}
+use Rattle.ptmerge.specs.Join.{nth_field, has_bytes, is_blank}
+use Rattle.ptmerge.specs.Keyed.{Lines}
 use Rattle.std.proofs.Math.Seq.{drop-cons}
 use Rattle.std.proofs.lemmas.Bool.{false≢true}
-use Rattle.std.proofs.lemmas.Bool.Decides.{nat_tests}
-use Rattle.std.proofs.lemmas.List.{length-drop, take-append-drop, take_all}
+use Rattle.std.proofs.lemmas.List.Quantifiers.{position-Some}
 use Rattle.ptlangs.proofs.Elements.{split_around, split_whole}
-use Rattle.ptmerge.specs.Join.{has_bytes, is_blank, nth_field}
 use Rattle.ptmerge.specs.JoinFields.{EndsFirst, IsFieldIn, IsPiece, ends_field, fields_left}
 use Rattle.ptmerge.specs.Spans.{IsSpan}
+
+-- ---- where a field ends
+
+not_true : (t : Bool) → ¬ (t ≡ true) → t ≡ false
+not_true true h = absurd (h refl)
+not_true false h = refl
+
+pub found_at : (test : ℕ → Bool) (bytes : List ℕ) (r : Option ℕ) → IsFirstByte test bytes r → r ≡ position test bytes
+found_at test bytes None none =
+    let is : position_or_len test bytes ≡ length bytes = position_or_len_is test bytes (length bytes) 0 (omega arith)
+    (λ k lt. not_true (test (get_or bytes k 0)) (none k (omega arith) lt)) (λ bad. absurd (omega (arith, bad))) in
+    let past : ltb (length bytes) (length bytes) ≡ false = grind (arith, nat_tests) in
+    rw (is, past) refl
+found_at test bytes (Some at) first =
+    let is : position_or_len test bytes ≡ at = position_or_len_is test bytes at 0 (omega (arith, first.0.high))
+    (λ k lt. not_true (test (get_or bytes k 0)) (first.0.before k (omega arith) lt)) (λ _. first.1) in
+    let within : ltb at (length bytes) ≡ true = grind (arith, nat_tests, first.0.high) in
+    rw (is, within) refl
+
+-- ---- the field of a number
+
+pub nth_none : (n : ℕ) (fs : Lines) → drop (n - 1) fs ≡ [] → nth_field n fs ≡ []
+nth_none n fs none = get_or_past fs (n - 1) [] (omega (arith, ap length none, length-drop (n - 1) fs))
+
+pub dropped_none : (fs : Lines) (i k : ℕ) → drop i fs ≡ [] → i ≤ k → drop k fs ≡ []
+dropped_none fs i k none le = drop_all k fs (omega (arith, ap length none, length-drop i fs, le))
+
+pub dropped_more : (fs more : Lines) (f : List ℕ) (i : ℕ) → drop i fs ≡ f ∷ more → drop (i + 1) fs ≡ more
+dropped_more fs more f i some = sym (drop-drop 1 i fs) ∙ ap (drop 1) some
+
+-- how much is left of a line
+abbrev pub left_length : Option (List ℕ) → ℕ
+left_length None = 0
+left_length (Some bytes) = suc (length bytes)
+
+-- ---- where fields stand
 
 -- the end of a line
 abbrev pub EndOf : List ℕ → List ℕ → Type 0
@@ -20,54 +60,29 @@ EndOf line left = (front : List ℕ) × (line ≡ front ++ left)
 abbrev pub LeftOf : Option (List ℕ) → Option (List ℕ) → Type 0
 LeftOf line left = IfSome left (λ b. MatchOption line ⊥ (λ l. EndOf l b))
 
-pub left_whole : (line : Option (List ℕ)) → LeftOf line line
-left_whole None = tt
-left_whole (Some l) = ([], refl)
-
 -- a piece of the end of a line is a piece of the line
-pub piece_in : (line bytes field : List ℕ) (behind : Option (List ℕ)) → EndOf line bytes → IsPiece bytes field behind → IsPiece line field behind
-piece_in line bytes field behind e p = record { front = e.0 ++ p.front; tail = p.tail; is = e.1 ∙ ap (λ (l : List ℕ). e.0 ++ l) p.is ∙ sym (append_assoc e.0 p.front (field ++ p.tail)); ends = p.ends }
+piece_in : {line bytes field : List ℕ} {behind : Option (List ℕ)} → EndOf line bytes → IsPiece bytes field behind → IsPiece line field behind
+piece_in e p = record { front = e.0 ++ p.front; tail = p.tail; is = rw (e.1, p.is) (simp append_assoc); ends = p.ends }
 
-pub field_in : (line : Option (List ℕ)) (bytes field : List ℕ) (behind : Option (List ℕ)) → LeftOf line (Some bytes) → IsPiece bytes field behind → IsFieldIn line field behind
-field_in None bytes field behind e p = absurd e
-field_in (Some l) bytes field behind e p = piece_in l bytes field behind e p
+pub field_in : (line : Option (List ℕ)) {bytes field : List ℕ} {behind : Option (List ℕ)} → LeftOf line (Some bytes) → IsPiece bytes field behind → IsFieldIn line field behind
+field_in None e p = absurd e
+field_in (Some l) e p = piece_in e p
 
--- what is left behind a piece is the end of the line too
-pub end_behind : (line field left : List ℕ) → IsPiece line field (Some left) → EndOf line left
-end_behind line field left p = (
-  p.front ++ (field ++ (p.ends.0 ∷ [])),
-  p.is ∙ ap (λ (l : List ℕ). p.front ++ (field ++ l)) p.ends.1
-      ∙ ap (λ (l : List ℕ). p.front ++ l) (sym (append_assoc field (p.ends.0 ∷ []) left)) ∙ sym (append_assoc p.front (field ++ (p.ends.0 ∷ [])) left),
-)
-
-pub end_of_end : (line bytes left : List ℕ) → EndOf line bytes → EndOf bytes left → EndOf line left
-end_of_end line bytes left a b = (a.0 ++ b.0, a.1 ∙ ap (λ (l : List ℕ). a.0 ++ l) b.1 ∙ sym (append_assoc a.0 b.0 left))
-
-pub left_behind : (line : Option (List ℕ)) (bytes field : List ℕ) (behind : Option (List ℕ)) → LeftOf line (Some bytes) → IsPiece bytes field behind → LeftOf line behind
-left_behind line bytes field None e p = tt
-left_behind None bytes field (Some left) e p = absurd e
-left_behind (Some l) bytes field (Some left) e p = end_of_end l bytes left e (end_behind bytes field left p)
+-- what is left behind a piece of the end of a line is the end of the line too
+pub left_behind : (line : Option (List ℕ)) {bytes field : List ℕ} (behind : Option (List ℕ)) → LeftOf line (Some bytes) → IsPiece bytes field behind → LeftOf line behind
+left_behind line None e p = tt
+left_behind None (Some left) e p = absurd e
+left_behind (Some l) {field = field} (Some left) e p = (e.0 ++ (p.front ++ (field ++ (p.ends.0 ∷ []))), rw (e.1, p.is, p.ends.1) (simp append_assoc))
 
 pub left_next : (line left : Option (List ℕ)) (field : List ℕ) (behind : Option (List ℕ)) → LeftOf line left → IsFieldIn left field behind → LeftOf line behind
 left_next line None field behind e p = absurd p
-left_next line (Some bytes) field behind e p = left_behind line bytes field behind e p
+left_next line (Some bytes) field behind e p = left_behind line behind e p
 
 pub in_whole : (line : List ℕ) (left : Option (List ℕ)) (field : List ℕ) (behind : Option (List ℕ)) → LeftOf (Some line) left → IsFieldIn left field behind → IsPiece line field behind
 in_whole line None field behind e p = absurd p
-in_whole line (Some bytes) field behind e p = piece_in line bytes field behind e p
+in_whole line (Some bytes) field behind e p = piece_in e p
 
 -- ---- the first piece
-
-some_when : (t : Bool) (n i : ℕ) → cond t (Some n) None ≡ Some i → (t ≡ true) × (n ≡ i)
-some_when true n i h = (refl, ap (λ (o : Option ℕ). unwrap_or o 0) h)
-some_when false n i h = cc
-
-low : (i n : ℕ) → ltb i n ≡ true → i < n
-low i n h = grind (arith, nat_tests)
-
-located : (p : ℕ → Bool) (bytes : List ℕ) (at : ℕ) → position p bytes ≡ Some at → at < length bytes
-located p bytes at h = let t = some_when (ltb (position_or_len p bytes) (length bytes)) (position_or_len p bytes) at h in subst
-    (λ (n : ℕ). n < length bytes) t.1 (low (position_or_len p bytes) (length bytes) t.0)
 
 -- the bytes in front of the first one that passes, with those behind it left
 pub piece_at : (p : ℕ → Bool) (bytes : List ℕ) (at : ℕ) → position p bytes ≡ Some at → IsPiece bytes (take at bytes) (Some (take (length bytes - (at + 1)) (drop (at + 1) bytes)))
@@ -75,7 +90,7 @@ piece_at p bytes at is = record {
   front = [];
   tail = drop at bytes;
   is = sym (take-append-drop at bytes);
-  ends = (get_or bytes at 0, drop-cons bytes at 0 (located p bytes at is) ∙ (λ i. get_or bytes at 0 ∷ drop (step i) bytes) ∙ ap (λ (l : List ℕ). get_or bytes at 0 ∷ l) (sym rest));
+  ends = (get_or bytes at 0, drop-cons bytes at 0 ((position-Some p bytes at 0 is).0) ∙ (λ i. get_or bytes at 0 ∷ drop (step i) bytes) ∙ ap (λ (l : List ℕ). get_or bytes at 0 ∷ l) (sym rest));
 }
   where
     step : suc at ≡ at + 1
@@ -89,7 +104,7 @@ pub ends_at : (separator : Option ℕ) (bytes : List ℕ) (at : ℕ) → positio
 ends_at separator bytes at is = record {
   behind = slice_split (ends_field separator) (take (length bytes - (at + 1)) (drop (at + 1) bytes));
   is = split_around (ends_field separator) bytes at is;
-  within = omega (arith, located (ends_field separator) bytes at is);
+  within = omega (arith, (position-Some (ends_field separator) bytes at 0 is).0);
 }
 
 pub ends_whole : (separator : Option ℕ) (bytes : List ℕ) → position (ends_field separator) bytes ≡ None → EndsFirst separator bytes (length bytes)

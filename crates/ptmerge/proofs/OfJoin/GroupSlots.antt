@@ -1,19 +1,31 @@
--- The slots of a group of lines.
-use Rattle.std.proofs.Common.{◌≡◌, ◌⊎◌, inl, inr, ℕ, ◌+◌, ◌-◌, ◌≤◌, ◌<◌, Bool, true, false, length-drop, List, [], ◌∷◌, ◌++◌, length, map, take, drop, get_or}
-use Rattle.std.proofs.Common.{set, max, refl, sym, ap, ◌∙◌, subst, arith}
+-- What the store of `join` holds: two lines of each input, and behind them the slots of the group.
+use Rattle.std.proofs.Common.{◌≡◌, ◌⊎◌, ⊎_elim, inl, inr, ℕ, ◌+◌, ◌-◌, ◌≤◌, ◌<◌, true, false, length-drop, List, [], ◌∷◌, ◌++◌, length, map, take, drop, get_or, set}
+use Rattle.std.proofs.Common.{max, refl, sym, ap, ◌∙◌, subst, arith, ◌*◌, cond, Option, append_assoc, length-append}
 use Rattle.std.proofs.lemmas.List.{append-nil, length-set, length-take-le, drop_more, get_or-take, get_or-drop, drop-set-add, take_more, length_push, drop_all}
-use Rattle.std.specs.Prelude.{nat_lt}
-use Rattle.std.proofs.lemmas.Bool.{ltb-false, ltb-true}
-use Rattle.std.proofs.lemmas.List.Sums.{sum_by_push}
+use Rattle.std.proofs.lemmas.List.{drop-append-le, drop-set-lt, set_at, take_at}
+use Rattle.std.specs.Prelude.{bytes_eq}
+use Rattle.std.proofs.lemmas.List.Sums.{sum_by_push, sum_by-append, sum_by-cons}
 use Rattle.ptlines.specs.Slots.{Slots, line, total, with_line, with_added, with_denied}
-use Rattle.ptlines.specs.Text.{text}
+use Rattle.ptlines.specs.Text.{text, longest}
 use Rattle.ptlines.proofs.Counted.{total_set}
 use Rattle.ptlangs.specs.Jobs.{Join}
+use Rattle.ptmerge.specs.Groups.{IsGroupCleared, IsGrown, IsRefused, group, IsKept}
+use Rattle.ptmerge.specs.Join.{entry, fields, pairs_of, greatest_of, largest_group, most_lines}
+use Rattle.ptmerge.specs.Keyed.{Lines, with_key}
+use Rattle.ptmerge.proofs.OfMerges.Slotted.{line_other, HasLines, Keeps, has_lines_total, line_added, set_line}
+use Rattle.std.specs.Cmp.Lexicographic.{bytes_decides}
+use Rattle.std.proofs.Math.ListN.{get_or-append}
+use Rattle.ptlines.specs.Readers.{Reader}
+use Rattle.ptmerge.specs.declared.order.Side.{Side}
 use Rattle.ptmerge.specs.declared.order.Side.TheVariants.{First, Second}
-use Rattle.ptmerge.specs.Groups.{IsGroupCleared, IsGrown, IsRefused, group}
-use Rattle.ptmerge.specs.Join.{alone_entry, entry, fields, join_key, pairs_of}
-use Rattle.ptmerge.specs.Keyed.{Lines}
-use Rattle.ptmerge.proofs.OfMerges.Slotted.{line_other}
+use Rattle.ptmerge.specs.declared.merging.sorted.Sorted.{Sorted}
+use Rattle.ptmerge.specs.Orders.{Cmp, Key}
+use Rattle.ptmerge.specs.Places.{HasSlots}
+use Rattle.ptmerge.specs.Sides.{put}
+use Rattle.ptmerge.proofs.OfMerges.Least.{EachKey}
+use Rattle.ptmerge.proofs.OfMerges.Pairs.{put_each, put_same}
+use Rattle.ptmerge.proofs.OfMerges.Standing.{Next}
+use Rattle.ptmerge.proofs.OfMerges.Turning.{own_slots}
 
 -- the lines of the group from a slot on
 pub group_from : (store : Slots) (from end slot : ℕ) → end ≤ length store.lines → from ≤ slot → slot < end
@@ -48,16 +60,12 @@ group_one store slot within =
 
 -- ---- what is written
 
-module _ (job : Join) (end : ℕ) (line : List ℕ) where
-  pub alone_text1 : job.unpaired1 ≡ true → text end (alone_entry job First line) ≡ entry job (join_key job First line) (fields job.separator line) [] ++ end ∷ []
-  alone_text1 asked = rw asked (append-nil (entry job (join_key job First line) (fields job.separator line) [] ++ end ∷ []))
+-- the entry of two lines of a key
+abbrev pub pair_of : Join → List ℕ → List ℕ → List ℕ → List ℕ
+pair_of job k first second = entry job k (fields job.separator first) (fields job.separator second)
 
-  pub alone_text2 : job.unpaired2 ≡ true → text end (alone_entry job Second line) ≡ entry job (join_key job Second line) [] (fields job.separator line) ++ end ∷ []
-  alone_text2 asked = rw asked (append-nil (entry job (join_key job Second line) [] (fields job.separator line) ++ end ∷ []))
-
-  pub pairs_text : (k : List ℕ) (g : Lines) → job.pairs ≡ true
-      → text end (pairs_of job k (line ∷ []) g) ≡ text end (map (λ b. entry job k (fields job.separator line) (fields job.separator b)) g)
-  pairs_text k g asked = rw asked (ap (text end) (append-nil (map (λ b. entry job k (fields job.separator line) (fields job.separator b)) g)))
+pub pairs_text : (job : Join) (end : ℕ) (x k : List ℕ) (g : Lines) → job.pairs ≡ true → text end (pairs_of job k (x ∷ []) g) ≡ text end (map (pair_of job k x) g)
+pairs_text job end x k g asked = rw asked (ap (text end) (append-nil (map (pair_of job k x) g)))
 
 -- ---- clearing
 
@@ -65,7 +73,7 @@ pub clears_none : (s : Slots) → IsGroupCleared s s 4
 clears_none s = record { slots = refl; others = λ i _. refl; emptied = omega arith; less = omega arith; peak = omega arith; denied = refl }
 
 pub clears_more : (a s t : Slots) (slot : ℕ) → 4 ≤ slot → slot < length a.lines → IsGroupCleared a s slot → t ≡ with_line s slot [] → IsGroupCleared a t (slot + 1)
-clears_more a s t slot from within c is = subst (λ u. IsGroupCleared a u (slot + 1)) (sym is) (record {
+clears_more a s t slot from within c is = rw is (record {
   slots = length-set s.lines slot [] ∙ c.slots;
   others = others;
   emptied = omega (arith, here, c.emptied, grows);
@@ -107,16 +115,10 @@ added_total s = omega (arith, sum_by_push length s.lines [])
 
 -- how many slots there are where one was made
 pub grown_slots : (before made : Slots) (slot : ℕ) → IsGrown before made slot → (length before.lines ≤ length made.lines) × (length made.lines ≤ max (length before.lines) (slot + 1))
-grown_slots before made slot g = by g.grown (nat_lt slot (length before.lines)) refl
-  where
-    by : (made ≡ before) ⊎ (made ≡ with_added before) → (b : Bool) → nat_lt slot (length before.lines) ≡ b → (length before.lines ≤ length made.lines)
-        × (length made.lines ≤ max (length before.lines) (slot + 1))
-    by (inl e) b is = let same = ap (λ (s : Slots). length s.lines) e in (omega (arith, same), omega (arith, same))
-    by (inr e) true is = let same = ap (λ (s : Slots). length s.lines) (g.there (ltb-true slot (length before.lines) is)) in (omega (arith, same), omega (arith, same))
-    by (inr e) false is =
-        let more = ap (λ (s : Slots). length s.lines) e ∙ length_push before.lines [] in
-        let past = ltb-false slot (length before.lines) is in
-        (omega (arith, more), omega (arith, more, past))
+grown_slots before made slot g =
+    let kept : slot < length before.lines → length made.lines ≡ length before.lines = λ low. ap (λ (s : Slots). length s.lines) (g.there low) in
+    ⊎_elim (λ e. let same = ap (λ (s : Slots). length s.lines) e in (omega (arith, same), omega (arith, same)))
+    (λ e. let more = ap (λ (s : Slots). length s.lines) e ∙ length_push before.lines [] in (omega (arith, more), grind (arith, more, kept))) g.grown
 
 pub refused_copy : (before made : Slots) (to : ℕ) → IsGrown before made to → IsRefused before (with_denied (with_line made to [])) to
 refused_copy before made to g = record {
@@ -128,5 +130,256 @@ refused_copy before made to g = record {
 }
   where
     facts : (made ≡ before) ⊎ (made ≡ with_added before) → (length before.lines ≤ length made.lines) × (total made.lines ≡ total before.lines) × (made.peak ≡ before.peak)
-    facts (inl e) = (omega (arith, ap (λ (s : Slots). length s.lines) e), ap (λ (s : Slots). total s.lines) e, ap (λ (s : Slots). s.peak) e)
-    facts (inr e) = (omega (arith, ap (λ (s : Slots). length s.lines) e, length_push before.lines []), ap (λ (s : Slots). total s.lines) e ∙ added_total before, ap (λ (s : Slots). s.peak) e)
+    facts (inl e) = rw e (omega arith, refl, refl)
+    facts (inr e) = rw e (omega (arith, length_push before.lines []), added_total before, refl)
+
+-- ---- the largest group
+
+-- a measure of lines that more lines do not make less
+record IsMeasure (m : Lines → ℕ) : Type 0 where
+  none : m [] ≡ 0
+  grows : (x : List ℕ) (xs : Lines) → m xs ≤ m (x ∷ xs)
+  both_grow : (x : List ℕ) (xs ys : Lines) → m xs ≤ m ys → m (x ∷ xs) ≤ m (x ∷ ys)
+
+by_bytes : IsMeasure total
+by_bytes = record {
+  none = refl;
+  grows = λ x xs. omega (arith, sum_by-cons length x xs);
+  both_grow = λ x xs ys h. omega (arith, h, sum_by-cons length x xs, sum_by-cons length x ys);
+}
+
+by_lines : IsMeasure length
+by_lines = record { none = refl; grows = λ x xs. omega arith; both_grow = λ x xs ys h. omega (arith, h) }
+
+module _ (m : Lines → ℕ) (laws : IsMeasure m) (key : Key) where
+  with_key-own : (k : List ℕ) (g c : Lines) → EachKey (λ x. x ≡ k) key g → m g ≤ m (with_key key (g ++ c) k)
+  with_key-own k [] c e = omega (arith, laws.none)
+  with_key-own k (x ∷ g) c e = rw ((bytes_decides (key x) k).1 e.0) (laws.both_grow x g (with_key key (g ++ c) k) (with_key-own k g c e.1))
+
+  with_key-behind : (k : List ℕ) (p r : Lines) → m (with_key key r k) ≤ m (with_key key (p ++ r) k)
+  with_key-behind k [] r = omega arith
+  with_key-behind k (x ∷ p) r =
+      let ih = with_key-behind k p r in
+      elim (bytes_eq (key x) k) as (λ t. m (with_key key r k) ≤ m (cond t (x ∷ with_key key (p ++ r) k) (with_key key (p ++ r) k)))
+      [ true ↦ omega (arith, ih, laws.grows x (with_key key (p ++ r) k)) | false ↦ ih ]
+
+  greatest_has : (ls p : Lines) (y : List ℕ) (w : Lines) → m (with_key key ls (key y)) ≤ greatest_of m key ls (p ++ y ∷ w)
+  greatest_has ls [] y w = omega arith
+  greatest_has ls (x ∷ p) y w = omega (arith, greatest_has ls p y w)
+
+  -- lines of one key measure no more than the greatest group
+  measure_in : (k : List ℕ) (p g : Lines) (y : List ℕ) (w : Lines) → EachKey (λ x. x ≡ k) key (g ++ y ∷ []) → key y ≡ k → m (g ++ y ∷ [])
+      ≤ greatest_of m key (((p ++ g) ++ y ∷ []) ++ w) (((p ++ g) ++ y ∷ []) ++ w)
+  measure_in k p g y w own is =
+      let in_group : m (g ++ y ∷ []) ≤ m (with_key key ((p ++ g) ++ y ∷ w) (key y)) = rw (is, append_assoc p g (y ∷ w), ← append_assoc g (y ∷ []) w)
+      (omega (arith, with_key-own k (g ++ y ∷ []) w own, with_key-behind k p ((g ++ y ∷ []) ++ w))) in
+      rw (append_assoc (p ++ g) (y ∷ []) w) (omega (arith, in_group, greatest_has ((p ++ g) ++ y ∷ w) (p ++ g) y w))
+
+-- these lines are no more, in bytes and in number, than those of some key
+abbrev pub InGroup : Key → Lines → Lines → Type 0
+InGroup key g ls = (total g ≤ largest_group key ls) × (length g ≤ most_lines key ls)
+
+pub group_in : (key : Key) (k : List ℕ) (p g : Lines) (y : List ℕ) (w : Lines) → EachKey (λ x. x ≡ k) key (g ++ y ∷ []) → key y ≡ k → InGroup key (g ++ y ∷ []) (((p ++ g) ++ y ∷ []) ++ w)
+group_in key k p g y w own is = (measure_in total by_bytes key k p g y w own is, measure_in length by_lines key k p g y w own is)
+
+-- ---- what the slots hold
+
+drop_total : (xs : Lines) (m : Side → ℕ) (more : ℕ) → HasLines m more xs → total (drop 4 xs) ≡ more
+drop_total (a ∷ b ∷ c ∷ d ∷ rest) m more h = h.4
+drop_total xs m more h = absurd h
+
+-- the first four slots are the same, and behind them are so many bytes
+same_lines : (xs ys : Lines) (m : Side → ℕ) (more now : ℕ) → HasLines m more xs → 4 ≤ length ys → ((i : ℕ) → i < 4 → get_or ys i [] ≡ get_or xs i []) → total (drop 4 ys) ≡ now → HasLines m now ys
+same_lines (a ∷ b ∷ c ∷ d ∷ rest) (s ∷ t ∷ u ∷ v ∷ end) m more now h four same is =
+    let at = λ (i : ℕ) (low : i < 4). ap length (same i low) in
+    (omega (arith, h.0, at 0 (omega arith)), omega (arith, h.1, at 1 (omega arith)), omega (arith, h.2, at 2 (omega arith)), omega (arith, h.3, at 3 (omega arith)), is)
+same_lines (a ∷ b ∷ c ∷ d ∷ rest) ys m more now h four same is = absurd (omega (arith, four))
+same_lines xs ys m more now h four same is = absurd h
+
+-- The store of `join`: of these lines two of each input, and the lines of the group behind them.
+pub record Keeping (key : Key) (before store : Slots) (ls : Side → Lines) (g : Lines) : Type 0 where
+  pub tail : Lines
+  pub split : drop 4 store.lines ≡ g ++ tail
+  pub empty : total tail ≡ 0
+  pub lines : HasLines (λ side. longest (ls side)) (total g) store.lines
+  pub most : ℕ
+  pub fits : total g ≤ most
+  pub peak : store.peak ≤ max before.peak (2 * longest (ls First) + 2 * longest (ls Second) + most)
+  pub count : ℕ
+  pub known : (w : Lines) → (most ≤ largest_group key (ls Second ++ w)) × (count ≤ most_lines key (ls Second ++ w))
+  pub slots : length store.lines ≤ max (length before.lines) (4 + count)
+  pub least : length before.lines ≤ length store.lines
+  pub four : 4 ≤ length store.lines
+  pub denied : store.denied ≡ false
+
+pub keeping_starts : {key : Key} {before store : Slots} {ls : Side → Lines} → Keeps before store (λ side. longest (ls side)) → Keeping key before store ls []
+keeping_starts {key} {before} {store} {ls} k = record {
+  tail = drop 4 store.lines;
+  split = refl;
+  empty = drop_total store.lines (λ side. longest (ls side)) 0 k.lines;
+  lines = k.lines;
+  most = 0;
+  fits = omega arith;
+  peak = omega (arith, k.peak);
+  count = 0;
+  known = λ w. (omega arith, omega arith);
+  slots = omega (arith, k.slots);
+  least = omega (arith, k.slots);
+  four = omega (arith, k.slots);
+  denied = k.denied;
+}
+
+-- each input has its two slots
+abbrev pub AllSlots : (Side → Sorted) → Type 0
+AllSlots place = (side : Side) → HasSlots side (place side)
+
+-- the slots of an input are among the first four
+pub low_slot : (s : Side) (place : Sorted) → HasSlots s place → (place.standing < 4) × (place.previous < 4)
+low_slot First place h = let w = own_slots First place h in (omega (arith, w), omega (arith, w))
+low_slot Second place h = let w = own_slots Second place h in (omega (arith, w), omega (arith, w))
+
+-- a line of an input goes into the slot of the line before
+pub keeping_line : {key : Key} {before store after : Slots} {ls now : Side → Lines} {g : Lines} (s : Side) (place : Sorted) → HasSlots s place → (x : List ℕ) → Keeping key before store ls g
+    → ((side : Side) → longest (ls side) ≤ longest (now side)) → length x ≤ longest (now s) → (more : Lines) × (now Second ≡ ls Second ++ more) → after ≡ with_line store place.previous x
+    → Keeping key before after now g
+keeping_line {key} {before} {store} {after} {ls} {now} {g} s place slots x k up fit goes_on is = rw is (record {
+  tail = k.tail;
+  split = drop-set-lt 4 store.lines place.previous x (low_slot s place slots).1 ∙ k.split;
+  empty = k.empty;
+  lines = inside;
+  most = k.most;
+  fits = k.fits;
+  peak = omega (arith, k.peak, k.fits, up First, up Second, (has_lines_total (set store.lines place.previous x) (λ side. longest (now side)) (total g) inside).1);
+  count = k.count;
+  known = λ w. rw (goes_on.1, append_assoc (ls Second) goes_on.0 w) (k.known (goes_on.0 ++ w));
+  slots = omega (arith, k.slots, size);
+  least = omega (arith, k.least, size);
+  four = omega (arith, k.four, size);
+  denied = k.denied;
+})
+  where
+    inside : HasLines (λ side. longest (now side)) (total g) (set store.lines place.previous x)
+    inside = set_line s place store.lines (λ side. longest (ls side)) (λ side. longest (now side)) (total g) x slots k.lines up fit
+
+    size : length (set store.lines place.previous x) ≡ length store.lines
+    size = length-set store.lines place.previous x
+
+-- what an input's lines go on with, where one input went on
+pub put_more : (s : Side) (ls : Side → Lines) (now more : Lines) → now ≡ ls s ++ more → (m : Lines) × (put s now ls Second ≡ ls Second ++ m)
+put_more First ls now more e = ([], sym (append-nil (ls Second)))
+put_more Second ls now more e = (more, e)
+
+-- an input goes to its next line
+pub keeping_next : {key own : Key} {before store after : Slots} {ls : Side → Lines} {g : Lines} {cmp : Cmp} {end : ℕ} {old new : Reader} {next : Sorted}
+    {last : Option (List ℕ)} (s : Side) (place : Sorted)
+    → HasSlots s place → Keeping key before store ls g → (n : Next end cmp own old new next place.previous store after (ls s) last) → Keeping key before after (put s n.now_ls ls) g
+keeping_next {key} {own} {before} {store} {after} {ls} s place slots k n = keeping_line s place slots n.bytes k
+    (put_each (λ side (l : Lines). longest (ls side) ≤ longest l) s n.now_ls ls n.longer (λ side. omega arith))
+    (subst (λ (l : Lines). length n.bytes ≤ longest l) (sym (put_same s n.now_ls ls)) n.fits) (put_more s ls n.now_ls n.more n.goes_on) n.stored
+
+-- where the slots were made that were missing
+record Grown (store made : Slots) (g : Lines) (to : ℕ) : Type 0 where
+  tail : Lines
+  split : drop 4 made.lines ≡ g ++ tail
+  empty : total tail ≡ 0
+  same : (i : ℕ) → i < 4 → line made i ≡ line store i
+  slots : (length store.lines ≤ length made.lines) × (length made.lines ≤ max (length store.lines) (to + 1))
+  peak : made.peak ≡ store.peak
+  denied : made.denied ≡ store.denied
+
+module _ {key : Key} {before store : Slots} {ls : Side → Lines} {g : Lines} (k : Keeping key before store ls g) where
+  grown : (made : Slots) (to : ℕ) → IsGrown store made to → Grown store made g to
+  grown made to made_so =
+      let slots = grown_slots store made to made_so in
+      ⊎_elim (λ e. rw e (record { tail = k.tail; split = k.split; empty = k.empty; same = λ i low. refl; slots = rw e at slots; peak = refl; denied = refl }))
+      (λ e. rw e (record {
+        tail = k.tail ++ [] ∷ [];
+        split = drop-append-le 4 store.lines ([] ∷ []) k.four ∙ ap (λ (l : Lines). l ++ [] ∷ []) k.split ∙ append_assoc g k.tail ([] ∷ []);
+        empty = omega (arith, sum_by_push length k.tail [], k.empty);
+        same = λ i low. line_added store i;
+        slots = rw e at slots;
+        peak = refl;
+        denied = refl;
+      })) made_so.grown
+
+  -- what keeping a line behind the group leaves
+  pub record Kept (after : Slots) (y : List ℕ) : Type 0 where
+    pub keeping : Keeping key before after ls (g ++ y ∷ [])
+    pub same : (i : ℕ) → i < 4 → line after i ≡ line store i
+
+  module _ (made : Slots) (to : ℕ) (y : List ℕ) (at : to ≡ 4 + length g) (w : Grown store made g to) (within : to < length made.lines)
+      (largest : (l : Lines) → InGroup key (g ++ y ∷ []) (ls Second ++ l)) where
+    first_same : (i : ℕ) → i < 4 → get_or (set made.lines to y) i [] ≡ get_or store.lines i []
+    first_same i low = line_other made to i y (λ e. absurd (omega (arith, at, e))) ∙ w.same i low
+
+    by_tail : (t : Lines) → total t ≡ 0 → length g + 1 ≤ length (g ++ t) → drop 4 (set made.lines to y) ≡ set (g ++ t) (length g) y → Keeping key before (with_line made to y) ls (g ++ y ∷ [])
+    by_tail [] none some is = absurd (omega (arith, some, length-append g []))
+    by_tail (z ∷ t) none some is =
+        let split : drop 4 (set made.lines to y) ≡ (g ++ y ∷ []) ++ t = is ∙ set_at g z t y (length g) refl ∙ sym (append_assoc g (y ∷ []) t) in
+        let empty : total t ≡ 0 = omega (arith, none, sum_by-cons length z t) in
+        let sum : total (drop 4 (set made.lines to y)) ≡ total (g ++ y ∷ []) = omega (arith, ap total split, sum_by-append length (g ++ y ∷ []) t, empty) in
+        let size = length-set made.lines to y in
+        let four : 4 ≤ length (set made.lines to y) = omega (arith, k.four, w.slots, size) in
+        let inside = same_lines store.lines (set made.lines to y) (λ side. longest (ls side)) (total g) (total (g ++ y ∷ [])) k.lines four first_same sum in
+        record {
+          tail = t;
+          split = split;
+          empty = empty;
+          lines = inside;
+          most = max k.most (total (g ++ y ∷ []));
+          fits = omega arith;
+          peak = omega (arith, k.peak, w.peak, (has_lines_total (set made.lines to y) (λ side. longest (ls side)) (total (g ++ y ∷ [])) inside).1);
+          count = max k.count (length (g ++ y ∷ []));
+          known = λ l. (omega (arith, k.known l, largest l), omega (arith, k.known l, largest l));
+          slots = omega (arith, at, k.slots, w.slots, size, length_push g y);
+          least = omega (arith, k.least, w.slots, size);
+          four = four;
+          denied = w.denied ∙ k.denied;
+        }
+
+    kept : Kept (with_line made to y) y
+    kept = record {
+      keeping = by_tail w.tail w.empty (omega (arith, within, at, ap length w.split, length-drop 4 made.lines))
+          (rw at (drop-set-add 4 made.lines (length g) y) ∙ ap (λ (l : Lines). set l (length g) y) w.split);
+      same = first_same;
+    }
+
+  pub keeping_kept : {after : Slots} {from to : ℕ} → to ≡ 4 + length g → from < 4 → IsKept store after from to → {y : List ℕ} → line store from ≡ y
+      → ((l : Lines) → InGroup key (g ++ y ∷ []) (ls Second ++ l)) → Kept after y
+  keeping_kept {after} {from} {to} at low e {y} is largest =
+      let w = grown e.made to e.grown in
+      rw (e.copied, w.same from low, is) (kept e.made to y at w e.grown.within largest)
+
+  -- the lines of the group stand in its slots
+  pub kept_line : (slot : ℕ) → 4 ≤ slot → slot < 4 + length g → line store slot ≡ get_or g (slot - 4) []
+  kept_line slot from low =
+      let back : 4 + (slot - 4) ≡ slot = omega arith in
+      sym (ap (λ i. get_or store.lines i []) back) ∙ sym (get_or-drop 4 store.lines (slot - 4) [])
+      ∙ ap (λ (l : Lines). get_or l (slot - 4) []) k.split ∙ get_or-append g k.tail [] (slot - 4) (omega (arith, from, low))
+
+  pub group_is : {end : ℕ} → end ≡ 4 + length g → group store 4 end ≡ g
+  group_is at = rw k.split (take_at g k.tail _ (omega (arith, at)))
+
+  pub end_within : {end : ℕ} → end ≡ 4 + length g → end ≤ length store.lines
+  end_within at = omega (arith, at, k.four, ap length k.split, length-append g k.tail, length-drop 4 store.lines)
+
+  -- the group is emptied
+  pub keeping_cleared : {after : Slots} {end : ℕ} → end ≡ 4 + length g → IsGroupCleared store after end → Keeping key before after ls []
+  keeping_cleared {after} at c =
+      let none : total (drop 4 after.lines) ≡ 0 = omega (arith, c.emptied, ap total (group_is at), ap total k.split, sum_by-append length g k.tail, k.empty) in
+      let four : 4 ≤ length after.lines = omega (arith, k.four, c.slots) in
+      record {
+        tail = drop 4 after.lines;
+        split = refl;
+        empty = none;
+        lines = same_lines store.lines after.lines (λ side. longest (ls side)) (total g) 0 k.lines four (λ i low. c.others i (inl low)) none;
+        most = k.most;
+        fits = omega arith;
+        peak = omega (arith, c.peak, k.peak, k.fits, (has_lines_total store.lines (λ side. longest (ls side)) (total g) k.lines).1);
+        count = k.count;
+        known = k.known;
+        slots = omega (arith, k.slots, c.slots);
+        least = omega (arith, k.least, c.slots);
+        four = four;
+        denied = c.denied ∙ k.denied;
+      }

@@ -1,41 +1,47 @@
 -- A group of lines of one key: its lines are gathered, paired and closed.
-use Rattle.std.proofs.Common.{◌≡◌, ◌⊎◌, ⊎_elim, inl, inr, ℕ, ◌+◌, ◌*◌, ◌≤◌, ◌<◌, Bool, true, false, cond, List, [], ◌∷◌, ◌++◌, Option, Some, None, Err, length}
-use Rattle.std.proofs.Common.{map, max, refl, sym, ◌∙◌, ap, subst, arith, append_assoc}
+use Rattle.std.proofs.Common.{◌≡◌, ◌⊎◌, ⊎_elim, inl, inr, ℕ, ◌+◌, ◌*◌, ◌≤◌, ◌<◌, ◌&&◌, Bool, true, false, cond, List, [], ◌∷◌, ◌++◌, Option, Some, None, Err, length, map}
+use Rattle.std.proofs.Common.{max, refl, sym, ◌∙◌, ap, subst, arith, append_assoc}
 use Rattle.std.specs.List.{last_or}
+use Rattle.std.specs.Prelude.{bytes_eq}
+use Rattle.std.specs.Cmp.Lexicographic.{bytes_decides}
+use Rattle.std.specs.Ordering.{is_gt}
 use Rattle.std.proofs.lemmas.Bool.{false≢true}
 use Rattle.std.proofs.lemmas.List.{append-nil}
 use Rattle.ptlines.specs.Outputs.{Output, Wrote}
-use Rattle.ptlines.specs.Readers.{Reader, Reads, IsSound, HasReadCause}
-use Rattle.ptlines.specs.Slots.{Slots, line, with_line}
+use Rattle.ptlines.specs.Readers.{Reader, Reads, IsSound}
+use Rattle.ptlines.specs.Slots.{Slots, line, total, with_line}
 use Rattle.ptlines.specs.Text.{text, IsLine, longest}
 use Rattle.ptlines.proofs.Pushed.{wrote_trans}
 use Rattle.ptlines.proofs.TextLaws.{text-append}
 use Rattle.ptmerge.specs.declared.faults.MergeFault.{MergeFault}
 use Rattle.ptmerge.specs.declared.faults.MergeFault.TheVariants.{Read, Write, Memory}
-use Rattle.ptmerge.specs.declared.faults.MergeFault.TheVariants as faults
 use Rattle.ptmerge.specs.declared.order.Side.{Side}
 use Rattle.ptmerge.specs.declared.order.Side.TheVariants.{First, Second}
 use Rattle.ptmerge.specs.declared.merging.sorted.Sorted.{Sorted}
 use Rattle.ptmerge.specs.declared.merging.sorted.Stand.{Stand}
 use Rattle.ptmerge.specs.declared.merging.sorted.Stand.TheVariants.{Head, Ended, Disorder}
+use Rattle.ptmerge.specs.Groups.{is_head}
 use Rattle.ptmerge.specs.Join.{largest_group, most_lines}
-use Rattle.ptmerge.specs.Keyed.{Lines, Tool, by_keys, fall, with_key}
+use Rattle.ptmerge.specs.Keyed.{Lines, Tool, by_keys, entries_of, fall, with_key}
+use Rattle.ptmerge.specs.LinePasses.{IsUnwritten}
 use Rattle.ptmerge.specs.Merges.{State, IsMerge}
 use Rattle.ptmerge.specs.Orders.{Cmp, Key}
-use Rattle.ptmerge.specs.Places.{CannotRead, HasSlots}
+use Rattle.ptmerge.specs.Places.{CannotRead, Comes, HasSlots}
 use Rattle.ptmerge.specs.Sides.{put, other}
+use Rattle.ptmerge.specs.Steps.{GoesBefore}
 use Rattle.ptmerge.proofs.OfMerges.Bounds.{Bound, From, Coming, Under}
-use Rattle.ptmerge.proofs.OfMerges.Got.{More}
-use Rattle.ptmerge.proofs.OfJoin.GroupStops.{FailsIn, StartsWith, Within, halts, under_down}
-use Rattle.ptmerge.proofs.OfJoin.JoinSlots.{Keeping}
-use Rattle.ptmerge.proofs.OfMerges.Least.{EachKey, EachKey-append, EachKey-weaker, at_most-same, least_first, others_of, with_key-above, with_key-front}
-use Rattle.ptmerge.proofs.OfMerges.Orders.{IsKeyOrder, AtMost, Above, above_up, least_or_above, self_at_most}
-use Rattle.ptmerge.proofs.OfMerges.Pairs.{put_same}
+use Rattle.ptmerge.proofs.OfJoin.GroupStops.{EachComes, FailsIn, Fits, StartsWith, Within, halts, own_keys, under_down}
+use Rattle.ptmerge.proofs.OfJoin.GroupSlots.{AllSlots, Keeping, keeping_line, keeping_next, low_slot, put_more}
+use Rattle.ptmerge.proofs.OfMerges.Least.{EachKey, EachKey-append, EachKey-weaker, at_most-same, front_first, least_first, others_of, with_key-above, with_key-front}
+use Rattle.ptmerge.proofs.OfMerges.Orders.{IsKeyOrder, AtMost, least_or_above, self_at_most}
+use Rattle.ptmerge.proofs.OfMerges.Pairs.{put_each, put_other, put_same}
 use Rattle.ptmerge.proofs.OfMerges.Passing.{Merging}
+use Rattle.ptmerge.proofs.OfMerges.Slotted.{has_lines_total, line_other}
 use Rattle.ptmerge.proofs.OfMerges.Splitting.{all_keys, splits_step}
-use Rattle.ptmerge.proofs.OfMerges.Standing.{Passed, Stands}
-use Rattle.ptmerge.proofs.OfMerges.Stopping.{FitsIn, Gone, gone_passed, gone_standing}
-use Rattle.ptmerge.proofs.OfMerges.Turning.{BothStand, IsAbove, IsLineByLine, passed_at}
+use Rattle.ptmerge.proofs.OfMerges.Standing.{Next, Passed, Stands, comes_repeats, sided_keeps}
+use Rattle.ptmerge.proofs.OfMerges.Stopping.{Gone, gone_passed, gone_standing}
+use Rattle.ptmerge.proofs.OfMerges.Turning.{BothStand, IsAbove, IsLineByLine, ahead, next_at, own_slots, passed_at, sides_on, slots_apart}
+use Rattle.ptmerge.specs.declared.faults.MergeFault.TheVariants as faults
 
 -- what is written of a key that both inputs have: its pairs
 pub record IsPairing (tool : Tool) (pairs : List ℕ → Lines → Lines → Lines) : Type 0 where
@@ -46,243 +52,353 @@ pub record IsPairing (tool : Tool) (pairs : List ℕ → Lines → Lines → Lin
   pub size : (ls : Side → Lines) → tool.size ls ≡ (2 * longest (ls First) + 2 * longest (ls Second)) + largest_group (tool.key Second) (ls Second)
   pub slots : (ls : Side → Lines) → tool.slots ls ≡ 4 + most_lines (tool.key Second) (ls Second)
 
-last_push : (key : Key) (d : Option (List ℕ)) (q : Lines) (x : List ℕ) → last_or d (map key (q ++ x ∷ [])) ≡ Some (key x)
-last_push key d [] x = refl
-last_push key d (y ∷ q) x = last_push key (Some (key y)) q x
+-- a tool that pairs lines, and what it began with
+pub record Call : Type 0 where
+  pub tool : Tool
+  pub open tool use *
+  pub o : IsKeyOrder cmp
+  pub pairs : List ℕ → Lines → Lines → Lines
+  pub laws : IsPairing tool pairs
+  pub old : State
+  pub unfailed : (side : Side) → (old.reader side).failed ≡ false
+
+-- the line at which an input stands
+abbrev pub head_of : State → (Side → Sorted) → Side → List ℕ
+head_of now place s = line now.store (place s).standing
+
+-- an input went on, and this is the output and the store
+abbrev pub moved : State → Side → Reader → Output → Slots → State
+moved now s reader out store = record { reader = put s reader now.reader; out = out; store = store }
+
+-- these lines of an input came, of which those are passed, and a piece of one more
+abbrev pub GoneOf : Call → State → Side → Reader → List ℕ → Lines → Lines → Bound → Type 0
+GoneOf call now side new piece ls p b = Gone call.end call.cmp (call.key side) (call.old.reader side) (now.reader side) new piece ls p b
+
+-- a write failed, or the next line of an input could not be read
+abbrev pub NotPassed : State → Side → Sorted → Reader → Slots → Output → MergeFault → Type 0
+NotPassed now s place reader after new fault =
+    ((fault ≡ Write) × IsUnwritten (now.reader s) reader now.store after new) ⊎ ((new.faulted ≡ false) × CannotRead s place (now.reader s) reader now.store after fault)
+
+-- a read that has not failed did not fail
+pub not_failed : (call : Call) (side : Side) {b : Bool} {X : Type 0} → b ≡ (call.old.reader side).failed → b ≡ true → X
+not_failed call side same fail = absurd (false≢true (sym (same ∙ call.unfailed side) ∙ fail))
+
+last_push : (key : Key) (q : Lines) (x : List ℕ) (d : Option (List ℕ)) → last_or d (map key (q ++ x ∷ [])) ≡ Some (key x)
+last_push key [] x d = refl
+last_push key (y ∷ q) x d = last_push key q x (Some (key y))
+
+-- ---- what the store holds
+
+-- the inputs that go on with these lines have these measures
+pub size_of : (call : Call) {store : Slots} {ls : Side → Lines} {g : Lines} (h : Keeping (call.key Second) call.old.store store ls g) (all : Side → Lines)
+    → ((side : Side) → longest (ls side) ≤ longest (all side)) → (more : Lines) × (all Second ≡ ls Second ++ more)
+    → (2 * longest (ls First) + 2 * longest (ls Second) + h.most ≤ call.size all) × (4 + h.count ≤ call.slots all) × (total store.lines ≤ 2 * longest (ls First) + 2 * longest (ls Second) + h.most)
+size_of call {store} {ls} {g} h all up more =
+    let known : (h.most ≤ largest_group (call.key Second) (all Second)) × (h.count ≤ most_lines (call.key Second) (all Second)) = rw more.1 (h.known more.0) in (
+      omega (arith, known, call.laws.size all, up First, up Second),
+      omega (arith, known, call.laws.slots all),
+      omega (arith, (has_lines_total store.lines (λ side. longest (ls side)) (total g) h.lines).1, h.fits),
+    )
+
+module _ (call : Call) {store : Slots} {ls : Side → Lines} {g : Lines} (h : Keeping (call.key Second) call.old.store store ls g) {now : Side → Reader} where
+  -- a piece of one more line is no more than the measure
+  pub peak_line : (s : Side) (place : Sorted) → HasSlots s place → (piece : List ℕ) → Fits call.tool call.old.store now ls (put s piece (λ t. [])) (with_line store place.previous piece)
+  peak_line s place slots piece all w =
+      let k : Keeping (call.key Second) call.old.store (with_line store place.previous piece) all g = keeping_line s place slots piece h (λ side. omega (arith, (w side).1))
+      (omega (arith, (w s).1, ap length (put_same s piece (λ t. [])))) ((w Second).0.more, (w Second).0.is) refl in
+      let size = size_of call k all (λ side. omega arith) ([], sym (append-nil (all Second))) in
+      (omega (arith, k.peak, size.0), omega (arith, k.slots, size.1))
+
+  -- a store that holds no more, and has no more slots
+  pub fits_kept : (after : Slots) → after.peak ≤ max store.peak (total store.lines) → length after.lines ≡ length store.lines → Fits call.tool call.old.store now ls (λ side. []) after
+  fits_kept after peak same all w =
+      let size = size_of call h all (λ side. omega (arith, (w side).1)) ((w Second).0.more, (w Second).0.is) in
+      (omega (arith, peak, h.peak, size), omega (arith, same, h.slots, size))
+
+-- both inputs stand as they did where the first four slots are the same
+pub stand_still : (tool : Tool) {old now : Side → Reader} {place : Side → Sorted} {before after : Slots} {ls p : Side → Lines} {b : Side → Bound} → BothStand tool old now place before ls p b
+    → AllSlots place → ((i : ℕ) → i < 4 → line after i ≡ line before i) → BothStand tool old now place after ls p b
+stand_still tool {old} {now} {place} {before} {after} {ls} {p} {b} sides slots same side =
+    let low = low_slot side (place side) (slots side) in
+    sided_keeps _ _ _ _ _ _ _ _ _ _ _
+    (same (place side).standing low.0) (same (place side).previous low.1) (sides side)
 
 -- ---- what is written of a group
 
-module _ (tool : Tool) (o : IsKeyOrder tool.cmp) (pairs : List ℕ → Lines → Lines → Lines) (laws : IsPairing tool pairs) (k : List ℕ) (g : Side → Lines)
-    (own : (side : Side) → EachKey (λ x. x ≡ k) (tool.key side) (g side)) where
+module _ (call : Call) {was mid : Output} {p g : Side → Lines} {d : Side → Bound} {k : List ℕ} (m : Within call.tool was mid p g d k) where
+  open call use {cmp, entries, key, laws, o, pairs, tool}
+
   -- a group in front of lines of no lesser keys
-  front : (w : List ℕ → Bool) (r : Side → Lines) → ((side : Side) → EachKey (AtMost tool.cmp k) (tool.key side) (r side))
-      → by_keys tool w (λ side. g side ++ r side) ≡ cond (w k) (tool.entries k (g First ++ with_key (tool.key First) (r First) k)
-      (g Second ++ with_key (tool.key Second) (r Second) k)) [] ++ by_keys tool w (others_of tool o k r)
+  front : (w : List ℕ → Bool) (r : Side → Lines) → ((side : Side) → EachKey (AtMost cmp k) (key side) (r side))
+      → by_keys tool w (λ side. g side ++ r side) ≡ cond (w k) (entries k (g First ++ with_key (key First) (r First) k)
+      (g Second ++ with_key (key Second) (r Second) k)) [] ++ by_keys tool w (others_of tool o k r)
   front w r beyond =
-      let in_front = λ (side : Side). with_key-front tool o (tool.key side) k (g side) (r side) (own side) in
-      least_first tool o w k (λ side. g side ++ r side) (λ side. at_most-same tool o (tool.key side) k (g side) (r side) (own side) (beyond side)) (laws.alone.none k)
-      ∙ (λ i. cond (w k) (tool.entries k ((in_front First).0 i) ((in_front Second).0 i)) [] ++ by_keys tool w (λ side. (in_front side).1 i))
+      let in_front = λ (side : Side). with_key-front tool o (key side) k (g side) (r side) (m.own side) in
+      least_first tool o w k (λ side. g side ++ r side) (λ side. at_most-same tool o (key side) k (g side) (r side) (m.own side) (beyond side)) (laws.alone.none k)
+      ∙ (λ i. cond (w k) (entries k ((in_front First).0 i) ((in_front Second).0 i)) [] ++ by_keys tool w (λ side. (in_front side).1 i))
 
   -- the pairs of a group come first, whichever lines of its key the first input still has
-  starts_pairs : (f c s : Lines) → 0 < length s → (rest : Lines) × (tool.entries k (f ++ c) s ≡ pairs k f s ++ rest)
-  starts_pairs [] c s some = (tool.entries k c s, ap (λ l. l ++ tool.entries k c s) (sym (laws.none k s)))
+  starts_pairs : (f c s : Lines) → 0 < length s → (rest : Lines) × (entries k (f ++ c) s ≡ pairs k f s ++ rest)
+  starts_pairs [] c s some = (entries k c s, rw (laws.none k s) refl)
   starts_pairs (a ∷ f) c [] some = absurd (omega (arith, some))
   starts_pairs (a ∷ f) c (b ∷ s) some = (pairs k c (b ∷ s), laws.whole k a b (f ++ c) s ∙ laws.more k (a ∷ f) c (b ∷ s))
 
-  pub starts : (d : Side → Bound) → ((side : Side) (r : Lines) → Coming tool.cmp (tool.key side) (d side) r → EachKey (AtMost tool.cmp k) (tool.key side) r)
-      → (g First ≡ []) ⊎ ((0 < length (g Second)) × IsAbove tool.cmp (tool.key Second) k (d Second))
-      → StartsWith tool g d k (pairs k (g First) (g Second))
-  starts d beyond (inl none) w r c wanted =
-      (by_keys tool w (λ side. g side ++ r side), ap (λ l. l ++ by_keys tool w (λ side. g side ++ r side)) (sym (ap (λ (l : Lines). pairs k l (g Second)) none ∙ laws.none k (g Second))))
-  starts d beyond (inr above) w r c wanted =
-      let none : with_key (tool.key Second) (r Second) k ≡ [] = with_key-above tool o (tool.key Second) k (r Second) (above.1 (r Second) (c Second)) in
-      let s = starts_pairs (g First) (with_key (tool.key First) (r First) k) (g Second) above.0 in (
-        s.0 ++ by_keys tool w (others_of tool o k r),
-        front w r (λ side. beyond side (r side) (c side))
-            ∙ (λ i. cond (wanted i) (tool.entries k (g First ++ with_key (tool.key First) (r First) k)
-            ((ap (λ (l : Lines). g Second ++ l) none ∙ append-nil (g Second)) i)) [] ++ by_keys tool w (others_of tool o k r))
-            ∙ ap (λ l. l ++ by_keys tool w (others_of tool o k r)) s.1 ∙ append_assoc (pairs k (g First) (g Second)) s.0 (by_keys tool w (others_of tool o k r)),
-      )
+  pub starts_none : StartsWith tool g d k []
+  starts_none = record { rest = λ w r c wanted. (by_keys tool w (λ side. g side ++ r side), refl) }
 
-  own_entries : (f s : Lines) → 0 < length f → 0 < length s → tool.entries k f s ≡ pairs k f s
-  own_entries [] s some1 some2 = absurd (omega (arith, some1))
-  own_entries (a ∷ f) [] some1 some2 = absurd (omega (arith, some2))
+  pub starts : 0 < length (g Second) → IsAbove cmp (key Second) k (d Second) → StartsWith tool g d k (pairs k (g First) (g Second))
+  starts some above = record {
+    rest = λ w r c wanted.
+        let none : with_key (key Second) (r Second) k ≡ [] = with_key-above tool o (key Second) k (r Second) (above (r Second) (c Second)) in
+        let s = starts_pairs (g First) (with_key (key First) (r First) k) (g Second) some in (
+          s.0 ++ by_keys tool w (others_of tool o k r),
+          front w r (λ side. m.beyond side (r side) (c side))
+              ∙ (rw (wanted, none, append-nil (g Second), s.1) (append_assoc (pairs k (g First) (g Second)) s.0 (by_keys tool w (others_of tool o k r)))),
+        );
+  }
+
+  own_entries : (f s : Lines) → 0 < length f → 0 < length s → entries k f s ≡ pairs k f s
   own_entries (a ∷ f) (b ∷ s) some1 some2 = laws.whole k a b f s
+  own_entries f s some1 some2 = absurd (omega (arith, some1, some2))
 
   -- a group behind which only greater keys come
-  pub closes : (d : Side → Bound) (p : Side → Lines) (was mid is : Output) → Within tool was mid p g d k → ((side : Side) → 0 < length (g side))
-      → ((side : Side) → IsAbove tool.cmp (tool.key side) k (d side)) → Wrote mid is (text tool.end (pairs k (g First) (g Second)))
-      → Merging tool d (λ side. p side ++ g side) was is
-  closes d p was mid is m some above wrote =
+  pub closes : {is : Output} → ((side : Side) → 0 < length (g side)) → ((side : Side) → IsAbove cmp (key side) k (d side))
+      → Wrote mid is (text call.end (pairs k (g First) (g Second))) → Merging tool d (λ side. p side ++ g side) was is
+  closes {is} some above wrote =
       record {
-        splits = splits_step tool (λ side. From k) d p g m.merging.splits (λ side r c. at_most-same tool o (tool.key side) k (g side) r (own side) (m.beyond side r c)) splits_off;
-        under = λ of side. EachKey-append (Under tool.cmp (d of)) (tool.key side) (p side) (g side)
-            (EachKey-weaker (λ x. AtMost tool.cmp x k) (Under tool.cmp (d of)) (λ x h. under_down tool.cmp o (d of) x k h (m.under of)) (tool.key side) (p side) (m.merging.under First side))
-            (EachKey-weaker (λ x. x ≡ k) (Under tool.cmp (d of)) (λ x e. subst (Under tool.cmp (d of)) (sym e) (m.under of)) (tool.key side) (g side) (own side));
-        wrote = subst (λ (t : List ℕ). Wrote was is t) (sym (ap (text tool.end) all ∙ text-append tool.end (by_keys tool all_keys p) (pairs k (g First) (g Second))))
-            (wrote_trans was mid is (text tool.end (by_keys tool all_keys p)) (text tool.end (pairs k (g First) (g Second))) m.clean m.merging.wrote wrote);
+        splits = splits_step tool (λ side. From k) d p g m.merging.splits (λ side r c. at_most-same tool o (key side) k (g side) r (m.own side) (m.beyond side r c)) splits_off;
+        under = λ of side. EachKey-append (Under cmp (d of)) (key side) (p side) (g side)
+            (EachKey-weaker (λ x. AtMost cmp x k) (Under cmp (d of)) (λ x h. under_down o (d of) x k h (m.under of)) (key side) (p side) (m.merging.under First side))
+            (own_keys (Under cmp (d of)) (key side) k (g side) (m.under of) (m.own side));
+        wrote = rw (all, text-append call.end (by_keys tool all_keys p) (pairs k (g First) (g Second))) (wrote_trans _ _ _ _ _ m.clean m.merging.wrote wrote);
       }
     where
-      none : (r : Side → Lines) → ((side : Side) → Coming tool.cmp (tool.key side) (d side) (r side)) → (side : Side) → g side ++ with_key (tool.key side) (r side) k ≡ g side
-      none r c side = ap (λ (l : Lines). g side ++ l) (with_key-above tool o (tool.key side) k (r side) (above side (r side) (c side))) ∙ append-nil (g side)
+      -- no more lines of the key come
+      none : (r : Side → Lines) → EachComes tool d r → (side : Side) → with_key (key side) (r side) k ≡ []
+      none r c side = with_key-above tool o (key side) k (r side) (above side (r side) (c side))
 
       -- what is written of the group alone
-      alone_is : (w : List ℕ → Bool) → by_keys tool w g ≡ cond (w k) (tool.entries k (g First) (g Second)) []
-      alone_is w =
-          (λ i. by_keys tool w (λ side. sym (append-nil (g side)) i)) ∙ front w (λ side. []) (λ side. tt)
-          ∙ (λ i. cond (w k) (tool.entries k (append-nil (g First) i) (append-nil (g Second) i)) [] ++ []) ∙ append-nil (cond (w k) (tool.entries k (g First) (g Second)) [])
+      alone_is : by_keys tool all_keys g ≡ entries k (g First) (g Second)
+      alone_is = (λ i. by_keys tool all_keys (λ side. sym (append-nil (g side)) i)) ∙ front all_keys (λ side. []) (λ side. tt) ∙ (rw (append-nil (g First), append-nil (g Second), append-nil) refl)
 
-      -- and of lines of greater keys
-      greater_is : (w : List ℕ → Bool) (r : Side → Lines) → ((side : Side) → Coming tool.cmp (tool.key side) (d side) (r side)) → by_keys tool w r ≡ by_keys tool w (others_of tool o k r)
-      greater_is w r c =
-          least_first tool o w k r (λ side. m.beyond side (r side) (c side)) (laws.alone.none k)
-          ∙ (λ i. cond (w k) (tool.entries k (with_key-above tool o (tool.key First) k (r First) (above First (r First) (c First)) i)
-          (with_key-above tool o (tool.key Second) k (r Second) (above Second (r Second) (c Second)) i)) [] ++ by_keys tool w (others_of tool o k r))
-          ∙ ap (λ l. l ++ by_keys tool w (others_of tool o k r)) (nothing (w k))
-        where
-          nothing : (t : Bool) → cond t (tool.entries k [] []) [] ≡ []
-          nothing true = laws.alone.none k
-          nothing false = refl
-
-      splits_off : (w : List ℕ → Bool) (r : Side → Lines) → ((side : Side) → Coming tool.cmp (tool.key side) (d side) (r side))
-          → by_keys tool w (λ side. g side ++ r side) ≡ by_keys tool w g ++ by_keys tool w r
+      splits_off : (w : List ℕ → Bool) (r : Side → Lines) → EachComes tool d r → by_keys tool w (λ side. g side ++ r side) ≡ by_keys tool w g ++ by_keys tool w r
       splits_off w r c =
-          front w r (λ side. m.beyond side (r side) (c side)) ∙ (λ i. cond (w k) (tool.entries k (none r c First i) (none r c Second i)) [] ++ by_keys tool w (others_of tool o k r))
-          ∙ (λ i. sym (alone_is w) i ++ sym (greater_is w r c) i)
+          let nothing : entries_of tool r k ≡ [] = (λ i. entries k (none r c First i) (none r c Second i)) ∙ laws.alone.none k in
+          front_first tool o w k g r m.own (λ side. m.beyond side (r side) (c side)) (laws.alone.none k)
+          (rw (none r c First, none r c Second, append-nil (g First), append-nil (g Second), nothing, append-nil) refl)
 
       all : by_keys tool all_keys (λ side. p side ++ g side) ≡ by_keys tool all_keys p ++ pairs k (g First) (g Second)
       all =
-          m.merging.splits.split all_keys g (λ side. EachKey-weaker (λ x. x ≡ k) (AtMost tool.cmp k)
-          (λ x e. subst (AtMost tool.cmp k) (sym e) (self_at_most tool.cmp o k)) (tool.key side) (g side) (own side))
-          ∙ ap (λ l. by_keys tool all_keys p ++ l) (alone_is all_keys ∙ own_entries (g First) (g Second) (some First) (some Second))
+          m.merging.splits.split all_keys g (λ side. own_keys (AtMost cmp k) (key side) k (g side) (self_at_most cmp o k) (m.own side))
+          ∙ ap (λ l. by_keys tool all_keys p ++ l) (alone_is ∙ own_entries (g First) (g Second) (some First) (some Second))
 
 -- ---- where a group stands
 
--- an input is past the lines of the key k where it stands at no line with it
-pub past_group : (cmp : Cmp) (o : IsKeyOrder cmp) (key : Key) (k : List ℕ) (stand : Stand) (place : Sorted) (store : Slots) (now : Reader) (ls p : Lines)
-    (b : Bound) → Stands cmp key stand place store now ls p b → Under cmp b k → (stand ≡ Head → ¬ (key (line store place.standing) ≡ k)) → IsAbove cmp key k b
-past_group cmp o key k Head place store now ls p b st under other =
-    let head = key (line store place.standing) in
-    let at_most : AtMost cmp k head = subst (λ d. Under cmp d k) st.2 under in
-    let above : Above cmp k head = ⊎_elim (λ same. absurd (other refl same.1)) (λ h. h.1) (least_or_above cmp o k head at_most) in
-    subst (λ d. IsAbove cmp key k d) (sym st.2) (λ r c. EachKey-weaker (AtMost cmp head) (Above cmp k) (λ x h. above_up cmp o k head x above h) key r c)
-past_group cmp o key k Ended place store now ls p b st under other = subst (λ d. IsAbove cmp key k d) (sym st.0) (λ r none. subst (EachKey (Above cmp k) key) (sym none) tt)
-past_group cmp o key k (Disorder n) place store now ls p b st under other = subst (λ d. IsAbove cmp key k d) (sym st) (λ r none. subst (EachKey (Above cmp k) key) (sym none) tt)
+pub has_key : (s : Stand) (a b : List ℕ) → (is_head s && bytes_eq a b) ≡ true → (s ≡ Head) × (b ≡ a)
+has_key Head a b h = (refl, sym ((bytes_decides a b).0 h))
+has_key Ended a b h = cc
+has_key (Disorder n) a b h = cc
 
-module _ (tool : Tool) (o : IsKeyOrder tool.cmp) (pairs : List ℕ → Lines → Lines → Lines) (laws : IsPairing tool pairs) (old : State)
-    (unfailed : (side : Side) → (old.reader side).failed ≡ false) where
-  -- the group g of the key k, whose entries so far were pushed; the lines that are kept end in front of this slot
-  pub record Grouped (now : State) (place : Side → Sorted) (end : ℕ) (k : List ℕ) (g : Side → Lines) (kept : Lines) : Type 0 where
-    pub ls : Side → Lines
-    pub p : Side → Lines
-    pub d : Side → Bound
-    pub mid : Output
-    pub sides : BothStand tool old.reader now.reader place now.store ls (λ side. p side ++ g side) d
-    pub within : Within tool old.out mid p g d k
-    pub keeps : Keeping (tool.key Second) old.store now.store ls kept
-    pub wrote : Wrote mid now.out (text tool.end (pairs k (g First) (g Second)))
-    pub at : end ≡ 4 + length kept
+pub lacks_key : (s : Stand) (a b : List ℕ) → (is_head s && bytes_eq a b) ≡ false → s ≡ Head → ¬ (b ≡ a)
+lacks_key s a b h e same = false≢true (sym h ∙ (rw (e, same, (bytes_decides a a).1 refl) refl))
 
-  module _ (now : State) (place : Side → Sorted) (end : ℕ) (k : List ℕ) (g : Side → Lines) (kept : Lines)
-      (q : Grouped now place end k g kept) (slots : (side : Side) → HasSlots side (place side)) where
-    went : (side : Side) → (now.reader side).failed ≡ (old.reader side).failed
-    went side = (q.sides side).got.goes.failed
+-- an input that goes on has its slots exchanged
+pub comes_places : {key : Key} {cmp : Cmp} {old new : Sorted} {was is : Reader} {before after : Slots} → Comes key cmp old new was is before after
+    → (new.standing ≡ old.previous) × (new.previous ≡ old.standing)
+comes_places (inl e) = rw e.place (refl, refl)
+comes_places (inr e) = rw e.place (refl, refl)
 
-    pub standing : (side : Side) → Gone tool.end tool.cmp (tool.key side) (old.reader side) (now.reader side) (now.reader side) [] (q.ls side) (q.p side ++ g side) (q.d side)
-    standing side = gone_standing tool.end tool.cmp (tool.key side) (old.reader side) (now.reader side) (place side) now.store (q.ls side) (q.p side ++ g side) (q.d side) (q.sides side)
+exchanged : (s : Side) (old new : Sorted) → (new.standing ≡ old.previous) × (new.previous ≡ old.standing) → HasSlots s old → HasSlots s new
+exchanged s old new e (inl h) = inr (e.0 ∙ h.1, e.1 ∙ h.0)
+exchanged s old new e (inr h) = inl (e.0 ∙ h.1, e.1 ∙ h.0)
 
-    module _ (s : Side) (head : (place s).stand ≡ Head) (is : tool.key s (line now.store (place s).standing) ≡ k) where
-      abbrev x : List ℕ
-      x = line now.store (place s).standing
+-- a group with the line at which this input stands
+abbrev pub grown : State → (Side → Sorted) → Side → (Side → Lines) → Side → Lines
+grown now place s g = put s (g s ++ head_of now place s ∷ []) g
 
-      at_head : Passed tool.cmp (tool.key s) (place s) now.store (q.ls s) (q.p s ++ g s) (q.d s)
-      at_head = passed_at tool o old.reader now.reader place now.store q.ls (λ side. q.p side ++ g side) q.d q.sides slots q.keeps.four s head
+-- three things of an input were changed
+put_three : (P : Side → Reader → List ℕ → Lines → Type 0) (s : Side) (x : Reader) (y : List ℕ) (z : Lines) (f : Side → Reader) (g : Side → List ℕ) (h : Side → Lines) → P s x y z
+    → ((side : Side) → P side (f side) (g side) (h side)) → (side : Side) → P side (put s x f side) (put s y g side) (put s z h side)
+put_three P First x y z f g h a b First = a
+put_three P First x y z f g h a b Second = b Second
+put_three P Second x y z f g h a b First = b First
+put_three P Second x y z f g h a b Second = a
 
-      -- with the line at which it stands
-      with_head : q.ls s ≡ q.p s ++ (g s ++ x ∷ [])
-      with_head = at_head.all ∙ append_assoc (q.p s) (g s) (x ∷ [])
+-- what is put behind one of two lists
+put_behind : (s : Side) (p g : Side → Lines) (l m : Lines) → l ≡ p s ++ m → (side : Side) → put s l (λ side. p side ++ g side) side ≡ p side ++ put s m g side
+put_behind First p g l m e First = e
+put_behind First p g l m e Second = refl
+put_behind Second p g l m e First = refl
+put_behind Second p g l m e Second = e
 
-      pub passing : (new : Reader) (piece : List ℕ) → Reads (now.reader s) new piece → IsLine (now.reader s).ending piece → IsSound new
-          → Gone tool.end tool.cmp (tool.key s) (old.reader s) (now.reader s) new piece (q.ls s) (q.p s ++ (g s ++ line now.store (place s).standing ∷ [])) (q.d s)
-      passing new piece reads free sound =
-          subst (λ (l : Lines). Gone tool.end tool.cmp (tool.key s) (old.reader s) (now.reader s) new piece (q.ls s) l (q.d s)) with_head
-          (subst (λ b. Gone tool.end tool.cmp (tool.key s) (old.reader s) (now.reader s) new piece (q.ls s) (q.ls s) b) (sym at_head.bound)
-          (gone_passed tool.end tool.cmp o (tool.key s) (old.reader s) (now.reader s) new piece (q.ls s) (tool.key s x) (q.sides s).got reads free sound at_head.begun))
+-- the group g of the key k, whose entries so far were pushed; the lines that are kept end in front of this slot
+pub record Grouped (call : Call) (now : State) (place : Side → Sorted) (end : ℕ) (k : List ℕ) (g : Side → Lines) (kept : Lines) : Type 0 where
+  pub ls : Side → Lines
+  pub p : Side → Lines
+  pub d : Side → Bound
+  pub mid : Output
+  pub sides : BothStand call.tool call.old.reader now.reader place now.store ls (λ side. p side ++ g side) d
+  pub within : Within call.tool call.old.out mid p g d k
+  pub keeps : Keeping (call.key Second) call.old.store now.store ls kept
+  pub wrote : Wrote mid now.out (text call.end (call.pairs k (g First) (g Second)))
+  pub at : end ≡ 4 + length kept
 
-      fails_in : (new : Reader) → new.held ≡ [] → new.ended ≡ false → FailsIn tool.cmp (tool.key s) k new (q.ls s)
-      fails_in new held ended = record {
-        held = held;
-        ended = ended;
-        rises = ap (fall tool.cmp (tool.key s)) (sym (append-nil (q.ls s))) ∙ at_head.begun.falling [];
-        last = ap (λ (l : Lines). last_or None (map (tool.key s) l)) at_head.all ∙ last_push (tool.key s) None (q.p s ++ g s) x ∙ ap (λ (l : List ℕ). Some l) is;
-      }
+module _ {call : Call} {now : State} {place : Side → Sorted} {end : ℕ} {k : List ℕ} {g : Side → Lines} {kept : Lines} (q : Grouped call now place end k g kept) where
+  open call use {cmp, key, o, old, tool}
 
-      -- the line at which an input stands is one more of the group
-      pub own_more : EachKey (λ z. z ≡ k) (tool.key s) (g s ++ line now.store (place s).standing ∷ [])
-      own_more = EachKey-append (λ z. z ≡ k) (tool.key s) (g s) (x ∷ []) (q.within.own s) (is, tt)
+  -- an input is past the lines of the key where it stands at no line with it
+  pub is_past : (s : Side) → ((place s).stand ≡ Head → ¬ (key s (head_of now place s) ≡ k)) → IsAbove cmp (key s) k (q.d s)
+  is_past s other = (ahead cmp o (key s) k (place s).stand (place s) now.store (now.reader s) (q.ls s) (q.p s ++ g s) (q.d s)
+      (by (place s).stand (q.sides s).stands other) (q.sides s).stands).0
+    where
+      by : (t : Stand) → Stands cmp (key s) t (place s) now.store (now.reader s) (q.ls s) (q.p s ++ g s) (q.d s)
+          → (t ≡ Head → ¬ (key s (head_of now place s) ≡ k))
+          → GoesBefore cmp k t (key s (head_of now place s)) (key s (line now.store (place s).previous))
+      by Head st other = ap is_gt (⊎_elim (λ same. absurd (other refl same.1)) (λ h. h.1)
+          (least_or_above cmp o k (key s (head_of now place s)) (subst (λ b. Under cmp b k) st.2 (q.within.under s))))
+      by Ended st other = tt
+      by (Disorder n) st other = subst (λ b. Under cmp b k) st (q.within.under s)
 
-      within_more : (now_g : Side → Lines) → ((side : Side) → EachKey (λ z. z ≡ k) (tool.key side) (now_g side)) → Within tool old.out q.mid q.p now_g q.d k
-      within_more now_g own = record { merging = q.within.merging; clean = q.within.clean; own = own; beyond = q.within.beyond; under = q.within.under }
+  pub went : (side : Side) → (now.reader side).failed ≡ (old.reader side).failed
+  went side = (q.sides side).got.goes.failed
 
-      -- the next line could not be read, where what was pushed is a beginning of the group's entries
-      module _ (now_g : Side → Lines) (own : (side : Side) → EachKey (λ z. z ≡ k) (tool.key side) (now_g side))
-          (mine : now_g s ≡ g s ++ line now.store (place s).standing ∷ []) (others : now_g (other s) ≡ g (other s))
-          (out : Output) (clean : out.faulted ≡ false) (extra : Lines) (wrote : Wrote q.mid out (text tool.end extra))
-          (begins : StartsWith tool now_g q.d k extra) (made : Slots) (denied : made.denied ≡ false)
-          (fits : (piece : List ℕ) (all : Side → Lines) → ((side : Side) → More (now.reader side) (q.ls side) (all side)
-          × (max (longest (q.ls side)) (length (put s piece (λ t. []) side)) ≤ longest (all side))) → FitsIn tool old.store (with_line made (place s).previous piece) all) where
-        gone_of : (t : Side) (new : Reader) (piece : List ℕ) → Gone tool.end tool.cmp (tool.key t) (old.reader t) (now.reader t) new piece (q.ls t) (q.p t ++ now_g t) (q.d t)
-            → Gone tool.end tool.cmp (tool.key (other t)) (old.reader (other t)) (now.reader (other t)) (now.reader (other t)) [] (q.ls (other t)) (q.p (other t) ++ now_g (other t)) (q.d (other t))
-            → (side : Side) → Gone tool.end tool.cmp (tool.key side) (old.reader side) (now.reader side) (put t new now.reader side)
-            (put t piece (λ u. []) side) (q.ls side) (q.p side ++ now_g side) (q.d side)
-        gone_of First new piece a b First = a
-        gone_of First new piece a b Second = b
-        gone_of Second new piece a b First = b
-        gone_of Second new piece a b Second = a
+  pub standing : (side : Side) → GoneOf call now side (now.reader side) [] (q.ls side) (q.p side ++ g side) (q.d side)
+  standing side = gone_standing _ _ _ _ _ _ _ _ _ _ (q.sides side)
 
-        gone_is : (new : Reader) (piece : List ℕ) → Reads (now.reader s) new piece → IsLine (now.reader s).ending piece → IsSound new
-            → (side : Side) → Gone tool.end tool.cmp (tool.key side) (old.reader side) (now.reader side) (put s new now.reader side)
-            (put s piece (λ u. []) side) (q.ls side) (q.p side ++ now_g side) (q.d side)
-        gone_is new piece reads free sound =
-            gone_of s new piece (subst (λ (l : Lines). Gone tool.end tool.cmp (tool.key s) (old.reader s) (now.reader s) new piece (q.ls s) (q.p s ++ l)
-            (q.d s)) (sym mine) (passing new piece reads free sound))
-            (subst (λ (l : Lines). Gone tool.end tool.cmp (tool.key (other s)) (old.reader (other s)) (now.reader (other s)) (now.reader (other s)) []
-            (q.ls (other s)) (q.p (other s) ++ l) (q.d (other s))) (sym others) (standing (other s)))
+  -- the store holds other lines of the group
+  pub grouped_keeps : AllSlots place → {after : Slots} → ((i : ℕ) → i < 4 → line after i ≡ line now.store i) → {lines : Lines}
+      → Keeping (key Second) old.store after q.ls lines → {to : ℕ} → to ≡ 4 + length lines → Grouped call (record now { store = after }) place to k g lines
+  grouped_keeps slots same keeps at = record
+      { ls = q.ls; p = q.p; d = q.d; mid = q.mid; sides = stand_still tool q.sides slots same; within = q.within; keeps = keeps; wrote = q.wrote; at = at }
 
-        stays : (new : Reader) → new.failed ≡ (now.reader s).failed → (side : Side) → (put s new now.reader side).failed ≡ (old.reader side).failed
-        stays new same = by s (same ∙ went s) (went (other s))
-          where
-            by : (t : Side) → new.failed ≡ (old.reader t).failed → (now.reader (other t)).failed ≡ (old.reader (other t)).failed → (side : Side)
-                → (put t new now.reader side).failed ≡ (old.reader side).failed
-            by First a b First = a
-            by First a b Second = b
-            by Second a b First = b
-            by Second a b Second = a
+  -- an input stands at one more line of the group
+  pub record AtLine (s : Side) : Type 0 where
+    pub slots : AllSlots place
+    pub head : (place s).stand ≡ Head
+    pub is : key s (head_of now place s) ≡ k
 
-        not_failed : (side : Side) (r : Reader) → r.failed ≡ (old.reader side).failed → r.failed ≡ true → FailsIn tool.cmp (tool.key side) k r (q.ls side)
-        not_failed side r same fail = absurd (false≢true (sym (same ∙ unfailed side) ∙ fail))
+module _ {call : Call} {now : State} {place : Side → Sorted} {end : ℕ} {k : List ℕ} {g : Side → Lines} {kept : Lines} {q : Grouped call now place end k g kept} {s : Side} (l : AtLine q s) where
+  open call use {cmp, key, o, old, pairs, tool}
 
-        pub group_breaks : (new : Reader) (after : Slots) (fault : MergeFault) → CannotRead s (place s) (now.reader s) new made after fault
-            → IsMerge tool old (record { reader = put s new now.reader; out = out; store = after }) (Err fault)
-        group_breaks new after (Read file) moves =
-            let e = moves.0 in
-            let cause : HasReadCause (old.reader s) new = ⊎_elim (λ h. inl h) (λ h. inr (h.0, h.1 ∙ went s)) e.cause in
-            subst (λ f. IsMerge tool old (record { reader = put s new now.reader; out = out; store = after }) (Err (Read f))) (sym moves.1)
-            (halts tool o old (record { reader = put s new now.reader; out = out; store = after }) now.reader
-            (put s e.piece (λ u. [])) q.mid q.ls q.p now_g q.d k extra (gone_is new e.piece e.faults.reads e.faults.whole moves.2) (within_more now_g own) wrote begins (Read s)
-            (record {
-              cause = subst (λ r. HasReadCause (old.reader s) r) (sym (put_same s new now.reader)) cause;
-              others = by s (went (other s));
-              clean = clean;
-              denied = ap (λ (t : Slots). t.denied) e.stored ∙ denied;
-            }) (failed e.cause) (λ input pushed. tt) (subst (λ (t : Slots). (all : Side → Lines)
-            → ((side : Side) → More (now.reader side) (q.ls side) (all side)
-            × (max (longest (q.ls side)) (length (put s e.piece (λ u. []) side)) ≤ longest (all side))) → FitsIn tool old.store t all) (sym e.stored) (fits e.piece)))
-          where
-            by : (t : Side) → (now.reader (other t)).failed ≡ (old.reader (other t)).failed → (put t new now.reader (other t)).failed ≡ (old.reader (other t)).failed
-            by First a = a
-            by Second a = a
+  abbrev x : List ℕ
+  x = head_of now place s
 
-            failed : HasReadCause (now.reader s) new → (side : Side) → (put s new now.reader side).failed ≡ true → FailsIn tool.cmp (tool.key side) k (put s new now.reader side) (q.ls side)
-            failed cause = each s mine_fails (λ fail. not_failed (other s) (now.reader (other s)) (went (other s)) fail)
-              where
-                mine_fails : new.failed ≡ true → FailsIn tool.cmp (tool.key s) k new (q.ls s)
-                mine_fails fail = ⊎_elim (λ h. fails_in new h.1 h.2) (λ h. not_failed s new (h.1 ∙ went s) fail) cause
+  at_head : Passed cmp (key s) (place s) now.store (q.ls s) (q.p s ++ g s) (q.d s)
+  at_head = passed_at tool o _ _ _ _ _ _ _ q.sides l.slots q.keeps.four s l.head
 
-                each : (t : Side) → (new.failed ≡ true → FailsIn tool.cmp (tool.key t) k new (q.ls t))
-                    → ((now.reader (other t)).failed ≡ true → FailsIn tool.cmp (tool.key (other t)) k (now.reader (other t)) (q.ls (other t)))
-                    → (side : Side) → (put t new now.reader side).failed ≡ true → FailsIn tool.cmp (tool.key side) k (put t new now.reader side) (q.ls side)
-                each First a b First = a
-                each First a b Second = b
-                each Second a b First = b
-                each Second a b Second = a
-        group_breaks new after Write moves = absurd moves
-        group_breaks new after Memory moves =
-            let e = moves.0 in
-            halts tool o old (record { reader = put s new now.reader; out = out; store = after }) now.reader
-            (put s e.piece (λ u. [])) q.mid q.ls q.p now_g q.d k extra (gone_is new e.piece e.faults.reads e.faults.whole moves.1) (within_more now_g own) wrote begins Memory
-            (record { denied = ap (λ (t : Slots). t.denied) e.stored; failed = stays new e.failed; clean = clean })
-            (λ side. not_failed side (put s new now.reader side) (stays new e.failed side)) (λ input pushed. tt)
-            (subst (λ (t : Slots). (all : Side → Lines) → ((side : Side) → More (now.reader side) (q.ls side) (all side)
-            × (max (longest (q.ls side)) (length (put s e.piece (λ u. []) side)) ≤ longest (all side))) → FitsIn tool old.store t all) (sym e.stored) (fits e.piece))
-        group_breaks new after (faults.Disorder file number) moves = absurd moves
+  -- with the line at which it stands
+  pub with_head : q.ls s ≡ q.p s ++ (g s ++ head_of now place s ∷ [])
+  with_head = at_head.all ∙ append_assoc (q.p s) (g s) (x ∷ [])
+
+  pub own_more : (side : Side) → EachKey (λ z. z ≡ k) (key side) (grown now place s g side)
+  own_more = put_each (λ side (l : Lines). EachKey (λ z. z ≡ k) (key side) l) s (g s ++ x ∷ []) g
+      (EachKey-append (λ z. z ≡ k) (key s) (g s) (x ∷ []) (q.within.own s) (l.is, tt)) q.within.own
+
+  pub within_more : Within tool old.out q.mid q.p (grown now place s g) q.d k
+  within_more = record { merging = q.within.merging; clean = q.within.clean; own = own_more; beyond = q.within.beyond; under = q.within.under }
+
+  fails_in : (new : Reader) → new.held ≡ [] → new.ended ≡ false → FailsIn cmp (key s) k new (q.ls s)
+  fails_in new held ended = record {
+    held = held;
+    ended = ended;
+    rises = ap (fall cmp (key s)) (sym (append-nil (q.ls s))) ∙ at_head.begun.falling [];
+    last = ap (λ (l : Lines). last_or None (map (key s) l)) at_head.all ∙ last_push (key s) (q.p s ++ g s) x None ∙ ap (λ (l : List ℕ). Some l) l.is;
+  }
+
+  pub passing : (new : Reader) (piece : List ℕ) → Reads (now.reader s) new piece → IsLine (now.reader s).ending piece → IsSound new
+      → (side : Side) → GoneOf call now side (put s new now.reader side) (put s piece (λ t. []) side) (q.ls side) (q.p side ++ grown now place s g side) (q.d side)
+  passing new piece reads free sound = put_three (λ side r t m. GoneOf call now side r t (q.ls side) (q.p side ++ m) (q.d side)) s new piece (g s ++ x ∷ []) now.reader (λ t. []) g
+      (subst (λ (l : Lines). GoneOf call now s new piece (q.ls s) l (q.d s)) with_head
+      (rw at_head.bound (gone_passed _ _ o _ _ _ _ _ _ _ (q.sides s).got reads free sound at_head.begun))) (standing q)
+
+  -- the next line could not be read, where what was pushed is a beginning of the group's entries
+  module _ {out : Output} (clean : out.faulted ≡ false) {extra : Lines} (begins : StartsWith tool (grown now place s g) q.d k extra)
+      (wrote : Wrote q.mid out (text call.end extra)) (new : Reader) where
+    pub group_breaks : {after : Slots} (fault : MergeFault) → CannotRead s (place s) (now.reader s) new now.store after fault → IsMerge tool old (moved now s new out after) (Err fault)
+    group_breaks {after} (Read file) moves =
+        let e = moves.0 in
+        rw moves.1 (halts o _ _ within_more begins wrote (passing new e.piece e.faults.reads e.faults.whole moves.2) (record {
+          cause = rw (put_same s new now.reader) (⊎_elim (λ h. inl h) (λ h. inr (h.0, h.1 ∙ went q s)) e.cause);
+          others = rw (put_other s new now.reader) (went q (other s));
+          clean = clean;
+          denied = rw e.stored q.keeps.denied;
+        }) (put_each (λ side (r : Reader). r.failed ≡ true → FailsIn cmp (key side) k r (q.ls side)) s new now.reader
+        (λ fail. ⊎_elim (λ h. fails_in new h.1 h.2) (λ h. not_failed call s (h.1 ∙ went q s) fail) e.cause) (λ side. not_failed call side (went q side)))
+        (λ input pushed. tt) (rw e.stored (peak_line call q.keeps s (place s) (l.slots s) e.piece)))
+    group_breaks Write moves = absurd moves
+    group_breaks {after} Memory moves =
+        let e = moves.0 in
+        let failed = put_each (λ side (r : Reader). r.failed ≡ (old.reader side).failed) s new now.reader (e.failed ∙ went q s) (went q) in
+        halts o _ _ within_more begins wrote (passing new e.piece e.faults.reads e.faults.whole moves.1)
+        (record { denied = ap (λ (t : Slots). t.denied) e.stored; failed = failed; clean = clean }) (λ side. not_failed call side (failed side))
+        (λ input pushed. tt) (rw e.stored (peak_line call q.keeps s (place s) (l.slots s) e.piece))
+    group_breaks (faults.Disorder file number) moves = absurd moves
+
+  -- it goes to its next line
+  module _ {reader : Reader} {next : Sorted} {after : Slots} (comes : Comes (key s) cmp (place s) next (now.reader s) reader now.store after) where
+    gone_to : Next call.end cmp (key s) (old.reader s) reader next (place s).previous now.store after (q.ls s) (Some (key s (head_of now place s)))
+    gone_to = next_at tool o _ _ _ _ _ _ _ q.sides l.slots q.keeps.four s l.head reader next after comes
+
+    pub next_slots : AllSlots (put s next place)
+    next_slots = put_each HasSlots s next place (exchanged s (place s) next (comes_places comes) (l.slots s)) l.slots
+
+    -- the lines of the other input, and the one before, stay where they are
+    pub others_stay : (line after (place (other s)).standing ≡ line now.store (place (other s)).standing) × (line after (place (other s)).previous ≡ line now.store (place (other s)).previous)
+    others_stay =
+        let n = gone_to in
+        let apart = slots_apart s (place s) (place (other s)) (l.slots s) (l.slots (other s)) in (
+          rw n.stored (line_other now.store (place s).previous (place (other s)).standing n.bytes apart.0),
+          rw n.stored (line_other now.store (place s).previous (place (other s)).previous n.bytes apart.1),
+        )
+
+    pub last_stays : line after next.previous ≡ head_of now place s
+    last_stays =
+        let n = gone_to in
+        rw ((comes_places comes).1, n.stored) (line_other now.store (place s).previous (place s).standing n.bytes (λ e. (own_slots s (place s) (l.slots s)).0 (sym e)))
+
+    says : next.same ≡ (is_head next.stand && bytes_eq k (key s (line after next.standing)))
+    says =
+        comes_repeats cmp o (key s) (place s) next (now.reader s) reader now.store after at_head.some
+        (omega (arith, q.keeps.four, (low_slot s (place s) (l.slots s)).1)) comes
+        ∙ ap (λ (z : List ℕ). is_head next.stand && bytes_eq z (key s (line after next.standing))) l.is
+
+    -- whether that line has the group's key, too
+    pub goes_on : next.same ≡ true → (next.stand ≡ Head) × (key s (line after next.standing) ≡ k)
+    goes_on same = has_key next.stand k (key s (line after next.standing)) (sym says ∙ same)
+
+    pub goes_past : next.same ≡ false → next.stand ≡ Head → ¬ (key s (line after next.standing) ≡ k)
+    goes_past same = lacks_key next.stand k (key s (line after next.standing)) (sym says ∙ same)
+
+    -- the line before is of the group
+    pub record GoneOn (new : Output) : Type 0 where
+      pub group : Grouped call (moved now s reader new after) (put s next place) end k (grown now place s g) kept
+      pub bound : group.d (other s) ≡ q.d (other s)
+      pub more : (l : Lines) × (group.ls Second ≡ q.ls Second ++ l)
+
+    pub gone_on : {new : Output} → Wrote q.mid new (text call.end (pairs k (grown now place s g First) (grown now place s g Second))) → GoneOn new
+    gone_on wrote =
+        let n = gone_to in
+        record {
+          group = record {
+            ls = put s n.now_ls q.ls;
+            p = q.p;
+            d = put s n.bound q.d;
+            mid = q.mid;
+            sides = subst (λ (f : Side → Lines). BothStand tool old.reader (put s reader now.reader) (put s next place) after (put s n.now_ls q.ls) f (put s n.bound q.d))
+                (λ i side. put_behind s q.p g (q.ls s) (g s ++ x ∷ []) with_head side i)
+                (sides_on tool o _ _ _ _ _ _ _ q.sides l.slots q.keeps.four s l.head reader next after n);
+            within = record {
+              merging = q.within.merging;
+              clean = q.within.clean;
+              own = own_more;
+              beyond = put_each (λ side (b : Bound). (r : Lines) → Coming cmp (key side) b r → EachKey (AtMost cmp k) (key side) r) s n.bound q.d
+                  (λ r c. subst (λ (z : List ℕ). EachKey (AtMost cmp z) (key s) r) l.is (n.coming r c)) q.within.beyond;
+              under = put_each (λ side (b : Bound). Under cmp b k) s n.bound q.d (n.under k (rw l.is (self_at_most cmp o k))) q.within.under;
+            };
+            keeps = keeping_next s (place s) (l.slots s) q.keeps n;
+            wrote = wrote;
+            at = q.at;
+          };
+          bound = put_other s n.bound q.d;
+          more = put_more s q.ls n.now_ls n.more n.goes_on;
+        }

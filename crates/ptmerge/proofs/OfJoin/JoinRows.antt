@@ -3,13 +3,13 @@ use Rattle.std.proofs.Common.{◌≡◌, ℕ, ◌+◌, ◌*◌, List, [], ◌∷
 use Rattle.std.specs.Prelude.{codes}
 use Rattle.std.specs.Str.{byte}
 use Rattle.ptlangs.specs.Jobs.{Join, default_join}
-use Rattle.ptlangs.specs.declared.outlist.File.TheVariants as files
-use Rattle.ptlangs.specs.declared.outlist.OutField.TheVariants as items
 use Rattle.ptlines.specs.Text.{lines}
 use Rattle.ptmerge.specs.declared.order.Side.TheVariants.{First, Second}
 use Rattle.ptmerge.specs.Join.{fields, join_tool}
 use Rattle.ptmerge.specs.Keyed.{Disorder, decided, disorder, lines_of, merged}
 use Rattle.ptmerge.specs.Sides.{both}
+use Rattle.ptlangs.specs.declared.outlist.File.TheVariants as files
+use Rattle.ptlangs.specs.declared.outlist.OutField.TheVariants as items
 
 abbrev writes : Join → List ℕ → List ℕ → List ℕ
 writes job f g = merged (join_tool job) (both f g)

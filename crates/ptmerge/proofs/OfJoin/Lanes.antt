@@ -1,7 +1,8 @@
 -- Which of some lanes are blanks, and which make words untidy.
-use Rattle.std.proofs.Common.{◌≡◌, ℕ, zero, suc, ◌+◌, ◌-◌, ◌%◌, ◌^◌, ◌<◌, ◌≤◌, ◌==◌, ◌||◌, ◌&&◌, eqb, not, Bool, true, false, cond, List, [], ◌∷◌, length, map, replicate, get_or}
-use Rattle.std.proofs.Common.{bit_and, bit_or, refl, sym, ◌∙◌, ap, subst, arith}
-use Rattle.std.proofs.lemmas.Bool.{eqb-true, false≢true}
+use Rattle.std.proofs.Common.{◌≡◌, ⊎_elim, ℕ, zero, suc, ◌+◌, ◌-◌, ◌%◌, ◌^◌, ◌<◌, ◌≤◌, ◌==◌, ◌||◌, ◌&&◌, eqb, not, Bool, true, false, cond, List, [], ◌∷◌, length, map}
+use Rattle.std.proofs.Common.{replicate, get_or, bit_and, bit_or, refl, sym, ◌∙◌, ap, subst, arith}
+use Rattle.std.proofs.lemmas.Bool.{eqb-true, false≢true, or_cases, or_left, or_parts, or_right}
+use Rattle.std.proofs.lemmas.List.{get_or_past, length-map}
 use Rattle.std.proofs.lemmas.Simd.{get_or-chunk, get_or-zip2, length-chunk, length-zip2, mask_l-mod}
 use Rattle.std.specs.Simd.Lanes.{chunk, mask_l, top, zip2}
 use Rattle.memchr.specs.Find.{Nowhere}
@@ -25,12 +26,12 @@ blank_lanes [] n long = refl
 blank_lanes (b ∷ v) zero long = absurd (omega (arith, long))
 blank_lanes (b ∷ v) (suc n) long = λ i. blank_lane (eqb b 32) (eqb b 9) i ∷ blank_lanes v n (omega (arith, long)) i
 
-length-map : (test : ℕ → Bool) (v : List ℕ) → length (map test v) ≡ length v
-length-map test [] = refl
-length-map test (b ∷ v) = ap suc (length-map test v)
-
-pub blank_mask : (v : List ℕ) (n : ℕ) → length v ≡ n → n ≤ 64 → mask_l (map (top 7) (zip2 bit_or (same v n 32) (same v n 9))) % 2 ^ 64 ≡ mask_l (map is_blank v)
-blank_mask v n long few = ap (λ (ms : List Bool). mask_l ms % 2 ^ 64) (blank_lanes v n long) ∙ mask_l-mod (map is_blank v) 64 (omega (arith, length-map is_blank v, long, few))
+pub blank_mask : (bytes : List ℕ) (at n : ℕ) → at + n ≤ length bytes → n ≤ 64
+    → mask_l (map (top 7) (zip2 bit_or (same (chunk at n bytes) n 32) (same (chunk at n bytes) n 9))) % 2 ^ 64 ≡ mask_l (map is_blank (chunk at n bytes))
+blank_mask bytes at n within few =
+    let v = chunk at n bytes in
+    let long = length-chunk at n bytes within in
+    ap (λ (ms : List Bool). mask_l ms % 2 ^ 64) (blank_lanes v n long) ∙ mask_l-mod (map is_blank v) 64 (omega (arith, length-map v is_blank, long, few))
 
 -- ---- a tab, or a space behind another one
 
@@ -46,14 +47,11 @@ uneven_lane false false false = refl
 
 uneven_lanes : (u v : List ℕ) (n : ℕ) → length u ≡ n → length v ≡ n → map (top 7) (zip2 bit_or (same v n 9) (zip2 bit_and (same u n 32) (same v n 32))) ≡ zip2 is_uneven u v
 uneven_lanes [] [] n lu lv = refl
-uneven_lanes [] (b ∷ v) n lu lv = absurd (omega (arith, lu, lv))
-uneven_lanes (a ∷ u) [] n lu lv = absurd (omega (arith, lu, lv))
-uneven_lanes (a ∷ u) (b ∷ v) zero lu lv = absurd (omega (arith, lu))
 uneven_lanes (a ∷ u) (b ∷ v) (suc n) lu lv = λ i. uneven_lane (eqb b 9) (eqb a 32) (eqb b 32) i ∷ uneven_lanes u v n (omega (arith, lu)) (omega (arith, lv)) i
+uneven_lanes u v n lu lv = absurd (omega (arith, lu, lv))
 
 none_set : (ms : List Bool) → mask_l ms ≡ 0 → (k : ℕ) → get_or ms k false ≡ false
-none_set [] none zero = refl
-none_set [] none (suc k) = refl
+none_set [] none k = get_or_past [] k false (omega arith)
 none_set (true ∷ ms) none k = absurd (omega (arith, none))
 none_set (false ∷ ms) none zero = refl
 none_set (false ∷ ms) none (suc k) = none_set ms (omega (arith, none)) k
@@ -107,7 +105,7 @@ module _ (bytes : List ℕ) (at n : ℕ) (behind : 0 < at) (room : at + n ≤ le
   }
 
   pub even_lanes : IsEven bytes at (at + n) (eqb (mask_l (map (top 7) (zip2 bit_or (same here n 9) (zip2 bit_and (same front n 32) (same here n 32)))) % 2 ^ 64) 0)
-  even_lanes = even_by (mask_l (map (top 7) (zip2 bit_or (same here n 9) (zip2 bit_and (same front n 32) (same here n 32)))) % 2 ^ 64) mask_is
+  even_lanes = even_by _ mask_is
 
 -- ---- words with one space between each two
 
@@ -123,11 +121,7 @@ tidy_rest b (x ∷ xs) none last =
     ∙ tidy_rest x xs (λ k low high uneven. none (suc k) (omega arith) (omega (arith, high)) (subst (λ (T : Type 0). T) (next_place b x xs k low) uneven)) last
 
 rest_tidy : (b : ℕ) (xs : List ℕ) → is_tidy (b == 32) xs ≡ true → Nowhere (UnevenAt (b ∷ xs)) 1 (length (b ∷ xs)) × ((get_or (b ∷ xs) (length xs) 0 == 32) ≡ false)
-rest_tidy b [] is = (λ k low high uneven. absurd (omega (arith, low, high)), by (b == 32) is)
-  where
-    by : (t : Bool) → not t ≡ true → t ≡ false
-    by true h = sym h
-    by false h = refl
+rest_tidy b [] is = (λ k low high uneven. absurd (omega (arith, low, high)), elim (b == 32) as (λ t. not t ≡ true → t ≡ false) [ true ↦ λ h. sym h | false ↦ λ h. refl ] is)
 rest_tidy b (x ∷ xs) is = by (is_uneven b x) refl is (rest_tidy x xs)
   where
     at_each : is_uneven b x ≡ false → Nowhere (UnevenAt (x ∷ xs)) 1 (length (x ∷ xs)) → (k : ℕ) → 1 ≤ k → k < length (b ∷ x ∷ xs) → ¬ UnevenAt (b ∷ x ∷ xs) k
@@ -143,22 +137,13 @@ rest_tidy b (x ∷ xs) is = by (is_uneven b x) refl is (rest_tidy x xs)
     by false e h more = (at_each e (more h).0, (more h).1)
 
 first_word : (b : ℕ) (xs : List ℕ) → is_blank b ≡ false → is_tidy true (b ∷ xs) ≡ is_tidy (b == 32) xs
-first_word b xs word = by (b == 9) (b == 32) word
-  where
-    by : (tab space : Bool) → (space || tab) ≡ false → cond (tab || (true && space)) false (is_tidy space xs) ≡ is_tidy space xs
-    by true true h = absurd (false≢true (sym h))
-    by true false h = absurd (false≢true (sym h))
-    by false true h = absurd (false≢true (sym h))
-    by false false h = refl
+first_word b xs word = let w = or_parts (b == 32) (b == 9) word in rw (w.1, w.0) refl
 
 pub blank_first : (bytes : List ℕ) → is_blank (get_or bytes 0 0) ≡ true → false ≡ is_tidy true bytes
 blank_first [] blank = absurd (false≢true blank)
-blank_first (b ∷ xs) blank = by (b == 9) (b == 32) blank
-  where
-    by : (tab space : Bool) → (space || tab) ≡ true → false ≡ cond (tab || (true && space)) false (is_tidy space xs)
-    by true space h = refl
-    by false true h = refl
-    by false false h = absurd (false≢true h)
+blank_first (b ∷ xs) blank =
+    let either : (b == 9 || b == 32) ≡ true = ⊎_elim (λ h. or_right (b == 9) (b == 32) h) (λ h. or_left (b == 9) (b == 32) h) (or_cases (b == 32) (b == 9) blank) in
+    rw either refl
 
 pub tidy_is : (bytes : List ℕ) (even : Bool) → 0 < length bytes → is_blank (get_or bytes 0 0) ≡ false → ¬ (get_or bytes (length bytes - 1) 0 ≡ 32)
     → IsEven bytes 1 (length bytes) even → even ≡ is_tidy true bytes

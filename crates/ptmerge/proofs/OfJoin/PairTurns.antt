@@ -1,247 +1,251 @@
--- What each turn of `join` does in which a line is paired with its group, and each way out of it.
-use Rattle.std.proofs.Common.{◌≡◌, inl, inr, ℕ, ◌+◌, ◌-◌, ◌==◌, if◌then◌else◌, ◌≤◌, ◌<◌, ◌&&◌, true, false, List, [], ◌∷◌, ◌++◌, Err, length}
-use Rattle.std.proofs.Common.{refl, sym, ◌∙◌, ap, subst, arith, append_assoc}
-use Rattle.std.specs.Prelude.{bytes_eq}
-use Rattle.std.proofs.lemmas.Bool.{false≢true}
-use Rattle.std.proofs.lemmas.Bool.Decides.{nat_tests}
-use Rattle.std.proofs.lemmas.List.{append-nil, length_push}
+-- What each turn of `join` does between two groups, and while a line is paired with its group, and each way out of it.
+use Rattle.std.proofs.Common.{◌≡◌, inl, inr, ℕ, false, List, [], Some, None, Result, Ok, Err, refl, sym, ◌∙◌, subst, arith, ◌⊎◌, ⊎_elim, ◌+◌, ◌-◌, ◌==◌, ◌≤◌, ◌<◌, true, ◌∷◌}
+use Rattle.std.proofs.Common.{◌++◌, length, ap}
 use Rattle.ptlines.specs.Outputs.{Output, Wrote}
-use Rattle.ptlines.specs.Readers.{Reader}
-use Rattle.ptlines.specs.Slots.{Slots, line, with_line}
-use Rattle.ptlines.specs.Text.{text, longest}
-use Rattle.ptlines.proofs.Pushed.{wrote_trans}
-use Rattle.ptlines.proofs.TextLaws.{text-append}
+use Rattle.ptlines.specs.Readers.{Reader, Reads, IsSound}
+use Rattle.ptlines.specs.Slots.{Slots, line, total}
+use Rattle.ptlines.specs.Text.{text, IsLine, longest}
+use Rattle.ptlines.proofs.Pushed.{wrote_nothing, wrote_trans}
 use Rattle.ptmerge.specs.declared.faults.MergeFault.{MergeFault}
 use Rattle.ptmerge.specs.declared.faults.MergeFault.TheVariants.{Write}
 use Rattle.ptmerge.specs.declared.order.Side.{Side}
-use Rattle.ptmerge.specs.declared.order.Side.TheVariants.{First, Second}
+use Rattle.ptmerge.specs.declared.order.Side.TheVariants.{Second, First}
 use Rattle.ptmerge.specs.declared.merging.sorted.Sorted.{Sorted}
-use Rattle.ptmerge.specs.declared.merging.sorted.Stand.TheVariants.{Head}
-use Rattle.ptmerge.specs.Groups.{IsGroupCleared, end_slot, first_slot, group, is_head}
-use Rattle.ptmerge.specs.Keyed.{Lines, Tool}
-use Rattle.ptmerge.specs.LinePasses.{PassesLine}
-use Rattle.ptmerge.specs.Merges.{State, IsMerge}
-use Rattle.ptmerge.specs.Places.{Comes, HasSlots}
-use Rattle.ptmerge.specs.Sides.{both, put, other}
+use Rattle.ptmerge.specs.declared.merging.sorted.Stand.TheVariants.{Ended, Head}
+use Rattle.ptmerge.specs.Keyed.{Lines, by_keys}
+use Rattle.ptmerge.specs.Merges.{State, Ends, IsMerge}
+use Rattle.ptmerge.specs.Places.{Comes}
+use Rattle.ptmerge.specs.Sides.{put, other}
+use Rattle.ptmerge.specs.Steps.{IsAlone, IsDecided}
+use Rattle.ptmerge.specs.Stores.{IsCleared}
+use Rattle.ptmerge.proofs.OfMerges.Bounds.{Bound}
+use Rattle.ptmerge.proofs.OfComm.CommTurns.{same_state, Running}
 use Rattle.ptmerge.proofs.OfMerges.Got.{reads_nothing}
-use Rattle.ptmerge.proofs.OfJoin.GroupStops.{halts}
-use Rattle.ptmerge.proofs.OfJoin.GroupSlots.{group_one}
-use Rattle.ptmerge.proofs.OfJoin.GroupTurns.{Grouped, IsPairing, closes, group_breaks, own_more, passing, past_group, standing, starts}
-use Rattle.ptmerge.proofs.OfJoin.JoinSlots.{end_within, group_is, kept_line, keeping_cleared, keeping_line}
+use Rattle.ptmerge.proofs.OfJoin.GroupTurns.{head_of, Call, GoneOf, NotPassed, fits_kept, moved, not_failed, peak_line, AtLine, GoneOn, Grouped, closes, goes_on, goes_past}
+use Rattle.ptmerge.proofs.OfJoin.GroupTurns.{gone_on, group_breaks, grown, is_past, next_slots, others_stay, passing, stand_still, standing, starts, went, within_more}
+use Rattle.ptmerge.proofs.OfJoin.GroupSlots.{AllSlots, Keeping, keeping_next, keeping_starts, group_is, kept_line, keeping_cleared, low_slot, group_one}
+use Rattle.ptmerge.proofs.OfMerges.Pairs.{put_each, put_other, put_same}
+use Rattle.ptmerge.proofs.OfMerges.Passing.{Late, Merging, late_none}
+use Rattle.ptmerge.proofs.OfMerges.Slotted.{has_lines_total}
+use Rattle.ptmerge.proofs.OfMerges.Splitting.{all_keys}
+use Rattle.ptmerge.proofs.OfMerges.Standing.{Passed}
+use Rattle.ptmerge.proofs.OfMerges.Stopping.{Concludes, gone_passed, gone_standing, stops}
+use Rattle.ptmerge.proofs.OfMerges.Turning.{BothStand, ahead, all_ended, alone, breaks, merging_on, next_at, pass_one, passed_at, sides_on, stops_at, IsAbove}
+use Rattle.std.proofs.lemmas.Bool.Decides.{nat_tests}
+use Rattle.std.proofs.lemmas.List.{length_push}
+use Rattle.ptlines.proofs.TextLaws.{text-append}
+use Rattle.ptmerge.specs.Groups.{IsGroupCleared, end_slot, first_slot, group}
+use Rattle.ptmerge.proofs.OfJoin.GroupStops.{StartsWith, halts}
 use Rattle.ptmerge.proofs.OfMerges.Least.{EachKey, EachKey-at}
-use Rattle.ptmerge.proofs.OfMerges.Orders.{IsKeyOrder, AtMost, self_at_most}
-use Rattle.ptmerge.proofs.OfMerges.Pairs.{put_each}
-use Rattle.ptmerge.proofs.OfMerges.Slotted.{line_other}
-use Rattle.ptmerge.proofs.OfMerges.Standing.{comes_repeats, sided_keeps}
-use Rattle.ptmerge.proofs.OfMerges.Turning.{IsAbove, next_at, own_slots, passed_at, sides_on}
-use Rattle.ptmerge.proofs.OfComm.CommTurns.{same_state}
-use Rattle.ptmerge.proofs.OfJoin.JoinTurns.{Between, Held, SidedOf, fits_kept, has_key, lacks_key, low_slot, peak_line}
+use Rattle.ptmerge.specs.declared.faults.MergeFault.TheVariants as faults
 
-module _ (tool : Tool) (o : IsKeyOrder tool.cmp) (pairs : List ℕ → Lines → Lines → Lines) (laws : IsPairing tool pairs) (old : State)
-    (unfailed : (side : Side) → (old.reader side).failed ≡ false) where
-  -- they are gathered, and a line of the first input with this key stands
-  pub record Pairing (now : State) (place : Side → Sorted) (end : ℕ) : Type 0 where
-    pub k : List ℕ
-    pub g : Side → Lines
-    pub kept : Lines
-    pub q : Grouped tool o pairs laws old unfailed now place end k g kept
-    pub lines_in : Held now.store (place Second) kept (g Second)
-    pub some : 0 < length (g Second)
-    pub above : IsAbove tool.cmp (tool.key Second) k (q.d Second)
-    pub head1 : (place First).stand ≡ Head
-    pub key1 : tool.key First (line now.store (place First).standing) ≡ k
+-- no group is open
+pub record Between (call : Call) (now : State) (place : Side → Sorted) : Type 0 where
+  pub ls : Side → Lines
+  pub p : Side → Lines
+  pub b : Side → Bound
+  pub sides : BothStand call.tool call.old.reader now.reader place now.store ls p b
+  pub merging : Merging call.tool b p call.old.out now.out
+  pub keeps : Keeping (call.key Second) call.old.store now.store ls []
 
-  module _ (now : State) (place : Side → Sorted) (end : ℕ) (r : Pairing now place end) (slots : (side : Side) → HasSlots side (place side)) (new : Output)
-      (wrote : Wrote now.out new (text tool.end (pairs r.k (line now.store (place First).standing ∷ []) (r.g Second)))) (clean : now.out.faulted ≡ false) where
-    abbrev z : List ℕ
-    z = line now.store (place First).standing
+pub starts_between : {call : Call} {now : State} {place : Side → Sorted} → Running call.tool call.old now place → Between call now place
+starts_between r = record { ls = r.ls; p = r.p; b = r.b; sides = r.sides; merging = r.merging; keeps = keeping_starts r.keeps }
 
-    abbrev now_g : Side → Lines
-    now_g = both (r.g First ++ line now.store (place First).standing ∷ []) (r.g Second)
+module _ {call : Call} {now : State} {place : Side → Sorted} (r : Between call now place) (clean : now.out.faulted ≡ false) where
+  open call use {cmp, key, o, old, tool}
 
-    own_pair : (side : Side) → EachKey (λ x. x ≡ r.k) (tool.key side) (both (r.g First ++ line now.store (place First).standing ∷ []) (r.g Second) side)
-    own_pair First = own_more tool o pairs laws old unfailed now place end r.k r.g r.kept r.q slots First r.head1 r.key1
-    own_pair Second = r.q.within.own Second
+  went_on : (side : Side) → (now.reader side).failed ≡ (old.reader side).failed
+  went_on side = (r.sides side).got.goes.failed
 
-    wrote_more : Wrote r.q.mid new (text tool.end (pairs r.k (r.g First ++ line now.store (place First).standing ∷ []) (r.g Second)))
-    wrote_more = subst (λ (t : List ℕ). Wrote r.q.mid new t)
-        (sym (ap (text tool.end) (laws.more r.k (r.g First) (line now.store (place First).standing ∷ []) (r.g Second))
-        ∙ text-append tool.end (pairs r.k (r.g First) (r.g Second)) (pairs r.k (line now.store (place First).standing ∷ []) (r.g Second))))
-        (wrote_trans r.q.mid now.out new (text tool.end (pairs r.k (r.g First) (r.g Second)))
-        (text tool.end (pairs r.k (line now.store (place First).standing ∷ []) (r.g Second))) clean r.q.wrote wrote)
+  stand : (side : Side) → GoneOf call now side (now.reader side) [] (r.ls side) (r.p side) (r.b side)
+  stand side = gone_standing _ _ _ _ _ _ _ _ _ _ (r.sides side)
 
-    -- the first input went on
-    pub paired : (reader : Reader) (next : Sorted) (after : Slots) → Comes (tool.key First) tool.cmp (place First) next (now.reader First) reader now.store after
-        → (q : Grouped tool o pairs laws old unfailed (record { reader = put First reader now.reader; out = new; store = after })
-        (put First next place) end r.k (both (r.g First ++ line now.store (place First).standing ∷ []) (r.g Second)) r.kept)
-        × IsAbove tool.cmp (tool.key Second) r.k (q.d Second) × Held after (place Second) r.kept (r.g Second)
-    paired reader next after comes =
-        let n = next_at tool o old.reader now.reader place now.store r.q.ls (λ side. r.q.p side ++ r.g side) r.q.d r.q.sides slots r.q.keeps.four First r.head1 reader next after comes in
-        let on = sides_on tool o old.reader now.reader place now.store r.q.ls (λ side. r.q.p side ++ r.g side) r.q.d r.q.sides slots r.q.keeps.four First r.head1 reader next after n in
-        let all = (passed_at tool o old.reader now.reader place now.store r.q.ls (λ side. r.q.p side ++ r.g side) r.q.d r.q.sides slots r.q.keeps.four First r.head1).all in (
-          record {
-            ls = put First n.now_ls r.q.ls;
-            p = r.q.p;
-            d = put First n.bound r.q.d;
-            mid = r.q.mid;
-            sides = elim [
-              | First ↦ subst (λ (l : Lines). SidedOf tool o pairs laws old unfailed First (put First reader now.reader) (put First next place) after n.now_ls l n.bound)
-                  (all ∙ append_assoc (r.q.p First) (r.g First) (line now.store (place First).standing ∷ [])) (on First)
-              | Second ↦ on Second
-            ];
-            within = record {
-              merging = r.q.within.merging;
-              clean = r.q.within.clean;
-              own = own_pair;
-              beyond = elim [ First ↦ λ l c. subst (λ (w : List ℕ). EachKey (AtMost tool.cmp w) (tool.key First) l) r.key1 (n.coming l c) | Second ↦ r.q.within.beyond Second ];
-              under = elim [ First ↦ n.under r.k (subst (λ (w : List ℕ). AtMost tool.cmp r.k w) (sym r.key1) (self_at_most tool.cmp o r.k)) | Second ↦ r.q.within.under Second ];
-            };
-            keeps = keeping_line (tool.key Second) old.store now.store after First (place First) r.q.ls (put First n.now_ls r.q.ls) r.kept n.bytes
-                (slots First) (low_slot First (place First) (slots First)).1 r.q.keeps
-                (put_each (λ side (l : Lines). longest (r.q.ls side) ≤ longest l) First n.now_ls r.q.ls n.longer (λ side. omega arith)) n.fits [] (sym (append-nil (r.q.ls Second))) n.stored;
-            wrote = wrote_more;
-            at = r.q.at;
-          },
-          r.above,
-          held_on n.bytes n.stored r.lines_in,
-        )
-      where
-        apart : ¬ ((place First).previous ≡ (place Second).previous)
-        apart same = absurd (omega (arith, same, own_slots First (place First) (slots First), own_slots Second (place Second) (slots Second)))
+  -- a line that one input alone has
+  module _ (slots : AllSlots place) {s : Side} (step : IsAlone cmp key place now.store s) {new : Output}
+      (wrote : Wrote now.out new (text call.end (by_keys tool all_keys (alone s (head_of now place s))))) where
+    abbrev q : Side → Lines
+    q = put s (r.ls s) r.p
 
-        held_on : (bytes : List ℕ) → after ≡ with_line now.store (place First).previous bytes → Held now.store (place Second) r.kept (r.g Second)
-            → Held after (place Second) r.kept (r.g Second)
-        held_on bytes stored (inl h) = inl h
-        held_on bytes stored (inr h) =
-            let same : line after (place Second).previous ≡ line now.store (place Second).previous = ap (λ (t : Slots). line t (place Second).previous) stored
-            ∙ line_other now.store (place First).previous (place Second).previous bytes apart in
-            inr (h.0, h.1 ∙ (λ i. sym same i ∷ []))
+    at_head : Passed cmp (key s) (place s) now.store (r.ls s) (r.p s) (r.b s)
+    at_head = passed_at tool o _ _ _ _ _ _ _ r.sides slots r.keeps.four s step.stands
 
-    went_pair : (side : Side) → (now.reader side).failed ≡ (old.reader side).failed
-    went_pair side = (r.q.sides side).got.goes.failed
+    pushed_alone : Merging tool r.b (put s (r.ls s) r.p) old.out new × Late tool r.b (put s (r.ls s) r.p) old.out new
+    pushed_alone =
+        let x = head_of now place s in
+        let a = ahead cmp o (key (other s)) (key s x) (place (other s)).stand (place (other s)) now.store (now.reader (other s))
+        (r.ls (other s)) (r.p (other s)) (r.b (other s)) step.before (r.sides (other s)).stands in
+        subst (λ (l : Lines). Merging tool r.b (put s l r.p) old.out new × Late tool r.b (put s l r.p) old.out new) (sym at_head.all)
+        (pass_one tool o call.laws.alone s x r.b r.p _ _ _ clean r.merging at_head.bound a.0 a.1 wrote)
 
-    pub pair_stops : (reader : Reader) (next : Sorted) (after : Slots) (fault : MergeFault)
-        → PassesLine (tool.key First) tool.cmp First (place First) next (now.reader First) reader now.store after new (Err fault)
-        → IsMerge tool old (record { reader = put First reader now.reader; out = new; store = after }) (Err fault)
-    pair_stops reader next after fault (inl e) = same_state tool old First now new reader after fault e.0 e.1
-        (halts tool o old (record { reader = now.reader; out = new; store = now.store }) now.reader (λ side. []) r.q.mid r.q.ls r.q.p now_g r.q.d r.k
-        (pairs r.k (r.g First ++ line now.store (place First).standing ∷ []) (r.g Second))
-        (elim [
-          | First ↦ passing tool o pairs laws old unfailed now place end r.k r.g r.kept r.q slots First
-              r.head1 r.key1 (now.reader First) [] (reads_nothing (now.reader First)) tt (r.q.sides First).sound
-          | Second ↦ standing tool o pairs laws old unfailed now place end r.k r.g r.kept r.q slots Second
-        ]) (record { merging = r.q.within.merging; clean = r.q.within.clean; own = own_pair; beyond = r.q.within.beyond; under = r.q.within.under }) wrote_more
-        (starts tool o pairs laws r.k now_g own_pair r.q.d r.q.within.beyond (inr (r.some, r.above))) Write
-        (record { faulted = e.1.faulted; failed = went_pair; denied = r.q.keeps.denied }) (λ side fail. absurd (false≢true (sym (went_pair side ∙ unfailed side) ∙ fail))) (λ input pushed. tt)
-        (λ all w. fits_kept tool o pairs laws old unfailed now.store now.store r.q.ls r.kept r.q.keeps all (omega arith) refl (λ side. omega (arith, (w side).1)) (w Second).0.more (w Second).0.is))
-    pair_stops reader next after fault (inr e) =
-        group_breaks tool o pairs laws old unfailed now place end r.k r.g r.kept r.q slots First r.head1 r.key1 now_g own_pair refl refl new e.0
-        (pairs r.k (r.g First ++ line now.store (place First).standing ∷ []) (r.g Second)) wrote_more
-        (starts tool o pairs laws r.k now_g own_pair r.q.d r.q.within.beyond (inr (r.some, r.above))) now.store r.q.keeps.denied
-        (λ piece all w. peak_line tool o pairs laws old unfailed now.store First (place First) r.q.ls all r.kept piece (slots First) r.q.keeps (λ side. omega (arith, (w side).1))
-        (omega (arith, (w First).1)) (w Second).0.more (w Second).0.is) reader after fault e.1
-
-  -- the group's lines stand in its slots, and each has its key
-  module _ (now : State) (place : Side → Sorted) (end : ℕ) (r : Pairing now place end) (slots : (side : Side) → HasSlots side (place side)) where
-    is_kept : r.kept ≡ r.g Second → (end == 4) ≡ false
-    is_kept same = let more : 4 < end = omega (arith, r.q.at, ap length same, r.some) in grind (arith, nat_tests)
-
-    is_alone : r.kept ≡ [] → (end == 4) ≡ true
-    is_alone none = let four : end ≡ 4 = omega (arith, r.q.at, ap length none) in grind (arith, nat_tests)
-
-    abbrev only : ℕ
-    only = (place Second).previous
-
-    pub group_stands : group now.store (first_slot (place Second) end) (end_slot (place Second) end) ≡ r.g Second
-    group_stands = by r.lines_in
-      where
-        by : Held now.store (place Second) r.kept (r.g Second) → group now.store (first_slot (place Second) end) (end_slot (place Second) end) ≡ r.g Second
-        by (inl same) =
-            (λ i. group now.store (if is_kept same i then (place Second).previous else 4) (if is_kept same i then (place Second).previous + 1 else end))
-            ∙ group_is (tool.key Second) old.store now.store r.q.ls r.kept r.q.keeps end r.q.at ∙ same
-        by (inr h) =
-            (λ i. group now.store (if is_alone h.0 i then (place Second).previous else 4) (if is_alone h.0 i then (place Second).previous + 1 else end))
-            ∙ group_one now.store (place Second).previous (omega (arith, r.q.keeps.four, (low_slot Second (place Second) (slots Second)).1)) ∙ sym h.1
-
-    pub keyed_slot : (slot : ℕ) → first_slot (place Second) end ≤ slot → slot < end_slot (place Second) end → tool.key Second (line now.store slot) ≡ r.k
-    keyed_slot slot from low = by r.lines_in
-      where
-        by : Held now.store (place Second) r.kept (r.g Second) → tool.key Second (line now.store slot) ≡ r.k
-        by (inl same) =
-            let least : 4 ≤ slot = subst (λ b. (if b then (place Second).previous else 4) ≤ slot) (is_kept same) from in
-            let most : slot < end = subst (λ b. slot < (if b then (place Second).previous + 1 else end)) (is_kept same) low in
-            let own = subst (EachKey (λ x. x ≡ r.k) (tool.key Second)) (sym same) (r.q.within.own Second) in
-            ap (tool.key Second) (kept_line (tool.key Second) old.store now.store r.q.ls r.kept r.q.keeps slot least (omega (arith, most, r.q.at)))
-            ∙ EachKey-at (λ x. x ≡ r.k) (tool.key Second) r.kept (slot - 4) (omega (arith, least, most, r.q.at)) own
-        by (inr h) =
-            let least : (place Second).previous ≤ slot = subst (λ b. (if b then (place Second).previous else 4) ≤ slot) (is_alone h.0) from in
-            let most : slot < (place Second).previous + 1 = subst (λ b. slot < (if b then (place Second).previous + 1 else end)) (is_alone h.0) low in
-            let is : slot ≡ (place Second).previous = omega (arith, least, most) in
-            ap (λ (i : ℕ). tool.key Second (line now.store i)) is ∙ (subst (EachKey (λ x. x ≡ r.k) (tool.key Second)) h.1 (r.q.within.own Second)).0
-
-  -- the group is closed
-  pub closed : (now : State) (place : Side → Sorted) (end : ℕ) (k : List ℕ) (g : Side → Lines) (kept : Lines) (q : Grouped tool o pairs laws old unfailed now place end k g kept)
-      → (slots : (side : Side) → HasSlots side (place side)) → ((side : Side) → 0 < length (g side)) → ((side : Side) → IsAbove tool.cmp (tool.key side) k (q.d side))
-      → (after : Slots) → IsGroupCleared now.store after end → Between tool o pairs laws old unfailed (record { reader = now.reader; out = now.out; store = after }) place
-  closed now place end k g kept q slots some above after clear = record {
-    ls = q.ls;
-    p = λ side. q.p side ++ g side;
-    b = q.d;
-    sides = λ side.
-        sided_keeps tool.end tool.cmp (tool.key side) (old.reader side) (now.reader side) (place side) now.store after (q.ls side) (q.p side ++ g side)
-        (q.d side) (clear.others (place side).standing (inl (low_slot side (place side) (slots side)).0))
-        (clear.others (place side).previous (inl (low_slot side (place side) (slots side)).1)) (q.sides side);
-    merging = closes tool o pairs laws k g q.within.own q.d q.p old.out q.mid now.out q.within some above q.wrote;
-    keeps = keeping_cleared (tool.key Second) old.store now.store q.ls kept q.keeps after end q.at clear;
-  }
-
-  -- an input is past the group's key
-  pub is_past : (now : State) (place : Side → Sorted) (end : ℕ) (k : List ℕ) (g : Side → Lines) (kept : Lines) (q : Grouped tool o pairs laws old unfailed now place end k g kept)
-      (s : Side) → ((place s).stand ≡ Head → ¬ (tool.key s (line now.store (place s).standing) ≡ k)) → IsAbove tool.cmp (tool.key s) k (q.d s)
-  is_past now place end k g kept q s other = past_group tool.cmp o (tool.key s) k (place s).stand (place s) now.store (now.reader s) (q.ls s) (q.p s ++ g s) (q.d s)
-      (q.sides s).stands (q.within.under s) other
-
-  module _ (now : State) (place : Side → Sorted) (end : ℕ) (r : Pairing now place end) (slots : (side : Side) → HasSlots side (place side)) (new : Output)
-      (wrote : Wrote now.out new (text tool.end (pairs r.k (line now.store (place First).standing ∷ []) (r.g Second)))) (clean : now.out.faulted ≡ false)
-      (reader : Reader) (next : Sorted) (after : Slots)
-      (comes : Comes (tool.key First) tool.cmp (place First) next (now.reader First) reader now.store after) where
-    went_on : (q : Grouped tool o pairs laws old unfailed (record { reader = put First reader now.reader; out = new; store = after })
-        (put First next place) end r.k (both (r.g First ++ line now.store (place First).standing ∷ []) (r.g Second)) r.kept) × IsAbove tool.cmp (tool.key Second) r.k (q.d Second)
-        × Held after (place Second) r.kept (r.g Second)
-    went_on = paired now place end r slots new wrote clean reader next after comes
-
-    says : next.same ≡ (is_head next.stand && bytes_eq r.k (tool.key First (line after next.standing)))
-    says =
-        let here = passed_at tool o old.reader now.reader place now.store r.q.ls (λ side. r.q.p side ++ r.g side) r.q.d r.q.sides slots r.q.keeps.four First r.head1 in
-        comes_repeats tool.cmp o (tool.key First) (place First) next (now.reader First) reader now.store after here.some
-        (omega (arith, r.q.keeps.four, (low_slot First (place First) (slots First)).1)) comes
-        ∙ ap (λ (k : List ℕ). is_head next.stand && bytes_eq k (tool.key First (line after next.standing))) r.key1
-
-    pub pairs_on : next.same ≡ true → Pairing (record { reader = put First reader now.reader; out = new; store = after }) (put First next place) end
-    pairs_on is =
-        let h = has_key next.stand r.k (tool.key First (line after next.standing)) (sym says ∙ is) in
+    pub alone_on : {reader : Reader} {next : Sorted} {after : Slots} → Comes (key s) cmp (place s) next (now.reader s) reader now.store after
+        → Between call (moved now s reader new after) (put s next place)
+    alone_on {reader} {next} {after} comes =
+        let n = next_at tool o _ _ _ _ _ _ _ r.sides slots r.keeps.four s step.stands reader next after comes in
         record {
-          k = r.k;
-          g = both (r.g First ++ line now.store (place First).standing ∷ []) (r.g Second);
-          kept = r.kept;
-          q = went_on.0;
-          lines_in = went_on.2;
-          some = r.some;
-          above = went_on.1;
-          head1 = h.0;
-          key1 = sym h.1;
+          ls = put s n.now_ls r.ls;
+          p = q;
+          b = put s n.bound r.b;
+          sides = sides_on tool o _ _ _ _ _ _ _ r.sides slots r.keeps.four s step.stands reader next after n;
+          merging = merging_on tool o _ _ _ _ _ _ _ r.sides slots r.keeps.four s step.stands reader next after n q _ _ pushed_alone.0;
+          keeps = keeping_next s (place s) (slots s) r.keeps n;
         }
 
-    -- the slots of the group are still there
-    pub pair_end : (4 ≤ end) × (end ≤ length after.lines)
-    pair_end = (omega (arith, went_on.0.at), end_within (tool.key Second) old.store after went_on.0.ls r.kept went_on.0.keeps end went_on.0.at)
+    passing_one : (reader : Reader) (piece : List ℕ) → Reads (now.reader s) reader piece → IsLine (now.reader s).ending piece → IsSound reader
+        → GoneOf call now s reader piece (r.ls s) (r.ls s) (r.b s)
+    passing_one reader piece reads free sound = rw at_head.bound (gone_passed _ _ o _ _ _ _ _ _ _ (r.sides s).got reads free sound at_head.begun)
 
-    pub group_closed : next.same ≡ false → ((side : Side) → HasSlots side (put First next place side)) → (cleared : Slots) → IsGroupCleared after cleared end
-        → Between tool o pairs laws old unfailed (record { reader = put First reader now.reader; out = new; store = cleared }) (put First next place)
-    group_closed is slots2 cleared clear =
-        let mine = is_past (record { reader = put First reader now.reader; out = new; store = after }) (put First next place) end r.k
-        (both (r.g First ++ line now.store (place First).standing ∷ []) (r.g Second)) r.kept went_on.0 First
-        (λ e same. lacks_key next.stand r.k (tool.key First (line after next.standing)) (sym says ∙ is) e (sym same)) in
-        closed (record { reader = put First reader now.reader; out = new; store = after }) (put First next place) end r.k
-        (both (r.g First ++ line now.store (place First).standing ∷ []) (r.g Second)) r.kept went_on.0 slots2
-        (elim [ First ↦ omega (arith, length_push (r.g First) (line now.store (place First).standing)) | Second ↦ r.some ]) (elim [ First ↦ mine | Second ↦ went_on.1 ]) cleared clear
+    pub alone_stops : {reader : Reader} {after : Slots} {fault : MergeFault} → NotPassed now s (place s) reader after new fault → IsMerge tool old (moved now s reader new after) (Err fault)
+    alone_stops {reader} (inl e) = same_state _ _ s now _ reader _ _ e.0 e.1
+        (stops tool o _ _ _ _ _ _ _
+        (put_each (λ side (l : Lines). GoneOf call now side (now.reader side) [] (r.ls side) l (r.b side)) s (r.ls s) r.p
+        (passing_one (now.reader s) [] (reads_nothing (now.reader s)) tt (r.sides s).sound) stand)
+        pushed_alone.0 pushed_alone.1 (Err Write) (record { faulted = e.1.faulted; failed = went_on; denied = r.keeps.denied }) (λ side. not_failed call side (went_on side)) tt
+        (fits_kept call r.keeps now.store (omega arith) refl))
+    alone_stops {reader} {after} {fault} (inr e) =
+        let same : put s (r.ls s) r.p s ≡ r.ls s = put_same s (r.ls s) r.p in
+        breaks tool o old (record now { out = new }) r.ls q r.b pushed_alone.0 call.unfailed went_on e.0 s (place s) reader after fault
+        (λ new piece reads free sound. rw same (passing_one new piece reads free sound)) (sym same) (Some (key s (head_of now place s)))
+        (rw same at_head.begun) (rw (put_other s (r.ls s) r.p) (stand (other s))) r.keeps.denied (λ piece. peak_line call r.keeps s (place s) (slots s) piece) e.1
+
+  -- the end
+  module _ {after : Slots} (clear : IsCleared now.store after) where
+    empty : total after.lines ≡ 0
+    empty = omega (arith, clear.emptied, (has_lines_total now.store.lines (λ side. longest (r.ls side)) 0 r.keeps.lines).2)
+
+    concludes : (result : Result (Unit {0}) MergeFault) → Ends old (record now { store = after }) result → Concludes tool r.b result → IsMerge tool old (record now { store = after }) result
+    concludes result ends at =
+        stops tool o _ _ _ _ _ _ _ stand r.merging
+        (late_none tool _ _ _ _ _ clean r.merging.wrote (wrote_nothing now.out)) result ends (λ side. not_failed call side (went_on side)) at
+        (fits_kept call r.keeps after clear.peak clear.slots)
+
+    pub ended : ((side : Side) → IsSound (old.reader side)) → ((side : Side) → (old.reader side).fault ≡ None) → ((side : Side) → (place side).stand ≡ Ended)
+        → IsMerge tool old (record now { store = after }) (Ok tt)
+    ended sound readable step =
+        let e = all_ended tool _ _ _ _ _ _ _ r.sides step in
+        concludes (Ok tt) (record {
+          done = λ side. (e side).1;
+          fault = λ side. (r.sides side).got.goes.fault;
+          failed = went_on;
+          short = λ side. (r.sides side).got.goes.short ((sound side).long (readable side));
+          clean = clean;
+          denied = clear.denied ∙ r.keeps.denied;
+          empty = empty;
+        }) (λ side. (e side).0)
+
+    pub fallen : {s : Side} {n : ℕ} → IsDecided cmp key place now.store s n → IsMerge tool old (record now { store = after }) (Err (faults.Disorder s n))
+    fallen {s} {n} step = concludes (Err (faults.Disorder s n)) (record {
+      fault = λ side. (r.sides side).got.goes.fault;
+      failed = went_on;
+      clean = clean;
+      denied = clear.denied ∙ r.keeps.denied;
+      empty = empty;
+    }) (stops_at tool o _ _ _ _ _ _ _ r.sides s n step)
+
+-- ---- while a group is paired
+
+-- the group's lines are those that are kept, or its only one is the line before that at which the second input stands
+abbrev pub Held : Slots → Sorted → Lines → Lines → Type 0
+Held store second kept g = (kept ≡ g) ⊎ ((kept ≡ []) × (g ≡ line store second.previous ∷ []))
+
+-- they are gathered, and a line of the first input with this key stands
+pub record Pairing (call : Call) (now : State) (place : Side → Sorted) (end : ℕ) : Type 0 where
+  pub k : List ℕ
+  pub g : Side → Lines
+  pub kept : Lines
+  pub q : Grouped call now place end k g kept
+  pub lines_in : Held now.store (place Second) kept (g Second)
+  pub some : 0 < length (g Second)
+  pub above : IsAbove call.cmp (call.key Second) k (q.d Second)
+  pub head1 : (place First).stand ≡ Head
+  pub key1 : call.key First (head_of now place First) ≡ k
+
+-- a group is closed
+pub closed : {call : Call} {now : State} {place : Side → Sorted} {end : ℕ} {k : List ℕ} {g : Side → Lines} {kept : Lines} (q : Grouped call now place end k g kept)
+    → AllSlots place → ((side : Side) → 0 < length (g side)) → ((side : Side) → IsAbove call.cmp (call.key side) k (q.d side))
+    → {after : Slots} → IsGroupCleared now.store after end → Between call (record now { store = after }) place
+closed {call} {now} {place} {end} {k} {g} q slots some above clear = record {
+  ls = q.ls;
+  p = λ side. q.p side ++ g side;
+  b = q.d;
+  sides = stand_still call.tool q.sides slots (λ i low. clear.others i (inl low));
+  merging = closes call q.within some above q.wrote;
+  keeps = keeping_cleared q.keeps q.at clear;
+}
+
+module _ {call : Call} {now : State} {place : Side → Sorted} {end : ℕ} (r : Pairing call now place end) where
+  open call use {cmp, key, laws, o, old, pairs, tool}
+
+  is_kept : r.kept ≡ r.g Second → (end == 4) ≡ false
+  is_kept same = let more : 4 < end = omega (arith, r.q.at, ap length same, r.some) in grind (arith, nat_tests)
+
+  is_alone : r.kept ≡ [] → (end == 4) ≡ true
+  is_alone none = let four : end ≡ 4 = omega (arith, r.q.at, ap length none) in grind (arith, nat_tests)
+
+  -- the group's lines have its key
+  pub keyed_slot : (slot : ℕ) → first_slot (place Second) end ≤ slot → slot < end_slot (place Second) end → key Second (line now.store slot) ≡ r.k
+  keyed_slot slot from low = ⊎_elim (λ same.
+      let least : 4 ≤ slot = rw (is_kept same) at from in
+      let most : slot < end = rw (is_kept same) at low in
+      ap (key Second) (kept_line r.q.keeps slot least (omega (arith, most, r.q.at)))
+      ∙ EachKey-at (λ x. x ≡ r.k) (key Second) r.kept (slot - 4) (omega (arith, least, most, r.q.at)) (rw same (r.q.within.own Second)))
+      (λ h.
+      let least : (place Second).previous ≤ slot = rw (is_alone h.0) at from in
+      let most : slot < (place Second).previous + 1 = rw (is_alone h.0) at low in
+      let is : slot ≡ (place Second).previous = omega (arith, least, most) in
+      rw is (subst (EachKey (λ x. x ≡ r.k) (key Second)) h.1 (r.q.within.own Second)).0) r.lines_in
+
+  module _ (slots : AllSlots place) where
+    -- and stand in its slots
+    pub group_stands : group now.store (first_slot (place Second) end) (end_slot (place Second) end) ≡ r.g Second
+    group_stands = ⊎_elim (λ same. rw (is_kept same) (group_is r.q.keeps r.q.at ∙ same))
+        (λ h. rw (is_alone h.0) (group_one now.store (place Second).previous (omega (arith, r.q.keeps.four, (low_slot Second (place Second) (slots Second)).1)) ∙ sym h.1)) r.lines_in
+
+    module _ {new : Output} (wrote : Wrote now.out new (text call.end (pairs r.k (head_of now place First ∷ []) (r.g Second)))) (clean : now.out.faulted ≡ false) where
+      at_line : AtLine r.q First
+      at_line = record { slots = slots; head = r.head1; is = r.key1 }
+
+      abbrev z : Lines
+      z = head_of now place First ∷ []
+
+      wrote_more : Wrote r.q.mid new (text call.end (pairs r.k (r.g First ++ z) (r.g Second)))
+      wrote_more = rw (laws.more r.k (r.g First) z (r.g Second), text-append call.end (pairs r.k (r.g First) (r.g Second)) (pairs r.k z (r.g Second)))
+          (wrote_trans _ _ _ _ _ clean r.q.wrote wrote)
+
+      begins : StartsWith tool (grown now place First r.g) r.q.d r.k (pairs r.k (r.g First ++ z) (r.g Second))
+      begins = starts call (within_more at_line) r.some r.above
+
+      pub pair_stops : {reader : Reader} {after : Slots} {fault : MergeFault} → NotPassed now First (place First) reader after new fault
+          → IsMerge tool old (moved now First reader new after) (Err fault)
+      pair_stops {reader} (inl e) = same_state _ _ First now _ reader _ _ e.0 e.1
+          (halts o old (record now { out = new }) {now = now.reader} {piece = λ side. []} {ls = r.q.ls} (within_more at_line) begins wrote_more
+          (elim [ First ↦ passing at_line (now.reader First) [] (reads_nothing (now.reader First)) tt (r.q.sides First).sound First | Second ↦ standing r.q Second ])
+          (record { faulted = e.1.faulted; failed = went r.q; denied = r.q.keeps.denied }) (λ side. not_failed call side (went r.q side)) (λ input pushed. tt)
+          (fits_kept call r.q.keeps now.store (omega arith) refl))
+      pair_stops {reader} {fault = fault} (inr e) = group_breaks at_line e.0 begins wrote_more reader fault e.1
+
+      module _ {reader : Reader} {next : Sorted} {after : Slots} (comes : Comes (key First) cmp (place First) next (now.reader First) reader now.store after) where
+        on : GoneOn at_line comes new
+        on = gone_on at_line comes wrote_more
+
+        above_on : IsAbove cmp (key Second) r.k (on.group.d Second)
+        above_on = rw on.bound r.above
+
+        pub pairs_on : next.same ≡ true → Pairing call (moved now First reader new after) (put First next place) end
+        pairs_on same =
+            let h = goes_on at_line comes same in
+            record {
+              k = r.k;
+              g = grown now place First r.g;
+              kept = r.kept;
+              q = on.group;
+              lines_in = rw (others_stay at_line comes).1 r.lines_in;
+              some = r.some;
+              above = above_on;
+              head1 = h.0;
+              key1 = h.1;
+            }
+
+        pub group_closed : next.same ≡ false → {cleared : Slots} → IsGroupCleared after cleared end → Between call (moved now First reader new cleared) (put First next place)
+        group_closed same clear = closed on.group (next_slots at_line comes)
+            (elim [ First ↦ omega (arith, length_push (r.g First) (head_of now place First)) | Second ↦ r.some ])
+            (elim [ First ↦ is_past on.group First (goes_past at_line comes same) | Second ↦ above_on ]) clear

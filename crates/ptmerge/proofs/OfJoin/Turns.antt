@@ -1,82 +1,109 @@
 -- What is known at each turn of `join`, and what comes of the turn.
-use Rattle.std.proofs.Common.{◌≡◌, inl, inr, ℕ, ◌+◌, ◌*◌, ◌≤◌, ◌<◌, true, false, List, [], ◌∷◌, None, Result, Ok, Err, length, refl, sym, ◌∙◌, ap, subst, arith}
+use Rattle.std.proofs.Common.{◌≡◌, ℕ, Bool, true, false, cond, List, [], ◌∷◌, ◌++◌, map, refl, ap, sym, ◌∙◌, inl, inr, ◌+◌, ◌*◌, ◌≤◌, ◌<◌, None, Result, Ok, Err, length}
+use Rattle.std.proofs.Common.{subst, arith}
+use Rattle.std.specs.List.{flat_map}
+use Rattle.std.proofs.lemmas.List.{append-nil}
+use Rattle.std.proofs.lemmas.List.Concat.{flat_map-append}
+use Rattle.std.specs.Cmp.Lexicographic.{bytes_decides}
 use Rattle.ptlangs.specs.Jobs.{Join}
+use Rattle.ptmerge.specs.declared.order.Side.{Side}
+use Rattle.ptmerge.specs.declared.order.Side.TheVariants.{First, Second}
+use Rattle.ptmerge.specs.Join.{alone1, alone2, alone_entry, entry, fields, join_by, join_entries, join_key, pairs_of}
+use Rattle.ptmerge.specs.Keyed.{Lines, by_keys}
+use Rattle.ptmerge.specs.Orders.{Cmp, Key}
+use Rattle.ptmerge.proofs.OfJoin.GroupTurns.{IsPairing, head_of, Call, NotPassed, moved}
+use Rattle.ptmerge.proofs.OfMerges.Splitting.{all_keys}
+use Rattle.ptmerge.proofs.OfMerges.Turning.{IsLineByLine, alone}
 use Rattle.ptlines.specs.Outputs.{Output, Wrote}
 use Rattle.ptlines.specs.Readers.{Reader, IsSound}
 use Rattle.ptlines.specs.Slots.{Slots, line, total}
 use Rattle.ptlines.specs.Text.{text}
 use Rattle.ptmerge.specs.declared.faults.MergeFault.{MergeFault}
-use Rattle.ptmerge.specs.declared.faults.MergeFault.TheVariants as faults
 use Rattle.ptmerge.specs.declared.tools.join.Phase.{Phase}
-use Rattle.ptmerge.specs.declared.tools.join.Phase.TheVariants as phases
-use Rattle.ptmerge.specs.declared.order.Side.{Side}
-use Rattle.ptmerge.specs.declared.order.Side.TheVariants.{First, Second}
 use Rattle.ptmerge.specs.declared.merging.sorted.Sorted.{Sorted}
 use Rattle.ptmerge.specs.declared.merging.sorted.Stand.TheVariants.{Head, Ended}
 use Rattle.ptmerge.specs.Groups.{AddsLeast, Gathered, Gathers, IsGroup, IsGroupCleared, end_slot, first_slot, group}
-use Rattle.ptmerge.specs.Join.{alone_entry, join_by, join_key, pairs_of}
-use Rattle.ptmerge.specs.Keyed.{Lines, Tool, by_keys}
-use Rattle.ptmerge.specs.LinePasses.{CanGoOn, HasPassed, Passes, StandsAt}
+use Rattle.ptmerge.specs.LinePasses.{CanGoOn, HasPassed, StandsAt}
 use Rattle.ptmerge.specs.Merges.{State, IsMerge, IsReady, IsUnread, seen}
-use Rattle.ptmerge.specs.Orders.{Cmp, Key}
 use Rattle.ptmerge.specs.Places.{HasSlots}
 use Rattle.ptmerge.specs.Sides.{both, put}
 use Rattle.ptmerge.specs.Steps.{AreEqual, CannotStart, IsAlone, IsDecided, IsLent, IsPlaced, Starts, inputs}
 use Rattle.ptmerge.specs.Stores.{IsCleared}
 use Rattle.ptmerge.proofs.OfComm.CommTurns.{comes_slots, passes_slots, readable_of, same_state, slots_of, unfailed_of, wrote_as}
-use Rattle.ptmerge.proofs.OfJoin.JoinEntries.{join_pairs, written_alone}
 use Rattle.ptmerge.proofs.OfJoin.GatherTurns.{Gathering, gather_slots}
-use Rattle.ptmerge.proofs.OfJoin.GatherTurns as gather_turns
-use Rattle.ptmerge.proofs.OfJoin.GroupTurns.{IsPairing}
-use Rattle.ptmerge.proofs.OfJoin.JoinSlots.{end_within}
-use Rattle.ptmerge.proofs.OfJoin.JoinTurns.{Between}
-use Rattle.ptmerge.proofs.OfJoin.JoinTurns as join_turns
-use Rattle.ptmerge.proofs.OfJoin.PairTurns.{Pairing}
-use Rattle.ptmerge.proofs.OfJoin.PairTurns as pair_turns
+use Rattle.ptmerge.proofs.OfJoin.GroupSlots.{end_within, pair_of}
+use Rattle.ptmerge.proofs.OfJoin.PairTurns.{Between, starts_between, Pairing}
 use Rattle.ptmerge.proofs.OfMerges.GoingOn.{left, less, lent_on, place_is}
 use Rattle.ptmerge.proofs.OfMerges.KeySpans.{placed_keeps}
 use Rattle.ptmerge.proofs.OfMerges.Orders.{IsKeyOrder}
 use Rattle.ptmerge.proofs.OfMerges.Pairs.{both_each}
-use Rattle.ptmerge.proofs.OfMerges.Splitting.{all_keys}
 use Rattle.ptmerge.proofs.OfMerges.Starting.{starts_badly, starts_well, start_refused, start_slots}
-use Rattle.ptmerge.proofs.OfMerges.Turning.{alone}
+use Rattle.ptmerge.specs.declared.faults.MergeFault.TheVariants as faults
+use Rattle.ptmerge.specs.declared.tools.join.Phase.TheVariants as phases
+use Rattle.ptmerge.proofs.OfJoin.GatherTurns as gather_turns
+use Rattle.ptmerge.proofs.OfJoin.PairTurns as pair_turns
+
+-- ---- the entries, line by line and pair by pair
+
+none_asked : (t : Bool) → cond {A = Lines} t [] [] ≡ []
+none_asked true = refl
+none_asked false = refl
+
+each_asked : (t : Bool) (xs ys : Lines) → cond t (xs ++ ys) [] ≡ cond t xs [] ++ cond t ys []
+each_asked true xs ys = refl
+each_asked false xs ys = refl
+
+module _ (job : Join) (cmp : Cmp) (key : Side → Key) where
+  first_alone : (k : List ℕ) (g : Lines) → join_entries job k g [] ≡ alone1 job k g
+  first_alone k [] = none_asked job.unpaired2 ∙ sym (none_asked job.unpaired1)
+  first_alone k (a ∷ g) = refl
+
+  line_by_line : IsLineByLine (join_by job cmp key)
+  line_by_line = record {
+    none = λ k. none_asked job.unpaired2;
+    first = λ k x g.
+        let of = λ (a : List ℕ). entry job k (fields job.separator a) [] in
+        each_asked job.unpaired1 (of x ∷ []) (map of g) ∙ ap (λ l. alone1 job k (x ∷ []) ++ l) (sym (first_alone k g));
+    second = λ k x g. let of = λ (b : List ℕ). entry job k [] (fields job.separator b) in each_asked job.unpaired2 (of x ∷ []) (map of g);
+  }
+
+  pub join_pairs : IsPairing (join_by job cmp key) (pairs_of job)
+  join_pairs = record {
+    alone = line_by_line;
+    none = λ k g. none_asked job.pairs;
+    more = λ k f g c.
+        let each = λ (a : List ℕ). map (pair_of job k a) c in
+        ap (λ l. cond job.pairs l []) (flat_map-append each f g) ∙ each_asked job.pairs (flat_map each f) (flat_map each g);
+    whole = λ k a b f g. refl;
+    size = λ ls. refl;
+    slots = λ ls. refl;
+  }
+
+  -- what is written of a line of one input alone
+  pub written_alone : (s : Side) (x : List ℕ) → key s x ≡ join_key job s x → by_keys (join_by job cmp key) all_keys (alone s x) ≡ alone_entry job s x
+  written_alone First x is = rw ((bytes_decides (key First x) (key First x)).1 refl) (append-nil (alone1 job (key First x) (x ∷ [])) ∙ ap (λ (k : List ℕ). alone1 job k (x ∷ [])) is)
+  written_alone Second x is = rw ((bytes_decides (key Second x) (key Second x)).1 refl) (append-nil (alone2 job (key Second x) (x ∷ [])) ∙ ap (λ (k : List ℕ). alone2 job k (x ∷ [])) is)
 
 -- ---- the phases
 
-module _ (tool : Tool) (o : IsKeyOrder tool.cmp) (pairs : List ℕ → Lines → Lines → Lines) (laws : IsPairing tool pairs) (old : State)
-    (unfailed : (side : Side) → (old.reader side).failed ≡ false) where
-  abbrev pub Phased : Phase → State → (Side → Sorted) → ℕ → Type 0
-  Phased phases.Between now place end = Between tool o pairs laws old unfailed now place × (end ≡ 4)
-  Phased phases.Gathering now place end = Gathering tool o pairs laws old unfailed now place end
-  Phased phases.Pairing now place end = Pairing tool o pairs laws old unfailed now place end
+-- what is known in a phase
+pub record Phased (call : Call) (phase : Phase) (now : State) (place : Side → Sorted) (end : ℕ) : Type 0 where
+  pub between : phase ≡ phases.Between → Between call now place × (end ≡ 4)
+  pub gathering : phase ≡ phases.Gathering → Gathering call now place end
+  pub pairing : phase ≡ phases.Pairing → Pairing call now place end
+  -- the slots of the group are there
+  pub end_in : (4 ≤ end) × (end ≤ length now.store.lines)
+  pub least : length call.old.store.lines ≤ length now.store.lines
 
-  module _ (phase : Phase) (now : State) (place : Side → Sorted) (end : ℕ) (r : Phased phase now place end) where
-    pub as_between : phase ≡ phases.Between → Between tool o pairs laws old unfailed now place × (end ≡ 4)
-    as_between e = subst (λ t. Phased t now place end) e r
+module _ {call : Call} {phase : Phase} {now : State} {place : Side → Sorted} {end : ℕ} where
+  in_between : phase ≡ phases.Between → Between call now place → end ≡ 4 → Phased call phase now place end
+  in_between is r at = record { between = λ e. (r, at); gathering = λ e. cc; pairing = λ e. cc; end_in = (omega (arith, at), omega (arith, at, r.keeps.four)); least = r.keeps.least }
 
-    pub as_gathering : phase ≡ phases.Gathering → Gathering tool o pairs laws old unfailed now place end
-    as_gathering e = subst (λ t. Phased t now place end) e r
+  in_gathering : phase ≡ phases.Gathering → Gathering call now place end → Phased call phase now place end
+  in_gathering is r = record { between = λ e. cc; gathering = λ e. r; pairing = λ e. cc; end_in = (omega (arith, r.q.at), end_within r.q.keeps r.q.at); least = r.q.keeps.least }
 
-    pub as_pairing : phase ≡ phases.Pairing → Pairing tool o pairs laws old unfailed now place end
-    as_pairing e = subst (λ t. Phased t now place end) e r
-
-    -- the slots of the group are there
-    pub end_in : (4 ≤ end) × (end ≤ length now.store.lines)
-    end_in = by phase r
-      where
-        by : (t : Phase) → Phased t now place end → (4 ≤ end) × (end ≤ length now.store.lines)
-        by phases.Between b = (omega (arith, b.1), omega (arith, b.1, b.0.keeps.four))
-        by phases.Gathering b = (omega (arith, b.q.at), end_within (tool.key Second) old.store now.store b.q.ls b.g b.q.keeps end b.q.at)
-        by phases.Pairing b = (omega (arith, b.q.at), end_within (tool.key Second) old.store now.store b.q.ls b.kept b.q.keeps end b.q.at)
-
-    -- how many slots there are
-    pub at_least : length old.store.lines ≤ length now.store.lines
-    at_least = by phase r
-      where
-        by : (t : Phase) → Phased t now place end → length old.store.lines ≤ length now.store.lines
-        by phases.Between b = b.0.keeps.least
-        by phases.Gathering b = b.q.keeps.least
-        by phases.Pairing b = b.q.keeps.least
+  in_pairing : phase ≡ phases.Pairing → Pairing call now place end → Phased call phase now place end
+  in_pairing is r = record { between = λ e. cc; gathering = λ e. cc; pairing = λ e. r; end_in = (omega (arith, r.q.at), end_within r.q.keeps r.q.at); least = r.q.keeps.least }
 
 abbrev pub rank : Phase → ℕ
 rank phases.Between = 1
@@ -85,8 +112,7 @@ rank phases.Pairing = 0
 
 rank_few : (p : Phase) → rank p ≤ 1
 rank_few phases.Between = omega arith
-rank_few phases.Gathering = omega arith
-rank_few phases.Pairing = omega arith
+rank_few p = omega arith
 
 -- less is left to do, whatever the phases
 pub falls : (p q : Phase) {a b : ℕ} → a < b → 3 * a + rank p < 3 * b + rank q
@@ -125,77 +151,65 @@ opened job cmp key first second out store o keys ready sound ending writable = r
   empty = ready.empty;
 }
 
+-- the call
+abbrev pub call_of : {job : Join} {cmp : Cmp} {key : Side → Key} {old : State} → IsOpened job cmp key old → Call
+call_of {job} {cmp} {key} {old} a = record { tool = join_by job cmp key; o = a.o; pairs = pairs_of job; laws = join_pairs job cmp key; old = old; unfailed = a.unfailed }
+
 -- what is known at a turn
 pub record IsTurn (job : Join) (cmp : Cmp) (key : Side → Key) (old : State) (phase : Phase) (now : State) (one two : Sorted) (end : ℕ) : Type 0 where
   pub opened : IsOpened job cmp key old
-  pub phased : Phased (join_by job cmp key) opened.o (pairs_of job) (join_pairs job cmp key) old opened.unfailed phase now (both one two) end
+  pub phased : Phased (call_of opened) phase now (both one two) end
   pub placed : IsPlaced key one two now.store
   pub lent : (side : Side) → IsLent (both one two side) (now.reader side)
   pub clean : now.out.faulted ≡ false
 
 -- what a call leaves that ends so
-pub record Leaves (tool : Tool) (old new : State) (result : Result (Unit {0}) MergeFault) : Type 0 where
-  pub merged : IsMerge tool old new result
-  pub refused : length new.store.lines < 4 → IsUnread old new
-  pub slots : AddsLeast old.store new.store 4
+abbrev pub Leaves : Join → Cmp → (Side → Key) → State → State → Result (Unit {0}) MergeFault → Type 0
+Leaves job cmp key old new result = record { merged : IsMerge (join_by job cmp key) old new result; refused : length new.store.lines < 4 → IsUnread old new; slots : AddsLeast old.store new.store 4 }
 
 -- ---- the start
 
 module _ {job : Join} {cmp : Cmp} {key : Side → Key} {old : State} (a : IsOpened job cmp key old) where
-  pub begins : (first second : Reader) (store : Slots) (one two : Sorted) → Starts key cmp (both one two) (record { reader = old.reader; store = old.store }) (inputs first second store)
+  pub begins : {first second : Reader} {store : Slots} {one two : Sorted} → Starts key cmp (both one two) (record { reader = old.reader; store = old.store }) (inputs first second store)
       → IsPlaced key one two store → IsLent one first × IsLent two second → IsTurn job cmp key old phases.Between (seen first second old.out store) one two 4
-  begins first second store one two starts placed lent =
-      let running = starts_well (join_by job cmp key) a.o (λ ls. (omega arith, omega arith)) old a.readable a.ending a.unfailed a.sound a.writable a.allowed a.empty
-      (inputs first second store) (both one two) placed.first starts in
-      record {
-        opened = a;
-        phased = (join_turns.starts_between (join_by job cmp key) a.o (pairs_of job) (join_pairs job cmp key) old a.unfailed (seen first second old.out store) (both one two) running, refl);
-        placed = placed;
-        lent = both_each2 first second one two lent;
-        clean = a.writable;
-      }
-    where
-      both_each2 : (f s : Reader) (x y : Sorted) → IsLent x f × IsLent y s → (side : Side) → IsLent (both x y side) (both f s side)
-      both_each2 f s x y h First = h.0
-      both_each2 f s x y h Second = h.1
+  begins {first} {second} {store} {one} {two} starts placed lent = record {
+    opened = a;
+    phased = in_between refl (starts_between (starts_well _ a.o (λ ls. (omega arith, omega arith)) _ a.readable a.ending a.unfailed a.sound a.writable a.allowed a.empty
+        (inputs first second store) (both one two) placed.first starts)) refl;
+    placed = placed;
+    lent = elim [ First ↦ lent.0 | Second ↦ lent.1 ];
+    clean = a.writable;
+  }
 
-  module _ (first second : Reader) (store : Slots) (fault : MergeFault)
-      (cannot : CannotStart key cmp (record { reader = old.reader; store = old.store }) (record { reader = both first second; store = store }) fault) where
-    pub start_stops : {r : Result (Unit {0}) MergeFault} → r ≡ Err fault → Leaves (join_by job cmp key) old (seen first second old.out store) r
-    start_stops is_fault =
-        let adds = start_slots (join_by job cmp key) a.o (λ ls. (omega arith, omega arith)) old a.readable a.ending a.unfailed a.sound a.writable a.allowed a.empty first second store fault cannot in
-        subst (Leaves (join_by job cmp key) old (seen first second old.out store)) (sym is_fault) (record {
-          merged = starts_badly (join_by job cmp key) a.o (λ ls. (omega arith, omega arith)) old a.readable a.ending a.unfailed a.sound a.writable a.allowed a.empty first second store fault cannot;
-          refused = start_refused (join_by job cmp key) a.o (λ ls. (omega arith, omega arith)) old a.readable a.ending a.unfailed a.sound a.writable a.allowed a.empty first second store fault cannot;
-          slots = record { least = adds.least; all = λ allowed. omega (arith, adds.all allowed) };
-        })
+  pub start_stops : {first second : Reader} {store : Slots} {fault : MergeFault}
+      → CannotStart key cmp (record { reader = old.reader; store = old.store }) (record { reader = both first second; store = store }) fault
+      → {r : Result (Unit {0}) MergeFault} → r ≡ Err fault → Leaves job cmp key old (seen first second old.out store) r
+  start_stops {first} {second} {store} {fault} cannot is_fault =
+      let adds = start_slots (join_by job cmp key) a.o (λ ls. (omega arith, omega arith)) old a.readable a.ending a.unfailed a.sound a.writable a.allowed a.empty first second store fault cannot in
+      rw is_fault (record {
+        merged = starts_badly _ a.o (λ ls. (omega arith, omega arith)) _ a.readable a.ending a.unfailed a.sound a.writable a.allowed a.empty first second store fault cannot;
+        refused = start_refused (join_by job cmp key) a.o (λ ls. (omega arith, omega arith)) _ a.readable a.ending a.unfailed a.sound a.writable a.allowed a.empty first second store fault cannot;
+        slots = record { least = adds.least; all = λ allowed. omega (arith, adds.all allowed) };
+      })
 
 module _ {job : Join} {cmp : Cmp} {key : Side → Key} {old : State} {phase : Phase} {now : State} {one two : Sorted} {end : ℕ}
     (t : IsTurn job cmp key old phase now one two end) where
   slots : (side : Side) → HasSlots side (both one two side)
   slots = slots_of one two now.store t.placed
 
-  pub end_there : (4 ≤ end) × (end ≤ length now.store.lines)
-  end_there = end_in (join_by job cmp key) t.opened.o (pairs_of job) (join_pairs job cmp key) old t.opened.unfailed phase now (both one two) end t.phased
+  leaves : {new : State} {fault : Result (Unit {0}) MergeFault} {r : Result (Unit {0}) MergeFault} → r ≡ fault → length now.store.lines ≤ length new.store.lines
+      → IsMerge (join_by job cmp key) old new fault → Leaves job cmp key old new r
+  leaves is more merged = record {
+    merged = rw is merged;
+    refused = λ few. absurd (omega (arith, few, more, t.placed.slots));
+    slots = record { least = omega (arith, more, t.phased.least); all = λ allowed. omega (arith, more, t.placed.slots) };
+  }
 
-  leaves : {new : State} {r : Result (Unit {0}) MergeFault} → length now.store.lines ≤ length new.store.lines → IsMerge (join_by job cmp key) old new r
-      → Leaves (join_by job cmp key) old new r
-  leaves more merged =
-      let least = at_least (join_by job cmp key) t.opened.o (pairs_of job) (join_pairs job cmp key) old t.opened.unfailed phase now (both one two) end t.phased in
-      record {
-        merged = merged;
-        refused = λ few. absurd (omega (arith, few, more, t.placed.slots));
-        slots = record { least = omega (arith, more, least); all = λ allowed. omega (arith, more, t.placed.slots) };
-      }
-
-  went_on : (next : Phase) (s : Side) (one2 two2 : Sorted) (reader : Reader) (after : Slots) (new : Output) (to : ℕ) → CanGoOn key s one two one2 two2 reader after new
-      → Phased (join_by job cmp key) t.opened.o (pairs_of job) (join_pairs job cmp key) old t.opened.unfailed next
-      (record { reader = put s reader now.reader; out = new; store = after }) (put s (both one2 two2 s) (both one two)) to
-      → IsTurn job cmp key old next (record { reader = put s reader now.reader; out = new; store = after }) one2 two2 to
-  went_on next s one2 two2 reader after new to on phased = record {
+  went_on : {next : Phase} (s : Side) {one2 two2 : Sorted} {reader : Reader} {after : Slots} {new : Output} {to : ℕ} → CanGoOn key s one two one2 two2 reader after new
+      → Phased (call_of t.opened) next (moved now s reader new after) (put s (both one2 two2 s) (both one two)) to → IsTurn job cmp key old next (moved now s reader new after) one2 two2 to
+  went_on {next} s {one2} {two2} {reader} {after} {new} {to} on phased = record {
     opened = t.opened;
-    phased = subst (λ (place : Side → Sorted). Phased (join_by job cmp key) t.opened.o (pairs_of job) (join_pairs job cmp key) old t.opened.unfailed next
-        (record { reader = put s reader now.reader; out = new; store = after }) place to) (place_is s one two one2 two2 on.others) phased;
+    phased = subst (λ (place : Side → Sorted). Phased (call_of t.opened) next (moved now s reader new after) place to) (place_is s one two one2 two2 on.others) phased;
     placed = on.placed;
     lent = lent_on s one two one2 two2 now.reader reader on.others on.lent t.lent;
     clean = on.clean;
@@ -207,165 +221,110 @@ module _ {job : Join} {cmp : Cmp} {key : Side → Key} {old : State} {phase : Ph
   -- ---- between groups
 
   module _ (is : phase ≡ phases.Between) where
-    between : Between (join_by job cmp key) t.opened.o (pairs_of job) (join_pairs job cmp key) old t.opened.unfailed now (both one two) × (end ≡ 4)
-    between = as_between (join_by job cmp key) t.opened.o (pairs_of job) (join_pairs job cmp key) old t.opened.unfailed phase now (both one two) end t.phased is
-
     pub alone_less : {s : Side} {one2 two2 : Sorted} {reader : Reader} {after : Slots} {new : Output} → (both one two s).stand ≡ Head
         → HasPassed key cmp s one two one2 two2 (now.reader s) reader now.store after new → left (put s reader now.reader) one2 two2 < left now.reader one two
-    alone_less {s} {one2} {two2} {reader} {after} head h = less (key s) cmp s one two one2 two2 now.reader reader now.store after head h.on.others h.came
+    alone_less {s} {one2} {two2} {reader} {after} head h = less _ _ s one two one2 two2 _ _ _ _ head h.on.others h.came
 
-    module _ (s : Side) (step : IsAlone cmp key (both one two) now.store s) {new : Output} {e : ℕ} (ends : e ≡ job.end)
-        (pushed : Wrote now.out new (text e (alone_entry job s (line now.store (both one two s).standing)))) where
-      wrote : Wrote now.out new (text job.end (by_keys (join_by job cmp key) all_keys (alone s (line now.store (both one two s).standing))))
-      wrote = wrote_as job.end e (alone_entry job s (line now.store (both one two s).standing))
-          (by_keys (join_by job cmp key) all_keys (alone s (line now.store (both one two s).standing))) now.out new ends
-          (written_alone job cmp key s (line now.store (both one two s).standing) (t.opened.keys s (line now.store (both one two s).standing))) pushed
+    module _ {s : Side} (step : IsAlone cmp key (both one two) now.store s) {new : Output} {e : ℕ} (ends : e ≡ job.end)
+        (pushed : Wrote now.out new (text e (alone_entry job s (head_of now (both one two) s)))) where
+      wrote : Wrote now.out new (text job.end (by_keys (join_by job cmp key) all_keys (alone s (head_of now (both one two) s))))
+      wrote = let x = head_of now (both one two) s in wrote_as _ _ _ _ _ _ ends (written_alone job cmp key s x (t.opened.keys s x)) pushed
 
       pub alone_on : {one2 two2 : Sorted} {reader : Reader} {after : Slots} → HasPassed key cmp s one two one2 two2 (now.reader s) reader now.store after new
-          → IsTurn job cmp key old phase (record { reader = put s reader now.reader; out = new; store = after }) one2 two2 end
-      alone_on {one2} {two2} {reader} {after} h = went_on phase s one2 two2 reader after new end h.on
-          (subst (λ (p : Phase). Phased (join_by job cmp key) t.opened.o (pairs_of job) (join_pairs job cmp key) old t.opened.unfailed p
-          (record { reader = put s reader now.reader; out = new; store = after }) (put s (both one2 two2 s) (both one two)) end) (sym is) (
-            join_turns.alone_on (join_by job cmp key) t.opened.o (pairs_of job) (join_pairs job cmp key) old t.opened.unfailed now (both one two) between.0 slots t.clean s step new wrote reader
-                (both one2 two2 s) after h.came,
-            between.1,
-          ))
+          → IsTurn job cmp key old phase (moved now s reader new after) one2 two2 end
+      alone_on h = went_on s h.on (in_between is (pair_turns.alone_on (t.phased.between is).0 t.clean slots step wrote h.came) (t.phased.between is).1)
 
-      pub alone_stops : (one2 two2 : Sorted) (reader : Reader) (after : Slots) (fault : MergeFault) {r : Result (Unit {0}) MergeFault} → r ≡ Err fault
-          → Passes key cmp s one two one2 two2 (now.reader s) reader now.store after new (Err fault)
-          → Leaves (join_by job cmp key) old (record { reader = put s reader now.reader; out = new; store = after }) r
-      alone_stops one2 two2 reader after fault is_fault h = subst (Leaves (join_by job cmp key) old (record { reader = put s reader now.reader; out = new; store = after })) (sym is_fault)
-          (leaves (omega (arith, passes_slots (key s) cmp s (both one two s) (both one2 two2 s) (now.reader s) reader now.store after new fault h))
-          (join_turns.alone_stops (join_by job cmp key) t.opened.o (pairs_of job) (join_pairs job cmp key) old t.opened.unfailed now (both one two) between.0 slots t.clean s step new wrote reader
-          (both one2 two2 s) after fault h))
+      pub alone_stops : {reader : Reader} {after : Slots} {fault : MergeFault} {r : Result (Unit {0}) MergeFault} → r ≡ Err fault
+          → NotPassed now s (both one two s) reader after new fault → Leaves job cmp key old (moved now s reader new after) r
+      alone_stops {fault = fault} is_fault h = leaves is_fault (omega (arith, passes_slots (key s) cmp s (both one two s) (both one two s) _ _ _ _ _ fault h))
+          (pair_turns.alone_stops (t.phased.between is).0 t.clean slots step wrote h)
 
     pub opens : AreEqual cmp key (both one two) now.store → IsTurn job cmp key old phases.Gathering now one two end
     opens step = record {
       opened = t.opened;
-      phased = subst (Gathering (join_by job cmp key) t.opened.o (pairs_of job) (join_pairs job cmp key) old t.opened.unfailed now (both one two)) (sym between.1)
-          (gather_turns.opens (join_by job cmp key) t.opened.o (pairs_of job) (join_pairs job cmp key) old t.opened.unfailed now (both one two) between.0 slots t.clean step);
+      phased = in_gathering refl (rw (t.phased.between is).1 (gather_turns.opens (t.phased.between is).0 slots t.clean step));
       placed = t.placed;
       lent = t.lent;
       clean = t.clean;
     }
 
-    pub ended : {after : Slots} → IsCleared now.store after → ((side : Side) → (both one two side).stand ≡ Ended)
-        → Leaves (join_by job cmp key) old (record { reader = now.reader; out = now.out; store = after }) (Ok tt)
-    ended {after} clear step = leaves (omega (arith, clear.slots))
-        (join_turns.ended (join_by job cmp key) t.opened.o (pairs_of job) (join_pairs job cmp key) old t.opened.unfailed now (both one two)
-        between.0 slots t.clean after clear t.opened.sound t.opened.readable step)
+    pub ended : {after : Slots} → IsCleared now.store after → ((side : Side) → (both one two side).stand ≡ Ended) → Leaves job cmp key old (record now { store = after }) (Ok tt)
+    ended clear step = leaves refl (omega (arith, clear.slots)) (pair_turns.ended (t.phased.between is).0 t.clean clear t.opened.sound t.opened.readable step)
 
     pub fallen : {after : Slots} → IsCleared now.store after → {s : Side} {n : ℕ} → IsDecided cmp key (both one two) now.store s n
-        → Leaves (join_by job cmp key) old (record { reader = now.reader; out = now.out; store = after }) (Err (faults.Disorder s n))
-    fallen {after} clear {s} {n} step = leaves (omega (arith, clear.slots))
-        (join_turns.fallen (join_by job cmp key) t.opened.o (pairs_of job) (join_pairs job cmp key) old t.opened.unfailed now (both one two) between.0 slots t.clean after clear s n step)
+        → Leaves job cmp key old (record now { store = after }) (Err (faults.Disorder s n))
+    fallen clear step = leaves refl (omega (arith, clear.slots)) (pair_turns.fallen (t.phased.between is).0 t.clean clear step)
 
   -- ---- while a group is gathered
 
   module _ (is : phase ≡ phases.Gathering) where
-    gathering : Gathering (join_by job cmp key) t.opened.o (pairs_of job) (join_pairs job cmp key) old t.opened.unfailed now (both one two) end
-    gathering = as_gathering (join_by job cmp key) t.opened.o (pairs_of job) (join_pairs job cmp key) old t.opened.unfailed phase now (both one two) end t.phased is
-
     pub gather_stands : StandsAt key Second one two (now.reader Second) now.store
-    gather_stands = stands_at Second gathering.head2
+    gather_stands = stands_at Second (t.phased.gathering is).head2
 
     pub gather_less : {one2 two2 : Sorted} {reader : Reader} {after : Slots} {out : Output} {to : ℕ}
         → Gathered (key Second) cmp two two2 (now.reader Second) reader now.store after end to → CanGoOn key Second one two one2 two2 reader after out
         → left (put Second reader now.reader) one2 two2 < left now.reader one two
-    gather_less {one2} {two2} {reader} h on = less (key Second) cmp Second one two one2 two2 now.reader reader now.store h.made gathering.head2 on.others h.came
+    gather_less {one2} {two2} {reader} h on = less _ _ Second one two one2 two2 now.reader _ _ _ (t.phased.gathering is).head2 on.others h.came
 
     module _ {out : Output} (sent : Wrote now.out out []) where
-      gathering_sent : Gathering (join_by job cmp key) t.opened.o (pairs_of job) (join_pairs job cmp key) old t.opened.unfailed
-          (record { reader = now.reader; out = out; store = now.store }) (both one two) end
-      gathering_sent = gather_turns.gathering_sent (join_by job cmp key) t.opened.o (pairs_of job) (join_pairs job cmp key) old t.opened.unfailed now (both one two) end
-          gathering slots t.clean out sent
+      gathering_sent : Gathering (call_of t.opened) (record now { out = out }) (both one two) end
+      gathering_sent = gather_turns.gathering_sent (t.phased.gathering is) slots t.clean sent
 
-      pub gather_stops : (two2 : Sorted) (reader : Reader) (after : Slots) (fault : MergeFault) {r : Result (Unit {0}) MergeFault} → r ≡ Err fault
-          → Gathers (key Second) cmp two two2 (now.reader Second) reader now.store after out end (Err fault)
-          → Leaves (join_by job cmp key) old (record { reader = put Second reader now.reader; out = out; store = after }) r
-      gather_stops two2 reader after fault is_fault (inl e) = subst (Leaves (join_by job cmp key) old (record { reader = put Second reader now.reader; out = out; store = after })) (sym is_fault)
-          (leaves (omega (arith, ap (λ (z : Slots). length z.lines) e.1.store)) (same_state (join_by job cmp key) old Second now out reader after fault e.0 e.1
-          (gather_turns.not_sent (join_by job cmp key) t.opened.o (pairs_of job) (join_pairs job cmp key) old t.opened.unfailed now (both one two) end gathering slots t.clean out sent e.1.faulted)))
-      gather_stops two2 reader after fault is_fault (inr e) = subst (Leaves (join_by job cmp key) old (record { reader = put Second reader now.reader; out = out; store = after })) (sym is_fault)
-          (leaves (gather_slots (join_by job cmp key) t.opened.o (pairs_of job) (join_pairs job cmp key) old t.opened.unfailed (key Second) cmp two two2
-          (now.reader Second) reader now.store after end fault e.1)
-          (gather_turns.not_gathered (join_by job cmp key) t.opened.o (pairs_of job) (join_pairs job cmp key) old t.opened.unfailed
-          (record { reader = now.reader; out = out; store = now.store }) (both one two) end gathering_sent slots e.0 reader two2 after fault e.1))
+      pub gather_stops : {two2 : Sorted} {reader : Reader} {after : Slots} {fault : MergeFault} {r : Result (Unit {0}) MergeFault} → r ≡ Err fault
+          → Gathers (key Second) cmp two two2 (now.reader Second) reader now.store after out end (Err fault) → Leaves job cmp key old (moved now Second reader out after) r
+      gather_stops {reader = reader} is_fault (inl e) = leaves is_fault (omega (arith, ap (λ (z : Slots). length z.lines) e.1.store))
+          (same_state _ _ Second now _ reader _ _ e.0 e.1 (gather_turns.not_sent (t.phased.gathering is) slots t.clean sent e.1.faulted))
+      gather_stops {fault = fault} is_fault (inr e) = leaves is_fault (gather_slots fault e.1) (gather_turns.not_gathered gathering_sent slots e.0 fault e.1)
 
       module _ {one2 two2 : Sorted} {reader : Reader} {after : Slots} {to : ℕ}
           (h : Gathered (key Second) cmp two two2 (now.reader Second) reader now.store after end to) (on : CanGoOn key Second one two one2 two2 reader after out) where
-        pub gathers_on : two2.same ≡ true → IsTurn job cmp key old phase (record { reader = put Second reader now.reader; out = out; store = after }) one2 two2 to
-        gathers_on same = went_on phase Second one2 two2 reader after out to on
-            (subst (λ (p : Phase). Phased (join_by job cmp key) t.opened.o (pairs_of job) (join_pairs job cmp key) old t.opened.unfailed p
-            (record { reader = put Second reader now.reader; out = out; store = after }) (put Second two2 (both one two)) to) (sym is)
-            (gather_turns.gathers_on (join_by job cmp key) t.opened.o (pairs_of job) (join_pairs job cmp key) old t.opened.unfailed
-            (record { reader = now.reader; out = out; store = now.store }) (both one two) end gathering_sent slots on.clean reader two2 after to h same))
+        pub gathers_on : two2.same ≡ true → IsTurn job cmp key old phase (moved now Second reader out after) one2 two2 to
+        gathers_on same = went_on Second on (in_gathering is (gather_turns.gathers_on gathering_sent slots h same))
 
-        pub pairs_next : two2.same ≡ false → IsTurn job cmp key old phases.Pairing (record { reader = put Second reader now.reader; out = out; store = after }) one2 two2 to
-        pairs_next same = went_on phases.Pairing Second one2 two2 reader after out to on
-            (gather_turns.pairs_next (join_by job cmp key) t.opened.o (pairs_of job) (join_pairs job cmp key) old t.opened.unfailed
-            (record { reader = now.reader; out = out; store = now.store }) (both one two) end gathering_sent slots on.clean reader two2 after to h same)
+        pub pairs_next : two2.same ≡ false → IsTurn job cmp key old phases.Pairing (moved now Second reader out after) one2 two2 to
+        pairs_next same = went_on Second on (in_pairing refl (gather_turns.pairs_next gathering_sent slots h same))
 
   -- ---- while it is paired
 
   module _ (is : phase ≡ phases.Pairing) where
-    pairing : Pairing (join_by job cmp key) t.opened.o (pairs_of job) (join_pairs job cmp key) old t.opened.unfailed now (both one two) end
-    pairing = as_pairing (join_by job cmp key) t.opened.o (pairs_of job) (join_pairs job cmp key) old t.opened.unfailed phase now (both one two) end t.phased is
+    pairing : Pairing (call_of t.opened) now (both one two) end
+    pairing = t.phased.pairing is
 
     pub pair_stands : StandsAt key First one two (now.reader First) now.store
     pair_stands = stands_at First pairing.head1
 
     pub pair_group : IsGroup (join_key job Second) two now.store end (key First (line now.store one.standing))
     pair_group = record {
-      within = end_there;
-      keyed = λ slot from low. sym (t.opened.keys Second (line now.store slot))
-          ∙ pair_turns.keyed_slot (join_by job cmp key) t.opened.o (pairs_of job) (join_pairs job cmp key) old t.opened.unfailed now (both one two) end pairing slots slot from low
-          ∙ sym pairing.key1;
+      within = t.phased.end_in;
+      keyed = λ slot from low. sym (t.opened.keys Second (line now.store slot)) ∙ pair_turns.keyed_slot pairing slot from low ∙ sym pairing.key1;
     }
 
     pub pair_less : {one2 two2 : Sorted} {reader : Reader} {after : Slots} {new : Output}
         → HasPassed key cmp First one two one2 two2 (now.reader First) reader now.store after new → left (put First reader now.reader) one2 two2 < left now.reader one two
-    pair_less {one2} {two2} {reader} {after} h = less (key First) cmp First one two one2 two2 now.reader reader now.store after pairing.head1 h.on.others h.came
+    pair_less {one2} {two2} {reader} {after} h = less _ _ First one two one2 two2 now.reader _ _ _ pairing.head1 h.on.others h.came
 
     module _ {new : Output} {e : ℕ} (ends : e ≡ job.end)
         (pushed : Wrote now.out new (text e (pairs_of job (key First (line now.store one.standing)) (line now.store one.standing ∷ [])
         (group now.store (first_slot two end) (end_slot two end))))) where
       wrote_pairs : Wrote now.out new (text job.end (pairs_of job pairing.k (line now.store one.standing ∷ []) (pairing.g Second)))
-      wrote_pairs =
-          let x = line now.store one.standing in
-          let stands = pair_turns.group_stands (join_by job cmp key) t.opened.o (pairs_of job) (join_pairs job cmp key) old t.opened.unfailed now (both one two) end pairing slots in
-          wrote_as job.end e (pairs_of job (key First x) (x ∷ []) (group now.store (first_slot two end) (end_slot two end))) (pairs_of job pairing.k (x ∷ []) (pairing.g Second)) now.out new ends
-          (λ j. pairs_of job (sym pairing.key1 j) (x ∷ []) (sym stands j)) pushed
+      wrote_pairs = wrote_as _ _ _ _ _ _ ends (λ j. pairs_of job (sym pairing.key1 j) (line now.store one.standing ∷ []) (sym (pair_turns.group_stands pairing slots) j)) pushed
 
-      pub pair_stops : (one2 two2 : Sorted) (reader : Reader) (after : Slots) (fault : MergeFault) {r : Result (Unit {0}) MergeFault} → r ≡ Err fault
-          → Passes key cmp First one two one2 two2 (now.reader First) reader now.store after new (Err fault)
-          → Leaves (join_by job cmp key) old (record { reader = put First reader now.reader; out = new; store = after }) r
-      pair_stops one2 two2 reader after fault is_fault h = subst (Leaves (join_by job cmp key) old (record { reader = put First reader now.reader; out = new; store = after })) (sym is_fault)
-          (leaves (omega (arith, passes_slots (key First) cmp First one one2 (now.reader First) reader now.store after new fault h))
-          (pair_turns.pair_stops (join_by job cmp key) t.opened.o (pairs_of job) (join_pairs job cmp key) old t.opened.unfailed now (both one two) end pairing slots new wrote_pairs t.clean reader
-          one2 after fault h))
+      pub pair_stops : {reader : Reader} {after : Slots} {fault : MergeFault} {r : Result (Unit {0}) MergeFault} → r ≡ Err fault
+          → NotPassed now First one reader after new fault → Leaves job cmp key old (moved now First reader new after) r
+      pair_stops {fault = fault} is_fault h = leaves is_fault (omega (arith, passes_slots (key First) cmp First one one _ _ _ _ _ fault h)) (pair_turns.pair_stops pairing slots wrote_pairs t.clean h)
 
       module _ {one2 two2 : Sorted} {reader : Reader} {after : Slots} (h : HasPassed key cmp First one two one2 two2 (now.reader First) reader now.store after new) where
         pub group_there : (4 ≤ end) × (end ≤ length after.lines)
-        group_there = (end_there.0, omega (arith, end_there.1, comes_slots (key First) cmp one one2 (now.reader First) reader now.store after h.came))
+        group_there = (t.phased.end_in.0, omega (arith, t.phased.end_in.1, comes_slots _ _ _ _ _ _ _ _ h.came))
 
-        pub pairs_on : one2.same ≡ true → IsTurn job cmp key old phase (record { reader = put First reader now.reader; out = new; store = after }) one2 two2 end
-        pairs_on same = went_on phase First one2 two2 reader after new end h.on
-            (subst (λ (p : Phase). Phased (join_by job cmp key) t.opened.o (pairs_of job) (join_pairs job cmp key) old t.opened.unfailed p
-            (record { reader = put First reader now.reader; out = new; store = after }) (put First one2 (both one two)) end) (sym is)
-            (pair_turns.pairs_on (join_by job cmp key) t.opened.o (pairs_of job) (join_pairs job cmp key) old t.opened.unfailed now (both one two) end pairing slots new wrote_pairs t.clean reader
-            one2 after h.came same))
+        pub pairs_on : one2.same ≡ true → IsTurn job cmp key old phase (moved now First reader new after) one2 two2 end
+        pairs_on same = went_on First h.on (in_pairing is (pair_turns.pairs_on pairing slots wrote_pairs t.clean h.came same))
 
-        pub group_closed : {cleared : Slots} → IsGroupCleared after cleared end → one2.same ≡ false
-            → IsTurn job cmp key old phases.Between (record { reader = put First reader now.reader; out = new; store = cleared }) one2 two2 4
-        group_closed {cleared} clear same = went_on phases.Between First one2 two2 reader cleared new 4
+        pub group_closed : {cleared : Slots} → IsGroupCleared after cleared end → one2.same ≡ false → IsTurn job cmp key old phases.Between (moved now First reader new cleared) one2 two2 4
+        group_closed {cleared} clear same = went_on First
             (record {
               clean = h.on.clean;
               others = h.on.others;
-              placed = placed_keeps key one2 two2 after cleared h.on.placed (omega (arith, clear.slots)) (λ slot low. clear.others slot (inl low));
+              placed = placed_keeps _ _ _ _ _ h.on.placed (omega (arith, clear.slots)) (λ slot low. clear.others slot (inl low));
               lent = h.on.lent;
-            }) (
-              pair_turns.group_closed (join_by job cmp key) t.opened.o (pairs_of job) (join_pairs job cmp key) old t.opened.unfailed now (both one two) end pairing slots new wrote_pairs t.clean reader
-                  one2 after h.came same (both_each HasSlots one2 two h.on.placed.first t.placed.second) cleared clear,
-              refl,
-            )
+            }) (in_between refl (pair_turns.group_closed pairing slots wrote_pairs t.clean h.came same clear) refl)

@@ -37,19 +37,12 @@ filter_true (k ∷ ks) = ap (λ l. k ∷ l) (filter_true ks)
 module _ (p : List ℕ → Bool) where
   each_kept : (P : List ℕ → Type 0) (ks : Lines) → Each P ks → Each P (filter p ks)
   each_kept P [] e = tt
-  each_kept P (k ∷ ks) e = by (p k) (each_kept P ks e.1)
-    where
-      by : (b : Bool) → Each P (filter p ks) → Each P (cond b (k ∷ filter p ks) (filter p ks))
-      by true ih = (e.0, ih)
-      by false ih = ih
+  each_kept P (k ∷ ks) e = elim (p k) as (λ b. Each P (cond b (k ∷ filter p ks) (filter p ks))) [ true ↦ (e.0, each_kept P ks e.1) | false ↦ each_kept P ks e.1 ]
 
   each_passes : (ks : Lines) → Each (λ k. p k ≡ true) (filter p ks)
   each_passes [] = tt
-  each_passes (k ∷ ks) = by (p k) refl (each_passes ks)
-    where
-      by : (b : Bool) → p k ≡ b → Each (λ k. p k ≡ true) (filter p ks) → Each (λ k. p k ≡ true) (cond b (k ∷ filter p ks) (filter p ks))
-      by true h ih = (h, ih)
-      by false h ih = ih
+  each_passes (k ∷ ks) = elim (p k) as (λ b. p k ≡ b → Each (λ k. p k ≡ true) (cond b (k ∷ filter p ks) (filter p ks)))
+      [ true ↦ λ h. (h, each_passes ks) | false ↦ λ h. each_passes ks ] refl
 
   module _ (cmp : Cmp) (o : IsKeyOrder cmp) where
     insert_kept : (k : List ℕ) (xs : Lines) → Ascends cmp xs → p k ≡ true → filter p (insert_key cmp k xs) ≡ insert_key cmp k (filter p xs)
@@ -68,21 +61,16 @@ module _ (p : List ℕ → Bool) where
 
     insert_left_out : (k : List ℕ) (xs : Lines) → p k ≡ false → filter p (insert_key cmp k xs) ≡ filter p xs
     insert_left_out k [] h = rw h refl
-    insert_left_out k (x ∷ xs) h = by (cmp k x) (insert_left_out k xs h)
-      where
-        by : (r : Ordering) → filter p (insert_key cmp k xs) ≡ filter p xs → filter p (match_ordering r (k ∷ x ∷ xs) (x ∷ xs) (x ∷ insert_key cmp k xs)) ≡ filter p (x ∷ xs)
-        by Less ih = rw h refl
-        by Equal ih = refl
-        by Greater ih = ap (λ l. cond (p x) (x ∷ l) l) ih
+    insert_left_out k (x ∷ xs) h = elim (cmp k x) as (λ r. filter p (match_ordering r (k ∷ x ∷ xs) (x ∷ xs) (x ∷ insert_key cmp k xs)) ≡ filter p (x ∷ xs))
+        [ Less ↦ rw h refl | Equal ↦ refl | Greater ↦ ap (λ l. cond (p x) (x ∷ l) l) (insert_left_out k xs h) ]
 
     -- the distinct keys of a part are those of the whole that go to it
     distinct_kept : (ks : Lines) → filter p (distinct cmp ks) ≡ distinct cmp (filter p ks)
     distinct_kept [] = refl
-    distinct_kept (k ∷ ks) = by (p k) refl (distinct_kept ks)
-      where
-        by : (b : Bool) → p k ≡ b → filter p (distinct cmp ks) ≡ distinct cmp (filter p ks) → filter p (insert_key cmp k (distinct cmp ks)) ≡ distinct cmp (cond b (k ∷ filter p ks) (filter p ks))
-        by true h ih = insert_kept k (distinct cmp ks) (ascends_distinct cmp o ks) h ∙ ap (insert_key cmp k) ih
-        by false h ih = insert_left_out k (distinct cmp ks) h ∙ ih
+    distinct_kept (k ∷ ks) = elim (p k) as (λ b. p k ≡ b → filter p (insert_key cmp k (distinct cmp ks)) ≡ distinct cmp (cond b (k ∷ filter p ks) (filter p ks))) [
+      | true ↦ λ h. insert_kept k (distinct cmp ks) (ascends_distinct cmp o ks) h ∙ ap (insert_key cmp k) (distinct_kept ks)
+      | false ↦ λ h. insert_left_out k (distinct cmp ks) h ∙ distinct_kept ks
+    ] refl
 
   -- the lines whose keys go to it
   abbrev kept : Key → Lines → Lines
@@ -90,11 +78,8 @@ module _ (p : List ℕ → Bool) where
 
   keys_kept : (key : Key) (ls : Lines) → map key (kept key ls) ≡ filter p (map key ls)
   keys_kept key [] = refl
-  keys_kept key (x ∷ ls) = by (p (key x)) (keys_kept key ls)
-    where
-      by : (b : Bool) → map key (kept key ls) ≡ filter p (map key ls) → map key (cond b (x ∷ kept key ls) (kept key ls)) ≡ cond b (key x ∷ filter p (map key ls)) (filter p (map key ls))
-      by true ih = ap (λ l. key x ∷ l) ih
-      by false ih = ih
+  keys_kept key (x ∷ ls) = elim (p (key x)) as (λ b. map key (cond b (x ∷ kept key ls) (kept key ls)) ≡ cond b (key x ∷ filter p (map key ls)) (filter p (map key ls)))
+      [ true ↦ ap (λ l. key x ∷ l) (keys_kept key ls) | false ↦ keys_kept key ls ]
 
   -- all lines of a key go where the key goes
   with_key_kept : (key : Key) (k : List ℕ) (ls : Lines) → p k ≡ true → with_key key (kept key ls) k ≡ with_key key ls k
@@ -109,37 +94,25 @@ module _ (p : List ℕ → Bool) where
       by false f false e ih = ih
 
   module _ (tool : Tool) (o : IsKeyOrder tool.cmp) (ls : Side → Lines) where
+    open tool use {cmp, entries, key}
+
     abbrev part : Side → Lines
-    part side = kept (tool.key side) (ls side)
+    part side = kept (key side) (ls side)
 
     keys_of_part : keys tool part ≡ filter p (keys tool ls)
     keys_of_part =
-        (λ i. keys_kept (tool.key First) (ls First) i ++ keys_kept (tool.key Second) (ls Second) i)
-        ∙ sym (filter-append p (map (tool.key First) (ls First)) (map (tool.key Second) (ls Second)))
+        (λ i. keys_kept (key First) (ls First) i ++ keys_kept (key Second) (ls Second) i)
+        ∙ sym (filter-append p (map (key First) (ls First)) (map (key Second) (ls Second)))
 
     -- what is written of a part is what is written of the keys of the whole that go to it
-    entries_kept : {A : Type 0} (g : List ℕ → List A)
-        → flat_map g (by_keys tool all_keys part) ≡ flat_map (λ k. flat_map g (entries_of tool ls k)) (filter p (distinct tool.cmp (keys tool ls)))
-    entries_kept {A} g =
-        ap (λ ds. flat_map g (flat_map (entries_of tool part) ds)) (filter_true (distinct tool.cmp (keys tool part)) ∙ ap (distinct tool.cmp) keys_of_part
-        ∙ sym (distinct_kept tool.cmp o (keys tool ls)))
-        ∙ each_of (filter p (distinct tool.cmp (keys tool ls))) (each_passes (distinct tool.cmp (keys tool ls)))
-      where
-        each_of : (ds : Lines) → Each (λ k. p k ≡ true) ds → flat_map g (flat_map (entries_of tool part) ds) ≡ flat_map (λ k. flat_map g (entries_of tool ls k)) ds
-        each_of [] e = refl
-        each_of (d ∷ ds) e =
-            flat_map-append g (entries_of tool part d) (flat_map (entries_of tool part) ds)
-            ∙ (λ i. flat_map g (tool.entries d (with_key_kept (tool.key First) d (ls First) e.0 i) (with_key_kept (tool.key Second) d (ls Second) e.0 i)) ++ each_of ds e.1 i)
-
-    -- and so are the entries of some of the keys
-    pub by_keys_kept : by_keys tool all_keys (λ side. filter (λ line. p (tool.key side line)) (ls side)) ≡ by_keys tool p ls
+    pub by_keys_kept : by_keys tool all_keys (λ side. filter (λ line. p (key side line)) (ls side)) ≡ by_keys tool p ls
     by_keys_kept =
-        ap (flat_map (entries_of tool part)) (filter_true (distinct tool.cmp (keys tool part)) ∙ ap (distinct tool.cmp) keys_of_part ∙ sym (distinct_kept tool.cmp o (keys tool ls)))
-        ∙ each_of (filter p (distinct tool.cmp (keys tool ls))) (each_passes (distinct tool.cmp (keys tool ls)))
+        ap (flat_map (entries_of tool part)) (filter_true (distinct cmp (keys tool part)) ∙ ap (distinct cmp) keys_of_part ∙ sym (distinct_kept cmp o (keys tool ls)))
+        ∙ each_of (filter p (distinct cmp (keys tool ls))) (each_passes (distinct cmp (keys tool ls)))
       where
         each_of : (ds : Lines) → Each (λ k. p k ≡ true) ds → flat_map (entries_of tool part) ds ≡ flat_map (entries_of tool ls) ds
         each_of [] e = refl
-        each_of (d ∷ ds) e = λ i. tool.entries d (with_key_kept (tool.key First) d (ls First) e.0 i) (with_key_kept (tool.key Second) d (ls Second) e.0 i) ++ each_of ds e.1 i
+        each_of (d ∷ ds) e = λ i. entries d (with_key_kept (key First) d (ls First) e.0 i) (with_key_kept (key Second) d (ls Second) e.0 i) ++ each_of ds e.1 i
 
 -- ---- in some order
 
@@ -175,8 +148,8 @@ module _ {A : Type 0} where
           ∙ ap (λ l. (u ++ g a) ++ l) (sym (none_at j u g (a + 1) n (omega (arith, same))))) (IsPermutation-refl (u ++ (g a ++ rest)))
       by false e ih =
           let apart : a + 1 ≤ j = grind (arith, nat_tests, e, low) in
-          IsPermutation-trans (u ++ (g a ++ rest)) (g a ++ (u ++ rest)) (g a ++ flat_map (with_at j u g) (range_with_len (a + 1) n)) (changed u (g a) rest)
-          (IsPermutation-append_right (g a) (u ++ rest) (flat_map (with_at j u g) (range_with_len (a + 1) n)) (ih apart))
+          IsPermutation-trans _ _ _ (changed u (g a) rest)
+          (IsPermutation-append_right (g a) _ _ (ih apart))
 
   -- Of some keys, those that go to each part.
   of_each : (f : List ℕ → List A) (part_of : List ℕ → ℕ) (parts : ℕ) → ((k : List ℕ) → part_of k < parts) → (ks : Lines)
@@ -190,8 +163,7 @@ module _ {A : Type 0} where
       let g : ℕ → List A = λ i. flat_map f (filter (λ k. part_of k == i) ks) in
       let all : List A = flat_map g (range_with_len 0 parts) in
       subst (λ (h : ℕ → List A). IsPermutation (f k ++ flat_map f ks) (flat_map h (range_with_len 0 parts))) (λ t i. at (part_of k == i) i t)
-      (IsPermutation-trans (f k ++ flat_map f ks) (f k ++ all) (flat_map (with_at (part_of k) (f k) g) (range_with_len 0 parts))
-      (IsPermutation-append_right (f k) (flat_map f ks) all (of_each f part_of parts below ks)) (one_at (part_of k) (f k) g 0 parts (omega arith) (omega (arith, below k))))
+      (IsPermutation-trans _ _ _ (IsPermutation-append_right (f k) _ _ (of_each f part_of parts below ks)) (one_at (part_of k) (f k) g 0 parts (omega arith) (omega (arith, below k))))
     where
       at : (b : Bool) (i : ℕ) → cond b (f k ++ flat_map f (filter (λ k. part_of k == i) ks)) (flat_map f (filter (λ k. part_of k == i) ks))
           ≡ flat_map f (cond b (k ∷ filter (λ k. part_of k == i) ks) (filter (λ k. part_of k == i) ks))
@@ -205,13 +177,13 @@ lines_of_entries : (end : ℕ) (es : Lines) → lines end (text end es) ≡ flat
 lines_of_entries end [] = refl
 lines_of_entries end (e ∷ es) = the_lines_of_parts end (e ++ end ∷ []) (text end es) (inr (e, refl)) ∙ ap (λ l. lines end (e ++ end ∷ []) ++ l) (lines_of_entries end es)
 
+nested : (g : List ℕ → Lines) (f : List ℕ → Lines) (ks : Lines) → flat_map g (flat_map f ks) ≡ flat_map (λ k. flat_map g (f k)) ks
+nested g f [] = refl
+nested g f (k ∷ ks) = flat_map-append g (f k) (flat_map f ks) ∙ ap (λ l. flat_map g (f k) ++ l) (nested g f ks)
+
 lines_kept : (end : ℕ) (q : List ℕ → Bool) (ls : Lines) → AreLines end ls → AreLines end (filter q ls)
 lines_kept end q [] e = tt
-lines_kept end q (x ∷ ls) e = by (q x) (lines_kept end q ls e.1)
-  where
-    by : (b : Bool) → AreLines end (filter q ls) → AreLines end (cond b (x ∷ filter q ls) (filter q ls))
-    by true ih = (e.0, ih)
-    by false ih = ih
+lines_kept end q (x ∷ ls) e = elim (q x) as (λ b. AreLines end (cond b (x ∷ filter q ls) (filter q ls))) [ true ↦ (e.0, lines_kept end q ls e.1) | false ↦ lines_kept end q ls e.1 ]
 
 -- the lines of a text that is made of lines of another one
 lines_dealt : (end : ℕ) (q : List ℕ → Bool) (bytes : List ℕ) → lines end (text end (filter q (lines end bytes))) ≡ filter q (lines end bytes)
@@ -252,16 +224,12 @@ of_keys tool o inputs part_of parts in_order below =
     of_part i =
         (λ t. lines tool.end (text tool.end (merged_entries tool (λ side. lines_dealt tool.end (λ line. part_of (tool.key side line) == i) (inputs side) t))))
         ∙ ap (λ es. lines tool.end (text tool.end es)) (merged_in_order tool o (part_lines i) (part_order i)) ∙ written (by_keys tool all_keys (part_lines i))
-        ∙ entries_kept (goes_to i) tool o ls entry_lines
+        ∙ ap (flat_map entry_lines) (by_keys_kept (goes_to i) tool o ls) ∙ nested entry_lines (entries_of tool ls) (filter (goes_to i) ds)
 
     whole : written_lines tool inputs ≡ flat_map each ds
     whole =
         ap (λ es. lines tool.end (text tool.end es)) (merged_in_order tool o ls in_order) ∙ written (by_keys tool all_keys ls)
-        ∙ ap (λ ks. flat_map entry_lines (flat_map (entries_of tool ls) ks)) (filter_true ds) ∙ nested ds
-      where
-        nested : (ks : Lines) → flat_map entry_lines (flat_map (entries_of tool ls) ks) ≡ flat_map each ks
-        nested [] = refl
-        nested (k ∷ ks) = flat_map-append entry_lines (entries_of tool ls k) (flat_map (entries_of tool ls) ks) ∙ ap (λ l. each k ++ l) (nested ks)
+        ∙ ap (λ ks. flat_map entry_lines (flat_map (entries_of tool ls) ks)) (filter_true ds) ∙ nested entry_lines (entries_of tool ls) ds
 
 pub comm_of_keys : CommByKey
 comm_of_keys job = of_keys (comm_tool job) (line_order job.descending)

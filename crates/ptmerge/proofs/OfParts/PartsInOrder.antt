@@ -1,28 +1,32 @@
--- Lists in order: put behind one another, and some of their lines.
-use Rattle.std.proofs.Common.{◌≡◌, ℕ, ◌+◌, List, [], ◌∷◌, ◌++◌, Bool, true, false, cond, Option, Some, None, refl, ap, sym, ◌∙◌, subst, map}
+-- Lists in order: put behind one another, and some of their lines; and texts in parts.
+use Rattle.std.proofs.Common.{◌≡◌, ℕ, ◌+◌, List, [], ◌∷◌, ◌++◌, Bool, true, false, cond, Option, Some, None, refl, ap, sym, ◌∙◌, subst}
 use Rattle.std.specs.Prelude.{filter}
 use Rattle.std.specs.Ordering.{is_le, is_lt}
 use Rattle.std.specs.declared.cmp.Ordering.TheVariants.{Less}
 use Rattle.ptmerge.specs.declared.order.Side.{Side}
 use Rattle.ptmerge.specs.declared.order.Side.TheVariants.{First, Second}
-use Rattle.ptmerge.specs.Keyed.{Lines, Tool, Disorder, Fall, by_keys, disorder, disorder_of, fall, keys, merged_entries, ordered, ordered_part, up_to}
+use Rattle.ptmerge.specs.Keyed.{Lines, Tool, Disorder, Fall, by_keys, disorder, disorder_of, fall, keys, merged_entries, ordered, ordered_part, up_to, lines_of}
 use Rattle.ptmerge.specs.Orders.{Cmp, Key}
 use Rattle.ptmerge.proofs.OfMerges.Bounds.{Bound, FallFrom, Falling, From, Over, Under, after_from, fall_after, fall_at, fall_is, falls, ordered_after, ordered_is}
 use Rattle.ptmerge.proofs.OfMerges.Least.{Each, EachKey, Each-keys, Each-weaker}
-use Rattle.ptmerge.proofs.OfMerges.Orders.{IsKeyOrder, at_most_trans, less_at_most}
-use Rattle.ptmerge.proofs.OfParts.PartsOfKeys.{EachBelow, by_keys_of_parts, each_key, each_left, each_right}
+use Rattle.ptmerge.proofs.OfMerges.Orders.{IsKeyOrder, at_most_trans, less_at_most, line_order}
+use Rattle.ptmerge.proofs.OfParts.PartsOfKeys.{EachBelow, IsBelow, by_keys_of_parts, of_keys}
 use Rattle.ptmerge.proofs.OfMerges.Splitting.{all_keys, all_wanted, passed_is_wanted}
+use Rattle.ptlines.specs.Text.{text}
+use Rattle.ptlines.proofs.PartLaws.{the_lines_of_parts}
+use Rattle.ptlines.proofs.TextLaws.{text-append}
+use Rattle.ptmerge.specs.Comm.{comm_tool}
+use Rattle.ptmerge.specs.Join.{join_tool}
+use Rattle.ptmerge.specs.Parts.{IsOfParts, PartsOfComm, PartsOfJoin}
 
 -- no fall
 no_fall_first : (cmp : Cmp) (f g : Option Fall) → disorder_of cmp f g ≡ None → (f ≡ None) × (g ≡ None)
 no_fall_first cmp None None e = (refl, refl)
 no_fall_first cmp None (Some d) e = cc
 no_fall_first cmp (Some d) None e = cc
-no_fall_first cmp (Some d) (Some g) e = by (is_lt (cmp g.last_key d.last_key)) e
-  where
-    by : (b : Bool) → cond {A = Option Disorder} b (Some (record { file = Second; fall = g })) (Some (record { file = First; fall = d })) ≡ None → (Some d ≡ None) × (Some g ≡ None)
-    by true e = cc
-    by false e = cc
+no_fall_first cmp (Some d) (Some g) e = elim (is_lt (cmp g.last_key d.last_key)) as (λ b.
+    cond {A = Option Disorder} b (Some (record { file = Second; fall = g })) (Some (record { file = First; fall = d })) ≡ None → (Some d ≡ None) × (Some g ≡ None))
+    [ true ↦ λ e. cc | false ↦ λ e. cc ] e
 
 -- behind which key it falls
 abbrev pub behind : Option Fall → Option (List ℕ)
@@ -40,12 +44,9 @@ by_limits : (cmp : Cmp) (f g : Option Fall) (k : List ℕ) → up_to cmp (disord
 by_limits cmp None None k = refl
 by_limits cmp None (Some g) k = refl
 by_limits cmp (Some f) None k = refl
-by_limits cmp (Some f) (Some g) k = by (is_lt (cmp g.last_key f.last_key))
-  where
-    by : (b : Bool) → up_to cmp (cond {A = Option Disorder} b (Some (record { file = Second; fall = g })) (Some (record { file = First; fall = f }))) k
-        ≡ cond b (is_le (cmp k g.last_key)) (is_le (cmp k f.last_key))
-    by true = refl
-    by false = refl
+by_limits cmp (Some f) (Some g) k = elim (is_lt (cmp g.last_key f.last_key)) as (λ b.
+    up_to cmp (cond {A = Option Disorder} b (Some (record { file = Second; fall = g })) (Some (record { file = First; fall = f }))) k
+    ≡ cond b (is_le (cmp k g.last_key)) (is_le (cmp k f.last_key))) [ true ↦ refl | false ↦ refl ]
 
 -- the first line does not fall, nor do those behind it
 rises : (b : Bool) (d : Fall) (f : Option Fall) → cond b (Some d) f ≡ None → (b ≡ false) × (f ≡ None)
@@ -66,12 +67,8 @@ module _ (cmp : Cmp) (o : IsKeyOrder cmp) (key : Key) where
   -- the last key in order does not depend on how many lines came before
   uncounted : (last : Option (List ℕ)) (n m : ℕ) (ys : Lines) → behind (fall_after cmp key last n ys) ≡ behind (fall_after cmp key last m ys)
   uncounted last n m [] = refl
-  uncounted last n m (y ∷ ys) = by (falls cmp last (key y)) (uncounted (Some (key y)) (n + 1) (m + 1) ys)
-    where
-      by : (b : Bool) → behind (fall_after cmp key (Some (key y)) (n + 1) ys) ≡ behind (fall_after cmp key (Some (key y)) (m + 1) ys)
-          → behind (cond b (Some (fall_at last n)) (fall_after cmp key (Some (key y)) (n + 1) ys)) ≡ behind (cond b (Some (fall_at last m)) (fall_after cmp key (Some (key y)) (m + 1) ys))
-      by true ih = refl
-      by false ih = ih
+  uncounted last n m (y ∷ ys) = elim (falls cmp last (key y)) as (λ b. behind (cond b (Some (fall_at last n)) (fall_after cmp key (Some (key y)) (n + 1) ys))
+      ≡ behind (cond b (Some (fall_at last m)) (fall_after cmp key (Some (key y)) (m + 1) ys))) [ true ↦ refl | false ↦ uncounted (Some (key y)) (n + 1) (m + 1) ys ]
 
   -- lines behind a key at most theirs
   goes_on : (last : Option (List ℕ)) (n m : ℕ) (ys : Lines) → EachKey (λ k. falls cmp last k ≡ false) key ys
@@ -109,11 +106,8 @@ module _ (cmp : Cmp) (o : IsKeyOrder cmp) (key : Key) where
     where
       each_after : (last : Option (List ℕ)) (ys : Lines) → EachKey P key ys → EachKey P key (ordered_after cmp key last ys)
       each_after last [] e = tt
-      each_after last (y ∷ ys) e = by (falls cmp last (key y)) (each_after (Some (key y)) ys e.1)
-        where
-          by : (b : Bool) → EachKey P key (ordered_after cmp key (Some (key y)) ys) → EachKey P key (cond b [] (y ∷ ordered_after cmp key (Some (key y)) ys))
-          by true ih = tt
-          by false ih = (e.0, ih)
+      each_after last (y ∷ ys) e =
+          elim (falls cmp last (key y)) as (λ b. EachKey P key (cond b [] (y ∷ ordered_after cmp key (Some (key y)) ys))) [ true ↦ tt | false ↦ (e.0, each_after (Some (key y)) ys e.1) ]
 
   -- what is known of a list by its first key
   abbrev pub begins_at : Lines → Bound
@@ -133,79 +127,89 @@ module _ (cmp : Cmp) (o : IsKeyOrder cmp) (key : Key) where
   kept_after p last from n m [] up e = refl
   kept_after p last from n m (x ∷ xs) up e =
       let r = rises (falls cmp last (key x)) (fall_at last n) (fall_after cmp key (Some (key x)) (n + 1) xs) e in
-      by (p x) (up (key x) r.0) (kept_after p (Some (key x)) (Some (key x)) (n + 1) (m + 1) xs (λ k h. h) r.1) (kept_after p (Some (key x)) from (n + 1) m xs (later from (up (key x) r.0)) r.1)
+      elim (p x) as (λ b. fall_after cmp key from m (cond b (x ∷ filter p xs) (filter p xs)) ≡ None) [
+        | true ↦ rw (up (key x) r.0) (kept_after p (Some (key x)) (Some (key x)) (n + 1) (m + 1) xs (λ k h. h) r.1)
+        | false ↦ kept_after p (Some (key x)) from (n + 1) m xs (later from (up (key x) r.0)) r.1
+      ]
     where
       later : (from : Option (List ℕ)) → falls cmp from (key x) ≡ false → (k : List ℕ) → falls cmp (Some (key x)) k ≡ false → falls cmp from k ≡ false
       later None h k g = refl
       later (Some l) h k g = at_most_trans cmp o l (key x) k h g
-
-      by : (b : Bool) → falls cmp from (key x) ≡ false → fall_after cmp key (Some (key x)) (m + 1) (filter p xs) ≡ None
-          → fall_after cmp key from m (filter p xs) ≡ None → fall_after cmp key from m (cond b (x ∷ filter p xs) (filter p xs)) ≡ None
-      by true h kept left_out = rw h kept
-      by false h kept left_out = left_out
 
   -- some lines of a list in order are in order
   pub in_order_kept : (p : List ℕ → Bool) (xs : Lines) → fall cmp key xs ≡ None → fall cmp key (filter p xs) ≡ None
   in_order_kept p xs e = fall_is cmp key (filter p xs) ∙ kept_after p None None 0 0 xs (λ k h. h) (sym (fall_is cmp key xs) ∙ e)
 
 module _ (tool : Tool) (o : IsKeyOrder tool.cmp) where
-  pub none_falls : (ls : Side → Lines) → disorder tool ls ≡ None → (side : Side) → fall tool.cmp (tool.key side) (ls side) ≡ None
-  none_falls ls e First = (no_fall_first tool.cmp (fall tool.cmp (tool.key First) (ls First)) (fall tool.cmp (tool.key Second) (ls Second)) e).0
-  none_falls ls e Second = (no_fall_first tool.cmp (fall tool.cmp (tool.key First) (ls First)) (fall tool.cmp (tool.key Second) (ls Second)) e).1
+  open tool use {cmp, key}
 
-  pub no_disorder : (ls : Side → Lines) → ((side : Side) → fall tool.cmp (tool.key side) (ls side) ≡ None) → disorder tool ls ≡ None
-  no_disorder ls e = λ i. disorder_of tool.cmp (e First i) (e Second i)
+  pub none_falls : (ls : Side → Lines) → disorder tool ls ≡ None → (side : Side) → fall cmp (key side) (ls side) ≡ None
+  none_falls ls e First = (no_fall_first cmp _ _ e).0
+  none_falls ls e Second = (no_fall_first cmp _ _ e).1
+
+  pub no_disorder : (ls : Side → Lines) → ((side : Side) → fall cmp (key side) (ls side) ≡ None) → disorder tool ls ≡ None
+  no_disorder ls e = λ i. disorder_of cmp (e First i) (e Second i)
 
   -- what is written of lists in order is what is written of all their keys
   pub merged_in_order : (ls : Side → Lines) → disorder tool ls ≡ None → merged_entries tool ls ≡ by_keys tool all_keys ls
-  merged_in_order ls e = λ i. by_keys tool (up_to tool.cmp (e i)) (λ side. ordered_whole tool.cmp o (tool.key side) (ls side) (none_falls ls e side) i)
-
-  of_keys : (side : Side) (P : List ℕ → Type 0) (ls : Side → Lines) → Each P (keys tool ls) → EachKey P (tool.key side) (ls side)
-  of_keys First P ls e = each_key P (tool.key First) (ls First) (each_left P (map (tool.key First) (ls First)) (map (tool.key Second) (ls Second)) e)
-  of_keys Second P ls e = each_key P (tool.key Second) (ls Second) (each_right P (map (tool.key First) (ls First)) (map (tool.key Second) (ls Second)) e)
+  merged_in_order ls e = λ i. by_keys tool (up_to cmp (e i)) (λ side. ordered_whole cmp o (key side) (ls side) (none_falls ls e side) i)
 
   keys_in_order : (P : List ℕ → Type 0) (ls : Side → Lines) → Each P (keys tool ls) → Each P (keys tool (ordered tool ls))
   keys_in_order P ls e =
-      let in_order = λ (side : Side). each_ordered tool.cmp o (tool.key side) P (ls side) (of_keys side P ls e) in
-      Each-keys P (tool.key First) (tool.key Second) (ordered tool ls First) (ordered tool ls Second) (in_order First) (in_order Second)
+      let in_order = λ (side : Side). each_ordered cmp o (key side) P (ls side) (of_keys tool side P ls e) in
+      Each-keys P (key First) (key Second) (ordered tool ls First) (ordered tool ls Second) (in_order First) (in_order Second)
 
-  module _ (a b : Side → Lines) (in_order : disorder tool a ≡ None) (below : EachBelow tool.cmp (keys tool a) (keys tool b)) where
-    side_below : (side : Side) → EachKey (λ k. EachKey (λ l. tool.cmp k l ≡ Less) (tool.key side) (b side)) (tool.key side) (a side)
+  module _ (a b : Side → Lines) (in_order : disorder tool a ≡ None) (below : EachBelow cmp (keys tool a) (keys tool b)) where
+    side_below : (side : Side) → EachKey (λ k. EachKey (λ l. cmp k l ≡ Less) (key side) (b side)) (key side) (a side)
     side_below side =
-        of_keys side (λ k. EachKey (λ l. tool.cmp k l ≡ Less) (tool.key side) (b side)) a
-        (Each-weaker (λ k. Each (λ l. tool.cmp k l ≡ Less) (keys tool b)) (λ k. EachKey (λ l. tool.cmp k l ≡ Less) (tool.key side) (b side))
-        (λ k h. of_keys side (λ l. tool.cmp k l ≡ Less) b h) (keys tool a) below)
+        of_keys tool side (λ k. EachKey (λ l. cmp k l ≡ Less) (key side) (b side)) a
+        (Each-weaker (IsBelow cmp (keys tool b)) (λ k. EachKey (λ l. cmp k l ≡ Less) (key side) (b side))
+        (λ k h. of_keys tool side (λ l. cmp k l ≡ Less) b h) (keys tool a) below)
 
-    both_go_on : (side : Side) → (ordered_part tool.cmp (tool.key side) (a side ++ b side) ≡ a side ++ ordered_part tool.cmp (tool.key side) (b side))
-        × (behind (fall tool.cmp (tool.key side) (a side ++ b side)) ≡ behind (fall tool.cmp (tool.key side) (b side)))
-    both_go_on side = together tool.cmp o (tool.key side) (a side) (b side) (none_falls a in_order side) (side_below side)
+    both_go_on : (side : Side) → (ordered_part cmp (key side) (a side ++ b side) ≡ a side ++ ordered_part cmp (key side) (b side))
+        × (behind (fall cmp (key side) (a side ++ b side)) ≡ behind (fall cmp (key side) (b side)))
+    both_go_on side = together cmp o (key side) (a side) (b side) (none_falls a in_order side) (side_below side)
 
     -- the same keys are wanted
-    same_wanted : (k : List ℕ) → up_to tool.cmp (disorder tool (λ side. a side ++ b side)) k ≡ up_to tool.cmp (disorder tool b) k
+    same_wanted : (k : List ℕ) → up_to cmp (disorder tool (λ side. a side ++ b side)) k ≡ up_to cmp (disorder tool b) k
     same_wanted k =
-        by_limits tool.cmp (fall tool.cmp (tool.key First) (a First ++ b First)) (fall tool.cmp (tool.key Second) (a Second ++ b Second)) k
-        ∙ (λ i. is_within tool.cmp ((both_go_on First).1 i) ((both_go_on Second).1 i) k)
-        ∙ sym (by_limits tool.cmp (fall tool.cmp (tool.key First) (b First)) (fall tool.cmp (tool.key Second) (b Second)) k)
+        by_limits cmp _ _ k
+        ∙ (λ i. is_within cmp ((both_go_on First).1 i) ((both_go_on Second).1 i) k)
+        ∙ sym (by_limits cmp _ _ k)
 
     -- of the first lists all keys are wanted
-    first_wanted : (side : Side) → EachKey (λ k. up_to tool.cmp (disorder tool b) k ≡ true) (tool.key side) (a side)
+    first_wanted : (side : Side) → EachKey (λ k. up_to cmp (disorder tool b) k ≡ true) (key side) (a side)
     first_wanted side =
-        of_keys side (λ k. up_to tool.cmp (disorder tool b) k ≡ true) a
-        (Each-weaker (λ k. Each (λ l. tool.cmp k l ≡ Less) (keys tool b)) (λ k. up_to tool.cmp (disorder tool b) k ≡ true) wanted (keys tool a) below)
+        of_keys tool side (λ k. up_to cmp (disorder tool b) k ≡ true) a
+        (Each-weaker (IsBelow cmp (keys tool b)) (λ k. up_to cmp (disorder tool b) k ≡ true) wanted (keys tool a) below)
       where
-        wanted : (k : List ℕ) → Each (λ l. tool.cmp k l ≡ Less) (keys tool b) → up_to tool.cmp (disorder tool b) k ≡ true
+        wanted : (k : List ℕ) → IsBelow cmp (keys tool b) k → up_to cmp (disorder tool b) k ≡ true
         wanted k h =
-            let key1 = tool.key First in
-            let key2 = tool.key Second in
-            passed_is_wanted tool.cmp o (begins_at tool.cmp o key1 (b First)) (begins_at tool.cmp o key2 (b Second)) (fall tool.cmp key1 (b First)) (fall tool.cmp key2 (b Second)) k
-            (falls_behind tool.cmp o key1 (b First)) (falls_behind tool.cmp o key2 (b Second))
-            (under_first tool.cmp o key1 k (b First) (of_keys First (λ l. tool.cmp k l ≡ Less) b h)) (under_first tool.cmp o key2 k (b Second) (of_keys Second (λ l. tool.cmp k l ≡ Less) b h))
+            let falls = λ (side : Side). falls_behind cmp o (key side) (b side) in
+            let under = λ (side : Side). under_first cmp o (key side) k (b side) (of_keys tool side (λ l. cmp k l ≡ Less) b h) in
+            passed_is_wanted _ o (begins_at cmp o (key First) (b First)) (begins_at cmp o (key Second) (b Second)) _ _ k
+            (falls First) (falls Second) (under First) (under Second)
 
     -- The entries of lists that are put together are those of the first ones, and then those of the others.
     pub entries_together : merged_entries tool (λ side. a side ++ b side) ≡ merged_entries tool a ++ merged_entries tool b
     entries_together =
-        let w = up_to tool.cmp (disorder tool b) in
-        let low = Each-weaker (λ k. Each (λ l. tool.cmp k l ≡ Less) (keys tool b)) (λ k. Each (λ l. tool.cmp k l ≡ Less) (keys tool (ordered tool b)))
-        (λ k h. keys_in_order (λ l. tool.cmp k l ≡ Less) b h) (keys tool a) below in
+        let w = up_to cmp (disorder tool b) in
+        let low = Each-weaker (IsBelow cmp (keys tool b)) (IsBelow cmp (keys tool (ordered tool b)))
+        (λ k h. keys_in_order (λ l. cmp k l ≡ Less) b h) (keys tool a) below in
         (λ i. by_keys tool (λ k. same_wanted k i) (λ side. (both_go_on side).0 i)) ∙ by_keys_of_parts tool o a (ordered tool b) low w
         ∙ ap (λ l. l ++ merged_entries tool b) (all_wanted tool w a first_wanted ∙ sym (merged_in_order a in_order))
+
+-- ---- texts in parts
+
+pub of_parts : (tool : Tool) → IsKeyOrder tool.cmp → IsOfParts tool
+of_parts tool o first second cut =
+    let a : Side → Lines = lines_of tool first in
+    let b : Side → Lines = lines_of tool second in
+    ap (text tool.end) ((λ i. merged_entries tool (λ side. the_lines_of_parts tool.end (first side) (second side) (cut.whole side) i)) ∙ entries_together tool o a b cut.in_order cut.below)
+    ∙ text-append tool.end (merged_entries tool a) (merged_entries tool b)
+
+pub comm_of_parts : PartsOfComm
+comm_of_parts job = of_parts (comm_tool job) (line_order job.descending)
+
+pub join_of_parts : PartsOfJoin
+join_of_parts job = of_parts (join_tool job) (line_order job.descending)

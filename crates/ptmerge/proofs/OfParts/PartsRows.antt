@@ -15,7 +15,7 @@ use Rattle.ptmerge.specs.Keyed.{Lines, Tool, keys, lines_of, merged}
 use Rattle.ptmerge.specs.Parts.{AllBelow, AreCutByKey, AreInOrder, dealt, written_lines}
 use Rattle.ptmerge.specs.Sides.{both}
 use Rattle.ptmerge.proofs.OfParts.PartsByKey.{comm_of_keys, join_of_keys}
-use Rattle.ptmerge.proofs.OfParts.PartsLaws.{comm_of_parts, join_of_parts}
+use Rattle.ptmerge.proofs.OfParts.PartsInOrder.{comm_of_parts, join_of_parts}
 
 abbrev compares : Tool
 compares = comm_tool default_comm
@@ -34,13 +34,13 @@ each_whole end f g p q Second = q
 
 comm_is_cut : AreCutByKey compares (both (codes "a\n") (codes "a\nb\n")) (both (codes "c\n") (codes "c\n"))
 comm_is_cut = record {
-  whole = each_whole 10 (codes "a\n") (codes "a\nb\n") (inr (codes "a", refl)) (inr (codes "a\nb", refl));
+  whole = each_whole 10 _ _ (inr (codes "a", refl)) (inr (codes "a\nb", refl));
   in_order = refl;
   below = ((refl, (refl, tt)), ((refl, (refl, tt)), ((refl, (refl, tt)), tt)));
 }
 
 comm_in_parts : writes compares (codes "a\nc\n") (codes "a\nb\nc\n") ≡ writes compares (codes "a\n") (codes "a\nb\n") ++ writes compares (codes "c\n") (codes "c\n")
-comm_in_parts = comm_of_parts default_comm (both (codes "a\n") (codes "a\nb\n")) (both (codes "c\n") (codes "c\n")) comm_is_cut
+comm_in_parts = comm_of_parts default_comm _ _ comm_is_cut
 
 comm_of_both_parts : writes compares (codes "a\n") (codes "a\nb\n") ++ writes compares (codes "c\n") (codes "c\n") ≡ codes "\t\ta\n\tb\n\t\tc\n"
 comm_of_both_parts = refl
@@ -51,14 +51,14 @@ backwards = record default_comm { end = 0; descending = true }
 
 backwards_is_cut : AreCutByKey (comm_tool backwards) (both (codes "c\0b\0") (codes "")) (both (codes "a") (codes "a\0"))
 backwards_is_cut = record {
-  whole = each_whole 0 (codes "c\0b\0") (codes "") (inr (codes "c\0b", refl)) (inl refl);
+  whole = each_whole 0 _ _ (inr (codes "c\0b", refl)) (inl refl);
   in_order = refl;
   below = ((refl, (refl, tt)), ((refl, (refl, tt)), tt));
 }
 
 comm_backwards_in_parts : writes (comm_tool backwards) (codes "c\0b\0a") (codes "a\0") ≡ writes (comm_tool backwards) (codes "c\0b\0") (codes "")
     ++ writes (comm_tool backwards) (codes "a") (codes "a\0")
-comm_backwards_in_parts = comm_of_parts backwards (both (codes "c\0b\0") (codes "")) (both (codes "a") (codes "a\0")) backwards_is_cut
+comm_backwards_in_parts = comm_of_parts backwards _ _ backwards_is_cut
 
 comm_backwards_of_both : writes (comm_tool backwards) (codes "c\0b\0") (codes "") ++ writes (comm_tool backwards) (codes "a") (codes "a\0") ≡ codes "c\0b\0\t\ta\0"
 comm_backwards_of_both = refl
@@ -68,7 +68,7 @@ joins_all = record default_join { unpaired1 = true; unpaired2 = true }
 
 join_is_cut : AreCutByKey (join_tool joins_all) (both (codes "a 1\na 2\n") (codes "a x\n")) (both (codes "b 3\n") (codes "c z\n"))
 join_is_cut = record {
-  whole = each_whole 10 (codes "a 1\na 2\n") (codes "a x\n") (inr (codes "a 1\na 2", refl)) (inr (codes "a x", refl));
+  whole = each_whole 10 _ _ (inr (codes "a 1\na 2", refl)) (inr (codes "a x", refl));
   in_order = refl;
   below = ((refl, (refl, tt)), ((refl, (refl, tt)), ((refl, (refl, tt)), tt)));
 }
@@ -76,17 +76,17 @@ join_is_cut = record {
 join_in_parts :
     writes (join_tool joins_all) (codes "a 1\na 2\nb 3\n") (codes "a x\nc z\n")
     ≡ writes (join_tool joins_all) (codes "a 1\na 2\n") (codes "a x\n") ++ writes (join_tool joins_all) (codes "b 3\n") (codes "c z\n")
-join_in_parts = join_of_parts joins_all (both (codes "a 1\na 2\n") (codes "a x\n")) (both (codes "b 3\n") (codes "c z\n")) join_is_cut
+join_in_parts = join_of_parts joins_all _ _ join_is_cut
 
 join_of_both_parts : writes (join_tool joins_all) (codes "a 1\na 2\n") (codes "a x\n") ++ writes (join_tool joins_all) (codes "b 3\n") (codes "c z\n") ≡ codes "a 1 x\na 2 x\nb 3\nc z\n"
 join_of_both_parts = refl
 
 -- the second parts may be out of order: then the whole is, behind the same key
 second_falls_is_cut : AreCutByKey compares (both (codes "a\n") (codes "")) (both (codes "c\nb\n") (codes "d\n"))
-second_falls_is_cut = record { whole = each_whole 10 (codes "a\n") (codes "") (inr (codes "a", refl)) (inl refl); in_order = refl; below = ((refl, (refl, (refl, tt))), tt) }
+second_falls_is_cut = record { whole = each_whole 10 _ _ (inr (codes "a", refl)) (inl refl); in_order = refl; below = ((refl, (refl, (refl, tt))), tt) }
 
 second_falls_in_parts : codes "a\nc\n" ≡ writes compares (codes "a\n") (codes "") ++ writes compares (codes "c\nb\n") (codes "d\n")
-second_falls_in_parts = comm_of_parts default_comm (both (codes "a\n") (codes "")) (both (codes "c\nb\n") (codes "d\n")) second_falls_is_cut
+second_falls_in_parts = comm_of_parts default_comm _ _ second_falls_is_cut
 
 -- ---- each of these conditions is needed
 
@@ -108,13 +108,13 @@ not_within_a_joined_line law = omega (arith, ap length (law (both (codes "a") (c
 
 -- a cut by size: a key is in a first part, and in a second part
 not_by_size : ((first second : Side → List ℕ) → AreWhole compares first → AreInOrder compares first → IsWritten compares first second) → ⊥
-not_by_size law = omega (arith, ap length (law (both (codes "a\n") (codes "")) (both (codes "") (codes "a\n")) (each_whole 10 (codes "a\n") (codes "") (inr (codes "a", refl)) (inl refl)) refl))
+not_by_size law = omega (arith, ap length (law (both (codes "a\n") (codes "")) (both (codes "") (codes "a\n")) (each_whole 10 _ _ (inr (codes "a", refl)) (inl refl)) refl))
 
 not_joined_by_size : ((first second : Side → List ℕ) → AreWhole joins first → AreInOrder joins first → IsWritten joins first second) → ⊥
 not_joined_by_size law = omega (
   arith,
   ap length (law (both (codes "a 1\n") (codes "")) (both (codes "") (codes "a x\n"))
-      (each_whole 10 (codes "a 1\n") (codes "") (inr (codes "a 1", refl)) (inl refl)) refl),
+      (each_whole 10 _ _ (inr (codes "a 1", refl)) (inl refl)) refl),
 )
 
 -- a first part out of order
@@ -123,14 +123,14 @@ not_out_of_order law =
     omega (
       arith,
       ap length (law (both (codes "b\na\n") (codes "")) (both (codes "c\n") (codes ""))
-          (each_whole 10 (codes "b\na\n") (codes "") (inr (codes "b\na", refl)) (inl refl)) ((refl, tt), ((refl, tt), tt))),
+          (each_whole 10 _ _ (inr (codes "b\na", refl)) (inl refl)) ((refl, tt), ((refl, tt), tt))),
     )
 
 not_joined_out_of_order : ((first second : Side → List ℕ) → AreWhole joins first → AreBelow joins first second → IsWritten joins first second) → ⊥
 not_joined_out_of_order law =
     omega (
       arith,
-      ap length (law (both (codes "b\na\n") (codes "b\n")) (both (codes "c\n") (codes "c\n")) (each_whole 10 (codes "b\na\n") (codes "b\n") (inr (codes "b\na", refl)) (inr (codes "b", refl)))
+      ap length (law (both (codes "b\na\n") (codes "b\n")) (both (codes "c\n") (codes "c\n")) (each_whole 10 _ _ (inr (codes "b\na", refl)) (inr (codes "b", refl)))
           ((refl, (refl, tt)), ((refl, (refl, tt)), ((refl, (refl, tt)), tt)))),
     )
 
@@ -140,12 +140,12 @@ not_joined_out_of_order law =
 abbrev b_apart : List ℕ → ℕ
 b_apart key = cond (bytes_eq key (codes "b")) 1 0
 
+below_two : (t : Bool) → cond t 1 0 < 2
+below_two true = omega arith
+below_two false = omega arith
+
 b_apart_below : (key : List ℕ) → b_apart key < 2
-b_apart_below key = by (bytes_eq key (codes "b"))
-  where
-    by : (t : Bool) → cond t 1 0 < 2
-    by true = omega arith
-    by false = omega arith
+b_apart_below key = below_two (bytes_eq key (codes "b"))
 
 abbrev three : Side → List ℕ
 three = both (codes "a 1\nb 2\nc 3\n") (codes "a x\nb y\nc z\n")
@@ -170,11 +170,7 @@ abbrev one_apart : List ℕ → ℕ
 one_apart line = cond (bytes_eq line (codes "a 1")) 1 0
 
 one_apart_below : (line : List ℕ) → one_apart line < 2
-one_apart_below line = by (bytes_eq line (codes "a 1"))
-  where
-    by : (t : Bool) → cond t 1 0 < 2
-    by true = omega arith
-    by false = omega arith
+one_apart_below line = below_two (bytes_eq line (codes "a 1"))
 
 -- dealt out by something else than the key, as by the whole line
 abbrev dealt_by_line : Tool → (List ℕ → ℕ) → (Side → List ℕ) → ℕ → Side → List ℕ

@@ -1,4 +1,4 @@
-use Rattle.ptmerge.proofs.OfParts.PartsLaws.{join_of_parts}
+use Rattle.ptmerge.proofs.OfParts.PartsInOrder.{join_of_parts}
 use Rattle.ptmerge.proofs.parts.parts_of_join.Goals as goal
 
 pub returns : goal.returns

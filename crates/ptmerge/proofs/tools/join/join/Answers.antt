@@ -1,10 +1,8 @@
 -- An output that has failed is left alone; otherwise both orders are one proof, over the order that the job names.
-use Rattle.std.proofs.Common.{sym, ◌∙◌, subst}
-use Rattle.std.proofs.lemmas.Bool.{false≢true}
+use Rattle.std.proofs.Common.{sym, ◌∙◌}
 use Rattle.ptlangs.specs.Jobs.{join_job}
-use Rattle.ptmerge.specs.Join.{join_by, join_key, join_tool}
-use Rattle.ptmerge.specs.Merges.{IsMerge, seen}
-use Rattle.ptmerge.specs.Orders.{line_cmp}
+use Rattle.ptmerge.specs.Join.{join_tool}
+use Rattle.ptmerge.specs.Merges.{seen}
 use Rattle.ptmerge.specs.Sides.{both}
 use Rattle.ptmerge.proofs.OfMerges.Starting.{set_is}
 use Rattle.ptmerge.proofs.OfMerges.Stopping.{merge_halted, merge_set, unread_set}
@@ -17,51 +15,18 @@ returns-then-has_failed-clause-merged g c =
 
 pub returns-then-job-clause-merged : goal.returns-then-job-clause-merged
 returns-then-job-clause-merged g c =
-    let job = join_job c.args.job.now in
-    let old = seen c.args.first.now c.args.second.now c.args.out.now c.args.store.now in
-    let set = both c.set_ending.new.self c.set_ending-2.new.self in
-    let new = seen c.join_in_order.new.first c.join_in_order.new.second c.join_in_order.new.out c.join_in_order.new.store in
-    let is = set_is c.args.first.now c.args.second.now c.set_ending.new.self c.set_ending-2.new.self c.args.job.now.zero c.set_ending.ensures.set c.set_ending-2.ensures.set in
-    merge_set old new set job.end is (join_tool job) c.join_in_order.result
-    (subst (λ t. IsMerge (join_by job (line_cmp t) (join_key job)) (seen c.set_ending.new.self c.set_ending-2.new.self c.args.out.now c.args.store.now) new
-    c.join_in_order.result) (sym c.if-job.true) c.join_in_order.ensures.merged)
+    merge_set (seen c.args.first.now c.args.second.now c.args.out.now c.args.store.now) _ (both c.set_ending.new.self c.set_ending-2.new.self) (join_job c.args.job.now).end
+    (set_is _ _ _ _ _ c.set_ending.ensures.set c.set_ending-2.ensures.set) _ _ (rw c.if-job.true c.join_in_order.ensures.merged)
 
 pub returns-clause-merged : goal.returns-clause-merged
 returns-clause-merged g c =
-    let job = join_job c.args.job.now in
-    let old = seen c.args.first.now c.args.second.now c.args.out.now c.args.store.now in
-    let set = both c.set_ending.new.self c.set_ending-2.new.self in
-    let new = seen c.join_in_order-2.new.first c.join_in_order-2.new.second c.join_in_order-2.new.out c.join_in_order-2.new.store in
-    let is = set_is c.args.first.now c.args.second.now c.set_ending.new.self c.set_ending-2.new.self c.args.job.now.zero c.set_ending.ensures.set c.set_ending-2.ensures.set in
-    merge_set old new set job.end is (join_tool job) c.join_in_order-2.result
-    (subst (λ t. IsMerge (join_by job (line_cmp t) (join_key job)) (seen c.set_ending.new.self c.set_ending-2.new.self c.args.out.now c.args.store.now) new
-    c.join_in_order-2.result) (sym c.if-job.false) c.join_in_order-2.ensures.merged)
-
-pub returns-then-job-clause-halted : goal.returns-then-job-clause-halted
-returns-then-job-clause-halted g c = λ fault. absurd (false≢true (sym c.if-has_failed.false ∙ c.has_failed.ensures ∙ fault))
-
-pub returns-clause-halted : goal.returns-clause-halted
-returns-clause-halted g c = λ fault. absurd (false≢true (sym c.if-has_failed.false ∙ c.has_failed.ensures ∙ fault))
-
-pub returns-then-has_failed-clause-refused : goal.returns-then-has_failed-clause-refused
-returns-then-has_failed-clause-refused g c = λ fine few. absurd (false≢true (sym fine ∙ sym c.has_failed.ensures ∙ c.if-has_failed.true))
+    merge_set (seen c.args.first.now c.args.second.now c.args.out.now c.args.store.now) _ (both c.set_ending.new.self c.set_ending-2.new.self) (join_job c.args.job.now).end
+    (set_is _ _ _ _ _ c.set_ending.ensures.set c.set_ending-2.ensures.set) _ _ (rw c.if-job.false c.join_in_order-2.ensures.merged)
 
 pub returns-then-job-clause-refused : goal.returns-then-job-clause-refused
-returns-then-job-clause-refused g c =
-    λ fine few.
-    let job = join_job c.args.job.now in
-    let old = seen c.args.first.now c.args.second.now c.args.out.now c.args.store.now in
-    let set = both c.set_ending.new.self c.set_ending-2.new.self in
-    let new = seen c.join_in_order.new.first c.join_in_order.new.second c.join_in_order.new.out c.join_in_order.new.store in
-    let is = set_is c.args.first.now c.args.second.now c.set_ending.new.self c.set_ending-2.new.self c.args.job.now.zero c.set_ending.ensures.set c.set_ending-2.ensures.set in
-    unread_set old new set job.end is (c.join_in_order.ensures.refused few)
+returns-then-job-clause-refused g c = λ fine few. unread_set (seen c.args.first.now c.args.second.now c.args.out.now c.args.store.now) _ _ _
+    (set_is _ _ _ _ _ c.set_ending.ensures.set c.set_ending-2.ensures.set) (c.join_in_order.ensures.refused few)
 
 pub returns-clause-refused : goal.returns-clause-refused
-returns-clause-refused g c =
-    λ fine few.
-    let job = join_job c.args.job.now in
-    let old = seen c.args.first.now c.args.second.now c.args.out.now c.args.store.now in
-    let set = both c.set_ending.new.self c.set_ending-2.new.self in
-    let new = seen c.join_in_order-2.new.first c.join_in_order-2.new.second c.join_in_order-2.new.out c.join_in_order-2.new.store in
-    let is = set_is c.args.first.now c.args.second.now c.set_ending.new.self c.set_ending-2.new.self c.args.job.now.zero c.set_ending.ensures.set c.set_ending-2.ensures.set in
-    unread_set old new set job.end is (c.join_in_order-2.ensures.refused few)
+returns-clause-refused g c = λ fine few. unread_set (seen c.args.first.now c.args.second.now c.args.out.now c.args.store.now) _ _ _
+    (set_is _ _ _ _ _ c.set_ending.ensures.set c.set_ending-2.ensures.set) (c.join_in_order-2.ensures.refused few)

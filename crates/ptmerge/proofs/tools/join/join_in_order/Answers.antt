@@ -2,30 +2,28 @@
 use Rattle.std.proofs.Common.{sym, ◌∙◌}
 use Rattle.std.proofs.lemmas.Result.{err_from_is_err_and}
 use Rattle.ptlangs.specs.Jobs.{join_job}
+use Rattle.ptmerge.proofs.OfJoin.Turns.{alone_less, alone_on, alone_stops, begins, ended, fallen, falls, gather_less, gather_stands, gather_stops, gathers_on, group_closed}
+use Rattle.ptmerge.proofs.OfJoin.Turns.{group_there, opened, opens, opens_less, pair_group, pair_less, pair_stands, pair_stops, pairs_next, pairs_on, stands_at, start_stops}
+use Rattle.ptmerge.proofs.OfMerges.GoingOn.{told}
 use Rattle.ptmerge.specs.declared.order.Side.TheVariants as sides
 use Rattle.ptmerge.specs.declared.tools.join.Phase.TheVariants as phases
-use Rattle.ptmerge.proofs.OfJoin.Turns.{alone_less, alone_on, alone_stops, begins}
-use Rattle.ptmerge.proofs.OfJoin.Turns.{ended, end_there, fallen, falls, gather_less, gather_stands, gather_stops, gathers_on, group_closed, group_there, opened}
-use Rattle.ptmerge.proofs.OfJoin.Turns.{opens, opens_less, pair_group, pair_less, pair_stands, pair_stops, pairs_next, pairs_on, stands_at, start_stops}
-use Rattle.ptmerge.proofs.OfMerges.GoingOn.{told}
 use Rattle.ptmerge.proofs.tools.join.join_in_order.Goals as goal
 
 pub returns-in_err-merge : goal.returns-in_err-merge
 returns-in_err-merge g c =
-    let a = opened (join_job c.args.job.now) (g.K.KeyOrder.order c.args.order) (g.K.KeyOrder.key_of c.args.order) c.args.first.now c.args.second.now c.args.out.now c.args.store.now
+    let a = opened (join_job c.args.job.now) (g.K.KeyOrder.order c.args.order) (g.K.KeyOrder.key_of c.args.order) _ _ c.args.out.now _
     (record { total = g.met.K.KeyOrder.total c.args.order; exact = g.met.K.KeyOrder.exact c.args.order }) c.requires.keys c.requires.ready c.requires.sound c.requires.ending c.requires.writable in
-    let l = start_stops a c.start.new.first c.start.new.second c.start.new.store c.in_err-merge.field-0.0 c.in_err-merge.ensures.breaks
-    (told (err_from_is_err_and c.from_residual.result c.from_residual.ensures.1)) in
-    record { merged = l.merged; refused = l.refused; slots = l.slots }
+    start_stops a c.in_err-merge.ensures.breaks
+    (told (err_from_is_err_and _ c.from_residual.ensures.1))
 
 pub turns-init : goal.turns-init
 turns-init g c =
-    let a = opened (join_job c.args.job.now) (g.K.KeyOrder.order c.args.order) (g.K.KeyOrder.key_of c.args.order) c.args.first.now c.args.second.now c.args.out.now c.args.store.now
+    let a = opened (join_job c.args.job.now) (g.K.KeyOrder.order c.args.order) (g.K.KeyOrder.key_of c.args.order) _ _ c.args.out.now _
     (record { total = g.met.K.KeyOrder.total c.args.order; exact = g.met.K.KeyOrder.exact c.args.order }) c.requires.keys c.requires.ready c.requires.sound c.requires.ending c.requires.writable in
     let e = c.in_ok-merge.ensures in
     let placed = rw e.order at e.placed in
     record {
-      turn = rw e.order (begins a c.start.new.first c.start.new.second c.start.new.store c.in_ok-merge.merge.first c.in_ok-merge.merge.second e.starts placed e.lent);
+      turn = rw e.order (begins a e.starts placed e.lent);
       order = e.order;
     }
 
@@ -40,7 +38,7 @@ turns-preserved-in-Continue-branch-2 g c =
     let i = c.turns.invariant in
     let p = c.pass_alone.ensures in
     record {
-      turn = rw p.order (alone_on i.turn c.in-Between.is sides.First c.in-First.ensures (c.ending-ending.ensures ∙ c.requires.ending.0) p.wrote c.in_ok-pass_alone-in-First.ensures.passes);
+      turn = rw p.order (alone_on i.turn c.in-Between.is c.in-First.ensures (c.ending-ending.ensures ∙ c.requires.ending.0) p.wrote c.in_ok-pass_alone-in-First.ensures.passes);
       order = p.order ∙ i.order;
     }
 
@@ -49,7 +47,7 @@ turns-preserved-in-Continue-branch-3 g c =
     let i = c.turns.invariant in
     let p = c.pass_alone-in-Second.ensures in
     record {
-      turn = rw p.order (alone_on i.turn c.in-Between.is sides.Second c.in-Second.ensures (c.ending-ending.ensures ∙ c.requires.ending.0) p.wrote c.in_ok-pass_alone-in-Second.ensures.passes);
+      turn = rw p.order (alone_on i.turn c.in-Between.is c.in-Second.ensures (c.ending-ending.ensures ∙ c.requires.ending.0) p.wrote c.in_ok-pass_alone-in-Second.ensures.passes);
       order = p.order ∙ i.order;
     }
 
@@ -62,20 +60,14 @@ turns-smaller-in-Continue-branch-3 g c = falls c.turns.phase c.turns.phase (alon
 pub returns-in_err-pass_alone-in-First : goal.returns-in_err-pass_alone-in-First
 returns-in_err-pass_alone-in-First g c =
     let i = c.turns.invariant in
-    let n = c.pass_alone.new in
-    let e = c.from_residual-in_err-pass_alone-in-First in
-    let l = alone_stops i.turn c.in-Between.is sides.First c.in-First.ensures (c.ending-ending.ensures ∙ c.requires.ending.0) c.pass_alone.ensures.wrote n.merge.first n.merge.second n.reader n.store
-    c.in_err-pass_alone-in-First.field-0.0 (told (err_from_is_err_and e.result e.ensures.1)) c.in_err-pass_alone-in-First.ensures.passes in
-    record { merged = rw (← i.order) l.merged; refused = l.refused; slots = l.slots }
+    rw (← i.order) (alone_stops i.turn c.in-Between.is c.in-First.ensures (c.ending-ending.ensures ∙ c.requires.ending.0) c.pass_alone.ensures.wrote
+    (told (err_from_is_err_and _ c.from_residual-in_err-pass_alone-in-First.ensures.1)) c.in_err-pass_alone-in-First.ensures.passes)
 
 pub returns-in_err-pass_alone-in-Second : goal.returns-in_err-pass_alone-in-Second
 returns-in_err-pass_alone-in-Second g c =
     let i = c.turns.invariant in
-    let n = c.pass_alone-in-Second.new in
-    let e = c.from_residual-in_err-pass_alone-in-Second in
-    let l = alone_stops i.turn c.in-Between.is sides.Second c.in-Second.ensures (c.ending-ending.ensures ∙ c.requires.ending.0) c.pass_alone-in-Second.ensures.wrote
-    n.merge.first n.merge.second n.reader n.store c.in_err-pass_alone-in-Second.field-0.0 (told (err_from_is_err_and e.result e.ensures.1)) c.in_err-pass_alone-in-Second.ensures.passes in
-    record { merged = rw (← i.order) l.merged; refused = l.refused; slots = l.slots }
+    rw (← i.order) (alone_stops i.turn c.in-Between.is c.in-Second.ensures (c.ending-ending.ensures ∙ c.requires.ending.0) c.pass_alone-in-Second.ensures.wrote
+    (told (err_from_is_err_and _ c.from_residual-in_err-pass_alone-in-Second.ensures.1)) c.in_err-pass_alone-in-Second.ensures.passes)
 
 pub turns-preserved-in-Both : goal.turns-preserved-in-Both
 turns-preserved-in-Both g c = record { turn = opens c.turns.invariant.turn c.in-Between.is c.in-Both.ensures; order = c.turns.invariant.order }
@@ -86,29 +78,21 @@ turns-smaller-in-Both g c = opens_less _ c.in-Between.is
 pub returns-in-End : goal.returns-in-End
 returns-in-End g c =
     let i = c.turns.invariant in
-    let l = ended i.turn c.in-Between.is c.clear_four.ensures c.in-End.ensures in
-    record { merged = rw (← i.order) l.merged; refused = l.refused; slots = l.slots }
+    rw (← i.order) (ended i.turn c.in-Between.is c.clear_four.ensures c.in-End.ensures)
 
 pub returns-in-Stop : goal.returns-in-Stop
 returns-in-Stop g c =
     let i = c.turns.invariant in
-    let l = fallen i.turn c.in-Between.is c.clear_four-in-Stop.ensures c.in-Stop.ensures in
-    record { merged = rw (← i.order) l.merged; refused = l.refused; slots = l.slots }
+    rw (← i.order) (fallen i.turn c.in-Between.is c.clear_four-in-Stop.ensures c.in-Stop.ensures)
 
 pub gather-requires-clause-stands : goal.gather-requires-clause-stands
 gather-requires-clause-stands g c = gather_stands c.turns.invariant.turn c.in-Gathering.is
 
-pub gather-requires-clause-group : goal.gather-requires-clause-group
-gather-requires-clause-group g c = end_there c.turns.invariant.turn
-
 pub returns-in_err-end-in-Gathering : goal.returns-in_err-end-in-Gathering
 returns-in_err-end-in-Gathering g c =
     let i = c.turns.invariant in
-    let n = c.gather.new in
-    let e = c.from_residual-in_err-end-in-Gathering in
-    let l = gather_stops i.turn c.in-Gathering.is c.gather.ensures.sent n.merge.second n.reader n.store
-    c.in_err-end-in-Gathering.field-0.0 (told (err_from_is_err_and e.result e.ensures.1)) c.in_err-end-in-Gathering.ensures.gathers in
-    record { merged = rw (← i.order) l.merged; refused = l.refused; slots = l.slots }
+    rw (← i.order) (gather_stops i.turn c.in-Gathering.is c.gather.ensures.sent
+    (told (err_from_is_err_and _ c.from_residual-in_err-end-in-Gathering.ensures.1)) c.in_err-end-in-Gathering.ensures.gathers)
 
 pub turns-preserved-then-not-repeats : goal.turns-preserved-then-not-repeats
 turns-preserved-then-not-repeats g c =
@@ -153,11 +137,8 @@ pass_pairs-requires-clause-group g c = pair_group c.turns.invariant.turn c.in-Pa
 pub returns-in_err-pass_pairs-in-Pairing : goal.returns-in_err-pass_pairs-in-Pairing
 returns-in_err-pass_pairs-in-Pairing g c =
     let i = c.turns.invariant in
-    let n = c.pass_pairs.new in
-    let e = c.from_residual-in_err-pass_pairs-in-Pairing in
-    let l = pair_stops i.turn c.in-Pairing.is (c.ending-ending.ensures ∙ c.requires.ending.0) c.pass_pairs.ensures.wrote n.merge.first n.merge.second n.reader n.store
-    c.in_err-pass_pairs-in-Pairing.field-0.0 (told (err_from_is_err_and e.result e.ensures.1)) c.in_err-pass_pairs-in-Pairing.ensures.passes in
-    record { merged = rw (← i.order) l.merged; refused = l.refused; slots = l.slots }
+    rw (← i.order) (pair_stops i.turn c.in-Pairing.is (c.ending-ending.ensures ∙ c.requires.ending.0) c.pass_pairs.ensures.wrote
+    (told (err_from_is_err_and _ c.from_residual-in_err-pass_pairs-in-Pairing.ensures.1)) c.in_err-pass_pairs-in-Pairing.ensures.passes)
 
 pub clear_group-requires : goal.clear_group-requires
 clear_group-requires g c =

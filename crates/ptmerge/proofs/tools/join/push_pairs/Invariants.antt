@@ -3,13 +3,14 @@ use Rattle.std.proofs.Common.{◌≤◌, ◌-◌, [], ◌∷◌, map, drop}
 use Rattle.ptlangs.specs.Jobs.{join_job}
 use Rattle.ptlines.specs.Text.{text}
 use Rattle.ptmerge.specs.Groups.{group}
-use Rattle.ptmerge.specs.Join.{entry, fields, pairs_of}
+use Rattle.ptmerge.specs.Join.{pairs_of}
 use Rattle.ptmerge.proofs.OfJoin.Amid.{Amid}
+use Rattle.ptmerge.proofs.OfJoin.GroupSlots.{pair_of}
 use Rattle.ptmerge.proofs.tools.join.push_pairs.Given as goal
 
 abbrev pub invariant-loop-slot : goal.invariant-loop-slot
 invariant-loop-slot g l = record {
   amid : Amid l.fn.out l.out (text l.ending (pairs_of (join_job l.job) l.key (l.line ∷ []) (group l.store l.from l.end)))
-      (text l.ending (map (λ b. entry (join_job l.job) l.key (fields (join_job l.job).separator l.line) (fields (join_job l.job).separator b)) (drop (l.slot - l.from) (group l.store l.from l.end))));
+      (text l.ending (map (pair_of (join_job l.job) l.key l.line) (drop (l.slot - l.from) (group l.store l.from l.end))));
   from : l.from ≤ l.slot;
 }

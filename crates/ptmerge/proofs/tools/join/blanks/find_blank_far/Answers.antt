@@ -1,5 +1,5 @@
-use Rattle.std.proofs.Common.{◌≡◌, ◌+◌, ◌-◌, ℕ, length, subst, arith}
-use Rattle.memchr.specs.Find.{IsFirst, Passes}
+use Rattle.std.proofs.Common.{◌≡◌, ◌+◌, ◌-◌, length, arith}
+use Rattle.memchr.specs.Find.{Passes}
 use Rattle.ptlines.proofs.Masks.{first_behind}
 use Rattle.ptmerge.specs.Join.{is_blank}
 use Rattle.ptmerge.proofs.tools.join.blanks.find_blank_far.Goals as goal
@@ -10,4 +10,4 @@ returns c =
     let end = length c.args.bytes.now in
     let whole : (end - 16) + 16 ≡ end = omega (arith, c.requires) in
     first_behind P 0 (end - 16) end c.loop-at.at _ (omega arith) (omega (arith, c.loop-at-test.false)) c.loop-at.invariant.1
-    (subst (λ (n : ℕ). IsFirst P (end - 16) n c.find_blank_in.result) whole c.find_blank_in.ensures)
+    (rw whole at c.find_blank_in.ensures)

@@ -1,8 +1,8 @@
 use Rattle.std.proofs.Common.{sym, ◌∙◌}
 use Rattle.ptmerge.proofs.OfJoin.Lanes.{blank_first, empty_untidy, some_bytes, space_last, tidy_is}
-use Rattle.ptmerge.proofs.tools.join.blanks.is_tidy.Goals as goal
 use Rattle.ptmerge.proofs.tools.join.blanks.is_tidy.Goals.{then-is_empty-via-then-is_empty, then-is_empty-via-else-is_empty+then-is_blank}
 use Rattle.ptmerge.proofs.tools.join.blanks.is_tidy.Goals.{then-is_empty-via-else-is_empty+else-is_blank+then-bytes-eq32}
+use Rattle.ptmerge.proofs.tools.join.blanks.is_tidy.Goals as goal
 
 pub returns-then-is_empty : goal.returns-then-is_empty
 returns-then-is_empty c = elim c.then-is_empty.branch [
@@ -14,10 +14,10 @@ returns-then-is_empty c = elim c.then-is_empty.branch [
 
 pub returns-then-bytes-le16 : goal.returns-then-bytes-le16
 returns-then-bytes-le16 c =
-    tidy_is c.args.bytes.now c.is_even_few.result (some_bytes c.args.bytes.now (sym c.is_empty.ensures ∙ c.if-is_empty.false))
+    tidy_is _ _ (some_bytes _ (sym c.is_empty.ensures ∙ c.if-is_empty.false))
     (sym c.is_blank.ensures ∙ c.if-is_blank.false) c.if-bytes-eq32.false c.is_even_few.ensures
 
 pub returns-else-bytes-le16 : goal.returns-else-bytes-le16
 returns-else-bytes-le16 c =
-    tidy_is c.args.bytes.now c.is_even_far.result (some_bytes c.args.bytes.now (sym c.is_empty.ensures ∙ c.if-is_empty.false))
+    tidy_is _ _ (some_bytes _ (sym c.is_empty.ensures ∙ c.if-is_empty.false))
     (sym c.is_blank.ensures ∙ c.if-is_blank.false) c.if-bytes-eq32.false c.is_even_far.ensures

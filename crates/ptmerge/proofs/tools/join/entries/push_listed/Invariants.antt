@@ -1,16 +1,16 @@
 -- The fields of the list so far were pushed, each with what stands between fields; the others are to come.
 use Rattle.std.proofs.Common.{option_copied, map, length}
 use Rattle.ptlangs.specs.Jobs.{join_job}
-use Rattle.ptmerge.specs.Join.{between, entry, filled, named}
+use Rattle.ptmerge.specs.Join.{between, entry}
 use Rattle.ptmerge.specs.JoinFields.{fields_left, led}
 use Rattle.ptmerge.proofs.OfJoin.Amid.{Amid}
+use Rattle.ptmerge.proofs.OfJoin.EntryLemmas.{item_of}
 use Rattle.ptmerge.proofs.tools.join.entries.push_listed.Given as goal
 
 abbrev pub invariant-items : goal.invariant-items
 invariant-items g l =
     Amid l.fn.out l.out (entry (join_job l.job) l.key (fields_left (join_job l.job).separator (option_copied l.one)) (fields_left (join_job l.job).separator (option_copied l.two)))
-    (led (between (join_job l.job).separator) (map (λ i. filled (join_job l.job).empty
-    (named i l.key (fields_left (join_job l.job).separator (option_copied l.one)) (fields_left (join_job l.job).separator (option_copied l.two)))) l.rest))
+    (led (between (join_job l.job).separator) (map (item_of (join_job l.job) l.key (option_copied l.one) (option_copied l.two)) l.rest))
 
 abbrev pub decreases-items : goal.decreases-items
 decreases-items g l = length l.rest

@@ -1,17 +1,7 @@
-use Rattle.std.proofs.Common.{[], ◌∷◌, ◌++◌, ap, List, ℕ, subst}
 use Rattle.ptlangs.specs.Jobs.{join_job}
-use Rattle.ptlines.specs.Outputs.{Wrote}
-use Rattle.ptmerge.specs.Join.{between, fields}
-use Rattle.ptmerge.proofs.OfJoin.EntryLemmas.{line_is, second_is}
+use Rattle.ptmerge.proofs.OfJoin.EntryLemmas.{second_is}
 use Rattle.ptmerge.proofs.tools.join.entries.push_second.Goals as goal
 
 pub returns-in-None-clause-wrote : goal.returns-in-None-clause-wrote
 returns-in-None-clause-wrote g c =
-    let job = join_job c.args.job.now in
-    let line = c.args.line.now in
-    let key = c.args.key.now in
-    let fs = fields job.separator line in
-    let w = c.stands_as_written.ensures c.if-stands_as_written.true in
-    let whole = line_is (between job.separator) job.field2 fs line key w.is w.first c.requires.keyed in
-    subst (λ (l : List ℕ). Wrote c.args.out.now c.push_line.new.self l)
-    (ap (λ (l : List ℕ). l ++ c.args.ending ∷ []) (second_is job key line fs c.in-None.is whole)) c.push_line.ensures.wrote
+    rw (second_is (join_job c.args.job.now) c.args.key.now c.in-None.is c.args.line.now (c.stands_as_written.ensures c.if-stands_as_written.true) c.requires.keyed) at c.push_line.ensures.wrote

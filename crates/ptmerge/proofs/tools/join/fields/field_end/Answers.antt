@@ -1,6 +1,6 @@
 use Rattle.std.proofs.Common.{None, Some}
 use Rattle.ptmerge.specs.JoinFields.{ends_field}
-use Rattle.ptmerge.proofs.OfJoin.FieldLemmas.{found_at}
+use Rattle.ptmerge.proofs.OfJoin.FieldSpans.{found_at}
 use Rattle.ptmerge.proofs.tools.join.fields.field_end.Goals as goal
 
 pub returns-in-Some : goal.returns-in-Some

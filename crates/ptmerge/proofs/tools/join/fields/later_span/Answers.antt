@@ -1,15 +1,11 @@
 use Rattle.std.proofs.Common.{◌∙◌, Some, option_copied}
-use Rattle.ptmerge.specs.JoinFields.{fields_left}
-use Rattle.ptmerge.proofs.OfJoin.FieldLemmas.{dropped_more}
-use Rattle.ptmerge.proofs.OfJoin.FieldSpans.{in_whole, left_next}
+use Rattle.ptmerge.proofs.OfJoin.FieldSpans.{dropped_more, in_whole, left_next}
 use Rattle.ptmerge.proofs.tools.join.fields.later_span.Goals as goal
 
 pub loop-passed-preserved : goal.loop-passed-preserved
 loop-passed-preserved c =
-    let all = fields_left c.args.separator (Some c.args.line.now) in
-    let more = fields_left c.args.separator (option_copied c.in-Some.behind) in
     record {
-      passed = dropped_more all more c.in-Some.field-0-0.now c.loop-passed._passed (c.loop-passed.invariant.passed ∙ c.in-Some.ensures.first);
+      passed = dropped_more _ _ _ c.loop-passed._passed (c.loop-passed.invariant.passed ∙ c.in-Some.ensures.first);
       ends = left_next (Some c.args.line.now) (option_copied c.loop-passed.left) c.in-Some.field-0-0.now (option_copied c.in-Some.behind) c.loop-passed.invariant.ends c.in-Some.ensures.placed;
     }
 

@@ -1,17 +1,17 @@
 use Rattle.std.proofs.Common.{◌+◌, ◌-◌, [], Some, sym, ◌∙◌, arith}
+use Rattle.std.proofs.lemmas.Option.{MatchOption-at_none, MatchOption-at_some}
 use Rattle.ptmerge.specs.JoinFields.{fields_left}
-use Rattle.ptmerge.proofs.OfJoin.FieldLemmas.{dropped_more, dropped_none, match_none, match_some, nth_none}
+use Rattle.ptmerge.proofs.OfJoin.FieldSpans.{dropped_more, dropped_none, nth_none}
 use Rattle.ptmerge.proofs.tools.join.fields.nth_piece.Goals as goal
 
 pub returns-in_default-None : goal.returns-in_default-None
 returns-in_default-None c =
     let all = fields_left (Some c.args.separator) (Some c.args.line.now) in
-    let whole = match_none _ _ _ c.first_piece.ensures.first c.in_default-None.is-1 in
+    let whole = MatchOption-at_none _ _ c.in_default-None.is-1 c.first_piece.ensures.first in
     let more = dropped_more all [] _ c.loop-passed._passed (c.loop-passed.invariant ∙ whole) in
     sym (nth_none c.args.number all (dropped_none all (c.loop-passed._passed + 1) (c.args.number - 1) more (omega (arith, c.loop-passed-test.true, c.saturating_sub-passed-end.ensures))))
 
 pub loop-passed-preserved : goal.loop-passed-preserved
 loop-passed-preserved c =
-    let all = fields_left (Some c.args.separator) (Some c.args.line.now) in
-    let split = match_some _ _ _ _ c.first_piece.ensures.first c.in_default-Some.is-1 in
-    dropped_more all (fields_left (Some c.args.separator) (Some c.in_default-Some.behind.now)) _ c.loop-passed._passed (c.loop-passed.invariant ∙ split)
+    let split = MatchOption-at_some _ _ _ c.in_default-Some.is-1 c.first_piece.ensures.first in
+    dropped_more _ _ _ c.loop-passed._passed (c.loop-passed.invariant ∙ split)
