@@ -1,5 +1,5 @@
 -- One line more in one input or in both is one entry more of `comm`.
-use Rattle.std.proofs.Common.{◌≡◌, ℕ, suc, ◌-◌, List, [], ◌∷◌, ◌++◌, Bool, true, false, length, min, refl, ap, sym, ◌∙◌, arith, append_assoc}
+use Rattle.std.proofs.Common.{◌≡◌, ℕ, suc, ◌-◌, List, [], ◌∷◌, ◌++◌, Bool, true, false, length, min, refl, ap, ◌∙◌, arith, append_assoc}
 use Rattle.std.proofs.lemmas.List.{append-nil}
 use Rattle.std.specs.Cmp.Lexicographic.{bytes_decides}
 use Rattle.std.proofs.lemmas.Cmp.{tied_itself}
@@ -44,44 +44,37 @@ module _ (job : Comm) (x : List ℕ) where
   none_second = none_in job.hide2 (tab_unless job.hide1) x
 
   pub entries_none : entries job x 0 0 ≡ []
-  entries_none = (λ i. (none_common i ++ none_first i) ++ none_second i)
+  entries_none = rw (none_common, none_first, none_second)
 
-  pub only_first : (n : ℕ) → entries job x n 0 ≡ first n
+  only_first : (n : ℕ) → entries job x n 0 ≡ first n
   only_first n =
       let m : min n 0 ≡ 0 = omega arith in
       let a : n - 0 ≡ n = omega arith in
       let b : 0 - n ≡ 0 = omega arith in
-      (λ i. (common (m i) ++ first (a i)) ++ second (b i)) ∙ (λ i. (none_common i ++ first n) ++ none_second i) ∙ append-nil (first n)
+      rw (m, a, b, none_common, none_second) (append-nil (first n))
 
-  pub only_second : (n : ℕ) → entries job x 0 n ≡ second n
+  only_second : (n : ℕ) → entries job x 0 n ≡ second n
   only_second n =
       let m : min 0 n ≡ 0 = omega arith in
       let a : 0 - n ≡ 0 = omega arith in
       let b : n - 0 ≡ n = omega arith in
-      (λ i. (common (m i) ++ first (a i)) ++ second (b i)) ∙ (λ i. (none_common i ++ none_first i) ++ second n)
+      rw (m, a, b, none_common, none_first)
 
   pub entries_first : (n : ℕ) → entries job x (suc n) 0 ≡ entries job x 1 0 ++ entries job x n 0
-  entries_first n = only_first (suc n) ∙ more_in job.hide1 [] x n ∙ (λ i. sym (only_first 1) i ++ sym (only_first n) i)
+  entries_first n = rw (only_first (suc n), only_first 1, only_first n) (more_in job.hide1 [] x n)
 
   pub entries_second : (n : ℕ) → entries job x 0 (suc n) ≡ entries job x 0 1 ++ entries job x 0 n
-  entries_second n = only_second (suc n) ∙ more_in job.hide2 (tab_unless job.hide1) x n ∙ (λ i. sym (only_second 1) i ++ sym (only_second n) i)
+  entries_second n = rw (only_second (suc n), only_second 1, only_second n) (more_in job.hide2 (tab_unless job.hide1) x n)
 
-  pub one_common : entries job x 1 1 ≡ common 1
-  one_common =
-      let m : min 1 1 ≡ 1 = omega arith in
-      let a : 1 - 1 ≡ 0 = omega arith in
-      (λ i. (common (m i) ++ first (a i)) ++ second (a i)) ∙ (λ i. (common 1 ++ none_first i) ++ none_second i) ∙ append-nil (common 1 ++ []) ∙ append-nil (common 1)
+  one_common : entries job x 1 1 ≡ common 1
+  one_common = rw (none_first, none_second) (append-nil (common 1 ++ []) ∙ append-nil (common 1))
 
   pub entries_both : (n k : ℕ) → entries job x (suc n) (suc k) ≡ entries job x 1 1 ++ entries job x n k
   entries_both n k =
       let m : min (suc n) (suc k) ≡ suc (min n k) = omega arith in
       let a : suc n - suc k ≡ n - k = omega arith in
       let b : suc k - suc n ≡ k - n = omega arith in
-      (λ i. (common (m i) ++ first (a i)) ++ second (b i))
-      ∙ (λ i. (more_in job.hide3 (tab_unless job.hide1 ++ tab_unless job.hide2) x (min n k) i ++ first (n - k)) ++ second (k - n))
-      ∙ ap (λ l. l ++ second (k - n)) (append_assoc (common 1) (common (min n k)) (first (n - k)))
-      ∙ append_assoc (common 1) (common (min n k) ++ first (n - k)) (second (k - n))
-      ∙ ap (λ l. l ++ entries job x n k) (sym one_common)
+      rw (one_common, m, a, b, more_in job.hide3 (tab_unless job.hide1 ++ tab_unless job.hide2) x (min n k)) (simp append_assoc)
 
 module _ (job : Comm) (cmp : Cmp) (key : Side → Key) where
   pub line_by_line : IsLineByLine (comm_by job cmp key)

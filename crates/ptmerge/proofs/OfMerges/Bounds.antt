@@ -1,6 +1,6 @@
 -- What is known of the lines that are still to come of an input.
 use Rattle.std.proofs.lemmas.Bool.Decides.{nat_tests}
-use Rattle.std.proofs.Common.{◌≡◌, ℕ, suc, ◌+◌, List, [], ◌∷◌, ◌++◌, Bool, true, false, cond, Option, Some, None, length, refl, ap, sym, ◌∙◌, subst, map, append_assoc, arith}
+use Rattle.std.proofs.Common.{◌≡◌, ℕ, suc, ◌+◌, List, [], ◌∷◌, ◌++◌, Bool, true, false, cond, Option, Some, None, length, refl, ap, ◌∙◌, map, append_assoc, arith}
 use Rattle.std.specs.Prelude.{nat_lt, unwrap_or, if◌then◌else◌}
 use Rattle.std.specs.List.{last_or}
 use Rattle.std.specs.Ordering.{is_gt}
@@ -76,12 +76,8 @@ begun_none cmp key = record { ordered = ordered_is cmp key; falling = fall_is cm
 
 pub begun_more : (cmp : Cmp) (key : Key) (q : Lines) (last : Option (List ℕ)) (x : List ℕ) → Begun cmp key q last → falls cmp last (key x) ≡ false → Begun cmp key (q ++ x ∷ []) (Some (key x))
 begun_more cmp key q last x b rises = record {
-  ordered = λ w.
-      ap (ordered_part cmp key) (append_assoc q (x ∷ []) w) ∙ b.ordered (x ∷ w) ∙ ap (λ t. q ++ cond t [] (x ∷ ordered_after cmp key (Some (key x)) w)) rises
-      ∙ sym (append_assoc q (x ∷ []) (ordered_after cmp key (Some (key x)) w));
-  falling = λ w.
-      ap (fall cmp key) (append_assoc q (x ∷ []) w) ∙ b.falling (x ∷ w) ∙ ap (λ t. cond t (Some (fall_at last (length q))) (fall_after cmp key (Some (key x)) (length q + 1) w)) rises
-      ∙ ap (λ n. fall_after cmp key (Some (key x)) n w) (sym (length_push q x));
+  ordered = λ w. rw (append_assoc q (x ∷ []) w, b.ordered (x ∷ w), rises, append_assoc q (x ∷ []) (ordered_after cmp key (Some (key x)) w));
+  falling = λ w. rw (append_assoc q (x ∷ []) w, b.falling (x ∷ w), rises, length_push q x);
 }
 
 -- a fall behind a key that is at least k
@@ -102,11 +98,7 @@ after_from cmp o key k n (x ∷ w) = by (is_gt (cmp k (key x))) refl (after_from
         → EachKey (AtMost cmp k) key (cond b [] (x ∷ ordered_after cmp key (Some (key x)) w)) × FallFrom cmp k (cond b (Some (fall_at (Some k) n)) (fall_after cmp key (Some (key x)) (n + 1) w))
     by true h ih = (tt, self_at_most cmp o k)
     by false h ih = (
-      (
-        h,
-        EachKey-weaker (AtMost cmp (key x)) (AtMost cmp k) (λ y a. at_most_trans cmp o k (key x) y h a) key
-            (ordered_after cmp key (Some (key x)) w) ih.0,
-      ),
+      (h, EachKey-weaker (AtMost cmp (key x)) (AtMost cmp k) (λ y a. at_most_trans cmp o k (key x) y h a) key (ordered_after cmp key (Some (key x)) w) ih.0),
       up h (fall_after cmp key (Some (key x)) (n + 1) w) ih.1,
     )
 
@@ -162,14 +154,11 @@ reaches_free cmp key = record { future = λ w _. (ordered_part cmp key w, refl, 
 pub reaches_passed : (cmp : Cmp) (o : IsKeyOrder cmp) (key : Key) (ls : Lines) (k : List ℕ) → Begun cmp key ls (Some k) → Reaches cmp key ls ls (From k)
 reaches_passed cmp o key ls k g = record {
   future = λ w _.
-      let a = after_from cmp o key k (length ls) w in (ordered_after cmp key (Some k) w, g.ordered w, a.0, subst (FallFrom cmp k) (sym (g.falling w)) a.1);
+      let a = after_from cmp o key k (length ls) w in (ordered_after cmp key (Some k) w, g.ordered w, a.0, rw (g.falling w) a.1);
 }
 
 pub reaches_over : (cmp : Cmp) (key : Key) (ls : Lines) (last : Option (List ℕ)) → Begun cmp key ls last → Reaches cmp key ls ls Over
-reaches_over cmp key ls last g = record {
-  future = λ w none.
-      ([], ap (λ l. ordered_part cmp key (ls ++ l)) none ∙ g.ordered [], refl, ap (λ l. fall cmp key (ls ++ l)) none ∙ g.falling []);
-}
+reaches_over cmp key ls last g = record { future = λ w none. rw none ([], g.ordered [], refl, g.falling []) }
 
 -- a line stands
 pub reaches_head : (cmp : Cmp) (o : IsKeyOrder cmp) (key : Key) (p : Lines) (x : List ℕ) → Begun cmp key (p ++ x ∷ []) (Some (key x)) → Reaches cmp key (p ++ x ∷ []) p (From (key x))
@@ -179,7 +168,7 @@ reaches_head cmp o key p x g = record {
         x ∷ ordered_after cmp key (Some (key x)) w,
         g.ordered w ∙ append_assoc p (x ∷ []) (ordered_after cmp key (Some (key x)) w),
         (self_at_most cmp o (key x), a.0),
-        subst (FallFrom cmp (key x)) (sym (g.falling w)) a.1,
+        rw (g.falling w) a.1,
       );
 }
 
@@ -187,10 +176,5 @@ reaches_head cmp o key p x g = record {
 pub reaches_fallen : (cmp : Cmp) (key : Key) (p : Lines) (k x : List ℕ) → Begun cmp key p (Some k) → is_gt (cmp k (key x)) ≡ true
     → Reaches cmp key (p ++ x ∷ []) p (Fallen (record { last_key = k; line = length p + 1 }))
 reaches_fallen cmp key p k x g falls = record {
-  future = λ w _. (
-    [],
-    ap (ordered_part cmp key) (append_assoc p (x ∷ []) w) ∙ g.ordered (x ∷ w) ∙ ap (λ t. p ++ cond t [] (x ∷ ordered_after cmp key (Some (key x)) w)) falls,
-    refl,
-    ap (fall cmp key) (append_assoc p (x ∷ []) w) ∙ g.falling (x ∷ w) ∙ ap (λ t. cond t (Some (fall_at (Some k) (length p))) (fall_after cmp key (Some (key x)) (length p + 1) w)) falls,
-  );
+  future = λ w _. ([], rw (append_assoc p (x ∷ []) w, g.ordered (x ∷ w), falls), refl, rw (append_assoc p (x ∷ []) w, g.falling (x ∷ w), falls));
 }

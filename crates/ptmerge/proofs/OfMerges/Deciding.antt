@@ -9,14 +9,14 @@ use Rattle.ptlines.specs.Text.{text}
 use Rattle.ptlines.proofs.TextLaws.{text-append}
 use Rattle.ptmerge.specs.declared.order.Side.{Side}
 use Rattle.ptmerge.specs.declared.order.Side.TheVariants.{First, Second}
-use Rattle.ptmerge.specs.Keyed.{Lines, Tool, Fall, by_keys, decided_entries, disorder, disorder_of, fall, is_below, is_decided, is_past, is_settled, ordered_part}
+use Rattle.ptmerge.specs.Keyed.{Lines, Tool, by_keys, decided_entries, disorder, disorder_of, fall, is_below, is_decided, is_past, is_settled, ordered_part}
 use Rattle.ptmerge.specs.Orders.{Cmp, Key}
 use Rattle.ptmerge.specs.Sides.{other}
-use Rattle.ptmerge.proofs.OfMerges.Bounds.{FallFrom}
+use Rattle.ptmerge.proofs.OfMerges.Bounds.{Begun, Bound, FallFrom, Under}
 use Rattle.ptmerge.proofs.OfMerges.Least.{EachKey, EachKey-weaker}
 use Rattle.ptmerge.proofs.OfMerges.Orders.{IsKeyOrder, AtMost}
 use Rattle.ptmerge.proofs.OfParts.PartsByKey.{by_keys_kept}
-use Rattle.ptmerge.proofs.OfMerges.Passing.{down_decided, last_has, not_below, not_decided}
+use Rattle.ptmerge.proofs.OfMerges.Passing.{Seen, down_decided, last_has, not_below, not_decided, past_none}
 use Rattle.ptmerge.proofs.OfMerges.Splitting.{all_keys, down_begins}
 
 kept_none : (w : List ℕ → Bool) (key : Key) (ls : Lines) → EachKey (λ k. w k ≡ false) key ls → filter (λ line. w (key line)) ls ≡ []
@@ -65,6 +65,19 @@ decided_of_passed tool o ended ls p of going rises differ =
         kept_same (is_decided tool ended ls) (tool.key side) (ordered_part tool.cmp (tool.key side) (ls side)) (p side) d.rest d.tail d.same
         (unwanted side d.rest d.none_rest) (unwanted side d.tail d.none_tail)
 
+-- all lines that came of this input are passed, and more may come
+pub decided_begins : {tool : Tool} (o : IsKeyOrder tool.cmp) {b : Side → Bound} {p ls : Side → Lines} → ((of side : Side) → EachKey (Under tool.cmp (b of)) (tool.key side) (p side))
+    → Seen tool b p ls → (ended : Side → Bool) (of : Side) (last : Option (List ℕ)) → ended of ≡ false → ls of ≡ p of → Begun tool.cmp (tool.key of) (p of) last
+    → Begins (text tool.end (decided_entries tool ended ls)) (text tool.end (by_keys tool all_keys p))
+decided_begins {tool} o {b} {p} {ls} under s ended of last going all begun =
+    decided_of_passed tool o ended ls p of going (ap (fall tool.cmp (tool.key of)) (all ∙ sym (append-nil (p of))) ∙ begun.falling []) (λ side. record {
+      rest = [];
+      tail = s.r side;
+      same = append-nil (ordered_part tool.cmp (tool.key side) (ls side)) ∙ s.parts side;
+      none_rest = tt;
+      none_tail = rw all (past_none tool.cmp o (tool.key of) (tool.key side) (b side) (p of) (s.r side) (under side of) (s.coming side));
+    })
+
 -- ---- a disorder
 
 -- what is at least each key is not below the last one
@@ -84,19 +97,9 @@ not_settled tool o ended ls of going rises = by of going rises
     past s on none e up =
         not_decided tool o ended ls s e ((λ i. cond (on i || is_some (none i)) true (is_below tool.cmp e (last_or None (map (tool.key s) (ls s))))) ∙ below_last tool.cmp o (tool.key s) (ls s) e up)
 
-    first : (f g : Option Fall) → f ≡ None → ended First ≡ false → fall tool.cmp (tool.key First) (ls First) ≡ None
-        → EachKey (λ k. FallFrom tool.cmp k g) (tool.key First) (ls First) → is_settled tool ended ls (disorder_of tool.cmp f g) ≡ false
-    first None None e on none up = refl
-    first None (Some d) e on none up = past First on none d.last_key up
-    first (Some c) g e on none up = cc
-
-    second : (f g : Option Fall) → g ≡ None → ended Second ≡ false → fall tool.cmp (tool.key Second) (ls Second) ≡ None
-        → EachKey (λ k. FallFrom tool.cmp k f) (tool.key Second) (ls Second) → is_settled tool ended ls (disorder_of tool.cmp f g) ≡ false
-    second None None e on none up = refl
-    second (Some d) None e on none up = past Second on none d.last_key up
-    second f (Some c) e on none up = cc
-
     by : (s : Side) → ended s ≡ false → fall tool.cmp (tool.key s) (ls s) ≡ None
         → EachKey (λ k. FallFrom tool.cmp k (fall tool.cmp (tool.key (other s)) (ls (other s)))) (tool.key s) (ls s) → is_settled tool ended ls (disorder tool ls) ≡ false
-    by First on none up = first (fall tool.cmp (tool.key First) (ls First)) (fall tool.cmp (tool.key Second) (ls Second)) none on none up
-    by Second on none up = second (fall tool.cmp (tool.key First) (ls First)) (fall tool.cmp (tool.key Second) (ls Second)) none on none up
+    by First on none = rw none (elim (fall tool.cmp (tool.key Second) (ls Second)) as (λ g. EachKey (λ k. FallFrom tool.cmp k g) (tool.key First) (ls First)
+        → is_settled tool ended ls (disorder_of tool.cmp None g) ≡ false) [ None ↦ λ up. refl | Some d ↦ λ up. past First on none d.last_key up ])
+    by Second on none = rw none (elim (fall tool.cmp (tool.key First) (ls First)) as (λ g. EachKey (λ k. FallFrom tool.cmp k g) (tool.key Second) (ls Second)
+        → is_settled tool ended ls (disorder_of tool.cmp g None) ≡ false) [ None ↦ λ up. refl | Some d ↦ λ up. past Second on none d.last_key up ])

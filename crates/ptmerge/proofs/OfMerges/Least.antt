@@ -9,7 +9,7 @@ use Rattle.ptmerge.specs.declared.order.Side.{Side}
 use Rattle.ptmerge.specs.declared.order.Side.TheVariants.{First, Second}
 use Rattle.ptmerge.specs.Keyed.{Lines, Tool, insert_key, distinct, keys, with_key, entries_of, by_keys}
 use Rattle.ptmerge.specs.Orders.{Cmp, Key}
-use Rattle.ptmerge.proofs.OfMerges.Orders.{IsKeyOrder, AtMost, Above, least_or_above, above_not_same, greater_flips, self_at_most}
+use Rattle.ptmerge.proofs.OfMerges.Orders.{IsKeyOrder, AtMost, Above, least_or_above, above_not_same, greater_flips, not_same, self_at_most}
 use Rattle.std.proofs.lemmas.Cmp.{tied_itself}
 
 -- each of the keys, or of the lines by their keys, passes
@@ -47,6 +47,11 @@ Each-keys P key1 key2 [] [] e f = tt
 Each-keys P key1 key2 [] (y ∷ ys) e f = (f.0, Each-keys P key1 key2 [] ys tt f.1)
 Each-keys P key1 key2 (x ∷ xs) ys e f = (e.0, Each-keys P key1 key2 xs ys e.1 f)
 
+keys-Each : (P : List ℕ → Type 0) (key1 key2 : Key) (xs ys : Lines) → Each P (map key1 xs ++ map key2 ys) → EachKey P key1 xs × EachKey P key2 ys
+keys-Each P key1 key2 [] [] e = (tt, tt)
+keys-Each P key1 key2 [] (y ∷ ys) e = (tt, (e.0, (keys-Each P key1 key2 [] ys e.1).1))
+keys-Each P key1 key2 (x ∷ xs) ys e = let r = keys-Each P key1 key2 xs ys e.1 in ((e.0, r.0), r.1)
+
 pub Each-insert : (cmp : Cmp) (P : List ℕ → Type 0) (k : List ℕ) (xs : Lines) → P k → Each P xs → Each P (insert_key cmp k xs)
 Each-insert cmp P k [] h e = (h, tt)
 Each-insert cmp P k (x ∷ xs) h e = elim (cmp k x) as (λ r. Each P (match_ordering r (k ∷ x ∷ xs) (x ∷ xs) (x ∷ insert_key cmp k xs))) [
@@ -59,14 +64,10 @@ pub Each-distinct : (cmp : Cmp) (P : List ℕ → Type 0) (xs : Lines) → Each 
 Each-distinct cmp P [] e = tt
 Each-distinct cmp P (x ∷ xs) e = Each-insert cmp P x (distinct cmp xs) e.0 (Each-distinct cmp P xs e.1)
 
--- the keys but k, and whether k is there
+-- the keys but k
 abbrev others : List ℕ → Lines → Lines
 others k [] = []
 others k (y ∷ ys) = cond (bytes_eq y k) (others k ys) (y ∷ others k ys)
-
-abbrev has : List ℕ → Lines → Bool
-has k [] = false
-has k (y ∷ ys) = cond (bytes_eq y k) true (has k ys)
 
 -- the lines whose key is not k
 abbrev pub without : Key → List ℕ → Lines → Lines
@@ -78,12 +79,6 @@ module _ (cmp : Cmp) (o : IsKeyOrder cmp) where
   insert_least k [] a = refl
   insert_least k (d ∷ ds) a = rw (greater_flips cmp o d k a.0) refl
 
-  insert_again : (k : List ℕ) (ds : Lines) → insert_key cmp k (k ∷ ds) ≡ k ∷ ds
-  insert_again k ds = rw (tied_itself o.total k) refl
-
-  insert_above : (k y : List ℕ) (ds : Lines) → Above cmp k y → insert_key cmp y (k ∷ ds) ≡ k ∷ insert_key cmp y ds
-  insert_above k y ds h = rw h refl
-
   others_above : (k : List ℕ) (ks : Lines) → Each (AtMost cmp k) ks → Each (Above cmp k) (others k ks)
   others_above k [] e = tt
   others_above k (y ∷ ks) e = by (others_above k ks e.1) (least_or_above cmp o k y e.0)
@@ -94,27 +89,22 @@ module _ (cmp : Cmp) (o : IsKeyOrder cmp) where
       by ih (inr h) = rw h.0 (h.1, ih)
 
   -- the least key, if it is there, and then the others
-  distinct_least : (k : List ℕ) (ks : Lines) → Each (AtMost cmp k) ks → distinct cmp ks ≡ cond (has k ks) (k ∷ distinct cmp (others k ks)) (distinct cmp (others k ks))
-  distinct_least k [] e = refl
-  distinct_least k (y ∷ ks) e = by (distinct_least k ks e.1) (least_or_above cmp o k y e.0)
+  distinct_least : (k : List ℕ) (ks : Lines) → Each (AtMost cmp k) ks
+      → (distinct cmp ks ≡ k ∷ distinct cmp (others k ks)) ⊎ ((distinct cmp ks ≡ distinct cmp (others k ks)) × Each (λ y. bytes_eq y k ≡ false) ks)
+  distinct_least k [] e = inr (refl, tt)
+  distinct_least k (y ∷ ks) e = by (least_or_above cmp o k y e.0) (distinct_least k ks e.1)
     where
       above : Each (Above cmp k) (distinct cmp (others k ks))
       above = Each-distinct cmp (Above cmp k) (others k ks) (others_above k ks e.1)
 
-      same : (b : Bool) → insert_key cmp k (cond b (k ∷ distinct cmp (others k ks)) (distinct cmp (others k ks))) ≡ k ∷ distinct cmp (others k ks)
-      same true = insert_again k (distinct cmp (others k ks))
-      same false = insert_least k (distinct cmp (others k ks)) above
-
-      other : (b : Bool) → cmp y k ≡ Greater → insert_key cmp y (cond b (k ∷ distinct cmp (others k ks)) (distinct cmp (others k ks)))
-          ≡ cond b (k ∷ insert_key cmp y (distinct cmp (others k ks))) (insert_key cmp y (distinct cmp (others k ks)))
-      other true g = insert_above k y (distinct cmp (others k ks)) g
-      other false g = refl
-
-      by : distinct cmp ks ≡ cond (has k ks) (k ∷ distinct cmp (others k ks)) (distinct cmp (others k ks)) → ((bytes_eq y k ≡ true) × (y ≡ k)) ⊎ ((bytes_eq y k ≡ false) × (cmp y k ≡ Greater))
-          → insert_key cmp y (distinct cmp ks) ≡ cond (cond (bytes_eq y k) true (has k ks))
-          (k ∷ distinct cmp (cond (bytes_eq y k) (others k ks) (y ∷ others k ks))) (distinct cmp (cond (bytes_eq y k) (others k ks) (y ∷ others k ks)))
-      by ih (inl h) = rw h.0 (ap (λ z. insert_key cmp z (distinct cmp ks)) h.1 ∙ ap (insert_key cmp k) ih ∙ same (has k ks))
-      by ih (inr h) = rw h.0 (ap (insert_key cmp y) ih ∙ other (has k ks) h.1)
+      by : ((bytes_eq y k ≡ true) × (y ≡ k)) ⊎ ((bytes_eq y k ≡ false) × (cmp y k ≡ Greater))
+          → (distinct cmp ks ≡ k ∷ distinct cmp (others k ks)) ⊎ ((distinct cmp ks ≡ distinct cmp (others k ks)) × Each (λ z. bytes_eq z k ≡ false) ks)
+          → (insert_key cmp y (distinct cmp ks) ≡ k ∷ distinct cmp (others k (y ∷ ks)))
+          ⊎ ((insert_key cmp y (distinct cmp ks) ≡ distinct cmp (others k (y ∷ ks))) × Each (λ z. bytes_eq z k ≡ false) (y ∷ ks))
+      by (inl h) (inl d) = inl (rw (h.0, h.1, d, tied_itself o.total k))
+      by (inl h) (inr d) = inl (rw (h.0, h.1, d.0, insert_least k (distinct cmp (others k ks)) above))
+      by (inr h) (inl d) = inl (rw (h.0, d, h.1))
+      by (inr h) (inr d) = inr (rw (h.0, d.0), (h.0, d.1))
 
 others-keys : (key1 key2 : Key) (k : List ℕ) (xs ys : Lines) → others k (map key1 xs ++ map key2 ys) ≡ map key1 (without key1 k xs) ++ map key2 (without key2 k ys)
 others-keys key1 key2 k [] [] = refl
@@ -133,20 +123,9 @@ others-keys key1 key2 k (x ∷ xs) ys = by (others-keys key1 key2 k xs ys) (byte
     by ih false = ap (λ l. key1 x ∷ l) ih
 
 -- a key that is not there has no lines
-with_key_none : (key1 key2 : Key) (k : List ℕ) (xs ys : Lines) → has k (map key1 xs ++ map key2 ys) ≡ false → (with_key key1 xs k ≡ []) × (with_key key2 ys k ≡ [])
-with_key_none key1 key2 k [] [] h = (refl, refl)
-with_key_none key1 key2 k [] (y ∷ ys) h = by (with_key_none key1 key2 k [] ys) (bytes_eq (key2 y) k) h
-  where
-    by : (has k (map key2 ys) ≡ false → (with_key key1 [] k ≡ []) × (with_key key2 ys k ≡ [])) → (b : Bool) → cond b true (has k (map key2 ys)) ≡ false
-        → (with_key key1 [] k ≡ []) × (cond b (y ∷ with_key key2 ys k) (with_key key2 ys k) ≡ [])
-    by ih true h = cc
-    by ih false h = ih h
-with_key_none key1 key2 k (x ∷ xs) ys h = by (with_key_none key1 key2 k xs ys) (bytes_eq (key1 x) k) h
-  where
-    by : (has k (map key1 xs ++ map key2 ys) ≡ false → (with_key key1 xs k ≡ []) × (with_key key2 ys k ≡ [])) → (b : Bool)
-        → cond b true (has k (map key1 xs ++ map key2 ys)) ≡ false → (cond b (x ∷ with_key key1 xs k) (with_key key1 xs k) ≡ []) × (with_key key2 ys k ≡ [])
-    by ih true h = cc
-    by ih false h = ih h
+with_key-none : (key : Key) (k : List ℕ) (r : Lines) → EachKey (λ y. bytes_eq y k ≡ false) key r → with_key key r k ≡ []
+with_key-none key k [] a = refl
+with_key-none key k (x ∷ r) a = rw a.0 (with_key-none key k r a.1)
 
 -- the lines of another key
 with_key_without : (key : Key) (k q : List ℕ) (xs : Lines) → bytes_eq q k ≡ false → with_key key (without key k xs) q ≡ with_key key xs q
@@ -154,10 +133,7 @@ with_key_without key k q [] n = refl
 with_key_without key k q (x ∷ xs) n = by (with_key_without key k q xs n) (bytes_eq (key x) k) refl
   where
     apart : key x ≡ k → bytes_eq (key x) q ≡ false
-    apart e = elim (bytes_eq (key x) q) as (λ b. (b ≡ true → key x ≡ q) → b ≡ false) [
-      | true ↦ λ f. (let bad : true ≡ false = sym ((bytes_decides q k).1 (sym (f refl) ∙ e)) ∙ n in cc)
-      | false ↦ λ f. refl
-    ] (bytes_decides (key x) q).0
+    apart e = not_same (key x) q (λ f. (let bad : true ≡ false = sym ((bytes_decides q k).1 (sym f ∙ e)) ∙ n in cc))
 
     by : with_key key (without key k xs) q ≡ with_key key xs q → (b : Bool) → bytes_eq (key x) k ≡ b
         → with_key key (cond b (without key k xs) (x ∷ without key k xs)) q ≡ cond (bytes_eq (key x) q) (x ∷ with_key key xs q) (with_key key xs q)
@@ -186,10 +162,7 @@ module _ (tool : Tool) (o : IsKeyOrder tool.cmp) where
   -- The entries of a key at most all the others come first, and then those of the lines of other keys.
   pub least_first : (w : List ℕ → Bool) (k : List ℕ) (ls : Side → Lines) → ((side : Side) → EachKey (AtMost tool.cmp k) (tool.key side) (ls side)) → tool.entries k [] [] ≡ []
       → by_keys tool w ls ≡ cond (w k) (entries_of tool ls k) [] ++ by_keys tool w (others_of k ls)
-  least_first w k ls e none =
-      ap (over w ls) (distinct_least tool.cmp o k (keys tool ls) all) ∙ by (has k (keys tool ls)) refl
-      ∙ ap (λ l. cond (w k) (entries_of tool ls k) [] ++ l)
-      (over_others w k ls ds above ∙ ap (λ l. over w (others_of k ls) (distinct tool.cmp l)) (others-keys (tool.key First) (tool.key Second) k (ls First) (ls Second)))
+  least_first w k ls e none = by (distinct_least tool.cmp o k (keys tool ls) all)
     where
       all : Each (AtMost tool.cmp k) (keys tool ls)
       all = Each-keys (AtMost tool.cmp k) (tool.key First) (tool.key Second) (ls First) (ls Second) (e First) (e Second)
@@ -197,20 +170,25 @@ module _ (tool : Tool) (o : IsKeyOrder tool.cmp) where
       ds : Lines
       ds = distinct tool.cmp (others k (keys tool ls))
 
-      above : Each (Above tool.cmp k) (distinct tool.cmp (others k (keys tool ls)))
-      above = Each-distinct tool.cmp (Above tool.cmp k) (others k (keys tool ls)) (others_above tool.cmp o k (keys tool ls) all)
+      rest : over w ls ds ≡ by_keys tool w (others_of k ls)
+      rest = over_others w k ls ds (Each-distinct tool.cmp (Above tool.cmp k) (others k (keys tool ls)) (others_above tool.cmp o k (keys tool ls) all))
+          ∙ ap (λ l. over w (others_of k ls) (distinct tool.cmp l)) (others-keys (tool.key First) (tool.key Second) k (ls First) (ls Second))
 
       front : (t : Bool) → flat_map (entries_of tool ls) (cond t (k ∷ filter w ds) (filter w ds)) ≡ cond t (entries_of tool ls k) [] ++ over w ls ds
       front true = refl
       front false = refl
 
-      nothing : (t : Bool) → with_key (tool.key First) (ls First) k ≡ [] → with_key (tool.key Second) (ls Second) k ≡ [] → cond t (entries_of tool ls k) [] ≡ []
-      nothing true a b = (λ i. tool.entries k (a i) (b i)) ∙ none
+      nothing : (t : Bool) → with_key (tool.key First) (ls First) k ≡ [] → with_key (tool.key Second) (ls Second) k ≡ [] → [] ≡ cond t (entries_of tool ls k) []
+      nothing true a b = sym none ∙ (λ i. tool.entries k (sym a i) (sym b i))
       nothing false a b = refl
 
-      by : (b : Bool) → has k (keys tool ls) ≡ b → over w ls (cond b (k ∷ ds) ds) ≡ cond (w k) (entries_of tool ls k) [] ++ over w ls ds
-      by true h = front (w k)
-      by false h = let n = with_key_none (tool.key First) (tool.key Second) k (ls First) (ls Second) h in ap (λ l. l ++ over w ls ds) (sym (nothing (w k) n.0 n.1))
+      by : (distinct tool.cmp (keys tool ls) ≡ k ∷ ds) ⊎ ((distinct tool.cmp (keys tool ls) ≡ ds) × Each (λ y. bytes_eq y k ≡ false) (keys tool ls))
+          → by_keys tool w ls ≡ cond (w k) (entries_of tool ls k) [] ++ by_keys tool w (others_of k ls)
+      by (inl d) = ap (over w ls) d ∙ front (w k) ∙ ap (λ l. cond (w k) (entries_of tool ls k) [] ++ l) rest
+      by (inr d) =
+          let n = keys-Each (λ y. bytes_eq y k ≡ false) (tool.key First) (tool.key Second) (ls First) (ls Second) d.1 in
+          ap (over w ls) d.0 ∙ rest
+          ∙ ap (λ l. l ++ by_keys tool w (others_of k ls)) (nothing (w k) (with_key-none (tool.key First) k (ls First) n.0) (with_key-none (tool.key Second) k (ls Second) n.1))
 
   -- lines of one key, in front of lines of no lesser keys
   pub with_key-front : (key : Key) (k : List ℕ) (f r : Lines) → EachKey (λ x. x ≡ k) key f → (with_key key (f ++ r) k ≡ f ++ with_key key r k) × (without key k (f ++ r) ≡ without key k r)
@@ -249,5 +227,4 @@ module _ (tool : Tool) (o : IsKeyOrder tool.cmp) where
 
   -- no line above the key has it
   pub with_key-above : (key : Key) (k : List ℕ) (r : Lines) → EachKey (Above tool.cmp k) key r → with_key key r k ≡ []
-  with_key-above key k [] a = refl
-  with_key-above key k (x ∷ r) a = rw (above_not_same tool.cmp o k (key x) a.0) (with_key-above key k r a.1)
+  with_key-above key k r a = with_key-none key k r (EachKey-weaker (Above tool.cmp k) (λ y. bytes_eq y k ≡ false) (λ y g. above_not_same tool.cmp o k y g) key r a)

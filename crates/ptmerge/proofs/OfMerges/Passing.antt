@@ -2,26 +2,24 @@
 use Rattle.std.proofs.Common.{◌≡◌, ◌⊎◌, inl, inr, ℕ, ◌&&◌, ◌||◌, Bool, true, false, cond, List, [], ◌∷◌, ◌++◌, Option, Some, None, map, refl, sym, ◌∙◌, ap, subst}
 use Rattle.std.specs.Prelude.{is_some}
 use Rattle.std.specs.List.{last_or}
-use Rattle.std.specs.declared.cmp.Ordering.{Ordering}
 use Rattle.std.specs.declared.cmp.Ordering.TheVariants.{Less, Equal, Greater}
 use Rattle.std.specs.Ordering.{is_lt, is_le, is_gt}
 use Rattle.std.proofs.lemmas.List.{append-nil}
-use Rattle.ptlines.specs.Inputs.{Begins}
 use Rattle.ptlines.specs.Outputs.{Output, Wrote}
 use Rattle.ptlines.specs.Text.{text}
 use Rattle.ptlines.proofs.Pushed.{wrote_trans, wrote_nothing}
 use Rattle.ptlines.proofs.TextLaws.{text-append}
 use Rattle.ptmerge.specs.declared.order.Side.{Side}
 use Rattle.ptmerge.specs.declared.order.Side.TheVariants.{First, Second}
-use Rattle.ptmerge.specs.Keyed.{Lines, Tool, Disorder, by_keys, disorder, fall, is_below, is_decided, is_past, merged_entries, decided_entries, ordered_part, up_to}
+use Rattle.ptmerge.specs.Keyed.{Lines, Tool, Disorder, by_keys, disorder, fall, is_below, is_decided, is_past, merged_entries, ordered_part, up_to}
 use Rattle.ptmerge.specs.Merges.{Names}
 use Rattle.ptmerge.specs.Orders.{Cmp, Key}
 use Rattle.ptmerge.specs.Sides.{put}
-use Rattle.ptmerge.proofs.OfMerges.Bounds.{Bound, Free, From, Fallen, Over, Coming, Falling, Follows, Under, Begun, coming_none}
+use Rattle.ptmerge.proofs.OfMerges.Bounds.{Bound, Free, From, Fallen, Over, Coming, Falling, Follows, Under, coming_none}
 use Rattle.ptmerge.proofs.OfMerges.Least.{EachKey, EachKey-append, EachKey-weaker}
 use Rattle.ptmerge.proofs.OfMerges.Orders.{IsKeyOrder, AtMost, at_most_trans, at_most_is_le, above_trans, greater_flips, is_le_at_most, less_flips}
 use Rattle.ptmerge.proofs.OfMerges.Pairs.{put_each}
-use Rattle.ptmerge.proofs.OfMerges.Splitting.{Splits, splits_none, splits_later, splits_step, all_keys, IsDown, all_wanted, none_wanted, down_begins, passed_is_wanted}
+use Rattle.ptmerge.proofs.OfMerges.Splitting.{Splits, splits_none, splits_later, splits_step, all_keys, IsDown, all_wanted, passed_is_wanted}
 
 -- what was pushed is what the passed lines give, and whatever comes, it comes first
 pub record Merging (tool : Tool) (b : Side → Bound) (p : Side → Lines) (was is : Output) : Type 0 where
@@ -70,28 +68,14 @@ pub passes : (tool : Tool) (b : Side → Bound) (p f : Side → Lines) (was is n
     → ((of side : Side) → EachKey (Under tool.cmp (b of)) (tool.key side) (f side)) → Wrote is new (text tool.end (by_keys tool all_keys f))
     → Merging tool b (λ side. p side ++ f side) was new × Late tool b (λ side. p side ++ f side) was new
 passes tool b p f was is new clean m coming front under wrote =
-    let all : by_keys tool all_keys (λ side. p side ++ f side) ≡ by_keys tool all_keys p ++ by_keys tool all_keys f =
-    m.splits.split all_keys f (λ side. subst (Coming tool.cmp (tool.key side) (b side)) (append-nil (f side)) (coming side [] (coming_none tool.cmp (tool.key side) (b side)))) in
-    let both_texts : text tool.end (by_keys tool all_keys (λ side. p side ++ f side)) ≡ text tool.end (by_keys tool all_keys p) ++ text tool.end (by_keys tool all_keys f) =
-    ap (text tool.end) all ∙ text-append tool.end (by_keys tool all_keys p) (by_keys tool all_keys f) in (
+    let none = λ (side : Side). rw append-nil at (coming side [] (coming_none tool.cmp (tool.key side) (b side))) in
+    let both_texts = ap (text tool.end) (m.splits.split all_keys f none) ∙ text-append tool.end (by_keys tool all_keys p) (by_keys tool all_keys f) in (
       record {
         splits = splits_step tool b b p f m.splits coming front;
         under = λ of side. EachKey-append (Under tool.cmp (b of)) (tool.key side) (p side) (f side) (m.under of side) (under of side);
-        wrote = subst (λ (t : List ℕ). Wrote was new t) (sym both_texts)
-            (wrote_trans was is new (text tool.end (by_keys tool all_keys p)) (text tool.end (by_keys tool all_keys f)) clean m.wrote wrote);
+        wrote = rw both_texts (wrote_trans was is new (text tool.end (by_keys tool all_keys p)) (text tool.end (by_keys tool all_keys f)) clean m.wrote wrote);
       },
-      record {
-        mid = is;
-        front = p;
-        tail = f;
-        clean = clean;
-        wrote = m.wrote;
-        bytes = text tool.end (by_keys tool all_keys f);
-        more = wrote;
-        all = sym both_texts;
-        split = λ side. refl;
-        coming = coming;
-      },
+      record { mid = is; front = p; tail = f; clean = clean; wrote = m.wrote; bytes = text tool.end (by_keys tool all_keys f); more = wrote; all = sym both_texts; split = λ side. refl; coming = coming },
     )
 
 -- an input has gone to its next line
@@ -130,19 +114,18 @@ last_has key P last (y ∷ xs) x e f h = last_has key P (Some (key y)) xs x e (�
 
 module _ (cmp : Cmp) (o : IsKeyOrder cmp) where
   pub not_below : (k x : List ℕ) → AtMost cmp x k → is_lt (cmp k x) ≡ false
-  not_below k x h = by (cmp k x) refl
-    where
-      by : (r : Ordering) → cmp k x ≡ r → is_lt r ≡ false
-      by Less e = (let bad : true ≡ false = sym (ap is_gt (less_flips cmp o k x e)) ∙ h in cc)
-      by Equal e = refl
-      by Greater e = refl
+  not_below k x h = elim (cmp k x) as (λ r. cmp k x ≡ r → is_lt r ≡ false) [
+    | Less ↦ λ e. (let bad : true ≡ false = sym (ap is_gt (less_flips cmp o k x e)) ∙ h in cc)
+    | Equal ↦ λ e. refl
+    | Greater ↦ λ e. refl
+  ] refl
 
   -- what may come is not below a key that passed
   coming_under : (key : Key) (b : Bound) (x : List ℕ) (r : Lines) → Under cmp b x → Coming cmp key b r → EachKey (AtMost cmp x) key r
   coming_under key Free x r u c = absurd u
   coming_under key (From l) x r u c = EachKey-weaker (AtMost cmp l) (AtMost cmp x) (λ k h. at_most_trans cmp o x l k u h) key r c
-  coming_under key (Fallen d) x r u c = subst (EachKey (AtMost cmp x) key) (sym c) tt
-  coming_under key Over x r u c = subst (EachKey (AtMost cmp x) key) (sym c) tt
+  coming_under key (Fallen d) x r u c = rw c tt
+  coming_under key Over x r u c = rw c tt
 
   -- nothing that may come of one input is below the last key that passed of another
   pub past_none : (key other_key : Key) (b : Bound) (p r : Lines) → EachKey (Under cmp b) key p → Coming cmp other_key b r
@@ -164,12 +147,11 @@ module _ (cmp : Cmp) (o : IsKeyOrder cmp) where
   down_le l a b g h = at_most_is_le cmp o a l (at_most_trans cmp o a b l (ap is_gt (greater_flips cmp o b a g)) (is_le_at_most cmp o b l h))
 
   down_lt : (l a b : List ℕ) → cmp b a ≡ Greater → is_lt (cmp b l) ≡ true → is_lt (cmp a l) ≡ true
-  down_lt l a b g h = by (cmp b l) refl h
-    where
-      by : (r : Ordering) → cmp b l ≡ r → is_lt r ≡ true → is_lt (cmp a l) ≡ true
-      by Less e t = ap is_lt (greater_flips cmp o l a (above_trans cmp o a b l (ap is_gt (greater_flips cmp o b a g)) (less_flips cmp o b l e)))
-      by Equal e t = cc
-      by Greater e t = cc
+  down_lt l a b g h = elim (cmp b l) as (λ r. cmp b l ≡ r → is_lt r ≡ true → is_lt (cmp a l) ≡ true) [
+    | Less ↦ λ e t. ap is_lt (greater_flips cmp o l a (above_trans cmp o a b l (ap is_gt (greater_flips cmp o b a g)) (less_flips cmp o b l e)))
+    | Equal ↦ λ e t. cc
+    | Greater ↦ λ e t. cc
+  ] refl h
 
   down_up_to : (d : Option Disorder) → IsDown cmp (up_to cmp d)
   down_up_to None a b g h = refl
@@ -212,41 +194,19 @@ module _ (tool : Tool) (o : IsKeyOrder tool.cmp) (ended : Side → Bool) (ls : S
   not_decided Second k e =
       and_false (up_to tool.cmp (disorder tool ls) k) (is_past tool.cmp (tool.key First) (ended First) (ls First) k) (is_past tool.cmp (tool.key Second) (ended Second) (ls Second) k) (inr e)
 
-module _ (tool : Tool) (o : IsKeyOrder tool.cmp) (b : Side → Bound) (p : Side → Lines) (was is : Output) (m : Merging tool b p was is) where
-  -- two lists that go on with the lines that came
-  pub record Seen (ls : Side → Lines) : Type 0 where
-    pub r : Side → Lines
-    pub parts : (side : Side) → ordered_part tool.cmp (tool.key side) (ls side) ≡ p side ++ r side
-    pub coming : (side : Side) → Coming tool.cmp (tool.key side) (b side) (r side)
-    pub falling : (side : Side) → Falling tool.cmp (b side) (fall tool.cmp (tool.key side) (ls side))
+-- two lists that go on with the lines that came
+pub record Seen (tool : Tool) (b : Side → Bound) (p ls : Side → Lines) : Type 0 where
+  pub r : Side → Lines
+  pub parts : (side : Side) → ordered_part tool.cmp (tool.key side) (ls side) ≡ p side ++ r side
+  pub coming : (side : Side) → Coming tool.cmp (tool.key side) (b side) (r side)
+  pub falling : (side : Side) → Falling tool.cmp (b side) (fall tool.cmp (tool.key side) (ls side))
 
-  -- whatever comes, the entries of the passed lines come first
-  pub seen_all : (ls : Side → Lines) (s : Seen ls) → merged_entries tool ls ≡ by_keys tool all_keys p ++ by_keys tool (up_to tool.cmp (disorder tool ls)) s.r
-  seen_all ls s =
-      let w = up_to tool.cmp (disorder tool ls) in
-      let pass : (k : List ℕ) → Under tool.cmp (b First) k → Under tool.cmp (b Second) k → w k ≡ true =
-      λ k u1 u2. passed_is_wanted tool.cmp o (b First) (b Second) (fall tool.cmp (tool.key First) (ls First)) (fall tool.cmp (tool.key Second) (ls Second)) k
-      (s.falling First) (s.falling Second) u1 u2 in
-      let first = all_wanted tool w p (λ side. both_under (tool.key side) (Under tool.cmp (b First)) (Under tool.cmp (b Second)) (λ k. w k ≡ true) pass
-      (p side) (m.under First side) (m.under Second side)) in
-      (λ i. by_keys tool w (λ side. s.parts side i)) ∙ m.splits.split w s.r s.coming ∙ ap (λ l. l ++ by_keys tool w s.r) first
-
-  -- what is decided, where all lines that came of this input are passed and more may come, was pushed
-  pub decided_begins : (ended : Side → Bool) (ls : Side → Lines) (s : Seen ls) (of : Side) (last : Option (List ℕ)) → ended of ≡ false → ls of ≡ p of → Begun tool.cmp (tool.key of) (p of) last
-      → Begins (text tool.end (decided_entries tool ended ls)) (text tool.end (by_keys tool all_keys p))
-  decided_begins ended ls s of last going all begun =
-      let dec = is_decided tool ended ls in
-      let rest = down_begins tool o dec (down_decided tool o ended ls) p in
-      let none : by_keys tool dec s.r ≡ [] = none_wanted tool dec s.r (λ side.
-      EachKey-weaker (λ k. is_below tool.cmp k (last_or None (map (tool.key of) (p of))) ≡ false) (λ k. dec k ≡ false)
-      (λ k h. not_decided tool o ended ls of k (past k ∙ h)) (tool.key side) (s.r side)
-      (past_none tool.cmp o (tool.key of) (tool.key side) (b side) (p of) (s.r side) (m.under side of) (s.coming side))) in
-      let known : decided_entries tool ended ls ≡ by_keys tool dec p =
-      (λ i. by_keys tool dec (λ side. s.parts side i)) ∙ m.splits.split dec s.r s.coming ∙ ap (λ l. by_keys tool dec p ++ l) none ∙ append-nil (by_keys tool dec p) in
-      record { rest = text tool.end rest.0; is = ap (text tool.end) (rest.1 ∙ ap (λ l. l ++ rest.0) (sym known)) ∙ text-append tool.end (decided_entries tool ended ls) rest.0 }
-    where
-      no_fall : fall tool.cmp (tool.key of) (ls of) ≡ None
-      no_fall = ap (fall tool.cmp (tool.key of)) (all ∙ sym (append-nil (p of))) ∙ begun.falling []
-
-      past : (k : List ℕ) → is_past tool.cmp (tool.key of) (ended of) (ls of) k ≡ is_below tool.cmp k (last_or None (map (tool.key of) (p of)))
-      past k = λ i. cond (going i || is_some (no_fall i)) true (is_below tool.cmp k (last_or None (map (tool.key of) (all i))))
+-- whatever comes, the entries of the passed lines come first
+pub seen_all : {tool : Tool} (o : IsKeyOrder tool.cmp) {b : Side → Bound} {p ls : Side → Lines} {was is : Output} → Merging tool b p was is → (s : Seen tool b p ls)
+    → merged_entries tool ls ≡ by_keys tool all_keys p ++ by_keys tool (up_to tool.cmp (disorder tool ls)) s.r
+seen_all {tool} o {b} {p} {ls} m s =
+    let w = up_to tool.cmp (disorder tool ls) in
+    let first = all_wanted tool w p (λ side. both_under (tool.key side) (Under tool.cmp (b First)) (Under tool.cmp (b Second)) (λ k. w k ≡ true)
+    (λ k u1 u2. passed_is_wanted tool.cmp o (b First) (b Second) (fall tool.cmp (tool.key First) (ls First)) (fall tool.cmp (tool.key Second) (ls Second)) k
+    (s.falling First) (s.falling Second) u1 u2) (p side) (m.under First side) (m.under Second side)) in
+    (λ i. by_keys tool w (λ side. s.parts side i)) ∙ m.splits.split w s.r s.coming ∙ ap (λ l. l ++ by_keys tool w s.r) first

@@ -1,9 +1,8 @@
 -- What is written of the lines that are passed, and what is written of all that may come.
-use Rattle.std.proofs.Common.{◌≡◌, ℕ, List, [], ◌∷◌, ◌++◌, Bool, true, false, cond, Option, Some, None, refl, ap, sym, ◌∙◌, subst, append_assoc}
+use Rattle.std.proofs.Common.{◌≡◌, ℕ, List, [], ◌∷◌, ◌++◌, Bool, true, false, cond, Option, Some, None, refl, ap, sym, ◌∙◌, append_assoc}
 use Rattle.std.proofs.lemmas.List.{append-nil}
 use Rattle.std.proofs.lemmas.List.Concat.{flat_map-append}
 use Rattle.std.specs.Prelude.{filter, flat_map}
-use Rattle.std.specs.declared.cmp.Ordering.{Ordering}
 use Rattle.std.specs.declared.cmp.Ordering.TheVariants.{Less, Equal, Greater}
 use Rattle.std.specs.Ordering.{is_lt, is_gt, match_ordering}
 use Rattle.ptmerge.specs.declared.order.Side.{Side}
@@ -41,12 +40,11 @@ IsDown cmp w = (a b : List ℕ) → cmp b a ≡ Greater → w b ≡ true → w a
 module _ (cmp : Cmp) (o : IsKeyOrder cmp) where
   ascends_insert : (k : List ℕ) (ks : Lines) → Ascends cmp ks → Ascends cmp (insert_key cmp k ks)
   ascends_insert k [] a = (tt, tt)
-  ascends_insert k (x ∷ ks) a = by (cmp k x) refl (ascends_insert k ks a.1)
-    where
-      by : (r : Ordering) → cmp k x ≡ r → Ascends cmp (insert_key cmp k ks) → Ascends cmp (match_ordering r (k ∷ x ∷ ks) (x ∷ ks) (x ∷ insert_key cmp k ks))
-      by Less e ih = let up = less_flips cmp o k x e in ((up, Each-weaker (Above cmp x) (Above cmp k) (λ y h. above_trans cmp o k x y (ap is_gt e) h) ks a.0), a)
-      by Equal e ih = a
-      by Greater e ih = (Each-insert cmp (Above cmp x) k ks e a.0, ih)
+  ascends_insert k (x ∷ ks) a = elim (cmp k x) as (λ r. cmp k x ≡ r → Ascends cmp (match_ordering r (k ∷ x ∷ ks) (x ∷ ks) (x ∷ insert_key cmp k ks))) [
+    | Less ↦ λ e. ((less_flips cmp o k x e, Each-weaker (Above cmp x) (Above cmp k) (λ y h. above_trans cmp o k x y (ap is_gt e) h) ks a.0), a)
+    | Equal ↦ λ e. a
+    | Greater ↦ λ e. (Each-insert cmp (Above cmp x) k ks e a.0, ascends_insert k ks a.1)
+  ] refl
 
   pub ascends_distinct : (ks : Lines) → Ascends cmp (distinct cmp ks)
   ascends_distinct [] = tt
@@ -62,25 +60,22 @@ module _ (cmp : Cmp) (o : IsKeyOrder cmp) where
 
       by : (b : Bool) → w k ≡ b → (rest : Lines) × (ks ≡ filter w ks ++ rest) → (rest : Lines) × (k ∷ ks ≡ cond b (k ∷ filter w ks) (filter w ks) ++ rest)
       by true h ih = (ih.0, ap (λ l. k ∷ l) ih.1)
-      by false h ih = (k ∷ ks, ap (λ l. l ++ (k ∷ ks)) (sym (filter_none w ks (Each-weaker (Above cmp k) (λ y. w y ≡ false) (not_above h) ks a.0))))
+      by false h ih = (k ∷ ks, rw (filter_none w ks (Each-weaker (Above cmp k) (λ y. w y ≡ false) (not_above h) ks a.0)) refl)
 
   -- what the lists fall behind is at least k
   pub under_fall : (b : Bound) (k : List ℕ) (f : Option Fall) → Under cmp b k → Falling cmp b f → FallFrom cmp k f
   under_fall Free k f u h = absurd u
   under_fall (From l) k None u h = tt
   under_fall (From l) k (Some d) u h = at_most_trans cmp o k l d.last_key u h
-  under_fall (Fallen d) k f u h = subst (FallFrom cmp k) (sym h) u
-  under_fall Over k f u h = subst (FallFrom cmp k) (sym h) tt
+  under_fall (Fallen d) k f u h = rw h u
+  under_fall Over k f u h = rw h tt
 
   up_to_from : (k : List ℕ) (f1 f2 : Option Fall) → FallFrom cmp k f1 → FallFrom cmp k f2 → up_to cmp (disorder_of cmp f1 f2) k ≡ true
   up_to_from k None None h1 h2 = refl
   up_to_from k None (Some d) h1 h2 = at_most_is_le cmp o k d.last_key h2
   up_to_from k (Some d) None h1 h2 = at_most_is_le cmp o k d.last_key h1
-  up_to_from k (Some d) (Some e) h1 h2 = by (is_lt (cmp e.last_key d.last_key))
-    where
-      by : (b : Bool) → up_to cmp (cond b (Some (record { file = Second; fall = e })) (Some (record { file = First; fall = d }))) k ≡ true
-      by true = at_most_is_le cmp o k e.last_key h2
-      by false = at_most_is_le cmp o k d.last_key h1
+  up_to_from k (Some d) (Some e) h1 h2 = elim (is_lt (cmp e.last_key d.last_key)) as (λ b. up_to cmp (cond b (Some (record { file = Second; fall = e })) (Some (record { file = First; fall = d }))) k ≡ true)
+      [ true ↦ at_most_is_le cmp o k e.last_key h2 | false ↦ at_most_is_le cmp o k d.last_key h1 ]
 
   pub passed_is_wanted : (b1 b2 : Bound) (f1 f2 : Option Fall) (k : List ℕ) → Falling cmp b1 f1 → Falling cmp b2 f2 → Under cmp b1 k → Under cmp b2 k → up_to cmp (disorder_of cmp f1 f2) k ≡ true
   passed_is_wanted b1 b2 f1 f2 k h1 h2 u1 u2 = up_to_from k f1 f2 (under_fall b1 k f1 u1 h1) (under_fall b2 k f2 u2 h2)
@@ -129,8 +124,7 @@ module _ (tool : Tool) where
       → ((w : List ℕ → Bool) (r : Side → Lines) → MayCome d r → by_keys tool w (λ side. f side ++ r side) ≡ by_keys tool w f ++ by_keys tool w r) → Splits d (λ side. p side ++ f side)
   splits_step b d p f s u front = record {
     split = λ w r c.
-        let passed : by_keys tool w (λ side. p side ++ f side) ≡ by_keys tool w p ++ by_keys tool w f =
-        s.split w f (λ side. subst (Coming tool.cmp (tool.key side) (b side)) (append-nil (f side)) (u side [] (coming_none tool.cmp (tool.key side) (d side)))) in
+        let none = λ (side : Side). rw append-nil at (u side [] (coming_none tool.cmp (tool.key side) (d side))) in
         (λ i. by_keys tool w (λ side. append_assoc (p side) (f side) (r side) i)) ∙ s.split w (λ side. f side ++ r side) (λ side. u side (r side) (c side))
-        ∙ ap (λ l. by_keys tool w p ++ l) (front w r c) ∙ sym (append_assoc (by_keys tool w p) (by_keys tool w f) (by_keys tool w r)) ∙ ap (λ l. l ++ by_keys tool w r) (sym passed);
+        ∙ ap (λ l. by_keys tool w p ++ l) (front w r c) ∙ sym (append_assoc (by_keys tool w p) (by_keys tool w f) (by_keys tool w r)) ∙ ap (λ l. l ++ by_keys tool w r) (sym (s.split w f none));
   }
