@@ -1,5 +1,5 @@
 -- Where two inputs stand between the turns of a tool, and how a turn ends or cannot be ended.
-use Rattle.std.proofs.Common.{◌≡◌, ◌⊎◌, inl, inr, ℕ, ◌+◌, ◌*◌, ◌≤◌, false, List, [], Some, None, Err, length, max, refl, sym, ◌∙◌, ap, arith}
+use Rattle.std.proofs.Common.{◌≡◌, ◌⊎◌, ⊎_elim, inl, inr, ℕ, ◌+◌, ◌*◌, ◌≤◌, false, List, [], Some, None, Err, length, max, refl, sym, ◌∙◌, ap, arith}
 use Rattle.std.proofs.lemmas.Bool.{false≢true}
 use Rattle.std.proofs.lemmas.List.{length-set}
 use Rattle.ptlines.specs.Outputs.{Output, Wrote}
@@ -42,13 +42,7 @@ pub record Running (tool : Tool) (old now : State) (place : Side → Sorted) : T
 
 -- nothing was read of this input
 put_self : (s : Side) (f : Side → Reader) → put s (f s) f ≡ f
-put_self s f = λ i side. each s side i
-  where
-    each : (t side : Side) → put t (f t) f side ≡ f side
-    each First First = refl
-    each First Second = refl
-    each Second First = refl
-    each Second Second = refl
+put_self s f = λ i side. put_each (λ (t : Side) (r : Reader). r ≡ f t) s (f s) f refl (λ t. refl) side i
 
 -- a write failed, and nothing more was read
 pub same_state : (tool : Tool) (old : State) (s : Side) (now : State) (out : Output) (reader : Reader) (after : Slots) (fault : MergeFault) → fault ≡ Write
@@ -132,13 +126,9 @@ pub record Placed (tool : Tool) (old : State) (reader : Side → Reader) (place 
   pub keeps : Keeps old.store store (λ side. longest (ls side))
   pub slots : (side : Side) → HasSlots side (place side)
 
-swapped : (s : Side) (a c : Sorted) → HasSlots s a → c.standing ≡ a.previous → c.previous ≡ a.standing → HasSlots s c
-swapped s a c (inl h) e f = inr (e ∙ h.1, f ∙ h.0)
-swapped s a c (inr h) e f = inl (e ∙ h.1, f ∙ h.0)
-
 slots_on : {key : Key} {cmp : Cmp} {place next : Sorted} {was is : Reader} {before after : Slots} (s : Side) → HasSlots s place → Comes key cmp place next was is before after → HasSlots s next
-slots_on {place = place} {next = next} s h (inl e) = swapped s place next h (ap (λ (q : Sorted). q.standing) e.place) (ap (λ (q : Sorted). q.previous) e.place)
-slots_on {place = place} {next = next} s h (inr e) = swapped s place next h (ap (λ (q : Sorted). q.standing) e.place) (ap (λ (q : Sorted). q.previous) e.place)
+slots_on s h (inl e) = rw e.place (⊎_elim (λ k. inr (k.1, k.0)) (λ k. inl (k.1, k.0)) h)
+slots_on s h (inr e) = rw e.place (⊎_elim (λ k. inr (k.1, k.0)) (λ k. inl (k.1, k.0)) h)
 
 module _ {tool : Tool} {old : State} (w : IsOpened tool old) {reader : Side → Reader} {place : Side → Sorted} {store : Slots} {ls p : Side → Lines} {b : Side → Bound}
     (a : Placed tool old reader place store ls p b) where

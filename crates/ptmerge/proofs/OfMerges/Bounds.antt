@@ -29,12 +29,7 @@ fall_after cmp key last n (x ∷ w) = cond (falls cmp last (key x)) (Some (fall_
 pub ordered_is : (cmp : Cmp) (key : Key) (ls : Lines) → ordered_part cmp key ls ≡ ordered_after cmp key None ls
 ordered_is cmp key [] = refl
 ordered_is cmp key (x ∷ []) = refl
-ordered_is cmp key (x ∷ y ∷ more) = by (ordered_is cmp key (y ∷ more)) (is_gt (cmp (key x) (key y)))
-  where
-    by : ordered_part cmp key (y ∷ more) ≡ y ∷ ordered_after cmp key (Some (key y)) more → (b : Bool)
-        → cond b (x ∷ []) (x ∷ ordered_part cmp key (y ∷ more)) ≡ x ∷ cond b [] (y ∷ ordered_after cmp key (Some (key y)) more)
-    by ih true = refl
-    by ih false = ap (λ l. x ∷ l) ih
+ordered_is cmp key (x ∷ y ∷ more) = let ih = ordered_is cmp key (y ∷ more) in grind (arith, ih)
 
 -- the fall, by the length of the ordered part
 abbrev by_length : Cmp → Key → Option (List ℕ) → ℕ → Lines → Lines → Option Fall

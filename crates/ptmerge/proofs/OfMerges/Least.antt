@@ -108,19 +108,8 @@ module _ (cmp : Cmp) (o : IsKeyOrder cmp) where
 
 others-keys : (key1 key2 : Key) (k : List ℕ) (xs ys : Lines) → others k (map key1 xs ++ map key2 ys) ≡ map key1 (without key1 k xs) ++ map key2 (without key2 k ys)
 others-keys key1 key2 k [] [] = refl
-others-keys key1 key2 k [] (y ∷ ys) = by (others-keys key1 key2 k [] ys) (bytes_eq (key2 y) k)
-  where
-    by : others k (map key2 ys) ≡ map key2 (without key2 k ys) → (b : Bool) → cond b (others k (map key2 ys)) (key2 y ∷ others k (map key2 ys))
-        ≡ map key2 (cond b (without key2 k ys) (y ∷ without key2 k ys))
-    by ih true = ih
-    by ih false = ap (λ l. key2 y ∷ l) ih
-others-keys key1 key2 k (x ∷ xs) ys = by (others-keys key1 key2 k xs ys) (bytes_eq (key1 x) k)
-  where
-    by : others k (map key1 xs ++ map key2 ys) ≡ map key1 (without key1 k xs) ++ map key2 (without key2 k ys) → (b : Bool)
-        → cond b (others k (map key1 xs ++ map key2 ys)) (key1 x ∷ others k (map key1 xs ++ map key2 ys))
-        ≡ map key1 (cond b (without key1 k xs) (x ∷ without key1 k xs)) ++ map key2 (without key2 k ys)
-    by ih true = ih
-    by ih false = ap (λ l. key1 x ∷ l) ih
+others-keys key1 key2 k [] (y ∷ ys) = let ih = others-keys key1 key2 k [] ys in grind (arith, ih)
+others-keys key1 key2 k (x ∷ xs) ys = let ih = others-keys key1 key2 k xs ys in grind (arith, ih)
 
 -- a key that is not there has no lines
 with_key-none : (key : Key) (k : List ℕ) (r : Lines) → EachKey (λ y. bytes_eq y k ≡ false) key r → with_key key r k ≡ []
@@ -130,15 +119,10 @@ with_key-none key k (x ∷ r) a = rw a.0 (with_key-none key k r a.1)
 -- the lines of another key
 with_key_without : (key : Key) (k q : List ℕ) (xs : Lines) → bytes_eq q k ≡ false → with_key key (without key k xs) q ≡ with_key key xs q
 with_key_without key k q [] n = refl
-with_key_without key k q (x ∷ xs) n = by (with_key_without key k q xs n) (bytes_eq (key x) k) refl
-  where
-    apart : key x ≡ k → bytes_eq (key x) q ≡ false
-    apart e = not_same (key x) q (λ f. (let bad : true ≡ false = sym ((bytes_decides q k).1 (sym f ∙ e)) ∙ n in cc))
-
-    by : with_key key (without key k xs) q ≡ with_key key xs q → (b : Bool) → bytes_eq (key x) k ≡ b
-        → with_key key (cond b (without key k xs) (x ∷ without key k xs)) q ≡ cond (bytes_eq (key x) q) (x ∷ with_key key xs q) (with_key key xs q)
-    by ih true e = rw (apart ((bytes_decides (key x) k).0 e)) ih
-    by ih false e = ap (λ l. cond (bytes_eq (key x) q) (x ∷ l) l) ih
+with_key_without key k q (x ∷ xs) n =
+    let ih = with_key_without key k q xs n in
+    let apart : key x ≡ k → bytes_eq (key x) q ≡ false = λ e. not_same (key x) q (λ f. (let bad : true ≡ false = sym ((bytes_decides q k).1 (sym f ∙ e)) ∙ n in cc)) in
+    grind (arith, ih, apart, bytes_decides (key x) k)
 
 module _ (tool : Tool) (o : IsKeyOrder tool.cmp) where
   abbrev over : (List ℕ → Bool) → (Side → Lines) → Lines → Lines

@@ -1,5 +1,5 @@
 -- What was pushed of two inputs: the entries of the lines that are passed, which come first whatever is still to come.
-use Rattle.std.proofs.Common.{◌≡◌, ◌⊎◌, inl, inr, ℕ, ◌&&◌, ◌||◌, Bool, true, false, cond, List, [], ◌∷◌, ◌++◌, Option, Some, None, map, refl, sym, ◌∙◌, ap, subst}
+use Rattle.std.proofs.Common.{◌≡◌, ◌⊎◌, inl, inr, ℕ, ◌&&◌, ◌||◌, Bool, true, false, cond, List, [], ◌∷◌, ◌++◌, Option, Some, None, map, refl, sym, ◌∙◌, ap, subst, arith}
 use Rattle.std.specs.Prelude.{is_some}
 use Rattle.std.specs.List.{last_or}
 use Rattle.std.specs.declared.cmp.Ordering.TheVariants.{Less, Equal, Greater}
@@ -166,17 +166,10 @@ module _ (cmp : Cmp) (o : IsKeyOrder cmp) where
       by false (Some l) h = down_lt l a b g h
 
 all_three : (x y z u v w : Bool) → (x ≡ true → u ≡ true) → (y ≡ true → v ≡ true) → (z ≡ true → w ≡ true) → (x && y && z) ≡ true → (u && v && w) ≡ true
-all_three true true true u v w f g h e = rw (f refl, g refl, h refl) refl
-all_three true true false u v w f g h e = cc
-all_three true false z u v w f g h e = cc
-all_three false y z u v w f g h e = cc
+all_three x y z u v w f g h e = grind arith
 
 and_false : (x y z : Bool) → (y ≡ false) ⊎ (z ≡ false) → (x && y && z) ≡ false
-and_false true true true (inl e) = cc
-and_false true true true (inr e) = cc
-and_false true true false e = refl
-and_false true false z e = refl
-and_false false y z e = refl
+and_false x y z e = grind arith
 
 module _ (tool : Tool) (o : IsKeyOrder tool.cmp) (ended : Side → Bool) (ls : Side → Lines) where
   pub down_decided : IsDown tool.cmp (is_decided tool ended ls)

@@ -111,7 +111,7 @@ returns-in_err-pass-in-Both g c =
     let i = c.steps.invariant in
     let l = rw i.order at (pair_stops i.turn c.in-Both.ensures (c.ending-ending.ensures ∙ c.requires.ending.0) c.lead-lead3.ensures c.pass-in-Both.ensures.wrote
     (is_told c.from_residual-in_err-pass-in-Both.ensures.1) c.in_err-pass-in-Both.ensures.passes) in
-    assumption l
+    record { merged = l.merged; refused = l.refused; slots = l.slots }
 
 pub returns-in_err-go_on-in-Both : goal.returns-in_err-go_on-in-Both
 returns-in_err-go_on-in-Both g c =
@@ -119,7 +119,7 @@ returns-in_err-go_on-in-Both g c =
     let p = c.pass-in-Both.ensures in
     let l = rw i.order at (second_stops i.turn c.in-Both.ensures (c.ending-ending.ensures ∙ c.requires.ending.0) c.lead-lead3.ensures p.wrote c.in_ok-pass-in-Both.ensures.passes c.go_on.ensures.sent
     (is_told c.from_residual-in_err-go_on-in-Both.ensures.1) c.in_err-go_on-in-Both.ensures.passes) in
-    assumption l
+    record { merged = l.merged; refused = l.refused; slots = l.slots }
 
 pub returns-in-End : goal.returns-in-End
 returns-in-End g c =
