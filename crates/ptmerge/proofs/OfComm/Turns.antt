@@ -61,10 +61,8 @@ pub record IsTurn (job : Comm) (cmp : Cmp) (key : Side → Key) (old now : State
   pub clean : now.out.faulted ≡ false
 
 -- what a call leaves that ends so
-pub record Leaves (tool : Tool) (old new : State) (result : Result (Unit {0}) MergeFault) : Type 0 where
-  pub merged : IsMerge tool old new result
-  pub refused : length new.store.lines < 4 → IsUnread old new
-  pub slots : Adds old.store new.store 4
+abbrev pub Leaves : Tool → State → State → Result (Unit {0}) MergeFault → Type 0
+Leaves tool old new result = record { merged : IsMerge tool old new result; refused : length new.store.lines < 4 → IsUnread old new; slots : Adds old.store new.store 4 }
 
 -- ---- the start
 

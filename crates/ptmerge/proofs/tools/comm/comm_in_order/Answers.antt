@@ -25,8 +25,7 @@ is_told {r} h = told (err_from_is_err_and r h)
 
 pub returns-in_err-merge : goal.returns-in_err-merge
 returns-in_err-merge g c =
-    let l = start_stops (comm_job c.args.job.now) (opened g (goal.at.returns-in_err-merge g c).After-start) (is_told c.from_residual.ensures.1) c.in_err-merge.ensures.breaks in
-    assumption l
+    start_stops (comm_job c.args.job.now) (opened g (goal.at.returns-in_err-merge g c).After-start) (is_told c.from_residual.ensures.1) c.in_err-merge.ensures.breaks
 
 pub steps-init : goal.steps-init
 steps-init g c =
@@ -35,9 +34,6 @@ steps-init g c =
       turn = rw p.order (starts (comm_job c.args.job.now) (opened g (goal.at.steps-init g c).After-start) c.requires.whole p.starts (rw p.order at p.placed) p.lent);
       order = p.order;
     }
-
-pub step-requires : goal.step-requires
-step-requires g c = c.steps.invariant.turn.placed
 
 pub pass-requires-clause-stands : goal.pass-requires-clause-stands
 pass-requires-clause-stands g c = stands_at c.steps.invariant.turn sides.First c.in-First.ensures.stands
@@ -50,12 +46,6 @@ pass-requires-in-Both-clause-stands g c = stands_at c.steps.invariant.turn sides
 
 pub go_on-requires-clause-stands : goal.go_on-requires-clause-stands
 go_on-requires-clause-stands g c = rw c.pass-in-Both.ensures.order (second_stands c.steps.invariant.turn c.in-Both.ensures c.in_ok-pass-in-Both.ensures.passes)
-
-pub clear_four-requires : goal.clear_four-requires
-clear_four-requires g c = c.steps.invariant.turn.placed.slots
-
-pub clear_four-requires-in-Stop : goal.clear_four-requires-in-Stop
-clear_four-requires-in-Stop g c = c.steps.invariant.turn.placed.slots
 
 pub steps-preserved-in-Continue-branch-2 : goal.steps-preserved-in-Continue-branch-2
 steps-preserved-in-Continue-branch-2 g c =
@@ -95,38 +85,32 @@ steps-smaller g c =
 pub returns-in_err-pass-in-First : goal.returns-in_err-pass-in-First
 returns-in_err-pass-in-First g c =
     let i = c.steps.invariant in
-    let l = rw i.order at (alone_stops i.turn c.in-First.ensures (c.ending-ending.ensures ∙ c.requires.ending.0) refl c.pass.ensures.wrote
-    (is_told c.from_residual-in_err-pass-in-First.ensures.1) c.in_err-pass-in-First.ensures.passes) in
-    assumption l
+    rw i.order at (alone_stops i.turn c.in-First.ensures (c.ending-ending.ensures ∙ c.requires.ending.0) refl c.pass.ensures.wrote
+    (is_told c.from_residual-in_err-pass-in-First.ensures.1) c.in_err-pass-in-First.ensures.passes)
 
 pub returns-in_err-pass-in-Second : goal.returns-in_err-pass-in-Second
 returns-in_err-pass-in-Second g c =
     let i = c.steps.invariant in
-    let l = rw i.order at (alone_stops i.turn c.in-Second.ensures (c.ending-ending.ensures ∙ c.requires.ending.0) c.lead-lead2.ensures c.pass-in-Second.ensures.wrote
-    (is_told c.from_residual-in_err-pass-in-Second.ensures.1) c.in_err-pass-in-Second.ensures.passes) in
-    assumption l
+    rw i.order at (alone_stops i.turn c.in-Second.ensures (c.ending-ending.ensures ∙ c.requires.ending.0) c.lead-lead2.ensures c.pass-in-Second.ensures.wrote
+    (is_told c.from_residual-in_err-pass-in-Second.ensures.1) c.in_err-pass-in-Second.ensures.passes)
 
 pub returns-in_err-pass-in-Both : goal.returns-in_err-pass-in-Both
 returns-in_err-pass-in-Both g c =
     let i = c.steps.invariant in
-    let l = rw i.order at (pair_stops i.turn c.in-Both.ensures (c.ending-ending.ensures ∙ c.requires.ending.0) c.lead-lead3.ensures c.pass-in-Both.ensures.wrote
-    (is_told c.from_residual-in_err-pass-in-Both.ensures.1) c.in_err-pass-in-Both.ensures.passes) in
-    record { merged = l.merged; refused = l.refused; slots = l.slots }
+    rw i.order at (pair_stops i.turn c.in-Both.ensures (c.ending-ending.ensures ∙ c.requires.ending.0) c.lead-lead3.ensures c.pass-in-Both.ensures.wrote
+    (is_told c.from_residual-in_err-pass-in-Both.ensures.1) c.in_err-pass-in-Both.ensures.passes)
 
 pub returns-in_err-go_on-in-Both : goal.returns-in_err-go_on-in-Both
 returns-in_err-go_on-in-Both g c =
     let i = c.steps.invariant in
     let p = c.pass-in-Both.ensures in
-    let l = rw i.order at (second_stops i.turn c.in-Both.ensures (c.ending-ending.ensures ∙ c.requires.ending.0) c.lead-lead3.ensures p.wrote c.in_ok-pass-in-Both.ensures.passes c.go_on.ensures.sent
-    (is_told c.from_residual-in_err-go_on-in-Both.ensures.1) c.in_err-go_on-in-Both.ensures.passes) in
-    record { merged = l.merged; refused = l.refused; slots = l.slots }
+    rw i.order at (second_stops i.turn c.in-Both.ensures (c.ending-ending.ensures ∙ c.requires.ending.0) c.lead-lead3.ensures p.wrote c.in_ok-pass-in-Both.ensures.passes c.go_on.ensures.sent
+    (is_told c.from_residual-in_err-go_on-in-Both.ensures.1) c.in_err-go_on-in-Both.ensures.passes)
 
 pub returns-in-End : goal.returns-in-End
 returns-in-End g c =
-    let l = rw c.steps.invariant.order at (ended c.steps.invariant.turn c.clear_four.ensures c.in-End.ensures) in
-    assumption l
+    rw c.steps.invariant.order at (ended c.steps.invariant.turn c.clear_four.ensures c.in-End.ensures)
 
 pub returns-in-Stop : goal.returns-in-Stop
 returns-in-Stop g c =
-    let l = rw c.steps.invariant.order at (fallen c.steps.invariant.turn c.clear_four-in-Stop.ensures c.in-Stop.ensures) in
-    assumption l
+    rw c.steps.invariant.order at (fallen c.steps.invariant.turn c.clear_four-in-Stop.ensures c.in-Stop.ensures)
