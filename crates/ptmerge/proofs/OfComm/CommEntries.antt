@@ -17,12 +17,10 @@ use Rattle.ptmerge.proofs.OfMerges.Splitting.{all_keys}
 use Rattle.ptmerge.proofs.OfMerges.Turning.{IsLineByLine, alone}
 
 none_in : (hidden : Bool) (lead line : List ℕ) → entries_in hidden lead 0 line ≡ []
-none_in true lead line = refl
-none_in false lead line = refl
+none_in hidden lead line = grind arith
 
 more_in : (hidden : Bool) (lead line : List ℕ) (n : ℕ) → entries_in hidden lead (suc n) line ≡ entries_in hidden lead 1 line ++ entries_in hidden lead n line
-more_in true lead line n = refl
-more_in false lead line n = refl
+more_in hidden lead line n = grind arith
 
 module _ (job : Comm) (x : List ℕ) where
   abbrev common : ℕ → Lines
@@ -47,18 +45,10 @@ module _ (job : Comm) (x : List ℕ) where
   entries_none = rw (none_common, none_first, none_second)
 
   only_first : (n : ℕ) → entries job x n 0 ≡ first n
-  only_first n =
-      let m : min n 0 ≡ 0 = omega arith in
-      let a : n - 0 ≡ n = omega arith in
-      let b : 0 - n ≡ 0 = omega arith in
-      rw (m, a, b, none_common, none_second) (append-nil (first n))
+  only_first n = grind (arith, none_common, none_second, append-nil (first n))
 
   only_second : (n : ℕ) → entries job x 0 n ≡ second n
-  only_second n =
-      let m : min 0 n ≡ 0 = omega arith in
-      let a : 0 - n ≡ 0 = omega arith in
-      let b : n - 0 ≡ n = omega arith in
-      rw (m, a, b, none_common, none_first)
+  only_second n = grind (arith, none_common, none_first)
 
   pub entries_first : (n : ℕ) → entries job x (suc n) 0 ≡ entries job x 1 0 ++ entries job x n 0
   entries_first n = rw (only_first (suc n), only_first 1, only_first n) (more_in job.hide1 [] x n)

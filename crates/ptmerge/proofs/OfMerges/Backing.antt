@@ -26,11 +26,7 @@ Rises cmp key last (x ∷ xs) = (falls cmp last (key x) ≡ false) × Rises cmp 
 
 rises_after : (cmp : Cmp) (key : Key) (last : Option (List ℕ)) (ls : Lines) → Rises cmp key last (ordered_after cmp key last ls)
 rises_after cmp key last [] = tt
-rises_after cmp key last (x ∷ ls) = by (falls cmp last (key x)) refl (rises_after cmp key (Some (key x)) ls)
-  where
-    by : (b : Bool) → falls cmp last (key x) ≡ b → Rises cmp key (Some (key x)) (ordered_after cmp key (Some (key x)) ls) → Rises cmp key last (cond b [] (x ∷ ordered_after cmp key (Some (key x)) ls))
-    by true e ih = tt
-    by false e ih = (e, ih)
+rises_after cmp key last (x ∷ ls) = let ih = rises_after cmp key (Some (key x)) ls in grind (arith, ih)
 
 pub rises_ordered : (cmp : Cmp) (key : Key) (ls : Lines) → Rises cmp key None (ordered_part cmp key ls)
 rises_ordered cmp key ls = subst (Rises cmp key None) (sym (ordered_is cmp key ls)) (rises_after cmp key None ls)

@@ -43,23 +43,10 @@ lt_some n = grind (arith, nat_tests)
 
 by_length_is : (cmp : Cmp) (key : Key) (last : Option (List ℕ)) (n : ℕ) (ls : Lines) → by_length cmp key last n (ordered_after cmp key last ls) ls ≡ fall_after cmp key last n ls
 by_length_is cmp key last n [] = refl
-by_length_is cmp key last n (x ∷ w) = by (by_length_is cmp key (Some (key x)) (n + 1) w) (falls cmp last (key x))
-  where
-    by : by_length cmp key (Some (key x)) (n + 1) (ordered_after cmp key (Some (key x)) w) w ≡ fall_after cmp key (Some (key x)) (n + 1) w → (b : Bool)
-        → by_length cmp key last n (cond b [] (x ∷ ordered_after cmp key (Some (key x)) w)) (x ∷ w) ≡ cond b (Some (fall_at last n)) (fall_after cmp key (Some (key x)) (n + 1) w)
-    by ih true = let same : (n + 0) + 1 ≡ n + 1 = omega arith in λ i. if lt_some (length w) i then Some (record { last_key = unwrap_or last []; line = same i }) else None
-    by ih false =
-        let part = ordered_after cmp key (Some (key x)) w in
-        let same : (n + length (x ∷ part)) + 1 ≡ ((n + 1) + length part) + 1 = omega arith in
-        (λ i. if lt_suc (length part) (length w) i then Some (record { last_key = unwrap_or (last_or (Some (key x)) (map key part)) []; line = same i }) else None) ∙ ih
+by_length_is cmp key last n (x ∷ w) = let ih = by_length_is cmp key (Some (key x)) (n + 1) w in grind (arith, nat_tests, ih)
 
 pub fall_is : (cmp : Cmp) (key : Key) (ls : Lines) → fall cmp key ls ≡ fall_after cmp key None 0 ls
-fall_is cmp key ls =
-    let same : length (ordered_after cmp key None ls) + 1 ≡ (0 + length (ordered_after cmp key None ls)) + 1 = omega arith in
-    ap (λ part. if nat_lt (length part) (length ls) then Some (record { last_key = unwrap_or (last_or None (map key part)) []; line = length part + 1 }) else None) (ordered_is cmp key ls)
-    ∙ (λ i. if nat_lt (length (ordered_after cmp key None ls)) (length ls) then Some
-    (record { last_key = unwrap_or (last_or None (map key (ordered_after cmp key None ls))) []; line = same i }) else None)
-    ∙ by_length_is cmp key None 0 ls
+fall_is cmp key ls = grind (arith, ordered_is cmp key ls, by_length_is cmp key None 0 ls)
 
 -- lines in order, up to a last key
 pub record Begun (cmp : Cmp) (key : Key) (q : Lines) (last : Option (List ℕ)) : Type 0 where

@@ -65,10 +65,7 @@ got_more end old now new ls before after slot c e = record {
     ]
 
     some_came : 0 < length (e.line ++ e.ending)
-    some_came = elim e.ends [
-      | inl ends ↦ omega (arith, ap length ends, length-append e.line e.ending)
-      | inr last ↦ omega (arith, last.1, length-append e.line e.ending)
-    ]
+    some_came = grind (arith, length-append e.line e.ending)
 
     closed : (lines end c.given ≡ ls) × IsDone now → Far end (c.given ++ (e.line ++ e.ending)) (ls ++ e.line ∷ []) new
     closed k = let none = (done_gives_nothing now new (e.line ++ e.ending) k.1 e.goes.reads).0 in absurd (omega (arith, some_came, ap length none))

@@ -81,12 +81,7 @@ module _ (cmp : Cmp) (o : IsKeyOrder cmp) where
 
   others_above : (k : List ℕ) (ks : Lines) → Each (AtMost cmp k) ks → Each (Above cmp k) (others k ks)
   others_above k [] e = tt
-  others_above k (y ∷ ks) e = by (others_above k ks e.1) (least_or_above cmp o k y e.0)
-    where
-      by : Each (Above cmp k) (others k ks) → ((bytes_eq y k ≡ true) × (y ≡ k)) ⊎ ((bytes_eq y k ≡ false) × (cmp y k ≡ Greater))
-          → Each (Above cmp k) (cond (bytes_eq y k) (others k ks) (y ∷ others k ks))
-      by ih (inl h) = rw h.0 ih
-      by ih (inr h) = rw h.0 (h.1, ih)
+  others_above k (y ∷ ks) e = let ih = others_above k ks e.1 in grind (arith, ih, least_or_above cmp o k y e.0)
 
   -- the least key, if it is there, and then the others
   distinct_least : (k : List ℕ) (ks : Lines) → Each (AtMost cmp k) ks
@@ -134,14 +129,10 @@ module _ (tool : Tool) (o : IsKeyOrder tool.cmp) where
 
   over_others : (w : List ℕ → Bool) (k : List ℕ) (ls : Side → Lines) (ks : Lines) → Each (Above tool.cmp k) ks → over w ls ks ≡ over w (others_of k ls) ks
   over_others w k ls [] e = refl
-  over_others w k ls (q ∷ ks) e = by (over_others w k ls ks e.1) (w q)
-    where
-      by : over w ls ks ≡ over w (others_of k ls) ks → (b : Bool) → flat_map (entries_of tool ls) (cond b (q ∷ filter w ks) (filter w ks))
-          ≡ flat_map (entries_of tool (others_of k ls)) (cond b (q ∷ filter w ks) (filter w ks))
-      by ih true =
-          let n = above_not_same tool.cmp o k q e.0 in
-          λ i. tool.entries q (sym (with_key_without (tool.key First) k q (ls First) n) i) (sym (with_key_without (tool.key Second) k q (ls Second) n) i) ++ ih i
-      by ih false = ih
+  over_others w k ls (q ∷ ks) e =
+      let ih = over_others w k ls ks e.1 in
+      let n = above_not_same tool.cmp o k q e.0 in
+      grind (arith, ih, with_key_without (tool.key First) k q (ls First) n, with_key_without (tool.key Second) k q (ls Second) n)
 
   -- The entries of a key at most all the others come first, and then those of the lines of other keys.
   pub least_first : (w : List ℕ → Bool) (k : List ℕ) (ls : Side → Lines) → ((side : Side) → EachKey (AtMost tool.cmp k) (tool.key side) (ls side)) → tool.entries k [] [] ≡ []
@@ -186,8 +177,7 @@ module _ (tool : Tool) (o : IsKeyOrder tool.cmp) where
   at_most-same key k (x ∷ f) r e h = (subst (AtMost tool.cmp k) (sym e.0) (self_at_most tool.cmp o k), at_most-same key k f r e.1 h)
 
   glued : (t : Bool) (all a b rest : Lines) → all ≡ a ++ b → cond t all [] ++ rest ≡ (cond t a [] ++ []) ++ (cond t b [] ++ rest)
-  glued true all a b rest e = ap (λ l. l ++ rest) e ∙ append_assoc a b rest ∙ ap (λ l. l ++ (b ++ rest)) (sym (append-nil a))
-  glued false all a b rest e = refl
+  glued t all a b rest e = grind (arith, append_assoc a b rest, append-nil a)
 
   -- Lines of the least key, and then lines of no lesser keys.
   pub front_first : (w : List ℕ → Bool) (k : List ℕ) (f r : Side → Lines) → ((side : Side) → EachKey (λ x. x ≡ k) (tool.key side) (f side))

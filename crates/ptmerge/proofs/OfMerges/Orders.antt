@@ -1,5 +1,5 @@
 -- What follows from the laws of an order of keys.
-use Rattle.std.proofs.Common.{◌≡◌, ◌⊎◌, ⊎_elim, inl, inr, ℕ, List, Bool, true, false, refl, sym, ◌∙◌, ap}
+use Rattle.std.proofs.Common.{◌≡◌, ◌⊎◌, ⊎_elim, inl, inr, ℕ, List, Bool, true, false, refl, sym, ◌∙◌, ap, arith}
 use Rattle.std.specs.Prelude.{bytes_eq}
 use Rattle.std.specs.Cmp.{IsTotalOrder}
 use Rattle.std.specs.declared.cmp.Ordering.{Ordering}
@@ -23,17 +23,13 @@ abbrev pub Above : Cmp → List ℕ → List ℕ → Type 0
 Above cmp k y = cmp y k ≡ Greater
 
 pub is_less : (r : Ordering) → is_lt r ≡ true → r ≡ Less
-is_less Less h = refl
-is_less Equal h = cc
-is_less Greater h = cc
+is_less r h = grind arith
 
 pub is_greater : (r : Ordering) → is_gt r ≡ true → r ≡ Greater
-is_greater Less h = cc
-is_greater Equal h = cc
-is_greater Greater h = refl
+is_greater r h = grind arith
 
 pub not_same : (a b : List ℕ) → (a ≡ b → ⊥) → bytes_eq a b ≡ false
-not_same a b n = elim (bytes_eq a b) as (λ t. (t ≡ true → a ≡ b) → t ≡ false) [ true ↦ λ f. absurd (n (f refl)) | false ↦ λ f. refl ] (bytes_decides a b).0
+not_same a b n = grind (arith, bytes_decides a b)
 
 module _ (cmp : Cmp) (o : IsKeyOrder cmp) where
   pub self_at_most : (a : List ℕ) → AtMost cmp a a
@@ -44,11 +40,7 @@ module _ (cmp : Cmp) (o : IsKeyOrder cmp) where
   not_equal a b n = not_same a b (λ e. (let bad : false ≡ true = sym n ∙ ap is_eq (ap (λ z. cmp a z) (sym e) ∙ tied_itself o.total a) in cc))
 
   pub equal_is : (a b : List ℕ) → is_eq (cmp a b) ≡ bytes_eq a b
-  equal_is a b = elim (cmp a b) as (λ r. cmp a b ≡ r → is_eq r ≡ bytes_eq a b) [
-    | Less ↦ λ e. sym (not_equal a b (ap is_eq e))
-    | Equal ↦ λ e. sym ((bytes_decides a b).1 (o.exact a b e))
-    | Greater ↦ λ e. sym (not_equal a b (ap is_eq e))
-  ] refl
+  equal_is a b = grind (arith, not_equal a b, o.exact a b, bytes_decides a b)
 
   pub at_most_trans : (a b c : List ℕ) → AtMost cmp a b → AtMost cmp b c → AtMost cmp a c
   at_most_trans a b c p q = upto o.total a b c p q
@@ -85,10 +77,10 @@ module _ (cmp : Cmp) (o : IsKeyOrder cmp) where
   above_up a b c g p = ⊎_elim (λ e. rw e.1 g) (λ h. less_flips a c (o.total.trans a b c (greater_flips b a g) (greater_flips c b h.1))) (least_or_above b c p)
 
   pub is_le_at_most : (a b : List ℕ) → is_le (cmp a b) ≡ true → AtMost cmp a b
-  is_le_at_most a b = elim (cmp a b) as (λ r. is_le r ≡ true → is_gt r ≡ false) [ Less ↦ λ h. refl | Equal ↦ λ h. refl | Greater ↦ λ h. cc ]
+  is_le_at_most a b h = grind arith
 
   pub at_most_is_le : (a b : List ℕ) → AtMost cmp a b → is_le (cmp a b) ≡ true
-  at_most_is_le a b = elim (cmp a b) as (λ r. is_gt r ≡ false → is_le r ≡ true) [ Less ↦ λ h. refl | Equal ↦ λ h. refl | Greater ↦ λ h. cc ]
+  at_most_is_le a b h = grind arith
 
   pub above_not_le : (a b : List ℕ) → cmp a b ≡ Greater → is_le (cmp a b) ≡ false
   above_not_le a b g = ap is_le g

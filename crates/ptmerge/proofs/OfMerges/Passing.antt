@@ -114,11 +114,7 @@ last_has key P last (y ∷ xs) x e f h = last_has key P (Some (key y)) xs x e (�
 
 module _ (cmp : Cmp) (o : IsKeyOrder cmp) where
   pub not_below : (k x : List ℕ) → AtMost cmp x k → is_lt (cmp k x) ≡ false
-  not_below k x h = elim (cmp k x) as (λ r. cmp k x ≡ r → is_lt r ≡ false) [
-    | Less ↦ λ e. (let bad : true ≡ false = sym (ap is_gt (less_flips cmp o k x e)) ∙ h in cc)
-    | Equal ↦ λ e. refl
-    | Greater ↦ λ e. refl
-  ] refl
+  not_below k x h = grind (arith, less_flips cmp o k x)
 
   -- what may come is not below a key that passed
   coming_under : (key : Key) (b : Bound) (x : List ℕ) (r : Lines) → Under cmp b x → Coming cmp key b r → EachKey (AtMost cmp x) key r
@@ -147,23 +143,14 @@ module _ (cmp : Cmp) (o : IsKeyOrder cmp) where
   down_le l a b g h = at_most_is_le cmp o a l (at_most_trans cmp o a b l (ap is_gt (greater_flips cmp o b a g)) (is_le_at_most cmp o b l h))
 
   down_lt : (l a b : List ℕ) → cmp b a ≡ Greater → is_lt (cmp b l) ≡ true → is_lt (cmp a l) ≡ true
-  down_lt l a b g h = elim (cmp b l) as (λ r. cmp b l ≡ r → is_lt r ≡ true → is_lt (cmp a l) ≡ true) [
-    | Less ↦ λ e t. ap is_lt (greater_flips cmp o l a (above_trans cmp o a b l (ap is_gt (greater_flips cmp o b a g)) (less_flips cmp o b l e)))
-    | Equal ↦ λ e t. cc
-    | Greater ↦ λ e t. cc
-  ] refl h
+  down_lt l a b g h = grind (arith, greater_flips, less_flips, above_trans)
 
   down_up_to : (d : Option Disorder) → IsDown cmp (up_to cmp d)
   down_up_to None a b g h = refl
   down_up_to (Some d) a b g h = down_le d.fall.last_key a b g h
 
   down_past : (key : Key) (ended : Bool) (ls : Lines) → IsDown cmp (is_past cmp key ended ls)
-  down_past key ended ls a b g h = by (ended || is_some (fall cmp key ls)) (last_or None (map key ls)) h
-    where
-      by : (t : Bool) (l : Option (List ℕ)) → cond t true (is_below cmp b l) ≡ true → cond t true (is_below cmp a l) ≡ true
-      by true l h = refl
-      by false None h = h
-      by false (Some l) h = down_lt l a b g h
+  down_past key ended ls a b g h = grind (arith, down_lt)
 
 all_three : (x y z u v w : Bool) → (x ≡ true → u ≡ true) → (y ≡ true → v ≡ true) → (z ≡ true → w ≡ true) → (x && y && z) ≡ true → (u && v && w) ≡ true
 all_three x y z u v w f g h e = grind arith

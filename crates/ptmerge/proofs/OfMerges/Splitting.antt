@@ -1,5 +1,5 @@
 -- What is written of the lines that are passed, and what is written of all that may come.
-use Rattle.std.proofs.Common.{◌≡◌, ℕ, List, [], ◌∷◌, ◌++◌, Bool, true, false, cond, Option, Some, None, refl, ap, sym, ◌∙◌, append_assoc}
+use Rattle.std.proofs.Common.{◌≡◌, ℕ, List, [], ◌∷◌, ◌++◌, Bool, true, false, cond, Option, Some, None, refl, ap, sym, ◌∙◌, append_assoc, arith}
 use Rattle.std.proofs.lemmas.List.{append-nil}
 use Rattle.std.proofs.lemmas.List.Concat.{flat_map-append}
 use Rattle.std.specs.Prelude.{filter, flat_map}
@@ -56,7 +56,7 @@ module _ (cmp : Cmp) (o : IsKeyOrder cmp) where
   down_first w down (k ∷ ks) a = by (w k) refl (down_first w down ks a.1)
     where
       not_above : w k ≡ false → (y : List ℕ) → cmp y k ≡ Greater → w y ≡ false
-      not_above h y g = elim (w y) as (λ b. (b ≡ true → w k ≡ true) → b ≡ false) [ true ↦ λ f. (let bad = sym h ∙ f refl in cc) | false ↦ λ f. refl ] (down k y g)
+      not_above h y g = grind (arith, down k y g)
 
       by : (b : Bool) → w k ≡ b → (rest : Lines) × (ks ≡ filter w ks ++ rest) → (rest : Lines) × (k ∷ ks ≡ cond b (k ∷ filter w ks) (filter w ks) ++ rest)
       by true h ih = (ih.0, ap (λ l. k ∷ l) ih.1)
@@ -71,11 +71,7 @@ module _ (cmp : Cmp) (o : IsKeyOrder cmp) where
   under_fall Over k f u h = rw h tt
 
   up_to_from : (k : List ℕ) (f1 f2 : Option Fall) → FallFrom cmp k f1 → FallFrom cmp k f2 → up_to cmp (disorder_of cmp f1 f2) k ≡ true
-  up_to_from k None None h1 h2 = refl
-  up_to_from k None (Some d) h1 h2 = at_most_is_le cmp o k d.last_key h2
-  up_to_from k (Some d) None h1 h2 = at_most_is_le cmp o k d.last_key h1
-  up_to_from k (Some d) (Some e) h1 h2 = elim (is_lt (cmp e.last_key d.last_key)) as (λ b. up_to cmp (cond b (Some (record { file = Second; fall = e })) (Some (record { file = First; fall = d }))) k ≡ true)
-      [ true ↦ at_most_is_le cmp o k e.last_key h2 | false ↦ at_most_is_le cmp o k d.last_key h1 ]
+  up_to_from k f1 f2 h1 h2 = grind (arith, at_most_is_le)
 
   pub passed_is_wanted : (b1 b2 : Bound) (f1 f2 : Option Fall) (k : List ℕ) → Falling cmp b1 f1 → Falling cmp b2 f2 → Under cmp b1 k → Under cmp b2 k → up_to cmp (disorder_of cmp f1 f2) k ≡ true
   passed_is_wanted b1 b2 f1 f2 k h1 h2 u1 u2 = up_to_from k f1 f2 (under_fall b1 k f1 u1 h1) (under_fall b2 k f2 u2 h2)

@@ -84,9 +84,7 @@ alive Ended = 0
 alive (Disorder n) = 0
 
 alive_most : (s : Stand) → alive s ≤ 1
-alive_most Head = omega arith
-alive_most Ended = omega arith
-alive_most (Disorder n) = omega arith
+alive_most s = grind arith
 
 -- an input at its next line, where all that came before are passed
 pub record Next (end : ℕ) (cmp : Cmp) (key : Key) (old new : Reader) (place : Sorted) (slot : ℕ) (before after : Slots) (ls : Lines) (last : Option (List ℕ)) : Type 0 where
@@ -210,9 +208,7 @@ comes_less key cmp place next now new before after head (inr e) = omega (arith, 
 
 -- a key that is no lesser one stands where it is the same
 stands_same : (n : ℕ) (r : Ordering) → is_eq r ≡ (is_head (cond (is_gt r) (Disorder n) Head) && is_eq r)
-stands_same n Less = refl
-stands_same n Equal = refl
-stands_same n Greater = refl
+stands_same n r = grind arith
 
 pub comes_repeats : (cmp : Cmp) (o : IsKeyOrder cmp) (key : Key) (place next : Sorted) (now new : Reader) (before after : Slots) → 0 < place.number
     → place.previous < length before.lines → Comes key cmp place next now new before after

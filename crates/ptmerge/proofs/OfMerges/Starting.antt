@@ -149,8 +149,7 @@ module _ (tool : Tool) (o : IsKeyOrder tool.cmp) (fits : KeepsTwo tool) (old : S
 
 -- the byte that ends a line
 pub ending_is : (zero : Bool) → cond zero 0 10 ≡ ending zero
-ending_is true = refl
-ending_is false = refl
+ending_is zero = grind arith
 
 -- the ending of two readers was set
 pub set_is : (first second set1 set2 : Reader) (zero : Bool) → set1 ≡ record first { ending = cond zero 0 10 } → set2

@@ -59,13 +59,12 @@ gone_standing end cmp key old now place store ls p b s = record {
   sound = s.sound;
   near = s.near;
   reaches = s.reaches;
-  over = over place.stand s.stands;
+  over = elim place.stand as (λ t. Stands cmp key t place store now ls p b → b ≡ Over → IsDone now) [
+    | Head ↦ λ st e. (let bad = sym st.2 ∙ e in cc)
+    | Ended ↦ λ st e. st.1
+    | Disorder n ↦ λ st e. (let bad = sym st ∙ e in cc)
+  ] s.stands;
 }
-  where
-    over : (t : Stand) → Stands cmp key t place store now ls p b → b ≡ Over → IsDone now
-    over Head st e = (let bad = sym st.2 ∙ e in cc)
-    over Ended st e = st.1
-    over (Disorder n) st e = (let bad = sym st ∙ e in cc)
 
 -- an input all whose lines are passed, and what came of one more
 pub gone_passed : (end : ℕ) (cmp : Cmp) (o : IsKeyOrder cmp) (key : Key) (old now new : Reader) (piece : List ℕ) (ls : Lines) (k : List ℕ) → Got end old now ls

@@ -36,8 +36,7 @@ use Rattle.ptmerge.proofs.OfMerges.Stopping.{FitsIn, Fails, Gone, state, stops}
 -- ---- slots
 
 pub own_slots : (s : Side) (a : Sorted) → HasSlots s a → (a.standing ≢ a.previous) × (a.previous ≤ slot_of s + 1) × (a.standing ≤ slot_of s + 1) × (slot_of s ≤ a.previous) × (slot_of s ≤ a.standing)
-own_slots s a (inl h) = omega arith
-own_slots s a (inr h) = omega arith
+own_slots s a h = omega arith
 
 pub slot_low : (s : Side) → slot_of s ≤ 2
 slot_low First = omega arith
@@ -187,8 +186,7 @@ Leaves cmp s d None = Unit {0}
 Leaves cmp s d (Some e) = Precedes cmp s d.last_key e.last_key
 
 named_is : (cmp : Cmp) (s : Side) (f : Side → Option Fall) (d : Fall) → f s ≡ Some d → Leaves cmp s d (f (other s)) → disorder_of cmp (f First) (f Second) ≡ Some (record { file = s; fall = d })
-named_is cmp First f d e = rw e (elim (f Second) as (λ g. Leaves cmp First d g → disorder_of cmp (Some d) g ≡ Some (record { file = First; fall = d })) [ None ↦ λ u. refl | Some h ↦ λ u. rw u ])
-named_is cmp Second f d e = rw e (elim (f First) as (λ g. Leaves cmp Second d g → disorder_of cmp g (Some d) ≡ Some (record { file = Second; fall = d })) [ None ↦ λ u. refl | Some h ↦ λ u. rw u ])
+named_is cmp s f d e u = grind arith
 
 module _ (cmp : Cmp) (o : IsKeyOrder cmp) where
   precedes_above : (s : Side) (l e : List ℕ) → Above cmp l e → Precedes cmp s l e

@@ -29,15 +29,6 @@ returns-then-job-clause-merged g c =
 pub returns-clause-merged : goal.returns-clause-merged
 returns-clause-merged g c = merge_set _ _ _ _ (set g (goal.at.returns-clause-merged g c).After-set_ending-2) _ _ (rw c.if-job.false c.comm_in_order-2.ensures.merged)
 
-pub returns-then-job-clause-halted : goal.returns-then-job-clause-halted
-returns-then-job-clause-halted g c = λ fault. absurd (false≢true (sym c.if-has_failed.false ∙ c.has_failed.ensures ∙ fault))
-
-pub returns-clause-halted : goal.returns-clause-halted
-returns-clause-halted g c = λ fault. absurd (false≢true (sym c.if-has_failed.false ∙ c.has_failed.ensures ∙ fault))
-
-pub returns-then-has_failed-clause-refused : goal.returns-then-has_failed-clause-refused
-returns-then-has_failed-clause-refused g c = λ fine few. absurd (false≢true (sym fine ∙ sym c.has_failed.ensures ∙ c.if-has_failed.true))
-
 pub returns-then-job-clause-refused : goal.returns-then-job-clause-refused
 returns-then-job-clause-refused g c = λ fine few. unread_set (seen c.args.first.now c.args.second.now c.args.out.now c.args.store.now) _ _ _ (set g (goal.at.returns-then-job-clause-refused g c).After-set_ending-2) (c.comm_in_order.ensures.refused few)
 
