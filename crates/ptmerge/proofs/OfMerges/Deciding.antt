@@ -27,9 +27,7 @@ kept_none w key (x ∷ ls) e = rw e.0 (kept_none w key ls e.1)
 kept_same : (w : List ℕ → Bool) (key : Key) (xs ys rest tail : Lines) → xs ++ rest ≡ ys ++ tail → EachKey (λ k. w k ≡ false) key rest
     → EachKey (λ k. w k ≡ false) key tail → filter (λ line. w (key line)) xs ≡ filter (λ line. w (key line)) ys
 kept_same w key xs ys rest tail same none1 none2 =
-    let f : List ℕ → Bool = λ line. w (key line) in
-    sym (append-nil (filter f xs)) ∙ ap (λ (l : Lines). filter f xs ++ l) (sym (kept_none w key rest none1)) ∙ sym (filter-append f xs rest) ∙ ap (filter f) same
-    ∙ filter-append f ys tail ∙ ap (λ (l : Lines). filter f ys ++ l) (kept_none w key tail none2) ∙ append-nil (filter f ys)
+    simp (filter-append, kept_none w key rest none1, kept_none w key tail none2, append-nil) at (ap (filter (λ line. w (key line))) same)
 
 -- these lines are those, but for lines whose keys are not below this one
 pub record Differ (tool : Tool) (last : Option (List ℕ)) (key : Key) (xs ys : Lines) : Type 0 where

@@ -34,6 +34,10 @@ pub EachKey-weaker : (P Q : List ℕ → Type 0) → ((x : List ℕ) → P x →
 EachKey-weaker P Q f key [] e = tt
 EachKey-weaker P Q f key (x ∷ xs) e = (f (key x) e.0, EachKey-weaker P Q f key xs e.1)
 
+pub EachKey-all : (P : List ℕ → Type 0) (key : Key) → ((x : List ℕ) → P x) → (xs : Lines) → EachKey P key xs
+EachKey-all P key f [] = tt
+EachKey-all P key f (x ∷ xs) = (f (key x), EachKey-all P key f xs)
+
 pub EachKey-push : (P : List ℕ → Type 0) (key : Key) (xs : Lines) (x : List ℕ) → EachKey P key xs → P (key x) → EachKey P key (xs ++ x ∷ [])
 EachKey-push P key [] x e h = (h, tt)
 EachKey-push P key (y ∷ xs) x e h = (e.0, EachKey-push P key xs x e.1 h)

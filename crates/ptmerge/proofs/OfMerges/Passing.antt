@@ -16,7 +16,7 @@ use Rattle.ptmerge.specs.Merges.{Names}
 use Rattle.ptmerge.specs.Orders.{Cmp, Key}
 use Rattle.ptmerge.specs.Sides.{put}
 use Rattle.ptmerge.proofs.OfMerges.Bounds.{Bound, Free, From, Fallen, Over, Coming, Falling, Follows, Under, coming_none}
-use Rattle.ptmerge.proofs.OfMerges.Least.{EachKey, EachKey-append, EachKey-weaker}
+use Rattle.ptmerge.proofs.OfMerges.Least.{EachKey, EachKey-all, EachKey-append, EachKey-weaker}
 use Rattle.ptmerge.proofs.OfMerges.Orders.{IsKeyOrder, AtMost, at_most_trans, at_most_is_le, above_trans, greater_flips, is_le_at_most, less_flips}
 use Rattle.ptmerge.proofs.OfMerges.Pairs.{put_each}
 use Rattle.ptmerge.proofs.OfMerges.Splitting.{Splits, splits_none, splits_later, splits_step, all_keys, IsDown, all_wanted, passed_is_wanted}
@@ -126,17 +126,13 @@ module _ (cmp : Cmp) (o : IsKeyOrder cmp) where
   -- nothing that may come of one input is below the last key that passed of another
   pub past_none : (key other_key : Key) (b : Bound) (p r : Lines) → EachKey (Under cmp b) key p → Coming cmp other_key b r
       → EachKey (λ k. is_below cmp k (last_or None (map key p)) ≡ false) other_key r
-  past_none key other_key b p r u c = by (last_or None (map key p)) refl
-    where
-      none : (xs : Lines) → EachKey (λ k. false ≡ false) other_key xs
-      none [] = tt
-      none (x ∷ xs) = (refl, none xs)
-
-      by : (l : Option (List ℕ)) → last_or None (map key p) ≡ l → EachKey (λ k. is_below cmp k l ≡ false) other_key r
-      by None e = none r
-      by (Some x) e =
-          let ux = last_has key (Under cmp b) None p x e (λ y bad. cc) u in
-          EachKey-weaker (AtMost cmp x) (λ k. is_lt (cmp k x) ≡ false) (λ k h. not_below k x h) other_key r (coming_under other_key b x r ux c)
+  past_none key other_key b p r u c = elim (last_or None (map key p)) as (λ l. last_or None (map key p) ≡ l → EachKey (λ k. is_below cmp k l ≡ false) other_key r) [
+    | None ↦ λ e. EachKey-all (λ k. false ≡ false) other_key (λ k. refl) r
+    | Some x ↦ λ e. (
+      let ux = last_has key (Under cmp b) None p x e (λ y bad. cc) u in
+      EachKey-weaker (AtMost cmp x) (λ k. is_lt (cmp k x) ≡ false) (λ k h. not_below k x h) other_key r (coming_under other_key b x r ux c)
+    )
+  ] refl
 
   -- the tests hold of each key below one of which they hold
   down_le : (l a b : List ℕ) → cmp b a ≡ Greater → is_le (cmp b l) ≡ true → is_le (cmp a l) ≡ true
