@@ -53,13 +53,13 @@ rises_in_order cmp key ls r = (ordered_is cmp key ls ∙ ordered_whole cmp key N
 module _ (cmp : Cmp) (o : IsKeyOrder cmp) (key : Key) where
   from_key : (k : List ℕ) (ls : Lines) → Rises cmp key (Some k) ls → EachKey (AtMost cmp k) key ls
   from_key k [] r = tt
-  from_key k (x ∷ ls) r = (r.0, EachKey-weaker (AtMost cmp (key x)) (AtMost cmp k) (λ y h. at_most_trans cmp o k (key x) y r.0 h) key ls (from_key (key x) ls r.1))
+  from_key k (x ∷ ls) r = (r.0, EachKey-weaker _ _ (λ y h. at_most_trans cmp o k (key x) y r.0 h) _ _ (from_key (key x) ls r.1))
 
   -- no later key is below the last one
   pub none_below : (xs ys : Lines) → Rises cmp key None (xs ++ ys) → EachKey (λ k. is_below cmp k (last_or None (map key xs)) ≡ false) key ys
   none_below xs ys r = elim (last_or None (map key xs)) as (λ l. Rises cmp key l ys → EachKey (λ k. is_below cmp k l ≡ false) key ys) [
     | None ↦ λ h. EachKey-all (λ k. false ≡ false) key (λ k. refl) ys
-    | Some x ↦ λ h. EachKey-weaker (AtMost cmp x) (λ k. is_below cmp k (Some x) ≡ false) (λ k a. not_below cmp o k x a) key ys (from_key x ys h)
+    | Some x ↦ λ h. EachKey-weaker _ _ (λ k a. not_below cmp o k x a) _ _ (from_key x ys h)
   ] (rises_rest cmp key None xs ys r)
 
 -- ---- what came

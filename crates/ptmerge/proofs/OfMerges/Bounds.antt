@@ -53,11 +53,11 @@ pub record Begun (cmp : Cmp) (key : Key) (q : Lines) (last : Option (List ℕ)) 
   pub ordered : (w : Lines) → ordered_part cmp key (q ++ w) ≡ q ++ ordered_after cmp key last w
   pub falling : (w : Lines) → fall cmp key (q ++ w) ≡ fall_after cmp key last (length q) w
 
-pub begun_none : (cmp : Cmp) (key : Key) → Begun cmp key [] None
-begun_none cmp key = record { ordered = ordered_is cmp key; falling = fall_is cmp key }
+pub begun_none : {cmp : Cmp} {key : Key} → Begun cmp key [] None
+begun_none {cmp} {key} = record { ordered = ordered_is cmp key; falling = fall_is cmp key }
 
-pub begun_more : (cmp : Cmp) (key : Key) (q : Lines) (last : Option (List ℕ)) (x : List ℕ) → Begun cmp key q last → falls cmp last (key x) ≡ false → Begun cmp key (q ++ x ∷ []) (Some (key x))
-begun_more cmp key q last x b rises = record {
+pub begun_more : {cmp : Cmp} {key : Key} {q : Lines} {last : Option (List ℕ)} (x : List ℕ) → Begun cmp key q last → falls cmp last (key x) ≡ false → Begun cmp key (q ++ x ∷ []) (Some (key x))
+begun_more {cmp} {key} {q} x b rises = record {
   ordered = λ w. rw (append_assoc q (x ∷ []) w, b.ordered (x ∷ w), rises, append_assoc q (x ∷ []) (ordered_after cmp key (Some (key x)) w));
   falling = λ w. rw (append_assoc q (x ∷ []) w, b.falling (x ∷ w), rises, length_push q x);
 }
@@ -80,7 +80,7 @@ after_from cmp o key k n (x ∷ w) = by (is_gt (cmp k (key x))) refl (after_from
         → EachKey (AtMost cmp k) key (cond b [] (x ∷ ordered_after cmp key (Some (key x)) w)) × FallFrom cmp k (cond b (Some (fall_at (Some k) n)) (fall_after cmp key (Some (key x)) (n + 1) w))
     by true h ih = (tt, self_at_most cmp o k)
     by false h ih = (
-      (h, EachKey-weaker (AtMost cmp (key x)) (AtMost cmp k) (λ y a. at_most_trans cmp o k (key x) y h a) key (ordered_after cmp key (Some (key x)) w) ih.0),
+      (h, EachKey-weaker _ _ (λ y a. at_most_trans cmp o k (key x) y h a) _ _ ih.0),
       up h (fall_after cmp key (Some (key x)) (n + 1) w) ih.1,
     )
 
@@ -129,22 +129,22 @@ coming_none cmp key Over = refl
 pub record Reaches (cmp : Cmp) (key : Key) (ls p : Lines) (b : Bound) : Type 0 where
   pub future : (w : Lines) → Follows b w → (r : Lines) × (ordered_part cmp key (ls ++ w) ≡ p ++ r) × Coming cmp key b r × Falling cmp b (fall cmp key (ls ++ w))
 
-pub reaches_free : (cmp : Cmp) (key : Key) → Reaches cmp key [] [] Free
-reaches_free cmp key = record { future = λ w _. (ordered_part cmp key w, refl, tt, tt) }
+pub reaches_free : {cmp : Cmp} {key : Key} → Reaches cmp key [] [] Free
+reaches_free {cmp} {key} = record { future = λ w _. (ordered_part cmp key w, refl, tt, tt) }
 
 -- all lines that came are passed
-pub reaches_passed : (cmp : Cmp) (o : IsKeyOrder cmp) (key : Key) (ls : Lines) (k : List ℕ) → Begun cmp key ls (Some k) → Reaches cmp key ls ls (From k)
-reaches_passed cmp o key ls k g = record {
+pub reaches_passed : {cmp : Cmp} (o : IsKeyOrder cmp) {key : Key} {ls : Lines} {k : List ℕ} → Begun cmp key ls (Some k) → Reaches cmp key ls ls (From k)
+reaches_passed {cmp} o {key} {ls} {k} g = record {
   future = λ w _.
       let a = after_from cmp o key k (length ls) w in (ordered_after cmp key (Some k) w, g.ordered w, a.0, rw (g.falling w) a.1);
 }
 
-pub reaches_over : (cmp : Cmp) (key : Key) (ls : Lines) (last : Option (List ℕ)) → Begun cmp key ls last → Reaches cmp key ls ls Over
-reaches_over cmp key ls last g = record { future = λ w none. rw none ([], g.ordered [], refl, g.falling []) }
+pub reaches_over : {cmp : Cmp} {key : Key} {ls : Lines} {last : Option (List ℕ)} → Begun cmp key ls last → Reaches cmp key ls ls Over
+reaches_over g = record { future = λ w none. rw none ([], g.ordered [], refl, g.falling []) }
 
 -- a line stands
-pub reaches_head : (cmp : Cmp) (o : IsKeyOrder cmp) (key : Key) (p : Lines) (x : List ℕ) → Begun cmp key (p ++ x ∷ []) (Some (key x)) → Reaches cmp key (p ++ x ∷ []) p (From (key x))
-reaches_head cmp o key p x g = record {
+pub reaches_head : {cmp : Cmp} (o : IsKeyOrder cmp) {key : Key} {p : Lines} {x : List ℕ} → Begun cmp key (p ++ x ∷ []) (Some (key x)) → Reaches cmp key (p ++ x ∷ []) p (From (key x))
+reaches_head {cmp} o {key} {p} {x} g = record {
   future = λ w _.
       let a = after_from cmp o key (key x) (length (p ++ x ∷ [])) w in (
         x ∷ ordered_after cmp key (Some (key x)) w,
@@ -155,8 +155,8 @@ reaches_head cmp o key p x g = record {
 }
 
 -- a line that falls
-pub reaches_fallen : (cmp : Cmp) (key : Key) (p : Lines) (k x : List ℕ) → Begun cmp key p (Some k) → is_gt (cmp k (key x)) ≡ true
+pub reaches_fallen : {cmp : Cmp} {key : Key} {p : Lines} {k : List ℕ} (x : List ℕ) → Begun cmp key p (Some k) → is_gt (cmp k (key x)) ≡ true
     → Reaches cmp key (p ++ x ∷ []) p (Fallen (record { last_key = k; line = length p + 1 }))
-reaches_fallen cmp key p k x g falls = record {
-  future = λ w _. ([], rw (append_assoc p (x ∷ []) w, g.ordered (x ∷ w), falls), refl, rw (append_assoc p (x ∷ []) w, g.falling (x ∷ w), falls));
+reaches_fallen {p = p} x g fell = record {
+  future = λ w _. ([], rw (append_assoc p (x ∷ []) w, g.ordered (x ∷ w), fell), refl, rw (append_assoc p (x ∷ []) w, g.falling (x ∷ w), fell));
 }

@@ -53,8 +53,7 @@ decided_of_passed tool o ended ls p of going rises differ =
 
     unwanted : (side : Side) (xs : Lines) → EachKey (λ k. is_below tool.cmp k (last_or None (map (tool.key of) (ls of))) ≡ false) (tool.key side) xs
         → EachKey (λ k. is_decided tool ended ls k ≡ false) (tool.key side) xs
-    unwanted side xs e = EachKey-weaker (λ k. is_below tool.cmp k (last_or None (map (tool.key of) (ls of))) ≡ false) (λ k. is_decided tool ended ls k ≡ false)
-        (λ k h. not_decided tool o ended ls of k (past k ∙ h)) (tool.key side) xs e
+    unwanted side xs e = EachKey-weaker _ _ (λ k h. not_decided tool o ended ls of k (past k ∙ h)) _ _ e
 
     kept : (side : Side) → filter (λ line. is_decided tool ended ls (tool.key side line)) (ordered_part tool.cmp (tool.key side) (ls side))
         ≡ filter (λ line. is_decided tool ended ls (tool.key side line)) (p side)

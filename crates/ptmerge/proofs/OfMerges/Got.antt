@@ -27,8 +27,8 @@ pub record Got (end : ℕ) (old now : Reader) (ls : List (List ℕ)) : Type 0 wh
 pub reads_nothing : (r : Reader) → Reads r r []
 reads_nothing r = record { moved = sym (prepend_known-nil (unread r)); count = omega arith; refused = refl; ending = refl; still = λ ended. (refl, ended); end = λ h. h }
 
-pub got_none : (end : ℕ) (old : Reader) → old.fault ≡ None → old.ending ≡ end → Got end old old []
-got_none end old clean ending = record {
+pub got_none : {end : ℕ} {old : Reader} → old.fault ≡ None → old.ending ≡ end → Got end old old []
+got_none {old = old} clean ending = record {
   given = [];
   so_far = inl (refl, tt);
   goes = record { reads = reads_nothing old; fault = clean; failed = refl; short = λ h. h };
@@ -36,15 +36,15 @@ got_none end old clean ending = record {
 }
 
 -- where nothing can come any more, nothing came
-pub done_gives_nothing : (now new : Reader) (bytes : List ℕ) → IsDone now → Reads now new bytes → (bytes ≡ []) × (new.held ≡ []) × (new.ended ≡ true)
-done_gives_nothing now new bytes done reads =
+pub done_gives_nothing : {now new : Reader} {bytes : List ℕ} → IsDone now → Reads now new bytes → (bytes ≡ []) × (new.held ≡ []) × (new.ended ≡ true)
+done_gives_nothing {now} {new} {bytes} done reads =
     let still = reads.still done.ended in
     let none : length bytes + length new.held ≡ 0 = omega (arith, reads.count, still.0, ap length done.held) in
     (nil_from_length bytes (omega (arith, none)), nil_from_length new.held (omega (arith, none)), still.1)
 
-pub got_more : (end : ℕ) (old now new : Reader) (ls : List (List ℕ)) (before after : Slots) (slot : ℕ) → Got end old now ls
+pub got_more : {end : ℕ} {old now new : Reader} {ls : List (List ℕ)} {before after : Slots} {slot : ℕ} → Got end old now ls
     → (e : GivesLine now new before after slot) → Got end old new (ls ++ e.line ∷ [])
-got_more end old now new ls before after slot c e = record {
+got_more {end} {old} {now} {new} {ls} c e = record {
   given = c.given ++ (e.line ++ e.ending);
   so_far = ⊎_elim opened closed c.so_far;
   goes = goes_trans old now new c.given (e.line ++ e.ending) c.goes e.goes;
@@ -64,10 +64,10 @@ got_more end old now new ls before after slot c e = record {
     some_came = grind (arith, length-append e.line e.ending)
 
     closed : (lines end c.given ≡ ls) × IsDone now → Far end (c.given ++ (e.line ++ e.ending)) (ls ++ e.line ∷ []) new
-    closed k = let none = (done_gives_nothing now new (e.line ++ e.ending) k.1 e.goes.reads).0 in absurd (omega (arith, some_came, ap length none))
+    closed k = let none = (done_gives_nothing k.1 e.goes.reads).0 in absurd (omega (arith, some_came, ap length none))
 
-pub got_end : (end : ℕ) (old now new : Reader) (ls : List (List ℕ)) → Got end old now ls → Goes now new [] → IsDone new → Got end old new ls
-got_end end old now new ls c g done = record {
+pub got_end : {end : ℕ} {old now new : Reader} {ls : List (List ℕ)} → Got end old now ls → Goes now new [] → IsDone new → Got end old new ls
+got_end {end} {old} {now} {new} c g done = record {
   given = c.given ++ [];
   so_far = ⊎_elim (λ o. inl (rw (append-nil c.given) o.0, o.1)) (λ k. inr (rw (append-nil c.given) k.0, done)) c.so_far;
   goes = goes_trans old now new c.given [] c.goes g;
@@ -97,7 +97,7 @@ module _ (end : ℕ) (old now new : Reader) (ls : List (List ℕ)) (piece : List
 
   module _ (k : (lines end c.given ≡ ls) × IsDone now) where
     nothing : (piece ≡ []) × (new.held ≡ []) × (new.ended ≡ true)
-    nothing = done_gives_nothing now new piece k.1 reads
+    nothing = done_gives_nothing k.1 reads
 
     closed_is : (rest : List ℕ) → rest ≡ [] → lines end (((c.given ++ piece) ++ new.held) ++ rest) ≡ ls
     closed_is rest none = rw (nothing.0, nothing.1, none) (simp append-nil k.0)
@@ -110,7 +110,7 @@ module _ (end : ℕ) (old now new : Reader) (ls : List (List ℕ)) (piece : List
       opened o =
           let more = lines end (piece ++ (new.held ++ a.rest)) in
           let all : lines end input ≡ ls ++ more = rw a.is (opened_is o a.rest) in (
-            record { more = more; is = all; done = λ d. (let none = done_gives_nothing now new piece d reads in rw (none.0, none.1, a.whole none.2)) },
+            record { more = more; is = all; done = λ d. (let none = done_gives_nothing d reads in rw (none.0, none.1, a.whole none.2)) },
             omega (arith, ap longest all, longest-append ls more, piece_longest end piece (new.held ++ a.rest) free),
           )
 
@@ -140,6 +140,6 @@ module _ (end : ℕ) (old now new : Reader) (ls : List (List ℕ)) (piece : List
               let is : whole_lines end (given_of (c.given ++ piece) new) ≡ ls ++ ended_lines end (piece ++ (new.held ++ [])) =
               rw e (ap (ended_lines end) (sym (append-nil ((c.given ++ piece) ++ new.held)) ∙ front_of o []) ∙ ended_more end ls (piece ++ (new.held ++ [])) o.1) in
               record {
-                known = record { more = ended_lines end (piece ++ (new.held ++ [])); is = is; done = λ d. absurd (false≢true (sym e ∙ (done_gives_nothing now new piece d reads).2)) };
+                known = record { more = ended_lines end (piece ++ (new.held ++ [])); is = is; done = λ d. absurd (false≢true (sym e ∙ (done_gives_nothing d reads).2)) };
                 exact = λ empty _. is ∙ (rw (empty, append-nil piece, ended_none end piece free) (append-nil ls));
               }

@@ -94,7 +94,7 @@ module _ (cmp : Cmp) (o : IsKeyOrder cmp) where
   distinct_least k (y ∷ ks) e = by (least_or_above cmp o k y e.0) (distinct_least k ks e.1)
     where
       above : Each (Above cmp k) (distinct cmp (others k ks))
-      above = Each-distinct cmp (Above cmp k) (others k ks) (others_above k ks e.1)
+      above = Each-distinct _ _ _ (others_above k ks e.1)
 
       by : ((bytes_eq y k ≡ true) × (y ≡ k)) ⊎ ((bytes_eq y k ≡ false) × (cmp y k ≡ Greater))
           → (distinct cmp ks ≡ k ∷ distinct cmp (others k ks)) ⊎ ((distinct cmp ks ≡ distinct cmp (others k ks)) × Each (λ z. bytes_eq z k ≡ false) ks)
@@ -144,13 +144,13 @@ module _ (tool : Tool) (o : IsKeyOrder tool.cmp) where
   least_first w k ls e none = by (distinct_least tool.cmp o k (keys tool ls) all)
     where
       all : Each (AtMost tool.cmp k) (keys tool ls)
-      all = Each-keys (AtMost tool.cmp k) (tool.key First) (tool.key Second) (ls First) (ls Second) (e First) (e Second)
+      all = Each-keys _ _ _ _ _ (e First) (e Second)
 
       ds : Lines
       ds = distinct tool.cmp (others k (keys tool ls))
 
       rest : over w ls ds ≡ by_keys tool w (others_of k ls)
-      rest = over_others w k ls ds (Each-distinct tool.cmp (Above tool.cmp k) (others k (keys tool ls)) (others_above tool.cmp o k (keys tool ls) all))
+      rest = over_others w k ls _ (Each-distinct _ _ _ (others_above tool.cmp o k (keys tool ls) all))
           ∙ ap (λ l. over w (others_of k ls) (distinct tool.cmp l)) (others-keys (tool.key First) (tool.key Second) k (ls First) (ls Second))
 
       front : (t : Bool) → flat_map (entries_of tool ls) (cond t (k ∷ filter w ds) (filter w ds)) ≡ cond t (entries_of tool ls k) [] ++ over w ls ds
@@ -205,4 +205,4 @@ module _ (tool : Tool) (o : IsKeyOrder tool.cmp) where
 
   -- no line above the key has it
   pub with_key-above : (key : Key) (k : List ℕ) (r : Lines) → EachKey (Above tool.cmp k) key r → with_key key r k ≡ []
-  with_key-above key k r a = with_key-none key k r (EachKey-weaker (Above tool.cmp k) (λ y. bytes_eq y k ≡ false) (λ y g. above_not_same tool.cmp o k y g) key r a)
+  with_key-above key k r a = with_key-none key k r (EachKey-weaker _ _ (λ y g. above_not_same tool.cmp o k y g) _ _ a)

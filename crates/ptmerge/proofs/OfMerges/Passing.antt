@@ -72,21 +72,21 @@ passes tool b p f was is new clean m coming front under wrote =
     let both_texts = ap (text tool.end) (m.splits.split all_keys f none) ∙ text-append tool.end (by_keys tool all_keys p) (by_keys tool all_keys f) in (
       record {
         splits = splits_step tool b b p f m.splits coming front;
-        under = λ of side. EachKey-append (Under tool.cmp (b of)) (tool.key side) (p side) (f side) (m.under of side) (under of side);
+        under = λ of side. EachKey-append (Under tool.cmp (b of)) (tool.key side) _ _ (m.under of side) (under of side);
         wrote = rw both_texts (wrote_trans was is new (text tool.end (by_keys tool all_keys p)) (text tool.end (by_keys tool all_keys f)) clean m.wrote wrote);
       },
       record { mid = is; front = p; tail = f; clean = clean; wrote = m.wrote; bytes = text tool.end (by_keys tool all_keys f); more = wrote; all = sym both_texts; split = λ side. refl; coming = coming },
     )
 
 -- an input has gone to its next line
-pub settles : (tool : Tool) (b : Side → Bound) (p : Side → Lines) (was is : Output) (s : Side) (d : Bound) → Merging tool b p was is
+pub settles : {tool : Tool} {b : Side → Bound} {p : Side → Lines} {was is : Output} (s : Side) (d : Bound) → Merging tool b p was is
     → ((r : Lines) → Coming tool.cmp (tool.key s) d r → Coming tool.cmp (tool.key s) (b s) r) → ((k : List ℕ) → Under tool.cmp (b s) k → Under tool.cmp d k)
     → Merging tool (put s d b) p was is
-settles tool b p was is s d m coming under = record {
+settles {tool} {b} {p} s d m coming under = record {
   splits = splits_later tool b (put s d b) p m.splits (put_each (λ side e. (r : Lines) → Coming tool.cmp (tool.key side) e r
       → Coming tool.cmp (tool.key side) (b side) r) s d b coming (λ side r c. c));
   under = λ of side. put_each (λ t e. EachKey (Under tool.cmp e) (tool.key side) (p side)) s d b
-      (EachKey-weaker (Under tool.cmp (b s)) (Under tool.cmp d) under (tool.key side) (p side) (m.under s side)) (λ t. m.under t side) of;
+      (EachKey-weaker _ _ under _ _ (m.under s side)) (λ t. m.under t side) of;
   wrote = m.wrote;
 }
 
@@ -119,7 +119,7 @@ module _ (cmp : Cmp) (o : IsKeyOrder cmp) where
   -- what may come is not below a key that passed
   coming_under : (key : Key) (b : Bound) (x : List ℕ) (r : Lines) → Under cmp b x → Coming cmp key b r → EachKey (AtMost cmp x) key r
   coming_under key Free x r u c = absurd u
-  coming_under key (From l) x r u c = EachKey-weaker (AtMost cmp l) (AtMost cmp x) (λ k h. at_most_trans cmp o x l k u h) key r c
+  coming_under key (From l) x r u c = EachKey-weaker _ _ (λ k h. at_most_trans cmp o x l k u h) _ _ c
   coming_under key (Fallen d) x r u c = rw c tt
   coming_under key Over x r u c = rw c tt
 
@@ -130,7 +130,7 @@ module _ (cmp : Cmp) (o : IsKeyOrder cmp) where
     | None ↦ λ e. EachKey-all (λ k. false ≡ false) other_key (λ k. refl) r
     | Some x ↦ λ e. (
       let ux = last_has key (Under cmp b) None p x e (λ y bad. cc) u in
-      EachKey-weaker (AtMost cmp x) (λ k. is_lt (cmp k x) ≡ false) (λ k h. not_below k x h) other_key r (coming_under other_key b x r ux c)
+      EachKey-weaker _ _ (λ k h. not_below k x h) _ _ (coming_under other_key b x r ux c)
     )
   ] refl
 

@@ -41,7 +41,7 @@ module _ (cmp : Cmp) (o : IsKeyOrder cmp) where
   ascends_insert : (k : List ℕ) (ks : Lines) → Ascends cmp ks → Ascends cmp (insert_key cmp k ks)
   ascends_insert k [] a = (tt, tt)
   ascends_insert k (x ∷ ks) a = elim (cmp k x) as (λ r. cmp k x ≡ r → Ascends cmp (match_ordering r (k ∷ x ∷ ks) (x ∷ ks) (x ∷ insert_key cmp k ks))) [
-    | Less ↦ λ e. ((less_flips cmp o k x e, Each-weaker (Above cmp x) (Above cmp k) (λ y h. above_trans cmp o k x y (ap is_gt e) h) ks a.0), a)
+    | Less ↦ λ e. ((less_flips cmp o k x e, Each-weaker _ _ (λ y h. above_trans cmp o k x y (ap is_gt e) h) _ a.0), a)
     | Equal ↦ λ e. a
     | Greater ↦ λ e. (Each-insert cmp (Above cmp x) k ks e a.0, ascends_insert k ks a.1)
   ] refl
@@ -60,7 +60,7 @@ module _ (cmp : Cmp) (o : IsKeyOrder cmp) where
 
       by : (b : Bool) → w k ≡ b → (rest : Lines) × (ks ≡ filter w ks ++ rest) → (rest : Lines) × (k ∷ ks ≡ cond b (k ∷ filter w ks) (filter w ks) ++ rest)
       by true h ih = (ih.0, ap (λ l. k ∷ l) ih.1)
-      by false h ih = (k ∷ ks, rw (filter_none w ks (Each-weaker (Above cmp k) (λ y. w y ≡ false) (not_above h) ks a.0)) refl)
+      by false h ih = (k ∷ ks, rw (filter_none w ks (Each-weaker _ _ (not_above h) _ a.0)) refl)
 
   -- what the lists fall behind is at least k
   pub under_fall : (b : Bound) (k : List ℕ) (f : Option Fall) → Under cmp b k → Falling cmp b f → FallFrom cmp k f
@@ -80,13 +80,12 @@ module _ (tool : Tool) where
   pub all_wanted : (w : List ℕ → Bool) (p : Side → Lines) → ((side : Side) → EachKey (λ k. w k ≡ true) (tool.key side) (p side)) → by_keys tool w p ≡ by_keys tool all_keys p
   all_wanted w p e =
       let ks = distinct tool.cmp (keys tool p) in
-      let pass = filter_all w ks (Each-distinct tool.cmp (λ k. w k ≡ true) (keys tool p) (Each-keys (λ k. w k ≡ true) (tool.key First) (tool.key Second) (p First) (p Second) (e First) (e Second))) in
+      let pass = filter_all w ks (Each-distinct _ _ _ (Each-keys _ _ _ _ _ (e First) (e Second))) in
       ap (flat_map (entries_of tool p)) (pass ∙ sym (filter_all all_keys ks (each_true ks)))
 
   pub none_wanted : (w : List ℕ → Bool) (r : Side → Lines) → ((side : Side) → EachKey (λ k. w k ≡ false) (tool.key side) (r side)) → by_keys tool w r ≡ []
   none_wanted w r e =
-      ap (flat_map (entries_of tool r)) (filter_none w (distinct tool.cmp (keys tool r))
-      (Each-distinct tool.cmp (λ k. w k ≡ false) (keys tool r) (Each-keys (λ k. w k ≡ false) (tool.key First) (tool.key Second) (r First) (r Second) (e First) (e Second))))
+      ap (flat_map (entries_of tool r)) (filter_none w (distinct tool.cmp (keys tool r)) (Each-distinct _ _ _ (Each-keys _ _ _ _ _ (e First) (e Second))))
 
   -- the entries of the keys below one are the first
   pub down_begins : IsKeyOrder tool.cmp → (w : List ℕ → Bool) → IsDown tool.cmp w → (p : Side → Lines) → (rest : Lines) × (by_keys tool all_keys p ≡ by_keys tool w p ++ rest)

@@ -114,7 +114,7 @@ from_next : {cmp : Cmp} (o : IsKeyOrder cmp) (key : Key) (last : Option (List �
     → ((r : Lines) → EachKey (AtMost cmp (key x)) key r → Coming cmp key (behind last) r) × ((k : List ℕ) → Under cmp (behind last) k → AtMost cmp k (key x))
 from_next o key None x h = (λ r c. tt, λ k u. absurd u)
 from_next {cmp} o key (Some j) x h =
-    (λ r c. EachKey-weaker (AtMost cmp (key x)) (AtMost cmp j) (λ y a. at_most_trans cmp o j (key x) y h a) key r c, λ k u. at_most_trans cmp o k j (key x) u h)
+    (λ r c. EachKey-weaker _ _ (λ y a. at_most_trans cmp o j (key x) y h a) _ _ c, λ k u. at_most_trans cmp o k j (key x) u h)
 
 module _ (end : ℕ) (cmp : Cmp) (o : IsKeyOrder cmp) (key : Key) (old now new : Reader) (place next : Sorted) (before after : Slots) (ls : Lines) where
   abbrev turned : Stand → ℕ → Bool → Sorted
@@ -132,7 +132,7 @@ module _ (end : ℕ) (cmp : Cmp) (o : IsKeyOrder cmp) (key : Key) (old now new :
       now_ls = ls ++ e.line ∷ [];
       bound = b;
       sided = record {
-        got = got_more end old now new ls before after place.previous got e;
+        got = got_more got e;
         sound = sound;
         near = inr (e.line, refl, refl);
         number = omega (arith, number, length_push ls e.line);
@@ -152,9 +152,9 @@ module _ (end : ℕ) (cmp : Cmp) (o : IsKeyOrder cmp) (key : Key) (old now new :
     at_head : (last : Option (List ℕ)) → place.previous < length before.lines → Begun cmp key ls last → falls cmp last (key e.line) ≡ false → Goal last (turned Head (place.number + 1) same)
     at_head last within begun rises =
         let now_is : line after place.previous ≡ e.line = rw e.stored (line_of before place.previous e.line within) in
-        let more = begun_more cmp key ls last e.line begun rises in
+        let more = begun_more e.line begun rises in
         let f = from_next o key last e.line rises in
-        at_line last Head (From (key e.line)) (reaches_head cmp o key ls e.line more) (rw now_is (refl, more, refl)) f.0 f.1
+        at_line last Head (From (key e.line)) (reaches_head o more) (rw now_is (refl, more, refl)) f.0 f.1
 
     at_fall : (last : Option (List ℕ)) → place.standing ≢ place.previous → Begun cmp key ls last → LastIs key last place before → falls cmp last (key e.line) ≡ true
         → Goal last (turned (Disorder (place.number + 1)) (place.number + 1) same)
@@ -162,7 +162,7 @@ module _ (end : ℕ) (cmp : Cmp) (o : IsKeyOrder cmp) (key : Key) (old now new :
     at_fall (Some k) apart begun is falls_now =
         let kept : line after place.standing ≡ line before place.standing = rw e.stored (line_other before place.previous place.standing e.line (λ i. apart (sym i))) in
         let key_is : k ≡ key (line after place.standing) = is.1 ∙ ap key (sym kept) in
-        at_line (Some k) (Disorder (place.number + 1)) (Fallen (record { last_key = k; line = length ls + 1 })) (reaches_fallen cmp key ls k e.line begun falls_now)
+        at_line (Some k) (Disorder (place.number + 1)) (Fallen (record { last_key = k; line = length ls + 1 })) (reaches_fallen e.line begun falls_now)
         (rw (← key_is, number) refl) (over cmp key (Some k)) (λ j u. u)
 
   at_end : (last : Option (List ℕ)) → Closes place next now new before after → Got end old now ls → place.number ≡ length ls → Begun cmp key ls last → Goal last (turned Ended place.number false)
@@ -170,11 +170,11 @@ module _ (end : ℕ) (cmp : Cmp) (o : IsKeyOrder cmp) (key : Key) (old now new :
     now_ls = ls;
     bound = Over;
     sided = record {
-      got = got_end end old now new ls got e.goes e.done;
+      got = got_end got e.goes e.done;
       sound = e.sound;
       near = inl refl;
       number = number;
-      reaches = reaches_over cmp key ls last begun;
+      reaches = reaches_over begun;
       stands = (refl, e.done);
     };
     coming = over cmp key last;

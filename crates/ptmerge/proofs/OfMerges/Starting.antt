@@ -42,11 +42,11 @@ module _ (tool : Tool) (o : IsKeyOrder tool.cmp) (fits : KeepsTwo tool) (old : S
   first_line side new place before after four comes =
       let own = own_slots side (fresh side) (fresh_slots side) in
       goes_next tool.end tool.cmp o (tool.key side) (old.reader side) (old.reader side) new (fresh side) place before after [] None (omega (arith, own.1, slot_low side))
-      own.0 (got_none tool.end (old.reader side) (readable side) (ending side)) refl (begun_none tool.cmp (tool.key side)) refl comes
+      own.0 (got_none (readable side) (ending side)) refl begun_none refl comes
 
   free : (side : Side) (new : Reader) (piece : List ℕ) → Reads (old.reader side) new piece → IsLine (old.reader side).ending piece → IsSound new
       → Gone tool.end tool.cmp (tool.key side) (old.reader side) (old.reader side) new piece [] [] Free
-  free side new piece reads line safe = gone_free tool.end tool.cmp (tool.key side) (old.reader side) new piece (readable side) (ending side) reads line safe
+  free side new piece reads line safe = gone_free (readable side) (ending side) reads line safe
 
   abbrev no_lines : Side → Lines
   no_lines side = []
@@ -68,7 +68,7 @@ module _ (tool : Tool) (o : IsKeyOrder tool.cmp) (fits : KeepsTwo tool) (old : S
       half_keeps = keeps_line First (fresh First) (λ side. longest (both n.now_ls [] side)) n.bytes (fresh_slots First) made_keeps (elim [ First ↦ omega arith | Second ↦ omega arith ]) n.fits n.stored
 
       half_merging : Merging tool (both n.bound Free) no_lines old.out old.out
-      half_merging = settles tool (λ side. Free) no_lines old.out old.out First n.bound (merging_none tool old.out) n.coming n.under
+      half_merging = settles First n.bound (merging_none tool old.out) n.coming n.under
 
       mid_four : 4 ≤ length mid.lines
       mid_four = (has_lines_total mid.lines (λ side. longest (both n.now_ls [] side)) 0 half_keeps.lines).0
@@ -87,7 +87,7 @@ module _ (tool : Tool) (o : IsKeyOrder tool.cmp) (fits : KeepsTwo tool) (old : S
                   (rw k.stored (line_other mid 2 first.standing k.bytes apart.0)) (rw k.stored (line_other mid 2 first.previous k.bytes apart.1)) n.sided
               | Second ↦ k.sided
             ];
-            merging = settles tool (both n.bound Free) no_lines old.out old.out Second k.bound half_merging k.coming k.under;
+            merging = settles Second k.bound half_merging k.coming k.under;
             keeps = keeps_line Second (fresh Second) (λ side. longest (both n.now_ls k.now_ls side)) k.bytes (fresh_slots Second) half_keeps
                 (elim [ First ↦ omega arith | Second ↦ omega arith ]) k.fits k.stored;
           }
@@ -97,7 +97,7 @@ module _ (tool : Tool) (o : IsKeyOrder tool.cmp) (fits : KeepsTwo tool) (old : S
       second_breaks new2 after fault moves =
           breaks tool o old (state (both new1 (old.reader Second)) old.out mid) (both n.now_ls []) no_lines
           (both n.bound Free) half_merging unfailed (elim [ First ↦ n.sided.got.goes.failed | Second ↦ refl ]) writable
-          Second (fresh Second) new2 after fault (free Second) refl None (begun_none tool.cmp (tool.key Second))
+          Second (fresh Second) new2 after fault (free Second) refl None begun_none
           (gone_standing tool.end tool.cmp (tool.key First) (old.reader First) new1 first mid n.now_ls [] n.bound n.sided) half_keeps.denied
           (λ piece all w. within_size tool fits Second (fresh Second) (both n.now_ls []) all piece (fresh_slots Second) half_keeps
           (λ side. omega (arith, (w side).1)) (omega (arith, (w Second).1))) moves
@@ -106,7 +106,7 @@ module _ (tool : Tool) (o : IsKeyOrder tool.cmp) (fits : KeepsTwo tool) (old : S
         → IsMerge tool old (state (both new1 (old.reader Second)) old.out after) (Err fault)
     first_breaks new1 after fault moves =
         breaks tool o old (state old.reader old.out made) no_lines no_lines (λ side. Free) (merging_none tool old.out) unfailed (λ side. refl) writable
-        First (fresh First) new1 after fault (free First) refl None (begun_none tool.cmp (tool.key First)) (free Second (old.reader Second) [] (reads_nothing (old.reader Second)) tt (sound Second))
+        First (fresh First) new1 after fault (free First) refl None begun_none (free Second (old.reader Second) [] (reads_nothing (old.reader Second)) tt (sound Second))
         made_keeps.denied (λ piece all w. within_size tool fits First (fresh First) no_lines all piece (fresh_slots First) made_keeps (λ side. omega (arith, (w side).1)) (omega (arith, (w First).1))) moves
 
   pub starts_well : (new : Inputs) (place : Side → Sorted) → HasSlots First (place First) → Starts tool.key tool.cmp place (record { reader = old.reader; store = old.store }) new

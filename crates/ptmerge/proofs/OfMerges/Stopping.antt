@@ -71,13 +71,13 @@ pub gone_passed : (end : ℕ) (cmp : Cmp) (o : IsKeyOrder cmp) (key : Key) (old 
     → Reads now new piece → IsLine now.ending piece → IsSound new → Begun cmp key ls (Some k)
     → Gone end cmp key old now new piece ls ls (From k)
 gone_passed end cmp o key old now new piece ls k got reads line sound begun = record
-    { got = got; reads = reads; line = line; sound = sound; near = inl refl; reaches = reaches_passed cmp o key ls k begun; over = λ e. cc }
+    { got = got; reads = reads; line = line; sound = sound; near = inl refl; reaches = reaches_passed o begun; over = λ e. cc }
 
 -- an input of which no line came
-pub gone_free : (end : ℕ) (cmp : Cmp) (key : Key) (old new : Reader) (piece : List ℕ) → old.fault ≡ None → old.ending ≡ end → Reads old new piece
+pub gone_free : {end : ℕ} {cmp : Cmp} {key : Key} {old new : Reader} {piece : List ℕ} → old.fault ≡ None → old.ending ≡ end → Reads old new piece
     → IsLine old.ending piece → IsSound new → Gone end cmp key old old new piece [] [] Free
-gone_free end cmp key old new piece clean ending reads line sound = record
-    { got = got_none end old clean ending; reads = reads; line = line; sound = sound; near = inl refl; reaches = reaches_free cmp key; over = λ e. cc }
+gone_free clean ending reads line sound = record
+    { got = got_none clean ending; reads = reads; line = line; sound = sound; near = inl refl; reaches = reaches_free; over = λ e. cc }
 
 -- a read of an input failed, all whose lines are passed
 pub record Fails (cmp : Cmp) (key : Key) (new : Reader) (ls p : Lines) : Type 0 where
@@ -145,9 +145,8 @@ module _ (tool : Tool) (o : IsKeyOrder tool.cmp) (old new : State) (now : Side �
     ends_by : (before : Before (given of)) × (settled tool (put of before.earlier given) ≡ false)
     ends_by =
         unsettled tool o given late.front p late.tail b backs late.split m.under (λ side. (whole_seen.r side, whole_seen.parts side, late.coming side (whole_seen.r side) (whole_seen.coming side))) of
-        (EachKey-weaker (Under tool.cmp (b (other of))) (λ k. FallFrom tool.cmp k (fall tool.cmp (tool.key (other of)) (whole_lines tool.end (given (other of)))))
-        (λ k u. under_fall tool.cmp o (b (other of)) k (fall tool.cmp (tool.key (other of)) (whole_lines tool.end (given (other of)))) u
-        (whole_seen.falling (other of))) (tool.key of) (p of) (m.under (other of) of))
+        (EachKey-weaker _ _ (λ k u. under_fall tool.cmp o (b (other of)) k (fall tool.cmp (tool.key (other of)) (whole_lines tool.end (given (other of)))) u
+        (whole_seen.falling (other of))) _ _ (m.under (other of) of))
 
   pub stops : (result : Result (Unit {0}) MergeFault) → Ends old new result
       → ((side : Side) → (new.reader side).failed ≡ true → Fails tool.cmp (tool.key side) (new.reader side) (ls side) (p side)) → Concludes tool b result

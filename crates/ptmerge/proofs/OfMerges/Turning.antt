@@ -59,7 +59,7 @@ pub ahead : (cmp : Cmp) (o : IsKeyOrder cmp) (key : Key) (x : List ℕ) (stand :
 ahead cmp o key x Head place store now ls p b before st =
     let head = key (line store place.standing) in
     let above : Above cmp x head = is_greater (cmp head x) before in
-    rw st.2 (λ r c. EachKey-weaker (AtMost cmp head) (Above cmp x) (λ k h. above_up cmp o x head k above h) key r c, above_at_most cmp o x head above)
+    rw st.2 (λ r c. EachKey-weaker _ _ (λ k h. above_up cmp o x head k above h) _ _ c, above_at_most cmp o x head above)
 ahead cmp o key x Ended place store now ls p b before st = rw st.0 (λ r none. rw none tt, tt)
 ahead cmp o key x (Disorder n) place store now ls p b before st = rw st (λ r none. rw none tt, before)
 
@@ -90,7 +90,7 @@ front_none : {cmp : Cmp} (o : IsKeyOrder cmp) {key : Key} {b : Bound} {k : List 
 front_none {cmp} o {key} {k = k} above under = record {
   own = tt;
   coming = λ r c. c;
-  behind = λ r c. EachKey-weaker (Above cmp k) (AtMost cmp k) (λ y g. above_at_most cmp o k y g) key r (above r c);
+  behind = λ r c. EachKey-weaker _ _ (λ y g. above_at_most cmp o k y g) _ _ (above r c);
   under = under;
 }
 
@@ -104,7 +104,7 @@ pass_front {tool} o k q f {b} {p} {was} {is} {new} front all none law clean m wr
     subst (λ (l : Side → Lines). Merging tool b l was new × Late tool b l was new) (λ i side. sym (all side) i)
     (passes tool b p f was is new clean m (λ side. (front side).coming)
     (λ w r c. front_first tool o w k f r (λ side. (front side).own) (λ side. (front side).behind (r side) (c side)) none (law r c))
-    (λ of side. EachKey-weaker (λ y. y ≡ k) (Under tool.cmp (b of)) (λ y e. rw e (front of).under) (tool.key side) (f side) (front side).own) wrote)
+    (λ of side. EachKey-weaker (λ y. y ≡ k) (Under tool.cmp (b of)) (λ y e. rw e (front of).under) _ _ (front side).own) wrote)
 
 -- a line whose key goes before all that may come of the other input is passed
 pub pass_one : (tool : Tool) (o : IsKeyOrder tool.cmp) → IsLineByLine tool
@@ -166,7 +166,7 @@ module _ (tool : Tool) (o : IsKeyOrder tool.cmp) (old now : Side → Reader) (pl
     -- what was pushed comes first as before
     pub merging_on : (q : Side → Lines) (was is : Output) → Merging tool b q was is → Merging tool (put s n.bound b) q was is
     merging_on q was is m =
-        settles tool b q was is s n.bound m (λ r c. rw passed_at.bound (n.coming r c)) (λ k u. n.under k (rw passed_at.bound at u))
+        settles s n.bound m (λ r c. rw passed_at.bound (n.coming r c)) (λ k u. n.under k (rw passed_at.bound at u))
 
 -- ---- the end
 
@@ -206,7 +206,7 @@ module _ (cmp : Cmp) (o : IsKeyOrder cmp) where
       let head = key (line store place.standing) in
       let above : Above cmp l head = is_greater (cmp head l) named in (
         elim f as (λ g. FallFrom cmp head g → Leaves cmp s d g) [ None ↦ λ u. tt | Some e ↦ λ u. precedes_above s l e.last_key (above_up cmp o l head e.last_key above u) ] (rw st.2 at falls),
-        EachKey-weaker (AtMost cmp head) (λ k. is_le (cmp k l) ≡ false) (λ k h. above_not_le cmp o k l (above_up cmp o l head k above h)) key r (rw st.2 at c),
+        EachKey-weaker _ _ (λ k h. above_not_le cmp o k l (above_up cmp o l head k above h)) _ _ (rw st.2 at c),
       )
   named_other key s d Ended place store now ls p b named st f r c falls = rw (rw st.0 at falls, rw st.0 at c) (tt, tt)
   named_other key s d (Disorder m) place store now ls p b named st f r c falls =
