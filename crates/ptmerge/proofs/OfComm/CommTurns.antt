@@ -144,13 +144,13 @@ module _ {tool : Tool} {old : State} (w : IsOpened tool old) {reader : Side → 
 
   -- an input that stands, and one whose standing line is passed
   pub standing : (side : Side) → GoneBy side (p side)
-  standing side = gone_standing tool.end tool.cmp (tool.key side) (old.reader side) (reader side) (place side) store (ls side) (p side) (b side) (a.sides side)
+  standing side = gone_standing _ _ _ _ _ _ _ _ _ _ (a.sides side)
 
   passing : (s : Side) → (place s).stand ≡ Head → (new : Reader) (piece : List ℕ) → Reads (reader s) new piece → IsLine (reader s).ending piece → IsSound new
       → Gone tool.end tool.cmp (tool.key s) (old.reader s) (reader s) new piece (ls s) (ls s) (b s)
   passing s head new piece reads free sound =
       let h = passed head (a.sides s) in
-      rw h.bound (gone_passed tool.end tool.cmp w.o (tool.key s) (old.reader s) (reader s) new piece (ls s) (tool.key s (line store (place s).standing)) (a.sides s).got reads free sound h.begun)
+      rw h.bound (gone_passed _ _ w.o _ _ _ _ _ _ _ (a.sides s).got reads free sound h.begun)
 
   pub passing_now : (s : Side) → (place s).stand ≡ Head → GoneBy s (ls s)
   passing_now s head = passing s head (reader s) [] (reads_nothing (reader s)) tt (a.sides s).sound
@@ -160,7 +160,7 @@ module _ {tool : Tool} {old : State} (w : IsOpened tool old) {reader : Side → 
       → (new : Reader) (after : Slots) (fault : MergeFault) → CannotPass s (place s) (reader s) new store after out fault
       → IsMerge tool old (state (put s new reader) out after) (Err fault)
   turn_stops s head q out m same rest new after fault (inl e) = same_state tool old s (state reader out store) out new after fault e.0 e.1
-      (stops tool w.o old (state reader out store) reader (λ side. []) ls q b
+      (stops _ w.o _ _ _ (λ side. []) _ q _
       (side_case (λ side. GoneBy side (q side)) s (rw same (passing_now s head)) rest) m.0 m.1 (Err Write)
       (record { faulted = e.1.faulted; failed = went; denied = a.keeps.denied })
       (λ side fail. absurd (false≢true (sym (went side ∙ w.unfailed side) ∙ fail))) tt
@@ -177,11 +177,11 @@ module _ {tool : Tool} {old : State} (w : IsOpened tool old) {reader : Side → 
   module _ (s : Side) (head : (place s).stand ≡ Head) {next : Sorted} {new : Reader} {after : Slots}
       (comes : Comes (tool.key s) tool.cmp (place s) next (reader s) new store after) where
     pub n : Next tool.end tool.cmp (tool.key s) (old.reader s) new next (place s).previous store after (ls s) (Some (tool.key s (line store (place s).standing)))
-    n = next_at tool w.o old.reader reader place store ls p b a.sides a.slots four s head new next after comes
+    n = next_at tool w.o _ _ _ _ _ _ _ a.sides a.slots four s head _ _ _ comes
 
     pub goes : Placed tool old (put s new reader) (put s next place) after (put s n.now_ls ls) (put s (ls s) p) (put s n.bound b)
     goes = record {
-      sides = sides_on tool w.o old.reader reader place store ls p b a.sides a.slots four s head new next after n;
+      sides = sides_on tool w.o _ _ _ _ _ _ _ a.sides a.slots four s head _ _ _ n;
       keeps = keeps_line s (place s) (λ side. longest (put s n.now_ls ls side)) n.bytes (a.slots s) a.keeps
           (put_each (λ side (l : Lines). longest (ls side) ≤ longest l) s n.now_ls ls n.longer (λ side. omega arith)) (rw (put_same s n.now_ls ls) n.fits) n.stored;
       slots = put_each HasSlots s next place (slots_on s (a.slots s) comes) a.slots;
@@ -189,7 +189,7 @@ module _ {tool : Tool} {old : State} (w : IsOpened tool old) {reader : Side → 
 
     -- what was pushed comes first as before
     pub goes_merging : {q : Side → Lines} {out : Output} → Merging tool b q old.out out → Merging tool (put s n.bound b) q old.out out
-    goes_merging {q} {out} m = merging_on tool w.o old.reader reader place store ls p b a.sides a.slots four s head new next after n q old.out out m
+    goes_merging m = merging_on tool w.o _ _ _ _ _ _ _ a.sides a.slots four s head _ _ _ n _ _ _ m
 
     pub runs_on : {out : Output} → Merging tool b (put s (ls s) p) old.out out → Running tool old (state (put s new reader) out after) (put s next place)
     runs_on m = record { ls = put s n.now_ls ls; p = put s (ls s) p; b = put s n.bound b; sides = goes.sides; merging = goes_merging m; keeps = goes.keeps }

@@ -139,9 +139,8 @@ module _ {job : Comm} {cmp : Cmp} {key : Side → Key} {old now : State} {one tw
           × Late tool b (put s (ls s) p) old.out new
       passed_one =
           let h = passed step.stands (sides s) in
-          let a = ahead cmp w.o (key (other s)) (key s (head s)) (both one two (other s)).stand (both one two (other s)) now.store (now.reader (other s)) (ls (other s))
-          (p (other s)) (b (other s)) step.before (sides (other s)).stands in
-          rw h.all (pass_one tool w.o (line_by_line job cmp key) s (head s) b p old.out now.out new clean merging h.bound a.0 a.1
+          let a = ahead _ w.o _ _ _ _ _ _ _ _ _ step.before (sides (other s)).stands in
+          rw h.all (pass_one _ w.o (line_by_line job cmp key) s (head s) _ _ _ _ _ clean merging h.bound a.0 a.1
           (wrote_as job.end e (entries_in (hidden_of job s) lead 1 (head s)) (by_keys tool all_keys (alone s (head s))) now.out new ends
           (rw led (written_alone job cmp key s (head s) (whole s (head s)))) pushed))
 
@@ -215,8 +214,7 @@ module _ {job : Comm} {cmp : Cmp} {key : Side → Key} {old now : State} {one tw
       module _ {one2 two2 : Sorted} {reader : Reader} {after : Slots} (h : HasPassed key cmp First one two one2 two2 (now.reader First) reader now.store after mid)
           {new : Output} (sent : Wrote mid new []) where
         passed_sent : Merging tool b both_passed old.out new
-        passed_sent = (passed_both (wrote_and_sent now.out mid new
-            (text job.end (by_keys tool all_keys (both (head First ∷ []) (head Second ∷ [])))) h.on.clean wrote_pair sent)).0
+        passed_sent = (passed_both (wrote_and_sent _ _ _ _ h.on.clean wrote_pair sent)).0
 
         pub second_stops : {reader2 : Reader} {last : Slots} {fault : MergeFault} {r : Result (Unit {0}) MergeFault} → r ≡ Err fault
             → CannotPass Second two2 (now.reader Second) reader2 after last new fault → Leaves tool old (state (both reader reader2) new last) r
@@ -225,7 +223,7 @@ module _ {job : Comm} {cmp : Cmp} {key : Side → Key} {old now : State} {one tw
             let m = goes_merging w stood First step.first h.came passed_sent in
             rw is (leaves (passes_slots (key Second) cmp Second two2 two2 (now.reader Second) reader2 after last new fault k
             ∙ comes_slots (key First) cmp one one2 (now.reader First) reader now.store after h.came)
-            (turn_stops w g Second step.second both_passed new (m, late_none tool _ both_passed old.out mid new h.on.clean (passed_both wrote_pair).0.wrote sent)
+            (turn_stops w g Second step.second both_passed new (m, late_none _ _ _ _ _ _ h.on.clean (passed_both wrote_pair).0.wrote sent)
             refl (standing w g First) reader2 last fault (subst (λ (q : Sorted). CannotPass Second q (now.reader Second) reader2 after last new fault) h.on.others k)))
 
         module _ {one3 two3 : Sorted} {reader2 : Reader} {last : Slots} (k : HasPassed key cmp Second one2 two2 one3 two3 (now.reader Second) reader2 after last new) where
@@ -249,16 +247,14 @@ module _ {job : Comm} {cmp : Cmp} {key : Side → Key} {old now : State} {one tw
         → Concludes tool b result → Leaves tool old (state now.reader now.out after) result
     concludes result ends conclusion =
         let l = has_lines_total now.store.lines (λ side. longest (ls side)) 0 keeps.lines in
-        leaves clear.slots (stops tool w.o old (state now.reader now.out after) now.reader (λ side. [])
-        ls p b (standing w stood) merging
-        (late_none tool b p old.out now.out now.out clean merging.wrote (wrote_nothing now.out))
+        leaves clear.slots (stops _ w.o _ _ _ (λ side. []) _ _ _ (standing w stood) merging (late_none _ _ _ _ _ _ clean merging.wrote (wrote_nothing now.out))
         result (ends (omega (arith, clear.emptied, l.2)))
         (λ side fail. absurd (false≢true (sym (went w stood side ∙ w.unfailed side) ∙ fail))) conclusion
         (λ all h. (omega (arith, clear.peak, l.1, keeps.peak, (h First).1, (h Second).1), omega (arith, clear.slots, keeps.slots))))
 
     pub ended : ((side : Side) → (both one two side).stand ≡ Ended) → Leaves tool old (state now.reader now.out after) (Ok tt)
     ended step =
-        let e = all_ended tool old.reader now.reader (both one two) now.store ls p b sides step in
+        let e = all_ended tool _ _ _ _ _ _ _ sides step in
         concludes (Ok tt) (λ empty. record {
           done = λ side. (e side).1;
           fault = λ side. (sides side).got.goes.fault;
@@ -277,4 +273,4 @@ module _ {job : Comm} {cmp : Cmp} {key : Side → Key} {old now : State} {one tw
       clean = clean;
       denied = clear.denied ∙ keeps.denied;
       empty = empty;
-    }) (stops_at tool w.o old.reader now.reader (both one two) now.store ls p b sides s n step)
+    }) (stops_at tool w.o _ _ _ _ _ _ _ sides s n step)

@@ -41,7 +41,7 @@ module _ (tool : Tool) (o : IsKeyOrder tool.cmp) (fits : KeepsTwo tool) (old : S
       → Comes (tool.key side) tool.cmp (fresh side) place (old.reader side) new before after → FirstLine side new place before after
   first_line side new place before after four comes =
       let own = own_slots side (fresh side) (fresh_slots side) in
-      goes_next tool.end tool.cmp o (tool.key side) (old.reader side) (old.reader side) new (fresh side) place before after [] None (omega (arith, own.1, slot_low side))
+      goes_next _ _ o _ _ _ _ _ _ _ _ _ _ (omega (arith, own.1, slot_low side))
       own.0 (got_none (readable side) (ending side)) refl begun_none refl comes
 
   free : (side : Side) (new : Reader) (piece : List ℕ) → Reads (old.reader side) new piece → IsLine (old.reader side).ending piece → IsSound new
@@ -98,7 +98,7 @@ module _ (tool : Tool) (o : IsKeyOrder tool.cmp) (fits : KeepsTwo tool) (old : S
           breaks tool o old (state (both new1 (old.reader Second)) old.out mid) (both n.now_ls []) no_lines
           (both n.bound Free) half_merging unfailed (elim [ First ↦ n.sided.got.goes.failed | Second ↦ refl ]) writable
           Second (fresh Second) new2 after fault (free Second) refl None begun_none
-          (gone_standing tool.end tool.cmp (tool.key First) (old.reader First) new1 first mid n.now_ls [] n.bound n.sided) half_keeps.denied
+          (gone_standing _ _ _ _ _ _ _ _ _ _ n.sided) half_keeps.denied
           (λ piece all w. within_size tool fits Second (fresh Second) (both n.now_ls []) all piece (fresh_slots Second) half_keeps
           (λ side. omega (arith, (w side).1)) (omega (arith, (w Second).1))) moves
 
@@ -116,9 +116,9 @@ module _ (tool : Tool) (o : IsKeyOrder tool.cmp) (fits : KeepsTwo tool) (old : S
   unslotted : (new : Inputs) (fault : MergeFault) → IsUnslotted (record { reader = old.reader; store = old.store }) new fault → IsMerge tool old (state new.reader old.out new.store) (Err fault)
   unslotted new fault u =
       let same : (side : Side) → (new.reader side).failed ≡ (old.reader side).failed = λ side. rw (u.unread side) refl in
-      rw u.memory (stops tool o old (state new.reader old.out new.store) old.reader (λ side. []) no_lines no_lines (λ side. Free)
+      rw u.memory (stops _ o _ _ old.reader (λ side. []) no_lines no_lines (λ side. Free)
       (λ side. rw (u.unread side) (free side (old.reader side) [] (reads_nothing (old.reader side)) tt (sound side)))
-      (merging_none tool old.out) (late_none tool (λ side. Free) no_lines old.out old.out old.out writable (wrote_nothing old.out) (wrote_nothing old.out))
+      (merging_none tool old.out) (late_none _ _ _ _ _ _ writable (wrote_nothing old.out) (wrote_nothing old.out))
       (Err Memory) (record { denied = u.slots.denied; failed = same; clean = writable })
       (λ side fail. absurd (false≢true (sym (same side ∙ unfailed side) ∙ fail))) tt (λ all w. (omega (arith, u.slots.peak), omega (arith, u.slots.most, (fits all).1))))
 

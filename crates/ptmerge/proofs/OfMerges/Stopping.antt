@@ -115,10 +115,10 @@ module _ (tool : Tool) (o : IsKeyOrder tool.cmp) (old new : State) (now : Side �
 
   input_lines : (input : Side → List ℕ) → Agree given input → (side : Side) → More (now side) (ls side) (lines tool.end (input side))
       × (max (longest (ls side)) (length (piece side)) ≤ longest (lines tool.end (input side)))
-  input_lines input a side = got_lines tool.end (old.reader side) (now side) (new.reader side) (ls side) (piece side) (g side).got (g side).reads (g side).line (input side) (a side)
+  input_lines input a side = got_lines _ _ _ _ _ _ (g side).got (g side).reads (g side).line (input side) (a side)
 
   known : (side : Side) → Known tool.end (old.reader side) (now side) (new.reader side) (ls side) (piece side) (g side).got (g side).reads (g side).line (whole_lines tool.end (given side))
-  known side = got_known tool.end (old.reader side) (now side) (new.reader side) (ls side) (piece side) (g side).got (g side).reads (g side).line
+  known side = got_known _ _ _ _ _ _ (g side).got (g side).reads (g side).line
 
   -- what was decided two blocks earlier of one input was pushed
   module _ (of : Side) where
@@ -130,11 +130,10 @@ module _ (tool : Tool) (o : IsKeyOrder tool.cmp) (old new : State) (now : Side �
 
     backs : (side : Side) → Back tool.end (given side) (p side)
     backs side =
-        back tool.end (g side).got.given (piece side) (ls side) (p side) (now side) (new.reader side) (g side).got.so_far
-        (subst (λ (e : ℕ). IsLine e (piece side)) (g side).got.ending (g side).line) (g side).sound.held (g side).near
+        back _ _ _ _ _ _ (new.reader side) (g side).got.so_far (rw (g side).got.ending at (g side).line) (g side).sound.held (g side).near
 
     works : WorksOff {I = Unit {0}} (λ came. decided tool (put of (came tt) given)) (λ u. given of) (text tool.end (by_keys tool all_keys late.front))
-    works = works_off tool o given late.front p late.tail b backs late.split m.under
+    works = works_off tool o given late.front _ late.tail _ backs late.split m.under
         (λ side. (whole_seen.r side, whole_seen.parts side, late.coming side (whole_seen.r side) (whole_seen.coming side))) of
 
     keeps : Keeps (text tool.end (by_keys tool all_keys p))
@@ -144,7 +143,7 @@ module _ (tool : Tool) (o : IsKeyOrder tool.cmp) (old new : State) (now : Side �
     -- nor was a disorder settled
     ends_by : (before : Before (given of)) × (settled tool (put of before.earlier given) ≡ false)
     ends_by =
-        unsettled tool o given late.front p late.tail b backs late.split m.under (λ side. (whole_seen.r side, whole_seen.parts side, late.coming side (whole_seen.r side) (whole_seen.coming side))) of
+        unsettled tool o given late.front _ late.tail _ backs late.split m.under (λ side. (whole_seen.r side, whole_seen.parts side, late.coming side (whole_seen.r side) (whole_seen.coming side))) of
         (EachKey-weaker _ _ (λ k u. under_fall tool.cmp o (b (other of)) k (fall tool.cmp (tool.key (other of)) (whole_lines tool.end (given (other of)))) u
         (whole_seen.falling (other of))) _ _ (m.under (other of) of))
 
@@ -155,7 +154,7 @@ module _ (tool : Tool) (o : IsKeyOrder tool.cmp) (old new : State) (now : Side �
   stops result ends failed concludes fits = record {
     given = given;
     came = λ side. came_of (old.reader side) (new.reader side) ((g side).got.given ++ piece side)
-        (reads_trans (old.reader side) (now side) (new.reader side) (g side).got.given (piece side) (g side).got.goes.reads (g side).reads);
+        (reads_trans _ _ _ _ _ (g side).got.goes.reads (g side).reads);
     pushed = text tool.end done;
     wrote = m.wrote;
     ends = ends;

@@ -140,7 +140,7 @@ module _ (tool : Tool) (o : IsKeyOrder tool.cmp) (old now : Side → Reader) (pl
   pub next_at : (new : Reader) (next : Sorted) (after : Slots) → Comes (tool.key s) tool.cmp (place s) next (now s) new store after → NextOf new next after
   next_at new next after comes =
       let own = own_slots s (place s) (slots s) in
-      goes_next tool.end tool.cmp o (tool.key s) (old s) (now s) new (place s) next store after (ls s) (Some (tool.key s (line store (place s).standing)))
+      goes_next _ _ o _ _ _ _ _ _ _ _ _ _
       (omega (arith, own.1, slot_low s)) own.0 (sides s).got (sides s).number passed_at.begun (passed_at.some, refl) comes
 
   module _ (new : Reader) (next : Sorted) (after : Slots) (n : NextOf new next after) where
@@ -219,8 +219,7 @@ pub stops_at : (tool : Tool) (o : IsKeyOrder tool.cmp) (old now : Side → Reade
 stops_at tool o old now place store ls p b sides s n dec l r c f =
     let d : Fall = record { last_key = last_key tool.key place store s; line = n } in
     let fallen : b s ≡ Fallen d = rw dec.stands at (sides s).stands in
-    let rest = named_other tool.cmp o (tool.key (other s)) s d (place (other s)).stand (place (other s)) store (now (other s)) (ls (other s)) (p (other s)) (b (other s)) dec.named (sides (other s)).stands
-    (fall tool.cmp (tool.key (other s)) (l (other s))) (r (other s)) (c (other s)) (f (other s)) in
+    let rest = named_other _ o _ s d _ _ _ _ _ _ _ dec.named (sides (other s)).stands _ _ (c (other s)) (f (other s)) in
     rw (named_is tool.cmp s (λ side. fall tool.cmp (tool.key side) (l side)) d (rw fallen at (f s)) rest.0) (
       none_wanted tool (λ k. is_le (tool.cmp k d.last_key)) r
           (side_case (λ side. EachKey (λ k. is_le (tool.cmp k d.last_key) ≡ false) (tool.key side) (r side)) s (rw (rw fallen at (c s)) tt) rest.1),
@@ -244,7 +243,7 @@ module _ (tool : Tool) (o : IsKeyOrder tool.cmp) (old now : State) (ls q : Side 
   fails_not side r same fail = absurd (false≢true (sym (same ∙ unfailed side) ∙ fail))
 
   late : Late tool b q old.out now.out
-  late = late_none tool b q old.out now.out now.out clean m.wrote (wrote_nothing now.out)
+  late = late_none _ _ _ _ _ _ clean m.wrote (wrote_nothing now.out)
 
   -- the next line of an input could not be read
   pub breaks : (s : Side) (place : Sorted) (new : Reader) (after : Slots) (fault : MergeFault)
