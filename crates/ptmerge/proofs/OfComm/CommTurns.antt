@@ -52,16 +52,13 @@ same_state tool old s now out reader after fault is e m = rw (is, e.unread, e.st
 
 -- no source has failed whose reader is sound
 pub unfailed_of : (first second : Reader) (store : Slots) → IsReady first second store → IsSound first × IsSound second → (side : Side) → (both first second side).failed ≡ false
-unfailed_of first second store ready sound First = sound.0.unfailed ready.opened1 ready.readable1
-unfailed_of first second store ready sound Second = sound.1.unfailed ready.opened2 ready.readable2
+unfailed_of first second store ready sound = elim [ First ↦ sound.0.unfailed ready.opened1 ready.readable1 | Second ↦ sound.1.unfailed ready.opened2 ready.readable2 ]
 
 pub readable_of : (first second : Reader) (store : Slots) → IsReady first second store → (side : Side) → (both first second side).fault ≡ None
-readable_of first second store ready First = ready.readable1
-readable_of first second store ready Second = ready.readable2
+readable_of first second store ready = elim [ First ↦ ready.readable1 | Second ↦ ready.readable2 ]
 
 pub slots_of : {key : Side → Key} (one two : Sorted) (store : Slots) → IsPlaced key one two store → (side : Side) → HasSlots side (both one two side)
-slots_of one two store placed First = placed.first
-slots_of one two store placed Second = placed.second
+slots_of one two store placed = elim [ First ↦ placed.first | Second ↦ placed.second ]
 
 -- what was pushed, with the byte that ends a line
 pub wrote_as : (end e : ℕ) (xs ys : Lines) (was is : Output) → e ≡ end → ys ≡ xs → Wrote was is (text e xs) → Wrote was is (text end ys)

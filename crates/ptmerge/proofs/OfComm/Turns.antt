@@ -116,8 +116,7 @@ module _ {job : Comm} {cmp : Cmp} {key : Side → Key} {old now : State} {one tw
   abbrev head : Side → List ℕ
   head s = line now.store (both one two s).standing
 
-  leaves : {new : State} {r : Result (Unit {0}) MergeFault} → length new.store.lines ≡ length now.store.lines → IsMerge tool old new r
-      → Leaves tool old new r
+  leaves : {new : State} {r : Result (Unit {0}) MergeFault} → length new.store.lines ≡ length now.store.lines → IsMerge tool old new r → Leaves tool old new r
   leaves same merged = record {
     merged = merged;
     refused = λ few. absurd (omega (arith, few, same, placed.slots));
@@ -135,14 +134,12 @@ module _ {job : Comm} {cmp : Cmp} {key : Side → Key} {old now : State} {one tw
 
     module _ {new : Output} {e : ℕ} (ends : e ≡ job.end) {lead : List ℕ} (led : lead ≡ lead_of job s)
         (pushed : Wrote now.out new (text e (entries_in (hidden_of job s) lead 1 (head s)))) where
-      passed_one : Merging tool b (put s (ls s) p) old.out new
-          × Late tool b (put s (ls s) p) old.out new
+      passed_one : Merging tool b (put s (ls s) p) old.out new × Late tool b (put s (ls s) p) old.out new
       passed_one =
           let h = passed step.stands (sides s) in
           let a = ahead _ w.o _ _ _ _ _ _ _ _ _ step.before (sides (other s)).stands in
           rw h.all (pass_one _ w.o (line_by_line job cmp key) s (head s) _ _ _ _ _ clean merging h.bound a.0 a.1
-          (wrote_as job.end e (entries_in (hidden_of job s) lead 1 (head s)) (by_keys tool all_keys (alone s (head s))) now.out new ends
-          (rw led (written_alone job cmp key s (head s) (whole s (head s)))) pushed))
+          (rw (written_alone job cmp key s (head s) (whole s (head s))) (rw (ends, led) at pushed)))
 
       pub alone_on : {one2 two2 : Sorted} {reader : Reader} {after : Slots} → HasPassed key cmp s one two one2 two2 (now.reader s) reader now.store after new
           → IsTurn job cmp key old (state (put s reader now.reader) new after) one2 two2
@@ -156,8 +153,7 @@ module _ {job : Comm} {cmp : Cmp} {key : Side → Key} {old now : State} {one tw
       }
 
       pub alone_stops : {reader : Reader} {after : Slots} {fault : MergeFault} {r : Result (Unit {0}) MergeFault} → r ≡ Err fault
-          → CannotPass s (both one two s) (now.reader s) reader now.store after new fault
-          → Leaves tool old (state (put s reader now.reader) new after) r
+          → CannotPass s (both one two s) (now.reader s) reader now.store after new fault → Leaves tool old (state (put s reader now.reader) new after) r
       alone_stops {reader} {after} {fault} is h = rw is
           (leaves (passes_slots (key s) cmp s (both one two s) (both one two s) (now.reader s) reader now.store after new fault h)
           (turn_stops w stood s step.stands (put s (ls s) p) new passed_one (put_same s (ls s) p)
@@ -200,12 +196,10 @@ module _ {job : Comm} {cmp : Cmp} {key : Side → Key} {old now : State} {one tw
     module _ {mid : Output} {e : ℕ} (ends : e ≡ job.end) {lead : List ℕ} (led : lead ≡ tab_unless job.hide1 ++ tab_unless job.hide2)
         (pushed : Wrote now.out mid (text e (entries_in job.hide3 lead 1 (head First)))) where
       wrote_pair : Wrote now.out mid (text job.end (by_keys tool all_keys (both (head First ∷ []) (head Second ∷ []))))
-      wrote_pair = wrote_as job.end e (entries_in job.hide3 lead 1 (head First)) (by_keys tool all_keys (both (head First ∷ []) (head Second ∷ []))) now.out mid ends
-          (rw led (written_both job cmp key w.o (head First) (head Second) (whole First (head First)) (sym step.same))) pushed
+      wrote_pair = rw (written_both job cmp key w.o (head First) (head Second) (whole First (head First)) (sym step.same)) (rw (ends, led) at pushed)
 
       pub pair_stops : {reader : Reader} {after : Slots} {fault : MergeFault} {r : Result (Unit {0}) MergeFault} → r ≡ Err fault
-          → CannotPass First one (now.reader First) reader now.store after mid fault
-          → Leaves tool old (state (put First reader now.reader) mid after) r
+          → CannotPass First one (now.reader First) reader now.store after mid fault → Leaves tool old (state (put First reader now.reader) mid after) r
       pair_stops {reader} {after} {fault} is h = rw is
           (leaves (passes_slots (key First) cmp First one one (now.reader First) reader now.store after mid fault h)
           (turn_stops w stood First step.first both_passed mid (passed_both wrote_pair) refl (passing_now w stood Second step.second) reader after fault h))
