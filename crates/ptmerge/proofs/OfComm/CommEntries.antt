@@ -32,23 +32,14 @@ module _ (job : Comm) (x : List ℕ) where
   abbrev second : ℕ → Lines
   second n = entries_in job.hide2 (tab_unless job.hide1) n x
 
-  none_common : common 0 ≡ []
-  none_common = none_in job.hide3 (tab_unless job.hide1 ++ tab_unless job.hide2) x
-
-  none_first : first 0 ≡ []
-  none_first = none_in job.hide1 [] x
-
-  none_second : second 0 ≡ []
-  none_second = none_in job.hide2 (tab_unless job.hide1) x
-
   pub entries_none : entries job x 0 0 ≡ []
-  entries_none = rw (none_common, none_first, none_second)
+  entries_none = grind (arith, none_in)
 
   only_first : (n : ℕ) → entries job x n 0 ≡ first n
-  only_first n = grind (arith, none_common, none_second, append-nil (first n))
+  only_first n = grind (arith, none_in, append-nil (first n))
 
   only_second : (n : ℕ) → entries job x 0 n ≡ second n
-  only_second n = grind (arith, none_common, none_first)
+  only_second n = grind (arith, none_in)
 
   pub entries_first : (n : ℕ) → entries job x (suc n) 0 ≡ entries job x 1 0 ++ entries job x n 0
   entries_first n = rw (only_first (suc n), only_first 1, only_first n) (more_in job.hide1 [] x n)
@@ -57,7 +48,7 @@ module _ (job : Comm) (x : List ℕ) where
   entries_second n = rw (only_second (suc n), only_second 1, only_second n) (more_in job.hide2 (tab_unless job.hide1) x n)
 
   one_common : entries job x 1 1 ≡ common 1
-  one_common = rw (none_first, none_second) (append-nil (common 1 ++ []) ∙ append-nil (common 1))
+  one_common = grind (arith, none_in, append-nil (common 1))
 
   pub entries_both : (n k : ℕ) → entries job x (suc n) (suc k) ≡ entries job x 1 1 ++ entries job x n k
   entries_both n k =

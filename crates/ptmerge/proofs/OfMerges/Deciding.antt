@@ -79,11 +79,10 @@ decided_begins {tool} o {b} {p} {ls} under s ended of last going all begun =
 
 -- what is at least each key is not below the last one
 below_last : (cmp : Cmp) → IsKeyOrder cmp → (key : Key) (xs : Lines) (e : List ℕ) → EachKey (λ k. AtMost cmp k e) key xs → is_below cmp e (last_or None (map key xs)) ≡ false
-below_last cmp o key xs e up = by (last_or None (map key xs)) refl
-  where
-    by : (l : Option (List ℕ)) → last_or None (map key xs) ≡ l → is_below cmp e l ≡ false
-    by None h = refl
-    by (Some x) h = not_below cmp o e x (last_has key (λ k. AtMost cmp k e) None xs x h (λ y bad. cc) up)
+below_last cmp o key xs e up = elim (last_or None (map key xs)) as (λ l. last_or None (map key xs) ≡ l → is_below cmp e l ≡ false) [
+  | None ↦ λ h. refl
+  | Some x ↦ λ h. not_below cmp o e x (last_has key (λ k. AtMost cmp k e) None xs x h (λ y bad. cc) up)
+] refl
 
 -- one input is in order and goes on, and no key of it is behind the fall of the other: no disorder is settled
 pub not_settled : (tool : Tool) → IsKeyOrder tool.cmp → (ended : Side → Bool) (ls : Side → Lines) (of : Side) → ended of ≡ false → fall tool.cmp (tool.key of) (ls of) ≡ None

@@ -26,7 +26,7 @@ use Rattle.ptmerge.specs.Merges.{State, Agree, Ends, IsMerge, IsUnread, IsWhole,
 use Rattle.ptmerge.specs.Orders.{Cmp, Key}
 use Rattle.ptmerge.specs.Sides.{other, put}
 use Rattle.ptmerge.proofs.OfMerges.Backing.{Back, Near, back}
-use Rattle.ptmerge.proofs.OfMerges.Bounds.{Bound, Free, From, Over, FallFrom, Under, Begun, Reaches, reaches_free, reaches_passed}
+use Rattle.ptmerge.proofs.OfMerges.Bounds.{Bound, Free, From, Over, Coming, FallFrom, Under, Begun, Reaches, reaches_free, reaches_passed}
 use Rattle.ptmerge.proofs.OfMerges.Deciding.{decided_begins}
 use Rattle.ptmerge.proofs.OfMerges.Got.{Got, More, Known, got_known, got_lines, got_none, reads_nothing}
 use Rattle.ptmerge.proofs.OfMerges.Least.{EachKey-weaker}
@@ -105,12 +105,12 @@ module _ (tool : Tool) (o : IsKeyOrder tool.cmp) (old new : State) (now : Side �
 
   seen_of : (all : Side → Lines) → ((side : Side) → More (now side) (ls side) (all side)) → Seen tool b p all
   seen_of all w =
-      let future = λ (side : Side). (g side).reaches.future (w side).more (follows (b side) (w side).more (λ e. (w side).done ((g side).over e))) in
+      let ahead = λ (side : Side). (g side).reaches.future (w side).more (follows (b side) (w side).more (λ e. (w side).done ((g side).over e))) in
       record {
-        r = λ side. (future side).0;
-        parts = λ side. ap (ordered_part tool.cmp (tool.key side)) (w side).is ∙ (future side).1;
-        coming = λ side. (future side).2;
-        falling = λ side. rw (w side).is (future side).3;
+        r = λ side. (ahead side).0;
+        parts = λ side. ap (ordered_part tool.cmp (tool.key side)) (w side).is ∙ (ahead side).1;
+        coming = λ side. (ahead side).2;
+        falling = λ side. rw (w side).is (ahead side).3;
       }
 
   input_lines : (input : Side → List ℕ) → Agree given input → (side : Side) → More (now side) (ls side) (lines tool.end (input side))
@@ -120,32 +120,26 @@ module _ (tool : Tool) (o : IsKeyOrder tool.cmp) (old new : State) (now : Side �
   known : (side : Side) → Known tool.end (old.reader side) (now side) (new.reader side) (ls side) (piece side) (g side).got (g side).reads (g side).line (whole_lines tool.end (given side))
   known side = got_known _ _ _ _ _ _ (g side).got (g side).reads (g side).line
 
+  whole_seen : Seen tool b p (λ side. whole_lines tool.end (given side))
+  whole_seen = seen_of (λ side. whole_lines tool.end (given side)) (λ side. (known side).known)
+
+  backs : (side : Side) → Back tool.end (given side) (p side)
+  backs side = back _ _ _ _ _ _ (new.reader side) (g side).got.so_far (rw (g side).got.ending at (g side).line) (g side).sound.held (g side).near
+
+  future : (side : Side) → (r : Lines) × (ordered_part tool.cmp (tool.key side) (whole_lines tool.end (given side)) ≡ p side ++ r) × Coming tool.cmp (tool.key side) (b side) (late.tail side ++ r)
+  future side = (whole_seen.r side, whole_seen.parts side, late.coming side (whole_seen.r side) (whole_seen.coming side))
+
   -- what was decided two blocks earlier of one input was pushed
-  module _ (of : Side) where
-    abbrev Keeps : List ℕ → Type 0
-    Keeps pushed = KeepsUp {I = Unit {0}} (λ came. decided tool (put of (came tt) given)) (λ u. given of) old.out new.out pushed
+  keeps : (of : Side) → KeepsUp {I = Unit {0}} (λ came. decided tool (put of (came tt) given)) (λ u. given of) old.out new.out (text tool.end (by_keys tool all_keys p))
+  keeps of = rw late.all at (keeps_more (λ came. decided tool (put of (came tt) given)) (λ u. given of) old.out late.mid (text tool.end (by_keys tool all_keys late.front))
+      (works_off tool o given late.front _ late.tail _ backs late.split m.under future of) late.wrote late.clean new.out late.bytes late.more)
 
-    whole_seen : Seen tool b p (λ side. whole_lines tool.end (given side))
-    whole_seen = seen_of (λ side. whole_lines tool.end (given side)) (λ side. (known side).known)
-
-    backs : (side : Side) → Back tool.end (given side) (p side)
-    backs side =
-        back _ _ _ _ _ _ (new.reader side) (g side).got.so_far (rw (g side).got.ending at (g side).line) (g side).sound.held (g side).near
-
-    works : WorksOff {I = Unit {0}} (λ came. decided tool (put of (came tt) given)) (λ u. given of) (text tool.end (by_keys tool all_keys late.front))
-    works = works_off tool o given late.front _ late.tail _ backs late.split m.under
-        (λ side. (whole_seen.r side, whole_seen.parts side, late.coming side (whole_seen.r side) (whole_seen.coming side))) of
-
-    keeps : Keeps (text tool.end (by_keys tool all_keys p))
-    keeps = subst Keeps late.all (keeps_more (λ came. decided tool (put of (came tt) given)) (λ u. given of) old.out late.mid
-        (text tool.end (by_keys tool all_keys late.front)) works late.wrote late.clean new.out late.bytes late.more)
-
-    -- nor was a disorder settled
-    ends_by : (before : Before (given of)) × (settled tool (put of before.earlier given) ≡ false)
-    ends_by =
-        unsettled tool o given late.front _ late.tail _ backs late.split m.under (λ side. (whole_seen.r side, whole_seen.parts side, late.coming side (whole_seen.r side) (whole_seen.coming side))) of
-        (EachKey-weaker _ _ (λ k u. under_fall tool.cmp o (b (other of)) k (fall tool.cmp (tool.key (other of)) (whole_lines tool.end (given (other of)))) u
-        (whole_seen.falling (other of))) _ _ (m.under (other of) of))
+  -- nor was a disorder settled
+  ends_by : (of : Side) → (before : Before (given of)) × (settled tool (put of before.earlier given) ≡ false)
+  ends_by of =
+      let f = fall tool.cmp (tool.key (other of)) (whole_lines tool.end (given (other of))) in
+      unsettled tool o given late.front _ late.tail _ backs late.split m.under future of
+      (EachKey-weaker _ _ (λ k u. under_fall tool.cmp o (b (other of)) k f u (whole_seen.falling (other of))) _ _ (m.under (other of) of))
 
   pub stops : (result : Result (Unit {0}) MergeFault) → Ends old new result
       → ((side : Side) → (new.reader side).failed ≡ true → Fails tool.cmp (tool.key side) (new.reader side) (ls side) (p side)) → Concludes tool b result
@@ -161,7 +155,7 @@ module _ (tool : Tool) (o : IsKeyOrder tool.cmp) (old new : State) (now : Side �
     true_so_far = λ input a. record { rest = text tool.end (later input a); is = all_of input a ∙ text-append tool.end done (later input a) };
     sure = λ side fail clean.
         let f = failed side fail in
-        decided_begins o m.under (seen_of (λ s. whole_lines tool.end (given s)) (λ s. (known s).known)) (λ s. (new.reader s).ended) side f.last f.ended
+        decided_begins o m.under whole_seen (λ s. (new.reader s).ended) side f.last f.ended
         ((known side).exact f.held f.ended ∙ f.all) f.begun;
     keeps_up = λ side clean. keeps side;
     ends_at_once = λ side clean. ends_by side;

@@ -148,20 +148,16 @@ module _ (tool : Tool) (o : IsKeyOrder tool.cmp) (old now : Side → Reader) (pl
     other_stays : Sided tool.end tool.cmp (tool.key (other s)) (old (other s)) (now (other s)) (place (other s)) after (ls (other s)) (p (other s)) (b (other s))
     other_stays =
         let apart = slots_apart s (place s) (place (other s)) (slots s) (slots (other s)) in
-        sided_keeps tool.end tool.cmp (tool.key (other s)) (old (other s)) (now (other s)) (place (other s)) store after (ls (other s)) (p (other s)) (b (other s))
-        (ap (λ (t : Slots). line t (place (other s)).standing) n.stored ∙ line_other store (place s).previous (place (other s)).standing n.bytes apart.0)
-        (ap (λ (t : Slots). line t (place (other s)).previous) n.stored ∙ line_other store (place s).previous (place (other s)).previous n.bytes apart.1) (sides (other s))
+        sided_keeps _ _ _ _ _ _ store after _ _ _ (rw n.stored (line_other store (place s).previous (place (other s)).standing n.bytes apart.0))
+        (rw n.stored (line_other store (place s).previous (place (other s)).previous n.bytes apart.1)) (sides (other s))
 
     pub sides_on : BothStand tool old (put s new now) (put s next place) after (put s n.now_ls ls) (put s (ls s) p) (put s n.bound b)
-    sides_on = by s n.sided other_stays
-      where
-        by : (t : Side) → {l : Lines} {q : Lines} {d : Bound} → Sided tool.end tool.cmp (tool.key t) (old t) new next after l q d
-            → Sided tool.end tool.cmp (tool.key (other t)) (old (other t)) (now (other t)) (place (other t)) after (ls (other t)) (p (other t)) (b (other t))
-            → BothStand tool old (put t new now) (put t next place) after (put t l ls) (put t q p) (put t d b)
-        by First x y First = x
-        by First x y Second = y
-        by Second x y First = y
-        by Second x y Second = x
+    sides_on = elim s as (λ t. Sided tool.end tool.cmp (tool.key t) (old t) new next after n.now_ls (ls t) n.bound
+        → Sided tool.end tool.cmp (tool.key (other t)) (old (other t)) (now (other t)) (place (other t)) after (ls (other t)) (p (other t)) (b (other t))
+        → BothStand tool old (put t new now) (put t next place) after (put t n.now_ls ls) (put t (ls t) p) (put t n.bound b)) [
+      | First ↦ λ x y. elim [ First ↦ x | Second ↦ y ]
+      | Second ↦ λ x y. elim [ First ↦ y | Second ↦ x ]
+    ] n.sided other_stays
 
     -- what was pushed comes first as before
     pub merging_on : (q : Side → Lines) (was is : Output) → Merging tool b q was is → Merging tool (put s n.bound b) q was is
