@@ -28,14 +28,14 @@ use Rattle.ptmerge.proofs.OfComm.CommTurns.{runs_on, slots_of, standing, turn_st
 use Rattle.ptmerge.proofs.OfMerges.GoingOn.{left, less, lent_on, place_is}
 use Rattle.ptmerge.proofs.OfMerges.Orders.{IsKeyOrder}
 use Rattle.ptmerge.proofs.OfMerges.Pairs.{both_each, put_other, put_same}
-use Rattle.ptmerge.proofs.OfMerges.Passing.{Late, Merging, late_none}
+use Rattle.ptmerge.proofs.OfMerges.Passing.{Late, Merging, front_line, late_none, pass_front}
 use Rattle.ptmerge.proofs.OfMerges.Sending.{wrote_and_sent}
 use Rattle.ptmerge.proofs.OfMerges.Slotted.{has_lines_total}
 use Rattle.ptmerge.proofs.OfMerges.Splitting.{all_keys}
 use Rattle.ptmerge.proofs.OfMerges.Standing.{passed}
 use Rattle.ptmerge.proofs.OfMerges.Starting.{starts_well, starts_badly, start_slots, start_refused}
 use Rattle.ptmerge.proofs.OfMerges.Stopping.{Concludes, state, stops}
-use Rattle.ptmerge.proofs.OfMerges.Turning.{ahead, all_ended, alone, front_line, pass_front, pass_one, stops_at}
+use Rattle.ptmerge.proofs.OfMerges.Turning.{ahead, all_ended, alone, pass_one, stops_at}
 
 pub is_opened : (job : Comm) {cmp : Cmp} {key : Side → Key} {first second : Reader} {out : Output} {store : Slots} → IsKeyOrder cmp → IsReady first second store
     → IsSound first × IsSound second → (first.ending ≡ job.end) × (second.ending ≡ job.end) → out.faulted ≡ false → IsOpened (comm_by job cmp key) (seen first second out store)

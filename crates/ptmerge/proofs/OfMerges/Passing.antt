@@ -11,15 +11,15 @@ use Rattle.ptlines.proofs.Pushed.{wrote_trans, wrote_nothing}
 use Rattle.ptlines.proofs.TextLaws.{text-append}
 use Rattle.ptmerge.specs.declared.order.Side.{Side}
 use Rattle.ptmerge.specs.declared.order.Side.TheVariants.{First, Second}
-use Rattle.ptmerge.specs.Keyed.{Lines, Tool, Disorder, by_keys, disorder, fall, is_below, is_decided, is_past, merged_entries, ordered_part, up_to}
+use Rattle.ptmerge.specs.Keyed.{Lines, Tool, Disorder, by_keys, disorder, entries_of, fall, is_below, is_decided, is_past, merged_entries, ordered_part, up_to, with_key}
 use Rattle.ptmerge.specs.Merges.{Names}
 use Rattle.ptmerge.specs.Orders.{Cmp, Key}
 use Rattle.ptmerge.specs.Sides.{put}
 use Rattle.ptmerge.proofs.OfMerges.Bounds.{Bound, Free, From, Fallen, Over, Coming, Falling, Follows, Under, coming_none}
-use Rattle.ptmerge.proofs.OfMerges.Least.{EachKey, EachKey-all, EachKey-append, EachKey-weaker}
-use Rattle.ptmerge.proofs.OfMerges.Orders.{IsKeyOrder, AtMost, at_most_trans, at_most_is_le, above_trans, greater_flips, is_le_at_most, less_flips}
+use Rattle.ptmerge.proofs.OfMerges.Least.{EachKey, EachKey-all, EachKey-append, EachKey-weaker, front_first}
+use Rattle.ptmerge.proofs.OfMerges.Orders.{IsKeyOrder, AtMost, at_most_trans, at_most_is_le, above_trans, greater_flips, is_le_at_most, less_flips, self_at_most}
 use Rattle.ptmerge.proofs.OfMerges.Pairs.{put_each}
-use Rattle.ptmerge.proofs.OfMerges.Splitting.{Splits, splits_none, splits_later, splits_step, all_keys, IsDown, all_wanted, passed_is_wanted}
+use Rattle.ptmerge.proofs.OfMerges.Splitting.{Splits, splits_step, all_keys, IsDown, all_wanted, passed_is_wanted}
 
 -- what was pushed is what the passed lines give, and whatever comes, it comes first
 pub record Merging (tool : Tool) (b : Side → Bound) (p : Side → Lines) (was is : Output) : Type 0 where
@@ -29,7 +29,7 @@ pub record Merging (tool : Tool) (b : Side → Bound) (p : Side → Lines) (was 
 
 -- nothing was read
 pub merging_none : (tool : Tool) (was : Output) → Merging tool (λ side. Free) (λ side. []) was was
-merging_none tool was = record { splits = splits_none tool (λ side. Free); under = λ of side. tt; wrote = wrote_nothing was }
+merging_none tool was = record { splits = record { split = λ w r c. refl }; under = λ of side. tt; wrote = wrote_nothing was }
 
 -- What was pushed of the passed lines, by a time at which no write had failed: of the last ones perhaps nothing, and
 -- they come first of all that may still come.
@@ -61,21 +61,46 @@ late_none tool b p was mid is clean wrote more = record {
   coming = λ side r c. c;
 }
 
--- lines are passed whose entries come first and were pushed
-pub passes : (tool : Tool) (b : Side → Bound) (p f : Side → Lines) (was is new : Output) → is.faulted ≡ false → Merging tool b p was is
-    → ((side : Side) (r : Lines) → Coming tool.cmp (tool.key side) (b side) r → Coming tool.cmp (tool.key side) (b side) (f side ++ r))
-    → ((w : List ℕ → Bool) (r : Side → Lines) → ((side : Side) → Coming tool.cmp (tool.key side) (b side) (r side)) → by_keys tool w (λ side. f side ++ r side) ≡ by_keys tool w f ++ by_keys tool w r)
-    → ((of side : Side) → EachKey (Under tool.cmp (b of)) (tool.key side) (f side)) → Wrote is new (text tool.end (by_keys tool all_keys f))
-    → Merging tool b (λ side. p side ++ f side) was new × Late tool b (λ side. p side ++ f side) was new
-passes tool b p f was is new clean m coming front under wrote =
-    let none = λ (side : Side). rw append-nil at (coming side [] (coming_none tool.cmp (tool.key side) (b side))) in
-    let both_texts = ap (text tool.end) (m.splits.split all_keys f none) ∙ text-append tool.end (by_keys tool all_keys p) (by_keys tool all_keys f) in (
+-- lines of one key k that an input passes, before all that may come of it
+pub record IsFront (cmp : Cmp) (key : Key) (b : Bound) (k : List ℕ) (f : Lines) : Type 0 where
+  pub own : EachKey (λ y. y ≡ k) key f
+  pub coming : (r : Lines) → Coming cmp key b r → Coming cmp key b (f ++ r)
+  pub behind : (r : Lines) → Coming cmp key b r → EachKey (AtMost cmp k) key r
+  pub under : Under cmp b k
+
+-- the line at which it stands, or none
+pub front_line : {cmp : Cmp} (o : IsKeyOrder cmp) {key : Key} {b : Bound} {k x : List ℕ} → b ≡ From (key x) → key x ≡ k → IsFront cmp key b k (x ∷ [])
+front_line {cmp} o {key} {x = x} is same = rw (is, ← same) (record { own = (refl, tt); coming = λ r c. (self_at_most cmp o (key x), c); behind = λ r c. c; under = self_at_most cmp o (key x) })
+
+-- such lines are passed
+pub pass_front : {tool : Tool} (o : IsKeyOrder tool.cmp) (k : List ℕ) (q f : Side → Lines) {b : Side → Bound} {p : Side → Lines} {was is new : Output}
+    → ((side : Side) → IsFront tool.cmp (tool.key side) (b side) k (f side)) → ((side : Side) → q side ≡ p side ++ f side) → tool.entries k [] [] ≡ []
+    → ((r : Side → Lines) → ((side : Side) → Coming tool.cmp (tool.key side) (b side) (r side))
+    → tool.entries k (f First ++ with_key (tool.key First) (r First) k) (f Second ++ with_key (tool.key Second) (r Second) k) ≡ tool.entries k (f First) (f Second) ++ entries_of tool r k)
+    → is.faulted ≡ false → Merging tool b p was is → Wrote is new (text tool.end (by_keys tool all_keys f)) → Merging tool b q was new × Late tool b q was new
+pass_front {tool} o k q f {b} {p} {was} {is} {new} front all none law clean m wrote =
+    let nothing = λ (side : Side). rw append-nil at ((front side).coming [] (coming_none tool.cmp (tool.key side) (b side))) in
+    let texts = ap (text tool.end) (m.splits.split all_keys f nothing) ∙ text-append tool.end (by_keys tool all_keys p) (by_keys tool all_keys f) in
+    subst (λ (l : Side → Lines). Merging tool b l was new × Late tool b l was new) (λ i side. sym (all side) i) (
       record {
-        splits = splits_step tool b b p f m.splits coming front;
-        under = λ of side. EachKey-append (Under tool.cmp (b of)) (tool.key side) _ _ (m.under of side) (under of side);
-        wrote = rw both_texts (wrote_trans was is new (text tool.end (by_keys tool all_keys p)) (text tool.end (by_keys tool all_keys f)) clean m.wrote wrote);
+        splits = splits_step tool b b p f m.splits (λ side. (front side).coming)
+            (λ w r c. front_first tool o w k f r (λ side. (front side).own) (λ side. (front side).behind (r side) (c side)) none (law r c));
+        under = λ of side. EachKey-append (Under tool.cmp (b of)) (tool.key side) _ _ (m.under of side)
+            (EachKey-weaker (λ y. y ≡ k) (Under tool.cmp (b of)) (λ y e. rw e (front of).under) _ _ (front side).own);
+        wrote = rw texts (wrote_trans _ _ _ _ _ clean m.wrote wrote);
       },
-      record { mid = is; front = p; tail = f; clean = clean; wrote = m.wrote; bytes = text tool.end (by_keys tool all_keys f); more = wrote; all = sym both_texts; split = λ side. refl; coming = coming },
+      record {
+        mid = is;
+        front = p;
+        tail = f;
+        clean = clean;
+        wrote = m.wrote;
+        bytes = text tool.end (by_keys tool all_keys f);
+        more = wrote;
+        all = sym texts;
+        split = λ side. refl;
+        coming = λ side. (front side).coming;
+      },
     )
 
 -- an input has gone to its next line
@@ -83,10 +108,8 @@ pub settles : {tool : Tool} {b : Side → Bound} {p : Side → Lines} {was is : 
     → ((r : Lines) → Coming tool.cmp (tool.key s) d r → Coming tool.cmp (tool.key s) (b s) r) → ((k : List ℕ) → Under tool.cmp (b s) k → Under tool.cmp d k)
     → Merging tool (put s d b) p was is
 settles {tool} {b} {p} s d m coming under = record {
-  splits = splits_later tool b (put s d b) p m.splits (put_each (λ side e. (r : Lines) → Coming tool.cmp (tool.key side) e r
-      → Coming tool.cmp (tool.key side) (b side) r) s d b coming (λ side r c. c));
-  under = λ of side. put_each (λ t e. EachKey (Under tool.cmp e) (tool.key side) (p side)) s d b
-      (EachKey-weaker _ _ under _ _ (m.under s side)) (λ t. m.under t side) of;
+  splits = record { split = λ w r c. m.splits.split w r (λ side. put_each (λ t e. Coming tool.cmp (tool.key t) e (r t) → Coming tool.cmp (tool.key t) (b t) (r t)) s d b (coming (r s)) (λ t h. h) side (c side)) };
+  under = λ of side. put_each (λ t e. EachKey (Under tool.cmp e) (tool.key side) (p side)) s d b (EachKey-weaker _ _ under _ _ (m.under s side)) (λ t. m.under t side) of;
   wrote = m.wrote;
 }
 

@@ -105,14 +105,6 @@ module _ (tool : Tool) where
     pub split : (w : List ℕ → Bool) (r : Side → Lines) → ((side : Side) → Coming tool.cmp (tool.key side) (b side) (r side))
         → by_keys tool w (λ side. p side ++ r side) ≡ by_keys tool w p ++ by_keys tool w r
 
-  pub splits_none : (b : Side → Bound) → Splits b (λ side. [])
-  splits_none b = record { split = λ w r c. refl }
-
-  -- less may come
-  pub splits_later : (b d : Side → Bound) (p : Side → Lines) → Splits b p
-      → ((side : Side) (r : Lines) → Coming tool.cmp (tool.key side) (d side) r → Coming tool.cmp (tool.key side) (b side) r) → Splits d p
-  splits_later b d p s u = record { split = λ w r c. s.split w r (λ side. u side (r side) (c side)) }
-
   -- lines are passed whose entries come first of all that may come
   pub splits_step : (b d : Side → Bound) (p f : Side → Lines) → Splits b p
       → ((side : Side) (r : Lines) → Coming tool.cmp (tool.key side) (d side) r → Coming tool.cmp (tool.key side) (b side) (f side ++ r))

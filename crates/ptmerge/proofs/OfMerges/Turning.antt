@@ -24,10 +24,10 @@ use Rattle.ptmerge.specs.Sides.{put, other}
 use Rattle.ptmerge.specs.Steps.{GoesBefore, IsDecided, IsNamed, last_key}
 use Rattle.ptmerge.proofs.OfMerges.Bounds.{Bound, From, Fallen, Over, Coming, Falling, FallFrom, Under, Begun}
 use Rattle.ptmerge.proofs.OfMerges.Got.{More}
-use Rattle.ptmerge.proofs.OfMerges.Least.{EachKey, EachKey-weaker, front_first, with_key-above}
+use Rattle.ptmerge.proofs.OfMerges.Least.{EachKey, EachKey-weaker, with_key-above}
 use Rattle.ptmerge.proofs.OfMerges.Orders.{IsKeyOrder, AtMost, Above, above_at_most, above_not_le, above_up, greater_flips, is_greater, self_at_most}
 use Rattle.ptmerge.proofs.OfMerges.Pairs.{put_both, put_each, put_other, put_same, side_case}
-use Rattle.ptmerge.proofs.OfMerges.Passing.{Late, Merging, StopsAt, late_none, not_below, passes, settles}
+use Rattle.ptmerge.proofs.OfMerges.Passing.{IsFront, Late, Merging, StopsAt, front_line, late_none, not_below, pass_front, settles}
 use Rattle.ptmerge.proofs.OfMerges.Slotted.{line_other}
 use Rattle.ptmerge.proofs.OfMerges.Splitting.{all_keys, none_wanted}
 use Rattle.ptmerge.proofs.OfMerges.Standing.{Sided, Stands, Next, Passed, goes_next, passed, sided_keeps}
@@ -75,17 +75,7 @@ pub record IsLineByLine (tool : Tool) : Type 0 where
 abbrev pub alone : Side → List ℕ → Side → Lines
 alone s x = put s (x ∷ []) (λ side. [])
 
--- lines of one key k that an input passes, before all that may come of it
-pub record IsFront (cmp : Cmp) (key : Key) (b : Bound) (k : List ℕ) (f : Lines) : Type 0 where
-  pub own : EachKey (λ y. y ≡ k) key f
-  pub coming : (r : Lines) → Coming cmp key b r → Coming cmp key b (f ++ r)
-  pub behind : (r : Lines) → Coming cmp key b r → EachKey (AtMost cmp k) key r
-  pub under : Under cmp b k
-
--- the line at which it stands, or none
-pub front_line : {cmp : Cmp} (o : IsKeyOrder cmp) {key : Key} {b : Bound} {k x : List ℕ} → b ≡ From (key x) → key x ≡ k → IsFront cmp key b k (x ∷ [])
-front_line {cmp} o {key} {x = x} is same = rw (is, ← same) (record { own = (refl, tt); coming = λ r c. (self_at_most cmp o (key x), c); behind = λ r c. c; under = self_at_most cmp o (key x) })
-
+-- an input that has no line of the key, and only greater ones
 front_none : {cmp : Cmp} (o : IsKeyOrder cmp) {key : Key} {b : Bound} {k : List ℕ} → IsAbove cmp key k b → Under cmp b k → IsFront cmp key b k []
 front_none {cmp} o {key} {k = k} above under = record {
   own = tt;
@@ -93,18 +83,6 @@ front_none {cmp} o {key} {k = k} above under = record {
   behind = λ r c. EachKey-weaker _ _ (λ y g. above_at_most cmp o k y g) _ _ (above r c);
   under = under;
 }
-
--- such lines are passed
-pub pass_front : {tool : Tool} (o : IsKeyOrder tool.cmp) (k : List ℕ) (q f : Side → Lines) {b : Side → Bound} {p : Side → Lines} {was is new : Output}
-    → ((side : Side) → IsFront tool.cmp (tool.key side) (b side) k (f side)) → ((side : Side) → q side ≡ p side ++ f side) → tool.entries k [] [] ≡ []
-    → ((r : Side → Lines) → ((side : Side) → Coming tool.cmp (tool.key side) (b side) (r side))
-    → tool.entries k (f First ++ with_key (tool.key First) (r First) k) (f Second ++ with_key (tool.key Second) (r Second) k) ≡ tool.entries k (f First) (f Second) ++ entries_of tool r k)
-    → is.faulted ≡ false → Merging tool b p was is → Wrote is new (text tool.end (by_keys tool all_keys f)) → Merging tool b q was new × Late tool b q was new
-pass_front {tool} o k q f {b} {p} {was} {is} {new} front all none law clean m wrote =
-    subst (λ (l : Side → Lines). Merging tool b l was new × Late tool b l was new) (λ i side. sym (all side) i)
-    (passes tool b p f was is new clean m (λ side. (front side).coming)
-    (λ w r c. front_first tool o w k f r (λ side. (front side).own) (λ side. (front side).behind (r side) (c side)) none (law r c))
-    (λ of side. EachKey-weaker (λ y. y ≡ k) (Under tool.cmp (b of)) (λ y e. rw e (front of).under) _ _ (front side).own) wrote)
 
 -- a line whose key goes before all that may come of the other input is passed
 pub pass_one : (tool : Tool) (o : IsKeyOrder tool.cmp) → IsLineByLine tool
