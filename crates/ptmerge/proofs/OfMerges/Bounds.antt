@@ -70,19 +70,11 @@ FallFrom cmp k (Some d) = AtMost cmp k d.last_key
 pub after_from : (cmp : Cmp) (o : IsKeyOrder cmp) (key : Key) (k : List ℕ) (n : ℕ) (w : Lines) → EachKey (AtMost cmp k) key (ordered_after cmp key (Some k) w)
     × FallFrom cmp k (fall_after cmp key (Some k) n w)
 after_from cmp o key k n [] = (tt, tt)
-after_from cmp o key k n (x ∷ w) = by (is_gt (cmp k (key x))) refl (after_from cmp o key (key x) (n + 1) w)
-  where
-    up : is_gt (cmp k (key x)) ≡ false → (f : Option Fall) → FallFrom cmp (key x) f → FallFrom cmp k f
-    up h None a = tt
-    up h (Some d) a = at_most_trans cmp o k (key x) d.last_key h a
-
-    by : (b : Bool) → is_gt (cmp k (key x)) ≡ b → EachKey (AtMost cmp (key x)) key (ordered_after cmp key (Some (key x)) w) × FallFrom cmp (key x) (fall_after cmp key (Some (key x)) (n + 1) w)
-        → EachKey (AtMost cmp k) key (cond b [] (x ∷ ordered_after cmp key (Some (key x)) w)) × FallFrom cmp k (cond b (Some (fall_at (Some k) n)) (fall_after cmp key (Some (key x)) (n + 1) w))
-    by true h ih = (tt, self_at_most cmp o k)
-    by false h ih = (
-      (h, EachKey-weaker _ _ (λ y a. at_most_trans cmp o k (key x) y h a) _ _ ih.0),
-      up h (fall_after cmp key (Some (key x)) (n + 1) w) ih.1,
-    )
+after_from cmp o key k n (x ∷ w) =
+    let ih = after_from cmp o key (key x) (n + 1) w in
+    let weaker : is_gt (cmp k (key x)) ≡ false → EachKey (AtMost cmp k) key (ordered_after cmp key (Some (key x)) w) =
+    λ h. EachKey-weaker _ _ (λ y a. at_most_trans cmp o k (key x) y h a) _ _ ih.0 in
+    grind (arith, ih, weaker, at_most_trans, self_at_most cmp o k)
 
 -- What is still to come of an input: nothing is known; keys, and a fall, from k on; no lines, and this fall; no lines
 -- and no fall.

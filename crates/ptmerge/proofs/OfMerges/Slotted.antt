@@ -14,8 +14,7 @@ pub line_other : (s : Slots) (a b : ℕ) (bytes : List ℕ) → a ≢ b → line
 line_other s a b bytes n = get_or-set_other s.lines a b bytes [] (λ e. n (sym e))
 
 added_same : (xs : List (List ℕ)) (i : ℕ) → get_or (xs ++ [] ∷ []) i [] ≡ get_or xs i []
-added_same [] zero = refl
-added_same [] (suc i) = refl
+added_same [] i = grind arith
 added_same (x ∷ xs) zero = refl
 added_same (x ∷ xs) (suc i) = added_same xs i
 

@@ -199,10 +199,10 @@ module _ (end : ℕ) (cmp : Cmp) (o : IsKeyOrder cmp) (key : Key) (old now new :
   goes_next last within apart got number begun is (inr e) = subst (Goal last) (sym e.place) (at_end last e got number begun)
 
 -- each step leaves less to do
-pub comes_less : (key : Key) (cmp : Cmp) (place next : Sorted) (now new : Reader) (before after : Slots) → place.stand ≡ Head
+pub comes_less : {key : Key} {cmp : Cmp} {place next : Sorted} {now new : Reader} {before after : Slots} → place.stand ≡ Head
     → Comes key cmp place next now new before after → budget new + alive next.stand < budget now + alive place.stand
-comes_less key cmp place next now new before after head (inl e) = omega (arith, e.gives.less, alive_most next.stand, ap alive head)
-comes_less key cmp place next now new before after head (inr e) = omega (arith, e.goes.reads.count, ap (λ (q : Sorted). alive q.stand) e.place, ap alive head)
+comes_less {next = next} head (inl e) = omega (arith, e.gives.less, alive_most next.stand, ap alive head)
+comes_less head (inr e) = omega (arith, e.goes.reads.count, ap (λ (q : Sorted). alive q.stand) e.place, ap alive head)
 
 -- ---- an input stands at a line with the key of the line before
 

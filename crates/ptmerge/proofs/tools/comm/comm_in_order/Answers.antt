@@ -51,14 +51,14 @@ pub steps-preserved-in-Continue-branch-2 : goal.steps-preserved-in-Continue-bran
 steps-preserved-in-Continue-branch-2 g c =
     let i = c.steps.invariant in
     let p = c.pass.ensures in
-    let turn = alone_on i.turn c.in-First.ensures (c.ending-ending.ensures ∙ c.requires.ending.0) refl p.wrote c.in_ok-pass-in-First.ensures.passes in
+    let turn = alone_on i.turn c.in-First.ensures (cc) refl p.wrote c.in_ok-pass-in-First.ensures.passes in
     record { turn = rw p.order turn; order = p.order ∙ i.order }
 
 pub steps-preserved-in-Continue-branch-3 : goal.steps-preserved-in-Continue-branch-3
 steps-preserved-in-Continue-branch-3 g c =
     let i = c.steps.invariant in
     let p = c.pass-in-Second.ensures in
-    let turn = alone_on i.turn c.in-Second.ensures (c.ending-ending.ensures ∙ c.requires.ending.0) c.lead-lead2.ensures p.wrote c.in_ok-pass-in-Second.ensures.passes in
+    let turn = alone_on i.turn c.in-Second.ensures (cc) c.lead-lead2.ensures p.wrote c.in_ok-pass-in-Second.ensures.passes in
     record { turn = rw p.order turn; order = p.order ∙ i.order }
 
 pub steps-preserved : goal.steps-preserved
@@ -85,19 +85,19 @@ steps-smaller g c =
 pub returns-in_err-pass-in-First : goal.returns-in_err-pass-in-First
 returns-in_err-pass-in-First g c =
     let i = c.steps.invariant in
-    rw i.order at (alone_stops i.turn c.in-First.ensures (c.ending-ending.ensures ∙ c.requires.ending.0) refl c.pass.ensures.wrote
+    rw i.order at (alone_stops i.turn c.in-First.ensures (cc) refl c.pass.ensures.wrote
     (is_told c.from_residual-in_err-pass-in-First.ensures.1) c.in_err-pass-in-First.ensures.passes)
 
 pub returns-in_err-pass-in-Second : goal.returns-in_err-pass-in-Second
 returns-in_err-pass-in-Second g c =
     let i = c.steps.invariant in
-    rw i.order at (alone_stops i.turn c.in-Second.ensures (c.ending-ending.ensures ∙ c.requires.ending.0) c.lead-lead2.ensures c.pass-in-Second.ensures.wrote
+    rw i.order at (alone_stops i.turn c.in-Second.ensures (cc) c.lead-lead2.ensures c.pass-in-Second.ensures.wrote
     (is_told c.from_residual-in_err-pass-in-Second.ensures.1) c.in_err-pass-in-Second.ensures.passes)
 
 pub returns-in_err-pass-in-Both : goal.returns-in_err-pass-in-Both
 returns-in_err-pass-in-Both g c =
     let i = c.steps.invariant in
-    rw i.order at (pair_stops i.turn c.in-Both.ensures (c.ending-ending.ensures ∙ c.requires.ending.0) c.lead-lead3.ensures c.pass-in-Both.ensures.wrote
+    rw i.order at (pair_stops i.turn c.in-Both.ensures (cc) c.lead-lead3.ensures c.pass-in-Both.ensures.wrote
     (is_told c.from_residual-in_err-pass-in-Both.ensures.1) c.in_err-pass-in-Both.ensures.passes)
 
 pub returns-in_err-go_on-in-Both : goal.returns-in_err-go_on-in-Both
