@@ -111,10 +111,7 @@ Follows Over w = w ≡ []
 Follows b w = Unit {0}
 
 pub coming_none : (cmp : Cmp) (key : Key) (b : Bound) → Coming cmp key b []
-coming_none cmp key Free = tt
-coming_none cmp key (From k) = tt
-coming_none cmp key (Fallen d) = refl
-coming_none cmp key Over = refl
+coming_none cmp key b = grind arith
 
 -- The lines ls have come, of which p are passed: each list that goes on with them is in order up to p and some that may
 -- come.

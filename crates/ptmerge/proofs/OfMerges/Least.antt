@@ -58,11 +58,7 @@ keys-Each P key1 key2 (x ∷ xs) ys e = let r = keys-Each P key1 key2 xs ys e.1 
 
 pub Each-insert : (cmp : Cmp) (P : List ℕ → Type 0) (k : List ℕ) (xs : Lines) → P k → Each P xs → Each P (insert_key cmp k xs)
 Each-insert cmp P k [] h e = (h, tt)
-Each-insert cmp P k (x ∷ xs) h e = elim (cmp k x) as (λ r. Each P (match_ordering r (k ∷ x ∷ xs) (x ∷ xs) (x ∷ insert_key cmp k xs))) [
-  | Less ↦ (h, e)
-  | Equal ↦ e
-  | Greater ↦ (e.0, Each-insert cmp P k xs h e.1)
-]
+Each-insert cmp P k (x ∷ xs) h e = let ih = Each-insert cmp P k xs h e.1 in grind (arith, ih)
 
 pub Each-distinct : (cmp : Cmp) (P : List ℕ → Type 0) (xs : Lines) → Each P xs → Each P (distinct cmp xs)
 Each-distinct cmp P [] e = tt

@@ -121,10 +121,7 @@ StopsAt tool b side number = (ls r : Side → Lines) → ((s : Side) → Coming 
 -- ---- what is decided
 
 pub follows : (b : Bound) (w : Lines) → (b ≡ Over → w ≡ []) → Follows b w
-follows Free w h = tt
-follows (From k) w h = tt
-follows (Fallen d) w h = tt
-follows Over w h = h refl
+follows b w h = grind arith
 
 pub both_under : (key : Key) (P Q R : List ℕ → Type 0) → ((k : List ℕ) → P k → Q k → R k) → (xs : Lines) → EachKey P key xs → EachKey Q key xs → EachKey R key xs
 both_under key P Q R f [] p q = tt

@@ -64,11 +64,7 @@ module _ (cmp : Cmp) (o : IsKeyOrder cmp) where
 
   -- what the lists fall behind is at least k
   pub under_fall : (b : Bound) (k : List ℕ) (f : Option Fall) → Under cmp b k → Falling cmp b f → FallFrom cmp k f
-  under_fall Free k f u h = absurd u
-  under_fall (From l) k None u h = tt
-  under_fall (From l) k (Some d) u h = at_most_trans cmp o k l d.last_key u h
-  under_fall (Fallen d) k f u h = rw h u
-  under_fall Over k f u h = rw h tt
+  under_fall b k f u h = grind (arith, at_most_trans)
 
   up_to_from : (k : List ℕ) (f1 f2 : Option Fall) → FallFrom cmp k f1 → FallFrom cmp k f2 → up_to cmp (disorder_of cmp f1 f2) k ≡ true
   up_to_from k f1 f2 h1 h2 = grind (arith, at_most_is_le)

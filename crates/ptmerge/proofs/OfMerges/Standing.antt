@@ -107,8 +107,7 @@ stand_is cmp key (Some k) place store next l = let t : nat_lt 0 place.number ≡
 
 -- nothing more comes
 over : (cmp : Cmp) (key : Key) (last : Option (List ℕ)) (r : Lines) → r ≡ [] → Coming cmp key (behind last) r
-over cmp key None r none = tt
-over cmp key (Some k) r none = rw none tt
+over cmp key last r none = grind arith
 
 from_next : {cmp : Cmp} (o : IsKeyOrder cmp) (key : Key) (last : Option (List ℕ)) (x : List ℕ) → falls cmp last (key x) ≡ false
     → ((r : Lines) → EachKey (AtMost cmp (key x)) key r → Coming cmp key (behind last) r) × ((k : List ℕ) → Under cmp (behind last) k → AtMost cmp k (key x))

@@ -164,8 +164,7 @@ named_is cmp s f d e u = grind arith
 
 module _ (cmp : Cmp) (o : IsKeyOrder cmp) where
   precedes_above : (s : Side) (l e : List ℕ) → Above cmp l e → Precedes cmp s l e
-  precedes_above First l e g = ap is_lt g
-  precedes_above Second l e g = ap is_lt (greater_flips cmp o e l g)
+  precedes_above s l e g = grind (arith, greater_flips)
 
   named_precedes : (s : Side) (l head last : List ℕ) (m : ℕ) → IsNamed cmp s l (Disorder m) head last → Precedes cmp s l last
   named_precedes First l head last m h = not_below cmp o last l h
