@@ -35,12 +35,6 @@ ordered_is cmp key (x ∷ y ∷ more) = let ih = ordered_is cmp key (y ∷ more)
 abbrev by_length : Cmp → Key → Option (List ℕ) → ℕ → Lines → Lines → Option Fall
 by_length cmp key last n part ls = if nat_lt (length part) (length ls) then Some (record { last_key = unwrap_or (last_or last (map key part)) []; line = (n + length part) + 1 }) else None
 
-lt_suc : (a b : ℕ) → nat_lt (suc a) (suc b) ≡ nat_lt a b
-lt_suc a b = grind (arith, nat_tests)
-
-lt_some : (n : ℕ) → nat_lt 0 (suc n) ≡ true
-lt_some n = grind (arith, nat_tests)
-
 by_length_is : (cmp : Cmp) (key : Key) (last : Option (List ℕ)) (n : ℕ) (ls : Lines) → by_length cmp key last n (ordered_after cmp key last ls) ls ≡ fall_after cmp key last n ls
 by_length_is cmp key last n [] = refl
 by_length_is cmp key last n (x ∷ w) = let ih = by_length_is cmp key (Some (key x)) (n + 1) w in grind (arith, nat_tests, ih)

@@ -149,21 +149,12 @@ module _ (tool : Tool) (o : IsKeyOrder tool.cmp) where
       rest = over_others w k ls _ (Each-distinct _ _ _ (others_above tool.cmp o k (keys tool ls) all))
           ∙ ap (λ l. over w (others_of k ls) (distinct tool.cmp l)) (others-keys (tool.key First) (tool.key Second) k (ls First) (ls Second))
 
-      front : (t : Bool) → flat_map (entries_of tool ls) (cond t (k ∷ filter w ds) (filter w ds)) ≡ cond t (entries_of tool ls k) [] ++ over w ls ds
-      front true = refl
-      front false = refl
-
-      nothing : (t : Bool) → with_key (tool.key First) (ls First) k ≡ [] → with_key (tool.key Second) (ls Second) k ≡ [] → [] ≡ cond t (entries_of tool ls k) []
-      nothing true a b = sym none ∙ (λ i. tool.entries k (sym a i) (sym b i))
-      nothing false a b = refl
-
       by : (distinct tool.cmp (keys tool ls) ≡ k ∷ ds) ⊎ ((distinct tool.cmp (keys tool ls) ≡ ds) × Each (λ y. bytes_eq y k ≡ false) (keys tool ls))
           → by_keys tool w ls ≡ cond (w k) (entries_of tool ls k) [] ++ by_keys tool w (others_of k ls)
-      by (inl d) = ap (over w ls) d ∙ front (w k) ∙ ap (λ l. cond (w k) (entries_of tool ls k) [] ++ l) rest
+      by (inl d) = rw (d, ← rest) (grind arith)
       by (inr d) =
           let n = keys-Each (λ y. bytes_eq y k ≡ false) (tool.key First) (tool.key Second) (ls First) (ls Second) d.1 in
-          ap (over w ls) d.0 ∙ rest
-          ∙ ap (λ l. l ++ by_keys tool w (others_of k ls)) (nothing (w k) (with_key-none (tool.key First) k (ls First) n.0) (with_key-none (tool.key Second) k (ls Second) n.1))
+          rw (d.0, ← rest) (grind (arith, none, with_key-none (tool.key First) k (ls First) n.0, with_key-none (tool.key Second) k (ls Second) n.1))
 
   -- lines of one key, in front of lines of no lesser keys
   pub with_key-front : (key : Key) (k : List ℕ) (f r : Lines) → EachKey (λ x. x ≡ k) key f → (with_key key (f ++ r) k ≡ f ++ with_key key r k) × (without key k (f ++ r) ≡ without key k r)

@@ -22,9 +22,6 @@ AtMost cmp a b = is_gt (cmp a b) ≡ false
 abbrev pub Above : Cmp → List ℕ → List ℕ → Type 0
 Above cmp k y = cmp y k ≡ Greater
 
-pub is_less : (r : Ordering) → is_lt r ≡ true → r ≡ Less
-is_less r h = grind arith
-
 pub is_greater : (r : Ordering) → is_gt r ≡ true → r ≡ Greater
 is_greater r h = grind arith
 

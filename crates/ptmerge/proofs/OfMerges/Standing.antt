@@ -102,8 +102,7 @@ pub record Next (end : ℕ) (cmp : Cmp) (key : Key) (old new : Reader) (place : 
 
 stand_is : (cmp : Cmp) (key : Key) (last : Option (List ℕ)) (place : Sorted) (store : Slots) (next : List ℕ) → LastIs key last place store
     → stand_at key cmp place.number (line store place.standing) next ≡ cond (falls cmp last (key next)) (Disorder (place.number + 1)) Head
-stand_is cmp key None place store next none = let t : nat_lt 0 place.number ≡ false = grind (arith, nat_tests) in rw t refl
-stand_is cmp key (Some k) place store next l = let t : nat_lt 0 place.number ≡ true = grind (arith, nat_tests) in rw (t, l.1) refl
+stand_is cmp key last place store next l = grind (arith, nat_tests)
 
 -- nothing more comes
 over : (cmp : Cmp) (key : Key) (last : Option (List ℕ)) (r : Lines) → r ≡ [] → Coming cmp key (behind last) r

@@ -167,8 +167,7 @@ module _ (cmp : Cmp) (o : IsKeyOrder cmp) where
   precedes_above s l e g = grind (arith, greater_flips)
 
   named_precedes : (s : Side) (l head last : List ℕ) (m : ℕ) → IsNamed cmp s l (Disorder m) head last → Precedes cmp s l last
-  named_precedes First l head last m h = not_below cmp o last l h
-  named_precedes Second l head last m h = ap is_lt (greater_flips cmp o last l (is_greater (cmp last l) h))
+  named_precedes s l head last m h = grind (arith, not_below, greater_flips cmp o last l)
 
   -- the other input, where this one is named
   named_other : (key : Key) (s : Side) (d : Fall) (stand : Stand) (place : Sorted) (store : Slots) (now : Reader) (ls p : Lines) (b : Bound)
