@@ -165,7 +165,7 @@ module _ (tool : Tool) (o : IsKeyOrder tool.cmp) where
 
   pub at_most-same : (key : Key) (k : List ℕ) (f r : Lines) → EachKey (λ x. x ≡ k) key f → EachKey (AtMost tool.cmp k) key r → EachKey (AtMost tool.cmp k) key (f ++ r)
   at_most-same key k [] r e h = h
-  at_most-same key k (x ∷ f) r e h = (subst (AtMost tool.cmp k) (sym e.0) (self_at_most tool.cmp o k), at_most-same key k f r e.1 h)
+  at_most-same key k (x ∷ f) r e h = (rw e.0 (self_at_most tool.cmp o k), at_most-same key k f r e.1 h)
 
   glued : (t : Bool) (all a b rest : Lines) → all ≡ a ++ b → cond t all [] ++ rest ≡ (cond t a [] ++ []) ++ (cond t b [] ++ rest)
   glued t all a b rest e = grind (arith, append_assoc a b rest, append-nil a)
@@ -177,18 +177,12 @@ module _ (tool : Tool) (o : IsKeyOrder tool.cmp) where
       → by_keys tool w (λ side. f side ++ r side) ≡ by_keys tool w f ++ by_keys tool w r
   front_first w k f r s a none law =
       let in_front = λ (side : Side). with_key-front (tool.key side) k (f side) (r side) (s side) in
-      let alone_in = λ (side : Side). with_key-front (tool.key side) k (f side) [] (s side) in
-      let rest = by_keys tool w (others_of k r) in
+      let alone_in = λ (side : Side). simp append-nil at (with_key-front (tool.key side) k (f side) [] (s side)) in
       let whole = least_first w k (λ side. f side ++ r side) (λ side. at_most-same (tool.key side) k (f side) (r side) (s side) (a side)) none in
-      let later = least_first w k r a none in
-      let alone = least_first w k (λ side. f side ++ []) (λ side. at_most-same (tool.key side) k (f side) [] (s side) tt) none in
-      let first : by_keys tool w f ≡ cond (w k) (tool.entries k (f First) (f Second)) [] ++ [] =
-      (λ i. by_keys tool w (λ side. sym (append-nil (f side)) i)) ∙ alone
-      ∙ (λ i. cond (w k) (tool.entries k (((alone_in First).0 ∙ append-nil (f First)) i) (((alone_in Second).0 ∙ append-nil (f Second)) i)) [] ++ by_keys tool w (λ side. (alone_in side).1 i)) in
+      let alone = least_first w k f (λ side. simp append-nil at (at_most-same (tool.key side) k (f side) [] (s side) tt)) none in
+      let first = alone ∙ (λ i. cond (w k) (tool.entries k ((alone_in First).0 i) ((alone_in Second).0 i)) [] ++ by_keys tool w (λ side. (alone_in side).1 i)) in
       whole ∙ (λ i. cond (w k) (tool.entries k ((in_front First).0 i) ((in_front Second).0 i)) [] ++ by_keys tool w (λ side. (in_front side).1 i))
-      ∙ glued (w k) (tool.entries k (f First ++ with_key (tool.key First) (r First) k) (f Second ++ with_key (tool.key Second) (r Second) k))
-      (tool.entries k (f First) (f Second)) (entries_of tool r k) rest law
-      ∙ (λ i. sym first i ++ sym later i)
+      ∙ glued (w k) _ (tool.entries k (f First) (f Second)) (entries_of tool r k) (by_keys tool w (others_of k r)) law ∙ (λ i. sym first i ++ sym (least_first w k r a none) i)
 
   -- no line above the key has it
   pub with_key-above : (key : Key) (k : List ℕ) (r : Lines) → EachKey (Above tool.cmp k) key r → with_key key r k ≡ []
