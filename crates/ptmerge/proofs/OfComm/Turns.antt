@@ -24,7 +24,7 @@ use Rattle.ptmerge.specs.Steps.{AreEqual, CannotStart, IsAlone, IsDecided, IsLen
 use Rattle.ptmerge.specs.Stores.{Adds, IsCleared}
 use Rattle.ptmerge.proofs.OfComm.CommEntries.{entries_both, entries_none, line_by_line, written_first, written_second, written_both}
 use Rattle.ptmerge.proofs.OfComm.CommTurns.{CannotPass, IsOpened, Placed, Running, adds_of, comes_slots, goes, goes_merging, passes_slots, passing_now, readable_of}
-use Rattle.ptmerge.proofs.OfComm.CommTurns.{runs_on, slots_of, standing, turn_stops, unfailed_of, went, wrote_as}
+use Rattle.ptmerge.proofs.OfComm.CommTurns.{runs_on, slots_of, standing, turn_stops, unfailed_of, went}
 use Rattle.ptmerge.proofs.OfMerges.GoingOn.{left, less, lent_on, place_is}
 use Rattle.ptmerge.proofs.OfMerges.Orders.{IsKeyOrder}
 use Rattle.ptmerge.proofs.OfMerges.Pairs.{both_each, put_other, put_same}

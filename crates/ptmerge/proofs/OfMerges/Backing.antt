@@ -1,12 +1,12 @@
 -- What had come of an input two blocks earlier: only lines that are passed.
-use Rattle.std.proofs.Common.{◌≡◌, ◌⊎◌, ⊎_elim, inl, inr, ℕ, ◌+◌, ◌≤◌, Bool, true, false, cond, List, [], ◌∷◌, ◌++◌, Option, Some, None, length, map, refl, sym}
-use Rattle.std.proofs.Common.{◌∙◌, ap, subst, arith, append_assoc, length-append}
+use Rattle.std.proofs.Common.{◌≡◌, ◌⊎◌, ⊎_elim, inl, inr, ℕ, ◌+◌, ◌≤◌, false, List, [], ◌∷◌, ◌++◌, Option, Some, None, length, map, refl, sym}
+use Rattle.std.proofs.Common.{◌∙◌, ap, arith, append_assoc, length-append}
 use Rattle.std.specs.List.{last_or}
 use Rattle.std.proofs.lemmas.List.{append-nil, append_cancel_right}
 use Rattle.ptlines.specs.Inputs.{Given, whole_lines}
 use Rattle.ptlines.specs.KeepingUp.{Before}
 use Rattle.ptlines.specs.Readers.{Reader}
-use Rattle.ptlines.specs.Text.{text, lines, ended_lines, IsLine, AreLines, AreLinesOf}
+use Rattle.ptlines.specs.Text.{text, ended_lines, IsLine, AreLines}
 use Rattle.ptlines.proofs.Coming.{given_of}
 use Rattle.ptlines.proofs.TextLaws.{ended_of_text, text_push, the_lines}
 use Rattle.ptmerge.specs.Keyed.{Lines, fall, is_below, ordered_part}

@@ -1,5 +1,5 @@
 -- What holds of both inputs of a merge once one of them went on.
-use Rattle.std.proofs.Common.{◌≡◌, ℕ, ◌+◌, ◌<◌, Result, Err, sym, ◌∙◌, ap, subst, arith}
+use Rattle.std.proofs.Common.{◌≡◌, ℕ, ◌+◌, ◌<◌, Result, Err, sym, ◌∙◌, ap, arith}
 use Rattle.ptlines.specs.Readers.{Reader, budget}
 use Rattle.ptlines.specs.Slots.{Slots}
 use Rattle.ptmerge.specs.declared.order.Side.{Side}

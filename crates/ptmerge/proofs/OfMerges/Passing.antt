@@ -1,8 +1,7 @@
 -- What was pushed of two inputs: the entries of the lines that are passed, which come first whatever is still to come.
-use Rattle.std.proofs.Common.{◌≡◌, ◌⊎◌, inl, inr, ℕ, ◌&&◌, ◌||◌, Bool, true, false, cond, List, [], ◌∷◌, ◌++◌, Option, Some, None, map, refl, sym, ◌∙◌, ap, subst, arith}
-use Rattle.std.specs.Prelude.{is_some}
+use Rattle.std.proofs.Common.{◌≡◌, ◌⊎◌, inl, inr, ℕ, ◌&&◌, Bool, true, false, List, [], ◌∷◌, ◌++◌, Option, Some, None, map, refl, sym, ◌∙◌, ap, subst, arith}
 use Rattle.std.specs.List.{last_or}
-use Rattle.std.specs.declared.cmp.Ordering.TheVariants.{Less, Equal, Greater}
+use Rattle.std.specs.declared.cmp.Ordering.TheVariants.{Greater}
 use Rattle.std.specs.Ordering.{is_lt, is_le, is_gt}
 use Rattle.std.proofs.lemmas.List.{append-nil}
 use Rattle.ptlines.specs.Outputs.{Output, Wrote}
@@ -108,7 +107,10 @@ pub settles : {tool : Tool} {b : Side → Bound} {p : Side → Lines} {was is : 
     → ((r : Lines) → Coming tool.cmp (tool.key s) d r → Coming tool.cmp (tool.key s) (b s) r) → ((k : List ℕ) → Under tool.cmp (b s) k → Under tool.cmp d k)
     → Merging tool (put s d b) p was is
 settles {tool} {b} {p} s d m coming under = record {
-  splits = record { split = λ w r c. m.splits.split w r (λ side. put_each (λ t e. Coming tool.cmp (tool.key t) e (r t) → Coming tool.cmp (tool.key t) (b t) (r t)) s d b (coming (r s)) (λ t h. h) side (c side)) };
+  splits = record {
+    split = λ w r c.
+        m.splits.split w r (λ side. put_each (λ t e. Coming tool.cmp (tool.key t) e (r t) → Coming tool.cmp (tool.key t) (b t) (r t)) s d b (coming (r s)) (λ t h. h) side (c side));
+  };
   under = λ of side. put_each (λ t e. EachKey (Under tool.cmp e) (tool.key side) (p side)) s d b (EachKey-weaker _ _ under _ _ (m.under s side)) (λ t. m.under t side) of;
   wrote = m.wrote;
 }
@@ -149,9 +151,9 @@ module _ (cmp : Cmp) (o : IsKeyOrder cmp) where
   past_none key other_key b p r u c = elim (last_or None (map key p)) as (λ l. last_or None (map key p) ≡ l → EachKey (λ k. is_below cmp k l ≡ false) other_key r) [
     | None ↦ λ e. EachKey-all (λ k. false ≡ false) other_key (λ k. refl) r
     | Some x ↦ λ e. (
-      let ux = last_has key (Under cmp b) None p x e (λ y bad. cc) u in
-      EachKey-weaker _ _ (λ k h. not_below k x h) _ _ (coming_under other_key b x r ux c)
-    )
+        let ux = last_has key (Under cmp b) None p x e (λ y bad. cc) u in
+        EachKey-weaker _ _ (λ k h. not_below k x h) _ _ (coming_under other_key b x r ux c)
+        )
   ] refl
 
   -- the tests hold of each key below one of which they hold

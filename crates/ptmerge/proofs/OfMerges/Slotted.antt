@@ -115,7 +115,19 @@ four_cleared s a b c d four is0 is1 is2 is3 =
     let e3 = emptied c d 3 (omega (arith, e0.slots, e1.slots, e2.slots)) is3 in
     record {
       slots = e3.slots ∙ e2.slots ∙ e1.slots ∙ e0.slots;
-      emptied = omega (arith, e0.less, e1.less, e2.less, e3.less, e0.others 1 (λ e. cc), e0.others 2 (λ e. cc), e0.others 3 (λ e. cc), e1.others 2 (λ e. cc), e1.others 3 (λ e. cc), e2.others 3 (λ e. cc));
+      emptied = omega (
+        arith,
+        e0.less,
+        e1.less,
+        e2.less,
+        e3.less,
+        e0.others 1 (λ e. cc),
+        e0.others 2 (λ e. cc),
+        e0.others 3 (λ e. cc),
+        e1.others 2 (λ e. cc),
+        e1.others 3 (λ e. cc),
+        e2.others 3 (λ e. cc),
+      );
       peak = omega (arith, e0.peak, e1.peak, e2.peak, e3.peak, e0.less, e1.less, e2.less);
       denied = e3.denied ∙ e2.denied ∙ e1.denied ∙ e0.denied;
     }

@@ -1,5 +1,5 @@
 -- How a tool over two inputs starts.
-use Rattle.std.proofs.Common.{◌≡◌, inl, inr, ℕ, ◌≤◌, ◌<◌, Bool, false, true, cond, List, [], None, Err, length, refl, sym, ◌∙◌, arith}
+use Rattle.std.proofs.Common.{◌≡◌, inl, inr, ℕ, ◌≤◌, ◌<◌, Bool, false, cond, List, [], None, Err, length, refl, sym, ◌∙◌, arith}
 use Rattle.std.proofs.lemmas.Bool.{false≢true}
 use Rattle.ptlangs.specs.Jobs.{ending}
 use Rattle.ptlines.specs.Readers.{Reader, Reads, IsSound}
@@ -113,7 +113,8 @@ module _ (tool : Tool) (o : IsKeyOrder tool.cmp) (fits : KeepsTwo tool) (old : S
       → Running tool old (state (both (new.reader First) (new.reader Second)) old.out new.store) (both (place First) (place Second))
   starts_well new place slots s = both_stand s.made s.four s.mid (new.reader First) (place First) s.came slots (new.reader Second) (place Second) new.store s.later
 
-  unslotted : (new : Inputs) (fault : MergeFault) → IsUnslotted (record { reader = old.reader; store = old.store }) new fault → IsMerge tool old (state new.reader old.out new.store) (Err fault)
+  unslotted : (new : Inputs) (fault : MergeFault) → IsUnslotted (record { reader = old.reader; store = old.store }) new fault
+      → IsMerge tool old (state new.reader old.out new.store) (Err fault)
   unslotted new fault u =
       let same : (side : Side) → (new.reader side).failed ≡ (old.reader side).failed = λ side. rw (u.unread side) refl in
       rw u.memory (stops _ o _ _ old.reader (λ side. []) no_lines no_lines (λ side. Free)

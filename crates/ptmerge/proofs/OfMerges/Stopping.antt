@@ -3,7 +3,7 @@ use Rattle.std.proofs.Common.{arith, inl, refl, ◌≡◌, ℕ, ◌≤◌, true,
 use Rattle.std.proofs.lemmas.Bool.{false≢true}
 use Rattle.std.proofs.lemmas.List.{append-nil}
 use Rattle.ptlines.specs.Inputs.{Given, whole_lines}
-use Rattle.ptlines.specs.KeepingUp.{Before, WorksOff, KeepsUp}
+use Rattle.ptlines.specs.KeepingUp.{Before, KeepsUp}
 use Rattle.ptlines.specs.Outputs.{Output}
 use Rattle.ptlines.specs.Readers.{Reader, Reads, IsDone, IsSound}
 use Rattle.ptlines.specs.Slots.{Slots}
@@ -19,14 +19,13 @@ use Rattle.ptmerge.specs.declared.faults.MergeFault.TheVariants as faults
 use Rattle.ptmerge.specs.declared.order.Side.{Side}
 use Rattle.ptmerge.specs.declared.order.Side.TheVariants.{First, Second}
 use Rattle.ptmerge.specs.declared.merging.sorted.Sorted.{Sorted}
-use Rattle.ptmerge.specs.declared.merging.sorted.Stand.{Stand}
 use Rattle.ptmerge.specs.declared.merging.sorted.Stand.TheVariants.{Head, Ended, Disorder}
 use Rattle.ptmerge.specs.Keyed.{Lines, Tool, by_keys, decided, disorder, disorder_of, fall, lines_of, merged, merged_entries, ordered_part, settled, up_to}
 use Rattle.ptmerge.specs.Merges.{State, Agree, Ends, IsMerge, IsUnread, IsWhole, ended_by}
 use Rattle.ptmerge.specs.Orders.{Cmp, Key}
 use Rattle.ptmerge.specs.Sides.{other, put}
 use Rattle.ptmerge.proofs.OfMerges.Backing.{Back, Near, back}
-use Rattle.ptmerge.proofs.OfMerges.Bounds.{Bound, Free, From, Over, Coming, FallFrom, Under, Begun, Reaches, reaches_free, reaches_passed}
+use Rattle.ptmerge.proofs.OfMerges.Bounds.{Bound, Free, From, Over, Coming, Begun, Reaches, reaches_free, reaches_passed}
 use Rattle.ptmerge.proofs.OfMerges.Deciding.{decided_begins}
 use Rattle.ptmerge.proofs.OfMerges.Got.{Got, More, Known, got_known, got_lines, got_none, reads_nothing}
 use Rattle.ptmerge.proofs.OfMerges.Least.{EachKey-weaker}

@@ -1,5 +1,5 @@
 -- How a merge goes on from a line that was passed, and how it stops there.
-use Rattle.std.proofs.Common.{◌≡◌, ◌≢◌, ⊎_elim, inl, inr, ℕ, ◌+◌, ◌≤◌, true, false, List, [], ◌∷◌, ◌++◌, Option, Some, None, Err, length, max, refl, sym, ◌∙◌, ap, subst, arith}
+use Rattle.std.proofs.Common.{◌≡◌, ◌≢◌, ⊎_elim, inl, inr, ℕ, ◌+◌, ◌≤◌, true, false, List, [], ◌∷◌, ◌++◌, Option, Some, None, Err, length, max, refl, sym, ◌∙◌, arith}
 use Rattle.std.specs.Ordering.{is_lt, is_le}
 use Rattle.std.proofs.lemmas.Bool.{false≢true}
 use Rattle.std.proofs.lemmas.List.{append-nil}
@@ -16,7 +16,7 @@ use Rattle.ptmerge.specs.declared.order.Side.TheVariants.{First, Second}
 use Rattle.ptmerge.specs.declared.merging.sorted.Sorted.{Sorted}
 use Rattle.ptmerge.specs.declared.merging.sorted.Stand.{Stand}
 use Rattle.ptmerge.specs.declared.merging.sorted.Stand.TheVariants.{Head, Ended, Disorder}
-use Rattle.ptmerge.specs.Keyed.{Lines, Tool, Fall, by_keys, disorder_of, entries_of, fall, with_key}
+use Rattle.ptmerge.specs.Keyed.{Lines, Tool, Fall, by_keys, disorder_of, fall, with_key}
 use Rattle.ptmerge.specs.Merges.{State, IsMerge}
 use Rattle.ptmerge.specs.Orders.{Cmp, Key}
 use Rattle.ptmerge.specs.Places.{CannotRead, Comes, HasSlots, slot_of}
@@ -25,7 +25,7 @@ use Rattle.ptmerge.specs.Steps.{GoesBefore, IsDecided, IsNamed, last_key}
 use Rattle.ptmerge.proofs.OfMerges.Bounds.{Bound, From, Fallen, Over, Coming, Falling, FallFrom, Under, Begun}
 use Rattle.ptmerge.proofs.OfMerges.Got.{More}
 use Rattle.ptmerge.proofs.OfMerges.Least.{EachKey, EachKey-weaker, with_key-above}
-use Rattle.ptmerge.proofs.OfMerges.Orders.{IsKeyOrder, AtMost, Above, above_at_most, above_not_le, above_up, greater_flips, is_greater, self_at_most}
+use Rattle.ptmerge.proofs.OfMerges.Orders.{IsKeyOrder, Above, above_at_most, above_not_le, above_up, greater_flips, is_greater}
 use Rattle.ptmerge.proofs.OfMerges.Pairs.{put_both, put_each, put_other, put_same, side_case}
 use Rattle.ptmerge.proofs.OfMerges.Passing.{IsFront, Late, Merging, StopsAt, front_line, late_none, not_below, pass_front, settles}
 use Rattle.ptmerge.proofs.OfMerges.Slotted.{line_other}
@@ -133,9 +133,9 @@ module _ (tool : Tool) (o : IsKeyOrder tool.cmp) (old now : Side → Reader) (pl
     sides_on = elim s as (λ t. Sided tool.end tool.cmp (tool.key t) (old t) new next after n.now_ls (ls t) n.bound
         → Sided tool.end tool.cmp (tool.key (other t)) (old (other t)) (now (other t)) (place (other t)) after (ls (other t)) (p (other t)) (b (other t))
         → BothStand tool old (put t new now) (put t next place) after (put t n.now_ls ls) (put t (ls t) p) (put t n.bound b)) [
-      | First ↦ λ x y. elim [ First ↦ x | Second ↦ y ]
-      | Second ↦ λ x y. elim [ First ↦ y | Second ↦ x ]
-    ] n.sided other_stays
+          | First ↦ λ x y. elim [ First ↦ x | Second ↦ y ]
+          | Second ↦ λ x y. elim [ First ↦ y | Second ↦ x ]
+        ] n.sided other_stays
 
     -- what was pushed comes first as before
     pub merging_on : (q : Side → Lines) (was is : Output) → Merging tool b q was is → Merging tool (put s n.bound b) q was is

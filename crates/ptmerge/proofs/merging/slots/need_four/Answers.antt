@@ -1,7 +1,5 @@
-use Rattle.std.proofs.Common.{refl, sym, subst, arith}
+use Rattle.std.proofs.Common.{refl, arith}
 use Rattle.std.proofs.lemmas.Result.{err_from_is_err_and}
-use Rattle.ptlines.specs.Slots.{Slots}
-use Rattle.ptmerge.specs.Stores.{HasNoSlots}
 use Rattle.ptmerge.proofs.merging.slots.need_four.Goals as goal
 
 pub returns-in_err-add-clause-err : goal.returns-in_err-add-clause-err

@@ -1,6 +1,5 @@
 -- An output that has failed is left alone; otherwise both orders are one proof, over the order that the job names.
 use Rattle.std.proofs.Common.{◌≡◌, sym, ◌∙◌}
-use Rattle.std.proofs.lemmas.Bool.{false≢true}
 use Rattle.ptlangs.specs.Jobs.{comm_job}
 use Rattle.ptmerge.specs.declared.order.Side.{Side}
 use Rattle.ptmerge.specs.Comm.{comm_tool}
@@ -30,7 +29,11 @@ pub returns-clause-merged : goal.returns-clause-merged
 returns-clause-merged g c = merge_set _ _ _ _ (set g (goal.at.returns-clause-merged g c).After-set_ending-2) _ _ (rw c.if-job.false c.comm_in_order-2.ensures.merged)
 
 pub returns-then-job-clause-refused : goal.returns-then-job-clause-refused
-returns-then-job-clause-refused g c = λ fine few. unread_set (seen c.args.first.now c.args.second.now c.args.out.now c.args.store.now) _ _ _ (set g (goal.at.returns-then-job-clause-refused g c).After-set_ending-2) (c.comm_in_order.ensures.refused few)
+returns-then-job-clause-refused g c = λ fine few.
+    unread_set (seen c.args.first.now c.args.second.now c.args.out.now c.args.store.now) _ _ _
+    (set g (goal.at.returns-then-job-clause-refused g c).After-set_ending-2) (c.comm_in_order.ensures.refused few)
 
 pub returns-clause-refused : goal.returns-clause-refused
-returns-clause-refused g c = λ fine few. unread_set (seen c.args.first.now c.args.second.now c.args.out.now c.args.store.now) _ _ _ (set g (goal.at.returns-clause-refused g c).After-set_ending-2) (c.comm_in_order-2.ensures.refused few)
+returns-clause-refused g c = λ fine few.
+    unread_set (seen c.args.first.now c.args.second.now c.args.out.now c.args.store.now) _ _ _
+    (set g (goal.at.returns-clause-refused g c).After-set_ending-2) (c.comm_in_order-2.ensures.refused few)

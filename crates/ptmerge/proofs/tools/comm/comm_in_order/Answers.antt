@@ -17,7 +17,8 @@ use Rattle.ptmerge.proofs.tools.comm.comm_in_order.Goals.{After-start}
 opened : (g : given.Over) (c : After-start g) → IsOpened (comm_by (comm_job c.args.job.now) (g.K.KeyOrder.order c.args.order) (g.K.KeyOrder.key_of c.args.order))
     (seen c.args.first.now c.args.second.now c.args.out.now c.args.store.now)
 opened g c =
-    is_opened (comm_job c.args.job.now) (record { total = g.met.K.KeyOrder.total c.args.order; exact = g.met.K.KeyOrder.exact c.args.order }) c.requires.ready c.requires.sound c.requires.ending c.requires.writable
+    is_opened (comm_job c.args.job.now) (record { total = g.met.K.KeyOrder.total c.args.order; exact = g.met.K.KeyOrder.exact c.args.order })
+    c.requires.ready c.requires.sound c.requires.ending c.requires.writable
 
 -- a fault that is handed on
 is_told : {r : Result (Unit {0}) MergeFault} {fault : MergeFault} → IsErrAnd r (λ y. y ≡ fault) → r ≡ Err fault
