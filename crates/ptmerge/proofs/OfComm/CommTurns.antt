@@ -74,9 +74,8 @@ comes_slots key cmp place next was is before after (inr e) = rw (e.empty, length
 -- where a line could not be read
 pub breaks_slots : (s : Side) (place : Sorted) (was is : Reader) (before after : Slots) (fault : MergeFault) → CannotRead s place was is before after fault → length after.lines ≡ length before.lines
 breaks_slots s place was is before after (Read file) e = rw (e.0.stored, length-set)
-breaks_slots s place was is before after Write e = absurd e
 breaks_slots s place was is before after Memory e = rw (e.0.stored, length-set)
-breaks_slots s place was is before after (faults.Disorder file number) e = absurd e
+breaks_slots s place was is before after other e = absurd e
 
 pub passes_slots : (key : Key) (cmp : Cmp) (s : Side) (place next : Sorted) (was is : Reader) (before after : Slots) (out : Output) (fault : MergeFault)
     → PassesLine key cmp s place next was is before after out (Err fault) → length after.lines ≡ length before.lines

@@ -187,19 +187,14 @@ module _ (tool : Tool) (o : IsKeyOrder tool.cmp) (old new : State) (now : Side �
           let s = seen_in input a in
           let t = stop (lines_of tool input) s.r s.coming s.falling in
           (sym (all_of input a ∙ ap (text tool.end) (ap (λ l. done ++ l) t.0 ∙ append-nil done)), t.1)
-      by (Err (Read side)) c input a = tt
-      by (Err Write) c input a = tt
-      by (Err Memory) c input a = tt
+      by other c input a = tt
 
 -- ---- a merge of readers whose ending was set
 
 module _ (old new : State) (set : Side → Reader) (end : ℕ) (is : (side : Side) → set side ≡ record (old.reader side) { ending = end }) where
   ends_set : (result : Result (Unit {0}) MergeFault) → Ends (ended_by end old) new result → Ends old new result
-  ends_set (Ok u) e = assumption
   ends_set (Err (Read side)) e = assumption (cause_set (old.reader side) (record (old.reader side) { ending = end }) end refl (new.reader side) e.cause)
-  ends_set (Err Write) e = assumption
-  ends_set (Err Memory) e = assumption
-  ends_set (Err (faults.Disorder side number)) e = assumption
+  ends_set other e = assumption
 
   pub merge_set : (tool : Tool) (result : Result (Unit {0}) MergeFault) → IsMerge tool (record { reader = set; out = old.out; store = old.store }) new result → IsMerge tool old new result
   merge_set tool result was =

@@ -237,11 +237,10 @@ module _ (tool : Tool) (o : IsKeyOrder tool.cmp) (old now : State) (ls q : Side 
       (put_each (λ side (r : Reader). r.failed ≡ true → Fails tool.cmp (tool.key side) r (ls side) (q side)) s new now.reader
       (λ fail. ⊎_elim (λ h. record { held = h.1; ended = h.2; all = all; last = last; begun = begun }) (λ h. fails_not s new (h.1 ∙ went s) fail) e.cause)
       (λ side. fails_not side (now.reader side) (went side))) tt (rw e.stored (fits e.piece)))
-  breaks s place new after Write gone all last begun rest roomy fits moves = absurd moves
   breaks s place new after Memory gone all last begun rest roomy fits moves =
       let e = moves.0 in
       let failed = put_each (λ side (r : Reader). r.failed ≡ (old.reader side).failed) s new now.reader (e.failed ∙ went s) went in
       stops tool o old (state (put s new now.reader) now.out after) now.reader (put s e.piece (λ side. [])) ls q b
       (put_both GoneOf s new now.reader e.piece (λ side. []) (gone new e.piece e.faults.reads e.faults.whole moves.1) rest) m late (Err Memory)
       (record { denied = rw e.stored refl; failed = failed; clean = clean }) (λ side. fails_not side (put s new now.reader side) (failed side)) tt (rw e.stored (fits e.piece))
-  breaks s place new after (faults.Disorder file number) gone all last begun rest roomy fits moves = absurd moves
+  breaks s place new after other gone all last begun rest roomy fits moves = absurd moves
