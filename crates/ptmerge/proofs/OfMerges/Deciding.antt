@@ -37,6 +37,10 @@ pub record Differ (tool : Tool) (last : Option (List ℕ)) (key : Key) (xs ys : 
   pub none_rest : EachKey (λ k. is_below tool.cmp k last ≡ false) key rest
   pub none_tail : EachKey (λ k. is_below tool.cmp k last ≡ false) key tail
 
+-- nothing is past an input that is in order and goes on, but what is below its last key
+going_past : (cmp : Cmp) (key : Key) {ended : Bool} (ls : Lines) (k : List ℕ) → ended ≡ false → fall cmp key ls ≡ None → is_past cmp key ended ls k ≡ is_below cmp k (last_or None (map key ls))
+going_past cmp key ls k going rises = rw (going, rises)
+
 -- Of one input only passed lines came, and more may come; of the other, whatever came.
 pub decided_of_passed : (tool : Tool) (o : IsKeyOrder tool.cmp) (ended : Side → Bool) (ls p : Side → Lines) (of : Side) → ended of ≡ false → fall tool.cmp (tool.key of) (ls of) ≡ None
     → ((side : Side) → Differ tool (last_or None (map (tool.key of) (ls of))) (tool.key side) (ordered_part tool.cmp (tool.key side) (ls side)) (p side))
@@ -48,12 +52,9 @@ decided_of_passed tool o ended ls p of going rises differ =
     sym (by_keys_kept dec tool o (λ side. ordered_part tool.cmp (tool.key side) (ls side))) ∙ (λ i. by_keys tool all_keys (λ side. kept side i)) ∙ by_keys_kept dec tool o p in
     record { rest = text tool.end first.0; is = ap (text tool.end) (first.1 ∙ ap (λ (l : Lines). l ++ first.0) (sym known)) ∙ text-append tool.end (decided_entries tool ended ls) first.0 }
   where
-    past : (k : List ℕ) → is_past tool.cmp (tool.key of) (ended of) (ls of) k ≡ is_below tool.cmp k (last_or None (map (tool.key of) (ls of)))
-    past k = λ i. cond (going i || is_some (rises i)) true (is_below tool.cmp k (last_or None (map (tool.key of) (ls of))))
-
     unwanted : (side : Side) (xs : Lines) → EachKey (λ k. is_below tool.cmp k (last_or None (map (tool.key of) (ls of))) ≡ false) (tool.key side) xs
         → EachKey (λ k. is_decided tool ended ls k ≡ false) (tool.key side) xs
-    unwanted side xs e = EachKey-weaker _ _ (λ k h. not_decided tool o ended ls of k (past k ∙ h)) _ _ e
+    unwanted side xs e = EachKey-weaker _ _ (λ k h. not_decided tool o ended ls of k (going_past tool.cmp (tool.key of) (ls of) k going rises ∙ h)) _ _ e
 
     kept : (side : Side) → filter (λ line. is_decided tool ended ls (tool.key side line)) (ordered_part tool.cmp (tool.key side) (ls side))
         ≡ filter (λ line. is_decided tool ended ls (tool.key side line)) (p side)
@@ -91,7 +92,7 @@ not_settled tool o ended ls of going rises = by of going rises
   where
     past : (s : Side) → ended s ≡ false → fall tool.cmp (tool.key s) (ls s) ≡ None → (e : List ℕ) → EachKey (λ k. AtMost tool.cmp k e) (tool.key s) (ls s) → is_decided tool ended ls e ≡ false
     past s on none e up =
-        not_decided tool o ended ls s e ((λ i. cond (on i || is_some (none i)) true (is_below tool.cmp e (last_or None (map (tool.key s) (ls s))))) ∙ below_last tool.cmp o (tool.key s) (ls s) e up)
+        not_decided tool o ended ls s e (going_past tool.cmp (tool.key s) (ls s) e on none ∙ below_last tool.cmp o (tool.key s) (ls s) e up)
 
     by : (s : Side) → ended s ≡ false → fall tool.cmp (tool.key s) (ls s) ≡ None
         → EachKey (λ k. FallFrom tool.cmp k (fall tool.cmp (tool.key (other s)) (ls (other s)))) (tool.key s) (ls s) → is_settled tool ended ls (disorder tool ls) ≡ false

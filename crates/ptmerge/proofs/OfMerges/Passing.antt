@@ -179,18 +179,13 @@ and_false x y z e = grind arith
 module _ (tool : Tool) (o : IsKeyOrder tool.cmp) (ended : Side → Bool) (ls : Side → Lines) where
   pub down_decided : IsDown tool.cmp (is_decided tool ended ls)
   down_decided a b g h =
-      let up : (List ℕ → Bool) = up_to tool.cmp (disorder tool ls) in
-      let past : (Side → List ℕ → Bool) = λ side. is_past tool.cmp (tool.key side) (ended side) (ls side) in
-      all_three (up b) (past First b) (past Second b) (up a) (past First a) (past Second a) (down_up_to tool.cmp o (disorder tool ls) a b g)
-      (down_past tool.cmp o (tool.key First) (ended First) (ls First) a b g)
+      all_three _ _ _ _ _ _ (down_up_to tool.cmp o (disorder tool ls) a b g) (down_past tool.cmp o (tool.key First) (ended First) (ls First) a b g)
       (down_past tool.cmp o (tool.key Second) (ended Second) (ls Second) a b g) h
 
   -- no key is decided that is not past in this input
   pub not_decided : (side : Side) (k : List ℕ) → is_past tool.cmp (tool.key side) (ended side) (ls side) k ≡ false → is_decided tool ended ls k ≡ false
-  not_decided First k e =
-      and_false (up_to tool.cmp (disorder tool ls) k) (is_past tool.cmp (tool.key First) (ended First) (ls First) k) (is_past tool.cmp (tool.key Second) (ended Second) (ls Second) k) (inl e)
-  not_decided Second k e =
-      and_false (up_to tool.cmp (disorder tool ls) k) (is_past tool.cmp (tool.key First) (ended First) (ls First) k) (is_past tool.cmp (tool.key Second) (ended Second) (ls Second) k) (inr e)
+  not_decided First k e = and_false _ _ _ (inl e)
+  not_decided Second k e = and_false (up_to tool.cmp (disorder tool ls) k) (is_past tool.cmp (tool.key First) (ended First) (ls First) k) _ (inr e)
 
 -- two lists that go on with the lines that came
 pub record Seen (tool : Tool) (b : Side → Bound) (p ls : Side → Lines) : Type 0 where
