@@ -98,7 +98,7 @@ returns-in_err-pass-in-Second g c =
 pub returns-in_err-pass-in-Both : goal.returns-in_err-pass-in-Both
 returns-in_err-pass-in-Both g c =
     let i = c.steps.invariant in
-    rw i.order at (pair_stops i.turn c.in-Both.ensures (cc) c.lead-lead3.ensures c.pass-in-Both.ensures.wrote
+    rw i.order at (pair_stops i.turn c.in-Both.ensures (c.ending-ending.ensures ∙ c.requires.ending.0) c.lead-lead3.ensures c.pass-in-Both.ensures.wrote
     (is_told c.from_residual-in_err-pass-in-Both.ensures.1) c.in_err-pass-in-Both.ensures.passes)
 
 pub returns-in_err-go_on-in-Both : goal.returns-in_err-go_on-in-Both
