@@ -1,5 +1,5 @@
 -- One line more in one input or in both is one entry more of `comm`.
-use Rattle.std.proofs.Common.{◌≡◌, ℕ, suc, ◌-◌, List, [], ◌∷◌, ◌++◌, Bool, true, false, length, min, refl, ap, sym, ◌∙◌, arith, append_assoc}
+use Rattle.std.proofs.Common.{◌≡◌, ℕ, suc, ◌-◌, List, [], ◌∷◌, ◌++◌, Bool, length, min, refl, ap, ◌∙◌, arith, append_assoc}
 use Rattle.std.proofs.lemmas.List.{append-nil}
 use Rattle.std.specs.Cmp.Lexicographic.{bytes_decides}
 use Rattle.std.proofs.lemmas.Cmp.{tied_itself}
@@ -17,12 +17,10 @@ use Rattle.ptmerge.proofs.OfMerges.Splitting.{all_keys}
 use Rattle.ptmerge.proofs.OfMerges.Turning.{IsLineByLine, alone}
 
 none_in : (hidden : Bool) (lead line : List ℕ) → entries_in hidden lead 0 line ≡ []
-none_in true lead line = refl
-none_in false lead line = refl
+none_in hidden lead line = grind arith
 
 more_in : (hidden : Bool) (lead line : List ℕ) (n : ℕ) → entries_in hidden lead (suc n) line ≡ entries_in hidden lead 1 line ++ entries_in hidden lead n line
-more_in true lead line n = refl
-more_in false lead line n = refl
+more_in hidden lead line n = grind arith
 
 module _ (job : Comm) (x : List ℕ) where
   abbrev common : ℕ → Lines
@@ -34,54 +32,30 @@ module _ (job : Comm) (x : List ℕ) where
   abbrev second : ℕ → Lines
   second n = entries_in job.hide2 (tab_unless job.hide1) n x
 
-  none_common : common 0 ≡ []
-  none_common = none_in job.hide3 (tab_unless job.hide1 ++ tab_unless job.hide2) x
-
-  none_first : first 0 ≡ []
-  none_first = none_in job.hide1 [] x
-
-  none_second : second 0 ≡ []
-  none_second = none_in job.hide2 (tab_unless job.hide1) x
-
   pub entries_none : entries job x 0 0 ≡ []
-  entries_none = (λ i. (none_common i ++ none_first i) ++ none_second i)
+  entries_none = grind (arith, none_in)
 
-  pub only_first : (n : ℕ) → entries job x n 0 ≡ first n
-  only_first n =
-      let m : min n 0 ≡ 0 = omega arith in
-      let a : n - 0 ≡ n = omega arith in
-      let b : 0 - n ≡ 0 = omega arith in
-      (λ i. (common (m i) ++ first (a i)) ++ second (b i)) ∙ (λ i. (none_common i ++ first n) ++ none_second i) ∙ append-nil (first n)
+  only_first : (n : ℕ) → entries job x n 0 ≡ first n
+  only_first n = grind (arith, none_in, append-nil (first n))
 
-  pub only_second : (n : ℕ) → entries job x 0 n ≡ second n
-  only_second n =
-      let m : min 0 n ≡ 0 = omega arith in
-      let a : 0 - n ≡ 0 = omega arith in
-      let b : n - 0 ≡ n = omega arith in
-      (λ i. (common (m i) ++ first (a i)) ++ second (b i)) ∙ (λ i. (none_common i ++ none_first i) ++ second n)
+  only_second : (n : ℕ) → entries job x 0 n ≡ second n
+  only_second n = grind (arith, none_in)
 
   pub entries_first : (n : ℕ) → entries job x (suc n) 0 ≡ entries job x 1 0 ++ entries job x n 0
-  entries_first n = only_first (suc n) ∙ more_in job.hide1 [] x n ∙ (λ i. sym (only_first 1) i ++ sym (only_first n) i)
+  entries_first n = rw (only_first (suc n), only_first 1, only_first n) (more_in job.hide1 [] x n)
 
   pub entries_second : (n : ℕ) → entries job x 0 (suc n) ≡ entries job x 0 1 ++ entries job x 0 n
-  entries_second n = only_second (suc n) ∙ more_in job.hide2 (tab_unless job.hide1) x n ∙ (λ i. sym (only_second 1) i ++ sym (only_second n) i)
+  entries_second n = rw (only_second (suc n), only_second 1, only_second n) (more_in job.hide2 (tab_unless job.hide1) x n)
 
-  pub one_common : entries job x 1 1 ≡ common 1
-  one_common =
-      let m : min 1 1 ≡ 1 = omega arith in
-      let a : 1 - 1 ≡ 0 = omega arith in
-      (λ i. (common (m i) ++ first (a i)) ++ second (a i)) ∙ (λ i. (common 1 ++ none_first i) ++ none_second i) ∙ append-nil (common 1 ++ []) ∙ append-nil (common 1)
+  one_common : entries job x 1 1 ≡ common 1
+  one_common = grind (arith, none_in, append-nil (common 1))
 
   pub entries_both : (n k : ℕ) → entries job x (suc n) (suc k) ≡ entries job x 1 1 ++ entries job x n k
   entries_both n k =
       let m : min (suc n) (suc k) ≡ suc (min n k) = omega arith in
       let a : suc n - suc k ≡ n - k = omega arith in
       let b : suc k - suc n ≡ k - n = omega arith in
-      (λ i. (common (m i) ++ first (a i)) ++ second (b i))
-      ∙ (λ i. (more_in job.hide3 (tab_unless job.hide1 ++ tab_unless job.hide2) x (min n k) i ++ first (n - k)) ++ second (k - n))
-      ∙ ap (λ l. l ++ second (k - n)) (append_assoc (common 1) (common (min n k)) (first (n - k)))
-      ∙ append_assoc (common 1) (common (min n k) ++ first (n - k)) (second (k - n))
-      ∙ ap (λ l. l ++ entries job x n k) (sym one_common)
+      rw (one_common, m, a, b, more_in job.hide3 (tab_unless job.hide1 ++ tab_unless job.hide2) x (min n k)) (simp append_assoc)
 
 module _ (job : Comm) (cmp : Cmp) (key : Side → Key) where
   pub line_by_line : IsLineByLine (comm_by job cmp key)

@@ -1,10 +1,13 @@
 -- What is known at each turn of `comm`, and what comes of the turn.
-use Rattle.std.proofs.Common.{◌≡◌, ℕ, ◌<◌, Bool, false, List, [], ◌∷◌, ◌++◌, None, Result, Ok, Err, length, sym, ◌∙◌, ap, subst, arith}
+use Rattle.std.proofs.Common.{◌≡◌, ℕ, ◌<◌, Bool, false, List, [], ◌∷◌, ◌++◌, Result, Ok, Err, length, refl, sym, ◌∙◌, ap, subst, arith}
+use Rattle.std.proofs.lemmas.Bool.{false≢true}
+use Rattle.std.proofs.lemmas.List.{append-nil}
 use Rattle.ptlangs.specs.Jobs.{Comm}
 use Rattle.ptlines.specs.Outputs.{Output, Wrote}
 use Rattle.ptlines.specs.Readers.{Reader, IsSound}
 use Rattle.ptlines.specs.Slots.{Slots, line, total}
-use Rattle.ptlines.specs.Text.{text}
+use Rattle.ptlines.specs.Text.{text, longest}
+use Rattle.ptlines.proofs.Pushed.{wrote_nothing}
 use Rattle.ptmerge.specs.declared.faults.MergeFault.{MergeFault}
 use Rattle.ptmerge.specs.declared.faults.MergeFault.TheVariants as faults
 use Rattle.ptmerge.specs.declared.order.Side.{Side}
@@ -12,43 +15,33 @@ use Rattle.ptmerge.specs.declared.order.Side.TheVariants.{First, Second}
 use Rattle.ptmerge.specs.declared.merging.sorted.Sorted.{Sorted}
 use Rattle.ptmerge.specs.declared.merging.sorted.Stand.TheVariants.{Head, Ended}
 use Rattle.ptmerge.specs.Comm.{comm_by, entries_in, tab_unless}
-use Rattle.ptmerge.specs.Keyed.{Tool, by_keys}
-use Rattle.ptmerge.specs.LinePasses.{HasPassed, Passes, PassesLine, StandsAt}
-use Rattle.ptmerge.specs.Merges.{State, IsMerge, IsReady, IsUnread, seen}
+use Rattle.ptmerge.specs.Keyed.{Lines, Tool, by_keys, with_key}
+use Rattle.ptmerge.specs.LinePasses.{HasPassed, StandsAt}
+use Rattle.ptmerge.specs.Merges.{State, IsMerge, IsReady, IsUnread, Ends, seen}
 use Rattle.ptmerge.specs.Orders.{Cmp, Key}
-use Rattle.ptmerge.specs.Places.{Comes, HasSlots}
-use Rattle.ptmerge.specs.Sides.{both, put}
+use Rattle.ptmerge.specs.Sides.{both, put, other}
 use Rattle.ptmerge.specs.Steps.{AreEqual, CannotStart, IsAlone, IsDecided, IsLent, IsPlaced, Starts, inputs}
 use Rattle.ptmerge.specs.Stores.{Adds, IsCleared}
-use Rattle.ptmerge.proofs.OfComm.CommEntries.{written_first, written_second, written_both}
-use Rattle.ptmerge.proofs.OfComm.CommTurns.{Running, adds_of, comes_slots, merging_both, midway, passes_slots, readable_of, slots_of, unfailed_of, wrote_as}
-use Rattle.ptmerge.proofs.OfComm.CommTurns as turns
+use Rattle.ptmerge.proofs.OfComm.CommEntries.{entries_both, entries_none, line_by_line, written_first, written_second, written_both}
+use Rattle.ptmerge.proofs.OfComm.CommTurns.{CannotPass, IsOpened, Placed, Running, adds_of, comes_slots, goes, goes_merging, passes_slots, passing_now, readable_of}
+use Rattle.ptmerge.proofs.OfComm.CommTurns.{runs_on, slots_of, standing, turn_stops, unfailed_of, went}
 use Rattle.ptmerge.proofs.OfMerges.GoingOn.{left, less, lent_on, place_is}
 use Rattle.ptmerge.proofs.OfMerges.Orders.{IsKeyOrder}
-use Rattle.ptmerge.proofs.OfMerges.Pairs.{both_each}
+use Rattle.ptmerge.proofs.OfMerges.Pairs.{both_each, put_other, put_same}
+use Rattle.ptmerge.proofs.OfMerges.Passing.{Late, Merging, front_line, late_none, pass_front}
 use Rattle.ptmerge.proofs.OfMerges.Sending.{wrote_and_sent}
+use Rattle.ptmerge.proofs.OfMerges.Slotted.{has_lines_total}
 use Rattle.ptmerge.proofs.OfMerges.Splitting.{all_keys}
+use Rattle.ptmerge.proofs.OfMerges.Standing.{passed}
 use Rattle.ptmerge.proofs.OfMerges.Starting.{starts_well, starts_badly, start_slots, start_refused}
-use Rattle.ptmerge.proofs.OfMerges.Turning.{alone}
+use Rattle.ptmerge.proofs.OfMerges.Stopping.{Concludes, state, stops}
+use Rattle.ptmerge.proofs.OfMerges.Turning.{ahead, all_ended, alone, pass_one, stops_at}
 
--- what is known from the start on
-pub record IsOpened (job : Comm) (cmp : Cmp) (key : Side → Key) (old : State) : Type 0 where
-  pub o : IsKeyOrder cmp
-  pub whole : (side : Side) (x : List ℕ) → key side x ≡ x
-  pub ending : (side : Side) → (old.reader side).ending ≡ job.end
-  pub sound : (side : Side) → IsSound (old.reader side)
-  pub readable : (side : Side) → (old.reader side).fault ≡ None
-  pub unfailed : (side : Side) → (old.reader side).failed ≡ false
-  pub writable : old.out.faulted ≡ false
-  pub allowed : old.store.denied ≡ false
-  pub empty : total old.store.lines ≡ 0
-
-pub is_opened : (job : Comm) (cmp : Cmp) (key : Side → Key) (first second : Reader) (out : Output) (store : Slots) → IsKeyOrder cmp
-    → ((side : Side) (x : List ℕ) → key side x ≡ x) → IsReady first second store → IsSound first × IsSound second
-    → (first.ending ≡ job.end) × (second.ending ≡ job.end) → out.faulted ≡ false → IsOpened job cmp key (seen first second out store)
-is_opened job cmp key first second out store o whole ready sound ending writable = record {
+pub is_opened : (job : Comm) {cmp : Cmp} {key : Side → Key} {first second : Reader} {out : Output} {store : Slots} → IsKeyOrder cmp → IsReady first second store
+    → IsSound first × IsSound second → (first.ending ≡ job.end) × (second.ending ≡ job.end) → out.faulted ≡ false → IsOpened (comm_by job cmp key) (seen first second out store)
+is_opened job {first = first} {second} {store = store} o ready sound ending writable = record {
   o = o;
-  whole = whole;
+  fits = λ ls. (omega arith, omega arith);
   ending = both_each (λ (side : Side) (r : Reader). r.ending ≡ job.end) first second ending.0 ending.1;
   sound = both_each (λ (side : Side) (r : Reader). IsSound r) first second sound.0 sound.1;
   readable = readable_of first second store ready;
@@ -60,36 +53,36 @@ is_opened job cmp key first second out store o whole ready sound ending writable
 
 -- what is known at a turn
 pub record IsTurn (job : Comm) (cmp : Cmp) (key : Side → Key) (old now : State) (one two : Sorted) : Type 0 where
-  pub opened : IsOpened job cmp key old
+  pub opened : IsOpened (comm_by job cmp key) old
+  pub whole : (side : Side) (x : List ℕ) → key side x ≡ x
   pub running : Running (comm_by job cmp key) old now (both one two)
   pub placed : IsPlaced key one two now.store
   pub lent : (side : Side) → IsLent (both one two side) (now.reader side)
   pub clean : now.out.faulted ≡ false
 
 -- what a call leaves that ends so
-pub record Leaves (tool : Tool) (old new : State) (result : Result (Unit {0}) MergeFault) : Type 0 where
-  pub merged : IsMerge tool old new result
-  pub refused : length new.store.lines < 4 → IsUnread old new
-  pub slots : Adds old.store new.store 4
+abbrev pub Leaves : Tool → State → State → Result (Unit {0}) MergeFault → Type 0
+Leaves tool old new result = record { merged : IsMerge tool old new result; refused : length new.store.lines < 4 → IsUnread old new; slots : Adds old.store new.store 4 }
 
 -- ---- the start
 
-module _ {job : Comm} {cmp : Cmp} {key : Side → Key} {old : State} (w : IsOpened job cmp key old) where
-  pub start_stops : (new1 new2 : Reader) (after : Slots) (fault : MergeFault) {r : Result (Unit {0}) MergeFault} → r ≡ Err fault
+module _ (job : Comm) {cmp : Cmp} {key : Side → Key} {old : State} (w : IsOpened (comm_by job cmp key) old) where
+  pub start_stops : {new1 new2 : Reader} {after : Slots} {fault : MergeFault} {r : Result (Unit {0}) MergeFault} → r ≡ Err fault
       → CannotStart key cmp (record { reader = old.reader; store = old.store }) (record { reader = both new1 new2; store = after }) fault
-      → Leaves (comm_by job cmp key) old (record { reader = both new1 new2; out = old.out; store = after }) r
-  start_stops new1 new2 after fault is h = subst (Leaves (comm_by job cmp key) old (record { reader = both new1 new2; out = old.out; store = after })) (sym is) (record {
-    merged = starts_badly (comm_by job cmp key) w.o (λ ls. (omega arith, omega arith)) old w.readable w.ending w.unfailed w.sound w.writable w.allowed w.empty new1 new2 after fault h;
-    refused = start_refused (comm_by job cmp key) w.o (λ ls. (omega arith, omega arith)) old w.readable w.ending w.unfailed w.sound w.writable w.allowed w.empty new1 new2 after fault h;
-    slots = start_slots (comm_by job cmp key) w.o (λ ls. (omega arith, omega arith)) old w.readable w.ending w.unfailed w.sound w.writable w.allowed w.empty new1 new2 after fault h;
+      → Leaves (comm_by job cmp key) old (seen new1 new2 old.out after) r
+  start_stops {new1} {new2} {after} {fault} is h = rw is (record {
+    merged = starts_badly (comm_by job cmp key) w.o w.fits old w.readable w.ending w.unfailed w.sound w.writable w.allowed w.empty new1 new2 after fault h;
+    refused = start_refused (comm_by job cmp key) w.o w.fits old w.readable w.ending w.unfailed w.sound w.writable w.allowed w.empty new1 new2 after fault h;
+    slots = start_slots (comm_by job cmp key) w.o w.fits old w.readable w.ending w.unfailed w.sound w.writable w.allowed w.empty new1 new2 after fault h;
   })
 
-  pub starts : (first second : Reader) (store : Slots) (one two : Sorted) → Starts key cmp (both one two) (record { reader = old.reader; store = old.store }) (inputs first second store)
-      → IsPlaced key one two store → IsLent one first × IsLent two second → IsTurn job cmp key old (record { reader = both first second; out = old.out; store = store }) one two
-  starts first second store one two h placed lent = record {
+  pub starts : ((side : Side) (x : List ℕ) → key side x ≡ x) → {first second : Reader} {store : Slots} {one two : Sorted}
+      → Starts key cmp (both one two) (record { reader = old.reader; store = old.store }) (inputs first second store)
+      → IsPlaced key one two store → IsLent one first × IsLent two second → IsTurn job cmp key old (seen first second old.out store) one two
+  starts whole {first} {second} {store} {one} {two} h placed lent = record {
     opened = w;
-    running = starts_well (comm_by job cmp key) w.o (λ ls. (omega arith, omega arith)) old w.readable w.ending w.unfailed w.sound w.writable w.allowed w.empty
-        (inputs first second store) (both one two) placed.first h;
+    whole = whole;
+    running = starts_well (comm_by job cmp key) w.o w.fits old w.readable w.ending w.unfailed w.sound w.writable w.allowed w.empty (inputs first second store) (both one two) placed.first h;
     placed = placed;
     lent = elim [ First ↦ lent.0 | Second ↦ lent.1 ];
     clean = w.writable;
@@ -104,59 +97,67 @@ hidden_of job Second = job.hide2
 
 abbrev pub lead_of : Comm → Side → List ℕ
 lead_of job First = []
-lead_of job Second = tab_unless job.hide1
+lead_of job Second = tab_unless job.hide1 ++ []
 
 written_alone : (job : Comm) (cmp : Cmp) (key : Side → Key) (s : Side) (x : List ℕ) → key s x ≡ x
     → by_keys (comm_by job cmp key) all_keys (alone s x) ≡ entries_in (hidden_of job s) (lead_of job s) 1 x
 written_alone job cmp key First x whole = written_first job cmp key x whole
-written_alone job cmp key Second x whole = written_second job cmp key x whole
+written_alone job cmp key Second x whole = rw (append-nil (tab_unless job.hide1)) (written_second job cmp key x whole)
 
 module _ {job : Comm} {cmp : Cmp} {key : Side → Key} {old now : State} {one two : Sorted} (t : IsTurn job cmp key old now one two) where
-  slots : (side : Side) → HasSlots side (both one two side)
-  slots = slots_of one two now.store t.placed
+  open t use {opened as w, whole, running.{ls, p, b, sides, merging, keeps}, placed, lent, clean}
 
-  leaves : {new : State} {r : Result (Unit {0}) MergeFault} → length new.store.lines ≡ length now.store.lines → IsMerge (comm_by job cmp key) old new r
-      → Leaves (comm_by job cmp key) old new r
-  leaves {new} same merged = record {
+  abbrev tool : Tool
+  tool = comm_by job cmp key
+
+  stood : Placed tool old now.reader (both one two) now.store ls p b
+  stood = record { sides = sides; keeps = keeps; slots = slots_of one two now.store placed }
+
+  abbrev head : Side → List ℕ
+  head s = line now.store (both one two s).standing
+
+  leaves : {new : State} {r : Result (Unit {0}) MergeFault} → length new.store.lines ≡ length now.store.lines → IsMerge tool old new r → Leaves tool old new r
+  leaves same merged = record {
     merged = merged;
-    refused = λ few. absurd (omega (arith, few, same, t.placed.slots));
-    slots = adds_of old.store new.store (same ∙ t.running.keeps.slots);
+    refused = λ few. absurd (omega (arith, few, same, placed.slots));
+    slots = adds_of (same ∙ keeps.slots);
   }
 
   pub stands_at : (s : Side) → (both one two s).stand ≡ Head → StandsAt key s one two (now.reader s) now.store
-  stands_at s head = record { placed = t.placed; head = head; lent = t.lent s }
+  stands_at s head = record { placed = placed; head = head; lent = lent s }
 
   -- a line that one input alone has
-  module _ (s : Side) (step : IsAlone cmp key (both one two) now.store s) where
+  module _ {s : Side} (step : IsAlone cmp key (both one two) now.store s) where
     pub alone_less : {one2 two2 : Sorted} {reader : Reader} {after : Slots} {new : Output}
         → HasPassed key cmp s one two one2 two2 (now.reader s) reader now.store after new → left (put s reader now.reader) one2 two2 < left now.reader one two
     alone_less {one2} {two2} {reader} {after} h = less (key s) cmp s one two one2 two2 now.reader reader now.store after step.stands h.on.others h.came
 
-    module _ (new : Output) (e : ℕ) (ends : e ≡ job.end) (lead : List ℕ) (led : lead ≡ lead_of job s)
-        (pushed : Wrote now.out new (text e (entries_in (hidden_of job s) lead 1 (line now.store (both one two s).standing)))) where
-      wrote : Wrote now.out new (text job.end (by_keys (comm_by job cmp key) all_keys (alone s (line now.store (both one two s).standing))))
-      wrote =
-          let x = line now.store (both one two s).standing in
-          wrote_as job.end e (entries_in (hidden_of job s) (lead_of job s) 1 x) (by_keys (comm_by job cmp key) all_keys (alone s x)) now.out new ends
-          (written_alone job cmp key s x (t.opened.whole s x)) (subst (λ (l : List ℕ). Wrote now.out new (text e (entries_in (hidden_of job s) l 1 x))) led pushed)
+    module _ {new : Output} {e : ℕ} (ends : e ≡ job.end) {lead : List ℕ} (led : lead ≡ lead_of job s)
+        (pushed : Wrote now.out new (text e (entries_in (hidden_of job s) lead 1 (head s)))) where
+      passed_one : Merging tool b (put s (ls s) p) old.out new × Late tool b (put s (ls s) p) old.out new
+      passed_one =
+          let h = passed step.stands (sides s) in
+          let a = ahead _ w.o _ _ _ _ _ _ _ _ _ step.before (sides (other s)).stands in
+          rw h.all (pass_one _ w.o (line_by_line job cmp key) s (head s) _ _ _ _ _ clean merging h.bound a.0 a.1
+          (rw (written_alone job cmp key s (head s) (whole s (head s))) (rw (ends, led) at pushed)))
 
       pub alone_on : {one2 two2 : Sorted} {reader : Reader} {after : Slots} → HasPassed key cmp s one two one2 two2 (now.reader s) reader now.store after new
-          → IsTurn job cmp key old (record { reader = put s reader now.reader; out = new; store = after }) one2 two2
-      alone_on {one2} {two2} {reader} {after} h = record {
-        opened = t.opened;
-        running = subst (Running (comm_by job cmp key) old (record { reader = put s reader now.reader; out = new; store = after })) (place_is s one two one2 two2 h.on.others)
-            (turns.alone_on job cmp key t.opened.o old t.opened.unfailed now (both one two) t.running slots t.clean s step new wrote reader (both one2 two2 s) after h.came);
+          → IsTurn job cmp key old (state (put s reader now.reader) new after) one2 two2
+      alone_on {one2} {two2} {reader} h = record {
+        opened = w;
+        whole = whole;
+        running = rw (← place_is s one two one2 two2 h.on.others) (runs_on w stood s step.stands h.came passed_one.0);
         placed = h.on.placed;
-        lent = lent_on s one two one2 two2 now.reader reader h.on.others h.on.lent t.lent;
+        lent = lent_on s one two one2 two2 now.reader reader h.on.others h.on.lent lent;
         clean = h.on.clean;
       }
 
-      pub alone_stops : (one2 two2 : Sorted) (reader : Reader) (after : Slots) (fault : MergeFault) {r : Result (Unit {0}) MergeFault} → r ≡ Err fault
-          → Passes key cmp s one two one2 two2 (now.reader s) reader now.store after new (Err fault)
-          → Leaves (comm_by job cmp key) old (record { reader = put s reader now.reader; out = new; store = after }) r
-      alone_stops one2 two2 reader after fault is h = subst (Leaves (comm_by job cmp key) old (record { reader = put s reader now.reader; out = new; store = after })) (sym is)
-          (leaves (passes_slots (key s) cmp s (both one two s) (both one2 two2 s) (now.reader s) reader now.store after new fault h)
-          (turns.alone_stops job cmp key t.opened.o old t.opened.unfailed now (both one two) t.running slots t.clean s step new wrote reader (both one2 two2 s) after fault h))
+      pub alone_stops : {reader : Reader} {after : Slots} {fault : MergeFault} {r : Result (Unit {0}) MergeFault} → r ≡ Err fault
+          → CannotPass s (both one two s) (now.reader s) reader now.store after new fault → Leaves tool old (state (put s reader now.reader) new after) r
+      alone_stops {reader} {after} {fault} is h = rw is
+          (leaves (passes_slots (key s) cmp s (both one two s) (both one two s) (now.reader s) reader now.store after new fault h)
+          (turn_stops w stood s step.stands (put s (ls s) p) new passed_one (put_same s (ls s) p)
+          (rw (put_other s (ls s) p) (standing w stood (other s))) reader after fault h))
 
   -- a line that both inputs have: the first one went on, and the second one stands at it
   pub second_stands : AreEqual cmp key (both one two) now.store → {one2 two2 : Sorted} {reader : Reader} {after : Slots} {mid : Output}
@@ -164,71 +165,106 @@ module _ {job : Comm} {cmp : Cmp} {key : Side → Key} {old now : State} {one tw
   second_stands step h = record {
     placed = h.on.placed;
     head = ap (λ (q : Sorted). q.stand) h.on.others ∙ step.second;
-    lent = subst (λ (q : Sorted). IsLent q (now.reader Second)) (sym h.on.others) (t.lent Second);
+    lent = rw h.on.others (lent Second);
   }
 
-  module _ (step : AreEqual cmp key (both one two) now.store) (mid : Output) (e : ℕ) (ends : e ≡ job.end) (lead : List ℕ) (led : lead ≡ tab_unless job.hide1 ++ tab_unless job.hide2)
-      (pushed : Wrote now.out mid (text e (entries_in job.hide3 lead 1 (line now.store one.standing)))) where
-    wrote_pair : Wrote now.out mid (text job.end (by_keys (comm_by job cmp key) all_keys (both (line now.store one.standing ∷ []) (line now.store two.standing ∷ []))))
-    wrote_pair =
-        let x = line now.store one.standing in
-        let y = line now.store two.standing in
-        wrote_as job.end e (entries_in job.hide3 (tab_unless job.hide1 ++ tab_unless job.hide2) 1 x) (by_keys (comm_by job cmp key) all_keys (both (x ∷ []) (y ∷ []))) now.out mid ends
-        (written_both job cmp key t.opened.o x y (t.opened.whole First x) (sym step.same)) (subst (λ (l : List ℕ). Wrote now.out mid (text e (entries_in job.hide3 l 1 x))) led pushed)
+  module _ (step : AreEqual cmp key (both one two) now.store) where
+    pub pair_less : {one2 two2 one3 two3 : Sorted} {reader reader2 : Reader} {after last : Slots} {mid new : Output}
+        → HasPassed key cmp First one two one2 two2 (now.reader First) reader now.store after mid → HasPassed key cmp Second one2 two2 one3 two3 (now.reader Second) reader2 after last new
+        → left (both reader reader2) one3 two3 < left now.reader one two
+    pair_less {one2} {two2} {one3} {two3} {reader} {reader2} {after} {last} h k = omega (
+      arith,
+      less (key First) cmp First one two one2 two2 now.reader reader now.store after step.first h.on.others h.came,
+      less (key Second) cmp Second one2 two2 one3 two3 (put First reader now.reader) reader2 after last (second_stands step h).head k.on.others k.came,
+    )
 
-    pub pair_stops : (one2 two2 : Sorted) (reader : Reader) (after : Slots) (fault : MergeFault) {r : Result (Unit {0}) MergeFault} → r ≡ Err fault
-        → Passes key cmp First one two one2 two2 (now.reader First) reader now.store after mid (Err fault)
-        → Leaves (comm_by job cmp key) old (record { reader = put First reader now.reader; out = mid; store = after }) r
-    pair_stops one2 two2 reader after fault is h = subst (Leaves (comm_by job cmp key) old (record { reader = put First reader now.reader; out = mid; store = after })) (sym is)
-        (leaves (passes_slots (key First) cmp First one one2 (now.reader First) reader now.store after mid fault h)
-        (turns.both_stops job cmp key t.opened.o old t.opened.unfailed now (both one two) t.running slots t.clean step mid wrote_pair reader one2 after fault h))
+    abbrev both_passed : Side → Lines
+    both_passed = both (ls First) (ls Second)
 
-    -- the first input went on
-    module _ {one2 two2 : Sorted} {reader : Reader} {after : Slots} (h : HasPassed key cmp First one two one2 two2 (now.reader First) reader now.store after mid) where
-      slots2 : (side : Side) → HasSlots side (both one2 two side)
-      slots2 = both_each HasSlots one2 two h.on.placed.first t.placed.second
+    passed_both : {new : Output} → Wrote now.out new (text job.end (by_keys tool all_keys (both (head First ∷ []) (head Second ∷ []))))
+        → Merging tool b both_passed old.out new × Late tool b both_passed old.out new
+    passed_both {new} wrote =
+        let h1 = passed step.first (sides First) in
+        let h2 = passed step.second (sides Second) in
+        let x = head First in
+        pass_front w.o (key First x) both_passed (both (x ∷ []) (head Second ∷ [])) (elim [
+          | First ↦ front_line w.o h1.bound refl
+          | Second ↦ front_line w.o h2.bound (sym step.same)
+        ]) (elim [ First ↦ h1.all | Second ↦ h2.all ]) (entries_none job (key First x))
+        (λ r c. entries_both job (key First x) (length (with_key (key First) (r First) (key First x))) (length (with_key (key Second) (r Second) (key First x)))) clean merging wrote
 
-      module _ (new : Output) (sent : Wrote mid new []) where
-        wrote_all : Wrote now.out new (text job.end (by_keys (comm_by job cmp key) all_keys (both (line now.store one.standing ∷ []) (line now.store two.standing ∷ []))))
-        wrote_all = wrote_and_sent now.out mid new
-            (text job.end (by_keys (comm_by job cmp key) all_keys (both (line now.store one.standing ∷ []) (line now.store two.standing ∷ [])))) h.on.clean wrote_pair sent
+    module _ {mid : Output} {e : ℕ} (ends : e ≡ job.end) {lead : List ℕ} (led : lead ≡ tab_unless job.hide1 ++ tab_unless job.hide2)
+        (pushed : Wrote now.out mid (text e (entries_in job.hide3 lead 1 (head First)))) where
+      wrote_pair : Wrote now.out mid (text job.end (by_keys tool all_keys (both (head First ∷ []) (head Second ∷ []))))
+      wrote_pair = rw (written_both job cmp key w.o (head First) (head Second) (whole First (head First)) (sym step.same)) (rw (ends, led) at pushed)
 
-        pub second_stops : (one3 two3 : Sorted) (reader2 : Reader) (last : Slots) (fault : MergeFault) {r : Result (Unit {0}) MergeFault} → r ≡ Err fault
-            → Passes key cmp Second one2 two2 one3 two3 (now.reader Second) reader2 after last new (Err fault)
-            → Leaves (comm_by job cmp key) old (record { reader = both reader reader2; out = new; store = last }) r
-        second_stops one3 two3 reader2 last fault is k = subst (Leaves (comm_by job cmp key) old (record { reader = both reader reader2; out = new; store = last })) (sym is)
-            (leaves (passes_slots (key Second) cmp Second two2 two3 (now.reader Second) reader2 after last new fault k
+      pub pair_stops : {reader : Reader} {after : Slots} {fault : MergeFault} {r : Result (Unit {0}) MergeFault} → r ≡ Err fault
+          → CannotPass First one (now.reader First) reader now.store after mid fault → Leaves tool old (state (put First reader now.reader) mid after) r
+      pair_stops {reader} {after} {fault} is h = rw is
+          (leaves (passes_slots (key First) cmp First one one (now.reader First) reader now.store after mid fault h)
+          (turn_stops w stood First step.first both_passed mid (passed_both wrote_pair) refl (passing_now w stood Second step.second) reader after fault h))
+
+      -- the first input went on, and what was pushed was sent
+      module _ {one2 two2 : Sorted} {reader : Reader} {after : Slots} (h : HasPassed key cmp First one two one2 two2 (now.reader First) reader now.store after mid)
+          {new : Output} (sent : Wrote mid new []) where
+        passed_sent : Merging tool b both_passed old.out new
+        passed_sent = (passed_both (wrote_and_sent _ _ _ _ h.on.clean wrote_pair sent)).0
+
+        pub second_stops : {reader2 : Reader} {last : Slots} {fault : MergeFault} {r : Result (Unit {0}) MergeFault} → r ≡ Err fault
+            → CannotPass Second two2 (now.reader Second) reader2 after last new fault → Leaves tool old (state (both reader reader2) new last) r
+        second_stops {reader2} {last} {fault} is k =
+            let g = goes w stood First step.first h.came in
+            let m = goes_merging w stood First step.first h.came passed_sent in
+            rw is (leaves (passes_slots (key Second) cmp Second two2 two2 (now.reader Second) reader2 after last new fault k
             ∙ comes_slots (key First) cmp one one2 (now.reader First) reader now.store after h.came)
-            (turns.second_stops job cmp key t.opened.o old t.opened.unfailed now (both one two) t.running slots t.clean step new wrote_all reader one2 after
-            (midway job cmp key t.opened.o old t.opened.unfailed now (both one two) t.running slots t.clean step new wrote_all reader one2 after h.came) slots2 mid h.on.clean
-            (merging_both job cmp key t.opened.o old t.opened.unfailed now (both one two) t.running slots t.clean step mid wrote_pair).wrote sent reader2 two3 last fault
-            (subst (λ (q : Sorted). PassesLine (key Second) cmp Second q two3 (now.reader Second) reader2 after last new (Err fault)) h.on.others k)))
+            (turn_stops w g Second step.second both_passed new (m, late_none _ _ _ _ _ _ h.on.clean (passed_both wrote_pair).0.wrote sent)
+            refl (standing w g First) reader2 last fault (subst (λ (q : Sorted). CannotPass Second q (now.reader Second) reader2 after last new fault) h.on.others k)))
 
         module _ {one3 two3 : Sorted} {reader2 : Reader} {last : Slots} (k : HasPassed key cmp Second one2 two2 one3 two3 (now.reader Second) reader2 after last new) where
-          pub pair_less : left (both reader reader2) one3 two3 < left now.reader one two
-          pair_less = omega (
-            arith,
-            less (key First) cmp First one two one2 two2 now.reader reader now.store after step.first h.on.others h.came,
-            less (key Second) cmp Second one2 two2 one3 two3 (put First reader now.reader) reader2 after last (second_stands step h).head k.on.others k.came,
-          )
+          pub pair_on : IsTurn job cmp key old (state (both reader reader2) new last) one3 two3
+          pair_on =
+              let g = goes w stood First step.first h.came in
+              let m = goes_merging w stood First step.first h.came passed_sent in
+              record {
+                opened = w;
+                whole = whole;
+                running = rw k.on.others (runs_on w g Second step.second (rw h.on.others at k.came) m);
+                placed = k.on.placed;
+                lent = elim [ First ↦ rw k.on.others h.on.lent | Second ↦ k.on.lent ];
+                clean = k.on.clean;
+              }
 
-          pub pair_on : IsTurn job cmp key old (record { reader = both reader reader2; out = new; store = last }) one3 two3
-          pair_on = record {
-            opened = t.opened;
-            running = subst (λ (q : Sorted). Running (comm_by job cmp key) old (record { reader = both reader reader2; out = new; store = last }) (both q two3)) (sym k.on.others)
-                (turns.both_on job cmp key t.opened.o old t.opened.unfailed now (both one two) t.running slots t.clean step new wrote_all reader one2 after
-                (midway job cmp key t.opened.o old t.opened.unfailed now (both one two) t.running slots t.clean step new wrote_all reader one2 after h.came) slots2 reader2 two3 last
-                (subst (λ (q : Sorted). Comes (key Second) cmp q two3 (now.reader Second) reader2 after last) h.on.others k.came));
-            placed = k.on.placed;
-            lent = elim [ First ↦ subst (λ (q : Sorted). IsLent q reader) (sym k.on.others) h.on.lent | Second ↦ k.on.lent ];
-            clean = k.on.clean;
-          }
+  -- ---- the end
 
-  pub ended : {after : Slots} → IsCleared now.store after → ((side : Side) → (both one two side).stand ≡ Ended)
-      → Leaves (comm_by job cmp key) old (record { reader = now.reader; out = now.out; store = after }) (Ok tt)
-  ended {after} clear step = leaves clear.slots
-      (turns.ended job cmp key t.opened.o old t.opened.unfailed now (both one two) t.running slots t.clean after clear t.opened.sound t.opened.readable step)
+  module _ {after : Slots} (clear : IsCleared now.store after) where
+    concludes : (result : Result (Unit {0}) MergeFault) → (total after.lines ≡ 0 → Ends old (state now.reader now.out after) result)
+        → Concludes tool b result → Leaves tool old (state now.reader now.out after) result
+    concludes result ends conclusion =
+        let l = has_lines_total now.store.lines (λ side. longest (ls side)) 0 keeps.lines in
+        leaves clear.slots (stops _ w.o _ _ _ (λ side. []) _ _ _ (standing w stood) merging (late_none _ _ _ _ _ _ clean merging.wrote (wrote_nothing now.out))
+        result (ends (omega (arith, clear.emptied, l.2)))
+        (λ side fail. absurd (false≢true (sym (went w stood side ∙ w.unfailed side) ∙ fail))) conclusion
+        (λ all h. (omega (arith, clear.peak, l.1, keeps.peak, (h First).1, (h Second).1), omega (arith, clear.slots, keeps.slots))))
 
-  pub fallen : {after : Slots} → IsCleared now.store after → {s : Side} {n : ℕ} → IsDecided cmp key (both one two) now.store s n
-      → Leaves (comm_by job cmp key) old (record { reader = now.reader; out = now.out; store = after }) (Err (faults.Disorder s n))
-  fallen {after} clear {s} {n} step = leaves clear.slots (turns.fallen job cmp key t.opened.o old t.opened.unfailed now (both one two) t.running slots t.clean after clear s n step)
+    pub ended : ((side : Side) → (both one two side).stand ≡ Ended) → Leaves tool old (state now.reader now.out after) (Ok tt)
+    ended step =
+        let e = all_ended tool _ _ _ _ _ _ _ sides step in
+        concludes (Ok tt) (λ empty. record {
+          done = λ side. (e side).1;
+          fault = λ side. (sides side).got.goes.fault;
+          failed = went w stood;
+          short = λ side. (sides side).got.goes.short ((w.sound side).long (w.readable side));
+          clean = clean;
+          denied = clear.denied ∙ keeps.denied;
+          empty = empty;
+        }) (λ side. (e side).0)
+
+    pub fallen : {s : Side} {n : ℕ} → IsDecided cmp key (both one two) now.store s n
+        → Leaves tool old (state now.reader now.out after) (Err (faults.Disorder s n))
+    fallen {s} {n} step = concludes (Err (faults.Disorder s n)) (λ empty. record {
+      fault = λ side. (sides side).got.goes.fault;
+      failed = went w stood;
+      clean = clean;
+      denied = clear.denied ∙ keeps.denied;
+      empty = empty;
+    }) (stops_at tool w.o _ _ _ _ _ _ _ sides s n step)

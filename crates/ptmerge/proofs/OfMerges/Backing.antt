@@ -1,19 +1,19 @@
 -- What had come of an input two blocks earlier: only lines that are passed.
-use Rattle.std.proofs.Common.{◌≡◌, ◌⊎◌, ⊎_elim, inl, inr, ℕ, ◌+◌, ◌≤◌, Bool, true, false, cond, List, [], ◌∷◌, ◌++◌, Option, Some, None, length, map, refl, sym}
-use Rattle.std.proofs.Common.{◌∙◌, ap, subst, arith, append_assoc, length-append}
+use Rattle.std.proofs.Common.{◌≡◌, ◌⊎◌, ⊎_elim, inl, inr, ℕ, ◌+◌, ◌≤◌, false, List, [], ◌∷◌, ◌++◌, Option, Some, None, length, map, refl, sym}
+use Rattle.std.proofs.Common.{◌∙◌, ap, arith, append_assoc, length-append}
 use Rattle.std.specs.List.{last_or}
-use Rattle.std.proofs.lemmas.List.{append-nil}
+use Rattle.std.proofs.lemmas.List.{append-nil, append_cancel_right}
 use Rattle.ptlines.specs.Inputs.{Given, whole_lines}
 use Rattle.ptlines.specs.KeepingUp.{Before}
 use Rattle.ptlines.specs.Readers.{Reader}
-use Rattle.ptlines.specs.Text.{text, lines, ended_lines, IsLine, AreLines, AreLinesOf}
+use Rattle.ptlines.specs.Text.{text, ended_lines, IsLine, AreLines}
 use Rattle.ptlines.proofs.Coming.{given_of}
 use Rattle.ptlines.proofs.TextLaws.{ended_of_text, text_push, the_lines}
 use Rattle.ptmerge.specs.Keyed.{Lines, fall, is_below, ordered_part}
 use Rattle.ptmerge.specs.Orders.{Cmp, Key}
 use Rattle.ptmerge.proofs.OfMerges.Bounds.{fall_after, fall_is, falls, ordered_after, ordered_is}
 use Rattle.ptmerge.proofs.OfMerges.Got.{Far}
-use Rattle.ptmerge.proofs.OfMerges.Least.{EachKey, EachKey-weaker}
+use Rattle.ptmerge.proofs.OfMerges.Least.{EachKey, EachKey-all, EachKey-weaker}
 use Rattle.ptmerge.proofs.OfMerges.Orders.{IsKeyOrder, AtMost, at_most_trans}
 use Rattle.ptmerge.proofs.OfMerges.Passing.{not_below}
 
@@ -26,14 +26,10 @@ Rises cmp key last (x ∷ xs) = (falls cmp last (key x) ≡ false) × Rises cmp 
 
 rises_after : (cmp : Cmp) (key : Key) (last : Option (List ℕ)) (ls : Lines) → Rises cmp key last (ordered_after cmp key last ls)
 rises_after cmp key last [] = tt
-rises_after cmp key last (x ∷ ls) = by (falls cmp last (key x)) refl (rises_after cmp key (Some (key x)) ls)
-  where
-    by : (b : Bool) → falls cmp last (key x) ≡ b → Rises cmp key (Some (key x)) (ordered_after cmp key (Some (key x)) ls) → Rises cmp key last (cond b [] (x ∷ ordered_after cmp key (Some (key x)) ls))
-    by true e ih = tt
-    by false e ih = (e, ih)
+rises_after cmp key last (x ∷ ls) = let ih = rises_after cmp key (Some (key x)) ls in grind (arith, ih)
 
 pub rises_ordered : (cmp : Cmp) (key : Key) (ls : Lines) → Rises cmp key None (ordered_part cmp key ls)
-rises_ordered cmp key ls = subst (Rises cmp key None) (sym (ordered_is cmp key ls)) (rises_after cmp key None ls)
+rises_ordered cmp key ls = rw (ordered_is cmp key ls) (rises_after cmp key None ls)
 
 pub rises_front : (cmp : Cmp) (key : Key) (last : Option (List ℕ)) (xs ys : Lines) → Rises cmp key last (xs ++ ys) → Rises cmp key last xs
 rises_front cmp key last [] ys r = tt
@@ -57,19 +53,14 @@ rises_in_order cmp key ls r = (ordered_is cmp key ls ∙ ordered_whole cmp key N
 module _ (cmp : Cmp) (o : IsKeyOrder cmp) (key : Key) where
   from_key : (k : List ℕ) (ls : Lines) → Rises cmp key (Some k) ls → EachKey (AtMost cmp k) key ls
   from_key k [] r = tt
-  from_key k (x ∷ ls) r = (r.0, EachKey-weaker (AtMost cmp (key x)) (AtMost cmp k) (λ y h. at_most_trans cmp o k (key x) y r.0 h) key ls (from_key (key x) ls r.1))
+  from_key k (x ∷ ls) r = (r.0, EachKey-weaker _ _ (λ y h. at_most_trans cmp o k (key x) y r.0 h) _ _ (from_key (key x) ls r.1))
 
   -- no later key is below the last one
   pub none_below : (xs ys : Lines) → Rises cmp key None (xs ++ ys) → EachKey (λ k. is_below cmp k (last_or None (map key xs)) ≡ false) key ys
-  none_below xs ys r = by (last_or None (map key xs)) (rises_rest cmp key None xs ys r)
-    where
-      none : (zs : Lines) → EachKey (λ k. false ≡ false) key zs
-      none [] = tt
-      none (z ∷ zs) = (refl, none zs)
-
-      by : (l : Option (List ℕ)) → Rises cmp key l ys → EachKey (λ k. is_below cmp k l ≡ false) key ys
-      by None h = none ys
-      by (Some x) h = EachKey-weaker (AtMost cmp x) (λ k. is_below cmp k (Some x) ≡ false) (λ k a. not_below cmp o k x a) key ys (from_key x ys h)
+  none_below xs ys r = elim (last_or None (map key xs)) as (λ l. Rises cmp key l ys → EachKey (λ k. is_below cmp k l ≡ false) key ys) [
+    | None ↦ λ h. EachKey-all (λ k. false ≡ false) key (λ k. refl) ys
+    | Some x ↦ λ h. EachKey-weaker _ _ (λ k a. not_below cmp o k x a) _ _ (from_key x ys h)
+  ] (rises_rest cmp key None xs ys r)
 
 -- ---- what came
 
@@ -101,22 +92,15 @@ are_split end (y ∷ xs) x a = let t = are_split end xs x a.1 in ((a.0, t.0), t.
 
 shape_of : (end : ℕ) (given : List ℕ) (ls : Lines) (now : Reader) → Far end given ls now → Shape end given ls
 shape_of end given ls now (inl o) = inl o
-shape_of end given ls now (inr c) = by (the_lines end given).0
-  where
-    by : AreLinesOf end given (lines end given) → Shape end given ls
-    by a = ⊎_elim
-        (λ e. inl (sym e ∙ ap (text end) c.0, subst (AreLines end) c.0 a.0))
-        (λ e. unended e.2)
-        a.1
-      where
-        unended : text end (lines end given) ≡ given ++ end ∷ [] → Shape end given ls
-        unended e = ⊎_elim
-            (λ none. (let bad : [] ≡ given ++ end ∷ [] = sym (ap (text end) none) ∙ e in absurd (omega (arith, ap length bad, length-append given (end ∷ [])))))
-            (λ l.
-            let s = are_split end l.0 l.1 (subst (AreLines end) l.2 a.0) in
-            let same : given ++ end ∷ [] ≡ (text end l.0 ++ l.1) ++ end ∷ [] = sym e ∙ ap (text end) l.2 ∙ text_push end l.0 l.1 ∙ sym (append_assoc (text end l.0) l.1 (end ∷ [])) in
-            inr (l.0, l.1, sym c.0 ∙ l.2, sym (init_push given end) ∙ ap init same ∙ init_push (text end l.0 ++ l.1) end, s.0, s.1))
-            (last_of (lines end given))
+shape_of end given ls now (inr c) =
+    let a = rw c.0 at (the_lines end given).0 in
+    ⊎_elim (λ e. inl (sym e, a.0)) (λ e. ⊎_elim
+    (λ none. (let bad : [] ≡ given ++ end ∷ [] = rw none at e.2 in absurd (omega (arith, ap length bad, length-append given (end ∷ [])))))
+    (λ l.
+    let s = are_split end l.0 l.1 (rw l.2 at a.0) in
+    let same : given ++ end ∷ [] ≡ (text end l.0 ++ l.1) ++ end ∷ [] = sym e.2 ∙ (rw (l.2, text_push end l.0 l.1, append_assoc (text end l.0) l.1 (end ∷ []))) in
+    inr (l.0, l.1, l.2, append_cancel_right given (text end l.0 ++ l.1) (end ∷ []) same, s.0, s.1))
+    (last_of ls)) a.1
 
 -- what had come two blocks earlier, or less: its whole lines are passed, and more may come
 pub record Back (end : ℕ) (given : Given) (p : Lines) : Type 0 where
@@ -148,21 +132,18 @@ module _ (end : ℕ) (given piece : List ℕ) (ls p : Lines) (now new : Reader) 
   back near = by near (shape_of end given ls now far)
     where
       by : Near ls p piece → Shape end given ls → Back end (given_of (given ++ piece) new) p
-      by (inl e) (inl o) = unheld ls piece (ap (λ (l : List ℕ). l ++ piece) o.0) o.1 free [] (sym e ∙ sym (append-nil ls))
-      by (inl e) (inr c) =
-          unheld c.0 (c.1 ++ piece) (ap (λ (l : List ℕ). l ++ piece) c.3 ∙ append_assoc (text end c.0) c.1 piece) c.4 (free_append end c.1 piece c.5 free) (c.1 ∷ []) (sym e ∙ c.2)
+      by (inl e) (inl o) = unheld ls piece (rw o.0) o.1 free [] (sym e ∙ sym (append-nil ls))
+      by (inl e) (inr c) = unheld c.0 (c.1 ++ piece) (rw (c.3, append_assoc (text end c.0) c.1 piece)) c.4 (free_append end c.1 piece c.5 free) (c.1 ∷ []) (sym e ∙ c.2)
       by (inr e) (inr c) =
           let same : c.0 ≡ p = sym (init_push c.0 c.1) ∙ ap init (sym c.2 ∙ e.1) ∙ init_push p e.0 in
-          unheld c.0 (c.1 ++ piece) (ap (λ (l : List ℕ). l ++ piece) c.3 ∙ append_assoc (text end c.0) c.1 piece) c.4 (free_append end c.1 piece c.5 free) [] (sym same ∙ sym (append-nil c.0))
+          unheld c.0 (c.1 ++ piece) (rw (c.3, append_assoc (text end c.0) c.1 piece)) c.4 (free_append end c.1 piece c.5 free) [] (sym same ∙ sym (append-nil c.0))
       by (inr e) (inl o) =
-          let s = are_split end p e.0 (subst (AreLines end) e.1 o.1) in
-          let is : given ++ piece ≡ (text end p ++ e.0) ++ end ∷ [] =
-          ap (λ (l : List ℕ). given ++ l) e.2 ∙ append-nil given ∙ o.0 ∙ ap (text end) e.1 ∙ text_push end p e.0 ∙ sym (append_assoc (text end p) e.0 (end ∷ [])) in
+          let s = are_split end p e.0 (rw e.1 at o.1) in
           record {
             before = record {
               earlier = record { bytes = text end p ++ e.0; ended = false };
               last = end ∷ new.held;
-              split = ap (λ (l : List ℕ). l ++ new.held) is ∙ append_assoc (text end p ++ e.0) (end ∷ []) new.held;
+              split = rw (e.2, append-nil given, o.0, e.1, text_push end p e.0) (simp append_assoc);
               short = omega (arith, few);
               ended = λ e. cc;
             };

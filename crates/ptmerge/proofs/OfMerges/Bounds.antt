@@ -1,6 +1,6 @@
 -- What is known of the lines that are still to come of an input.
 use Rattle.std.proofs.lemmas.Bool.Decides.{nat_tests}
-use Rattle.std.proofs.Common.{◌≡◌, ℕ, suc, ◌+◌, List, [], ◌∷◌, ◌++◌, Bool, true, false, cond, Option, Some, None, length, refl, ap, sym, ◌∙◌, subst, map, append_assoc, arith}
+use Rattle.std.proofs.Common.{◌≡◌, ℕ, ◌+◌, List, [], ◌∷◌, ◌++◌, Bool, true, false, cond, Option, Some, None, length, refl, ◌∙◌, map, append_assoc, arith}
 use Rattle.std.specs.Prelude.{nat_lt, unwrap_or, if◌then◌else◌}
 use Rattle.std.specs.List.{last_or}
 use Rattle.std.specs.Ordering.{is_gt}
@@ -29,59 +29,31 @@ fall_after cmp key last n (x ∷ w) = cond (falls cmp last (key x)) (Some (fall_
 pub ordered_is : (cmp : Cmp) (key : Key) (ls : Lines) → ordered_part cmp key ls ≡ ordered_after cmp key None ls
 ordered_is cmp key [] = refl
 ordered_is cmp key (x ∷ []) = refl
-ordered_is cmp key (x ∷ y ∷ more) = by (ordered_is cmp key (y ∷ more)) (is_gt (cmp (key x) (key y)))
-  where
-    by : ordered_part cmp key (y ∷ more) ≡ y ∷ ordered_after cmp key (Some (key y)) more → (b : Bool)
-        → cond b (x ∷ []) (x ∷ ordered_part cmp key (y ∷ more)) ≡ x ∷ cond b [] (y ∷ ordered_after cmp key (Some (key y)) more)
-    by ih true = refl
-    by ih false = ap (λ l. x ∷ l) ih
+ordered_is cmp key (x ∷ y ∷ more) = let ih = ordered_is cmp key (y ∷ more) in grind (arith, ih)
 
 -- the fall, by the length of the ordered part
 abbrev by_length : Cmp → Key → Option (List ℕ) → ℕ → Lines → Lines → Option Fall
 by_length cmp key last n part ls = if nat_lt (length part) (length ls) then Some (record { last_key = unwrap_or (last_or last (map key part)) []; line = (n + length part) + 1 }) else None
 
-lt_suc : (a b : ℕ) → nat_lt (suc a) (suc b) ≡ nat_lt a b
-lt_suc a b = grind (arith, nat_tests)
-
-lt_some : (n : ℕ) → nat_lt 0 (suc n) ≡ true
-lt_some n = grind (arith, nat_tests)
-
 by_length_is : (cmp : Cmp) (key : Key) (last : Option (List ℕ)) (n : ℕ) (ls : Lines) → by_length cmp key last n (ordered_after cmp key last ls) ls ≡ fall_after cmp key last n ls
 by_length_is cmp key last n [] = refl
-by_length_is cmp key last n (x ∷ w) = by (by_length_is cmp key (Some (key x)) (n + 1) w) (falls cmp last (key x))
-  where
-    by : by_length cmp key (Some (key x)) (n + 1) (ordered_after cmp key (Some (key x)) w) w ≡ fall_after cmp key (Some (key x)) (n + 1) w → (b : Bool)
-        → by_length cmp key last n (cond b [] (x ∷ ordered_after cmp key (Some (key x)) w)) (x ∷ w) ≡ cond b (Some (fall_at last n)) (fall_after cmp key (Some (key x)) (n + 1) w)
-    by ih true = let same : (n + 0) + 1 ≡ n + 1 = omega arith in λ i. if lt_some (length w) i then Some (record { last_key = unwrap_or last []; line = same i }) else None
-    by ih false =
-        let part = ordered_after cmp key (Some (key x)) w in
-        let same : (n + length (x ∷ part)) + 1 ≡ ((n + 1) + length part) + 1 = omega arith in
-        (λ i. if lt_suc (length part) (length w) i then Some (record { last_key = unwrap_or (last_or (Some (key x)) (map key part)) []; line = same i }) else None) ∙ ih
+by_length_is cmp key last n (x ∷ w) = let ih = by_length_is cmp key (Some (key x)) (n + 1) w in grind (arith, nat_tests, ih)
 
 pub fall_is : (cmp : Cmp) (key : Key) (ls : Lines) → fall cmp key ls ≡ fall_after cmp key None 0 ls
-fall_is cmp key ls =
-    let same : length (ordered_after cmp key None ls) + 1 ≡ (0 + length (ordered_after cmp key None ls)) + 1 = omega arith in
-    ap (λ part. if nat_lt (length part) (length ls) then Some (record { last_key = unwrap_or (last_or None (map key part)) []; line = length part + 1 }) else None) (ordered_is cmp key ls)
-    ∙ (λ i. if nat_lt (length (ordered_after cmp key None ls)) (length ls) then Some
-    (record { last_key = unwrap_or (last_or None (map key (ordered_after cmp key None ls))) []; line = same i }) else None)
-    ∙ by_length_is cmp key None 0 ls
+fall_is cmp key ls = grind (arith, ordered_is cmp key ls, by_length_is cmp key None 0 ls)
 
 -- lines in order, up to a last key
 pub record Begun (cmp : Cmp) (key : Key) (q : Lines) (last : Option (List ℕ)) : Type 0 where
   pub ordered : (w : Lines) → ordered_part cmp key (q ++ w) ≡ q ++ ordered_after cmp key last w
   pub falling : (w : Lines) → fall cmp key (q ++ w) ≡ fall_after cmp key last (length q) w
 
-pub begun_none : (cmp : Cmp) (key : Key) → Begun cmp key [] None
-begun_none cmp key = record { ordered = ordered_is cmp key; falling = fall_is cmp key }
+pub begun_none : {cmp : Cmp} {key : Key} → Begun cmp key [] None
+begun_none {cmp} {key} = record { ordered = ordered_is cmp key; falling = fall_is cmp key }
 
-pub begun_more : (cmp : Cmp) (key : Key) (q : Lines) (last : Option (List ℕ)) (x : List ℕ) → Begun cmp key q last → falls cmp last (key x) ≡ false → Begun cmp key (q ++ x ∷ []) (Some (key x))
-begun_more cmp key q last x b rises = record {
-  ordered = λ w.
-      ap (ordered_part cmp key) (append_assoc q (x ∷ []) w) ∙ b.ordered (x ∷ w) ∙ ap (λ t. q ++ cond t [] (x ∷ ordered_after cmp key (Some (key x)) w)) rises
-      ∙ sym (append_assoc q (x ∷ []) (ordered_after cmp key (Some (key x)) w));
-  falling = λ w.
-      ap (fall cmp key) (append_assoc q (x ∷ []) w) ∙ b.falling (x ∷ w) ∙ ap (λ t. cond t (Some (fall_at last (length q))) (fall_after cmp key (Some (key x)) (length q + 1) w)) rises
-      ∙ ap (λ n. fall_after cmp key (Some (key x)) n w) (sym (length_push q x));
+pub begun_more : {cmp : Cmp} {key : Key} {q : Lines} {last : Option (List ℕ)} (x : List ℕ) → Begun cmp key q last → falls cmp last (key x) ≡ false → Begun cmp key (q ++ x ∷ []) (Some (key x))
+begun_more {cmp} {key} {q} x b rises = record {
+  ordered = λ w. rw (append_assoc q (x ∷ []) w, b.ordered (x ∷ w), rises, append_assoc q (x ∷ []) (ordered_after cmp key (Some (key x)) w));
+  falling = λ w. rw (append_assoc q (x ∷ []) w, b.falling (x ∷ w), rises, length_push q x);
 }
 
 -- a fall behind a key that is at least k
@@ -92,23 +64,11 @@ FallFrom cmp k (Some d) = AtMost cmp k d.last_key
 pub after_from : (cmp : Cmp) (o : IsKeyOrder cmp) (key : Key) (k : List ℕ) (n : ℕ) (w : Lines) → EachKey (AtMost cmp k) key (ordered_after cmp key (Some k) w)
     × FallFrom cmp k (fall_after cmp key (Some k) n w)
 after_from cmp o key k n [] = (tt, tt)
-after_from cmp o key k n (x ∷ w) = by (is_gt (cmp k (key x))) refl (after_from cmp o key (key x) (n + 1) w)
-  where
-    up : is_gt (cmp k (key x)) ≡ false → (f : Option Fall) → FallFrom cmp (key x) f → FallFrom cmp k f
-    up h None a = tt
-    up h (Some d) a = at_most_trans cmp o k (key x) d.last_key h a
-
-    by : (b : Bool) → is_gt (cmp k (key x)) ≡ b → EachKey (AtMost cmp (key x)) key (ordered_after cmp key (Some (key x)) w) × FallFrom cmp (key x) (fall_after cmp key (Some (key x)) (n + 1) w)
-        → EachKey (AtMost cmp k) key (cond b [] (x ∷ ordered_after cmp key (Some (key x)) w)) × FallFrom cmp k (cond b (Some (fall_at (Some k) n)) (fall_after cmp key (Some (key x)) (n + 1) w))
-    by true h ih = (tt, self_at_most cmp o k)
-    by false h ih = (
-      (
-        h,
-        EachKey-weaker (AtMost cmp (key x)) (AtMost cmp k) (λ y a. at_most_trans cmp o k (key x) y h a) key
-            (ordered_after cmp key (Some (key x)) w) ih.0,
-      ),
-      up h (fall_after cmp key (Some (key x)) (n + 1) w) ih.1,
-    )
+after_from cmp o key k n (x ∷ w) =
+    let ih = after_from cmp o key (key x) (n + 1) w in
+    let weaker : is_gt (cmp k (key x)) ≡ false → EachKey (AtMost cmp k) key (ordered_after cmp key (Some (key x)) w) =
+    λ h. EachKey-weaker _ _ (λ y a. at_most_trans cmp o k (key x) y h a) _ _ ih.0 in
+    grind (arith, ih, weaker, at_most_trans, self_at_most cmp o k)
 
 -- What is still to come of an input: nothing is known; keys, and a fall, from k on; no lines, and this fall; no lines
 -- and no fall.
@@ -145,52 +105,41 @@ Follows Over w = w ≡ []
 Follows b w = Unit {0}
 
 pub coming_none : (cmp : Cmp) (key : Key) (b : Bound) → Coming cmp key b []
-coming_none cmp key Free = tt
-coming_none cmp key (From k) = tt
-coming_none cmp key (Fallen d) = refl
-coming_none cmp key Over = refl
+coming_none cmp key b = grind arith
 
 -- The lines ls have come, of which p are passed: each list that goes on with them is in order up to p and some that may
 -- come.
 pub record Reaches (cmp : Cmp) (key : Key) (ls p : Lines) (b : Bound) : Type 0 where
   pub future : (w : Lines) → Follows b w → (r : Lines) × (ordered_part cmp key (ls ++ w) ≡ p ++ r) × Coming cmp key b r × Falling cmp b (fall cmp key (ls ++ w))
 
-pub reaches_free : (cmp : Cmp) (key : Key) → Reaches cmp key [] [] Free
-reaches_free cmp key = record { future = λ w _. (ordered_part cmp key w, refl, tt, tt) }
+pub reaches_free : {cmp : Cmp} {key : Key} → Reaches cmp key [] [] Free
+reaches_free {cmp} {key} = record { future = λ w _. (ordered_part cmp key w, refl, tt, tt) }
 
 -- all lines that came are passed
-pub reaches_passed : (cmp : Cmp) (o : IsKeyOrder cmp) (key : Key) (ls : Lines) (k : List ℕ) → Begun cmp key ls (Some k) → Reaches cmp key ls ls (From k)
-reaches_passed cmp o key ls k g = record {
+pub reaches_passed : {cmp : Cmp} (o : IsKeyOrder cmp) {key : Key} {ls : Lines} {k : List ℕ} → Begun cmp key ls (Some k) → Reaches cmp key ls ls (From k)
+reaches_passed {cmp} o {key} {ls} {k} g = record {
   future = λ w _.
-      let a = after_from cmp o key k (length ls) w in (ordered_after cmp key (Some k) w, g.ordered w, a.0, subst (FallFrom cmp k) (sym (g.falling w)) a.1);
+      let a = after_from cmp o key k (length ls) w in (ordered_after cmp key (Some k) w, g.ordered w, a.0, rw (g.falling w) a.1);
 }
 
-pub reaches_over : (cmp : Cmp) (key : Key) (ls : Lines) (last : Option (List ℕ)) → Begun cmp key ls last → Reaches cmp key ls ls Over
-reaches_over cmp key ls last g = record {
-  future = λ w none.
-      ([], ap (λ l. ordered_part cmp key (ls ++ l)) none ∙ g.ordered [], refl, ap (λ l. fall cmp key (ls ++ l)) none ∙ g.falling []);
-}
+pub reaches_over : {cmp : Cmp} {key : Key} {ls : Lines} {last : Option (List ℕ)} → Begun cmp key ls last → Reaches cmp key ls ls Over
+reaches_over g = record { future = λ w none. rw none ([], g.ordered [], refl, g.falling []) }
 
 -- a line stands
-pub reaches_head : (cmp : Cmp) (o : IsKeyOrder cmp) (key : Key) (p : Lines) (x : List ℕ) → Begun cmp key (p ++ x ∷ []) (Some (key x)) → Reaches cmp key (p ++ x ∷ []) p (From (key x))
-reaches_head cmp o key p x g = record {
+pub reaches_head : {cmp : Cmp} (o : IsKeyOrder cmp) {key : Key} {p : Lines} {x : List ℕ} → Begun cmp key (p ++ x ∷ []) (Some (key x)) → Reaches cmp key (p ++ x ∷ []) p (From (key x))
+reaches_head {cmp} o {key} {p} {x} g = record {
   future = λ w _.
       let a = after_from cmp o key (key x) (length (p ++ x ∷ [])) w in (
         x ∷ ordered_after cmp key (Some (key x)) w,
         g.ordered w ∙ append_assoc p (x ∷ []) (ordered_after cmp key (Some (key x)) w),
         (self_at_most cmp o (key x), a.0),
-        subst (FallFrom cmp (key x)) (sym (g.falling w)) a.1,
+        rw (g.falling w) a.1,
       );
 }
 
 -- a line that falls
-pub reaches_fallen : (cmp : Cmp) (key : Key) (p : Lines) (k x : List ℕ) → Begun cmp key p (Some k) → is_gt (cmp k (key x)) ≡ true
+pub reaches_fallen : {cmp : Cmp} {key : Key} {p : Lines} {k : List ℕ} (x : List ℕ) → Begun cmp key p (Some k) → is_gt (cmp k (key x)) ≡ true
     → Reaches cmp key (p ++ x ∷ []) p (Fallen (record { last_key = k; line = length p + 1 }))
-reaches_fallen cmp key p k x g falls = record {
-  future = λ w _. (
-    [],
-    ap (ordered_part cmp key) (append_assoc p (x ∷ []) w) ∙ g.ordered (x ∷ w) ∙ ap (λ t. p ++ cond t [] (x ∷ ordered_after cmp key (Some (key x)) w)) falls,
-    refl,
-    ap (fall cmp key) (append_assoc p (x ∷ []) w) ∙ g.falling (x ∷ w) ∙ ap (λ t. cond t (Some (fall_at (Some k) (length p))) (fall_after cmp key (Some (key x)) (length p + 1) w)) falls,
-  );
+reaches_fallen {p = p} x g fell = record {
+  future = λ w _. ([], rw (append_assoc p (x ∷ []) w, g.ordered (x ∷ w), fell), refl, rw (append_assoc p (x ∷ []) w, g.falling (x ∷ w), fell));
 }

@@ -1,22 +1,22 @@
 -- What is decided of two inputs is a beginning of what was pushed, where it is decided by passed lines.
-use Rattle.std.proofs.Common.{◌≡◌, ℕ, ◌||◌, Bool, true, false, cond, List, [], ◌∷◌, ◌++◌, Option, Some, None, map, refl, sym, ◌∙◌, ap}
+use Rattle.std.proofs.Common.{◌≡◌, ℕ, Bool, false, List, [], ◌∷◌, ◌++◌, Option, Some, None, map, refl, sym, ◌∙◌, ap}
 use Rattle.std.proofs.lemmas.List.{append-nil}
 use Rattle.std.proofs.lemmas.List.Elements.{filter-append}
 use Rattle.std.specs.List.{last_or}
-use Rattle.std.specs.Prelude.{filter, is_some}
+use Rattle.std.specs.Prelude.{filter}
 use Rattle.ptlines.specs.Inputs.{Begins}
 use Rattle.ptlines.specs.Text.{text}
 use Rattle.ptlines.proofs.TextLaws.{text-append}
 use Rattle.ptmerge.specs.declared.order.Side.{Side}
 use Rattle.ptmerge.specs.declared.order.Side.TheVariants.{First, Second}
-use Rattle.ptmerge.specs.Keyed.{Lines, Tool, Fall, by_keys, decided_entries, disorder, disorder_of, fall, is_below, is_decided, is_past, is_settled, ordered_part}
+use Rattle.ptmerge.specs.Keyed.{Lines, Tool, by_keys, decided_entries, disorder, disorder_of, fall, is_below, is_decided, is_past, is_settled, ordered_part}
 use Rattle.ptmerge.specs.Orders.{Cmp, Key}
 use Rattle.ptmerge.specs.Sides.{other}
-use Rattle.ptmerge.proofs.OfMerges.Bounds.{FallFrom}
+use Rattle.ptmerge.proofs.OfMerges.Bounds.{Begun, Bound, FallFrom, Under}
 use Rattle.ptmerge.proofs.OfMerges.Least.{EachKey, EachKey-weaker}
 use Rattle.ptmerge.proofs.OfMerges.Orders.{IsKeyOrder, AtMost}
 use Rattle.ptmerge.proofs.OfParts.PartsByKey.{by_keys_kept}
-use Rattle.ptmerge.proofs.OfMerges.Passing.{down_decided, last_has, not_below, not_decided}
+use Rattle.ptmerge.proofs.OfMerges.Passing.{Seen, down_decided, last_has, not_below, not_decided, past_none}
 use Rattle.ptmerge.proofs.OfMerges.Splitting.{all_keys, down_begins}
 
 kept_none : (w : List ℕ → Bool) (key : Key) (ls : Lines) → EachKey (λ k. w k ≡ false) key ls → filter (λ line. w (key line)) ls ≡ []
@@ -27,9 +27,7 @@ kept_none w key (x ∷ ls) e = rw e.0 (kept_none w key ls e.1)
 kept_same : (w : List ℕ → Bool) (key : Key) (xs ys rest tail : Lines) → xs ++ rest ≡ ys ++ tail → EachKey (λ k. w k ≡ false) key rest
     → EachKey (λ k. w k ≡ false) key tail → filter (λ line. w (key line)) xs ≡ filter (λ line. w (key line)) ys
 kept_same w key xs ys rest tail same none1 none2 =
-    let f : List ℕ → Bool = λ line. w (key line) in
-    sym (append-nil (filter f xs)) ∙ ap (λ (l : Lines). filter f xs ++ l) (sym (kept_none w key rest none1)) ∙ sym (filter-append f xs rest) ∙ ap (filter f) same
-    ∙ filter-append f ys tail ∙ ap (λ (l : Lines). filter f ys ++ l) (kept_none w key tail none2) ∙ append-nil (filter f ys)
+    simp (filter-append, kept_none w key rest none1, kept_none w key tail none2, append-nil) at (ap (filter (λ line. w (key line))) same)
 
 -- these lines are those, but for lines whose keys are not below this one
 pub record Differ (tool : Tool) (last : Option (List ℕ)) (key : Key) (xs ys : Lines) : Type 0 where
@@ -38,6 +36,10 @@ pub record Differ (tool : Tool) (last : Option (List ℕ)) (key : Key) (xs ys : 
   pub same : xs ++ rest ≡ ys ++ tail
   pub none_rest : EachKey (λ k. is_below tool.cmp k last ≡ false) key rest
   pub none_tail : EachKey (λ k. is_below tool.cmp k last ≡ false) key tail
+
+-- nothing is past an input that is in order and goes on, but what is below its last key
+going_past : (cmp : Cmp) (key : Key) {ended : Bool} (ls : Lines) (k : List ℕ) → ended ≡ false → fall cmp key ls ≡ None → is_past cmp key ended ls k ≡ is_below cmp k (last_or None (map key ls))
+going_past cmp key ls k going rises = rw (going, rises)
 
 -- Of one input only passed lines came, and more may come; of the other, whatever came.
 pub decided_of_passed : (tool : Tool) (o : IsKeyOrder tool.cmp) (ended : Side → Bool) (ls p : Side → Lines) (of : Side) → ended of ≡ false → fall tool.cmp (tool.key of) (ls of) ≡ None
@@ -50,13 +52,9 @@ decided_of_passed tool o ended ls p of going rises differ =
     sym (by_keys_kept dec tool o (λ side. ordered_part tool.cmp (tool.key side) (ls side))) ∙ (λ i. by_keys tool all_keys (λ side. kept side i)) ∙ by_keys_kept dec tool o p in
     record { rest = text tool.end first.0; is = ap (text tool.end) (first.1 ∙ ap (λ (l : Lines). l ++ first.0) (sym known)) ∙ text-append tool.end (decided_entries tool ended ls) first.0 }
   where
-    past : (k : List ℕ) → is_past tool.cmp (tool.key of) (ended of) (ls of) k ≡ is_below tool.cmp k (last_or None (map (tool.key of) (ls of)))
-    past k = λ i. cond (going i || is_some (rises i)) true (is_below tool.cmp k (last_or None (map (tool.key of) (ls of))))
-
     unwanted : (side : Side) (xs : Lines) → EachKey (λ k. is_below tool.cmp k (last_or None (map (tool.key of) (ls of))) ≡ false) (tool.key side) xs
         → EachKey (λ k. is_decided tool ended ls k ≡ false) (tool.key side) xs
-    unwanted side xs e = EachKey-weaker (λ k. is_below tool.cmp k (last_or None (map (tool.key of) (ls of))) ≡ false) (λ k. is_decided tool ended ls k ≡ false)
-        (λ k h. not_decided tool o ended ls of k (past k ∙ h)) (tool.key side) xs e
+    unwanted side xs e = EachKey-weaker _ _ (λ k h. not_decided tool o ended ls of k (going_past tool.cmp (tool.key of) (ls of) k going rises ∙ h)) _ _ e
 
     kept : (side : Side) → filter (λ line. is_decided tool ended ls (tool.key side line)) (ordered_part tool.cmp (tool.key side) (ls side))
         ≡ filter (λ line. is_decided tool ended ls (tool.key side line)) (p side)
@@ -65,15 +63,27 @@ decided_of_passed tool o ended ls p of going rises differ =
         kept_same (is_decided tool ended ls) (tool.key side) (ordered_part tool.cmp (tool.key side) (ls side)) (p side) d.rest d.tail d.same
         (unwanted side d.rest d.none_rest) (unwanted side d.tail d.none_tail)
 
+-- all lines that came of this input are passed, and more may come
+pub decided_begins : {tool : Tool} (o : IsKeyOrder tool.cmp) {b : Side → Bound} {p ls : Side → Lines} → ((of side : Side) → EachKey (Under tool.cmp (b of)) (tool.key side) (p side))
+    → Seen tool b p ls → (ended : Side → Bool) (of : Side) (last : Option (List ℕ)) → ended of ≡ false → ls of ≡ p of → Begun tool.cmp (tool.key of) (p of) last
+    → Begins (text tool.end (decided_entries tool ended ls)) (text tool.end (by_keys tool all_keys p))
+decided_begins {tool} o {b} {p} {ls} under s ended of last going all begun =
+    decided_of_passed tool o ended ls p of going (ap (fall tool.cmp (tool.key of)) (all ∙ sym (append-nil (p of))) ∙ begun.falling []) (λ side. record {
+      rest = [];
+      tail = s.r side;
+      same = append-nil (ordered_part tool.cmp (tool.key side) (ls side)) ∙ s.parts side;
+      none_rest = tt;
+      none_tail = rw all (past_none tool.cmp o (tool.key of) (tool.key side) (b side) (p of) (s.r side) (under side of) (s.coming side));
+    })
+
 -- ---- a disorder
 
 -- what is at least each key is not below the last one
 below_last : (cmp : Cmp) → IsKeyOrder cmp → (key : Key) (xs : Lines) (e : List ℕ) → EachKey (λ k. AtMost cmp k e) key xs → is_below cmp e (last_or None (map key xs)) ≡ false
-below_last cmp o key xs e up = by (last_or None (map key xs)) refl
-  where
-    by : (l : Option (List ℕ)) → last_or None (map key xs) ≡ l → is_below cmp e l ≡ false
-    by None h = refl
-    by (Some x) h = not_below cmp o e x (last_has key (λ k. AtMost cmp k e) None xs x h (λ y bad. cc) up)
+below_last cmp o key xs e up = elim (last_or None (map key xs)) as (λ l. last_or None (map key xs) ≡ l → is_below cmp e l ≡ false) [
+  | None ↦ λ h. refl
+  | Some x ↦ λ h. not_below cmp o e x (last_has key (λ k. AtMost cmp k e) None xs x h (λ y bad. cc) up)
+] refl
 
 -- one input is in order and goes on, and no key of it is behind the fall of the other: no disorder is settled
 pub not_settled : (tool : Tool) → IsKeyOrder tool.cmp → (ended : Side → Bool) (ls : Side → Lines) (of : Side) → ended of ≡ false → fall tool.cmp (tool.key of) (ls of) ≡ None
@@ -82,21 +92,11 @@ not_settled tool o ended ls of going rises = by of going rises
   where
     past : (s : Side) → ended s ≡ false → fall tool.cmp (tool.key s) (ls s) ≡ None → (e : List ℕ) → EachKey (λ k. AtMost tool.cmp k e) (tool.key s) (ls s) → is_decided tool ended ls e ≡ false
     past s on none e up =
-        not_decided tool o ended ls s e ((λ i. cond (on i || is_some (none i)) true (is_below tool.cmp e (last_or None (map (tool.key s) (ls s))))) ∙ below_last tool.cmp o (tool.key s) (ls s) e up)
-
-    first : (f g : Option Fall) → f ≡ None → ended First ≡ false → fall tool.cmp (tool.key First) (ls First) ≡ None
-        → EachKey (λ k. FallFrom tool.cmp k g) (tool.key First) (ls First) → is_settled tool ended ls (disorder_of tool.cmp f g) ≡ false
-    first None None e on none up = refl
-    first None (Some d) e on none up = past First on none d.last_key up
-    first (Some c) g e on none up = cc
-
-    second : (f g : Option Fall) → g ≡ None → ended Second ≡ false → fall tool.cmp (tool.key Second) (ls Second) ≡ None
-        → EachKey (λ k. FallFrom tool.cmp k f) (tool.key Second) (ls Second) → is_settled tool ended ls (disorder_of tool.cmp f g) ≡ false
-    second None None e on none up = refl
-    second (Some d) None e on none up = past Second on none d.last_key up
-    second f (Some c) e on none up = cc
+        not_decided tool o ended ls s e (going_past tool.cmp (tool.key s) (ls s) e on none ∙ below_last tool.cmp o (tool.key s) (ls s) e up)
 
     by : (s : Side) → ended s ≡ false → fall tool.cmp (tool.key s) (ls s) ≡ None
         → EachKey (λ k. FallFrom tool.cmp k (fall tool.cmp (tool.key (other s)) (ls (other s)))) (tool.key s) (ls s) → is_settled tool ended ls (disorder tool ls) ≡ false
-    by First on none up = first (fall tool.cmp (tool.key First) (ls First)) (fall tool.cmp (tool.key Second) (ls Second)) none on none up
-    by Second on none up = second (fall tool.cmp (tool.key First) (ls First)) (fall tool.cmp (tool.key Second) (ls Second)) none on none up
+    by First on none = rw none (elim (fall tool.cmp (tool.key Second) (ls Second)) as (λ g. EachKey (λ k. FallFrom tool.cmp k g) (tool.key First) (ls First)
+        → is_settled tool ended ls (disorder_of tool.cmp None g) ≡ false) [ None ↦ λ up. refl | Some d ↦ λ up. past First on none d.last_key up ])
+    by Second on none = rw none (elim (fall tool.cmp (tool.key First) (ls First)) as (λ g. EachKey (λ k. FallFrom tool.cmp k g) (tool.key Second) (ls Second)
+        → is_settled tool ended ls (disorder_of tool.cmp g None) ≡ false) [ None ↦ λ up. refl | Some d ↦ λ up. past Second on none d.last_key up ])

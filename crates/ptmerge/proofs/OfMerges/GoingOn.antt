@@ -1,5 +1,5 @@
 -- What holds of both inputs of a merge once one of them went on.
-use Rattle.std.proofs.Common.{◌≡◌, ℕ, ◌+◌, ◌<◌, Result, Err, sym, ◌∙◌, ap, subst, arith}
+use Rattle.std.proofs.Common.{◌≡◌, ℕ, ◌+◌, ◌<◌, Result, Err, sym, ◌∙◌, ap, arith}
 use Rattle.ptlines.specs.Readers.{Reader, budget}
 use Rattle.ptlines.specs.Slots.{Slots}
 use Rattle.ptmerge.specs.declared.order.Side.{Side}
@@ -22,10 +22,8 @@ left reader one two = (budget (reader First) + alive one.stand) + (budget (reade
 
 pub less : (key : Key) (cmp : Cmp) (s : Side) (one two one2 two2 : Sorted) (f : Side → Reader) (reader : Reader) (before after : Slots) → (both one two s).stand ≡ Head
     → both one2 two2 (other s) ≡ both one two (other s) → Comes key cmp (both one two s) (both one2 two2 s) (f s) reader before after → left (put s reader f) one2 two2 < left f one two
-less key cmp First one two one2 two2 f reader before after head same came =
-    omega (arith, comes_less key cmp one one2 (f First) reader before after head came, ap (λ (q : Sorted). alive q.stand) same)
-less key cmp Second one two one2 two2 f reader before after head same came =
-    omega (arith, comes_less key cmp two two2 (f Second) reader before after head came, ap (λ (q : Sorted). alive q.stand) same)
+less key cmp First one two one2 two2 f reader before after head same came = omega (arith, comes_less head came, ap (λ (q : Sorted). alive q.stand) same)
+less key cmp Second one two one2 two2 f reader before after head same came = omega (arith, comes_less head came, ap (λ (q : Sorted). alive q.stand) same)
 
 -- where the inputs stand once this one went on
 pub place_is : (s : Side) (one two one2 two2 : Sorted) → both one2 two2 (other s) ≡ both one two (other s) → put s (both one2 two2 s) (both one two) ≡ both one2 two2
@@ -35,6 +33,6 @@ place_is Second one two one2 two2 same = λ i. both (sym same i) two2
 pub lent_on : (s : Side) (one two one2 two2 : Sorted) (f : Side → Reader) (reader : Reader) → both one2 two2 (other s) ≡ both one two (other s)
     → IsLent (both one2 two2 s) reader → ((side : Side) → IsLent (both one two side) (f side)) → (side : Side) → IsLent (both one2 two2 side) (put s reader f side)
 lent_on First one two one2 two2 f reader same h all First = h
-lent_on First one two one2 two2 f reader same h all Second = subst (λ (q : Sorted). IsLent q (f Second)) (sym same) (all Second)
-lent_on Second one two one2 two2 f reader same h all First = subst (λ (q : Sorted). IsLent q (f First)) (sym same) (all First)
+lent_on First one two one2 two2 f reader same h all Second = rw same (all Second)
+lent_on Second one two one2 two2 f reader same h all First = rw same (all First)
 lent_on Second one two one2 two2 f reader same h all Second = h

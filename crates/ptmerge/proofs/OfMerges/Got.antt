@@ -1,5 +1,5 @@
 -- The lines that came of a reader, and the inputs that agree with that.
-use Rattle.std.proofs.Common.{◌≡◌, ◌⊎◌, ⊎_elim, inl, inr, ℕ, ◌+◌, ◌<◌, ◌≤◌, Bool, true, false, List, [], ◌∷◌, ◌++◌, None, length, max, refl, sym, ◌∙◌, ap, subst, arith, append_assoc, length-append}
+use Rattle.std.proofs.Common.{◌≡◌, ◌⊎◌, ⊎_elim, inl, inr, ℕ, ◌+◌, ◌<◌, ◌≤◌, Bool, true, false, List, [], ◌∷◌, ◌++◌, None, length, max, refl, sym, ◌∙◌, ap, arith, append_assoc, length-append}
 use Rattle.std.proofs.lemmas.List.{append-nil, nil_from_length}
 use Rattle.std.proofs.lemmas.Bool.{false≢true}
 use Rattle.ptlines.specs.Fills.{GivesLine}
@@ -27,8 +27,8 @@ pub record Got (end : ℕ) (old now : Reader) (ls : List (List ℕ)) : Type 0 wh
 pub reads_nothing : (r : Reader) → Reads r r []
 reads_nothing r = record { moved = sym (prepend_known-nil (unread r)); count = omega arith; refused = refl; ending = refl; still = λ ended. (refl, ended); end = λ h. h }
 
-pub got_none : (end : ℕ) (old : Reader) → old.fault ≡ None → old.ending ≡ end → Got end old old []
-got_none end old clean ending = record {
+pub got_none : {end : ℕ} {old : Reader} → old.fault ≡ None → old.ending ≡ end → Got end old old []
+got_none {old = old} clean ending = record {
   given = [];
   so_far = inl (refl, tt);
   goes = record { reads = reads_nothing old; fault = clean; failed = refl; short = λ h. h };
@@ -36,15 +36,15 @@ got_none end old clean ending = record {
 }
 
 -- where nothing can come any more, nothing came
-pub done_gives_nothing : (now new : Reader) (bytes : List ℕ) → IsDone now → Reads now new bytes → (bytes ≡ []) × (new.held ≡ []) × (new.ended ≡ true)
-done_gives_nothing now new bytes done reads =
+pub done_gives_nothing : {now new : Reader} {bytes : List ℕ} → IsDone now → Reads now new bytes → (bytes ≡ []) × (new.held ≡ []) × (new.ended ≡ true)
+done_gives_nothing {now} {new} {bytes} done reads =
     let still = reads.still done.ended in
     let none : length bytes + length new.held ≡ 0 = omega (arith, reads.count, still.0, ap length done.held) in
     (nil_from_length bytes (omega (arith, none)), nil_from_length new.held (omega (arith, none)), still.1)
 
-pub got_more : (end : ℕ) (old now new : Reader) (ls : List (List ℕ)) (before after : Slots) (slot : ℕ) → Got end old now ls
+pub got_more : {end : ℕ} {old now new : Reader} {ls : List (List ℕ)} {before after : Slots} {slot : ℕ} → Got end old now ls
     → (e : GivesLine now new before after slot) → Got end old new (ls ++ e.line ∷ [])
-got_more end old now new ls before after slot c e = record {
+got_more {end} {old} {now} {new} {ls} c e = record {
   given = c.given ++ (e.line ++ e.ending);
   so_far = ⊎_elim opened closed c.so_far;
   goes = goes_trans old now new c.given (e.line ++ e.ending) c.goes e.goes;
@@ -52,31 +52,24 @@ got_more end old now new ls before after slot c e = record {
 }
   where
     free : IsLine end e.line
-    free = subst (λ (b : ℕ). IsLine b e.line) c.ending e.whole
+    free = rw c.ending at e.whole
 
     opened : (c.given ≡ text end ls) × AreLines end ls → Far end (c.given ++ (e.line ++ e.ending)) (ls ++ e.line ∷ []) new
     opened o = elim e.ends [
-      | inl ends ↦ inl ((λ i. o.0 i ++ (e.line ++ (ends ∙ ap (λ (b : ℕ). b ∷ []) c.ending) i)) ∙ sym (text_push end ls e.line), AreLines_push end ls e.line o.1 free)
-      | inr last ↦ inr (
-        ap (lines end) ((λ i. o.0 i ++ (e.line ++ last.0 i)) ∙ ap (λ (l : List ℕ). text end ls ++ l) (append-nil e.line)) ∙ lines_of_text end ls e.line o.1
-            ∙ ap (λ (l : List (List ℕ)). ls ++ l) (lines_last end e.line free last.1),
-        last.2,
-      )
+      | inl ends ↦ inl (rw (o.0, ends, c.ending, text_push end ls e.line), AreLines_push end ls e.line o.1 free)
+      | inr last ↦ inr (rw (o.0, last.0, append-nil e.line, lines_of_text end ls e.line o.1, lines_last end e.line free last.1), last.2)
     ]
 
     some_came : 0 < length (e.line ++ e.ending)
-    some_came = elim e.ends [
-      | inl ends ↦ omega (arith, ap length ends, length-append e.line e.ending)
-      | inr last ↦ omega (arith, last.1, length-append e.line e.ending)
-    ]
+    some_came = grind (arith, length-append e.line e.ending)
 
     closed : (lines end c.given ≡ ls) × IsDone now → Far end (c.given ++ (e.line ++ e.ending)) (ls ++ e.line ∷ []) new
-    closed k = let none = (done_gives_nothing now new (e.line ++ e.ending) k.1 e.goes.reads).0 in absurd (omega (arith, some_came, ap length none))
+    closed k = let none = (done_gives_nothing k.1 e.goes.reads).0 in absurd (omega (arith, some_came, ap length none))
 
-pub got_end : (end : ℕ) (old now new : Reader) (ls : List (List ℕ)) → Got end old now ls → Goes now new [] → IsDone new → Got end old new ls
-got_end end old now new ls c g done = record {
+pub got_end : {end : ℕ} {old now new : Reader} {ls : List (List ℕ)} → Got end old now ls → Goes now new [] → IsDone new → Got end old new ls
+got_end {end} {old} {now} {new} c g done = record {
   given = c.given ++ [];
-  so_far = ⊎_elim (λ o. inl (append-nil c.given ∙ o.0, o.1)) (λ k. inr (ap (lines end) (append-nil c.given) ∙ k.0, done)) c.so_far;
+  so_far = ⊎_elim (λ o. inl (rw (append-nil c.given) o.0, o.1)) (λ k. inr (rw (append-nil c.given) k.0, done)) c.so_far;
   goes = goes_trans old now new c.given [] c.goes g;
   ending = g.reads.ending ∙ c.ending;
 }
@@ -92,24 +85,22 @@ module _ (end : ℕ) (old now new : Reader) (ls : List (List ℕ)) (piece : List
   came = given_of (c.given ++ piece) new
 
   free : IsLine end piece
-  free = subst (λ (b : ℕ). IsLine b piece) c.ending line
+  free = rw c.ending at line
 
   -- what comes behind the lines
   module _ (o : (c.given ≡ text end ls) × AreLines end ls) where
     front_of : (rest : List ℕ) → ((c.given ++ piece) ++ new.held) ++ rest ≡ text end ls ++ (piece ++ (new.held ++ rest))
-    front_of rest =
-        ap (λ (l : List ℕ). l ++ rest) (append_assoc c.given piece new.held) ∙ append_assoc c.given (piece ++ new.held) rest ∙ (λ i. o.0 i ++ append_assoc piece new.held rest i)
+    front_of rest = rw o.0 (simp append_assoc)
 
     opened_is : (rest : List ℕ) → lines end (((c.given ++ piece) ++ new.held) ++ rest) ≡ ls ++ lines end (piece ++ (new.held ++ rest))
     opened_is rest = ap (lines end) (front_of rest) ∙ lines_of_text end ls (piece ++ (new.held ++ rest)) o.1
 
   module _ (k : (lines end c.given ≡ ls) × IsDone now) where
     nothing : (piece ≡ []) × (new.held ≡ []) × (new.ended ≡ true)
-    nothing = done_gives_nothing now new piece k.1 reads
+    nothing = done_gives_nothing k.1 reads
 
     closed_is : (rest : List ℕ) → rest ≡ [] → lines end (((c.given ++ piece) ++ new.held) ++ rest) ≡ ls
-    closed_is rest none =
-        ap (lines end) ((λ i. ((c.given ++ nothing.0 i) ++ nothing.1 i) ++ none i) ∙ append-nil ((c.given ++ []) ++ []) ∙ append-nil (c.given ++ []) ∙ append-nil c.given) ∙ k.0
+    closed_is rest none = rw (nothing.0, nothing.1, none) (simp append-nil k.0)
 
   -- the lines of an input that agrees
   pub got_lines : (input : List ℕ) → Agrees (given_of (c.given ++ piece) new) input → More now ls (lines end input) × (max (longest ls) (length piece) ≤ longest (lines end input))
@@ -118,19 +109,15 @@ module _ (end : ℕ) (old now new : Reader) (ls : List (List ℕ)) (piece : List
       opened : (c.given ≡ text end ls) × AreLines end ls → More now ls (lines end input) × (max (longest ls) (length piece) ≤ longest (lines end input))
       opened o =
           let more = lines end (piece ++ (new.held ++ a.rest)) in
-          let all : lines end input ≡ ls ++ more = ap (lines end) a.is ∙ opened_is o a.rest in (
-            record {
-              more = more;
-              is = all;
-              done = λ d. (let none = done_gives_nothing now new piece d reads in λ i. lines end (none.0 i ++ (none.1 i ++ a.whole none.2 i)));
-            },
+          let all : lines end input ≡ ls ++ more = rw a.is (opened_is o a.rest) in (
+            record { more = more; is = all; done = λ d. (let none = done_gives_nothing d reads in rw (none.0, none.1, a.whole none.2)) },
             omega (arith, ap longest all, longest-append ls more, piece_longest end piece (new.held ++ a.rest) free),
           )
 
       closed : (lines end c.given ≡ ls) × IsDone now → More now ls (lines end input) × (max (longest ls) (length piece) ≤ longest (lines end input))
       closed k =
           let none = nothing k in
-          let same : lines end input ≡ ls = ap (lines end) a.is ∙ closed_is k a.rest (a.whole none.2) in
+          let same : lines end input ≡ ls = rw a.is (closed_is k a.rest (a.whole none.2)) in
           (record { more = []; is = same ∙ sym (append-nil ls); done = λ _. refl }, omega (arith, ap longest same, ap length none.0))
 
   -- the lines that are known whole: these, and no more where a read failed
@@ -143,21 +130,16 @@ module _ (end : ℕ) (old now new : Reader) (ls : List (List ℕ)) (piece : List
     where
       by_end : (t : Bool) → new.ended ≡ t → Known (whole_lines end (given_of (c.given ++ piece) new))
       by_end true e =
-          let all : whole_lines end (given_of (c.given ++ piece) new) ≡ lines end ((c.given ++ piece) ++ new.held) = λ i. whole_lines end
-          (record { bytes = (c.given ++ piece) ++ new.held; ended = e i }) in
+          let all : whole_lines end (given_of (c.given ++ piece) new) ≡ lines end ((c.given ++ piece) ++ new.held) = rw e in
           let w = (got_lines ((c.given ++ piece) ++ new.held) (record { rest = []; is = sym (append-nil ((c.given ++ piece) ++ new.held)); whole = λ _. refl })).0 in
           record { known = record { more = w.more; is = all ∙ w.is; done = w.done }; exact = λ _ going. absurd (false≢true (sym going ∙ e)) }
       by_end false e = ⊎_elim opened (λ k. absurd (false≢true (sym e ∙ (nothing k).2))) c.so_far
         where
-          all : whole_lines end (given_of (c.given ++ piece) new) ≡ ended_lines end ((c.given ++ piece) ++ new.held)
-          all = λ i. whole_lines end (record { bytes = (c.given ++ piece) ++ new.held; ended = e i })
-
           opened : (c.given ≡ text end ls) × AreLines end ls → Known (whole_lines end (given_of (c.given ++ piece) new))
           opened o =
               let is : whole_lines end (given_of (c.given ++ piece) new) ≡ ls ++ ended_lines end (piece ++ (new.held ++ [])) =
-              all ∙ ap (ended_lines end) (sym (append-nil ((c.given ++ piece) ++ new.held)) ∙ front_of o []) ∙ ended_more end ls (piece ++ (new.held ++ [])) o.1 in
+              rw e (ap (ended_lines end) (sym (append-nil ((c.given ++ piece) ++ new.held)) ∙ front_of o []) ∙ ended_more end ls (piece ++ (new.held ++ [])) o.1) in
               record {
-                known = record { more = ended_lines end (piece ++ (new.held ++ [])); is = is; done = λ d. absurd (false≢true (sym e ∙ (done_gives_nothing now new piece d reads).2)) };
-                exact = λ empty _. is ∙ ap (λ (l : List ℕ). ls ++ ended_lines end l) (ap (λ (l : List ℕ). piece ++ (l ++ [])) empty ∙ append-nil piece)
-                    ∙ ap (λ (l : List (List ℕ)). ls ++ l) (ended_none end piece free) ∙ append-nil ls;
+                known = record { more = ended_lines end (piece ++ (new.held ++ [])); is = is; done = λ d. absurd (false≢true (sym e ∙ (done_gives_nothing d reads).2)) };
+                exact = λ empty _. is ∙ (rw (empty, append-nil piece, ended_none end piece free) (append-nil ls));
               }

@@ -1,5 +1,5 @@
 -- Where the keys of lines stand in them.
-use Rattle.std.proofs.Common.{◌≡◌, ◌⊎◌, inl, inr, ℕ, ◌+◌, ◌≤◌, ◌<◌, ◌&&◌, true, cond, List, [], length, sym, ◌∙◌, ap, subst, arith}
+use Rattle.std.proofs.Common.{◌≡◌, ◌⊎◌, inl, inr, ℕ, ◌+◌, ◌≤◌, ◌<◌, ◌&&◌, true, cond, List, [], length, sym, ◌∙◌, arith}
 use Rattle.std.specs.Prelude.{nat_lt}
 use Rattle.std.specs.declared.cmp.Ordering.{Ordering}
 use Rattle.std.specs.Ordering.{is_eq, is_gt}
@@ -13,7 +13,7 @@ use Rattle.ptmerge.specs.Groups.{IsKept}
 use Rattle.ptmerge.specs.Orders.{Cmp, Key}
 use Rattle.ptmerge.specs.declared.merging.sorted.Stand.TheVariants.{Head, Disorder}
 use Rattle.ptmerge.specs.Places.{same_at, stand_at}
-use Rattle.ptmerge.specs.Spans.{IsSpan, IsNoted}
+use Rattle.ptmerge.specs.Spans.{IsNoted}
 use Rattle.ptmerge.specs.Steps.{IsPlaced}
 use Rattle.ptmerge.proofs.OfMerges.Slotted.{line_added, line_other}
 use Rattle.ptmerge.proofs.OfMerges.Turning.{own_slots}
@@ -28,10 +28,7 @@ later_stands key cmp number last next r some is =
 -- what is noted is of the same line, whatever other slots hold
 noted_keeps : (key : Key) (place : Sorted) (before after : Slots) → line after place.standing ≡ line before place.standing
     → IsNoted key place before → IsNoted key place after
-noted_keeps key place before after same noted = record {
-  head = λ stands. subst (λ (l : List ℕ). IsSpan l (key l) place.key) (sym same) (noted.head stands);
-  broken = noted.broken;
-}
+noted_keeps key place before after same noted = record { head = λ stands. rw same (noted.head stands); broken = noted.broken }
 
 -- the slots behind the first four may change
 pub placed_keeps : (key : Side → Key) (one two : Sorted) (before after : Slots) → IsPlaced key one two before → length before.lines ≤ length after.lines
@@ -40,28 +37,22 @@ placed_keeps key one two before after p least same = record {
   first = p.first;
   second = p.second;
   slots = omega (arith, p.slots, least);
-  noted1 = noted_keeps (key First) one before after (same one.standing (omega (arith, low1))) p.noted1;
-  noted2 = noted_keeps (key Second) two before after (same two.standing (omega (arith, low2))) p.noted2;
+  noted1 = noted_keeps (key First) one before after (same one.standing (omega (arith, own_slots First one p.first))) p.noted1;
+  noted2 = noted_keeps (key Second) two before after (same two.standing (omega (arith, own_slots Second two p.second))) p.noted2;
 }
-  where
-    low1 : one.standing ≤ 1
-    low1 = let w = own_slots First one p.first in omega (arith, w.1, w.2)
-
-    low2 : two.standing ≤ 3
-    low2 = let w = own_slots Second two p.second in omega (arith, w.1, w.2)
 
 -- a line that is kept changes one slot, or adds one
 grown_line : (before made : Slots) (slot : ℕ) → (made ≡ before) ⊎ (made ≡ with_added before) → line made slot ≡ line before slot
-grown_line before made slot (inl e) = ap (λ (s : Slots). line s slot) e
-grown_line before made slot (inr e) = ap (λ (s : Slots). line s slot) e ∙ line_added before slot
+grown_line before made slot (inl e) = rw e
+grown_line before made slot (inr e) = rw e (line_added before slot)
 
 pub kept_line : (before after : Slots) (from to slot : ℕ) → slot < to → IsKept before after from to → line after slot ≡ line before slot
 kept_line before after from to slot low e =
-    ap (λ (s : Slots). line s slot) e.copied ∙ line_other e.made to slot (line e.made from) (λ is. absurd (omega (arith, is, low))) ∙ grown_line before e.made slot e.grown.grown
+    rw e.copied (line_other e.made to slot (line e.made from) (λ is. absurd (omega (arith, is, low))) ∙ grown_line before e.made slot e.grown.grown)
 
 pub kept_least : (before after : Slots) (from to : ℕ) → IsKept before after from to → length before.lines ≤ length after.lines
-kept_least before after from to e = omega (arith, ap (λ (s : Slots). length s.lines) e.copied, length-set e.made.lines to (line e.made from), grown e.grown.grown)
+kept_least before after from to e = rw (e.copied, length-set) (by e.made e.grown.grown)
   where
-    grown : (e.made ≡ before) ⊎ (e.made ≡ with_added before) → length before.lines ≤ length e.made.lines
-    grown (inl h) = omega (arith, ap (λ (s : Slots). length s.lines) h)
-    grown (inr h) = omega (arith, ap (λ (s : Slots). length s.lines) h, length_push before.lines [])
+    by : (made : Slots) → (made ≡ before) ⊎ (made ≡ with_added before) → length before.lines ≤ length made.lines
+    by made (inl h) = rw h (omega arith)
+    by made (inr h) = rw h (omega (arith, length_push before.lines []))

@@ -1,15 +1,14 @@
 -- The entries of a least key come first, and then those of the lines of other keys.
-use Rattle.std.proofs.Common.{◌≡◌, ◌⊎◌, inl, inr, ℕ, ◌<◌, arith, length, get_or, suc, zero, List, [], ◌∷◌, ◌++◌, Bool, true, false, cond, refl, ap, sym, ◌∙◌, subst, map, append_assoc}
+use Rattle.std.proofs.Common.{◌≡◌, ◌⊎◌, inl, inr, ℕ, ◌<◌, arith, length, get_or, suc, zero, List, [], ◌∷◌, ◌++◌, Bool, true, false, cond, refl, ap, sym, ◌∙◌, map, append_assoc}
 use Rattle.std.proofs.lemmas.List.{append-nil}
 use Rattle.std.specs.Prelude.{filter, bytes_eq, flat_map}
-use Rattle.std.specs.declared.cmp.Ordering.TheVariants.{Less, Equal, Greater}
-use Rattle.std.specs.Ordering.{match_ordering}
+use Rattle.std.specs.declared.cmp.Ordering.TheVariants.{Greater}
 use Rattle.std.specs.Cmp.Lexicographic.{bytes_decides}
 use Rattle.ptmerge.specs.declared.order.Side.{Side}
 use Rattle.ptmerge.specs.declared.order.Side.TheVariants.{First, Second}
 use Rattle.ptmerge.specs.Keyed.{Lines, Tool, insert_key, distinct, keys, with_key, entries_of, by_keys}
 use Rattle.ptmerge.specs.Orders.{Cmp, Key}
-use Rattle.ptmerge.proofs.OfMerges.Orders.{IsKeyOrder, AtMost, Above, least_or_above, above_not_same, greater_flips, self_at_most}
+use Rattle.ptmerge.proofs.OfMerges.Orders.{IsKeyOrder, AtMost, Above, least_or_above, above_not_same, greater_flips, not_same, self_at_most}
 use Rattle.std.proofs.lemmas.Cmp.{tied_itself}
 
 -- each of the keys, or of the lines by their keys, passes
@@ -34,6 +33,10 @@ pub EachKey-weaker : (P Q : List ℕ → Type 0) → ((x : List ℕ) → P x →
 EachKey-weaker P Q f key [] e = tt
 EachKey-weaker P Q f key (x ∷ xs) e = (f (key x) e.0, EachKey-weaker P Q f key xs e.1)
 
+pub EachKey-all : (P : List ℕ → Type 0) (key : Key) → ((x : List ℕ) → P x) → (xs : Lines) → EachKey P key xs
+EachKey-all P key f [] = tt
+EachKey-all P key f (x ∷ xs) = (f (key x), EachKey-all P key f xs)
+
 pub EachKey-push : (P : List ℕ → Type 0) (key : Key) (xs : Lines) (x : List ℕ) → EachKey P key xs → P (key x) → EachKey P key (xs ++ x ∷ [])
 EachKey-push P key [] x e h = (h, tt)
 EachKey-push P key (y ∷ xs) x e h = (e.0, EachKey-push P key xs x e.1 h)
@@ -47,26 +50,23 @@ Each-keys P key1 key2 [] [] e f = tt
 Each-keys P key1 key2 [] (y ∷ ys) e f = (f.0, Each-keys P key1 key2 [] ys tt f.1)
 Each-keys P key1 key2 (x ∷ xs) ys e f = (e.0, Each-keys P key1 key2 xs ys e.1 f)
 
+keys-Each : (P : List ℕ → Type 0) (key1 key2 : Key) (xs ys : Lines) → Each P (map key1 xs ++ map key2 ys) → EachKey P key1 xs × EachKey P key2 ys
+keys-Each P key1 key2 [] [] e = (tt, tt)
+keys-Each P key1 key2 [] (y ∷ ys) e = (tt, (e.0, (keys-Each P key1 key2 [] ys e.1).1))
+keys-Each P key1 key2 (x ∷ xs) ys e = let r = keys-Each P key1 key2 xs ys e.1 in ((e.0, r.0), r.1)
+
 pub Each-insert : (cmp : Cmp) (P : List ℕ → Type 0) (k : List ℕ) (xs : Lines) → P k → Each P xs → Each P (insert_key cmp k xs)
 Each-insert cmp P k [] h e = (h, tt)
-Each-insert cmp P k (x ∷ xs) h e = elim (cmp k x) as (λ r. Each P (match_ordering r (k ∷ x ∷ xs) (x ∷ xs) (x ∷ insert_key cmp k xs))) [
-  | Less ↦ (h, e)
-  | Equal ↦ e
-  | Greater ↦ (e.0, Each-insert cmp P k xs h e.1)
-]
+Each-insert cmp P k (x ∷ xs) h e = let ih = Each-insert cmp P k xs h e.1 in grind (arith, ih)
 
 pub Each-distinct : (cmp : Cmp) (P : List ℕ → Type 0) (xs : Lines) → Each P xs → Each P (distinct cmp xs)
 Each-distinct cmp P [] e = tt
 Each-distinct cmp P (x ∷ xs) e = Each-insert cmp P x (distinct cmp xs) e.0 (Each-distinct cmp P xs e.1)
 
--- the keys but k, and whether k is there
+-- the keys but k
 abbrev others : List ℕ → Lines → Lines
 others k [] = []
 others k (y ∷ ys) = cond (bytes_eq y k) (others k ys) (y ∷ others k ys)
-
-abbrev has : List ℕ → Lines → Bool
-has k [] = false
-has k (y ∷ ys) = cond (bytes_eq y k) true (has k ys)
 
 -- the lines whose key is not k
 abbrev pub without : Key → List ℕ → Lines → Lines
@@ -78,91 +78,45 @@ module _ (cmp : Cmp) (o : IsKeyOrder cmp) where
   insert_least k [] a = refl
   insert_least k (d ∷ ds) a = rw (greater_flips cmp o d k a.0) refl
 
-  insert_again : (k : List ℕ) (ds : Lines) → insert_key cmp k (k ∷ ds) ≡ k ∷ ds
-  insert_again k ds = rw (tied_itself o.total k) refl
-
-  insert_above : (k y : List ℕ) (ds : Lines) → Above cmp k y → insert_key cmp y (k ∷ ds) ≡ k ∷ insert_key cmp y ds
-  insert_above k y ds h = rw h refl
-
   others_above : (k : List ℕ) (ks : Lines) → Each (AtMost cmp k) ks → Each (Above cmp k) (others k ks)
   others_above k [] e = tt
-  others_above k (y ∷ ks) e = by (others_above k ks e.1) (least_or_above cmp o k y e.0)
-    where
-      by : Each (Above cmp k) (others k ks) → ((bytes_eq y k ≡ true) × (y ≡ k)) ⊎ ((bytes_eq y k ≡ false) × (cmp y k ≡ Greater))
-          → Each (Above cmp k) (cond (bytes_eq y k) (others k ks) (y ∷ others k ks))
-      by ih (inl h) = rw h.0 ih
-      by ih (inr h) = rw h.0 (h.1, ih)
+  others_above k (y ∷ ks) e = let ih = others_above k ks e.1 in grind (arith, ih, least_or_above cmp o k y e.0)
 
   -- the least key, if it is there, and then the others
-  distinct_least : (k : List ℕ) (ks : Lines) → Each (AtMost cmp k) ks → distinct cmp ks ≡ cond (has k ks) (k ∷ distinct cmp (others k ks)) (distinct cmp (others k ks))
-  distinct_least k [] e = refl
-  distinct_least k (y ∷ ks) e = by (distinct_least k ks e.1) (least_or_above cmp o k y e.0)
+  distinct_least : (k : List ℕ) (ks : Lines) → Each (AtMost cmp k) ks
+      → (distinct cmp ks ≡ k ∷ distinct cmp (others k ks)) ⊎ ((distinct cmp ks ≡ distinct cmp (others k ks)) × Each (λ y. bytes_eq y k ≡ false) ks)
+  distinct_least k [] e = inr (refl, tt)
+  distinct_least k (y ∷ ks) e = by (least_or_above cmp o k y e.0) (distinct_least k ks e.1)
     where
       above : Each (Above cmp k) (distinct cmp (others k ks))
-      above = Each-distinct cmp (Above cmp k) (others k ks) (others_above k ks e.1)
+      above = Each-distinct _ _ _ (others_above k ks e.1)
 
-      same : (b : Bool) → insert_key cmp k (cond b (k ∷ distinct cmp (others k ks)) (distinct cmp (others k ks))) ≡ k ∷ distinct cmp (others k ks)
-      same true = insert_again k (distinct cmp (others k ks))
-      same false = insert_least k (distinct cmp (others k ks)) above
-
-      other : (b : Bool) → cmp y k ≡ Greater → insert_key cmp y (cond b (k ∷ distinct cmp (others k ks)) (distinct cmp (others k ks)))
-          ≡ cond b (k ∷ insert_key cmp y (distinct cmp (others k ks))) (insert_key cmp y (distinct cmp (others k ks)))
-      other true g = insert_above k y (distinct cmp (others k ks)) g
-      other false g = refl
-
-      by : distinct cmp ks ≡ cond (has k ks) (k ∷ distinct cmp (others k ks)) (distinct cmp (others k ks)) → ((bytes_eq y k ≡ true) × (y ≡ k)) ⊎ ((bytes_eq y k ≡ false) × (cmp y k ≡ Greater))
-          → insert_key cmp y (distinct cmp ks) ≡ cond (cond (bytes_eq y k) true (has k ks))
-          (k ∷ distinct cmp (cond (bytes_eq y k) (others k ks) (y ∷ others k ks))) (distinct cmp (cond (bytes_eq y k) (others k ks) (y ∷ others k ks)))
-      by ih (inl h) = rw h.0 (ap (λ z. insert_key cmp z (distinct cmp ks)) h.1 ∙ ap (insert_key cmp k) ih ∙ same (has k ks))
-      by ih (inr h) = rw h.0 (ap (insert_key cmp y) ih ∙ other (has k ks) h.1)
+      by : ((bytes_eq y k ≡ true) × (y ≡ k)) ⊎ ((bytes_eq y k ≡ false) × (cmp y k ≡ Greater))
+          → (distinct cmp ks ≡ k ∷ distinct cmp (others k ks)) ⊎ ((distinct cmp ks ≡ distinct cmp (others k ks)) × Each (λ z. bytes_eq z k ≡ false) ks)
+          → (insert_key cmp y (distinct cmp ks) ≡ k ∷ distinct cmp (others k (y ∷ ks)))
+          ⊎ ((insert_key cmp y (distinct cmp ks) ≡ distinct cmp (others k (y ∷ ks))) × Each (λ z. bytes_eq z k ≡ false) (y ∷ ks))
+      by (inl h) (inl d) = inl (rw (h.0, h.1, d, tied_itself o.total k))
+      by (inl h) (inr d) = inl (rw (h.0, h.1, d.0, insert_least k (distinct cmp (others k ks)) above))
+      by (inr h) (inl d) = inl (rw (h.0, d, h.1))
+      by (inr h) (inr d) = inr (rw (h.0, d.0), (h.0, d.1))
 
 others-keys : (key1 key2 : Key) (k : List ℕ) (xs ys : Lines) → others k (map key1 xs ++ map key2 ys) ≡ map key1 (without key1 k xs) ++ map key2 (without key2 k ys)
 others-keys key1 key2 k [] [] = refl
-others-keys key1 key2 k [] (y ∷ ys) = by (others-keys key1 key2 k [] ys) (bytes_eq (key2 y) k)
-  where
-    by : others k (map key2 ys) ≡ map key2 (without key2 k ys) → (b : Bool) → cond b (others k (map key2 ys)) (key2 y ∷ others k (map key2 ys))
-        ≡ map key2 (cond b (without key2 k ys) (y ∷ without key2 k ys))
-    by ih true = ih
-    by ih false = ap (λ l. key2 y ∷ l) ih
-others-keys key1 key2 k (x ∷ xs) ys = by (others-keys key1 key2 k xs ys) (bytes_eq (key1 x) k)
-  where
-    by : others k (map key1 xs ++ map key2 ys) ≡ map key1 (without key1 k xs) ++ map key2 (without key2 k ys) → (b : Bool)
-        → cond b (others k (map key1 xs ++ map key2 ys)) (key1 x ∷ others k (map key1 xs ++ map key2 ys))
-        ≡ map key1 (cond b (without key1 k xs) (x ∷ without key1 k xs)) ++ map key2 (without key2 k ys)
-    by ih true = ih
-    by ih false = ap (λ l. key1 x ∷ l) ih
+others-keys key1 key2 k [] (y ∷ ys) = let ih = others-keys key1 key2 k [] ys in grind (arith, ih)
+others-keys key1 key2 k (x ∷ xs) ys = let ih = others-keys key1 key2 k xs ys in grind (arith, ih)
 
 -- a key that is not there has no lines
-with_key_none : (key1 key2 : Key) (k : List ℕ) (xs ys : Lines) → has k (map key1 xs ++ map key2 ys) ≡ false → (with_key key1 xs k ≡ []) × (with_key key2 ys k ≡ [])
-with_key_none key1 key2 k [] [] h = (refl, refl)
-with_key_none key1 key2 k [] (y ∷ ys) h = by (with_key_none key1 key2 k [] ys) (bytes_eq (key2 y) k) h
-  where
-    by : (has k (map key2 ys) ≡ false → (with_key key1 [] k ≡ []) × (with_key key2 ys k ≡ [])) → (b : Bool) → cond b true (has k (map key2 ys)) ≡ false
-        → (with_key key1 [] k ≡ []) × (cond b (y ∷ with_key key2 ys k) (with_key key2 ys k) ≡ [])
-    by ih true h = cc
-    by ih false h = ih h
-with_key_none key1 key2 k (x ∷ xs) ys h = by (with_key_none key1 key2 k xs ys) (bytes_eq (key1 x) k) h
-  where
-    by : (has k (map key1 xs ++ map key2 ys) ≡ false → (with_key key1 xs k ≡ []) × (with_key key2 ys k ≡ [])) → (b : Bool)
-        → cond b true (has k (map key1 xs ++ map key2 ys)) ≡ false → (cond b (x ∷ with_key key1 xs k) (with_key key1 xs k) ≡ []) × (with_key key2 ys k ≡ [])
-    by ih true h = cc
-    by ih false h = ih h
+with_key-none : (key : Key) (k : List ℕ) (r : Lines) → EachKey (λ y. bytes_eq y k ≡ false) key r → with_key key r k ≡ []
+with_key-none key k [] a = refl
+with_key-none key k (x ∷ r) a = rw a.0 (with_key-none key k r a.1)
 
 -- the lines of another key
 with_key_without : (key : Key) (k q : List ℕ) (xs : Lines) → bytes_eq q k ≡ false → with_key key (without key k xs) q ≡ with_key key xs q
 with_key_without key k q [] n = refl
-with_key_without key k q (x ∷ xs) n = by (with_key_without key k q xs n) (bytes_eq (key x) k) refl
-  where
-    apart : key x ≡ k → bytes_eq (key x) q ≡ false
-    apart e = elim (bytes_eq (key x) q) as (λ b. (b ≡ true → key x ≡ q) → b ≡ false) [
-      | true ↦ λ f. (let bad : true ≡ false = sym ((bytes_decides q k).1 (sym (f refl) ∙ e)) ∙ n in cc)
-      | false ↦ λ f. refl
-    ] (bytes_decides (key x) q).0
-
-    by : with_key key (without key k xs) q ≡ with_key key xs q → (b : Bool) → bytes_eq (key x) k ≡ b
-        → with_key key (cond b (without key k xs) (x ∷ without key k xs)) q ≡ cond (bytes_eq (key x) q) (x ∷ with_key key xs q) (with_key key xs q)
-    by ih true e = rw (apart ((bytes_decides (key x) k).0 e)) ih
-    by ih false e = ap (λ l. cond (bytes_eq (key x) q) (x ∷ l) l) ih
+with_key_without key k q (x ∷ xs) n =
+    let ih = with_key_without key k q xs n in
+    let apart : key x ≡ k → bytes_eq (key x) q ≡ false = λ e. not_same (key x) q (λ f. (let bad : true ≡ false = sym ((bytes_decides q k).1 (sym f ∙ e)) ∙ n in cc)) in
+    grind (arith, ih, apart, bytes_decides (key x) k)
 
 module _ (tool : Tool) (o : IsKeyOrder tool.cmp) where
   abbrev over : (List ℕ → Bool) → (Side → Lines) → Lines → Lines
@@ -174,43 +128,32 @@ module _ (tool : Tool) (o : IsKeyOrder tool.cmp) where
 
   over_others : (w : List ℕ → Bool) (k : List ℕ) (ls : Side → Lines) (ks : Lines) → Each (Above tool.cmp k) ks → over w ls ks ≡ over w (others_of k ls) ks
   over_others w k ls [] e = refl
-  over_others w k ls (q ∷ ks) e = by (over_others w k ls ks e.1) (w q)
-    where
-      by : over w ls ks ≡ over w (others_of k ls) ks → (b : Bool) → flat_map (entries_of tool ls) (cond b (q ∷ filter w ks) (filter w ks))
-          ≡ flat_map (entries_of tool (others_of k ls)) (cond b (q ∷ filter w ks) (filter w ks))
-      by ih true =
-          let n = above_not_same tool.cmp o k q e.0 in
-          λ i. tool.entries q (sym (with_key_without (tool.key First) k q (ls First) n) i) (sym (with_key_without (tool.key Second) k q (ls Second) n) i) ++ ih i
-      by ih false = ih
+  over_others w k ls (q ∷ ks) e =
+      let ih = over_others w k ls ks e.1 in
+      let n = above_not_same tool.cmp o k q e.0 in
+      grind (arith, ih, with_key_without (tool.key First) k q (ls First) n, with_key_without (tool.key Second) k q (ls Second) n)
 
   -- The entries of a key at most all the others come first, and then those of the lines of other keys.
   pub least_first : (w : List ℕ → Bool) (k : List ℕ) (ls : Side → Lines) → ((side : Side) → EachKey (AtMost tool.cmp k) (tool.key side) (ls side)) → tool.entries k [] [] ≡ []
       → by_keys tool w ls ≡ cond (w k) (entries_of tool ls k) [] ++ by_keys tool w (others_of k ls)
-  least_first w k ls e none =
-      ap (over w ls) (distinct_least tool.cmp o k (keys tool ls) all) ∙ by (has k (keys tool ls)) refl
-      ∙ ap (λ l. cond (w k) (entries_of tool ls k) [] ++ l)
-      (over_others w k ls ds above ∙ ap (λ l. over w (others_of k ls) (distinct tool.cmp l)) (others-keys (tool.key First) (tool.key Second) k (ls First) (ls Second)))
+  least_first w k ls e none = by (distinct_least tool.cmp o k (keys tool ls) all)
     where
       all : Each (AtMost tool.cmp k) (keys tool ls)
-      all = Each-keys (AtMost tool.cmp k) (tool.key First) (tool.key Second) (ls First) (ls Second) (e First) (e Second)
+      all = Each-keys _ _ _ _ _ (e First) (e Second)
 
       ds : Lines
       ds = distinct tool.cmp (others k (keys tool ls))
 
-      above : Each (Above tool.cmp k) (distinct tool.cmp (others k (keys tool ls)))
-      above = Each-distinct tool.cmp (Above tool.cmp k) (others k (keys tool ls)) (others_above tool.cmp o k (keys tool ls) all)
+      rest : over w ls ds ≡ by_keys tool w (others_of k ls)
+      rest = over_others w k ls _ (Each-distinct _ _ _ (others_above tool.cmp o k (keys tool ls) all))
+          ∙ ap (λ l. over w (others_of k ls) (distinct tool.cmp l)) (others-keys (tool.key First) (tool.key Second) k (ls First) (ls Second))
 
-      front : (t : Bool) → flat_map (entries_of tool ls) (cond t (k ∷ filter w ds) (filter w ds)) ≡ cond t (entries_of tool ls k) [] ++ over w ls ds
-      front true = refl
-      front false = refl
-
-      nothing : (t : Bool) → with_key (tool.key First) (ls First) k ≡ [] → with_key (tool.key Second) (ls Second) k ≡ [] → cond t (entries_of tool ls k) [] ≡ []
-      nothing true a b = (λ i. tool.entries k (a i) (b i)) ∙ none
-      nothing false a b = refl
-
-      by : (b : Bool) → has k (keys tool ls) ≡ b → over w ls (cond b (k ∷ ds) ds) ≡ cond (w k) (entries_of tool ls k) [] ++ over w ls ds
-      by true h = front (w k)
-      by false h = let n = with_key_none (tool.key First) (tool.key Second) k (ls First) (ls Second) h in ap (λ l. l ++ over w ls ds) (sym (nothing (w k) n.0 n.1))
+      by : (distinct tool.cmp (keys tool ls) ≡ k ∷ ds) ⊎ ((distinct tool.cmp (keys tool ls) ≡ ds) × Each (λ y. bytes_eq y k ≡ false) (keys tool ls))
+          → by_keys tool w ls ≡ cond (w k) (entries_of tool ls k) [] ++ by_keys tool w (others_of k ls)
+      by (inl d) = rw (d, ← rest) (grind arith)
+      by (inr d) =
+          let n = keys-Each (λ y. bytes_eq y k ≡ false) (tool.key First) (tool.key Second) (ls First) (ls Second) d.1 in
+          rw (d.0, ← rest) (grind (arith, none, with_key-none (tool.key First) k (ls First) n.0, with_key-none (tool.key Second) k (ls Second) n.1))
 
   -- lines of one key, in front of lines of no lesser keys
   pub with_key-front : (key : Key) (k : List ℕ) (f r : Lines) → EachKey (λ x. x ≡ k) key f → (with_key key (f ++ r) k ≡ f ++ with_key key r k) × (without key k (f ++ r) ≡ without key k r)
@@ -221,11 +164,10 @@ module _ (tool : Tool) (o : IsKeyOrder tool.cmp) where
 
   pub at_most-same : (key : Key) (k : List ℕ) (f r : Lines) → EachKey (λ x. x ≡ k) key f → EachKey (AtMost tool.cmp k) key r → EachKey (AtMost tool.cmp k) key (f ++ r)
   at_most-same key k [] r e h = h
-  at_most-same key k (x ∷ f) r e h = (subst (AtMost tool.cmp k) (sym e.0) (self_at_most tool.cmp o k), at_most-same key k f r e.1 h)
+  at_most-same key k (x ∷ f) r e h = (rw e.0 (self_at_most tool.cmp o k), at_most-same key k f r e.1 h)
 
   glued : (t : Bool) (all a b rest : Lines) → all ≡ a ++ b → cond t all [] ++ rest ≡ (cond t a [] ++ []) ++ (cond t b [] ++ rest)
-  glued true all a b rest e = ap (λ l. l ++ rest) e ∙ append_assoc a b rest ∙ ap (λ l. l ++ (b ++ rest)) (sym (append-nil a))
-  glued false all a b rest e = refl
+  glued t all a b rest e = grind (arith, append_assoc a b rest, append-nil a)
 
   -- Lines of the least key, and then lines of no lesser keys.
   pub front_first : (w : List ℕ → Bool) (k : List ℕ) (f r : Side → Lines) → ((side : Side) → EachKey (λ x. x ≡ k) (tool.key side) (f side))
@@ -234,20 +176,13 @@ module _ (tool : Tool) (o : IsKeyOrder tool.cmp) where
       → by_keys tool w (λ side. f side ++ r side) ≡ by_keys tool w f ++ by_keys tool w r
   front_first w k f r s a none law =
       let in_front = λ (side : Side). with_key-front (tool.key side) k (f side) (r side) (s side) in
-      let alone_in = λ (side : Side). with_key-front (tool.key side) k (f side) [] (s side) in
-      let rest = by_keys tool w (others_of k r) in
+      let alone_in = λ (side : Side). simp append-nil at (with_key-front (tool.key side) k (f side) [] (s side)) in
       let whole = least_first w k (λ side. f side ++ r side) (λ side. at_most-same (tool.key side) k (f side) (r side) (s side) (a side)) none in
-      let later = least_first w k r a none in
-      let alone = least_first w k (λ side. f side ++ []) (λ side. at_most-same (tool.key side) k (f side) [] (s side) tt) none in
-      let first : by_keys tool w f ≡ cond (w k) (tool.entries k (f First) (f Second)) [] ++ [] =
-      (λ i. by_keys tool w (λ side. sym (append-nil (f side)) i)) ∙ alone
-      ∙ (λ i. cond (w k) (tool.entries k (((alone_in First).0 ∙ append-nil (f First)) i) (((alone_in Second).0 ∙ append-nil (f Second)) i)) [] ++ by_keys tool w (λ side. (alone_in side).1 i)) in
+      let alone = least_first w k f (λ side. simp append-nil at (at_most-same (tool.key side) k (f side) [] (s side) tt)) none in
+      let first = alone ∙ (λ i. cond (w k) (tool.entries k ((alone_in First).0 i) ((alone_in Second).0 i)) [] ++ by_keys tool w (λ side. (alone_in side).1 i)) in
       whole ∙ (λ i. cond (w k) (tool.entries k ((in_front First).0 i) ((in_front Second).0 i)) [] ++ by_keys tool w (λ side. (in_front side).1 i))
-      ∙ glued (w k) (tool.entries k (f First ++ with_key (tool.key First) (r First) k) (f Second ++ with_key (tool.key Second) (r Second) k))
-      (tool.entries k (f First) (f Second)) (entries_of tool r k) rest law
-      ∙ (λ i. sym first i ++ sym later i)
+      ∙ glued (w k) _ (tool.entries k (f First) (f Second)) (entries_of tool r k) (by_keys tool w (others_of k r)) law ∙ (λ i. sym first i ++ sym (least_first w k r a none) i)
 
   -- no line above the key has it
   pub with_key-above : (key : Key) (k : List ℕ) (r : Lines) → EachKey (Above tool.cmp k) key r → with_key key r k ≡ []
-  with_key-above key k [] a = refl
-  with_key-above key k (x ∷ r) a = rw (above_not_same tool.cmp o k (key x) a.0) (with_key-above key k r a.1)
+  with_key-above key k r a = with_key-none key k r (EachKey-weaker _ _ (λ y g. above_not_same tool.cmp o k y g) _ _ a)

@@ -1,10 +1,10 @@
 -- What follows from the laws of an order of keys.
-use Rattle.std.proofs.Common.{◌≡◌, ◌⊎◌, inl, inr, ℕ, List, Bool, true, false, refl, sym, ◌∙◌, ap, subst}
+use Rattle.std.proofs.Common.{◌≡◌, ◌⊎◌, ⊎_elim, inl, inr, ℕ, List, Bool, true, false, refl, sym, ◌∙◌, ap, arith}
 use Rattle.std.specs.Prelude.{bytes_eq}
 use Rattle.std.specs.Cmp.{IsTotalOrder}
 use Rattle.std.specs.declared.cmp.Ordering.{Ordering}
 use Rattle.std.specs.declared.cmp.Ordering.TheVariants.{Less, Equal, Greater}
-use Rattle.std.specs.Ordering.{is_eq, is_gt, is_le, is_lt, ordering_reverse}
+use Rattle.std.specs.Ordering.{is_eq, is_gt, is_le, ordering_reverse}
 use Rattle.std.specs.Cmp.Lexicographic.{bytes_decides}
 use Rattle.std.proofs.lemmas.Cmp.{back_total, nat_list_cmp_total, tied_itself, upto}
 use Rattle.ptmerge.specs.Exact.{same_back, same_bytes}
@@ -22,34 +22,22 @@ AtMost cmp a b = is_gt (cmp a b) ≡ false
 abbrev pub Above : Cmp → List ℕ → List ℕ → Type 0
 Above cmp k y = cmp y k ≡ Greater
 
-pub is_less : (r : Ordering) → is_lt r ≡ true → r ≡ Less
-is_less Less h = refl
-is_less Equal h = cc
-is_less Greater h = cc
-
 pub is_greater : (r : Ordering) → is_gt r ≡ true → r ≡ Greater
-is_greater Less h = cc
-is_greater Equal h = cc
-is_greater Greater h = refl
+is_greater r h = grind arith
+
+pub not_same : (a b : List ℕ) → (a ≡ b → ⊥) → bytes_eq a b ≡ false
+not_same a b n = grind (arith, bytes_decides a b)
 
 module _ (cmp : Cmp) (o : IsKeyOrder cmp) where
   pub self_at_most : (a : List ℕ) → AtMost cmp a a
   self_at_most a = ap is_gt (tied_itself o.total a)
 
   -- keys are the same bytes where the order does not tell them apart
-  pub equal_is : (a b : List ℕ) → is_eq (cmp a b) ≡ bytes_eq a b
-  equal_is a b = by (cmp a b) refl
-    where
-      apart : is_eq (cmp a b) ≡ false → bytes_eq a b ≡ false
-      apart n = elim (bytes_eq a b) as (λ t. (t ≡ true → a ≡ b) → t ≡ false) [
-        | true ↦ λ f. (let bad : false ≡ true = sym n ∙ ap is_eq (ap (λ z. cmp a z) (sym (f refl)) ∙ tied_itself o.total a) in cc)
-        | false ↦ λ f. refl
-      ] (bytes_decides a b).0
+  not_equal : (a b : List ℕ) → is_eq (cmp a b) ≡ false → bytes_eq a b ≡ false
+  not_equal a b n = not_same a b (λ e. (let bad : false ≡ true = sym n ∙ ap is_eq (ap (λ z. cmp a z) (sym e) ∙ tied_itself o.total a) in cc))
 
-      by : (r : Ordering) → cmp a b ≡ r → is_eq (cmp a b) ≡ bytes_eq a b
-      by Less e = ap is_eq e ∙ sym (apart (ap is_eq e))
-      by Equal e = ap is_eq e ∙ sym ((bytes_decides a b).1 (o.exact a b e))
-      by Greater e = ap is_eq e ∙ sym (apart (ap is_eq e))
+  pub equal_is : (a b : List ℕ) → is_eq (cmp a b) ≡ bytes_eq a b
+  equal_is a b = grind (arith, not_equal a b, o.exact a b, bytes_decides a b)
 
   pub at_most_trans : (a b c : List ℕ) → AtMost cmp a b → AtMost cmp b c → AtMost cmp a c
   at_most_trans a b c p q = upto o.total a b c p q
@@ -63,51 +51,33 @@ module _ (cmp : Cmp) (o : IsKeyOrder cmp) where
   pub less_at_most : (a b : List ℕ) → cmp a b ≡ Less → AtMost cmp a b
   less_at_most a b l = ap is_gt l
 
-  -- k is y, or before it
-  pub least_or_above : (k y : List ℕ) → AtMost cmp k y → ((bytes_eq y k ≡ true) × (y ≡ k)) ⊎ ((bytes_eq y k ≡ false) × (cmp y k ≡ Greater))
-  least_or_above k y h = by (cmp k y) refl h
-    where
-      apart : cmp k y ≡ Less → bytes_eq y k ≡ false
-      apart l = elim (bytes_eq y k) as (λ b. (b ≡ true → y ≡ k) → b ≡ false) [
-        | true ↦ λ f. (let bad : Less ≡ Equal = sym l ∙ ap (λ z. cmp k z) (f refl) ∙ tied_itself o.total k in cc)
-        | false ↦ λ f. refl
-      ] (bytes_decides y k).0
-
-      by : (r : Ordering) → cmp k y ≡ r → is_gt r ≡ false → ((bytes_eq y k ≡ true) × (y ≡ k)) ⊎ ((bytes_eq y k ≡ false) × (cmp y k ≡ Greater))
-      by Less l g = inr (apart l, less_flips k y l)
-      by Equal e g = let same = sym (o.exact k y e) in inl ((bytes_decides y k).1 same, same)
-      by Greater l g = cc
-
   pub above_at_most : (k y : List ℕ) → cmp y k ≡ Greater → AtMost cmp k y
   above_at_most k y g = less_at_most k y (greater_flips y k g)
 
   pub above_not_same : (k y : List ℕ) → cmp y k ≡ Greater → bytes_eq y k ≡ false
-  above_not_same k y g = elim (bytes_eq y k) as (λ b. (b ≡ true → y ≡ k) → b ≡ false) [
-    | true ↦ λ f. (let bad : Greater ≡ Equal = sym g ∙ ap (λ z. cmp z k) (f refl) ∙ tied_itself o.total k in cc)
-    | false ↦ λ f. refl
-  ] (bytes_decides y k).0
+  above_not_same k y g = not_equal y k (ap is_eq g)
+
+  -- k is y, or before it
+  pub least_or_above : (k y : List ℕ) → AtMost cmp k y → ((bytes_eq y k ≡ true) × (y ≡ k)) ⊎ ((bytes_eq y k ≡ false) × (cmp y k ≡ Greater))
+  least_or_above k y h = elim (cmp k y) as (λ r. cmp k y ≡ r → is_gt r ≡ false → ((bytes_eq y k ≡ true) × (y ≡ k)) ⊎ ((bytes_eq y k ≡ false) × (cmp y k ≡ Greater))) [
+    | Less ↦ λ l g. inr (above_not_same k y (less_flips k y l), less_flips k y l)
+    | Equal ↦ λ e g. (let same = sym (o.exact k y e) in inl ((bytes_decides y k).1 same, same))
+    | Greater ↦ λ l g. cc
+  ] refl h
 
   -- a ≤ b < c
   pub above_trans : (a b c : List ℕ) → AtMost cmp a b → cmp c b ≡ Greater → cmp c a ≡ Greater
-  above_trans a b c p g = by (least_or_above a b p)
-    where
-      by : ((bytes_eq b a ≡ true) × (b ≡ a)) ⊎ ((bytes_eq b a ≡ false) × (cmp b a ≡ Greater)) → cmp c a ≡ Greater
-      by (inl e) = subst (λ z. cmp c z ≡ Greater) e.1 g
-      by (inr h) = less_flips a c (o.total.trans a b c (greater_flips b a h.1) (greater_flips c b g))
+  above_trans a b c p g = ⊎_elim (λ e. rw e.1 at g) (λ h. less_flips a c (o.total.trans a b c (greater_flips b a h.1) (greater_flips c b g))) (least_or_above a b p)
 
   -- a < b ≤ c
   pub above_up : (a b c : List ℕ) → cmp b a ≡ Greater → AtMost cmp b c → cmp c a ≡ Greater
-  above_up a b c g p = by (least_or_above b c p)
-    where
-      by : ((bytes_eq c b ≡ true) × (c ≡ b)) ⊎ ((bytes_eq c b ≡ false) × (cmp c b ≡ Greater)) → cmp c a ≡ Greater
-      by (inl e) = subst (λ z. cmp z a ≡ Greater) (sym e.1) g
-      by (inr h) = less_flips a c (o.total.trans a b c (greater_flips b a g) (greater_flips c b h.1))
+  above_up a b c g p = ⊎_elim (λ e. rw e.1 g) (λ h. less_flips a c (o.total.trans a b c (greater_flips b a g) (greater_flips c b h.1))) (least_or_above b c p)
 
   pub is_le_at_most : (a b : List ℕ) → is_le (cmp a b) ≡ true → AtMost cmp a b
-  is_le_at_most a b = elim (cmp a b) as (λ r. is_le r ≡ true → is_gt r ≡ false) [ Less ↦ λ h. refl | Equal ↦ λ h. refl | Greater ↦ λ h. cc ]
+  is_le_at_most a b h = grind arith
 
   pub at_most_is_le : (a b : List ℕ) → AtMost cmp a b → is_le (cmp a b) ≡ true
-  at_most_is_le a b = elim (cmp a b) as (λ r. is_gt r ≡ false → is_le r ≡ true) [ Less ↦ λ h. refl | Equal ↦ λ h. refl | Greater ↦ λ h. cc ]
+  at_most_is_le a b h = grind arith
 
   pub above_not_le : (a b : List ℕ) → cmp a b ≡ Greater → is_le (cmp a b) ≡ false
   above_not_le a b g = ap is_le g

@@ -1,5 +1,5 @@
 -- What holds of each of two inputs.
-use Rattle.std.proofs.Common.{◌≡◌, refl}
+use Rattle.std.proofs.Common.{◌≡◌, arith}
 use Rattle.ptmerge.specs.declared.order.Side.{Side}
 use Rattle.ptmerge.specs.declared.order.Side.TheVariants.{First, Second}
 use Rattle.ptmerge.specs.Sides.{both, put, other}
@@ -16,13 +16,19 @@ module _ {X : Type 0} (P : Side → X → Type 0) where
   put_each Second x f p q First = q First
   put_each Second x f p q Second = p
 
+-- both of two things of it
+pub put_both : {X Y : Type 0} (P : Side → X → Y → Type 0) (s : Side) (x : X) (f : Side → X) (y : Y) (g : Side → Y) → P s x y → P (other s) (f (other s)) (g (other s))
+    → (side : Side) → P side (put s x f side) (put s y g side)
+put_both P First x f y g p q First = p
+put_both P First x f y g p q Second = q
+put_both P Second x f y g p q First = q
+put_both P Second x f y g p q Second = p
+
 pub put_same : {X : Type 0} (s : Side) (x : X) (f : Side → X) → put s x f s ≡ x
-put_same First x f = refl
-put_same Second x f = refl
+put_same s x f = grind arith
 
 pub put_other : {X : Type 0} (s : Side) (x : X) (f : Side → X) → put s x f (other s) ≡ f (other s)
-put_other First x f = refl
-put_other Second x f = refl
+put_other s x f = grind arith
 
 -- it holds of this one and of the other
 pub side_case : (Q : Side → Type 0) (s : Side) → Q s → Q (other s) → (side : Side) → Q side

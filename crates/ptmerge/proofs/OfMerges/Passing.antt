@@ -1,27 +1,24 @@
 -- What was pushed of two inputs: the entries of the lines that are passed, which come first whatever is still to come.
-use Rattle.std.proofs.Common.{◌≡◌, ◌⊎◌, inl, inr, ℕ, ◌&&◌, ◌||◌, Bool, true, false, cond, List, [], ◌∷◌, ◌++◌, Option, Some, None, map, refl, sym, ◌∙◌, ap, subst}
-use Rattle.std.specs.Prelude.{is_some}
+use Rattle.std.proofs.Common.{◌≡◌, ◌⊎◌, inl, inr, ℕ, ◌&&◌, Bool, true, false, List, [], ◌∷◌, ◌++◌, Option, Some, None, map, refl, sym, ◌∙◌, ap, subst, arith}
 use Rattle.std.specs.List.{last_or}
-use Rattle.std.specs.declared.cmp.Ordering.{Ordering}
-use Rattle.std.specs.declared.cmp.Ordering.TheVariants.{Less, Equal, Greater}
+use Rattle.std.specs.declared.cmp.Ordering.TheVariants.{Greater}
 use Rattle.std.specs.Ordering.{is_lt, is_le, is_gt}
 use Rattle.std.proofs.lemmas.List.{append-nil}
-use Rattle.ptlines.specs.Inputs.{Begins}
 use Rattle.ptlines.specs.Outputs.{Output, Wrote}
 use Rattle.ptlines.specs.Text.{text}
 use Rattle.ptlines.proofs.Pushed.{wrote_trans, wrote_nothing}
 use Rattle.ptlines.proofs.TextLaws.{text-append}
 use Rattle.ptmerge.specs.declared.order.Side.{Side}
 use Rattle.ptmerge.specs.declared.order.Side.TheVariants.{First, Second}
-use Rattle.ptmerge.specs.Keyed.{Lines, Tool, Disorder, by_keys, disorder, fall, is_below, is_decided, is_past, merged_entries, decided_entries, ordered_part, up_to}
+use Rattle.ptmerge.specs.Keyed.{Lines, Tool, Disorder, by_keys, disorder, entries_of, fall, is_below, is_decided, is_past, merged_entries, ordered_part, up_to, with_key}
 use Rattle.ptmerge.specs.Merges.{Names}
 use Rattle.ptmerge.specs.Orders.{Cmp, Key}
 use Rattle.ptmerge.specs.Sides.{put}
-use Rattle.ptmerge.proofs.OfMerges.Bounds.{Bound, Free, From, Fallen, Over, Coming, Falling, Follows, Under, Begun, coming_none}
-use Rattle.ptmerge.proofs.OfMerges.Least.{EachKey, EachKey-append, EachKey-weaker}
-use Rattle.ptmerge.proofs.OfMerges.Orders.{IsKeyOrder, AtMost, at_most_trans, at_most_is_le, above_trans, greater_flips, is_le_at_most, less_flips}
+use Rattle.ptmerge.proofs.OfMerges.Bounds.{Bound, Free, From, Fallen, Over, Coming, Falling, Follows, Under, coming_none}
+use Rattle.ptmerge.proofs.OfMerges.Least.{EachKey, EachKey-all, EachKey-append, EachKey-weaker, front_first}
+use Rattle.ptmerge.proofs.OfMerges.Orders.{IsKeyOrder, AtMost, at_most_trans, at_most_is_le, above_trans, greater_flips, is_le_at_most, less_flips, self_at_most}
 use Rattle.ptmerge.proofs.OfMerges.Pairs.{put_each}
-use Rattle.ptmerge.proofs.OfMerges.Splitting.{Splits, splits_none, splits_later, splits_step, all_keys, IsDown, all_wanted, none_wanted, down_begins, passed_is_wanted}
+use Rattle.ptmerge.proofs.OfMerges.Splitting.{Splits, splits_step, all_keys, IsDown, all_wanted, passed_is_wanted}
 
 -- what was pushed is what the passed lines give, and whatever comes, it comes first
 pub record Merging (tool : Tool) (b : Side → Bound) (p : Side → Lines) (was is : Output) : Type 0 where
@@ -31,7 +28,7 @@ pub record Merging (tool : Tool) (b : Side → Bound) (p : Side → Lines) (was 
 
 -- nothing was read
 pub merging_none : (tool : Tool) (was : Output) → Merging tool (λ side. Free) (λ side. []) was was
-merging_none tool was = record { splits = splits_none tool (λ side. Free); under = λ of side. tt; wrote = wrote_nothing was }
+merging_none tool was = record { splits = record { split = λ w r c. refl }; under = λ of side. tt; wrote = wrote_nothing was }
 
 -- What was pushed of the passed lines, by a time at which no write had failed: of the last ones perhaps nothing, and
 -- they come first of all that may still come.
@@ -63,22 +60,33 @@ late_none tool b p was mid is clean wrote more = record {
   coming = λ side r c. c;
 }
 
--- lines are passed whose entries come first and were pushed
-pub passes : (tool : Tool) (b : Side → Bound) (p f : Side → Lines) (was is new : Output) → is.faulted ≡ false → Merging tool b p was is
-    → ((side : Side) (r : Lines) → Coming tool.cmp (tool.key side) (b side) r → Coming tool.cmp (tool.key side) (b side) (f side ++ r))
-    → ((w : List ℕ → Bool) (r : Side → Lines) → ((side : Side) → Coming tool.cmp (tool.key side) (b side) (r side)) → by_keys tool w (λ side. f side ++ r side) ≡ by_keys tool w f ++ by_keys tool w r)
-    → ((of side : Side) → EachKey (Under tool.cmp (b of)) (tool.key side) (f side)) → Wrote is new (text tool.end (by_keys tool all_keys f))
-    → Merging tool b (λ side. p side ++ f side) was new × Late tool b (λ side. p side ++ f side) was new
-passes tool b p f was is new clean m coming front under wrote =
-    let all : by_keys tool all_keys (λ side. p side ++ f side) ≡ by_keys tool all_keys p ++ by_keys tool all_keys f =
-    m.splits.split all_keys f (λ side. subst (Coming tool.cmp (tool.key side) (b side)) (append-nil (f side)) (coming side [] (coming_none tool.cmp (tool.key side) (b side)))) in
-    let both_texts : text tool.end (by_keys tool all_keys (λ side. p side ++ f side)) ≡ text tool.end (by_keys tool all_keys p) ++ text tool.end (by_keys tool all_keys f) =
-    ap (text tool.end) all ∙ text-append tool.end (by_keys tool all_keys p) (by_keys tool all_keys f) in (
+-- lines of one key k that an input passes, before all that may come of it
+pub record IsFront (cmp : Cmp) (key : Key) (b : Bound) (k : List ℕ) (f : Lines) : Type 0 where
+  pub own : EachKey (λ y. y ≡ k) key f
+  pub coming : (r : Lines) → Coming cmp key b r → Coming cmp key b (f ++ r)
+  pub behind : (r : Lines) → Coming cmp key b r → EachKey (AtMost cmp k) key r
+  pub under : Under cmp b k
+
+-- the line at which it stands, or none
+pub front_line : {cmp : Cmp} (o : IsKeyOrder cmp) {key : Key} {b : Bound} {k x : List ℕ} → b ≡ From (key x) → key x ≡ k → IsFront cmp key b k (x ∷ [])
+front_line {cmp} o {key} {x = x} is same = rw (is, ← same) (record { own = (refl, tt); coming = λ r c. (self_at_most cmp o (key x), c); behind = λ r c. c; under = self_at_most cmp o (key x) })
+
+-- such lines are passed
+pub pass_front : {tool : Tool} (o : IsKeyOrder tool.cmp) (k : List ℕ) (q f : Side → Lines) {b : Side → Bound} {p : Side → Lines} {was is new : Output}
+    → ((side : Side) → IsFront tool.cmp (tool.key side) (b side) k (f side)) → ((side : Side) → q side ≡ p side ++ f side) → tool.entries k [] [] ≡ []
+    → ((r : Side → Lines) → ((side : Side) → Coming tool.cmp (tool.key side) (b side) (r side))
+    → tool.entries k (f First ++ with_key (tool.key First) (r First) k) (f Second ++ with_key (tool.key Second) (r Second) k) ≡ tool.entries k (f First) (f Second) ++ entries_of tool r k)
+    → is.faulted ≡ false → Merging tool b p was is → Wrote is new (text tool.end (by_keys tool all_keys f)) → Merging tool b q was new × Late tool b q was new
+pass_front {tool} o k q f {b} {p} {was} {is} {new} front all none law clean m wrote =
+    let nothing = λ (side : Side). rw append-nil at ((front side).coming [] (coming_none tool.cmp (tool.key side) (b side))) in
+    let texts = ap (text tool.end) (m.splits.split all_keys f nothing) ∙ text-append tool.end (by_keys tool all_keys p) (by_keys tool all_keys f) in
+    subst (λ (l : Side → Lines). Merging tool b l was new × Late tool b l was new) (λ i side. sym (all side) i) (
       record {
-        splits = splits_step tool b b p f m.splits coming front;
-        under = λ of side. EachKey-append (Under tool.cmp (b of)) (tool.key side) (p side) (f side) (m.under of side) (under of side);
-        wrote = subst (λ (t : List ℕ). Wrote was new t) (sym both_texts)
-            (wrote_trans was is new (text tool.end (by_keys tool all_keys p)) (text tool.end (by_keys tool all_keys f)) clean m.wrote wrote);
+        splits = splits_step tool b b p f m.splits (λ side. (front side).coming)
+            (λ w r c. front_first tool o w k f r (λ side. (front side).own) (λ side. (front side).behind (r side) (c side)) none (law r c));
+        under = λ of side. EachKey-append (Under tool.cmp (b of)) (tool.key side) _ _ (m.under of side)
+            (EachKey-weaker (λ y. y ≡ k) (Under tool.cmp (b of)) (λ y e. rw e (front of).under) _ _ (front side).own);
+        wrote = rw texts (wrote_trans _ _ _ _ _ clean m.wrote wrote);
       },
       record {
         mid = is;
@@ -88,21 +96,22 @@ passes tool b p f was is new clean m coming front under wrote =
         wrote = m.wrote;
         bytes = text tool.end (by_keys tool all_keys f);
         more = wrote;
-        all = sym both_texts;
+        all = sym texts;
         split = λ side. refl;
-        coming = coming;
+        coming = λ side. (front side).coming;
       },
     )
 
 -- an input has gone to its next line
-pub settles : (tool : Tool) (b : Side → Bound) (p : Side → Lines) (was is : Output) (s : Side) (d : Bound) → Merging tool b p was is
+pub settles : {tool : Tool} {b : Side → Bound} {p : Side → Lines} {was is : Output} (s : Side) (d : Bound) → Merging tool b p was is
     → ((r : Lines) → Coming tool.cmp (tool.key s) d r → Coming tool.cmp (tool.key s) (b s) r) → ((k : List ℕ) → Under tool.cmp (b s) k → Under tool.cmp d k)
     → Merging tool (put s d b) p was is
-settles tool b p was is s d m coming under = record {
-  splits = splits_later tool b (put s d b) p m.splits (put_each (λ side e. (r : Lines) → Coming tool.cmp (tool.key side) e r
-      → Coming tool.cmp (tool.key side) (b side) r) s d b coming (λ side r c. c));
-  under = λ of side. put_each (λ t e. EachKey (Under tool.cmp e) (tool.key side) (p side)) s d b
-      (EachKey-weaker (Under tool.cmp (b s)) (Under tool.cmp d) under (tool.key side) (p side) (m.under s side)) (λ t. m.under t side) of;
+settles {tool} {b} {p} s d m coming under = record {
+  splits = record {
+    split = λ w r c.
+        m.splits.split w r (λ side. put_each (λ t e. Coming tool.cmp (tool.key t) e (r t) → Coming tool.cmp (tool.key t) (b t) (r t)) s d b (coming (r s)) (λ t h. h) side (c side));
+  };
+  under = λ of side. put_each (λ t e. EachKey (Under tool.cmp e) (tool.key side) (p side)) s d b (EachKey-weaker _ _ under _ _ (m.under s side)) (λ t. m.under t side) of;
   wrote = m.wrote;
 }
 
@@ -114,10 +123,7 @@ StopsAt tool b side number = (ls r : Side → Lines) → ((s : Side) → Coming 
 -- ---- what is decided
 
 pub follows : (b : Bound) (w : Lines) → (b ≡ Over → w ≡ []) → Follows b w
-follows Free w h = tt
-follows (From k) w h = tt
-follows (Fallen d) w h = tt
-follows Over w h = h refl
+follows b w h = grind arith
 
 pub both_under : (key : Key) (P Q R : List ℕ → Type 0) → ((k : List ℕ) → P k → Q k → R k) → (xs : Lines) → EachKey P key xs → EachKey Q key xs → EachKey R key xs
 both_under key P Q R f [] p q = tt
@@ -130,123 +136,70 @@ last_has key P last (y ∷ xs) x e f h = last_has key P (Some (key y)) xs x e (�
 
 module _ (cmp : Cmp) (o : IsKeyOrder cmp) where
   pub not_below : (k x : List ℕ) → AtMost cmp x k → is_lt (cmp k x) ≡ false
-  not_below k x h = by (cmp k x) refl
-    where
-      by : (r : Ordering) → cmp k x ≡ r → is_lt r ≡ false
-      by Less e = (let bad : true ≡ false = sym (ap is_gt (less_flips cmp o k x e)) ∙ h in cc)
-      by Equal e = refl
-      by Greater e = refl
+  not_below k x h = grind (arith, less_flips cmp o k x)
 
   -- what may come is not below a key that passed
   coming_under : (key : Key) (b : Bound) (x : List ℕ) (r : Lines) → Under cmp b x → Coming cmp key b r → EachKey (AtMost cmp x) key r
   coming_under key Free x r u c = absurd u
-  coming_under key (From l) x r u c = EachKey-weaker (AtMost cmp l) (AtMost cmp x) (λ k h. at_most_trans cmp o x l k u h) key r c
-  coming_under key (Fallen d) x r u c = subst (EachKey (AtMost cmp x) key) (sym c) tt
-  coming_under key Over x r u c = subst (EachKey (AtMost cmp x) key) (sym c) tt
+  coming_under key (From l) x r u c = EachKey-weaker _ _ (λ k h. at_most_trans cmp o x l k u h) _ _ c
+  coming_under key (Fallen d) x r u c = rw c tt
+  coming_under key Over x r u c = rw c tt
 
   -- nothing that may come of one input is below the last key that passed of another
   pub past_none : (key other_key : Key) (b : Bound) (p r : Lines) → EachKey (Under cmp b) key p → Coming cmp other_key b r
       → EachKey (λ k. is_below cmp k (last_or None (map key p)) ≡ false) other_key r
-  past_none key other_key b p r u c = by (last_or None (map key p)) refl
-    where
-      none : (xs : Lines) → EachKey (λ k. false ≡ false) other_key xs
-      none [] = tt
-      none (x ∷ xs) = (refl, none xs)
-
-      by : (l : Option (List ℕ)) → last_or None (map key p) ≡ l → EachKey (λ k. is_below cmp k l ≡ false) other_key r
-      by None e = none r
-      by (Some x) e =
-          let ux = last_has key (Under cmp b) None p x e (λ y bad. cc) u in
-          EachKey-weaker (AtMost cmp x) (λ k. is_lt (cmp k x) ≡ false) (λ k h. not_below k x h) other_key r (coming_under other_key b x r ux c)
+  past_none key other_key b p r u c = elim (last_or None (map key p)) as (λ l. last_or None (map key p) ≡ l → EachKey (λ k. is_below cmp k l ≡ false) other_key r) [
+    | None ↦ λ e. EachKey-all (λ k. false ≡ false) other_key (λ k. refl) r
+    | Some x ↦ λ e. (
+        let ux = last_has key (Under cmp b) None p x e (λ y bad. cc) u in
+        EachKey-weaker _ _ (λ k h. not_below k x h) _ _ (coming_under other_key b x r ux c)
+        )
+  ] refl
 
   -- the tests hold of each key below one of which they hold
   down_le : (l a b : List ℕ) → cmp b a ≡ Greater → is_le (cmp b l) ≡ true → is_le (cmp a l) ≡ true
   down_le l a b g h = at_most_is_le cmp o a l (at_most_trans cmp o a b l (ap is_gt (greater_flips cmp o b a g)) (is_le_at_most cmp o b l h))
 
   down_lt : (l a b : List ℕ) → cmp b a ≡ Greater → is_lt (cmp b l) ≡ true → is_lt (cmp a l) ≡ true
-  down_lt l a b g h = by (cmp b l) refl h
-    where
-      by : (r : Ordering) → cmp b l ≡ r → is_lt r ≡ true → is_lt (cmp a l) ≡ true
-      by Less e t = ap is_lt (greater_flips cmp o l a (above_trans cmp o a b l (ap is_gt (greater_flips cmp o b a g)) (less_flips cmp o b l e)))
-      by Equal e t = cc
-      by Greater e t = cc
+  down_lt l a b g h = grind (arith, greater_flips, less_flips, above_trans)
 
   down_up_to : (d : Option Disorder) → IsDown cmp (up_to cmp d)
   down_up_to None a b g h = refl
   down_up_to (Some d) a b g h = down_le d.fall.last_key a b g h
 
   down_past : (key : Key) (ended : Bool) (ls : Lines) → IsDown cmp (is_past cmp key ended ls)
-  down_past key ended ls a b g h = by (ended || is_some (fall cmp key ls)) (last_or None (map key ls)) h
-    where
-      by : (t : Bool) (l : Option (List ℕ)) → cond t true (is_below cmp b l) ≡ true → cond t true (is_below cmp a l) ≡ true
-      by true l h = refl
-      by false None h = h
-      by false (Some l) h = down_lt l a b g h
+  down_past key ended ls a b g h = grind (arith, down_lt)
 
 all_three : (x y z u v w : Bool) → (x ≡ true → u ≡ true) → (y ≡ true → v ≡ true) → (z ≡ true → w ≡ true) → (x && y && z) ≡ true → (u && v && w) ≡ true
-all_three true true true u v w f g h e = rw (f refl, g refl, h refl) refl
-all_three true true false u v w f g h e = cc
-all_three true false z u v w f g h e = cc
-all_three false y z u v w f g h e = cc
+all_three x y z u v w f g h e = grind arith
 
 and_false : (x y z : Bool) → (y ≡ false) ⊎ (z ≡ false) → (x && y && z) ≡ false
-and_false true true true (inl e) = cc
-and_false true true true (inr e) = cc
-and_false true true false e = refl
-and_false true false z e = refl
-and_false false y z e = refl
+and_false x y z e = grind arith
 
 module _ (tool : Tool) (o : IsKeyOrder tool.cmp) (ended : Side → Bool) (ls : Side → Lines) where
   pub down_decided : IsDown tool.cmp (is_decided tool ended ls)
   down_decided a b g h =
-      let up : (List ℕ → Bool) = up_to tool.cmp (disorder tool ls) in
-      let past : (Side → List ℕ → Bool) = λ side. is_past tool.cmp (tool.key side) (ended side) (ls side) in
-      all_three (up b) (past First b) (past Second b) (up a) (past First a) (past Second a) (down_up_to tool.cmp o (disorder tool ls) a b g)
-      (down_past tool.cmp o (tool.key First) (ended First) (ls First) a b g)
+      all_three _ _ _ _ _ _ (down_up_to tool.cmp o (disorder tool ls) a b g) (down_past tool.cmp o (tool.key First) (ended First) (ls First) a b g)
       (down_past tool.cmp o (tool.key Second) (ended Second) (ls Second) a b g) h
 
   -- no key is decided that is not past in this input
   pub not_decided : (side : Side) (k : List ℕ) → is_past tool.cmp (tool.key side) (ended side) (ls side) k ≡ false → is_decided tool ended ls k ≡ false
-  not_decided First k e =
-      and_false (up_to tool.cmp (disorder tool ls) k) (is_past tool.cmp (tool.key First) (ended First) (ls First) k) (is_past tool.cmp (tool.key Second) (ended Second) (ls Second) k) (inl e)
-  not_decided Second k e =
-      and_false (up_to tool.cmp (disorder tool ls) k) (is_past tool.cmp (tool.key First) (ended First) (ls First) k) (is_past tool.cmp (tool.key Second) (ended Second) (ls Second) k) (inr e)
+  not_decided First k e = and_false _ _ _ (inl e)
+  not_decided Second k e = and_false (up_to tool.cmp (disorder tool ls) k) (is_past tool.cmp (tool.key First) (ended First) (ls First) k) _ (inr e)
 
-module _ (tool : Tool) (o : IsKeyOrder tool.cmp) (b : Side → Bound) (p : Side → Lines) (was is : Output) (m : Merging tool b p was is) where
-  -- two lists that go on with the lines that came
-  pub record Seen (ls : Side → Lines) : Type 0 where
-    pub r : Side → Lines
-    pub parts : (side : Side) → ordered_part tool.cmp (tool.key side) (ls side) ≡ p side ++ r side
-    pub coming : (side : Side) → Coming tool.cmp (tool.key side) (b side) (r side)
-    pub falling : (side : Side) → Falling tool.cmp (b side) (fall tool.cmp (tool.key side) (ls side))
+-- two lists that go on with the lines that came
+pub record Seen (tool : Tool) (b : Side → Bound) (p ls : Side → Lines) : Type 0 where
+  pub r : Side → Lines
+  pub parts : (side : Side) → ordered_part tool.cmp (tool.key side) (ls side) ≡ p side ++ r side
+  pub coming : (side : Side) → Coming tool.cmp (tool.key side) (b side) (r side)
+  pub falling : (side : Side) → Falling tool.cmp (b side) (fall tool.cmp (tool.key side) (ls side))
 
-  -- whatever comes, the entries of the passed lines come first
-  pub seen_all : (ls : Side → Lines) (s : Seen ls) → merged_entries tool ls ≡ by_keys tool all_keys p ++ by_keys tool (up_to tool.cmp (disorder tool ls)) s.r
-  seen_all ls s =
-      let w = up_to tool.cmp (disorder tool ls) in
-      let pass : (k : List ℕ) → Under tool.cmp (b First) k → Under tool.cmp (b Second) k → w k ≡ true =
-      λ k u1 u2. passed_is_wanted tool.cmp o (b First) (b Second) (fall tool.cmp (tool.key First) (ls First)) (fall tool.cmp (tool.key Second) (ls Second)) k
-      (s.falling First) (s.falling Second) u1 u2 in
-      let first = all_wanted tool w p (λ side. both_under (tool.key side) (Under tool.cmp (b First)) (Under tool.cmp (b Second)) (λ k. w k ≡ true) pass
-      (p side) (m.under First side) (m.under Second side)) in
-      (λ i. by_keys tool w (λ side. s.parts side i)) ∙ m.splits.split w s.r s.coming ∙ ap (λ l. l ++ by_keys tool w s.r) first
-
-  -- what is decided, where all lines that came of this input are passed and more may come, was pushed
-  pub decided_begins : (ended : Side → Bool) (ls : Side → Lines) (s : Seen ls) (of : Side) (last : Option (List ℕ)) → ended of ≡ false → ls of ≡ p of → Begun tool.cmp (tool.key of) (p of) last
-      → Begins (text tool.end (decided_entries tool ended ls)) (text tool.end (by_keys tool all_keys p))
-  decided_begins ended ls s of last going all begun =
-      let dec = is_decided tool ended ls in
-      let rest = down_begins tool o dec (down_decided tool o ended ls) p in
-      let none : by_keys tool dec s.r ≡ [] = none_wanted tool dec s.r (λ side.
-      EachKey-weaker (λ k. is_below tool.cmp k (last_or None (map (tool.key of) (p of))) ≡ false) (λ k. dec k ≡ false)
-      (λ k h. not_decided tool o ended ls of k (past k ∙ h)) (tool.key side) (s.r side)
-      (past_none tool.cmp o (tool.key of) (tool.key side) (b side) (p of) (s.r side) (m.under side of) (s.coming side))) in
-      let known : decided_entries tool ended ls ≡ by_keys tool dec p =
-      (λ i. by_keys tool dec (λ side. s.parts side i)) ∙ m.splits.split dec s.r s.coming ∙ ap (λ l. by_keys tool dec p ++ l) none ∙ append-nil (by_keys tool dec p) in
-      record { rest = text tool.end rest.0; is = ap (text tool.end) (rest.1 ∙ ap (λ l. l ++ rest.0) (sym known)) ∙ text-append tool.end (decided_entries tool ended ls) rest.0 }
-    where
-      no_fall : fall tool.cmp (tool.key of) (ls of) ≡ None
-      no_fall = ap (fall tool.cmp (tool.key of)) (all ∙ sym (append-nil (p of))) ∙ begun.falling []
-
-      past : (k : List ℕ) → is_past tool.cmp (tool.key of) (ended of) (ls of) k ≡ is_below tool.cmp k (last_or None (map (tool.key of) (p of)))
-      past k = λ i. cond (going i || is_some (no_fall i)) true (is_below tool.cmp k (last_or None (map (tool.key of) (all i))))
+-- whatever comes, the entries of the passed lines come first
+pub seen_all : {tool : Tool} (o : IsKeyOrder tool.cmp) {b : Side → Bound} {p ls : Side → Lines} {was is : Output} → Merging tool b p was is → (s : Seen tool b p ls)
+    → merged_entries tool ls ≡ by_keys tool all_keys p ++ by_keys tool (up_to tool.cmp (disorder tool ls)) s.r
+seen_all {tool} o {b} {p} {ls} m s =
+    let w = up_to tool.cmp (disorder tool ls) in
+    let first = all_wanted tool w p (λ side. both_under (tool.key side) (Under tool.cmp (b First)) (Under tool.cmp (b Second)) (λ k. w k ≡ true)
+    (λ k u1 u2. passed_is_wanted tool.cmp o (b First) (b Second) (fall tool.cmp (tool.key First) (ls First)) (fall tool.cmp (tool.key Second) (ls Second)) k
+    (s.falling First) (s.falling Second) u1 u2) (p side) (m.under First side) (m.under Second side)) in
+    (λ i. by_keys tool w (λ side. s.parts side i)) ∙ m.splits.split w s.r s.coming ∙ ap (λ l. l ++ by_keys tool w s.r) first

@@ -1,5 +1,5 @@
 -- The lines in the slots of a store.
-use Rattle.std.proofs.Common.{◌≡◌, ◌≢◌, inl, inr, ℕ, zero, suc, ◌+◌, ◌*◌, ◌≤◌, ◌<◌, false, List, [], ◌∷◌, ◌++◌, length, max, refl, sym, ap, ◌∙◌, subst, arith, get_or, set}
+use Rattle.std.proofs.Common.{◌≡◌, ◌≢◌, inl, inr, ℕ, zero, suc, ◌+◌, ◌*◌, ◌≤◌, ◌<◌, false, List, [], ◌∷◌, ◌++◌, length, max, refl, sym, ap, ◌∙◌, arith, get_or, set}
 use Rattle.std.proofs.lemmas.List.{length-set, get_or-set_other}
 use Rattle.std.proofs.lemmas.List.Sums.{sum_by-cons}
 use Rattle.ptlines.specs.Slots.{Slots, line, total, with_added, with_line}
@@ -14,8 +14,7 @@ pub line_other : (s : Slots) (a b : ℕ) (bytes : List ℕ) → a ≢ b → line
 line_other s a b bytes n = get_or-set_other s.lines a b bytes [] (λ e. n (sym e))
 
 added_same : (xs : List (List ℕ)) (i : ℕ) → get_or (xs ++ [] ∷ []) i [] ≡ get_or xs i []
-added_same [] zero = refl
-added_same [] (suc i) = refl
+added_same [] i = grind arith
 added_same (x ∷ xs) zero = refl
 added_same (x ∷ xs) (suc i) = added_same xs i
 
@@ -24,66 +23,45 @@ line_added s slot = added_same s.lines slot
 
 -- Two lines of each input, no longer than these, and so many bytes in other slots.
 abbrev pub HasLines : (Side → ℕ) → ℕ → List (List ℕ) → Type 0
-HasLines m more [] = ⊥
-HasLines m more (a ∷ []) = ⊥
-HasLines m more (a ∷ b ∷ []) = ⊥
-HasLines m more (a ∷ b ∷ c ∷ []) = ⊥
 HasLines m more (a ∷ b ∷ c ∷ d ∷ rest) = (length a ≤ m First) × (length b ≤ m First) × (length c ≤ m Second) × (length d ≤ m Second) × (total rest ≡ more)
+HasLines m more few = ⊥
 
 pub has_lines_none : (xs : List (List ℕ)) → 4 ≤ length xs → total xs ≡ 0 → HasLines (λ side. 0) 0 xs
-has_lines_none [] four none = absurd (omega arith)
-has_lines_none (a ∷ []) four none = absurd (omega arith)
-has_lines_none (a ∷ b ∷ []) four none = absurd (omega arith)
-has_lines_none (a ∷ b ∷ c ∷ []) four none = absurd (omega arith)
 has_lines_none (a ∷ b ∷ c ∷ d ∷ rest) four none =
     let s0 = sum_by-cons length a (b ∷ c ∷ d ∷ rest) in
     let s1 = sum_by-cons length b (c ∷ d ∷ rest) in
     let s2 = sum_by-cons length c (d ∷ rest) in
     let s3 = sum_by-cons length d rest in
-    (omega (arith, s0), omega (arith, s0, s1), omega (arith, s0, s1, s2), omega (arith, s0, s1, s2, s3), omega (arith, s0, s1, s2, s3))
+    omega (arith, s0, s1, s2, s3)
+has_lines_none few four none = absurd (omega arith)
 
 pub has_lines_total : (xs : List (List ℕ)) (m : Side → ℕ) (more : ℕ) → HasLines m more xs
     → (4 ≤ length xs) × (total xs ≤ 2 * m First + 2 * m Second + more) × (total xs ≡ ((length (get_or xs 0 []) + length (get_or xs 1 [])) + length (get_or xs 2 [])) + length (get_or xs 3 []) + more)
-has_lines_total [] m more h = absurd h
-has_lines_total (a ∷ []) m more h = absurd h
-has_lines_total (a ∷ b ∷ []) m more h = absurd h
-has_lines_total (a ∷ b ∷ c ∷ []) m more h = absurd h
 has_lines_total (a ∷ b ∷ c ∷ d ∷ rest) m more h =
     let s0 = sum_by-cons length a (b ∷ c ∷ d ∷ rest) in
     let s1 = sum_by-cons length b (c ∷ d ∷ rest) in
     let s2 = sum_by-cons length c (d ∷ rest) in
     let s3 = sum_by-cons length d rest in
-    (omega arith, omega (arith, s0, s1, s2, s3), omega (arith, s0, s1, s2, s3))
+    omega (arith, s0, s1, s2, s3)
+has_lines_total few m more h = absurd h
 
 -- a line of an input goes into the slot of the line before
 pub set_line : (s : Side) (place : Sorted) (xs : List (List ℕ)) (m k : Side → ℕ) (more : ℕ) (x : List ℕ) → HasSlots s place → HasLines m more xs
     → ((side : Side) → m side ≤ k side) → length x ≤ k s → HasLines k more (set xs place.previous x)
-set_line s place [] m k more x slots h up l = absurd h
-set_line s place (a ∷ []) m k more x slots h up l = absurd h
-set_line s place (a ∷ b ∷ []) m k more x slots h up l = absurd h
-set_line s place (a ∷ b ∷ c ∷ []) m k more x slots h up l = absurd h
 set_line s place (a ∷ b ∷ c ∷ d ∷ rest) m k more x slots h up l = by s slots l
   where
-    a_in : length a ≤ k First
-    a_in = omega (arith, up First)
+    first : (length a ≤ k First) × (length b ≤ k First)
+    first = omega (arith, h, up First)
 
-    b_in : length b ≤ k First
-    b_in = omega (arith, up First)
-
-    c_in : length c ≤ k Second
-    c_in = omega (arith, up Second)
-
-    d_in : length d ≤ k Second
-    d_in = omega (arith, up Second)
-
-    at : (n : ℕ) → place.previous ≡ n → HasLines k more (set (a ∷ b ∷ c ∷ d ∷ rest) n x) → HasLines k more (set (a ∷ b ∷ c ∷ d ∷ rest) place.previous x)
-    at n e = subst (λ j. HasLines k more (set (a ∷ b ∷ c ∷ d ∷ rest) j x)) (sym e)
+    second : (length c ≤ k Second) × (length d ≤ k Second)
+    second = omega (arith, h, up Second)
 
     by : (t : Side) → HasSlots t place → length x ≤ k t → HasLines k more (set (a ∷ b ∷ c ∷ d ∷ rest) place.previous x)
-    by First (inl e) l = at 1 e.1 (a_in, l, c_in, d_in, h.4)
-    by First (inr e) l = at 0 e.1 (l, b_in, c_in, d_in, h.4)
-    by Second (inl e) l = at 3 e.1 (a_in, b_in, c_in, l, h.4)
-    by Second (inr e) l = at 2 e.1 (a_in, b_in, l, d_in, h.4)
+    by First (inl e) l = rw e.1 (first.0, l, second.0, second.1, h.4)
+    by First (inr e) l = rw e.1 (l, first.1, second.0, second.1, h.4)
+    by Second (inl e) l = rw e.1 (first.0, first.1, second.0, l, h.4)
+    by Second (inr e) l = rw e.1 (first.0, first.1, l, second.1, h.4)
+set_line s place few m k more x slots h up l = absurd h
 
 -- What the store of a merge holds: two lines of each input, no longer than these.
 pub record Keeps (before store : Slots) (m : Side → ℕ) : Type 0 where
@@ -92,25 +70,24 @@ pub record Keeps (before store : Slots) (m : Side → ℕ) : Type 0 where
   pub slots : length store.lines ≡ max (length before.lines) 4
   pub denied : store.denied ≡ false
 
-pub keeps_none : (before store : Slots) → HasFour before store → before.denied ≡ false → total before.lines ≡ 0 → Keeps before store (λ side. 0)
-keeps_none before store four allowed empty = record {
+pub keeps_none : {before store : Slots} → HasFour before store → before.denied ≡ false → total before.lines ≡ 0 → Keeps before store (λ side. 0)
+keeps_none {store = store} four allowed empty = record {
   lines = has_lines_none store.lines (omega (arith, four.slots)) (four.total ∙ empty);
   peak = omega (arith, four.peak);
   slots = four.slots;
   denied = four.denied ∙ allowed;
 }
 
-pub keeps_line : (before store after : Slots) (s : Side) (place : Sorted) (m k : Side → ℕ) (x : List ℕ) → HasSlots s place → Keeps before store m
+pub keeps_line : {before store after : Slots} (s : Side) (place : Sorted) {m : Side → ℕ} (k : Side → ℕ) (x : List ℕ) → HasSlots s place → Keeps before store m
     → ((side : Side) → m side ≤ k side) → length x ≤ k s → after ≡ with_line store place.previous x → Keeps before after k
-keeps_line before store after s place m k x slots kept up fits is = subst (λ t. Keeps before t k) (sym is) (record {
-  lines = inside;
-  peak = omega (arith, kept.peak, up First, up Second, (has_lines_total (set store.lines place.previous x) k 0 inside).1);
-  slots = length-set store.lines place.previous x ∙ kept.slots;
-  denied = kept.denied;
-})
-  where
-    inside : HasLines k 0 (set store.lines place.previous x)
-    inside = set_line s place store.lines m k 0 x slots kept.lines up fits
+keeps_line {store = store} s place {m} k x slots kept up fits is =
+    let inside = set_line s place store.lines m k 0 x slots kept.lines up fits in
+    rw is (record {
+      lines = inside;
+      peak = omega (arith, kept.peak, up First, up Second, (has_lines_total (set store.lines place.previous x) k 0 inside).1);
+      slots = length-set store.lines place.previous x ∙ kept.slots;
+      denied = kept.denied;
+    })
 
 -- what emptying a slot does
 record Emptied (s t : Slots) (slot : ℕ) : Type 0 where
@@ -121,15 +98,13 @@ record Emptied (s t : Slots) (slot : ℕ) : Type 0 where
   pub others : (i : ℕ) → slot ≢ i → length (line t i) ≡ length (line s i)
 
 emptied : (s t : Slots) (slot : ℕ) → slot < length s.lines → t ≡ with_line s slot [] → Emptied s t slot
-emptied s t slot within is =
-    let less : total (set s.lines slot []) + length (line s slot) ≡ total s.lines = omega (arith, total_set s.lines slot [] within) in
-    subst (λ u. Emptied s u slot) (sym is) (record {
-      slots = length-set s.lines slot [];
-      less = less;
-      peak = omega arith;
-      denied = refl;
-      others = λ i n. ap length (line_other s slot i [] n);
-    })
+emptied s t slot within is = rw is (record {
+  slots = length-set s.lines slot [];
+  less = omega (arith, total_set s.lines slot [] within);
+  peak = omega (arith, total_set s.lines slot [] within);
+  denied = refl;
+  others = λ i n. ap length (line_other s slot i [] n);
+})
 
 -- the first four slots were emptied, one after another
 pub four_cleared : (s a b c d : Slots) → 4 ≤ length s.lines → a ≡ with_line s 0 [] → b ≡ with_line a 1 [] → c ≡ with_line b 2 [] → d ≡ with_line c 3 [] → IsCleared s d
@@ -149,8 +124,7 @@ four_cleared s a b c d four is0 is1 is2 is3 =
         e0.others 1 (λ e. cc),
         e0.others 2 (λ e. cc),
         e0.others 3 (λ e. cc),
-        e1.others 2
-            (λ e. cc),
+        e1.others 2 (λ e. cc),
         e1.others 3 (λ e. cc),
         e2.others 3 (λ e. cc),
       );

@@ -1,18 +1,17 @@
 -- What is written of the lines that are passed, and what is written of all that may come.
-use Rattle.std.proofs.Common.{◌≡◌, ℕ, List, [], ◌∷◌, ◌++◌, Bool, true, false, cond, Option, Some, None, refl, ap, sym, ◌∙◌, subst, append_assoc}
+use Rattle.std.proofs.Common.{◌≡◌, ℕ, List, [], ◌∷◌, ◌++◌, Bool, true, false, cond, Option, refl, ap, sym, ◌∙◌, append_assoc, arith}
 use Rattle.std.proofs.lemmas.List.{append-nil}
 use Rattle.std.proofs.lemmas.List.Concat.{flat_map-append}
 use Rattle.std.specs.Prelude.{filter, flat_map}
-use Rattle.std.specs.declared.cmp.Ordering.{Ordering}
 use Rattle.std.specs.declared.cmp.Ordering.TheVariants.{Less, Equal, Greater}
-use Rattle.std.specs.Ordering.{is_lt, is_gt, match_ordering}
+use Rattle.std.specs.Ordering.{is_gt, match_ordering}
 use Rattle.ptmerge.specs.declared.order.Side.{Side}
 use Rattle.ptmerge.specs.declared.order.Side.TheVariants.{First, Second}
 use Rattle.ptmerge.specs.Keyed.{Lines, Tool, insert_key, distinct, keys, entries_of, by_keys, Fall, disorder_of, up_to}
 use Rattle.ptmerge.specs.Orders.{Cmp}
 use Rattle.ptmerge.proofs.OfMerges.Orders.{IsKeyOrder, Above, at_most_trans, at_most_is_le, above_trans, less_flips}
 use Rattle.ptmerge.proofs.OfMerges.Least.{Each, EachKey, Each-weaker, Each-insert, Each-distinct, Each-keys}
-use Rattle.ptmerge.proofs.OfMerges.Bounds.{Bound, Free, From, Fallen, Over, Coming, Falling, Under, FallFrom, coming_none}
+use Rattle.ptmerge.proofs.OfMerges.Bounds.{Bound, Coming, Falling, Under, FallFrom, coming_none}
 
 abbrev pub all_keys : List ℕ → Bool
 all_keys k = true
@@ -41,12 +40,11 @@ IsDown cmp w = (a b : List ℕ) → cmp b a ≡ Greater → w b ≡ true → w a
 module _ (cmp : Cmp) (o : IsKeyOrder cmp) where
   ascends_insert : (k : List ℕ) (ks : Lines) → Ascends cmp ks → Ascends cmp (insert_key cmp k ks)
   ascends_insert k [] a = (tt, tt)
-  ascends_insert k (x ∷ ks) a = by (cmp k x) refl (ascends_insert k ks a.1)
-    where
-      by : (r : Ordering) → cmp k x ≡ r → Ascends cmp (insert_key cmp k ks) → Ascends cmp (match_ordering r (k ∷ x ∷ ks) (x ∷ ks) (x ∷ insert_key cmp k ks))
-      by Less e ih = let up = less_flips cmp o k x e in ((up, Each-weaker (Above cmp x) (Above cmp k) (λ y h. above_trans cmp o k x y (ap is_gt e) h) ks a.0), a)
-      by Equal e ih = a
-      by Greater e ih = (Each-insert cmp (Above cmp x) k ks e a.0, ih)
+  ascends_insert k (x ∷ ks) a = elim (cmp k x) as (λ r. cmp k x ≡ r → Ascends cmp (match_ordering r (k ∷ x ∷ ks) (x ∷ ks) (x ∷ insert_key cmp k ks))) [
+    | Less ↦ λ e. ((less_flips cmp o k x e, Each-weaker _ _ (λ y h. above_trans cmp o k x y (ap is_gt e) h) _ a.0), a)
+    | Equal ↦ λ e. a
+    | Greater ↦ λ e. (Each-insert cmp (Above cmp x) k ks e a.0, ascends_insert k ks a.1)
+  ] refl
 
   pub ascends_distinct : (ks : Lines) → Ascends cmp (distinct cmp ks)
   ascends_distinct [] = tt
@@ -58,29 +56,18 @@ module _ (cmp : Cmp) (o : IsKeyOrder cmp) where
   down_first w down (k ∷ ks) a = by (w k) refl (down_first w down ks a.1)
     where
       not_above : w k ≡ false → (y : List ℕ) → cmp y k ≡ Greater → w y ≡ false
-      not_above h y g = elim (w y) as (λ b. (b ≡ true → w k ≡ true) → b ≡ false) [ true ↦ λ f. (let bad = sym h ∙ f refl in cc) | false ↦ λ f. refl ] (down k y g)
+      not_above h y g = grind (arith, down k y g)
 
       by : (b : Bool) → w k ≡ b → (rest : Lines) × (ks ≡ filter w ks ++ rest) → (rest : Lines) × (k ∷ ks ≡ cond b (k ∷ filter w ks) (filter w ks) ++ rest)
       by true h ih = (ih.0, ap (λ l. k ∷ l) ih.1)
-      by false h ih = (k ∷ ks, ap (λ l. l ++ (k ∷ ks)) (sym (filter_none w ks (Each-weaker (Above cmp k) (λ y. w y ≡ false) (not_above h) ks a.0))))
+      by false h ih = (k ∷ ks, rw (filter_none w ks (Each-weaker _ _ (not_above h) _ a.0)) refl)
 
   -- what the lists fall behind is at least k
   pub under_fall : (b : Bound) (k : List ℕ) (f : Option Fall) → Under cmp b k → Falling cmp b f → FallFrom cmp k f
-  under_fall Free k f u h = absurd u
-  under_fall (From l) k None u h = tt
-  under_fall (From l) k (Some d) u h = at_most_trans cmp o k l d.last_key u h
-  under_fall (Fallen d) k f u h = subst (FallFrom cmp k) (sym h) u
-  under_fall Over k f u h = subst (FallFrom cmp k) (sym h) tt
+  under_fall b k f u h = grind (arith, at_most_trans)
 
   up_to_from : (k : List ℕ) (f1 f2 : Option Fall) → FallFrom cmp k f1 → FallFrom cmp k f2 → up_to cmp (disorder_of cmp f1 f2) k ≡ true
-  up_to_from k None None h1 h2 = refl
-  up_to_from k None (Some d) h1 h2 = at_most_is_le cmp o k d.last_key h2
-  up_to_from k (Some d) None h1 h2 = at_most_is_le cmp o k d.last_key h1
-  up_to_from k (Some d) (Some e) h1 h2 = by (is_lt (cmp e.last_key d.last_key))
-    where
-      by : (b : Bool) → up_to cmp (cond b (Some (record { file = Second; fall = e })) (Some (record { file = First; fall = d }))) k ≡ true
-      by true = at_most_is_le cmp o k e.last_key h2
-      by false = at_most_is_le cmp o k d.last_key h1
+  up_to_from k f1 f2 h1 h2 = grind (arith, at_most_is_le)
 
   pub passed_is_wanted : (b1 b2 : Bound) (f1 f2 : Option Fall) (k : List ℕ) → Falling cmp b1 f1 → Falling cmp b2 f2 → Under cmp b1 k → Under cmp b2 k → up_to cmp (disorder_of cmp f1 f2) k ≡ true
   passed_is_wanted b1 b2 f1 f2 k h1 h2 u1 u2 = up_to_from k f1 f2 (under_fall b1 k f1 u1 h1) (under_fall b2 k f2 u2 h2)
@@ -89,13 +76,12 @@ module _ (tool : Tool) where
   pub all_wanted : (w : List ℕ → Bool) (p : Side → Lines) → ((side : Side) → EachKey (λ k. w k ≡ true) (tool.key side) (p side)) → by_keys tool w p ≡ by_keys tool all_keys p
   all_wanted w p e =
       let ks = distinct tool.cmp (keys tool p) in
-      let pass = filter_all w ks (Each-distinct tool.cmp (λ k. w k ≡ true) (keys tool p) (Each-keys (λ k. w k ≡ true) (tool.key First) (tool.key Second) (p First) (p Second) (e First) (e Second))) in
+      let pass = filter_all w ks (Each-distinct _ _ _ (Each-keys _ _ _ _ _ (e First) (e Second))) in
       ap (flat_map (entries_of tool p)) (pass ∙ sym (filter_all all_keys ks (each_true ks)))
 
   pub none_wanted : (w : List ℕ → Bool) (r : Side → Lines) → ((side : Side) → EachKey (λ k. w k ≡ false) (tool.key side) (r side)) → by_keys tool w r ≡ []
   none_wanted w r e =
-      ap (flat_map (entries_of tool r)) (filter_none w (distinct tool.cmp (keys tool r))
-      (Each-distinct tool.cmp (λ k. w k ≡ false) (keys tool r) (Each-keys (λ k. w k ≡ false) (tool.key First) (tool.key Second) (r First) (r Second) (e First) (e Second))))
+      ap (flat_map (entries_of tool r)) (filter_none w (distinct tool.cmp (keys tool r)) (Each-distinct _ _ _ (Each-keys _ _ _ _ _ (e First) (e Second))))
 
   -- the entries of the keys below one are the first
   pub down_begins : IsKeyOrder tool.cmp → (w : List ℕ → Bool) → IsDown tool.cmp w → (p : Side → Lines) → (rest : Lines) × (by_keys tool all_keys p ≡ by_keys tool w p ++ rest)
@@ -115,22 +101,13 @@ module _ (tool : Tool) where
     pub split : (w : List ℕ → Bool) (r : Side → Lines) → ((side : Side) → Coming tool.cmp (tool.key side) (b side) (r side))
         → by_keys tool w (λ side. p side ++ r side) ≡ by_keys tool w p ++ by_keys tool w r
 
-  pub splits_none : (b : Side → Bound) → Splits b (λ side. [])
-  splits_none b = record { split = λ w r c. refl }
-
-  -- less may come
-  pub splits_later : (b d : Side → Bound) (p : Side → Lines) → Splits b p
-      → ((side : Side) (r : Lines) → Coming tool.cmp (tool.key side) (d side) r → Coming tool.cmp (tool.key side) (b side) r) → Splits d p
-  splits_later b d p s u = record { split = λ w r c. s.split w r (λ side. u side (r side) (c side)) }
-
   -- lines are passed whose entries come first of all that may come
   pub splits_step : (b d : Side → Bound) (p f : Side → Lines) → Splits b p
       → ((side : Side) (r : Lines) → Coming tool.cmp (tool.key side) (d side) r → Coming tool.cmp (tool.key side) (b side) (f side ++ r))
       → ((w : List ℕ → Bool) (r : Side → Lines) → MayCome d r → by_keys tool w (λ side. f side ++ r side) ≡ by_keys tool w f ++ by_keys tool w r) → Splits d (λ side. p side ++ f side)
   splits_step b d p f s u front = record {
     split = λ w r c.
-        let passed : by_keys tool w (λ side. p side ++ f side) ≡ by_keys tool w p ++ by_keys tool w f =
-        s.split w f (λ side. subst (Coming tool.cmp (tool.key side) (b side)) (append-nil (f side)) (u side [] (coming_none tool.cmp (tool.key side) (d side)))) in
+        let none = λ (side : Side). rw append-nil at (u side [] (coming_none tool.cmp (tool.key side) (d side))) in
         (λ i. by_keys tool w (λ side. append_assoc (p side) (f side) (r side) i)) ∙ s.split w (λ side. f side ++ r side) (λ side. u side (r side) (c side))
-        ∙ ap (λ l. by_keys tool w p ++ l) (front w r c) ∙ sym (append_assoc (by_keys tool w p) (by_keys tool w f) (by_keys tool w r)) ∙ ap (λ l. l ++ by_keys tool w r) (sym passed);
+        ∙ ap (λ l. by_keys tool w p ++ l) (front w r c) ∙ sym (append_assoc (by_keys tool w p) (by_keys tool w f) (by_keys tool w r)) ∙ ap (λ l. l ++ by_keys tool w r) (sym (s.split w f none));
   }

@@ -2,7 +2,6 @@
 use Rattle.std.proofs.Common.{◌≡◌, ◌≢◌, inl, inr, ℕ, ◌+◌, ◌<◌, ◌≤◌, ◌&&◌, Bool, true, false, cond, List, [], ◌∷◌, ◌++◌, Option, Some, None, length, refl, sym, ◌∙◌, ap, subst, arith}
 use Rattle.std.specs.Prelude.{nat_lt, bytes_eq}
 use Rattle.std.specs.declared.cmp.Ordering.{Ordering}
-use Rattle.std.specs.declared.cmp.Ordering.TheVariants.{Less, Equal, Greater}
 use Rattle.std.specs.Ordering.{is_eq, is_gt}
 use Rattle.std.proofs.lemmas.Bool.{false≢true}
 use Rattle.std.proofs.lemmas.Bool.Decides.{nat_tests}
@@ -50,9 +49,9 @@ sided_keeps end cmp key old now place before after ls p b same1 same2 s = record
     { got = s.got; sound = s.sound; near = s.near; number = s.number; reaches = s.reaches; stands = by place.stand s.stands }
   where
     by : (t : Stand) → Stands cmp key t place before now ls p b → Stands cmp key t place after now ls p b
-    by Head st = (st.0 ∙ ap (λ (x : List ℕ). p ++ x ∷ []) (sym same1), subst (λ (x : List ℕ). Begun cmp key ls (Some (key x))) (sym same1) st.1, st.2 ∙ ap (λ (x : List ℕ). From (key x)) (sym same1))
+    by Head st = rw same1 st
     by Ended st = st
-    by (Disorder n) st = st ∙ (λ i. Fallen (record { last_key = key (sym same2 i); line = n }))
+    by (Disorder n) st = rw same2 st
 
 -- the line at which an input stands is passed
 pub record Passed (cmp : Cmp) (key : Key) (place : Sorted) (store : Slots) (ls p : Lines) (b : Bound) : Type 0 where
@@ -61,10 +60,10 @@ pub record Passed (cmp : Cmp) (key : Key) (place : Sorted) (store : Slots) (ls p
   pub bound : b ≡ From (key (line store place.standing))
   pub some : 0 < place.number
 
-pub passed : (end : ℕ) (cmp : Cmp) (key : Key) (old now : Reader) (place : Sorted) (store : Slots) (ls p : Lines) (b : Bound) → place.stand ≡ Head
+pub passed : {end : ℕ} {cmp : Cmp} {key : Key} {old now : Reader} {place : Sorted} {store : Slots} {ls p : Lines} {b : Bound} → place.stand ≡ Head
     → Sided end cmp key old now place store ls p b → Passed cmp key place store ls p b
-passed end cmp key old now place store ls p b e s =
-    let st : Stands cmp key Head place store now ls p b = subst (λ t. Stands cmp key t place store now ls p b) e s.stands in
+passed {cmp = cmp} {key} {now = now} {place} {store} {ls} {p} {b} e s =
+    let st = subst (λ t. Stands cmp key t place store now ls p b) e s.stands in
     record { all = st.0; begun = st.1; bound = st.2; some = omega (arith, s.number, ap length st.0, length_push p (line store place.standing)) }
 
 -- what may come where the last key that came is known, or none came
@@ -84,9 +83,7 @@ alive Ended = 0
 alive (Disorder n) = 0
 
 alive_most : (s : Stand) → alive s ≤ 1
-alive_most Head = omega arith
-alive_most Ended = omega arith
-alive_most (Disorder n) = omega arith
+alive_most s = grind arith
 
 -- an input at its next line, where all that came before are passed
 pub record Next (end : ℕ) (cmp : Cmp) (key : Key) (old new : Reader) (place : Sorted) (slot : ℕ) (before after : Slots) (ls : Lines) (last : Option (List ℕ)) : Type 0 where
@@ -104,114 +101,80 @@ pub record Next (end : ℕ) (cmp : Cmp) (key : Key) (old new : Reader) (place : 
 
 stand_is : (cmp : Cmp) (key : Key) (last : Option (List ℕ)) (place : Sorted) (store : Slots) (next : List ℕ) → LastIs key last place store
     → stand_at key cmp place.number (line store place.standing) next ≡ cond (falls cmp last (key next)) (Disorder (place.number + 1)) Head
-stand_is cmp key None place store next none =
-    let t : nat_lt 0 place.number ≡ false = grind (arith, nat_tests) in
-    ap (λ (b : Bool). cond (b && is_gt (cmp (key (line store place.standing)) (key next))) (Disorder (place.number + 1)) Head) t
-stand_is cmp key (Some k) place store next l =
-    let t : nat_lt 0 place.number ≡ true = grind (arith, nat_tests) in
-    ap (λ (b : Bool). cond (b && is_gt (cmp (key (line store place.standing)) (key next))) (Disorder (place.number + 1)) Head) t
-    ∙ ap (λ (j : List ℕ). cond (is_gt (cmp j (key next))) (Disorder (place.number + 1)) Head) (sym l.1)
+stand_is cmp key last place store next l = grind (arith, nat_tests)
 
-module _ (end : ℕ) (cmp : Cmp) (o : IsKeyOrder cmp) (key : Key) (old now new : Reader) (place next : Sorted) (before after : Slots) (ls : Lines) (last : Option (List ℕ)) where
-  from_next : (x : List ℕ) → falls cmp last (key x) ≡ false → ((r : Lines) → EachKey (AtMost cmp (key x)) key r → Coming cmp key (behind last) r)
-      × ((k : List ℕ) → Under cmp (behind last) k → AtMost cmp k (key x))
-  from_next x rises = by last rises
-    where
-      by : (l : Option (List ℕ)) → falls cmp l (key x) ≡ false → ((r : Lines) → EachKey (AtMost cmp (key x)) key r → Coming cmp key (behind l) r)
-          × ((k : List ℕ) → Under cmp (behind l) k → AtMost cmp k (key x))
-      by None h = (λ r c. tt, λ k u. absurd u)
-      by (Some j) h = (λ r c. EachKey-weaker (AtMost cmp (key x)) (AtMost cmp j) (λ y a. at_most_trans cmp o j (key x) y h a) key r c, λ k u. at_most_trans cmp o k j (key x) u h)
+-- nothing more comes
+over : (cmp : Cmp) (key : Key) (last : Option (List ℕ)) (r : Lines) → r ≡ [] → Coming cmp key (behind last) r
+over cmp key last r none = grind arith
 
+from_next : {cmp : Cmp} (o : IsKeyOrder cmp) (key : Key) (last : Option (List ℕ)) (x : List ℕ) → falls cmp last (key x) ≡ false
+    → ((r : Lines) → EachKey (AtMost cmp (key x)) key r → Coming cmp key (behind last) r) × ((k : List ℕ) → Under cmp (behind last) k → AtMost cmp k (key x))
+from_next o key None x h = (λ r c. tt, λ k u. absurd u)
+from_next {cmp} o key (Some j) x h =
+    (λ r c. EachKey-weaker _ _ (λ y a. at_most_trans cmp o j (key x) y h a) _ _ c, λ k u. at_most_trans cmp o k j (key x) u h)
+
+module _ (end : ℕ) (cmp : Cmp) (o : IsKeyOrder cmp) (key : Key) (old now new : Reader) (place next : Sorted) (before after : Slots) (ls : Lines) where
   abbrev turned : Stand → ℕ → Bool → Sorted
   turned stand number same = record { standing = place.previous; previous = place.standing; number = number; stand = stand; same = same; key = next.key }
 
-  abbrev Goal : Sorted → Type 0
-  Goal q = Next end cmp key old new q place.previous before after ls last
+  abbrev Goal : Option (List ℕ) → Sorted → Type 0
+  Goal last q = Next end cmp key old new q place.previous before after ls last
 
-  longer_by : (x : List ℕ) → (longest ls ≤ longest (ls ++ x ∷ [])) × (length x ≤ longest (ls ++ x ∷ []))
-  longer_by x = (omega (arith, longest-append ls (x ∷ [])), omega (arith, longest-append ls (x ∷ [])))
+  -- a line came
+  module _ (e : GivesLine now new before after place.previous) (sound : IsSound new) (got : Got end old now ls) (number : place.number ≡ length ls) (same : Bool) where
+    at_line : (last : Option (List ℕ)) (stand : Stand) (b : Bound) → Reaches cmp key (ls ++ e.line ∷ []) ls b
+        → Stands cmp key stand (turned stand (place.number + 1) same) after new (ls ++ e.line ∷ []) ls b → ((r : Lines) → Coming cmp key b r → Coming cmp key (behind last) r)
+        → ((k : List ℕ) → Under cmp (behind last) k → Under cmp b k) → Goal last (turned stand (place.number + 1) same)
+    at_line last stand b reaches stands coming under = record {
+      now_ls = ls ++ e.line ∷ [];
+      bound = b;
+      sided = record {
+        got = got_more got e;
+        sound = sound;
+        near = inr (e.line, refl, refl);
+        number = omega (arith, number, length_push ls e.line);
+        reaches = reaches;
+        stands = stands;
+      };
+      coming = coming;
+      under = under;
+      bytes = e.line;
+      stored = e.stored;
+      longer = omega (arith, longest-append ls (e.line ∷ []));
+      more = e.line ∷ [];
+      goes_on = refl;
+      fits = omega (arith, longest-append ls (e.line ∷ []));
+    }
 
-  counts : (x : List ℕ) → place.number ≡ length ls → place.number + 1 ≡ length (ls ++ x ∷ [])
-  counts x number = omega (arith, number, length_push ls x)
+    at_head : (last : Option (List ℕ)) → place.previous < length before.lines → Begun cmp key ls last → falls cmp last (key e.line) ≡ false → Goal last (turned Head (place.number + 1) same)
+    at_head last within begun rises =
+        let now_is : line after place.previous ≡ e.line = rw e.stored (line_of before place.previous e.line within) in
+        let more = begun_more e.line begun rises in
+        let f = from_next o key last e.line rises in
+        at_line last Head (From (key e.line)) (reaches_head o more) (rw now_is (refl, more, refl)) f.0 f.1
 
-  at_head : (e : GivesLine now new before after place.previous) → IsSound new → place.previous < length before.lines → Got end old now ls → place.number
-      ≡ length ls → Begun cmp key ls last → falls cmp last (key e.line) ≡ false → (same : Bool) → Goal (turned Head (place.number + 1) same)
-  at_head e sound within got number begun rises same =
-      let now_is : line after place.previous ≡ e.line = ap (λ (s : Slots). line s place.previous) e.stored ∙ line_of before place.previous e.line within in
-      let more = begun_more cmp key ls last e.line begun rises in
-      let f = from_next e.line rises in
-      record {
-        now_ls = ls ++ e.line ∷ [];
-        bound = From (key e.line);
-        sided = record {
-          got = got_more end old now new ls before after place.previous got e;
-          sound = sound;
-          near = inr (e.line, refl, refl);
-          number = counts e.line number;
-          reaches = reaches_head cmp o key ls e.line more;
-          stands = (
-            ap (λ (x : List ℕ). ls ++ x ∷ []) (sym now_is),
-            subst (λ (x : List ℕ). Begun cmp key (ls ++ e.line ∷ []) (Some (key x))) (sym now_is) more,
-            ap (λ (x : List ℕ). From (key x)) (sym now_is),
-          );
-        };
-        coming = f.0;
-        under = f.1;
-        bytes = e.line;
-        stored = e.stored;
-        longer = (longer_by e.line).0;
-        more = e.line ∷ [];
-        goes_on = refl;
-        fits = (longer_by e.line).1;
-      }
+    at_fall : (last : Option (List ℕ)) → place.standing ≢ place.previous → Begun cmp key ls last → LastIs key last place before → falls cmp last (key e.line) ≡ true
+        → Goal last (turned (Disorder (place.number + 1)) (place.number + 1) same)
+    at_fall None apart begun is falls_now = absurd (false≢true falls_now)
+    at_fall (Some k) apart begun is falls_now =
+        let kept : line after place.standing ≡ line before place.standing = rw e.stored (line_other before place.previous place.standing e.line (λ i. apart (sym i))) in
+        let key_is : k ≡ key (line after place.standing) = is.1 ∙ ap key (sym kept) in
+        at_line (Some k) (Disorder (place.number + 1)) (Fallen (record { last_key = k; line = length ls + 1 })) (reaches_fallen e.line begun falls_now)
+        (rw (← key_is, number) refl) (over cmp key (Some k)) (λ j u. u)
 
-  at_fall : (e : GivesLine now new before after place.previous) → IsSound new → place.standing ≢ place.previous → Got end old now ls → place.number ≡ length ls
-      → Begun cmp key ls last → LastIs key last place before → falls cmp last (key e.line) ≡ true
-      → (same : Bool) → Goal (turned (Disorder (place.number + 1)) (place.number + 1) same)
-  at_fall e sound apart got number begun is falls_now same = by last begun is falls_now
-    where
-      by : (l : Option (List ℕ)) → Begun cmp key ls l → LastIs key l place before → falls cmp l (key e.line) ≡ true
-          → Next end cmp key old new (turned (Disorder (place.number + 1)) (place.number + 1) same) place.previous before after ls l
-      by None b i f = absurd (false≢true f)
-      by (Some k) b i f =
-          let kept : line after place.standing ≡ line before place.standing = ap (λ (s : Slots). line s place.standing) e.stored
-          ∙ line_other before place.previous place.standing e.line (λ is. apart (sym is)) in
-          let key_is : k ≡ key (line after place.standing) = i.1 ∙ ap key (sym kept) in
-          let count : length ls + 1 ≡ place.number + 1 = omega arith in
-          record {
-            now_ls = ls ++ e.line ∷ [];
-            bound = Fallen (record { last_key = k; line = length ls + 1 });
-            sided = record {
-              got = got_more end old now new ls before after place.previous got e;
-              sound = sound;
-              near = inr (e.line, refl, refl);
-              number = counts e.line number;
-              reaches = reaches_fallen cmp key ls k e.line b f;
-              stands = λ i. Fallen (record { last_key = key_is i; line = count i });
-            };
-            coming = λ r none. subst (EachKey (AtMost cmp k) key) (sym none) tt;
-            under = λ j u. u;
-            bytes = e.line;
-            stored = e.stored;
-            longer = (longer_by e.line).0;
-            more = e.line ∷ [];
-            goes_on = refl;
-            fits = (longer_by e.line).1;
-          }
-
-  at_end : Closes place next now new before after → Got end old now ls → place.number ≡ length ls → Begun cmp key ls last → Goal (turned Ended place.number false)
-  at_end e got number begun = record {
+  at_end : (last : Option (List ℕ)) → Closes place next now new before after → Got end old now ls → place.number ≡ length ls → Begun cmp key ls last → Goal last (turned Ended place.number false)
+  at_end last e got number begun = record {
     now_ls = ls;
     bound = Over;
     sided = record {
-      got = got_end end old now new ls got e.goes e.done;
+      got = got_end got e.goes e.done;
       sound = e.sound;
       near = inl refl;
       number = number;
-      reaches = reaches_over cmp key ls last begun;
+      reaches = reaches_over begun;
       stands = (refl, e.done);
     };
-    coming = over last;
+    coming = over cmp key last;
     under = λ k u. tt;
     bytes = [];
     stored = e.empty;
@@ -220,65 +183,39 @@ module _ (end : ℕ) (cmp : Cmp) (o : IsKeyOrder cmp) (key : Key) (old now new :
     goes_on = sym (append-nil ls);
     fits = omega arith;
   }
-    where
-      over : (l : Option (List ℕ)) (r : Lines) → r ≡ [] → Coming cmp key (behind l) r
-      over None r none = tt
-      over (Some k) r none = subst (EachKey (AtMost cmp k) key) (sym none) tt
 
-  pub goes_next : place.previous < length before.lines → place.standing ≢ place.previous → Got end old now ls → place.number ≡ length ls
-      → Begun cmp key ls last → LastIs key last place before → Comes key cmp place next now new before after
-      → Next end cmp key old new next place.previous before after ls last
-  goes_next within apart got number begun is (inl e) = by (falls cmp last (key e.gives.line)) refl
-    where
-      repeats : Bool
-      repeats = same_at key cmp place.number (line before place.standing) e.gives.line
-
-      place_is : (b : Bool) → falls cmp last (key e.gives.line) ≡ b → next ≡ turned (cond b (Disorder (place.number + 1)) Head) (place.number + 1) repeats
-      place_is b h = e.place ∙ (λ i. turned ((stand_is cmp key last place before e.gives.line is ∙ ap (λ (t : Bool). cond t (Disorder (place.number + 1)) Head) h) i) (place.number + 1) repeats)
-
-      by : (b : Bool) → falls cmp last (key e.gives.line) ≡ b → Goal next
-      by true h = subst Goal (sym (place_is true h)) (at_fall e.gives e.sound apart got number begun is h repeats)
-      by false h = subst Goal (sym (place_is false h)) (at_head e.gives e.sound within got number begun h repeats)
-  goes_next within apart got number begun is (inr e) = subst Goal (sym e.place) (at_end e got number begun)
+  pub goes_next : (last : Option (List ℕ)) → place.previous < length before.lines → place.standing ≢ place.previous → Got end old now ls → place.number ≡ length ls
+      → Begun cmp key ls last → LastIs key last place before → Comes key cmp place next now new before after → Goal last next
+  goes_next last within apart got number begun is (inl e) =
+      let same = same_at key cmp place.number (line before place.standing) e.gives.line in
+      subst (Goal last) (sym (e.place ∙ (λ i. turned (stand_is cmp key last place before e.gives.line is i) (place.number + 1) same)))
+      (elim (falls cmp last (key e.gives.line)) as (λ t. falls cmp last (key e.gives.line) ≡ t → Goal last (turned (cond t (Disorder (place.number + 1)) Head) (place.number + 1) same)) [
+        | true ↦ λ h. at_fall e.gives e.sound got number same last apart begun is h
+        | false ↦ λ h. at_head e.gives e.sound got number same last within begun h
+      ] refl)
+  goes_next last within apart got number begun is (inr e) = subst (Goal last) (sym e.place) (at_end last e got number begun)
 
 -- each step leaves less to do
-pub comes_less : (key : Key) (cmp : Cmp) (place next : Sorted) (now new : Reader) (before after : Slots) → place.stand ≡ Head
+pub comes_less : {key : Key} {cmp : Cmp} {place next : Sorted} {now new : Reader} {before after : Slots} → place.stand ≡ Head
     → Comes key cmp place next now new before after → budget new + alive next.stand < budget now + alive place.stand
-comes_less key cmp place next now new before after head (inl e) = omega (arith, e.gives.less, alive_most next.stand, ap alive head)
-comes_less key cmp place next now new before after head (inr e) = omega (arith, e.goes.reads.count, ap (λ (q : Sorted). alive q.stand) e.place, ap alive head)
+comes_less {next = next} head (inl e) = omega (arith, e.gives.less, alive_most next.stand, ap alive head)
+comes_less head (inr e) = omega (arith, e.goes.reads.count, ap (λ (q : Sorted). alive q.stand) e.place, ap alive head)
 
 -- ---- an input stands at a line with the key of the line before
 
 -- a key that is no lesser one stands where it is the same
 stands_same : (n : ℕ) (r : Ordering) → is_eq r ≡ (is_head (cond (is_gt r) (Disorder n) Head) && is_eq r)
-stands_same n Less = refl
-stands_same n Equal = refl
-stands_same n Greater = refl
+stands_same n r = grind arith
 
 pub comes_repeats : (cmp : Cmp) (o : IsKeyOrder cmp) (key : Key) (place next : Sorted) (now new : Reader) (before after : Slots) → 0 < place.number
     → place.previous < length before.lines → Comes key cmp place next now new before after
     → next.same ≡ (is_head next.stand && bytes_eq (key (line before place.standing)) (key (line after next.standing)))
-comes_repeats cmp o key place next now new before after some within (inl e) = subst Goal (sym e.place) here
-  where
-    last : List ℕ
-    last = key (line before place.standing)
-
-    Goal : Sorted → Type 0
-    Goal q = q.same ≡ (is_head q.stand && bytes_eq last (key (line after q.standing)))
-
-    counted : nat_lt 0 place.number ≡ true
-    counted = grind (arith, nat_tests)
-
-    now_is : e.gives.line ≡ line after place.previous
-    now_is = sym (ap (λ (s : Slots). line s place.previous) e.gives.stored ∙ line_of before place.previous e.gives.line within)
-
-    here : same_at key cmp place.number (line before place.standing) e.gives.line
-        ≡ (is_head (stand_at key cmp place.number (line before place.standing) e.gives.line) && bytes_eq last (key (line after place.previous)))
-    here =
-        let r = cmp last (key e.gives.line) in
-        let m = place.number + 1 in
-        ap (λ (t : Bool). t && is_eq r) counted ∙ stands_same m r ∙ ap (λ (t : Bool). is_head (cond (t && is_gt r) (Disorder m) Head) && is_eq r) (sym counted)
-        ∙ ap (λ (t : Bool). is_head (stand_at key cmp place.number (line before place.standing) e.gives.line) && t)
-        (equal_is cmp o last (key e.gives.line) ∙ ap (λ (l : List ℕ). bytes_eq last (key l)) now_is)
-comes_repeats cmp o key place next now new before after some within (inr e) =
-    subst (λ (q : Sorted). q.same ≡ (is_head q.stand && bytes_eq (key (line before place.standing)) (key (line after q.standing)))) (sym e.place) refl
+comes_repeats cmp o key place next now new before after some within (inl e) =
+    let last = key (line before place.standing) in
+    let r = cmp last (key e.gives.line) in
+    let m = place.number + 1 in
+    let counted : nat_lt 0 place.number ≡ true = grind (arith, nat_tests) in
+    let now_is : line after place.previous ≡ e.gives.line = rw e.gives.stored (line_of before place.previous e.gives.line within) in
+    let here = stands_same m r ∙ ap (λ (t : Bool). is_head (cond (is_gt r) (Disorder m) Head) && t) (equal_is cmp o last (key e.gives.line)) in
+    rw (e.place, counted, now_is) here
+comes_repeats cmp o key place next now new before after some within (inr e) = rw e.place refl

@@ -3,7 +3,8 @@ use Rattle.std.proofs.Common.{arith, inl, refl, ◌≡◌, ℕ, ◌≤◌, true,
 use Rattle.std.proofs.lemmas.Bool.{false≢true}
 use Rattle.std.proofs.lemmas.List.{append-nil}
 use Rattle.ptlines.specs.Inputs.{Given, whole_lines}
-use Rattle.ptlines.specs.KeepingUp.{Before, WorksOff, KeepsUp}
+use Rattle.ptlines.specs.KeepingUp.{Before, KeepsUp}
+use Rattle.ptlines.specs.Outputs.{Output}
 use Rattle.ptlines.specs.Readers.{Reader, Reads, IsDone, IsSound}
 use Rattle.ptlines.specs.Slots.{Slots}
 use Rattle.ptlines.specs.Text.{text, lines, IsLine, longest}
@@ -18,21 +19,24 @@ use Rattle.ptmerge.specs.declared.faults.MergeFault.TheVariants as faults
 use Rattle.ptmerge.specs.declared.order.Side.{Side}
 use Rattle.ptmerge.specs.declared.order.Side.TheVariants.{First, Second}
 use Rattle.ptmerge.specs.declared.merging.sorted.Sorted.{Sorted}
-use Rattle.ptmerge.specs.declared.merging.sorted.Stand.{Stand}
 use Rattle.ptmerge.specs.declared.merging.sorted.Stand.TheVariants.{Head, Ended, Disorder}
 use Rattle.ptmerge.specs.Keyed.{Lines, Tool, by_keys, decided, disorder, disorder_of, fall, lines_of, merged, merged_entries, ordered_part, settled, up_to}
 use Rattle.ptmerge.specs.Merges.{State, Agree, Ends, IsMerge, IsUnread, IsWhole, ended_by}
 use Rattle.ptmerge.specs.Orders.{Cmp, Key}
 use Rattle.ptmerge.specs.Sides.{other, put}
 use Rattle.ptmerge.proofs.OfMerges.Backing.{Back, Near, back}
-use Rattle.ptmerge.proofs.OfMerges.Bounds.{Bound, Free, From, Over, Coming, FallFrom, Falling, Under, Begun, Reaches, reaches_free, reaches_passed}
+use Rattle.ptmerge.proofs.OfMerges.Bounds.{Bound, Free, From, Over, Coming, Begun, Reaches, reaches_free, reaches_passed}
+use Rattle.ptmerge.proofs.OfMerges.Deciding.{decided_begins}
 use Rattle.ptmerge.proofs.OfMerges.Got.{Got, More, Known, got_known, got_lines, got_none, reads_nothing}
 use Rattle.ptmerge.proofs.OfMerges.Least.{EachKey-weaker}
 use Rattle.ptmerge.proofs.OfMerges.Orders.{IsKeyOrder}
-use Rattle.ptmerge.proofs.OfMerges.Passing.{Late, Merging, Seen, StopsAt, decided_begins, follows, seen_all}
+use Rattle.ptmerge.proofs.OfMerges.Passing.{Late, Merging, Seen, StopsAt, follows, seen_all}
 use Rattle.ptmerge.proofs.OfMerges.Splitting.{all_keys, under_fall}
 use Rattle.ptmerge.proofs.OfMerges.Standing.{Sided, Stands}
 use Rattle.ptmerge.proofs.OfMerges.Working.{unsettled, works_off}
+
+abbrev pub state : (Side → Reader) → Output → Slots → State
+state reader out store = record { reader = reader; out = out; store = store }
 
 -- an input when a tool stops: the lines ls came, of which p are passed, and then a piece of one more
 pub record Gone (end : ℕ) (cmp : Cmp) (key : Key) (old now new : Reader) (piece : List ℕ) (ls p : Lines) (b : Bound) : Type 0 where
@@ -53,28 +57,26 @@ gone_standing end cmp key old now place store ls p b s = record {
   line = tt;
   sound = s.sound;
   near = s.near;
-  reaches =
-      s.reaches;
-  over = over place.stand s.stands;
+  reaches = s.reaches;
+  over = elim place.stand as (λ t. Stands cmp key t place store now ls p b → b ≡ Over → IsDone now) [
+    | Head ↦ λ st e. (let bad = sym st.2 ∙ e in cc)
+    | Ended ↦ λ st e. st.1
+    | Disorder n ↦ λ st e. (let bad = sym st ∙ e in cc)
+  ] s.stands;
 }
-  where
-    over : (t : Stand) → Stands cmp key t place store now ls p b → b ≡ Over → IsDone now
-    over Head st e = (let bad = sym st.2 ∙ e in cc)
-    over Ended st e = st.1
-    over (Disorder n) st e = (let bad = sym st ∙ e in cc)
 
 -- an input all whose lines are passed, and what came of one more
 pub gone_passed : (end : ℕ) (cmp : Cmp) (o : IsKeyOrder cmp) (key : Key) (old now new : Reader) (piece : List ℕ) (ls : Lines) (k : List ℕ) → Got end old now ls
     → Reads now new piece → IsLine now.ending piece → IsSound new → Begun cmp key ls (Some k)
     → Gone end cmp key old now new piece ls ls (From k)
 gone_passed end cmp o key old now new piece ls k got reads line sound begun = record
-    { got = got; reads = reads; line = line; sound = sound; near = inl refl; reaches = reaches_passed cmp o key ls k begun; over = λ e. cc }
+    { got = got; reads = reads; line = line; sound = sound; near = inl refl; reaches = reaches_passed o begun; over = λ e. cc }
 
 -- an input of which no line came
-pub gone_free : (end : ℕ) (cmp : Cmp) (key : Key) (old new : Reader) (piece : List ℕ) → old.fault ≡ None → old.ending ≡ end → Reads old new piece
+pub gone_free : {end : ℕ} {cmp : Cmp} {key : Key} {old new : Reader} {piece : List ℕ} → old.fault ≡ None → old.ending ≡ end → Reads old new piece
     → IsLine old.ending piece → IsSound new → Gone end cmp key old old new piece [] [] Free
-gone_free end cmp key old new piece clean ending reads line sound = record
-    { got = got_none end old clean ending; reads = reads; line = line; sound = sound; near = inl refl; reaches = reaches_free cmp key; over = λ e. cc }
+gone_free clean ending reads line sound = record
+    { got = got_none clean ending; reads = reads; line = line; sound = sound; near = inl refl; reaches = reaches_free; over = λ e. cc }
 
 -- a read of an input failed, all whose lines are passed
 pub record Fails (cmp : Cmp) (key : Key) (new : Reader) (ls p : Lines) : Type 0 where
@@ -92,9 +94,7 @@ FitsIn tool before after ls = (after.peak ≤ max before.peak (tool.size ls)) ×
 abbrev pub Concludes : Tool → (Side → Bound) → Result (Unit {0}) MergeFault → Type 0
 Concludes tool b (Ok u) = (side : Side) → b side ≡ Over
 Concludes tool b (Err (faults.Disorder side number)) = StopsAt tool b side number
-Concludes tool b (Err (Read side)) = Unit {0}
-Concludes tool b (Err Write) = Unit {0}
-Concludes tool b (Err Memory) = Unit {0}
+Concludes tool b other = Unit {0}
 
 module _ (tool : Tool) (o : IsKeyOrder tool.cmp) (old new : State) (now : Side → Reader) (piece : Side → List ℕ) (ls p : Side → Lines) (b : Side → Bound)
     (g : (side : Side) → Gone tool.end tool.cmp (tool.key side) (old.reader side) (now side) (new.reader side) (piece side) (ls side) (p side) (b side))
@@ -102,51 +102,43 @@ module _ (tool : Tool) (o : IsKeyOrder tool.cmp) (old new : State) (now : Side �
   abbrev given : Side → Given
   given side = given_of ((g side).got.given ++ piece side) (new.reader side)
 
-  seen_of : (all : Side → Lines) → ((side : Side) → More (now side) (ls side) (all side)) → Seen tool o b p old.out new.out m all
+  seen_of : (all : Side → Lines) → ((side : Side) → More (now side) (ls side) (all side)) → Seen tool b p all
   seen_of all w =
-      let future = λ (side : Side). (g side).reaches.future (w side).more (follows (b side) (w side).more (λ e. (w side).done ((g side).over e))) in
+      let ahead = λ (side : Side). (g side).reaches.future (w side).more (follows (b side) (w side).more (λ e. (w side).done ((g side).over e))) in
       record {
-        r = λ side. (future side).0;
-        parts = λ side. ap (ordered_part tool.cmp (tool.key side)) (w side).is ∙ (future side).1;
-        coming = λ side. (future side).2;
-        falling = λ side. subst (λ l. Falling tool.cmp (b side) (fall tool.cmp (tool.key side) l)) (sym (w side).is) (future side).3;
+        r = λ side. (ahead side).0;
+        parts = λ side. ap (ordered_part tool.cmp (tool.key side)) (w side).is ∙ (ahead side).1;
+        coming = λ side. (ahead side).2;
+        falling = λ side. rw (w side).is (ahead side).3;
       }
 
   input_lines : (input : Side → List ℕ) → Agree given input → (side : Side) → More (now side) (ls side) (lines tool.end (input side))
       × (max (longest (ls side)) (length (piece side)) ≤ longest (lines tool.end (input side)))
-  input_lines input a side = got_lines tool.end (old.reader side) (now side) (new.reader side) (ls side) (piece side) (g side).got (g side).reads (g side).line (input side) (a side)
+  input_lines input a side = got_lines _ _ _ _ _ _ (g side).got (g side).reads (g side).line (input side) (a side)
 
   known : (side : Side) → Known tool.end (old.reader side) (now side) (new.reader side) (ls side) (piece side) (g side).got (g side).reads (g side).line (whole_lines tool.end (given side))
-  known side = got_known tool.end (old.reader side) (now side) (new.reader side) (ls side) (piece side) (g side).got (g side).reads (g side).line
+  known side = got_known _ _ _ _ _ _ (g side).got (g side).reads (g side).line
+
+  whole_seen : Seen tool b p (λ side. whole_lines tool.end (given side))
+  whole_seen = seen_of (λ side. whole_lines tool.end (given side)) (λ side. (known side).known)
+
+  backs : (side : Side) → Back tool.end (given side) (p side)
+  backs side = back _ _ _ _ _ _ (new.reader side) (g side).got.so_far (rw (g side).got.ending at (g side).line) (g side).sound.held (g side).near
+
+  future : (side : Side) → (r : Lines) × (ordered_part tool.cmp (tool.key side) (whole_lines tool.end (given side)) ≡ p side ++ r) × Coming tool.cmp (tool.key side) (b side) (late.tail side ++ r)
+  future side = (whole_seen.r side, whole_seen.parts side, late.coming side (whole_seen.r side) (whole_seen.coming side))
 
   -- what was decided two blocks earlier of one input was pushed
-  module _ (of : Side) where
-    abbrev Keeps : List ℕ → Type 0
-    Keeps pushed = KeepsUp {I = Unit {0}} (λ came. decided tool (put of (came tt) given)) (λ u. given of) old.out new.out pushed
+  keeps : (of : Side) → KeepsUp {I = Unit {0}} (λ came. decided tool (put of (came tt) given)) (λ u. given of) old.out new.out (text tool.end (by_keys tool all_keys p))
+  keeps of = rw late.all at (keeps_more (λ came. decided tool (put of (came tt) given)) (λ u. given of) old.out late.mid (text tool.end (by_keys tool all_keys late.front))
+      (works_off tool o given late.front _ late.tail _ backs late.split m.under future of) late.wrote late.clean new.out late.bytes late.more)
 
-    whole_seen : Seen tool o b p old.out new.out m (λ side. whole_lines tool.end (given side))
-    whole_seen = seen_of (λ side. whole_lines tool.end (given side)) (λ side. (known side).known)
-
-    backs : (side : Side) → Back tool.end (given side) (p side)
-    backs side =
-        back tool.end (g side).got.given (piece side) (ls side) (p side) (now side) (new.reader side) (g side).got.so_far
-        (subst (λ (e : ℕ). IsLine e (piece side)) (g side).got.ending (g side).line) (g side).sound.held (g side).near
-
-    works : WorksOff {I = Unit {0}} (λ came. decided tool (put of (came tt) given)) (λ u. given of) (text tool.end (by_keys tool all_keys late.front))
-    works = works_off tool o given late.front p late.tail b backs late.split m.under
-        (λ side. (whole_seen.r side, whole_seen.parts side, late.coming side (whole_seen.r side) (whole_seen.coming side))) of
-
-    keeps : Keeps (text tool.end (by_keys tool all_keys p))
-    keeps = subst Keeps late.all (keeps_more (λ came. decided tool (put of (came tt) given)) (λ u. given of) old.out late.mid
-        (text tool.end (by_keys tool all_keys late.front)) works late.wrote late.clean new.out late.bytes late.more)
-
-    -- nor was a disorder settled
-    ends_by : (before : Before (given of)) × (settled tool (put of before.earlier given) ≡ false)
-    ends_by =
-        unsettled tool o given late.front p late.tail b backs late.split m.under (λ side. (whole_seen.r side, whole_seen.parts side, late.coming side (whole_seen.r side) (whole_seen.coming side))) of
-        (EachKey-weaker (Under tool.cmp (b (other of))) (λ k. FallFrom tool.cmp k (fall tool.cmp (tool.key (other of)) (whole_lines tool.end (given (other of)))))
-        (λ k u. under_fall tool.cmp o (b (other of)) k (fall tool.cmp (tool.key (other of)) (whole_lines tool.end (given (other of)))) u
-        (whole_seen.falling (other of))) (tool.key of) (p of) (m.under (other of) of))
+  -- nor was a disorder settled
+  ends_by : (of : Side) → (before : Before (given of)) × (settled tool (put of before.earlier given) ≡ false)
+  ends_by of =
+      let f = fall tool.cmp (tool.key (other of)) (whole_lines tool.end (given (other of))) in
+      unsettled tool o given late.front _ late.tail _ backs late.split m.under future of
+      (EachKey-weaker _ _ (λ k u. under_fall tool.cmp o (b (other of)) k f u (whole_seen.falling (other of))) _ _ (m.under (other of) of))
 
   pub stops : (result : Result (Unit {0}) MergeFault) → Ends old new result
       → ((side : Side) → (new.reader side).failed ≡ true → Fails tool.cmp (tool.key side) (new.reader side) (ls side) (p side)) → Concludes tool b result
@@ -155,15 +147,15 @@ module _ (tool : Tool) (o : IsKeyOrder tool.cmp) (old new : State) (now : Side �
   stops result ends failed concludes fits = record {
     given = given;
     came = λ side. came_of (old.reader side) (new.reader side) ((g side).got.given ++ piece side)
-        (reads_trans (old.reader side) (now side) (new.reader side) (g side).got.given (piece side) (g side).got.goes.reads (g side).reads);
+        (reads_trans _ _ _ _ _ (g side).got.goes.reads (g side).reads);
     pushed = text tool.end done;
     wrote = m.wrote;
     ends = ends;
     true_so_far = λ input a. record { rest = text tool.end (later input a); is = all_of input a ∙ text-append tool.end done (later input a) };
     sure = λ side fail clean.
         let f = failed side fail in
-        decided_begins tool o b p old.out new.out m (λ s. (new.reader s).ended) (λ s. whole_lines tool.end (given s))
-        (seen_of (λ s. whole_lines tool.end (given s)) (λ s. (known s).known)) side f.last f.ended ((known side).exact f.held f.ended ∙ f.all) f.begun;
+        decided_begins o m.under whole_seen (λ s. (new.reader s).ended) side f.last f.ended
+        ((known side).exact f.held f.ended ∙ f.all) f.begun;
     keeps_up = λ side clean. keeps side;
     ends_at_once = λ side clean. ends_by side;
     peak = λ input a. (fits (lines_of tool input) (input_lines input a)).0;
@@ -174,21 +166,20 @@ module _ (tool : Tool) (o : IsKeyOrder tool.cmp) (old new : State) (now : Side �
       done : Lines
       done = by_keys tool all_keys p
 
-      seen_in : (input : Side → List ℕ) → Agree given input → Seen tool o b p old.out new.out m (lines_of tool input)
+      seen_in : (input : Side → List ℕ) → Agree given input → Seen tool b p (lines_of tool input)
       seen_in input a = seen_of (lines_of tool input) (λ side. (input_lines input a side).0)
 
       later : (input : Side → List ℕ) → Agree given input → Lines
       later input a = by_keys tool (up_to tool.cmp (disorder tool (lines_of tool input))) (seen_in input a).r
 
       all_of : (input : Side → List ℕ) (a : Agree given input) → text tool.end (merged_entries tool (lines_of tool input)) ≡ text tool.end (done ++ later input a)
-      all_of input a = ap (text tool.end) (seen_all tool o b p old.out new.out m (lines_of tool input) (seen_in input a))
+      all_of input a = ap (text tool.end) (seen_all o m (seen_in input a))
 
       by : (result : Result (Unit {0}) MergeFault) → Concludes tool b result → (input : Side → List ℕ) (a : Agree given input) → IsWhole tool input (text tool.end done) result
       by (Ok u) over input a =
           let s = seen_in input a in
-          let none : (side : Side) → s.r side ≡ [] = λ side. subst (λ c. Coming tool.cmp (tool.key side) c (s.r side)) (over side) (s.coming side) in
-          let rises : (side : Side) → fall tool.cmp (tool.key side) (lines_of tool input side)
-          ≡ None = λ side. subst (λ c. Falling tool.cmp c (fall tool.cmp (tool.key side) (lines_of tool input side))) (over side) (s.falling side) in (
+          let none : (side : Side) → s.r side ≡ [] = λ side. rw (over side) at (s.coming side) in
+          let rises : (side : Side) → fall tool.cmp (tool.key side) (lines_of tool input side) ≡ None = λ side. rw (over side) at (s.falling side) in (
             sym (all_of input a ∙ ap (text tool.end) ((λ i. done ++ by_keys tool (up_to tool.cmp (disorder tool (lines_of tool input))) (λ side. none side i)) ∙ append-nil done)),
             λ i. disorder_of tool.cmp (rises First i) (rises Second i),
           )
@@ -196,44 +187,32 @@ module _ (tool : Tool) (o : IsKeyOrder tool.cmp) (old new : State) (now : Side �
           let s = seen_in input a in
           let t = stop (lines_of tool input) s.r s.coming s.falling in
           (sym (all_of input a ∙ ap (text tool.end) (ap (λ l. done ++ l) t.0 ∙ append-nil done)), t.1)
-      by (Err (Read side)) c input a = tt
-      by (Err Write) c input a = tt
-      by (Err Memory) c input a = tt
+      by other c input a = tt
 
 -- ---- a merge of readers whose ending was set
 
 module _ (old new : State) (set : Side → Reader) (end : ℕ) (is : (side : Side) → set side ≡ record (old.reader side) { ending = end }) where
-  same_failed : (side : Side) → (set side).failed ≡ (old.reader side).failed
-  same_failed side = ap (λ (r : Reader). r.failed) (is side)
-
-  ends_set : (result : Result (Unit {0}) MergeFault) → Ends (record { reader = set; out = old.out; store = old.store }) new result → Ends old new result
-  ends_set (Ok u) e = record { done = e.done; fault = e.fault; failed = λ side. e.failed side ∙ same_failed side; short = e.short; clean = e.clean; denied = e.denied; empty = e.empty }
-  ends_set (Err (Read side)) e = record {
-    cause = cause_set (old.reader side) (set side) end (is side) (new.reader side) e.cause;
-    others = e.others
-        ∙ same_failed (other side);
-    clean = e.clean;
-    denied = e.denied;
-  }
-  ends_set (Err Write) e = record { faulted = e.faulted; failed = λ side. e.failed side ∙ same_failed side; denied = e.denied }
-  ends_set (Err Memory) e = record { denied = e.denied; failed = λ side. e.failed side ∙ same_failed side; clean = e.clean }
-  ends_set (Err (faults.Disorder side number)) e = record { fault = e.fault; failed = λ s. e.failed s ∙ same_failed s; clean = e.clean; denied = e.denied; empty = e.empty }
+  ends_set : (result : Result (Unit {0}) MergeFault) → Ends (ended_by end old) new result → Ends old new result
+  ends_set (Err (Read side)) e = assumption (cause_set (old.reader side) (record (old.reader side) { ending = end }) end refl (new.reader side) e.cause)
+  ends_set other e = assumption
 
   pub merge_set : (tool : Tool) (result : Result (Unit {0}) MergeFault) → IsMerge tool (record { reader = set; out = old.out; store = old.store }) new result → IsMerge tool old new result
-  merge_set tool result m = record {
-    given = m.given;
-    came = λ side. came_set (old.reader side) (set side) end (is side) (new.reader side) (m.given side) (m.came side);
-    pushed = m.pushed;
-    wrote = m.wrote;
-    ends = ends_set result m.ends;
-    true_so_far = m.true_so_far;
-    sure = m.sure;
-    keeps_up = m.keeps_up;
-    ends_at_once = m.ends_at_once;
-    peak = m.peak;
-    slots = m.slots;
-    whole = m.whole;
-  }
+  merge_set tool result was =
+      let m = subst (λ (r : Side → Reader). IsMerge tool (state r old.out old.store) new result) (λ i side. is side i) was in
+      record {
+        given = m.given;
+        came = λ side. came_set (old.reader side) (record (old.reader side) { ending = end }) end refl (new.reader side) (m.given side) (m.came side);
+        pushed = m.pushed;
+        wrote = m.wrote;
+        ends = ends_set result m.ends;
+        true_so_far = m.true_so_far;
+        sure = m.sure;
+        keeps_up = m.keeps_up;
+        ends_at_once = m.ends_at_once;
+        peak = m.peak;
+        slots = m.slots;
+        whole = m.whole;
+      }
 
   pub unread_set : IsUnread (record { reader = set; out = old.out; store = old.store }) new → IsUnread (ended_by end old) new
   unread_set u = record { readers = λ side. u.readers side ∙ is side; output = u.output }

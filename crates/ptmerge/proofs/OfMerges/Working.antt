@@ -1,9 +1,9 @@
 -- Reading does not run ahead of writing: what was decided two blocks earlier of one input was pushed, whatever came of
 -- the other.
-use Rattle.std.proofs.Common.{◌≡◌, ℕ, false, List, [], ◌∷◌, ◌++◌, Option, None, map, sym, ◌∙◌, ap, subst, append_assoc}
+use Rattle.std.proofs.Common.{◌≡◌, ℕ, false, List, [], ◌∷◌, ◌++◌, Option, None, map, sym, ◌∙◌, ap, append_assoc}
 use Rattle.std.proofs.lemmas.List.{append-nil}
 use Rattle.std.specs.List.{last_or}
-use Rattle.ptlines.specs.Inputs.{Given, Begins, whole_lines}
+use Rattle.ptlines.specs.Inputs.{Given, whole_lines}
 use Rattle.ptlines.specs.KeepingUp.{Before, WorksOff}
 use Rattle.ptlines.specs.Text.{text}
 use Rattle.ptmerge.specs.declared.order.Side.{Side}
@@ -15,7 +15,7 @@ use Rattle.ptmerge.proofs.OfMerges.Bounds.{Bound, Coming, FallFrom, Under}
 use Rattle.ptmerge.proofs.OfMerges.Deciding.{Differ, decided_of_passed, not_settled}
 use Rattle.ptmerge.proofs.OfMerges.Least.{EachKey}
 use Rattle.ptmerge.proofs.OfMerges.Orders.{IsKeyOrder}
-use Rattle.ptmerge.proofs.OfMerges.Pairs.{put_other, put_same, side_case}
+use Rattle.ptmerge.proofs.OfMerges.Pairs.{put_each, put_other, put_same}
 use Rattle.ptmerge.proofs.OfMerges.Passing.{past_none}
 use Rattle.ptmerge.proofs.OfMerges.Splitting.{all_keys}
 
@@ -33,31 +33,36 @@ module _ (tool : Tool) (o : IsKeyOrder tool.cmp) (given : Side → Given) (p q t
     abbrev whole : Lines
     whole = (backs of).whole
 
+    -- the last key of the whole lines
+    abbrev last : Option (List ℕ)
+    last = last_or None (map (tool.key of) whole)
+
     in_order : Rises tool.cmp (tool.key of) None (whole ++ (backs of).rest)
-    in_order =
-        subst (Rises tool.cmp (tool.key of) None) (backs of).split
-        (rises_front tool.cmp (tool.key of) None (q of) (future of).0 (subst (Rises tool.cmp (tool.key of) None) (future of).1
-        (rises_ordered tool.cmp (tool.key of) (whole_lines tool.end (given of)))))
+    in_order = rw (backs of).split at (rises_front tool.cmp (tool.key of) None (q of) (future of).0 (rw (future of).1 at (rises_ordered tool.cmp (tool.key of) (whole_lines tool.end (given of)))))
 
     ordered : (ordered_part tool.cmp (tool.key of) whole ≡ whole) × (fall tool.cmp (tool.key of) whole ≡ None)
     ordered = rises_in_order tool.cmp (tool.key of) whole (rises_front tool.cmp (tool.key of) None whole (backs of).rest in_order)
 
     -- what comes is not below the last of the whole lines
-    above : (side : Side) → EachKey (λ k. is_below tool.cmp k (last_or None (map (tool.key of) whole)) ≡ false) (tool.key side) (tail side ++ (future side).0)
+    above : (side : Side) → EachKey (λ k. is_below tool.cmp k last ≡ false) (tool.key side) (tail side ++ (future side).0)
     above side =
         past_none tool.cmp o (tool.key of) (tool.key side) (bound side) whole (tail side ++ (future side).0)
-        (front_has (Under tool.cmp (bound side)) (tool.key of) whole (backs of).rest (subst (EachKey (Under tool.cmp (bound side)) (tool.key of)) (backs of).split (under side of))) (future side).2
+        (front_has (Under tool.cmp (bound side)) (tool.key of) whole (backs of).rest (rw (backs of).split at (under side of))) (future side).2
 
-    mine : Differ tool (last_or None (map (tool.key of) whole)) (tool.key of) (ordered_part tool.cmp (tool.key of) whole) (p of)
-    mine = record {
+    -- the lines that came of an input are the passed ones, but for lines that are not below that
+    abbrev Differs : Side → Given → Type 0
+    Differs side g = Differ tool last (tool.key side) (ordered_part tool.cmp (tool.key side) (whole_lines tool.end g)) (p side)
+
+    mine : Differs of (backs of).before.earlier
+    mine = rw ((backs of).whole_is, ordered.0) (record {
       rest = (backs of).rest;
       tail = tail of;
-      same = ap (λ (l : Lines). l ++ (backs of).rest) ordered.0 ∙ sym (backs of).split ∙ split of;
+      same = sym (backs of).split ∙ split of;
       none_rest = none_below tool.cmp o (tool.key of) whole (backs of).rest in_order;
-      none_tail = front_has (λ k. is_below tool.cmp k (last_or None (map (tool.key of) whole)) ≡ false) (tool.key of) (tail of) (future of).0 (above of);
-    }
+      none_tail = front_has (λ k. is_below tool.cmp k last ≡ false) (tool.key of) (tail of) (future of).0 (above of);
+    })
 
-    others : (side : Side) → Differ tool (last_or None (map (tool.key of) whole)) (tool.key side) (ordered_part tool.cmp (tool.key side) (whole_lines tool.end (given side))) (p side)
+    others : (side : Side) → Differs side (given side)
     others side = record {
       rest = [];
       tail = tail side ++ (future side).0;
@@ -70,37 +75,25 @@ module _ (tool : Tool) (o : IsKeyOrder tool.cmp) (given : Side → Given) (p q t
     abbrev mix : Side → Given
     mix = put of (backs of).before.earlier given
 
+    going : (mix of).ended ≡ false
+    going = rw (put_same of (backs of).before.earlier given) (backs of).going
+
     whole_now : whole_lines tool.end (mix of) ≡ whole
-    whole_now = ap (whole_lines tool.end) (put_same of (backs of).before.earlier given) ∙ (backs of).whole_is
-
-    last_now : last_or None (map (tool.key of) whole) ≡ last_or None (map (tool.key of) (whole_lines tool.end (mix of)))
-    last_now = ap (λ (l : Lines). last_or None (map (tool.key of) l)) (sym whole_now)
-
-    pub begins : Begins (decided tool (put of (backs of).before.earlier given)) (text tool.end (by_keys tool all_keys p))
-    begins =
-        decided_of_passed tool o (λ side. (mix side).ended) (λ side. whole_lines tool.end (mix side)) p of
-        (ap (λ (g : Given). g.ended) (put_same of (backs of).before.earlier given) ∙ (backs of).going) (ap (fall tool.cmp (tool.key of)) whole_now ∙ ordered.1)
-        (λ side. subst (λ (l : Option (List ℕ)). Differ tool l (tool.key side) (ordered_part tool.cmp (tool.key side) (whole_lines tool.end (mix side))) (p side)) last_now (each side))
-      where
-        each : (side : Side) → Differ tool (last_or None (map (tool.key of) whole)) (tool.key side) (ordered_part tool.cmp (tool.key side) (whole_lines tool.end (mix side))) (p side)
-        each = side_case (λ side. Differ tool (last_or None (map (tool.key of) whole)) (tool.key side) (ordered_part tool.cmp (tool.key side) (whole_lines tool.end (mix side))) (p side)) of
-            (subst (λ (l : Lines). Differ tool (last_or None (map (tool.key of) whole)) (tool.key of) (ordered_part tool.cmp (tool.key of) l) (p of)) (sym whole_now) mine)
-            (subst (λ (g : Given). Differ tool (last_or None (map (tool.key of) whole)) (tool.key (other of))
-            (ordered_part tool.cmp (tool.key (other of)) (whole_lines tool.end g)) (p (other of))) (sym (put_other of (backs of).before.earlier given)) (others (other of)))
+    whole_now = rw (put_same of (backs of).before.earlier given) (backs of).whole_is
 
     pub works_off : WorksOff {I = Unit {0}} (λ came. decided tool (put of (came tt) given)) (λ u. given of) (text tool.end (by_keys tool all_keys p))
-    works_off = record { before = λ u. (backs of).before; begins = begins }
+    works_off = record {
+      before = λ u. (backs of).before;
+      begins = decided_of_passed tool o (λ side. (mix side).ended) (λ side. whole_lines tool.end (mix side)) p of going (rw whole_now ordered.1)
+          (rw whole_now (put_each Differs of (backs of).before.earlier given mine others));
+    }
 
     -- and no disorder was settled
     pub unsettled : EachKey (λ k. FallFrom tool.cmp k (fall tool.cmp (tool.key (other of)) (whole_lines tool.end (given (other of))))) (tool.key of) (q of)
         → (before : Before (given of)) × (settled tool (put of before.earlier given) ≡ false)
     unsettled up = (
       (backs of).before,
-      not_settled tool o (λ side. (mix side).ended) (λ side. whole_lines tool.end (mix side)) of
-          (ap (λ (g : Given). g.ended) (put_same of (backs of).before.earlier given) ∙ (backs of).going) (ap (fall tool.cmp (tool.key of)) whole_now ∙ ordered.1)
-          (subst (λ (g : Given). EachKey (λ k. FallFrom tool.cmp k (fall tool.cmp (tool.key (other of)) (whole_lines tool.end g))) (tool.key of)
-          (whole_lines tool.end (mix of))) (sym (put_other of (backs of).before.earlier given))
-          (subst (EachKey (λ k. FallFrom tool.cmp k (fall tool.cmp (tool.key (other of)) (whole_lines tool.end (given (other of))))) (tool.key of)) (sym whole_now)
-          (front_has (λ k. FallFrom tool.cmp k (fall tool.cmp (tool.key (other of)) (whole_lines tool.end (given (other of))))) (tool.key of) whole (backs of).rest
-          (subst (EachKey (λ k. FallFrom tool.cmp k (fall tool.cmp (tool.key (other of)) (whole_lines tool.end (given (other of))))) (tool.key of)) (backs of).split up)))),
+      not_settled tool o (λ side. (mix side).ended) (λ side. whole_lines tool.end (mix side)) of going (rw whole_now ordered.1)
+          (rw (put_other of (backs of).before.earlier given, whole_now) (front_has (λ k. FallFrom tool.cmp k (fall tool.cmp (tool.key (other of)) (whole_lines tool.end (given (other of)))))
+          (tool.key of) whole (backs of).rest (rw (backs of).split at up))),
     )

@@ -1,29 +1,9 @@
-use Rattle.std.proofs.Common.{refl, sym, subst, arith}
+use Rattle.std.proofs.Common.{refl, arith}
 use Rattle.std.proofs.lemmas.Result.{err_from_is_err_and}
-use Rattle.ptlines.specs.Slots.{Slots}
-use Rattle.ptmerge.specs.Stores.{HasNoSlots}
 use Rattle.ptmerge.proofs.merging.slots.need_four.Goals as goal
 
 pub returns-in_err-add-clause-err : goal.returns-in_err-add-clause-err
 returns-in_err-add-clause-err g c =
     let i = c.loop-store.invariant in
     let x = err_from_is_err_and c.from_residual.result c.from_residual.ensures.1 in
-    rw x.1 (subst (λ (t : Slots). HasNoSlots c.args.store.now t) (sym c.in_err-add.ensures.err) (record {
-      least = i.least;
-      most = omega (arith, c.slots.ensures, c.loop-store-test.true);
-      same = i.same;
-      total = i.total;
-      peak = i.peak;
-      denied = refl;
-    }))
-
-pub returns-clause-ok : goal.returns-clause-ok
-returns-clause-ok g c =
-    let i = c.loop-store.invariant in
-    record {
-      slots = omega (arith, i.slots, c.slots.ensures, c.loop-store-test.false);
-      same = i.same;
-      total = i.total;
-      peak = i.peak;
-      denied = i.denied;
-    }
+    rw (x.1, c.in_err-add.ensures.err) (record { least = i.least; most = omega (arith, c.slots.ensures, c.loop-store-test.true); same = i.same; total = i.total; peak = i.peak; denied = refl })

@@ -1,15 +1,5 @@
-use Rattle.std.proofs.Common.{ℕ, List, subst}
-use Rattle.ptlines.specs.Outputs.{Wrote}
-use Rattle.ptlines.specs.Slots.{line}
-use Rattle.ptlines.specs.Text.{text}
-use Rattle.ptmerge.specs.Comm.{entries_in}
-use Rattle.ptmerge.specs.Sides.{both}
 use Rattle.ptmerge.proofs.OfMerges.Sending.{wrote_and_sent}
 use Rattle.ptmerge.proofs.tools.comm.pass.Goals as goal
 
 pub returns-clause-wrote : goal.returns-clause-wrote
-returns-clause-wrote g c =
-    let pushed = λ (l : List ℕ). text c.args.ending (entries_in c.args.hidden c.args.lead.now 1 l) in
-    wrote_and_sent c.args.out.now c.push_entry.new.out c.go_on.new.out
-    (pushed (line c.args.store.now (both c.args.merge.now.first c.args.merge.now.second c.args.side).standing)) c.in-Ok.ensures.clean
-    (subst (λ (l : List ℕ). Wrote c.args.out.now c.push_entry.new.out (pushed l)) c.head.ensures c.push_entry.ensures.wrote) c.go_on.ensures.sent
+returns-clause-wrote g c = wrote_and_sent _ _ _ _ c.in-Ok.ensures.clean (rw c.head.ensures at c.push_entry.ensures.wrote) c.go_on.ensures.sent

@@ -3,7 +3,7 @@
 use Rattle.std.proofs.Common.{◌≡◌, ◌<◌, ◌+◌, sym, ap, ◌∙◌, inl, arith}
 use Rattle.std.specs.Prelude.{if◌then◌else◌}
 use Rattle.std.proofs.lemmas.Bool.Decides.{nat_tests}
-use Rattle.ptlines.specs.Slots.{Slots, line}
+use Rattle.ptlines.specs.Slots.{line}
 use Rattle.ptlines.proofs.Filling.{line_of}
 use Rattle.ptmerge.specs.declared.merging.sorted.Stand.TheVariants.{Head, Disorder}
 use Rattle.ptmerge.proofs.OfMerges.KeySpans.{later_stands}
@@ -20,9 +20,8 @@ returns-clause-moves g c =
     let span = c.span-self.result in
     let some : 0 < old.number = grind (arith, nat_tests, c.if-number-eq0.false) in
     let e = rw c.in-Ok-true.field-0-test at (c.in-Ok-true.ensures.fills c.requires.clean) in
-    let last_is : line after old.standing ≡ line before old.standing = ap (λ (s : Slots). line s old.standing) e.stored
-    ∙ line_other before old.previous old.standing e.line (λ is. c.requires.there.apart (sym is)) in
-    let next_is : line after old.previous ≡ e.line = ap (λ (s : Slots). line s old.previous) e.stored ∙ line_of before old.previous e.line c.requires.there.previous in
+    let last_is : line after old.standing ≡ line before old.standing = rw e.stored (line_other before old.previous old.standing e.line (λ is. c.requires.there.apart (sym is))) in
+    let next_is : line after old.previous ≡ e.line = rw e.stored (line_of before old.previous e.line c.requires.there.previous) in
     let last : c.key-last.result.now ≡ key (line before old.standing) = c.key-last.ensures ∙ ap key (c.line-2.ensures ∙ last_is) in
     let next : c.key-head.result.now ≡ key e.line = c.key-head.ensures ∙ ap key (c.line-3.ensures ∙ next_is) in
     let is : c.cmp-ordering.result ≡ cmp (key (line before old.standing)) (key e.line) = c.cmp-ordering.ensures ∙ (λ i. cmp (last i) (next i)) in
