@@ -1,5 +1,5 @@
 -- What the slots of the cells of a row hold.
-use Rattle.std.proofs.Common.{◌≡◌, ℕ, suc, ◌+◌, ◌<◌, ◌≤◌, false, List, [], ◌∷◌, length, take, drop, set, get_or, sym, ◌∙◌, ap, arith, ⊎_elim, take-append-drop}
+use Rattle.std.proofs.Common.{◌≡◌, ℕ, suc, ◌+◌, ◌<◌, ◌≤◌, false, List, [], ◌∷◌, length, take, drop, set, get_or, refl, sym, ◌∙◌, ap, arith, ⊎_elim, take-append-drop}
 use Rattle.std.specs.Prelude.{sum_by}
 use Rattle.std.proofs.lemmas.Bool.{cases_eq}
 use Rattle.std.proofs.lemmas.List.{length-set, drop-set-lt, get_or-set_same, get_or-set_other}
@@ -21,6 +21,10 @@ total_split width ls = ap total (sym (take-append-drop width ls)) ∙ sum_by-app
 pub cells_total : (cells : List ℕ) (top : ℕ → ℕ) (ls : List (List ℕ)) → ((c : ℕ) → c < length cells → length (get_or ls c []) ≤ top (get_or cells c 0))
     → total (drop (length cells) ls) ≡ 0 → total ls ≤ sum_by top cells
 cells_total cells top ls short others = omega (arith, total_split (length cells) ls, front_total top cells ls short, others)
+
+pub none_in : (cells : List ℕ) → sum_by (λ (p : ℕ). 0) cells ≡ 0
+none_in [] = refl
+none_in (x ∷ cells) = omega (arith, sum_by-cons (λ (p : ℕ). 0) x cells, none_in cells)
 
 pub cells_start : (cells : List ℕ) (top : ℕ → ℕ) (before store : Slots) → Adds before store (length cells) → store.denied ≡ false → total store.lines ≡ 0
     → store.peak ≡ before.peak → KeepsCells cells top before store

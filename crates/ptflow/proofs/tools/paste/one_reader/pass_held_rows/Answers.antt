@@ -1,5 +1,5 @@
 -- What the reader at the place of the first cell holds begins with whole rows, and what was put of them is pushed.
-use Rattle.std.proofs.Common.{ℕ, ◌<◌, length, take, set, get_or, sym, ◌∙◌, ap, subst, arith}
+use Rattle.std.proofs.Common.{ℕ, ◌<◌, length, get_or, sym, ◌∙◌, ap, subst, arith}
 use Rattle.std.proofs.lemmas.List.Elements.{All-get_or}
 use Rattle.std.proofs.lemmas.Result.{err_from_is_err_and}
 use borrow.Author.Rules.{scaled_Fits}
@@ -14,29 +14,18 @@ pub returns-in_err-push : goal.returns-in_err-push
 returns-in_err-push g c =
     let e = err_from_is_err_and c.from_residual.result c.from_residual.ensures.1 in
     let t = subst (AreTurnsOfOne c.args.delims.now c.args.cells.now) (sym c.deref.ensures.0) ((rw c.in-Some.is at c.requires.in_turn).0) in
-    pushed_breaks c.args.ending c.args.delims.now c.args.cells.now c.args.readers.now
-    (set c.args.readers.now (get_or c.args.cells.now 0 0) c.consume.new.self) c.args.out.now c.push.new.self c.from_residual.result e.0 e.1
-    (record {
-      written = take c.put_held_rows-count.result c.put_held_rows-count.new.into;
-      held = held_put c.args.ending c.args.delims.now c.args.cells.now c.deref.result.now t c.args.readers.now c.requires.within c.requires.readable
-          c.index-readers-place.result c.held-bytes.ensures.sound c.held-bytes.result.now c.held-bytes.ensures.held
-          c.put_held_rows-count.result (omega (arith, c.if-count-eq0.false)) c.put_held_rows-count.ensures.within c.put_held_rows-count.ensures.rows
-          c.index-readers-place-2.result c.consume.new.self c.consume.ensures.consumed (take c.put_held_rows-count.result c.put_held_rows-count.new.into) c.put_held_rows-count.ensures.put;
-      wrote = c.push.ensures.wrote;
-    })
+    let put = c.put_held_rows-count.ensures in
+    pushed_breaks e.1
+    (held_put t c.requires.within c.requires.readable c.index-readers-place.result c.held-bytes.ensures.sound c.held-bytes.ensures.held
+    (omega (arith, c.if-count-eq0.false)) put.within put.rows c.index-readers-place-2.result c.consume.ensures.consumed put.put c.push.ensures.wrote)
     c.in_err-push.ensures.fault
 
 pub returns : goal.returns
 returns g c =
-    let t = subst (AreTurnsOfOne c.args.delims.now c.args.cells.now) (sym c.deref.ensures.0) ((rw c.in-Some.is at c.requires.in_turn).0) in (
-      record {
-        written = take c.put_held_rows-count.result c.put_held_rows-count.new.into;
-        held = held_put c.args.ending c.args.delims.now c.args.cells.now c.deref.result.now t c.args.readers.now c.requires.within c.requires.readable
-            c.index-readers-place.result c.held-bytes.ensures.sound c.held-bytes.result.now c.held-bytes.ensures.held
-            c.put_held_rows-count.result (omega (arith, c.if-count-eq0.false)) c.put_held_rows-count.ensures.within c.put_held_rows-count.ensures.rows
-            c.index-readers-place-2.result c.consume.new.self c.consume.ensures.consumed (take c.put_held_rows-count.result c.put_held_rows-count.new.into) c.put_held_rows-count.ensures.put;
-        wrote = c.push.ensures.wrote;
-      },
+    let t = subst (AreTurnsOfOne c.args.delims.now c.args.cells.now) (sym c.deref.ensures.0) ((rw c.in-Some.is at c.requires.in_turn).0) in
+    let put = c.put_held_rows-count.ensures in (
+      held_put t c.requires.within c.requires.readable c.index-readers-place.result c.held-bytes.ensures.sound c.held-bytes.ensures.held
+          (omega (arith, c.if-count-eq0.false)) put.within put.rows c.index-readers-place-2.result c.consume.ensures.consumed put.put c.push.ensures.wrote,
       c.in_ok-push.ensures.clean,
     )
 
