@@ -252,7 +252,7 @@ module _ {job : Paste} {cells : List ℕ} {old set now : List Reader} {was is : 
     given_is p = sym (append_assoc (s.gives.took p).bytes (took_to p).bytes (piece_of p).0)
 
     kept_to : (top : ℕ → ℕ) → ((p : ℕ) → longest (s.ls p ++ b.got p) ≤ top p) → length piece ≤ top here → KeepsCells cells top first (with_line b.held b.column piece)
-    kept_to top high fits = cells_line cells top first b.held (with_line b.held b.column piece) b.column piece (row_kept s b.taken top high) b.within fits refl
+    kept_to top high fits = cells_line (row_kept s b.taken top high) b.column piece b.within fits
 
     some_kept : KeepsCells cells (λ p. longest (s.ls p ++ b.got p) + length piece) first (with_line b.held b.column piece)
     some_kept = kept_to (λ p. longest (s.ls p ++ b.got p) + length piece) (λ p. omega arith) (omega arith)

@@ -180,7 +180,7 @@ pasting_starts {job} {cells} {was = was} {first = first} {store = store} starts 
   gives = record { took = λ p. took_nothing (omega arith); on = λ more may. refl; count = refl };
   wrote = wrote_nothing was;
   clean = starts.writable;
-  kept = λ top high. cells_start cells top first store adds allowed empty peak;
+  kept = λ top high. cells_start adds allowed empty peak;
 }
 
 module _ {job : Paste} {cells : List ℕ} {old set now : List Reader} {was is : Output} {first store : Slots} (s : Pasting job cells old set now was is first store) where

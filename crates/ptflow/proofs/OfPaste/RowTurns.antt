@@ -144,8 +144,8 @@ module _ {cells : List ℕ} {n : ℕ} {old now : List Reader} {before store : Sl
         (cases_eq c n);
     count = length-set now place r ∙ t.count;
     same = ap (λ (s : Slots). length s.lines) stored ∙ length-set store.lines n bytes ∙ t.same;
-    kept = λ first top k high. cells_line cells top first store after n bytes (t.kept first top k (λ q. omega (arith, high q, more_long place ls got q))) low
-        (omega (arith, fits, high place, ap longest (more_here place ls got place refl), longest-append (got place) ls)) stored;
+    kept = λ first top k high. rw stored (cells_line (t.kept first top k (λ q. omega (arith, high q, more_long place ls got q))) n bytes low
+        (omega (arith, fits, high place, ap longest (more_here place ls got place refl), longest-append (got place) ls)));
   }
 
 pub filling_starts : {cells : List ℕ} {old : List Reader} {before : Slots} → Filling cells 0 old old before before false
