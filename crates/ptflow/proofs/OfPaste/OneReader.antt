@@ -144,12 +144,7 @@ module _ (end n : ℕ) (delims turns : List (Option ℕ)) (t : AreTurns delims n
       let here : delim_at turns (k * n + c) ≡ Some b.0 = turn_of k c (omega (arith, all)) ∙ b.1 in
       let number : k * n + c + 1 ≡ k * n + (c + 1) = omega arith in
       line_turned (k * n + c) line (text end (next ∷ ls)) whole.0
-      ∙ ap (λ (d : Option ℕ). line ++ unwrap_or d end ∷ with_turns end turns (k * n + c + 1) (text end (next ∷ ls))) here
-      ∙ ap (λ (l : List ℕ). line ++ b.0 ∷ l) (ap (λ (m : ℕ). with_turns end turns m (text end (next ∷ ls))) number
-      ∙ row_turned k (c + 1) (next ∷ ls) whole.1 (omega (arith, all)) (omega arith))
-      ∙ ap (λ (d : List ℕ). line ++ (d ++ (glued_from delims (c + 1) (next ∷ ls) ++ end ∷ []))) (sym b.2)
-      ∙ sym (append_assoc line (delimiter delims c) (glued_from delims (c + 1) (next ∷ ls) ++ end ∷ []))
-      ∙ sym (append_assoc (line ++ delimiter delims c) (glued_from delims (c + 1) (next ∷ ls)) (end ∷ []))
+      ∙ rw (here, number, row_turned k (c + 1) (next ∷ ls) whole.1 (omega (arith, all)) (omega arith), b.2) (simp append_assoc)
 
   -- So many rows from row k on: each is written with its end.
   pub rows_turned : (some : 0 < n) (k more : ℕ) (ls : List (List ℕ)) → AreLines end ls → length ls ≡ more * n

@@ -27,7 +27,7 @@ use Rattle.ptflow.proofs.OfPaste.CellSlots.{cells_line, cells_total, none_in}
 use Rattle.ptflow.proofs.OfPaste.GivenRows.{gives_trans, cells_took, whole_took}
 use Rattle.ptflow.proofs.OfPaste.Grids.{Column, times_below, times_front, grid_none, sheet-append}
 use Rattle.ptflow.proofs.OfPasses.LinesCame.{came_longest, piece_longest}
-use Rattle.ptflow.proofs.OfPaste.PasteKeepsUp.{CutBack, cut_piece, cut_before, cut_held, cut_lines, none_given, works_whole, works_behind}
+use Rattle.ptflow.proofs.OfPaste.PasteKeepsUp.{CutBack, cut_piece, cut_before, cut_held, cut_lines, none_given, works_behind}
 use Rattle.ptflow.proofs.OfPasses.ReaderFacts.{done_gives_nothing}
 use Rattle.ptflow.proofs.OfPaste.Takes.{reads_nothing, lines_trans, at_most}
 use Rattle.ptflow.proofs.OfPaste.Pastings.{Pasting, Starts, ReadOn, never_failed, set_failed, came_since, now_end, now_fault, now_failed, now_short, now_held}
@@ -134,6 +134,13 @@ module _ {job : Paste} {cells : List ℕ} {old set now : List Reader} {was is : 
   more_count : (p : ℕ) → (length s.passed + 1) * times cells p ≡ length s.passed * times cells p + times cells p
   more_count p = omega arith
 
+  -- an input is cut back to the last line that it gave, where it gave no more than a row takes
+  cut_took : (p : ℕ) {q : Reader} {n : ℕ} {ls : Column} → 0 < times cells p → (t : Took job.end (reader_at now p) q n ls) → n ≤ times cells p
+      → CutBack job.end ((length s.passed + 1) * times cells p) (given_of ((s.gives.took p).bytes ++ t.bytes) q)
+  cut_took p {q} {n} {ls} some t few = cut_lines job.end q ((s.gives.took p).bytes ++ t.bytes) (t.held (now_held s p some)) ((length s.passed + 1) * times cells p) (s.ls p ++ ls)
+      (lines_trans (s.gives.took p).came t.reads t.came) (omega (arith, some, more_count p))
+      (omega (arith, few, more_count p, length-append (s.ls p) ls, at_most (s.gives.took p), at_most t))
+
   -- rows that lie whole in what the readers hold
   pub paste_held_write : {end : ℕ} {new : List Reader} {is' : Output} → end ≡ job.end → PushedRows end job.delimiters cells now new is is' × (is'.faulted ≡ true)
       → IsPastePass job cells old new was is' first store (Err Write)
@@ -147,12 +154,9 @@ module _ {job : Paste} {cells : List ℕ} {old set now : List Reader} {was is : 
   -- a row that came by way of the slots
   pub paste_row_write : {new : List Reader} {after : Slots} (f : RowFilled cells now new store after true) {is' : Output} → Wrote is is' (sheet job (take (length cells) after.lines ∷ []))
       → is'.faulted ≡ true → IsPastePass job cells old new was is' first after (Err Write)
-  paste_row_write {new} f wrote fault =
+  paste_row_write f wrote fault =
       let g = row_gives s f in
-      paste_write g wrote fault (row_kept s f.taken)
-      (λ p some. cut_lines job.end (reader_at new p) ((s.gives.took p).bytes ++ (g.took p).bytes) ((g.took p).held (now_held s p some)) ((length s.passed + 1) * times cells p) (s.ls p ++ f.got p)
-      (lines_trans (s.gives.took p).came (g.took p).reads (g.took p).came)
-      (omega (arith, some, more_count p)) (omega (arith, more_count p, length-append (s.ls p) (f.got p), at_most (s.gives.took p), at_most (g.took p))))
+      paste_write g wrote fault (row_kept s f.taken) (λ p some. cut_took p some (g.took p) (omega arith))
 
   -- no cell has a line
   module _ {new : List Reader} {after : Slots} (f : RowFilled cells now new store after false) where
@@ -178,11 +182,6 @@ module _ {job : Paste} {cells : List ℕ} {old set now : List Reader} {was is : 
         sym (ap (sheet job) (rows_by job s.gives read_by texts a
         ∙ ap (λ (l : List (List (List ℕ))). s.passed ++ l) (grid_none cells (λ p. lines job.end (later job s.gives read_by texts a p))
         (λ p some i. lines job.end (nothing_by p i ++ ((done_by p some).held i ++ [])))) ∙ append-nil s.passed))
-
-    rows_passed : rows (columns cells (λ p. whole_lines job.end (given_by job s.gives read_by p))) ≡ s.passed
-    rows_passed =
-        rows_whole job s.gives read_by ∙ ap (λ (l : List (List (List ℕ))). s.passed ++ l) (grid_none cells (more_by job s.gives read_by)
-        (λ p some i. whole_lines job.end (record { bytes = nothing_by p i ++ (done_by p some).held i; ended = (done_by p some).ended i }))) ∙ append-nil s.passed
 
     pub paste_done : {is' : Output} → Wrote is is' [] → is'.faulted ≡ false → IsPastePass job cells old new was is' first after (Ok tt)
     paste_done wrote clean =
@@ -211,7 +210,7 @@ module _ {job : Paste} {cells : List ℕ} {old set now : List Reader} {was is : 
               (lines_trans (s.gives.took p).came (took_by p).reads (took_by p).came) (texts p) (a p))).peak,
         ))
         (λ p some failed fine. cc ((took_by p).failed, now_failed s p, never_failed s.starts p some))
-        (λ ok. append-nil (sheet job s.passed) ∙ whole_is) (λ p some. works_whole job cells (given_by job s.gives read_by) s.passed rows_passed p) k.adds (omega (arith, k.adds.all k.denied))
+        (λ ok. append-nil (sheet job s.passed) ∙ whole_is) (λ p some. works_by job s.gives read_by p some (cut_took p some (took_by p) (omega arith))) k.adds (omega (arith, k.adds.all k.denied))
         (λ p none. (took_by p).none none)
 
   -- a row could not be filled: the reader of a cell gave a beginning of a line
@@ -279,23 +278,20 @@ module _ {job : Paste} {cells : List ℕ} {old set now : List Reader} {was is : 
 
     -- a reader that may have more is the one that holds the row up
     module _ (going : IsDone (reader_at b.mid here) → ⊥) where
-      lines_few : (p : ℕ) → length (s.ls p ++ b.got p) ≤ length s.passed * times cells p + times (take b.column cells) p
-      lines_few p = omega (arith, length-append (s.ls p) (b.got p), at_most (s.gives.took p), at_most (took_to p))
-
       abbrev cut_here : CutBy job s.gives read_to here
       cut_here =
-          cut_piece job.end ((length s.passed + 1) * times cells here) (reader_at b.mid here) (reader_at new here) ((s.gives.took here).bytes ++ (took_to here).bytes) (s.ls here ++ b.got here)
-          (lines_to here) going (piece_of here).0 ((s.gives.took here).bytes ++ read_to.extra here) (given_is here) (piece_of here).2 (b.few (now_held s here here_named))
-          (omega (arith, more_count here, lines_few here, times_below cells b.column b.within))
+          cut_piece job.end ((length s.passed + 1) * times cells here) (reader_at b.mid here) (reader_at new here) ((s.gives.took here).bytes ++ (took_to here).bytes)
+          (s.ls here ++ b.got here) (lines_to here) going (piece_of here).0 ((s.gives.took here).bytes ++ read_to.extra here) (given_is here) (piece_of here).2
+          (b.few (now_held s here here_named))
+          (omega (arith, more_count here, length-append (s.ls here) (b.got here), at_most (s.gives.took here), at_most (took_to here), times_below cells b.column b.within))
 
       -- another one, up to the last line that it gave
       works_to : (p : ℕ) → 0 < times cells p → WorksBy job s.gives read_to p
       works_to p some = works_by job s.gives read_to p some (⊎_elim
           (λ k. subst (CutBy job s.gives read_to) (sym k.0) cut_here)
           (λ k. subst (CutBack job.end ((length s.passed + 1) * times cells p))
-          (sym ((λ i. given_of (((given_is p) ∙ ap (λ (x : List ℕ). ((s.gives.took p).bytes ++ (took_to p).bytes) ++ x) k.1 ∙ append-nil ((s.gives.took p).bytes ++ (took_to p).bytes)) i) (k.2 i))))
-          (cut_lines job.end (reader_at b.mid p) ((s.gives.took p).bytes ++ (took_to p).bytes) ((took_to p).held (now_held s p some)) ((length s.passed + 1) * times cells p)
-          (s.ls p ++ b.got p) (lines_to p) (omega (arith, some, more_count p)) (omega (arith, more_count p, lines_few p, times_front cells b.column p))))
+          (λ i. given_of ((s.gives.took p).bytes ++ (sym (append-nil (took_to p).bytes) ∙ ap (λ (x : List ℕ). (took_to p).bytes ++ x) (sym k.1)) i) (sym k.2 i))
+          (cut_took p some (took_to p) (times_front cells b.column p)))
           (piece_of p).3)
 
     -- what was staged could not be sent

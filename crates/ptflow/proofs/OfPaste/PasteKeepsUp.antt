@@ -168,10 +168,10 @@ every_more k j r xs more low = rw (chosen_append (λ i. i % k == j) 0 xs more) (
 
 -- ---- what is written of rows
 
-first_begin : (job : Paste) (m : ℕ) (rs : List (List (List ℕ))) → Begins (sheet job (take m rs)) (sheet job rs)
-first_begin job m rs = record {
+first_begin : (job : Paste) (m : ℕ) (rs : List (List (List ℕ))) {first : List (List (List ℕ))} → first ≡ take m rs → Begins (sheet job first) (sheet job rs)
+first_begin job m rs {first} is = record {
   rest = sheet job (drop m rs);
-  is = ap (sheet job) (sym (take-append-drop m rs)) ∙ sheet-append job.end job.delimiters (take m rs) (drop m rs);
+  is = ap (sheet job) (sym (take-append-drop m rs)) ∙ sheet-append job.end job.delimiters (take m rs) (drop m rs) ∙ ap (λ (x : List (List (List ℕ))). sheet job x ++ sheet job (drop m rs)) (sym is);
 }
 
 -- This input, cut back alone, decides no more than was pushed.
@@ -190,18 +190,6 @@ module _ (job : Paste) (cells : List ℕ) (came : ℕ → Given) where
       (λ is. put_here here x came p is ∙ same ∙ ap came (sym is))
       (λ differ. put_there here x came p differ)
       (cases_eq p here) i
-
-  -- every row was pushed
-  pub works_whole : (passed : List (List (List ℕ))) → rows (grid came) ≡ passed → (here : ℕ) → WorksAt job cells came (sheet job passed) here
-  works_whole passed is here =
-      let k = known_first (grid came) (map (λ p. (came p).ended) cells) in
-      let first : known_rows (grid came) (map (λ p. (came p).ended) cells) ≡ take k.0 passed =
-      k.3 ∙ sym (take-map-range_with_len (row (grid came)) 0 (height (grid came)) k.0 k.1) ∙ ap (take k.0) is in
-      record {
-        before = λ u. record { earlier = came here; last = []; split = sym (append-nil (came here).bytes); short = omega arith; ended = λ h. h };
-        begins = subst (λ (g : ℕ → Given). Begins (paste_decided job cells g) (sheet job passed)) (sym (put_same here (came here) refl))
-            (subst (λ (rs : List (List (List ℕ))). Begins (sheet job rs) (sheet job passed)) (sym first) (first_begin job k.0 passed));
-      }
 
   -- The rows that were passed, where the input at a place, cut back, has fewer lines than one row more would take. It
   -- is not known to end, so a row that is known then has all its cells among those lines, and is one of the whole grid.
@@ -276,13 +264,12 @@ module _ (job : Paste) (cells : List ℕ) (came : ℕ → Given) where
         let k = known_first (grid earlier) ends in
         let few : k.0 ≤ length passed = k.2 (length passed) next_unknown in
         let high : k.0 ≤ height (grid came) = omega (arith, few, ap length all, length-append passed more, length-map-range_with_len (row (grid came)) 0 (height (grid came))) in
-        let first : known_rows (grid earlier) ends ≡ take k.0 passed =
+        first_begin job k.0 passed (
         k.3
         ∙ same_rows (row (grid earlier)) (row (grid came)) 0 k.0
         (λ r low. row_same r (⊎_elim (λ is. is) (λ not. absurd (omega (arith, low, k.2 r not))) (cases_Bool (is_row_known (grid earlier) ends r))))
         ∙ sym (take-map-range_with_len (row (grid came)) 0 (height (grid came)) k.0 high)
-        ∙ ap (take k.0) all ∙ take-append-le k.0 passed more few in
-        subst (λ (rs : List (List (List ℕ))). Begins (sheet job rs) (sheet job passed)) (sym first) (first_begin job k.0 passed)
+        ∙ ap (take k.0) all ∙ take-append-le k.0 passed more few)
 
     pub works_behind : WorksAt job cells came (sheet job passed) here
     works_behind = record {
