@@ -24,14 +24,6 @@ use Rattle.ptflow.proofs.OfPaste.RowTurns.{at_index, at_same, at_other, filling_
 use Rattle.ptflow.proofs.OfPaste.SerialRests.{row_begun, row_line, row_end}
 use Rattle.ptflow.proofs.OfPaste.SheetRows.{first_cell}
 
--- what was taken of the reader of a cell is in the bytes that were read of it
-pub taken_fits : (cells : List ℕ) (readers : List Reader) (taken : List ℕ) (n : ℕ) → n < length cells → All (λ (p : ℕ). p < length readers) cells → Holds readers taken
-    → {r : Reader} → r ≡ get_or readers (get_or cells n 0) r → (bytes : List ℕ) → bytes ≡ r.held → get_or taken (get_or cells n 0) 0 ≤ length bytes
-taken_fits cells readers taken n low within holds {r} is bytes held =
-    let place = get_or cells n 0 in
-    let same = is ∙ at_index readers place r (All-get_or (λ (p : ℕ). p < length readers) cells n 0 low within) in
-    omega (arith, holds place, ap length (held ∙ ap (λ (x : Reader). x.held) same))
-
 -- a line that lies whole in what a reader holds
 held_line : (b r : Reader) (at : ℕ) (store : Slots) (slot : ℕ) → b.fault ≡ None → b.pulled < 2 ^ 63 → IsFirstByte (is_byte b.ending) b.held (Some at)
     → r ≡ record b { held = drop (at + 1) b.held } → GivesLine b r store (with_line store slot (take at b.held)) slot

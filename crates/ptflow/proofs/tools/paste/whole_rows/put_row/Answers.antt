@@ -1,6 +1,6 @@
 -- Each turn puts one more cell behind its delimiter, if it is whole in what its reader holds; what was taken of each
 -- reader is counted.
-use Rattle.std.proofs.Common.{refl, sym, [], ◌∷◌, ◌≡◌, ◌+◌, ◌<◌, ◌++◌, ℕ, List, Some, length, take, drop, get_or, ◌∙◌, ap, subst, arith}
+use Rattle.std.proofs.Common.{refl, sym, [], ◌∷◌, ◌≡◌, ◌+◌, ◌<◌, ◌≤◌, ◌++◌, ℕ, List, Some, length, take, drop, get_or, ◌∙◌, ap, subst, arith}
 use Rattle.std.proofs.lemmas.List.{append-nil, take_rest, take_more_set, length-set}
 use Rattle.std.proofs.lemmas.List.Elements.{All-get_or}
 use Rattle.memchr.specs.Find.{IsFirstByte, is_byte}
@@ -10,8 +10,22 @@ use Rattle.ptflow.specs.Workings.Paste.SerialRests.{lead}
 use Rattle.ptflow.specs.Workings.Paste.WholeRows.{in_front}
 use Rattle.ptflow.proofs.OfPaste.Grids.{times_below}
 use Rattle.ptflow.proofs.OfPaste.RowTurns.{at_index}
-use Rattle.ptflow.proofs.OfPaste.WholeRows.{HasLine, taken_fits, putting_starts, putting_more, putting_done, holds_more, front_kept, line_put, end_put}
+use Rattle.ptflow.proofs.OfPaste.WholeRows.{HasLine, putting_starts, putting_more, putting_done, holds_more, front_kept, line_put, end_put}
+use Rattle.ptflow.proofs.tools.paste.whole_rows.put_row.Given as given
 use Rattle.ptflow.proofs.tools.paste.whole_rows.put_row.Goals as goal
+use Rattle.ptflow.proofs.tools.paste.whole_rows.put_row.Goals.{In-loop-column, After-held}
+
+-- the cell names a reader
+low : (g : given.Over) (c : In-loop-column g) → get_or c.args.cells.now c.loop-column.column 0 < length c.args.readers.now
+low g c = All-get_or (λ (p : ℕ). p < length c.args.readers.now) c.args.cells.now c.loop-column.column 0 c.loop-column-test.true c.requires.within
+
+read : (g : given.Over) (c : After-held g) → c.index-readers-place.result ≡ reader_at c.args.readers.now (get_or c.args.cells.now c.loop-column.column 0)
+read g c = c.index-readers-place.is ∙ at_index c.args.readers.now (get_or c.args.cells.now c.loop-column.column 0) c.index-readers-place.result
+    (All-get_or (λ (p : ℕ). p < length c.args.readers.now) c.args.cells.now c.loop-column.column 0 c.loop-column-test.true c.requires.within)
+
+-- what was taken of it is in what it held
+fits : (g : given.Over) (c : After-held g) → get_or c.loop-column.taken (get_or c.args.cells.now c.loop-column.column 0) 0 ≤ length c.held.result.now
+fits g c = omega (arith, c.loop-column.invariant.holds (get_or c.args.cells.now c.loop-column.column 0), ap length c.held.ensures.held, ap (λ (r : Reader). length r.held) (read g c))
 
 pub loop-column-init : goal.loop-column-init
 loop-column-init g c = record {
@@ -25,42 +39,8 @@ loop-column-init g c = record {
   room = c.told-into;
 }
 
-pub offset_bounds-taken-place-in-loop-column : goal.offset_bounds-taken-place-in-loop-column
-offset_bounds-taken-place-in-loop-column g c =
-    omega (arith, All-get_or (λ (p : ℕ). p < length c.args.readers.now) c.args.cells.now c.loop-column.column 0 c.loop-column-test.true c.requires.within, c.requires.few.0)
-
-pub bounds-taken-place-in-loop-column : goal.bounds-taken-place-in-loop-column
-bounds-taken-place-in-loop-column g c =
-    omega (arith, All-get_or (λ (p : ℕ). p < length c.args.readers.now) c.args.cells.now c.loop-column.column 0 c.loop-column-test.true c.requires.within, c.requires.few.0)
-
-pub offset_bounds-readers-place : goal.offset_bounds-readers-place
-offset_bounds-readers-place g c =
-    omega (arith, All-get_or (λ (p : ℕ). p < length c.args.readers.now) c.args.cells.now c.loop-column.column 0 c.loop-column-test.true c.requires.within)
-
-pub bounds-readers-place : goal.bounds-readers-place
-bounds-readers-place g c =
-    All-get_or (λ (p : ℕ). p < length c.args.readers.now) c.args.cells.now c.loop-column.column 0 c.loop-column-test.true c.requires.within
-
 pub put_lead-from-requires : goal.put_lead-from-requires
 put_lead-from-requires g c = record { room = c.loop-column.invariant.near.1 }
-
-pub slice_bounds-rest-count : goal.slice_bounds-rest-count
-slice_bounds-rest-count g c =
-    let fits = taken_fits c.args.cells.now c.args.readers.now c.loop-column.taken c.loop-column.column c.loop-column-test.true c.requires.within c.loop-column.invariant.holds
-    c.index-readers-place.is c.held.result.now c.held.ensures.held in
-    omega (arith, fits)
-
-pub slice_bounds-rest-start : goal.slice_bounds-rest-start
-slice_bounds-rest-start g c =
-    let fits = taken_fits c.args.cells.now c.args.readers.now c.loop-column.taken c.loop-column.column c.loop-column-test.true c.requires.within c.loop-column.invariant.holds
-    c.index-readers-place.is c.held.result.now c.held.ensures.held in
-    omega (arith, fits)
-
-pub slice_bounds-rest-end : goal.slice_bounds-rest-end
-slice_bounds-rest-end g c =
-    let fits = taken_fits c.args.cells.now c.args.readers.now c.loop-column.taken c.loop-column.column c.loop-column-test.true c.requires.within c.loop-column.invariant.holds
-    c.index-readers-place.is c.held.result.now c.held.ensures.held in
-    omega (arith, fits)
 
 pub put_line-requires : goal.put_line-requires
 put_line-requires g c =
@@ -71,18 +51,6 @@ overflow_add-end g c = omega (arith, c.in_ok-count.ensures.near)
 
 pub overflow_add-taken : goal.overflow_add-taken
 overflow_add-taken g c = omega (arith, c.in_ok-count.ensures.near)
-
-pub overflow_add-taken-in-loop-column : goal.overflow_add-taken-in-loop-column
-overflow_add-taken-in-loop-column g c =
-    let fits = taken_fits c.args.cells.now c.args.readers.now c.loop-column.taken c.loop-column.column c.loop-column-test.true c.requires.within c.loop-column.invariant.holds
-    c.index-readers-place.is c.held.result.now c.held.ensures.held in
-    omega (arith, fits, ap length c.held.ensures.held, c.held.ensures.sound.held, c.in_ok-count.ensures.near)
-
-pub overflow_cast-taken : goal.overflow_cast-taken
-overflow_cast-taken g c =
-    let fits = taken_fits c.args.cells.now c.args.readers.now c.loop-column.taken c.loop-column.column c.loop-column-test.true c.requires.within c.loop-column.invariant.holds
-    c.index-readers-place.is c.held.result.now c.held.ensures.held in
-    omega (arith, fits, ap length c.held.ensures.held, c.held.ensures.sound.held, c.in_ok-count.ensures.near)
 
 pub bounds-into-end : goal.bounds-into-end
 bounds-into-end g c = omega (arith, c.loop-column.invariant.near.1)
@@ -99,8 +67,8 @@ loop-column-preserved g c =
     let inv = c.loop-column.invariant in
     let place = get_or cells n 0 in
     let count = c.in_ok-count.count in
-    let within : place < length readers = All-get_or (λ (p : ℕ). p < length readers) cells n 0 c.loop-column-test.true c.requires.within in
-    let is_read = c.index-readers-place.is ∙ at_index readers place c.index-readers-place.result within in
+    let within = low g (goal.at.loop-column-preserved g c).In-loop-column in
+    let is_read = read g (goal.at.loop-column-preserved g c).After-held in
     let ready = c.requires.readable place (omega (arith, times_below cells n c.loop-column-test.true)) in
     let held_is : c.held.result.now ≡ (reader_at readers place).held = c.held.ensures.held ∙ ap (λ (r : Reader). r.held) is_read in
     let found = subst (λ (h : List ℕ). IsFirstByte (is_byte c.args.ending) (drop (get_or taken place 0) h) (Some count)) held_is (rw take_rest at c.in_ok-count.ensures.line) in
@@ -163,9 +131,34 @@ pub bounds-cells-column : goal.bounds-cells-column
 bounds-cells-column g c = c.loop-column-test.true
 
 pub offset_bounds-taken-place : goal.offset_bounds-taken-place
-offset_bounds-taken-place g c =
-    omega (arith, All-get_or (λ (p : ℕ). p < length c.args.readers.now) c.args.cells.now c.loop-column.column 0 c.loop-column-test.true c.requires.within, c.requires.few.0)
+offset_bounds-taken-place g c = omega (arith, low g (goal.at.offset_bounds-taken-place g c).In-loop-column, c.requires.few.0)
 
 pub bounds-taken-place : goal.bounds-taken-place
-bounds-taken-place g c =
-    omega (arith, All-get_or (λ (p : ℕ). p < length c.args.readers.now) c.args.cells.now c.loop-column.column 0 c.loop-column-test.true c.requires.within, c.requires.few.0)
+bounds-taken-place g c = omega (arith, low g (goal.at.bounds-taken-place g c).In-loop-column, c.requires.few.0)
+
+pub offset_bounds-taken-place-in-loop-column : goal.offset_bounds-taken-place-in-loop-column
+offset_bounds-taken-place-in-loop-column g c = omega (arith, low g (goal.at.offset_bounds-taken-place-in-loop-column g c).In-loop-column, c.requires.few.0)
+
+pub bounds-taken-place-in-loop-column : goal.bounds-taken-place-in-loop-column
+bounds-taken-place-in-loop-column g c = omega (arith, low g (goal.at.bounds-taken-place-in-loop-column g c).In-loop-column, c.requires.few.0)
+
+pub offset_bounds-readers-place : goal.offset_bounds-readers-place
+offset_bounds-readers-place g c = omega (arith, low g (goal.at.offset_bounds-readers-place g c).In-loop-column)
+
+pub bounds-readers-place : goal.bounds-readers-place
+bounds-readers-place g c = low g (goal.at.bounds-readers-place g c).In-loop-column
+
+pub slice_bounds-rest-count : goal.slice_bounds-rest-count
+slice_bounds-rest-count g c = omega (arith, fits g (goal.at.slice_bounds-rest-count g c).After-held)
+
+pub slice_bounds-rest-start : goal.slice_bounds-rest-start
+slice_bounds-rest-start g c = omega (arith, fits g (goal.at.slice_bounds-rest-start g c).After-held)
+
+pub slice_bounds-rest-end : goal.slice_bounds-rest-end
+slice_bounds-rest-end g c = omega (arith, fits g (goal.at.slice_bounds-rest-end g c).After-held)
+
+pub overflow_add-taken-in-loop-column : goal.overflow_add-taken-in-loop-column
+overflow_add-taken-in-loop-column g c = omega (arith, fits g (goal.at.overflow_add-taken-in-loop-column g c).After-held, ap length c.held.ensures.held, c.held.ensures.sound.held, c.in_ok-count.ensures.near)
+
+pub overflow_cast-taken : goal.overflow_cast-taken
+overflow_cast-taken g c = omega (arith, fits g (goal.at.overflow_cast-taken g c).After-held, ap length c.held.ensures.held, c.held.ensures.sound.held, c.in_ok-count.ensures.near)
