@@ -11,10 +11,6 @@ use Rattle.ptflow.proofs.tools.paste.whole_rows.put_pairs.Goals as goal
 pub rows-init : goal.rows-init
 rows-init g c = record { rows = pairs_start; low = omega arith; low_other = omega arith; near = omega arith }
 
-pub overflow_add-passed : goal.overflow_add-passed
-overflow_add-passed g c =
-    omega (arith, (rw take_rest at c.in-Some.ensures.row.first.0.high), length-drop c.rows.passed c.held-first.result.now, c.held-first.ensures.sound.held, ap length c.held-first.ensures.held)
-
 pub overflow_add-passed-in-Some : goal.overflow_add-passed-in-Some
 overflow_add-passed-in-Some g c =
     omega (
@@ -25,17 +21,6 @@ overflow_add-passed-in-Some g c =
       c.held-first.ensures.sound.held,
       ap length
           c.held-first.ensures.held,
-    )
-
-pub overflow_add-passed_other : goal.overflow_add-passed_other
-overflow_add-passed_other g c =
-    omega (
-      arith,
-      (rw take_rest at c.in-Some.ensures.row.second.0.high),
-      length-drop c.rows.passed_other c.held-second.result.now,
-      c.held-second.ensures.sound.held,
-      ap length
-          c.held-second.ensures.held,
     )
 
 pub overflow_add-passed_other-in-Some : goal.overflow_add-passed_other-in-Some
