@@ -81,8 +81,7 @@ module _ (job : Paste) {cells : List ℕ} {set now new : List Reader} {ls : ℕ 
 
     lines_by : (p : ℕ) → lines job.end (texts p) ≡ ls p ++ lines job.end (later p)
     lines_by p =
-        ap (lines job.end) ((a p).is ∙ append_assoc ((g.took p).bytes ++ r.extra p) (reader_at new p).held (a p).rest
-        ∙ append_assoc (g.took p).bytes (r.extra p) ((reader_at new p).held ++ (a p).rest))
+        ap (lines job.end) (simp append_assoc at (a p).is)
         ∙ lines_on job.end (reader_at now p) (g.took p).bytes (ls p) (g.took p).came (later p) (may_later p)
 
     pub rows_by : rows (columns cells (λ p. lines job.end (texts p))) ≡ passed ++ rows (columns cells (λ p. lines job.end (later p)))

@@ -33,32 +33,20 @@ at_index readers place r low = get_or_default readers place r no_reader low
 -- one reader more has its ending
 pub set_more : (end : ℕ) (cells : List ℕ) (i : ℕ) (old now : List Reader) (r : Reader) → i < length cells → get_or cells i 0 < length now → AreSet end (take i cells) old now
     → r ≡ record (reader_at now (get_or cells i 0)) { ending = end } → IsSound r → AreSet end (take (i + 1) cells) old (set now (get_or cells i 0) r)
-set_more end cells i old now r low within a told sound q = ⊎_elim here there (cases_eq q (get_or cells i 0))
+set_more end cells i old now r low within a told sound q = ⊎_elim
+    (λ same. rw same (rw (at_same now (get_or cells i 0) r within) (record {
+      set = λ some. told ∙ before (get_or cells i 0);
+      left = λ none. absurd (omega (arith, none, times_here cells i (get_or cells i 0) low refl));
+      sound = λ some. sound;
+    })))
+    (λ differ. rw (at_other now (get_or cells i 0) q r differ, times_other cells i q low (λ e. differ (sym e))) (a q))
+    (cases_eq q (get_or cells i 0))
   where
-    here : q ≡ get_or cells i 0 → IsSet end (times (take (i + 1) cells) q) (reader_at old q) (reader_at (set now (get_or cells i 0) r) q)
-    here same = record {
-      set = λ some. new_is ∙ told ∙ ap (λ (x : Reader). record x { ending = end }) (ap (reader_at now) (sym same)) ∙ before;
-      left = λ none. absurd (omega (arith, none, times_here cells i q low (sym same)));
-      sound = λ some. subst IsSound (sym new_is) sound;
-    }
-      where
-        new_is : reader_at (set now (get_or cells i 0) r) q ≡ r
-        new_is = ap (reader_at (set now (get_or cells i 0) r)) same ∙ at_same now (get_or cells i 0) r within
-
-        before : (let x : Reader = record (reader_at now q) { ending = end } in let y : Reader = record (reader_at old q) { ending = end } in x ≡ y)
-        before = ⊎_elim
-            (λ some. ap (λ (x : Reader). record x { ending = end }) ((a q).set some))
-            (λ none. ap (λ (x : Reader). record x { ending = end }) ((a q).left (omega (arith, none))))
-            (cases_lt 0 (times (take i cells) q))
-
-    there : (q ≡ get_or cells i 0 → ⊥) → IsSet end (times (take (i + 1) cells) q) (reader_at old q) (reader_at (set now (get_or cells i 0) r) q)
-    there differ =
-        let same : times (take (i + 1) cells) q ≡ times (take i cells) q = times_other cells i q low (λ e. differ (sym e)) in
-        let left : reader_at (set now (get_or cells i 0) r) q ≡ reader_at now q = at_other now (get_or cells i 0) q r differ in record {
-          set = λ some. left ∙ (a q).set (omega (arith, some, same));
-          left = λ none. left ∙ (a q).left (omega (arith, none, same));
-          sound = λ some. subst IsSound (sym left) ((a q).sound (omega (arith, some, same)));
-        }
+    before : (p : ℕ) → (let x : Reader = record (reader_at now p) { ending = end } in let y : Reader = record (reader_at old p) { ending = end } in x ≡ y)
+    before p = ⊎_elim
+        (λ some. ap (λ (x : Reader). record x { ending = end }) ((a p).set some))
+        (λ none. ap (λ (x : Reader). record x { ending = end }) ((a p).left (omega (arith, none))))
+        (cases_lt 0 (times (take i cells) p))
 
 or-true : (t : Bool) → (t || true) ≡ true
 or-true true = refl

@@ -135,9 +135,7 @@ module _ {end : ℕ} {cells : List ℕ} {old : List Reader} {n : ℕ} {taken : L
         ∙ ap (λ (l : List ℕ). written ++ l) (row_begun end delims (in_front n) line_of more
         ∙ ap (λ (l : List ℕ). lead delims (in_front n) ++ l) (row_line end delims (begun (in_front n)).number line_of more
         ∙ ap (λ (l : List ℕ). line_of ++ l) (behind_cell end delims n more)))
-        ∙ sym (append_assoc written (lead delims (in_front n)) (line_of ++ row_from end delims (in_front (n + 1)) more))
-        ∙ sym (append_assoc (written ++ lead delims (in_front n)) line_of (row_from end delims (in_front (n + 1)) more))
-        ∙ ap (λ (l : List ℕ). l ++ row_from end delims (in_front (n + 1)) more) (sym is)
+        ∙ rw is (simp append_assoc)
 
     pub putting_more : Putting end delims cells (n + 1) old from (taken_with cells n taken at) next
     putting_more = record {
