@@ -145,7 +145,7 @@ module _ {job : Paste} {cells : List ℕ} {old set now : List Reader} {was is : 
   pub paste_held_write : {end : ℕ} {new : List Reader} {is' : Output} → end ≡ job.end → PushedRows end job.delimiters cells now new is is' × (is'.faulted ≡ true)
       → IsPastePass job cells old new was is' first store (Err Write)
   paste_held_write {end} {new} {is'} same pushed =
-      let p = subst (λ (e : ℕ). PushedRows e job.delimiters cells now new is is') same pushed.0 in
+      let p = rw same at pushed.0 in
       let g = p.held.gives in
       paste_write g (held_wrote s p) pushed.1 (held_kept s p)
       (λ q some. cut_before job.end ((length s.passed + 1) * times cells q) (reader_at now q) (reader_at new q) (s.gives.took q).bytes (g.took q).bytes (s.ls q) (s.gives.took q).came (g.took q).reads
@@ -231,11 +231,11 @@ module _ {job : Paste} {cells : List ℕ} {old set now : List Reader} {was is : 
     piece_of p = ⊎_elim
         (λ same. (
           piece,
-          subst (λ (q : ℕ). Reads (reader_at b.mid q) (reader_at new q) piece) (sym same) piece_reads,
-          subst (λ (e : ℕ). IsLine e piece) ((took_to here).reads.ending ∙ now_end s here here_named) free,
+          rw same piece_reads,
+          rw ((took_to here).reads.ending ∙ now_end s here here_named) at free,
           inl (same, refl),
         ))
-        (λ differ. ([], subst (λ (r : Reader). Reads (reader_at b.mid p) r []) (sym (b.others p differ)) reads_nothing, tt, inr (differ, refl, b.others p differ)))
+        (λ differ. ([], rw (b.others p differ) reads_nothing, tt, inr (differ, refl, b.others p differ)))
         (cases_eq p here)
 
     abbrev read_to : ReadOn now new
@@ -261,7 +261,7 @@ module _ {job : Paste} {cells : List ℕ} {old set now : List Reader} {was is : 
       long_to p =
           piece_longest job.end (reader_at b.mid p) ((s.gives.took p).bytes ++ (took_to p).bytes) (s.ls p ++ b.got p) (lines_to p) (reader_at new p) (piece_of p).0 (piece_of p).1
           (piece_of p).2 (texts p)
-          (subst (λ (x : List ℕ). Agrees (given_of x (reader_at new p)) (texts p)) (given_is p) (a p))
+          (rw (given_is p) at (a p))
 
       peak_to : (with_line b.held b.column piece).peak ≤ max first.peak (paste_size job cells texts)
       peak_to = (kept_to (λ p. longest_line job.end (texts p)) (λ p. omega (arith, long_to p))
@@ -269,7 +269,7 @@ module _ {job : Paste} {cells : List ℕ} {old set now : List Reader} {was is : 
 
     failed_to : (reader_at new here).failed ≡ (reader_at b.mid here).failed → (p : ℕ) → (reader_at new p).failed ≡ (reader_at old p).failed
     failed_to same p = ⊎_elim
-        (λ k. subst (λ (q : ℕ). (reader_at new q).failed ≡ (reader_at b.mid q).failed) (sym k.0) same)
+        (λ k. rw k.0 same)
         (λ k. ap (λ (r : Reader). r.failed) k.2)
         (piece_of p).3 ∙ (took_to p).failed ∙ now_failed s p
 
@@ -342,7 +342,7 @@ module _ {job : Paste} {cells : List ℕ} {old set now : List Reader} {was is : 
         cause)
         (λ k. cc (ap (λ (r : Reader). r.failed) k.2, failed_mid p, never_failed s.starts p some))
         (piece_of p).3)
-        (λ ok. cc) (works_to may_have_more) (subst (λ (x : Slots). Adds first x (length cells)) (sym stored) some_kept.adds)
+        (λ ok. cc) (works_to may_have_more) (rw stored some_kept.adds)
         (omega (arith, ap (λ (x : Slots). length x.lines) stored, some_kept.adds.all some_kept.denied)) left_to
       where
         failed_mid : (p : ℕ) → (reader_at b.mid p).failed ≡ (reader_at old p).failed
@@ -359,12 +359,12 @@ module _ {job : Paste} {cells : List ℕ} {old set now : List Reader} {was is : 
       → IsPastePass job cells old new was is' first after (Err e)
   paste_broke {new} {after} {is'} (Read place) f wrote clean =
       let k = f.0.breaks in
-      subst (λ (p : ℕ). IsPastePass job cells old new was is' first after (Err (Read p))) (sym f.1) (paste_broke_read f.0 k.piece k.faults.reads k.faults.whole wrote clean k.stored k.cause)
+      rw f.1 (paste_broke_read f.0 k.piece k.faults.reads k.faults.whole wrote clean k.stored k.cause)
   paste_broke {new} {after} {is'} Write f wrote fault =
       let k = f.breaks in
       let here = get_or cells f.column 0 in
-      subst (λ (x : Slots). IsPastePass job cells old new was is' first x (Err Write)) (sym k.1)
-      (paste_broke_write f [] (subst (λ (r : Reader). Reads (reader_at f.mid here) r []) (sym k.0) reads_nothing) tt wrote fault (ap (λ (r : Reader). r.failed) k.0) k.2)
+      rw k.1
+      (paste_broke_write f [] (rw k.0 reads_nothing) tt wrote fault (ap (λ (r : Reader). r.failed) k.0) k.2)
   paste_broke Memory f wrote clean =
       let k = f.breaks in
       paste_broke_memory f k.piece k.faults.reads k.faults.whole wrote clean k.stored k.failed k.left

@@ -91,7 +91,7 @@ module _ (end : ℕ) (reader : Reader) (given : List ℕ) (held : length reader.
 
   -- by the last of some lines, or by what is held where there are none
   pub cut_lines : (most : ℕ) (ls : Column) → LinesCame end reader given ls → 0 < most → length ls ≤ most → CutBack end most (given_of given reader)
-  cut_lines most [] k some few = subst (λ (b : List ℕ). CutBack end most (given_of b reader)) (sym (none_given k)) (cut_held end most reader held some)
+  cut_lines most [] k some few = rw (none_given k) (cut_held end most reader held some)
   cut_lines most (l ∷ ls) k some few =
       let n = length ls in
       cut_last most (take n (l ∷ ls)) (get_or (l ∷ ls) n []) (omega (arith, few, length-take-le n (l ∷ ls) (omega arith)))

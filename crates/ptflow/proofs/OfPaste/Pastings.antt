@@ -205,7 +205,7 @@ module _ {job : Paste} {cells : List ℕ} {old set now : List Reader} {was is : 
   -- no row was passed, and nothing happened
   pub pasting_still : {new : List Reader} {is' : Output} → (new ≡ now) × (is' ≡ is) → Pasting job cells old set new was is' first store
   pasting_still {new} {is'} same =
-      subst (λ (o : Output). Pasting job cells old set new was o first store) (sym same.1) (subst (λ (r : List Reader). Pasting job cells old set r was is first store) (sym same.0) s)
+      rw (same.1, same.0) s
 
   -- what was staged was sent
   pub pasting_sent : {sent : Output} → Wrote is sent [] → sent.faulted ≡ false → Pasting job cells old set now was sent first store
@@ -214,7 +214,7 @@ module _ {job : Paste} {cells : List ℕ} {old set now : List Reader} {was is : 
     ls = s.ls;
     passed = s.passed;
     gives = s.gives;
-    wrote = subst (λ (b : List ℕ). Wrote was sent b) (append-nil (sheet job s.passed)) (wrote_trans was is sent (sheet job s.passed) [] s.clean s.wrote wrote);
+    wrote = rw (append-nil (sheet job s.passed)) at (wrote_trans was is sent (sheet job s.passed) [] s.clean s.wrote wrote);
     clean = clean;
     kept = s.kept;
   }
@@ -236,7 +236,7 @@ module _ {job : Paste} {cells : List ℕ} {old set now : List Reader} {was is : 
   -- rows that lie whole in what the readers hold
   module _ {new : List Reader} {is' : Output} (p : PushedRows job.end job.delimiters cells now new is is') where
     pub held_wrote : Wrote is is' (sheet job p.held.passed)
-    held_wrote = subst (λ (b : List ℕ). Wrote is is' b) p.held.is p.wrote
+    held_wrote = rw p.held.is at p.wrote
 
     pub held_kept : (top : ℕ → ℕ) → ((q : ℕ) → longest (s.ls q ++ p.held.ls q) ≤ top q) → KeepsCells cells top first store
     held_kept top high = s.kept top (λ q. omega (arith, high q, longest-append (s.ls q) (p.held.ls q)))
@@ -244,7 +244,7 @@ module _ {job : Paste} {cells : List ℕ} {old set now : List Reader} {was is : 
   pub pasting_held : {end : ℕ} {new : List Reader} {is' : Output} → end ≡ job.end → PushedRows end job.delimiters cells now new is is' × (is'.faulted ≡ false)
       → Pasting job cells old set new was is' first store
   pasting_held {end} {new} {is'} same pushed =
-      let p = subst (λ (e : ℕ). PushedRows e job.delimiters cells now new is is') same pushed.0 in
+      let p = rw same at pushed.0 in
       pasting_on p.held.gives (held_kept p) (held_wrote p) pushed.1
 
   -- a row came by way of the slots

@@ -202,8 +202,8 @@ module _ {cells : List ℕ} {n : ℕ} {old now : List Reader} {before store : Sl
     mid = now;
     held = store;
     taken = f.taken;
-    breaks = rw (at_same now (get_or cells n 0) r within) (subst (λ (x : Reader). Breaks x r store after n) is_read breaks);
+    breaks = rw (at_same now (get_or cells n 0) r within) (rw is_read at breaks);
     others = λ q differ. at_other now (get_or cells n 0) q r differ;
     few = λ held. rw (at_same now (get_or cells n 0) r within)
-        (few (subst (λ (x : Reader). length x.held ≤ 8192) (sym is_read) ((f.taken.took (get_or cells n 0)).held held)));
+        (few (rw is_read ((f.taken.took (get_or cells n 0)).held held)));
   }

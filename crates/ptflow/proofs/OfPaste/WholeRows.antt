@@ -112,7 +112,7 @@ module _ {end : ℕ} {cells : List ℕ} {old : List Reader} {n : ℕ} {taken : L
 
     gives : GivesLine mid_reader new_reader h.store (with_line h.store n line_of) n
     gives = held_line mid_reader new_reader at h.store n l.clean (l.sound.long l.clean)
-        (subst (λ (e : ℕ). IsFirstByte (is_byte e) (drop (get_or taken place 0) (reader_at old place).held) (Some at)) (sym l.ends) l.found)
+        (rw l.ends l.found)
         (λ i. record (reader_at old place) { held = sym (drop-drop (at + 1) (get_or taken place 0) (reader_at old place).held) i })
 
     room_here : n < length h.store.lines
