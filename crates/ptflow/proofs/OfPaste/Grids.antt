@@ -54,13 +54,10 @@ module _ {k j : ℕ} (low : j < k) where
   chosen_front n a zero xs here all = absurd (omega arith)
   chosen_front n a (suc b) [] here all = inr (refl, omega arith, refl)
   chosen_front n zero (suc b) (x ∷ xs) here all = inl (rw (is_turn n (omega arith)) (ap (λ (l : Column). x ∷ l) (chosen_behind (n + 1) b xs (omega arith) (omega arith))), omega arith)
-  chosen_front n (suc a) (suc b) (x ∷ xs) here all = ⊎_elim
-      (λ is. inl (skip ∙ is.0, omega (arith, is.1)))
-      (λ is. inr (skip ∙ is.0, omega (arith, is.1), is.2))
-      (chosen_front (n + 1) a b xs (omega arith) (omega arith))
-    where
-      skip : chosen_from (turn k j) n (x ∷ xs) ≡ chosen_from (turn k j) (n + 1) xs
-      skip = ap (λ (t : Bool). cond t (x ∷ chosen_from (turn k j) (n + 1) xs) (chosen_from (turn k j) (n + 1) xs)) (no_turn n (omega arith) (omega arith))
+  chosen_front n (suc a) (suc b) (x ∷ xs) here all = rw (no_turn n (omega arith) (omega arith)) (⊎_elim
+      (λ is. inl (is.0, omega (arith, is.1)))
+      (λ is. inr (is.0, omega (arith, is.1), is.2))
+      (chosen_front (n + 1) a b xs (omega arith) (omega arith)))
 
   -- the first line of a column, and the others
   every_first : (ls : Column) → slice_index_or (every k j ls) 0 [] ≡ slice_index_or ls j []

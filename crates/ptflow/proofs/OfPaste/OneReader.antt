@@ -127,8 +127,7 @@ module _ (end n : ℕ) (delims turns : List (Option ℕ)) (t : AreTurns delims n
   line_turned : (number : ℕ) (line rest : List ℕ) → IsLine end line
       → with_turns end turns number ((line ++ end ∷ []) ++ rest) ≡ line ++ unwrap_or (delim_at turns number) end ∷ with_turns end turns (number + 1) rest
   line_turned number line rest free =
-      ap (with_turns end turns number) (append_assoc line (end ∷ []) rest) ∙ line_stays number line (end ∷ rest) free
-      ∙ ap (λ (s : Bool). line ++ cond s (unwrap_or (delim_at turns number) end ∷ with_turns end turns (number + 1) rest) (end ∷ with_turns end turns number rest)) (same_byte end)
+      ap (with_turns end turns number) (append_assoc line (end ∷ []) rest) ∙ line_stays number line (end ∷ rest) free ∙ rw (same_byte end) refl
 
   turn_of : (k c : ℕ) → c < n → delim_at turns (k * n + c) ≡ slice_index_or turns c None
   turn_of k c low = ap (λ (m : ℕ). slice_index_or turns m None) (ap (λ (size : ℕ). (k * n + c) % size) t.count ∙ mod-mul-add k n c low)

@@ -88,13 +88,9 @@ module _ (end : ℕ) (delims : List (Option ℕ)) where
       ++ row_rest end delims number false (lines end more)
   piece_on number [] free more = refl
   piece_on number (b ∷ piece) free more =
-      ap (λ (t : Bool). row_rest end delims number false (cond t ([] ∷ lines end (piece ++ more)) (onto_first b (lines end (piece ++ more))))) (other_byte end b free.0)
-      ∙ row_byte number b (lines end (piece ++ more)) ∙ ap (λ (l : List ℕ). b ∷ l) (piece_on number piece free.1 more)
+      rw (other_byte end b free.0) (row_byte number b (lines end (piece ++ more)) ∙ ap (λ (l : List ℕ). b ∷ l) (piece_on number piece free.1 more))
 
   -- ---- what is put of the bytes of cells, behind which more comes
-
-  pub puts_none : (number : ℕ) (bytes : List ℕ) → Puts end delims number bytes number bytes []
-  puts_none number bytes more some = refl
 
   -- a line of a cell and the delimiter behind it
   pub puts_line : (number now : ℕ) (bytes rest written is delim : List ℕ) (at : ℕ) → Puts end delims number bytes now rest written → IsFirstByte (is_byte end) rest (Some at)
@@ -110,15 +106,7 @@ module _ (end : ℕ) (delims : List (Option ℕ)) where
   puts_piece number now bytes rest written is puts free copied more some =
       puts more some ∙ ap (λ (l : List ℕ). written ++ l) (piece_on now rest free more) ∙ rw copied (simp append_assoc)
 
-  -- the last byte of a block ends its line
-  pub puts_ended : (number now : ℕ) (bytes written : List ℕ) → Puts end delims number bytes now [] written
-      → PutsBlock end delims number (bytes ++ end ∷ []) (record { number = now; ended = true }) written
-  puts_ended number now bytes written puts more =
-      ap (λ (l : List ℕ). row_rest end delims number false (lines end l)) (append_assoc bytes (end ∷ []) more)
-      ∙ puts (end ∷ more) (omega arith)
-      ∙ ap (λ (l : List ℕ). written ++ l) (ap (row_rest end delims now false) (lines_first end [] more tt) ∙ row_line now [] (lines end more))
-
-  -- or it belongs to it
+  -- the last byte of a block belongs to its line
   pub puts_last : (number now last : ℕ) (bytes written : List ℕ) → Puts end delims number bytes now [] written → (last ≡ end → ⊥)
       → PutsBlock end delims number (bytes ++ last ∷ []) (record { number = now; ended = false }) (written ++ last ∷ [])
   puts_last number now last bytes written puts other more =
