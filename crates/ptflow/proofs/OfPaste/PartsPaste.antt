@@ -137,9 +137,7 @@ paste_of_parts job cells n a b cut =
   where
     both : (p : ℕ) → HasRows job.end n (times cells p) (a p) (b p) → lines job.end (a p ++ b p) ≡ lines job.end (a p) ++ lines job.end (b p)
     both p (inl is) = the_lines_of_parts job.end (a p) (b p) is.0
-    both p (inr is) =
-        ap (λ (l : List ℕ). lines job.end (a p ++ l)) is.0 ∙ ap (lines job.end) (append-nil (a p)) ∙ sym (append-nil (lines job.end (a p)))
-        ∙ ap (λ (l : List ℕ). lines job.end (a p) ++ lines job.end l) (sym is.0)
+    both p (inr is) = rw is.0 (simp append-nil)
 
     reach : (p : ℕ) → HasRows job.end n (times cells p) (a p) (b p) → (length (lines job.end (a p)) ≡ n * times cells p)
         ⊎ ((lines job.end (b p) ≡ []) × (length (lines job.end (a p)) ≤ n * times cells p))

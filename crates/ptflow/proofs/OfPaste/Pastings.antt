@@ -51,7 +51,7 @@ known_on : (end : ℕ) (now : Reader) (given : List ℕ) (ls : Column) → Lines
     → whole_lines end (record { bytes = given ++ rest; ended = ended }) ≡ ls ++ whole_lines end (record { bytes = rest; ended = ended })
 known_on end now given ls k rest true may = lines_on end now given ls k rest (λ done. (may done).0)
 known_on end now given ls k rest false may = ⊎_elim
-    (λ o. ap (λ (l : List ℕ). ended_lines end (l ++ rest)) o.0 ∙ ended_more end ls rest o.1)
+    (λ o. rw o.0 (ended_more end ls rest o.1))
     (λ c. cc ((may c.1).1))
     k.so_far
 

@@ -124,11 +124,9 @@ module _ {cells : List ℕ} {n : ℕ} {old now : List Reader} {before store : Sl
   taken_more = record {
     took = taken_took;
     slots = λ c less. ⊎_elim
-        (λ same.
-        ap (line after) same ∙ ap (λ (s : Slots). line s n) stored ∙ get_or-set_same store.lines n bytes [] room ∙ there
-        ∙ ap (λ (l : List (List ℕ)). slice_index_or l (times (take n cells) place) []) (sym (more_here place ls got place refl))
-        ∙ ap (cell_of cells (more_at place ls got)) (sym same))
-        (λ differ. ap (λ (s : Slots). line s c) stored ∙ get_or-set_other store.lines n c bytes [] differ ∙ t.slots c (omega (arith, less, differ)) ∙ sym (old_cell c (omega (arith, less, differ))))
+        (λ same. rw same (rw stored (get_or-set_same store.lines n bytes [] room ∙ there
+        ∙ ap (λ (l : List (List ℕ)). slice_index_or l (times (take n cells) place) []) (sym (more_here place ls got place refl)))))
+        (λ differ. rw stored (get_or-set_other store.lines n c bytes [] differ ∙ t.slots c (omega (arith, less, differ)) ∙ sym (old_cell c (omega (arith, less, differ)))))
         (cases_eq c n);
     count = length-set now place r ∙ t.count;
     same = ap (λ (s : Slots). length s.lines) stored ∙ length-set store.lines n bytes ∙ t.same;

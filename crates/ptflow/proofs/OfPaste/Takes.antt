@@ -26,14 +26,10 @@ pub lines_trans : {end : ℕ} {b c : Reader} {bs cs : List ℕ} {xs ys : List (L
 lines_trans {end} {b} {c} {bs} {cs} {xs} {ys} p reads q = record {
   so_far = ⊎_elim
       (λ o. ⊎_elim
-      (λ q. inl ((λ i. o.0 i ++ q.0 i) ∙ sym (text-append end xs ys), AreLines-append end xs ys o.1 q.1))
-      (λ q. inr (ap (λ (l : List ℕ). lines end (l ++ cs)) o.0 ∙ lines_of_text end xs cs o.1 ∙ ap (λ (l : List (List ℕ)). xs ++ l) q.0, q.1))
+      (λ q. inl (rw (o.0, q.0, text-append end xs ys) refl, AreLines-append end xs ys o.1 q.1))
+      (λ q. inr (rw (o.0, lines_of_text end xs cs o.1, q.0) refl, q.1))
       q.so_far)
-      (λ k. inr (
-        (λ i. lines end (bs ++ (done_gives_nothing b c cs k.1 reads).0 i)) ∙ ap (lines end) (append-nil bs) ∙ k.0 ∙ sym (append-nil xs)
-            ∙ ap (λ (l : List (List ℕ)). xs ++ l) (sym (none_came k.1 reads q)),
-        stays_done b c cs k.1 reads,
-      ))
+      (λ k. inr (rw ((done_gives_nothing b c cs k.1 reads).0, none_came k.1 reads q) (simp append-nil k.0), stays_done b c cs k.1 reads))
       p.so_far;
 }
 
