@@ -148,8 +148,7 @@ module _ {job : Paste} {cells : List ℕ} {old set now : List Reader} {was is : 
       let p = rw same at pushed.0 in
       let g = p.held.gives in
       paste_write g (held_wrote s p) pushed.1 (held_kept s p)
-      (λ q some. cut_before job.end ((length s.passed + 1) * times cells q) (reader_at now q) (reader_at new q) (s.gives.took q).bytes (g.took q).bytes (s.ls q) (s.gives.took q).came (g.took q).reads
-      (p.held.pulled q) (now_held s q some) (omega (arith, some, more_count q, at_most (s.gives.took q))))
+      (λ q some. cut_before (s.gives.took q).came (g.took q).reads (p.held.pulled q) (now_held s q some) (omega (arith, some, more_count q, at_most (s.gives.took q))))
 
   -- a row that came by way of the slots
   pub paste_row_write : {new : List Reader} {after : Slots} (f : RowFilled cells now new store after true) {is' : Output} → Wrote is is' (sheet job (take (length cells) after.lines ∷ []))
@@ -280,9 +279,7 @@ module _ {job : Paste} {cells : List ℕ} {old set now : List Reader} {was is : 
     module _ (going : IsDone (reader_at b.mid here) → ⊥) where
       abbrev cut_here : CutBy job s.gives read_to here
       cut_here =
-          cut_piece job.end ((length s.passed + 1) * times cells here) (reader_at b.mid here) (reader_at new here) ((s.gives.took here).bytes ++ (took_to here).bytes)
-          (s.ls here ++ b.got here) (lines_to here) going (piece_of here).0 ((s.gives.took here).bytes ++ read_to.extra here) (given_is here) (piece_of here).2
-          (b.few (now_held s here here_named))
+          cut_piece (reader_at new here) (lines_to here) going (piece_of here).0 (given_is here) (piece_of here).2 (b.few (now_held s here here_named))
           (omega (arith, more_count here, length-append (s.ls here) (b.got here), at_most (s.gives.took here), at_most (took_to here), times_below cells b.column b.within))
 
       -- another one, up to the last line that it gave

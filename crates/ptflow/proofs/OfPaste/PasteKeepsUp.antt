@@ -34,9 +34,9 @@ pub record CutBack (end most : ℕ) (came : Given) : Type 0 where
   pub few : length (ended_lines end front) < most
 
 -- by what is held
-abbrev pub cut_piece : (end most : ℕ) (now new : Reader) (given : List ℕ) (ls : Column) → LinesCame end now given ls → (IsDone now → ⊥)
-    → (piece bytes : List ℕ) → bytes ≡ given ++ piece → IsLine end piece → length new.held ≤ 8192 → length ls < most → CutBack end most (given_of bytes new)
-cut_piece end most now new given ls k going piece bytes is free held few = record {
+abbrev pub cut_piece : {end most : ℕ} {now : Reader} (new : Reader) {given : List ℕ} {ls : Column} → LinesCame end now given ls → (IsDone now → ⊥)
+    → (piece : List ℕ) {bytes : List ℕ} → bytes ≡ given ++ piece → IsLine end piece → length new.held ≤ 8192 → length ls < most → CutBack end most (given_of bytes new)
+cut_piece {end} new {given} {ls} k going piece {bytes} is free held few = record {
   front = bytes;
   last = new.held;
   split = refl;
@@ -115,9 +115,9 @@ whole_front end ended (b ∷ front) last = by_test ended (b == end) (ended_lines
     by_test false false (x ∷ xs) later = (later.0, ap (onto_line b) later.1)
 
 -- by what was given before the last bytes, if those lay in what was held
-pub cut_before : (end most : ℕ) (now new : Reader) (given more : List ℕ) (ls : Column) → LinesCame end now given ls → Reads now new more → new.pulled ≡ now.pulled
+pub cut_before : {end most : ℕ} {now new : Reader} {given more : List ℕ} {ls : Column} → LinesCame end now given ls → Reads now new more → new.pulled ≡ now.pulled
     → length now.held ≤ 8192 → length ls < most → CutBack end most (given_of (given ++ more) new)
-cut_before end most now new given more ls came reads still held few =
+cut_before {end} {now = now} {new = new} {given = given} {more = more} {ls = ls} came reads still held few =
     let f = whole_front end true given [] in record {
       front = given;
       last = more ++ new.held;
