@@ -31,7 +31,7 @@ use Rattle.ptflow.proofs.OfPaste.PasteKeepsUp.{CutBack, cut_piece, cut_before, c
 use Rattle.ptflow.proofs.OfPasses.ReaderFacts.{done_gives_nothing}
 use Rattle.ptflow.proofs.OfPaste.Takes.{reads_nothing, lines_trans, at_most}
 use Rattle.ptflow.proofs.OfPaste.Pastings.{Pasting, Starts, ReadOn, never_failed, set_failed, came_since, now_end, now_fault, now_failed, now_short, now_held}
-use Rattle.ptflow.proofs.OfPaste.Pastings.{given_by, later, rows_by, begins_by, more_by, rows_whole, WorksBy, CutBy, works_by, begins_by_cut, longest_by}
+use Rattle.ptflow.proofs.OfPaste.Pastings.{given_by, later, rows_by, begins_by, WorksBy, CutBy, works_by, begins_by_cut, longest_by}
 use Rattle.ptflow.proofs.OfPaste.Pastings.{held_wrote, held_kept, row_kept, row_gives}
 
 -- nothing was done

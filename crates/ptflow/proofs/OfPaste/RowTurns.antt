@@ -7,11 +7,11 @@ use Rattle.std.proofs.lemmas.List.{append-nil, take-take, length-set, get_or-set
 use Rattle.std.proofs.lemmas.List.Sums.{sum_by-set}
 use Rattle.ptlines.specs.Text.{longest}
 use Rattle.ptlines.specs.Readers.{Reader, Goes, IsDone, IsSound, budget}
-use Rattle.ptlines.specs.Slots.{Slots, line, with_line}
+use Rattle.ptlines.specs.Slots.{Slots, with_line}
 use Rattle.ptlines.specs.Fills.{GivesLine, Fills}
 use Rattle.ptflow.specs.PastePasses.{no_reader, reader_at}
 use Rattle.ptflow.specs.Pastes.{times}
-use Rattle.ptflow.specs.Workings.Paste.RowTurns.{IsSet, AreSet, RowTaken, Filling, RowBroken}
+use Rattle.ptflow.specs.Workings.Paste.RowTurns.{AreSet, RowTaken, Filling, RowBroken}
 use Rattle.ptflow.specs.Workings.Paste.TakenLines.{Took}
 use Rattle.ptflow.proofs.OfPaste.CellSlots.{cells_line}
 use Rattle.ptflow.proofs.OfPaste.Grids.{times_here, times_other, times_front}

@@ -36,10 +36,12 @@ module _ (end : ℕ) (delims : List (Option ℕ)) {all : List (List ℕ)} {was :
       line_on more = row_line end delims (begun cell).number line (rest ++ more)
 
       pub row_cut : is2.faulted ≡ true → Wrote was is2 (glued_from delims 0 all ++ end ∷ [])
-      row_cut fault = halted (amid_halts (row_from end delims) first_cell (begun cell) (record { number = (begun cell).number; ended = true }) all (line ∷ rest) rest line was is1 is2 begun_amid wrote line_on fault)
+      row_cut fault = halted (amid_halts (row_from end delims) first_cell (begun cell) (record { number = (begun cell).number; ended = true }) all (line ∷ rest) rest line was is1 is2
+          begun_amid wrote line_on fault)
 
       pub row_more : is2.faulted ≡ false → Amid (row_from end delims) first_cell (record { number = (begun cell).number; ended = true }) all rest was is2
-      row_more fine = amid_more (row_from end delims) first_cell (begun cell) (record { number = (begun cell).number; ended = true }) all (line ∷ rest) rest line was is1 is2 begun_amid wrote line_on fine
+      row_more fine = amid_more (row_from end delims) first_cell (begun cell) (record { number = (begun cell).number; ended = true }) all (line ∷ rest) rest line was is1 is2 begun_amid wrote
+          line_on fine
 
   -- all cells were pushed, and then the end
   pub row_done : {cell : Cell} {is is1 : Output} → Amid (row_from end delims) first_cell cell all [] was is → Wrote is is1 (end ∷ []) → Wrote was is1 (glued_from delims 0 all ++ end ∷ [])

@@ -2,12 +2,11 @@
 -- fill.
 use Rattle.std.proofs.Common.{◌≡◌, ⊎_elim, inl, inr, ℕ, zero, suc, ◌+◌, ◌-◌, ◌<◌, ◌≤◌, ◌^◌, Bool, true, false, cond, List, [], ◌∷◌, ◌++◌, Option, None, Some, length}
 use Rattle.std.proofs.Common.{take, drop, set, get_or, refl, sym, ◌∙◌, ap, subst, arith, append_assoc, length-append, length-drop, replicate}
-use Rattle.std.specs.Prelude.{All, nat_lt, Result, Err}
+use Rattle.std.specs.Prelude.{nat_lt, Result, Err}
 use Rattle.std.proofs.lemmas.Bool.{cases_eq, cases_lt}
 use Rattle.std.proofs.lemmas.Bool.Decides.{nat_tests}
 use Rattle.std.proofs.lemmas.List.{append-nil, take-take, take-append-le, length-take-le, length-set, drop-drop}
 use Rattle.std.proofs.lemmas.List.{take_more_set, get_or-set_same, get_or-set_other, get_or-replicate, get_or_past, ext_get_or}
-use Rattle.std.proofs.lemmas.List.Elements.{All-get_or}
 use Rattle.memchr.specs.Find.{IsFirstByte, is_byte}
 use Rattle.ptlines.specs.Readers.{Reader, Goes, IsSound}
 use Rattle.ptlines.specs.Outputs.{Output}
@@ -20,7 +19,7 @@ use Rattle.ptflow.specs.Workings.Paste.RowTurns.{Filling}
 use Rattle.ptflow.specs.Workings.Paste.SerialRests.{row_rest, row_from, begun, lead}
 use Rattle.ptflow.specs.Workings.Paste.WholeRows.{in_front, AreReadable, AreTaken, Holds, HeldRows, HoldsTo, PassesRows, PushedRows, PutsRow, PutsRows}
 use Rattle.ptflow.proofs.OfPaste.GivenRows.{blank, length_blank, held_row, held_trans}
-use Rattle.ptflow.proofs.OfPaste.RowTurns.{at_index, at_same, at_other, filling_starts, filling_line}
+use Rattle.ptflow.proofs.OfPaste.RowTurns.{at_same, at_other, filling_starts, filling_line}
 use Rattle.ptflow.proofs.OfPaste.SerialRests.{row_begun, row_line, row_end}
 use Rattle.ptflow.proofs.OfPaste.SheetRows.{first_cell}
 

@@ -1,17 +1,15 @@
 -- Each turn fills one more cell, or leaves it empty where its reader has ended. A read or a growth that fails stops
 -- the row, of which nothing was pushed.
-use Rattle.std.proofs.Common.{◌≡◌, ◌<◌, ℕ, Bool, true, false, [], None, All, List, length, get_or, refl, ◌∙◌, ap, arith}
+use Rattle.std.proofs.Common.{◌≡◌, ◌<◌, ℕ, Bool, true, false, [], None, length, get_or, refl, ◌∙◌, ap, arith}
 use borrow.Author.Rules.{scaled_Fits}
 use Rattle.std.proofs.lemmas.List.Elements.{All-get_or}
 use Rattle.std.proofs.lemmas.Result.{err_from_is_err_and}
 use Rattle.ptlines.specs.Outputs.{Output, Wrote}
 use Rattle.ptlines.specs.Readers.{Reader}
-use Rattle.ptlines.specs.Slots.{Slots}
 use Rattle.ptlines.specs.Fills.{BreaksRead, BreaksMemory}
 use Rattle.ptlines.proofs.Pushed.{wrote_nothing, wrote_trans}
 use Rattle.ptflow.specs.PastePasses.{reader_at}
-use Rattle.ptflow.specs.Pastes.{times}
-use Rattle.ptflow.specs.Workings.Paste.RowTurns.{Filling, NotAsked}
+use Rattle.ptflow.specs.Workings.Paste.RowTurns.{NotAsked}
 use Rattle.ptflow.proofs.OfPaste.Grids.{times_below}
 use Rattle.ptflow.proofs.OfPaste.RowTurns.{filling_starts, filling_next, filling_breaks, at_index}
 use Rattle.ptflow.proofs.tools.paste.fill_row.Given as given
@@ -62,8 +60,11 @@ returns-in-Err-Read g c =
     let here = (goal.at.returns-in-Err-Read g c).After-send_before_wait in
     let r = reader_of g here in
     record {
-      fills = (filling_breaks c.loop-column.invariant.filling c.loop-column-test.true r.0 {Breaks = BreaksRead} _ _ r.1
-          (rw c.in-Err-Read.field-0-is at (c.in-Err-Read.ensures.fills r.2)) (λ held. c.in-Err-Read.ensures.is_sound.held), refl);
+      fills = (
+        filling_breaks c.loop-column.invariant.filling c.loop-column-test.true r.0 {Breaks = BreaksRead} _ _ r.1
+            (rw c.in-Err-Read.field-0-is at (c.in-Err-Read.ensures.fills r.2)) (λ held. c.in-Err-Read.ensures.is_sound.held),
+        refl,
+      );
       wrote = sent g here;
       faulted = c.in_ok-send_before_wait.ensures.clean;
     }

@@ -1,6 +1,6 @@
 -- What stands in front of the cell is pushed, and then what is written of the block: both are what is written of the
 -- block in this cell, whatever comes. Where a push fails, what was pushed is a beginning of that.
-use Rattle.std.proofs.Common.{◌<◌, ◌≤◌, [], length, take, refl, ap, arith, subst}
+use Rattle.std.proofs.Common.{◌<◌, ◌≤◌, [], length, take, refl, ap, arith}
 use Rattle.std.proofs.lemmas.Bool.Decides.{nat_tests}
 use Rattle.std.proofs.lemmas.List.{drop_all}
 use Rattle.ptflow.specs.Workings.Paste.SerialRests.{serial_rest, begun, lead, PutsBlock}
@@ -38,7 +38,8 @@ put_block-count-requires-clause-short g c = omega (arith, ap (λ (x : Cell). x.n
 led : (g : given.Over) (c : In_ok-begun g) → Amid (serial_rest c.args.ending c.args.delims.now) c.args.cell (begun c.args.cell) c.args.block.now c.args.block.now c.args.out.now c.begin_cell.new.out
 led g c =
     begins c.args.ending c.args.delims.now c.args.cell c.args.cell c.args.block.now c.args.block.now c.args.out.now c.args.out.now c.begin_cell.new.out
-    (amid_starts (serial_rest c.args.ending c.args.delims.now) c.args.cell c.args.block.now c.args.out.now c.requires.clean) (grind (arith, nat_tests)) c.begin_cell.ensures.wrote c.in_ok-begun.ensures.clean
+    (amid_starts (serial_rest c.args.ending c.args.delims.now) c.args.cell c.args.block.now c.args.out.now c.requires.clean) (grind (arith, nat_tests)) c.begin_cell.ensures.wrote
+    c.in_ok-begun.ensures.clean
 
 puts : (g : given.Over) (c : After-push g) → PutsBlock c.args.ending c.args.delims.now (begun c.args.cell).number c.args.block.now c.put_block-count.result.1
     (take c.put_block-count.result.0 c.put_block-count.new.into)
@@ -49,11 +50,13 @@ returns-in_err-push-clause-halts g c =
     let at = goal.at.returns-in_err-push-clause-halts g c in
     on_err c.from_residual-in_err-push.result
     (amid_halts (serial_rest c.args.ending c.args.delims.now) c.args.cell (begun c.args.cell) c.put_block-count.result.1 c.args.block.now c.args.block.now []
-    (take c.put_block-count.result.0 c.put_block-count.new.into) c.args.out.now c.begin_cell.new.out c.push.new.self (led g at.In_ok-begun) c.push.ensures.wrote (puts g at.After-push) c.in_err-push.ensures.fault)
+    (take c.put_block-count.result.0 c.put_block-count.new.into) c.args.out.now c.begin_cell.new.out c.push.new.self (led g at.In_ok-begun) c.push.ensures.wrote (puts g at.After-push)
+    c.in_err-push.ensures.fault)
 
 pub returns-clause-continues : goal.returns-clause-continues
 returns-clause-continues g c =
     let at = goal.at.returns-clause-continues g c in
     amid_over (serial_rest c.args.ending c.args.delims.now) c.args.cell c.put_block-count.result.1 c.args.block.now [] c.args.out.now c.push.new.self
     (amid_more (serial_rest c.args.ending c.args.delims.now) c.args.cell (begun c.args.cell) c.put_block-count.result.1 c.args.block.now c.args.block.now []
-    (take c.put_block-count.result.0 c.put_block-count.new.into) c.args.out.now c.begin_cell.new.out c.push.new.self (led g at.In_ok-begun) c.push.ensures.wrote (puts g at.After-push) c.in_ok-push.ensures.clean) refl
+    (take c.put_block-count.result.0 c.put_block-count.new.into) c.args.out.now c.begin_cell.new.out c.push.new.self (led g at.In_ok-begun) c.push.ensures.wrote (puts g at.After-push)
+    c.in_ok-push.ensures.clean) refl

@@ -158,7 +158,8 @@ pub slice_bounds-rest-end : goal.slice_bounds-rest-end
 slice_bounds-rest-end g c = omega (arith, fits g (goal.at.slice_bounds-rest-end g c).After-held)
 
 pub overflow_add-taken-in-loop-column : goal.overflow_add-taken-in-loop-column
-overflow_add-taken-in-loop-column g c = omega (arith, fits g (goal.at.overflow_add-taken-in-loop-column g c).After-held, ap length c.held.ensures.held, c.held.ensures.sound.held, c.in_ok-count.ensures.near)
+overflow_add-taken-in-loop-column g c = omega
+    (arith, fits g (goal.at.overflow_add-taken-in-loop-column g c).After-held, ap length c.held.ensures.held, c.held.ensures.sound.held, c.in_ok-count.ensures.near)
 
 pub overflow_cast-taken : goal.overflow_cast-taken
 overflow_cast-taken g c = omega (arith, fits g (goal.at.overflow_cast-taken g c).After-held, ap length c.held.ensures.held, c.held.ensures.sound.held, c.in_ok-count.ensures.near)
