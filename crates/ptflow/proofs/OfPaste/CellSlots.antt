@@ -1,5 +1,5 @@
 -- What the slots of the cells of a row hold.
-use Rattle.std.proofs.Common.{◌≡◌, ℕ, suc, ◌+◌, ◌<◌, ◌≤◌, false, List, [], ◌∷◌, length, take, drop, set, get_or, sym, ◌∙◌, ap, arith, ⊎_elim, take-append-drop}
+use Rattle.std.proofs.Common.{◌≡◌, ℕ, suc, ◌+◌, ◌<◌, ◌≤◌, false, List, [], ◌∷◌, length, take, drop, set, get_or, refl, sym, ◌∙◌, ap, arith, ⊎_elim, take-append-drop}
 use Rattle.std.specs.Prelude.{sum_by}
 use Rattle.std.proofs.lemmas.Bool.{cases_eq}
 use Rattle.std.proofs.lemmas.List.{length-set, drop-set-lt, get_or-set_same, get_or-set_other}
@@ -22,9 +22,13 @@ pub cells_total : (cells : List ℕ) (top : ℕ → ℕ) (ls : List (List ℕ)) 
     → total (drop (length cells) ls) ≡ 0 → total ls ≤ sum_by top cells
 cells_total cells top ls short others = omega (arith, total_split (length cells) ls, front_total top cells ls short, others)
 
-pub cells_start : (cells : List ℕ) (top : ℕ → ℕ) (before store : Slots) → Adds before store (length cells) → store.denied ≡ false → total store.lines ≡ 0
+pub none_in : (cells : List ℕ) → sum_by (λ (p : ℕ). 0) cells ≡ 0
+none_in [] = refl
+none_in (x ∷ cells) = omega (arith, sum_by-cons (λ (p : ℕ). 0) x cells, none_in cells)
+
+pub cells_start : {cells : List ℕ} {top : ℕ → ℕ} {before store : Slots} → Adds before store (length cells) → store.denied ≡ false → total store.lines ≡ 0
     → store.peak ≡ before.peak → KeepsCells cells top before store
-cells_start cells top before store adds denied empty peak = record {
+cells_start {cells} {store = store} adds denied empty peak = record {
   denied = denied;
   adds = adds;
   short = λ c low. omega (arith, empty, get_or-le-sum_by length store.lines c [] (omega (arith, low, adds.all denied)));
@@ -33,37 +37,27 @@ cells_start cells top before store adds denied empty peak = record {
 }
 
 -- another line is in the slot of a cell
-pub cells_line : (cells : List ℕ) (top : ℕ → ℕ) (before store new : Slots) (column : ℕ) (bytes : List ℕ) → KeepsCells cells top before store → column
-    < length cells → length bytes ≤ top (get_or cells column 0) → new ≡ with_line store column bytes → KeepsCells cells top before new
-cells_line cells top before store new column bytes k within fits is = record {
-  denied = ap (λ (s : Slots). s.denied) is ∙ k.denied;
-  adds = record {
-    least = omega (arith, same_length, k.adds.least);
-    most = omega (arith, same_length, k.adds.most);
-    all = λ allowed. same_length ∙ k.adds.all k.denied;
-  };
+pub cells_line : {cells : List ℕ} {top : ℕ → ℕ} {before store : Slots} → KeepsCells cells top before store → (column : ℕ) (bytes : List ℕ) → column < length cells
+    → length bytes ≤ top (get_or cells column 0) → KeepsCells cells top before (with_line store column bytes)
+cells_line {cells} {top} {before} {store} k column bytes within fits = record {
+  denied = k.denied;
+  adds = record { least = omega (arith, size, k.adds.least); most = omega (arith, size, k.adds.most); all = λ allowed. size ∙ k.adds.all k.denied };
   short = short;
   others = others;
-  peak = omega (arith, ap (λ (s : Slots). s.peak) is, k.peak, ap (λ (s : Slots). total s.lines) is, cells_total cells top new.lines short others);
+  peak = omega (arith, k.peak, cells_total cells top lines short others);
 }
   where
-    same_length : length new.lines ≡ length store.lines
-    same_length = ap (λ (s : Slots). length s.lines) is ∙ length-set store.lines column bytes
+    lines : List (List ℕ)
+    lines = set store.lines column bytes
 
-    short : (c : ℕ) → c < length cells → length (get_or new.lines c []) ≤ top (get_or cells c 0)
-    short c low = ⊎_elim here there (cases_eq c column)
-      where
-        here : c ≡ column → length (get_or new.lines c []) ≤ top (get_or cells c 0)
-        here same = omega (
-          arith,
-          fits,
-          ap (λ (n : ℕ). top (get_or cells n 0)) same,
-          ap length (ap (λ (s : Slots). get_or s.lines c []) is ∙ ap (λ (n : ℕ). get_or (set store.lines column bytes) n []) same
-              ∙ get_or-set_same store.lines column bytes [] (omega (arith, within, k.adds.all k.denied))),
-        )
+    size : length lines ≡ length store.lines
+    size = length-set store.lines column bytes
 
-        there : (c ≡ column → ⊥) → length (get_or new.lines c []) ≤ top (get_or cells c 0)
-        there other = omega (arith, k.short c low, ap length (ap (λ (s : Slots). get_or s.lines c []) is ∙ get_or-set_other store.lines column c bytes [] other))
+    short : (c : ℕ) → c < length cells → length (get_or lines c []) ≤ top (get_or cells c 0)
+    short c low = ⊎_elim
+        (λ same. rw same (rw (get_or-set_same store.lines column bytes [] (omega (arith, within, k.adds.all k.denied))) fits))
+        (λ other. rw (get_or-set_other store.lines column c bytes [] other) (k.short c low))
+        (cases_eq c column)
 
-    others : total (drop (length cells) new.lines) ≡ 0
-    others = ap (λ (s : Slots). total (drop (length cells) s.lines)) is ∙ ap total (drop-set-lt (length cells) store.lines column bytes within) ∙ k.others
+    others : total (drop (length cells) lines) ≡ 0
+    others = ap total (drop-set-lt (length cells) store.lines column bytes within) ∙ k.others

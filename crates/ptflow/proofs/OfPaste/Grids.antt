@@ -1,17 +1,21 @@
 -- The columns and rows of a grid, one row after another.
-use Rattle.std.proofs.Common.{◌≡◌, ◌≢◌, ◌⊎◌, ⊎_elim, inl, inr, ℕ, zero, suc, ◌+◌, ◌-◌, ◌*◌, ◌%◌, ◌<◌, ◌≤◌, ◌==◌, ◌&&◌, ◌||◌, Bool, true, false, cond, List, []}
-use Rattle.std.proofs.Common.{◌∷◌, ◌++◌, length, take, drop, get_or, map, max, refl, sym, ◌∙◌, ap, arith, length-append, length-drop}
+use Rattle.std.proofs.Common.{◌≡◌, ◌≢◌, ◌⊎◌, ⊎_elim, inl, inr, ℕ, zero, suc, ◌+◌, ◌-◌, ◌*◌, ◌%◌, ◌<◌, ◌≤◌, ◌==◌, ◌||◌, Bool, true, false, cond, List, []}
+use Rattle.std.proofs.Common.{◌∷◌, ◌++◌, Option, length, take, drop, get_or, map, max, refl, sym, ◌∙◌, ap, arith, length-append, length-drop}
 use Rattle.std.specs.Prelude.{fold, slice_index_or, nat_lt}
 use Rattle.std.specs.List.{enumerate_from, range_with_len}
-use Rattle.std.proofs.lemmas.Bool.{eq-eqb}
+use Rattle.std.proofs.lemmas.Bool.{cases_eq, cases_lt, eq-eqb, ne_eqb, le-ltb, and_right}
 use Rattle.std.proofs.lemmas.Bool.Decides.{nat_tests}
 use Rattle.std.proofs.Math.Nat.{add-mod_left, mod-eq_of_lt}
-use Rattle.std.proofs.lemmas.List.{append-nil, drop_at, drop_all, get_or_past, get_or_append_left, ext_get_or, get_or-map, length-map}
+use Rattle.std.proofs.lemmas.List.{append-nil, drop_at, drop_all, get_or_past, get_or_append_left, ext_get_or, get_or-map, length-map, map-append}
 use Rattle.std.proofs.lemmas.List.FromFn.{length-enumerate_from, get_or-enumerate_from}
-use Rattle.std.proofs.lemmas.List.Sums.{count_by_more_yes, count_by_more_no, sum_by-take-le}
+use Rattle.std.proofs.lemmas.List.Sums.{sum_by-cons, count_by_more_yes, count_by_more_no, sum_by-take-le}
 use Rattle.std.proofs.lemmas.Grind.{get_or_after_one}
+use Rattle.std.proofs.lemmas.Simd.{map-map}
+use Rattle.ptlines.specs.Text.{text}
+use Rattle.ptlines.proofs.TextLaws.{text-append}
 use Rattle.ptflow.specs.Cuts.{chosen_from}
-use Rattle.ptflow.specs.Pastes.{every, times, columns, height, row, rows, is_row_known}
+use Rattle.ptflow.specs.PastePasses.{put_at}
+use Rattle.ptflow.specs.Pastes.{glued_from, every, times, columns, height, row, rows, is_row_known}
 
 abbrev pub Column : Type 0
 Column = List (List ℕ)
@@ -22,7 +26,7 @@ Column = List (List ℕ)
 abbrev turn : ℕ → ℕ → ℕ → Bool
 turn k j i = i % k == j
 
-module _ (k j : ℕ) (low : j < k) where
+module _ {k j : ℕ} (low : j < k) where
   -- numbers that are k apart are in one turn
   chosen_apart : (n : ℕ) (xs : Column) → chosen_from (turn k j) (k + n) xs ≡ chosen_from (turn k j) n xs
   chosen_apart n [] = refl
@@ -50,16 +54,13 @@ module _ (k j : ℕ) (low : j < k) where
   chosen_front n a zero xs here all = absurd (omega arith)
   chosen_front n a (suc b) [] here all = inr (refl, omega arith, refl)
   chosen_front n zero (suc b) (x ∷ xs) here all = inl (rw (is_turn n (omega arith)) (ap (λ (l : Column). x ∷ l) (chosen_behind (n + 1) b xs (omega arith) (omega arith))), omega arith)
-  chosen_front n (suc a) (suc b) (x ∷ xs) here all = ⊎_elim
-      (λ is. inl (skip ∙ is.0, omega (arith, is.1)))
-      (λ is. inr (skip ∙ is.0, omega (arith, is.1), is.2))
-      (chosen_front (n + 1) a b xs (omega arith) (omega arith))
-    where
-      skip : chosen_from (turn k j) n (x ∷ xs) ≡ chosen_from (turn k j) (n + 1) xs
-      skip = ap (λ (t : Bool). cond t (x ∷ chosen_from (turn k j) (n + 1) xs) (chosen_from (turn k j) (n + 1) xs)) (no_turn n (omega arith) (omega arith))
+  chosen_front n (suc a) (suc b) (x ∷ xs) here all = rw (no_turn n (omega arith) (omega arith)) (⊎_elim
+      (λ is. inl (is.0, omega (arith, is.1)))
+      (λ is. inr (is.0, omega (arith, is.1), is.2))
+      (chosen_front (n + 1) a b xs (omega arith) (omega arith)))
 
   -- the first line of a column, and the others
-  pub every_first : (ls : Column) → slice_index_or (every k j ls) 0 [] ≡ slice_index_or ls j []
+  every_first : (ls : Column) → slice_index_or (every k j ls) 0 [] ≡ slice_index_or ls j []
   every_first ls = ⊎_elim
       (λ is. ap (λ (l : Column). slice_index_or l 0 []) is.0)
       (λ is. ap (λ (l : Column). slice_index_or l 0 []) is.0 ∙ sym (get_or_past ls j [] is.1))
@@ -71,16 +72,17 @@ module _ (k j : ℕ) (low : j < k) where
       (λ is. ap (drop 1) is.0 ∙ ap (every k j) (sym is.2))
       (chosen_front 0 j k ls (omega arith) (omega arith))
 
-  pub every_some : (ls : Column) → j < length ls → 0 < length (every k j ls)
+  every_some : (ls : Column) → j < length ls → 0 < length (every k j ls)
   every_some ls some = ⊎_elim (λ is. omega (arith, ap length is.0)) (λ is. absurd (omega (arith, is.1))) (chosen_front 0 j k ls (omega arith) (omega arith))
 
-pub every_nil : (k j : ℕ) → every k j [] ≡ []
-every_nil k j = refl
+  -- how long a column is
+  pub every_short : (r : ℕ) (ls : Column) → length ls ≤ j + r * k → length (every k j ls) ≤ r
+  every_short zero ls few = ⊎_elim (λ is. absurd (omega (arith, is.1, few))) (λ is. omega (arith, ap length is.0)) (chosen_front 0 j k ls (omega arith) (omega arith))
+  every_short (suc r) ls few =
+      let more : suc r * k ≡ k + r * k = omega arith in
+      omega (arith, every_short r (drop k ls) (omega (arith, few, more, length-drop k ls)), ap length (every_rest ls), length-drop 1 (every k j ls))
 
 -- ---- rows
-
-rest_of : List Column → List Column
-rest_of cols = map (drop 1) cols
 
 height_from : (a : ℕ) (cols : List Column) → fold max (a - 1) (map length (map (drop 1) cols)) ≡ fold max a (map length cols) - 1
 height_from a [] = refl
@@ -98,7 +100,7 @@ rows_later : (cols : List Column) (a h : ℕ) → map (row cols) (range_with_len
 rows_later cols a zero = refl
 rows_later cols a (suc h) = λ i. sym (row_later cols a) i ∷ rows_later cols (a + 1) h i
 
-pub rows_step : (cols : List Column) → 0 < height cols → rows cols ≡ row cols 0 ∷ rows (map (drop 1) cols)
+rows_step : (cols : List Column) → 0 < height cols → rows cols ≡ row cols 0 ∷ rows (map (drop 1) cols)
 rows_step cols some = by_height (height cols) refl some
   where
     by_height : (h : ℕ) → height cols ≡ h → 0 < h → map (row cols) (range_with_len 0 (height cols)) ≡ row cols 0 ∷ rows (map (drop 1) cols)
@@ -113,55 +115,57 @@ height_least a [] = omega arith
 height_least a (c ∷ cols) = omega (arith, height_least (max a (length c)) cols)
 
 -- a column is no higher than the grid
-pub height_of : (a : ℕ) (cols : List Column) (c : ℕ) → length (get_or cols c []) ≤ fold max a (map length cols)
+height_of : (a : ℕ) (cols : List Column) (c : ℕ) → length (get_or cols c []) ≤ fold max a (map length cols)
 height_of a [] c = omega arith
 height_of a (col ∷ cols) zero = omega (arith, height_least (max a (length col)) cols)
 height_of a (col ∷ cols) (suc c) = height_of (max a (length col)) cols c
 
-pub height_none : (cols : List Column) → ((c : ℕ) → c < length cols → get_or cols c [] ≡ []) → height cols ≡ 0
+height_none : (cols : List Column) → ((c : ℕ) → c < length cols → get_or cols c [] ≡ []) → height cols ≡ 0
 height_none [] none = refl
 height_none (col ∷ cols) none =
     let empty : length col ≡ 0 = ap length (none 0 (omega arith)) in
     ap (λ (n : ℕ). fold max n (map length cols)) (omega (arith, empty)) ∙ height_none cols (λ c low. none (suc c) (omega arith))
 
-pub rows_none : (cols : List Column) → height cols ≡ 0 → rows cols ≡ []
-rows_none cols none = ap (λ (n : ℕ). map (row cols) (range_with_len 0 n)) none
+pub rows_none : (cols : List Column) → ((c : ℕ) → c < length cols → get_or cols c [] ≡ []) → rows cols ≡ []
+rows_none cols none = ap (λ (n : ℕ). map (row cols) (range_with_len 0 n)) (height_none cols none)
 
 -- ---- the columns of cells
-
--- two lists that are made alike of one
-map_each : {X Y : Type 0} (f g : X → Y) (xs : List X) (d : X) → ((i : ℕ) → i < length xs → f (get_or xs i d) ≡ g (get_or xs i d)) → map f xs ≡ map g xs
-map_each f g [] d same = refl
-map_each f g (x ∷ xs) d same = λ i. same 0 (omega arith) i ∷ map_each f g xs d (λ n low. same (suc n) (omega arith)) i
 
 -- of each cell, by its number and its place
 abbrev pub each : {Y : Type 0} → (ℕ → ℕ → Y) → List ℕ → List Y
 each f cells = map (λ (cell : ℕ × ℕ). f cell.0 cell.1) (enumerate_from 0 cells)
 
-pub length-each : {Y : Type 0} (f : ℕ → ℕ → Y) (cells : List ℕ) → length (each f cells) ≡ length cells
+length-each : {Y : Type 0} (f : ℕ → ℕ → Y) (cells : List ℕ) → length (each f cells) ≡ length cells
 length-each f cells = length-map (enumerate_from 0 cells) (λ (cell : ℕ × ℕ). f cell.0 cell.1) ∙ length-enumerate_from 0 cells
 
-pub get_or-each : {Y : Type 0} (f : ℕ → ℕ → Y) (cells : List ℕ) (c : ℕ) (d : Y) → c < length cells → get_or (each f cells) c d ≡ f c (get_or cells c 0)
+get_or-each : {Y : Type 0} (f : ℕ → ℕ → Y) (cells : List ℕ) (c : ℕ) (d : Y) → c < length cells → get_or (each f cells) c d ≡ f c (get_or cells c 0)
 get_or-each {Y} f cells c d low =
     get_or-map (λ (cell : ℕ × ℕ). f cell.0 cell.1) (enumerate_from 0 cells) c (0, 0) d (omega (arith, length-enumerate_from 0 cells))
     ∙ ap (λ (cell : ℕ × ℕ). f cell.0 cell.1) (get_or-enumerate_from 0 cells c (0, 0) low) ∙ (let same : 0 + c ≡ c = omega arith in ap (λ (n : ℕ). f n (get_or cells c 0)) same)
-
-pub each_same : {Y : Type 0} (f g : ℕ → ℕ → Y) (cells : List ℕ) → ((c : ℕ) → c < length cells → f c (get_or cells c 0) ≡ g c (get_or cells c 0)) → each f cells ≡ each g cells
-each_same {Y} f g cells same =
-    ext_get_or (f 0 0) (each f cells) (each g cells) (length-each f cells ∙ sym (length-each g cells))
-    (λ c low. let within : c < length cells = omega (arith, low, length-each f cells) in get_or-each f cells c (f 0 0) within ∙ same c within ∙ sym (get_or-each g cells c (f 0 0) within))
 
 -- a list that has this for each cell
 pub each_is : {Y : Type 0} (f : ℕ → ℕ → Y) (cells : List ℕ) (ys : List Y) (d : Y) → length ys ≡ length cells → ((c : ℕ) → c < length cells → get_or ys c d ≡ f c (get_or cells c 0)) → ys ≡ each f cells
 each_is f cells ys d long same =
     ext_get_or d ys (each f cells) (long ∙ sym (length-each f cells)) (λ c low. let within : c < length cells = omega (arith, low, long) in same c within ∙ sym (get_or-each f cells c d within))
 
-pub map_each_of : {Y Z : Type 0} (g : Y → Z) (f : ℕ → ℕ → Y) (cells : List ℕ) (d : Y) (e : Z) → map g (each f cells) ≡ each (λ c p. g (f c p)) cells
-map_each_of {Y} {Z} g f cells d e =
-    each_is (λ c p. g (f c p)) cells (map g (each f cells)) e (length-map (each f cells) g ∙ length-each f cells)
-    (λ c low. get_or-map g (each f cells) c d e (omega (arith, low, length-each f cells)) ∙ ap g (get_or-each f cells c d low))
+pub each_same : {Y : Type 0} (f g : ℕ → ℕ → Y) (cells : List ℕ) → ((c : ℕ) → c < length cells → f c (get_or cells c 0) ≡ g c (get_or cells c 0)) → each f cells ≡ each g cells
+each_same f g cells same = each_is g cells (each f cells) (f 0 0) (length-each f cells) (λ c low. get_or-each f cells c (f 0 0) low ∙ same c low)
 
 -- ---- how often a place is named
+
+-- the last cell that names a place
+pub last_named : (cells : List ℕ) (p : ℕ) → 0 < times cells p → (c : ℕ) × (c < length cells) × (get_or cells c 0 ≡ p) × (times cells p ≡ times (take c cells) p + 1)
+last_named [] p some = absurd (omega arith)
+last_named (x ∷ cells) p some = ⊎_elim
+    (λ more. let l = last_named cells p more in (suc l.0, omega (arith, l.1), l.2, omega (arith, l.3, times_first cells, times_first (take l.0 cells))))
+    (λ none. ⊎_elim
+    (λ same. (0, omega arith, same, omega (arith, none, times_first cells, ap (λ (t : Bool). cond {A = ℕ} t 1 0) (eq-eqb x p same))))
+    (λ differ. absurd (omega (arith, some, none, times_first cells, ap (λ (t : Bool). cond {A = ℕ} t 1 0) (ne_eqb x p differ))))
+    (cases_eq x p))
+    (cases_lt 0 (times cells p))
+  where
+    times_first : (rest : List ℕ) → times (x ∷ rest) p ≡ cond (x == p) 1 0 + times rest p
+    times_first rest = sum_by-cons (λ y. cond (y == p) 1 0) x rest
 
 module _ (cells : List ℕ) where
   pub times_here : (c p : ℕ) → c < length cells → get_or cells c 0 ≡ p → times (take (c + 1) cells) p ≡ times (take c cells) p + 1
@@ -178,33 +182,27 @@ module _ (cells : List ℕ) where
 
   -- ---- one row of a grid
 
-  pub first_of : (ℕ → Column) → List (List ℕ)
-  first_of ins = each (λ c p. slice_index_or (ins p) (times (take c cells) p) []) cells
+  -- what stands in the column of a cell, and in its first row
+  abbrev pub column_of : (ℕ → Column) → ℕ → ℕ → Column
+  column_of ins c p = every (times cells p) (times (take c cells) p) (ins p)
 
-  columns_rest : (ins : ℕ → Column) → map (drop 1) (columns cells ins) ≡ columns cells (λ p. drop (times cells p) (ins p))
-  columns_rest ins =
-      map_each_of (drop 1) (λ c p. every (times cells p) (times (take c cells) p) (ins p)) cells [] []
-      ∙ each_same (λ c p. drop 1 (every (times cells p) (times (take c cells) p) (ins p))) (λ c p. every (times cells p) (times (take c cells) p) (drop (times cells p) (ins p))) cells
-      (λ c low. every_rest (times cells (get_or cells c 0)) (times (take c cells) (get_or cells c 0)) (times_below c low) (ins (get_or cells c 0)))
+  abbrev pub top_of : (ℕ → Column) → ℕ → ℕ → List ℕ
+  top_of ins c p = slice_index_or (ins p) (times (take c cells) p) []
 
-  columns_first : (ins : ℕ → Column) → row (columns cells ins) 0 ≡ each (λ c p. slice_index_or (ins p) (times (take c cells) p) []) cells
-  columns_first ins =
-      map_each_of (λ (col : Column). slice_index_or col 0 []) (λ c p. every (times cells p) (times (take c cells) p) (ins p)) cells [] []
-      ∙ each_same (λ c p. slice_index_or (every (times cells p) (times (take c cells) p) (ins p)) 0 []) (λ c p. slice_index_or (ins p) (times (take c cells) p) []) cells
-      (λ c low. every_first (times cells (get_or cells c 0)) (times (take c cells) (get_or cells c 0)) (times_below c low) (ins (get_or cells c 0)))
-
-  pub column_at : (ins : ℕ → Column) (c : ℕ) → c < length cells → get_or (columns cells ins) c []
-      ≡ every (times cells (get_or cells c 0)) (times (take c cells) (get_or cells c 0)) (ins (get_or cells c 0))
-  column_at ins c low = get_or-each (λ c p. every (times cells p) (times (take c cells) p) (ins p)) cells c [] low
+  pub column_at : (ins : ℕ → Column) (c : ℕ) → c < length cells → get_or (columns cells ins) c [] ≡ column_of ins c (get_or cells c 0)
+  column_at ins c low = get_or-each (column_of ins) cells c [] low
 
   pub length-columns : (ins : ℕ → Column) → length (columns cells ins) ≡ length cells
-  length-columns ins = length-each (λ c p. every (times cells p) (times (take c cells) p) (ins p)) cells
+  length-columns ins = length-each (column_of ins) cells
 
   -- These lines were taken of each input: as many as cells name it, or all where there are fewer.
   pub record Taken (got more : ℕ → Column) : Type 0 where
     pub all : (p : ℕ) → (length (got p) ≡ times cells p) ⊎ ((more p ≡ []) × (length (got p) ≤ times cells p))
 
   module _ (got more : ℕ → Column) (t : Taken got more) where
+    abbrev ins : ℕ → Column
+    ins p = got p ++ more p
+
     rest_is : (p : ℕ) → drop (times cells p) (got p ++ more p) ≡ more p
     rest_is p = ⊎_elim
         (λ same. drop_at (got p) (more p) (times cells p) same)
@@ -214,57 +212,48 @@ module _ (cells : List ℕ) where
     got_is : (p j : ℕ) → j < times cells p → slice_index_or (got p ++ more p) j [] ≡ slice_index_or (got p) j []
     got_is p j low = ⊎_elim
         (λ same. get_or_append_left (got p) (more p) [] j (omega (arith, same)))
-        (λ few. ap (λ (l : Column). slice_index_or (got p ++ l) j []) few.0 ∙ ap (λ (l : Column). slice_index_or l j []) (append-nil (got p)))
+        (λ few. ap (λ (l : Column). slice_index_or l j []) (ap (λ (l : Column). got p ++ l) few.0 ∙ append-nil (got p)))
         (t.all p)
 
     pub grid_step : (c : ℕ) → c < length cells → times (take c cells) (get_or cells c 0) < length (got (get_or cells c 0))
-        → rows (columns cells (λ p. got p ++ more p)) ≡ each (λ c p. slice_index_or (got p) (times (take c cells) p) []) cells ∷ rows (columns cells more)
+        → rows (columns cells (λ p. got p ++ more p)) ≡ each (top_of got) cells ∷ rows (columns cells more)
     grid_step c low some =
-        let ins : ℕ → Column = λ p. got p ++ more p in
         let place = get_or cells c 0 in
-        let high : 0 < height (columns cells ins) = omega (
-          arith,
-          height_of 0 (columns cells ins) c,
-          ap length (column_at ins c low),
-          every_some (times cells place) (times (take c cells) place) (times_below c low) (got place ++ more place) (omega (arith, some, length-append (got place) (more place))),
-        ) in
-        rows_step (columns cells ins) high
-        ∙ (λ i. (columns_first ins ∙ each_same (λ c p. slice_index_or (got p ++ more p) (times (take c cells) p) []) (λ c p. slice_index_or (got p) (times (take c cells) p) []) cells
-        (λ d within. got_is (get_or cells d 0) (times (take d cells) (get_or cells d 0)) (times_below d within))) i
-        ∷ rows ((columns_rest ins ∙ each_same (λ c p. every (times cells p) (times (take c cells) p) (drop (times cells p) (got p ++ more p)))
-        (λ c p. every (times cells p) (times (take c cells) p) (more p)) cells
-        (λ d within. ap (every (times cells (get_or cells d 0)) (times (take d cells) (get_or cells d 0))) (rest_is (get_or cells d 0)))) i))
+        let high = every_some (times_below c low) (got place ++ more place) (omega (arith, some, length-append (got place) (more place))) in
+        rows_step (columns cells ins) (omega (arith, height_of 0 (columns cells ins) c, ap length (column_at ins c low), high))
+        ∙ (λ i. (map-map (λ (col : Column). slice_index_or col 0 []) (λ (cell : ℕ × ℕ). column_of ins cell.0 cell.1) (enumerate_from 0 cells)
+        ∙ each_same (λ c p. slice_index_or (column_of ins c p) 0 []) (top_of got) cells
+        (λ d within. let q = get_or cells d 0 in every_first (times_below d within) (ins q) ∙ got_is q (times (take d cells) q) (times_below d within))) i
+        ∷ rows ((map-map (drop 1) (λ (cell : ℕ × ℕ). column_of ins cell.0 cell.1) (enumerate_from 0 cells)
+        ∙ each_same (λ c p. drop 1 (column_of ins c p)) (column_of more) cells
+        (λ d within. let q = get_or cells d 0 in every_rest (times_below d within) (ins q) ∙ ap (every (times cells q) (times (take d cells) q)) (rest_is q))) i))
 
   pub grid_none : (ins : ℕ → Column) → ((p : ℕ) → 0 < times cells p → ins p ≡ []) → rows (columns cells ins) ≡ []
-  grid_none ins none = rows_none (columns cells ins) (height_none (columns cells ins) (λ c low.
+  grid_none ins none = rows_none (columns cells ins) (λ c low.
       let within : c < length cells = omega (arith, low, length-columns ins) in
-      column_at ins c within ∙ ap (every (times cells (get_or cells c 0)) (times (take c cells) (get_or cells c 0))) (none (get_or cells c 0) (omega (arith, times_below c within)))))
+      let q = get_or cells c 0 in
+      column_at ins c within ∙ ap (every (times cells q) (times (take c cells) q)) (none q (omega (arith, times_below c within))))
 
--- ---- how long a column is
+-- ---- what is written of rows
 
-module _ (k j : ℕ) (low : j < k) where
-  pub every_short : (r : ℕ) (ls : Column) → length ls ≤ j + r * k → length (every k j ls) ≤ r
-  every_short zero ls few = ⊎_elim
-      (λ is. absurd (omega (arith, is.1, few)))
-      (λ is. omega (arith, ap length is.0))
-      (chosen_front k j low 0 j k ls (omega arith) (omega arith))
-  every_short (suc r) ls few =
-      let more : suc r * k ≡ k + r * k = omega arith in
-      omega (arith, every_short r (drop k ls) (omega (arith, few, more, length-drop k ls)), ap length (every_rest k j low ls), length-drop 1 (every k j ls))
+pub sheet-append : (end : ℕ) (delims : List (Option ℕ)) (xs ys : List Column)
+    → text end (map (glued_from delims 0) (xs ++ ys)) ≡ text end (map (glued_from delims 0) xs) ++ text end (map (glued_from delims 0) ys)
+sheet-append end delims xs ys = ap (text end) (map-append (glued_from delims 0) xs ys) ∙ text-append end (map (glued_from delims 0) xs) (map (glued_from delims 0) ys)
 
 -- ---- the rows that are known
-
-not_below : (r n : ℕ) → n ≤ r → nat_lt r n ≡ false
-not_below r n high = grind (arith, nat_tests)
-
-pub neither : (t rest : Bool) → rest ≡ false → (t && rest) ≡ false
-neither true rest is = is
-neither false rest is = refl
 
 pub known_false : (cols : List Column) (ended : List Bool) (r c : ℕ) → c < length cols → c < length ended → get_or ended c true ≡ false
     → length (get_or cols c []) ≤ r → is_row_known cols ended r ≡ false
 known_false [] ended r c low within going few = absurd (omega arith)
 known_false (col ∷ cols) [] r c low within going few = absurd (omega arith)
-known_false (col ∷ cols) (e ∷ ended) r zero low within going few = rw (going, not_below r (length col) few) refl
-known_false (col ∷ cols) (e ∷ ended) r (suc c) low within going few = neither (e || nat_lt r (length col)) (is_row_known cols ended r)
-    (known_false cols ended r c (omega arith) (omega arith) going few)
+known_false (col ∷ cols) (e ∷ ended) r zero low within going few = rw (going, le-ltb r (length col) few) refl
+known_false (col ∷ cols) (e ∷ ended) r (suc c) low within going few =
+    and_right (e || nat_lt r (length col)) (is_row_known cols ended r) (known_false cols ended r c (omega arith) (omega arith) going few)
+
+-- ---- what stands at a place
+
+pub put_here : {X : Type 0} (place : ℕ) (x : X) (f : ℕ → X) (q : ℕ) → q ≡ place → put_at place x f q ≡ x
+put_here place x f q same = ap (λ (t : Bool). cond t x (f q)) (eq-eqb q place same)
+
+pub put_there : {X : Type 0} (place : ℕ) (x : X) (f : ℕ → X) (q : ℕ) → q ≢ place → put_at place x f q ≡ f q
+put_there place x f q differ = ap (λ (t : Bool). cond t x (f q)) (ne_eqb q place differ)

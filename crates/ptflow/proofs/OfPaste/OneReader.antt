@@ -3,14 +3,15 @@ use Rattle.std.proofs.Common.{◌≡◌, ◌≢◌, ℕ, zero, suc, ◌+◌, ◌
 use Rattle.std.proofs.Common.{map, take, drop, set, get_or, refl, sym, ◌∙◌, ap, subst, arith, append_assoc, length-append, length-drop, take-append-drop, ⊎_elim, inl}
 use Rattle.std.specs.Prelude.{unwrap_or, slice_index_or, option_to_list}
 use Rattle.std.specs.List.{count_by}
-use Rattle.std.proofs.lemmas.Bool.{cases_eq, cases_lt, eq-eqb}
+use Rattle.std.proofs.lemmas.Bool.{cases_eq, cases_lt, eq-eqb, ne_eqb}
 use Rattle.std.proofs.lemmas.Nat.{mod-mul-add}
 use Rattle.std.proofs.lemmas.List.{take_more, take_all, nil_from_length, length-take-le, length-set, get_or_append_left, get_or_push, take_at}
-use Rattle.std.proofs.lemmas.List.Elements.{All-get_or}
+use Rattle.std.proofs.lemmas.List.Elements.{All-get_or, All-take, All-drop, All-from_recursion, recursion_from_All}
 use Rattle.std.proofs.lemmas.List.Sums.{sum_by-cons, sum_by-append, sum_by-set}
 use Rattle.memchr.specs.Find.{is_byte}
 use Rattle.ptlines.specs.Text.{text, lines, IsLine, AreLines, EndsWithByte}
-use Rattle.ptlines.specs.Readers.{Reader, Goes, IsSound, budget}
+use Rattle.ptlines.specs.Outputs.{Output, Wrote}
+use Rattle.ptlines.specs.Readers.{Reader, IsSound, budget}
 use Rattle.ptlines.proofs.Scanned.{goes_front}
 use Rattle.ptlines.proofs.TextLaws.{same_byte, other_byte, text-append, lines_are, the_lines}
 use Rattle.ptlangs.specs.DelimLists.{delim_at}
@@ -19,9 +20,9 @@ use Rattle.ptflow.specs.Pastes.{delimiter, glued_from, times, columns, rows}
 use Rattle.ptflow.specs.Workings.Paste.OneReader.{AreTurns, AreTurnsOfOne, AreRows}
 use Rattle.ptflow.specs.Workings.Paste.SerialRests.{with_turns}
 use Rattle.ptflow.specs.Workings.Paste.TakenLines.{Took}
-use Rattle.ptflow.specs.Workings.Paste.WholeRows.{AreReadable, HeldRows}
+use Rattle.ptflow.specs.Workings.Paste.WholeRows.{AreReadable, HeldRows, PushedRows}
 use Rattle.ptflow.proofs.OfBytes.Nths.{none_counted}
-use Rattle.ptflow.proofs.OfPaste.Grids.{Column, Taken, each_is, grid_step, times_here, times_other, times_below}
+use Rattle.ptflow.proofs.OfPaste.Grids.{Column, each_is, top_of, grid_step, times_here, times_below, last_named, put_here, put_there}
 use Rattle.ptflow.proofs.OfPaste.RowTurns.{at_same, at_other, at_index}
 use Rattle.ptflow.proofs.OfPaste.Takes.{took_nothing}
 use Rattle.ptflow.proofs.OfPaste.Turns.{turns-append, length-turns}
@@ -33,34 +34,30 @@ pub record TurnsSoFar (delims : List (Option ℕ)) (n : ℕ) (turns : List (Opti
   pub count : length turns + 1 ≡ n
   pub between : (c : ℕ) → c + 1 < n → (d : ℕ) × (slice_index_or turns c None ≡ Some d) × (delimiter delims c ≡ d ∷ [])
 
-module _ (delims : List (Option ℕ)) (n : ℕ) (turns after : List (Option ℕ)) (t : TurnsSoFar delims n turns) where
+module _ {delims : List (Option ℕ)} {n : ℕ} {turns : List (Option ℕ)} (t : TurnsSoFar delims n turns) where
   -- those that are there stay
-  stays : (turn : Option ℕ) → after ≡ turns ++ turn ∷ [] → (c : ℕ) → c + 1 < n → (d : ℕ) × (slice_index_or after c None ≡ Some d) × (delimiter delims c ≡ d ∷ [])
-  stays turn is c low =
-      let b = t.between c low in
-      (b.0, ap (λ (l : List (Option ℕ)). slice_index_or l c None) is ∙ get_or_append_left turns (turn ∷ []) None c (omega (arith, low, t.count)) ∙ b.1, b.2)
+  stays : (turn : Option ℕ) (c : ℕ) → c + 1 < n → (d : ℕ) × (slice_index_or (turns ++ turn ∷ []) c None ≡ Some d) × (delimiter delims c ≡ d ∷ [])
+  stays turn c low = let b = t.between c low in (b.0, get_or_append_left turns (turn ∷ []) None c (omega (arith, low, t.count)) ∙ b.1, b.2)
 
-  at_end : (turn : Option ℕ) → after ≡ turns ++ turn ∷ [] → (c : ℕ) → c + 1 ≡ n → slice_index_or after c None ≡ turn
-  at_end turn is c here = ap (λ (l : List (Option ℕ)). slice_index_or l c None) is ∙ get_or_push turns turn None c (omega (arith, here, t.count))
-
-  pub turns_more : (d : ℕ) → after ≡ turns ++ Some d ∷ [] → delim_at delims (n - 1) ≡ Some d → TurnsSoFar delims (n + 1) after
-  turns_more d is delim = record {
-    count = omega (arith, ap length is, length-append turns (Some d ∷ []), t.count);
+  pub turns_more : {d : ℕ} {after : List (Option ℕ)} → after ≡ turns ++ Some d ∷ [] → delim_at delims (n - 1) ≡ Some d → TurnsSoFar delims (n + 1) after
+  turns_more {d} is delim = rw is (record {
+    count = omega (arith, length-append turns (Some d ∷ []), t.count);
     between = λ c low. ⊎_elim
-        (λ before. stays (Some d) is c before)
-        (λ here.
-        let last : c + 1 ≡ n = omega (arith, here, low) in
-        let number : c ≡ n - 1 = omega (arith, last) in
-        (d, at_end (Some d) is c last, ap (delimiter delims) number ∙ ap option_to_list delim))
+        (stays (Some d) c)
+        (λ here. (
+          d,
+          get_or_push turns (Some d) None c (omega (arith, here, low, t.count)),
+          (let number : c ≡ n - 1 = omega (arith, here, low) in ap (delimiter delims) number ∙ ap option_to_list delim),
+        ))
         (cases_lt (c + 1) n);
-  }
+  })
 
-  pub turns_done : (size : ℕ) → n ≡ size → after ≡ turns ++ None ∷ [] → AreTurns delims size after
-  turns_done size all is = record {
-    count = omega (arith, ap length is, length-append turns (None ∷ []), t.count, all);
-    between = λ c low. stays None is c (omega (arith, low, all));
-    last = λ c here. at_end None is c (omega (arith, here, all));
-  }
+  pub turns_done : {size : ℕ} {after : List (Option ℕ)} → n ≡ size → after ≡ turns ++ None ∷ [] → AreTurns delims size after
+  turns_done all is = rw (is, ← all) (record {
+    count = omega (arith, length-append turns (None ∷ []), t.count);
+    between = stays None;
+    last = λ c here. get_or_push turns None None c (omega (arith, here, t.count));
+  })
 
 -- ---- whole rows are known by the number of their ends
 
@@ -98,14 +95,10 @@ rows_known end n count bytes last counted =
 -- ---- what is written of rows
 
 AreLines-take : (end n : ℕ) (ls : List (List ℕ)) → AreLines end ls → AreLines end (take n ls)
-AreLines-take end zero ls whole = tt
-AreLines-take end (suc n) [] whole = tt
-AreLines-take end (suc n) (line ∷ ls) whole = (whole.0, AreLines-take end n ls whole.1)
+AreLines-take end n ls whole = recursion_from_All (IsLine end) (take n ls) (All-take (IsLine end) n ls (All-from_recursion (IsLine end) ls whole))
 
 AreLines-drop : (end n : ℕ) (ls : List (List ℕ)) → AreLines end ls → AreLines end (drop n ls)
-AreLines-drop end zero ls whole = whole
-AreLines-drop end (suc n) [] whole = tt
-AreLines-drop end (suc n) (line ∷ ls) whole = AreLines-drop end n ls whole.1
+AreLines-drop end n ls whole = recursion_from_All (IsLine end) (drop n ls) (All-drop (IsLine end) n ls (All-from_recursion (IsLine end) ls whole))
 
 -- what is put of the first bytes
 pub turns-take : (end : ℕ) (turns : List (Option ℕ)) (at number : ℕ) (bytes : List ℕ) → at ≤ length bytes → take at (with_turns end turns number bytes) ≡ with_turns end turns number (take at bytes)
@@ -134,8 +127,7 @@ module _ (end n : ℕ) (delims turns : List (Option ℕ)) (t : AreTurns delims n
   line_turned : (number : ℕ) (line rest : List ℕ) → IsLine end line
       → with_turns end turns number ((line ++ end ∷ []) ++ rest) ≡ line ++ unwrap_or (delim_at turns number) end ∷ with_turns end turns (number + 1) rest
   line_turned number line rest free =
-      ap (with_turns end turns number) (append_assoc line (end ∷ []) rest) ∙ line_stays number line (end ∷ rest) free
-      ∙ ap (λ (s : Bool). line ++ cond s (unwrap_or (delim_at turns number) end ∷ with_turns end turns (number + 1) rest) (end ∷ with_turns end turns number rest)) (same_byte end)
+      ap (with_turns end turns number) (append_assoc line (end ∷ []) rest) ∙ line_stays number line (end ∷ rest) free ∙ rw (same_byte end) refl
 
   turn_of : (k c : ℕ) → c < n → delim_at turns (k * n + c) ≡ slice_index_or turns c None
   turn_of k c low = ap (λ (m : ℕ). slice_index_or turns m None) (ap (λ (size : ℕ). (k * n + c) % size) t.count ∙ mod-mul-add k n c low)
@@ -151,12 +143,7 @@ module _ (end n : ℕ) (delims turns : List (Option ℕ)) (t : AreTurns delims n
       let here : delim_at turns (k * n + c) ≡ Some b.0 = turn_of k c (omega (arith, all)) ∙ b.1 in
       let number : k * n + c + 1 ≡ k * n + (c + 1) = omega arith in
       line_turned (k * n + c) line (text end (next ∷ ls)) whole.0
-      ∙ ap (λ (d : Option ℕ). line ++ unwrap_or d end ∷ with_turns end turns (k * n + c + 1) (text end (next ∷ ls))) here
-      ∙ ap (λ (l : List ℕ). line ++ b.0 ∷ l) (ap (λ (m : ℕ). with_turns end turns m (text end (next ∷ ls))) number
-      ∙ row_turned k (c + 1) (next ∷ ls) whole.1 (omega (arith, all)) (omega arith))
-      ∙ ap (λ (d : List ℕ). line ++ (d ++ (glued_from delims (c + 1) (next ∷ ls) ++ end ∷ []))) (sym b.2)
-      ∙ sym (append_assoc line (delimiter delims c) (glued_from delims (c + 1) (next ∷ ls) ++ end ∷ []))
-      ∙ sym (append_assoc (line ++ delimiter delims c) (glued_from delims (c + 1) (next ∷ ls)) (end ∷ []))
+      ∙ rw (here, number, row_turned k (c + 1) (next ∷ ls) whole.1 (omega (arith, all)) (omega arith), b.2) (simp append_assoc)
 
   -- So many rows from row k on: each is written with its end.
   pub rows_turned : (some : 0 < n) (k more : ℕ) (ls : List (List ℕ)) → AreLines end ls → length ls ≡ more * n
@@ -183,11 +170,8 @@ module _ (end n : ℕ) (delims turns : List (Option ℕ)) (t : AreTurns delims n
 abbrev pub only : ℕ → Column → ℕ → Column
 only place ls = put_at place ls (λ q. [])
 
-only_here : (place : ℕ) (ls : Column) (q : ℕ) → q ≡ place → only place ls q ≡ ls
-only_here place ls q same = ap (λ (t : Bool). cond t ls []) (eq-eqb q place same)
-
-only_there : (place : ℕ) (ls : Column) (q : ℕ) → q ≢ place → only place ls q ≡ []
-only_there place ls q differ = ap (λ (t : Bool). cond t ls []) (other_byte place q differ)
+only-append : (place : ℕ) (xs ys : Column) (q : ℕ) → only place (xs ++ ys) q ≡ only place xs q ++ only place ys q
+only-append place xs ys q = ⊎_elim (λ same. rw (eq-eqb q place same) refl) (λ differ. rw (ne_eqb q place differ) refl) (cases_eq q place)
 
 module _ (cells : List ℕ) (place : ℕ) (same : (c : ℕ) → c < length cells → get_or cells c 0 ≡ place) where
   named_before : (c : ℕ) → c ≤ length cells → times (take c cells) place ≡ c
@@ -196,125 +180,83 @@ module _ (cells : List ℕ) (place : ℕ) (same : (c : ℕ) → c < length cells
       let next : suc c ≡ c + 1 = omega arith in
       ap (λ (m : ℕ). times (take m cells) place) next ∙ times_here cells c place (omega (arith, low)) (same c (omega (arith, low))) ∙ omega (arith, named_before c (omega (arith, low)))
 
-  pub named_all : times cells place ≡ length cells
+  named_all : times cells place ≡ length cells
   named_all = ap (λ (l : List ℕ). times l place) (sym (take_all (length cells) cells (omega arith))) ∙ named_before (length cells) (omega arith)
 
-  others_before : (q : ℕ) → q ≢ place → (c : ℕ) → c ≤ length cells → times (take c cells) q ≡ 0
-  others_before q differ zero low = refl
-  others_before q differ (suc c) low =
-      let next : suc c ≡ c + 1 = omega arith in
-      ap (λ (m : ℕ). times (take m cells) q) next
-      ∙ times_other cells c q (omega (arith, low)) (λ is. differ (sym is ∙ same c (omega (arith, low)))) ∙ others_before q differ c (omega (arith, low))
-
-  pub named_not : (q : ℕ) → q ≢ place → times cells q ≡ 0
-  named_not q differ = ap (λ (l : List ℕ). times l q) (sym (take_all (length cells) cells (omega arith))) ∙ others_before q differ (length cells) (omega arith)
+  named_not : (q : ℕ) → q ≢ place → times cells q ≡ 0
+  named_not q differ = ⊎_elim
+      (λ some. let l = last_named cells q some in absurd (differ (sym l.2 ∙ same l.0 l.1)))
+      (λ none. omega (arith, none))
+      (cases_lt 0 (times cells q))
 
   -- one row, which is the first n lines
   row_on : (some : 0 < length cells) (ls : Column) (more : ℕ → Column) → length ls ≡ length cells
       → rows (columns cells (λ q. only place ls q ++ more q)) ≡ ls ∷ rows (columns cells more)
   row_on some ls more long =
-      grid_step cells (only place ls) more taken 0 some (omega (arith, ap length (only_here place ls (get_or cells 0 0) (same 0 some)), long))
-      ∙ ap (λ (r : List (List ℕ)). r ∷ rows (columns cells more)) (sym (each_is (λ c q. slice_index_or (only place ls q) (times (take c cells) q) []) cells ls [] long cell))
-    where
-      taken : Taken cells (only place ls) more
-      taken = record {
+      grid_step cells (only place ls) more
+      (record {
         all = λ q. inl (⊎_elim
-            (λ here. ap length (only_here place ls q here) ∙ long ∙ sym named_all ∙ ap (times cells) (sym here))
-            (λ there. ap length (only_there place ls q there) ∙ sym (named_not q there))
+            (λ here. rw here (rw (put_here place ls (λ q. []) place refl, named_all) long))
+            (λ there. rw (put_there place ls (λ q. []) q there, named_not q there) refl)
             (cases_eq q place));
-      }
-
-      cell : (c : ℕ) → c < length cells → get_or ls c [] ≡ slice_index_or (only place ls (get_or cells c 0)) (times (take c cells) (get_or cells c 0)) []
-      cell c low = sym (ap (λ (l : Column). slice_index_or l (times (take c cells) (get_or cells c 0)) []) (only_here place ls (get_or cells c 0) (same c low))
-          ∙ ap (λ (q : ℕ). slice_index_or ls (times (take c cells) q) []) (same c low) ∙ ap (λ (k : ℕ). slice_index_or ls k []) (named_before c (omega (arith, low))))
+      }) 0 some (omega (arith, ap length (put_here place ls (λ q. []) (get_or cells 0 0) (same 0 some)), long, some))
+      ∙ ap (λ (r : List (List ℕ)). r ∷ rows (columns cells more)) (sym (each_is (top_of cells (only place ls)) cells ls [] long
+      (λ c low. rw (same c low) (rw (put_here place ls (λ q. []) place refl, named_before c (omega (arith, low))) refl))))
 
   -- so many rows
-  pub rows_on : (some : 0 < length cells) (k : ℕ) (ls : Column) (more : ℕ → Column) → length ls ≡ k * length cells
+  rows_on : (some : 0 < length cells) (k : ℕ) (ls : Column) (more : ℕ → Column) → length ls ≡ k * length cells
       → rows (columns cells (λ q. only place ls q ++ more q)) ≡ rows_in (length cells) k ls ++ rows (columns cells more)
-  rows_on some zero [] more long = ap (λ (ins : ℕ → Column). rows (columns cells ins)) nothing
+  rows_on some zero [] more long = λ i. rows (columns cells (λ q. none q i ++ more q))
     where
-      nothing : (let f : ℕ → Column = λ q. only place [] q ++ more q in f ≡ more)
-      nothing = λ i q. ⊎_elim
-          (λ here. ap (λ (l : Column). l ++ more q) (only_here place [] q here))
-          (λ there. ap (λ (l : Column). l ++ more q) (only_there place [] q there))
-          (cases_eq q place) i
+      none : (q : ℕ) → only place [] q ≡ []
+      none q = ⊎_elim (put_here place [] (λ q. []) q) (put_there place [] (λ q. []) q) (cases_eq q place)
   rows_on some zero (line ∷ ls) more long = absurd (omega (arith, long))
   rows_on some (suc k) ls more long =
       let n = length cells in
       let size : suc k * n ≡ n + k * n = omega arith in
-      ap (λ (ins : ℕ → Column). rows (columns cells ins)) split
+      (λ i. rows (columns cells (λ q. (ap (λ (l : Column). only place l q ++ more q) (sym (take-append-drop n ls)) ∙ ap (λ (l : Column). l ++ more q) (only-append place (take n ls) (drop n ls) q)
+      ∙ append_assoc (only place (take n ls) q) (only place (drop n ls) q) (more q)) i)))
       ∙ row_on some (take n ls) (λ q. only place (drop n ls) q ++ more q) (length-take-le n ls (omega (arith, long, size)))
       ∙ ap (λ (r : List (List (List ℕ))). take n ls ∷ r) (rows_on some k (drop n ls) more (omega (arith, length-drop n ls, long, size)))
-    where
-      split : (let f : ℕ → Column = λ q. only place ls q ++ more q in f ≡ (λ q. only place (take (length cells) ls) q ++ (only place (drop (length cells) ls) q ++ more q)))
-      split = λ i q. ⊎_elim
-          (λ here. ap (λ (l : Column). l ++ more q) (only_here place ls q here ∙ sym (take-append-drop (length cells) ls))
-          ∙ append_assoc (take (length cells) ls) (drop (length cells) ls) (more q)
-          ∙ (λ j. sym (only_here place (take (length cells) ls) q here) j ++ (sym (only_here place (drop (length cells) ls) q here) j ++ more q)))
-          (λ there. ap (λ (l : Column). l ++ more q) (only_there place ls q there)
-          ∙ (λ j. sym (only_there place (take (length cells) ls) q there) j ++ (sym (only_there place (drop (length cells) ls) q there) j ++ more q)))
-          (cases_eq q place) i
 
 -- ---- the rows that lie whole in what the reader holds
 
-module _ (end : ℕ) (delims : List (Option ℕ)) (cells : List ℕ) (turns : List (Option ℕ)) (t : AreTurnsOfOne delims cells turns) (old : List Reader)
-    (low : get_or cells 0 0 < length old) (clean : (reader_at old (get_or cells 0 0)).fault ≡ None) (ends : (reader_at old (get_or cells 0 0)).ending ≡ end)
-    (sound : IsSound (reader_at old (get_or cells 0 0))) (count : ℕ) (some : 0 < count) (within : count ≤ length (reader_at old (get_or cells 0 0)).held)
+module _ {end : ℕ} {delims : List (Option ℕ)} {cells : List ℕ} {turns : List (Option ℕ)} (t : AreTurnsOfOne delims cells turns) (old : List Reader)
+    (low : get_or cells 0 0 < length old) (ready : ((reader_at old (get_or cells 0 0)).fault ≡ None) × ((reader_at old (get_or cells 0 0)).ending ≡ end))
+    (sound : IsSound (reader_at old (get_or cells 0 0))) {count : ℕ} (some : 0 < count) (within : count ≤ length (reader_at old (get_or cells 0 0)).held)
     (rs : AreRows end (length cells) (take count (reader_at old (get_or cells 0 0)).held)) where
   abbrev place : ℕ
   place = get_or cells 0 0
 
   abbrev was : Reader
-  was = reader_at old (get_or cells 0 0)
+  was = reader_at old place
 
   abbrev now : Reader
-  now = record (reader_at old (get_or cells 0 0)) { held = drop count (reader_at old (get_or cells 0 0)).held }
-
-  abbrev new : List Reader
-  new = set old (get_or cells 0 0) (record (reader_at old (get_or cells 0 0)) { held = drop count (reader_at old (get_or cells 0 0)).held })
+  now = record (reader_at old place) { held = drop count (reader_at old place).held }
 
   same : (c : ℕ) → c < length cells → get_or cells c 0 ≡ place
   same c low = All-get_or (λ (q : ℕ). q ≡ place) cells c 0 low t.same
 
-  size : count ≡ length (text end rs.ls)
-  size = sym (length-take-le count was.held within) ∙ ap length rs.is
-
   lines_took : Took end was now (rs.count * length cells) rs.ls
-  lines_took =
-      let goes : Goes was now (take count was.held) = goes_front was now count clean within refl in
-      record {
-        bytes = take count was.held;
-        reads = goes.reads;
-        failed = refl;
-        fault = refl;
-        short = λ h. h;
-        held = λ h. omega (arith, h, length-drop count was.held);
-        none = λ none. absurd (omega (arith, some, size, ap (λ (l : List (List ℕ)). length (text end l)) (nil_from_length rs.ls (rs.long ∙ none))));
-        came = record { so_far = inl (rs.is, rs.whole) };
-        enough = inl rs.long;
-      }
+  lines_took = record {
+    bytes = take count was.held;
+    reads = (goes_front was now count ready.0 within refl).reads;
+    failed = refl;
+    fault = refl;
+    short = λ h. h;
+    held = λ h. omega (arith, h, length-drop count was.held);
+    none = λ none. absurd (omega (arith, some, length-take-le count was.held within, ap length rs.is, ap (λ (l : List (List ℕ)). length (text end l)) (nil_from_length rs.ls (rs.long ∙ none))));
+    came = record { so_far = inl (rs.is, rs.whole) };
+    enough = inl rs.long;
+  }
 
-  all_took : (q : ℕ) → Took end (reader_at old q) (reader_at new q) (length (rows_in (length cells) rs.count rs.ls) * times cells q) (only place rs.ls q)
-  all_took q = ⊎_elim here there (cases_eq q place)
-    where
-      here : q ≡ place → Took end (reader_at old q) (reader_at new q) (length (rows_in (length cells) rs.count rs.ls) * times cells q) (only place rs.ls q)
-      here is =
-          let most : rs.count * length cells ≡ length (rows_in (length cells) rs.count rs.ls) * times cells q =
-          λ i. sym (length-rows (length cells) rs.count rs.ls) i * sym (ap (times cells) is ∙ named_all cells place same) i in
-          subst (λ (l : Column). Took end (reader_at old q) (reader_at new q) (length (rows_in (length cells) rs.count rs.ls) * times cells q) l) (sym (only_here place rs.ls q is))
-          (subst (λ (m : ℕ). Took end (reader_at old q) (reader_at new q) m rs.ls) most
-          (subst (λ (r : Reader). Took end (reader_at old q) r (rs.count * length cells) rs.ls) (sym (ap (reader_at new) is ∙ at_same old place now low))
-          (subst (λ (r : Reader). Took end r now (rs.count * length cells) rs.ls) (ap (reader_at old) (sym is)) lines_took)))
+  all_took : (q : ℕ) → Took end (reader_at old q) (reader_at (set old place now) q) (length (rows_in (length cells) rs.count rs.ls) * times cells q) (only place rs.ls q)
+  all_took q = ⊎_elim
+      (λ is. rw is (rw (at_same old place now low, put_here place rs.ls (λ q. []) place refl, length-rows (length cells) rs.count rs.ls, named_all cells place same) lines_took))
+      (λ differ. rw (at_other old place q now differ, put_there place rs.ls (λ q. []) q differ, named_not cells place same q differ) (took_nothing (omega arith)))
+      (cases_eq q place)
 
-      there : q ≢ place → Took end (reader_at old q) (reader_at new q) (length (rows_in (length cells) rs.count rs.ls) * times cells q) (only place rs.ls q)
-      there differ =
-          let most : 0 ≡ length (rows_in (length cells) rs.count rs.ls) * times cells q =
-          omega (arith, ap (λ (m : ℕ). length (rows_in (length cells) rs.count rs.ls) * m) (named_not cells place same q differ)) in
-          subst (λ (l : Column). Took end (reader_at old q) (reader_at new q) (length (rows_in (length cells) rs.count rs.ls) * times cells q) l) (sym (only_there place rs.ls q differ))
-          (subst (λ (m : ℕ). Took end (reader_at old q) (reader_at new q) m []) most
-          (subst (λ (r : Reader). Took end (reader_at old q) r 0 []) (sym (at_other old place q now differ)) (took_nothing end (reader_at old q))))
-
-  pub held_rows : HeldRows end delims cells old new (with_turns end turns 0 (take count was.held))
+  held_rows : HeldRows end delims cells old (set old place now) (with_turns end turns 0 (take count was.held))
   held_rows = record {
     passed = rows_in (length cells) rs.count rs.ls;
     ls = only place rs.ls;
@@ -323,32 +265,30 @@ module _ (end : ℕ) (delims : List (Option ℕ)) (cells : List ℕ) (turns : Li
       on = λ more may. rows_on cells place same t.some rs.count rs.ls more rs.long;
       count = length-set old place now;
     };
-    pulled = λ q. ⊎_elim
-        (λ is. ap (λ (r : Reader). r.pulled) (ap (reader_at new) is ∙ at_same old place now low) ∙ ap (λ (x : ℕ). (reader_at old x).pulled) (sym is))
-        (λ differ. ap (λ (r : Reader). r.pulled) (at_other old place q now differ))
-        (cases_eq q place);
-    less = omega (arith, some, within, sound.long clean, length-drop count was.held, sum_by-set budget old place now no_reader low);
+    pulled = λ q. ⊎_elim (λ is. rw is (rw (at_same old place now low) refl)) (λ differ. rw (at_other old place q now differ) refl) (cases_eq q place);
+    less = omega (arith, some, within, sound.long ready.0, length-drop count was.held, sum_by-set budget old place now no_reader low);
     is =
         let start : 0 ≡ 0 * length cells = omega arith in
         ap (with_turns end turns 0) rs.is ∙ ap (λ (m : ℕ). with_turns end turns m (text end rs.ls)) start
         ∙ rows_turned end (length cells) delims turns t.in_turn t.some 0 rs.count rs.ls rs.whole rs.long;
   }
 
--- the same by what was put
-pub held_put : (end : ℕ) (delims : List (Option ℕ)) (cells : List ℕ) (turns : List (Option ℕ)) → AreTurnsOfOne delims cells turns → (old : List Reader)
+-- the same by what was put and pushed
+pub held_put : {end : ℕ} {delims : List (Option ℕ)} {cells : List ℕ} {turns : List (Option ℕ)} → AreTurnsOfOne delims cells turns → {old : List Reader}
     → All (λ place. place < length old) cells → AreReadable end cells old
-    → (d : Reader) → IsSound (get_or old (get_or cells 0 0) d) → (bytes : List ℕ) → bytes ≡ (get_or old (get_or cells 0 0) d).held
-    → (count : ℕ) → 0 < count → count ≤ length bytes → AreRows end (length turns) (take count bytes)
-    → (e r : Reader) → r ≡ record (get_or old (get_or cells 0 0) e) { held = drop count (get_or old (get_or cells 0 0) e).held }
-    → (written : List ℕ) → written ≡ with_turns end turns 0 (take count bytes)
-    → HeldRows end delims cells old (set old (get_or cells 0 0) r) written
-held_put end delims cells turns t old within readable d sound bytes is_held count some few rs e r step written put =
+    → (d : Reader) → IsSound (get_or old (get_or cells 0 0) d) → {bytes : List ℕ} → bytes ≡ (get_or old (get_or cells 0 0) d).held
+    → {count : ℕ} → 0 < count → count ≤ length bytes → AreRows end (length turns) (take count bytes)
+    → (e : Reader) {r : Reader} → r ≡ record (get_or old (get_or cells 0 0) e) { held = drop count (get_or old (get_or cells 0 0) e).held }
+    → {written : List ℕ} → written ≡ with_turns end turns 0 (take count bytes) → {out pushed : Output} → Wrote out pushed written
+    → PushedRows end delims cells old (set old (get_or cells 0 0) r) out pushed
+held_put {end} {delims} {cells} {turns} t {old} within readable d sound {bytes} is_held {count} some few rs e {r} step {written} put wrote =
     let p = get_or cells 0 0 in
     let low : p < length old = All-get_or (λ (q : ℕ). q < length old) cells 0 0 t.some within in
-    let ready = readable p (omega (arith, times_below cells 0 t.some)) in
     let held_is : bytes ≡ (reader_at old p).held = is_held ∙ ap (λ (x : Reader). x.held) (at_index old p d low) in
-    let rows = subst (λ (n : ℕ). AreRows end n (take count (reader_at old p).held)) t.in_turn.count (subst (λ (l : List ℕ). AreRows end (length turns) (take count l)) held_is rs) in
-    subst (λ (w : List ℕ). HeldRows end delims cells old (set old p r) w) (sym (put ∙ ap (λ (l : List ℕ). with_turns end turns 0 (take count l)) held_is))
-    (subst (λ (x : Reader). HeldRows end delims cells old (set old p x) (with_turns end turns 0 (take count (reader_at old p).held)))
-    (sym (step ∙ ap (λ (x : Reader). record x { held = drop count x.held }) (at_index old p e low)))
-    (held_rows end delims cells turns t old low ready.0 ready.1 (subst IsSound (at_index old p d low) sound) count some (omega (arith, few, ap length held_is)) rows))
+    record {
+      written = written;
+      held = rw (put, held_is, step, at_index old p e low)
+          (held_rows t old low (readable p (omega (arith, times_below cells 0 t.some))) (subst IsSound (at_index old p d low) sound) some (omega (arith, few, ap length held_is))
+          (rw (held_is, t.in_turn.count) at rs));
+      wrote = wrote;
+    }

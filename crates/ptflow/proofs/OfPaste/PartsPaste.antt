@@ -1,26 +1,19 @@
 -- `paste` of texts that are cut behind the same row.
-use Rattle.std.proofs.Common.{◌≡◌, ◌⊎◌, inl, inr, ⊎_elim, ℕ, zero, suc, ◌+◌, ◌*◌, ◌<◌, ◌≤◌, List, [], ◌∷◌, ◌++◌, length, take, drop, get_or, map, refl, sym}
+use Rattle.std.proofs.Common.{◌≡◌, ◌⊎◌, inl, inr, ⊎_elim, ℕ, zero, suc, ◌+◌, ◌*◌, ◌<◌, ◌≤◌, List, [], ◌∷◌, ◌++◌, length, take, drop, get_or, refl, sym}
 use Rattle.std.proofs.Common.{◌∙◌, ap, arith, append_assoc, take-append-drop, length-drop}
-use Rattle.std.specs.Prelude.{slice_index_or}
 use Rattle.std.proofs.lemmas.Bool.{cases_lt}
-use Rattle.std.proofs.lemmas.List.{append-nil, map-append, length-take-le, take_all, drop_all}
-use Rattle.ptlines.specs.Text.{text, lines}
+use Rattle.std.proofs.lemmas.List.{append-nil, nil_from_length, length-take-le, take_all, drop_all}
+use Rattle.ptlines.specs.Text.{lines}
 use Rattle.ptlines.proofs.PartLaws.{the_lines_of_parts}
-use Rattle.ptlines.proofs.TextLaws.{text-append}
-use Rattle.ptlangs.specs.Jobs.{Paste}
-use Rattle.ptflow.specs.Pastes.{times, every, columns, rows, glued_from, sheet}
+use Rattle.ptflow.specs.Pastes.{times, every, columns, rows, sheet}
 use Rattle.ptflow.specs.Parts.{HasRows, PasteOfParts}
-use Rattle.ptflow.proofs.OfPaste.Grids.{Column, Taken, each, column_at, length-columns, each_same, times_below, grid_step, height_none, rows_none, every_short}
-
-nothing : (ls : Column) → length ls ≤ 0 → ls ≡ []
-nothing [] few = refl
-nothing (l ∷ ls) few = absurd (omega arith)
+use Rattle.ptflow.proofs.OfPaste.Grids.{Column, Taken, each, each_same, column_of, top_of, column_at, length-columns, times_below, grid_step, rows_none, every_short, sheet-append}
 
 module _ (cells : List ℕ) where
   -- inputs that no cell names do not matter
   columns_same : (f g : ℕ → Column) → ((c : ℕ) → c < length cells → f (get_or cells c 0) ≡ g (get_or cells c 0)) → columns cells f ≡ columns cells g
   columns_same f g same =
-      each_same (λ c p. every (times cells p) (times (take c cells) p) (f p)) (λ c p. every (times cells p) (times (take c cells) p) (g p)) cells
+      each_same (column_of cells f) (column_of cells g) cells
       (λ c low. ap (every (times cells (get_or cells c 0)) (times (take c cells) (get_or cells c 0))) (same c low))
 
   -- some cell has a line in the first row, or none has
@@ -35,11 +28,11 @@ module _ (cells : List ℕ) where
 
   -- where no cell has a line in the first row there are no rows
   no_rows : (f : ℕ → Column) → ((c : ℕ) → c < length cells → length (f (get_or cells c 0)) ≤ times (take c cells) (get_or cells c 0)) → rows (columns cells f) ≡ []
-  no_rows f none = rows_none (columns cells f) (height_none (columns cells f) (λ c low.
+  no_rows f none = rows_none (columns cells f) (λ c low.
       let within : c < length cells = omega (arith, low, length-columns cells f) in
       let p = get_or cells c 0 in
       let j = times (take c cells) p in
-      column_at cells f c within ∙ nothing (every (times cells p) j (f p)) (every_short (times cells p) j (times_below cells c within) 0 (f p) (omega (arith, none c within)))))
+      column_at cells f c within ∙ nil_from_length (every (times cells p) j (f p)) (omega (arith, every_short (times_below cells c within) 0 (f p) (omega (arith, none c within)))))
 
   -- ---- the first row
 
@@ -65,7 +58,7 @@ module _ (cells : List ℕ) where
 
     -- its lines stand in front of all others, whatever comes
     first_row : (c : ℕ) → c < length cells → times (take c cells) (get_or cells c 0) < length (ins (get_or cells c 0))
-        → rows (columns cells (λ p. ins p ++ more p)) ≡ each (λ c p. slice_index_or (first ins p) (times (take c cells) p) []) cells ∷ rows (columns cells (λ p. rest ins p ++ more p))
+        → rows (columns cells (λ p. ins p ++ more p)) ≡ each (top_of cells (first ins)) cells ∷ rows (columns cells (λ p. rest ins p ++ more p))
     first_row c low some =
         let p = get_or cells c 0 in
         let k = times cells p in
@@ -106,7 +99,7 @@ module _ (cells : List ℕ) where
   module _ (n : ℕ) (ins more : ℕ → Column) (reach : Reach (suc n) ins more) where
     append_row : (c : ℕ) → c < length cells → times (take c cells) (get_or cells c 0) < length (ins (get_or cells c 0)) → Append (rest ins) more → Append ins more
     append_row c low has behind =
-        let top = each (λ c p. slice_index_or (first ins p) (times (take c cells) p) []) cells in
+        let top = each (top_of cells (first ins)) cells in
         let alone : rows (columns cells ins) ≡ top ∷ rows (columns cells (rest ins)) =
         ap rows (columns_same ins (λ p. ins p ++ []) (λ d within. sym (append-nil (ins (get_or cells d 0)))))
         ∙ first_row ins (λ p. []) (λ p few. refl) c low has
@@ -126,16 +119,12 @@ module _ (cells : List ℕ) where
 
   rows-append : (n : ℕ) (ins more : ℕ → Column) → Reach n ins more → Append ins more
   rows-append zero ins more reach =
-      append_none ins more (λ c low. nothing (ins (get_or cells c 0)) (⊎_elim (λ all. omega (arith, all)) (λ few. omega (arith, few.1))
+      append_none ins more (λ c low. nil_from_length (ins (get_or cells c 0)) (⊎_elim (λ all. omega (arith, all)) (λ few. omega (arith, few.1))
       (reach (get_or cells c 0) (omega (arith, times_below cells c low)))))
   rows-append (suc n) ins more reach = ⊎_elim
       (λ here. append_row n ins more reach here.0 here.1 here.2 (rows-append n (rest ins) more (later n ins more reach)))
       (append_last n ins more reach)
       (some_cell ins (length cells) (omega arith))
-
-sheet-append : (job : Paste) (rs ss : List Column) → sheet job (rs ++ ss) ≡ sheet job rs ++ sheet job ss
-sheet-append job rs ss =
-    ap (text job.end) (map-append (glued_from job.delimiters 0) rs ss) ∙ text-append job.end (map (glued_from job.delimiters 0) rs) (map (glued_from job.delimiters 0) ss)
 
 pub paste_of_parts : PasteOfParts
 paste_of_parts job cells n a b cut =
@@ -144,13 +133,11 @@ paste_of_parts job cells n a b cut =
     ap (λ (cols : List Column). sheet job (rows cols)) (columns_same cells (λ p. lines job.end (a p ++ b p)) (λ p. ins p ++ more p)
     (λ c low. both (get_or cells c 0) (cut (get_or cells c 0) (omega (arith, times_below cells c low)))))
     ∙ ap (sheet job) (rows-append cells n ins more (λ p named. reach p (cut p named)))
-    ∙ sheet-append job (rows (columns cells ins)) (rows (columns cells more))
+    ∙ sheet-append job.end job.delimiters (rows (columns cells ins)) (rows (columns cells more))
   where
     both : (p : ℕ) → HasRows job.end n (times cells p) (a p) (b p) → lines job.end (a p ++ b p) ≡ lines job.end (a p) ++ lines job.end (b p)
     both p (inl is) = the_lines_of_parts job.end (a p) (b p) is.0
-    both p (inr is) =
-        ap (λ (l : List ℕ). lines job.end (a p ++ l)) is.0 ∙ ap (lines job.end) (append-nil (a p)) ∙ sym (append-nil (lines job.end (a p)))
-        ∙ ap (λ (l : List ℕ). lines job.end (a p) ++ lines job.end l) (sym is.0)
+    both p (inr is) = rw is.0 (simp append-nil)
 
     reach : (p : ℕ) → HasRows job.end n (times cells p) (a p) (b p) → (length (lines job.end (a p)) ≡ n * times cells p)
         ⊎ ((lines job.end (b p) ≡ []) × (length (lines job.end (a p)) ≤ n * times cells p))

@@ -1,8 +1,9 @@
 -- What `paste` in series writes of the rest of a text, byte by byte and block by block.
-use Rattle.std.proofs.Common.{◌≡◌, ◌≢◌, ℕ, ◌+◌, ◌==◌, ◌<◌, ◌≤◌, Bool, true, false, cond, List, [], ◌∷◌, ◌++◌, Option, Some, length, map, take, drop}
+use Rattle.std.proofs.Common.{◌≡◌, ◌≢◌, ⊎_elim, ℕ, ◌+◌, ◌==◌, ◌<◌, ◌≤◌, Bool, true, false, cond, List, [], ◌∷◌, ◌++◌, Option, Some, length, map, take, drop}
 use Rattle.std.proofs.Common.{length-append, refl, sym, ◌∙◌, ap, arith, append_assoc}
 use Rattle.std.specs.Prelude.{option_to_list, unwrap_or}
 use Rattle.std.specs.List.{onto_first, count_by}
+use Rattle.std.proofs.lemmas.Bool.{cases_Bool}
 use Rattle.std.proofs.lemmas.List.{append-nil, append_cancel_right}
 use Rattle.std.proofs.lemmas.List.Sums.{sum_by-cons}
 use Rattle.memchr.specs.Find.{IsFirstByte, is_byte}
@@ -30,9 +31,7 @@ module _ (end : ℕ) (delims : List (Option ℕ)) where
   -- a line, and then what follows its cell
   pub row_line : (number : ℕ) (line : List ℕ) (more : List (List ℕ)) → row_rest end delims number false (line ∷ more) ≡ line ++ row_rest end delims number true more
   row_line number line [] = refl
-  row_line number line (l ∷ more) =
-      append_assoc (line ++ delimiter delims number) (glued_from delims (number + 1) (l ∷ more)) (end ∷ [])
-      ∙ append_assoc line (delimiter delims number) (glued_from delims (number + 1) (l ∷ more) ++ end ∷ [])
+  row_line number line (l ∷ more) = simp append_assoc
 
   -- one more byte of the first line
   row_byte : (number b : ℕ) (ls : List (List ℕ)) → row_rest end delims number false (onto_first b ls) ≡ b ∷ row_rest end delims number false ls
@@ -89,52 +88,31 @@ module _ (end : ℕ) (delims : List (Option ℕ)) where
       ++ row_rest end delims number false (lines end more)
   piece_on number [] free more = refl
   piece_on number (b ∷ piece) free more =
-      ap (λ (t : Bool). row_rest end delims number false (cond t ([] ∷ lines end (piece ++ more)) (onto_first b (lines end (piece ++ more))))) (other_byte end b free.0)
-      ∙ row_byte number b (lines end (piece ++ more)) ∙ ap (λ (l : List ℕ). b ∷ l) (piece_on number piece free.1 more)
+      rw (other_byte end b free.0) (row_byte number b (lines end (piece ++ more)) ∙ ap (λ (l : List ℕ). b ∷ l) (piece_on number piece free.1 more))
 
   -- ---- what is put of the bytes of cells, behind which more comes
-
-  pub puts_none : (number : ℕ) (bytes : List ℕ) → Puts end delims number bytes number bytes []
-  puts_none number bytes more some = refl
 
   -- a line of a cell and the delimiter behind it
   pub puts_line : (number now : ℕ) (bytes rest written is delim : List ℕ) (at : ℕ) → Puts end delims number bytes now rest written → IsFirstByte (is_byte end) rest (Some at)
       → is ≡ (written ++ take at rest) ++ delim → delim ≡ delimiter delims now → Puts end delims number bytes (now + 1) (drop (at + 1) rest) is
   puts_line number now bytes rest written is delim at puts first copied delim_is more some =
-      let left = drop (at + 1) rest ++ more in
-      let next = row_rest end delims (now + 1) false (lines end left) in
       puts more some
-      ∙ ap (λ (l : List ℕ). written ++ l) (
-      cell_on now rest at first more
-      ∙ ap (λ (l : List ℕ). take at rest ++ l) (begun_some (record { number = now; ended = true }) left (omega (arith, some, length-append (drop (at + 1) rest) more)))
-      )
-      ∙ sym (append_assoc written (take at rest) (delimiter delims now ++ next))
-      ∙ sym (append_assoc (written ++ take at rest) (delimiter delims now) next)
-      ∙ ap (λ (d : List ℕ). ((written ++ take at rest) ++ d) ++ next) (sym delim_is)
-      ∙ ap (λ (l : List ℕ). l ++ next) (sym copied)
+      ∙ ap (λ (l : List ℕ). written ++ l) (cell_on now rest at first more
+      ∙ ap (λ (l : List ℕ). take at rest ++ l) (begun_some (record { number = now; ended = true }) (drop (at + 1) rest ++ more) (omega (arith, some, length-append (drop (at + 1) rest) more))))
+      ∙ rw (copied, delim_is) (simp append_assoc)
 
   -- a piece of a line
   pub puts_piece : (number now : ℕ) (bytes rest written is : List ℕ) → Puts end delims number bytes now rest written → IsLine end rest → is ≡ written ++ rest → Puts end delims number bytes now [] is
   puts_piece number now bytes rest written is puts free copied more some =
-      let next = row_rest end delims now false (lines end more) in
-      puts more some ∙ ap (λ (l : List ℕ). written ++ l) (piece_on now rest free more) ∙ sym (append_assoc written rest next) ∙ ap (λ (l : List ℕ). l ++ next) (sym copied)
+      puts more some ∙ ap (λ (l : List ℕ). written ++ l) (piece_on now rest free more) ∙ rw copied (simp append_assoc)
 
-  -- the last byte of a block ends its line
-  pub puts_ended : (number now : ℕ) (bytes written : List ℕ) → Puts end delims number bytes now [] written
-      → PutsBlock end delims number (bytes ++ end ∷ []) (record { number = now; ended = true }) written
-  puts_ended number now bytes written puts more =
-      ap (λ (l : List ℕ). row_rest end delims number false (lines end l)) (append_assoc bytes (end ∷ []) more)
-      ∙ puts (end ∷ more) (omega arith)
-      ∙ ap (λ (l : List ℕ). written ++ l) (ap (row_rest end delims now false) (lines_first end [] more tt) ∙ row_line now [] (lines end more))
-
-  -- or it belongs to it
+  -- the last byte of a block belongs to its line
   pub puts_last : (number now last : ℕ) (bytes written : List ℕ) → Puts end delims number bytes now [] written → (last ≡ end → ⊥)
       → PutsBlock end delims number (bytes ++ last ∷ []) (record { number = now; ended = false }) (written ++ last ∷ [])
   puts_last number now last bytes written puts other more =
       ap (λ (l : List ℕ). row_rest end delims number false (lines end l)) (append_assoc bytes (last ∷ []) more)
       ∙ puts (last ∷ more) (omega arith)
-      ∙ ap (λ (l : List ℕ). written ++ l) (piece_on now (last ∷ []) (other, tt) more)
-      ∙ sym (append_assoc written (last ∷ []) (row_rest end delims now false (lines end more)))
+      ∙ ap (λ (l : List ℕ). written ++ l) (piece_on now (last ∷ []) (other, tt) more) ∙ simp append_assoc
 
   -- ---- one delimiter behind every cell
 
@@ -147,21 +125,11 @@ module _ (end : ℕ) (delims : List (Option ℕ)) where
     always_puts : (n m : ℕ) (bytes more : List ℕ) → 0 < length more
         → row_rest end delims n false (lines end (bytes ++ more)) ≡ map (with_delimiter (record { ending = end; delim = delim })) bytes ++ row_rest end delims m false (lines end more)
     always_puts n m [] more some = ap (λ (l : List ℕ). l ++ end ∷ []) (same_glued n m (lines end more))
-    always_puts n m (b ∷ bytes) more some = by_test (λ k. always_puts k m bytes more some) (b == end)
-      where
-        left : List ℕ
-        left = bytes ++ more
-
-        done : List ℕ
-        done = map (with_delimiter (record { ending = end; delim = delim })) bytes ++ row_rest end delims m false (lines end more)
-
-        by_test : ((k : ℕ) → row_rest end delims k false (lines end left) ≡ done) → (t : Bool)
-            → row_rest end delims n false (cond t ([] ∷ lines end left) (onto_first b (lines end left))) ≡ cond t delim b ∷ done
-        by_test next true =
-            row_line n [] (lines end left)
-            ∙ begun_some (record { number = n; ended = true }) left (omega (arith, some, length-append bytes more))
-            ∙ (λ i. option_to_list (always n i) ++ next (n + 1) i)
-        by_test next false = row_byte n b (lines end left) ∙ ap (λ (l : List ℕ). b ∷ l) (next n)
+    always_puts n m (b ∷ bytes) more some = ⊎_elim
+        (λ is. rw is (row_line n [] (lines end (bytes ++ more)) ∙ begun_some (record { number = n; ended = true }) (bytes ++ more) (omega (arith, some, length-append bytes more))
+        ∙ (λ i. option_to_list (always n i) ++ always_puts (n + 1) m bytes more some i)))
+        (λ is. rw is (row_byte n b (lines end (bytes ++ more)) ∙ ap (λ (l : List ℕ). b ∷ l) (always_puts n m bytes more some)))
+        (cases_Bool (b == end))
 
     pub puts_always : (number : ℕ) (bytes written : List ℕ) → written ≡ map (with_delimiter (record { ending = end; delim = delim })) bytes → Puts end delims number bytes number [] written
     puts_always number bytes written is more some = always_puts number number bytes more some ∙ ap (λ (l : List ℕ). l ++ row_rest end delims number false (lines end more)) (sym is)
@@ -172,31 +140,16 @@ module _ (end : ℕ) (delims : List (Option ℕ)) where
     turns_put : (n : ℕ) (bytes more : List ℕ) → 0 < length more
         → row_rest end delims n false (lines end (bytes ++ more)) ≡ with_turns end delims n bytes ++ row_rest end delims (n + count_by (is_byte end) bytes) false (lines end more)
     turns_put n [] more some = let same : n + 0 ≡ n = omega arith in ap (λ (k : ℕ). row_rest end delims k false (lines end more)) (sym same)
-    turns_put n (b ∷ bytes) more some =
-        by_test (λ k. turns_put k bytes more some) (b == end) (n + count_by (is_byte end) (b ∷ bytes)) (ap (λ (k : ℕ). n + k) (sum_by-cons (λ x. cond (is_byte end x) 1 0) b bytes))
+    turns_put n (b ∷ bytes) more some = ⊎_elim
+        (λ is. let next : n + count_by (is_byte end) (b ∷ bytes) ≡ n + 1 + count_by (is_byte end) bytes = omega (arith, counted b bytes is) in
+        rw next (rw is (row_line n [] (lines end (bytes ++ more)) ∙ begun_some (record { number = n; ended = true }) (bytes ++ more) (omega (arith, some, length-append bytes more))
+        ∙ (λ i. bytes_only n i ++ turns_put (n + 1) bytes more some i))))
+        (λ is. let next : n + count_by (is_byte end) (b ∷ bytes) ≡ n + count_by (is_byte end) bytes = omega (arith, counted b bytes is) in
+        rw next (rw is (row_byte n b (lines end (bytes ++ more)) ∙ ap (λ (l : List ℕ). b ∷ l) (turns_put n bytes more some))))
+        (cases_Bool (b == end))
       where
-        left : List ℕ
-        left = bytes ++ more
-
-        next : ℕ → List ℕ
-        next k = row_rest end delims k false (lines end more)
-
-        turn : ℕ
-        turn = unwrap_or (delim_at delims n) end
-
-        by_test : ((k : ℕ) → row_rest end delims k false (lines end left) ≡ with_turns end delims k bytes ++ next (k + count_by (is_byte end) bytes))
-            → (t : Bool) (m : ℕ) → m ≡ n + (cond t 1 0 + count_by (is_byte end) bytes)
-            → row_rest end delims n false (cond t ([] ∷ lines end left) (onto_first b (lines end left)))
-            ≡ cond t (turn ∷ with_turns end delims (n + 1) bytes) (b ∷ with_turns end delims n bytes) ++ next m
-        by_test on true m is =
-            let ends : n + 1 + count_by (is_byte end) bytes ≡ m = omega (arith, is) in
-            row_line n [] (lines end left)
-            ∙ begun_some (record { number = n; ended = true }) left (omega (arith, some, length-append bytes more))
-            ∙ (λ i. bytes_only n i ++ on (n + 1) i)
-            ∙ ap (λ (k : ℕ). turn ∷ with_turns end delims (n + 1) bytes ++ next k) ends
-        by_test on false m is =
-            let ends : n + count_by (is_byte end) bytes ≡ m = omega (arith, is) in
-            row_byte n b (lines end left) ∙ ap (λ (l : List ℕ). b ∷ l) (on n) ∙ ap (λ (k : ℕ). b ∷ with_turns end delims n bytes ++ next k) ends
+        counted : (b : ℕ) (bytes : List ℕ) {t : Bool} → (b == end) ≡ t → count_by (is_byte end) (b ∷ bytes) ≡ cond t 1 0 + count_by (is_byte end) bytes
+        counted b bytes is = sum_by-cons (λ x. cond (is_byte end x) 1 0) b bytes ∙ ap (λ (t : Bool). cond t 1 0 + count_by (is_byte end) bytes) is
 
     pub puts_turns : (number now : ℕ) (bytes written : List ℕ) → now ≡ number + count_by (is_byte end) bytes
         → written ≡ with_turns end delims number bytes → Puts end delims number bytes now [] written
@@ -216,7 +169,7 @@ module _ (end : ℕ) (delims : List (Option ℕ)) where
   glued_begins number (x ∷ z ∷ xs) ys =
       let b = glued_begins (number + 1) (z ∷ xs) ys in record {
         rest = b.rest;
-        is = ap (λ (l : List ℕ). (x ++ delimiter delims number) ++ l) b.is ∙ sym (append_assoc (x ++ delimiter delims number) (glued_from delims (number + 1) (z ∷ xs)) b.rest);
+        is = ap (λ (l : List ℕ). (x ++ delimiter delims number) ++ l) b.is ∙ simp append_assoc;
       }
 
   pub row_end : (cell : Cell) → row_from end delims cell [] ≡ end ∷ []

@@ -1,12 +1,12 @@
 -- Delimiters in turn: what bytes become where their ends of lines are replaced, one end after another.
-use Rattle.std.proofs.Common.{◌≡◌, ℕ, zero, suc, ◌+◌, ◌-◌, ◌%◌, ◌==◌, ◌<◌, ◌≤◌, eqb, Bool, true, false, cond, List, [], ◌∷◌, ◌++◌, Option, None, Some, length}
+use Rattle.std.proofs.Common.{◌≡◌, ⊎_elim, ℕ, zero, suc, ◌+◌, ◌-◌, ◌%◌, ◌==◌, ◌<◌, ◌≤◌, eqb, Bool, true, false, cond, List, [], ◌∷◌, ◌++◌, Option, None, Some, length}
 use Rattle.std.proofs.Common.{take, drop, get_or, slice_set, refl, sym, ◌∙◌, ap, arith}
 use Rattle.std.specs.Prelude.{unwrap_or}
 use Rattle.std.specs.List.{list_any, count_by}
 use Rattle.std.specs.Option.{option_eq}
 use Rattle.std.proofs.Math.Nat.{mod-lt, mod-add-mod, mod-eq_of_lt}
 use Rattle.std.proofs.Math.Seq.{take-add, take-set-lt}
-use Rattle.std.proofs.lemmas.Bool.{false≢true, eq-eqb}
+use Rattle.std.proofs.lemmas.Bool.{cases_Bool, eq-eqb}
 use Rattle.std.proofs.lemmas.List.{set-append_right, drop_more, take_more_set, take-set, length-set}
 use Rattle.std.proofs.lemmas.List.Folds.{list_any_at}
 use Rattle.std.proofs.lemmas.List.Sums.{sum_by-cons, sum_by-append}
@@ -31,15 +31,15 @@ byte_in_turn delims end none some number = by_delim (get_or delims (number % len
   where
     by_delim : (d : Option ℕ) → get_or delims (number % length delims) None ≡ d → delimiter delims number ≡ unwrap_or (delim_at delims number) end ∷ []
     by_delim None is =
-        absurd (false≢true (sym none ∙ list_any_at (λ y. option_eq eqb y None) delims (number % length delims) None (mod-lt number some) (ap (λ (y : Option ℕ). option_eq eqb y None) is)))
+        cc (none, list_any_at (λ y. option_eq eqb y None) delims (number % length delims) None (mod-lt number some) (ap (λ (y : Option ℕ). option_eq eqb y None) is))
     by_delim (Some d) is = rw is refl
 
 module _ (end : ℕ) (delims : List (Option ℕ)) where
   abbrev turn : ℕ → ℕ
   turn number = unwrap_or (delim_at delims number) end
 
-  counted : (b : ℕ) (bytes : List ℕ) → count_by (is_byte end) (b ∷ bytes) ≡ cond (b == end) 1 0 + count_by (is_byte end) bytes
-  counted b bytes = sum_by-cons (λ x. cond (is_byte end x) 1 0) b bytes
+  counted : (b : ℕ) (bytes : List ℕ) {t : Bool} → (b == end) ≡ t → count_by (is_byte end) (b ∷ bytes) ≡ cond t 1 0 + count_by (is_byte end) bytes
+  counted b bytes is = sum_by-cons (λ x. cond (is_byte end x) 1 0) b bytes ∙ ap (λ (t : Bool). cond t 1 0 + count_by (is_byte end) bytes) is
 
   -- the first so many ends are replaced, and the others stay
   abbrev pub first_turns : ℕ → ℕ → List ℕ → List ℕ
@@ -47,68 +47,46 @@ module _ (end : ℕ) (delims : List (Option ℕ)) where
   first_turns (suc n) number [] = []
   first_turns (suc n) number (b ∷ bytes) = cond (b == end) (unwrap_or (delim_at delims number) end ∷ first_turns n (number + 1) bytes) (b ∷ first_turns (suc n) number bytes)
 
-  other_stays : (n number b : ℕ) (bytes : List ℕ) → (b == end) ≡ false → first_turns n number (b ∷ bytes) ≡ b ∷ first_turns n number bytes
-  other_stays zero number b bytes other = refl
-  other_stays (suc n) number b bytes other = ap (λ (t : Bool). cond t (turn number ∷ first_turns n (number + 1) bytes) (b ∷ first_turns (suc n) number bytes)) other
-
   -- one more is replaced
   pub turn_on : (n number : ℕ) (bytes : List ℕ) (k : ℕ) → IsBehind (is_byte end) 0 n bytes k → slice_set (first_turns n number bytes) k (turn (number + n)) ≡ first_turns (suc n) number bytes
   turn_on n number [] k h = absurd (omega (arith, h.0))
-  turn_on n number (b ∷ bytes) zero h = at_first n h.2
-    where
-      at_first : (m : ℕ) → 0 ≡ m → slice_set (first_turns m number (b ∷ bytes)) 0 (turn (number + m)) ≡ first_turns (suc m) number (b ∷ bytes)
-      at_first zero e = let same : number + 0 ≡ number = omega arith in rw h.1 (ap (λ (k : ℕ). turn k ∷ bytes) same)
-      at_first (suc m) e = absurd (omega (arith, e))
-  turn_on n number (b ∷ bytes) (suc k) h =
-      by_test (λ m next e. turn_on m next bytes k (omega (arith, h.0), h.1, e)) (b == end) refl n (omega (arith, h.2, counted b (take k bytes)))
-    where
-      by_test : ((m next : ℕ) → count_by (is_byte end) (take k bytes) ≡ m → slice_set (first_turns m next bytes) k (turn (next + m)) ≡ first_turns (suc m) next bytes)
-          → (t : Bool) → (b == end) ≡ t → (m : ℕ) → cond t 1 0 + count_by (is_byte end) (take k bytes) ≡ m
-          → slice_set (first_turns m number (b ∷ bytes)) (suc k) (turn (number + m)) ≡ first_turns (suc m) number (b ∷ bytes)
-      by_test on true is zero e = absurd (omega (arith, e))
-      by_test on true is (suc m) e =
-          let shifted : number + suc m ≡ number + 1 + m = omega arith in
-          rw is (ap (λ (n : ℕ). turn number ∷ slice_set (first_turns m (number + 1) bytes) k (turn n)) shifted ∙ ap (λ (l : List ℕ). turn number ∷ l) (on m (number + 1) (omega (arith, e))))
-      by_test on false is m e =
-          ap (λ (l : List ℕ). slice_set l (suc k) (turn (number + m))) (other_stays m number b bytes is)
-          ∙ ap (λ (l : List ℕ). b ∷ l) (on m number (omega (arith, e))) ∙ sym (other_stays (suc m) number b bytes is)
+  turn_on zero number (b ∷ bytes) zero h = let same : number + 0 ≡ number = omega arith in rw h.1 (ap (λ (k : ℕ). turn k ∷ bytes) same)
+  turn_on (suc m) number (b ∷ bytes) zero h = absurd (omega (arith, h.2))
+  turn_on zero number (b ∷ bytes) (suc k) h = ⊎_elim
+      (λ is. absurd (omega (arith, h.2, counted b (take k bytes) is)))
+      (λ is. rw is (ap (λ (l : List ℕ). b ∷ l) (turn_on zero number bytes k (omega (arith, h.0), h.1, omega (arith, h.2, counted b (take k bytes) is)))))
+      (cases_Bool (b == end))
+  turn_on (suc m) number (b ∷ bytes) (suc k) h = ⊎_elim
+      (λ is. let shifted : number + suc m ≡ number + 1 + m = omega arith in
+      rw is (rw shifted (ap (λ (l : List ℕ). turn number ∷ l) (turn_on m (number + 1) bytes k (omega (arith, h.0), h.1, omega (arith, h.2, counted b (take k bytes) is))))))
+      (λ is. rw is (ap (λ (l : List ℕ). b ∷ l) (turn_on (suc m) number bytes k (omega (arith, h.0), h.1, omega (arith, h.2, counted b (take k bytes) is)))))
+      (cases_Bool (b == end))
 
   -- all are replaced
   pub all_turned : (number : ℕ) (bytes : List ℕ) (n : ℕ) → n ≡ count_by (is_byte end) bytes → first_turns n number bytes ≡ with_turns end delims number bytes
   all_turned number [] zero e = refl
   all_turned number [] (suc n) e = refl
-  all_turned number (b ∷ bytes) n e = by_test (λ next m is. all_turned next bytes m is) (b == end) refl n (omega (arith, e, counted b bytes))
-    where
-      by_test : ((next m : ℕ) → m ≡ count_by (is_byte end) bytes → first_turns m next bytes ≡ with_turns end delims next bytes)
-          → (t : Bool) → (b == end) ≡ t → (m : ℕ) → m ≡ cond t 1 0 + count_by (is_byte end) bytes → first_turns m number (b ∷ bytes) ≡ with_turns end delims number (b ∷ bytes)
-      by_test all true is zero e = absurd (omega (arith, e))
-      by_test all true is (suc m) e = rw is (ap (λ (l : List ℕ). turn number ∷ l) (all (number + 1) m (omega (arith, e))))
-      by_test all false is m e = other_stays m number b bytes is ∙ rw is (ap (λ (l : List ℕ). b ∷ l) (all number m (omega (arith, e))))
+  all_turned number (b ∷ bytes) zero e = ⊎_elim
+      (λ is. absurd (omega (arith, e, counted b bytes is)))
+      (λ is. rw is (ap (λ (l : List ℕ). b ∷ l) (all_turned number bytes zero (omega (arith, e, counted b bytes is)))))
+      (cases_Bool (b == end))
+  all_turned number (b ∷ bytes) (suc m) e = ⊎_elim
+      (λ is. rw is (ap (λ (l : List ℕ). turn number ∷ l) (all_turned (number + 1) bytes m (omega (arith, e, counted b bytes is)))))
+      (λ is. rw is (ap (λ (l : List ℕ). b ∷ l) (all_turned number bytes (suc m) (omega (arith, e, counted b bytes is)))))
+      (cases_Bool (b == end))
 
   pub length-turns : (number : ℕ) (bytes : List ℕ) → length (with_turns end delims number bytes) ≡ length bytes
   length-turns number [] = refl
-  length-turns number (b ∷ bytes) = by_test (λ next. length-turns next bytes) (b == end)
-    where
-      by_test : ((next : ℕ) → length (with_turns end delims next bytes) ≡ length bytes) → (t : Bool)
-          → length (cond t (turn number ∷ with_turns end delims (number + 1) bytes) (b ∷ with_turns end delims number bytes)) ≡ suc (length bytes)
-      by_test long true = ap suc (long (number + 1))
-      by_test long false = ap suc (long number)
+  length-turns number (b ∷ bytes) = ⊎_elim (λ is. rw is (ap suc (length-turns (number + 1) bytes))) (λ is. rw is (ap suc (length-turns number bytes))) (cases_Bool (b == end))
 
   pub turns-append : (number : ℕ) (xs ys : List ℕ) → with_turns end delims number (xs ++ ys) ≡ with_turns end delims number xs ++ with_turns end delims (number + count_by (is_byte end) xs) ys
   turns-append number [] ys = let same : number + 0 ≡ number = omega arith in ap (λ (n : ℕ). with_turns end delims n ys) (sym same)
-  turns-append number (b ∷ xs) ys =
-      by_test (λ next. turns-append next xs ys) (b == end) (number + count_by (is_byte end) (b ∷ xs)) (ap (λ (n : ℕ). number + n) (counted b xs))
-    where
-      by_test : ((next : ℕ) → with_turns end delims next (xs ++ ys) ≡ with_turns end delims next xs ++ with_turns end delims (next + count_by (is_byte end) xs) ys)
-          → (t : Bool) (n : ℕ) → n ≡ number + (cond t 1 0 + count_by (is_byte end) xs)
-          → cond t (turn number ∷ with_turns end delims (number + 1) (xs ++ ys)) (b ∷ with_turns end delims number (xs ++ ys))
-          ≡ cond t (turn number ∷ with_turns end delims (number + 1) xs) (b ∷ with_turns end delims number xs) ++ with_turns end delims n ys
-      by_test split true n is =
-          let ends : number + 1 + count_by (is_byte end) xs ≡ n = omega (arith, is) in
-          ap (λ (l : List ℕ). turn number ∷ l) (split (number + 1)) ∙ ap (λ (m : ℕ). turn number ∷ with_turns end delims (number + 1) xs ++ with_turns end delims m ys) ends
-      by_test split false n is =
-          let ends : number + count_by (is_byte end) xs ≡ n = omega (arith, is) in
-          ap (λ (l : List ℕ). b ∷ l) (split number) ∙ ap (λ (m : ℕ). b ∷ with_turns end delims number xs ++ with_turns end delims m ys) ends
+  turns-append number (b ∷ xs) ys = ⊎_elim
+      (λ is. let next : number + count_by (is_byte end) (b ∷ xs) ≡ number + 1 + count_by (is_byte end) xs = omega (arith, counted b xs is) in
+      rw next (rw is (ap (λ (l : List ℕ). turn number ∷ l) (turns-append (number + 1) xs ys))))
+      (λ is. let next : number + count_by (is_byte end) (b ∷ xs) ≡ number + count_by (is_byte end) xs = omega (arith, counted b xs is) in
+      rw next (rw is (ap (λ (l : List ℕ). b ∷ l) (turns-append number xs ys))))
+      (cases_Bool (b == end))
 
   -- some bytes more
   pub turned_more : (number at size : ℕ) (turn next : Turn) (from to to' : List ℕ) → IsTurnedTo end delims number turn at from to → at + size ≤ length from → length to' ≡ length from
@@ -138,7 +116,7 @@ module _ (end : ℕ) (delims : List (Option ℕ)) where
         let test : (get_or from at 0 == end) ≡ true = eq-eqb (get_or from at 0) end ends in
         let here : v ≡ unwrap_or (delim_at delims turn.number) end = is ∙ ap (λ (n : ℕ). unwrap_or (get_or delims n None) end) h.3 in
         turned_more number at 1 turn next from to to' h (omega (arith, room)) long
-        (later ∙ ap (λ (n : ℕ). turn.number + n) (sym (ap (count_by (is_byte end)) one ∙ counted (get_or from at 0) [] ∙ ap (λ (t : Bool). cond t 1 0 + 0) test))) place
+        (later ∙ ap (λ (n : ℕ). turn.number + n) (sym (ap (count_by (is_byte end)) one ∙ counted (get_or from at 0) [] test))) place
         (ap (take (at + 1)) set ∙ take_more_set (slice_set to at (get_or from at 0)) at v (omega (arith, room, h.1, length-set to at (get_or from at 0)))
         ∙ (λ i. take-set to at (get_or from at 0) i ++ here i ∷ [])
         ∙ ap (λ (l : List ℕ). take at to ++ l) (sym (ap (with_turns end delims turn.number) one
@@ -148,7 +126,7 @@ module _ (end : ℕ) (delims : List (Option ℕ)) where
     other_more to' other set long =
         let test : (get_or from at 0 == end) ≡ false = other_byte end (get_or from at 0) other in
         turned_more number at 1 turn turn from to to' h (omega (arith, room)) long
-        (omega (arith, ap (count_by (is_byte end)) one ∙ counted (get_or from at 0) [] ∙ ap (λ (t : Bool). cond t 1 0 + 0) test)) h.3
+        (omega (arith, ap (count_by (is_byte end)) one ∙ counted (get_or from at 0) [] test)) h.3
         (ap (take (at + 1)) set ∙ take_more_set to at (get_or from at 0) (omega (arith, room, h.1))
         ∙ ap (λ (l : List ℕ). take at to ++ l) (sym (ap (with_turns end delims turn.number) one
         ∙ ap (λ (t : Bool). cond t (unwrap_or (delim_at delims turn.number) end ∷ []) (get_or from at 0 ∷ [])) test)))

@@ -2,12 +2,11 @@
 -- fill.
 use Rattle.std.proofs.Common.{◌≡◌, ⊎_elim, inl, inr, ℕ, zero, suc, ◌+◌, ◌-◌, ◌<◌, ◌≤◌, ◌^◌, Bool, true, false, cond, List, [], ◌∷◌, ◌++◌, Option, None, Some, length}
 use Rattle.std.proofs.Common.{take, drop, set, get_or, refl, sym, ◌∙◌, ap, subst, arith, append_assoc, length-append, length-drop, replicate}
-use Rattle.std.specs.Prelude.{All, nat_lt, Result, Err}
+use Rattle.std.specs.Prelude.{nat_lt, Result, Err}
 use Rattle.std.proofs.lemmas.Bool.{cases_eq, cases_lt}
 use Rattle.std.proofs.lemmas.Bool.Decides.{nat_tests}
 use Rattle.std.proofs.lemmas.List.{append-nil, take-take, take-append-le, length-take-le, length-set, drop-drop}
 use Rattle.std.proofs.lemmas.List.{take_more_set, get_or-set_same, get_or-set_other, get_or-replicate, get_or_past, ext_get_or}
-use Rattle.std.proofs.lemmas.List.Elements.{All-get_or}
 use Rattle.memchr.specs.Find.{IsFirstByte, is_byte}
 use Rattle.ptlines.specs.Readers.{Reader, Goes, IsSound}
 use Rattle.ptlines.specs.Outputs.{Output}
@@ -16,21 +15,13 @@ use Rattle.ptlines.specs.Slots.{Slots, with_line}
 use Rattle.ptlines.specs.Fills.{GivesLine}
 use Rattle.ptlines.proofs.Scanned.{before_end, take_end, goes_front}
 use Rattle.ptflow.specs.PastePasses.{no_reader, reader_at}
-use Rattle.ptflow.specs.Workings.Paste.RowTurns.{RowFilled}
+use Rattle.ptflow.specs.Workings.Paste.RowTurns.{Filling}
 use Rattle.ptflow.specs.Workings.Paste.SerialRests.{row_rest, row_from, begun, lead}
 use Rattle.ptflow.specs.Workings.Paste.WholeRows.{in_front, AreReadable, AreTaken, Holds, HeldRows, HoldsTo, PassesRows, PushedRows, PutsRow, PutsRows}
 use Rattle.ptflow.proofs.OfPaste.GivenRows.{blank, length_blank, held_row, held_trans}
-use Rattle.ptflow.proofs.OfPaste.RowTurns.{at_index, at_same, at_other, Filling, filling_starts, filling_line, filling_done}
+use Rattle.ptflow.proofs.OfPaste.RowTurns.{at_same, at_other, filling_starts, filling_line}
 use Rattle.ptflow.proofs.OfPaste.SerialRests.{row_begun, row_line, row_end}
 use Rattle.ptflow.proofs.OfPaste.SheetRows.{first_cell}
-
--- what was taken of the reader of a cell is in the bytes that were read of it
-pub taken_fits : (cells : List ℕ) (readers : List Reader) (taken : List ℕ) (n : ℕ) → n < length cells → All (λ (p : ℕ). p < length readers) cells → Holds readers taken
-    → {r : Reader} → r ≡ get_or readers (get_or cells n 0) r → (bytes : List ℕ) → bytes ≡ r.held → get_or taken (get_or cells n 0) 0 ≤ length bytes
-taken_fits cells readers taken n low within holds {r} is bytes held =
-    let place = get_or cells n 0 in
-    let same = is ∙ at_index readers place r (All-get_or (λ (p : ℕ). p < length readers) cells n 0 low within) in
-    omega (arith, holds place, ap length (held ∙ ap (λ (x : Reader). x.held) same))
 
 -- a line that lies whole in what a reader holds
 held_line : (b r : Reader) (at : ℕ) (store : Slots) (slot : ℕ) → b.fault ≡ None → b.pulled < 2 ^ 63 → IsFirstByte (is_byte b.ending) b.held (Some at)
@@ -78,120 +69,108 @@ pub record Putting (end : ℕ) (delims : List (Option ℕ)) (cells : List ℕ) (
   pub moved : AreTaken taken old mid
   pub on : (more : List (List ℕ)) → row_from end delims first_cell (take n store.lines ++ more) ≡ written ++ row_from end delims (in_front n) more
 
-module _ (end : ℕ) (delims : List (Option ℕ)) (cells : List ℕ) (old from : List Reader) where
-  pub putting_starts : (taken : List ℕ) → AreTaken taken old from → Putting end delims cells 0 old from taken []
-  putting_starts taken moved = record {
+-- The line of a cell, of this length, lies whole behind what was taken of its reader.
+pub record HasLine (end : ℕ) (cells : List ℕ) (old : List Reader) (n : ℕ) (taken : List ℕ) (at : ℕ) : Type 0 where
+  pub low : n < length cells
+  pub within : get_or cells n 0 < length old
+  pub place_low : get_or cells n 0 < length taken
+  pub clean : (reader_at old (get_or cells n 0)).fault ≡ None
+  pub ends : (reader_at old (get_or cells n 0)).ending ≡ end
+  pub sound : IsSound (reader_at old (get_or cells n 0))
+  pub found : IsFirstByte (is_byte end) (drop (get_or taken (get_or cells n 0) 0) (reader_at old (get_or cells n 0)).held) (Some at)
+
+-- what is taken with it
+abbrev pub taken_with : List ℕ → ℕ → List ℕ → ℕ → List ℕ
+taken_with cells n taken at = set taken (get_or cells n 0) (get_or taken (get_or cells n 0) 0 + (at + 1))
+
+module _ {end : ℕ} {cells : List ℕ} {old : List Reader} {n : ℕ} {taken : List ℕ} {at : ℕ} (l : HasLine end cells old n taken at) where
+  abbrev place : ℕ
+  place = get_or cells n 0
+
+  abbrev behind : ℕ
+  behind = get_or taken place 0 + (at + 1)
+
+  -- no more is taken than is held
+  pub holds_more : Holds old taken → Holds old (taken_with cells n taken at)
+  holds_more holds p = ⊎_elim
+      (λ same. rw same (rw (get_or-set_same taken place behind 0 l.place_low) (omega (arith, l.found.0.high, length-drop (get_or taken place 0) (reader_at old place).held, holds place))))
+      (λ differ. rw (get_or-set_other taken place p behind 0 differ) (holds p))
+      (cases_eq p place)
+
+  module _ {delims : List (Option ℕ)} {from : List Reader} {written next : List ℕ}
+      (is : next ≡ (written ++ lead delims (in_front n)) ++ take at (drop (get_or taken (get_or cells n 0) 0) (reader_at old (get_or cells n 0)).held))
+      (h : Putting end delims cells n old from taken written) where
+    abbrev line_of : List ℕ
+    line_of = take at (drop (get_or taken place 0) (reader_at old place).held)
+
+    abbrev mid_reader : Reader
+    mid_reader = record (reader_at old place) { held = drop (get_or taken place 0) (reader_at old place).held }
+
+    abbrev new_reader : Reader
+    new_reader = record (reader_at old place) { held = drop behind (reader_at old place).held }
+
+    gives : GivesLine mid_reader new_reader h.store (with_line h.store n line_of) n
+    gives = held_line mid_reader new_reader at h.store n l.clean (l.sound.long l.clean)
+        (rw l.ends l.found)
+        (λ i. record (reader_at old place) { held = sym (drop-drop (at + 1) (get_or taken place 0) (reader_at old place).held) i })
+
+    room_here : n < length h.store.lines
+    room_here = omega (arith, l.low, length_blank cells, h.filling.taken.same)
+
+    within_mid : place < length h.mid
+    within_mid = omega (arith, l.within, h.moved.count)
+
+    moved_next : (p : ℕ) → reader_at (set h.mid place new_reader) p ≡ record (reader_at old p) { held = drop (get_or (taken_with cells n taken at) p 0) (reader_at old p).held }
+    moved_next p = ⊎_elim
+        (λ same. rw same (rw (at_same h.mid place new_reader within_mid, get_or-set_same taken place behind 0 l.place_low) refl))
+        (λ differ. rw (at_other h.mid place p new_reader differ, get_or-set_other taken place p behind 0 differ) (h.moved.held p))
+        (cases_eq p place)
+
+    on_next : (more : List (List ℕ)) → row_from end delims first_cell (take (n + 1) (set h.store.lines n line_of) ++ more) ≡ next ++ row_from end delims (in_front (n + 1)) more
+    on_next more =
+        ap (λ (l : List (List ℕ)). row_from end delims first_cell (l ++ more)) (take_more_set h.store.lines n line_of room_here)
+        ∙ ap (row_from end delims first_cell) (append_assoc (take n h.store.lines) (line_of ∷ []) more)
+        ∙ h.on (line_of ∷ more)
+        ∙ ap (λ (l : List ℕ). written ++ l) (row_begun end delims (in_front n) line_of more
+        ∙ ap (λ (l : List ℕ). lead delims (in_front n) ++ l) (row_line end delims (begun (in_front n)).number line_of more
+        ∙ ap (λ (l : List ℕ). line_of ++ l) (behind_cell end delims n more)))
+        ∙ rw is (simp append_assoc)
+
+    pub putting_more : Putting end delims cells (n + 1) old from (taken_with cells n taken at) next
+    putting_more = record {
+      mid = set h.mid place new_reader;
+      store = with_line h.store n line_of;
+      came = true;
+      filling = filling_line h.filling l.low within_mid room_here (sym (h.moved.held place)) l.clean (sound_held (reader_at old place) new_reader behind l.sound refl) gives;
+      began = λ some. refl;
+      moved = record { count = length-set h.mid place new_reader ∙ h.moved.count; held = moved_next };
+      on = on_next;
+    }
+
+module _ {end : ℕ} {delims : List (Option ℕ)} {cells : List ℕ} {old from : List Reader} where
+  pub putting_starts : {taken : List ℕ} → AreTaken taken old from → Putting end delims cells 0 old from taken []
+  putting_starts moved = record {
     mid = from;
     store = blank cells;
     came = false;
-    filling = filling_starts cells from (blank cells);
+    filling = filling_starts;
     began = λ some. absurd (omega (arith, some));
     moved = moved;
     on = λ more. refl;
   }
 
-  module _ (n : ℕ) (taken : List ℕ) (low : n < length cells) (within : get_or cells n 0 < length old) (place_low : get_or cells n 0 < length taken) (at : ℕ) where
-    abbrev place : ℕ
-    place = get_or cells n 0
-
-    abbrev was : Reader
-    was = reader_at old (get_or cells n 0)
-
-    abbrev now_taken : List ℕ
-    now_taken = set taken (get_or cells n 0) (get_or taken (get_or cells n 0) 0 + (at + 1))
-
-    abbrev line_of : List ℕ
-    line_of = take at (drop (get_or taken (get_or cells n 0) 0) (reader_at old (get_or cells n 0)).held)
-
-    module _ (clean : (reader_at old (get_or cells n 0)).fault ≡ None) (ends : (reader_at old (get_or cells n 0)).ending ≡ end) (sound : IsSound (reader_at old (get_or cells n 0)))
-        (found : IsFirstByte (is_byte end) (drop (get_or taken (get_or cells n 0) 0) (reader_at old (get_or cells n 0)).held) (Some at)) where
-      -- no more is taken than is held
-      pub holds_more : Holds old taken → Holds old now_taken
-      holds_more holds p = ⊎_elim
-          (λ same. omega (
-            arith,
-            ap (λ (q : ℕ). get_or now_taken q 0) same,
-            get_or-set_same taken place (get_or taken place 0 + (at + 1)) 0 place_low,
-            ap (λ (q : ℕ). length (reader_at old q).held) same,
-            found.0.high,
-            length-drop (get_or taken place 0) was.held,
-            holds place,
-          ))
-          (λ differ. omega (arith, holds p, get_or-set_other taken place p (get_or taken place 0 + (at + 1)) 0 differ))
-          (cases_eq p place)
-
-      module _ (written next : List ℕ) (is : next ≡ (written ++ lead delims (in_front n)) ++ line_of) (h : Putting end delims cells n old from taken written) where
-        abbrev mid_reader : Reader
-        mid_reader = record was { held = drop (get_or taken place 0) was.held }
-
-        abbrev new_reader : Reader
-        new_reader = record was { held = drop (get_or taken place 0 + (at + 1)) was.held }
-
-        moved_on : (let x : Reader = new_reader in let y : Reader = record mid_reader { held = drop (at + 1) (drop (get_or taken place 0) was.held) } in x ≡ y)
-        moved_on = λ i. record was { held = sym (drop-drop (at + 1) (get_or taken place 0) was.held) i }
-
-        gives : GivesLine mid_reader new_reader h.store (with_line h.store n line_of) n
-        gives = held_line mid_reader new_reader at h.store n clean (sound.long clean)
-            (subst (λ (e : ℕ). IsFirstByte (is_byte e) (drop (get_or taken place 0) was.held) (Some at)) (sym ends) found) moved_on
-
-        room_here : n < length h.store.lines
-        room_here = omega (arith, low, length_blank cells, h.filling.taken.same)
-
-        within_mid : place < length h.mid
-        within_mid = omega (arith, within, h.moved.count)
-
-        moved_next : AreTaken now_taken old (set h.mid place new_reader)
-        moved_next = record { count = length-set h.mid place new_reader ∙ h.moved.count; held = held }
-          where
-            held : (p : ℕ) → reader_at (set h.mid place new_reader) p ≡ record (reader_at old p) { held = drop (get_or now_taken p 0) (reader_at old p).held }
-            held p = ⊎_elim
-                (λ same.
-                ap (reader_at (set h.mid place new_reader)) same ∙ at_same h.mid place new_reader within_mid
-                ∙ ap (λ (k : ℕ). record was { held = drop k was.held }) (sym (get_or-set_same taken place (get_or taken place 0 + (at + 1)) 0 place_low))
-                ∙ ap (λ (q : ℕ). record (reader_at old q) { held = drop (get_or now_taken q 0) (reader_at old q).held }) (sym same))
-                (λ differ.
-                at_other h.mid place p new_reader differ ∙ h.moved.held p
-                ∙ ap (λ (k : ℕ). record (reader_at old p) { held = drop k (reader_at old p).held }) (sym (get_or-set_other taken place p (get_or taken place 0 + (at + 1)) 0 differ)))
-                (cases_eq p place)
-
-        on_next : (more : List (List ℕ)) → row_from end delims first_cell (take (n + 1) (set h.store.lines n line_of) ++ more) ≡ next ++ row_from end delims (in_front (n + 1)) more
-        on_next more =
-            ap (λ (l : List (List ℕ)). row_from end delims first_cell (l ++ more)) (take_more_set h.store.lines n line_of room_here)
-            ∙ ap (row_from end delims first_cell) (append_assoc (take n h.store.lines) (line_of ∷ []) more)
-            ∙ h.on (line_of ∷ more)
-            ∙ ap (λ (l : List ℕ). written ++ l) (row_begun end delims (in_front n) line_of more
-            ∙ ap (λ (l : List ℕ). lead delims (in_front n) ++ l) (row_line end delims (begun (in_front n)).number line_of more
-            ∙ ap (λ (l : List ℕ). line_of ++ l) (behind_cell end delims n more)))
-            ∙ sym (append_assoc written (lead delims (in_front n)) (line_of ++ row_from end delims (in_front (n + 1)) more))
-            ∙ sym (append_assoc (written ++ lead delims (in_front n)) line_of (row_from end delims (in_front (n + 1)) more))
-            ∙ ap (λ (l : List ℕ). l ++ row_from end delims (in_front (n + 1)) more) (sym is)
-
-        pub putting_more : Putting end delims cells (n + 1) old from now_taken next
-        putting_more = record {
-          mid = set h.mid place new_reader;
-          store = with_line h.store n line_of;
-          came = true;
-          filling = filling_line cells n from h.mid (blank cells) h.store h.came h.filling low within_mid room_here mid_reader (sym (h.moved.held place)) clean new_reader (with_line h.store n line_of)
-              (sound_held was new_reader (get_or taken place 0 + (at + 1)) sound refl) gives;
-          began = λ some. refl;
-          moved = moved_next;
-          on = on_next;
-        }
-
   -- all cells were put
-  pub putting_done : (n : ℕ) (before taken written next : List ℕ) → n ≡ length cells → 0 < length cells → AreReadable end cells old → AreTaken before old from
-      → next ≡ written ++ end ∷ [] → Putting end delims cells n old from taken written → HoldsTo end delims cells old from taken next
-  putting_done n before taken written next all some readable began is h =
-      let came : h.came ≡ true = h.began (omega (arith, all, some)) in
-      record {
-        new = h.mid;
-        moved = h.moved;
-        rows = held_row end delims cells from h.mid (λ p named. ap (λ (r : Reader). r.ending) (began.held p) ∙ (readable p named).1)
-            (λ p. ap (λ (r : Reader). r.pulled) (h.moved.held p) ∙ sym (ap (λ (r : Reader). r.pulled) (began.held p))) h.store
-            (subst (λ (t : Bool). RowFilled cells from h.mid (blank cells) h.store t) came (filling_done cells n from h.mid (blank cells) h.store h.came all h.filling)) next
-            (is ∙ ap (λ (l : List ℕ). written ++ l) (sym (row_end end delims (in_front n))) ∙ sym (h.on [])
-            ∙ ap (row_from end delims first_cell) (append-nil (take n h.store.lines)) ∙ ap (λ (k : ℕ). row_from end delims first_cell (take k h.store.lines)) all);
-      }
+  pub putting_done : {n : ℕ} {before taken written : List ℕ} → n ≡ length cells → 0 < length cells → AreReadable end cells old → AreTaken before old from
+      → Putting end delims cells n old from taken written → HoldsTo end delims cells old from taken (written ++ end ∷ [])
+  putting_done {n} {written = written} all some readable began h = record {
+    new = h.mid;
+    moved = h.moved;
+    rows = held_row (λ p named. ap (λ (r : Reader). r.ending) (began.held p) ∙ (readable p named).1)
+        (λ p. ap (λ (r : Reader). r.pulled) (h.moved.held p) ∙ sym (ap (λ (r : Reader). r.pulled) (began.held p)))
+        (rw (all, h.began (omega (arith, all, some))) at h.filling)
+        (ap (λ (l : List ℕ). written ++ l) (sym (row_end end delims (in_front n))) ∙ sym (h.on [])
+        ∙ ap (row_from end delims first_cell) (append-nil (take n h.store.lines)) ∙ ap (λ (k : ℕ). row_from end delims first_cell (take k h.store.lines)) all);
+  }
 
 -- ---- rows
 
@@ -200,19 +179,12 @@ pub front_kept : (at end : ℕ) (now old written : List ℕ) → at ≤ end → 
 front_kept at end now old written low fits is =
     sym (take-take at end now low) ∙ ap (take at) is ∙ take-append-le at (take at old) written (omega (arith, length-take-le at old fits)) ∙ take-take at at old (omega arith)
 
--- what stands in front of a delimiter
-pub lead_kept : (at end : ℕ) (now mid front old written lead_of : List ℕ) → at ≤ end → at ≤ length old → take end now ≡ take end mid → take end mid ≡ front ++ lead_of
-    → front ≡ take at old ++ written → take at now ≡ take at old
-lead_kept at end now mid front old written lead_of low fits kept put is =
-    front_kept at end now old (written ++ lead_of) low fits (kept ∙ put ∙ ap (λ (l : List ℕ). l ++ lead_of) is ∙ append_assoc (take at old) written lead_of)
-
 -- what is put behind a delimiter, and behind a row
-pub line_put : (base written lead_of line front mid put : List ℕ) → put ≡ mid ++ line → mid ≡ front ++ lead_of → front ≡ base ++ written → put ≡ base ++ ((written ++ lead_of) ++ line)
-line_put base written lead_of line front mid put put_is mid_is is =
-    put_is ∙ ap (λ (l : List ℕ). l ++ line) (mid_is ∙ ap (λ (l : List ℕ). l ++ lead_of) is ∙ append_assoc base written lead_of) ∙ append_assoc base (written ++ lead_of) line
+pub line_put : (base written lead_of line : List ℕ) {front mid put : List ℕ} → put ≡ mid ++ line → mid ≡ front ++ lead_of → front ≡ base ++ written → put ≡ base ++ ((written ++ lead_of) ++ line)
+line_put base written lead_of line put_is mid_is is = rw (put_is, mid_is, is) (simp append_assoc)
 
-pub end_put : (base written front put end_of : List ℕ) → put ≡ front ++ end_of → front ≡ base ++ written → put ≡ base ++ (written ++ end_of)
-end_put base written front put end_of put_is is = put_is ∙ ap (λ (l : List ℕ). l ++ end_of) is ∙ append_assoc base written end_of
+pub end_put : (base written end_of : List ℕ) {front put : List ℕ} → put ≡ front ++ end_of → front ≡ base ++ written → put ≡ base ++ (written ++ end_of)
+end_put base written end_of put_is is = rw (put_is, is) (simp append_assoc)
 
 -- nothing is taken of any reader
 abbrev pub nothing : List ℕ
@@ -221,39 +193,31 @@ nothing = replicate {A = ℕ} 16 0
 pub zeros : (p : ℕ) → get_or {A = ℕ} nothing p 0 ≡ 0
 zeros p = ⊎_elim (λ low. get_or-replicate {A = ℕ} 16 p 0 0 low) (λ past. get_or_past nothing p 0 past) (cases_lt p 16)
 
-module _ (end : ℕ) (delims : List (Option ℕ)) (cells : List ℕ) (old : List Reader) where
+pub holds_none : (old : List Reader) → Holds old nothing
+holds_none old p = omega (arith, zeros p)
+
+module _ {end : ℕ} {delims : List (Option ℕ)} {cells : List ℕ} {old : List Reader} where
   pub rows_none : PutsRows end delims cells old nothing []
   rows_none = inl (refl, record { count = refl; held = λ p. ap (λ (n : ℕ). record (reader_at old p) { held = drop n (reader_at old p).held }) (sym (zeros p)) })
 
-  pub holds_none : Holds old nothing
-  holds_none p = omega (arith, zeros p)
-
-  pub rows_kept : (taken put now : List ℕ) → now ≡ put → PutsRows end delims cells old taken put → PutsRows end delims cells old taken now
-  rows_kept taken put now same = subst (PutsRows end delims cells old taken) (sym same)
-
   -- one row more
-  pub rows_more : (before taken front put : List ℕ) → PutsRows end delims cells old before front → PutsRow end delims cells old before taken front put → PutsRows end delims cells old taken put
-  rows_more before taken front put so_far r = inr (⊎_elim first next so_far)
-    where
-      first : (front ≡ []) × AreTaken before old old → HoldsTo end delims cells old old taken put
-      first none = subst (HoldsTo end delims cells old old taken) (sym (r.is ∙ ap (λ (l : List ℕ). l ++ r.written) none.0)) (r.row old none.1)
-
-      next : HoldsTo end delims cells old old before front → HoldsTo end delims cells old old taken put
-      next h =
-          let k = r.row h.new h.moved in
-          record { new = k.new; moved = k.moved; rows = subst (HeldRows end delims cells old k.new) (sym r.is) (held_trans end delims cells old h.new k.new front r.written h.rows k.rows) }
+  pub rows_more : {before taken front put : List ℕ} → PutsRows end delims cells old before front → PutsRow end delims cells old before taken front put → PutsRows end delims cells old taken put
+  rows_more so_far r = inr (⊎_elim
+      (λ none. rw (r.is, none.0) (r.row old none.1))
+      (λ h. let k = r.row h.new h.moved in record { new = k.new; moved = k.moved; rows = rw r.is (held_trans h.rows k.rows) })
+      so_far)
 
   -- all of them were taken of the readers
-  pub rows_taken : (taken put : List ℕ) (new : List Reader) → 0 < length put → PutsRows end delims cells old taken put → AreTaken taken old new → HeldRows end delims cells old new put
-  rows_taken taken put new some rows moved = ⊎_elim
+  pub rows_taken : {taken put : List ℕ} {new : List Reader} → 0 < length put → PutsRows end delims cells old taken put → AreTaken taken old new → HeldRows end delims cells old new put
+  rows_taken {put = put} {new = new} some rows moved = ⊎_elim
       (λ none. absurd (omega (arith, some, ap length none.0)))
       (λ h. subst (λ (r : List Reader). HeldRows end delims cells old r put) (ext_get_or no_reader h.new new (h.moved.count ∙ sym moved.count) (λ p low. h.moved.held p ∙ sym (moved.held p))) h.rows)
       rows
 
 -- what was pushed when the write of it failed
-pub pushed_breaks : (end : ℕ) (delims : List (Option ℕ)) (cells : List ℕ) (old new : List Reader) (was is : Output) (result : Result Bool WriteFault) (fault : WriteFault)
+pub pushed_breaks : {end : ℕ} {delims : List (Option ℕ)} {cells : List ℕ} {old new : List Reader} {was is : Output} {result : Result Bool WriteFault} {fault : WriteFault}
     → result ≡ Err fault → PushedRows end delims cells old new was is → is.faulted ≡ true → PassesRows end delims cells old new was is result
-pushed_breaks end delims cells old new was is result fault failed pushed broke = subst (PassesRows end delims cells old new was is) (sym failed) (pushed, broke)
+pushed_breaks {end} {delims} {cells} {old} {new} {was} {is} failed pushed broke = subst (PassesRows end delims cells old new was is) (sym failed) (pushed, broke)
 
 -- ---- what was put is taken
 
@@ -266,9 +230,8 @@ module _ (taken : List ℕ) (old now : List Reader) (n : ℕ) (front : (p : ℕ)
   module _ (b r : Reader) (low : n < length now) (is_read : b ≡ reader_at now n) (step : r ≡ moved_at taken b n) where
     pub taking_front : (p : ℕ) → p < n + 1 → reader_at (set now n r) p ≡ moved_at taken (reader_at old p) p
     taking_front p under = ⊎_elim
-        (λ same. ap (reader_at (set now n r)) same ∙ at_same now n r low ∙ step ∙ ap (λ (x : Reader). moved_at taken x n) (is_read ∙ rest n (omega arith))
-        ∙ ap (λ (q : ℕ). moved_at taken (reader_at old q) q) (sym same))
-        (λ differ. at_other now n p r differ ∙ front p (omega (arith, under, differ)))
+        (λ same. rw same (rw (at_same now n r low, step, is_read, rest n (omega arith)) refl))
+        (λ differ. rw (at_other now n p r differ) (front p (omega (arith, under, differ))))
         (cases_eq p n)
 
     pub taking_rest : (p : ℕ) → n + 1 ≤ p → reader_at (set now n r) p ≡ reader_at old p
@@ -281,4 +244,4 @@ module _ (taken : List ℕ) (old now : List Reader) (n : ℕ) (front : (p : ℕ)
       past p over =
           let nobody : reader_at old p ≡ no_reader = get_or_past old p no_reader (omega (arith, over, all)) in
           let none : get_or taken p 0 ≡ 0 = omega (arith, holds p, ap (λ (r : Reader). length r.held) nobody) in
-          ap (λ (k : ℕ). record (reader_at old p) { held = drop k (reader_at old p).held }) (sym none)
+          rw none refl

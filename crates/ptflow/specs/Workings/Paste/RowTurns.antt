@@ -41,14 +41,19 @@ pub record RowTaken (cells : List ℕ) (n : ℕ) (old new : List Reader) (before
   pub kept : (first : Slots) (top : ℕ → ℕ) → KeepsCells cells top first before
       → ((place : ℕ) → longest (got place) ≤ top place) → KeepsCells cells top first store
 
--- the cells have lines, of which one is the last of its reader, or none has
-pub record RowFilled (cells : List ℕ) (old new : List Reader) (before store : Slots) (came : Bool) : Type 0 where
+-- the first n cells have lines, of which one is the last of its reader, or none has
+pub record Filling (cells : List ℕ) (n : ℕ) (old new : List Reader) (before store : Slots) (came : Bool) : Type 0 where
   pub got : ℕ → List (List ℕ)
-  pub taken : RowTaken cells (length cells) old new before store got
-  pub some : came ≡ true → (c : ℕ) × (c < length cells)
+  pub taken : RowTaken cells n old new before store got
+  pub some : came ≡ true → (c : ℕ) × (c < n)
       × (length (got (slice_index_or cells c 0)) ≡ times (take c cells) (slice_index_or cells c 0) + 1)
   pub none : came ≡ false → (place : ℕ) → got place ≡ []
+  pub least : sum_by budget new ≤ sum_by budget old
   pub less : came ≡ true → sum_by budget new < sum_by budget old
+
+-- and so have all cells
+abbrev pub RowFilled : List ℕ → List Reader → List Reader → Slots → Slots → Bool → Type 0
+RowFilled cells old new before store came = Filling cells (length cells) old new before store came
 
 -- the cells before a cell have their lines, and its reader has these lines and this state
 pub record RowBroken (Breaks : Reader → Reader → Slots → Slots → ℕ → Type 0) (cells : List ℕ) (old new : List Reader) (before store : Slots) : Type 0 where

@@ -1,10 +1,9 @@
 -- Each turn pushes one more cell. A push that fails leaves a beginning of the row.
-use Rattle.std.proofs.Common.{◌≡◌, ℕ, ◌+◌, ◌<◌, ◌≤◌, List, [], ◌∷◌, length, take, drop, get_or, ◌∙◌, ap, subst, arith}
+use Rattle.std.proofs.Common.{◌≡◌, ℕ, ◌+◌, ◌<◌, ◌≤◌, List, [], ◌∷◌, length, take, drop, get_or, ◌∙◌, ap, arith}
 use Rattle.std.proofs.lemmas.List.{length-take-le, drop_more, drop_all, get_or-take}
-use Rattle.ptlines.specs.Outputs.{Wrote}
 use Rattle.ptflow.specs.Workings.Paste.SerialRests.{row_from}
 use Rattle.ptflow.specs.declared.tools.paste.serial.Cell.{Cell}
-use Rattle.ptflow.proofs.OfPasses.Continuations.{Amid, amid_starts}
+use Rattle.ptflow.proofs.OfPasses.Continuations.{amid_starts}
 use Rattle.ptflow.proofs.OfPaste.SerialRests.{begun_number}
 use Rattle.ptflow.proofs.OfPaste.SheetRows.{first_cell, row_unled, row_cut, row_more, row_done}
 use Rattle.ptflow.proofs.tools.paste.push_row.Goals as goal
@@ -23,38 +22,20 @@ loop-column-init g c = record {
 
 pub returns-in_err-cell-clause-wrote : goal.returns-in_err-cell-clause-wrote
 returns-in_err-cell-clause-wrote g c =
-    let lines = c.args.store.now.lines in
-    let column = c.loop-column.column in
-    let all = take c.args.count lines in
-    let a = subst (λ (l : List (List ℕ)). Amid (row_from c.args.ending c.args.delims.now) first_cell c.loop-column.cell all l c.args.out.now c.loop-column.out)
-    (from_column lines c.args.count column c.requires.slots c.loop-column-test.true) c.loop-column.invariant.amid in
-    row_unled c.args.ending c.args.delims.now all c.args.out.now c.loop-column.cell (get_or lines column [])
-    (drop (column + 1) all) c.loop-column.out c.begin_cell.new.out a c.begin_cell.ensures.wrote c.in_err-cell.ensures.fault
+    let a = rw (from_column c.args.store.now.lines c.args.count c.loop-column.column c.requires.slots c.loop-column-test.true) at c.loop-column.invariant.amid in
+    row_unled c.args.ending c.args.delims.now a c.begin_cell.ensures.wrote c.in_err-cell.ensures.fault
 
 pub returns-in_err-push-clause-wrote : goal.returns-in_err-push-clause-wrote
 returns-in_err-push-clause-wrote g c =
-    let lines = c.args.store.now.lines in
-    let column = c.loop-column.column in
-    let all = take c.args.count lines in
-    let a = subst (λ (l : List (List ℕ)). Amid (row_from c.args.ending c.args.delims.now) first_cell c.loop-column.cell all l c.args.out.now c.loop-column.out)
-    (from_column lines c.args.count column c.requires.slots c.loop-column-test.true) c.loop-column.invariant.amid in
-    row_cut c.args.ending c.args.delims.now all c.args.out.now c.loop-column.cell (get_or lines column [])
-    (drop (column + 1) all) c.loop-column.out c.begin_cell.new.out a c.begin_cell.ensures.wrote c.in_ok-cell.ensures.clean
-    c.push.new.self (subst (λ (l : List ℕ). Wrote c.begin_cell.new.out c.push.new.self l) c.line.ensures c.push.ensures.wrote) c.in_err-push.ensures.fault
+    let a = rw (from_column c.args.store.now.lines c.args.count c.loop-column.column c.requires.slots c.loop-column-test.true) at c.loop-column.invariant.amid in
+    row_cut c.args.ending c.args.delims.now a c.begin_cell.ensures.wrote c.in_ok-cell.ensures.clean (rw c.line.ensures at c.push.ensures.wrote) c.in_err-push.ensures.fault
 
 pub loop-column-preserved : goal.loop-column-preserved
 loop-column-preserved g c =
-    let lines = c.args.store.now.lines in
-    let column = c.loop-column.column in
-    let all = take c.args.count lines in
-    let a = subst (λ (l : List (List ℕ)). Amid (row_from c.args.ending c.args.delims.now) first_cell c.loop-column.cell all l c.args.out.now c.loop-column.out)
-    (from_column lines c.args.count column c.requires.slots c.loop-column-test.true) c.loop-column.invariant.amid in
+    let a = rw (from_column c.args.store.now.lines c.args.count c.loop-column.column c.requires.slots c.loop-column-test.true) at c.loop-column.invariant.amid in
     let number : c.in_ok-cell.cell.number ≡ _ = ap (λ (x : Cell). x.number) c.in_ok-cell.ensures.begun in
     record {
-      amid = rw number
-          (row_more c.args.ending c.args.delims.now all c.args.out.now c.loop-column.cell (get_or lines column [])
-          (drop (column + 1) all) c.loop-column.out c.begin_cell.new.out a c.begin_cell.ensures.wrote c.in_ok-cell.ensures.clean
-          c.push.new.self (subst (λ (l : List ℕ). Wrote c.begin_cell.new.out c.push.new.self l) c.line.ensures c.push.ensures.wrote) c.in_ok-push.ensures.clean);
+      amid = rw number (row_more c.args.ending c.args.delims.now a c.begin_cell.ensures.wrote c.in_ok-cell.ensures.clean (rw c.line.ensures at c.push.ensures.wrote) c.in_ok-push.ensures.clean);
       bound = omega (arith, number, begun_number c.loop-column.cell, c.loop-column.invariant.bound);
     }
 
@@ -62,6 +43,4 @@ pub returns-clause-wrote : goal.returns-clause-wrote
 returns-clause-wrote g c =
     let all = take c.args.count c.args.store.now.lines in
     let none = drop_all c.loop-column.column all (omega (arith, c.loop-column-test.false, length-take-le c.args.count c.args.store.now.lines c.requires.slots)) in
-    row_done c.args.ending c.args.delims.now all c.args.out.now c.loop-column.cell c.loop-column.out _
-    (subst (λ (l : List (List ℕ)). Amid (row_from c.args.ending c.args.delims.now) first_cell c.loop-column.cell all l c.args.out.now c.loop-column.out) none
-    c.loop-column.invariant.amid) c.push-2.ensures.wrote
+    row_done c.args.ending c.args.delims.now (rw none at c.loop-column.invariant.amid) c.push-2.ensures.wrote

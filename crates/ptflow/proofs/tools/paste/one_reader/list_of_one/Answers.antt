@@ -20,7 +20,7 @@ loop-column-preserved g c =
     let n = c.loop-column.column in
     let inv = c.loop-column.invariant in
     record {
-      so_far = turns_more c.args.delims.now n c.loop-column.turns.items c.push.new.self.items inv.so_far c.in_ok-delim.delim c.push.ensures.items (sym c.at.ensures ∙ c.in_ok-delim.was);
+      so_far = turns_more inv.so_far c.push.ensures.items (sym c.at.ensures ∙ c.in_ok-delim.was);
       same = λ k near. ⊎_elim
           (λ before. inv.same k before)
           (λ last. (let here : k ≡ n = omega (arith, last, near) in ap (λ (m : ℕ). get_or c.args.cells.now m 0) here) ∙ c.if-cells-column.false)
@@ -41,5 +41,5 @@ returns g c =
     record {
       some = omega (arith, some);
       same = All-from_get_or (λ (p : ℕ). p ≡ get_or cells 0 0) cells 0 (λ k low. c.loop-column.invariant.same k (omega (arith, low, all)));
-      in_turn = turns_done c.args.delims.now n c.loop-column.turns.items c.push-2.new.self.items c.loop-column.invariant.so_far (length cells) all c.push-2.ensures.items;
+      in_turn = turns_done c.loop-column.invariant.so_far all c.push-2.ensures.items;
     }

@@ -1,6 +1,6 @@
 -- Each turn puts one more cell behind its delimiter, if it is whole in what its reader holds; what was taken of each
 -- reader is counted.
-use Rattle.std.proofs.Common.{refl, sym, [], ◌∷◌, ◌≡◌, ◌+◌, ◌<◌, ◌++◌, ℕ, List, Some, length, take, drop, get_or, ◌∙◌, ap, subst, arith}
+use Rattle.std.proofs.Common.{refl, sym, [], ◌∷◌, ◌≡◌, ◌+◌, ◌<◌, ◌≤◌, ◌++◌, ℕ, List, Some, length, take, drop, get_or, ◌∙◌, ap, subst, arith}
 use Rattle.std.proofs.lemmas.List.{append-nil, take_rest, take_more_set, length-set}
 use Rattle.std.proofs.lemmas.List.Elements.{All-get_or}
 use Rattle.memchr.specs.Find.{IsFirstByte, is_byte}
@@ -10,14 +10,28 @@ use Rattle.ptflow.specs.Workings.Paste.SerialRests.{lead}
 use Rattle.ptflow.specs.Workings.Paste.WholeRows.{in_front}
 use Rattle.ptflow.proofs.OfPaste.Grids.{times_below}
 use Rattle.ptflow.proofs.OfPaste.RowTurns.{at_index}
-use Rattle.ptflow.proofs.OfPaste.WholeRows.{taken_fits, putting_starts, putting_more, putting_done, holds_more, front_kept, lead_kept, line_put, end_put}
+use Rattle.ptflow.proofs.OfPaste.WholeRows.{HasLine, putting_starts, putting_more, putting_done, holds_more, front_kept, line_put, end_put}
+use Rattle.ptflow.proofs.tools.paste.whole_rows.put_row.Given as given
 use Rattle.ptflow.proofs.tools.paste.whole_rows.put_row.Goals as goal
+use Rattle.ptflow.proofs.tools.paste.whole_rows.put_row.Goals.{In-loop-column, After-held}
+
+-- the cell names a reader
+low : (g : given.Over) (c : In-loop-column g) → get_or c.args.cells.now c.loop-column.column 0 < length c.args.readers.now
+low g c = All-get_or (λ (p : ℕ). p < length c.args.readers.now) c.args.cells.now c.loop-column.column 0 c.loop-column-test.true c.requires.within
+
+read : (g : given.Over) (c : After-held g) → c.index-readers-place.result ≡ reader_at c.args.readers.now (get_or c.args.cells.now c.loop-column.column 0)
+read g c = c.index-readers-place.is ∙ at_index c.args.readers.now (get_or c.args.cells.now c.loop-column.column 0) c.index-readers-place.result
+    (All-get_or (λ (p : ℕ). p < length c.args.readers.now) c.args.cells.now c.loop-column.column 0 c.loop-column-test.true c.requires.within)
+
+-- what was taken of it is in what it held
+fits : (g : given.Over) (c : After-held g) → get_or c.loop-column.taken (get_or c.args.cells.now c.loop-column.column 0) 0 ≤ length c.held.result.now
+fits g c = omega (arith, c.loop-column.invariant.holds (get_or c.args.cells.now c.loop-column.column 0), ap length c.held.ensures.held, ap (λ (r : Reader). length r.held) (read g c))
 
 pub loop-column-init : goal.loop-column-init
 loop-column-init g c = record {
   written = [];
   is = sym (append-nil (take c.args.at c.args.into.now));
-  puts = λ from moved. putting_starts c.args.ending c.args.delims.now c.args.cells.now c.args.readers.now from c.args.taken.now moved;
+  puts = λ from moved. putting_starts moved;
   kept = refl;
   holds = c.requires.held;
   near = (omega arith, c.requires.room, λ some. absurd (omega (arith, some)));
@@ -25,42 +39,8 @@ loop-column-init g c = record {
   room = c.told-into;
 }
 
-pub offset_bounds-taken-place-in-loop-column : goal.offset_bounds-taken-place-in-loop-column
-offset_bounds-taken-place-in-loop-column g c =
-    omega (arith, All-get_or (λ (p : ℕ). p < length c.args.readers.now) c.args.cells.now c.loop-column.column 0 c.loop-column-test.true c.requires.within, c.requires.few.0)
-
-pub bounds-taken-place-in-loop-column : goal.bounds-taken-place-in-loop-column
-bounds-taken-place-in-loop-column g c =
-    omega (arith, All-get_or (λ (p : ℕ). p < length c.args.readers.now) c.args.cells.now c.loop-column.column 0 c.loop-column-test.true c.requires.within, c.requires.few.0)
-
-pub offset_bounds-readers-place : goal.offset_bounds-readers-place
-offset_bounds-readers-place g c =
-    omega (arith, All-get_or (λ (p : ℕ). p < length c.args.readers.now) c.args.cells.now c.loop-column.column 0 c.loop-column-test.true c.requires.within)
-
-pub bounds-readers-place : goal.bounds-readers-place
-bounds-readers-place g c =
-    All-get_or (λ (p : ℕ). p < length c.args.readers.now) c.args.cells.now c.loop-column.column 0 c.loop-column-test.true c.requires.within
-
 pub put_lead-from-requires : goal.put_lead-from-requires
 put_lead-from-requires g c = record { room = c.loop-column.invariant.near.1 }
-
-pub slice_bounds-rest-count : goal.slice_bounds-rest-count
-slice_bounds-rest-count g c =
-    let fits = taken_fits c.args.cells.now c.args.readers.now c.loop-column.taken c.loop-column.column c.loop-column-test.true c.requires.within c.loop-column.invariant.holds
-    c.index-readers-place.is c.held.result.now c.held.ensures.held in
-    omega (arith, fits)
-
-pub slice_bounds-rest-start : goal.slice_bounds-rest-start
-slice_bounds-rest-start g c =
-    let fits = taken_fits c.args.cells.now c.args.readers.now c.loop-column.taken c.loop-column.column c.loop-column-test.true c.requires.within c.loop-column.invariant.holds
-    c.index-readers-place.is c.held.result.now c.held.ensures.held in
-    omega (arith, fits)
-
-pub slice_bounds-rest-end : goal.slice_bounds-rest-end
-slice_bounds-rest-end g c =
-    let fits = taken_fits c.args.cells.now c.args.readers.now c.loop-column.taken c.loop-column.column c.loop-column-test.true c.requires.within c.loop-column.invariant.holds
-    c.index-readers-place.is c.held.result.now c.held.ensures.held in
-    omega (arith, fits)
 
 pub put_line-requires : goal.put_line-requires
 put_line-requires g c =
@@ -72,18 +52,6 @@ overflow_add-end g c = omega (arith, c.in_ok-count.ensures.near)
 pub overflow_add-taken : goal.overflow_add-taken
 overflow_add-taken g c = omega (arith, c.in_ok-count.ensures.near)
 
-pub overflow_add-taken-in-loop-column : goal.overflow_add-taken-in-loop-column
-overflow_add-taken-in-loop-column g c =
-    let fits = taken_fits c.args.cells.now c.args.readers.now c.loop-column.taken c.loop-column.column c.loop-column-test.true c.requires.within c.loop-column.invariant.holds
-    c.index-readers-place.is c.held.result.now c.held.ensures.held in
-    omega (arith, fits, ap length c.held.ensures.held, c.held.ensures.sound.held, c.in_ok-count.ensures.near)
-
-pub overflow_cast-taken : goal.overflow_cast-taken
-overflow_cast-taken g c =
-    let fits = taken_fits c.args.cells.now c.args.readers.now c.loop-column.taken c.loop-column.column c.loop-column-test.true c.requires.within c.loop-column.invariant.holds
-    c.index-readers-place.is c.held.result.now c.held.ensures.held in
-    omega (arith, fits, ap length c.held.ensures.held, c.held.ensures.sound.held, c.in_ok-count.ensures.near)
-
 pub bounds-into-end : goal.bounds-into-end
 bounds-into-end g c = omega (arith, c.loop-column.invariant.near.1)
 
@@ -92,35 +60,38 @@ overflow_add-result g c = omega (arith, c.loop-column.invariant.near.1)
 
 pub loop-column-preserved : goal.loop-column-preserved
 loop-column-preserved g c =
-    let end = c.args.ending in
-    let delims = c.args.delims.now in
     let cells = c.args.cells.now in
     let readers = c.args.readers.now in
     let n = c.loop-column.column in
     let taken = c.loop-column.taken in
     let inv = c.loop-column.invariant in
-    let low = c.loop-column-test.true in
     let place = get_or cells n 0 in
     let count = c.in_ok-count.count in
-    let within : place < length readers = All-get_or (λ (p : ℕ). p < length readers) cells n 0 low c.requires.within in
-    let place_low : place < length taken = omega (arith, within, c.requires.few.0, inv.places) in
-    let is_read = c.index-readers-place.is ∙ at_index readers place c.index-readers-place.result within in
-    let ready = c.requires.readable place (omega (arith, times_below cells n low)) in
-    let sound = subst IsSound is_read c.held.ensures.sound in
+    let within = low g (goal.at.loop-column-preserved g c).In-loop-column in
+    let is_read = read g (goal.at.loop-column-preserved g c).After-held in
+    let ready = c.requires.readable place (omega (arith, times_below cells n c.loop-column-test.true)) in
     let held_is : c.held.result.now ≡ (reader_at readers place).held = c.held.ensures.held ∙ ap (λ (r : Reader). r.held) is_read in
-    let found = subst (λ (h : List ℕ). IsFirstByte (is_byte end) (drop (get_or taken place 0) h) (Some count)) held_is (rw take_rest at c.in_ok-count.ensures.line) in
-    let lead_of = lead delims (in_front n) in
+    let found = subst (λ (h : List ℕ). IsFirstByte (is_byte c.args.ending) (drop (get_or taken place 0) h) (Some count)) held_is (rw take_rest at c.in_ok-count.ensures.line) in
+    let has : HasLine c.args.ending cells readers n taken count = record {
+      low = c.loop-column-test.true;
+      within = within;
+      place_low = omega (arith, within, c.requires.few.0, inv.places);
+      clean = ready.0;
+      ends = ready.1;
+      sound = subst IsSound is_read c.held.ensures.sound;
+      found = found;
+    } in
+    let lead_of = lead c.args.delims.now (in_front n) in
     let line = take count (drop (get_or taken place 0) (reader_at readers place).held) in
-    let is = line_put (take c.args.at c.args.into.now) inv.written lead_of line (take c.loop-column.end c.loop-column.into) (take c.put_lead-from.result c.put_lead-from.new.into)
-    (take (c.put_lead-from.result + count) c.put_line.new.into)
+    let is = line_put (take c.args.at c.args.into.now) inv.written lead_of line
     ((rw take_rest at c.in_ok-count.ensures.put) ∙ ap (λ (h : List ℕ). take c.put_lead-from.result c.put_lead-from.new.into ++ take count (drop (get_or taken place 0) h)) held_is)
     c.put_lead-from.ensures.put inv.is in
     record {
       written = (inv.written ++ lead_of) ++ line;
       is = is;
-      puts = λ from moved. putting_more end delims cells readers from n taken low within place_low count ready.0 ready.1 sound found inv.written _ refl (inv.puts from moved);
+      puts = λ from moved. putting_more has refl (inv.puts from moved);
       kept = front_kept c.args.at _ _ c.args.into.now ((inv.written ++ lead_of) ++ line) (omega (arith, c.put_lead-from.ensures.near.0, inv.near.0)) (omega (arith, c.requires.room, c.told-into)) is;
-      holds = holds_more end delims cells readers readers n taken low within place_low count ready.0 ready.1 sound found inv.holds;
+      holds = holds_more has inv.holds;
       near = (omega (arith, c.put_lead-from.ensures.near.0, inv.near.0), omega (arith, c.in_ok-count.ensures.near), λ some. omega (arith, c.in_ok-count.ensures.near));
       places = length-set taken place (get_or taken place 0 + (count + 1)) ∙ inv.places;
       room = c.put_line.array_long;
@@ -129,9 +100,9 @@ loop-column-preserved g c =
 pub returns-in_err-count-clause-kept : goal.returns-in_err-count-clause-kept
 returns-in_err-count-clause-kept g c =
     let inv = c.loop-column.invariant in
-    let lead_of = lead c.args.delims.now (in_front c.loop-column.column) in
-    lead_kept c.args.at c.put_lead-from.result c.put_line.new.into c.put_lead-from.new.into (take c.loop-column.end c.loop-column.into) c.args.into.now inv.written lead_of
-    (omega (arith, c.put_lead-from.ensures.near.0, inv.near.0)) (omega (arith, c.requires.room, c.told-into)) c.put_line.ensures.kept c.put_lead-from.ensures.put inv.is
+    front_kept c.args.at c.put_lead-from.result c.put_line.new.into c.args.into.now (inv.written ++ lead c.args.delims.now (in_front c.loop-column.column))
+    (omega (arith, c.put_lead-from.ensures.near.0, inv.near.0)) (omega (arith, c.requires.room, c.told-into))
+    (c.put_line.ensures.kept ∙ end_put (take c.args.at c.args.into.now) inv.written (lead c.args.delims.now (in_front c.loop-column.column)) c.put_lead-from.ensures.put inv.is)
 
 pub returns-clause-near : goal.returns-clause-near
 returns-clause-near g c =
@@ -144,27 +115,51 @@ returns-clause-row g c =
     let inv = c.loop-column.invariant in
     record {
       written = inv.written ++ c.args.ending ∷ [];
-      is = end_put (take c.args.at c.args.into.now) inv.written (take c.loop-column.end c.loop-column.into) _ (c.args.ending ∷ [])
-          (take_more_set c.loop-column.into c.loop-column.end c.args.ending (omega (arith, inv.near, inv.room))) inv.is;
+      is = end_put (take c.args.at c.args.into.now) inv.written (c.args.ending ∷ []) (take_more_set c.loop-column.into c.loop-column.end c.args.ending (omega (arith, inv.near, inv.room))) inv.is;
       held = inv.holds;
-      row = λ from moved. putting_done c.args.ending c.args.delims.now c.args.cells.now c.args.readers.now from c.loop-column.column c.args.taken.now c.loop-column.taken inv.written _
-          (omega (arith, c.loop-column-test.false, c.loop-column.auto.column-end)) c.requires.few.1 c.requires.readable moved refl (inv.puts from moved);
+      row = λ from moved. putting_done (omega (arith, c.loop-column-test.false, c.loop-column.auto.column-end)) c.requires.few.1 c.requires.readable moved (inv.puts from moved);
     }
 
 pub returns-clause-kept : goal.returns-clause-kept
 returns-clause-kept g c =
     let inv = c.loop-column.invariant in
     front_kept c.args.at (c.loop-column.end + 1) _ c.args.into.now (inv.written ++ c.args.ending ∷ []) (omega (arith, inv.near.0)) (omega (arith, c.requires.room, c.told-into))
-    (end_put (take c.args.at c.args.into.now) inv.written (take c.loop-column.end c.loop-column.into) _ (c.args.ending ∷ [])
+    (end_put (take c.args.at c.args.into.now) inv.written (c.args.ending ∷ [])
     (take_more_set c.loop-column.into c.loop-column.end c.args.ending (omega (arith, inv.near, inv.room))) inv.is)
 
 pub bounds-cells-column : goal.bounds-cells-column
 bounds-cells-column g c = c.loop-column-test.true
 
 pub offset_bounds-taken-place : goal.offset_bounds-taken-place
-offset_bounds-taken-place g c =
-    omega (arith, All-get_or (λ (p : ℕ). p < length c.args.readers.now) c.args.cells.now c.loop-column.column 0 c.loop-column-test.true c.requires.within, c.requires.few.0)
+offset_bounds-taken-place g c = omega (arith, low g (goal.at.offset_bounds-taken-place g c).In-loop-column, c.requires.few.0)
 
 pub bounds-taken-place : goal.bounds-taken-place
-bounds-taken-place g c =
-    omega (arith, All-get_or (λ (p : ℕ). p < length c.args.readers.now) c.args.cells.now c.loop-column.column 0 c.loop-column-test.true c.requires.within, c.requires.few.0)
+bounds-taken-place g c = omega (arith, low g (goal.at.bounds-taken-place g c).In-loop-column, c.requires.few.0)
+
+pub offset_bounds-taken-place-in-loop-column : goal.offset_bounds-taken-place-in-loop-column
+offset_bounds-taken-place-in-loop-column g c = omega (arith, low g (goal.at.offset_bounds-taken-place-in-loop-column g c).In-loop-column, c.requires.few.0)
+
+pub bounds-taken-place-in-loop-column : goal.bounds-taken-place-in-loop-column
+bounds-taken-place-in-loop-column g c = omega (arith, low g (goal.at.bounds-taken-place-in-loop-column g c).In-loop-column, c.requires.few.0)
+
+pub offset_bounds-readers-place : goal.offset_bounds-readers-place
+offset_bounds-readers-place g c = omega (arith, low g (goal.at.offset_bounds-readers-place g c).In-loop-column)
+
+pub bounds-readers-place : goal.bounds-readers-place
+bounds-readers-place g c = low g (goal.at.bounds-readers-place g c).In-loop-column
+
+pub slice_bounds-rest-count : goal.slice_bounds-rest-count
+slice_bounds-rest-count g c = omega (arith, fits g (goal.at.slice_bounds-rest-count g c).After-held)
+
+pub slice_bounds-rest-start : goal.slice_bounds-rest-start
+slice_bounds-rest-start g c = omega (arith, fits g (goal.at.slice_bounds-rest-start g c).After-held)
+
+pub slice_bounds-rest-end : goal.slice_bounds-rest-end
+slice_bounds-rest-end g c = omega (arith, fits g (goal.at.slice_bounds-rest-end g c).After-held)
+
+pub overflow_add-taken-in-loop-column : goal.overflow_add-taken-in-loop-column
+overflow_add-taken-in-loop-column g c = omega
+    (arith, fits g (goal.at.overflow_add-taken-in-loop-column g c).After-held, ap length c.held.ensures.held, c.held.ensures.sound.held, c.in_ok-count.ensures.near)
+
+pub overflow_cast-taken : goal.overflow_cast-taken
+overflow_cast-taken g c = omega (arith, fits g (goal.at.overflow_cast-taken g c).After-held, ap length c.held.ensures.held, c.held.ensures.sound.held, c.in_ok-count.ensures.near)

@@ -1,28 +1,19 @@
-use Rattle.std.proofs.Common.{take, arith}
-use Rattle.ptflow.proofs.OfPaste.WholeRows.{rows_none, holds_none, rows_more, rows_kept}
+use Rattle.std.proofs.Common.{arith}
+use Rattle.ptflow.proofs.OfPaste.WholeRows.{rows_none, holds_none, rows_more}
 use Rattle.ptflow.proofs.tools.paste.whole_rows.put_rows.Goals as goal
 
 pub rows-init : goal.rows-init
-rows-init g c = record {
-  rows = rows_none c.args.ending c.args.delims.now c.args.cells.now c.args.readers.now;
-  holds = holds_none c.args.ending c.args.delims.now c.args.cells.now c.args.readers.now;
-  near = omega arith;
-}
+rows-init g c = record { rows = rows_none; holds = holds_none c.args.readers.now; near = omega arith }
 
 pub rows-preserved : goal.rows-preserved
-rows-preserved g c =
-    let inv = c.rows.invariant in
-    record {
-      rows = rows_more c.args.ending c.args.delims.now c.args.cells.now c.args.readers.now c.rows.taken c.put_row.new.taken (take c.rows.end c.rows.into)
-          (take c.in-Some.next c.put_row.new.into) inv.rows c.in-Some.ensures.row;
-      holds = c.in-Some.ensures.row.held;
-      near = c.in-Some.ensures.near.1;
-    }
+rows-preserved g c = record {
+  rows = rows_more c.rows.invariant.rows c.in-Some.ensures.row;
+  holds = c.in-Some.ensures.row.held;
+  near = c.in-Some.ensures.near.1;
+}
 
 pub returns-in-None-clause-rows : goal.returns-in-None-clause-rows
-returns-in-None-clause-rows g c =
-    rows_kept c.args.ending c.args.delims.now c.args.cells.now c.args.readers.now c.rows.taken (take c.rows.end c.rows.into) (take c.rows.end c.put_row.new.into)
-    c.put_row.ensures.kept c.rows.invariant.rows
+returns-in-None-clause-rows g c = rw c.put_row.ensures.kept c.rows.invariant.rows
 
 pub returns-in-None-clause-held : goal.returns-in-None-clause-held
 returns-in-None-clause-held g c = c.rows.invariant.holds
