@@ -43,19 +43,19 @@ pub chosen_past : {X : Type 0} (r : Interval) (n : ℕ) (xs : List X) → r.last
 chosen_past r n xs past = chosen_none (lies_in r) n xs (λ k low high. above r k (omega arith))
 
 -- one item more: the others do not choose it where the first does, and where they do, the first chooses nothing more
-chosen_step : {X : Type 0} (x : X) (all first others : List X) (a b : Bool) → (a ≡ true → b ≡ false) → (b ≡ true → first ≡ []) → all ≡ first ++ others
+chosen_step : {X : Type 0} (x : X) {all : List X} (first others : List X) (a b : Bool) → (a ≡ true → b ≡ false) → (b ≡ true → first ≡ []) → all ≡ first ++ others
     → cond (a || b) (x ∷ all) all ≡ cond a (x ∷ first) first ++ cond b (x ∷ others) others
-chosen_step x all first others true true apart none more = absurd (false≢true (sym (apart refl)))
-chosen_step {X} x all first others true false apart none more = ap (λ (l : List X). x ∷ l) more
-chosen_step {X} x all first others false true apart none more = ap (λ (l : List X). x ∷ l) (more ∙ ap (λ (l : List X). l ++ others) (none refl))
+chosen_step x first others true true apart none more = absurd (false≢true (sym (apart refl)))
+chosen_step {X} x first others true false apart none more = ap (λ (l : List X). x ∷ l) more
+chosen_step {X} x first others false true apart none more = ap (λ (l : List X). x ∷ l) (more ∙ ap (λ (l : List X). l ++ others) (none refl))
     ∙ ap (λ (l : List X). l ++ x ∷ others) (sym (none refl))
-chosen_step x all first others false false apart none more = more
+chosen_step x first others false false apart none more = more
 
 -- the first interval chooses, and then the others
 pub chosen_first : {X : Type 0} (r : Interval) (rs : List Interval) (n : ℕ) (xs : List X) → AreApart (r.last + 1) rs → chosen (is_selected (r ∷ rs)) n xs
     ≡ chosen (lies_in r) n xs ++ chosen (is_selected rs) n xs
 chosen_first r rs n [] apart = refl
-chosen_first {X} r rs n (x ∷ xs) apart = chosen_step x (chosen (is_selected (r ∷ rs)) (n + 1) xs) (chosen (lies_in r) (n + 1) xs)
+chosen_first r rs n (x ∷ xs) apart = chosen_step x (chosen (lies_in r) (n + 1) xs)
     (chosen (is_selected rs) (n + 1) xs) (lies_in r n) (is_selected rs n) here there (chosen_first r rs (n + 1) xs apart)
   where
     late : (n ≤ r.last → ⊥) → r.last < n
@@ -103,11 +103,8 @@ pub record Choosing (all : List Interval) (i before : ℕ) (piece tail was is : 
   pub near : at ≤ start + (low - (before + 1))
   pub within : at ≤ start + length piece
 
-module _ (all : List Interval) (before : ℕ) (piece tail was : List ℕ) (start : ℕ) where
-  pub choosing_starts : AreApart 0 all → Choosing all 0 before piece tail was was start start
-  choosing_starts apart = record { front = refl; low = 0; apart = apart; near = omega arith; within = omega arith }
-
-  module _ (i : ℕ) (is : List ℕ) (at : ℕ) (k : Choosing all i before piece tail was is start at) where
+module _ {all : List Interval} {before : ℕ} {piece tail was : List ℕ} {start : ℕ} where
+  module _ {i : ℕ} {is : List ℕ} {at : ℕ} (k : Choosing all i before piece tail was is start at) where
     -- no interval is left
     pub choosing_done : length all ≤ i → is ++ tail ≡ was ++ (chosen (is_selected all) (before + 1) piece ++ tail)
     choosing_done past =
@@ -139,11 +136,6 @@ module _ (all : List Interval) (before : ℕ) (piece tail was : List ℕ) (start
       pub choosing_more : r.last < before + 1 + length piece → Choosing all (i + 1) before piece tail was (is ++ chosen (lies_in r) (before + 1) piece) start
           (at + ((r.last - before) - (r.first - (before + 1))))
       choosing_more short = record { front = next; low = r.last + 1; apart = apart.2; near = omega (arith, choosing_room); within = omega (arith, choosing_room, short) }
-
-      -- where the interval reaches the end of the piece, what it chooses begins no farther in front than what stands
-      -- there ends
-      pub choosing_end : at ≤ start + min (r.first - (before + 1)) (length piece)
-      choosing_end = omega (arith, k.near, k.within, apart.0)
 
       pub choosing_ends : before + length piece ≤ r.last → is ++ (chosen (lies_in r) (before + 1) piece ++ tail) ≡ was ++ (chosen (is_selected all) (before + 1) piece ++ tail)
       choosing_ends reaches =
@@ -203,8 +195,8 @@ cut_off from end bytes order =
     let whole : from + (end - from) ≡ end = omega arith in
     sym (drop-take from (end - from) bytes) ∙ ap (λ (k : ℕ). drop from (take k bytes)) whole
 
-module _ (all : List Interval) (before count end : ℕ) (bytes was : List ℕ) (start : ℕ) (in_piece : count ≤ end) (in_bytes : end ≤ length bytes)
-    (i : ℕ) (is : List ℕ) (at : ℕ) (k : Choosing all i before (take count (take end bytes)) (drop count (take end bytes)) was is start at) where
+module _ {all : List Interval} {before count end : ℕ} (bytes : List ℕ) {was : List ℕ} {start : ℕ} (in_piece : count ≤ end) (in_bytes : end ≤ length bytes)
+    {i : ℕ} {is : List ℕ} {at : ℕ} (k : Choosing all i before (take count (take end bytes)) (drop count (take end bytes)) was is start at) where
   abbrev piece : List ℕ
   piece = take count (take end bytes)
 
@@ -217,26 +209,26 @@ module _ (all : List Interval) (before count end : ℕ) (bytes was : List ℕ) (
   piece_long : length piece ≡ count
   piece_long = length-take-le count (take end bytes) (omega (arith, long, in_piece))
 
-  pub copied_done : (is' : List ℕ) → length all ≤ i → is' ≡ is ++ take (end - count) (drop count bytes) → is' ≡ was ++ (chosen (is_selected all) (before + 1) piece ++ tail)
-  copied_done is' past copied = copied ∙ ap (λ (l : List ℕ). is ++ l) (cut_off count end bytes in_piece) ∙ choosing_done all before piece tail was start i is at k past
+  pub copied_done : {is' : List ℕ} → length all ≤ i → is' ≡ is ++ take (end - count) (drop count bytes) → is' ≡ was ++ (chosen (is_selected all) (before + 1) piece ++ tail)
+  copied_done past copied = copied ∙ ap (λ (l : List ℕ). is ++ l) (cut_off _ _ bytes in_piece) ∙ choosing_done k past
 
   module _ (within : i < length all) (is' : List ℕ) where
     abbrev at_i : Interval
     at_i = get_or all i (record { first = 0; last = 0 })
 
-    pub copied_ends : (from : ℕ) → from ≡ min (at_i.first - (before + 1)) count → before + count ≤ at_i.last → is' ≡ is ++ take (end - from) (drop from bytes)
+    pub copied_ends : {from : ℕ} → from ≡ min (at_i.first - (before + 1)) count → before + count ≤ at_i.last → is' ≡ is ++ take (end - from) (drop from bytes)
         → is' ≡ was ++ (chosen (is_selected all) (before + 1) piece ++ tail)
-    copied_ends from from_is reaches copied =
+    copied_ends {from} from_is reaches copied =
         copied ∙ ap (λ (l : List ℕ). is ++ l) (cut_off from end bytes (omega (arith, from_is, in_piece)) ∙ ap (λ (n : ℕ). drop n (take end bytes)) from_is
         ∙ rest_is at_i before count (take end bytes) (omega (arith, long, in_piece)) reaches)
-        ∙ choosing_ends all before piece tail was start i is at k within (omega (arith, piece_long, reaches))
+        ∙ choosing_ends k within (omega (arith, piece_long, reaches))
 
-    pub copied_more : (from to : ℕ) → from ≡ at_i.first - (before + 1) → to ≡ at_i.last - before → at_i.last < before + count → is' ≡ is ++ take (to - from) (drop from bytes)
+    pub copied_more : {from to : ℕ} → from ≡ at_i.first - (before + 1) → to ≡ at_i.last - before → at_i.last < before + count → is' ≡ is ++ take (to - from) (drop from bytes)
         → Choosing all (i + 1) before piece tail was is' start (at + (to - from))
-    copied_more from to from_is to_is short copied =
+    copied_more {from} {to} from_is to_is short copied =
         let slice : take (to - from) (drop from bytes) ≡ chosen (lies_in at_i) (before + 1) piece =
         (λ j. take (to_is j - from_is j) (drop (from_is j) bytes)) ∙ slice_is at_i before count bytes (omega (arith, in_piece, in_bytes)) short
         ∙ ap (chosen (lies_in at_i) (before + 1)) (sym (take-take count end bytes in_piece)) in
         subst (λ (l : List ℕ). Choosing all (i + 1) before piece tail was l start (at + (to - from))) (sym (copied ∙ ap (λ (l : List ℕ). is ++ l) slice))
         (subst (λ (n : ℕ). Choosing all (i + 1) before piece tail was (is ++ chosen (lies_in at_i) (before + 1) piece) start (at + n)) (λ j. sym to_is j - sym from_is j)
-        (choosing_more all before piece tail was start i is at k within (omega (arith, piece_long, short))))
+        (choosing_more k within (omega (arith, piece_long, short))))

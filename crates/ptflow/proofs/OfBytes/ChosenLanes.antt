@@ -34,7 +34,7 @@ length-chosen_by (false ∷ fs) (x ∷ xs) enough = omega (arith, length-chosen_
 map-chosen_by : {X Y : Type 0} (f : X → Y) (flags : List Bool) (xs : List X) → map f (chosen_by flags xs) ≡ chosen_by flags (map f xs)
 map-chosen_by f [] xs = refl
 map-chosen_by f (flag ∷ flags) [] = refl
-map-chosen_by {X} {Y} f (true ∷ flags) (x ∷ xs) = ap (λ (ys : List Y). f x ∷ ys) (map-chosen_by f flags xs)
+map-chosen_by {Y} f (true ∷ flags) (x ∷ xs) = ap (λ (ys : List Y). f x ∷ ys) (map-chosen_by f flags xs)
 map-chosen_by f (false ∷ flags) (x ∷ xs) = map-chosen_by f flags xs
 
 -- what stands behind the flags is not chosen
@@ -70,8 +70,8 @@ mask_of_flags (suc n) m low = omega (arith, lowest m, mask_of_flags n (m / 2) (o
 
 -- ---- lanes by their places
 
-low_place : (j : ℕ) → j < 16 → nat_le 128 j ≡ false
-low_place j low = grind (arith, nat_tests)
+low_place : {j : ℕ} → j < 16 → nat_le 128 j ≡ false
+low_place low = grind (arith, nat_tests)
 
 -- lanes at places below 16
 pub shuffled : (v : List ℕ) (i : ℕ) (row : List ℕ) → i + length row ≤ 16 → Each1 (λ place. place < 16) row → swz_l w8 16 v i row ≡ pick_l 0 v row
@@ -79,23 +79,23 @@ shuffled v i [] room lanes = refl
 shuffled v i (j ∷ js) room lanes = λ t. here t ∷ shuffled v (suc i) js (omega (arith, room)) lanes.1 t
   where
     here : cond (nat_le 128 j) 0 (get_or v (16 * (i / 16) + j) 0) ≡ get_or v j 0
-    here = ap (λ (high : Bool). cond high 0 (get_or v (16 * (i / 16) + j) 0)) (low_place j lanes.0) ∙ ap (λ (k : ℕ). get_or v k 0) (omega (arith, room))
+    here = ap (λ (high : Bool). cond high 0 (get_or v (16 * (i / 16) + j) 0)) (low_place lanes.0) ∙ ap (λ (k : ℕ). get_or v k 0) (omega (arith, room))
 
-pub row_lanes : (flags : List Bool) (places : List ℕ) → IsRow flags places → Each1 (λ place. place < 16) places
-row_lanes flags places is = Each1-from_get_or (λ place. place < 16) places 0 (λ i low. is.lanes i 0 low)
+pub row_lanes : {flags : List Bool} {places : List ℕ} → IsRow flags places → Each1 (λ place. place < 16) places
+row_lanes {places} is = Each1-from_get_or (λ place. place < 16) places 0 (λ i low. is.lanes i 0 low)
 
 -- the row of a mask
 pub row_of_mask : (shuffles : Shuffles) (mask : ℕ) → IsPacking shuffles → mask < 256 → IsRow (flags_of 8 mask) (slice_index_or shuffles.rows mask [])
 row_of_mask shuffles mask packing low =
-    subst (λ (m : ℕ). IsRow (flags_of 8 mask) (slice_index_or shuffles.rows m [])) (mask_of_flags 8 mask low) (packing (flags_of 8 mask) (length-flags_of 8 mask))
+    subst (λ (m : ℕ). IsRow (flags_of 8 mask) (slice_index_or shuffles.rows m [])) (mask_of_flags 8 _ low) (packing (flags_of 8 mask) (length-flags_of 8 mask))
 
 -- a row puts in front the lanes that the flags choose
-pub row_chooses : (flags : List Bool) (row v : List ℕ) → length flags ≤ length v → IsRow flags row → take (count_ones (mask_l flags)) (swz_l w8 16 v 0 row) ≡ chosen_by flags v
-row_chooses flags row v room is =
+pub row_chooses : {flags : List Bool} {row : List ℕ} (v : List ℕ) → length flags ≤ length v → IsRow flags row → take (count_ones (mask_l flags)) (swz_l w8 16 v 0 row) ≡ chosen_by flags v
+row_chooses {flags} {row} v room is =
     let n = length flags in
     let places = range_with_len 0 n in
     let count : count_ones (mask_l flags) ≡ length (places_of flags) = sym (length-chosen_by flags places (omega (arith, length-range_with_len 0 n))) in
-    ap (take (count_ones (mask_l flags))) (shuffled v 0 row (omega (arith, is.long)) (row_lanes flags row is))
+    ap (take (count_ones (mask_l flags))) (shuffled v 0 row (omega (arith, is.long)) (row_lanes is))
     ∙ take-map (λ k. get_or v k 0) (count_ones (mask_l flags)) row
     ∙ ap (λ (k : ℕ). pick_l 0 v (take k row)) count
     ∙ ap (pick_l 0 v) is.places
@@ -123,9 +123,9 @@ pub record RowBegun (mask place count : ℕ) (row : List ℕ) : Type 0 where
   pub places : (flags : List Bool) → length flags ≡ 8 → mask ≡ mask_l flags → take count row ≡ chosen_by (take place flags) (range_with_len 0 8)
 
 -- one flag more
-next_place : (flags : List Bool) (place : ℕ) → length flags ≡ 8 → place < 8
+next_place : (flags : List Bool) {place : ℕ} → length flags ≡ 8 → place < 8
     → chosen_by (take (place + 1) flags) (range_with_len 0 8) ≡ chosen_by (take place flags) (range_with_len 0 8) ++ cond (get_or flags place false) (place ∷ []) []
-next_place flags place long low =
+next_place flags {place} long low =
     let places = range_with_len 0 8 in
     let flag = get_or flags place false in
     let front = take place flags in
@@ -141,8 +141,8 @@ pub written_more : (flag : Bool) (row : List ℕ) (count place : ℕ) → count 
 written_more true row count place room = take_more_set row count place room
 written_more false row count place room = ap (λ (n : ℕ). take n (set row count place)) (omega arith) ∙ take-set row count place ∙ sym (append-nil (take count row))
 
-pub row_more : (mask place count bit : ℕ) (row : List ℕ) → place < 8 → bit ≡ mask / 2 ^ place % 2 → RowBegun mask place count row → RowBegun mask (place + 1) (count + bit) (set row count place)
-row_more mask place count bit row low is begun = record {
+pub row_more : {mask place count bit : ℕ} {row : List ℕ} → place < 8 → bit ≡ mask / 2 ^ place % 2 → RowBegun mask place count row → RowBegun mask (place + 1) (count + bit) (set row count place)
+row_more {place} {count} {row} low is begun = record {
   behind = omega (arith, is, begun.behind);
   lanes = All-set (λ p. p < 16) row count place (omega (arith, low)) begun.lanes;
   long = length-set row count place ∙ begun.long;
@@ -151,11 +151,11 @@ row_more mask place count bit row low is begun = record {
       ap (λ (n : ℕ). take (count + n) (set row count place)) (is ∙ ap (λ (m : ℕ). m / 2 ^ place % 2) masked ∙ bit_mask_l flags place)
       ∙ written_more flag row count place (omega (arith, begun.behind, begun.long, low))
       ∙ ap (λ (ps : List ℕ). ps ++ cond flag (place ∷ []) []) (begun.places flags long masked)
-      ∙ sym (next_place flags place long low);
+      ∙ sym (next_place flags long low);
 }
 
-pub row_whole : (mask count : ℕ) (row : List ℕ) (flags : List Bool) → length flags ≡ 8 → mask ≡ mask_l flags → RowBegun mask 8 count row → IsRow flags row
-row_whole mask count row flags long masked begun = record { places = places; long = begun.long; lanes = begun.lanes }
+pub row_whole : {mask count : ℕ} {row : List ℕ} {flags : List Bool} → length flags ≡ 8 → mask ≡ mask_l flags → RowBegun mask 8 count row → IsRow flags row
+row_whole {count} {row} {flags} long masked begun = record { places = places; long = begun.long; lanes = begun.lanes }
   where
     all : take count row ≡ places_of flags
     all =

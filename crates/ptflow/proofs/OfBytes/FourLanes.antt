@@ -69,10 +69,10 @@ module _ (fa fb fc fd : List Bool) (la : length fa ≡ 16) (lb : length fb ≡ 1
   length_three = length-zip2 ◌||◌ two fc (length_two ∙ sym lc) ∙ length_two
 
   -- where no lane of four masks is set, none is of each
-  pub none_of_four : (xa xb xc xd : List ℕ) → xa ≡ lanes_of fa → xb ≡ lanes_of fb → xc ≡ lanes_of fc → xd ≡ lanes_of fd
+  pub none_of_four : {xa xb xc xd : List ℕ} → xa ≡ lanes_of fa → xb ≡ lanes_of fb → xc ≡ lanes_of fc → xd ≡ lanes_of fd
       → mask_l (map (top 7) (zip2 bit_or (zip2 bit_or (zip2 bit_or xa xb) xc) xd)) % 2 ^ 64 ≡ 0
       → (mask_l fa ≡ 0) × (mask_l fb ≡ 0) × (mask_l fc ≡ 0) × (mask_l fd ≡ 0)
-  none_of_four xa xb xc xd ea eb ec ed none =
+  none_of_four {xa} {xb} {xc} {xd} ea eb ec ed none =
       let all = zip2 ◌||◌ three fd in
       let long : length all ≡ 16 = length-zip2 ◌||◌ three fd (length_three ∙ sym ld) ∙ length_three in
       let lanes : zip2 bit_or (zip2 bit_or (zip2 bit_or xa xb) xc) xd ≡ lanes_of all =

@@ -20,18 +20,18 @@ not_tops test (b ∷ v) = λ i. lane (test b) i ∷ not_tops test v i
     lane false = refl
 
 -- the bits of the bytes that are not in a set, of the mask of those that are
-pub keep_bits : (test : ℕ → Bool) (v : List ℕ) (lanes : List ℤ) → length v ≡ 16 → lanes ≡ mask_of test v
+pub keep_bits : (test : ℕ → Bool) (v : List ℕ) {lanes : List ℤ} → length v ≡ 16 → lanes ≡ mask_of test v
     → mask_l (map (top 7) (map (bit_not w8) (map (cast_unsigned w8) lanes))) % 2 ^ 64 ≡ mask_l (map (λ b. not (test b)) v)
-keep_bits test v lanes long is =
+keep_bits test v {lanes} long is =
     ap (λ lanes. mask_l (map (top 7) (map (bit_not w8) (map (cast_unsigned w8) lanes))) % 2 ^ 64) is
     ∙ ap (λ flags. mask_l flags % 2 ^ 64) (not_tops test v)
     ∙ mask_l-mod (map (λ b. not (test b)) v) 64 (omega (arith, length-map v (λ b. not (test b)), long))
 
-module _ (test : ℕ → Bool) (from into : List ℕ) (at count : ℕ) (before : Keeps test from at into count) where
+module _ {test : ℕ → Bool} {from into : List ℕ} {at count : ℕ} (before : Keeps test from at into count) where
   -- a piece more
-  pub keeps_piece : (size : ℕ) (after : List ℕ) (end : ℕ) → at + size ≤ length from → end ≤ count + size → length after ≡ 8224
+  pub keeps_piece : (size : ℕ) {after : List ℕ} {end : ℕ} → at + size ≤ length from → end ≤ count + size → length after ≡ 8224
       → take end after ≡ take count into ++ filter test (chunk at size from) → Keeps test from (at + size) after end
-  keeps_piece size after end room few long put = record {
+  keeps_piece size room few long put = record {
     within = room;
     few = omega (arith, few, before.few);
     room = long;
@@ -42,9 +42,9 @@ module _ (test : ℕ → Bool) (from into : List ℕ) (at count : ℕ) (before :
   }
 
   -- one more
-  pub keeps_byte : (after : List ℕ) (end : ℕ) → at < length from → at < 8224 → after ≡ set into count (get_or from at 0) → end
+  pub keeps_byte : {after : List ℕ} {end : ℕ} → at < length from → at < 8224 → after ≡ set into count (get_or from at 0) → end
       ≡ count + from_bool (test (get_or from at 0)) → Keeps test from (at + 1) after end
-  keeps_byte after end room small is ended = record {
+  keeps_byte room small is ended = record {
     within = omega (arith, room);
     few = omega (arith, ended, one_at_most (test b), before.few);
     room = ap length is ∙ length-set into count b ∙ before.room;
@@ -76,9 +76,9 @@ kept_same p q same zero xs fit = refl
 kept_same p q same (suc n) [] fit = refl
 kept_same p q same (suc n) (x ∷ xs) fit = λ i. cond (same x (fit 0).fits i) (x ∷ kept_same p q same n xs (λ k. fit (suc k)) i) (kept_same p q same n xs (λ k. fit (suc k)) i)
 
-pub keeps_same : (p q : ℕ → Bool) (from into : List ℕ) (at count : ℕ) → ((b : ℕ) → b < 256 → p b ≡ q b) → ((i : ℕ) → Fits w8 (get_or from i 0))
+pub keeps_same : (p : ℕ → Bool) {q : ℕ → Bool} {from into : List ℕ} {at count : ℕ} → ((b : ℕ) → b < 256 → p b ≡ q b) → ((i : ℕ) → Fits w8 (get_or from i 0))
     → at ≤ length from → count ≤ at → length into ≡ 8224 → take count into ≡ filter p (take at from) → Keeps q from at into count
-keeps_same p q from into at count same fit within few room kept = record {
+keeps_same p {q} {from} {at} same fit within few room kept = record {
   within = within;
   few = few;
   room = room;
@@ -86,5 +86,5 @@ keeps_same p q from into at count same fit within few room kept = record {
 }
 
 -- all bytes
-pub keeps_all : (test : ℕ → Bool) (from into : List ℕ) (at count : ℕ) → Keeps test from at into count → length from ≤ at → (take count into ≡ filter test from) × (count ≤ length from)
-keeps_all test from into at count keeps all = (keeps.kept ∙ ap (filter test) (take_all at from all), omega (arith, keeps.few, keeps.within))
+pub keeps_all : {test : ℕ → Bool} {from into : List ℕ} {at count : ℕ} → Keeps test from at into count → length from ≤ at → (take count into ≡ filter test from) × (count ≤ length from)
+keeps_all {test} {from} {at} keeps all = (keeps.kept ∙ ap (filter test) (take_all at from all), omega (arith, keeps.few, keeps.within))

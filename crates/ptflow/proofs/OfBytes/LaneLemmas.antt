@@ -16,16 +16,16 @@ sel_map : (p : ℕ → Bool) (f g : ℕ → ℕ) (v : List ℕ) → sel_l (map p
 sel_map p f g [] = refl
 sel_map p f g (x ∷ xs) = ap (λ r. cond (p x) (f x) (g x) ∷ r) (sel_map p f g xs)
 
-pub sel_maps : (p : ℕ → Bool) (f g : ℕ → ℕ) (v : List ℕ) (ms : List Bool) (xs ys : List ℕ) → ms ≡ map p v → xs ≡ map f v → ys ≡ map g v → sel_l ms xs ys ≡ map (λ b. cond (p b) (f b) (g b)) v
-sel_maps p f g v ms xs ys em ex ey =
+pub sel_maps : (p : ℕ → Bool) (f g : ℕ → ℕ) (v : List ℕ) {ms : List Bool} {xs ys : List ℕ} → ms ≡ map p v → xs ≡ map f v → ys ≡ map g v → sel_l ms xs ys ≡ map (λ b. cond (p b) (f b) (g b)) v
+sel_maps p f g v {xs} {ys} em ex ey =
     ap (λ m. sel_l m xs ys) em ∙ ap (λ x. sel_l (map p v) x ys) ex ∙ ap (λ y. sel_l (map p v) (map f v) y) ey ∙ sel_map p f g v
 
-pub mask_right : (t : ℕ → ℕ → Bool) (n : ℕ) (v : List ℕ) (y : ℕ) → length v ≡ n → map (top 7) (zip2 (λ a b. cond (t a b) 255 0) v (replicate n y)) ≡ map (λ b. t b y) v
-mask_right t n v y long = tops_compared w8 t v (replicate n y) ∙ zip2_splat t v n y long
+pub mask_right : (t : ℕ → ℕ → Bool) {n : ℕ} (v : List ℕ) (y : ℕ) → length v ≡ n → map (top 7) (zip2 (λ a b. cond (t a b) 255 0) v (replicate n y)) ≡ map (λ b. t b y) v
+mask_right t {n} v y long = tops_compared w8 t v (replicate n y) ∙ zip2_splat t v n y long
 
 -- what is computed of each byte, compared with one byte
-pub tests_are : (t : ℕ → ℕ → Bool) (f : ℕ → ℕ) (v xs : List ℕ) (n y : ℕ) → length v ≡ n → xs ≡ map f v → map (top 7) (zip2 (λ a b. cond (t a b) 255 0) xs (replicate n y)) ≡ map (λ b. t (f b) y) v
-tests_are t f v xs n y long is = tops_compared w8 t xs (replicate n y) ∙ zip2_of_maps t f (λ _. y) v is (splat_is_map v n y long)
+pub tests_are : (t : ℕ → ℕ → Bool) (f : ℕ → ℕ) (v : List ℕ) {xs : List ℕ} {n : ℕ} (y : ℕ) → length v ≡ n → xs ≡ map f v → map (top 7) (zip2 (λ a b. cond (t a b) 255 0) xs (replicate n y)) ≡ map (λ b. t (f b) y) v
+tests_are t f v {xs} {n} y long is = tops_compared w8 t xs (replicate n y) ∙ zip2_of_maps t f (λ _. y) v is (splat_is_map v n y long)
 
 pub added_lanes : (f g : ℕ → ℕ) (v : List ℕ) {xs ys : List ℕ} → xs ≡ map f v → ys ≡ map g v → zip2 (λ a b. (a + b) % 256) xs ys ≡ map (λ b. (f b + g b) % 256) v
 added_lanes f g v ex ey = zip2_of_maps (λ a b. (a + b) % 256) f g v ex ey
@@ -89,16 +89,16 @@ module _ (ss : List Stretch) (few : length ss ≤ 4) (b : ℕ) where
   to_shifted : (n : ℕ) → n ≡ b + (adds_at ss 0 b + (adds_at ss 1 b + (adds_at ss 2 b + adds_at ss 3 b))) → n % 256 ≡ shifted ss b
   to_shifted n is = ap (λ (k : ℕ). k % 256) (is ∙ ap (λ (k : ℕ). b + k) (sum_is ss b few))
 
-  pub one_moves : (x : ℕ) → x ≡ adds_at ss 0 b → is_some (told_at ss 1) ≡ false → (b + x) % 256 ≡ shifted ss b
-  one_moves x ex is = let none = none_at_one ss b is in to_shifted (b + x) (omega (arith, ex, none.0, none.1, none.2))
+  pub one_moves : {x : ℕ} → x ≡ adds_at ss 0 b → is_some (told_at ss 1) ≡ false → (b + x) % 256 ≡ shifted ss b
+  one_moves {x} ex is = let none = none_at_one ss b is in to_shifted (b + x) (omega (arith, ex, none.0, none.1, none.2))
 
-  pub two_move : (x y : ℕ) → x ≡ adds_at ss 0 b → y ≡ adds_at ss 1 b → is_some (told_at ss 2) ≡ false → ((b + x) % 256 + y) % 256 ≡ shifted ss b
-  two_move x y ex ey is =
+  pub two_move : {x y : ℕ} → x ≡ adds_at ss 0 b → y ≡ adds_at ss 1 b → is_some (told_at ss 2) ≡ false → ((b + x) % 256 + y) % 256 ≡ shifted ss b
+  two_move {x} {y} ex ey is =
       let none = none_at_two ss b is in
       let flat : ((b + x) % 256 + y) % 256 ≡ (b + (x + y)) % 256 = omega arith in
       flat ∙ to_shifted (b + (x + y)) (omega (arith, ex, ey, none.0, none.1))
 
-  pub four_move : (x y z w : ℕ) → x ≡ adds_at ss 0 b → y ≡ adds_at ss 1 b → z ≡ adds_at ss 2 b → w ≡ adds_at ss 3 b → ((((b + x) % 256 + y) % 256 + z) % 256 + w) % 256 ≡ shifted ss b
-  four_move x y z w ex ey ez ew =
+  pub four_move : {x y z w : ℕ} → x ≡ adds_at ss 0 b → y ≡ adds_at ss 1 b → z ≡ adds_at ss 2 b → w ≡ adds_at ss 3 b → ((((b + x) % 256 + y) % 256 + z) % 256 + w) % 256 ≡ shifted ss b
+  four_move {x} {y} {z} {w} ex ey ez ew =
       let flat : ((((b + x) % 256 + y) % 256 + z) % 256 + w) % 256 ≡ (b + (x + (y + (z + w)))) % 256 = omega arith in
       flat ∙ to_shifted (b + (x + (y + (z + w)))) (omega (arith, ex, ey, ez, ew))

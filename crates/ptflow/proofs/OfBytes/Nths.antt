@@ -18,6 +18,7 @@ use Rattle.ptlines.specs.Text.{IsLine}
 use Rattle.ptlines.proofs.Scanned.{before_end, no_end}
 use Rattle.ptlines.proofs.TextLaws.{other_byte}
 use Rattle.ptflow.specs.Workings.Bytes.Nths.{IsBehind, IsNth}
+use Rattle.ptflow.specs.Workings.Cut.CutRests.{HasEnds}
 use Rattle.ptflow.specs.Workings.Cut.FieldPlaces.{fields, led, StartsAt}
 use Rattle.ptflow.proofs.OfCut.FieldPlaces.{fields-append, led_fields, starts_more, few_left}
 
@@ -70,8 +71,8 @@ and_less (false ∷ bits) =
     omega (arith, and_step x (x - 1), both, low)
 
 -- the lowest bit that is set is cleared
-pub cleared : (n x : ℕ) (bits : List Bool) → x < 2 ^ 64 → x ≡ mask_l (without n bits) → bit_and x ((x + (2 ^ 64 - 1)) % 2 ^ 64) ≡ mask_l (without (suc n) bits)
-cleared n x bits small is = by_cases x small is
+pub cleared : (n : ℕ) {x : ℕ} (bits : List Bool) → x < 2 ^ 64 → x ≡ mask_l (without n bits) → bit_and x ((x + (2 ^ 64 - 1)) % 2 ^ 64) ≡ mask_l (without (suc n) bits)
+cleared n {x} bits small is = by_cases x small is
   where
     by_cases : (y : ℕ) → y < 2 ^ 64 → y ≡ mask_l (without n bits) → bit_and y ((y + (2 ^ 64 - 1)) % 2 ^ 64) ≡ mask_l (without (suc n) bits)
     by_cases zero lt e = and_zero_l ((0 + (2 ^ 64 - 1)) % 2 ^ 64) ∙ sym (and_zero_l (0 - 1)) ∙ ap (λ (z : ℕ). bit_and z (z - 1)) e ∙ and_less (without n bits)
@@ -96,8 +97,8 @@ lowest_set bits few some =
 -- ---- the item behind so many that pass
 
 module _ {X : Type 0} (p : X → Bool) (d : X) where
-  one_more : (x : X) (xs : List X) (t : Bool) (r s n m : ℕ) → p x ≡ t → r ≡ suc s → n ≡ cond t 1 0 + m → IsBehind p d m xs s → IsBehind p d n (x ∷ xs) r
-  one_more x xs t r s n m e next count h =
+  one_more : (x : X) (xs : List X) {t : Bool} {r : ℕ} (s n m : ℕ) → p x ≡ t → r ≡ suc s → n ≡ cond t 1 0 + m → IsBehind p d m xs s → IsBehind p d n (x ∷ xs) r
+  one_more x xs s n m e next count h =
       subst (λ (k : ℕ). IsBehind p d n (x ∷ xs) k) (sym next) (omega (arith, h.0), h.1, sum_by-cons (λ b. cond (p b) 1 0) x (take s xs) ∙ ap₂ (λ (b : Bool) (k : ℕ). cond b 1 0 + k) e h.2 ∙ sym count)
 
   behind : (xs : List X) (n : ℕ) → n < count_by p xs → IsBehind p d n xs (prefix_len not (without n (map p xs)))
@@ -109,14 +110,14 @@ module _ {X : Type 0} (p : X → Bool) (d : X) where
       by_test more true e zero lt = (omega arith, e, refl)
       by_test more true e (suc m) lt =
           let next : prefix_len not (without (suc m) (true ∷ map p xs)) ≡ suc (prefix_len not (without m (map p xs))) = ap (prefix_len not) (without_set m (map p xs)) ∙ omega arith in
-          one_more x xs true (prefix_len not (without (suc m) (true ∷ map p xs))) (prefix_len not (without m (map p xs))) (suc m) m e next (omega arith) (more m (omega (arith, lt)))
+          one_more x xs (prefix_len not (without m (map p xs))) (suc m) m e next (omega arith) (more m (omega (arith, lt)))
       by_test more false e n lt =
           let next : prefix_len not (without n (false ∷ map p xs)) ≡ suc (prefix_len not (without n (map p xs))) = ap (prefix_len not) (without_clear n (map p xs)) ∙ omega arith in
-          one_more x xs false (prefix_len not (without n (false ∷ map p xs))) (prefix_len not (without n (map p xs))) n n e next (omega arith) (more n (omega (arith, lt)))
+          one_more x xs (prefix_len not (without n (map p xs))) n n e next (omega arith) (more n (omega (arith, lt)))
 
 -- the lowest bit that is set once so many were cleared
-pub behind_set : (p : ℕ → Bool) (xs : List ℕ) (n rest : ℕ) → length xs ≤ 64 → n < count_by p xs → rest ≡ mask_l (without n (map p xs)) → IsBehind p 0 n xs (count_trailing_zeros 64 rest)
-behind_set p xs n rest few lt is =
+pub behind_set : (p : ℕ → Bool) (xs : List ℕ) (n : ℕ) {rest : ℕ} → length xs ≤ 64 → n < count_by p xs → rest ≡ mask_l (without n (map p xs)) → IsBehind p 0 n xs (count_trailing_zeros 64 rest)
+behind_set p xs n few lt is =
     let bits = map p xs in
     let here = behind p 0 xs n lt in
     let long : length (without n bits) ≡ length xs = length-without n bits ∙ length-map' xs in
@@ -144,18 +145,18 @@ module _ (p : ℕ → Bool) (bytes : List ℕ) where
         ap (count_by p) (take-add at k bytes) ∙ sum_by-append (λ b. cond (p b) 1 0) (take at bytes) (take k (drop at bytes))
         ∙ ap (λ (n : ℕ). count_by p (take at bytes) + n) (ap (count_by p) (sym (take-take k size (drop at bytes) (omega (arith, near)))) ∙ h.2)
 
-    pub behind_front : (to : ℕ) → at + k < to → to ≤ length bytes → IsBehind p 0 (count_by p (take at bytes) + m) (take to bytes) (at + k)
-    behind_front to lt le = (
+    pub behind_front : {to : ℕ} → at + k < to → to ≤ length bytes → IsBehind p 0 (count_by p (take at bytes) + m) (take to bytes) (at + k)
+    behind_front {to} lt le = (
       omega (arith, length-take-le to bytes le),
       ap p (get_or-take to bytes (at + k) 0 lt ∙ sym (get_or-chunk at size bytes k 0 near)) ∙ h.1,
       ap (count_by p) (take-take (at + k) to bytes (omega arith)) ∙ count_front,
     )
 
   -- the place that the mask of a chunk gives
-  pub behind_in_chunk : (at left marked count k : ℕ) → at + 64 ≤ length bytes → marked ≡ mask_l (map p (chunk at 64 bytes)) → count ≡ count_ones marked → 0 < left → left ≤ count
+  pub behind_in_chunk : (at : ℕ) {left marked count : ℕ} (k : ℕ) → at + 64 ≤ length bytes → marked ≡ mask_l (map p (chunk at 64 bytes)) → count ≡ count_ones marked → 0 < left → left ≤ count
       → ((test : ℕ → Bool) (xs : List ℕ) → length xs ≤ 64 → marked ≡ mask_l (map test xs) → left - 1 < count_by test xs → IsBehind test 0 (left - 1) xs k)
       → IsBehind p 0 (left - 1) (chunk at 64 bytes) k
-  behind_in_chunk at left marked count k room is counted some le found =
+  behind_in_chunk at k room is counted some le found =
       found p (chunk at 64 bytes) (omega (arith, length-chunk at 64 bytes room)) is (omega (arith, counted, ap count_ones is ∙ ones-mask_l p (chunk at 64 bytes)))
 
   -- none in front of the first one passes
@@ -181,7 +182,7 @@ module _ (p : ℕ → Bool) (bytes : List ℕ) where
       by_test false m n some more = omega (arith, more (omega (arith, some)))
 
   -- the first place that the mask of the first of these bytes gives
-  module _ (size marked k : ℕ) (few : size ≤ 64) (room : size ≤ length bytes) (is : marked ≡ mask_l (map p (chunk 0 size bytes))) (some : marked ≡ 0 → ⊥)
+  module _ {size marked : ℕ} (k : ℕ) (few : size ≤ 64) (room : size ≤ length bytes) (is : marked ≡ mask_l (map p (chunk 0 size bytes))) (some : marked ≡ 0 → ⊥)
       (found : (test : ℕ → Bool) (xs : List ℕ) → length xs ≤ 64 → marked ≡ mask_l (map test xs) → 0 < count_by test xs → IsBehind test 0 0 xs k) where
     in_front : IsBehind p 0 0 (chunk 0 size bytes) k
     in_front =
@@ -191,10 +192,10 @@ module _ (p : ℕ → Bool) (bytes : List ℕ) where
     pub first_front : (to : ℕ) → k < to → to ≤ length bytes → IsBehind p 0 0 (take to bytes) k
     first_front to lt le =
         let same : 0 + k ≡ k = omega arith in
-        subst (λ (n : ℕ). IsBehind p 0 0 (take to bytes) n) same (behind_front size 0 0 k (omega arith) in_front to (omega (arith, lt)) le)
+        subst (λ (n : ℕ). IsBehind p 0 0 (take to bytes) n) same (behind_front size 0 0 k (omega arith) in_front (omega (arith, lt)) le)
 
-    pub none_front : (to : ℕ) → to ≤ k → count_by p (take to bytes) < 1
-    none_front to le = omega (arith, count_front size 0 0 k (omega arith) in_front, count_up_to to (0 + k) (omega (arith, le)))
+    pub none_front : {to : ℕ} → to ≤ k → count_by p (take to bytes) < 1
+    none_front {to} le = omega (arith, count_front size 0 0 k (omega arith) in_front, count_up_to to (0 + k) (omega (arith, le)))
 
     pub first_of_all : NoneBefore (Passes p bytes) 0 (length bytes) k × Passes p bytes k
     first_of_all =
@@ -204,8 +205,8 @@ module _ (p : ℕ → Bool) (bytes : List ℕ) where
 -- ---- fields
 
 module _ (d : ℕ) (line : List ℕ) where
-  pub few_fields : (n : ℕ) → count_by (is_byte d) line < n → length (fields d line) ≤ n
-  few_fields n lt = omega (arith, length-slice_split (is_byte d) line)
+  pub few_fields : {n : ℕ} → count_by (is_byte d) line < n → length (fields d line) ≤ n
+  few_fields lt = omega (arith, length-slice_split (is_byte d) line)
 
   module _ (n at : ℕ) (h : IsBehind (is_byte d) 0 n line at) where
     abbrev xs : List ℕ
@@ -250,20 +251,20 @@ module _ (d : ℕ) (line : List ℕ) where
   pub starts_behind_first : (at : ℕ) → IsFirstByte (is_byte d) line (Some at) → StartsAt d 1 line (at + 1)
   starts_behind_first at first = starts_behind 0 at (first.0.high, first.1, none_counted (take at line) (before_end d line at first))
 
-  pub starts_behind_nth : (n at : ℕ) → 0 < n → IsBehind (is_byte d) 0 (n - 1) line at → StartsAt d n line (at + 1)
-  starts_behind_nth n at some h =
+  pub starts_behind_nth : {n : ℕ} (at : ℕ) → 0 < n → IsBehind (is_byte d) 0 (n - 1) line at → StartsAt d n line (at + 1)
+  starts_behind_nth {n} at some h =
       let whole : n - 1 + 1 ≡ n = omega arith in
       subst (λ (m : ℕ). StartsAt d m line (at + 1)) whole (starts_behind (n - 1) at h)
 
   -- behind the first delimiter
   module _ (first n : ℕ) (here : IsFirstByte (is_byte d) line (Some first)) (some : 0 < n) where
     pub few_behind_first : length (fields d (drop (first + 1) line)) ≤ n - 1 → length (fields d line) ≤ n
-    few_behind_first few = omega (arith, few_left d 1 (n - 1) (first + 1) line (starts_behind_first first here) few)
+    few_behind_first few = omega (arith, few_left d (starts_behind_first first here) few)
 
-    pub starts_past_first : (passed : ℕ) → StartsAt d (n - 1) (drop (first + 1) line) passed → StartsAt d n line (first + 1 + passed)
-    starts_past_first passed s =
+    pub starts_past_first : {passed : ℕ} → StartsAt d (n - 1) (drop (first + 1) line) passed → StartsAt d n line (first + 1 + passed)
+    starts_past_first {passed} s =
         let whole : 1 + (n - 1) ≡ n = omega arith in
-        subst (λ (m : ℕ). StartsAt d m line (first + 1 + passed)) whole (starts_more d 1 (n - 1) (first + 1) passed line (starts_behind_first first here) s)
+        subst (λ (m : ℕ). StartsAt d m line (first + 1 + passed)) whole (starts_more d (starts_behind_first first here) s)
 
 -- the next item that passes, where as many stand in front of it as in front of an earlier place
 module _ (p : ℕ → Bool) (bytes : List ℕ) (start end : ℕ) (fits : end < length bytes) (is : p (get_or bytes end 0) ≡ true) (same : count_by p (take end bytes) ≡ count_by p (take start bytes)) where
@@ -299,28 +300,45 @@ module _ (p : ℕ → Bool) (bytes : List ℕ) (start end : ℕ) (fits : end < l
       )
 
 -- the next end of a line among 64 bytes, of which so many were gone over, where the line starts at this place
-module _ (d : ℕ) (block : List ℕ) (from n marked start : ℕ) (room : from + 64 ≤ length block) (some : n < count_by (is_byte d) (chunk from 64 block))
+pub record NextEnd (d : ℕ) (block : List ℕ) (from n bit start : ℕ) : Type 0 where
+  pub near : bit < 64
+  pub order : start ≤ from + bit
+  pub first : IsFirstByte (is_byte d) (drop start block) (Some (from + bit - start))
+  pub counted : count_by (is_byte d) (take (from + bit + 1) block) ≡ count_by (is_byte d) (take from block) + (n + 1)
+
+module _ {d : ℕ} {block : List ℕ} {from all marked : ℕ} (n start : ℕ) (h : HasEnds d block from all) (some : n < count_ones all)
     (bits : marked ≡ mask_l (without n (map (is_byte d) (chunk from 64 block)))) (ends : count_by (is_byte d) (take start block) ≡ count_by (is_byte d) (take from block) + n) where
+  abbrev p : ℕ → Bool
+  p = is_byte d
+
+  abbrev v : List ℕ
+  v = chunk from 64 block
+
   abbrev bit : ℕ
   bit = count_trailing_zeros 64 marked
 
-  stands : IsBehind (is_byte d) 0 n (chunk from 64 block) bit
-  stands = behind_set (is_byte d) (chunk from 64 block) n marked (omega (arith, length-chunk from 64 block room)) some bits
+  room : from + 64 ≤ length block
+  room = omega (arith, h.within)
 
-  pub end_near : count_trailing_zeros 64 marked < 64
-  end_near = near (is_byte d) block 64 from n bit room stands
+  stands : IsBehind p 0 n v bit
+  stands = behind_set p v n (omega (arith, length-chunk from 64 block room)) (omega (arith, some, ap count_ones h.is, ones-mask_l p v)) bits
 
-  ends_line : is_byte d (get_or block (from + bit) 0) ≡ true
-  ends_line = ap (is_byte d) (sym (get_or-chunk from 64 block bit 0 end_near)) ∙ stands.1
+  close : bit < 64
+  close = near p block 64 from n bit room stands
 
-  as_many : count_by (is_byte d) (take (from + bit) block) ≡ count_by (is_byte d) (take start block)
-  as_many = count_front (is_byte d) block 64 from n bit room stands ∙ sym ends
+  fits : from + bit < length block
+  fits = omega (arith, close, room)
 
-  pub end_order : start ≤ from + count_trailing_zeros 64 marked
-  end_order = in_order (is_byte d) block start (from + bit) (omega (arith, end_near, room)) ends_line as_many
+  is : p (get_or block (from + bit) 0) ≡ true
+  is = ap p (sym (get_or-chunk from 64 block bit 0 close)) ∙ stands.1
 
-  pub end_first : IsFirstByte (is_byte d) (drop start block) (Some (from + count_trailing_zeros 64 marked - start))
-  end_first = next_is (is_byte d) block start (from + bit) (omega (arith, end_near, room)) ends_line as_many
+  as_many : count_by p (take (from + bit) block) ≡ count_by p (take start block)
+  as_many = count_front p block 64 from n bit room stands ∙ sym ends
 
-  pub end_counted : count_by (is_byte d) (take (from + count_trailing_zeros 64 marked + 1) block) ≡ count_by (is_byte d) (take from block) + (n + 1)
-  end_counted = omega (arith, one_behind (is_byte d) block start (from + bit) (omega (arith, end_near, room)) ends_line as_many, as_many, ends)
+  pub next_end : NextEnd d block from n bit start
+  next_end = record {
+    near = close;
+    order = in_order p block start _ fits is as_many;
+    first = next_is p block start _ fits is as_many;
+    counted = omega (arith, one_behind p block start _ fits is as_many, as_many, ends);
+  }

@@ -93,10 +93,10 @@ empty_lines end selected (b ∷ ends) more all = by_test (is_byte end b) refl al
     by_test false is every next = absurd (omega (arith, every, pow-succ' 2 (length ends)))
 
 -- 64 of them that stand at a place of a block, where no byte of a line came earlier
-pub ends_on : (end : ℕ) (selected : ℕ → Bool) (block : List ℕ) (from start now marked : ℕ) → from + 64 ≤ length block → start ≡ from → now ≡ 0 → marked
+pub ends_on : (end : ℕ) (selected : ℕ → Bool) (block : List ℕ) {from start now marked : ℕ} → from + 64 ≤ length block → start ≡ from → now ≡ 0 → marked
     ≡ mask_l (map (is_byte end) (chunk from 64 block)) → marked ≡ 2 ^ 64 - 1
     → (more : List ℕ) → cut_rest end selected now (drop start block ++ more) ≡ chunk start 64 block ++ cut_rest end selected now (drop (start + 64) block ++ more)
-ends_on end selected block from start now marked room here none is all more =
+ends_on end selected block {start} room here none is all more =
     let ends = chunk start 64 block in
     let left = drop (start + 64) block ++ more in
     let long : length ends ≡ 64 = length-chunk start 64 block (omega (arith, room, here)) in
@@ -117,9 +117,9 @@ piece_on end selected before bytes whole more =
 
 -- one step more of what is written of a block
 module _ (end : ℕ) (list : List Interval) (start : ℕ) (block : List ℕ) where
-  pub cut_on : (now next : ℕ) (rest rest' was is bytes : List ℕ) → IsCutTo end list start block now rest was → is ≡ was ++ bytes
+  pub cut_on : (now next : ℕ) (rest rest' was : List ℕ) {is : List ℕ} (bytes : List ℕ) → IsCutTo end list start block now rest was → is ≡ was ++ bytes
       → ((more : List ℕ) → rest_by end list now (rest ++ more) ≡ bytes ++ rest_by end list next (rest' ++ more)) → IsCutTo end list start block next rest' is
-  cut_on now next rest rest' was is bytes cut copied on more =
+  cut_on now next rest rest' was bytes cut copied on more =
       cut more ∙ ap (λ (l : List ℕ). was ++ l) (on more) ∙ sym (append_assoc was bytes (rest_by end list next (rest' ++ more)))
       ∙ ap (λ (l : List ℕ). l ++ rest_by end list next (rest' ++ more)) (sym copied)
 

@@ -63,10 +63,10 @@ module _ (job : Cut) (by_fields : job.fields ≡ true) where
 
 -- ---- the first lines of a block
 
-module _ (job : Cut) (end : ℕ) (bytes : List ℕ) (size : ℕ) (some : 0 < size) (fits : size ≤ length bytes) (front : List (List ℕ)) (texts : text end front ≡ take size bytes)
+module _ {job : Cut} {end : ℕ} {bytes : List ℕ} {size : ℕ} (some : 0 < size) (fits : size ≤ length bytes) (front : List (List ℕ)) (texts : text end front ≡ take size bytes)
     (lines_are : ended_lines end bytes ≡ front ++ ended_lines end (drop size bytes)) where
-  puts : (old new : List ℕ) → new ≡ old ++ cut_lines job front → PutsLines job end bytes size old new
-  puts old new is = record {
+  puts : {old new : List ℕ} → new ≡ old ++ cut_lines job front → PutsLines job end bytes size old new
+  puts {old} is = record {
     some = some;
     fits = fits;
     taken = ap (text end) lines_are ∙ text-append end front (ended_lines end (drop size bytes)) ∙ ap (λ (l : List ℕ). l ++ text end (ended_lines end (drop size bytes))) texts;
@@ -77,16 +77,16 @@ module _ (job : Cut) (end : ℕ) (bytes : List ℕ) (size : ℕ) (some : 0 < siz
         ∙ sym (append_assoc old (cut_lines job front) (cut_lines job rest)) ∙ ap (λ (l : List ℕ). l ++ cut_lines job rest) (sym is);
   }
 
-module _ (job : Cut) (by_fields : job.fields ≡ true) (end : ℕ) (same : end ≡ job.end) (bytes : List ℕ) (to : ℕ) (first : IsFirstByte (is_byte end) bytes (Some to)) where
+module _ (job : Cut) (by_fields : job.fields ≡ true) {end : ℕ} (same : end ≡ job.end) (bytes : List ℕ) (to : ℕ) (first : IsFirstByte (is_byte end) bytes (Some to)) where
   -- one line, of which these bytes are written
-  pub puts_line : (out old new : List ℕ) → cut_line job (take to bytes) ≡ out ∷ [] → new ≡ old ++ (out ++ take 1 (drop to bytes)) → PutsLines job end bytes (to + 1) old new
-  puts_line out old new is put =
-      puts job end bytes (to + 1) (omega arith) (omega (arith, first.0.high)) (take to bytes ∷ [])
-      (append-nil (take to bytes ++ end ∷ []) ∙ sym (take_end end bytes to first)) (ended_next end bytes to first) old new
+  pub puts_line : (out : List ℕ) {old new : List ℕ} → cut_line job (take to bytes) ≡ out ∷ [] → new ≡ old ++ (out ++ take 1 (drop to bytes)) → PutsLines job end bytes (to + 1) old new
+  puts_line out {old} is put =
+      puts (omega arith) (omega (arith, first.0.high)) (take to bytes ∷ [])
+      (append-nil (take to bytes ++ end ∷ []) ∙ sym (take_end end bytes to first)) (ended_next end bytes to first)
       (put ∙ ap (λ (l : List ℕ). old ++ l) (ap (λ (l : List ℕ). out ++ take 1 l) (drop_end end bytes to first) ∙ ap (λ (b : ℕ). out ++ b ∷ []) same ∙ sym (line_written job (take to bytes) out is)))
 
   -- all whole lines up to a place; the delimiter is not in them
-  module _ (size up_to : ℕ) (high : to < size) (fits : size ≤ length bytes) (ended : get_or bytes (size - 1) 0 ≡ end) (near : (size ≡ to + 1) ⊎ (size ≤ up_to)) (past : to ≤ up_to)
+  module _ {size up_to : ℕ} (high : to < size) (fits : size ≤ length bytes) (ended : get_or bytes (size - 1) 0 ≡ end) (near : (size ≡ to + 1) ⊎ (size ≤ up_to)) (past : to ≤ up_to)
       (free : IsLine job.delimiter (take up_to bytes)) where
     abbrev front : List (List ℕ)
     front = ended_lines end (take size bytes)
@@ -104,24 +104,24 @@ module _ (job : Cut) (by_fields : job.fields ≡ true) (end : ℕ) (same : end �
         ap (ended_lines end) (sym (take-append-drop size bytes) ∙ ap (λ (l : List ℕ). l ++ drop size bytes) (sym texts))
         ∙ ended-append end front (drop size bytes) (parts_of end (take size bytes)).whole
 
-    free_up_to : (n : ℕ) → n ≤ up_to → IsLine job.delimiter (take n bytes)
-    free_up_to n le = subst (IsLine job.delimiter) (take-take n up_to bytes le) (free_front job.delimiter n (take up_to bytes) free)
+    free_up_to : {n : ℕ} → n ≤ up_to → IsLine job.delimiter (take n bytes)
+    free_up_to {n} le = subst (IsLine job.delimiter) (take-take n up_to bytes le) (free_front job.delimiter n (take up_to bytes) free)
 
     are_free : ((size ≡ to + 1) ⊎ (size ≤ up_to)) → AreLines job.delimiter front
     are_free (inl one) =
         let is : front ≡ take to bytes ∷ [] =
         ap (λ (n : ℕ). ended_lines end (take n bytes)) one ∙ ap (ended_lines end) (take_end end bytes to first) ∙ ended_first end (take to bytes) [] (before_end end bytes to first) in
-        subst (AreLines job.delimiter) (sym is) (free_up_to to past, tt)
-    are_free (inr le) = free_lines job.delimiter end (take size bytes) (free_up_to size le)
+        subst (AreLines job.delimiter) (sym is) (free_up_to past, tt)
+    are_free (inr le) = free_lines job.delimiter end (take size bytes) (free_up_to le)
 
-    pub puts_kept : (old new : List ℕ) → job.only ≡ false → new ≡ old ++ take size bytes → PutsLines job end bytes size old new
-    puts_kept old new keeps put =
-        puts job end bytes size (omega (arith, high)) fits front texts lines_are old new
+    pub puts_kept : {old new : List ℕ} → job.only ≡ false → new ≡ old ++ take size bytes → PutsLines job end bytes size old new
+    puts_kept {old} keeps put =
+        puts (omega (arith, high)) fits front texts lines_are
         (put ∙ ap (λ (l : List ℕ). old ++ l) (sym texts ∙ ap (λ (b : ℕ). text b front) same ∙ ap (text job.end) (sym (lines_kept job by_fields keeps front (are_free near)))))
 
-    pub puts_dropped : (old : List ℕ) → job.only ≡ true → PutsLines job end bytes size old old
-    puts_dropped old only =
-        puts job end bytes size (omega (arith, high)) fits front texts lines_are old old
+    pub puts_dropped : {old : List ℕ} → job.only ≡ true → PutsLines job end bytes size old old
+    puts_dropped {old} only =
+        puts (omega (arith, high)) fits front texts lines_are
         (sym (ap (λ (l : List ℕ). old ++ l) (ap (text job.end) (lines_dropped job by_fields only front (are_free near))) ∙ append-nil old))
 
 -- in front of the first delimiter there is none

@@ -49,7 +49,7 @@ module _ (d : ℕ) where
   starts_first line = record { fits = omega arith; count = omega arith; front = refl; behind = refl; later = refl }
 
   -- one start after another
-  module _ (m n a p : ℕ) (line : List ℕ) (s : StartsAt d m line a) (t : StartsAt d n (drop a line) p) where
+  module _ {m n a p : ℕ} {line : List ℕ} (s : StartsAt d m line a) (t : StartsAt d n (drop a line) p) where
     pub starts_more : StartsAt d (m + n) line (a + p)
     starts_more = record {
       fits = omega (arith, t.fits, length-drop a line, s.fits);
@@ -63,19 +63,19 @@ module _ (d : ℕ) where
     }
 
   -- few fields are left behind a start
-  pub few_left : (m n a : ℕ) (line : List ℕ) → StartsAt d m line a → length (fields d (drop a line)) ≤ n → length (fields d line) ≤ m + n
-  few_left m n a line s few = omega (arith, few, ap length s.later, length-drop m (fields d line))
+  pub few_left : {m n a : ℕ} {line : List ℕ} → StartsAt d m line a → length (fields d (drop a line)) ≤ n → length (fields d line) ≤ m + n
+  few_left {m} {line} s few = omega (arith, few, ap length s.later, length-drop m (fields d line))
 
   -- no field is passed over
-  pub starts_at_zero : (line : List ℕ) (at : ℕ) → StartsAt d 0 line at → at ≡ 0
-  starts_at_zero line at s = omega (arith, ap length s.front, length-take-le at (d ∷ line) (omega (arith, s.fits)), s.fits)
+  pub starts_at_zero : {line : List ℕ} {at : ℕ} → StartsAt d 0 line at → at ≡ 0
+  starts_at_zero {line} {at} s = omega (arith, ap length s.front, length-take-le at (d ∷ line) (omega (arith, s.fits)), s.fits)
 
   -- the place is still the line's start, or behind its first delimiter
   pub start_kept : (few : Type 0) (line : List ℕ) (o : Option ℕ) (from first count : ℕ) → (from ≤ first → from ≡ 0) → ((count ≡ 0) ⊎ (first < from)) → MatchOption o few (StartsAt d count line)
       → IfSome o (λ passed. from + passed ≤ first → from + passed ≡ 0)
   start_kept few line None from first count start how found = tt
   start_kept few line (Some passed) from first count start (inl none) found = λ le.
-      let zero : passed ≡ 0 = starts_at_zero line passed (subst (λ (n : ℕ). StartsAt d n line passed) none found) in
+      let zero : passed ≡ 0 = starts_at_zero (subst (λ (n : ℕ). StartsAt d n line passed) none found) in
       omega (arith, zero, start (omega (arith, zero, le)))
   start_kept few line (Some passed) from first count start (inr past) found = λ le. absurd (omega (arith, past, le))
 
@@ -86,8 +86,8 @@ rest_of from to bytes le =
     ap (λ (n : ℕ). drop from (take n bytes)) (sym whole) ∙ drop-take from (to - from) bytes
 
 -- a slice of a line
-pub slice_of : (from size to : ℕ) (bytes : List ℕ) → from + size ≤ to → take size (drop from (take to bytes)) ≡ take size (drop from bytes)
-slice_of from size to bytes le = ap (take size) (rest_of from to bytes (omega arith)) ∙ take-take size (to - from) (drop from bytes) (omega arith)
+pub slice_of : (from size : ℕ) {to : ℕ} (bytes : List ℕ) → from + size ≤ to → take size (drop from (take to bytes)) ≡ take size (drop from bytes)
+slice_of from size {to} bytes le = ap (take size) (rest_of from to bytes (omega arith)) ∙ take-take size (to - from) (drop from bytes) (omega arith)
 
 -- a line and the byte behind it
 pub line_with_end : (to : ℕ) (bytes : List ℕ) → drop to (take (to + 1) bytes) ≡ take 1 (drop to bytes)
@@ -96,5 +96,5 @@ line_with_end to bytes =
     rest_of to (to + 1) bytes (omega arith) ∙ ap (λ (n : ℕ). take n (drop to bytes)) one
 
 -- one byte more is put behind what was put
-pub put_byte : (room bytes : List ℕ) (end to : ℕ) → end < length room → to < length bytes → take (end + 1) (slice_set room end (get_or bytes to 0)) ≡ take end room ++ take 1 (drop to bytes)
-put_byte room bytes end to in_room within = take_more_set room end (get_or bytes to 0) in_room ∙ ap (λ (l : List ℕ). take end room ++ take 1 l) (sym (drop_more bytes to 0 within))
+pub put_byte : (room bytes : List ℕ) (end : ℕ) {to : ℕ} → end < length room → to < length bytes → take (end + 1) (slice_set room end (get_or bytes to 0)) ≡ take end room ++ take 1 (drop to bytes)
+put_byte room bytes end {to} in_room within = take_more_set room end (get_or bytes to 0) in_room ∙ ap (λ (l : List ℕ). take end room ++ take 1 l) (sym (drop_more bytes to 0 within))

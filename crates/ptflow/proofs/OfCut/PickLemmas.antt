@@ -21,8 +21,8 @@ use Rattle.ptflow.specs.Workings.Cut.Picks.{picked, IsPick}
 use Rattle.ptflow.specs.declared.tools.cut.picking.Pick.{Pick}
 use Rattle.ptflow.proofs.OfBytes.ChosenLanes.{shuffled, written_more}
 
-last_low : (r : Interval) (place : ℕ) → nat_le r.last 16 ≡ true → 16 < place → r.last < place
-last_low r place low later = grind (arith, nat_tests)
+last_low : (r : Interval) {place : ℕ} → nat_le r.last 16 ≡ true → 16 < place → r.last < place
+last_low r low later = grind (arith, nat_tests)
 
 length-take-le' : {X : Type 0} (n : ℕ) (xs : List X) → length (take n xs) ≤ n
 length-take-le' zero xs = omega arith
@@ -92,9 +92,9 @@ module _ (selected : ℕ → Bool) where
   one_place : (place : ℕ) → picked selected (place + 1) ≡ picked selected place ++ cond (selected (place + 1)) (place ∷ []) []
   one_place place = let next : 1 + place ≡ place + 1 = omega arith in picked_parts place 1 ∙ ap (λ (n : ℕ). picked selected place ++ cond (selected n) (place ∷ []) []) next
 
-  pub pick_more : (place count : ℕ) (row counts after : List ℕ) (one : ℕ) → place < 16 → PickBegun place count row counts → one ≡ bool_byte (selected (place + 1))
+  pub pick_more : {place count : ℕ} {row counts after : List ℕ} {one : ℕ} → place < 16 → PickBegun place count row counts → one ≡ bool_byte (selected (place + 1))
       → after ≡ set counts (place + 1) (count + one) → PickBegun (place + 1) (count + one) (set row count place) after
-  pick_more place count row counts after one low begun told after_is = record {
+  pick_more {place} {count} {row} {counts} {after} {one} low begun told after_is = record {
     is = whole;
     few = omega (arith, begun.few, small);
     lanes = All-set (λ p. p < 16) row count place (omega (arith, low)) begun.lanes;
@@ -136,9 +136,9 @@ module _ (selected : ℕ → Bool) where
           ap (λ (l : List ℕ). get_or l k 0) after_is ∙ get_or-set_other counts (place + 1) k (count + one) 0 (λ e. omega (arith, e, less)) ∙ begun.counted k (omega (arith, less))
       by_cases k (inr (inr more)) upto = absurd (omega (arith, more, upto))
 
-  pub pick_whole : (count most : ℕ) (row counts : List ℕ) → PickBegun 16 count row counts → ((place : ℕ) → 16 < place → place ≤ most → selected place ≡ false)
+  pub pick_whole : {count : ℕ} (most : ℕ) {row counts : List ℕ} → PickBegun 16 count row counts → ((place : ℕ) → 16 < place → place ≤ most → selected place ≡ false)
       → IsPick selected (record { row = row; counts = counts; most = most })
-  pick_whole count most row counts begun past = record {
+  pick_whole most {row} {counts} begun past = record {
     places = ap (λ (n : ℕ). take n row) (sym begun.is) ∙ begun.places;
     long = begun.long;
     lanes = begun.lanes;
@@ -148,9 +148,9 @@ module _ (selected : ℕ → Bool) where
 
   -- ---- a line of which only the first 16 places are selected
 
-  pub few_enough : {X : Type 0} (most count : ℕ) (xs : List X) → ((place : ℕ) → 16 < place → place ≤ most → selected place ≡ false) → count ≤ most → count ≤ length xs
+  pub few_enough : {X : Type 0} {most count : ℕ} (xs : List X) → ((place : ℕ) → 16 < place → place ≤ most → selected place ≡ false) → count ≤ most → count ≤ length xs
       → chosen_from selected 1 (take (min count 16) xs) ≡ chosen_from selected 1 (take count xs)
-  few_enough {X} most count xs past upto within = ⊎_elim (λ e. near (omega (arith, e))) (λ h. ⊎_elim (λ low. near (omega (arith, low))) far h) (cases_order count 16)
+  few_enough {X} {count} xs past upto within = ⊎_elim (λ e. near (omega (arith, e))) (λ h. ⊎_elim (λ low. near (omega (arith, low))) far h) (cases_order count 16)
     where
       near : count ≤ 16 → chosen_from selected 1 (take (min count 16) xs) ≡ chosen_from selected 1 (take count xs)
       near low = let least : min count 16 ≡ count = omega arith in ap (λ (k : ℕ). chosen_from selected 1 (take k xs)) least
@@ -173,9 +173,9 @@ module _ (selected : ℕ → Bool) where
 
   -- ---- the bytes of a line that the row puts in front
 
-  module _ (pick : Pick) (is : IsPick selected pick) where
-    front_places : (count : ℕ) → count ≤ 16 → take (length (picked selected count)) pick.row ≡ picked selected count
-    front_places count short =
+  module _ {pick : Pick} (is : IsPick selected pick) where
+    front_places : {count : ℕ} → count ≤ 16 → take (length (picked selected count)) pick.row ≡ picked selected count
+    front_places {count} short =
         let all : count + (16 - count) ≡ 16 = omega (arith, short) in
         let parts = ap (picked selected) (sym all) ∙ picked_parts count (16 - count) in
         let later = chosen_from selected (1 + count) (range_with_len count (16 - count)) in
@@ -185,14 +185,13 @@ module _ (selected : ℕ → Bool) where
         ∙ take-append-le (length (picked selected count)) (picked selected count) later (omega arith)
         ∙ take_all (length (picked selected count)) (picked selected count) (omega arith)
 
-    pub pick_line : (count : ℕ) (v : List ℕ) → count ≤ 16 → length v ≡ 16 → take (get_or pick.counts count 0) (swz_l w8 16 v 0 pick.row) ≡ chosen_from selected 1 (take count v)
-    pick_line count v short long =
+    pub pick_line : {count : ℕ} (v : List ℕ) → count ≤ 16 → length v ≡ 16 → take (get_or pick.counts count 0) (swz_l w8 16 v 0 pick.row) ≡ chosen_from selected 1 (take count v)
+    pick_line {count} v short long =
         let places = picked selected count in
         let n = length places in
         ap (λ (k : ℕ). take k (swz_l w8 16 v 0 pick.row)) (is.counts count short)
         ∙ ap (take n) (shuffled v 0 pick.row (omega (arith, is.long)) (Each1-from_get_or (λ place. place < 16) pick.row 0 (λ i low. is.lanes i 0 low)))
-        ∙ take-map (λ k. get_or v k 0) n pick.row
-        ∙ ap (pick_l 0 v) (front_places count short)
+        ∙ take-map (λ k. get_or v k 0) n pick.row ∙ ap (pick_l 0 v) (front_places short)
         ∙ map_chosen (λ k. get_or v k 0) 1 (range_with_len 0 count)
         ∙ ap (chosen_from selected 1) (pick_l-range_with_len 0 v 0 count (omega (arith, short, long)))
 
@@ -203,19 +202,19 @@ module _ (selected : ℕ → Bool) where
     pick_lanes = Each1-from_get_or (λ place. place < 16) pick.row 0 (λ i low. is.lanes i 0 low)
 
 -- places after the first 16, where none of the intervals goes on after them
-pub none_after : (rs : List Interval) (place : ℕ) → list_all (λ r. nat_le r.last 16) rs ≡ true → 16 < place → is_selected rs place ≡ false
-none_after [] place all later = refl
-none_after (r ∷ rs) place all later = by_test (nat_le r.last 16) refl all (λ more. none_after rs place more later)
+pub none_after : (rs : List Interval) {place : ℕ} → list_all (λ r. nat_le r.last 16) rs ≡ true → 16 < place → is_selected rs place ≡ false
+none_after [] all later = refl
+none_after (r ∷ rs) {place} all later = by_test (nat_le r.last 16) refl all (λ more. none_after rs more later)
   where
     by_test : (t : Bool) → nat_le r.last 16 ≡ t → (t && list_all (λ x. nat_le x.last 16) rs) ≡ true
         → (list_all (λ x. nat_le x.last 16) rs ≡ true → is_selected rs place ≡ false) → is_selected (r ∷ rs) place ≡ false
-    by_test true low more next = rw (above r place (last_low r place low later)) (next more)
+    by_test true low more next = rw (above r _ (last_low r low later)) (next more)
     by_test false low more next = absurd (false≢true more)
 
 -- the selected bytes of a line that is whole, and the byte that ends it
-pub line_put : (list : List Interval) (before count end : ℕ) (bytes was into : List ℕ) → before ≡ 0 → count < length bytes → end < length into
+pub line_put : (list : List Interval) {before count : ℕ} (end : ℕ) (bytes was into : List ℕ) → before ≡ 0 → count < length bytes → end < length into
     → take end into ≡ was ++ chosen_from (is_selected list) 1 (take count bytes) → take (end + 1) (set into end (get_or bytes count 0)) ≡ was ++ chosen_piece list before count (take (count + 1) bytes)
-line_put list before count end bytes was into none within room put =
+line_put list {count} end bytes was into none within room put =
     let x = get_or bytes count 0 in
     let selected = is_selected list in
     let front = take count bytes in

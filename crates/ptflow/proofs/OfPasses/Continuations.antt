@@ -10,9 +10,9 @@ on_err (Ok u) p = tt
 on_err (Err e) p = p
 
 -- a write failed in front of these items
-pub halts_before : {X Y : Type 0} (rest_from : X → List Y → List ℕ) (now : X) (items : List Y) (was is : Output) → Wrote was is [] → is.faulted ≡ true
+pub halts_before : {X Y : Type 0} (rest_from : X → List Y → List ℕ) (now : X) (items : List Y) {was is : Output} → Wrote was is [] → is.faulted ≡ true
     → Halts rest_from now items was is
-halts_before rest_from now items was is wrote fault = record { pushed = []; wrote = wrote; fault = fault; true_so_far = λ rest. record { rest = rest_from now (items ++ rest); is = refl } }
+halts_before rest_from now items {is} wrote fault = record { pushed = []; wrote = wrote; fault = fault; true_so_far = λ rest. record { rest = rest_from now (items ++ rest); is = refl } }
 
 -- amid some items, of which the rest is still to come
 pub record Amid {X Y : Type 0} (rest_from : X → List Y → List ℕ) (start now : X) (items rest : List Y) (was is : Output) : Type 0 where
@@ -36,13 +36,13 @@ module _ {X Y : Type 0} (rest_from : X → List Y → List ℕ) (start : X) wher
     all_on more = a.on more ∙ ap (λ (l : List ℕ). a.pushed ++ l) (on more) ∙ sym (append_assoc a.pushed bytes (rest_from next (rest' ++ more)))
 
     pub amid_more : is'.faulted ≡ false → Amid rest_from start next items rest' was is'
-    amid_more clean = record { pushed = a.pushed ++ bytes; wrote = wrote_trans was is is' a.pushed bytes a.clean a.wrote wrote; clean = clean; on = all_on }
+    amid_more clean = record { pushed = a.pushed ++ bytes; wrote = wrote_trans _ _ _ _ _ a.clean a.wrote wrote; clean = clean; on = all_on }
 
     -- a write failed
     pub amid_halts : is'.faulted ≡ true → Halts rest_from start items was is'
     amid_halts fault = record {
       pushed = a.pushed ++ bytes;
-      wrote = wrote_trans was is is' a.pushed bytes a.clean a.wrote wrote;
+      wrote = wrote_trans _ _ _ _ _ a.clean a.wrote wrote;
       fault = fault;
       true_so_far = λ more. record { rest = rest_from next (rest' ++ more); is = all_on more };
     }

@@ -18,17 +18,17 @@ pub record Parts (end : ℕ) (bytes : List ℕ) : Type 0 where
   pub line : IsLine end piece
 
 -- one byte more in front
-parts_step : (end b : ℕ) (bytes piece : List ℕ) (t : Bool) (ls : List (List ℕ)) → (b == end) ≡ t → bytes ≡ text end ls ++ piece → AreLines end ls → IsLine end piece
+parts_step : (end b : ℕ) {bytes : List ℕ} (piece : List ℕ) (t : Bool) (ls : List (List ℕ)) → (b == end) ≡ t → bytes ≡ text end ls ++ piece → AreLines end ls → IsLine end piece
     → (rest : List ℕ) × (b ∷ bytes ≡ text end (cond t ([] ∷ ls) (onto_line b ls)) ++ rest) × AreLines end (cond t ([] ∷ ls) (onto_line b ls)) × IsLine end rest
-parts_step end b bytes piece true ls same is whole line = (piece, (λ i. eqb-true b end same i ∷ is i), (tt, whole), line)
-parts_step end b bytes piece false [] other is whole line = (b ∷ piece, ap (λ (l : List ℕ). b ∷ l) is, tt, (eqb-false b end other, line))
-parts_step end b bytes piece false (l ∷ ls) other is whole line = (piece, ap (λ (l : List ℕ). b ∷ l) is, ((eqb-false b end other, whole.0), whole.1), line)
+parts_step end b piece true ls same is whole line = (piece, (λ i. eqb-true b end same i ∷ is i), (tt, whole), line)
+parts_step end b piece false [] other is whole line = (b ∷ piece, ap (λ (l : List ℕ). b ∷ l) is, tt, (eqb-false b end other, line))
+parts_step end b piece false (l ∷ ls) other is whole line = (piece, ap (λ (l : List ℕ). b ∷ l) is, ((eqb-false b end other, whole.0), whole.1), line)
 
 pub parts_of : (end : ℕ) (bytes : List ℕ) → Parts end bytes
 parts_of end [] = record { piece = []; is = refl; whole = tt; line = tt }
 parts_of end (b ∷ bytes) =
     let p = parts_of end bytes in
-    let q = parts_step end b bytes p.piece (b == end) (ended_lines end bytes) refl p.is p.whole p.line in
+    let q = parts_step end b p.piece (b == end) (ended_lines end bytes) refl p.is p.whole p.line in
     record { piece = q.0; is = q.1; whole = q.2; line = q.3 }
 
 -- the whole lines stand in front of what comes next
@@ -89,17 +89,13 @@ pub record Taken (end : ℕ) (block rest : List ℕ) : Type 0 where
   pub texts : text end (ended_lines end block) ≡ front ++ text end (ended_lines end rest)
 
 module _ (end : ℕ) where
-  pub taken_nothing : (block : List ℕ) → Taken end block block
-  taken_nothing block = record { front = []; split = refl; texts = refl }
-
-  module _ (rest : List ℕ) (at : ℕ) (first : IsFirstByte (is_byte end) rest (Some at)) where
-    pub ended_next : ended_lines end rest ≡ take at rest ∷ ended_lines end (drop (at + 1) rest)
-    ended_next = ap (ended_lines end) (split_of end rest at first) ∙ ended_first end (take at rest) (drop (at + 1) rest) (before_end end rest at first)
+  pub ended_next : (rest : List ℕ) (at : ℕ) → IsFirstByte (is_byte end) rest (Some at) → ended_lines end rest ≡ take at rest ∷ ended_lines end (drop (at + 1) rest)
+  ended_next rest at first = ap (ended_lines end) (split_of end rest at first) ∙ ended_first end (take at rest) (drop (at + 1) rest) (before_end end rest at first)
 
   -- these lines in front were taken too
-  pub taken_more : (block rest : List ℕ) (size : ℕ) → text end (ended_lines end rest) ≡ take size rest ++ text end (ended_lines end (drop size rest))
+  pub taken_more : {block rest : List ℕ} (size : ℕ) → text end (ended_lines end rest) ≡ take size rest ++ text end (ended_lines end (drop size rest))
       → Taken end block rest → Taken end block (drop size rest)
-  taken_more block rest size texts t =
+  taken_more {rest} size texts t =
       let front = take size rest in record {
         front = t.front ++ front;
         split = t.split ∙ ap (λ (l : List ℕ). t.front ++ l) (sym (take-append-drop size rest)) ∙ sym (append_assoc t.front front (drop size rest));
@@ -107,8 +103,8 @@ module _ (end : ℕ) where
       }
 
   -- no line more
-  pub taken_all : (block rest : List ℕ) → IsLine end rest → Taken end block rest → take (length block - length rest) block ≡ text end (ended_lines end block)
-  taken_all block rest none t =
+  pub taken_all : {block rest : List ℕ} → IsLine end rest → Taken end block rest → take (length block - length rest) block ≡ text end (ended_lines end block)
+  taken_all {block} {rest} none t =
       let size : length block - length rest ≡ length t.front = omega (arith, ap length t.split, length-append t.front rest) in
       (λ i. take (size i) (t.split i)) ∙ take_at t.front rest (length t.front) refl
       ∙ sym (t.texts ∙ ap (λ (l : List (List ℕ)). t.front ++ text end l) (ended_none end rest none) ∙ append-nil t.front)

@@ -41,7 +41,7 @@ pub record LineRun {S X E : Type 0} (state : S → Slots → X) (rest_from : X �
 -- what `fill` says where a line came, of the slot before this many
 pub came_line : {slots width : ℕ} {came : Bool} {old new : Reader} {before after : Slots} → slots ≡ width → came ≡ true → Fills old new before after (slots - 1) (Ok came)
     → GivesLine old new before after (width - 1)
-came_line {slots} {width} {came} {old} {new} {before} {after} same is fills =
+came_line {slots} {old} {new} {before} {after} same is fills =
     subst (λ (n : ℕ). GivesLine old new before after (n - 1)) same (subst (λ (b : Bool). Fills old new before after (slots - 1) (Ok b)) is fills)
 
 module _ {S X E : Type 0} {tool : Tool} {state : S → Slots → X} {rest_from : X → List (List ℕ) → List E} {written : List E → List ℕ} {counted : X → ℕ} {end width : ℕ} {start : S}
@@ -80,19 +80,19 @@ module _ {S X E : Type 0} {tool : Tool} {state : S → Slots → X} {rest_from :
         → IsPass tool old old was was before store (Err Memory)
     run_unslotted {store} ends ready sound clean adds same denied =
         let nothing : Given = record { bytes = []; ended = false } in
-        pass_unslotted tool old was before store ready sound clean (subst (λ (n : ℕ). Adds before store n) (sym t.slots) adds) same denied (omega (arith, t.slots, t.some)) (ends ∙ sym t.ends)
+        pass_unslotted tool was ready sound clean (subst (λ (n : ℕ). Adds before store n) (sym t.slots) adds) same denied (omega (arith, t.slots, t.some)) (ends ∙ sym t.ends)
         (subst (λ (b : List ℕ). Begins (tool.decided nothing) b) none_written (t.decided store nothing [] (state start store) (λ more. refl)))
 
     module _ {now : X} {reader : Reader} {is : Output} {store : Slots} (r : Run old reader was is before store now) where
       -- what was staged was sent
       pub run_sent : {is' : Output} → Wrote is is' [] → is'.faulted ≡ false → Run old reader was is' before store now
-      run_sent {is'} wrote clean = record {
+      run_sent wrote clean = record {
         given = r.given;
         ls = r.ls;
         passed = r.passed;
         ending = r.ending;
         came = r.came;
-        reached = reached_sent old reader was is is' r.given (written r.passed) r.reached wrote clean;
+        reached = reached_sent r.reached wrote clean;
         first = r.first;
         on = r.on;
         count = r.count;
@@ -104,21 +104,21 @@ module _ {S X E : Type 0} {tool : Tool} {state : S → Slots → X} {rest_from :
 
       -- all that came is counted
       pub run_count : IsSound old → IsSound reader → counted now ≤ 2 ^ 63
-      run_count sound is_sound = omega (arith, r.count, lines_few end reader r.given r.ls r.came, r.reached.goes.reads.count, sound.count, is_sound.long r.reached.goes.fault, is_sound.count)
+      run_count sound is_sound = omega (arith, r.count, lines_few _ _ _ _ r.came, r.reached.goes.reads.count, sound.count, is_sound.long r.reached.goes.fault, is_sound.count)
 
       -- some lines more came
-      run_more : {new : Reader} (bytes : List ℕ) (ls : List (List ℕ)) → Goes reader new bytes → LinesCame end new (r.given ++ bytes) (r.ls ++ ls)
+      run_more : {new : Reader} {bytes : List ℕ} (ls : List (List ℕ)) → Goes reader new bytes → LinesCame end new (r.given ++ bytes) (r.ls ++ ls)
           → {after : Slots} → Keeps width (max (longest r.ls) (longest ls)) before after
           → {next : X} {is' : Output} → On now next ls is is' → Run old new was is' before after next
-      run_more {new} bytes ls goes came {after} keeps {next} {is'} c = record {
+      run_more {bytes} ls goes came keeps {next} {is'} c = record {
         given = r.given ++ bytes;
         ls = r.ls ++ ls;
         passed = r.passed ++ c.passed;
         ending = r.ending;
         came = came;
         reached = record {
-          goes = goes_trans old reader new r.given bytes r.reached.goes goes;
-          wrote = subst (λ (b : List ℕ). Wrote was is' b) (sym (t.apart r.passed c.passed)) (wrote_trans was is is' (written r.passed) (written c.passed) r.reached.clean r.reached.wrote c.wrote);
+          goes = goes_trans _ _ _ _ _ r.reached.goes goes;
+          wrote = subst (λ (b : List ℕ). Wrote was is' b) (sym (t.apart r.passed c.passed)) (wrote_trans _ _ _ _ _ r.reached.clean r.reached.wrote c.wrote);
           clean = c.clean;
         };
         first = r.first;
@@ -126,19 +126,19 @@ module _ {S X E : Type 0} {tool : Tool} {state : S → Slots → X} {rest_from :
             ap (rest_from (state start r.first)) (append_assoc r.ls ls more) ∙ r.on (ls ++ more) ∙ ap (λ (l : List E). r.passed ++ l) (c.on more)
             ∙ sym (append_assoc r.passed c.passed (rest_from next more));
         count = omega (arith, r.count, c.count, length-append r.ls ls);
-        keeps = keeps_more width (max (longest r.ls) (longest ls)) (longest (r.ls ++ ls)) before after keeps (omega (arith, longest-append r.ls ls));
+        keeps = keeps_more (longest (r.ls ++ ls)) keeps (omega (arith, longest-append r.ls ls));
       }
 
       -- the lines of a block came, and were consumed
       pub run_block : {ending : ℕ} → ending ≡ old.ending → {shown new : Reader} {block : List ℕ} {count : ℕ} → Goes reader shown [] → shown.held ≡ block
           → PassesLines ending block count → new ≡ record shown { held = drop count shown.held }
           → {next : X} {is' : Output} → On now next (ended_lines ending block) is is' → Run old new was is' before store next
-      run_block {ending} ends {shown} {new} {block} {count} goes held passed consumed {next} {is'} c =
+      run_block ends {new} {block} goes held passed consumed {next} {is'} c =
           let ls = ended_lines end block in
           let same = ends ∙ r.ending in
-          let front = subst (λ (b : List ℕ). Goes reader new b) (passed.1 ∙ ap (λ (b : ℕ). text b (ended_lines b block)) same) (goes_past reader shown new block count goes held passed.0 consumed) in
-          run_more (text end ls) ls front (lines_block end reader r.given r.ls r.came new ls front (parts_of end block).whole)
-          (keeps_more width (longest r.ls) (max (longest r.ls) (longest ls)) before store r.keeps (omega arith)) (subst (λ (b : ℕ). On now next (ended_lines b block) is is') same c)
+          let front = subst (λ (b : List ℕ). Goes reader new b) (passed.1 ∙ ap (λ (b : ℕ). text b (ended_lines b block)) same) (goes_past _ goes held passed.0 consumed) in
+          run_more ls front (lines_block r.came ls front (parts_of end block).whole)
+          (keeps_more (max (longest r.ls) (longest ls)) r.keeps (omega arith)) (subst (λ (b : ℕ). On now next (ended_lines b block) is is') same c)
 
       -- ---- how it ends
 
@@ -151,7 +151,7 @@ module _ {S X E : Type 0} {tool : Tool} {state : S → Slots → X} {rest_from :
         pushed = written r.passed;
         reached = r.reached;
         on = λ rest may.
-            ap (λ (l : List (List ℕ)). written (rest_from (state start r.first) l)) (lines_on end reader r.given r.ls r.came rest may) ∙ ap written (r.on (lines end rest))
+            ap (λ (l : List (List ℕ)). written (rest_from (state start r.first) l)) (lines_on _ _ _ _ r.came rest may) ∙ ap written (r.on (lines end rest))
             ∙ t.apart r.passed (rest_from now (lines end rest));
       }
 
@@ -160,14 +160,14 @@ module _ {S X E : Type 0} {tool : Tool} {state : S → Slots → X} {rest_from :
       decided_so given are = t.decided r.first given r.passed now (λ more. ap (λ (l : List (List ℕ)). rest_from (state start r.first) (l ++ more)) are ∙ r.on more)
 
       -- and behind them no more than a line and a block came
-      works_line : (new : Reader) (piece : List ℕ) → Reads reader new piece → (line behind : List ℕ) → piece ++ new.held ≡ line ++ behind → IsLine end line
+      works_line : {new : Reader} {piece : List ℕ} → Reads reader new piece → (line behind : List ℕ) → piece ++ new.held ≡ line ++ behind → IsLine end line
           → length behind ≤ 8193 → Works tool (given_of (r.given ++ piece) new) (written r.passed)
-      works_line new piece reads line behind is_line whole short =
-          let e = before_line end reader new r.given r.ls r.came piece reads line behind is_line whole short in
+      works_line reads line behind is_line whole short =
+          let e = before_line r.came reads line behind is_line whole short in
           record { before = λ u. e.before; begins = decided_so e.before.earlier e.whole }
 
-      works_piece : (new : Reader) (piece : List ℕ) → Reads reader new piece → IsLine end piece → IsSound new → Works tool (given_of (r.given ++ piece) new) (written r.passed)
-      works_piece new piece reads free is_sound = works_line new piece reads piece new.held refl free (omega (arith, is_sound.held))
+      works_piece : {new : Reader} {piece : List ℕ} → Reads reader new piece → IsLine end piece → IsSound new → Works tool (given_of (r.given ++ piece) new) (written r.passed)
+      works_piece {new} {piece} reads free is_sound = works_line reads piece new.held refl free (omega (arith, is_sound.held))
 
       -- the slots hold no more than the longest line of each input that agrees
       stored : (after : Slots) (most : ℕ) (given : Given) → after.peak ≤ max before.peak (width * most) → Adds before after width → width ≤ length after.lines
@@ -179,59 +179,56 @@ module _ {S X E : Type 0} {tool : Tool} {state : S → Slots → X} {rest_from :
         unused = λ none. absurd (omega (arith, none, t.slots, t.some));
       }
 
-      kept : (after : Slots) (most : ℕ) (given : Given) → Keeps width most before after → ((input : List ℕ) → Agrees given input → most ≤ longest_line end input) → Stored tool before after given
-      kept after most given k = stored after most given k.peak k.adds (omega (arith, k.adds.all k.denied))
+      kept : {after : Slots} {most : ℕ} (given : Given) → Keeps width most before after → ((input : List ℕ) → Agrees given input → most ≤ longest_line end input) → Stored tool before after given
+      kept {most} given k = stored _ most given k.peak k.adds (omega (arith, k.adds.all k.denied))
 
-      keeps_last : (after : Slots) (bytes : List ℕ) → after ≡ with_line store (width - 1) bytes → Keeps width (max (longest r.ls) (length bytes)) before after
-      keeps_last after bytes told =
+      keeps_last : {after : Slots} (bytes : List ℕ) → after ≡ with_line store (width - 1) bytes → Keeps width (max (longest r.ls) (length bytes)) before after
+      keeps_last bytes told =
           let most = max (longest r.ls) (length bytes) in
-          keeps_line width most before store after (width - 1) bytes (keeps_more width (longest r.ls) most before store r.keeps (omega arith)) (omega (arith, t.some)) (omega arith) told
+          keeps_line _ (width - 1) bytes (keeps_more most r.keeps (omega arith)) (omega (arith, t.some)) (omega arith) told
 
       module _ (ready : IsReady old before) (sound : IsSound reader) where
         -- a beginning of a line came
         module _ {new : Reader} {piece : List ℕ} (reads : Reads reader new piece) (free : IsLine end piece) (is_sound : IsSound new) where
           short_piece : (input : List ℕ) → Agrees (given_of (r.given ++ piece) new) input → max (longest r.ls) (length piece) ≤ longest_line end input
-          short_piece = piece_longest end reader r.given r.ls r.came new piece reads free
+          short_piece = piece_longest _ _ _ _ r.came _ _ reads free
 
           -- and a read failed
           pub run_read : {after : Slots} → Keeps width (max (longest r.ls) (length piece)) before after → HasReadCause reader new → IsPass tool old new was is before after (Err (Read 0))
           unfolding midway
-          run_read {after} k cause =
-              pass_read bytes_from (state start r.first) tool (t.text r.first) now old reader new was is before after midway ready sound piece reads
-              (kept after (max (longest r.ls) (length piece)) (given_of (r.given ++ piece) new) k short_piece) (works_piece new piece reads free is_sound) cause k.denied
-              (λ empty going. decided_so (given_of (r.given ++ piece) new) (whole_before end reader r.given r.ls r.came new piece reads free empty going))
+          run_read k cause =
+              pass_read (t.text r.first) midway ready sound reads
+              (kept (given_of (r.given ++ piece) new) k short_piece) (works_piece reads free is_sound) cause k.denied
+              (λ empty going. decided_so (given_of (r.given ++ piece) new) (whole_before _ _ _ _ r.came _ _ reads free empty going))
 
           pub run_broken : {after : Slots} → after ≡ with_line store (width - 1) piece → HasReadCause reader new → IsPass tool old new was is before after (Err (Read 0))
-          run_broken {after} told = run_read (keeps_last after piece told)
+          run_broken told = run_read (keeps_last piece told)
 
           -- and a growth was refused
           pub run_memory : {after : Slots} → after ≡ with_denied (with_line store (width - 1) piece) → new.failed ≡ reader.failed → IsPass tool old new was is before after (Err Memory)
           unfolding midway
           run_memory {after} told same =
-              let k = keeps_last (with_line store (width - 1) piece) piece refl in
+              let k = keeps_last piece refl in
               let denied : after.denied ≡ true = ap (λ (s : Slots). s.denied) told in
               let size : length after.lines ≡ length (with_line store (width - 1) piece).lines = ap (λ (s : Slots). length s.lines) told in
-              pass_memory bytes_from (state start r.first) tool (t.text r.first) now old reader new was is before after midway ready sound piece reads
+              pass_memory (t.text r.first) midway ready sound reads
               (stored after (max (longest r.ls) (length piece)) (given_of (r.given ++ piece) new) (omega (arith, k.peak, ap (λ (s : Slots). s.peak) told))
               (record { least = omega (arith, size, k.adds.least); most = omega (arith, size, k.adds.most); all = λ allowed. absurd (false≢true (sym allowed ∙ denied)) })
-              (omega (arith, size, k.adds.all k.denied)) short_piece)
-              (works_piece new piece reads free is_sound) same denied
+              (omega (arith, size, k.adds.all k.denied)) short_piece) (works_piece reads free is_sound) same denied
 
         -- a block could not be read
         pub run_no_block : {new : Reader} → Reads reader new [] → IsSound new → HasReadCause reader new → IsPass tool old new was is before store (Err (Read 0))
-        run_no_block reads is_sound = run_read reads tt is_sound (keeps_more width (longest r.ls) (max (longest r.ls) 0) before store r.keeps (omega arith))
+        run_no_block reads is_sound = run_read reads tt is_sound (keeps_more (max (longest r.ls) 0) r.keeps (omega arith))
 
         -- a write failed amid some lines, which stand in front of what comes next
-        halts : {new : Reader} (piece : List ℕ) → Reads reader new piece → {after : Slots} → Stored tool before after (given_of (r.given ++ piece) new)
+        halts : {new : Reader} {piece : List ℕ} → Reads reader new piece → {after : Slots} → Stored tool before after (given_of (r.given ++ piece) new)
             → Works tool (given_of (r.given ++ piece) new) (written r.passed) → new.failed ≡ reader.failed → after.denied ≡ false
             → {ls : List (List ℕ)} {is' : Output} → Halt now ls is is'
             → ((rest : List ℕ) → (new.ended ≡ true → rest ≡ []) → (more : List (List ℕ)) × (lines end (piece ++ (new.held ++ rest)) ≡ ls ++ more))
             → IsPass tool old new was is' before after (Err Write)
         unfolding midway
-        halts {new} piece reads {after} s works same roomy {ls} {is'} h front =
-            pass_write bytes_from (state start r.first) tool (t.text r.first) now old reader new was is before after midway ready sound piece reads
-            s works is' (written h.passed) h.wrote h.fault same roomy
-            (λ rest may.
+        halts reads s works same roomy h front =
+            pass_write (t.text r.first) midway ready sound reads s works h.wrote h.fault same roomy (λ rest may.
             let f = front rest may in
             let on = h.true_so_far f.0 in record {
               rest = written on.0;
@@ -241,10 +238,10 @@ module _ {S X E : Type 0} {tool : Tool} {state : S → Slots → X} {rest_from :
         -- the lines of a block
         pub run_block_halts : {ending : ℕ} → ending ≡ old.ending → {shown : Reader} {block : List ℕ} → IsSound shown → Goes reader shown [] → shown.held ≡ block
             → {is' : Output} → Halt now (ended_lines ending block) is is' → IsPass tool old shown was is' before store (Err Write)
-        run_block_halts {ending} ends {shown} {block} is_sound goes held {is'} h =
-            halts [] goes.reads (kept store (max (longest r.ls) 0) (given_of (r.given ++ []) shown) (keeps_more width (longest r.ls) (max (longest r.ls) 0) before store r.keeps (omega arith))
+        run_block_halts ends {shown} {block} is_sound goes held {is'} h =
+            halts goes.reads (kept (given_of (r.given ++ []) shown) (keeps_more (max (longest r.ls) 0) r.keeps (omega arith))
             (short_piece goes.reads tt is_sound))
-            (works_piece shown [] goes.reads tt is_sound) goes.failed r.keeps.denied (subst (λ (b : ℕ). Halt now (ended_lines b block) is is') (ends ∙ r.ending) h)
+            (works_piece goes.reads tt is_sound) goes.failed r.keeps.denied (subst (λ (b : ℕ). Halt now (ended_lines b block) is is') (ends ∙ r.ending) h)
             (λ rest may. (lines end ((parts_of end block).piece ++ rest), ap (λ (l : List ℕ). lines end (l ++ rest)) held ∙ ended_front end block rest))
 
         -- what was staged could not be sent
@@ -278,8 +275,8 @@ module _ {S X E : Type 0} {tool : Tool} {state : S → Slots → X} {rest_from :
             → Run old new was is' before after' next
         run_line {next} {is'} {after'} c swapped =
             let most = max (longest r.ls) (longest (e.line ∷ [])) in
-            run_more r (e.line ++ e.ending) (e.line ∷ []) e.goes (lines_more end reader r.given r.ls r.came new store after (width - 1) e (r.reached.goes.reads.ending ∙ r.ending))
-            (keeps_swapped width most before after after' t.some (keeps_more width (max (longest r.ls) (length e.line)) most before after (keeps_last r after e.line e.stored) (omega arith)) swapped)
+            run_more r (e.line ∷ []) e.goes (lines_more _ _ _ _ r.came _ _ _ _ e (r.reached.goes.reads.ending ∙ r.ending))
+            (keeps_swapped after' t.some (keeps_more most (keeps_last r e.line e.stored) (omega arith)) swapped)
             (subst (λ (x : X). On x next (e.line ∷ []) is is') (same_state e.line e.stored) (subst (λ (l : List ℕ). On (state now after) next (l ∷ []) is is') (filled e.line e.stored) c))
 
         -- a write failed
@@ -288,16 +285,16 @@ module _ {S X E : Type 0} {tool : Tool} {state : S → Slots → X} {rest_from :
         run_line_halts ready sound is_sound {is'} h =
             let came = e.line ++ e.ending in
             let ends = r.reached.goes.reads.ending ∙ r.ending in
-            let more = lines_more end reader r.given r.ls r.came new store after (width - 1) e ends in
-            let k = keeps_last r after e.line e.stored in
-            halts r ready sound came e.goes.reads (kept r after (longest (r.ls ++ e.line ∷ [])) (given_of (r.given ++ came) new)
-            (keeps_more width (max (longest r.ls) (length e.line)) (longest (r.ls ++ e.line ∷ [])) before after k (omega (arith, longest-append r.ls (e.line ∷ []))))
-            (came_longest end new (r.given ++ came) (r.ls ++ e.line ∷ []) more))
-            (works_line r new came e.goes.reads e.line (e.ending ++ new.held) (append_assoc e.line e.ending new.held) (subst (λ (b : ℕ). IsLine b e.line) ends e.whole)
-            (behind_line reader new store after (width - 1) e is_sound)) e.goes.failed k.denied
+            let more = lines_more _ _ _ _ r.came _ _ _ _ e ends in
+            let k = keeps_last r e.line e.stored in
+            halts r ready sound e.goes.reads (kept r (given_of (r.given ++ came) new)
+            (keeps_more (longest (r.ls ++ e.line ∷ [])) k (omega (arith, longest-append r.ls (e.line ∷ []))))
+            (came_longest _ _ _ _ more))
+            (works_line r e.goes.reads e.line (e.ending ++ new.held) (append_assoc e.line e.ending new.held) (subst (λ (b : ℕ). IsLine b e.line) ends e.whole)
+            (behind_line e is_sound)) e.goes.failed k.denied
             (subst (λ (x : X). Halt x (e.line ∷ []) is is') (same_state e.line e.stored) (subst (λ (l : List ℕ). Halt (state now after) (l ∷ []) is is') (filled e.line e.stored) h))
             (λ rest may.
-            (lines end (new.held ++ rest), line_front end reader r.given r.ls r.came new store after (width - 1) e ends (new.held ++ rest) (λ done. λ i. done.held i ++ may done.ended i)))
+            (lines end (new.held ++ rest), line_front _ _ _ _ r.came _ _ _ _ e ends (new.held ++ rest) (λ done. λ i. done.held i ++ may done.ended i)))
 
       -- the end was said
       module _ (ready : IsReady old before) (sound : IsSound reader) {new : Reader} (is_sound : IsSound new) (goes : Goes reader new []) (done : IsDone new)
@@ -307,20 +304,19 @@ module _ {S X E : Type 0} {tool : Tool} {state : S → Slots → X} {rest_from :
         last = subst (λ (x : X). Wrote is is' (written (rest_from x []))) (same_state [] told) wrote
 
         k : Keeps width (max (longest r.ls) 0) before after
-        k = keeps_last r after [] told
+        k = keeps_last r [] told
 
         pub run_done : {after' : Slots} → Empties (width - 1) after after' → is'.faulted ≡ false → IsPass tool old new was is' before after' (Ok tt)
         unfolding midway
-        run_done {after'} empties clean =
-            let end = emptied width (max (longest r.ls) 0) before after after' k t.some (filled [] told) empties in
-            pass_done (bytes_from r) (state start r.first) tool (t.text r.first) (state now store) old reader new was is before after' (midway r) ready sound [] goes.reads
-            (kept r after' (max (longest r.ls) 0) (given_of (r.given ++ []) new) end.0 (short_piece r ready sound goes.reads tt is_sound)) (works_piece r new [] goes.reads tt is_sound)
-            is' last done refl goes.failed end.0.denied clean goes.fault
-            (goes.short (sound.long r.reached.goes.fault)) end.1
+        run_done empties clean =
+            let end = emptied k t.some (filled [] told) empties in
+            pass_done (t.text r.first) (midway r) ready sound goes.reads
+            (kept r (given_of (r.given ++ []) new) end.0 (short_piece r ready sound goes.reads tt is_sound)) (works_piece r goes.reads tt is_sound)
+            last done refl goes.failed end.0.denied clean goes.fault (goes.short (sound.long r.reached.goes.fault)) end.1
 
         pub run_unended : is'.faulted ≡ true → IsPass tool old new was is' before after (Err Write)
         unfolding midway
         run_unended fault =
-            pass_unended (bytes_from r) (state start r.first) tool (t.text r.first) (state now store) old reader new was is before after (midway r) ready sound [] goes.reads
-            (kept r after (max (longest r.ls) 0) (given_of (r.given ++ []) new) k (short_piece r ready sound goes.reads tt is_sound)) (works_piece r new [] goes.reads tt is_sound)
-            is' last done refl goes.failed k.denied fault
+            pass_unended (t.text r.first) (midway r) ready sound goes.reads
+            (kept r (given_of (r.given ++ []) new) k (short_piece r ready sound goes.reads tt is_sound)) (works_piece r goes.reads tt is_sound)
+            last done refl goes.failed k.denied fault

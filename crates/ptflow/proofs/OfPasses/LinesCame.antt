@@ -70,7 +70,7 @@ module _ (end : ℕ) (now : Reader) (given : List ℕ) (ls : List (List ℕ)) (k
 
         closed : (lines end given ≡ ls) × IsDone now → max (longest ls) (length piece) ≤ longest_line end input
         closed c =
-            let none = done_gives_nothing now new piece c.1 reads in
+            let none = done_gives_nothing _ _ _ c.1 reads in
             let all : input ≡ given = a.is ∙ (λ i. ((given ++ none.0 i) ++ none.1 i) ++ a.whole none.2 i) ∙ append-nil ((given ++ []) ++ []) ∙ append-nil (given ++ []) ∙ append-nil given in
             omega (arith, ap length none.0, ap longest (ap (lines end) all ∙ c.0))
 
@@ -79,8 +79,7 @@ module _ (end : ℕ) (now : Reader) (given : List ℕ) (ls : List (List ℕ)) (k
     whole_before empty going =
         ⊎_elim
         (λ o. (λ i. whole_lines end (record { bytes = (o.0 i ++ piece) ++ empty i; ended = going i })) ∙ ap (ended_lines end) (append-nil (text end ls ++ piece)) ∙ ended_of_text end ls piece o.1 free)
-        (λ c. absurd (false≢true (sym going ∙ (done_gives_nothing now new piece c.1 reads).2)))
-        k.so_far
+        (λ c. absurd (false≢true (sym going ∙ (done_gives_nothing _ _ _ c.1 reads).2))) k.so_far
 
   -- a line came
   module _ (new : Reader) (before after : Slots) (slot : ℕ) (e : GivesLine now new before after slot) (same : now.ending ≡ end) where
@@ -119,21 +118,21 @@ module _ (end : ℕ) (now : Reader) (given : List ℕ) (ls : List (List ℕ)) (k
 
         closed : (lines end given ≡ ls) × IsDone now
             → ((given ++ (e.line ++ e.ending) ≡ text end (ls ++ e.line ∷ [])) × AreLines end (ls ++ e.line ∷ [])) ⊎ ((lines end (given ++ (e.line ++ e.ending)) ≡ ls ++ e.line ∷ []) × IsDone new)
-        closed c = let none = (done_gives_nothing now new (e.line ++ e.ending) c.1 e.goes.reads).0 in absurd (omega (arith, some_came, ap length none))
+        closed c = let none = (done_gives_nothing _ _ _ c.1 e.goes.reads).0 in absurd (omega (arith, some_came, ap length none))
 
 are_append : (end : ℕ) (xs ys : List (List ℕ)) → AreLines end xs → AreLines end ys → AreLines end (xs ++ ys)
 are_append end [] ys a b = b
 are_append end (x ∷ xs) ys a b = (a.0, are_append end xs ys a.1 b)
 
 -- some whole lines came behind those that came
-pub lines_block : (end : ℕ) (reader : Reader) (given : List ℕ) (ls : List (List ℕ)) → LinesCame end reader given ls → (new : Reader) (more : List (List ℕ))
+pub lines_block : {end : ℕ} {reader : Reader} {given : List ℕ} {ls : List (List ℕ)} → LinesCame end reader given ls → {new : Reader} (more : List (List ℕ))
     → Goes reader new (text end more) → AreLines end more → LinesCame end new (given ++ text end more) (ls ++ more)
-lines_block end reader given ls k new more goes are = record {
+lines_block {end} {ls} k more goes are = record {
   so_far = ⊎_elim
       (λ o. inl (ap (λ (l : List ℕ). l ++ text end more) o.0 ∙ sym (text-append end ls more), are_append end ls more o.1 are))
       (λ c. inr (
-        lines_on end reader given ls k (text end more) (λ done. (done_gives_nothing reader new (text end more) done goes.reads).0) ∙ ap (λ (l : List (List ℕ)). ls ++ l) (lines-text end more are),
-        stays_done reader new (text end more) c.1 goes.reads,
+        lines_on _ _ _ _ k (text end more) (λ done. (done_gives_nothing _ _ _ done goes.reads).0) ∙ ap (λ (l : List (List ℕ)). ls ++ l) (lines-text end more are),
+        stays_done _ _ _ c.1 goes.reads,
       )) k.so_far;
 }
 
@@ -150,13 +149,13 @@ line_take end (suc n) [] are = tt
 line_take end (suc n) (b ∷ bytes) are = (are.0, line_take end n bytes are.1)
 
 -- behind a line stand its end and what is held
-pub behind_line : (now new : Reader) (before after : Slots) (slot : ℕ) (e : GivesLine now new before after slot) → IsSound new → length (e.ending ++ new.held) ≤ 8193
-behind_line now new before after slot e sound = elim e.ends [
+pub behind_line : {now new : Reader} {before after : Slots} {slot : ℕ} (e : GivesLine now new before after slot) → IsSound new → length (e.ending ++ new.held) ≤ 8193
+behind_line {new} e sound = elim e.ends [
   | inl ends ↦ omega (arith, sound.held, ap length ends, length-append e.ending new.held)
   | inr last ↦ omega (arith, sound.held, ap length last.0, length-append e.ending new.held)
 ]
 
-module _ (end : ℕ) (now new : Reader) (given : List ℕ) (ls : List (List ℕ)) (k : LinesCame end now given ls) (piece : List ℕ) (reads : Reads now new piece) (line behind : List ℕ)
+module _ {end : ℕ} {now new : Reader} {given : List ℕ} {ls : List (List ℕ)} (k : LinesCame end now given ls) {piece : List ℕ} (reads : Reads now new piece) (line behind : List ℕ)
     (is : piece ++ new.held ≡ line ++ behind) (whole : IsLine end line) (short : length behind ≤ 8193) where
   -- all but the end of a line that came, and what stands behind it
   pub before_line : Earlier end ls (given_of (given ++ piece) new)
@@ -177,7 +176,7 @@ module _ (end : ℕ) (now new : Reader) (given : List ℕ) (ls : List (List ℕ)
       }
 
       closed : (lines end given ≡ ls) × IsDone now → Earlier end ls (given_of (given ++ piece) new)
-      closed c = let none = done_gives_nothing now new piece c.1 reads in record {
+      closed c = let none = done_gives_nothing _ _ _ c.1 reads in record {
         before = record {
           earlier = record { bytes = given; ended = true };
           last = [];

@@ -33,8 +33,8 @@ front_total (suc width) most (l ∷ ls) short =
 pub kept_total : (width most : ℕ) (ls : List (List ℕ)) → ((k : ℕ) → k < width → length (get_or ls k []) ≤ most) → total (drop width ls) ≡ 0 → total ls ≤ width * most
 kept_total width most ls short others = omega (arith, total_split width ls, front_total width most ls short, others)
 
-pub keeps_starts : (width : ℕ) (before store : Slots) → Adds before store width → store.denied ≡ false → total store.lines ≡ 0 → store.peak ≡ before.peak → Keeps width 0 before store
-keeps_starts width before store adds denied empty peak = record {
+pub keeps_starts : {width : ℕ} {before store : Slots} → Adds before store width → store.denied ≡ false → total store.lines ≡ 0 → store.peak ≡ before.peak → Keeps width 0 before store
+keeps_starts {width} {store} adds denied empty peak = record {
   denied = denied;
   adds = adds;
   short = λ k low. omega (arith, empty, get_or-le-sum_by length store.lines k [] (omega (arith, low, adds.all denied)));
@@ -42,8 +42,8 @@ keeps_starts width before store adds denied empty peak = record {
   peak = omega (arith, peak);
 }
 
-pub keeps_more : (width most more : ℕ) (before store : Slots) → Keeps width most before store → most ≤ more → Keeps width more before store
-keeps_more width most more before store k high = record {
+pub keeps_more : {width most : ℕ} (more : ℕ) {before store : Slots} → Keeps width most before store → most ≤ more → Keeps width more before store
+keeps_more {width} more k high = record {
   denied = k.denied;
   adds = k.adds;
   short = λ i low. omega (arith, k.short i low);
@@ -52,9 +52,9 @@ keeps_more width most more before store k high = record {
 }
 
 -- another line is in a slot
-pub keeps_line : (width most : ℕ) (before store new : Slots) (slot : ℕ) (bytes : List ℕ) → Keeps width most before store → slot < width → length bytes ≤ most
+pub keeps_line : {width most : ℕ} {before store : Slots} (new : Slots) (slot : ℕ) (bytes : List ℕ) → Keeps width most before store → slot < width → length bytes ≤ most
     → new ≡ with_line store slot bytes → Keeps width most before new
-keeps_line width most before store new slot bytes k within fits is = record {
+keeps_line {width} {most} {store} new slot bytes k within fits is = record {
   denied = ap (λ (s : Slots). s.denied) is ∙ k.denied;
   adds = record {
     least = omega (arith, same_length, k.adds.least);
@@ -87,8 +87,8 @@ keeps_line width most before store new slot bytes k within fits is = record {
     others = ap (λ (s : Slots). total (drop width s.lines)) is ∙ ap total (drop-set-lt width store.lines slot bytes within) ∙ k.others
 
 -- the first and the last slot may have changed places
-pub keeps_swapped : (width most : ℕ) (before store new : Slots) → 0 < width → Keeps width most before store → IsSwapped width store new → Keeps width most before new
-keeps_swapped width most before store new some k either = ⊎_elim (λ same. subst (λ (s : Slots). Keeps width most before s) (sym same) k) changed either
+pub keeps_swapped : {width most : ℕ} {before store : Slots} (new : Slots) → 0 < width → Keeps width most before store → IsSwapped width store new → Keeps width most before new
+keeps_swapped {width} {most} {before} {store} new some k either = ⊎_elim (λ same. subst (λ (s : Slots). Keeps width most before s) (sym same) k) changed either
   where
     first : List ℕ
     first = get_or store.lines 0 []
@@ -98,8 +98,8 @@ keeps_swapped width most before store new some k either = ⊎_elim (λ same. sub
 
     keeps_both : Keeps width most before (with_line (with_line store 0 last) (width - 1) first)
     keeps_both =
-        keeps_line width most before (with_line store 0 last) (with_line (with_line store 0 last) (width - 1) first) (width - 1) first
-        (keeps_line width most before store (with_line store 0 last) 0 last k some (k.short (width - 1) (omega (arith, some))) refl) (omega (arith, some)) (k.short 0 some) refl
+        keeps_line (with_line (with_line store 0 last) (width - 1) first) (width - 1) first
+        (keeps_line (with_line store 0 last) 0 last k some (k.short (width - 1) (omega (arith, some))) refl) (omega (arith, some)) (k.short 0 some) refl
 
     changed : new ≡ record store { lines = swap store.lines 0 (width - 1) } → Keeps width most before new
     changed is =
@@ -119,9 +119,9 @@ keeps_swapped width most before store new some k either = ⊎_elim (λ same. sub
         }
 
 -- the last slot was empty, and the others were emptied
-pub emptied : (width most : ℕ) (before store new : Slots) → Keeps width most before store → 0 < width → get_or store.lines (width - 1) [] ≡ []
+pub emptied : {width most : ℕ} {before store new : Slots} → Keeps width most before store → 0 < width → get_or store.lines (width - 1) [] ≡ []
     → Empties (width - 1) store new → Keeps width most before new × (total new.lines ≡ 0)
-emptied width most before store new k some last e = (
+emptied {width} {most} {store} {new} k some last e = (
   record {
     denied = e.denied ∙ k.denied;
     adds = record {

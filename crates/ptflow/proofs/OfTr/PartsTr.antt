@@ -52,7 +52,7 @@ last_is o (y ∷ front) x = last_is (Some y) front x
 
 -- some items have one last one
 pub same_last : {X : Type 0} (x y : X) (xs : List X) → EndsWith x xs → EndsWith y xs → Some x ≡ Some y
-same_last {X} x y xs ends others = sym (last_is None ends.0 x) ∙ ap (last_or None) (sym ends.1 ∙ others.1) ∙ last_is None others.0 y
+same_last x y xs ends others = sym (last_is None ends.0 x) ∙ ap (last_or None) (sym ends.1 ∙ others.1) ∙ last_is None others.0 y
 
 -- one byte, which is not deleted, and is not squeezed then
 one_byte : (tables : Tables) (last : Option ℕ) (byte : ℕ) → deletes tables byte ≡ false → squeezes tables (image tables byte) ≡ false → tr_rest tables last (byte ∷ []) ≡ image tables byte ∷ []

@@ -46,10 +46,10 @@ module _ (squeezed : ℕ → Bool) where
   chosen_behind last [] = refl
   chosen_behind last (b ∷ bytes) = ap (λ (l : List ℕ). cond (stays squeezed (last, b)) (b ∷ l) l) (chosen_behind b bytes) ∙ sym (behind_one squeezed last b bytes)
 
-  one_more : (into rest : List ℕ) (count b : ℕ) (again : Bool) → count < length into → take (count + bool_byte (not again)) (set into count b) ++ rest
+  one_more : (into rest : List ℕ) {count : ℕ} (b : ℕ) (again : Bool) → count < length into → take (count + bool_byte (not again)) (set into count b) ++ rest
       ≡ take count into ++ cond (not again) (b ∷ rest) rest
-  one_more into rest count b true room = let same : count + 0 ≡ count = omega arith in ap (λ (l : List ℕ). l ++ rest) (rw same (take-set into count b))
-  one_more into rest count b false room = ap (λ (l : List ℕ). l ++ rest) (take_more_set into count b room) ∙ append_assoc (take count into) (b ∷ []) rest
+  one_more into rest {count} b true room = let same : count + 0 ≡ count = omega arith in ap (λ (l : List ℕ). l ++ rest) (rw same (take-set into count b))
+  one_more into rest {count} b false room = ap (λ (l : List ℕ). l ++ rest) (take_more_set into count b room) ∙ append_assoc (take count into) (b ∷ []) rest
 
   -- What was put down, and what stays of the bytes from a place on, is the whole.
   pub record Squeezing (from into : List ℕ) (at count : ℕ) (whole : List ℕ) : Type 0 where
@@ -58,14 +58,14 @@ module _ (squeezed : ℕ → Bool) where
     pub within : at ≤ length from
     pub counted : count ≤ at
 
-  pub squeezing_starts : (last : Option ℕ) (from into : List ℕ) (again : Bool) (count : ℕ) → 0 < length from → 0 < length into → again
+  pub squeezing_starts : (last : Option ℕ) (from into : List ℕ) {again : Bool} {count : ℕ} → 0 < length from → 0 < length into → again
       ≡ (option_eq eqb last (Some (get_or from 0 0)) && squeezed (get_or from 0 0))
       → count ≡ bool_byte (not again) → Squeezing from (set into 0 (get_or from 0 0)) 1 count (squeeze_from squeezed last from)
-  squeezing_starts last [] into again count some room is n = absurd (omega arith)
-  squeezing_starts last (b ∷ from) into again count some room is n = record {
+  squeezing_starts last [] into some room is n = absurd (omega arith)
+  squeezing_starts last (b ∷ from) into {again} {count} some room is n = record {
     is =
         (let plus : count ≡ 0 + bool_byte (not again) = omega arith in ap (λ (k : ℕ). take k (set into 0 b) ++ squeeze_behind squeezed b from) plus)
-        ∙ one_more into (squeeze_behind squeezed b from) 0 b again room
+        ∙ one_more into (squeeze_behind squeezed b from) b again room
         ∙ ap (λ (a : Bool). cond (not a) (b ∷ squeeze_behind squeezed b from) (squeeze_behind squeezed b from)) is
         ∙ sym (from_one squeezed last b from);
     behind = omega arith;
@@ -77,11 +77,11 @@ module _ (squeezed : ℕ → Bool) where
       small true n = omega arith
       small false n = omega arith
 
-  module _ (from into : List ℕ) (at count : ℕ) (whole : List ℕ) (s : Squeezing from into at count whole) where
+  module _ {from into : List ℕ} {at count : ℕ} {whole : List ℕ} (s : Squeezing from into at count whole) where
     -- one byte more
-    pub squeezing_one : (again : Bool) (add : ℕ) → at < length from → count < length into → again ≡ (eqb (get_or from (at - 1) 0) (get_or from at 0) && squeezed (get_or from at 0))
+    pub squeezing_one : (again : Bool) {add : ℕ} → at < length from → count < length into → again ≡ (eqb (get_or from (at - 1) 0) (get_or from at 0) && squeezed (get_or from at 0))
         → add ≡ bool_byte (not again) → Squeezing from (set into count (get_or from at 0)) (at + 1) (count + add) whole
-    squeezing_one again add more room is n =
+    squeezing_one again {add} more room is n =
         let b = get_or from at 0 in
         let rest = squeeze_behind squeezed b (drop (at + 1) from) in
         let front : drop at from ≡ b ∷ drop (at + 1) from = rw add-one (drop-cons from at 0 more) in
@@ -89,8 +89,7 @@ module _ (squeezed : ℕ → Bool) where
         record {
           is =
               (λ i. take (count + n i) (set into count b) ++ squeeze_behind squeezed (get_or from (here i) 0) (drop (at + 1) from))
-              ∙ one_more into rest count b again room
-              ∙ ap (λ (a : Bool). take count into ++ cond (not a) (b ∷ rest) rest) is
+              ∙ one_more into rest b again room ∙ ap (λ (a : Bool). take count into ++ cond (not a) (b ∷ rest) rest) is
               ∙ ap (λ (l : List ℕ). take count into ++ l) (sym (behind_one squeezed (get_or from (at - 1) 0) b (drop (at + 1) from)))
               ∙ ap (λ (l : List ℕ). take count into ++ squeeze_behind squeezed (get_or from (at - 1) 0) l) (sym front)
               ∙ s.is;
@@ -104,14 +103,14 @@ module _ (squeezed : ℕ → Bool) where
         small false n = omega arith
 
     -- a piece more
-    pub squeezing_piece : (into' : List ℕ) (count' size : ℕ) → 0 < size → at + size ≤ length from → count' ≤ count + size
+    pub squeezing_piece : {into' : List ℕ} {count' : ℕ} (size : ℕ) → 0 < size → at + size ≤ length from → count' ≤ count + size
         → take count' into' ≡ take count into ++ squeeze_behind squeezed (get_or from (at - 1) 0) (take size (drop at from)) → Squeezing from into' (at + size) count' whole
-    squeezing_piece into' count' size some room few made =
+    squeezing_piece size some room few made =
         let last = get_or from (at - 1) 0 in
         let piece = take size (drop at from) in
         let long : length piece ≡ size = length-chunk at size from room in
         let split : drop at from ≡ piece ++ drop (at + size) from = sym (take-append-drop size (drop at from)) ∙ ap (λ (l : List ℕ). piece ++ l) (drop-drop size at from) in
-        let end = piece_ends from at size some room in
+        let end = piece_ends from at _ some room in
         record {
           is =
               ap (λ (l : List ℕ). l ++ squeeze_behind squeezed (get_or from (at + size - 1) 0) (drop (at + size) from)) made
@@ -131,9 +130,9 @@ module _ (squeezed : ℕ → Bool) where
         sym (append-nil (take count into)) ∙ ap (λ (l : List ℕ). take count into ++ squeeze_behind squeezed (get_or from (at - 1) 0) l) (sym (drop_all at from past)) ∙ s.is
 
 -- the bytes in front of those of a piece
-pub in_front_of : (from : List ℕ) (at n : ℕ) → 0 < at → at + suc n ≤ length from
+pub in_front_of : (from : List ℕ) {at : ℕ} (n : ℕ) → 0 < at → at + suc n ≤ length from
     → chunk (at - 1) (suc n) from ≡ take (length (chunk at (suc n) from)) (get_or from (at - 1) 0 ∷ chunk at (suc n) from)
-in_front_of from at n behind room =
+in_front_of from {at} n behind room =
     let last = get_or from (at - 1) 0 in
     let next : suc (at - 1) ≡ at = omega arith in
     let front : drop (at - 1) from ≡ last ∷ drop at from = drop-cons from (at - 1) 0 (omega arith) ∙ ap (λ (k : ℕ). last ∷ drop k from) next in
@@ -218,7 +217,7 @@ module _ (test : ℕ → Bool) (from : List ℕ) where
 
   pub stays_piece : (k : ℕ) → 0 < k → k + 16 ≤ length from → stays_at k ≡ squeeze_behind test (get_or from (k - 1) 0) (chunk k 16 from)
   stays_piece k behind room =
-      ap (λ (front : List ℕ). chosen_by (zip2 (λ a b. not (eqb a b && test b)) front (chunk k 16 from)) (chunk k 16 from)) (in_front_of from k 15 behind room)
+      ap (λ (front : List ℕ). chosen_by (zip2 (λ a b. not (eqb a b && test b)) front (chunk k 16 from)) (chunk k 16 from)) (in_front_of from 15 behind room)
       ∙ chosen_behind test (get_or from (k - 1) 0) (chunk k 16 from)
 
   behind_parts : (at n m : ℕ) → 0 < n → at + n ≤ length from → squeeze_behind test (get_or from (at - 1) 0) (chunk at (n + m) from)
@@ -230,24 +229,24 @@ module _ (test : ℕ → Bool) (from : List ℕ) where
       ∙ ap (λ (b : ℕ). squeeze_behind test last (chunk at n from) ++ squeeze_behind test b (chunk (at + n) m from)) (piece_ends from at n some room)
 
   -- what stays of 64 bytes, 16 after 16
-  pub stays_in_four : (at : ℕ) → 0 < at → at + 64 ≤ length from
+  pub stays_in_four : {at : ℕ} → 0 < at → at + 64 ≤ length from
       → ((stays_at at ++ stays_at (at + 16)) ++ stays_at (at + 32)) ++ stays_at (at + 48) ≡ squeeze_behind test (get_or from (at - 1) 0) (chunk at 64 from)
-  stays_in_four at behind room =
+  stays_in_four {at} behind room =
       let s = λ (k : ℕ). squeeze_behind test (get_or from (k - 1) 0) (chunk k 16 from) in
-      (λ i. ((stays_piece at behind (omega (arith, room)) i ++ stays_piece (at + 16) (omega arith) (omega (arith, room)) i)
+      (λ i. ((stays_piece _ behind (omega (arith, room)) i ++ stays_piece (at + 16) (omega arith) (omega (arith, room)) i)
       ++ stays_piece (at + 32) (omega arith) (omega (arith, room)) i) ++ stays_piece (at + 48) (omega arith) (omega (arith, room)) i)
       ∙ ap (λ (l : List ℕ). (l ++ s (at + 32)) ++ s (at + 48)) (sym (behind_parts at 16 16 (omega arith) (omega (arith, room))))
       ∙ ap (λ (l : List ℕ). l ++ s (at + 48)) (sym (behind_parts at 32 16 (omega arith) (omega (arith, room))))
       ∙ sym (behind_parts at 48 16 (omega arith) (omega (arith, room)))
 
   -- where no byte goes, all of them stay
-  pub all_stay_in_four : (at : ℕ) → 0 < at → at + 64 ≤ length from
+  pub all_stay_in_four : {at : ℕ} → 0 < at → at + 64 ≤ length from
       → (mask_l (gone_flags test at from) ≡ 0) × (mask_l (gone_flags test (at + 16) from) ≡ 0) × (mask_l (gone_flags test (at + 32) from) ≡ 0)
       × (mask_l (gone_flags test (at + 48) from) ≡ 0) → squeeze_behind test (get_or from (at - 1) 0) (chunk at 64 from) ≡ chunk at 64 from
-  all_stay_in_four at behind room none =
+  all_stay_in_four {at} behind room none =
       let stay = λ (k : ℕ) (some : 0 < k) (there : k + 16 ≤ length from). none_goes test (chunk (k - 1) 16 from) (chunk k 16 from)
       (length-chunk (k - 1) 16 from (omega (arith, some, there)) ∙ sym (length-chunk k 16 from there)) in
-      sym (stays_in_four at behind room)
+      sym (stays_in_four behind room)
       ∙ (λ i. ((stay at behind (omega (arith, room)) none.0 i ++ stay (at + 16) (omega arith) (omega (arith, room)) none.1 i)
       ++ stay (at + 32) (omega arith) (omega (arith, room)) none.2 i) ++ stay (at + 48) (omega arith) (omega (arith, room)) none.3 i)
       ∙ sym (chunk_in_four at from)

@@ -84,17 +84,17 @@ module _ (t : Tables) where
   front_on last block rest = ap (squeeze_from (squeezes t) last) (translated_append block rest) ∙ from_append (squeezes t) last (translated t block) (translated t rest)
 
   -- the last of what is written of a block was written last then
-  pub block_on : (last after : Option ℕ) (block written rest : List ℕ) → written ≡ tr_rest t last block → after
+  pub block_on : (last : Option ℕ) {after : Option ℕ} (block : List ℕ) {written : List ℕ} (rest : List ℕ) → written ≡ tr_rest t last block → after
       ≡ option_or (slice_get written (length written - 1)) last → tr_rest t last (block ++ rest) ≡ written ++ tr_rest t after rest
-  block_on last after block written rest made end = front_on last block rest ∙ (λ i. sym made i ++ tr_rest t (sym (end ∙ last_is last written ∙ ap (last_or last) made) i) rest)
+  block_on last block {written} rest made end = front_on last block rest ∙ (λ i. sym made i ++ tr_rest t (sym (end ∙ last_is last written ∙ ap (last_or last) made) i) rest)
 
   -- what is written of a block is squeezed after it was translated, and that after bytes of it were deleted
-  pub passes_make : (last : Option ℕ) (block kept mapped written : List ℕ) → kept ≡ filter (λ b. not (deletes t b)) block → mapped ≡ map (image t) kept
+  pub passes_make : (last : Option ℕ) (block : List ℕ) {kept mapped written : List ℕ} → kept ≡ filter (λ b. not (deletes t b)) block → mapped ≡ map (image t) kept
       → written ≡ squeeze_from (squeezes t) last mapped → written ≡ tr_rest t last block
-  passes_make last block kept mapped written k m w = w ∙ ap (squeeze_from (squeezes t) last) (m ∙ ap (map (image t)) k)
+  passes_make last block k m w = w ∙ ap (squeeze_from (squeezes t) last) (m ∙ ap (map (image t)) k)
 
-  pub block_begins : (last : Option ℕ) (block written rest : List ℕ) → written ≡ tr_rest t last block → Begins written (tr_rest t last (block ++ rest))
-  block_begins last block written rest made = record {
+  pub block_begins : (last : Option ℕ) (block : List ℕ) {written : List ℕ} (rest : List ℕ) → written ≡ tr_rest t last block → Begins written (tr_rest t last (block ++ rest))
+  block_begins last block rest made = record {
     rest = tr_rest t (last_or last (tr_rest t last block)) rest;
     is = front_on last block rest
         ∙ ap (λ (l : List ℕ). l ++ tr_rest t (last_or last (tr_rest t last block)) rest) (sym made);
@@ -109,14 +109,14 @@ module _ (t : Tables) where
 
 -- ---- where nothing is deleted or squeezed
 
-not_both : (x y : Bool) → y ≡ false → (x && y) ≡ false
-not_both true y h = h
-not_both false y h = refl
+not_both : (x : Bool) {y : Bool} → y ≡ false → (x && y) ≡ false
+not_both true h = h
+not_both false h = refl
 
 behind_all : (squeezed : ℕ → Bool) → ((b : ℕ) → squeezed b ≡ false) → (last : ℕ) (bytes : List ℕ) → squeeze_behind squeezed last bytes ≡ bytes
 behind_all squeezed none last [] = refl
 behind_all squeezed none last (b ∷ bytes) =
-    behind_one squeezed last b bytes ∙ ap (λ (s : Bool). cond (not s) (b ∷ squeeze_behind squeezed b bytes) (squeeze_behind squeezed b bytes)) (not_both (last == b) (squeezed b) (none b))
+    behind_one squeezed last b bytes ∙ ap (λ (s : Bool). cond (not s) (b ∷ squeeze_behind squeezed b bytes) (squeeze_behind squeezed b bytes)) (not_both (last == b) (none b))
     ∙ ap (λ (l : List ℕ). b ∷ l) (behind_all squeezed none b bytes)
 
 pub from_all : (squeezed : ℕ → Bool) → ((b : ℕ) → squeezed b ≡ false) → (last : Option ℕ) (bytes : List ℕ) → squeeze_from squeezed last bytes ≡ bytes

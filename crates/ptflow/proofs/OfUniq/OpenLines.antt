@@ -27,8 +27,8 @@ use Rattle.ptflow.proofs.OfPasses.LineLaws.{ended_next}
 use Rattle.ptflow.proofs.OfUniq.OpenRuns.{behind_more, behind_turn, entries-append, open_is, but_open}
 
 -- after the first two slots changed places
-pub swapped_first : (store after : Slots) → 1 < length store.lines → after ≡ record store { lines = swap store.lines 0 1 } → line after 0 ≡ line store 1
-swapped_first store after slots is = ap (λ (s : Slots). line s 0) is ∙ by_lines store.lines slots
+pub swapped_first : (store : Slots) {after : Slots} → 1 < length store.lines → after ≡ record store { lines = swap store.lines 0 1 } → line after 0 ≡ line store 1
+swapped_first store slots is = ap (λ (s : Slots). line s 0) is ∙ by_lines store.lines slots
   where
     by_lines : (lines : List (List ℕ)) → 1 < length lines → line (record { lines = swap lines 0 1; peak = store.peak; denied = store.denied }) 0
         ≡ line (record { lines = lines; peak = store.peak; denied = store.denied }) 1
@@ -37,8 +37,8 @@ swapped_first store after slots is = ap (λ (s : Slots). line s 0) is ∙ by_lin
     by_lines (a ∷ b ∷ rest) slots = refl
 
 -- the first slot was emptied
-pub first_emptied : (store after : Slots) → 0 < length store.lines → after ≡ with_line store 0 [] → Empties 1 store after
-first_emptied store after some is = by_lines store.lines refl
+pub first_emptied : {store after : Slots} → 0 < length store.lines → after ≡ with_line store 0 [] → Empties 1 store after
+first_emptied {store} {after} some is = by_lines store.lines refl
   where
     by_lines : (lines : List (List ℕ)) → store.lines ≡ lines → Empties 1 store after
     by_lines [] none = absurd (omega (arith, some, ap length none))
@@ -53,9 +53,9 @@ first_emptied store after some is = by_lines store.lines refl
         }
 
 -- what was pushed is what is written of the run with this first line
-pub run_wrote : (job : Uniq) (count : ℕ) (bytes first behind : List ℕ) (is is' : Output) → bytes ≡ first → behind ≡ job.end ∷ []
+pub run_wrote : (job : Uniq) (count : ℕ) {bytes first behind : List ℕ} {is is' : Output} → bytes ≡ first → behind ≡ job.end ∷ []
     → Wrote is is' (run_text job.show count (bytes ++ behind)) → Wrote is is' (entries job (open_run (run_of first count)))
-run_wrote job count bytes first behind is is' bytes_are behind_is wrote =
+run_wrote job count {first} {is} {is'} bytes_are behind_is wrote =
     subst (λ (b : List ℕ). Wrote is is' b) ((λ i. run_text job.show count (bytes_are i ++ behind_is i)) ∙ sym (open_is job (run_of first count))) wrote
 
 -- It is a tool over lines: the first of two slots may hold the first line of the run that is open, and what is decided
@@ -79,9 +79,9 @@ uniq_line_tool job start none = record {
 -- ---- one line
 
 -- whether it is of the run, by a test of the bytes that were seen
-pub line_tested : (job : Uniq) (count : ℕ) (first next seen came : List ℕ) (tested answer : Bool) → tested ≡ (nat_lt 0 count && is_same job seen came) → seen
+pub line_tested : (job : Uniq) (count : ℕ) {first next seen came : List ℕ} {tested answer : Bool} → tested ≡ (nat_lt 0 count && is_same job seen came) → seen
     ≡ first → came ≡ next → tested ≡ answer → (nat_lt 0 count && is_same job first next) ≡ answer
-line_tested job count first next seen came tested answer is seen_is came_is answered = (λ i. nat_lt 0 count && is_same job (sym seen_is i) (sym came_is i)) ∙ sym is ∙ answered
+line_tested job count is seen_is came_is answered = (λ i. nat_lt 0 count && is_same job (sym seen_is i) (sym came_is i)) ∙ sym is ∙ answered
 
 module _ (job : Uniq) (run : Run) (next : List ℕ) where
   -- it is of the run
@@ -89,7 +89,7 @@ module _ (job : Uniq) (run : Run) (next : List ℕ) where
   line_more was clean same = record { passed = []; wrote = wrote_nothing was; clean = clean; on = λ more. behind_more job run next more same; count = omega arith; some = λ h. omega arith }
 
   -- or it begins another one
-  module _ (was is : Output) (other : (nat_lt 0 run.count && is_same job run.line next) ≡ false) (wrote : Wrote was is (entries job (open_run run))) where
+  module _ {was is : Output} (other : (nat_lt 0 run.count && is_same job run.line next) ≡ false) (wrote : Wrote was is (entries job (open_run run))) where
     pub line_turns : is.faulted ≡ false → RunsOn job run (run_of next 1) (next ∷ []) was is
     line_turns clean = record { passed = open_run run; wrote = wrote; clean = clean; on = λ more. behind_turn job run next more other; count = omega arith; some = λ h. omega arith }
 
@@ -114,7 +114,7 @@ block_none job end run block was clean none = record {
 }
 
 -- the run that is open goes on for some lines of a block
-module _ (job : Uniq) (end : ℕ) (first block : List ℕ) (same : Same) (g : GoesOnWith job end first block same) (count : ℕ) (some : 0 < count) where
+module _ {job : Uniq} {end : ℕ} {first block : List ℕ} {same : Same} (g : GoesOnWith job end first block same) {count : ℕ} (some : 0 < count) where
   abbrev rest : List ℕ
   rest = drop same.passed block
 
@@ -151,16 +151,16 @@ module _ (job : Uniq) (end : ℕ) (first block : List ℕ) (same : Same) (g : Go
         let behind = ended_lines end (drop (at + 1) rest) ++ more in
         let is : ended_lines end rest ++ more ≡ next ∷ behind = ap (λ (l : List (List ℕ)). l ++ more) (ended_next end rest at found) in
         went_on more ∙ ap (runs_behind job run) is
-        ∙ behind_turn job run next behind (other_count (count + same.count) (is_same job first next) (g.turns next (ended_lines end (drop (at + 1) rest)) (ended_next end rest at found)))
+        ∙ behind_turn job run next behind (other_count (count + same.count) (g.turns next (ended_lines end (drop (at + 1) rest)) (ended_next end rest at found)))
         ∙ ap (λ (l : List Run). open_run run ++ l) (sym (ap (runs_behind job (run_of [] 0)) is ∙ behind_turn job (run_of [] 0) next behind refl))
 
-    module _ (was is is' : Output) (wrote : Wrote was is (entries job (open_run run))) where
+    module _ {was is : Output} (is' : Output) (wrote : Wrote was is (entries job (open_run run))) where
       pub block_run_halts : is.faulted ≡ true → RunsHalt job (run_of first count) (ended_lines end block) was is
       block_run_halts fault = record { passed = open_run run; wrote = wrote; fault = fault; true_so_far = λ more. (runs_behind job (run_of [] 0) (ended_lines end rest ++ more), turned more) }
 
       both_wrote : (passed : List Run) → is.faulted ≡ false → Wrote is is' (entries job passed) → Wrote was is' (entries job (open_run run ++ passed))
       both_wrote passed clean more = subst (λ (b : List ℕ). Wrote was is' b) (sym (entries-append job (open_run run) passed))
-          (wrote_trans was is is' (entries job (open_run run)) (entries job passed) clean wrote more)
+          (wrote_trans _ _ _ _ _ clean wrote more)
 
       pub block_turns : is.faulted ≡ false → (after : Run) → RunsOn job (run_of [] 0) after (ended_lines end rest) is is' → RunsOn job (run_of first count) after (ended_lines end block) was is'
       block_turns clean after r = record {

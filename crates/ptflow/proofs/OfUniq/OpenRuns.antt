@@ -32,14 +32,14 @@ module _ (job : Uniq) where
   abbrev chosen : List ℕ → List (List ℕ) → List ℕ → ℕ → Bool → List Run
   chosen l ls x m t = cond t (runs_from job (run_of x (m + 1)) ls) (run_of x m ∷ runs_from job (run_of l 1) ls)
 
-  first_more : (line : List ℕ) (n : ℕ) (l : List ℕ) (ls : List (List ℕ)) (t : Bool) → is_same job line l ≡ t → First line (n + 1) ls → First line n (l ∷ ls)
-  first_more line n l ls true e f = record {
+  first_more : {line : List ℕ} {n : ℕ} (l : List ℕ) {ls : List (List ℕ)} (t : Bool) → is_same job line l ≡ t → First line (n + 1) ls → First line n (l ∷ ls)
+  first_more {line} {n} l {ls} true e f = record {
     count = f.count;
     more = f.more;
     is = ap (chosen l ls line n) e ∙ f.is;
     led = λ x same. ap (chosen l ls x (n + 1)) (ap (λ (k : List ℕ). bytes_eq k (key job l)) same ∙ e) ∙ f.led x same;
   }
-  first_more line n l ls false e f = record {
+  first_more {line} {n} l {ls} false e f = record {
     count = n;
     more = runs_from job (run_of l 1) ls;
     is = ap (chosen l ls line n) e;
@@ -48,16 +48,16 @@ module _ (job : Uniq) where
 
   first : (line : List ℕ) (n : ℕ) (ls : List (List ℕ)) → First line n ls
   first line n [] = record { count = n; more = []; is = refl; led = λ x same. refl }
-  first line n (l ∷ ls) = first_more line n l ls (is_same job line l) refl (first line (n + 1) ls)
+  first line n (l ∷ ls) = first_more l (is_same job line l) refl (first line (n + 1) ls)
 
-  onto_first_run : (line l : List ℕ) (ls : List (List ℕ)) (t : Bool) → is_same job line l ≡ t → First l 1 ls → onto_runs job line (runs_from job (run_of l 1) ls) ≡ chosen l ls line 1 t
-  onto_first_run line l ls true e f = ap (onto_runs job line) f.is ∙ rw e (sym (f.led line ((bytes_eq-Decides (key job line) (key job l)).0 e)))
-  onto_first_run line l ls false e f = ap (onto_runs job line) f.is ∙ rw e (ap (λ (rs : List Run). run_of line 1 ∷ rs) (sym f.is))
+  onto_first_run : (line : List ℕ) {l : List ℕ} {ls : List (List ℕ)} (t : Bool) → is_same job line l ≡ t → First l 1 ls → onto_runs job line (runs_from job (run_of l 1) ls) ≡ chosen l ls line 1 t
+  onto_first_run line {l} true e f = ap (onto_runs job line) f.is ∙ rw e (sym (f.led line ((bytes_eq-Decides (key job line) (key job l)).0 e)))
+  onto_first_run line false e f = ap (onto_runs job line) f.is ∙ rw e (ap (λ (rs : List Run). run_of line 1 ∷ rs) (sym f.is))
 
   -- the runs of lines by their first line
   pub runs_are : (line : List ℕ) (ls : List (List ℕ)) → runs job (line ∷ ls) ≡ runs_from job (run_of line 1) ls
   runs_are line [] = refl
-  runs_are line (l ∷ ls) = ap (onto_runs job line) (runs_are l ls) ∙ onto_first_run line l ls (is_same job line l) refl (first l 1 ls)
+  runs_are line (l ∷ ls) = ap (onto_runs job line) (runs_are l ls) ∙ onto_first_run line (is_same job line l) refl (first l 1 ls)
 
   -- ---- one line more
 

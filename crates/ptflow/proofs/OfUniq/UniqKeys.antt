@@ -29,7 +29,7 @@ from_end line bytes i n = option_map_or (λ end. drop (end + 1) line) (slice_get
 from_end_is : (line bytes : List ℕ) (i n : ℕ) → drop i line ≡ bytes → from_end line bytes i n ≡ behind (suc n) bytes
 unfolding from_end
 from_end_is line [] i n is = refl
-from_end_is line (b ∷ bytes) i n is = by_test (ends_word b bytes) n (λ m. from_end_is line bytes (i + 1) m next)
+from_end_is line (b ∷ bytes) i n is = by_test (ends_word b bytes) n (λ m. from_end_is line _ (i + 1) m next)
   where
     next : drop (i + 1) line ≡ bytes
     next = sym (drop-drop 1 i line) ∙ ap (drop 1) is
@@ -82,9 +82,9 @@ behind_step n m rest is =
     ap (λ (k : ℕ). behind k rest) more ∙ behind_add m rest ∙ ap (behind m) (sym (after_one rest))
 
 -- the same by what stands in front
-pub blank_first : (rest behind_it : List ℕ) → 0 < length rest → behind_it ≡ drop 1 rest → is_blank (get_or rest 0 0) ≡ true → behind 1 rest ≡ behind 1 behind_it
-blank_first [] behind_it long is blank = absurd (omega (arith, long))
-blank_first (b ∷ bytes) behind_it long is blank = behind_blank b bytes blank ∙ ap (behind 1) (sym is)
+pub blank_first : (rest : List ℕ) {behind_it : List ℕ} → 0 < length rest → behind_it ≡ drop 1 rest → is_blank (get_or rest 0 0) ≡ true → behind 1 rest ≡ behind 1 behind_it
+blank_first [] long is blank = absurd (omega (arith, long))
+blank_first (b ∷ bytes) long is blank = behind_blank b bytes blank ∙ ap (behind 1) (sym is)
 
 pub other_first : (rest : List ℕ) → 0 < length rest → is_blank (get_or rest 0 0) ≡ false → behind 1 rest ≡ after_bytes rest
 other_first [] long other = absurd (omega (arith, long))
@@ -111,7 +111,7 @@ after_none [] none = refl
 after_none (b ∷ bytes) none = other_here b bytes (none 0 (omega arith)) ∙ after_none bytes (λ k lt. none (suc k) (omega (arith, lt)))
 
 pub after_found : (line : List ℕ) (at : ℕ) → IsFirstByte (is_byte2 32 9) line (Some at) → after_bytes line ≡ drop at line
-after_found line at first = after_at line at first.0.high (λ k lt. first.0.before k (omega arith) lt) first.1
+after_found line at first = after_at line _ first.0.high (λ k lt. first.0.before k (omega arith) lt) first.1
 
 pub after_not_found : (line : List ℕ) → IsFirstByte (is_byte2 32 9) line None → after_bytes line ≡ []
 after_not_found line none = after_none line (λ k lt. none k (omega arith) lt)
@@ -156,10 +156,10 @@ module _ (line : List ℕ) (a b : ℕ) (no_space : Nowhere (Passes (is_byte 32) 
   none_here k lt = neither (get_or line k 0) (no_space k (omega arith) (omega (arith, lt))) (no_tab k (omega arith) (omega (arith, lt)))
 
   pub both_later : min a b ≤ length line → after_bytes line ≡ after_bytes (drop (min a b) line)
-  both_later high = blanks_later line (min a b) high none_here
+  both_later high = blanks_later line _ high none_here
 
-  pub both_near : (n : ℕ) → (a < n → Passes (is_byte 32) line a) → (b < n → Passes (is_byte 9) line b) → n ≤ length line → min a b < n → after_bytes line ≡ drop (min a b) line
-  both_near n space tab high near = after_at line (min a b) (omega (arith, high, near)) none_here (by (ltb b a) refl)
+  pub both_near : {n : ℕ} → (a < n → Passes (is_byte 32) line a) → (b < n → Passes (is_byte 9) line b) → n ≤ length line → min a b < n → after_bytes line ≡ drop (min a b) line
+  both_near space tab high near = after_at line (min a b) (omega (arith, high, near)) none_here (by (ltb b a) refl)
     where
       by : (u : Bool) → ltb b a ≡ u → is_blank (get_or line (min a b) 0) ≡ true
       by true e = let is : min a b ≡ b = grind (arith, nat_tests) in is_tab (get_or line (min a b) 0) (ap (λ i. get_or line i 0 == 9) is ∙ tab (omega (arith, is, near)))

@@ -20,8 +20,7 @@ returns-in_err-need_slots g c =
 pub turns-init : goal.turns-init
 turns-init g c =
     let adds = rw c.SLOTS-slots.ensures at c.need_slots.ensures.adds in
-    run_starts c.requires.tool refl c.requires.ready c.requires.clean
-    (keeps_starts g.T.LineTool.SLOTS c.args.store.now c.need_slots.new.store adds c.in_ok-need_slots.ensures.allowed
+    run_starts c.requires.tool refl c.requires.ready c.requires.clean (keeps_starts adds c.in_ok-need_slots.ensures.allowed
     (c.need_slots.ensures.same_total ∙ c.requires.ready.empty) c.need_slots.ensures.same_peak)
 
 pub returns-in_err-send_before_wait : goal.returns-in_err-send_before_wait
@@ -84,9 +83,8 @@ returns-in_err-send_before_wait-2 g c =
 pub turns-smaller : goal.turns-smaller
 turns-smaller g c =
     let e = came_line c.SLOTS-slots.ensures c.in-Ok-true.field-0-test (c.in-Ok-true.ensures.fills c.turns.invariant.reached.goes.fault) in
-    let shown = c.block.follows.lender-at-none in
     let shows = (rw c.in-Ok.is at c.block.follows.holds-at-none.shows) e.goes.fault in
-    budget_less c.turns.reader c.fill.new.self shown c.consume.new.self c.in_ok-passed-in-Ok.passed e.less shows.0 c.consume.ensures.consumed
+    budget_less c.turns.reader c.in_ok-passed-in-Ok.passed e.less shows.0 c.consume.ensures.consumed
 
 pub take_block-requires-clause-open : goal.take_block-requires-clause-open
 take_block-requires-clause-open g c =

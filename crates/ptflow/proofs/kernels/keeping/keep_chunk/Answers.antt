@@ -20,7 +20,6 @@ returns-then-gone-eq0-clause-kept c =
     let none = none_of_four (map test (chunk at 16 from)) (map test (chunk (at + 16) 16 from)) (map test (chunk (at + 32) 16 from)) (map test (chunk (at + 48) 16 from))
     (flags_long test at from (omega (arith, c.requires.lanes))) (flags_long test (at + 16) from (omega (arith, c.requires.lanes)))
     (flags_long test (at + 32) from (omega (arith, c.requires.lanes))) (flags_long test (at + 48) from (omega (arith, c.requires.lanes)))
-    _ _ _ _
     (ap (map (cast_unsigned w8)) c.test.ensures ∙ lanes at) (ap (map (cast_unsigned w8)) c.test-2.ensures ∙ lanes (at + 16))
     (ap (map (cast_unsigned w8)) c.test-3.ensures ∙ lanes (at + 32)) (ap (map (cast_unsigned w8)) c.test-4.ensures ∙ lanes (at + 48))
     c.if-gone-eq0.true in

@@ -5,5 +5,5 @@ use Rattle.ptflow.proofs.kernels.keeping.keep_most.Goals as goal
 
 pub loop-at-preserved : goal.loop-at-preserved
 loop-at-preserved c =
-    keeps_piece (λ b. not (holds c.args.set b)) c.args.from.now c.loop-at.into c.loop-at.at c.loop-at.count c.loop-at.invariant 16 c.keep_lanes-count.new.into c.keep_lanes-count.result
+    keeps_piece c.loop-at.invariant 16
     (omega arith) c.keep_lanes-count.ensures.end c.keep_lanes-count.array_long c.keep_lanes-count.ensures.kept

@@ -11,7 +11,7 @@ swizzle c =
     let keep = c.from.result in
     let row = slice_index_or c.args.shuffles.now.rows keep [] in
     let is : IsRow (flags_of 8 keep) row = row_of_mask c.args.shuffles.now keep c.requires.packing (omega (arith, c.from.ensures, c.ranges.keep.fits)) in
-    SwzOk-from_below w8 16 1 16 0 row refl (omega (arith, is.long)) (row_lanes (flags_of 8 keep) row is)
+    SwzOk-from_below w8 16 1 16 0 row refl (omega (arith, is.long)) (row_lanes is)
 
 pub returns-clause-packed : goal.returns-clause-packed
 returns-clause-packed c flags long masked =
@@ -22,4 +22,4 @@ returns-clause-packed c flags long masked =
     let is : IsRow flags row = subst (λ (m : ℕ). IsRow flags (slice_index_or c.args.shuffles.now.rows m [])) (sym (c.from.ensures ∙ masked)) (c.requires.packing flags long) in
     let lanes = swz_l w8 16 v 0 row in
     chosen_stored at (count_ones c.args.keep) into lanes (length-swz_l w8 16 v 0 row ∙ is.long) (omega (arith, ones-le 8 c.args.keep c.ranges.keep.fits)) c.requires.room
-    ∙ ap (λ front. take at into ++ front) (ap (λ (m : ℕ). take (count_ones m) lanes) masked ∙ row_chooses flags row v (omega (arith, long, c.fits-v.0)) is)
+    ∙ ap (λ front. take at into ++ front) (ap (λ (m : ℕ). take (count_ones m) lanes) masked ∙ row_chooses v (omega (arith, long, c.fits-v.0)) is)

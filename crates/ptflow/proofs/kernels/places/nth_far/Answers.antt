@@ -15,7 +15,7 @@ overflow_add-place c =
     let left = c.loop-at.left in
     let k = c.bit_behind.result in
     let bytes = c.args.bytes.now in
-    let here = behind_in_chunk (is_byte c.args.byte) bytes at left c.marks-marked.result c.from-count.result k
+    let here = behind_in_chunk (is_byte c.args.byte) bytes at k
     (omega arith) c.marks-marked.ensures c.from-count.ensures c.loop-at.invariant.0 c.if-left-count.true c.bit_behind.ensures in
     omega (arith, near (is_byte c.args.byte) bytes 64 at (left - 1) k (omega arith) here)
 
@@ -26,10 +26,10 @@ returns-then-place-to c =
     let k = c.bit_behind.result in
     let bytes = c.args.bytes.now in
     let p = is_byte c.args.byte in
-    let here = behind_in_chunk p bytes at left c.marks-marked.result c.from-count.result k
+    let here = behind_in_chunk p bytes at k
     (omega arith) c.marks-marked.ensures c.from-count.ensures c.loop-at.invariant.0 c.if-left-count.true c.bit_behind.ensures in
     let before : count_by p (take at bytes) + (left - 1) ≡ c.args.number - 1 = omega (arith, c.loop-at.invariant.0, c.loop-at.invariant.2) in
-    subst (λ (n : ℕ). IsBehind p 0 n (take c.args.to bytes) (at + k)) before (behind_front p bytes 64 at (left - 1) k (omega arith) here c.args.to c.if-place-to.true c.requires.within)
+    subst (λ (n : ℕ). IsBehind p 0 n (take c.args.to bytes) (at + k)) before (behind_front p bytes 64 at (left - 1) k (omega arith) here c.if-place-to.true c.requires.within)
 
 pub returns-else-place-to : goal.returns-else-place-to
 returns-else-place-to c =
@@ -38,9 +38,9 @@ returns-else-place-to c =
     let k = c.bit_behind.result in
     let bytes = c.args.bytes.now in
     let p = is_byte c.args.byte in
-    let here = behind_in_chunk p bytes at left c.marks-marked.result c.from-count.result k
+    let here = behind_in_chunk p bytes at k
     (omega arith) c.marks-marked.ensures c.from-count.ensures c.loop-at.invariant.0 c.if-left-count.true c.bit_behind.ensures in
-    omega (arith, c.loop-at.invariant.0, c.loop-at.invariant.2, count_front p bytes 64 at (left - 1) k (omega arith) here, count_up_to p bytes c.args.to (at + k) c.if-place-to.false)
+    omega (arith, c.loop-at.invariant.0, c.loop-at.invariant.2, count_front p bytes 64 at (left - 1) k (omega arith) here, count_up_to p bytes _ _ c.if-place-to.false)
 
 pub loop-at-preserved : goal.loop-at-preserved
 loop-at-preserved c =

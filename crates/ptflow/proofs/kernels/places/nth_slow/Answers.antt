@@ -7,4 +7,4 @@ pub returns : goal.returns
 returns c =
     let to = c.args.to in
     let past : to ≤ c.loop-at.at = omega (arith, c.loop-at-test.false) in
-    omega (arith, c.loop-at.invariant.0, c.loop-at.invariant.1, count_up_to (is_byte c.args.byte) c.args.bytes.now to c.loop-at.at past)
+    omega (arith, c.loop-at.invariant.0, c.loop-at.invariant.1, count_up_to (is_byte c.args.byte) c.args.bytes.now _ _ past)

@@ -31,7 +31,7 @@ bounds-to-end c =
     let loop = c.loop-end in
     let v = chunk c.args.at 64 c.args.from.now in
     let counted = ap count_ones c.marks-marked.ensures ∙ ones-mask_l p v in
-    let here = behind_set p v loop._end loop.marked (omega (arith, length-chunk c.args.at 64 c.args.from.now c.requires.room)) (omega (arith, counted, c.loop-end-test.true)) loop.invariant.bits in
+    let here = behind_set p v loop._end (omega (arith, length-chunk c.args.at 64 c.args.from.now c.requires.room)) (omega (arith, counted, c.loop-end-test.true)) loop.invariant.bits in
     omega (arith, loop.invariant.long, c.requires.room, here.0, length-chunk c.args.at 64 c.args.from.now c.requires.room)
 
 pub loop-end-preserved : goal.loop-end-preserved
@@ -47,18 +47,18 @@ loop-end-preserved c =
     let long = length-chunk at 64 c.args.from.now c.requires.room in
     let counted = ap count_ones c.marks-marked.ensures ∙ ones-mask_l p v in
     let k = count_trailing_zeros 64 loop.marked in
-    let here = behind_set p v n loop.marked (omega (arith, long)) (omega (arith, counted, c.loop-end-test.true)) loop.invariant.bits in
+    let here = behind_set p v n (omega (arith, long)) (omega (arith, counted, c.loop-end-test.true)) loop.invariant.bits in
     let next : suc n ≡ n + 1 = omega arith in
     let delim : c.unwrap_or.result ≡ unwrap_or (delim_at delims (first + n)) end =
     c.unwrap_or.ensures ∙ ap (λ (m : ℕ). unwrap_or (slice_index_or delims m None) end) (loop.invariant.place ∙ ap (λ (m : ℕ). m % length delims) loop.invariant.number) in
     let front : length (take at c.args.to.now) ≡ at = length-take-le at c.args.to.now (omega (arith, c.requires.same, c.requires.room)) in
     record {
-      bits = cleared n loop.marked (map p v) loop.auto.marked-fits.fits loop.invariant.bits ∙ ap (λ (m : ℕ). mask_l (without m (map p v))) next;
+      bits = cleared n (map p v) loop.auto.marked-fits.fits loop.invariant.bits ∙ ap (λ (m : ℕ). mask_l (without m (map p v))) next;
       place = c.next-turn.ensures.place ∙ ap (λ (m : ℕ). m % length delims) (sym c.next-turn.ensures.number);
       number = omega (arith, c.next-turn.ensures.number, loop.invariant.number);
       long = length-set loop.to (at + k) c.unwrap_or.result ∙ loop.invariant.long;
       replaced =
-          set_in_chunk loop.to (take at c.args.to.now) (first_turns end delims n first v) at 64 k c.unwrap_or.result loop.invariant.replaced front (omega (arith, here.0, long))
+          set_in_chunk loop.to (take at c.args.to.now) (first_turns end delims n first v) _ 64 k c.unwrap_or.result loop.invariant.replaced front (omega (arith, here.0, long))
           ∙ ap (λ (l : List ℕ). take at c.args.to.now ++ l) (ap (slice_set (first_turns end delims n first v) k) delim ∙ turn_on end delims n first v k here
           ∙ ap (λ (m : ℕ). first_turns end delims m first v) next);
     }

@@ -25,7 +25,7 @@ loop-at-preserved c =
       | then-from-at w ↦
           let next = w.next-turn in
           rw w.turn-is (rw w.to-is (
-          end_more end delims c.args.number loop.at loop.turn from loop.to loop.invariant (omega (arith, c.loop-at-test.true)) next.result _ w.unwrap_or.result w.if-from-at.true w.unwrap_or.ensures
+          end_more _ delims c.args.number loop.at loop.turn from loop.to loop.invariant (omega (arith, c.loop-at-test.true)) next.result _ _ w.if-from-at.true w.unwrap_or.ensures
           next.ensures.number (next.ensures.place ∙ ap (λ (n : ℕ). n % length delims) (sym next.ensures.number)) refl
           (length-set _ loop.at w.unwrap_or.result ∙ length-set loop.to loop.at _ ∙ loop.invariant.1)))
       | else-from-at w ↦

@@ -31,7 +31,7 @@ bounds-to-end c =
     let v = chunk c.args.at 64 c.args.from.now in
     let counted = ap count_ones c.marks-marked.ensures ∙ ones-mask_l p v in
     let long = length-chunk c.args.at 64 c.args.from.now c.requires.room in
-    let here = behind_set p v loop.behind loop.marked (omega (arith, long)) (omega (arith, counted, c.loop-behind-test.true)) loop.invariant.bits in
+    let here = behind_set p v loop.behind (omega (arith, long)) (omega (arith, counted, c.loop-behind-test.true)) loop.invariant.bits in
     omega (arith, loop.invariant.long, c.requires.room, here.0, length-chunk c.args.at 64 c.args.from.now c.requires.room)
 
 pub loop-behind-preserved : goal.loop-behind-preserved
@@ -50,7 +50,7 @@ loop-behind-preserved c =
     let k = count_trailing_zeros 64 loop.marked in
     let few : n < 64 = omega (arith, counted, c.loop-behind-test.true, count_by-le-length p v, long) in
     let low : place < 64 = omega (arith, c.requires.turn, mod-lt first c.requires.spread.some, c.requires.spread.few) in
-    let here = behind_set p v n loop.marked (omega (arith, long)) (omega (arith, counted, c.loop-behind-test.true)) loop.invariant.bits in
+    let here = behind_set p v n (omega (arith, long)) (omega (arith, counted, c.loop-behind-test.true)) loop.invariant.bits in
     let next : suc n ≡ n + 1 = omega arith in
     let put = slice_index_or c.args.spread.now (place + n) 0 in
     let byte : slice_index_or c.args.spread.now (place + n) 0 ≡ unwrap_or (delim_at turns (first + n)) end =
@@ -58,10 +58,10 @@ loop-behind-preserved c =
     ∙ ap (λ (m : ℕ). unwrap_or (slice_index_or turns m None) end) (ap (λ (m : ℕ). (m + n) % length turns) c.requires.turn ∙ mod-add-mod first (length turns) n) in
     let front : length (take at c.args.to.now) ≡ at = length-take-le at c.args.to.now (omega (arith, c.requires.same, c.requires.room)) in
     record {
-      bits = cleared n loop.marked (map p v) loop.auto.marked-fits.fits loop.invariant.bits ∙ ap (λ (m : ℕ). mask_l (without m (map p v))) next;
+      bits = cleared n (map p v) loop.auto.marked-fits.fits loop.invariant.bits ∙ ap (λ (m : ℕ). mask_l (without m (map p v))) next;
       long = length-set loop.to (at + k) (slice_index_or c.args.spread.now (place + n) 0) ∙ loop.invariant.long;
       replaced =
-          set_in_chunk loop.to (take at c.args.to.now) (first_turns end turns n first v) at 64 k put loop.invariant.replaced front (omega (arith, here.0, long))
+          set_in_chunk loop.to (take at c.args.to.now) (first_turns end turns n first v) _ 64 k put loop.invariant.replaced front (omega (arith, here.0, long))
           ∙ ap (λ (l : List ℕ). take at c.args.to.now ++ l) (ap (slice_set (first_turns end turns n first v) k) byte ∙ turn_on end turns n first v k here
           ∙ ap (λ (m : ℕ). first_turns end turns m first v) next);
     }

@@ -15,7 +15,7 @@ pub loop-at-init : goal.loop-at-init
 loop-at-init c =
     let flag = λ (b : ℕ). slice_index_or c.args.flags.now b false in
     let again = ap (λ (same : Bool). same && flag c.from.result) c.eq.ensures ∙ ap (λ (b : ℕ). option_eq eqb c.args.last (Some (get_or c.args.from.now 0 0)) && flag b) c.from.ensures in
-    squeezing_starts flag c.args.last c.args.from.now c.args.into.now _ c.from-count.result (some (length c.args.from.now) c.if-is_empty.ensures)
+    squeezing_starts flag c.args.last c.args.from.now c.args.into.now (some (length c.args.from.now) c.if-is_empty.ensures)
     (omega (arith, c.told-into)) again c.from-count.ensures
 
 pub loop-at-preserved : goal.loop-at-preserved
@@ -25,8 +25,7 @@ loop-at-preserved c =
     let flag = λ (b : ℕ). slice_index_or c.args.flags.now b false in
     let room : at + 64 ≤ length from = omega (arith, c.loop-at.invariant.within) in
     let same = same_behind (holds c.args.set) flag c.requires.set (get_or from (at - 1) 0) (take 64 (drop at from)) (chunk-fits w8 at 64 from c.type_inv.from) in
-    squeezing_piece flag from c.loop-at.into at c.loop-at.count _ c.loop-at.invariant c.squeeze_chunk-count.new.into c.squeeze_chunk-count.result 64
-    (omega arith) room c.squeeze_chunk-count.ensures.end
+    squeezing_piece flag c.loop-at.invariant 64 (omega arith) room c.squeeze_chunk-count.ensures.end
     (c.squeeze_chunk-count.ensures.squeezed ∙ ap (λ (l : List ℕ). take c.loop-at.count c.loop-at.into ++ l) same)
 
 pub overflow_sub-from : goal.overflow_sub-from

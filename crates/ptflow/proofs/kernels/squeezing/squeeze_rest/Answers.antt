@@ -10,10 +10,10 @@ bounds-into-count c = omega (arith, c.loop-at.invariant.counted)
 
 pub loop-at-preserved : goal.loop-at-preserved
 loop-at-preserved c =
-    squeezing_one _ c.args.from.now c.loop-at.into c.loop-at.at c.loop-at.count _ c.loop-at.invariant _ _ (omega arith) (omega (arith, c.loop-at.invariant.counted)) (cc) c.from-count.ensures
+    squeezing_one _ c.loop-at.invariant _ (omega arith) (omega (arith, c.loop-at.invariant.counted)) (cc) c.from-count.ensures
 
 pub returns-clause-squeezed : goal.returns-clause-squeezed
-returns-clause-squeezed c = squeezing_ends _ c.args.from.now c.loop-at.into c.loop-at.at c.loop-at.count _ c.loop-at.invariant (omega arith)
+returns-clause-squeezed c = squeezing_ends _ c.loop-at.invariant (omega arith)
 
 pub returns-clause-end : goal.returns-clause-end
 returns-clause-end c = omega (arith, c.loop-at.invariant.counted)

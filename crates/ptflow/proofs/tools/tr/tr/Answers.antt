@@ -8,7 +8,7 @@ use Rattle.ptflow.proofs.OfTr.TrRests.{rest_decided}
 use Rattle.ptflow.proofs.tools.tr.tr.Goals as goal
 
 pub returns-then-has_failed-clause-pass : goal.returns-then-has_failed-clause-pass
-returns-then-has_failed-clause-pass g c = λ store ready. pass_halted (tr_tool c.args.plan.now) c.args.reader.now c.args.out.now store ready (sym c.has_failed.ensures ∙ c.if-has_failed.true)
+returns-then-has_failed-clause-pass g c = λ store ready. pass_halted (tr_tool c.args.plan.now) _ c.args.out.now _ ready (sym c.has_failed.ensures ∙ c.if-has_failed.true)
 
 pub returns-clause-pass : goal.returns-clause-pass
 returns-clause-pass g c =
@@ -24,5 +24,4 @@ returns-clause-pass g c =
     store ready
 
 pub returns-clause-no_memory : goal.returns-clause-no_memory
-returns-clause-no_memory g c = never_memory (tr_tool c.args.plan.now) c.args.reader.now c.over_blocks.new.reader c.args.out.now c.over_blocks.new.out no_slots
-    c.over_blocks.result refl (returns-clause-pass g c no_slots c.requires)
+returns-clause-no_memory g c = never_memory refl (returns-clause-pass g c no_slots c.requires)

@@ -35,7 +35,7 @@ returns-in_err-passed-clause-found c =
     let line = take c.args.to bytes in
     let zero : c.args.from ≡ 0 = c.requires.start c.if-from-first.false in
     let within : behind ≤ c.args.to = omega (arith, c.requires.first.0.high, length-take-le c.args.to bytes c.requires.within.1) in
-    let left = subst (λ (l : List ℕ). length (fields d l) ≤ c.args.count - 1) (sym (rest_of behind c.args.to bytes within)) (rw take_rest at c.in_err-passed.ensures) in
+    let left = subst (λ (l : List ℕ). length (fields d l) ≤ c.args.count - 1) (sym (rest_of _ _ bytes within)) (rw take_rest at c.in_err-passed.ensures) in
     let few : length (fields d (drop c.args.from line)) ≤ c.args.count =
     subst (λ (n : ℕ). length (fields d (drop n line)) ≤ c.args.count) (sym zero) (few_behind_first d line c.args.first c.args.count c.requires.first (omega (arith, c.if-count-eq0.false)) left) in
     rw c.from_residual.ensures few
@@ -49,6 +49,6 @@ returns-clause-found c =
     let passed = c.in_ok-passed.passed in
     let zero : c.args.from ≡ 0 = c.requires.start c.if-from-first.false in
     let within : behind ≤ c.args.to = omega (arith, c.requires.first.0.high, length-take-le c.args.to bytes c.requires.within.1) in
-    let s = subst (λ (l : List ℕ). StartsAt d (c.args.count - 1) l passed) (sym (rest_of behind c.args.to bytes within)) (rw take_rest at c.in_ok-passed.ensures) in
+    let s = subst (λ (l : List ℕ). StartsAt d (c.args.count - 1) l passed) (sym (rest_of _ _ bytes within)) (rw take_rest at c.in_ok-passed.ensures) in
     subst (λ (n : ℕ). StartsAt d c.args.count (drop n line) (behind + passed)) (sym zero)
-    (starts_past_first d line c.args.first c.args.count c.requires.first (omega (arith, c.if-count-eq0.false)) passed s)
+    (starts_past_first d line c.args.first c.args.count c.requires.first (omega (arith, c.if-count-eq0.false)) s)

@@ -19,8 +19,7 @@ returns-then-first-to-clause-put g c =
     let line = take to bytes in
     let place = unwrap_or c.find_near.result (length bytes) in
     let first = first_within d bytes c.find_near.result to c.find_near.ensures (omega (arith, c.if-first-to.true, c.unwrap_or-first.ensures)) (omega (arith, c.requires.first.0.high)) in
-    puts_line job c.requires.by_fields c.args.ending c.requires.ending bytes to c.requires.first (cut_fields job line) (take c.args.start c.args.room.now)
-    (take c.put_fields.result c.put_fields.new.room)
+    puts_line job c.requires.by_fields c.requires.ending bytes to c.requires.first (cut_fields job line)
     (of_fields job c.requires.by_fields line (found d line (Some place) first)) c.put_fields.ensures.put
 
 pub returns-then-job-clause-put : goal.returns-then-job-clause-put
@@ -29,9 +28,8 @@ returns-then-job-clause-put g c =
     let d = c.args.job.now.delim in
     let size = c.whole_lines-size in
     let free = subst (λ (n : ℕ). IsLine d (take n bytes)) (sym c.unwrap_or-first.ensures) (free_before d bytes c.find_near.result c.find_near.ensures) in
-    puts_dropped (cut_job c.args.job.now) c.requires.by_fields c.args.ending c.requires.ending bytes c.args.to c.requires.first size.result
-    c.unwrap_or-first.result size.ensures.within.0 size.ensures.within.1 size.ensures.ended
-    size.ensures.up_to c.if-first-to.false free (take c.args.start c.args.room.now) c.if-job.true
+    puts_dropped (cut_job c.args.job.now) c.requires.by_fields c.requires.ending bytes _ c.requires.first
+    size.ensures.within.0 size.ensures.within.1 size.ensures.ended size.ensures.up_to c.if-first-to.false free c.if-job.true
 
 pub returns-clause-put : goal.returns-clause-put
 returns-clause-put g c =
@@ -41,9 +39,9 @@ returns-clause-put g c =
     let free = subst (λ (n : ℕ). IsLine d (take n bytes)) (sym c.unwrap_or-first.ensures) (free_before d bytes c.find_near.result c.find_near.ensures) in
     let whole : size.result - 0 ≡ size.result = omega arith in
     let copied = subst (λ (n : ℕ). take (c.args.start + n) c.copy_near.new.into ≡ take c.args.start c.args.room.now ++ take n bytes) whole c.copy_near.ensures.copied in
-    puts_kept (cut_job c.args.job.now) c.requires.by_fields c.args.ending c.requires.ending bytes c.args.to c.requires.first size.result
-    c.unwrap_or-first.result size.ensures.within.0 size.ensures.within.1 size.ensures.ended
-    size.ensures.up_to c.if-first-to.false free (take c.args.start c.args.room.now) (take (c.args.start + size.result) c.copy_near.new.into) c.if-job.false copied
+    puts_kept (cut_job c.args.job.now) c.requires.by_fields c.requires.ending bytes _ c.requires.first
+    size.ensures.within.0 size.ensures.within.1 size.ensures.ended
+    size.ensures.up_to c.if-first-to.false free c.if-job.false copied
 
 pub put_fields-requires-clause-first : goal.put_fields-requires-clause-first
 put_fields-requires-clause-first g c =

@@ -11,7 +11,7 @@ returns-then-at g c =
     let tab = c.first_of-2.ensures in
     let near : min c.first_of.result c.first_of-2.result < g.row.N = omega (arith, c.min-at.ensures, c.if-at.true) in
     take_rest line c.min-at.result ∙ ap (λ (at : ℕ). drop at line) c.min-at.ensures
-    ∙ sym (both_near line c.first_of.result c.first_of-2.result space.before tab.before g.row.N space.found tab.found c.requires.within near)
+    ∙ sym (both_near line c.first_of.result c.first_of-2.result space.before tab.before space.found tab.found c.requires.within near)
 
 pub returns : goal.returns
 returns g c =

@@ -10,7 +10,7 @@ use Rattle.ptflow.proofs.tools.uniq.runs.let_wait.Goals as goal
 
 pub returns-then-waiting-line-clause-waits : goal.returns-then-waiting-line-clause-waits
 returns-then-waiting-line-clause-waits g c =
-    waits_joined c.args.show c.args.count c.args.block.now c.args.waiting c.args.line c.args.out.now c.requires.waiting c.requires.line c.if-waiting-line.true
+    waits_joined c.args.show c.args.count c.requires.waiting c.requires.line c.if-waiting-line.true
     (c.has_lead.ensures c.if-not-has_lead.true c.args.count)
     (sym c.is_shown.ensures ∙ c.if-not-is_shown.false)
 
@@ -21,4 +21,4 @@ returns-in_err-push_waiting-clause-wrote g c =
     on_err c.from_residual.result
     (subst (λ (b : List ℕ). Wrote c.args.out.now c.push_waiting.new.out b)
     (append_assoc waiting (lead c.args.show c.args.count) line ∙ ap (λ (l : List ℕ). waiting ++ l) (run_text_shown c.args.show c.args.count line (sym c.is_shown.ensures ∙ c.if-not-is_shown.false)))
-    (wrote_past c.args.out.now c.push_waiting.new.out (waiting ++ lead c.args.show c.args.count) line c.in_err-push_waiting.ensures.fault c.push_waiting.ensures.wrote))
+    (wrote_past _ _ _ line c.in_err-push_waiting.ensures.fault c.push_waiting.ensures.wrote))

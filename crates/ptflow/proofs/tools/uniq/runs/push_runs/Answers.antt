@@ -14,18 +14,18 @@ use Rattle.ptflow.proofs.OfUniq.BlockRuns.{front_size, same_by_keys, running_sta
 use Rattle.ptflow.proofs.tools.uniq.runs.push_runs.Goals as goal
 
 -- the byte that ends a line is the job's
-first_end : (end end' : ℕ) (hay : List ℕ) (r : Option ℕ) → end ≡ end' → IsFirstByte (is_byte end) hay r → IsFirstByte (is_byte end') hay r
-first_end end end' hay r same = subst (λ (b : ℕ). IsFirstByte (is_byte b) hay r) same
+first_end : {end end' : ℕ} (hay : List ℕ) (r : Option ℕ) → end ≡ end' → IsFirstByte (is_byte end) hay r → IsFirstByte (is_byte end') hay r
+first_end hay r same = subst (λ (b : ℕ). IsFirstByte (is_byte b) hay r) same
 
 pub lines-init : goal.lines-init
 lines-init g c =
     let job = uniq_job c.args.job.now in
-    rw take_rest (running_starts job c.args.block.now c.args.at (first_end c.args.ending job.end c.args.block.now
-    (Some c.args.at) c.requires.ending c.requires.first) c.key-own.result.now c.key-own.ensures c.args.out.now c.requires.clean)
+    rw take_rest (running_starts job c.args.block.now c.args.at (first_end c.args.block.now
+    (Some c.args.at) c.requires.ending c.requires.first) c.key-own.ensures c.args.out.now c.requires.clean)
 
 pub overflow_add-count : goal.overflow_add-count
 overflow_add-count g c =
-    let few = running_few (uniq_job c.args.job.now) c.args.block.now c.lines.rest.now c.lines.count c.lines.line c.lines.waiting c.lines.own.now c.args.out.now c.lines.out c.lines.invariant in
+    let few = running_few c.lines.invariant in
     omega (arith, few, c.requires.short)
 
 pub lines-preserved-then-eq : goal.lines-preserved-then-eq
@@ -34,9 +34,8 @@ lines-preserved-then-eq g c =
     let r = c.lines.invariant in
     let rest = c.lines.rest.now in
     let at = c.in-Some.at in
-    rw take_rest (running_more job c.args.block.now rest c.lines.count c.lines.line c.lines.waiting c.lines.own.now c.args.out.now c.lines.out r at
-    (first_end c.args.ending job.end rest (Some at) c.requires.ending c.in-Some.ensures)
-    (same_by_keys job r.first (take at rest) c.lines.own.now c.key-next.result.now r.own_is c.key-next.ensures ∙ sym c.eq.ensures ∙ c.if-eq.true))
+    rw take_rest (running_more r at (first_end rest (Some at) c.requires.ending c.in-Some.ensures)
+    (same_by_keys job r.first (take at rest) r.own_is c.key-next.ensures ∙ sym c.eq.ensures ∙ c.if-eq.true))
 
 pub returns-in_err-waiting-clause-halts : goal.returns-in_err-waiting-clause-halts
 returns-in_err-waiting-clause-halts g c =
@@ -46,10 +45,9 @@ returns-in_err-waiting-clause-halts g c =
     let at = c.in-Some.at in
     on_err c.from_residual.result
     (subst (λ (b : ℕ). RunsHalt job (run_of [] 0) (ended_lines b c.args.block.now) c.args.out.now c.let_wait.new.out) (sym c.requires.ending)
-    (running_halts job c.args.block.now rest c.lines.count c.lines.line c.lines.waiting c.lines.own.now c.args.out.now c.lines.out r at
-    (first_end c.args.ending job.end rest (Some at) c.requires.ending c.in-Some.ensures)
-    (same_by_keys job r.first (take at rest) c.lines.own.now c.key-next.result.now r.own_is c.key-next.ensures ∙ sym c.eq.ensures ∙ c.if-eq.false)
-    c.let_wait.new.out c.in_err-waiting.ensures.fault c.in_err-waiting.ensures.wrote))
+    (running_halts r at (first_end rest (Some at) c.requires.ending c.in-Some.ensures)
+    (same_by_keys job r.first (take at rest) r.own_is c.key-next.ensures ∙ sym c.eq.ensures ∙ c.if-eq.false)
+    c.in_err-waiting.ensures.fault c.in_err-waiting.ensures.wrote))
 
 pub lines-preserved : goal.lines-preserved
 lines-preserved g c =
@@ -57,11 +55,10 @@ lines-preserved g c =
     let r = c.lines.invariant in
     let rest = c.lines.rest.now in
     let at = c.in-Some.at in
-    rw take_rest (running_turn job c.args.block.now rest c.lines.count c.lines.line c.lines.waiting c.lines.own.now c.args.out.now c.lines.out r at
-    (first_end c.args.ending job.end rest (Some at) c.requires.ending c.in-Some.ensures)
-    (same_by_keys job r.first (take at rest) c.lines.own.now c.key-next.result.now r.own_is c.key-next.ensures ∙ sym c.eq.ensures ∙ c.if-eq.false)
-    c.let_wait.new.out c.in_ok-waiting.waiting c.in_ok-waiting.ensures.waits c.in_ok-waiting.ensures.clean (length c.args.block.now - length rest)
-    (length c.args.block.now - length rest + at + 1) refl refl c.key-next.result.now c.key-next.ensures)
+    rw take_rest (running_turn r at (first_end rest (Some at) c.requires.ending c.in-Some.ensures)
+    (same_by_keys job r.first (take at rest) r.own_is c.key-next.ensures ∙ sym c.eq.ensures ∙ c.if-eq.false)
+    c.in_ok-waiting.ensures.waits c.in_ok-waiting.ensures.clean (length c.args.block.now - length rest)
+    (length c.args.block.now - length rest + at + 1) refl refl c.key-next.ensures)
 
 pub returns-in_err-push-clause-halts : goal.returns-in_err-push-clause-halts
 returns-in_err-push-clause-halts g c =
@@ -69,12 +66,12 @@ returns-in_err-push-clause-halts g c =
     let rest = c.lines.rest.now in
     on_err c.from_residual-in_err-push.result
     (subst (λ (b : ℕ). RunsHalt job (run_of [] 0) (ended_lines b c.args.block.now) c.args.out.now c.push.new.self) (sym c.requires.ending)
-    (running_unended job c.args.block.now rest c.lines.count c.lines.line c.lines.waiting c.lines.own.now c.args.out.now c.lines.out c.lines.invariant
-    (subst (λ (b : ℕ). IsLine b rest) c.requires.ending (no_end c.args.ending rest c.in_default.ensures)) c.push.new.self c.push.ensures.wrote c.in_err-push.ensures.fault))
+    (running_unended c.lines.invariant
+    (subst (λ (b : ℕ). IsLine b rest) c.requires.ending (no_end c.args.ending rest c.in_default.ensures)) c.push.ensures.wrote c.in_err-push.ensures.fault))
 
 pub overflow_sub-result : goal.overflow_sub-result
 overflow_sub-result g c =
-    let few = running_few (uniq_job c.args.job.now) c.args.block.now c.lines.rest.now c.lines.count c.lines.line c.lines.waiting c.lines.own.now c.args.out.now c.lines.out c.lines.invariant in
+    let few = running_few c.lines.invariant in
     omega (arith, few)
 
 pub returns-clause-continues : goal.returns-clause-continues
@@ -82,21 +79,19 @@ returns-clause-continues g c =
     let job = uniq_job c.args.job.now in
     let rest = c.lines.rest.now in
     subst (λ (b : ℕ). RunsOn job (run_of [] 0) (run_of (slice_range c.args.block.now c.lines.line.from (c.lines.line.to - 1)) c.lines.count)
-    (ended_lines b c.args.block.now) c.args.out.now c.push.new.self) (sym c.requires.ending)
-    (running_done job c.args.block.now rest c.lines.count c.lines.line c.lines.waiting c.lines.own.now c.args.out.now c.lines.out c.lines.invariant
-    (subst (λ (b : ℕ). IsLine b rest) c.requires.ending (no_end c.args.ending rest c.in_default.ensures)) c.push.new.self c.push.ensures.wrote c.in_ok-push.ensures.clean)
+    (ended_lines b c.args.block.now) c.args.out.now c.push.new.self) (sym c.requires.ending) (running_done c.lines.invariant
+    (subst (λ (b : ℕ). IsLine b rest) c.requires.ending (no_end c.args.ending rest c.in_default.ensures)) c.push.ensures.wrote c.in_ok-push.ensures.clean)
 
 pub returns-clause-passed : goal.returns-clause-passed
 returns-clause-passed g c =
-    let job = uniq_job c.args.job.now in
     let rest = c.lines.rest.now in (
       omega arith,
       subst (λ (b : ℕ). take (length c.args.block.now - length rest) c.args.block.now ≡ text b (ended_lines b c.args.block.now)) (sym c.requires.ending)
-          (running_passed job c.args.block.now rest c.lines.count c.lines.line c.lines.waiting c.lines.own.now c.args.out.now c.lines.out c.lines.invariant
-          (subst (λ (b : ℕ). IsLine b rest) c.requires.ending (no_end c.args.ending rest c.in_default.ensures)) c.push.new.self c.push.ensures.wrote),
+          (running_passed c.lines.invariant
+          (subst (λ (b : ℕ). IsLine b rest) c.requires.ending (no_end c.args.ending rest c.in_default.ensures)) c.push.ensures.wrote),
     )
 
 pub overflow_add-line-else-eq-2 : goal.overflow_add-line-else-eq-2
 overflow_add-line-else-eq-2 g c =
     let i = c.lines.invariant in
-    omega (arith, c.in-Some.ensures.0.high, front_size (uniq_job c.args.job.now).end c.args.block.now c.lines.rest.now i.front i.lies, c.requires.short)
+    omega (arith, c.in-Some.ensures.0.high, front_size i.lies, c.requires.short)

@@ -15,7 +15,7 @@ lines-preserved g c =
     let l = c.lines in
     let put = c.put_lines-size.ensures.put in
     rw take_rest (record {
-      taken = taken_more c.args.ending c.args.block.now l.rest.now c.put_lines-size.result.0 put.taken l.invariant.taken;
+      taken = taken_more _ c.put_lines-size.result.0 put.taken l.invariant.taken;
       on = λ more. l.invariant.on more ∙ put.on more;
       space = omega (arith, l.invariant.space, put.fits, c.put_lines-size.ensures.end.1, length-drop c.put_lines-size.result.0 l.rest.now);
       long = c.put_lines-size.ensures.long ∙ l.invariant.long;
@@ -47,4 +47,4 @@ returns-clause-continues g c =
 
 pub returns-clause-passed : goal.returns-clause-passed
 returns-clause-passed g c =
-    (omega arith, taken_all c.args.ending c.args.block.now c.lines.rest.now (no_end c.args.ending c.lines.rest.now c.in_default.ensures) c.lines.invariant.taken)
+    (omega arith, taken_all _ (no_end c.args.ending c.lines.rest.now c.in_default.ensures) c.lines.invariant.taken)
