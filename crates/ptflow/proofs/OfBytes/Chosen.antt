@@ -65,7 +65,7 @@ chosen_first r rs n (x ∷ xs) apart = chosen_step x (chosen (lies_in r) (n + 1)
     here inside = not_selected rs (r.last + 1) n apart (omega (arith, last_of r n inside))
 
     there : is_selected rs n ≡ true → chosen (lies_in r) (n + 1) xs ≡ []
-    there other = chosen_past r (n + 1) xs (omega (arith, late (λ low. false≢true (sym (not_selected rs (r.last + 1) n apart (omega (arith, low))) ∙ other))))
+    there other = chosen_past r (n + 1) xs (omega (arith, late (λ low. false≢true (cc (not_selected rs (r.last + 1) n apart (omega (arith, low)))))))
 
 -- the first items are not chosen
 pub chosen_skip : {X : Type 0} (test : ℕ → Bool) (n count : ℕ) (xs : List X) → ((k : ℕ) → n ≤ k → k < n + count → test k ≡ false) → chosen test n xs ≡ chosen test (n + count) (drop count xs)
@@ -88,7 +88,7 @@ chosen_slice {X} r n (x ∷ xs) zero (suc j) is js =
     let whole : suc j - 0 ≡ suc j = omega arith in
     let rest : j - 0 ≡ j = omega arith in
     rw (inside r n (omega (arith, is)) (omega (arith, js)), whole) (ap (λ (l : List X). x ∷ l)
-    (chosen_slice r (n + 1) xs zero j (omega (arith, is)) (omega (arith, js)) ∙ ap (λ (k : ℕ). take k xs) rest))
+    (cc (chosen_slice r (n + 1) xs zero j (omega (arith, is)) (omega (arith, js)))))
 chosen_slice r n (x ∷ xs) (suc i) (suc j) is js =
     let same : suc j - suc i ≡ j - i = omega arith in
     rw (below r n (omega (arith, is)), same) (chosen_slice r (n + 1) xs i j (omega (arith, is)) (omega (arith, js)))
@@ -108,8 +108,7 @@ module _ {all : List Interval} {before : ℕ} {piece tail was : List ℕ} {start
     -- no interval is left
     pub choosing_done : length all ≤ i → is ++ tail ≡ was ++ (chosen (is_selected all) (before + 1) piece ++ tail)
     choosing_done past =
-        ap (λ (l : List ℕ). is ++ (l ++ tail)) (sym (chosen_none (is_selected []) (before + 1) piece (λ m low high. refl)))
-        ∙ ap (λ (l : List Interval). is ++ (chosen (is_selected l) (before + 1) piece ++ tail)) (sym (drop_all i all past)) ∙ k.front
+        cc (chosen_none (is_selected []) (before + 1) piece (λ m low high. refl), drop_all i all past)
 
     module _ (within : i < length all) where
       abbrev r : Interval
@@ -119,14 +118,11 @@ module _ {all : List Interval} {before : ℕ} {piece tail was : List ℕ} {start
       rs = drop (i + 1) all
 
       apart : AreApart k.low (r ∷ rs)
-      apart = subst (λ (l : List Interval). AreApart k.low l) (drop_more all i (record { first = 0; last = 0 }) within) k.apart
+      apart = rw (drop_more all i (record { first = 0; last = 0 }) within) at k.apart
 
       next : (is ++ chosen (lies_in r) (before + 1) piece) ++ (chosen (is_selected rs) (before + 1) piece ++ tail) ≡ was ++ (chosen (is_selected all) (before + 1) piece ++ tail)
       next =
-          append_assoc is (chosen (lies_in r) (before + 1) piece) (chosen (is_selected rs) (before + 1) piece ++ tail)
-          ∙ ap (λ (l : List ℕ). is ++ l) (sym (append_assoc (chosen (lies_in r) (before + 1) piece) (chosen (is_selected rs) (before + 1) piece) tail))
-          ∙ ap (λ (l : List ℕ). is ++ (l ++ tail)) (sym (chosen_first r rs (before + 1) piece apart.2))
-          ∙ ap (λ (l : List Interval). is ++ (chosen (is_selected l) (before + 1) piece ++ tail)) (sym (drop_more all i (record { first = 0; last = 0 }) within)) ∙ k.front
+          cc (append_assoc is (chosen (lies_in r) (before + 1) piece) (chosen (is_selected rs) (before + 1) piece ++ tail), append_assoc (chosen (lies_in r) (before + 1) piece) (chosen (is_selected rs) (before + 1) piece) tail, chosen_first r rs (before + 1) piece apart.2, drop_more all i (record { first = 0; last = 0 }) within)
 
       -- the interval's bytes, which are so many, end no farther on than it reaches
       pub choosing_room : at + ((r.last - before) - (r.first - (before + 1))) ≤ start + (r.last - before)
@@ -139,9 +135,7 @@ module _ {all : List Interval} {before : ℕ} {piece tail was : List ℕ} {start
 
       pub choosing_ends : before + length piece ≤ r.last → is ++ (chosen (lies_in r) (before + 1) piece ++ tail) ≡ was ++ (chosen (is_selected all) (before + 1) piece ++ tail)
       choosing_ends reaches =
-          ap (λ (l : List ℕ). is ++ (chosen (lies_in r) (before + 1) piece ++ (l ++ tail)))
-          (sym (chosen_none (is_selected rs) (before + 1) piece (λ m low high. not_selected rs (r.last + 1) m apart.2 (omega arith))))
-          ∙ sym (append_assoc is (chosen (lies_in r) (before + 1) piece) (chosen (is_selected rs) (before + 1) piece ++ tail)) ∙ next
+          cc (chosen_none (is_selected rs) (before + 1) piece (λ m low high. not_selected rs (r.last + 1) m apart.2 (omega arith)), append_assoc is (chosen (lies_in r) (before + 1) piece) (chosen (is_selected rs) (before + 1) piece ++ tail), next)
 
 -- a slice of the bytes, which lies in the piece in front of them
 pub slice_is : (r : Interval) (before count : ℕ) (bytes : List ℕ) → count ≤ length bytes → r.last < before + count
@@ -158,8 +152,7 @@ slice_is r before count bytes within short =
         same : i ≤ j → take (j - i) (drop i (take count bytes)) ≡ take (j - i) (drop i bytes)
         same low =
             let all : i + (count - i) ≡ count = omega arith in
-            ap (λ (c : ℕ). take (j - i) (drop i (take c bytes))) (sym all) ∙ ap (λ (l : List ℕ). take (j - i) l) (drop-take i (count - i) bytes)
-            ∙ take-take (j - i) (count - i) (drop i bytes) (omega arith)
+            cc (drop-take i (count - i) bytes, take-take (j - i) (count - i) (drop i bytes) (omega arith))
 
         past : j < i → take (j - i) (drop i (take count bytes)) ≡ take (j - i) (drop i bytes)
         past high = let none : j - i ≡ 0 = omega arith in rw none refl
@@ -172,28 +165,26 @@ rest_is r before count bytes within reaches =
     let long : length (take count bytes) ≡ count = length-take-le count bytes within in
     let piece : chosen (lies_in r) (before + 1) (take count bytes) ≡ drop (min i count) (take count bytes) =
     chosen_slice r (before + 1) (take count bytes) i (r.last + 1 - (before + 1)) refl refl ∙ all_of i (omega (arith, long)) in
-    ap (λ (l : List ℕ). drop (min i count) l) (sym (take-append-drop count bytes)) ∙ drop-append-le (min i count) (take count bytes) (drop count bytes) (omega (arith, long))
-    ∙ ap (λ (l : List ℕ). l ++ drop count bytes) (sym piece)
+    cc (take-append-drop count bytes, drop-append-le (min i count) (take count bytes) (drop count bytes) (omega (arith, long)), piece)
   where
     all_of : (i : ℕ) → length (take count bytes) ≤ r.last + 1 - (before + 1) → take ((r.last + 1 - (before + 1)) - i) (drop i (take count bytes)) ≡ drop (min i count) (take count bytes)
     all_of i fits = ⊎_elim (λ is. near (omega (arith, is))) (λ h. ⊎_elim (λ low. near (omega (arith, low))) far h) (cases_order i count)
       where
         near : i ≤ count → take ((r.last + 1 - (before + 1)) - i) (drop i (take count bytes)) ≡ drop (min i count) (take count bytes)
-        near low = let least : min i count ≡ i = omega arith in take_all ((r.last + 1 - (before + 1)) - i) (drop i (take count bytes))
-            (omega (arith, length-drop i (take count bytes))) ∙ ap (λ (k : ℕ). drop k (take count bytes)) (sym least)
+        near low = let least : min i count ≡ i = omega arith in cc (take_all ((r.last + 1 - (before + 1)) - i) (drop i (take count bytes)) (omega (arith, length-drop i (take count bytes))))
 
         far : count < i → take ((r.last + 1 - (before + 1)) - i) (drop i (take count bytes)) ≡ drop (min i count) (take count bytes)
         far high =
             let long : length (take count bytes) ≡ count = length-take-le count bytes within in
             let none : drop i (take count bytes) ≡ [] = drop_all i (take count bytes) (omega (arith, long)) in
-            ap (λ (l : List ℕ). take ((r.last + 1 - (before + 1)) - i) l) none ∙ take-nil ((r.last + 1 - (before + 1)) - i) ∙ sym (drop_all (min i count) (take count bytes) (omega (arith, long)))
+            cc (take-nil ((r.last + 1 - (before + 1)) - i), drop_all (min i count) (take count bytes) (omega (arith, long)))
 
 -- ---- a copy of bytes that were chosen, out of the first `end`
 
 cut_off : (from end : ℕ) (bytes : List ℕ) → from ≤ end → take (end - from) (drop from bytes) ≡ drop from (take end bytes)
 cut_off from end bytes order =
     let whole : from + (end - from) ≡ end = omega arith in
-    sym (drop-take from (end - from) bytes) ∙ ap (λ (k : ℕ). drop from (take k bytes)) whole
+    cc (drop-take from (end - from) bytes)
 
 module _ {all : List Interval} {before count end : ℕ} (bytes : List ℕ) {was : List ℕ} {start : ℕ} (in_piece : count ≤ end) (in_bytes : end ≤ length bytes)
     {i : ℕ} {is : List ℕ} {at : ℕ} (k : Choosing all i before (take count (take end bytes)) (drop count (take end bytes)) was is start at) where
@@ -210,7 +201,7 @@ module _ {all : List Interval} {before count end : ℕ} (bytes : List ℕ) {was 
   piece_long = length-take-le count (take end bytes) (omega (arith, long, in_piece))
 
   pub copied_done : {is' : List ℕ} → length all ≤ i → is' ≡ is ++ take (end - count) (drop count bytes) → is' ≡ was ++ (chosen (is_selected all) (before + 1) piece ++ tail)
-  copied_done past copied = copied ∙ ap (λ (l : List ℕ). is ++ l) (cut_off _ _ bytes in_piece) ∙ choosing_done k past
+  copied_done past copied = cc (cut_off _ _ bytes in_piece, choosing_done k past)
 
   module _ (within : i < length all) (is' : List ℕ) where
     abbrev at_i : Interval
@@ -219,16 +210,13 @@ module _ {all : List Interval} {before count end : ℕ} (bytes : List ℕ) {was 
     pub copied_ends : {from : ℕ} → from ≡ min (at_i.first - (before + 1)) count → before + count ≤ at_i.last → is' ≡ is ++ take (end - from) (drop from bytes)
         → is' ≡ was ++ (chosen (is_selected all) (before + 1) piece ++ tail)
     copied_ends {from} from_is reaches copied =
-        copied ∙ ap (λ (l : List ℕ). is ++ l) (cut_off from end bytes (omega (arith, from_is, in_piece)) ∙ ap (λ (n : ℕ). drop n (take end bytes)) from_is
-        ∙ rest_is at_i before count (take end bytes) (omega (arith, long, in_piece)) reaches)
-        ∙ choosing_ends k within (omega (arith, piece_long, reaches))
+        cc (cut_off from end bytes (omega (arith, from_is, in_piece)), rest_is at_i before count (take end bytes) (omega (arith, long, in_piece)) reaches, choosing_ends k within (omega (arith, piece_long, reaches)))
 
     pub copied_more : {from to : ℕ} → from ≡ at_i.first - (before + 1) → to ≡ at_i.last - before → at_i.last < before + count → is' ≡ is ++ take (to - from) (drop from bytes)
         → Choosing all (i + 1) before piece tail was is' start (at + (to - from))
     copied_more {from} {to} from_is to_is short copied =
         let slice : take (to - from) (drop from bytes) ≡ chosen (lies_in at_i) (before + 1) piece =
-        (λ j. take (to_is j - from_is j) (drop (from_is j) bytes)) ∙ slice_is at_i before count bytes (omega (arith, in_piece, in_bytes)) short
-        ∙ ap (chosen (lies_in at_i) (before + 1)) (sym (take-take count end bytes in_piece)) in
-        subst (λ (l : List ℕ). Choosing all (i + 1) before piece tail was l start (at + (to - from))) (sym (copied ∙ ap (λ (l : List ℕ). is ++ l) slice))
+        cc (slice_is at_i before count bytes (omega (arith, in_piece, in_bytes)) short, take-take count end bytes in_piece) in
+        subst (λ (l : List ℕ). Choosing all (i + 1) before piece tail was l start (at + (to - from))) (sym (cc))
         (subst (λ (n : ℕ). Choosing all (i + 1) before piece tail was (is ++ chosen (lies_in at_i) (before + 1) piece) start (at + n)) (λ j. sym to_is j - sym from_is j)
         (choosing_more k within (omega (arith, piece_long, short))))

@@ -87,7 +87,7 @@ row_lanes {places} is = Each1-from_get_or (λ place. place < 16) places 0 (λ i 
 -- the row of a mask
 pub row_of_mask : (shuffles : Shuffles) (mask : ℕ) → IsPacking shuffles → mask < 256 → IsRow (flags_of 8 mask) (slice_index_or shuffles.rows mask [])
 row_of_mask shuffles mask packing low =
-    subst (λ (m : ℕ). IsRow (flags_of 8 mask) (slice_index_or shuffles.rows m [])) (mask_of_flags 8 _ low) (packing (flags_of 8 mask) (length-flags_of 8 mask))
+    rw (mask_of_flags 8 _ low) at (packing (flags_of 8 mask) (length-flags_of 8 mask))
 
 -- a row puts in front the lanes that the flags choose
 pub row_chooses : {flags : List Bool} {row : List ℕ} (v : List ℕ) → length flags ≤ length v → IsRow flags row → take (count_ones (mask_l flags)) (swz_l w8 16 v 0 row) ≡ chosen_by flags v
@@ -95,13 +95,7 @@ row_chooses {flags} {row} v room is =
     let n = length flags in
     let places = range_with_len 0 n in
     let count : count_ones (mask_l flags) ≡ length (places_of flags) = sym (length-chosen_by flags places (omega (arith, length-range_with_len 0 n))) in
-    ap (take (count_ones (mask_l flags))) (shuffled v 0 row (omega (arith, is.long)) (row_lanes is))
-    ∙ take-map (λ k. get_or v k 0) (count_ones (mask_l flags)) row
-    ∙ ap (λ (k : ℕ). pick_l 0 v (take k row)) count
-    ∙ ap (pick_l 0 v) is.places
-    ∙ map-chosen_by (λ k. get_or v k 0) flags places
-    ∙ ap (chosen_by flags) (pick_l-range_with_len 0 v 0 n (omega (arith, room)))
-    ∙ chosen_by_front flags v
+    cc (shuffled v 0 row (omega (arith, is.long)) (row_lanes is), take-map (λ k. get_or v k 0) (count_ones (mask_l flags)) row, map-chosen_by (λ k. get_or v k 0) flags places, pick_l-range_with_len 0 v 0 n (omega (arith, room)), chosen_by_front flags v)
 
 -- the lanes that are put in front are stored from a place on
 pub chosen_stored : (at n : ℕ) (into lanes : List ℕ) → length lanes ≡ 16 → n ≤ 16 → at + 16 ≤ length into → take (at + n) (put_chunk at into lanes) ≡ take at into ++ take n lanes
@@ -130,9 +124,7 @@ next_place flags {place} long low =
     let flag = get_or flags place false in
     let front = take place flags in
     let behind : drop (length front) places ≡ (0 + place) ∷ drop (place + 1) places =
-    ap (λ (n : ℕ). drop n places) (length-take-le place flags (omega (arith, long, low)))
-    ∙ drop-cons places place 0 (omega (arith, low, length-range_with_len 0 8))
-    ∙ (λ t. get_or-range_with_len 0 8 place 0 low t ∷ drop (sym (add-one place) t) places) in
+    cc (length-take-le place flags (omega (arith, long, low)), drop-cons places place 0 (omega (arith, low, length-range_with_len 0 8)), get_or-range_with_len 0 8 place 0 low, add-one place) in
     ap (λ (fs : List Bool). chosen_by fs places) (take_more flags place false (omega (arith, long, low)))
     ∙ chosen_by_parts front (flag ∷ []) places
     ∙ ap (λ (ps : List ℕ). chosen_by front places ++ chosen_by (flag ∷ []) ps) (behind ∙ ap (λ (p : ℕ). p ∷ drop (place + 1) places) (omega arith))
@@ -145,13 +137,10 @@ pub row_more : {mask place count bit : ℕ} {row : List ℕ} → place < 8 → b
 row_more {place} {count} {row} low is begun = record {
   behind = omega (arith, is, begun.behind);
   lanes = All-set (λ p. p < 16) row count place (omega (arith, low)) begun.lanes;
-  long = length-set row count place ∙ begun.long;
+  long = cc (length-set row count place);
   places = λ flags long masked.
       let flag = get_or flags place false in
-      ap (λ (n : ℕ). take (count + n) (set row count place)) (is ∙ ap (λ (m : ℕ). m / 2 ^ place % 2) masked ∙ bit_mask_l flags place)
-      ∙ written_more flag row count place (omega (arith, begun.behind, begun.long, low))
-      ∙ ap (λ (ps : List ℕ). ps ++ cond flag (place ∷ []) []) (begun.places flags long masked)
-      ∙ sym (next_place flags long low);
+      cc (bit_mask_l flags place, written_more flag row count place (omega (arith, begun.behind, begun.long, low)), begun.places flags long masked, next_place flags long low);
 }
 
 pub row_whole : {mask count : ℕ} {row : List ℕ} {flags : List Bool} → length flags ≡ 8 → mask ≡ mask_l flags → RowBegun mask 8 count row → IsRow flags row
@@ -159,23 +148,21 @@ row_whole {count} {row} {flags} long masked begun = record { places = places; lo
   where
     all : take count row ≡ places_of flags
     all =
-        begun.places flags long masked
-        ∙ ap (λ (fs : List Bool). chosen_by fs (range_with_len 0 8)) (take_all 8 flags (omega (arith, long)))
-        ∙ ap (λ (n : ℕ). chosen_by flags (range_with_len 0 n)) (sym long)
+        cc (begun.places flags long masked, take_all 8 flags (omega (arith, long)), long)
 
     count_is : length (places_of flags) ≡ count
-    count_is = ap length (sym all) ∙ length-take-le count row (omega (arith, begun.behind, begun.long))
+    count_is = cc (all, length-take-le count row (omega (arith, begun.behind, begun.long)))
 
     places : take (length (places_of flags)) row ≡ places_of flags
-    places = ap (λ (n : ℕ). take n row) count_is ∙ all
+    places = cc (count_is, all)
 
 -- ---- the halves of a mask and of lanes
 
 pub mask_below : (flags : List Bool) → length flags ≡ 8 → mask_l flags < 256
-mask_below flags long = subst (λ (n : ℕ). mask_l flags < 2 ^ n) long (mask_l-lt flags)
+mask_below flags long = rw long at (mask_l-lt flags)
 
 halves : (front back : List Bool) → length front ≡ 8 → mask_l (front ++ back) ≡ mask_l front + 256 * mask_l back
-halves front back long = mask_of_parts front back ∙ ap (λ (n : ℕ). mask_l front + 2 ^ n * mask_l back) long
+halves front back long = cc (mask_of_parts front back, long)
 
 pub low_half : (front back : List Bool) → length front ≡ 8 → bit_and (mask_l (front ++ back)) 255 ≡ mask_l front
 low_half front back long = and_numeral (mask_l (front ++ back)) 254 refl ∙ omega (arith, halves front back long, mask_below front long)
@@ -186,15 +173,9 @@ high_half front back long others = and_numeral (mask_l (front ++ back) / 256) 25
 -- of lanes that are turned by eight the flags choose what they choose of the last eight
 chosen_turned : (flags : List Bool) (v turned : List ℕ) → length flags ≡ 8 → length v ≡ 16 → take 8 turned ≡ chunk 8 8 (v ++ v) → chosen_by flags turned ≡ chosen_by flags (drop 8 v)
 chosen_turned flags v turned long lanes is =
-    sym (chosen_by_front flags turned)
-    ∙ ap (λ (n : ℕ). chosen_by flags (take n turned)) long
-    ∙ ap (chosen_by flags) (is ∙ ap (take 8) (drop-append-le 8 v v (omega (arith, lanes))) ∙ take-append-le 8 (drop 8 v) v (omega (arith, length-drop 8 v, lanes)))
-    ∙ ap (λ (n : ℕ). chosen_by flags (take n (drop 8 v))) (sym long)
-    ∙ chosen_by_front flags (drop 8 v)
+    cc (chosen_by_front flags turned, long, drop-append-le 8 v v (omega (arith, lanes)), take-append-le 8 (drop 8 v) v (omega (arith, length-drop 8 v, lanes)), chosen_by_front flags (drop 8 v))
 
 pub chosen_by_halves : (front back : List Bool) (before v turned : List ℕ) → length front ≡ 8 → length back ≡ 8 → length v ≡ 16 → take 8 turned ≡ chunk 8 8 (v ++ v)
     → (before ++ chosen_by front v) ++ chosen_by back turned ≡ before ++ chosen_by (front ++ back) v
 chosen_by_halves front back before v turned few others lanes is =
-    append_assoc before (chosen_by front v) (chosen_by back turned)
-    ∙ ap (λ (last : List ℕ). before ++ (chosen_by front v ++ last)) (chosen_turned back v turned others lanes is ∙ ap (λ (n : ℕ). chosen_by back (drop n v)) (sym few))
-    ∙ ap (λ (made : List ℕ). before ++ made) (sym (chosen_by_parts front back v))
+    cc (append_assoc before (chosen_by front v) (chosen_by back turned), chosen_turned back v turned others lanes is, chosen_by_parts front back v)

@@ -16,16 +16,13 @@ not_tops test [] = refl
 not_tops test (b ∷ v) = λ i. lane (test b) i ∷ not_tops test v i
   where
     lane : (t : Bool) → top 7 (bit_not w8 (cast_unsigned w8 (cond t (negsuc 0) (pos 0)))) ≡ not t
-    lane true = refl
-    lane false = refl
+    lane t = grind arith
 
 -- the bits of the bytes that are not in a set, of the mask of those that are
 pub keep_bits : (test : ℕ → Bool) (v : List ℕ) {lanes : List ℤ} → length v ≡ 16 → lanes ≡ mask_of test v
     → mask_l (map (top 7) (map (bit_not w8) (map (cast_unsigned w8) lanes))) % 2 ^ 64 ≡ mask_l (map (λ b. not (test b)) v)
 keep_bits test v {lanes} long is =
-    ap (λ lanes. mask_l (map (top 7) (map (bit_not w8) (map (cast_unsigned w8) lanes))) % 2 ^ 64) is
-    ∙ ap (λ flags. mask_l flags % 2 ^ 64) (not_tops test v)
-    ∙ mask_l-mod (map (λ b. not (test b)) v) 64 (omega (arith, length-map v (λ b. not (test b)), long))
+    cc (not_tops test v, mask_l-mod (map (λ b. not (test b)) v) 64 (omega (arith, length-map v (λ b. not (test b)), long)))
 
 module _ {test : ℕ → Bool} {from into : List ℕ} {at count : ℕ} (before : Keeps test from at into count) where
   -- a piece more
@@ -35,10 +32,7 @@ module _ {test : ℕ → Bool} {from into : List ℕ} {at count : ℕ} (before :
     within = room;
     few = omega (arith, few, before.few);
     room = long;
-    kept = put
-        ∙ (λ i. before.kept i ++ filter test (chunk at size from))
-        ∙ sym (filter-append test (take at from) (chunk at size from))
-        ∙ ap (filter test) (sym (take-add at size from));
+    kept = cc (filter-append test (take at from) (chunk at size from), take-add at size from);
   }
 
   -- one more
@@ -47,27 +41,23 @@ module _ {test : ℕ → Bool} {from into : List ℕ} {at count : ℕ} (before :
   keeps_byte room small is ended = record {
     within = omega (arith, room);
     few = omega (arith, ended, one_at_most (test b), before.few);
-    room = ap length is ∙ length-set into count b ∙ before.room;
-    kept = (λ i. take (ended i) (is i)) ∙ by_test (test b) refl;
+    room = cc (length-set into count b);
+    kept = cc (by_test (test b) refl);
   }
     where
       b : ℕ
       b = get_or from at 0
 
       one_at_most : (t : Bool) → from_bool t ≤ 1
-      one_at_most true = omega arith
-      one_at_most false = omega arith
+      one_at_most t = grind arith
 
       told : (t : Bool) → test b ≡ t → take (count + from_bool t) (set into count b) ≡ take count into ++ cond t (b ∷ []) []
       told true is = take_more_set into count b (omega (arith, before.few, before.room, small))
-      told false is = ap (λ n. take n (set into count b)) (add-zero count) ∙ take-set into count b ∙ sym (append-nil (take count into))
+      told false is = cc (add-zero count, take-set into count b, append-nil (take count into))
 
       by_test : (t : Bool) → test b ≡ t → take (count + from_bool t) (set into count b) ≡ filter test (take (at + 1) from)
       by_test t is =
-          told t is
-          ∙ (λ i. before.kept i ++ cond (sym is i) (b ∷ []) [])
-          ∙ sym (filter-append test (take at from) (b ∷ []))
-          ∙ ap (filter test) (sym (take_more from at 0 room))
+          cc (told t is, filter-append test (take at from) (b ∷ []), take_more from at 0 room)
 
 -- ---- two tests that say the same of bytes
 
@@ -87,4 +77,4 @@ keeps_same p {q} {from} {at} same fit within few room kept = record {
 
 -- all bytes
 pub keeps_all : {test : ℕ → Bool} {from into : List ℕ} {at count : ℕ} → Keeps test from at into count → length from ≤ at → (take count into ≡ filter test from) × (count ≤ length from)
-keeps_all {test} {from} {at} keeps all = (keeps.kept ∙ ap (filter test) (take_all at from all), omega (arith, keeps.few, keeps.within))
+keeps_all {test} {from} {at} keeps all = (cc (take_all at from all), omega (arith, keeps.few, keeps.within))

@@ -18,7 +18,7 @@ sel_map p f g (x ∷ xs) = ap (λ r. cond (p x) (f x) (g x) ∷ r) (sel_map p f 
 
 pub sel_maps : (p : ℕ → Bool) (f g : ℕ → ℕ) (v : List ℕ) {ms : List Bool} {xs ys : List ℕ} → ms ≡ map p v → xs ≡ map f v → ys ≡ map g v → sel_l ms xs ys ≡ map (λ b. cond (p b) (f b) (g b)) v
 sel_maps p f g v {xs} {ys} em ex ey =
-    ap (λ m. sel_l m xs ys) em ∙ ap (λ x. sel_l (map p v) x ys) ex ∙ ap (λ y. sel_l (map p v) (map f v) y) ey ∙ sel_map p f g v
+    cc (sel_map p f g v)
 
 pub mask_right : (t : ℕ → ℕ → Bool) {n : ℕ} (v : List ℕ) (y : ℕ) → length v ≡ n → map (top 7) (zip2 (λ a b. cond (t a b) 255 0) v (replicate n y)) ≡ map (λ b. t b y) v
 mask_right t {n} v y long = tops_compared w8 t v (replicate n y) ∙ zip2_splat t v n y long
@@ -39,12 +39,7 @@ map_self (x ∷ xs) = ap (λ r. x ∷ r) (map_self xs)
 pub moved_more : (becomes : ℕ → ℕ) (at next n : ℕ) (from to new : List ℕ) → next ≡ at + n → take at to ≡ map becomes (take at from)
     → take (at + n) new ≡ take at to ++ map becomes (take n (drop at from)) → take next new ≡ map becomes (take next from)
 moved_more becomes at next n from to new is begun more =
-    ap (λ (k : ℕ). take k new) is
-    ∙ more
-    ∙ ap (λ l. l ++ map becomes (take n (drop at from))) begun
-    ∙ sym (map-append becomes (take at from) (take n (drop at from)))
-    ∙ ap (map becomes) (sym (take-add at n from))
-    ∙ ap (λ (k : ℕ). map becomes (take k from)) (sym is)
+    cc (map-append becomes (take at from) (take n (drop at from)), take-add at n from)
 
 -- where what two functions say of a byte is the same, lists of bytes become the same
 pub bytes_same : {X : Type 0} (f g : ℕ → X) → ((b : ℕ) → b < 256 → f b ≡ g b) → (v : List ℕ) → Each1 (Fits w8) v → map f v ≡ map g v
@@ -87,7 +82,7 @@ none_at_two (s ∷ t ∷ u ∷ more) b is = absurd (false≢true (sym is))
 
 module _ (ss : List Stretch) (few : length ss ≤ 4) (b : ℕ) where
   to_shifted : (n : ℕ) → n ≡ b + (adds_at ss 0 b + (adds_at ss 1 b + (adds_at ss 2 b + adds_at ss 3 b))) → n % 256 ≡ shifted ss b
-  to_shifted n is = ap (λ (k : ℕ). k % 256) (is ∙ ap (λ (k : ℕ). b + k) (sum_is ss b few))
+  to_shifted n is = ap (λ (k : ℕ). k % 256) (cc (sum_is ss b few))
 
   pub one_moves : {x : ℕ} → x ≡ adds_at ss 0 b → is_some (told_at ss 1) ≡ false → (b + x) % 256 ≡ shifted ss b
   one_moves {x} ex is = let none = none_at_one ss b is in to_shifted (b + x) (omega (arith, ex, none.0, none.1, none.2))

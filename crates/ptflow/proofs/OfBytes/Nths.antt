@@ -59,7 +59,7 @@ and_less (true ∷ bits) =
     let half : x / 2 ≡ m = omega arith in
     let less : (x - 1) / 2 ≡ m = omega arith in
     let low : min (x % 2) ((x - 1) % 2) ≡ 0 = omega arith in
-    let both : bit_and (x / 2) ((x - 1) / 2) ≡ m = ap₂ bit_and half less ∙ and_self m in
+    let both : bit_and (x / 2) ((x - 1) / 2) ≡ m = cc (and_self m) in
     omega (arith, and_step x (x - 1), both, low)
 and_less (false ∷ bits) =
     let m = mask_l bits in
@@ -67,7 +67,7 @@ and_less (false ∷ bits) =
     let half : x / 2 ≡ m = omega arith in
     let less : (x - 1) / 2 ≡ m - 1 = omega arith in
     let low : min (x % 2) ((x - 1) % 2) ≡ 0 = omega arith in
-    let both : bit_and (x / 2) ((x - 1) / 2) ≡ mask_l (clear_first bits) = ap₂ bit_and half less ∙ and_less bits in
+    let both : bit_and (x / 2) ((x - 1) / 2) ≡ mask_l (clear_first bits) = cc (and_less bits) in
     omega (arith, and_step x (x - 1), both, low)
 
 -- the lowest bit that is set is cleared
@@ -78,7 +78,7 @@ cleared n {x} bits small is = by_cases x small is
     by_cases zero lt e = and_zero_l ((0 + (2 ^ 64 - 1)) % 2 ^ 64) ∙ sym (and_zero_l (0 - 1)) ∙ ap (λ (z : ℕ). bit_and z (z - 1)) e ∙ and_less (without n bits)
     by_cases (suc y) lt e =
         let less : (suc y + (2 ^ 64 - 1)) % 2 ^ 64 ≡ suc y - 1 = omega arith in
-        ap (bit_and (suc y)) less ∙ ap (λ (z : ℕ). bit_and z (z - 1)) e ∙ and_less (without n bits)
+        cc (and_less (without n bits))
 
 map_self : (bits : List Bool) → map (λ b. b) bits ≡ bits
 map_self [] = refl
@@ -91,15 +91,14 @@ some_set (false ∷ bits) lt = let some = some_set bits (omega (arith, lt)) in o
 
 lowest_set : (bits : List Bool) → length bits ≤ 64 → prefix_len not bits < length bits → count_trailing_zeros 64 (mask_l bits) ≡ prefix_len not bits
 lowest_set bits few some =
-    ap (λ (l : List Bool). count_trailing_zeros 64 (mask_l l)) (sym (map_self bits))
-    ∙ trailing_mask_l (λ b. b) 64 bits few (subst (λ (l : List Bool). 0 < mask_l l) (sym (map_self bits)) (some_set bits some))
+    cc (map_self bits, trailing_mask_l (λ b. b) 64 bits few (subst (λ (l : List Bool). 0 < mask_l l) (sym (map_self bits)) (some_set bits some)))
 
 -- ---- the item behind so many that pass
 
 module _ {X : Type 0} (p : X → Bool) (d : X) where
   one_more : (x : X) (xs : List X) {t : Bool} {r : ℕ} (s n m : ℕ) → p x ≡ t → r ≡ suc s → n ≡ cond t 1 0 + m → IsBehind p d m xs s → IsBehind p d n (x ∷ xs) r
   one_more x xs s n m e next count h =
-      subst (λ (k : ℕ). IsBehind p d n (x ∷ xs) k) (sym next) (omega (arith, h.0), h.1, sum_by-cons (λ b. cond (p b) 1 0) x (take s xs) ∙ ap₂ (λ (b : Bool) (k : ℕ). cond b 1 0 + k) e h.2 ∙ sym count)
+      subst (λ (k : ℕ). IsBehind p d n (x ∷ xs) k) (sym next) (omega (arith, h.0), h.1, cc (sum_by-cons (λ b. cond (p b) 1 0) x (take s xs)))
 
   behind : (xs : List X) (n : ℕ) → n < count_by p xs → IsBehind p d n xs (prefix_len not (without n (map p xs)))
   behind [] n lt = absurd (omega (arith, lt))
@@ -121,7 +120,7 @@ behind_set p xs n few lt is =
     let bits = map p xs in
     let here = behind p 0 xs n lt in
     let long : length (without n bits) ≡ length xs = length-without n bits ∙ length-map' xs in
-    subst (λ (k : ℕ). IsBehind p 0 n xs k) (sym (ap (count_trailing_zeros 64) is ∙ lowest_set (without n bits) (omega (arith, long)) (omega (arith, long, here.0)))) here
+    subst (λ (k : ℕ). IsBehind p 0 n xs k) (sym (cc (is, lowest_set (without n bits) (omega (arith, long)) (omega (arith, long, here.0))))) here
   where
     length-map' : (ys : List ℕ) → length (map p ys) ≡ length ys
     length-map' [] = refl
@@ -134,7 +133,7 @@ module _ (p : ℕ → Bool) (bytes : List ℕ) where
   count_up_to i j le = omega (arith, sum_by-take-le (λ b. cond (p b) 1 0) (take j bytes) i, ap (count_by p) (take-take i j bytes le))
 
   pub count_chunk : (at : ℕ) → count_by p (take (at + 64) bytes) ≡ count_by p (take at bytes) + count_by p (chunk at 64 bytes)
-  count_chunk at = ap (count_by p) (take-add at 64 bytes) ∙ sum_by-append (λ b. cond (p b) 1 0) (take at bytes) (chunk at 64 bytes)
+  count_chunk at = cc (take-add at 64 bytes, sum_by-append (λ b. cond (p b) 1 0) (take at bytes) (chunk at 64 bytes))
 
   module _ (size at m k : ℕ) (room : at + size ≤ length bytes) (h : IsBehind p 0 m (chunk at size bytes) k) where
     pub near : k < size
@@ -142,14 +141,13 @@ module _ (p : ℕ → Bool) (bytes : List ℕ) where
 
     pub count_front : count_by p (take (at + k) bytes) ≡ count_by p (take at bytes) + m
     count_front =
-        ap (count_by p) (take-add at k bytes) ∙ sum_by-append (λ b. cond (p b) 1 0) (take at bytes) (take k (drop at bytes))
-        ∙ ap (λ (n : ℕ). count_by p (take at bytes) + n) (ap (count_by p) (sym (take-take k size (drop at bytes) (omega (arith, near)))) ∙ h.2)
+        cc (take-add at k bytes, sum_by-append (λ b. cond (p b) 1 0) (take at bytes) (take k (drop at bytes)), take-take k size (drop at bytes) (omega (arith, near)))
 
     pub behind_front : {to : ℕ} → at + k < to → to ≤ length bytes → IsBehind p 0 (count_by p (take at bytes) + m) (take to bytes) (at + k)
     behind_front {to} lt le = (
       omega (arith, length-take-le to bytes le),
-      ap p (get_or-take to bytes (at + k) 0 lt ∙ sym (get_or-chunk at size bytes k 0 near)) ∙ h.1,
-      ap (count_by p) (take-take (at + k) to bytes (omega arith)) ∙ count_front,
+      cc (get_or-take to bytes (at + k) 0 lt, get_or-chunk at size bytes k 0 near),
+      cc (take-take (at + k) to bytes (omega arith), count_front),
     )
 
   -- the place that the mask of a chunk gives
@@ -166,7 +164,7 @@ module _ (p : ℕ → Bool) (bytes : List ℕ) where
       low = omega arith;
       high = h.0;
       before = λ k low near passes.
-          let here : p (get_or (take at bytes) k 0) ≡ true = ap p (get_or-take at bytes k 0 near) ∙ passes in
+          let here : p (get_or (take at bytes) k 0) ≡ true = cc (get_or-take at bytes k 0 near) in
           let one : cond {A = ℕ} (p (get_or (take at bytes) k 0)) 1 0 ≡ 1 = ap (λ (t : Bool). cond {A = ℕ} t 1 0) here in
           omega (arith, h.2, one, get_or-le-sum_by (λ b. cond (p b) 1 0) (take at bytes) k 0 (omega (arith, near, h.0, length-take-le at bytes (omega (arith, h.0)))));
     },
@@ -175,11 +173,7 @@ module _ (p : ℕ → Bool) (bytes : List ℕ) where
 
   pub some_counted : (xs : List ℕ) → 0 < mask_l (map p xs) → 0 < count_by p xs
   some_counted [] lt = absurd (omega (arith, lt))
-  some_counted (x ∷ xs) lt = omega (arith, sum_by-cons (λ b. cond (p b) 1 0) x xs, by_test (p x) (mask_l (map p xs)) (count_by p xs) lt (some_counted xs))
-    where
-      by_test : (t : Bool) (m n : ℕ) → 0 < cond t 1 0 + 2 * m → (0 < m → 0 < n) → 0 < cond t 1 0 + n
-      by_test true m n some more = omega arith
-      by_test false m n some more = omega (arith, more (omega (arith, some)))
+  some_counted (x ∷ xs) lt = grind (arith, some_counted xs, sum_by-cons (λ b. cond (p b) 1 0) x xs)
 
   -- the first place that the mask of the first of these bytes gives
   module _ {size marked : ℕ} (k : ℕ) (few : size ≤ 64) (room : size ≤ length bytes) (is : marked ≡ mask_l (map p (chunk 0 size bytes))) (some : marked ≡ 0 → ⊥)
@@ -187,20 +181,19 @@ module _ (p : ℕ → Bool) (bytes : List ℕ) where
     in_front : IsBehind p 0 0 (chunk 0 size bytes) k
     in_front =
         let v = chunk 0 size bytes in
-        found p v (omega (arith, few, length-chunk 0 size bytes (omega arith))) is (some_counted v (subst (λ (m : ℕ). 0 < m) is (omega (arith, some))))
+        found p v (omega (arith, few, length-chunk 0 size bytes (omega arith))) is (some_counted v (rw (← is) (omega (arith, some))))
 
     pub first_front : (to : ℕ) → k < to → to ≤ length bytes → IsBehind p 0 0 (take to bytes) k
     first_front to lt le =
         let same : 0 + k ≡ k = omega arith in
-        subst (λ (n : ℕ). IsBehind p 0 0 (take to bytes) n) same (behind_front size 0 0 k (omega arith) in_front (omega (arith, lt)) le)
+        rw (← same) (behind_front size 0 0 k (omega arith) in_front (omega (arith, lt)) le)
 
     pub none_front : {to : ℕ} → to ≤ k → count_by p (take to bytes) < 1
     none_front {to} le = omega (arith, count_front size 0 0 k (omega arith) in_front, count_up_to to (0 + k) (omega (arith, le)))
 
     pub first_of_all : NoneBefore (Passes p bytes) 0 (length bytes) k × Passes p bytes k
     first_of_all =
-        first_is k (subst (λ (l : List ℕ). IsBehind p 0 0 l k) (take_all (length bytes) bytes (omega arith))
-        (first_front (length bytes) (omega (arith, room, near size 0 0 k (omega arith) in_front)) (omega arith)))
+        first_is k (rw (take_all (length bytes) bytes (omega arith)) at (first_front (length bytes) (omega (arith, room, near size 0 0 k (omega arith) in_front)) (omega arith)))
 
 -- ---- fields
 
@@ -222,26 +215,26 @@ module _ (d : ℕ) (line : List ℕ) where
     long = length-take-le at line (omega (arith, h.0))
 
     here : drop at line ≡ d ∷ ys
-    here = drop_more line at 0 h.0 ∙ ap (λ (b : ℕ). b ∷ ys) (eqb-true (get_or line at 0) d h.1)
+    here = cc (drop_more line at 0 h.0, eqb-true (get_or line at 0) d h.1)
 
     number : length (fields d xs) ≡ n + 1
     number = omega (arith, length-slice_split (is_byte d) xs, h.2)
 
     split : fields d line ≡ fields d xs ++ fields d ys
-    split = ap (fields d) (sym (take-append-drop at line) ∙ ap (λ (l : List ℕ). xs ++ l) here) ∙ fields-append d xs ys
+    split = cc (take-append-drop at line, here, fields-append d xs ys)
 
     pub starts_behind : StartsAt d (n + 1) line (at + 1)
     starts_behind = record {
       fits = omega (arith, h.0);
       count = omega (arith, h.2, count_by-le-length (is_byte d) xs, long);
-      front = ap (λ (k : ℕ). take k (d ∷ line)) one ∙ sym (led_fields d xs) ∙ ap (led d) (sym (ap (take (n + 1)) split ∙ take_at (fields d xs) (fields d ys) (n + 1) number));
-      behind = ap (λ (k : ℕ). drop k (d ∷ line)) one ∙ here;
-      later = ap (drop (n + 1)) split ∙ drop_at (fields d xs) (fields d ys) (n + 1) number;
+      front = cc (one, led_fields d xs, split, take_at (fields d xs) (fields d ys) (n + 1) number);
+      behind = cc (one, here);
+      later = cc (split, drop_at (fields d xs) (fields d ys) (n + 1) number);
     }
 
   pub none_counted : (bytes : List ℕ) → IsLine d bytes → count_by (is_byte d) bytes ≡ 0
   none_counted [] free = refl
-  none_counted (b ∷ bytes) free = sum_by-cons (λ x. cond (is_byte d x) 1 0) b bytes ∙ ap₂ (λ (t : Bool) (n : ℕ). cond t 1 0 + n) (other_byte d b free.0) (none_counted bytes free.1)
+  none_counted (b ∷ bytes) free = cc (sum_by-cons (λ x. cond (is_byte d x) 1 0) b bytes, other_byte d b free.0, none_counted bytes free.1)
 
   -- the first one
   pub first_is_nth : (r : Option ℕ) → IsFirstByte (is_byte d) line r → IsNth (is_byte d) 1 line r
@@ -254,7 +247,7 @@ module _ (d : ℕ) (line : List ℕ) where
   pub starts_behind_nth : {n : ℕ} (at : ℕ) → 0 < n → IsBehind (is_byte d) 0 (n - 1) line at → StartsAt d n line (at + 1)
   starts_behind_nth {n} at some h =
       let whole : n - 1 + 1 ≡ n = omega arith in
-      subst (λ (m : ℕ). StartsAt d m line (at + 1)) whole (starts_behind (n - 1) at h)
+      rw whole at (starts_behind (n - 1) at h)
 
   -- behind the first delimiter
   module _ (first n : ℕ) (here : IsFirstByte (is_byte d) line (Some first)) (some : 0 < n) where
@@ -264,7 +257,7 @@ module _ (d : ℕ) (line : List ℕ) where
     pub starts_past_first : {passed : ℕ} → StartsAt d (n - 1) (drop (first + 1) line) passed → StartsAt d n line (first + 1 + passed)
     starts_past_first {passed} s =
         let whole : 1 + (n - 1) ≡ n = omega arith in
-        subst (λ (m : ℕ). StartsAt d m line (first + 1 + passed)) whole (starts_more d (starts_behind_first first here) s)
+        rw whole at (starts_more d (starts_behind_first first here) s)
 
 -- the next item that passes, where as many stand in front of it as in front of an earlier place
 module _ (p : ℕ → Bool) (bytes : List ℕ) (start end : ℕ) (fits : end < length bytes) (is : p (get_or bytes end 0) ≡ true) (same : count_by p (take end bytes) ≡ count_by p (take start bytes)) where
@@ -288,7 +281,7 @@ module _ (p : ℕ → Bool) (bytes : List ℕ) (start end : ℕ) (fits : end < l
       let whole : start + (end - start) ≡ end = omega (arith, in_order) in
       first_is p (drop start bytes) (end - start) (
         omega (arith, length-drop start bytes, fits, in_order),
-        ap p (get_or-drop start bytes (end - start) 0 ∙ ap (λ (n : ℕ). get_or bytes n 0) whole) ∙ is,
+        cc (get_or-drop start bytes (end - start) 0, is),
         omega (
           arith,
           same,
@@ -330,7 +323,7 @@ module _ {d : ℕ} {block : List ℕ} {from all marked : ℕ} (n start : ℕ) (h
   fits = omega (arith, close, room)
 
   is : p (get_or block (from + bit) 0) ≡ true
-  is = ap p (sym (get_or-chunk from 64 block bit 0 close)) ∙ stands.1
+  is = cc (get_or-chunk from 64 block bit 0 close, stands.1)
 
   as_many : count_by p (take (from + bit) block) ≡ count_by p (take start block)
   as_many = count_front p block 64 from n bit room stands ∙ sym ends

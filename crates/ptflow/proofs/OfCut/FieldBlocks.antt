@@ -20,12 +20,11 @@ use Rattle.ptflow.proofs.OfPasses.LineLaws.{ended_next, parts_of}
 ended-append : (end : ℕ) (ls : List (List ℕ)) (bytes : List ℕ) → AreLines end ls → ended_lines end (text end ls ++ bytes) ≡ ls ++ ended_lines end bytes
 ended-append end [] bytes whole = refl
 ended-append end (l ∷ ls) bytes whole =
-    ap (ended_lines end) (ap (λ (b : List ℕ). b ++ bytes) (append_assoc l (end ∷ []) (text end ls)) ∙ append_assoc l (end ∷ text end ls) bytes) ∙ ended_first end l (text end ls ++ bytes) whole.0
-    ∙ ap (λ (more : List (List ℕ)). l ∷ more) (ended-append end ls bytes whole.1)
+    cc (append_assoc l (end ∷ []) (text end ls), append_assoc l (end ∷ text end ls) bytes, ended_first end l (text end ls ++ bytes) whole.0, ended-append end ls bytes whole.1)
 
 -- bytes that end with the end are the text of their lines
 text_of_ended : (end : ℕ) (front : List ℕ) → text end (ended_lines end (front ++ end ∷ [])) ≡ front ++ end ∷ []
-text_of_ended end front = ap (text end) ((the_ended_lines end [] tt).1 front) ∙ by_cases ((the_lines end (front ++ end ∷ [])).0.1)
+text_of_ended end front = cc ((the_ended_lines end [] tt).1 front, by_cases ((the_lines end (front ++ end ∷ [])).0.1))
   where
     by_cases : let bytes = front ++ end ∷ [] in ((text end (lines end bytes) ≡ bytes)
         ⊎ ((bytes ≢ []) × ¬ EndsWithByte end bytes × (text end (lines end bytes) ≡ bytes ++ end ∷ []))) → text end (lines end bytes) ≡ bytes
@@ -69,12 +68,10 @@ module _ {job : Cut} {end : ℕ} {bytes : List ℕ} {size : ℕ} (some : 0 < siz
   puts {old} is = record {
     some = some;
     fits = fits;
-    taken = ap (text end) lines_are ∙ text-append end front (ended_lines end (drop size bytes)) ∙ ap (λ (l : List ℕ). l ++ text end (ended_lines end (drop size bytes))) texts;
+    taken = cc (lines_are, text-append end front (ended_lines end (drop size bytes)), texts);
     on = λ more.
         let rest = ended_lines end (drop size bytes) ++ more in
-        ap (λ (l : List ℕ). old ++ l) (ap (λ (ls : List (List ℕ)). cut_lines job (ls ++ more)) lines_are
-        ∙ ap (cut_lines job) (append_assoc front (ended_lines end (drop size bytes)) more) ∙ cut_lines-append job front rest)
-        ∙ sym (append_assoc old (cut_lines job front) (cut_lines job rest)) ∙ ap (λ (l : List ℕ). l ++ cut_lines job rest) (sym is);
+        cc (lines_are, append_assoc front (ended_lines end (drop size bytes)) more, cut_lines-append job front rest, append_assoc old (cut_lines job front) (cut_lines job rest));
   }
 
 module _ (job : Cut) (by_fields : job.fields ≡ true) {end : ℕ} (same : end ≡ job.end) (bytes : List ℕ) (to : ℕ) (first : IsFirstByte (is_byte end) bytes (Some to)) where
@@ -83,7 +80,7 @@ module _ (job : Cut) (by_fields : job.fields ≡ true) {end : ℕ} (same : end �
   puts_line out {old} is put =
       puts (omega arith) (omega (arith, first.0.high)) (take to bytes ∷ [])
       (append-nil (take to bytes ++ end ∷ []) ∙ sym (take_end end bytes to first)) (ended_next end bytes to first)
-      (put ∙ ap (λ (l : List ℕ). old ++ l) (ap (λ (l : List ℕ). out ++ take 1 l) (drop_end end bytes to first) ∙ ap (λ (b : ℕ). out ++ b ∷ []) same ∙ sym (line_written job (take to bytes) out is)))
+      (cc (drop_end end bytes to first, line_written job (take to bytes) out is))
 
   -- all whole lines up to a place; the delimiter is not in them
   module _ {size up_to : ℕ} (high : to < size) (fits : size ≤ length bytes) (ended : get_or bytes (size - 1) 0 ≡ end) (near : (size ≡ to + 1) ⊎ (size ≤ up_to)) (past : to ≤ up_to)
@@ -94,35 +91,34 @@ module _ (job : Cut) (by_fields : job.fields ≡ true) {end : ℕ} (same : end �
     is_ended : take size bytes ≡ take (size - 1) bytes ++ end ∷ []
     is_ended =
         let whole : size - 1 + 1 ≡ size = omega (arith, high) in
-        ap (λ (n : ℕ). take n bytes) (sym whole) ∙ take_more bytes (size - 1) 0 (omega (arith, high, fits)) ∙ ap (λ (b : ℕ). take (size - 1) bytes ++ b ∷ []) ended
+        cc (take_more bytes (size - 1) 0 (omega (arith, high, fits)))
 
     texts : text end front ≡ take size bytes
-    texts = ap (λ (l : List ℕ). text end (ended_lines end l)) is_ended ∙ text_of_ended end (take (size - 1) bytes) ∙ sym is_ended
+    texts = cc (is_ended, text_of_ended end (take (size - 1) bytes))
 
     lines_are : ended_lines end bytes ≡ front ++ ended_lines end (drop size bytes)
     lines_are =
-        ap (ended_lines end) (sym (take-append-drop size bytes) ∙ ap (λ (l : List ℕ). l ++ drop size bytes) (sym texts))
-        ∙ ended-append end front (drop size bytes) (parts_of end (take size bytes)).whole
+        cc (take-append-drop size bytes, texts, ended-append end front (drop size bytes) (parts_of end (take size bytes)).whole)
 
     free_up_to : {n : ℕ} → n ≤ up_to → IsLine job.delimiter (take n bytes)
-    free_up_to {n} le = subst (IsLine job.delimiter) (take-take n up_to bytes le) (free_front job.delimiter n (take up_to bytes) free)
+    free_up_to {n} le = rw (take-take n up_to bytes le) at (free_front job.delimiter n (take up_to bytes) free)
 
     are_free : ((size ≡ to + 1) ⊎ (size ≤ up_to)) → AreLines job.delimiter front
     are_free (inl one) =
         let is : front ≡ take to bytes ∷ [] =
-        ap (λ (n : ℕ). ended_lines end (take n bytes)) one ∙ ap (ended_lines end) (take_end end bytes to first) ∙ ended_first end (take to bytes) [] (before_end end bytes to first) in
+        cc (take_end end bytes to first, ended_first end (take to bytes) [] (before_end end bytes to first)) in
         subst (AreLines job.delimiter) (sym is) (free_up_to past, tt)
     are_free (inr le) = free_lines job.delimiter end (take size bytes) (free_up_to le)
 
     pub puts_kept : {old new : List ℕ} → job.only ≡ false → new ≡ old ++ take size bytes → PutsLines job end bytes size old new
     puts_kept {old} keeps put =
         puts (omega (arith, high)) fits front texts lines_are
-        (put ∙ ap (λ (l : List ℕ). old ++ l) (sym texts ∙ ap (λ (b : ℕ). text b front) same ∙ ap (text job.end) (sym (lines_kept job by_fields keeps front (are_free near)))))
+        (cc (texts, lines_kept job by_fields keeps front (are_free near)))
 
     pub puts_dropped : {old : List ℕ} → job.only ≡ true → PutsLines job end bytes size old old
     puts_dropped {old} only =
         puts (omega (arith, high)) fits front texts lines_are
-        (sym (ap (λ (l : List ℕ). old ++ l) (ap (text job.end) (lines_dropped job by_fields only front (are_free near))) ∙ append-nil old))
+        (sym (cc (lines_dropped job by_fields only front (are_free near), append-nil old)))
 
 -- in front of the first delimiter there is none
 pub free_before : (d : ℕ) (bytes : List ℕ) (r : Option ℕ) → IsFirstByte (is_byte d) bytes r → IsLine d (take (unwrap_or r (length bytes)) bytes)
@@ -137,7 +133,7 @@ first_within d bytes (Some at) to first lt le = (
   record {
     low = omega arith;
     high = omega (arith, lt, length-take-le to bytes le);
-    before = λ k low high is. first.0.before k low high (ap (is_byte d) (sym (get_or-take to bytes k 0 (omega (arith, high, lt)))) ∙ is);
+    before = λ k low high is. first.0.before k low high (cc (get_or-take to bytes k 0 (omega (arith, high, lt))));
   },
-  ap (is_byte d) (get_or-take to bytes at 0 lt) ∙ first.1,
+  cc (get_or-take to bytes at 0 lt),
 )

@@ -33,7 +33,7 @@ module _ (d : ℕ) where
   led_fields (x ∷ xs) = by_test (x == d) refl (fields d xs) (led_fields xs)
     where
       by_test : (t : Bool) → (x == d) ≡ t → (fs : List (List ℕ)) → led d fs ≡ d ∷ xs → led d (cond t ([] ∷ fs) (onto_first x fs)) ≡ d ∷ x ∷ xs
-      by_test true same fs more = ap (λ (l : List ℕ). d ∷ l) (more ∙ ap (λ (b : ℕ). b ∷ xs) (sym (eqb-true x d same)))
+      by_test true same fs more = ap (λ (l : List ℕ). d ∷ l) (cc (eqb-true x d same))
       by_test false other [] more = cc
       by_test false other (f ∷ fs) more = ap (λ (l : List ℕ). d ∷ x ∷ l) (ap (drop 1) more)
 
@@ -55,11 +55,9 @@ module _ (d : ℕ) where
       fits = omega (arith, t.fits, length-drop a line, s.fits);
       count = omega (arith, s.count, t.count);
       front =
-          take-add a p (d ∷ line) ∙ (λ i. s.front i ++ take p (s.behind i))
-          ∙ ap (λ (l : List ℕ). led d (take m (fields d line)) ++ l) (t.front ∙ ap (λ (fs : List (List ℕ)). led d (take n fs)) (sym s.later))
-          ∙ sym (led-append (take m (fields d line)) (take n (drop m (fields d line)))) ∙ ap (led d) (sym (take-add m n (fields d line)));
-      behind = sym (drop-drop p a (d ∷ line)) ∙ ap (drop p) s.behind ∙ t.behind ∙ ap (λ (l : List ℕ). d ∷ l) (drop-drop p a line);
-      later = sym (drop-drop n m (fields d line)) ∙ ap (drop n) s.later ∙ t.later ∙ ap (fields d) (drop-drop p a line);
+          cc (take-add a p (d ∷ line), led-append (take m (fields d line)) (take n (drop m (fields d line))), take-add m n (fields d line));
+      behind = cc (drop-drop p a (d ∷ line), drop-drop p a line);
+      later = cc (drop-drop n m (fields d line), drop-drop p a line);
     }
 
   -- few fields are left behind a start
@@ -75,7 +73,7 @@ module _ (d : ℕ) where
       → IfSome o (λ passed. from + passed ≤ first → from + passed ≡ 0)
   start_kept few line None from first count start how found = tt
   start_kept few line (Some passed) from first count start (inl none) found = λ le.
-      let zero : passed ≡ 0 = starts_at_zero (subst (λ (n : ℕ). StartsAt d n line passed) none found) in
+      let zero : passed ≡ 0 = starts_at_zero (rw none at found) in
       omega (arith, zero, start (omega (arith, zero, le)))
   start_kept few line (Some passed) from first count start (inr past) found = λ le. absurd (omega (arith, past, le))
 
@@ -83,18 +81,18 @@ module _ (d : ℕ) where
 pub rest_of : (from to : ℕ) (bytes : List ℕ) → from ≤ to → drop from (take to bytes) ≡ take (to - from) (drop from bytes)
 rest_of from to bytes le =
     let whole : from + (to - from) ≡ to = omega arith in
-    ap (λ (n : ℕ). drop from (take n bytes)) (sym whole) ∙ drop-take from (to - from) bytes
+    cc (drop-take from (to - from) bytes)
 
 -- a slice of a line
 pub slice_of : (from size : ℕ) {to : ℕ} (bytes : List ℕ) → from + size ≤ to → take size (drop from (take to bytes)) ≡ take size (drop from bytes)
-slice_of from size {to} bytes le = ap (take size) (rest_of from to bytes (omega arith)) ∙ take-take size (to - from) (drop from bytes) (omega arith)
+slice_of from size {to} bytes le = cc (rest_of from to bytes (omega arith), take-take size (to - from) (drop from bytes) (omega arith))
 
 -- a line and the byte behind it
 pub line_with_end : (to : ℕ) (bytes : List ℕ) → drop to (take (to + 1) bytes) ≡ take 1 (drop to bytes)
 line_with_end to bytes =
     let one : to + 1 - to ≡ 1 = omega arith in
-    rest_of to (to + 1) bytes (omega arith) ∙ ap (λ (n : ℕ). take n (drop to bytes)) one
+    cc (rest_of to (to + 1) bytes (omega arith))
 
 -- one byte more is put behind what was put
 pub put_byte : (room bytes : List ℕ) (end : ℕ) {to : ℕ} → end < length room → to < length bytes → take (end + 1) (slice_set room end (get_or bytes to 0)) ≡ take end room ++ take 1 (drop to bytes)
-put_byte room bytes end {to} in_room within = take_more_set room end (get_or bytes to 0) in_room ∙ ap (λ (l : List ℕ). take end room ++ take 1 l) (sym (drop_more bytes to 0 within))
+put_byte room bytes end {to} in_room within = cc (take_more_set room end (get_or bytes to 0) in_room, drop_more bytes to 0 within)

@@ -86,7 +86,7 @@ module _ {d : ℕ} (all : List Interval) {line : List ℕ} (tail : List ℕ) (i 
     these = drop_more all i (record { first = 0; last = 0 }) within
 
     apart : AreApart w.low (r ∷ rs)
-    apart = subst (λ (l : List Interval). AreApart w.low l) these w.apart
+    apart = rw these at w.apart
 
     pub not_past : number + lead ≤ r.first
     not_past = omega (arith, w.low_is, apart.0)
@@ -95,9 +95,7 @@ module _ {d : ℕ} (all : List Interval) {line : List ℕ} (tail : List ℕ) (i 
     pub walking_short : length here ≤ skip → to_come ≡ tail
     walking_short few =
         let far : AreApart (r.first - 1) (r ∷ rs) = (omega (arith, apart.0), apart.1, apart.2) in
-        ap (λ (l : List Interval). laid d lead (chosen (is_selected l) number here) ++ tail) these
-        ∙ only_tail (chosen_none (is_selected (r ∷ rs)) number here
-        (λ m low high. not_selected (r ∷ rs) (r.first - 1) m far (omega (arith, few, not_past))))
+        cc (these, only_tail (chosen_none (is_selected (r ∷ rs)) number here (λ m low high. not_selected (r ∷ rs) (r.first - 1) m far (omega (arith, few, not_past)))))
 
     module _ {skipped : ℕ} (s : StartsAt d skip (drop at line) skipped) where
       abbrev from : ℕ
@@ -114,7 +112,7 @@ module _ {d : ℕ} (all : List Interval) {line : List ℕ} (tail : List ℕ) (i 
       lead_drop = by_lead lead refl
         where
           at_delimiter : (q : ℕ) → skipped ≡ suc q → drop (at + q) line ≡ d ∷ rest
-          at_delimiter q is = sym (drop-drop q at line) ∙ ap (λ (k : ℕ). drop k (d ∷ drop at line)) (sym is) ∙ s.behind ∙ ap (λ (l : List ℕ). d ∷ l) (drop-drop skipped at line)
+          at_delimiter q is = cc (drop-drop q at line, drop-drop skipped at line)
 
           by_lead : (n : ℕ) → n ≡ lead → drop (from - n) line ≡ drop (1 - n) (d ∷ rest)
           by_lead zero is = let same : from - 0 ≡ from = omega arith in rw same refl
@@ -130,8 +128,7 @@ module _ {d : ℕ} (all : List Interval) {line : List ℕ} (tail : List ℕ) (i 
           let a = r.first - number in
           let b = r.last + 1 - number in
           let many : b - a ≡ size = omega (arith, not_past, apart.1) in
-          chosen_first r rs number here apart.2 ∙ ap (λ (l : List (List ℕ)). l ++ chosen (is_selected rs) number here)
-          (chosen_slice r number here a b refl refl ∙ (λ i'. take (many i') ((s.later ∙ ap (fields d) (drop-drop skipped at line)) i')))
+          cc (chosen_first r rs number here apart.2, chosen_slice r number here a b refl refl, drop-drop skipped at line)
 
       -- the line goes on behind the interval
       module _ {passed : ℕ} (p : StartsAt d size rest passed) where
@@ -145,28 +142,24 @@ module _ {d : ℕ} (all : List Interval) {line : List ℕ} (tail : List ℕ) (i 
         slice_is =
             let many : (next - 1) - (from - lead) ≡ (passed - 1) + lead = omega (arith, some, w.passed) in
             let all_of : (1 - lead) + ((passed - 1) + lead) ≡ passed = omega (arith, some, w.begun) in
-            (λ i. take (many i) (lead_drop i)) ∙ sym (drop-take (1 - lead) ((passed - 1) + lead) (d ∷ rest))
-            ∙ ap (λ (k : ℕ). drop (1 - lead) (take k (d ∷ rest))) all_of ∙ ap (drop (1 - lead)) p.front
+            cc (lead_drop, drop-take (1 - lead) ((passed - 1) + lead) (d ∷ rest))
 
         others : chosen (is_selected rs) number here ≡ chosen (is_selected rs) (r.last + 1) (fields d (drop next line))
         others =
             let count : number + (skip + size) ≡ r.last + 1 = omega (arith, not_past, apart.1) in
             let left : drop (skip + size) here ≡ fields d (drop next line) =
-            sym (drop-drop size skip here) ∙ ap (drop size) (s.later ∙ ap (fields d) (drop-drop skipped at line)) ∙ p.later ∙ ap (fields d) (drop-drop passed from line) in
-            chosen_skip (is_selected rs) number (skip + size) here (λ m low high. not_selected rs (r.last + 1) m apart.2 (omega (arith, count))) ∙ (λ i. chosen (is_selected rs) (count i) (left i))
+            cc (drop-drop size skip here, drop-drop skipped at line, drop-drop passed from line) in
+            cc (chosen_skip (is_selected rs) number (skip + size) here (λ m low high. not_selected rs (r.last + 1) m apart.2 (omega (arith, count))), count)
 
         next_is : to_come ≡ laid d lead (take size (fields d rest)) ++ (laid d 1 (chosen (is_selected rs) (r.last + 1) (fields d (drop next line))) ++ tail)
         next_is =
             let more = chosen (is_selected rs) (r.last + 1) (fields d (drop next line)) in
             let long : 1 - lead ≤ length (led d (take size (fields d rest))) = omega (arith, some, ap length (sym p.front), length-take-le passed (d ∷ rest) (omega (arith, p.fits))) in
-            ap (λ (l : List Interval). laid d lead (chosen (is_selected l) number here) ++ tail) these
-            ∙ ap (λ (fs : List (List ℕ)). laid d lead fs ++ tail) (here_is ∙ ap (λ (l : List (List ℕ)). take size (fields d rest) ++ l) others)
-            ∙ ap (λ (l : List ℕ). l ++ tail) (ap (drop (1 - lead)) (led-append d (take size (fields d rest)) more) ∙ drop-append-le (1 - lead) (led d (take size (fields d rest))) (led d more) long)
-            ∙ append_assoc (laid d lead (take size (fields d rest))) (led d more) tail
+            cc (these, here_is, others, led-append d (take size (fields d rest)) more, drop-append-le (1 - lead) (led d (take size (fields d rest))) (led d more) long, append_assoc (laid d lead (take size (fields d rest))) (led d more) tail)
 
         -- the slice, and what comes behind it
         pub walking_slice : to_come ≡ take ((next - 1) - (from - lead)) (drop (from - lead) line) ++ coming d rs line tail (r.last + 1) next 1
-        walking_slice = next_is ∙ ap (λ (l : List ℕ). l ++ coming d rs line tail (r.last + 1) next 1) (sym slice_is)
+        walking_slice = cc (next_is, slice_is)
 
         pub walking_more : Walking d rs line (r.last + 1) next 1
         walking_more = record {
@@ -187,11 +180,8 @@ module _ {d : ℕ} (all : List Interval) {line : List ℕ} (tail : List ℕ) (i 
           number_of = omega (arith, few, ap length (s.later ∙ ap (fields d) (drop-drop skipped at line)), length-drop skip here)
 
           same : to_come ≡ laid d lead (fields d rest) ++ tail
-          same = ap (λ (l : List Interval). laid d lead (chosen (is_selected l) number here) ++ tail) these ∙ ap (λ (fs : List (List ℕ)). laid d lead fs ++ tail)
-              (here_is ∙ (λ i. take_all size (fields d rest) few i ++ chosen_none (is_selected rs) number here
-              (λ m low high. not_selected rs (r.last + 1) m apart.2 (omega (arith, number_of, not_past, apart.1))) i) ∙ append-nil (fields d rest))
+          same = cc (these, here_is, take_all size (fields d rest) few, chosen_none (is_selected rs) number here (λ m low high. not_selected rs (r.last + 1) m apart.2 (omega (arith, number_of, not_past, apart.1))), append-nil (fields d rest))
 
           slice : drop (from - lead) bytes ≡ laid d lead (fields d rest) ++ tail
           slice =
-              ap (drop (from - lead)) (sym (take-append-drop count bytes) ∙ (λ i. sym is_line i ++ sym is_tail i)) ∙ drop-append-le (from - lead) line tail (omega (arith, from_fits))
-              ∙ ap (λ (l : List ℕ). l ++ tail) (lead_drop ∙ ap (drop (1 - lead)) (sym (led_fields d rest)))
+              cc (take-append-drop count bytes, drop-append-le (from - lead) line tail (omega (arith, from_fits)), lead_drop, led_fields d rest)

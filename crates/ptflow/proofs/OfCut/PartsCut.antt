@@ -7,4 +7,4 @@ use Rattle.ptflow.specs.Parts.{CutOfParts}
 use Rattle.ptflow.proofs.OfCut.FieldLines.{cut_lines-append}
 
 pub cut_of_parts : CutOfParts
-cut_of_parts job a b whole = ap (cut_lines job) (the_lines_of_parts job.end a b whole) ∙ cut_lines-append job (lines job.end a) (lines job.end b)
+cut_of_parts job a b whole = cc (the_lines_of_parts job.end a b whole, cut_lines-append job (lines job.end a) (lines job.end b))

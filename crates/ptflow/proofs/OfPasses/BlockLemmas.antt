@@ -45,12 +45,11 @@ module _ {X : Type 0} {rest_from : X → List ℕ → List ℕ} {start : X} {now
       clean = c.clean;
     };
     on = λ rest may.
-        ap (rest_from start) (append_assoc m.given block rest) ∙ m.on (block ++ rest) (may_come _ _ _ rest whole.reads may)
-        ∙ ap (λ (l : List ℕ). m.pushed ++ l) (c.on rest) ∙ sym (append_assoc m.pushed c.pushed (rest_from next rest));
+        cc (append_assoc m.given block rest, m.on (block ++ rest) (may_come _ _ _ rest whole.reads may), c.on rest, append_assoc m.pushed c.pushed (rest_from next rest));
   }
     where
       whole : Goes reader new block
-      whole = subst (λ (b : List ℕ). Goes reader new b) (take_all (length block) block (omega arith)) (goes_past (length block) goes held (omega arith) consumed)
+      whole = rw (take_all (length block) block (omega arith)) at (goes_past (length block) goes held (omega arith) consumed)
 
 module _ {X : Type 0} {tool : Tool} {rest_from : X → List ℕ → List ℕ} {Holds : X → X → Type 0} {start : X} (b : IsBlockTool tool rest_from Holds start)
     {now : X} {old reader new : Reader} {was is : Output} {store : Slots}
@@ -86,7 +85,7 @@ module _ {X : Type 0} {tool : Tool} {rest_from : X → List ℕ → List ℕ} {H
       → IsPass tool old new was is' store store (Err Write)
   block_write held h same =
       pass_write b.text m ready sound reads stored works h.wrote h.fault same ready.roomy
-      (λ rest may. subst (λ (l : List ℕ). Begins h.pushed (rest_from now (l ++ rest))) (sym held) (h.true_so_far rest))
+      (λ rest may. rw held (h.true_so_far rest))
 
   -- what was staged could not be sent
   pub block_unsent : {is' : Output} → Wrote is is' [] → is'.faulted ≡ true → new.failed ≡ reader.failed → IsPass tool old new was is' store store (Err Write)

@@ -27,13 +27,13 @@ module _ {X Y : Type 0} (rest_from : X → List Y → List ℕ) (start : X) wher
 
   -- all items were taken
   pub amid_over : (now : X) (items rest : List Y) (was is : Output) → Amid rest_from start now items rest was is → rest ≡ [] → Continues rest_from start now items was is
-  amid_over now items rest was is a none = record { pushed = a.pushed; wrote = a.wrote; clean = a.clean; on = λ more. a.on more ∙ ap (λ (l : List Y). a.pushed ++ rest_from now (l ++ more)) none }
+  amid_over now items rest was is a none = record { pushed = a.pushed; wrote = a.wrote; clean = a.clean; on = λ more. cc (a.on more) }
 
   -- some items more, of which these bytes were pushed
   module _ (now next : X) (items rest rest' : List Y) (bytes : List ℕ) (was is is' : Output) (a : Amid rest_from start now items rest was is) (wrote : Wrote is is' bytes)
       (on : (more : List Y) → rest_from now (rest ++ more) ≡ bytes ++ rest_from next (rest' ++ more)) where
     all_on : (more : List Y) → rest_from start (items ++ more) ≡ (a.pushed ++ bytes) ++ rest_from next (rest' ++ more)
-    all_on more = a.on more ∙ ap (λ (l : List ℕ). a.pushed ++ l) (on more) ∙ sym (append_assoc a.pushed bytes (rest_from next (rest' ++ more)))
+    all_on more = cc (a.on more, on more, append_assoc a.pushed bytes (rest_from next (rest' ++ more)))
 
     pub amid_more : is'.faulted ≡ false → Amid rest_from start next items rest' was is'
     amid_more clean = record { pushed = a.pushed ++ bytes; wrote = wrote_trans _ _ _ _ _ a.clean a.wrote wrote; clean = clean; on = all_on }

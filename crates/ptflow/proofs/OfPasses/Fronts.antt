@@ -15,14 +15,14 @@ front_starts {was} same clean = record { pushed = []; wrote = wrote_nothing was;
 module _ {whole rest : List ℕ} {was is : Output} (f : Front whole rest was is) where
   module _ {is' : Output} {bytes : List ℕ} (more : List ℕ) (same : rest ≡ bytes ++ more) (wrote : Wrote is is' bytes) where
     all_split : whole ≡ (f.pushed ++ bytes) ++ more
-    all_split = f.split ∙ ap (λ (l : List ℕ). f.pushed ++ l) same ∙ sym (append_assoc f.pushed bytes more)
+    all_split = cc (append_assoc f.pushed bytes more)
 
     pub front_more : is'.faulted ≡ false → Front whole more was is'
     front_more clean = record { pushed = f.pushed ++ bytes; wrote = wrote_trans _ _ _ _ _ f.clean f.wrote wrote; clean = clean; split = all_split }
 
     pub front_fails : is'.faulted ≡ true → Wrote was is' whole
-    front_fails fault = subst (λ (b : List ℕ). Wrote was is' b) (sym all_split) (wrote_past _ _ _ more fault (wrote_trans _ _ _ _ _ f.clean f.wrote wrote))
+    front_fails fault = rw all_split (wrote_past _ _ _ more fault (wrote_trans _ _ _ _ _ f.clean f.wrote wrote))
 
   -- all that was to come was pushed
   pub front_ends : {is' : Output} {bytes : List ℕ} → rest ≡ bytes → Wrote is is' bytes → Wrote was is' whole
-  front_ends {is'} same wrote = subst (λ (b : List ℕ). Wrote was is' b) (sym (f.split ∙ ap (λ (l : List ℕ). f.pushed ++ l) same)) (wrote_trans _ _ _ _ _ f.clean f.wrote wrote)
+  front_ends {is'} same wrote = subst (λ (b : List ℕ). Wrote was is' b) (sym (cc)) (wrote_trans _ _ _ _ _ f.clean f.wrote wrote)

@@ -35,8 +35,7 @@ parts_of end (b ∷ bytes) =
 pub ended_front : (end : ℕ) (bytes rest : List ℕ) → lines end (bytes ++ rest) ≡ ended_lines end bytes ++ lines end ((parts_of end bytes).piece ++ rest)
 ended_front end bytes rest =
     let p = parts_of end bytes in
-    ap (λ (l : List ℕ). lines end (l ++ rest)) p.is ∙ ap (lines end) (append_assoc (text end (ended_lines end bytes)) p.piece rest)
-    ∙ lines_of_text end (ended_lines end bytes) (p.piece ++ rest) p.whole
+    cc (append_assoc (text end (ended_lines end bytes)) p.piece rest, lines_of_text end (ended_lines end bytes) (p.piece ++ rest) p.whole)
 
 -- ---- the longest line
 
@@ -71,16 +70,15 @@ module _ (end : ℕ) (bytes : List ℕ) (at : ℕ) (first : IsFirstByte (is_byte
   pub line_of : take at (take (at + 1) bytes) ≡ take at bytes
   line_of =
       let long : length (take at bytes) ≡ at = length-take-le at bytes (omega (arith, first.0.high)) in
-      ap (take at) (take_end end bytes at first) ∙ take-append-le at (take at bytes) (end ∷ []) (omega (arith, long)) ∙ take_all at (take at bytes) (omega (arith, long))
+      cc (take_end end bytes at first, take-append-le at (take at bytes) (end ∷ []) (omega (arith, long)), take_all at (take at bytes) (omega (arith, long)))
 
   pub end_of : drop at (take (at + 1) bytes) ≡ end ∷ []
   end_of =
       let long : length (take at bytes) ≡ at = length-take-le at bytes (omega (arith, first.0.high)) in
-      ap (drop at) (take_end end bytes at first) ∙ drop-append-le at (take at bytes) (end ∷ []) (omega (arith, long))
-      ∙ ap (λ (l : List ℕ). l ++ end ∷ []) (drop_all at (take at bytes) (omega (arith, long)))
+      cc (take_end end bytes at first, drop-append-le at (take at bytes) (end ∷ []) (omega (arith, long)), drop_all at (take at bytes) (omega (arith, long)))
 
   pub split_of : bytes ≡ take at bytes ++ end ∷ drop (at + 1) bytes
-  split_of = sym (take-append-drop at bytes) ∙ ap (λ (l : List ℕ). take at bytes ++ l) (drop_end end bytes at first)
+  split_of = cc (take-append-drop at bytes, drop_end end bytes at first)
 
 -- some of these lines were taken, and these bytes are the rest of the block
 pub record Taken (end : ℕ) (block rest : List ℕ) : Type 0 where
@@ -90,7 +88,7 @@ pub record Taken (end : ℕ) (block rest : List ℕ) : Type 0 where
 
 module _ (end : ℕ) where
   pub ended_next : (rest : List ℕ) (at : ℕ) → IsFirstByte (is_byte end) rest (Some at) → ended_lines end rest ≡ take at rest ∷ ended_lines end (drop (at + 1) rest)
-  ended_next rest at first = ap (ended_lines end) (split_of end rest at first) ∙ ended_first end (take at rest) (drop (at + 1) rest) (before_end end rest at first)
+  ended_next rest at first = cc (split_of end rest at first, ended_first end (take at rest) (drop (at + 1) rest) (before_end end rest at first))
 
   -- these lines in front were taken too
   pub taken_more : {block rest : List ℕ} (size : ℕ) → text end (ended_lines end rest) ≡ take size rest ++ text end (ended_lines end (drop size rest))
@@ -98,13 +96,12 @@ module _ (end : ℕ) where
   taken_more {rest} size texts t =
       let front = take size rest in record {
         front = t.front ++ front;
-        split = t.split ∙ ap (λ (l : List ℕ). t.front ++ l) (sym (take-append-drop size rest)) ∙ sym (append_assoc t.front front (drop size rest));
-        texts = t.texts ∙ ap (λ (l : List ℕ). t.front ++ l) texts ∙ sym (append_assoc t.front front (text end (ended_lines end (drop size rest))));
+        split = cc (take-append-drop size rest, append_assoc t.front front (drop size rest));
+        texts = cc (texts, append_assoc t.front front (text end (ended_lines end (drop size rest))));
       }
 
   -- no line more
   pub taken_all : {block rest : List ℕ} → IsLine end rest → Taken end block rest → take (length block - length rest) block ≡ text end (ended_lines end block)
   taken_all {block} {rest} none t =
       let size : length block - length rest ≡ length t.front = omega (arith, ap length t.split, length-append t.front rest) in
-      (λ i. take (size i) (t.split i)) ∙ take_at t.front rest (length t.front) refl
-      ∙ sym (t.texts ∙ ap (λ (l : List (List ℕ)). t.front ++ text end l) (ended_none end rest none) ∙ append-nil t.front)
+      cc (take_at t.front rest (length t.front) refl, ended_none end rest none, append-nil t.front)

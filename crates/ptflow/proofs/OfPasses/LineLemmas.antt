@@ -42,7 +42,7 @@ pub record LineRun {S X E : Type 0} (state : S → Slots → X) (rest_from : X �
 pub came_line : {slots width : ℕ} {came : Bool} {old new : Reader} {before after : Slots} → slots ≡ width → came ≡ true → Fills old new before after (slots - 1) (Ok came)
     → GivesLine old new before after (width - 1)
 came_line {slots} {old} {new} {before} {after} same is fills =
-    subst (λ (n : ℕ). GivesLine old new before after (n - 1)) same (subst (λ (b : Bool). Fills old new before after (slots - 1) (Ok b)) is fills)
+    rw same at (subst (λ (b : Bool). Fills old new before after (slots - 1) (Ok b)) is fills)
 
 module _ {S X E : Type 0} {tool : Tool} {state : S → Slots → X} {rest_from : X → List (List ℕ) → List E} {written : List E → List ℕ} {counted : X → ℕ} {end width : ℕ} {start : S}
     (t : IsLineTool tool state rest_from written counted end width start) where
@@ -68,7 +68,7 @@ module _ {S X E : Type 0} {tool : Tool} {state : S → Slots → X} {rest_from :
       passed = [];
       ending = ends;
       came = lines_none end old;
-      reached = subst (λ (b : List ℕ). Reached old old was was [] b) (sym none_written) (reached_nothing old was ready.readable clean);
+      reached = rw none_written (reached_nothing old was ready.readable clean);
       first = store;
       on = λ more. refl;
       count = omega (arith, t.fresh store);
@@ -80,8 +80,8 @@ module _ {S X E : Type 0} {tool : Tool} {state : S → Slots → X} {rest_from :
         → IsPass tool old old was was before store (Err Memory)
     run_unslotted {store} ends ready sound clean adds same denied =
         let nothing : Given = record { bytes = []; ended = false } in
-        pass_unslotted tool was ready sound clean (subst (λ (n : ℕ). Adds before store n) (sym t.slots) adds) same denied (omega (arith, t.slots, t.some)) (ends ∙ sym t.ends)
-        (subst (λ (b : List ℕ). Begins (tool.decided nothing) b) none_written (t.decided store nothing [] (state start store) (λ more. refl)))
+        pass_unslotted tool was ready sound clean (rw t.slots adds) same denied (omega (arith, t.slots, t.some)) (cc)
+        (rw none_written at (t.decided store nothing [] (state start store) (λ more. refl)))
 
     module _ {now : X} {reader : Reader} {is : Output} {store : Slots} (r : Run old reader was is before store now) where
       -- what was staged was sent
@@ -118,13 +118,12 @@ module _ {S X E : Type 0} {tool : Tool} {state : S → Slots → X} {rest_from :
         came = came;
         reached = record {
           goes = goes_trans _ _ _ _ _ r.reached.goes goes;
-          wrote = subst (λ (b : List ℕ). Wrote was is' b) (sym (t.apart r.passed c.passed)) (wrote_trans _ _ _ _ _ r.reached.clean r.reached.wrote c.wrote);
+          wrote = rw (t.apart r.passed c.passed) (wrote_trans _ _ _ _ _ r.reached.clean r.reached.wrote c.wrote);
           clean = c.clean;
         };
         first = r.first;
         on = λ more.
-            ap (rest_from (state start r.first)) (append_assoc r.ls ls more) ∙ r.on (ls ++ more) ∙ ap (λ (l : List E). r.passed ++ l) (c.on more)
-            ∙ sym (append_assoc r.passed c.passed (rest_from next more));
+            cc (append_assoc r.ls ls more, r.on (ls ++ more), c.on more, append_assoc r.passed c.passed (rest_from next more));
         count = omega (arith, r.count, c.count, length-append r.ls ls);
         keeps = keeps_more (longest (r.ls ++ ls)) keeps (omega (arith, longest-append r.ls ls));
       }
@@ -136,9 +135,9 @@ module _ {S X E : Type 0} {tool : Tool} {state : S → Slots → X} {rest_from :
       run_block ends {new} {block} goes held passed consumed {next} {is'} c =
           let ls = ended_lines end block in
           let same = ends ∙ r.ending in
-          let front = subst (λ (b : List ℕ). Goes reader new b) (passed.1 ∙ ap (λ (b : ℕ). text b (ended_lines b block)) same) (goes_past _ goes held passed.0 consumed) in
+          let front = subst (λ (b : List ℕ). Goes reader new b) (cc) (goes_past _ goes held passed.0 consumed) in
           run_more ls front (lines_block r.came ls front (parts_of end block).whole)
-          (keeps_more (max (longest r.ls) (longest ls)) r.keeps (omega arith)) (subst (λ (b : ℕ). On now next (ended_lines b block) is is') same c)
+          (keeps_more (max (longest r.ls) (longest ls)) r.keeps (omega arith)) (rw same at c)
 
       -- ---- how it ends
 
@@ -151,13 +150,12 @@ module _ {S X E : Type 0} {tool : Tool} {state : S → Slots → X} {rest_from :
         pushed = written r.passed;
         reached = r.reached;
         on = λ rest may.
-            ap (λ (l : List (List ℕ)). written (rest_from (state start r.first) l)) (lines_on _ _ _ _ r.came rest may) ∙ ap written (r.on (lines end rest))
-            ∙ t.apart r.passed (rest_from now (lines end rest));
+            cc (lines_on _ _ _ _ r.came rest may, r.on (lines end rest), t.apart r.passed (rest_from now (lines end rest)));
       }
 
       -- what is decided of the lines so far was passed on
       decided_so : (given : Given) → whole_lines end given ≡ r.ls → Begins (tool.decided given) (written r.passed)
-      decided_so given are = t.decided r.first given r.passed now (λ more. ap (λ (l : List (List ℕ)). rest_from (state start r.first) (l ++ more)) are ∙ r.on more)
+      decided_so given are = t.decided r.first given r.passed now (λ more. cc (r.on more))
 
       -- and behind them no more than a line and a block came
       works_line : {new : Reader} {piece : List ℕ} → Reads reader new piece → (line behind : List ℕ) → piece ++ new.held ≡ line ++ behind → IsLine end line
@@ -174,7 +172,7 @@ module _ {S X E : Type 0} {tool : Tool} {state : S → Slots → X} {rest_from :
           → ((input : List ℕ) → Agrees given input → most ≤ longest_line end input) → Stored tool before after given
       stored after most given peak adds room short = record {
         peak = λ input a. omega (arith, t.size input, peak, mul-le-mul_left width (short input a));
-        adds = subst (λ (n : ℕ). Adds before after n) (sym t.slots) adds;
+        adds = rw t.slots adds;
         room = omega (arith, room, t.slots);
         unused = λ none. absurd (omega (arith, none, t.slots, t.some));
       }
@@ -213,7 +211,7 @@ module _ {S X E : Type 0} {tool : Tool} {state : S → Slots → X} {rest_from :
               let size : length after.lines ≡ length (with_line store (width - 1) piece).lines = ap (λ (s : Slots). length s.lines) told in
               pass_memory (t.text r.first) midway ready sound reads
               (stored after (max (longest r.ls) (length piece)) (given_of (r.given ++ piece) new) (omega (arith, k.peak, ap (λ (s : Slots). s.peak) told))
-              (record { least = omega (arith, size, k.adds.least); most = omega (arith, size, k.adds.most); all = λ allowed. absurd (false≢true (sym allowed ∙ denied)) })
+              (record { least = omega (arith, size, k.adds.least); most = omega (arith, size, k.adds.most); all = λ allowed. absurd (false≢true (cc)) })
               (omega (arith, size, k.adds.all k.denied)) short_piece) (works_piece reads free is_sound) same denied
 
         -- a block could not be read
@@ -232,7 +230,7 @@ module _ {S X E : Type 0} {tool : Tool} {state : S → Slots → X} {rest_from :
             let f = front rest may in
             let on = h.true_so_far f.0 in record {
               rest = written on.0;
-              is = ap (λ (l : List (List ℕ)). written (rest_from now l)) f.1 ∙ ap written on.1 ∙ t.apart h.passed on.0;
+              is = cc (t.apart h.passed on.0);
             })
 
         -- the lines of a block
@@ -242,7 +240,7 @@ module _ {S X E : Type 0} {tool : Tool} {state : S → Slots → X} {rest_from :
             halts goes.reads (kept (given_of (r.given ++ []) shown) (keeps_more (max (longest r.ls) 0) r.keeps (omega arith))
             (short_piece goes.reads tt is_sound))
             (works_piece goes.reads tt is_sound) goes.failed r.keeps.denied (subst (λ (b : ℕ). Halt now (ended_lines b block) is is') (ends ∙ r.ending) h)
-            (λ rest may. (lines end ((parts_of end block).piece ++ rest), ap (λ (l : List ℕ). lines end (l ++ rest)) held ∙ ended_front end block rest))
+            (λ rest may. (lines end ((parts_of end block).piece ++ rest), cc (ended_front end block rest)))
 
         -- what was staged could not be sent
         pub run_unsent : {is' : Output} → Wrote is is' [] → is'.faulted ≡ true → IsPass tool old reader was is' before store (Err Write)
@@ -250,7 +248,7 @@ module _ {S X E : Type 0} {tool : Tool} {state : S → Slots → X} {rest_from :
             run_block_halts refl sound (goes_nothing reader r.reached.goes.fault) refl
             (record {
               passed = [];
-              wrote = subst (λ (b : List ℕ). Wrote is is' b) (sym none_written) wrote;
+              wrote = rw (← none_written) at wrote;
               fault = fault;
               true_so_far = λ more. (rest_from now (ended_lines old.ending reader.held ++ more), refl);
             })
@@ -260,10 +258,10 @@ module _ {S X E : Type 0} {tool : Tool} {state : S → Slots → X} {rest_from :
     module _ {now : S} {reader : Reader} {is : Output} {store : Slots} (r : Run old reader was is before store (state now store)) where
       -- the slot has these bytes, and the state is as it was
       filled : {after : Slots} (bytes : List ℕ) → after ≡ with_line store (width - 1) bytes → line after (width - 1) ≡ bytes
-      filled bytes told = ap (λ (s : Slots). line s (width - 1)) told ∙ get_or-set_same store.lines (width - 1) bytes [] (omega (arith, run_room r, t.some))
+      filled bytes told = cc (get_or-set_same store.lines (width - 1) bytes [] (omega (arith, run_room r, t.some)))
 
       same_state : {after : Slots} (bytes : List ℕ) → after ≡ with_line store (width - 1) bytes → state now after ≡ state now store
-      same_state bytes told = ap (state now) told ∙ t.stays now store bytes (run_room r)
+      same_state bytes told = cc (t.stays now store bytes (run_room r))
 
       -- the state is counted as before
       pub filled_count : IsSound old → IsSound reader → {after : Slots} (bytes : List ℕ) → after ≡ with_line store (width - 1) bytes → counted (state now after) ≤ 2 ^ 63
@@ -290,9 +288,9 @@ module _ {S X E : Type 0} {tool : Tool} {state : S → Slots → X} {rest_from :
             halts r ready sound e.goes.reads (kept r (given_of (r.given ++ came) new)
             (keeps_more (longest (r.ls ++ e.line ∷ [])) k (omega (arith, longest-append r.ls (e.line ∷ []))))
             (came_longest _ _ _ _ more))
-            (works_line r e.goes.reads e.line (e.ending ++ new.held) (append_assoc e.line e.ending new.held) (subst (λ (b : ℕ). IsLine b e.line) ends e.whole)
+            (works_line r e.goes.reads e.line (e.ending ++ new.held) (append_assoc e.line e.ending new.held) (rw ends at e.whole)
             (behind_line e is_sound)) e.goes.failed k.denied
-            (subst (λ (x : X). Halt x (e.line ∷ []) is is') (same_state e.line e.stored) (subst (λ (l : List ℕ). Halt (state now after) (l ∷ []) is is') (filled e.line e.stored) h))
+            (rw (same_state e.line e.stored) at (subst (λ (l : List ℕ). Halt (state now after) (l ∷ []) is is') (filled e.line e.stored) h))
             (λ rest may.
             (lines end (new.held ++ rest), line_front _ _ _ _ r.came _ _ _ _ e ends (new.held ++ rest) (λ done. λ i. done.held i ++ may done.ended i)))
 
@@ -301,7 +299,7 @@ module _ {S X E : Type 0} {tool : Tool} {state : S → Slots → X} {rest_from :
           {after : Slots} (told : after ≡ with_line store (width - 1) [])
           {is' : Output} (wrote : Wrote is is' (written (rest_from (state now after) []))) where
         last : Wrote is is' (bytes_from r (state now store) [])
-        last = subst (λ (x : X). Wrote is is' (written (rest_from x []))) (same_state [] told) wrote
+        last = rw (same_state [] told) at wrote
 
         k : Keeps width (max (longest r.ls) 0) before after
         k = keeps_last r [] told

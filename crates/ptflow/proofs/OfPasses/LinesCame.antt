@@ -24,30 +24,25 @@ lines_none end reader = record { so_far = inl (refl, tt) }
 
 lines_length : (end : ℕ) (bytes : List ℕ) → length (lines end bytes) ≤ length bytes
 lines_length end [] = omega arith
-lines_length end (b ∷ bytes) = by_test (b == end) (lines end bytes) (lines_length end bytes)
-  where
-    by_test : (t : Bool) (ls : List (List ℕ)) → length ls ≤ length bytes → length (cond t ([] ∷ ls) (onto_first b ls)) ≤ length (b ∷ bytes)
-    by_test true ls few = omega arith
-    by_test false [] few = omega arith
-    by_test false (l ∷ ls) few = omega arith
+lines_length end (b ∷ bytes) = grind (arith, lines_length end bytes)
 
 module _ (end : ℕ) (now : Reader) (given : List ℕ) (ls : List (List ℕ)) (k : LinesCame end now given ls) where
   pub lines_are_given : lines end given ≡ ls
-  lines_are_given = ⊎_elim (λ o. ap (lines end) o.0 ∙ lines-text end ls o.1) (λ c. c.0) k.so_far
+  lines_are_given = ⊎_elim (λ o. cc (lines-text end ls o.1)) (λ c. c.0) k.so_far
 
   pub lines_few : length ls ≤ length given
-  lines_few = subst (λ (l : List (List ℕ)). length l ≤ length given) lines_are_given (lines_length end given)
+  lines_few = rw lines_are_given at (lines_length end given)
 
   -- with whatever may come behind them
   pub lines_on : (rest : List ℕ) → (IsDone now → rest ≡ []) → lines end (given ++ rest) ≡ ls ++ lines end rest
   lines_on rest may = ⊎_elim opened closed k.so_far
     where
       opened : (given ≡ text end ls) × AreLines end ls → lines end (given ++ rest) ≡ ls ++ lines end rest
-      opened o = ap (λ (l : List ℕ). lines end (l ++ rest)) o.0 ∙ lines_of_text end ls rest o.1
+      opened o = cc (lines_of_text end ls rest o.1)
 
       closed : (lines end given ≡ ls) × IsDone now → lines end (given ++ rest) ≡ ls ++ lines end rest
       closed c = let none = may c.1 in
-          ap (λ (l : List ℕ). lines end (given ++ l)) none ∙ ap (lines end) (append-nil given) ∙ c.0 ∙ sym (append-nil ls) ∙ ap (λ (l : List ℕ). ls ++ lines end l) (sym none)
+          cc (append-nil given, append-nil ls)
 
   pub came_longest : (input : List ℕ) → Agrees (given_of given now) input → longest ls ≤ longest_line end input
   came_longest input a =
@@ -65,13 +60,13 @@ module _ (end : ℕ) (now : Reader) (given : List ℕ) (ls : List (List ℕ)) (k
         opened : (given ≡ text end ls) × AreLines end ls → max (longest ls) (length piece) ≤ longest_line end input
         opened o =
             let split : input ≡ text end ls ++ (piece ++ (new.held ++ a.rest)) =
-            a.is ∙ ap (λ (l : List ℕ). l ++ a.rest) (append_assoc given piece new.held) ∙ append_assoc given (piece ++ new.held) a.rest ∙ (λ i. o.0 i ++ append_assoc piece new.held a.rest i) in
-            subst (λ (l : List ℕ). max (longest ls) (length piece) ≤ longest_line end l) (sym split) (longest_front end ls piece (new.held ++ a.rest) o.1 free)
+            cc (a.is, append_assoc given piece new.held, append_assoc given (piece ++ new.held) a.rest, o.0, append_assoc piece new.held a.rest) in
+            rw (← split) at (longest_front end ls piece (new.held ++ a.rest) o.1 free)
 
         closed : (lines end given ≡ ls) × IsDone now → max (longest ls) (length piece) ≤ longest_line end input
         closed c =
             let none = done_gives_nothing _ _ _ c.1 reads in
-            let all : input ≡ given = a.is ∙ (λ i. ((given ++ none.0 i) ++ none.1 i) ++ a.whole none.2 i) ∙ append-nil ((given ++ []) ++ []) ∙ append-nil (given ++ []) ∙ append-nil given in
+            let all : input ≡ given = cc (a.whole none.2, append-nil ((given ++ []) ++ []), append-nil (given ++ []), append-nil given) in
             omega (arith, ap length none.0, ap longest (ap (lines end) all ∙ c.0))
 
     -- and the read of the rest failed
@@ -79,12 +74,12 @@ module _ (end : ℕ) (now : Reader) (given : List ℕ) (ls : List (List ℕ)) (k
     whole_before empty going =
         ⊎_elim
         (λ o. (λ i. whole_lines end (record { bytes = (o.0 i ++ piece) ++ empty i; ended = going i })) ∙ ap (ended_lines end) (append-nil (text end ls ++ piece)) ∙ ended_of_text end ls piece o.1 free)
-        (λ c. absurd (false≢true (sym going ∙ (done_gives_nothing _ _ _ c.1 reads).2))) k.so_far
+        (λ c. absurd (false≢true (cc ((done_gives_nothing _ _ _ c.1 reads).2)))) k.so_far
 
   -- a line came
   module _ (new : Reader) (before after : Slots) (slot : ℕ) (e : GivesLine now new before after slot) (same : now.ending ≡ end) where
     free : IsLine end e.line
-    free = subst (λ (b : ℕ). IsLine b e.line) same e.whole
+    free = rw same at e.whole
 
     some_came : 0 < length (e.line ++ e.ending)
     some_came = elim e.ends [
@@ -98,8 +93,7 @@ module _ (end : ℕ) (now : Reader) (given : List ℕ) (ls : List (List ℕ)) (k
       | inl ends ↦ (λ i. lines end (append_assoc e.line ((ends ∙ ap (λ (b : ℕ). b ∷ []) same) i) rest i)) ∙ lines_first end e.line rest free
       | inr last ↦
           let none = may last.2 in
-          (λ i. lines end ((e.line ++ last.0 i) ++ none i)) ∙ ap (lines end) (append-nil (e.line ++ []) ∙ append-nil e.line)
-          ∙ lines_last end e.line free last.1 ∙ ap (λ (l : List ℕ). e.line ∷ lines end l) (sym none)
+          cc (append-nil (e.line ++ []), append-nil e.line, lines_last end e.line free last.1)
     ]
 
     pub lines_more : LinesCame end new (given ++ (e.line ++ e.ending)) (ls ++ e.line ∷ [])
@@ -108,10 +102,9 @@ module _ (end : ℕ) (now : Reader) (given : List ℕ) (ls : List (List ℕ)) (k
         opened : (given ≡ text end ls) × AreLines end ls
             → ((given ++ (e.line ++ e.ending) ≡ text end (ls ++ e.line ∷ [])) × AreLines end (ls ++ e.line ∷ [])) ⊎ ((lines end (given ++ (e.line ++ e.ending)) ≡ ls ++ e.line ∷ []) × IsDone new)
         opened o = elim e.ends [
-          | inl ends ↦ inl ((λ i. o.0 i ++ (e.line ++ (ends ∙ ap (λ (b : ℕ). b ∷ []) same) i)) ∙ sym (text_push end ls e.line), AreLines_push end ls e.line o.1 free)
+          | inl ends ↦ inl (cc (text_push end ls e.line), AreLines_push end ls e.line o.1 free)
           | inr last ↦ inr (
-            ap (lines end) ((λ i. o.0 i ++ (e.line ++ last.0 i)) ∙ ap (λ (l : List ℕ). text end ls ++ l) (append-nil e.line)) ∙ lines_of_text end ls e.line o.1
-                ∙ ap (λ (l : List (List ℕ)). ls ++ l) (lines_last end e.line free last.1),
+            cc (append-nil e.line, lines_of_text end ls e.line o.1, lines_last end e.line free last.1),
             last.2,
           )
         ]
@@ -129,9 +122,9 @@ pub lines_block : {end : ℕ} {reader : Reader} {given : List ℕ} {ls : List (L
     → Goes reader new (text end more) → AreLines end more → LinesCame end new (given ++ text end more) (ls ++ more)
 lines_block {end} {ls} k more goes are = record {
   so_far = ⊎_elim
-      (λ o. inl (ap (λ (l : List ℕ). l ++ text end more) o.0 ∙ sym (text-append end ls more), are_append end ls more o.1 are))
+      (λ o. inl (cc (text-append end ls more), are_append end ls more o.1 are))
       (λ c. inr (
-        lines_on _ _ _ _ k (text end more) (λ done. (done_gives_nothing _ _ _ done goes.reads).0) ∙ ap (λ (l : List (List ℕ)). ls ++ l) (lines-text end more are),
+        cc (lines_on _ _ _ _ k (text end more) (λ done. (done_gives_nothing _ _ _ done goes.reads).0), lines-text end more are),
         stays_done _ _ _ c.1 goes.reads,
       )) k.so_far;
 }
@@ -166,13 +159,11 @@ module _ {end : ℕ} {now new : Reader} {given : List ℕ} {ls : List (List ℕ)
         before = record {
           earlier = record { bytes = given ++ take n line; ended = false };
           last = drop n line ++ behind;
-          split = append_assoc given piece new.held ∙ ap (λ (l : List ℕ). given ++ l)
-              (is ∙ ap (λ (l : List ℕ). l ++ behind) (sym (take-append-drop n line)) ∙ append_assoc (take n line) (drop n line) behind)
-              ∙ sym (append_assoc given (take n line) (drop n line ++ behind));
+          split = cc (append_assoc given piece new.held, take-append-drop n line, append_assoc (take n line) (drop n line) behind, append_assoc given (take n line) (drop n line ++ behind));
           short = omega (arith, short, length-append (drop n line) behind, length-drop n line);
           ended = λ never. absurd (false≢true never);
         };
-        whole = ap (λ (l : List ℕ). ended_lines end (l ++ take n line)) o.0 ∙ ended_of_text end ls (take n line) o.1 (line_take end n line whole);
+        whole = cc (ended_of_text end ls (take n line) o.1 (line_take end n line whole));
       }
 
       closed : (lines end given ≡ ls) × IsDone now → Earlier end ls (given_of (given ++ piece) new)
@@ -180,7 +171,7 @@ module _ {end : ℕ} {now new : Reader} {given : List ℕ} {ls : List (List ℕ)
         before = record {
           earlier = record { bytes = given; ended = true };
           last = [];
-          split = (λ i. (given ++ none.0 i) ++ none.1 i) ∙ append-nil (given ++ []);
+          split = cc (append-nil (given ++ []));
           short = omega arith;
           ended = λ e. none.2;
         };

@@ -32,7 +32,7 @@ abbrev pub reached_sent : {old reader : Reader} {was is is' : Output} {given pus
     → is'.faulted ≡ false → Reached old reader was is' given pushed
 reached_sent {was} {is'} {pushed} r wrote clean = record {
   goes = r.goes;
-  wrote = subst (λ (b : List ℕ). Wrote was is' b) (append-nil pushed) (wrote_trans _ _ _ _ _ r.clean r.wrote wrote);
+  wrote = rw (append-nil pushed) at (wrote_trans _ _ _ _ _ r.clean r.wrote wrote);
   clean = clean;
 }
 
@@ -77,12 +77,12 @@ pass_halted tool old was before ready fault = record {
   wrote = wrote_nothing was;
   ends = record { faulted = fault; failed = refl; denied = ready.roomy };
   true_so_far = λ input a. record { rest = tool.text input; is = refl };
-  sure = λ failed clean. absurd (false≢true (sym clean ∙ fault));
-  keeps_up = λ clean. absurd (false≢true (sym clean ∙ fault));
+  sure = λ failed clean. absurd (false≢true (cc (clean)));
+  keeps_up = λ clean. absurd (false≢true (cc (clean)));
   whole = λ ok. cc;
   peak = λ input a. omega arith;
-  slots = λ clean. absurd (false≢true (sym clean ∙ fault));
-  refused = λ clean few. absurd (false≢true (sym clean ∙ fault));
+  slots = λ clean. absurd (false≢true (cc (clean)));
+  refused = λ clean few. absurd (false≢true (cc (clean)));
   unused = λ none. refl;
   halted = λ h. record { told = refl; same_reader = refl; same_output = refl; same_store = refl };
 }
@@ -97,7 +97,7 @@ module _ (tool : Tool) (end : ℕ) (old : Reader) {set : Reader} (new : Reader) 
 
   pub pass_set : {result : Result (Unit {0}) FlowFault} → was.faulted ≡ false → IsPass tool set new was is before store result → IsPass tool old new was is before store result
   pass_set {result} clean pass =
-      let p = subst (λ (r : Reader). IsPass tool r new was is before store result) same pass in
+      let p = rw same at pass in
       record {
         given = p.given;
         came = came_set old _ end refl _ _ p.came;
@@ -112,7 +112,7 @@ module _ (tool : Tool) (end : ℕ) (old : Reader) {set : Reader} (new : Reader) 
         slots = p.slots;
         refused = λ fine few. record { same_reader = (p.refused fine few).same_reader; same_output = (p.refused fine few).same_output };
         unused = p.unused;
-        halted = λ fault. absurd (false≢true (sym clean ∙ fault));
+        halted = λ fault. absurd (false≢true (cc (clean)));
       }
 
 -- the same, lent no store
@@ -120,7 +120,7 @@ pub bare_set : (tool : Tool) (end : ℕ) (old set new : Reader) (was is : Output
     → was.faulted ≡ false → IsReady old store → IsBarePass tool set new was is result → IsPass tool old new was is store store result
 bare_set tool end old set new was is store same result clean ready bare =
     pass_set _ end old _ _ _ _ _ same clean
-    (bare store (subst (λ (r : Reader). IsReady r store) (sym same) (record { opened = ready.opened; readable = ready.readable; roomy = ready.roomy; empty = ready.empty })))
+    (bare store (rw same (record { opened = ready.opened; readable = ready.readable; roomy = ready.roomy; empty = ready.empty })))
 
 -- the slots were refused
 module _ (tool : Tool) {old : Reader} (was : Output) {before store : Slots} (ready : IsReady old before) (sound : IsSound old) (clean : was.faulted ≡ false)
@@ -145,35 +145,35 @@ module _ (tool : Tool) {old : Reader} (was : Output) {before store : Slots} (rea
     wrote = wrote_nothing was;
     ends = record { denied = denied; failed = refl; clean = clean };
     true_so_far = λ input a. record { rest = tool.text input; is = refl };
-    sure = λ failed fine. absurd (false≢true (sym (never_failed ready (goes_nothing old ready.readable) sound) ∙ failed));
+    sure = λ failed fine. absurd (false≢true (cc (never_failed ready (goes_nothing old ready.readable) sound)));
     keeps_up = λ fine. keeps_still _ _ _ _ _ (came_before decided) (wrote_nothing was) clean;
     whole = λ ok. cc;
     peak = λ input a. omega (arith, same);
     slots = λ fine. adds;
     refused = λ fine few. record { same_reader = λ i. record old { ending = ends i }; same_output = refl };
     unused = λ none. absurd (omega (arith, none, some));
-    halted = λ fault. absurd (false≢true (sym clean ∙ fault));
+    halted = λ fault. absurd (false≢true (cc (clean)));
   }
 
 -- a tool that is lent a store that is not denied, and leaves it alone, tells no want of memory
 pub never_memory : {tool : Tool} {old new : Reader} {was is : Output} {store : Slots} {result : Result (Unit {0}) FlowFault} → store.denied ≡ false
     → IsPass tool old new was is store store result → result ≡ Err Memory → ⊥
 never_memory {old} {new} {is} {store} roomy p e =
-    let ends : Ends old new is store (Err Memory) = subst (λ (r : Result (Unit {0}) FlowFault). Ends old new is store r) e p.ends in
-    false≢true (sym roomy ∙ ends.denied)
+    let ends : Ends old new is store (Err Memory) = rw e at p.ends in
+    false≢true (cc)
 
 module _ {X : Type 0} {rest_from : X → List ℕ → List ℕ} {start : X} {tool : Tool} (is_text : (bytes : List ℕ) → rest_from start bytes ≡ tool.text bytes)
     {now : X} {old reader new : Reader} {was is : Output} {before store : Slots} (m : Midway rest_from start now old reader was is) (ready : IsReady old before) (sound : IsSound reader)
     {piece : List ℕ} (reads : Reads reader new piece) (stored : Stored tool before store (given_of (m.given ++ piece) new))
     (works : Works tool (given_of (m.given ++ piece) new) m.pushed) where
   same_failed : new.failed ≡ reader.failed → new.failed ≡ old.failed
-  same_failed same = same ∙ m.reached.goes.failed
+  same_failed same = cc
 
   went_on : new.failed ≡ reader.failed → new.failed ≡ false
   went_on same = same ∙ never_failed ready m.reached.goes sound
 
   text_of : {input : List ℕ} (a : Agrees (given_of (m.given ++ piece) new) input) → tool.text input ≡ m.pushed ++ rest_from now (piece ++ (new.held ++ a.rest))
-  text_of {input} a = sym (is_text input) ∙ ap (rest_from start) (a.is ∙ split) ∙ m.on (piece ++ (new.held ++ a.rest)) none
+  text_of {input} a = cc (is_text input, split, m.on (piece ++ (new.held ++ a.rest)) none)
     where
       split : ((m.given ++ piece) ++ new.held) ++ a.rest ≡ m.given ++ (piece ++ (new.held ++ a.rest))
       split = append_assoc (m.given ++ piece) new.held a.rest ∙ append_assoc m.given piece (new.held ++ a.rest)
@@ -208,7 +208,7 @@ module _ {X : Type 0} {rest_from : X → List ℕ → List ℕ} {start : X} {too
     slots = λ clean. stored.adds;
     refused = λ clean few. absurd (omega (arith, few, stored.room));
     unused = stored.unused;
-    halted = λ fault. absurd (false≢true (sym m.reached.clean ∙ ap (λ (o : Output). o.faulted) (m.reached.wrote.stays fault) ∙ fault));
+    halted = λ fault. absurd (false≢true (cc (m.reached.wrote.stays fault)));
   }
 
   begins : (input : List ℕ) → Agrees (given_of (m.given ++ piece) new) input → Begins m.pushed (tool.text input)
@@ -220,13 +220,13 @@ module _ {X : Type 0} {rest_from : X → List ℕ → List ℕ} {start : X} {too
   pass_read cause roomy decided =
       pass m.reached.wrote still
       (record { cause = ⊎_elim (λ c. inl c) (λ c. inr (c.0, same_failed c.1)) cause; clean = m.reached.clean; denied = roomy; only = refl })
-      begins (λ failed fine. ⊎_elim (λ c. decided c.1 c.2) (λ c. absurd (false≢true (sym (went_on c.1) ∙ failed))) cause) (λ ok. cc)
+      begins (λ failed fine. ⊎_elim (λ c. decided c.1 c.2) (λ c. absurd (false≢true (cc (went_on c.1)))) cause) (λ ok. cc)
 
   -- a growth was refused
   pub pass_memory : new.failed ≡ reader.failed → store.denied ≡ true → IsPass tool old new was is before store (Err Memory)
   pass_memory same denied =
       pass m.reached.wrote still (record { denied = denied; failed = same_failed same; clean = m.reached.clean })
-      begins (λ failed fine. absurd (false≢true (sym (went_on same) ∙ failed))) (λ ok. cc)
+      begins (λ failed fine. absurd (false≢true (cc (went_on same)))) (λ ok. cc)
 
   -- a write failed while these bytes were pushed
   pub pass_write : {is' : Output} {bytes : List ℕ} → Wrote is is' bytes → is'.faulted ≡ true → new.failed ≡ reader.failed → store.denied ≡ false
@@ -236,9 +236,9 @@ module _ {X : Type 0} {rest_from : X → List ℕ → List ℕ} {start : X} {too
       (record { faulted = fault; failed = same_failed same; denied = roomy })
       (λ input a. let b = fronts a.rest a.whole in record {
         rest = b.rest;
-        is = text_of a ∙ ap (λ (l : List ℕ). m.pushed ++ l) b.is ∙ sym (append_assoc m.pushed bytes b.rest);
+        is = cc (text_of a, append_assoc m.pushed bytes b.rest);
       })
-      (λ failed fine. absurd (false≢true (sym fine ∙ fault))) (λ ok. cc)
+      (λ failed fine. absurd (false≢true (cc))) (λ ok. cc)
 
   -- the end was said
   module _ {is' : Output} (wrote : Wrote is is' (rest_from now [])) (done : IsDone new) (none : piece ≡ []) (same : new.failed ≡ reader.failed) (roomy : store.denied ≡ false) where
@@ -251,13 +251,13 @@ module _ {X : Type 0} {rest_from : X → List ℕ → List ℕ} {start : X} {too
         pass (wrote_trans _ _ _ _ _ m.reached.clean m.reached.wrote wrote) (more _ _ wrote)
         (record { done = done; fault = fault; failed = same_failed same; clean = fine; denied = roomy; empty = empty; short = short })
         (λ input a. record { rest = []; is = all_of input a ∙ sym (append-nil (m.pushed ++ rest_from now [])) })
-        (λ failed good. absurd (false≢true (sym (went_on same) ∙ failed)))
+        (λ failed good. absurd (false≢true (cc (went_on same))))
         (λ ok. sym (all_of ((m.given ++ piece) ++ new.held) (record { rest = []; is = sym (append-nil ((m.given ++ piece) ++ new.held)); whole = λ ended. refl })))
       where
         all_of : (input : List ℕ) → Agrees (given_of (m.given ++ piece) new) input → tool.text input ≡ m.pushed ++ rest_from now []
-        all_of input a = text_of a ∙ ap (λ (l : List ℕ). m.pushed ++ rest_from now l) (nothing_left a.rest a.whole)
+        all_of input a = cc (text_of a, nothing_left a.rest a.whole)
 
     -- and a write failed while it was pushed
     pub pass_unended : is'.faulted ≡ true → IsPass tool old new was is' before store (Err Write)
     pass_unended fault = pass_write wrote fault same roomy
-        (λ rest whole. record { rest = []; is = ap (rest_from now) (nothing_left rest whole) ∙ sym (append-nil (rest_from now [])) })
+        (λ rest whole. record { rest = []; is = cc (nothing_left rest whole, append-nil (rest_from now [])) })

@@ -35,14 +35,14 @@ may_come now new bytes rest reads may done = λ i. (done_gives_nothing _ _ _ don
 
 -- a sound reader that can be read has not failed
 pub never_failed : {old reader : Reader} {store : Slots} {bytes : List ℕ} → IsReady old store → Goes old reader bytes → IsSound reader → reader.failed ≡ false
-never_failed ready goes sound = sound.unfailed (goes.reads.refused ∙ ready.opened) goes.fault
+never_failed ready goes sound = sound.unfailed (cc) goes.fault
 
 -- the first bytes of a block that was shown were consumed
 pub goes_past : {now shown new : Reader} {block : List ℕ} (count : ℕ) → Goes now shown [] → shown.held ≡ block → count ≤ length block → new
     ≡ record shown { held = drop count shown.held } → Goes now new (take count block)
 goes_past {shown} {new} count goes held fits consumed =
     goes_trans _ _ _ _ _ goes
-    (subst (λ (b : List ℕ). Goes shown new b) (ap (take count) held) (goes_front shown _ count goes.fault (omega (arith, fits, ap length held)) consumed))
+    (rw (ap (take count) held) at (goes_front shown _ count goes.fault (omega (arith, fits, ap length held)) consumed))
 
 -- a block that is not empty was taken
 pub block_less : {now shown new : Reader} {block : List ℕ} → Goes now shown [] → shown.held ≡ block → length shown.held ≤ shown.pulled → (length block ≡ 0 → ⊥)

@@ -20,7 +20,7 @@ pub record Keeps (width most : ℕ) (before store : Slots) : Type 0 where
   pub peak : store.peak ≤ max before.peak (width * most)
 
 total_split : (width : ℕ) (ls : List (List ℕ)) → total ls ≡ total (take width ls) + total (drop width ls)
-total_split width ls = ap total (sym (take-append-drop width ls)) ∙ sum_by-append length (take width ls) (drop width ls)
+total_split width ls = cc (take-append-drop width ls, sum_by-append length (take width ls) (drop width ls))
 
 front_total : (width most : ℕ) (ls : List (List ℕ)) → ((k : ℕ) → k < width → length (get_or ls k []) ≤ most) → total (take width ls) ≤ width * most
 front_total zero most ls short = omega arith
@@ -55,7 +55,7 @@ keeps_more {width} more k high = record {
 pub keeps_line : {width most : ℕ} {before store : Slots} (new : Slots) (slot : ℕ) (bytes : List ℕ) → Keeps width most before store → slot < width → length bytes ≤ most
     → new ≡ with_line store slot bytes → Keeps width most before new
 keeps_line {width} {most} {store} new slot bytes k within fits is = record {
-  denied = ap (λ (s : Slots). s.denied) is ∙ k.denied;
+  denied = cc;
   adds = record {
     least = omega (arith, same_length, k.adds.least);
     most = omega (arith, same_length, k.adds.most);
@@ -67,7 +67,7 @@ keeps_line {width} {most} {store} new slot bytes k within fits is = record {
 }
   where
     same_length : length new.lines ≡ length store.lines
-    same_length = ap (λ (s : Slots). length s.lines) is ∙ length-set store.lines slot bytes
+    same_length = cc (length-set store.lines slot bytes)
 
     short : (i : ℕ) → i < width → length (get_or new.lines i []) ≤ most
     short i low = ⊎_elim here there (cases_eq i slot)
@@ -84,7 +84,7 @@ keeps_line {width} {most} {store} new slot bytes k within fits is = record {
         there other = omega (arith, k.short i low, ap length (ap (λ (s : Slots). get_or s.lines i []) is ∙ get_or-set_other store.lines slot i bytes [] other))
 
     others : total (drop width new.lines) ≡ 0
-    others = ap (λ (s : Slots). total (drop width s.lines)) is ∙ ap total (drop-set-lt width store.lines slot bytes within) ∙ k.others
+    others = cc (drop-set-lt width store.lines slot bytes within)
 
 -- the first and the last slot may have changed places
 pub keeps_swapped : {width most : ℕ} {before store : Slots} (new : Slots) → 0 < width → Keeps width most before store → IsSwapped width store new → Keeps width most before new
@@ -105,16 +105,16 @@ keeps_swapped {width} {most} {before} {store} new some k either = ⊎_elim (λ s
     changed is =
         let room : width ≤ length store.lines = omega (arith, k.adds.all k.denied) in
         let swapped = swap_is store.lines 0 (width - 1) [] (omega (arith, room, some)) (omega (arith, room, some)) in
-        let same : new.lines ≡ set (set store.lines 0 last) (width - 1) first = ap (λ (s : Slots). s.lines) is ∙ sym swapped in
+        let same : new.lines ≡ set (set store.lines 0 last) (width - 1) first = cc in
         record {
-          denied = ap (λ (s : Slots). s.denied) is ∙ k.denied;
+          denied = cc;
           adds = record {
             least = omega (arith, ap length same, keeps_both.adds.least);
             most = omega (arith, ap length same, keeps_both.adds.most);
-            all = λ allowed. ap length same ∙ keeps_both.adds.all keeps_both.denied;
+            all = λ allowed. cc (keeps_both.adds.all keeps_both.denied);
           };
-          short = λ i low. subst (λ (l : List (List ℕ)). length (get_or l i []) ≤ most) (sym same) (keeps_both.short i low);
-          others = ap (λ (l : List (List ℕ)). total (drop width l)) same ∙ keeps_both.others;
+          short = λ i low. rw same (keeps_both.short i low);
+          others = cc (same, keeps_both.others);
           peak = omega (arith, ap (λ (s : Slots). s.peak) is, k.peak);
         }
 
@@ -123,7 +123,7 @@ pub emptied : {width most : ℕ} {before store new : Slots} → Keeps width most
     → Empties (width - 1) store new → Keeps width most before new × (total new.lines ≡ 0)
 emptied {width} {most} {store} {new} k some last e = (
   record {
-    denied = e.denied ∙ k.denied;
+    denied = cc;
     adds = record {
       least = omega (arith, e.size, k.adds.least);
       most = omega (arith, e.size, k.adds.most);

@@ -23,17 +23,14 @@ piece_ends from at zero some room = absurd (omega arith)
 piece_ends from at (suc n) some room =
     let long : length (chunk at (suc n) from) ≡ suc n = length-chunk at (suc n) from room in
     let place : at + suc n - 1 ≡ at + n = omega arith in
-    ap (λ (k : ℕ). get_or (get_or from (at - 1) 0 ∷ chunk at (suc n) from) k 0) long
-    ∙ get_or-chunk at (suc n) from n 0 (omega arith)
-    ∙ ap (λ (k : ℕ). get_or from k 0) (sym place)
+    cc (get_or-chunk at (suc n) from n 0 (omega arith))
 
 module _ (squeezed : ℕ → Bool) where
   -- a piece and the next one, with the last byte of the piece in front of it
   pub behind_on : (last : ℕ) (xs ys : List ℕ) → squeeze_behind squeezed last (xs ++ ys) ≡ squeeze_behind squeezed last xs ++ squeeze_behind squeezed (get_or (last ∷ xs) (length xs) 0) ys
   behind_on last [] ys = refl
   behind_on last (b ∷ xs) ys =
-      behind_one squeezed last b (xs ++ ys) ∙ by_test (behind_on b xs ys) (stays squeezed (last, b))
-      ∙ ap (λ (l : List ℕ). l ++ squeeze_behind squeezed (get_or (b ∷ xs) (length xs) 0) ys) (sym (behind_one squeezed last b xs))
+      cc (behind_one squeezed last b (xs ++ ys), by_test (behind_on b xs ys) (stays squeezed (last, b)), behind_one squeezed last b xs)
     where
       by_test : squeeze_behind squeezed b (xs ++ ys) ≡ squeeze_behind squeezed b xs ++ squeeze_behind squeezed (get_or (b ∷ xs) (length xs) 0) ys → (s : Bool)
           → cond s (b ∷ squeeze_behind squeezed b (xs ++ ys)) (squeeze_behind squeezed b (xs ++ ys))
@@ -44,12 +41,12 @@ module _ (squeezed : ℕ → Bool) where
   -- of a piece those stay that are no repeat of the byte in front of them
   pub chosen_behind : (last : ℕ) (bytes : List ℕ) → chosen_by (zip2 (λ a b. not (eqb a b && squeezed b)) (take (length bytes) (last ∷ bytes)) bytes) bytes ≡ squeeze_behind squeezed last bytes
   chosen_behind last [] = refl
-  chosen_behind last (b ∷ bytes) = ap (λ (l : List ℕ). cond (stays squeezed (last, b)) (b ∷ l) l) (chosen_behind b bytes) ∙ sym (behind_one squeezed last b bytes)
+  chosen_behind last (b ∷ bytes) = cc (chosen_behind b bytes, behind_one squeezed last b bytes)
 
   one_more : (into rest : List ℕ) {count : ℕ} (b : ℕ) (again : Bool) → count < length into → take (count + bool_byte (not again)) (set into count b) ++ rest
       ≡ take count into ++ cond (not again) (b ∷ rest) rest
   one_more into rest {count} b true room = let same : count + 0 ≡ count = omega arith in ap (λ (l : List ℕ). l ++ rest) (rw same (take-set into count b))
-  one_more into rest {count} b false room = ap (λ (l : List ℕ). l ++ rest) (take_more_set into count b room) ∙ append_assoc (take count into) (b ∷ []) rest
+  one_more into rest {count} b false room = cc (take_more_set into count b room, append_assoc (take count into) (b ∷ []) rest)
 
   -- What was put down, and what stays of the bytes from a place on, is the whole.
   pub record Squeezing (from into : List ℕ) (at count : ℕ) (whole : List ℕ) : Type 0 where
@@ -74,8 +71,7 @@ module _ (squeezed : ℕ → Bool) where
   }
     where
       small : (again : Bool) → count ≡ bool_byte (not again) → count ≤ 1
-      small true n = omega arith
-      small false n = omega arith
+      small again = grind arith
 
   module _ {from into : List ℕ} {at count : ℕ} {whole : List ℕ} (s : Squeezing from into at count whole) where
     -- one byte more
@@ -88,19 +84,14 @@ module _ (squeezed : ℕ → Bool) where
         let here : at + 1 - 1 ≡ at = omega arith in
         record {
           is =
-              (λ i. take (count + n i) (set into count b) ++ squeeze_behind squeezed (get_or from (here i) 0) (drop (at + 1) from))
-              ∙ one_more into rest b again room ∙ ap (λ (a : Bool). take count into ++ cond (not a) (b ∷ rest) rest) is
-              ∙ ap (λ (l : List ℕ). take count into ++ l) (sym (behind_one squeezed (get_or from (at - 1) 0) b (drop (at + 1) from)))
-              ∙ ap (λ (l : List ℕ). take count into ++ squeeze_behind squeezed (get_or from (at - 1) 0) l) (sym front)
-              ∙ s.is;
+              cc (one_more into rest b again room, is, behind_one squeezed (get_or from (at - 1) 0) b (drop (at + 1) from));
           behind = omega arith;
           within = omega arith;
           counted = omega (arith, small again n, s.counted);
         }
       where
         small : (again : Bool) → add ≡ bool_byte (not again) → add ≤ 1
-        small true n = omega arith
-        small false n = omega arith
+        small again = grind arith
 
     -- a piece more
     pub squeezing_piece : {into' : List ℕ} {count' : ℕ} (size : ℕ) → 0 < size → at + size ≤ length from → count' ≤ count + size
@@ -109,16 +100,11 @@ module _ (squeezed : ℕ → Bool) where
         let last = get_or from (at - 1) 0 in
         let piece = take size (drop at from) in
         let long : length piece ≡ size = length-chunk at size from room in
-        let split : drop at from ≡ piece ++ drop (at + size) from = sym (take-append-drop size (drop at from)) ∙ ap (λ (l : List ℕ). piece ++ l) (drop-drop size at from) in
+        let split : drop at from ≡ piece ++ drop (at + size) from = cc (take-append-drop size (drop at from), drop-drop size at from) in
         let end = piece_ends from at _ some room in
         record {
           is =
-              ap (λ (l : List ℕ). l ++ squeeze_behind squeezed (get_or from (at + size - 1) 0) (drop (at + size) from)) made
-              ∙ append_assoc (take count into) (squeeze_behind squeezed last piece) (squeeze_behind squeezed (get_or from (at + size - 1) 0) (drop (at + size) from))
-              ∙ ap (λ (b : ℕ). take count into ++ (squeeze_behind squeezed last piece ++ squeeze_behind squeezed b (drop (at + size) from))) (sym end)
-              ∙ ap (λ (l : List ℕ). take count into ++ l) (sym (behind_on last piece (drop (at + size) from)))
-              ∙ ap (λ (l : List ℕ). take count into ++ squeeze_behind squeezed last l) (sym split)
-              ∙ s.is;
+              cc (append_assoc (take count into) (squeeze_behind squeezed last piece) (squeeze_behind squeezed (get_or from (at + size - 1) 0) (drop (at + size) from)), behind_on last piece (drop (at + size) from));
           behind = omega arith;
           within = omega arith;
           counted = omega (arith, s.counted);
@@ -127,7 +113,7 @@ module _ (squeezed : ℕ → Bool) where
     -- no byte is left
     pub squeezing_ends : length from ≤ at → take count into ≡ whole
     squeezing_ends past =
-        sym (append-nil (take count into)) ∙ ap (λ (l : List ℕ). take count into ++ squeeze_behind squeezed (get_or from (at - 1) 0) l) (sym (drop_all at from past)) ∙ s.is
+        cc (append-nil (take count into), drop_all at from past)
 
 -- the bytes in front of those of a piece
 pub in_front_of : (from : List ℕ) {at : ℕ} (n : ℕ) → 0 < at → at + suc n ≤ length from
@@ -135,23 +121,18 @@ pub in_front_of : (from : List ℕ) {at : ℕ} (n : ℕ) → 0 < at → at + suc
 in_front_of from {at} n behind room =
     let last = get_or from (at - 1) 0 in
     let next : suc (at - 1) ≡ at = omega arith in
-    let front : drop (at - 1) from ≡ last ∷ drop at from = drop-cons from (at - 1) 0 (omega arith) ∙ ap (λ (k : ℕ). last ∷ drop k from) next in
-    ap (take (suc n)) front ∙ ap (λ (l : List ℕ). last ∷ l) (sym (take-take n (suc n) (drop at from) (omega arith)))
-    ∙ ap (λ (k : ℕ). take k (last ∷ chunk at (suc n) from)) (sym (length-chunk at (suc n) from room))
+    let front : drop (at - 1) from ≡ last ∷ drop at from = cc (drop-cons from (at - 1) 0 (omega arith)) in
+    cc (take-take n (suc n) (drop at from) (omega arith), length-chunk at (suc n) from room)
 
 -- the mask of the lanes that are no repeat of the byte in front of them
 pub stays_mask : (test : ℕ → Bool) (front bytes : List ℕ) → length front ≡ length bytes → length bytes ≤ 64
     → mask_l (map (top 7) (map (bit_not w8) (zip2 bit_and (zip2 (λ a b. cond (eqb a b) 255 0) front bytes) (map (cast_unsigned w8) (mask_of test bytes))))) % 2 ^ 64
     ≡ mask_l (zip2 (λ a b. not (eqb a b && test b)) front bytes)
 stays_mask test front bytes same few =
-    ap (λ (ms : List Bool). mask_l ms % 2 ^ 64) (lanes front bytes) ∙ mask_l-mod (zip2 (λ a b. not (eqb a b && test b)) front bytes) 64
-    (omega (arith, length-zip2 (λ a b. not (eqb a b && test b)) front bytes same))
+    cc (lanes front bytes, mask_l-mod (zip2 (λ a b. not (eqb a b && test b)) front bytes) 64 (omega (arith, length-zip2 (λ a b. not (eqb a b && test b)) front bytes same)))
   where
     lane : (e t : Bool) → top 7 (bit_not w8 (bit_and (cond e 255 0) (cast_unsigned w8 (cond t (negsuc 0) (pos 0))))) ≡ not (e && t)
-    lane true true = refl
-    lane true false = refl
-    lane false true = refl
-    lane false false = refl
+    lane e t = grind arith
 
     lanes : (front bytes : List ℕ) → map (top 7) (map (bit_not w8) (zip2 bit_and (zip2 (λ a b. cond (eqb a b) 255 0) front bytes)
         (map (cast_unsigned w8) (mask_of test bytes)))) ≡ zip2 (λ a b. not (eqb a b && test b)) front bytes
@@ -181,34 +162,20 @@ gone_lanes test (x ∷ xs) [] = refl
 gone_lanes test (x ∷ xs) (y ∷ ys) = λ i. lane (eqb x y) (test y) i ∷ gone_lanes test xs ys i
   where
     lane : (e t : Bool) → bit_and (cond e 255 0) (cast_unsigned w8 (cond t (negsuc 0) (pos 0))) ≡ cond (e && t) 255 0
-    lane true true = refl
-    lane true false = refl
-    lane false true = refl
-    lane false false = refl
+    lane e t = grind arith
 
 -- if no byte is the same as the one before it, none goes
 pub none_same : (test : ℕ → Bool) (xs ys : List ℕ) → mask_l (zip2 eqb xs ys) ≡ 0 → mask_l (zip2 (λ a b. eqb a b && test b) xs ys) ≡ 0
 none_same test [] ys none = refl
 none_same test (x ∷ xs) [] none = refl
-none_same test (x ∷ xs) (y ∷ ys) none = by_test (none_same test xs ys) (eqb x y) none
-  where
-    by_test : (mask_l (zip2 eqb xs ys) ≡ 0 → mask_l (zip2 (λ a b. eqb a b && test b) xs ys) ≡ 0) → (t : Bool) → cond t 1 0 + 2 * mask_l (zip2 eqb xs ys) ≡ 0
-        → cond (t && test y) 1 0 + 2 * mask_l (zip2 (λ a b. eqb a b && test b) xs ys) ≡ 0
-    by_test rest true none = absurd (omega (arith, none))
-    by_test rest false none = omega (arith, rest (omega (arith, none)))
+none_same test (x ∷ xs) (y ∷ ys) none = grind (arith, none_same test xs ys)
 
 none_goes : (test : ℕ → Bool) (xs ys : List ℕ) → length xs ≡ length ys → mask_l (zip2 (λ a b. eqb a b && test b) xs ys) ≡ 0
     → chosen_by (zip2 (λ a b. not (eqb a b && test b)) xs ys) ys ≡ ys
 none_goes test [] [] long nil = refl
 none_goes test [] (y ∷ ys) long nil = absurd (omega (arith, long))
 none_goes test (x ∷ xs) [] long nil = absurd (omega (arith, long))
-none_goes test (x ∷ xs) (y ∷ ys) long nil = by_test (none_goes test xs ys (omega (arith, long))) (eqb x y && test y) nil
-  where
-    by_test : (mask_l (zip2 (λ a b. eqb a b && test b) xs ys) ≡ 0 → chosen_by (zip2 (λ a b. not (eqb a b && test b)) xs ys) ys ≡ ys)
-        → (t : Bool) → cond t 1 0 + 2 * mask_l (zip2 (λ a b. eqb a b && test b) xs ys) ≡ 0
-        → cond (not t) (y ∷ chosen_by (zip2 (λ a b. not (eqb a b && test b)) xs ys) ys) (chosen_by (zip2 (λ a b. not (eqb a b && test b)) xs ys) ys) ≡ y ∷ ys
-    by_test rest true nil = absurd (omega (arith, nil))
-    by_test rest false nil = ap (λ (l : List ℕ). y ∷ l) (rest (omega (arith, nil)))
+none_goes test (x ∷ xs) (y ∷ ys) long nil = grind (arith, none_goes test xs ys)
 
 module _ (test : ℕ → Bool) (from : List ℕ) where
   -- what stays of the 16 bytes from a place on
@@ -217,27 +184,20 @@ module _ (test : ℕ → Bool) (from : List ℕ) where
 
   pub stays_piece : (k : ℕ) → 0 < k → k + 16 ≤ length from → stays_at k ≡ squeeze_behind test (get_or from (k - 1) 0) (chunk k 16 from)
   stays_piece k behind room =
-      ap (λ (front : List ℕ). chosen_by (zip2 (λ a b. not (eqb a b && test b)) front (chunk k 16 from)) (chunk k 16 from)) (in_front_of from 15 behind room)
-      ∙ chosen_behind test (get_or from (k - 1) 0) (chunk k 16 from)
+      cc (in_front_of from 15 behind room, chosen_behind test (get_or from (k - 1) 0) (chunk k 16 from))
 
   behind_parts : (at n m : ℕ) → 0 < n → at + n ≤ length from → squeeze_behind test (get_or from (at - 1) 0) (chunk at (n + m) from)
       ≡ squeeze_behind test (get_or from (at - 1) 0) (chunk at n from) ++ squeeze_behind test (get_or from (at + n - 1) 0) (chunk (at + n) m from)
   behind_parts at n m some room =
       let last = get_or from (at - 1) 0 in
-      ap (squeeze_behind test last) (chunk_parts at n m from)
-      ∙ behind_on test last (chunk at n from) (chunk (at + n) m from)
-      ∙ ap (λ (b : ℕ). squeeze_behind test last (chunk at n from) ++ squeeze_behind test b (chunk (at + n) m from)) (piece_ends from at n some room)
+      cc (chunk_parts at n m from, behind_on test last (chunk at n from) (chunk (at + n) m from), piece_ends from at n some room)
 
   -- what stays of 64 bytes, 16 after 16
   pub stays_in_four : {at : ℕ} → 0 < at → at + 64 ≤ length from
       → ((stays_at at ++ stays_at (at + 16)) ++ stays_at (at + 32)) ++ stays_at (at + 48) ≡ squeeze_behind test (get_or from (at - 1) 0) (chunk at 64 from)
   stays_in_four {at} behind room =
       let s = λ (k : ℕ). squeeze_behind test (get_or from (k - 1) 0) (chunk k 16 from) in
-      (λ i. ((stays_piece _ behind (omega (arith, room)) i ++ stays_piece (at + 16) (omega arith) (omega (arith, room)) i)
-      ++ stays_piece (at + 32) (omega arith) (omega (arith, room)) i) ++ stays_piece (at + 48) (omega arith) (omega (arith, room)) i)
-      ∙ ap (λ (l : List ℕ). (l ++ s (at + 32)) ++ s (at + 48)) (sym (behind_parts at 16 16 (omega arith) (omega (arith, room))))
-      ∙ ap (λ (l : List ℕ). l ++ s (at + 48)) (sym (behind_parts at 32 16 (omega arith) (omega (arith, room))))
-      ∙ sym (behind_parts at 48 16 (omega arith) (omega (arith, room)))
+      cc (stays_piece _ behind (omega (arith, room)), stays_piece (at + 16) (omega arith) (omega (arith, room)), stays_piece (at + 32) (omega arith) (omega (arith, room)), stays_piece (at + 48) (omega arith) (omega (arith, room)), behind_parts at 16 16 (omega arith) (omega (arith, room)), behind_parts at 32 16 (omega arith) (omega (arith, room)), behind_parts at 48 16 (omega arith) (omega (arith, room)))
 
   -- where no byte goes, all of them stay
   pub all_stay_in_four : {at : ℕ} → 0 < at → at + 64 ≤ length from
@@ -246,15 +206,10 @@ module _ (test : ℕ → Bool) (from : List ℕ) where
   all_stay_in_four {at} behind room none =
       let stay = λ (k : ℕ) (some : 0 < k) (there : k + 16 ≤ length from). none_goes test (chunk (k - 1) 16 from) (chunk k 16 from)
       (length-chunk (k - 1) 16 from (omega (arith, some, there)) ∙ sym (length-chunk k 16 from there)) in
-      sym (stays_in_four behind room)
-      ∙ (λ i. ((stay at behind (omega (arith, room)) none.0 i ++ stay (at + 16) (omega arith) (omega (arith, room)) none.1 i)
-      ++ stay (at + 32) (omega arith) (omega (arith, room)) none.2 i) ++ stay (at + 48) (omega arith) (omega (arith, room)) none.3 i)
-      ∙ sym (chunk_in_four at from)
+      cc (stays_in_four behind room, stay at behind (omega (arith, room)) none.0, stay (at + 16) (omega arith) (omega (arith, room)) none.1, stay (at + 32) (omega arith) (omega (arith, room)) none.2, stay (at + 48) (omega arith) (omega (arith, room)) none.3, chunk_in_four at from)
 
 -- tests that agree on bytes squeeze the same repeats
 pub same_behind : (p q : ℕ → Bool) → ((b : ℕ) → b < 256 → p b ≡ q b) → (last : ℕ) (bytes : List ℕ) → Each1 (Fits w8) bytes → squeeze_behind p last bytes ≡ squeeze_behind q last bytes
 same_behind p q same last [] small = refl
 same_behind p q same last (b ∷ bytes) small =
-    behind_one p last b bytes
-    ∙ (λ i. cond (not (eqb last b && same b (Fits-lt-pow small.0) i)) (b ∷ same_behind p q same b bytes small.1 i) (same_behind p q same b bytes small.1 i))
-    ∙ sym (behind_one q last b bytes)
+    cc (behind_one p last b bytes, same b (Fits-lt-pow small.0), same_behind p q same b bytes small.1, behind_one q last b bytes)

@@ -34,7 +34,7 @@ front_nothing end block = record { lines = refl; bytes = refl }
 
 module _ {end : ℕ} {block rest : List ℕ} {front : List (List ℕ)} (f : InFront end block rest front) where
   pub front_size : length block ≡ length (text end front) + length rest
-  front_size = ap length f.bytes ∙ length-append (text end front) rest
+  front_size = cc (length-append (text end front) rest)
 
   pub front_few : length front + length rest ≤ length block
   front_few = omega (arith, front_size, text_long end front)
@@ -43,20 +43,19 @@ module _ {end : ℕ} {block rest : List ℕ} {front : List (List ℕ)} (f : InFr
   passed_is = omega (arith, front_size)
 
   pub front_take : take (length block - length rest) block ≡ text end front
-  front_take = (λ i. take (passed_is i) (f.bytes i)) ∙ take_at (text end front) rest (length (text end front)) refl
+  front_take = cc (passed_is, take_at (text end front) rest (length (text end front)) refl)
 
   pub front_drop : drop (length block - length rest) block ≡ rest
-  front_drop = (λ i. drop (passed_is i) (f.bytes i)) ∙ drop_at (text end front) rest (length (text end front)) refl
+  front_drop = cc (passed_is, drop_at (text end front) rest (length (text end front)) refl)
 
   pub front_all : IsLine end rest → ended_lines end block ≡ front
-  front_all none = f.lines ∙ ap (λ (l : List (List ℕ)). front ++ l) (ended_none end rest none) ∙ append-nil front
+  front_all none = cc (ended_none end rest none, append-nil front)
 
   pub front_more : (at : ℕ) → IsFirstByte (is_byte end) rest (Some at) → InFront end block (drop (at + 1) rest) (front ++ take at rest ∷ [])
   front_more at first = record {
-    lines = f.lines ∙ ap (λ (l : List (List ℕ)). front ++ l) (ended_next end rest at first) ∙ sym (append_assoc front (take at rest ∷ []) (ended_lines end (drop (at + 1) rest)));
+    lines = cc (ended_next end rest at first, append_assoc front (take at rest ∷ []) (ended_lines end (drop (at + 1) rest)));
     bytes =
-        f.bytes ∙ ap (λ (l : List ℕ). text end front ++ l) (split_of end rest at first ∙ sym (append_assoc (take at rest) (end ∷ []) (drop (at + 1) rest)))
-        ∙ sym (append_assoc (text end front) (take at rest ++ end ∷ []) (drop (at + 1) rest)) ∙ ap (λ (l : List ℕ). l ++ drop (at + 1) rest) (sym (text_push end front (take at rest)));
+        cc (split_of end rest at first, append_assoc (take at rest) (end ∷ []) (drop (at + 1) rest), append_assoc (text end front) (take at rest ++ end ∷ []) (drop (at + 1) rest), text_push end front (take at rest));
   }
 
 same_head : {x y : List ℕ} {xs ys : List (List ℕ)} → x ∷ xs ≡ y ∷ ys → x ≡ y
@@ -98,11 +97,11 @@ module _ {job : Uniq} {end : ℕ} {first block : List ℕ} {rest : List ℕ} {co
   counting_ends turns = record {
     front = c.front;
     number = c.number;
-    split = c.lies.lines ∙ ap (λ (l : List ℕ). c.front ++ ended_lines end l) (sym (front_drop c.lies));
+    split = cc (front_drop c.lies);
     within = omega arith;
     texts = front_take c.lies;
     on = c.on;
-    turns = λ line more is. turns line more (ap (ended_lines end) (sym (front_drop c.lies)) ∙ is);
+    turns = λ line more is. turns line more (cc (front_drop c.lies));
   }
 
   -- no line more
@@ -112,7 +111,7 @@ module _ {job : Uniq} {end : ℕ} {first block : List ℕ} {rest : List ℕ} {co
   -- another key
   pub counting_turns : (at : ℕ) → IsFirstByte (is_byte end) rest (Some at) → is_same job first (take at rest) ≡ false
       → GoesOnWith job end first block (record { count = count; passed = length block - length rest })
-  counting_turns at found turns = counting_ends (λ line more is. subst (λ (l : List ℕ). is_same job first l ≡ false) (same_head (sym (ended_next end rest at found) ∙ is)) turns)
+  counting_turns at found turns = counting_ends (λ line more is. rw (same_head (sym (ended_next end rest at found) ∙ is)) at turns)
 
 -- ---- what waits
 
@@ -134,9 +133,8 @@ span_join {block} {a} {b} fits next touch =
       next.ordered,
     ) in
     let split : drop a.from block ≡ (front ++ back) ++ drop b.to block =
-    drop_split block a.from a.to fits.ordered ∙ ap (λ (l : List ℕ). front ++ l) (ap (λ n. drop n block) touch ∙ drop_split block b.from b.to next.ordered)
-    ∙ sym (append_assoc front back (drop b.to block)) in
-    (λ i. take (long i) (split i)) ∙ take_at (front ++ back) (drop b.to block) (length (front ++ back)) refl
+    cc (drop_split block a.from a.to fits.ordered, drop_split block b.from b.to next.ordered, append_assoc front back (drop b.to block)) in
+    cc (take_at (front ++ back) (drop b.to block) (length (front ++ back)) refl)
 
 pub run_text_shown : (show : Show) (count : ℕ) (bytes : List ℕ) → is_shown show count ≡ true → lead show count ++ bytes ≡ run_text show count bytes
 run_text_shown show count bytes shown = sym (rw shown refl)
@@ -147,8 +145,7 @@ pub waits_joined : (show : Show) (count : ℕ) {block : List ℕ} {waiting line 
 waits_joined show count {block} {waiting} {line} {out} fits next touch none shown = record {
   pushed = [];
   wrote = wrote_nothing out;
-  all = span_join fits next touch ∙ ap (λ (l : List ℕ). span_of block waiting ++ l)
-      (ap (λ (l : List ℕ). l ++ span_of block line) (sym none) ∙ run_text_shown show count (span_of block line) shown);
+  all = cc (span_join fits next touch, run_text_shown show count (span_of block line) shown);
   span = record { ordered = omega (arith, fits.ordered, next.ordered, touch); within = next.within };
 }
 
@@ -179,15 +176,14 @@ pub other_count : (n : ℕ) {t : Bool} → t ≡ false → (nat_lt 0 n && t) ≡
 other_count n {t} other = rw other (by_test (nat_lt 0 n))
   where
     by_test : (t : Bool) → (t && false) ≡ false
-    by_test true = refl
-    by_test false = refl
+    by_test t = grind arith
 
 -- the line in front of the rest, with its end
 line_in_block : {end : ℕ} {block rest : List ℕ} {front : List (List ℕ)} → InFront end block rest front → (at : ℕ) → IsFirstByte (is_byte end) rest (Some at)
     → (from to : ℕ) → from ≡ length block - length rest → to ≡ from + at + 1
     → (slice_range block from to ≡ take at rest ++ end ∷ []) × (from < to) × (to ≤ length block)
 line_in_block {end} {block} {rest} lies at first from to from_is to_is = (
-  (λ i. take (size i) (drop (from_is i) block)) ∙ ap (take (at + 1)) (front_drop lies) ∙ take_end end rest at first,
+  cc (size, front_drop lies, take_end end rest at first),
   omega (arith, to_is),
   omega (arith, to_is, from_is, first.0.high, front_size lies),
 )
@@ -225,7 +221,7 @@ module _ {job : Uniq} {block : List ℕ} {rest : List ℕ} {count : ℕ} {line w
     next = take at rest
 
     one_more : (more : List (List ℕ)) → runs_behind job (run_of [] 0) ((r.front ++ next ∷ []) ++ more) ≡ r.passed ++ runs_behind job (run_of r.first count) (next ∷ more)
-    one_more more = ap (runs_behind job (run_of [] 0)) (append_assoc r.front (next ∷ []) more) ∙ r.on (next ∷ more)
+    one_more more = cc (append_assoc r.front (next ∷ []) more, r.on (next ∷ more))
 
     pub running_more : is_same job r.first next ≡ true → Running job block (drop (at + 1) rest) (count + 1) line waiting own was is
     running_more same = record {
@@ -237,7 +233,7 @@ module _ {job : Uniq} {block : List ℕ} {rest : List ℕ} {count : ℕ} {line w
       clean = r.clean;
       waits = r.waits;
       first = r.first;
-      on = λ more. one_more more ∙ ap (λ (l : List Run). r.passed ++ l) (behind_more job (run_of r.first count) next more (some_count r.some same));
+      on = λ more. cc (one_more more, behind_more job (run_of r.first count) next more (some_count r.some same));
       own_is = r.own_is;
       whole = r.whole;
       line_in = r.line_in;
@@ -249,16 +245,13 @@ module _ {job : Uniq} {block : List ℕ} {rest : List ℕ} {count : ℕ} {line w
     module _ (other : is_same job r.first next ≡ false) where
       turned : (more : List (List ℕ)) → runs_behind job (run_of [] 0) ((r.front ++ next ∷ []) ++ more) ≡ (r.passed ++ open_run (run_of r.first count)) ++ runs_behind job (run_of next 1) more
       turned more =
-          one_more more ∙ ap (λ (l : List Run). r.passed ++ l) (behind_turn job (run_of r.first count) next more (other_count count other))
-          ∙ sym (append_assoc r.passed (open_run (run_of r.first count)) (runs_behind job (run_of next 1) more))
+          cc (one_more more, behind_turn job (run_of r.first count) next more (other_count count other), append_assoc r.passed (open_run (run_of r.first count)) (runs_behind job (run_of next 1) more))
 
       -- what waited, and what is written of the run, is what is written of all runs but the next
       all_entries : (pushed waiting' : List ℕ) → pushed ++ waiting' ≡ span_of block waiting ++ run_text job.show count (span_of block line)
           → (r.pushed ++ pushed) ++ waiting' ≡ entries job (r.passed ++ open_run (run_of r.first count))
       all_entries pushed waiting' all =
-          append_assoc r.pushed pushed waiting' ∙ ap (λ (l : List ℕ). r.pushed ++ l) all ∙ sym (append_assoc r.pushed (span_of block waiting) (run_text job.show count (span_of block line)))
-          ∙ (λ i. r.waits i ++ run_text job.show count (r.whole i)) ∙ ap (λ (l : List ℕ). entries job r.passed ++ l) (sym (open_is job (run_of r.first count)))
-          ∙ sym (entries-append job r.passed (open_run (run_of r.first count)))
+          cc (append_assoc r.pushed pushed waiting', append_assoc r.pushed (span_of block waiting) (run_text job.show count (span_of block line)), open_is job (run_of r.first count), entries-append job r.passed (open_run (run_of r.first count)))
 
       pub running_turn : {is' : Output} {now : Span} → Waits (span_of block waiting ++ run_text job.show count (span_of block line)) block now is is' → is'.faulted ≡ false
           → (from to : ℕ) → from ≡ length block - length rest → to ≡ from + at + 1 → {own' : List ℕ} → own' ≡ key job next
@@ -294,13 +287,12 @@ module _ {job : Uniq} {block : List ℕ} {rest : List ℕ} {count : ℕ} {line w
             (wrote_trans _ _ _ _ _ r.clean r.wrote wrote);
         true_so_far = λ more.
             let behind = ended_lines job.end (drop (at + 1) rest) ++ more in
-            (runs_behind job (run_of next 1) behind, ap (runs_behind job (run_of [] 0)) (lines_on more) ∙ turned behind);
+            (runs_behind job (run_of next 1) behind, cc (lines_on more, turned behind));
       }
         where
           lines_on : (more : List (List ℕ)) → ended_lines job.end block ++ more ≡ (r.front ++ next ∷ []) ++ (ended_lines job.end (drop (at + 1) rest) ++ more)
           lines_on more =
-              ap (λ (l : List (List ℕ)). l ++ more) ((front_more r.lies at found).lines)
-              ∙ append_assoc (r.front ++ next ∷ []) (ended_lines job.end (drop (at + 1) rest)) more
+              cc ((front_more r.lies at found).lines, append_assoc (r.front ++ next ∷ []) (ended_lines job.end (drop (at + 1) rest)) more)
 
   -- no line more
   module _ (none : IsLine job.end rest) {is' : Output} (wrote : Wrote is is' (span_of block waiting)) where
@@ -308,15 +300,14 @@ module _ {job : Uniq} {block : List ℕ} {rest : List ℕ} {count : ℕ} {line w
     all_lines = front_all r.lies none
 
     all_wrote : Wrote was is' (entries job r.passed)
-    all_wrote = subst (λ (b : List ℕ). Wrote was is' b) r.waits (wrote_trans _ _ _ _ _ r.clean r.wrote wrote)
+    all_wrote = rw r.waits at (wrote_trans _ _ _ _ _ r.clean r.wrote wrote)
 
     pub running_done : is'.faulted ≡ false → RunsOn job (run_of [] 0) (run_of (slice_range block line.from (line.to - 1)) count) (ended_lines job.end block) was is'
     running_done clean = record {
       passed = r.passed;
       wrote = all_wrote;
       clean = clean;
-      on = λ more. ap (λ (l : List (List ℕ)). runs_behind job (run_of [] 0) (l ++ more)) all_lines ∙ r.on more
-          ∙ ap (λ (l : List ℕ). r.passed ++ runs_behind job (run_of l count) more) (sym first_is);
+      on = λ more. cc (all_lines, r.on more, first_is);
       count = omega (arith, r.few, ap length all_lines);
       some = λ h. omega (arith, r.some);
     }
@@ -327,16 +318,15 @@ module _ {job : Uniq} {block : List ℕ} {rest : List ℕ} {count : ℕ} {line w
         first_is : slice_range block line.from (line.to - 1) ≡ r.first
         first_is =
             let short : line.to - 1 - line.from ≡ length r.first = omega (arith, sizes) in
-            ap (λ n. take n (drop line.from block)) short ∙ sym (take-take (length r.first) (line.to - line.from) (drop line.from block) (omega (arith, sizes)))
-            ∙ ap (take (length r.first)) r.whole ∙ take_at r.first (job.end ∷ []) (length r.first) refl
+            cc (take-take (length r.first) (line.to - line.from) (drop line.from block) (omega (arith, sizes)), take_at r.first (job.end ∷ []) (length r.first) refl)
 
     pub running_unended : is'.faulted ≡ true → RunsHalt job (run_of [] 0) (ended_lines job.end block) was is'
     running_unended fault = record {
       passed = r.passed;
       wrote = all_wrote;
       fault = fault;
-      true_so_far = λ more. (runs_behind job (run_of r.first count) more, ap (λ (l : List (List ℕ)). runs_behind job (run_of [] 0) (l ++ more)) all_lines ∙ r.on more);
+      true_so_far = λ more. (runs_behind job (run_of r.first count) more, cc (all_lines, r.on more));
     }
 
     pub running_passed : take (length block - length rest) block ≡ text job.end (ended_lines job.end block)
-    running_passed = front_take r.lies ∙ ap (text job.end) (sym all_lines)
+    running_passed = cc (front_take r.lies, all_lines)

@@ -28,7 +28,7 @@ use Rattle.ptflow.proofs.OfUniq.OpenRuns.{behind_more, behind_turn, entries-appe
 
 -- after the first two slots changed places
 pub swapped_first : (store : Slots) {after : Slots} → 1 < length store.lines → after ≡ record store { lines = swap store.lines 0 1 } → line after 0 ≡ line store 1
-swapped_first store slots is = ap (λ (s : Slots). line s 0) is ∙ by_lines store.lines slots
+swapped_first store slots is = cc (by_lines store.lines slots)
   where
     by_lines : (lines : List (List ℕ)) → 1 < length lines → line (record { lines = swap lines 0 1; peak = store.peak; denied = store.denied }) 0
         ≡ line (record { lines = lines; peak = store.peak; denied = store.denied }) 1
@@ -43,12 +43,12 @@ first_emptied {store} {after} some is = by_lines store.lines refl
     by_lines : (lines : List (List ℕ)) → store.lines ≡ lines → Empties 1 store after
     by_lines [] none = absurd (omega (arith, some, ap length none))
     by_lines (l ∷ ls) are =
-        let lines_are : after.lines ≡ [] ∷ ls = ap (λ (s : Slots). s.lines) is ∙ ap (λ (x : List (List ℕ)). set x 0 []) are in
+        let lines_are : after.lines ≡ [] ∷ ls = cc in
         let left : total after.lines ≡ total ls = ap total lines_are ∙ sum_by-cons length [] ls ∙ omega arith in
         record {
-          size = ap length lines_are ∙ sym (ap length are);
+          size = cc;
           denied = ap (λ (s : Slots). s.denied) is;
-          left = left ∙ sym (ap (λ (x : List (List ℕ)). total (drop 1 x)) are);
+          left = cc;
           peak = omega (arith, ap (λ (s : Slots). s.peak) is, ap (λ (s : Slots). total s.lines) is, left, ap total are ∙ sum_by-cons length l ls);
         }
 
@@ -56,7 +56,7 @@ first_emptied {store} {after} some is = by_lines store.lines refl
 pub run_wrote : (job : Uniq) (count : ℕ) {bytes first behind : List ℕ} {is is' : Output} → bytes ≡ first → behind ≡ job.end ∷ []
     → Wrote is is' (run_text job.show count (bytes ++ behind)) → Wrote is is' (entries job (open_run (run_of first count)))
 run_wrote job count {first} {is} {is'} bytes_are behind_is wrote =
-    subst (λ (b : List ℕ). Wrote is is' b) ((λ i. run_text job.show count (bytes_are i ++ behind_is i)) ∙ sym (open_is job (run_of first count))) wrote
+    subst (λ (b : List ℕ). Wrote is is' b) (cc (open_is job (run_of first count))) wrote
 
 -- It is a tool over lines: the first of two slots may hold the first line of the run that is open, and what is decided
 -- leaves out that run.
@@ -69,7 +69,7 @@ uniq_line_tool job start none = record {
   decided = λ store given passed now on.
       let ls = whole_lines job.end given in
       let all = ap (runs job) (sym (append-nil ls)) ∙ ap (λ (n : ℕ). runs_behind job (run_of (first_line start store) n) (ls ++ [])) (sym none) ∙ on [] in
-      subst (λ (rs : List Run). Begins (entries job (all_but_last rs)) (entries job passed)) (sym all) (but_open job passed now);
+      rw all (but_open job passed now);
   size = λ bytes. refl;
   slots = refl;
   ends = refl;
@@ -81,7 +81,7 @@ uniq_line_tool job start none = record {
 -- whether it is of the run, by a test of the bytes that were seen
 pub line_tested : (job : Uniq) (count : ℕ) {first next seen came : List ℕ} {tested answer : Bool} → tested ≡ (nat_lt 0 count && is_same job seen came) → seen
     ≡ first → came ≡ next → tested ≡ answer → (nat_lt 0 count && is_same job first next) ≡ answer
-line_tested job count is seen_is came_is answered = (λ i. nat_lt 0 count && is_same job (sym seen_is i) (sym came_is i)) ∙ sym is ∙ answered
+line_tested job count is seen_is came_is answered = cc
 
 module _ (job : Uniq) (run : Run) (next : List ℕ) where
   -- it is of the run
@@ -122,8 +122,7 @@ module _ {job : Uniq} {end : ℕ} {first block : List ℕ} {same : Same} (g : Go
   run = run_of first (count + same.count)
 
   went_on : (more : List (List ℕ)) → runs_behind job (run_of first count) (ended_lines end block ++ more) ≡ runs_behind job run (ended_lines end rest ++ more)
-  went_on more = ap (λ (l : List (List ℕ)). runs_behind job (run_of first count) (l ++ more)) g.split
-      ∙ ap (runs_behind job (run_of first count)) (append_assoc g.front (ended_lines end rest) more) ∙ g.on count some (ended_lines end rest ++ more)
+  went_on more = cc (append_assoc g.front (ended_lines end rest) more, g.on count some (ended_lines end rest ++ more))
 
   many : length (ended_lines end block) ≡ same.count + length (ended_lines end rest)
   many = omega (arith, ap length g.split, length-append g.front (ended_lines end rest), g.number)
@@ -135,13 +134,13 @@ module _ {job : Uniq} {end : ℕ} {first block : List ℕ} {same : Same} (g : Go
       passed = [];
       wrote = wrote_nothing was;
       clean = clean;
-      on = λ more. went_on more ∙ ap (λ (l : List (List ℕ)). runs_behind job run (l ++ more)) (ended_none end rest none);
+      on = λ more. cc (went_on more, ended_none end rest none);
       count = omega (arith, many);
       some = λ h. omega (arith, some);
     }
 
     pub block_on_passed : take same.passed block ≡ text end (ended_lines end block)
-    block_on_passed = g.texts ∙ ap (text end) (sym (g.split ∙ ap (λ (l : List (List ℕ)). g.front ++ l) (ended_none end rest none) ∙ append-nil g.front))
+    block_on_passed = cc (ended_none end rest none, append-nil g.front)
 
   -- the next line has another key
   module _ (at : ℕ) (found : IsFirstByte (is_byte end) rest (Some at)) where
@@ -150,24 +149,21 @@ module _ {job : Uniq} {end : ℕ} {first block : List ℕ} {same : Same} (g : Go
         let next = take at rest in
         let behind = ended_lines end (drop (at + 1) rest) ++ more in
         let is : ended_lines end rest ++ more ≡ next ∷ behind = ap (λ (l : List (List ℕ)). l ++ more) (ended_next end rest at found) in
-        went_on more ∙ ap (runs_behind job run) is
-        ∙ behind_turn job run next behind (other_count (count + same.count) (g.turns next (ended_lines end (drop (at + 1) rest)) (ended_next end rest at found)))
-        ∙ ap (λ (l : List Run). open_run run ++ l) (sym (ap (runs_behind job (run_of [] 0)) is ∙ behind_turn job (run_of [] 0) next behind refl))
+        cc (went_on more, behind_turn job run next behind (other_count (count + same.count) (g.turns next (ended_lines end (drop (at + 1) rest)) (ended_next end rest at found))), behind_turn job (run_of [] 0) next behind refl)
 
     module _ {was is : Output} (is' : Output) (wrote : Wrote was is (entries job (open_run run))) where
       pub block_run_halts : is.faulted ≡ true → RunsHalt job (run_of first count) (ended_lines end block) was is
       block_run_halts fault = record { passed = open_run run; wrote = wrote; fault = fault; true_so_far = λ more. (runs_behind job (run_of [] 0) (ended_lines end rest ++ more), turned more) }
 
       both_wrote : (passed : List Run) → is.faulted ≡ false → Wrote is is' (entries job passed) → Wrote was is' (entries job (open_run run ++ passed))
-      both_wrote passed clean more = subst (λ (b : List ℕ). Wrote was is' b) (sym (entries-append job (open_run run) passed))
-          (wrote_trans _ _ _ _ _ clean wrote more)
+      both_wrote passed clean more = rw (entries-append job (open_run run) passed) (wrote_trans _ _ _ _ _ clean wrote more)
 
       pub block_turns : is.faulted ≡ false → (after : Run) → RunsOn job (run_of [] 0) after (ended_lines end rest) is is' → RunsOn job (run_of first count) after (ended_lines end block) was is'
       block_turns clean after r = record {
         passed = open_run run ++ r.passed;
         wrote = both_wrote r.passed clean r.wrote;
         clean = r.clean;
-        on = λ more. turned more ∙ ap (λ (l : List Run). open_run run ++ l) (r.on more) ∙ sym (append_assoc (open_run run) r.passed (runs_behind job after more));
+        on = λ more. cc (turned more, r.on more, append_assoc (open_run run) r.passed (runs_behind job after more));
         count = omega (arith, r.count, many);
         some = λ h. r.some (omega (arith, ap length (ended_next end rest at found)));
       }
@@ -177,11 +173,10 @@ module _ {job : Uniq} {end : ℕ} {first block : List ℕ} {same : Same} (g : Go
         passed = open_run run ++ h.passed;
         wrote = both_wrote h.passed clean h.wrote;
         fault = h.fault;
-        true_so_far = λ more. let t = h.true_so_far more in (t.0, turned more ∙ ap (λ (l : List Run). open_run run ++ l) t.1 ∙ sym (append_assoc (open_run run) h.passed t.0));
+        true_so_far = λ more. let t = h.true_so_far more in (t.0, cc (turned more, append_assoc (open_run run) h.passed t.0));
       }
 
   pub block_passed : (passed : ℕ) → take passed rest ≡ text end (ended_lines end rest) → take (same.passed + passed) block ≡ text end (ended_lines end block)
   block_passed passed is =
       let front = take same.passed block in
-      (λ i. take (sym (length-take-le same.passed block g.within) i + passed) (sym (take-append-drop same.passed block) i)) ∙ take-append-add front rest passed
-      ∙ (λ i. g.texts i ++ is i) ∙ sym (text-append end g.front (ended_lines end rest)) ∙ ap (text end) (sym g.split)
+      cc (length-take-le same.passed block g.within, take-append-drop same.passed block, take-append-add front rest passed, text-append end g.front (ended_lines end rest))

@@ -36,8 +36,8 @@ module _ (job : Uniq) where
   first_more {line} {n} l {ls} true e f = record {
     count = f.count;
     more = f.more;
-    is = ap (chosen l ls line n) e ∙ f.is;
-    led = λ x same. ap (chosen l ls x (n + 1)) (ap (λ (k : List ℕ). bytes_eq k (key job l)) same ∙ e) ∙ f.led x same;
+    is = cc;
+    led = λ x same. cc (f.led x same);
   }
   first_more {line} {n} l {ls} false e f = record {
     count = n;
@@ -57,33 +57,22 @@ module _ (job : Uniq) where
   -- the runs of lines by their first line
   pub runs_are : (line : List ℕ) (ls : List (List ℕ)) → runs job (line ∷ ls) ≡ runs_from job (run_of line 1) ls
   runs_are line [] = refl
-  runs_are line (l ∷ ls) = ap (onto_runs job line) (runs_are l ls) ∙ onto_first_run line (is_same job line l) refl (first l 1 ls)
+  runs_are line (l ∷ ls) = cc (runs_are l ls, onto_first_run line (is_same job line l) refl (first l 1 ls))
 
   -- ---- one line more
 
   pub behind_more : (run : Run) (line : List ℕ) (more : List (List ℕ)) → (nat_lt 0 run.count && is_same job run.line line) ≡ true
       → runs_behind job run (line ∷ more) ≡ runs_behind job (run_of run.line (run.count + 1)) more
-  behind_more run line more goes = by_tests (nat_lt 0 run.count) (is_same job run.line line) goes
-      ∙ ap (λ (t : Bool). cond t (runs_from job (run_of run.line (run.count + 1)) more) (runs job more)) (sym (some_lines run.count))
-    where
-      by_tests : (t s : Bool) → (t && s) ≡ true → cond t (chosen line more run.line run.count s) (runs job (line ∷ more)) ≡ runs_from job (run_of run.line (run.count + 1)) more
-      by_tests true true goes = refl
-      by_tests true false goes = cc
-      by_tests false s goes = cc
+  behind_more run line more goes = grind (arith, some_lines run.count)
 
   pub behind_turn : (run : Run) (line : List ℕ) (more : List (List ℕ)) → (nat_lt 0 run.count && is_same job run.line line) ≡ false
       → runs_behind job run (line ∷ more) ≡ open_run run ++ runs_behind job (run_of line 1) more
-  behind_turn run line more turns = by_tests (nat_lt 0 run.count) (is_same job run.line line) turns
-    where
-      by_tests : (t s : Bool) → (t && s) ≡ false → cond t (chosen line more run.line run.count s) (runs job (line ∷ more)) ≡ cond t (run ∷ []) [] ++ runs_from job (run_of line 1) more
-      by_tests true true turns = cc
-      by_tests true false turns = refl
-      by_tests false s turns = runs_are line more
+  behind_turn run line more turns = grind (arith, runs_are line more)
 
   -- ---- what is written
 
   pub entries-append : (xs ys : List Run) → entries job (xs ++ ys) ≡ entries job xs ++ entries job ys
-  entries-append xs ys = ap (text job.end) (flat_map-append (shown job.show) xs ys) ∙ text-append job.end (flat_map (shown job.show) xs) (flat_map (shown job.show) ys)
+  entries-append xs ys = cc (flat_map-append (shown job.show) xs ys, text-append job.end (flat_map (shown job.show) xs) (flat_map (shown job.show) ys))
 
 -- what is written of one run
 pub open_is : (job : Uniq) (run : Run) → entries job (open_run run) ≡ run_text job.show run.count (run.line ++ job.end ∷ [])
@@ -129,9 +118,9 @@ but_open job passed run = by_test (nat_lt 0 run.count)
     by_test : (t : Bool) → Begins (entries job (all_but_last (passed ++ cond t (run ∷ []) []))) (entries job passed)
     by_test false = let f = but_front passed in record {
       rest = entries job f.0;
-      is = ap (entries job) f.1 ∙ entries-append job (all_but_last passed) f.0 ∙ ap (λ (l : List Run). entries job (all_but_last l) ++ entries job f.0) (sym (append-nil passed));
+      is = cc (entries-append job (all_but_last passed) f.0, append-nil passed);
     }
     by_test true = record {
       rest = [];
-      is = sym (append-nil (entries job passed)) ∙ ap (λ (l : List Run). entries job l ++ []) (sym (but_push passed run));
+      is = cc (append-nil (entries job passed), but_push passed run);
     }

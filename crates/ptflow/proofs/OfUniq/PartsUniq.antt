@@ -44,21 +44,14 @@ module _ (job : Uniq) where
   runs-append (x ∷ []) [] change = refl
   runs-append (x ∷ []) (y ∷ ys) change =
       let r = onto_is y (runs job ys) in
-      ap (onto_runs job x) r.2
-      ∙ ap (λ (t : Bool). cond t (run_of x (r.0 + 1) ∷ r.1) (run_of x 1 ∷ run_of y r.0 ∷ r.1)) (other_key x y (change x y ([], refl) (ys, refl)))
-      ∙ ap (λ (rs : List Run). run_of x 1 ∷ rs) (sym r.2)
+      cc (other_key x y (change x y ([], refl) (ys, refl)))
   runs-append (x ∷ z ∷ xs) ys change =
       let r = onto_is z (runs job xs) in
-      ap (onto_runs job x) (runs-append (z ∷ xs) ys (λ last first ends begins. change last first (x ∷ ends.0, ap (λ (l : List (List ℕ)). x ∷ l) ends.1) begins)
-      ∙ ap (λ (rs : List Run). rs ++ runs job ys) r.2)
-      ∙ onto_front x (run_of z r.0) r.1 (runs job ys)
-      ∙ ap (λ (rs : List Run). onto_runs job x rs ++ runs job ys) (sym r.2)
+      cc (runs-append (z ∷ xs) ys (λ last first ends begins. change last first (x ∷ ends.0, ap (λ (l : List (List ℕ)). x ∷ l) ends.1) begins), onto_front x (run_of z r.0) r.1 (runs job ys))
 
 pub uniq_of_parts : UniqOfParts
 uniq_of_parts job a b whole change =
-    ap (λ (ls : List (List ℕ)). entries job (runs job ls)) (the_lines_of_parts job.end a b whole)
-    ∙ ap (entries job) (runs-append job (lines job.end a) (lines job.end b) change)
-    ∙ entries-append job (runs job (lines job.end a)) (runs job (lines job.end b))
+    cc (the_lines_of_parts job.end a b whole, runs-append job (lines job.end a) (lines job.end b) change, entries-append job (runs job (lines job.end a)) (runs job (lines job.end b)))
 
 -- ---- lines that are dealt out by their keys
 
@@ -99,14 +92,14 @@ module _ (job : Uniq) (taken : List ℕ → Bool) where
       let onto = λ (t : Bool). filter run_taken (cond t (run_of x (r.count + 1) ∷ rs) (run_of x 1 ∷ r ∷ rs)) in
       ⊎_elim
       (λ same.
-      let too : run_taken r ≡ false = ap taken (sym ((bytes_eq-Decides (key job x) (key job r.line)).0 same)) ∙ is in
-      ap onto same ∙ ap (λ (t : Bool). cond t (run_of x (r.count + 1) ∷ rest) rest) is ∙ ap (λ (t : Bool). cond t (r ∷ rest) rest) (sym too))
-      (λ other. ap onto other ∙ ap (λ (t : Bool). cond t (run_of x 1 ∷ filter run_taken (r ∷ rs)) (filter run_taken (r ∷ rs))) is)
+      let too : run_taken r ≡ false = cc ((bytes_eq-Decides (key job x) (key job r.line)).0 same) in
+      cc)
+      (λ other. cc)
       (cases_Bool (is_same job x r.line))
 
   -- a line that is taken, in front of a run of its key
   onto_same : (x : List ℕ) (r : Run) (rs : List Run) → line_taken x ≡ true → key job x ≡ key job r.line → onto_runs job x (filter run_taken (r ∷ rs)) ≡ filter run_taken (onto_runs job x (r ∷ rs))
-  onto_same x r rs is same = let too : run_taken r ≡ true = ap taken (sym same) ∙ is in rw (same_key job x r.line same, is, too) (rw (same_key job x r.line same) refl)
+  onto_same x r rs is same = let too : run_taken r ≡ true = cc in rw (same_key job x r.line same, is, too) (rw (same_key job x r.line same) refl)
 
   -- a line in front of runs of other keys
   onto_other : (x : List ℕ) (rs : List Run) → AllByRecursion (λ (run : Run). key job x ≢ key job run.line) rs → onto_runs job x rs ≡ run_of x 1 ∷ rs
@@ -116,29 +109,25 @@ module _ (job : Uniq) (taken : List ℕ → Bool) where
   onto_apart : (x : List ℕ) (rs : List Run) → line_taken x ≡ true → AllByRecursion (λ (run : Run). key job x ≢ key job run.line) rs
       → onto_runs job x (filter run_taken rs) ≡ filter run_taken (onto_runs job x rs)
   onto_apart x rs is others =
-      onto_other x (filter run_taken rs) (all_filter (λ (run : Run). key job x ≢ key job run.line) run_taken rs others)
-      ∙ ap (λ (t : Bool). cond t (run_of x 1 ∷ filter run_taken rs) (filter run_taken rs)) (sym is)
-      ∙ ap (filter run_taken) (sym (onto_other x rs others))
+      cc (onto_other x (filter run_taken rs) (all_filter (λ (run : Run). key job x ≢ key job run.line) run_taken rs others), onto_other x rs others)
 
   runs_taken : (ls : List (List ℕ)) → AreGrouped job ls → runs job (filter line_taken ls) ≡ filter run_taken (runs job ls)
   runs_taken [] grouped = refl
   runs_taken (x ∷ ls) grouped = ⊎_elim
-      (λ is. ap (λ (t : Bool). runs job (cond t (x ∷ filter line_taken ls) (filter line_taken ls))) is ∙ ap (onto_runs job x) (runs_taken ls grouped.1) ∙ kept is grouped.0)
-      (λ is. ap (λ (t : Bool). runs job (cond t (x ∷ filter line_taken ls) (filter line_taken ls))) is ∙ runs_taken ls grouped.1 ∙ sym (onto_dropped x (runs job ls) is))
+      (λ is. cc (runs_taken ls grouped.1, kept is grouped.0))
+      (λ is. cc (runs_taken ls grouped.1, onto_dropped x (runs job ls) is))
       (cases_Bool (line_taken x))
     where
       kept : line_taken x ≡ true → (((next : List ℕ) × BeginsWith next ls × (key job x ≡ key job next)) ⊎ AllByRecursion (λ other. key job x ≢ key job other) ls)
           → onto_runs job x (filter run_taken (runs job ls)) ≡ filter run_taken (onto_runs job x (runs job ls))
       kept is (inl n) =
           let r = onto_is job n.0 (runs job n.1.0) in
-          let first : runs job ls ≡ run_of n.0 r.0 ∷ r.1 = ap (runs job) n.1.1 ∙ r.2 in
-          ap (λ (rs : List Run). onto_runs job x (filter run_taken rs)) first ∙ onto_same x (run_of n.0 r.0) r.1 is n.2
-          ∙ ap (λ (rs : List Run). filter run_taken (onto_runs job x rs)) (sym first)
+          let first : runs job ls ≡ run_of n.0 r.0 ∷ r.1 = cc in
+          cc (onto_same x (run_of n.0 r.0) r.1 is n.2)
       kept is (inr others) = onto_apart x (runs job ls) is (all_runs (λ other. key job x ≢ key job other) ls others)
 
 pub uniq_by_key : UniqByKey
 uniq_by_key job taken bytes grouped =
     let ls = lines job.end bytes in
     let some = filter (λ line. taken (key job line)) ls in
-    ap (λ (l : List (List ℕ)). entries job (runs job l)) (lines-text job.end some (all_filter (IsLine job.end) (λ line. taken (key job line)) ls (the_lines job.end bytes).0.0))
-    ∙ ap (entries job) (runs_taken job taken ls grouped)
+    cc (lines-text job.end some (all_filter (IsLine job.end) (λ line. taken (key job line)) ls (the_lines job.end bytes).0.0), runs_taken job taken ls grouped)

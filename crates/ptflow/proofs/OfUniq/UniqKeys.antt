@@ -32,7 +32,7 @@ from_end_is line [] i n is = refl
 from_end_is line (b ∷ bytes) i n is = by_test (ends_word b bytes) n (λ m. from_end_is line _ (i + 1) m next)
   where
     next : drop (i + 1) line ≡ bytes
-    next = sym (drop-drop 1 i line) ∙ ap (drop 1) is
+    next = cc (drop-drop 1 i line)
 
     by_test : (t : Bool) (n : ℕ) → ((m : ℕ) → from_end line bytes (i + 1) m ≡ behind (suc m) bytes)
         → option_map_or (λ end. drop (end + 1) line) (slice_get (cond t (i ∷ word_ends (i + 1) bytes) (word_ends (i + 1) bytes)) n) [] ≡ cond t (behind n bytes) (behind (suc n) bytes)
@@ -50,11 +50,7 @@ behind_is (suc n) line = sym (from_end_is line line 0 n refl)
 -- behind a field, and then behind so many more
 behind_add : (n : ℕ) (bytes : List ℕ) → behind (suc n) bytes ≡ behind n (behind 1 bytes)
 behind_add n [] = sym (behind_none n)
-behind_add n (b ∷ bytes) = by_test (ends_word b bytes) (behind_add n bytes)
-  where
-    by_test : (t : Bool) → behind (suc n) bytes ≡ behind n (behind 1 bytes) → cond t (behind n bytes) (behind (suc n) bytes) ≡ behind n (cond t (behind 0 bytes) (behind 1 bytes))
-    by_test true later = ap (behind n) (sym (behind_zero bytes))
-    by_test false later = later
+behind_add n (b ∷ bytes) = grind (arith, behind_add n bytes, behind_zero bytes)
 
 -- where the first byte is a blank
 blank_ends : (b : ℕ) (bytes : List ℕ) → is_blank b ≡ true → ends_word b bytes ≡ false
@@ -79,27 +75,23 @@ after_one line = sym (behind_is 1 line)
 pub behind_step : (n m : ℕ) (rest : List ℕ) → n ≡ m + 1 → behind n rest ≡ behind m (after_fields 1 rest)
 behind_step n m rest is =
     let more : n ≡ suc m = omega (arith, is) in
-    ap (λ (k : ℕ). behind k rest) more ∙ behind_add m rest ∙ ap (behind m) (sym (after_one rest))
+    cc (behind_add m rest, after_one rest)
 
 -- the same by what stands in front
 pub blank_first : (rest : List ℕ) {behind_it : List ℕ} → 0 < length rest → behind_it ≡ drop 1 rest → is_blank (get_or rest 0 0) ≡ true → behind 1 rest ≡ behind 1 behind_it
 blank_first [] long is blank = absurd (omega (arith, long))
-blank_first (b ∷ bytes) long is blank = behind_blank b bytes blank ∙ ap (behind 1) (sym is)
+blank_first (b ∷ bytes) long is blank = cc (behind_blank b bytes blank)
 
 pub other_first : (rest : List ℕ) → 0 < length rest → is_blank (get_or rest 0 0) ≡ false → behind 1 rest ≡ after_bytes rest
 other_first [] long other = absurd (omega (arith, long))
-other_first (b ∷ bytes) long other = behind_other b bytes other ∙ sym (ap (λ (t : Bool). cond t (b ∷ bytes) (after_bytes bytes)) other)
+other_first (b ∷ bytes) long other = cc (behind_other b bytes other)
 
 -- by a search for the first blank
 blank_here : (b : ℕ) (bytes : List ℕ) → is_blank b ≡ true → after_bytes (b ∷ bytes) ≡ b ∷ bytes
 blank_here b bytes blank = ap (λ (t : Bool). cond t (b ∷ bytes) (after_bytes bytes)) blank
 
 other_here : (b : ℕ) (bytes : List ℕ) → (is_blank b ≡ true → ⊥) → after_bytes (b ∷ bytes) ≡ after_bytes bytes
-other_here b bytes other = by_test (is_blank b) other
-  where
-    by_test : (t : Bool) → (t ≡ true → ⊥) → cond t (b ∷ bytes) (after_bytes bytes) ≡ after_bytes bytes
-    by_test true other = absurd (other refl)
-    by_test false other = refl
+other_here b bytes other = grind (arith)
 
 after_at : (line : List ℕ) (at : ℕ) → at < length line → ((k : ℕ) → k < at → is_blank (get_or line k 0) ≡ true → ⊥) → is_blank (get_or line at 0) ≡ true → after_bytes line ≡ drop at line
 after_at [] at high none blank = absurd (omega (arith, high))
@@ -134,21 +126,13 @@ blanks_later [] (suc at) high none = refl
 blanks_later (b ∷ bytes) (suc at) high none = other_here b bytes (none 0 (omega arith)) ∙ blanks_later bytes at (omega (arith, high)) (λ k lt. none (suc k) (omega (arith, lt)))
 
 neither : (b : ℕ) → ((b == 32) ≡ true → ⊥) → ((b == 9) ≡ true → ⊥) → is_blank b ≡ true → ⊥
-neither b space tab = by (b == 32) (b == 9) space tab
-  where
-    by : (s t : Bool) → (s ≡ true → ⊥) → (t ≡ true → ⊥) → (s || t) ≡ true → ⊥
-    by true t no_space no_tab is = no_space refl
-    by false t no_space no_tab is = no_tab is
+neither b space tab = grind (arith)
 
 is_space : (b : ℕ) → (b == 32) ≡ true → is_blank b ≡ true
 is_space b e = ap (λ (s : Bool). s || (b == 9)) e
 
 is_tab : (b : ℕ) → (b == 9) ≡ true → is_blank b ≡ true
-is_tab b e = by_test (b == 32)
-  where
-    by_test : (s : Bool) → (s || (b == 9)) ≡ true
-    by_test true = refl
-    by_test false = e
+is_tab b e = grind (arith)
 
 -- by a search for a space and one for a tab
 module _ (line : List ℕ) (a b : ℕ) (no_space : Nowhere (Passes (is_byte 32) line) 0 a) (no_tab : Nowhere (Passes (is_byte 9) line) 0 b) where
@@ -162,5 +146,5 @@ module _ (line : List ℕ) (a b : ℕ) (no_space : Nowhere (Passes (is_byte 32) 
   both_near space tab high near = after_at line (min a b) (omega (arith, high, near)) none_here (by (ltb b a) refl)
     where
       by : (u : Bool) → ltb b a ≡ u → is_blank (get_or line (min a b) 0) ≡ true
-      by true e = let is : min a b ≡ b = grind (arith, nat_tests) in is_tab (get_or line (min a b) 0) (ap (λ i. get_or line i 0 == 9) is ∙ tab (omega (arith, is, near)))
-      by false e = let is : min a b ≡ a = grind (arith, nat_tests) in is_space (get_or line (min a b) 0) (ap (λ i. get_or line i 0 == 32) is ∙ space (omega (arith, is, near)))
+      by true e = let is : min a b ≡ b = grind (arith, nat_tests) in is_tab (get_or line (min a b) 0) (cc (tab (omega (arith, is, near))))
+      by false e = let is : min a b ≡ a = grind (arith, nat_tests) in is_space (get_or line (min a b) 0) (cc (space (omega (arith, is, near))))

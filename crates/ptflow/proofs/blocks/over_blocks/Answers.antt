@@ -63,7 +63,7 @@ returns-then-is_empty g c =
     let b = c.block.follows.holds-at-none in
     let m = midway_sent c.turns.invariant.midway c.send_before_wait.ensures.wrote c.in_ok-send_before_wait.ensures.clean in
     let shows = (rw c.in-Ok.is at b.shows) m.reached.goes.fault in
-    let none : c.in-Ok.block.now ≡ [] = nil_from_length c.in-Ok.block.now (eqb-true (length c.in-Ok.block.now) 0 (sym c.is_empty.ensures ∙ c.if-is_empty.true)) in
+    let none : c.in-Ok.block.now ≡ [] = nil_from_length c.in-Ok.block.now (eqb-true (length c.in-Ok.block.now) 0 (cc)) in
     λ t tool store ready. block_done tool
     m ready b.was_sound shows.0.reads b.is_sound c.turns.invariant.holds c.turns.invariant.all
     c.push_end.ensures.wrote (shows.2 none) shows.0.failed c.in_ok-push_end-in-Ok.ensures.clean shows.0.fault (b.is_sound.long shows.0.fault)
@@ -73,7 +73,7 @@ returns-in_err-push_end-in-Ok g c =
     let b = c.block.follows.holds-at-none in
     let m = midway_sent c.turns.invariant.midway c.send_before_wait.ensures.wrote c.in_ok-send_before_wait.ensures.clean in
     let shows = (rw c.in-Ok.is at b.shows) m.reached.goes.fault in
-    let none : c.in-Ok.block.now ≡ [] = nil_from_length c.in-Ok.block.now (eqb-true (length c.in-Ok.block.now) 0 (sym c.is_empty.ensures ∙ c.if-is_empty.true)) in
+    let none : c.in-Ok.block.now ≡ [] = nil_from_length c.in-Ok.block.now (eqb-true (length c.in-Ok.block.now) 0 (cc)) in
     let e = err_from_is_err_and c.from_residual-in_err-push_end-in-Ok.result c.from_residual-in_err-push_end-in-Ok.ensures.1 in
     λ t tool store ready.
     rw (e.1, e.2) (block_unended tool
@@ -92,9 +92,7 @@ turns-preserved g c =
     record {
       midway = midway_more m shows.0 shows.1 c.consume.ensures.consumed e.continues;
       all = λ rest.
-          ap (g.T.BlockTool.rest c.args.tool.now) (append_assoc i.midway.given block rest) ∙ i.all (block ++ rest)
-          ∙ ap (λ (l : List ℕ). i.midway.pushed ++ l) (e.continues.on rest)
-          ∙ sym (append_assoc i.midway.pushed e.continues.pushed (g.T.BlockTool.rest c.push_block.new.self rest));
+          cc (append_assoc i.midway.given block rest, i.all (block ++ rest), e.continues.on rest, append_assoc i.midway.pushed e.continues.pushed (g.T.BlockTool.rest c.push_block.new.self rest));
       holds = e.holds c.args.tool.now i.holds;
       counted = counted_more shows.0 shows.1 b.was_sound i.counted c.consume.ensures.consumed e.counts;
     }
@@ -105,6 +103,6 @@ push_block-requires-clause-holds g c = (c.args.tool.now, c.turns.invariant.holds
 pub turns-smaller : goal.turns-smaller
 turns-smaller g c =
     let shows = (rw c.in-Ok.is at c.block.follows.holds-at-none.shows) c.turns.invariant.midway.reached.goes.fault in
-    let some = eqb-false (length c.in-Ok.block.now) 0 (sym c.is_empty.ensures ∙ c.if-is_empty.false) in
+    let some = eqb-false (length c.in-Ok.block.now) 0 (cc) in
     block_less shows.0 shows.1 c.block.follows.holds-at-none.is_sound.count some c.consume.ensures.consumed
     (c.block.follows.holds-at-none.is_sound.long shows.0.fault)

@@ -21,7 +21,7 @@ pub turns-init : goal.turns-init
 turns-init g c =
     let adds = rw c.SLOTS-slots.ensures at c.need_slots.ensures.adds in
     run_starts c.requires.tool refl c.requires.ready c.requires.clean (keeps_starts adds c.in_ok-need_slots.ensures.allowed
-    (c.need_slots.ensures.same_total ∙ c.requires.ready.empty) c.need_slots.ensures.same_peak)
+    (cc) c.need_slots.ensures.same_peak)
 
 pub returns-in_err-send_before_wait : goal.returns-in_err-send_before_wait
 returns-in_err-send_before_wait g c =

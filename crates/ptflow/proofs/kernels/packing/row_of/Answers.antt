@@ -12,4 +12,4 @@ pub returns : goal.returns
 returns c flags long masked =
     let loop = c.loop-place in
     let end : loop.place ≡ 8 = omega arith in
-    row_whole long masked (subst (λ (place : ℕ). RowBegun c.args.mask place loop.count loop.row) end loop.invariant)
+    row_whole long masked (rw end at loop.invariant)

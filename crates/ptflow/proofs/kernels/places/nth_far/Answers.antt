@@ -29,7 +29,7 @@ returns-then-place-to c =
     let here = behind_in_chunk p bytes at k
     (omega arith) c.marks-marked.ensures c.from-count.ensures c.loop-at.invariant.0 c.if-left-count.true c.bit_behind.ensures in
     let before : count_by p (take at bytes) + (left - 1) ≡ c.args.number - 1 = omega (arith, c.loop-at.invariant.0, c.loop-at.invariant.2) in
-    subst (λ (n : ℕ). IsBehind p 0 n (take c.args.to bytes) (at + k)) before (behind_front p bytes 64 at (left - 1) k (omega arith) here c.if-place-to.true c.requires.within)
+    rw before at (behind_front p bytes 64 at (left - 1) k (omega arith) here c.if-place-to.true c.requires.within)
 
 pub returns-else-place-to : goal.returns-else-place-to
 returns-else-place-to c =

@@ -21,7 +21,7 @@ loop-end-init c =
       bits = c.marks-marked.ensures;
       place = c.requires.turn;
       number = omega arith;
-      long = length-put_chunk at c.args.to.now (chunk at 64 c.args.from.now) ∙ c.requires.same;
+      long = cc (length-put_chunk at c.args.to.now (chunk at 64 c.args.from.now));
       replaced = take_more_put_chunk at c.args.to.now (chunk at 64 c.args.from.now) (at + 64) (omega (arith, long)) (omega (arith, long, c.requires.same, c.requires.room));
     }
 
@@ -50,17 +50,15 @@ loop-end-preserved c =
     let here = behind_set p v n (omega (arith, long)) (omega (arith, counted, c.loop-end-test.true)) loop.invariant.bits in
     let next : suc n ≡ n + 1 = omega arith in
     let delim : c.unwrap_or.result ≡ unwrap_or (delim_at delims (first + n)) end =
-    c.unwrap_or.ensures ∙ ap (λ (m : ℕ). unwrap_or (slice_index_or delims m None) end) (loop.invariant.place ∙ ap (λ (m : ℕ). m % length delims) loop.invariant.number) in
+    cc in
     let front : length (take at c.args.to.now) ≡ at = length-take-le at c.args.to.now (omega (arith, c.requires.same, c.requires.room)) in
     record {
-      bits = cleared n (map p v) loop.auto.marked-fits.fits loop.invariant.bits ∙ ap (λ (m : ℕ). mask_l (without m (map p v))) next;
-      place = c.next-turn.ensures.place ∙ ap (λ (m : ℕ). m % length delims) (sym c.next-turn.ensures.number);
+      bits = cc (cleared n (map p v) loop.auto.marked-fits.fits loop.invariant.bits);
+      place = cc;
       number = omega (arith, c.next-turn.ensures.number, loop.invariant.number);
-      long = length-set loop.to (at + k) c.unwrap_or.result ∙ loop.invariant.long;
+      long = cc (length-set loop.to (at + k) c.unwrap_or.result);
       replaced =
-          set_in_chunk loop.to (take at c.args.to.now) (first_turns end delims n first v) _ 64 k c.unwrap_or.result loop.invariant.replaced front (omega (arith, here.0, long))
-          ∙ ap (λ (l : List ℕ). take at c.args.to.now ++ l) (ap (slice_set (first_turns end delims n first v) k) delim ∙ turn_on end delims n first v k here
-          ∙ ap (λ (m : ℕ). first_turns end delims m first v) next);
+          cc (set_in_chunk loop.to (take at c.args.to.now) (first_turns end delims n first v) _ 64 k c.unwrap_or.result loop.invariant.replaced front (omega (arith, here.0, long)), turn_on end delims n first v k here);
     }
 
 pub returns-clause-next : goal.returns-clause-next
@@ -73,5 +71,4 @@ pub returns-clause-replaced : goal.returns-clause-replaced
 returns-clause-replaced c =
     let v = chunk c.args.at 64 c.args.from.now in
     let counted = ap count_ones c.marks-marked.ensures ∙ ones-mask_l (is_byte c.args.ending) v in
-    c.loop-end.invariant.replaced ∙ ap (λ l. take c.args.at c.args.to.now ++ l)
-    (all_turned c.args.ending c.args.delims.now c.args.turn.number v c.loop-end._end (omega (arith, counted, c.loop-end-test.false, c.loop-end.auto)))
+    cc (all_turned c.args.ending c.args.delims.now c.args.turn.number v c.loop-end._end (omega (arith, counted, c.loop-end-test.false, c.loop-end.auto)))

@@ -26,22 +26,21 @@ loop-at-preserved c =
           let next = w.next-turn in
           rw w.turn-is (rw w.to-is (
           end_more _ delims c.args.number loop.at loop.turn from loop.to loop.invariant (omega (arith, c.loop-at-test.true)) next.result _ _ w.if-from-at.true w.unwrap_or.ensures
-          next.ensures.number (next.ensures.place ∙ ap (λ (n : ℕ). n % length delims) (sym next.ensures.number)) refl
-          (length-set _ loop.at w.unwrap_or.result ∙ length-set loop.to loop.at _ ∙ loop.invariant.1)))
+          next.ensures.number (cc) refl
+          (cc (length-set _ loop.at w.unwrap_or.result, length-set loop.to loop.at _))))
       | else-from-at w ↦
           rw w.turn-is (rw w.to-is (
           other_more end delims c.args.number loop.at loop.turn from loop.to loop.invariant (omega (arith, c.loop-at-test.true))
-          _ w.if-from-at.false refl (length-set loop.to loop.at _ ∙ loop.invariant.1)))
+          _ w.if-from-at.false refl (cc (length-set loop.to loop.at _))))
     ]
 
 pub returns-clause-number : goal.returns-clause-number
 returns-clause-number c =
     let all : length c.args.from.now ≤ c.loop-at.at = omega (arith, c.loop-at-test.false) in
-    c.loop-at.invariant.2 ∙ ap (λ l. c.args.number + count_by (is_byte c.args.ending) l) (take_all c.loop-at.at c.args.from.now all)
+    cc (take_all c.loop-at.at c.args.from.now all)
 
 pub returns-clause-replaced : goal.returns-clause-replaced
 returns-clause-replaced c =
     let at = c.loop-at.at in
     let all : length c.args.from.now ≤ at = omega (arith, c.loop-at-test.false) in
-    sym (take_all at c.loop-at.to (omega (arith, all, c.loop-at.invariant.1))) ∙ c.loop-at.invariant.4
-    ∙ ap (with_turns c.args.ending c.args.delims.now c.args.number) (take_all at c.args.from.now all)
+    cc (take_all at c.loop-at.to (omega (arith, all, c.loop-at.invariant.1)), take_all at c.args.from.now all)

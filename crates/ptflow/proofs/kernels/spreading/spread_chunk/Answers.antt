@@ -20,7 +20,7 @@ loop-behind-init c =
     let long = length-chunk at 64 c.args.from.now c.requires.room in
     record {
       bits = c.marks-marked.ensures;
-      long = length-put_chunk at c.args.to.now (chunk at 64 c.args.from.now) ∙ c.requires.same;
+      long = cc (length-put_chunk at c.args.to.now (chunk at 64 c.args.from.now));
       replaced = take_more_put_chunk at c.args.to.now (chunk at 64 c.args.from.now) (at + 64) (omega (arith, long)) (omega (arith, long, c.requires.same, c.requires.room));
     }
 
@@ -54,16 +54,13 @@ loop-behind-preserved c =
     let next : suc n ≡ n + 1 = omega arith in
     let put = slice_index_or c.args.spread.now (place + n) 0 in
     let byte : slice_index_or c.args.spread.now (place + n) 0 ≡ unwrap_or (delim_at turns (first + n)) end =
-    c.requires.spread.at (place + n) (omega (arith, few, low))
-    ∙ ap (λ (m : ℕ). unwrap_or (slice_index_or turns m None) end) (ap (λ (m : ℕ). (m + n) % length turns) c.requires.turn ∙ mod-add-mod first (length turns) n) in
+    cc (c.requires.spread.at (place + n) (omega (arith, few, low)), mod-add-mod first (length turns) n) in
     let front : length (take at c.args.to.now) ≡ at = length-take-le at c.args.to.now (omega (arith, c.requires.same, c.requires.room)) in
     record {
-      bits = cleared n (map p v) loop.auto.marked-fits.fits loop.invariant.bits ∙ ap (λ (m : ℕ). mask_l (without m (map p v))) next;
-      long = length-set loop.to (at + k) (slice_index_or c.args.spread.now (place + n) 0) ∙ loop.invariant.long;
+      bits = cc (cleared n (map p v) loop.auto.marked-fits.fits loop.invariant.bits);
+      long = cc (length-set loop.to (at + k) (slice_index_or c.args.spread.now (place + n) 0));
       replaced =
-          set_in_chunk loop.to (take at c.args.to.now) (first_turns end turns n first v) _ 64 k put loop.invariant.replaced front (omega (arith, here.0, long))
-          ∙ ap (λ (l : List ℕ). take at c.args.to.now ++ l) (ap (slice_set (first_turns end turns n first v) k) byte ∙ turn_on end turns n first v k here
-          ∙ ap (λ (m : ℕ). first_turns end turns m first v) next);
+          cc (set_in_chunk loop.to (take at c.args.to.now) (first_turns end turns n first v) _ 64 k put loop.invariant.replaced front (omega (arith, here.0, long)), turn_on end turns n first v k here);
     }
 
 pub bounds-spread-turn : goal.bounds-spread-turn
@@ -87,13 +84,12 @@ pub returns-clause-next : goal.returns-clause-next
 returns-clause-next c =
     let v = chunk c.args.at 64 c.args.from.now in
     let counted = ap count_ones c.marks-marked.ensures ∙ ones-mask_l (is_byte c.args.ending) v in (
-      c.behind.ensures.place ∙ ap (λ (m : ℕ). m % length c.args.turns.now) (sym c.behind.ensures.number),
-      c.behind.ensures.number ∙ ap (λ (m : ℕ). c.args.turn.number + m) counted,
+      cc,
+      cc,
     )
 
 pub returns-clause-replaced : goal.returns-clause-replaced
 returns-clause-replaced c =
     let v = chunk c.args.at 64 c.args.from.now in
     let counted = ap count_ones c.marks-marked.ensures ∙ ones-mask_l (is_byte c.args.ending) v in
-    c.loop-behind.invariant.replaced ∙ ap (λ l. take c.args.at c.args.to.now ++ l)
-    (all_turned c.args.ending c.args.turns.now c.args.turn.number v c.loop-behind.behind (omega (arith, counted, c.loop-behind-test.false, c.loop-behind.auto)))
+    cc (all_turned c.args.ending c.args.turns.now c.args.turn.number v c.loop-behind.behind (omega (arith, counted, c.loop-behind-test.false, c.loop-behind.auto)))

@@ -26,7 +26,7 @@ loop-at-preserved c =
     let room : at + 64 ≤ length from = omega (arith, c.loop-at.invariant.within) in
     let same = same_behind (holds c.args.set) flag c.requires.set (get_or from (at - 1) 0) (take 64 (drop at from)) (chunk-fits w8 at 64 from c.type_inv.from) in
     squeezing_piece flag c.loop-at.invariant 64 (omega arith) room c.squeeze_chunk-count.ensures.end
-    (c.squeeze_chunk-count.ensures.squeezed ∙ ap (λ (l : List ℕ). take c.loop-at.count c.loop-at.into ++ l) same)
+    (cc)
 
 pub overflow_sub-from : goal.overflow_sub-from
 overflow_sub-from c = c.loop-at.invariant.within
@@ -47,4 +47,4 @@ pub squeeze_tail-requires-clause-counted : goal.squeeze_tail-requires-clause-cou
 squeeze_tail-requires-clause-counted c = c.loop-at.invariant.counted
 
 pub returns-clause-squeezed : goal.returns-clause-squeezed
-returns-clause-squeezed c = c.squeeze_tail.ensures.squeezed ∙ c.loop-at.invariant.is
+returns-clause-squeezed c = cc

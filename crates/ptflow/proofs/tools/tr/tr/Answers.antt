@@ -8,7 +8,7 @@ use Rattle.ptflow.proofs.OfTr.TrRests.{rest_decided}
 use Rattle.ptflow.proofs.tools.tr.tr.Goals as goal
 
 pub returns-then-has_failed-clause-pass : goal.returns-then-has_failed-clause-pass
-returns-then-has_failed-clause-pass g c = λ store ready. pass_halted (tr_tool c.args.plan.now) _ c.args.out.now _ ready (sym c.has_failed.ensures ∙ c.if-has_failed.true)
+returns-then-has_failed-clause-pass g c = λ store ready. pass_halted (tr_tool c.args.plan.now) _ c.args.out.now _ ready (cc)
 
 pub returns-clause-pass : goal.returns-clause-pass
 returns-clause-pass g c =

@@ -5,7 +5,7 @@ use Rattle.ptflow.proofs.tools.cut.bytes.copy_selected.Goals as goal
 pub returns-then-last-interval-clause-copied : goal.returns-then-last-interval-clause-copied
 returns-then-last-interval-clause-copied c =
     copied_ends c.args.bytes.now c.requires.within.0 c.requires.within.1 c.loop-interval.invariant c.loop-interval-test.true
-    _ (c.min-from.ensures ∙ ap (λ (n : ℕ). min n c.args.count) c.saturating_sub-from.ensures) c.if-last-interval.true c.copy_near.ensures.copied
+    _ (cc) c.if-last-interval.true c.copy_near.ensures.copied
 
 pub loop-interval-preserved : goal.loop-interval-preserved
 loop-interval-preserved c =

@@ -56,7 +56,7 @@ loop-end-preserved c =
     let at = c.args.from + count_trailing_zeros 64 l.marked in
     let next : suc l._end ≡ l._end + 1 = omega arith in
     let behind : s + (at - s + 1) ≡ at + 1 = omega (arith, e.order) in
-    let left : drop (at - s + 1) (drop s block) ≡ drop (at + 1) block = drop-drop (at - s + 1) s block ∙ ap (λ (k : ℕ). drop k block) behind in
+    let left : drop (at - s + 1) (drop s block) ≡ drop (at + 1) block = cc (drop-drop (at - s + 1) s block) in
     record {
       bits = rw (← next) (cleared l._end (map (is_byte c.args.ending) (chunk c.args.from 64 block)) l.auto.marked-fits.fits l.invariant.bits);
       within = omega (arith, e.near);
@@ -79,5 +79,5 @@ returns-clause-passed c =
     let loop = c.loop-end in
     let bytes = chunk c.args.from 64 c.args.block.now in
     let counted = ap count_ones c.requires.ends.is ∙ ones-mask_l p bytes in
-    let some = some_counted p bytes bytes (subst (λ (n : ℕ). 0 < n) c.requires.ends.is c.requires.ends.some) in
+    let some = some_counted p bytes bytes (rw c.requires.ends.is at c.requires.ends.some) in
     (loop.invariant.passed (omega (arith, some, counted, c.loop-end-test.false)), loop.invariant.within)

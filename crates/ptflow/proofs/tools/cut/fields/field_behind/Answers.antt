@@ -12,8 +12,7 @@ pub returns-then-count-eq0-clause-found : goal.returns-then-count-eq0-clause-fou
 returns-then-count-eq0-clause-found c =
     let d = c.args.delimiter in
     let o = c.field_start.result in
-    subst (λ (l : List ℕ). MatchOption o (length (fields d l) ≤ c.args.count) (StartsAt d c.args.count l))
-    (sym (rest_of c.args.from c.args.to c.args.bytes.now (omega arith))) (rw take_rest at c.field_start.ensures)
+    rw (rest_of c.args.from c.args.to c.args.bytes.now (omega arith)) (rw take_rest at c.field_start.ensures)
 
 pub returns-then-count-eq0-clause-start : goal.returns-then-count-eq0-clause-start
 returns-then-count-eq0-clause-start c =
@@ -35,9 +34,9 @@ returns-in_err-passed-clause-found c =
     let line = take c.args.to bytes in
     let zero : c.args.from ≡ 0 = c.requires.start c.if-from-first.false in
     let within : behind ≤ c.args.to = omega (arith, c.requires.first.0.high, length-take-le c.args.to bytes c.requires.within.1) in
-    let left = subst (λ (l : List ℕ). length (fields d l) ≤ c.args.count - 1) (sym (rest_of _ _ bytes within)) (rw take_rest at c.in_err-passed.ensures) in
+    let left = rw (← (rest_of _ _ bytes within)) at (rw take_rest at c.in_err-passed.ensures) in
     let few : length (fields d (drop c.args.from line)) ≤ c.args.count =
-    subst (λ (n : ℕ). length (fields d (drop n line)) ≤ c.args.count) (sym zero) (few_behind_first d line c.args.first c.args.count c.requires.first (omega (arith, c.if-count-eq0.false)) left) in
+    rw zero (few_behind_first d line c.args.first c.args.count c.requires.first (omega (arith, c.if-count-eq0.false)) left) in
     rw c.from_residual.ensures few
 
 pub returns-clause-found : goal.returns-clause-found
@@ -49,6 +48,5 @@ returns-clause-found c =
     let passed = c.in_ok-passed.passed in
     let zero : c.args.from ≡ 0 = c.requires.start c.if-from-first.false in
     let within : behind ≤ c.args.to = omega (arith, c.requires.first.0.high, length-take-le c.args.to bytes c.requires.within.1) in
-    let s = subst (λ (l : List ℕ). StartsAt d (c.args.count - 1) l passed) (sym (rest_of _ _ bytes within)) (rw take_rest at c.in_ok-passed.ensures) in
-    subst (λ (n : ℕ). StartsAt d c.args.count (drop n line) (behind + passed)) (sym zero)
-    (starts_past_first d line c.args.first c.args.count c.requires.first (omega (arith, c.if-count-eq0.false)) s)
+    let s = rw (← (rest_of _ _ bytes within)) at (rw take_rest at c.in_ok-passed.ensures) in
+    rw zero (starts_past_first d line c.args.first c.args.count c.requires.first (omega (arith, c.if-count-eq0.false)) s)

@@ -29,10 +29,10 @@ loop-interval-init g c =
 
 -- what a step found in the line, which is all of these bytes
 found : {d : ℕ} (line : List ℕ) {count : ℕ} (at : ℕ) {passed : ℕ} → StartsAt d count (drop at (take (length line) line)) passed → StartsAt d count (drop at line) passed
-found {d} line {count} at {passed} s = subst (λ (l : List ℕ). StartsAt d count (drop at l) passed) (take_all (length line) line (omega arith)) s
+found {d} line {count} at {passed} s = rw (take_all (length line) line (omega arith)) at s
 
 few : (d : ℕ) (line : List ℕ) {count : ℕ} (at : ℕ) → length (fields d (drop at (take (length line) line))) ≤ count → length (fields d (drop at line)) ≤ count
-few d line {count} at le = subst (λ (l : List ℕ). length (fields d (drop at l)) ≤ count) (take_all (length line) line (omega arith)) le
+few d line {count} at le = rw (take_all (length line) line (omega arith)) at le
 
 pub returns-in_default-clause-wrote : goal.returns-in_default-clause-wrote
 returns-in_default-clause-wrote g c =
@@ -120,14 +120,12 @@ overflow_add-from g c =
 pub field_behind-requires-clause-first : goal.field_behind-requires-clause-first
 field_behind-requires-clause-first g c =
     let line = c.args.line.now in
-    subst (λ (l : List ℕ). IsFirstByte (is_byte c.args.job.now.delim) l (Some c.args.first))
-    (sym (take_all (length line) line (omega arith))) c.requires.first
+    rw (take_all (length line) line (omega arith)) c.requires.first
 
 pub field_behind-requires-in-loop-interval-clause-first : goal.field_behind-requires-in-loop-interval-clause-first
 field_behind-requires-in-loop-interval-clause-first g c =
     let line = c.args.line.now in
-    subst (λ (l : List ℕ). IsFirstByte (is_byte c.args.job.now.delim) l (Some c.args.first))
-    (sym (take_all (length line) line (omega arith))) c.requires.first
+    rw (take_all (length line) line (omega arith)) c.requires.first
 
 pub overflow_add-last : goal.overflow_add-last
 overflow_add-last g c =

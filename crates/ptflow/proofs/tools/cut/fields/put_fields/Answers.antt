@@ -70,16 +70,13 @@ loop-interval-preserved g c =
     let some : 1 ≤ c.in-Some-field_behind.passed = omega (arith, p.count) in
     let within : (from - l.lead) + size ≤ to = omega (arith, ends, some, l.invariant.walk.begun, l.invariant.walk.passed) in
     let copied : take l.end l.room ++ take size (drop (from - l.lead) line) ≡ take (l.end + size) c.copy_near-in-loop-interval.new.into =
-    ap (λ (b : List ℕ). take l.end l.room ++ b) (slice_of (from - l.lead) size bytes within) ∙ sym c.copy_near-in-loop-interval.ensures.copied in record {
-      put = l.invariant.put
-          ∙ ap (λ (b : List ℕ). take l.end l.room ++ b) (walking_slice all tail i l.invariant.walk c.loop-interval-test.true
-          s p)
-          ∙ sym (append_assoc (take l.end l.room) (take size (drop (from - l.lead) line)) more) ∙ ap (λ (b : List ℕ). b ++ more) copied;
+    cc (slice_of (from - l.lead) size bytes within) in record {
+      put = cc (walking_slice all tail i l.invariant.walk c.loop-interval-test.true s p, append_assoc (take l.end l.room) (take size (drop (from - l.lead) line)) more);
       walk = walking_more all tail i l.invariant.walk c.loop-interval-test.true s p;
       known = c.in-Some-field_behind.ensures.start;
       low = omega (arith, l.invariant.low);
       high = omega (arith, l.invariant.high, some, l.invariant.walk.passed);
-      long = c.copy_near-in-loop-interval.ensures.long ∙ l.invariant.long;
+      long = cc;
     }
 
 pub returns-clause-put : goal.returns-clause-put

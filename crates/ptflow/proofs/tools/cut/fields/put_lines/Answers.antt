@@ -27,7 +27,7 @@ returns-then-job-clause-put g c =
     let bytes = c.args.bytes.now in
     let d = c.args.job.now.delim in
     let size = c.whole_lines-size in
-    let free = subst (λ (n : ℕ). IsLine d (take n bytes)) (sym c.unwrap_or-first.ensures) (free_before d bytes c.find_near.result c.find_near.ensures) in
+    let free = rw (← c.unwrap_or-first.ensures) at (free_before d bytes c.find_near.result c.find_near.ensures) in
     puts_dropped (cut_job c.args.job.now) c.requires.by_fields c.requires.ending bytes _ c.requires.first
     size.ensures.within.0 size.ensures.within.1 size.ensures.ended size.ensures.up_to c.if-first-to.false free c.if-job.true
 
@@ -36,9 +36,9 @@ returns-clause-put g c =
     let bytes = c.args.bytes.now in
     let d = c.args.job.now.delim in
     let size = c.whole_lines-size in
-    let free = subst (λ (n : ℕ). IsLine d (take n bytes)) (sym c.unwrap_or-first.ensures) (free_before d bytes c.find_near.result c.find_near.ensures) in
+    let free = rw (← c.unwrap_or-first.ensures) at (free_before d bytes c.find_near.result c.find_near.ensures) in
     let whole : size.result - 0 ≡ size.result = omega arith in
-    let copied = subst (λ (n : ℕ). take (c.args.start + n) c.copy_near.new.into ≡ take c.args.start c.args.room.now ++ take n bytes) whole c.copy_near.ensures.copied in
+    let copied = rw whole at c.copy_near.ensures.copied in
     puts_kept (cut_job c.args.job.now) c.requires.by_fields c.requires.ending bytes _ c.requires.first
     size.ensures.within.0 size.ensures.within.1 size.ensures.ended
     size.ensures.up_to c.if-first-to.false free c.if-job.false copied
@@ -47,5 +47,4 @@ pub put_fields-requires-clause-first : goal.put_fields-requires-clause-first
 put_fields-requires-clause-first g c =
     let bytes = c.args.bytes.now in
     let d = c.args.job.now.delim in
-    subst (λ (n : ℕ). IsFirstByte (is_byte d) (take c.args.to bytes) (Some n)) (sym c.unwrap_or-first.ensures)
-    (first_within d bytes c.find_near.result c.args.to c.find_near.ensures (omega (arith, c.unwrap_or-first.ensures, c.if-first-to.true)) (omega (arith, c.requires.first.0.high)))
+    rw c.unwrap_or-first.ensures (first_within d bytes c.find_near.result c.args.to c.find_near.ensures (omega (arith, c.unwrap_or-first.ensures, c.if-first-to.true)) (omega (arith, c.requires.first.0.high)))

@@ -9,5 +9,5 @@ pub returns-in-Same : goal.returns-in-Same
 returns-in-Same c =
     let tables = c.args.self.now.plan.now in
     let bytes = c.args.bytes.now in
-    let same = subst (λ (m : Mapping). IsMapping m tables) c.in-Same.is c.requires.mapping in
+    let same = rw c.in-Same.is at c.requires.mapping in
     sym (map_self bytes) ∙ bytes_same (λ b. b) (image tables) same bytes (bytes_fit bytes c.type_inv.bytes)

@@ -12,4 +12,4 @@ returns-in-Some c =
 pub returns-in-None : goal.returns-in-None
 returns-in-None c =
     let tables = c.args.self.now.plan.now in
-    sym (from_all (squeezes tables) (subst (λ (o : Option ByteSet). IsSetIfAny o tables.squeezed) c.in-None.is c.requires.squeezing) c.args.last c.args.bytes.now)
+    sym (from_all (squeezes tables) (rw c.in-None.is at c.requires.squeezing) c.args.last c.args.bytes.now)

@@ -33,7 +33,7 @@ pub returns-in_default-clause-continues : goal.returns-in_default-clause-continu
 returns-in_default-clause-continues g c =
     let job = uniq_job c.args.self.now in
     let same = c.count_same-same.result in
-    let went = subst (λ (l : List ℕ). GoesOnWith job c.args.ending l c.args.block.now same) c.first_line.ensures c.count_same-same.ensures in
+    let went = rw c.first_line.ensures at c.count_same-same.ensures in
     block_on went c.requires.open.0
     (no_end c.args.ending (drop same.passed c.args.block.now) (rw take_rest at c.in_default.ensures)) c.args.out.now c.requires.clean
 
@@ -41,7 +41,7 @@ pub returns-in_default-clause-passed : goal.returns-in_default-clause-passed
 returns-in_default-clause-passed g c =
     let job = uniq_job c.args.self.now in
     let same = c.count_same-same.result in
-    let went = subst (λ (l : List ℕ). GoesOnWith job c.args.ending l c.args.block.now same) c.first_line.ensures c.count_same-same.ensures in (
+    let went = rw c.first_line.ensures at c.count_same-same.ensures in (
       went.within,
       block_on_passed went c.requires.open.0
           (no_end c.args.ending (drop same.passed c.args.block.now) (rw take_rest at c.in_default.ensures)),
@@ -85,7 +85,7 @@ pub returns-clause-passed : goal.returns-clause-passed
 returns-clause-passed g c =
     let job = uniq_job c.args.self.now in
     let same = c.count_same-same.result in
-    let went = subst (λ (l : List ℕ). GoesOnWith job c.args.ending l c.args.block.now same) c.first_line.ensures c.count_same-same.ensures in
+    let went = rw c.first_line.ensures at c.count_same-same.ensures in
     let passed = rw take_rest at c.in_ok-last.ensures.passed in (
       omega (arith, went.within, passed.0, length-drop same.passed c.args.block.now),
       block_passed went c.requires.open.0 c.in_ok-last.last.passed passed.1,

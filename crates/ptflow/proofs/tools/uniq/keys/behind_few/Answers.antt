@@ -8,15 +8,14 @@ pub returns-then-is_blank : goal.returns-then-is_blank
 returns-then-is_blank c =
     let line = c.args.line.now in
     let at = c.loop-at.at in
-    take_rest line at ∙ sym (blank_front line at (omega (arith, c.loop-at-test.true)) (sym c.is_blank.ensures ∙ c.if-is_blank.true)) ∙ c.loop-at.invariant
+    cc (take_rest line at, blank_front line at (omega (arith, c.loop-at-test.true)) (sym c.is_blank.ensures ∙ c.if-is_blank.true))
 
 pub loop-at-preserved : goal.loop-at-preserved
 loop-at-preserved c =
     let line = c.args.line.now in
     let at = c.loop-at.at in
     let next : at + 1 ≡ suc at = omega arith in
-    ap (λ (n : ℕ). after_bytes (drop n line)) next
-    ∙ sym (other_front line at (omega (arith, c.loop-at-test.true)) (sym c.is_blank.ensures ∙ c.if-is_blank.false)) ∙ c.loop-at.invariant
+    cc (other_front line at (omega (arith, c.loop-at-test.true)) (sym c.is_blank.ensures ∙ c.if-is_blank.false))
 
 pub returns : goal.returns
 returns c =

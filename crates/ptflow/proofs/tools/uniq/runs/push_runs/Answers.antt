@@ -35,7 +35,7 @@ lines-preserved-then-eq g c =
     let rest = c.lines.rest.now in
     let at = c.in-Some.at in
     rw take_rest (running_more r at (first_end rest (Some at) c.requires.ending c.in-Some.ensures)
-    (same_by_keys job r.first (take at rest) r.own_is c.key-next.ensures ∙ sym c.eq.ensures ∙ c.if-eq.true))
+    (cc (same_by_keys job r.first (take at rest) r.own_is c.key-next.ensures)))
 
 pub returns-in_err-waiting-clause-halts : goal.returns-in_err-waiting-clause-halts
 returns-in_err-waiting-clause-halts g c =
@@ -65,8 +65,7 @@ returns-in_err-push-clause-halts g c =
     let job = uniq_job c.args.job.now in
     let rest = c.lines.rest.now in
     on_err c.from_residual-in_err-push.result
-    (subst (λ (b : ℕ). RunsHalt job (run_of [] 0) (ended_lines b c.args.block.now) c.args.out.now c.push.new.self) (sym c.requires.ending)
-    (running_unended c.lines.invariant
+    (rw c.requires.ending (running_unended c.lines.invariant
     (subst (λ (b : ℕ). IsLine b rest) c.requires.ending (no_end c.args.ending rest c.in_default.ensures)) c.push.ensures.wrote c.in_err-push.ensures.fault))
 
 pub overflow_sub-result : goal.overflow_sub-result
@@ -78,16 +77,14 @@ pub returns-clause-continues : goal.returns-clause-continues
 returns-clause-continues g c =
     let job = uniq_job c.args.job.now in
     let rest = c.lines.rest.now in
-    subst (λ (b : ℕ). RunsOn job (run_of [] 0) (run_of (slice_range c.args.block.now c.lines.line.from (c.lines.line.to - 1)) c.lines.count)
-    (ended_lines b c.args.block.now) c.args.out.now c.push.new.self) (sym c.requires.ending) (running_done c.lines.invariant
+    rw c.requires.ending (running_done c.lines.invariant
     (subst (λ (b : ℕ). IsLine b rest) c.requires.ending (no_end c.args.ending rest c.in_default.ensures)) c.push.ensures.wrote c.in_ok-push.ensures.clean)
 
 pub returns-clause-passed : goal.returns-clause-passed
 returns-clause-passed g c =
     let rest = c.lines.rest.now in (
       omega arith,
-      subst (λ (b : ℕ). take (length c.args.block.now - length rest) c.args.block.now ≡ text b (ended_lines b c.args.block.now)) (sym c.requires.ending)
-          (running_passed c.lines.invariant
+      rw c.requires.ending (running_passed c.lines.invariant
           (subst (λ (b : ℕ). IsLine b rest) c.requires.ending (no_end c.args.ending rest c.in_default.ensures)) c.push.ensures.wrote),
     )
 

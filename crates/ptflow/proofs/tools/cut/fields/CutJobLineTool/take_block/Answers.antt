@@ -18,7 +18,7 @@ lines-preserved g c =
       taken = taken_more _ c.put_lines-size.result.0 put.taken l.invariant.taken;
       on = λ more. l.invariant.on more ∙ put.on more;
       space = omega (arith, l.invariant.space, put.fits, c.put_lines-size.ensures.end.1, length-drop c.put_lines-size.result.0 l.rest.now);
-      long = c.put_lines-size.ensures.long ∙ l.invariant.long;
+      long = cc;
     })
 
 pub returns-in_err-push-clause-halts : goal.returns-in_err-push-clause-halts

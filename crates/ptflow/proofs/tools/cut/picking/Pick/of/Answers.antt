@@ -10,7 +10,7 @@ loop-place-preserved g c =
     let selected = is_selected c.args.list.now in
     let loop = c.loop-place in
     pick_more selected (omega arith) loop.invariant
-    (c.from-count.ensures ∙ ap bool_byte c.contains.ensures ∙ ap (λ (n : ℕ). bool_byte (selected (n + 1))) c.from.ensures)
+    (cc)
     (ap (λ (n : ℕ). set loop.counts (n + 1) (loop.count + c.from-count.result)) c.from-in-loop-place.ensures)
 
 pub returns : goal.returns
@@ -19,4 +19,4 @@ returns g c =
     let selected = is_selected c.args.list.now in
     let all = subst (λ (n : ℕ). PickBegun selected n loop.count loop.row loop.counts) (omega (arith, c.loop-place-test.false, loop.auto)) loop.invariant in
     pick_whole selected _ all
-    (λ place later upto. ap (λ (l : List Interval). is_selected l place) (sym c.intervals.ensures.kept) ∙ c.greatest_length.ensures place later upto)
+    (λ place later upto. cc (c.greatest_length.ensures place later upto))

@@ -12,6 +12,6 @@ returns c =
     let v = c.args.v in
     let blend = c.args.self in
     sel_maps (holds blend.set) (λ _. blend.byte) (λ b. b) v
-    (ap (λ (mask : List ℤ). map (top 7) (map (cast_unsigned w8) mask)) c.test.ensures ∙ tops_of_mask (holds blend.set) v)
+    (cc (tops_of_mask (holds blend.set) v))
     (splat_is_map v 16 blend.byte c.fits-v.0)
     (sym (map_self v))

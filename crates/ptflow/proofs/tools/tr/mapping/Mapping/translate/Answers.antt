@@ -7,4 +7,4 @@ use Rattle.ptflow.proofs.tools.tr.mapping.Mapping.translate.Goals as goal
 pub returns-in-Shifts : goal.returns-in-Shifts
 returns-in-Shifts c =
     let from = c.args.from.now in
-    c.translate.ensures ∙ bytes_same (shifted c.in-Shifts.shifts) (image c.args.plan.now) (rw c.in-Shifts.is at c.requires.mapping) from (bytes_fit from c.type_inv.from)
+    cc (bytes_same (shifted c.in-Shifts.shifts) (image c.args.plan.now) (rw c.in-Shifts.is at c.requires.mapping) from (bytes_fit from c.type_inv.from))
