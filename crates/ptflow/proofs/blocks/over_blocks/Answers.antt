@@ -63,7 +63,7 @@ returns-then-is_empty g c =
     let b = c.block.follows.holds-at-none in
     let m = midway_sent c.turns.invariant.midway c.send_before_wait.ensures.wrote c.in_ok-send_before_wait.ensures.clean in
     let shows = (rw c.in-Ok.is at b.shows) m.reached.goes.fault in
-    let none : c.in-Ok.block.now ≡ [] = nil_from_length c.in-Ok.block.now (eqb-true (length c.in-Ok.block.now) 0 (cc)) in
+    let none : c.in-Ok.block.now ≡ [] = nil_from_length c.in-Ok.block.now (eqb-true (length c.in-Ok.block.now) 0 (sym c.is_empty.ensures ∙ c.if-is_empty.true)) in
     λ t tool store ready. block_done tool
     m ready b.was_sound shows.0.reads b.is_sound c.turns.invariant.holds c.turns.invariant.all
     c.push_end.ensures.wrote (shows.2 none) shows.0.failed c.in_ok-push_end-in-Ok.ensures.clean shows.0.fault (b.is_sound.long shows.0.fault)
@@ -92,7 +92,9 @@ turns-preserved g c =
     record {
       midway = midway_more m shows.0 shows.1 c.consume.ensures.consumed e.continues;
       all = λ rest.
-          cc (append_assoc i.midway.given block rest, i.all (block ++ rest), e.continues.on rest, append_assoc i.midway.pushed e.continues.pushed (g.T.BlockTool.rest c.push_block.new.self rest));
+          ap (g.T.BlockTool.rest c.args.tool.now) (append_assoc i.midway.given block rest) ∙ i.all (block ++ rest)
+          ∙ ap (λ (l : List ℕ). i.midway.pushed ++ l) (e.continues.on rest)
+          ∙ sym (append_assoc i.midway.pushed e.continues.pushed (g.T.BlockTool.rest c.push_block.new.self rest));
       holds = e.holds c.args.tool.now i.holds;
       counted = counted_more shows.0 shows.1 b.was_sound i.counted c.consume.ensures.consumed e.counts;
     }

@@ -20,7 +20,7 @@ loop-behind-init c =
     let long = length-chunk at 64 c.args.from.now c.requires.room in
     record {
       bits = c.marks-marked.ensures;
-      long = cc (length-put_chunk at c.args.to.now (chunk at 64 c.args.from.now));
+      long = length-put_chunk at c.args.to.now (chunk at 64 c.args.from.now) ∙ c.requires.same;
       replaced = take_more_put_chunk at c.args.to.now (chunk at 64 c.args.from.now) (at + 64) (omega (arith, long)) (omega (arith, long, c.requires.same, c.requires.room));
     }
 

@@ -85,7 +85,7 @@ pub returns-clause-passed : goal.returns-clause-passed
 returns-clause-passed g c =
     let job = uniq_job c.args.self.now in
     let same = c.count_same-same.result in
-    let went = rw c.first_line.ensures at c.count_same-same.ensures in
+    let went = subst (λ (l : List ℕ). GoesOnWith job c.args.ending l c.args.block.now same) c.first_line.ensures c.count_same-same.ensures in
     let passed = rw take_rest at c.in_ok-last.ensures.passed in (
       omega (arith, went.within, passed.0, length-drop same.passed c.args.block.now),
       block_passed went c.requires.open.0 c.in_ok-last.last.passed passed.1,

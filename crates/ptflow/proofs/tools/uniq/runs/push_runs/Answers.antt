@@ -77,14 +77,16 @@ pub returns-clause-continues : goal.returns-clause-continues
 returns-clause-continues g c =
     let job = uniq_job c.args.job.now in
     let rest = c.lines.rest.now in
-    rw c.requires.ending (running_done c.lines.invariant
+    subst (λ (b : ℕ). RunsOn job (run_of [] 0) (run_of (slice_range c.args.block.now c.lines.line.from (c.lines.line.to - 1)) c.lines.count)
+    (ended_lines b c.args.block.now) c.args.out.now c.push.new.self) (sym c.requires.ending) (running_done c.lines.invariant
     (subst (λ (b : ℕ). IsLine b rest) c.requires.ending (no_end c.args.ending rest c.in_default.ensures)) c.push.ensures.wrote c.in_ok-push.ensures.clean)
 
 pub returns-clause-passed : goal.returns-clause-passed
 returns-clause-passed g c =
     let rest = c.lines.rest.now in (
       omega arith,
-      rw c.requires.ending (running_passed c.lines.invariant
+      subst (λ (b : ℕ). take (length c.args.block.now - length rest) c.args.block.now ≡ text b (ended_lines b c.args.block.now)) (sym c.requires.ending)
+          (running_passed c.lines.invariant
           (subst (λ (b : ℕ). IsLine b rest) c.requires.ending (no_end c.args.ending rest c.in_default.ensures)) c.push.ensures.wrote),
     )
 
