@@ -46,9 +46,9 @@ chosen_past r n xs past = chosen_none (lies_in r) n xs (λ k low high. above r k
 chosen_step : {X : Type 0} (x : X) {all : List X} (first others : List X) (a b : Bool) → (a ≡ true → b ≡ false) → (b ≡ true → first ≡ []) → all ≡ first ++ others
     → cond (a || b) (x ∷ all) all ≡ cond a (x ∷ first) first ++ cond b (x ∷ others) others
 chosen_step x first others true true apart none more = absurd (false≢true (sym (apart refl)))
-chosen_step {X} x first others true false apart none more = ap (λ (l : List X). x ∷ l) more
-chosen_step {X} x first others false true apart none more = ap (λ (l : List X). x ∷ l) (more ∙ ap (λ (l : List X). l ++ others) (none refl))
-    ∙ ap (λ (l : List X). l ++ x ∷ others) (sym (none refl))
+chosen_step {X} x first others true false apart none more = ap (◌∷◌ x) more
+chosen_step {X} x first others false true apart none more = ap (◌∷◌ x) (more ∙ ap (λ l. l ++ others) (none refl))
+    ∙ ap (λ l. l ++ x ∷ others) (sym (none refl))
 chosen_step x first others false false apart none more = more
 
 -- the first interval chooses, and then the others
@@ -59,7 +59,7 @@ chosen_first r rs n (x ∷ xs) apart = chosen_step x (chosen (lies_in r) (n + 1)
     (chosen (is_selected rs) (n + 1) xs) (lies_in r n) (is_selected rs n) here there (chosen_first r rs (n + 1) xs apart)
   where
     late : (n ≤ r.last → ⊥) → r.last < n
-    late not = ⊎_elim (λ is. absurd (not (omega (arith, is)))) (λ h. ⊎_elim (λ low. absurd (not (omega (arith, low)))) (λ high. high) h) (cases_order n r.last)
+    late not = ⊎_elim (λ is. absurd (not (omega (arith, is)))) (⊎_elim (λ low. absurd (not (omega (arith, low)))) (λ high. high)) (cases_order n r.last)
 
     here : lies_in r n ≡ true → is_selected rs n ≡ false
     here inside = not_selected rs (r.last + 1) n apart (omega (arith, last_of r n inside))
@@ -87,7 +87,7 @@ chosen_slice r n (x ∷ xs) i zero is js = chosen_past r n (x ∷ xs) (omega (ar
 chosen_slice {X} r n (x ∷ xs) zero (suc j) is js =
     let whole : suc j - 0 ≡ suc j = omega arith in
     let rest : j - 0 ≡ j = omega arith in
-    rw (inside r n (omega (arith, is)) (omega (arith, js)), whole) (ap (λ (l : List X). x ∷ l)
+    rw (inside r n (omega (arith, is)) (omega (arith, js)), whole) (ap (◌∷◌ x)
     (cc (chosen_slice r (n + 1) xs zero j (omega (arith, is)) (omega (arith, js)))))
 chosen_slice r n (x ∷ xs) (suc i) (suc j) is js =
     let same : suc j - suc i ≡ j - i = omega arith in
@@ -147,7 +147,7 @@ slice_is r before count bytes within short =
     sym (chosen_slice r (before + 1) (take count bytes) i j refl j_is ∙ in_piece i j (omega arith))
   where
     in_piece : (i j : ℕ) → j ≤ count → take (j - i) (drop i (take count bytes)) ≡ take (j - i) (drop i bytes)
-    in_piece i j fits = ⊎_elim (λ is. same (omega (arith, is))) (λ h. ⊎_elim (λ low. same (omega (arith, low))) past h) (cases_order i j)
+    in_piece i j fits = ⊎_elim (λ is. same (omega (arith, is))) (⊎_elim (λ low. same (omega (arith, low))) past) (cases_order i j)
       where
         same : i ≤ j → take (j - i) (drop i (take count bytes)) ≡ take (j - i) (drop i bytes)
         same low =
@@ -168,7 +168,7 @@ rest_is r before count bytes within reaches =
     cc (take-append-drop count bytes, drop-append-le (min i count) (take count bytes) (drop count bytes) (omega (arith, long)), piece)
   where
     all_of : (i : ℕ) → length (take count bytes) ≤ r.last + 1 - (before + 1) → take ((r.last + 1 - (before + 1)) - i) (drop i (take count bytes)) ≡ drop (min i count) (take count bytes)
-    all_of i fits = ⊎_elim (λ is. near (omega (arith, is))) (λ h. ⊎_elim (λ low. near (omega (arith, low))) far h) (cases_order i count)
+    all_of i fits = ⊎_elim (λ is. near (omega (arith, is))) (⊎_elim (λ low. near (omega (arith, low))) far) (cases_order i count)
       where
         near : i ≤ count → take ((r.last + 1 - (before + 1)) - i) (drop i (take count bytes)) ≡ drop (min i count) (take count bytes)
         near low = let least : min i count ≡ i = omega arith in cc (take_all ((r.last + 1 - (before + 1)) - i) (drop i (take count bytes)) (omega (arith, length-drop i (take count bytes))))
@@ -217,6 +217,6 @@ module _ {all : List Interval} {before count end : ℕ} (bytes : List ℕ) {was 
     copied_more {from} {to} from_is to_is short copied =
         let slice : take (to - from) (drop from bytes) ≡ chosen (lies_in at_i) (before + 1) piece =
         cc (slice_is at_i before count bytes (omega (arith, in_piece, in_bytes)) short, take-take count end bytes in_piece) in
-        subst (λ (l : List ℕ). Choosing all (i + 1) before piece tail was l start (at + (to - from))) (sym (cc))
-        (subst (λ (n : ℕ). Choosing all (i + 1) before piece tail was (is ++ chosen (lies_in at_i) (before + 1) piece) start (at + n)) (λ j. sym to_is j - sym from_is j)
+        subst (λ l. Choosing all (i + 1) before piece tail was l start (at + (to - from))) (sym (cc))
+        (subst (λ n. Choosing all (i + 1) before piece tail was (is ++ chosen (lies_in at_i) (before + 1) piece) start (at + n)) (λ j. sym to_is j - sym from_is j)
         (choosing_more k within (omega (arith, piece_long, short))))

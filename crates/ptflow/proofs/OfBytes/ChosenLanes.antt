@@ -21,7 +21,7 @@ use Rattle.ptflow.specs.declared.kernels.packing.Shuffles.{Shuffles}
 -- by a test of each item
 pub chosen_by_test : {X : Type 0} (p : X → Bool) (xs : List X) → chosen_by (map p xs) xs ≡ filter p xs
 chosen_by_test p [] = refl
-chosen_by_test {X} p (x ∷ xs) = ap (λ (kept : List X). cond (p x) (x ∷ kept) kept) (chosen_by_test p xs)
+chosen_by_test {X} p (x ∷ xs) = ap (λ kept. cond (p x) (x ∷ kept) kept) (chosen_by_test p xs)
 
 -- as many as bits of the mask are set
 pub length-chosen_by : {X : Type 0} (flags : List Bool) (xs : List X) → length flags ≤ length xs → length (chosen_by flags xs) ≡ count_ones (mask_l flags)
@@ -34,20 +34,20 @@ length-chosen_by (false ∷ fs) (x ∷ xs) enough = omega (arith, length-chosen_
 map-chosen_by : {X Y : Type 0} (f : X → Y) (flags : List Bool) (xs : List X) → map f (chosen_by flags xs) ≡ chosen_by flags (map f xs)
 map-chosen_by f [] xs = refl
 map-chosen_by f (flag ∷ flags) [] = refl
-map-chosen_by {Y} f (true ∷ flags) (x ∷ xs) = ap (λ (ys : List Y). f x ∷ ys) (map-chosen_by f flags xs)
+map-chosen_by {Y} f (true ∷ flags) (x ∷ xs) = ap (◌∷◌ (f x)) (map-chosen_by f flags xs)
 map-chosen_by f (false ∷ flags) (x ∷ xs) = map-chosen_by f flags xs
 
 -- what stands behind the flags is not chosen
 chosen_by_front : {X : Type 0} (flags : List Bool) (xs : List X) → chosen_by flags (take (length flags) xs) ≡ chosen_by flags xs
 chosen_by_front [] xs = refl
 chosen_by_front (flag ∷ flags) [] = refl
-chosen_by_front {X} (flag ∷ flags) (x ∷ xs) = ap (λ (ys : List X). cond flag (x ∷ ys) ys) (chosen_by_front flags xs)
+chosen_by_front {X} (flag ∷ flags) (x ∷ xs) = ap (λ ys. cond flag (x ∷ ys) ys) (chosen_by_front flags xs)
 
 pub chosen_by_parts : {X : Type 0} (front back : List Bool) (xs : List X) → chosen_by (front ++ back) xs ≡ chosen_by front xs ++ chosen_by back (drop (length front) xs)
 chosen_by_parts [] back xs = refl
 chosen_by_parts (flag ∷ front) [] [] = refl
 chosen_by_parts (flag ∷ front) (other ∷ back) [] = refl
-chosen_by_parts {X} (true ∷ front) back (x ∷ xs) = ap (λ (ys : List X). x ∷ ys) (chosen_by_parts front back xs)
+chosen_by_parts {X} (true ∷ front) back (x ∷ xs) = ap (◌∷◌ x) (chosen_by_parts front back xs)
 chosen_by_parts (false ∷ front) back (x ∷ xs) = chosen_by_parts front back xs
 
 -- ---- the mask of flags
@@ -79,7 +79,7 @@ shuffled v i [] room lanes = refl
 shuffled v i (j ∷ js) room lanes = λ t. here t ∷ shuffled v (suc i) js (omega (arith, room)) lanes.1 t
   where
     here : cond (nat_le 128 j) 0 (get_or v (16 * (i / 16) + j) 0) ≡ get_or v j 0
-    here = ap (λ (high : Bool). cond high 0 (get_or v (16 * (i / 16) + j) 0)) (low_place lanes.0) ∙ ap (λ (k : ℕ). get_or v k 0) (omega (arith, room))
+    here = ap (λ high. cond high 0 (get_or v (16 * (i / 16) + j) 0)) (low_place lanes.0) ∙ ap (λ k. get_or v k 0) (omega (arith, room))
 
 pub row_lanes : {flags : List Bool} {places : List ℕ} → IsRow flags places → Each1 (λ place. place < 16) places
 row_lanes {places} is = Each1-from_get_or (λ place. place < 16) places 0 (λ i low. is.lanes i 0 low)
@@ -104,7 +104,7 @@ chosen_stored at n into lanes long few room =
     let front : length (take at into) ≡ at = length-take-le at into (omega (arith, room)) in
     sym (take-take (at + n) (at + 16) stored (omega (arith, few)))
     ∙ ap (take (at + n)) (take_more_put_chunk at into lanes (at + 16) (omega (arith, long)) room)
-    ∙ ap (λ (k : ℕ). take k (take at into ++ lanes)) (omega (arith, front))
+    ∙ ap (λ k. take k (take at into ++ lanes)) (omega (arith, front))
     ∙ take-append-add (take at into) lanes n
 
 -- ---- the row of a mask, place by place
@@ -125,13 +125,13 @@ next_place flags {place} long low =
     let front = take place flags in
     let behind : drop (length front) places ≡ (0 + place) ∷ drop (place + 1) places =
     cc (length-take-le place flags (omega (arith, long, low)), drop-cons places place 0 (omega (arith, low, length-range_with_len 0 8)), get_or-range_with_len 0 8 place 0 low, add-one place) in
-    ap (λ (fs : List Bool). chosen_by fs places) (take_more flags place false (omega (arith, long, low)))
+    ap (λ fs. chosen_by fs places) (take_more flags place false (omega (arith, long, low)))
     ∙ chosen_by_parts front (flag ∷ []) places
-    ∙ ap (λ (ps : List ℕ). chosen_by front places ++ chosen_by (flag ∷ []) ps) (behind ∙ ap (λ (p : ℕ). p ∷ drop (place + 1) places) (omega arith))
+    ∙ ap (λ ps. chosen_by front places ++ chosen_by (flag ∷ []) ps) (behind ∙ ap (λ p. p ∷ drop (place + 1) places) (omega arith))
 
 pub written_more : (flag : Bool) (row : List ℕ) (count place : ℕ) → count < length row → take (count + cond flag 1 0) (set row count place) ≡ take count row ++ cond flag (place ∷ []) []
 written_more true row count place room = take_more_set row count place room
-written_more false row count place room = ap (λ (n : ℕ). take n (set row count place)) (omega arith) ∙ take-set row count place ∙ sym (append-nil (take count row))
+written_more false row count place room = ap (λ n. take n (set row count place)) (omega arith) ∙ take-set row count place ∙ sym (append-nil (take count row))
 
 pub row_more : {mask place count bit : ℕ} {row : List ℕ} → place < 8 → bit ≡ mask / 2 ^ place % 2 → RowBegun mask place count row → RowBegun mask (place + 1) (count + bit) (set row count place)
 row_more {place} {count} {row} low is begun = record {

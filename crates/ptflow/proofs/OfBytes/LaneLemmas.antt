@@ -14,7 +14,7 @@ use Rattle.ptflow.specs.Workings.Bytes.Lanes.{IsMovedTo, told_adds}
 
 sel_map : (p : ℕ → Bool) (f g : ℕ → ℕ) (v : List ℕ) → sel_l (map p v) (map f v) (map g v) ≡ map (λ b. cond (p b) (f b) (g b)) v
 sel_map p f g [] = refl
-sel_map p f g (x ∷ xs) = ap (λ r. cond (p x) (f x) (g x) ∷ r) (sel_map p f g xs)
+sel_map p f g (x ∷ xs) = ap (◌∷◌ (cond (p x) (f x) (g x))) (sel_map p f g xs)
 
 pub sel_maps : (p : ℕ → Bool) (f g : ℕ → ℕ) (v : List ℕ) {ms : List Bool} {xs ys : List ℕ} → ms ≡ map p v → xs ≡ map f v → ys ≡ map g v → sel_l ms xs ys ≡ map (λ b. cond (p b) (f b) (g b)) v
 sel_maps p f g v {xs} {ys} em ex ey =
@@ -32,7 +32,7 @@ added_lanes f g v ex ey = zip2_of_maps (λ a b. (a + b) % 256) f g v ex ey
 
 pub map_self : (v : List ℕ) → map (λ b. b) v ≡ v
 map_self [] = refl
-map_self (x ∷ xs) = ap (λ r. x ∷ r) (map_self xs)
+map_self (x ∷ xs) = ap (◌∷◌ x) (map_self xs)
 
 -- ---- the first bytes are moved
 
@@ -82,7 +82,7 @@ none_at_two (s ∷ t ∷ u ∷ more) b is = absurd (false≢true (sym is))
 
 module _ (ss : List Stretch) (few : length ss ≤ 4) (b : ℕ) where
   to_shifted : (n : ℕ) → n ≡ b + (adds_at ss 0 b + (adds_at ss 1 b + (adds_at ss 2 b + adds_at ss 3 b))) → n % 256 ≡ shifted ss b
-  to_shifted n is = ap (λ (k : ℕ). k % 256) (cc (sum_is ss b few))
+  to_shifted n is = ap (λ k. k % 256) (cc (sum_is ss b few))
 
   pub one_moves : {x : ℕ} → x ≡ adds_at ss 0 b → is_some (told_at ss 1) ≡ false → (b + x) % 256 ≡ shifted ss b
   one_moves {x} ex is = let none = none_at_one ss b is in to_shifted (b + x) (omega (arith, ex, none.0, none.1, none.2))

@@ -75,14 +75,14 @@ pub cleared : (n : ℕ) {x : ℕ} (bits : List Bool) → x < 2 ^ 64 → x ≡ ma
 cleared n {x} bits small is = by_cases x small is
   where
     by_cases : (y : ℕ) → y < 2 ^ 64 → y ≡ mask_l (without n bits) → bit_and y ((y + (2 ^ 64 - 1)) % 2 ^ 64) ≡ mask_l (without (suc n) bits)
-    by_cases zero lt e = and_zero_l ((0 + (2 ^ 64 - 1)) % 2 ^ 64) ∙ sym (and_zero_l (0 - 1)) ∙ ap (λ (z : ℕ). bit_and z (z - 1)) e ∙ and_less (without n bits)
+    by_cases zero lt e = and_zero_l ((0 + (2 ^ 64 - 1)) % 2 ^ 64) ∙ sym (and_zero_l (0 - 1)) ∙ ap (λ z. bit_and z (z - 1)) e ∙ and_less (without n bits)
     by_cases (suc y) lt e =
         let less : (suc y + (2 ^ 64 - 1)) % 2 ^ 64 ≡ suc y - 1 = omega arith in
         cc (and_less (without n bits))
 
 map_self : (bits : List Bool) → map (λ b. b) bits ≡ bits
 map_self [] = refl
-map_self (b ∷ bits) = ap (λ (l : List Bool). b ∷ l) (map_self bits)
+map_self (b ∷ bits) = ap (◌∷◌ b) (map_self bits)
 
 some_set : (bits : List Bool) → prefix_len not bits < length bits → 0 < mask_l bits
 some_set [] lt = absurd (omega (arith, lt))
@@ -91,14 +91,14 @@ some_set (false ∷ bits) lt = let some = some_set bits (omega (arith, lt)) in o
 
 lowest_set : (bits : List Bool) → length bits ≤ 64 → prefix_len not bits < length bits → count_trailing_zeros 64 (mask_l bits) ≡ prefix_len not bits
 lowest_set bits few some =
-    cc (map_self bits, trailing_mask_l (λ b. b) 64 bits few (subst (λ (l : List Bool). 0 < mask_l l) (sym (map_self bits)) (some_set bits some)))
+    cc (map_self bits, trailing_mask_l (λ b. b) 64 bits few (subst (λ l. 0 < mask_l l) (sym (map_self bits)) (some_set bits some)))
 
 -- ---- the item behind so many that pass
 
 module _ {X : Type 0} (p : X → Bool) (d : X) where
   one_more : (x : X) (xs : List X) {t : Bool} {r : ℕ} (s n m : ℕ) → p x ≡ t → r ≡ suc s → n ≡ cond t 1 0 + m → IsBehind p d m xs s → IsBehind p d n (x ∷ xs) r
   one_more x xs s n m e next count h =
-      subst (λ (k : ℕ). IsBehind p d n (x ∷ xs) k) (sym next) (omega (arith, h.0), h.1, cc (sum_by-cons (λ b. cond (p b) 1 0) x (take s xs)))
+      subst (IsBehind p d n (x ∷ xs)) (sym next) (omega (arith, h.0), h.1, cc (sum_by-cons (λ b. cond (p b) 1 0) x (take s xs)))
 
   behind : (xs : List X) (n : ℕ) → n < count_by p xs → IsBehind p d n xs (prefix_len not (without n (map p xs)))
   behind [] n lt = absurd (omega (arith, lt))
@@ -120,7 +120,7 @@ behind_set p xs n few lt is =
     let bits = map p xs in
     let here = behind p 0 xs n lt in
     let long : length (without n bits) ≡ length xs = length-without n bits ∙ length-map' xs in
-    subst (λ (k : ℕ). IsBehind p 0 n xs k) (sym (cc (is, lowest_set (without n bits) (omega (arith, long)) (omega (arith, long, here.0))))) here
+    subst (IsBehind p 0 n xs) (sym (cc (is, lowest_set (without n bits) (omega (arith, long)) (omega (arith, long, here.0))))) here
   where
     length-map' : (ys : List ℕ) → length (map p ys) ≡ length ys
     length-map' [] = refl
@@ -165,7 +165,7 @@ module _ (p : ℕ → Bool) (bytes : List ℕ) where
       high = h.0;
       before = λ k low near passes.
           let here : p (get_or (take at bytes) k 0) ≡ true = cc (get_or-take at bytes k 0 near) in
-          let one : cond {A = ℕ} (p (get_or (take at bytes) k 0)) 1 0 ≡ 1 = ap (λ (t : Bool). cond {A = ℕ} t 1 0) here in
+          let one : cond {A = ℕ} (p (get_or (take at bytes) k 0)) 1 0 ≡ 1 = ap (λ t. cond {A = ℕ} t 1 0) here in
           omega (arith, h.2, one, get_or-le-sum_by (λ b. cond (p b) 1 0) (take at bytes) k 0 (omega (arith, near, h.0, length-take-le at bytes (omega (arith, h.0)))));
     },
     h.1,
@@ -269,12 +269,12 @@ module _ (p : ℕ → Bool) (bytes : List ℕ) (start end : ℕ) (fits : end < l
         sum_by-append (λ b. cond (p b) 1 0) (take end bytes) (get_or bytes end 0 ∷ []),
         sum_by-cons
             (λ b. cond (p b) 1 0) (get_or bytes end 0) [],
-        ap (λ (t : Bool). cond {A = ℕ} t 1 0) is,
+        ap (λ t. cond {A = ℕ} t 1 0) is,
       )
 
   pub in_order : start ≤ end
-  in_order = ⊎_elim (λ e. omega (arith, e)) (λ h. ⊎_elim (λ less. absurd
-      (omega (arith, less, same, one_behind, count_up_to p bytes (end + 1) start (omega (arith, less))))) (λ more. omega (arith, more)) h) (cases_order end start)
+  in_order = ⊎_elim (λ e. omega (arith, e)) (⊎_elim (λ less. absurd
+      (omega (arith, less, same, one_behind, count_up_to p bytes (end + 1) start (omega (arith, less))))) (λ more. omega (arith, more))) (cases_order end start)
 
   pub next_is : NoneBefore (Passes p (drop start bytes)) 0 (length (drop start bytes)) (end - start) × Passes p (drop start bytes) (end - start)
   next_is =
@@ -285,7 +285,7 @@ module _ (p : ℕ → Bool) (bytes : List ℕ) (start end : ℕ) (fits : end < l
         omega (
           arith,
           same,
-          ap (λ (n : ℕ). count_by p (take n bytes)) whole,
+          ap (λ n. count_by p (take n bytes)) whole,
           ap (count_by p) (take-add start (end - start) bytes),
           sum_by-append
               (λ b. cond (p b) 1 0) (take start bytes) (take (end - start) (drop start bytes)),

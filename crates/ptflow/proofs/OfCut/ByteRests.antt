@@ -53,7 +53,7 @@ module _ (end : ℕ) (selected : ℕ → Bool) where
   -- a piece of a line
   pub rest_piece : (before : ℕ) (piece rest : List ℕ) → IsLine end piece → cut_rest end selected before (piece ++ rest)
       ≡ chosen_from selected (before + 1) piece ++ cut_rest end selected (before + length piece) rest
-  rest_piece before [] rest whole = let same : before + 0 ≡ before = omega arith in ap (λ (n : ℕ). cut_rest end selected n rest) (sym same)
+  rest_piece before [] rest whole = let same : before + 0 ≡ before = omega arith in ap (λ n. cut_rest end selected n rest) (sym same)
   rest_piece before (b ∷ piece) rest whole =
       let same : before + 1 + length piece ≡ before + length (b ∷ piece) = omega arith in
       let first : cut_rest end selected before ((b ∷ piece) ++ rest) ≡ chosen_from selected (before + 1) (b ∷ []) ++ cut_rest end selected (before + 1) (piece ++ rest) =
@@ -117,7 +117,7 @@ module _ (job : Cut) (by_bytes : job.fields ≡ false) where
     where
       one_each : (xs : List (List ℕ)) → flat_map (cut_line job) xs ≡ map (chosen_from job.selected 1) xs
       one_each [] = refl
-      one_each (x ∷ xs) = rw by_bytes (ap (λ (l : List (List ℕ)). chosen_from job.selected 1 x ∷ l) (one_each xs))
+      one_each (x ∷ xs) = rw by_bytes (ap (◌∷◌ (chosen_from job.selected 1 x)) (one_each xs))
 
   pub rest_is_cut : (bytes : List ℕ) → cut_rest end job.selected 0 bytes ≡ cut job bytes
   rest_is_cut bytes = rest_of_all end job.selected (lines end bytes) ∙ sym (made_is (lines end bytes))

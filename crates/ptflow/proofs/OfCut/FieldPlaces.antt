@@ -20,12 +20,12 @@ module _ (d : ℕ) where
     where
       by_test : (t : Bool) (fs : List (List ℕ)) → 0 < length fs → fields d (xs ++ d ∷ ys) ≡ fs ++ fields d ys
           → cond t ([] ∷ fields d (xs ++ d ∷ ys)) (onto_first x (fields d (xs ++ d ∷ ys))) ≡ cond t ([] ∷ fs) (onto_first x fs) ++ fields d ys
-      by_test true fs some more = ap (λ (l : List (List ℕ)). [] ∷ l) more
+      by_test true fs some more = ap (◌∷◌ []) more
       by_test false [] some more = absurd (omega (arith, some))
       by_test false (f ∷ fs) some more = ap (onto_first x) more
 
   pub led-append : (fs gs : List (List ℕ)) → led d (fs ++ gs) ≡ led d fs ++ led d gs
-  led-append fs gs = flat_map-append (λ (f : List ℕ). d ∷ f) fs gs
+  led-append fs gs = flat_map-append (◌∷◌ d) fs gs
 
   -- with one more delimiter in front of it, a line is its fields with a delimiter in front of each
   pub led_fields : (xs : List ℕ) → led d (fields d xs) ≡ d ∷ xs
@@ -33,15 +33,15 @@ module _ (d : ℕ) where
   led_fields (x ∷ xs) = by_test (x == d) refl (fields d xs) (led_fields xs)
     where
       by_test : (t : Bool) → (x == d) ≡ t → (fs : List (List ℕ)) → led d fs ≡ d ∷ xs → led d (cond t ([] ∷ fs) (onto_first x fs)) ≡ d ∷ x ∷ xs
-      by_test true same fs more = ap (λ (l : List ℕ). d ∷ l) (cc (eqb-true x d same))
+      by_test true same fs more = ap (◌∷◌ d) (cc (eqb-true x d same))
       by_test false other [] more = cc
-      by_test false other (f ∷ fs) more = ap (λ (l : List ℕ). d ∷ x ∷ l) (ap (drop 1) more)
+      by_test false other (f ∷ fs) more = ap (λ l. d ∷ x ∷ l) (ap (drop 1) more)
 
   -- fields joined by the delimiter are the same with a delimiter in front of each but the first
   pub join_led : (fs : List (List ℕ)) → join_with_byte d fs ≡ drop 1 (led d fs)
   join_led [] = refl
   join_led (f ∷ []) = sym (append-nil f)
-  join_led (f ∷ g ∷ fs) = ap (λ (l : List ℕ). f ++ d ∷ l) (join_led (g ∷ fs))
+  join_led (f ∷ g ∷ fs) = ap (λ l. f ++ d ∷ l) (join_led (g ∷ fs))
 
   -- ---- where a field starts
 

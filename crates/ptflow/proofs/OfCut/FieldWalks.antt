@@ -38,7 +38,7 @@ slice_fits {at} {skipped} {line} w s p = omega (arith, step_fits w s, p.fits, le
 
 -- the selected fields of a line are to come
 pub all_coming : (d : ℕ) (all : List Interval) (line tail : List ℕ) → join_with_byte d (chosen (is_selected all) 1 (fields d line)) ++ tail ≡ coming d all line tail 1 0 0
-all_coming d all line tail = ap (λ (l : List ℕ). l ++ tail) (join_led d (chosen (is_selected all) 1 (fields d line)))
+all_coming d all line tail = ap (λ l. l ++ tail) (join_led d (chosen (is_selected all) 1 (fields d line)))
 
 pub walking_starts : {d : ℕ} {all : List Interval} {line : List ℕ} → AreApart 0 all → Walking d all line 1 0 0
 walking_starts apart = record {
@@ -60,12 +60,12 @@ module _ {d : ℕ} (all : List Interval) {line : List ℕ} (tail : List ℕ) (i 
   to_come = coming d (drop i all) line tail number at lead
 
   only_tail : {fs : List (List ℕ)} → fs ≡ [] → laid d lead fs ++ tail ≡ tail
-  only_tail none = ap (λ (gs : List (List ℕ)). laid d lead gs ++ tail) none ∙ ap (λ (l : List ℕ). l ++ tail) (drop_all (1 - lead) [] (omega arith))
+  only_tail none = ap (λ gs. laid d lead gs ++ tail) none ∙ ap (λ l. l ++ tail) (drop_all (1 - lead) [] (omega arith))
 
   -- no interval is left
   pub walking_done : length all ≤ i → to_come ≡ tail
   walking_done past =
-      ap (λ (l : List Interval). laid d lead (chosen (is_selected l) number here) ++ tail) (drop_all i all past)
+      ap (λ l. laid d lead (chosen (is_selected l) number here) ++ tail) (drop_all i all past)
       ∙ only_tail (chosen_none (is_selected []) number here (λ m low high. refl))
 
   module _ (within : i < length all) where

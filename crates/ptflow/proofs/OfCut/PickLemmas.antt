@@ -31,7 +31,7 @@ length-take-le' (suc n) (x ∷ xs) = omega (arith, length-take-le' n xs)
 
 module _ (selected : ℕ → Bool) where
   pub chosen_append : {X : Type 0} (n : ℕ) (xs ys : List X) → chosen_from selected n (xs ++ ys) ≡ chosen_from selected n xs ++ chosen_from selected (n + length xs) ys
-  chosen_append n [] ys = let same : n ≡ n + 0 = omega arith in ap (λ (k : ℕ). chosen_from selected k ys) same
+  chosen_append n [] ys = let same : n ≡ n + 0 = omega arith in ap (λ k. chosen_from selected k ys) same
   chosen_append {X} n (x ∷ xs) ys = grind (arith, chosen_append (n + 1) xs ys)
 
   map_chosen : (f : ℕ → ℕ) (n : ℕ) (xs : List ℕ) → map f (chosen_from selected n xs) ≡ chosen_from selected n (map f xs)
@@ -43,7 +43,7 @@ module _ (selected : ℕ → Bool) where
   few_chosen n (x ∷ xs) = grind (arith, few_chosen (n + 1) xs)
 
   range_parts : (a n m : ℕ) → range_with_len a (n + m) ≡ range_with_len a n ++ range_with_len (a + n) m
-  range_parts a zero m = let same : a ≡ a + 0 = omega arith in let none : 0 + m ≡ m = omega arith in ap (range_with_len a) none ∙ ap (λ (k : ℕ). range_with_len k m) same
+  range_parts a zero m = let same : a ≡ a + 0 = omega arith in let none : 0 + m ≡ m = omega arith in ap (range_with_len a) none ∙ ap (λ k. range_with_len k m) same
   range_parts a (suc n) m =
       let next : suc n + m ≡ suc (n + m) = omega arith in
       let there : a + 1 + n ≡ a + suc n = omega arith in
@@ -123,10 +123,10 @@ module _ (selected : ℕ → Bool) where
 
   pub few_enough : {X : Type 0} {most count : ℕ} (xs : List X) → ((place : ℕ) → 16 < place → place ≤ most → selected place ≡ false) → count ≤ most → count ≤ length xs
       → chosen_from selected 1 (take (min count 16) xs) ≡ chosen_from selected 1 (take count xs)
-  few_enough {X} {count} xs past upto within = ⊎_elim (λ e. near (omega (arith, e))) (λ h. ⊎_elim (λ low. near (omega (arith, low))) far h) (cases_order count 16)
+  few_enough {X} {count} xs past upto within = ⊎_elim (λ e. near (omega (arith, e))) (⊎_elim (λ low. near (omega (arith, low))) far) (cases_order count 16)
     where
       near : count ≤ 16 → chosen_from selected 1 (take (min count 16) xs) ≡ chosen_from selected 1 (take count xs)
-      near low = let least : min count 16 ≡ count = omega arith in ap (λ (k : ℕ). chosen_from selected 1 (take k xs)) least
+      near low = let least : min count 16 ≡ count = omega arith in ap (λ k. chosen_from selected 1 (take k xs)) least
 
       far : 16 < count → chosen_from selected 1 (take (min count 16) xs) ≡ chosen_from selected 1 (take count xs)
       far high =
@@ -154,7 +154,7 @@ module _ (selected : ℕ → Bool) where
     pick_line {count} v short long =
         let places = picked selected count in
         let n = length places in
-        ap (λ (k : ℕ). take k (swz_l w8 16 v 0 pick.row)) (is.counts count short)
+        ap (λ k. take k (swz_l w8 16 v 0 pick.row)) (is.counts count short)
         ∙ ap (take n) (shuffled v 0 pick.row (omega (arith, is.long)) (Each1-from_get_or (λ place. place < 16) pick.row 0 (λ i low. is.lanes i 0 low)))
         ∙ take-map (λ k. get_or v k 0) n pick.row ∙ ap (pick_l 0 v) (front_places short)
         ∙ map_chosen (λ k. get_or v k 0) 1 (range_with_len 0 count)

@@ -27,7 +27,7 @@ module _ {reader shown : Reader} {block : List ℕ} (goes : Goes reader shown []
 
   pub counted_more : {new : Reader} {more : ℕ} → new ≡ record shown { held = drop (length block) shown.held } → more ≤ counted + length block → more ≤ new.pulled - length new.held
   counted_more consumed least =
-      omega (arith, least, counted_block, ap (λ (r : Reader). r.pulled) consumed, ap (λ (r : Reader). length r.held) consumed, length-drop (length block) shown.held, ap length held)
+      omega (arith, least, counted_block, ap (λ r. r.pulled) consumed, ap (λ r. length r.held) consumed, length-drop (length block) shown.held, ap length held)
 
 unfoldable pub midway_starts : {X : Type 0} {rest_from : X → List ℕ → List ℕ} {start : X} {old : Reader} {was : Output} → old.fault ≡ None → was.faulted ≡ false → Midway rest_from start start old old was was
 midway_starts {old} {was} readable clean = record { given = []; pushed = []; reached = reached_nothing old was readable clean; on = λ rest may. refl }
@@ -61,7 +61,7 @@ module _ {X : Type 0} {tool : Tool} {rest_from : X → List ℕ → List ℕ} {H
     before = λ u. record {
       earlier = record { bytes = m.given; ended = false };
       last = new.held;
-      split = ap (λ (l : List ℕ). l ++ new.held) (append-nil m.given);
+      split = ap (λ l. l ++ new.held) (append-nil m.given);
       short = omega (arith, is_sound.held);
       ended = λ never. absurd (false≢true never);
     };
@@ -76,8 +76,8 @@ module _ {X : Type 0} {tool : Tool} {rest_from : X → List ℕ → List ℕ} {H
     where
       decided : new.held ≡ [] → new.ended ≡ false → Begins (tool.decided (given_of (m.given ++ []) new)) m.pushed
       decided empty going =
-          subst (λ (g : Given). Begins (tool.decided g) m.pushed) (λ i. record
-          { bytes = (sym (append-nil m.given) ∙ sym (append-nil (m.given ++ [])) ∙ ap (λ (l : List ℕ). (m.given ++ []) ++ l) (sym empty)) i; ended = sym going i })
+          subst (λ g. Begins (tool.decided g) m.pushed) (λ i. record
+          { bytes = (sym (append-nil m.given) ∙ sym (append-nil (m.given ++ [])) ∙ ap (◌++◌ (m.given ++ [])) (sym empty)) i; ended = sym going i })
           (b.decided m.given m.pushed now holds all)
 
   -- a write failed amid the block that is held

@@ -25,4 +25,4 @@ module _ {whole rest : List ℕ} {was is : Output} (f : Front whole rest was is)
 
   -- all that was to come was pushed
   pub front_ends : {is' : Output} {bytes : List ℕ} → rest ≡ bytes → Wrote is is' bytes → Wrote was is' whole
-  front_ends {is'} same wrote = subst (λ (b : List ℕ). Wrote was is' b) (sym (cc)) (wrote_trans _ _ _ _ _ f.clean f.wrote wrote)
+  front_ends {is'} same wrote = subst (Wrote was is') (sym (cc)) (wrote_trans _ _ _ _ _ f.clean f.wrote wrote)

@@ -21,8 +21,8 @@ pub record Parts (end : ℕ) (bytes : List ℕ) : Type 0 where
 parts_step : (end b : ℕ) {bytes : List ℕ} (piece : List ℕ) (t : Bool) (ls : List (List ℕ)) → (b == end) ≡ t → bytes ≡ text end ls ++ piece → AreLines end ls → IsLine end piece
     → (rest : List ℕ) × (b ∷ bytes ≡ text end (cond t ([] ∷ ls) (onto_line b ls)) ++ rest) × AreLines end (cond t ([] ∷ ls) (onto_line b ls)) × IsLine end rest
 parts_step end b piece true ls same is whole line = (piece, (λ i. eqb-true b end same i ∷ is i), (tt, whole), line)
-parts_step end b piece false [] other is whole line = (b ∷ piece, ap (λ (l : List ℕ). b ∷ l) is, tt, (eqb-false b end other, line))
-parts_step end b piece false (l ∷ ls) other is whole line = (piece, ap (λ (l : List ℕ). b ∷ l) is, ((eqb-false b end other, whole.0), whole.1), line)
+parts_step end b piece false [] other is whole line = (b ∷ piece, ap (◌∷◌ b) is, tt, (eqb-false b end other, line))
+parts_step end b piece false (l ∷ ls) other is whole line = (piece, ap (◌∷◌ b) is, ((eqb-false b end other, whole.0), whole.1), line)
 
 pub parts_of : (end : ℕ) (bytes : List ℕ) → Parts end bytes
 parts_of end [] = record { piece = []; is = refl; whole = tt; line = tt }

@@ -42,7 +42,7 @@ pub record LineRun {S X E : Type 0} (state : S → Slots → X) (rest_from : X �
 pub came_line : {slots width : ℕ} {came : Bool} {old new : Reader} {before after : Slots} → slots ≡ width → came ≡ true → Fills old new before after (slots - 1) (Ok came)
     → GivesLine old new before after (width - 1)
 came_line {slots} {old} {new} {before} {after} same is fills =
-    rw same at (subst (λ (b : Bool). Fills old new before after (slots - 1) (Ok b)) is fills)
+    rw same at (subst (λ b. Fills old new before after (slots - 1) (Ok b)) is fills)
 
 module _ {S X E : Type 0} {tool : Tool} {state : S → Slots → X} {rest_from : X → List (List ℕ) → List E} {written : List E → List ℕ} {counted : X → ℕ} {end width : ℕ} {start : S}
     (t : IsLineTool tool state rest_from written counted end width start) where
@@ -135,7 +135,7 @@ module _ {S X E : Type 0} {tool : Tool} {state : S → Slots → X} {rest_from :
       run_block ends {new} {block} goes held passed consumed {next} {is'} c =
           let ls = ended_lines end block in
           let same = ends ∙ r.ending in
-          let front = subst (λ (b : List ℕ). Goes reader new b) (cc) (goes_past _ goes held passed.0 consumed) in
+          let front = subst (Goes reader new) (cc) (goes_past _ goes held passed.0 consumed) in
           run_more ls front (lines_block r.came ls front (parts_of end block).whole)
           (keeps_more (max (longest r.ls) (longest ls)) r.keeps (omega arith)) (rw same at c)
 
@@ -207,10 +207,10 @@ module _ {S X E : Type 0} {tool : Tool} {state : S → Slots → X} {rest_from :
           unfolding midway
           run_memory {after} told same =
               let k = keeps_last piece refl in
-              let denied : after.denied ≡ true = ap (λ (s : Slots). s.denied) told in
-              let size : length after.lines ≡ length (with_line store (width - 1) piece).lines = ap (λ (s : Slots). length s.lines) told in
+              let denied : after.denied ≡ true = ap (λ s. s.denied) told in
+              let size : length after.lines ≡ length (with_line store (width - 1) piece).lines = ap (λ s. length s.lines) told in
               pass_memory (t.text r.first) midway ready sound reads
-              (stored after (max (longest r.ls) (length piece)) (given_of (r.given ++ piece) new) (omega (arith, k.peak, ap (λ (s : Slots). s.peak) told))
+              (stored after (max (longest r.ls) (length piece)) (given_of (r.given ++ piece) new) (omega (arith, k.peak, ap (λ s. s.peak) told))
               (record { least = omega (arith, size, k.adds.least); most = omega (arith, size, k.adds.most); all = λ allowed. absurd (false≢true (cc)) })
               (omega (arith, size, k.adds.all k.denied)) short_piece) (works_piece reads free is_sound) same denied
 
@@ -239,7 +239,7 @@ module _ {S X E : Type 0} {tool : Tool} {state : S → Slots → X} {rest_from :
         run_block_halts ends {shown} {block} is_sound goes held {is'} h =
             halts goes.reads (kept (given_of (r.given ++ []) shown) (keeps_more (max (longest r.ls) 0) r.keeps (omega arith))
             (short_piece goes.reads tt is_sound))
-            (works_piece goes.reads tt is_sound) goes.failed r.keeps.denied (subst (λ (b : ℕ). Halt now (ended_lines b block) is is') (ends ∙ r.ending) h)
+            (works_piece goes.reads tt is_sound) goes.failed r.keeps.denied (subst (λ b. Halt now (ended_lines b block) is is') (ends ∙ r.ending) h)
             (λ rest may. (lines end ((parts_of end block).piece ++ rest), cc (ended_front end block rest)))
 
         -- what was staged could not be sent
@@ -275,7 +275,7 @@ module _ {S X E : Type 0} {tool : Tool} {state : S → Slots → X} {rest_from :
             let most = max (longest r.ls) (longest (e.line ∷ [])) in
             run_more r (e.line ∷ []) e.goes (lines_more _ _ _ _ r.came _ _ _ _ e (r.reached.goes.reads.ending ∙ r.ending))
             (keeps_swapped after' t.some (keeps_more most (keeps_last r e.line e.stored) (omega arith)) swapped)
-            (subst (λ (x : X). On x next (e.line ∷ []) is is') (same_state e.line e.stored) (subst (λ (l : List ℕ). On (state now after) next (l ∷ []) is is') (filled e.line e.stored) c))
+            (subst (λ x. On x next (e.line ∷ []) is is') (same_state e.line e.stored) (subst (λ l. On (state now after) next (l ∷ []) is is') (filled e.line e.stored) c))
 
         -- a write failed
         pub run_line_halts : IsReady old before → IsSound reader → IsSound new → {is' : Output} → Halt (state now after) (line after (width - 1) ∷ []) is is'
@@ -290,7 +290,7 @@ module _ {S X E : Type 0} {tool : Tool} {state : S → Slots → X} {rest_from :
             (came_longest _ _ _ _ more))
             (works_line r e.goes.reads e.line (e.ending ++ new.held) (append_assoc e.line e.ending new.held) (rw ends at e.whole)
             (behind_line e is_sound)) e.goes.failed k.denied
-            (rw (same_state e.line e.stored) at (subst (λ (l : List ℕ). Halt (state now after) (l ∷ []) is is') (filled e.line e.stored) h))
+            (rw (same_state e.line e.stored) at (subst (λ l. Halt (state now after) (l ∷ []) is is') (filled e.line e.stored) h))
             (λ rest may.
             (lines end (new.held ++ rest), line_front _ _ _ _ r.came _ _ _ _ e ends (new.held ++ rest) (λ done. λ i. done.held i ++ may done.ended i)))
 

@@ -90,7 +90,7 @@ module _ (end : ℕ) (now : Reader) (given : List ℕ) (ls : List (List ℕ)) (k
     -- its bytes are a line, whatever may come behind them
     pub line_front : (rest : List ℕ) → (IsDone new → rest ≡ []) → lines end ((e.line ++ e.ending) ++ rest) ≡ e.line ∷ lines end rest
     line_front rest may = elim e.ends [
-      | inl ends ↦ (λ i. lines end (append_assoc e.line ((ends ∙ ap (λ (b : ℕ). b ∷ []) same) i) rest i)) ∙ lines_first end e.line rest free
+      | inl ends ↦ (λ i. lines end (append_assoc e.line ((ends ∙ ap (λ b. b ∷ []) same) i) rest i)) ∙ lines_first end e.line rest free
       | inr last ↦
           let none = may last.2 in
           cc (append-nil (e.line ++ []), append-nil e.line, lines_last end e.line free last.1)

@@ -219,7 +219,7 @@ module _ {X : Type 0} {rest_from : X → List ℕ → List ℕ} {start : X} {too
       → Begins (tool.decided (given_of (m.given ++ piece) new)) m.pushed) → IsPass tool old new was is before store (Err (Read 0))
   pass_read cause roomy decided =
       pass m.reached.wrote still
-      (record { cause = ⊎_elim (λ c. inl c) (λ c. inr (c.0, same_failed c.1)) cause; clean = m.reached.clean; denied = roomy; only = refl })
+      (record { cause = ⊎_elim inl (λ c. inr (c.0, same_failed c.1)) cause; clean = m.reached.clean; denied = roomy; only = refl })
       begins (λ failed fine. ⊎_elim (λ c. decided c.1 c.2) (λ c. absurd (false≢true (cc (went_on c.1)))) cause) (λ ok. cc)
 
   -- a growth was refused

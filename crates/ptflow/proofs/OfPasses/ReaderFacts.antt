@@ -48,9 +48,9 @@ goes_past {shown} {new} count goes held fits consumed =
 pub block_less : {now shown new : Reader} {block : List ℕ} → Goes now shown [] → shown.held ≡ block → length shown.held ≤ shown.pulled → (length block ≡ 0 → ⊥)
     → new ≡ record shown { held = drop (length block) shown.held } → shown.pulled < 2 ^ 63 → budget new < budget now
 block_less {shown} {block} goes held count some consumed short =
-    omega (arith, goes.reads.count, count, some, ap length held, short, ap (λ (r : Reader). r.pulled) consumed, ap (λ (r : Reader). length r.held) consumed, length-drop (length block) shown.held)
+    omega (arith, goes.reads.count, count, some, ap length held, short, ap (λ r. r.pulled) consumed, ap (λ r. length r.held) consumed, length-drop (length block) shown.held)
 
 -- a line was given, and behind it some of the next block
 pub budget_less : (old : Reader) {now shown new : Reader} (count : ℕ) → budget now < budget old → Goes now shown [] → new ≡ record shown { held = drop count shown.held } → budget new < budget old
 budget_less old {shown} count less goes consumed =
-    omega (arith, less, goes.reads.count, ap (λ (r : Reader). r.pulled) consumed, ap (λ (r : Reader). length r.held) consumed, length-drop count shown.held)
+    omega (arith, less, goes.reads.count, ap (λ r. r.pulled) consumed, ap (λ r. length r.held) consumed, length-drop count shown.held)

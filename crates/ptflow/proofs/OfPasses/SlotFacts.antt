@@ -63,7 +63,7 @@ keeps_line {width} {most} {store} new slot bytes k within fits is = record {
   };
   short = short;
   others = others;
-  peak = omega (arith, ap (λ (s : Slots). s.peak) is, k.peak, ap (λ (s : Slots). total s.lines) is, kept_total width most new.lines short others);
+  peak = omega (arith, ap (λ s. s.peak) is, k.peak, ap (λ s. total s.lines) is, kept_total width most new.lines short others);
 }
   where
     same_length : length new.lines ≡ length store.lines
@@ -76,19 +76,19 @@ keeps_line {width} {most} {store} new slot bytes k within fits is = record {
         here same = omega (
           arith,
           fits,
-          ap length (ap (λ (s : Slots). get_or s.lines i []) is ∙ ap (λ (n : ℕ). get_or (set store.lines slot bytes) n []) same
+          ap length (ap (λ s. get_or s.lines i []) is ∙ ap (λ n. get_or (set store.lines slot bytes) n []) same
               ∙ get_or-set_same store.lines slot bytes [] (omega (arith, within, k.adds.all k.denied))),
         )
 
         there : (i ≡ slot → ⊥) → length (get_or new.lines i []) ≤ most
-        there other = omega (arith, k.short i low, ap length (ap (λ (s : Slots). get_or s.lines i []) is ∙ get_or-set_other store.lines slot i bytes [] other))
+        there other = omega (arith, k.short i low, ap length (ap (λ s. get_or s.lines i []) is ∙ get_or-set_other store.lines slot i bytes [] other))
 
     others : total (drop width new.lines) ≡ 0
     others = cc (drop-set-lt width store.lines slot bytes within)
 
 -- the first and the last slot may have changed places
 pub keeps_swapped : {width most : ℕ} {before store : Slots} (new : Slots) → 0 < width → Keeps width most before store → IsSwapped width store new → Keeps width most before new
-keeps_swapped {width} {most} {before} {store} new some k either = ⊎_elim (λ same. subst (λ (s : Slots). Keeps width most before s) (sym same) k) changed either
+keeps_swapped {width} {most} {before} {store} new some k either = ⊎_elim (λ same. subst (Keeps width most before) (sym same) k) changed either
   where
     first : List ℕ
     first = get_or store.lines 0 []
@@ -115,7 +115,7 @@ keeps_swapped {width} {most} {before} {store} new some k either = ⊎_elim (λ s
           };
           short = λ i low. rw same (keeps_both.short i low);
           others = cc (same, keeps_both.others);
-          peak = omega (arith, ap (λ (s : Slots). s.peak) is, k.peak);
+          peak = omega (arith, ap (λ s. s.peak) is, k.peak);
         }
 
 -- the last slot was empty, and the others were emptied

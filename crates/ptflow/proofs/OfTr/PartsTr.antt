@@ -13,7 +13,7 @@ use Rattle.ptflow.proofs.OfTr.TrRests.{behind_one, from_one, front_on}
 -- the last of some items, where there is one
 last_of : {X : Type 0} (x : X) (xs : List X) → (last : X) × (last_or (Some x) xs ≡ Some last) × EndsWith last (x ∷ xs)
 last_of x [] = (x, refl, ([], refl))
-last_of {X} x (y ∷ xs) = let l = last_of y xs in (l.0, l.1, (x ∷ l.2.0, ap (λ (ys : List X). x ∷ ys) l.2.1))
+last_of {X} x (y ∷ xs) = let l = last_of y xs in (l.0, l.1, (x ∷ l.2.0, ap (◌∷◌ x) l.2.1))
 
 -- A byte in front changes nothing where the bytes do not begin with it, or it is not squeezed.
 behind_apart : (squeezed : ℕ → Bool) (last : ℕ) (bytes : List ℕ) → (BeginsWith last (squeeze squeezed bytes) → squeezed last ≡ false) → squeeze_behind squeezed last bytes ≡ squeeze squeezed bytes
@@ -25,7 +25,7 @@ behind_apart squeezed last (b ∷ bytes) apart =
     same : (last == b) ≡ true → ((last == b) && squeezed b) ≡ false
     same e =
         let is : last ≡ b = eqb-true last b e in
-        rw e (cc (apart (squeeze_behind squeezed b bytes, ap (λ (x : ℕ). x ∷ squeeze_behind squeezed b bytes) (sym is))))
+        rw e (cc (apart (squeeze_behind squeezed b bytes, ap (λ x. x ∷ squeeze_behind squeezed b bytes) (sym is))))
 
     other : (last == b) ≡ false → ((last == b) && squeezed b) ≡ false
     other e = rw e refl
@@ -77,7 +77,7 @@ tr_behind_byte tables byte a b ends kept unsqueezed = tr_of_parts tables a b
 behind_same : (squeezed : ℕ → Bool) (last : ℕ) (bytes rest : List ℕ) → squeezed last ≡ true → squeeze squeezed bytes ≡ last ∷ rest → squeeze_behind squeezed last bytes ≡ rest
 behind_same squeezed last [] rest is begins = cc
 behind_same squeezed last (b ∷ bytes) rest is begins =
-    let same : b ≡ last = ap (λ (l : List ℕ). get_or l 0 0) begins in
+    let same : b ≡ last = ap (λ l. get_or l 0 0) begins in
     cc (behind_one squeezed last b bytes, again same)
   where
     again : b ≡ last → ((last == b) && squeezed b) ≡ true

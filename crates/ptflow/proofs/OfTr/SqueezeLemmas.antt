@@ -35,7 +35,7 @@ module _ (squeezed : ℕ → Bool) where
       by_test : squeeze_behind squeezed b (xs ++ ys) ≡ squeeze_behind squeezed b xs ++ squeeze_behind squeezed (get_or (b ∷ xs) (length xs) 0) ys → (s : Bool)
           → cond s (b ∷ squeeze_behind squeezed b (xs ++ ys)) (squeeze_behind squeezed b (xs ++ ys))
           ≡ cond s (b ∷ squeeze_behind squeezed b xs) (squeeze_behind squeezed b xs) ++ squeeze_behind squeezed (get_or (b ∷ xs) (length xs) 0) ys
-      by_test more true = ap (λ (l : List ℕ). b ∷ l) more
+      by_test more true = ap (◌∷◌ b) more
       by_test more false = more
 
   -- of a piece those stay that are no repeat of the byte in front of them
@@ -45,7 +45,7 @@ module _ (squeezed : ℕ → Bool) where
 
   one_more : (into rest : List ℕ) {count : ℕ} (b : ℕ) (again : Bool) → count < length into → take (count + bool_byte (not again)) (set into count b) ++ rest
       ≡ take count into ++ cond (not again) (b ∷ rest) rest
-  one_more into rest {count} b true room = let same : count + 0 ≡ count = omega arith in ap (λ (l : List ℕ). l ++ rest) (rw same (take-set into count b))
+  one_more into rest {count} b true room = let same : count + 0 ≡ count = omega arith in ap (λ l. l ++ rest) (rw same (take-set into count b))
   one_more into rest {count} b false room = cc (take_more_set into count b room, append_assoc (take count into) (b ∷ []) rest)
 
   -- What was put down, and what stays of the bytes from a place on, is the whole.
@@ -61,9 +61,9 @@ module _ (squeezed : ℕ → Bool) where
   squeezing_starts last [] into some room is n = absurd (omega arith)
   squeezing_starts last (b ∷ from) into {again} {count} some room is n = record {
     is =
-        (let plus : count ≡ 0 + bool_byte (not again) = omega arith in ap (λ (k : ℕ). take k (set into 0 b) ++ squeeze_behind squeezed b from) plus)
+        (let plus : count ≡ 0 + bool_byte (not again) = omega arith in ap (λ k. take k (set into 0 b) ++ squeeze_behind squeezed b from) plus)
         ∙ one_more into (squeeze_behind squeezed b from) b again room
-        ∙ ap (λ (a : Bool). cond (not a) (b ∷ squeeze_behind squeezed b from) (squeeze_behind squeezed b from)) is
+        ∙ ap (λ a. cond (not a) (b ∷ squeeze_behind squeezed b from) (squeeze_behind squeezed b from)) is
         ∙ sym (from_one squeezed last b from);
     behind = omega arith;
     within = omega arith;
@@ -153,7 +153,7 @@ gone_flags test k from = zip2 (λ a b. eqb a b && test b) (chunk (k - 1) 16 from
 pub same_lanes : (xs ys : List ℕ) → zip2 (λ a b. cond (eqb a b) 255 0) xs ys ≡ lanes_of (zip2 eqb xs ys)
 same_lanes [] ys = refl
 same_lanes (x ∷ xs) [] = refl
-same_lanes (x ∷ xs) (y ∷ ys) = ap (λ (l : List ℕ). cond (eqb x y) 255 0 ∷ l) (same_lanes xs ys)
+same_lanes (x ∷ xs) (y ∷ ys) = ap (◌∷◌ (cond (eqb x y) 255 0)) (same_lanes xs ys)
 
 pub gone_lanes : (test : ℕ → Bool) (xs ys : List ℕ)
     → zip2 bit_and (zip2 (λ a b. cond (eqb a b) 255 0) xs ys) (map (cast_unsigned w8) (mask_of test ys)) ≡ lanes_of (zip2 (λ a b. eqb a b && test b) xs ys)

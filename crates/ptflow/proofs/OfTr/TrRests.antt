@@ -16,7 +16,7 @@ module _ (squeezed : ℕ → Bool) where
   pub behind_one : (last b : ℕ) (bytes : List ℕ) → squeeze_behind squeezed last (b ∷ bytes) ≡ cond (stays squeezed (last, b)) (b ∷ squeeze_behind squeezed b bytes) (squeeze_behind squeezed b bytes)
   behind_one last b bytes = by_test (stays squeezed (last, b)) (filter (stays squeezed) (zip (b ∷ bytes) bytes))
     where
-      by_test : (s : Bool) (ps : List (ℕ × ℕ)) → map (λ (p : ℕ × ℕ). p.1) (cond s ((last, b) ∷ ps) ps) ≡ cond s (b ∷ map (λ (p : ℕ × ℕ). p.1) ps) (map (λ (p : ℕ × ℕ). p.1) ps)
+      by_test : (s : Bool) (ps : List (ℕ × ℕ)) → map (λ p. p.1) (cond s ((last, b) ∷ ps) ps) ≡ cond s (b ∷ map (λ p. p.1) ps) (map (λ p. p.1) ps)
       by_test true ps = refl
       by_test false ps = refl
 
@@ -44,12 +44,12 @@ module _ (squeezed : ℕ → Bool) where
 
       by_test : squeeze_behind squeezed b (xs ++ ys) ≡ done ++ squeeze_from squeezed (last_or (Some b) done) ys → (s : Bool) → (s ≡ false → last ≡ b)
           → cond s (b ∷ squeeze_behind squeezed b (xs ++ ys)) (squeeze_behind squeezed b (xs ++ ys)) ≡ cond s (b ∷ done) done ++ squeeze_from squeezed (last_or (Some last) (cond s (b ∷ done) done)) ys
-      by_test more true h = ap (λ (l : List ℕ). b ∷ l) more
+      by_test more true h = ap (◌∷◌ b) more
       by_test more false h = cc (h refl)
 
   from_append : (last : Option ℕ) (xs ys : List ℕ) → squeeze_from squeezed last (xs ++ ys) ≡ squeeze_from squeezed last xs ++ squeeze_from squeezed (last_or last (squeeze_from squeezed last xs)) ys
   from_append None [] ys = refl
-  from_append None (b ∷ xs) ys = ap (λ (l : List ℕ). b ∷ l) (behind_append b xs ys)
+  from_append None (b ∷ xs) ys = ap (◌∷◌ b) (behind_append b xs ys)
   from_append (Some last) xs ys = behind_append last xs ys
 
 -- ---- the byte that was written last
@@ -118,7 +118,7 @@ behind_all squeezed none last (b ∷ bytes) =
 
 pub from_all : (squeezed : ℕ → Bool) → ((b : ℕ) → squeezed b ≡ false) → (last : Option ℕ) (bytes : List ℕ) → squeeze_from squeezed last bytes ≡ bytes
 from_all squeezed none None [] = refl
-from_all squeezed none None (b ∷ bytes) = ap (λ (l : List ℕ). b ∷ l) (behind_all squeezed none b bytes)
+from_all squeezed none None (b ∷ bytes) = ap (◌∷◌ b) (behind_all squeezed none b bytes)
 from_all squeezed none (Some last) bytes = behind_all squeezed none last bytes
 
 pub filter_all : (test : ℕ → Bool) → ((b : ℕ) → test b ≡ false) → (bytes : List ℕ) → filter (λ b. not (test b)) bytes ≡ bytes

@@ -59,7 +59,7 @@ module _ {end : ℕ} {block rest : List ℕ} {front : List (List ℕ)} (f : InFr
   }
 
 same_head : {x y : List ℕ} {xs ys : List (List ℕ)} → x ∷ xs ≡ y ∷ ys → x ≡ y
-same_head {x} is = ap (λ (ls : List (List ℕ)). get_or ls 0 x) is
+same_head {x} is = ap (λ ls. get_or ls 0 x) is
 
 -- two lines have equal keys, by their keys
 pub same_by_keys : (job : Uniq) (first line : List ℕ) {own next : List ℕ} → own ≡ key job first → next ≡ key job line → is_same job first line ≡ bytes_eq own next
@@ -86,7 +86,7 @@ module _ {job : Uniq} {end : ℕ} {first block : List ℕ} {rest : List ℕ} {co
     on = λ n some more.
         ap (runs_behind job (run_of first n)) (append_assoc c.front (take at rest ∷ []) more) ∙ c.on n some (take at rest ∷ more)
         ∙ behind_more job (run_of first (n + count)) (take at rest) more (both (n + count) (omega (arith, some)))
-        ∙ ap (λ (m : ℕ). runs_behind job (run_of first m) more) (omega arith);
+        ∙ ap (λ m. runs_behind job (run_of first m) more) (omega arith);
   }
     where
       both : (m : ℕ) → 0 < m → (nat_lt 0 m && is_same job first (take at rest)) ≡ true
@@ -281,7 +281,7 @@ module _ {job : Uniq} {block : List ℕ} {rest : List ℕ} {count : ℕ} {line w
       running_halts {is'} fault wrote = record {
         passed = r.passed ++ open_run (run_of r.first count);
         fault = fault;
-        wrote = subst (λ (b : List ℕ). Wrote was is' b)
+        wrote = subst (Wrote was is')
             (sym (append-nil (r.pushed ++ (span_of block waiting ++ run_text job.show count (span_of block line))))
             ∙ all_entries (span_of block waiting ++ run_text job.show count (span_of block line)) [] (append-nil (span_of block waiting ++ run_text job.show count (span_of block line))))
             (wrote_trans _ _ _ _ _ r.clean r.wrote wrote);

@@ -47,28 +47,28 @@ first_emptied {store} {after} some is = by_lines store.lines refl
         let left : total after.lines ≡ total ls = ap total lines_are ∙ sum_by-cons length [] ls ∙ omega arith in
         record {
           size = cc;
-          denied = ap (λ (s : Slots). s.denied) is;
+          denied = ap (λ s. s.denied) is;
           left = cc;
-          peak = omega (arith, ap (λ (s : Slots). s.peak) is, ap (λ (s : Slots). total s.lines) is, left, ap total are ∙ sum_by-cons length l ls);
+          peak = omega (arith, ap (λ s. s.peak) is, ap (λ s. total s.lines) is, left, ap total are ∙ sum_by-cons length l ls);
         }
 
 -- what was pushed is what is written of the run with this first line
 pub run_wrote : (job : Uniq) (count : ℕ) {bytes first behind : List ℕ} {is is' : Output} → bytes ≡ first → behind ≡ job.end ∷ []
     → Wrote is is' (run_text job.show count (bytes ++ behind)) → Wrote is is' (entries job (open_run (run_of first count)))
 run_wrote job count {first} {is} {is'} bytes_are behind_is wrote =
-    subst (λ (b : List ℕ). Wrote is is' b) (cc (open_is job (run_of first count))) wrote
+    subst (Wrote is is') (cc (open_is job (run_of first count))) wrote
 
 -- It is a tool over lines: the first of two slots may hold the first line of the run that is open, and what is decided
 -- leaves out that run.
 pub uniq_line_tool : (job : Uniq) (start : Open) → start.count ≡ 0 → IsLineTool (uniq_tool job) open_run_of (runs_behind job) (entries job) count_of job.end 2 start
 uniq_line_tool job start none = record {
   apart = entries-append job;
-  stays = λ now store bytes room. ap (λ (l : List ℕ). run_of (cond now.kept now.bytes.items l) now.count) (get_or-set_other store.lines 1 0 bytes [] (λ e. absurd (omega (arith, e))));
+  stays = λ now store bytes room. ap (λ l. run_of (cond now.kept now.bytes.items l) now.count) (get_or-set_other store.lines 1 0 bytes [] (λ e. absurd (omega (arith, e))));
   fresh = λ store. omega (arith, none);
-  text = λ store bytes. ap (λ (n : ℕ). entries job (runs_behind job (run_of (first_line start store) n) (lines job.end bytes))) none;
+  text = λ store bytes. ap (λ n. entries job (runs_behind job (run_of (first_line start store) n) (lines job.end bytes))) none;
   decided = λ store given passed now on.
       let ls = whole_lines job.end given in
-      let all = ap (runs job) (sym (append-nil ls)) ∙ ap (λ (n : ℕ). runs_behind job (run_of (first_line start store) n) (ls ++ [])) (sym none) ∙ on [] in
+      let all = ap (runs job) (sym (append-nil ls)) ∙ ap (λ n. runs_behind job (run_of (first_line start store) n) (ls ++ [])) (sym none) ∙ on [] in
       rw all (but_open job passed now);
   size = λ bytes. refl;
   slots = refl;
@@ -108,7 +108,7 @@ block_none job end run block was clean none = record {
   passed = [];
   wrote = wrote_nothing was;
   clean = clean;
-  on = λ more. ap (λ (l : List (List ℕ)). runs_behind job run (l ++ more)) (ended_none end block none);
+  on = λ more. ap (λ l. runs_behind job run (l ++ more)) (ended_none end block none);
   count = omega arith;
   some = λ h. absurd (omega (arith, h, ap length (ended_none end block none)));
 }
@@ -148,7 +148,7 @@ module _ {job : Uniq} {end : ℕ} {first block : List ℕ} {same : Same} (g : Go
     turned more =
         let next = take at rest in
         let behind = ended_lines end (drop (at + 1) rest) ++ more in
-        let is : ended_lines end rest ++ more ≡ next ∷ behind = ap (λ (l : List (List ℕ)). l ++ more) (ended_next end rest at found) in
+        let is : ended_lines end rest ++ more ≡ next ∷ behind = ap (λ l. l ++ more) (ended_next end rest at found) in
         cc (went_on more, behind_turn job run next behind (other_count (count + same.count) (g.turns next (ended_lines end (drop (at + 1) rest)) (ended_next end rest at found))), behind_turn job (run_of [] 0) next behind refl)
 
     module _ {was is : Output} (is' : Output) (wrote : Wrote was is (entries job (open_run run))) where

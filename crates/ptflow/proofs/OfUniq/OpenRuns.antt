@@ -43,7 +43,7 @@ module _ (job : Uniq) where
     count = n;
     more = runs_from job (run_of l 1) ls;
     is = ap (chosen l ls line n) e;
-    led = λ x same. ap (chosen l ls x (n + 1)) (ap (λ (k : List ℕ). bytes_eq k (key job l)) same ∙ e);
+    led = λ x same. ap (chosen l ls x (n + 1)) (ap (λ k. bytes_eq k (key job l)) same ∙ e);
   }
 
   first : (line : List ℕ) (n : ℕ) (ls : List (List ℕ)) → First line n ls
@@ -52,7 +52,7 @@ module _ (job : Uniq) where
 
   onto_first_run : (line : List ℕ) {l : List ℕ} {ls : List (List ℕ)} (t : Bool) → is_same job line l ≡ t → First l 1 ls → onto_runs job line (runs_from job (run_of l 1) ls) ≡ chosen l ls line 1 t
   onto_first_run line {l} true e f = ap (onto_runs job line) f.is ∙ rw e (sym (f.led line ((bytes_eq-Decides (key job line) (key job l)).0 e)))
-  onto_first_run line false e f = ap (onto_runs job line) f.is ∙ rw e (ap (λ (rs : List Run). run_of line 1 ∷ rs) (sym f.is))
+  onto_first_run line false e f = ap (onto_runs job line) f.is ∙ rw e (ap (◌∷◌ (run_of line 1)) (sym f.is))
 
   -- the runs of lines by their first line
   pub runs_are : (line : List ℕ) (ls : List (List ℕ)) → runs job (line ∷ ls) ≡ runs_from job (run_of line 1) ls
@@ -104,12 +104,12 @@ open_is job run = by_show job.show run.count
 but_push : (rs : List Run) (run : Run) → all_but_last (rs ++ run ∷ []) ≡ rs
 but_push [] run = refl
 but_push (r ∷ []) run = refl
-but_push (r ∷ q ∷ rs) run = ap (λ (l : List Run). r ∷ l) (but_push (q ∷ rs) run)
+but_push (r ∷ q ∷ rs) run = ap (◌∷◌ r) (but_push (q ∷ rs) run)
 
 but_front : (rs : List Run) → (last : List Run) × (rs ≡ all_but_last rs ++ last)
 but_front [] = ([], refl)
 but_front (r ∷ []) = (r ∷ [], refl)
-but_front (r ∷ q ∷ rs) = let f = but_front (q ∷ rs) in (f.0, ap (λ (l : List Run). r ∷ l) f.1)
+but_front (r ∷ q ∷ rs) = let f = but_front (q ∷ rs) in (f.0, ap (◌∷◌ r) f.1)
 
 -- all runs but an open one were passed, or all but the last of them
 pub but_open : (job : Uniq) (passed : List Run) (run : Run) → Begins (entries job (all_but_last (passed ++ open_run run))) (entries job passed)

@@ -47,7 +47,7 @@ module _ (job : Uniq) where
       cc (other_key x y (change x y ([], refl) (ys, refl)))
   runs-append (x ∷ z ∷ xs) ys change =
       let r = onto_is z (runs job xs) in
-      cc (runs-append (z ∷ xs) ys (λ last first ends begins. change last first (x ∷ ends.0, ap (λ (l : List (List ℕ)). x ∷ l) ends.1) begins), onto_front x (run_of z r.0) r.1 (runs job ys))
+      cc (runs-append (z ∷ xs) ys (λ last first ends begins. change last first (x ∷ ends.0, ap (◌∷◌ x) ends.1) begins), onto_front x (run_of z r.0) r.1 (runs job ys))
 
 pub uniq_of_parts : UniqOfParts
 uniq_of_parts job a b whole change =
@@ -72,15 +72,15 @@ module _ (job : Uniq) (taken : List ℕ → Bool) where
   run_taken run = taken (key job run.line)
 
   -- the lines of runs are lines
-  all_runs : (P : List ℕ → Type 0) (ls : List (List ℕ)) → AllByRecursion P ls → AllByRecursion (λ (run : Run). P run.line) (runs job ls)
+  all_runs : (P : List ℕ → Type 0) (ls : List (List ℕ)) → AllByRecursion P ls → AllByRecursion (λ run. P run.line) (runs job ls)
   all_runs P [] all = tt
   all_runs P (x ∷ ls) all = put (runs job ls) (all_runs P ls all.1)
     where
-      put : (rs : List Run) → AllByRecursion (λ (run : Run). P run.line) rs → AllByRecursion (λ (run : Run). P run.line) (onto_runs job x rs)
+      put : (rs : List Run) → AllByRecursion (λ run. P run.line) rs → AllByRecursion (λ run. P run.line) (onto_runs job x rs)
       put [] rest = (all.0, tt)
       put (r ∷ rs) rest = by_test (is_same job x r.line)
         where
-          by_test : (t : Bool) → AllByRecursion (λ (run : Run). P run.line) (cond t (run_of x (r.count + 1) ∷ rs) (run_of x 1 ∷ r ∷ rs))
+          by_test : (t : Bool) → AllByRecursion (λ run. P run.line) (cond t (run_of x (r.count + 1) ∷ rs) (run_of x 1 ∷ r ∷ rs))
           by_test true = (all.0, rest.1)
           by_test false = (all.0, rest)
 
@@ -102,14 +102,14 @@ module _ (job : Uniq) (taken : List ℕ → Bool) where
   onto_same x r rs is same = let too : run_taken r ≡ true = cc in rw (same_key job x r.line same, is, too) (rw (same_key job x r.line same) refl)
 
   -- a line in front of runs of other keys
-  onto_other : (x : List ℕ) (rs : List Run) → AllByRecursion (λ (run : Run). key job x ≢ key job run.line) rs → onto_runs job x rs ≡ run_of x 1 ∷ rs
+  onto_other : (x : List ℕ) (rs : List Run) → AllByRecursion (λ run. key job x ≢ key job run.line) rs → onto_runs job x rs ≡ run_of x 1 ∷ rs
   onto_other x [] others = refl
   onto_other x (r ∷ rs) others = rw (other_key job x r.line others.0) refl
 
-  onto_apart : (x : List ℕ) (rs : List Run) → line_taken x ≡ true → AllByRecursion (λ (run : Run). key job x ≢ key job run.line) rs
+  onto_apart : (x : List ℕ) (rs : List Run) → line_taken x ≡ true → AllByRecursion (λ run. key job x ≢ key job run.line) rs
       → onto_runs job x (filter run_taken rs) ≡ filter run_taken (onto_runs job x rs)
   onto_apart x rs is others =
-      cc (onto_other x (filter run_taken rs) (all_filter (λ (run : Run). key job x ≢ key job run.line) run_taken rs others), onto_other x rs others)
+      cc (onto_other x (filter run_taken rs) (all_filter (λ run. key job x ≢ key job run.line) run_taken rs others), onto_other x rs others)
 
   runs_taken : (ls : List (List ℕ)) → AreGrouped job ls → runs job (filter line_taken ls) ≡ filter run_taken (runs job ls)
   runs_taken [] grouped = refl

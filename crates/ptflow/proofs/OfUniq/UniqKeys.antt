@@ -58,12 +58,12 @@ blank_ends b [] blank = rw blank refl
 blank_ends b (c ∷ bytes) blank = rw blank refl
 
 behind_blank : (b : ℕ) (bytes : List ℕ) → is_blank b ≡ true → behind 1 (b ∷ bytes) ≡ behind 1 bytes
-behind_blank b bytes blank = ap (λ (t : Bool). cond t (behind 0 bytes) (behind 1 bytes)) (blank_ends b bytes blank)
+behind_blank b bytes blank = ap (λ t. cond t (behind 0 bytes) (behind 1 bytes)) (blank_ends b bytes blank)
 
 -- where it is not
 behind_other : (b : ℕ) (bytes : List ℕ) → is_blank b ≡ false → behind 1 (b ∷ bytes) ≡ after_bytes bytes
 behind_other b [] other = rw other refl
-behind_other b (c ∷ bytes) other = rw other (by_test (is_blank c) (λ is. behind_other c bytes is))
+behind_other b (c ∷ bytes) other = rw other (by_test (is_blank c) (behind_other c bytes))
   where
     by_test : (t : Bool) → (t ≡ false → behind 1 (c ∷ bytes) ≡ after_bytes bytes) → cond t (c ∷ bytes) (behind 1 (c ∷ bytes)) ≡ cond t (c ∷ bytes) (after_bytes bytes)
     by_test true later = refl
@@ -88,7 +88,7 @@ other_first (b ∷ bytes) long other = cc (behind_other b bytes other)
 
 -- by a search for the first blank
 blank_here : (b : ℕ) (bytes : List ℕ) → is_blank b ≡ true → after_bytes (b ∷ bytes) ≡ b ∷ bytes
-blank_here b bytes blank = ap (λ (t : Bool). cond t (b ∷ bytes) (after_bytes bytes)) blank
+blank_here b bytes blank = ap (λ t. cond t (b ∷ bytes) (after_bytes bytes)) blank
 
 other_here : (b : ℕ) (bytes : List ℕ) → (is_blank b ≡ true → ⊥) → after_bytes (b ∷ bytes) ≡ after_bytes bytes
 other_here b bytes other = grind (arith)
@@ -116,7 +116,7 @@ blank_front (b ∷ bytes) (suc at) high blank = blank_front bytes at (omega (ari
 
 pub other_front : (line : List ℕ) (at : ℕ) → at < length line → is_blank (get_or line at 0) ≡ false → after_bytes (drop at line) ≡ after_bytes (drop (suc at) line)
 other_front [] at high other = absurd (omega (arith, high))
-other_front (b ∷ bytes) zero high other = ap (λ (t : Bool). cond t (b ∷ bytes) (after_bytes bytes)) other
+other_front (b ∷ bytes) zero high other = ap (λ t. cond t (b ∷ bytes) (after_bytes bytes)) other
 other_front (b ∷ bytes) (suc at) high other = other_front bytes at (omega (arith, high)) other
 
 -- what stands in front of a place where there are no blanks is passed
@@ -129,7 +129,7 @@ neither : (b : ℕ) → ((b == 32) ≡ true → ⊥) → ((b == 9) ≡ true → 
 neither b space tab = grind (arith)
 
 is_space : (b : ℕ) → (b == 32) ≡ true → is_blank b ≡ true
-is_space b e = ap (λ (s : Bool). s || (b == 9)) e
+is_space b e = ap (λ s. s || (b == 9)) e
 
 is_tab : (b : ℕ) → (b == 9) ≡ true → is_blank b ≡ true
 is_tab b e = grind (arith)

@@ -93,7 +93,7 @@ turns-preserved g c =
       midway = midway_more m shows.0 shows.1 c.consume.ensures.consumed e.continues;
       all = λ rest.
           ap (g.T.BlockTool.rest c.args.tool.now) (append_assoc i.midway.given block rest) ∙ i.all (block ++ rest)
-          ∙ ap (λ (l : List ℕ). i.midway.pushed ++ l) (e.continues.on rest)
+          ∙ ap (◌++◌ i.midway.pushed) (e.continues.on rest)
           ∙ sym (append_assoc i.midway.pushed e.continues.pushed (g.T.BlockTool.rest c.push_block.new.self rest));
       holds = e.holds c.args.tool.now i.holds;
       counted = counted_more shows.0 shows.1 b.was_sound i.counted c.consume.ensures.consumed e.counts;

@@ -61,14 +61,14 @@ pub returns-in-Err-Read : goal.returns-in-Err-Read
 returns-in-Err-Read g c =
     let r = run_sent c.requires.tool c.turns.invariant c.send_before_wait.ensures.wrote c.in_ok-send_before_wait.ensures.clean in
     let e = rw (c.in-Err-Read.field-0-is, c.SLOTS-slots.ensures) at (c.in-Err-Read.ensures.fills r.reached.goes.fault) in
-    let free = subst (λ (b : ℕ). IsLine b e.piece) r.reached.goes.reads.ending e.faults.whole in
+    let free = subst (λ b. IsLine b e.piece) r.reached.goes.reads.ending e.faults.whole in
     run_broken c.requires.tool r c.requires.ready c.fill.ensures.was_sound e.faults.reads free c.fill.ensures.is_sound e.stored e.cause
 
 pub returns-in-Err-Memory : goal.returns-in-Err-Memory
 returns-in-Err-Memory g c =
     let r = run_sent c.requires.tool c.turns.invariant c.send_before_wait.ensures.wrote c.in_ok-send_before_wait.ensures.clean in
     let e = rw (c.in-Err-Memory.field-0-is, c.SLOTS-slots.ensures) at (c.in-Err-Memory.ensures.fills r.reached.goes.fault) in
-    let free = subst (λ (b : ℕ). IsLine b e.piece) r.reached.goes.reads.ending e.faults.whole in
+    let free = subst (λ b. IsLine b e.piece) r.reached.goes.reads.ending e.faults.whole in
     run_memory c.requires.tool r c.requires.ready c.fill.ensures.was_sound e.faults.reads free c.fill.ensures.is_sound e.stored e.failed
 
 pub returns-in_err-send_before_wait-2 : goal.returns-in_err-send_before_wait-2

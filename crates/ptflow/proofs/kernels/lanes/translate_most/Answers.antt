@@ -13,7 +13,7 @@ returns-then-is_none c =
     let ss = c.args.shifts.now in
     moved_same (by_reach c.of-a.result) (shifted ss) _ c.args.from.now _
     (λ b low. one_moves ss c.stretch.ensures.few b (cc (c.of-a.ensures b low))
-    (sym (ap (λ (o : Option (ℕ × ℕ × ℕ)). is_some o) c.stretch-3.ensures.found) ∙ c.is_none.ensures ∙ ap not c.if-is_none.true))
+    (sym (ap is_some c.stretch-3.ensures.found) ∙ c.is_none.ensures ∙ ap not c.if-is_none.true))
     c.type_inv.from c.move_most.ensures
 
 pub returns-then-is_none-2 : goal.returns-then-is_none-2
@@ -21,7 +21,7 @@ returns-then-is_none-2 c =
     let ss = c.args.shifts.now in
     moved_same (by_two _) (shifted ss) _ c.args.from.now _
     (λ b low. two_move ss c.stretch.ensures.few b (cc (c.of-a.ensures b low)) (cc (c.of-b.ensures b low))
-    (sym (ap (λ (o : Option (ℕ × ℕ × ℕ)). is_some o) c.stretch-4.ensures.found) ∙ c.is_none-2.ensures ∙ ap not c.if-is_none-2.true))
+    (sym (ap is_some c.stretch-4.ensures.found) ∙ c.is_none-2.ensures ∙ ap not c.if-is_none-2.true))
     c.type_inv.from c.move_most-then-is_none-2.ensures
 
 pub returns : goal.returns

@@ -19,6 +19,6 @@ returns-clause-packed c flags long masked =
     let into = c.args.into.now in
     let v = c.args.v in
     let row = slice_index_or c.args.shuffles.now.rows c.from.result [] in
-    let is : IsRow flags row = subst (λ (m : ℕ). IsRow flags (slice_index_or c.args.shuffles.now.rows m [])) (sym (cc)) (c.requires.packing flags long) in
+    let is : IsRow flags row = subst (λ m. IsRow flags (slice_index_or c.args.shuffles.now.rows m [])) (sym (cc)) (c.requires.packing flags long) in
     let lanes = swz_l w8 16 v 0 row in
     cc (chosen_stored at (count_ones c.args.keep) into lanes (length-swz_l w8 16 v 0 row ∙ is.long) (omega (arith, ones-le 8 c.args.keep c.ranges.keep.fits)) c.requires.room, row_chooses v (omega (arith, long, c.fits-v.0)) is)

@@ -14,7 +14,7 @@ some (suc n) h = omega arith
 pub loop-at-init : goal.loop-at-init
 loop-at-init c =
     let flag = λ (b : ℕ). slice_index_or c.args.flags.now b false in
-    let again = ap (λ (same : Bool). same && flag c.from.result) c.eq.ensures ∙ ap (λ (b : ℕ). option_eq eqb c.args.last (Some (get_or c.args.from.now 0 0)) && flag b) c.from.ensures in
+    let again = ap (λ same. same && flag c.from.result) c.eq.ensures ∙ ap (λ b. option_eq eqb c.args.last (Some (get_or c.args.from.now 0 0)) && flag b) c.from.ensures in
     squeezing_starts flag c.args.last c.args.from.now c.args.into.now (some (length c.args.from.now) c.if-is_empty.ensures)
     (omega (arith, c.told-into)) again c.from-count.ensures
 

@@ -26,7 +26,7 @@ returns-then-same-eq0-clause-squeezed c =
     (lanes at) (lanes (at + 16)) (lanes (at + 32)) (lanes (at + 48)) c.if-same-eq0.true in
     let none = λ (k : ℕ). none_same test (chunk (k - 1) 16 from) (chunk k 16 from) in
     c.put_chunk.ensures.put
-    ∙ ap (λ (l : List ℕ). take c.args.count c.args.into.now ++ l)
+    ∙ ap (◌++◌ (take c.args.count c.args.into.now))
     (sym (all_stay_in_four test from c.requires.behind room (none at same.0, none (at + 16) same.1, none (at + 32) same.2, none (at + 48) same.3)))
 
 pub returns-then-gone-eq0-clause-squeezed : goal.returns-then-gone-eq0-clause-squeezed

@@ -19,7 +19,7 @@ loop-at-preserved c =
     let same = same_behind (holds c.args.set) flag c.requires.set (get_or from (at - 1) 0) (take 16 (drop at from)) (chunk-fits w8 at 16 from c.type_inv.from) in
     squeezing_piece flag c.loop-at.invariant 16 (omega arith) room c.squeeze_lanes-count.ensures.end
     (c.squeeze_lanes-count.ensures.squeezed
-    ∙ ap (λ (l : List ℕ). take c.loop-at.count c.loop-at.into ++ l) (stays_piece (holds c.args.set) from _ c.loop-at.invariant.behind room ∙ same))
+    ∙ ap (◌++◌ (take c.loop-at.count c.loop-at.into)) (stays_piece (holds c.args.set) from _ c.loop-at.invariant.behind room ∙ same))
 
 pub squeeze_lanes-count-requires-clause-room : goal.squeeze_lanes-count-requires-clause-room
 squeeze_lanes-count-requires-clause-room c = omega (arith, c.loop-at.invariant.counted, c.loop-at.invariant.within)

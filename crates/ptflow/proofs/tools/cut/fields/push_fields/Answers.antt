@@ -21,7 +21,7 @@ loop-interval-init g c =
     let line = c.args.line.now in
     let all = c.intervals-selected.result.now in record {
       front = front_starts (sym (append-nil (cut_fields (cut_job c.args.job.now) line)) ∙ ap
-          (λ (l : List Interval). join_with_byte d (chosen (is_selected l) 1 (fields d line)) ++ []) (sym c.intervals-selected.ensures.kept) ∙ all_coming d all line [])
+          (λ l. join_with_byte d (chosen (is_selected l) 1 (fields d line)) ++ []) (sym c.intervals-selected.ensures.kept) ∙ all_coming d all line [])
           c.requires.clean;
       walk = walking_starts c.intervals-selected.ensures.apart;
       known = λ le. refl;
@@ -125,7 +125,7 @@ field_behind-requires-clause-first g c =
 pub field_behind-requires-in-loop-interval-clause-first : goal.field_behind-requires-in-loop-interval-clause-first
 field_behind-requires-in-loop-interval-clause-first g c =
     let line = c.args.line.now in
-    subst (λ (l : List ℕ). IsFirstByte (is_byte c.args.job.now.delim) l (Some c.args.first))
+    subst (λ l. IsFirstByte (is_byte c.args.job.now.delim) l (Some c.args.first))
     (sym (take_all (length line) line (omega arith))) c.requires.first
 
 pub overflow_add-last : goal.overflow_add-last

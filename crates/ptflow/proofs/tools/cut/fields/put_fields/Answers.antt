@@ -19,8 +19,8 @@ loop-interval-init g c =
     let line = take c.args.to bytes in
     let tail = take 1 (drop c.args.to bytes) in
     let all = c.intervals-selected.result.now in record {
-      put = ap (λ (l : List ℕ). take c.args.start c.args.room.now ++ l)
-          (ap (λ (l : List Interval). join_with_byte d (chosen (is_selected l) 1 (fields d line)) ++ tail) (sym c.intervals-selected.ensures.kept) ∙ all_coming d all line tail);
+      put = ap (◌++◌ (take c.args.start c.args.room.now))
+          (ap (λ l. join_with_byte d (chosen (is_selected l) 1 (fields d line)) ++ tail) (sym c.intervals-selected.ensures.kept) ∙ all_coming d all line tail);
       walk = walking_starts c.intervals-selected.ensures.apart;
       known = λ le. refl;
       low = omega arith;
@@ -36,7 +36,7 @@ returns-in_default-clause-put g c =
     let same = walking_short c.intervals-selected.result.now
     (take 1 (drop to bytes)) _ l.invariant.walk c.loop-interval-test.true c.in_default.ensures.found in
     put_byte l.room bytes l.end (omega (arith, l.invariant.high, l.invariant.long, l.invariant.walk.fits, length-take-le to bytes (omega arith))) c.requires.within
-    ∙ ap (λ (b : List ℕ). take l.end l.room ++ b) (sym same) ∙ sym l.invariant.put
+    ∙ ap (◌++◌ (take l.end l.room)) (sym same) ∙ sym l.invariant.put
 
 pub returns-in_default-field_behind-clause-put : goal.returns-in_default-field_behind-clause-put
 returns-in_default-field_behind-clause-put g c =
@@ -48,7 +48,7 @@ returns-in_default-field_behind-clause-put g c =
     let before : from - l.lead ≤ to + 1 = omega (arith, c.in-Some.ensures.found.fits, length-drop l.at line, l.invariant.walk.fits, length-take-le to bytes (omega arith)) in
     let same = walking_ends c.intervals-selected.result.now _ _ l.invariant.walk c.loop-interval-test.true
     c.in-Some.ensures.found to (take (to + 1) bytes) (sym (take-take to (to + 1) bytes (omega arith))) (sym (line_with_end to bytes)) c.in_default-field_behind.ensures.found in
-    c.copy_near.ensures.copied ∙ ap (λ (b : List ℕ). take l.end l.room ++ b) (sym (same ∙ rest_of _ _ bytes before)) ∙ sym l.invariant.put
+    c.copy_near.ensures.copied ∙ ap (◌++◌ (take l.end l.room)) (sym (same ∙ rest_of _ _ bytes before)) ∙ sym l.invariant.put
 
 pub loop-interval-preserved : goal.loop-interval-preserved
 loop-interval-preserved g c =
@@ -87,7 +87,7 @@ returns-clause-put g c =
     let same = walking_done c.intervals-selected.result.now
     (take 1 (drop to bytes)) _ l.invariant.walk c.loop-interval-test.false in
     put_byte l.room bytes l.end (omega (arith, l.invariant.high, l.invariant.long, l.invariant.walk.fits, length-take-le to bytes (omega arith))) c.requires.within
-    ∙ ap (λ (b : List ℕ). take l.end l.room ++ b) (sym same) ∙ sym l.invariant.put
+    ∙ ap (◌++◌ (take l.end l.room)) (sym same) ∙ sym l.invariant.put
 
 pub overflow_add-number : goal.overflow_add-number
 overflow_add-number g c =

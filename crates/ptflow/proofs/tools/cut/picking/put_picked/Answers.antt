@@ -24,11 +24,11 @@ returns-clause-picked c selected is =
     let short : near ≤ 16 = omega (arith, c.min.ensures) in
     let kept = get_or pick.counts near 0 in
     let few : kept ≤ 16 = omega (arith, pick_few _ is _ short) in
-    ap (λ (n : ℕ). take (at + n) (put_chunk at into lanes)) c.from.ensures
+    ap (λ n. take (at + n) (put_chunk at into lanes)) c.from.ensures
     ∙ chosen_stored at _ into lanes (length-swz_l w8 16 v 0 pick.row ∙ is.long) few c.requires.room
-    ∙ ap (λ (l : List ℕ). take at into ++ l) (pick_line _ is v short (length-take-le 16 c.args.bytes.now c.requires.within.0)
+    ∙ ap (◌++◌ (take at into)) (pick_line _ is v short (length-take-le 16 c.args.bytes.now c.requires.within.0)
     ∙ ap (chosen_from selected 1) (take-take near 16 c.args.bytes.now short)
-    ∙ ap (λ (k : ℕ). chosen_from selected 1 (take k c.args.bytes.now)) c.min.ensures
+    ∙ ap (λ k. chosen_from selected 1 (take k c.args.bytes.now)) c.min.ensures
     ∙ few_enough selected c.args.bytes.now is.most c.requires.short c.requires.within.1)
 
 pub returns-clause-near : goal.returns-clause-near

@@ -51,41 +51,41 @@ pub returns-in_err-push_run-clause-halts : goal.returns-in_err-push_run-clause-h
 returns-in_err-push_run-clause-halts g c =
     let job = uniq_job c.args.self.now in
     let same = c.count_same-same.result in
-    let went = subst (λ (l : List ℕ). GoesOnWith job c.args.ending l c.args.block.now same) c.first_line.ensures c.count_same-same.ensures in
+    let went = subst (λ l. GoesOnWith job c.args.ending l c.args.block.now same) c.first_line.ensures c.count_same-same.ensures in
     let out = c.push_run.new.out in
     on_err c.from_residual.result
     (block_run_halts went c.requires.open.0 c.in-Some.at (rw take_rest at c.in-Some.ensures) out
     (run_wrote job (c.args.run.now.count + same.count) c.first_line-2.ensures
-    (ap (λ (b : ℕ). b ∷ []) c.requires.fits) c.push_run.ensures.wrote) c.in_err-push_run.ensures.fault)
+    (ap (λ b. b ∷ []) c.requires.fits) c.push_run.ensures.wrote) c.in_err-push_run.ensures.fault)
 
 pub returns-in_err-last-clause-halts : goal.returns-in_err-last-clause-halts
 returns-in_err-last-clause-halts g c =
     let job = uniq_job c.args.self.now in
     let same = c.count_same-same.result in
-    let went = subst (λ (l : List ℕ). GoesOnWith job c.args.ending l c.args.block.now same) c.first_line.ensures c.count_same-same.ensures in
+    let went = subst (λ l. GoesOnWith job c.args.ending l c.args.block.now same) c.first_line.ensures c.count_same-same.ensures in
     on_err c.from_residual-in_err-last.result
     (block_halts went c.requires.open.0 c.in-Some.at (rw take_rest at c.in-Some.ensures) c.push_runs.new.out
     (run_wrote job (c.args.run.now.count + same.count) c.first_line-2.ensures
-    (ap (λ (b : ℕ). b ∷ []) c.requires.fits) c.push_run.ensures.wrote)
+    (ap (λ b. b ∷ []) c.requires.fits) c.push_run.ensures.wrote)
     c.in_ok-push_run.ensures.clean (rw take_rest at c.in_err-last.ensures.halts))
 
 pub returns-clause-continues : goal.returns-clause-continues
 returns-clause-continues g c =
     let job = uniq_job c.args.self.now in
     let same = c.count_same-same.result in
-    let went = subst (λ (l : List ℕ). GoesOnWith job c.args.ending l c.args.block.now same) c.first_line.ensures c.count_same-same.ensures in
-    subst (λ (r : Run). RunsOn job (open_run_of c.args.run.now c.args.store.now) r
+    let went = subst (λ l. GoesOnWith job c.args.ending l c.args.block.now same) c.first_line.ensures c.count_same-same.ensures in
+    subst (λ r. RunsOn job (open_run_of c.args.run.now c.args.store.now) r
     (ended_lines c.args.ending c.args.block.now) c.args.out.now c.push_runs.new.out) (sym (c.begin.ensures c.args.store.now))
     (rw take_rest (block_turns went c.requires.open.0 c.in-Some.at (rw take_rest at c.in-Some.ensures) c.push_runs.new.out
     (run_wrote job (c.args.run.now.count + same.count) c.first_line-2.ensures
-    (ap (λ (b : ℕ). b ∷ []) c.requires.fits) c.push_run.ensures.wrote)
+    (ap (λ b. b ∷ []) c.requires.fits) c.push_run.ensures.wrote)
     c.in_ok-push_run.ensures.clean _ (rw take_rest at c.in_ok-last.ensures.continues)))
 
 pub returns-clause-passed : goal.returns-clause-passed
 returns-clause-passed g c =
     let job = uniq_job c.args.self.now in
     let same = c.count_same-same.result in
-    let went = subst (λ (l : List ℕ). GoesOnWith job c.args.ending l c.args.block.now same) c.first_line.ensures c.count_same-same.ensures in
+    let went = subst (λ l. GoesOnWith job c.args.ending l c.args.block.now same) c.first_line.ensures c.count_same-same.ensures in
     let passed = rw take_rest at c.in_ok-last.ensures.passed in (
       omega (arith, went.within, passed.0, length-drop same.passed c.args.block.now),
       block_passed went c.requires.open.0 c.in_ok-last.last.passed passed.1,

@@ -22,15 +22,15 @@ returns-in_err-push_run-clause-halts g c =
     on_err c.from_residual.result (line_halts job (open_run_of c.args.run.now c.args.store.now) next
     (line_tested job c.args.run.now.count c.goes_on.ensures c.first_line.ensures c.line.ensures c.if-goes_on.false)
     (run_wrote job c.args.run.now.count c.first_line-2.ensures
-    (ap (λ (b : ℕ). b ∷ []) c.requires.fits) c.push_run.ensures.wrote) c.in_err-push_run.ensures.fault)
+    (ap (λ b. b ∷ []) c.requires.fits) c.push_run.ensures.wrote) c.in_err-push_run.ensures.fault)
 
 pub returns-clause-continues : goal.returns-clause-continues
 returns-clause-continues g c =
     let job = uniq_job c.args.self.now in
     let next = line c.args.store.now 1 in
-    subst (λ (l : List ℕ). RunsOn job (open_run_of c.args.run.now c.args.store.now) (run_of l 1) (next ∷ []) c.args.out.now c.push_run.new.out)
+    subst (λ l. RunsOn job (open_run_of c.args.run.now c.args.store.now) (run_of l 1) (next ∷ []) c.args.out.now c.push_run.new.out)
     (sym (swapped_first c.args.store.now c.requires.slots c.swap.ensures))
     (line_turns job (open_run_of c.args.run.now c.args.store.now) next
     (line_tested job c.args.run.now.count c.goes_on.ensures c.first_line.ensures c.line.ensures c.if-goes_on.false)
     (run_wrote job c.args.run.now.count c.first_line-2.ensures
-    (ap (λ (b : ℕ). b ∷ []) c.requires.fits) c.push_run.ensures.wrote) c.in_ok-push_run.ensures.clean)
+    (ap (λ b. b ∷ []) c.requires.fits) c.push_run.ensures.wrote) c.in_ok-push_run.ensures.clean)

@@ -22,4 +22,4 @@ returns c =
     let line = c.args.line.now in
     let end : c.loop-at.at ≡ length line = omega (arith, c.loop-at-test.false, c.loop-at.auto.at-end) in
     let none = drop_all (length line) line (omega arith) in
-    take_rest line (length line) ∙ none ∙ sym (ap after_bytes none) ∙ ap (λ (n : ℕ). after_bytes (drop n line)) (sym end) ∙ c.loop-at.invariant
+    take_rest line (length line) ∙ none ∙ sym (ap after_bytes none) ∙ ap (λ n. after_bytes (drop n line)) (sym end) ∙ c.loop-at.invariant

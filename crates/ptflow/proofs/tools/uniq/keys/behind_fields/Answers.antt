@@ -5,7 +5,7 @@ use Rattle.ptflow.proofs.OfUniq.UniqKeys.{behind, behind_none, behind_zero, behi
 use Rattle.ptflow.proofs.tools.uniq.keys.behind_fields.Goals as goal
 
 pub loop-field-init : goal.loop-field-init
-loop-field-init c = ap (λ (n : ℕ). behind n c.args.line.now) (omega arith)
+loop-field-init c = ap (λ n. behind n c.args.line.now) (omega arith)
 
 pub returns-then-is_empty : goal.returns-then-is_empty
 returns-then-is_empty c =
@@ -21,4 +21,4 @@ loop-field-preserved c =
 pub returns : goal.returns
 returns c =
     let none : c.args.fields - c.loop-field._field ≡ 0 = omega arith in
-    sym (ap (λ (n : ℕ). behind n c.loop-field.rest.now) none ∙ behind_zero c.loop-field.rest.now) ∙ c.loop-field.invariant ∙ behind_is c.args.fields c.args.line.now
+    sym (ap (λ n. behind n c.loop-field.rest.now) none ∙ behind_zero c.loop-field.rest.now) ∙ c.loop-field.invariant ∙ behind_is c.args.fields c.args.line.now

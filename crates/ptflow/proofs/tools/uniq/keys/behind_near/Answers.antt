@@ -18,5 +18,5 @@ returns g c =
     let space = c.first_of.ensures in
     let tab = c.first_of-2.ensures in
     let all : min c.first_of.result c.first_of-2.result ≡ g.row.N = omega (arith, c.min-at.ensures, c.if-at.false, space.within, tab.within) in
-    c.behind_far.ensures ∙ ap after_bytes (take_rest line g.row.N ∙ ap (λ (at : ℕ). drop at line) (sym all))
+    c.behind_far.ensures ∙ ap after_bytes (take_rest line g.row.N ∙ ap (λ at. drop at line) (sym all))
     ∙ sym (both_later line c.first_of.result c.first_of-2.result space.before tab.before (omega (arith, all, c.requires.within)))

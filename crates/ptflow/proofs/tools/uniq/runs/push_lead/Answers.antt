@@ -8,7 +8,7 @@ pub returns-in_err-push-in-Counts-clause-wrote : goal.returns-in_err-push-in-Cou
 returns-in_err-push-in-Counts-clause-wrote g c =
     let digits : c.as_bytes.result.now ≡ decimal c.args.count = c.as_bytes.ensures.value ∙ c.format.ensures.text in
     rw c.in-Counts.is (wrote_past _ _ _ (32 ∷ []) c.in_err-push-in-Counts.ensures.fault
-    (subst (λ (b : List ℕ). Wrote c.args.out.now c.push.new.self b) digits c.push.ensures.wrote))
+    (subst (Wrote c.args.out.now c.push.new.self) digits c.push.ensures.wrote))
 
 pub returns-in_ok-push-in-Counts-clause-wrote : goal.returns-in_ok-push-in-Counts-clause-wrote
 returns-in_ok-push-in-Counts-clause-wrote g c =

@@ -15,7 +15,7 @@ use Rattle.ptflow.proofs.tools.uniq.runs.push_runs.Goals as goal
 
 -- the byte that ends a line is the job's
 first_end : {end end' : ℕ} (hay : List ℕ) (r : Option ℕ) → end ≡ end' → IsFirstByte (is_byte end) hay r → IsFirstByte (is_byte end') hay r
-first_end hay r same = subst (λ (b : ℕ). IsFirstByte (is_byte b) hay r) same
+first_end hay r same = subst (λ b. IsFirstByte (is_byte b) hay r) same
 
 pub lines-init : goal.lines-init
 lines-init g c =
@@ -44,7 +44,7 @@ returns-in_err-waiting-clause-halts g c =
     let rest = c.lines.rest.now in
     let at = c.in-Some.at in
     on_err c.from_residual.result
-    (subst (λ (b : ℕ). RunsHalt job (run_of [] 0) (ended_lines b c.args.block.now) c.args.out.now c.let_wait.new.out) (sym c.requires.ending)
+    (subst (λ b. RunsHalt job (run_of [] 0) (ended_lines b c.args.block.now) c.args.out.now c.let_wait.new.out) (sym c.requires.ending)
     (running_halts r at (first_end rest (Some at) c.requires.ending c.in-Some.ensures)
     (same_by_keys job r.first (take at rest) r.own_is c.key-next.ensures ∙ sym c.eq.ensures ∙ c.if-eq.false)
     c.in_err-waiting.ensures.fault c.in_err-waiting.ensures.wrote))
@@ -66,7 +66,7 @@ returns-in_err-push-clause-halts g c =
     let rest = c.lines.rest.now in
     on_err c.from_residual-in_err-push.result
     (rw c.requires.ending (running_unended c.lines.invariant
-    (subst (λ (b : ℕ). IsLine b rest) c.requires.ending (no_end c.args.ending rest c.in_default.ensures)) c.push.ensures.wrote c.in_err-push.ensures.fault))
+    (subst (λ b. IsLine b rest) c.requires.ending (no_end c.args.ending rest c.in_default.ensures)) c.push.ensures.wrote c.in_err-push.ensures.fault))
 
 pub overflow_sub-result : goal.overflow_sub-result
 overflow_sub-result g c =
@@ -77,17 +77,17 @@ pub returns-clause-continues : goal.returns-clause-continues
 returns-clause-continues g c =
     let job = uniq_job c.args.job.now in
     let rest = c.lines.rest.now in
-    subst (λ (b : ℕ). RunsOn job (run_of [] 0) (run_of (slice_range c.args.block.now c.lines.line.from (c.lines.line.to - 1)) c.lines.count)
+    subst (λ b. RunsOn job (run_of [] 0) (run_of (slice_range c.args.block.now c.lines.line.from (c.lines.line.to - 1)) c.lines.count)
     (ended_lines b c.args.block.now) c.args.out.now c.push.new.self) (sym c.requires.ending) (running_done c.lines.invariant
-    (subst (λ (b : ℕ). IsLine b rest) c.requires.ending (no_end c.args.ending rest c.in_default.ensures)) c.push.ensures.wrote c.in_ok-push.ensures.clean)
+    (subst (λ b. IsLine b rest) c.requires.ending (no_end c.args.ending rest c.in_default.ensures)) c.push.ensures.wrote c.in_ok-push.ensures.clean)
 
 pub returns-clause-passed : goal.returns-clause-passed
 returns-clause-passed g c =
     let rest = c.lines.rest.now in (
       omega arith,
-      subst (λ (b : ℕ). take (length c.args.block.now - length rest) c.args.block.now ≡ text b (ended_lines b c.args.block.now)) (sym c.requires.ending)
+      subst (λ b. take (length c.args.block.now - length rest) c.args.block.now ≡ text b (ended_lines b c.args.block.now)) (sym c.requires.ending)
           (running_passed c.lines.invariant
-          (subst (λ (b : ℕ). IsLine b rest) c.requires.ending (no_end c.args.ending rest c.in_default.ensures)) c.push.ensures.wrote),
+          (subst (λ b. IsLine b rest) c.requires.ending (no_end c.args.ending rest c.in_default.ensures)) c.push.ensures.wrote),
     )
 
 pub overflow_add-line-else-eq-2 : goal.overflow_add-line-else-eq-2

@@ -40,7 +40,7 @@ returns-clause-continues g c =
       passed = take l.end l.room;
       wrote = c.in_ok-push.ensures.wrote;
       clean = c.in_ok-push.ensures.clean;
-      on = λ more. l.invariant.on more ∙ ap (λ (ls : List (List ℕ)). take l.end l.room ++ cut_lines job (ls ++ more)) none;
+      on = λ more. l.invariant.on more ∙ ap (λ ls. take l.end l.room ++ cut_lines job (ls ++ more)) none;
       count = omega arith;
       some = λ h. omega arith;
     }
