@@ -107,8 +107,7 @@ module _ {all : List Interval} {before : ℕ} {piece tail was : List ℕ} {start
   module _ {i : ℕ} {is : List ℕ} {at : ℕ} (k : Choosing all i before piece tail was is start at) where
     -- no interval is left
     pub choosing_done : length all ≤ i → is ++ tail ≡ was ++ (chosen (is_selected all) (before + 1) piece ++ tail)
-    choosing_done past =
-        cc (chosen_none (is_selected []) (before + 1) piece (λ m low high. refl), drop_all i all past)
+    choosing_done past = cc (chosen_none (is_selected []) (before + 1) piece (λ m low high. refl), drop_all i all past)
 
     module _ (within : i < length all) where
       abbrev r : Interval

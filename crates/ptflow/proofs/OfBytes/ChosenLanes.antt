@@ -86,8 +86,7 @@ row_lanes {places} is = Each1-from_get_or (λ place. place < 16) places 0 (λ i 
 
 -- the row of a mask
 pub row_of_mask : (shuffles : Shuffles) (mask : ℕ) → IsPacking shuffles → mask < 256 → IsRow (flags_of 8 mask) (slice_index_or shuffles.rows mask [])
-row_of_mask shuffles mask packing low =
-    rw (mask_of_flags 8 _ low) at (packing (flags_of 8 mask) (length-flags_of 8 mask))
+row_of_mask shuffles mask packing low = rw (mask_of_flags 8 _ low) at (packing (flags_of 8 mask) (length-flags_of 8 mask))
 
 -- a row puts in front the lanes that the flags choose
 pub row_chooses : {flags : List Bool} {row : List ℕ} (v : List ℕ) → length flags ≤ length v → IsRow flags row → take (count_ones (mask_l flags)) (swz_l w8 16 v 0 row) ≡ chosen_by flags v
@@ -104,8 +103,7 @@ chosen_stored at n into lanes long few room =
     let front : length (take at into) ≡ at = length-take-le at into (omega (arith, room)) in
     sym (take-take (at + n) (at + 16) stored (omega (arith, few)))
     ∙ ap (take (at + n)) (take_more_put_chunk at into lanes (at + 16) (omega (arith, long)) room)
-    ∙ ap (λ k. take k (take at into ++ lanes)) (omega (arith, front))
-    ∙ take-append-add (take at into) lanes n
+    ∙ ap (λ k. take k (take at into ++ lanes)) (omega (arith, front)) ∙ take-append-add (take at into) lanes n
 
 -- ---- the row of a mask, place by place
 
@@ -147,8 +145,7 @@ pub row_whole : {mask count : ℕ} {row : List ℕ} {flags : List Bool} → leng
 row_whole {count} {row} {flags} long masked begun = record { places = places; long = begun.long; lanes = begun.lanes }
   where
     all : take count row ≡ places_of flags
-    all =
-        cc (begun.places flags long masked, take_all 8 flags (omega (arith, long)), long)
+    all = cc (begun.places flags long masked, take_all 8 flags (omega (arith, long)), long)
 
     count_is : length (places_of flags) ≡ count
     count_is = cc (all, length-take-le count row (omega (arith, begun.behind, begun.long)))

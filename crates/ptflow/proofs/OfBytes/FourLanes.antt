@@ -78,8 +78,7 @@ pub chunk_parts : (at n m : ℕ) (from : List ℕ) → chunk at (n + m) from ≡
 chunk_parts at n m from = cc (take-add n m (drop at from), drop-drop n at from)
 
 pub chunk_in_four : (at : ℕ) (from : List ℕ) → chunk at 64 from ≡ ((chunk at 16 from ++ chunk (at + 16) 16 from) ++ chunk (at + 32) 16 from) ++ chunk (at + 48) 16 from
-chunk_in_four at from =
-    cc (chunk_parts at 48 16 from, chunk_parts at 32 16 from, chunk_parts at 16 16 from)
+chunk_in_four at from = cc (chunk_parts at 48 16 from, chunk_parts at 32 16 from, chunk_parts at 16 16 from)
 
 module _ (test : ℕ → Bool) where
   -- where no flag is set, all bytes are kept
@@ -91,8 +90,7 @@ module _ (test : ℕ → Bool) where
   kept_on t xs ys = cc (append_assoc t (filter test xs) (filter test ys), filter-append test xs ys)
 
   pub kept_in_four : (t a b c d : List ℕ) → (((t ++ filter test a) ++ filter test b) ++ filter test c) ++ filter test d ≡ t ++ filter test (((a ++ b) ++ c) ++ d)
-  kept_in_four t a b c d =
-      cc (kept_on t a b, kept_on t (a ++ b) c, kept_on t ((a ++ b) ++ c) d)
+  kept_in_four t a b c d = cc (kept_on t a b, kept_on t (a ++ b) c, kept_on t ((a ++ b) ++ c) d)
 
 -- where no flag is set in four vectors, all of their 64 bytes are kept
 pub all_kept_in_four : (test : ℕ → Bool) (at : ℕ) (from : List ℕ)

@@ -56,8 +56,7 @@ module _ {test : ℕ → Bool} {from into : List ℕ} {at count : ℕ} (before :
       told false is = cc (add-zero count, take-set into count b, append-nil (take count into))
 
       by_test : (t : Bool) → test b ≡ t → take (count + from_bool t) (set into count b) ≡ filter test (take (at + 1) from)
-      by_test t is =
-          cc (told t is, filter-append test (take at from) (b ∷ []), take_more from at 0 room)
+      by_test t is = cc (told t is, filter-append test (take at from) (b ∷ []), take_more from at 0 room)
 
 -- ---- two tests that say the same of bytes
 

@@ -121,9 +121,7 @@ are_append end (x ∷ xs) ys a b = (a.0, are_append end xs ys a.1 b)
 pub lines_block : {end : ℕ} {reader : Reader} {given : List ℕ} {ls : List (List ℕ)} → LinesCame end reader given ls → {new : Reader} (more : List (List ℕ))
     → Goes reader new (text end more) → AreLines end more → LinesCame end new (given ++ text end more) (ls ++ more)
 lines_block {end} {ls} k more goes are = record {
-  so_far = ⊎_elim
-      (λ o. inl (cc (text-append end ls more), are_append end ls more o.1 are))
-      (λ c. inr (
+  so_far = ⊎_elim (λ o. inl (cc (text-append end ls more), are_append end ls more o.1 are)) (λ c. inr (
         cc (lines_on _ _ _ _ k (text end more) (λ done. (done_gives_nothing _ _ _ done goes.reads).0), lines-text end more are),
         stays_done _ _ _ c.1 goes.reads,
       )) k.so_far;

@@ -112,8 +112,7 @@ module _ (squeezed : ℕ → Bool) where
 
     -- no byte is left
     pub squeezing_ends : length from ≤ at → take count into ≡ whole
-    squeezing_ends past =
-        cc (append-nil (take count into), drop_all at from past)
+    squeezing_ends past = cc (append-nil (take count into), drop_all at from past)
 
 -- the bytes in front of those of a piece
 pub in_front_of : (from : List ℕ) {at : ℕ} (n : ℕ) → 0 < at → at + suc n ≤ length from

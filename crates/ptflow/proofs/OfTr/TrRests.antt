@@ -123,5 +123,4 @@ from_all squeezed none (Some last) bytes = behind_all squeezed none last bytes
 
 pub filter_all : (test : ℕ → Bool) → ((b : ℕ) → test b ≡ false) → (bytes : List ℕ) → filter (λ b. not (test b)) bytes ≡ bytes
 filter_all test none [] = refl
-filter_all test none (b ∷ bytes) =
-    cc (none b, filter_all test none bytes)
+filter_all test none (b ∷ bytes) = cc (none b, filter_all test none bytes)

@@ -93,9 +93,7 @@ module _ (job : Uniq) (taken : List ℕ → Bool) where
       ⊎_elim
       (λ same.
       let too : run_taken r ≡ false = cc ((bytes_eq-Decides (key job x) (key job r.line)).0 same) in
-      cc)
-      (λ other. cc)
-      (cases_Bool (is_same job x r.line))
+      cc) (λ other. cc) (cases_Bool (is_same job x r.line))
 
   -- a line that is taken, in front of a run of its key
   onto_same : (x : List ℕ) (r : Run) (rs : List Run) → line_taken x ≡ true → key job x ≡ key job r.line → onto_runs job x (filter run_taken (r ∷ rs)) ≡ filter run_taken (onto_runs job x (r ∷ rs))
@@ -113,10 +111,8 @@ module _ (job : Uniq) (taken : List ℕ → Bool) where
 
   runs_taken : (ls : List (List ℕ)) → AreGrouped job ls → runs job (filter line_taken ls) ≡ filter run_taken (runs job ls)
   runs_taken [] grouped = refl
-  runs_taken (x ∷ ls) grouped = ⊎_elim
-      (λ is. cc (runs_taken ls grouped.1, kept is grouped.0))
-      (λ is. cc (runs_taken ls grouped.1, onto_dropped x (runs job ls) is))
-      (cases_Bool (line_taken x))
+  runs_taken (x ∷ ls) grouped = ⊎_elim (λ is. cc (runs_taken ls grouped.1, kept is grouped.0))
+      (λ is. cc (runs_taken ls grouped.1, onto_dropped x (runs job ls) is)) (cases_Bool (line_taken x))
     where
       kept : line_taken x ≡ true → (((next : List ℕ) × BeginsWith next ls × (key job x ≡ key job next)) ⊎ AllByRecursion (λ other. key job x ≢ key job other) ls)
           → onto_runs job x (filter run_taken (runs job ls)) ≡ filter run_taken (onto_runs job x (runs job ls))

@@ -22,8 +22,7 @@ pub returns-in_err-send_before_wait : goal.returns-in_err-send_before_wait
 returns-in_err-send_before_wait g c =
     let i = c.turns.invariant in
     let e = err_from_is_err_and c.from_residual.result c.from_residual.ensures.1 in
-    λ t tool store ready.
-    rw (e.1, e.2) (block_unsent tool
+    λ t tool store ready. rw (e.1, e.2) (block_unsent tool
     i.midway ready c.send_before_wait.ensures.sound (goes_nothing c.turns.reader i.midway.reached.goes.fault).reads c.send_before_wait.ensures.sound i.holds i.all
     c.send_before_wait.ensures.wrote c.in_err-send_before_wait.ensures.fault refl)
 
@@ -53,8 +52,7 @@ returns-in_err-push_block-in-Ok g c =
     let m = midway_sent c.turns.invariant.midway c.send_before_wait.ensures.wrote c.in_ok-send_before_wait.ensures.clean in
     let shows = (rw c.in-Ok.is at b.shows) m.reached.goes.fault in
     let e = err_from_is_err_and c.from_residual-in_err-push_block-in-Ok.result c.from_residual-in_err-push_block-in-Ok.ensures.1 in
-    λ t tool store ready.
-    rw (e.1, e.2) (block_write tool
+    λ t tool store ready. rw (e.1, e.2) (block_write tool
     m ready b.was_sound shows.0.reads b.is_sound c.turns.invariant.holds c.turns.invariant.all
     shows.1 c.in_err-push_block-in-Ok.ensures.halts shows.0.failed)
 
@@ -75,8 +73,7 @@ returns-in_err-push_end-in-Ok g c =
     let shows = (rw c.in-Ok.is at b.shows) m.reached.goes.fault in
     let none : c.in-Ok.block.now ≡ [] = nil_from_length c.in-Ok.block.now (eqb-true (length c.in-Ok.block.now) 0 (cc)) in
     let e = err_from_is_err_and c.from_residual-in_err-push_end-in-Ok.result c.from_residual-in_err-push_end-in-Ok.ensures.1 in
-    λ t tool store ready.
-    rw (e.1, e.2) (block_unended tool
+    λ t tool store ready. rw (e.1, e.2) (block_unended tool
     m ready b.was_sound shows.0.reads b.is_sound c.turns.invariant.holds c.turns.invariant.all
     c.push_end.ensures.wrote (shows.2 none) shows.0.failed c.in_err-push_end-in-Ok.ensures.fault)
 

@@ -20,9 +20,7 @@ returns-then-gone-eq0-clause-kept c =
     let none = none_of_four (map test (chunk at 16 from)) (map test (chunk (at + 16) 16 from)) (map test (chunk (at + 32) 16 from)) (map test (chunk (at + 48) 16 from))
     (flags_long test at from (omega (arith, c.requires.lanes))) (flags_long test (at + 16) from (omega (arith, c.requires.lanes)))
     (flags_long test (at + 32) from (omega (arith, c.requires.lanes))) (flags_long test (at + 48) from (omega (arith, c.requires.lanes)))
-    (cc (lanes at)) (cc (lanes (at + 16)))
-    (cc (lanes (at + 32))) (cc (lanes (at + 48)))
-    c.if-gone-eq0.true in
+    (cc (lanes at)) (cc (lanes (at + 16))) (cc (lanes (at + 32))) (cc (lanes (at + 48))) c.if-gone-eq0.true in
     cc (all_kept_in_four test at from none)
 
 pub returns-clause-kept : goal.returns-clause-kept

@@ -13,8 +13,7 @@ loop-at-init c =
 pub loop-at-preserved : goal.loop-at-preserved
 loop-at-preserved c =
     let keeps : ℕ → Bool = λ b. not (get_or c.args.flags.now b false) in
-    keeps_byte c.loop-at.invariant c.loop-at-test.true (omega arith) refl
-    (ap (◌+◌ c.loop-at.count) (cc))
+    keeps_byte c.loop-at.invariant c.loop-at-test.true (omega arith) refl (ap (◌+◌ c.loop-at.count) (cc))
 
 pub returns-clause-kept : goal.returns-clause-kept
 returns-clause-kept c = (keeps_all c.loop-at.invariant c.loop-at-test.false).0

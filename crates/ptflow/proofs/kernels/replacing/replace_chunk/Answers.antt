@@ -49,8 +49,7 @@ loop-end-preserved c =
     let k = count_trailing_zeros 64 loop.marked in
     let here = behind_set p v n (omega (arith, long)) (omega (arith, counted, c.loop-end-test.true)) loop.invariant.bits in
     let next : suc n ≡ n + 1 = omega arith in
-    let delim : c.unwrap_or.result ≡ unwrap_or (delim_at delims (first + n)) end =
-    cc in
+    let delim : c.unwrap_or.result ≡ unwrap_or (delim_at delims (first + n)) end = cc in
     let front : length (take at c.args.to.now) ≡ at = length-take-le at c.args.to.now (omega (arith, c.requires.same, c.requires.room)) in
     record {
       bits = cc (cleared n (map p v) loop.auto.marked-fits.fits loop.invariant.bits);

@@ -26,8 +26,7 @@ loop-at-preserved c =
           let next = w.next-turn in
           rw w.turn-is (rw w.to-is (
           end_more _ delims c.args.number loop.at loop.turn from loop.to loop.invariant (omega (arith, c.loop-at-test.true)) next.result _ _ w.if-from-at.true w.unwrap_or.ensures
-          next.ensures.number (cc) refl
-          (cc (length-set _ loop.at w.unwrap_or.result, length-set loop.to loop.at _))))
+          next.ensures.number (cc) refl (cc (length-set _ loop.at w.unwrap_or.result, length-set loop.to loop.at _))))
       | else-from-at w ↦
           rw w.turn-is (rw w.to-is (
           other_more end delims c.args.number loop.at loop.turn from loop.to loop.invariant (omega (arith, c.loop-at-test.true))

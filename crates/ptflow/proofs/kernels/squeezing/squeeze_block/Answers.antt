@@ -25,8 +25,7 @@ loop-at-preserved c =
     let flag = λ (b : ℕ). slice_index_or c.args.flags.now b false in
     let room : at + 64 ≤ length from = omega (arith, c.loop-at.invariant.within) in
     let same = same_behind (holds c.args.set) flag c.requires.set (get_or from (at - 1) 0) (take 64 (drop at from)) (chunk-fits w8 at 64 from c.type_inv.from) in
-    squeezing_piece flag c.loop-at.invariant 64 (omega arith) room c.squeeze_chunk-count.ensures.end
-    (cc)
+    squeezing_piece flag c.loop-at.invariant 64 (omega arith) room c.squeeze_chunk-count.ensures.end (cc)
 
 pub overflow_sub-from : goal.overflow_sub-from
 overflow_sub-from c = c.loop-at.invariant.within

@@ -25,8 +25,7 @@ returns-then-same-eq0-clause-squeezed c =
     (flags_long eqb (at + 32) from (omega arith) (omega (arith, room))) (flags_long eqb (at + 48) from (omega arith) (omega (arith, room)))
     (lanes at) (lanes (at + 16)) (lanes (at + 32)) (lanes (at + 48)) c.if-same-eq0.true in
     let none = λ (k : ℕ). none_same test (chunk (k - 1) 16 from) (chunk k 16 from) in
-    c.put_chunk.ensures.put
-    ∙ ap (◌++◌ (take c.args.count c.args.into.now))
+    c.put_chunk.ensures.put ∙ ap (◌++◌ (take c.args.count c.args.into.now))
     (sym (all_stay_in_four test from c.requires.behind room (none at same.0, none (at + 16) same.1, none (at + 32) same.2, none (at + 48) same.3)))
 
 pub returns-then-gone-eq0-clause-squeezed : goal.returns-then-gone-eq0-clause-squeezed
@@ -41,8 +40,7 @@ returns-then-gone-eq0-clause-squeezed c =
     let none = none_of_four (gone_flags test at from) (gone_flags test (at + 16) from) (gone_flags test (at + 32) from) (gone_flags test (at + 48) from)
     (flags_long goes _ from c.requires.behind (omega (arith, room))) (flags_long goes (at + 16) from (omega arith) (omega (arith, room)))
     (flags_long goes (at + 32) from (omega arith) (omega (arith, room))) (flags_long goes (at + 48) from (omega arith) (omega (arith, room)))
-    (cc (lanes at)) (cc (lanes (at + 16)))
-    (cc (lanes (at + 32))) (cc (lanes (at + 48))) c.if-gone-eq0.true in
+    (cc (lanes at)) (cc (lanes (at + 16))) (cc (lanes (at + 32))) (cc (lanes (at + 48))) c.if-gone-eq0.true in
     cc (all_stay_in_four test from c.requires.behind room none)
 
 pub returns-clause-squeezed : goal.returns-clause-squeezed

@@ -18,7 +18,6 @@ pub returns-in_err-push_waiting-clause-wrote : goal.returns-in_err-push_waiting-
 returns-in_err-push_waiting-clause-wrote g c =
     let waiting = span_of c.args.block.now c.args.waiting in
     let line = span_of c.args.block.now c.args.line in
-    on_err c.from_residual.result
-    (subst (Wrote c.args.out.now c.push_waiting.new.out)
+    on_err c.from_residual.result (subst (Wrote c.args.out.now c.push_waiting.new.out)
     (append_assoc waiting (lead c.args.show c.args.count) line ∙ ap (◌++◌ waiting) (run_text_shown c.args.show c.args.count line (sym c.is_shown.ensures ∙ c.if-not-is_shown.false)))
     (wrote_past _ _ _ line c.in_err-push_waiting.ensures.fault c.push_waiting.ensures.wrote))

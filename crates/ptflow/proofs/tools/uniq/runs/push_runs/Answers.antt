@@ -64,8 +64,7 @@ pub returns-in_err-push-clause-halts : goal.returns-in_err-push-clause-halts
 returns-in_err-push-clause-halts g c =
     let job = uniq_job c.args.job.now in
     let rest = c.lines.rest.now in
-    on_err c.from_residual-in_err-push.result
-    (rw c.requires.ending (running_unended c.lines.invariant
+    on_err c.from_residual-in_err-push.result (rw c.requires.ending (running_unended c.lines.invariant
     (subst (λ b. IsLine b rest) c.requires.ending (no_end c.args.ending rest c.in_default.ensures)) c.push.ensures.wrote c.in_err-push.ensures.fault))
 
 pub overflow_sub-result : goal.overflow_sub-result

@@ -18,5 +18,4 @@ returns g c =
     let loop = c.loop-place in
     let selected = is_selected c.args.list.now in
     let all = subst (λ n. PickBegun selected n loop.count loop.row loop.counts) (omega (arith, c.loop-place-test.false, loop.auto)) loop.invariant in
-    pick_whole selected _ all
-    (λ place later upto. cc (c.greatest_length.ensures place later upto))
+    pick_whole selected _ all (λ place later upto. cc (c.greatest_length.ensures place later upto))

@@ -11,7 +11,6 @@ pub returns : goal.returns
 returns c =
     let v = c.args.v in
     let blend = c.args.self in
-    sel_maps (holds blend.set) (λ _. blend.byte) (λ b. b) v
-    (cc (tops_of_mask (holds blend.set) v))
+    sel_maps (holds blend.set) (λ _. blend.byte) (λ b. b) v (cc (tops_of_mask (holds blend.set) v))
     (splat_is_map v 16 blend.byte c.fits-v.0)
     (sym (map_self v))
