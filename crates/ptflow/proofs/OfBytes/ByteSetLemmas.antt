@@ -81,7 +81,7 @@ all_or_none row k = cc (and_pow row k, times (bit_at row k) (2 ^ k) (bit_at-lt r
     times : (x p : ℕ) → x < 2 → 0 < p → eqb (x * p) p ≡ eqb x 1
     times zero p few some = grind (arith, nat_tests)
     times (suc zero) p few some = grind (arith, nat_tests)
-    times (suc (suc x)) p few some = absurd (omega (arith, few))
+    times (suc (suc x)) p few some = absurd (omega arith)
 
 row_of : (set : ByteSet) (low : Bool) (n : ℕ) → cond low (get_or set.low n 0) (get_or set.high n 0) ≡ get_or (cond low set.low set.high) n 0
 row_of set true n = refl
@@ -129,7 +129,7 @@ module _ (table : List ℕ) {n : ℕ} (long : length table ≡ 16) (within : n <
   set_here =
       let old = get_or table (n % 16) 0 in
       let put = bit_or old (1 * 2 ^ (n / 16) % 256) in
-      cc (get_or-set_same table (n % 16) put 0 (omega (arith, long)), same_bit, bit_at_set_same w8 old (n / 16) (omega arith))
+      cc (get_or-set_same table (n % 16) put 0 (omega arith), same_bit, bit_at_set_same w8 old (n / 16) (omega arith))
 
   set_there : {b : ℕ} → b < 128 → b ≢ n → marks (filled table n 1) b ≡ marks table b
   set_there {b} byte other = ⊎_elim in_row elsewhere (cases_eq (b % 16) (n % 16))
@@ -142,10 +142,10 @@ module _ (table : List ℕ) {n : ℕ} (long : length table ≡ 16) (within : n <
 
       in_row : b % 16 ≡ n % 16 → marks (filled table n 1) b ≡ marks table b
       in_row row =
-          cc (get_or-set_same table (n % 16) put 0 (omega (arith, long)), bit_at_set_other w8 old (n / 16) (omega arith) (b / 16 % 8) (λ same. other (omega (arith, row, same))))
+          cc (get_or-set_same table (n % 16) put 0 (omega arith), bit_at_set_other w8 old (n / 16) (omega arith) (b / 16 % 8) (λ same. other (omega arith)))
 
       elsewhere : (b % 16 ≡ n % 16 → ⊥) → marks (filled table n 1) b ≡ marks table b
-      elsewhere row = ap (λ m. eqb (bit_at m (b / 16 % 8)) 1) (get_or-set_other table (n % 16) (b % 16) put 0 row)
+      elsewhere row = cc (get_or-set_other table (n % 16) (b % 16) put 0 row)
 
   filled_is : (flag : Bool) {b : ℕ} → b < 128 → marks (filled table n (from_bool flag)) b ≡ cond (eqb b n) (flag || marks table n) (marks table b)
   filled_is flag {b} byte = ⊎_elim here there (cases_eq b n)
@@ -168,7 +168,7 @@ module _ (table : List ℕ) {n : ℕ} (long : length table ≡ 16) (within : n <
 
           by_flag : (f : Bool) → marks (filled table n (from_bool f)) b ≡ marks table b
           by_flag true = set_there byte other
-          by_flag false = ap (λ t. marks t b) unset
+          by_flag false = cc (unset)
 
 -- the flags of one byte more are marked
 pub one_more_flag : (table : List ℕ) (flags : List Bool) (n : ℕ) {x : ℕ} → length table ≡ 16 → n < 128 → x ≡ from_bool (get_or flags n false)

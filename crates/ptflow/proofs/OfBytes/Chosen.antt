@@ -59,7 +59,7 @@ chosen_first r rs n (x ∷ xs) apart = chosen_step x (chosen (lies_in r) (n + 1)
     (chosen (is_selected rs) (n + 1) xs) (lies_in r n) (is_selected rs n) here there (chosen_first r rs (n + 1) xs apart)
   where
     late : (n ≤ r.last → ⊥) → r.last < n
-    late not = ⊎_elim (λ is. absurd (not (omega (arith, is)))) (⊎_elim (λ low. absurd (not (omega (arith, low)))) (λ high. high)) (cases_order n r.last)
+    late not = ⊎_elim (λ is. absurd (not (omega arith))) (⊎_elim (λ low. absurd (not (omega (arith, low)))) (λ high. high)) (cases_order n r.last)
 
     here : lies_in r n ≡ true → is_selected rs n ≡ false
     here inside = not_selected rs (r.last + 1) n apart (omega (arith, last_of r n inside))
@@ -83,15 +83,15 @@ take-nil (suc k) = refl
 pub chosen_slice : {X : Type 0} (r : Interval) (n : ℕ) (xs : List X) (i j : ℕ) → i ≡ r.first - n → j ≡ r.last + 1 - n → chosen (lies_in r) n xs ≡ take (j - i) (drop i xs)
 chosen_slice r n [] zero j is js = sym (take-nil (j - 0))
 chosen_slice r n [] (suc i) j is js = sym (take-nil (j - suc i))
-chosen_slice r n (x ∷ xs) i zero is js = chosen_past r n (x ∷ xs) (omega (arith, js)) ∙ (let none : 0 - i ≡ 0 = omega arith in rw none refl)
+chosen_slice r n (x ∷ xs) i zero is js = chosen_past r n (x ∷ xs) (omega arith) ∙ (let none : 0 - i ≡ 0 = omega arith in rw none refl)
 chosen_slice {X} r n (x ∷ xs) zero (suc j) is js =
     let whole : suc j - 0 ≡ suc j = omega arith in
     let rest : j - 0 ≡ j = omega arith in
-    rw (inside r n (omega (arith, is)) (omega (arith, js)), whole) (ap (◌∷◌ x)
-    (cc (chosen_slice r (n + 1) xs zero j (omega (arith, is)) (omega (arith, js)))))
+    rw (inside r n (omega arith) (omega arith), whole) (ap (◌∷◌ x)
+    (cc (chosen_slice r (n + 1) xs zero j (omega arith) (omega arith))))
 chosen_slice r n (x ∷ xs) (suc i) (suc j) is js =
     let same : suc j - suc i ≡ j - i = omega arith in
-    rw (below r n (omega (arith, is)), same) (chosen_slice r (n + 1) xs i j (omega (arith, is)) (omega (arith, js)))
+    rw (below r n (omega arith), same) (chosen_slice r (n + 1) xs i j (omega arith) (omega arith))
 
 -- What the intervals so far choose of a piece stands behind what stood there, and what is still to come is chosen by
 -- the others; behind it comes the tail. What stands there ends at `at`, which is no farther on than the intervals so
@@ -125,12 +125,12 @@ module _ {all : List Interval} {before : ℕ} {piece tail was : List ℕ} {start
 
       -- the interval's bytes, which are so many, end no farther on than it reaches
       pub choosing_room : at + ((r.last - before) - (r.first - (before + 1))) ≤ start + (r.last - before)
-      choosing_room = omega (arith, k.near, apart.0, apart.1)
+      choosing_room = omega (arith, apart.0, apart.1)
 
       -- what the interval chooses was copied
       pub choosing_more : r.last < before + 1 + length piece → Choosing all (i + 1) before piece tail was (is ++ chosen (lies_in r) (before + 1) piece) start
           (at + ((r.last - before) - (r.first - (before + 1))))
-      choosing_more short = record { front = next; low = r.last + 1; apart = apart.2; near = omega (arith, choosing_room); within = omega (arith, choosing_room, short) }
+      choosing_more short = record { front = next; low = r.last + 1; apart = apart.2; near = omega (arith, choosing_room); within = omega (arith, choosing_room) }
 
       pub choosing_ends : before + length piece ≤ r.last → is ++ (chosen (lies_in r) (before + 1) piece ++ tail) ≡ was ++ (chosen (is_selected all) (before + 1) piece ++ tail)
       choosing_ends reaches =
@@ -146,7 +146,7 @@ slice_is r before count bytes within short =
     sym (chosen_slice r (before + 1) (take count bytes) i j refl j_is ∙ in_piece i j (omega arith))
   where
     in_piece : (i j : ℕ) → j ≤ count → take (j - i) (drop i (take count bytes)) ≡ take (j - i) (drop i bytes)
-    in_piece i j fits = ⊎_elim (λ is. same (omega (arith, is))) (⊎_elim (λ low. same (omega (arith, low))) past) (cases_order i j)
+    in_piece i j fits = ⊎_elim (λ is. same (omega arith)) (⊎_elim (λ low. same (omega (arith, low))) past) (cases_order i j)
       where
         same : i ≤ j → take (j - i) (drop i (take count bytes)) ≡ take (j - i) (drop i bytes)
         same low =
@@ -167,7 +167,7 @@ rest_is r before count bytes within reaches =
     cc (take-append-drop count bytes, drop-append-le (min i count) (take count bytes) (drop count bytes) (omega (arith, long)), piece)
   where
     all_of : (i : ℕ) → length (take count bytes) ≤ r.last + 1 - (before + 1) → take ((r.last + 1 - (before + 1)) - i) (drop i (take count bytes)) ≡ drop (min i count) (take count bytes)
-    all_of i fits = ⊎_elim (λ is. near (omega (arith, is))) (⊎_elim (λ low. near (omega (arith, low))) far) (cases_order i count)
+    all_of i fits = ⊎_elim (λ is. near (omega arith)) (⊎_elim (λ low. near (omega (arith, low))) far) (cases_order i count)
       where
         near : i ≤ count → take ((r.last + 1 - (before + 1)) - i) (drop i (take count bytes)) ≡ drop (min i count) (take count bytes)
         near low = let least : min i count ≡ i = omega arith in cc (take_all ((r.last + 1 - (before + 1)) - i) (drop i (take count bytes)) (omega (arith, length-drop i (take count bytes))))
@@ -209,13 +209,13 @@ module _ {all : List Interval} {before count end : ℕ} (bytes : List ℕ) {was 
     pub copied_ends : {from : ℕ} → from ≡ min (at_i.first - (before + 1)) count → before + count ≤ at_i.last → is' ≡ is ++ take (end - from) (drop from bytes)
         → is' ≡ was ++ (chosen (is_selected all) (before + 1) piece ++ tail)
     copied_ends {from} from_is reaches copied =
-        cc (cut_off from end bytes (omega (arith, from_is, in_piece)), rest_is at_i before count (take end bytes) (omega (arith, long, in_piece)) reaches, choosing_ends k within (omega (arith, piece_long, reaches)))
+        cc (cut_off from end bytes (omega (arith, in_piece)), rest_is at_i before count (take end bytes) (omega (arith, long, in_piece)) reaches, choosing_ends k within (omega (arith, piece_long)))
 
     pub copied_more : {from to : ℕ} → from ≡ at_i.first - (before + 1) → to ≡ at_i.last - before → at_i.last < before + count → is' ≡ is ++ take (to - from) (drop from bytes)
         → Choosing all (i + 1) before piece tail was is' start (at + (to - from))
     copied_more {from} {to} from_is to_is short copied =
         let slice : take (to - from) (drop from bytes) ≡ chosen (lies_in at_i) (before + 1) piece =
-        cc (slice_is at_i before count bytes (omega (arith, in_piece, in_bytes)) short, take-take count end bytes in_piece) in
+        cc (slice_is at_i before count bytes (omega (arith, in_piece)) short, take-take count end bytes in_piece) in
         subst (λ l. Choosing all (i + 1) before piece tail was l start (at + (to - from))) (sym (cc))
         (subst (λ n. Choosing all (i + 1) before piece tail was (is ++ chosen (lies_in at_i) (before + 1) piece) start (at + n)) (λ j. sym to_is j - sym from_is j)
         (choosing_more k within (omega (arith, piece_long, short))))

@@ -21,15 +21,15 @@ use Rattle.ptflow.specs.declared.kernels.packing.Shuffles.{Shuffles}
 -- by a test of each item
 pub chosen_by_test : {X : Type 0} (p : X → Bool) (xs : List X) → chosen_by (map p xs) xs ≡ filter p xs
 chosen_by_test p [] = refl
-chosen_by_test {X} p (x ∷ xs) = ap (λ kept. cond (p x) (x ∷ kept) kept) (chosen_by_test p xs)
+chosen_by_test {X} p (x ∷ xs) = cc (chosen_by_test p xs)
 
 -- as many as bits of the mask are set
 pub length-chosen_by : {X : Type 0} (flags : List Bool) (xs : List X) → length flags ≤ length xs → length (chosen_by flags xs) ≡ count_ones (mask_l flags)
 unfolding lib.Count.ones
 length-chosen_by [] xs enough = refl
-length-chosen_by (f ∷ fs) [] enough = absurd (omega (arith, enough))
-length-chosen_by (true ∷ fs) (x ∷ xs) enough = omega (arith, length-chosen_by fs xs (omega (arith, enough)), ones-mask_l_cons true fs)
-length-chosen_by (false ∷ fs) (x ∷ xs) enough = omega (arith, length-chosen_by fs xs (omega (arith, enough)), ones-mask_l_cons false fs)
+length-chosen_by (f ∷ fs) [] enough = absurd (omega arith)
+length-chosen_by (true ∷ fs) (x ∷ xs) enough = omega (arith, length-chosen_by fs xs (omega arith), ones-mask_l_cons true fs)
+length-chosen_by (false ∷ fs) (x ∷ xs) enough = omega (arith, length-chosen_by fs xs (omega arith), ones-mask_l_cons false fs)
 
 map-chosen_by : {X Y : Type 0} (f : X → Y) (flags : List Bool) (xs : List X) → map f (chosen_by flags xs) ≡ chosen_by flags (map f xs)
 map-chosen_by f [] xs = refl
@@ -41,7 +41,7 @@ map-chosen_by f (false ∷ flags) (x ∷ xs) = map-chosen_by f flags xs
 chosen_by_front : {X : Type 0} (flags : List Bool) (xs : List X) → chosen_by flags (take (length flags) xs) ≡ chosen_by flags xs
 chosen_by_front [] xs = refl
 chosen_by_front (flag ∷ flags) [] = refl
-chosen_by_front {X} (flag ∷ flags) (x ∷ xs) = ap (λ ys. cond flag (x ∷ ys) ys) (chosen_by_front flags xs)
+chosen_by_front {X} (flag ∷ flags) (x ∷ xs) = cc (chosen_by_front flags xs)
 
 pub chosen_by_parts : {X : Type 0} (front back : List Bool) (xs : List X) → chosen_by (front ++ back) xs ≡ chosen_by front xs ++ chosen_by back (drop (length front) xs)
 chosen_by_parts [] back xs = refl
@@ -65,8 +65,8 @@ lowest : (m : ℕ) → cond (nat_eq (m % 2) 1) 1 0 ≡ m % 2
 lowest m = grind (arith, nat_tests)
 
 mask_of_flags : (n m : ℕ) → m < 2 ^ n → mask_l (flags_of n m) ≡ m
-mask_of_flags zero m low = omega (arith, low)
-mask_of_flags (suc n) m low = omega (arith, lowest m, mask_of_flags n (m / 2) (omega (arith, low, pow-succ' 2 n)))
+mask_of_flags zero m low = omega arith
+mask_of_flags (suc n) m low = omega (arith, lowest m, mask_of_flags n (m / 2) (omega (arith, pow-succ' 2 n)))
 
 -- ---- lanes by their places
 
@@ -76,10 +76,10 @@ low_place low = grind (arith, nat_tests)
 -- lanes at places below 16
 pub shuffled : (v : List ℕ) (i : ℕ) (row : List ℕ) → i + length row ≤ 16 → Each1 (λ place. place < 16) row → swz_l w8 16 v i row ≡ pick_l 0 v row
 shuffled v i [] room lanes = refl
-shuffled v i (j ∷ js) room lanes = λ t. here t ∷ shuffled v (suc i) js (omega (arith, room)) lanes.1 t
+shuffled v i (j ∷ js) room lanes = λ t. here t ∷ shuffled v (suc i) js (omega arith) lanes.1 t
   where
     here : cond (nat_le 128 j) 0 (get_or v (16 * (i / 16) + j) 0) ≡ get_or v j 0
-    here = ap (λ high. cond high 0 (get_or v (16 * (i / 16) + j) 0)) (low_place lanes.0) ∙ ap (λ k. get_or v k 0) (omega (arith, room))
+    here = ap (λ high. cond high 0 (get_or v (16 * (i / 16) + j) 0)) (low_place lanes.0) ∙ ap (λ k. get_or v k 0) (omega arith)
 
 pub row_lanes : {flags : List Bool} {places : List ℕ} → IsRow flags places → Each1 (λ place. place < 16) places
 row_lanes {places} is = Each1-from_get_or (λ place. place < 16) places 0 (λ i low. is.lanes i 0 low)
@@ -94,16 +94,16 @@ row_chooses {flags} {row} v room is =
     let n = length flags in
     let places = range_with_len 0 n in
     let count : count_ones (mask_l flags) ≡ length (places_of flags) = sym (length-chosen_by flags places (omega (arith, length-range_with_len 0 n))) in
-    cc (shuffled v 0 row (omega (arith, is.long)) (row_lanes is), take-map (λ k. get_or v k 0) (count_ones (mask_l flags)) row, map-chosen_by (λ k. get_or v k 0) flags places, pick_l-range_with_len 0 v 0 n (omega (arith, room)), chosen_by_front flags v)
+    cc (shuffled v 0 row (omega arith) (row_lanes is), take-map (λ k. get_or v k 0) (count_ones (mask_l flags)) row, map-chosen_by (λ k. get_or v k 0) flags places, pick_l-range_with_len 0 v 0 n (omega arith), chosen_by_front flags v)
 
 -- the lanes that are put in front are stored from a place on
 pub chosen_stored : (at n : ℕ) (into lanes : List ℕ) → length lanes ≡ 16 → n ≤ 16 → at + 16 ≤ length into → take (at + n) (put_chunk at into lanes) ≡ take at into ++ take n lanes
 chosen_stored at n into lanes long few room =
     let stored = put_chunk at into lanes in
-    let front : length (take at into) ≡ at = length-take-le at into (omega (arith, room)) in
-    sym (take-take (at + n) (at + 16) stored (omega (arith, few)))
+    let front : length (take at into) ≡ at = length-take-le at into (omega arith) in
+    sym (take-take (at + n) (at + 16) stored (omega arith))
     ∙ ap (take (at + n)) (take_more_put_chunk at into lanes (at + 16) (omega (arith, long)) room)
-    ∙ ap (λ k. take k (take at into ++ lanes)) (omega (arith, front)) ∙ take-append-add (take at into) lanes n
+    ∙ ap (λ k. take k (take at into ++ lanes)) (omega arith) ∙ take-append-add (take at into) lanes n
 
 -- ---- the row of a mask, place by place
 
@@ -122,8 +122,8 @@ next_place flags {place} long low =
     let flag = get_or flags place false in
     let front = take place flags in
     let behind : drop (length front) places ≡ (0 + place) ∷ drop (place + 1) places =
-    cc (length-take-le place flags (omega (arith, long, low)), drop-cons places place 0 (omega (arith, low, length-range_with_len 0 8)), get_or-range_with_len 0 8 place 0 low, add-one place) in
-    ap (λ fs. chosen_by fs places) (take_more flags place false (omega (arith, long, low)))
+    cc (length-take-le place flags (omega (arith, long)), drop-cons places place 0 (omega (arith, length-range_with_len 0 8)), get_or-range_with_len 0 8 place 0 low, add-one place) in
+    ap (λ fs. chosen_by fs places) (take_more flags place false (omega (arith, long)))
     ∙ chosen_by_parts front (flag ∷ []) places
     ∙ ap (λ ps. chosen_by front places ++ chosen_by (flag ∷ []) ps) (behind ∙ ap (λ p. p ∷ drop (place + 1) places) (omega arith))
 
@@ -133,12 +133,12 @@ written_more false row count place room = ap (λ n. take n (set row count place)
 
 pub row_more : {mask place count bit : ℕ} {row : List ℕ} → place < 8 → bit ≡ mask / 2 ^ place % 2 → RowBegun mask place count row → RowBegun mask (place + 1) (count + bit) (set row count place)
 row_more {place} {count} {row} low is begun = record {
-  behind = omega (arith, is, begun.behind);
-  lanes = All-set (λ p. p < 16) row count place (omega (arith, low)) begun.lanes;
+  behind = omega arith;
+  lanes = All-set (λ p. p < 16) row count place (omega arith) begun.lanes;
   long = cc (length-set row count place);
   places = λ flags long masked.
       let flag = get_or flags place false in
-      cc (bit_mask_l flags place, written_more flag row count place (omega (arith, begun.behind, begun.long, low)), begun.places flags long masked, next_place flags long low);
+      cc (bit_mask_l flags place, written_more flag row count place (omega arith), begun.places flags long masked, next_place flags long low);
 }
 
 pub row_whole : {mask count : ℕ} {row : List ℕ} {flags : List Bool} → length flags ≡ 8 → mask ≡ mask_l flags → RowBegun mask 8 count row → IsRow flags row
@@ -148,7 +148,7 @@ row_whole {count} {row} {flags} long masked begun = record { places = places; lo
     all = cc (begun.places flags long masked, take_all 8 flags (omega (arith, long)), long)
 
     count_is : length (places_of flags) ≡ count
-    count_is = cc (all, length-take-le count row (omega (arith, begun.behind, begun.long)))
+    count_is = cc (all, length-take-le count row (omega arith))
 
     places : take (length (places_of flags)) row ≡ places_of flags
     places = cc (count_is, all)

@@ -40,8 +40,8 @@ tops_of_lanes (f ∷ fs) = λ i. lane f i ∷ tops_of_lanes fs i
 
 none_of_two : (fs gs : List Bool) → length fs ≡ length gs → mask_l (zip2 ◌||◌ fs gs) ≡ 0 → (mask_l fs ≡ 0) × (mask_l gs ≡ 0)
 none_of_two [] [] same none = (refl, refl)
-none_of_two [] (g ∷ gs) same none = absurd (omega (arith, same))
-none_of_two (f ∷ fs) [] same none = absurd (omega (arith, same))
+none_of_two [] (g ∷ gs) same none = absurd (omega arith)
+none_of_two (f ∷ fs) [] same none = absurd (omega arith)
 none_of_two (f ∷ fs) (g ∷ gs) same none = grind (arith, none_of_two fs gs)
 
 module _ (fa fb fc fd : List Bool) (la : length fa ≡ 16) (lb : length fb ≡ 16) (lc : length fc ≡ 16) (ld : length fd ≡ 16) where
@@ -66,7 +66,7 @@ module _ (fa fb fc fd : List Bool) (la : length fa ≡ 16) (lb : length fb ≡ 1
       let long : length all ≡ 16 = length-zip2 ◌||◌ three fd (length_three ∙ sym ld) ∙ length_three in
       let lanes : zip2 bit_or (zip2 bit_or (zip2 bit_or xa xb) xc) xd ≡ lanes_of all =
       cc (or_lanes fa fb, or_lanes two fc, or_lanes three fd) in
-      let nothing : mask_l all ≡ 0 = cc (mask_l-mod all 64 (omega (arith, long)), tops_of_lanes all) in
+      let nothing : mask_l all ≡ 0 = cc (mask_l-mod all 64 (omega arith), tops_of_lanes all) in
       let last = none_of_two three fd (length_three ∙ sym ld) nothing in
       let third = none_of_two two fc (length_two ∙ sym lc) last.0 in
       let first = none_of_two fa fb (cc) third.0 in

@@ -22,7 +22,7 @@ not_tops test (b ∷ v) = λ i. lane (test b) i ∷ not_tops test v i
 pub keep_bits : (test : ℕ → Bool) (v : List ℕ) {lanes : List ℤ} → length v ≡ 16 → lanes ≡ mask_of test v
     → mask_l (map (top 7) (map (bit_not w8) (map (cast_unsigned w8) lanes))) % 2 ^ 64 ≡ mask_l (map (λ b. not (test b)) v)
 keep_bits test v {lanes} long is =
-    cc (not_tops test v, mask_l-mod (map (λ b. not (test b)) v) 64 (omega (arith, length-map v (λ b. not (test b)), long)))
+    cc (not_tops test v, mask_l-mod (map (λ b. not (test b)) v) 64 (omega (arith, length-map v (λ b. not (test b)))))
 
 module _ {test : ℕ → Bool} {from into : List ℕ} {at count : ℕ} (before : Keeps test from at into count) where
   -- a piece more
@@ -30,7 +30,7 @@ module _ {test : ℕ → Bool} {from into : List ℕ} {at count : ℕ} (before :
       → take end after ≡ take count into ++ filter test (chunk at size from) → Keeps test from (at + size) after end
   keeps_piece size room few long put = record {
     within = room;
-    few = omega (arith, few, before.few);
+    few = omega arith;
     room = long;
     kept = cc (filter-append test (take at from) (chunk at size from), take-add at size from);
   }
@@ -39,8 +39,8 @@ module _ {test : ℕ → Bool} {from into : List ℕ} {at count : ℕ} (before :
   pub keeps_byte : {after : List ℕ} {end : ℕ} → at < length from → at < 8224 → after ≡ set into count (get_or from at 0) → end
       ≡ count + from_bool (test (get_or from at 0)) → Keeps test from (at + 1) after end
   keeps_byte room small is ended = record {
-    within = omega (arith, room);
-    few = omega (arith, ended, one_at_most (test b), before.few);
+    within = omega arith;
+    few = omega (arith, one_at_most (test b));
     room = cc (length-set into count b);
     kept = cc (by_test (test b) refl);
   }
@@ -52,7 +52,7 @@ module _ {test : ℕ → Bool} {from into : List ℕ} {at count : ℕ} (before :
       one_at_most t = grind arith
 
       told : (t : Bool) → test b ≡ t → take (count + from_bool t) (set into count b) ≡ take count into ++ cond t (b ∷ []) []
-      told true is = take_more_set into count b (omega (arith, before.few, before.room, small))
+      told true is = take_more_set into count b (omega arith)
       told false is = cc (add-zero count, take-set into count b, append-nil (take count into))
 
       by_test : (t : Bool) → test b ≡ t → take (count + from_bool t) (set into count b) ≡ filter test (take (at + 1) from)
@@ -76,4 +76,4 @@ keeps_same p {q} {from} {at} same fit within few room kept = record {
 
 -- all bytes
 pub keeps_all : {test : ℕ → Bool} {from into : List ℕ} {at count : ℕ} → Keeps test from at into count → length from ≤ at → (take count into ≡ filter test from) × (count ≤ length from)
-keeps_all {test} {from} {at} keeps all = (cc (take_all at from all), omega (arith, keeps.few, keeps.within))
+keeps_all {test} {from} {at} keeps all = (cc (take_all at from all), omega arith)

@@ -66,7 +66,7 @@ sum_is (s ∷ []) b few = omega arith
 sum_is (s ∷ t ∷ []) b few = omega arith
 sum_is (s ∷ t ∷ u ∷ []) b few = omega arith
 sum_is (s ∷ t ∷ u ∷ v ∷ []) b few = omega arith
-sum_is (s ∷ t ∷ u ∷ v ∷ w ∷ more) b few = absurd (omega (arith, few))
+sum_is (s ∷ t ∷ u ∷ v ∷ w ∷ more) b few = absurd (omega arith)
 
 none_at_one : (ss : List Stretch) (b : ℕ) → is_some (told_at ss 1) ≡ false → (adds_at ss 1 b ≡ 0) × (adds_at ss 2 b ≡ 0) × (adds_at ss 3 b ≡ 0)
 none_at_one [] b is = (refl, refl, refl)
@@ -84,15 +84,15 @@ module _ (ss : List Stretch) (few : length ss ≤ 4) (b : ℕ) where
   to_shifted n is = ap (λ k. k % 256) (cc (sum_is ss b few))
 
   pub one_moves : {x : ℕ} → x ≡ adds_at ss 0 b → is_some (told_at ss 1) ≡ false → (b + x) % 256 ≡ shifted ss b
-  one_moves {x} ex is = let none = none_at_one ss b is in to_shifted (b + x) (omega (arith, ex, none.0, none.1, none.2))
+  one_moves {x} ex is = let none = none_at_one ss b is in to_shifted (b + x) (omega arith)
 
   pub two_move : {x y : ℕ} → x ≡ adds_at ss 0 b → y ≡ adds_at ss 1 b → is_some (told_at ss 2) ≡ false → ((b + x) % 256 + y) % 256 ≡ shifted ss b
   two_move {x} {y} ex ey is =
       let none = none_at_two ss b is in
       let flat : ((b + x) % 256 + y) % 256 ≡ (b + (x + y)) % 256 = omega arith in
-      flat ∙ to_shifted (b + (x + y)) (omega (arith, ex, ey, none.0, none.1))
+      flat ∙ to_shifted (b + (x + y)) (omega arith)
 
   pub four_move : {x y z w : ℕ} → x ≡ adds_at ss 0 b → y ≡ adds_at ss 1 b → z ≡ adds_at ss 2 b → w ≡ adds_at ss 3 b → ((((b + x) % 256 + y) % 256 + z) % 256 + w) % 256 ≡ shifted ss b
   four_move {x} {y} {z} {w} ex ey ez ew =
       let flat : ((((b + x) % 256 + y) % 256 + z) % 256 + w) % 256 ≡ (b + (x + (y + (z + w)))) % 256 = omega arith in
-      flat ∙ to_shifted (b + (x + (y + (z + w)))) (omega (arith, ex, ey, ez, ew))
+      flat ∙ to_shifted (b + (x + (y + (z + w)))) (omega arith)

@@ -60,7 +60,7 @@ and_less (true ∷ bits) =
     let less : (x - 1) / 2 ≡ m = omega arith in
     let low : min (x % 2) ((x - 1) % 2) ≡ 0 = omega arith in
     let both : bit_and (x / 2) ((x - 1) / 2) ≡ m = cc (and_self m) in
-    omega (arith, and_step x (x - 1), both, low)
+    omega (arith, and_step x (x - 1))
 and_less (false ∷ bits) =
     let m = mask_l bits in
     let x = 0 + 2 * m in
@@ -68,7 +68,7 @@ and_less (false ∷ bits) =
     let less : (x - 1) / 2 ≡ m - 1 = omega arith in
     let low : min (x % 2) ((x - 1) % 2) ≡ 0 = omega arith in
     let both : bit_and (x / 2) ((x - 1) / 2) ≡ mask_l (clear_first bits) = cc (and_less bits) in
-    omega (arith, and_step x (x - 1), both, low)
+    omega (arith, and_step x (x - 1))
 
 -- the lowest bit that is set is cleared
 pub cleared : (n : ℕ) {x : ℕ} (bits : List Bool) → x < 2 ^ 64 → x ≡ mask_l (without n bits) → bit_and x ((x + (2 ^ 64 - 1)) % 2 ^ 64) ≡ mask_l (without (suc n) bits)
@@ -85,34 +85,34 @@ map_self [] = refl
 map_self (b ∷ bits) = ap (◌∷◌ b) (map_self bits)
 
 some_set : (bits : List Bool) → prefix_len not bits < length bits → 0 < mask_l bits
-some_set [] lt = absurd (omega (arith, lt))
+some_set [] lt = absurd (omega arith)
 some_set (true ∷ bits) lt = omega arith
-some_set (false ∷ bits) lt = let some = some_set bits (omega (arith, lt)) in omega (arith, some)
+some_set (false ∷ bits) lt = let some = some_set bits (omega arith) in omega arith
 
 lowest_set : (bits : List Bool) → length bits ≤ 64 → prefix_len not bits < length bits → count_trailing_zeros 64 (mask_l bits) ≡ prefix_len not bits
 lowest_set bits few some =
-    cc (map_self bits, trailing_mask_l (λ b. b) 64 bits few (subst (λ l. 0 < mask_l l) (sym (map_self bits)) (some_set bits some)))
+    cc (map_self bits, trailing_mask_l (λ b. b) 64 bits few (rw (map_self bits) (some_set bits some)))
 
 -- ---- the item behind so many that pass
 
 module _ {X : Type 0} (p : X → Bool) (d : X) where
   one_more : (x : X) (xs : List X) {t : Bool} {r : ℕ} (s n m : ℕ) → p x ≡ t → r ≡ suc s → n ≡ cond t 1 0 + m → IsBehind p d m xs s → IsBehind p d n (x ∷ xs) r
   one_more x xs s n m e next count h =
-      subst (IsBehind p d n (x ∷ xs)) (sym next) (omega (arith, h.0), h.1, cc (sum_by-cons (λ b. cond (p b) 1 0) x (take s xs)))
+      rw next (omega (arith, h.0), h.1, cc (sum_by-cons (λ b. cond (p b) 1 0) x (take s xs)))
 
   behind : (xs : List X) (n : ℕ) → n < count_by p xs → IsBehind p d n xs (prefix_len not (without n (map p xs)))
-  behind [] n lt = absurd (omega (arith, lt))
-  behind (x ∷ xs) n lt = by_test (λ m less. behind xs m less) (p x) refl n (omega (arith, lt, sum_by-cons (λ b. cond (p b) 1 0) x xs))
+  behind [] n lt = absurd (omega arith)
+  behind (x ∷ xs) n lt = by_test (λ m less. behind xs m less) (p x) refl n (omega (arith, sum_by-cons (λ b. cond (p b) 1 0) x xs))
     where
       by_test : ((m : ℕ) → m < count_by p xs → IsBehind p d m xs (prefix_len not (without m (map p xs)))) → (t : Bool) → p x ≡ t → (n : ℕ) → n < cond t 1 0 + count_by p xs
           → IsBehind p d n (x ∷ xs) (prefix_len not (without n (t ∷ map p xs)))
       by_test more true e zero lt = (omega arith, e, refl)
       by_test more true e (suc m) lt =
           let next : prefix_len not (without (suc m) (true ∷ map p xs)) ≡ suc (prefix_len not (without m (map p xs))) = ap (prefix_len not) (without_set m (map p xs)) ∙ omega arith in
-          one_more x xs (prefix_len not (without m (map p xs))) (suc m) m e next (omega arith) (more m (omega (arith, lt)))
+          one_more x xs (prefix_len not (without m (map p xs))) (suc m) m e next (omega arith) (more m (omega arith))
       by_test more false e n lt =
           let next : prefix_len not (without n (false ∷ map p xs)) ≡ suc (prefix_len not (without n (map p xs))) = ap (prefix_len not) (without_clear n (map p xs)) ∙ omega arith in
-          one_more x xs (prefix_len not (without n (map p xs))) n n e next (omega arith) (more n (omega (arith, lt)))
+          one_more x xs (prefix_len not (without n (map p xs))) n n e next (omega arith) (more n (omega arith))
 
 -- the lowest bit that is set once so many were cleared
 pub behind_set : (p : ℕ → Bool) (xs : List ℕ) (n : ℕ) {rest : ℕ} → length xs ≤ 64 → n < count_by p xs → rest ≡ mask_l (without n (map p xs)) → IsBehind p 0 n xs (count_trailing_zeros 64 rest)
@@ -137,7 +137,7 @@ module _ (p : ℕ → Bool) (bytes : List ℕ) where
 
   module _ (size at m k : ℕ) (room : at + size ≤ length bytes) (h : IsBehind p 0 m (chunk at size bytes) k) where
     pub near : k < size
-    near = omega (arith, h.0, length-chunk at size bytes room)
+    near = omega (arith, length-chunk at size bytes room)
 
     pub count_front : count_by p (take (at + k) bytes) ≡ count_by p (take at bytes) + m
     count_front =
@@ -165,14 +165,14 @@ module _ (p : ℕ → Bool) (bytes : List ℕ) where
       high = h.0;
       before = λ k low near passes.
           let here : p (get_or (take at bytes) k 0) ≡ true = cc (get_or-take at bytes k 0 near) in
-          let one : cond {A = ℕ} (p (get_or (take at bytes) k 0)) 1 0 ≡ 1 = ap (λ t. cond {A = ℕ} t 1 0) here in
-          omega (arith, h.2, one, get_or-le-sum_by (λ b. cond (p b) 1 0) (take at bytes) k 0 (omega (arith, near, h.0, length-take-le at bytes (omega (arith, h.0)))));
+          let one : cond {A = ℕ} (p (get_or (take at bytes) k 0)) 1 0 ≡ 1 = cc (here) in
+          omega (arith, one, get_or-le-sum_by (λ b. cond (p b) 1 0) (take at bytes) k 0 (omega (arith, near, h.0, length-take-le at bytes (omega (arith, h.0)))));
     },
     h.1,
   )
 
   pub some_counted : (xs : List ℕ) → 0 < mask_l (map p xs) → 0 < count_by p xs
-  some_counted [] lt = absurd (omega (arith, lt))
+  some_counted [] lt = absurd (omega arith)
   some_counted (x ∷ xs) lt = grind (arith, some_counted xs, sum_by-cons (λ b. cond (p b) 1 0) x xs)
 
   -- the first place that the mask of the first of these bytes gives
@@ -181,15 +181,15 @@ module _ (p : ℕ → Bool) (bytes : List ℕ) where
     in_front : IsBehind p 0 0 (chunk 0 size bytes) k
     in_front =
         let v = chunk 0 size bytes in
-        found p v (omega (arith, few, length-chunk 0 size bytes (omega arith))) is (some_counted v (rw (← is) (omega (arith, some))))
+        found p v (omega (arith, length-chunk 0 size bytes (omega arith))) is (some_counted v (rw (← is) (omega arith)))
 
     pub first_front : (to : ℕ) → k < to → to ≤ length bytes → IsBehind p 0 0 (take to bytes) k
     first_front to lt le =
         let same : 0 + k ≡ k = omega arith in
-        rw (← same) (behind_front size 0 0 k (omega arith) in_front (omega (arith, lt)) le)
+        rw (← same) (behind_front size 0 0 k (omega arith) in_front (omega arith) le)
 
     pub none_front : {to : ℕ} → to ≤ k → count_by p (take to bytes) < 1
-    none_front {to} le = omega (arith, count_front size 0 0 k (omega arith) in_front, count_up_to to (0 + k) (omega (arith, le)))
+    none_front {to} le = omega (arith, count_front size 0 0 k (omega arith) in_front, count_up_to to (0 + k) (omega arith))
 
     pub first_of_all : NoneBefore (Passes p bytes) 0 (length bytes) k × Passes p bytes k
     first_of_all =
@@ -212,21 +212,21 @@ module _ (d : ℕ) (line : List ℕ) where
     one = omega arith
 
     long : length xs ≡ at
-    long = length-take-le at line (omega (arith, h.0))
+    long = length-take-le at line (omega arith)
 
     here : drop at line ≡ d ∷ ys
     here = cc (drop_more line at 0 h.0, eqb-true (get_or line at 0) d h.1)
 
     number : length (fields d xs) ≡ n + 1
-    number = omega (arith, length-slice_split (is_byte d) xs, h.2)
+    number = omega (arith, length-slice_split (is_byte d) xs)
 
     split : fields d line ≡ fields d xs ++ fields d ys
     split = cc (take-append-drop at line, here, fields-append d xs ys)
 
     pub starts_behind : StartsAt d (n + 1) line (at + 1)
     starts_behind = record {
-      fits = omega (arith, h.0);
-      count = omega (arith, h.2, count_by-le-length (is_byte d) xs, long);
+      fits = omega arith;
+      count = omega (arith, count_by-le-length (is_byte d) xs, long);
       front = cc (one, led_fields d xs, split, take_at (fields d xs) (fields d ys) (n + 1) number);
       behind = cc (one, here);
       later = cc (split, drop_at (fields d xs) (fields d ys) (n + 1) number);
@@ -311,10 +311,10 @@ module _ {d : ℕ} {block : List ℕ} {from all marked : ℕ} (n start : ℕ) (h
   bit = count_trailing_zeros 64 marked
 
   room : from + 64 ≤ length block
-  room = omega (arith, h.within)
+  room = omega arith
 
   stands : IsBehind p 0 n v bit
-  stands = behind_set p v n (omega (arith, length-chunk from 64 block room)) (omega (arith, some, ap count_ones h.is, ones-mask_l p v)) bits
+  stands = behind_set p v n (omega (arith, length-chunk from 64 block room)) (omega (arith, ap count_ones h.is, ones-mask_l p v)) bits
 
   close : bit < 64
   close = near p block 64 from n bit room stands

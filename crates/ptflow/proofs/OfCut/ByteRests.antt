@@ -53,7 +53,7 @@ module _ (end : ℕ) (selected : ℕ → Bool) where
   -- a piece of a line
   pub rest_piece : (before : ℕ) (piece rest : List ℕ) → IsLine end piece → cut_rest end selected before (piece ++ rest)
       ≡ chosen_from selected (before + 1) piece ++ cut_rest end selected (before + length piece) rest
-  rest_piece before [] rest whole = let same : before + 0 ≡ before = omega arith in ap (λ n. cut_rest end selected n rest) (sym same)
+  rest_piece before [] rest whole = let same : before + 0 ≡ before = omega arith in cc
   rest_piece before (b ∷ piece) rest whole =
       let same : before + 1 + length piece ≡ before + length (b ∷ piece) = omega arith in
       let first : cut_rest end selected before ((b ∷ piece) ++ rest) ≡ chosen_from selected (before + 1) (b ∷ []) ++ cut_rest end selected (before + 1) (piece ++ rest) =
@@ -78,8 +78,8 @@ empty_lines end selected (b ∷ ends) more all = by_test (is_byte end b) refl al
         → (mask_l (map (is_byte end) ends) + 1 ≡ 2 ^ length ends → cut_rest end selected 0 (ends ++ more) ≡ ends ++ cut_rest end selected 0 more)
         → cut_rest end selected 0 (b ∷ ends ++ more) ≡ b ∷ ends ++ cut_rest end selected 0 more
     by_test true is every next =
-        cc (eqb-true b end is, rest_line end selected 0 [] (ends ++ more) tt, next (omega (arith, every, pow-succ' 2 (length ends))))
-    by_test false is every next = absurd (omega (arith, every, pow-succ' 2 (length ends)))
+        cc (eqb-true b end is, rest_line end selected 0 [] (ends ++ more) tt, next (omega (arith, pow-succ' 2 (length ends))))
+    by_test false is every next = absurd (omega (arith, pow-succ' 2 (length ends)))
 
 -- 64 of them that stand at a place of a block, where no byte of a line came earlier
 pub ends_on : (end : ℕ) (selected : ℕ → Bool) (block : List ℕ) {from start now marked : ℕ} → from + 64 ≤ length block → start ≡ from → now ≡ 0 → marked
@@ -88,7 +88,7 @@ pub ends_on : (end : ℕ) (selected : ℕ → Bool) (block : List ℕ) {from sta
 ends_on end selected block {start} room here none is all more =
     let ends = chunk start 64 block in
     let left = drop (start + 64) block ++ more in
-    let long : length ends ≡ 64 = length-chunk start 64 block (omega (arith, room, here)) in
+    let long : length ends ≡ 64 = length-chunk start 64 block (omega arith) in
     let every : mask_l (map (is_byte end) ends) + 1 ≡ 2 ^ length ends = omega (arith, ap (λ (k : ℕ). mask_l (map (is_byte end) (chunk k 64 block))) here, is, all, ap (λ (k : ℕ). 2 ^ k) long) in
     cc (chunk-drop start 64 block, append_assoc ends (drop (start + 64) block) more, empty_lines end selected ends left every)
 

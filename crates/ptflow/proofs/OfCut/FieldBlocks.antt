@@ -78,7 +78,7 @@ module _ (job : Cut) (by_fields : job.fields ≡ true) {end : ℕ} (same : end �
   -- one line, of which these bytes are written
   pub puts_line : (out : List ℕ) {old new : List ℕ} → cut_line job (take to bytes) ≡ out ∷ [] → new ≡ old ++ (out ++ take 1 (drop to bytes)) → PutsLines job end bytes (to + 1) old new
   puts_line out {old} is put =
-      puts (omega arith) (omega (arith, first.0.high)) (take to bytes ∷ [])
+      puts (omega arith) (omega arith) (take to bytes ∷ [])
       (append-nil (take to bytes ++ end ∷ []) ∙ sym (take_end end bytes to first)) (ended_next end bytes to first)
       (cc (drop_end end bytes to first, line_written job (take to bytes) out is))
 
@@ -90,8 +90,8 @@ module _ (job : Cut) (by_fields : job.fields ≡ true) {end : ℕ} (same : end �
 
     is_ended : take size bytes ≡ take (size - 1) bytes ++ end ∷ []
     is_ended =
-        let whole : size - 1 + 1 ≡ size = omega (arith, high) in
-        cc (take_more bytes (size - 1) 0 (omega (arith, high, fits)))
+        let whole : size - 1 + 1 ≡ size = omega arith in
+        cc (take_more bytes (size - 1) 0 (omega arith))
 
     texts : text end front ≡ take size bytes
     texts = cc (is_ended, text_of_ended end (take (size - 1) bytes))
@@ -112,12 +112,12 @@ module _ (job : Cut) (by_fields : job.fields ≡ true) {end : ℕ} (same : end �
 
     pub puts_kept : {old new : List ℕ} → job.only ≡ false → new ≡ old ++ take size bytes → PutsLines job end bytes size old new
     puts_kept {old} keeps put =
-        puts (omega (arith, high)) fits front texts lines_are
+        puts (omega arith) fits front texts lines_are
         (cc (texts, lines_kept job by_fields keeps front (are_free near)))
 
     pub puts_dropped : {old : List ℕ} → job.only ≡ true → PutsLines job end bytes size old old
     puts_dropped {old} only =
-        puts (omega (arith, high)) fits front texts lines_are
+        puts (omega arith) fits front texts lines_are
         (sym (cc (lines_dropped job by_fields only front (are_free near), append-nil old)))
 
 -- in front of the first delimiter there is none
@@ -128,12 +128,12 @@ free_before d bytes (Some at) first = before_end d bytes at first
 -- the first delimiter of some bytes is the first one of the line in front that it stands in
 pub first_within : (d : ℕ) (bytes : List ℕ) (r : Option ℕ) (to : ℕ) → IsFirstByte (is_byte d) bytes r → unwrap_or r (length bytes) < to → to ≤ length bytes
     → IsFirstByte (is_byte d) (take to bytes) (Some (unwrap_or r (length bytes)))
-first_within d bytes None to none lt le = absurd (omega (arith, lt, le))
+first_within d bytes None to none lt le = absurd (omega arith)
 first_within d bytes (Some at) to first lt le = (
   record {
     low = omega arith;
-    high = omega (arith, lt, length-take-le to bytes le);
-    before = λ k low high is. first.0.before k low high (cc (get_or-take to bytes k 0 (omega (arith, high, lt))));
+    high = omega (arith, length-take-le to bytes le);
+    before = λ k low high is. first.0.before k low high (cc (get_or-take to bytes k 0 (omega arith)));
   },
   cc (get_or-take to bytes at 0 lt),
 )

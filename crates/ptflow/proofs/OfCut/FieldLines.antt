@@ -60,7 +60,7 @@ module _ (job : Cut) where
     text = λ store bytes. refl;
     decided = λ store given passed now on. cut_sure (whole_lines job.end given) passed (on []);
     size = λ bytes. omega arith;
-    slots = ap (λ b. cond b 1 0) by_fields;
+    slots = cc;
     ends = refl;
     some = omega arith;
   }

@@ -21,7 +21,7 @@ module _ (d : ℕ) where
       by_test : (t : Bool) (fs : List (List ℕ)) → 0 < length fs → fields d (xs ++ d ∷ ys) ≡ fs ++ fields d ys
           → cond t ([] ∷ fields d (xs ++ d ∷ ys)) (onto_first x (fields d (xs ++ d ∷ ys))) ≡ cond t ([] ∷ fs) (onto_first x fs) ++ fields d ys
       by_test true fs some more = ap (◌∷◌ []) more
-      by_test false [] some more = absurd (omega (arith, some))
+      by_test false [] some more = absurd (omega arith)
       by_test false (f ∷ fs) some more = ap (onto_first x) more
 
   pub led-append : (fs gs : List (List ℕ)) → led d (fs ++ gs) ≡ led d fs ++ led d gs
@@ -35,13 +35,13 @@ module _ (d : ℕ) where
       by_test : (t : Bool) → (x == d) ≡ t → (fs : List (List ℕ)) → led d fs ≡ d ∷ xs → led d (cond t ([] ∷ fs) (onto_first x fs)) ≡ d ∷ x ∷ xs
       by_test true same fs more = ap (◌∷◌ d) (cc (eqb-true x d same))
       by_test false other [] more = cc
-      by_test false other (f ∷ fs) more = ap (λ l. d ∷ x ∷ l) (ap (drop 1) more)
+      by_test false other (f ∷ fs) more = cc
 
   -- fields joined by the delimiter are the same with a delimiter in front of each but the first
   pub join_led : (fs : List (List ℕ)) → join_with_byte d fs ≡ drop 1 (led d fs)
   join_led [] = refl
   join_led (f ∷ []) = sym (append-nil f)
-  join_led (f ∷ g ∷ fs) = ap (λ l. f ++ d ∷ l) (join_led (g ∷ fs))
+  join_led (f ∷ g ∷ fs) = cc (join_led (g ∷ fs))
 
   -- ---- where a field starts
 
@@ -52,8 +52,8 @@ module _ (d : ℕ) where
   module _ {m n a p : ℕ} {line : List ℕ} (s : StartsAt d m line a) (t : StartsAt d n (drop a line) p) where
     pub starts_more : StartsAt d (m + n) line (a + p)
     starts_more = record {
-      fits = omega (arith, t.fits, length-drop a line, s.fits);
-      count = omega (arith, s.count, t.count);
+      fits = omega (arith, length-drop a line);
+      count = omega arith;
       front =
           cc (take-add a p (d ∷ line), led-append (take m (fields d line)) (take n (drop m (fields d line))), take-add m n (fields d line));
       behind = cc (drop-drop p a (d ∷ line), drop-drop p a line);
@@ -62,11 +62,11 @@ module _ (d : ℕ) where
 
   -- few fields are left behind a start
   pub few_left : {m n a : ℕ} {line : List ℕ} → StartsAt d m line a → length (fields d (drop a line)) ≤ n → length (fields d line) ≤ m + n
-  few_left {m} {line} s few = omega (arith, few, ap length s.later, length-drop m (fields d line))
+  few_left {m} {line} s few = omega (arith, ap length s.later, length-drop m (fields d line))
 
   -- no field is passed over
   pub starts_at_zero : {line : List ℕ} {at : ℕ} → StartsAt d 0 line at → at ≡ 0
-  starts_at_zero {line} {at} s = omega (arith, ap length s.front, length-take-le at (d ∷ line) (omega (arith, s.fits)), s.fits)
+  starts_at_zero {line} {at} s = omega (arith, ap length s.front, length-take-le at (d ∷ line) (omega (arith, s.fits)))
 
   -- the place is still the line's start, or behind its first delimiter
   pub start_kept : (few : Type 0) (line : List ℕ) (o : Option ℕ) (from first count : ℕ) → (from ≤ first → from ≡ 0) → ((count ≡ 0) ⊎ (first < from)) → MatchOption o few (StartsAt d count line)
@@ -74,8 +74,8 @@ module _ (d : ℕ) where
   start_kept few line None from first count start how found = tt
   start_kept few line (Some passed) from first count start (inl none) found = λ le.
       let zero : passed ≡ 0 = starts_at_zero (rw none at found) in
-      omega (arith, zero, start (omega (arith, zero, le)))
-  start_kept few line (Some passed) from first count start (inr past) found = λ le. absurd (omega (arith, past, le))
+      omega (arith, start (omega (arith, zero, le)))
+  start_kept few line (Some passed) from first count start (inr past) found = λ le. absurd (omega arith)
 
 -- what stands in a line from a place on
 pub rest_of : (from to : ℕ) (bytes : List ℕ) → from ≤ to → drop from (take to bytes) ≡ take (to - from) (drop from bytes)

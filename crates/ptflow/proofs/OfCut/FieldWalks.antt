@@ -30,15 +30,15 @@ pub record Walking (d : ℕ) (others : List Interval) (line : List ℕ) (number 
 
 -- a step ends within the line, and so does a second one behind it
 pub step_fits : {d n number at lead skipped : ℕ} {others : List Interval} {line : List ℕ} → Walking d others line number at lead → StartsAt d n (drop at line) skipped → at + skipped ≤ length line
-step_fits {at} {line} w s = omega (arith, s.fits, length-drop at line, w.fits)
+step_fits {at} {line} w s = omega (arith, length-drop at line)
 
 pub slice_fits : {d n m number at lead skipped passed : ℕ} {others : List Interval} {line : List ℕ} → Walking d others line number at lead → StartsAt d n (drop at line) skipped
     → StartsAt d m (drop (at + skipped) line) passed → at + skipped + passed ≤ length line
-slice_fits {at} {skipped} {line} w s p = omega (arith, step_fits w s, p.fits, length-drop (at + skipped) line)
+slice_fits {at} {skipped} {line} w s p = omega (arith, step_fits w s, length-drop (at + skipped) line)
 
 -- the selected fields of a line are to come
 pub all_coming : (d : ℕ) (all : List Interval) (line tail : List ℕ) → join_with_byte d (chosen (is_selected all) 1 (fields d line)) ++ tail ≡ coming d all line tail 1 0 0
-all_coming d all line tail = ap (λ l. l ++ tail) (join_led d (chosen (is_selected all) 1 (fields d line)))
+all_coming d all line tail = cc (join_led d (chosen (is_selected all) 1 (fields d line)))
 
 pub walking_starts : {d : ℕ} {all : List Interval} {line : List ℕ} → AreApart 0 all → Walking d all line 1 0 0
 walking_starts apart = record {
@@ -89,13 +89,13 @@ module _ {d : ℕ} (all : List Interval) {line : List ℕ} (tail : List ℕ) (i 
     apart = rw these at w.apart
 
     pub not_past : number + lead ≤ r.first
-    not_past = omega (arith, w.low_is, apart.0)
+    not_past = omega (arith, apart.0)
 
     -- the line ends in front of the interval
     pub walking_short : length here ≤ skip → to_come ≡ tail
     walking_short few =
         let far : AreApart (r.first - 1) (r ∷ rs) = (omega (arith, apart.0), apart.1, apart.2) in
-        cc (these, only_tail (chosen_none (is_selected (r ∷ rs)) number here (λ m low high. not_selected (r ∷ rs) (r.first - 1) m far (omega (arith, few, not_past)))))
+        cc (these, only_tail (chosen_none (is_selected (r ∷ rs)) number here (λ m low high. not_selected (r ∷ rs) (r.first - 1) m far (omega (arith, not_past)))))
 
     module _ {skipped : ℕ} (s : StartsAt d skip (drop at line) skipped) where
       abbrev from : ℕ
@@ -105,7 +105,7 @@ module _ {d : ℕ} (all : List Interval) {line : List ℕ} (tail : List ℕ) (i 
       rest = drop from line
 
       from_fits : from ≤ length line
-      from_fits = omega (arith, s.fits, length-drop at line, w.fits)
+      from_fits = omega (arith, length-drop at line)
 
       -- where the interval starts, with the delimiter in front of it or without
       pub lead_drop : drop (from - lead) line ≡ drop (1 - lead) (d ∷ rest)
@@ -117,10 +117,10 @@ module _ {d : ℕ} (all : List Interval) {line : List ℕ} (tail : List ℕ) (i 
           by_lead : (n : ℕ) → n ≡ lead → drop (from - n) line ≡ drop (1 - n) (d ∷ rest)
           by_lead zero is = let same : from - 0 ≡ from = omega arith in rw same refl
           by_lead (suc zero) is =
-              let some : skipped ≡ suc (skipped - 1) = omega (arith, is, s.count, not_past) in
+              let some : skipped ≡ suc (skipped - 1) = omega (arith, not_past) in
               let same : from - 1 ≡ at + (skipped - 1) = omega (arith, some) in
               rw same (at_delimiter (skipped - 1) some)
-          by_lead (suc (suc n)) is = absurd (omega (arith, is, w.begun))
+          by_lead (suc (suc n)) is = absurd (omega arith)
 
       -- the fields in the interval, and what the others select
       here_is : chosen (is_selected (r ∷ rs)) number here ≡ take size (fields d rest) ++ chosen (is_selected rs) number here
@@ -136,12 +136,12 @@ module _ {d : ℕ} (all : List Interval) {line : List ℕ} (tail : List ℕ) (i 
         next = from + passed
 
         some : 1 ≤ passed
-        some = omega (arith, p.count)
+        some = omega arith
 
         slice_is : take ((next - 1) - (from - lead)) (drop (from - lead) line) ≡ laid d lead (take size (fields d rest))
         slice_is =
-            let many : (next - 1) - (from - lead) ≡ (passed - 1) + lead = omega (arith, some, w.passed) in
-            let all_of : (1 - lead) + ((passed - 1) + lead) ≡ passed = omega (arith, some, w.begun) in
+            let many : (next - 1) - (from - lead) ≡ (passed - 1) + lead = omega (arith, some) in
+            let all_of : (1 - lead) + ((passed - 1) + lead) ≡ passed = omega (arith, some) in
             cc (lead_drop, drop-take (1 - lead) ((passed - 1) + lead) (d ∷ rest))
 
         others : chosen (is_selected rs) number here ≡ chosen (is_selected rs) (r.last + 1) (fields d (drop next line))
@@ -154,7 +154,7 @@ module _ {d : ℕ} (all : List Interval) {line : List ℕ} (tail : List ℕ) (i 
         next_is : to_come ≡ laid d lead (take size (fields d rest)) ++ (laid d 1 (chosen (is_selected rs) (r.last + 1) (fields d (drop next line))) ++ tail)
         next_is =
             let more = chosen (is_selected rs) (r.last + 1) (fields d (drop next line)) in
-            let long : 1 - lead ≤ length (led d (take size (fields d rest))) = omega (arith, some, ap length (sym p.front), length-take-le passed (d ∷ rest) (omega (arith, p.fits))) in
+            let long : 1 - lead ≤ length (led d (take size (fields d rest))) = omega (arith, some, ap length (sym p.front), length-take-le passed (d ∷ rest) (omega arith)) in
             cc (these, here_is, others, led-append d (take size (fields d rest)) more, drop-append-le (1 - lead) (led d (take size (fields d rest))) (led d more) long, append_assoc (laid d lead (take size (fields d rest))) (led d more) tail)
 
         -- the slice, and what comes behind it
@@ -163,10 +163,10 @@ module _ {d : ℕ} (all : List Interval) {line : List ℕ} (tail : List ℕ) (i 
 
         pub walking_more : Walking d rs line (r.last + 1) next 1
         walking_more = record {
-          fits = omega (arith, p.fits, length-drop from line, from_fits);
+          fits = omega (arith, length-drop from line, from_fits);
           begun = omega arith;
           passed = omega (arith, some);
-          count = omega (arith, w.count, s.count, p.count, apart.1);
+          count = omega (arith, apart.1);
           low = r.last + 1;
           apart = apart.2;
           low_is = refl;

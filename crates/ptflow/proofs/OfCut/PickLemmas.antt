@@ -31,7 +31,7 @@ length-take-le' (suc n) (x ∷ xs) = omega (arith, length-take-le' n xs)
 
 module _ (selected : ℕ → Bool) where
   pub chosen_append : {X : Type 0} (n : ℕ) (xs ys : List X) → chosen_from selected n (xs ++ ys) ≡ chosen_from selected n xs ++ chosen_from selected (n + length xs) ys
-  chosen_append n [] ys = let same : n ≡ n + 0 = omega arith in ap (λ k. chosen_from selected k ys) same
+  chosen_append n [] ys = let same : n ≡ n + 0 = omega arith in cc
   chosen_append {X} n (x ∷ xs) ys = grind (arith, chosen_append (n + 1) xs ys)
 
   map_chosen : (f : ℕ → ℕ) (n : ℕ) (xs : List ℕ) → map f (chosen_from selected n xs) ≡ chosen_from selected n (map f xs)
@@ -76,11 +76,11 @@ module _ (selected : ℕ → Bool) where
       → after ≡ set counts (place + 1) (count + one) → PickBegun (place + 1) (count + one) (set row count place) after
   pick_more {place} {count} {row} {counts} {after} {one} low begun told after_is = record {
     is = whole;
-    few = omega (arith, begun.few, small);
-    lanes = All-set (λ p. p < 16) row count place (omega (arith, low)) begun.lanes;
+    few = omega (arith, small);
+    lanes = All-set (λ p. p < 16) row count place (omega arith) begun.lanes;
     long = cc (length-set row count place);
     all_counts = cc (length-set counts (place + 1) (count + one));
-    places = cc (is, written_more (selected (place + 1)) row count place (omega (arith, begun.few, begun.long, low)), one_place place);
+    places = cc (is, written_more (selected (place + 1)) row count place (omega arith), one_place place);
     counted = λ k upto. by_cases k (cases_order k (place + 1)) upto;
   }
     where
@@ -100,14 +100,14 @@ module _ (selected : ℕ → Bool) where
       small = omega (arith, is, one_few (selected (place + 1)))
 
       whole : count + one ≡ length (picked selected (place + 1))
-      whole = omega (arith, begun.is, is, ap length (one_place place), length-append (picked selected place) (cond (selected (place + 1)) (place ∷ []) []), one_long (selected (place + 1)))
+      whole = omega (arith, is, ap length (one_place place), length-append (picked selected place) (cond (selected (place + 1)) (place ∷ []) []), one_long (selected (place + 1)))
 
       by_cases : (k : ℕ) → (k ≡ place + 1) ⊎ ((k < place + 1) ⊎ (place + 1 < k)) → k ≤ place + 1 → get_or after k 0 ≡ length (picked selected k)
       by_cases k (inl same) upto =
-          cc (get_or-set_same counts (place + 1) (count + one) 0 (omega (arith, begun.all_counts, low)), whole)
+          cc (get_or-set_same counts (place + 1) (count + one) 0 (omega arith), whole)
       by_cases k (inr (inl less)) upto =
-          cc (get_or-set_other counts (place + 1) k (count + one) 0 (λ e. omega (arith, e, less)), begun.counted k (omega (arith, less)))
-      by_cases k (inr (inr more)) upto = absurd (omega (arith, more, upto))
+          cc (get_or-set_other counts (place + 1) k (count + one) 0 (λ e. omega arith), begun.counted k (omega arith))
+      by_cases k (inr (inr more)) upto = absurd (omega arith)
 
   pub pick_whole : {count : ℕ} (most : ℕ) {row counts : List ℕ} → PickBegun 16 count row counts → ((place : ℕ) → 16 < place → place ≤ most → selected place ≡ false)
       → IsPick selected (record { row = row; counts = counts; most = most })
@@ -123,20 +123,20 @@ module _ (selected : ℕ → Bool) where
 
   pub few_enough : {X : Type 0} {most count : ℕ} (xs : List X) → ((place : ℕ) → 16 < place → place ≤ most → selected place ≡ false) → count ≤ most → count ≤ length xs
       → chosen_from selected 1 (take (min count 16) xs) ≡ chosen_from selected 1 (take count xs)
-  few_enough {X} {count} xs past upto within = ⊎_elim (λ e. near (omega (arith, e))) (⊎_elim (λ low. near (omega (arith, low))) far) (cases_order count 16)
+  few_enough {X} {count} xs past upto within = ⊎_elim (λ e. near (omega arith)) (⊎_elim (λ low. near (omega arith)) far) (cases_order count 16)
     where
       near : count ≤ 16 → chosen_from selected 1 (take (min count 16) xs) ≡ chosen_from selected 1 (take count xs)
-      near low = let least : min count 16 ≡ count = omega arith in ap (λ k. chosen_from selected 1 (take k xs)) least
+      near low = let least : min count 16 ≡ count = omega arith in cc
 
       far : 16 < count → chosen_from selected 1 (take (min count 16) xs) ≡ chosen_from selected 1 (take count xs)
       far high =
           let least : min count 16 ≡ 16 = omega arith in
           let whole : 16 + (count - 16) ≡ count = omega arith in
           let others = take (count - 16) (drop 16 xs) in
-          let front : length (take 16 xs) ≡ 16 = length-take-le 16 xs (omega (arith, high, within)) in
+          let front : length (take 16 xs) ≡ 16 = length-take-le 16 xs (omega arith) in
           let long : length others ≤ count - 16 = length-take-le' (count - 16) (drop 16 xs) in
           let none : chosen_from selected (1 + length (take 16 xs)) others ≡ [] =
-          chosen_none selected (1 + length (take 16 xs)) others (λ k low upper. past k (omega (arith, low, front)) (omega (arith, upper, front, long, whole, upto))) in
+          chosen_none selected (1 + length (take 16 xs)) others (λ k low upper. past k (omega arith) (omega (arith, long, whole))) in
           cc (append-nil (chosen_from selected 1 (take 16 xs)), chosen_append 1 (take 16 xs) others, take-add 16 (count - 16) xs, whole)
 
   -- ---- the bytes of a line that the row puts in front
@@ -144,7 +144,7 @@ module _ (selected : ℕ → Bool) where
   module _ {pick : Pick} (is : IsPick selected pick) where
     front_places : {count : ℕ} → count ≤ 16 → take (length (picked selected count)) pick.row ≡ picked selected count
     front_places {count} short =
-        let all : count + (16 - count) ≡ 16 = omega (arith, short) in
+        let all : count + (16 - count) ≡ 16 = omega arith in
         let parts = ap (picked selected) (sym all) ∙ picked_parts count (16 - count) in
         let later = chosen_from selected (1 + count) (range_with_len count (16 - count)) in
         let few : length (picked selected count) ≤ length (picked selected 16) = omega (arith, ap length parts, length-append (picked selected count) later) in
@@ -183,6 +183,6 @@ line_put list {count} end bytes was into none within room put =
     let x = get_or bytes count 0 in
     let selected = is_selected list in
     let front = take count bytes in
-    let long : length front ≡ count = length-take-le count bytes (omega (arith, within)) in
+    let long : length front ≡ count = length-take-le count bytes (omega arith) in
     let more : take (count + 1) bytes ≡ front ++ x ∷ [] = take_more bytes count 0 within in
     cc (take_more_set into end x room, append_assoc was (chosen_from selected 1 front) (x ∷ []), take_at front (x ∷ []) count long, drop_at front (x ∷ []) count long)

@@ -23,7 +23,7 @@ use Rattle.ptflow.proofs.OfPasses.PassLemmas.{Midway, Works, Stored, stored_noth
 module _ {reader shown : Reader} {block : List ℕ} (goes : Goes reader shown []) (held : shown.held ≡ block) (sound : IsSound reader) {counted : ℕ}
     (few : counted ≤ reader.pulled - length reader.held) where
   pub counted_block : counted + length block ≤ shown.pulled
-  counted_block = omega (arith, few, sound.count, goes.reads.count, ap length held)
+  counted_block = omega (arith, ap length held)
 
   pub counted_more : {new : Reader} {more : ℕ} → new ≡ record shown { held = drop (length block) shown.held } → more ≤ counted + length block → more ≤ new.pulled - length new.held
   counted_more consumed least =
@@ -61,8 +61,8 @@ module _ {X : Type 0} {tool : Tool} {rest_from : X → List ℕ → List ℕ} {H
     before = λ u. record {
       earlier = record { bytes = m.given; ended = false };
       last = new.held;
-      split = ap (λ l. l ++ new.held) (append-nil m.given);
-      short = omega (arith, is_sound.held);
+      split = cc (append-nil m.given);
+      short = omega arith;
       ended = λ never. absurd (false≢true never);
     };
     begins = b.decided m.given m.pushed now holds all;

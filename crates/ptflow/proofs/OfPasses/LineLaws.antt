@@ -69,13 +69,13 @@ longest_piece end piece rest free = omega (arith, first_piece end piece rest fre
 module _ (end : ℕ) (bytes : List ℕ) (at : ℕ) (first : IsFirstByte (is_byte end) bytes (Some at)) where
   pub line_of : take at (take (at + 1) bytes) ≡ take at bytes
   line_of =
-      let long : length (take at bytes) ≡ at = length-take-le at bytes (omega (arith, first.0.high)) in
-      cc (take_end end bytes at first, take-append-le at (take at bytes) (end ∷ []) (omega (arith, long)), take_all at (take at bytes) (omega (arith, long)))
+      let long : length (take at bytes) ≡ at = length-take-le at bytes (omega arith) in
+      cc (take_end end bytes at first, take-append-le at (take at bytes) (end ∷ []) (omega arith), take_all at (take at bytes) (omega arith))
 
   pub end_of : drop at (take (at + 1) bytes) ≡ end ∷ []
   end_of =
-      let long : length (take at bytes) ≡ at = length-take-le at bytes (omega (arith, first.0.high)) in
-      cc (take_end end bytes at first, drop-append-le at (take at bytes) (end ∷ []) (omega (arith, long)), drop_all at (take at bytes) (omega (arith, long)))
+      let long : length (take at bytes) ≡ at = length-take-le at bytes (omega arith) in
+      cc (take_end end bytes at first, drop-append-le at (take at bytes) (end ∷ []) (omega arith), drop_all at (take at bytes) (omega arith))
 
   pub split_of : bytes ≡ take at bytes ++ end ∷ drop (at + 1) bytes
   split_of = cc (take-append-drop at bytes, drop_end end bytes at first)

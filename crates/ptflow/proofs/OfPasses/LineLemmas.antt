@@ -42,7 +42,7 @@ pub record LineRun {S X E : Type 0} (state : S → Slots → X) (rest_from : X �
 pub came_line : {slots width : ℕ} {came : Bool} {old new : Reader} {before after : Slots} → slots ≡ width → came ≡ true → Fills old new before after (slots - 1) (Ok came)
     → GivesLine old new before after (width - 1)
 came_line {slots} {old} {new} {before} {after} same is fills =
-    rw same at (subst (λ b. Fills old new before after (slots - 1) (Ok b)) is fills)
+    rw same at (rw is at fills)
 
 module _ {S X E : Type 0} {tool : Tool} {state : S → Slots → X} {rest_from : X → List (List ℕ) → List E} {written : List E → List ℕ} {counted : X → ℕ} {end width : ℕ} {start : S}
     (t : IsLineTool tool state rest_from written counted end width start) where
@@ -80,7 +80,7 @@ module _ {S X E : Type 0} {tool : Tool} {state : S → Slots → X} {rest_from :
         → IsPass tool old old was was before store (Err Memory)
     run_unslotted {store} ends ready sound clean adds same denied =
         let nothing : Given = record { bytes = []; ended = false } in
-        pass_unslotted tool was ready sound clean (rw t.slots adds) same denied (omega (arith, t.slots, t.some)) (cc)
+        pass_unslotted tool was ready sound clean (rw t.slots adds) same denied (omega arith) (cc)
         (rw none_written at (t.decided store nothing [] (state start store) (λ more. refl)))
 
     module _ {now : X} {reader : Reader} {is : Output} {store : Slots} (r : Run old reader was is before store now) where
@@ -104,7 +104,7 @@ module _ {S X E : Type 0} {tool : Tool} {state : S → Slots → X} {rest_from :
 
       -- all that came is counted
       pub run_count : IsSound old → IsSound reader → counted now ≤ 2 ^ 63
-      run_count sound is_sound = omega (arith, r.count, lines_few _ _ _ _ r.came, r.reached.goes.reads.count, sound.count, is_sound.long r.reached.goes.fault, is_sound.count)
+      run_count sound is_sound = omega (arith, lines_few _ _ _ _ r.came, is_sound.long r.reached.goes.fault)
 
       -- some lines more came
       run_more : {new : Reader} {bytes : List ℕ} (ls : List (List ℕ)) → Goes reader new bytes → LinesCame end new (r.given ++ bytes) (r.ls ++ ls)
@@ -124,7 +124,7 @@ module _ {S X E : Type 0} {tool : Tool} {state : S → Slots → X} {rest_from :
         first = r.first;
         on = λ more.
             cc (append_assoc r.ls ls more, r.on (ls ++ more), c.on more, append_assoc r.passed c.passed (rest_from next more));
-        count = omega (arith, r.count, c.count, length-append r.ls ls);
+        count = omega (arith, length-append r.ls ls);
         keeps = keeps_more (longest (r.ls ++ ls)) keeps (omega (arith, longest-append r.ls ls));
       }
 
@@ -165,16 +165,16 @@ module _ {S X E : Type 0} {tool : Tool} {state : S → Slots → X} {rest_from :
           record { before = λ u. e.before; begins = decided_so e.before.earlier e.whole }
 
       works_piece : {new : Reader} {piece : List ℕ} → Reads reader new piece → IsLine end piece → IsSound new → Works tool (given_of (r.given ++ piece) new) (written r.passed)
-      works_piece {new} {piece} reads free is_sound = works_line reads piece new.held refl free (omega (arith, is_sound.held))
+      works_piece {new} {piece} reads free is_sound = works_line reads piece new.held refl free (omega arith)
 
       -- the slots hold no more than the longest line of each input that agrees
       stored : (after : Slots) (most : ℕ) (given : Given) → after.peak ≤ max before.peak (width * most) → Adds before after width → width ≤ length after.lines
           → ((input : List ℕ) → Agrees given input → most ≤ longest_line end input) → Stored tool before after given
       stored after most given peak adds room short = record {
-        peak = λ input a. omega (arith, t.size input, peak, mul-le-mul_left width (short input a));
+        peak = λ input a. omega (arith, t.size input, mul-le-mul_left width (short input a));
         adds = rw t.slots adds;
-        room = omega (arith, room, t.slots);
-        unused = λ none. absurd (omega (arith, none, t.slots, t.some));
+        room = omega arith;
+        unused = λ none. absurd (omega arith);
       }
 
       kept : {after : Slots} {most : ℕ} (given : Given) → Keeps width most before after → ((input : List ℕ) → Agrees given input → most ≤ longest_line end input) → Stored tool before after given
@@ -207,12 +207,12 @@ module _ {S X E : Type 0} {tool : Tool} {state : S → Slots → X} {rest_from :
           unfolding midway
           run_memory {after} told same =
               let k = keeps_last piece refl in
-              let denied : after.denied ≡ true = ap (λ s. s.denied) told in
-              let size : length after.lines ≡ length (with_line store (width - 1) piece).lines = ap (λ s. length s.lines) told in
+              let denied : after.denied ≡ true = cc in
+              let size : length after.lines ≡ length (with_line store (width - 1) piece).lines = cc in
               pass_memory (t.text r.first) midway ready sound reads
               (stored after (max (longest r.ls) (length piece)) (given_of (r.given ++ piece) new) (omega (arith, k.peak, ap (λ s. s.peak) told))
-              (record { least = omega (arith, size, k.adds.least); most = omega (arith, size, k.adds.most); all = λ allowed. absurd (false≢true (cc)) })
-              (omega (arith, size, k.adds.all k.denied)) short_piece) (works_piece reads free is_sound) same denied
+              (record { least = omega (arith, k.adds.least); most = omega (arith, k.adds.most); all = λ allowed. absurd (false≢true (cc)) })
+              (omega (arith, k.adds.all k.denied)) short_piece) (works_piece reads free is_sound) same denied
 
         -- a block could not be read
         pub run_no_block : {new : Reader} → Reads reader new [] → IsSound new → HasReadCause reader new → IsPass tool old new was is before store (Err (Read 0))
@@ -258,7 +258,7 @@ module _ {S X E : Type 0} {tool : Tool} {state : S → Slots → X} {rest_from :
     module _ {now : S} {reader : Reader} {is : Output} {store : Slots} (r : Run old reader was is before store (state now store)) where
       -- the slot has these bytes, and the state is as it was
       filled : {after : Slots} (bytes : List ℕ) → after ≡ with_line store (width - 1) bytes → line after (width - 1) ≡ bytes
-      filled bytes told = cc (get_or-set_same store.lines (width - 1) bytes [] (omega (arith, run_room r, t.some)))
+      filled bytes told = cc (get_or-set_same store.lines (width - 1) bytes [] (omega (arith, run_room r)))
 
       same_state : {after : Slots} (bytes : List ℕ) → after ≡ with_line store (width - 1) bytes → state now after ≡ state now store
       same_state bytes told = cc (t.stays now store bytes (run_room r))
@@ -290,7 +290,7 @@ module _ {S X E : Type 0} {tool : Tool} {state : S → Slots → X} {rest_from :
             (came_longest _ _ _ _ more))
             (works_line r e.goes.reads e.line (e.ending ++ new.held) (append_assoc e.line e.ending new.held) (rw ends at e.whole)
             (behind_line e is_sound)) e.goes.failed k.denied
-            (rw (same_state e.line e.stored) at (subst (λ l. Halt (state now after) (l ∷ []) is is') (filled e.line e.stored) h))
+            (rw (same_state e.line e.stored) at (rw (filled e.line e.stored) at h))
             (λ rest may.
             (lines end (new.held ++ rest), line_front _ _ _ _ r.came _ _ _ _ e ends (new.held ++ rest) (λ done. λ i. done.held i ++ may done.ended i)))
 

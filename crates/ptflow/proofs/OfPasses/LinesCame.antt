@@ -84,7 +84,7 @@ module _ (end : ℕ) (now : Reader) (given : List ℕ) (ls : List (List ℕ)) (k
     some_came : 0 < length (e.line ++ e.ending)
     some_came = elim e.ends [
       | inl ends ↦ omega (arith, ap length ends, length-append e.line e.ending)
-      | inr last ↦ omega (arith, last.1, length-append e.line e.ending)
+      | inr last ↦ omega (arith, length-append e.line e.ending)
     ]
 
     -- its bytes are a line, whatever may come behind them
@@ -142,8 +142,8 @@ line_take end (suc n) (b ∷ bytes) are = (are.0, line_take end n bytes are.1)
 -- behind a line stand its end and what is held
 pub behind_line : {now new : Reader} {before after : Slots} {slot : ℕ} (e : GivesLine now new before after slot) → IsSound new → length (e.ending ++ new.held) ≤ 8193
 behind_line {new} e sound = elim e.ends [
-  | inl ends ↦ omega (arith, sound.held, ap length ends, length-append e.ending new.held)
-  | inr last ↦ omega (arith, sound.held, ap length last.0, length-append e.ending new.held)
+  | inl ends ↦ omega (arith, ap length ends, length-append e.ending new.held)
+  | inr last ↦ omega (arith, ap length last.0, length-append e.ending new.held)
 ]
 
 module _ {end : ℕ} {now new : Reader} {given : List ℕ} {ls : List (List ℕ)} (k : LinesCame end now given ls) {piece : List ℕ} (reads : Reads now new piece) (line behind : List ℕ)
@@ -158,7 +158,7 @@ module _ {end : ℕ} {now new : Reader} {given : List ℕ} {ls : List (List ℕ)
           earlier = record { bytes = given ++ take n line; ended = false };
           last = drop n line ++ behind;
           split = cc (append_assoc given piece new.held, take-append-drop n line, append_assoc (take n line) (drop n line) behind, append_assoc given (take n line) (drop n line ++ behind));
-          short = omega (arith, short, length-append (drop n line) behind, length-drop n line);
+          short = omega (arith, length-append (drop n line) behind, length-drop n line);
           ended = λ never. absurd (false≢true never);
         };
         whole = cc (ended_of_text end ls (take n line) o.1 (line_take end n line whole));

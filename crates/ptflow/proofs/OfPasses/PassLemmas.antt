@@ -131,7 +131,7 @@ module _ (tool : Tool) {old : Reader} (was : Output) {before store : Slots} (rea
       earlier = record { bytes = []; ended = false };
       last = old.held;
       split = refl;
-      short = omega (arith, sound.held);
+      short = omega arith;
       ended = λ never. absurd (false≢true never);
     };
     begins = decided;
@@ -148,10 +148,10 @@ module _ (tool : Tool) {old : Reader} (was : Output) {before store : Slots} (rea
     sure = λ failed fine. absurd (false≢true (cc (never_failed ready (goes_nothing old ready.readable) sound)));
     keeps_up = λ fine. keeps_still _ _ _ _ _ (came_before decided) (wrote_nothing was) clean;
     whole = λ ok. cc;
-    peak = λ input a. omega (arith, same);
+    peak = λ input a. omega arith;
     slots = λ fine. adds;
     refused = λ fine few. record { same_reader = λ i. record old { ending = ends i }; same_output = refl };
-    unused = λ none. absurd (omega (arith, none, some));
+    unused = λ none. absurd (omega (arith, none));
     halted = λ fault. absurd (false≢true (cc (clean)));
   }
 
@@ -206,7 +206,7 @@ module _ {X : Type 0} {rest_from : X → List ℕ → List ℕ} {start : X} {too
     whole = whole;
     peak = stored.peak;
     slots = λ clean. stored.adds;
-    refused = λ clean few. absurd (omega (arith, few, stored.room));
+    refused = λ clean few. absurd (omega arith);
     unused = stored.unused;
     halted = λ fault. absurd (false≢true (cc (m.reached.wrote.stays fault)));
   }

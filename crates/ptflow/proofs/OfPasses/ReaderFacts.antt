@@ -21,8 +21,8 @@ goes_nothing r clean = record {
 pub done_gives_nothing : (now new : Reader) (bytes : List ℕ) → IsDone now → Reads now new bytes → (bytes ≡ []) × (new.held ≡ []) × (new.ended ≡ true)
 done_gives_nothing now new bytes done reads =
     let still = reads.still done.ended in
-    let none : length bytes + length new.held ≡ 0 = omega (arith, reads.count, still.0, ap length done.held) in
-    (nil_from_length bytes (omega (arith, none)), nil_from_length new.held (omega (arith, none)), still.1)
+    let none : length bytes + length new.held ≡ 0 = omega (arith, ap length done.held) in
+    (nil_from_length bytes (omega arith), nil_from_length new.held (omega arith), still.1)
 
 pub stays_done : (now new : Reader) (bytes : List ℕ) → IsDone now → Reads now new bytes → IsDone new
 stays_done now new bytes done reads =
@@ -42,7 +42,7 @@ pub goes_past : {now shown new : Reader} {block : List ℕ} (count : ℕ) → Go
     ≡ record shown { held = drop count shown.held } → Goes now new (take count block)
 goes_past {shown} {new} count goes held fits consumed =
     goes_trans _ _ _ _ _ goes
-    (rw (ap (take count) held) at (goes_front shown _ count goes.fault (omega (arith, fits, ap length held)) consumed))
+    (rw (ap (take count) held) at (goes_front shown _ count goes.fault (omega (arith, ap length held)) consumed))
 
 -- a block that is not empty was taken
 pub block_less : {now shown new : Reader} {block : List ℕ} → Goes now shown [] → shown.held ≡ block → length shown.held ≤ shown.pulled → (length block ≡ 0 → ⊥)

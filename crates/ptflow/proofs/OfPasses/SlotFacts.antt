@@ -27,7 +27,7 @@ front_total zero most ls short = omega arith
 front_total (suc width) most [] short = omega arith
 front_total (suc width) most (l ∷ ls) short =
     let more : suc width * most ≡ most + width * most = omega arith in
-    rw more (omega (arith, sum_by-cons length l (take width ls), short 0 (omega arith), front_total width most ls (λ k low. short (suc k) (omega (arith, low)))))
+    rw more (omega (arith, sum_by-cons length l (take width ls), short 0 (omega arith), front_total width most ls (λ k low. short (suc k) (omega arith))))
 
 -- the slots of lines that are so short hold so much
 pub kept_total : (width most : ℕ) (ls : List (List ℕ)) → ((k : ℕ) → k < width → length (get_or ls k []) ≤ most) → total (drop width ls) ≡ 0 → total ls ≤ width * most
@@ -37,8 +37,8 @@ pub keeps_starts : {width : ℕ} {before store : Slots} → Adds before store wi
 keeps_starts {width} {store} adds denied empty peak = record {
   denied = denied;
   adds = adds;
-  short = λ k low. omega (arith, empty, get_or-le-sum_by length store.lines k [] (omega (arith, low, adds.all denied)));
-  others = omega (arith, empty, total_split width store.lines);
+  short = λ k low. omega (arith, get_or-le-sum_by length store.lines k [] (omega (arith, low, adds.all denied)));
+  others = omega (arith, total_split width store.lines);
   peak = omega (arith, peak);
 }
 
@@ -48,7 +48,7 @@ keeps_more {width} more k high = record {
   adds = k.adds;
   short = λ i low. omega (arith, k.short i low);
   others = k.others;
-  peak = omega (arith, k.peak, mul-le-mul_left width high);
+  peak = omega (arith, mul-le-mul_left width high);
 }
 
 -- another line is in a slot
@@ -57,8 +57,8 @@ pub keeps_line : {width most : ℕ} {before store : Slots} (new : Slots) (slot :
 keeps_line {width} {most} {store} new slot bytes k within fits is = record {
   denied = cc;
   adds = record {
-    least = omega (arith, same_length, k.adds.least);
-    most = omega (arith, same_length, k.adds.most);
+    least = omega (arith, same_length);
+    most = omega (arith, same_length);
     all = λ allowed. same_length ∙ k.adds.all k.denied;
   };
   short = short;
@@ -99,12 +99,12 @@ keeps_swapped {width} {most} {before} {store} new some k either = ⊎_elim (λ s
     keeps_both : Keeps width most before (with_line (with_line store 0 last) (width - 1) first)
     keeps_both =
         keeps_line (with_line (with_line store 0 last) (width - 1) first) (width - 1) first
-        (keeps_line (with_line store 0 last) 0 last k some (k.short (width - 1) (omega (arith, some))) refl) (omega (arith, some)) (k.short 0 some) refl
+        (keeps_line (with_line store 0 last) 0 last k some (k.short (width - 1) (omega arith)) refl) (omega arith) (k.short 0 some) refl
 
     changed : new ≡ record store { lines = swap store.lines 0 (width - 1) } → Keeps width most before new
     changed is =
         let room : width ≤ length store.lines = omega (arith, k.adds.all k.denied) in
-        let swapped = swap_is store.lines 0 (width - 1) [] (omega (arith, room, some)) (omega (arith, room, some)) in
+        let swapped = swap_is store.lines 0 (width - 1) [] (omega arith) (omega arith) in
         let same : new.lines ≡ set (set store.lines 0 last) (width - 1) first = cc in
         record {
           denied = cc;
@@ -125,20 +125,20 @@ emptied {width} {most} {store} {new} k some last e = (
   record {
     denied = cc;
     adds = record {
-      least = omega (arith, e.size, k.adds.least);
-      most = omega (arith, e.size, k.adds.most);
+      least = omega arith;
+      most = omega arith;
       all = λ allowed. e.size ∙ k.adds.all k.denied;
     };
-    short = λ i low. omega (arith, none, get_or-le-sum_by length new.lines i [] (omega (arith, low, e.size, k.adds.all k.denied)));
+    short = λ i low. omega (arith, none, get_or-le-sum_by length new.lines i [] (omega (arith, k.adds.all k.denied)));
     others = omega (arith, none, total_split width new.lines);
-    peak = omega (arith, e.peak, k.peak, kept_total width most store.lines k.short k.others);
+    peak = omega (arith, kept_total width most store.lines k.short k.others);
   },
   none,
 )
   where
     none : total new.lines ≡ 0
     none =
-        let one : width - 1 + 1 ≡ width = omega (arith, some) in
-        let more = drop_more store.lines (width - 1) [] (omega (arith, some, k.adds.all k.denied)) in
+        let one : width - 1 + 1 ≡ width = omega arith in
+        let more = drop_more store.lines (width - 1) [] (omega (arith, k.adds.all k.denied)) in
         let behind = ap total more ∙ sum_by-cons length (get_or store.lines (width - 1) []) (drop (width - 1 + 1) store.lines) in
         omega (arith, e.left, behind, ap length last, ap (λ n. total (drop n store.lines)) one, k.others)

@@ -25,7 +25,7 @@ behind_apart squeezed last (b ∷ bytes) apart =
     same : (last == b) ≡ true → ((last == b) && squeezed b) ≡ false
     same e =
         let is : last ≡ b = eqb-true last b e in
-        rw e (cc (apart (squeeze_behind squeezed b bytes, ap (λ x. x ∷ squeeze_behind squeezed b bytes) (sym is))))
+        rw e (cc (apart (squeeze_behind squeezed b bytes, cc)))
 
     other : (last == b) ≡ false → ((last == b) && squeezed b) ≡ false
     other e = rw e refl
@@ -77,7 +77,7 @@ tr_behind_byte tables byte a b ends kept unsqueezed = tr_of_parts tables a b
 behind_same : (squeezed : ℕ → Bool) (last : ℕ) (bytes rest : List ℕ) → squeezed last ≡ true → squeeze squeezed bytes ≡ last ∷ rest → squeeze_behind squeezed last bytes ≡ rest
 behind_same squeezed last [] rest is begins = cc
 behind_same squeezed last (b ∷ bytes) rest is begins =
-    let same : b ≡ last = ap (λ l. get_or l 0 0) begins in
+    let same : b ≡ last = cc in
     cc (behind_one squeezed last b bytes, again same)
   where
     again : b ≡ last → ((last == b) && squeezed b) ≡ true

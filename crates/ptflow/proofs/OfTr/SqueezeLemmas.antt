@@ -61,7 +61,7 @@ module _ (squeezed : ℕ → Bool) where
   squeezing_starts last [] into some room is n = absurd (omega arith)
   squeezing_starts last (b ∷ from) into {again} {count} some room is n = record {
     is =
-        (let plus : count ≡ 0 + bool_byte (not again) = omega arith in ap (λ k. take k (set into 0 b) ++ squeeze_behind squeezed b from) plus)
+        (let plus : count ≡ 0 + bool_byte (not again) = omega arith in cc)
         ∙ one_more into (squeeze_behind squeezed b from) b again room
         ∙ ap (λ a. cond (not a) (b ∷ squeeze_behind squeezed b from) (squeeze_behind squeezed b from)) is
         ∙ sym (from_one squeezed last b from);
@@ -87,7 +87,7 @@ module _ (squeezed : ℕ → Bool) where
               cc (one_more into rest b again room, is, behind_one squeezed (get_or from (at - 1) 0) b (drop (at + 1) from));
           behind = omega arith;
           within = omega arith;
-          counted = omega (arith, small again n, s.counted);
+          counted = omega (arith, small again n);
         }
       where
         small : (again : Bool) → add ≡ bool_byte (not again) → add ≤ 1
@@ -107,7 +107,7 @@ module _ (squeezed : ℕ → Bool) where
               cc (append_assoc (take count into) (squeeze_behind squeezed last piece) (squeeze_behind squeezed (get_or from (at + size - 1) 0) (drop (at + size) from)), behind_on last piece (drop (at + size) from));
           behind = omega arith;
           within = omega arith;
-          counted = omega (arith, s.counted);
+          counted = omega arith;
         }
 
     -- no byte is left
@@ -172,8 +172,8 @@ none_same test (x ∷ xs) (y ∷ ys) none = grind (arith, none_same test xs ys)
 none_goes : (test : ℕ → Bool) (xs ys : List ℕ) → length xs ≡ length ys → mask_l (zip2 (λ a b. eqb a b && test b) xs ys) ≡ 0
     → chosen_by (zip2 (λ a b. not (eqb a b && test b)) xs ys) ys ≡ ys
 none_goes test [] [] long nil = refl
-none_goes test [] (y ∷ ys) long nil = absurd (omega (arith, long))
-none_goes test (x ∷ xs) [] long nil = absurd (omega (arith, long))
+none_goes test [] (y ∷ ys) long nil = absurd (omega arith)
+none_goes test (x ∷ xs) [] long nil = absurd (omega arith)
 none_goes test (x ∷ xs) (y ∷ ys) long nil = grind (arith, none_goes test xs ys)
 
 module _ (test : ℕ → Bool) (from : List ℕ) where
@@ -196,7 +196,7 @@ module _ (test : ℕ → Bool) (from : List ℕ) where
       → ((stays_at at ++ stays_at (at + 16)) ++ stays_at (at + 32)) ++ stays_at (at + 48) ≡ squeeze_behind test (get_or from (at - 1) 0) (chunk at 64 from)
   stays_in_four {at} behind room =
       let s = λ (k : ℕ). squeeze_behind test (get_or from (k - 1) 0) (chunk k 16 from) in
-      cc (stays_piece _ behind (omega (arith, room)), stays_piece (at + 16) (omega arith) (omega (arith, room)), stays_piece (at + 32) (omega arith) (omega (arith, room)), stays_piece (at + 48) (omega arith) (omega (arith, room)), behind_parts at 16 16 (omega arith) (omega (arith, room)), behind_parts at 32 16 (omega arith) (omega (arith, room)), behind_parts at 48 16 (omega arith) (omega (arith, room)))
+      cc (stays_piece _ behind (omega arith), stays_piece (at + 16) (omega arith) (omega arith), stays_piece (at + 32) (omega arith) (omega arith), stays_piece (at + 48) (omega arith) (omega arith), behind_parts at 16 16 (omega arith) (omega arith), behind_parts at 32 16 (omega arith) (omega arith), behind_parts at 48 16 (omega arith) (omega arith))
 
   -- where no byte goes, all of them stay
   pub all_stay_in_four : {at : ℕ} → 0 < at → at + 64 ≤ length from
@@ -204,8 +204,8 @@ module _ (test : ℕ → Bool) (from : List ℕ) where
       × (mask_l (gone_flags test (at + 48) from) ≡ 0) → squeeze_behind test (get_or from (at - 1) 0) (chunk at 64 from) ≡ chunk at 64 from
   all_stay_in_four {at} behind room none =
       let stay = λ (k : ℕ) (some : 0 < k) (there : k + 16 ≤ length from). none_goes test (chunk (k - 1) 16 from) (chunk k 16 from)
-      (length-chunk (k - 1) 16 from (omega (arith, some, there)) ∙ sym (length-chunk k 16 from there)) in
-      cc (stays_in_four behind room, stay at behind (omega (arith, room)) none.0, stay (at + 16) (omega arith) (omega (arith, room)) none.1, stay (at + 32) (omega arith) (omega (arith, room)) none.2, stay (at + 48) (omega arith) (omega (arith, room)) none.3, chunk_in_four at from)
+      (length-chunk (k - 1) 16 from (omega arith) ∙ sym (length-chunk k 16 from there)) in
+      cc (stays_in_four behind room, stay at behind (omega arith) none.0, stay (at + 16) (omega arith) (omega arith) none.1, stay (at + 32) (omega arith) (omega arith) none.2, stay (at + 48) (omega arith) (omega arith) none.3, chunk_in_four at from)
 
 -- tests that agree on bytes squeeze the same repeats
 pub same_behind : (p q : ℕ → Bool) → ((b : ℕ) → b < 256 → p b ≡ q b) → (last : ℕ) (bytes : List ℕ) → Each1 (Fits w8) bytes → squeeze_behind p last bytes ≡ squeeze_behind q last bytes

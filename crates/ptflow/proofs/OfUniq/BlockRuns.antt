@@ -59,7 +59,7 @@ module _ {end : ℕ} {block rest : List ℕ} {front : List (List ℕ)} (f : InFr
   }
 
 same_head : {x y : List ℕ} {xs ys : List (List ℕ)} → x ∷ xs ≡ y ∷ ys → x ≡ y
-same_head {x} is = ap (λ ls. get_or ls 0 x) is
+same_head {x} is = cc
 
 -- two lines have equal keys, by their keys
 pub same_by_keys : (job : Uniq) (first line : List ℕ) {own next : List ℕ} → own ≡ key job first → next ≡ key job line → is_same job first line ≡ bytes_eq own next
@@ -76,13 +76,13 @@ pub record Counting (job : Uniq) (end : ℕ) (first block rest : List ℕ) (coun
 
 module _ {job : Uniq} {end : ℕ} {first block : List ℕ} {rest : List ℕ} {count : ℕ} (c : Counting job end first block rest count) where
   pub counting_few : count + length rest ≤ length block
-  counting_few = omega (arith, c.number, front_few c.lies)
+  counting_few = omega (arith, front_few c.lies)
 
   pub counting_more : (at : ℕ) → IsFirstByte (is_byte end) rest (Some at) → is_same job first (take at rest) ≡ true → Counting job end first block (drop (at + 1) rest) (count + 1)
   counting_more at found same = record {
     front = c.front ++ take at rest ∷ [];
     lies = front_more c.lies at found;
-    number = omega (arith, length-append c.front (take at rest ∷ []), c.number);
+    number = omega (arith, length-append c.front (take at rest ∷ []));
     on = λ n some more.
         ap (runs_behind job (run_of first n)) (append_assoc c.front (take at rest ∷ []) more) ∙ c.on n some (take at rest ∷ more)
         ∙ behind_more job (run_of first (n + count)) (take at rest) more (both (n + count) (omega (arith, some)))
@@ -123,15 +123,7 @@ pub span_join : {block : List ℕ} {a b : Span} → IsSpan block a → IsSpan bl
 span_join {block} {a} {b} fits next touch =
     let front = span_of block a in
     let back = span_of block b in
-    let long : b.to - a.from ≡ length (front ++ back) = omega (
-      arith,
-      length-append front back,
-      length_range block _ _ fits.ordered fits.within,
-      length_range block _ _ next.ordered next.within,
-      touch,
-      fits.ordered,
-      next.ordered,
-    ) in
+    let long : b.to - a.from ≡ length (front ++ back) = omega (arith, length-append front back, length_range block _ _ fits.ordered fits.within, length_range block _ _ next.ordered next.within, next.ordered) in
     let split : drop a.from block ≡ (front ++ back) ++ drop b.to block =
     cc (drop_split block a.from a.to fits.ordered, drop_split block b.from b.to next.ordered, append_assoc front back (drop b.to block)) in
     cc (take_at (front ++ back) (drop b.to block) (length (front ++ back)) refl)
@@ -146,7 +138,7 @@ waits_joined show count {block} {waiting} {line} {out} fits next touch none show
   pushed = [];
   wrote = wrote_nothing out;
   all = cc (span_join fits next touch, run_text_shown show count (span_of block line) shown);
-  span = record { ordered = omega (arith, fits.ordered, next.ordered, touch); within = next.within };
+  span = record { ordered = omega (arith, next.ordered); within = next.within };
 }
 
 -- ---- runs one after another
@@ -184,12 +176,12 @@ line_in_block : {end : ℕ} {block rest : List ℕ} {front : List (List ℕ)} �
     → (slice_range block from to ≡ take at rest ++ end ∷ []) × (from < to) × (to ≤ length block)
 line_in_block {end} {block} {rest} lies at first from to from_is to_is = (
   cc (size, front_drop lies, take_end end rest at first),
-  omega (arith, to_is),
-  omega (arith, to_is, from_is, first.0.high, front_size lies),
+  omega arith,
+  omega (arith, first.0.high, front_size lies),
 )
   where
     size : to - from ≡ at + 1
-    size = omega (arith, to_is)
+    size = omega arith
 
 pub running_starts : (job : Uniq) (block : List ℕ) (at : ℕ) → IsFirstByte (is_byte job.end) block (Some at) → {own : List ℕ} → own ≡ key job (take at block) → (was : Output) → was.faulted ≡ false
     → Running job block (drop (at + 1) block) 1 (record { from = 0; to = at + 1 }) (record { from = 0; to = 0 }) own was was
@@ -214,7 +206,7 @@ running_starts job block at first own_is was clean =
 
 module _ {job : Uniq} {block : List ℕ} {rest : List ℕ} {count : ℕ} {line waiting : Span} {own : List ℕ} {was is : Output} (r : Running job block rest count line waiting own was is) where
   pub running_few : count + length rest ≤ length block
-  running_few = omega (arith, r.few, front_few r.lies)
+  running_few = omega (arith, front_few r.lies)
 
   module _ (at : ℕ) (found : IsFirstByte (is_byte job.end) rest (Some at)) where
     abbrev next : List ℕ
@@ -238,8 +230,8 @@ module _ {job : Uniq} {block : List ℕ} {rest : List ℕ} {count : ℕ} {line w
       whole = r.whole;
       line_in = r.line_in;
       waiting_in = r.waiting_in;
-      some = omega (arith, r.some);
-      few = omega (arith, r.few, length-append r.front (next ∷ []));
+      some = omega arith;
+      few = omega (arith, length-append r.front (next ∷ []));
     }
 
     module _ (other : is_same job r.first next ≡ false) where
@@ -308,12 +300,12 @@ module _ {job : Uniq} {block : List ℕ} {rest : List ℕ} {count : ℕ} {line w
       wrote = all_wrote;
       clean = clean;
       on = λ more. cc (all_lines, r.on more, first_is);
-      count = omega (arith, r.few, ap length all_lines);
-      some = λ h. omega (arith, r.some);
+      count = omega (arith, ap length all_lines);
+      some = λ h. omega arith;
     }
       where
         sizes : line.to - line.from ≡ length r.first + 1
-        sizes = omega (arith, length_range block line.from _ (omega (arith, r.line_in.0)) r.line_in.1, ap length r.whole, length-append r.first (job.end ∷ []), r.line_in.0)
+        sizes = omega (arith, length_range block line.from _ (omega (arith, r.line_in.0)) r.line_in.1, ap length r.whole, length-append r.first (job.end ∷ []))
 
         first_is : slice_range block line.from (line.to - 1) ≡ r.first
         first_is =

@@ -32,8 +32,8 @@ swapped_first store slots is = cc (by_lines store.lines slots)
   where
     by_lines : (lines : List (List ℕ)) → 1 < length lines → line (record { lines = swap lines 0 1; peak = store.peak; denied = store.denied }) 0
         ≡ line (record { lines = lines; peak = store.peak; denied = store.denied }) 1
-    by_lines [] slots = absurd (omega (arith, slots))
-    by_lines (a ∷ []) slots = absurd (omega (arith, slots))
+    by_lines [] slots = absurd (omega arith)
+    by_lines (a ∷ []) slots = absurd (omega arith)
     by_lines (a ∷ b ∷ rest) slots = refl
 
 -- the first slot was emptied
@@ -41,13 +41,13 @@ pub first_emptied : {store after : Slots} → 0 < length store.lines → after �
 first_emptied {store} {after} some is = by_lines store.lines refl
   where
     by_lines : (lines : List (List ℕ)) → store.lines ≡ lines → Empties 1 store after
-    by_lines [] none = absurd (omega (arith, some, ap length none))
+    by_lines [] none = absurd (omega (arith, ap length none))
     by_lines (l ∷ ls) are =
         let lines_are : after.lines ≡ [] ∷ ls = cc in
         let left : total after.lines ≡ total ls = ap total lines_are ∙ sum_by-cons length [] ls ∙ omega arith in
         record {
           size = cc;
-          denied = ap (λ s. s.denied) is;
+          denied = cc;
           left = cc;
           peak = omega (arith, ap (λ s. s.peak) is, ap (λ s. total s.lines) is, left, ap total are ∙ sum_by-cons length l ls);
         }
@@ -63,9 +63,9 @@ run_wrote job count {first} {is} {is'} bytes_are behind_is wrote =
 pub uniq_line_tool : (job : Uniq) (start : Open) → start.count ≡ 0 → IsLineTool (uniq_tool job) open_run_of (runs_behind job) (entries job) count_of job.end 2 start
 uniq_line_tool job start none = record {
   apart = entries-append job;
-  stays = λ now store bytes room. ap (λ l. run_of (cond now.kept now.bytes.items l) now.count) (get_or-set_other store.lines 1 0 bytes [] (λ e. absurd (omega (arith, e))));
-  fresh = λ store. omega (arith, none);
-  text = λ store bytes. ap (λ n. entries job (runs_behind job (run_of (first_line start store) n) (lines job.end bytes))) none;
+  stays = λ now store bytes room. cc (get_or-set_other store.lines 1 0 bytes [] (λ e. absurd (omega (arith, e))));
+  fresh = λ store. omega arith;
+  text = λ store bytes. cc;
   decided = λ store given passed now on.
       let ls = whole_lines job.end given in
       let all = ap (runs job) (sym (append-nil ls)) ∙ ap (λ n. runs_behind job (run_of (first_line start store) n) (ls ++ [])) (sym none) ∙ on [] in
@@ -108,9 +108,9 @@ block_none job end run block was clean none = record {
   passed = [];
   wrote = wrote_nothing was;
   clean = clean;
-  on = λ more. ap (λ l. runs_behind job run (l ++ more)) (ended_none end block none);
+  on = λ more. cc (ended_none end block none);
   count = omega arith;
-  some = λ h. absurd (omega (arith, h, ap length (ended_none end block none)));
+  some = λ h. absurd (omega (arith, ap length (ended_none end block none)));
 }
 
 -- the run that is open goes on for some lines of a block
@@ -125,7 +125,7 @@ module _ {job : Uniq} {end : ℕ} {first block : List ℕ} {same : Same} (g : Go
   went_on more = cc (append_assoc g.front (ended_lines end rest) more, g.on count some (ended_lines end rest ++ more))
 
   many : length (ended_lines end block) ≡ same.count + length (ended_lines end rest)
-  many = omega (arith, ap length g.split, length-append g.front (ended_lines end rest), g.number)
+  many = omega (arith, ap length g.split, length-append g.front (ended_lines end rest))
 
   -- no line more is whole
   module _ (none : IsLine end rest) where
@@ -136,7 +136,7 @@ module _ {job : Uniq} {end : ℕ} {first block : List ℕ} {same : Same} (g : Go
       clean = clean;
       on = λ more. cc (went_on more, ended_none end rest none);
       count = omega (arith, many);
-      some = λ h. omega (arith, some);
+      some = λ h. omega arith;
     }
 
     pub block_on_passed : take same.passed block ≡ text end (ended_lines end block)
@@ -148,7 +148,7 @@ module _ {job : Uniq} {end : ℕ} {first block : List ℕ} {same : Same} (g : Go
     turned more =
         let next = take at rest in
         let behind = ended_lines end (drop (at + 1) rest) ++ more in
-        let is : ended_lines end rest ++ more ≡ next ∷ behind = ap (λ l. l ++ more) (ended_next end rest at found) in
+        let is : ended_lines end rest ++ more ≡ next ∷ behind = cc (ended_next end rest at found) in
         cc (went_on more, behind_turn job run next behind (other_count (count + same.count) (g.turns next (ended_lines end (drop (at + 1) rest)) (ended_next end rest at found))), behind_turn job (run_of [] 0) next behind refl)
 
     module _ {was is : Output} (is' : Output) (wrote : Wrote was is (entries job (open_run run))) where
@@ -164,7 +164,7 @@ module _ {job : Uniq} {end : ℕ} {first block : List ℕ} {same : Same} (g : Go
         wrote = both_wrote r.passed clean r.wrote;
         clean = r.clean;
         on = λ more. cc (turned more, r.on more, append_assoc (open_run run) r.passed (runs_behind job after more));
-        count = omega (arith, r.count, many);
+        count = omega (arith, many);
         some = λ h. r.some (omega (arith, ap length (ended_next end rest at found)));
       }
 

@@ -9,4 +9,4 @@ pub returns-clause-kept : goal.returns-clause-kept
 returns-clause-kept c =
     let keeps : ℕ → Bool = λ b. not (holds c.args.set b) in
     let bytes = c.args.bytes in
-    cc (c.pack.ensures.packed (map keeps bytes) (length-map bytes keeps ∙ c.fits-bytes.0) (keep_bits (holds c.args.set) bytes c.fits-bytes.0 c.test-keep.ensures), chosen_by_test keeps bytes)
+    cc (c.pack.ensures.packed (map keeps bytes) (cc (length-map bytes keeps)) (keep_bits (holds c.args.set) bytes c.fits-bytes.0 c.test-keep.ensures), chosen_by_test keeps bytes)

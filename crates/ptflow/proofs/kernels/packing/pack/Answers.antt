@@ -16,11 +16,8 @@ returns-clause-packed c flags long masked =
     let back = drop 8 flags in
     let turned = pick_l 0 (v ++ v) (range_with_len 8 8 ++ range_with_len 0 8) in
     let parts : flags ≡ front ++ back = sym (take-append-drop 8 flags) in
-    let few : length front ≡ 8 = length-take-le 8 flags (omega (arith, long)) in
-    let others : length back ≡ 8 = omega (arith, length-drop 8 flags, long) in
-    let first = c.pack_eight-half.ensures.packed front few (ap (λ m. bit_and m 255) (masked ∙ ap mask_l parts) ∙ low_half front back few) in
-    let second = c.pack_eight.ensures.packed back others (ap (λ m. bit_and (m / 256) 255) (masked ∙ ap mask_l parts) ∙ high_half front back few others) in
-    second ∙ ap (λ made. made ++ chosen_by back turned) first
-    ∙ chosen_by_halves front back before v turned few others c.fits-v.0 (take-map (λ k. get_or (v ++ v) k 0) 8 (range_with_len 8 8 ++ range_with_len 0 8)
-    ∙ pick_l-range_with_len 0 (v ++ v) 8 8 (omega (arith, length-append v v, c.fits-v.0)))
-    ∙ ap (λ fs. before ++ chosen_by fs v) (sym parts)
+    let few : length front ≡ 8 = length-take-le 8 flags (omega arith) in
+    let others : length back ≡ 8 = omega (arith, length-drop 8 flags) in
+    let first = c.pack_eight-half.ensures.packed front few (cc (low_half front back few)) in
+    let second = c.pack_eight.ensures.packed back others (cc (high_half front back few others)) in
+    cc (chosen_by_halves front back before v turned few others c.fits-v.0 (take-map (λ k. get_or (v ++ v) k 0) 8 (range_with_len 8 8 ++ range_with_len 0 8) ∙ pick_l-range_with_len 0 (v ++ v) 8 8 (omega (arith, length-append v v, c.fits-v.0))))

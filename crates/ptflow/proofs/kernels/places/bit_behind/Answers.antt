@@ -11,5 +11,5 @@ loop-bit-preserved c = λ bits is.
 
 pub returns : goal.returns
 returns c = λ test bytes few is some.
-    let all : c.loop-bit._bit ≡ c.args.count = omega (arith, c.loop-bit-test.false, c.loop-bit.auto) in
+    let all : c.loop-bit._bit ≡ c.args.count = omega arith in
     behind_set test bytes _ few some (rw all at (c.loop-bit.invariant (map test bytes) is))

@@ -28,7 +28,7 @@ returns-then-place-to c =
     let p = is_byte c.args.byte in
     let here = behind_in_chunk p bytes at k
     (omega arith) c.marks-marked.ensures c.from-count.ensures c.loop-at.invariant.0 c.if-left-count.true c.bit_behind.ensures in
-    let before : count_by p (take at bytes) + (left - 1) ≡ c.args.number - 1 = omega (arith, c.loop-at.invariant.0, c.loop-at.invariant.2) in
+    let before : count_by p (take at bytes) + (left - 1) ≡ c.args.number - 1 = omega arith in
     rw before at (behind_front p bytes 64 at (left - 1) k (omega arith) here c.if-place-to.true c.requires.within)
 
 pub returns-else-place-to : goal.returns-else-place-to
@@ -40,11 +40,11 @@ returns-else-place-to c =
     let p = is_byte c.args.byte in
     let here = behind_in_chunk p bytes at k
     (omega arith) c.marks-marked.ensures c.from-count.ensures c.loop-at.invariant.0 c.if-left-count.true c.bit_behind.ensures in
-    omega (arith, c.loop-at.invariant.0, c.loop-at.invariant.2, count_front p bytes 64 at (left - 1) k (omega arith) here, count_up_to p bytes _ _ c.if-place-to.false)
+    omega (arith, count_front p bytes 64 at (left - 1) k (omega arith) here, count_up_to p bytes _ _ c.if-place-to.false)
 
 pub loop-at-preserved : goal.loop-at-preserved
 loop-at-preserved c =
     let at = c.loop-at.at in
     let bytes = c.args.bytes.now in
     let counted = ap count_ones c.marks-marked.ensures ∙ ones-mask_l (is_byte c.args.byte) (chunk at 64 bytes) in
-    (omega arith, omega arith, omega (arith, c.loop-at.invariant.2, counted, count_chunk (is_byte c.args.byte) bytes at))
+    (omega arith, omega arith, omega (arith, count_chunk (is_byte c.args.byte) bytes at))

@@ -22,7 +22,7 @@ loop-end-init c =
       place = c.requires.turn;
       number = omega arith;
       long = cc (length-put_chunk at c.args.to.now (chunk at 64 c.args.from.now));
-      replaced = take_more_put_chunk at c.args.to.now (chunk at 64 c.args.from.now) (at + 64) (omega (arith, long)) (omega (arith, long, c.requires.same, c.requires.room));
+      replaced = take_more_put_chunk at c.args.to.now (chunk at 64 c.args.from.now) (at + 64) (omega arith) (omega arith);
     }
 
 pub bounds-to-end : goal.bounds-to-end
@@ -31,8 +31,8 @@ bounds-to-end c =
     let loop = c.loop-end in
     let v = chunk c.args.at 64 c.args.from.now in
     let counted = ap count_ones c.marks-marked.ensures ∙ ones-mask_l p v in
-    let here = behind_set p v loop._end (omega (arith, length-chunk c.args.at 64 c.args.from.now c.requires.room)) (omega (arith, counted, c.loop-end-test.true)) loop.invariant.bits in
-    omega (arith, loop.invariant.long, c.requires.room, here.0, length-chunk c.args.at 64 c.args.from.now c.requires.room)
+    let here = behind_set p v loop._end (omega (arith, length-chunk c.args.at 64 c.args.from.now c.requires.room)) (omega arith) loop.invariant.bits in
+    omega (arith, length-chunk c.args.at 64 c.args.from.now c.requires.room)
 
 pub loop-end-preserved : goal.loop-end-preserved
 loop-end-preserved c =
@@ -47,27 +47,27 @@ loop-end-preserved c =
     let long = length-chunk at 64 c.args.from.now c.requires.room in
     let counted = ap count_ones c.marks-marked.ensures ∙ ones-mask_l p v in
     let k = count_trailing_zeros 64 loop.marked in
-    let here = behind_set p v n (omega (arith, long)) (omega (arith, counted, c.loop-end-test.true)) loop.invariant.bits in
+    let here = behind_set p v n (omega arith) (omega arith) loop.invariant.bits in
     let next : suc n ≡ n + 1 = omega arith in
     let delim : c.unwrap_or.result ≡ unwrap_or (delim_at delims (first + n)) end = cc in
-    let front : length (take at c.args.to.now) ≡ at = length-take-le at c.args.to.now (omega (arith, c.requires.same, c.requires.room)) in
+    let front : length (take at c.args.to.now) ≡ at = length-take-le at c.args.to.now (omega arith) in
     record {
       bits = cc (cleared n (map p v) loop.auto.marked-fits.fits loop.invariant.bits);
       place = cc;
-      number = omega (arith, c.next-turn.ensures.number, loop.invariant.number);
+      number = omega arith;
       long = cc (length-set loop.to (at + k) c.unwrap_or.result);
       replaced =
-          cc (set_in_chunk loop.to (take at c.args.to.now) (first_turns end delims n first v) _ 64 k c.unwrap_or.result loop.invariant.replaced front (omega (arith, here.0, long)), turn_on end delims n first v k here);
+          cc (set_in_chunk loop.to (take at c.args.to.now) (first_turns end delims n first v) _ 64 k c.unwrap_or.result loop.invariant.replaced front (omega arith), turn_on end delims n first v k here);
     }
 
 pub returns-clause-next : goal.returns-clause-next
 returns-clause-next c =
     let v = chunk c.args.at 64 c.args.from.now in
     let counted = ap count_ones c.marks-marked.ensures ∙ ones-mask_l (is_byte c.args.ending) v in
-    (c.loop-end.invariant.place, omega (arith, c.loop-end.invariant.number, counted, c.loop-end-test.false, c.loop-end.auto))
+    (c.loop-end.invariant.place, omega arith)
 
 pub returns-clause-replaced : goal.returns-clause-replaced
 returns-clause-replaced c =
     let v = chunk c.args.at 64 c.args.from.now in
     let counted = ap count_ones c.marks-marked.ensures ∙ ones-mask_l (is_byte c.args.ending) v in
-    cc (all_turned c.args.ending c.args.delims.now c.args.turn.number v c.loop-end._end (omega (arith, counted, c.loop-end-test.false, c.loop-end.auto)))
+    cc (all_turned c.args.ending c.args.delims.now c.args.turn.number v c.loop-end._end (omega arith))

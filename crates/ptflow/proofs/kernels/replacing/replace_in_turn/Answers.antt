@@ -13,7 +13,7 @@ pub next-turn-requires-clause-short : goal.next-turn-requires-clause-short
 next-turn-requires-clause-short c =
     let at = c.loop-at.at in
     let from = c.args.from.now in
-    omega (arith, c.requires.short, c.loop-at.invariant.2, c.loop-at.invariant.0, count_by-le-length (is_byte c.args.ending) (take at from), length-take-le at from c.loop-at.invariant.0)
+    omega (arith, count_by-le-length (is_byte c.args.ending) (take at from), length-take-le at from c.loop-at.invariant.0)
 
 pub loop-at-preserved : goal.loop-at-preserved
 loop-at-preserved c =
@@ -25,21 +25,21 @@ loop-at-preserved c =
       | then-from-at w ↦
           let next = w.next-turn in
           rw w.turn-is (rw w.to-is (
-          end_more _ delims c.args.number loop.at loop.turn from loop.to loop.invariant (omega (arith, c.loop-at-test.true)) next.result _ _ w.if-from-at.true w.unwrap_or.ensures
+          end_more _ delims c.args.number loop.at loop.turn from loop.to loop.invariant (omega arith) next.result _ _ w.if-from-at.true w.unwrap_or.ensures
           next.ensures.number (cc) refl (cc (length-set _ loop.at w.unwrap_or.result, length-set loop.to loop.at _))))
       | else-from-at w ↦
           rw w.turn-is (rw w.to-is (
-          other_more end delims c.args.number loop.at loop.turn from loop.to loop.invariant (omega (arith, c.loop-at-test.true))
+          other_more end delims c.args.number loop.at loop.turn from loop.to loop.invariant (omega arith)
           _ w.if-from-at.false refl (cc (length-set loop.to loop.at _))))
     ]
 
 pub returns-clause-number : goal.returns-clause-number
 returns-clause-number c =
-    let all : length c.args.from.now ≤ c.loop-at.at = omega (arith, c.loop-at-test.false) in
-    c.loop-at.invariant.2 ∙ ap (λ l. c.args.number + count_by (is_byte c.args.ending) l) (take_all c.loop-at.at c.args.from.now all)
+    let all : length c.args.from.now ≤ c.loop-at.at = omega arith in
+    cc (take_all c.loop-at.at c.args.from.now all)
 
 pub returns-clause-replaced : goal.returns-clause-replaced
 returns-clause-replaced c =
     let at = c.loop-at.at in
-    let all : length c.args.from.now ≤ at = omega (arith, c.loop-at-test.false) in
-    cc (take_all at c.loop-at.to (omega (arith, all, c.loop-at.invariant.1)), take_all at c.args.from.now all)
+    let all : length c.args.from.now ≤ at = omega arith in
+    cc (take_all at c.loop-at.to (omega arith), take_all at c.args.from.now all)

@@ -20,8 +20,8 @@ loop-behind-init c =
     let long = length-chunk at 64 c.args.from.now c.requires.room in
     record {
       bits = c.marks-marked.ensures;
-      long = length-put_chunk at c.args.to.now (chunk at 64 c.args.from.now) ∙ c.requires.same;
-      replaced = take_more_put_chunk at c.args.to.now (chunk at 64 c.args.from.now) (at + 64) (omega (arith, long)) (omega (arith, long, c.requires.same, c.requires.room));
+      long = cc (length-put_chunk at c.args.to.now (chunk at 64 c.args.from.now));
+      replaced = take_more_put_chunk at c.args.to.now (chunk at 64 c.args.from.now) (at + 64) (omega arith) (omega arith);
     }
 
 pub bounds-to-end : goal.bounds-to-end
@@ -31,8 +31,8 @@ bounds-to-end c =
     let v = chunk c.args.at 64 c.args.from.now in
     let counted = ap count_ones c.marks-marked.ensures ∙ ones-mask_l p v in
     let long = length-chunk c.args.at 64 c.args.from.now c.requires.room in
-    let here = behind_set p v loop.behind (omega (arith, long)) (omega (arith, counted, c.loop-behind-test.true)) loop.invariant.bits in
-    omega (arith, loop.invariant.long, c.requires.room, here.0, length-chunk c.args.at 64 c.args.from.now c.requires.room)
+    let here = behind_set p v loop.behind (omega arith) (omega arith) loop.invariant.bits in
+    omega (arith, length-chunk c.args.at 64 c.args.from.now c.requires.room)
 
 pub loop-behind-preserved : goal.loop-behind-preserved
 loop-behind-preserved c =
@@ -48,19 +48,19 @@ loop-behind-preserved c =
     let long = length-chunk at 64 c.args.from.now c.requires.room in
     let counted = ap count_ones c.marks-marked.ensures ∙ ones-mask_l p v in
     let k = count_trailing_zeros 64 loop.marked in
-    let few : n < 64 = omega (arith, counted, c.loop-behind-test.true, count_by-le-length p v, long) in
-    let low : place < 64 = omega (arith, c.requires.turn, mod-lt first c.requires.spread.some, c.requires.spread.few) in
-    let here = behind_set p v n (omega (arith, long)) (omega (arith, counted, c.loop-behind-test.true)) loop.invariant.bits in
+    let few : n < 64 = omega (arith, count_by-le-length p v) in
+    let low : place < 64 = omega (arith, mod-lt first c.requires.spread.some) in
+    let here = behind_set p v n (omega arith) (omega arith) loop.invariant.bits in
     let next : suc n ≡ n + 1 = omega arith in
     let put = slice_index_or c.args.spread.now (place + n) 0 in
     let byte : slice_index_or c.args.spread.now (place + n) 0 ≡ unwrap_or (delim_at turns (first + n)) end =
-    cc (c.requires.spread.at (place + n) (omega (arith, few, low)), mod-add-mod first (length turns) n) in
-    let front : length (take at c.args.to.now) ≡ at = length-take-le at c.args.to.now (omega (arith, c.requires.same, c.requires.room)) in
+    cc (c.requires.spread.at (place + n) (omega arith), mod-add-mod first (length turns) n) in
+    let front : length (take at c.args.to.now) ≡ at = length-take-le at c.args.to.now (omega arith) in
     record {
       bits = cc (cleared n (map p v) loop.auto.marked-fits.fits loop.invariant.bits);
       long = cc (length-set loop.to (at + k) (slice_index_or c.args.spread.now (place + n) 0));
       replaced =
-          cc (set_in_chunk loop.to (take at c.args.to.now) (first_turns end turns n first v) _ 64 k put loop.invariant.replaced front (omega (arith, here.0, long)), turn_on end turns n first v k here);
+          cc (set_in_chunk loop.to (take at c.args.to.now) (first_turns end turns n first v) _ 64 k put loop.invariant.replaced front (omega arith), turn_on end turns n first v k here);
     }
 
 pub bounds-spread-turn : goal.bounds-spread-turn
@@ -68,17 +68,7 @@ bounds-spread-turn c =
     let p = is_byte c.args.ending in
     let v = chunk c.args.at 64 c.args.from.now in
     let counted = ap count_ones c.marks-marked.ensures ∙ ones-mask_l p v in
-    omega (
-      arith,
-      counted,
-      c.loop-behind-test.true,
-      count_by-le-length p v,
-      length-chunk c.args.at 64 c.args.from.now c.requires.room,
-      c.requires.turn,
-      mod-lt c.args.turn.number c.requires.spread.some,
-      c.requires.spread.few,
-      c.requires.spread.size,
-    )
+    omega (arith, count_by-le-length p v, length-chunk c.args.at 64 c.args.from.now c.requires.room, mod-lt c.args.turn.number c.requires.spread.some)
 
 pub returns-clause-next : goal.returns-clause-next
 returns-clause-next c =
@@ -92,4 +82,4 @@ pub returns-clause-replaced : goal.returns-clause-replaced
 returns-clause-replaced c =
     let v = chunk c.args.at 64 c.args.from.now in
     let counted = ap count_ones c.marks-marked.ensures ∙ ones-mask_l (is_byte c.args.ending) v in
-    cc (all_turned c.args.ending c.args.turns.now c.args.turn.number v c.loop-behind.behind (omega (arith, counted, c.loop-behind-test.false, c.loop-behind.auto)))
+    cc (all_turned c.args.ending c.args.turns.now c.args.turn.number v c.loop-behind.behind (omega arith))

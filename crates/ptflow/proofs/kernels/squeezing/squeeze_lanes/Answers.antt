@@ -13,4 +13,4 @@ returns-clause-squeezed c =
     let stays : ℕ → ℕ → Bool = λ a b. not (eqb a b && holds c.args.set b) in
     let as_long : length before ≡ length bytes = cc in
     c.pack.ensures.packed (zip2 stays before bytes) (cc (length-zip2 stays before bytes as_long))
-    (cc (stays_mask (holds c.args.set) before bytes as_long (omega (arith, c.fits-bytes.0))))
+    (cc (stays_mask (holds c.args.set) before bytes as_long (omega arith)))

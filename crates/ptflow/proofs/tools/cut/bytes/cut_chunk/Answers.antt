@@ -24,10 +24,10 @@ returns-then-step-eq0-clause-on c =
       cut = λ start bytes so_far.
           cut_on end list start bytes step.before step.before (drop step.start block) (drop (step.start + 64) block) (take step.at c.args.into.now)
           (chunk step.start 64 block) so_far c.copy_ends.ensures.copied
-          (ends_on end (is_selected list) block (omega (arith, c.requires.ends.within)) c.if-step-from.true c.if-step-eq0.true
+          (ends_on end (is_selected list) block (omega arith) c.if-step-from.true c.if-step-eq0.true
           c.requires.ends.is c.if-marked-eq18446744073709551615.true);
       bound = omega arith;
-      near = omega (arith, c.requires.step.near);
+      near = omega arith;
     })
 
 pub overflow_sub-end : goal.overflow_sub-end
@@ -44,7 +44,7 @@ pub copy_line-at-requires-clause-room : goal.copy_line-at-requires-clause-room
 copy_line-at-requires-clause-room c =
     let l = c.loop-end in
     let e = next_end l._end l.step.start c.requires.ends (omega arith) l.invariant.bits l.invariant.ends in
-    omega (arith, e.order, e.near, l.invariant.on.near, c.requires.ends.within, c.requires.ends.most)
+    omega arith
 
 pub loop-end-preserved : goal.loop-end-preserved
 loop-end-preserved c =
@@ -55,11 +55,11 @@ loop-end-preserved c =
     let e = next_end l._end s c.requires.ends (omega arith) l.invariant.bits l.invariant.ends in
     let at = c.args.from + count_trailing_zeros 64 l.marked in
     let next : suc l._end ≡ l._end + 1 = omega arith in
-    let behind : s + (at - s + 1) ≡ at + 1 = omega (arith, e.order) in
+    let behind : s + (at - s + 1) ≡ at + 1 = omega arith in
     let left : drop (at - s + 1) (drop s block) ≡ drop (at + 1) block = cc (drop-drop (at - s + 1) s block) in
     record {
       bits = rw (← next) (cleared l._end (map (is_byte c.args.ending) (chunk c.args.from 64 block)) l.auto.marked-fits.fits l.invariant.bits);
-      within = omega (arith, e.near);
+      within = omega arith;
       ends = e.counted;
       on = record {
         cut = λ start bytes so_far.
@@ -68,7 +68,7 @@ loop-end-preserved c =
             (l.invariant.on.cut start bytes so_far) (rw take_rest at c.copy_line-at.ensures.copied)
             (rw (← left) (line_on c.args.ending (drop s block) (at - s) e.first (is_selected list) l.step.before));
         bound = omega arith;
-        near = omega (arith, c.copy_line-at.ensures.near, l.invariant.on.near, e.order);
+        near = omega arith;
       };
       passed = λ some_turns. omega arith;
     }
@@ -80,4 +80,4 @@ returns-clause-passed c =
     let bytes = chunk c.args.from 64 c.args.block.now in
     let counted = ap count_ones c.requires.ends.is ∙ ones-mask_l p bytes in
     let some = some_counted p bytes bytes (rw c.requires.ends.is at c.requires.ends.some) in
-    (loop.invariant.passed (omega (arith, some, counted, c.loop-end-test.false)), loop.invariant.within)
+    (loop.invariant.passed (omega arith), loop.invariant.within)

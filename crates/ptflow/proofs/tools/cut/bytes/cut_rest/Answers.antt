@@ -16,7 +16,7 @@ lines-preserved c =
           cut_on c.args.ending list start bytes c.lines.before 0 rest (drop (count + 1) rest) (take c.lines.at c.lines.into) (chosen_piece list c.lines.before count (take (count + 1) rest))
           (c.lines.invariant.cut start bytes so_far) c.copy_selected-at.ensures.copied (line_on c.args.ending rest count c.in-Some.ensures (is_selected list) c.lines.before);
       near = omega (arith, length-drop (count + 1) rest, c.in-Some.ensures.0.high, c.lines.invariant.near, c.copy_selected-at.ensures.near);
-      bound = omega (arith, length-drop (count + 1) rest, c.lines.invariant.bound);
+      bound = omega (arith, length-drop (count + 1) rest);
     })
 
 pub returns-clause-cut : goal.returns-clause-cut

@@ -33,10 +33,10 @@ returns-in_err-passed-clause-found c =
     let bytes = c.args.bytes.now in
     let line = take c.args.to bytes in
     let zero : c.args.from ≡ 0 = c.requires.start c.if-from-first.false in
-    let within : behind ≤ c.args.to = omega (arith, c.requires.first.0.high, length-take-le c.args.to bytes c.requires.within.1) in
+    let within : behind ≤ c.args.to = omega (arith, length-take-le c.args.to bytes c.requires.within.1) in
     let left = rw (← (rest_of _ _ bytes within)) at (rw take_rest at c.in_err-passed.ensures) in
     let few : length (fields d (drop c.args.from line)) ≤ c.args.count =
-    rw zero (few_behind_first d line c.args.first c.args.count c.requires.first (omega (arith, c.if-count-eq0.false)) left) in
+    rw zero (few_behind_first d line c.args.first c.args.count c.requires.first (omega arith) left) in
     rw c.from_residual.ensures few
 
 pub returns-clause-found : goal.returns-clause-found
@@ -47,6 +47,6 @@ returns-clause-found c =
     let line = take c.args.to bytes in
     let passed = c.in_ok-passed.passed in
     let zero : c.args.from ≡ 0 = c.requires.start c.if-from-first.false in
-    let within : behind ≤ c.args.to = omega (arith, c.requires.first.0.high, length-take-le c.args.to bytes c.requires.within.1) in
+    let within : behind ≤ c.args.to = omega (arith, length-take-le c.args.to bytes c.requires.within.1) in
     let s = rw (← (rest_of _ _ bytes within)) at (rw take_rest at c.in_ok-passed.ensures) in
-    rw zero (starts_past_first d line c.args.first c.args.count c.requires.first (omega (arith, c.if-count-eq0.false)) s)
+    rw zero (starts_past_first d line c.args.first c.args.count c.requires.first (omega arith) s)

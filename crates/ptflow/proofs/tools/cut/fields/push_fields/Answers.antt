@@ -101,21 +101,21 @@ overflow_add-number g c =
     let l = c.loop-interval in
     let line = c.args.line.now in
     let far = slice_fits l.invariant.walk (found line l.at c.in-Some.ensures.found) (found line (l.at + c.in-Some.skipped) c.in-Some-field_behind.ensures.found) in
-    omega (arith, far, c.in-Some-field_behind.ensures.found.count, c.in-Some.ensures.found.count, l.invariant.walk.count, c.requires.short)
+    omega (arith, c.in-Some-field_behind.ensures.found.count, c.in-Some.ensures.found.count, l.invariant.walk.count, c.requires.short)
 
 pub overflow_add-at : goal.overflow_add-at
 overflow_add-at g c =
     let l = c.loop-interval in
     let line = c.args.line.now in
     let far = slice_fits l.invariant.walk (found line l.at c.in-Some.ensures.found) (found line (l.at + c.in-Some.skipped) c.in-Some-field_behind.ensures.found) in
-    omega (arith, far, c.requires.short)
+    omega arith
 
 pub overflow_add-from : goal.overflow_add-from
 overflow_add-from g c =
     let l = c.loop-interval in
     let line = c.args.line.now in
     let near = step_fits l.invariant.walk (found line l.at c.in-Some.ensures.found) in
-    omega (arith, near, c.requires.short)
+    omega arith
 
 pub field_behind-requires-clause-first : goal.field_behind-requires-clause-first
 field_behind-requires-clause-first g c =
@@ -125,18 +125,17 @@ field_behind-requires-clause-first g c =
 pub field_behind-requires-in-loop-interval-clause-first : goal.field_behind-requires-in-loop-interval-clause-first
 field_behind-requires-in-loop-interval-clause-first g c =
     let line = c.args.line.now in
-    subst (λ l. IsFirstByte (is_byte c.args.job.now.delim) l (Some c.args.first))
-    (sym (take_all (length line) line (omega arith))) c.requires.first
+    rw (take_all (length line) line (omega arith)) c.requires.first
 
 pub overflow_add-last : goal.overflow_add-last
 overflow_add-last g c =
     let l = c.loop-interval in
     let w = l.invariant.walk in
-    omega (arith, not_past c.intervals-selected.result.now [] _ w c.loop-interval-test.true, w.low_is)
+    omega (arith, not_past c.intervals-selected.result.now [] _ w c.loop-interval-test.true)
 
 -- a place in the line, less the delimiter in front of it, lies in the line too
 back : {from : ℕ} (lead : ℕ) {size : ℕ} → from ≤ size → from - lead ≤ size
-back lead near = omega (arith, near)
+back lead near = omega arith
 
 pub slice_bounds-push-start : goal.slice_bounds-push-start
 slice_bounds-push-start g c =

@@ -38,7 +38,7 @@ ends : (job : Cut) (line : List ℕ) {bytes : List ℕ} {end : ℕ} {was out mid
     → Wrote was is (cut_lines job (line ∷ []))
 ends job line {bytes} {mid} {is} one same here wrote clean ended =
     rw (line_written job line bytes one)
-    (wrote_trans _ _ _ _ _ clean wrote (rw here at (subst (λ b. Wrote mid is (b ∷ [])) same ended)))
+    (wrote_trans _ _ _ _ _ clean wrote (rw here at (rw same at ended)))
 
 pub returns-clause-wrote : goal.returns-clause-wrote
 returns-clause-wrote g c =

@@ -48,7 +48,7 @@ returns-in_default-field_behind-clause-put g c =
     let before : from - l.lead ≤ to + 1 = omega (arith, c.in-Some.ensures.found.fits, length-drop l.at line, l.invariant.walk.fits, length-take-le to bytes (omega arith)) in
     let same = walking_ends c.intervals-selected.result.now _ _ l.invariant.walk c.loop-interval-test.true
     c.in-Some.ensures.found to (take (to + 1) bytes) (sym (take-take to (to + 1) bytes (omega arith))) (sym (line_with_end to bytes)) c.in_default-field_behind.ensures.found in
-    c.copy_near.ensures.copied ∙ ap (◌++◌ (take l.end l.room)) (sym (same ∙ rest_of _ _ bytes before)) ∙ sym l.invariant.put
+    cc (c.copy_near.ensures.copied, same, rest_of _ _ bytes before, l.invariant.put)
 
 pub loop-interval-preserved : goal.loop-interval-preserved
 loop-interval-preserved g c =
@@ -66,16 +66,16 @@ loop-interval-preserved g c =
     let next = from + c.in-Some-field_behind.passed in
     let size = (next - 1) - (from - l.lead) in
     let more = coming d (drop (i + 1) all) line tail ((get_or all i (record { first = 0; last = 0 })).last + 1) next 1 in
-    let ends : next ≤ to = omega (arith, p.fits, length-drop from line, s.fits, length-drop l.at line, l.invariant.walk.fits, length-take-le to bytes (omega arith)) in
-    let some : 1 ≤ c.in-Some-field_behind.passed = omega (arith, p.count) in
-    let within : (from - l.lead) + size ≤ to = omega (arith, ends, some, l.invariant.walk.begun, l.invariant.walk.passed) in
+    let ends : next ≤ to = omega (arith, length-drop from line, length-drop l.at line, length-take-le to bytes (omega arith)) in
+    let some : 1 ≤ c.in-Some-field_behind.passed = omega arith in
+    let within : (from - l.lead) + size ≤ to = omega arith in
     let copied : take l.end l.room ++ take size (drop (from - l.lead) line) ≡ take (l.end + size) c.copy_near-in-loop-interval.new.into =
     cc (slice_of (from - l.lead) size bytes within) in record {
       put = cc (walking_slice all tail i l.invariant.walk c.loop-interval-test.true s p, append_assoc (take l.end l.room) (take size (drop (from - l.lead) line)) more);
       walk = walking_more all tail i l.invariant.walk c.loop-interval-test.true s p;
       known = c.in-Some-field_behind.ensures.start;
-      low = omega (arith, l.invariant.low);
-      high = omega (arith, l.invariant.high, some, l.invariant.walk.passed);
+      low = omega arith;
+      high = omega arith;
       long = cc;
     }
 
@@ -95,51 +95,47 @@ overflow_add-number g c =
     let far = slice_fits l.invariant.walk c.in-Some.ensures.found c.in-Some-field_behind.ensures.found in
     let s = c.in-Some.ensures.found in
     let p = c.in-Some-field_behind.ensures.found in
-    omega (arith, far, p.count, s.count, l.invariant.walk.count, length-take-le c.args.to c.args.bytes.now (omega arith), c.requires.within, c.requires.short)
+    omega (arith, length-take-le c.args.to c.args.bytes.now (omega arith))
 
 pub overflow_add-end : goal.overflow_add-end
 overflow_add-end g c =
     let l = c.loop-interval in
     let far = slice_fits l.invariant.walk c.in-Some.ensures.found c.in-Some-field_behind.ensures.found in
-    omega (arith, far, l.invariant.high, length-take-le c.args.to c.args.bytes.now (omega arith), c.requires.within, c.requires.room)
+    omega (arith, length-take-le c.args.to c.args.bytes.now (omega arith))
 
 pub overflow_add-at : goal.overflow_add-at
 overflow_add-at g c =
     let l = c.loop-interval in
     let far = slice_fits l.invariant.walk c.in-Some.ensures.found c.in-Some-field_behind.ensures.found in
-    omega (arith, far, length-take-le c.args.to c.args.bytes.now (omega arith), c.requires.within, c.requires.short)
+    omega (arith, length-take-le c.args.to c.args.bytes.now (omega arith))
 
 pub overflow_add-from : goal.overflow_add-from
 overflow_add-from g c =
     let l = c.loop-interval in
     let near = step_fits l.invariant.walk c.in-Some.ensures.found in
-    omega (arith, near, length-take-le c.args.to c.args.bytes.now (omega arith), c.requires.within, c.requires.short)
+    omega (arith, length-take-le c.args.to c.args.bytes.now (omega arith))
 
 pub copy_near-requires-in-loop-interval-clause-within : goal.copy_near-requires-in-loop-interval-clause-within
 copy_near-requires-in-loop-interval-clause-within g c =
     let l = c.loop-interval in
     let far = slice_fits l.invariant.walk c.in-Some.ensures.found c.in-Some-field_behind.ensures.found in
-    (omega (arith, c.in-Some-field_behind.ensures.found.count), omega (arith, far, length-take-le c.args.to c.args.bytes.now (omega arith), c.requires.within))
+    (omega (arith, c.in-Some-field_behind.ensures.found.count), omega (arith, length-take-le c.args.to c.args.bytes.now (omega arith), c.requires.within))
 
 pub copy_near-requires-clause-within : goal.copy_near-requires-clause-within
 copy_near-requires-clause-within g c =
     let l = c.loop-interval in
     let near = step_fits l.invariant.walk c.in-Some.ensures.found in
-    (omega (arith, near, length-take-le c.args.to c.args.bytes.now (omega arith), c.requires.within), omega (arith, c.requires.within))
+    (omega (arith, length-take-le c.args.to c.args.bytes.now (omega arith)), omega arith)
 
 pub overflow_add-last : goal.overflow_add-last
 overflow_add-last g c =
     let l = c.loop-interval in
     let w = l.invariant.walk in
     let all = c.intervals-selected.result.now in
-    omega (
-      arith,
-      not_past all (take 1 (drop c.args.to c.args.bytes.now)) _ w c.loop-interval-test.true,
-      w.low_is,
-    )
+    omega (arith, not_past all (take 1 (drop c.args.to c.args.bytes.now)) _ w c.loop-interval-test.true)
 
 pub copy_near-requires-in-loop-interval-clause-room : goal.copy_near-requires-in-loop-interval-clause-room
 copy_near-requires-in-loop-interval-clause-room g c =
     let l = c.loop-interval in
     let far = slice_fits l.invariant.walk c.in-Some.ensures.found c.in-Some-field_behind.ensures.found in
-    omega (arith, far, l.invariant.high, l.invariant.long, length-take-le c.args.to c.args.bytes.now (omega arith), c.requires.within, c.requires.room)
+    omega (arith, length-take-le c.args.to c.args.bytes.now (omega arith))

@@ -18,7 +18,7 @@ returns-then-first-to-clause-put g c =
     let to = c.args.to in
     let line = take to bytes in
     let place = unwrap_or c.find_near.result (length bytes) in
-    let first = first_within d bytes c.find_near.result to c.find_near.ensures (omega (arith, c.if-first-to.true, c.unwrap_or-first.ensures)) (omega (arith, c.requires.first.0.high)) in
+    let first = first_within d bytes c.find_near.result to c.find_near.ensures (omega arith) (omega arith) in
     puts_line job c.requires.by_fields c.requires.ending bytes to c.requires.first (cut_fields job line)
     (of_fields job c.requires.by_fields line (found d line (Some place) first)) c.put_fields.ensures.put
 
@@ -47,4 +47,4 @@ pub put_fields-requires-clause-first : goal.put_fields-requires-clause-first
 put_fields-requires-clause-first g c =
     let bytes = c.args.bytes.now in
     let d = c.args.job.now.delim in
-    rw c.unwrap_or-first.ensures (first_within d bytes c.find_near.result c.args.to c.find_near.ensures (omega (arith, c.unwrap_or-first.ensures, c.if-first-to.true)) (omega (arith, c.requires.first.0.high)))
+    rw c.unwrap_or-first.ensures (first_within d bytes c.find_near.result c.args.to c.find_near.ensures (omega arith) (omega arith))

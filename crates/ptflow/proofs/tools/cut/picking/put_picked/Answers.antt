@@ -11,7 +11,7 @@ pub swizzle-lanes : goal.swizzle-lanes
 swizzle-lanes c =
     let pick = c.args.pick.now in
     let p = c.requires.pick in
-    SwzOk-from_below w8 16 1 16 0 pick.row refl (omega (arith, p.1.long)) (pick_lanes _ p.1)
+    SwzOk-from_below w8 16 1 16 0 pick.row refl (omega arith) (pick_lanes _ p.1)
 
 pub returns-clause-picked : goal.returns-clause-picked
 returns-clause-picked c selected is =
@@ -32,4 +32,4 @@ returns-clause-picked c selected is =
     ∙ few_enough selected c.args.bytes.now is.most c.requires.short c.requires.within.1)
 
 pub returns-clause-near : goal.returns-clause-near
-returns-clause-near c = omega (arith, c.from.ensures, pick_few _ c.requires.pick.1 c.min.result (omega (arith, c.min.ensures)), c.min.ensures)
+returns-clause-near c = omega (arith, pick_few _ c.requires.pick.1 c.min.result (omega (arith, c.min.ensures)))

@@ -27,7 +27,7 @@ returns-then-is_none-clause-passed g c =
 pub overflow_add-run : goal.overflow_add-run
 overflow_add-run g c =
     let w = c.count_same-same.ensures in
-    omega (arith, w.number, text_long c.args.ending w.front, ap length w.texts, length-take-le c.count_same-same.result.passed c.args.block.now w.within, w.within, c.requires.open.1, c.requires.short)
+    omega (arith, text_long c.args.ending w.front, ap length w.texts, length-take-le c.count_same-same.result.passed c.args.block.now w.within)
 
 pub returns-in_default-clause-continues : goal.returns-in_default-clause-continues
 returns-in_default-clause-continues g c =
@@ -56,7 +56,7 @@ returns-in_err-push_run-clause-halts g c =
     on_err c.from_residual.result
     (block_run_halts went c.requires.open.0 c.in-Some.at (rw take_rest at c.in-Some.ensures) out
     (run_wrote job (c.args.run.now.count + same.count) c.first_line-2.ensures
-    (ap (λ b. b ∷ []) c.requires.fits) c.push_run.ensures.wrote) c.in_err-push_run.ensures.fault)
+    (cc (c.requires.fits)) c.push_run.ensures.wrote) c.in_err-push_run.ensures.fault)
 
 pub returns-in_err-last-clause-halts : goal.returns-in_err-last-clause-halts
 returns-in_err-last-clause-halts g c =
@@ -66,7 +66,7 @@ returns-in_err-last-clause-halts g c =
     on_err c.from_residual-in_err-last.result
     (block_halts went c.requires.open.0 c.in-Some.at (rw take_rest at c.in-Some.ensures) c.push_runs.new.out
     (run_wrote job (c.args.run.now.count + same.count) c.first_line-2.ensures
-    (ap (λ b. b ∷ []) c.requires.fits) c.push_run.ensures.wrote)
+    (cc (c.requires.fits)) c.push_run.ensures.wrote)
     c.in_ok-push_run.ensures.clean (rw take_rest at c.in_err-last.ensures.halts))
 
 pub returns-clause-continues : goal.returns-clause-continues
@@ -85,8 +85,8 @@ pub returns-clause-passed : goal.returns-clause-passed
 returns-clause-passed g c =
     let job = uniq_job c.args.self.now in
     let same = c.count_same-same.result in
-    let went = subst (λ l. GoesOnWith job c.args.ending l c.args.block.now same) c.first_line.ensures c.count_same-same.ensures in
+    let went = rw c.first_line.ensures at c.count_same-same.ensures in
     let passed = rw take_rest at c.in_ok-last.ensures.passed in (
-      omega (arith, went.within, passed.0, length-drop same.passed c.args.block.now),
+      omega (arith, length-drop same.passed c.args.block.now),
       block_passed went c.requires.open.0 c.in_ok-last.last.passed passed.1,
     )

@@ -8,18 +8,18 @@ pub returns-then-is_blank : goal.returns-then-is_blank
 returns-then-is_blank c =
     let line = c.args.line.now in
     let at = c.loop-at.at in
-    cc (take_rest line at, blank_front line at (omega (arith, c.loop-at-test.true)) (sym c.is_blank.ensures ∙ c.if-is_blank.true))
+    cc (take_rest line at, blank_front line at (omega arith) (cc))
 
 pub loop-at-preserved : goal.loop-at-preserved
 loop-at-preserved c =
     let line = c.args.line.now in
     let at = c.loop-at.at in
     let next : at + 1 ≡ suc at = omega arith in
-    cc (other_front line at (omega (arith, c.loop-at-test.true)) (sym c.is_blank.ensures ∙ c.if-is_blank.false))
+    cc (other_front line at (omega arith) (cc))
 
 pub returns : goal.returns
 returns c =
     let line = c.args.line.now in
-    let end : c.loop-at.at ≡ length line = omega (arith, c.loop-at-test.false, c.loop-at.auto.at-end) in
+    let end : c.loop-at.at ≡ length line = omega arith in
     let none = drop_all (length line) line (omega arith) in
     take_rest line (length line) ∙ none ∙ sym (ap after_bytes none) ∙ ap (λ n. after_bytes (drop n line)) (sym end) ∙ c.loop-at.invariant

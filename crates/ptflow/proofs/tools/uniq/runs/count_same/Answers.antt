@@ -24,7 +24,7 @@ returns-then-ne c =
 pub overflow_add-count : goal.overflow_add-count
 overflow_add-count c =
     let t = counting_few c.lines.invariant.counting in
-    omega (arith, t, c.requires)
+    omega arith
 
 pub lines-preserved : goal.lines-preserved
 lines-preserved c =

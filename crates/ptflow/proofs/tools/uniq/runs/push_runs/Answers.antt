@@ -26,7 +26,7 @@ lines-init g c =
 pub overflow_add-count : goal.overflow_add-count
 overflow_add-count g c =
     let few = running_few c.lines.invariant in
-    omega (arith, few, c.requires.short)
+    omega arith
 
 pub lines-preserved-then-eq : goal.lines-preserved-then-eq
 lines-preserved-then-eq g c =
@@ -65,27 +65,25 @@ returns-in_err-push-clause-halts g c =
     let job = uniq_job c.args.job.now in
     let rest = c.lines.rest.now in
     on_err c.from_residual-in_err-push.result (rw c.requires.ending (running_unended c.lines.invariant
-    (subst (λ b. IsLine b rest) c.requires.ending (no_end c.args.ending rest c.in_default.ensures)) c.push.ensures.wrote c.in_err-push.ensures.fault))
+    (rw c.requires.ending at (no_end c.args.ending rest c.in_default.ensures)) c.push.ensures.wrote c.in_err-push.ensures.fault))
 
 pub overflow_sub-result : goal.overflow_sub-result
 overflow_sub-result g c =
     let few = running_few c.lines.invariant in
-    omega (arith, few)
+    omega arith
 
 pub returns-clause-continues : goal.returns-clause-continues
 returns-clause-continues g c =
     let job = uniq_job c.args.job.now in
     let rest = c.lines.rest.now in
-    subst (λ b. RunsOn job (run_of [] 0) (run_of (slice_range c.args.block.now c.lines.line.from (c.lines.line.to - 1)) c.lines.count)
-    (ended_lines b c.args.block.now) c.args.out.now c.push.new.self) (sym c.requires.ending) (running_done c.lines.invariant
+    rw c.requires.ending (running_done c.lines.invariant
     (subst (λ b. IsLine b rest) c.requires.ending (no_end c.args.ending rest c.in_default.ensures)) c.push.ensures.wrote c.in_ok-push.ensures.clean)
 
 pub returns-clause-passed : goal.returns-clause-passed
 returns-clause-passed g c =
     let rest = c.lines.rest.now in (
       omega arith,
-      subst (λ b. take (length c.args.block.now - length rest) c.args.block.now ≡ text b (ended_lines b c.args.block.now)) (sym c.requires.ending)
-          (running_passed c.lines.invariant
+      rw c.requires.ending (running_passed c.lines.invariant
           (subst (λ b. IsLine b rest) c.requires.ending (no_end c.args.ending rest c.in_default.ensures)) c.push.ensures.wrote),
     )
 

@@ -17,7 +17,7 @@ lines-preserved g c =
     rw take_rest (record {
       taken = taken_more _ c.put_lines-size.result.0 put.taken l.invariant.taken;
       on = λ more. l.invariant.on more ∙ put.on more;
-      space = omega (arith, l.invariant.space, put.fits, c.put_lines-size.ensures.end.1, length-drop c.put_lines-size.result.0 l.rest.now);
+      space = omega (arith, length-drop c.put_lines-size.result.0 l.rest.now);
       long = cc;
     })
 
