@@ -61,7 +61,7 @@ returns-then-is_empty g c =
     let b = c.block.follows.holds-at-none in
     let m = midway_sent c.turns.invariant.midway c.send_before_wait.ensures.wrote c.in_ok-send_before_wait.ensures.clean in
     let shows = (rw c.in-Ok.is at b.shows) m.reached.goes.fault in
-    let none : c.in-Ok.block.now ≡ [] = nil_from_length c.in-Ok.block.now (eqb-true (length c.in-Ok.block.now) 0 (cc)) in
+    let none : c.in-Ok.block.now ≡ [] = nil_from_length c.in-Ok.block.now (eqb-true (length c.in-Ok.block.now) 0 (sym c.is_empty.ensures ∙ c.if-is_empty.true)) in
     λ t tool store ready. block_done tool
     m ready b.was_sound shows.0.reads b.is_sound c.turns.invariant.holds c.turns.invariant.all
     c.push_end.ensures.wrote (shows.2 none) shows.0.failed c.in_ok-push_end-in-Ok.ensures.clean shows.0.fault (b.is_sound.long shows.0.fault)

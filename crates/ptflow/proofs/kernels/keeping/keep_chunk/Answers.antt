@@ -18,8 +18,8 @@ returns-then-gone-eq0-clause-kept c =
     let test = holds c.args.set in
     let lanes = λ (k : ℕ). lanes_of_mask test (chunk k 16 from) in
     let none = none_of_four (map test (chunk at 16 from)) (map test (chunk (at + 16) 16 from)) (map test (chunk (at + 32) 16 from)) (map test (chunk (at + 48) 16 from))
-    (flags_long test at from (omega arith)) (flags_long test (at + 16) from (omega arith))
-    (flags_long test (at + 32) from (omega arith)) (flags_long test (at + 48) from (omega arith))
+    (flags_long test at from (omega (arith, c.requires.lanes))) (flags_long test (at + 16) from (omega (arith, c.requires.lanes)))
+    (flags_long test (at + 32) from (omega (arith, c.requires.lanes))) (flags_long test (at + 48) from (omega (arith, c.requires.lanes)))
     (cc (lanes at)) (cc (lanes (at + 16))) (cc (lanes (at + 32))) (cc (lanes (at + 48))) c.if-gone-eq0.true in
     cc (all_kept_in_four test at from none)
 

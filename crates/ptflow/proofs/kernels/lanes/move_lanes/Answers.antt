@@ -8,5 +8,6 @@ returns-clause-begun g c =
     let at = c.args.at in
     let made = c.moved-lanes.result in
     let long : length made ≡ 16 =
-    cc (length-map _ (g.M.Mover.becomes c.args.by), length-chunk at 16 c.args.from.now c.requires.room) in
-    cc (take_more_put_chunk at c.args.to.now made (at + 16) (omega arith) (omega arith))
+    ap length c.moved-lanes.ensures ∙ length-map _ (g.M.Mover.becomes c.args.by) ∙ length-chunk at 16 c.args.from.now c.requires.room in
+    take_more_put_chunk at c.args.to.now made (at + 16) (omega arith) (omega arith)
+    ∙ ap (◌++◌ (take at c.args.to.now)) c.moved-lanes.ensures

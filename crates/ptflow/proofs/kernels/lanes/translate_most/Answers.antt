@@ -28,6 +28,6 @@ pub returns : goal.returns
 returns c =
     let ss = c.args.shifts.now in
     moved_same (by_four _) (shifted ss) _ c.args.from.now _
-    (λ b low. four_move ss c.stretch.ensures.few b (cc (c.of-a.ensures b low)) (cc (c.of-b.ensures b low))
-    (cc (c.of-c.ensures b low)) (cc (c.of-d.ensures b low)))
+    (λ b low. four_move ss c.stretch.ensures.few b (c.of-a.ensures b low ∙ ap (told b) c.stretch.ensures.found) (c.of-b.ensures b low ∙ ap (told b) c.stretch-2.ensures.found)
+    (c.of-c.ensures b low ∙ ap (told b) c.stretch-5.ensures.found) (c.of-d.ensures b low ∙ ap (told b) c.stretch-6.ensures.found))
     c.type_inv.from c.move_most-2.ensures

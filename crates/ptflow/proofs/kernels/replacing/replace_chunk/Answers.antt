@@ -47,17 +47,17 @@ loop-end-preserved c =
     let long = length-chunk at 64 c.args.from.now c.requires.room in
     let counted = ap count_ones c.marks-marked.ensures ∙ ones-mask_l p v in
     let k = count_trailing_zeros 64 loop.marked in
-    let here = behind_set p v n (omega arith) (omega arith) loop.invariant.bits in
+    let here = behind_set p v n (omega (arith, long)) (omega (arith, counted, c.loop-end-test.true)) loop.invariant.bits in
     let next : suc n ≡ n + 1 = omega arith in
     let delim : c.unwrap_or.result ≡ unwrap_or (delim_at delims (first + n)) end = cc in
-    let front : length (take at c.args.to.now) ≡ at = length-take-le at c.args.to.now (omega arith) in
+    let front : length (take at c.args.to.now) ≡ at = length-take-le at c.args.to.now (omega (arith, c.requires.same, c.requires.room)) in
     record {
       bits = cc (cleared n (map p v) loop.auto.marked-fits.fits loop.invariant.bits);
       place = cc;
-      number = omega arith;
+      number = omega (arith, c.next-turn.ensures.number, loop.invariant.number);
       long = cc (length-set loop.to (at + k) c.unwrap_or.result);
       replaced =
-          cc (set_in_chunk loop.to (take at c.args.to.now) (first_turns end delims n first v) _ 64 k c.unwrap_or.result loop.invariant.replaced front (omega arith), turn_on end delims n first v k here);
+          cc (set_in_chunk loop.to (take at c.args.to.now) (first_turns end delims n first v) _ 64 k c.unwrap_or.result loop.invariant.replaced front (omega (arith, here.0, long)), turn_on end delims n first v k here);
     }
 
 pub returns-clause-next : goal.returns-clause-next

@@ -35,8 +35,8 @@ loop-at-preserved c =
 
 pub returns-clause-number : goal.returns-clause-number
 returns-clause-number c =
-    let all : length c.args.from.now ≤ c.loop-at.at = omega arith in
-    cc (take_all c.loop-at.at c.args.from.now all)
+    let all : length c.args.from.now ≤ c.loop-at.at = omega (arith, c.loop-at-test.false) in
+    c.loop-at.invariant.2 ∙ ap (λ l. c.args.number + count_by (is_byte c.args.ending) l) (take_all c.loop-at.at c.args.from.now all)
 
 pub returns-clause-replaced : goal.returns-clause-replaced
 returns-clause-replaced c =

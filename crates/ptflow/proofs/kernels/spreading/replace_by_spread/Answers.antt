@@ -27,4 +27,7 @@ returns-clause-replaced c =
     let turn = c.spread_most-at.result.0 in
     let rest : c.replace_in_turn.new.to ≡ with_turns end turns turn.number (drop at from) = rw take_rest at c.replace_in_turn.ensures.replaced in
     let none : drop (length mid - at) (drop at mid) ≡ [] = drop_all (length mid - at) (drop at mid) (omega (arith, length-drop at mid)) in
-    cc (append-nil (with_turns end turns turn.number (drop at from)), turns-append end turns 0 (take at from) (drop at from), take-append-drop at from)
+    (λ i. c.spread_most-at.ensures.4 i ++ (rest i ++ none i))
+    ∙ ap (◌++◌ (with_turns end turns 0 (take at from))) (append-nil (with_turns end turns turn.number (drop at from)))
+    ∙ ap (λ m. with_turns end turns 0 (take at from) ++ with_turns end turns m (drop at from)) c.spread_most-at.ensures.2
+    ∙ sym (turns-append end turns 0 (take at from) (drop at from)) ∙ ap (with_turns end turns 0) (take-append-drop at from)

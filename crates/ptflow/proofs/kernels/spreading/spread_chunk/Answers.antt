@@ -20,8 +20,8 @@ loop-behind-init c =
     let long = length-chunk at 64 c.args.from.now c.requires.room in
     record {
       bits = c.marks-marked.ensures;
-      long = cc (length-put_chunk at c.args.to.now (chunk at 64 c.args.from.now));
-      replaced = take_more_put_chunk at c.args.to.now (chunk at 64 c.args.from.now) (at + 64) (omega arith) (omega arith);
+      long = length-put_chunk at c.args.to.now (chunk at 64 c.args.from.now) ∙ c.requires.same;
+      replaced = take_more_put_chunk at c.args.to.now (chunk at 64 c.args.from.now) (at + 64) (omega (arith, long)) (omega (arith, long, c.requires.same, c.requires.room));
     }
 
 pub bounds-to-end : goal.bounds-to-end
@@ -82,4 +82,4 @@ pub returns-clause-replaced : goal.returns-clause-replaced
 returns-clause-replaced c =
     let v = chunk c.args.at 64 c.args.from.now in
     let counted = ap count_ones c.marks-marked.ensures ∙ ones-mask_l (is_byte c.args.ending) v in
-    cc (all_turned c.args.ending c.args.turns.now c.args.turn.number v c.loop-behind.behind (omega arith))
+    cc (all_turned c.args.ending c.args.turns.now c.args.turn.number v c.loop-behind.behind (omega (arith, counted, c.loop-behind-test.false, c.loop-behind.auto)))

@@ -46,4 +46,4 @@ pub squeeze_tail-requires-clause-counted : goal.squeeze_tail-requires-clause-cou
 squeeze_tail-requires-clause-counted c = c.loop-at.invariant.counted
 
 pub returns-clause-squeezed : goal.returns-clause-squeezed
-returns-clause-squeezed c = cc
+returns-clause-squeezed c = c.squeeze_tail.ensures.squeezed ∙ c.loop-at.invariant.is

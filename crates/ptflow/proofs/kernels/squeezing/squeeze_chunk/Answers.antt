@@ -21,11 +21,12 @@ returns-then-same-eq0-clause-squeezed c =
     let room = c.requires.lanes in
     let lanes = λ (k : ℕ). same_lanes (chunk (k - 1) 16 from) (chunk k 16 from) in
     let same = none_of_four (same_flags at from) (same_flags (at + 16) from) (same_flags (at + 32) from) (same_flags (at + 48) from)
-    (flags_long eqb _ from c.requires.behind (omega arith)) (flags_long eqb (at + 16) from (omega arith) (omega arith))
-    (flags_long eqb (at + 32) from (omega arith) (omega arith)) (flags_long eqb (at + 48) from (omega arith) (omega arith))
+    (flags_long eqb _ from c.requires.behind (omega (arith, room))) (flags_long eqb (at + 16) from (omega arith) (omega (arith, room)))
+    (flags_long eqb (at + 32) from (omega arith) (omega (arith, room))) (flags_long eqb (at + 48) from (omega arith) (omega (arith, room)))
     (lanes at) (lanes (at + 16)) (lanes (at + 32)) (lanes (at + 48)) c.if-same-eq0.true in
     let none = λ (k : ℕ). none_same test (chunk (k - 1) 16 from) (chunk k 16 from) in
-    cc (all_stay_in_four test from c.requires.behind room (none at same.0, none (at + 16) same.1, none (at + 32) same.2, none (at + 48) same.3))
+    c.put_chunk.ensures.put ∙ ap (◌++◌ (take c.args.count c.args.into.now))
+    (sym (all_stay_in_four test from c.requires.behind room (none at same.0, none (at + 16) same.1, none (at + 32) same.2, none (at + 48) same.3)))
 
 pub returns-then-gone-eq0-clause-squeezed : goal.returns-then-gone-eq0-clause-squeezed
 returns-then-gone-eq0-clause-squeezed c =
@@ -37,8 +38,8 @@ returns-then-gone-eq0-clause-squeezed c =
     let same = λ (k : ℕ) (v : List ℤ). zip2 bit_and (zip2 (λ a b. cond (eqb a b) 255 0) (chunk (k - 1) 16 from) (chunk k 16 from)) (map (cast_unsigned w8) v) in
     let lanes = λ (k : ℕ). gone_lanes test (chunk (k - 1) 16 from) (chunk k 16 from) in
     let none = none_of_four (gone_flags test at from) (gone_flags test (at + 16) from) (gone_flags test (at + 32) from) (gone_flags test (at + 48) from)
-    (flags_long goes _ from c.requires.behind (omega arith)) (flags_long goes (at + 16) from (omega arith) (omega arith))
-    (flags_long goes (at + 32) from (omega arith) (omega arith)) (flags_long goes (at + 48) from (omega arith) (omega arith))
+    (flags_long goes _ from c.requires.behind (omega (arith, room))) (flags_long goes (at + 16) from (omega arith) (omega (arith, room)))
+    (flags_long goes (at + 32) from (omega arith) (omega (arith, room))) (flags_long goes (at + 48) from (omega arith) (omega (arith, room)))
     (cc (lanes at)) (cc (lanes (at + 16))) (cc (lanes (at + 32))) (cc (lanes (at + 48))) c.if-gone-eq0.true in
     cc (all_stay_in_four test from c.requires.behind room none)
 
@@ -48,4 +49,11 @@ returns-clause-squeezed c =
     let from = c.args.from.now in
     let stays = stays_at (holds c.args.set) from in
     let before = take c.args.count c.args.into.now in
-    cc (append_assoc before (stays at) (stays (at + 16)), append_assoc before (stays at ++ stays (at + 16)) (stays (at + 32)), append_assoc before ((stays at ++ stays (at + 16)) ++ stays (at + 32)) (stays (at + 48)), stays_in_four (holds c.args.set) from c.requires.behind c.requires.lanes)
+    c.squeeze_lanes.ensures.squeezed
+    ∙ ap (λ (l : List ℕ). l ++ stays (at + 48)) c.squeeze_lanes-third.ensures.squeezed
+    ∙ ap (λ (l : List ℕ). (l ++ stays (at + 32)) ++ stays (at + 48)) c.squeeze_lanes-second.ensures.squeezed
+    ∙ ap (λ (l : List ℕ). ((l ++ stays (at + 16)) ++ stays (at + 32)) ++ stays (at + 48)) c.squeeze_lanes-first.ensures.squeezed
+    ∙ ap (λ (l : List ℕ). (l ++ stays (at + 32)) ++ stays (at + 48)) (append_assoc before (stays at) (stays (at + 16)))
+    ∙ ap (λ (l : List ℕ). l ++ stays (at + 48)) (append_assoc before (stays at ++ stays (at + 16)) (stays (at + 32)))
+    ∙ append_assoc before ((stays at ++ stays (at + 16)) ++ stays (at + 32)) (stays (at + 48))
+    ∙ ap (λ (l : List ℕ). before ++ l) (stays_in_four (holds c.args.set) from c.requires.behind c.requires.lanes)

@@ -125,7 +125,8 @@ field_behind-requires-clause-first g c =
 pub field_behind-requires-in-loop-interval-clause-first : goal.field_behind-requires-in-loop-interval-clause-first
 field_behind-requires-in-loop-interval-clause-first g c =
     let line = c.args.line.now in
-    rw (take_all (length line) line (omega arith)) c.requires.first
+    subst (λ l. IsFirstByte (is_byte c.args.job.now.delim) l (Some c.args.first))
+    (sym (take_all (length line) line (omega arith))) c.requires.first
 
 pub overflow_add-last : goal.overflow_add-last
 overflow_add-last g c =

@@ -23,5 +23,5 @@ returns-clause-continues g c =
       pushed = written;
       wrote = c.push.ensures.wrote;
       clean = c.in_ok-push.ensures.clean;
-      on = λ rest. block_on t.by.plan.now t.last block rest made (cc);
+      on = λ rest. block_on t.by.plan.now t.last block rest made (c.or-self.ensures ∙ ap (λ o. option_or o t.last) (c.copied.ensures ∙ c.last.ensures.value));
     }

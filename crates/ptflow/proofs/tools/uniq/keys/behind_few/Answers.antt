@@ -15,7 +15,7 @@ loop-at-preserved c =
     let line = c.args.line.now in
     let at = c.loop-at.at in
     let next : at + 1 ≡ suc at = omega arith in
-    cc (other_front line at (omega arith) (cc))
+    cc (other_front line at (omega (arith, c.loop-at-test.true)) (sym c.is_blank.ensures ∙ c.if-is_blank.false))
 
 pub returns : goal.returns
 returns c =

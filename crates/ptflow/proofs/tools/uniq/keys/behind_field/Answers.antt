@@ -5,10 +5,12 @@ use Rattle.ptflow.proofs.tools.uniq.keys.behind_field.Goals as goal
 
 pub returns-then-not-is_blank : goal.returns-then-not-is_blank
 returns-then-not-is_blank c =
-    cc (other_first c.blanks.rest.now c.in-len1-up.len_at_least (sym c.is_blank.ensures ∙ c.if-not-is_blank.true), after_one c.args.line.now)
+    c.behind_bytes.ensures ∙ sym (other_first c.blanks.rest.now c.in-len1-up.len_at_least
+    (sym c.is_blank.ensures ∙ c.if-not-is_blank.true)) ∙ c.blanks.invariant ∙ sym (after_one c.args.line.now)
 
 pub blanks-preserved : goal.blanks-preserved
-blanks-preserved c = cc (blank_first c.blanks.rest.now c.in-len1-up.len_at_least (take_rest c.blanks.rest.now 1) (sym c.is_blank.ensures ∙ c.if-not-is_blank.false))
+blanks-preserved c = sym (blank_first c.blanks.rest.now c.in-len1-up.len_at_least (take_rest c.blanks.rest.now 1) (sym c.is_blank.ensures ∙ c.if-not-is_blank.false)) ∙ c.blanks.invariant
 
 pub returns : goal.returns
-returns c = let none : c.blanks.rest.now ≡ [] = nil_from_length c.blanks.rest.now (omega arith) in cc (behind_none 1, after_one c.args.line.now)
+returns c = let none : c.blanks.rest.now ≡ [] = nil_from_length c.blanks.rest.now (omega arith) in none ∙ sym (ap (behind 1) none ∙ behind_none 1)
+    ∙ c.blanks.invariant ∙ sym (after_one c.args.line.now)

@@ -21,4 +21,4 @@ loop-field-preserved c =
 pub returns : goal.returns
 returns c =
     let none : c.args.fields - c.loop-field._field ≡ 0 = omega arith in
-    cc (behind_zero c.loop-field.rest.now, behind_is c.args.fields c.args.line.now)
+    sym (ap (λ n. behind n c.loop-field.rest.now) none ∙ behind_zero c.loop-field.rest.now) ∙ c.loop-field.invariant ∙ behind_is c.args.fields c.args.line.now

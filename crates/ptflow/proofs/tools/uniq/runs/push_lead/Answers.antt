@@ -6,9 +6,9 @@ use Rattle.ptflow.proofs.tools.uniq.runs.push_lead.Goals as goal
 
 pub returns-in_err-push-in-Counts-clause-wrote : goal.returns-in_err-push-in-Counts-clause-wrote
 returns-in_err-push-in-Counts-clause-wrote g c =
-    let digits : c.as_bytes.result.now ≡ decimal c.args.count = cc in
+    let digits : c.as_bytes.result.now ≡ decimal c.args.count = c.as_bytes.ensures.value ∙ c.format.ensures.text in
     rw c.in-Counts.is (wrote_past _ _ _ (32 ∷ []) c.in_err-push-in-Counts.ensures.fault
-    (rw digits at c.push.ensures.wrote))
+    (subst (Wrote c.args.out.now c.push.new.self) digits c.push.ensures.wrote))
 
 pub returns-in_ok-push-in-Counts-clause-wrote : goal.returns-in_ok-push-in-Counts-clause-wrote
 returns-in_ok-push-in-Counts-clause-wrote g c =

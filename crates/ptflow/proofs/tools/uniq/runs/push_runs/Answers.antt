@@ -83,7 +83,8 @@ pub returns-clause-passed : goal.returns-clause-passed
 returns-clause-passed g c =
     let rest = c.lines.rest.now in (
       omega arith,
-      rw c.requires.ending (running_passed c.lines.invariant
+      subst (λ b. take (length c.args.block.now - length rest) c.args.block.now ≡ text b (ended_lines b c.args.block.now)) (sym c.requires.ending)
+          (running_passed c.lines.invariant
           (subst (λ b. IsLine b rest) c.requires.ending (no_end c.args.ending rest c.in_default.ensures)) c.push.ensures.wrote),
     )
 

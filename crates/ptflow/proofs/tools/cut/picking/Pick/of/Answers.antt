@@ -10,8 +10,8 @@ loop-place-preserved g c =
     let selected = is_selected c.args.list.now in
     let loop = c.loop-place in
     pick_more selected (omega arith) loop.invariant
-    (cc)
-    (cc)
+    (c.from-count.ensures ∙ ap bool_byte c.contains.ensures ∙ ap (λ n. bool_byte (selected (n + 1))) c.from.ensures)
+    (ap (λ n. set loop.counts (n + 1) (loop.count + c.from-count.result)) c.from-in-loop-place.ensures)
 
 pub returns : goal.returns
 returns g c =
