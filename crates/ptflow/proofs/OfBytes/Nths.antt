@@ -72,13 +72,7 @@ and_less (false ∷ bits) =
 
 -- the lowest bit that is set is cleared
 pub cleared : (n : ℕ) {x : ℕ} (bits : List Bool) → x < 2 ^ 64 → x ≡ mask_l (without n bits) → bit_and x ((x + (2 ^ 64 - 1)) % 2 ^ 64) ≡ mask_l (without (suc n) bits)
-cleared n {x} bits small is = by_cases x small is
-  where
-    by_cases : (y : ℕ) → y < 2 ^ 64 → y ≡ mask_l (without n bits) → bit_and y ((y + (2 ^ 64 - 1)) % 2 ^ 64) ≡ mask_l (without (suc n) bits)
-    by_cases zero lt e = and_zero_l ((0 + (2 ^ 64 - 1)) % 2 ^ 64) ∙ sym (and_zero_l (0 - 1)) ∙ ap (λ z. bit_and z (z - 1)) e ∙ and_less (without n bits)
-    by_cases (suc y) lt e =
-        let less : (suc y + (2 ^ 64 - 1)) % 2 ^ 64 ≡ suc y - 1 = omega arith in
-        cc (and_less (without n bits))
+cleared n {x} bits small is = grind (arith, and_less (without n bits))
 
 map_self : (bits : List Bool) → map (λ b. b) bits ≡ bits
 map_self [] = refl

@@ -1,6 +1,7 @@
 -- What `cut` by bytes writes of the rest of a text, a piece at a time. A piece of a line adds to the places counted,
 -- and an end of a line sets them back; from no place on this is what it is to write of whole lines.
 use Rattle.std.proofs.Common.{◌≡◌, ℕ, suc, ◌+◌, ◌-◌, ◌≤◌, ◌*◌, ◌^◌, ◌==◌, Bool, true, false, cond, List, [], ◌∷◌, ◌++◌, map, length, take, drop, Some, refl, sym, ◌∙◌, ap, arith, append_assoc}
+use Rattle.std.proofs.lemmas.Grind.{common_steps}
 use Rattle.std.specs.List.{onto_first, flat_map}
 use Rattle.std.specs.Simd.Lanes.{mask_l, chunk}
 use Rattle.std.proofs.lemmas.Simd.{length-chunk, chunk-drop}
@@ -37,18 +38,10 @@ module _ (end : ℕ) (selected : ℕ → Bool) where
   -- one byte of a line
   rest_onto : (before b : ℕ) (ls : List (List ℕ)) → rest_of_lines end selected before (onto_first b ls) ≡ chosen_from selected (before + 1) (b ∷ []) ++ rest_of_lines end selected (before + 1) ls
   rest_onto before b [] = let some : (before + 1 == 0) ≡ false = grind (arith, nat_tests) in rw some refl
-  rest_onto before b (line ∷ ls) = by_test (selected (before + 1))
-    where
-      by_test : (t : Bool) → cond t (b ∷ chosen_from selected (before + 1 + 1) line) (chosen_from selected (before + 1 + 1) line) ++ end ∷ cut_text ls
-          ≡ cond t (b ∷ []) [] ++ (chosen_from selected (before + 1 + 1) line ++ end ∷ cut_text ls)
-      by_test true = refl
-      by_test false = refl
+  rest_onto before b (line ∷ ls) = grind arith
 
   chosen_onto : (n b : ℕ) (xs : List ℕ) → chosen_from selected n (b ∷ []) ++ chosen_from selected (n + 1) xs ≡ chosen_from selected n (b ∷ xs)
-  chosen_onto n b xs = by_test (selected n)
-    where
-      by_test : (t : Bool) → cond t (b ∷ []) [] ++ chosen_from selected (n + 1) xs ≡ cond t (b ∷ chosen_from selected (n + 1) xs) (chosen_from selected (n + 1) xs)
-      by_test t = grind arith
+  chosen_onto n b xs = grind arith
 
   -- a piece of a line
   pub rest_piece : (before : ℕ) (piece rest : List ℕ) → IsLine end piece → cut_rest end selected before (piece ++ rest)
@@ -72,14 +65,7 @@ module _ (end : ℕ) (bytes : List ℕ) (at : ℕ) (first : IsFirstByte (is_byte
 pub empty_lines : (end : ℕ) (selected : ℕ → Bool) (ends more : List ℕ) → mask_l (map (is_byte end) ends) + 1 ≡ 2 ^ length ends
     → cut_rest end selected 0 (ends ++ more) ≡ ends ++ cut_rest end selected 0 more
 empty_lines end selected [] more all = refl
-empty_lines end selected (b ∷ ends) more all = by_test (is_byte end b) refl all (empty_lines end selected ends more)
-  where
-    by_test : (t : Bool) → is_byte end b ≡ t → cond t 1 0 + 2 * mask_l (map (is_byte end) ends) + 1 ≡ 2 ^ suc (length ends)
-        → (mask_l (map (is_byte end) ends) + 1 ≡ 2 ^ length ends → cut_rest end selected 0 (ends ++ more) ≡ ends ++ cut_rest end selected 0 more)
-        → cut_rest end selected 0 (b ∷ ends ++ more) ≡ b ∷ ends ++ cut_rest end selected 0 more
-    by_test true is every next =
-        cc (eqb-true b end is, rest_line end selected 0 [] (ends ++ more) tt, next (omega (arith, pow-succ' 2 (length ends))))
-    by_test false is every next = absurd (omega (arith, pow-succ' 2 (length ends)))
+empty_lines end selected (b ∷ ends) more all = grind (arith, common_steps, empty_lines end selected ends more)
 
 -- 64 of them that stand at a place of a block, where no byte of a line came earlier
 pub ends_on : (end : ℕ) (selected : ℕ → Bool) (block : List ℕ) {from start now marked : ℕ} → from + 64 ≤ length block → start ≡ from → now ≡ 0 → marked

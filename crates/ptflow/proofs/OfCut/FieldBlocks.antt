@@ -1,6 +1,7 @@
 -- What `cut` by fields writes of the first lines of a block: of a line with the delimiter its fields, and lines without
 -- it as they are, or nothing.
 use Rattle.std.proofs.Common.{◌≡◌, ℕ, zero, suc, ◌+◌, ◌-◌, ◌<◌, ◌≤◌, ◌==◌, ◌⊎◌, inl, inr, Bool, true, false, cond, List, [], ◌∷◌, ◌++◌, length, take, drop}
+use Rattle.std.proofs.lemmas.Grind.{common_steps}
 use Rattle.std.proofs.Common.{get_or, Option, None, Some, refl, sym, ◌∙◌, ap, ap₂, subst, arith, append_assoc, get_or-take, take-append-drop}
 use Rattle.std.specs.Prelude.{◌≢◌, unwrap_or}
 use Rattle.std.specs.List.{flat_map}
@@ -24,32 +25,18 @@ ended-append end (l ∷ ls) bytes whole =
 
 -- bytes that end with the end are the text of their lines
 text_of_ended : (end : ℕ) (front : List ℕ) → text end (ended_lines end (front ++ end ∷ [])) ≡ front ++ end ∷ []
-text_of_ended end front = cc ((the_ended_lines end [] tt).1 front, by_cases ((the_lines end (front ++ end ∷ [])).0.1))
-  where
-    by_cases : let bytes = front ++ end ∷ [] in ((text end (lines end bytes) ≡ bytes)
-        ⊎ ((bytes ≢ []) × ¬ EndsWithByte end bytes × (text end (lines end bytes) ≡ bytes ++ end ∷ []))) → text end (lines end bytes) ≡ bytes
-    by_cases (inl is) = is
-    by_cases (inr other) = absurd (other.1 (front, refl))
+text_of_ended end front = grind (arith, the_ended_lines end [] tt, the_lines end (front ++ end ∷ []))
 
 -- ---- lines without the delimiter
 
 free_front : (d : ℕ) (n : ℕ) (bytes : List ℕ) → IsLine d bytes → IsLine d (take n bytes)
-free_front d n [] free = take_nothing n
-  where
-    take_nothing : (m : ℕ) → IsLine d (take m [])
-    take_nothing zero = tt
-    take_nothing (suc m) = tt
+free_front d n [] free = grind (arith, common_steps)
 free_front d zero (b ∷ bytes) free = tt
 free_front d (suc n) (b ∷ bytes) free = (free.0, free_front d n bytes free.1)
 
 free_lines : (d end : ℕ) (bytes : List ℕ) → IsLine d bytes → AreLines d (ended_lines end bytes)
 free_lines d end [] free = tt
-free_lines d end (b ∷ bytes) free = by_test (b == end) (ended_lines end bytes) (free_lines d end bytes free.1)
-  where
-    by_test : (t : Bool) (ls : List (List ℕ)) → AreLines d ls → AreLines d (cond t ([] ∷ ls) (onto_line b ls))
-    by_test true ls are = (tt, are)
-    by_test false [] are = tt
-    by_test false (l ∷ ls) are = ((free.0, are.0), are.1)
+free_lines d end (b ∷ bytes) free = grind (arith, free_lines d end bytes free.1)
 
 module _ (job : Cut) (by_fields : job.fields ≡ true) where
   lines_kept : job.only ≡ false → (ls : List (List ℕ)) → AreLines job.delimiter ls → flat_map (cut_line job) ls ≡ ls

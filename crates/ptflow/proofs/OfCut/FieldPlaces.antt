@@ -30,12 +30,7 @@ module _ (d : ℕ) where
   -- with one more delimiter in front of it, a line is its fields with a delimiter in front of each
   pub led_fields : (xs : List ℕ) → led d (fields d xs) ≡ d ∷ xs
   led_fields [] = refl
-  led_fields (x ∷ xs) = by_test (x == d) refl (fields d xs) (led_fields xs)
-    where
-      by_test : (t : Bool) → (x == d) ≡ t → (fs : List (List ℕ)) → led d fs ≡ d ∷ xs → led d (cond t ([] ∷ fs) (onto_first x fs)) ≡ d ∷ x ∷ xs
-      by_test true same fs more = ap (◌∷◌ d) (cc (eqb-true x d same))
-      by_test false other [] more = cc
-      by_test false other (f ∷ fs) more = cc
+  led_fields (x ∷ xs) = grind (arith, led_fields xs)
 
   -- fields joined by the delimiter are the same with a delimiter in front of each but the first
   pub join_led : (fs : List (List ℕ)) → join_with_byte d fs ≡ drop 1 (led d fs)

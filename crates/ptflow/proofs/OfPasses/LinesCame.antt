@@ -122,9 +122,9 @@ pub lines_block : {end : ℕ} {reader : Reader} {given : List ℕ} {ls : List (L
     → Goes reader new (text end more) → AreLines end more → LinesCame end new (given ++ text end more) (ls ++ more)
 lines_block {end} {ls} k more goes are = record {
   so_far = ⊎_elim (λ o. inl (cc (text-append end ls more), are_append end ls more o.1 are)) (λ c. inr (
-        cc (lines_on _ _ _ _ k (text end more) (λ done. (done_gives_nothing _ _ _ done goes.reads).0), lines-text end more are),
-        stays_done _ _ _ c.1 goes.reads,
-      )) k.so_far;
+    cc (lines_on _ _ _ _ k (text end more) (λ done. (done_gives_nothing _ _ _ done goes.reads).0), lines-text end more are),
+    stays_done _ _ _ c.1 goes.reads,
+  )) k.so_far;
 }
 
 -- ---- what came earlier

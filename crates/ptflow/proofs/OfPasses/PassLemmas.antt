@@ -1,6 +1,7 @@
 -- How a pass of any tool over one input ends. Midway, what was pushed stands in front of what is written of the rest,
 -- whatever comes; exactness, the beginning for each agreeing input, and what is decided are three readings of that.
 use Rattle.std.proofs.Common.{◌≡◌, ⊎_elim, inl, inr, ℕ, ◌≤◌, ◌<◌, ◌^◌, true, false, List, [], ◌++◌, length, None, Result, Ok, Err, max, refl, sym, ◌∙◌, ap, subst, arith, append_assoc}
+use Rattle.std.proofs.lemmas.Grind.{common_steps}
 use Rattle.std.proofs.lemmas.List.{append-nil}
 use Rattle.std.proofs.lemmas.Bool.{false≢true}
 use Rattle.ptlines.specs.Readers.{Reader, Reads, Goes, IsDone, IsSound, HasReadCause}
@@ -173,13 +174,7 @@ module _ {X : Type 0} {rest_from : X → List ℕ → List ℕ} {start : X} {too
   went_on same = same ∙ never_failed ready m.reached.goes sound
 
   text_of : {input : List ℕ} (a : Agrees (given_of (m.given ++ piece) new) input) → tool.text input ≡ m.pushed ++ rest_from now (piece ++ (new.held ++ a.rest))
-  text_of {input} a = cc (is_text input, split, m.on (piece ++ (new.held ++ a.rest)) none)
-    where
-      split : ((m.given ++ piece) ++ new.held) ++ a.rest ≡ m.given ++ (piece ++ (new.held ++ a.rest))
-      split = append_assoc (m.given ++ piece) new.held a.rest ∙ append_assoc m.given piece (new.held ++ a.rest)
-
-      none : IsDone reader → piece ++ (new.held ++ a.rest) ≡ []
-      none done = let k = done_gives_nothing _ _ _ done reads in λ i. k.0 i ++ (k.1 i ++ a.whole k.2 i)
+  text_of {input} a = grind (arith, common_steps)
 
   abbrev keeps_up : Output → List ℕ → Type 0
   keeps_up is' pushed = KeepsUp {I = Unit {0}} (λ given. tool.decided (given tt)) (λ u. given_of (m.given ++ piece) new) was is' pushed

@@ -1,6 +1,7 @@
 -- What a tool that works line by line keeps in the store: a line at most in each of its slots, and nothing in the
 -- others. So the store holds no more than so many times the longest of these lines.
 use Rattle.std.proofs.Common.{◌≡◌, ℕ, zero, suc, ◌+◌, ◌-◌, ◌*◌, ◌<◌, ◌≤◌, false, List, [], ◌∷◌, length, take, drop, set, get_or, max, refl, sym, ◌∙◌, ap, subst, arith, ⊎_elim, take-append-drop}
+use Rattle.std.proofs.lemmas.Grind.{common_steps}
 use Rattle.std.specs.Prelude.{swap}
 use Rattle.std.proofs.Math.Nat.{mul-le-mul_left}
 use Rattle.std.proofs.lemmas.Bool.{cases_eq}
@@ -70,18 +71,7 @@ keeps_line {width} {most} {store} new slot bytes k within fits is = record {
     same_length = cc (length-set store.lines slot bytes)
 
     short : (i : ℕ) → i < width → length (get_or new.lines i []) ≤ most
-    short i low = ⊎_elim here there (cases_eq i slot)
-      where
-        here : i ≡ slot → length (get_or new.lines i []) ≤ most
-        here same = omega (
-          arith,
-          fits,
-          ap length (ap (λ s. get_or s.lines i []) is ∙ ap (λ n. get_or (set store.lines slot bytes) n []) same
-              ∙ get_or-set_same store.lines slot bytes [] (omega (arith, within, k.adds.all k.denied))),
-        )
-
-        there : (i ≡ slot → ⊥) → length (get_or new.lines i []) ≤ most
-        there other = omega (arith, k.short i low, ap length (ap (λ s. get_or s.lines i []) is ∙ get_or-set_other store.lines slot i bytes [] other))
+    short i low = grind (arith, common_steps)
 
     others : total (drop width new.lines) ≡ 0
     others = cc (drop-set-lt width store.lines slot bytes within)

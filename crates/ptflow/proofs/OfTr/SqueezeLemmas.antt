@@ -29,14 +29,7 @@ module _ (squeezed : ℕ → Bool) where
   -- a piece and the next one, with the last byte of the piece in front of it
   pub behind_on : (last : ℕ) (xs ys : List ℕ) → squeeze_behind squeezed last (xs ++ ys) ≡ squeeze_behind squeezed last xs ++ squeeze_behind squeezed (get_or (last ∷ xs) (length xs) 0) ys
   behind_on last [] ys = refl
-  behind_on last (b ∷ xs) ys =
-      cc (behind_one squeezed last b (xs ++ ys), by_test (behind_on b xs ys) (stays squeezed (last, b)), behind_one squeezed last b xs)
-    where
-      by_test : squeeze_behind squeezed b (xs ++ ys) ≡ squeeze_behind squeezed b xs ++ squeeze_behind squeezed (get_or (b ∷ xs) (length xs) 0) ys → (s : Bool)
-          → cond s (b ∷ squeeze_behind squeezed b (xs ++ ys)) (squeeze_behind squeezed b (xs ++ ys))
-          ≡ cond s (b ∷ squeeze_behind squeezed b xs) (squeeze_behind squeezed b xs) ++ squeeze_behind squeezed (get_or (b ∷ xs) (length xs) 0) ys
-      by_test more true = ap (◌∷◌ b) more
-      by_test more false = more
+  behind_on last (b ∷ xs) ys = grind (arith, behind_on b xs ys)
 
   -- of a piece those stay that are no repeat of the byte in front of them
   pub chosen_behind : (last : ℕ) (bytes : List ℕ) → chosen_by (zip2 (λ a b. not (eqb a b && squeezed b)) (take (length bytes) (last ∷ bytes)) bytes) bytes ≡ squeeze_behind squeezed last bytes

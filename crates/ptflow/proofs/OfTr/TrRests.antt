@@ -14,11 +14,7 @@ use Rattle.ptflow.specs.Workings.Tr.TrRests.{squeeze_from, tr_rest}
 
 module _ (squeezed : ℕ → Bool) where
   pub behind_one : (last b : ℕ) (bytes : List ℕ) → squeeze_behind squeezed last (b ∷ bytes) ≡ cond (stays squeezed (last, b)) (b ∷ squeeze_behind squeezed b bytes) (squeeze_behind squeezed b bytes)
-  behind_one last b bytes = by_test (stays squeezed (last, b)) (filter (stays squeezed) (zip (b ∷ bytes) bytes))
-    where
-      by_test : (s : Bool) (ps : List (ℕ × ℕ)) → map (λ p. p.1) (cond s ((last, b) ∷ ps) ps) ≡ cond s (b ∷ map (λ p. p.1) ps) (map (λ p. p.1) ps)
-      by_test true ps = refl
-      by_test false ps = refl
+  behind_one last b bytes = grind arith
 
   pub from_one : (last : Option ℕ) (b : ℕ) (bytes : List ℕ) → squeeze_from squeezed last (b ∷ bytes)
       ≡ cond (not (option_eq eqb last (Some b) && squeezed b)) (b ∷ squeeze_behind squeezed b bytes) (squeeze_behind squeezed b bytes)
@@ -27,25 +23,12 @@ module _ (squeezed : ℕ → Bool) where
 
   -- a byte that does not stay is the last one again
   repeats : (last b : ℕ) → stays squeezed (last, b) ≡ false → last ≡ b
-  repeats last b h = eqb-true last b (both (last == b) (squeezed b) h)
-    where
-      both : (x y : Bool) → not (x && y) ≡ false → x ≡ true
-      both true y h = refl
-      both false y h = cc
+  repeats last b h = grind arith
 
   behind_append : (last : ℕ) (xs ys : List ℕ) → squeeze_behind squeezed last (xs ++ ys) ≡ squeeze_behind squeezed last xs
       ++ squeeze_from squeezed (last_or (Some last) (squeeze_behind squeezed last xs)) ys
   behind_append last [] ys = refl
-  behind_append last (b ∷ xs) ys =
-      cc (behind_one last b (xs ++ ys), by_test (behind_append b xs ys) (stays squeezed (last, b)) (repeats last b), behind_one last b xs)
-    where
-      done : List ℕ
-      done = squeeze_behind squeezed b xs
-
-      by_test : squeeze_behind squeezed b (xs ++ ys) ≡ done ++ squeeze_from squeezed (last_or (Some b) done) ys → (s : Bool) → (s ≡ false → last ≡ b)
-          → cond s (b ∷ squeeze_behind squeezed b (xs ++ ys)) (squeeze_behind squeezed b (xs ++ ys)) ≡ cond s (b ∷ done) done ++ squeeze_from squeezed (last_or (Some last) (cond s (b ∷ done) done)) ys
-      by_test more true h = ap (◌∷◌ b) more
-      by_test more false h = cc (h refl)
+  behind_append last (b ∷ xs) ys = grind (arith, behind_append b xs ys, repeats last b)
 
   from_append : (last : Option ℕ) (xs ys : List ℕ) → squeeze_from squeezed last (xs ++ ys) ≡ squeeze_from squeezed last xs ++ squeeze_from squeezed (last_or last (squeeze_from squeezed last xs)) ys
   from_append None [] ys = refl

@@ -1,5 +1,6 @@
 -- The runs of the lines of a block, line by line.
 use Rattle.std.proofs.Common.{◌≡◌, ℕ, ◌+◌, ◌-◌, ◌<◌, ◌≤◌, ◌&&◌, Bool, true, false, List, [], ◌∷◌, ◌++◌, Some, get_or, length, take, drop, refl, sym, ◌∙◌, ap, subst, arith, append_assoc, length-append}
+use Rattle.std.proofs.lemmas.Grind.{common_steps}
 use Rattle.std.specs.Prelude.{bytes_eq, nat_lt, slice_range}
 use Rattle.std.proofs.lemmas.Bool.Decides.{nat_tests}
 use Rattle.std.proofs.lemmas.List.Folds.{drop_split}
@@ -165,23 +166,13 @@ some_count : {n : ℕ} {t : Bool} → 0 < n → t ≡ true → (nat_lt 0 n && t)
 some_count some same = rw same (grind (arith, nat_tests))
 
 pub other_count : (n : ℕ) {t : Bool} → t ≡ false → (nat_lt 0 n && t) ≡ false
-other_count n {t} other = rw other (by_test (nat_lt 0 n))
-  where
-    by_test : (t : Bool) → (t && false) ≡ false
-    by_test t = grind arith
+other_count n {t} other = grind arith
 
 -- the line in front of the rest, with its end
 line_in_block : {end : ℕ} {block rest : List ℕ} {front : List (List ℕ)} → InFront end block rest front → (at : ℕ) → IsFirstByte (is_byte end) rest (Some at)
     → (from to : ℕ) → from ≡ length block - length rest → to ≡ from + at + 1
     → (slice_range block from to ≡ take at rest ++ end ∷ []) × (from < to) × (to ≤ length block)
-line_in_block {end} {block} {rest} lies at first from to from_is to_is = (
-  cc (size, front_drop lies, take_end end rest at first),
-  omega arith,
-  omega (arith, first.0.high, front_size lies),
-)
-  where
-    size : to - from ≡ at + 1
-    size = omega arith
+line_in_block {end} {block} {rest} lies at first from to from_is to_is = grind (arith, common_steps)
 
 pub running_starts : (job : Uniq) (block : List ℕ) (at : ℕ) → IsFirstByte (is_byte job.end) block (Some at) → {own : List ℕ} → own ≡ key job (take at block) → (was : Output) → was.faulted ≡ false
     → Running job block (drop (at + 1) block) 1 (record { from = 0; to = at + 1 }) (record { from = 0; to = 0 }) own was was

@@ -1,5 +1,6 @@
 -- The run that is open, with the lines that are taken one by one and block by block.
 use Rattle.std.proofs.Common.{◌≡◌, ℕ, ◌+◌, ◌<◌, ◌&&◌, Bool, true, false, cond, List, [], ◌∷◌, ◌++◌, Option, None, Some, length, take, drop, set, refl, sym, ◌∙◌}
+use Rattle.std.proofs.lemmas.Grind.{common_steps}
 use Rattle.std.proofs.Common.{ap, subst, arith, append_assoc, length-append, take-append-drop}
 use Rattle.std.specs.Prelude.{nat_lt, swap}
 use Rattle.std.specs.Option.{is_some}
@@ -28,13 +29,7 @@ use Rattle.ptflow.proofs.OfUniq.OpenRuns.{behind_more, behind_turn, entries-appe
 
 -- after the first two slots changed places
 pub swapped_first : (store : Slots) {after : Slots} → 1 < length store.lines → after ≡ record store { lines = swap store.lines 0 1 } → line after 0 ≡ line store 1
-swapped_first store slots is = cc (by_lines store.lines slots)
-  where
-    by_lines : (lines : List (List ℕ)) → 1 < length lines → line (record { lines = swap lines 0 1; peak = store.peak; denied = store.denied }) 0
-        ≡ line (record { lines = lines; peak = store.peak; denied = store.denied }) 1
-    by_lines [] slots = absurd (omega arith)
-    by_lines (a ∷ []) slots = absurd (omega arith)
-    by_lines (a ∷ b ∷ rest) slots = refl
+swapped_first store slots is = grind (arith, common_steps)
 
 -- the first slot was emptied
 pub first_emptied : {store after : Slots} → 0 < length store.lines → after ≡ with_line store 0 [] → Empties 1 store after

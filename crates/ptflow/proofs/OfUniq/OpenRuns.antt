@@ -1,5 +1,6 @@
 -- The runs of lines, from the first line on.
 use Rattle.std.proofs.Common.{◌≡◌, ℕ, zero, suc, ◌+◌, ◌==◌, ◌&&◌, Bool, true, false, cond, List, [], ◌∷◌, ◌++◌, refl, sym, ◌∙◌, ap, append_assoc, arith}
+use Rattle.std.proofs.lemmas.Grind.{common_steps}
 use Rattle.std.specs.Prelude.{bytes_eq, nat_lt, decimal}
 use Rattle.std.specs.List.{flat_map}
 use Rattle.std.proofs.lemmas.Bool.Decides.{nat_tests}
@@ -76,28 +77,7 @@ module _ (job : Uniq) where
 
 -- what is written of one run
 pub open_is : (job : Uniq) (run : Run) → entries job (open_run run) ≡ run_text job.show run.count (run.line ++ job.end ∷ [])
-open_is job run = by_show job.show run.count
-  where
-    by_test : (t : Bool) → text job.end (cond t (run.line ∷ []) [] ++ []) ≡ cond t (run.line ++ job.end ∷ []) []
-    by_test true = append-nil (run.line ++ job.end ∷ [])
-    by_test false = refl
-
-    one : (n : ℕ) (t : Bool) → text job.end (flat_map (shown All) (cond t (run_of run.line n ∷ []) [])) ≡ cond t (run.line ++ job.end ∷ []) []
-    one n true = append-nil (run.line ++ job.end ∷ [])
-    one n false = refl
-
-    counted : (n : ℕ) (t : Bool) → text job.end (flat_map (shown Counts) (cond t (run_of run.line n ∷ []) [])) ≡ cond t ((decimal n ++ 32 ∷ []) ++ (run.line ++ job.end ∷ [])) []
-    counted n true =
-        append-nil ((decimal n ++ 32 ∷ run.line) ++ job.end ∷ []) ∙ append_assoc (decimal n) (32 ∷ run.line) (job.end ∷ []) ∙ sym (append_assoc (decimal n) (32 ∷ []) (run.line ++ job.end ∷ []))
-    counted n false = refl
-
-    by_show : (show : Show) (n : ℕ) → text job.end (flat_map (shown show) (cond (nat_lt 0 n) (run_of run.line n ∷ []) [])) ≡ cond (is_shown show n) (lead show n ++ (run.line ++ job.end ∷ [])) []
-    by_show All n = one n (nat_lt 0 n)
-    by_show Counts n = counted n (nat_lt 0 n)
-    by_show Repeated zero = refl
-    by_show Repeated (suc n) = rw (some_line n) (by_test (nat_lt 1 (suc n)))
-    by_show Single zero = refl
-    by_show Single (suc n) = rw (some_line n) (by_test (suc n == 1))
+open_is job run = grind (arith, common_steps)
 
 -- ---- all but the last
 

@@ -44,10 +44,15 @@ module _ (job : Uniq) where
   runs-append (x ∷ []) [] change = refl
   runs-append (x ∷ []) (y ∷ ys) change =
       let r = onto_is y (runs job ys) in
-      cc (other_key x y (change x y ([], refl) (ys, refl)))
+      ap (onto_runs job x) r.2
+      ∙ ap (λ (t : Bool). cond t (run_of x (r.0 + 1) ∷ r.1) (run_of x 1 ∷ run_of y r.0 ∷ r.1)) (other_key x y (change x y ([], refl) (ys, refl)))
+      ∙ ap (λ (rs : List Run). run_of x 1 ∷ rs) (sym r.2)
   runs-append (x ∷ z ∷ xs) ys change =
       let r = onto_is z (runs job xs) in
-      cc (runs-append (z ∷ xs) ys (λ last first ends begins. change last first (x ∷ ends.0, ap (◌∷◌ x) ends.1) begins), onto_front x (run_of z r.0) r.1 (runs job ys))
+      ap (onto_runs job x) (runs-append (z ∷ xs) ys (λ last first ends begins. change last first (x ∷ ends.0, ap (λ (l : List (List ℕ)). x ∷ l) ends.1) begins)
+      ∙ ap (λ (rs : List Run). rs ++ runs job ys) r.2)
+      ∙ onto_front x (run_of z r.0) r.1 (runs job ys)
+      ∙ ap (λ (rs : List Run). onto_runs job x rs ++ runs job ys) (sym r.2)
 
 pub uniq_of_parts : UniqOfParts
 uniq_of_parts job a b whole change =

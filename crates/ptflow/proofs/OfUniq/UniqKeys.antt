@@ -1,5 +1,6 @@
 -- The key of a line, by one walk.
 use Rattle.std.proofs.Common.{◌≡◌, ℕ, zero, suc, ◌+◌, ◌<◌, ◌≤◌, Bool, true, false, cond, ◌||◌, min, ltb, List, [], ◌∷◌, None, Some, length, drop, get_or, refl, sym, ◌∙◌, ap, arith}
+use Rattle.std.proofs.lemmas.Grind.{common_steps}
 use Rattle.std.specs.Prelude.{slice_get, ◌==◌}
 use Rattle.std.specs.Option.{option_map_or}
 use Rattle.std.proofs.lemmas.List.{drop-drop}
@@ -63,11 +64,7 @@ behind_blank b bytes blank = cc (blank_ends b bytes blank)
 -- where it is not
 behind_other : (b : ℕ) (bytes : List ℕ) → is_blank b ≡ false → behind 1 (b ∷ bytes) ≡ after_bytes bytes
 behind_other b [] other = rw other refl
-behind_other b (c ∷ bytes) other = rw other (by_test (is_blank c) (behind_other c bytes))
-  where
-    by_test : (t : Bool) → (t ≡ false → behind 1 (c ∷ bytes) ≡ after_bytes bytes) → cond t (c ∷ bytes) (behind 1 (c ∷ bytes)) ≡ cond t (c ∷ bytes) (after_bytes bytes)
-    by_test true later = refl
-    by_test false later = later refl
+behind_other b (c ∷ bytes) other = grind (arith, common_steps, behind_other c bytes)
 
 pub after_one : (line : List ℕ) → after_fields 1 line ≡ behind 1 line
 after_one line = sym (behind_is 1 line)
@@ -91,7 +88,7 @@ blank_here : (b : ℕ) (bytes : List ℕ) → is_blank b ≡ true → after_byte
 blank_here b bytes blank = cc
 
 other_here : (b : ℕ) (bytes : List ℕ) → (is_blank b ≡ true → ⊥) → after_bytes (b ∷ bytes) ≡ after_bytes bytes
-other_here b bytes other = grind (arith)
+other_here b bytes other = grind arith
 
 after_at : (line : List ℕ) (at : ℕ) → at < length line → ((k : ℕ) → k < at → is_blank (get_or line k 0) ≡ true → ⊥) → is_blank (get_or line at 0) ≡ true → after_bytes line ≡ drop at line
 after_at [] at high none blank = absurd (omega arith)
@@ -126,13 +123,13 @@ blanks_later [] (suc at) high none = refl
 blanks_later (b ∷ bytes) (suc at) high none = other_here b bytes (none 0 (omega arith)) ∙ blanks_later bytes at (omega arith) (λ k lt. none (suc k) (omega arith))
 
 neither : (b : ℕ) → ((b == 32) ≡ true → ⊥) → ((b == 9) ≡ true → ⊥) → is_blank b ≡ true → ⊥
-neither b space tab = grind (arith)
+neither b space tab = grind arith
 
 is_space : (b : ℕ) → (b == 32) ≡ true → is_blank b ≡ true
 is_space b e = cc
 
 is_tab : (b : ℕ) → (b == 9) ≡ true → is_blank b ≡ true
-is_tab b e = grind (arith)
+is_tab b e = grind arith
 
 -- by a search for a space and one for a tab
 module _ (line : List ℕ) (a b : ℕ) (no_space : Nowhere (Passes (is_byte 32) line) 0 a) (no_tab : Nowhere (Passes (is_byte 9) line) 0 b) where

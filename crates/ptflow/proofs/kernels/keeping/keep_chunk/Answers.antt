@@ -1,5 +1,4 @@
-use Rattle.std.specs.Int.{cast_unsigned}
-use Rattle.std.proofs.Common.{ℕ, w8, ◌≡◌, ◌≤◌, ◌+◌, ◌++◌, ◌∙◌, Bool, List, not, length, take, map, sym, ap, arith}
+use Rattle.std.proofs.Common.{ℕ, ◌≡◌, ◌≤◌, ◌+◌, ◌∙◌, Bool, List, not, length, take, map, arith}
 use Rattle.std.specs.Prelude.{filter}
 use Rattle.std.specs.Simd.Lanes.{chunk}
 use Rattle.std.proofs.lemmas.Simd.{length-chunk}

@@ -1,4 +1,4 @@
-use Rattle.std.proofs.Common.{ℕ, List, ◌++◌, Bool, not, take, map, ap, ◌∙◌}
+use Rattle.std.proofs.Common.{ℕ, Bool, not, map}
 use Rattle.std.proofs.lemmas.List.{length-map}
 use Rattle.ptflow.specs.Workings.Bytes.ByteSets.{holds}
 use Rattle.ptflow.proofs.OfBytes.ChosenLanes.{chosen_by_test}

@@ -1,5 +1,4 @@
-use Rattle.std.proofs.Common.{not, arith}
-use Rattle.ptflow.specs.Workings.Bytes.ByteSets.{holds}
+use Rattle.std.proofs.Common.{arith}
 use Rattle.ptflow.proofs.OfBytes.KeptBytes.{keeps_piece}
 use Rattle.ptflow.proofs.kernels.keeping.keep_most.Goals as goal
 

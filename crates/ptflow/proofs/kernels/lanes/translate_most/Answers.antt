@@ -20,8 +20,8 @@ pub returns-then-is_none-2 : goal.returns-then-is_none-2
 returns-then-is_none-2 c =
     let ss = c.args.shifts.now in
     moved_same (by_two _) (shifted ss) _ c.args.from.now _
-    (λ b low. two_move ss c.stretch.ensures.few b (cc (c.of-a.ensures b low)) (cc (c.of-b.ensures b low))
-    (sym (ap is_some c.stretch-4.ensures.found) ∙ c.is_none-2.ensures ∙ ap not c.if-is_none-2.true))
+    (λ b low. two_move ss c.stretch.ensures.few b (c.of-a.ensures b low ∙ ap (told b) c.stretch.ensures.found) (c.of-b.ensures b low ∙ ap (told b) c.stretch-2.ensures.found)
+    (sym (ap (λ (o : Option (ℕ × ℕ × ℕ)). is_some o) c.stretch-4.ensures.found) ∙ c.is_none-2.ensures ∙ ap not c.if-is_none-2.true))
     c.type_inv.from c.move_most-then-is_none-2.ensures
 
 pub returns : goal.returns

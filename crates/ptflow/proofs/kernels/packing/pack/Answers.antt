@@ -1,10 +1,8 @@
-use Rattle.std.proofs.Common.{◌≡◌, ◌++◌, ◌/◌, ◌∙◌, ℕ, List, Bool, length, take, drop, sym, ap, length-drop, length-append, get_or, arith}
-use Rattle.std.specs.Prelude.{bit_and}
+use Rattle.std.proofs.Common.{◌≡◌, ◌++◌, ◌∙◌, length, take, drop, sym, length-drop, length-append, get_or, arith}
 use Rattle.std.specs.List.{range_with_len}
-use Rattle.std.specs.Simd.Lanes.{mask_l, pick_l}
+use Rattle.std.specs.Simd.Lanes.{pick_l}
 use Rattle.std.proofs.lemmas.List.{take-append-drop, length-take-le, take-map}
 use Rattle.std.proofs.lemmas.Simd.{pick_l-range_with_len}
-use Rattle.ptflow.specs.Workings.Bytes.Packings.{chosen_by}
 use Rattle.ptflow.proofs.OfBytes.ChosenLanes.{low_half, high_half, chosen_by_halves}
 use Rattle.ptflow.proofs.kernels.packing.pack.Goals as goal
 

@@ -1,4 +1,4 @@
-use Rattle.std.proofs.Common.{◌++◌, ◌∙◌, ℕ, take, [], refl, sym, ap, subst, slice_index_or, arith, w8}
+use Rattle.std.proofs.Common.{◌∙◌, [], refl, sym, subst, slice_index_or, arith, w8}
 use Rattle.std.specs.Prelude.{count_ones}
 use Rattle.std.proofs.lemmas.Simd.{swz_l, length-swz_l, SwzOk-from_below}
 use Rattle.std.proofs.lemmas.Nat.{ones-le}

@@ -1,6 +1,6 @@
-use Rattle.std.proofs.Common.{◌/◌, ◌^◌, subst, ℕ, ◌≡◌, refl, arith}
+use Rattle.std.proofs.Common.{◌/◌, ◌^◌, ◌≡◌, refl, arith}
 use Rattle.std.proofs.lemmas.Grind.{and_numeral}
-use Rattle.ptflow.proofs.OfBytes.ChosenLanes.{RowBegun, row_more, row_whole}
+use Rattle.ptflow.proofs.OfBytes.ChosenLanes.{row_more, row_whole}
 use Rattle.ptflow.proofs.kernels.packing.row_of.Goals as goal
 
 pub loop-place-preserved : goal.loop-place-preserved

@@ -1,6 +1,5 @@
-use Rattle.std.proofs.Common.{◌≡◌, ◌+◌, suc, ℕ, map, ◌∙◌, ap, subst, arith}
-use Rattle.std.specs.Simd.Lanes.{mask_l}
-use Rattle.ptflow.proofs.OfBytes.Nths.{without, cleared, behind_set}
+use Rattle.std.proofs.Common.{◌≡◌, ◌+◌, suc, map, arith}
+use Rattle.ptflow.proofs.OfBytes.Nths.{cleared, behind_set}
 use Rattle.ptflow.proofs.kernels.places.bit_behind.Goals as goal
 
 pub loop-bit-preserved : goal.loop-bit-preserved

@@ -1,10 +1,9 @@
 -- Whole chunks come first, and then the bytes behind them, one by one; the turn goes on from one to the other.
-use Rattle.std.proofs.Common.{◌≤◌, ◌+◌, ◌%◌, ℕ, length, take, refl, sym, ◌∙◌, ap, arith}
+use Rattle.std.proofs.Common.{◌≤◌, ◌+◌, length, take, refl, ◌∙◌, ap, arith}
 use Rattle.std.specs.List.{count_by}
 use Rattle.std.proofs.lemmas.List.{take_all, length-take-le, length-set}
 use Rattle.std.proofs.lemmas.List.Sums.{count_by-le-length}
 use Rattle.memchr.specs.Find.{is_byte}
-use Rattle.ptflow.specs.Workings.Paste.SerialRests.{with_turns}
 use Rattle.ptflow.proofs.OfPaste.Turns.{end_more, other_more}
 use Rattle.ptflow.proofs.kernels.replacing.replace_in_turn.Goals as goal
 use Rattle.ptflow.proofs.kernels.replacing.replace_in_turn.Goals.{then-from-at, else-from-at}

@@ -1,5 +1,5 @@
 -- Whole chunks come first, and then the bytes behind them.
-use Rattle.std.proofs.Common.{◌≡◌, ◌+◌, ◌-◌, ◌++◌, ℕ, List, [], cond, length, take, drop, sym, ◌∙◌, ap, arith, length-drop, take-append-drop}
+use Rattle.std.proofs.Common.{◌≡◌, ◌+◌, ◌-◌, ◌++◌, [], cond, length, take, drop, sym, ◌∙◌, ap, arith, length-drop, take-append-drop}
 use Rattle.std.specs.List.{count_by}
 use Rattle.std.proofs.lemmas.List.{append-nil, drop_all, take_rest}
 use Rattle.std.proofs.lemmas.List.Sums.{sum_by-append}

@@ -1,6 +1,5 @@
-use Rattle.std.proofs.Common.{ℕ, ◌^◌, ◌%◌, ◌≡◌, ◌&&◌, ◌∙◌, ℤ, Bool, List, cond, map, bit_and, w8, sym, eqb, not, length, arith, ap}
-use Rattle.std.specs.Int.{bit_not, cast_unsigned}
-use Rattle.std.specs.Simd.Lanes.{zip2, mask_l, top}
+use Rattle.std.proofs.Common.{ℕ, ◌≡◌, ◌&&◌, Bool, eqb, not, length, arith}
+use Rattle.std.specs.Simd.Lanes.{zip2}
 use Rattle.std.proofs.lemmas.Simd.{length-zip2}
 use Rattle.ptflow.specs.Workings.Bytes.ByteSets.{holds}
 use Rattle.ptflow.proofs.OfTr.SqueezeLemmas.{stays_mask}

@@ -18,4 +18,4 @@ over_lines-requires-clause-tool g c = rw (c.set_ending.ensures.set, ends c.args.
 pub returns : goal.returns
 returns g c =
     pass_set _ (cond c.args.job.now.zero 0 10) c.args.reader.now _ _ _
-    _ _ c.set_ending.ensures.set (cc) c.over_lines.ensures
+    _ _ c.set_ending.ensures.set (sym c.has_failed.ensures ∙ c.if-has_failed.false) c.over_lines.ensures

@@ -1,4 +1,3 @@
-use Rattle.std.proofs.Common.{length}
 use Rattle.ptflow.proofs.OfPaste.Turns.{next_place}
 use Rattle.ptflow.proofs.kernels.replacing.Turn.next.Goals as goal
 

@@ -1,4 +1,4 @@
-use Rattle.std.proofs.Common.{◌∙◌, ap, get_or, false, List, Bool}
+use Rattle.std.proofs.Common.{◌∙◌, ap, get_or, false}
 use Rattle.ptflow.proofs.OfBytes.ByteSetLemmas.{set_of_halves}
 use Rattle.ptflow.proofs.kernels.sets.ByteSet.of.Goals as goal
 

@@ -1,4 +1,4 @@
-use Rattle.std.proofs.Common.{take, ◌∙◌, ap, min, ℕ, arith}
+use Rattle.std.proofs.Common.{arith}
 use Rattle.ptflow.proofs.OfBytes.Chosen.{copied_done, copied_ends, copied_more}
 use Rattle.ptflow.proofs.tools.cut.bytes.copy_selected.Goals as goal
 

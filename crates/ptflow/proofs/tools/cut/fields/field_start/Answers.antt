@@ -1,8 +1,7 @@
-use Rattle.std.proofs.Common.{take, arith, ℕ, subst, sym}
+use Rattle.std.proofs.Common.{take, arith}
 use Rattle.std.proofs.lemmas.List.{length-take-le}
 use Rattle.std.proofs.lemmas.List.Sums.{count_by-le-length}
 use Rattle.memchr.specs.Find.{is_byte}
-use Rattle.ptflow.specs.Workings.Cut.FieldPlaces.{StartsAt}
 use Rattle.ptflow.proofs.OfCut.FieldPlaces.{starts_first}
 use Rattle.ptflow.proofs.OfBytes.Nths.{few_fields, starts_behind_nth}
 use Rattle.ptflow.proofs.tools.cut.fields.field_start.Goals as goal

@@ -1,6 +1,6 @@
 -- A line with a delimiter gives its selected fields, and any other itself, or nothing with `-s`. Behind it stands its
 -- end.
-use Rattle.std.proofs.Common.{◌≡◌, ℕ, false, List, [], ◌∷◌, None, Some, subst}
+use Rattle.std.proofs.Common.{◌≡◌, ℕ, false, List, [], ◌∷◌, None, Some}
 use Rattle.ptlines.specs.Outputs.{Output, Wrote}
 use Rattle.ptlines.proofs.Pushed.{wrote_nothing, wrote_trans, wrote_past}
 use Rattle.ptlangs.specs.Jobs.{Cut, cut_job}

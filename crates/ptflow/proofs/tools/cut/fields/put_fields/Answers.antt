@@ -1,11 +1,10 @@
 -- An interval is walked in two steps: to the start of its first field, and to the end of its last one (`FieldWalks`).
 -- What lies between is one slice, with a delimiter in front of it if it is not the first. A walk that meets the end of
 -- the line leaves no field to come.
-use Rattle.std.proofs.Common.{◌≡◌, ◌+◌, ◌-◌, ◌≤◌, ◌++◌, ℕ, List, take, drop, get_or, refl, sym, ◌∙◌, ap, arith, append_assoc, length-drop}
+use Rattle.std.proofs.Common.{◌≡◌, ◌+◌, ◌-◌, ◌≤◌, ◌++◌, take, drop, get_or, refl, sym, ◌∙◌, ap, arith, append_assoc, length-drop}
 use Rattle.std.proofs.lemmas.List.{take-take, length-take-le}
 use Rattle.std.specs.List.{join_with_byte}
 use Rattle.ptlangs.specs.CutLists.{is_selected}
-use Rattle.ptlangs.specs.declared.ranges.Interval.{Interval}
 use Rattle.ptflow.specs.Workings.Cut.FieldPlaces.{fields}
 use Rattle.ptflow.proofs.OfBytes.Chosen.{chosen}
 use Rattle.ptflow.proofs.OfCut.FieldPlaces.{rest_of, slice_of, line_with_end, put_byte}

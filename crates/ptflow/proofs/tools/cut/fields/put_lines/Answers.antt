@@ -1,9 +1,7 @@
 -- A line with the delimiter gives its fields. Lines without one are put as they are, as many as stand behind one
 -- another, or passed over.
-use Rattle.std.proofs.Common.{◌≡◌, ◌+◌, ◌-◌, ◌++◌, ℕ, Some, take, length, sym, subst, arith}
+use Rattle.std.proofs.Common.{◌≡◌, ◌-◌, Some, take, length, arith}
 use Rattle.std.specs.Prelude.{unwrap_or}
-use Rattle.memchr.specs.Find.{IsFirstByte, is_byte}
-use Rattle.ptlines.specs.Text.{IsLine}
 use Rattle.ptlangs.specs.Jobs.{cut_job}
 use Rattle.ptflow.specs.Cuts.{cut_fields}
 use Rattle.ptflow.proofs.OfCut.FieldLines.{found, of_fields}

@@ -1,4 +1,3 @@
-use Rattle.std.proofs.Common.{sym, ◌∙◌}
 use Rattle.ptflow.proofs.OfCut.PickLemmas.{none_after}
 use Rattle.ptflow.proofs.tools.cut.picking.greatest_length.Goals as goal
 

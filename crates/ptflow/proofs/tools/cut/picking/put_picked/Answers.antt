@@ -1,4 +1,4 @@
-use Rattle.std.proofs.Common.{◌≤◌, ◌+◌, ◌++◌, ℕ, List, take, get_or, refl, ◌∙◌, ap, arith, w8}
+use Rattle.std.proofs.Common.{◌≤◌, ◌+◌, ◌++◌, take, get_or, refl, ◌∙◌, ap, arith, w8}
 use Rattle.std.proofs.lemmas.Simd.{swz_l, length-swz_l, SwzOk-from_below}
 use Rattle.std.specs.Simd.Lanes.{put_chunk}
 use Rattle.std.proofs.lemmas.List.{take-take, length-take-le}

@@ -1,7 +1,5 @@
-use Rattle.std.proofs.Common.{Option, sym, subst}
+use Rattle.std.proofs.Common.{sym}
 use Rattle.ptlangs.specs.TrTables.{deletes}
-use Rattle.ptflow.specs.declared.kernels.sets.ByteSet.{ByteSet}
-use Rattle.ptflow.specs.Workings.Tr.TrRests.{IsSetIfAny}
 use Rattle.ptflow.proofs.OfTr.TrRests.{filter_all}
 use Rattle.ptflow.proofs.tools.tr.Translation.kept.Goals as goal
 

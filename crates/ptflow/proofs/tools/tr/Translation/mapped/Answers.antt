@@ -1,7 +1,5 @@
-use Rattle.std.proofs.Common.{sym, ◌∙◌, subst}
+use Rattle.std.proofs.Common.{sym, ◌∙◌}
 use Rattle.ptlangs.specs.TrTables.{image}
-use Rattle.ptflow.specs.declared.tools.tr.mapping.Mapping.{Mapping}
-use Rattle.ptflow.specs.Workings.Tr.Mappings.{IsMapping}
 use Rattle.ptflow.proofs.OfBytes.LaneLemmas.{map_self, bytes_same, bytes_fit}
 use Rattle.ptflow.proofs.tools.tr.Translation.mapped.Goals as goal
 

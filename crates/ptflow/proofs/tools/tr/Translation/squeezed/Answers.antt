@@ -1,7 +1,6 @@
-use Rattle.std.proofs.Common.{Bool, List, Option, false, sym, ap, ◌∙◌, subst, slice_index_or}
+use Rattle.std.proofs.Common.{false, sym, ap, ◌∙◌, slice_index_or}
 use Rattle.ptlangs.specs.TrTables.{squeezes}
-use Rattle.ptflow.specs.declared.kernels.sets.ByteSet.{ByteSet}
-use Rattle.ptflow.specs.Workings.Tr.TrRests.{IsSetIfAny, squeeze_from}
+use Rattle.ptflow.specs.Workings.Tr.TrRests.{squeeze_from}
 use Rattle.ptflow.proofs.OfTr.TrRests.{from_all}
 use Rattle.ptflow.proofs.tools.tr.Translation.squeezed.Goals as goal
 

@@ -1,6 +1,5 @@
-use Rattle.std.proofs.Common.{ℕ, [], ◌∷◌, ap, arith}
+use Rattle.std.proofs.Common.{[], ◌∷◌, ap, arith}
 use Rattle.ptlangs.specs.Jobs.{uniq_job}
-use Rattle.ptflow.specs.Workings.Uniq.OpenLines.{first_line}
 use Rattle.ptflow.proofs.OfUniq.OpenLines.{first_emptied, run_wrote}
 use Rattle.ptflow.proofs.tools.uniq.UniqJobLineTool.push_end.Goals as goal
 

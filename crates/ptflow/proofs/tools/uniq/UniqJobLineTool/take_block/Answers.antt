@@ -1,15 +1,14 @@
 -- The first lines of the block may go on with the open run. Where one does not, that run is pushed, and with it the
 -- runs that end in the block. The last run stays open, whatever comes (`BlockRuns`). What is taken are the lines whose
 -- end is there.
-use Rattle.std.proofs.Common.{◌+◌, ◌∷◌, [], ℕ, List, length, drop, sym, ap, subst, arith, length-drop}
+use Rattle.std.proofs.Common.{◌+◌, ◌∷◌, [], length, drop, sym, ap, subst, arith, length-drop}
 use Rattle.std.proofs.lemmas.List.{take_rest, length-take-le}
 use Rattle.ptlines.specs.Text.{text, ended_lines}
 use Rattle.ptlines.proofs.Scanned.{no_end}
 use Rattle.ptlines.proofs.TextLaws.{ended_none}
 use Rattle.ptlangs.specs.Jobs.{uniq_job}
-use Rattle.ptflow.specs.Uniqs.{Run}
 use Rattle.ptflow.specs.Workings.Uniq.BlockRuns.{RunsOn, GoesOnWith}
-use Rattle.ptflow.specs.Workings.Uniq.OpenLines.{first_line, open_run_of}
+use Rattle.ptflow.specs.Workings.Uniq.OpenLines.{open_run_of}
 use Rattle.ptflow.proofs.OfPasses.Continuations.{on_err}
 use Rattle.ptflow.proofs.OfUniq.OpenLines.{not_found, run_wrote, block_none, block_on, block_on_passed, block_run_halts, block_turns, block_halts, block_passed}
 use Rattle.ptflow.proofs.OfUniq.BlockRuns.{text_long}
@@ -66,7 +65,7 @@ returns-in_err-last-clause-halts g c =
     on_err c.from_residual-in_err-last.result
     (block_halts went c.requires.open.0 c.in-Some.at (rw take_rest at c.in-Some.ensures) c.push_runs.new.out
     (run_wrote job (c.args.run.now.count + same.count) c.first_line-2.ensures
-    (cc (c.requires.fits)) c.push_run.ensures.wrote)
+    (ap (λ b. b ∷ []) c.requires.fits) c.push_run.ensures.wrote)
     c.in_ok-push_run.ensures.clean (rw take_rest at c.in_err-last.ensures.halts))
 
 pub returns-clause-continues : goal.returns-clause-continues

@@ -1,8 +1,8 @@
-use Rattle.std.proofs.Common.{◌∷◌, [], true, false, ℕ, List, sym, ap, subst}
+use Rattle.std.proofs.Common.{◌∷◌, [], sym, ap, subst}
 use Rattle.ptlines.specs.Slots.{line}
 use Rattle.ptlangs.specs.Jobs.{uniq_job}
 use Rattle.ptflow.specs.Workings.Uniq.BlockRuns.{RunsOn}
-use Rattle.ptflow.specs.Workings.Uniq.OpenLines.{first_line, open_run_of}
+use Rattle.ptflow.specs.Workings.Uniq.OpenLines.{open_run_of}
 use Rattle.ptflow.specs.Workings.Uniq.OpenRuns.{run_of}
 use Rattle.ptflow.proofs.OfPasses.Continuations.{on_err}
 use Rattle.ptflow.proofs.OfUniq.OpenLines.{swapped_first, run_wrote, line_tested, line_more, line_turns, line_halts}

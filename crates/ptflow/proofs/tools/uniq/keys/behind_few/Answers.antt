@@ -1,4 +1,4 @@
-use Rattle.std.proofs.Common.{◌≡◌, ◌+◌, ℕ, suc, length, drop, sym, ◌∙◌, ap, arith}
+use Rattle.std.proofs.Common.{◌≡◌, ◌+◌, suc, length, drop, sym, ◌∙◌, ap, arith}
 use Rattle.std.proofs.lemmas.List.{take_rest, drop_all}
 use Rattle.ptflow.specs.Workings.Uniq.UniqWords.{after_bytes}
 use Rattle.ptflow.proofs.OfUniq.UniqKeys.{blank_front, other_front}

@@ -1,4 +1,4 @@
-use Rattle.std.proofs.Common.{◌≡◌, ℕ, [], ◌∷◌, List, ◌∙◌, subst}
+use Rattle.std.proofs.Common.{◌≡◌, [], ◌∷◌, ◌∙◌, subst}
 use Rattle.std.specs.Prelude.{decimal}
 use Rattle.ptlines.specs.Outputs.{Wrote}
 use Rattle.ptlines.proofs.Pushed.{wrote_trans, wrote_past}

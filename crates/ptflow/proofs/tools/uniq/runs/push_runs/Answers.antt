@@ -1,13 +1,12 @@
 -- A line with the key of the open run makes it longer by one. Any other line ends it and begins the next one, and what
 -- is written of the run that ended is pushed, or waits. Each case carries `Running` on.
 use Rattle.std.proofs.Common.{◌≡◌, ◌+◌, ◌-◌, Option, Some, List, [], ℕ, length, take, refl, sym, ◌∙◌, subst, arith}
-use Rattle.std.specs.Prelude.{slice_range}
 use Rattle.std.proofs.lemmas.List.{take_rest}
 use Rattle.memchr.specs.Find.{IsFirstByte, is_byte}
 use Rattle.ptlines.specs.Text.{text, ended_lines, IsLine}
 use Rattle.ptlines.proofs.Scanned.{no_end}
 use Rattle.ptlangs.specs.Jobs.{uniq_job}
-use Rattle.ptflow.specs.Workings.Uniq.BlockRuns.{RunsOn, RunsHalt}
+use Rattle.ptflow.specs.Workings.Uniq.BlockRuns.{RunsHalt}
 use Rattle.ptflow.specs.Workings.Uniq.OpenRuns.{run_of}
 use Rattle.ptflow.proofs.OfPasses.Continuations.{on_err}
 use Rattle.ptflow.proofs.OfUniq.BlockRuns.{front_size, same_by_keys, running_starts, running_few, running_more, running_turn, running_halts, running_done, running_unended, running_passed}

@@ -1,5 +1,5 @@
 -- Each turn puts what is written of the first lines of the rest into the room, which is pushed at the end.
-use Rattle.std.proofs.Common.{◌++◌, ℕ, List, take, ◌∙◌, ap, arith, length-drop}
+use Rattle.std.proofs.Common.{◌++◌, take, ◌∙◌, ap, arith, length-drop}
 use Rattle.std.proofs.lemmas.List.{take_rest}
 use Rattle.ptlines.specs.Text.{ended_lines}
 use Rattle.ptlines.proofs.Scanned.{no_end}

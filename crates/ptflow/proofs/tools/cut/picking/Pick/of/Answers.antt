@@ -1,6 +1,5 @@
-use Rattle.std.proofs.Common.{ℕ, List, sym, ◌+◌, set, ◌∙◌, ap, subst, arith}
+use Rattle.std.proofs.Common.{◌+◌, set, ◌∙◌, ap, subst, arith}
 use mir.Val.{bool_byte}
-use Rattle.ptlangs.specs.declared.ranges.Interval.{Interval}
 use Rattle.ptlangs.specs.CutLists.{is_selected}
 use Rattle.ptflow.proofs.OfCut.PickLemmas.{PickBegun, pick_more, pick_whole}
 use Rattle.ptflow.proofs.tools.cut.picking.Pick.of.Goals as goal

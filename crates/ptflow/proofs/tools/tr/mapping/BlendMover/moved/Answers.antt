@@ -1,6 +1,4 @@
-use Rattle.std.proofs.Common.{ℤ, List, w8, map, sym, ap, ◌∙◌}
-use Rattle.std.specs.Simd.Lanes.{top}
-use Rattle.std.specs.Int.{cast_unsigned}
+use Rattle.std.proofs.Common.{sym}
 use Rattle.std.proofs.lemmas.Simd.{splat_is_map}
 use Rattle.ptflow.specs.Workings.Bytes.ByteSets.{holds}
 use Rattle.ptflow.proofs.OfBytes.LaneLemmas.{sel_maps, map_self}

@@ -1,4 +1,3 @@
-use Rattle.std.proofs.Common.{◌∙◌}
 use Rattle.ptlangs.specs.TrShifts.{shifted}
 use Rattle.ptlangs.specs.TrTables.{image}
 use Rattle.ptflow.proofs.OfBytes.LaneLemmas.{bytes_same, bytes_fit}
