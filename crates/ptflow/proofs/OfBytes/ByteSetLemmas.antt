@@ -1,7 +1,7 @@
 -- What lanes say of a set of bytes.
 use Rattle.std.proofs.Common.{◌≡◌, ℕ, suc, ◌+◌, ◌*◌, ◌/◌, ◌%◌, ◌<◌, ◌≤◌, ◌^◌, ◌&&◌, ◌||◌, Bool, true, false, List, [], ◌∷◌, length, map, cond, leb, ltb, eqb}
-use Rattle.std.proofs.Common.{zero, ◌≢◌, ⊎_elim, get_or, get_or-take, get_or-drop, take, drop, ◌-◌, set, bit_or, replicate, negsuc, pos, bit_and, refl, sym, ap}
-use Rattle.std.proofs.Common.{subst, ◌∙◌, arith, w8, Fits}
+use Rattle.std.proofs.Common.{zero, ◌≢◌, ⊎_elim, get_or, get_or-take, get_or-drop, take, drop, ◌-◌, set, bit_or, replicate, negsuc, pos, bit_and, refl, ap}
+use Rattle.std.proofs.Common.{◌∙◌, arith, w8, Fits}
 use Rattle.std.specs.Simd.Lanes.{top, zip2, sel_l, Each1}
 use Rattle.std.specs.Int.{cast_unsigned, cast_signed, bit_at, from_bool}
 use Rattle.std.proofs.lemmas.Simd.{swz_l, SwzOk, SwzOk-from_below, zip2_splat, zip2_of_maps, map-map}

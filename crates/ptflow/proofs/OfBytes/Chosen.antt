@@ -121,7 +121,12 @@ module _ {all : List Interval} {before : ℕ} {piece tail was : List ℕ} {start
 
       next : (is ++ chosen (lies_in r) (before + 1) piece) ++ (chosen (is_selected rs) (before + 1) piece ++ tail) ≡ was ++ (chosen (is_selected all) (before + 1) piece ++ tail)
       next =
-          cc (append_assoc is (chosen (lies_in r) (before + 1) piece) (chosen (is_selected rs) (before + 1) piece ++ tail), append_assoc (chosen (lies_in r) (before + 1) piece) (chosen (is_selected rs) (before + 1) piece) tail, chosen_first r rs (before + 1) piece apart.2, drop_more all i (record { first = 0; last = 0 }) within)
+          cc (
+            append_assoc is (chosen (lies_in r) (before + 1) piece) (chosen (is_selected rs) (before + 1) piece ++ tail),
+            append_assoc (chosen (lies_in r) (before + 1) piece) (chosen (is_selected rs) (before + 1) piece) tail,
+            chosen_first r rs (before + 1) piece apart.2,
+            drop_more all i (record { first = 0; last = 0 }) within,
+          )
 
       -- the interval's bytes, which are so many, end no farther on than it reaches
       pub choosing_room : at + ((r.last - before) - (r.first - (before + 1))) ≤ start + (r.last - before)
@@ -134,7 +139,11 @@ module _ {all : List Interval} {before : ℕ} {piece tail was : List ℕ} {start
 
       pub choosing_ends : before + length piece ≤ r.last → is ++ (chosen (lies_in r) (before + 1) piece ++ tail) ≡ was ++ (chosen (is_selected all) (before + 1) piece ++ tail)
       choosing_ends reaches =
-          cc (chosen_none (is_selected rs) (before + 1) piece (λ m low high. not_selected rs (r.last + 1) m apart.2 (omega arith)), append_assoc is (chosen (lies_in r) (before + 1) piece) (chosen (is_selected rs) (before + 1) piece ++ tail), next)
+          cc (
+            chosen_none (is_selected rs) (before + 1) piece (λ m low high. not_selected rs (r.last + 1) m apart.2 (omega arith)),
+            append_assoc is (chosen (lies_in r) (before + 1) piece) (chosen (is_selected rs) (before + 1) piece ++ tail),
+            next,
+          )
 
 -- a slice of the bytes, which lies in the piece in front of them
 pub slice_is : (r : Interval) (before count : ℕ) (bytes : List ℕ) → count ≤ length bytes → r.last < before + count

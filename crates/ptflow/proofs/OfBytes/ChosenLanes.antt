@@ -1,6 +1,6 @@
 -- Items that are chosen by flags, and lanes that are put in front by the places of their flags.
 use Rattle.std.proofs.Common.{◌≡◌, ℕ, zero, suc, ◌+◌, ◌*◌, ◌^◌, ◌/◌, ◌%◌, ◌<◌, ◌≤◌, Bool, true, false, cond, List, [], ◌∷◌, ◌++◌, map, length, take, drop, set}
-use Rattle.std.proofs.Common.{get_or, length-set, length-drop, drop-cons, append_assoc, add-one, subst, refl, sym, ◌∙◌, ap, arith, w8}
+use Rattle.std.proofs.Common.{get_or, length-set, length-drop, drop-cons, append_assoc, add-one, refl, sym, ◌∙◌, ap, arith, w8}
 use Rattle.std.specs.Prelude.{All, bit_and, nat_eq, nat_le, slice_index_or, filter, count_ones}
 use Rattle.std.specs.List.{range_with_len}
 use Rattle.std.specs.Simd.Lanes.{mask_l, put_chunk, chunk, pick_l, Each1}
@@ -94,7 +94,13 @@ row_chooses {flags} {row} v room is =
     let n = length flags in
     let places = range_with_len 0 n in
     let count : count_ones (mask_l flags) ≡ length (places_of flags) = sym (length-chosen_by flags places (omega (arith, length-range_with_len 0 n))) in
-    cc (shuffled v 0 row (omega arith) (row_lanes is), take-map (λ k. get_or v k 0) (count_ones (mask_l flags)) row, map-chosen_by (λ k. get_or v k 0) flags places, pick_l-range_with_len 0 v 0 n (omega arith), chosen_by_front flags v)
+    cc (
+      shuffled v 0 row (omega arith) (row_lanes is),
+      take-map (λ k. get_or v k 0) (count_ones (mask_l flags)) row,
+      map-chosen_by (λ k. get_or v k 0) flags places,
+      pick_l-range_with_len 0 v 0 n (omega arith),
+      chosen_by_front flags v,
+    )
 
 -- the lanes that are put in front are stored from a place on
 pub chosen_stored : (at n : ℕ) (into lanes : List ℕ) → length lanes ≡ 16 → n ≤ 16 → at + 16 ≤ length into → take (at + n) (put_chunk at into lanes) ≡ take at into ++ take n lanes

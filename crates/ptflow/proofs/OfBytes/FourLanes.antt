@@ -1,6 +1,6 @@
 -- The 64 bytes of four vectors: where no lane of four masks is set, and what is kept of them one after another.
-use Rattle.std.proofs.Common.{◌≡◌, ℕ, ◌+◌, ◌*◌, ◌^◌, ◌%◌, ◌||◌, Bool, true, false, not, cond, List, [], ◌∷◌, ◌++◌, length, take, drop, map}
-use Rattle.std.proofs.Common.{pos, negsuc, bit_or, refl, sym, ap, ◌∙◌, arith, append_assoc, w8}
+use Rattle.std.proofs.Common.{◌≡◌, ℕ, ◌+◌, ◌^◌, ◌%◌, ◌||◌, Bool, not, cond, List, [], ◌∷◌, ◌++◌, length, drop, map}
+use Rattle.std.proofs.Common.{pos, negsuc, bit_or, refl, sym, ◌∙◌, arith, append_assoc, w8}
 use Rattle.std.specs.Prelude.{filter}
 use Rattle.std.specs.Int.{cast_unsigned}
 use Rattle.std.specs.Simd.Lanes.{mask_l, top, zip2, chunk}

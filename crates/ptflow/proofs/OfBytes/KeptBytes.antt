@@ -1,6 +1,6 @@
 -- Bytes for which a test holds, put to the front.
 use Rattle.std.proofs.Common.{◌≡◌, ℕ, suc, ◌+◌, ◌<◌, ◌≤◌, ◌^◌, ◌%◌, Bool, true, false, not, cond, List, [], ◌∷◌, ◌++◌, length, take, set, get_or, length-set}
-use Rattle.std.proofs.Common.{take_all, zero, ℤ, map, refl, sym, ap, ◌∙◌, arith, add-zero, w8, Fits, pos, negsuc}
+use Rattle.std.proofs.Common.{take_all, zero, ℤ, map, refl, ◌∙◌, arith, add-zero, w8, Fits, pos, negsuc}
 use Rattle.std.specs.Prelude.{filter}
 use Rattle.std.specs.Int.{from_bool, cast_unsigned, bit_not}
 use Rattle.std.specs.Simd.Lanes.{mask_l, top, chunk}

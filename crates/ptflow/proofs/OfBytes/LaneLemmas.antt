@@ -23,7 +23,8 @@ pub mask_right : (t : ℕ → ℕ → Bool) {n : ℕ} (v : List ℕ) (y : ℕ) �
 mask_right t {n} v y long = tops_compared w8 t v (replicate n y) ∙ zip2_splat t v n y long
 
 -- what is computed of each byte, compared with one byte
-pub tests_are : (t : ℕ → ℕ → Bool) (f : ℕ → ℕ) (v : List ℕ) {xs : List ℕ} {n : ℕ} (y : ℕ) → length v ≡ n → xs ≡ map f v → map (top 7) (zip2 (λ a b. cond (t a b) 255 0) xs (replicate n y)) ≡ map (λ b. t (f b) y) v
+pub tests_are : (t : ℕ → ℕ → Bool) (f : ℕ → ℕ) (v : List ℕ) {xs : List ℕ} {n : ℕ} (y : ℕ) → length v ≡ n → xs ≡ map f v
+    → map (top 7) (zip2 (λ a b. cond (t a b) 255 0) xs (replicate n y)) ≡ map (λ b. t (f b) y) v
 tests_are t f v {xs} {n} y long is = tops_compared w8 t xs (replicate n y) ∙ zip2_of_maps t f (λ _. y) v is (splat_is_map v n y long)
 
 pub added_lanes : (f g : ℕ → ℕ) (v : List ℕ) {xs ys : List ℕ} → xs ≡ map f v → ys ≡ map g v → zip2 (λ a b. (a + b) % 256) xs ys ≡ map (λ b. (f b + g b) % 256) v

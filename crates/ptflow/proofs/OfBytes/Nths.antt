@@ -1,7 +1,7 @@
 -- The n-th item of a list that passes a test, by the bits of a mask, of which the lowest are cleared; and that the
 -- fields behind the n-th delimiter start there.
 use Rattle.std.proofs.Common.{◌≡◌, ⊎_elim, ℕ, zero, suc, ◌+◌, ◌-◌, ◌*◌, ◌/◌, ◌%◌, ◌^◌, ◌<◌, ◌≤◌, min, Bool, true, false, cond, not, Option, None, Some, List}
-use Rattle.std.proofs.Common.{[], ◌∷◌, ◌++◌, length, map, take, drop, get_or, refl, sym, ◌∙◌, ap, ap₂, subst, arith, get_or-take, take-append-drop, length-drop}
+use Rattle.std.proofs.Common.{[], ◌∷◌, ◌++◌, length, map, take, drop, get_or, refl, sym, ◌∙◌, ap, subst, arith, get_or-take, take-append-drop, length-drop}
 use Rattle.std.specs.Int.RustNames.{count_ones}
 use Rattle.std.specs.List.{count_by, prefix_len}
 use Rattle.std.specs.Simd.Lanes.{mask_l, chunk}
@@ -19,7 +19,7 @@ use Rattle.ptlines.proofs.Scanned.{before_end, no_end}
 use Rattle.ptlines.proofs.TextLaws.{other_byte}
 use Rattle.ptflow.specs.Workings.Bytes.Nths.{IsBehind, IsNth}
 use Rattle.ptflow.specs.Workings.Cut.CutRests.{HasEnds}
-use Rattle.ptflow.specs.Workings.Cut.FieldPlaces.{fields, led, StartsAt}
+use Rattle.ptflow.specs.Workings.Cut.FieldPlaces.{fields, StartsAt}
 use Rattle.ptflow.proofs.OfCut.FieldPlaces.{fields-append, led_fields, starts_more, few_left}
 
 -- ---- bits of a mask

@@ -1,12 +1,10 @@
 -- What `cut` by bytes writes of the rest of a text, a piece at a time. A piece of a line adds to the places counted,
 -- and an end of a line sets them back; from no place on this is what it is to write of whole lines.
-use Rattle.std.proofs.Common.{◌≡◌, ℕ, suc, ◌+◌, ◌-◌, ◌≤◌, ◌*◌, ◌^◌, ◌==◌, Bool, true, false, cond, List, [], ◌∷◌, ◌++◌, map, length, take, drop, Some, refl, sym, ◌∙◌, ap, arith, append_assoc}
+use Rattle.std.proofs.Common.{◌≡◌, ℕ, ◌+◌, ◌-◌, ◌≤◌, ◌^◌, ◌==◌, Bool, false, List, [], ◌∷◌, ◌++◌, map, length, take, drop, Some, refl, sym, ◌∙◌, ap, arith, append_assoc}
 use Rattle.std.proofs.lemmas.Grind.{common_steps}
 use Rattle.std.specs.List.{onto_first, flat_map}
 use Rattle.std.specs.Simd.Lanes.{mask_l, chunk}
 use Rattle.std.proofs.lemmas.Simd.{length-chunk, chunk-drop}
-use Rattle.std.proofs.Math.Nat.{pow-succ'}
-use Rattle.std.proofs.lemmas.Bool.{eqb-true}
 use Rattle.std.proofs.lemmas.Bool.Decides.{nat_tests}
 use Rattle.std.proofs.lemmas.List.{append-nil, take_all, drop_all, append_cancel_right, map-append}
 use Rattle.memchr.specs.Find.{IsFirstByte, is_byte}
@@ -51,7 +49,11 @@ module _ (end : ℕ) (selected : ℕ → Bool) where
       let same : before + 1 + length piece ≡ before + length (b ∷ piece) = omega arith in
       let first : cut_rest end selected before ((b ∷ piece) ++ rest) ≡ chosen_from selected (before + 1) (b ∷ []) ++ cut_rest end selected (before + 1) (piece ++ rest) =
       cc (other_byte end b whole.0, rest_onto before b (lines end (piece ++ rest))) in
-      cc (rest_piece (before + 1) piece rest whole.1, append_assoc (chosen_from selected (before + 1) (b ∷ [])) (chosen_from selected (before + 1 + 1) piece) (cut_rest end selected (before + 1 + length piece) rest), chosen_onto (before + 1) b piece)
+      cc (
+        rest_piece (before + 1) piece rest whole.1,
+        append_assoc (chosen_from selected (before + 1) (b ∷ [])) (chosen_from selected (before + 1 + 1) piece) (cut_rest end selected (before + 1 + length piece) rest),
+        chosen_onto (before + 1) b piece,
+      )
 
 -- the selected bytes of the line in front, and its end
 module _ (end : ℕ) (bytes : List ℕ) (at : ℕ) (first : IsFirstByte (is_byte end) bytes (Some at)) where
@@ -59,7 +61,13 @@ module _ (end : ℕ) (bytes : List ℕ) (at : ℕ) (first : IsFirstByte (is_byte
       → cut_rest end selected before (bytes ++ more) ≡ (chosen_from selected (before + 1) (take at (take (at + 1) bytes)) ++ drop at (take (at + 1) bytes))
       ++ cut_rest end selected 0 (drop (at + 1) bytes ++ more)
   line_on selected before more =
-      cc (split_of end bytes at first, append_assoc (take at bytes) (end ∷ drop (at + 1) bytes) more, rest_line end selected before (take at bytes) (drop (at + 1) bytes ++ more) (before_end end bytes at first), line_of end bytes at first, end_of end bytes at first)
+      cc (
+        split_of end bytes at first,
+        append_assoc (take at bytes) (end ∷ drop (at + 1) bytes) more,
+        rest_line end selected before (take at bytes) (drop (at + 1) bytes ++ more) (before_end end bytes at first),
+        line_of end bytes at first,
+        end_of end bytes at first,
+      )
 
 -- lines that are empty
 pub empty_lines : (end : ℕ) (selected : ℕ → Bool) (ends more : List ℕ) → mask_l (map (is_byte end) ends) + 1 ≡ 2 ^ length ends
@@ -132,4 +140,12 @@ module _ (job : Cut) (by_bytes : job.fields ≡ false) where
 
       whole_side : cut_rest end job.selected 0 (given ++ end ∷ []) ≡ (text end (flat_map (cut_line job) ls) ++ chosen_from job.selected 1 p.piece) ++ end ∷ []
       whole_side =
-          cc (rest_of_all end job.selected (lines end (given ++ end ∷ [])), all_lines, map-append (chosen_from job.selected 1) ls (p.piece ∷ []), text-append end (map (chosen_from job.selected 1) ls) (chosen_from job.selected 1 p.piece ∷ []), made_is ls, append-nil (chosen_from job.selected 1 p.piece ++ end ∷ []), append_assoc (text end (flat_map (cut_line job) ls)) (chosen_from job.selected 1 p.piece) (end ∷ []))
+          cc (
+            rest_of_all end job.selected (lines end (given ++ end ∷ [])),
+            all_lines,
+            map-append (chosen_from job.selected 1) ls (p.piece ∷ []),
+            text-append end (map (chosen_from job.selected 1) ls) (chosen_from job.selected 1 p.piece ∷ []),
+            made_is ls,
+            append-nil (chosen_from job.selected 1 p.piece ++ end ∷ []),
+            append_assoc (text end (flat_map (cut_line job) ls)) (chosen_from job.selected 1 p.piece) (end ∷ []),
+          )

@@ -1,6 +1,6 @@
 -- The selected fields of a line, which is walked once. The fields of an interval, with the delimiter in front of each,
 -- are one slice of the line; so what is selected is these slices, the first without what leads it.
-use Rattle.std.proofs.Common.{◌≡◌, ℕ, zero, suc, ◌+◌, ◌-◌, ◌<◌, ◌≤◌, List, [], ◌∷◌, ◌++◌, length, take, drop, get_or, refl, sym, ◌∙◌, ap, subst, arith, append_assoc, length-drop, take-append-drop}
+use Rattle.std.proofs.Common.{◌≡◌, ℕ, zero, suc, ◌+◌, ◌-◌, ◌<◌, ◌≤◌, List, [], ◌∷◌, ◌++◌, length, take, drop, get_or, refl, sym, ◌∙◌, ap, arith, append_assoc, length-drop, take-append-drop}
 use Rattle.std.proofs.lemmas.List.{append-nil, take_all, drop_all, drop_more, drop-drop, drop-take, drop-append-le, length-take-le}
 use Rattle.std.specs.List.{join_with_byte}
 use Rattle.ptlangs.specs.CutLists.{is_selected, AreApart}
@@ -155,7 +155,14 @@ module _ {d : ℕ} (all : List Interval) {line : List ℕ} (tail : List ℕ) (i 
         next_is =
             let more = chosen (is_selected rs) (r.last + 1) (fields d (drop next line)) in
             let long : 1 - lead ≤ length (led d (take size (fields d rest))) = omega (arith, some, ap length (sym p.front), length-take-le passed (d ∷ rest) (omega arith)) in
-            cc (these, here_is, others, led-append d (take size (fields d rest)) more, drop-append-le (1 - lead) (led d (take size (fields d rest))) (led d more) long, append_assoc (laid d lead (take size (fields d rest))) (led d more) tail)
+            cc (
+              these,
+              here_is,
+              others,
+              led-append d (take size (fields d rest)) more,
+              drop-append-le (1 - lead) (led d (take size (fields d rest))) (led d more) long,
+              append_assoc (laid d lead (take size (fields d rest))) (led d more) tail,
+            )
 
         -- the slice, and what comes behind it
         pub walking_slice : to_come ≡ take ((next - 1) - (from - lead)) (drop (from - lead) line) ++ coming d rs line tail (r.last + 1) next 1
@@ -180,7 +187,13 @@ module _ {d : ℕ} (all : List Interval) {line : List ℕ} (tail : List ℕ) (i 
           number_of = omega (arith, few, ap length (s.later ∙ ap (fields d) (drop-drop skipped at line)), length-drop skip here)
 
           same : to_come ≡ laid d lead (fields d rest) ++ tail
-          same = cc (these, here_is, take_all size (fields d rest) few, chosen_none (is_selected rs) number here (λ m low high. not_selected rs (r.last + 1) m apart.2 (omega (arith, number_of, not_past, apart.1))), append-nil (fields d rest))
+          same = cc (
+            these,
+            here_is,
+            take_all size (fields d rest) few,
+            chosen_none (is_selected rs) number here (λ m low high. not_selected rs (r.last + 1) m apart.2 (omega (arith, number_of, not_past, apart.1))),
+            append-nil (fields d rest),
+          )
 
           slice : drop (from - lead) bytes ≡ laid d lead (fields d rest) ++ tail
           slice =

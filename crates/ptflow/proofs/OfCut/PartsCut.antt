@@ -1,8 +1,6 @@
 -- `cut` of a text that is cut behind a line.
-use Rattle.std.proofs.Common.{◌∙◌, ap}
 use Rattle.ptlines.specs.Text.{lines}
 use Rattle.ptlines.proofs.PartLaws.{the_lines_of_parts}
-use Rattle.ptflow.specs.Cuts.{cut_lines}
 use Rattle.ptflow.specs.Parts.{CutOfParts}
 use Rattle.ptflow.proofs.OfCut.FieldLines.{cut_lines-append}
 

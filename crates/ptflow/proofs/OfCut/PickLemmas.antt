@@ -148,7 +148,11 @@ module _ (selected : ℕ → Bool) where
         let parts = ap (picked selected) (sym all) ∙ picked_parts count (16 - count) in
         let later = chosen_from selected (1 + count) (range_with_len count (16 - count)) in
         let few : length (picked selected count) ≤ length (picked selected 16) = omega (arith, ap length parts, length-append (picked selected count) later) in
-        cc (take-take (length (picked selected count)) (length (picked selected 16)) pick.row few, take-append-le (length (picked selected count)) (picked selected count) later (omega arith), take_all (length (picked selected count)) (picked selected count) (omega arith))
+        cc (
+          take-take (length (picked selected count)) (length (picked selected 16)) pick.row few,
+          take-append-le (length (picked selected count)) (picked selected count) later (omega arith),
+          take_all (length (picked selected count)) (picked selected count) (omega arith),
+        )
 
     pub pick_line : {count : ℕ} (v : List ℕ) → count ≤ 16 → length v ≡ 16 → take (get_or pick.counts count 0) (swz_l w8 16 v 0 pick.row) ≡ chosen_from selected 1 (take count v)
     pick_line {count} v short long =

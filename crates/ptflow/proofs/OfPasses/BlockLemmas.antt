@@ -4,7 +4,7 @@ use Rattle.std.proofs.Common.{◌≡◌, ℕ, ◌+◌, ◌-◌, ◌≤◌, ◌<�
 use Rattle.std.proofs.lemmas.Bool.{false≢true}
 use Rattle.std.proofs.lemmas.List.{append-nil, take_all}
 use Rattle.ptlines.specs.Readers.{Reader, Reads, Goes, IsDone, IsSound, HasReadCause}
-use Rattle.ptlines.specs.Inputs.{Given, Begins}
+use Rattle.ptlines.specs.Inputs.{Begins}
 use Rattle.ptlines.specs.Outputs.{Output, Wrote}
 use Rattle.ptlines.specs.Slots.{Slots}
 use Rattle.ptlines.proofs.Filling.{goes_trans}
@@ -29,10 +29,12 @@ module _ {reader shown : Reader} {block : List ℕ} (goes : Goes reader shown []
   counted_more consumed least =
       omega (arith, least, counted_block, ap (λ r. r.pulled) consumed, ap (λ r. length r.held) consumed, length-drop (length block) shown.held, ap length held)
 
-unfoldable pub midway_starts : {X : Type 0} {rest_from : X → List ℕ → List ℕ} {start : X} {old : Reader} {was : Output} → old.fault ≡ None → was.faulted ≡ false → Midway rest_from start start old old was was
+unfoldable pub midway_starts : {X : Type 0} {rest_from : X → List ℕ → List ℕ} {start : X} {old : Reader} {was : Output} → old.fault ≡ None → was.faulted ≡ false
+    → Midway rest_from start start old old was was
 midway_starts {old} {was} readable clean = record { given = []; pushed = []; reached = reached_nothing old was readable clean; on = λ rest may. refl }
 
-module _ {X : Type 0} {rest_from : X → List ℕ → List ℕ} {start : X} {now : X} {old reader shown : Reader} {block : List ℕ} {was is : Output} (m : Midway rest_from start now old reader was is) (goes : Goes reader shown []) (held : shown.held ≡ block) where
+module _ {X : Type 0} {rest_from : X → List ℕ → List ℕ} {start : X} {now : X} {old reader shown : Reader} {block : List ℕ} {was is : Output}
+    (m : Midway rest_from start now old reader was is) (goes : Goes reader shown []) (held : shown.held ≡ block) where
   -- the block was passed on and consumed
   unfoldable pub midway_more : {next : X} {new : Reader} {is' : Output} → new ≡ record shown { held = drop (length block) shown.held }
       → Continues rest_from now next block is is' → Midway rest_from start next old new was is'

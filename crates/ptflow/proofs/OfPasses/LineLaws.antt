@@ -1,6 +1,6 @@
 -- Laws of the lines of a text: whole lines and the piece behind them, the longest line, and the lines of a block one by
 -- one. All of them go by the first end in some bytes, in front of which no other stands.
-use Rattle.std.proofs.Common.{◌≡◌, ℕ, ◌+◌, ◌≤◌, ◌==◌, Bool, true, false, cond, List, [], ◌∷◌, ◌++◌, length, max, refl, sym, ◌∙◌, ap, arith, take-append-drop}
+use Rattle.std.proofs.Common.{◌≡◌, ℕ, ◌+◌, ◌≤◌, ◌==◌, Bool, true, false, cond, List, [], ◌∷◌, ◌++◌, length, max, refl, ap, arith, take-append-drop}
 use Rattle.std.proofs.Common.{◌-◌, Some, take, drop, append_assoc, length-append}
 use Rattle.std.specs.List.{onto_first}
 use Rattle.std.proofs.lemmas.Bool.{eqb-true, eqb-false}

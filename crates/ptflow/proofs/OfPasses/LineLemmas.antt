@@ -1,10 +1,10 @@
 -- A tool that works line by line, whatever it carries. What was passed on of the lines that came, and what is made of
 -- the lines to come, is the whole, whatever comes; so midway it is what PassLemmas asks for.
-use Rattle.std.proofs.Common.{◌≡◌, Bool, ℕ, ◌+◌, ◌-◌, ◌*◌, ◌≤◌, ◌^◌, true, false, List, [], ◌∷◌, ◌++◌, Ok, Err, length, drop, max, refl, sym, ◌∙◌, ap, subst, arith, append_assoc, length-append}
+use Rattle.std.proofs.Common.{◌≡◌, Bool, ℕ, ◌+◌, ◌-◌, ◌*◌, ◌≤◌, ◌^◌, true, false, List, [], ◌∷◌, ◌++◌, Ok, Err, length, drop, max, refl, ◌∙◌, ap, subst, arith, append_assoc, length-append}
 use Rattle.std.proofs.Math.Nat.{mul-le-mul_left}
 use Rattle.std.proofs.lemmas.Bool.{false≢true}
 use Rattle.std.proofs.lemmas.List.{nil_from_length, get_or-set_same}
-use Rattle.ptlines.specs.Text.{text, lines, ended_lines, IsLine, longest, longest_line}
+use Rattle.ptlines.specs.Text.{lines, ended_lines, IsLine, longest, longest_line}
 use Rattle.ptlines.specs.Inputs.{Given, whole_lines, Begins, Agrees}
 use Rattle.ptlines.specs.Outputs.{Output, Wrote}
 use Rattle.ptlines.specs.Readers.{Reader, Reads, Goes, IsDone, IsSound, HasReadCause}

@@ -1,6 +1,6 @@
 -- How a pass of any tool over one input ends. Midway, what was pushed stands in front of what is written of the rest,
 -- whatever comes; exactness, the beginning for each agreeing input, and what is decided are three readings of that.
-use Rattle.std.proofs.Common.{◌≡◌, ⊎_elim, inl, inr, ℕ, ◌≤◌, ◌<◌, ◌^◌, true, false, List, [], ◌++◌, length, None, Result, Ok, Err, max, refl, sym, ◌∙◌, ap, subst, arith, append_assoc}
+use Rattle.std.proofs.Common.{◌≡◌, ⊎_elim, inl, inr, ℕ, ◌≤◌, ◌<◌, ◌^◌, true, false, List, [], ◌++◌, length, None, Result, Ok, Err, max, refl, sym, ◌∙◌, arith, append_assoc}
 use Rattle.std.proofs.lemmas.Grind.{common_steps}
 use Rattle.std.proofs.lemmas.List.{append-nil}
 use Rattle.std.proofs.lemmas.Bool.{false≢true}
@@ -17,7 +17,7 @@ use Rattle.ptlines.specs.KeepingUp.{WorksOff, KeepsUp}
 use Rattle.ptlines.proofs.Sending.{keeps_still, keeps_more}
 use Rattle.ptflow.specs.declared.faults.FlowFault.{FlowFault}
 use Rattle.ptflow.specs.declared.faults.FlowFault.TheVariants.{Read, Write, Memory}
-use Rattle.ptflow.proofs.OfPasses.ReaderFacts.{goes_nothing, done_gives_nothing, never_failed}
+use Rattle.ptflow.proofs.OfPasses.ReaderFacts.{goes_nothing, never_failed}
 
 -- these bytes were given, and those pushed
 pub record Reached (old reader : Reader) (was is : Output) (given pushed : List ℕ) : Type 0 where

@@ -1,5 +1,5 @@
 -- Facts about readers and outputs that each engine starts from.
-use Rattle.std.proofs.Common.{◌≡◌, ℕ, ◌+◌, ◌<◌, ◌≤◌, ◌^◌, false, true, List, [], ◌++◌, None, length, take, drop, refl, sym, ◌∙◌, ap, subst, arith, length-drop}
+use Rattle.std.proofs.Common.{◌≡◌, ℕ, ◌+◌, ◌<◌, ◌≤◌, ◌^◌, false, true, List, [], ◌++◌, None, length, take, drop, refl, sym, ap, arith, length-drop}
 use Rattle.std.proofs.lemmas.List.{nil_from_length}
 use Rattle.ptlines.specs.Readers.{Reader, Reads, Goes, IsDone, IsSound, unread, budget}
 use Rattle.ptlines.specs.Slots.{Slots}

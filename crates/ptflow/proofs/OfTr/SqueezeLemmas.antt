@@ -1,6 +1,6 @@
 -- Bytes that stay where repeats are squeezed. Whether one stays is told by it and the byte in front of it, so a text is
 -- worked in pieces, each of them with the byte in front of it.
-use Rattle.std.proofs.Common.{◌≡◌, ℕ, zero, suc, ◌%◌, ◌^◌, map, bit_and, negsuc, pos, ◌+◌, ◌-◌, ◌*◌, ◌<◌, ◌≤◌, ◌&&◌, not, eqb, Bool, true, false, cond, List}
+use Rattle.std.proofs.Common.{◌≡◌, ℕ, zero, suc, ◌%◌, ◌^◌, map, bit_and, negsuc, pos, ◌+◌, ◌-◌, ◌<◌, ◌≤◌, ◌&&◌, not, eqb, Bool, true, false, cond, List}
 use Rattle.std.proofs.Common.{[], ◌∷◌, ◌++◌, Option, Some, length, take, drop, set, get_or, refl, sym, ◌∙◌, ap, arith, append_assoc, add-one, drop-cons, w8}
 use Rattle.std.specs.Option.{option_eq}
 use Rattle.std.specs.Int.{bit_not, cast_unsigned}
@@ -9,7 +9,7 @@ use mir.Val.{bool_byte, Fits}
 use Rattle.std.proofs.Math.Facts.{Fits-lt-pow}
 use Rattle.std.proofs.lemmas.List.{append-nil, take-append-drop, drop-drop, drop_all, take-set, take_more_set, take-take}
 use Rattle.std.proofs.lemmas.Simd.{get_or-chunk, length-chunk, length-zip2, mask_l-mod}
-use Rattle.ptflow.specs.Translations.{stays, squeeze_behind}
+use Rattle.ptflow.specs.Translations.{squeeze_behind}
 use Rattle.ptflow.specs.Workings.Bytes.ByteSets.{mask_of}
 use Rattle.ptflow.specs.Workings.Bytes.Packings.{chosen_by}
 use Rattle.ptflow.specs.Workings.Tr.TrRests.{squeeze_from}
@@ -97,7 +97,10 @@ module _ (squeezed : ℕ → Bool) where
         let end = piece_ends from at _ some room in
         record {
           is =
-              cc (append_assoc (take count into) (squeeze_behind squeezed last piece) (squeeze_behind squeezed (get_or from (at + size - 1) 0) (drop (at + size) from)), behind_on last piece (drop (at + size) from));
+              cc (
+                append_assoc (take count into) (squeeze_behind squeezed last piece) (squeeze_behind squeezed (get_or from (at + size - 1) 0) (drop (at + size) from)),
+                behind_on last piece (drop (at + size) from),
+              );
           behind = omega arith;
           within = omega arith;
           counted = omega arith;
@@ -189,7 +192,15 @@ module _ (test : ℕ → Bool) (from : List ℕ) where
       → ((stays_at at ++ stays_at (at + 16)) ++ stays_at (at + 32)) ++ stays_at (at + 48) ≡ squeeze_behind test (get_or from (at - 1) 0) (chunk at 64 from)
   stays_in_four {at} behind room =
       let s = λ (k : ℕ). squeeze_behind test (get_or from (k - 1) 0) (chunk k 16 from) in
-      cc (stays_piece _ behind (omega arith), stays_piece (at + 16) (omega arith) (omega arith), stays_piece (at + 32) (omega arith) (omega arith), stays_piece (at + 48) (omega arith) (omega arith), behind_parts at 16 16 (omega arith) (omega arith), behind_parts at 32 16 (omega arith) (omega arith), behind_parts at 48 16 (omega arith) (omega arith))
+      cc (
+        stays_piece _ behind (omega arith),
+        stays_piece (at + 16) (omega arith) (omega arith),
+        stays_piece (at + 32) (omega arith) (omega arith),
+        stays_piece (at + 48) (omega arith) (omega arith),
+        behind_parts at 16 16 (omega arith) (omega arith),
+        behind_parts at 32 16 (omega arith) (omega arith),
+        behind_parts at 48 16 (omega arith) (omega arith),
+      )
 
   -- where no byte goes, all of them stay
   pub all_stay_in_four : {at : ℕ} → 0 < at → at + 64 ≤ length from
@@ -198,7 +209,14 @@ module _ (test : ℕ → Bool) (from : List ℕ) where
   all_stay_in_four {at} behind room none =
       let stay = λ (k : ℕ) (some : 0 < k) (there : k + 16 ≤ length from). none_goes test (chunk (k - 1) 16 from) (chunk k 16 from)
       (length-chunk (k - 1) 16 from (omega arith) ∙ sym (length-chunk k 16 from there)) in
-      cc (stays_in_four behind room, stay at behind (omega arith) none.0, stay (at + 16) (omega arith) (omega arith) none.1, stay (at + 32) (omega arith) (omega arith) none.2, stay (at + 48) (omega arith) (omega arith) none.3, chunk_in_four at from)
+      cc (
+        stays_in_four behind room,
+        stay at behind (omega arith) none.0,
+        stay (at + 16) (omega arith) (omega arith) none.1,
+        stay (at + 32) (omega arith) (omega arith) none.2,
+        stay (at + 48) (omega arith) (omega arith) none.3,
+        chunk_in_four at from,
+      )
 
 -- tests that agree on bytes squeeze the same repeats
 pub same_behind : (p q : ℕ → Bool) → ((b : ℕ) → b < 256 → p b ≡ q b) → (last : ℕ) (bytes : List ℕ) → Each1 (Fits w8) bytes → squeeze_behind p last bytes ≡ squeeze_behind q last bytes

@@ -1,10 +1,9 @@
 -- What `tr` writes of the rest of a text. A byte stays or goes by the byte that was written last alone, so that byte is
 -- all that is carried from block to block, and within a block from byte to byte.
-use Rattle.std.proofs.Common.{◌≡◌, ℕ, ◌-◌, ◌==◌, ◌&&◌, not, eqb, Bool, true, false, cond, List, [], ◌∷◌, ◌++◌, Option, None, Some, map, length, refl, sym, ◌∙◌, ap, arith}
-use Rattle.std.specs.Prelude.{filter, zip, slice_get}
+use Rattle.std.proofs.Common.{◌≡◌, ℕ, ◌-◌, ◌==◌, ◌&&◌, not, eqb, Bool, true, false, cond, List, [], ◌∷◌, ◌++◌, Option, None, Some, map, length, refl, ap, arith}
+use Rattle.std.specs.Prelude.{filter, slice_get}
 use Rattle.std.specs.List.{last_or}
 use Rattle.std.specs.Option.{option_eq, option_or}
-use Rattle.std.proofs.lemmas.Bool.{eqb-true}
 use Rattle.std.proofs.lemmas.List.{append-nil, map-append}
 use Rattle.std.proofs.lemmas.List.Elements.{filter-append}
 use Rattle.ptlines.specs.Inputs.{Begins}

@@ -1,5 +1,5 @@
 -- The runs of the lines of a block, line by line.
-use Rattle.std.proofs.Common.{◌≡◌, ℕ, ◌+◌, ◌-◌, ◌<◌, ◌≤◌, ◌&&◌, Bool, true, false, List, [], ◌∷◌, ◌++◌, Some, get_or, length, take, drop, refl, sym, ◌∙◌, ap, subst, arith, append_assoc, length-append}
+use Rattle.std.proofs.Common.{◌≡◌, ℕ, ◌+◌, ◌-◌, ◌<◌, ◌≤◌, ◌&&◌, Bool, true, false, List, [], ◌∷◌, ◌++◌, Some, length, take, drop, refl, sym, ◌∙◌, ap, subst, arith, append_assoc, length-append}
 use Rattle.std.proofs.lemmas.Grind.{common_steps}
 use Rattle.std.specs.Prelude.{bytes_eq, nat_lt, slice_range}
 use Rattle.std.proofs.lemmas.Bool.Decides.{nat_tests}
@@ -10,7 +10,6 @@ use Rattle.ptlines.specs.Outputs.{Output, Wrote}
 use Rattle.ptlines.specs.Text.{text, ended_lines, IsLine}
 use Rattle.ptlines.proofs.Given.{length_range}
 use Rattle.ptlines.proofs.Pushed.{wrote_nothing, wrote_trans}
-use Rattle.ptlines.proofs.Scanned.{take_end}
 use Rattle.ptlines.proofs.TextLaws.{text_push, ended_none}
 use Rattle.ptlangs.specs.Jobs.{Uniq}
 use Rattle.ptlangs.specs.declared.jobs.Show.{Show}
@@ -56,7 +55,12 @@ module _ {end : ℕ} {block rest : List ℕ} {front : List (List ℕ)} (f : InFr
   front_more at first = record {
     lines = cc (ended_next end rest at first, append_assoc front (take at rest ∷ []) (ended_lines end (drop (at + 1) rest)));
     bytes =
-        cc (split_of end rest at first, append_assoc (take at rest) (end ∷ []) (drop (at + 1) rest), append_assoc (text end front) (take at rest ++ end ∷ []) (drop (at + 1) rest), text_push end front (take at rest));
+        cc (
+          split_of end rest at first,
+          append_assoc (take at rest) (end ∷ []) (drop (at + 1) rest),
+          append_assoc (text end front) (take at rest ++ end ∷ []) (drop (at + 1) rest),
+          text_push end front (take at rest),
+        );
   }
 
 same_head : {x y : List ℕ} {xs ys : List (List ℕ)} → x ∷ xs ≡ y ∷ ys → x ≡ y
@@ -124,7 +128,8 @@ pub span_join : {block : List ℕ} {a b : Span} → IsSpan block a → IsSpan bl
 span_join {block} {a} {b} fits next touch =
     let front = span_of block a in
     let back = span_of block b in
-    let long : b.to - a.from ≡ length (front ++ back) = omega (arith, length-append front back, length_range block _ _ fits.ordered fits.within, length_range block _ _ next.ordered next.within, next.ordered) in
+    let long : b.to - a.from ≡ length (front ++ back) = omega
+    (arith, length-append front back, length_range block _ _ fits.ordered fits.within, length_range block _ _ next.ordered next.within, next.ordered) in
     let split : drop a.from block ≡ (front ++ back) ++ drop b.to block =
     cc (drop_split block a.from a.to fits.ordered, drop_split block b.from b.to next.ordered, append_assoc front back (drop b.to block)) in
     cc (take_at (front ++ back) (drop b.to block) (length (front ++ back)) refl)
@@ -234,7 +239,12 @@ module _ {job : Uniq} {block : List ℕ} {rest : List ℕ} {count : ℕ} {line w
       all_entries : (pushed waiting' : List ℕ) → pushed ++ waiting' ≡ span_of block waiting ++ run_text job.show count (span_of block line)
           → (r.pushed ++ pushed) ++ waiting' ≡ entries job (r.passed ++ open_run (run_of r.first count))
       all_entries pushed waiting' all =
-          cc (append_assoc r.pushed pushed waiting', append_assoc r.pushed (span_of block waiting) (run_text job.show count (span_of block line)), open_is job (run_of r.first count), entries-append job r.passed (open_run (run_of r.first count)))
+          cc (
+            append_assoc r.pushed pushed waiting',
+            append_assoc r.pushed (span_of block waiting) (run_text job.show count (span_of block line)),
+            open_is job (run_of r.first count),
+            entries-append job r.passed (open_run (run_of r.first count)),
+          )
 
       pub running_turn : {is' : Output} {now : Span} → Waits (span_of block waiting ++ run_text job.show count (span_of block line)) block now is is' → is'.faulted ≡ false
           → (from to : ℕ) → from ≡ length block - length rest → to ≡ from + at + 1 → {own' : List ℕ} → own' ≡ key job next

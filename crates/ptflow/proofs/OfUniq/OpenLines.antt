@@ -1,5 +1,5 @@
 -- The run that is open, with the lines that are taken one by one and block by block.
-use Rattle.std.proofs.Common.{◌≡◌, ℕ, ◌+◌, ◌<◌, ◌&&◌, Bool, true, false, cond, List, [], ◌∷◌, ◌++◌, Option, None, Some, length, take, drop, set, refl, sym, ◌∙◌}
+use Rattle.std.proofs.Common.{◌≡◌, ℕ, ◌+◌, ◌<◌, ◌&&◌, Bool, true, false, List, [], ◌∷◌, ◌++◌, Option, None, Some, length, take, drop, refl, sym, ◌∙◌}
 use Rattle.std.proofs.lemmas.Grind.{common_steps}
 use Rattle.std.proofs.Common.{ap, subst, arith, append_assoc, length-append, take-append-drop}
 use Rattle.std.specs.Prelude.{nat_lt, swap}
@@ -9,14 +9,14 @@ use Rattle.std.proofs.lemmas.List.{append-nil, length-take-le, get_or-set_other}
 use Rattle.std.proofs.lemmas.List.Sums.{sum_by-cons}
 use Rattle.memchr.specs.Find.{IsFirstByte, is_byte}
 use Rattle.ptlines.specs.Outputs.{Output, Wrote}
-use Rattle.ptlines.specs.Inputs.{Begins, whole_lines}
+use Rattle.ptlines.specs.Inputs.{whole_lines}
 use Rattle.ptlines.specs.Slots.{Slots, line, total, with_line}
-use Rattle.ptlines.specs.Text.{text, lines, ended_lines, IsLine}
+use Rattle.ptlines.specs.Text.{text, ended_lines, IsLine}
 use Rattle.ptlines.proofs.Pushed.{wrote_nothing, wrote_trans}
 use Rattle.ptlines.proofs.Scanned.{no_end}
 use Rattle.ptlines.proofs.TextLaws.{text-append, ended_none}
 use Rattle.ptlangs.specs.Jobs.{Uniq}
-use Rattle.ptflow.specs.Uniqs.{Run, is_same, runs, entries, all_but_last, uniq_tool}
+use Rattle.ptflow.specs.Uniqs.{Run, is_same, runs, entries, uniq_tool}
 use Rattle.ptflow.specs.Workings.Passes.Lines.{Empties, IsLineTool}
 use Rattle.ptflow.specs.Workings.Uniq.OpenLines.{first_line, open_run_of}
 use Rattle.ptflow.specs.declared.tools.uniq.Open.{Open}
@@ -144,7 +144,12 @@ module _ {job : Uniq} {end : ℕ} {first block : List ℕ} {same : Same} (g : Go
         let next = take at rest in
         let behind = ended_lines end (drop (at + 1) rest) ++ more in
         let is : ended_lines end rest ++ more ≡ next ∷ behind = cc (ended_next end rest at found) in
-        cc (went_on more, behind_turn job run next behind (other_count (count + same.count) (g.turns next (ended_lines end (drop (at + 1) rest)) (ended_next end rest at found))), behind_turn job (run_of [] 0) next behind refl)
+        cc (
+          went_on more,
+          behind_turn job run next behind
+              (other_count (count + same.count) (g.turns next (ended_lines end (drop (at + 1) rest)) (ended_next end rest at found))),
+          behind_turn job (run_of [] 0) next behind refl,
+        )
 
     module _ {was is : Output} (is' : Output) (wrote : Wrote was is (entries job (open_run run))) where
       pub block_run_halts : is.faulted ≡ true → RunsHalt job (run_of first count) (ended_lines end block) was is

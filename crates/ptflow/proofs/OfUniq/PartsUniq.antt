@@ -8,7 +8,7 @@ use Rattle.ptlines.specs.Text.{lines, IsLine}
 use Rattle.ptlines.proofs.PartLaws.{the_lines_of_parts}
 use Rattle.ptlines.proofs.TextLaws.{lines-text, the_lines}
 use Rattle.ptlangs.specs.Jobs.{Uniq}
-use Rattle.ptflow.specs.Uniqs.{Run, key, is_same, onto_runs, runs, entries}
+use Rattle.ptflow.specs.Uniqs.{Run, key, is_same, onto_runs, runs}
 use Rattle.ptflow.specs.Parts.{BeginsWith, EndsWith, AreGrouped, UniqOfParts, UniqByKey}
 use Rattle.ptflow.specs.Workings.Uniq.OpenRuns.{run_of}
 use Rattle.ptflow.proofs.OfUniq.OpenRuns.{entries-append}

@@ -97,9 +97,6 @@ turns-preserved g c =
       counted = counted_more shows.0 shows.1 b.was_sound i.counted c.consume.ensures.consumed e.counts;
     }
 
-pub push_block-requires-clause-holds : goal.push_block-requires-clause-holds
-push_block-requires-clause-holds g c = (c.args.tool.now, c.turns.invariant.holds)
-
 pub turns-smaller : goal.turns-smaller
 turns-smaller g c =
     let shows = (rw c.in-Ok.is at c.block.follows.holds-at-none.shows) c.turns.invariant.midway.reached.goes.fault in

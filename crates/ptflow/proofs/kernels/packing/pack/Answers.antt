@@ -18,4 +18,6 @@ returns-clause-packed c flags long masked =
     let others : length back ≡ 8 = omega (arith, length-drop 8 flags) in
     let first = c.pack_eight-half.ensures.packed front few (cc (low_half front back few)) in
     let second = c.pack_eight.ensures.packed back others (cc (high_half front back few others)) in
-    cc (chosen_by_halves front back before v turned few others c.fits-v.0 (take-map (λ k. get_or (v ++ v) k 0) 8 (range_with_len 8 8 ++ range_with_len 0 8) ∙ pick_l-range_with_len 0 (v ++ v) 8 8 (omega (arith, length-append v v, c.fits-v.0))))
+    cc (chosen_by_halves front back before v turned few others c.fits-v.0
+    (take-map (λ k. get_or (v ++ v) k 0) 8 (range_with_len 8 8 ++ range_with_len 0 8)
+    ∙ pick_l-range_with_len 0 (v ++ v) 8 8 (omega (arith, length-append v v, c.fits-v.0))))

@@ -21,4 +21,8 @@ returns-clause-packed c flags long masked =
     let row = slice_index_or c.args.shuffles.now.rows c.from.result [] in
     let is : IsRow flags row = subst (λ m. IsRow flags (slice_index_or c.args.shuffles.now.rows m [])) (sym (cc)) (c.requires.packing flags long) in
     let lanes = swz_l w8 16 v 0 row in
-    cc (chosen_stored at (count_ones c.args.keep) into lanes (length-swz_l w8 16 v 0 row ∙ is.long) (omega (arith, ones-le 8 c.args.keep c.ranges.keep.fits)) c.requires.room, row_chooses v (omega (arith, long, c.fits-v.0)) is)
+    cc (
+      chosen_stored at (count_ones c.args.keep) into lanes (length-swz_l w8 16 v 0 row ∙ is.long)
+          (omega (arith, ones-le 8 c.args.keep c.ranges.keep.fits)) c.requires.room,
+      row_chooses v (omega (arith, long, c.fits-v.0)) is,
+    )

@@ -57,7 +57,11 @@ loop-end-preserved c =
       number = omega (arith, c.next-turn.ensures.number, loop.invariant.number);
       long = cc (length-set loop.to (at + k) c.unwrap_or.result);
       replaced =
-          cc (set_in_chunk loop.to (take at c.args.to.now) (first_turns end delims n first v) _ 64 k c.unwrap_or.result loop.invariant.replaced front (omega (arith, here.0, long)), turn_on end delims n first v k here);
+          cc (
+            set_in_chunk loop.to (take at c.args.to.now) (first_turns end delims n first v) _ 64 k c.unwrap_or.result loop.invariant.replaced front
+                (omega (arith, here.0, long)),
+            turn_on end delims n first v k here,
+          );
     }
 
 pub returns-clause-next : goal.returns-clause-next

@@ -63,13 +63,6 @@ loop-behind-preserved c =
           cc (set_in_chunk loop.to (take at c.args.to.now) (first_turns end turns n first v) _ 64 k put loop.invariant.replaced front (omega arith), turn_on end turns n first v k here);
     }
 
-pub bounds-spread-turn : goal.bounds-spread-turn
-bounds-spread-turn c =
-    let p = is_byte c.args.ending in
-    let v = chunk c.args.at 64 c.args.from.now in
-    let counted = ap count_ones c.marks-marked.ensures ∙ ones-mask_l p v in
-    omega (arith, count_by-le-length p v, length-chunk c.args.at 64 c.args.from.now c.requires.room, mod-lt c.args.turn.number c.requires.spread.some)
-
 pub returns-clause-next : goal.returns-clause-next
 returns-clause-next c =
     let v = chunk c.args.at 64 c.args.from.now in

@@ -1,15 +1,6 @@
-use Rattle.std.proofs.Common.{take, arith}
-use Rattle.std.proofs.lemmas.List.{length-take-le}
-use Rattle.std.proofs.lemmas.List.Sums.{count_by-le-length}
-use Rattle.memchr.specs.Find.{is_byte}
+use Rattle.std.proofs.Common.{arith}
 use Rattle.ptflow.proofs.OfPaste.Turns.{turned_more}
 use Rattle.ptflow.proofs.kernels.spreading.spread_most.Goals as goal
-
-pub spread_chunk-turn-requires-clause-short : goal.spread_chunk-turn-requires-clause-short
-spread_chunk-turn-requires-clause-short c =
-    let at = c.loop-at.at in
-    let from = c.args.from.now in
-    omega (arith, count_by-le-length (is_byte c.args.ending) (take at from), length-take-le at from c.loop-at.invariant.0)
 
 pub loop-at-preserved : goal.loop-at-preserved
 loop-at-preserved c =

@@ -26,24 +26,3 @@ loop-at-preserved c =
     let room : at + 64 ≤ length from = omega arith in
     let same = same_behind (holds c.args.set) flag c.requires.set (get_or from (at - 1) 0) (take 64 (drop at from)) (chunk-fits w8 at 64 from c.type_inv.from) in
     squeezing_piece flag c.loop-at.invariant 64 (omega arith) room c.squeeze_chunk-count.ensures.end (cc)
-
-pub overflow_sub-from : goal.overflow_sub-from
-overflow_sub-from c = c.loop-at.invariant.within
-
-pub squeeze_chunk-count-requires-clause-behind : goal.squeeze_chunk-count-requires-clause-behind
-squeeze_chunk-count-requires-clause-behind c = c.loop-at.invariant.behind
-
-pub squeeze_chunk-count-requires-clause-room : goal.squeeze_chunk-count-requires-clause-room
-squeeze_chunk-count-requires-clause-room c = omega arith
-
-pub squeeze_tail-requires-clause-behind : goal.squeeze_tail-requires-clause-behind
-squeeze_tail-requires-clause-behind c = c.loop-at.invariant.behind
-
-pub squeeze_tail-requires-clause-within : goal.squeeze_tail-requires-clause-within
-squeeze_tail-requires-clause-within c = c.loop-at.invariant.within
-
-pub squeeze_tail-requires-clause-counted : goal.squeeze_tail-requires-clause-counted
-squeeze_tail-requires-clause-counted c = c.loop-at.invariant.counted
-
-pub returns-clause-squeezed : goal.returns-clause-squeezed
-returns-clause-squeezed c = c.squeeze_tail.ensures.squeezed ∙ c.loop-at.invariant.is

@@ -1,14 +1,8 @@
-use Rattle.std.proofs.Common.{◌≤◌, ◌+◌, ◌-◌, ◌++◌, ◌∙◌, ℕ, false, length, take, drop, get_or, slice_index_or, refl, ap, arith, w8}
+use Rattle.std.proofs.Common.{◌≤◌, ◌+◌, ◌-◌, ◌++◌, ◌∙◌, ℕ, false, length, take, drop, get_or, slice_index_or, ap, arith, w8}
 use Rattle.std.proofs.lemmas.Simd.{chunk-fits}
 use Rattle.ptflow.specs.Workings.Bytes.ByteSets.{holds}
 use Rattle.ptflow.proofs.OfTr.SqueezeLemmas.{squeezing_piece, same_behind, stays_piece}
 use Rattle.ptflow.proofs.kernels.squeezing.squeeze_tail.Goals as goal
-
-pub loop-at-init : goal.loop-at-init
-loop-at-init c = record { is = refl; behind = omega arith; within = omega arith; counted = omega arith }
-
-pub overflow_sub-from : goal.overflow_sub-from
-overflow_sub-from c = c.loop-at.invariant.within
 
 pub loop-at-preserved : goal.loop-at-preserved
 loop-at-preserved c =
@@ -20,18 +14,3 @@ loop-at-preserved c =
     squeezing_piece flag c.loop-at.invariant 16 (omega arith) room c.squeeze_lanes-count.ensures.end
     (c.squeeze_lanes-count.ensures.squeezed
     ∙ ap (◌++◌ (take c.loop-at.count c.loop-at.into)) (stays_piece (holds c.args.set) from _ c.loop-at.invariant.behind room ∙ same))
-
-pub squeeze_lanes-count-requires-clause-room : goal.squeeze_lanes-count-requires-clause-room
-squeeze_lanes-count-requires-clause-room c = omega arith
-
-pub squeeze_rest-requires-clause-behind : goal.squeeze_rest-requires-clause-behind
-squeeze_rest-requires-clause-behind c = c.loop-at.invariant.behind
-
-pub squeeze_rest-requires-clause-within : goal.squeeze_rest-requires-clause-within
-squeeze_rest-requires-clause-within c = c.loop-at.invariant.within
-
-pub squeeze_rest-requires-clause-counted : goal.squeeze_rest-requires-clause-counted
-squeeze_rest-requires-clause-counted c = c.loop-at.invariant.counted
-
-pub returns-clause-squeezed : goal.returns-clause-squeezed
-returns-clause-squeezed c = cc

@@ -1,5 +1,4 @@
 use Rattle.std.proofs.Common.{◌++◌, None, refl, sym, ◌∙◌, ap}
-use Rattle.ptlangs.specs.TrTables.{Tables}
 use Rattle.ptflow.specs.Passes.{no_slots}
 use Rattle.ptflow.specs.Translations.{tr_tool}
 use Rattle.ptflow.specs.Workings.Tr.TrRests.{tr_rest}

@@ -1,6 +1,5 @@
-use Rattle.std.proofs.Common.{◌≡◌, ◌+◌, suc, length, drop, sym, ◌∙◌, ap, arith}
-use Rattle.std.proofs.lemmas.List.{take_rest, drop_all}
-use Rattle.ptflow.specs.Workings.Uniq.UniqWords.{after_bytes}
+use Rattle.std.proofs.Common.{◌≡◌, ◌+◌, suc, sym, ◌∙◌, arith}
+use Rattle.std.proofs.lemmas.List.{take_rest}
 use Rattle.ptflow.proofs.OfUniq.UniqKeys.{blank_front, other_front}
 use Rattle.ptflow.proofs.tools.uniq.keys.behind_few.Goals as goal
 
@@ -16,10 +15,3 @@ loop-at-preserved c =
     let at = c.loop-at.at in
     let next : at + 1 ≡ suc at = omega arith in
     cc (other_front line at (omega (arith, c.loop-at-test.true)) (sym c.is_blank.ensures ∙ c.if-is_blank.false))
-
-pub returns : goal.returns
-returns c =
-    let line = c.args.line.now in
-    let end : c.loop-at.at ≡ length line = omega arith in
-    let none = drop_all (length line) line (omega arith) in
-    take_rest line (length line) ∙ none ∙ sym (ap after_bytes none) ∙ ap (λ n. after_bytes (drop n line)) (sym end) ∙ c.loop-at.invariant
