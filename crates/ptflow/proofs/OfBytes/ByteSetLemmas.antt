@@ -174,7 +174,7 @@ module _ (table : List ℕ) {n : ℕ} (long : length table ≡ 16) (within : n <
 pub one_more_flag : (table : List ℕ) (flags : List Bool) (n : ℕ) {x : ℕ} → length table ≡ 16 → n < 128 → x ≡ from_bool (get_or flags n false)
     → ((b : ℕ) → b < 128 → marks table b ≡ (ltb b n && get_or flags b false))
     → (b : ℕ) → b < 128 → marks (filled table n x) b ≡ (ltb b (n + 1) && get_or flags b false)
-one_more_flag table flags n {x} long within is marked b byte =
+one_more_flag table flags n long within is marked b byte =
     cc (filled_is table long within (get_or flags n false) byte, ⊎_elim here there (cases_eq b n))
   where
     here : b ≡ n → cond (eqb b n) (get_or flags n false || marks table n) (marks table b) ≡ (ltb b (n + 1) && get_or flags b false)

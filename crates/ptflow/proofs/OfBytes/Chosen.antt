@@ -46,8 +46,8 @@ chosen_past r n xs past = chosen_none (lies_in r) n xs (λ k low high. above r k
 chosen_step : {X : Type 0} (x : X) {all : List X} (first others : List X) (a b : Bool) → (a ≡ true → b ≡ false) → (b ≡ true → first ≡ []) → all ≡ first ++ others
     → cond (a || b) (x ∷ all) all ≡ cond a (x ∷ first) first ++ cond b (x ∷ others) others
 chosen_step x first others true true apart none more = absurd (false≢true (sym (apart refl)))
-chosen_step {X} x first others true false apart none more = ap (◌∷◌ x) more
-chosen_step {X} x first others false true apart none more = ap (◌∷◌ x) (more ∙ ap (λ l. l ++ others) (none refl))
+chosen_step x first others true false apart none more = ap (◌∷◌ x) more
+chosen_step x first others false true apart none more = ap (◌∷◌ x) (more ∙ ap (λ l. l ++ others) (none refl))
     ∙ ap (λ l. l ++ x ∷ others) (sym (none refl))
 chosen_step x first others false false apart none more = more
 
@@ -84,7 +84,7 @@ pub chosen_slice : {X : Type 0} (r : Interval) (n : ℕ) (xs : List X) (i j : �
 chosen_slice r n [] zero j is js = sym (take-nil (j - 0))
 chosen_slice r n [] (suc i) j is js = sym (take-nil (j - suc i))
 chosen_slice r n (x ∷ xs) i zero is js = chosen_past r n (x ∷ xs) (omega arith) ∙ (let none : 0 - i ≡ 0 = omega arith in rw none refl)
-chosen_slice {X} r n (x ∷ xs) zero (suc j) is js =
+chosen_slice r n (x ∷ xs) zero (suc j) is js =
     let whole : suc j - 0 ≡ suc j = omega arith in
     let rest : j - 0 ≡ j = omega arith in
     rw (inside r n (omega arith) (omega arith), whole) (ap (◌∷◌ x)

@@ -21,7 +21,7 @@ use Rattle.ptflow.specs.declared.kernels.packing.Shuffles.{Shuffles}
 -- by a test of each item
 pub chosen_by_test : {X : Type 0} (p : X → Bool) (xs : List X) → chosen_by (map p xs) xs ≡ filter p xs
 chosen_by_test p [] = refl
-chosen_by_test {X} p (x ∷ xs) = cc (chosen_by_test p xs)
+chosen_by_test p (x ∷ xs) = cc (chosen_by_test p xs)
 
 -- as many as bits of the mask are set
 pub length-chosen_by : {X : Type 0} (flags : List Bool) (xs : List X) → length flags ≤ length xs → length (chosen_by flags xs) ≡ count_ones (mask_l flags)
@@ -34,20 +34,20 @@ length-chosen_by (false ∷ fs) (x ∷ xs) enough = omega (arith, length-chosen_
 map-chosen_by : {X Y : Type 0} (f : X → Y) (flags : List Bool) (xs : List X) → map f (chosen_by flags xs) ≡ chosen_by flags (map f xs)
 map-chosen_by f [] xs = refl
 map-chosen_by f (flag ∷ flags) [] = refl
-map-chosen_by {Y} f (true ∷ flags) (x ∷ xs) = ap (◌∷◌ (f x)) (map-chosen_by f flags xs)
+map-chosen_by f (true ∷ flags) (x ∷ xs) = ap (◌∷◌ (f x)) (map-chosen_by f flags xs)
 map-chosen_by f (false ∷ flags) (x ∷ xs) = map-chosen_by f flags xs
 
 -- what stands behind the flags is not chosen
 chosen_by_front : {X : Type 0} (flags : List Bool) (xs : List X) → chosen_by flags (take (length flags) xs) ≡ chosen_by flags xs
 chosen_by_front [] xs = refl
 chosen_by_front (flag ∷ flags) [] = refl
-chosen_by_front {X} (flag ∷ flags) (x ∷ xs) = cc (chosen_by_front flags xs)
+chosen_by_front (flag ∷ flags) (x ∷ xs) = cc (chosen_by_front flags xs)
 
 pub chosen_by_parts : {X : Type 0} (front back : List Bool) (xs : List X) → chosen_by (front ++ back) xs ≡ chosen_by front xs ++ chosen_by back (drop (length front) xs)
 chosen_by_parts [] back xs = refl
 chosen_by_parts (flag ∷ front) [] [] = refl
 chosen_by_parts (flag ∷ front) (other ∷ back) [] = refl
-chosen_by_parts {X} (true ∷ front) back (x ∷ xs) = ap (◌∷◌ x) (chosen_by_parts front back xs)
+chosen_by_parts (true ∷ front) back (x ∷ xs) = ap (◌∷◌ x) (chosen_by_parts front back xs)
 chosen_by_parts (false ∷ front) back (x ∷ xs) = chosen_by_parts front back xs
 
 -- ---- the mask of flags

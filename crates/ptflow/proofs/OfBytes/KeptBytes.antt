@@ -21,7 +21,7 @@ not_tops test (b ∷ v) = λ i. lane (test b) i ∷ not_tops test v i
 -- the bits of the bytes that are not in a set, of the mask of those that are
 pub keep_bits : (test : ℕ → Bool) (v : List ℕ) {lanes : List ℤ} → length v ≡ 16 → lanes ≡ mask_of test v
     → mask_l (map (top 7) (map (bit_not w8) (map (cast_unsigned w8) lanes))) % 2 ^ 64 ≡ mask_l (map (λ b. not (test b)) v)
-keep_bits test v {lanes} long is =
+keep_bits test v long is =
     cc (not_tops test v, mask_l-mod (map (λ b. not (test b)) v) 64 (omega (arith, length-map v (λ b. not (test b)))))
 
 module _ {test : ℕ → Bool} {from into : List ℕ} {at count : ℕ} (before : Keeps test from at into count) where
@@ -76,4 +76,4 @@ keeps_same p {q} {from} {at} same fit within few room kept = record {
 
 -- all bytes
 pub keeps_all : {test : ℕ → Bool} {from into : List ℕ} {at count : ℕ} → Keeps test from at into count → length from ≤ at → (take count into ≡ filter test from) × (count ≤ length from)
-keeps_all {test} {from} {at} keeps all = (cc (take_all at from all), omega arith)
+keeps_all {from} {at} keeps all = (cc (take_all at from all), omega arith)

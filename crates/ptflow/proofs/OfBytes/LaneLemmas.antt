@@ -17,7 +17,7 @@ sel_map p f g [] = refl
 sel_map p f g (x ∷ xs) = ap (◌∷◌ (cond (p x) (f x) (g x))) (sel_map p f g xs)
 
 pub sel_maps : (p : ℕ → Bool) (f g : ℕ → ℕ) (v : List ℕ) {ms : List Bool} {xs ys : List ℕ} → ms ≡ map p v → xs ≡ map f v → ys ≡ map g v → sel_l ms xs ys ≡ map (λ b. cond (p b) (f b) (g b)) v
-sel_maps p f g v {xs} {ys} em ex ey = cc (sel_map p f g v)
+sel_maps p f g v em ex ey = cc (sel_map p f g v)
 
 pub mask_right : (t : ℕ → ℕ → Bool) {n : ℕ} (v : List ℕ) (y : ℕ) → length v ≡ n → map (top 7) (zip2 (λ a b. cond (t a b) 255 0) v (replicate n y)) ≡ map (λ b. t b y) v
 mask_right t {n} v y long = tops_compared w8 t v (replicate n y) ∙ zip2_splat t v n y long

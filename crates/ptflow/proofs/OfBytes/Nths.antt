@@ -72,7 +72,7 @@ and_less (false ∷ bits) =
 
 -- the lowest bit that is set is cleared
 pub cleared : (n : ℕ) {x : ℕ} (bits : List Bool) → x < 2 ^ 64 → x ≡ mask_l (without n bits) → bit_and x ((x + (2 ^ 64 - 1)) % 2 ^ 64) ≡ mask_l (without (suc n) bits)
-cleared n {x} bits small is = grind (arith, and_less (without n bits))
+cleared n bits small is = grind (arith, and_less (without n bits))
 
 map_self : (bits : List Bool) → map (λ b. b) bits ≡ bits
 map_self [] = refl
@@ -249,7 +249,7 @@ module _ (d : ℕ) (line : List ℕ) where
     few_behind_first few = omega (arith, few_left d (starts_behind_first first here) few)
 
     pub starts_past_first : {passed : ℕ} → StartsAt d (n - 1) (drop (first + 1) line) passed → StartsAt d n line (first + 1 + passed)
-    starts_past_first {passed} s =
+    starts_past_first s =
         let whole : 1 + (n - 1) ≡ n = omega arith in
         rw whole at (starts_more d (starts_behind_first first here) s)
 

@@ -64,7 +64,7 @@ module _ {job : Cut} {end : ℕ} {bytes : List ℕ} {size : ℕ} (some : 0 < siz
 module _ (job : Cut) (by_fields : job.fields ≡ true) {end : ℕ} (same : end ≡ job.end) (bytes : List ℕ) (to : ℕ) (first : IsFirstByte (is_byte end) bytes (Some to)) where
   -- one line, of which these bytes are written
   pub puts_line : (out : List ℕ) {old new : List ℕ} → cut_line job (take to bytes) ≡ out ∷ [] → new ≡ old ++ (out ++ take 1 (drop to bytes)) → PutsLines job end bytes (to + 1) old new
-  puts_line out {old} is put =
+  puts_line out is put =
       puts (omega arith) (omega arith) (take to bytes ∷ [])
       (append-nil (take to bytes ++ end ∷ []) ∙ sym (take_end end bytes to first)) (ended_next end bytes to first)
       (cc (drop_end end bytes to first, line_written job (take to bytes) out is))
@@ -98,9 +98,8 @@ module _ (job : Cut) (by_fields : job.fields ≡ true) {end : ℕ} (same : end �
     are_free (inr le) = free_lines job.delimiter end (take size bytes) (free_up_to le)
 
     pub puts_kept : {old new : List ℕ} → job.only ≡ false → new ≡ old ++ take size bytes → PutsLines job end bytes size old new
-    puts_kept {old} keeps put =
-        puts (omega arith) fits front texts lines_are
-        (cc (texts, lines_kept job by_fields keeps front (are_free near)))
+    puts_kept keeps put =
+        puts (omega arith) fits front texts lines_are (cc (texts, lines_kept job by_fields keeps front (are_free near)))
 
     pub puts_dropped : {old : List ℕ} → job.only ≡ true → PutsLines job end bytes size old old
     puts_dropped {old} only =

@@ -32,7 +32,7 @@ length-take-le' (suc n) (x ∷ xs) = omega (arith, length-take-le' n xs)
 module _ (selected : ℕ → Bool) where
   pub chosen_append : {X : Type 0} (n : ℕ) (xs ys : List X) → chosen_from selected n (xs ++ ys) ≡ chosen_from selected n xs ++ chosen_from selected (n + length xs) ys
   chosen_append n [] ys = let same : n ≡ n + 0 = omega arith in cc
-  chosen_append {X} n (x ∷ xs) ys = grind (arith, chosen_append (n + 1) xs ys)
+  chosen_append n (x ∷ xs) ys = grind (arith, chosen_append (n + 1) xs ys)
 
   map_chosen : (f : ℕ → ℕ) (n : ℕ) (xs : List ℕ) → map f (chosen_from selected n xs) ≡ chosen_from selected n (map f xs)
   map_chosen f n [] = refl
@@ -103,15 +103,14 @@ module _ (selected : ℕ → Bool) where
       whole = omega (arith, is, ap length (one_place place), length-append (picked selected place) (cond (selected (place + 1)) (place ∷ []) []), one_long (selected (place + 1)))
 
       by_cases : (k : ℕ) → (k ≡ place + 1) ⊎ ((k < place + 1) ⊎ (place + 1 < k)) → k ≤ place + 1 → get_or after k 0 ≡ length (picked selected k)
-      by_cases k (inl same) upto =
-          cc (get_or-set_same counts (place + 1) (count + one) 0 (omega arith), whole)
+      by_cases k (inl same) upto = cc (get_or-set_same counts (place + 1) (count + one) 0 (omega arith), whole)
       by_cases k (inr (inl less)) upto =
           cc (get_or-set_other counts (place + 1) k (count + one) 0 (λ e. omega arith), begun.counted k (omega arith))
       by_cases k (inr (inr more)) upto = absurd (omega arith)
 
   pub pick_whole : {count : ℕ} (most : ℕ) {row counts : List ℕ} → PickBegun 16 count row counts → ((place : ℕ) → 16 < place → place ≤ most → selected place ≡ false)
       → IsPick selected (record { row = row; counts = counts; most = most })
-  pick_whole most {row} {counts} begun past = record {
+  pick_whole most {counts} begun past = record {
     places = cc;
     long = begun.long;
     lanes = begun.lanes;
@@ -123,7 +122,7 @@ module _ (selected : ℕ → Bool) where
 
   pub few_enough : {X : Type 0} {most count : ℕ} (xs : List X) → ((place : ℕ) → 16 < place → place ≤ most → selected place ≡ false) → count ≤ most → count ≤ length xs
       → chosen_from selected 1 (take (min count 16) xs) ≡ chosen_from selected 1 (take count xs)
-  few_enough {X} {count} xs past upto within = ⊎_elim (λ e. near (omega arith)) (⊎_elim (λ low. near (omega arith)) far) (cases_order count 16)
+  few_enough {count} xs past upto within = ⊎_elim (λ e. near (omega arith)) (⊎_elim (λ low. near (omega arith)) far) (cases_order count 16)
     where
       near : count ≤ 16 → chosen_from selected 1 (take (min count 16) xs) ≡ chosen_from selected 1 (take count xs)
       near low = let least : min count 16 ≡ count = omega arith in cc

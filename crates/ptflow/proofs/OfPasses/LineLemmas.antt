@@ -41,8 +41,7 @@ pub record LineRun {S X E : Type 0} (state : S → Slots → X) (rest_from : X �
 -- what `fill` says where a line came, of the slot before this many
 pub came_line : {slots width : ℕ} {came : Bool} {old new : Reader} {before after : Slots} → slots ≡ width → came ≡ true → Fills old new before after (slots - 1) (Ok came)
     → GivesLine old new before after (width - 1)
-came_line {slots} {old} {new} {before} {after} same is fills =
-    rw same at (rw is at fills)
+came_line same is fills = rw same at (rw is at fills)
 
 module _ {S X E : Type 0} {tool : Tool} {state : S → Slots → X} {rest_from : X → List (List ℕ) → List E} {written : List E → List ℕ} {counted : X → ℕ} {end width : ℕ} {start : S}
     (t : IsLineTool tool state rest_from written counted end width start) where
@@ -110,7 +109,7 @@ module _ {S X E : Type 0} {tool : Tool} {state : S → Slots → X} {rest_from :
       run_more : {new : Reader} {bytes : List ℕ} (ls : List (List ℕ)) → Goes reader new bytes → LinesCame end new (r.given ++ bytes) (r.ls ++ ls)
           → {after : Slots} → Keeps width (max (longest r.ls) (longest ls)) before after
           → {next : X} {is' : Output} → On now next ls is is' → Run old new was is' before after next
-      run_more {bytes} ls goes came keeps {next} {is'} c = record {
+      run_more {bytes} ls goes came keeps {next} c = record {
         given = r.given ++ bytes;
         ls = r.ls ++ ls;
         passed = r.passed ++ c.passed;
@@ -132,7 +131,7 @@ module _ {S X E : Type 0} {tool : Tool} {state : S → Slots → X} {rest_from :
       pub run_block : {ending : ℕ} → ending ≡ old.ending → {shown new : Reader} {block : List ℕ} {count : ℕ} → Goes reader shown [] → shown.held ≡ block
           → PassesLines ending block count → new ≡ record shown { held = drop count shown.held }
           → {next : X} {is' : Output} → On now next (ended_lines ending block) is is' → Run old new was is' before store next
-      run_block ends {new} {block} goes held passed consumed {next} {is'} c =
+      run_block ends {new} {block} goes held passed consumed c =
           let ls = ended_lines end block in
           let same = ends ∙ r.ending in
           let front = subst (Goes reader new) (cc) (goes_past _ goes held passed.0 consumed) in
@@ -244,7 +243,7 @@ module _ {S X E : Type 0} {tool : Tool} {state : S → Slots → X} {rest_from :
 
         -- what was staged could not be sent
         pub run_unsent : {is' : Output} → Wrote is is' [] → is'.faulted ≡ true → IsPass tool old reader was is' before store (Err Write)
-        run_unsent {is'} wrote fault =
+        run_unsent wrote fault =
             run_block_halts refl sound (goes_nothing reader r.reached.goes.fault) refl
             (record {
               passed = [];
@@ -280,7 +279,7 @@ module _ {S X E : Type 0} {tool : Tool} {state : S → Slots → X} {rest_from :
         -- a write failed
         pub run_line_halts : IsReady old before → IsSound reader → IsSound new → {is' : Output} → Halt (state now after) (line after (width - 1) ∷ []) is is'
             → IsPass tool old new was is' before after (Err Write)
-        run_line_halts ready sound is_sound {is'} h =
+        run_line_halts ready sound is_sound h =
             let came = e.line ++ e.ending in
             let ends = r.reached.goes.reads.ending ∙ r.ending in
             let more = lines_more _ _ _ _ r.came _ _ _ _ e ends in
@@ -290,8 +289,7 @@ module _ {S X E : Type 0} {tool : Tool} {state : S → Slots → X} {rest_from :
             (came_longest _ _ _ _ more))
             (works_line r e.goes.reads e.line (e.ending ++ new.held) (append_assoc e.line e.ending new.held) (rw ends at e.whole)
             (behind_line e is_sound)) e.goes.failed k.denied
-            (rw (same_state e.line e.stored) at (rw (filled e.line e.stored) at h))
-            (λ rest may.
+            (rw (same_state e.line e.stored) at (rw (filled e.line e.stored) at h)) (λ rest may.
             (lines end (new.held ++ rest), line_front _ _ _ _ r.came _ _ _ _ e ends (new.held ++ rest) (λ done. λ i. done.held i ++ may done.ended i)))
 
       -- the end was said

@@ -31,7 +31,7 @@ reached_nothing old was readable clean = record { goes = goes_nothing old readab
 -- what was staged was sent
 abbrev pub reached_sent : {old reader : Reader} {was is is' : Output} {given pushed : List ℕ} → Reached old reader was is given pushed → Wrote is is' []
     → is'.faulted ≡ false → Reached old reader was is' given pushed
-reached_sent {was} {is'} {pushed} r wrote clean = record {
+reached_sent {pushed} r wrote clean = record {
   goes = r.goes;
   wrote = rw (append-nil pushed) at (wrote_trans _ _ _ _ _ r.clean r.wrote wrote);
   clean = clean;
@@ -174,7 +174,7 @@ module _ {X : Type 0} {rest_from : X → List ℕ → List ℕ} {start : X} {too
   went_on same = same ∙ never_failed ready m.reached.goes sound
 
   text_of : {input : List ℕ} (a : Agrees (given_of (m.given ++ piece) new) input) → tool.text input ≡ m.pushed ++ rest_from now (piece ++ (new.held ++ a.rest))
-  text_of {input} a = grind (arith, common_steps)
+  text_of a = grind (arith, common_steps)
 
   abbrev keeps_up : Output → List ℕ → Type 0
   keeps_up is' pushed = KeepsUp {I = Unit {0}} (λ given. tool.decided (given tt)) (λ u. given_of (m.given ++ piece) new) was is' pushed

@@ -40,7 +40,7 @@ never_failed ready goes sound = sound.unfailed (cc) goes.fault
 -- the first bytes of a block that was shown were consumed
 pub goes_past : {now shown new : Reader} {block : List ℕ} (count : ℕ) → Goes now shown [] → shown.held ≡ block → count ≤ length block → new
     ≡ record shown { held = drop count shown.held } → Goes now new (take count block)
-goes_past {shown} {new} count goes held fits consumed =
+goes_past {shown} count goes held fits consumed =
     goes_trans _ _ _ _ _ goes
     (rw (ap (take count) held) at (goes_front shown _ count goes.fault (omega (arith, ap length held)) consumed))
 

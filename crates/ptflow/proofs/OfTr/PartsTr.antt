@@ -12,7 +12,7 @@ use Rattle.ptflow.proofs.OfTr.TrRests.{behind_one, from_one, front_on}
 -- the last of some items, where there is one
 last_of : {X : Type 0} (x : X) (xs : List X) → (last : X) × (last_or (Some x) xs ≡ Some last) × EndsWith last (x ∷ xs)
 last_of x [] = (x, refl, ([], refl))
-last_of {X} x (y ∷ xs) = let l = last_of y xs in (l.0, l.1, (x ∷ l.2.0, ap (◌∷◌ x) l.2.1))
+last_of x (y ∷ xs) = let l = last_of y xs in (l.0, l.1, (x ∷ l.2.0, ap (◌∷◌ x) l.2.1))
 
 -- A byte in front changes nothing where the bytes do not begin with it, or it is not squeezed.
 behind_apart : (squeezed : ℕ → Bool) (last : ℕ) (bytes : List ℕ) → (BeginsWith last (squeeze squeezed bytes) → squeezed last ≡ false) → squeeze_behind squeezed last bytes ≡ squeeze squeezed bytes

@@ -64,7 +64,7 @@ module _ {end : ℕ} {block rest : List ℕ} {front : List (List ℕ)} (f : InFr
   }
 
 same_head : {x y : List ℕ} {xs ys : List (List ℕ)} → x ∷ xs ≡ y ∷ ys → x ≡ y
-same_head {x} is = cc
+same_head is = cc
 
 -- two lines have equal keys, by their keys
 pub same_by_keys : (job : Uniq) (first line : List ℕ) {own next : List ℕ} → own ≡ key job first → next ≡ key job line → is_same job first line ≡ bytes_eq own next
@@ -140,7 +140,7 @@ run_text_shown show count bytes shown = sym (rw shown refl)
 pub waits_joined : (show : Show) (count : ℕ) {block : List ℕ} {waiting line : Span} {out : Output} → IsSpan block waiting → IsSpan block line → waiting.to
     ≡ line.from → lead show count ≡ [] → is_shown show count ≡ true
     → Waits (span_of block waiting ++ run_text show count (span_of block line)) block (record { from = waiting.from; to = line.to }) out out
-waits_joined show count {block} {waiting} {line} {out} fits next touch none shown = record {
+waits_joined show count {block} {line} {out} fits next touch none shown = record {
   pushed = [];
   wrote = wrote_nothing out;
   all = cc (span_join fits next touch, run_text_shown show count (span_of block line) shown);
@@ -171,13 +171,13 @@ some_count : {n : ℕ} {t : Bool} → 0 < n → t ≡ true → (nat_lt 0 n && t)
 some_count some same = rw same (grind (arith, nat_tests))
 
 pub other_count : (n : ℕ) {t : Bool} → t ≡ false → (nat_lt 0 n && t) ≡ false
-other_count n {t} other = grind arith
+other_count n other = grind arith
 
 -- the line in front of the rest, with its end
 line_in_block : {end : ℕ} {block rest : List ℕ} {front : List (List ℕ)} → InFront end block rest front → (at : ℕ) → IsFirstByte (is_byte end) rest (Some at)
     → (from to : ℕ) → from ≡ length block - length rest → to ≡ from + at + 1
     → (slice_range block from to ≡ take at rest ++ end ∷ []) × (from < to) × (to ≤ length block)
-line_in_block {end} {block} {rest} lies at first from to from_is to_is = grind (arith, common_steps)
+line_in_block lies at first from to from_is to_is = grind (arith, common_steps)
 
 pub running_starts : (job : Uniq) (block : List ℕ) (at : ℕ) → IsFirstByte (is_byte job.end) block (Some at) → {own : List ℕ} → own ≡ key job (take at block) → (was : Output) → was.faulted ≡ false
     → Running job block (drop (at + 1) block) 1 (record { from = 0; to = at + 1 }) (record { from = 0; to = 0 }) own was was

@@ -31,7 +31,7 @@ module _ (job : Uniq) where
   chosen l ls x m t = cond t (runs_from job (run_of x (m + 1)) ls) (run_of x m ∷ runs_from job (run_of l 1) ls)
 
   first_more : {line : List ℕ} {n : ℕ} (l : List ℕ) {ls : List (List ℕ)} (t : Bool) → is_same job line l ≡ t → First line (n + 1) ls → First line n (l ∷ ls)
-  first_more {line} {n} l {ls} true e f = record {
+  first_more l true e f = record {
     count = f.count;
     more = f.more;
     is = cc;

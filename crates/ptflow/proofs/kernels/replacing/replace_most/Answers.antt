@@ -6,5 +6,4 @@ pub loop-at-preserved : goal.loop-at-preserved
 loop-at-preserved c =
     let made = c.replace_chunk-turn in
     turned_more c.args.ending c.args.delims.now c.args.number c.loop-at.at 64 c.loop-at.turn made.result c.args.from.now c.loop-at.to made.new.to
-    c.loop-at.invariant (omega arith)
-    made.ensures.long made.ensures.next.1 made.ensures.next.0 made.ensures.replaced
+    c.loop-at.invariant (omega arith) made.ensures.long made.ensures.next.1 made.ensures.next.0 made.ensures.replaced

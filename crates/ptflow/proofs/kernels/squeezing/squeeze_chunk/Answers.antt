@@ -40,8 +40,7 @@ returns-then-gone-eq0-clause-squeezed c =
     let none = none_of_four (gone_flags test at from) (gone_flags test (at + 16) from) (gone_flags test (at + 32) from) (gone_flags test (at + 48) from)
     (flags_long goes _ from c.requires.behind (omega (arith, room))) (flags_long goes (at + 16) from (omega arith) (omega (arith, room)))
     (flags_long goes (at + 32) from (omega arith) (omega (arith, room))) (flags_long goes (at + 48) from (omega arith) (omega (arith, room)))
-    (cc (lanes at)) (cc (lanes (at + 16)))
-    (cc (lanes (at + 32))) (cc (lanes (at + 48))) c.if-gone-eq0.true in
+    (cc (lanes at)) (cc (lanes (at + 16))) (cc (lanes (at + 32))) (cc (lanes (at + 48))) c.if-gone-eq0.true in
     cc (all_stay_in_four test from c.requires.behind room none)
 
 pub returns-clause-squeezed : goal.returns-clause-squeezed

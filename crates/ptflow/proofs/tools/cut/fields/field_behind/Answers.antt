@@ -10,8 +10,6 @@ use Rattle.ptflow.proofs.tools.cut.fields.field_behind.Goals.{then-count-eq0-via
 
 pub returns-then-count-eq0-clause-found : goal.returns-then-count-eq0-clause-found
 returns-then-count-eq0-clause-found c =
-    let d = c.args.delimiter in
-    let o = c.field_start.result in
     rw (rest_of c.args.from c.args.to c.args.bytes.now (omega arith)) (rw take_rest at c.field_start.ensures)
 
 pub returns-then-count-eq0-clause-start : goal.returns-then-count-eq0-clause-start
@@ -45,7 +43,6 @@ returns-clause-found c =
     let behind = c.args.first + 1 in
     let bytes = c.args.bytes.now in
     let line = take c.args.to bytes in
-    let passed = c.in_ok-passed.passed in
     let zero : c.args.from ≡ 0 = c.requires.start c.if-from-first.false in
     let within : behind ≤ c.args.to = omega (arith, length-take-le c.args.to bytes c.requires.within.1) in
     let s = rw (← (rest_of _ _ bytes within)) at (rw take_rest at c.in_ok-passed.ensures) in

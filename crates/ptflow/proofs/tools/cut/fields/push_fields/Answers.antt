@@ -28,10 +28,10 @@ loop-interval-init g c =
 
 -- what a step found in the line, which is all of these bytes
 found : {d : ℕ} (line : List ℕ) {count : ℕ} (at : ℕ) {passed : ℕ} → StartsAt d count (drop at (take (length line) line)) passed → StartsAt d count (drop at line) passed
-found {d} line {count} at {passed} s = rw (take_all (length line) line (omega arith)) at s
+found line at s = rw (take_all (length line) line (omega arith)) at s
 
 few : (d : ℕ) (line : List ℕ) {count : ℕ} (at : ℕ) → length (fields d (drop at (take (length line) line))) ≤ count → length (fields d (drop at line)) ≤ count
-few d line {count} at le = rw (take_all (length line) line (omega arith)) at le
+few d line at le = rw (take_all (length line) line (omega arith)) at le
 
 pub returns-in_default-clause-wrote : goal.returns-in_default-clause-wrote
 returns-in_default-clause-wrote g c =

@@ -36,9 +36,8 @@ returns-in_err-push-in-None-clause-wrote g c =
 ends : (job : Cut) (line : List ℕ) {bytes : List ℕ} {end : ℕ} {was out mid is : Output} → cut_line job line ≡ bytes ∷ [] → end ≡ job.end → mid ≡ out → Wrote was out bytes
     → out.faulted ≡ false → Wrote mid is (end ∷ [])
     → Wrote was is (cut_lines job (line ∷ []))
-ends job line {bytes} {mid} {is} one same here wrote clean ended =
-    rw (line_written job line bytes one)
-    (wrote_trans _ _ _ _ _ clean wrote (rw here at (rw same at ended)))
+ends job line {bytes} one same here wrote clean ended =
+    rw (line_written job line bytes one) (wrote_trans _ _ _ _ _ clean wrote (rw here at (rw same at ended)))
 
 pub returns-clause-wrote : goal.returns-clause-wrote
 returns-clause-wrote g c =

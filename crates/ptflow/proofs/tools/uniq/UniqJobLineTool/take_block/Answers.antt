@@ -30,7 +30,6 @@ overflow_add-run g c =
 
 pub returns-in_default-clause-continues : goal.returns-in_default-clause-continues
 returns-in_default-clause-continues g c =
-    let job = uniq_job c.args.self.now in
     let same = c.count_same-same.result in
     let went = rw c.first_line.ensures at c.count_same-same.ensures in
     block_on went c.requires.open.0
@@ -38,7 +37,6 @@ returns-in_default-clause-continues g c =
 
 pub returns-in_default-clause-passed : goal.returns-in_default-clause-passed
 returns-in_default-clause-passed g c =
-    let job = uniq_job c.args.self.now in
     let same = c.count_same-same.result in
     let went = rw c.first_line.ensures at c.count_same-same.ensures in (
       went.within,
@@ -82,7 +80,6 @@ returns-clause-continues g c =
 
 pub returns-clause-passed : goal.returns-clause-passed
 returns-clause-passed g c =
-    let job = uniq_job c.args.self.now in
     let same = c.count_same-same.result in
     let went = rw c.first_line.ensures at c.count_same-same.ensures in
     let passed = rw take_rest at c.in_ok-last.ensures.passed in (

@@ -61,7 +61,6 @@ lines-preserved g c =
 
 pub returns-in_err-push-clause-halts : goal.returns-in_err-push-clause-halts
 returns-in_err-push-clause-halts g c =
-    let job = uniq_job c.args.job.now in
     let rest = c.lines.rest.now in
     on_err c.from_residual-in_err-push.result (rw c.requires.ending (running_unended c.lines.invariant
     (rw c.requires.ending at (no_end c.args.ending rest c.in_default.ensures)) c.push.ensures.wrote c.in_err-push.ensures.fault))
@@ -73,7 +72,6 @@ overflow_sub-result g c =
 
 pub returns-clause-continues : goal.returns-clause-continues
 returns-clause-continues g c =
-    let job = uniq_job c.args.job.now in
     let rest = c.lines.rest.now in
     rw c.requires.ending (running_done c.lines.invariant
     (subst (λ b. IsLine b rest) c.requires.ending (no_end c.args.ending rest c.in_default.ensures)) c.push.ensures.wrote c.in_ok-push.ensures.clean)
