@@ -71,9 +71,10 @@ returns-in_err-push_end-in-Ok g c =
     let b = c.block.follows.holds-at-none in
     let m = midway_sent c.turns.invariant.midway c.send_before_wait.ensures.wrote c.in_ok-send_before_wait.ensures.clean in
     let shows = (rw c.in-Ok.is at b.shows) m.reached.goes.fault in
-    let none : c.in-Ok.block.now ≡ [] = nil_from_length c.in-Ok.block.now (eqb-true (length c.in-Ok.block.now) 0 (cc)) in
+    let none : c.in-Ok.block.now ≡ [] = nil_from_length c.in-Ok.block.now (eqb-true (length c.in-Ok.block.now) 0 (sym c.is_empty.ensures ∙ c.if-is_empty.true)) in
     let e = err_from_is_err_and c.from_residual-in_err-push_end-in-Ok.result c.from_residual-in_err-push_end-in-Ok.ensures.1 in
-    λ t tool store ready. rw (e.1, e.2) (block_unended tool
+    λ t tool store ready.
+    rw (e.1, e.2) (block_unended tool
     m ready b.was_sound shows.0.reads b.is_sound c.turns.invariant.holds c.turns.invariant.all
     c.push_end.ensures.wrote (shows.2 none) shows.0.failed c.in_err-push_end-in-Ok.ensures.fault)
 

@@ -1,8 +1,10 @@
-use Rattle.std.proofs.Common.{◌≡◌, ◌++◌, ◌∙◌, length, take, drop, sym, length-drop, length-append, get_or, arith}
+use Rattle.std.proofs.Common.{◌≡◌, ◌++◌, ◌/◌, ◌∙◌, ℕ, List, Bool, length, take, drop, sym, ap, length-drop, length-append, get_or, arith}
+use Rattle.std.specs.Prelude.{bit_and}
 use Rattle.std.specs.List.{range_with_len}
-use Rattle.std.specs.Simd.Lanes.{pick_l}
+use Rattle.std.specs.Simd.Lanes.{mask_l, pick_l}
 use Rattle.std.proofs.lemmas.List.{take-append-drop, length-take-le, take-map}
 use Rattle.std.proofs.lemmas.Simd.{pick_l-range_with_len}
+use Rattle.ptflow.specs.Workings.Bytes.Packings.{chosen_by}
 use Rattle.ptflow.proofs.OfBytes.ChosenLanes.{low_half, high_half, chosen_by_halves}
 use Rattle.ptflow.proofs.kernels.packing.pack.Goals as goal
 
@@ -14,10 +16,12 @@ returns-clause-packed c flags long masked =
     let back = drop 8 flags in
     let turned = pick_l 0 (v ++ v) (range_with_len 8 8 ++ range_with_len 0 8) in
     let parts : flags ≡ front ++ back = sym (take-append-drop 8 flags) in
-    let few : length front ≡ 8 = length-take-le 8 flags (omega arith) in
-    let others : length back ≡ 8 = omega (arith, length-drop 8 flags) in
-    let first = c.pack_eight-half.ensures.packed front few (cc (low_half front back few)) in
-    let second = c.pack_eight.ensures.packed back others (cc (high_half front back few others)) in
-    cc (chosen_by_halves front back before v turned few others c.fits-v.0
-    (take-map (λ k. get_or (v ++ v) k 0) 8 (range_with_len 8 8 ++ range_with_len 0 8)
-    ∙ pick_l-range_with_len 0 (v ++ v) 8 8 (omega (arith, length-append v v, c.fits-v.0))))
+    let few : length front ≡ 8 = length-take-le 8 flags (omega (arith, long)) in
+    let others : length back ≡ 8 = omega (arith, length-drop 8 flags, long) in
+    let first = c.pack_eight-half.ensures.packed front few (ap (λ (m : ℕ). bit_and m 255) (masked ∙ ap mask_l parts) ∙ low_half front back few) in
+    let second = c.pack_eight.ensures.packed back others (ap (λ (m : ℕ). bit_and (m / 256) 255) (masked ∙ ap mask_l parts) ∙ high_half front back few others) in
+    second
+    ∙ ap (λ (made : List ℕ). made ++ chosen_by back turned) first
+    ∙ chosen_by_halves front back before v turned few others c.fits-v.0 (take-map (λ k. get_or (v ++ v) k 0) 8 (range_with_len 8 8 ++ range_with_len 0 8)
+    ∙ pick_l-range_with_len 0 (v ++ v) 8 8 (omega (arith, length-append v v, c.fits-v.0)))
+    ∙ ap (λ (fs : List Bool). before ++ chosen_by fs v) (sym parts)

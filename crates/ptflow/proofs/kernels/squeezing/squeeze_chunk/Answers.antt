@@ -1,11 +1,10 @@
-use Rattle.std.proofs.Common.{ℕ, ◌≡◌, ◌≤◌, ◌<◌, ◌+◌, ◌-◌, ◌++◌, ◌∙◌, ◌&&◌, Bool, ℤ, List, cond, map, bit_and, eqb, length, take, sym, ap, arith, w8}
+use Rattle.std.proofs.Common.{ℕ, ◌≡◌, ◌≤◌, ◌<◌, ◌+◌, ◌-◌, ◌++◌, ◌∙◌, ◌&&◌, Bool, ℤ, List, cond, map, bit_and, eqb, length, take, sym, ap, arith, w8, append_assoc}
 use Rattle.std.specs.Int.{cast_unsigned}
 use Rattle.std.specs.Simd.Lanes.{zip2, chunk}
 use Rattle.std.proofs.lemmas.Simd.{length-chunk, length-zip2}
 use Rattle.ptflow.specs.Workings.Bytes.ByteSets.{holds}
 use Rattle.ptflow.proofs.OfBytes.FourLanes.{none_of_four}
 use Rattle.ptflow.proofs.OfTr.SqueezeLemmas.{same_flags, gone_flags, same_lanes, gone_lanes, none_same, stays_at, stays_in_four, all_stay_in_four}
-use Rattle.std.proofs.Common.{append_assoc}
 use Rattle.ptflow.proofs.kernels.squeezing.squeeze_chunk.Goals as goal
 
 flags_long : (f : ℕ → ℕ → Bool) (k : ℕ) (from : List ℕ) → 0 < k → k + 16 ≤ length from → length (zip2 f (chunk (k - 1) 16 from) (chunk k 16 from)) ≡ 16
@@ -40,8 +39,10 @@ returns-then-gone-eq0-clause-squeezed c =
     let none = none_of_four (gone_flags test at from) (gone_flags test (at + 16) from) (gone_flags test (at + 32) from) (gone_flags test (at + 48) from)
     (flags_long goes _ from c.requires.behind (omega (arith, room))) (flags_long goes (at + 16) from (omega arith) (omega (arith, room)))
     (flags_long goes (at + 32) from (omega arith) (omega (arith, room))) (flags_long goes (at + 48) from (omega arith) (omega (arith, room)))
-    (cc (lanes at)) (cc (lanes (at + 16))) (cc (lanes (at + 32))) (cc (lanes (at + 48))) c.if-gone-eq0.true in
-    cc (all_stay_in_four test from c.requires.behind room none)
+    (ap (same at) c.test.ensures ∙ lanes at) (ap (same (at + 16)) c.test-2.ensures ∙ lanes (at + 16))
+    (ap (same (at + 32)) c.test-3.ensures ∙ lanes (at + 32)) (ap (same (at + 48)) c.test-4.ensures ∙ lanes (at + 48)) c.if-gone-eq0.true in
+    c.put_chunk-then-gone-eq0.ensures.put
+    ∙ ap (λ (l : List ℕ). take c.args.count c.args.into.now ++ l) (sym (all_stay_in_four test from c.requires.behind room none))
 
 pub returns-clause-squeezed : goal.returns-clause-squeezed
 returns-clause-squeezed c =
