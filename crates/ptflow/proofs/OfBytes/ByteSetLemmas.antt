@@ -1,7 +1,7 @@
 -- What lanes say of a set of bytes.
 use Rattle.std.proofs.Common.{◌≡◌, ℕ, suc, ◌+◌, ◌*◌, ◌/◌, ◌%◌, ◌<◌, ◌≤◌, ◌^◌, ◌&&◌, ◌||◌, Bool, true, false, List, [], ◌∷◌, length, map, cond, leb, ltb, eqb}
-use Rattle.std.proofs.Common.{zero, ◌≢◌, ⊎_elim, get_or, get_or-take, get_or-drop, take, drop, ◌-◌, set, bit_or, replicate, negsuc, pos, bit_and, refl, sym, ap}
-use Rattle.std.proofs.Common.{subst, ◌∙◌, arith, w8, Fits}
+use Rattle.std.proofs.Common.{zero, ◌≢◌, ⊎_elim, get_or, get_or-take, get_or-drop, take, drop, ◌-◌, set, bit_or, replicate, negsuc, pos, bit_and, refl, ap}
+use Rattle.std.proofs.Common.{◌∙◌, arith, w8, Fits}
 use Rattle.std.specs.Simd.Lanes.{top, zip2, sel_l, Each1}
 use Rattle.std.specs.Int.{cast_unsigned, cast_signed, bit_at, from_bool}
 use Rattle.std.proofs.lemmas.Simd.{swz_l, SwzOk, SwzOk-from_below, zip2_splat, zip2_of_maps, map-map}
@@ -24,8 +24,7 @@ tops_of_mask test [] = refl
 tops_of_mask test (b ∷ v) = λ i. lane (test b) i ∷ tops_of_mask test v i
   where
     lane : (t : Bool) → top 7 (cast_unsigned w8 (cond t (negsuc 0) (pos 0))) ≡ t
-    lane true = refl
-    lane false = refl
+    lane t = grind arith
 
 -- ---- a table of 16 entries, looked up by a half of each byte
 
@@ -34,22 +33,22 @@ module _ (half : ℕ → ℕ) (small : (b : ℕ) → b < 256 → half b < 16) wh
   halves_small [] fit = tt
   halves_small (b ∷ v) fit = (small b fit.0.fits, halves_small v fit.1)
 
-  pub halves_ok : (js v : List ℕ) → js ≡ map half v → length v ≡ 16 → Each1 (Fits w8) v → SwzOk w8 16 16 0 js
-  halves_ok js v is long fit =
-      subst (SwzOk w8 16 16 0) (sym is) (SwzOk-from_below w8 16 1 16 0 (map half v) refl (omega (arith, length-map v half)) (halves_small v fit))
+  pub halves_ok : {js : List ℕ} (v : List ℕ) → js ≡ map half v → length v ≡ 16 → Each1 (Fits w8) v → SwzOk w8 16 16 0 js
+  halves_ok v is long fit =
+      rw is (SwzOk-from_below w8 16 1 16 0 (map half v) refl (omega (arith, length-map v half)) (halves_small v fit))
 
-  lane : (table : List ℕ) (i j : ℕ) → i < 16 → j < 16 → cond (leb 128 j) 0 (get_or table (16 * (i / 16) + j) 0) ≡ get_or table j 0
-  lane table i j li lj =
+  lane : (table : List ℕ) (i : ℕ) {j : ℕ} → i < 16 → j < 16 → cond (leb 128 j) 0 (get_or table (16 * (i / 16) + j) 0) ≡ get_or table j 0
+  lane table i {j} li lj =
       let first : 16 * (i / 16) + j ≡ j = omega arith in
-      ap (λ t. cond t 0 (get_or table (16 * (i / 16) + j) 0)) (lt-leb 128 j (omega arith)) ∙ ap (λ k. get_or table k 0) first
+      cc (lt-leb 128 j (omega arith))
 
   looked_up_from : (table v : List ℕ) (i : ℕ) → i + length v ≤ 16 → Each1 (Fits w8) v → swz_l w8 16 table i (map half v) ≡ map (λ b. get_or table (half b) 0) v
   looked_up_from table [] i few fit = refl
   looked_up_from table (b ∷ v) i few fit =
-      λ k. lane table i (half b) (omega arith) (small b fit.0.fits) k ∷ looked_up_from table v (suc i) (omega arith) fit.1 k
+      λ k. lane table i (omega arith) (small b fit.0.fits) k ∷ looked_up_from table v (suc i) (omega arith) fit.1 k
 
-  pub looked_up : (table js v : List ℕ) → js ≡ map half v → length v ≡ 16 → Each1 (Fits w8) v → swz_l w8 16 table 0 js ≡ map (λ b. get_or table (half b) 0) v
-  looked_up table js v is long fit = ap (swz_l w8 16 table 0) is ∙ looked_up_from table v 0 (omega arith) fit
+  pub looked_up : (table : List ℕ) {js : List ℕ} (v : List ℕ) → js ≡ map half v → length v ≡ 16 → Each1 (Fits w8) v → swz_l w8 16 table 0 js ≡ map (λ b. get_or table (half b) 0) v
+  looked_up table v is long fit = cc (looked_up_from table v 0 (omega arith) fit)
 
 pub low_small : (b : ℕ) → b < 256 → b % 16 < 16
 low_small b byte = omega arith
@@ -72,44 +71,40 @@ high_halves v long = zip2_splat (λ a b. a / 2 ^ b) v 16 4 long
 abbrev pub bits_in_turn : List ℕ
 bits_in_turn = 1 ∷ 2 ∷ 4 ∷ 8 ∷ 16 ∷ 32 ∷ 64 ∷ 128 ∷ 1 ∷ 2 ∷ 4 ∷ 8 ∷ 16 ∷ 32 ∷ 64 ∷ 128 ∷ []
 
-bit_of : (half : ℕ) → half < 16 → get_or bits_in_turn half 0 ≡ 2 ^ (half % 8)
-bit_of half small = get_or-map-range_with_len (λ h. 2 ^ (h % 8)) 0 16 half half 0 small (omega arith)
+bit_of : {half : ℕ} → half < 16 → get_or bits_in_turn half 0 ≡ 2 ^ (half % 8)
+bit_of {half} small = get_or-map-range_with_len (λ h. 2 ^ (h % 8)) 0 16 half half 0 small (omega arith)
 
 -- the bit of a row is there, or nothing is
 all_or_none : (row k : ℕ) → eqb (bit_and row (2 ^ k)) (2 ^ k) ≡ eqb (bit_at row k) 1
-all_or_none row k = ap (λ n. eqb n (2 ^ k)) (and_pow row k) ∙ times (bit_at row k) (2 ^ k) (bit_at-lt row k) (pow_pos k)
+all_or_none row k = cc (and_pow row k, times (bit_at row k) (2 ^ k) (bit_at-lt row k) (pow_pos k))
   where
     times : (x p : ℕ) → x < 2 → 0 < p → eqb (x * p) p ≡ eqb x 1
     times zero p few some = grind (arith, nat_tests)
     times (suc zero) p few some = grind (arith, nat_tests)
-    times (suc (suc x)) p few some = absurd (omega (arith, few))
+    times (suc (suc x)) p few some = absurd (omega arith)
 
 row_of : (set : ByteSet) (low : Bool) (n : ℕ) → cond low (get_or set.low n 0) (get_or set.high n 0) ≡ get_or (cond low set.low set.high) n 0
 row_of set true n = refl
 row_of set false n = refl
 
 as_mask : (t : Bool) → cast_signed w8 (cond t 255 0) ≡ cond t (negsuc 0) (pos 0)
-as_mask true = refl
-as_mask false = refl
+as_mask t = grind arith
 
 byte_tested : (set : ByteSet) (b : ℕ) → b < 256
     → cast_signed w8 (cond (eqb (bit_and (cond (ltb b 128) (get_or set.low (b % 16) 0) (get_or set.high (b % 16) 0)) (get_or bits_in_turn (b / 16) 0)) (get_or bits_in_turn (b / 16) 0)) 255 0)
     ≡ cond (holds set b) (negsuc 0) (pos 0)
 byte_tested set b byte =
     let row = cond (ltb b 128) (get_or set.low (b % 16) 0) (get_or set.high (b % 16) 0) in
-    ap (λ bit. cast_signed w8 (cond (eqb (bit_and row bit) bit) 255 0)) (bit_of (b / 16) (high_small b byte))
-    ∙ ap (λ t. cast_signed w8 (cond t 255 0)) (all_or_none row (b / 16 % 8))
-    ∙ ap (λ row. cast_signed w8 (cond (eqb (bit_at row (b / 16 % 8)) 1) 255 0)) (row_of set (ltb b 128) (b % 16))
-    ∙ as_mask (holds set b)
+    cc (bit_of (high_small b byte), all_or_none row (b / 16 % 8), row_of set (ltb b 128) (b % 16), as_mask (holds set b))
 
-pub tested : (set : ByteSet) (v low high bit : List ℕ) → length v ≡ 16 → Each1 (Fits w8) v
+pub tested : (set : ByteSet) (v : List ℕ) {low high bit : List ℕ} → length v ≡ 16 → Each1 (Fits w8) v
     → low ≡ map (λ b. get_or set.low (b % 16) 0) v → high ≡ map (λ b. get_or set.high (b % 16) 0) v → bit ≡ map (λ b. get_or bits_in_turn (b / 16) 0) v
     → map (cast_signed w8) (zip2 (λ a b. cond (eqb a b) 255 0) (zip2 bit_and (sel_l (map (top 7) (zip2 (λ a b. cond (ltb a b) 255 0) v (replicate 16 128))) low high) bit) bit)
     ≡ mask_of (holds set) v
-tested set v low high bit long fit el eh eb =
+tested set v long fit el eh eb =
     let row_at = λ (b : ℕ). cond (ltb b 128) (get_or set.low (b % 16) 0) (get_or set.high (b % 16) 0) in
     let bit_at_byte = λ (b : ℕ). get_or bits_in_turn (b / 16) 0 in
-    let rows = sel_maps (λ b. ltb b 128) (λ b. get_or set.low (b % 16) 0) (λ b. get_or set.high (b % 16) 0) v _ low high (mask_right ltb 16 v 128 long) el eh in
+    let rows = sel_maps (λ b. ltb b 128) (λ b. get_or set.low (b % 16) 0) (λ b. get_or set.high (b % 16) 0) v (mask_right ltb v 128 long) el eh in
     let lanes = zip2_of_maps (λ a b. cond (eqb a b) 255 0) (λ b. bit_and (row_at b) (bit_at_byte b)) bit_at_byte v (zip2_of_maps bit_and row_at bit_at_byte v rows eb) eb in
     ap (map (cast_signed w8)) lanes
     ∙ map-map (cast_signed w8) (λ b. cond (eqb (bit_and (row_at b) (bit_at_byte b)) (bit_at_byte b)) 255 0) v
@@ -121,13 +116,11 @@ tested set v low high bit long fit el eh eb =
 abbrev pub filled : List ℕ → ℕ → ℕ → List ℕ
 filled table n x = set table (n % 16) (bit_or (get_or table (n % 16) 0) (x * 2 ^ (n / 16) % 256))
 
-module _ (table : List ℕ) (n : ℕ) (long : length table ≡ 16) (within : n < 128) where
+module _ (table : List ℕ) {n : ℕ} (long : length table ≡ 16) (within : n < 128) where
   unset : filled table n 0 ≡ table
   unset =
       let nothing : 0 * 2 ^ (n / 16) % 256 ≡ 0 = omega arith in
-      ap (λ m. set table (n % 16) (bit_or (get_or table (n % 16) 0) m)) nothing
-      ∙ ap (set table (n % 16)) (or_zero_r (get_or table (n % 16) 0))
-      ∙ set-get_or table (n % 16) 0
+      cc (or_zero_r (get_or table (n % 16) 0), set-get_or table (n % 16) 0)
 
   same_bit : n / 16 % 8 ≡ n / 16
   same_bit = omega arith
@@ -136,12 +129,10 @@ module _ (table : List ℕ) (n : ℕ) (long : length table ≡ 16) (within : n <
   set_here =
       let old = get_or table (n % 16) 0 in
       let put = bit_or old (1 * 2 ^ (n / 16) % 256) in
-      ap (λ m. eqb (bit_at m (n / 16 % 8)) 1) (get_or-set_same table (n % 16) put 0 (omega (arith, long)))
-      ∙ ap (λ k. eqb (bit_at put k) 1) same_bit
-      ∙ ap (λ m. eqb m 1) (bit_at_set_same w8 old (n / 16) (omega arith))
+      cc (get_or-set_same table (n % 16) put 0 (omega arith), same_bit, bit_at_set_same w8 old (n / 16) (omega arith))
 
-  set_there : (b : ℕ) → b < 128 → b ≢ n → marks (filled table n 1) b ≡ marks table b
-  set_there b byte other = ⊎_elim in_row elsewhere (cases_eq (b % 16) (n % 16))
+  set_there : {b : ℕ} → b < 128 → b ≢ n → marks (filled table n 1) b ≡ marks table b
+  set_there {b} byte other = ⊎_elim in_row elsewhere (cases_eq (b % 16) (n % 16))
     where
       old : ℕ
       old = get_or table (n % 16) 0
@@ -151,45 +142,40 @@ module _ (table : List ℕ) (n : ℕ) (long : length table ≡ 16) (within : n <
 
       in_row : b % 16 ≡ n % 16 → marks (filled table n 1) b ≡ marks table b
       in_row row =
-          ap (λ j. eqb (bit_at (get_or (filled table n 1) j 0) (b / 16 % 8)) 1) row
-          ∙ ap (λ m. eqb (bit_at m (b / 16 % 8)) 1) (get_or-set_same table (n % 16) put 0 (omega (arith, long)))
-          ∙ ap (λ m. eqb m 1) (bit_at_set_other w8 old (n / 16) (omega arith) (b / 16 % 8) (λ same. other (omega (arith, row, same))))
-          ∙ ap (λ j. eqb (bit_at (get_or table j 0) (b / 16 % 8)) 1) (sym row)
+          cc (get_or-set_same table (n % 16) put 0 (omega arith), bit_at_set_other w8 old (n / 16) (omega arith) (b / 16 % 8) (λ same. other (omega arith)))
 
       elsewhere : (b % 16 ≡ n % 16 → ⊥) → marks (filled table n 1) b ≡ marks table b
-      elsewhere row = ap (λ m. eqb (bit_at m (b / 16 % 8)) 1) (get_or-set_other table (n % 16) (b % 16) put 0 row)
+      elsewhere row = cc (get_or-set_other table (n % 16) (b % 16) put 0 row)
 
-  filled_is : (flag : Bool) (b : ℕ) → b < 128 → marks (filled table n (from_bool flag)) b ≡ cond (eqb b n) (flag || marks table n) (marks table b)
-  filled_is flag b byte = ⊎_elim here there (cases_eq b n)
+  filled_is : (flag : Bool) {b : ℕ} → b < 128 → marks (filled table n (from_bool flag)) b ≡ cond (eqb b n) (flag || marks table n) (marks table b)
+  filled_is flag {b} byte = ⊎_elim here there (cases_eq b n)
     where
       here : b ≡ n → marks (filled table n (from_bool flag)) b ≡ cond (eqb b n) (flag || marks table n) (marks table b)
       here same = by_flag flag
         where
           chosen : (f : Bool) → marks (filled table n (from_bool f)) b ≡ (f || marks table n) → marks (filled table n (from_bool f)) b ≡ cond (eqb b n) (f || marks table n) (marks table b)
-          chosen f is = is ∙ ap (λ t. cond t (f || marks table n) (marks table b)) (sym (eq-eqb b n same))
+          chosen f is = cc (eq-eqb b n same)
 
           by_flag : (f : Bool) → marks (filled table n (from_bool f)) b ≡ cond (eqb b n) (f || marks table n) (marks table b)
-          by_flag true = chosen true (ap (marks (filled table n 1)) same ∙ set_here)
-          by_flag false = chosen false (ap (λ t. marks t b) unset ∙ ap (marks table) same)
+          by_flag true = chosen true (cc (set_here))
+          by_flag false = chosen false (cc (unset))
 
       there : (b ≡ n → ⊥) → marks (filled table n (from_bool flag)) b ≡ cond (eqb b n) (flag || marks table n) (marks table b)
-      there other = by_flag flag ∙ ap (λ t. cond t (flag || marks table n) (marks table b)) not_same
+      there other = cc (by_flag flag, not_same)
         where
           not_same : false ≡ eqb b n
           not_same = grind (arith, nat_tests)
 
           by_flag : (f : Bool) → marks (filled table n (from_bool f)) b ≡ marks table b
-          by_flag true = set_there b byte other
-          by_flag false = ap (λ t. marks t b) unset
+          by_flag true = set_there byte other
+          by_flag false = cc (unset)
 
 -- the flags of one byte more are marked
-pub one_more_flag : (table : List ℕ) (flags : List Bool) (n x : ℕ) → length table ≡ 16 → n < 128 → x ≡ from_bool (get_or flags n false)
+pub one_more_flag : (table : List ℕ) (flags : List Bool) (n : ℕ) {x : ℕ} → length table ≡ 16 → n < 128 → x ≡ from_bool (get_or flags n false)
     → ((b : ℕ) → b < 128 → marks table b ≡ (ltb b n && get_or flags b false))
     → (b : ℕ) → b < 128 → marks (filled table n x) b ≡ (ltb b (n + 1) && get_or flags b false)
-one_more_flag table flags n x long within is marked b byte =
-    ap (λ x. marks (filled table n x) b) is
-    ∙ filled_is table n long within (get_or flags n false) b byte
-    ∙ ⊎_elim here there (cases_eq b n)
+one_more_flag table flags n long within is marked b byte =
+    cc (filled_is table long within (get_or flags n false) byte, ⊎_elim here there (cases_eq b n))
   where
     here : b ≡ n → cond (eqb b n) (get_or flags n false || marks table n) (marks table b) ≡ (ltb b (n + 1) && get_or flags b false)
     here same = let before = marked n within in grind (arith, nat_tests, before, ap (λ m. get_or flags m false) same)
@@ -204,15 +190,11 @@ pub set_of_halves : (set : ByteSet) (flags : List Bool) → IsTableOf set.low (t
 set_of_halves set flags low high b byte = ⊎_elim below above (cases_lt b 128)
   where
     below : b < 128 → holds set b ≡ get_or flags b false
-    below less = ap (λ t. marks (cond t set.low set.high) b) (lt-ltb b 128 less) ∙ low b less ∙ get_or-take 128 flags b false less
+    below less = cc (lt-ltb b 128 less, low b less, get_or-take 128 flags b false less)
 
     above : 128 ≤ b → holds set b ≡ get_or flags b false
     above more =
         let entry : b % 16 ≡ (b - 128) % 16 = omega arith in
         let bit : b / 16 % 8 ≡ (b - 128) / 16 % 8 = omega arith in
         let place : 128 + (b - 128) ≡ b = omega arith in
-        ap (λ t. marks (cond t set.low set.high) b) (le-ltb b 128 more)
-        ∙ (λ i. eqb (bit_at (get_or set.high (entry i) 0) (bit i)) 1)
-        ∙ high (b - 128) (omega arith)
-        ∙ get_or-drop 128 flags (b - 128) false
-        ∙ ap (λ k. get_or flags k false) place
+        cc (le-ltb b 128 more, high (b - 128) (omega arith), get_or-drop 128 flags (b - 128) false)

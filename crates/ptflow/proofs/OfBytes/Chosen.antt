@@ -43,29 +43,29 @@ pub chosen_past : {X : Type 0} (r : Interval) (n : ℕ) (xs : List X) → r.last
 chosen_past r n xs past = chosen_none (lies_in r) n xs (λ k low high. above r k (omega arith))
 
 -- one item more: the others do not choose it where the first does, and where they do, the first chooses nothing more
-chosen_step : {X : Type 0} (x : X) (all first others : List X) (a b : Bool) → (a ≡ true → b ≡ false) → (b ≡ true → first ≡ []) → all ≡ first ++ others
+chosen_step : {X : Type 0} (x : X) {all : List X} (first others : List X) (a b : Bool) → (a ≡ true → b ≡ false) → (b ≡ true → first ≡ []) → all ≡ first ++ others
     → cond (a || b) (x ∷ all) all ≡ cond a (x ∷ first) first ++ cond b (x ∷ others) others
-chosen_step x all first others true true apart none more = absurd (false≢true (sym (apart refl)))
-chosen_step {X} x all first others true false apart none more = ap (λ (l : List X). x ∷ l) more
-chosen_step {X} x all first others false true apart none more = ap (λ (l : List X). x ∷ l) (more ∙ ap (λ (l : List X). l ++ others) (none refl))
-    ∙ ap (λ (l : List X). l ++ x ∷ others) (sym (none refl))
-chosen_step x all first others false false apart none more = more
+chosen_step x first others true true apart none more = absurd (false≢true (sym (apart refl)))
+chosen_step x first others true false apart none more = ap (◌∷◌ x) more
+chosen_step x first others false true apart none more = ap (◌∷◌ x) (more ∙ ap (λ l. l ++ others) (none refl))
+    ∙ ap (λ l. l ++ x ∷ others) (sym (none refl))
+chosen_step x first others false false apart none more = more
 
 -- the first interval chooses, and then the others
 pub chosen_first : {X : Type 0} (r : Interval) (rs : List Interval) (n : ℕ) (xs : List X) → AreApart (r.last + 1) rs → chosen (is_selected (r ∷ rs)) n xs
     ≡ chosen (lies_in r) n xs ++ chosen (is_selected rs) n xs
 chosen_first r rs n [] apart = refl
-chosen_first {X} r rs n (x ∷ xs) apart = chosen_step x (chosen (is_selected (r ∷ rs)) (n + 1) xs) (chosen (lies_in r) (n + 1) xs)
+chosen_first r rs n (x ∷ xs) apart = chosen_step x (chosen (lies_in r) (n + 1) xs)
     (chosen (is_selected rs) (n + 1) xs) (lies_in r n) (is_selected rs n) here there (chosen_first r rs (n + 1) xs apart)
   where
     late : (n ≤ r.last → ⊥) → r.last < n
-    late not = ⊎_elim (λ is. absurd (not (omega (arith, is)))) (λ h. ⊎_elim (λ low. absurd (not (omega (arith, low)))) (λ high. high) h) (cases_order n r.last)
+    late not = ⊎_elim (λ is. absurd (not (omega arith))) (⊎_elim (λ low. absurd (not (omega (arith, low)))) (λ high. high)) (cases_order n r.last)
 
     here : lies_in r n ≡ true → is_selected rs n ≡ false
     here inside = not_selected rs (r.last + 1) n apart (omega (arith, last_of r n inside))
 
     there : is_selected rs n ≡ true → chosen (lies_in r) (n + 1) xs ≡ []
-    there other = chosen_past r (n + 1) xs (omega (arith, late (λ low. false≢true (sym (not_selected rs (r.last + 1) n apart (omega (arith, low))) ∙ other))))
+    there other = chosen_past r (n + 1) xs (omega (arith, late (λ low. false≢true (cc (not_selected rs (r.last + 1) n apart (omega (arith, low)))))))
 
 -- the first items are not chosen
 pub chosen_skip : {X : Type 0} (test : ℕ → Bool) (n count : ℕ) (xs : List X) → ((k : ℕ) → n ≤ k → k < n + count → test k ≡ false) → chosen test n xs ≡ chosen test (n + count) (drop count xs)
@@ -83,15 +83,15 @@ take-nil (suc k) = refl
 pub chosen_slice : {X : Type 0} (r : Interval) (n : ℕ) (xs : List X) (i j : ℕ) → i ≡ r.first - n → j ≡ r.last + 1 - n → chosen (lies_in r) n xs ≡ take (j - i) (drop i xs)
 chosen_slice r n [] zero j is js = sym (take-nil (j - 0))
 chosen_slice r n [] (suc i) j is js = sym (take-nil (j - suc i))
-chosen_slice r n (x ∷ xs) i zero is js = chosen_past r n (x ∷ xs) (omega (arith, js)) ∙ (let none : 0 - i ≡ 0 = omega arith in rw none refl)
-chosen_slice {X} r n (x ∷ xs) zero (suc j) is js =
+chosen_slice r n (x ∷ xs) i zero is js = chosen_past r n (x ∷ xs) (omega arith) ∙ (let none : 0 - i ≡ 0 = omega arith in rw none refl)
+chosen_slice r n (x ∷ xs) zero (suc j) is js =
     let whole : suc j - 0 ≡ suc j = omega arith in
     let rest : j - 0 ≡ j = omega arith in
-    rw (inside r n (omega (arith, is)) (omega (arith, js)), whole) (ap (λ (l : List X). x ∷ l)
-    (chosen_slice r (n + 1) xs zero j (omega (arith, is)) (omega (arith, js)) ∙ ap (λ (k : ℕ). take k xs) rest))
+    rw (inside r n (omega arith) (omega arith), whole) (ap (◌∷◌ x)
+    (cc (chosen_slice r (n + 1) xs zero j (omega arith) (omega arith))))
 chosen_slice r n (x ∷ xs) (suc i) (suc j) is js =
     let same : suc j - suc i ≡ j - i = omega arith in
-    rw (below r n (omega (arith, is)), same) (chosen_slice r (n + 1) xs i j (omega (arith, is)) (omega (arith, js)))
+    rw (below r n (omega arith), same) (chosen_slice r (n + 1) xs i j (omega arith) (omega arith))
 
 -- What the intervals so far choose of a piece stands behind what stood there, and what is still to come is chosen by
 -- the others; behind it comes the tail. What stands there ends at `at`, which is no farther on than the intervals so
@@ -103,16 +103,11 @@ pub record Choosing (all : List Interval) (i before : ℕ) (piece tail was is : 
   pub near : at ≤ start + (low - (before + 1))
   pub within : at ≤ start + length piece
 
-module _ (all : List Interval) (before : ℕ) (piece tail was : List ℕ) (start : ℕ) where
-  pub choosing_starts : AreApart 0 all → Choosing all 0 before piece tail was was start start
-  choosing_starts apart = record { front = refl; low = 0; apart = apart; near = omega arith; within = omega arith }
-
-  module _ (i : ℕ) (is : List ℕ) (at : ℕ) (k : Choosing all i before piece tail was is start at) where
+module _ {all : List Interval} {before : ℕ} {piece tail was : List ℕ} {start : ℕ} where
+  module _ {i : ℕ} {is : List ℕ} {at : ℕ} (k : Choosing all i before piece tail was is start at) where
     -- no interval is left
     pub choosing_done : length all ≤ i → is ++ tail ≡ was ++ (chosen (is_selected all) (before + 1) piece ++ tail)
-    choosing_done past =
-        ap (λ (l : List ℕ). is ++ (l ++ tail)) (sym (chosen_none (is_selected []) (before + 1) piece (λ m low high. refl)))
-        ∙ ap (λ (l : List Interval). is ++ (chosen (is_selected l) (before + 1) piece ++ tail)) (sym (drop_all i all past)) ∙ k.front
+    choosing_done past = cc (chosen_none (is_selected []) (before + 1) piece (λ m low high. refl), drop_all i all past)
 
     module _ (within : i < length all) where
       abbrev r : Interval
@@ -122,34 +117,33 @@ module _ (all : List Interval) (before : ℕ) (piece tail was : List ℕ) (start
       rs = drop (i + 1) all
 
       apart : AreApart k.low (r ∷ rs)
-      apart = subst (λ (l : List Interval). AreApart k.low l) (drop_more all i (record { first = 0; last = 0 }) within) k.apart
+      apart = rw (drop_more all i (record { first = 0; last = 0 }) within) at k.apart
 
       next : (is ++ chosen (lies_in r) (before + 1) piece) ++ (chosen (is_selected rs) (before + 1) piece ++ tail) ≡ was ++ (chosen (is_selected all) (before + 1) piece ++ tail)
       next =
-          append_assoc is (chosen (lies_in r) (before + 1) piece) (chosen (is_selected rs) (before + 1) piece ++ tail)
-          ∙ ap (λ (l : List ℕ). is ++ l) (sym (append_assoc (chosen (lies_in r) (before + 1) piece) (chosen (is_selected rs) (before + 1) piece) tail))
-          ∙ ap (λ (l : List ℕ). is ++ (l ++ tail)) (sym (chosen_first r rs (before + 1) piece apart.2))
-          ∙ ap (λ (l : List Interval). is ++ (chosen (is_selected l) (before + 1) piece ++ tail)) (sym (drop_more all i (record { first = 0; last = 0 }) within)) ∙ k.front
+          cc (
+            append_assoc is (chosen (lies_in r) (before + 1) piece) (chosen (is_selected rs) (before + 1) piece ++ tail),
+            append_assoc (chosen (lies_in r) (before + 1) piece) (chosen (is_selected rs) (before + 1) piece) tail,
+            chosen_first r rs (before + 1) piece apart.2,
+            drop_more all i (record { first = 0; last = 0 }) within,
+          )
 
       -- the interval's bytes, which are so many, end no farther on than it reaches
       pub choosing_room : at + ((r.last - before) - (r.first - (before + 1))) ≤ start + (r.last - before)
-      choosing_room = omega (arith, k.near, apart.0, apart.1)
+      choosing_room = omega (arith, apart.0, apart.1)
 
       -- what the interval chooses was copied
       pub choosing_more : r.last < before + 1 + length piece → Choosing all (i + 1) before piece tail was (is ++ chosen (lies_in r) (before + 1) piece) start
           (at + ((r.last - before) - (r.first - (before + 1))))
-      choosing_more short = record { front = next; low = r.last + 1; apart = apart.2; near = omega (arith, choosing_room); within = omega (arith, choosing_room, short) }
-
-      -- where the interval reaches the end of the piece, what it chooses begins no farther in front than what stands
-      -- there ends
-      pub choosing_end : at ≤ start + min (r.first - (before + 1)) (length piece)
-      choosing_end = omega (arith, k.near, k.within, apart.0)
+      choosing_more short = record { front = next; low = r.last + 1; apart = apart.2; near = omega (arith, choosing_room); within = omega (arith, choosing_room) }
 
       pub choosing_ends : before + length piece ≤ r.last → is ++ (chosen (lies_in r) (before + 1) piece ++ tail) ≡ was ++ (chosen (is_selected all) (before + 1) piece ++ tail)
       choosing_ends reaches =
-          ap (λ (l : List ℕ). is ++ (chosen (lies_in r) (before + 1) piece ++ (l ++ tail)))
-          (sym (chosen_none (is_selected rs) (before + 1) piece (λ m low high. not_selected rs (r.last + 1) m apart.2 (omega arith))))
-          ∙ sym (append_assoc is (chosen (lies_in r) (before + 1) piece) (chosen (is_selected rs) (before + 1) piece ++ tail)) ∙ next
+          cc (
+            chosen_none (is_selected rs) (before + 1) piece (λ m low high. not_selected rs (r.last + 1) m apart.2 (omega arith)),
+            append_assoc is (chosen (lies_in r) (before + 1) piece) (chosen (is_selected rs) (before + 1) piece ++ tail),
+            next,
+          )
 
 -- a slice of the bytes, which lies in the piece in front of them
 pub slice_is : (r : Interval) (before count : ℕ) (bytes : List ℕ) → count ≤ length bytes → r.last < before + count
@@ -161,13 +155,12 @@ slice_is r before count bytes within short =
     sym (chosen_slice r (before + 1) (take count bytes) i j refl j_is ∙ in_piece i j (omega arith))
   where
     in_piece : (i j : ℕ) → j ≤ count → take (j - i) (drop i (take count bytes)) ≡ take (j - i) (drop i bytes)
-    in_piece i j fits = ⊎_elim (λ is. same (omega (arith, is))) (λ h. ⊎_elim (λ low. same (omega (arith, low))) past h) (cases_order i j)
+    in_piece i j fits = ⊎_elim (λ is. same (omega arith)) (⊎_elim (λ low. same (omega (arith, low))) past) (cases_order i j)
       where
         same : i ≤ j → take (j - i) (drop i (take count bytes)) ≡ take (j - i) (drop i bytes)
         same low =
             let all : i + (count - i) ≡ count = omega arith in
-            ap (λ (c : ℕ). take (j - i) (drop i (take c bytes))) (sym all) ∙ ap (λ (l : List ℕ). take (j - i) l) (drop-take i (count - i) bytes)
-            ∙ take-take (j - i) (count - i) (drop i bytes) (omega arith)
+            cc (drop-take i (count - i) bytes, take-take (j - i) (count - i) (drop i bytes) (omega arith))
 
         past : j < i → take (j - i) (drop i (take count bytes)) ≡ take (j - i) (drop i bytes)
         past high = let none : j - i ≡ 0 = omega arith in rw none refl
@@ -180,31 +173,29 @@ rest_is r before count bytes within reaches =
     let long : length (take count bytes) ≡ count = length-take-le count bytes within in
     let piece : chosen (lies_in r) (before + 1) (take count bytes) ≡ drop (min i count) (take count bytes) =
     chosen_slice r (before + 1) (take count bytes) i (r.last + 1 - (before + 1)) refl refl ∙ all_of i (omega (arith, long)) in
-    ap (λ (l : List ℕ). drop (min i count) l) (sym (take-append-drop count bytes)) ∙ drop-append-le (min i count) (take count bytes) (drop count bytes) (omega (arith, long))
-    ∙ ap (λ (l : List ℕ). l ++ drop count bytes) (sym piece)
+    cc (take-append-drop count bytes, drop-append-le (min i count) (take count bytes) (drop count bytes) (omega (arith, long)), piece)
   where
     all_of : (i : ℕ) → length (take count bytes) ≤ r.last + 1 - (before + 1) → take ((r.last + 1 - (before + 1)) - i) (drop i (take count bytes)) ≡ drop (min i count) (take count bytes)
-    all_of i fits = ⊎_elim (λ is. near (omega (arith, is))) (λ h. ⊎_elim (λ low. near (omega (arith, low))) far h) (cases_order i count)
+    all_of i fits = ⊎_elim (λ is. near (omega arith)) (⊎_elim (λ low. near (omega (arith, low))) far) (cases_order i count)
       where
         near : i ≤ count → take ((r.last + 1 - (before + 1)) - i) (drop i (take count bytes)) ≡ drop (min i count) (take count bytes)
-        near low = let least : min i count ≡ i = omega arith in take_all ((r.last + 1 - (before + 1)) - i) (drop i (take count bytes))
-            (omega (arith, length-drop i (take count bytes))) ∙ ap (λ (k : ℕ). drop k (take count bytes)) (sym least)
+        near low = let least : min i count ≡ i = omega arith in cc (take_all ((r.last + 1 - (before + 1)) - i) (drop i (take count bytes)) (omega (arith, length-drop i (take count bytes))))
 
         far : count < i → take ((r.last + 1 - (before + 1)) - i) (drop i (take count bytes)) ≡ drop (min i count) (take count bytes)
         far high =
             let long : length (take count bytes) ≡ count = length-take-le count bytes within in
             let none : drop i (take count bytes) ≡ [] = drop_all i (take count bytes) (omega (arith, long)) in
-            ap (λ (l : List ℕ). take ((r.last + 1 - (before + 1)) - i) l) none ∙ take-nil ((r.last + 1 - (before + 1)) - i) ∙ sym (drop_all (min i count) (take count bytes) (omega (arith, long)))
+            cc (take-nil ((r.last + 1 - (before + 1)) - i), drop_all (min i count) (take count bytes) (omega (arith, long)))
 
 -- ---- a copy of bytes that were chosen, out of the first `end`
 
 cut_off : (from end : ℕ) (bytes : List ℕ) → from ≤ end → take (end - from) (drop from bytes) ≡ drop from (take end bytes)
 cut_off from end bytes order =
     let whole : from + (end - from) ≡ end = omega arith in
-    sym (drop-take from (end - from) bytes) ∙ ap (λ (k : ℕ). drop from (take k bytes)) whole
+    cc (drop-take from (end - from) bytes)
 
-module _ (all : List Interval) (before count end : ℕ) (bytes was : List ℕ) (start : ℕ) (in_piece : count ≤ end) (in_bytes : end ≤ length bytes)
-    (i : ℕ) (is : List ℕ) (at : ℕ) (k : Choosing all i before (take count (take end bytes)) (drop count (take end bytes)) was is start at) where
+module _ {all : List Interval} {before count end : ℕ} (bytes : List ℕ) {was : List ℕ} {start : ℕ} (in_piece : count ≤ end) (in_bytes : end ≤ length bytes)
+    {i : ℕ} {is : List ℕ} {at : ℕ} (k : Choosing all i before (take count (take end bytes)) (drop count (take end bytes)) was is start at) where
   abbrev piece : List ℕ
   piece = take count (take end bytes)
 
@@ -217,26 +208,23 @@ module _ (all : List Interval) (before count end : ℕ) (bytes was : List ℕ) (
   piece_long : length piece ≡ count
   piece_long = length-take-le count (take end bytes) (omega (arith, long, in_piece))
 
-  pub copied_done : (is' : List ℕ) → length all ≤ i → is' ≡ is ++ take (end - count) (drop count bytes) → is' ≡ was ++ (chosen (is_selected all) (before + 1) piece ++ tail)
-  copied_done is' past copied = copied ∙ ap (λ (l : List ℕ). is ++ l) (cut_off count end bytes in_piece) ∙ choosing_done all before piece tail was start i is at k past
+  pub copied_done : {is' : List ℕ} → length all ≤ i → is' ≡ is ++ take (end - count) (drop count bytes) → is' ≡ was ++ (chosen (is_selected all) (before + 1) piece ++ tail)
+  copied_done past copied = cc (cut_off _ _ bytes in_piece, choosing_done k past)
 
   module _ (within : i < length all) (is' : List ℕ) where
     abbrev at_i : Interval
     at_i = get_or all i (record { first = 0; last = 0 })
 
-    pub copied_ends : (from : ℕ) → from ≡ min (at_i.first - (before + 1)) count → before + count ≤ at_i.last → is' ≡ is ++ take (end - from) (drop from bytes)
+    pub copied_ends : {from : ℕ} → from ≡ min (at_i.first - (before + 1)) count → before + count ≤ at_i.last → is' ≡ is ++ take (end - from) (drop from bytes)
         → is' ≡ was ++ (chosen (is_selected all) (before + 1) piece ++ tail)
-    copied_ends from from_is reaches copied =
-        copied ∙ ap (λ (l : List ℕ). is ++ l) (cut_off from end bytes (omega (arith, from_is, in_piece)) ∙ ap (λ (n : ℕ). drop n (take end bytes)) from_is
-        ∙ rest_is at_i before count (take end bytes) (omega (arith, long, in_piece)) reaches)
-        ∙ choosing_ends all before piece tail was start i is at k within (omega (arith, piece_long, reaches))
+    copied_ends {from} from_is reaches copied =
+        cc (cut_off from end bytes (omega (arith, in_piece)), rest_is at_i before count (take end bytes) (omega (arith, long, in_piece)) reaches, choosing_ends k within (omega (arith, piece_long)))
 
-    pub copied_more : (from to : ℕ) → from ≡ at_i.first - (before + 1) → to ≡ at_i.last - before → at_i.last < before + count → is' ≡ is ++ take (to - from) (drop from bytes)
+    pub copied_more : {from to : ℕ} → from ≡ at_i.first - (before + 1) → to ≡ at_i.last - before → at_i.last < before + count → is' ≡ is ++ take (to - from) (drop from bytes)
         → Choosing all (i + 1) before piece tail was is' start (at + (to - from))
-    copied_more from to from_is to_is short copied =
+    copied_more {from} {to} from_is to_is short copied =
         let slice : take (to - from) (drop from bytes) ≡ chosen (lies_in at_i) (before + 1) piece =
-        (λ j. take (to_is j - from_is j) (drop (from_is j) bytes)) ∙ slice_is at_i before count bytes (omega (arith, in_piece, in_bytes)) short
-        ∙ ap (chosen (lies_in at_i) (before + 1)) (sym (take-take count end bytes in_piece)) in
-        subst (λ (l : List ℕ). Choosing all (i + 1) before piece tail was l start (at + (to - from))) (sym (copied ∙ ap (λ (l : List ℕ). is ++ l) slice))
-        (subst (λ (n : ℕ). Choosing all (i + 1) before piece tail was (is ++ chosen (lies_in at_i) (before + 1) piece) start (at + n)) (λ j. sym to_is j - sym from_is j)
-        (choosing_more all before piece tail was start i is at k within (omega (arith, piece_long, short))))
+        cc (slice_is at_i before count bytes (omega (arith, in_piece)) short, take-take count end bytes in_piece) in
+        subst (λ l. Choosing all (i + 1) before piece tail was l start (at + (to - from))) (sym (cc))
+        (subst (λ n. Choosing all (i + 1) before piece tail was (is ++ chosen (lies_in at_i) (before + 1) piece) start (at + n)) (λ j. sym to_is j - sym from_is j)
+        (choosing_more k within (omega (arith, piece_long, short))))

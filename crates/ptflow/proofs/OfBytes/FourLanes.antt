@@ -1,6 +1,6 @@
 -- The 64 bytes of four vectors: where no lane of four masks is set, and what is kept of them one after another.
-use Rattle.std.proofs.Common.{◌≡◌, ℕ, ◌+◌, ◌*◌, ◌^◌, ◌%◌, ◌||◌, Bool, true, false, not, cond, List, [], ◌∷◌, ◌++◌, length, take, drop, map}
-use Rattle.std.proofs.Common.{pos, negsuc, bit_or, refl, sym, ap, ◌∙◌, arith, append_assoc, w8}
+use Rattle.std.proofs.Common.{◌≡◌, ℕ, ◌+◌, ◌^◌, ◌%◌, ◌||◌, Bool, not, cond, List, [], ◌∷◌, ◌++◌, length, drop, map}
+use Rattle.std.proofs.Common.{pos, negsuc, bit_or, refl, sym, ◌∙◌, arith, append_assoc, w8}
 use Rattle.std.specs.Prelude.{filter}
 use Rattle.std.specs.Int.{cast_unsigned}
 use Rattle.std.specs.Simd.Lanes.{mask_l, top, zip2, chunk}
@@ -21,8 +21,7 @@ lanes_of_mask test [] = refl
 lanes_of_mask test (b ∷ v) = λ i. lane (test b) i ∷ lanes_of_mask test v i
   where
     lane : (t : Bool) → cast_unsigned w8 (cond t (negsuc 0) (pos 0)) ≡ cond t 255 0
-    lane true = refl
-    lane false = refl
+    lane t = grind arith
 
 or_lanes : (fs gs : List Bool) → zip2 bit_or (lanes_of fs) (lanes_of gs) ≡ lanes_of (zip2 ◌||◌ fs gs)
 or_lanes [] gs = refl
@@ -30,30 +29,20 @@ or_lanes (f ∷ fs) [] = refl
 or_lanes (f ∷ fs) (g ∷ gs) = λ i. lane f g i ∷ or_lanes fs gs i
   where
     lane : (f g : Bool) → bit_or (cond f 255 0) (cond g 255 0) ≡ cond (f || g) 255 0
-    lane true true = refl
-    lane true false = refl
-    lane false true = refl
-    lane false false = refl
+    lane f g = grind arith
 
 tops_of_lanes : (fs : List Bool) → map (top 7) (lanes_of fs) ≡ fs
 tops_of_lanes [] = refl
 tops_of_lanes (f ∷ fs) = λ i. lane f i ∷ tops_of_lanes fs i
   where
     lane : (f : Bool) → top 7 (cond f 255 0) ≡ f
-    lane true = refl
-    lane false = refl
+    lane f = grind arith
 
 none_of_two : (fs gs : List Bool) → length fs ≡ length gs → mask_l (zip2 ◌||◌ fs gs) ≡ 0 → (mask_l fs ≡ 0) × (mask_l gs ≡ 0)
 none_of_two [] [] same none = (refl, refl)
-none_of_two [] (g ∷ gs) same none = absurd (omega (arith, same))
-none_of_two (f ∷ fs) [] same none = absurd (omega (arith, same))
-none_of_two (f ∷ fs) (g ∷ gs) same none = by_test (none_of_two fs gs (omega (arith, same))) f g none
-  where
-    by_test : (mask_l (zip2 ◌||◌ fs gs) ≡ 0 → (mask_l fs ≡ 0) × (mask_l gs ≡ 0)) → (f g : Bool)
-        → cond (f || g) 1 0 + 2 * mask_l (zip2 ◌||◌ fs gs) ≡ 0 → (cond f 1 0 + 2 * mask_l fs ≡ 0) × (cond g 1 0 + 2 * mask_l gs ≡ 0)
-    by_test rest true g none = absurd (omega (arith, none))
-    by_test rest false true none = absurd (omega (arith, none))
-    by_test rest false false none = let both = rest (omega (arith, none)) in (omega (arith, both.0), omega (arith, both.1))
+none_of_two [] (g ∷ gs) same none = absurd (omega arith)
+none_of_two (f ∷ fs) [] same none = absurd (omega arith)
+none_of_two (f ∷ fs) (g ∷ gs) same none = grind (arith, none_of_two fs gs)
 
 module _ (fa fb fc fd : List Bool) (la : length fa ≡ 16) (lb : length fb ≡ 16) (lc : length fc ≡ 16) (ld : length fd ≡ 16) where
   abbrev two : List Bool
@@ -69,54 +58,39 @@ module _ (fa fb fc fd : List Bool) (la : length fa ≡ 16) (lb : length fb ≡ 1
   length_three = length-zip2 ◌||◌ two fc (length_two ∙ sym lc) ∙ length_two
 
   -- where no lane of four masks is set, none is of each
-  pub none_of_four : (xa xb xc xd : List ℕ) → xa ≡ lanes_of fa → xb ≡ lanes_of fb → xc ≡ lanes_of fc → xd ≡ lanes_of fd
+  pub none_of_four : {xa xb xc xd : List ℕ} → xa ≡ lanes_of fa → xb ≡ lanes_of fb → xc ≡ lanes_of fc → xd ≡ lanes_of fd
       → mask_l (map (top 7) (zip2 bit_or (zip2 bit_or (zip2 bit_or xa xb) xc) xd)) % 2 ^ 64 ≡ 0
       → (mask_l fa ≡ 0) × (mask_l fb ≡ 0) × (mask_l fc ≡ 0) × (mask_l fd ≡ 0)
-  none_of_four xa xb xc xd ea eb ec ed none =
+  none_of_four {xa} {xb} {xc} {xd} ea eb ec ed none =
       let all = zip2 ◌||◌ three fd in
       let long : length all ≡ 16 = length-zip2 ◌||◌ three fd (length_three ∙ sym ld) ∙ length_three in
       let lanes : zip2 bit_or (zip2 bit_or (zip2 bit_or xa xb) xc) xd ≡ lanes_of all =
-      (λ i. zip2 bit_or (zip2 bit_or (zip2 bit_or (ea i) (eb i)) (ec i)) (ed i))
-      ∙ ap (λ (xs : List ℕ). zip2 bit_or (zip2 bit_or xs (lanes_of fc)) (lanes_of fd)) (or_lanes fa fb)
-      ∙ ap (λ (xs : List ℕ). zip2 bit_or xs (lanes_of fd)) (or_lanes two fc)
-      ∙ or_lanes three fd in
-      let nothing : mask_l all ≡ 0 = sym (mask_l-mod all 64 (omega (arith, long)))
-      ∙ ap (λ (fs : List Bool). mask_l fs % 2 ^ 64) (sym (ap (map (top 7)) lanes ∙ tops_of_lanes all)) ∙ none in
+      cc (or_lanes fa fb, or_lanes two fc, or_lanes three fd) in
+      let nothing : mask_l all ≡ 0 = cc (mask_l-mod all 64 (omega arith), tops_of_lanes all) in
       let last = none_of_two three fd (length_three ∙ sym ld) nothing in
       let third = none_of_two two fc (length_two ∙ sym lc) last.0 in
-      let first = none_of_two fa fb (la ∙ sym lb) third.0 in
+      let first = none_of_two fa fb (cc) third.0 in
       (first.0, first.1, third.1, last.1)
 
 -- ---- pieces of 64 bytes
 
 pub chunk_parts : (at n m : ℕ) (from : List ℕ) → chunk at (n + m) from ≡ chunk at n from ++ chunk (at + n) m from
-chunk_parts at n m from = take-add n m (drop at from) ∙ ap (λ (l : List ℕ). chunk at n from ++ take m l) (drop-drop n at from)
+chunk_parts at n m from = cc (take-add n m (drop at from), drop-drop n at from)
 
 pub chunk_in_four : (at : ℕ) (from : List ℕ) → chunk at 64 from ≡ ((chunk at 16 from ++ chunk (at + 16) 16 from) ++ chunk (at + 32) 16 from) ++ chunk (at + 48) 16 from
-chunk_in_four at from =
-    chunk_parts at 48 16 from
-    ∙ ap (λ (l : List ℕ). l ++ chunk (at + 48) 16 from) (chunk_parts at 32 16 from)
-    ∙ ap (λ (l : List ℕ). (l ++ chunk (at + 32) 16 from) ++ chunk (at + 48) 16 from) (chunk_parts at 16 16 from)
+chunk_in_four at from = cc (chunk_parts at 48 16 from, chunk_parts at 32 16 from, chunk_parts at 16 16 from)
 
 module _ (test : ℕ → Bool) where
   -- where no flag is set, all bytes are kept
   pub all_kept : (v : List ℕ) → mask_l (map test v) ≡ 0 → filter (λ b. not (test b)) v ≡ v
   all_kept [] none = refl
-  all_kept (b ∷ v) none = by_test (all_kept v) (test b) none
-    where
-      by_test : (mask_l (map test v) ≡ 0 → filter (λ b. not (test b)) v ≡ v) → (t : Bool) → cond t 1 0 + 2 * mask_l (map test v) ≡ 0
-          → cond (not t) (b ∷ filter (λ b. not (test b)) v) (filter (λ b. not (test b)) v) ≡ b ∷ v
-      by_test rest true none = absurd (omega (arith, none))
-      by_test rest false none = ap (λ (l : List ℕ). b ∷ l) (rest (omega (arith, none)))
+  all_kept (b ∷ v) none = grind (arith, all_kept v)
 
   kept_on : (t xs ys : List ℕ) → (t ++ filter test xs) ++ filter test ys ≡ t ++ filter test (xs ++ ys)
-  kept_on t xs ys = append_assoc t (filter test xs) (filter test ys) ∙ ap (λ (l : List ℕ). t ++ l) (sym (filter-append test xs ys))
+  kept_on t xs ys = cc (append_assoc t (filter test xs) (filter test ys), filter-append test xs ys)
 
   pub kept_in_four : (t a b c d : List ℕ) → (((t ++ filter test a) ++ filter test b) ++ filter test c) ++ filter test d ≡ t ++ filter test (((a ++ b) ++ c) ++ d)
-  kept_in_four t a b c d =
-      ap (λ (l : List ℕ). (l ++ filter test c) ++ filter test d) (kept_on t a b)
-      ∙ ap (λ (l : List ℕ). l ++ filter test d) (kept_on t (a ++ b) c)
-      ∙ kept_on t ((a ++ b) ++ c) d
+  kept_in_four t a b c d = cc (kept_on t a b, kept_on t (a ++ b) c, kept_on t ((a ++ b) ++ c) d)
 
 -- where no flag is set in four vectors, all of their 64 bytes are kept
 pub all_kept_in_four : (test : ℕ → Bool) (at : ℕ) (from : List ℕ)
@@ -127,7 +101,4 @@ all_kept_in_four test at from none =
     let b = chunk (at + 16) 16 from in
     let c = chunk (at + 32) 16 from in
     let d = chunk (at + 48) 16 from in
-    ap (filter (λ b. not (test b))) (chunk_in_four at from)
-    ∙ sym (kept_in_four (λ b. not (test b)) [] a b c d)
-    ∙ (λ i. ((all_kept test a none.0 i ++ all_kept test b none.1 i) ++ all_kept test c none.2 i) ++ all_kept test d none.3 i)
-    ∙ sym (chunk_in_four at from)
+    cc (chunk_in_four at from, kept_in_four (λ b. not (test b)) [] a b c d, all_kept test a none.0, all_kept test b none.1, all_kept test c none.2, all_kept test d none.3)

@@ -14,37 +14,32 @@ use Rattle.ptflow.specs.Workings.Bytes.Lanes.{IsMovedTo, told_adds}
 
 sel_map : (p : ℕ → Bool) (f g : ℕ → ℕ) (v : List ℕ) → sel_l (map p v) (map f v) (map g v) ≡ map (λ b. cond (p b) (f b) (g b)) v
 sel_map p f g [] = refl
-sel_map p f g (x ∷ xs) = ap (λ r. cond (p x) (f x) (g x) ∷ r) (sel_map p f g xs)
+sel_map p f g (x ∷ xs) = ap (◌∷◌ (cond (p x) (f x) (g x))) (sel_map p f g xs)
 
-pub sel_maps : (p : ℕ → Bool) (f g : ℕ → ℕ) (v : List ℕ) (ms : List Bool) (xs ys : List ℕ) → ms ≡ map p v → xs ≡ map f v → ys ≡ map g v → sel_l ms xs ys ≡ map (λ b. cond (p b) (f b) (g b)) v
-sel_maps p f g v ms xs ys em ex ey =
-    ap (λ m. sel_l m xs ys) em ∙ ap (λ x. sel_l (map p v) x ys) ex ∙ ap (λ y. sel_l (map p v) (map f v) y) ey ∙ sel_map p f g v
+pub sel_maps : (p : ℕ → Bool) (f g : ℕ → ℕ) (v : List ℕ) {ms : List Bool} {xs ys : List ℕ} → ms ≡ map p v → xs ≡ map f v → ys ≡ map g v → sel_l ms xs ys ≡ map (λ b. cond (p b) (f b) (g b)) v
+sel_maps p f g v em ex ey = cc (sel_map p f g v)
 
-pub mask_right : (t : ℕ → ℕ → Bool) (n : ℕ) (v : List ℕ) (y : ℕ) → length v ≡ n → map (top 7) (zip2 (λ a b. cond (t a b) 255 0) v (replicate n y)) ≡ map (λ b. t b y) v
-mask_right t n v y long = tops_compared w8 t v (replicate n y) ∙ zip2_splat t v n y long
+pub mask_right : (t : ℕ → ℕ → Bool) {n : ℕ} (v : List ℕ) (y : ℕ) → length v ≡ n → map (top 7) (zip2 (λ a b. cond (t a b) 255 0) v (replicate n y)) ≡ map (λ b. t b y) v
+mask_right t {n} v y long = tops_compared w8 t v (replicate n y) ∙ zip2_splat t v n y long
 
 -- what is computed of each byte, compared with one byte
-pub tests_are : (t : ℕ → ℕ → Bool) (f : ℕ → ℕ) (v xs : List ℕ) (n y : ℕ) → length v ≡ n → xs ≡ map f v → map (top 7) (zip2 (λ a b. cond (t a b) 255 0) xs (replicate n y)) ≡ map (λ b. t (f b) y) v
-tests_are t f v xs n y long is = tops_compared w8 t xs (replicate n y) ∙ zip2_of_maps t f (λ _. y) v is (splat_is_map v n y long)
+pub tests_are : (t : ℕ → ℕ → Bool) (f : ℕ → ℕ) (v : List ℕ) {xs : List ℕ} {n : ℕ} (y : ℕ) → length v ≡ n → xs ≡ map f v
+    → map (top 7) (zip2 (λ a b. cond (t a b) 255 0) xs (replicate n y)) ≡ map (λ b. t (f b) y) v
+tests_are t f v {xs} {n} y long is = tops_compared w8 t xs (replicate n y) ∙ zip2_of_maps t f (λ _. y) v is (splat_is_map v n y long)
 
 pub added_lanes : (f g : ℕ → ℕ) (v : List ℕ) {xs ys : List ℕ} → xs ≡ map f v → ys ≡ map g v → zip2 (λ a b. (a + b) % 256) xs ys ≡ map (λ b. (f b + g b) % 256) v
 added_lanes f g v ex ey = zip2_of_maps (λ a b. (a + b) % 256) f g v ex ey
 
 pub map_self : (v : List ℕ) → map (λ b. b) v ≡ v
 map_self [] = refl
-map_self (x ∷ xs) = ap (λ r. x ∷ r) (map_self xs)
+map_self (x ∷ xs) = ap (◌∷◌ x) (map_self xs)
 
 -- ---- the first bytes are moved
 
 pub moved_more : (becomes : ℕ → ℕ) (at next n : ℕ) (from to new : List ℕ) → next ≡ at + n → take at to ≡ map becomes (take at from)
     → take (at + n) new ≡ take at to ++ map becomes (take n (drop at from)) → take next new ≡ map becomes (take next from)
 moved_more becomes at next n from to new is begun more =
-    ap (λ (k : ℕ). take k new) is
-    ∙ more
-    ∙ ap (λ l. l ++ map becomes (take n (drop at from))) begun
-    ∙ sym (map-append becomes (take at from) (take n (drop at from)))
-    ∙ ap (map becomes) (sym (take-add at n from))
-    ∙ ap (λ (k : ℕ). map becomes (take k from)) (sym is)
+    cc (map-append becomes (take at from) (take n (drop at from)), take-add at n from)
 
 -- where what two functions say of a byte is the same, lists of bytes become the same
 pub bytes_same : {X : Type 0} (f g : ℕ → X) → ((b : ℕ) → b < 256 → f b ≡ g b) → (v : List ℕ) → Each1 (Fits w8) v → map f v ≡ map g v
@@ -72,7 +67,7 @@ sum_is (s ∷ []) b few = omega arith
 sum_is (s ∷ t ∷ []) b few = omega arith
 sum_is (s ∷ t ∷ u ∷ []) b few = omega arith
 sum_is (s ∷ t ∷ u ∷ v ∷ []) b few = omega arith
-sum_is (s ∷ t ∷ u ∷ v ∷ w ∷ more) b few = absurd (omega (arith, few))
+sum_is (s ∷ t ∷ u ∷ v ∷ w ∷ more) b few = absurd (omega arith)
 
 none_at_one : (ss : List Stretch) (b : ℕ) → is_some (told_at ss 1) ≡ false → (adds_at ss 1 b ≡ 0) × (adds_at ss 2 b ≡ 0) × (adds_at ss 3 b ≡ 0)
 none_at_one [] b is = (refl, refl, refl)
@@ -87,18 +82,18 @@ none_at_two (s ∷ t ∷ u ∷ more) b is = absurd (false≢true (sym is))
 
 module _ (ss : List Stretch) (few : length ss ≤ 4) (b : ℕ) where
   to_shifted : (n : ℕ) → n ≡ b + (adds_at ss 0 b + (adds_at ss 1 b + (adds_at ss 2 b + adds_at ss 3 b))) → n % 256 ≡ shifted ss b
-  to_shifted n is = ap (λ (k : ℕ). k % 256) (is ∙ ap (λ (k : ℕ). b + k) (sum_is ss b few))
+  to_shifted n is = ap (λ k. k % 256) (cc (sum_is ss b few))
 
-  pub one_moves : (x : ℕ) → x ≡ adds_at ss 0 b → is_some (told_at ss 1) ≡ false → (b + x) % 256 ≡ shifted ss b
-  one_moves x ex is = let none = none_at_one ss b is in to_shifted (b + x) (omega (arith, ex, none.0, none.1, none.2))
+  pub one_moves : {x : ℕ} → x ≡ adds_at ss 0 b → is_some (told_at ss 1) ≡ false → (b + x) % 256 ≡ shifted ss b
+  one_moves {x} ex is = let none = none_at_one ss b is in to_shifted (b + x) (omega arith)
 
-  pub two_move : (x y : ℕ) → x ≡ adds_at ss 0 b → y ≡ adds_at ss 1 b → is_some (told_at ss 2) ≡ false → ((b + x) % 256 + y) % 256 ≡ shifted ss b
-  two_move x y ex ey is =
+  pub two_move : {x y : ℕ} → x ≡ adds_at ss 0 b → y ≡ adds_at ss 1 b → is_some (told_at ss 2) ≡ false → ((b + x) % 256 + y) % 256 ≡ shifted ss b
+  two_move {x} {y} ex ey is =
       let none = none_at_two ss b is in
       let flat : ((b + x) % 256 + y) % 256 ≡ (b + (x + y)) % 256 = omega arith in
-      flat ∙ to_shifted (b + (x + y)) (omega (arith, ex, ey, none.0, none.1))
+      flat ∙ to_shifted (b + (x + y)) (omega arith)
 
-  pub four_move : (x y z w : ℕ) → x ≡ adds_at ss 0 b → y ≡ adds_at ss 1 b → z ≡ adds_at ss 2 b → w ≡ adds_at ss 3 b → ((((b + x) % 256 + y) % 256 + z) % 256 + w) % 256 ≡ shifted ss b
-  four_move x y z w ex ey ez ew =
+  pub four_move : {x y z w : ℕ} → x ≡ adds_at ss 0 b → y ≡ adds_at ss 1 b → z ≡ adds_at ss 2 b → w ≡ adds_at ss 3 b → ((((b + x) % 256 + y) % 256 + z) % 256 + w) % 256 ≡ shifted ss b
+  four_move {x} {y} {z} {w} ex ey ez ew =
       let flat : ((((b + x) % 256 + y) % 256 + z) % 256 + w) % 256 ≡ (b + (x + (y + (z + w)))) % 256 = omega arith in
-      flat ∙ to_shifted (b + (x + (y + (z + w)))) (omega (arith, ex, ey, ez, ew))
+      flat ∙ to_shifted (b + (x + (y + (z + w)))) (omega arith)

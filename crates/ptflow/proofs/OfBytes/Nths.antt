@@ -1,7 +1,7 @@
 -- The n-th item of a list that passes a test, by the bits of a mask, of which the lowest are cleared; and that the
 -- fields behind the n-th delimiter start there.
 use Rattle.std.proofs.Common.{◌≡◌, ⊎_elim, ℕ, zero, suc, ◌+◌, ◌-◌, ◌*◌, ◌/◌, ◌%◌, ◌^◌, ◌<◌, ◌≤◌, min, Bool, true, false, cond, not, Option, None, Some, List}
-use Rattle.std.proofs.Common.{[], ◌∷◌, ◌++◌, length, map, take, drop, get_or, refl, sym, ◌∙◌, ap, ap₂, subst, arith, get_or-take, take-append-drop, length-drop}
+use Rattle.std.proofs.Common.{[], ◌∷◌, ◌++◌, length, map, take, drop, get_or, refl, sym, ◌∙◌, ap, subst, arith, get_or-take, take-append-drop, length-drop}
 use Rattle.std.specs.Int.RustNames.{count_ones}
 use Rattle.std.specs.List.{count_by, prefix_len}
 use Rattle.std.specs.Simd.Lanes.{mask_l, chunk}
@@ -18,7 +18,8 @@ use Rattle.ptlines.specs.Text.{IsLine}
 use Rattle.ptlines.proofs.Scanned.{before_end, no_end}
 use Rattle.ptlines.proofs.TextLaws.{other_byte}
 use Rattle.ptflow.specs.Workings.Bytes.Nths.{IsBehind, IsNth}
-use Rattle.ptflow.specs.Workings.Cut.FieldPlaces.{fields, led, StartsAt}
+use Rattle.ptflow.specs.Workings.Cut.CutRests.{HasEnds}
+use Rattle.ptflow.specs.Workings.Cut.FieldPlaces.{fields, StartsAt}
 use Rattle.ptflow.proofs.OfCut.FieldPlaces.{fields-append, led_fields, starts_more, few_left}
 
 -- ---- bits of a mask
@@ -58,69 +59,62 @@ and_less (true ∷ bits) =
     let half : x / 2 ≡ m = omega arith in
     let less : (x - 1) / 2 ≡ m = omega arith in
     let low : min (x % 2) ((x - 1) % 2) ≡ 0 = omega arith in
-    let both : bit_and (x / 2) ((x - 1) / 2) ≡ m = ap₂ bit_and half less ∙ and_self m in
-    omega (arith, and_step x (x - 1), both, low)
+    let both : bit_and (x / 2) ((x - 1) / 2) ≡ m = cc (and_self m) in
+    omega (arith, and_step x (x - 1))
 and_less (false ∷ bits) =
     let m = mask_l bits in
     let x = 0 + 2 * m in
     let half : x / 2 ≡ m = omega arith in
     let less : (x - 1) / 2 ≡ m - 1 = omega arith in
     let low : min (x % 2) ((x - 1) % 2) ≡ 0 = omega arith in
-    let both : bit_and (x / 2) ((x - 1) / 2) ≡ mask_l (clear_first bits) = ap₂ bit_and half less ∙ and_less bits in
-    omega (arith, and_step x (x - 1), both, low)
+    let both : bit_and (x / 2) ((x - 1) / 2) ≡ mask_l (clear_first bits) = cc (and_less bits) in
+    omega (arith, and_step x (x - 1))
 
 -- the lowest bit that is set is cleared
-pub cleared : (n x : ℕ) (bits : List Bool) → x < 2 ^ 64 → x ≡ mask_l (without n bits) → bit_and x ((x + (2 ^ 64 - 1)) % 2 ^ 64) ≡ mask_l (without (suc n) bits)
-cleared n x bits small is = by_cases x small is
-  where
-    by_cases : (y : ℕ) → y < 2 ^ 64 → y ≡ mask_l (without n bits) → bit_and y ((y + (2 ^ 64 - 1)) % 2 ^ 64) ≡ mask_l (without (suc n) bits)
-    by_cases zero lt e = and_zero_l ((0 + (2 ^ 64 - 1)) % 2 ^ 64) ∙ sym (and_zero_l (0 - 1)) ∙ ap (λ (z : ℕ). bit_and z (z - 1)) e ∙ and_less (without n bits)
-    by_cases (suc y) lt e =
-        let less : (suc y + (2 ^ 64 - 1)) % 2 ^ 64 ≡ suc y - 1 = omega arith in
-        ap (bit_and (suc y)) less ∙ ap (λ (z : ℕ). bit_and z (z - 1)) e ∙ and_less (without n bits)
+pub cleared : (n : ℕ) {x : ℕ} (bits : List Bool) → x < 2 ^ 64 → x ≡ mask_l (without n bits) → bit_and x ((x + (2 ^ 64 - 1)) % 2 ^ 64) ≡ mask_l (without (suc n) bits)
+cleared n bits small is = grind (arith, and_less (without n bits))
 
 map_self : (bits : List Bool) → map (λ b. b) bits ≡ bits
 map_self [] = refl
-map_self (b ∷ bits) = ap (λ (l : List Bool). b ∷ l) (map_self bits)
+map_self (b ∷ bits) = ap (◌∷◌ b) (map_self bits)
 
 some_set : (bits : List Bool) → prefix_len not bits < length bits → 0 < mask_l bits
-some_set [] lt = absurd (omega (arith, lt))
+some_set [] lt = absurd (omega arith)
 some_set (true ∷ bits) lt = omega arith
-some_set (false ∷ bits) lt = let some = some_set bits (omega (arith, lt)) in omega (arith, some)
+some_set (false ∷ bits) lt = let some = some_set bits (omega arith) in omega arith
 
 lowest_set : (bits : List Bool) → length bits ≤ 64 → prefix_len not bits < length bits → count_trailing_zeros 64 (mask_l bits) ≡ prefix_len not bits
 lowest_set bits few some =
-    ap (λ (l : List Bool). count_trailing_zeros 64 (mask_l l)) (sym (map_self bits))
-    ∙ trailing_mask_l (λ b. b) 64 bits few (subst (λ (l : List Bool). 0 < mask_l l) (sym (map_self bits)) (some_set bits some))
+    cc (map_self bits, trailing_mask_l (λ b. b) 64 bits few (rw (map_self bits) (some_set bits some)))
 
 -- ---- the item behind so many that pass
 
 module _ {X : Type 0} (p : X → Bool) (d : X) where
-  one_more : (x : X) (xs : List X) (t : Bool) (r s n m : ℕ) → p x ≡ t → r ≡ suc s → n ≡ cond t 1 0 + m → IsBehind p d m xs s → IsBehind p d n (x ∷ xs) r
-  one_more x xs t r s n m e next count h =
-      subst (λ (k : ℕ). IsBehind p d n (x ∷ xs) k) (sym next) (omega (arith, h.0), h.1, sum_by-cons (λ b. cond (p b) 1 0) x (take s xs) ∙ ap₂ (λ (b : Bool) (k : ℕ). cond b 1 0 + k) e h.2 ∙ sym count)
+  one_more : (x : X) (xs : List X) {t : Bool} {r : ℕ} (s n m : ℕ) → p x ≡ t → r ≡ suc s → n ≡ cond t 1 0 + m → IsBehind p d m xs s → IsBehind p d n (x ∷ xs) r
+  one_more x xs s n m e next count h =
+      rw next (omega (arith, h.0), h.1, cc (sum_by-cons (λ b. cond (p b) 1 0) x (take s xs)))
 
   behind : (xs : List X) (n : ℕ) → n < count_by p xs → IsBehind p d n xs (prefix_len not (without n (map p xs)))
-  behind [] n lt = absurd (omega (arith, lt))
-  behind (x ∷ xs) n lt = by_test (λ m less. behind xs m less) (p x) refl n (omega (arith, lt, sum_by-cons (λ b. cond (p b) 1 0) x xs))
+  behind [] n lt = absurd (omega arith)
+  behind (x ∷ xs) n lt = by_test (λ m less. behind xs m less) (p x) refl n (omega (arith, sum_by-cons (λ b. cond (p b) 1 0) x xs))
     where
       by_test : ((m : ℕ) → m < count_by p xs → IsBehind p d m xs (prefix_len not (without m (map p xs)))) → (t : Bool) → p x ≡ t → (n : ℕ) → n < cond t 1 0 + count_by p xs
           → IsBehind p d n (x ∷ xs) (prefix_len not (without n (t ∷ map p xs)))
       by_test more true e zero lt = (omega arith, e, refl)
       by_test more true e (suc m) lt =
           let next : prefix_len not (without (suc m) (true ∷ map p xs)) ≡ suc (prefix_len not (without m (map p xs))) = ap (prefix_len not) (without_set m (map p xs)) ∙ omega arith in
-          one_more x xs true (prefix_len not (without (suc m) (true ∷ map p xs))) (prefix_len not (without m (map p xs))) (suc m) m e next (omega arith) (more m (omega (arith, lt)))
+          one_more x xs (prefix_len not (without m (map p xs))) (suc m) m e next (omega arith) (more m (omega arith))
       by_test more false e n lt =
           let next : prefix_len not (without n (false ∷ map p xs)) ≡ suc (prefix_len not (without n (map p xs))) = ap (prefix_len not) (without_clear n (map p xs)) ∙ omega arith in
-          one_more x xs false (prefix_len not (without n (false ∷ map p xs))) (prefix_len not (without n (map p xs))) n n e next (omega arith) (more n (omega (arith, lt)))
+          one_more x xs (prefix_len not (without n (map p xs))) n n e next (omega arith) (more n (omega arith))
 
 -- the lowest bit that is set once so many were cleared
-pub behind_set : (p : ℕ → Bool) (xs : List ℕ) (n rest : ℕ) → length xs ≤ 64 → n < count_by p xs → rest ≡ mask_l (without n (map p xs)) → IsBehind p 0 n xs (count_trailing_zeros 64 rest)
-behind_set p xs n rest few lt is =
+pub behind_set : (p : ℕ → Bool) (xs : List ℕ) (n : ℕ) {rest : ℕ} → length xs ≤ 64 → n < count_by p xs → rest ≡ mask_l (without n (map p xs)) → IsBehind p 0 n xs (count_trailing_zeros 64 rest)
+behind_set p xs n few lt is =
     let bits = map p xs in
     let here = behind p 0 xs n lt in
     let long : length (without n bits) ≡ length xs = length-without n bits ∙ length-map' xs in
-    subst (λ (k : ℕ). IsBehind p 0 n xs k) (sym (ap (count_trailing_zeros 64) is ∙ lowest_set (without n bits) (omega (arith, long)) (omega (arith, long, here.0)))) here
+    subst (IsBehind p 0 n xs) (sym (cc (is, lowest_set (without n bits) (omega (arith, long)) (omega (arith, long, here.0))))) here
   where
     length-map' : (ys : List ℕ) → length (map p ys) ≡ length ys
     length-map' [] = refl
@@ -133,29 +127,28 @@ module _ (p : ℕ → Bool) (bytes : List ℕ) where
   count_up_to i j le = omega (arith, sum_by-take-le (λ b. cond (p b) 1 0) (take j bytes) i, ap (count_by p) (take-take i j bytes le))
 
   pub count_chunk : (at : ℕ) → count_by p (take (at + 64) bytes) ≡ count_by p (take at bytes) + count_by p (chunk at 64 bytes)
-  count_chunk at = ap (count_by p) (take-add at 64 bytes) ∙ sum_by-append (λ b. cond (p b) 1 0) (take at bytes) (chunk at 64 bytes)
+  count_chunk at = cc (take-add at 64 bytes, sum_by-append (λ b. cond (p b) 1 0) (take at bytes) (chunk at 64 bytes))
 
   module _ (size at m k : ℕ) (room : at + size ≤ length bytes) (h : IsBehind p 0 m (chunk at size bytes) k) where
     pub near : k < size
-    near = omega (arith, h.0, length-chunk at size bytes room)
+    near = omega (arith, length-chunk at size bytes room)
 
     pub count_front : count_by p (take (at + k) bytes) ≡ count_by p (take at bytes) + m
     count_front =
-        ap (count_by p) (take-add at k bytes) ∙ sum_by-append (λ b. cond (p b) 1 0) (take at bytes) (take k (drop at bytes))
-        ∙ ap (λ (n : ℕ). count_by p (take at bytes) + n) (ap (count_by p) (sym (take-take k size (drop at bytes) (omega (arith, near)))) ∙ h.2)
+        cc (take-add at k bytes, sum_by-append (λ b. cond (p b) 1 0) (take at bytes) (take k (drop at bytes)), take-take k size (drop at bytes) (omega (arith, near)))
 
-    pub behind_front : (to : ℕ) → at + k < to → to ≤ length bytes → IsBehind p 0 (count_by p (take at bytes) + m) (take to bytes) (at + k)
-    behind_front to lt le = (
+    pub behind_front : {to : ℕ} → at + k < to → to ≤ length bytes → IsBehind p 0 (count_by p (take at bytes) + m) (take to bytes) (at + k)
+    behind_front {to} lt le = (
       omega (arith, length-take-le to bytes le),
-      ap p (get_or-take to bytes (at + k) 0 lt ∙ sym (get_or-chunk at size bytes k 0 near)) ∙ h.1,
-      ap (count_by p) (take-take (at + k) to bytes (omega arith)) ∙ count_front,
+      cc (get_or-take to bytes (at + k) 0 lt, get_or-chunk at size bytes k 0 near),
+      cc (take-take (at + k) to bytes (omega arith), count_front),
     )
 
   -- the place that the mask of a chunk gives
-  pub behind_in_chunk : (at left marked count k : ℕ) → at + 64 ≤ length bytes → marked ≡ mask_l (map p (chunk at 64 bytes)) → count ≡ count_ones marked → 0 < left → left ≤ count
+  pub behind_in_chunk : (at : ℕ) {left marked count : ℕ} (k : ℕ) → at + 64 ≤ length bytes → marked ≡ mask_l (map p (chunk at 64 bytes)) → count ≡ count_ones marked → 0 < left → left ≤ count
       → ((test : ℕ → Bool) (xs : List ℕ) → length xs ≤ 64 → marked ≡ mask_l (map test xs) → left - 1 < count_by test xs → IsBehind test 0 (left - 1) xs k)
       → IsBehind p 0 (left - 1) (chunk at 64 bytes) k
-  behind_in_chunk at left marked count k room is counted some le found =
+  behind_in_chunk at k room is counted some le found =
       found p (chunk at 64 bytes) (omega (arith, length-chunk at 64 bytes room)) is (omega (arith, counted, ap count_ones is ∙ ones-mask_l p (chunk at 64 bytes)))
 
   -- none in front of the first one passes
@@ -165,47 +158,42 @@ module _ (p : ℕ → Bool) (bytes : List ℕ) where
       low = omega arith;
       high = h.0;
       before = λ k low near passes.
-          let here : p (get_or (take at bytes) k 0) ≡ true = ap p (get_or-take at bytes k 0 near) ∙ passes in
-          let one : cond {A = ℕ} (p (get_or (take at bytes) k 0)) 1 0 ≡ 1 = ap (λ (t : Bool). cond {A = ℕ} t 1 0) here in
-          omega (arith, h.2, one, get_or-le-sum_by (λ b. cond (p b) 1 0) (take at bytes) k 0 (omega (arith, near, h.0, length-take-le at bytes (omega (arith, h.0)))));
+          let here : p (get_or (take at bytes) k 0) ≡ true = cc (get_or-take at bytes k 0 near) in
+          let one : cond {A = ℕ} (p (get_or (take at bytes) k 0)) 1 0 ≡ 1 = cc (here) in
+          omega (arith, one, get_or-le-sum_by (λ b. cond (p b) 1 0) (take at bytes) k 0 (omega (arith, near, h.0, length-take-le at bytes (omega (arith, h.0)))));
     },
     h.1,
   )
 
   pub some_counted : (xs : List ℕ) → 0 < mask_l (map p xs) → 0 < count_by p xs
-  some_counted [] lt = absurd (omega (arith, lt))
-  some_counted (x ∷ xs) lt = omega (arith, sum_by-cons (λ b. cond (p b) 1 0) x xs, by_test (p x) (mask_l (map p xs)) (count_by p xs) lt (some_counted xs))
-    where
-      by_test : (t : Bool) (m n : ℕ) → 0 < cond t 1 0 + 2 * m → (0 < m → 0 < n) → 0 < cond t 1 0 + n
-      by_test true m n some more = omega arith
-      by_test false m n some more = omega (arith, more (omega (arith, some)))
+  some_counted [] lt = absurd (omega arith)
+  some_counted (x ∷ xs) lt = grind (arith, some_counted xs, sum_by-cons (λ b. cond (p b) 1 0) x xs)
 
   -- the first place that the mask of the first of these bytes gives
-  module _ (size marked k : ℕ) (few : size ≤ 64) (room : size ≤ length bytes) (is : marked ≡ mask_l (map p (chunk 0 size bytes))) (some : marked ≡ 0 → ⊥)
+  module _ {size marked : ℕ} (k : ℕ) (few : size ≤ 64) (room : size ≤ length bytes) (is : marked ≡ mask_l (map p (chunk 0 size bytes))) (some : marked ≡ 0 → ⊥)
       (found : (test : ℕ → Bool) (xs : List ℕ) → length xs ≤ 64 → marked ≡ mask_l (map test xs) → 0 < count_by test xs → IsBehind test 0 0 xs k) where
     in_front : IsBehind p 0 0 (chunk 0 size bytes) k
     in_front =
         let v = chunk 0 size bytes in
-        found p v (omega (arith, few, length-chunk 0 size bytes (omega arith))) is (some_counted v (subst (λ (m : ℕ). 0 < m) is (omega (arith, some))))
+        found p v (omega (arith, length-chunk 0 size bytes (omega arith))) is (some_counted v (rw (← is) (omega arith)))
 
     pub first_front : (to : ℕ) → k < to → to ≤ length bytes → IsBehind p 0 0 (take to bytes) k
     first_front to lt le =
         let same : 0 + k ≡ k = omega arith in
-        subst (λ (n : ℕ). IsBehind p 0 0 (take to bytes) n) same (behind_front size 0 0 k (omega arith) in_front to (omega (arith, lt)) le)
+        rw (← same) (behind_front size 0 0 k (omega arith) in_front (omega arith) le)
 
-    pub none_front : (to : ℕ) → to ≤ k → count_by p (take to bytes) < 1
-    none_front to le = omega (arith, count_front size 0 0 k (omega arith) in_front, count_up_to to (0 + k) (omega (arith, le)))
+    pub none_front : {to : ℕ} → to ≤ k → count_by p (take to bytes) < 1
+    none_front {to} le = omega (arith, count_front size 0 0 k (omega arith) in_front, count_up_to to (0 + k) (omega arith))
 
     pub first_of_all : NoneBefore (Passes p bytes) 0 (length bytes) k × Passes p bytes k
     first_of_all =
-        first_is k (subst (λ (l : List ℕ). IsBehind p 0 0 l k) (take_all (length bytes) bytes (omega arith))
-        (first_front (length bytes) (omega (arith, room, near size 0 0 k (omega arith) in_front)) (omega arith)))
+        first_is k (rw (take_all (length bytes) bytes (omega arith)) at (first_front (length bytes) (omega (arith, room, near size 0 0 k (omega arith) in_front)) (omega arith)))
 
 -- ---- fields
 
 module _ (d : ℕ) (line : List ℕ) where
-  pub few_fields : (n : ℕ) → count_by (is_byte d) line < n → length (fields d line) ≤ n
-  few_fields n lt = omega (arith, length-slice_split (is_byte d) line)
+  pub few_fields : {n : ℕ} → count_by (is_byte d) line < n → length (fields d line) ≤ n
+  few_fields lt = omega (arith, length-slice_split (is_byte d) line)
 
   module _ (n at : ℕ) (h : IsBehind (is_byte d) 0 n line at) where
     abbrev xs : List ℕ
@@ -218,29 +206,29 @@ module _ (d : ℕ) (line : List ℕ) where
     one = omega arith
 
     long : length xs ≡ at
-    long = length-take-le at line (omega (arith, h.0))
+    long = length-take-le at line (omega arith)
 
     here : drop at line ≡ d ∷ ys
-    here = drop_more line at 0 h.0 ∙ ap (λ (b : ℕ). b ∷ ys) (eqb-true (get_or line at 0) d h.1)
+    here = cc (drop_more line at 0 h.0, eqb-true (get_or line at 0) d h.1)
 
     number : length (fields d xs) ≡ n + 1
-    number = omega (arith, length-slice_split (is_byte d) xs, h.2)
+    number = omega (arith, length-slice_split (is_byte d) xs)
 
     split : fields d line ≡ fields d xs ++ fields d ys
-    split = ap (fields d) (sym (take-append-drop at line) ∙ ap (λ (l : List ℕ). xs ++ l) here) ∙ fields-append d xs ys
+    split = cc (take-append-drop at line, here, fields-append d xs ys)
 
     pub starts_behind : StartsAt d (n + 1) line (at + 1)
     starts_behind = record {
-      fits = omega (arith, h.0);
-      count = omega (arith, h.2, count_by-le-length (is_byte d) xs, long);
-      front = ap (λ (k : ℕ). take k (d ∷ line)) one ∙ sym (led_fields d xs) ∙ ap (led d) (sym (ap (take (n + 1)) split ∙ take_at (fields d xs) (fields d ys) (n + 1) number));
-      behind = ap (λ (k : ℕ). drop k (d ∷ line)) one ∙ here;
-      later = ap (drop (n + 1)) split ∙ drop_at (fields d xs) (fields d ys) (n + 1) number;
+      fits = omega arith;
+      count = omega (arith, count_by-le-length (is_byte d) xs, long);
+      front = cc (one, led_fields d xs, split, take_at (fields d xs) (fields d ys) (n + 1) number);
+      behind = cc (one, here);
+      later = cc (split, drop_at (fields d xs) (fields d ys) (n + 1) number);
     }
 
   pub none_counted : (bytes : List ℕ) → IsLine d bytes → count_by (is_byte d) bytes ≡ 0
   none_counted [] free = refl
-  none_counted (b ∷ bytes) free = sum_by-cons (λ x. cond (is_byte d x) 1 0) b bytes ∙ ap₂ (λ (t : Bool) (n : ℕ). cond t 1 0 + n) (other_byte d b free.0) (none_counted bytes free.1)
+  none_counted (b ∷ bytes) free = cc (sum_by-cons (λ x. cond (is_byte d x) 1 0) b bytes, other_byte d b free.0, none_counted bytes free.1)
 
   -- the first one
   pub first_is_nth : (r : Option ℕ) → IsFirstByte (is_byte d) line r → IsNth (is_byte d) 1 line r
@@ -250,20 +238,20 @@ module _ (d : ℕ) (line : List ℕ) where
   pub starts_behind_first : (at : ℕ) → IsFirstByte (is_byte d) line (Some at) → StartsAt d 1 line (at + 1)
   starts_behind_first at first = starts_behind 0 at (first.0.high, first.1, none_counted (take at line) (before_end d line at first))
 
-  pub starts_behind_nth : (n at : ℕ) → 0 < n → IsBehind (is_byte d) 0 (n - 1) line at → StartsAt d n line (at + 1)
-  starts_behind_nth n at some h =
+  pub starts_behind_nth : {n : ℕ} (at : ℕ) → 0 < n → IsBehind (is_byte d) 0 (n - 1) line at → StartsAt d n line (at + 1)
+  starts_behind_nth {n} at some h =
       let whole : n - 1 + 1 ≡ n = omega arith in
-      subst (λ (m : ℕ). StartsAt d m line (at + 1)) whole (starts_behind (n - 1) at h)
+      rw whole at (starts_behind (n - 1) at h)
 
   -- behind the first delimiter
   module _ (first n : ℕ) (here : IsFirstByte (is_byte d) line (Some first)) (some : 0 < n) where
     pub few_behind_first : length (fields d (drop (first + 1) line)) ≤ n - 1 → length (fields d line) ≤ n
-    few_behind_first few = omega (arith, few_left d 1 (n - 1) (first + 1) line (starts_behind_first first here) few)
+    few_behind_first few = omega (arith, few_left d (starts_behind_first first here) few)
 
-    pub starts_past_first : (passed : ℕ) → StartsAt d (n - 1) (drop (first + 1) line) passed → StartsAt d n line (first + 1 + passed)
-    starts_past_first passed s =
+    pub starts_past_first : {passed : ℕ} → StartsAt d (n - 1) (drop (first + 1) line) passed → StartsAt d n line (first + 1 + passed)
+    starts_past_first s =
         let whole : 1 + (n - 1) ≡ n = omega arith in
-        subst (λ (m : ℕ). StartsAt d m line (first + 1 + passed)) whole (starts_more d 1 (n - 1) (first + 1) passed line (starts_behind_first first here) s)
+        rw whole at (starts_more d (starts_behind_first first here) s)
 
 -- the next item that passes, where as many stand in front of it as in front of an earlier place
 module _ (p : ℕ → Bool) (bytes : List ℕ) (start end : ℕ) (fits : end < length bytes) (is : p (get_or bytes end 0) ≡ true) (same : count_by p (take end bytes) ≡ count_by p (take start bytes)) where
@@ -275,23 +263,23 @@ module _ (p : ℕ → Bool) (bytes : List ℕ) (start end : ℕ) (fits : end < l
         sum_by-append (λ b. cond (p b) 1 0) (take end bytes) (get_or bytes end 0 ∷ []),
         sum_by-cons
             (λ b. cond (p b) 1 0) (get_or bytes end 0) [],
-        ap (λ (t : Bool). cond {A = ℕ} t 1 0) is,
+        ap (λ t. cond {A = ℕ} t 1 0) is,
       )
 
   pub in_order : start ≤ end
-  in_order = ⊎_elim (λ e. omega (arith, e)) (λ h. ⊎_elim (λ less. absurd
-      (omega (arith, less, same, one_behind, count_up_to p bytes (end + 1) start (omega (arith, less))))) (λ more. omega (arith, more)) h) (cases_order end start)
+  in_order = ⊎_elim (λ e. omega (arith, e)) (⊎_elim (λ less. absurd
+      (omega (arith, less, same, one_behind, count_up_to p bytes (end + 1) start (omega (arith, less))))) (λ more. omega (arith, more))) (cases_order end start)
 
   pub next_is : NoneBefore (Passes p (drop start bytes)) 0 (length (drop start bytes)) (end - start) × Passes p (drop start bytes) (end - start)
   next_is =
       let whole : start + (end - start) ≡ end = omega (arith, in_order) in
       first_is p (drop start bytes) (end - start) (
         omega (arith, length-drop start bytes, fits, in_order),
-        ap p (get_or-drop start bytes (end - start) 0 ∙ ap (λ (n : ℕ). get_or bytes n 0) whole) ∙ is,
+        cc (get_or-drop start bytes (end - start) 0, is),
         omega (
           arith,
           same,
-          ap (λ (n : ℕ). count_by p (take n bytes)) whole,
+          ap (λ n. count_by p (take n bytes)) whole,
           ap (count_by p) (take-add start (end - start) bytes),
           sum_by-append
               (λ b. cond (p b) 1 0) (take start bytes) (take (end - start) (drop start bytes)),
@@ -299,28 +287,45 @@ module _ (p : ℕ → Bool) (bytes : List ℕ) (start end : ℕ) (fits : end < l
       )
 
 -- the next end of a line among 64 bytes, of which so many were gone over, where the line starts at this place
-module _ (d : ℕ) (block : List ℕ) (from n marked start : ℕ) (room : from + 64 ≤ length block) (some : n < count_by (is_byte d) (chunk from 64 block))
+pub record NextEnd (d : ℕ) (block : List ℕ) (from n bit start : ℕ) : Type 0 where
+  pub near : bit < 64
+  pub order : start ≤ from + bit
+  pub first : IsFirstByte (is_byte d) (drop start block) (Some (from + bit - start))
+  pub counted : count_by (is_byte d) (take (from + bit + 1) block) ≡ count_by (is_byte d) (take from block) + (n + 1)
+
+module _ {d : ℕ} {block : List ℕ} {from all marked : ℕ} (n start : ℕ) (h : HasEnds d block from all) (some : n < count_ones all)
     (bits : marked ≡ mask_l (without n (map (is_byte d) (chunk from 64 block)))) (ends : count_by (is_byte d) (take start block) ≡ count_by (is_byte d) (take from block) + n) where
+  abbrev p : ℕ → Bool
+  p = is_byte d
+
+  abbrev v : List ℕ
+  v = chunk from 64 block
+
   abbrev bit : ℕ
   bit = count_trailing_zeros 64 marked
 
-  stands : IsBehind (is_byte d) 0 n (chunk from 64 block) bit
-  stands = behind_set (is_byte d) (chunk from 64 block) n marked (omega (arith, length-chunk from 64 block room)) some bits
+  room : from + 64 ≤ length block
+  room = omega arith
 
-  pub end_near : count_trailing_zeros 64 marked < 64
-  end_near = near (is_byte d) block 64 from n bit room stands
+  stands : IsBehind p 0 n v bit
+  stands = behind_set p v n (omega (arith, length-chunk from 64 block room)) (omega (arith, ap count_ones h.is, ones-mask_l p v)) bits
 
-  ends_line : is_byte d (get_or block (from + bit) 0) ≡ true
-  ends_line = ap (is_byte d) (sym (get_or-chunk from 64 block bit 0 end_near)) ∙ stands.1
+  close : bit < 64
+  close = near p block 64 from n bit room stands
 
-  as_many : count_by (is_byte d) (take (from + bit) block) ≡ count_by (is_byte d) (take start block)
-  as_many = count_front (is_byte d) block 64 from n bit room stands ∙ sym ends
+  fits : from + bit < length block
+  fits = omega (arith, close, room)
 
-  pub end_order : start ≤ from + count_trailing_zeros 64 marked
-  end_order = in_order (is_byte d) block start (from + bit) (omega (arith, end_near, room)) ends_line as_many
+  is : p (get_or block (from + bit) 0) ≡ true
+  is = cc (get_or-chunk from 64 block bit 0 close, stands.1)
 
-  pub end_first : IsFirstByte (is_byte d) (drop start block) (Some (from + count_trailing_zeros 64 marked - start))
-  end_first = next_is (is_byte d) block start (from + bit) (omega (arith, end_near, room)) ends_line as_many
+  as_many : count_by p (take (from + bit) block) ≡ count_by p (take start block)
+  as_many = count_front p block 64 from n bit room stands ∙ sym ends
 
-  pub end_counted : count_by (is_byte d) (take (from + count_trailing_zeros 64 marked + 1) block) ≡ count_by (is_byte d) (take from block) + (n + 1)
-  end_counted = omega (arith, one_behind (is_byte d) block start (from + bit) (omega (arith, end_near, room)) ends_line as_many, as_many, ends)
+  pub next_end : NextEnd d block from n bit start
+  next_end = record {
+    near = close;
+    order = in_order p block start _ fits is as_many;
+    first = next_is p block start _ fits is as_many;
+    counted = omega (arith, one_behind p block start _ fits is as_many, as_many, ends);
+  }

@@ -1,11 +1,10 @@
 -- What `cut` by bytes writes of the rest of a text, a piece at a time. A piece of a line adds to the places counted,
 -- and an end of a line sets them back; from no place on this is what it is to write of whole lines.
-use Rattle.std.proofs.Common.{◌≡◌, ℕ, suc, ◌+◌, ◌-◌, ◌≤◌, ◌*◌, ◌^◌, ◌==◌, Bool, true, false, cond, List, [], ◌∷◌, ◌++◌, map, length, take, drop, Some, refl, sym, ◌∙◌, ap, arith, append_assoc}
+use Rattle.std.proofs.Common.{◌≡◌, ℕ, ◌+◌, ◌-◌, ◌≤◌, ◌^◌, ◌==◌, Bool, false, List, [], ◌∷◌, ◌++◌, map, length, take, drop, Some, refl, sym, ◌∙◌, ap, arith, append_assoc}
+use Rattle.std.proofs.lemmas.Grind.{common_steps}
 use Rattle.std.specs.List.{onto_first, flat_map}
 use Rattle.std.specs.Simd.Lanes.{mask_l, chunk}
 use Rattle.std.proofs.lemmas.Simd.{length-chunk, chunk-drop}
-use Rattle.std.proofs.Math.Nat.{pow-succ'}
-use Rattle.std.proofs.lemmas.Bool.{eqb-true}
 use Rattle.std.proofs.lemmas.Bool.Decides.{nat_tests}
 use Rattle.std.proofs.lemmas.List.{append-nil, take_all, drop_all, append_cancel_right, map-append}
 use Rattle.memchr.specs.Find.{IsFirstByte, is_byte}
@@ -32,39 +31,29 @@ module _ (end : ℕ) (selected : ℕ → Bool) where
   pub rest_line : (before : ℕ) (line rest : List ℕ) → IsLine end line → cut_rest end selected before (line ++ end ∷ rest)
       ≡ (chosen_from selected (before + 1) line ++ end ∷ []) ++ cut_rest end selected 0 rest
   rest_line before line rest whole =
-      ap (rest_of_lines end selected before) (lines_first end line rest whole) ∙ sym (append_assoc (chosen_from selected (before + 1) line) (end ∷ []) (cut_text (lines end rest)))
-      ∙ ap (λ (l : List ℕ). (chosen_from selected (before + 1) line ++ end ∷ []) ++ l) (sym (rest_of_all (lines end rest)))
+      cc (lines_first end line rest whole, append_assoc (chosen_from selected (before + 1) line) (end ∷ []) (cut_text (lines end rest)), rest_of_all (lines end rest))
 
   -- one byte of a line
   rest_onto : (before b : ℕ) (ls : List (List ℕ)) → rest_of_lines end selected before (onto_first b ls) ≡ chosen_from selected (before + 1) (b ∷ []) ++ rest_of_lines end selected (before + 1) ls
   rest_onto before b [] = let some : (before + 1 == 0) ≡ false = grind (arith, nat_tests) in rw some refl
-  rest_onto before b (line ∷ ls) = by_test (selected (before + 1))
-    where
-      by_test : (t : Bool) → cond t (b ∷ chosen_from selected (before + 1 + 1) line) (chosen_from selected (before + 1 + 1) line) ++ end ∷ cut_text ls
-          ≡ cond t (b ∷ []) [] ++ (chosen_from selected (before + 1 + 1) line ++ end ∷ cut_text ls)
-      by_test true = refl
-      by_test false = refl
+  rest_onto before b (line ∷ ls) = grind arith
 
   chosen_onto : (n b : ℕ) (xs : List ℕ) → chosen_from selected n (b ∷ []) ++ chosen_from selected (n + 1) xs ≡ chosen_from selected n (b ∷ xs)
-  chosen_onto n b xs = by_test (selected n)
-    where
-      by_test : (t : Bool) → cond t (b ∷ []) [] ++ chosen_from selected (n + 1) xs ≡ cond t (b ∷ chosen_from selected (n + 1) xs) (chosen_from selected (n + 1) xs)
-      by_test true = refl
-      by_test false = refl
+  chosen_onto n b xs = grind arith
 
   -- a piece of a line
   pub rest_piece : (before : ℕ) (piece rest : List ℕ) → IsLine end piece → cut_rest end selected before (piece ++ rest)
       ≡ chosen_from selected (before + 1) piece ++ cut_rest end selected (before + length piece) rest
-  rest_piece before [] rest whole = let same : before + 0 ≡ before = omega arith in ap (λ (n : ℕ). cut_rest end selected n rest) (sym same)
+  rest_piece before [] rest whole = let same : before + 0 ≡ before = omega arith in cc
   rest_piece before (b ∷ piece) rest whole =
       let same : before + 1 + length piece ≡ before + length (b ∷ piece) = omega arith in
       let first : cut_rest end selected before ((b ∷ piece) ++ rest) ≡ chosen_from selected (before + 1) (b ∷ []) ++ cut_rest end selected (before + 1) (piece ++ rest) =
-      ap (λ (t : Bool). rest_of_lines end selected before (cond t ([] ∷ lines end (piece ++ rest)) (onto_first b (lines end (piece ++ rest)))))
-      (other_byte end b whole.0) ∙ rest_onto before b (lines end (piece ++ rest)) in
-      first ∙ ap (λ (l : List ℕ). chosen_from selected (before + 1) (b ∷ []) ++ l) (rest_piece (before + 1) piece rest whole.1)
-      ∙ sym (append_assoc (chosen_from selected (before + 1) (b ∷ [])) (chosen_from selected (before + 1 + 1) piece) (cut_rest end selected (before + 1 + length piece) rest))
-      ∙ ap (λ (l : List ℕ). l ++ cut_rest end selected (before + 1 + length piece) rest) (chosen_onto (before + 1) b piece)
-      ∙ ap (λ (n : ℕ). chosen_from selected (before + 1) (b ∷ piece) ++ cut_rest end selected n rest) same
+      cc (other_byte end b whole.0, rest_onto before b (lines end (piece ++ rest))) in
+      cc (
+        rest_piece (before + 1) piece rest whole.1,
+        append_assoc (chosen_from selected (before + 1) (b ∷ [])) (chosen_from selected (before + 1 + 1) piece) (cut_rest end selected (before + 1 + length piece) rest),
+        chosen_onto (before + 1) b piece,
+      )
 
 -- the selected bytes of the line in front, and its end
 module _ (end : ℕ) (bytes : List ℕ) (at : ℕ) (first : IsFirstByte (is_byte end) bytes (Some at)) where
@@ -72,39 +61,30 @@ module _ (end : ℕ) (bytes : List ℕ) (at : ℕ) (first : IsFirstByte (is_byte
       → cut_rest end selected before (bytes ++ more) ≡ (chosen_from selected (before + 1) (take at (take (at + 1) bytes)) ++ drop at (take (at + 1) bytes))
       ++ cut_rest end selected 0 (drop (at + 1) bytes ++ more)
   line_on selected before more =
-      ap (cut_rest end selected before) (ap (λ (l : List ℕ). l ++ more) (split_of end bytes at first) ∙ append_assoc (take at bytes) (end ∷ drop (at + 1) bytes) more)
-      ∙ rest_line end selected before (take at bytes) (drop (at + 1) bytes ++ more) (before_end end bytes at first)
-      ∙ (λ i. (chosen_from selected (before + 1) (sym (line_of end bytes at first) i) ++ sym (end_of end bytes at first) i) ++ cut_rest end selected 0 (drop (at + 1) bytes ++ more))
+      cc (
+        split_of end bytes at first,
+        append_assoc (take at bytes) (end ∷ drop (at + 1) bytes) more,
+        rest_line end selected before (take at bytes) (drop (at + 1) bytes ++ more) (before_end end bytes at first),
+        line_of end bytes at first,
+        end_of end bytes at first,
+      )
 
 -- lines that are empty
 pub empty_lines : (end : ℕ) (selected : ℕ → Bool) (ends more : List ℕ) → mask_l (map (is_byte end) ends) + 1 ≡ 2 ^ length ends
     → cut_rest end selected 0 (ends ++ more) ≡ ends ++ cut_rest end selected 0 more
 empty_lines end selected [] more all = refl
-empty_lines end selected (b ∷ ends) more all = by_test (is_byte end b) refl all (empty_lines end selected ends more)
-  where
-    by_test : (t : Bool) → is_byte end b ≡ t → cond t 1 0 + 2 * mask_l (map (is_byte end) ends) + 1 ≡ 2 ^ suc (length ends)
-        → (mask_l (map (is_byte end) ends) + 1 ≡ 2 ^ length ends → cut_rest end selected 0 (ends ++ more) ≡ ends ++ cut_rest end selected 0 more)
-        → cut_rest end selected 0 (b ∷ ends ++ more) ≡ b ∷ ends ++ cut_rest end selected 0 more
-    by_test true is every next =
-        ap (λ (x : ℕ). cut_rest end selected 0 (x ∷ ends ++ more)) (eqb-true b end is)
-        ∙ rest_line end selected 0 [] (ends ++ more) tt
-        ∙ ap (λ (l : List ℕ). end ∷ l) (next (omega (arith, every, pow-succ' 2 (length ends))))
-        ∙ ap (λ (x : ℕ). x ∷ ends ++ cut_rest end selected 0 more) (sym (eqb-true b end is))
-    by_test false is every next = absurd (omega (arith, every, pow-succ' 2 (length ends)))
+empty_lines end selected (b ∷ ends) more all = grind (arith, common_steps, empty_lines end selected ends more)
 
 -- 64 of them that stand at a place of a block, where no byte of a line came earlier
-pub ends_on : (end : ℕ) (selected : ℕ → Bool) (block : List ℕ) (from start now marked : ℕ) → from + 64 ≤ length block → start ≡ from → now ≡ 0 → marked
+pub ends_on : (end : ℕ) (selected : ℕ → Bool) (block : List ℕ) {from start now marked : ℕ} → from + 64 ≤ length block → start ≡ from → now ≡ 0 → marked
     ≡ mask_l (map (is_byte end) (chunk from 64 block)) → marked ≡ 2 ^ 64 - 1
     → (more : List ℕ) → cut_rest end selected now (drop start block ++ more) ≡ chunk start 64 block ++ cut_rest end selected now (drop (start + 64) block ++ more)
-ends_on end selected block from start now marked room here none is all more =
+ends_on end selected block {start} room here none is all more =
     let ends = chunk start 64 block in
     let left = drop (start + 64) block ++ more in
-    let long : length ends ≡ 64 = length-chunk start 64 block (omega (arith, room, here)) in
+    let long : length ends ≡ 64 = length-chunk start 64 block (omega arith) in
     let every : mask_l (map (is_byte end) ends) + 1 ≡ 2 ^ length ends = omega (arith, ap (λ (k : ℕ). mask_l (map (is_byte end) (chunk k 64 block))) here, is, all, ap (λ (k : ℕ). 2 ^ k) long) in
-    ap (λ (k : ℕ). cut_rest end selected k (drop start block ++ more)) none
-    ∙ ap (cut_rest end selected 0) (ap (λ (l : List ℕ). l ++ more) (chunk-drop start 64 block) ∙ append_assoc ends (drop (start + 64) block) more)
-    ∙ empty_lines end selected ends left every
-    ∙ ap (λ (k : ℕ). ends ++ cut_rest end selected k left) (sym none)
+    cc (chunk-drop start 64 block, append_assoc ends (drop (start + 64) block) more, empty_lines end selected ends left every)
 
 -- the selected bytes of a piece of a line
 pub piece_on : (end : ℕ) (selected : ℕ → Bool) (before : ℕ) (bytes : List ℕ) → IsLine end bytes → (more : List ℕ)
@@ -112,16 +92,14 @@ pub piece_on : (end : ℕ) (selected : ℕ → Bool) (before : ℕ) (bytes : Lis
 piece_on end selected before bytes whole more =
     let all : take (length bytes) bytes ≡ bytes = take_all (length bytes) bytes (omega arith) in
     let none : drop (length bytes) bytes ≡ [] = drop_all (length bytes) bytes (omega arith) in
-    rest_piece end selected before bytes more whole ∙ ap (λ (l : List ℕ). l ++ cut_rest end selected (before + length bytes) more)
-    (sym (append-nil (chosen_from selected (before + 1) bytes)) ∙ (λ i. chosen_from selected (before + 1) (sym all i) ++ sym none i))
+    cc (rest_piece end selected before bytes more whole, append-nil (chosen_from selected (before + 1) bytes))
 
 -- one step more of what is written of a block
 module _ (end : ℕ) (list : List Interval) (start : ℕ) (block : List ℕ) where
-  pub cut_on : (now next : ℕ) (rest rest' was is bytes : List ℕ) → IsCutTo end list start block now rest was → is ≡ was ++ bytes
+  pub cut_on : (now next : ℕ) (rest rest' was : List ℕ) {is : List ℕ} (bytes : List ℕ) → IsCutTo end list start block now rest was → is ≡ was ++ bytes
       → ((more : List ℕ) → rest_by end list now (rest ++ more) ≡ bytes ++ rest_by end list next (rest' ++ more)) → IsCutTo end list start block next rest' is
-  cut_on now next rest rest' was is bytes cut copied on more =
-      cut more ∙ ap (λ (l : List ℕ). was ++ l) (on more) ∙ sym (append_assoc was bytes (rest_by end list next (rest' ++ more)))
-      ∙ ap (λ (l : List ℕ). l ++ rest_by end list next (rest' ++ more)) (sym copied)
+  cut_on now next rest rest' was bytes cut copied on more =
+      cc (cut more, on more, append_assoc was bytes (rest_by end list next (rest' ++ more)))
 
 module _ (job : Cut) (by_bytes : job.fields ≡ false) where
   abbrev end : ℕ
@@ -133,7 +111,7 @@ module _ (job : Cut) (by_bytes : job.fields ≡ false) where
     where
       one_each : (xs : List (List ℕ)) → flat_map (cut_line job) xs ≡ map (chosen_from job.selected 1) xs
       one_each [] = refl
-      one_each (x ∷ xs) = rw by_bytes (ap (λ (l : List (List ℕ)). chosen_from job.selected 1 x ∷ l) (one_each xs))
+      one_each (x ∷ xs) = rw by_bytes (ap (◌∷◌ (chosen_from job.selected 1 x)) (one_each xs))
 
   pub rest_is_cut : (bytes : List ℕ) → cut_rest end job.selected 0 bytes ≡ cut job bytes
   rest_is_cut bytes = rest_of_all end job.selected (lines end bytes) ∙ sym (made_is (lines end bytes))
@@ -154,15 +132,20 @@ module _ (job : Cut) (by_bytes : job.fields ≡ false) where
 
       -- with one end more, the piece is a line too
       pushed_side : cut_rest end job.selected 0 (given ++ end ∷ []) ≡ pushed ++ end ∷ []
-      pushed_side = on (end ∷ []) ∙ ap (λ (l : List ℕ). pushed ++ l) (rest_line end job.selected now [] [] tt)
+      pushed_side = cc (on (end ∷ []), rest_line end job.selected now [] [] tt)
 
       all_lines : lines end (given ++ end ∷ []) ≡ ls ++ p.piece ∷ []
       all_lines =
-          ap (λ (l : List ℕ). lines end (l ++ end ∷ [])) p.is ∙ ap (lines end) (append_assoc (text end ls) p.piece (end ∷ [])) ∙ lines_of_text end ls (p.piece ++ end ∷ []) p.whole
-          ∙ ap (λ (l : List (List ℕ)). ls ++ l) (lines_first end p.piece [] p.line)
+          cc (p.is, append_assoc (text end ls) p.piece (end ∷ []), lines_of_text end ls (p.piece ++ end ∷ []) p.whole, lines_first end p.piece [] p.line)
 
       whole_side : cut_rest end job.selected 0 (given ++ end ∷ []) ≡ (text end (flat_map (cut_line job) ls) ++ chosen_from job.selected 1 p.piece) ++ end ∷ []
       whole_side =
-          rest_of_all end job.selected (lines end (given ++ end ∷ [])) ∙ ap (cut_text end job.selected) all_lines ∙ ap (text end) (map-append (chosen_from job.selected 1) ls (p.piece ∷ []))
-          ∙ text-append end (map (chosen_from job.selected 1) ls) (chosen_from job.selected 1 p.piece ∷ []) ∙ (λ i. sym (made_is ls) i ++ append-nil (chosen_from job.selected 1 p.piece ++ end ∷ []) i)
-          ∙ sym (append_assoc (text end (flat_map (cut_line job) ls)) (chosen_from job.selected 1 p.piece) (end ∷ []))
+          cc (
+            rest_of_all end job.selected (lines end (given ++ end ∷ [])),
+            all_lines,
+            map-append (chosen_from job.selected 1) ls (p.piece ∷ []),
+            text-append end (map (chosen_from job.selected 1) ls) (chosen_from job.selected 1 p.piece ∷ []),
+            made_is ls,
+            append-nil (chosen_from job.selected 1 p.piece ++ end ∷ []),
+            append_assoc (text end (flat_map (cut_line job) ls)) (chosen_from job.selected 1 p.piece) (end ∷ []),
+          )

@@ -1,12 +1,13 @@
 -- What `cut` by fields writes of the first lines of a block: of a line with the delimiter its fields, and lines without
 -- it as they are, or nothing.
-use Rattle.std.proofs.Common.{◌≡◌, ℕ, zero, suc, ◌+◌, ◌-◌, ◌<◌, ◌≤◌, ◌==◌, ◌⊎◌, inl, inr, Bool, true, false, cond, List, [], ◌∷◌, ◌++◌, length, take, drop}
-use Rattle.std.proofs.Common.{get_or, Option, None, Some, refl, sym, ◌∙◌, ap, ap₂, subst, arith, append_assoc, get_or-take, take-append-drop}
-use Rattle.std.specs.Prelude.{◌≢◌, unwrap_or}
+use Rattle.std.proofs.Common.{◌≡◌, ℕ, zero, suc, ◌+◌, ◌-◌, ◌<◌, ◌≤◌, ◌⊎◌, inl, inr, true, false, List, [], ◌∷◌, ◌++◌, length, take, drop}
+use Rattle.std.proofs.lemmas.Grind.{common_steps}
+use Rattle.std.proofs.Common.{get_or, Option, None, Some, refl, sym, ◌∙◌, ap₂, subst, arith, append_assoc, get_or-take, take-append-drop}
+use Rattle.std.specs.Prelude.{unwrap_or}
 use Rattle.std.specs.List.{flat_map}
 use Rattle.std.proofs.lemmas.List.{append-nil, take-take, take_more, take_all, length-take-le}
 use Rattle.memchr.specs.Find.{IsFirstByte, is_byte}
-use Rattle.ptlines.specs.Text.{text, lines, ended_lines, onto_line, IsLine, AreLines, EndsWithByte}
+use Rattle.ptlines.specs.Text.{text, ended_lines, IsLine, AreLines}
 use Rattle.ptlines.proofs.Scanned.{before_end, no_end, take_end, drop_end}
 use Rattle.ptlines.proofs.TextLaws.{ended_first, text-append, the_lines, the_ended_lines}
 use Rattle.ptlangs.specs.Jobs.{Cut}
@@ -20,37 +21,22 @@ use Rattle.ptflow.proofs.OfPasses.LineLaws.{ended_next, parts_of}
 ended-append : (end : ℕ) (ls : List (List ℕ)) (bytes : List ℕ) → AreLines end ls → ended_lines end (text end ls ++ bytes) ≡ ls ++ ended_lines end bytes
 ended-append end [] bytes whole = refl
 ended-append end (l ∷ ls) bytes whole =
-    ap (ended_lines end) (ap (λ (b : List ℕ). b ++ bytes) (append_assoc l (end ∷ []) (text end ls)) ∙ append_assoc l (end ∷ text end ls) bytes) ∙ ended_first end l (text end ls ++ bytes) whole.0
-    ∙ ap (λ (more : List (List ℕ)). l ∷ more) (ended-append end ls bytes whole.1)
+    cc (append_assoc l (end ∷ []) (text end ls), append_assoc l (end ∷ text end ls) bytes, ended_first end l (text end ls ++ bytes) whole.0, ended-append end ls bytes whole.1)
 
 -- bytes that end with the end are the text of their lines
 text_of_ended : (end : ℕ) (front : List ℕ) → text end (ended_lines end (front ++ end ∷ [])) ≡ front ++ end ∷ []
-text_of_ended end front = ap (text end) ((the_ended_lines end [] tt).1 front) ∙ by_cases ((the_lines end (front ++ end ∷ [])).0.1)
-  where
-    by_cases : let bytes = front ++ end ∷ [] in ((text end (lines end bytes) ≡ bytes)
-        ⊎ ((bytes ≢ []) × ¬ EndsWithByte end bytes × (text end (lines end bytes) ≡ bytes ++ end ∷ []))) → text end (lines end bytes) ≡ bytes
-    by_cases (inl is) = is
-    by_cases (inr other) = absurd (other.1 (front, refl))
+text_of_ended end front = grind (arith, the_ended_lines end [] tt, the_lines end (front ++ end ∷ []))
 
 -- ---- lines without the delimiter
 
 free_front : (d : ℕ) (n : ℕ) (bytes : List ℕ) → IsLine d bytes → IsLine d (take n bytes)
-free_front d n [] free = take_nothing n
-  where
-    take_nothing : (m : ℕ) → IsLine d (take m [])
-    take_nothing zero = tt
-    take_nothing (suc m) = tt
+free_front d n [] free = grind (arith, common_steps)
 free_front d zero (b ∷ bytes) free = tt
 free_front d (suc n) (b ∷ bytes) free = (free.0, free_front d n bytes free.1)
 
 free_lines : (d end : ℕ) (bytes : List ℕ) → IsLine d bytes → AreLines d (ended_lines end bytes)
 free_lines d end [] free = tt
-free_lines d end (b ∷ bytes) free = by_test (b == end) (ended_lines end bytes) (free_lines d end bytes free.1)
-  where
-    by_test : (t : Bool) (ls : List (List ℕ)) → AreLines d ls → AreLines d (cond t ([] ∷ ls) (onto_line b ls))
-    by_test true ls are = (tt, are)
-    by_test false [] are = tt
-    by_test false (l ∷ ls) are = ((free.0, are.0), are.1)
+free_lines d end (b ∷ bytes) free = grind (arith, free_lines d end bytes free.1)
 
 module _ (job : Cut) (by_fields : job.fields ≡ true) where
   lines_kept : job.only ≡ false → (ls : List (List ℕ)) → AreLines job.delimiter ls → flat_map (cut_line job) ls ≡ ls
@@ -63,66 +49,62 @@ module _ (job : Cut) (by_fields : job.fields ≡ true) where
 
 -- ---- the first lines of a block
 
-module _ (job : Cut) (end : ℕ) (bytes : List ℕ) (size : ℕ) (some : 0 < size) (fits : size ≤ length bytes) (front : List (List ℕ)) (texts : text end front ≡ take size bytes)
+module _ {job : Cut} {end : ℕ} {bytes : List ℕ} {size : ℕ} (some : 0 < size) (fits : size ≤ length bytes) (front : List (List ℕ)) (texts : text end front ≡ take size bytes)
     (lines_are : ended_lines end bytes ≡ front ++ ended_lines end (drop size bytes)) where
-  puts : (old new : List ℕ) → new ≡ old ++ cut_lines job front → PutsLines job end bytes size old new
-  puts old new is = record {
+  puts : {old new : List ℕ} → new ≡ old ++ cut_lines job front → PutsLines job end bytes size old new
+  puts {old} is = record {
     some = some;
     fits = fits;
-    taken = ap (text end) lines_are ∙ text-append end front (ended_lines end (drop size bytes)) ∙ ap (λ (l : List ℕ). l ++ text end (ended_lines end (drop size bytes))) texts;
+    taken = cc (lines_are, text-append end front (ended_lines end (drop size bytes)), texts);
     on = λ more.
         let rest = ended_lines end (drop size bytes) ++ more in
-        ap (λ (l : List ℕ). old ++ l) (ap (λ (ls : List (List ℕ)). cut_lines job (ls ++ more)) lines_are
-        ∙ ap (cut_lines job) (append_assoc front (ended_lines end (drop size bytes)) more) ∙ cut_lines-append job front rest)
-        ∙ sym (append_assoc old (cut_lines job front) (cut_lines job rest)) ∙ ap (λ (l : List ℕ). l ++ cut_lines job rest) (sym is);
+        cc (lines_are, append_assoc front (ended_lines end (drop size bytes)) more, cut_lines-append job front rest, append_assoc old (cut_lines job front) (cut_lines job rest));
   }
 
-module _ (job : Cut) (by_fields : job.fields ≡ true) (end : ℕ) (same : end ≡ job.end) (bytes : List ℕ) (to : ℕ) (first : IsFirstByte (is_byte end) bytes (Some to)) where
+module _ (job : Cut) (by_fields : job.fields ≡ true) {end : ℕ} (same : end ≡ job.end) (bytes : List ℕ) (to : ℕ) (first : IsFirstByte (is_byte end) bytes (Some to)) where
   -- one line, of which these bytes are written
-  pub puts_line : (out old new : List ℕ) → cut_line job (take to bytes) ≡ out ∷ [] → new ≡ old ++ (out ++ take 1 (drop to bytes)) → PutsLines job end bytes (to + 1) old new
-  puts_line out old new is put =
-      puts job end bytes (to + 1) (omega arith) (omega (arith, first.0.high)) (take to bytes ∷ [])
-      (append-nil (take to bytes ++ end ∷ []) ∙ sym (take_end end bytes to first)) (ended_next end bytes to first) old new
-      (put ∙ ap (λ (l : List ℕ). old ++ l) (ap (λ (l : List ℕ). out ++ take 1 l) (drop_end end bytes to first) ∙ ap (λ (b : ℕ). out ++ b ∷ []) same ∙ sym (line_written job (take to bytes) out is)))
+  pub puts_line : (out : List ℕ) {old new : List ℕ} → cut_line job (take to bytes) ≡ out ∷ [] → new ≡ old ++ (out ++ take 1 (drop to bytes)) → PutsLines job end bytes (to + 1) old new
+  puts_line out is put =
+      puts (omega arith) (omega arith) (take to bytes ∷ [])
+      (append-nil (take to bytes ++ end ∷ []) ∙ sym (take_end end bytes to first)) (ended_next end bytes to first)
+      (cc (drop_end end bytes to first, line_written job (take to bytes) out is))
 
   -- all whole lines up to a place; the delimiter is not in them
-  module _ (size up_to : ℕ) (high : to < size) (fits : size ≤ length bytes) (ended : get_or bytes (size - 1) 0 ≡ end) (near : (size ≡ to + 1) ⊎ (size ≤ up_to)) (past : to ≤ up_to)
+  module _ {size up_to : ℕ} (high : to < size) (fits : size ≤ length bytes) (ended : get_or bytes (size - 1) 0 ≡ end) (near : (size ≡ to + 1) ⊎ (size ≤ up_to)) (past : to ≤ up_to)
       (free : IsLine job.delimiter (take up_to bytes)) where
     abbrev front : List (List ℕ)
     front = ended_lines end (take size bytes)
 
     is_ended : take size bytes ≡ take (size - 1) bytes ++ end ∷ []
     is_ended =
-        let whole : size - 1 + 1 ≡ size = omega (arith, high) in
-        ap (λ (n : ℕ). take n bytes) (sym whole) ∙ take_more bytes (size - 1) 0 (omega (arith, high, fits)) ∙ ap (λ (b : ℕ). take (size - 1) bytes ++ b ∷ []) ended
+        let whole : size - 1 + 1 ≡ size = omega arith in
+        cc (take_more bytes (size - 1) 0 (omega arith))
 
     texts : text end front ≡ take size bytes
-    texts = ap (λ (l : List ℕ). text end (ended_lines end l)) is_ended ∙ text_of_ended end (take (size - 1) bytes) ∙ sym is_ended
+    texts = cc (is_ended, text_of_ended end (take (size - 1) bytes))
 
     lines_are : ended_lines end bytes ≡ front ++ ended_lines end (drop size bytes)
     lines_are =
-        ap (ended_lines end) (sym (take-append-drop size bytes) ∙ ap (λ (l : List ℕ). l ++ drop size bytes) (sym texts))
-        ∙ ended-append end front (drop size bytes) (parts_of end (take size bytes)).whole
+        cc (take-append-drop size bytes, texts, ended-append end front (drop size bytes) (parts_of end (take size bytes)).whole)
 
-    free_up_to : (n : ℕ) → n ≤ up_to → IsLine job.delimiter (take n bytes)
-    free_up_to n le = subst (IsLine job.delimiter) (take-take n up_to bytes le) (free_front job.delimiter n (take up_to bytes) free)
+    free_up_to : {n : ℕ} → n ≤ up_to → IsLine job.delimiter (take n bytes)
+    free_up_to {n} le = rw (take-take n up_to bytes le) at (free_front job.delimiter n (take up_to bytes) free)
 
     are_free : ((size ≡ to + 1) ⊎ (size ≤ up_to)) → AreLines job.delimiter front
     are_free (inl one) =
         let is : front ≡ take to bytes ∷ [] =
-        ap (λ (n : ℕ). ended_lines end (take n bytes)) one ∙ ap (ended_lines end) (take_end end bytes to first) ∙ ended_first end (take to bytes) [] (before_end end bytes to first) in
-        subst (AreLines job.delimiter) (sym is) (free_up_to to past, tt)
-    are_free (inr le) = free_lines job.delimiter end (take size bytes) (free_up_to size le)
+        cc (take_end end bytes to first, ended_first end (take to bytes) [] (before_end end bytes to first)) in
+        subst (AreLines job.delimiter) (sym is) (free_up_to past, tt)
+    are_free (inr le) = free_lines job.delimiter end (take size bytes) (free_up_to le)
 
-    pub puts_kept : (old new : List ℕ) → job.only ≡ false → new ≡ old ++ take size bytes → PutsLines job end bytes size old new
-    puts_kept old new keeps put =
-        puts job end bytes size (omega (arith, high)) fits front texts lines_are old new
-        (put ∙ ap (λ (l : List ℕ). old ++ l) (sym texts ∙ ap (λ (b : ℕ). text b front) same ∙ ap (text job.end) (sym (lines_kept job by_fields keeps front (are_free near)))))
+    pub puts_kept : {old new : List ℕ} → job.only ≡ false → new ≡ old ++ take size bytes → PutsLines job end bytes size old new
+    puts_kept keeps put =
+        puts (omega arith) fits front texts lines_are (cc (texts, lines_kept job by_fields keeps front (are_free near)))
 
-    pub puts_dropped : (old : List ℕ) → job.only ≡ true → PutsLines job end bytes size old old
-    puts_dropped old only =
-        puts job end bytes size (omega (arith, high)) fits front texts lines_are old old
-        (sym (ap (λ (l : List ℕ). old ++ l) (ap (text job.end) (lines_dropped job by_fields only front (are_free near))) ∙ append-nil old))
+    pub puts_dropped : {old : List ℕ} → job.only ≡ true → PutsLines job end bytes size old old
+    puts_dropped {old} only =
+        puts (omega arith) fits front texts lines_are
+        (sym (cc (lines_dropped job by_fields only front (are_free near), append-nil old)))
 
 -- in front of the first delimiter there is none
 pub free_before : (d : ℕ) (bytes : List ℕ) (r : Option ℕ) → IsFirstByte (is_byte d) bytes r → IsLine d (take (unwrap_or r (length bytes)) bytes)
@@ -132,12 +114,12 @@ free_before d bytes (Some at) first = before_end d bytes at first
 -- the first delimiter of some bytes is the first one of the line in front that it stands in
 pub first_within : (d : ℕ) (bytes : List ℕ) (r : Option ℕ) (to : ℕ) → IsFirstByte (is_byte d) bytes r → unwrap_or r (length bytes) < to → to ≤ length bytes
     → IsFirstByte (is_byte d) (take to bytes) (Some (unwrap_or r (length bytes)))
-first_within d bytes None to none lt le = absurd (omega (arith, lt, le))
+first_within d bytes None to none lt le = absurd (omega arith)
 first_within d bytes (Some at) to first lt le = (
   record {
     low = omega arith;
-    high = omega (arith, lt, length-take-le to bytes le);
-    before = λ k low high is. first.0.before k low high (ap (is_byte d) (sym (get_or-take to bytes k 0 (omega (arith, high, lt)))) ∙ is);
+    high = omega (arith, length-take-le to bytes le);
+    before = λ k low high is. first.0.before k low high (cc (get_or-take to bytes k 0 (omega arith)));
   },
-  ap (is_byte d) (get_or-take to bytes at 0 lt) ∙ first.1,
+  cc (get_or-take to bytes at 0 lt),
 )

@@ -1,6 +1,6 @@
 -- What `cut` by fields writes of a line, by whether the delimiter is in it; and that it is a tool that works line by
 -- line. It carries nothing, so what is written of some lines and of others is what is written of both.
-use Rattle.std.proofs.Common.{◌≡◌, ℕ, ◌==◌, true, false, cond, arith, List, [], ◌∷◌, ◌++◌, refl, sym, ◌∙◌, ap, Option, None, Some}
+use Rattle.std.proofs.Common.{◌≡◌, ℕ, ◌==◌, true, false, arith, List, [], ◌∷◌, ◌++◌, refl, ◌∙◌, ap, Option, None, Some}
 use Rattle.std.specs.Option.{is_some}
 use Rattle.std.specs.List.{flat_map, list_any}
 use Rattle.std.proofs.lemmas.List.Folds.{list_any_at}
@@ -38,19 +38,18 @@ module _ (job : Cut) (by_fields : job.fields ≡ true) (line : List ℕ) where
 
 module _ (job : Cut) (line : List ℕ) where
   pub line_written : (bytes : List ℕ) → cut_line job line ≡ bytes ∷ [] → cut_lines job (line ∷ []) ≡ bytes ++ job.end ∷ []
-  line_written bytes is = ap (text job.end) (append-nil (cut_line job line) ∙ is) ∙ append-nil (bytes ++ job.end ∷ [])
+  line_written bytes is = cc (append-nil (cut_line job line), append-nil (bytes ++ job.end ∷ []))
 
   pub line_dropped : cut_line job line ≡ [] → cut_lines job (line ∷ []) ≡ []
   line_dropped is = ap (text job.end) (append-nil (cut_line job line) ∙ is)
 
 module _ (job : Cut) where
   pub cut_lines-append : (xs ys : List (List ℕ)) → cut_lines job (xs ++ ys) ≡ cut_lines job xs ++ cut_lines job ys
-  cut_lines-append xs ys = ap (λ (ls : List (List ℕ)). flat_map (λ l. l ++ job.end ∷ []) ls) (flat_map-append (cut_line job) xs ys)
-      ∙ text-append job.end (flat_map (cut_line job) xs) (flat_map (cut_line job) ys)
+  cut_lines-append xs ys = cc (flat_map-append (cut_line job) xs ys, text-append job.end (flat_map (cut_line job) xs) (flat_map (cut_line job) ys))
 
   -- all that was pushed is decided
   cut_sure : (ls : List (List ℕ)) (pushed : List ℕ) → cut_lines job (ls ++ []) ≡ pushed ++ cut_lines job [] → Begins (cut_lines job ls) pushed
-  cut_sure ls pushed on = record { rest = []; is = sym (append-nil pushed) ∙ sym on ∙ ap (cut_lines job) (append-nil ls) ∙ sym (append-nil (cut_lines job ls)) }
+  cut_sure ls pushed on = record { rest = []; is = cc (append-nil pushed, append-nil ls, append-nil (cut_lines job ls)) }
 
   pub cut_line_tool : {S : Type 0} (start : S) → job.fields ≡ true
       → IsLineTool {S = S} {X = Unit {0}} {E = ℕ} (cut_tool job) (λ room store. tt) (cut_from job) (λ bytes. bytes) (λ u. 1) job.end 1 start
@@ -61,7 +60,7 @@ module _ (job : Cut) where
     text = λ store bytes. refl;
     decided = λ store given passed now on. cut_sure (whole_lines job.end given) passed (on []);
     size = λ bytes. omega arith;
-    slots = ap (λ b. cond b 1 0) by_fields;
+    slots = cc;
     ends = refl;
     some = omega arith;
   }

@@ -1,10 +1,8 @@
 -- `cut` of a text that is cut behind a line.
-use Rattle.std.proofs.Common.{◌∙◌, ap}
 use Rattle.ptlines.specs.Text.{lines}
 use Rattle.ptlines.proofs.PartLaws.{the_lines_of_parts}
-use Rattle.ptflow.specs.Cuts.{cut_lines}
 use Rattle.ptflow.specs.Parts.{CutOfParts}
 use Rattle.ptflow.proofs.OfCut.FieldLines.{cut_lines-append}
 
 pub cut_of_parts : CutOfParts
-cut_of_parts job a b whole = ap (cut_lines job) (the_lines_of_parts job.end a b whole) ∙ cut_lines-append job (lines job.end a) (lines job.end b)
+cut_of_parts job a b whole = cc (the_lines_of_parts job.end a b whole, cut_lines-append job (lines job.end a) (lines job.end b))

@@ -4,7 +4,7 @@ use Rattle.std.proofs.Common.{◌≡◌, ℕ, ◌+◌, ◌-◌, ◌≤◌, ◌<�
 use Rattle.std.proofs.lemmas.Bool.{false≢true}
 use Rattle.std.proofs.lemmas.List.{append-nil, take_all}
 use Rattle.ptlines.specs.Readers.{Reader, Reads, Goes, IsDone, IsSound, HasReadCause}
-use Rattle.ptlines.specs.Inputs.{Given, Begins}
+use Rattle.ptlines.specs.Inputs.{Begins}
 use Rattle.ptlines.specs.Outputs.{Output, Wrote}
 use Rattle.ptlines.specs.Slots.{Slots}
 use Rattle.ptlines.proofs.Filling.{goes_trans}
@@ -20,41 +20,41 @@ use Rattle.ptflow.proofs.OfPasses.ReaderFacts.{may_come, goes_past}
 use Rattle.ptflow.proofs.OfPasses.PassLemmas.{Midway, Works, Stored, stored_nothing, reached_nothing, pass_read, pass_write, pass_done, pass_unended}
 
 -- No more is counted than was given.
-module _ (reader shown : Reader) (block : List ℕ) (goes : Goes reader shown []) (held : shown.held ≡ block) (sound : IsSound reader) (counted : ℕ)
+module _ {reader shown : Reader} {block : List ℕ} (goes : Goes reader shown []) (held : shown.held ≡ block) (sound : IsSound reader) {counted : ℕ}
     (few : counted ≤ reader.pulled - length reader.held) where
   pub counted_block : counted + length block ≤ shown.pulled
-  counted_block = omega (arith, few, sound.count, goes.reads.count, ap length held)
+  counted_block = omega (arith, ap length held)
 
-  pub counted_more : (new : Reader) (more : ℕ) → new ≡ record shown { held = drop (length block) shown.held } → more ≤ counted + length block → more ≤ new.pulled - length new.held
-  counted_more new more consumed least =
-      omega (arith, least, counted_block, ap (λ (r : Reader). r.pulled) consumed, ap (λ (r : Reader). length r.held) consumed, length-drop (length block) shown.held, ap length held)
+  pub counted_more : {new : Reader} {more : ℕ} → new ≡ record shown { held = drop (length block) shown.held } → more ≤ counted + length block → more ≤ new.pulled - length new.held
+  counted_more consumed least =
+      omega (arith, least, counted_block, ap (λ r. r.pulled) consumed, ap (λ r. length r.held) consumed, length-drop (length block) shown.held, ap length held)
 
-module _ {X : Type 0} (rest_from : X → List ℕ → List ℕ) (start : X) where
-  unfoldable pub midway_starts : (old : Reader) (was : Output) → old.fault ≡ None → was.faulted ≡ false → Midway rest_from start start old old was was
-  midway_starts old was readable clean = record { given = []; pushed = []; reached = reached_nothing old was readable clean; on = λ rest may. refl }
+unfoldable pub midway_starts : {X : Type 0} {rest_from : X → List ℕ → List ℕ} {start : X} {old : Reader} {was : Output} → old.fault ≡ None → was.faulted ≡ false
+    → Midway rest_from start start old old was was
+midway_starts {old} {was} readable clean = record { given = []; pushed = []; reached = reached_nothing old was readable clean; on = λ rest may. refl }
 
-  module _ (now : X) (old reader shown : Reader) (block : List ℕ) (was is : Output) (m : Midway rest_from start now old reader was is) (goes : Goes reader shown []) (held : shown.held ≡ block) where
-    -- the block was passed on and consumed
-    unfoldable pub midway_more : (next : X) (new : Reader) (is' : Output) → new ≡ record shown { held = drop (length block) shown.held }
-        → Continues rest_from now next block is is' → Midway rest_from start next old new was is'
-    midway_more next new is' consumed c = record {
-      given = m.given ++ block;
-      pushed = m.pushed ++ c.pushed;
-      reached = record {
-        goes = goes_trans old reader new m.given block m.reached.goes whole;
-        wrote = wrote_trans was is is' m.pushed c.pushed m.reached.clean m.reached.wrote c.wrote;
-        clean = c.clean;
-      };
-      on = λ rest may.
-          ap (rest_from start) (append_assoc m.given block rest) ∙ m.on (block ++ rest) (may_come reader new block rest whole.reads may)
-          ∙ ap (λ (l : List ℕ). m.pushed ++ l) (c.on rest) ∙ sym (append_assoc m.pushed c.pushed (rest_from next rest));
-    }
-      where
-        whole : Goes reader new block
-        whole = subst (λ (b : List ℕ). Goes reader new b) (take_all (length block) block (omega arith)) (goes_past reader shown new block (length block) goes held (omega arith) consumed)
+module _ {X : Type 0} {rest_from : X → List ℕ → List ℕ} {start : X} {now : X} {old reader shown : Reader} {block : List ℕ} {was is : Output}
+    (m : Midway rest_from start now old reader was is) (goes : Goes reader shown []) (held : shown.held ≡ block) where
+  -- the block was passed on and consumed
+  unfoldable pub midway_more : {next : X} {new : Reader} {is' : Output} → new ≡ record shown { held = drop (length block) shown.held }
+      → Continues rest_from now next block is is' → Midway rest_from start next old new was is'
+  midway_more {next} {new} consumed c = record {
+    given = m.given ++ block;
+    pushed = m.pushed ++ c.pushed;
+    reached = record {
+      goes = goes_trans _ _ _ _ _ m.reached.goes whole;
+      wrote = wrote_trans _ _ _ _ _ m.reached.clean m.reached.wrote c.wrote;
+      clean = c.clean;
+    };
+    on = λ rest may.
+        cc (append_assoc m.given block rest, m.on (block ++ rest) (may_come _ _ _ rest whole.reads may), c.on rest, append_assoc m.pushed c.pushed (rest_from next rest));
+  }
+    where
+      whole : Goes reader new block
+      whole = rw (take_all (length block) block (omega arith)) at (goes_past (length block) goes held (omega arith) consumed)
 
-module _ {X : Type 0} (tool : Tool) (rest_from : X → List ℕ → List ℕ) (Holds : X → X → Type 0) (start : X) (b : IsBlockTool tool rest_from Holds start)
-    (now : X) (old reader new : Reader) (was is : Output) (store : Slots)
+module _ {X : Type 0} {tool : Tool} {rest_from : X → List ℕ → List ℕ} {Holds : X → X → Type 0} {start : X} (b : IsBlockTool tool rest_from Holds start)
+    {now : X} {old reader new : Reader} {was is : Output} {store : Slots}
     (m : Midway rest_from start now old reader was is) (ready : IsReady old store) (sound : IsSound reader) (reads : Reads reader new []) (is_sound : IsSound new) (holds : Holds start now)
     (all : (rest : List ℕ) → rest_from start (m.given ++ rest) ≡ m.pushed ++ rest_from now rest) where
   -- what was passed on before this block
@@ -63,40 +63,40 @@ module _ {X : Type 0} (tool : Tool) (rest_from : X → List ℕ → List ℕ) (H
     before = λ u. record {
       earlier = record { bytes = m.given; ended = false };
       last = new.held;
-      split = ap (λ (l : List ℕ). l ++ new.held) (append-nil m.given);
-      short = omega (arith, is_sound.held);
+      split = cc (append-nil m.given);
+      short = omega arith;
       ended = λ never. absurd (false≢true never);
     };
     begins = b.decided m.given m.pushed now holds all;
   }
 
   stored : Stored tool store store (given_of (m.given ++ []) new)
-  stored = stored_nothing tool store (given_of (m.given ++ []) new) b.slots
+  stored = stored_nothing b.slots
 
   pub block_read : HasReadCause reader new → IsPass tool old new was is store store (Err (Read 0))
-  block_read cause = pass_read rest_from start tool b.text now old reader new was is store store m ready sound [] reads stored works cause ready.roomy decided
+  block_read cause = pass_read b.text m ready sound reads stored works cause ready.roomy decided
     where
       decided : new.held ≡ [] → new.ended ≡ false → Begins (tool.decided (given_of (m.given ++ []) new)) m.pushed
       decided empty going =
-          subst (λ (g : Given). Begins (tool.decided g) m.pushed) (λ i. record
-          { bytes = (sym (append-nil m.given) ∙ sym (append-nil (m.given ++ [])) ∙ ap (λ (l : List ℕ). (m.given ++ []) ++ l) (sym empty)) i; ended = sym going i })
+          subst (λ g. Begins (tool.decided g) m.pushed) (λ i. record
+          { bytes = (sym (append-nil m.given) ∙ sym (append-nil (m.given ++ [])) ∙ ap (◌++◌ (m.given ++ [])) (sym empty)) i; ended = sym going i })
           (b.decided m.given m.pushed now holds all)
 
   -- a write failed amid the block that is held
-  pub block_write : (is' : Output) (block : List ℕ) → new.held ≡ block → Halts rest_from now block is is' → new.failed ≡ reader.failed
+  pub block_write : {is' : Output} {block : List ℕ} → new.held ≡ block → Halts rest_from now block is is' → new.failed ≡ reader.failed
       → IsPass tool old new was is' store store (Err Write)
-  block_write is' block held h same =
-      pass_write rest_from start tool b.text now old reader new was is store store m ready sound [] reads stored works is' h.pushed h.wrote h.fault same ready.roomy
-      (λ rest may. subst (λ (l : List ℕ). Begins h.pushed (rest_from now (l ++ rest))) (sym held) (h.true_so_far rest))
+  block_write held h same =
+      pass_write b.text m ready sound reads stored works h.wrote h.fault same ready.roomy
+      (λ rest may. rw held (h.true_so_far rest))
 
   -- what was staged could not be sent
-  pub block_unsent : (is' : Output) → Wrote is is' [] → is'.faulted ≡ true → new.failed ≡ reader.failed → IsPass tool old new was is' store store (Err Write)
-  block_unsent is' wrote fault same = block_write is' new.held refl (halts_before rest_from now new.held is is' wrote fault) same
+  pub block_unsent : {is' : Output} → Wrote is is' [] → is'.faulted ≡ true → new.failed ≡ reader.failed → IsPass tool old new was is' store store (Err Write)
+  block_unsent wrote fault same = block_write refl (halts_before rest_from now new.held wrote fault) same
 
-  module _ (is' : Output) (wrote : Wrote is is' (rest_from now [])) (done : IsDone new) (same : new.failed ≡ reader.failed) where
+  module _ {is' : Output} (wrote : Wrote is is' (rest_from now [])) (done : IsDone new) (same : new.failed ≡ reader.failed) where
     pub block_done : is'.faulted ≡ false → new.fault ≡ None → new.pulled < 2 ^ 63 → IsPass tool old new was is' store store (Ok tt)
-    block_done fine fault short = pass_done rest_from start tool b.text now old reader new was is store store m ready sound [] reads stored works is' wrote
+    block_done fine fault short = pass_done b.text m ready sound reads stored works wrote
         done refl same ready.roomy fine fault short ready.empty
 
     pub block_unended : is'.faulted ≡ true → IsPass tool old new was is' store store (Err Write)
-    block_unended fault = pass_unended rest_from start tool b.text now old reader new was is store store m ready sound [] reads stored works is' wrote done refl same ready.roomy fault
+    block_unended fault = pass_unended b.text m ready sound reads stored works wrote done refl same ready.roomy fault

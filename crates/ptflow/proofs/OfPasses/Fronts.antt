@@ -1,5 +1,5 @@
 -- Bytes that are pushed piece by piece: a front of them was, and the rest is to come.
-use Rattle.std.proofs.Common.{◌≡◌, ℕ, false, true, List, [], ◌++◌, sym, ◌∙◌, ap, subst, append_assoc}
+use Rattle.std.proofs.Common.{◌≡◌, ℕ, false, true, List, [], ◌++◌, sym, subst, append_assoc}
 use Rattle.ptlines.specs.Outputs.{Output, Wrote}
 use Rattle.ptlines.proofs.Pushed.{wrote_nothing, wrote_trans, wrote_past}
 
@@ -9,23 +9,20 @@ pub record Front (whole rest : List ℕ) (was is : Output) : Type 0 where
   pub clean : is.faulted ≡ false
   pub split : whole ≡ pushed ++ rest
 
-pub front_starts : (whole rest : List ℕ) (was : Output) → whole ≡ rest → was.faulted ≡ false → Front whole rest was was
-front_starts whole rest was same clean = record { pushed = []; wrote = wrote_nothing was; clean = clean; split = same }
+pub front_starts : {whole rest : List ℕ} {was : Output} → whole ≡ rest → was.faulted ≡ false → Front whole rest was was
+front_starts {was} same clean = record { pushed = []; wrote = wrote_nothing was; clean = clean; split = same }
 
-module _ (whole rest : List ℕ) (was is : Output) (f : Front whole rest was is) where
-  pub front_same : (other : List ℕ) → rest ≡ other → Front whole other was is
-  front_same other same = record { pushed = f.pushed; wrote = f.wrote; clean = f.clean; split = f.split ∙ ap (λ (l : List ℕ). f.pushed ++ l) same }
-
-  module _ (is' : Output) (bytes more : List ℕ) (same : rest ≡ bytes ++ more) (wrote : Wrote is is' bytes) where
+module _ {whole rest : List ℕ} {was is : Output} (f : Front whole rest was is) where
+  module _ {is' : Output} {bytes : List ℕ} (more : List ℕ) (same : rest ≡ bytes ++ more) (wrote : Wrote is is' bytes) where
     all_split : whole ≡ (f.pushed ++ bytes) ++ more
-    all_split = f.split ∙ ap (λ (l : List ℕ). f.pushed ++ l) same ∙ sym (append_assoc f.pushed bytes more)
+    all_split = cc (append_assoc f.pushed bytes more)
 
     pub front_more : is'.faulted ≡ false → Front whole more was is'
-    front_more clean = record { pushed = f.pushed ++ bytes; wrote = wrote_trans was is is' f.pushed bytes f.clean f.wrote wrote; clean = clean; split = all_split }
+    front_more clean = record { pushed = f.pushed ++ bytes; wrote = wrote_trans _ _ _ _ _ f.clean f.wrote wrote; clean = clean; split = all_split }
 
     pub front_fails : is'.faulted ≡ true → Wrote was is' whole
-    front_fails fault = subst (λ (b : List ℕ). Wrote was is' b) (sym all_split) (wrote_past was is' (f.pushed ++ bytes) more fault (wrote_trans was is is' f.pushed bytes f.clean f.wrote wrote))
+    front_fails fault = rw all_split (wrote_past _ _ _ more fault (wrote_trans _ _ _ _ _ f.clean f.wrote wrote))
 
   -- all that was to come was pushed
-  pub front_ends : (is' : Output) (bytes : List ℕ) → rest ≡ bytes → Wrote is is' bytes → Wrote was is' whole
-  front_ends is' bytes same wrote = subst (λ (b : List ℕ). Wrote was is' b) (sym (f.split ∙ ap (λ (l : List ℕ). f.pushed ++ l) same)) (wrote_trans was is is' f.pushed bytes f.clean f.wrote wrote)
+  pub front_ends : {is' : Output} {bytes : List ℕ} → rest ≡ bytes → Wrote is is' bytes → Wrote was is' whole
+  front_ends {is'} same wrote = subst (Wrote was is') (sym (cc)) (wrote_trans _ _ _ _ _ f.clean f.wrote wrote)

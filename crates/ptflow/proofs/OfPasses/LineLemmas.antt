@@ -1,10 +1,10 @@
 -- A tool that works line by line, whatever it carries. What was passed on of the lines that came, and what is made of
 -- the lines to come, is the whole, whatever comes; so midway it is what PassLemmas asks for.
-use Rattle.std.proofs.Common.{◌≡◌, Bool, ℕ, ◌+◌, ◌-◌, ◌*◌, ◌≤◌, ◌^◌, true, false, List, [], ◌∷◌, ◌++◌, Ok, Err, length, drop, max, refl, sym, ◌∙◌, ap, subst, arith, append_assoc, length-append}
+use Rattle.std.proofs.Common.{◌≡◌, Bool, ℕ, ◌+◌, ◌-◌, ◌*◌, ◌≤◌, ◌^◌, true, false, List, [], ◌∷◌, ◌++◌, Ok, Err, length, drop, max, refl, ◌∙◌, ap, subst, arith, append_assoc, length-append}
 use Rattle.std.proofs.Math.Nat.{mul-le-mul_left}
 use Rattle.std.proofs.lemmas.Bool.{false≢true}
 use Rattle.std.proofs.lemmas.List.{nil_from_length, get_or-set_same}
-use Rattle.ptlines.specs.Text.{text, lines, ended_lines, IsLine, longest, longest_line}
+use Rattle.ptlines.specs.Text.{lines, ended_lines, IsLine, longest, longest_line}
 use Rattle.ptlines.specs.Inputs.{Given, whole_lines, Begins, Agrees}
 use Rattle.ptlines.specs.Outputs.{Output, Wrote}
 use Rattle.ptlines.specs.Readers.{Reader, Reads, Goes, IsDone, IsSound, HasReadCause}
@@ -41,8 +41,7 @@ pub record LineRun {S X E : Type 0} (state : S → Slots → X) (rest_from : X �
 -- what `fill` says where a line came, of the slot before this many
 pub came_line : {slots width : ℕ} {came : Bool} {old new : Reader} {before after : Slots} → slots ≡ width → came ≡ true → Fills old new before after (slots - 1) (Ok came)
     → GivesLine old new before after (width - 1)
-came_line {slots} {width} {came} {old} {new} {before} {after} same is fills =
-    subst (λ (n : ℕ). GivesLine old new before after (n - 1)) same (subst (λ (b : Bool). Fills old new before after (slots - 1) (Ok b)) is fills)
+came_line same is fills = rw same at (rw is at fills)
 
 module _ {S X E : Type 0} {tool : Tool} {state : S → Slots → X} {rest_from : X → List (List ℕ) → List E} {written : List E → List ℕ} {counted : X → ℕ} {end width : ℕ} {start : S}
     (t : IsLineTool tool state rest_from written counted end width start) where
@@ -68,7 +67,7 @@ module _ {S X E : Type 0} {tool : Tool} {state : S → Slots → X} {rest_from :
       passed = [];
       ending = ends;
       came = lines_none end old;
-      reached = subst (λ (b : List ℕ). Reached old old was was [] b) (sym none_written) (reached_nothing old was ready.readable clean);
+      reached = rw none_written (reached_nothing old was ready.readable clean);
       first = store;
       on = λ more. refl;
       count = omega (arith, t.fresh store);
@@ -80,19 +79,19 @@ module _ {S X E : Type 0} {tool : Tool} {state : S → Slots → X} {rest_from :
         → IsPass tool old old was was before store (Err Memory)
     run_unslotted {store} ends ready sound clean adds same denied =
         let nothing : Given = record { bytes = []; ended = false } in
-        pass_unslotted tool old was before store ready sound clean (subst (λ (n : ℕ). Adds before store n) (sym t.slots) adds) same denied (omega (arith, t.slots, t.some)) (ends ∙ sym t.ends)
-        (subst (λ (b : List ℕ). Begins (tool.decided nothing) b) none_written (t.decided store nothing [] (state start store) (λ more. refl)))
+        pass_unslotted tool was ready sound clean (rw t.slots adds) same denied (omega arith) (cc)
+        (rw none_written at (t.decided store nothing [] (state start store) (λ more. refl)))
 
     module _ {now : X} {reader : Reader} {is : Output} {store : Slots} (r : Run old reader was is before store now) where
       -- what was staged was sent
       pub run_sent : {is' : Output} → Wrote is is' [] → is'.faulted ≡ false → Run old reader was is' before store now
-      run_sent {is'} wrote clean = record {
+      run_sent wrote clean = record {
         given = r.given;
         ls = r.ls;
         passed = r.passed;
         ending = r.ending;
         came = r.came;
-        reached = reached_sent old reader was is is' r.given (written r.passed) r.reached wrote clean;
+        reached = reached_sent r.reached wrote clean;
         first = r.first;
         on = r.on;
         count = r.count;
@@ -104,41 +103,40 @@ module _ {S X E : Type 0} {tool : Tool} {state : S → Slots → X} {rest_from :
 
       -- all that came is counted
       pub run_count : IsSound old → IsSound reader → counted now ≤ 2 ^ 63
-      run_count sound is_sound = omega (arith, r.count, lines_few end reader r.given r.ls r.came, r.reached.goes.reads.count, sound.count, is_sound.long r.reached.goes.fault, is_sound.count)
+      run_count sound is_sound = omega (arith, lines_few _ _ _ _ r.came, is_sound.long r.reached.goes.fault)
 
       -- some lines more came
-      run_more : {new : Reader} (bytes : List ℕ) (ls : List (List ℕ)) → Goes reader new bytes → LinesCame end new (r.given ++ bytes) (r.ls ++ ls)
+      run_more : {new : Reader} {bytes : List ℕ} (ls : List (List ℕ)) → Goes reader new bytes → LinesCame end new (r.given ++ bytes) (r.ls ++ ls)
           → {after : Slots} → Keeps width (max (longest r.ls) (longest ls)) before after
           → {next : X} {is' : Output} → On now next ls is is' → Run old new was is' before after next
-      run_more {new} bytes ls goes came {after} keeps {next} {is'} c = record {
+      run_more {bytes} ls goes came keeps {next} c = record {
         given = r.given ++ bytes;
         ls = r.ls ++ ls;
         passed = r.passed ++ c.passed;
         ending = r.ending;
         came = came;
         reached = record {
-          goes = goes_trans old reader new r.given bytes r.reached.goes goes;
-          wrote = subst (λ (b : List ℕ). Wrote was is' b) (sym (t.apart r.passed c.passed)) (wrote_trans was is is' (written r.passed) (written c.passed) r.reached.clean r.reached.wrote c.wrote);
+          goes = goes_trans _ _ _ _ _ r.reached.goes goes;
+          wrote = rw (t.apart r.passed c.passed) (wrote_trans _ _ _ _ _ r.reached.clean r.reached.wrote c.wrote);
           clean = c.clean;
         };
         first = r.first;
         on = λ more.
-            ap (rest_from (state start r.first)) (append_assoc r.ls ls more) ∙ r.on (ls ++ more) ∙ ap (λ (l : List E). r.passed ++ l) (c.on more)
-            ∙ sym (append_assoc r.passed c.passed (rest_from next more));
-        count = omega (arith, r.count, c.count, length-append r.ls ls);
-        keeps = keeps_more width (max (longest r.ls) (longest ls)) (longest (r.ls ++ ls)) before after keeps (omega (arith, longest-append r.ls ls));
+            cc (append_assoc r.ls ls more, r.on (ls ++ more), c.on more, append_assoc r.passed c.passed (rest_from next more));
+        count = omega (arith, length-append r.ls ls);
+        keeps = keeps_more (longest (r.ls ++ ls)) keeps (omega (arith, longest-append r.ls ls));
       }
 
       -- the lines of a block came, and were consumed
       pub run_block : {ending : ℕ} → ending ≡ old.ending → {shown new : Reader} {block : List ℕ} {count : ℕ} → Goes reader shown [] → shown.held ≡ block
           → PassesLines ending block count → new ≡ record shown { held = drop count shown.held }
           → {next : X} {is' : Output} → On now next (ended_lines ending block) is is' → Run old new was is' before store next
-      run_block {ending} ends {shown} {new} {block} {count} goes held passed consumed {next} {is'} c =
+      run_block ends {new} {block} goes held passed consumed c =
           let ls = ended_lines end block in
           let same = ends ∙ r.ending in
-          let front = subst (λ (b : List ℕ). Goes reader new b) (passed.1 ∙ ap (λ (b : ℕ). text b (ended_lines b block)) same) (goes_past reader shown new block count goes held passed.0 consumed) in
-          run_more (text end ls) ls front (lines_block end reader r.given r.ls r.came new ls front (parts_of end block).whole)
-          (keeps_more width (longest r.ls) (max (longest r.ls) (longest ls)) before store r.keeps (omega arith)) (subst (λ (b : ℕ). On now next (ended_lines b block) is is') same c)
+          let front = subst (Goes reader new) (cc) (goes_past _ goes held passed.0 consumed) in
+          run_more ls front (lines_block r.came ls front (parts_of end block).whole)
+          (keeps_more (max (longest r.ls) (longest ls)) r.keeps (omega arith)) (rw same at c)
 
       -- ---- how it ends
 
@@ -151,109 +149,105 @@ module _ {S X E : Type 0} {tool : Tool} {state : S → Slots → X} {rest_from :
         pushed = written r.passed;
         reached = r.reached;
         on = λ rest may.
-            ap (λ (l : List (List ℕ)). written (rest_from (state start r.first) l)) (lines_on end reader r.given r.ls r.came rest may) ∙ ap written (r.on (lines end rest))
-            ∙ t.apart r.passed (rest_from now (lines end rest));
+            cc (lines_on _ _ _ _ r.came rest may, r.on (lines end rest), t.apart r.passed (rest_from now (lines end rest)));
       }
 
       -- what is decided of the lines so far was passed on
       decided_so : (given : Given) → whole_lines end given ≡ r.ls → Begins (tool.decided given) (written r.passed)
-      decided_so given are = t.decided r.first given r.passed now (λ more. ap (λ (l : List (List ℕ)). rest_from (state start r.first) (l ++ more)) are ∙ r.on more)
+      decided_so given are = t.decided r.first given r.passed now (λ more. cc (r.on more))
 
       -- and behind them no more than a line and a block came
-      works_line : (new : Reader) (piece : List ℕ) → Reads reader new piece → (line behind : List ℕ) → piece ++ new.held ≡ line ++ behind → IsLine end line
+      works_line : {new : Reader} {piece : List ℕ} → Reads reader new piece → (line behind : List ℕ) → piece ++ new.held ≡ line ++ behind → IsLine end line
           → length behind ≤ 8193 → Works tool (given_of (r.given ++ piece) new) (written r.passed)
-      works_line new piece reads line behind is_line whole short =
-          let e = before_line end reader new r.given r.ls r.came piece reads line behind is_line whole short in
+      works_line reads line behind is_line whole short =
+          let e = before_line r.came reads line behind is_line whole short in
           record { before = λ u. e.before; begins = decided_so e.before.earlier e.whole }
 
-      works_piece : (new : Reader) (piece : List ℕ) → Reads reader new piece → IsLine end piece → IsSound new → Works tool (given_of (r.given ++ piece) new) (written r.passed)
-      works_piece new piece reads free is_sound = works_line new piece reads piece new.held refl free (omega (arith, is_sound.held))
+      works_piece : {new : Reader} {piece : List ℕ} → Reads reader new piece → IsLine end piece → IsSound new → Works tool (given_of (r.given ++ piece) new) (written r.passed)
+      works_piece {new} {piece} reads free is_sound = works_line reads piece new.held refl free (omega arith)
 
       -- the slots hold no more than the longest line of each input that agrees
       stored : (after : Slots) (most : ℕ) (given : Given) → after.peak ≤ max before.peak (width * most) → Adds before after width → width ≤ length after.lines
           → ((input : List ℕ) → Agrees given input → most ≤ longest_line end input) → Stored tool before after given
       stored after most given peak adds room short = record {
-        peak = λ input a. omega (arith, t.size input, peak, mul-le-mul_left width (short input a));
-        adds = subst (λ (n : ℕ). Adds before after n) (sym t.slots) adds;
-        room = omega (arith, room, t.slots);
-        unused = λ none. absurd (omega (arith, none, t.slots, t.some));
+        peak = λ input a. omega (arith, t.size input, mul-le-mul_left width (short input a));
+        adds = rw t.slots adds;
+        room = omega arith;
+        unused = λ none. absurd (omega arith);
       }
 
-      kept : (after : Slots) (most : ℕ) (given : Given) → Keeps width most before after → ((input : List ℕ) → Agrees given input → most ≤ longest_line end input) → Stored tool before after given
-      kept after most given k = stored after most given k.peak k.adds (omega (arith, k.adds.all k.denied))
+      kept : {after : Slots} {most : ℕ} (given : Given) → Keeps width most before after → ((input : List ℕ) → Agrees given input → most ≤ longest_line end input) → Stored tool before after given
+      kept {most} given k = stored _ most given k.peak k.adds (omega (arith, k.adds.all k.denied))
 
-      keeps_last : (after : Slots) (bytes : List ℕ) → after ≡ with_line store (width - 1) bytes → Keeps width (max (longest r.ls) (length bytes)) before after
-      keeps_last after bytes told =
+      keeps_last : {after : Slots} (bytes : List ℕ) → after ≡ with_line store (width - 1) bytes → Keeps width (max (longest r.ls) (length bytes)) before after
+      keeps_last bytes told =
           let most = max (longest r.ls) (length bytes) in
-          keeps_line width most before store after (width - 1) bytes (keeps_more width (longest r.ls) most before store r.keeps (omega arith)) (omega (arith, t.some)) (omega arith) told
+          keeps_line _ (width - 1) bytes (keeps_more most r.keeps (omega arith)) (omega (arith, t.some)) (omega arith) told
 
       module _ (ready : IsReady old before) (sound : IsSound reader) where
         -- a beginning of a line came
         module _ {new : Reader} {piece : List ℕ} (reads : Reads reader new piece) (free : IsLine end piece) (is_sound : IsSound new) where
           short_piece : (input : List ℕ) → Agrees (given_of (r.given ++ piece) new) input → max (longest r.ls) (length piece) ≤ longest_line end input
-          short_piece = piece_longest end reader r.given r.ls r.came new piece reads free
+          short_piece = piece_longest _ _ _ _ r.came _ _ reads free
 
           -- and a read failed
           pub run_read : {after : Slots} → Keeps width (max (longest r.ls) (length piece)) before after → HasReadCause reader new → IsPass tool old new was is before after (Err (Read 0))
           unfolding midway
-          run_read {after} k cause =
-              pass_read bytes_from (state start r.first) tool (t.text r.first) now old reader new was is before after midway ready sound piece reads
-              (kept after (max (longest r.ls) (length piece)) (given_of (r.given ++ piece) new) k short_piece) (works_piece new piece reads free is_sound) cause k.denied
-              (λ empty going. decided_so (given_of (r.given ++ piece) new) (whole_before end reader r.given r.ls r.came new piece reads free empty going))
+          run_read k cause =
+              pass_read (t.text r.first) midway ready sound reads
+              (kept (given_of (r.given ++ piece) new) k short_piece) (works_piece reads free is_sound) cause k.denied
+              (λ empty going. decided_so (given_of (r.given ++ piece) new) (whole_before _ _ _ _ r.came _ _ reads free empty going))
 
           pub run_broken : {after : Slots} → after ≡ with_line store (width - 1) piece → HasReadCause reader new → IsPass tool old new was is before after (Err (Read 0))
-          run_broken {after} told = run_read (keeps_last after piece told)
+          run_broken told = run_read (keeps_last piece told)
 
           -- and a growth was refused
           pub run_memory : {after : Slots} → after ≡ with_denied (with_line store (width - 1) piece) → new.failed ≡ reader.failed → IsPass tool old new was is before after (Err Memory)
           unfolding midway
           run_memory {after} told same =
-              let k = keeps_last (with_line store (width - 1) piece) piece refl in
-              let denied : after.denied ≡ true = ap (λ (s : Slots). s.denied) told in
-              let size : length after.lines ≡ length (with_line store (width - 1) piece).lines = ap (λ (s : Slots). length s.lines) told in
-              pass_memory bytes_from (state start r.first) tool (t.text r.first) now old reader new was is before after midway ready sound piece reads
-              (stored after (max (longest r.ls) (length piece)) (given_of (r.given ++ piece) new) (omega (arith, k.peak, ap (λ (s : Slots). s.peak) told))
-              (record { least = omega (arith, size, k.adds.least); most = omega (arith, size, k.adds.most); all = λ allowed. absurd (false≢true (sym allowed ∙ denied)) })
-              (omega (arith, size, k.adds.all k.denied)) short_piece)
-              (works_piece new piece reads free is_sound) same denied
+              let k = keeps_last piece refl in
+              let denied : after.denied ≡ true = cc in
+              let size : length after.lines ≡ length (with_line store (width - 1) piece).lines = cc in
+              pass_memory (t.text r.first) midway ready sound reads
+              (stored after (max (longest r.ls) (length piece)) (given_of (r.given ++ piece) new) (omega (arith, k.peak, ap (λ s. s.peak) told))
+              (record { least = omega (arith, k.adds.least); most = omega (arith, k.adds.most); all = λ allowed. absurd (false≢true (cc)) })
+              (omega (arith, k.adds.all k.denied)) short_piece) (works_piece reads free is_sound) same denied
 
         -- a block could not be read
         pub run_no_block : {new : Reader} → Reads reader new [] → IsSound new → HasReadCause reader new → IsPass tool old new was is before store (Err (Read 0))
-        run_no_block reads is_sound = run_read reads tt is_sound (keeps_more width (longest r.ls) (max (longest r.ls) 0) before store r.keeps (omega arith))
+        run_no_block reads is_sound = run_read reads tt is_sound (keeps_more (max (longest r.ls) 0) r.keeps (omega arith))
 
         -- a write failed amid some lines, which stand in front of what comes next
-        halts : {new : Reader} (piece : List ℕ) → Reads reader new piece → {after : Slots} → Stored tool before after (given_of (r.given ++ piece) new)
+        halts : {new : Reader} {piece : List ℕ} → Reads reader new piece → {after : Slots} → Stored tool before after (given_of (r.given ++ piece) new)
             → Works tool (given_of (r.given ++ piece) new) (written r.passed) → new.failed ≡ reader.failed → after.denied ≡ false
             → {ls : List (List ℕ)} {is' : Output} → Halt now ls is is'
             → ((rest : List ℕ) → (new.ended ≡ true → rest ≡ []) → (more : List (List ℕ)) × (lines end (piece ++ (new.held ++ rest)) ≡ ls ++ more))
             → IsPass tool old new was is' before after (Err Write)
         unfolding midway
-        halts {new} piece reads {after} s works same roomy {ls} {is'} h front =
-            pass_write bytes_from (state start r.first) tool (t.text r.first) now old reader new was is before after midway ready sound piece reads
-            s works is' (written h.passed) h.wrote h.fault same roomy
-            (λ rest may.
+        halts reads s works same roomy h front =
+            pass_write (t.text r.first) midway ready sound reads s works h.wrote h.fault same roomy (λ rest may.
             let f = front rest may in
             let on = h.true_so_far f.0 in record {
               rest = written on.0;
-              is = ap (λ (l : List (List ℕ)). written (rest_from now l)) f.1 ∙ ap written on.1 ∙ t.apart h.passed on.0;
+              is = cc (t.apart h.passed on.0);
             })
 
         -- the lines of a block
         pub run_block_halts : {ending : ℕ} → ending ≡ old.ending → {shown : Reader} {block : List ℕ} → IsSound shown → Goes reader shown [] → shown.held ≡ block
             → {is' : Output} → Halt now (ended_lines ending block) is is' → IsPass tool old shown was is' before store (Err Write)
-        run_block_halts {ending} ends {shown} {block} is_sound goes held {is'} h =
-            halts [] goes.reads (kept store (max (longest r.ls) 0) (given_of (r.given ++ []) shown) (keeps_more width (longest r.ls) (max (longest r.ls) 0) before store r.keeps (omega arith))
+        run_block_halts ends {shown} {block} is_sound goes held {is'} h =
+            halts goes.reads (kept (given_of (r.given ++ []) shown) (keeps_more (max (longest r.ls) 0) r.keeps (omega arith))
             (short_piece goes.reads tt is_sound))
-            (works_piece shown [] goes.reads tt is_sound) goes.failed r.keeps.denied (subst (λ (b : ℕ). Halt now (ended_lines b block) is is') (ends ∙ r.ending) h)
-            (λ rest may. (lines end ((parts_of end block).piece ++ rest), ap (λ (l : List ℕ). lines end (l ++ rest)) held ∙ ended_front end block rest))
+            (works_piece goes.reads tt is_sound) goes.failed r.keeps.denied (subst (λ b. Halt now (ended_lines b block) is is') (ends ∙ r.ending) h)
+            (λ rest may. (lines end ((parts_of end block).piece ++ rest), cc (ended_front end block rest)))
 
         -- what was staged could not be sent
         pub run_unsent : {is' : Output} → Wrote is is' [] → is'.faulted ≡ true → IsPass tool old reader was is' before store (Err Write)
-        run_unsent {is'} wrote fault =
+        run_unsent wrote fault =
             run_block_halts refl sound (goes_nothing reader r.reached.goes.fault) refl
             (record {
               passed = [];
-              wrote = subst (λ (b : List ℕ). Wrote is is' b) (sym none_written) wrote;
+              wrote = rw (← none_written) at wrote;
               fault = fault;
               true_so_far = λ more. (rest_from now (ended_lines old.ending reader.held ++ more), refl);
             })
@@ -263,10 +257,10 @@ module _ {S X E : Type 0} {tool : Tool} {state : S → Slots → X} {rest_from :
     module _ {now : S} {reader : Reader} {is : Output} {store : Slots} (r : Run old reader was is before store (state now store)) where
       -- the slot has these bytes, and the state is as it was
       filled : {after : Slots} (bytes : List ℕ) → after ≡ with_line store (width - 1) bytes → line after (width - 1) ≡ bytes
-      filled bytes told = ap (λ (s : Slots). line s (width - 1)) told ∙ get_or-set_same store.lines (width - 1) bytes [] (omega (arith, run_room r, t.some))
+      filled bytes told = cc (get_or-set_same store.lines (width - 1) bytes [] (omega (arith, run_room r)))
 
       same_state : {after : Slots} (bytes : List ℕ) → after ≡ with_line store (width - 1) bytes → state now after ≡ state now store
-      same_state bytes told = ap (state now) told ∙ t.stays now store bytes (run_room r)
+      same_state bytes told = cc (t.stays now store bytes (run_room r))
 
       -- the state is counted as before
       pub filled_count : IsSound old → IsSound reader → {after : Slots} (bytes : List ℕ) → after ≡ with_line store (width - 1) bytes → counted (state now after) ≤ 2 ^ 63
@@ -278,49 +272,47 @@ module _ {S X E : Type 0} {tool : Tool} {state : S → Slots → X} {rest_from :
             → Run old new was is' before after' next
         run_line {next} {is'} {after'} c swapped =
             let most = max (longest r.ls) (longest (e.line ∷ [])) in
-            run_more r (e.line ++ e.ending) (e.line ∷ []) e.goes (lines_more end reader r.given r.ls r.came new store after (width - 1) e (r.reached.goes.reads.ending ∙ r.ending))
-            (keeps_swapped width most before after after' t.some (keeps_more width (max (longest r.ls) (length e.line)) most before after (keeps_last r after e.line e.stored) (omega arith)) swapped)
-            (subst (λ (x : X). On x next (e.line ∷ []) is is') (same_state e.line e.stored) (subst (λ (l : List ℕ). On (state now after) next (l ∷ []) is is') (filled e.line e.stored) c))
+            run_more r (e.line ∷ []) e.goes (lines_more _ _ _ _ r.came _ _ _ _ e (r.reached.goes.reads.ending ∙ r.ending))
+            (keeps_swapped after' t.some (keeps_more most (keeps_last r e.line e.stored) (omega arith)) swapped)
+            (subst (λ x. On x next (e.line ∷ []) is is') (same_state e.line e.stored) (subst (λ l. On (state now after) next (l ∷ []) is is') (filled e.line e.stored) c))
 
         -- a write failed
         pub run_line_halts : IsReady old before → IsSound reader → IsSound new → {is' : Output} → Halt (state now after) (line after (width - 1) ∷ []) is is'
             → IsPass tool old new was is' before after (Err Write)
-        run_line_halts ready sound is_sound {is'} h =
+        run_line_halts ready sound is_sound h =
             let came = e.line ++ e.ending in
             let ends = r.reached.goes.reads.ending ∙ r.ending in
-            let more = lines_more end reader r.given r.ls r.came new store after (width - 1) e ends in
-            let k = keeps_last r after e.line e.stored in
-            halts r ready sound came e.goes.reads (kept r after (longest (r.ls ++ e.line ∷ [])) (given_of (r.given ++ came) new)
-            (keeps_more width (max (longest r.ls) (length e.line)) (longest (r.ls ++ e.line ∷ [])) before after k (omega (arith, longest-append r.ls (e.line ∷ []))))
-            (came_longest end new (r.given ++ came) (r.ls ++ e.line ∷ []) more))
-            (works_line r new came e.goes.reads e.line (e.ending ++ new.held) (append_assoc e.line e.ending new.held) (subst (λ (b : ℕ). IsLine b e.line) ends e.whole)
-            (behind_line reader new store after (width - 1) e is_sound)) e.goes.failed k.denied
-            (subst (λ (x : X). Halt x (e.line ∷ []) is is') (same_state e.line e.stored) (subst (λ (l : List ℕ). Halt (state now after) (l ∷ []) is is') (filled e.line e.stored) h))
-            (λ rest may.
-            (lines end (new.held ++ rest), line_front end reader r.given r.ls r.came new store after (width - 1) e ends (new.held ++ rest) (λ done. λ i. done.held i ++ may done.ended i)))
+            let more = lines_more _ _ _ _ r.came _ _ _ _ e ends in
+            let k = keeps_last r e.line e.stored in
+            halts r ready sound e.goes.reads (kept r (given_of (r.given ++ came) new)
+            (keeps_more (longest (r.ls ++ e.line ∷ [])) k (omega (arith, longest-append r.ls (e.line ∷ []))))
+            (came_longest _ _ _ _ more))
+            (works_line r e.goes.reads e.line (e.ending ++ new.held) (append_assoc e.line e.ending new.held) (rw ends at e.whole)
+            (behind_line e is_sound)) e.goes.failed k.denied
+            (rw (same_state e.line e.stored) at (rw (filled e.line e.stored) at h)) (λ rest may.
+            (lines end (new.held ++ rest), line_front _ _ _ _ r.came _ _ _ _ e ends (new.held ++ rest) (λ done. λ i. done.held i ++ may done.ended i)))
 
       -- the end was said
       module _ (ready : IsReady old before) (sound : IsSound reader) {new : Reader} (is_sound : IsSound new) (goes : Goes reader new []) (done : IsDone new)
           {after : Slots} (told : after ≡ with_line store (width - 1) [])
           {is' : Output} (wrote : Wrote is is' (written (rest_from (state now after) []))) where
         last : Wrote is is' (bytes_from r (state now store) [])
-        last = subst (λ (x : X). Wrote is is' (written (rest_from x []))) (same_state [] told) wrote
+        last = rw (same_state [] told) at wrote
 
         k : Keeps width (max (longest r.ls) 0) before after
-        k = keeps_last r after [] told
+        k = keeps_last r [] told
 
         pub run_done : {after' : Slots} → Empties (width - 1) after after' → is'.faulted ≡ false → IsPass tool old new was is' before after' (Ok tt)
         unfolding midway
-        run_done {after'} empties clean =
-            let end = emptied width (max (longest r.ls) 0) before after after' k t.some (filled [] told) empties in
-            pass_done (bytes_from r) (state start r.first) tool (t.text r.first) (state now store) old reader new was is before after' (midway r) ready sound [] goes.reads
-            (kept r after' (max (longest r.ls) 0) (given_of (r.given ++ []) new) end.0 (short_piece r ready sound goes.reads tt is_sound)) (works_piece r new [] goes.reads tt is_sound)
-            is' last done refl goes.failed end.0.denied clean goes.fault
-            (goes.short (sound.long r.reached.goes.fault)) end.1
+        run_done empties clean =
+            let end = emptied k t.some (filled [] told) empties in
+            pass_done (t.text r.first) (midway r) ready sound goes.reads
+            (kept r (given_of (r.given ++ []) new) end.0 (short_piece r ready sound goes.reads tt is_sound)) (works_piece r goes.reads tt is_sound)
+            last done refl goes.failed end.0.denied clean goes.fault (goes.short (sound.long r.reached.goes.fault)) end.1
 
         pub run_unended : is'.faulted ≡ true → IsPass tool old new was is' before after (Err Write)
         unfolding midway
         run_unended fault =
-            pass_unended (bytes_from r) (state start r.first) tool (t.text r.first) (state now store) old reader new was is before after (midway r) ready sound [] goes.reads
-            (kept r after (max (longest r.ls) 0) (given_of (r.given ++ []) new) k (short_piece r ready sound goes.reads tt is_sound)) (works_piece r new [] goes.reads tt is_sound)
-            is' last done refl goes.failed k.denied fault
+            pass_unended (t.text r.first) (midway r) ready sound goes.reads
+            (kept r (given_of (r.given ++ []) new) k (short_piece r ready sound goes.reads tt is_sound)) (works_piece r goes.reads tt is_sound)
+            last done refl goes.failed k.denied fault

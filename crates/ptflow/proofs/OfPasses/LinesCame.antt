@@ -1,7 +1,6 @@
 -- The lines that came of a reader.
-use Rattle.std.proofs.Common.{◌≡◌, ◌⊎◌, ⊎_elim, inl, inr, ℕ, zero, suc, ◌-◌, ◌==◌, ◌<◌, ◌≤◌, Bool, true, false, cond, List, [], ◌∷◌, ◌++◌, length, take, drop}
-use Rattle.std.proofs.Common.{max, refl, sym, ◌∙◌, ap, subst, arith, append_assoc, length-append, length-drop, take-append-drop}
-use Rattle.std.specs.List.{onto_first}
+use Rattle.std.proofs.Common.{◌≡◌, ◌⊎◌, ⊎_elim, inl, inr, ℕ, zero, suc, ◌-◌, ◌<◌, ◌≤◌, true, false, List, [], ◌∷◌, ◌++◌, length, take, drop}
+use Rattle.std.proofs.Common.{max, refl, ◌∙◌, ap, arith, append_assoc, length-append, length-drop, take-append-drop}
 use Rattle.std.proofs.lemmas.Bool.{false≢true}
 use Rattle.std.proofs.lemmas.List.{append-nil}
 use Rattle.ptlines.specs.Text.{text, lines, ended_lines, IsLine, AreLines, longest, longest_line}
@@ -24,30 +23,25 @@ lines_none end reader = record { so_far = inl (refl, tt) }
 
 lines_length : (end : ℕ) (bytes : List ℕ) → length (lines end bytes) ≤ length bytes
 lines_length end [] = omega arith
-lines_length end (b ∷ bytes) = by_test (b == end) (lines end bytes) (lines_length end bytes)
-  where
-    by_test : (t : Bool) (ls : List (List ℕ)) → length ls ≤ length bytes → length (cond t ([] ∷ ls) (onto_first b ls)) ≤ length (b ∷ bytes)
-    by_test true ls few = omega arith
-    by_test false [] few = omega arith
-    by_test false (l ∷ ls) few = omega arith
+lines_length end (b ∷ bytes) = grind (arith, lines_length end bytes)
 
 module _ (end : ℕ) (now : Reader) (given : List ℕ) (ls : List (List ℕ)) (k : LinesCame end now given ls) where
   pub lines_are_given : lines end given ≡ ls
-  lines_are_given = ⊎_elim (λ o. ap (lines end) o.0 ∙ lines-text end ls o.1) (λ c. c.0) k.so_far
+  lines_are_given = ⊎_elim (λ o. cc (lines-text end ls o.1)) (λ c. c.0) k.so_far
 
   pub lines_few : length ls ≤ length given
-  lines_few = subst (λ (l : List (List ℕ)). length l ≤ length given) lines_are_given (lines_length end given)
+  lines_few = rw lines_are_given at (lines_length end given)
 
   -- with whatever may come behind them
   pub lines_on : (rest : List ℕ) → (IsDone now → rest ≡ []) → lines end (given ++ rest) ≡ ls ++ lines end rest
   lines_on rest may = ⊎_elim opened closed k.so_far
     where
       opened : (given ≡ text end ls) × AreLines end ls → lines end (given ++ rest) ≡ ls ++ lines end rest
-      opened o = ap (λ (l : List ℕ). lines end (l ++ rest)) o.0 ∙ lines_of_text end ls rest o.1
+      opened o = cc (lines_of_text end ls rest o.1)
 
       closed : (lines end given ≡ ls) × IsDone now → lines end (given ++ rest) ≡ ls ++ lines end rest
       closed c = let none = may c.1 in
-          ap (λ (l : List ℕ). lines end (given ++ l)) none ∙ ap (lines end) (append-nil given) ∙ c.0 ∙ sym (append-nil ls) ∙ ap (λ (l : List ℕ). ls ++ lines end l) (sym none)
+          cc (append-nil given, append-nil ls)
 
   pub came_longest : (input : List ℕ) → Agrees (given_of given now) input → longest ls ≤ longest_line end input
   came_longest input a =
@@ -65,13 +59,13 @@ module _ (end : ℕ) (now : Reader) (given : List ℕ) (ls : List (List ℕ)) (k
         opened : (given ≡ text end ls) × AreLines end ls → max (longest ls) (length piece) ≤ longest_line end input
         opened o =
             let split : input ≡ text end ls ++ (piece ++ (new.held ++ a.rest)) =
-            a.is ∙ ap (λ (l : List ℕ). l ++ a.rest) (append_assoc given piece new.held) ∙ append_assoc given (piece ++ new.held) a.rest ∙ (λ i. o.0 i ++ append_assoc piece new.held a.rest i) in
-            subst (λ (l : List ℕ). max (longest ls) (length piece) ≤ longest_line end l) (sym split) (longest_front end ls piece (new.held ++ a.rest) o.1 free)
+            cc (a.is, append_assoc given piece new.held, append_assoc given (piece ++ new.held) a.rest, o.0, append_assoc piece new.held a.rest) in
+            rw (← split) at (longest_front end ls piece (new.held ++ a.rest) o.1 free)
 
         closed : (lines end given ≡ ls) × IsDone now → max (longest ls) (length piece) ≤ longest_line end input
         closed c =
-            let none = done_gives_nothing now new piece c.1 reads in
-            let all : input ≡ given = a.is ∙ (λ i. ((given ++ none.0 i) ++ none.1 i) ++ a.whole none.2 i) ∙ append-nil ((given ++ []) ++ []) ∙ append-nil (given ++ []) ∙ append-nil given in
+            let none = done_gives_nothing _ _ _ c.1 reads in
+            let all : input ≡ given = cc (a.whole none.2, append-nil ((given ++ []) ++ []), append-nil (given ++ []), append-nil given) in
             omega (arith, ap length none.0, ap longest (ap (lines end) all ∙ c.0))
 
     -- and the read of the rest failed
@@ -79,28 +73,26 @@ module _ (end : ℕ) (now : Reader) (given : List ℕ) (ls : List (List ℕ)) (k
     whole_before empty going =
         ⊎_elim
         (λ o. (λ i. whole_lines end (record { bytes = (o.0 i ++ piece) ++ empty i; ended = going i })) ∙ ap (ended_lines end) (append-nil (text end ls ++ piece)) ∙ ended_of_text end ls piece o.1 free)
-        (λ c. absurd (false≢true (sym going ∙ (done_gives_nothing now new piece c.1 reads).2)))
-        k.so_far
+        (λ c. absurd (false≢true (cc ((done_gives_nothing _ _ _ c.1 reads).2)))) k.so_far
 
   -- a line came
   module _ (new : Reader) (before after : Slots) (slot : ℕ) (e : GivesLine now new before after slot) (same : now.ending ≡ end) where
     free : IsLine end e.line
-    free = subst (λ (b : ℕ). IsLine b e.line) same e.whole
+    free = rw same at e.whole
 
     some_came : 0 < length (e.line ++ e.ending)
     some_came = elim e.ends [
       | inl ends ↦ omega (arith, ap length ends, length-append e.line e.ending)
-      | inr last ↦ omega (arith, last.1, length-append e.line e.ending)
+      | inr last ↦ omega (arith, length-append e.line e.ending)
     ]
 
     -- its bytes are a line, whatever may come behind them
     pub line_front : (rest : List ℕ) → (IsDone new → rest ≡ []) → lines end ((e.line ++ e.ending) ++ rest) ≡ e.line ∷ lines end rest
     line_front rest may = elim e.ends [
-      | inl ends ↦ (λ i. lines end (append_assoc e.line ((ends ∙ ap (λ (b : ℕ). b ∷ []) same) i) rest i)) ∙ lines_first end e.line rest free
+      | inl ends ↦ (λ i. lines end (append_assoc e.line ((ends ∙ ap (λ b. b ∷ []) same) i) rest i)) ∙ lines_first end e.line rest free
       | inr last ↦
           let none = may last.2 in
-          (λ i. lines end ((e.line ++ last.0 i) ++ none i)) ∙ ap (lines end) (append-nil (e.line ++ []) ∙ append-nil e.line)
-          ∙ lines_last end e.line free last.1 ∙ ap (λ (l : List ℕ). e.line ∷ lines end l) (sym none)
+          cc (append-nil (e.line ++ []), append-nil e.line, lines_last end e.line free last.1)
     ]
 
     pub lines_more : LinesCame end new (given ++ (e.line ++ e.ending)) (ls ++ e.line ∷ [])
@@ -109,32 +101,29 @@ module _ (end : ℕ) (now : Reader) (given : List ℕ) (ls : List (List ℕ)) (k
         opened : (given ≡ text end ls) × AreLines end ls
             → ((given ++ (e.line ++ e.ending) ≡ text end (ls ++ e.line ∷ [])) × AreLines end (ls ++ e.line ∷ [])) ⊎ ((lines end (given ++ (e.line ++ e.ending)) ≡ ls ++ e.line ∷ []) × IsDone new)
         opened o = elim e.ends [
-          | inl ends ↦ inl ((λ i. o.0 i ++ (e.line ++ (ends ∙ ap (λ (b : ℕ). b ∷ []) same) i)) ∙ sym (text_push end ls e.line), AreLines_push end ls e.line o.1 free)
+          | inl ends ↦ inl (cc (text_push end ls e.line), AreLines_push end ls e.line o.1 free)
           | inr last ↦ inr (
-            ap (lines end) ((λ i. o.0 i ++ (e.line ++ last.0 i)) ∙ ap (λ (l : List ℕ). text end ls ++ l) (append-nil e.line)) ∙ lines_of_text end ls e.line o.1
-                ∙ ap (λ (l : List (List ℕ)). ls ++ l) (lines_last end e.line free last.1),
+            cc (append-nil e.line, lines_of_text end ls e.line o.1, lines_last end e.line free last.1),
             last.2,
           )
         ]
 
         closed : (lines end given ≡ ls) × IsDone now
             → ((given ++ (e.line ++ e.ending) ≡ text end (ls ++ e.line ∷ [])) × AreLines end (ls ++ e.line ∷ [])) ⊎ ((lines end (given ++ (e.line ++ e.ending)) ≡ ls ++ e.line ∷ []) × IsDone new)
-        closed c = let none = (done_gives_nothing now new (e.line ++ e.ending) c.1 e.goes.reads).0 in absurd (omega (arith, some_came, ap length none))
+        closed c = let none = (done_gives_nothing _ _ _ c.1 e.goes.reads).0 in absurd (omega (arith, some_came, ap length none))
 
 are_append : (end : ℕ) (xs ys : List (List ℕ)) → AreLines end xs → AreLines end ys → AreLines end (xs ++ ys)
 are_append end [] ys a b = b
 are_append end (x ∷ xs) ys a b = (a.0, are_append end xs ys a.1 b)
 
 -- some whole lines came behind those that came
-pub lines_block : (end : ℕ) (reader : Reader) (given : List ℕ) (ls : List (List ℕ)) → LinesCame end reader given ls → (new : Reader) (more : List (List ℕ))
+pub lines_block : {end : ℕ} {reader : Reader} {given : List ℕ} {ls : List (List ℕ)} → LinesCame end reader given ls → {new : Reader} (more : List (List ℕ))
     → Goes reader new (text end more) → AreLines end more → LinesCame end new (given ++ text end more) (ls ++ more)
-lines_block end reader given ls k new more goes are = record {
-  so_far = ⊎_elim
-      (λ o. inl (ap (λ (l : List ℕ). l ++ text end more) o.0 ∙ sym (text-append end ls more), are_append end ls more o.1 are))
-      (λ c. inr (
-        lines_on end reader given ls k (text end more) (λ done. (done_gives_nothing reader new (text end more) done goes.reads).0) ∙ ap (λ (l : List (List ℕ)). ls ++ l) (lines-text end more are),
-        stays_done reader new (text end more) c.1 goes.reads,
-      )) k.so_far;
+lines_block {end} {ls} k more goes are = record {
+  so_far = ⊎_elim (λ o. inl (cc (text-append end ls more), are_append end ls more o.1 are)) (λ c. inr (
+    cc (lines_on _ _ _ _ k (text end more) (λ done. (done_gives_nothing _ _ _ done goes.reads).0), lines-text end more are),
+    stays_done _ _ _ c.1 goes.reads,
+  )) k.so_far;
 }
 
 -- ---- what came earlier
@@ -150,13 +139,13 @@ line_take end (suc n) [] are = tt
 line_take end (suc n) (b ∷ bytes) are = (are.0, line_take end n bytes are.1)
 
 -- behind a line stand its end and what is held
-pub behind_line : (now new : Reader) (before after : Slots) (slot : ℕ) (e : GivesLine now new before after slot) → IsSound new → length (e.ending ++ new.held) ≤ 8193
-behind_line now new before after slot e sound = elim e.ends [
-  | inl ends ↦ omega (arith, sound.held, ap length ends, length-append e.ending new.held)
-  | inr last ↦ omega (arith, sound.held, ap length last.0, length-append e.ending new.held)
+pub behind_line : {now new : Reader} {before after : Slots} {slot : ℕ} (e : GivesLine now new before after slot) → IsSound new → length (e.ending ++ new.held) ≤ 8193
+behind_line {new} e sound = elim e.ends [
+  | inl ends ↦ omega (arith, ap length ends, length-append e.ending new.held)
+  | inr last ↦ omega (arith, ap length last.0, length-append e.ending new.held)
 ]
 
-module _ (end : ℕ) (now new : Reader) (given : List ℕ) (ls : List (List ℕ)) (k : LinesCame end now given ls) (piece : List ℕ) (reads : Reads now new piece) (line behind : List ℕ)
+module _ {end : ℕ} {now new : Reader} {given : List ℕ} {ls : List (List ℕ)} (k : LinesCame end now given ls) {piece : List ℕ} (reads : Reads now new piece) (line behind : List ℕ)
     (is : piece ++ new.held ≡ line ++ behind) (whole : IsLine end line) (short : length behind ≤ 8193) where
   -- all but the end of a line that came, and what stands behind it
   pub before_line : Earlier end ls (given_of (given ++ piece) new)
@@ -167,21 +156,19 @@ module _ (end : ℕ) (now new : Reader) (given : List ℕ) (ls : List (List ℕ)
         before = record {
           earlier = record { bytes = given ++ take n line; ended = false };
           last = drop n line ++ behind;
-          split = append_assoc given piece new.held ∙ ap (λ (l : List ℕ). given ++ l)
-              (is ∙ ap (λ (l : List ℕ). l ++ behind) (sym (take-append-drop n line)) ∙ append_assoc (take n line) (drop n line) behind)
-              ∙ sym (append_assoc given (take n line) (drop n line ++ behind));
-          short = omega (arith, short, length-append (drop n line) behind, length-drop n line);
+          split = cc (append_assoc given piece new.held, take-append-drop n line, append_assoc (take n line) (drop n line) behind, append_assoc given (take n line) (drop n line ++ behind));
+          short = omega (arith, length-append (drop n line) behind, length-drop n line);
           ended = λ never. absurd (false≢true never);
         };
-        whole = ap (λ (l : List ℕ). ended_lines end (l ++ take n line)) o.0 ∙ ended_of_text end ls (take n line) o.1 (line_take end n line whole);
+        whole = cc (ended_of_text end ls (take n line) o.1 (line_take end n line whole));
       }
 
       closed : (lines end given ≡ ls) × IsDone now → Earlier end ls (given_of (given ++ piece) new)
-      closed c = let none = done_gives_nothing now new piece c.1 reads in record {
+      closed c = let none = done_gives_nothing _ _ _ c.1 reads in record {
         before = record {
           earlier = record { bytes = given; ended = true };
           last = [];
-          split = (λ i. (given ++ none.0 i) ++ none.1 i) ∙ append-nil (given ++ []);
+          split = cc (append-nil (given ++ []));
           short = omega arith;
           ended = λ e. none.2;
         };

@@ -1,10 +1,10 @@
 -- What a tool that works line by line keeps in the store: a line at most in each of its slots, and nothing in the
 -- others. So the store holds no more than so many times the longest of these lines.
 use Rattle.std.proofs.Common.{◌≡◌, ℕ, zero, suc, ◌+◌, ◌-◌, ◌*◌, ◌<◌, ◌≤◌, false, List, [], ◌∷◌, length, take, drop, set, get_or, max, refl, sym, ◌∙◌, ap, subst, arith, ⊎_elim, take-append-drop}
+use Rattle.std.proofs.lemmas.Grind.{common_steps}
 use Rattle.std.specs.Prelude.{swap}
 use Rattle.std.proofs.Math.Nat.{mul-le-mul_left}
-use Rattle.std.proofs.lemmas.Bool.{cases_eq}
-use Rattle.std.proofs.lemmas.List.{drop_more, length-set, drop-set-lt, get_or-set_same, get_or-set_other}
+use Rattle.std.proofs.lemmas.List.{drop_more, length-set, drop-set-lt}
 use Rattle.std.proofs.lemmas.List.Edits.{swap_is}
 use Rattle.std.proofs.lemmas.List.Sums.{sum_by-cons, sum_by-append, get_or-le-sum_by}
 use Rattle.ptlines.specs.Slots.{Slots, total, with_line}
@@ -20,75 +20,64 @@ pub record Keeps (width most : ℕ) (before store : Slots) : Type 0 where
   pub peak : store.peak ≤ max before.peak (width * most)
 
 total_split : (width : ℕ) (ls : List (List ℕ)) → total ls ≡ total (take width ls) + total (drop width ls)
-total_split width ls = ap total (sym (take-append-drop width ls)) ∙ sum_by-append length (take width ls) (drop width ls)
+total_split width ls = cc (take-append-drop width ls, sum_by-append length (take width ls) (drop width ls))
 
 front_total : (width most : ℕ) (ls : List (List ℕ)) → ((k : ℕ) → k < width → length (get_or ls k []) ≤ most) → total (take width ls) ≤ width * most
 front_total zero most ls short = omega arith
 front_total (suc width) most [] short = omega arith
 front_total (suc width) most (l ∷ ls) short =
     let more : suc width * most ≡ most + width * most = omega arith in
-    rw more (omega (arith, sum_by-cons length l (take width ls), short 0 (omega arith), front_total width most ls (λ k low. short (suc k) (omega (arith, low)))))
+    rw more (omega (arith, sum_by-cons length l (take width ls), short 0 (omega arith), front_total width most ls (λ k low. short (suc k) (omega arith))))
 
 -- the slots of lines that are so short hold so much
 pub kept_total : (width most : ℕ) (ls : List (List ℕ)) → ((k : ℕ) → k < width → length (get_or ls k []) ≤ most) → total (drop width ls) ≡ 0 → total ls ≤ width * most
 kept_total width most ls short others = omega (arith, total_split width ls, front_total width most ls short, others)
 
-pub keeps_starts : (width : ℕ) (before store : Slots) → Adds before store width → store.denied ≡ false → total store.lines ≡ 0 → store.peak ≡ before.peak → Keeps width 0 before store
-keeps_starts width before store adds denied empty peak = record {
+pub keeps_starts : {width : ℕ} {before store : Slots} → Adds before store width → store.denied ≡ false → total store.lines ≡ 0 → store.peak ≡ before.peak → Keeps width 0 before store
+keeps_starts {width} {store} adds denied empty peak = record {
   denied = denied;
   adds = adds;
-  short = λ k low. omega (arith, empty, get_or-le-sum_by length store.lines k [] (omega (arith, low, adds.all denied)));
-  others = omega (arith, empty, total_split width store.lines);
+  short = λ k low. omega (arith, get_or-le-sum_by length store.lines k [] (omega (arith, low, adds.all denied)));
+  others = omega (arith, total_split width store.lines);
   peak = omega (arith, peak);
 }
 
-pub keeps_more : (width most more : ℕ) (before store : Slots) → Keeps width most before store → most ≤ more → Keeps width more before store
-keeps_more width most more before store k high = record {
+pub keeps_more : {width most : ℕ} (more : ℕ) {before store : Slots} → Keeps width most before store → most ≤ more → Keeps width more before store
+keeps_more {width} more k high = record {
   denied = k.denied;
   adds = k.adds;
   short = λ i low. omega (arith, k.short i low);
   others = k.others;
-  peak = omega (arith, k.peak, mul-le-mul_left width high);
+  peak = omega (arith, mul-le-mul_left width high);
 }
 
 -- another line is in a slot
-pub keeps_line : (width most : ℕ) (before store new : Slots) (slot : ℕ) (bytes : List ℕ) → Keeps width most before store → slot < width → length bytes ≤ most
+pub keeps_line : {width most : ℕ} {before store : Slots} (new : Slots) (slot : ℕ) (bytes : List ℕ) → Keeps width most before store → slot < width → length bytes ≤ most
     → new ≡ with_line store slot bytes → Keeps width most before new
-keeps_line width most before store new slot bytes k within fits is = record {
-  denied = ap (λ (s : Slots). s.denied) is ∙ k.denied;
+keeps_line {width} {most} {store} new slot bytes k within fits is = record {
+  denied = cc;
   adds = record {
-    least = omega (arith, same_length, k.adds.least);
-    most = omega (arith, same_length, k.adds.most);
+    least = omega (arith, same_length);
+    most = omega (arith, same_length);
     all = λ allowed. same_length ∙ k.adds.all k.denied;
   };
   short = short;
   others = others;
-  peak = omega (arith, ap (λ (s : Slots). s.peak) is, k.peak, ap (λ (s : Slots). total s.lines) is, kept_total width most new.lines short others);
+  peak = omega (arith, ap (λ s. s.peak) is, k.peak, ap (λ s. total s.lines) is, kept_total width most new.lines short others);
 }
   where
     same_length : length new.lines ≡ length store.lines
-    same_length = ap (λ (s : Slots). length s.lines) is ∙ length-set store.lines slot bytes
+    same_length = cc (length-set store.lines slot bytes)
 
     short : (i : ℕ) → i < width → length (get_or new.lines i []) ≤ most
-    short i low = ⊎_elim here there (cases_eq i slot)
-      where
-        here : i ≡ slot → length (get_or new.lines i []) ≤ most
-        here same = omega (
-          arith,
-          fits,
-          ap length (ap (λ (s : Slots). get_or s.lines i []) is ∙ ap (λ (n : ℕ). get_or (set store.lines slot bytes) n []) same
-              ∙ get_or-set_same store.lines slot bytes [] (omega (arith, within, k.adds.all k.denied))),
-        )
-
-        there : (i ≡ slot → ⊥) → length (get_or new.lines i []) ≤ most
-        there other = omega (arith, k.short i low, ap length (ap (λ (s : Slots). get_or s.lines i []) is ∙ get_or-set_other store.lines slot i bytes [] other))
+    short i low = grind (arith, common_steps)
 
     others : total (drop width new.lines) ≡ 0
-    others = ap (λ (s : Slots). total (drop width s.lines)) is ∙ ap total (drop-set-lt width store.lines slot bytes within) ∙ k.others
+    others = cc (drop-set-lt width store.lines slot bytes within)
 
 -- the first and the last slot may have changed places
-pub keeps_swapped : (width most : ℕ) (before store new : Slots) → 0 < width → Keeps width most before store → IsSwapped width store new → Keeps width most before new
-keeps_swapped width most before store new some k either = ⊎_elim (λ same. subst (λ (s : Slots). Keeps width most before s) (sym same) k) changed either
+pub keeps_swapped : {width most : ℕ} {before store : Slots} (new : Slots) → 0 < width → Keeps width most before store → IsSwapped width store new → Keeps width most before new
+keeps_swapped {width} {most} {before} {store} new some k either = ⊎_elim (λ same. subst (Keeps width most before) (sym same) k) changed either
   where
     first : List ℕ
     first = get_or store.lines 0 []
@@ -98,47 +87,47 @@ keeps_swapped width most before store new some k either = ⊎_elim (λ same. sub
 
     keeps_both : Keeps width most before (with_line (with_line store 0 last) (width - 1) first)
     keeps_both =
-        keeps_line width most before (with_line store 0 last) (with_line (with_line store 0 last) (width - 1) first) (width - 1) first
-        (keeps_line width most before store (with_line store 0 last) 0 last k some (k.short (width - 1) (omega (arith, some))) refl) (omega (arith, some)) (k.short 0 some) refl
+        keeps_line (with_line (with_line store 0 last) (width - 1) first) (width - 1) first
+        (keeps_line (with_line store 0 last) 0 last k some (k.short (width - 1) (omega arith)) refl) (omega arith) (k.short 0 some) refl
 
     changed : new ≡ record store { lines = swap store.lines 0 (width - 1) } → Keeps width most before new
     changed is =
         let room : width ≤ length store.lines = omega (arith, k.adds.all k.denied) in
-        let swapped = swap_is store.lines 0 (width - 1) [] (omega (arith, room, some)) (omega (arith, room, some)) in
-        let same : new.lines ≡ set (set store.lines 0 last) (width - 1) first = ap (λ (s : Slots). s.lines) is ∙ sym swapped in
+        let swapped = swap_is store.lines 0 (width - 1) [] (omega arith) (omega arith) in
+        let same : new.lines ≡ set (set store.lines 0 last) (width - 1) first = cc in
         record {
-          denied = ap (λ (s : Slots). s.denied) is ∙ k.denied;
+          denied = cc;
           adds = record {
             least = omega (arith, ap length same, keeps_both.adds.least);
             most = omega (arith, ap length same, keeps_both.adds.most);
-            all = λ allowed. ap length same ∙ keeps_both.adds.all keeps_both.denied;
+            all = λ allowed. cc (keeps_both.adds.all keeps_both.denied);
           };
-          short = λ i low. subst (λ (l : List (List ℕ)). length (get_or l i []) ≤ most) (sym same) (keeps_both.short i low);
-          others = ap (λ (l : List (List ℕ)). total (drop width l)) same ∙ keeps_both.others;
-          peak = omega (arith, ap (λ (s : Slots). s.peak) is, k.peak);
+          short = λ i low. rw same (keeps_both.short i low);
+          others = cc (same, keeps_both.others);
+          peak = omega (arith, ap (λ s. s.peak) is, k.peak);
         }
 
 -- the last slot was empty, and the others were emptied
-pub emptied : (width most : ℕ) (before store new : Slots) → Keeps width most before store → 0 < width → get_or store.lines (width - 1) [] ≡ []
+pub emptied : {width most : ℕ} {before store new : Slots} → Keeps width most before store → 0 < width → get_or store.lines (width - 1) [] ≡ []
     → Empties (width - 1) store new → Keeps width most before new × (total new.lines ≡ 0)
-emptied width most before store new k some last e = (
+emptied {width} {most} {store} {new} k some last e = (
   record {
-    denied = e.denied ∙ k.denied;
+    denied = cc;
     adds = record {
-      least = omega (arith, e.size, k.adds.least);
-      most = omega (arith, e.size, k.adds.most);
+      least = omega arith;
+      most = omega arith;
       all = λ allowed. e.size ∙ k.adds.all k.denied;
     };
-    short = λ i low. omega (arith, none, get_or-le-sum_by length new.lines i [] (omega (arith, low, e.size, k.adds.all k.denied)));
+    short = λ i low. omega (arith, none, get_or-le-sum_by length new.lines i [] (omega (arith, k.adds.all k.denied)));
     others = omega (arith, none, total_split width new.lines);
-    peak = omega (arith, e.peak, k.peak, kept_total width most store.lines k.short k.others);
+    peak = omega (arith, kept_total width most store.lines k.short k.others);
   },
   none,
 )
   where
     none : total new.lines ≡ 0
     none =
-        let one : width - 1 + 1 ≡ width = omega (arith, some) in
-        let more = drop_more store.lines (width - 1) [] (omega (arith, some, k.adds.all k.denied)) in
+        let one : width - 1 + 1 ≡ width = omega arith in
+        let more = drop_more store.lines (width - 1) [] (omega (arith, k.adds.all k.denied)) in
         let behind = ap total more ∙ sum_by-cons length (get_or store.lines (width - 1) []) (drop (width - 1 + 1) store.lines) in
         omega (arith, e.left, behind, ap length last, ap (λ n. total (drop n store.lines)) one, k.others)

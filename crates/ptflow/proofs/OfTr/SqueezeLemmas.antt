@@ -1,6 +1,6 @@
 -- Bytes that stay where repeats are squeezed. Whether one stays is told by it and the byte in front of it, so a text is
 -- worked in pieces, each of them with the byte in front of it.
-use Rattle.std.proofs.Common.{◌≡◌, ℕ, zero, suc, ◌%◌, ◌^◌, map, bit_and, negsuc, pos, ◌+◌, ◌-◌, ◌*◌, ◌<◌, ◌≤◌, ◌&&◌, not, eqb, Bool, true, false, cond, List}
+use Rattle.std.proofs.Common.{◌≡◌, ℕ, zero, suc, ◌%◌, ◌^◌, map, bit_and, negsuc, pos, ◌+◌, ◌-◌, ◌<◌, ◌≤◌, ◌&&◌, not, eqb, Bool, true, false, cond, List}
 use Rattle.std.proofs.Common.{[], ◌∷◌, ◌++◌, Option, Some, length, take, drop, set, get_or, refl, sym, ◌∙◌, ap, arith, append_assoc, add-one, drop-cons, w8}
 use Rattle.std.specs.Option.{option_eq}
 use Rattle.std.specs.Int.{bit_not, cast_unsigned}
@@ -9,7 +9,7 @@ use mir.Val.{bool_byte, Fits}
 use Rattle.std.proofs.Math.Facts.{Fits-lt-pow}
 use Rattle.std.proofs.lemmas.List.{append-nil, take-append-drop, drop-drop, drop_all, take-set, take_more_set, take-take}
 use Rattle.std.proofs.lemmas.Simd.{get_or-chunk, length-chunk, length-zip2, mask_l-mod}
-use Rattle.ptflow.specs.Translations.{stays, squeeze_behind}
+use Rattle.ptflow.specs.Translations.{squeeze_behind}
 use Rattle.ptflow.specs.Workings.Bytes.ByteSets.{mask_of}
 use Rattle.ptflow.specs.Workings.Bytes.Packings.{chosen_by}
 use Rattle.ptflow.specs.Workings.Tr.TrRests.{squeeze_from}
@@ -23,33 +23,23 @@ piece_ends from at zero some room = absurd (omega arith)
 piece_ends from at (suc n) some room =
     let long : length (chunk at (suc n) from) ≡ suc n = length-chunk at (suc n) from room in
     let place : at + suc n - 1 ≡ at + n = omega arith in
-    ap (λ (k : ℕ). get_or (get_or from (at - 1) 0 ∷ chunk at (suc n) from) k 0) long
-    ∙ get_or-chunk at (suc n) from n 0 (omega arith)
-    ∙ ap (λ (k : ℕ). get_or from k 0) (sym place)
+    cc (get_or-chunk at (suc n) from n 0 (omega arith))
 
 module _ (squeezed : ℕ → Bool) where
   -- a piece and the next one, with the last byte of the piece in front of it
   pub behind_on : (last : ℕ) (xs ys : List ℕ) → squeeze_behind squeezed last (xs ++ ys) ≡ squeeze_behind squeezed last xs ++ squeeze_behind squeezed (get_or (last ∷ xs) (length xs) 0) ys
   behind_on last [] ys = refl
-  behind_on last (b ∷ xs) ys =
-      behind_one squeezed last b (xs ++ ys) ∙ by_test (behind_on b xs ys) (stays squeezed (last, b))
-      ∙ ap (λ (l : List ℕ). l ++ squeeze_behind squeezed (get_or (b ∷ xs) (length xs) 0) ys) (sym (behind_one squeezed last b xs))
-    where
-      by_test : squeeze_behind squeezed b (xs ++ ys) ≡ squeeze_behind squeezed b xs ++ squeeze_behind squeezed (get_or (b ∷ xs) (length xs) 0) ys → (s : Bool)
-          → cond s (b ∷ squeeze_behind squeezed b (xs ++ ys)) (squeeze_behind squeezed b (xs ++ ys))
-          ≡ cond s (b ∷ squeeze_behind squeezed b xs) (squeeze_behind squeezed b xs) ++ squeeze_behind squeezed (get_or (b ∷ xs) (length xs) 0) ys
-      by_test more true = ap (λ (l : List ℕ). b ∷ l) more
-      by_test more false = more
+  behind_on last (b ∷ xs) ys = grind (arith, behind_on b xs ys)
 
   -- of a piece those stay that are no repeat of the byte in front of them
   pub chosen_behind : (last : ℕ) (bytes : List ℕ) → chosen_by (zip2 (λ a b. not (eqb a b && squeezed b)) (take (length bytes) (last ∷ bytes)) bytes) bytes ≡ squeeze_behind squeezed last bytes
   chosen_behind last [] = refl
-  chosen_behind last (b ∷ bytes) = ap (λ (l : List ℕ). cond (stays squeezed (last, b)) (b ∷ l) l) (chosen_behind b bytes) ∙ sym (behind_one squeezed last b bytes)
+  chosen_behind last (b ∷ bytes) = cc (chosen_behind b bytes, behind_one squeezed last b bytes)
 
-  one_more : (into rest : List ℕ) (count b : ℕ) (again : Bool) → count < length into → take (count + bool_byte (not again)) (set into count b) ++ rest
+  one_more : (into rest : List ℕ) {count : ℕ} (b : ℕ) (again : Bool) → count < length into → take (count + bool_byte (not again)) (set into count b) ++ rest
       ≡ take count into ++ cond (not again) (b ∷ rest) rest
-  one_more into rest count b true room = let same : count + 0 ≡ count = omega arith in ap (λ (l : List ℕ). l ++ rest) (rw same (take-set into count b))
-  one_more into rest count b false room = ap (λ (l : List ℕ). l ++ rest) (take_more_set into count b room) ∙ append_assoc (take count into) (b ∷ []) rest
+  one_more into rest {count} b true room = let same : count + 0 ≡ count = omega arith in ap (λ l. l ++ rest) (rw same (take-set into count b))
+  one_more into rest {count} b false room = cc (take_more_set into count b room, append_assoc (take count into) (b ∷ []) rest)
 
   -- What was put down, and what stays of the bytes from a place on, is the whole.
   pub record Squeezing (from into : List ℕ) (at count : ℕ) (whole : List ℕ) : Type 0 where
@@ -58,15 +48,15 @@ module _ (squeezed : ℕ → Bool) where
     pub within : at ≤ length from
     pub counted : count ≤ at
 
-  pub squeezing_starts : (last : Option ℕ) (from into : List ℕ) (again : Bool) (count : ℕ) → 0 < length from → 0 < length into → again
+  pub squeezing_starts : (last : Option ℕ) (from into : List ℕ) {again : Bool} {count : ℕ} → 0 < length from → 0 < length into → again
       ≡ (option_eq eqb last (Some (get_or from 0 0)) && squeezed (get_or from 0 0))
       → count ≡ bool_byte (not again) → Squeezing from (set into 0 (get_or from 0 0)) 1 count (squeeze_from squeezed last from)
-  squeezing_starts last [] into again count some room is n = absurd (omega arith)
-  squeezing_starts last (b ∷ from) into again count some room is n = record {
+  squeezing_starts last [] into some room is n = absurd (omega arith)
+  squeezing_starts last (b ∷ from) into {again} {count} some room is n = record {
     is =
-        (let plus : count ≡ 0 + bool_byte (not again) = omega arith in ap (λ (k : ℕ). take k (set into 0 b) ++ squeeze_behind squeezed b from) plus)
-        ∙ one_more into (squeeze_behind squeezed b from) 0 b again room
-        ∙ ap (λ (a : Bool). cond (not a) (b ∷ squeeze_behind squeezed b from) (squeeze_behind squeezed b from)) is
+        (let plus : count ≡ 0 + bool_byte (not again) = omega arith in cc)
+        ∙ one_more into (squeeze_behind squeezed b from) b again room
+        ∙ ap (λ a. cond (not a) (b ∷ squeeze_behind squeezed b from) (squeeze_behind squeezed b from)) is
         ∙ sym (from_one squeezed last b from);
     behind = omega arith;
     within = omega arith;
@@ -74,85 +64,70 @@ module _ (squeezed : ℕ → Bool) where
   }
     where
       small : (again : Bool) → count ≡ bool_byte (not again) → count ≤ 1
-      small true n = omega arith
-      small false n = omega arith
+      small again = grind arith
 
-  module _ (from into : List ℕ) (at count : ℕ) (whole : List ℕ) (s : Squeezing from into at count whole) where
+  module _ {from into : List ℕ} {at count : ℕ} {whole : List ℕ} (s : Squeezing from into at count whole) where
     -- one byte more
-    pub squeezing_one : (again : Bool) (add : ℕ) → at < length from → count < length into → again ≡ (eqb (get_or from (at - 1) 0) (get_or from at 0) && squeezed (get_or from at 0))
+    pub squeezing_one : (again : Bool) {add : ℕ} → at < length from → count < length into → again ≡ (eqb (get_or from (at - 1) 0) (get_or from at 0) && squeezed (get_or from at 0))
         → add ≡ bool_byte (not again) → Squeezing from (set into count (get_or from at 0)) (at + 1) (count + add) whole
-    squeezing_one again add more room is n =
+    squeezing_one again {add} more room is n =
         let b = get_or from at 0 in
         let rest = squeeze_behind squeezed b (drop (at + 1) from) in
         let front : drop at from ≡ b ∷ drop (at + 1) from = rw add-one (drop-cons from at 0 more) in
         let here : at + 1 - 1 ≡ at = omega arith in
         record {
           is =
-              (λ i. take (count + n i) (set into count b) ++ squeeze_behind squeezed (get_or from (here i) 0) (drop (at + 1) from))
-              ∙ one_more into rest count b again room
-              ∙ ap (λ (a : Bool). take count into ++ cond (not a) (b ∷ rest) rest) is
-              ∙ ap (λ (l : List ℕ). take count into ++ l) (sym (behind_one squeezed (get_or from (at - 1) 0) b (drop (at + 1) from)))
-              ∙ ap (λ (l : List ℕ). take count into ++ squeeze_behind squeezed (get_or from (at - 1) 0) l) (sym front)
-              ∙ s.is;
+              cc (one_more into rest b again room, is, behind_one squeezed (get_or from (at - 1) 0) b (drop (at + 1) from));
           behind = omega arith;
           within = omega arith;
-          counted = omega (arith, small again n, s.counted);
+          counted = omega (arith, small again n);
         }
       where
         small : (again : Bool) → add ≡ bool_byte (not again) → add ≤ 1
-        small true n = omega arith
-        small false n = omega arith
+        small again = grind arith
 
     -- a piece more
-    pub squeezing_piece : (into' : List ℕ) (count' size : ℕ) → 0 < size → at + size ≤ length from → count' ≤ count + size
+    pub squeezing_piece : {into' : List ℕ} {count' : ℕ} (size : ℕ) → 0 < size → at + size ≤ length from → count' ≤ count + size
         → take count' into' ≡ take count into ++ squeeze_behind squeezed (get_or from (at - 1) 0) (take size (drop at from)) → Squeezing from into' (at + size) count' whole
-    squeezing_piece into' count' size some room few made =
+    squeezing_piece size some room few made =
         let last = get_or from (at - 1) 0 in
         let piece = take size (drop at from) in
         let long : length piece ≡ size = length-chunk at size from room in
-        let split : drop at from ≡ piece ++ drop (at + size) from = sym (take-append-drop size (drop at from)) ∙ ap (λ (l : List ℕ). piece ++ l) (drop-drop size at from) in
-        let end = piece_ends from at size some room in
+        let split : drop at from ≡ piece ++ drop (at + size) from = cc (take-append-drop size (drop at from), drop-drop size at from) in
+        let end = piece_ends from at _ some room in
         record {
           is =
-              ap (λ (l : List ℕ). l ++ squeeze_behind squeezed (get_or from (at + size - 1) 0) (drop (at + size) from)) made
-              ∙ append_assoc (take count into) (squeeze_behind squeezed last piece) (squeeze_behind squeezed (get_or from (at + size - 1) 0) (drop (at + size) from))
-              ∙ ap (λ (b : ℕ). take count into ++ (squeeze_behind squeezed last piece ++ squeeze_behind squeezed b (drop (at + size) from))) (sym end)
-              ∙ ap (λ (l : List ℕ). take count into ++ l) (sym (behind_on last piece (drop (at + size) from)))
-              ∙ ap (λ (l : List ℕ). take count into ++ squeeze_behind squeezed last l) (sym split)
-              ∙ s.is;
+              cc (
+                append_assoc (take count into) (squeeze_behind squeezed last piece) (squeeze_behind squeezed (get_or from (at + size - 1) 0) (drop (at + size) from)),
+                behind_on last piece (drop (at + size) from),
+              );
           behind = omega arith;
           within = omega arith;
-          counted = omega (arith, s.counted);
+          counted = omega arith;
         }
 
     -- no byte is left
     pub squeezing_ends : length from ≤ at → take count into ≡ whole
-    squeezing_ends past =
-        sym (append-nil (take count into)) ∙ ap (λ (l : List ℕ). take count into ++ squeeze_behind squeezed (get_or from (at - 1) 0) l) (sym (drop_all at from past)) ∙ s.is
+    squeezing_ends past = cc (append-nil (take count into), drop_all at from past)
 
 -- the bytes in front of those of a piece
-pub in_front_of : (from : List ℕ) (at n : ℕ) → 0 < at → at + suc n ≤ length from
+pub in_front_of : (from : List ℕ) {at : ℕ} (n : ℕ) → 0 < at → at + suc n ≤ length from
     → chunk (at - 1) (suc n) from ≡ take (length (chunk at (suc n) from)) (get_or from (at - 1) 0 ∷ chunk at (suc n) from)
-in_front_of from at n behind room =
+in_front_of from {at} n behind room =
     let last = get_or from (at - 1) 0 in
     let next : suc (at - 1) ≡ at = omega arith in
-    let front : drop (at - 1) from ≡ last ∷ drop at from = drop-cons from (at - 1) 0 (omega arith) ∙ ap (λ (k : ℕ). last ∷ drop k from) next in
-    ap (take (suc n)) front ∙ ap (λ (l : List ℕ). last ∷ l) (sym (take-take n (suc n) (drop at from) (omega arith)))
-    ∙ ap (λ (k : ℕ). take k (last ∷ chunk at (suc n) from)) (sym (length-chunk at (suc n) from room))
+    let front : drop (at - 1) from ≡ last ∷ drop at from = cc (drop-cons from (at - 1) 0 (omega arith)) in
+    cc (take-take n (suc n) (drop at from) (omega arith), length-chunk at (suc n) from room)
 
 -- the mask of the lanes that are no repeat of the byte in front of them
 pub stays_mask : (test : ℕ → Bool) (front bytes : List ℕ) → length front ≡ length bytes → length bytes ≤ 64
     → mask_l (map (top 7) (map (bit_not w8) (zip2 bit_and (zip2 (λ a b. cond (eqb a b) 255 0) front bytes) (map (cast_unsigned w8) (mask_of test bytes))))) % 2 ^ 64
     ≡ mask_l (zip2 (λ a b. not (eqb a b && test b)) front bytes)
 stays_mask test front bytes same few =
-    ap (λ (ms : List Bool). mask_l ms % 2 ^ 64) (lanes front bytes) ∙ mask_l-mod (zip2 (λ a b. not (eqb a b && test b)) front bytes) 64
-    (omega (arith, length-zip2 (λ a b. not (eqb a b && test b)) front bytes same))
+    cc (lanes front bytes, mask_l-mod (zip2 (λ a b. not (eqb a b && test b)) front bytes) 64 (omega (arith, length-zip2 (λ a b. not (eqb a b && test b)) front bytes same)))
   where
     lane : (e t : Bool) → top 7 (bit_not w8 (bit_and (cond e 255 0) (cast_unsigned w8 (cond t (negsuc 0) (pos 0))))) ≡ not (e && t)
-    lane true true = refl
-    lane true false = refl
-    lane false true = refl
-    lane false false = refl
+    lane e t = grind arith
 
     lanes : (front bytes : List ℕ) → map (top 7) (map (bit_not w8) (zip2 bit_and (zip2 (λ a b. cond (eqb a b) 255 0) front bytes)
         (map (cast_unsigned w8) (mask_of test bytes)))) ≡ zip2 (λ a b. not (eqb a b && test b)) front bytes
@@ -173,7 +148,7 @@ gone_flags test k from = zip2 (λ a b. eqb a b && test b) (chunk (k - 1) 16 from
 pub same_lanes : (xs ys : List ℕ) → zip2 (λ a b. cond (eqb a b) 255 0) xs ys ≡ lanes_of (zip2 eqb xs ys)
 same_lanes [] ys = refl
 same_lanes (x ∷ xs) [] = refl
-same_lanes (x ∷ xs) (y ∷ ys) = ap (λ (l : List ℕ). cond (eqb x y) 255 0 ∷ l) (same_lanes xs ys)
+same_lanes (x ∷ xs) (y ∷ ys) = ap (◌∷◌ (cond (eqb x y) 255 0)) (same_lanes xs ys)
 
 pub gone_lanes : (test : ℕ → Bool) (xs ys : List ℕ)
     → zip2 bit_and (zip2 (λ a b. cond (eqb a b) 255 0) xs ys) (map (cast_unsigned w8) (mask_of test ys)) ≡ lanes_of (zip2 (λ a b. eqb a b && test b) xs ys)
@@ -182,34 +157,20 @@ gone_lanes test (x ∷ xs) [] = refl
 gone_lanes test (x ∷ xs) (y ∷ ys) = λ i. lane (eqb x y) (test y) i ∷ gone_lanes test xs ys i
   where
     lane : (e t : Bool) → bit_and (cond e 255 0) (cast_unsigned w8 (cond t (negsuc 0) (pos 0))) ≡ cond (e && t) 255 0
-    lane true true = refl
-    lane true false = refl
-    lane false true = refl
-    lane false false = refl
+    lane e t = grind arith
 
 -- if no byte is the same as the one before it, none goes
 pub none_same : (test : ℕ → Bool) (xs ys : List ℕ) → mask_l (zip2 eqb xs ys) ≡ 0 → mask_l (zip2 (λ a b. eqb a b && test b) xs ys) ≡ 0
 none_same test [] ys none = refl
 none_same test (x ∷ xs) [] none = refl
-none_same test (x ∷ xs) (y ∷ ys) none = by_test (none_same test xs ys) (eqb x y) none
-  where
-    by_test : (mask_l (zip2 eqb xs ys) ≡ 0 → mask_l (zip2 (λ a b. eqb a b && test b) xs ys) ≡ 0) → (t : Bool) → cond t 1 0 + 2 * mask_l (zip2 eqb xs ys) ≡ 0
-        → cond (t && test y) 1 0 + 2 * mask_l (zip2 (λ a b. eqb a b && test b) xs ys) ≡ 0
-    by_test rest true none = absurd (omega (arith, none))
-    by_test rest false none = omega (arith, rest (omega (arith, none)))
+none_same test (x ∷ xs) (y ∷ ys) none = grind (arith, none_same test xs ys)
 
 none_goes : (test : ℕ → Bool) (xs ys : List ℕ) → length xs ≡ length ys → mask_l (zip2 (λ a b. eqb a b && test b) xs ys) ≡ 0
     → chosen_by (zip2 (λ a b. not (eqb a b && test b)) xs ys) ys ≡ ys
 none_goes test [] [] long nil = refl
-none_goes test [] (y ∷ ys) long nil = absurd (omega (arith, long))
-none_goes test (x ∷ xs) [] long nil = absurd (omega (arith, long))
-none_goes test (x ∷ xs) (y ∷ ys) long nil = by_test (none_goes test xs ys (omega (arith, long))) (eqb x y && test y) nil
-  where
-    by_test : (mask_l (zip2 (λ a b. eqb a b && test b) xs ys) ≡ 0 → chosen_by (zip2 (λ a b. not (eqb a b && test b)) xs ys) ys ≡ ys)
-        → (t : Bool) → cond t 1 0 + 2 * mask_l (zip2 (λ a b. eqb a b && test b) xs ys) ≡ 0
-        → cond (not t) (y ∷ chosen_by (zip2 (λ a b. not (eqb a b && test b)) xs ys) ys) (chosen_by (zip2 (λ a b. not (eqb a b && test b)) xs ys) ys) ≡ y ∷ ys
-    by_test rest true nil = absurd (omega (arith, nil))
-    by_test rest false nil = ap (λ (l : List ℕ). y ∷ l) (rest (omega (arith, nil)))
+none_goes test [] (y ∷ ys) long nil = absurd (omega arith)
+none_goes test (x ∷ xs) [] long nil = absurd (omega arith)
+none_goes test (x ∷ xs) (y ∷ ys) long nil = grind (arith, none_goes test xs ys)
 
 module _ (test : ℕ → Bool) (from : List ℕ) where
   -- what stays of the 16 bytes from a place on
@@ -218,44 +179,47 @@ module _ (test : ℕ → Bool) (from : List ℕ) where
 
   pub stays_piece : (k : ℕ) → 0 < k → k + 16 ≤ length from → stays_at k ≡ squeeze_behind test (get_or from (k - 1) 0) (chunk k 16 from)
   stays_piece k behind room =
-      ap (λ (front : List ℕ). chosen_by (zip2 (λ a b. not (eqb a b && test b)) front (chunk k 16 from)) (chunk k 16 from)) (in_front_of from k 15 behind room)
-      ∙ chosen_behind test (get_or from (k - 1) 0) (chunk k 16 from)
+      cc (in_front_of from 15 behind room, chosen_behind test (get_or from (k - 1) 0) (chunk k 16 from))
 
   behind_parts : (at n m : ℕ) → 0 < n → at + n ≤ length from → squeeze_behind test (get_or from (at - 1) 0) (chunk at (n + m) from)
       ≡ squeeze_behind test (get_or from (at - 1) 0) (chunk at n from) ++ squeeze_behind test (get_or from (at + n - 1) 0) (chunk (at + n) m from)
   behind_parts at n m some room =
       let last = get_or from (at - 1) 0 in
-      ap (squeeze_behind test last) (chunk_parts at n m from)
-      ∙ behind_on test last (chunk at n from) (chunk (at + n) m from)
-      ∙ ap (λ (b : ℕ). squeeze_behind test last (chunk at n from) ++ squeeze_behind test b (chunk (at + n) m from)) (piece_ends from at n some room)
+      cc (chunk_parts at n m from, behind_on test last (chunk at n from) (chunk (at + n) m from), piece_ends from at n some room)
 
   -- what stays of 64 bytes, 16 after 16
-  pub stays_in_four : (at : ℕ) → 0 < at → at + 64 ≤ length from
+  pub stays_in_four : {at : ℕ} → 0 < at → at + 64 ≤ length from
       → ((stays_at at ++ stays_at (at + 16)) ++ stays_at (at + 32)) ++ stays_at (at + 48) ≡ squeeze_behind test (get_or from (at - 1) 0) (chunk at 64 from)
-  stays_in_four at behind room =
+  stays_in_four {at} behind room =
       let s = λ (k : ℕ). squeeze_behind test (get_or from (k - 1) 0) (chunk k 16 from) in
-      (λ i. ((stays_piece at behind (omega (arith, room)) i ++ stays_piece (at + 16) (omega arith) (omega (arith, room)) i)
-      ++ stays_piece (at + 32) (omega arith) (omega (arith, room)) i) ++ stays_piece (at + 48) (omega arith) (omega (arith, room)) i)
-      ∙ ap (λ (l : List ℕ). (l ++ s (at + 32)) ++ s (at + 48)) (sym (behind_parts at 16 16 (omega arith) (omega (arith, room))))
-      ∙ ap (λ (l : List ℕ). l ++ s (at + 48)) (sym (behind_parts at 32 16 (omega arith) (omega (arith, room))))
-      ∙ sym (behind_parts at 48 16 (omega arith) (omega (arith, room)))
+      cc (
+        stays_piece _ behind (omega arith),
+        stays_piece (at + 16) (omega arith) (omega arith),
+        stays_piece (at + 32) (omega arith) (omega arith),
+        stays_piece (at + 48) (omega arith) (omega arith),
+        behind_parts at 16 16 (omega arith) (omega arith),
+        behind_parts at 32 16 (omega arith) (omega arith),
+        behind_parts at 48 16 (omega arith) (omega arith),
+      )
 
   -- where no byte goes, all of them stay
-  pub all_stay_in_four : (at : ℕ) → 0 < at → at + 64 ≤ length from
+  pub all_stay_in_four : {at : ℕ} → 0 < at → at + 64 ≤ length from
       → (mask_l (gone_flags test at from) ≡ 0) × (mask_l (gone_flags test (at + 16) from) ≡ 0) × (mask_l (gone_flags test (at + 32) from) ≡ 0)
       × (mask_l (gone_flags test (at + 48) from) ≡ 0) → squeeze_behind test (get_or from (at - 1) 0) (chunk at 64 from) ≡ chunk at 64 from
-  all_stay_in_four at behind room none =
+  all_stay_in_four {at} behind room none =
       let stay = λ (k : ℕ) (some : 0 < k) (there : k + 16 ≤ length from). none_goes test (chunk (k - 1) 16 from) (chunk k 16 from)
-      (length-chunk (k - 1) 16 from (omega (arith, some, there)) ∙ sym (length-chunk k 16 from there)) in
-      sym (stays_in_four at behind room)
-      ∙ (λ i. ((stay at behind (omega (arith, room)) none.0 i ++ stay (at + 16) (omega arith) (omega (arith, room)) none.1 i)
-      ++ stay (at + 32) (omega arith) (omega (arith, room)) none.2 i) ++ stay (at + 48) (omega arith) (omega (arith, room)) none.3 i)
-      ∙ sym (chunk_in_four at from)
+      (length-chunk (k - 1) 16 from (omega arith) ∙ sym (length-chunk k 16 from there)) in
+      cc (
+        stays_in_four behind room,
+        stay at behind (omega arith) none.0,
+        stay (at + 16) (omega arith) (omega arith) none.1,
+        stay (at + 32) (omega arith) (omega arith) none.2,
+        stay (at + 48) (omega arith) (omega arith) none.3,
+        chunk_in_four at from,
+      )
 
 -- tests that agree on bytes squeeze the same repeats
 pub same_behind : (p q : ℕ → Bool) → ((b : ℕ) → b < 256 → p b ≡ q b) → (last : ℕ) (bytes : List ℕ) → Each1 (Fits w8) bytes → squeeze_behind p last bytes ≡ squeeze_behind q last bytes
 same_behind p q same last [] small = refl
 same_behind p q same last (b ∷ bytes) small =
-    behind_one p last b bytes
-    ∙ (λ i. cond (not (eqb last b && same b (Fits-lt-pow small.0) i)) (b ∷ same_behind p q same b bytes small.1 i) (same_behind p q same b bytes small.1 i))
-    ∙ sym (behind_one q last b bytes)
+    cc (behind_one p last b bytes, same b (Fits-lt-pow small.0), same_behind p q same b bytes small.1, behind_one q last b bytes)

@@ -1,10 +1,9 @@
 -- What `tr` writes of the rest of a text. A byte stays or goes by the byte that was written last alone, so that byte is
 -- all that is carried from block to block, and within a block from byte to byte.
-use Rattle.std.proofs.Common.{◌≡◌, ℕ, ◌-◌, ◌==◌, ◌&&◌, not, eqb, Bool, true, false, cond, List, [], ◌∷◌, ◌++◌, Option, None, Some, map, length, refl, sym, ◌∙◌, ap, arith}
-use Rattle.std.specs.Prelude.{filter, zip, slice_get}
+use Rattle.std.proofs.Common.{◌≡◌, ℕ, ◌-◌, ◌==◌, ◌&&◌, not, eqb, Bool, true, false, cond, List, [], ◌∷◌, ◌++◌, Option, None, Some, map, length, refl, ap, arith}
+use Rattle.std.specs.Prelude.{filter, slice_get}
 use Rattle.std.specs.List.{last_or}
 use Rattle.std.specs.Option.{option_eq, option_or}
-use Rattle.std.proofs.lemmas.Bool.{eqb-true}
 use Rattle.std.proofs.lemmas.List.{append-nil, map-append}
 use Rattle.std.proofs.lemmas.List.Elements.{filter-append}
 use Rattle.ptlines.specs.Inputs.{Begins}
@@ -14,11 +13,7 @@ use Rattle.ptflow.specs.Workings.Tr.TrRests.{squeeze_from, tr_rest}
 
 module _ (squeezed : ℕ → Bool) where
   pub behind_one : (last b : ℕ) (bytes : List ℕ) → squeeze_behind squeezed last (b ∷ bytes) ≡ cond (stays squeezed (last, b)) (b ∷ squeeze_behind squeezed b bytes) (squeeze_behind squeezed b bytes)
-  behind_one last b bytes = by_test (stays squeezed (last, b)) (filter (stays squeezed) (zip (b ∷ bytes) bytes))
-    where
-      by_test : (s : Bool) (ps : List (ℕ × ℕ)) → map (λ (p : ℕ × ℕ). p.1) (cond s ((last, b) ∷ ps) ps) ≡ cond s (b ∷ map (λ (p : ℕ × ℕ). p.1) ps) (map (λ (p : ℕ × ℕ). p.1) ps)
-      by_test true ps = refl
-      by_test false ps = refl
+  behind_one last b bytes = grind arith
 
   pub from_one : (last : Option ℕ) (b : ℕ) (bytes : List ℕ) → squeeze_from squeezed last (b ∷ bytes)
       ≡ cond (not (option_eq eqb last (Some b) && squeezed b)) (b ∷ squeeze_behind squeezed b bytes) (squeeze_behind squeezed b bytes)
@@ -27,30 +22,16 @@ module _ (squeezed : ℕ → Bool) where
 
   -- a byte that does not stay is the last one again
   repeats : (last b : ℕ) → stays squeezed (last, b) ≡ false → last ≡ b
-  repeats last b h = eqb-true last b (both (last == b) (squeezed b) h)
-    where
-      both : (x y : Bool) → not (x && y) ≡ false → x ≡ true
-      both true y h = refl
-      both false y h = cc
+  repeats last b h = grind arith
 
   behind_append : (last : ℕ) (xs ys : List ℕ) → squeeze_behind squeezed last (xs ++ ys) ≡ squeeze_behind squeezed last xs
       ++ squeeze_from squeezed (last_or (Some last) (squeeze_behind squeezed last xs)) ys
   behind_append last [] ys = refl
-  behind_append last (b ∷ xs) ys =
-      behind_one last b (xs ++ ys) ∙ by_test (behind_append b xs ys) (stays squeezed (last, b)) (repeats last b)
-      ∙ ap (λ (l : List ℕ). l ++ squeeze_from squeezed (last_or (Some last) l) ys) (sym (behind_one last b xs))
-    where
-      done : List ℕ
-      done = squeeze_behind squeezed b xs
-
-      by_test : squeeze_behind squeezed b (xs ++ ys) ≡ done ++ squeeze_from squeezed (last_or (Some b) done) ys → (s : Bool) → (s ≡ false → last ≡ b)
-          → cond s (b ∷ squeeze_behind squeezed b (xs ++ ys)) (squeeze_behind squeezed b (xs ++ ys)) ≡ cond s (b ∷ done) done ++ squeeze_from squeezed (last_or (Some last) (cond s (b ∷ done) done)) ys
-      by_test more true h = ap (λ (l : List ℕ). b ∷ l) more
-      by_test more false h = more ∙ ap (λ (n : ℕ). done ++ squeeze_from squeezed (last_or (Some n) done) ys) (sym (h refl))
+  behind_append last (b ∷ xs) ys = grind (arith, behind_append b xs ys, repeats last b)
 
   from_append : (last : Option ℕ) (xs ys : List ℕ) → squeeze_from squeezed last (xs ++ ys) ≡ squeeze_from squeezed last xs ++ squeeze_from squeezed (last_or last (squeeze_from squeezed last xs)) ys
   from_append None [] ys = refl
-  from_append None (b ∷ xs) ys = ap (λ (l : List ℕ). b ∷ l) (behind_append b xs ys)
+  from_append None (b ∷ xs) ys = ap (◌∷◌ b) (behind_append b xs ys)
   from_append (Some last) xs ys = behind_append last xs ys
 
 -- ---- the byte that was written last
@@ -67,7 +48,7 @@ last_is : (last : Option ℕ) (bytes : List ℕ) → option_or (slice_get bytes 
 last_is last [] = refl
 last_is last (b ∷ bytes) =
     let less : length (b ∷ bytes) - 1 ≡ length bytes = omega arith in
-    ap (λ (n : ℕ). option_or (slice_get (b ∷ bytes) n) last) less ∙ ap (λ (o : Option ℕ). option_or o last) (at_end b bytes) ∙ some_last last b bytes
+    cc (at_end b bytes, some_last last b bytes)
 
 -- ---- a block
 
@@ -77,54 +58,51 @@ module _ (t : Tables) where
   rest_nothing (Some last) = refl
 
   translated_append : (xs ys : List ℕ) → translated t (xs ++ ys) ≡ translated t xs ++ translated t ys
-  translated_append xs ys = ap (map (image t)) (filter-append (λ b. not (deletes t b)) xs ys) ∙ map-append (image t) (filter (λ b. not (deletes t b)) xs) (filter (λ b. not (deletes t b)) ys)
+  translated_append xs ys = cc (filter-append (λ b. not (deletes t b)) xs ys, map-append (image t) (filter (λ b. not (deletes t b)) xs) (filter (λ b. not (deletes t b)) ys))
 
   -- what is written of a block stands in front
   pub front_on : (last : Option ℕ) (block rest : List ℕ) → tr_rest t last (block ++ rest) ≡ tr_rest t last block ++ tr_rest t (last_or last (tr_rest t last block)) rest
-  front_on last block rest = ap (squeeze_from (squeezes t) last) (translated_append block rest) ∙ from_append (squeezes t) last (translated t block) (translated t rest)
+  front_on last block rest = cc (translated_append block rest, from_append (squeezes t) last (translated t block) (translated t rest))
 
   -- the last of what is written of a block was written last then
-  pub block_on : (last after : Option ℕ) (block written rest : List ℕ) → written ≡ tr_rest t last block → after
+  pub block_on : (last : Option ℕ) {after : Option ℕ} (block : List ℕ) {written : List ℕ} (rest : List ℕ) → written ≡ tr_rest t last block → after
       ≡ option_or (slice_get written (length written - 1)) last → tr_rest t last (block ++ rest) ≡ written ++ tr_rest t after rest
-  block_on last after block written rest made end = front_on last block rest ∙ (λ i. sym made i ++ tr_rest t (sym (end ∙ last_is last written ∙ ap (last_or last) made) i) rest)
+  block_on last block {written} rest made end = cc (front_on last block rest, last_is last written)
 
   -- what is written of a block is squeezed after it was translated, and that after bytes of it were deleted
-  pub passes_make : (last : Option ℕ) (block kept mapped written : List ℕ) → kept ≡ filter (λ b. not (deletes t b)) block → mapped ≡ map (image t) kept
+  pub passes_make : (last : Option ℕ) (block : List ℕ) {kept mapped written : List ℕ} → kept ≡ filter (λ b. not (deletes t b)) block → mapped ≡ map (image t) kept
       → written ≡ squeeze_from (squeezes t) last mapped → written ≡ tr_rest t last block
-  passes_make last block kept mapped written k m w = w ∙ ap (squeeze_from (squeezes t) last) (m ∙ ap (map (image t)) k)
+  passes_make last block k m w = cc
 
-  pub block_begins : (last : Option ℕ) (block written rest : List ℕ) → written ≡ tr_rest t last block → Begins written (tr_rest t last (block ++ rest))
-  block_begins last block written rest made = record {
+  pub block_begins : (last : Option ℕ) (block : List ℕ) {written : List ℕ} (rest : List ℕ) → written ≡ tr_rest t last block → Begins written (tr_rest t last (block ++ rest))
+  block_begins last block rest made = record {
     rest = tr_rest t (last_or last (tr_rest t last block)) rest;
-    is = front_on last block rest
-        ∙ ap (λ (l : List ℕ). l ++ tr_rest t (last_or last (tr_rest t last block)) rest) (sym made);
+    is = cc (front_on last block rest);
   }
 
   pub rest_decided : (given pushed : List ℕ) (now : Option ℕ) → ((rest : List ℕ) → tr_rest t None (given ++ rest) ≡ pushed ++ tr_rest t now rest)
       → Begins (tr_decided t (record { bytes = given; ended = false })) pushed
   rest_decided given pushed now on = record {
     rest = [];
-    is = sym (append-nil pushed) ∙ ap (λ (l : List ℕ). pushed ++ l) (sym (rest_nothing now)) ∙ sym (on []) ∙ ap (tr t) (append-nil given) ∙ sym (append-nil (tr t given));
+    is = cc (append-nil pushed, rest_nothing now, on [], append-nil given, append-nil (tr t given));
   }
 
 -- ---- where nothing is deleted or squeezed
 
-not_both : (x y : Bool) → y ≡ false → (x && y) ≡ false
-not_both true y h = h
-not_both false y h = refl
+not_both : (x : Bool) {y : Bool} → y ≡ false → (x && y) ≡ false
+not_both true h = h
+not_both false h = refl
 
 behind_all : (squeezed : ℕ → Bool) → ((b : ℕ) → squeezed b ≡ false) → (last : ℕ) (bytes : List ℕ) → squeeze_behind squeezed last bytes ≡ bytes
 behind_all squeezed none last [] = refl
 behind_all squeezed none last (b ∷ bytes) =
-    behind_one squeezed last b bytes ∙ ap (λ (s : Bool). cond (not s) (b ∷ squeeze_behind squeezed b bytes) (squeeze_behind squeezed b bytes)) (not_both (last == b) (squeezed b) (none b))
-    ∙ ap (λ (l : List ℕ). b ∷ l) (behind_all squeezed none b bytes)
+    cc (behind_one squeezed last b bytes, not_both (last == b) (none b), behind_all squeezed none b bytes)
 
 pub from_all : (squeezed : ℕ → Bool) → ((b : ℕ) → squeezed b ≡ false) → (last : Option ℕ) (bytes : List ℕ) → squeeze_from squeezed last bytes ≡ bytes
 from_all squeezed none None [] = refl
-from_all squeezed none None (b ∷ bytes) = ap (λ (l : List ℕ). b ∷ l) (behind_all squeezed none b bytes)
+from_all squeezed none None (b ∷ bytes) = ap (◌∷◌ b) (behind_all squeezed none b bytes)
 from_all squeezed none (Some last) bytes = behind_all squeezed none last bytes
 
 pub filter_all : (test : ℕ → Bool) → ((b : ℕ) → test b ≡ false) → (bytes : List ℕ) → filter (λ b. not (test b)) bytes ≡ bytes
 filter_all test none [] = refl
-filter_all test none (b ∷ bytes) =
-    ap (λ (t : Bool). cond (not t) (b ∷ filter (λ b. not (test b)) bytes) (filter (λ b. not (test b)) bytes)) (none b) ∙ ap (λ (l : List ℕ). b ∷ l) (filter_all test none bytes)
+filter_all test none (b ∷ bytes) = cc (none b, filter_all test none bytes)

@@ -1,5 +1,6 @@
 -- The run that is open, with the lines that are taken one by one and block by block.
-use Rattle.std.proofs.Common.{◌≡◌, ℕ, ◌+◌, ◌<◌, ◌&&◌, Bool, true, false, cond, List, [], ◌∷◌, ◌++◌, Option, None, Some, length, take, drop, set, refl, sym, ◌∙◌}
+use Rattle.std.proofs.Common.{◌≡◌, ℕ, ◌+◌, ◌<◌, ◌&&◌, Bool, true, false, List, [], ◌∷◌, ◌++◌, Option, None, Some, length, take, drop, refl, sym, ◌∙◌}
+use Rattle.std.proofs.lemmas.Grind.{common_steps}
 use Rattle.std.proofs.Common.{ap, subst, arith, append_assoc, length-append, take-append-drop}
 use Rattle.std.specs.Prelude.{nat_lt, swap}
 use Rattle.std.specs.Option.{is_some}
@@ -8,14 +9,14 @@ use Rattle.std.proofs.lemmas.List.{append-nil, length-take-le, get_or-set_other}
 use Rattle.std.proofs.lemmas.List.Sums.{sum_by-cons}
 use Rattle.memchr.specs.Find.{IsFirstByte, is_byte}
 use Rattle.ptlines.specs.Outputs.{Output, Wrote}
-use Rattle.ptlines.specs.Inputs.{Begins, whole_lines}
+use Rattle.ptlines.specs.Inputs.{whole_lines}
 use Rattle.ptlines.specs.Slots.{Slots, line, total, with_line}
-use Rattle.ptlines.specs.Text.{text, lines, ended_lines, IsLine}
+use Rattle.ptlines.specs.Text.{text, ended_lines, IsLine}
 use Rattle.ptlines.proofs.Pushed.{wrote_nothing, wrote_trans}
 use Rattle.ptlines.proofs.Scanned.{no_end}
 use Rattle.ptlines.proofs.TextLaws.{text-append, ended_none}
 use Rattle.ptlangs.specs.Jobs.{Uniq}
-use Rattle.ptflow.specs.Uniqs.{Run, is_same, runs, entries, all_but_last, uniq_tool}
+use Rattle.ptflow.specs.Uniqs.{Run, is_same, runs, entries, uniq_tool}
 use Rattle.ptflow.specs.Workings.Passes.Lines.{Empties, IsLineTool}
 use Rattle.ptflow.specs.Workings.Uniq.OpenLines.{first_line, open_run_of}
 use Rattle.ptflow.specs.declared.tools.uniq.Open.{Open}
@@ -27,49 +28,43 @@ use Rattle.ptflow.proofs.OfPasses.LineLaws.{ended_next}
 use Rattle.ptflow.proofs.OfUniq.OpenRuns.{behind_more, behind_turn, entries-append, open_is, but_open}
 
 -- after the first two slots changed places
-pub swapped_first : (store after : Slots) → 1 < length store.lines → after ≡ record store { lines = swap store.lines 0 1 } → line after 0 ≡ line store 1
-swapped_first store after slots is = ap (λ (s : Slots). line s 0) is ∙ by_lines store.lines slots
-  where
-    by_lines : (lines : List (List ℕ)) → 1 < length lines → line (record { lines = swap lines 0 1; peak = store.peak; denied = store.denied }) 0
-        ≡ line (record { lines = lines; peak = store.peak; denied = store.denied }) 1
-    by_lines [] slots = absurd (omega (arith, slots))
-    by_lines (a ∷ []) slots = absurd (omega (arith, slots))
-    by_lines (a ∷ b ∷ rest) slots = refl
+pub swapped_first : (store : Slots) {after : Slots} → 1 < length store.lines → after ≡ record store { lines = swap store.lines 0 1 } → line after 0 ≡ line store 1
+swapped_first store slots is = grind (arith, common_steps)
 
 -- the first slot was emptied
-pub first_emptied : (store after : Slots) → 0 < length store.lines → after ≡ with_line store 0 [] → Empties 1 store after
-first_emptied store after some is = by_lines store.lines refl
+pub first_emptied : {store after : Slots} → 0 < length store.lines → after ≡ with_line store 0 [] → Empties 1 store after
+first_emptied {store} {after} some is = by_lines store.lines refl
   where
     by_lines : (lines : List (List ℕ)) → store.lines ≡ lines → Empties 1 store after
-    by_lines [] none = absurd (omega (arith, some, ap length none))
+    by_lines [] none = absurd (omega (arith, ap length none))
     by_lines (l ∷ ls) are =
-        let lines_are : after.lines ≡ [] ∷ ls = ap (λ (s : Slots). s.lines) is ∙ ap (λ (x : List (List ℕ)). set x 0 []) are in
+        let lines_are : after.lines ≡ [] ∷ ls = cc in
         let left : total after.lines ≡ total ls = ap total lines_are ∙ sum_by-cons length [] ls ∙ omega arith in
         record {
-          size = ap length lines_are ∙ sym (ap length are);
-          denied = ap (λ (s : Slots). s.denied) is;
-          left = left ∙ sym (ap (λ (x : List (List ℕ)). total (drop 1 x)) are);
-          peak = omega (arith, ap (λ (s : Slots). s.peak) is, ap (λ (s : Slots). total s.lines) is, left, ap total are ∙ sum_by-cons length l ls);
+          size = cc;
+          denied = cc;
+          left = cc;
+          peak = omega (arith, ap (λ s. s.peak) is, ap (λ s. total s.lines) is, left, ap total are ∙ sum_by-cons length l ls);
         }
 
 -- what was pushed is what is written of the run with this first line
-pub run_wrote : (job : Uniq) (count : ℕ) (bytes first behind : List ℕ) (is is' : Output) → bytes ≡ first → behind ≡ job.end ∷ []
+pub run_wrote : (job : Uniq) (count : ℕ) {bytes first behind : List ℕ} {is is' : Output} → bytes ≡ first → behind ≡ job.end ∷ []
     → Wrote is is' (run_text job.show count (bytes ++ behind)) → Wrote is is' (entries job (open_run (run_of first count)))
-run_wrote job count bytes first behind is is' bytes_are behind_is wrote =
-    subst (λ (b : List ℕ). Wrote is is' b) ((λ i. run_text job.show count (bytes_are i ++ behind_is i)) ∙ sym (open_is job (run_of first count))) wrote
+run_wrote job count {first} {is} {is'} bytes_are behind_is wrote =
+    subst (Wrote is is') (cc (open_is job (run_of first count))) wrote
 
 -- It is a tool over lines: the first of two slots may hold the first line of the run that is open, and what is decided
 -- leaves out that run.
 pub uniq_line_tool : (job : Uniq) (start : Open) → start.count ≡ 0 → IsLineTool (uniq_tool job) open_run_of (runs_behind job) (entries job) count_of job.end 2 start
 uniq_line_tool job start none = record {
   apart = entries-append job;
-  stays = λ now store bytes room. ap (λ (l : List ℕ). run_of (cond now.kept now.bytes.items l) now.count) (get_or-set_other store.lines 1 0 bytes [] (λ e. absurd (omega (arith, e))));
-  fresh = λ store. omega (arith, none);
-  text = λ store bytes. ap (λ (n : ℕ). entries job (runs_behind job (run_of (first_line start store) n) (lines job.end bytes))) none;
+  stays = λ now store bytes room. cc (get_or-set_other store.lines 1 0 bytes [] (λ e. absurd (omega (arith, e))));
+  fresh = λ store. omega arith;
+  text = λ store bytes. cc;
   decided = λ store given passed now on.
       let ls = whole_lines job.end given in
-      let all = ap (runs job) (sym (append-nil ls)) ∙ ap (λ (n : ℕ). runs_behind job (run_of (first_line start store) n) (ls ++ [])) (sym none) ∙ on [] in
-      subst (λ (rs : List Run). Begins (entries job (all_but_last rs)) (entries job passed)) (sym all) (but_open job passed now);
+      let all = ap (runs job) (sym (append-nil ls)) ∙ ap (λ n. runs_behind job (run_of (first_line start store) n) (ls ++ [])) (sym none) ∙ on [] in
+      rw all (but_open job passed now);
   size = λ bytes. refl;
   slots = refl;
   ends = refl;
@@ -79,9 +74,9 @@ uniq_line_tool job start none = record {
 -- ---- one line
 
 -- whether it is of the run, by a test of the bytes that were seen
-pub line_tested : (job : Uniq) (count : ℕ) (first next seen came : List ℕ) (tested answer : Bool) → tested ≡ (nat_lt 0 count && is_same job seen came) → seen
+pub line_tested : (job : Uniq) (count : ℕ) {first next seen came : List ℕ} {tested answer : Bool} → tested ≡ (nat_lt 0 count && is_same job seen came) → seen
     ≡ first → came ≡ next → tested ≡ answer → (nat_lt 0 count && is_same job first next) ≡ answer
-line_tested job count first next seen came tested answer is seen_is came_is answered = (λ i. nat_lt 0 count && is_same job (sym seen_is i) (sym came_is i)) ∙ sym is ∙ answered
+line_tested job count is seen_is came_is answered = cc
 
 module _ (job : Uniq) (run : Run) (next : List ℕ) where
   -- it is of the run
@@ -89,7 +84,7 @@ module _ (job : Uniq) (run : Run) (next : List ℕ) where
   line_more was clean same = record { passed = []; wrote = wrote_nothing was; clean = clean; on = λ more. behind_more job run next more same; count = omega arith; some = λ h. omega arith }
 
   -- or it begins another one
-  module _ (was is : Output) (other : (nat_lt 0 run.count && is_same job run.line next) ≡ false) (wrote : Wrote was is (entries job (open_run run))) where
+  module _ {was is : Output} (other : (nat_lt 0 run.count && is_same job run.line next) ≡ false) (wrote : Wrote was is (entries job (open_run run))) where
     pub line_turns : is.faulted ≡ false → RunsOn job run (run_of next 1) (next ∷ []) was is
     line_turns clean = record { passed = open_run run; wrote = wrote; clean = clean; on = λ more. behind_turn job run next more other; count = omega arith; some = λ h. omega arith }
 
@@ -108,13 +103,13 @@ block_none job end run block was clean none = record {
   passed = [];
   wrote = wrote_nothing was;
   clean = clean;
-  on = λ more. ap (λ (l : List (List ℕ)). runs_behind job run (l ++ more)) (ended_none end block none);
+  on = λ more. cc (ended_none end block none);
   count = omega arith;
-  some = λ h. absurd (omega (arith, h, ap length (ended_none end block none)));
+  some = λ h. absurd (omega (arith, ap length (ended_none end block none)));
 }
 
 -- the run that is open goes on for some lines of a block
-module _ (job : Uniq) (end : ℕ) (first block : List ℕ) (same : Same) (g : GoesOnWith job end first block same) (count : ℕ) (some : 0 < count) where
+module _ {job : Uniq} {end : ℕ} {first block : List ℕ} {same : Same} (g : GoesOnWith job end first block same) {count : ℕ} (some : 0 < count) where
   abbrev rest : List ℕ
   rest = drop same.passed block
 
@@ -122,11 +117,10 @@ module _ (job : Uniq) (end : ℕ) (first block : List ℕ) (same : Same) (g : Go
   run = run_of first (count + same.count)
 
   went_on : (more : List (List ℕ)) → runs_behind job (run_of first count) (ended_lines end block ++ more) ≡ runs_behind job run (ended_lines end rest ++ more)
-  went_on more = ap (λ (l : List (List ℕ)). runs_behind job (run_of first count) (l ++ more)) g.split
-      ∙ ap (runs_behind job (run_of first count)) (append_assoc g.front (ended_lines end rest) more) ∙ g.on count some (ended_lines end rest ++ more)
+  went_on more = cc (append_assoc g.front (ended_lines end rest) more, g.on count some (ended_lines end rest ++ more))
 
   many : length (ended_lines end block) ≡ same.count + length (ended_lines end rest)
-  many = omega (arith, ap length g.split, length-append g.front (ended_lines end rest), g.number)
+  many = omega (arith, ap length g.split, length-append g.front (ended_lines end rest))
 
   -- no line more is whole
   module _ (none : IsLine end rest) where
@@ -135,13 +129,13 @@ module _ (job : Uniq) (end : ℕ) (first block : List ℕ) (same : Same) (g : Go
       passed = [];
       wrote = wrote_nothing was;
       clean = clean;
-      on = λ more. went_on more ∙ ap (λ (l : List (List ℕ)). runs_behind job run (l ++ more)) (ended_none end rest none);
+      on = λ more. cc (went_on more, ended_none end rest none);
       count = omega (arith, many);
-      some = λ h. omega (arith, some);
+      some = λ h. omega arith;
     }
 
     pub block_on_passed : take same.passed block ≡ text end (ended_lines end block)
-    block_on_passed = g.texts ∙ ap (text end) (sym (g.split ∙ ap (λ (l : List (List ℕ)). g.front ++ l) (ended_none end rest none) ∙ append-nil g.front))
+    block_on_passed = cc (ended_none end rest none, append-nil g.front)
 
   -- the next line has another key
   module _ (at : ℕ) (found : IsFirstByte (is_byte end) rest (Some at)) where
@@ -149,26 +143,28 @@ module _ (job : Uniq) (end : ℕ) (first block : List ℕ) (same : Same) (g : Go
     turned more =
         let next = take at rest in
         let behind = ended_lines end (drop (at + 1) rest) ++ more in
-        let is : ended_lines end rest ++ more ≡ next ∷ behind = ap (λ (l : List (List ℕ)). l ++ more) (ended_next end rest at found) in
-        went_on more ∙ ap (runs_behind job run) is
-        ∙ behind_turn job run next behind (other_count (count + same.count) (is_same job first next) (g.turns next (ended_lines end (drop (at + 1) rest)) (ended_next end rest at found)))
-        ∙ ap (λ (l : List Run). open_run run ++ l) (sym (ap (runs_behind job (run_of [] 0)) is ∙ behind_turn job (run_of [] 0) next behind refl))
+        let is : ended_lines end rest ++ more ≡ next ∷ behind = cc (ended_next end rest at found) in
+        cc (
+          went_on more,
+          behind_turn job run next behind
+              (other_count (count + same.count) (g.turns next (ended_lines end (drop (at + 1) rest)) (ended_next end rest at found))),
+          behind_turn job (run_of [] 0) next behind refl,
+        )
 
-    module _ (was is is' : Output) (wrote : Wrote was is (entries job (open_run run))) where
+    module _ {was is : Output} (is' : Output) (wrote : Wrote was is (entries job (open_run run))) where
       pub block_run_halts : is.faulted ≡ true → RunsHalt job (run_of first count) (ended_lines end block) was is
       block_run_halts fault = record { passed = open_run run; wrote = wrote; fault = fault; true_so_far = λ more. (runs_behind job (run_of [] 0) (ended_lines end rest ++ more), turned more) }
 
       both_wrote : (passed : List Run) → is.faulted ≡ false → Wrote is is' (entries job passed) → Wrote was is' (entries job (open_run run ++ passed))
-      both_wrote passed clean more = subst (λ (b : List ℕ). Wrote was is' b) (sym (entries-append job (open_run run) passed))
-          (wrote_trans was is is' (entries job (open_run run)) (entries job passed) clean wrote more)
+      both_wrote passed clean more = rw (entries-append job (open_run run) passed) (wrote_trans _ _ _ _ _ clean wrote more)
 
       pub block_turns : is.faulted ≡ false → (after : Run) → RunsOn job (run_of [] 0) after (ended_lines end rest) is is' → RunsOn job (run_of first count) after (ended_lines end block) was is'
       block_turns clean after r = record {
         passed = open_run run ++ r.passed;
         wrote = both_wrote r.passed clean r.wrote;
         clean = r.clean;
-        on = λ more. turned more ∙ ap (λ (l : List Run). open_run run ++ l) (r.on more) ∙ sym (append_assoc (open_run run) r.passed (runs_behind job after more));
-        count = omega (arith, r.count, many);
+        on = λ more. cc (turned more, r.on more, append_assoc (open_run run) r.passed (runs_behind job after more));
+        count = omega (arith, many);
         some = λ h. r.some (omega (arith, ap length (ended_next end rest at found)));
       }
 
@@ -177,11 +173,10 @@ module _ (job : Uniq) (end : ℕ) (first block : List ℕ) (same : Same) (g : Go
         passed = open_run run ++ h.passed;
         wrote = both_wrote h.passed clean h.wrote;
         fault = h.fault;
-        true_so_far = λ more. let t = h.true_so_far more in (t.0, turned more ∙ ap (λ (l : List Run). open_run run ++ l) t.1 ∙ sym (append_assoc (open_run run) h.passed t.0));
+        true_so_far = λ more. let t = h.true_so_far more in (t.0, cc (turned more, append_assoc (open_run run) h.passed t.0));
       }
 
   pub block_passed : (passed : ℕ) → take passed rest ≡ text end (ended_lines end rest) → take (same.passed + passed) block ≡ text end (ended_lines end block)
   block_passed passed is =
       let front = take same.passed block in
-      (λ i. take (sym (length-take-le same.passed block g.within) i + passed) (sym (take-append-drop same.passed block) i)) ∙ take-append-add front rest passed
-      ∙ (λ i. g.texts i ++ is i) ∙ sym (text-append end g.front (ended_lines end rest)) ∙ ap (text end) (sym g.split)
+      cc (length-take-le same.passed block g.within, take-append-drop same.passed block, take-append-add front rest passed, text-append end g.front (ended_lines end rest))

@@ -1,19 +1,17 @@
 -- The runs of lines, from the first line on.
-use Rattle.std.proofs.Common.{◌≡◌, ℕ, zero, suc, ◌+◌, ◌==◌, ◌&&◌, Bool, true, false, cond, List, [], ◌∷◌, ◌++◌, refl, sym, ◌∙◌, ap, append_assoc, arith}
-use Rattle.std.specs.Prelude.{bytes_eq, nat_lt, decimal}
+use Rattle.std.proofs.Common.{◌≡◌, ℕ, suc, ◌+◌, ◌&&◌, Bool, true, false, cond, List, [], ◌∷◌, ◌++◌, refl, sym, ◌∙◌, ap, arith}
+use Rattle.std.proofs.lemmas.Grind.{common_steps}
+use Rattle.std.specs.Prelude.{bytes_eq, nat_lt}
 use Rattle.std.specs.List.{flat_map}
 use Rattle.std.proofs.lemmas.Bool.Decides.{nat_tests}
 use Rattle.std.proofs.lemmas.List.{append-nil}
 use Rattle.std.proofs.lemmas.List.Concat.{flat_map-append}
 use Rattle.std.proofs.lemmas.Slice.Eq.{bytes_eq-Decides}
 use Rattle.ptlines.specs.Inputs.{Begins}
-use Rattle.ptlines.specs.Text.{text}
 use Rattle.ptlines.proofs.TextLaws.{text-append}
 use Rattle.ptlangs.specs.Jobs.{Uniq}
-use Rattle.ptlangs.specs.declared.jobs.Show.{Show}
-use Rattle.ptlangs.specs.declared.jobs.Show.TheVariants.{All, Counts, Repeated, Single}
 use Rattle.ptflow.specs.Uniqs.{Run, key, is_same, onto_runs, runs, shown, entries, all_but_last}
-use Rattle.ptflow.specs.Workings.Uniq.OpenRuns.{run_of, open_run, runs_from, runs_behind, is_shown, lead, run_text}
+use Rattle.ptflow.specs.Workings.Uniq.OpenRuns.{run_of, open_run, runs_from, runs_behind, run_text}
 
 some_lines : (n : ℕ) → nat_lt 0 (n + 1) ≡ true
 some_lines n = grind (arith, nat_tests)
@@ -32,95 +30,63 @@ module _ (job : Uniq) where
   abbrev chosen : List ℕ → List (List ℕ) → List ℕ → ℕ → Bool → List Run
   chosen l ls x m t = cond t (runs_from job (run_of x (m + 1)) ls) (run_of x m ∷ runs_from job (run_of l 1) ls)
 
-  first_more : (line : List ℕ) (n : ℕ) (l : List ℕ) (ls : List (List ℕ)) (t : Bool) → is_same job line l ≡ t → First line (n + 1) ls → First line n (l ∷ ls)
-  first_more line n l ls true e f = record {
+  first_more : {line : List ℕ} {n : ℕ} (l : List ℕ) {ls : List (List ℕ)} (t : Bool) → is_same job line l ≡ t → First line (n + 1) ls → First line n (l ∷ ls)
+  first_more l true e f = record {
     count = f.count;
     more = f.more;
-    is = ap (chosen l ls line n) e ∙ f.is;
-    led = λ x same. ap (chosen l ls x (n + 1)) (ap (λ (k : List ℕ). bytes_eq k (key job l)) same ∙ e) ∙ f.led x same;
+    is = cc;
+    led = λ x same. cc (f.led x same);
   }
-  first_more line n l ls false e f = record {
+  first_more {line} {n} l {ls} false e f = record {
     count = n;
     more = runs_from job (run_of l 1) ls;
     is = ap (chosen l ls line n) e;
-    led = λ x same. ap (chosen l ls x (n + 1)) (ap (λ (k : List ℕ). bytes_eq k (key job l)) same ∙ e);
+    led = λ x same. ap (chosen l ls x (n + 1)) (ap (λ k. bytes_eq k (key job l)) same ∙ e);
   }
 
   first : (line : List ℕ) (n : ℕ) (ls : List (List ℕ)) → First line n ls
   first line n [] = record { count = n; more = []; is = refl; led = λ x same. refl }
-  first line n (l ∷ ls) = first_more line n l ls (is_same job line l) refl (first line (n + 1) ls)
+  first line n (l ∷ ls) = first_more l (is_same job line l) refl (first line (n + 1) ls)
 
-  onto_first_run : (line l : List ℕ) (ls : List (List ℕ)) (t : Bool) → is_same job line l ≡ t → First l 1 ls → onto_runs job line (runs_from job (run_of l 1) ls) ≡ chosen l ls line 1 t
-  onto_first_run line l ls true e f = ap (onto_runs job line) f.is ∙ rw e (sym (f.led line ((bytes_eq-Decides (key job line) (key job l)).0 e)))
-  onto_first_run line l ls false e f = ap (onto_runs job line) f.is ∙ rw e (ap (λ (rs : List Run). run_of line 1 ∷ rs) (sym f.is))
+  onto_first_run : (line : List ℕ) {l : List ℕ} {ls : List (List ℕ)} (t : Bool) → is_same job line l ≡ t → First l 1 ls → onto_runs job line (runs_from job (run_of l 1) ls) ≡ chosen l ls line 1 t
+  onto_first_run line {l} true e f = ap (onto_runs job line) f.is ∙ rw e (sym (f.led line ((bytes_eq-Decides (key job line) (key job l)).0 e)))
+  onto_first_run line false e f = ap (onto_runs job line) f.is ∙ rw e (ap (◌∷◌ (run_of line 1)) (sym f.is))
 
   -- the runs of lines by their first line
   pub runs_are : (line : List ℕ) (ls : List (List ℕ)) → runs job (line ∷ ls) ≡ runs_from job (run_of line 1) ls
   runs_are line [] = refl
-  runs_are line (l ∷ ls) = ap (onto_runs job line) (runs_are l ls) ∙ onto_first_run line l ls (is_same job line l) refl (first l 1 ls)
+  runs_are line (l ∷ ls) = cc (runs_are l ls, onto_first_run line (is_same job line l) refl (first l 1 ls))
 
   -- ---- one line more
 
   pub behind_more : (run : Run) (line : List ℕ) (more : List (List ℕ)) → (nat_lt 0 run.count && is_same job run.line line) ≡ true
       → runs_behind job run (line ∷ more) ≡ runs_behind job (run_of run.line (run.count + 1)) more
-  behind_more run line more goes = by_tests (nat_lt 0 run.count) (is_same job run.line line) goes
-      ∙ ap (λ (t : Bool). cond t (runs_from job (run_of run.line (run.count + 1)) more) (runs job more)) (sym (some_lines run.count))
-    where
-      by_tests : (t s : Bool) → (t && s) ≡ true → cond t (chosen line more run.line run.count s) (runs job (line ∷ more)) ≡ runs_from job (run_of run.line (run.count + 1)) more
-      by_tests true true goes = refl
-      by_tests true false goes = cc
-      by_tests false s goes = cc
+  behind_more run line more goes = grind (arith, some_lines run.count)
 
   pub behind_turn : (run : Run) (line : List ℕ) (more : List (List ℕ)) → (nat_lt 0 run.count && is_same job run.line line) ≡ false
       → runs_behind job run (line ∷ more) ≡ open_run run ++ runs_behind job (run_of line 1) more
-  behind_turn run line more turns = by_tests (nat_lt 0 run.count) (is_same job run.line line) turns
-    where
-      by_tests : (t s : Bool) → (t && s) ≡ false → cond t (chosen line more run.line run.count s) (runs job (line ∷ more)) ≡ cond t (run ∷ []) [] ++ runs_from job (run_of line 1) more
-      by_tests true true turns = cc
-      by_tests true false turns = refl
-      by_tests false s turns = runs_are line more
+  behind_turn run line more turns = grind (arith, runs_are line more)
 
   -- ---- what is written
 
   pub entries-append : (xs ys : List Run) → entries job (xs ++ ys) ≡ entries job xs ++ entries job ys
-  entries-append xs ys = ap (text job.end) (flat_map-append (shown job.show) xs ys) ∙ text-append job.end (flat_map (shown job.show) xs) (flat_map (shown job.show) ys)
+  entries-append xs ys = cc (flat_map-append (shown job.show) xs ys, text-append job.end (flat_map (shown job.show) xs) (flat_map (shown job.show) ys))
 
 -- what is written of one run
 pub open_is : (job : Uniq) (run : Run) → entries job (open_run run) ≡ run_text job.show run.count (run.line ++ job.end ∷ [])
-open_is job run = by_show job.show run.count
-  where
-    by_test : (t : Bool) → text job.end (cond t (run.line ∷ []) [] ++ []) ≡ cond t (run.line ++ job.end ∷ []) []
-    by_test true = append-nil (run.line ++ job.end ∷ [])
-    by_test false = refl
-
-    one : (n : ℕ) (t : Bool) → text job.end (flat_map (shown All) (cond t (run_of run.line n ∷ []) [])) ≡ cond t (run.line ++ job.end ∷ []) []
-    one n true = append-nil (run.line ++ job.end ∷ [])
-    one n false = refl
-
-    counted : (n : ℕ) (t : Bool) → text job.end (flat_map (shown Counts) (cond t (run_of run.line n ∷ []) [])) ≡ cond t ((decimal n ++ 32 ∷ []) ++ (run.line ++ job.end ∷ [])) []
-    counted n true =
-        append-nil ((decimal n ++ 32 ∷ run.line) ++ job.end ∷ []) ∙ append_assoc (decimal n) (32 ∷ run.line) (job.end ∷ []) ∙ sym (append_assoc (decimal n) (32 ∷ []) (run.line ++ job.end ∷ []))
-    counted n false = refl
-
-    by_show : (show : Show) (n : ℕ) → text job.end (flat_map (shown show) (cond (nat_lt 0 n) (run_of run.line n ∷ []) [])) ≡ cond (is_shown show n) (lead show n ++ (run.line ++ job.end ∷ [])) []
-    by_show All n = one n (nat_lt 0 n)
-    by_show Counts n = counted n (nat_lt 0 n)
-    by_show Repeated zero = refl
-    by_show Repeated (suc n) = rw (some_line n) (by_test (nat_lt 1 (suc n)))
-    by_show Single zero = refl
-    by_show Single (suc n) = rw (some_line n) (by_test (suc n == 1))
+open_is job run = grind (arith, common_steps)
 
 -- ---- all but the last
 
 but_push : (rs : List Run) (run : Run) → all_but_last (rs ++ run ∷ []) ≡ rs
 but_push [] run = refl
 but_push (r ∷ []) run = refl
-but_push (r ∷ q ∷ rs) run = ap (λ (l : List Run). r ∷ l) (but_push (q ∷ rs) run)
+but_push (r ∷ q ∷ rs) run = ap (◌∷◌ r) (but_push (q ∷ rs) run)
 
 but_front : (rs : List Run) → (last : List Run) × (rs ≡ all_but_last rs ++ last)
 but_front [] = ([], refl)
 but_front (r ∷ []) = (r ∷ [], refl)
-but_front (r ∷ q ∷ rs) = let f = but_front (q ∷ rs) in (f.0, ap (λ (l : List Run). r ∷ l) f.1)
+but_front (r ∷ q ∷ rs) = let f = but_front (q ∷ rs) in (f.0, ap (◌∷◌ r) f.1)
 
 -- all runs but an open one were passed, or all but the last of them
 pub but_open : (job : Uniq) (passed : List Run) (run : Run) → Begins (entries job (all_but_last (passed ++ open_run run))) (entries job passed)
@@ -129,9 +95,9 @@ but_open job passed run = by_test (nat_lt 0 run.count)
     by_test : (t : Bool) → Begins (entries job (all_but_last (passed ++ cond t (run ∷ []) []))) (entries job passed)
     by_test false = let f = but_front passed in record {
       rest = entries job f.0;
-      is = ap (entries job) f.1 ∙ entries-append job (all_but_last passed) f.0 ∙ ap (λ (l : List Run). entries job (all_but_last l) ++ entries job f.0) (sym (append-nil passed));
+      is = cc (entries-append job (all_but_last passed) f.0, append-nil passed);
     }
     by_test true = record {
       rest = [];
-      is = sym (append-nil (entries job passed)) ∙ ap (λ (l : List Run). entries job l ++ []) (sym (but_push passed run));
+      is = cc (append-nil (entries job passed), but_push passed run);
     }

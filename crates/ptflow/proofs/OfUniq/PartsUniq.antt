@@ -8,7 +8,7 @@ use Rattle.ptlines.specs.Text.{lines, IsLine}
 use Rattle.ptlines.proofs.PartLaws.{the_lines_of_parts}
 use Rattle.ptlines.proofs.TextLaws.{lines-text, the_lines}
 use Rattle.ptlangs.specs.Jobs.{Uniq}
-use Rattle.ptflow.specs.Uniqs.{Run, key, is_same, onto_runs, runs, entries}
+use Rattle.ptflow.specs.Uniqs.{Run, key, is_same, onto_runs, runs}
 use Rattle.ptflow.specs.Parts.{BeginsWith, EndsWith, AreGrouped, UniqOfParts, UniqByKey}
 use Rattle.ptflow.specs.Workings.Uniq.OpenRuns.{run_of}
 use Rattle.ptflow.proofs.OfUniq.OpenRuns.{entries-append}
@@ -56,9 +56,7 @@ module _ (job : Uniq) where
 
 pub uniq_of_parts : UniqOfParts
 uniq_of_parts job a b whole change =
-    ap (λ (ls : List (List ℕ)). entries job (runs job ls)) (the_lines_of_parts job.end a b whole)
-    ∙ ap (entries job) (runs-append job (lines job.end a) (lines job.end b) change)
-    ∙ entries-append job (runs job (lines job.end a)) (runs job (lines job.end b))
+    cc (the_lines_of_parts job.end a b whole, runs-append job (lines job.end a) (lines job.end b) change, entries-append job (runs job (lines job.end a)) (runs job (lines job.end b)))
 
 -- ---- lines that are dealt out by their keys
 
@@ -79,15 +77,15 @@ module _ (job : Uniq) (taken : List ℕ → Bool) where
   run_taken run = taken (key job run.line)
 
   -- the lines of runs are lines
-  all_runs : (P : List ℕ → Type 0) (ls : List (List ℕ)) → AllByRecursion P ls → AllByRecursion (λ (run : Run). P run.line) (runs job ls)
+  all_runs : (P : List ℕ → Type 0) (ls : List (List ℕ)) → AllByRecursion P ls → AllByRecursion (λ run. P run.line) (runs job ls)
   all_runs P [] all = tt
   all_runs P (x ∷ ls) all = put (runs job ls) (all_runs P ls all.1)
     where
-      put : (rs : List Run) → AllByRecursion (λ (run : Run). P run.line) rs → AllByRecursion (λ (run : Run). P run.line) (onto_runs job x rs)
+      put : (rs : List Run) → AllByRecursion (λ run. P run.line) rs → AllByRecursion (λ run. P run.line) (onto_runs job x rs)
       put [] rest = (all.0, tt)
       put (r ∷ rs) rest = by_test (is_same job x r.line)
         where
-          by_test : (t : Bool) → AllByRecursion (λ (run : Run). P run.line) (cond t (run_of x (r.count + 1) ∷ rs) (run_of x 1 ∷ r ∷ rs))
+          by_test : (t : Bool) → AllByRecursion (λ run. P run.line) (cond t (run_of x (r.count + 1) ∷ rs) (run_of x 1 ∷ r ∷ rs))
           by_test true = (all.0, rest.1)
           by_test false = (all.0, rest)
 
@@ -99,46 +97,38 @@ module _ (job : Uniq) (taken : List ℕ → Bool) where
       let onto = λ (t : Bool). filter run_taken (cond t (run_of x (r.count + 1) ∷ rs) (run_of x 1 ∷ r ∷ rs)) in
       ⊎_elim
       (λ same.
-      let too : run_taken r ≡ false = ap taken (sym ((bytes_eq-Decides (key job x) (key job r.line)).0 same)) ∙ is in
-      ap onto same ∙ ap (λ (t : Bool). cond t (run_of x (r.count + 1) ∷ rest) rest) is ∙ ap (λ (t : Bool). cond t (r ∷ rest) rest) (sym too))
-      (λ other. ap onto other ∙ ap (λ (t : Bool). cond t (run_of x 1 ∷ filter run_taken (r ∷ rs)) (filter run_taken (r ∷ rs))) is)
-      (cases_Bool (is_same job x r.line))
+      let too : run_taken r ≡ false = cc ((bytes_eq-Decides (key job x) (key job r.line)).0 same) in
+      cc) (λ other. cc) (cases_Bool (is_same job x r.line))
 
   -- a line that is taken, in front of a run of its key
   onto_same : (x : List ℕ) (r : Run) (rs : List Run) → line_taken x ≡ true → key job x ≡ key job r.line → onto_runs job x (filter run_taken (r ∷ rs)) ≡ filter run_taken (onto_runs job x (r ∷ rs))
-  onto_same x r rs is same = let too : run_taken r ≡ true = ap taken (sym same) ∙ is in rw (same_key job x r.line same, is, too) (rw (same_key job x r.line same) refl)
+  onto_same x r rs is same = let too : run_taken r ≡ true = cc in rw (same_key job x r.line same, is, too) (rw (same_key job x r.line same) refl)
 
   -- a line in front of runs of other keys
-  onto_other : (x : List ℕ) (rs : List Run) → AllByRecursion (λ (run : Run). key job x ≢ key job run.line) rs → onto_runs job x rs ≡ run_of x 1 ∷ rs
+  onto_other : (x : List ℕ) (rs : List Run) → AllByRecursion (λ run. key job x ≢ key job run.line) rs → onto_runs job x rs ≡ run_of x 1 ∷ rs
   onto_other x [] others = refl
   onto_other x (r ∷ rs) others = rw (other_key job x r.line others.0) refl
 
-  onto_apart : (x : List ℕ) (rs : List Run) → line_taken x ≡ true → AllByRecursion (λ (run : Run). key job x ≢ key job run.line) rs
+  onto_apart : (x : List ℕ) (rs : List Run) → line_taken x ≡ true → AllByRecursion (λ run. key job x ≢ key job run.line) rs
       → onto_runs job x (filter run_taken rs) ≡ filter run_taken (onto_runs job x rs)
   onto_apart x rs is others =
-      onto_other x (filter run_taken rs) (all_filter (λ (run : Run). key job x ≢ key job run.line) run_taken rs others)
-      ∙ ap (λ (t : Bool). cond t (run_of x 1 ∷ filter run_taken rs) (filter run_taken rs)) (sym is)
-      ∙ ap (filter run_taken) (sym (onto_other x rs others))
+      cc (onto_other x (filter run_taken rs) (all_filter (λ run. key job x ≢ key job run.line) run_taken rs others), onto_other x rs others)
 
   runs_taken : (ls : List (List ℕ)) → AreGrouped job ls → runs job (filter line_taken ls) ≡ filter run_taken (runs job ls)
   runs_taken [] grouped = refl
-  runs_taken (x ∷ ls) grouped = ⊎_elim
-      (λ is. ap (λ (t : Bool). runs job (cond t (x ∷ filter line_taken ls) (filter line_taken ls))) is ∙ ap (onto_runs job x) (runs_taken ls grouped.1) ∙ kept is grouped.0)
-      (λ is. ap (λ (t : Bool). runs job (cond t (x ∷ filter line_taken ls) (filter line_taken ls))) is ∙ runs_taken ls grouped.1 ∙ sym (onto_dropped x (runs job ls) is))
-      (cases_Bool (line_taken x))
+  runs_taken (x ∷ ls) grouped = ⊎_elim (λ is. cc (runs_taken ls grouped.1, kept is grouped.0))
+      (λ is. cc (runs_taken ls grouped.1, onto_dropped x (runs job ls) is)) (cases_Bool (line_taken x))
     where
       kept : line_taken x ≡ true → (((next : List ℕ) × BeginsWith next ls × (key job x ≡ key job next)) ⊎ AllByRecursion (λ other. key job x ≢ key job other) ls)
           → onto_runs job x (filter run_taken (runs job ls)) ≡ filter run_taken (onto_runs job x (runs job ls))
       kept is (inl n) =
           let r = onto_is job n.0 (runs job n.1.0) in
-          let first : runs job ls ≡ run_of n.0 r.0 ∷ r.1 = ap (runs job) n.1.1 ∙ r.2 in
-          ap (λ (rs : List Run). onto_runs job x (filter run_taken rs)) first ∙ onto_same x (run_of n.0 r.0) r.1 is n.2
-          ∙ ap (λ (rs : List Run). filter run_taken (onto_runs job x rs)) (sym first)
+          let first : runs job ls ≡ run_of n.0 r.0 ∷ r.1 = cc in
+          cc (onto_same x (run_of n.0 r.0) r.1 is n.2)
       kept is (inr others) = onto_apart x (runs job ls) is (all_runs (λ other. key job x ≢ key job other) ls others)
 
 pub uniq_by_key : UniqByKey
 uniq_by_key job taken bytes grouped =
     let ls = lines job.end bytes in
     let some = filter (λ line. taken (key job line)) ls in
-    ap (λ (l : List (List ℕ)). entries job (runs job l)) (lines-text job.end some (all_filter (IsLine job.end) (λ line. taken (key job line)) ls (the_lines job.end bytes).0.0))
-    ∙ ap (entries job) (runs_taken job taken ls grouped)
+    cc (lines-text job.end some (all_filter (IsLine job.end) (λ line. taken (key job line)) ls (the_lines job.end bytes).0.0), runs_taken job taken ls grouped)

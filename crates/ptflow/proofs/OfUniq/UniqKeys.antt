@@ -1,5 +1,6 @@
 -- The key of a line, by one walk.
-use Rattle.std.proofs.Common.{◌≡◌, ℕ, zero, suc, ◌+◌, ◌<◌, ◌≤◌, Bool, true, false, cond, ◌||◌, min, ltb, List, [], ◌∷◌, None, Some, length, drop, get_or, refl, sym, ◌∙◌, ap, arith}
+use Rattle.std.proofs.Common.{◌≡◌, ℕ, zero, suc, ◌+◌, ◌<◌, ◌≤◌, Bool, true, false, cond, min, ltb, List, [], ◌∷◌, None, Some, length, drop, get_or, refl, sym, ◌∙◌, arith}
+use Rattle.std.proofs.lemmas.Grind.{common_steps}
 use Rattle.std.specs.Prelude.{slice_get, ◌==◌}
 use Rattle.std.specs.Option.{option_map_or}
 use Rattle.std.proofs.lemmas.List.{drop-drop}
@@ -29,10 +30,10 @@ from_end line bytes i n = option_map_or (λ end. drop (end + 1) line) (slice_get
 from_end_is : (line bytes : List ℕ) (i n : ℕ) → drop i line ≡ bytes → from_end line bytes i n ≡ behind (suc n) bytes
 unfolding from_end
 from_end_is line [] i n is = refl
-from_end_is line (b ∷ bytes) i n is = by_test (ends_word b bytes) n (λ m. from_end_is line bytes (i + 1) m next)
+from_end_is line (b ∷ bytes) i n is = by_test (ends_word b bytes) n (λ m. from_end_is line _ (i + 1) m next)
   where
     next : drop (i + 1) line ≡ bytes
-    next = sym (drop-drop 1 i line) ∙ ap (drop 1) is
+    next = cc (drop-drop 1 i line)
 
     by_test : (t : Bool) (n : ℕ) → ((m : ℕ) → from_end line bytes (i + 1) m ≡ behind (suc m) bytes)
         → option_map_or (λ end. drop (end + 1) line) (slice_get (cond t (i ∷ word_ends (i + 1) bytes) (word_ends (i + 1) bytes)) n) [] ≡ cond t (behind n bytes) (behind (suc n) bytes)
@@ -50,11 +51,7 @@ behind_is (suc n) line = sym (from_end_is line line 0 n refl)
 -- behind a field, and then behind so many more
 behind_add : (n : ℕ) (bytes : List ℕ) → behind (suc n) bytes ≡ behind n (behind 1 bytes)
 behind_add n [] = sym (behind_none n)
-behind_add n (b ∷ bytes) = by_test (ends_word b bytes) (behind_add n bytes)
-  where
-    by_test : (t : Bool) → behind (suc n) bytes ≡ behind n (behind 1 bytes) → cond t (behind n bytes) (behind (suc n) bytes) ≡ behind n (cond t (behind 0 bytes) (behind 1 bytes))
-    by_test true later = ap (behind n) (sym (behind_zero bytes))
-    by_test false later = later
+behind_add n (b ∷ bytes) = grind (arith, behind_add n bytes, behind_zero bytes)
 
 -- where the first byte is a blank
 blank_ends : (b : ℕ) (bytes : List ℕ) → is_blank b ≡ true → ends_word b bytes ≡ false
@@ -62,105 +59,89 @@ blank_ends b [] blank = rw blank refl
 blank_ends b (c ∷ bytes) blank = rw blank refl
 
 behind_blank : (b : ℕ) (bytes : List ℕ) → is_blank b ≡ true → behind 1 (b ∷ bytes) ≡ behind 1 bytes
-behind_blank b bytes blank = ap (λ (t : Bool). cond t (behind 0 bytes) (behind 1 bytes)) (blank_ends b bytes blank)
+behind_blank b bytes blank = cc (blank_ends b bytes blank)
 
 -- where it is not
 behind_other : (b : ℕ) (bytes : List ℕ) → is_blank b ≡ false → behind 1 (b ∷ bytes) ≡ after_bytes bytes
 behind_other b [] other = rw other refl
-behind_other b (c ∷ bytes) other = rw other (by_test (is_blank c) (λ is. behind_other c bytes is))
-  where
-    by_test : (t : Bool) → (t ≡ false → behind 1 (c ∷ bytes) ≡ after_bytes bytes) → cond t (c ∷ bytes) (behind 1 (c ∷ bytes)) ≡ cond t (c ∷ bytes) (after_bytes bytes)
-    by_test true later = refl
-    by_test false later = later refl
+behind_other b (c ∷ bytes) other = grind (arith, common_steps, behind_other c bytes)
 
 pub after_one : (line : List ℕ) → after_fields 1 line ≡ behind 1 line
 after_one line = sym (behind_is 1 line)
 
 pub behind_step : (n m : ℕ) (rest : List ℕ) → n ≡ m + 1 → behind n rest ≡ behind m (after_fields 1 rest)
 behind_step n m rest is =
-    let more : n ≡ suc m = omega (arith, is) in
-    ap (λ (k : ℕ). behind k rest) more ∙ behind_add m rest ∙ ap (behind m) (sym (after_one rest))
+    let more : n ≡ suc m = omega arith in
+    cc (behind_add m rest, after_one rest)
 
 -- the same by what stands in front
-pub blank_first : (rest behind_it : List ℕ) → 0 < length rest → behind_it ≡ drop 1 rest → is_blank (get_or rest 0 0) ≡ true → behind 1 rest ≡ behind 1 behind_it
-blank_first [] behind_it long is blank = absurd (omega (arith, long))
-blank_first (b ∷ bytes) behind_it long is blank = behind_blank b bytes blank ∙ ap (behind 1) (sym is)
+pub blank_first : (rest : List ℕ) {behind_it : List ℕ} → 0 < length rest → behind_it ≡ drop 1 rest → is_blank (get_or rest 0 0) ≡ true → behind 1 rest ≡ behind 1 behind_it
+blank_first [] long is blank = absurd (omega arith)
+blank_first (b ∷ bytes) long is blank = cc (behind_blank b bytes blank)
 
 pub other_first : (rest : List ℕ) → 0 < length rest → is_blank (get_or rest 0 0) ≡ false → behind 1 rest ≡ after_bytes rest
-other_first [] long other = absurd (omega (arith, long))
-other_first (b ∷ bytes) long other = behind_other b bytes other ∙ sym (ap (λ (t : Bool). cond t (b ∷ bytes) (after_bytes bytes)) other)
+other_first [] long other = absurd (omega arith)
+other_first (b ∷ bytes) long other = cc (behind_other b bytes other)
 
 -- by a search for the first blank
 blank_here : (b : ℕ) (bytes : List ℕ) → is_blank b ≡ true → after_bytes (b ∷ bytes) ≡ b ∷ bytes
-blank_here b bytes blank = ap (λ (t : Bool). cond t (b ∷ bytes) (after_bytes bytes)) blank
+blank_here b bytes blank = cc
 
 other_here : (b : ℕ) (bytes : List ℕ) → (is_blank b ≡ true → ⊥) → after_bytes (b ∷ bytes) ≡ after_bytes bytes
-other_here b bytes other = by_test (is_blank b) other
-  where
-    by_test : (t : Bool) → (t ≡ true → ⊥) → cond t (b ∷ bytes) (after_bytes bytes) ≡ after_bytes bytes
-    by_test true other = absurd (other refl)
-    by_test false other = refl
+other_here b bytes other = grind arith
 
 after_at : (line : List ℕ) (at : ℕ) → at < length line → ((k : ℕ) → k < at → is_blank (get_or line k 0) ≡ true → ⊥) → is_blank (get_or line at 0) ≡ true → after_bytes line ≡ drop at line
-after_at [] at high none blank = absurd (omega (arith, high))
+after_at [] at high none blank = absurd (omega arith)
 after_at (b ∷ bytes) zero high none blank = blank_here b bytes blank
-after_at (b ∷ bytes) (suc at) high none blank = other_here b bytes (none 0 (omega arith)) ∙ after_at bytes at (omega (arith, high)) (λ k lt. none (suc k) (omega (arith, lt))) blank
+after_at (b ∷ bytes) (suc at) high none blank = other_here b bytes (none 0 (omega arith)) ∙ after_at bytes at (omega arith) (λ k lt. none (suc k) (omega arith)) blank
 
 after_none : (line : List ℕ) → ((k : ℕ) → k < length line → is_blank (get_or line k 0) ≡ true → ⊥) → after_bytes line ≡ []
 after_none [] none = refl
-after_none (b ∷ bytes) none = other_here b bytes (none 0 (omega arith)) ∙ after_none bytes (λ k lt. none (suc k) (omega (arith, lt)))
+after_none (b ∷ bytes) none = other_here b bytes (none 0 (omega arith)) ∙ after_none bytes (λ k lt. none (suc k) (omega arith))
 
 pub after_found : (line : List ℕ) (at : ℕ) → IsFirstByte (is_byte2 32 9) line (Some at) → after_bytes line ≡ drop at line
-after_found line at first = after_at line at first.0.high (λ k lt. first.0.before k (omega arith) lt) first.1
+after_found line at first = after_at line _ first.0.high (λ k lt. first.0.before k (omega arith) lt) first.1
 
 pub after_not_found : (line : List ℕ) → IsFirstByte (is_byte2 32 9) line None → after_bytes line ≡ []
 after_not_found line none = after_none line (λ k lt. none k (omega arith) lt)
 
 -- byte by byte
 pub blank_front : (line : List ℕ) (at : ℕ) → at < length line → is_blank (get_or line at 0) ≡ true → after_bytes (drop at line) ≡ drop at line
-blank_front [] at high blank = absurd (omega (arith, high))
+blank_front [] at high blank = absurd (omega arith)
 blank_front (b ∷ bytes) zero high blank = blank_here b bytes blank
-blank_front (b ∷ bytes) (suc at) high blank = blank_front bytes at (omega (arith, high)) blank
+blank_front (b ∷ bytes) (suc at) high blank = blank_front bytes at (omega arith) blank
 
 pub other_front : (line : List ℕ) (at : ℕ) → at < length line → is_blank (get_or line at 0) ≡ false → after_bytes (drop at line) ≡ after_bytes (drop (suc at) line)
-other_front [] at high other = absurd (omega (arith, high))
-other_front (b ∷ bytes) zero high other = ap (λ (t : Bool). cond t (b ∷ bytes) (after_bytes bytes)) other
-other_front (b ∷ bytes) (suc at) high other = other_front bytes at (omega (arith, high)) other
+other_front [] at high other = absurd (omega arith)
+other_front (b ∷ bytes) zero high other = cc
+other_front (b ∷ bytes) (suc at) high other = other_front bytes at (omega arith) other
 
 -- what stands in front of a place where there are no blanks is passed
 pub blanks_later : (line : List ℕ) (at : ℕ) → at ≤ length line → ((k : ℕ) → k < at → is_blank (get_or line k 0) ≡ true → ⊥) → after_bytes line ≡ after_bytes (drop at line)
 blanks_later line zero high none = refl
 blanks_later [] (suc at) high none = refl
-blanks_later (b ∷ bytes) (suc at) high none = other_here b bytes (none 0 (omega arith)) ∙ blanks_later bytes at (omega (arith, high)) (λ k lt. none (suc k) (omega (arith, lt)))
+blanks_later (b ∷ bytes) (suc at) high none = other_here b bytes (none 0 (omega arith)) ∙ blanks_later bytes at (omega arith) (λ k lt. none (suc k) (omega arith))
 
 neither : (b : ℕ) → ((b == 32) ≡ true → ⊥) → ((b == 9) ≡ true → ⊥) → is_blank b ≡ true → ⊥
-neither b space tab = by (b == 32) (b == 9) space tab
-  where
-    by : (s t : Bool) → (s ≡ true → ⊥) → (t ≡ true → ⊥) → (s || t) ≡ true → ⊥
-    by true t no_space no_tab is = no_space refl
-    by false t no_space no_tab is = no_tab is
+neither b space tab = grind arith
 
 is_space : (b : ℕ) → (b == 32) ≡ true → is_blank b ≡ true
-is_space b e = ap (λ (s : Bool). s || (b == 9)) e
+is_space b e = cc
 
 is_tab : (b : ℕ) → (b == 9) ≡ true → is_blank b ≡ true
-is_tab b e = by_test (b == 32)
-  where
-    by_test : (s : Bool) → (s || (b == 9)) ≡ true
-    by_test true = refl
-    by_test false = e
+is_tab b e = grind arith
 
 -- by a search for a space and one for a tab
 module _ (line : List ℕ) (a b : ℕ) (no_space : Nowhere (Passes (is_byte 32) line) 0 a) (no_tab : Nowhere (Passes (is_byte 9) line) 0 b) where
   none_here : (k : ℕ) → k < min a b → is_blank (get_or line k 0) ≡ true → ⊥
-  none_here k lt = neither (get_or line k 0) (no_space k (omega arith) (omega (arith, lt))) (no_tab k (omega arith) (omega (arith, lt)))
+  none_here k lt = neither (get_or line k 0) (no_space k (omega arith) (omega arith)) (no_tab k (omega arith) (omega arith))
 
   pub both_later : min a b ≤ length line → after_bytes line ≡ after_bytes (drop (min a b) line)
-  both_later high = blanks_later line (min a b) high none_here
+  both_later high = blanks_later line _ high none_here
 
-  pub both_near : (n : ℕ) → (a < n → Passes (is_byte 32) line a) → (b < n → Passes (is_byte 9) line b) → n ≤ length line → min a b < n → after_bytes line ≡ drop (min a b) line
-  both_near n space tab high near = after_at line (min a b) (omega (arith, high, near)) none_here (by (ltb b a) refl)
+  pub both_near : {n : ℕ} → (a < n → Passes (is_byte 32) line a) → (b < n → Passes (is_byte 9) line b) → n ≤ length line → min a b < n → after_bytes line ≡ drop (min a b) line
+  both_near space tab high near = after_at line (min a b) (omega arith) none_here (by (ltb b a) refl)
     where
       by : (u : Bool) → ltb b a ≡ u → is_blank (get_or line (min a b) 0) ≡ true
-      by true e = let is : min a b ≡ b = grind (arith, nat_tests) in is_tab (get_or line (min a b) 0) (ap (λ i. get_or line i 0 == 9) is ∙ tab (omega (arith, is, near)))
-      by false e = let is : min a b ≡ a = grind (arith, nat_tests) in is_space (get_or line (min a b) 0) (ap (λ i. get_or line i 0 == 32) is ∙ space (omega (arith, is, near)))
+      by true e = let is : min a b ≡ b = grind (arith, nat_tests) in is_tab (get_or line (min a b) 0) (cc (tab (omega arith)))
+      by false e = let is : min a b ≡ a = grind (arith, nat_tests) in is_space (get_or line (min a b) 0) (cc (space (omega arith)))

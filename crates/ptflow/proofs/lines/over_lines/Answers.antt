@@ -1,7 +1,7 @@
 -- What was staged is sent before each read, so each answer first passes over that. Behind the line that came by way of
 -- the last slot what is staged is sent again, and the lines of the block follow. Each exit is one of the ends of a
 -- pass.
-use Rattle.std.proofs.Common.{ℕ, refl, ◌∙◌, subst, arith}
+use Rattle.std.proofs.Common.{refl, subst, arith}
 use Rattle.std.proofs.lemmas.Result.{err_from_is_err_and}
 use Rattle.ptlines.specs.Text.{IsLine}
 use Rattle.ptflow.proofs.OfPasses.LineLemmas.{came_line, run_starts, run_unslotted, run_sent, run_count, run_room, run_unsent, run_line, run_line_halts, filled_count}
@@ -20,9 +20,8 @@ returns-in_err-need_slots g c =
 pub turns-init : goal.turns-init
 turns-init g c =
     let adds = rw c.SLOTS-slots.ensures at c.need_slots.ensures.adds in
-    run_starts c.requires.tool refl c.requires.ready c.requires.clean
-    (keeps_starts g.T.LineTool.SLOTS c.args.store.now c.need_slots.new.store adds c.in_ok-need_slots.ensures.allowed
-    (c.need_slots.ensures.same_total ∙ c.requires.ready.empty) c.need_slots.ensures.same_peak)
+    run_starts c.requires.tool refl c.requires.ready c.requires.clean (keeps_starts adds c.in_ok-need_slots.ensures.allowed
+    (cc) c.need_slots.ensures.same_peak)
 
 pub returns-in_err-send_before_wait : goal.returns-in_err-send_before_wait
 returns-in_err-send_before_wait g c =
@@ -62,14 +61,14 @@ pub returns-in-Err-Read : goal.returns-in-Err-Read
 returns-in-Err-Read g c =
     let r = run_sent c.requires.tool c.turns.invariant c.send_before_wait.ensures.wrote c.in_ok-send_before_wait.ensures.clean in
     let e = rw (c.in-Err-Read.field-0-is, c.SLOTS-slots.ensures) at (c.in-Err-Read.ensures.fills r.reached.goes.fault) in
-    let free = subst (λ (b : ℕ). IsLine b e.piece) r.reached.goes.reads.ending e.faults.whole in
+    let free = subst (λ b. IsLine b e.piece) r.reached.goes.reads.ending e.faults.whole in
     run_broken c.requires.tool r c.requires.ready c.fill.ensures.was_sound e.faults.reads free c.fill.ensures.is_sound e.stored e.cause
 
 pub returns-in-Err-Memory : goal.returns-in-Err-Memory
 returns-in-Err-Memory g c =
     let r = run_sent c.requires.tool c.turns.invariant c.send_before_wait.ensures.wrote c.in_ok-send_before_wait.ensures.clean in
     let e = rw (c.in-Err-Memory.field-0-is, c.SLOTS-slots.ensures) at (c.in-Err-Memory.ensures.fills r.reached.goes.fault) in
-    let free = subst (λ (b : ℕ). IsLine b e.piece) r.reached.goes.reads.ending e.faults.whole in
+    let free = subst (λ b. IsLine b e.piece) r.reached.goes.reads.ending e.faults.whole in
     run_memory c.requires.tool r c.requires.ready c.fill.ensures.was_sound e.faults.reads free c.fill.ensures.is_sound e.stored e.failed
 
 pub returns-in_err-send_before_wait-2 : goal.returns-in_err-send_before_wait-2
@@ -84,9 +83,8 @@ returns-in_err-send_before_wait-2 g c =
 pub turns-smaller : goal.turns-smaller
 turns-smaller g c =
     let e = came_line c.SLOTS-slots.ensures c.in-Ok-true.field-0-test (c.in-Ok-true.ensures.fills c.turns.invariant.reached.goes.fault) in
-    let shown = c.block.follows.lender-at-none in
     let shows = (rw c.in-Ok.is at c.block.follows.holds-at-none.shows) e.goes.fault in
-    budget_less c.turns.reader c.fill.new.self shown c.consume.new.self c.in_ok-passed-in-Ok.passed e.less shows.0 c.consume.ensures.consumed
+    budget_less c.turns.reader c.in_ok-passed-in-Ok.passed e.less shows.0 c.consume.ensures.consumed
 
 pub take_block-requires-clause-open : goal.take_block-requires-clause-open
 take_block-requires-clause-open g c =

@@ -1,5 +1,4 @@
-use Rattle.std.specs.Int.{cast_unsigned}
-use Rattle.std.proofs.Common.{ℕ, w8, ◌≡◌, ◌≤◌, ◌+◌, ◌++◌, ◌∙◌, Bool, List, not, length, take, map, sym, ap, arith}
+use Rattle.std.proofs.Common.{ℕ, ◌≡◌, ◌≤◌, ◌+◌, ◌∙◌, Bool, List, not, length, take, map, arith}
 use Rattle.std.specs.Prelude.{filter}
 use Rattle.std.specs.Simd.Lanes.{chunk}
 use Rattle.std.proofs.lemmas.Simd.{length-chunk}
@@ -20,12 +19,8 @@ returns-then-gone-eq0-clause-kept c =
     let none = none_of_four (map test (chunk at 16 from)) (map test (chunk (at + 16) 16 from)) (map test (chunk (at + 32) 16 from)) (map test (chunk (at + 48) 16 from))
     (flags_long test at from (omega (arith, c.requires.lanes))) (flags_long test (at + 16) from (omega (arith, c.requires.lanes)))
     (flags_long test (at + 32) from (omega (arith, c.requires.lanes))) (flags_long test (at + 48) from (omega (arith, c.requires.lanes)))
-    _ _ _ _
-    (ap (map (cast_unsigned w8)) c.test.ensures ∙ lanes at) (ap (map (cast_unsigned w8)) c.test-2.ensures ∙ lanes (at + 16))
-    (ap (map (cast_unsigned w8)) c.test-3.ensures ∙ lanes (at + 32)) (ap (map (cast_unsigned w8)) c.test-4.ensures ∙ lanes (at + 48))
-    c.if-gone-eq0.true in
-    c.put_chunk.ensures.put
-    ∙ ap (λ (l : List ℕ). take c.args.count c.args.into.now ++ l) (sym (all_kept_in_four test at from none))
+    (cc (lanes at)) (cc (lanes (at + 16))) (cc (lanes (at + 32))) (cc (lanes (at + 48))) c.if-gone-eq0.true in
+    cc (all_kept_in_four test at from none)
 
 pub returns-clause-kept : goal.returns-clause-kept
 returns-clause-kept c =
@@ -34,9 +29,4 @@ returns-clause-kept c =
     let keeps : ℕ → Bool = λ b. not (holds c.args.set b) in
     let kept = λ (k : ℕ). filter keeps (chunk k 16 from) in
     let before = take c.args.count c.args.into.now in
-    c.keep_lanes.ensures.kept
-    ∙ ap (λ (l : List ℕ). l ++ kept (at + 48)) c.keep_lanes-third.ensures.kept
-    ∙ ap (λ (l : List ℕ). (l ++ kept (at + 32)) ++ kept (at + 48)) c.keep_lanes-second.ensures.kept
-    ∙ ap (λ (l : List ℕ). ((l ++ kept (at + 16)) ++ kept (at + 32)) ++ kept (at + 48)) c.keep_lanes-first.ensures.kept
-    ∙ kept_in_four keeps before (chunk at 16 from) (chunk (at + 16) 16 from) (chunk (at + 32) 16 from) (chunk (at + 48) 16 from)
-    ∙ ap (λ (l : List ℕ). before ++ filter keeps l) (sym (chunk_in_four at from))
+    cc (kept_in_four keeps before (chunk at 16 from) (chunk (at + 16) 16 from) (chunk (at + 32) 16 from) (chunk (at + 48) 16 from), chunk_in_four at from)

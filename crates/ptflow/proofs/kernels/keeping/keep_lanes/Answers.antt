@@ -1,4 +1,4 @@
-use Rattle.std.proofs.Common.{ℕ, List, ◌++◌, Bool, not, take, map, ap, ◌∙◌}
+use Rattle.std.proofs.Common.{ℕ, Bool, not, map}
 use Rattle.std.proofs.lemmas.List.{length-map}
 use Rattle.ptflow.specs.Workings.Bytes.ByteSets.{holds}
 use Rattle.ptflow.proofs.OfBytes.ChosenLanes.{chosen_by_test}
@@ -9,5 +9,4 @@ pub returns-clause-kept : goal.returns-clause-kept
 returns-clause-kept c =
     let keeps : ℕ → Bool = λ b. not (holds c.args.set b) in
     let bytes = c.args.bytes in
-    c.pack.ensures.packed (map keeps bytes) (length-map bytes keeps ∙ c.fits-bytes.0) (keep_bits (holds c.args.set) bytes _ c.fits-bytes.0 c.test-keep.ensures)
-    ∙ ap (λ (l : List ℕ). take c.args.count c.args.into.now ++ l) (chosen_by_test keeps bytes)
+    cc (c.pack.ensures.packed (map keeps bytes) (cc (length-map bytes keeps)) (keep_bits (holds c.args.set) bytes c.fits-bytes.0 c.test-keep.ensures), chosen_by_test keeps bytes)

@@ -1,5 +1,4 @@
-use Rattle.std.proofs.Common.{ℕ, ◌+◌, Bool, not, false, get_or, refl, ap, ◌∙◌, arith}
-use Rattle.std.specs.Int.{from_bool}
+use Rattle.std.proofs.Common.{ℕ, ◌+◌, Bool, not, false, get_or, refl, ap, arith}
 use Rattle.ptflow.specs.Workings.Bytes.ByteSets.{holds}
 use Rattle.ptflow.proofs.OfBytes.KeptBytes.{keeps_same, keeps_byte, keeps_all}
 use Rattle.ptflow.proofs.kernels.keeping.keep_others.Goals as goal
@@ -7,14 +6,13 @@ use Rattle.ptflow.proofs.kernels.keeping.keep_others.Goals as goal
 pub loop-at-init : goal.loop-at-init
 loop-at-init c =
     let seen = c.keep_most-at.ensures in
-    keeps_same (λ b. not (holds c.args.set b)) (λ b. not (get_or c.args.flags.now b false)) c.args.from.now c.keep_most-at.new.into c.keep_most-at.result.0 c.keep_most-at.result.1
+    keeps_same (λ b. not (holds c.args.set b))
     (λ b byte. ap not (c.requires.set b byte)) c.type_inv.from seen.within seen.few seen.room seen.kept
 
 pub loop-at-preserved : goal.loop-at-preserved
 loop-at-preserved c =
     let keeps : ℕ → Bool = λ b. not (get_or c.args.flags.now b false) in
-    keeps_byte keeps c.args.from.now c.loop-at.into c.loop-at.at c.loop-at.count c.loop-at.invariant _ _ c.loop-at-test.true (omega arith) refl
-    (ap (λ (n : ℕ). c.loop-at.count + n) (c.from-count.ensures ∙ ap (λ (b : ℕ). from_bool (keeps b)) c.from.ensures))
+    keeps_byte c.loop-at.invariant c.loop-at-test.true (omega arith) refl (ap (◌+◌ c.loop-at.count) (cc))
 
 pub returns-clause-kept : goal.returns-clause-kept
-returns-clause-kept c = (keeps_all (λ b. not (get_or c.args.flags.now b false)) c.args.from.now c.loop-at.into c.loop-at.at c.loop-at.count c.loop-at.invariant c.loop-at-test.false).0
+returns-clause-kept c = (keeps_all c.loop-at.invariant c.loop-at-test.false).0

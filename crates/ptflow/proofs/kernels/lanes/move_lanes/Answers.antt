@@ -10,4 +10,4 @@ returns-clause-begun g c =
     let long : length made ≡ 16 =
     ap length c.moved-lanes.ensures ∙ length-map _ (g.M.Mover.becomes c.args.by) ∙ length-chunk at 16 c.args.from.now c.requires.room in
     take_more_put_chunk at c.args.to.now made (at + 16) (omega arith) (omega arith)
-    ∙ ap (λ made. take at c.args.to.now ++ made) c.moved-lanes.ensures
+    ∙ ap (◌++◌ (take at c.args.to.now)) c.moved-lanes.ensures

@@ -1,4 +1,4 @@
-use Rattle.std.proofs.Common.{◌++◌, ◌∙◌, ℕ, take, [], refl, sym, ap, subst, slice_index_or, arith, w8}
+use Rattle.std.proofs.Common.{◌∙◌, [], refl, sym, subst, slice_index_or, arith, w8}
 use Rattle.std.specs.Prelude.{count_ones}
 use Rattle.std.proofs.lemmas.Simd.{swz_l, length-swz_l, SwzOk-from_below}
 use Rattle.std.proofs.lemmas.Nat.{ones-le}
@@ -10,8 +10,8 @@ pub swizzle : goal.swizzle
 swizzle c =
     let keep = c.from.result in
     let row = slice_index_or c.args.shuffles.now.rows keep [] in
-    let is : IsRow (flags_of 8 keep) row = row_of_mask c.args.shuffles.now keep c.requires.packing (omega (arith, c.from.ensures, c.ranges.keep.fits)) in
-    SwzOk-from_below w8 16 1 16 0 row refl (omega (arith, is.long)) (row_lanes (flags_of 8 keep) row is)
+    let is : IsRow (flags_of 8 keep) row = row_of_mask c.args.shuffles.now keep c.requires.packing (omega arith) in
+    SwzOk-from_below w8 16 1 16 0 row refl (omega arith) (row_lanes is)
 
 pub returns-clause-packed : goal.returns-clause-packed
 returns-clause-packed c flags long masked =
@@ -19,7 +19,10 @@ returns-clause-packed c flags long masked =
     let into = c.args.into.now in
     let v = c.args.v in
     let row = slice_index_or c.args.shuffles.now.rows c.from.result [] in
-    let is : IsRow flags row = subst (λ (m : ℕ). IsRow flags (slice_index_or c.args.shuffles.now.rows m [])) (sym (c.from.ensures ∙ masked)) (c.requires.packing flags long) in
+    let is : IsRow flags row = subst (λ m. IsRow flags (slice_index_or c.args.shuffles.now.rows m [])) (sym (cc)) (c.requires.packing flags long) in
     let lanes = swz_l w8 16 v 0 row in
-    chosen_stored at (count_ones c.args.keep) into lanes (length-swz_l w8 16 v 0 row ∙ is.long) (omega (arith, ones-le 8 c.args.keep c.ranges.keep.fits)) c.requires.room
-    ∙ ap (λ front. take at into ++ front) (ap (λ (m : ℕ). take (count_ones m) lanes) masked ∙ row_chooses flags row v (omega (arith, long, c.fits-v.0)) is)
+    cc (
+      chosen_stored at (count_ones c.args.keep) into lanes (length-swz_l w8 16 v 0 row ∙ is.long)
+          (omega (arith, ones-le 8 c.args.keep c.ranges.keep.fits)) c.requires.room,
+      row_chooses v (omega (arith, long, c.fits-v.0)) is,
+    )

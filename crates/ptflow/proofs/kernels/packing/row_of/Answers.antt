@@ -1,15 +1,15 @@
-use Rattle.std.proofs.Common.{◌/◌, ◌^◌, subst, ℕ, ◌≡◌, refl, arith}
+use Rattle.std.proofs.Common.{◌/◌, ◌^◌, ◌≡◌, refl, arith}
 use Rattle.std.proofs.lemmas.Grind.{and_numeral}
-use Rattle.ptflow.proofs.OfBytes.ChosenLanes.{RowBegun, row_more, row_whole}
+use Rattle.ptflow.proofs.OfBytes.ChosenLanes.{row_more, row_whole}
 use Rattle.ptflow.proofs.kernels.packing.row_of.Goals as goal
 
 pub loop-place-preserved : goal.loop-place-preserved
 loop-place-preserved c =
     let loop = c.loop-place in
-    row_more c.args.mask loop.place loop.count _ loop.row (omega arith) (and_numeral (c.args.mask / 2 ^ loop.place) 0 refl) loop.invariant
+    row_more (omega arith) (and_numeral (c.args.mask / 2 ^ loop.place) 0 refl) loop.invariant
 
 pub returns : goal.returns
 returns c flags long masked =
     let loop = c.loop-place in
     let end : loop.place ≡ 8 = omega arith in
-    row_whole c.args.mask loop.count loop.row flags long masked (subst (λ (place : ℕ). RowBegun c.args.mask place loop.count loop.row) end loop.invariant)
+    row_whole long masked (rw end at loop.invariant)

@@ -1,15 +1,14 @@
-use Rattle.std.proofs.Common.{◌≡◌, ◌+◌, suc, ℕ, map, ◌∙◌, ap, subst, arith}
-use Rattle.std.specs.Simd.Lanes.{mask_l}
-use Rattle.ptflow.proofs.OfBytes.Nths.{without, cleared, behind_set}
+use Rattle.std.proofs.Common.{◌≡◌, ◌+◌, suc, map, arith}
+use Rattle.ptflow.proofs.OfBytes.Nths.{cleared, behind_set}
 use Rattle.ptflow.proofs.kernels.places.bit_behind.Goals as goal
 
 pub loop-bit-preserved : goal.loop-bit-preserved
 loop-bit-preserved c = λ bits is.
     let i = c.loop-bit._bit in
     let next : suc i ≡ i + 1 = omega arith in
-    cleared i c.loop-bit.rest bits c.loop-bit.auto.rest-fits.fits (c.loop-bit.invariant bits is) ∙ ap (λ (n : ℕ). mask_l (without n bits)) next
+    cc (cleared i bits c.loop-bit.auto.rest-fits.fits (c.loop-bit.invariant bits is))
 
 pub returns : goal.returns
 returns c = λ test bytes few is some.
-    let all : c.loop-bit._bit ≡ c.args.count = omega (arith, c.loop-bit-test.false, c.loop-bit.auto) in
-    behind_set test bytes c.args.count c.loop-bit.rest few some (subst (λ (n : ℕ). c.loop-bit.rest ≡ mask_l (without n (map test bytes))) all (c.loop-bit.invariant (map test bytes) is))
+    let all : c.loop-bit._bit ≡ c.args.count = omega arith in
+    behind_set test bytes _ few some (rw all at (c.loop-bit.invariant (map test bytes) is))

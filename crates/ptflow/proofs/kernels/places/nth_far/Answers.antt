@@ -1,11 +1,10 @@
 -- A chunk with fewer places than are wanted is passed whole; otherwise the place is found by its bit.
-use Rattle.std.proofs.Common.{◌≡◌, ◌+◌, ◌-◌, ℕ, take, subst, ◌∙◌, ap, arith}
+use Rattle.std.proofs.Common.{◌≡◌, ◌+◌, ◌-◌, take, ◌∙◌, ap, arith}
 use Rattle.std.specs.Int.RustNames.{count_ones}
 use Rattle.std.specs.List.{count_by}
 use Rattle.std.specs.Simd.Lanes.{chunk}
 use Rattle.std.proofs.lemmas.Simd.{ones-mask_l}
 use Rattle.memchr.specs.Find.{is_byte}
-use Rattle.ptflow.specs.Workings.Bytes.Nths.{IsBehind}
 use Rattle.ptflow.proofs.OfBytes.Nths.{count_up_to, count_chunk, count_front, behind_front, behind_in_chunk, near}
 use Rattle.ptflow.proofs.kernels.places.nth_far.Goals as goal
 
@@ -15,7 +14,7 @@ overflow_add-place c =
     let left = c.loop-at.left in
     let k = c.bit_behind.result in
     let bytes = c.args.bytes.now in
-    let here = behind_in_chunk (is_byte c.args.byte) bytes at left c.marks-marked.result c.from-count.result k
+    let here = behind_in_chunk (is_byte c.args.byte) bytes at k
     (omega arith) c.marks-marked.ensures c.from-count.ensures c.loop-at.invariant.0 c.if-left-count.true c.bit_behind.ensures in
     omega (arith, near (is_byte c.args.byte) bytes 64 at (left - 1) k (omega arith) here)
 
@@ -26,10 +25,10 @@ returns-then-place-to c =
     let k = c.bit_behind.result in
     let bytes = c.args.bytes.now in
     let p = is_byte c.args.byte in
-    let here = behind_in_chunk p bytes at left c.marks-marked.result c.from-count.result k
+    let here = behind_in_chunk p bytes at k
     (omega arith) c.marks-marked.ensures c.from-count.ensures c.loop-at.invariant.0 c.if-left-count.true c.bit_behind.ensures in
-    let before : count_by p (take at bytes) + (left - 1) ≡ c.args.number - 1 = omega (arith, c.loop-at.invariant.0, c.loop-at.invariant.2) in
-    subst (λ (n : ℕ). IsBehind p 0 n (take c.args.to bytes) (at + k)) before (behind_front p bytes 64 at (left - 1) k (omega arith) here c.args.to c.if-place-to.true c.requires.within)
+    let before : count_by p (take at bytes) + (left - 1) ≡ c.args.number - 1 = omega arith in
+    rw before at (behind_front p bytes 64 at (left - 1) k (omega arith) here c.if-place-to.true c.requires.within)
 
 pub returns-else-place-to : goal.returns-else-place-to
 returns-else-place-to c =
@@ -38,13 +37,13 @@ returns-else-place-to c =
     let k = c.bit_behind.result in
     let bytes = c.args.bytes.now in
     let p = is_byte c.args.byte in
-    let here = behind_in_chunk p bytes at left c.marks-marked.result c.from-count.result k
+    let here = behind_in_chunk p bytes at k
     (omega arith) c.marks-marked.ensures c.from-count.ensures c.loop-at.invariant.0 c.if-left-count.true c.bit_behind.ensures in
-    omega (arith, c.loop-at.invariant.0, c.loop-at.invariant.2, count_front p bytes 64 at (left - 1) k (omega arith) here, count_up_to p bytes c.args.to (at + k) c.if-place-to.false)
+    omega (arith, count_front p bytes 64 at (left - 1) k (omega arith) here, count_up_to p bytes _ _ c.if-place-to.false)
 
 pub loop-at-preserved : goal.loop-at-preserved
 loop-at-preserved c =
     let at = c.loop-at.at in
     let bytes = c.args.bytes.now in
     let counted = ap count_ones c.marks-marked.ensures ∙ ones-mask_l (is_byte c.args.byte) (chunk at 64 bytes) in
-    (omega arith, omega arith, omega (arith, c.loop-at.invariant.2, counted, count_chunk (is_byte c.args.byte) bytes at))
+    (omega arith, omega arith, omega (arith, count_chunk (is_byte c.args.byte) bytes at))

@@ -6,5 +6,5 @@ use Rattle.ptflow.proofs.kernels.places.nth_slow.Goals as goal
 pub returns : goal.returns
 returns c =
     let to = c.args.to in
-    let past : to ≤ c.loop-at.at = omega (arith, c.loop-at-test.false) in
-    omega (arith, c.loop-at.invariant.0, c.loop-at.invariant.1, count_up_to (is_byte c.args.byte) c.args.bytes.now to c.loop-at.at past)
+    let past : to ≤ c.loop-at.at = omega arith in
+    omega (arith, count_up_to (is_byte c.args.byte) c.args.bytes.now _ _ past)

@@ -1,15 +1,15 @@
 -- The ends of a chunk are the bits of its mask, in order; each turn sets the lowest one to the delimiter whose turn it
 -- is.
-use Rattle.std.proofs.Common.{◌≡◌, ◌+◌, ◌%◌, ◌++◌, suc, ℕ, None, List, map, length, take, slice_index_or, slice_set, sym, ◌∙◌, ap, arith}
+use Rattle.std.proofs.Common.{◌≡◌, ◌+◌, suc, map, length, take, ◌∙◌, ap, arith}
 use Rattle.std.specs.Prelude.{unwrap_or}
 use Rattle.std.specs.Int.RustNames.{count_ones}
-use Rattle.std.specs.Simd.Lanes.{mask_l, chunk}
+use Rattle.std.specs.Simd.Lanes.{chunk}
 use Rattle.std.proofs.lemmas.List.{length-take-le, length-set}
 use Rattle.std.proofs.lemmas.Simd.{ones-mask_l, take_more_put_chunk, length-put_chunk, length-chunk}
 use lib.Count.{count_trailing_zeros}
 use Rattle.memchr.specs.Find.{is_byte}
 use Rattle.ptlangs.specs.DelimLists.{delim_at}
-use Rattle.ptflow.proofs.OfBytes.Nths.{without, cleared, behind_set}
+use Rattle.ptflow.proofs.OfBytes.Nths.{cleared, behind_set}
 use Rattle.ptflow.proofs.OfPaste.Turns.{first_turns, turn_on, all_turned, set_in_chunk}
 use Rattle.ptflow.proofs.kernels.replacing.replace_chunk.Goals as goal
 
@@ -21,8 +21,8 @@ loop-end-init c =
       bits = c.marks-marked.ensures;
       place = c.requires.turn;
       number = omega arith;
-      long = length-put_chunk at c.args.to.now (chunk at 64 c.args.from.now) ∙ c.requires.same;
-      replaced = take_more_put_chunk at c.args.to.now (chunk at 64 c.args.from.now) (at + 64) (omega (arith, long)) (omega (arith, long, c.requires.same, c.requires.room));
+      long = cc (length-put_chunk at c.args.to.now (chunk at 64 c.args.from.now));
+      replaced = take_more_put_chunk at c.args.to.now (chunk at 64 c.args.from.now) (at + 64) (omega arith) (omega arith);
     }
 
 pub bounds-to-end : goal.bounds-to-end
@@ -31,8 +31,8 @@ bounds-to-end c =
     let loop = c.loop-end in
     let v = chunk c.args.at 64 c.args.from.now in
     let counted = ap count_ones c.marks-marked.ensures ∙ ones-mask_l p v in
-    let here = behind_set p v loop._end loop.marked (omega (arith, length-chunk c.args.at 64 c.args.from.now c.requires.room)) (omega (arith, counted, c.loop-end-test.true)) loop.invariant.bits in
-    omega (arith, loop.invariant.long, c.requires.room, here.0, length-chunk c.args.at 64 c.args.from.now c.requires.room)
+    let here = behind_set p v loop._end (omega (arith, length-chunk c.args.at 64 c.args.from.now c.requires.room)) (omega arith) loop.invariant.bits in
+    omega (arith, length-chunk c.args.at 64 c.args.from.now c.requires.room)
 
 pub loop-end-preserved : goal.loop-end-preserved
 loop-end-preserved c =
@@ -47,31 +47,31 @@ loop-end-preserved c =
     let long = length-chunk at 64 c.args.from.now c.requires.room in
     let counted = ap count_ones c.marks-marked.ensures ∙ ones-mask_l p v in
     let k = count_trailing_zeros 64 loop.marked in
-    let here = behind_set p v n loop.marked (omega (arith, long)) (omega (arith, counted, c.loop-end-test.true)) loop.invariant.bits in
+    let here = behind_set p v n (omega (arith, long)) (omega (arith, counted, c.loop-end-test.true)) loop.invariant.bits in
     let next : suc n ≡ n + 1 = omega arith in
-    let delim : c.unwrap_or.result ≡ unwrap_or (delim_at delims (first + n)) end =
-    c.unwrap_or.ensures ∙ ap (λ (m : ℕ). unwrap_or (slice_index_or delims m None) end) (loop.invariant.place ∙ ap (λ (m : ℕ). m % length delims) loop.invariant.number) in
+    let delim : c.unwrap_or.result ≡ unwrap_or (delim_at delims (first + n)) end = cc in
     let front : length (take at c.args.to.now) ≡ at = length-take-le at c.args.to.now (omega (arith, c.requires.same, c.requires.room)) in
     record {
-      bits = cleared n loop.marked (map p v) loop.auto.marked-fits.fits loop.invariant.bits ∙ ap (λ (m : ℕ). mask_l (without m (map p v))) next;
-      place = c.next-turn.ensures.place ∙ ap (λ (m : ℕ). m % length delims) (sym c.next-turn.ensures.number);
+      bits = cc (cleared n (map p v) loop.auto.marked-fits.fits loop.invariant.bits);
+      place = cc;
       number = omega (arith, c.next-turn.ensures.number, loop.invariant.number);
-      long = length-set loop.to (at + k) c.unwrap_or.result ∙ loop.invariant.long;
+      long = cc (length-set loop.to (at + k) c.unwrap_or.result);
       replaced =
-          set_in_chunk loop.to (take at c.args.to.now) (first_turns end delims n first v) at 64 k c.unwrap_or.result loop.invariant.replaced front (omega (arith, here.0, long))
-          ∙ ap (λ (l : List ℕ). take at c.args.to.now ++ l) (ap (slice_set (first_turns end delims n first v) k) delim ∙ turn_on end delims n first v k here
-          ∙ ap (λ (m : ℕ). first_turns end delims m first v) next);
+          cc (
+            set_in_chunk loop.to (take at c.args.to.now) (first_turns end delims n first v) _ 64 k c.unwrap_or.result loop.invariant.replaced front
+                (omega (arith, here.0, long)),
+            turn_on end delims n first v k here,
+          );
     }
 
 pub returns-clause-next : goal.returns-clause-next
 returns-clause-next c =
     let v = chunk c.args.at 64 c.args.from.now in
     let counted = ap count_ones c.marks-marked.ensures ∙ ones-mask_l (is_byte c.args.ending) v in
-    (c.loop-end.invariant.place, omega (arith, c.loop-end.invariant.number, counted, c.loop-end-test.false, c.loop-end.auto))
+    (c.loop-end.invariant.place, omega arith)
 
 pub returns-clause-replaced : goal.returns-clause-replaced
 returns-clause-replaced c =
     let v = chunk c.args.at 64 c.args.from.now in
     let counted = ap count_ones c.marks-marked.ensures ∙ ones-mask_l (is_byte c.args.ending) v in
-    c.loop-end.invariant.replaced ∙ ap (λ l. take c.args.at c.args.to.now ++ l)
-    (all_turned c.args.ending c.args.delims.now c.args.turn.number v c.loop-end._end (omega (arith, counted, c.loop-end-test.false, c.loop-end.auto)))
+    cc (all_turned c.args.ending c.args.delims.now c.args.turn.number v c.loop-end._end (omega arith))

@@ -5,5 +5,5 @@ use Rattle.ptflow.proofs.kernels.sets.table_of.Goals as goal
 pub loop-byte-preserved : goal.loop-byte-preserved
 loop-byte-preserved c = record {
   long = simp length-set c.loop-byte.invariant.long;
-  marked = one_more_flag c.loop-byte.table c.args.flags.now c.loop-byte.byte c.from.result c.loop-byte.invariant.long (omega arith) c.from.ensures c.loop-byte.invariant.marked;
+  marked = one_more_flag c.loop-byte.table c.args.flags.now c.loop-byte.byte c.loop-byte.invariant.long (omega arith) c.from.ensures c.loop-byte.invariant.marked;
 }

@@ -1,5 +1,5 @@
 -- Whole chunks come first, and then the bytes behind them.
-use Rattle.std.proofs.Common.{◌≡◌, ◌+◌, ◌-◌, ◌++◌, ℕ, List, [], cond, length, take, drop, sym, ◌∙◌, ap, arith, length-drop, take-append-drop}
+use Rattle.std.proofs.Common.{◌≡◌, ◌+◌, ◌-◌, ◌++◌, [], cond, length, take, drop, sym, ◌∙◌, ap, arith, length-drop, take-append-drop}
 use Rattle.std.specs.List.{count_by}
 use Rattle.std.proofs.lemmas.List.{append-nil, drop_all, take_rest}
 use Rattle.std.proofs.lemmas.List.Sums.{sum_by-append}
@@ -15,7 +15,7 @@ returns-clause-number c =
     let at = c.spread_most-at.result.1 in
     let rest : c.replace_in_turn.result ≡ c.spread_most-at.result.0.number + count_by p (drop at from) = rw take_rest at c.replace_in_turn.ensures.number in
     let all : count_by p (take at from ++ drop at from) ≡ count_by p (take at from) + count_by p (drop at from) = sum_by-append (λ b. cond (p b) 1 0) (take at from) (drop at from) in
-    omega (arith, rest, c.spread_most-at.ensures.2, all, ap (count_by p) (take-append-drop at from))
+    omega (arith, ap (count_by p) (take-append-drop at from))
 
 pub returns-clause-replaced : goal.returns-clause-replaced
 returns-clause-replaced c =
@@ -28,6 +28,6 @@ returns-clause-replaced c =
     let rest : c.replace_in_turn.new.to ≡ with_turns end turns turn.number (drop at from) = rw take_rest at c.replace_in_turn.ensures.replaced in
     let none : drop (length mid - at) (drop at mid) ≡ [] = drop_all (length mid - at) (drop at mid) (omega (arith, length-drop at mid)) in
     (λ i. c.spread_most-at.ensures.4 i ++ (rest i ++ none i))
-    ∙ ap (λ (l : List ℕ). with_turns end turns 0 (take at from) ++ l) (append-nil (with_turns end turns turn.number (drop at from)))
-    ∙ ap (λ (m : ℕ). with_turns end turns 0 (take at from) ++ with_turns end turns m (drop at from)) c.spread_most-at.ensures.2
+    ∙ ap (◌++◌ (with_turns end turns 0 (take at from))) (append-nil (with_turns end turns turn.number (drop at from)))
+    ∙ ap (λ m. with_turns end turns 0 (take at from) ++ with_turns end turns m (drop at from)) c.spread_most-at.ensures.2
     ∙ sym (turns-append end turns 0 (take at from) (drop at from)) ∙ ap (with_turns end turns 0) (take-append-drop at from)

@@ -1,8 +1,8 @@
 -- The ends of a chunk are the bits of its mask, in order; each turn sets the lowest one to the byte whose turn it is.
-use Rattle.std.proofs.Common.{◌≡◌, ◌+◌, ◌%◌, ◌++◌, ◌<◌, suc, ℕ, None, List, map, length, take, slice_index_or, slice_set, sym, ◌∙◌, ap, arith}
+use Rattle.std.proofs.Common.{◌≡◌, ◌+◌, ◌<◌, suc, map, length, take, slice_index_or, ◌∙◌, ap, arith}
 use Rattle.std.specs.Prelude.{unwrap_or}
 use Rattle.std.specs.Int.RustNames.{count_ones}
-use Rattle.std.specs.Simd.Lanes.{mask_l, chunk}
+use Rattle.std.specs.Simd.Lanes.{chunk}
 use Rattle.std.proofs.Math.Nat.{mod-lt, mod-add-mod}
 use Rattle.std.proofs.lemmas.List.{length-take-le, length-set}
 use Rattle.std.proofs.lemmas.List.Sums.{count_by-le-length}
@@ -10,7 +10,7 @@ use Rattle.std.proofs.lemmas.Simd.{ones-mask_l, take_more_put_chunk, length-put_
 use lib.Count.{count_trailing_zeros}
 use Rattle.memchr.specs.Find.{is_byte}
 use Rattle.ptlangs.specs.DelimLists.{delim_at}
-use Rattle.ptflow.proofs.OfBytes.Nths.{without, cleared, behind_set}
+use Rattle.ptflow.proofs.OfBytes.Nths.{cleared, behind_set}
 use Rattle.ptflow.proofs.OfPaste.Turns.{first_turns, turn_on, all_turned, set_in_chunk}
 use Rattle.ptflow.proofs.kernels.spreading.spread_chunk.Goals as goal
 
@@ -31,8 +31,8 @@ bounds-to-end c =
     let v = chunk c.args.at 64 c.args.from.now in
     let counted = ap count_ones c.marks-marked.ensures ∙ ones-mask_l p v in
     let long = length-chunk c.args.at 64 c.args.from.now c.requires.room in
-    let here = behind_set p v loop.behind loop.marked (omega (arith, long)) (omega (arith, counted, c.loop-behind-test.true)) loop.invariant.bits in
-    omega (arith, loop.invariant.long, c.requires.room, here.0, length-chunk c.args.at 64 c.args.from.now c.requires.room)
+    let here = behind_set p v loop.behind (omega arith) (omega arith) loop.invariant.bits in
+    omega (arith, length-chunk c.args.at 64 c.args.from.now c.requires.room)
 
 pub loop-behind-preserved : goal.loop-behind-preserved
 loop-behind-preserved c =
@@ -48,52 +48,31 @@ loop-behind-preserved c =
     let long = length-chunk at 64 c.args.from.now c.requires.room in
     let counted = ap count_ones c.marks-marked.ensures ∙ ones-mask_l p v in
     let k = count_trailing_zeros 64 loop.marked in
-    let few : n < 64 = omega (arith, counted, c.loop-behind-test.true, count_by-le-length p v, long) in
-    let low : place < 64 = omega (arith, c.requires.turn, mod-lt first c.requires.spread.some, c.requires.spread.few) in
-    let here = behind_set p v n loop.marked (omega (arith, long)) (omega (arith, counted, c.loop-behind-test.true)) loop.invariant.bits in
+    let few : n < 64 = omega (arith, count_by-le-length p v) in
+    let low : place < 64 = omega (arith, mod-lt first c.requires.spread.some) in
+    let here = behind_set p v n (omega arith) (omega arith) loop.invariant.bits in
     let next : suc n ≡ n + 1 = omega arith in
     let put = slice_index_or c.args.spread.now (place + n) 0 in
     let byte : slice_index_or c.args.spread.now (place + n) 0 ≡ unwrap_or (delim_at turns (first + n)) end =
-    c.requires.spread.at (place + n) (omega (arith, few, low))
-    ∙ ap (λ (m : ℕ). unwrap_or (slice_index_or turns m None) end) (ap (λ (m : ℕ). (m + n) % length turns) c.requires.turn ∙ mod-add-mod first (length turns) n) in
-    let front : length (take at c.args.to.now) ≡ at = length-take-le at c.args.to.now (omega (arith, c.requires.same, c.requires.room)) in
+    cc (c.requires.spread.at (place + n) (omega arith), mod-add-mod first (length turns) n) in
+    let front : length (take at c.args.to.now) ≡ at = length-take-le at c.args.to.now (omega arith) in
     record {
-      bits = cleared n loop.marked (map p v) loop.auto.marked-fits.fits loop.invariant.bits ∙ ap (λ (m : ℕ). mask_l (without m (map p v))) next;
-      long = length-set loop.to (at + k) (slice_index_or c.args.spread.now (place + n) 0) ∙ loop.invariant.long;
+      bits = cc (cleared n (map p v) loop.auto.marked-fits.fits loop.invariant.bits);
+      long = cc (length-set loop.to (at + k) (slice_index_or c.args.spread.now (place + n) 0));
       replaced =
-          set_in_chunk loop.to (take at c.args.to.now) (first_turns end turns n first v) at 64 k put loop.invariant.replaced front (omega (arith, here.0, long))
-          ∙ ap (λ (l : List ℕ). take at c.args.to.now ++ l) (ap (slice_set (first_turns end turns n first v) k) byte ∙ turn_on end turns n first v k here
-          ∙ ap (λ (m : ℕ). first_turns end turns m first v) next);
+          cc (set_in_chunk loop.to (take at c.args.to.now) (first_turns end turns n first v) _ 64 k put loop.invariant.replaced front (omega arith), turn_on end turns n first v k here);
     }
-
-pub bounds-spread-turn : goal.bounds-spread-turn
-bounds-spread-turn c =
-    let p = is_byte c.args.ending in
-    let v = chunk c.args.at 64 c.args.from.now in
-    let counted = ap count_ones c.marks-marked.ensures ∙ ones-mask_l p v in
-    omega (
-      arith,
-      counted,
-      c.loop-behind-test.true,
-      count_by-le-length p v,
-      length-chunk c.args.at 64 c.args.from.now c.requires.room,
-      c.requires.turn,
-      mod-lt c.args.turn.number c.requires.spread.some,
-      c.requires.spread.few,
-      c.requires.spread.size,
-    )
 
 pub returns-clause-next : goal.returns-clause-next
 returns-clause-next c =
     let v = chunk c.args.at 64 c.args.from.now in
     let counted = ap count_ones c.marks-marked.ensures ∙ ones-mask_l (is_byte c.args.ending) v in (
-      c.behind.ensures.place ∙ ap (λ (m : ℕ). m % length c.args.turns.now) (sym c.behind.ensures.number),
-      c.behind.ensures.number ∙ ap (λ (m : ℕ). c.args.turn.number + m) counted,
+      cc,
+      cc,
     )
 
 pub returns-clause-replaced : goal.returns-clause-replaced
 returns-clause-replaced c =
     let v = chunk c.args.at 64 c.args.from.now in
     let counted = ap count_ones c.marks-marked.ensures ∙ ones-mask_l (is_byte c.args.ending) v in
-    c.loop-behind.invariant.replaced ∙ ap (λ l. take c.args.at c.args.to.now ++ l)
-    (all_turned c.args.ending c.args.turns.now c.args.turn.number v c.loop-behind.behind (omega (arith, counted, c.loop-behind-test.false, c.loop-behind.auto)))
+    cc (all_turned c.args.ending c.args.turns.now c.args.turn.number v c.loop-behind.behind (omega (arith, counted, c.loop-behind-test.false, c.loop-behind.auto)))

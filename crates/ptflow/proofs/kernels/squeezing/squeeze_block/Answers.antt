@@ -1,6 +1,6 @@
 -- The first byte stays or goes by the byte that was written before the block; each other one by the byte in front of
 -- it.
-use Rattle.std.proofs.Common.{◌≡◌, ◌≤◌, ◌<◌, zero, suc, ◌+◌, ◌-◌, drop, ℕ, ◌++◌, ◌&&◌, eqb, Bool, List, Some, false, length, take, get_or, arith, ap, ◌∙◌, slice_index_or, w8}
+use Rattle.std.proofs.Common.{◌≡◌, ◌≤◌, ◌<◌, zero, suc, ◌+◌, ◌-◌, drop, ℕ, ◌&&◌, eqb, Some, false, length, take, get_or, arith, ap, ◌∙◌, slice_index_or, w8}
 use Rattle.std.specs.Option.{option_eq}
 use Rattle.std.proofs.lemmas.Simd.{chunk-fits}
 use Rattle.ptflow.specs.Workings.Bytes.ByteSets.{holds}
@@ -14,38 +14,15 @@ some (suc n) h = omega arith
 pub loop-at-init : goal.loop-at-init
 loop-at-init c =
     let flag = λ (b : ℕ). slice_index_or c.args.flags.now b false in
-    let again = ap (λ (same : Bool). same && flag c.from.result) c.eq.ensures ∙ ap (λ (b : ℕ). option_eq eqb c.args.last (Some (get_or c.args.from.now 0 0)) && flag b) c.from.ensures in
-    squeezing_starts flag c.args.last c.args.from.now c.args.into.now _ c.from-count.result (some (length c.args.from.now) c.if-is_empty.ensures)
-    (omega (arith, c.told-into)) again c.from-count.ensures
+    let again = ap (λ same. same && flag c.from.result) c.eq.ensures ∙ ap (λ b. option_eq eqb c.args.last (Some (get_or c.args.from.now 0 0)) && flag b) c.from.ensures in
+    squeezing_starts flag c.args.last c.args.from.now c.args.into.now (some (length c.args.from.now) c.if-is_empty.ensures)
+    (omega arith) again c.from-count.ensures
 
 pub loop-at-preserved : goal.loop-at-preserved
 loop-at-preserved c =
     let from = c.args.from.now in
     let at = c.loop-at.at in
     let flag = λ (b : ℕ). slice_index_or c.args.flags.now b false in
-    let room : at + 64 ≤ length from = omega (arith, c.loop-at.invariant.within) in
+    let room : at + 64 ≤ length from = omega arith in
     let same = same_behind (holds c.args.set) flag c.requires.set (get_or from (at - 1) 0) (take 64 (drop at from)) (chunk-fits w8 at 64 from c.type_inv.from) in
-    squeezing_piece flag from c.loop-at.into at c.loop-at.count _ c.loop-at.invariant c.squeeze_chunk-count.new.into c.squeeze_chunk-count.result 64
-    (omega arith) room c.squeeze_chunk-count.ensures.end
-    (c.squeeze_chunk-count.ensures.squeezed ∙ ap (λ (l : List ℕ). take c.loop-at.count c.loop-at.into ++ l) same)
-
-pub overflow_sub-from : goal.overflow_sub-from
-overflow_sub-from c = c.loop-at.invariant.within
-
-pub squeeze_chunk-count-requires-clause-behind : goal.squeeze_chunk-count-requires-clause-behind
-squeeze_chunk-count-requires-clause-behind c = c.loop-at.invariant.behind
-
-pub squeeze_chunk-count-requires-clause-room : goal.squeeze_chunk-count-requires-clause-room
-squeeze_chunk-count-requires-clause-room c = omega (arith, c.loop-at.invariant.counted, c.loop-at.invariant.within)
-
-pub squeeze_tail-requires-clause-behind : goal.squeeze_tail-requires-clause-behind
-squeeze_tail-requires-clause-behind c = c.loop-at.invariant.behind
-
-pub squeeze_tail-requires-clause-within : goal.squeeze_tail-requires-clause-within
-squeeze_tail-requires-clause-within c = c.loop-at.invariant.within
-
-pub squeeze_tail-requires-clause-counted : goal.squeeze_tail-requires-clause-counted
-squeeze_tail-requires-clause-counted c = c.loop-at.invariant.counted
-
-pub returns-clause-squeezed : goal.returns-clause-squeezed
-returns-clause-squeezed c = c.squeeze_tail.ensures.squeezed ∙ c.loop-at.invariant.is
+    squeezing_piece flag c.loop-at.invariant 64 (omega arith) room c.squeeze_chunk-count.ensures.end (cc)

@@ -1,14 +1,8 @@
-use Rattle.std.proofs.Common.{◌≤◌, ◌+◌, ◌-◌, ◌++◌, ◌∙◌, ℕ, List, false, length, take, drop, get_or, slice_index_or, refl, ap, arith, w8}
+use Rattle.std.proofs.Common.{◌≤◌, ◌+◌, ◌-◌, ◌++◌, ◌∙◌, ℕ, false, length, take, drop, get_or, slice_index_or, ap, arith, w8}
 use Rattle.std.proofs.lemmas.Simd.{chunk-fits}
 use Rattle.ptflow.specs.Workings.Bytes.ByteSets.{holds}
 use Rattle.ptflow.proofs.OfTr.SqueezeLemmas.{squeezing_piece, same_behind, stays_piece}
 use Rattle.ptflow.proofs.kernels.squeezing.squeeze_tail.Goals as goal
-
-pub loop-at-init : goal.loop-at-init
-loop-at-init c = record { is = refl; behind = omega arith; within = omega arith; counted = omega arith }
-
-pub overflow_sub-from : goal.overflow_sub-from
-overflow_sub-from c = c.loop-at.invariant.within
 
 pub loop-at-preserved : goal.loop-at-preserved
 loop-at-preserved c =
@@ -17,22 +11,6 @@ loop-at-preserved c =
     let flag = λ (b : ℕ). slice_index_or c.args.flags.now b false in
     let room : at + 16 ≤ length from = omega (arith, c.loop-at.invariant.within) in
     let same = same_behind (holds c.args.set) flag c.requires.set (get_or from (at - 1) 0) (take 16 (drop at from)) (chunk-fits w8 at 16 from c.type_inv.from) in
-    squeezing_piece flag from c.loop-at.into at c.loop-at.count _ c.loop-at.invariant c.squeeze_lanes-count.new.into c.squeeze_lanes-count.result 16
-    (omega arith) room c.squeeze_lanes-count.ensures.end
+    squeezing_piece flag c.loop-at.invariant 16 (omega arith) room c.squeeze_lanes-count.ensures.end
     (c.squeeze_lanes-count.ensures.squeezed
-    ∙ ap (λ (l : List ℕ). take c.loop-at.count c.loop-at.into ++ l) (stays_piece (holds c.args.set) from at c.loop-at.invariant.behind room ∙ same))
-
-pub squeeze_lanes-count-requires-clause-room : goal.squeeze_lanes-count-requires-clause-room
-squeeze_lanes-count-requires-clause-room c = omega (arith, c.loop-at.invariant.counted, c.loop-at.invariant.within)
-
-pub squeeze_rest-requires-clause-behind : goal.squeeze_rest-requires-clause-behind
-squeeze_rest-requires-clause-behind c = c.loop-at.invariant.behind
-
-pub squeeze_rest-requires-clause-within : goal.squeeze_rest-requires-clause-within
-squeeze_rest-requires-clause-within c = c.loop-at.invariant.within
-
-pub squeeze_rest-requires-clause-counted : goal.squeeze_rest-requires-clause-counted
-squeeze_rest-requires-clause-counted c = c.loop-at.invariant.counted
-
-pub returns-clause-squeezed : goal.returns-clause-squeezed
-returns-clause-squeezed c = c.squeeze_rest.ensures.squeezed ∙ c.loop-at.invariant.is
+    ∙ ap (◌++◌ (take c.loop-at.count c.loop-at.into)) (stays_piece (holds c.args.set) from _ c.loop-at.invariant.behind room ∙ same))

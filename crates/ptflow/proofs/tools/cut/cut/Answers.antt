@@ -5,14 +5,14 @@ use Rattle.ptflow.proofs.OfPasses.PassLemmas.{pass_halted, pass_set, bare_set}
 use Rattle.ptflow.proofs.tools.cut.cut.Goals as goal
 
 pub returns-then-has_failed : goal.returns-then-has_failed
-returns-then-has_failed g c = pass_halted (cut_tool (cut_job c.args.job.now)) c.args.reader.now c.args.out.now c.args.store.now c.requires (sym c.has_failed.ensures ∙ c.if-has_failed.true)
+returns-then-has_failed g c = pass_halted (cut_tool (cut_job c.args.job.now)) _ c.args.out.now _ c.requires (sym c.has_failed.ensures ∙ c.if-has_failed.true)
 
 pub returns-then-job : goal.returns-then-job
 returns-then-job g c =
-    pass_set (cut_tool (cut_job c.args.job.now)) (cond c.args.job.now.zero 0 10) c.args.reader.now c.set_ending.new.self c.cut_by_fields.new.reader c.args.out.now c.cut_by_fields.new.out
-    c.args.store.now c.cut_by_fields.new.store c.set_ending.ensures.set c.cut_by_fields.result (sym c.has_failed.ensures ∙ c.if-has_failed.false) c.cut_by_fields.ensures
+    pass_set _ (cond c.args.job.now.zero 0 10) c.args.reader.now _ _ _
+    _ _ c.set_ending.ensures.set (cc) c.cut_by_fields.ensures
 
 pub returns : goal.returns
 returns g c =
-    bare_set (cut_tool (cut_job c.args.job.now)) (cond c.args.job.now.zero 0 10) c.args.reader.now c.set_ending.new.self c.cut_by_bytes.new.reader c.args.out.now c.cut_by_bytes.new.out
-    c.args.store.now c.set_ending.ensures.set c.cut_by_bytes.result (sym c.has_failed.ensures ∙ c.if-has_failed.false) c.requires c.cut_by_bytes.ensures
+    bare_set (cut_tool (cut_job c.args.job.now)) (cond c.args.job.now.zero 0 10) _ _ c.cut_by_bytes.new.reader c.args.out.now c.cut_by_bytes.new.out
+    _ c.set_ending.ensures.set c.cut_by_bytes.result (sym c.has_failed.ensures ∙ c.if-has_failed.false) c.requires c.cut_by_bytes.ensures

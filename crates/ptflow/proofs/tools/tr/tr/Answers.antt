@@ -1,5 +1,4 @@
 use Rattle.std.proofs.Common.{◌++◌, None, refl, sym, ◌∙◌, ap}
-use Rattle.ptlangs.specs.TrTables.{Tables}
 use Rattle.ptflow.specs.Passes.{no_slots}
 use Rattle.ptflow.specs.Translations.{tr_tool}
 use Rattle.ptflow.specs.Workings.Tr.TrRests.{tr_rest}
@@ -8,7 +7,7 @@ use Rattle.ptflow.proofs.OfTr.TrRests.{rest_decided}
 use Rattle.ptflow.proofs.tools.tr.tr.Goals as goal
 
 pub returns-then-has_failed-clause-pass : goal.returns-then-has_failed-clause-pass
-returns-then-has_failed-clause-pass g c = λ store ready. pass_halted (tr_tool c.args.plan.now) c.args.reader.now c.args.out.now store ready (sym c.has_failed.ensures ∙ c.if-has_failed.true)
+returns-then-has_failed-clause-pass g c = λ store ready. pass_halted (tr_tool c.args.plan.now) _ c.args.out.now _ ready (cc)
 
 pub returns-clause-pass : goal.returns-clause-pass
 returns-clause-pass g c =
@@ -16,13 +15,12 @@ returns-clause-pass g c =
     λ store ready.
     c.over_blocks.ensures (tr_tool t)
     (record {
-      text = λ bytes. ap (λ (p : Tables). tr_rest p None bytes) c.new.ensures.plan;
+      text = λ bytes. ap (λ p. tr_rest p None bytes) c.new.ensures.plan;
       decided = λ given pushed now holds on. rest_decided t given pushed now.last
-          (λ rest. sym (ap (λ (p : Tables). tr_rest p None (given ++ rest)) c.new.ensures.plan) ∙ on rest ∙ ap (λ (p : Tables). pushed ++ tr_rest p now.last rest) (holds.0 ∙ c.new.ensures.plan));
+          (λ rest. sym (ap (λ p. tr_rest p None (given ++ rest)) c.new.ensures.plan) ∙ on rest ∙ ap (λ p. pushed ++ tr_rest p now.last rest) (holds.0 ∙ c.new.ensures.plan));
       slots = refl;
     })
     store ready
 
 pub returns-clause-no_memory : goal.returns-clause-no_memory
-returns-clause-no_memory g c = never_memory (tr_tool c.args.plan.now) c.args.reader.now c.over_blocks.new.reader c.args.out.now c.over_blocks.new.out no_slots
-    c.over_blocks.result refl (returns-clause-pass g c no_slots c.requires)
+returns-clause-no_memory g c = never_memory refl (returns-clause-pass g c no_slots c.requires)

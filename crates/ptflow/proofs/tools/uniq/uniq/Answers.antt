@@ -6,7 +6,7 @@ use Rattle.ptflow.proofs.OfUniq.OpenLines.{uniq_line_tool}
 use Rattle.ptflow.proofs.tools.uniq.uniq.Goals as goal
 
 pub returns-then-has_failed : goal.returns-then-has_failed
-returns-then-has_failed g c = pass_halted (uniq_tool (uniq_job c.args.job.now)) c.args.reader.now c.args.out.now c.args.store.now c.requires (sym c.has_failed.ensures ∙ c.if-has_failed.true)
+returns-then-has_failed g c = pass_halted (uniq_tool (uniq_job c.args.job.now)) _ c.args.out.now _ c.requires (cc)
 
 ends : (zero : Bool) → cond zero 0 10 ≡ ending zero
 ends true = refl
@@ -17,5 +17,5 @@ over_lines-requires-clause-tool g c = rw (c.set_ending.ensures.set, ends c.args.
 
 pub returns : goal.returns
 returns g c =
-    pass_set (uniq_tool (uniq_job c.args.job.now)) (cond c.args.job.now.zero 0 10) c.args.reader.now c.set_ending.new.self c.over_lines.new.reader c.args.out.now c.over_lines.new.out
-    c.args.store.now c.over_lines.new.store c.set_ending.ensures.set c.over_lines.result (sym c.has_failed.ensures ∙ c.if-has_failed.false) c.over_lines.ensures
+    pass_set _ (cond c.args.job.now.zero 0 10) c.args.reader.now _ _ _
+    _ _ c.set_ending.ensures.set (sym c.has_failed.ensures ∙ c.if-has_failed.false) c.over_lines.ensures

@@ -8,7 +8,7 @@ returns c =
     let v = c.args.v in
     let s = c.args.self in
     let behind : ℕ → ℕ = λ b. (b + (256 - s.first)) % 256 in
-    sel_maps (λ b. nat_le (behind b) s.width) (λ _. s.by) (λ _. 0) v _ _ _
-    (tests_are nat_le behind v _ 16 s.width c.fits-v.0 (zip2_splat (λ a b. (a + (256 - b)) % 256) v 16 s.first c.fits-v.0))
+    sel_maps (λ b. nat_le (behind b) s.width) (λ _. s.by) (λ _. 0) v
+    (tests_are nat_le behind v s.width c.fits-v.0 (zip2_splat (λ a b. (a + (256 - b)) % 256) v 16 s.first c.fits-v.0))
     (splat_is_map v 16 s.by c.fits-v.0)
     (splat_is_map v 16 0 c.fits-v.0)

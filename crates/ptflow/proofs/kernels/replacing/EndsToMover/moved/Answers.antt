@@ -7,7 +7,6 @@ pub returns : goal.returns
 returns c =
     let v = c.args.v in
     let by = c.args.self in
-    sel_maps (λ b. eqb b by.ending) (λ _. by.delim) (λ b. b) v _ _ _
-    (mask_right eqb 16 v by.ending c.fits-v.0)
+    sel_maps (λ b. eqb b by.ending) (λ _. by.delim) (λ b. b) v (mask_right eqb v by.ending c.fits-v.0)
     (splat_is_map v 16 by.delim c.fits-v.0)
     (sym (map_self v))

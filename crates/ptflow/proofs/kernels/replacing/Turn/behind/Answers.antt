@@ -1,13 +1,13 @@
-use Rattle.std.proofs.Common.{ℕ, ◌+◌, ◌%◌, length, sym, ◌∙◌, ap}
+use Rattle.std.proofs.Common.{length}
 use Rattle.std.proofs.Math.Nat.{mod-add-mod, mod-eq_of_lt}
 use Rattle.ptflow.proofs.kernels.replacing.Turn.behind.Goals as goal
 
 pub returns-then-place-delims-clause-place : goal.returns-then-place-delims-clause-place
 returns-then-place-delims-clause-place c =
     let size = length c.args.delims.now in
-    sym (mod-eq_of_lt c.if-place-delims.true) ∙ ap (λ (p : ℕ). (p + c.args.count) % size) c.requires.place ∙ mod-add-mod c.args.self.number size c.args.count
+    cc (mod-eq_of_lt c.if-place-delims.true, mod-add-mod c.args.self.number size c.args.count)
 
 pub returns-else-place-delims-clause-place : goal.returns-else-place-delims-clause-place
 returns-else-place-delims-clause-place c =
     let size = length c.args.delims.now in
-    ap (λ (p : ℕ). (p + c.args.count) % size) c.requires.place ∙ mod-add-mod c.args.self.number size c.args.count
+    cc (mod-add-mod c.args.self.number size c.args.count)

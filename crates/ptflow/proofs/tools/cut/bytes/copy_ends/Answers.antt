@@ -7,4 +7,4 @@ pub returns-clause-copied : goal.returns-clause-copied
 returns-clause-copied c =
     let lanes = chunk c.args.step.start 64 c.args.block.now in
     let long = length-chunk c.args.step.start 64 c.args.block.now c.requires.within in
-    take_more_put_chunk c.args.step.at c.args.into.now lanes (c.args.step.at + 64) (omega (arith, long)) (omega (arith, c.requires.room))
+    take_more_put_chunk c.args.step.at c.args.into.now lanes (c.args.step.at + 64) (omega arith) (omega arith)

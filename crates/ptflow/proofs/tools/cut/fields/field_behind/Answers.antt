@@ -1,6 +1,6 @@
 -- The first delimiter is known. So a walk from in front of it may begin behind it, with one field less to pass; any
 -- other walk begins where it is.
-use Rattle.std.proofs.Common.{◌≡◌, ◌+◌, ◌-◌, ◌≤◌, ℕ, List, MatchOption, inl, inr, take, drop, length, sym, subst, arith}
+use Rattle.std.proofs.Common.{◌≡◌, ◌+◌, ◌-◌, ◌≤◌, MatchOption, inl, inr, take, drop, length, arith}
 use Rattle.std.proofs.lemmas.List.{take_rest, length-take-le}
 use Rattle.ptflow.specs.Workings.Cut.FieldPlaces.{fields, StartsAt}
 use Rattle.ptflow.proofs.OfCut.FieldPlaces.{start_kept, rest_of}
@@ -10,10 +10,7 @@ use Rattle.ptflow.proofs.tools.cut.fields.field_behind.Goals.{then-count-eq0-via
 
 pub returns-then-count-eq0-clause-found : goal.returns-then-count-eq0-clause-found
 returns-then-count-eq0-clause-found c =
-    let d = c.args.delimiter in
-    let o = c.field_start.result in
-    subst (λ (l : List ℕ). MatchOption o (length (fields d l) ≤ c.args.count) (StartsAt d c.args.count l))
-    (sym (rest_of c.args.from c.args.to c.args.bytes.now (omega arith))) (rw take_rest at c.field_start.ensures)
+    rw (rest_of c.args.from c.args.to c.args.bytes.now (omega arith)) (rw take_rest at c.field_start.ensures)
 
 pub returns-then-count-eq0-clause-start : goal.returns-then-count-eq0-clause-start
 returns-then-count-eq0-clause-start c =
@@ -34,10 +31,10 @@ returns-in_err-passed-clause-found c =
     let bytes = c.args.bytes.now in
     let line = take c.args.to bytes in
     let zero : c.args.from ≡ 0 = c.requires.start c.if-from-first.false in
-    let within : behind ≤ c.args.to = omega (arith, c.requires.first.0.high, length-take-le c.args.to bytes c.requires.within.1) in
-    let left = subst (λ (l : List ℕ). length (fields d l) ≤ c.args.count - 1) (sym (rest_of behind c.args.to bytes within)) (rw take_rest at c.in_err-passed.ensures) in
+    let within : behind ≤ c.args.to = omega (arith, length-take-le c.args.to bytes c.requires.within.1) in
+    let left = rw (← (rest_of _ _ bytes within)) at (rw take_rest at c.in_err-passed.ensures) in
     let few : length (fields d (drop c.args.from line)) ≤ c.args.count =
-    subst (λ (n : ℕ). length (fields d (drop n line)) ≤ c.args.count) (sym zero) (few_behind_first d line c.args.first c.args.count c.requires.first (omega (arith, c.if-count-eq0.false)) left) in
+    rw zero (few_behind_first d line c.args.first c.args.count c.requires.first (omega arith) left) in
     rw c.from_residual.ensures few
 
 pub returns-clause-found : goal.returns-clause-found
@@ -46,9 +43,7 @@ returns-clause-found c =
     let behind = c.args.first + 1 in
     let bytes = c.args.bytes.now in
     let line = take c.args.to bytes in
-    let passed = c.in_ok-passed.passed in
     let zero : c.args.from ≡ 0 = c.requires.start c.if-from-first.false in
-    let within : behind ≤ c.args.to = omega (arith, c.requires.first.0.high, length-take-le c.args.to bytes c.requires.within.1) in
-    let s = subst (λ (l : List ℕ). StartsAt d (c.args.count - 1) l passed) (sym (rest_of behind c.args.to bytes within)) (rw take_rest at c.in_ok-passed.ensures) in
-    subst (λ (n : ℕ). StartsAt d c.args.count (drop n line) (behind + passed)) (sym zero)
-    (starts_past_first d line c.args.first c.args.count c.requires.first (omega (arith, c.if-count-eq0.false)) passed s)
+    let within : behind ≤ c.args.to = omega (arith, length-take-le c.args.to bytes c.requires.within.1) in
+    let s = rw (← (rest_of _ _ bytes within)) at (rw take_rest at c.in_ok-passed.ensures) in
+    rw zero (starts_past_first d line c.args.first c.args.count c.requires.first (omega arith) s)

@@ -1,8 +1,7 @@
-use Rattle.std.proofs.Common.{take, arith, ℕ, subst, sym}
+use Rattle.std.proofs.Common.{take, arith}
 use Rattle.std.proofs.lemmas.List.{length-take-le}
 use Rattle.std.proofs.lemmas.List.Sums.{count_by-le-length}
 use Rattle.memchr.specs.Find.{is_byte}
-use Rattle.ptflow.specs.Workings.Cut.FieldPlaces.{StartsAt}
 use Rattle.ptflow.proofs.OfCut.FieldPlaces.{starts_first}
 use Rattle.ptflow.proofs.OfBytes.Nths.{few_fields, starts_behind_nth}
 use Rattle.ptflow.proofs.tools.cut.fields.field_start.Goals as goal
@@ -10,15 +9,15 @@ use Rattle.ptflow.proofs.tools.cut.fields.field_start.Goals as goal
 pub returns-then-count-to : goal.returns-then-count-to
 returns-then-count-to c =
     let line = take c.args.to c.args.bytes.now in
-    few_fields c.args.delimiter line c.args.count (omega (arith, count_by-le-length (is_byte c.args.delimiter) line, length-take-le c.args.to c.args.bytes.now c.requires, c.if-count-to.true))
+    few_fields c.args.delimiter line (omega (arith, count_by-le-length (is_byte c.args.delimiter) line, length-take-le c.args.to c.args.bytes.now c.requires))
 
 pub returns-then-count-eq0 : goal.returns-then-count-eq0
 returns-then-count-eq0 c =
     let line = take c.args.to c.args.bytes.now in
-    subst (λ (n : ℕ). StartsAt c.args.delimiter n line 0) (sym c.if-count-eq0.true) (starts_first c.args.delimiter line)
+    rw c.if-count-eq0.true (starts_first c.args.delimiter line)
 
 pub returns-in_err-at : goal.returns-in_err-at
-returns-in_err-at c = rw c.from_residual.ensures (few_fields c.args.delimiter (take c.args.to c.args.bytes.now) c.args.count c.in_err-at.ensures)
+returns-in_err-at c = rw c.from_residual.ensures (few_fields c.args.delimiter (take c.args.to c.args.bytes.now) c.in_err-at.ensures)
 
 pub returns : goal.returns
-returns c = starts_behind_nth c.args.delimiter (take c.args.to c.args.bytes.now) c.args.count c.in_ok-at.at (omega (arith, c.if-count-eq0.false)) c.in_ok-at.ensures
+returns c = starts_behind_nth c.args.delimiter (take c.args.to c.args.bytes.now) c.in_ok-at.at (omega arith) c.in_ok-at.ensures

@@ -7,7 +7,6 @@ use Rattle.memchr.specs.Find.{IsFirstByte, is_byte}
 use Rattle.ptlines.proofs.Pushed.{wrote_nothing}
 use Rattle.ptlangs.specs.CutLists.{is_selected}
 use Rattle.ptlangs.specs.Jobs.{cut_job}
-use Rattle.ptlangs.specs.declared.ranges.Interval.{Interval}
 use Rattle.ptflow.specs.Cuts.{cut_fields}
 use Rattle.ptflow.specs.Workings.Cut.FieldPlaces.{fields, StartsAt}
 use Rattle.ptflow.proofs.OfBytes.Chosen.{chosen}
@@ -20,20 +19,19 @@ loop-interval-init g c =
     let d = c.args.job.now.delim in
     let line = c.args.line.now in
     let all = c.intervals-selected.result.now in record {
-      front = front_starts (cut_fields (cut_job c.args.job.now) line) (coming d all line [] 1 0 0) c.args.out.now
-          (sym (append-nil (cut_fields (cut_job c.args.job.now) line)) ∙ ap
-          (λ (l : List Interval). join_with_byte d (chosen (is_selected l) 1 (fields d line)) ++ []) (sym c.intervals-selected.ensures.kept) ∙ all_coming d all line [])
+      front = front_starts (sym (append-nil (cut_fields (cut_job c.args.job.now) line)) ∙ ap
+          (λ l. join_with_byte d (chosen (is_selected l) 1 (fields d line)) ++ []) (sym c.intervals-selected.ensures.kept) ∙ all_coming d all line [])
           c.requires.clean;
-      walk = walking_starts d all line [] c.intervals-selected.ensures.apart;
+      walk = walking_starts c.intervals-selected.ensures.apart;
       known = λ le. refl;
     }
 
 -- what a step found in the line, which is all of these bytes
-found : (d : ℕ) (line : List ℕ) (count at passed : ℕ) → StartsAt d count (drop at (take (length line) line)) passed → StartsAt d count (drop at line) passed
-found d line count at passed s = subst (λ (l : List ℕ). StartsAt d count (drop at l) passed) (take_all (length line) line (omega arith)) s
+found : {d : ℕ} (line : List ℕ) {count : ℕ} (at : ℕ) {passed : ℕ} → StartsAt d count (drop at (take (length line) line)) passed → StartsAt d count (drop at line) passed
+found line at s = rw (take_all (length line) line (omega arith)) at s
 
-few : (d : ℕ) (line : List ℕ) (count at : ℕ) → length (fields d (drop at (take (length line) line))) ≤ count → length (fields d (drop at line)) ≤ count
-few d line count at le = subst (λ (l : List ℕ). length (fields d (drop at l)) ≤ count) (take_all (length line) line (omega arith)) le
+few : (d : ℕ) (line : List ℕ) {count : ℕ} (at : ℕ) → length (fields d (drop at (take (length line) line))) ≤ count → length (fields d (drop at line)) ≤ count
+few d line at le = rw (take_all (length line) line (omega arith)) at le
 
 pub returns-in_default-clause-wrote : goal.returns-in_default-clause-wrote
 returns-in_default-clause-wrote g c =
@@ -41,10 +39,8 @@ returns-in_default-clause-wrote g c =
     let line = c.args.line.now in
     let all = c.intervals-selected.result.now in
     let l = c.loop-interval in
-    let r = get_or all l.interval-index (record { first = 0; last = 0 }) in
-    front_ends (cut_fields (cut_job c.args.job.now) line) (coming d (drop l.interval-index all) line [] l.number l.at l.lead) c.args.out.now l.out l.invariant.front l.out []
-    (walking_short d all line [] l.interval-index l.number l.at l.lead l.invariant.walk c.loop-interval-test.true
-    (few d line (r.first - l.number) l.at c.in_default.ensures.found)) (wrote_nothing l.out)
+    front_ends l.invariant.front (walking_short all [] _ l.invariant.walk c.loop-interval-test.true
+    (few d line l.at c.in_default.ensures.found)) (wrote_nothing l.out)
 
 pub returns-in_default-field_behind-clause-wrote : goal.returns-in_default-field_behind-clause-wrote
 returns-in_default-field_behind-clause-wrote g c =
@@ -52,15 +48,11 @@ returns-in_default-field_behind-clause-wrote g c =
     let line = c.args.line.now in
     let all = c.intervals-selected.result.now in
     let l = c.loop-interval in
-    let r = get_or all l.interval-index (record { first = 0; last = 0 }) in
     let from = l.at + c.in-Some.skipped in
-    let s = found d line (r.first - l.number) l.at c.in-Some.skipped c.in-Some.ensures.found in
-    front_ends (cut_fields (cut_job c.args.job.now) line) (coming d (drop l.interval-index all) line [] l.number l.at l.lead) c.args.out.now l.out
-    l.invariant.front c.push.new.self (drop (from - l.lead) line)
-    (walking_ends d all line [] l.interval-index l.number l.at l.lead l.invariant.walk c.loop-interval-test.true c.in-Some.skipped s (length line) line
+    let s = found line l.at c.in-Some.ensures.found in
+    front_ends l.invariant.front (walking_ends all _ _ l.invariant.walk c.loop-interval-test.true s (length line) line
     (sym (take_all (length line) line (omega arith))) (sym (drop_all (length line) line (omega arith)))
-    (few d line (r.last - r.first + 1) from c.in_default-field_behind.ensures.found))
-    (rw take_rest at c.push.ensures.wrote)
+    (few d line from c.in_default-field_behind.ensures.found)) (rw take_rest at c.push.ensures.wrote)
 
 pub returns-in_err-push-clause-wrote : goal.returns-in_err-push-clause-wrote
 returns-in_err-push-clause-wrote g c =
@@ -72,11 +64,10 @@ returns-in_err-push-clause-wrote g c =
     let r = get_or all i (record { first = 0; last = 0 }) in
     let from = l.at + c.in-Some.skipped in
     let next = from + c.in-Some-field_behind.passed in
-    let s = found d line (r.first - l.number) l.at c.in-Some.skipped c.in-Some.ensures.found in
-    let p = found d line (r.last - r.first + 1) from c.in-Some-field_behind.passed c.in-Some-field_behind.ensures.found in
-    front_fails (cut_fields (cut_job c.args.job.now) line) (coming d (drop i all) line [] l.number l.at l.lead) c.args.out.now l.out l.invariant.front c.push-in-loop-interval.new.self
-    (take ((next - 1) - (from - l.lead)) (drop (from - l.lead) line)) (coming d (drop (i + 1) all) line [] (r.last + 1) next 1)
-    (walking_slice d all line [] i l.number l.at l.lead l.invariant.walk c.loop-interval-test.true c.in-Some.skipped s c.in-Some-field_behind.passed p)
+    let s = found line l.at c.in-Some.ensures.found in
+    let p = found line from c.in-Some-field_behind.ensures.found in
+    front_fails l.invariant.front (coming d (drop (i + 1) all) line [] (r.last + 1) next 1)
+    (walking_slice all [] i l.invariant.walk c.loop-interval-test.true s p)
     c.in_err-push.ensures.wrote c.in_err-push.ensures.fault
 
 pub loop-interval-preserved : goal.loop-interval-preserved
@@ -89,83 +80,72 @@ loop-interval-preserved g c =
     let r = get_or all i (record { first = 0; last = 0 }) in
     let from = l.at + c.in-Some.skipped in
     let next = from + c.in-Some-field_behind.passed in
-    let s = found d line (r.first - l.number) l.at c.in-Some.skipped c.in-Some.ensures.found in
-    let p = found d line (r.last - r.first + 1) from c.in-Some-field_behind.passed c.in-Some-field_behind.ensures.found in record {
-      front = front_more (cut_fields (cut_job c.args.job.now) line) (coming d (drop i all) line [] l.number l.at l.lead) c.args.out.now l.out l.invariant.front c.push-in-loop-interval.new.self
-          (take ((next - 1) - (from - l.lead)) (drop (from - l.lead) line)) (coming d (drop (i + 1) all) line [] (r.last + 1) next 1)
-          (walking_slice d all line [] i l.number l.at l.lead l.invariant.walk c.loop-interval-test.true c.in-Some.skipped s c.in-Some-field_behind.passed p)
+    let s = found line l.at c.in-Some.ensures.found in
+    let p = found line from c.in-Some-field_behind.ensures.found in record {
+      front = front_more l.invariant.front (coming d (drop (i + 1) all) line [] (r.last + 1) next 1)
+          (walking_slice all [] i l.invariant.walk c.loop-interval-test.true s p)
           c.in_ok-push.ensures.wrote c.in_ok-push.ensures.clean;
-      walk = walking_more d all line [] i l.number l.at l.lead l.invariant.walk c.loop-interval-test.true c.in-Some.skipped s c.in-Some-field_behind.passed p;
+      walk = walking_more all [] i l.invariant.walk c.loop-interval-test.true s p;
       known = c.in-Some-field_behind.ensures.start;
     }
 
 pub returns-clause-wrote : goal.returns-clause-wrote
 returns-clause-wrote g c =
-    let d = c.args.job.now.delim in
-    let line = c.args.line.now in
     let all = c.intervals-selected.result.now in
     let l = c.loop-interval in
-    front_ends (cut_fields (cut_job c.args.job.now) line) (coming d (drop l.interval-index all) line [] l.number l.at l.lead) c.args.out.now l.out l.invariant.front l.out []
-    (walking_done d all line [] l.interval-index l.number l.at l.lead l.invariant.walk c.loop-interval-test.false) (wrote_nothing l.out)
+    front_ends l.invariant.front (walking_done all [] _ l.invariant.walk c.loop-interval-test.false) (wrote_nothing l.out)
 
 pub overflow_add-number : goal.overflow_add-number
 overflow_add-number g c =
     let l = c.loop-interval in
     let line = c.args.line.now in
-    let far = slice_fits line l.at c.in-Some.skipped c.in-Some-field_behind.passed l.invariant.walk.fits
-    (found c.args.job.now.delim line _ l.at c.in-Some.skipped c.in-Some.ensures.found)
-    (found c.args.job.now.delim line _ (l.at + c.in-Some.skipped) c.in-Some-field_behind.passed c.in-Some-field_behind.ensures.found) in
-    omega (arith, far, c.in-Some-field_behind.ensures.found.count, c.in-Some.ensures.found.count, l.invariant.walk.count, c.requires.short)
+    let far = slice_fits l.invariant.walk (found line l.at c.in-Some.ensures.found) (found line (l.at + c.in-Some.skipped) c.in-Some-field_behind.ensures.found) in
+    omega (arith, c.in-Some-field_behind.ensures.found.count, c.in-Some.ensures.found.count, l.invariant.walk.count, c.requires.short)
 
 pub overflow_add-at : goal.overflow_add-at
 overflow_add-at g c =
     let l = c.loop-interval in
     let line = c.args.line.now in
-    let far = slice_fits line l.at c.in-Some.skipped c.in-Some-field_behind.passed l.invariant.walk.fits
-    (found c.args.job.now.delim line _ l.at c.in-Some.skipped c.in-Some.ensures.found)
-    (found c.args.job.now.delim line _ (l.at + c.in-Some.skipped) c.in-Some-field_behind.passed c.in-Some-field_behind.ensures.found) in
-    omega (arith, far, c.requires.short)
+    let far = slice_fits l.invariant.walk (found line l.at c.in-Some.ensures.found) (found line (l.at + c.in-Some.skipped) c.in-Some-field_behind.ensures.found) in
+    omega arith
 
 pub overflow_add-from : goal.overflow_add-from
 overflow_add-from g c =
     let l = c.loop-interval in
     let line = c.args.line.now in
-    let near = step_fits line l.at c.in-Some.skipped l.invariant.walk.fits (found c.args.job.now.delim line _ l.at c.in-Some.skipped c.in-Some.ensures.found) in
-    omega (arith, near, c.requires.short)
+    let near = step_fits l.invariant.walk (found line l.at c.in-Some.ensures.found) in
+    omega arith
 
 pub field_behind-requires-clause-first : goal.field_behind-requires-clause-first
 field_behind-requires-clause-first g c =
     let line = c.args.line.now in
-    subst (λ (l : List ℕ). IsFirstByte (is_byte c.args.job.now.delim) l (Some c.args.first))
-    (sym (take_all (length line) line (omega arith))) c.requires.first
+    rw (take_all (length line) line (omega arith)) c.requires.first
 
 pub field_behind-requires-in-loop-interval-clause-first : goal.field_behind-requires-in-loop-interval-clause-first
 field_behind-requires-in-loop-interval-clause-first g c =
     let line = c.args.line.now in
-    subst (λ (l : List ℕ). IsFirstByte (is_byte c.args.job.now.delim) l (Some c.args.first))
+    subst (λ l. IsFirstByte (is_byte c.args.job.now.delim) l (Some c.args.first))
     (sym (take_all (length line) line (omega arith))) c.requires.first
 
 pub overflow_add-last : goal.overflow_add-last
 overflow_add-last g c =
     let l = c.loop-interval in
     let w = l.invariant.walk in
-    omega (arith, not_past c.args.job.now.delim c.intervals-selected.result.now c.args.line.now [] l.interval-index l.number l.at l.lead w c.loop-interval-test.true, w.low_is)
+    omega (arith, not_past c.intervals-selected.result.now [] _ w c.loop-interval-test.true)
 
 -- a place in the line, less the delimiter in front of it, lies in the line too
-back : (from lead size : ℕ) → from ≤ size → from - lead ≤ size
-back from lead size near = omega (arith, near)
+back : {from : ℕ} (lead : ℕ) {size : ℕ} → from ≤ size → from - lead ≤ size
+back lead near = omega arith
 
 pub slice_bounds-push-start : goal.slice_bounds-push-start
 slice_bounds-push-start g c =
     let l = c.loop-interval in
-    let line = c.args.line.now in
-    back _ l.lead _ (step_fits line l.at c.in-Some.skipped l.invariant.walk.fits (found c.args.job.now.delim line _ l.at c.in-Some.skipped c.in-Some.ensures.found))
+    back l.lead (step_fits l.invariant.walk (found c.args.line.now l.at c.in-Some.ensures.found))
 
 pub slice_bounds-push-count : goal.slice_bounds-push-count
 slice_bounds-push-count g c =
     let l = c.loop-interval in
-    let line = c.args.line.now in
-    back _ l.lead _ (step_fits line l.at c.in-Some.skipped l.invariant.walk.fits (found c.args.job.now.delim line _ l.at c.in-Some.skipped c.in-Some.ensures.found))
+    back l.lead (step_fits l.invariant.walk (found c.args.line.now l.at c.in-Some.ensures.found))
 
 itself : (size : ℕ) → size ≤ size
 itself size = omega arith
@@ -173,5 +153,4 @@ itself size = omega arith
 pub field_behind-requires-in-loop-interval-clause-within : goal.field_behind-requires-in-loop-interval-clause-within
 field_behind-requires-in-loop-interval-clause-within g c =
     let l = c.loop-interval in
-    let line = c.args.line.now in
-    (step_fits line l.at c.in-Some.skipped l.invariant.walk.fits (found c.args.job.now.delim line _ l.at c.in-Some.skipped c.in-Some.ensures.found), itself (length line))
+    (step_fits l.invariant.walk (found c.args.line.now l.at c.in-Some.ensures.found), itself (length c.args.line.now))

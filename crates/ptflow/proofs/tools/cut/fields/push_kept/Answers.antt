@@ -1,6 +1,6 @@
 -- A line with a delimiter gives its selected fields, and any other itself, or nothing with `-s`. Behind it stands its
 -- end.
-use Rattle.std.proofs.Common.{◌≡◌, ℕ, false, List, [], ◌∷◌, None, Some, subst}
+use Rattle.std.proofs.Common.{◌≡◌, ℕ, false, List, [], ◌∷◌, None, Some}
 use Rattle.ptlines.specs.Outputs.{Output, Wrote}
 use Rattle.ptlines.proofs.Pushed.{wrote_nothing, wrote_trans, wrote_past}
 use Rattle.ptlangs.specs.Jobs.{Cut, cut_job}
@@ -15,7 +15,7 @@ returns-in_err-push_fields-in-Some-clause-wrote g c =
     let line = c.args.line.now in
     let some = found c.args.job.now.delim line (Some c.in-Some.first) c.in-Some.ensures in
     rw (line_written job line (cut_fields job line) (of_fields job c.requires.by_fields line some))
-    (wrote_past c.args.out.now c.push_fields.new.out (cut_fields job line) (job.end ∷ []) c.in_err-push_fields-in-Some.ensures.fault c.in_err-push_fields-in-Some.ensures.wrote)
+    (wrote_past _ _ _ (job.end ∷ []) c.in_err-push_fields-in-Some.ensures.fault c.in_err-push_fields-in-Some.ensures.wrote)
 
 pub returns-then-job-clause-wrote : goal.returns-then-job-clause-wrote
 returns-then-job-clause-wrote g c =
@@ -30,15 +30,14 @@ returns-in_err-push-in-None-clause-wrote g c =
     let line = c.args.line.now in
     let none = found c.args.job.now.delim line None c.in-None.ensures in
     rw (line_written job line line (of_line job c.requires.by_fields line none c.if-job.false))
-    (wrote_past c.args.out.now c.push.new.self line (job.end ∷ []) c.in_err-push-in-None.ensures.fault c.in_err-push-in-None.ensures.wrote)
+    (wrote_past _ _ _ (job.end ∷ []) c.in_err-push-in-None.ensures.fault c.in_err-push-in-None.ensures.wrote)
 
 -- the bytes that are written of the line were pushed, and its end behind them
-ends : (job : Cut) (line bytes : List ℕ) (end : ℕ) (was out mid is : Output) → cut_line job line ≡ bytes ∷ [] → end ≡ job.end → mid ≡ out → Wrote was out bytes
+ends : (job : Cut) (line : List ℕ) {bytes : List ℕ} {end : ℕ} {was out mid is : Output} → cut_line job line ≡ bytes ∷ [] → end ≡ job.end → mid ≡ out → Wrote was out bytes
     → out.faulted ≡ false → Wrote mid is (end ∷ [])
     → Wrote was is (cut_lines job (line ∷ []))
-ends job line bytes end was out mid is one same here wrote clean ended =
-    rw (line_written job line bytes one)
-    (wrote_trans was out is bytes (job.end ∷ []) clean wrote (subst (λ (o : Output). Wrote o is (job.end ∷ [])) here (subst (λ (b : ℕ). Wrote mid is (b ∷ [])) same ended)))
+ends job line {bytes} one same here wrote clean ended =
+    rw (line_written job line bytes one) (wrote_trans _ _ _ _ _ clean wrote (rw here at (rw same at ended)))
 
 pub returns-clause-wrote : goal.returns-clause-wrote
 returns-clause-wrote g c =
@@ -47,10 +46,10 @@ returns-clause-wrote g c =
     let by = c.requires.by_fields in
     let d = c.args.job.now.delim in
     elim c.match-find_near.branch [
-      | in-Some+in_ok-push_fields-in-Some w ↦ ends job line (cut_fields job line) c.args.ending c.args.out.now w.push_fields.new.out c.match-find_near.out c.push-2.new.self
+      | in-Some+in_ok-push_fields-in-Some w ↦ ends job line
           (of_fields job by line (found d line (Some w.in-Some.first) w.in-Some.ensures)) c.requires.ending w.out-is w.in_ok-push_fields-in-Some.ensures.wrote
           w.in_ok-push_fields-in-Some.ensures.clean c.push-2.ensures.wrote
-      | in-None+else-job+in_ok-push-in-None w ↦ ends job line line c.args.ending c.args.out.now w.push.new.self c.match-find_near.out c.push-2.new.self
+      | in-None+else-job+in_ok-push-in-None w ↦ ends job line
           (of_line job by line (found d line None w.in-None.ensures) w.if-job.false) c.requires.ending w.out-is w.in_ok-push-in-None.ensures.wrote
           w.in_ok-push-in-None.ensures.clean c.push-2.ensures.wrote
     ]

@@ -1,11 +1,10 @@
 -- An interval is walked in two steps: to the start of its first field, and to the end of its last one (`FieldWalks`).
 -- What lies between is one slice, with a delimiter in front of it if it is not the first. A walk that meets the end of
 -- the line leaves no field to come.
-use Rattle.std.proofs.Common.{◌≡◌, ◌+◌, ◌-◌, ◌≤◌, ◌++◌, ℕ, List, take, drop, get_or, refl, sym, ◌∙◌, ap, arith, append_assoc, length-drop}
+use Rattle.std.proofs.Common.{◌≡◌, ◌+◌, ◌-◌, ◌≤◌, ◌++◌, take, drop, get_or, refl, sym, ◌∙◌, ap, arith, append_assoc, length-drop}
 use Rattle.std.proofs.lemmas.List.{take-take, length-take-le}
 use Rattle.std.specs.List.{join_with_byte}
 use Rattle.ptlangs.specs.CutLists.{is_selected}
-use Rattle.ptlangs.specs.declared.ranges.Interval.{Interval}
 use Rattle.ptflow.specs.Workings.Cut.FieldPlaces.{fields}
 use Rattle.ptflow.proofs.OfBytes.Chosen.{chosen}
 use Rattle.ptflow.proofs.OfCut.FieldPlaces.{rest_of, slice_of, line_with_end, put_byte}
@@ -19,9 +18,9 @@ loop-interval-init g c =
     let line = take c.args.to bytes in
     let tail = take 1 (drop c.args.to bytes) in
     let all = c.intervals-selected.result.now in record {
-      put = ap (λ (l : List ℕ). take c.args.start c.args.room.now ++ l)
-          (ap (λ (l : List Interval). join_with_byte d (chosen (is_selected l) 1 (fields d line)) ++ tail) (sym c.intervals-selected.ensures.kept) ∙ all_coming d all line tail);
-      walk = walking_starts d all line tail c.intervals-selected.ensures.apart;
+      put = ap (◌++◌ (take c.args.start c.args.room.now))
+          (ap (λ l. join_with_byte d (chosen (is_selected l) 1 (fields d line)) ++ tail) (sym c.intervals-selected.ensures.kept) ∙ all_coming d all line tail);
+      walk = walking_starts c.intervals-selected.ensures.apart;
       known = λ le. refl;
       low = omega arith;
       high = omega arith;
@@ -33,10 +32,10 @@ returns-in_default-clause-put g c =
     let bytes = c.args.bytes.now in
     let to = c.args.to in
     let l = c.loop-interval in
-    let same = walking_short c.args.job.now.delim c.intervals-selected.result.now (take to bytes)
-    (take 1 (drop to bytes)) l.interval-index l.number l.at l.lead l.invariant.walk c.loop-interval-test.true c.in_default.ensures.found in
-    put_byte l.room bytes l.end to (omega (arith, l.invariant.high, l.invariant.long, l.invariant.walk.fits, length-take-le to bytes (omega arith))) c.requires.within
-    ∙ ap (λ (b : List ℕ). take l.end l.room ++ b) (sym same) ∙ sym l.invariant.put
+    let same = walking_short c.intervals-selected.result.now
+    (take 1 (drop to bytes)) _ l.invariant.walk c.loop-interval-test.true c.in_default.ensures.found in
+    put_byte l.room bytes l.end (omega (arith, l.invariant.high, l.invariant.long, l.invariant.walk.fits, length-take-le to bytes (omega arith))) c.requires.within
+    ∙ ap (◌++◌ (take l.end l.room)) (sym same) ∙ sym l.invariant.put
 
 pub returns-in_default-field_behind-clause-put : goal.returns-in_default-field_behind-clause-put
 returns-in_default-field_behind-clause-put g c =
@@ -46,9 +45,9 @@ returns-in_default-field_behind-clause-put g c =
     let l = c.loop-interval in
     let from = l.at + c.in-Some.skipped in
     let before : from - l.lead ≤ to + 1 = omega (arith, c.in-Some.ensures.found.fits, length-drop l.at line, l.invariant.walk.fits, length-take-le to bytes (omega arith)) in
-    let same = walking_ends c.args.job.now.delim c.intervals-selected.result.now line (take 1 (drop to bytes)) l.interval-index l.number l.at l.lead l.invariant.walk c.loop-interval-test.true
-    c.in-Some.skipped c.in-Some.ensures.found to (take (to + 1) bytes) (sym (take-take to (to + 1) bytes (omega arith))) (sym (line_with_end to bytes)) c.in_default-field_behind.ensures.found in
-    c.copy_near.ensures.copied ∙ ap (λ (b : List ℕ). take l.end l.room ++ b) (sym (same ∙ rest_of (from - l.lead) (to + 1) bytes before)) ∙ sym l.invariant.put
+    let same = walking_ends c.intervals-selected.result.now _ _ l.invariant.walk c.loop-interval-test.true
+    c.in-Some.ensures.found to (take (to + 1) bytes) (sym (take-take to (to + 1) bytes (omega arith))) (sym (line_with_end to bytes)) c.in_default-field_behind.ensures.found in
+    cc (c.copy_near.ensures.copied, same, rest_of _ _ bytes before, l.invariant.put)
 
 pub loop-interval-preserved : goal.loop-interval-preserved
 loop-interval-preserved g c =
@@ -66,20 +65,17 @@ loop-interval-preserved g c =
     let next = from + c.in-Some-field_behind.passed in
     let size = (next - 1) - (from - l.lead) in
     let more = coming d (drop (i + 1) all) line tail ((get_or all i (record { first = 0; last = 0 })).last + 1) next 1 in
-    let ends : next ≤ to = omega (arith, p.fits, length-drop from line, s.fits, length-drop l.at line, l.invariant.walk.fits, length-take-le to bytes (omega arith)) in
-    let some : 1 ≤ c.in-Some-field_behind.passed = omega (arith, p.count) in
-    let within : (from - l.lead) + size ≤ to = omega (arith, ends, some, l.invariant.walk.begun, l.invariant.walk.passed) in
+    let ends : next ≤ to = omega (arith, length-drop from line, length-drop l.at line, length-take-le to bytes (omega arith)) in
+    let some : 1 ≤ c.in-Some-field_behind.passed = omega arith in
+    let within : (from - l.lead) + size ≤ to = omega arith in
     let copied : take l.end l.room ++ take size (drop (from - l.lead) line) ≡ take (l.end + size) c.copy_near-in-loop-interval.new.into =
-    ap (λ (b : List ℕ). take l.end l.room ++ b) (slice_of (from - l.lead) size to bytes within) ∙ sym c.copy_near-in-loop-interval.ensures.copied in record {
-      put = l.invariant.put
-          ∙ ap (λ (b : List ℕ). take l.end l.room ++ b) (walking_slice d all line tail i l.number l.at l.lead l.invariant.walk c.loop-interval-test.true
-          c.in-Some.skipped s c.in-Some-field_behind.passed p)
-          ∙ sym (append_assoc (take l.end l.room) (take size (drop (from - l.lead) line)) more) ∙ ap (λ (b : List ℕ). b ++ more) copied;
-      walk = walking_more d all line tail i l.number l.at l.lead l.invariant.walk c.loop-interval-test.true c.in-Some.skipped s c.in-Some-field_behind.passed p;
+    cc (slice_of (from - l.lead) size bytes within) in record {
+      put = cc (walking_slice all tail i l.invariant.walk c.loop-interval-test.true s p, append_assoc (take l.end l.room) (take size (drop (from - l.lead) line)) more);
+      walk = walking_more all tail i l.invariant.walk c.loop-interval-test.true s p;
       known = c.in-Some-field_behind.ensures.start;
-      low = omega (arith, l.invariant.low);
-      high = omega (arith, l.invariant.high, some, l.invariant.walk.passed);
-      long = c.copy_near-in-loop-interval.ensures.long ∙ l.invariant.long;
+      low = omega arith;
+      high = omega arith;
+      long = cc;
     }
 
 pub returns-clause-put : goal.returns-clause-put
@@ -87,70 +83,58 @@ returns-clause-put g c =
     let bytes = c.args.bytes.now in
     let to = c.args.to in
     let l = c.loop-interval in
-    let same = walking_done c.args.job.now.delim c.intervals-selected.result.now (take to bytes)
-    (take 1 (drop to bytes)) l.interval-index l.number l.at l.lead l.invariant.walk c.loop-interval-test.false in
-    put_byte l.room bytes l.end to (omega (arith, l.invariant.high, l.invariant.long, l.invariant.walk.fits, length-take-le to bytes (omega arith))) c.requires.within
-    ∙ ap (λ (b : List ℕ). take l.end l.room ++ b) (sym same) ∙ sym l.invariant.put
+    let same = walking_done c.intervals-selected.result.now
+    (take 1 (drop to bytes)) _ l.invariant.walk c.loop-interval-test.false in
+    put_byte l.room bytes l.end (omega (arith, l.invariant.high, l.invariant.long, l.invariant.walk.fits, length-take-le to bytes (omega arith))) c.requires.within
+    ∙ ap (◌++◌ (take l.end l.room)) (sym same) ∙ sym l.invariant.put
 
 pub overflow_add-number : goal.overflow_add-number
 overflow_add-number g c =
     let l = c.loop-interval in
-    let line = take c.args.to c.args.bytes.now in
-    let far = slice_fits line l.at c.in-Some.skipped c.in-Some-field_behind.passed l.invariant.walk.fits c.in-Some.ensures.found c.in-Some-field_behind.ensures.found in
+    let far = slice_fits l.invariant.walk c.in-Some.ensures.found c.in-Some-field_behind.ensures.found in
     let s = c.in-Some.ensures.found in
     let p = c.in-Some-field_behind.ensures.found in
-    omega (arith, far, p.count, s.count, l.invariant.walk.count, length-take-le c.args.to c.args.bytes.now (omega arith), c.requires.within, c.requires.short)
+    omega (arith, length-take-le c.args.to c.args.bytes.now (omega arith))
 
 pub overflow_add-end : goal.overflow_add-end
 overflow_add-end g c =
     let l = c.loop-interval in
-    let line = take c.args.to c.args.bytes.now in
-    let far = slice_fits line l.at c.in-Some.skipped c.in-Some-field_behind.passed l.invariant.walk.fits c.in-Some.ensures.found c.in-Some-field_behind.ensures.found in
-    omega (arith, far, l.invariant.high, length-take-le c.args.to c.args.bytes.now (omega arith), c.requires.within, c.requires.room)
+    let far = slice_fits l.invariant.walk c.in-Some.ensures.found c.in-Some-field_behind.ensures.found in
+    omega (arith, length-take-le c.args.to c.args.bytes.now (omega arith))
 
 pub overflow_add-at : goal.overflow_add-at
 overflow_add-at g c =
     let l = c.loop-interval in
-    let line = take c.args.to c.args.bytes.now in
-    let far = slice_fits line l.at c.in-Some.skipped c.in-Some-field_behind.passed l.invariant.walk.fits c.in-Some.ensures.found c.in-Some-field_behind.ensures.found in
-    omega (arith, far, length-take-le c.args.to c.args.bytes.now (omega arith), c.requires.within, c.requires.short)
+    let far = slice_fits l.invariant.walk c.in-Some.ensures.found c.in-Some-field_behind.ensures.found in
+    omega (arith, length-take-le c.args.to c.args.bytes.now (omega arith))
 
 pub overflow_add-from : goal.overflow_add-from
 overflow_add-from g c =
     let l = c.loop-interval in
-    let line = take c.args.to c.args.bytes.now in
-    let near = step_fits line l.at c.in-Some.skipped l.invariant.walk.fits c.in-Some.ensures.found in
-    omega (arith, near, length-take-le c.args.to c.args.bytes.now (omega arith), c.requires.within, c.requires.short)
+    let near = step_fits l.invariant.walk c.in-Some.ensures.found in
+    omega (arith, length-take-le c.args.to c.args.bytes.now (omega arith))
 
 pub copy_near-requires-in-loop-interval-clause-within : goal.copy_near-requires-in-loop-interval-clause-within
 copy_near-requires-in-loop-interval-clause-within g c =
     let l = c.loop-interval in
-    let line = take c.args.to c.args.bytes.now in
-    let far = slice_fits line l.at c.in-Some.skipped c.in-Some-field_behind.passed l.invariant.walk.fits c.in-Some.ensures.found c.in-Some-field_behind.ensures.found in
-    (omega (arith, c.in-Some-field_behind.ensures.found.count), omega (arith, far, length-take-le c.args.to c.args.bytes.now (omega arith), c.requires.within))
+    let far = slice_fits l.invariant.walk c.in-Some.ensures.found c.in-Some-field_behind.ensures.found in
+    (omega (arith, c.in-Some-field_behind.ensures.found.count), omega (arith, length-take-le c.args.to c.args.bytes.now (omega arith), c.requires.within))
 
 pub copy_near-requires-clause-within : goal.copy_near-requires-clause-within
 copy_near-requires-clause-within g c =
     let l = c.loop-interval in
-    let line = take c.args.to c.args.bytes.now in
-    let near = step_fits line l.at c.in-Some.skipped l.invariant.walk.fits c.in-Some.ensures.found in
-    (omega (arith, near, length-take-le c.args.to c.args.bytes.now (omega arith), c.requires.within), omega (arith, c.requires.within))
+    let near = step_fits l.invariant.walk c.in-Some.ensures.found in
+    (omega (arith, length-take-le c.args.to c.args.bytes.now (omega arith)), omega arith)
 
 pub overflow_add-last : goal.overflow_add-last
 overflow_add-last g c =
     let l = c.loop-interval in
     let w = l.invariant.walk in
     let all = c.intervals-selected.result.now in
-    omega (
-      arith,
-      not_past c.args.job.now.delim all (take c.args.to c.args.bytes.now) (take 1 (drop c.args.to c.args.bytes.now)) l.interval-index l.number l.at l.lead w
-          c.loop-interval-test.true,
-      w.low_is,
-    )
+    omega (arith, not_past all (take 1 (drop c.args.to c.args.bytes.now)) _ w c.loop-interval-test.true)
 
 pub copy_near-requires-in-loop-interval-clause-room : goal.copy_near-requires-in-loop-interval-clause-room
 copy_near-requires-in-loop-interval-clause-room g c =
     let l = c.loop-interval in
-    let line = take c.args.to c.args.bytes.now in
-    let far = slice_fits line l.at c.in-Some.skipped c.in-Some-field_behind.passed l.invariant.walk.fits c.in-Some.ensures.found c.in-Some-field_behind.ensures.found in
-    omega (arith, far, l.invariant.high, l.invariant.long, length-take-le c.args.to c.args.bytes.now (omega arith), c.requires.within, c.requires.room)
+    let far = slice_fits l.invariant.walk c.in-Some.ensures.found c.in-Some-field_behind.ensures.found in
+    omega (arith, length-take-le c.args.to c.args.bytes.now (omega arith))

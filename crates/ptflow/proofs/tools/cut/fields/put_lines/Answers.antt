@@ -1,9 +1,7 @@
 -- A line with the delimiter gives its fields. Lines without one are put as they are, as many as stand behind one
 -- another, or passed over.
-use Rattle.std.proofs.Common.{◌≡◌, ◌+◌, ◌-◌, ◌++◌, ℕ, Some, take, length, sym, subst, arith}
+use Rattle.std.proofs.Common.{◌≡◌, ◌-◌, Some, take, length, arith}
 use Rattle.std.specs.Prelude.{unwrap_or}
-use Rattle.memchr.specs.Find.{IsFirstByte, is_byte}
-use Rattle.ptlines.specs.Text.{IsLine}
 use Rattle.ptlangs.specs.Jobs.{cut_job}
 use Rattle.ptflow.specs.Cuts.{cut_fields}
 use Rattle.ptflow.proofs.OfCut.FieldLines.{found, of_fields}
@@ -18,9 +16,8 @@ returns-then-first-to-clause-put g c =
     let to = c.args.to in
     let line = take to bytes in
     let place = unwrap_or c.find_near.result (length bytes) in
-    let first = first_within d bytes c.find_near.result to c.find_near.ensures (omega (arith, c.if-first-to.true, c.unwrap_or-first.ensures)) (omega (arith, c.requires.first.0.high)) in
-    puts_line job c.requires.by_fields c.args.ending c.requires.ending bytes to c.requires.first (cut_fields job line) (take c.args.start c.args.room.now)
-    (take c.put_fields.result c.put_fields.new.room)
+    let first = first_within d bytes c.find_near.result to c.find_near.ensures (omega arith) (omega arith) in
+    puts_line job c.requires.by_fields c.requires.ending bytes to c.requires.first (cut_fields job line)
     (of_fields job c.requires.by_fields line (found d line (Some place) first)) c.put_fields.ensures.put
 
 pub returns-then-job-clause-put : goal.returns-then-job-clause-put
@@ -28,26 +25,24 @@ returns-then-job-clause-put g c =
     let bytes = c.args.bytes.now in
     let d = c.args.job.now.delim in
     let size = c.whole_lines-size in
-    let free = subst (λ (n : ℕ). IsLine d (take n bytes)) (sym c.unwrap_or-first.ensures) (free_before d bytes c.find_near.result c.find_near.ensures) in
-    puts_dropped (cut_job c.args.job.now) c.requires.by_fields c.args.ending c.requires.ending bytes c.args.to c.requires.first size.result
-    c.unwrap_or-first.result size.ensures.within.0 size.ensures.within.1 size.ensures.ended
-    size.ensures.up_to c.if-first-to.false free (take c.args.start c.args.room.now) c.if-job.true
+    let free = rw (← c.unwrap_or-first.ensures) at (free_before d bytes c.find_near.result c.find_near.ensures) in
+    puts_dropped (cut_job c.args.job.now) c.requires.by_fields c.requires.ending bytes _ c.requires.first
+    size.ensures.within.0 size.ensures.within.1 size.ensures.ended size.ensures.up_to c.if-first-to.false free c.if-job.true
 
 pub returns-clause-put : goal.returns-clause-put
 returns-clause-put g c =
     let bytes = c.args.bytes.now in
     let d = c.args.job.now.delim in
     let size = c.whole_lines-size in
-    let free = subst (λ (n : ℕ). IsLine d (take n bytes)) (sym c.unwrap_or-first.ensures) (free_before d bytes c.find_near.result c.find_near.ensures) in
+    let free = rw (← c.unwrap_or-first.ensures) at (free_before d bytes c.find_near.result c.find_near.ensures) in
     let whole : size.result - 0 ≡ size.result = omega arith in
-    let copied = subst (λ (n : ℕ). take (c.args.start + n) c.copy_near.new.into ≡ take c.args.start c.args.room.now ++ take n bytes) whole c.copy_near.ensures.copied in
-    puts_kept (cut_job c.args.job.now) c.requires.by_fields c.args.ending c.requires.ending bytes c.args.to c.requires.first size.result
-    c.unwrap_or-first.result size.ensures.within.0 size.ensures.within.1 size.ensures.ended
-    size.ensures.up_to c.if-first-to.false free (take c.args.start c.args.room.now) (take (c.args.start + size.result) c.copy_near.new.into) c.if-job.false copied
+    let copied = rw whole at c.copy_near.ensures.copied in
+    puts_kept (cut_job c.args.job.now) c.requires.by_fields c.requires.ending bytes _ c.requires.first
+    size.ensures.within.0 size.ensures.within.1 size.ensures.ended
+    size.ensures.up_to c.if-first-to.false free c.if-job.false copied
 
 pub put_fields-requires-clause-first : goal.put_fields-requires-clause-first
 put_fields-requires-clause-first g c =
     let bytes = c.args.bytes.now in
     let d = c.args.job.now.delim in
-    subst (λ (n : ℕ). IsFirstByte (is_byte d) (take c.args.to bytes) (Some n)) (sym c.unwrap_or-first.ensures)
-    (first_within d bytes c.find_near.result c.args.to c.find_near.ensures (omega (arith, c.unwrap_or-first.ensures, c.if-first-to.true)) (omega (arith, c.requires.first.0.high)))
+    rw c.unwrap_or-first.ensures (first_within d bytes c.find_near.result c.args.to c.find_near.ensures (omega arith) (omega arith))

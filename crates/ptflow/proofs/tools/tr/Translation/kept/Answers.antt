@@ -1,11 +1,9 @@
-use Rattle.std.proofs.Common.{Option, sym, subst}
+use Rattle.std.proofs.Common.{sym}
 use Rattle.ptlangs.specs.TrTables.{deletes}
-use Rattle.ptflow.specs.declared.kernels.sets.ByteSet.{ByteSet}
-use Rattle.ptflow.specs.Workings.Tr.TrRests.{IsSetIfAny}
 use Rattle.ptflow.proofs.OfTr.TrRests.{filter_all}
 use Rattle.ptflow.proofs.tools.tr.Translation.kept.Goals as goal
 
 pub returns-in-None-clause-kept : goal.returns-in-None-clause-kept
 returns-in-None-clause-kept c =
     let tables = c.args.self.now.plan.now in
-    sym (filter_all (deletes tables) (subst (λ (o : Option ByteSet). IsSetIfAny o tables.deleted) c.in-None.is c.requires.deleting) c.args.block.now)
+    sym (filter_all (deletes tables) (rw c.in-None.is at c.requires.deleting) c.args.block.now)

@@ -1,7 +1,5 @@
-use Rattle.std.proofs.Common.{sym, ◌∙◌, subst}
+use Rattle.std.proofs.Common.{sym, ◌∙◌}
 use Rattle.ptlangs.specs.TrTables.{image}
-use Rattle.ptflow.specs.declared.tools.tr.mapping.Mapping.{Mapping}
-use Rattle.ptflow.specs.Workings.Tr.Mappings.{IsMapping}
 use Rattle.ptflow.proofs.OfBytes.LaneLemmas.{map_self, bytes_same, bytes_fit}
 use Rattle.ptflow.proofs.tools.tr.Translation.mapped.Goals as goal
 
@@ -9,5 +7,5 @@ pub returns-in-Same : goal.returns-in-Same
 returns-in-Same c =
     let tables = c.args.self.now.plan.now in
     let bytes = c.args.bytes.now in
-    let same = subst (λ (m : Mapping). IsMapping m tables) c.in-Same.is c.requires.mapping in
+    let same = rw c.in-Same.is at c.requires.mapping in
     sym (map_self bytes) ∙ bytes_same (λ b. b) (image tables) same bytes (bytes_fit bytes c.type_inv.bytes)

@@ -1,15 +1,14 @@
-use Rattle.std.proofs.Common.{Bool, List, Option, false, sym, ap, ◌∙◌, subst, slice_index_or}
+use Rattle.std.proofs.Common.{false, sym, ap, ◌∙◌, slice_index_or}
 use Rattle.ptlangs.specs.TrTables.{squeezes}
-use Rattle.ptflow.specs.declared.kernels.sets.ByteSet.{ByteSet}
-use Rattle.ptflow.specs.Workings.Tr.TrRests.{IsSetIfAny, squeeze_from}
+use Rattle.ptflow.specs.Workings.Tr.TrRests.{squeeze_from}
 use Rattle.ptflow.proofs.OfTr.TrRests.{from_all}
 use Rattle.ptflow.proofs.tools.tr.Translation.squeezed.Goals as goal
 
 pub returns-in-Some : goal.returns-in-Some
 returns-in-Some c =
-    c.squeeze_block-count.ensures.squeezed ∙ ap (λ (flags : List Bool). squeeze_from (λ b. slice_index_or flags b false) c.args.last c.args.bytes.now) c.squeezed.ensures
+    c.squeeze_block-count.ensures.squeezed ∙ ap (λ flags. squeeze_from (λ b. slice_index_or flags b false) c.args.last c.args.bytes.now) c.squeezed.ensures
 
 pub returns-in-None : goal.returns-in-None
 returns-in-None c =
     let tables = c.args.self.now.plan.now in
-    sym (from_all (squeezes tables) (subst (λ (o : Option ByteSet). IsSetIfAny o tables.squeezed) c.in-None.is c.requires.squeezing) c.args.last c.args.bytes.now)
+    sym (from_all (squeezes tables) (rw c.in-None.is at c.requires.squeezing) c.args.last c.args.bytes.now)

@@ -1,4 +1,4 @@
-use Rattle.std.proofs.Common.{ℕ, Option, ◌∙◌, ap}
+use Rattle.std.proofs.Common.{◌∙◌, ap}
 use Rattle.std.specs.Option.{option_or}
 use Rattle.ptflow.proofs.OfPasses.Continuations.{on_err}
 use Rattle.ptflow.proofs.OfTr.TrRests.{passes_make, block_on, block_begins}
@@ -9,19 +9,19 @@ returns-in_err-push-clause-halts g c =
     let t = c.args.self.now in
     let block = c.args.block.now in
     let written = c.squeezed-written.result.now in
-    let made = passes_make t.by.plan.now t.last block c.kept-kept.result.now c.mapped-mapped.result.now written c.kept-kept.ensures.kept c.mapped-mapped.ensures c.squeezed-written.ensures in
+    let made = passes_make t.by.plan.now t.last block c.kept-kept.ensures.kept c.mapped-mapped.ensures c.squeezed-written.ensures in
     on_err c.from_residual.result
-    (record { pushed = written; wrote = c.push.ensures.wrote; fault = c.in_err-push.ensures.fault; true_so_far = λ rest. block_begins t.by.plan.now t.last block written rest made })
+    (record { pushed = written; wrote = c.push.ensures.wrote; fault = c.in_err-push.ensures.fault; true_so_far = λ rest. block_begins t.by.plan.now t.last block rest made })
 
 pub returns-clause-continues : goal.returns-clause-continues
 returns-clause-continues g c =
     let t = c.args.self.now in
     let block = c.args.block.now in
     let written = c.squeezed-written.result.now in
-    let made = passes_make t.by.plan.now t.last block c.kept-kept.result.now c.mapped-mapped.result.now written c.kept-kept.ensures.kept c.mapped-mapped.ensures c.squeezed-written.ensures in
+    let made = passes_make t.by.plan.now t.last block c.kept-kept.ensures.kept c.mapped-mapped.ensures c.squeezed-written.ensures in
     record {
       pushed = written;
       wrote = c.push.ensures.wrote;
       clean = c.in_ok-push.ensures.clean;
-      on = λ rest. block_on t.by.plan.now t.last c.or-self.result block written rest made (c.or-self.ensures ∙ ap (λ (o : Option ℕ). option_or o t.last) (c.copied.ensures ∙ c.last.ensures.value));
+      on = λ rest. block_on t.by.plan.now t.last block rest made (c.or-self.ensures ∙ ap (λ o. option_or o t.last) (c.copied.ensures ∙ c.last.ensures.value));
     }

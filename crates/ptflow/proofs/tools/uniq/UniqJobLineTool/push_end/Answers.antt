@@ -1,20 +1,17 @@
-use Rattle.std.proofs.Common.{ℕ, [], ◌∷◌, ap, arith}
+use Rattle.std.proofs.Common.{[], ◌∷◌, ap, arith}
 use Rattle.ptlangs.specs.Jobs.{uniq_job}
-use Rattle.ptflow.specs.Workings.Uniq.OpenLines.{first_line}
 use Rattle.ptflow.proofs.OfUniq.OpenLines.{first_emptied, run_wrote}
 use Rattle.ptflow.proofs.tools.uniq.UniqJobLineTool.push_end.Goals as goal
 
 pub returns-in_err-push_run-clause-wrote : goal.returns-in_err-push_run-clause-wrote
 returns-in_err-push_run-clause-wrote g c =
-    let behind = c.args.ending ∷ [] in
-    run_wrote (uniq_job c.args.self.now) c.args.run.now.count c.first_line.result.now (first_line c.args.run.now c.args.store.now) behind c.args.out.now c.push_run.new.out
-    c.first_line.ensures (ap (λ (b : ℕ). b ∷ []) c.requires.fits) c.push_run.ensures.wrote
+    run_wrote (uniq_job c.args.self.now) c.args.run.now.count
+    c.first_line.ensures (ap (λ b. b ∷ []) c.requires.fits) c.push_run.ensures.wrote
 
 pub returns-clause-wrote : goal.returns-clause-wrote
 returns-clause-wrote g c =
-    let behind = c.args.ending ∷ [] in
-    run_wrote (uniq_job c.args.self.now) c.args.run.now.count c.first_line.result.now (first_line c.args.run.now c.args.store.now) behind c.args.out.now c.push_run.new.out
-    c.first_line.ensures (ap (λ (b : ℕ). b ∷ []) c.requires.fits) c.push_run.ensures.wrote
+    run_wrote (uniq_job c.args.self.now) c.args.run.now.count
+    c.first_line.ensures (ap (λ b. b ∷ []) c.requires.fits) c.push_run.ensures.wrote
 
 pub returns-clause-emptied : goal.returns-clause-emptied
-returns-clause-emptied g c = first_emptied c.args.store.now c.clear.new.self (omega (arith, c.requires.slots)) c.clear.ensures
+returns-clause-emptied g c = first_emptied (omega (arith, c.requires.slots)) c.clear.ensures

@@ -1,15 +1,14 @@
 -- The first lines of the block may go on with the open run. Where one does not, that run is pushed, and with it the
 -- runs that end in the block. The last run stays open, whatever comes (`BlockRuns`). What is taken are the lines whose
 -- end is there.
-use Rattle.std.proofs.Common.{◌+◌, ◌∷◌, [], ℕ, List, length, drop, sym, ap, subst, arith, length-drop}
+use Rattle.std.proofs.Common.{◌+◌, ◌∷◌, [], length, drop, sym, ap, subst, arith, length-drop}
 use Rattle.std.proofs.lemmas.List.{take_rest, length-take-le}
 use Rattle.ptlines.specs.Text.{text, ended_lines}
 use Rattle.ptlines.proofs.Scanned.{no_end}
 use Rattle.ptlines.proofs.TextLaws.{ended_none}
 use Rattle.ptlangs.specs.Jobs.{uniq_job}
-use Rattle.ptflow.specs.Uniqs.{Run}
 use Rattle.ptflow.specs.Workings.Uniq.BlockRuns.{RunsOn, GoesOnWith}
-use Rattle.ptflow.specs.Workings.Uniq.OpenLines.{first_line, open_run_of}
+use Rattle.ptflow.specs.Workings.Uniq.OpenLines.{open_run_of}
 use Rattle.ptflow.proofs.OfPasses.Continuations.{on_err}
 use Rattle.ptflow.proofs.OfUniq.OpenLines.{not_found, run_wrote, block_none, block_on, block_on_passed, block_run_halts, block_turns, block_halts, block_passed}
 use Rattle.ptflow.proofs.OfUniq.BlockRuns.{text_long}
@@ -27,76 +26,63 @@ returns-then-is_none-clause-passed g c =
 pub overflow_add-run : goal.overflow_add-run
 overflow_add-run g c =
     let w = c.count_same-same.ensures in
-    omega (arith, w.number, text_long c.args.ending w.front, ap length w.texts, length-take-le c.count_same-same.result.passed c.args.block.now w.within, w.within, c.requires.open.1, c.requires.short)
+    omega (arith, text_long c.args.ending w.front, ap length w.texts, length-take-le c.count_same-same.result.passed c.args.block.now w.within)
 
 pub returns-in_default-clause-continues : goal.returns-in_default-clause-continues
 returns-in_default-clause-continues g c =
-    let job = uniq_job c.args.self.now in
-    let first = first_line c.args.run.now c.args.store.now in
     let same = c.count_same-same.result in
-    let went = subst (λ (l : List ℕ). GoesOnWith job c.args.ending l c.args.block.now same) c.first_line.ensures c.count_same-same.ensures in
-    block_on job c.args.ending first c.args.block.now same went c.args.run.now.count c.requires.open.0
+    let went = rw c.first_line.ensures at c.count_same-same.ensures in
+    block_on went c.requires.open.0
     (no_end c.args.ending (drop same.passed c.args.block.now) (rw take_rest at c.in_default.ensures)) c.args.out.now c.requires.clean
 
 pub returns-in_default-clause-passed : goal.returns-in_default-clause-passed
 returns-in_default-clause-passed g c =
-    let job = uniq_job c.args.self.now in
-    let first = first_line c.args.run.now c.args.store.now in
     let same = c.count_same-same.result in
-    let went = subst (λ (l : List ℕ). GoesOnWith job c.args.ending l c.args.block.now same) c.first_line.ensures c.count_same-same.ensures in (
+    let went = rw c.first_line.ensures at c.count_same-same.ensures in (
       went.within,
-      block_on_passed job c.args.ending first c.args.block.now same went c.args.run.now.count c.requires.open.0
+      block_on_passed went c.requires.open.0
           (no_end c.args.ending (drop same.passed c.args.block.now) (rw take_rest at c.in_default.ensures)),
     )
 
 pub returns-in_err-push_run-clause-halts : goal.returns-in_err-push_run-clause-halts
 returns-in_err-push_run-clause-halts g c =
     let job = uniq_job c.args.self.now in
-    let first = first_line c.args.run.now c.args.store.now in
     let same = c.count_same-same.result in
-    let went = subst (λ (l : List ℕ). GoesOnWith job c.args.ending l c.args.block.now same) c.first_line.ensures c.count_same-same.ensures in
+    let went = subst (λ l. GoesOnWith job c.args.ending l c.args.block.now same) c.first_line.ensures c.count_same-same.ensures in
     let out = c.push_run.new.out in
     on_err c.from_residual.result
-    (block_run_halts job c.args.ending first c.args.block.now same went c.args.run.now.count c.requires.open.0 c.in-Some.at (rw take_rest at c.in-Some.ensures) c.args.out.now out out
-    (run_wrote job (c.args.run.now.count + same.count) c.first_line-2.result.now first (c.args.ending ∷ []) c.args.out.now out c.first_line-2.ensures
-    (ap (λ (b : ℕ). b ∷ []) c.requires.fits) c.push_run.ensures.wrote) c.in_err-push_run.ensures.fault)
+    (block_run_halts went c.requires.open.0 c.in-Some.at (rw take_rest at c.in-Some.ensures) out
+    (run_wrote job (c.args.run.now.count + same.count) c.first_line-2.ensures
+    (cc (c.requires.fits)) c.push_run.ensures.wrote) c.in_err-push_run.ensures.fault)
 
 pub returns-in_err-last-clause-halts : goal.returns-in_err-last-clause-halts
 returns-in_err-last-clause-halts g c =
     let job = uniq_job c.args.self.now in
-    let first = first_line c.args.run.now c.args.store.now in
     let same = c.count_same-same.result in
-    let went = subst (λ (l : List ℕ). GoesOnWith job c.args.ending l c.args.block.now same) c.first_line.ensures c.count_same-same.ensures in
-    let out = c.push_run.new.out in
+    let went = subst (λ l. GoesOnWith job c.args.ending l c.args.block.now same) c.first_line.ensures c.count_same-same.ensures in
     on_err c.from_residual-in_err-last.result
-    (block_halts job c.args.ending first c.args.block.now same went c.args.run.now.count c.requires.open.0 c.in-Some.at (rw take_rest at c.in-Some.ensures) c.args.out.now out c.push_runs.new.out
-    (run_wrote job (c.args.run.now.count + same.count) c.first_line-2.result.now first (c.args.ending ∷ []) c.args.out.now out c.first_line-2.ensures
-    (ap (λ (b : ℕ). b ∷ []) c.requires.fits) c.push_run.ensures.wrote)
+    (block_halts went c.requires.open.0 c.in-Some.at (rw take_rest at c.in-Some.ensures) c.push_runs.new.out
+    (run_wrote job (c.args.run.now.count + same.count) c.first_line-2.ensures
+    (ap (λ b. b ∷ []) c.requires.fits) c.push_run.ensures.wrote)
     c.in_ok-push_run.ensures.clean (rw take_rest at c.in_err-last.ensures.halts))
 
 pub returns-clause-continues : goal.returns-clause-continues
 returns-clause-continues g c =
     let job = uniq_job c.args.self.now in
-    let first = first_line c.args.run.now c.args.store.now in
     let same = c.count_same-same.result in
-    let went = subst (λ (l : List ℕ). GoesOnWith job c.args.ending l c.args.block.now same) c.first_line.ensures c.count_same-same.ensures in
-    let out = c.push_run.new.out in
-    subst (λ (r : Run). RunsOn job (open_run_of c.args.run.now c.args.store.now) r
+    let went = subst (λ l. GoesOnWith job c.args.ending l c.args.block.now same) c.first_line.ensures c.count_same-same.ensures in
+    subst (λ r. RunsOn job (open_run_of c.args.run.now c.args.store.now) r
     (ended_lines c.args.ending c.args.block.now) c.args.out.now c.push_runs.new.out) (sym (c.begin.ensures c.args.store.now))
-    (rw take_rest (block_turns job c.args.ending first c.args.block.now same went c.args.run.now.count c.requires.open.0 c.in-Some.at
-    (rw take_rest at c.in-Some.ensures) c.args.out.now out c.push_runs.new.out
-    (run_wrote job (c.args.run.now.count + same.count) c.first_line-2.result.now first (c.args.ending ∷ []) c.args.out.now out c.first_line-2.ensures
-    (ap (λ (b : ℕ). b ∷ []) c.requires.fits) c.push_run.ensures.wrote)
+    (rw take_rest (block_turns went c.requires.open.0 c.in-Some.at (rw take_rest at c.in-Some.ensures) c.push_runs.new.out
+    (run_wrote job (c.args.run.now.count + same.count) c.first_line-2.ensures
+    (ap (λ b. b ∷ []) c.requires.fits) c.push_run.ensures.wrote)
     c.in_ok-push_run.ensures.clean _ (rw take_rest at c.in_ok-last.ensures.continues)))
 
 pub returns-clause-passed : goal.returns-clause-passed
 returns-clause-passed g c =
-    let job = uniq_job c.args.self.now in
-    let first = first_line c.args.run.now c.args.store.now in
     let same = c.count_same-same.result in
-    let went = subst (λ (l : List ℕ). GoesOnWith job c.args.ending l c.args.block.now same) c.first_line.ensures c.count_same-same.ensures in
+    let went = rw c.first_line.ensures at c.count_same-same.ensures in
     let passed = rw take_rest at c.in_ok-last.ensures.passed in (
-      omega (arith, went.within, passed.0, length-drop same.passed c.args.block.now),
-      block_passed job c.args.ending first c.args.block.now same went
-          c.args.run.now.count c.requires.open.0 c.in_ok-last.last.passed passed.1,
+      omega (arith, length-drop same.passed c.args.block.now),
+      block_passed went c.requires.open.0 c.in_ok-last.last.passed passed.1,
     )

@@ -1,6 +1,5 @@
-use Rattle.std.proofs.Common.{◌≡◌, ◌+◌, ℕ, suc, length, drop, sym, ◌∙◌, ap, arith}
-use Rattle.std.proofs.lemmas.List.{take_rest, drop_all}
-use Rattle.ptflow.specs.Workings.Uniq.UniqWords.{after_bytes}
+use Rattle.std.proofs.Common.{◌≡◌, ◌+◌, suc, sym, ◌∙◌, arith}
+use Rattle.std.proofs.lemmas.List.{take_rest}
 use Rattle.ptflow.proofs.OfUniq.UniqKeys.{blank_front, other_front}
 use Rattle.ptflow.proofs.tools.uniq.keys.behind_few.Goals as goal
 
@@ -8,19 +7,11 @@ pub returns-then-is_blank : goal.returns-then-is_blank
 returns-then-is_blank c =
     let line = c.args.line.now in
     let at = c.loop-at.at in
-    take_rest line at ∙ sym (blank_front line at (omega (arith, c.loop-at-test.true)) (sym c.is_blank.ensures ∙ c.if-is_blank.true)) ∙ c.loop-at.invariant
+    cc (take_rest line at, blank_front line at (omega arith) (cc))
 
 pub loop-at-preserved : goal.loop-at-preserved
 loop-at-preserved c =
     let line = c.args.line.now in
     let at = c.loop-at.at in
     let next : at + 1 ≡ suc at = omega arith in
-    ap (λ (n : ℕ). after_bytes (drop n line)) next
-    ∙ sym (other_front line at (omega (arith, c.loop-at-test.true)) (sym c.is_blank.ensures ∙ c.if-is_blank.false)) ∙ c.loop-at.invariant
-
-pub returns : goal.returns
-returns c =
-    let line = c.args.line.now in
-    let end : c.loop-at.at ≡ length line = omega (arith, c.loop-at-test.false, c.loop-at.auto.at-end) in
-    let none = drop_all (length line) line (omega arith) in
-    take_rest line (length line) ∙ none ∙ sym (ap after_bytes none) ∙ ap (λ (n : ℕ). after_bytes (drop n line)) (sym end) ∙ c.loop-at.invariant
+    cc (other_front line at (omega (arith, c.loop-at-test.true)) (sym c.is_blank.ensures ∙ c.if-is_blank.false))

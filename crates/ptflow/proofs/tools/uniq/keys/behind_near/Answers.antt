@@ -1,4 +1,4 @@
-use Rattle.std.proofs.Common.{◌≡◌, ◌<◌, ℕ, drop, min, sym, ◌∙◌, ap, arith}
+use Rattle.std.proofs.Common.{◌≡◌, ◌<◌, drop, min, sym, ◌∙◌, ap, arith}
 use Rattle.std.proofs.lemmas.List.{take_rest}
 use Rattle.ptflow.specs.Workings.Uniq.UniqWords.{after_bytes}
 use Rattle.ptflow.proofs.OfUniq.UniqKeys.{both_later, both_near}
@@ -10,8 +10,7 @@ returns-then-at g c =
     let space = c.first_of.ensures in
     let tab = c.first_of-2.ensures in
     let near : min c.first_of.result c.first_of-2.result < g.row.N = omega (arith, c.min-at.ensures, c.if-at.true) in
-    take_rest line c.min-at.result ∙ ap (λ (at : ℕ). drop at line) c.min-at.ensures
-    ∙ sym (both_near line c.first_of.result c.first_of-2.result space.before tab.before g.row.N space.found tab.found c.requires.within near)
+    cc (take_rest line c.min-at.result, both_near line c.first_of.result c.first_of-2.result space.before tab.before space.found tab.found c.requires.within near)
 
 pub returns : goal.returns
 returns g c =
@@ -19,5 +18,5 @@ returns g c =
     let space = c.first_of.ensures in
     let tab = c.first_of-2.ensures in
     let all : min c.first_of.result c.first_of-2.result ≡ g.row.N = omega (arith, c.min-at.ensures, c.if-at.false, space.within, tab.within) in
-    c.behind_far.ensures ∙ ap after_bytes (take_rest line g.row.N ∙ ap (λ (at : ℕ). drop at line) (sym all))
+    c.behind_far.ensures ∙ ap after_bytes (take_rest line g.row.N ∙ ap (λ at. drop at line) (sym all))
     ∙ sym (both_later line c.first_of.result c.first_of-2.result space.before tab.before (omega (arith, all, c.requires.within)))

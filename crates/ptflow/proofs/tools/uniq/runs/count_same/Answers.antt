@@ -7,41 +7,40 @@ use Rattle.ptlangs.specs.Jobs.{uniq_job}
 use Rattle.ptflow.proofs.OfUniq.BlockRuns.{front_size, same_by_keys, counting_few, counting_more, counting_turns, counting_done}
 use Rattle.ptflow.proofs.tools.uniq.runs.count_same.Goals as goal
 
-flip : (b r : Bool) (t : Bool) → r ≡ not b → r ≡ not t → b ≡ t
-flip true r true e f = refl
-flip false r false e f = refl
-flip true r false e f = cc
-flip false r true e f = cc
+flip : (b : Bool) {r : Bool} (t : Bool) → r ≡ not b → r ≡ not t → b ≡ t
+flip true true e f = refl
+flip false false e f = refl
+flip true false e f = cc
+flip false true e f = cc
 
 pub returns-then-ne : goal.returns-then-ne
 returns-then-ne c =
     let job = uniq_job c.args.job.now in
     let line = take c.in-Some.at c.lines.rest.now in
-    counting_turns job c.args.ending c.args.first.now c.args.block.now c.lines.rest.now c.lines.count c.lines.invariant.counting c.in-Some.at c.in-Some.ensures
-    (same_by_keys job c.args.first.now line c.key-own.result.now c.key.result.now c.lines.invariant.own c.key.ensures
-    ∙ flip (bytes_eq c.key-own.result.now c.key.result.now) c.ne.result false c.ne.ensures c.if-ne.true)
+    counting_turns c.lines.invariant.counting c.in-Some.at c.in-Some.ensures
+    (same_by_keys job c.args.first.now line c.lines.invariant.own c.key.ensures
+    ∙ flip (bytes_eq c.key-own.result.now c.key.result.now) false c.ne.ensures c.if-ne.true)
 
 pub overflow_add-count : goal.overflow_add-count
 overflow_add-count c =
-    let t = counting_few (uniq_job c.args.job.now) c.args.ending c.args.first.now c.args.block.now c.lines.rest.now c.lines.count c.lines.invariant.counting in
-    omega (arith, t, c.requires)
+    let t = counting_few c.lines.invariant.counting in
+    omega arith
 
 pub lines-preserved : goal.lines-preserved
 lines-preserved c =
     let job = uniq_job c.args.job.now in
     let line = take c.in-Some.at c.lines.rest.now in
     rw take_rest (record {
-      counting = counting_more job c.args.ending c.args.first.now c.args.block.now c.lines.rest.now c.lines.count c.lines.invariant.counting c.in-Some.at c.in-Some.ensures
-          (same_by_keys job c.args.first.now line c.key-own.result.now c.key.result.now c.lines.invariant.own c.key.ensures
-          ∙ flip (bytes_eq c.key-own.result.now c.key.result.now) c.ne.result true c.ne.ensures c.if-ne.false);
+      counting = counting_more c.lines.invariant.counting c.in-Some.at c.in-Some.ensures
+          (same_by_keys job c.args.first.now line c.lines.invariant.own c.key.ensures
+          ∙ flip (bytes_eq c.key-own.result.now c.key.result.now) true c.ne.ensures c.if-ne.false);
       own = c.lines.invariant.own;
     })
 
 pub returns : goal.returns
-returns c = counting_done (uniq_job c.args.job.now) c.args.ending c.args.first.now c.args.block.now c.lines.rest.now c.lines.count c.lines.invariant.counting
-    (no_end c.args.ending c.lines.rest.now c.in_default.ensures)
+returns c = counting_done c.lines.invariant.counting (no_end c.args.ending c.lines.rest.now c.in_default.ensures)
 
 pub overflow_add-rest : goal.overflow_add-rest
 overflow_add-rest c =
     let k = c.lines.invariant.counting in
-    omega (arith, c.in-Some.ensures.0.high, front_size c.args.ending c.args.block.now c.lines.rest.now k.front k.lies, c.requires)
+    omega (arith, c.in-Some.ensures.0.high, front_size k.lies, c.requires)

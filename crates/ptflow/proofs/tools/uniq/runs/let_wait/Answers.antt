@@ -1,4 +1,4 @@
-use Rattle.std.proofs.Common.{◌++◌, List, ℕ, sym, ◌∙◌, ap, subst}
+use Rattle.std.proofs.Common.{◌++◌, sym, ◌∙◌, ap, subst}
 use Rattle.ptlines.specs.Outputs.{Wrote}
 use Rattle.ptlines.proofs.Pushed.{wrote_past}
 use Rattle.std.proofs.Common.{append_assoc}
@@ -10,7 +10,7 @@ use Rattle.ptflow.proofs.tools.uniq.runs.let_wait.Goals as goal
 
 pub returns-then-waiting-line-clause-waits : goal.returns-then-waiting-line-clause-waits
 returns-then-waiting-line-clause-waits g c =
-    waits_joined c.args.show c.args.count c.args.block.now c.args.waiting c.args.line c.args.out.now c.requires.waiting c.requires.line c.if-waiting-line.true
+    waits_joined c.args.show c.args.count c.requires.waiting c.requires.line c.if-waiting-line.true
     (c.has_lead.ensures c.if-not-has_lead.true c.args.count)
     (sym c.is_shown.ensures ∙ c.if-not-is_shown.false)
 
@@ -18,7 +18,6 @@ pub returns-in_err-push_waiting-clause-wrote : goal.returns-in_err-push_waiting-
 returns-in_err-push_waiting-clause-wrote g c =
     let waiting = span_of c.args.block.now c.args.waiting in
     let line = span_of c.args.block.now c.args.line in
-    on_err c.from_residual.result
-    (subst (λ (b : List ℕ). Wrote c.args.out.now c.push_waiting.new.out b)
-    (append_assoc waiting (lead c.args.show c.args.count) line ∙ ap (λ (l : List ℕ). waiting ++ l) (run_text_shown c.args.show c.args.count line (sym c.is_shown.ensures ∙ c.if-not-is_shown.false)))
-    (wrote_past c.args.out.now c.push_waiting.new.out (waiting ++ lead c.args.show c.args.count) line c.in_err-push_waiting.ensures.fault c.push_waiting.ensures.wrote))
+    on_err c.from_residual.result (subst (Wrote c.args.out.now c.push_waiting.new.out)
+    (append_assoc waiting (lead c.args.show c.args.count) line ∙ ap (◌++◌ waiting) (run_text_shown c.args.show c.args.count line (sym c.is_shown.ensures ∙ c.if-not-is_shown.false)))
+    (wrote_past _ _ _ line c.in_err-push_waiting.ensures.fault c.push_waiting.ensures.wrote))

@@ -1,25 +1,21 @@
 use Rattle.std.proofs.Common.{◌≡◌, ◌++◌, true, arith}
 use Rattle.ptlines.proofs.Pushed.{wrote_trans, wrote_past}
-use Rattle.ptflow.specs.Workings.Uniq.OpenRuns.{is_shown, lead}
+use Rattle.ptflow.specs.Workings.Uniq.OpenRuns.{is_shown}
 use Rattle.ptflow.proofs.tools.uniq.runs.push_run.Goals as goal
 
 pub returns-in_err-push_lead-clause-wrote : goal.returns-in_err-push_lead-clause-wrote
 returns-in_err-push_lead-clause-wrote g c =
     let shown : is_shown c.args.show c.args.count ≡ true = grind arith in
-    rw shown (wrote_past c.args.out.now c.push_lead.new.out (lead c.args.show c.args.count) (c.args.bytes.now ++ c.args.behind.now) c.in_err-push_lead.ensures.fault c.push_lead.ensures.wrote)
+    rw shown (wrote_past _ _ _ (c.args.bytes.now ++ c.args.behind.now) c.in_err-push_lead.ensures.fault c.push_lead.ensures.wrote)
 
 pub returns-in_err-push-clause-wrote : goal.returns-in_err-push-clause-wrote
 returns-in_err-push-clause-wrote g c =
     let shown : is_shown c.args.show c.args.count ≡ true = grind arith in
-    let out = c.push_lead.new.out in
-    rw shown
-    (wrote_trans c.args.out.now out c.push-2.new.self (lead c.args.show c.args.count) (c.args.bytes.now ++ c.args.behind.now) c.in_ok-push_lead.ensures.clean c.push_lead.ensures.wrote
-    (wrote_past out c.push-2.new.self c.args.bytes.now c.args.behind.now c.in_err-push.ensures.fault c.push-2.ensures.wrote))
+    rw shown (wrote_trans _ _ _ _ _ c.in_ok-push_lead.ensures.clean c.push_lead.ensures.wrote
+    (wrote_past _ _ _ c.args.behind.now c.in_err-push.ensures.fault c.push-2.ensures.wrote))
 
 pub returns-clause-wrote : goal.returns-clause-wrote
 returns-clause-wrote g c =
     let shown : is_shown c.args.show c.args.count ≡ true = grind arith in
-    let out = c.push_lead.new.out in
-    rw shown
-    (wrote_trans c.args.out.now out c.push-3.new.self (lead c.args.show c.args.count) (c.args.bytes.now ++ c.args.behind.now) c.in_ok-push_lead.ensures.clean c.push_lead.ensures.wrote
-    (wrote_trans out c.push-2.new.self c.push-3.new.self c.args.bytes.now c.args.behind.now c.in_ok-push.ensures.clean c.push-2.ensures.wrote c.push-3.ensures.wrote))
+    rw shown (wrote_trans _ _ _ _ _ c.in_ok-push_lead.ensures.clean c.push_lead.ensures.wrote
+    (wrote_trans _ _ _ _ _ c.in_ok-push.ensures.clean c.push-2.ensures.wrote c.push-3.ensures.wrote))

@@ -1,32 +1,31 @@
 -- A line with the key of the open run makes it longer by one. Any other line ends it and begins the next one, and what
 -- is written of the run that ended is pushed, or waits. Each case carries `Running` on.
 use Rattle.std.proofs.Common.{◌≡◌, ◌+◌, ◌-◌, Option, Some, List, [], ℕ, length, take, refl, sym, ◌∙◌, subst, arith}
-use Rattle.std.specs.Prelude.{slice_range}
 use Rattle.std.proofs.lemmas.List.{take_rest}
 use Rattle.memchr.specs.Find.{IsFirstByte, is_byte}
 use Rattle.ptlines.specs.Text.{text, ended_lines, IsLine}
 use Rattle.ptlines.proofs.Scanned.{no_end}
 use Rattle.ptlangs.specs.Jobs.{uniq_job}
-use Rattle.ptflow.specs.Workings.Uniq.BlockRuns.{RunsOn, RunsHalt}
+use Rattle.ptflow.specs.Workings.Uniq.BlockRuns.{RunsHalt}
 use Rattle.ptflow.specs.Workings.Uniq.OpenRuns.{run_of}
 use Rattle.ptflow.proofs.OfPasses.Continuations.{on_err}
 use Rattle.ptflow.proofs.OfUniq.BlockRuns.{front_size, same_by_keys, running_starts, running_few, running_more, running_turn, running_halts, running_done, running_unended, running_passed}
 use Rattle.ptflow.proofs.tools.uniq.runs.push_runs.Goals as goal
 
 -- the byte that ends a line is the job's
-first_end : (end end' : ℕ) (hay : List ℕ) (r : Option ℕ) → end ≡ end' → IsFirstByte (is_byte end) hay r → IsFirstByte (is_byte end') hay r
-first_end end end' hay r same = subst (λ (b : ℕ). IsFirstByte (is_byte b) hay r) same
+first_end : {end end' : ℕ} (hay : List ℕ) (r : Option ℕ) → end ≡ end' → IsFirstByte (is_byte end) hay r → IsFirstByte (is_byte end') hay r
+first_end hay r same = subst (λ b. IsFirstByte (is_byte b) hay r) same
 
 pub lines-init : goal.lines-init
 lines-init g c =
     let job = uniq_job c.args.job.now in
-    rw take_rest (running_starts job c.args.block.now c.args.at (first_end c.args.ending job.end c.args.block.now
-    (Some c.args.at) c.requires.ending c.requires.first) c.key-own.result.now c.key-own.ensures c.args.out.now c.requires.clean)
+    rw take_rest (running_starts job c.args.block.now c.args.at (first_end c.args.block.now
+    (Some c.args.at) c.requires.ending c.requires.first) c.key-own.ensures c.args.out.now c.requires.clean)
 
 pub overflow_add-count : goal.overflow_add-count
 overflow_add-count g c =
-    let few = running_few (uniq_job c.args.job.now) c.args.block.now c.lines.rest.now c.lines.count c.lines.line c.lines.waiting c.lines.own.now c.args.out.now c.lines.out c.lines.invariant in
-    omega (arith, few, c.requires.short)
+    let few = running_few c.lines.invariant in
+    omega arith
 
 pub lines-preserved-then-eq : goal.lines-preserved-then-eq
 lines-preserved-then-eq g c =
@@ -34,9 +33,8 @@ lines-preserved-then-eq g c =
     let r = c.lines.invariant in
     let rest = c.lines.rest.now in
     let at = c.in-Some.at in
-    rw take_rest (running_more job c.args.block.now rest c.lines.count c.lines.line c.lines.waiting c.lines.own.now c.args.out.now c.lines.out r at
-    (first_end c.args.ending job.end rest (Some at) c.requires.ending c.in-Some.ensures)
-    (same_by_keys job r.first (take at rest) c.lines.own.now c.key-next.result.now r.own_is c.key-next.ensures ∙ sym c.eq.ensures ∙ c.if-eq.true))
+    rw take_rest (running_more r at (first_end rest (Some at) c.requires.ending c.in-Some.ensures)
+    (cc (same_by_keys job r.first (take at rest) r.own_is c.key-next.ensures)))
 
 pub returns-in_err-waiting-clause-halts : goal.returns-in_err-waiting-clause-halts
 returns-in_err-waiting-clause-halts g c =
@@ -45,11 +43,10 @@ returns-in_err-waiting-clause-halts g c =
     let rest = c.lines.rest.now in
     let at = c.in-Some.at in
     on_err c.from_residual.result
-    (subst (λ (b : ℕ). RunsHalt job (run_of [] 0) (ended_lines b c.args.block.now) c.args.out.now c.let_wait.new.out) (sym c.requires.ending)
-    (running_halts job c.args.block.now rest c.lines.count c.lines.line c.lines.waiting c.lines.own.now c.args.out.now c.lines.out r at
-    (first_end c.args.ending job.end rest (Some at) c.requires.ending c.in-Some.ensures)
-    (same_by_keys job r.first (take at rest) c.lines.own.now c.key-next.result.now r.own_is c.key-next.ensures ∙ sym c.eq.ensures ∙ c.if-eq.false)
-    c.let_wait.new.out c.in_err-waiting.ensures.fault c.in_err-waiting.ensures.wrote))
+    (subst (λ b. RunsHalt job (run_of [] 0) (ended_lines b c.args.block.now) c.args.out.now c.let_wait.new.out) (sym c.requires.ending)
+    (running_halts r at (first_end rest (Some at) c.requires.ending c.in-Some.ensures)
+    (same_by_keys job r.first (take at rest) r.own_is c.key-next.ensures ∙ sym c.eq.ensures ∙ c.if-eq.false)
+    c.in_err-waiting.ensures.fault c.in_err-waiting.ensures.wrote))
 
 pub lines-preserved : goal.lines-preserved
 lines-preserved g c =
@@ -57,46 +54,38 @@ lines-preserved g c =
     let r = c.lines.invariant in
     let rest = c.lines.rest.now in
     let at = c.in-Some.at in
-    rw take_rest (running_turn job c.args.block.now rest c.lines.count c.lines.line c.lines.waiting c.lines.own.now c.args.out.now c.lines.out r at
-    (first_end c.args.ending job.end rest (Some at) c.requires.ending c.in-Some.ensures)
-    (same_by_keys job r.first (take at rest) c.lines.own.now c.key-next.result.now r.own_is c.key-next.ensures ∙ sym c.eq.ensures ∙ c.if-eq.false)
-    c.let_wait.new.out c.in_ok-waiting.waiting c.in_ok-waiting.ensures.waits c.in_ok-waiting.ensures.clean (length c.args.block.now - length rest)
-    (length c.args.block.now - length rest + at + 1) refl refl c.key-next.result.now c.key-next.ensures)
+    rw take_rest (running_turn r at (first_end rest (Some at) c.requires.ending c.in-Some.ensures)
+    (same_by_keys job r.first (take at rest) r.own_is c.key-next.ensures ∙ sym c.eq.ensures ∙ c.if-eq.false)
+    c.in_ok-waiting.ensures.waits c.in_ok-waiting.ensures.clean (length c.args.block.now - length rest)
+    (length c.args.block.now - length rest + at + 1) refl refl c.key-next.ensures)
 
 pub returns-in_err-push-clause-halts : goal.returns-in_err-push-clause-halts
 returns-in_err-push-clause-halts g c =
-    let job = uniq_job c.args.job.now in
     let rest = c.lines.rest.now in
-    on_err c.from_residual-in_err-push.result
-    (subst (λ (b : ℕ). RunsHalt job (run_of [] 0) (ended_lines b c.args.block.now) c.args.out.now c.push.new.self) (sym c.requires.ending)
-    (running_unended job c.args.block.now rest c.lines.count c.lines.line c.lines.waiting c.lines.own.now c.args.out.now c.lines.out c.lines.invariant
-    (subst (λ (b : ℕ). IsLine b rest) c.requires.ending (no_end c.args.ending rest c.in_default.ensures)) c.push.new.self c.push.ensures.wrote c.in_err-push.ensures.fault))
+    on_err c.from_residual-in_err-push.result (rw c.requires.ending (running_unended c.lines.invariant
+    (rw c.requires.ending at (no_end c.args.ending rest c.in_default.ensures)) c.push.ensures.wrote c.in_err-push.ensures.fault))
 
 pub overflow_sub-result : goal.overflow_sub-result
 overflow_sub-result g c =
-    let few = running_few (uniq_job c.args.job.now) c.args.block.now c.lines.rest.now c.lines.count c.lines.line c.lines.waiting c.lines.own.now c.args.out.now c.lines.out c.lines.invariant in
-    omega (arith, few)
+    let few = running_few c.lines.invariant in
+    omega arith
 
 pub returns-clause-continues : goal.returns-clause-continues
 returns-clause-continues g c =
-    let job = uniq_job c.args.job.now in
     let rest = c.lines.rest.now in
-    subst (λ (b : ℕ). RunsOn job (run_of [] 0) (run_of (slice_range c.args.block.now c.lines.line.from (c.lines.line.to - 1)) c.lines.count)
-    (ended_lines b c.args.block.now) c.args.out.now c.push.new.self) (sym c.requires.ending)
-    (running_done job c.args.block.now rest c.lines.count c.lines.line c.lines.waiting c.lines.own.now c.args.out.now c.lines.out c.lines.invariant
-    (subst (λ (b : ℕ). IsLine b rest) c.requires.ending (no_end c.args.ending rest c.in_default.ensures)) c.push.new.self c.push.ensures.wrote c.in_ok-push.ensures.clean)
+    rw c.requires.ending (running_done c.lines.invariant
+    (subst (λ b. IsLine b rest) c.requires.ending (no_end c.args.ending rest c.in_default.ensures)) c.push.ensures.wrote c.in_ok-push.ensures.clean)
 
 pub returns-clause-passed : goal.returns-clause-passed
 returns-clause-passed g c =
-    let job = uniq_job c.args.job.now in
     let rest = c.lines.rest.now in (
       omega arith,
-      subst (λ (b : ℕ). take (length c.args.block.now - length rest) c.args.block.now ≡ text b (ended_lines b c.args.block.now)) (sym c.requires.ending)
-          (running_passed job c.args.block.now rest c.lines.count c.lines.line c.lines.waiting c.lines.own.now c.args.out.now c.lines.out c.lines.invariant
-          (subst (λ (b : ℕ). IsLine b rest) c.requires.ending (no_end c.args.ending rest c.in_default.ensures)) c.push.new.self c.push.ensures.wrote),
+      subst (λ b. take (length c.args.block.now - length rest) c.args.block.now ≡ text b (ended_lines b c.args.block.now)) (sym c.requires.ending)
+          (running_passed c.lines.invariant
+          (subst (λ b. IsLine b rest) c.requires.ending (no_end c.args.ending rest c.in_default.ensures)) c.push.ensures.wrote),
     )
 
 pub overflow_add-line-else-eq-2 : goal.overflow_add-line-else-eq-2
 overflow_add-line-else-eq-2 g c =
     let i = c.lines.invariant in
-    omega (arith, c.in-Some.ensures.0.high, front_size (uniq_job c.args.job.now).end c.args.block.now c.lines.rest.now i.front i.lies, c.requires.short)
+    omega (arith, c.in-Some.ensures.0.high, front_size i.lies, c.requires.short)

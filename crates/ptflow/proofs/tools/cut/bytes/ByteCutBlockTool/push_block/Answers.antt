@@ -17,11 +17,3 @@ returns-in_err-push-clause-halts g c =
         is = made.ensures.cut more;
       };
     })
-
-pub returns-clause-continues : goal.returns-clause-continues
-returns-clause-continues g c = record {
-  pushed = take c.cut_pieces-count.result.0 c.cut_pieces-count.new.into;
-  wrote = c.push.ensures.wrote;
-  clean = c.in_ok-push.ensures.clean;
-  on = c.cut_pieces-count.ensures.cut;
-}

@@ -1,5 +1,5 @@
 -- Each turn puts what is written of the first lines of the rest into the room, which is pushed at the end.
-use Rattle.std.proofs.Common.{◌++◌, ℕ, List, take, ◌∙◌, ap, arith, length-drop}
+use Rattle.std.proofs.Common.{◌++◌, take, ◌∙◌, ap, arith, length-drop}
 use Rattle.std.proofs.lemmas.List.{take_rest}
 use Rattle.ptlines.specs.Text.{ended_lines}
 use Rattle.ptlines.proofs.Scanned.{no_end}
@@ -15,10 +15,10 @@ lines-preserved g c =
     let l = c.lines in
     let put = c.put_lines-size.ensures.put in
     rw take_rest (record {
-      taken = taken_more c.args.ending c.args.block.now l.rest.now c.put_lines-size.result.0 put.taken l.invariant.taken;
+      taken = taken_more _ c.put_lines-size.result.0 put.taken l.invariant.taken;
       on = λ more. l.invariant.on more ∙ put.on more;
-      space = omega (arith, l.invariant.space, put.fits, c.put_lines-size.ensures.end.1, length-drop c.put_lines-size.result.0 l.rest.now);
-      long = c.put_lines-size.ensures.long ∙ l.invariant.long;
+      space = omega (arith, length-drop c.put_lines-size.result.0 l.rest.now);
+      long = cc;
     })
 
 pub returns-in_err-push-clause-halts : goal.returns-in_err-push-clause-halts
@@ -40,11 +40,11 @@ returns-clause-continues g c =
       passed = take l.end l.room;
       wrote = c.in_ok-push.ensures.wrote;
       clean = c.in_ok-push.ensures.clean;
-      on = λ more. l.invariant.on more ∙ ap (λ (ls : List (List ℕ)). take l.end l.room ++ cut_lines job (ls ++ more)) none;
+      on = λ more. l.invariant.on more ∙ ap (λ ls. take l.end l.room ++ cut_lines job (ls ++ more)) none;
       count = omega arith;
       some = λ h. omega arith;
     }
 
 pub returns-clause-passed : goal.returns-clause-passed
 returns-clause-passed g c =
-    (omega arith, taken_all c.args.ending c.args.block.now c.lines.rest.now (no_end c.args.ending c.lines.rest.now c.in_default.ensures) c.lines.invariant.taken)
+    (omega arith, taken_all _ (no_end c.args.ending c.lines.rest.now c.in_default.ensures) c.lines.invariant.taken)

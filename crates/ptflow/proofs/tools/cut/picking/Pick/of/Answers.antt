@@ -1,6 +1,5 @@
-use Rattle.std.proofs.Common.{ℕ, List, sym, ◌+◌, set, ◌∙◌, ap, subst, arith}
+use Rattle.std.proofs.Common.{◌+◌, set, ◌∙◌, ap, subst, arith}
 use mir.Val.{bool_byte}
-use Rattle.ptlangs.specs.declared.ranges.Interval.{Interval}
 use Rattle.ptlangs.specs.CutLists.{is_selected}
 use Rattle.ptflow.proofs.OfCut.PickLemmas.{PickBegun, pick_more, pick_whole}
 use Rattle.ptflow.proofs.tools.cut.picking.Pick.of.Goals as goal
@@ -9,14 +8,13 @@ pub loop-place-preserved : goal.loop-place-preserved
 loop-place-preserved g c =
     let selected = is_selected c.args.list.now in
     let loop = c.loop-place in
-    pick_more selected loop.place loop.count loop.row loop.counts _ c.from-count.result (omega arith) loop.invariant
-    (c.from-count.ensures ∙ ap bool_byte c.contains.ensures ∙ ap (λ (n : ℕ). bool_byte (selected (n + 1))) c.from.ensures)
-    (ap (λ (n : ℕ). set loop.counts (n + 1) (loop.count + c.from-count.result)) c.from-in-loop-place.ensures)
+    pick_more selected (omega arith) loop.invariant
+    (c.from-count.ensures ∙ ap bool_byte c.contains.ensures ∙ ap (λ n. bool_byte (selected (n + 1))) c.from.ensures)
+    (ap (λ n. set loop.counts (n + 1) (loop.count + c.from-count.result)) c.from-in-loop-place.ensures)
 
 pub returns : goal.returns
 returns g c =
     let loop = c.loop-place in
     let selected = is_selected c.args.list.now in
-    let all = subst (λ (n : ℕ). PickBegun selected n loop.count loop.row loop.counts) (omega (arith, c.loop-place-test.false, loop.auto)) loop.invariant in
-    pick_whole selected loop.count _ loop.row loop.counts all
-    (λ place later upto. ap (λ (l : List Interval). is_selected l place) (sym c.intervals.ensures.kept) ∙ c.greatest_length.ensures place later upto)
+    let all = subst (λ n. PickBegun selected n loop.count loop.row loop.counts) (omega (arith, c.loop-place-test.false, loop.auto)) loop.invariant in
+    pick_whole selected _ all (λ place later upto. cc (c.greatest_length.ensures place later upto))

@@ -1,6 +1,4 @@
-use Rattle.std.proofs.Common.{ℤ, List, w8, map, sym, ap, ◌∙◌}
-use Rattle.std.specs.Simd.Lanes.{top}
-use Rattle.std.specs.Int.{cast_unsigned}
+use Rattle.std.proofs.Common.{sym}
 use Rattle.std.proofs.lemmas.Simd.{splat_is_map}
 use Rattle.ptflow.specs.Workings.Bytes.ByteSets.{holds}
 use Rattle.ptflow.proofs.OfBytes.LaneLemmas.{sel_maps, map_self}
@@ -11,7 +9,6 @@ pub returns : goal.returns
 returns c =
     let v = c.args.v in
     let blend = c.args.self in
-    sel_maps (holds blend.set) (λ _. blend.byte) (λ b. b) v _ _ _
-    (ap (λ (mask : List ℤ). map (top 7) (map (cast_unsigned w8) mask)) c.test.ensures ∙ tops_of_mask (holds blend.set) v)
+    sel_maps (holds blend.set) (λ _. blend.byte) (λ b. b) v (cc (tops_of_mask (holds blend.set) v))
     (splat_is_map v 16 blend.byte c.fits-v.0)
     (sym (map_self v))

@@ -1,4 +1,3 @@
-use Rattle.std.proofs.Common.{◌∙◌}
 use Rattle.ptlangs.specs.TrShifts.{shifted}
 use Rattle.ptlangs.specs.TrTables.{image}
 use Rattle.ptflow.proofs.OfBytes.LaneLemmas.{bytes_same, bytes_fit}
@@ -7,4 +6,4 @@ use Rattle.ptflow.proofs.tools.tr.mapping.Mapping.translate.Goals as goal
 pub returns-in-Shifts : goal.returns-in-Shifts
 returns-in-Shifts c =
     let from = c.args.from.now in
-    c.translate.ensures ∙ bytes_same (shifted c.in-Shifts.shifts) (image c.args.plan.now) (rw c.in-Shifts.is at c.requires.mapping) from (bytes_fit from c.type_inv.from)
+    cc (bytes_same (shifted c.in-Shifts.shifts) (image c.args.plan.now) (rw c.in-Shifts.is at c.requires.mapping) from (bytes_fit from c.type_inv.from))
