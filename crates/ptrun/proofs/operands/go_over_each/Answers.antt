@@ -22,9 +22,6 @@ at_end t law g ended = ap (λ (b : Bool). t.decided (record { bytes = g.bytes; e
 pub loop-input-init : goal.loop-input-init
 loop-input-init g c = pass_nothing (fresh_all c.args.inputs.now c.requires.fresh) c.requires.writable c.requires.roomy c.requires.empty
 
-pub go_over-requires-clause-opened : goal.go_over-requires-clause-opened
-go_over-requires-clause-opened g c = sym c.is_refused.ensures.refused ∙ c.if-is_refused.false
-
 pub go_over-requires-clause-readable : goal.go_over-requires-clause-readable
 go_over-requires-clause-readable g c =
     let p = c.place_of-place.result in
@@ -32,12 +29,6 @@ go_over-requires-clause-readable g c =
     let low = c.requires.fits c.loop-input.input-index Standard c.loop-input-test.true in
     let here = get_or_default c.loop-input.inputs p c.index-inputs-place.result no_reader (omega (arith, low, c.place_of-place.ensures, k.same_length)) in
     (ready_here (fresh_all c.args.inputs.now c.requires.fresh) k p here (sym c.is_refused.ensures.refused ∙ c.if-is_refused.false) c.is_refused.ensures.sound).1
-
-pub go_over-requires-clause-roomy : goal.go_over-requires-clause-roomy
-go_over-requires-clause-roomy g c = c.loop-input.invariant.roomy
-
-pub go_over-requires-clause-empty : goal.go_over-requires-clause-empty
-go_over-requires-clause-empty g c = c.loop-input.invariant.empty
 
 pub loop-input-preserved : goal.loop-input-preserved
 loop-input-preserved g c =

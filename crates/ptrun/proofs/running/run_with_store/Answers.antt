@@ -14,9 +14,6 @@ pub run_command-requires-clause-given : goal.run_command-requires-clause-given
 run_command-requires-clause-given g c =
     operands_given c.args.command (words_seen c.args.words.now) c.in-Ok.command c.args.inputs.now c.in-Ok.is c.requires.meant (rw c.in-Ok.is at c.requires.fresh)
 
-pub run_command-requires-clause-unused : goal.run_command-requires-clause-unused
-run_command-requires-clause-unused g c = rw c.new-voice.ensures c.requires.unused
-
 pub returns-in-Err-clause-run : goal.returns-in-Err-clause-run
 returns-in-Err-clause-run g c =
     let words = words_seen c.args.words.now in

@@ -13,7 +13,6 @@ use Rattle.ptrun.proofs.Order.{places_next, places_end}
 use Rattle.ptrun.proofs.Sources.{tells_more, any_now, any_before}
 use Rattle.ptopts.specs.declared.inputs.Input.TheVariants.{Standard}
 use Rattle.std.specs.List.{list_any}
-use Rattle.ptrun.specs.Meanings.{unopened}
 use Rattle.ptrun.proofs.together.name_unopened.Goals as goal
 use Rattle.ptrun.proofs.together.name_unopened.Goals.{then-is_refused, else-is_refused}
 
@@ -45,9 +44,6 @@ loop-input-preserved g c =
       })
     ]
 
-pub bounds-inputs-place : goal.bounds-inputs-place
-bounds-inputs-place g c = omega (arith, c.requires.fits c.loop-input.input-index Standard c.loop-input-test.true, c.place_of-place.ensures)
-
 pub offset_bounds-inputs-place : goal.offset_bounds-inputs-place
 offset_bounds-inputs-place g c =
     let low : c.place_of-place.result < length c.args.inputs.now = omega (arith, c.requires.fits c.loop-input.input-index Standard c.loop-input-test.true, c.place_of-place.ensures) in
@@ -60,11 +56,6 @@ pub place_of-place-requires : goal.place_of-place-requires
 place_of-place-requires g c =
     let low = c.requires.fits c.loop-input.input-index Standard c.loop-input-test.true in
     omega (arith, low)
-
-pub returns-clause-said : goal.returns-clause-said
-returns-clause-said g c =
-    subst (λ (l : List ℕ). Tells c.args.voice.now c.loop-input.voice (unopened c.args.tool.now (words_seen c.args.names.now) (shut c.args.inputs.now) l))
-    (places_end c.args.order.now c.loop-input.input-index c.loop-input-test.false) c.loop-input.invariant.said
 
 pub returns-clause-any : goal.returns-clause-any
 returns-clause-any g c =
