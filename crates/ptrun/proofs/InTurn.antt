@@ -12,12 +12,9 @@ use Rattle.ptlines.specs.Outputs.{Output, Wrote}
 use Rattle.ptlines.specs.Slots.{Slots, total}
 use Rattle.ptlines.specs.Sinks.{SinkState}
 use Rattle.ptlines.proofs.Pushed.{wrote_trans, wrote_nothing}
-use Rattle.ptlines.specs.Inputs.{Given, nothing_left}
-use Rattle.ptlines.specs.Inputs.{Begins, Came}
-use Rattle.ptflow.specs.Passes.{Ends, IsPass}
+use Rattle.ptlines.specs.Inputs.{Given, nothing_left, Agrees, Begins, Came}
+use Rattle.ptflow.specs.Passes.{Finished, Ends, IsPass}
 use Rattle.ptflow.specs.Tools.{Tool}
-use Rattle.ptlines.specs.Inputs as one
-use Rattle.ptflow.specs.Passes as pass
 use Rattle.ptflow.specs.declared.faults.FlowFault.{FlowFault}
 use Rattle.ptflow.specs.declared.faults.FlowFault.TheVariants.{Read, Write, Memory}
 use Rattle.ptrun.specs.Worlds.{World, Received, at, is_unopened, AllowsAt, Allows, is_in, found, founds, opened, sources, reader_at, no_reader, shut, CameAt}
@@ -259,10 +256,10 @@ module _ {word : List ℕ} {t : Tool} {names : List (List ℕ)} {old : List Read
           (λ s. absurd (⊎_elim (λ f. false≢true (sym (e.came.ended ∙ f.2) ∙ ap (λ (g : Given). g.ended) s.1)) (λ l. omega (arith, s.2.short, (e.came.still s.2.done.ended).0, l.0)) cause))
           (λ u. u.0) turn
 
-      fits_here : (b : List ℕ) → one.Agrees (given_now y.0) b → one.Agrees e.given (cond (is_in done p) [] b)
+      fits_here : (b : List ℕ) → Agrees (given_now y.0) b → Agrees e.given (cond (is_in done p) [] b)
       fits_here b a = ⊎_elim
-          (λ s. subst (λ (g : Given). one.Agrees g (cond (is_in done p) [] b)) (sym s.1) (rw s.0 (record { rest = []; is = refl; whole = λ _. refl })))
-          (λ u. rw u.0 (subst (λ (g : Given). one.Agrees (given_now g) b) u.1 a)) turn
+          (λ s. subst (λ (g : Given). Agrees g (cond (is_in done p) [] b)) (sym s.1) (rw s.0 (record { rest = []; is = refl; whole = λ _. refl })))
+          (λ u. rw u.0 (subst (λ (g : Given). Agrees (given_now g) b) u.1 a)) turn
 
       -- the world agrees with what came before
       back : (w : World) → Allows gave' w → Allows k.gave w
@@ -275,7 +272,7 @@ module _ {word : List ℕ} {t : Tool} {names : List (List ℕ)} {old : List Read
       record Finds (w : World) : Type 0 where
         bytes : List ℕ
         is_found : found [] w done p ≡ Some bytes
-        agrees : one.Agrees e.given bytes
+        agrees : Agrees e.given bytes
 
       finds : (w : World) → Allows gave' w → Finds w
       finds w agrees =
@@ -329,7 +326,7 @@ module _ {word : List ℕ} {t : Tool} {names : List (List ℕ)} {old : List Read
         peak = λ w agrees. peak_here w [] agrees;
       }
         where
-          end : pass.Finished (reader_at now p) new is' store'
+          end : Finished (reader_at now p) new is' store'
           end = subst (λ (r : Result (Unit {0}) FlowFault). Ends (reader_at now p) new is' store' r) ok e.ends
 
           spent : IsSpent new

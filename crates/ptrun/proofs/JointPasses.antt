@@ -9,8 +9,8 @@ use Rattle.std.specs.List.{list_any}
 use Rattle.std.proofs.lemmas.List.{get_or-set_same, get_or-set_other}
 use Rattle.std.proofs.lemmas.List.Elements.{All-nil, All-cons}
 use Rattle.std.proofs.lemmas.List.Folds.{list_any-append}
-use Rattle.std.proofs.lemmas.Bool.{false≢true}
-use Rattle.std.proofs.lemmas.Bool.Decides.{nat_tests, eqb_tells}
+use Rattle.std.proofs.lemmas.Bool.{false≢true, eqb-true}
+use Rattle.std.proofs.lemmas.Bool.Decides.{eqb_tells}
 use Rattle.ptlines.specs.Readers.{Reader, IsSound, HasReadCause}
 use Rattle.ptlines.specs.Outputs.{Output}
 use Rattle.ptlines.specs.Slots.{Slots}
@@ -316,10 +316,7 @@ module _ (t : Tool) (old : List Reader) (was is : Output) (before store : Slots)
 pub sole_of : (order : List Input) (d : Input) {p : ℕ} → (length (places order) == 1) ≡ true → p ≡ place (get_or order 0 d) → places order ≡ p ∷ []
 sole_of [] d one is = absurd (false≢true one)
 sole_of (o ∷ []) d one is = ap (λ (n : ℕ). n ∷ []) (sym is)
-sole_of (o ∷ u ∷ order) d one is = absurd (false≢true (sym (more_than_one (length (places order))) ∙ one))
-  where
-    more_than_one : (n : ℕ) → (suc (suc n) == 1) ≡ false
-    more_than_one n = grind (arith, nat_tests)
+sole_of (o ∷ u ∷ order) d one is = absurd (omega (arith, eqb-true (length (places (o ∷ u ∷ order))) 1 one))
 
 pub sole_there : (order : List Input) → (length (places order) == 1) ≡ true → 0 < length order
 sole_there [] one = absurd (false≢true one)

@@ -1,6 +1,5 @@
 -- One place of a tool that goes over its operands, and what came of its input.
-use Rattle.std.proofs.Common.{◌≡◌, ℕ, ◌<◌, ◌^◌, Bool, true, false, cond, List, [], ◌∷◌, ◌++◌, Option, Some, None}
-use Rattle.std.proofs.Common.{length, map, refl, sym, ◌∙◌, ap, subst, arith, append_assoc, length-append}
+use Rattle.std.proofs.Common.{◌≡◌, ℕ, ◌<◌, ◌^◌, Bool, true, false, cond, List, [], ◌∷◌, ◌++◌, Option, Some, None, length, map, refl, sym, ◌∙◌, ap, subst, arith, append_assoc, length-append}
 use Rattle.std.specs.Prelude.{is_none, slice_get}
 use Rattle.std.specs.Io.KnownBytes.{prepend_known}
 use Rattle.std.proofs.lemmas.List.{append-nil, nil_from_length}
@@ -9,11 +8,8 @@ use Rattle.std.proofs.lemmas.Bool.{false≢true}
 use Rattle.ptlines.specs.Readers.{Reader, IsDone}
 use Rattle.ptlines.proofs.Known.{prepend_known-append}
 use Rattle.ptlines.proofs.Refilled.{unread_empty}
-use Rattle.ptlines.specs.Inputs.{Given, nothing_left}
-use Rattle.ptlines.specs.Inputs.{Begins, Came}
-use Rattle.ptlines.specs.Inputs as one
-use Rattle.ptrun.specs.Worlds.{World, Received, at, is_unopened, AllowsAt, Allows, opened, reader_at, no_reader, CameAt}
-use Rattle.ptrun.specs.Worlds.{IsReceived, IsNew, IsFresh, IsTooLong}
+use Rattle.ptlines.specs.Inputs.{Given, Agrees, Came}
+use Rattle.ptrun.specs.Worlds.{World, Received, at, is_unopened, AllowsAt, Allows, opened, reader_at, no_reader, CameAt, IsReceived, IsNew, IsFresh, IsTooLong}
 use Rattle.ptrun.specs.declared.engine.Done.{Done}
 use Rattle.ptrun.specs.declared.engine.Done.TheVariants.{Whole, Unopened}
 use Rattle.ptrun.proofs.Sources.{EndedAt, least, at-least, bytes_at}
@@ -115,12 +111,12 @@ none_of (Some b) is = absurd (false≢true is)
 
 -- ---- what an operand finds
 
-pub agreed : (o : Option Given) (v : Option (List ℕ)) (g : Given) → o ≡ Some g → AllowsAt o v → (b : List ℕ) × (v ≡ Some b) × one.Agrees g b
+pub agreed : (o : Option Given) (v : Option (List ℕ)) (g : Given) → o ≡ Some g → AllowsAt o v → (b : List ℕ) × (v ≡ Some b) × Agrees g b
 agreed None v g is a = cc
 agreed (Some h) None g is a = absurd a
-agreed (Some h) (Some b) g is a = let same : h ≡ g = cc in (b, refl, subst (λ (k : Given). one.Agrees k b) same a)
+agreed (Some h) (Some b) g is a = let same : h ≡ g = cc in (b, refl, subst (λ (k : Given). Agrees k b) same a)
 
-pub agrees_before : (g e : Given) (b : List ℕ) → (g.ended ≡ true → (e.bytes ≡ []) × (e.ended ≡ true)) → one.Agrees (record { bytes = g.bytes ++ e.bytes; ended = e.ended }) b → one.Agrees g b
+pub agrees_before : (g e : Given) (b : List ℕ) → (g.ended ≡ true → (e.bytes ≡ []) × (e.ended ≡ true)) → Agrees (record { bytes = g.bytes ++ e.bytes; ended = e.ended }) b → Agrees g b
 agrees_before g e b still a = record {
   rest = e.bytes ++ a.rest;
   is = a.is ∙ append_assoc g.bytes e.bytes a.rest;
@@ -128,10 +124,10 @@ agrees_before g e b still a = record {
 }
 
 -- all of it came
-pub agrees_whole : (g : Given) (b : List ℕ) → g.ended ≡ true → one.Agrees g b → b ≡ g.bytes
+pub agrees_whole : (g : Given) (b : List ℕ) → g.ended ≡ true → Agrees g b → b ≡ g.bytes
 agrees_whole g b ended a = a.is ∙ ap (λ (l : List ℕ). g.bytes ++ l) (a.whole ended) ∙ append-nil g.bytes
 
-pub agrees_some : (o : Option Given) (v : Option (List ℕ)) (g : Given) → o ≡ Some g → (b : List ℕ) → v ≡ Some b → one.Agrees g b → AllowsAt o v
+pub agrees_some : (o : Option Given) (v : Option (List ℕ)) (g : Given) → o ≡ Some g → (b : List ℕ) → v ≡ Some b → Agrees g b → AllowsAt o v
 agrees_some o v g is_o b is_v agrees = rw (is_o, is_v) agrees
 
 -- ---- before the first operand, and at the end

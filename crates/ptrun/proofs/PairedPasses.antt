@@ -1,5 +1,5 @@
 -- A tool with two inputs did what its one merge did.
-use Rattle.std.proofs.Common.{◌≡◌, ◌≢◌, ℕ, suc, ◌<◌, ◌^◌, ◌||◌, ◌&&◌, ◌==◌, Bool, true, false, List, [], ◌∷◌, Option, Some, None, Result}
+use Rattle.std.proofs.Common.{◌≡◌, ◌≢◌, ℕ, ◌<◌, ◌^◌, ◌||◌, ◌&&◌, ◌==◌, Bool, true, false, List, [], ◌∷◌, Option, Some, None, Result}
 use Rattle.std.proofs.Common.{Ok, Err, length, get_or, refl, sym, ◌∙◌, ap, subst, arith}
 use Rattle.std.specs.Prelude.{option_map, not}
 use Rattle.std.specs.List.{list_any}
@@ -25,8 +25,7 @@ use Rattle.ptopts.specs.declared.inputs.Input.{Input}
 use Rattle.ptrun.specs.declared.engine.Done.TheVariants.{Disorder}
 use Rattle.ptrun.specs.Worlds.{is_in, reader_at, shut, IsNew}
 use Rattle.ptrun.specs.KeepingUp.{PassedOn}
-use Rattle.ptrun.specs.Operands.{place}
-use Rattle.ptrun.specs.Operands.{places as places_of}
+use Rattle.ptrun.specs.Operands.{place, places as places_of}
 use Rattle.ptrun.specs.Together.{of_two, operand, of_operands}
 use Rattle.ptrun.specs.Engines.{AreReady, AreSound, told_at, done_of, AgreeAt, NoneFailed, JointEnds, IsJointPass}
 use Rattle.ptrun.proofs.KeepingUp.{passed_on}
@@ -44,17 +43,8 @@ pub two_of : (order : List Input) (d e : Input) {p q : ℕ} → ((length (places
     → p ≡ place (get_or order 0 d) → q ≡ place (get_or order 1 e) → TwoPlaces (places_of order) p q
 two_of [] d e taken is_p is_q = absurd (false≢true taken)
 two_of (a ∷ []) d e taken is_p is_q = absurd (false≢true taken)
-two_of (a ∷ b ∷ []) d e taken is_p is_q = record {
-  are = λ i. sym is_p i ∷ sym is_q i ∷ [];
-  apart = λ same. false≢true (sym (ap not (same_place (place a) (place b) (sym is_p ∙ same ∙ is_q))) ∙ taken);
-}
-  where
-    same_place : (a b : ℕ) → a ≡ b → (a == b) ≡ true
-    same_place a b is = grind (arith, nat_tests, is)
-two_of (a ∷ b ∷ c ∷ more) d e taken is_p is_q = absurd (false≢true (sym (ap (λ (t : Bool). t && not (place a == place b)) (more_than_two (length (places_of more)))) ∙ taken))
-  where
-    more_than_two : (n : ℕ) → (suc (suc (suc n)) == 2) ≡ false
-    more_than_two n = grind (arith, nat_tests)
+two_of (a ∷ b ∷ []) d e taken is_p is_q = record { are = λ i. sym is_p i ∷ sym is_q i ∷ []; apart = λ same. grind (arith, nat_tests, taken, is_p, is_q, same) }
+two_of (a ∷ b ∷ c ∷ more) d e taken is_p is_q = absurd (grind (arith, nat_tests, taken))
 
 pub two_there : (order : List Input) → ((length (places_of order) == 2) && not (operand (places_of order) First == operand (places_of order) Second)) ≡ true → 1 < length order
 two_there [] taken = absurd (false≢true taken)

@@ -3,7 +3,7 @@
 -- What a tool pushed reaches the sink as far as no write failed, and its last words are said behind what it said. The
 -- headline is a reading of the run in the world that the readers tell: it is allowed by what was received, and each
 -- cause of a failure contradicts a premise.
-use Rattle.std.proofs.Common.{◌≡◌, ⊎_elim, inl, ℕ, Bool, true, false, cond, List, [], ◌++◌, Option, Some, None, Result, Ok}
+use Rattle.std.proofs.Common.{◌≡◌, ⊎_elim, ℕ, Bool, true, false, cond, List, [], ◌++◌, Option, Some, None, Result, Ok}
 use Rattle.std.proofs.Common.{Err, length, map, refl, sym, ◌∙◌, ap, subst, arith, append_assoc, length-append}
 use Rattle.std.specs.Prelude.{All}
 use Rattle.std.specs.Io.KnownBytes.{append_known, prepend_known, IsAtEnd}
@@ -16,9 +16,7 @@ use Rattle.ptlines.specs.Slots.{Slots}
 use Rattle.ptlines.specs.Sinks.{SinkState}
 use Rattle.ptlines.proofs.Known.{append_known-nil}
 use Rattle.ptlines.proofs.Pushed.{wrote_trans}
-use Rattle.ptlines.specs.Inputs.{Given}
-use Rattle.ptlines.specs.Inputs.{Begins, Came}
-use Rattle.ptlines.specs.Inputs as one
+use Rattle.ptlines.specs.Inputs.{Given, Agrees, Begins}
 use Rattle.ptflow.specs.declared.faults.FlowFault.{FlowFault}
 use Rattle.ptflow.specs.declared.faults.FlowFault.TheVariants.{Read, Write, Memory}
 use Rattle.ptrun.specs.declared.engine.Done.{Done}
@@ -97,7 +95,7 @@ told_agrees_at old new None (Some b) fresh k tells = absurd (false≢true (sym t
 told_agrees_at old new (Some g) None fresh k tells = absurd (false≢true (sym k.0 ∙ tells))
 told_agrees_at old new (Some g) (Some b) fresh k tells = by_left new.left (sym tells.1 ∙ k.1.moved) (k.1.end (λ ended. absurd (false≢true (sym (fresh k.0).ended ∙ ended))))
   where
-    by_left : (left : Option (List ℕ)) → Some b ≡ prepend_known g.bytes left → (new.ended ≡ true → IsAtEnd left) → one.Agrees g b
+    by_left : (left : Option (List ℕ)) → Some b ≡ prepend_known g.bytes left → (new.ended ≡ true → IsAtEnd left) → Agrees g b
     by_left None is end = cc
     by_left (Some rest) is end = record { rest = rest; is = cc; whole = λ ended. end (sym k.1.ended ∙ ended) }
 
@@ -201,6 +199,10 @@ lacking {m} {old} {told = told} {heard = heard} fresh fine k lacks =
 
 -- ---- the end of a run
 
+abbrev fault_of : Result Done FlowFault → Option FlowFault
+fault_of (Ok done) = None
+fault_of (Err fault) = Some fault
+
 -- what is to be named has a name
 pub named_of : {m : Meaning} {old new : List Reader} {was is is' : Output} {told heard : SinkState} {before store : Slots} {went ended : Result Done FlowFault}
     → Went m old new was is told heard before store went → Finishes is is' went ended → IsWithin (length old) ended
@@ -238,61 +240,32 @@ module _ {m : Meaning} {old new : List Reader} {was is is' : Output} {at_first t
   abbrev last : List ℕ
   last = last_words m.tool m.names ended
 
-  record Ending : Type 0 where
-    fault : Option FlowFault
-    ends : EndsAs m k.received old new reached.front (k.said ++ last) o k.behind fault
-    told_read : (place : ℕ) → HasFailed old new place → o.out.failed ≡ false → fault ≡ Some (Read place)
-
-  stopped : (fault : FlowFault) → ended ≡ Err fault → Cause m k.received old new o.out.failed o.denied k.behind fault
-      → ((place : ℕ) → HasFailed old new place → o.out.failed ≡ false → ended ≡ Err (Read place)) → Ending
-  stopped fault is_err cause reads = record {
-    fault = Some fault;
-    ends = record {
-      within = k.within;
-      messages = λ w agrees. λ i. k.names w agrees i ++ last_words m.tool m.names (is_err i);
-      cause = cause;
-      status_is = status_is ∙ ap status_after is_err;
-    };
-    told_read = λ place failed fine. same_fault fault (Read place) (sym is_err ∙ reads place failed fine);
-  }
+  went_to : WentTo m k.received old new k.pushed is'.faulted store.denied k.behind ended
+  went_to = by_fault is'.faulted refl
     where
-      same_fault : (a b : FlowFault) → (let r : Result Done FlowFault = Err a in r ≡ Err b) → Some a ≡ Some b
-      same_fault a b same = cc
+      by_fault : (b : Bool) → is'.faulted ≡ b → WentTo m k.received old new k.pushed is'.faulted store.denied k.behind ended
+      by_fault true faulted = subst (WentTo m k.received old new k.pushed is'.faulted store.denied k.behind) (sym (f.broken faulted)) faulted
+      by_fault false clean = subst (λ (b : Bool). WentTo m k.received old new k.pushed b store.denied k.behind ended) ((f.clean clean).2 ∙ sym clean)
+          (subst (WentTo m k.received old new k.pushed is.faulted store.denied k.behind) (sym (f.clean clean).0) k.ends)
 
-  clean_ending : (r : Result Done FlowFault) → went ≡ r → WentTo m k.received old new k.pushed is.faulted store.denied k.behind r → is'.faulted ≡ false → Ending
-  clean_ending (Ok done) is_ok e clean = record {
-    fault = None;
-    ends = (
-      record {
-        all = e.0.all;
-        out = λ w agrees. all_front clean ∙ e.0.out w agrees;
-        written = last_failed ∙ clean;
-        roomy = denied_is ∙ e.0.roomy;
-        read = e.0.read;
-      },
-      λ w agrees. (
-        (λ i. (k.names w agrees ∙ ap (λ (n : ℕ). named m w n) e.0.all) i ++ (ap (last_words m.tool m.names) same ∙ (e.1 w agrees).0) i),
-        status_is ∙ ap status_after same ∙ (e.1 w agrees).1,
-      ),
-    );
-    told_read = λ place failed fine. absurd (e.0.read place (inl failed));
+  ends_as : (r : Result Done FlowFault) → ended ≡ r → WentTo m k.received old new k.pushed is'.faulted store.denied k.behind r
+      → EndsAs m k.received old new reached.front (k.said ++ last) o k.behind (fault_of r)
+  ends_as (Ok done) same e = (
+    record { all = e.0.all; out = λ w agrees. all_front e.0.written ∙ e.0.out w agrees; written = last_failed ∙ e.0.written; roomy = denied_is ∙ e.0.roomy; read = e.0.read },
+    λ w agrees. (
+      (λ i. (k.names w agrees ∙ ap (λ (n : ℕ). named m w n) e.0.all) i ++ (ap (last_words m.tool m.names) same ∙ (e.1 w agrees).0) i),
+      status_is ∙ ap status_after same ∙ (e.1 w agrees).1,
+    ),
+  )
+  ends_as (Err fault) same e = record {
+    within = k.within;
+    messages = λ w agrees i. k.names w agrees i ++ last_words m.tool m.names (same i);
+    cause = rw (last_failed, denied_is) e;
+    status_is = status_is ∙ ap status_after same;
   }
-    where
-      same : ended ≡ Ok done
-      same = (f.clean clean).0 ∙ is_ok
-  clean_ending (Err fault) is_err e clean =
-      stopped fault ((f.clean clean).0 ∙ is_err)
-      (subst (λ (b : Bool). Cause m k.received old new b o.denied k.behind fault) ((f.clean clean).2 ∙ sym (last_failed ∙ clean))
-      (subst (λ (b : Bool). Cause m k.received old new is.faulted b k.behind fault) (sym denied_is) e))
-      (λ place failed fine. (f.clean clean).0 ∙ k.told_read place failed (f.clean clean).2)
-
-  ending : (b : Bool) → is'.faulted ≡ b → Ending
-  ending true faulted =
-      stopped Write (f.broken faulted) (last_failed ∙ faulted) (λ place failed fine. absurd (false≢true (sym (sym last_failed ∙ fine) ∙ faulted)))
-  ending false clean = clean_ending went refl k.ends clean
 
   pub run_of : IsRun m old new (sinks out at_first) o
-  run_of = let e = ending is'.faulted refl in record {
+  run_of = record {
     received = k.received;
     came = k.came;
     written = reached.front;
@@ -301,11 +274,11 @@ module _ {m : Meaning} {old new : List Reader} {was is is' : Output} {at_first t
     said = k.said ++ last;
     tells = tells_trans none_said (tells_trans k.tells says);
     behind = k.behind;
-    fault = e.fault;
-    ends = e.ends;
+    fault = fault_of ended;
+    ends = ends_as ended refl went_to;
     untouched = k.untouched;
     true_so_far = begins;
-    told = e.told_read;
+    told = λ place failed fine. let clean = sym last_failed ∙ fine in ap fault_of ((f.clean clean).0 ∙ k.told_read place failed (f.clean clean).2);
     sure = λ place failed fine. let clean = sym last_failed ∙ fine in let b = k.sure place failed (f.clean clean).2 in record { rest = b.rest; is = all_front clean ∙ b.is };
     keeps_up = earlier_map m k.received k.behind (λ decided. PassedOn decided was is k.pushed) (λ decided. KeptUp decided reached.front o.out.failed) kept k.keeps_up;
     bounded = λ w agrees. omega (arith, k.peak w agrees, low, peak_is);
