@@ -205,12 +205,6 @@ module _ {word : List ℕ} {t : Tool} {names : List (List ℕ)} {old : List Read
       abbrev given_now : Given → Given
       given_now g = record { bytes = g.bytes ++ e.given.bytes; ended = e.given.ended }
 
-      in_now : p < length now
-      in_now = subst (λ (n : ℕ). p < n) (sym k.same_length) within
-
-      in_gave : p < length k.gave
-      in_gave = subst (λ (n : ℕ). p < n) (sym k.long) within
-
       abbrev gave' : Received
       gave' = set k.gave p (Some (given_now y.0))
 
@@ -218,13 +212,13 @@ module _ {word : List ℕ} {t : Tool} {names : List (List ℕ)} {old : List Read
       now' = set now p new
 
       reader_here : reader_at now' p ≡ new
-      reader_here = get_or-set_same now p new _ in_now
+      reader_here = get_or-set_same now p new _ (omega (arith, within, k.same_length))
 
       reader_other : (q : ℕ) → p ≢ q → reader_at now' q ≡ reader_at now q
       reader_other q differs = get_or-set_other now p q new no_reader (λ is_p. differs (sym is_p))
 
       gave_here : at gave' p ≡ Some (given_now y.0)
-      gave_here = get_or-set_same k.gave p (Some (given_now y.0)) None in_gave
+      gave_here = get_or-set_same k.gave p (Some (given_now y.0)) None (omega (arith, within, k.long))
 
       gave_other : (q : ℕ) → p ≢ q → at gave' q ≡ at k.gave q
       gave_other q differs = get_or-set_other k.gave p q (Some (given_now y.0)) None (λ is_p. differs (sym is_p))
@@ -269,36 +263,30 @@ module _ {word : List ℕ} {t : Tool} {names : List (List ℕ)} {old : List Read
           (λ q differs. subst (λ (o : Option Given). AllowsAt o (at w q)) (gave_other q differs) (agrees q))
 
       -- what the operand finds in a world, which agrees with what came in the call
-      record Finds (w : World) : Type 0 where
-        bytes : List ℕ
-        is_found : found [] w done p ≡ Some bytes
-        agrees : Agrees e.given bytes
+      abbrev Finds : World → Type 0
+      Finds w = (bytes : List ℕ) × (found [] w done p ≡ Some bytes) × Agrees e.given bytes
 
       finds : (w : World) → Allows gave' w → Finds w
       finds w agrees =
           let here = agreed (at gave' p) (at w p) (given_now y.0) gave_here (agrees p) in
-          record {
-            bytes = cond (is_in done p) [] here.0;
-            is_found = ap (λ (v : Option (List ℕ)). option_map (λ (b : List ℕ). cond (is_in done p) [] b) v) here.1;
-            agrees = fits_here here.0 here.2;
-          }
+          (cond (is_in done p) [] here.0, ap (λ (v : Option (List ℕ)). option_map (λ (b : List ℕ). cond (is_in done p) [] b) v) here.1, fits_here here.0 here.2)
 
       -- what the operands behind it find
       abbrev later : World → List ℕ → List (List ℕ)
       later w more = opened (founds [] w (done ++ p ∷ []) more)
 
-      sources_here : (w : World) (more : List ℕ) (f : Finds w) → sources [] w (done ++ p ∷ more) ≡ sources [] w done ++ f.bytes ∷ later w more
-      sources_here w more f = sources_opened [] w done p more f.bytes f.is_found
+      sources_here : (w : World) (more : List ℕ) (f : Finds w) → sources [] w (done ++ p ∷ more) ≡ sources [] w done ++ f.0 ∷ later w more
+      sources_here w more f = sources_opened [] w done p more f.0 f.1
 
-      out_here : (w : World) (more : List ℕ) (f : Finds w) → each_out t w (done ++ p ∷ more) ≡ each_out t w done ++ (t.text f.bytes ++ flat_map t.text (later w more))
-      out_here w more f = ap (λ (l : List (List ℕ)). flat_map t.text l) (sources_here w more f) ∙ flat_map-append t.text (sources [] w done) (f.bytes ∷ later w more)
+      out_here : (w : World) (more : List ℕ) (f : Finds w) → each_out t w (done ++ p ∷ more) ≡ each_out t w done ++ (t.text f.0 ++ flat_map t.text (later w more))
+      out_here w more f = ap (λ (l : List (List ℕ)). flat_map t.text l) (sources_here w more f) ∙ flat_map-append t.text (sources [] w done) (f.0 ∷ later w more)
 
       peak_here : (w : World) (more : List ℕ) → Allows gave' w → store'.peak ≤ max before.peak (each_bound t w (done ++ p ∷ more))
       peak_here w more agrees =
           let f = finds w agrees in
-          let all : each_bound t w (done ++ p ∷ more) ≡ largest (map t.size (sources [] w done) ++ map t.size (f.bytes ∷ later w more)) =
-          ap (λ (l : List (List ℕ)). largest (map t.size l)) (sources_here w more f) ∙ ap largest (map-append t.size (sources [] w done) (f.bytes ∷ later w more)) in
-          omega (arith, all, largest-append (map t.size (sources [] w done)) (map t.size (f.bytes ∷ later w more)), e.peak f.bytes f.agrees, k.peak w (back w agrees))
+          let all : each_bound t w (done ++ p ∷ more) ≡ largest (map t.size (sources [] w done) ++ map t.size (f.0 ∷ later w more)) =
+          ap (λ (l : List (List ℕ)). largest (map t.size l)) (sources_here w more f) ∙ ap largest (map-append t.size (sources [] w done) (f.0 ∷ later w more)) in
+          omega (arith, all, largest-append (map t.size (sources [] w done)) (map t.size (f.0 ∷ later w more)), e.peak f.0 f.2, k.peak w (back w agrees))
 
       wrote_here : Wrote was is' (k.pushed ++ e.pushed)
       wrote_here = wrote_trans was is is' k.pushed e.pushed k.clean k.wrote e.wrote
@@ -316,7 +304,7 @@ module _ {word : List ℕ} {t : Tool} {names : List (List ℕ)} {old : List Read
         pushed = k.pushed ++ e.pushed;
         wrote = wrote_here;
         out = λ w agrees. let f = finds w agrees in
-            (λ i. k.out w (back w agrees) i ++ (e.whole ok ∙ ap t.text (sym (agrees_whole e.given f.bytes (e.came.ended ∙ end.done.ended) f.agrees)) ∙ sym (append-nil (t.text f.bytes))) i)
+            (λ i. k.out w (back w agrees) i ++ (e.whole ok ∙ ap t.text (sym (agrees_whole e.given f.0 (e.came.ended ∙ end.done.ended) f.2)) ∙ sym (append-nil (t.text f.0))) i)
             ∙ sym (out_here w [] f);
         tells = tells_more word names (shut old) done p k.tells (rw old_open (tells_nothing heard));
         so_far_is = k.so_far_is ∙ sym (ap done_with (any_before (shut old) done p old_open));
@@ -422,7 +410,7 @@ module _ {word : List ℕ} {t : Tool} {names : List (List ℕ)} {old : List Read
           ends = cause_of more fault end;
           place = named_within fault;
           untouched = λ q other. let n = not_more done p q (ap (λ (l : List ℕ). is_in l q) (sym (take_with done p more)) ∙ other) in reader_other q n.0 ∙ (k.unread q n.1).0;
-          true_so_far = λ w agrees. let f = finds w agrees in let b = e.true_so_far f.bytes f.agrees in let rest = flat_map t.text (later w more) in record {
+          true_so_far = λ w agrees. let f = finds w agrees in let b = e.true_so_far f.0 f.2 in let rest = flat_map t.text (later w more) in record {
             rest = b.rest ++ rest;
             is = out_here w more f ∙ (λ i. sym (k.out w (back w agrees)) i ++ (b.is i ++ rest)) ∙ ap (λ (l : List ℕ). k.pushed ++ l) (append_assoc e.pushed b.rest rest)
                 ∙ sym (append_assoc k.pushed e.pushed (b.rest ++ rest));

@@ -66,23 +66,12 @@ checks_of word t names places inputs {told} {heard} {lacking} is tells = record 
 
 -- ---- the place of a failure, as the first operand that has it
 
-record FirstAt (places : List ℕ) (p : ℕ) : Type 0 where
-  index : ℕ
-  within : index ≤ length places
-  here : slice_get places index ≡ Some p
-  before : is_in (take index places) p ≡ false
-
-first_at : (places : List ℕ) (p : ℕ) → is_in places p ≡ true → FirstAt places p
+first_at : (places : List ℕ) (p : ℕ) → is_in places p ≡ true → (n : ℕ) × (n ≤ length places) × (slice_get places n ≡ Some p) × (is_in (take n places) p ≡ false)
 first_at [] p there = absurd (false≢true there)
-first_at (q ∷ places) p there = ⊎_elim same (other (first_at places p)) (eqb_tells q p)
-  where
-    same : ((q == p) ≡ true) × (q ≡ p) → FirstAt (q ∷ places) p
-    same is = record { index = 0; within = omega arith; here = ap (λ (n : ℕ). Some n) is.1; before = refl }
-
-    other : (is_in places p ≡ true → FirstAt places p) → ((q == p) ≡ false) × (q ≡ p → ⊥) → FirstAt (q ∷ places) p
-    other later is =
-        let f : FirstAt places p = later (ap (λ (b : Bool). b || is_in places p) (sym is.0) ∙ there) in
-        record { index = suc f.index; within = omega (arith, f.within); here = f.here; before = ap (λ (b : Bool). b || is_in (take f.index places) p) is.0 ∙ f.before }
+first_at (q ∷ places) p there = ⊎_elim (λ same. (0, omega arith, ap (λ (n : ℕ). Some n) same.1, refl))
+    (λ other.
+    let f = first_at places p (ap (λ (b : Bool). b || is_in places p) (sym other.0) ∙ there) in
+    (suc f.0, omega (arith, f.1), f.2, ap (λ (b : Bool). b || is_in (take f.0 places) p) other.0 ∙ f.3)) (eqb_tells q p)
 
 -- ---- what came, as a list
 
@@ -191,10 +180,7 @@ module _ (word : List ℕ) {t : JointTool} (names : List (List ℕ)) {places : L
         roomy = e.roomy;
         read = λ q. ⊎_elim (none_failed e.unfailed q) (none_long e.short q);
       },
-      λ w agrees.
-          let end = ends_with word names (t.disorder places (text_in w)) in
-          let is_done = e.is_done (text_in w) (agree w agrees) in
-          rw (complete w agrees) (ap (λ (d : Done). last_words word names (Ok d)) is_done ∙ end.0, ap (λ (d : Done). status_after (Ok d)) is_done ∙ end.1),
+      λ w agrees. rw (complete w agrees, e.is_done (text_in w) (agree w agrees)) (ends_with word names (t.disorder places (text_in w))),
     );
     place = e.place;
     told_read = λ q failed clean. absurd (none_failed e.unfailed q failed);
@@ -205,9 +191,9 @@ module _ (word : List ℕ) {t : JointTool} (names : List (List ℕ)) {places : L
       (λ long. let first = fresh p (open_at p e.named) in
       inr (subst IsTooLong (sym (at_named p e.named)) (omega (arith, long.0, (k.came p e.named).count, ap length first.held, first.pulled)))) e.cause in
       record {
-        behind = f.index;
-        within = f.within;
-        ends = (f.here, f.before, cause, e.written, e.roomy);
+        behind = f.0;
+        within = f.1;
+        ends = (f.2, f.3, cause, e.written, e.roomy);
         place = each_named (λ q. q < length old) places start.given.fits p e.named;
         told_read = λ q failed clean. ⊎_elim (λ same. ap (λ (n : ℕ). Err (Read n)) same)
             (λ other. absurd (false≢true (sym failed.1 ∙ sym (e.others q (named_failed q failed) other) ∙ failed.2))) (same_or_other p q);

@@ -1,12 +1,11 @@
-use Rattle.std.proofs.Common.{◌≡◌, ℕ, List, [], ◌∷◌, Result, Ok, Err, sym, ◌∙◌, ap, subst}
-use Rattle.std.specs.Prelude.{codes}
+use Rattle.std.proofs.Common.{◌≡◌, ℕ, List, Result, Ok, Err, sym, ◌∙◌, ap, subst}
 use Rattle.ptlines.specs.Sinks.{SinkState}
 use Rattle.ptflow.specs.declared.faults.FlowFault.{FlowFault}
 use Rattle.ptflow.specs.declared.faults.FlowFault.TheVariants.{Read, Write, Memory}
 use Rattle.ptrun.specs.declared.engine.Done.{Done}
 use Rattle.ptrun.specs.declared.engine.Done.TheVariants.{Whole, Unopened}
 use Rattle.ptrun.specs.Engines.{last_words}
-use Rattle.ptrun.specs.Sayings.{Tells, line_of}
+use Rattle.ptrun.specs.Sayings.{Tells}
 use Rattle.ptrun.proofs.Sayings.{tells_nothing}
 use Rattle.ptrun.proofs.engine.conclude.Goals as goal
 
@@ -24,15 +23,14 @@ returns-in-Ok-Unopened-clause-said g c = says _ _ _ _ _ (Ok Unopened) (c.in-Ok-U
 pub returns-in-Err-Read-clause-said : goal.returns-in-Err-Read-clause-said
 returns-in-Err-Read-clause-said g c =
     says _ _ _ _ _ (Err (Read c.in-Err-Read.place)) (c.in-Err-Read.is ∙ ap (λ (f : FlowFault). Err f) (rw c.in-Err-Read.is at c.in-Err-Read.field-0-is))
-    (subst (λ (text : List ℕ). Tells c.args.voice.now c.say-in-Err-Read.new.self text)
-    (λ i. line_of (c.tool-tool.ensures i ∷ codes ": " ∷ c.name_at.ensures i ∷ codes ": read failed" ∷ [])) c.say-in-Err-Read.ensures)
+    (rw (c.tool-tool.ensures, c.name_at.ensures) at c.say-in-Err-Read.ensures)
 
 pub returns-in-Err-Write-clause-said : goal.returns-in-Err-Write-clause-said
 returns-in-Err-Write-clause-said g c =
     says _ _ _ _ _ (Err Write) (c.in-Err-Write.is ∙ ap (λ (f : FlowFault). Err f) (rw c.in-Err-Write.is at c.in-Err-Write.field-0-is))
-    (subst (λ (text : List ℕ). Tells c.args.voice.now c.say-in-Err-Write.new.self text) (λ i. line_of (c.tool-tool.ensures i ∷ codes ": output: write failed" ∷ [])) c.say-in-Err-Write.ensures)
+    (rw c.tool-tool.ensures at c.say-in-Err-Write.ensures)
 
 pub returns-in-Err-Memory-clause-said : goal.returns-in-Err-Memory-clause-said
 returns-in-Err-Memory-clause-said g c =
     says _ _ _ _ _ (Err Memory) (c.in-Err-Memory.is ∙ ap (λ (f : FlowFault). Err f) (rw c.in-Err-Memory.is at c.in-Err-Memory.field-0-is))
-    (subst (λ (text : List ℕ). Tells c.args.voice.now c.say-in-Err-Memory.new.self text) (λ i. line_of (c.tool-tool.ensures i ∷ codes ": out of memory" ∷ [])) c.say-in-Err-Memory.ensures)
+    (rw c.tool-tool.ensures at c.say-in-Err-Memory.ensures)

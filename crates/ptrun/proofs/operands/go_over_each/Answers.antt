@@ -1,13 +1,11 @@
 -- Each turn passes one more operand. One that stops the pass stops the run there, and the others are left alone.
-use Rattle.std.proofs.Common.{◌≡◌, ◌<◌, ℕ, Bool, true, List, [], ◌∷◌, ◌+◌, length, drop, sym, ◌∙◌, ap, subst, arith}
-use Rattle.std.specs.Prelude.{codes}
+use Rattle.std.proofs.Common.{◌≡◌, ◌<◌, ℕ, Bool, true, List, ◌+◌, length, drop, sym, ◌∙◌, ap, arith}
 use Rattle.std.proofs.lemmas.List.{get_or_default, set-get_or}
 use borrow.Author.Rules.{scaled_Fits}
 use Rattle.ptlines.specs.Readers.{Reader}
 use Rattle.ptlines.specs.Inputs.{Given}
 use Rattle.ptflow.specs.Tools.{Tool}
 use Rattle.ptrun.specs.Worlds.{no_reader}
-use Rattle.ptrun.specs.Sayings.{Tells, line_of}
 use Rattle.ptrun.specs.Operands.{places}
 use Rattle.ptrun.proofs.InTurn.{pass_nothing, ready_here, pass_all, pass_unopened, pass_done, pass_stopped}
 use Rattle.ptrun.proofs.Order.{fresh_all, places_next, places_split, places_end, pass_here}
@@ -42,10 +40,9 @@ loop-input-preserved g c =
     let next = places_next c.args.order.now i _ p c.loop-input-test.true c.place_of-place.ensures in
     elim c.if-is_refused.branch [
       | then-is_refused w ↦
-          let says = subst (λ (l : List ℕ). Tells c.loop-input.voice w.say.new.self l)
-          (λ j. line_of (w.name.ensures j ∷ codes ": " ∷ w.name_at.ensures j ∷ codes ": cannot be opened" ∷ [])) w.say.ensures in
           rw (w.inputs-is, set-get_or now p c.index-inputs-place.result, w.store-is, w.out-is, w.voice-is, w.done-is, next)
-          (pass_unopened fresh k p (ap (λ (r : Reader). r.refused) (sym here) ∙ sym c.is_refused.ensures.refused ∙ w.if-is_refused.true) says)
+          (pass_unopened fresh k p (ap (λ (r : Reader). r.refused) (sym here) ∙ sym c.is_refused.ensures.refused ∙ w.if-is_refused.true)
+          (rw (w.name.ensures, w.name_at.ensures) at w.say.ensures))
       | else-is_refused+in-Ok w ↦
           let ready = ready_here fresh k p here (sym c.is_refused.ensures.refused ∙ w.if-is_refused.false) c.is_refused.ensures.sound in
           rw (w.inputs-is, w.store-is, w.out-is, w.voice-is, w.done-is, next)

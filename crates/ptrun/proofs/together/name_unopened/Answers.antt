@@ -1,12 +1,10 @@
 -- Each turn names one more input, if it could not be opened.
-use Rattle.std.proofs.Common.{◌<◌, ℕ, List, [], ◌∷◌, length, take, refl, sym, ◌∙◌, ap, subst, arith}
-use Rattle.std.specs.Prelude.{codes}
+use Rattle.std.proofs.Common.{◌<◌, ℕ, List, length, take, refl, sym, ◌∙◌, ap, arith}
 use Rattle.std.proofs.lemmas.List.{get_or_default}
 use borrow.Author.Rules.{scaled_Fits}
 use Rattle.ptlines.specs.Readers.{Reader}
 use Rattle.ptopts.specs.Meant.{words_seen}
 use Rattle.ptrun.specs.Operands.{places}
-use Rattle.ptrun.specs.Sayings.{Tells, line_of}
 use Rattle.ptrun.specs.Worlds.{no_reader, shut}
 use Rattle.ptrun.proofs.Sayings.{tells_nothing}
 use Rattle.ptrun.proofs.Order.{places_next, places_end}
@@ -35,7 +33,7 @@ loop-input-preserved g c =
     elim c.if-is_refused.branch [
       | then-is_refused w ↦ rw (w.voice-is, w.any-is, next) (record {
         said = tells_more tool names (shut inputs) done p k.said (rw (refused ∙ w.if-is_refused.true)
-            (subst (λ (l : List ℕ). Tells c.loop-input.voice w.say.new.self l) (λ j. line_of (tool ∷ codes ": " ∷ w.name_at.ensures j ∷ codes ": cannot be opened" ∷ [])) w.say.ensures));
+            (rw w.name_at.ensures at w.say.ensures));
         any_is = sym (any_now (shut inputs) done p (refused ∙ w.if-is_refused.true));
       })
       | else-is_refused w ↦ rw (w.voice-is, w.any-is, next) (record {
