@@ -22,7 +22,7 @@ use Rattle.ptrun.specs.Worlds.{IsReceived, IsFresh, HasFailed, IsTooLong}
 use Rattle.ptrun.specs.Sayings.{Tells}
 use Rattle.ptrun.specs.Meanings.{unopened}
 use Rattle.ptrun.specs.Messages.{not_opened, name_of}
-use Rattle.ptlines.specs.KeepingUp.{SendsOn, KeepsUp}
+use Rattle.ptlines.specs.KeepingUp.{KeepsUp}
 use Rattle.ptrun.specs.KeepingUp.{PassedOn, LastEarlier}
 use Rattle.ptrun.proofs.KeepingUp.{all_earlier, last_earlier, sends_now, sends_behind}
 use Rattle.ptrun.specs.Operands.{decided_of, largest, up_to_open, each_out, each_bound, each_decided, one_by_one}
@@ -87,14 +87,14 @@ module _ {word : List ℕ} {t : Tool} {names : List (List ℕ)} {old : List Read
 
     asked_now : (q : ℕ) → shut old q ≡ false → ((reader_at now q).held ≡ []) × ((reader_at now q).fault ≡ None)
     asked_now q opened = ⊎_elim (λ seen. let s = k.spent q seen opened in (s.done.held, s.fault))
-        (λ unseen. let new = fresh q opened in subst (λ (r : Reader). (r.held ≡ []) × (r.fault ≡ None)) (sym (k.unread q unseen).0) (new.held, new.fault)) (named_or_not done q)
+        (λ unseen. let new = fresh q opened in rw (k.unread q unseen).0 (new.held, new.fault)) (named_or_not done q)
 
     -- a reader that was opened can be asked
     pub ready_here : (p : ℕ) {r : Reader} → r ≡ reader_at now p → r.refused ≡ false → IsSound r → ((reader_at now p).refused ≡ false) × (r.fault ≡ None) × ((reader_at now p).failed ≡ false)
     ready_here p here opened sound =
         let is_open = ap (λ (r : Reader). r.refused) (sym here) ∙ opened in
         let fault = ap (λ (r : Reader). r.fault) here ∙ (asked_now p (was_refused p ∙ is_open)).1 in
-        (is_open, fault, ap (λ (r : Reader). r.failed) (sym here) ∙ sound.unfailed opened fault)
+        (is_open, fault, rw here at (sound.unfailed opened fault))
 
     -- ---- all operands are done
 
@@ -124,7 +124,7 @@ module _ {word : List ℕ} {t : Tool} {names : List (List ℕ)} {old : List Read
       true_so_far = λ w agrees. record { rest = []; is = sym (k.out w agrees) ∙ sym (append-nil k.pushed) };
       told_read = λ q failed clean. absurd (none q failed);
       sure = λ q failed clean. absurd (none q failed);
-      keeps_up = subst (λ (l : List ℕ). LastEarlier t (sources nothing_left k.gave l) (λ decided. PassedOn decided was is k.pushed)) (sym all_taken)
+      keeps_up = rw all_taken
           (all_earlier t (sources nothing_left k.gave done) (λ decided. PassedOn decided was is k.pushed)
           (record { begins = works; sends = sends_now was is k.pushed (each_decided t k.gave done) k.wrote k.clean works }));
       peak = k.peak;
@@ -138,7 +138,7 @@ module _ {word : List ℕ} {t : Tool} {names : List (List ℕ)} {old : List Read
 
         short : (q : ℕ) → IsTooLong (at k.gave q) → ⊥
         short q long = ⊎_elim (λ seen. not_long (reader_at old q) (reader_at now q) (at k.gave q) (fresh q) (k.came q) (λ opened. (k.spent q seen opened).short) long)
-            (λ unseen. never_long (reader_at old q) (subst IsTooLong (k.unread q unseen).1 long)) (named_or_not done q)
+            (λ unseen. never_long (reader_at old q) (rw (k.unread q unseen).1 at long)) (named_or_not done q)
 
         ends_with : (done : Done) (any closed : Bool) → done ≡ done_with any → any ≡ closed → (last_words word names (Ok done) ≡ []) × (status_after (Ok done) ≡ cond closed 1 0)
         ends_with done true closed is same = rw (is, sym same) (refl, refl)
@@ -177,7 +177,7 @@ module _ {word : List ℕ} {t : Tool} {names : List (List ℕ)} {old : List Read
       clean = k.clean;
       roomy = k.roomy;
       empty = k.empty;
-      peak = λ w agrees. subst (λ (l : List (List ℕ)). store.peak ≤ max before.peak (largest (map t.size l))) (sym (nothing w agrees)) (k.peak w agrees);
+      peak = λ w agrees. rw (nothing w agrees) (k.peak w agrees);
     }
       where
         old_refused : (reader_at old p).refused ≡ true
@@ -252,15 +252,15 @@ module _ {word : List ℕ} {t : Tool} {names : List (List ℕ)} {old : List Read
 
       fits_here : (b : List ℕ) → Agrees (given_now y.0) b → Agrees e.given (cond (is_in done p) [] b)
       fits_here b a = ⊎_elim
-          (λ s. subst (λ (g : Given). Agrees g (cond (is_in done p) [] b)) (sym s.1) (rw s.0 (record { rest = []; is = refl; whole = λ _. refl })))
-          (λ u. rw u.0 (subst (λ (g : Given). Agrees (given_now g) b) u.1 a)) turn
+          (λ s. rw (s.1, s.0) (record { rest = []; is = refl; whole = λ _. refl }))
+          (λ u. rw u.0 (rw u.1 at a)) turn
 
       -- the world agrees with what came before
       back : (w : World) → Allows gave' w → Allows k.gave w
       back w agrees =
           let here = agreed (at gave' p) (at w p) (given_now y.0) gave_here (agrees p) in
           by_place (λ q. AllowsAt (at k.gave q) (at w q)) p (agrees_some (at k.gave p) (at w p) y.0 y.1 here.0 here.1 (agrees_before y.0 e.given here.0 still here.2))
-          (λ q differs. subst (λ (o : Option Given). AllowsAt o (at w q)) (gave_other q differs) (agrees q))
+          (λ q differs. rw (gave_other q differs) at (agrees q))
 
       -- what the operand finds in a world, which agrees with what came in the call
       abbrev Finds : World → Type 0
@@ -298,8 +298,8 @@ module _ {word : List ℕ} {t : Tool} {names : List (List ℕ)} {old : List Read
         same_length = length-set now p new ∙ k.same_length;
         long = length-set k.gave p (Some (given_now y.0)) ∙ k.long;
         came = received';
-        spent = λ q seen opened. ⊎_elim (λ same. subst (λ (n : ℕ). IsSpent (reader_at now' n)) same (subst IsSpent (sym reader_here) spent))
-            (λ other. subst IsSpent (sym (reader_other q other)) (k.spent q (sym (is_in-other done p q other) ∙ seen) opened)) (same_or_other p q);
+        spent = λ q seen opened. ⊎_elim (λ same. subst (λ (n : ℕ). IsSpent (reader_at now' n)) same (rw reader_here spent))
+            (λ other. rw (reader_other q other) (k.spent q (sym (is_in-other done p q other) ∙ seen) opened)) (same_or_other p q);
         unread = λ q unseen. let other = not_more done p q unseen in let was = k.unread q other.1 in (reader_other q other.0 ∙ was.0, gave_other q other.0 ∙ was.1);
         pushed = k.pushed ++ e.pushed;
         wrote = wrote_here;
@@ -315,7 +315,7 @@ module _ {word : List ℕ} {t : Tool} {names : List (List ℕ)} {old : List Read
       }
         where
           end : Finished (reader_at now p) new is' store'
-          end = subst (λ (r : Result (Unit {0}) FlowFault). Ends (reader_at now p) new is' store' r) ok e.ends
+          end = rw ok at e.ends
 
           spent : IsSpent new
           spent = record { done = end.done; fault = end.fault; failed = end.failed ∙ calm; short = end.short }
@@ -328,7 +328,7 @@ module _ {word : List ℕ} {t : Tool} {names : List (List ℕ)} {old : List Read
         nth_here done more p,
         ap (λ (l : List ℕ). is_in l p) (take-append_seam done (p ∷ more)) ∙ unseen r.cause,
         ⊎_elim (λ f. inl (old_open, ap (λ (r : Reader). r.failed) (sym (k.unread p (unseen r.cause)).0) ∙ calm, ap (λ (n : Reader). n.failed) reader_here ∙ f.0))
-            (λ l. inr (subst IsTooLong (sym gave_here) (let first = fresh p old_open in omega (arith, l.0, came_here.count, ap length first.held, first.pulled)))) r.cause,
+            (λ l. inr (rw gave_here (let first = fresh p old_open in omega (arith, l.0, came_here.count, ap length first.held, first.pulled)))) r.cause,
         r.clean,
         r.denied,
       )
@@ -342,8 +342,8 @@ module _ {word : List ℕ} {t : Tool} {names : List (List ℕ)} {old : List Read
 
       ended_before : (q : ℕ) → is_in done q ≡ true → EndedAt (at gave' q)
       ended_before = by_place (λ q. is_in done q ≡ true → EndedAt (at gave' q)) p
-          (λ seen. subst EndedAt (sym gave_here) (⊎_elim (λ s. ap (λ (g : Given). g.ended) s.1) (λ u. absurd (false≢true (sym u.0 ∙ seen))) turn))
-          (λ q differs seen. subst EndedAt (sym (gave_other q differs)) (ended_now q seen))
+          (λ seen. rw gave_here (⊎_elim (λ s. ap (λ (g : Given). g.ended) s.1) (λ u. absurd (false≢true (sym u.0 ∙ seen))) turn))
+          (λ q differs seen. rw (gave_other q differs) (ended_now q seen))
 
       module _ (law : (g : Given) → g.ended ≡ true → t.decided g ≡ t.text g.bytes) where
         -- the operands that are done decided all of what they give
@@ -380,10 +380,10 @@ module _ {word : List ℕ} {t : Tool} {names : List (List ℕ)} {old : List Read
 
         keeps_here : LastEarlier t (sources nothing_left gave' (done ++ p ∷ [])) (λ bytes. PassedOn bytes was is' (k.pushed ++ e.pushed))
         keeps_here =
-            subst (λ (l : List Given). LastEarlier t l (λ bytes. PassedOn bytes was is' (k.pushed ++ e.pushed))) (sym (sources_opened nothing_left gave' done p [] e.given found_given))
+            rw (sources_opened nothing_left gave' done p [] e.given found_given)
             (last_earlier t (sources nothing_left gave' done) e.given (one_keeps.works.before tt) (λ bytes. PassedOn bytes was is' (k.pushed ++ e.pushed)) (record {
               begins = begins_behind (t.decided earlier) decided_here one_keeps.works.begins;
-              sends = subst (λ (l : List ℕ). SendsOn was is' l) (sym decided_here) (sends_behind was is is' k.pushed (t.decided earlier) k.wrote k.clean one_keeps.sends);
+              sends = rw decided_here (sends_behind was is is' k.pushed (t.decided earlier) k.wrote k.clean one_keeps.sends);
             }))
 
         sure_here : (more : List ℕ) → new.failed ≡ true → is'.faulted ≡ false → new.ended ≡ false → Begins (each_decided t gave' (done ++ p ∷ more)) (k.pushed ++ e.pushed)
@@ -416,13 +416,13 @@ module _ {word : List ℕ} {t : Tool} {names : List (List ℕ)} {old : List Read
                 ∙ sym (append_assoc k.pushed e.pushed (b.rest ++ rest));
           };
           sure = λ q failed clean. let here = blamed q failed in sure_here more here clean (failing fault end here).0;
-          keeps_up = subst (λ (l : List ℕ). LastEarlier t (sources nothing_left gave' l) (λ bytes. PassedOn bytes was is' (k.pushed ++ e.pushed))) (sym (take_with done p more)) keeps_here;
+          keeps_up = rw (take_with done p more) keeps_here;
           told_read = λ q failed clean. ap (λ (f : FlowFault). Err f) ((failing fault end (blamed q failed)).1 ∙ ap (λ (n : ℕ). Read n) (place_of q failed));
           peak = λ w agrees. peak_here w more agrees;
         }
           where
             end : Ends (reader_at now p) new is' store' (Err fault)
-            end = subst (λ (r : Result (Unit {0}) FlowFault). Ends (reader_at now p) new is' store' r) is_err e.ends
+            end = rw is_err at e.ends
 
             place_of : (q : ℕ) → HasFailed old now' q → p ≡ q
             place_of q failed = ⊎_elim (λ same. same)

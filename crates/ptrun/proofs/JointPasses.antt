@@ -11,11 +11,11 @@ use Rattle.std.proofs.lemmas.List.Elements.{All-nil, All-cons}
 use Rattle.std.proofs.lemmas.List.Folds.{list_any-append}
 use Rattle.std.proofs.lemmas.Bool.{false≢true, eqb-true}
 use Rattle.std.proofs.lemmas.Bool.Decides.{eqb_tells}
-use Rattle.ptlines.specs.Readers.{Reader, IsSound, HasReadCause}
+use Rattle.ptlines.specs.Readers.{Reader, IsSound}
 use Rattle.ptlines.specs.Outputs.{Output}
 use Rattle.ptlines.specs.Slots.{Slots}
 use Rattle.ptlines.specs.Sinks.{SinkState}
-use Rattle.ptlines.specs.Inputs.{Given, nothing_left, Begins, Agrees, Came}
+use Rattle.ptlines.specs.Inputs.{Given, nothing_left, Begins, Came}
 use Rattle.ptlines.specs.KeepingUp.{Before}
 use Rattle.ptflow.specs.Passes.{Ends, IsPass}
 use Rattle.ptflow.specs.PastePasses.{put_at}
@@ -25,7 +25,7 @@ use Rattle.ptflow.specs.declared.faults.FlowFault.TheVariants.{Read, Write, Memo
 use Rattle.ptopts.specs.declared.inputs.Input.{Input}
 use Rattle.ptrun.specs.declared.engine.Done.{Done}
 use Rattle.ptrun.specs.declared.engine.Done.TheVariants.{Whole}
-use Rattle.ptrun.specs.Worlds.{World, Received, at, is_unopened, Allows, is_in, reader_at, no_reader, shut, CameAt, IsReceived, IsFresh, HasFailed, IsTooLong}
+use Rattle.ptrun.specs.Worlds.{World, Received, at, is_unopened, Allows, is_in, reader_at, no_reader, shut, IsReceived, IsFresh, HasFailed, IsTooLong}
 use Rattle.ptrun.specs.Meanings.{unopened}
 use Rattle.ptrun.specs.Sayings.{Tells}
 use Rattle.ptrun.specs.Messages.{not_opened, name_of}
@@ -52,14 +52,14 @@ pub checks_of : (word : List ℕ) (t : JointTool) (names : List (List ℕ)) (pla
 checks_of word t names places inputs {told} {heard} {lacking} is tells = record {
   is = is;
   tells = named lacking (sym is);
-  nothing = λ some w same. let lacking : lacks places w ≡ true = lacks_as (is_unopened w) same some in rw lacking (refl, refl, refl);
+  nothing = λ some w same. rw (lacks_as (is_unopened w) same some) (refl, refl, refl);
   at_once = λ _. refl;
-  undecided = λ some r same. ap (λ (b : Bool). cond b [] (t.decided places (given_in r))) (lacks_as (is_unopened r) same some);
+  undecided = λ some r same. rw (lacks_as (is_unopened r) same some) refl;
 }
   where
     named : (b : Bool) → list_any (shut inputs) places ≡ b → Tells told heard (cond b (unopened word names (shut inputs) places) [])
     named true any = tells
-    named false none = subst (λ (l : List ℕ). Tells told heard l) (none_named word names (shut inputs) places none) tells
+    named false none = rw (none_named word names (shut inputs) places none) at tells
 
     lacks_as : (test : ℕ → Bool) → ((q : ℕ) → shut inputs q ≡ test q) → lacking ≡ true → list_any test places ≡ true
     lacks_as test same some = sym (any_same (shut inputs) test places same) ∙ sym is ∙ some
@@ -119,18 +119,14 @@ module _ (word : List ℕ) {t : JointTool} (names : List (List ℕ)) {places : L
 
   came : IsReceived old new received
   came q = ⊎_elim
-      (λ named. subst (CameAt (reader_at old q) (reader_at new q)) (sym (at_named q named)) (open_at q named, k.came q named))
-      (λ other. subst (λ (r : Reader). CameAt (reader_at old q) r (at received q)) (sym (k.untouched q other))
-      (subst (CameAt (reader_at old q) (reader_at old q)) (sym (at_other q other)) (came_unread (reader_at old q) (fresh q))))
-      (named_or_not places q)
+      (λ named. rw (at_named q named) (open_at q named, k.came q named))
+      (λ other. rw (k.untouched q other, at_other q other) (came_unread (reader_at old q) (fresh q))) (named_or_not places q)
 
   complete : (w : World) → Allows received w → lacks places w ≡ false
   complete w agrees = sym (any_same (shut old) (is_unopened w) places (refused_same old new received w came agrees)) ∙ start.complete
 
   agree : (w : World) → Allows received w → AgreeAt places k.given (text_in w)
-  agree w agrees q named =
-      let a = agreed (at received q) (at w q) (k.given q) (at_named q named) (agrees q) in
-      subst (λ (l : List ℕ). Agrees (k.given q) l) (sym (ap (λ (v : Option (List ℕ)). unwrap_or v []) a.1)) a.2
+  agree w agrees q named = let a = agreed (at received q) (at w q) (k.given q) (at_named q named) (agrees q) in rw a.1 a.2
 
   -- ---- what was decided
 
@@ -158,7 +154,7 @@ module _ (word : List ℕ) {t : JointTool} (names : List (List ℕ)) {places : L
 
   none_long : ((q : ℕ) → is_in places q ≡ true → (reader_at new q).pulled < 2 ^ 63) → (q : ℕ) → IsTooLong (at received q) → ⊥
   none_long short q long = ⊎_elim (λ named. not_long (reader_at old q) (reader_at new q) (at received q) (fresh q) (came q) (λ _. short q named) long)
-      (λ other. never_long (reader_at old q) (subst IsTooLong (at_other q other) long))
+      (λ other. never_long (reader_at old q) (rw (at_other q other) at long))
       (named_or_not places q)
 
   record Ending (r : Result Done FlowFault) : Type 0 where
@@ -189,7 +185,7 @@ module _ (word : List ℕ) {t : JointTool} (names : List (List ℕ)) {places : L
       let f = first_at places p e.named in
       let cause : HasFailed old new p ⊎ IsTooLong (at received p) = ⊎_elim (λ broke. inl (open_at p e.named, e.calm, broke.0))
       (λ long. let first = fresh p (open_at p e.named) in
-      inr (subst IsTooLong (sym (at_named p e.named)) (omega (arith, long.0, (k.came p e.named).count, ap length first.held, first.pulled)))) e.cause in
+      inr (rw (at_named p e.named) (omega (arith, long.0, (k.came p e.named).count, ap length first.held, first.pulled)))) e.cause in
       record {
         behind = f.0;
         within = f.1;
@@ -265,33 +261,33 @@ module _ (t : Tool) (old : List Reader) (was is : Output) (before store : Slots)
     out = λ texts agrees. whole refl ∙ ap t.text (sym (agrees_whole e.given (texts p) (e.came.ended ∙ f.done.ended) (agrees p named)));
     is_done = λ texts agrees. refl;
     place = tt;
-    unfailed = each (λ q. (reader_at all q).failed ≡ (reader_at old q).failed) (ap (λ (r : Reader). r.failed) here ∙ f.failed);
-    short = each (λ q. (reader_at all q).pulled < 2 ^ 63) (subst (λ (r : Reader). r.pulled < 2 ^ 63) (sym here) f.short);
+    unfailed = each (λ q. (reader_at all q).failed ≡ (reader_at old q).failed) (rw here f.failed);
+    short = each (λ q. (reader_at all q).pulled < 2 ^ 63) (rw here f.short);
     written = f.clean;
     roomy = f.denied;
   }
   sole_ends (Err (Read place)) f whole = record {
     named = named;
     calm = calm;
-    cause = subst (λ (r : Reader). HasReadCause (reader_at old p) r) (sym here) f.cause;
+    cause = rw here f.cause;
     others = λ q one differs. absurd (differs (each (λ q. p ≡ q) refl q one));
     written = f.clean;
     roomy = f.denied;
   }
   sole_ends (Err Write) f whole = f.faulted
-  sole_ends (Err Memory) f whole = (f.denied, f.clean, each (λ q. (reader_at all q).failed ≡ (reader_at old q).failed) (ap (λ (r : Reader). r.failed) here ∙ f.failed))
+  sole_ends (Err Memory) f whole = (f.denied, f.clean, each (λ q. (reader_at all q).failed ≡ (reader_at old q).failed) (rw here f.failed))
 
   one_went : IsJointPass (of_one t) (p ∷ []) old all was is before store (told_one p result)
   one_went = record {
     given = λ q. e.given;
-    came = each (λ q. Came (reader_at old q) (reader_at all q) e.given) (subst (λ (r : Reader). Came (reader_at old p) r e.given) (sym here) e.came);
+    came = each (λ q. Came (reader_at old q) (reader_at all q) e.given) (rw here e.came);
     untouched = λ q other. get_or-set_other old p q new no_reader (λ same. false≢true (sym other ∙ ap (is_in (p ∷ [])) same ∙ named));
     pushed = e.pushed;
     wrote = e.wrote;
     ends = sole_ends result e.ends e.whole;
     true_so_far = λ texts agrees. e.true_so_far (texts p) (agrees p named);
     sure = each (λ q. (reader_at all q).failed ≡ true → is.faulted ≡ false → Begins (t.decided e.given) e.pushed)
-        (λ failed fine. e.sure (ap (λ (r : Reader). r.failed) (sym here) ∙ failed) fine);
+        (rw here e.sure);
     keeps_up = each (λ q. (cut : Before e.given) × PassedOn (t.decided (put_at q cut.earlier (λ q. e.given) p)) was is e.pushed)
         (passed_on t.decided (λ h. t.decided (put_at p h (λ q. e.given) p)) (λ h. ap t.decided (sym (put_here p h (λ q. e.given)))) (e.keeps_up clean));
     same = λ f g same. ap t.decided (same p named);
@@ -309,10 +305,10 @@ sole_there [] one = absurd (false≢true one)
 sole_there (o ∷ order) one = omega arith
 
 pub sole_within : {places : List ℕ} {p : ℕ} (n : ℕ) → places ≡ p ∷ [] → All (λ q. q < n) places → p < n
-sole_within n only fits = subst (λ (l : List ℕ). All (λ q. q < n) l) only fits 0 0 (omega arith)
+sole_within n only fits = (rw only at fits) 0 0 (omega arith)
 
 pub sole_open : {places : List ℕ} {p : ℕ} (old : List Reader) → places ≡ p ∷ [] → list_any (shut old) places ≡ false → (reader_at old p).refused ≡ false
-sole_open {p = p} old only opened = (neither (shut old p) false (subst (λ (l : List ℕ). list_any (shut old) l ≡ false) only opened)).0
+sole_open {p = p} old only opened = (neither (shut old p) false (rw only at opened)).0
 
 -- what an engine did with the reader of the one operand
 pub lone_went : {t : Tool} {places : List ℕ} {old : List Reader} {was is : Output} {before store : Slots} {p : ℕ} {r new : Reader} {result : Result (Unit {0}) FlowFault}
@@ -320,7 +316,5 @@ pub lone_went : {t : Tool} {places : List ℕ} {old : List Reader} {was is : Out
     → IsJointPass (of_one t) places old (set old p new) was is before store (told_one p result)
 lone_went {t} {places} {old} {was} {is} {before} {store} {p} {r} {new} {result} ready only here sound e =
     let open_here = sole_open old only ready.opened in
-    let calm = sound.unfailed (ap (λ (x : Reader). x.refused) here ∙ open_here) (ap (λ (x : Reader). x.fault) here ∙ (fresh_all old ready.fresh p open_here).fault) in
-    subst (λ (l : List ℕ). IsJointPass (of_one t) l old (set old p new) was is before store (told_one p result)) (sym only)
-    (one_went t old was is before store p new result ready.writable (sole_within (length old) only ready.fits) (ap (λ (x : Reader). x.failed) (sym here) ∙ calm)
-    (subst (λ (x : Reader). IsPass t x new was is before store result) here e))
+    let calm = sound.unfailed (rw here open_here) (rw here (fresh_all old ready.fresh p open_here).fault) in
+    rw only (one_went t old was is before store p new result ready.writable (sole_within (length old) only ready.fits) (rw (sym here) calm) (rw here at e))

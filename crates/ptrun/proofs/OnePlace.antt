@@ -1,5 +1,5 @@
 -- One place of a tool that goes over its operands, and what came of its input.
-use Rattle.std.proofs.Common.{◌≡◌, ℕ, ◌<◌, ◌^◌, Bool, true, false, cond, List, [], ◌∷◌, ◌++◌, Option, Some, None, length, map, refl, sym, ◌∙◌, ap, subst, arith, append_assoc, length-append}
+use Rattle.std.proofs.Common.{◌≡◌, ℕ, ◌<◌, ◌^◌, Bool, true, false, cond, List, [], ◌∷◌, ◌++◌, Option, Some, None, length, map, refl, sym, ◌∙◌, ap, arith, append_assoc, length-append}
 use Rattle.std.specs.Prelude.{is_none, slice_get}
 use Rattle.std.specs.Io.KnownBytes.{prepend_known}
 use Rattle.std.proofs.lemmas.List.{append-nil, nil_from_length}
@@ -114,7 +114,7 @@ none_of (Some b) is = absurd (false≢true is)
 pub agreed : (o : Option Given) (v : Option (List ℕ)) (g : Given) → o ≡ Some g → AllowsAt o v → (b : List ℕ) × (v ≡ Some b) × Agrees g b
 agreed None v g is a = cc
 agreed (Some h) None g is a = absurd a
-agreed (Some h) (Some b) g is a = let same : h ≡ g = cc in (b, refl, subst (λ (k : Given). Agrees k b) same a)
+agreed (Some h) (Some b) g is a = let same : h ≡ g = cc in (b, refl, rw same at a)
 
 pub agrees_before : (g e : Given) (b : List ℕ) → (g.ended ≡ true → (e.bytes ≡ []) × (e.ended ≡ true)) → Agrees (record { bytes = g.bytes ++ e.bytes; ended = e.ended }) b → Agrees g b
 agrees_before g e b still a = record {
@@ -136,18 +136,18 @@ pub received_at : (old : List Reader) (q : ℕ) → at (map received_of old) q �
 received_at old q = get_or-map received_of old q no_reader
 
 pub nothing_long : (old : List Reader) (q : ℕ) → IsTooLong (at (map received_of old) q) → ⊥
-nothing_long old q long = never_long (reader_at old q) (subst IsTooLong (received_at old q) long)
+nothing_long old q long = never_long (reader_at old q) (rw (received_at old q) at long)
 
 -- nothing was read
 pub nothing_read : (old : List Reader) → ((q : ℕ) → IsFresh (reader_at old q)) → IsReceived old old (map received_of old)
-nothing_read old fresh q = subst (CameAt (reader_at old q) (reader_at old q)) (sym (received_at old q)) (came_unread (reader_at old q) (fresh q))
+nothing_read old fresh q = rw (received_at old q) (came_unread (reader_at old q) (fresh q))
 
 agrees_least_at : (o : Option Given) → AllowsAt o (bytes_at o)
 agrees_least_at None = tt
 agrees_least_at (Some g) = record { rest = []; is = sym (append-nil g.bytes); whole = λ _. refl }
 
 pub agrees_least : (r : Received) → Allows r (least r)
-agrees_least r q = subst (λ (v : Option (List ℕ)). AllowsAt (at r q) v) (sym (at-least r q)) (agrees_least_at (at r q))
+agrees_least r q = rw (at-least r q) (agrees_least_at (at r q))
 
 pub nth_here : (done more : List ℕ) (p : ℕ) → slice_get (done ++ p ∷ more) (length done) ≡ Some p
 nth_here [] more p = refl

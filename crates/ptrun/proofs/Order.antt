@@ -1,6 +1,6 @@
 -- The operands of a command in their order, as places.
 use Rattle.std.proofs.Common.{◌≡◌, ℕ, zero, suc, ◌+◌, ◌<◌, ◌≤◌, Bool, true, false, cond, List, [], ◌∷◌, ◌++◌, Result, length, take, drop, get_or, sym, ◌∙◌, ap}
-use Rattle.std.proofs.Common.{subst, arith, append_assoc, take-append-drop}
+use Rattle.std.proofs.Common.{arith, append_assoc, take-append-drop}
 use Rattle.std.proofs.lemmas.List.{take_more, get_or-map, length-map, take_all}
 use Rattle.std.proofs.lemmas.Bool.{false≢true}
 use Rattle.ptlines.specs.Readers.{Reader}
@@ -27,7 +27,7 @@ fresh_all (r ∷ readers) h zero = h zero no_reader (omega arith)
 fresh_all (r ∷ readers) h (suc q) = fresh_all readers (λ k d within. h (suc k) d (omega (arith, within))) q
 
 pub place_fits : (order : List Input) (n : ℕ) → All (λ p. p < n) (places order) → All (λ o. place o < n) order
-place_fits order n fits i d within = subst (λ (k : ℕ). k < n) (get_or-map place order i d 0 within) (fits i 0 (omega (arith, within, length-map order place)))
+place_fits order n fits i d within = rw (get_or-map place order i d 0 within) at (fits i 0 (omega (arith, within, length-map order place)))
 
 -- a name is seen as its text, so there are as many
 pub names_counted : (names : List (Bor (List ℕ))) (n : ℕ) → n ≡ length (words_seen names) + 1 → n ≡ length names + 1
@@ -50,7 +50,7 @@ places_end order i all = take_all i (places order) (omega (arith, all, length-ma
 -- a pass over a reader is one over the same reader
 pub pass_here : {t : Tool} {first reader new : Reader} {was is : Output} {before store : Slots} {result : Result (Unit {0}) FlowFault} → first ≡ reader
     → IsPass t first new was is before store result → IsPass t reader new was is before store result
-pass_here {t} {first} {reader} {new} {was} {is} {before} {store} {result} same pass = subst (λ (r : Reader). IsPass t r new was is before store result) same pass
+pass_here same pass = rw same at pass
 
 -- ---- the operands of words
 

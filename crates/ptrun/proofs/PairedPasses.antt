@@ -9,7 +9,7 @@ use Rattle.std.proofs.lemmas.Bool.Decides.{nat_tests}
 use Rattle.ptlines.specs.Readers.{Reader}
 use Rattle.ptlines.specs.Outputs.{Output}
 use Rattle.ptlines.specs.Slots.{Slots}
-use Rattle.ptlines.specs.Inputs.{Given, Begins, Agrees, Came}
+use Rattle.ptlines.specs.Inputs.{Given, Begins, Came}
 use Rattle.ptlines.specs.KeepingUp.{Before}
 use Rattle.ptflow.specs.PastePasses.{put_at}
 use Rattle.ptmerge.specs.declared.faults.MergeFault.{MergeFault}
@@ -109,8 +109,8 @@ module _ (t : keyed.Tool) {old : List Reader} {was : Output} {before : Slots} {p
         at_side Second = given_at Second
 
     agree : (texts : ℕ → List ℕ) → AgreeAt two given texts → Agree e.given (of_operands two texts)
-    agree texts agrees First = subst (λ (g : Given). Agrees g (texts p)) (given_at First) (agrees p (named First))
-    agree texts agrees Second = subst (λ (g : Given). Agrees g (texts q)) (given_at Second) (agrees q (named Second))
+    agree texts agrees First = rw (given_at First) at (agrees p (named First))
+    agree texts agrees Second = rw (given_at Second) at (agrees q (named Second))
 
     -- of one input less came, and of the other the same
     put_is : (side : Side) (g : Given) → put side g e.given ≡ of_operands two (put_at (both p q side) g given)
@@ -178,8 +178,8 @@ module _ (t : keyed.Tool) {old : List Reader} {was : Output} {before : Slots} {p
     two_went = record {
       given = given;
       came = each (λ k. Came (reader_at old k) (reader_at new k) (given k))
-          (subst (λ (g : Given). Came (reader_at old p) (reader_at new p) g) (sym (given_at First)) (e.came First))
-          (subst (λ (g : Given). Came (reader_at old q) (reader_at new q) g) (sym (given_at Second)) (e.came Second));
+          (rw (given_at First) (e.came First))
+          (rw (given_at Second) (e.came Second));
       untouched = λ k other. others k (λ same. unnamed k other (ap (is_in two) (sym same) ∙ named First)) (λ same. unnamed k other (ap (is_in two) (sym same) ∙ named Second));
       pushed = e.pushed;
       wrote = e.wrote;

@@ -107,9 +107,8 @@ module _ (job : Paste) {places : List ℕ} {old : List Reader} {was : Output} {b
     filled_is texts q named = ap (λ (b : Bool). cond b (texts q) (k.given q).bytes) named
 
     agree : (texts : ℕ → List ℕ) → AgreeAt places k.given texts → (q : ℕ) → Agrees (k.given q) (filled texts q)
-    agree texts agrees q = ⊎_elim (λ named. subst (λ (l : List ℕ). Agrees (k.given q) l) (sym (filled_is texts q named)) (agrees q named))
-        (λ other. subst (λ (b : Bool). Agrees (k.given q) (cond b (texts q) (k.given q).bytes)) (sym other)
-        (record { rest = []; is = sym (append-nil (k.given q).bytes); whole = λ _. refl })) (named_or_not places q)
+    agree texts agrees q = ⊎_elim (λ named. rw named (agrees q named))
+        (λ other. rw other (record { rest = []; is = sym (append-nil (k.given q).bytes); whole = λ _. refl })) (named_or_not places q)
 
     ends : (r : Result (Unit {0}) FlowFault) → RowsEnd places old new is store r → (r ≡ Ok tt → k.pushed ≡ paste job places (λ q. (k.given q).bytes))
         → JointEnds (of_rows job) places k.given old new k.pushed is.faulted store.denied (told_rows r)

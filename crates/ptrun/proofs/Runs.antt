@@ -25,8 +25,7 @@ use Rattle.ptrun.specs.Sayings.{Tells}
 use Rattle.ptrun.specs.Meanings.{Meaning, named, messages, unopened}
 use Rattle.ptrun.specs.Runs.{Sinks, sinks, Outcome, Cause, EndsAs, IsRun, IsExact, Headline}
 use Rattle.ptrun.specs.Engines.{Checks, WentTo, Went, Finishes, last_words, status_after, IsWithin}
-use Rattle.ptflow.specs.Tools.{Tool}
-use Rattle.ptrun.specs.KeepingUp.{PassedOn, KeptUp, EarlierAs}
+use Rattle.ptrun.specs.KeepingUp.{PassedOn, KeptUp}
 use Rattle.ptrun.proofs.KeepingUp.{kept_up, earlier_map, nothing_decided}
 use Rattle.ptrun.specs.Asked.{saying}
 use Rattle.ptrun.proofs.Sayings.{tells_trans}
@@ -164,7 +163,7 @@ unread m {old} {out} {told} {heard} {text} status at_once undecided fresh fine t
   true_so_far = λ w agrees. record { rest = m.out w; is = refl };
   told = λ q failed clean. absurd (none_failed old q failed);
   sure = λ q failed clean. absurd (none_failed old q failed);
-  keeps_up = subst (λ (kind : Option Tool). EarlierAs m received (length m.places) (λ decided. KeptUp decided [] out.failed) kind) (sym at_once)
+  keeps_up = rw at_once
       (nothing_decided m.places m.decided received out.failed
       (λ r same. undecided r (λ q. refused_received (reader_at old q) (reader_at old q) (at received q) (came q) ∙ sym (same q))));
   bounded = λ w agrees. omega arith;
@@ -209,8 +208,8 @@ pub named_of : {m : Meaning} {old new : List Reader} {was is is' : Output} {told
 named_of {old = old} {is' = is'} {ended = ended} k f = by_fault is'.faulted refl
   where
     by_fault : (b : Bool) → is'.faulted ≡ b → IsWithin (length old) ended
-    by_fault true faulted = subst (IsWithin (length old)) (sym (f.broken faulted)) tt
-    by_fault false clean = subst (IsWithin (length old)) (sym (f.clean clean).0) k.place
+    by_fault true faulted = rw (f.broken faulted) tt
+    by_fault false clean = rw (f.clean clean).0 k.place
 
 module _ {m : Meaning} {old new : List Reader} {was is is' : Output} {at_first told heard : SinkState} {before store : Slots} {went ended : Result Done FlowFault} (out : SinkState) (o : Outcome)
     (none_said : Tells at_first told []) (k : Went m old new was is told heard before store went) (f : Finishes is is' went ended)
@@ -219,8 +218,8 @@ module _ {m : Meaning} {old new : List Reader} {was is is' : Output} {at_first t
     (last_failed : o.out.failed ≡ is'.faulted) (last_pending : o.out.pending ≡ is'.pending)
     (low : before.peak ≡ 0) (peak_is : o.peak ≡ store.peak) (denied_is : o.denied ≡ store.denied) where
   wrote_all : (b : Bool) → is.faulted ≡ b → Wrote was is' k.pushed
-  wrote_all true faulted = subst (λ (o : Output). Wrote was o k.pushed) (sym (f.wrote.stays faulted)) k.wrote
-  wrote_all false clean = subst (λ (l : List ℕ). Wrote was is' l) (append-nil k.pushed) (wrote_trans was is is' k.pushed [] clean k.wrote f.wrote)
+  wrote_all true faulted = rw (f.wrote.stays faulted) k.wrote
+  wrote_all false clean = rw (append-nil k.pushed) at (wrote_trans was is is' k.pushed [] clean k.wrote f.wrote)
 
   wrote : Wrote was is' k.pushed
   wrote = wrote_all is.faulted refl
@@ -244,9 +243,8 @@ module _ {m : Meaning} {old new : List Reader} {was is is' : Output} {at_first t
   went_to = by_fault is'.faulted refl
     where
       by_fault : (b : Bool) → is'.faulted ≡ b → WentTo m k.received old new k.pushed is'.faulted store.denied k.behind ended
-      by_fault true faulted = subst (WentTo m k.received old new k.pushed is'.faulted store.denied k.behind) (sym (f.broken faulted)) faulted
-      by_fault false clean = subst (λ (b : Bool). WentTo m k.received old new k.pushed b store.denied k.behind ended) ((f.clean clean).2 ∙ sym clean)
-          (subst (WentTo m k.received old new k.pushed is.faulted store.denied k.behind) (sym (f.clean clean).0) k.ends)
+      by_fault true faulted = rw (f.broken faulted) faulted
+      by_fault false clean = rw (clean, (f.clean clean).0) (rw (f.clean clean).2 at k.ends)
 
   ends_as : (r : Result Done FlowFault) → ended ≡ r → WentTo m k.received old new k.pushed is'.faulted store.denied k.behind r
       → EndsAs m k.received old new reached.front (k.said ++ last) o k.behind (fault_of r)

@@ -120,7 +120,7 @@ any_same f g (p ∷ ps) same = λ i. same p i || any_same f g ps same i
 -- one more operand, which is named if it could not be opened
 pub tells_more : (word : List ℕ) (names : List (List ℕ)) (is_shut : ℕ → Bool) (done : List ℕ) (p : ℕ) {told heard heard' : SinkState} → Tells told heard (unopened word names is_shut done)
     → Tells heard heard' (cond (is_shut p) (not_opened word (name_of names p)) []) → Tells told heard' (unopened word names is_shut (done ++ p ∷ []))
-tells_more word names is_shut done p {told} {heard} {heard'} k says = subst (λ (l : List ℕ). Tells told heard' l) (sym (unopened_more word names is_shut done p)) (tells_trans k says)
+tells_more word names is_shut done p k says = rw (unopened_more word names is_shut done p) (tells_trans k says)
 
 module _ (test : ℕ → Bool) (done : List ℕ) (p : ℕ) where
   pub any_now : test p ≡ true → list_any test (done ++ p ∷ []) ≡ true
