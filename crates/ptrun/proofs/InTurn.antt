@@ -395,8 +395,8 @@ module _ {word : List ℕ} {t : Tool} {names : List (List ℕ)} {old : List Read
                 ap (λ (l : List Given). flat_map t.decided (up_to_open l)) (sources_opened nothing_left gave' done p more e.given found_given)
                 ∙ decided_all (e.given ∷ behind) ∙ ap (λ (l : List ℕ). k.pushed ++ l) (decided_open e.given behind (inr (e.came.ended ∙ going)))
 
-        pub pass_stopped : (more : List ℕ) (fault : FlowFault) → result ≡ Err fault → Went (one_by_one word t names (done ++ p ∷ more)) old now' was is' told heard before store' (Err (blame p fault))
-        pass_stopped more fault is_err = record {
+        stopped : (more : List ℕ) (fault : FlowFault) → result ≡ Err fault → Went (one_by_one word t names (done ++ p ∷ more)) old now' was is' told heard before store' (Err (blame p fault))
+        stopped more fault is_err = record {
           received = gave';
           came = received';
           pushed = k.pushed ++ e.pushed;
@@ -435,3 +435,7 @@ module _ {word : List ℕ} {t : Tool} {names : List (List ℕ)} {old : List Read
             named_within (Read place) = within
             named_within Write = tt
             named_within Memory = tt
+
+        pub pass_stopped : (more : List ℕ) {order : List ℕ} → done ++ p ∷ more ≡ order → {fault : FlowFault} → result ≡ Err fault
+            → Went (one_by_one word t names order) old now' was is' told heard before store' (Err (blame p fault))
+        pass_stopped more split {fault} is_err = subst (λ (o : List ℕ). Went (one_by_one word t names o) old now' was is' told heard before store' (Err (blame p fault))) split (stopped more fault is_err)

@@ -1,6 +1,6 @@
 -- The operands of a command in their order, as places.
 use Rattle.std.proofs.Common.{◌≡◌, ℕ, zero, suc, ◌+◌, ◌<◌, ◌≤◌, Bool, true, false, cond, List, [], ◌∷◌, ◌++◌, Result, length, take, drop, get_or, sym, ◌∙◌, ap}
-use Rattle.std.proofs.Common.{arith, append_assoc, take-append-drop}
+use Rattle.std.proofs.Common.{subst, arith, append_assoc, take-append-drop}
 use Rattle.std.proofs.lemmas.List.{take_more, get_or-map, length-map, take_all}
 use Rattle.std.proofs.lemmas.Bool.{false≢true}
 use Rattle.ptlines.specs.Readers.{Reader}
@@ -28,6 +28,10 @@ fresh_all (r ∷ readers) h (suc q) = fresh_all readers (λ k d within. h (suc k
 
 pub place_fits : (order : List Input) (n : ℕ) → All (λ p. p < n) (places order) → All (λ o. place o < n) order
 place_fits order n fits i d within = rw (get_or-map place order i d 0 within) at (fits i 0 (omega (arith, within, length-map order place)))
+
+-- the place of the i-th operand is below what all are
+pub place_low : {n p : ℕ} (order : List Input) (i : ℕ) (d : Input) → All (λ o. place o < n) order → i < length order → p ≡ place (get_or order i d) → p < n
+place_low {n} order i d fits low is = subst (λ (m : ℕ). m < n) (sym is) (fits i d low)
 
 -- a name is seen as its text, so there are as many
 pub names_counted : (names : List (Bor (List ℕ))) (n : ℕ) → n ≡ length (words_seen names) + 1 → n ≡ length names + 1

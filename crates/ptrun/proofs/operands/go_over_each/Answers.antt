@@ -1,5 +1,5 @@
 -- Each turn passes one more operand. One that stops the pass stops the run there, and the others are left alone.
-use Rattle.std.proofs.Common.{◌≡◌, ◌<◌, ℕ, Bool, true, List, ◌+◌, length, drop, sym, ◌∙◌, ap, arith}
+use Rattle.std.proofs.Common.{subst, ◌≡◌, ◌<◌, ℕ, Bool, true, List, ◌+◌, length, drop, sym, ◌∙◌, ap, arith}
 use Rattle.std.proofs.lemmas.List.{get_or_default, set-get_or}
 use borrow.Author.Rules.{scaled_Fits}
 use Rattle.ptlines.specs.Readers.{Reader}
@@ -8,7 +8,7 @@ use Rattle.ptflow.specs.Tools.{Tool}
 use Rattle.ptrun.specs.Worlds.{no_reader}
 use Rattle.ptrun.specs.Operands.{places}
 use Rattle.ptrun.proofs.InTurn.{pass_nothing, ready_here, pass_all, pass_unopened, pass_done, pass_stopped}
-use Rattle.ptrun.proofs.Order.{fresh_all, places_next, places_split, places_end, pass_here}
+use Rattle.ptrun.proofs.Order.{fresh_all, places_next, places_split, places_end, pass_here, place_low}
 use Rattle.ptopts.specs.declared.inputs.Input.TheVariants.{Standard}
 use Rattle.ptrun.proofs.operands.go_over_each.Goals as goal
 use Rattle.ptrun.proofs.operands.go_over_each.Goals.{then-is_refused, else-is_refused+in-Ok}
@@ -24,8 +24,8 @@ pub go_over-requires-clause-readable : goal.go_over-requires-clause-readable
 go_over-requires-clause-readable g c =
     let p = c.place_of-place.result in
     let k = c.loop-input.invariant in
-    let low = c.requires.fits c.loop-input.input-index Standard c.loop-input-test.true in
-    let here = get_or_default c.loop-input.inputs p c.index-inputs-place.result no_reader (omega (arith, low, c.place_of-place.ensures, k.same_length)) in
+    let low = place_low c.args.order.now c.loop-input.input-index _ c.requires.fits c.loop-input-test.true c.place_of-place.ensures in
+    let here = get_or_default c.loop-input.inputs p c.index-inputs-place.result no_reader (subst (λ (n : ℕ). p < n) (sym k.same_length) low) in
     (ready_here (fresh_all c.args.inputs.now c.requires.fresh) k p here (sym c.is_refused.ensures.refused ∙ c.if-is_refused.false) c.is_refused.ensures.sound).1
 
 pub loop-input-preserved : goal.loop-input-preserved
@@ -35,8 +35,8 @@ loop-input-preserved g c =
     let now = c.loop-input.inputs in
     let k = c.loop-input.invariant in
     let fresh = fresh_all c.args.inputs.now c.requires.fresh in
-    let low = c.requires.fits i Standard c.loop-input-test.true in
-    let here = get_or_default now p c.index-inputs-place.result no_reader (omega (arith, low, c.place_of-place.ensures, k.same_length)) in
+    let low = place_low c.args.order.now i _ c.requires.fits c.loop-input-test.true c.place_of-place.ensures in
+    let here = get_or_default now p c.index-inputs-place.result no_reader (subst (λ (n : ℕ). p < n) (sym k.same_length) low) in
     let next = places_next c.args.order.now i _ p c.loop-input-test.true c.place_of-place.ensures in
     elim c.if-is_refused.branch [
       | then-is_refused w ↦
@@ -46,7 +46,7 @@ loop-input-preserved g c =
       | else-is_refused+in-Ok w ↦
           let ready = ready_here fresh k p here (sym c.is_refused.ensures.refused ∙ w.if-is_refused.false) c.is_refused.ensures.sound in
           rw (w.inputs-is, w.store-is, w.out-is, w.voice-is, w.done-is, next)
-          (pass_done fresh k p (omega (arith, low, c.place_of-place.ensures)) ready.0 ready.2 (pass_here here w.go_over.ensures) w.in-Ok.is)
+          (pass_done fresh k p low ready.0 ready.2 (pass_here here w.go_over.ensures) w.in-Ok.is)
     ]
 
 pub returns-in-Err : goal.returns-in-Err
@@ -56,12 +56,12 @@ returns-in-Err g c =
     let order = c.args.order.now in
     let k = c.loop-input.invariant in
     let fresh = fresh_all c.args.inputs.now c.requires.fresh in
-    let low = c.requires.fits i Standard c.loop-input-test.true in
-    let here = get_or_default c.loop-input.inputs p c.index-inputs-place.result no_reader (omega (arith, low, c.place_of-place.ensures, k.same_length)) in
+    let low = place_low c.args.order.now i _ c.requires.fits c.loop-input-test.true c.place_of-place.ensures in
+    let here = get_or_default c.loop-input.inputs p c.index-inputs-place.result no_reader (subst (λ (n : ℕ). p < n) (sym k.same_length) low) in
     let ready = ready_here fresh k p here (sym c.is_refused.ensures.refused ∙ c.if-is_refused.false) c.is_refused.ensures.sound in
-    rw c.at_operand.ensures (rw (places_split order i _ p c.loop-input-test.true c.place_of-place.ensures) at
-    (pass_stopped fresh k p (omega (arith, low, c.place_of-place.ensures)) ready.0 ready.2 (pass_here here c.go_over.ensures)
-    (at_end (g.T.OneByOne.tool c.args.tool.now) (g.met.T.OneByOne.all_decided c.args.tool.now)) (drop (i + 1) (places order)) c.in-Err.fault c.in-Err.is))
+    rw c.at_operand.ensures (pass_stopped fresh k p low ready.0 ready.2 (pass_here here c.go_over.ensures)
+    (at_end (g.T.OneByOne.tool c.args.tool.now) (g.met.T.OneByOne.all_decided c.args.tool.now)) (drop (i + 1) (places order))
+    (places_split order i _ p c.loop-input-test.true c.place_of-place.ensures) c.in-Err.is)
 
 pub returns : goal.returns
 returns g c =

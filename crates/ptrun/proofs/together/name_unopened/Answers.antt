@@ -1,12 +1,14 @@
 -- Each turn names one more input, if it could not be opened.
-use Rattle.std.proofs.Common.{◌<◌, ℕ, List, length, take, refl, sym, ◌∙◌, ap, arith}
+use Rattle.std.proofs.Common.{◌<◌, ℕ, List, length, take, refl, sym, ◌∙◌, ap, subst, arith}
 use Rattle.std.proofs.lemmas.List.{get_or_default}
 use borrow.Author.Rules.{scaled_Fits}
 use Rattle.ptlines.specs.Readers.{Reader}
 use Rattle.ptopts.specs.Meant.{words_seen}
 use Rattle.ptrun.specs.Operands.{places}
 use Rattle.ptrun.specs.Worlds.{no_reader, shut}
+use Rattle.ptrun.specs.Sayings.{Tells}
 use Rattle.ptrun.proofs.Sayings.{tells_nothing}
+use Rattle.ptrun.specs.Meanings.{unopened}
 use Rattle.ptrun.proofs.Order.{places_next, places_end}
 use Rattle.ptrun.proofs.Sources.{tells_more, any_now, any_before}
 use Rattle.ptopts.specs.declared.inputs.Input.TheVariants.{Standard}
@@ -59,3 +61,11 @@ pub returns-clause-any : goal.returns-clause-any
 returns-clause-any g c =
     c.loop-input.invariant.any_is
     ∙ ap (λ (l : List ℕ). list_any (shut c.args.inputs.now) l) (places_end c.args.order.now c.loop-input.input-index c.loop-input-test.false)
+
+pub bounds-inputs-place : goal.bounds-inputs-place
+bounds-inputs-place g c = omega (arith, c.requires.fits c.loop-input.input-index Standard c.loop-input-test.true, c.place_of-place.ensures)
+
+pub returns-clause-said : goal.returns-clause-said
+returns-clause-said g c =
+    subst (λ (l : List ℕ). Tells c.args.voice.now c.loop-input.voice (unopened c.args.tool.now (words_seen c.args.names.now) (shut c.args.inputs.now) l))
+    (places_end c.args.order.now c.loop-input.input-index c.loop-input-test.false) c.loop-input.invariant.said

@@ -27,3 +27,6 @@ returns g c = rw c.in_ok-paste.was at (rows_went (paste_job c.args.self.now) c.r
 
 few_of : (order : List Input) → nat_le (length (places order)) 512 ≡ true → length order ≤ 512
 few_of order taken = omega (arith, leb-true (length (places order)) 512 taken, length-map order place)
+
+pub cells_of-requires-clause-few : goal.cells_of-requires-clause-few
+cells_of-requires-clause-few g c = few_of c.args.order.now c.requires.taken

@@ -4,7 +4,7 @@ use Rattle.ptrun.specs.Meanings.{unopened}
 use Rattle.ptrun.specs.Operands.{places}
 use Rattle.ptrun.specs.Sayings.{Tells}
 use Rattle.ptrun.specs.Worlds.{shut}
-use Rattle.ptrun.proofs.Order.{place_fits}
+use Rattle.ptrun.proofs.Order.{place_fits, names_counted}
 use Rattle.ptrun.proofs.JointPasses.{checks_of}
 use Rattle.ptrun.proofs.together.AllTogetherEngine.lacks_inputs.Goals as goal
 
@@ -19,3 +19,6 @@ returns g c =
     (rw c.deref.ensures.value at c.name_unopened.ensures.any)
     (subst (λ (l : List ℕ). Tells c.args.voice.now c.name_unopened.new.voice l)
     (λ i. unopened (c.name.ensures i) (words_seen (c.deref-2.ensures.value i)) (shut inputs) (places (c.deref.ensures.value i))) c.name_unopened.ensures.said)
+
+pub name_unopened-requires-clause-count : goal.name_unopened-requires-clause-count
+name_unopened-requires-clause-count g c = rw c.deref-2.ensures.value (names_counted c.args.self.now.operands.names.items (length c.args.inputs.now) c.requires.named)
