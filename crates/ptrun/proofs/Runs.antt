@@ -51,7 +51,7 @@ reached_of was new pushed empty w = by_known was.taken refl
       front = pushed;
       rest = [];
       split = sym (append-nil pushed);
-      taken = w.kept.is ∙ ap (λ (t : Option (List ℕ)). append_known t w.kept.front) is ∙ sym (ap (λ (t : Option (List ℕ)). append_known t pushed) is);
+      taken = rw (w.kept.is, is) refl;
       whole = λ _ _. refl;
       unknown = λ _. refl;
     }
@@ -75,11 +75,10 @@ reached_of was new pushed empty w = by_known was.taken refl
         some_known same = cc
 
         before_is : append_known (text was) pushed ≡ Some (t ++ pushed)
-        before_is = ap (λ (k : Option (List ℕ)). append_known (append_known k was.staged) pushed) is ∙ ap (λ (l : List ℕ). Some ((t ++ l) ++ pushed)) empty
-            ∙ ap (λ (l : List ℕ). Some (l ++ pushed)) (append-nil t)
+        before_is = rw (is, empty, append-nil t) refl
 
         after_is : text new ≡ Some ((t ++ w.kept.front) ++ new.staged)
-        after_is = ap (λ (k : Option (List ℕ)). append_known k new.staged) (w.kept.is ∙ ap (λ (k : Option (List ℕ)). append_known k w.kept.front) is)
+        after_is = rw (w.kept.is, is) refl
 
         split : pushed ≡ w.kept.front ++ (new.staged ++ w.beginning.front)
         split = append_cancel_left t pushed (w.kept.front ++ (new.staged ++ w.beginning.front))
