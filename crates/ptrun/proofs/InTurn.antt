@@ -108,7 +108,7 @@ module _ {word : List ℕ} {t : Tool} {names : List (List ℕ)} {old : List Read
       within = omega arith;
       said = unopened word names (shut old) done;
       tells = k.tells;
-      names = λ w agrees. unopened_same word names (shut old) (is_unopened w) done (refused_same old now k.gave w k.came agrees) ∙ ap (unopened word names (is_unopened w)) (sym (take-length done));
+      names = λ w agrees. rw (take-length done) (unopened_same word names (shut old) (is_unopened w) done (refused_same old now k.gave w k.came agrees));
       ends = (
         record {
           all = refl;
@@ -120,7 +120,7 @@ module _ {word : List ℕ} {t : Tool} {names : List (List ℕ)} {old : List Read
         λ w agrees. ends_with so_far (list_any (shut old) done) (list_any (is_unopened w) done) k.so_far_is (any_same (shut old) (is_unopened w) done (refused_same old now k.gave w k.came agrees)),
       );
       place = within_any so_far (list_any (shut old) done) k.so_far_is;
-      untouched = λ q other. (k.unread q (ap (λ (l : List ℕ). is_in l q) (sym all_taken) ∙ other)).0;
+      untouched = λ q other. (k.unread q (rw all_taken at other)).0;
       true_so_far = λ w agrees. record { rest = []; is = sym (k.out w agrees) ∙ sym (append-nil k.pushed) };
       told_read = λ q failed clean. absurd (none q failed);
       sure = λ q failed clean. absurd (none q failed);
@@ -171,7 +171,7 @@ module _ {word : List ℕ} {t : Tool} {names : List (List ℕ)} {old : List Read
       unread = λ q unseen. k.unread q (not_more done p q unseen).1;
       pushed = k.pushed;
       wrote = k.wrote;
-      out = λ w agrees. k.out w agrees ∙ ap (λ (l : List (List ℕ)). flat_map t.text l) (sym (nothing w agrees));
+      out = λ w agrees. rw (nothing w agrees) (k.out w agrees);
       tells = tells_more word names (shut old) done p k.tells (rw old_refused says);
       so_far_is = sym (ap done_with (any_now (shut old) done p old_refused));
       clean = k.clean;
@@ -186,7 +186,7 @@ module _ {word : List ℕ} {t : Tool} {names : List (List ℕ)} {old : List Read
         nothing : (w : World) → Allows k.gave w → sources [] w (done ++ p ∷ []) ≡ sources [] w done
         nothing w agrees =
             let none = none_of (at w p) (sym (refused_same old now k.gave w k.came agrees p) ∙ old_refused) in
-            sources_refused [] w done p (ap (λ (v : Option (List ℕ)). option_map (λ (b : List ℕ). cond (is_in done p) [] b) v) none)
+            sources_refused [] w done p (rw none refl)
 
     -- ---- an operand that was opened
 
@@ -326,7 +326,7 @@ module _ {word : List ℕ} {t : Tool} {names : List (List ℕ)} {old : List Read
           → Cause (one_by_one word t names (done ++ p ∷ more)) gave' old now' is'.faulted store'.denied (length done) (blame p fault)
       cause_of more (Read place) r = (
         nth_here done more p,
-        ap (λ (l : List ℕ). is_in l p) (take-append_seam done (p ∷ more)) ∙ unseen r.cause,
+        rw (take-append_seam done (p ∷ more)) (unseen r.cause),
         ⊎_elim (λ f. inl (old_open, ap (λ (r : Reader). r.failed) (sym (k.unread p (unseen r.cause)).0) ∙ calm, ap (λ (n : Reader). n.failed) reader_here ∙ f.0))
             (λ l. inr (rw gave_here (let first = fresh p old_open in omega (arith, l.0, came_here.count, ap length first.held, first.pulled)))) r.cause,
         r.clean,
@@ -405,11 +405,10 @@ module _ {word : List ℕ} {t : Tool} {names : List (List ℕ)} {old : List Read
           within = omega (arith, length-append done (p ∷ more));
           said = unopened word names (shut old) done;
           tells = k.tells;
-          names = λ w agrees. unopened_same word names (shut old) (is_unopened w) done (refused_same old now' gave' w received' agrees)
-              ∙ ap (unopened word names (is_unopened w)) (sym (take-append_seam done (p ∷ more)));
+          names = λ w agrees. rw (take-append_seam done (p ∷ more)) (unopened_same word names (shut old) (is_unopened w) done (refused_same old now' gave' w received' agrees));
           ends = cause_of more fault end;
           place = named_within fault;
-          untouched = λ q other. let n = not_more done p q (ap (λ (l : List ℕ). is_in l q) (sym (take_with done p more)) ∙ other) in reader_other q n.0 ∙ (k.unread q n.1).0;
+          untouched = λ q other. let n = not_more done p q (rw (take_with done p more) at other) in reader_other q n.0 ∙ (k.unread q n.1).0;
           true_so_far = λ w agrees. let f = finds w agrees in let b = e.true_so_far f.0 f.2 in let rest = flat_map t.text (later w more) in record {
             rest = b.rest ++ rest;
             is = out_here w more f ∙ (λ i. sym (k.out w (back w agrees)) i ++ (b.is i ++ rest)) ∙ ap (λ (l : List ℕ). k.pushed ++ l) (append_assoc e.pushed b.rest rest)

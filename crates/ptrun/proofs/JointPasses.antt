@@ -4,7 +4,7 @@
 -- tool with one input did what its one pass did.
 use Rattle.std.proofs.Common.{◌≡◌, ◌⊎◌, ⊎_elim, inl, inr, ℕ, zero, suc, ◌+◌, ◌<◌, ◌≤◌, ◌^◌, ◌||◌, ◌==◌, Bool, true, false, cond, List, [], ◌∷◌, ◌++◌, Option, Some, None, Result, Ok, Err}
 use Rattle.std.proofs.Common.{length, take, drop, get_or, set, refl, sym, ◌∙◌, ap, subst, arith, take-append-drop}
-use Rattle.std.specs.Prelude.{All, unwrap_or, slice_get}
+use Rattle.std.specs.Prelude.{All, slice_get}
 use Rattle.std.specs.List.{list_any}
 use Rattle.std.proofs.lemmas.List.{get_or-set_same, get_or-set_other}
 use Rattle.std.proofs.lemmas.List.Elements.{All-nil, All-cons}
@@ -15,7 +15,7 @@ use Rattle.ptlines.specs.Readers.{Reader, IsSound}
 use Rattle.ptlines.specs.Outputs.{Output}
 use Rattle.ptlines.specs.Slots.{Slots}
 use Rattle.ptlines.specs.Sinks.{SinkState}
-use Rattle.ptlines.specs.Inputs.{Given, nothing_left, Begins, Came}
+use Rattle.ptlines.specs.Inputs.{Given, Begins, Came}
 use Rattle.ptlines.specs.KeepingUp.{Before}
 use Rattle.ptflow.specs.Passes.{Ends, IsPass}
 use Rattle.ptflow.specs.PastePasses.{put_at}
@@ -115,7 +115,7 @@ module _ (word : List ℕ) {t : JointTool} (names : List (List ℕ)) {places : L
   at_other q other = at_place q ∙ ap (λ (b : Bool). cond (shut old q) None (Some (cond b (k.given q) nothing_yet))) other
 
   given_named : (q : ℕ) → is_in places q ≡ true → given_in received q ≡ k.given q
-  given_named q named = ap (λ (o : Option Given). unwrap_or o nothing_left) (at_named q named)
+  given_named q named = rw (at_named q named) refl
 
   came : IsReceived old new received
   came q = ⊎_elim
@@ -140,9 +140,8 @@ module _ (word : List ℕ) {t : JointTool} (names : List (List ℕ)) {places : L
   -- of one input less came, and of the others the same
   put_is : (p : ℕ) (g e : Given) → at received p ≡ Some g → (q : ℕ) → is_in places q ≡ true → given_in (set received p (Some e)) q ≡ put_at p e k.given q
   put_is p g e there = by_place (λ q. is_in places q ≡ true → given_in (set received p (Some e)) q ≡ put_at p e k.given q) p
-      (λ named. ap (λ (o : Option Given). unwrap_or o nothing_left) (at_set received p g e there) ∙ sym (put_here p e k.given))
-      (λ q other named. ap (λ (o : Option Given). unwrap_or o nothing_left) (get_or-set_other received p q (Some e) None (λ same. other (sym same)))
-      ∙ given_named q named ∙ sym (put_other p q e k.given other))
+      (λ named. rw (at_set received p g e there) (sym (put_here p e k.given)))
+      (λ q other named. rw (get_or-set_other received p q (Some e) None (λ same. other (sym same))) (given_named q named ∙ sym (put_other p q e k.given other)))
 
   -- ---- how it ended
 

@@ -101,13 +101,12 @@ sends_behind was mid is pushed bytes wrote clean s = by_known was.taken refl
     by_known : (known : Option (List ℕ)) → was.taken ≡ known → SendsOn was is (pushed ++ bytes)
     by_known None none = record {
       sent = was.staged ++ (pushed ++ bytes);
-      taken = s.taken ∙ ap (λ (k : Option (List ℕ)). append_known k s.sent)
-          (wrote.kept.is ∙ ap (λ (k : Option (List ℕ)). append_known k wrote.kept.front) none) ∙ sym (ap (λ (k : Option (List ℕ)). append_known k (was.staged ++ (pushed ++ bytes))) none);
+      taken = rw (s.taken, wrote.kept.is, none) refl;
       most = omega (arith, length-append was.staged (pushed ++ bytes));
     }
     by_known (Some known) is_known = record {
       sent = wrote.kept.front ++ s.sent;
-      taken = s.taken ∙ ap (λ (k : Option (List ℕ)). append_known k s.sent) wrote.kept.is ∙ append_known-append was.taken wrote.kept.front s.sent;
+      taken = rw (s.taken, wrote.kept.is) (append_known-append was.taken wrote.kept.front s.sent);
       most = omega (
         arith,
         s.most,
