@@ -437,4 +437,5 @@ module _ {word : List ℕ} {t : Tool} {names : List (List ℕ)} {old : List Read
 
         pub pass_stopped : (more : List ℕ) {order : List ℕ} → done ++ p ∷ more ≡ order → {fault : FlowFault} → result ≡ Err fault
             → Went (one_by_one word t names order) old now' was is' told heard before store' (Err (blame p fault))
-        pass_stopped more split {fault} is_err = subst (λ (o : List ℕ). Went (one_by_one word t names o) old now' was is' told heard before store' (Err (blame p fault))) split (stopped more fault is_err)
+        pass_stopped more split {fault} is_err = subst (λ (o : List ℕ). Went (one_by_one word t names o) old now' was is' told heard before store' (Err (blame p fault)))
+            split (stopped more fault is_err)

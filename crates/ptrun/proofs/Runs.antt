@@ -189,9 +189,7 @@ lacking {m} {old} {told = told} {heard = heard} fresh fine k lacks =
     let same = refused_same old old (map received_of old) w (nothing_read old (fresh_all old fresh)) agrees in
     let nothing = k.nothing lacks w same in (
       nothing.0,
-      unopened_same m.tool m.names (shut old) (is_unopened w) m.places same
-          ∙ ap (unopened m.tool m.names (is_unopened w)) (sym (take-length m.places)) ∙ sym (append-nil (named m w (length m.places)))
-          ∙ ap (λ (l : List ℕ). named m w (length m.places) ++ l) (sym nothing.1),
+      rw (nothing.1, take-length m.places, append-nil (unopened m.tool m.names (is_unopened w) m.places)) (unopened_same m.tool m.names (shut old) (is_unopened w) m.places same),
       sym nothing.2,
     ))
 
