@@ -1,5 +1,5 @@
 -- What is asked for by words, as the command that was read of them says it.
-use Rattle.std.proofs.Common.{◌≡◌, ⊎_elim, ℕ, ◌+◌, ◌<◌, ◌==◌, Bool, true, false, cond, List, Option, Some, None, Result, Ok, Err, length, refl, ◌∙◌, ap, sym, subst, arith}
+use Rattle.std.proofs.Common.{◌≡◌, ⊎_elim, ℕ, ◌+◌, ◌<◌, ◌==◌, Bool, true, false, cond, List, Option, Some, None, Result, Ok, Err, length, refl, ◌∙◌, ap, sym, arith}
 use Rattle.std.specs.Prelude.{All, is_none, not, nat_le}
 use Rattle.std.proofs.lemmas.List.{length-map}
 use Rattle.std.proofs.lemmas.List.Elements.{All-map}
@@ -44,7 +44,7 @@ refused_in words (Some f) m = ap (meaning_in (tool_word words)) m
 -- words that were refused
 pub asked_refused : {A : Type 0} (command : Result (code.Command A) UseFault) (words : List (List ℕ)) (fault : UseFault) → command ≡ Err fault → IsMeant command (meaning words)
     → asked_as command words ≡ saying (said_of (tool_word words) (meant fault)) (status_of (meant fault))
-asked_refused command words fault is m = rw is (refused_in words (meant fault) (subst (λ r. IsMeant r (meaning words)) is m))
+asked_refused command words fault is m = rw is (refused_in words (meant fault) (rw is at m))
 
 place_differs : (a b : Input) → (a ≡ b → ⊥) → (place a == place b) ≡ false
 place_differs Standard Standard differ = absurd (differ refl)
@@ -80,7 +80,7 @@ given_spelled : (words : List (List ℕ)) (c : Command) (readers : List Reader) 
 given_spelled words c readers (Spelled name rest tool os operands named s allowed) fresh =
     let is = are_over c.job c.order c.names (are_taken tool os operands allowed.inputs) in record {
       fresh = fresh.1;
-      fits = subst (λ (l : List ℕ). All (λ (p : ℕ). p < length readers) l) (sym is.placed) (All-map (λ (p : ℕ). p < length readers) place c.order
+      fits = rw is.placed (All-map (λ (p : ℕ). p < length readers) place c.order
           (λ k d within. omega (arith, places_within 0 (inputs tool operands) k d within, fresh.0)));
       named = fresh.0 ∙ ap (λ (l : List (List ℕ)). length l + 1) (sym is.named);
       taken = is.taken;
@@ -95,6 +95,4 @@ operands_given command words c readers is m fresh = given_spelled words (seen c)
 pub headline_asked : {A : Type 0} (command : Result (code.Command A) UseFault) (words : List (List ℕ)) (old new : List Reader) (before : Sinks) (o : Outcome)
     → All IsFresh old → IsRun (asked_as command words) old new before o
     → is_denied command ≡ false → Headline (asked words) old new before o
-headline_asked command words old new before o fresh run roomy =
-    let same : asked_as command words ≡ asked words = rw roomy refl in
-    subst (λ (m : Meaning). Headline m old new before o) same (headline_of (asked_as command words) old new before o fresh run)
+headline_asked command words old new before o fresh run roomy = rw roomy at (headline_of (asked_as command words) old new before o fresh run)

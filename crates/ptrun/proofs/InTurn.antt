@@ -1,24 +1,20 @@
 -- A tool that goes over its operands, one after another.
-use Rattle.std.proofs.Common.{◌≡◌, ◌≢◌, ⊎_elim, inl, inr, ℕ, ◌<◌, ◌≤◌, ◌||◌, Bool, true, false, cond, List, [], ◌∷◌, ◌++◌, Option, Some, None, Result, Ok}
-use Rattle.std.proofs.Common.{Err, ◌+◌, length, map, set, max, refl, sym, ◌∙◌, ap, subst, arith, append_assoc, length-append, length-set}
+use Rattle.std.proofs.Common.{◌≡◌, ◌≢◌, ◌⊎◌, ⊎_elim, inl, inr, ℕ, ◌<◌, ◌≤◌, Bool, true, false, cond, List, [], ◌∷◌, ◌++◌, Option, Some, None, Result, Ok}
+use Rattle.std.proofs.Common.{Err, ◌+◌, length, take, map, set, max, refl, sym, ◌∙◌, ap, subst, arith, append_assoc, length-append, length-set}
 use Rattle.std.specs.Prelude.{flat_map, option_map}
 use Rattle.std.specs.List.{list_any}
 use Rattle.std.proofs.lemmas.List.{append-nil, take_all, map-append, get_or-set_same, get_or-set_other, length-map}
-use Rattle.std.proofs.Math.ListN.{get_or-map}
 use Rattle.std.proofs.Math.Seq.{take-append_seam, take-length}
 use Rattle.std.proofs.lemmas.List.Concat.{flat_map-append}
 use Rattle.std.proofs.lemmas.Bool.{false≢true}
-use Rattle.ptlines.specs.Readers.{Reader}
+use Rattle.ptlines.specs.Readers.{Reader, IsSound, HasReadCause}
 use Rattle.ptlines.specs.Outputs.{Output, Wrote}
 use Rattle.ptlines.specs.Slots.{Slots, total}
 use Rattle.ptlines.specs.Sinks.{SinkState}
 use Rattle.ptlines.proofs.Pushed.{wrote_trans, wrote_nothing}
-use Rattle.ptlines.specs.Inputs.{Given, nothing_left}
-use Rattle.ptlines.specs.Inputs.{Begins, Came}
-use Rattle.ptflow.specs.Passes.{Ends, IsPass}
+use Rattle.ptlines.specs.Inputs.{Given, nothing_left, Agrees, Begins, Came}
+use Rattle.ptflow.specs.Passes.{Finished, Ends, IsPass}
 use Rattle.ptflow.specs.Tools.{Tool}
-use Rattle.ptlines.specs.Inputs as one
-use Rattle.ptflow.specs.Passes as pass
 use Rattle.ptflow.specs.declared.faults.FlowFault.{FlowFault}
 use Rattle.ptflow.specs.declared.faults.FlowFault.TheVariants.{Read, Write, Memory}
 use Rattle.ptrun.specs.Worlds.{World, Received, at, is_unopened, AllowsAt, Allows, is_in, found, founds, opened, sources, reader_at, no_reader, shut, CameAt}
@@ -26,7 +22,7 @@ use Rattle.ptrun.specs.Worlds.{IsReceived, IsFresh, HasFailed, IsTooLong}
 use Rattle.ptrun.specs.Sayings.{Tells}
 use Rattle.ptrun.specs.Meanings.{unopened}
 use Rattle.ptrun.specs.Messages.{not_opened, name_of}
-use Rattle.ptlines.specs.KeepingUp.{SendsOn, KeepsUp}
+use Rattle.ptlines.specs.KeepingUp.{KeepsUp}
 use Rattle.ptrun.specs.KeepingUp.{PassedOn, LastEarlier}
 use Rattle.ptrun.proofs.KeepingUp.{all_earlier, last_earlier, sends_now, sends_behind}
 use Rattle.ptrun.specs.Operands.{decided_of, largest, up_to_open, each_out, each_bound, each_decided, one_by_one}
@@ -34,12 +30,11 @@ use Rattle.ptrun.specs.declared.engine.Done.{Done}
 use Rattle.ptrun.specs.declared.engine.Done.TheVariants.{Whole, Unopened}
 use Rattle.ptrun.specs.Runs.{Cause}
 use Rattle.ptrun.specs.Engines.{blame, last_words, status_after, IsWithin, Went}
-use Rattle.ptrun.proofs.Sayings.{tells_trans, tells_nothing}
-use Rattle.ptrun.proofs.Sources.{is_in-same, is_in-other, same_or_other, at_each, sources_at, sources_opened, sources_refused, unopened_more, unopened_same}
-use Rattle.ptrun.proofs.Sources.{any_same, any_more, largest-append, take_with, EndedAt, least, decided_founds}
-use Rattle.ptrun.proofs.OnePlace.{IsSpent, nothing_yet, IfSeen, PlaceIs, done_with, place_refused, any_seen, came_trans, ended_gives_nothing, Ready, ready_of, place_unfailed, unseen_same, came_at}
-use Rattle.ptrun.proofs.OnePlace.{refused_at, refused_same, none_of, agreed, fits, agrees_before}
-use Rattle.ptrun.proofs.OnePlace.{agrees_some, received_of, start_place, not_long, unseen_of, not_seen_long, agrees_least, ended_at, nth_here}
+use Rattle.ptrun.proofs.Sayings.{tells_nothing}
+use Rattle.ptrun.proofs.Sources.{is_in-other, not_more, named_or_not, same_or_other, by_place, sources_opened, sources_refused, unopened_same}
+use Rattle.ptrun.proofs.Sources.{any_same, any_now, any_before, tells_more, largest-append, take_with, EndedAt, least, decided_founds}
+use Rattle.ptrun.proofs.OnePlace.{IsSpent, nothing_yet, done_with, received_of, received_at, nothing_read, never_long, not_long, opened_came, still_refused, came_trans, ended_gives_nothing}
+use Rattle.ptrun.proofs.OnePlace.{refused_same, none_of, agreed, agrees_before, agrees_whole, agrees_some, agrees_least, ended_at, nth_here}
 
 -- the operands that are done
 pub record Pass (word : List ℕ) (t : Tool) (names : List (List ℕ)) (old now : List Reader) (was is : Output) (told heard : SinkState) (before store : Slots)
@@ -47,7 +42,9 @@ pub record Pass (word : List ℕ) (t : Tool) (names : List (List ℕ)) (old now 
   pub gave : Received
   pub same_length : length now ≡ length old
   pub long : length gave ≡ length old
-  pub places : (q : ℕ) → PlaceIs (is_in done q) (reader_at old q) (reader_at now q) (at gave q)
+  pub came : IsReceived old now gave
+  pub spent : (q : ℕ) → is_in done q ≡ true → shut old q ≡ false → IsSpent (reader_at now q)
+  pub unread : (q : ℕ) → is_in done q ≡ false → (reader_at now q ≡ reader_at old q) × (at gave q ≡ received_of (reader_at old q))
   pub pushed : List ℕ
   pub wrote : Wrote was is pushed
   pub out : (w : World) → Allows gave w → pushed ≡ each_out t w done
@@ -58,13 +55,15 @@ pub record Pass (word : List ℕ) (t : Tool) (names : List (List ℕ)) (old now 
   pub empty : total store.lines ≡ 0
   pub peak : (w : World) → Allows gave w → store.peak ≤ max before.peak (each_bound t w done)
 
-module _ (word : List ℕ) (t : Tool) (names : List (List ℕ)) (old : List Reader) (fresh : (q : ℕ) → IsFresh (reader_at old q)) (was : Output) (told : SinkState) (before : Slots) where
+module _ {word : List ℕ} {t : Tool} {names : List (List ℕ)} {old : List Reader} {was : Output} {told : SinkState} {before : Slots} (fresh : (q : ℕ) → IsFresh (reader_at old q)) where
   pub pass_nothing : was.faulted ≡ false → before.denied ≡ false → total before.lines ≡ 0 → Pass word t names old old was was told told before before [] Whole
   pass_nothing clean roomy empty = record {
     gave = map received_of old;
     same_length = refl;
     long = length-map old received_of;
-    places = λ q. subst (λ (o : Option Given). PlaceIs false (reader_at old q) (reader_at old q) o) (sym (get_or-map received_of old q no_reader)) (start_place (reader_at old q));
+    came = nothing_read old fresh;
+    spent = λ q seen. absurd (false≢true seen);
+    unread = λ q unseen. (refl, received_at old q);
     pushed = [];
     wrote = wrote_nothing was;
     out = λ w agrees. refl;
@@ -76,417 +75,367 @@ module _ (word : List ℕ) (t : Tool) (names : List (List ℕ)) (old : List Read
     peak = λ w agrees. omega arith;
   }
 
-  -- all that the operands that are done decided was pushed
-  works_all : ((g : Given) → g.ended ≡ true → t.decided g ≡ t.text g.bytes)
-      → (now : List Reader) (is : Output) (heard : SinkState) (store : Slots) (order : List ℕ) (so_far : Done) (k : Pass word t names old now was is told heard before store order so_far)
-      → Begins (each_decided t k.gave order) k.pushed
-  works_all law now is heard store order so_far k = record { rest = []; is = sym all ∙ sym (append-nil (each_decided t k.gave order)) }
-    where
-      all : each_decided t k.gave order ≡ k.pushed
-      all =
-          ap (λ (l : List Given). flat_map t.decided (up_to_open l)) (sym (append-nil (sources nothing_left k.gave order)))
-          ∙ decided_founds t law k.gave [] order [] (λ q seen. ended_at (reader_at old q) (reader_at now q) (at k.gave q)
-          (subst (λ (b : Bool). PlaceIs b (reader_at old q) (reader_at now q) (at k.gave q)) seen (k.places q)))
-          ∙ append-nil (each_out t (least k.gave) order) ∙ sym (k.out (least k.gave) (agrees_least k.gave))
+  module _ {now : List Reader} {is : Output} {heard : SinkState} {store : Slots} {done : List ℕ} {so_far : Done} (k : Pass word t names old now was is told heard before store done so_far) where
+    was_refused : (q : ℕ) → shut old q ≡ (reader_at now q).refused
+    was_refused q = sym (still_refused (reader_at old q) (reader_at now q) (at k.gave q) (k.came q))
 
-  pub keeps_all : ((g : Given) → g.ended ≡ true → t.decided g ≡ t.text g.bytes)
-      → (now : List Reader) (is : Output) (heard : SinkState) (store : Slots) (order : List ℕ) (so_far : Done) (k : Pass word t names old now was is told heard before store order so_far)
-      → LastEarlier t (sources nothing_left k.gave order) (λ decided. PassedOn decided was is k.pushed)
-  keeps_all law now is heard store order so_far k =
-      let works = works_all law now is heard store order so_far k in
-      all_earlier t (sources nothing_left k.gave order) (λ decided. PassedOn decided was is k.pushed)
-      (record { begins = works; sends = sends_now was is k.pushed (each_decided t k.gave order) k.wrote k.clean works })
+    calm_now : (q : ℕ) → shut old q ≡ false → (reader_at old q).failed ≡ false → (reader_at now q).failed ≡ false
+    calm_now q opened calm = ⊎_elim (λ seen. (k.spent q seen opened).failed) (λ unseen. ap (λ (r : Reader). r.failed) (k.unread q unseen).0 ∙ calm) (named_or_not done q)
 
-  pub pass_all : (now : List Reader) (is : Output) (heard : SinkState) (store : Slots) (order : List ℕ) (so_far : Done)
-      → (k : Pass word t names old now was is told heard before store order so_far) → LastEarlier t (sources nothing_left k.gave order) (λ decided. PassedOn decided was is k.pushed)
-      → Went (one_by_one word t names order) old now was is told heard before store (Ok so_far)
-  pass_all now is heard store order so_far k up = record {
-    received = k.gave;
-    came = came;
-    pushed = k.pushed;
-    wrote = k.wrote;
-    behind = length order;
-    within = omega arith;
-    said = unopened word names (shut old) order;
-    tells = k.tells;
-    names = λ w agrees. unopened_same word names (shut old) (is_unopened w) order (refused_same old now k.gave w came agrees) ∙ ap (unopened word names (is_unopened w)) (sym (take-length order));
-    ends = (
-      record {
-        all = refl;
-        out = k.out;
-        written = k.clean;
-        roomy = k.roomy;
-        read = λ q. ⊎_elim (λ failed. none q failed) (λ long. not_long (is_in order q) (reader_at old q) (reader_at now q) (at k.gave q) (fresh q) (k.places q) long);
-      },
-      λ w agrees. ends_with so_far (list_any (shut old) order) (list_any (is_unopened w) order) k.so_far_is (any_same (shut old) (is_unopened w) order (refused_same old now k.gave w came agrees)),
-    );
-    place = within_any so_far (list_any (shut old) order) k.so_far_is;
-    untouched = λ q other. unseen_same (is_in order q) (reader_at old q) (reader_at now q) (at k.gave q)
-        (ap (λ (l : List ℕ). is_in l q) (sym (take_all (length order + 1) order (omega arith))) ∙ other) (k.places q);
-    true_so_far = λ w agrees. record { rest = []; is = sym (k.out w agrees) ∙ sym (append-nil k.pushed) };
-    told_read = λ q failed clean. absurd (none q failed);
-    sure = λ q failed clean. absurd (none q failed);
-    keeps_up = subst (λ (l : List ℕ). LastEarlier t (sources nothing_left k.gave l) (λ decided. PassedOn decided was is k.pushed)) (sym (take_all (length order + 1) order (omega arith))) up;
-    peak = k.peak;
-  }
-    where
-      came : IsReceived old now k.gave
-      came q = came_at (is_in order q) (reader_at old q) (reader_at now q) (at k.gave q) (fresh q) (k.places q)
+    ended_now : (q : ℕ) → is_in done q ≡ true → EndedAt (at k.gave q)
+    ended_now q seen = ended_at (reader_at old q) (reader_at now q) (at k.gave q) (k.came q) (k.spent q seen)
 
-      none : (q : ℕ) → HasFailed old now q → ⊥
-      none q failed = false≢true (sym (place_unfailed (is_in order q) (reader_at old q) (reader_at now q) (at k.gave q) failed.1 (k.places q)) ∙ failed.2)
+    asked_now : (q : ℕ) → shut old q ≡ false → ((reader_at now q).held ≡ []) × ((reader_at now q).fault ≡ None)
+    asked_now q opened = ⊎_elim (λ seen. let s = k.spent q seen opened in (s.done.held, s.fault))
+        (λ unseen. let new = fresh q opened in rw (k.unread q unseen).0 (new.held, new.fault)) (named_or_not done q)
 
-      ends_with : (done : Done) (any closed : Bool) → done ≡ done_with any → any ≡ closed → (last_words word names (Ok done) ≡ []) × (status_after (Ok done) ≡ cond closed 1 0)
-      ends_with done true closed is same = rw (is, sym same) (refl, refl)
-      ends_with done false closed is same = rw (is, sym same) (refl, refl)
+    -- a reader that was opened can be asked
+    pub ready_here : (p : ℕ) {r : Reader} → r ≡ reader_at now p → r.refused ≡ false → IsSound r → ((reader_at now p).refused ≡ false) × (r.fault ≡ None) × ((reader_at now p).failed ≡ false)
+    ready_here p here opened sound =
+        let is_open = ap (λ (r : Reader). r.refused) (sym here) ∙ opened in
+        let fault = ap (λ (r : Reader). r.fault) here ∙ (asked_now p (was_refused p ∙ is_open)).1 in
+        (is_open, fault, rw here at (sound.unfailed opened fault))
 
-      within_any : (done : Done) (any : Bool) → done ≡ done_with any → IsWithin (length old) (Ok done)
-      within_any done true is = rw is tt
-      within_any done false is = rw is tt
+    -- ---- all operands are done
 
-  -- ---- an operand that could not be opened
-
-  pub pass_unopened : (now : List Reader) (is : Output) (heard heard' : SinkState) (store : Slots) (done : List ℕ) (so_far : Done) (p : ℕ)
-      → Pass word t names old now was is told heard before store done so_far → (reader_at now p).refused ≡ true
-      → Tells heard heard' (not_opened word (name_of names p)) → Pass word t names old now was is told heard' before store (done ++ p ∷ []) Unopened
-  pass_unopened now is heard heard' store done so_far p k refused says = record {
-    gave = k.gave;
-    same_length = k.same_length;
-    long = k.long;
-    places = places;
-    pushed = k.pushed;
-    wrote = k.wrote;
-    out = λ w agrees. k.out w agrees ∙ ap (λ (l : List (List ℕ)). flat_map t.text l) (sym (nothing w agrees));
-    tells = subst (λ (l : List ℕ). Tells told heard' l) (sym (unopened_more word names (shut old) done p
-        ∙ ap (λ (b : Bool). unopened word names (shut old) done ++ cond b (not_opened word (name_of names p)) []) old_refused))
-        (tells_trans told heard heard' (unopened word names (shut old) done) (not_opened word (name_of names p)) k.tells says);
-    so_far_is = sym (ap done_with (any_more (shut old) done p ∙ ap (λ (b : Bool). list_any (shut old) done || b) old_refused ∙ or_true (list_any (shut old) done)));
-    clean = k.clean;
-    roomy = k.roomy;
-    empty = k.empty;
-    peak = λ w agrees. subst (λ (l : List (List ℕ)). store.peak ≤ max before.peak (largest (map t.size l))) (sym (nothing w agrees)) (k.peak w agrees);
-  }
-    where
-      or_true : (b : Bool) → (b || true) ≡ true
-      or_true true = refl
-      or_true false = refl
-
-      old_refused : (reader_at old p).refused ≡ true
-      old_refused = sym (place_refused (is_in done p) (reader_at old p) (reader_at now p) (at k.gave p) (k.places p)) ∙ refused
-
-      places : (q : ℕ) → PlaceIs (is_in (done ++ p ∷ []) q) (reader_at old q) (reader_at now q) (at k.gave q)
-      places q = ⊎_elim (λ same. any_seen (is_in done q) (is_in (done ++ p ∷ []) q) (reader_at old q) (reader_at now q) (at k.gave q)
-          (ap (λ (n : ℕ). (reader_at old n).refused) (sym same) ∙ old_refused) (k.places q))
-          (λ other. subst (λ (b : Bool). PlaceIs b (reader_at old q) (reader_at now q) (at k.gave q)) (sym (is_in-other done p q other)) (k.places q)) (same_or_other p q)
-
-      nothing : (w : World) → Allows k.gave w → sources [] w (done ++ p ∷ []) ≡ sources [] w done
-      nothing w agrees =
-          let none = none_of (at w p) (sym (refused_at (reader_at old p) (reader_at now p) (at k.gave p) (at w p)
-          (came_at (is_in done p) (reader_at old p) (reader_at now p) (at k.gave p) (fresh p) (k.places p)) (agrees p)) ∙ old_refused) in
-          sources_refused [] w done p (ap (λ (v : Option (List ℕ)). option_map (λ (b : List ℕ). cond (is_in done p) [] b) v) none)
-
-  -- ---- an operand that was opened
-
-  module _ (now : List Reader) (is is' : Output) (heard : SinkState) (store store' : Slots) (done : List ℕ) (so_far : Done) (p : ℕ) (new : Reader) (result : Result (Unit {0}) FlowFault)
-      (k : Pass word t names old now was is told heard before store done so_far) (within : p < length old) (is_open : (reader_at now p).refused ≡ false) (calm : (reader_at now p).failed ≡ false)
-      (e : IsPass t (reader_at now p) new is is' store store' result) where
-    abbrev pub y : Ready (is_in done p) (reader_at old p) (reader_at now p) (at k.gave p)
-    y = ready_of (is_in done p) (reader_at old p) (reader_at now p) (at k.gave p) (fresh p) is_open (k.places p)
-
-    abbrev pub given_now : Given → Given
-    given_now g = record { bytes = g.bytes ++ e.given.bytes; ended = e.given.ended }
-
-    in_now : p < length now
-    in_now = subst (λ (n : ℕ). p < n) (sym k.same_length) within
-
-    in_gave : p < length k.gave
-    in_gave = subst (λ (n : ℕ). p < n) (sym k.long) within
-
-    given' : Given
-    given' = given_now y.g
-
-    abbrev pub gave' : Received
-    gave' = set k.gave p (Some (given_now y.g))
-
-    abbrev pub now' : List Reader
-    now' = set now p new
-
-    reader_here : reader_at now' p ≡ new
-    reader_here = get_or-set_same now p new _ in_now
-
-    gave_here : at gave' p ≡ Some (given_now y.g)
-    gave_here = get_or-set_same k.gave p (Some (given_now y.g)) None in_gave
-
-    came_here : Came (reader_at old p) new (given_now y.g)
-    came_here = came_trans (reader_at old p) (reader_at now p) new y.g e.given y.came e.came y.held
-
-    pub received' : IsReceived old now' gave'
-    received' = at_each (λ (q : ℕ) (r : Reader) (o : Option Given). CameAt (reader_at old q) r o) now k.gave p new _ (Some (given_now y.g)) None in_now in_gave
-        (λ q other. came_at (is_in done q) (reader_at old q) (reader_at now q) (at k.gave q) (fresh q) (k.places q)) (y.opened, came_here)
-
-    still : y.g.ended ≡ true → (e.given.bytes ≡ []) × (e.given.ended ≡ true)
-    still ended = ended_gives_nothing (reader_at now p) new e.given e.came y.held (sym y.came.ended ∙ ended)
-
-    -- the world agrees with what came before
-    pub back : (w : World) → Allows gave' w → Allows k.gave w
-    back w agrees q = ⊎_elim same other (same_or_other p q)
-      where
-        here : (b : List ℕ) × (at w p ≡ Some b) × one.Agrees (given_now y.g) b
-        here = agreed (at gave' p) (at w p) (given_now y.g) gave_here (agrees p)
-
-        same : p ≡ q → AllowsAt (at k.gave q) (at w q)
-        same is_q = subst (λ (n : ℕ). AllowsAt (at k.gave n) (at w n)) is_q
-            (agrees_some (at k.gave p) (at w p) y.g y.is (λ b is_b. agrees_before y.g e.given b still
-            (subst (λ (c : List ℕ). one.Agrees (given_now y.g) c) (some_same (sym here.1 ∙ is_b)) here.2)) here.0 here.1)
-          where
-            some_same : {a b : List ℕ} → Some a ≡ Some b → a ≡ b
-            some_same is_same = cc
-
-        other : p ≢ q → AllowsAt (at k.gave q) (at w q)
-        other differs = subst (λ (o : Option Given). AllowsAt o (at w q)) (get_or-set_other k.gave p q (Some (given_now y.g)) None (λ is_p. differs (sym is_p))) (agrees q)
-
-    -- what the operand finds in a world, which agrees with what came in the call
-    pub record Finds (w : World) : Type 0 where
-      pub bytes : List ℕ
-      pub is_found : found [] w done p ≡ Some bytes
-      pub agrees : one.Agrees e.given bytes
-
-    pub finds : (w : World) → Allows gave' w → Finds w
-    finds w agrees =
-        let here = agreed (at gave' p) (at w p) (given_now y.g) gave_here (agrees p) in
+    pub pass_all : ((g : Given) → g.ended ≡ true → t.decided g ≡ t.text g.bytes) → Went (one_by_one word t names done) old now was is told heard before store (Ok so_far)
+    pass_all law = record {
+      received = k.gave;
+      came = k.came;
+      pushed = k.pushed;
+      wrote = k.wrote;
+      behind = length done;
+      within = omega arith;
+      said = unopened word names (shut old) done;
+      tells = k.tells;
+      names = λ w agrees. rw (take-length done) (unopened_same word names (shut old) (is_unopened w) done (refused_same old now k.gave w k.came agrees));
+      ends = (
         record {
-          bytes = cond (is_in done p) [] here.0;
-          is_found = ap (λ (v : Option (List ℕ)). option_map (λ (b : List ℕ). cond (is_in done p) [] b) v) here.1;
-          agrees = fits (is_in done p) (reader_at old p) (reader_at now p) new y.g e.given y.if_seen e.came here.0 here.2;
-        }
-
-    sources_here : (w : World) (more : List ℕ) (f : Finds w) → sources [] w (done ++ p ∷ more) ≡ sources [] w done ++ f.bytes ∷ opened (founds [] w (done ++ p ∷ []) more)
-    sources_here w more f = sources_opened [] w done p more f.bytes f.is_found
-
-    out_here : (w : World) (more : List ℕ) (f : Finds w) → each_out t w (done ++ p ∷ more) ≡ each_out t w done ++ (t.text f.bytes ++ flat_map t.text (opened (founds [] w (done ++ p ∷ []) more)))
-    out_here w more f = ap (λ (l : List (List ℕ)). flat_map t.text l) (sources_here w more f) ∙ flat_map-append t.text (sources [] w done) (f.bytes ∷ opened (founds [] w (done ++ p ∷ []) more))
-
-    bound_here : (w : World) (more : List ℕ) (f : Finds w) → max (each_bound t w done) (t.size f.bytes) ≤ each_bound t w (done ++ p ∷ more)
-    bound_here w more f =
-        let all : each_bound t w (done ++ p ∷ more) ≡ largest (map t.size (sources [] w done) ++ map t.size (f.bytes ∷ opened (founds [] w (done ++ p ∷ []) more))) =
-        ap (λ (l : List (List ℕ)). largest (map t.size l)) (sources_here w more f) ∙ ap largest (map-append t.size (sources [] w done) (f.bytes ∷ opened (founds [] w (done ++ p ∷ []) more))) in
-        omega (arith, all, largest-append (map t.size (sources [] w done)) (map t.size (f.bytes ∷ opened (founds [] w (done ++ p ∷ []) more))))
-
-    peak_here : (w : World) (more : List ℕ) → Allows gave' w → store'.peak ≤ max before.peak (each_bound t w (done ++ p ∷ more))
-    peak_here w more agrees = let f = finds w agrees in omega (arith, bound_here w more f, e.peak f.bytes f.agrees, k.peak w (back w agrees))
-
-    wrote_here : Wrote was is' (k.pushed ++ e.pushed)
-    wrote_here = wrote_trans was is is' k.pushed e.pushed k.clean k.wrote e.wrote
-
-    -- it was read to its end
-    pub pass_done : result ≡ Ok tt → Pass word t names old now' was is' told heard before store' (done ++ p ∷ []) so_far
-    pass_done ok = record {
-      gave = gave';
-      same_length = length-set now p new ∙ k.same_length;
-      long = length-set k.gave p (Some (given_now y.g)) ∙ k.long;
-      places = at_each (λ (q : ℕ) (r : Reader) (o : Option Given). PlaceIs (is_in (done ++ p ∷ []) q) (reader_at old q) r o) now k.gave p new _ (Some (given_now y.g)) None in_now in_gave
-          (λ q other. subst (λ (b : Bool). PlaceIs b (reader_at old q) (reader_at now q) (at k.gave q)) (sym (is_in-other done p q other)) (k.places q))
-          (y.opened, subst (λ (b : Bool). IfSeen b (reader_at old p) new (given_now y.g)) (sym (is_in-same done p)) (came_here, spent));
-      pushed = k.pushed ++ e.pushed;
-      wrote = wrote_here;
-      out = λ w agrees. let f = finds w agrees in
-          (λ i. k.out w (back w agrees) i ++ (e.whole ok ∙ ap t.text (sym (all f.bytes f.agrees)) ∙ sym (append-nil (t.text f.bytes))) i) ∙ sym (out_here w [] f);
-      tells = subst (λ (l : List ℕ). Tells told heard l) (sym (unopened_more word names (shut old) done p
-          ∙ ap (λ (b : Bool). unopened word names (shut old) done ++ cond b (not_opened word (name_of names p)) []) y.opened ∙ append-nil (unopened word names (shut old) done))) k.tells;
-      so_far_is = k.so_far_is ∙ sym (ap done_with (any_more (shut old) done p ∙ ap (λ (b : Bool). list_any (shut old) done || b) y.opened ∙ or_false (list_any (shut old) done)));
-      clean = end.clean;
-      roomy = end.denied;
-      empty = end.empty;
-      peak = λ w agrees. peak_here w [] agrees;
+          all = refl;
+          out = k.out;
+          written = k.clean;
+          roomy = k.roomy;
+          read = λ q. ⊎_elim (none q) (short q);
+        },
+        λ w agrees. ends_with so_far (list_any (shut old) done) (list_any (is_unopened w) done) k.so_far_is (any_same (shut old) (is_unopened w) done (refused_same old now k.gave w k.came agrees)),
+      );
+      place = within_any so_far (list_any (shut old) done) k.so_far_is;
+      untouched = λ q other. (k.unread q (rw all_taken at other)).0;
+      true_so_far = λ w agrees. record { rest = []; is = sym (k.out w agrees) ∙ sym (append-nil k.pushed) };
+      told_read = λ q failed clean. absurd (none q failed);
+      sure = λ q failed clean. absurd (none q failed);
+      keeps_up = rw all_taken
+          (all_earlier t (sources nothing_left k.gave done) (λ decided. PassedOn decided was is k.pushed)
+          (record { begins = works; sends = sends_now was is k.pushed (each_decided t k.gave done) k.wrote k.clean works }));
+      peak = k.peak;
     }
       where
-        or_false : (b : Bool) → (b || false) ≡ b
-        or_false true = refl
-        or_false false = refl
+        all_taken : take (length done + 1) done ≡ done
+        all_taken = take_all (length done + 1) done (omega arith)
 
-        end : pass.Finished (reader_at now p) new is' store'
-        end = subst (λ (r : Result (Unit {0}) FlowFault). Ends (reader_at now p) new is' store' r) ok e.ends
+        none : (q : ℕ) → HasFailed old now q → ⊥
+        none q failed = false≢true (sym (calm_now q failed.0 failed.1) ∙ failed.2)
 
-        spent : IsSpent new
-        spent = record { done = end.done; fault = end.fault; failed = end.failed ∙ calm; short = end.short }
+        short : (q : ℕ) → IsTooLong (at k.gave q) → ⊥
+        short q long = ⊎_elim (λ seen. not_long (reader_at old q) (reader_at now q) (at k.gave q) (fresh q) (k.came q) (λ opened. (k.spent q seen opened).short) long)
+            (λ unseen. never_long (reader_at old q) (rw (k.unread q unseen).1 at long)) (named_or_not done q)
 
-        all : (b : List ℕ) → one.Agrees e.given b → b ≡ e.given.bytes
-        all b a = a.is ∙ ap (λ (l : List ℕ). e.given.bytes ++ l) (a.whole (e.came.ended ∙ end.done.ended)) ∙ append-nil e.given.bytes
+        ends_with : (done : Done) (any closed : Bool) → done ≡ done_with any → any ≡ closed → (last_words word names (Ok done) ≡ []) × (status_after (Ok done) ≡ cond closed 1 0)
+        ends_with done true closed is same = rw (is, sym same) (refl, refl)
+        ends_with done false closed is same = rw (is, sym same) (refl, refl)
 
-    -- ---- it stopped in this operand
+        within_any : (done : Done) (any : Bool) → done ≡ done_with any → IsWithin (length old) (Ok done)
+        within_any done true is = rw is tt
+        within_any done false is = rw is tt
 
-    other_failed : (q : ℕ) → p ≢ q → HasFailed old now' q → ⊥
-    other_failed q differs failed =
-        let same = get_or-set_other now p q new no_reader (λ is_p. differs (sym is_p)) in
-        false≢true (sym (place_unfailed (is_in done q) (reader_at old q) (reader_at now q) (at k.gave q) failed.1 (k.places q)) ∙ ap (λ (r : Reader). r.failed) (sym same) ∙ failed.2)
+        -- all that they decided was pushed
+        all_decided : each_decided t k.gave done ≡ k.pushed
+        all_decided =
+            ap (λ (l : List Given). flat_map t.decided (up_to_open l)) (sym (append-nil (sources nothing_left k.gave done))) ∙ decided_founds t law k.gave [] done [] ended_now
+            ∙ append-nil (each_out t (least k.gave) done) ∙ sym (k.out (least k.gave) (agrees_least k.gave))
 
-    old_calm : is_in done p ≡ false → (reader_at old p).failed ≡ false
-    old_calm unseen = ap (λ (r : Reader). r.failed) (sym (unseen_same (is_in done p) (reader_at old p) (reader_at now p) (at k.gave p) unseen (k.places p))) ∙ calm
+        works : Begins (each_decided t k.gave done) k.pushed
+        works = record { rest = []; is = sym all_decided ∙ sym (append-nil (each_decided t k.gave done)) }
 
-    cause_of : (more : List ℕ) (fault : FlowFault) → Ends (reader_at now p) new is' store' (Err fault)
-        → Cause (one_by_one word t names (done ++ p ∷ more)) gave' old now' is'.faulted store'.denied (length done) (blame p fault)
-    cause_of more (Read place) r = (
-      nth_here done more p,
-      ap (λ (l : List ℕ). is_in l p) (take-append_seam done (p ∷ more))
-          ∙ ⊎_elim (λ f. (unseen_of (is_in done p) (reader_at old p) (reader_at now p) new y.g e.given y.if_seen e.came f.2).0)
-          (λ l. not_seen_long (is_in done p) (reader_at old p) (reader_at now p) new y.g e.given y.if_seen e.came l.0) r.cause,
-      ⊎_elim (λ f. inl (y.opened, old_calm (unseen_of (is_in done p) (reader_at old p) (reader_at now p) new y.g e.given y.if_seen e.came f.2).0, ap (λ (n : Reader). n.failed) reader_here ∙ f.0))
-          (λ l. inr (subst IsTooLong (sym gave_here) (let first = fresh p y.opened in omega (arith, l.0, came_here.count, ap length first.held, first.pulled)))) r.cause,
-      r.clean,
-      r.denied,
-    )
-    cause_of more Write r = r.faulted
-    cause_of more Memory r = (r.denied, r.clean)
+    -- ---- an operand that could not be opened
 
-    failing : (fault : FlowFault) → Ends (reader_at now p) new is' store' (Err fault) → new.failed ≡ true → (new.ended ≡ false) × (blame p fault ≡ Read p)
-    failing (Read place) r failed = ⊎_elim (λ f. (f.2, refl)) (λ l. absurd (false≢true (sym (l.1 ∙ calm) ∙ failed))) r.cause
-    failing Write r failed = absurd (false≢true (sym (r.failed ∙ calm) ∙ failed))
-    failing Memory r failed = absurd (false≢true (sym (r.failed ∙ calm) ∙ failed))
-
-    pub ended_before : (q : ℕ) → is_in done q ≡ true → EndedAt (at gave' q)
-    ended_before q seen = ⊎_elim same other (same_or_other p q)
+    pub pass_unopened : {heard' : SinkState} (p : ℕ) → (reader_at now p).refused ≡ true → Tells heard heard' (not_opened word (name_of names p))
+        → Pass word t names old now was is told heard' before store (done ++ p ∷ []) Unopened
+    pass_unopened p refused says = record {
+      gave = k.gave;
+      same_length = k.same_length;
+      long = k.long;
+      came = k.came;
+      spent = λ q seen opened. ⊎_elim (λ same. absurd (false≢true (sym opened ∙ ap (shut old) (sym same) ∙ old_refused)))
+          (λ other. k.spent q (sym (is_in-other done p q other) ∙ seen) opened) (same_or_other p q);
+      unread = λ q unseen. k.unread q (not_more done p q unseen).1;
+      pushed = k.pushed;
+      wrote = k.wrote;
+      out = λ w agrees. rw (nothing w agrees) (k.out w agrees);
+      tells = tells_more word names (shut old) done p k.tells (rw old_refused says);
+      so_far_is = sym (ap done_with (any_now (shut old) done p old_refused));
+      clean = k.clean;
+      roomy = k.roomy;
+      empty = k.empty;
+      peak = λ w agrees. rw (nothing w agrees) (k.peak w agrees);
+    }
       where
-        same : p ≡ q → EndedAt (at gave' q)
-        same is_q = subst (λ (n : ℕ). EndedAt (at gave' n)) is_q (subst EndedAt (sym gave_here) (spent_ended (is_in done p) (ap (is_in done) is_q ∙ seen) y.if_seen))
-          where
-            spent_ended : (b : Bool) → b ≡ true → IfSeen b (reader_at old p) (reader_at now p) y.g → e.given.ended ≡ true
-            spent_ended true is_true s = (ended_gives_nothing (reader_at now p) new e.given e.came y.held s.1.done.ended).1
-            spent_ended false is_true s = absurd (false≢true is_true)
+        old_refused : (reader_at old p).refused ≡ true
+        old_refused = was_refused p ∙ refused
 
-        other : p ≢ q → EndedAt (at gave' q)
-        other differs = subst EndedAt (sym (get_or-set_other k.gave p q (Some (given_now y.g)) None (λ is_p. differs (sym is_p))))
-            (ended_at (reader_at old q) (reader_at now q) (at k.gave q) (subst (λ (b : Bool). PlaceIs b (reader_at old q) (reader_at now q) (at k.gave q)) seen (k.places q)))
+        nothing : (w : World) → Allows k.gave w → sources [] w (done ++ p ∷ []) ≡ sources [] w done
+        nothing w agrees =
+            let none = none_of (at w p) (sym (refused_same old now k.gave w k.came agrees p) ∙ old_refused) in
+            sources_refused [] w done p (rw none refl)
 
-    -- the operands that are done decided all of what they give
-    abbrev pub Decided : Type 0
-    Decided = (later : List Given) → flat_map t.decided (up_to_open (opened (founds nothing_left gave' [] done) ++ later))
-        ≡ flat_map t.text (opened (founds [] (least gave') [] done)) ++ flat_map t.decided (up_to_open later)
+    -- ---- an operand that was opened
 
-    pub decided_by_law : ((g : Given) → g.ended ≡ true → t.decided g ≡ t.text g.bytes) → Decided
-    decided_by_law law later = decided_founds t law gave' [] done later ended_before
+    module _ {is' : Output} {store' : Slots} (p : ℕ) {new : Reader} {result : Result (Unit {0}) FlowFault} (within : p < length old) (is_open : (reader_at now p).refused ≡ false)
+        (calm : (reader_at now p).failed ≡ false) (e : IsPass t (reader_at now p) new is is' store store' result) where
+      old_open : shut old p ≡ false
+      old_open = was_refused p ∙ is_open
 
-    -- of this operand, what was decided two blocks earlier
-    module _ (decided : Decided) where
-      one_keeps : KeepsUp {I = Unit {0}} (λ came. t.decided (came tt)) (λ u. e.given) is is' e.pushed
-      one_keeps = e.keeps_up k.clean
+      -- what came of it before
+      abbrev y : (g : Given) × (at k.gave p ≡ Some g) × Came (reader_at old p) (reader_at now p) g
+      y = opened_came (reader_at old p) (reader_at now p) (at k.gave p) old_open (k.came p)
 
-      abbrev earlier : Given
-      earlier = (one_keeps.works.before tt).earlier
+      held : (reader_at now p).held ≡ []
+      held = (asked_now p old_open).0
 
-      found_given : found nothing_left gave' done p ≡ Some (e.given)
-      found_given = ap (λ (o : Option Given). option_map (λ (g : Given). cond (is_in done p) nothing_left g) o) gave_here ∙ by_seen (is_in done p) y.if_seen
+      abbrev given_now : Given → Given
+      given_now g = record { bytes = g.bytes ++ e.given.bytes; ended = e.given.ended }
+
+      abbrev gave' : Received
+      gave' = set k.gave p (Some (given_now y.0))
+
+      abbrev pub now' : List Reader
+      now' = set now p new
+
+      reader_here : reader_at now' p ≡ new
+      reader_here = get_or-set_same now p new _ (omega (arith, within, k.same_length))
+
+      reader_other : (q : ℕ) → p ≢ q → reader_at now' q ≡ reader_at now q
+      reader_other q differs = get_or-set_other now p q new no_reader (λ is_p. differs (sym is_p))
+
+      gave_here : at gave' p ≡ Some (given_now y.0)
+      gave_here = get_or-set_same k.gave p (Some (given_now y.0)) None (omega (arith, within, k.long))
+
+      gave_other : (q : ℕ) → p ≢ q → at gave' q ≡ at k.gave q
+      gave_other q differs = get_or-set_other k.gave p q (Some (given_now y.0)) None (λ is_p. differs (sym is_p))
+
+      came_here : Came (reader_at old p) new (given_now y.0)
+      came_here = came_trans (reader_at old p) (reader_at now p) new y.0 e.given y.2 e.came held
+
+      received' : IsReceived old now' gave'
+      received' = by_place (λ q. CameAt (reader_at old q) (reader_at now' q) (at gave' q)) p (rw (reader_here, gave_here) (old_open, came_here))
+          (λ q other. rw (reader_other q other, gave_other q other) (k.came q))
+
+      still : y.0.ended ≡ true → (e.given.bytes ≡ []) × (e.given.ended ≡ true)
+      still ended = ended_gives_nothing (reader_at now p) new e.given e.came held (sym y.2.ended ∙ ended)
+
+      -- it was read to its end before, and gives nothing now, or it was not read before
+      turn : ((is_in done p ≡ true) × (e.given ≡ nothing_left) × IsSpent (reader_at now p)) ⊎ ((is_in done p ≡ false) × (y.0 ≡ nothing_yet))
+      turn = ⊎_elim
+          (λ seen.
+          let s = k.spent p seen old_open in
+          let none = still (y.2.ended ∙ s.done.ended) in
+          inl (seen, (λ i. record { bytes = none.0 i; ended = none.1 i }), s))
+          (λ unseen. inr (unseen, some_same (sym y.1 ∙ (k.unread p unseen).1 ∙ ap (λ (b : Bool). cond b None (Some nothing_yet)) old_open))) (named_or_not done p)
         where
-          by_seen : (seen : Bool) → IfSeen seen (reader_at old p) (reader_at now p) y.g → Some (cond seen nothing_left (given_now y.g)) ≡ Some (e.given)
-          by_seen true s = let none = ended_gives_nothing (reader_at now p) new e.given e.came y.held s.1.done.ended in λ i. Some (record { bytes = sym none.0 i; ended = sym none.1 i })
-          by_seen false s = ap (λ (g : Given). Some (given_now g)) s.1
+          some_same : {a b : Given} → Some a ≡ Some b → a ≡ b
+          some_same same = cc
 
-      abbrev came_before : List Given
-      came_before = sources nothing_left gave' done
+      unseen : HasReadCause (reader_at now p) new → is_in done p ≡ false
+      unseen cause = ⊎_elim
+          (λ s. absurd (⊎_elim (λ f. false≢true (sym (e.came.ended ∙ f.2) ∙ ap (λ (g : Given). g.ended) s.1)) (λ l. omega (arith, s.2.short, (e.came.still s.2.done.ended).0, l.0)) cause))
+          (λ u. u.0) turn
 
-      decided_here : decided_of t (came_before ++ earlier ∷ []) ≡ k.pushed ++ t.decided earlier
-      decided_here = decided (earlier ∷ []) ∙ (λ i. sym (k.out (least gave') (back (least gave') (agrees_least gave'))) i ++ by_end earlier.ended i)
-        where
-          by_end : (b : Bool) → t.decided earlier ++ flat_map t.decided (cond b [] []) ≡ t.decided earlier
-          by_end true = append-nil (t.decided earlier)
-          by_end false = append-nil (t.decided earlier)
+      fits_here : (b : List ℕ) → Agrees (given_now y.0) b → Agrees e.given (cond (is_in done p) [] b)
+      fits_here b a = ⊎_elim
+          (λ s. rw (s.1, s.0) (record { rest = []; is = refl; whole = λ _. refl }))
+          (λ u. rw u.0 (rw u.1 at a)) turn
 
-      begins_here : Begins (decided_of t (came_before ++ earlier ∷ [])) (k.pushed ++ e.pushed)
-      begins_here = record {
-        rest = one_keeps.works.begins.rest;
-        is = ap (λ (l : List ℕ). k.pushed ++ l) one_keeps.works.begins.is ∙ sym (append_assoc k.pushed (t.decided earlier) one_keeps.works.begins.rest)
-            ∙ ap (λ (l : List ℕ). l ++ one_keeps.works.begins.rest) (sym decided_here);
-      }
+      -- the world agrees with what came before
+      back : (w : World) → Allows gave' w → Allows k.gave w
+      back w agrees =
+          let here = agreed (at gave' p) (at w p) (given_now y.0) gave_here (agrees p) in
+          by_place (λ q. AllowsAt (at k.gave q) (at w q)) p (agrees_some (at k.gave p) (at w p) y.0 y.1 here.0 here.1 (agrees_before y.0 e.given here.0 still here.2))
+          (λ q differs. rw (gave_other q differs) at (agrees q))
 
-      keeps_here : LastEarlier t (sources nothing_left gave' (done ++ p ∷ [])) (λ bytes. PassedOn bytes was is' (k.pushed ++ e.pushed))
-      keeps_here =
-          subst (λ (l : List Given). LastEarlier t l (λ bytes. PassedOn bytes was is' (k.pushed ++ e.pushed))) (sym (sources_opened nothing_left gave' done p [] e.given found_given))
-          (last_earlier t came_before e.given (one_keeps.works.before tt) (λ bytes. PassedOn bytes was is' (k.pushed ++ e.pushed)) (record {
-            begins = begins_here;
-            sends = subst (λ (l : List ℕ). SendsOn was is' l) (sym decided_here) (sends_behind was is is' k.pushed (t.decided earlier) k.wrote k.clean one_keeps.sends);
-          }))
+      -- what the operand finds in a world, which agrees with what came in the call
+      abbrev Finds : World → Type 0
+      Finds w = (bytes : List ℕ) × (found [] w done p ≡ Some bytes) × Agrees e.given bytes
 
-      -- it was the last one, and read to its end
-      pub pass_last : result ≡ Ok tt → Went (one_by_one word t names (done ++ p ∷ [])) old now' was is' told heard before store' (Ok so_far)
-      unfolding pass_done
-      pass_last ok = pass_all now' is' heard store' (done ++ p ∷ []) so_far (pass_done ok) keeps_here
+      finds : (w : World) → Allows gave' w → Finds w
+      finds w agrees =
+          let here = agreed (at gave' p) (at w p) (given_now y.0) gave_here (agrees p) in
+          (cond (is_in done p) [] here.0, ap (λ (v : Option (List ℕ)). option_map (λ (b : List ℕ). cond (is_in done p) [] b) v) here.1, fits_here here.0 here.2)
 
-    module _ (decided : Decided) (more : List ℕ) where
-      sure_here : new.failed ≡ true → is'.faulted ≡ false → new.ended ≡ false → Begins (each_decided t gave' (done ++ p ∷ more)) (k.pushed ++ e.pushed)
-      sure_here failed clean going = record {
-        rest = s.rest;
-        is = (λ i. k.pushed ++ s.is i) ∙ sym (append_assoc k.pushed (t.decided e.given) s.rest) ∙ ap (λ (l : List ℕ). l ++ s.rest) (sym all);
-      }
-        where
-          s : Begins (t.decided e.given) e.pushed
-          s = e.sure failed clean
+      -- what the operands behind it find
+      abbrev later : World → List ℕ → List (List ℕ)
+      later w more = opened (founds [] w (done ++ p ∷ []) more)
 
-          rest : List (Option Given)
-          rest = founds nothing_left gave' (done ++ p ∷ []) more
+      sources_here : (w : World) (more : List ℕ) (f : Finds w) → sources [] w (done ++ p ∷ more) ≡ sources [] w done ++ f.0 ∷ later w more
+      sources_here w more f = sources_opened [] w done p more f.0 f.1
 
-          unseen : (is_in done p ≡ false) × (y.g ≡ nothing_yet)
-          unseen = unseen_of (is_in done p) (reader_at old p) (reader_at now p) new y.g e.given y.if_seen e.came going
+      out_here : (w : World) (more : List ℕ) (f : Finds w) → each_out t w (done ++ p ∷ more) ≡ each_out t w done ++ (t.text f.0 ++ flat_map t.text (later w more))
+      out_here w more f = ap (λ (l : List (List ℕ)). flat_map t.text l) (sources_here w more f) ∙ flat_map-append t.text (sources [] w done) (f.0 ∷ later w more)
 
-          found_is : found nothing_left gave' done p ≡ Some (e.given)
-          found_is =
-              ap (λ (o : Option Given). option_map (λ (g : Given). cond (is_in done p) nothing_left g) o) gave_here ∙ ap (λ (b : Bool). Some (cond b nothing_left (given_now y.g))) unseen.0
-              ∙ ap (λ (h : Given). Some (given_now h)) unseen.1
+      peak_here : (w : World) (more : List ℕ) → Allows gave' w → store'.peak ≤ max before.peak (each_bound t w (done ++ p ∷ more))
+      peak_here w more agrees =
+          let f = finds w agrees in
+          let all : each_bound t w (done ++ p ∷ more) ≡ largest (map t.size (sources [] w done) ++ map t.size (f.0 ∷ later w more)) =
+          ap (λ (l : List (List ℕ)). largest (map t.size l)) (sources_here w more f) ∙ ap largest (map-append t.size (sources [] w done) (f.0 ∷ later w more)) in
+          omega (arith, all, largest-append (map t.size (sources [] w done)) (map t.size (f.0 ∷ later w more)), e.peak f.0 f.2, k.peak w (back w agrees))
 
-          later_is : flat_map t.decided (up_to_open (opened (found nothing_left gave' done p ∷ founds nothing_left gave' (done ++ p ∷ []) more))) ≡ t.decided e.given
-          later_is =
-              ap (λ (o : Option Given). flat_map t.decided (up_to_open (opened (o ∷ founds nothing_left gave' (done ++ p ∷ []) more)))) found_is
-              ∙ ap (λ (b : Bool). t.decided e.given ++ flat_map t.decided (cond b (up_to_open (opened (founds nothing_left gave' (done ++ p ∷ []) more))) []))
-              (e.came.ended ∙ going) ∙ append-nil (t.decided e.given)
+      wrote_here : Wrote was is' (k.pushed ++ e.pushed)
+      wrote_here = wrote_trans was is is' k.pushed e.pushed k.clean k.wrote e.wrote
 
-          all : each_decided t gave' (done ++ p ∷ more) ≡ k.pushed ++ t.decided e.given
-          all =
-              ap (λ (l : List Given). flat_map t.decided (up_to_open l)) (sources_at nothing_left gave' done p more)
-              ∙ decided (opened (found nothing_left gave' done p ∷ founds nothing_left gave' (done ++ p ∷ []) more))
-              ∙ (λ i. sym (k.out (least gave') (back (least gave') (agrees_least gave'))) i ++ later_is i)
-
-      pub pass_stopped : (fault : FlowFault) → result ≡ Err fault → Went (one_by_one word t names (done ++ p ∷ more)) old now' was is' told heard before store' (Err (blame p fault))
-      pass_stopped fault is_err = record {
-        received = gave';
+      -- it was read to its end
+      pub pass_done : result ≡ Ok tt → Pass word t names old now' was is' told heard before store' (done ++ p ∷ []) so_far
+      pass_done ok = record {
+        gave = gave';
+        same_length = length-set now p new ∙ k.same_length;
+        long = length-set k.gave p (Some (given_now y.0)) ∙ k.long;
         came = received';
+        spent = λ q seen opened. ⊎_elim (λ same. subst (λ (n : ℕ). IsSpent (reader_at now' n)) same (rw reader_here spent))
+            (λ other. rw (reader_other q other) (k.spent q (sym (is_in-other done p q other) ∙ seen) opened)) (same_or_other p q);
+        unread = λ q unseen. let other = not_more done p q unseen in let was = k.unread q other.1 in (reader_other q other.0 ∙ was.0, gave_other q other.0 ∙ was.1);
         pushed = k.pushed ++ e.pushed;
         wrote = wrote_here;
-        behind = length done;
-        within = omega (arith, length-append done (p ∷ more));
-        said = unopened word names (shut old) done;
-        tells = k.tells;
-        names = λ w agrees. unopened_same word names (shut old) (is_unopened w) done (refused_same old now' gave' w received' agrees)
-            ∙ ap (unopened word names (is_unopened w)) (sym (take-append_seam done (p ∷ more)));
-        ends = cause_of more fault end;
-        place = named_within fault;
-        untouched = λ q other. untouched_at q (ap (λ (l : List ℕ). is_in l q) (sym (take_with done p more)) ∙ other);
-        true_so_far = λ w agrees. let f = finds w agrees in let b = e.true_so_far f.bytes f.agrees in record {
-          rest = b.rest ++ flat_map t.text (opened (founds [] w (done ++ p ∷ []) more));
-          is = out_here w more f ∙ (λ i. sym (k.out w (back w agrees)) i ++ (b.is i ++ flat_map t.text (opened (founds [] w (done ++ p ∷ []) more))))
-              ∙ ap (λ (l : List ℕ). k.pushed ++ l) (append_assoc e.pushed b.rest (flat_map t.text (opened (founds [] w (done ++ p ∷ []) more))))
-              ∙ sym (append_assoc k.pushed e.pushed (b.rest ++ flat_map t.text (opened (founds [] w (done ++ p ∷ []) more))));
-        };
-        sure = λ q failed clean. let here = blamed q failed in sure_here here clean (failing fault end here).0;
-        keeps_up = subst (λ (l : List ℕ). LastEarlier t (sources nothing_left gave' l) (λ bytes. PassedOn bytes was is' (k.pushed ++ e.pushed))) (sym (take_with done p more)) (keeps_here decided);
-        told_read = λ q failed clean. let is_q = place_of q failed in ap (λ (f : FlowFault). Err f) ((failing fault end (blamed q failed)).1 ∙ ap (λ (n : ℕ). Read n) is_q);
-        peak = λ w agrees. peak_here w more agrees;
+        out = λ w agrees. let f = finds w agrees in
+            (λ i. k.out w (back w agrees) i ++ (e.whole ok ∙ ap t.text (sym (agrees_whole e.given f.0 (e.came.ended ∙ end.done.ended) f.2)) ∙ sym (append-nil (t.text f.0))) i)
+            ∙ sym (out_here w [] f);
+        tells = tells_more word names (shut old) done p k.tells (rw old_open (tells_nothing heard));
+        so_far_is = k.so_far_is ∙ sym (ap done_with (any_before (shut old) done p old_open));
+        clean = end.clean;
+        roomy = end.denied;
+        empty = end.empty;
+        peak = λ w agrees. peak_here w [] agrees;
       }
         where
-          end : Ends (reader_at now p) new is' store' (Err fault)
-          end = subst (λ (r : Result (Unit {0}) FlowFault). Ends (reader_at now p) new is' store' r) is_err e.ends
+          end : Finished (reader_at now p) new is' store'
+          end = rw ok at e.ends
 
-          place_of : (q : ℕ) → HasFailed old now' q → p ≡ q
-          place_of q failed = ⊎_elim (λ same. same) (λ other. absurd (other_failed q other failed)) (same_or_other p q)
+          spent : IsSpent new
+          spent = record { done = end.done; fault = end.fault; failed = end.failed ∙ calm; short = end.short }
 
-          blamed : (q : ℕ) → HasFailed old now' q → new.failed ≡ true
-          blamed q failed = ap (λ (r : Reader). r.failed) (sym reader_here) ∙ ap (λ (n : ℕ). (reader_at now' n).failed) (place_of q failed) ∙ failed.2
+      -- ---- it stopped in this operand
 
-          named_within : (f : FlowFault) → IsWithin (length old) (Err (blame p f))
-          named_within (Read place) = within
-          named_within Write = tt
-          named_within Memory = tt
+      cause_of : (more : List ℕ) (fault : FlowFault) → Ends (reader_at now p) new is' store' (Err fault)
+          → Cause (one_by_one word t names (done ++ p ∷ more)) gave' old now' is'.faulted store'.denied (length done) (blame p fault)
+      cause_of more (Read place) r = (
+        nth_here done more p,
+        rw (take-append_seam done (p ∷ more)) (unseen r.cause),
+        ⊎_elim (λ f. inl (old_open, ap (λ (r : Reader). r.failed) (sym (k.unread p (unseen r.cause)).0) ∙ calm, ap (λ (n : Reader). n.failed) reader_here ∙ f.0))
+            (λ l. inr (rw gave_here (let first = fresh p old_open in omega (arith, l.0, came_here.count, ap length first.held, first.pulled)))) r.cause,
+        r.clean,
+        r.denied,
+      )
+      cause_of more Write r = r.faulted
+      cause_of more Memory r = (r.denied, r.clean)
 
-          untouched_at : (q : ℕ) → is_in (done ++ p ∷ []) q ≡ false → reader_at now' q ≡ reader_at old q
-          untouched_at q unseen = ⊎_elim (λ same. absurd (false≢true (sym unseen ∙ ap (is_in (done ++ p ∷ [])) (sym same) ∙ is_in-same done p))) other (same_or_other p q)
-            where
-              other : p ≢ q → reader_at now' q ≡ reader_at old q
-              other differs = get_or-set_other now p q new no_reader (λ is_p. differs (sym is_p))
-                  ∙ unseen_same (is_in done q) (reader_at old q) (reader_at now q) (at k.gave q) (sym (is_in-other done p q differs) ∙ unseen) (k.places q)
+      failing : (fault : FlowFault) → Ends (reader_at now p) new is' store' (Err fault) → new.failed ≡ true → (new.ended ≡ false) × (blame p fault ≡ Read p)
+      failing (Read place) r failed = ⊎_elim (λ f. (f.2, refl)) (λ l. absurd (false≢true (sym (l.1 ∙ calm) ∙ failed))) r.cause
+      failing Write r failed = absurd (false≢true (sym (r.failed ∙ calm) ∙ failed))
+      failing Memory r failed = absurd (false≢true (sym (r.failed ∙ calm) ∙ failed))
+
+      ended_before : (q : ℕ) → is_in done q ≡ true → EndedAt (at gave' q)
+      ended_before = by_place (λ q. is_in done q ≡ true → EndedAt (at gave' q)) p
+          (λ seen. rw gave_here (⊎_elim (λ s. ap (λ (g : Given). g.ended) s.1) (λ u. absurd (false≢true (sym u.0 ∙ seen))) turn))
+          (λ q differs seen. rw (gave_other q differs) (ended_now q seen))
+
+      module _ (law : (g : Given) → g.ended ≡ true → t.decided g ≡ t.text g.bytes) where
+        -- the operands that are done decided all of what they give
+        decided_all : (came : List Given) → flat_map t.decided (up_to_open (sources nothing_left gave' done ++ came)) ≡ k.pushed ++ flat_map t.decided (up_to_open came)
+        decided_all came = decided_founds t law gave' [] done came ended_before
+            ∙ (λ i. sym (k.out (least gave') (back (least gave') (agrees_least gave'))) i ++ flat_map t.decided (up_to_open came))
+
+        -- of this operand, what was decided two blocks earlier
+        one_keeps : KeepsUp {I = Unit {0}} (λ came. t.decided (came tt)) (λ u. e.given) is is' e.pushed
+        one_keeps = e.keeps_up k.clean
+
+        abbrev earlier : Given
+        earlier = (one_keeps.works.before tt).earlier
+
+        found_given : found nothing_left gave' done p ≡ Some (e.given)
+        found_given = ap (λ (o : Option Given). option_map (λ (g : Given). cond (is_in done p) nothing_left g) o) gave_here
+            ∙ ⊎_elim (λ s. (λ i. Some (cond (s.0 i) nothing_left (given_now y.0))) ∙ ap (λ (g : Given). Some g) (sym s.1)) (λ u i. Some (cond (u.0 i) nothing_left (given_now (u.1 i)))) turn
+
+        -- if more of it is to come, nothing behind it is decided
+        decided_open : (g : Given) (behind : List Given) → (behind ≡ []) ⊎ (g.ended ≡ false) → flat_map t.decided (up_to_open (g ∷ behind)) ≡ t.decided g
+        decided_open g behind = ⊎_elim (λ none. ap (λ (l : List Given). flat_map t.decided (up_to_open (g ∷ l))) none ∙ by_end g.ended)
+            (λ going. ap (λ (b : Bool). t.decided g ++ flat_map t.decided (cond b (up_to_open behind) [])) going ∙ append-nil (t.decided g))
+          where
+            by_end : (b : Bool) → t.decided g ++ flat_map t.decided (cond b [] []) ≡ t.decided g
+            by_end true = append-nil (t.decided g)
+            by_end false = append-nil (t.decided g)
+
+        -- what this operand pushed begins so
+        begins_behind : (bytes : List ℕ) {all : List ℕ} → all ≡ k.pushed ++ bytes → Begins bytes e.pushed → Begins all (k.pushed ++ e.pushed)
+        begins_behind bytes is b = record { rest = b.rest; is = (λ i. k.pushed ++ b.is i) ∙ sym (append_assoc k.pushed bytes b.rest) ∙ ap (λ (l : List ℕ). l ++ b.rest) (sym is) }
+
+        decided_here : decided_of t (sources nothing_left gave' done ++ earlier ∷ []) ≡ k.pushed ++ t.decided earlier
+        decided_here = decided_all (earlier ∷ []) ∙ ap (λ (l : List ℕ). k.pushed ++ l) (decided_open earlier [] (inl refl))
+
+        keeps_here : LastEarlier t (sources nothing_left gave' (done ++ p ∷ [])) (λ bytes. PassedOn bytes was is' (k.pushed ++ e.pushed))
+        keeps_here =
+            rw (sources_opened nothing_left gave' done p [] e.given found_given)
+            (last_earlier t (sources nothing_left gave' done) e.given (one_keeps.works.before tt) (λ bytes. PassedOn bytes was is' (k.pushed ++ e.pushed)) (record {
+              begins = begins_behind (t.decided earlier) decided_here one_keeps.works.begins;
+              sends = rw decided_here (sends_behind was is is' k.pushed (t.decided earlier) k.wrote k.clean one_keeps.sends);
+            }))
+
+        sure_here : (more : List ℕ) → new.failed ≡ true → is'.faulted ≡ false → new.ended ≡ false → Begins (each_decided t gave' (done ++ p ∷ more)) (k.pushed ++ e.pushed)
+        sure_here more failed clean going = begins_behind (t.decided e.given) all (e.sure failed clean)
+          where
+            all : each_decided t gave' (done ++ p ∷ more) ≡ k.pushed ++ t.decided e.given
+            all =
+                let behind = opened (founds nothing_left gave' (done ++ p ∷ []) more) in
+                ap (λ (l : List Given). flat_map t.decided (up_to_open l)) (sources_opened nothing_left gave' done p more e.given found_given)
+                ∙ decided_all (e.given ∷ behind) ∙ ap (λ (l : List ℕ). k.pushed ++ l) (decided_open e.given behind (inr (e.came.ended ∙ going)))
+
+        stopped : (more : List ℕ) (fault : FlowFault) → result ≡ Err fault → Went (one_by_one word t names (done ++ p ∷ more)) old now' was is' told heard before store' (Err (blame p fault))
+        stopped more fault is_err = record {
+          received = gave';
+          came = received';
+          pushed = k.pushed ++ e.pushed;
+          wrote = wrote_here;
+          behind = length done;
+          within = omega (arith, length-append done (p ∷ more));
+          said = unopened word names (shut old) done;
+          tells = k.tells;
+          names = λ w agrees. rw (take-append_seam done (p ∷ more)) (unopened_same word names (shut old) (is_unopened w) done (refused_same old now' gave' w received' agrees));
+          ends = cause_of more fault end;
+          place = named_within fault;
+          untouched = λ q other. let n = not_more done p q (rw (take_with done p more) at other) in reader_other q n.0 ∙ (k.unread q n.1).0;
+          true_so_far = λ w agrees. let f = finds w agrees in let b = e.true_so_far f.0 f.2 in let rest = flat_map t.text (later w more) in record {
+            rest = b.rest ++ rest;
+            is = out_here w more f ∙ (λ i. sym (k.out w (back w agrees)) i ++ (b.is i ++ rest)) ∙ ap (λ (l : List ℕ). k.pushed ++ l) (append_assoc e.pushed b.rest rest)
+                ∙ sym (append_assoc k.pushed e.pushed (b.rest ++ rest));
+          };
+          sure = λ q failed clean. let here = blamed q failed in sure_here more here clean (failing fault end here).0;
+          keeps_up = rw (take_with done p more) keeps_here;
+          told_read = λ q failed clean. ap (λ (f : FlowFault). Err f) ((failing fault end (blamed q failed)).1 ∙ ap (λ (n : ℕ). Read n) (place_of q failed));
+          peak = λ w agrees. peak_here w more agrees;
+        }
+          where
+            end : Ends (reader_at now p) new is' store' (Err fault)
+            end = rw is_err at e.ends
+
+            place_of : (q : ℕ) → HasFailed old now' q → p ≡ q
+            place_of q failed = ⊎_elim (λ same. same)
+                (λ other. absurd (false≢true (sym (calm_now q failed.0 failed.1) ∙ ap (λ (r : Reader). r.failed) (sym (reader_other q other)) ∙ failed.2))) (same_or_other p q)
+
+            blamed : (q : ℕ) → HasFailed old now' q → new.failed ≡ true
+            blamed q failed = ap (λ (r : Reader). r.failed) (sym reader_here) ∙ ap (λ (n : ℕ). (reader_at now' n).failed) (place_of q failed) ∙ failed.2
+
+            named_within : (f : FlowFault) → IsWithin (length old) (Err (blame p f))
+            named_within (Read place) = within
+            named_within Write = tt
+            named_within Memory = tt
+
+        pub pass_stopped : (more : List ℕ) {order : List ℕ} → done ++ p ∷ more ≡ order → {fault : FlowFault} → result ≡ Err fault
+            → Went (one_by_one word t names order) old now' was is' told heard before store' (Err (blame p fault))
+        pass_stopped more split {fault} is_err = subst (λ (o : List ℕ). Went (one_by_one word t names o) old now' was is' told heard before store' (Err (blame p fault)))
+            split (stopped more fault is_err)

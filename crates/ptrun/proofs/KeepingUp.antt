@@ -1,18 +1,18 @@
 -- What had been decided two blocks earlier of the last operand; and what of it reached the sink.
-use Rattle.std.proofs.Common.{◌≡◌, ◌≢◌, ⊎_elim, ℕ, zero, suc, ◌+◌, ◌≤◌, Bool, false, List, [], ◌∷◌, ◌++◌, set, Option, Some, None, is_none, length, take, drop}
+use Rattle.std.proofs.Common.{◌≡◌, ℕ, zero, suc, ◌+◌, ◌≤◌, Bool, false, List, [], ◌∷◌, ◌++◌, set, Option, Some, None, is_none, length, take, drop}
 use Rattle.std.proofs.Common.{refl, sym, ◌∙◌, ap, subst, arith, length-append, length-drop, take-append-drop}
 use Rattle.std.specs.Io.KnownBytes.{append_known}
 use Rattle.std.proofs.lemmas.List.{append-nil, get_or-set_other, nil_from_length}
 use Rattle.std.proofs.Math.Seq.{take-append_seam}
 use Rattle.ptlines.specs.Inputs.{Given, Begins, nothing_left}
-use Rattle.ptlines.specs.KeepingUp.{Before, WorksOff, SendsOn}
+use Rattle.ptlines.specs.KeepingUp.{Before, WorksOff, SendsOn, KeepsUp}
 use Rattle.ptlines.specs.Outputs.{Output, Extends, Wrote}
 use Rattle.ptlines.proofs.Known.{append_known-append}
 use Rattle.ptlines.proofs.Sending.{known_length, keeps_still}
 use Rattle.ptflow.specs.Tools.{Tool}
 use Rattle.ptrun.specs.Operands.{decided_of}
 use Rattle.ptrun.specs.Worlds.{Received, at, is_unopened}
-use Rattle.ptrun.proofs.Sources.{same_or_other}
+use Rattle.ptrun.proofs.Sources.{by_place}
 use Rattle.ptrun.specs.Meanings.{Meaning}
 use Rattle.ptrun.specs.KeepingUp.{PassedOn, KeptUp, LastEarlier, AnyEarlier, EarlierAs, Earlier}
 
@@ -43,6 +43,13 @@ last_earlier t came g b P holds done last is =
     subst (λ (l : List Given). (c : Before last) × P (decided_of t (l ++ c.earlier ∷ []))) same.0
     (subst (λ (h : Given). (c : Before h) × P (decided_of t (came ++ c.earlier ∷ []))) same.1 (b, holds))
 
+-- one input less, however what is decided of it is said
+pub passed_on : (f g : Given → List ℕ) {came : Given} {was is : Output} {pushed : List ℕ} → ((e : Given) → f e ≡ g e)
+    → KeepsUp {I = Unit {0}} (λ given. f (given tt)) (λ u. came) was is pushed → (cut : Before came) × PassedOn (g cut.earlier) was is pushed
+passed_on f g {came} {was} {is} {pushed} same up =
+    let cut = up.works.before tt in
+    (cut, subst (λ (l : List ℕ). PassedOn l was is pushed) (same cut.earlier) (record { begins = up.works.begins; sends = up.sends }))
+
 -- ---- what had come of one input less
 
 pub at_set : (r : Received) (p : ℕ) (g e : Given) → at r p ≡ Some g → at (set r p (Some e)) p ≡ Some e
@@ -52,13 +59,9 @@ at_set (o ∷ r) (suc p) g e is = at_set r p g e is
 
 -- the same inputs were opened
 pub opened_set : (r : Received) (p : ℕ) (g e : Given) → at r p ≡ Some g → (q : ℕ) → is_unopened (set r p (Some e)) q ≡ is_unopened r q
-opened_set r p g e is q = ⊎_elim same other (same_or_other p q)
-  where
-    same : p ≡ q → is_unopened (set r p (Some e)) q ≡ is_unopened r q
-    same is_q = subst (λ (n : ℕ). is_unopened (set r p (Some e)) n ≡ is_unopened r n) is_q (ap (λ (o : Option Given). is_none o) (at_set r p g e is) ∙ sym (ap (λ (o : Option Given). is_none o) is))
-
-    other : p ≢ q → is_unopened (set r p (Some e)) q ≡ is_unopened r q
-    other differs = ap (λ (o : Option Given). is_none o) (get_or-set_other r p q (Some e) None (λ is_p. differs (sym is_p)))
+opened_set r p g e is = by_place (λ q. is_unopened (set r p (Some e)) q ≡ is_unopened r q) p
+    (ap (λ (o : Option Given). is_none o) (at_set r p g e is) ∙ sym (ap (λ (o : Option Given). is_none o) is))
+    (λ q differs. ap (λ (o : Option Given). is_none o) (get_or-set_other r p q (Some e) None (λ is_p. differs (sym is_p))))
 
 -- where nothing is decided, that was written
 pub nothing_decided : (places : List ℕ) (decided : Received → List ℕ) (r : Received) (failed : Bool) → ((s : Received) → ((q : ℕ) → is_unopened s q ≡ is_unopened r q) → decided s ≡ [])
@@ -98,13 +101,12 @@ sends_behind was mid is pushed bytes wrote clean s = by_known was.taken refl
     by_known : (known : Option (List ℕ)) → was.taken ≡ known → SendsOn was is (pushed ++ bytes)
     by_known None none = record {
       sent = was.staged ++ (pushed ++ bytes);
-      taken = s.taken ∙ ap (λ (k : Option (List ℕ)). append_known k s.sent)
-          (wrote.kept.is ∙ ap (λ (k : Option (List ℕ)). append_known k wrote.kept.front) none) ∙ sym (ap (λ (k : Option (List ℕ)). append_known k (was.staged ++ (pushed ++ bytes))) none);
+      taken = rw (s.taken, wrote.kept.is, none) refl;
       most = omega (arith, length-append was.staged (pushed ++ bytes));
     }
     by_known (Some known) is_known = record {
       sent = wrote.kept.front ++ s.sent;
-      taken = s.taken ∙ ap (λ (k : Option (List ℕ)). append_known k s.sent) wrote.kept.is ∙ append_known-append was.taken wrote.kept.front s.sent;
+      taken = rw (s.taken, wrote.kept.is) (append_known-append was.taken wrote.kept.front s.sent);
       most = omega (
         arith,
         s.most,

@@ -1,6 +1,5 @@
--- One place of a tool that goes over its operands: refused, not yet read, or read to its end.
-use Rattle.std.proofs.Common.{◌≡◌, ℕ, ◌<◌, ◌≤◌, ◌^◌, Bool, true, false, cond, List, [], ◌∷◌, ◌++◌, Option, Some, None}
-use Rattle.std.proofs.Common.{length, map, refl, sym, ◌∙◌, ap, subst, arith, append_assoc, length-append}
+-- One place of a tool that goes over its operands, and what came of its input.
+use Rattle.std.proofs.Common.{◌≡◌, ℕ, ◌<◌, ◌^◌, Bool, true, false, cond, List, [], ◌∷◌, ◌++◌, Option, Some, None, length, map, refl, sym, ◌∙◌, ap, arith, append_assoc, length-append}
 use Rattle.std.specs.Prelude.{is_none, slice_get}
 use Rattle.std.specs.Io.KnownBytes.{prepend_known}
 use Rattle.std.proofs.lemmas.List.{append-nil, nil_from_length}
@@ -9,11 +8,8 @@ use Rattle.std.proofs.lemmas.Bool.{false≢true}
 use Rattle.ptlines.specs.Readers.{Reader, IsDone}
 use Rattle.ptlines.proofs.Known.{prepend_known-append}
 use Rattle.ptlines.proofs.Refilled.{unread_empty}
-use Rattle.ptlines.specs.Inputs.{Given, nothing_left}
-use Rattle.ptlines.specs.Inputs.{Begins, Came}
-use Rattle.ptlines.specs.Inputs as one
-use Rattle.ptrun.specs.Worlds.{World, Received, at, is_unopened, AllowsAt, Allows, opened, reader_at, no_reader, CameAt}
-use Rattle.ptrun.specs.Worlds.{IsReceived, IsNew, IsFresh, IsTooLong}
+use Rattle.ptlines.specs.Inputs.{Given, Agrees, Came}
+use Rattle.ptrun.specs.Worlds.{World, Received, at, is_unopened, AllowsAt, Allows, opened, reader_at, no_reader, CameAt, IsReceived, IsNew, IsFresh, IsTooLong}
 use Rattle.ptrun.specs.declared.engine.Done.{Done}
 use Rattle.ptrun.specs.declared.engine.Done.TheVariants.{Whole, Unopened}
 use Rattle.ptrun.proofs.Sources.{EndedAt, least, at-least, bytes_at}
@@ -28,28 +24,10 @@ pub record IsSpent (r : Reader) : Type 0 where
 abbrev pub nothing_yet : Given
 nothing_yet = record { bytes = []; ended = false }
 
-abbrev pub IfSeen : Bool → Reader → Reader → Given → Type 0
-IfSeen true old now g = Came old now g × IsSpent now
-IfSeen false old now g = (now ≡ old) × (g ≡ nothing_yet)
-
--- how a place stands: refused, read to its end, or not yet read
-abbrev pub PlaceIs : Bool → Reader → Reader → Option Given → Type 0
-PlaceIs seen old now None = (old.refused ≡ true) × (now ≡ old)
-PlaceIs seen old now (Some g) = (old.refused ≡ false) × IfSeen seen old now g
-
 abbrev pub done_with : Bool → Done
 done_with any = cond any Unopened Whole
 
 -- ---- one place
-
-pub place_refused : (seen : Bool) (old now : Reader) (o : Option Given) → PlaceIs seen old now o → now.refused ≡ old.refused
-place_refused seen old now None k = ap (λ (r : Reader). r.refused) k.1
-place_refused true old now (Some g) k = k.1.0.refused
-place_refused false old now (Some g) k = ap (λ (r : Reader). r.refused) k.1.0
-
-pub any_seen : (seen again : Bool) (old now : Reader) (o : Option Given) → old.refused ≡ true → PlaceIs seen old now o → PlaceIs again old now o
-any_seen seen again old now None refused k = k
-any_seen seen again old now (Some g) refused k = absurd (false≢true (sym k.0 ∙ refused))
 
 pub came_nothing : (r : Reader) → IsNew r → Came r r nothing_yet
 came_nothing r new = record {
@@ -77,52 +55,41 @@ ended_gives_nothing b c h q empty ended =
     let still = q.still ended in
     (nil_from_length h.bytes (omega (arith, q.count, still.0, ap length empty)), q.ended ∙ still.1)
 
--- a reader that may be asked
-pub record Ready (seen : Bool) (old now : Reader) (o : Option Given) : Type 0 where
-  pub g : Given
-  pub is : o ≡ Some g
-  pub opened : old.refused ≡ false
-  pub if_seen : IfSeen seen old now g
-  pub came : Came old now g
-  pub held : now.held ≡ []
-  pub fault : now.fault ≡ None
+-- of a reader of which nothing was read
+abbrev pub received_of : Reader → Option Given
+received_of r = cond r.refused None (Some nothing_yet)
 
-pub ready_of : (seen : Bool) (old now : Reader) (o : Option Given) → IsFresh old → now.refused ≡ false → PlaceIs seen old now o → Ready seen old now o
-ready_of seen old now None fresh opened k = absurd (false≢true (sym opened ∙ place_refused seen old now None k ∙ k.0))
-ready_of true old now (Some g) fresh opened k = record { g = g; is = refl; opened = k.0; if_seen = k.1; came = k.1.0; held = k.1.1.done.held; fault = k.1.1.fault }
-ready_of false old now (Some g) fresh opened k =
-    let new = fresh k.0 in
-    let same = k.1.0 in
-    record {
-      g = g;
-      is = refl;
-      opened = k.0;
-      if_seen = k.1;
-      came = subst (λ (r : Reader). Came old r g) (sym same) (subst (λ (h : Given). Came old old h) (sym k.1.1) (came_nothing old new));
-      held = ap (λ (r : Reader). r.held) same ∙ new.held;
-      fault = ap (λ (r : Reader). r.fault) same ∙ new.fault;
-    }
-
--- no read of it has failed
-pub place_unfailed : (seen : Bool) (old now : Reader) (o : Option Given) → old.failed ≡ false → PlaceIs seen old now o → now.failed ≡ false
-place_unfailed seen old now None calm k = ap (λ (r : Reader). r.failed) k.1 ∙ calm
-place_unfailed true old now (Some g) calm k = k.1.1.failed
-place_unfailed false old now (Some g) calm k = ap (λ (r : Reader). r.failed) k.1.0 ∙ calm
-
-pub unseen_same : (seen : Bool) (old now : Reader) (o : Option Given) → seen ≡ false → PlaceIs seen old now o → now ≡ old
-unseen_same seen old now None is k = k.1
-unseen_same true old now (Some g) is k = absurd (false≢true (sym is))
-unseen_same false old now (Some g) is k = k.1.0
-
-pub came_at : (seen : Bool) (old now : Reader) (o : Option Given) → IsFresh old → PlaceIs seen old now o → CameAt old now o
-came_at seen old now None fresh k = k
-came_at seen old now (Some g) fresh k = (k.0, subst (λ (h : Given). Came old now h) (some_same (sym y.is)) y.came)
+pub came_unread : (r : Reader) → IsFresh r → CameAt r r (received_of r)
+came_unread r fresh = by_refused r.refused refl
   where
-    y : Ready seen old now (Some g)
-    y = ready_of seen old now (Some g) fresh (place_refused seen old now (Some g) k ∙ k.0) k
+    by_refused : (b : Bool) → r.refused ≡ b → CameAt r r (cond b None (Some nothing_yet))
+    by_refused true is = (is, refl)
+    by_refused false is = (is, came_nothing r (fresh is))
 
-    some_same : {a b : Given} → Some a ≡ Some b → a ≡ b
-    some_same is = cc
+pub never_long : (r : Reader) → IsTooLong (received_of r) → ⊥
+never_long r = by_refused r.refused
+  where
+    by_refused : (b : Bool) → IsTooLong (cond b None (Some nothing_yet)) → ⊥
+    by_refused true long = long
+    by_refused false long = omega (arith, long)
+
+-- of a reader that was opened something came
+pub opened_came : (old now : Reader) (o : Option Given) → old.refused ≡ false → CameAt old now o → (g : Given) × (o ≡ Some g) × Came old now g
+opened_came old now None opened k = absurd (false≢true (sym opened ∙ k.0))
+opened_came old now (Some g) opened k = (g, refl, k.1)
+
+pub still_refused : (old now : Reader) (o : Option Given) → CameAt old now o → now.refused ≡ old.refused
+still_refused old now None k = ap (λ (r : Reader). r.refused) k.1
+still_refused old now (Some g) k = k.1.refused
+
+-- not too much came
+pub not_long : (old now : Reader) (o : Option Given) → IsFresh old → CameAt old now o → (old.refused ≡ false → now.pulled < 2 ^ 63) → IsTooLong o → ⊥
+not_long old now None fresh k short long = long
+not_long old now (Some g) fresh k short long = let new = fresh k.0 in omega (arith, k.1.count, short k.0, ap length new.held, new.pulled, long)
+
+pub ended_at : (old now : Reader) (o : Option Given) → CameAt old now o → (old.refused ≡ false → IsSpent now) → EndedAt o
+ended_at old now None k spent = tt
+ended_at old now (Some g) k spent = k.1.ended ∙ (spent k.0).done.ended
 
 -- the same are refused
 pub refused_at : (old now : Reader) (o : Option Given) (v : Option (List ℕ)) → CameAt old now o → AllowsAt o v → old.refused ≡ is_none v
@@ -144,73 +111,43 @@ none_of (Some b) is = absurd (false≢true is)
 
 -- ---- what an operand finds
 
-pub agreed : (o : Option Given) (v : Option (List ℕ)) (g : Given) → o ≡ Some g → AllowsAt o v → (b : List ℕ) × (v ≡ Some b) × one.Agrees g b
+pub agreed : (o : Option Given) (v : Option (List ℕ)) (g : Given) → o ≡ Some g → AllowsAt o v → (b : List ℕ) × (v ≡ Some b) × Agrees g b
 agreed None v g is a = cc
 agreed (Some h) None g is a = absurd a
-agreed (Some h) (Some b) g is a = let same : h ≡ g = cc in (b, refl, subst (λ (k : Given). one.Agrees k b) same a)
+agreed (Some h) (Some b) g is a = let same : h ≡ g = cc in (b, refl, rw same at a)
 
-pub fits : (seen : Bool) (old now new : Reader) (g e : Given) → IfSeen seen old now g → Came now new e → (b : List ℕ)
-    → one.Agrees (record { bytes = g.bytes ++ e.bytes; ended = e.ended }) b → one.Agrees e (cond seen [] b)
-fits true old now new g e k came b a =
-    let none = ended_gives_nothing now new e came k.1.done.held k.1.done.ended in
-    record { rest = []; is = sym (append-nil e.bytes ∙ none.0); whole = λ _. refl }
-fits false old now new g e k came b a = record { rest = a.rest; is = a.is ∙ ap (λ (h : Given). (h.bytes ++ e.bytes) ++ a.rest) k.1; whole = a.whole }
-
-pub agrees_before : (g e : Given) (b : List ℕ) → (g.ended ≡ true → (e.bytes ≡ []) × (e.ended ≡ true)) → one.Agrees (record { bytes = g.bytes ++ e.bytes; ended = e.ended }) b → one.Agrees g b
+pub agrees_before : (g e : Given) (b : List ℕ) → (g.ended ≡ true → (e.bytes ≡ []) × (e.ended ≡ true)) → Agrees (record { bytes = g.bytes ++ e.bytes; ended = e.ended }) b → Agrees g b
 agrees_before g e b still a = record {
   rest = e.bytes ++ a.rest;
   is = a.is ∙ append_assoc g.bytes e.bytes a.rest;
   whole = λ ended. let k = still ended in λ i. k.0 i ++ a.whole k.1 i;
 }
 
-pub agrees_some : (o : Option Given) (v : Option (List ℕ)) (g : Given) → o ≡ Some g → ((b : List ℕ) → v ≡ Some b → one.Agrees g b) → (b : List ℕ) → v ≡ Some b → AllowsAt o v
-agrees_some o v g is_o given b is_v = subst (λ (x : Option Given). AllowsAt x v) (sym is_o) (subst (λ (y : Option (List ℕ)). AllowsAt (Some g) y) (sym is_v) (given b is_v))
+-- all of it came
+pub agrees_whole : (g : Given) (b : List ℕ) → g.ended ≡ true → Agrees g b → b ≡ g.bytes
+agrees_whole g b ended a = a.is ∙ ap (λ (l : List ℕ). g.bytes ++ l) (a.whole ended) ∙ append-nil g.bytes
+
+pub agrees_some : (o : Option Given) (v : Option (List ℕ)) (g : Given) → o ≡ Some g → (b : List ℕ) → v ≡ Some b → Agrees g b → AllowsAt o v
+agrees_some o v g is_o b is_v agrees = rw (is_o, is_v) agrees
 
 -- ---- before the first operand, and at the end
 
-abbrev pub received_of : Reader → Option Given
-received_of r = cond r.refused None (Some nothing_yet)
+pub received_at : (old : List Reader) (q : ℕ) → at (map received_of old) q ≡ received_of (reader_at old q)
+received_at old q = get_or-map received_of old q no_reader
 
-pub start_place : (r : Reader) → PlaceIs false r r (received_of r)
-start_place r = by_refused r.refused refl
-  where
-    by_refused : (b : Bool) → r.refused ≡ b → PlaceIs false r r (cond b None (Some nothing_yet))
-    by_refused true is = (is, refl)
-    by_refused false is = (is, (refl, refl))
-
--- not too much came
-pub not_long : (seen : Bool) (old now : Reader) (o : Option Given) → IsFresh old → PlaceIs seen old now o → IsTooLong o → ⊥
-not_long seen old now None fresh k long = long
-not_long true old now (Some g) fresh k long = let new = fresh k.0 in omega (arith, k.1.0.count, k.1.1.short, ap length new.held, new.pulled, long)
-not_long false old now (Some g) fresh k long = let none : length g.bytes ≡ 0 = ap (λ (h : Given). length h.bytes) k.1.1 in absurd (omega (arith, none, long))
-
-pub nothing_long : (old : List Reader) → ((q : ℕ) → IsFresh (reader_at old q)) → (q : ℕ) → IsTooLong (at (map received_of old) q) → ⊥
-nothing_long old fresh q = not_long false (reader_at old q) (reader_at old q) (at (map received_of old) q) (fresh q)
-    (subst (λ (o : Option Given). PlaceIs false (reader_at old q) (reader_at old q) o) (sym (get_or-map received_of old q no_reader)) (start_place (reader_at old q)))
+pub nothing_long : (old : List Reader) (q : ℕ) → IsTooLong (at (map received_of old) q) → ⊥
+nothing_long old q long = never_long (reader_at old q) (rw (received_at old q) at long)
 
 -- nothing was read
 pub nothing_read : (old : List Reader) → ((q : ℕ) → IsFresh (reader_at old q)) → IsReceived old old (map received_of old)
-nothing_read old fresh q = came_at false (reader_at old q) (reader_at old q) (at (map received_of old) q) (fresh q)
-    (subst (λ (o : Option Given). PlaceIs false (reader_at old q) (reader_at old q) o) (sym (get_or-map received_of old q no_reader)) (start_place (reader_at old q)))
-
-pub unseen_of : (seen : Bool) (old now new : Reader) (g e : Given) → IfSeen seen old now g → Came now new e → new.ended ≡ false → (seen ≡ false) × (g ≡ nothing_yet)
-unseen_of true old now new g e k came going = absurd (false≢true (sym going ∙ (came.still k.1.done.ended).1))
-unseen_of false old now new g e k came going = (refl, k.1)
-
-pub not_seen_long : (seen : Bool) (old now new : Reader) (g e : Given) → IfSeen seen old now g → Came now new e → 2 ^ 63 ≤ new.pulled → seen ≡ false
-not_seen_long true old now new g e k came long = absurd (omega (arith, k.1.short, (came.still k.1.done.ended).0, long))
-not_seen_long false old now new g e k came long = refl
+nothing_read old fresh q = rw (received_at old q) (came_unread (reader_at old q) (fresh q))
 
 agrees_least_at : (o : Option Given) → AllowsAt o (bytes_at o)
 agrees_least_at None = tt
 agrees_least_at (Some g) = record { rest = []; is = sym (append-nil g.bytes); whole = λ _. refl }
 
 pub agrees_least : (r : Received) → Allows r (least r)
-agrees_least r q = subst (λ (v : Option (List ℕ)). AllowsAt (at r q) v) (sym (at-least r q)) (agrees_least_at (at r q))
-
-pub ended_at : (old now : Reader) (o : Option Given) → PlaceIs true old now o → EndedAt o
-ended_at old now None k = tt
-ended_at old now (Some g) k = k.1.0.ended ∙ k.1.1.done.ended
+agrees_least r q = rw (at-least r q) (agrees_least_at (at r q))
 
 pub nth_here : (done more : List ℕ) (p : ℕ) → slice_get (done ++ p ∷ more) (length done) ≡ Some p
 nth_here [] more p = refl

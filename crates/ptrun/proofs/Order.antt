@@ -26,8 +26,12 @@ fresh_all [] h q = λ opened. absurd (false≢true (sym opened))
 fresh_all (r ∷ readers) h zero = h zero no_reader (omega arith)
 fresh_all (r ∷ readers) h (suc q) = fresh_all readers (λ k d within. h (suc k) d (omega (arith, within))) q
 
-pub place_fits : (order : List Input) (n i : ℕ) (d : Input) → All (λ p. p < n) (places order) → i < length order → place (get_or order i d) < n
-place_fits order n i d fits within = subst (λ (k : ℕ). k < n) (get_or-map place order i d 0 within) (fits i 0 (omega (arith, within, length-map order place)))
+pub place_fits : (order : List Input) (n : ℕ) → All (λ p. p < n) (places order) → All (λ o. place o < n) order
+place_fits order n fits i d within = rw (get_or-map place order i d 0 within) at (fits i 0 (omega (arith, within, length-map order place)))
+
+-- the place of the i-th operand is below what all are
+pub place_low : {n p : ℕ} (order : List Input) (i : ℕ) (d : Input) → All (λ o. place o < n) order → i < length order → p ≡ place (get_or order i d) → p < n
+place_low {n} order i d fits low is = subst (λ (m : ℕ). m < n) (sym is) (fits i d low)
 
 -- a name is seen as its text, so there are as many
 pub names_counted : (names : List (Bor (List ℕ))) (n : ℕ) → n ≡ length (words_seen names) + 1 → n ≡ length names + 1
@@ -48,9 +52,9 @@ pub places_end : (order : List Input) (i : ℕ) → length order ≤ i → take 
 places_end order i all = take_all i (places order) (omega (arith, all, length-map order place))
 
 -- a pass over a reader is one over the same reader
-pub pass_here : (t : Tool) (first reader new : Reader) (was is : Output) (before store : Slots) (result : Result (Unit {0}) FlowFault) → first ≡ reader
+pub pass_here : {t : Tool} {first reader new : Reader} {was is : Output} {before store : Slots} {result : Result (Unit {0}) FlowFault} → first ≡ reader
     → IsPass t first new was is before store result → IsPass t reader new was is before store result
-pass_here t first reader new was is before store result same pass = subst (λ (r : Reader). IsPass t r new was is before store result) same pass
+pass_here same pass = rw same at pass
 
 -- ---- the operands of words
 

@@ -3,7 +3,8 @@
 -- What a tool pushed reaches the sink as far as no write failed, and its last words are said behind what it said. The
 -- headline is a reading of the run in the world that the readers tell: it is allowed by what was received, and each
 -- cause of a failure contradicts a premise.
-use Rattle.std.proofs.Common.{◌≡◌, ⊎_elim, inl, ℕ, Bool, true, false, List, [], ◌++◌, Option, Some, None, Result, Ok, Err, length, map, refl, sym, ◌∙◌, ap, subst, arith, append_assoc, length-append}
+use Rattle.std.proofs.Common.{◌≡◌, ⊎_elim, ℕ, Bool, true, false, cond, List, [], ◌++◌, Option, Some, None, Result, Ok}
+use Rattle.std.proofs.Common.{Err, length, map, refl, sym, ◌∙◌, ap, subst, arith, append_assoc, length-append}
 use Rattle.std.specs.Prelude.{All}
 use Rattle.std.specs.Io.KnownBytes.{append_known, prepend_known, IsAtEnd}
 use Rattle.std.proofs.lemmas.List.{append-nil, append_cancel_left, nil_from_length}
@@ -15,19 +16,16 @@ use Rattle.ptlines.specs.Slots.{Slots}
 use Rattle.ptlines.specs.Sinks.{SinkState}
 use Rattle.ptlines.proofs.Known.{append_known-nil}
 use Rattle.ptlines.proofs.Pushed.{wrote_trans}
-use Rattle.ptlines.specs.Inputs.{Given}
-use Rattle.ptlines.specs.Inputs.{Begins, Came}
-use Rattle.ptlines.specs.Inputs as one
+use Rattle.ptlines.specs.Inputs.{Given, Agrees, Begins}
 use Rattle.ptflow.specs.declared.faults.FlowFault.{FlowFault}
 use Rattle.ptflow.specs.declared.faults.FlowFault.TheVariants.{Read, Write, Memory}
 use Rattle.ptrun.specs.declared.engine.Done.{Done}
 use Rattle.ptrun.specs.Worlds.{World, Received, at, AllowsAt, Allows, reader_at, shut, is_unopened, CameAt, IsReceived, IsFresh, HasFailed, IsTooLong, TellsAt, TellsWorld}
 use Rattle.ptrun.specs.Sayings.{Tells}
-use Rattle.ptrun.specs.Meanings.{Meaning, named, unopened}
+use Rattle.ptrun.specs.Meanings.{Meaning, named, messages, unopened}
 use Rattle.ptrun.specs.Runs.{Sinks, sinks, Outcome, Cause, EndsAs, IsRun, IsExact, Headline}
-use Rattle.ptrun.specs.Engines.{WentTo, Went, Finishes, last_words, status_after, IsWithin}
-use Rattle.ptflow.specs.Tools.{Tool}
-use Rattle.ptrun.specs.KeepingUp.{PassedOn, KeptUp, EarlierAs}
+use Rattle.ptrun.specs.Engines.{Checks, WentTo, Went, Finishes, last_words, status_after, IsWithin}
+use Rattle.ptrun.specs.KeepingUp.{PassedOn, KeptUp}
 use Rattle.ptrun.proofs.KeepingUp.{kept_up, earlier_map, nothing_decided}
 use Rattle.ptrun.specs.Asked.{saying}
 use Rattle.ptrun.proofs.Sayings.{tells_trans}
@@ -53,24 +51,19 @@ reached_of was new pushed empty w = by_known was.taken refl
       front = pushed;
       rest = [];
       split = sym (append-nil pushed);
-      taken = w.kept.is ∙ ap (λ (t : Option (List ℕ)). append_known t w.kept.front) is ∙ sym (ap (λ (t : Option (List ℕ)). append_known t pushed) is);
+      taken = rw (w.kept.is, is) refl;
       whole = λ _ _. refl;
       unknown = λ _. refl;
     }
     by_known (Some t) is = record {
       front = w.kept.front;
       rest = new.staged ++ w.beginning.front;
-      split = append_cancel_left t pushed (w.kept.front ++ (new.staged ++ w.beginning.front))
-          (some_same (sym before_is ∙ w.beginning.is ∙ ap (λ (k : Option (List ℕ)). append_known k w.beginning.front) after_is)
-          ∙ append_assoc (t ++ w.kept.front) new.staged w.beginning.front ∙ append_assoc t w.kept.front (new.staged ++ w.beginning.front));
+      split = split;
       taken = w.kept.is;
       whole = λ clean none.
           let same : t ++ w.kept.front ≡ t ++ pushed = some_same (sym (after_is ∙ ap (λ (l : List ℕ). Some ((t ++ w.kept.front) ++ l)) none
           ∙ ap (λ (l : List ℕ). Some l) (append-nil (t ++ w.kept.front))) ∙ w.whole clean ∙ before_is) in
           let all : w.kept.front ≡ pushed = append_cancel_left t w.kept.front pushed same in
-          let split : pushed ≡ w.kept.front ++ (new.staged ++ w.beginning.front) = append_cancel_left t pushed
-          (w.kept.front ++ (new.staged ++ w.beginning.front)) (some_same (sym before_is ∙ w.beginning.is ∙ ap (λ (k : Option (List ℕ)). append_known k w.beginning.front) after_is)
-          ∙ append_assoc (t ++ w.kept.front) new.staged w.beginning.front ∙ append_assoc t w.kept.front (new.staged ++ w.beginning.front)) in
           nil_from_length (new.staged ++ w.beginning.front) (omega (arith, ap length all, ap length split, length-append w.kept.front (new.staged ++ w.beginning.front)));
       unknown = λ none. absurd (some_known (sym is ∙ none));
     }
@@ -82,11 +75,15 @@ reached_of was new pushed empty w = by_known was.taken refl
         some_known same = cc
 
         before_is : append_known (text was) pushed ≡ Some (t ++ pushed)
-        before_is = ap (λ (k : Option (List ℕ)). append_known (append_known k was.staged) pushed) is ∙ ap (λ (l : List ℕ). Some ((t ++ l) ++ pushed)) empty
-            ∙ ap (λ (l : List ℕ). Some (l ++ pushed)) (append-nil t)
+        before_is = rw (is, empty, append-nil t) refl
 
         after_is : text new ≡ Some ((t ++ w.kept.front) ++ new.staged)
-        after_is = ap (λ (k : Option (List ℕ)). append_known k new.staged) (w.kept.is ∙ ap (λ (k : Option (List ℕ)). append_known k w.kept.front) is)
+        after_is = rw (w.kept.is, is) refl
+
+        split : pushed ≡ w.kept.front ++ (new.staged ++ w.beginning.front)
+        split = append_cancel_left t pushed (w.kept.front ++ (new.staged ++ w.beginning.front))
+            (some_same (sym before_is ∙ w.beginning.is ∙ ap (λ (k : Option (List ℕ)). append_known k w.beginning.front) after_is)
+            ∙ append_assoc (t ++ w.kept.front) new.staged w.beginning.front ∙ append_assoc t w.kept.front (new.staged ++ w.beginning.front))
 
 -- ---- the world that the readers tell agrees with every reading
 
@@ -96,7 +93,7 @@ told_agrees_at old new None (Some b) fresh k tells = absurd (false≢true (sym t
 told_agrees_at old new (Some g) None fresh k tells = absurd (false≢true (sym k.0 ∙ tells))
 told_agrees_at old new (Some g) (Some b) fresh k tells = by_left new.left (sym tells.1 ∙ k.1.moved) (k.1.end (λ ended. absurd (false≢true (sym (fresh k.0).ended ∙ ended))))
   where
-    by_left : (left : Option (List ℕ)) → Some b ≡ prepend_known g.bytes left → (new.ended ≡ true → IsAtEnd left) → one.Agrees g b
+    by_left : (left : Option (List ℕ)) → Some b ≡ prepend_known g.bytes left → (new.ended ≡ true → IsAtEnd left) → Agrees g b
     by_left None is end = cc
     by_left (Some rest) is end = record { rest = rest; is = cc; whole = λ ended. end (sym k.1.ended ∙ ended) }
 
@@ -136,114 +133,90 @@ headline_of m old new before o fresh k w tells none fine roomy = by_fault k.faul
 none_failed : (old : List Reader) (q : ℕ) → HasFailed old old q → ⊥
 none_failed old q failed = false≢true (sym failed.1 ∙ failed.2)
 
--- Nothing was to be read, and the output is left alone.
-module _ (m : Meaning) (at_once : m.in_turn ≡ None) (old : List Reader) (undecided : (r : Received) → ((q : ℕ) → shut old q ≡ is_unopened r q) → m.decided r
-    ≡ []) (fresh : All IsFresh old) (out told heard : SinkState) (fine : out.failed ≡ false) (text : List ℕ) (tells : Tells told heard text) where
-  unread : (o : Outcome) → o.out ≡ out → o.messages ≡ heard → o.peak ≡ 0 → (n : ℕ) (fault : Option FlowFault)
-      → EndsAs m (map received_of old) old old [] text o n fault → IsRun m old old (sinks out told) o
-  unread o same said none n fault ends = record {
-    received = map received_of old;
-    came = nothing_read old (fresh_all old fresh);
-    written = [];
-    took = ap (λ (s : SinkState). s.taken) same ∙ sym (append_known-nil out.taken);
-    flushed = λ settled _. ap (λ (s : SinkState). s.pending) same ∙ settled;
-    said = text;
-    tells = subst (λ (s : SinkState). Tells told s text) (sym said) tells;
-    behind = n;
-    fault = fault;
-    ends = ends;
-    untouched = λ q other. refl;
-    true_so_far = λ w agrees. record { rest = m.out w; is = refl };
-    told = λ q failed clean. absurd (none_failed old q failed);
-    sure = λ q failed clean. absurd (none_failed old q failed);
-    keeps_up = subst (λ (kind : Option Tool). EarlierAs m (map received_of old) n (λ decided. KeptUp decided [] o.out.failed) kind) (sym at_once)
-        (nothing_decided m.places m.decided (map received_of old) o.out.failed
-        (λ r same. undecided r (λ q. refused_received (reader_at old q) (reader_at old q) (at (map received_of old) q) (nothing_read old (fresh_all old fresh) q) ∙ sym (same q))));
-    bounded = λ w agrees. omega (arith, none);
-  }
+-- Nothing was to be read, the output is left alone, and this was said.
+unread : (m : Meaning) {old : List Reader} {out told heard : SinkState} {text : List ℕ} (status : ℕ) → m.in_turn ≡ None
+    → ((r : Received) → ((q : ℕ) → shut old q ≡ is_unopened r q) → m.decided r ≡ []) → All IsFresh old → out.failed ≡ false → Tells told heard text
+    → ((w : World) → Allows (map received_of old) w → (m.out w ≡ []) × (text ≡ messages m w) × (status ≡ m.status w))
+    → IsRun m old old (sinks out told) (record { out = out; messages = heard; status = status; peak = 0; denied = false })
+unread m {old} {out} {told} {heard} {text} status at_once undecided fresh fine tells says = record {
+  received = received;
+  came = came;
+  written = [];
+  took = sym (append_known-nil out.taken);
+  flushed = λ settled _. settled;
+  said = text;
+  tells = tells;
+  behind = length m.places;
+  fault = None;
+  ends = (
+    record {
+      all = refl;
+      out = λ w agrees. sym (says w agrees).0;
+      written = fine;
+      roomy = refl;
+      read = λ q. ⊎_elim (λ failed. none_failed old q failed) (λ long. nothing_long old q long);
+    },
+    λ w agrees. ((says w agrees).1, (says w agrees).2),
+  );
+  untouched = λ q other. refl;
+  true_so_far = λ w agrees. record { rest = m.out w; is = refl };
+  told = λ q failed clean. absurd (none_failed old q failed);
+  sure = λ q failed clean. absurd (none_failed old q failed);
+  keeps_up = rw at_once
+      (nothing_decided m.places m.decided received out.failed
+      (λ r same. undecided r (λ q. refused_received (reader_at old q) (reader_at old q) (at received q) (came q) ∙ sym (same q))));
+  bounded = λ w agrees. omega arith;
+}
+  where
+    received : Received
+    received = map received_of old
+
+    came : IsReceived old old (map received_of old)
+    came = nothing_read old (fresh_all old fresh)
 
 -- nothing was read or written, and this was said
-pub only_said : (text : List ℕ) (is : ℕ) (old : List Reader) → All IsFresh old → (out told heard : SinkState) (status : ℕ) → out.failed ≡ false → Tells told heard text → status ≡ is
+pub only_said : {text : List ℕ} {is : ℕ} {old : List Reader} {out told heard : SinkState} {status : ℕ} → All IsFresh old → out.failed ≡ false → Tells told heard text → status ≡ is
     → IsRun (saying text is) old old (sinks out told) (record { out = out; messages = heard; status = status; peak = 0; denied = false })
-only_said text is old fresh out told heard status fine tells status_is =
-    unread (saying text is) refl old (λ r same. refl) fresh out told heard fine text tells (record { out = out; messages = heard; status = status; peak = 0; denied = false }) refl refl refl 0 None (
-      record {
-        all = refl;
-        out = λ w agrees. refl;
-        written = fine;
-        roomy = refl;
-        read = λ q. ⊎_elim (λ failed. none_failed old q failed) (λ long. nothing_long old (fresh_all old fresh) q long);
-      },
-      λ w agrees. (refl, status_is),
-    )
+only_said {text} {is} {status = status} fresh fine tells status_is = unread (saying text is) status refl (λ r same. refl) fresh fine tells (λ w agrees. (refl, refl, status_is))
 
 -- Inputs are lacking, those that could not be opened were named, and there is nothing else to do.
-pub lacking : (m : Meaning) (old : List Reader) → All IsFresh old → (out told heard : SinkState) → out.failed ≡ false → Tells told heard (unopened m.tool m.names (shut old) m.places)
-    → ((w : World) → ((q : ℕ) → shut old q ≡ is_unopened w q) → (m.out w ≡ []) × (m.closing w ≡ []) × (m.status w ≡ 1)) → m.in_turn ≡ None
-    → ((r : Received) → ((q : ℕ) → shut old q ≡ is_unopened r q) → m.decided r ≡ [])
+pub lacking : {m : Meaning} {old : List Reader} {out told heard : SinkState} {lacks : Bool} → All IsFresh old → out.failed ≡ false → Checks m old told heard lacks → lacks ≡ true
     → IsRun m old old (sinks out told) (record { out = out; messages = heard; status = 1; peak = 0; denied = false })
-lacking m old fresh out told heard fine tells nothing at_once undecided =
-    unread m at_once old undecided fresh out told heard fine (unopened m.tool m.names (shut old) m.places) tells
-    (record { out = out; messages = heard; status = 1; peak = 0; denied = false }) refl refl refl (length m.places) None (
-      record {
-        all = refl;
-        out = λ w agrees. sym (nothing w (same w agrees)).0;
-        written = fine;
-        roomy = refl;
-        read = λ q. ⊎_elim (λ failed. none_failed old q failed) (λ long. nothing_long old (fresh_all old fresh) q long);
-      },
-      λ w agrees. (
-        unopened_same m.tool m.names (shut old) (is_unopened w) m.places (same w agrees)
-            ∙ ap (unopened m.tool m.names (is_unopened w)) (sym (take-length m.places)) ∙ sym (append-nil (named m w (length m.places)))
-            ∙ ap (λ (l : List ℕ). named m w (length m.places) ++ l) (sym (nothing w (same w agrees)).1),
-        sym (nothing w (same w agrees)).2,
-      ),
-    )
-  where
-    same : (w : World) → Allows (map received_of old) w → (q : ℕ) → shut old q ≡ is_unopened w q
-    same w agrees = refused_same old old (map received_of old) w (nothing_read old (fresh_all old fresh)) agrees
-
--- nothing was said in front of a run
-pub run_behind : (m : Meaning) (old new : List Reader) (out a b : SinkState) (o : Outcome) → Tells a b [] → IsRun m old new (sinks out b) o → IsRun m old new (sinks out a) o
-run_behind m old new out a b o none k = record {
-  received = k.received;
-  came = k.came;
-  written = k.written;
-  took = k.took;
-  flushed = k.flushed;
-  said = k.said;
-  tells = tells_trans a b o.messages [] k.said none k.tells;
-  behind = k.behind;
-  fault = k.fault;
-  ends = k.ends;
-  untouched = k.untouched;
-  true_so_far = k.true_so_far;
-  told = k.told;
-  sure = k.sure;
-  keeps_up = k.keeps_up;
-  bounded = k.bounded;
-}
+lacking {m} {old} {told = told} {heard = heard} fresh fine k lacks =
+    unread m 1 (k.at_once lacks) (k.undecided lacks) fresh fine
+    (subst (λ (b : Bool). Tells told heard (cond b (unopened m.tool m.names (shut old) m.places) [])) lacks k.tells)
+    (λ w agrees.
+    let same = refused_same old old (map received_of old) w (nothing_read old (fresh_all old fresh)) agrees in
+    let nothing = k.nothing lacks w same in (
+      nothing.0,
+      rw (nothing.1, take-length m.places, append-nil (unopened m.tool m.names (is_unopened w) m.places)) (unopened_same m.tool m.names (shut old) (is_unopened w) m.places same),
+      sym nothing.2,
+    ))
 
 -- ---- the end of a run
 
+abbrev fault_of : Result Done FlowFault → Option FlowFault
+fault_of (Ok done) = None
+fault_of (Err fault) = Some fault
+
 -- what is to be named has a name
-pub named_of : (m : Meaning) (old new : List Reader) (was is is' : Output) (told heard : SinkState) (before store : Slots) (went ended : Result Done FlowFault)
+pub named_of : {m : Meaning} {old new : List Reader} {was is is' : Output} {told heard : SinkState} {before store : Slots} {went ended : Result Done FlowFault}
     → Went m old new was is told heard before store went → Finishes is is' went ended → IsWithin (length old) ended
-named_of m old new was is is' told heard before store went ended k f = by_fault is'.faulted refl
+named_of {old = old} {is' = is'} {ended = ended} k f = by_fault is'.faulted refl
   where
     by_fault : (b : Bool) → is'.faulted ≡ b → IsWithin (length old) ended
-    by_fault true faulted = subst (IsWithin (length old)) (sym (f.broken faulted)) tt
-    by_fault false clean = subst (IsWithin (length old)) (sym (f.clean clean).0) k.place
+    by_fault true faulted = rw (f.broken faulted) tt
+    by_fault false clean = rw (f.clean clean).0 k.place
 
-module _ (m : Meaning) (old new : List Reader) (was is is' : Output) (told heard : SinkState) (before store : Slots) (went ended : Result Done FlowFault) (out : SinkState) (o : Outcome)
-    (k : Went m old new was is told heard before store went) (f : Finishes is is' went ended) (says : Tells heard o.messages (last_words m.tool m.names ended))
-    (status_is : o.status ≡ status_after ended)
+module _ {m : Meaning} {old new : List Reader} {was is is' : Output} {at_first told heard : SinkState} {before store : Slots} {went ended : Result Done FlowFault} (out : SinkState) (o : Outcome)
+    (none_said : Tells at_first told []) (k : Went m old new was is told heard before store went) (f : Finishes is is' went ended)
+    (says : Tells heard o.messages (last_words m.tool m.names ended)) (status_is : o.status ≡ status_after ended)
     (made : was ≡ record { taken = out.taken; staged = []; faulted = false; pending = out.pending }) (last_taken : o.out.taken ≡ is'.taken)
     (last_failed : o.out.failed ≡ is'.faulted) (last_pending : o.out.pending ≡ is'.pending)
     (low : before.peak ≡ 0) (peak_is : o.peak ≡ store.peak) (denied_is : o.denied ≡ store.denied) where
   wrote_all : (b : Bool) → is.faulted ≡ b → Wrote was is' k.pushed
-  wrote_all true faulted = subst (λ (o : Output). Wrote was o k.pushed) (sym (f.wrote.stays faulted)) k.wrote
-  wrote_all false clean = subst (λ (l : List ℕ). Wrote was is' l) (append-nil k.pushed) (wrote_trans was is is' k.pushed [] clean k.wrote f.wrote)
+  wrote_all true faulted = rw (f.wrote.stays faulted) k.wrote
+  wrote_all false clean = rw (append-nil k.pushed) at (wrote_trans was is is' k.pushed [] clean k.wrote f.wrote)
 
   wrote : Wrote was is' k.pushed
   wrote = wrote_all is.faulted refl
@@ -263,74 +236,44 @@ module _ (m : Meaning) (old new : List Reader) (was is is' : Output) (told heard
   abbrev last : List ℕ
   last = last_words m.tool m.names ended
 
-  record Ending : Type 0 where
-    fault : Option FlowFault
-    ends : EndsAs m k.received old new reached.front (k.said ++ last) o k.behind fault
-    told_read : (place : ℕ) → HasFailed old new place → o.out.failed ≡ false → fault ≡ Some (Read place)
-
-  stopped : (fault : FlowFault) → ended ≡ Err fault → Cause m k.received old new o.out.failed o.denied k.behind fault
-      → ((place : ℕ) → HasFailed old new place → o.out.failed ≡ false → ended ≡ Err (Read place)) → Ending
-  stopped fault is_err cause reads = record {
-    fault = Some fault;
-    ends = record {
-      within = k.within;
-      messages = λ w agrees. λ i. k.names w agrees i ++ last_words m.tool m.names (is_err i);
-      cause = cause;
-      status_is = status_is ∙ ap status_after is_err;
-    };
-    told_read = λ place failed fine. same_fault fault (Read place) (sym is_err ∙ reads place failed fine);
-  }
+  went_to : WentTo m k.received old new k.pushed is'.faulted store.denied k.behind ended
+  went_to = by_fault is'.faulted refl
     where
-      same_fault : (a b : FlowFault) → (let r : Result Done FlowFault = Err a in r ≡ Err b) → Some a ≡ Some b
-      same_fault a b same = cc
+      by_fault : (b : Bool) → is'.faulted ≡ b → WentTo m k.received old new k.pushed is'.faulted store.denied k.behind ended
+      by_fault true faulted = rw (f.broken faulted) faulted
+      by_fault false clean = rw (clean, (f.clean clean).0) (rw (f.clean clean).2 at k.ends)
 
-  clean_ending : (r : Result Done FlowFault) → went ≡ r → WentTo m k.received old new k.pushed is.faulted store.denied k.behind r → is'.faulted ≡ false → Ending
-  clean_ending (Ok done) is_ok e clean = record {
-    fault = None;
-    ends = (
-      record {
-        all = e.0.all;
-        out = λ w agrees. all_front clean ∙ e.0.out w agrees;
-        written = last_failed ∙ clean;
-        roomy = denied_is ∙ e.0.roomy;
-        read = e.0.read;
-      },
-      λ w agrees. (
-        (λ i. (k.names w agrees ∙ ap (λ (n : ℕ). named m w n) e.0.all) i ++ (ap (last_words m.tool m.names) same ∙ (e.1 w agrees).0) i),
-        status_is ∙ ap status_after same ∙ (e.1 w agrees).1,
-      ),
-    );
-    told_read = λ place failed fine. absurd (e.0.read place (inl failed));
+  ends_as : (r : Result Done FlowFault) → ended ≡ r → WentTo m k.received old new k.pushed is'.faulted store.denied k.behind r
+      → EndsAs m k.received old new reached.front (k.said ++ last) o k.behind (fault_of r)
+  ends_as (Ok done) same e = (
+    record { all = e.0.all; out = λ w agrees. all_front e.0.written ∙ e.0.out w agrees; written = last_failed ∙ e.0.written; roomy = denied_is ∙ e.0.roomy; read = e.0.read },
+    λ w agrees. (
+      (λ i. (k.names w agrees ∙ ap (λ (n : ℕ). named m w n) e.0.all) i ++ (ap (last_words m.tool m.names) same ∙ (e.1 w agrees).0) i),
+      status_is ∙ ap status_after same ∙ (e.1 w agrees).1,
+    ),
+  )
+  ends_as (Err fault) same e = record {
+    within = k.within;
+    messages = λ w agrees i. k.names w agrees i ++ last_words m.tool m.names (same i);
+    cause = rw (last_failed, denied_is) e;
+    status_is = status_is ∙ ap status_after same;
   }
-    where
-      same : ended ≡ Ok done
-      same = (f.clean clean).0 ∙ is_ok
-  clean_ending (Err fault) is_err e clean =
-      stopped fault ((f.clean clean).0 ∙ is_err)
-      (subst (λ (b : Bool). Cause m k.received old new b o.denied k.behind fault) ((f.clean clean).2 ∙ sym (last_failed ∙ clean))
-      (subst (λ (b : Bool). Cause m k.received old new is.faulted b k.behind fault) (sym denied_is) e))
-      (λ place failed fine. (f.clean clean).0 ∙ k.told_read place failed (f.clean clean).2)
 
-  ending : (b : Bool) → is'.faulted ≡ b → Ending
-  ending true faulted =
-      stopped Write (f.broken faulted) (last_failed ∙ faulted) (λ place failed fine. absurd (false≢true (sym (sym last_failed ∙ fine) ∙ faulted)))
-  ending false clean = clean_ending went refl k.ends clean
-
-  pub run_of : IsRun m old new (sinks out told) o
-  run_of = let e = ending is'.faulted refl in record {
+  pub run_of : IsRun m old new (sinks out at_first) o
+  run_of = record {
     received = k.received;
     came = k.came;
     written = reached.front;
     took = last_taken ∙ reached.taken ∙ ap (λ (t : Option (List ℕ)). append_known t reached.front) (ap (λ (o : Output). o.taken) made);
     flushed = λ _ fine. last_pending ∙ f.flushed (sym last_failed ∙ fine);
     said = k.said ++ last;
-    tells = tells_trans told heard o.messages k.said last k.tells says;
+    tells = tells_trans none_said (tells_trans k.tells says);
     behind = k.behind;
-    fault = e.fault;
-    ends = e.ends;
+    fault = fault_of ended;
+    ends = ends_as ended refl went_to;
     untouched = k.untouched;
     true_so_far = begins;
-    told = e.told_read;
+    told = λ place failed fine. let clean = sym last_failed ∙ fine in ap fault_of ((f.clean clean).0 ∙ k.told_read place failed (f.clean clean).2);
     sure = λ place failed fine. let clean = sym last_failed ∙ fine in let b = k.sure place failed (f.clean clean).2 in record { rest = b.rest; is = all_front clean ∙ b.is };
     keeps_up = earlier_map m k.received k.behind (λ decided. PassedOn decided was is k.pushed) (λ decided. KeptUp decided reached.front o.out.failed) kept k.keeps_up;
     bounded = λ w agrees. omega (arith, k.peak w agrees, low, peak_is);

@@ -1,12 +1,13 @@
 -- What the operands find, one more operand at a time.
-use Rattle.std.proofs.Common.{◌≡◌, ◌≢◌, ◌⊎◌, ⊎_elim, inl, inr, ℕ, zero, suc, ◌<◌, ◌==◌, ◌||◌, Bool, true, false, cond, List, [], ◌∷◌, ◌++◌, Option, Some, None}
-use Rattle.std.proofs.Common.{◌+◌, length, take, map, get_or, set, max, refl, sym, ◌∙◌, ap, subst, arith, append_assoc, add-one}
-use Rattle.std.specs.Prelude.{flat_map, option_map}
+use Rattle.std.proofs.Common.{◌≡◌, ◌≢◌, ◌⊎◌, ⊎_elim, inl, inr, ℕ, zero, suc, ◌==◌, ◌||◌, Bool, true, false, cond, List, [], ◌∷◌, ◌++◌, Option, Some, None}
+use Rattle.std.proofs.Common.{◌+◌, length, take, map, max, refl, sym, ◌∙◌, ap, subst, arith, append_assoc, add-one}
+use Rattle.std.specs.Prelude.{All, flat_map, option_map}
 use Rattle.std.specs.List.{list_any}
-use Rattle.std.proofs.lemmas.List.{append-nil, get_or-set_same, get_or-set_other}
+use Rattle.std.proofs.lemmas.List.{append-nil}
 use Rattle.std.proofs.lemmas.List.Concat.{flat_map-append}
 use Rattle.std.proofs.lemmas.List.Elements.{filter_map-append}
 use Rattle.std.proofs.lemmas.List.Folds.{list_any-append}
+use Rattle.std.proofs.lemmas.Bool.{false≢true}
 use Rattle.std.proofs.lemmas.Bool.Decides.{nat_tests, eqb_tells}
 use Rattle.ptlines.specs.Inputs.{Given, nothing_left}
 use Rattle.ptrun.specs.Worlds.{World, Received, at, is_in, found, founds, opened, sources}
@@ -14,20 +15,27 @@ use Rattle.ptflow.specs.Tools.{Tool}
 use Rattle.ptrun.specs.Operands.{largest, up_to_open}
 use Rattle.ptrun.specs.Meanings.{unopened}
 use Rattle.ptrun.specs.Messages.{not_opened, name_of}
+use Rattle.ptrun.specs.Sayings.{Tells}
+use Rattle.ptrun.proofs.Sayings.{tells_trans}
+use Rattle.ptlines.specs.Sinks.{SinkState}
+use Rattle.ptflow.specs.PastePasses.{put_at}
 
 -- ---- membership
 
-pub is_in-same : (done : List ℕ) (p : ℕ) → is_in (done ++ p ∷ []) p ≡ true
-is_in-same [] p = grind (arith, nat_tests)
-is_in-same (q ∷ done) p = later (q == p) (is_in-same done p)
-  where
-    later : (b : Bool) → is_in (done ++ p ∷ []) p ≡ true → (b || is_in (done ++ p ∷ []) p) ≡ true
-    later true h = refl
-    later false h = h
+pub same_here : (p : ℕ) → (p == p) ≡ true
+same_here p = grind (arith, nat_tests)
 
-pub is_in-other : (done : List ℕ) (p q : ℕ) → p ≢ q → is_in (done ++ p ∷ []) q ≡ is_in done q
-is_in-other [] p q differs = grind (arith, nat_tests)
-is_in-other (x ∷ done) p q differs = ap (λ (b : Bool). (x == q) || b) (is_in-other done p q differs)
+pub or_true : (b : Bool) → (b || true) ≡ true
+or_true true = refl
+or_true false = refl
+
+pub or_false : (b : Bool) → (b || false) ≡ b
+or_false true = refl
+or_false false = refl
+
+pub neither : (a b : Bool) → (a || b) ≡ false → (a ≡ false) × (b ≡ false)
+neither true b is = absurd (false≢true (sym is))
+neither false b is = (refl, is)
 
 -- the places up to one and with it
 pub take_with : (done : List ℕ) (p : ℕ) (more : List ℕ) → take (length done + 1) (done ++ p ∷ more) ≡ done ++ p ∷ []
@@ -41,17 +49,37 @@ take_with done p more = ap (λ (n : ℕ). take n (done ++ p ∷ more)) (add-one 
 pub same_or_other : (p q : ℕ) → (p ≡ q) ⊎ (p ≢ q)
 same_or_other p q = ⊎_elim (λ k. inl k.1) (λ k. inr k.1) (eqb_tells p q)
 
+-- what holds of this one and of each other holds of each
+pub by_place : (P : ℕ → Type 0) (p : ℕ) → P p → ((q : ℕ) → p ≢ q → P q) → (q : ℕ) → P q
+by_place P p here others q = ⊎_elim (λ same. subst P same here) (others q) (same_or_other p q)
+
+pub named_or_not : (ps : List ℕ) (q : ℕ) → (is_in ps q ≡ true) ⊎ (is_in ps q ≡ false)
+named_or_not ps q = by_test (is_in ps q)
+  where
+    by_test : (b : Bool) → (b ≡ true) ⊎ (b ≡ false)
+    by_test true = inl refl
+    by_test false = inr refl
+
+-- what holds of each operand holds of each place that is named
+pub each_named : (P : ℕ → Type 0) (ps : List ℕ) → All P ps → (q : ℕ) → is_in ps q ≡ true → P q
+each_named P [] all q named = absurd (false≢true named)
+each_named P (p ∷ ps) all q named = ⊎_elim (λ here. subst P here.1 (all 0 p (omega arith)))
+    (λ other. each_named P ps (λ k d within. all (suc k) d (omega (arith, within))) q (ap (λ (b : Bool). b || is_in ps q) (sym other.0) ∙ named)) (eqb_tells p q)
+
+-- of operands that all fail a test, each place that is named does
+pub none_passes : (test : ℕ → Bool) (ps : List ℕ) → list_any test ps ≡ false → (q : ℕ) → is_in ps q ≡ true → test q ≡ false
+none_passes test [] none q named = absurd (false≢true named)
+none_passes test (p ∷ ps) none q named =
+    let both = neither (test p) (list_any test ps) none in
+    ⊎_elim (λ here. ap test (sym here.1) ∙ both.0) (λ other. none_passes test ps both.1 q (ap (λ (b : Bool). b || is_in ps q) (sym other.0) ∙ named)) (eqb_tells p q)
+
 -- ---- what holds at each place, after a write at one
 
-pub at_each : {X Y : Type 0} (R : ℕ → X → Y → Type 0) (xs : List X) (ys : List Y) (p : ℕ) (x d : X) (y e : Y) → p < length xs → p < length ys
-    → ((q : ℕ) → p ≢ q → R q (get_or xs q d) (get_or ys q e)) → R p x y → (q : ℕ) → R q (get_or (set xs p x) q d) (get_or (set ys p y) q e)
-at_each R xs ys p x d y e in_xs in_ys others here q = ⊎_elim same other (same_or_other p q)
-  where
-    same : p ≡ q → R q (get_or (set xs p x) q d) (get_or (set ys p y) q e)
-    same is = subst (λ (k : ℕ). R k (get_or (set xs p x) k d) (get_or (set ys p y) k e)) is (rw (get_or-set_same xs p x d in_xs, get_or-set_same ys p y e in_ys) here)
+pub put_here : {X : Type 0} (p : ℕ) (x : X) (f : ℕ → X) → put_at p x f p ≡ x
+put_here p x f = ap (λ (b : Bool). cond b x (f p)) (same_here p)
 
-    other : p ≢ q → R q (get_or (set xs p x) q d) (get_or (set ys p y) q e)
-    other differs = rw (get_or-set_other xs p q x d (λ is. differs (sym is)), get_or-set_other ys p q y e (λ is. differs (sym is))) (others q differs)
+pub put_other : {X : Type 0} (p q : ℕ) (x : X) (f : ℕ → X) → p ≢ q → put_at p x f q ≡ f q
+put_other p q x f differs = ⊎_elim (λ same. absurd (differs (sym same.1))) (λ other. ap (λ (b : Bool). cond b x (f q)) other.0) (eqb_tells q p)
 
 -- ---- operands
 
@@ -89,12 +117,29 @@ pub any_same : (f g : ℕ → Bool) (ps : List ℕ) → ((p : ℕ) → f p ≡ g
 any_same f g [] same = refl
 any_same f g (p ∷ ps) same = λ i. same p i || any_same f g ps same i
 
-pub any_more : (f : ℕ → Bool) (done : List ℕ) (p : ℕ) → list_any f (done ++ p ∷ []) ≡ (list_any f done || f p)
-any_more f done p = list_any-append f done (p ∷ []) ∙ ap (λ (b : Bool). list_any f done || b) (or_false (f p))
+-- one more operand, which is named if it could not be opened
+pub tells_more : (word : List ℕ) (names : List (List ℕ)) (is_shut : ℕ → Bool) (done : List ℕ) (p : ℕ) {told heard heard' : SinkState} → Tells told heard (unopened word names is_shut done)
+    → Tells heard heard' (cond (is_shut p) (not_opened word (name_of names p)) []) → Tells told heard' (unopened word names is_shut (done ++ p ∷ []))
+tells_more word names is_shut done p k says = rw (unopened_more word names is_shut done p) (tells_trans k says)
+
+module _ (test : ℕ → Bool) (done : List ℕ) (p : ℕ) where
+  pub any_now : test p ≡ true → list_any test (done ++ p ∷ []) ≡ true
+  any_now is = list_any-append test done (p ∷ []) ∙ ap (λ (b : Bool). list_any test done || (b || false)) is ∙ or_true (list_any test done)
+
+  pub any_before : test p ≡ false → list_any test (done ++ p ∷ []) ≡ list_any test done
+  any_before is = list_any-append test done (p ∷ []) ∙ ap (λ (b : Bool). list_any test done || (b || false)) is ∙ or_false (list_any test done)
+
+pub is_in-same : (done : List ℕ) (p : ℕ) → is_in (done ++ p ∷ []) p ≡ true
+is_in-same done p = any_now (λ q. q == p) done p (same_here p)
+
+pub is_in-other : (done : List ℕ) (p q : ℕ) → p ≢ q → is_in (done ++ p ∷ []) q ≡ is_in done q
+is_in-other done p q differs = any_before (λ x. x == q) done p (grind (arith, nat_tests, differs))
+
+pub not_more : (done : List ℕ) (p q : ℕ) → is_in (done ++ p ∷ []) q ≡ false → (p ≢ q) × (is_in done q ≡ false)
+not_more done p q none = (differs, sym (is_in-other done p q differs) ∙ none)
   where
-    or_false : (b : Bool) → (b || false) ≡ b
-    or_false true = refl
-    or_false false = refl
+    differs : p ≢ q
+    differs same = false≢true (sym none ∙ ap (is_in (done ++ p ∷ [])) (sym same) ∙ is_in-same done p)
 
 -- ---- the largest
 
@@ -127,36 +172,31 @@ module _ (t : Tool) (law : (g : Given) → g.ended ≡ true → t.decided g ≡ 
   pub decided_founds : (before ps : List ℕ) (later : List Given) → ((q : ℕ) → is_in ps q ≡ true → EndedAt (at r q))
       → flat_map t.decided (up_to_open (opened (founds nothing_left r before ps) ++ later)) ≡ flat_map t.text (opened (founds [] (least r) before ps)) ++ flat_map t.decided (up_to_open later)
   decided_founds before [] later ended = refl
-  decided_founds before (p ∷ ps) later ended = by_input (at r p) (at (least r) p) (at-least r p) (ended p (first (p == p) (grind (arith, nat_tests))))
-      (is_in before p) (decided_founds (before ++ p ∷ []) ps later others)
+  decided_founds before (p ∷ ps) later ended =
+      by_input (at r p) (ended p (ap (λ (b : Bool). b || is_in ps p) (same_here p))) (is_in before p) (decided_founds (before ++ p ∷ []) ps later others)
+      ∙ ap (λ (v : Option (List ℕ)). flat_map t.text (opened (option_map (λ (b : List ℕ). cond (is_in before p) [] b) v ∷ texts)) ++ rest) (sym (at-least r p))
     where
-      first : (b : Bool) → b ≡ true → (b || is_in ps p) ≡ true
-      first b is = ap (λ (c : Bool). c || is_in ps p) is
-
       others : (q : ℕ) → is_in ps q ≡ true → EndedAt (at r q)
-      others q is = ended q (later_one (p == q))
-        where
-          later_one : (b : Bool) → (b || is_in ps q) ≡ true
-          later_one true = refl
-          later_one false = is
+      others q is = ended q (ap (λ (b : Bool). (p == q) || b) is ∙ or_true (p == q))
 
-      one : (g : Given) → g.ended ≡ true → flat_map t.decided (up_to_open (opened (founds nothing_left r (before ++ p ∷ []) ps) ++ later))
-          ≡ flat_map t.text (opened (founds [] (least r) (before ++ p ∷ []) ps)) ++ flat_map t.decided (up_to_open later)
-          → flat_map t.decided (up_to_open (g ∷ opened (founds nothing_left r (before ++ p ∷ []) ps) ++ later))
-          ≡ (t.text g.bytes ++ flat_map t.text (opened (founds [] (least r) (before ++ p ∷ []) ps))) ++ flat_map t.decided (up_to_open later)
+      came : List (Option Given)
+      came = founds nothing_left r (before ++ p ∷ []) ps
+
+      texts : List (Option (List ℕ))
+      texts = founds [] (least r) (before ++ p ∷ []) ps
+
+      rest : List ℕ
+      rest = flat_map t.decided (up_to_open later)
+
+      one : (g : Given) → g.ended ≡ true → flat_map t.decided (up_to_open (opened came ++ later)) ≡ flat_map t.text (opened texts) ++ rest
+          → flat_map t.decided (up_to_open (g ∷ opened came ++ later)) ≡ (t.text g.bytes ++ flat_map t.text (opened texts)) ++ rest
       one g is further =
-          ap (λ (b : Bool). t.decided g ++ flat_map t.decided (cond b (up_to_open (opened (founds nothing_left r (before ++ p ∷ []) ps) ++ later)) [])) is
-          ∙ (λ i. law g is i ++ further i) ∙ sym (append_assoc (t.text g.bytes) (flat_map t.text (opened (founds [] (least r) (before ++ p ∷ []) ps))) (flat_map t.decided (up_to_open later)))
+          ap (λ (b : Bool). t.decided g ++ flat_map t.decided (cond b (up_to_open (opened came ++ later)) [])) is
+          ∙ (λ i. law g is i ++ further i) ∙ sym (append_assoc (t.text g.bytes) (flat_map t.text (opened texts)) rest)
 
-      by_input : (o : Option Given) (w : Option (List ℕ)) → w ≡ bytes_at o → EndedAt o → (seen : Bool)
-          → flat_map t.decided (up_to_open (opened (founds nothing_left r (before ++ p ∷ []) ps) ++ later))
-          ≡ flat_map t.text (opened (founds [] (least r) (before ++ p ∷ []) ps)) ++ flat_map t.decided (up_to_open later)
-          → flat_map t.decided (up_to_open (opened (option_map (λ (g : Given). cond seen nothing_left g) o ∷ founds nothing_left r (before ++ p ∷ []) ps) ++ later))
-          ≡ flat_map t.text (opened (option_map (λ (b : List ℕ). cond seen [] b) w ∷ founds [] (least r) (before ++ p ∷ []) ps)) ++ flat_map t.decided (up_to_open later)
-      by_input None w is e seen further = further ∙ ap (λ (v : Option (List ℕ)). flat_map t.text
-          (opened (option_map (λ (b : List ℕ). cond seen [] b) v ∷ founds [] (least r) (before ++ p ∷ []) ps)) ++ flat_map t.decided (up_to_open later)) (sym is)
-      by_input (Some g) w is e true further = one nothing_left refl further
-          ∙ ap (λ (v : Option (List ℕ)). flat_map t.text (opened (option_map (λ (b : List ℕ). cond true [] b) v ∷ founds [] (least r) (before ++ p ∷ []) ps))
-          ++ flat_map t.decided (up_to_open later)) (sym is)
-      by_input (Some g) w is e false further = one g e further ∙ ap (λ (v : Option (List ℕ)). flat_map t.text
-          (opened (option_map (λ (b : List ℕ). cond false [] b) v ∷ founds [] (least r) (before ++ p ∷ []) ps)) ++ flat_map t.decided (up_to_open later)) (sym is)
+      by_input : (o : Option Given) → EndedAt o → (seen : Bool) → flat_map t.decided (up_to_open (opened came ++ later)) ≡ flat_map t.text (opened texts) ++ rest
+          → flat_map t.decided (up_to_open (opened (option_map (λ (g : Given). cond seen nothing_left g) o ∷ came) ++ later))
+          ≡ flat_map t.text (opened (option_map (λ (b : List ℕ). cond seen [] b) (bytes_at o) ∷ texts)) ++ rest
+      by_input None e seen further = further
+      by_input (Some g) e true further = one nothing_left refl further
+      by_input (Some g) e false further = one g e further

@@ -12,7 +12,7 @@ pub record AreLent (inputs new : List Reader) (low high : ℕ) (a b x y : Reader
   pub is_high : reader_at new high ≡ y
   pub others : (k : ℕ) → (low ≡ k → ⊥) → (high ≡ k → ⊥) → reader_at new k ≡ reader_at inputs k
 
-module _ (inputs front back : List Reader) (low high : ℕ) (split : inputs ≡ front ++ back) (size : length front ≡ high) (below : low < high) (within : high < length inputs) where
+module _ {inputs : List Reader} (front back : List Reader) {low high : ℕ} (split : inputs ≡ front ++ back) (size : length front ≡ high) (below : low < high) (within : high < length inputs) where
   none_left : high - high ≡ 0
   none_left = omega arith
 

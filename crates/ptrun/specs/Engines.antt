@@ -1,11 +1,13 @@
 -- What stands between a tool and the run around it.
-use Rattle.std.specs.Prelude.{◌≡◌, ℕ, ◌+◌, ◌<◌, ◌≤◌, ◌⊎◌, Bool, true, false, List, [], All, Option, Some, None, Result, Ok, Err, length, max, if◌then◌else◌}
+use Rattle.std.specs.Prelude.{◌≡◌, ◌≢◌, ℕ, ◌+◌, ◌<◌, ◌≤◌, ◌^◌, Bool, true, false, List, [], All, Option, Some, None, Result, Ok, Err, length, max, if◌then◌else◌}
 use Rattle.std.specs.List.{list_any}
-use Rattle.ptlines.specs.Readers.{Reader, IsSound}
+use Rattle.ptlines.specs.Readers.{Reader, IsSound, HasReadCause}
 use Rattle.ptlines.specs.Outputs.{Output, Wrote}
 use Rattle.ptlines.specs.Slots.{Slots, total}
 use Rattle.ptlines.specs.Sinks.{SinkState}
-use Rattle.ptlines.specs.Inputs.{Begins}
+use Rattle.ptlines.specs.Inputs.{Given, Begins, Agrees, Came}
+use Rattle.ptlines.specs.KeepingUp.{Before}
+use Rattle.ptflow.specs.PastePasses.{put_at}
 use Rattle.ptflow.specs.declared.faults.FlowFault.{FlowFault}
 use Rattle.ptflow.specs.declared.faults.FlowFault.TheVariants.{Read, Write, Memory}
 use Rattle.ptmerge.specs.declared.faults.MergeFault.{MergeFault}
@@ -13,10 +15,10 @@ use Rattle.ptmerge.specs.declared.faults.MergeFault.TheVariants as faults
 use Rattle.ptmerge.specs.declared.order.Side.{Side}
 use Rattle.ptrun.specs.declared.engine.Done.{Done}
 use Rattle.ptrun.specs.declared.engine.Done.TheVariants.{Whole, Unopened, Disorder}
-use Rattle.ptrun.specs.Worlds.{World, Received, at, Allows, is_in, is_unopened, reader_at, shut, IsReceived, IsFresh, HasFailed, IsTooLong}
+use Rattle.ptrun.specs.Worlds.{World, Received, Allows, is_in, is_unopened, reader_at, shut, IsReceived, IsFresh, HasFailed}
 use Rattle.ptrun.specs.Meanings.{Meaning, named, unopened}
-use Rattle.ptrun.specs.KeepingUp.{PassedOn, AnyEarlier, Earlier}
-use Rattle.ptrun.specs.Together.{JointTool, text_in, given_in}
+use Rattle.ptrun.specs.KeepingUp.{PassedOn, Earlier}
+use Rattle.ptrun.specs.Together.{JointTool}
 use Rattle.ptrun.specs.Sayings.{Tells}
 use Rattle.ptrun.specs.Messages.{failure, out_of_order}
 use Rattle.ptrun.specs.Runs.{IsWhole, Cause, Sinks, Outcome, IsRun, IsQuiet}
@@ -145,33 +147,53 @@ abbrev pub done_of : Option (ℕ × ℕ) → Done
 done_of None = Whole
 done_of (Some found) = Disorder found.0 found.1
 
+-- these texts may be the inputs at these places, of which this came
+abbrev pub AgreeAt : List ℕ → (ℕ → Given) → (ℕ → List ℕ) → Type 0
+AgreeAt places given texts = (q : ℕ) → is_in places q ≡ true → Agrees (given q) (texts q)
+
+-- no read of an input at these places failed
+abbrev pub NoneFailed : List ℕ → List Reader → List Reader → Type 0
+NoneFailed places old new = (q : ℕ) → is_in places q ≡ true → (reader_at new q).failed ≡ (reader_at old q).failed
+
 -- all was read and pushed, up to a disorder
-pub record JointWhole (t : JointTool) (places : List ℕ) (r : Received) (old new : List Reader) (pushed : List ℕ) (failed denied : Bool) (done : Done) : Type 0 where
-  pub out : (w : World) → Allows r w → pushed ≡ t.text places (text_in w)
-  pub is_done : (w : World) → Allows r w → done ≡ done_of (t.disorder places (text_in w))
+pub record JointWhole (t : JointTool) (places : List ℕ) (given : ℕ → Given) (old new : List Reader) (pushed : List ℕ) (failed denied : Bool) (done : Done) : Type 0 where
+  pub out : (texts : ℕ → List ℕ) → AgreeAt places given texts → pushed ≡ t.text places texts
+  pub is_done : (texts : ℕ → List ℕ) → AgreeAt places given texts → done ≡ done_of (t.disorder places texts)
+  pub place : IsWithin (length old) (Ok done)
+  pub unfailed : NoneFailed places old new
+  pub short : (q : ℕ) → is_in places q ≡ true → (reader_at new q).pulled < 2 ^ 63
   pub written : failed ≡ false
   pub roomy : denied ≡ false
-  pub read : (place : ℕ) → HasFailed old new place ⊎ IsTooLong (at r place) → ⊥
+
+-- a read of the input at this place failed, and nothing else
+pub record JointReadBroke (places : List ℕ) (old new : List Reader) (failed denied : Bool) (p : ℕ) : Type 0 where
+  pub named : is_in places p ≡ true
+  pub calm : (reader_at old p).failed ≡ false
+  pub cause : HasReadCause (reader_at old p) (reader_at new p)
+  pub others : (q : ℕ) → is_in places q ≡ true → p ≢ q → (reader_at new q).failed ≡ (reader_at old q).failed
+  pub written : failed ≡ false
+  pub roomy : denied ≡ false
 
 -- how it ended, and which failure is named: one that happened, and no other
-abbrev pub JointEnds : JointTool → List ℕ → Received → List Reader → List Reader → List ℕ → Bool → Bool → Result Done FlowFault → Type 0
-JointEnds t places r old new pushed failed denied (Ok done) = JointWhole t places r old new pushed failed denied done
-JointEnds t places r old new pushed failed denied (Err (Read p)) = (is_in places p ≡ true) × (HasFailed old new p ⊎ IsTooLong (at r p)) × (failed ≡ false) × (denied ≡ false)
-JointEnds t places r old new pushed failed denied (Err Write) = failed ≡ true
-JointEnds t places r old new pushed failed denied (Err Memory) = (denied ≡ true) × (failed ≡ false)
+abbrev pub JointEnds : JointTool → List ℕ → (ℕ → Given) → List Reader → List Reader → List ℕ → Bool → Bool → Result Done FlowFault → Type 0
+JointEnds t places given old new pushed failed denied (Ok done) = JointWhole t places given old new pushed failed denied done
+JointEnds t places given old new pushed failed denied (Err (Read p)) = JointReadBroke places old new failed denied p
+JointEnds t places given old new pushed failed denied (Err Write) = failed ≡ true
+JointEnds t places given old new pushed failed denied (Err Memory) = (denied ≡ true) × (failed ≡ false) × NoneFailed places old new
 
--- Such a tool went over its inputs.
+-- Such a tool went over its inputs. What came of each is given by its place, and so are the texts that it may be a
+-- prefix of; other inputs do not matter.
 pub record IsJointPass (t : JointTool) (places : List ℕ) (old new : List Reader) (was is : Output) (before store : Slots) (result : Result Done FlowFault) : Type 0 where
-  pub received : Received
-  pub came : IsReceived old new received
+  pub given : ℕ → Given
+  pub came : (q : ℕ) → is_in places q ≡ true → Came (reader_at old q) (reader_at new q) (given q)
+  pub untouched : (q : ℕ) → is_in places q ≡ false → reader_at new q ≡ reader_at old q
   pub pushed : List ℕ
   pub wrote : Wrote was is pushed
-  pub ends : JointEnds t places received old new pushed is.faulted store.denied result
-  pub place : IsWithin (length old) result
-  pub untouched : (place : ℕ) → is_in places place ≡ false → reader_at new place ≡ reader_at old place
-  pub true_so_far : (w : World) → Allows received w → Begins pushed (t.text places (text_in w))
-  pub told_read : (place : ℕ) → HasFailed old new place → is.faulted ≡ false → result ≡ Err (Read place)
-  pub sure : (place : ℕ) → HasFailed old new place → is.faulted ≡ false
-      → Begins (t.decided places (given_in received)) pushed
-  pub keeps_up : AnyEarlier places (λ r. t.decided places (given_in r)) received (λ decided. PassedOn decided was is pushed)
-  pub peak : (w : World) → Allows received w → store.peak ≤ max before.peak (t.size places (text_in w))
+  pub ends : JointEnds t places given old new pushed is.faulted store.denied result
+  pub true_so_far : (texts : ℕ → List ℕ) → AgreeAt places given texts → Begins pushed (t.text places texts)
+  pub sure : (q : ℕ) → is_in places q ≡ true → (reader_at new q).failed ≡ true → is.faulted ≡ false
+      → Begins (t.decided places given) pushed
+  pub keeps_up : (q : ℕ) → is_in places q ≡ true
+      → (cut : Before (given q)) × PassedOn (t.decided places (put_at q cut.earlier given)) was is pushed
+  pub same : (f g : ℕ → Given) → ((q : ℕ) → is_in places q ≡ true → f q ≡ g q) → t.decided places f ≡ t.decided places g
+  pub peak : (texts : ℕ → List ℕ) → AgreeAt places given texts → store.peak ≤ max before.peak (t.size places texts)

@@ -15,42 +15,44 @@ below first second least apart = omega (arith, least, apart)
 pub merge_two-requires-clause-readers : goal.merge_two-requires-clause-readers
 merge_two-requires-clause-readers g c =
     let s = c.split_at_mut-front in
+    let e = s.ensures in
+    let r = c.requires in
     rw (
-      was_low c.args.inputs.now s.result.0.now s.result.1.now c.args.first c.args.second s.ensures.value s.ensures.front_len c.if-first-second.true c.requires.within.1 c.index-front-first.result,
-      was_high c.args.inputs.now s.result.0.now s.result.1.now c.args.first c.args.second s.ensures.value s.ensures.front_len c.if-first-second.true
-          c.requires.within.1 c.index-back-0.result (some_left _ _ _ s.ensures.back_len c.requires.within.1),
+      was_low s.result.0.now s.result.1.now e.value e.front_len c.if-first-second.true r.within.1 c.index-front-first.result,
+      was_high s.result.0.now s.result.1.now e.value e.front_len c.if-first-second.true r.within.1 c.index-back-0.result (some_left _ _ _ e.back_len r.within.1),
     )
-    (c.requires.ready.opened1, c.requires.ready.opened2, c.requires.ready.readable1, c.requires.ready.readable2)
+    (r.ready.opened1, r.ready.opened2, r.ready.readable1, r.ready.readable2)
 
 pub merge_two-requires-else-first-second-clause-readers : goal.merge_two-requires-else-first-second-clause-readers
 merge_two-requires-else-first-second-clause-readers g c =
     let s = c.split_at_mut-front-else-first-second in
-    let lower = below c.args.first c.args.second c.if-first-second.false c.requires.apart in
+    let e = s.ensures in
+    let r = c.requires in
+    let lower = below c.args.first c.args.second c.if-first-second.false r.apart in
     rw (
-      was_low c.args.inputs.now s.result.0.now s.result.1.now c.args.second c.args.first s.ensures.value s.ensures.front_len lower c.requires.within.0 c.index-front-second.result,
-      was_high c.args.inputs.now s.result.0.now s.result.1.now c.args.second c.args.first s.ensures.value s.ensures.front_len lower c.requires.within.0
-          c.index-back-0-else-first-second.result (some_left _ _ _ s.ensures.back_len c.requires.within.0),
+      was_low s.result.0.now s.result.1.now e.value e.front_len lower r.within.0 c.index-front-second.result,
+      was_high s.result.0.now s.result.1.now e.value e.front_len lower r.within.0 c.index-back-0-else-first-second.result (some_left _ _ _ e.back_len r.within.0),
     )
-    (c.requires.ready.opened1, c.requires.ready.opened2, c.requires.ready.readable1, c.requires.ready.readable2)
+    (r.ready.opened1, r.ready.opened2, r.ready.readable1, r.ready.readable2)
 
 pub returns-then-first-second : goal.returns-then-first-second
 returns-then-first-second g c =
     let s = c.split_at_mut-front in
-    let k = are_lent c.args.inputs.now s.result.0.now s.result.1.now c.args.first c.args.second s.ensures.value s.ensures.front_len c.if-first-second.true
-    c.requires.within.1 c.merge_two.new.first c.merge_two.new.second
+    let w = c.merge_two in
+    let k = are_lent s.result.0.now s.result.1.now s.ensures.value s.ensures.front_len c.if-first-second.true c.requires.within.1 w.new.first w.new.second
     c.index-front-first.result c.index-back-0.result (some_left _ _ _ s.ensures.back_len c.requires.within.1) in
     record {
-      merged = rw (sym k.was_low, sym k.was_high, k.is_low, k.is_high) c.merge_two.ensures.merged;
+      merged = rw (sym k.was_low, sym k.was_high, k.is_low, k.is_high) w.ensures.merged;
       others = k.others;
-      sound = rw (sym k.was_low, sym k.was_high, k.is_low, k.is_high) c.merge_two.ensures.sound;
+      sound = rw (sym k.was_low, sym k.was_high, k.is_low, k.is_high) w.ensures.sound;
     }
 
 pub returns-else-first-second : goal.returns-else-first-second
 returns-else-first-second g c =
     let s = c.split_at_mut-front-else-first-second in
     let w = c.merge_two-else-first-second in
-    let k = are_lent c.args.inputs.now s.result.0.now s.result.1.now c.args.second c.args.first s.ensures.value s.ensures.front_len
-    (below c.args.first c.args.second c.if-first-second.false c.requires.apart) c.requires.within.0 w.new.second w.new.first
+    let lower = below c.args.first c.args.second c.if-first-second.false c.requires.apart in
+    let k = are_lent s.result.0.now s.result.1.now s.ensures.value s.ensures.front_len lower c.requires.within.0 w.new.second w.new.first
     c.index-front-second.result c.index-back-0-else-first-second.result (some_left _ _ _ s.ensures.back_len c.requires.within.0) in
     record {
       merged = rw (sym k.was_low, sym k.was_high, k.is_low, k.is_high) w.ensures.merged;

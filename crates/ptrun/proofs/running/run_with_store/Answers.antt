@@ -1,12 +1,10 @@
 -- Words that are refused are answered by their message alone. Otherwise the run is that of the command, and the
 -- headline is a reading of it in the world that the readers tell.
-use Rattle.std.proofs.Common.{ℕ, List, false, sym, subst}
+use Rattle.std.proofs.Common.{ℕ, List, subst}
 use Rattle.ptopts.specs.Meant.{words_seen, meant}
 use Rattle.ptlines.specs.Sinks.{SinkState}
 use Rattle.ptrun.specs.Asked.{tool_word}
-use Rattle.ptrun.specs.Messages.{said_of, status_of}
-use Rattle.ptrun.specs.Meanings.{Meaning}
-use Rattle.ptrun.specs.Runs.{IsRun, sinks}
+use Rattle.ptrun.specs.Messages.{said_of}
 use Rattle.ptrun.specs.Sayings.{Tells}
 use Rattle.ptrun.proofs.Asked.{asked_ok, asked_refused, operands_given, headline_asked}
 use Rattle.ptrun.proofs.Runs.{only_said}
@@ -16,9 +14,6 @@ pub run_command-requires-clause-given : goal.run_command-requires-clause-given
 run_command-requires-clause-given g c =
     operands_given c.args.command (words_seen c.args.words.now) c.in-Ok.command c.args.inputs.now c.in-Ok.is c.requires.meant (rw c.in-Ok.is at c.requires.fresh)
 
-pub run_command-requires-clause-unused : goal.run_command-requires-clause-unused
-run_command-requires-clause-unused g c = rw c.new-voice.ensures c.requires.unused
-
 pub returns-in-Err-clause-run : goal.returns-in-Err-clause-run
 returns-in-Err-clause-run g c =
     let words = words_seen c.args.words.now in
@@ -26,12 +21,8 @@ returns-in-Err-clause-run g c =
     let tells : Tells told c.refuse-status.new.voice (said_of (tool_word words) (meant c.in-Err.fault)) =
     subst (λ (t : SinkState). Tells t c.refuse-status.new.voice (said_of (tool_word words) (meant c.in-Err.fault))) c.new-voice.ensures
     (subst (λ (l : List ℕ). Tells c.new-voice.result c.refuse-status.new.voice (said_of l (meant c.in-Err.fault))) c.first_word.ensures c.refuse-status.ensures.said) in
-    rw c.quiet_report.ensures
-    (subst (λ (m : Meaning). IsRun m c.args.inputs.now c.args.inputs.now (sinks (g.W.Sink.state c.args.out) told)
-    (record { out = g.W.Sink.state c.args.out; messages = c.refuse-status.new.voice; status = c.refuse-status.result; peak = 0; denied = false }))
-    (sym (asked_refused c.args.command words c.in-Err.fault c.in-Err.is c.requires.meant))
-    (only_said (said_of (tool_word words) (meant c.in-Err.fault)) (status_of (meant c.in-Err.fault)) c.args.inputs.now c.requires.fresh.1
-    (g.W.Sink.state c.args.out) told c.refuse-status.new.voice c.refuse-status.result c.requires.unused.writable tells c.refuse-status.ensures.status))
+    rw (c.quiet_report.ensures, asked_refused c.args.command words c.in-Err.fault c.in-Err.is c.requires.meant)
+    (only_said c.requires.fresh.1 c.requires.unused.writable tells c.refuse-status.ensures.status)
 
 pub returns-in-Ok-clause-run : goal.returns-in-Ok-clause-run
 returns-in-Ok-clause-run g c = rw (asked_ok c.args.command (words_seen c.args.words.now) c.in-Ok.command c.in-Ok.is c.requires.meant) (rw (c.new-voice.ensures) at c.run_command.ensures.run)

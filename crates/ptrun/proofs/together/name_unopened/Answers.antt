@@ -1,19 +1,18 @@
 -- Each turn names one more input, if it could not be opened.
-use Rattle.std.proofs.Common.{◌<◌, ℕ, List, [], ◌∷◌, length, take, refl, sym, ◌∙◌, ap, subst, arith}
-use Rattle.std.specs.Prelude.{codes}
+use Rattle.std.proofs.Common.{◌<◌, ℕ, List, length, take, refl, sym, ◌∙◌, ap, subst, arith}
 use Rattle.std.proofs.lemmas.List.{get_or_default}
 use borrow.Author.Rules.{scaled_Fits}
 use Rattle.ptlines.specs.Readers.{Reader}
 use Rattle.ptopts.specs.Meant.{words_seen}
 use Rattle.ptrun.specs.Operands.{places}
-use Rattle.ptrun.specs.Sayings.{Tells, line_of}
 use Rattle.ptrun.specs.Worlds.{no_reader, shut}
+use Rattle.ptrun.specs.Sayings.{Tells}
 use Rattle.ptrun.proofs.Sayings.{tells_nothing}
+use Rattle.ptrun.specs.Meanings.{unopened}
 use Rattle.ptrun.proofs.Order.{places_next, places_end}
-use Rattle.ptrun.proofs.JointPasses.{named_more, named_same, any_now, any_before}
+use Rattle.ptrun.proofs.Sources.{tells_more, any_now, any_before}
 use Rattle.ptopts.specs.declared.inputs.Input.TheVariants.{Standard}
 use Rattle.std.specs.List.{list_any}
-use Rattle.ptrun.specs.Meanings.{unopened}
 use Rattle.ptrun.proofs.together.name_unopened.Goals as goal
 use Rattle.ptrun.proofs.together.name_unopened.Goals.{then-is_refused, else-is_refused}
 
@@ -29,48 +28,44 @@ loop-input-preserved g c =
     let i = c.loop-input.input-index in
     let done = take i (places c.args.order.now) in
     let k = c.loop-input.invariant in
-    let within : p < length inputs = subst (λ (n : ℕ). n < length inputs) (sym c.place_of-place.ensures) (c.requires.fits i _ c.loop-input-test.true) in
-    let here = get_or_default inputs p c.index-inputs-place.result no_reader within in
+    let low = c.requires.fits i Standard c.loop-input-test.true in
+    let here = get_or_default inputs p c.index-inputs-place.result no_reader (omega (arith, low, c.place_of-place.ensures)) in
     let refused = ap (λ (r : Reader). r.refused) (sym here) ∙ ap (λ (r : Reader). r.refused) (sym c.index-inputs-place.is) ∙ sym c.is_refused.ensures.refused in
     let next = places_next c.args.order.now i _ p c.loop-input-test.true c.place_of-place.ensures in
     elim c.if-is_refused.branch [
-      | then-is_refused w ↦
-          let says = subst (λ (l : List ℕ). Tells c.loop-input.voice w.say.new.self l) (λ j. line_of (tool ∷ codes ": " ∷ w.name_at.ensures j ∷ codes ": cannot be opened" ∷ [])) w.say.ensures in
-          rw (w.voice-is, w.any-is, next) (record {
-            said = named_more tool names (shut inputs) done p c.args.voice.now c.loop-input.voice w.say.new.self k.said (refused ∙ w.if-is_refused.true) says;
-            any_is = sym (any_now tool names (shut inputs) done p (refused ∙ w.if-is_refused.true));
-          })
+      | then-is_refused w ↦ rw (w.voice-is, w.any-is, next) (record {
+        said = tells_more tool names (shut inputs) done p k.said (rw (refused ∙ w.if-is_refused.true)
+            (rw w.name_at.ensures at w.say.ensures));
+        any_is = sym (any_now (shut inputs) done p (refused ∙ w.if-is_refused.true));
+      })
       | else-is_refused w ↦ rw (w.voice-is, w.any-is, next) (record {
-        said = subst (λ (l : List ℕ). Tells c.args.voice.now c.loop-input.voice l) (sym (named_same tool names (shut inputs) done p (refused ∙ w.if-is_refused.false))) k.said;
-        any_is = k.any_is ∙ sym (any_before tool names (shut inputs) done p (refused ∙ w.if-is_refused.false));
+        said = tells_more tool names (shut inputs) done p k.said (rw (refused ∙ w.if-is_refused.false) (tells_nothing c.loop-input.voice));
+        any_is = k.any_is ∙ sym (any_before (shut inputs) done p (refused ∙ w.if-is_refused.false));
       })
     ]
 
-pub bounds-inputs-place : goal.bounds-inputs-place
-bounds-inputs-place g c =
-    subst (λ (n : ℕ). n < length c.args.inputs.now) (sym c.place_of-place.ensures) (c.requires.fits c.loop-input.input-index _ c.loop-input-test.true)
-
 pub offset_bounds-inputs-place : goal.offset_bounds-inputs-place
 offset_bounds-inputs-place g c =
-    let low = subst (λ (n : ℕ). n < length c.args.inputs.now) (sym c.place_of-place.ensures) (c.requires.fits c.loop-input.input-index _ c.loop-input-test.true) in
+    let low : c.place_of-place.result < length c.args.inputs.now = omega (arith, c.requires.fits c.loop-input.input-index Standard c.loop-input-test.true, c.place_of-place.ensures) in
     search (scaled_Fits, low, arith)
 
 pub name_at-requires : goal.name_at-requires
-name_at-requires g c =
-    let low = subst (λ (n : ℕ). n < length c.args.inputs.now) (sym c.place_of-place.ensures) (c.requires.fits c.loop-input.input-index _ c.loop-input-test.true) in
-    omega (arith, low, c.requires.count)
+name_at-requires g c = omega (arith, c.requires.fits c.loop-input.input-index Standard c.loop-input-test.true, c.place_of-place.ensures, c.requires.count)
 
 pub place_of-place-requires : goal.place_of-place-requires
 place_of-place-requires g c =
     let low = c.requires.fits c.loop-input.input-index Standard c.loop-input-test.true in
     omega (arith, low)
 
-pub returns-clause-said : goal.returns-clause-said
-returns-clause-said g c =
-    subst (λ (l : List ℕ). Tells c.args.voice.now c.loop-input.voice (unopened c.args.tool.now (words_seen c.args.names.now) (shut c.args.inputs.now) l))
-    (places_end c.args.order.now c.loop-input.input-index c.loop-input-test.false) c.loop-input.invariant.said
-
 pub returns-clause-any : goal.returns-clause-any
 returns-clause-any g c =
     c.loop-input.invariant.any_is
     ∙ ap (λ (l : List ℕ). list_any (shut c.args.inputs.now) l) (places_end c.args.order.now c.loop-input.input-index c.loop-input-test.false)
+
+pub bounds-inputs-place : goal.bounds-inputs-place
+bounds-inputs-place g c = omega (arith, c.requires.fits c.loop-input.input-index Standard c.loop-input-test.true, c.place_of-place.ensures)
+
+pub returns-clause-said : goal.returns-clause-said
+returns-clause-said g c =
+    subst (λ (l : List ℕ). Tells c.args.voice.now c.loop-input.voice (unopened c.args.tool.now (words_seen c.args.names.now) (shut c.args.inputs.now) l))
+    (places_end c.args.order.now c.loop-input.input-index c.loop-input-test.false) c.loop-input.invariant.said

@@ -1,11 +1,8 @@
 use Rattle.std.proofs.Common.{length, sym, ◌∙◌, ap, arith}
 use Rattle.std.proofs.lemmas.List.{get_or_default}
 use borrow.Author.Rules.{scaled_Fits}
-use Rattle.ptlangs.specs.Jobs.{uniq_job}
-use Rattle.ptflow.specs.Uniqs.{uniq_tool}
-use Rattle.ptrun.specs.Operands.{places}
 use Rattle.ptrun.specs.Worlds.{no_reader}
-use Rattle.ptrun.proofs.JointPasses.{sole_of, sole_within, lone_done, lone_stopped, sole_there, sole_open}
+use Rattle.ptrun.proofs.JointPasses.{sole_of, sole_within, lone_went, sole_there, sole_open}
 use Rattle.ptopts.specs.declared.inputs.Input.TheVariants.{Standard}
 use Rattle.std.proofs.lemmas.Bool.{false≢true}
 use Rattle.ptlines.specs.Readers.{Reader}
@@ -16,46 +13,40 @@ pub returns-in-Ok : goal.returns-in-Ok
 returns-in-Ok g c =
     let old = c.args.inputs.now in
     let p = c.place_of-place.result in
-    let only = sole_of c.args.order.now _ p c.requires.taken c.place_of-place.ensures in
-    let here = get_or_default old p c.index-inputs-place.result no_reader (sole_within (places c.args.order.now) p (length old) c.requires.fits only) in
-    lone_done (uniq_tool (uniq_job c.args.self.now)) (places c.args.order.now) old c.args.out.now c.uniq.new.out c.args.store.now c.uniq.new.store p _
-    c.uniq.new.reader c.uniq.result c.requires only here
-    c.is_refused-refused.ensures.sound c.uniq.ensures c.in-Ok.is
+    let only = sole_of c.args.order.now _ c.requires.taken c.place_of-place.ensures in
+    let here = get_or_default old p c.index-inputs-place.result no_reader (sole_within (length old) only c.requires.fits) in
+    rw c.in-Ok.is at (lone_went c.requires only here c.is_refused-refused.ensures.sound c.uniq.ensures)
 
 pub returns-in-Err : goal.returns-in-Err
 returns-in-Err g c =
     let old = c.args.inputs.now in
     let p = c.place_of-place.result in
-    let only = sole_of c.args.order.now _ p c.requires.taken c.place_of-place.ensures in
-    let here = get_or_default old p c.index-inputs-place.result no_reader (sole_within (places c.args.order.now) p (length old) c.requires.fits only) in
-    rw c.at_operand.ensures
-    (lone_stopped (uniq_tool (uniq_job c.args.self.now)) (places c.args.order.now) old c.args.out.now c.uniq.new.out c.args.store.now c.uniq.new.store p _
-    c.uniq.new.reader c.uniq.result c.requires only here
-    c.is_refused-refused.ensures.sound c.uniq.ensures c.in-Err.fault c.in-Err.is)
+    let only = sole_of c.args.order.now _ c.requires.taken c.place_of-place.ensures in
+    let here = get_or_default old p c.index-inputs-place.result no_reader (sole_within (length old) only c.requires.fits) in
+    rw c.at_operand.ensures (rw c.in-Err.is at (lone_went c.requires only here c.is_refused-refused.ensures.sound c.uniq.ensures))
 
 pub bounds-inputs-place : goal.bounds-inputs-place
 bounds-inputs-place g c =
-    let only = sole_of c.args.order.now _ c.place_of-place.result c.requires.taken c.place_of-place.ensures in
-    sole_within (places c.args.order.now) c.place_of-place.result (length c.args.inputs.now) c.requires.fits only
+    sole_within (length c.args.inputs.now) (sole_of c.args.order.now _ c.requires.taken c.place_of-place.ensures) c.requires.fits
 
 pub offset_bounds-inputs-place : goal.offset_bounds-inputs-place
 offset_bounds-inputs-place g c =
-    let only = sole_of c.args.order.now _ c.place_of-place.result c.requires.taken c.place_of-place.ensures in
-    let low = sole_within (places c.args.order.now) c.place_of-place.result (length c.args.inputs.now) c.requires.fits only in
+    let only = sole_of c.args.order.now _ c.requires.taken c.place_of-place.ensures in
+    let low = sole_within (length c.args.inputs.now) only c.requires.fits in
     search (scaled_Fits, low)
 
 pub place_of-place-requires : goal.place_of-place-requires
 place_of-place-requires g c =
-    let low = place_fits c.args.order.now (length c.args.inputs.now) 0 Standard c.requires.fits (sole_there c.args.order.now c.requires.taken) in
+    let low = place_fits c.args.order.now (length c.args.inputs.now) c.requires.fits 0 Standard (sole_there c.args.order.now c.requires.taken) in
     omega (arith, low)
 
 pub prove-unreachable-requires : goal.prove-unreachable-requires
 prove-unreachable-requires g c =
     let old = c.args.inputs.now in
     let p = c.place_of-place.result in
-    let only = sole_of c.args.order.now _ p c.requires.taken c.place_of-place.ensures in
-    let here = get_or_default old p c.index-inputs-place.result no_reader (sole_within (places c.args.order.now) p (length old) c.requires.fits only) in
-    let opened = ap (λ (r : Reader). r.refused) here ∙ sole_open (places c.args.order.now) old p c.requires.opened only in
+    let only = sole_of c.args.order.now _ c.requires.taken c.place_of-place.ensures in
+    let here = get_or_default old p c.index-inputs-place.result no_reader (sole_within (length old) only c.requires.fits) in
+    let opened = ap (λ (r : Reader). r.refused) here ∙ sole_open old only c.requires.opened in
     false≢true (sym opened ∙ sym c.is_refused-refused.ensures.refused ∙ c.if-prove.true)
 
 pub bounds-order-0 : goal.bounds-order-0
