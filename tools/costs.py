@@ -17,8 +17,8 @@
   python3 tools/costs.py list [CRATE..]
       each public function of the six libraries and the wrong bodies that belong to it, and where one is missing
 
-A wrong body belongs to the function that its first `old:` text stands in, or to those that a line `for: NAME` of the
-edit names, as `list` prints them. Crates are named as in crates.txt; without one all are taken.
+A wrong body belongs to the function that its first `old:` text stands in, or to those that must-fail/for.md of its crate
+names for it, as `list` prints them. Crates are named as in crates.txt; without one all are taken.
 """
 import argparse
 import importlib.machinery
@@ -82,17 +82,23 @@ def built(rt, crate, tests):
 
 
 def edit_times(rt, crate, pattern, quick):
-    """Tries the wrong bodies of a crate over one kept proof, and says what each takes and where it is refused."""
+    """Tries each wrong body of a crate over the same kept proof, and says what it takes and where it is refused."""
     edits = [it for it in rt.edits_of(crate)[0] if re.search(pattern, os.path.basename(it)[:-5])]
     if not edits:
         return 0
-    with tempfile.TemporaryDirectory(prefix="costs-kept-") as kept:
+    with tempfile.TemporaryDirectory(prefix="costs-kept-") as room:
+        kept = f"{room}/kept"
+        os.mkdir(kept)
         if quick and os.path.isdir(f"{crate.folder}/out/incremental"):
             shutil.copytree(f"{crate.folder}/out/incremental", kept, dirs_exist_ok=True)
         total = timed(lambda: rt.checked(crate, {}, ["--jobs", "1"], kept))[1]
         say(total, "the crate once more, for its wrong bodies")
         for edit in edits:
-            (refused, text), took = timed(lambda: rt.must_fail(crate, edit, ["--jobs", "1"], kept))
+            over = f"{room}/{os.path.basename(edit)}"
+            rt.linked(kept, over)
+            (kind, text), took = timed(lambda: rt.must_fail(crate, edit, ["--jobs", "1"], over))
+            shutil.rmtree(over)
+            refused = kind in (rt.REFUSED, rt.AT_LIMIT)
             why = text.partition("refused, as it must be")[2].strip(": ")[:100] if refused else f"NOT REFUSED: {text}"
             say(took, f"{os.path.basename(edit)[:-5]}: {why}")
             total += took
@@ -240,10 +246,13 @@ def listing(rt, crates):
     for crate in [it for it in crates if it.name in LIBRARIES]:
         known = list(functions(crate.folder, crate.name))
         bodies, stray = {name: [] for _, _, name, is_public, _ in known if is_public}, []
+        list_of_others = f"{crate.folder}/must-fail/for.md"
+        rows = re.findall(r"^- (\w+): (.*)$", read(list_of_others), re.M) if os.path.isfile(list_of_others) else []
+        others = {label: names.split(", ") for label, names in rows}
         for edit in rt.edits_of(crate)[0]:
             said, label = read(edit), os.path.basename(edit)[:-5]
             path, old = (re.search(rf"^{it}: (.*)$", said, re.M)[1] for it in ("file", "old"))
-            named = re.findall(r"^for: (.*)$", said, re.M)
+            named = others.get(label, [])
             at = read(f"{crate.folder}/{path.strip()}").find(old)
             above = [name for file, place, name, _, _ in known if file == path.strip() and place <= at + len(old)]
             for name in named or above[-1:]:
