@@ -2,8 +2,8 @@
 # make check                what to run while working: proves what changed since SINCE, what stands on it, its tests,
 #                           and the wrong bodies of the changed crates (SINCE=COMMIT; origin/main where it is known,
 #                           else HEAD~1)
-# make test                 the gate: every proof from scratch, the must-fail edits, all tests; then the program that
-#                           the gate built, its pages, its installation and its packages
+# make test                 the gate: every proof, the must-fail edits, all tests; then the program that the gate built,
+#                           its pages, its installation and its packages
 # make bench                ratios to the system's tools by the length of a line: table, data and chart in bench/; and
 #                           the tools over parts of their input, on all processors
 # make compare N=5000       random words and inputs, against the system's tools (docs/COMPARISON.md)
@@ -12,7 +12,7 @@
 # make uninstall PREFIX=..  takes away exactly what these two installed
 # make dist                 build/dist: an archive of the source, one of the program, and their checksums
 # make deb                  build/dist: a Debian package
-# make clean                removes all that was built, and what was proved
+# make clean                removes all that was built, and what checks kept
 
 # (prefix, as other projects write it, is the same.)
 prefix ?= /usr/local
@@ -23,7 +23,7 @@ N ?= 1000
 
 all: build/ptext
 
-build/ptext: crates.txt $(shell find crates -path '*/src/*.rt' -o -path '*/specs/*.antt' -o -path '*/proofs/*.antt')
+build/ptext: HANDLES crates.txt $(shell find crates -name out -prune -o -path '*/must-fail' -prune -o -type f -print)
 	python3 tools/build.py
 
 check:

@@ -10,8 +10,8 @@ case $last in
     *' passed, 0 failed') ;;
     *) exit 1 ;;
 esac
-# (The gate passes a wrong body that it could not try.)
-if grep -q 'BAD EDIT' build/gate.log; then
+# The gate passes over a wrong body that cannot be applied, compiled or read. Here it fails.
+if grep 'BAD EDIT' build/gate.log >&2; then
     exit 1
 fi
 # The gate built the program from what it had just proved. It is put in place at once, as it may be running.

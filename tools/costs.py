@@ -2,8 +2,9 @@
 """What the gate costs, in processor seconds (user and system), and which wrong body belongs to which function.
 
   python3 tools/costs.py times [--parts proof,tests,edits] [--edit PATTERN] [--quick] [CRATE..]
-      what the proof of each crate from nothing takes, that of its tests, and each of its wrong bodies, tried as
-      `rt ci` tries them: the crate is proved once more, and each edit is checked over what was kept of that; with
+      what the proof of each crate from nothing takes, that of its tests, and each of its wrong bodies: the crate is
+      proved once more, and each edit is checked over what was kept of that. It is done as `rt ci` does it, but over
+      libraries as checks keep them, which take longer to read. With
       --quick over a copy of what `rt check` kept in the crate's folder, so that the edits alone are measured
   python3 tools/costs.py slow [--count N] [CRATE..]
       the slowest functions of each crate's proof from nothing, its tests among them; what a function is the first

@@ -43,7 +43,7 @@ last_earlier t came g b P holds done last is =
     subst (λ (l : List Given). (c : Before last) × P (decided_of t (l ++ c.earlier ∷ []))) same.0
     (subst (λ (h : Given). (c : Before h) × P (decided_of t (came ++ c.earlier ∷ []))) same.1 (b, holds))
 
--- one input less, however what is decided of it is said
+-- a pass keeps up with its one input, and two functions that are equal say what is decided of it
 pub passed_on : (f g : Given → List ℕ) {came : Given} {was is : Output} {pushed : List ℕ} → ((e : Given) → f e ≡ g e)
     → KeepsUp {I = Unit {0}} (λ given. f (given tt)) (λ u. came) was is pushed → (cut : Before came) × PassedOn (g cut.earlier) was is pushed
 passed_on f g {came} {was} {is} {pushed} same up =

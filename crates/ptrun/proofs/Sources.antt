@@ -66,7 +66,7 @@ each_named P [] all q named = absurd (false≢true named)
 each_named P (p ∷ ps) all q named = ⊎_elim (λ here. subst P here.1 (all 0 p (omega arith)))
     (λ other. each_named P ps (λ k d within. all (suc k) d (omega (arith, within))) q (ap (λ (b : Bool). b || is_in ps q) (sym other.0) ∙ named)) (eqb_tells p q)
 
--- of operands that all fail a test, each place that is named does
+-- where no operand passes a test, none of the places that are named does
 pub none_passes : (test : ℕ → Bool) (ps : List ℕ) → list_any test ps ≡ false → (q : ℕ) → is_in ps q ≡ true → test q ≡ false
 none_passes test [] none q named = absurd (false≢true named)
 none_passes test (p ∷ ps) none q named =

@@ -165,7 +165,7 @@ pub record JointWhole (t : JointTool) (places : List ℕ) (given : ℕ → Given
   pub written : failed ≡ false
   pub roomy : denied ≡ false
 
--- a read of the input at this place failed, and nothing else
+-- a read of the input at this place failed, or it has too many bytes; nothing else failed
 pub record JointReadBroke (places : List ℕ) (old new : List Reader) (failed denied : Bool) (p : ℕ) : Type 0 where
   pub named : is_in places p ≡ true
   pub calm : (reader_at old p).failed ≡ false

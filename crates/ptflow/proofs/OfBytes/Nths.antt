@@ -230,11 +230,6 @@ module _ (d : ℕ) (line : List ℕ) where
   none_counted [] free = refl
   none_counted (b ∷ bytes) free = cc (sum_by-cons (λ x. cond (is_byte d x) 1 0) b bytes, other_byte d b free.0, none_counted bytes free.1)
 
-  -- the first one
-  pub first_is_nth : (r : Option ℕ) → IsFirstByte (is_byte d) line r → IsNth (is_byte d) 1 line r
-  first_is_nth None none = omega (arith, none_counted line (no_end d line none))
-  first_is_nth (Some at) first = (first.0.high, first.1, none_counted (take at line) (before_end d line at first))
-
   pub starts_behind_first : (at : ℕ) → IsFirstByte (is_byte d) line (Some at) → StartsAt d 1 line (at + 1)
   starts_behind_first at first = starts_behind 0 at (first.0.high, first.1, none_counted (take at line) (before_end d line at first))
 

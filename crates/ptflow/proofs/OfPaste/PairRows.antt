@@ -116,7 +116,7 @@ module _ (cells : List ℕ) (old : List Reader) (two : (length cells ≡ 2) × (
         long = length-set mid_taken two_place (get_or mid_taken two_place 0 + (other + 1)) ∙ length-set h.taken one_place (get_or h.taken one_place 0 + (count + 1)) ∙ h.long;
       }
 
-    -- so this is how many bytes are taken of each reader
+    -- how many bytes are taken of each reader
     pub pairs_taken : {end : ℕ} {delims : List (Option ℕ)} {passed passed_other : ℕ} {put : List ℕ} (h : PairRows end delims cells old passed passed_other put)
         → h.taken ≡ set (set nothing (get_or cells 0 0) passed) (get_or cells 1 0) passed_other
     pairs_taken {passed = passed} {passed_other = passed_other} h = ext_get_or 0 h.taken (set one_set two_place passed_other)

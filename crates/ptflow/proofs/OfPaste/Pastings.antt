@@ -219,7 +219,7 @@ module _ {job : Paste} {cells : List ℕ} {old set now : List Reader} {was is : 
     kept = s.kept;
   }
 
-  -- rows more were passed
+  -- more rows were passed
   pasting_on : {new : List Reader} {ls : ℕ → Column} {more : List (List (List ℕ))} → GivesRows job.end cells now new ls more → {held : Slots}
       → ((top : ℕ → ℕ) → ((p : ℕ) → longest (s.ls p ++ ls p) ≤ top p) → KeepsCells cells top first held)
       → {is' : Output} → Wrote is is' (sheet job more) → is'.faulted ≡ false → Pasting job cells old set new was is' first held

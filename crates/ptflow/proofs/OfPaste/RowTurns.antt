@@ -69,7 +69,7 @@ module _ (place : ℕ) (ls : List (List ℕ)) (got : ℕ → List (List ℕ)) (q
   more_there : q ≢ place → more_at place ls got q ≡ got q
   more_there differ = rw (ne_eqb q place differ) refl
 
-  -- with no line more, nothing has changed
+  -- with no further line, nothing has changed
   more_none : ls ≡ [] → more_at place ls got q ≡ got q
   more_none none = ⊎_elim (λ same. more_here same ∙ ap (λ (l : List (List ℕ)). got q ++ l) none ∙ append-nil (got q)) more_there (cases_eq q place)
 

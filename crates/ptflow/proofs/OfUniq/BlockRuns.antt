@@ -109,7 +109,7 @@ module _ {job : Uniq} {end : ℕ} {first block : List ℕ} {rest : List ℕ} {co
     turns = λ line more is. turns line more (cc (front_drop c.lies));
   }
 
-  -- no line more
+  -- no further line
   pub counting_done : IsLine end rest → GoesOnWith job end first block (record { count = count; passed = length block - length rest })
   counting_done none = counting_ends (λ line more is. absurd (omega (arith, ap length (sym (ended_none end rest none) ∙ is))))
 
@@ -287,7 +287,7 @@ module _ {job : Uniq} {block : List ℕ} {rest : List ℕ} {count : ℕ} {line w
           lines_on more =
               cc ((front_more r.lies at found).lines, append_assoc (r.front ++ next ∷ []) (ended_lines job.end (drop (at + 1) rest)) more)
 
-  -- no line more
+  -- no further line
   module _ (none : IsLine job.end rest) {is' : Output} (wrote : Wrote is is' (span_of block waiting)) where
     all_lines : ended_lines job.end block ≡ r.front
     all_lines = front_all r.lies none

@@ -1,5 +1,5 @@
 -- The runs of lines, from the first line on.
-use Rattle.std.proofs.Common.{◌≡◌, ℕ, suc, ◌+◌, ◌&&◌, Bool, true, false, cond, List, [], ◌∷◌, ◌++◌, refl, sym, ◌∙◌, ap, arith}
+use Rattle.std.proofs.Common.{◌≡◌, ℕ, ◌+◌, ◌&&◌, Bool, true, false, cond, List, [], ◌∷◌, ◌++◌, refl, sym, ◌∙◌, ap, arith}
 use Rattle.std.proofs.lemmas.Grind.{common_steps}
 use Rattle.std.specs.Prelude.{bytes_eq, nat_lt}
 use Rattle.std.specs.List.{flat_map}
@@ -15,9 +15,6 @@ use Rattle.ptflow.specs.Workings.Uniq.OpenRuns.{run_of, open_run, runs_from, run
 
 some_lines : (n : ℕ) → nat_lt 0 (n + 1) ≡ true
 some_lines n = grind (arith, nat_tests)
-
-some_line : (n : ℕ) → nat_lt 0 (suc n) ≡ true
-some_line n = grind (arith, nat_tests)
 
 module _ (job : Uniq) where
   -- The first of the runs, and what it is with one more line of its key in front.

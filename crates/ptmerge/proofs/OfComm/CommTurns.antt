@@ -30,7 +30,7 @@ use Rattle.ptmerge.proofs.OfMerges.Standing.{Next, passed}
 use Rattle.ptmerge.proofs.OfMerges.Stopping.{FitsIn, Gone, gone_passed, gone_standing, state, stops}
 use Rattle.ptmerge.proofs.OfMerges.Turning.{BothStand, breaks, merging_on, next_at, sides_on}
 
--- where `comm` stands between two turns
+-- where a tool stands between two turns
 pub record Running (tool : Tool) (old now : State) (place : Side → Sorted) : Type 0 where
   pub ls : Side → Lines
   pub p : Side → Lines

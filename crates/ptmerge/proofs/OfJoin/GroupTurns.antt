@@ -79,7 +79,7 @@ abbrev pub NotPassed : State → Side → Sorted → Reader → Slots → Output
 NotPassed now s place reader after new fault =
     ((fault ≡ Write) × IsUnwritten (now.reader s) reader now.store after new) ⊎ ((new.faulted ≡ false) × CannotRead s place (now.reader s) reader now.store after fault)
 
--- a read that has not failed did not fail
+-- no read has failed, so nothing needs to be shown for one that has
 pub not_failed : (call : Call) (side : Side) {b : Bool} {X : Type 0} → b ≡ (call.old.reader side).failed → b ≡ true → X
 not_failed call side same fail = absurd (false≢true (sym (same ∙ call.unfailed side) ∙ fail))
 
@@ -89,7 +89,7 @@ last_push key (y ∷ q) x d = last_push key q x (Some (key y))
 
 -- ---- what the store holds
 
--- the inputs that go on with these lines have these measures
+-- what `join` may keep of inputs that begin with these lines
 pub size_of : (call : Call) {store : Slots} {ls : Side → Lines} {g : Lines} (h : Keeping (call.key Second) call.old.store store ls g) (all : Side → Lines)
     → ((side : Side) → longest (ls side) ≤ longest (all side)) → (more : Lines) × (all Second ≡ ls Second ++ more)
     → (2 * longest (ls First) + 2 * longest (ls Second) + h.most ≤ call.size all) × (4 + h.count ≤ call.slots all) × (total store.lines ≤ 2 * longest (ls First) + 2 * longest (ls Second) + h.most)

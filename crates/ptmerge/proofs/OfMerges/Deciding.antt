@@ -37,7 +37,7 @@ pub record Differ (tool : Tool) (last : Option (List ℕ)) (key : Key) (xs ys : 
   pub none_rest : EachKey (λ k. is_below tool.cmp k last ≡ false) key rest
   pub none_tail : EachKey (λ k. is_below tool.cmp k last ≡ false) key tail
 
--- nothing is past an input that is in order and goes on, but what is below its last key
+-- an input that is in order and goes on is past those keys alone that are below its last one
 going_past : (cmp : Cmp) (key : Key) {ended : Bool} (ls : Lines) (k : List ℕ) → ended ≡ false → fall cmp key ls ≡ None → is_past cmp key ended ls k ≡ is_below cmp k (last_or None (map key ls))
 going_past cmp key ls k going rises = rw (going, rises)
 

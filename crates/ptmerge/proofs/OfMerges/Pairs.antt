@@ -16,7 +16,7 @@ module _ {X : Type 0} (P : Side → X → Type 0) where
   put_each Second x f p q First = q First
   put_each Second x f p q Second = p
 
--- both of two things of it
+-- the same for two functions of a side at once
 pub put_both : {X Y : Type 0} (P : Side → X → Y → Type 0) (s : Side) (x : X) (f : Side → X) (y : Y) (g : Side → Y) → P s x y → P (other s) (f (other s)) (g (other s))
     → (side : Side) → P side (put s x f side) (put s y g side)
 put_both P First x f y g p q First = p

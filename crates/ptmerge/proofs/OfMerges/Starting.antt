@@ -107,7 +107,8 @@ module _ (tool : Tool) (o : IsKeyOrder tool.cmp) (fits : KeepsTwo tool) (old : S
     first_breaks new1 after fault moves =
         breaks tool o old (state old.reader old.out made) no_lines no_lines (λ side. Free) (merging_none tool old.out) unfailed (λ side. refl) writable
         First (fresh First) new1 after fault (free First) refl None begun_none (free Second (old.reader Second) [] (reads_nothing (old.reader Second)) tt (sound Second))
-        made_keeps.denied (λ piece all w. within_size tool fits First (fresh First) no_lines all piece (fresh_slots First) made_keeps (λ side. omega (arith, (w side).1)) (omega (arith, (w First).1))) moves
+        made_keeps.denied (λ piece all w. within_size tool fits First (fresh First) no_lines all piece (fresh_slots First) made_keeps
+        (λ side. omega (arith, (w side).1)) (omega (arith, (w First).1))) moves
 
   pub starts_well : (new : Inputs) (place : Side → Sorted) → HasSlots First (place First) → Starts tool.key tool.cmp place (record { reader = old.reader; store = old.store }) new
       → Running tool old (state (both (new.reader First) (new.reader Second)) old.out new.store) (both (place First) (place Second))

@@ -14,7 +14,7 @@ use Rattle.ptlines.proofs.Pushed.{wrote_nothing}
 use Rattle.ptlines.proofs.Sending.{keeps_more}
 use Rattle.ptlines.proofs.TextLaws.{text-append}
 use Rattle.ptmerge.specs.declared.faults.MergeFault.{MergeFault}
-use Rattle.ptmerge.specs.declared.faults.MergeFault.TheVariants.{Read, Write, Memory}
+use Rattle.ptmerge.specs.declared.faults.MergeFault.TheVariants.{Read, Write}
 use Rattle.ptmerge.specs.declared.faults.MergeFault.TheVariants as faults
 use Rattle.ptmerge.specs.declared.order.Side.{Side}
 use Rattle.ptmerge.specs.declared.order.Side.TheVariants.{First, Second}

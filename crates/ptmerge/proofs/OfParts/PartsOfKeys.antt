@@ -19,7 +19,7 @@ use Rattle.ptmerge.proofs.OfMerges.Least.{Each, EachKey, Each-weaker, Each-disti
 abbrev pub IsBelow : Cmp → Lines → List ℕ → Type 0
 IsBelow cmp ls k = Each (λ l. cmp k l ≡ Less) ls
 
--- each of some keys is
+-- each of these keys is below all those lines
 abbrev pub EachBelow : Cmp → Lines → Lines → Type 0
 EachBelow cmp ks ls = Each (IsBelow cmp ls) ks
 
