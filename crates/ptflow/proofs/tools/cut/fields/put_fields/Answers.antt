@@ -65,17 +65,19 @@ loop-interval-preserved g c =
     let next = from + c.in-Some-field_behind.passed in
     let size = (next - 1) - (from - l.lead) in
     let more = coming d (drop (i + 1) all) line tail ((get_or all i (record { first = 0; last = 0 })).last + 1) next 1 in
-    let ends : next ≤ to = omega (arith, length-drop from line, length-drop l.at line, length-take-le to bytes (omega arith)) in
-    let some : 1 ≤ c.in-Some-field_behind.passed = omega arith in
-    let within : (from - l.lead) + size ≤ to = omega arith in
+    let ends : next ≤ to =
+    omega (arith, p.fits, length-drop from line, s.fits, length-drop l.at line, l.invariant.walk.fits, length-take-le to bytes (omega arith)) in
+    let some : 1 ≤ c.in-Some-field_behind.passed = omega (arith, p.count) in
+    let within : (from - l.lead) + size ≤ to = omega (arith, ends, some, l.invariant.walk.begun, l.invariant.walk.passed) in
     let copied : take l.end l.room ++ take size (drop (from - l.lead) line) ≡ take (l.end + size) c.copy_near-in-loop-interval.new.into =
     cc (slice_of (from - l.lead) size bytes within) in record {
-      put = cc (walking_slice all tail i l.invariant.walk c.loop-interval-test.true s p, append_assoc (take l.end l.room) (take size (drop (from - l.lead) line)) more);
+      put = l.invariant.put ∙ ap (◌++◌ (take l.end l.room)) (walking_slice all tail i l.invariant.walk c.loop-interval-test.true s p)
+          ∙ sym (append_assoc (take l.end l.room) (take size (drop (from - l.lead) line)) more) ∙ ap (λ b. b ++ more) copied;
       walk = walking_more all tail i l.invariant.walk c.loop-interval-test.true s p;
       known = c.in-Some-field_behind.ensures.start;
-      low = omega arith;
-      high = omega arith;
-      long = cc;
+      low = omega (arith, l.invariant.low);
+      high = omega (arith, l.invariant.high, some, l.invariant.walk.passed);
+      long = c.copy_near-in-loop-interval.ensures.long ∙ l.invariant.long;
     }
 
 pub returns-clause-put : goal.returns-clause-put
