@@ -18,6 +18,7 @@ fi
 cp crates/ptext/out/ptext build/ptext.new
 mv build/ptext.new build/ptext
 sh tests/program.sh build/ptext
+sh tests/memory.sh build/ptext
 sh tests/install.sh
 sh tests/packages.sh
 sh tests/parallel.sh build/ptext

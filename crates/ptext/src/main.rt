@@ -3,13 +3,11 @@
 
 mod outlet;
 mod performing;
-#[cfg(test)]
-mod tests;
 
 use performing::{perform, report_no_memory, report_no_text};
 use ptlines::{FromRead, FromWrite};
 use ptrun::Report;
-use std::alloc::{AllocError, Allocator, Global};
+use std::alloc::{AllocError, Allocator};
 use std::process::ExitCode;
 use std::{env, fs, io};
 

@@ -1,2 +1,3 @@
 pub mod RefusingParts
 pub mod Repeating
+pub mod RowWords

@@ -8,7 +8,6 @@ pub mod PairRows
 pub mod PartsPaste
 pub mod PasteEnds
 pub mod PasteKeepsUp
-pub mod PasteRows
 pub mod Pastings
 pub mod RowTurns
 pub mod SerialRests

@@ -2,4 +2,3 @@
 pub mod PartsTr
 pub mod SqueezeLemmas
 pub mod TrRests
-pub mod TrRows

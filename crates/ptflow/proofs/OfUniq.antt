@@ -4,4 +4,3 @@ pub mod OpenLines
 pub mod OpenRuns
 pub mod PartsUniq
 pub mod UniqKeys
-pub mod UniqRows

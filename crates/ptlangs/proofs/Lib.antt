@@ -1,15 +1,12 @@
 pub mod CutElements
 pub mod CutGrammar
-pub mod CutListRows
 pub mod Decimals
 pub mod DelimGrammar
 pub mod DelimJudging
-pub mod DelimListRows
 pub mod Elements
 pub mod ListGrammar
 pub mod Merging
 pub mod OutGrammar
-pub mod OutListRows
 pub mod Reading
 pub mod TrBehind
 pub mod TrCounts
@@ -19,8 +16,6 @@ pub mod TrGrammar
 pub mod TrPieces
 pub mod TrUnitGrammar
 pub mod TrFaults
-mod TrRows
-mod TrClassRows
 pub mod TrPlaces
 pub mod TrWalks
 pub mod TrComplement

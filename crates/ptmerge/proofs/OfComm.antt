@@ -1,5 +1,4 @@
 -- `comm`.
 pub mod CommEntries
-pub mod CommRows
 pub mod CommTurns
 pub mod Turns

@@ -6,7 +6,6 @@ pub mod GatherTurns
 pub mod GroupSlots
 pub mod GroupStops
 pub mod GroupTurns
-pub mod JoinRows
 pub mod Lanes
 pub mod PairTurns
 pub mod Turns

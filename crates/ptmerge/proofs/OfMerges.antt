@@ -4,7 +4,6 @@ pub mod Bounds
 pub mod Deciding
 pub mod GoingOn
 pub mod Got
-pub mod KeepingUpRows
 pub mod KeySpans
 pub mod Least
 pub mod LineLaws

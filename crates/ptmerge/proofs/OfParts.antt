@@ -2,4 +2,3 @@
 pub mod PartsByKey
 pub mod PartsInOrder
 pub mod PartsOfKeys
-pub mod PartsRows

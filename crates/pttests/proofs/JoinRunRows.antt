@@ -1,9 +1,9 @@
 -- What some whole commands of join are to write, say and answer, from their words.
 use Rattle.std.proofs.Common.{◌≡◌, ℕ, List, [], ◌∷◌, ◌+◌, ◌*◌, Some, None, refl, codes, map}
 use Rattle.std.specs.Fmt.{digits}
-use Rattle.ptopts.proofs.RowWords.{words}
+use Rattle.ptfakes.proofs.RowWords.{words}
 use Rattle.ptrun.specs.Asked.{asked}
-use Rattle.ptrun.proofs.CommRunRows.{Row, files, writes, tells, found, wanted, received}
+use Rattle.pttests.proofs.CommRunRows.{Row, files, writes, tells, found, wanted, received}
 
 abbrev in_order : List Row
 in_order =

@@ -5,7 +5,7 @@ use Rattle.std.specs.Prelude.{flat_map, unwrap_or, replicate}
 use Rattle.std.proofs.lemmas.List.{length-replicate}
 use Rattle.ptlines.specs.Inputs.{Given}
 use Rattle.ptflow.specs.Tools.{Tool}
-use Rattle.ptopts.proofs.RowWords.{words}
+use Rattle.ptfakes.proofs.RowWords.{words}
 use Rattle.ptrun.specs.Worlds.{Received}
 use Rattle.ptrun.specs.Operands.{up_to_open}
 use Rattle.ptrun.specs.KeepingUp.{KeptUp, LastEarlier, Earlier}

@@ -1,7 +1,7 @@
 -- What some commands of tr are to write, from their words: one row for each.
 use Rattle.std.proofs.Common.{◌≡◌, ℕ, List, [], ◌∷◌, Some, refl, codes, false, map}
 use Rattle.ptlangs.specs.TrClasses.{all_bytes}
-use Rattle.ptopts.proofs.RowWords.{words}
+use Rattle.ptfakes.proofs.RowWords.{words}
 use Rattle.ptrun.specs.Worlds.{World}
 use Rattle.ptrun.specs.Meanings.{messages}
 use Rattle.ptrun.specs.Asked.{asked}

@@ -1,7 +1,7 @@
 -- What some whole commands are to write, say and answer, from their words.
 use Rattle.std.proofs.Common.{◌≡◌, ℕ, List, [], ◌∷◌, Some, None, refl, codes, false, ◌++◌, map}
 use Rattle.std.specs.Fmt.{digits}
-use Rattle.ptopts.proofs.RowWords.{words}
+use Rattle.ptfakes.proofs.RowWords.{words}
 use Rattle.ptrun.specs.Worlds.{World}
 use Rattle.ptrun.specs.Meanings.{named, messages}
 use Rattle.ptrun.specs.Asked.{asked}

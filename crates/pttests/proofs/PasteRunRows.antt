@@ -1,7 +1,7 @@
 -- What some commands of paste are to write, say and answer, from their words.
 use Rattle.std.proofs.Common.{◌≡◌, ℕ, List, [], ◌∷◌, ◌++◌, Some, None, true, false, refl, codes, map, replicate}
 use Rattle.ptlines.specs.Inputs.{Given}
-use Rattle.ptopts.proofs.RowWords.{words}
+use Rattle.ptfakes.proofs.RowWords.{words}
 use Rattle.ptrun.specs.Worlds.{World, Received}
 use Rattle.ptrun.specs.Meanings.{messages}
 use Rattle.ptrun.specs.Asked.{asked}

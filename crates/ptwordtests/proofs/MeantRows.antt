@@ -11,7 +11,7 @@ use Rattle.ptlangs.specs.declared.ranges.Interval.{Interval}
 use Rattle.ptlangs.specs.TrPlan.{complement_of}
 use Rattle.ptlangs.specs.TrTables.{tables}
 use Rattle.ptopts.specs.Commands.{Command, RunCut, RunPaste, RunUniq, RunComm, RunJoin, RunTr, Job, over, meaning}
-use Rattle.ptopts.proofs.RowWords.{words}
+use Rattle.ptfakes.proofs.RowWords.{words}
 
 abbrev from_to : ℕ → ℕ → Interval
 from_to n m = record { first = n; last = m }

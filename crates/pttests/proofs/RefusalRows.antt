@@ -1,6 +1,6 @@
 -- What is said of words that are refused, by each tool and for each reason: one row for each.
 use Rattle.std.proofs.Common.{◌≡◌, ℕ, List, [], ◌∷◌, ◌++◌, refl, codes, map, replicate}
-use Rattle.ptopts.proofs.RowWords.{words}
+use Rattle.ptfakes.proofs.RowWords.{words}
 use Rattle.ptopts.specs.Syntax.{tools}
 use Rattle.ptrun.specs.Asked.{asked, saying}
 use Rattle.ptrun.specs.Messages.{names_listed}

@@ -7,7 +7,7 @@ use Rattle.ptlangs.specs.declared.faults.SetString.{SetString}
 use Rattle.ptlangs.specs.declared.faults.SetString.TheVariants.{First, Second}
 use Rattle.ptopts.specs.Faults.{Fault, NoTool, Unknown, NeedsValue, Twice, Together, Value, Operands, StandardTwice, NeedsList, InString}
 use Rattle.ptopts.specs.Commands.{meaning}
-use Rattle.ptopts.proofs.RowWords.{words}
+use Rattle.ptfakes.proofs.RowWords.{words}
 
 abbrev refused : SetString → SetFaultKind → Fault
 refused string kind = InString (record { string = string; kind = kind })

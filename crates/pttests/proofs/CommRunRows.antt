@@ -3,7 +3,7 @@ use Rattle.std.proofs.Common.{◌≡◌, ℕ, List, [], ◌∷◌, ◌++◌, Som
 use Rattle.std.specs.Prelude.{Option}
 use Rattle.std.specs.Fmt.{digits}
 use Rattle.ptlines.specs.Inputs.{Given}
-use Rattle.ptopts.proofs.RowWords.{words}
+use Rattle.ptfakes.proofs.RowWords.{words}
 use Rattle.ptrun.specs.Worlds.{World}
 use Rattle.ptrun.specs.Meanings.{messages}
 use Rattle.ptrun.specs.Asked.{asked}

@@ -1,0 +1,9 @@
+mod CommRows
+mod CutRows
+mod JoinRows
+mod KeepingUpRows
+mod MergedPartsRows
+mod PartsRows
+mod PasteRows
+mod TrRows
+mod UniqRows

@@ -1,0 +1,2 @@
+mod KeepingUpRows
+mod PartsRows

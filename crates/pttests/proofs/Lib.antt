@@ -1,0 +1,7 @@
+pub mod CommRunRows
+mod JoinRunRows
+mod KeepingUpRows
+mod PasteRunRows
+mod RefusalRows
+mod RunRows
+mod TrRunRows
