@@ -1,3 +1,4 @@
+pub mod Common
 pub mod OfBytes
 pub mod OfCut
 pub mod OfPasses

@@ -1,14 +1,8 @@
 -- The elements of a cut list.
-use Rattle.std.proofs.Common.{◌≡◌, ℕ, ◌+◌, ◌-◌, ◌<◌, Bool, true, false, ◌&&◌, not, List, [], ◌∷◌, length, take, drop, refl, sym, ◌∙◌, ap, arith, Some, None, get_or, cond, inl, inr}
-use Rattle.std.specs.Char.{is_ascii_digit}
-use Rattle.std.specs.List.{list_all, slice_split, position, join_with_byte}
-use Rattle.std.proofs.lemmas.List.Sums.{AllPass-from_list_all}
-use Rattle.std.proofs.lemmas.List.Splits.{slice_split_none, length-slice_split, join_with_byte-slice_split}
-use Rattle.std.proofs.lemmas.Bool.{and_left, and_right, cond-false, cases_Bool}
-use Rattle.std.proofs.lemmas.Bool.Decides.{nat_tests}
+use Rattle.ptlangs.proofs.Common.{◌≡◌, ℕ, ◌+◌, ◌-◌, ◌<◌, Bool, true, false, ◌&&◌, not, List, [], ◌∷◌, length, take, drop, refl, sym, ◌∙◌, ap, arith, Some, None, get_or, cond, inl, inr, is_ascii_digit}
+use Rattle.ptlangs.proofs.Common.{list_all, slice_split, position, join_with_byte, AllPass-from_list_all, slice_split_none, length-slice_split, join_with_byte-slice_split, and_left, and_right}
+use Rattle.ptlangs.proofs.Common.{cond-false, cases_Bool, nat_tests, is_dash, is_end, ends, said, is_empty}
 use Rattle.ptlangs.proofs.Elements.{split_whole, split_around}
-use Rattle.ptlangs.specs.CutLists.{is_dash, is_end, ends, said}
-use Rattle.ptlangs.specs.Numbers.{is_empty}
 
 -- digits have no dash
 no_dash : (b : ℕ) → is_ascii_digit b ≡ true → is_dash b ≡ false

@@ -1,17 +1,10 @@
 -- The lists that are accepted are those of the grammar.
-use Rattle.std.proofs.Common.{◌≡◌, ℕ, Bool, true, false, ◌||◌, ◌&&◌, ltb, eqb, cond, List, [], ◌∷◌, ◌++◌, Some, None, Ok, refl, sym, ◌∙◌, ap, subst, arith}
-use Rattle.std.specs.Char.{is_ascii_digit}
-use Rattle.std.specs.List.{All, slice_split}
-use Rattle.std.proofs.lemmas.Bool.{le-ltb, ne_eqb, or_from, cond-true, and_parts, eqb-true}
-use Rattle.std.proofs.lemmas.Bool.Decides.{nat_tests}
-use Rattle.std.proofs.lemmas.List.Elements.{All-cons, All-append}
-use Rattle.std.proofs.lemmas.List.Splits.{slice_split_at}
+use Rattle.ptlangs.proofs.Common.{◌≡◌, ℕ, Bool, true, false, ◌||◌, ◌&&◌, ltb, eqb, cond, List, [], ◌∷◌, ◌++◌, Some, None, Ok, refl, sym, ◌∙◌, ap, subst, arith, is_ascii_digit, All, slice_split}
+use Rattle.ptlangs.proofs.Common.{le-ltb, ne_eqb, or_from, cond-true, and_parts, eqb-true, nat_tests, All-cons, All-append, slice_split_at, IsProper, IsElement, One, FromTo, UpTo, From}
+use Rattle.ptlangs.proofs.Common.{IsProperElement, ends, said, checked, is_dash, element, AcceptsTheGrammar, greatest, is_empty, is_number, value, is_separator, Interval}
 use Rattle.ptlangs.proofs.ListGrammar.{digits_fail, digit_no_separator, IsSplit, Whole, Cut, splits, Accepts, from_grammar, to_grammar}
 use Rattle.ptlangs.proofs.CutElements.{said_behind_dash, end_is_one_piece}
 use Rattle.ptlangs.proofs.Reading.{checked_proper}
-use Rattle.ptlangs.specs.CutLists.{IsProper, IsElement, One, FromTo, UpTo, From, IsProperElement, ends, said, checked, is_dash, element, AcceptsTheGrammar}
-use Rattle.ptlangs.specs.Numbers.{greatest, is_empty, is_number, value, is_separator}
-use Rattle.ptlangs.specs.declared.ranges.Interval.{Interval}
 
 -- ---- from the grammar
 

@@ -1,12 +1,7 @@
 -- Reading decimal digits from the left.
-use Rattle.std.proofs.Common.{◌≡◌, ℕ, ◌+◌, ◌-◌, ◌*◌, ◌<◌, ◌≤◌, ◌&&◌, true, false, not, List, [], ◌∷◌, length, get_or, drop, Some, None, refl, sym, ◌∙◌, ap, arith, eqb, leb}
-use Rattle.std.specs.Char.{is_ascii_digit, digit_value}
-use Rattle.std.specs.List.{list_all}
-use Rattle.std.specs.Str.Parse.{digits_value_after}
-use Rattle.std.proofs.lemmas.Bool.{and_right, and_from, ne_eqb, not_from_false, cond-true, cond-false, lt-leb, le-leb}
-use Rattle.std.proofs.lemmas.Bool.Decides.{nat_tests}
-use Rattle.std.proofs.lemmas.List.{drop_more, drop_all}
-use Rattle.ptlangs.specs.Numbers.{greatest, is_empty, is_number, value, number}
+use Rattle.ptlangs.proofs.Common.{◌≡◌, ℕ, ◌+◌, ◌-◌, ◌*◌, ◌<◌, ◌≤◌, ◌&&◌, true, false, not, List, [], ◌∷◌, length, get_or, drop, Some, None, refl, sym, ◌∙◌, ap, arith, eqb, leb, is_ascii_digit}
+use Rattle.ptlangs.proofs.Common.{digit_value, list_all, digits_value_after, and_right, and_from, ne_eqb, not_from_false, cond-true, cond-false, lt-leb, le-leb, nat_tests, drop_more, drop_all}
+use Rattle.ptlangs.proofs.Common.{greatest, is_empty, is_number, value, number}
 
 -- further digits make no number less
 pub after-ge : (n : ℕ) (ds : List ℕ) → n ≤ digits_value_after 10 n ds

@@ -1,11 +1,10 @@
 -- The lists of `paste` that are accepted are those of the grammar.
-use Rattle.std.proofs.Common.{◌≡◌, ℕ, ◌<◌, Bool, true, false, eqb, cond, List, [], ◌∷◌, ◌++◌, length, codes, Option, Some, None, Result, Ok, Err, refl, sym, ◌∙◌, ap, subst, arith, append-nil}
-use Rattle.std.proofs.lemmas.Bool.{eqb-true}
+use Rattle.ptlangs.proofs.Common.{◌≡◌, ℕ, ◌<◌, Bool, true, false, eqb, cond, List, [], ◌∷◌, ◌++◌, length, codes, Option, Some, None, Result, Ok, Err, refl, sym, ◌∙◌, ap, subst, arith, eqb-true}
+use Rattle.ptlangs.proofs.Common.{DelimFault, backslash, escape, delims, delim_list, IsDelim, Newline, Tab, Backslash, Nothing, IsDelimList, Last, More, and_then, put_first}
+use Rattle.std.proofs.Common.{append-nil}
 use Rattle.ptlangs.proofs.ListGrammar.{reads_first}
-use Rattle.ptlangs.specs.declared.delims.DelimFault.{DelimFault}
 use Rattle.ptlangs.specs.declared.delims.DelimFault.TheVariants.{Escape}
-use Rattle.ptlangs.specs.DelimLists.{backslash, escape, delims, delim_list, IsDelim, Plain, Newline, Tab, Backslash, Nothing, IsDelimList, Last, More, AcceptsTheGrammar}
-use Rattle.ptlangs.specs.Numbers.{and_then, put_first}
+use Rattle.ptlangs.specs.DelimLists.{Plain, AcceptsTheGrammar}
 
 pub delims_of_some : (bs : List ℕ) → 0 < length bs → delims bs ≡ delim_list bs
 delims_of_some [] h = absurd (omega arith)

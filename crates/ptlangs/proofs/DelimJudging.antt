@@ -1,9 +1,6 @@
 -- The fault of a list of `paste` is never want of memory, and is found by its delimiters in turn.
-use Rattle.std.proofs.Common.{◌≡◌, ℕ, ◌<◌, Bool, true, false, eqb, cond, List, [], ◌∷◌, length, Option, Some, Result, Ok, Err, refl, sym, ◌∙◌, ap, subst}
-use Rattle.std.specs.Result.{result_err}
-use Rattle.ptlangs.specs.declared.delims.DelimFault.{DelimFault}
-use Rattle.ptlangs.specs.Numbers.{and_then, put_first}
-use Rattle.ptlangs.specs.DelimLists.{fault_of, backslash, escape, delims, delim_list}
+use Rattle.ptlangs.proofs.Common.{◌≡◌, ℕ, ◌<◌, Bool, true, false, eqb, cond, List, [], ◌∷◌, length, Option, Some, Result, Ok, Err, refl, sym, ◌∙◌, ap, subst, result_err, DelimFault, and_then}
+use Rattle.ptlangs.proofs.Common.{put_first, fault_of, backslash, escape, delims, delim_list}
 use Rattle.ptlangs.proofs.DelimGrammar.{delims_of_some}
 
 -- the fault of a reading is one of the text

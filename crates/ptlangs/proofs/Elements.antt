@@ -1,13 +1,9 @@
 -- The parts of a list, and reading them in turn.
-use Rattle.std.proofs.Common.{◌≡◌, ℕ, ◌+◌, ◌-◌, ◌≤◌, Bool, true, false, ltb, cond, List, [], ◌∷◌, ◌++◌, length, take, drop, Option, Some, None, Result, Ok, Err}
-use Rattle.std.proofs.Common.{refl, sym, ◌∙◌, ap, arith, append_assoc, append-nil}
-use Rattle.std.specs.List.{slice_split, position, position_or_len}
-use Rattle.std.proofs.lemmas.Bool.{ltb-false, ltb-true}
-use Rattle.std.proofs.lemmas.List.{take_all, length-drop}
-use Rattle.std.proofs.lemmas.List.Splits.{slice_split_none, slice_split_first}
-use Rattle.std.proofs.lemmas.List.Sums.{fails_before_first}
+use Rattle.ptlangs.proofs.Common.{◌≡◌, ℕ, ◌+◌, ◌-◌, ◌≤◌, Bool, true, false, ltb, cond, List, [], ◌∷◌, ◌++◌, length, take, drop, Option, Some, None, Result, Ok, Err, refl, sym, ◌∙◌, ap, arith}
+use Rattle.ptlangs.proofs.Common.{slice_split, position, position_or_len, ltb-false, ltb-true, take_all, length-drop, slice_split_none, slice_split_first, fails_before_first, and_then, put_first}
+use Rattle.ptlangs.proofs.Common.{each}
+use Rattle.std.proofs.Common.{append_assoc, append-nil}
 use Rattle.ptlangs.specs.Answers.{IsFault}
-use Rattle.ptlangs.specs.Numbers.{and_then, put_first, each}
 
 -- ---- the parts between bytes
 

@@ -1,3 +1,4 @@
+pub mod Common
 pub mod CutElements
 pub mod CutGrammar
 pub mod Decimals

@@ -1,12 +1,7 @@
 -- Lists of elements between separators: those that are accepted are those of the grammar.
-use Rattle.std.proofs.Common.{◌≡◌, ℕ, Bool, true, false, cond, List, [], ◌∷◌, ◌++◌, Result, Ok, Err, refl, subst}
-use Rattle.std.specs.Char.{is_ascii_digit}
-use Rattle.std.specs.List.{All, slice_split, onto_first}
-use Rattle.std.proofs.Common.{get_or, arith}
-use Rattle.std.proofs.lemmas.Bool.Decides.{nat_tests}
-use Rattle.std.proofs.lemmas.List.Splits.{slice_split_none, slice_split_at}
-use Rattle.std.proofs.lemmas.List.Sums.{AllPass-from_list_all}
-use Rattle.ptlangs.specs.Numbers.{is_number, is_separator, elements, and_then, put_first, each, IsListOf, Last, More}
+use Rattle.ptlangs.proofs.Common.{◌≡◌, ℕ, Bool, true, false, cond, List, [], ◌∷◌, ◌++◌, Result, Ok, Err, refl, subst, is_ascii_digit, All, slice_split, onto_first, get_or, arith, nat_tests}
+use Rattle.ptlangs.proofs.Common.{slice_split_none, slice_split_at, AllPass-from_list_all, is_number, is_separator, elements, and_then, put_first, each, IsListOf}
+use Rattle.ptlangs.specs.Numbers.{Last, More}
 
 -- bytes of digits pass no test that digits fail
 pub digits_fail : (p : ℕ → Bool) → ((b : ℕ) → is_ascii_digit b ≡ true → p b ≡ false) → (n : List ℕ) → is_number n ≡ true → All (λ b. p b ≡ false) n

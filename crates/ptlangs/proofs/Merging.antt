@@ -1,10 +1,7 @@
 -- Merging intervals that are in order.
-use Rattle.std.proofs.Common.{◌≡◌, ℕ, ◌+◌, ◌-◌, ◌<◌, ◌≤◌, Bool, true, false, ◌||◌, ◌&&◌, List, [], ◌∷◌, ◌++◌, sym, ◌∙◌, ap, arith, max, leb, append_assoc, subst}
-use Rattle.std.specs.List.{list_any}
-use Rattle.std.proofs.lemmas.List.Folds.{list_any-append}
-use Rattle.std.proofs.lemmas.Bool.Decides.{nat_tests}
-use Rattle.ptlangs.specs.CutLists.{is_selected, AreApart, AreInOrder}
-use Rattle.ptlangs.specs.declared.ranges.Interval.{Interval}
+use Rattle.ptlangs.proofs.Common.{◌≡◌, ℕ, ◌+◌, ◌-◌, ◌<◌, ◌≤◌, Bool, true, false, ◌||◌, ◌&&◌, List, [], ◌∷◌, ◌++◌, sym, ◌∙◌, ap, arith, max, leb, subst, list_any, list_any-append, nat_tests}
+use Rattle.ptlangs.proofs.Common.{is_selected, AreApart, AreInOrder, Interval}
+use Rattle.std.proofs.Common.{append_assoc}
 
 -- what is kept, the interval in hand and the rest are the sorted intervals, merged so far
 pub record Merges (sorted kept : List Interval) (current : Interval) (rest : List Interval) : Type 0 where

@@ -1,12 +1,9 @@
 -- The output lists that are accepted are those of the grammar.
-use Rattle.std.proofs.Common.{◌≡◌, ℕ, ◌≤◌, Bool, true, false, not, ltb, eqb, cond, List, [], ◌∷◌, Ok, Err, refl, subst, arith}
-use Rattle.std.specs.List.{All}
-use Rattle.std.proofs.lemmas.Bool.{le-ltb, ltb-false, ne_eqb, eqb-true, eqb-false}
-use Rattle.std.proofs.lemmas.List.Elements.{All-cons}
+use Rattle.ptlangs.proofs.Common.{◌≡◌, ℕ, ◌≤◌, Bool, true, false, not, ltb, eqb, cond, List, [], ◌∷◌, Ok, Err, refl, subst, arith, All, le-ltb, ltb-false, ne_eqb, eqb-true, eqb-false, All-cons}
+use Rattle.ptlangs.proofs.Common.{greatest, is_number, value, is_separator, field_of, TheJoinField, OfFirst, OfSecond}
 use Rattle.ptlangs.proofs.ListGrammar.{digits_fail, digit_no_separator, Accepts, from_grammar, to_grammar}
-use Rattle.ptlangs.specs.Numbers.{greatest, is_number, value, is_separator}
 use Rattle.ptlangs.specs.declared.outlist.OutFault.TheVariants.{Malformed, Zero, TooLarge}
-use Rattle.ptlangs.specs.OutLists.{field_of, element, IsElement, TheJoinField, OfFirst, OfSecond, IsProper, IsProperElement, AcceptsTheGrammar}
+use Rattle.ptlangs.specs.OutLists.{element, IsElement, IsProper, IsProperElement, AcceptsTheGrammar}
 use Rattle.ptlangs.specs.declared.outlist.File.{File}
 use Rattle.ptlangs.specs.declared.outlist.File.TheVariants.{First, Second}
 use Rattle.ptlangs.specs.declared.outlist.OutField.{OutField}

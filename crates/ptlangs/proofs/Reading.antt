@@ -1,15 +1,10 @@
 -- From the intervals of a list, as they stand in it, to those that are kept.
-use Rattle.std.proofs.Common.{◌≡◌, ℕ, Bool, true, false, ◌||◌, ltb, leb, eqb, cond, ◌&&◌, suc, subst, List, [], ◌∷◌, Option, Some, None, Result, Ok, Err, refl, sym, ◌∙◌, ap, arith}
-use Rattle.std.specs.List.{All, slice_split}
+use Rattle.ptlangs.proofs.Common.{◌≡◌, ℕ, Bool, true, false, ◌||◌, ltb, leb, eqb, cond, ◌&&◌, suc, subst, List, [], ◌∷◌, Option, Some, None, Result, Ok, Err, refl, sym, ◌∙◌, ap, arith, All}
+use Rattle.ptlangs.proofs.Common.{slice_split, or_parts, ltb-false, eqb-false, All-cons, list_any-IsPermutation, IsProper, is_dash, said, checked, element, cut_list, is_selected, selection}
+use Rattle.ptlangs.proofs.Common.{AreInOrder, greatest, elements, and_then, put_first, each, Interval}
 use Rattle.std.specs.List.Sorted.{IsNonDecreasingBy, IsPermutation}
-use Rattle.std.proofs.lemmas.Bool.{or_parts, ltb-false, eqb-false}
-use Rattle.std.proofs.lemmas.List.Elements.{All-cons}
-use Rattle.std.proofs.lemmas.List.Sorted.{list_any-IsPermutation}
 use Rattle.ptlangs.specs.declared.ranges.ListFault.{ListFault}
 use Rattle.ptlangs.specs.declared.ranges.ListFault.TheVariants.{TooLarge, Zero, Descending}
-use Rattle.ptlangs.specs.CutLists.{IsProper, is_dash, said, checked, element, cut_list, is_selected, selection, AreInOrder}
-use Rattle.ptlangs.specs.Numbers.{greatest, elements, and_then, put_first, each}
-use Rattle.ptlangs.specs.declared.ranges.Interval.{Interval}
 
 chosen : (large zero falls : Bool) (s r : Interval) → cond large (Err TooLarge) (cond zero (Err Zero) (cond falls (Err Descending) (Ok s))) ≡ Ok r
     → (large ≡ false) × (zero ≡ false) × (falls ≡ false) × (s ≡ r)

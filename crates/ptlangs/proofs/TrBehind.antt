@@ -1,16 +1,8 @@
 -- What stands in front of the units at a place, and what follows it.
-use Rattle.std.proofs.Common.{◌≡◌, ◌≢◌, ◌≤◌, ◌<◌, ◌+◌, ◌-◌, ◌⊎◌, inl, inr, ℕ, suc, Bool, true, false, cond, List, [], ◌∷◌, length, take, drop, get_or, arith, refl, sym, ap, ◌∙◌, Some, None, nat_le}
-use Rattle.std.specs.List.{prefix_len, slice_range, take_while, list_all, AllPass}
-use Rattle.std.specs.Str.Parse.{digits_value}
-use Rattle.std.proofs.lemmas.Bool.{cases_eq, eq-eqb, ne_eqb}
-use Rattle.std.proofs.lemmas.List.{drop_all, drop-drop, take_rest, length-drop}
-use Rattle.std.proofs.lemmas.List.Folds.{length-prefix_len}
-use Rattle.std.proofs.lemmas.List.Sums.{prefix_len-le-length, take_while-cons, AllPass-from_list_all}
-use Rattle.ptlangs.specs.declared.faults.SetFaultKind.TheVariants.{Octal}
-use Rattle.ptlangs.specs.declared.units.SetUnit.{SetUnit}
-use Rattle.ptlangs.specs.declared.units.SetUnit.TheVariants.{Plain, Escaped, Faulty}
-use Rattle.ptlangs.specs.TrUnits.{is_octal_digit, octal, octal_run, escaped, units, after_backslash}
-use Rattle.ptlangs.specs.TrParts.{behind, plain_run, behind_run}
+use Rattle.ptlangs.proofs.Common.{◌≡◌, ◌≢◌, ◌≤◌, ◌<◌, ◌+◌, ◌-◌, ◌⊎◌, inl, inr, ℕ, suc, Bool, true, false, cond, List, [], ◌∷◌, length, take, drop, get_or, arith, refl, sym, ap, ◌∙◌, Some, None}
+use Rattle.ptlangs.proofs.Common.{nat_le, prefix_len, slice_range, take_while, list_all, AllPass, digits_value, cases_eq, eq-eqb, ne_eqb, drop_all, drop-drop, take_rest, length-drop}
+use Rattle.ptlangs.proofs.Common.{length-prefix_len, prefix_len-le-length, take_while-cons, AllPass-from_list_all, Octal, SetUnit, Plain, Escaped, Faulty, is_octal_digit, octal, octal_run, escaped}
+use Rattle.ptlangs.proofs.Common.{units, after_backslash, behind, plain_run, behind_run}
 use Rattle.ptlangs.proofs.TrNumbers.{units_plain, units_escape, units-cons}
 
 -- a unit that a backslash began

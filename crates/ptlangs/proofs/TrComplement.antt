@@ -1,14 +1,9 @@
 -- Whether a byte stands in an array, and the bytes that do not.
-use Rattle.std.proofs.Common.{◌≡◌, ◌<◌, ◌+◌, ◌||◌, not, ℕ, Bool, true, false, cond, eqb, List, [], ◌∷◌, ◌++◌, length, map, arith, refl, sym, ap, ◌∙◌, Option, Some, None}
-use Rattle.std.specs.Prelude.{is_some, filter}
-use Rattle.std.specs.List.{range_with_len}
+use Rattle.ptlangs.proofs.Common.{◌≡◌, ◌<◌, ◌+◌, ◌||◌, not, ℕ, Bool, true, false, cond, eqb, List, [], ◌∷◌, ◌++◌, length, map, arith, refl, sym, ap, ◌∙◌, Option, Some, None, is_some, filter}
+use Rattle.ptlangs.proofs.Common.{range_with_len, get_or_default, append-nil, Places, last_place, later_or, has_byte, complement_of, places_of, Puts}
 use Rattle.std.proofs.Math.ListN.{get_or}
-use Rattle.std.proofs.lemmas.List.{get_or_default, append-nil}
-use Rattle.ptlangs.specs.declared.places.Places.{Places}
 use Rattle.ptlangs.specs.TrClasses.{all_bytes}
-use Rattle.ptlangs.specs.TrPlan.{last_place, later_or, has_byte, complement_of}
 use Rattle.ptlangs.proofs.TrPlaces.{get_or-table, same_table, range-more}
-use Rattle.ptlangs.specs.TrReading.{places_of, Puts}
 
 pub is_some-last_place : (c : ℕ) (bytes : List ℕ) → is_some (last_place c bytes) ≡ has_byte c bytes
 is_some-last_place c [] = refl

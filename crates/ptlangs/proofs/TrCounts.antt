@@ -1,9 +1,5 @@
 -- The count of a repeat.
-use Rattle.std.proofs.Common.{◌≡◌, ◌<◌, ℕ, true, List, [], ◌∷◌, length, get_or, arith, Option}
-use Rattle.std.specs.List.{list_all}
-use Rattle.std.proofs.lemmas.Bool.{eq-eqb}
-use Rattle.ptlangs.specs.TrUnits.{is_octal_digit}
-use Rattle.ptlangs.specs.TrParts.{count_in, repeat_count}
+use Rattle.ptlangs.proofs.Common.{◌≡◌, ◌<◌, ℕ, true, List, [], ◌∷◌, length, get_or, arith, Option, list_all, eq-eqb, is_octal_digit, count_in, repeat_count}
 
 pub repeat_count-octal : (ds : List ℕ) (o : Option ℕ) → 0 < length ds → get_or ds 0 0 ≡ 48 → list_all is_octal_digit ds ≡ true → o ≡ count_in 8 ds → o ≡ repeat_count ds
 repeat_count-octal [] o h e t n = absurd (omega arith)

@@ -1,19 +1,8 @@
 -- A string is refused for the fault of its first faulty part.
-use Rattle.std.proofs.Common.{◌≡◌, ◌<◌, ℕ, Bool, true, false, ◌||◌, cond, List, [], ◌∷◌, length, arith, refl, sym, subst, ◌∙◌, Option, Some, None, Result, Ok, Err, nat_lt}
-use Rattle.std.specs.Result.{result_map_both}
-use Rattle.std.proofs.lemmas.Bool.{ltb-true}
-use Rattle.std.proofs.lemmas.Bool.Decides.{nat_tests}
-use Rattle.ptlangs.specs.declared.faults.SetFaultKind.{SetFaultKind}
-use Rattle.ptlangs.specs.declared.faults.SetFaultKind.TheVariants.{Descending}
-use Rattle.ptlangs.specs.declared.units.SetUnit.{SetUnit}
-use Rattle.ptlangs.specs.declared.units.SetUnit.TheVariants.{Plain, Escaped, Faulty}
-use Rattle.ptlangs.specs.declared.parts.Part.{Part}
-use Rattle.ptlangs.specs.declared.parts.Part.TheVariants.{Range}
-use Rattle.ptlangs.specs.declared.pieces.Piece.{Piece}
-use Rattle.ptlangs.specs.declared.pieces.Place.{Place}
-use Rattle.ptlangs.specs.TrUnits.{byte_of, units}
-use Rattle.ptlangs.specs.TrParts.{Means, OpensForm, Begins, BeginsFaulty, AFaultyUnit, AFaultyEnd, ADescendingRange, behind, form_at, range_to, from_byte, from_unit, or_unit, first_part, parts}
-use Rattle.ptlangs.specs.TrPlan.{piece, is_fill, pieces, collected, FirstFault, NoPart, NoPiece, Later, FaultsAreFirst}
+use Rattle.ptlangs.proofs.Common.{◌≡◌, ◌<◌, ℕ, Bool, true, false, ◌||◌, cond, List, [], ◌∷◌, length, arith, refl, sym, subst, ◌∙◌, Option, Some, None, Result, Ok, Err, nat_lt, result_map_both}
+use Rattle.ptlangs.proofs.Common.{ltb-true, nat_tests, SetFaultKind, Descending, SetUnit, Plain, Escaped, Faulty, Part, Range, Piece, Place, byte_of, units, Means, OpensForm, Begins, BeginsFaulty}
+use Rattle.ptlangs.proofs.Common.{AFaultyUnit, AFaultyEnd, ADescendingRange, behind, form_at, range_to, from_byte, from_unit, or_unit, first_part, parts, piece, is_fill, pieces, collected, FirstFault}
+use Rattle.ptlangs.proofs.Common.{NoPart, NoPiece, Later, FaultsAreFirst}
 use Rattle.ptlangs.proofs.TrGrammar.{behind_is, Means-byte_of, byte_of-Means, form_at-none, form_at-unless, Begins-first_part, first_part-Begins, parts-part, parts-fault}
 
 -- ---- the part in front

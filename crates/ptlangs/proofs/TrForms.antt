@@ -1,15 +1,6 @@
 -- The forms in brackets, and the part in front of some units.
-use Rattle.std.proofs.Common.{◌≡◌, ◌<◌, ℕ, List, [], ◌∷◌, length, drop, arith, refl, Option, Some, None, Result, Ok}
-use Rattle.std.specs.Char.{is_ascii_lowercase}
-use Rattle.std.proofs.lemmas.List.{drop_more}
-use Rattle.ptlangs.specs.declared.faults.SetFaultKind.{SetFaultKind}
-use Rattle.ptlangs.specs.declared.classes.CharClass.{CharClass}
-use Rattle.ptlangs.specs.declared.units.SetUnit.{SetUnit}
-use Rattle.ptlangs.specs.declared.parts.Part.{Part}
-use Rattle.ptlangs.specs.declared.parts.Part.TheVariants.{Class}
-use Rattle.ptlangs.specs.TrUnits.{byte_of, units}
-use Rattle.ptlangs.specs.TrClasses.{class_named}
-use Rattle.ptlangs.specs.TrParts.{class_of, class_at, with_rest, behind, behind_two, behind_run, plain_run, form_at, from_byte, first_part}
+use Rattle.ptlangs.proofs.Common.{◌≡◌, ◌<◌, ℕ, List, [], ◌∷◌, length, drop, arith, refl, Option, Some, None, Result, Ok, is_ascii_lowercase, drop_more, SetFaultKind, CharClass, SetUnit, Part, Class}
+use Rattle.ptlangs.proofs.Common.{byte_of, units, class_named, class_of, class_at, with_rest, behind, behind_two, behind_run, plain_run, form_at, from_byte, first_part}
 
 -- a class that has a name
 pub class_of-name : (name : List ℕ) (us : List SetUnit) → 0 < length name → class_of name us ≡ with_rest (Class (class_named name)) (behind_two 58 93 us)

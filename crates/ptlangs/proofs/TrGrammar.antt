@@ -1,23 +1,11 @@
 -- What is computed of parts is the grammar.
-use Rattle.std.proofs.Common.{◌≡◌, ◌<◌, ◌-◌, ℕ, zero, suc, Bool, true, false, ◌&&◌, cond, eqb, List, [], ◌∷◌, ◌++◌, length, drop, map, arith, refl, sym, ap}
-use Rattle.std.proofs.Common.{subst, ◌∙◌, Option, Some, None, Result, Ok, Err, nat_lt}
-use Rattle.std.specs.List.{list_all}
-use Rattle.std.specs.Option.{option_and_then, option_or}
-use Rattle.std.specs.Char.{is_ascii_digit, is_ascii_lowercase}
-use Rattle.std.proofs.lemmas.Bool.{false≢true, ltb-false, le-ltb, eqb-true, ne_eqb}
-use Rattle.std.proofs.lemmas.List.{length-map, length-append, append_assoc, drop_at, drop_all}
-use Rattle.ptlangs.specs.declared.faults.SetFaultKind.{SetFaultKind}
-use Rattle.ptlangs.specs.declared.faults.SetFaultKind.TheVariants.{Descending}
-use Rattle.ptlangs.specs.declared.units.SetUnit.{SetUnit}
-use Rattle.ptlangs.specs.declared.units.SetUnit.TheVariants.{Plain, Escaped, Faulty}
-use Rattle.ptlangs.specs.declared.parts.Part.{Part}
-use Rattle.ptlangs.specs.declared.parts.Part.TheVariants.{Single, Range, Class, Equivalence, Repeat}
-use Rattle.ptlangs.specs.TrUnits.{byte_of}
-use Rattle.ptlangs.specs.TrClasses.{class_named}
-use Rattle.ptlangs.specs.TrParts.{Means, ByItself, ByEscape, Opens, ARepeat, AClass, AnEquivalence, OpensForm, DashFollows, Begins, InBrackets, ARange, Alone}
-use Rattle.ptlangs.specs.TrParts.{AreParts, is_plain, behind, behind_two, plain_run, behind_run, with_rest, repeat_count, repeat_digits, repeat_of, repeat_at}
-use Rattle.ptlangs.specs.TrParts.{class_of, class_name, class_at, equivalence_of, equivalence_unit, equivalence_at, form_inside, form_at, range_to, from_byte}
-use Rattle.ptlangs.specs.TrParts.{from_unit, or_unit, first_part, parts_from, parts_behind, parts}
+use Rattle.ptlangs.proofs.Common.{◌≡◌, ◌<◌, ◌-◌, ℕ, zero, suc, Bool, true, false, ◌&&◌, cond, eqb, List, [], ◌∷◌, ◌++◌, length, drop, map, arith, refl, sym, ap, subst, ◌∙◌, Option, Some, None, Result}
+use Rattle.ptlangs.proofs.Common.{Ok, Err, nat_lt, list_all, option_and_then, option_or, is_ascii_digit, is_ascii_lowercase, false≢true, ltb-false, le-ltb, eqb-true, ne_eqb, length-map, length-append}
+use Rattle.ptlangs.proofs.Common.{append_assoc, drop_at, drop_all, SetFaultKind, Descending, SetUnit, Plain, Escaped, Faulty, Part, Single, Range, Class, Equivalence, byte_of, class_named, Means}
+use Rattle.ptlangs.proofs.Common.{ByItself, ByEscape, Opens, ARepeat, AClass, AnEquivalence, OpensForm, DashFollows, Begins, InBrackets, ARange, Alone, AreParts, is_plain, behind, behind_two}
+use Rattle.ptlangs.proofs.Common.{plain_run, behind_run, with_rest, repeat_count, repeat_digits, repeat_of, repeat_at, class_of, class_name, class_at, equivalence_of, equivalence_unit, equivalence_at}
+use Rattle.ptlangs.proofs.Common.{form_inside, form_at, range_to, from_byte, from_unit, or_unit, first_part, parts_from, parts_behind, parts}
+use Rattle.ptlangs.specs.declared.parts.Part.TheVariants.{Repeat}
 use Rattle.ptlangs.proofs.TrBehind.{list_all-plain_run}
 
 -- ---- from what is computed to the grammar

@@ -1,14 +1,9 @@
 -- What a byte becomes.
-use Rattle.std.proofs.Common.{◌≡◌, ◌<◌, ◌≤◌, ◌+◌, ◌-◌, ◌⊎◌, inl, inr, ℕ, zero, suc, Bool, true, false, eqb, List, [], ◌∷◌, ◌++◌, length, take, map, replicate}
-use Rattle.std.proofs.Common.{min, arith, refl, sym, ap, ◌∙◌, Option, Some, None}
-use Rattle.std.specs.Prelude.{unwrap_or}
-use Rattle.std.specs.List.{slice_get, flat_map, last_or}
-use Rattle.std.specs.Option.{option_and_then, option_to_list}
+use Rattle.ptlangs.proofs.Common.{◌≡◌, ◌<◌, ◌≤◌, ◌+◌, ◌-◌, ◌⊎◌, inl, inr, ℕ, zero, suc, Bool, true, false, eqb, List, [], ◌∷◌, ◌++◌, length, take, map, replicate, min, arith, refl, sym, ap, ◌∙◌}
+use Rattle.ptlangs.proofs.Common.{Option, Some, None, unwrap_or, slice_get, flat_map, last_or, option_and_then, option_to_list, cases_lt, get_or_default, length-replicate, fitted, last_place}
+use Rattle.ptlangs.proofs.Common.{later_or, image_by}
 use Rattle.std.proofs.Math.ListN.{get_or}
-use Rattle.std.proofs.lemmas.Bool.{cases_lt}
-use Rattle.std.proofs.lemmas.List.{get_or_default, length-replicate}
 use Rattle.ptlangs.specs.TrClasses.{all_bytes}
-use Rattle.ptlangs.specs.TrPlan.{fitted, last_place, later_or, image_by}
 use Rattle.ptlangs.proofs.TrSpans.{slice_get-left, slice_get-right, slice_get-replicate}
 use Rattle.ptlangs.proofs.TrSecond.{slice_get-none}
 use Rattle.ptlangs.proofs.TrPlaces.{same_table}

@@ -1,23 +1,11 @@
 -- No strings of `tr` are refused for want of memory.
-use Rattle.std.proofs.Common.{◌≡◌, ◌≢◌, ℕ, zero, suc, Bool, true, false, cond, List, [], ◌∷◌, ◌++◌, map, Option, Some, None, Result, Ok, Err, refl}
-use Rattle.ptlangs.specs.declared.classes.CharClass.{CharClass}
-use Rattle.ptlangs.specs.declared.faults.SetFaultKind.{SetFaultKind}
-use Rattle.ptlangs.specs.declared.faults.SetFaultKind.TheVariants.{Memory, ClassPlace}
-use Rattle.ptlangs.specs.declared.faults.SetFault.{SetFault}
+use Rattle.ptlangs.proofs.Common.{◌≡◌, ◌≢◌, ℕ, zero, suc, Bool, true, false, cond, List, [], ◌∷◌, ◌++◌, map, Option, Some, None, Result, Ok, Err, refl, CharClass, SetFaultKind, Memory, ClassPlace}
+use Rattle.ptlangs.proofs.Common.{SetFault, SetUnit, Plain, Escaped, Faulty, Part, Piece, Place, First, Images, Squeezed, Form, and_then, units, SpellsUnit, APlainByte, AnOctal, ALargeOctal, AnEscape}
+use Rattle.ptlangs.proofs.Common.{ALoneBackslash, SpellsUnits, NoUnit, AUnit, Opens, ARepeat, AClass, AnEquivalence, Begins, InBrackets, ARange, Alone, BeginsFaulty, AFaultyUnit, AFaultyEnd}
+use Rattle.ptlangs.proofs.Common.{ADescendingRange, Plan, repeated, repeat_piece, class_piece, piece, string_pieces, FirstFault, NoPart, NoPiece, Later, in_string, second_place, may_pair, first_array}
+use Rattle.ptlangs.proofs.Common.{plan_with, second_plan, plan_from, NeverMemory}
 use Rattle.ptlangs.specs.declared.faults.SetString.{SetString}
-use Rattle.ptlangs.specs.declared.units.SetUnit.{SetUnit}
-use Rattle.ptlangs.specs.declared.units.SetUnit.TheVariants.{Plain, Escaped, Faulty}
-use Rattle.ptlangs.specs.declared.parts.Part.{Part}
 use Rattle.ptlangs.specs.declared.parts.Part.TheVariants as part
-use Rattle.ptlangs.specs.declared.pieces.Piece.{Piece}
-use Rattle.ptlangs.specs.declared.pieces.Place.{Place}
-use Rattle.ptlangs.specs.declared.pieces.Place.TheVariants.{First, Images, Squeezed}
-use Rattle.ptlangs.specs.declared.plan.Form.{Form}
-use Rattle.ptlangs.specs.Numbers.{and_then}
-use Rattle.ptlangs.specs.TrUnits.{units, SpellsUnit, APlainByte, AnOctal, ALargeOctal, AnEscape, ALoneBackslash, SpellsUnits, NoUnit, AUnit}
-use Rattle.ptlangs.specs.TrParts.{Opens, ARepeat, AClass, AnEquivalence, Begins, InBrackets, ARange, Alone, BeginsFaulty, AFaultyUnit, AFaultyEnd, ADescendingRange}
-use Rattle.ptlangs.specs.TrPlan.{Plan, repeated, repeat_piece, class_piece, piece, string_pieces, FirstFault, NoPart, NoPiece, Later, in_string, second_place}
-use Rattle.ptlangs.specs.TrPlan.{may_pair, first_array, plan_with, second_plan, plan_from, NeverMemory}
 use Rattle.ptlangs.proofs.TrUnitGrammar.{units_are_spelled}
 use Rattle.ptlangs.proofs.TrFaults.{faults_are_first}
 

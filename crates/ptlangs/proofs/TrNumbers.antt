@@ -1,20 +1,12 @@
 -- Digits, the numbers that they write, and the units of a string at a place.
-use Rattle.std.proofs.Common.{◌≡◌, ◌≤◌, ◌<◌, ◌+◌, ◌-◌, ◌*◌, ℕ, zero, suc, Bool, true, false, cond, eqb, List, [], ◌∷◌, length, take, drop, get_or, arith, refl}
-use Rattle.std.proofs.Common.{sym, ap, ◌∙◌, rules, tests, All, nat_le, Option, Some, None}
-use Rattle.std.specs.List.{prefix_len, slice_get}
+use Rattle.ptlangs.proofs.Common.{◌≡◌, ◌≤◌, ◌<◌, ◌+◌, ◌-◌, ◌*◌, ℕ, zero, suc, Bool, true, false, cond, eqb, List, [], ◌∷◌, length, take, drop, get_or, arith, refl, sym, ap, ◌∙◌, rules, tests, nat_le}
+use Rattle.ptlangs.proofs.Common.{Option, Some, None, prefix_len, slice_get, digit_value, digits_value, drop_more, drop_all, drop-drop, take-take, length-take, get_or-take, length-prefix_len}
+use Rattle.ptlangs.proofs.Common.{prefix_len-le-length, prefix_len_passes, is_octal_digit, octal_run, octal, units, units_behind, unit_at, after_backslash, Octal, SetUnit, Plain, Escaped, Faulty}
+use Rattle.std.proofs.Common.{All}
 use Rattle.std.specs.Int.{IsInRange}
-use Rattle.std.specs.Char.{digit_value}
-use Rattle.std.specs.Str.Parse.{digits_value}
 use Rattle.std.proofs.lemmas.Int.Digits.{digits_value_more}
 use Rattle.std.proofs.lemmas.Str.Parse.{digits_value-take-le, digit_from_value}
 use Rattle.std.proofs.lemmas.Str.{digit_value_digit}
-use Rattle.std.proofs.lemmas.List.{drop_more, drop_all, drop-drop, take-take, length-take, get_or-take}
-use Rattle.std.proofs.lemmas.List.Folds.{length-prefix_len}
-use Rattle.std.proofs.lemmas.List.Sums.{prefix_len-le-length, prefix_len_passes}
-use Rattle.ptlangs.specs.TrUnits.{is_octal_digit, octal_run, octal, units, units_behind, unit_at, after_backslash}
-use Rattle.ptlangs.specs.declared.faults.SetFaultKind.TheVariants.{Octal}
-use Rattle.ptlangs.specs.declared.units.SetUnit.{SetUnit}
-use Rattle.ptlangs.specs.declared.units.SetUnit.TheVariants.{Plain, Escaped, Faulty}
 
 pub ruleset number_steps = (digits_value_more, digits_value-take-le, digit_from_value)
 

@@ -1,15 +1,8 @@
 -- Where classes stand, and whether they face each other.
-use Rattle.std.proofs.Common.{◌≡◌, ◌≤◌, ◌+◌, ◌*◌, ◌&&◌, ◌||◌, ℕ, Bool, true, false, eqb, List, [], ◌∷◌, ◌++◌, length, replicate, arith, refl, sym, ap, ◌∙◌, Result, Ok}
-use Rattle.std.specs.List.{list_any, list_all}
-use Rattle.std.proofs.lemmas.Bool.{false≢true, true≢false}
-use Rattle.std.proofs.lemmas.List.{length-append, length-replicate, length_push}
-use Rattle.std.proofs.lemmas.List.Folds.{list_all-append, list_any-append}
-use Rattle.ptlangs.specs.declared.classes.CharClass.{CharClass}
-use Rattle.ptlangs.specs.declared.faults.SetFaultKind.{SetFaultKind}
-use Rattle.ptlangs.specs.declared.pieces.Piece.{Piece}
-use Rattle.ptlangs.specs.declared.pieces.Piece.TheVariants.{Range, Class, Repeat, Fill}
-use Rattle.ptlangs.specs.TrClasses.{span, class_bytes, are_cases}
-use Rattle.ptlangs.specs.TrPlan.{collected, members, array, class_places, stands_at, is_paired}
+use Rattle.ptlangs.proofs.Common.{◌≡◌, ◌≤◌, ◌+◌, ◌*◌, ◌&&◌, ◌||◌, ℕ, Bool, true, false, eqb, List, [], ◌∷◌, ◌++◌, length, replicate, arith, refl, sym, ap, ◌∙◌, Result, Ok, list_any, list_all}
+use Rattle.ptlangs.proofs.Common.{false≢true, true≢false, length-append, length-replicate, length_push, list_all-append, list_any-append, CharClass, SetFaultKind, Piece, Repeat, Fill, span}
+use Rattle.ptlangs.proofs.Common.{class_bytes, are_cases, collected, members, array, class_places, stands_at, is_paired}
+use Rattle.ptlangs.specs.declared.pieces.Piece.TheVariants.{Range, Class}
 use Rattle.ptlangs.proofs.TrWalks.{Walked, walk_at, walk_more, walk_whole, array-append}
 
 pub class_places-append : (n at : ℕ) (ps qs : List Piece) → class_places n at (ps ++ qs) ≡ class_places n at ps ++ class_places n (at + length (array n ps)) qs

@@ -1,14 +1,6 @@
 -- A reading of pieces, one after another.
-use Rattle.std.proofs.Common.{◌≡◌, ◌<◌, ◌≤◌, ◌||◌, ℕ, Bool, List, ◌∷◌, length, drop, refl, sym, Result, Ok, Err}
-use Rattle.std.proofs.lemmas.List.{drop_all}
-use Rattle.ptlangs.specs.declared.faults.SetFaultKind.{SetFaultKind}
-use Rattle.ptlangs.specs.declared.units.SetUnit.{SetUnit}
-use Rattle.ptlangs.specs.declared.parts.Part.{Part}
-use Rattle.ptlangs.specs.declared.pieces.Piece.{Piece}
-use Rattle.ptlangs.specs.declared.pieces.Place.{Place}
-use Rattle.ptlangs.specs.TrUnits.{units}
-use Rattle.ptlangs.specs.TrParts.{first_part, parts}
-use Rattle.ptlangs.specs.TrPlan.{piece, is_fill, pieces}
+use Rattle.ptlangs.proofs.Common.{◌≡◌, ◌<◌, ◌≤◌, ◌||◌, ℕ, Bool, List, ◌∷◌, length, drop, refl, sym, Result, Ok, Err, drop_all, SetFaultKind, SetUnit, Part, Piece, Place, units, first_part, parts}
+use Rattle.ptlangs.proofs.Common.{piece, is_fill, pieces}
 use Rattle.ptlangs.proofs.TrForms.{units-some}
 use Rattle.ptlangs.proofs.TrGrammar.{parts-part, parts-fault}
 

@@ -1,18 +1,11 @@
 -- The last places of bytes in an array.
-use Rattle.std.proofs.Common.{◌≡◌, ◌≢◌, ◌⊎◌, inl, inr, ◌<◌, ◌≤◌, ◌+◌, ◌-◌, ◌*◌, ℕ, zero, suc, Bool, true, false, cond, eqb, List, [], ◌∷◌, ◌++◌, length, take}
-use Rattle.std.proofs.Common.{map, replicate, arith, refl, sym, ap, ◌∙◌, Option, Some, None}
-use Rattle.std.specs.List.{range_with_len, flat_map}
-use Rattle.std.proofs.Math.ListN.{set, get_or}
-use Rattle.std.proofs.lemmas.Bool.{cases_eq, eq-eqb, ne_eqb}
-use Rattle.std.proofs.lemmas.List.{append_assoc, append-nil, map-id, same_lists, length-set, length_push, get_or-set_same, get_or-set_other, length-replicate}
-use Rattle.std.proofs.lemmas.List.{get_or-replicate, length-append, replicate_more}
-use Rattle.std.proofs.lemmas.List.FromFn.{length-map-range_with_len, get_or-map-range_with_len, length-range_with_len, map-range_with_len_more}
-use Rattle.ptlangs.specs.declared.pieces.Piece.{Piece}
-use Rattle.ptlangs.specs.declared.places.Places.{Places}
+use Rattle.ptlangs.proofs.Common.{◌≡◌, ◌≢◌, ◌⊎◌, inl, inr, ◌<◌, ◌≤◌, ◌+◌, ◌-◌, ◌*◌, ℕ, zero, suc, Bool, true, false, cond, eqb, List, [], ◌∷◌, ◌++◌, length, take, map, replicate, arith, refl, sym, ap}
+use Rattle.ptlangs.proofs.Common.{◌∙◌, Option, Some, None, range_with_len, flat_map, set, cases_eq, eq-eqb, ne_eqb, append_assoc, append-nil, map-id, same_lists, length-set, length_push}
+use Rattle.ptlangs.proofs.Common.{get_or-set_same, get_or-set_other, length-replicate, get_or-replicate, length-append, replicate_more, length-map-range_with_len, get_or-map-range_with_len}
+use Rattle.ptlangs.proofs.Common.{length-range_with_len, map-range_with_len_more, Piece, Places, has_byte, last_place, later_or, members, array, places_of, Puts}
+use Rattle.std.proofs.Math.ListN.{get_or}
 use Rattle.ptlangs.specs.TrClasses.{all_bytes}
 use Rattle.ptlangs.proofs.TrSpans.{class_bytes-short}
-use Rattle.ptlangs.specs.TrPlan.{has_byte, last_place, later_or, members, array}
-use Rattle.ptlangs.specs.TrReading.{places_of, Puts}
 
 -- a table of all bytes, entry by entry
 pub length-table : {X : Type 0} (f : ℕ → X) → length (map f all_bytes) ≡ 256

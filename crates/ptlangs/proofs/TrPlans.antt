@@ -1,21 +1,8 @@
 -- The plan of two strings, step by step.
-use Rattle.std.proofs.Common.{◌≡◌, ◌<◌, ◌-◌, ℕ, Bool, true, false, cond, eqb, List, [], ◌∷◌, length, arith, refl, sym, ap, ◌∙◌, Some, Result, Ok, Err}
-use Rattle.std.specs.Result.{result_map_both}
-use Rattle.std.proofs.lemmas.Bool.{eqb-false}
-use Rattle.ptlangs.specs.declared.faults.SetFaultKind.{SetFaultKind}
-use Rattle.ptlangs.specs.declared.faults.SetFaultKind.TheVariants.{ClassPlace}
-use Rattle.ptlangs.specs.declared.faults.SetFault.{SetFault}
+use Rattle.ptlangs.proofs.Common.{◌≡◌, ◌<◌, ◌-◌, ℕ, Bool, true, false, cond, eqb, List, [], ◌∷◌, length, arith, refl, sym, ap, ◌∙◌, Some, Result, Ok, Err, result_map_both, eqb-false, SetFaultKind}
+use Rattle.ptlangs.proofs.Common.{ClassPlace, SetFault, Piece, Place, First, Places, Form, Translate, TranslateSqueeze, Squeeze, Delete, DeleteSqueeze, CharClass, tables, Plan, array, class_places}
+use Rattle.ptlangs.proofs.Common.{collected, fill_count, first_array, in_string, is_paired, may_pair, pieces_of, plan, plan_of, second_plan, second_place, string_pieces, places_of}
 use Rattle.ptlangs.specs.declared.faults.SetString.TheVariants as string
-use Rattle.ptlangs.specs.declared.pieces.Piece.{Piece}
-use Rattle.ptlangs.specs.declared.pieces.Place.{Place}
-use Rattle.ptlangs.specs.declared.pieces.Place.TheVariants.{First}
-use Rattle.ptlangs.specs.declared.places.Places.{Places}
-use Rattle.ptlangs.specs.declared.plan.Form.{Form}
-use Rattle.ptlangs.specs.declared.plan.Form.TheVariants.{Translate, TranslateSqueeze, Squeeze, Delete, DeleteSqueeze}
-use Rattle.ptlangs.specs.declared.classes.CharClass.{CharClass}
-use Rattle.ptlangs.specs.TrTables.{tables}
-use Rattle.ptlangs.specs.TrPlan.{Plan, array, class_places, collected, fill_count, first_array, in_string, is_paired, may_pair, pieces_of, plan, plan_of, second_plan, second_place, string_pieces}
-use Rattle.ptlangs.specs.TrReading.{places_of}
 
 -- a string that is not empty has the pieces that are read
 pub string_pieces-some : (place : Place) (text : List ℕ) → 0 < length text → string_pieces place text ≡ collected (pieces_of place text)

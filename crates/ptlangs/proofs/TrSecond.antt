@@ -1,10 +1,6 @@
 -- A place in the second array, looked for piece by piece.
-use Rattle.std.proofs.Common.{◌≡◌, ◌<◌, ◌≤◌, ◌+◌, ◌-◌, ℕ, zero, suc, List, [], ◌∷◌, ◌++◌, length, arith, sym, ap, ◌∙◌, Some, None, Result, Ok}
-use Rattle.std.specs.List.{slice_get}
-use Rattle.std.proofs.lemmas.List.{length-append}
-use Rattle.ptlangs.specs.declared.faults.SetFaultKind.{SetFaultKind}
-use Rattle.ptlangs.specs.declared.pieces.Piece.{Piece}
-use Rattle.ptlangs.specs.TrPlan.{collected, members, array}
+use Rattle.ptlangs.proofs.Common.{◌≡◌, ◌<◌, ◌≤◌, ◌+◌, ◌-◌, ℕ, zero, suc, List, [], ◌∷◌, ◌++◌, length, arith, sym, ap, ◌∙◌, Some, None, Result, Ok, slice_get, length-append, SetFaultKind, Piece}
+use Rattle.ptlangs.proofs.Common.{collected, members, array}
 use Rattle.ptlangs.proofs.TrSpans.{slice_get-left, slice_get-right, slice_get-past}
 use Rattle.ptlangs.proofs.TrWalks.{Walked, walk_at, walk_more, walk_whole, array-append}
 

@@ -1,13 +1,8 @@
 -- The stretches of a table move each byte to its image: below the first byte of the first one nothing is moved, and a
 -- byte in front of them is in no other.
-use Rattle.std.proofs.Common.{◌≡◌, ℕ, zero, suc, ◌+◌, ◌<◌, ◌≤◌, ◌%◌, ◌==◌, ◌&&◌, Bool, true, false, cond, List, [], ◌∷◌, length, drop, reverse, get_or, refl, sym, ◌∙◌, ap, arith}
-use Rattle.std.specs.Prelude.{sum_by}
+use Rattle.ptlangs.proofs.Common.{◌≡◌, ℕ, zero, suc, ◌+◌, ◌<◌, ◌≤◌, ◌%◌, ◌==◌, ◌&&◌, Bool, true, false, cond, List, [], ◌∷◌, length, drop, reverse, get_or, refl, sym, ◌∙◌, ap, arith, sum_by}
+use Rattle.ptlangs.proofs.Common.{nat_tests, sum_by-cons, sum_by-IsPermutation, IsPermutation-reverse, Stretch, shift_of, in_front, stretches_from, added, shifted}
 use Rattle.std.proofs.Math.Seq.{drop-cons}
-use Rattle.std.proofs.lemmas.Bool.Decides.{nat_tests}
-use Rattle.std.proofs.lemmas.List.Sums.{sum_by-cons}
-use Rattle.std.proofs.lemmas.List.Sorted.{sum_by-IsPermutation, IsPermutation-reverse}
-use Rattle.ptlangs.specs.declared.shifts.Stretch.{Stretch}
-use Rattle.ptlangs.specs.TrShifts.{shift_of, in_front, stretches_from, added, shifted}
 
 -- what stretches add to a byte
 abbrev pub moved : List Stretch → ℕ → ℕ

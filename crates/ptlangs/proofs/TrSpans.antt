@@ -1,12 +1,8 @@
 -- Places in joined lists and in runs of bytes.
-use Rattle.std.proofs.Common.{◌≡◌, ◌<◌, ◌≤◌, ◌+◌, ◌-◌, ℕ, zero, suc, List, [], ◌∷◌, ◌++◌, length, take, drop, replicate, lit≤, arith, refl, sym, ap, ◌∙◌, Option, Some, None}
-use Rattle.std.specs.List.{range_with_len, slice_get, flat_map}
+use Rattle.ptlangs.proofs.Common.{◌≡◌, ◌<◌, ◌≤◌, ◌+◌, ◌-◌, ℕ, zero, suc, List, [], ◌∷◌, ◌++◌, length, take, drop, replicate, lit≤, arith, refl, sym, ap, ◌∙◌, Option, Some, None, range_with_len}
+use Rattle.ptlangs.proofs.Common.{slice_get, flat_map, drop_more, length-append, length-replicate, length-range_with_len, CharClass, span, range_bytes, class_bytes}
 use Rattle.std.proofs.Math.ListN.{get_or}
-use Rattle.std.proofs.lemmas.List.{drop_more, length-append, length-replicate}
-use Rattle.std.proofs.lemmas.List.FromFn.{length-range_with_len}
-use Rattle.ptlangs.specs.declared.classes.CharClass.{CharClass}
 use Rattle.ptlangs.specs.declared.classes.CharClass.TheVariants.{Alnum, Alpha, Blank, Cntrl, Digit, Graph, Lower, Print, Punct, Space, Upper, Xdigit}
-use Rattle.ptlangs.specs.TrClasses.{span, range_bytes, class_bytes}
 
 pub slice_get-range : (a n i : ℕ) → i < n → slice_get (range_with_len a n) i ≡ Some (a + i)
 slice_get-range a zero i h = absurd (omega arith)

@@ -1,10 +1,7 @@
 -- The tables of a plan, field by field.
-use Rattle.std.proofs.Common.{◌≡◌, ℕ, Bool, true, false, List, map, refl}
-use Rattle.ptlangs.specs.declared.plan.Form.{Form}
-use Rattle.ptlangs.specs.declared.plan.Form.TheVariants.{Translate, TranslateSqueeze, Squeeze, Delete, DeleteSqueeze}
+use Rattle.ptlangs.proofs.Common.{◌≡◌, ℕ, Bool, true, false, List, map, refl, Form, Translate, TranslateSqueeze, Squeeze, Delete, DeleteSqueeze, Plan, is_deleted, image_of, is_squeezed, takes_second}
+use Rattle.ptlangs.proofs.Common.{tables}
 use Rattle.ptlangs.specs.TrClasses.{all_bytes}
-use Rattle.ptlangs.specs.TrPlan.{Plan, is_deleted, image_of, is_squeezed, takes_second}
-use Rattle.ptlangs.specs.TrTables.{tables}
 
 pub tables_are : (p : Plan) (deleted : List Bool) (images : List ℕ) (squeezed : List Bool)
     → deleted ≡ map (is_deleted p) all_bytes → images ≡ map (image_of p) all_bytes → squeezed ≡ map (is_squeezed p) all_bytes

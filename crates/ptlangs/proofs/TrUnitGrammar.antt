@@ -1,14 +1,7 @@
 -- The units that are computed are those that the bytes spell.
-use Rattle.std.proofs.Common.{◌≡◌, ◌≤◌, ◌<◌, inl, inr, ℕ, zero, suc, true, false, List, [], ◌∷◌, ◌++◌, length, arith, refl, ap, subst, ◌∙◌, nat_le}
-use Rattle.std.specs.Str.Parse.{digits_value}
-use Rattle.std.proofs.lemmas.Bool.{cases_Bool, cases_eq, ne_eqb}
-use Rattle.std.proofs.lemmas.Bool.Decides.{nat_tests}
-use Rattle.std.proofs.lemmas.List.{drop_at, length-append}
-use Rattle.ptlangs.specs.declared.faults.SetFaultKind.TheVariants.{Octal, Escape}
-use Rattle.ptlangs.specs.declared.units.SetUnit.{SetUnit}
-use Rattle.ptlangs.specs.declared.units.SetUnit.TheVariants.{Plain, Escaped, Faulty}
-use Rattle.ptlangs.specs.TrUnits.{is_octal_digit, IsOctalRun, OneDigit, TwoDigits, ThreeDigits, SpellsUnit, APlainByte, AnOctal, ALargeOctal, AnEscape}
-use Rattle.ptlangs.specs.TrUnits.{ALoneBackslash, SpellsUnits, NoUnit, AUnit, octal, after_backslash, escaped, units, UnitsAreSpelled}
+use Rattle.ptlangs.proofs.Common.{◌≡◌, ◌≤◌, ◌<◌, inl, inr, ℕ, zero, suc, true, false, List, [], ◌∷◌, ◌++◌, length, arith, refl, ap, subst, ◌∙◌, nat_le, digits_value, cases_Bool, cases_eq, ne_eqb}
+use Rattle.ptlangs.proofs.Common.{nat_tests, drop_at, length-append, Octal, Escape, SetUnit, Plain, Escaped, Faulty, is_octal_digit, IsOctalRun, OneDigit, TwoDigits, ThreeDigits, SpellsUnit}
+use Rattle.ptlangs.proofs.Common.{APlainByte, AnOctal, ALargeOctal, AnEscape, ALoneBackslash, SpellsUnits, NoUnit, AUnit, octal, after_backslash, escaped, units, UnitsAreSpelled}
 use Rattle.ptlangs.proofs.TrNumbers.{units-cons}
 
 -- ---- from the grammar to what is computed

@@ -1,18 +1,9 @@
 -- A walk over the pieces of a string, piece by piece.
-use Rattle.std.proofs.Common.{◌≡◌, ◌≤◌, ◌+◌, ◌-◌, ◌*◌, ◌||◌, ℕ, zero, suc, Bool, true, false, cond, List, [], ◌∷◌, ◌++◌, length, map, replicate, arith, refl, sym, ap, ◌∙◌, Some, None, Result, Ok, Err}
-use Rattle.std.specs.Result.{result_map_both}
-use Rattle.std.proofs.lemmas.List.{append_assoc, append-nil, map-append, length-append, length-map, length-replicate}
-use Rattle.ptlangs.specs.declared.faults.SetFaultKind.{SetFaultKind}
-use Rattle.ptlangs.specs.declared.units.SetUnit.{SetUnit}
-use Rattle.ptlangs.specs.declared.parts.Part.{Part}
+use Rattle.ptlangs.proofs.Common.{◌≡◌, ◌≤◌, ◌+◌, ◌-◌, ◌*◌, ◌||◌, ℕ, zero, suc, Bool, true, false, cond, List, [], ◌∷◌, ◌++◌, length, map, replicate, arith, refl, sym, ap, ◌∙◌, Some, None, Result, Ok}
+use Rattle.ptlangs.proofs.Common.{Err, result_map_both, append_assoc, append-nil, map-append, length-append, length-map, length-replicate, SetFaultKind, SetUnit, Part, Piece, Repeat, Fill, Place}
+use Rattle.ptlangs.proofs.Common.{First, Images, Squeezed, units, units_behind, unit_at, first_part, parts, parts_behind, parts_from, piece, is_fill, pieces, pieces_of, collected, members, array}
 use Rattle.ptlangs.specs.declared.parts.Part.TheVariants as part
-use Rattle.ptlangs.specs.declared.pieces.Piece.{Piece}
-use Rattle.ptlangs.specs.declared.pieces.Piece.TheVariants.{Range, Class, Repeat, Fill}
-use Rattle.ptlangs.specs.declared.pieces.Place.{Place}
-use Rattle.ptlangs.specs.declared.pieces.Place.TheVariants.{First, Images, Squeezed}
-use Rattle.ptlangs.specs.TrUnits.{units, units_behind, unit_at}
-use Rattle.ptlangs.specs.TrParts.{first_part, parts, parts_behind, parts_from}
-use Rattle.ptlangs.specs.TrPlan.{piece, is_fill, pieces, pieces_of, collected, members, array}
+use Rattle.ptlangs.specs.declared.pieces.Piece.TheVariants.{Range, Class}
 
 -- some pieces were read, of which P holds, and the rest is still to be read
 pub record Walked (all rest : List (Result Piece SetFaultKind)) (P : List Piece → Type 0) : Type 0 where

@@ -1,7 +1,5 @@
 -- What came of a reader, where its calls come after a `set_ending`.
-use Rattle.std.proofs.Common.{◌≡◌, ℕ, List, ◌++◌, refl, sym, ◌∙◌, subst, arith, length-append}
-use Rattle.ptlines.specs.Readers.{Reader, Reads, HasReadCause, IsSound}
-use Rattle.ptlines.specs.Inputs.{Given, Came}
+use Rattle.ptlines.proofs.Common.{◌≡◌, ℕ, List, ◌++◌, refl, sym, ◌∙◌, subst, arith, length-append, Reader, Reads, HasReadCause, IsSound, Given, Came}
 use Rattle.ptlines.proofs.Known.{prepend_known-append}
 
 -- what came of a reader that has given these bytes

@@ -1,11 +1,10 @@
 -- The count of the bytes in the slots, and what a write of one slot does to it.
-use Rattle.std.proofs.Common.{◌≡◌, ◌≢◌, ℕ, zero, suc, ◌+◌, ◌^◌, ◌<◌, ◌≤◌, List, [], ◌∷◌, ◌++◌, length, take, drop, get_or, sym, ◌∙◌, ap, arith, set, take-append-drop, subst, refl}
-use Rattle.std.proofs.lemmas.List.{get_or-take, get_or-drop, set-get_or, get_or-set_same, get_or-set_other, set-set}
+use Rattle.ptlines.proofs.Common.{◌≡◌, ◌≢◌, ℕ, zero, suc, ◌+◌, ◌^◌, ◌<◌, ◌≤◌, List, [], ◌∷◌, ◌++◌, length, take, drop, get_or, sym, ◌∙◌, ap, arith, set, take-append-drop, subst, refl, get_or-take}
+use Rattle.ptlines.proofs.Common.{get_or-drop, set-get_or, get_or-set_same, get_or-set_other, set-set, swap, Slots, AreShort, total, with_line}
 use Rattle.std.proofs.lemmas.List.Elements.{All-append, All-set, All-get_or}
-use Rattle.std.specs.Prelude.{swap, max}
+use Rattle.std.specs.Prelude.{max}
 use Rattle.std.proofs.lemmas.List.Sums.{sum_by-append, sum_by-set, sum_by-le}
 use Rattle.std.proofs.lemmas.List.Sorted.{sum_by-IsPermutation, IsPermutation-swap}
-use Rattle.ptlines.specs.Slots.{Slots, AreShort, total, with_line}
 
 -- the total after a write of one line
 pub total_set : (lines : List (List ℕ)) (slot : ℕ) (bytes : List ℕ) → slot < length lines → total (set lines slot bytes) + length (get_or lines slot []) ≡ total lines + length bytes

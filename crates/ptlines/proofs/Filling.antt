@@ -1,22 +1,12 @@
 -- A line that comes in pieces.
-use Rattle.std.proofs.Common.{◌≡◌, ℕ, ◌+◌, ◌-◌, ◌^◌, ◌<◌, ◌≤◌, None, Some, get_or, take, drop, Bool, List, [], ◌∷◌, ◌++◌, Option, length, set, max, refl, sym}
-use Rattle.std.proofs.Common.{◌∙◌, ap, subst, arith, append_assoc, length-append}
-use Rattle.std.proofs.lemmas.Bool.Decides.{nat_tests}
-use Rattle.std.proofs.lemmas.List.{append-nil, set-set, length-set, get_or-set_same, take-take, get_or-take}
-use Rattle.std.specs.Io.KnownBytes.{prepend_known}
-use Rattle.ptlines.specs.Slots.{Slots, line, total, with_line, with_denied}
-use Rattle.std.proofs.Common.{false, not, ◌==◌, inl, inr, ⊎_elim, Ok, Err}
-use Rattle.ptlines.specs.declared.store.LineFault.{LineFault}
-use Rattle.ptlines.specs.declared.store.LineFault.TheVariants.{Read, Memory}
-use Rattle.ptlines.specs.Text.{IsLine}
-use Rattle.ptlines.specs.Readers.{Reader, unread, Reads, Goes, IsDone, budget}
-use Rattle.ptlines.specs.Fills.{GivesPiece, GivesEnd, GivesLine, Stops, Fills, Grows}
+use Rattle.ptlines.proofs.Common.{◌≡◌, ℕ, ◌+◌, ◌-◌, ◌^◌, ◌<◌, ◌≤◌, None, Some, get_or, take, drop, Bool, List, [], ◌∷◌, ◌++◌, Option, length, set, max, refl, sym, ◌∙◌, ap, subst, arith, append_assoc}
+use Rattle.ptlines.proofs.Common.{length-append, nat_tests, append-nil, set-set, length-set, get_or-set_same, take-take, get_or-take, prepend_known, Slots, line, total, with_line, with_denied, false}
+use Rattle.ptlines.proofs.Common.{not, ◌==◌, inl, inr, ⊎_elim, Ok, Err, LineFault, Read, Memory, IsLine, Reader, unread, Reads, Goes, IsDone, budget, GivesPiece, GivesEnd, GivesLine, Stops, Fills}
+use Rattle.ptlines.proofs.Common.{Grows, IsFirst, IsFirstByte, Passes, is_byte, slice_range}
 use Rattle.ptlines.proofs.Known.{prepend_known-append}
 use Rattle.ptlines.proofs.Counted.{total_set}
 use Rattle.ptlines.proofs.Scanned.{IsLine-append, before_end, take_end, goes_front}
 use Rattle.ptlines.proofs.Given.{length_range, rest_is}
-use Rattle.memchr.specs.Find.{IsFirst, IsFirstByte, Passes, is_byte}
-use Rattle.std.specs.Prelude.{slice_range}
 
 pub reads_trans : (a b c : Reader) (xs ys : List ℕ) → Reads a b xs → Reads b c ys → Reads a c (xs ++ ys)
 reads_trans a b c xs ys p q = record {

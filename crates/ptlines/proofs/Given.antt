@@ -1,9 +1,6 @@
 -- What giving bytes from the block does to a reader.
-use Rattle.std.proofs.Common.{◌≡◌, ℕ, ◌+◌, ◌-◌, ◌≤◌, List, ◌++◌, Option, length, take, drop, sym, ◌∙◌, ap, subst, arith, take-append-drop, length-take, length-drop}
-use Rattle.std.specs.Prelude.{slice_range}
-use Rattle.std.proofs.lemmas.List.{take-take, drop-drop, drop-take}
-use Rattle.std.specs.Io.KnownBytes.{prepend_known, IsAtEnd}
-use Rattle.ptlines.specs.Readers.{Reader, IsSound, Reads}
+use Rattle.ptlines.proofs.Common.{◌≡◌, ℕ, ◌+◌, ◌-◌, ◌≤◌, List, ◌++◌, Option, length, take, drop, sym, ◌∙◌, ap, subst, arith, take-append-drop, length-take, length-drop, slice_range, take-take}
+use Rattle.ptlines.proofs.Common.{drop-drop, drop-take, prepend_known, IsAtEnd, Reader, IsSound, Reads}
 use Rattle.ptlines.proofs.Known.{prepend_known-append}
 
 pub length_range : (b : List ℕ) (s e : ℕ) → s ≤ e → e ≤ length b → length (slice_range b s e) + s ≡ e

@@ -1,16 +1,12 @@
 -- Byte order, found by comparing bytes as the digits of a number.
-use Rattle.std.proofs.Common.{◌≡◌, ℕ, zero, suc, ◌+◌, ◌*◌, ◌<◌, ◌≤◌, List, [], ◌∷◌, ◌++◌, length, take, drop, min, refl, sym, ◌∙◌, ap, arith}
+use Rattle.ptlines.proofs.Common.{◌≡◌, ℕ, zero, suc, ◌+◌, ◌*◌, ◌<◌, ◌≤◌, List, [], ◌∷◌, ◌++◌, length, take, drop, min, refl, sym, ◌∙◌, ap, arith, get_or, Fits, take-add, nat_tests, take-take}
+use Rattle.ptlines.proofs.Common.{chunk-fits, length-chunk, Each1}
 use Rattle.std.proofs.lemmas.Cmp.{ranked, by_ranked, nat_list_cmp_total, tied_itself}
 use Rattle.std.specs.Int.{w8, w32, w64, from_be_bytes}
 use Rattle.std.specs.Ordering.{nat_cmp, ordering_then}
 use Rattle.std.specs.declared.cmp.Ordering.{Ordering}
 use Rattle.std.specs.declared.cmp.Ordering.TheVariants.{Less, Equal, Greater}
-use Rattle.std.proofs.Common.{get_or, Fits}
-use Rattle.std.proofs.Math.Seq.{take-add}
-use Rattle.std.proofs.lemmas.Bool.Decides.{nat_tests}
-use Rattle.std.proofs.lemmas.List.{take-take, take-append-drop, length-drop}
-use Rattle.std.proofs.lemmas.Simd.{chunk-fits, length-chunk}
-use Rattle.std.specs.Simd.Lanes.{Each1}
+use Rattle.std.proofs.lemmas.List.{take-append-drop, length-drop}
 use Rattle.ptlines.specs.Orders.{byte_cmp, same_bytes}
 
 -- the number with these digits to the base of 256, behind a number in front of them

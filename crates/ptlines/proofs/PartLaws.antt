@@ -1,6 +1,5 @@
 -- The lines of a text that is cut into parts.
-use Rattle.std.proofs.Common.{◌≡◌, ⊎_elim, ℕ, List, ◌++◌, sym, ◌∙◌, ap}
-use Rattle.ptlines.specs.Text.{text, lines}
+use Rattle.ptlines.proofs.Common.{◌≡◌, ⊎_elim, ℕ, List, ◌++◌, sym, ◌∙◌, ap, text, lines}
 use Rattle.ptlines.specs.Parts.{IsWhole, LinesOfParts}
 use Rattle.ptlines.proofs.TextLaws.{lines_of_text, the_lines}
 

@@ -1,11 +1,8 @@
 -- What was pushed, one call after another.
-use Rattle.std.proofs.Common.{◌≡◌, ◌+◌, ◌≤◌, ℕ, true, false, List, [], ◌++◌, Option, length, refl, sym, ◌∙◌, ap, subst, arith, append_assoc, length-append}
-use Rattle.std.proofs.Common.{Result, Ok, Err, OnOk, OnErr}
-use Rattle.std.proofs.lemmas.Bool.{false≢true}
-use Rattle.std.proofs.lemmas.List.{append-nil}
+use Rattle.ptlines.proofs.Common.{◌≡◌, ◌+◌, ◌≤◌, ℕ, true, false, List, [], ◌++◌, Option, length, refl, sym, ◌∙◌, ap, subst, arith, append_assoc, length-append, Result, Ok, Err, OnOk, OnErr}
+use Rattle.ptlines.proofs.Common.{false≢true, append-nil, append_known, Output, with_staged, with_sent, with_passed, Extends, Wrote, Breaks}
 use Rattle.ptlines.specs.declared.out.WriteFault.{WriteFault}
-use Rattle.std.specs.Io.KnownBytes.{append_known}
-use Rattle.ptlines.specs.Outputs.{Output, text, with_staged, with_sent, with_passed, Extends, Wrote, Breaks}
+use Rattle.ptlines.specs.Outputs.{text}
 use Rattle.ptlines.proofs.Known.{append_known-append, append_known-nil}
 
 pub extends_same : (known : Option (List ℕ)) → Extends known known

@@ -1,16 +1,7 @@
 -- What one read does to a reader whose block is empty.
-use Rattle.std.proofs.Common.{◌≡◌, ℕ, zero, suc, ◌+◌, ◌<◌, ◌≤◌, Bool, List, [], Option, length, take, refl, sym, ◌∙◌, ap, arith}
-use Rattle.std.proofs.lemmas.List.{length-take-le, take-take}
-use Rattle.std.specs.Io.KnownBytes.{prepend_known}
-use Rattle.ptlines.specs.Sources.{SourceState, Gives}
-use Rattle.std.proofs.Common.{◌^◌, true, false, None, Some, Ok, Err, inl, inr}
-use Rattle.std.specs.Prelude.{slice_range}
+use Rattle.ptlines.proofs.Common.{◌≡◌, ℕ, zero, suc, ◌+◌, ◌<◌, ◌≤◌, Bool, List, [], Option, length, take, refl, sym, ◌∙◌, ap, arith, length-take-le, take-take, prepend_known, SourceState, Gives, ◌^◌}
+use Rattle.ptlines.proofs.Common.{true, false, None, Some, Ok, Err, inl, inr, slice_range, false≢true, IsAtEnd, LineFault, Read, Reader, reader_of, unread, Reads, Refills}
 use Rattle.std.proofs.lemmas.Slice.{between_from_start}
-use Rattle.std.proofs.lemmas.Bool.{false≢true}
-use Rattle.std.specs.Io.KnownBytes.{IsAtEnd}
-use Rattle.ptlines.specs.declared.store.LineFault.{LineFault}
-use Rattle.ptlines.specs.declared.store.LineFault.TheVariants.{Read}
-use Rattle.ptlines.specs.Readers.{Reader, reader_of, unread, Reads, Refills}
 use Rattle.ptlines.proofs.Known.{prepend_known-nil}
 
 -- what an empty block leaves unread

@@ -1,12 +1,7 @@
 -- What a search for the byte that ends a line tells.
-use Rattle.std.proofs.Common.{◌≡◌, ℕ, suc, ◌+◌, ◌<◌, ◌≤◌, List, [], ◌∷◌, ◌++◌, None, Some, length, get_or, take, drop, sym, ◌∙◌, ap, subst, arith, get_or-take, length-take}
-use Rattle.std.proofs.lemmas.List.{take_more, drop-drop, drop_more, take_all, drop_all}
-use Rattle.std.proofs.lemmas.Bool.{eqb-true, eq-eqb}
-use Rattle.memchr.specs.Find.{IsFirstByte, is_byte}
-use Rattle.ptlines.specs.Text.{IsLine}
-use Rattle.ptlines.specs.Slots.{Slots}
-use Rattle.ptlines.specs.Readers.{Reader, Goes}
-use Rattle.ptlines.specs.Fills.{GivesPiece, GivesEnd, Grows}
+use Rattle.ptlines.proofs.Common.{◌≡◌, ℕ, suc, ◌+◌, ◌<◌, ◌≤◌, List, [], ◌∷◌, ◌++◌, None, Some, length, get_or, take, drop, sym, ◌∙◌, ap, subst, arith, length-take, take_more, drop-drop, drop_more}
+use Rattle.ptlines.proofs.Common.{take_all, drop_all, eqb-true, eq-eqb, IsFirstByte, is_byte, IsLine, Slots, Reader, Goes, GivesPiece, GivesEnd, Grows}
+use Rattle.std.proofs.Common.{get_or-take}
 use Rattle.ptlines.proofs.Given.{reads_front}
 
 pub line_from : (end : ℕ) (bytes : List ℕ) → ((k : ℕ) → k < length bytes → get_or bytes k 0 ≡ end → ⊥) → IsLine end bytes

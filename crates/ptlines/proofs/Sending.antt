@@ -1,9 +1,7 @@
 -- What was pushed by a time at which no write had failed was sent on, but for a block.
-use Rattle.std.proofs.Common.{◌≡◌, ℕ, ◌+◌, ◌≤◌, false, List, ◌++◌, Option, None, Some, length, max, sym, ◌∙◌, ap, arith, append_assoc, length-append}
-use Rattle.std.specs.Io.KnownBytes.{append_known}
-use Rattle.ptlines.specs.Inputs.{Given, Begins}
+use Rattle.ptlines.proofs.Common.{◌≡◌, ℕ, ◌+◌, ◌≤◌, false, List, ◌++◌, Option, None, Some, length, max, sym, ◌∙◌, ap, arith, append_assoc, length-append, append_known, Given, Begins, Output, Extends}
+use Rattle.ptlines.proofs.Common.{Wrote}
 use Rattle.ptlines.specs.KeepingUp.{WorksOff, SendsOn, KeepsUp}
-use Rattle.ptlines.specs.Outputs.{Output, Extends, Wrote}
 use Rattle.ptlines.proofs.Known.{append_known-append}
 use Rattle.ptlines.proofs.Pushed.{extends_same}
 

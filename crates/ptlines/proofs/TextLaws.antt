@@ -1,10 +1,7 @@
 -- Laws of lines and their text.
-use Rattle.std.proofs.Common.{◌≡◌, ◌≢◌, ◌⊎◌, inl, inr, ⊎_elim, ℕ, ◌==◌, ◌<◌, Bool, true, false, cond, List, [], ◌∷◌, ◌++◌, length, drop, get_or, refl, sym, ◌∙◌, ap, arith, append_assoc}
-use Rattle.std.specs.List.{onto_first}
-use Rattle.std.proofs.lemmas.Bool.{eq-eqb, eqb-true, eqb-false, cases_Bool}
-use Rattle.std.proofs.lemmas.Bool.Decides.{nat_tests}
-use Rattle.std.proofs.lemmas.List.{append-nil}
-use Rattle.ptlines.specs.Text.{text, lines, onto_line, ended_lines, IsLine, AreLines, AreLinesOf, EndsWithByte, LinesAreUnique, EndedLinesAreLines}
+use Rattle.ptlines.proofs.Common.{◌≡◌, ◌≢◌, ◌⊎◌, inl, inr, ⊎_elim, ℕ, ◌==◌, ◌<◌, Bool, true, false, cond, List, [], ◌∷◌, ◌++◌, length, drop, get_or, refl, sym, ◌∙◌, ap, arith, append_assoc}
+use Rattle.ptlines.proofs.Common.{onto_first, eq-eqb, eqb-true, eqb-false, cases_Bool, nat_tests, append-nil, text, lines, onto_line, ended_lines, IsLine, AreLines, AreLinesOf, EndsWithByte}
+use Rattle.ptlines.proofs.Common.{LinesAreUnique, EndedLinesAreLines}
 
 pub same_byte : (end : ℕ) → (end == end) ≡ true
 same_byte end = eq-eqb end end refl

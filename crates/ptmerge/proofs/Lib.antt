@@ -1,3 +1,4 @@
+pub mod Common
 pub mod OfComm
 pub mod OfParts
 pub mod OfJoin

@@ -1,12 +1,8 @@
 -- What is spelled and allowed is meant, and nothing else is.
-use Rattle.std.proofs.Common.{◌≡◌, ℕ, List, [], ◌∷◌, ◌++◌, Bool, true, false, refl, ap, sym, subst, map, append_assoc, append-nil, Option, Some, None, ◌&&◌, Ok, ⊎_elim}
-use Rattle.std.specs.Prelude.{is_some, IsTrue, if◌then◌else◌}
-use Rattle.std.proofs.lemmas.Bool.{cases_Bool}
-use Rattle.ptopts.specs.declared.tool.Tool.{Tool}
-use Rattle.ptopts.specs.Words.{GivenOption, Given, Spells, Reading, reading, options, tool_named}
-use Rattle.ptopts.specs.Faults.{Fault, Twice, first_of, is_spent, event_fault, reading_fault, combination_fault, values_fault, operands_fault, strings_fault}
-use Rattle.ptopts.specs.Commands.{Command, command, unless, first_fault, meaning, meaning_for}
-use Rattle.ptopts.specs.Laws.{AreAllowed, SpellsCommand, Spelled, MeantAsSpelled}
+use Rattle.ptopts.proofs.Common.{◌≡◌, ℕ, List, [], ◌∷◌, ◌++◌, Bool, true, false, refl, ap, sym, subst, map, append_assoc, append-nil, Option, Some, None, ◌&&◌, Ok, ⊎_elim, is_some, IsTrue}
+use Rattle.ptopts.proofs.Common.{if◌then◌else◌, cases_Bool, Tool, GivenOption, Given, Spells, Reading, reading, options, tool_named, Fault, Twice, first_of, is_spent, event_fault, reading_fault}
+use Rattle.ptopts.proofs.Common.{combination_fault, values_fault, operands_fault, strings_fault, Command, command, unless, first_fault, meaning, meaning_for, AreAllowed, SpellsCommand, Spelled}
+use Rattle.ptopts.proofs.Common.{MeantAsSpelled}
 use Rattle.ptopts.proofs.Spelled.{spelled}
 use Rattle.ptopts.proofs.Read.{options-map, option_or-none, spelled_unless_faulty}
 

@@ -1,7 +1,5 @@
 -- The first of several values.
-use Rattle.std.proofs.Common.{◌≡◌, Option, Some, None, refl, ap, sym, ◌∙◌, option_map}
-use Rattle.std.specs.Prelude.{unwrap_or}
-use Rattle.std.specs.Option.{option_or}
+use Rattle.ptopts.proofs.Common.{◌≡◌, Option, Some, None, refl, ap, sym, ◌∙◌, option_map, unwrap_or, option_or}
 
 option_map-or : {A B : Type 0} (f : A → B) (x y : Option A) → option_map f (option_or x y) ≡ option_or (option_map f x) (option_map f y)
 option_map-or f None y = refl

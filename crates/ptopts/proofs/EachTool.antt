@@ -1,14 +1,6 @@
 -- What is seen of each tool by looking at its row: a line for each.
-use Rattle.std.proofs.Common.{◌≡◌, ℕ, true, false, List, None, length, refl, not}
-use Rattle.std.specs.Prelude.{⊤, nat_le, nat_lt}
-use Rattle.std.specs.List.{list_all}
-use Rattle.ptopts.specs.declared.tool.Tool.{Tool}
-use Rattle.ptopts.specs.declared.tool.Tool.TheVariants.{Cut, Paste, Uniq, Comm, Join, Tr}
-use Rattle.ptopts.specs.declared.inputs.Input.{Input}
-use Rattle.ptopts.specs.Syntax.{syntax}
-use Rattle.ptopts.specs.Words.{GivenOption, is_flag, takes_value}
-use Rattle.ptopts.specs.Faults.{operands_fault}
-use Rattle.ptopts.specs.Commands.{Job, RunPaste, RunUniq, RunComm, RunJoin, job, inputs, order_from}
+use Rattle.ptopts.proofs.Common.{◌≡◌, ℕ, true, false, List, None, length, refl, not, ⊤, nat_le, nat_lt, list_all, Tool, Cut, Paste, Uniq, Comm, Join, Tr, Input, syntax, GivenOption, is_flag}
+use Rattle.ptopts.proofs.Common.{takes_value, operands_fault, Job, RunPaste, RunUniq, RunComm, RunJoin, job, inputs, order_from}
 use Rattle.ptopts.proofs.SoleInputs.{AreTwo, sole_input, few_inputs, two_inputs}
 
 -- no letter with a value is a flag, a dash is no letter, and letters with a value are ASCII

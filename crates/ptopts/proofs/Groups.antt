@@ -1,15 +1,8 @@
 -- The options of a word while its letters are read, and those of words while they are.
-use Rattle.std.proofs.Common.{◌≡◌, ℕ, List, [], ◌∷◌, ◌++◌, true, false, refl, sym, ◌∙◌, append_assoc, Option, Some, None, drop, append-nil, length, length-drop}
-use Rattle.std.proofs.Common.{◌<◌, ◌+◌, slice_index, nat_eq, add-one, drop-cons, ⊎_elim, arith}
-use Rattle.std.specs.Prelude.{OnSome}
-use Rattle.std.proofs.lemmas.Bool.{cases_Bool, cases_eq, eq-eqb, ne_eqb}
-use Rattle.std.proofs.lemmas.List.{map-append}
+use Rattle.ptopts.proofs.Common.{◌≡◌, ℕ, List, [], ◌∷◌, ◌++◌, true, false, refl, sym, ◌∙◌, append_assoc, Option, Some, None, drop, append-nil, length, length-drop, ◌<◌, ◌+◌, slice_index, nat_eq}
+use Rattle.ptopts.proofs.Common.{add-one, drop-cons, ⊎_elim, arith, OnSome, cases_Bool, cases_eq, eq-eqb, ne_eqb, map-append, Tool, is_empty, is_flag, takes_value, GivenOption, flag, Event, Given}
+use Rattle.ptopts.proofs.Common.{Stranger, valued_event, events_in, events_of, takes_next, Fault, event_fault, reading_fault, options_among, option_seen, options_seen, ReadsGroup}
 use Rattle.ptopts.specs.declared.reading.GivenOption as given
-use Rattle.ptopts.specs.declared.tool.Tool.{Tool}
-use Rattle.ptlangs.specs.Numbers.{is_empty}
-use Rattle.ptopts.specs.Words.{is_flag, takes_value, GivenOption, flag, Event, Given, Stranger, valued_event, events_in, events_of, takes_next}
-use Rattle.ptopts.specs.Faults.{Fault, event_fault, reading_fault}
-use Rattle.ptopts.specs.Steps.{options_among, option_seen, options_seen, ReadsGroup}
 
 -- what was read of a word, and what stands before these letters of it, are the whole
 pub record Ahead (tool : Tool) (word : List ℕ) (next : Option (List ℕ)) (before os : List GivenOption) (letters : List ℕ) : Type 0 where

@@ -1,13 +1,7 @@
 -- What words mean once they are read: the command where nothing is wrong, or the fault of combinations.
-use Rattle.std.proofs.Common.{◌≡◌, ℕ, List, [], ◌∷◌, Option, Some, None, Ok, Err, refl, ap, sym, ◌∙◌}
-use Rattle.ptopts.specs.declared.tool.Tool.{Tool}
+use Rattle.ptopts.proofs.Common.{◌≡◌, ℕ, List, [], ◌∷◌, Option, Some, None, Ok, Err, refl, ap, sym, ◌∙◌, Tool, IsFault, GivenOption, tool_named, Fault, first_of, combination_fault, values_fault}
+use Rattle.ptopts.proofs.Common.{operands_fault, strings_fault, Job, job, inputs, output, judged, unless, command, meaning, meaning_for, beside, AreInputs, ReadsWords}
 use Rattle.ptopts.specs.declared.inputs.Inputs.{Inputs}
-use Rattle.ptlangs.specs.Answers.{IsFault}
-use Rattle.ptopts.specs.Words.{GivenOption, tool_named}
-use Rattle.ptopts.specs.Faults.{Fault, first_of, combination_fault, values_fault, operands_fault, strings_fault}
-use Rattle.ptopts.specs.Commands.{Job, job, inputs, output, judged, unless, command, meaning, meaning_for}
-use Rattle.ptopts.specs.Meant.{beside}
-use Rattle.ptopts.specs.Steps.{AreInputs, ReadsWords}
 
 pub judged_ok : {A : Type 0} (os : List GivenOption) (operands : List (List ℕ)) (i : Inputs A) {tool named : Tool} {told : Job} → tool ≡ named
     → values_fault named os ≡ None → operands_fault tool os operands ≡ None → strings_fault named os operands ≡ None

@@ -1,3 +1,4 @@
+pub mod Common
 pub mod Accepted
 pub mod Chosen
 pub mod EachTool

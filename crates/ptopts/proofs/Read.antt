@@ -1,17 +1,9 @@
 -- What is read with no fault is spelled.
-use Rattle.std.proofs.Common.{◌≡◌, ℕ, ◌==◌, List, [], ◌∷◌, ◌++◌, Bool, true, false, refl, ap, sym, ◌∙◌, subst, map, append_assoc, Option, Some, None, ◌&&◌, ⊎_elim, codes}
-use Rattle.std.specs.Prelude.{slice_get, is_some, filter_map}
-use Rattle.std.specs.List.{list_all}
-use Rattle.std.specs.Option.{option_or}
-use Rattle.std.proofs.lemmas.Bool.{and_from, eqb-true, cases_Bool, not_from_false}
+use Rattle.ptopts.proofs.Common.{◌≡◌, ℕ, ◌==◌, List, [], ◌∷◌, ◌++◌, Bool, true, false, refl, ap, sym, ◌∙◌, subst, map, append_assoc, Option, Some, None, ◌&&◌, ⊎_elim, codes, slice_get, is_some}
+use Rattle.ptopts.proofs.Common.{filter_map, list_all, option_or, and_from, eqb-true, cases_Bool, not_from_false, Tool, is_empty, is_flag, takes_value, is_dashed, is_end_of_options, GivenOption, flag}
+use Rattle.ptopts.proofs.Common.{with_value, AreFlags, Spells, OperandsAlone, EndOfOptions, Flags, ValueAttached, ValueNext, Event, Given, Wanting, Stranger, valued_event, events_in, takes_next}
+use Rattle.ptopts.proofs.Common.{Reading, reading_from, option_in, options, Twice, NeedsValue, is_spent, event_fault, reading_fault, ReadAsSpelled, SpelledOneWay, SpelledUnlessFaulty}
 use Rattle.std.proofs.lemmas.Slice.Eq.{bytes_eq-Decides}
-use Rattle.ptopts.specs.declared.tool.Tool.{Tool}
-use Rattle.ptlangs.specs.Numbers.{is_empty}
-use Rattle.ptopts.specs.Words.{is_flag, takes_value, is_dashed, is_end_of_options, GivenOption, flag, with_value, AreFlags, Spells, OperandsAlone, EndOfOptions}
-use Rattle.ptopts.specs.Words.{Flags, ValueAttached, ValueNext, Event, Given, Wanting, Stranger, valued_event, events_in, takes_next, Reading, reading_from}
-use Rattle.ptopts.specs.Words.{option_in, options}
-use Rattle.ptopts.specs.Faults.{Twice, NeedsValue, is_spent, event_fault, reading_fault}
-use Rattle.ptopts.specs.Laws.{ReadAsSpelled, SpelledOneWay, SpelledUnlessFaulty}
 use Rattle.ptopts.proofs.Spelled.{spelled, read_as, events_in-flags, events_in-all_flags, takes_next-flags, takes_next-all_flags}
 
 -- each event is an option

@@ -1,14 +1,8 @@
 -- The options of words while these are read.
-use Rattle.std.proofs.Common.{◌≡◌, ℕ, List, [], ◌∷◌, ◌++◌, Bool, true, false, refl, ap, sym, ◌∙◌, append_assoc, Option, Some, None, drop, append-nil, ◌<◌, ◌≤◌, length, arith}
-use Rattle.std.specs.Prelude.{slice_get, OnSome}
-use Rattle.std.specs.Borrow.{Bor}
-use Rattle.std.proofs.lemmas.List.{length-map}
+use Rattle.ptopts.proofs.Common.{◌≡◌, ℕ, List, [], ◌∷◌, ◌++◌, Bool, true, false, refl, ap, sym, ◌∙◌, append_assoc, Option, Some, None, drop, append-nil, ◌<◌, ◌≤◌, length, arith, slice_get, OnSome}
+use Rattle.ptopts.proofs.Common.{Bor, length-map, Tool, is_dashed, is_end_of_options, GivenOption, Event, events_of, takes_next, Reading, reading, reading_from, prefixed, option_in, options, Fault}
+use Rattle.ptopts.proofs.Common.{reading_fault, words_seen, options_among, behind_taken, ReadsGroup, ReadsWords}
 use Rattle.std.proofs.lemmas.List.Elements.{filter_map-append}
-use Rattle.ptopts.specs.declared.tool.Tool.{Tool}
-use Rattle.ptopts.specs.Words.{is_dashed, is_end_of_options, GivenOption, Event, events_of, takes_next, Reading, reading, reading_from, prefixed, option_in, options}
-use Rattle.ptopts.specs.Faults.{Fault, reading_fault}
-use Rattle.ptopts.specs.Meant.{words_seen}
-use Rattle.ptopts.specs.Steps.{options_among, behind_taken, ReadsGroup, ReadsWords}
 
 -- what was read of the words, and what these words behind it are, are the whole
 pub record Reads (tool : Tool) (words : List (List ℕ)) (os : List GivenOption) (left : List (List ℕ)) : Type 0 where

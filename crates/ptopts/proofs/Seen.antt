@@ -1,11 +1,6 @@
 -- The options of the code as the definitions see them.
-use Rattle.std.proofs.Common.{◌≡◌, ℕ, ◌==◌, List, [], ◌∷◌, refl, ap, ◌||◌, Bool, ⊎_elim, option_map}
-use Rattle.std.specs.Prelude.{option_and_then, find}
-use Rattle.std.proofs.lemmas.Bool.{cases_Bool}
-use Rattle.std.specs.List.{list_any}
+use Rattle.ptopts.proofs.Common.{◌≡◌, ℕ, ◌==◌, List, [], ◌∷◌, refl, ap, ◌||◌, Bool, ⊎_elim, option_map, option_and_then, find, cases_Bool, list_any, has, value_of, options_seen}
 use Rattle.ptopts.specs.declared.reading.GivenOption.{GivenOption}
-use Rattle.ptopts.specs.Words.{has, value_of}
-use Rattle.ptopts.specs.Steps.{options_seen}
 
 pub has-seen : (letter : ℕ) (os : List GivenOption) → list_any (λ o. o.letter == letter) os ≡ has letter (options_seen os)
 has-seen letter [] = refl

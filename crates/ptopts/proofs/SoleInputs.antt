@@ -1,14 +1,9 @@
 -- How many inputs a tool reads.
-use Rattle.std.proofs.Common.{◌≡◌, ℕ, suc, ◌+◌, ◌&&◌, Bool, true, false, cond, List, [], ◌∷◌, Option, Some, None, length, take, refl, ◌∙◌, ap, arith}
-use Rattle.std.specs.Prelude.{not, nat_le}
-use Rattle.std.specs.List.{list_all}
+use Rattle.ptopts.proofs.Common.{◌≡◌, ℕ, suc, ◌+◌, ◌&&◌, Bool, true, false, cond, List, [], ◌∷◌, Option, Some, None, length, take, refl, ◌∙◌, ap, arith, nat_le, list_all, Paste, Input, GivenOption}
+use Rattle.ptopts.proofs.Common.{Fault, Operands, StandardTwice, is_between, is_standard, operands_fault, or_standard, order_from}
+use Rattle.std.specs.Prelude.{not}
 use Rattle.std.proofs.lemmas.Bool.Decides.{nat_tests}
-use Rattle.ptopts.specs.declared.tool.Tool.TheVariants.{Paste}
-use Rattle.ptopts.specs.declared.inputs.Input.{Input}
 use Rattle.ptopts.specs.declared.inputs.Input.TheVariants.{Standard, File}
-use Rattle.ptopts.specs.Words.{GivenOption}
-use Rattle.ptopts.specs.Faults.{Fault, Operands, StandardTwice, is_between, is_standard, operands_fault}
-use Rattle.ptopts.specs.Commands.{or_standard, order_from}
 
 order_length : (n : ℕ) (operands : List (List ℕ)) → length (order_from n operands) ≡ length operands
 order_length n [] = refl

@@ -1,13 +1,9 @@
 -- What is spelled is read.
-use Rattle.std.proofs.Common.{◌≡◌, ℕ, ◌==◌, List, [], ◌∷◌, ◌++◌, Bool, true, false, refl, ap, sym, ◌∙◌, subst, map, append_assoc, not, Option, Some, ⊎_elim}
-use Rattle.std.specs.Prelude.{IsTrue, slice_get, nat_lt, ◌<◌}
-use Rattle.std.specs.List.{list_all}
-use Rattle.std.proofs.lemmas.Bool.{and_parts, eqb-true, or_cases, not-true, ne_eqb, cases_Bool, ltb-true}
-use Rattle.ptopts.specs.declared.tool.Tool.{Tool}
-use Rattle.ptopts.specs.Syntax.{syntax}
+use Rattle.ptopts.proofs.Common.{◌≡◌, ℕ, ◌==◌, List, [], ◌∷◌, ◌++◌, Bool, true, false, refl, ap, sym, ◌∙◌, subst, map, append_assoc, not, Option, Some, ⊎_elim, IsTrue, slice_get, nat_lt, list_all}
+use Rattle.ptopts.proofs.Common.{and_parts, eqb-true, or_cases, not-true, ne_eqb, cases_Bool, ltb-true, Tool, syntax, has_letter, is_flag, takes_value, GivenOption, flag, with_value, AreFlags, Spells}
+use Rattle.ptopts.proofs.Common.{OperandsAlone, EndOfOptions, Flags, ValueAttached, ValueNext, Event, Given, events_in, takes_next, Reading, reading_from, prefixed, begins_with_operand}
+use Rattle.std.specs.Prelude.{◌<◌}
 use Rattle.ptopts.proofs.EachTool.{row_is}
-use Rattle.ptopts.specs.Words.{has_letter, is_flag, takes_value, GivenOption, flag, with_value, AreFlags, Spells, OperandsAlone, EndOfOptions, Flags}
-use Rattle.ptopts.specs.Words.{ValueAttached, ValueNext, Event, Given, events_in, takes_next, Reading, reading_from, prefixed, begins_with_operand}
 
 -- what passes for each letter of a list passes for this one
 pub all_of : (p : ℕ → Bool) (cs : List ℕ) (l : ℕ) → list_all p cs ≡ true → has_letter l cs ≡ true → p l ≡ true

@@ -1,33 +1,18 @@
 -- What is asked for by words, as the command that was read of them says it.
-use Rattle.std.proofs.Common.{◌≡◌, ⊎_elim, ℕ, ◌+◌, ◌<◌, ◌==◌, Bool, true, false, cond, List, Option, Some, None, Result, Ok, Err, length, refl, ◌∙◌, ap, sym, arith}
-use Rattle.std.specs.Prelude.{All, is_none, not, nat_le}
-use Rattle.std.proofs.lemmas.List.{length-map}
-use Rattle.std.proofs.lemmas.List.Elements.{All-map}
-use Rattle.std.proofs.lemmas.Bool.Decides.{nat_tests, eqb_tells}
+use Rattle.ptrun.proofs.Common.{◌≡◌, ⊎_elim, ℕ, ◌+◌, ◌<◌, ◌==◌, Bool, true, false, cond, List, Option, Some, None, Result, Ok, Err, length, refl, ◌∙◌, ap, sym, arith, All, is_none, not, nat_le}
+use Rattle.ptrun.proofs.Common.{length-map, All-map, nat_tests, eqb_tells, Reader, Input, Standard, File, Fault, Command, Job, RunCut, RunPaste, RunUniq, RunComm, RunJoin, RunTr, meaning, inputs}
+use Rattle.ptrun.proofs.Common.{meant, seen, IsMeant, Meaning, said_of, status_of, place, places, AreGiven, of_two, saying, job_meaning, command_meaning, meaning_in, tool_word, asked, asked_as}
+use Rattle.ptrun.proofs.Common.{is_denied, IsFresh, AreFresh, Sinks, Outcome, IsRun, Headline}
 use Rattle.ptlangs.specs.Answers.{IsFault}
-use Rattle.ptlines.specs.Readers.{Reader}
 use Rattle.ptopts.specs.declared.fault.UseFault.{UseFault}
 use Rattle.ptopts.specs.declared.command.Command as code
 use Rattle.ptmerge.specs.Comm.{comm_tool}
 use Rattle.ptmerge.specs.Join.{join_tool}
 use Rattle.ptmerge.specs.Keyed.{Tool as Paired}
-use Rattle.ptopts.specs.declared.inputs.Input.{Input}
-use Rattle.ptopts.specs.declared.inputs.Input.TheVariants.{Standard, File}
 use Rattle.ptopts.specs.Laws.{SpellsCommand, Spelled}
 use Rattle.ptopts.proofs.Accepted.{meant_as_spelled}
 use Rattle.ptopts.proofs.SoleInputs.{AreTwo}
 use Rattle.ptopts.proofs.EachTool.{AreTaken, are_taken}
-use Rattle.ptopts.specs.Faults.{Fault}
-use Rattle.ptopts.specs.Commands.{Command, Job, RunCut, RunPaste, RunUniq, RunComm, RunJoin, RunTr, meaning, inputs}
-use Rattle.ptopts.specs.Meant.{meant, seen, IsMeant}
-use Rattle.ptrun.specs.Meanings.{Meaning}
-use Rattle.ptrun.specs.Messages.{said_of, status_of}
-use Rattle.ptrun.specs.Operands.{place, places}
-use Rattle.ptrun.specs.Engines.{AreGiven}
-use Rattle.ptrun.specs.Together.{of_two}
-use Rattle.ptrun.specs.Asked.{saying, job_meaning, command_meaning, meaning_in, tool_word, asked, asked_as, is_denied}
-use Rattle.ptrun.specs.Worlds.{IsFresh, AreFresh}
-use Rattle.ptrun.specs.Runs.{Sinks, Outcome, IsRun, Headline}
 use Rattle.ptrun.proofs.Order.{places_within}
 use Rattle.ptrun.proofs.Runs.{headline_of}
 

@@ -1,35 +1,12 @@
 -- A tool that goes over its operands, one after another.
-use Rattle.std.proofs.Common.{◌≡◌, ◌≢◌, ◌⊎◌, ⊎_elim, inl, inr, ℕ, ◌<◌, ◌≤◌, Bool, true, false, cond, List, [], ◌∷◌, ◌++◌, Option, Some, None, Result, Ok}
-use Rattle.std.proofs.Common.{Err, ◌+◌, length, take, map, set, max, refl, sym, ◌∙◌, ap, subst, arith, append_assoc, length-append, length-set}
-use Rattle.std.specs.Prelude.{flat_map, option_map}
-use Rattle.std.specs.List.{list_any}
-use Rattle.std.proofs.lemmas.List.{append-nil, take_all, map-append, get_or-set_same, get_or-set_other, length-map}
-use Rattle.std.proofs.Math.Seq.{take-append_seam, take-length}
-use Rattle.std.proofs.lemmas.List.Concat.{flat_map-append}
-use Rattle.std.proofs.lemmas.Bool.{false≢true}
-use Rattle.ptlines.specs.Readers.{Reader, IsSound, HasReadCause}
-use Rattle.ptlines.specs.Outputs.{Output, Wrote}
-use Rattle.ptlines.specs.Slots.{Slots, total}
-use Rattle.ptlines.specs.Sinks.{SinkState}
-use Rattle.ptlines.proofs.Pushed.{wrote_trans, wrote_nothing}
-use Rattle.ptlines.specs.Inputs.{Given, nothing_left, Agrees, Begins, Came}
-use Rattle.ptflow.specs.Passes.{Finished, Ends, IsPass}
-use Rattle.ptflow.specs.Tools.{Tool}
-use Rattle.ptflow.specs.declared.faults.FlowFault.{FlowFault}
-use Rattle.ptflow.specs.declared.faults.FlowFault.TheVariants.{Read, Write, Memory}
-use Rattle.ptrun.specs.Worlds.{World, Received, at, is_unopened, AllowsAt, Allows, is_in, found, founds, opened, sources, reader_at, no_reader, shut, CameAt}
-use Rattle.ptrun.specs.Worlds.{IsReceived, IsFresh, HasFailed, IsTooLong}
-use Rattle.ptrun.specs.Sayings.{Tells}
-use Rattle.ptrun.specs.Meanings.{unopened}
-use Rattle.ptrun.specs.Messages.{not_opened, name_of}
-use Rattle.ptlines.specs.KeepingUp.{KeepsUp}
-use Rattle.ptrun.specs.KeepingUp.{PassedOn, LastEarlier}
+use Rattle.ptrun.proofs.Common.{◌≡◌, ◌≢◌, ◌⊎◌, ⊎_elim, inl, inr, ℕ, ◌<◌, ◌≤◌, Bool, true, false, cond, List, [], ◌∷◌, ◌++◌, Option, Some, None, Result, Ok, Err, ◌+◌, length, take, map, set, max, refl}
+use Rattle.ptrun.proofs.Common.{sym, ◌∙◌, ap, subst, arith, append_assoc, length-append, length-set, flat_map, option_map, list_any, append-nil, take_all, map-append, get_or-set_same}
+use Rattle.ptrun.proofs.Common.{get_or-set_other, length-map, take-append_seam, take-length, flat_map-append, false≢true, Reader, IsSound, HasReadCause, Output, Wrote, Slots, total, SinkState}
+use Rattle.ptrun.proofs.Common.{wrote_trans, wrote_nothing, Given, nothing_left, Agrees, Begins, Came, Finished, Ends, IsPass, Tool, FlowFault, Read, Write, Memory, World, Received, at, is_unopened}
+use Rattle.ptrun.proofs.Common.{AllowsAt, Allows, is_in, found, founds, opened, sources, reader_at, no_reader, shut, CameAt, IsReceived, IsFresh, HasFailed, IsTooLong, Tells, unopened, not_opened}
+use Rattle.ptrun.proofs.Common.{name_of, KeepsUp, PassedOn, LastEarlier, decided_of, largest, up_to_open, each_out, each_bound, each_decided, one_by_one, Done, Whole, Unopened, Cause, blame}
+use Rattle.ptrun.proofs.Common.{last_words, status_after, IsWithin, Went}
 use Rattle.ptrun.proofs.KeepingUp.{all_earlier, last_earlier, sends_now, sends_behind}
-use Rattle.ptrun.specs.Operands.{decided_of, largest, up_to_open, each_out, each_bound, each_decided, one_by_one}
-use Rattle.ptrun.specs.declared.engine.Done.{Done}
-use Rattle.ptrun.specs.declared.engine.Done.TheVariants.{Whole, Unopened}
-use Rattle.ptrun.specs.Runs.{Cause}
-use Rattle.ptrun.specs.Engines.{blame, last_words, status_after, IsWithin, Went}
 use Rattle.ptrun.proofs.Sayings.{tells_nothing}
 use Rattle.ptrun.proofs.Sources.{is_in-other, not_more, named_or_not, same_or_other, by_place, sources_opened, sources_refused, unopened_same}
 use Rattle.ptrun.proofs.Sources.{any_same, any_now, any_before, tells_more, largest-append, take_with, EndedAt, least, decided_founds}

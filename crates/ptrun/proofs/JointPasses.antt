@@ -2,37 +2,12 @@
 --
 -- Where one could not be opened, nothing is to be done. Else what the tool did is the run but its last words, and a
 -- tool with one input did what its one pass did.
-use Rattle.std.proofs.Common.{◌≡◌, ◌⊎◌, ⊎_elim, inl, inr, ℕ, zero, suc, ◌+◌, ◌<◌, ◌≤◌, ◌^◌, ◌||◌, ◌==◌, Bool, true, false, cond, List, [], ◌∷◌, ◌++◌, Option, Some, None, Result, Ok, Err}
-use Rattle.std.proofs.Common.{length, take, drop, get_or, set, refl, sym, ◌∙◌, ap, subst, arith, take-append-drop}
-use Rattle.std.specs.Prelude.{All, slice_get}
-use Rattle.std.specs.List.{list_any}
-use Rattle.std.proofs.lemmas.List.{get_or-set_same, get_or-set_other}
-use Rattle.std.proofs.lemmas.List.Elements.{All-nil, All-cons}
-use Rattle.std.proofs.lemmas.List.Folds.{list_any-append}
-use Rattle.std.proofs.lemmas.Bool.{false≢true, eqb-true}
-use Rattle.std.proofs.lemmas.Bool.Decides.{eqb_tells}
-use Rattle.ptlines.specs.Readers.{Reader, IsSound}
-use Rattle.ptlines.specs.Outputs.{Output}
-use Rattle.ptlines.specs.Slots.{Slots}
-use Rattle.ptlines.specs.Sinks.{SinkState}
-use Rattle.ptlines.specs.Inputs.{Given, Begins, Came}
-use Rattle.ptlines.specs.KeepingUp.{Before}
-use Rattle.ptflow.specs.Passes.{Ends, IsPass}
-use Rattle.ptflow.specs.PastePasses.{put_at}
-use Rattle.ptflow.specs.Tools.{Tool}
-use Rattle.ptflow.specs.declared.faults.FlowFault.{FlowFault}
-use Rattle.ptflow.specs.declared.faults.FlowFault.TheVariants.{Read, Write, Memory}
-use Rattle.ptopts.specs.declared.inputs.Input.{Input}
-use Rattle.ptrun.specs.declared.engine.Done.{Done}
-use Rattle.ptrun.specs.declared.engine.Done.TheVariants.{Whole}
-use Rattle.ptrun.specs.Worlds.{World, Received, at, is_unopened, Allows, is_in, reader_at, no_reader, shut, IsReceived, IsFresh, HasFailed, IsTooLong}
-use Rattle.ptrun.specs.Meanings.{unopened}
-use Rattle.ptrun.specs.Sayings.{Tells}
-use Rattle.ptrun.specs.Messages.{not_opened, name_of}
-use Rattle.ptrun.specs.KeepingUp.{PassedOn}
-use Rattle.ptrun.specs.Operands.{place, places}
-use Rattle.ptrun.specs.Together.{JointTool, of_one, text_in, given_in, lacks, disorder_text, disorder_status, together}
-use Rattle.ptrun.specs.Engines.{Checks, IsStart, AreReady, IsWithin, blame, last_words, status_after, WentTo, Went, done_of, AgreeAt, NoneFailed, JointEnds, IsJointPass}
+use Rattle.ptrun.proofs.Common.{◌≡◌, ◌⊎◌, ⊎_elim, inl, inr, ℕ, zero, suc, ◌+◌, ◌<◌, ◌≤◌, ◌^◌, ◌||◌, ◌==◌, Bool, true, false, cond, List, [], ◌∷◌, ◌++◌, Option, Some, None, Result, Ok, Err, length}
+use Rattle.ptrun.proofs.Common.{take, drop, get_or, set, refl, sym, ◌∙◌, ap, subst, arith, take-append-drop, All, slice_get, list_any, get_or-set_same, get_or-set_other, All-nil, All-cons}
+use Rattle.ptrun.proofs.Common.{list_any-append, false≢true, eqb-true, eqb_tells, Reader, IsSound, Output, Slots, SinkState, Given, Begins, Came, Before, Ends, IsPass, put_at, Tool, FlowFault, Read}
+use Rattle.ptrun.proofs.Common.{Write, Memory, Input, Done, Whole, World, Received, at, is_unopened, Allows, is_in, reader_at, no_reader, shut, IsReceived, IsFresh, HasFailed, IsTooLong, unopened}
+use Rattle.ptrun.proofs.Common.{Tells, not_opened, name_of, PassedOn, place, places, JointTool, of_one, text_in, given_in, lacks, disorder_text, disorder_status, together, Checks, IsStart, AreReady}
+use Rattle.ptrun.proofs.Common.{IsWithin, blame, last_words, status_after, WentTo, Went, done_of, AgreeAt, NoneFailed, JointEnds, IsJointPass}
 use Rattle.ptrun.proofs.KeepingUp.{at_set, opened_set, passed_on}
 use Rattle.ptrun.proofs.Sayings.{tells_nothing}
 use Rattle.ptrun.proofs.Sources.{any_same, is_in-same, same_or_other, by_place, neither, named_or_not, each_named, none_passes, put_here, put_other}

@@ -1,20 +1,11 @@
 -- What had been decided two blocks earlier of the last operand; and what of it reached the sink.
-use Rattle.std.proofs.Common.{◌≡◌, ℕ, zero, suc, ◌+◌, ◌≤◌, Bool, false, List, [], ◌∷◌, ◌++◌, set, Option, Some, None, is_none, length, take, drop}
-use Rattle.std.proofs.Common.{refl, sym, ◌∙◌, ap, subst, arith, length-append, length-drop, take-append-drop}
-use Rattle.std.specs.Io.KnownBytes.{append_known}
-use Rattle.std.proofs.lemmas.List.{append-nil, get_or-set_other, nil_from_length}
-use Rattle.std.proofs.Math.Seq.{take-append_seam}
-use Rattle.ptlines.specs.Inputs.{Given, Begins, nothing_left}
-use Rattle.ptlines.specs.KeepingUp.{Before, WorksOff, SendsOn, KeepsUp}
-use Rattle.ptlines.specs.Outputs.{Output, Extends, Wrote}
-use Rattle.ptlines.proofs.Known.{append_known-append}
+use Rattle.ptrun.proofs.Common.{◌≡◌, ℕ, zero, suc, ◌+◌, ◌≤◌, Bool, false, List, [], ◌∷◌, ◌++◌, set, Option, Some, None, length, take, drop, refl, sym, ◌∙◌, ap, subst, arith, length-append}
+use Rattle.ptrun.proofs.Common.{length-drop, take-append-drop, append_known, append-nil, get_or-set_other, nil_from_length, take-append_seam, Given, Begins, nothing_left, Before, WorksOff, SendsOn}
+use Rattle.ptrun.proofs.Common.{KeepsUp, Output, Extends, Wrote, append_known-append, Tool, decided_of, Received, at, is_unopened, Meaning, PassedOn, KeptUp, LastEarlier, AnyEarlier, EarlierAs}
+use Rattle.ptrun.proofs.Common.{Earlier}
+use Rattle.std.proofs.Common.{is_none}
 use Rattle.ptlines.proofs.Sending.{known_length, keeps_still}
-use Rattle.ptflow.specs.Tools.{Tool}
-use Rattle.ptrun.specs.Operands.{decided_of}
-use Rattle.ptrun.specs.Worlds.{Received, at, is_unopened}
 use Rattle.ptrun.proofs.Sources.{by_place}
-use Rattle.ptrun.specs.Meanings.{Meaning}
-use Rattle.ptrun.specs.KeepingUp.{PassedOn, KeptUp, LastEarlier, AnyEarlier, EarlierAs, Earlier}
 
 -- all that came
 abbrev pub same_before : (g : Given) → Before g

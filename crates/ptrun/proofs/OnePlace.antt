@@ -1,17 +1,9 @@
 -- One place of a tool that goes over its operands, and what came of its input.
-use Rattle.std.proofs.Common.{◌≡◌, ℕ, ◌<◌, ◌^◌, Bool, true, false, cond, List, [], ◌∷◌, ◌++◌, Option, Some, None, length, map, refl, sym, ◌∙◌, ap, arith, append_assoc, length-append}
-use Rattle.std.specs.Prelude.{is_none, slice_get}
-use Rattle.std.specs.Io.KnownBytes.{prepend_known}
-use Rattle.std.proofs.lemmas.List.{append-nil, nil_from_length}
+use Rattle.ptrun.proofs.Common.{◌≡◌, ℕ, ◌<◌, ◌^◌, Bool, true, false, cond, List, [], ◌∷◌, ◌++◌, Option, Some, None, length, map, refl, sym, ◌∙◌, ap, arith, append_assoc, length-append, is_none}
+use Rattle.ptrun.proofs.Common.{slice_get, prepend_known, append-nil, nil_from_length, false≢true, Reader, IsDone, prepend_known-append, Given, Agrees, Came, World, Received, at, is_unopened}
+use Rattle.ptrun.proofs.Common.{AllowsAt, Allows, opened, reader_at, no_reader, CameAt, IsReceived, IsNew, IsFresh, IsTooLong, Done, Whole, Unopened}
 use Rattle.std.proofs.Math.ListN.{get_or-map}
-use Rattle.std.proofs.lemmas.Bool.{false≢true}
-use Rattle.ptlines.specs.Readers.{Reader, IsDone}
-use Rattle.ptlines.proofs.Known.{prepend_known-append}
 use Rattle.ptlines.proofs.Refilled.{unread_empty}
-use Rattle.ptlines.specs.Inputs.{Given, Agrees, Came}
-use Rattle.ptrun.specs.Worlds.{World, Received, at, is_unopened, AllowsAt, Allows, opened, reader_at, no_reader, CameAt, IsReceived, IsNew, IsFresh, IsTooLong}
-use Rattle.ptrun.specs.declared.engine.Done.{Done}
-use Rattle.ptrun.specs.declared.engine.Done.TheVariants.{Whole, Unopened}
 use Rattle.ptrun.proofs.Sources.{EndedAt, least, at-least, bytes_at}
 
 -- its source has said its end, and it can be asked again

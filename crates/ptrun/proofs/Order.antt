@@ -1,24 +1,7 @@
 -- The operands of a command in their order, as places.
-use Rattle.std.proofs.Common.{◌≡◌, ℕ, zero, suc, ◌+◌, ◌<◌, ◌≤◌, Bool, true, false, cond, List, [], ◌∷◌, ◌++◌, Result, length, take, drop, get_or, sym, ◌∙◌, ap}
-use Rattle.std.proofs.Common.{subst, arith, append_assoc, take-append-drop}
-use Rattle.std.proofs.lemmas.List.{take_more, get_or-map, length-map, take_all}
-use Rattle.std.proofs.lemmas.Bool.{false≢true}
-use Rattle.ptlines.specs.Readers.{Reader}
-use Rattle.ptlines.specs.Outputs.{Output}
-use Rattle.ptlines.specs.Slots.{Slots}
-use Rattle.ptflow.specs.Tools.{Tool}
-use Rattle.ptflow.specs.Passes.{IsPass}
-use Rattle.ptflow.specs.declared.faults.FlowFault.{FlowFault}
-use Rattle.ptrun.specs.Worlds.{reader_at, no_reader, IsFresh}
-use Rattle.ptrun.specs.Operands.{place, places}
-use Rattle.std.specs.Prelude.{All, not}
-use Rattle.std.proofs.lemmas.List.Elements.{All-nil, All-cons}
-use Rattle.std.specs.Borrow.{Bor}
-use Rattle.ptopts.specs.Meant.{words_seen}
-use Rattle.ptopts.specs.Faults.{is_standard}
-use Rattle.ptopts.specs.Commands.{file_names, order_from}
-use Rattle.ptopts.specs.declared.inputs.Input.{Input}
-use Rattle.ptopts.specs.declared.inputs.Input.TheVariants.{Standard, File}
+use Rattle.ptrun.proofs.Common.{◌≡◌, ℕ, zero, suc, ◌+◌, ◌<◌, ◌≤◌, Bool, true, false, cond, List, [], ◌∷◌, ◌++◌, Result, length, take, drop, get_or, sym, ◌∙◌, ap, subst, arith, append_assoc}
+use Rattle.ptrun.proofs.Common.{take-append-drop, take_more, get_or-map, length-map, take_all, false≢true, Reader, Output, Slots, Tool, IsPass, FlowFault, reader_at, no_reader, IsFresh, place, places}
+use Rattle.ptrun.proofs.Common.{All, not, All-nil, All-cons, Bor, words_seen, is_standard, file_names, order_from, Input, Standard, File}
 
 -- each place has a fresh reader, or none
 pub fresh_all : (readers : List Reader) → ((k : ℕ) (d : Reader) → k < length readers → IsFresh (get_or readers k d)) → (q : ℕ) → IsFresh (reader_at readers q)

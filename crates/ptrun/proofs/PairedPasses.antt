@@ -1,33 +1,17 @@
 -- A tool with two inputs did what its one merge did.
-use Rattle.std.proofs.Common.{◌≡◌, ◌≢◌, ℕ, ◌<◌, ◌^◌, ◌||◌, ◌&&◌, ◌==◌, Bool, true, false, List, [], ◌∷◌, Option, Some, None, Result}
-use Rattle.std.proofs.Common.{Ok, Err, length, get_or, refl, sym, ◌∙◌, ap, subst, arith}
-use Rattle.std.specs.Prelude.{option_map, not}
-use Rattle.std.specs.List.{list_any}
-use Rattle.std.proofs.lemmas.List.Elements.{All-nil, All-cons}
-use Rattle.std.proofs.lemmas.Bool.{false≢true}
-use Rattle.std.proofs.lemmas.Bool.Decides.{nat_tests}
-use Rattle.ptlines.specs.Readers.{Reader}
-use Rattle.ptlines.specs.Outputs.{Output}
-use Rattle.ptlines.specs.Slots.{Slots}
-use Rattle.ptlines.specs.Inputs.{Given, Begins, Came}
-use Rattle.ptlines.specs.KeepingUp.{Before}
-use Rattle.ptflow.specs.PastePasses.{put_at}
+use Rattle.ptrun.proofs.Common.{◌≡◌, ◌≢◌, ℕ, ◌<◌, ◌^◌, ◌||◌, ◌&&◌, ◌==◌, Bool, true, false, List, [], ◌∷◌, Option, Some, None, Result, Ok, Err, length, get_or, refl, sym, ◌∙◌, ap, subst, arith}
+use Rattle.ptrun.proofs.Common.{option_map, not, list_any, All-nil, All-cons, false≢true, nat_tests, Reader, Output, Slots, Given, Begins, Came, Before, put_at, First, Second, disorder, lines_of}
+use Rattle.ptrun.proofs.Common.{decided, Input, Disorder, is_in, reader_at, shut, IsNew, PassedOn, place, of_two, operand, of_operands, AreReady, AreSound, told_at, done_of, AgreeAt, NoneFailed}
+use Rattle.ptrun.proofs.Common.{JointEnds, IsJointPass}
 use Rattle.ptmerge.specs.declared.faults.MergeFault.{MergeFault}
 use Rattle.ptmerge.specs.declared.faults.MergeFault.TheVariants as faults
 use Rattle.ptmerge.specs.declared.order.Side.{Side}
-use Rattle.ptmerge.specs.declared.order.Side.TheVariants.{First, Second}
-use Rattle.ptmerge.specs.Keyed.{Disorder as Disordered, disorder, lines_of, decided}
+use Rattle.ptmerge.specs.Keyed.{Disorder as Disordered}
 use Rattle.ptmerge.specs.Keyed as keyed
 use Rattle.ptmerge.specs.Merges.{IsReady, IsMerge, Ends, Agree, IsWhole, Names, State, seen}
 use Rattle.ptmerge.specs.Merges as merges
 use Rattle.ptmerge.specs.Sides.{both, put}
-use Rattle.ptopts.specs.declared.inputs.Input.{Input}
-use Rattle.ptrun.specs.declared.engine.Done.TheVariants.{Disorder}
-use Rattle.ptrun.specs.Worlds.{is_in, reader_at, shut, IsNew}
-use Rattle.ptrun.specs.KeepingUp.{PassedOn}
-use Rattle.ptrun.specs.Operands.{place, places as places_of}
-use Rattle.ptrun.specs.Together.{of_two, operand, of_operands}
-use Rattle.ptrun.specs.Engines.{AreReady, AreSound, told_at, done_of, AgreeAt, NoneFailed, JointEnds, IsJointPass}
+use Rattle.ptrun.specs.Operands.{places as places_of}
 use Rattle.ptrun.proofs.KeepingUp.{passed_on}
 use Rattle.ptrun.proofs.Sources.{same_here, is_in-same, neither, each_named, put_here, put_other}
 use Rattle.ptrun.proofs.Order.{fresh_all}

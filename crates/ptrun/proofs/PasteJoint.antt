@@ -1,30 +1,13 @@
 -- `paste` over its operands together: what its pass says of places, as what is said of inputs.
-use Rattle.std.proofs.Common.{◌≡◌, ⊎_elim, ℕ, zero, suc, ◌+◌, ◌<◌, ◌≤◌, ◌==◌, Bool, true, false, cond, List, [], ◌∷◌, Result, Ok, Err}
-use Rattle.std.proofs.Common.{length, take, get_or, map, max, refl, sym, ◌∙◌, ap, subst, arith}
-use Rattle.std.specs.Prelude.{All, sum_by}
-use Rattle.std.proofs.lemmas.Bool.{false≢true}
-use Rattle.std.proofs.lemmas.List.{append-nil}
-use Rattle.std.proofs.lemmas.List.Elements.{All-from_get_or}
-use Rattle.std.proofs.lemmas.List.Folds.{list_any_at}
+use Rattle.ptrun.proofs.Common.{◌≡◌, ⊎_elim, ℕ, zero, suc, ◌+◌, ◌<◌, ◌≤◌, ◌==◌, Bool, true, false, cond, List, [], ◌∷◌, Result, Ok, Err, length, take, get_or, map, max, refl, sym, ◌∙◌, ap, subst}
+use Rattle.ptrun.proofs.Common.{arith, All, sum_by, false≢true, append-nil, All-from_get_or, list_any_at, Reader, Output, Slots, Given, whole_lines, Begins, Agrees, Paste, put_at, IsReadable, ReadAll}
+use Rattle.ptrun.proofs.Common.{RowsEnd, IsPastePass, FlowFault, Read, Write, Memory, Done, Whole, is_in, reader_at, shut, of_rows, AreReady, AgreeAt, JointEnds, IsJointPass}
 use Rattle.std.proofs.lemmas.List.Sums.{sum_by-cons}
-use Rattle.ptlines.specs.Readers.{Reader}
-use Rattle.ptlines.specs.Outputs.{Output}
-use Rattle.ptlines.specs.Slots.{Slots}
 use Rattle.ptlines.specs.Text.{lines, longest_line}
-use Rattle.ptlines.specs.Inputs.{Given, whole_lines, Begins, Agrees}
-use Rattle.ptlangs.specs.Jobs.{Paste}
-use Rattle.ptflow.specs.PastePasses.{put_at, IsReadable, ReadAll, RowsEnd, IsPastePass}
 use Rattle.ptflow.specs.PastePasses as pass
 use Rattle.ptflow.specs.Pastes.{times, every, columns, rows, known_rows, sheet, paste, paste_decided, paste_size}
 use Rattle.ptflow.proofs.OfPaste.Grids.{each_same, times_below}
 use Rattle.ptflow.proofs.OfPaste.Pastings.{named_at}
-use Rattle.ptflow.specs.declared.faults.FlowFault.{FlowFault}
-use Rattle.ptflow.specs.declared.faults.FlowFault.TheVariants.{Read, Write, Memory}
-use Rattle.ptrun.specs.declared.engine.Done.{Done}
-use Rattle.ptrun.specs.declared.engine.Done.TheVariants.{Whole}
-use Rattle.ptrun.specs.Worlds.{is_in, reader_at, shut}
-use Rattle.ptrun.specs.Together.{of_rows}
-use Rattle.ptrun.specs.Engines.{AreReady, AgreeAt, JointEnds, IsJointPass}
 use Rattle.ptrun.proofs.KeepingUp.{passed_on}
 use Rattle.ptrun.proofs.OnePlace.{agrees_whole}
 use Rattle.ptrun.proofs.Order.{fresh_all}

@@ -3,31 +3,12 @@
 -- What a tool pushed reaches the sink as far as no write failed, and its last words are said behind what it said. The
 -- headline is a reading of the run in the world that the readers tell: it is allowed by what was received, and each
 -- cause of a failure contradicts a premise.
-use Rattle.std.proofs.Common.{◌≡◌, ⊎_elim, ℕ, Bool, true, false, cond, List, [], ◌++◌, Option, Some, None, Result, Ok}
-use Rattle.std.proofs.Common.{Err, length, map, refl, sym, ◌∙◌, ap, subst, arith, append_assoc, length-append}
-use Rattle.std.specs.Prelude.{All}
-use Rattle.std.specs.Io.KnownBytes.{append_known, prepend_known, IsAtEnd}
-use Rattle.std.proofs.lemmas.List.{append-nil, append_cancel_left, nil_from_length}
-use Rattle.std.proofs.lemmas.Bool.{false≢true}
-use Rattle.std.proofs.Math.Seq.{take-length}
-use Rattle.ptlines.specs.Readers.{Reader}
-use Rattle.ptlines.specs.Outputs.{Output, text, Wrote}
-use Rattle.ptlines.specs.Slots.{Slots}
-use Rattle.ptlines.specs.Sinks.{SinkState}
-use Rattle.ptlines.proofs.Known.{append_known-nil}
-use Rattle.ptlines.proofs.Pushed.{wrote_trans}
-use Rattle.ptlines.specs.Inputs.{Given, Agrees, Begins}
-use Rattle.ptflow.specs.declared.faults.FlowFault.{FlowFault}
-use Rattle.ptflow.specs.declared.faults.FlowFault.TheVariants.{Read, Write, Memory}
-use Rattle.ptrun.specs.declared.engine.Done.{Done}
-use Rattle.ptrun.specs.Worlds.{World, Received, at, AllowsAt, Allows, reader_at, shut, is_unopened, CameAt, IsReceived, IsFresh, HasFailed, IsTooLong, TellsAt, TellsWorld}
-use Rattle.ptrun.specs.Sayings.{Tells}
-use Rattle.ptrun.specs.Meanings.{Meaning, named, messages, unopened}
-use Rattle.ptrun.specs.Runs.{Sinks, sinks, Outcome, Cause, EndsAs, IsRun, IsExact, Headline}
-use Rattle.ptrun.specs.Engines.{Checks, WentTo, Went, Finishes, last_words, status_after, IsWithin}
-use Rattle.ptrun.specs.KeepingUp.{PassedOn, KeptUp}
+use Rattle.ptrun.proofs.Common.{◌≡◌, ⊎_elim, ℕ, Bool, true, false, cond, List, [], ◌++◌, Option, Some, None, Result, Ok, Err, length, map, refl, sym, ◌∙◌, ap, subst, arith, append_assoc}
+use Rattle.ptrun.proofs.Common.{length-append, All, append_known, prepend_known, IsAtEnd, append-nil, append_cancel_left, nil_from_length, false≢true, take-length, Reader, Output, text, Wrote, Slots}
+use Rattle.ptrun.proofs.Common.{SinkState, append_known-nil, wrote_trans, Given, Agrees, Begins, FlowFault, Read, Write, Memory, Done, World, Received, at, AllowsAt, Allows, reader_at, shut}
+use Rattle.ptrun.proofs.Common.{is_unopened, CameAt, IsReceived, IsFresh, HasFailed, IsTooLong, TellsAt, TellsWorld, Tells, Meaning, named, messages, unopened, Sinks, sinks, Outcome, Cause, EndsAs}
+use Rattle.ptrun.proofs.Common.{IsRun, IsExact, Headline, Checks, WentTo, Went, Finishes, last_words, status_after, IsWithin, PassedOn, KeptUp, saying}
 use Rattle.ptrun.proofs.KeepingUp.{kept_up, earlier_map, nothing_decided}
-use Rattle.ptrun.specs.Asked.{saying}
 use Rattle.ptrun.proofs.Sayings.{tells_trans}
 use Rattle.ptrun.proofs.Order.{fresh_all}
 use Rattle.ptrun.proofs.Sources.{unopened_same}

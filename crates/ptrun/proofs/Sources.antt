@@ -1,24 +1,9 @@
 -- What the operands find, one more operand at a time.
-use Rattle.std.proofs.Common.{◌≡◌, ◌≢◌, ◌⊎◌, ⊎_elim, inl, inr, ℕ, zero, suc, ◌==◌, ◌||◌, Bool, true, false, cond, List, [], ◌∷◌, ◌++◌, Option, Some, None}
-use Rattle.std.proofs.Common.{◌+◌, length, take, map, max, refl, sym, ◌∙◌, ap, subst, arith, append_assoc, add-one}
-use Rattle.std.specs.Prelude.{All, flat_map, option_map}
-use Rattle.std.specs.List.{list_any}
-use Rattle.std.proofs.lemmas.List.{append-nil}
-use Rattle.std.proofs.lemmas.List.Concat.{flat_map-append}
-use Rattle.std.proofs.lemmas.List.Elements.{filter_map-append}
-use Rattle.std.proofs.lemmas.List.Folds.{list_any-append}
-use Rattle.std.proofs.lemmas.Bool.{false≢true}
-use Rattle.std.proofs.lemmas.Bool.Decides.{nat_tests, eqb_tells}
-use Rattle.ptlines.specs.Inputs.{Given, nothing_left}
-use Rattle.ptrun.specs.Worlds.{World, Received, at, is_in, found, founds, opened, sources}
-use Rattle.ptflow.specs.Tools.{Tool}
-use Rattle.ptrun.specs.Operands.{largest, up_to_open}
-use Rattle.ptrun.specs.Meanings.{unopened}
-use Rattle.ptrun.specs.Messages.{not_opened, name_of}
-use Rattle.ptrun.specs.Sayings.{Tells}
+use Rattle.ptrun.proofs.Common.{◌≡◌, ◌≢◌, ◌⊎◌, ⊎_elim, inl, inr, ℕ, zero, suc, ◌==◌, ◌||◌, Bool, true, false, cond, List, [], ◌∷◌, ◌++◌, Option, Some, None, ◌+◌, length, take, map, max, refl, sym}
+use Rattle.ptrun.proofs.Common.{◌∙◌, ap, subst, arith, append_assoc, add-one, All, flat_map, option_map, list_any, append-nil, flat_map-append, filter_map-append, list_any-append, false≢true}
+use Rattle.ptrun.proofs.Common.{nat_tests, eqb_tells, Given, nothing_left, World, Received, at, is_in, found, founds, opened, sources, Tool, largest, up_to_open, unopened, not_opened, name_of, Tells}
+use Rattle.ptrun.proofs.Common.{SinkState, put_at}
 use Rattle.ptrun.proofs.Sayings.{tells_trans}
-use Rattle.ptlines.specs.Sinks.{SinkState}
-use Rattle.ptflow.specs.PastePasses.{put_at}
 
 -- ---- membership
 

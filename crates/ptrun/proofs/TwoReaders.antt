@@ -1,8 +1,6 @@
 -- Two readers of a list that was split between them.
-use Rattle.std.proofs.Common.{◌≡◌, ℕ, ◌-◌, ◌<◌, List, ◌++◌, length, set, get_or, sym, ◌∙◌, ap, arith, length-set}
-use Rattle.std.proofs.lemmas.List.{set-append_left, set-append_right, get_or_append_left, get_or-append_right, get_or_default, get_or-set_same, get_or-set_other}
-use Rattle.ptlines.specs.Readers.{Reader}
-use Rattle.ptrun.specs.Worlds.{reader_at, no_reader}
+use Rattle.ptrun.proofs.Common.{◌≡◌, ℕ, ◌-◌, ◌<◌, List, ◌++◌, length, set, get_or, sym, ◌∙◌, ap, arith, length-set, set-append_left, set-append_right, get_or_append_left, get_or-append_right}
+use Rattle.ptrun.proofs.Common.{get_or_default, get_or-set_same, get_or-set_other, Reader, reader_at, no_reader}
 
 -- the readers that two parts lent, and the list with what they were left as
 pub record AreLent (inputs new : List Reader) (low high : ℕ) (a b x y : Reader) : Type 0 where

@@ -1,20 +1,11 @@
 -- What lanes say of a set of bytes.
-use Rattle.std.proofs.Common.{◌≡◌, ℕ, suc, ◌+◌, ◌*◌, ◌/◌, ◌%◌, ◌<◌, ◌≤◌, ◌^◌, ◌&&◌, ◌||◌, Bool, true, false, List, [], ◌∷◌, length, map, cond, leb, ltb, eqb}
-use Rattle.std.proofs.Common.{zero, ◌≢◌, ⊎_elim, get_or, get_or-take, get_or-drop, take, drop, ◌-◌, set, bit_or, replicate, negsuc, pos, bit_and, refl, ap}
-use Rattle.std.proofs.Common.{◌∙◌, arith, w8, Fits}
-use Rattle.std.specs.Simd.Lanes.{top, zip2, sel_l, Each1}
-use Rattle.std.specs.Int.{cast_unsigned, cast_signed, bit_at, from_bool}
-use Rattle.std.proofs.lemmas.Simd.{swz_l, SwzOk, SwzOk-from_below, zip2_splat, zip2_of_maps, map-map}
-use Rattle.std.proofs.lemmas.Nat.{and_mask}
+use Rattle.ptflow.proofs.Common.{◌≡◌, ℕ, suc, ◌+◌, ◌*◌, ◌/◌, ◌%◌, ◌<◌, ◌≤◌, ◌^◌, ◌&&◌, ◌||◌, Bool, true, false, List, [], ◌∷◌, length, map, cond, leb, ltb, eqb, zero, ◌≢◌, ⊎_elim, get_or, get_or-take}
+use Rattle.ptflow.proofs.Common.{get_or-drop, take, drop, ◌-◌, set, bit_or, replicate, negsuc, pos, bit_and, refl, ap, ◌∙◌, arith, w8, Fits, top, zip2, sel_l, Each1, cast_unsigned, cast_signed}
+use Rattle.ptflow.proofs.Common.{bit_at, from_bool, swz_l, SwzOk, SwzOk-from_below, zip2_splat, zip2_of_maps, map-map, and_mask, lt-leb, lt-ltb, le-ltb, cases_eq, cases_lt, eq-eqb, nat_tests}
+use Rattle.ptflow.proofs.Common.{get_or-map-range_with_len, pow_pos, length-map, set-get_or, get_or-set_same, get_or-set_other, marks, holds, IsTableOf, IsSetOf, mask_of}
 use Rattle.std.proofs.lemmas.Nat.Bits.{and_pow, bit_at-lt, bit_at_set_same, bit_at_set_other}
-use Rattle.std.proofs.lemmas.Bool.{lt-leb, lt-ltb, le-ltb, cases_eq, cases_lt, eq-eqb}
-use Rattle.std.proofs.lemmas.Bool.Decides.{nat_tests}
-use Rattle.std.proofs.lemmas.List.FromFn.{get_or-map-range_with_len}
-use Rattle.std.proofs.lemmas.Nat.{pow_pos}
 use Rattle.std.specs.Int.Bits.{or_zero_r}
-use Rattle.std.proofs.lemmas.List.{length-map, set-get_or, get_or-set_same, get_or-set_other}
 use Rattle.ptflow.specs.declared.kernels.sets.ByteSet.{ByteSet}
-use Rattle.ptflow.specs.Workings.Bytes.ByteSets.{marks, holds, IsTableOf, IsSetOf, mask_of}
 use Rattle.ptflow.proofs.OfBytes.LaneLemmas.{sel_maps, mask_right, bytes_same}
 
 -- ---- what `select`, `&` and `to_bitmask` read of a mask

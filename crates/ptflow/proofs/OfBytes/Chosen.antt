@@ -1,14 +1,9 @@
 -- The items of a list that intervals choose. Intervals that lie apart choose one behind another, and each chooses a
 -- slice; so what all choose is the slices in a row.
-use Rattle.std.proofs.Common.{◌≡◌, ⊎_elim, ℕ, zero, suc, ◌+◌, ◌-◌, ◌<◌, ◌≤◌, Bool, true, false, cond, ◌&&◌, ◌||◌, List, [], ◌∷◌, ◌++◌, length, take, drop}
-use Rattle.std.proofs.Common.{get_or, min, append_assoc, length-drop, subst, refl, sym, ◌∙◌, ap, arith}
-use Rattle.std.specs.Prelude.{nat_le}
-use Rattle.std.proofs.lemmas.Bool.{cases_order, false≢true}
-use Rattle.std.proofs.lemmas.Bool.Decides.{nat_tests}
-use Rattle.std.proofs.lemmas.List.{take_all, drop_all, take-take, drop-take, drop_more, length-take-le, take-append-drop, drop-append-le}
-use Rattle.ptlangs.specs.CutLists.{is_selected, AreApart}
-use Rattle.ptlangs.specs.declared.ranges.Interval.{Interval}
-use Rattle.ptflow.specs.Cuts.{chosen_from}
+use Rattle.ptflow.proofs.Common.{◌≡◌, ⊎_elim, ℕ, zero, suc, ◌+◌, ◌-◌, ◌<◌, ◌≤◌, Bool, true, false, cond, ◌&&◌, ◌||◌, List, [], ◌∷◌, ◌++◌, length, take, drop, get_or, min, append_assoc, length-drop}
+use Rattle.ptflow.proofs.Common.{subst, refl, sym, ◌∙◌, ap, arith, nat_le, cases_order, false≢true, nat_tests, take_all, drop_all, take-take, drop-take, drop_more, length-take-le, drop-append-le}
+use Rattle.ptflow.proofs.Common.{is_selected, AreApart, Interval, chosen_from}
+use Rattle.std.proofs.lemmas.List.{take-append-drop}
 
 -- the number lies in the interval
 abbrev pub lies_in : Interval → ℕ → Bool

@@ -1,19 +1,12 @@
 -- Items that are chosen by flags, and lanes that are put in front by the places of their flags.
-use Rattle.std.proofs.Common.{◌≡◌, ℕ, zero, suc, ◌+◌, ◌*◌, ◌^◌, ◌/◌, ◌%◌, ◌<◌, ◌≤◌, Bool, true, false, cond, List, [], ◌∷◌, ◌++◌, map, length, take, drop, set}
-use Rattle.std.proofs.Common.{get_or, length-set, length-drop, drop-cons, append_assoc, add-one, refl, sym, ◌∙◌, ap, arith, w8}
-use Rattle.std.specs.Prelude.{All, bit_and, nat_eq, nat_le, slice_index_or, filter, count_ones}
-use Rattle.std.specs.List.{range_with_len}
-use Rattle.std.specs.Simd.Lanes.{mask_l, put_chunk, chunk, pick_l, Each1}
-use Rattle.std.proofs.lemmas.Simd.{take_more_put_chunk, bit_mask_l, mask_l-lt, Each1-from_get_or, swz_l, ones-mask_l_cons, pick_l-range_with_len}
-use Rattle.std.proofs.lemmas.List.{take-map, take-take, take-set, take_more, take_more_set, take_all, take-append-le, drop-append-le, append-nil, length-take-le}
-use Rattle.std.proofs.lemmas.List.Elements.{All-set}
-use Rattle.std.proofs.lemmas.List.FromFn.{length-range_with_len, get_or-range_with_len}
-use Rattle.std.proofs.Math.Seq.{take-append-add}
-use Rattle.std.proofs.lemmas.Grind.{and_numeral}
-use Rattle.std.proofs.lemmas.Bool.Decides.{nat_tests}
-use Rattle.std.proofs.Math.Nat.{pow-succ'}
+use Rattle.ptflow.proofs.Common.{◌≡◌, ℕ, zero, suc, ◌+◌, ◌*◌, ◌^◌, ◌/◌, ◌%◌, ◌<◌, ◌≤◌, Bool, true, false, cond, List, [], ◌∷◌, ◌++◌, map, length, take, drop, set, get_or, length-drop, drop-cons}
+use Rattle.ptflow.proofs.Common.{append_assoc, add-one, refl, sym, ◌∙◌, ap, arith, w8, All, nat_eq, nat_le, filter, range_with_len, mask_l, put_chunk, chunk, pick_l, Each1, take_more_put_chunk}
+use Rattle.ptflow.proofs.Common.{bit_mask_l, mask_l-lt, Each1-from_get_or, swz_l, ones-mask_l_cons, pick_l-range_with_len, take-map, take-take, take-set, take_more, take_more_set, take_all}
+use Rattle.ptflow.proofs.Common.{take-append-le, drop-append-le, append-nil, length-take-le, All-set, length-range_with_len, get_or-range_with_len, take-append-add, and_numeral, nat_tests, pow-succ'}
+use Rattle.ptflow.proofs.Common.{chosen_by, places_of, IsRow, IsPacking}
+use Rattle.std.proofs.Common.{length-set}
+use Rattle.std.specs.Prelude.{bit_and, slice_index_or, count_ones}
 use Rattle.ptlines.proofs.Masks.{mask_of_parts}
-use Rattle.ptflow.specs.Workings.Bytes.Packings.{chosen_by, places_of, IsRow, IsPacking}
 use Rattle.ptflow.specs.declared.kernels.packing.Shuffles.{Shuffles}
 
 -- ---- items that are chosen by flags

@@ -1,14 +1,6 @@
 -- The 64 bytes of four vectors: where no lane of four masks is set, and what is kept of them one after another.
-use Rattle.std.proofs.Common.{◌≡◌, ℕ, ◌+◌, ◌^◌, ◌%◌, ◌||◌, Bool, not, cond, List, [], ◌∷◌, ◌++◌, length, drop, map}
-use Rattle.std.proofs.Common.{pos, negsuc, bit_or, refl, sym, ◌∙◌, arith, append_assoc, w8}
-use Rattle.std.specs.Prelude.{filter}
-use Rattle.std.specs.Int.{cast_unsigned}
-use Rattle.std.specs.Simd.Lanes.{mask_l, top, zip2, chunk}
-use Rattle.std.proofs.lemmas.Simd.{mask_l-mod, length-zip2}
-use Rattle.std.proofs.lemmas.List.{drop-drop}
-use Rattle.std.proofs.lemmas.List.Elements.{filter-append}
-use Rattle.std.proofs.Math.Seq.{take-add}
-use Rattle.ptflow.specs.Workings.Bytes.ByteSets.{mask_of}
+use Rattle.ptflow.proofs.Common.{◌≡◌, ℕ, ◌+◌, ◌^◌, ◌%◌, ◌||◌, Bool, not, cond, List, [], ◌∷◌, ◌++◌, length, drop, map, pos, negsuc, bit_or, refl, sym, ◌∙◌, arith, append_assoc, w8, filter}
+use Rattle.ptflow.proofs.Common.{cast_unsigned, mask_l, top, zip2, chunk, mask_l-mod, length-zip2, drop-drop, filter-append, take-add, mask_of}
 
 -- ---- masks of lanes
 

@@ -1,14 +1,9 @@
 -- Bytes for which a test holds, put to the front.
-use Rattle.std.proofs.Common.{◌≡◌, ℕ, suc, ◌+◌, ◌<◌, ◌≤◌, ◌^◌, ◌%◌, Bool, true, false, not, cond, List, [], ◌∷◌, ◌++◌, length, take, set, get_or, length-set}
-use Rattle.std.proofs.Common.{take_all, zero, ℤ, map, refl, ◌∙◌, arith, add-zero, w8, Fits, pos, negsuc}
-use Rattle.std.specs.Prelude.{filter}
-use Rattle.std.specs.Int.{from_bool, cast_unsigned, bit_not}
-use Rattle.std.specs.Simd.Lanes.{mask_l, top, chunk}
-use Rattle.std.proofs.lemmas.Simd.{mask_l-mod}
-use Rattle.std.proofs.lemmas.List.{take_more_set, take-set, take_more, append-nil, length-map}
-use Rattle.std.proofs.lemmas.List.Elements.{filter-append}
-use Rattle.std.proofs.Math.Seq.{take-add}
-use Rattle.ptflow.specs.Workings.Bytes.ByteSets.{Keeps, mask_of}
+use Rattle.ptflow.proofs.Common.{◌≡◌, ℕ, suc, ◌+◌, ◌<◌, ◌≤◌, ◌^◌, ◌%◌, Bool, true, false, not, cond, List, [], ◌∷◌, ◌++◌, length, take, set, get_or, zero, ℤ, map, refl, ◌∙◌, arith, add-zero, w8, Fits}
+use Rattle.ptflow.proofs.Common.{pos, negsuc, filter, from_bool, cast_unsigned, bit_not, mask_l, top, chunk, mask_l-mod, take_more_set, take-set, take_more, append-nil, length-map, filter-append}
+use Rattle.ptflow.proofs.Common.{take-add, Keeps, mask_of}
+use Rattle.std.proofs.Common.{length-set}
+use Rattle.std.proofs.Common.{take_all}
 
 -- the lanes that are not in a mask
 not_tops : (test : ℕ → Bool) (v : List ℕ) → map (top 7) (map (bit_not w8) (map (cast_unsigned w8) (mask_of test v))) ≡ map (λ b. not (test b)) v

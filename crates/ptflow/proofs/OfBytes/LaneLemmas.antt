@@ -1,14 +1,9 @@
 -- What lanes do, byte by byte.
-use Rattle.std.proofs.Common.{◌≡◌, ℕ, ◌+◌, ◌<◌, ◌≤◌, ◌%◌, Bool, false, List, [], ◌∷◌, ◌++◌, Option, map, take, drop, length, get_or, replicate, cond, refl, sym, ◌∙◌, ap, arith, w8, Fits}
-use Rattle.std.specs.Prelude.{sum_by, slice_get, option_map, is_some}
-use Rattle.std.specs.Simd.Lanes.{sel_l, zip2, top, Each1}
-use Rattle.std.proofs.Math.Seq.{take-add}
-use Rattle.std.proofs.lemmas.Bool.{false≢true}
-use Rattle.std.proofs.lemmas.List.{map-append}
-use Rattle.std.proofs.lemmas.Simd.{tops_compared, zip2_splat, zip2_of_maps, splat_is_map, chunk-fits, Each1-from_get_or}
+use Rattle.ptflow.proofs.Common.{◌≡◌, ℕ, ◌+◌, ◌<◌, ◌≤◌, ◌%◌, Bool, false, List, [], ◌∷◌, ◌++◌, Option, map, take, drop, length, get_or, replicate, cond, refl, sym, ◌∙◌, ap, arith, w8, Fits, sum_by}
+use Rattle.ptflow.proofs.Common.{slice_get, option_map, sel_l, zip2, top, Each1, take-add, false≢true, map-append, tops_compared, zip2_splat, zip2_of_maps, splat_is_map, chunk-fits, Each1-from_get_or}
+use Rattle.ptflow.proofs.Common.{added, shifted, IsMovedTo, told_adds}
+use Rattle.std.specs.Prelude.{is_some}
 use Rattle.ptlangs.specs.declared.shifts.Stretch.{Stretch}
-use Rattle.ptlangs.specs.TrShifts.{added, shifted}
-use Rattle.ptflow.specs.Workings.Bytes.Lanes.{IsMovedTo, told_adds}
 
 -- ---- lanes that are computed of bytes
 

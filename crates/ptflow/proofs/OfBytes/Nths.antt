@@ -1,25 +1,13 @@
 -- The n-th item of a list that passes a test, by the bits of a mask, of which the lowest are cleared; and that the
 -- fields behind the n-th delimiter start there.
-use Rattle.std.proofs.Common.{◌≡◌, ⊎_elim, ℕ, zero, suc, ◌+◌, ◌-◌, ◌*◌, ◌/◌, ◌%◌, ◌^◌, ◌<◌, ◌≤◌, min, Bool, true, false, cond, not, Option, None, Some, List}
-use Rattle.std.proofs.Common.{[], ◌∷◌, ◌++◌, length, map, take, drop, get_or, refl, sym, ◌∙◌, ap, subst, arith, get_or-take, take-append-drop, length-drop}
-use Rattle.std.specs.Int.RustNames.{count_ones}
-use Rattle.std.specs.List.{count_by, prefix_len}
-use Rattle.std.specs.Simd.Lanes.{mask_l, chunk}
-use Rattle.std.proofs.Math.Seq.{take-add}
-use Rattle.std.proofs.lemmas.Bool.{eqb-true, cases_order}
-use Rattle.std.proofs.lemmas.List.{take_more, get_or-drop, take-take, take_all, drop_more, take_at, drop_at, length-take-le}
-use Rattle.std.proofs.lemmas.List.Splits.{length-slice_split}
-use Rattle.std.proofs.lemmas.List.Sums.{get_or-le-sum_by, sum_by-cons, sum_by-append, sum_by-take-le, count_by-le-length}
-use Rattle.std.proofs.lemmas.Simd.{trailing_mask_l, ones-mask_l, get_or-chunk, length-chunk}
+use Rattle.ptflow.proofs.Common.{◌≡◌, ⊎_elim, ℕ, zero, suc, ◌+◌, ◌-◌, ◌*◌, ◌/◌, ◌%◌, ◌^◌, ◌<◌, ◌≤◌, min, Bool, true, false, cond, not, Option, None, Some, List, [], ◌∷◌, ◌++◌, length, map, take, drop}
+use Rattle.ptflow.proofs.Common.{get_or, refl, sym, ◌∙◌, ap, subst, arith, get_or-take, take-append-drop, length-drop, count_ones, count_by, prefix_len, mask_l, chunk, take-add, eqb-true, cases_order}
+use Rattle.ptflow.proofs.Common.{take_more, take-take, take_all, drop_more, take_at, drop_at, length-take-le, length-slice_split, get_or-le-sum_by, sum_by-cons, sum_by-append, sum_by-take-le}
+use Rattle.ptflow.proofs.Common.{count_by-le-length, trailing_mask_l, ones-mask_l, get_or-chunk, length-chunk, IsFirstByte, NoneBefore, Passes, is_byte, IsLine, before_end, no_end, other_byte}
+use Rattle.ptflow.proofs.Common.{IsBehind, IsNth, HasEnds, fields, StartsAt}
+use Rattle.std.proofs.lemmas.List.{get_or-drop}
 use lib.Bits.{bit_and, and_step, and_self, and_zero_l}
 use lib.Count.{count_trailing_zeros}
-use Rattle.memchr.specs.Find.{IsFirstByte, NoneBefore, Passes, is_byte}
-use Rattle.ptlines.specs.Text.{IsLine}
-use Rattle.ptlines.proofs.Scanned.{before_end, no_end}
-use Rattle.ptlines.proofs.TextLaws.{other_byte}
-use Rattle.ptflow.specs.Workings.Bytes.Nths.{IsBehind, IsNth}
-use Rattle.ptflow.specs.Workings.Cut.CutRests.{HasEnds}
-use Rattle.ptflow.specs.Workings.Cut.FieldPlaces.{fields, StartsAt}
 use Rattle.ptflow.proofs.OfCut.FieldPlaces.{fields-append, led_fields, starts_more, few_left}
 
 -- ---- bits of a mask

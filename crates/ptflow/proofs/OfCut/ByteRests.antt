@@ -1,22 +1,10 @@
 -- What `cut` by bytes writes of the rest of a text, a piece at a time. A piece of a line adds to the places counted,
 -- and an end of a line sets them back; from no place on this is what it is to write of whole lines.
-use Rattle.std.proofs.Common.{◌≡◌, ℕ, ◌+◌, ◌-◌, ◌≤◌, ◌^◌, ◌==◌, Bool, false, List, [], ◌∷◌, ◌++◌, map, length, take, drop, Some, refl, sym, ◌∙◌, ap, arith, append_assoc}
-use Rattle.std.proofs.lemmas.Grind.{common_steps}
-use Rattle.std.specs.List.{onto_first, flat_map}
-use Rattle.std.specs.Simd.Lanes.{mask_l, chunk}
-use Rattle.std.proofs.lemmas.Simd.{length-chunk, chunk-drop}
-use Rattle.std.proofs.lemmas.Bool.Decides.{nat_tests}
-use Rattle.std.proofs.lemmas.List.{append-nil, take_all, drop_all, append_cancel_right, map-append}
-use Rattle.memchr.specs.Find.{IsFirstByte, is_byte}
-use Rattle.ptlines.specs.Text.{text, lines, IsLine, ended_lines}
-use Rattle.ptlines.proofs.TextLaws.{lines_first, other_byte, lines_of_text, text-append}
-use Rattle.ptlines.proofs.Scanned.{before_end}
+use Rattle.ptflow.proofs.Common.{◌≡◌, ℕ, ◌+◌, ◌-◌, ◌≤◌, ◌^◌, ◌==◌, Bool, false, List, [], ◌∷◌, ◌++◌, map, length, take, drop, Some, refl, sym, ◌∙◌, ap, arith, append_assoc, common_steps, onto_first}
+use Rattle.ptflow.proofs.Common.{flat_map, mask_l, chunk, length-chunk, chunk-drop, nat_tests, append-nil, take_all, drop_all, append_cancel_right, map-append, IsFirstByte, is_byte, text, lines}
+use Rattle.ptflow.proofs.Common.{IsLine, ended_lines, lines_first, other_byte, lines_of_text, text-append, before_end, chosen_from, cut_line, cut, cut_decided, rest_of_lines, cut_rest, rest_by}
+use Rattle.ptflow.proofs.Common.{IsCutTo, Begins, Cut, Interval}
 use Rattle.ptflow.proofs.OfPasses.LineLaws.{split_of, line_of, end_of, Parts, parts_of}
-use Rattle.ptflow.specs.Cuts.{chosen_from, cut_line, cut, cut_decided}
-use Rattle.ptflow.specs.Workings.Cut.CutRests.{rest_of_lines, cut_rest, rest_by, IsCutTo}
-use Rattle.ptlines.specs.Inputs.{Begins}
-use Rattle.ptlangs.specs.Jobs.{Cut}
-use Rattle.ptlangs.specs.declared.ranges.Interval.{Interval}
 
 module _ (end : ℕ) (selected : ℕ → Bool) where
   -- what is written of lines

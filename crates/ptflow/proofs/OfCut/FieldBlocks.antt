@@ -1,18 +1,8 @@
 -- What `cut` by fields writes of the first lines of a block: of a line with the delimiter its fields, and lines without
 -- it as they are, or nothing.
-use Rattle.std.proofs.Common.{◌≡◌, ℕ, zero, suc, ◌+◌, ◌-◌, ◌<◌, ◌≤◌, ◌⊎◌, inl, inr, true, false, List, [], ◌∷◌, ◌++◌, length, take, drop}
-use Rattle.std.proofs.lemmas.Grind.{common_steps}
-use Rattle.std.proofs.Common.{get_or, Option, None, Some, refl, sym, ◌∙◌, ap₂, subst, arith, append_assoc, get_or-take, take-append-drop}
-use Rattle.std.specs.Prelude.{unwrap_or}
-use Rattle.std.specs.List.{flat_map}
-use Rattle.std.proofs.lemmas.List.{append-nil, take-take, take_more, take_all, length-take-le}
-use Rattle.memchr.specs.Find.{IsFirstByte, is_byte}
-use Rattle.ptlines.specs.Text.{text, ended_lines, IsLine, AreLines}
-use Rattle.ptlines.proofs.Scanned.{before_end, no_end, take_end, drop_end}
-use Rattle.ptlines.proofs.TextLaws.{ended_first, text-append, the_lines, the_ended_lines}
-use Rattle.ptlangs.specs.Jobs.{Cut}
-use Rattle.ptflow.specs.Cuts.{cut_line, cut_lines}
-use Rattle.ptflow.specs.Workings.Cut.CutRests.{PutsLines}
+use Rattle.ptflow.proofs.Common.{◌≡◌, ℕ, zero, suc, ◌+◌, ◌-◌, ◌<◌, ◌≤◌, ◌⊎◌, inl, inr, true, false, List, [], ◌∷◌, ◌++◌, length, take, drop, common_steps, get_or, Option, None, Some, refl, sym, ◌∙◌}
+use Rattle.ptflow.proofs.Common.{ap₂, subst, arith, append_assoc, get_or-take, take-append-drop, unwrap_or, flat_map, append-nil, take-take, take_more, take_all, length-take-le, IsFirstByte, is_byte}
+use Rattle.ptflow.proofs.Common.{text, ended_lines, IsLine, AreLines, before_end, no_end, take_end, drop_end, ended_first, text-append, the_lines, the_ended_lines, Cut, cut_line, cut_lines, PutsLines}
 use Rattle.ptflow.proofs.OfCut.FieldLines.{none_of, of_line, of_none, line_written, cut_lines-append}
 use Rattle.ptflow.proofs.OfPasses.LineLaws.{ended_next, parts_of}
 

@@ -1,20 +1,8 @@
 -- What `cut` by fields writes of a line, by whether the delimiter is in it; and that it is a tool that works line by
 -- line. It carries nothing, so what is written of some lines and of others is what is written of both.
-use Rattle.std.proofs.Common.{◌≡◌, ℕ, ◌==◌, true, false, arith, List, [], ◌∷◌, ◌++◌, refl, ◌∙◌, ap, Option, None, Some}
-use Rattle.std.specs.Option.{is_some}
-use Rattle.std.specs.List.{flat_map, list_any}
-use Rattle.std.proofs.lemmas.List.Folds.{list_any_at}
-use Rattle.memchr.specs.Find.{IsFirstByte, is_byte}
-use Rattle.ptlines.proofs.Scanned.{no_end}
-use Rattle.std.proofs.lemmas.List.{append-nil}
-use Rattle.std.proofs.lemmas.List.Concat.{flat_map-append}
-use Rattle.ptlines.specs.Text.{text, IsLine}
-use Rattle.ptlines.proofs.TextLaws.{other_byte, text-append}
-use Rattle.ptlangs.specs.Jobs.{Cut}
-use Rattle.ptflow.specs.Cuts.{is_delimiter, cut_fields, cut_line, cut_lines, cut_tool}
-use Rattle.ptflow.specs.Workings.Cut.CutRests.{cut_from}
-use Rattle.ptlines.specs.Inputs.{Begins, whole_lines}
-use Rattle.ptflow.specs.Workings.Passes.Lines.{IsLineTool}
+use Rattle.ptflow.proofs.Common.{◌≡◌, ℕ, ◌==◌, true, false, arith, List, [], ◌∷◌, ◌++◌, refl, ◌∙◌, ap, Option, None, Some, is_some, flat_map, list_any, list_any_at, IsFirstByte, is_byte, no_end}
+use Rattle.ptflow.proofs.Common.{append-nil, flat_map-append, text, IsLine, other_byte, text-append, Cut, is_delimiter, cut_fields, cut_line, cut_lines, cut_tool, cut_from, Begins, whole_lines}
+use Rattle.ptflow.proofs.Common.{IsLineTool}
 
 pub none_of : (d : ℕ) (line : List ℕ) → IsLine d line → list_any (λ b. b == d) line ≡ false
 none_of d [] free = refl

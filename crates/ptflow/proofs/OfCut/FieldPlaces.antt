@@ -1,15 +1,8 @@
 -- The fields of a line, and where they start. In front of each delimiter one field ends, so the place behind the n-th
 -- is where the fields behind the first n start.
-use Rattle.std.proofs.Common.{◌≡◌, ℕ, ◌+◌, ◌<◌, ◌==◌, ◌-◌, ◌≤◌, Bool, true, false, cond, Option, None, Some, MatchOption, ◌⊎◌, inl, inr, List, [], ◌∷◌, ◌++◌}
-use Rattle.std.proofs.Common.{length, take, drop, get_or, slice_set, refl, sym, ap, arith, length-drop}
-use Rattle.std.specs.Prelude.{IfSome}
-use Rattle.std.specs.List.{onto_first, join_with_byte}
-use Rattle.std.proofs.Math.Seq.{take-add}
-use Rattle.std.proofs.lemmas.List.{append-nil, drop-drop, drop-take, drop_more, take-take, take_more_set, length-take-le}
-use Rattle.std.proofs.lemmas.List.Concat.{flat_map-append}
-use Rattle.std.proofs.lemmas.List.Splits.{length-slice_split}
-use Rattle.ptlines.proofs.TextLaws.{same_byte}
-use Rattle.ptflow.specs.Workings.Cut.FieldPlaces.{fields, led, StartsAt}
+use Rattle.ptflow.proofs.Common.{◌≡◌, ℕ, ◌+◌, ◌<◌, ◌==◌, ◌-◌, ◌≤◌, Bool, true, false, cond, Option, None, Some, MatchOption, ◌⊎◌, inl, inr, List, [], ◌∷◌, ◌++◌, length, take, drop, get_or, slice_set}
+use Rattle.ptflow.proofs.Common.{refl, sym, ap, arith, length-drop, IfSome, onto_first, join_with_byte, take-add, append-nil, drop-drop, drop-take, drop_more, take-take, take_more_set, length-take-le}
+use Rattle.ptflow.proofs.Common.{flat_map-append, length-slice_split, same_byte, fields, led, StartsAt}
 
 module _ (d : ℕ) where
   -- the fields in front of a delimiter, and those behind it

@@ -1,11 +1,8 @@
 -- The selected fields of a line, which is walked once. The fields of an interval, with the delimiter in front of each,
 -- are one slice of the line; so what is selected is these slices, the first without what leads it.
-use Rattle.std.proofs.Common.{◌≡◌, ℕ, zero, suc, ◌+◌, ◌-◌, ◌<◌, ◌≤◌, List, [], ◌∷◌, ◌++◌, length, take, drop, get_or, refl, sym, ◌∙◌, ap, arith, append_assoc, length-drop, take-append-drop}
-use Rattle.std.proofs.lemmas.List.{append-nil, take_all, drop_all, drop_more, drop-drop, drop-take, drop-append-le, length-take-le}
-use Rattle.std.specs.List.{join_with_byte}
-use Rattle.ptlangs.specs.CutLists.{is_selected, AreApart}
-use Rattle.ptlangs.specs.declared.ranges.Interval.{Interval}
-use Rattle.ptflow.specs.Workings.Cut.FieldPlaces.{fields, led, StartsAt}
+use Rattle.ptflow.proofs.Common.{◌≡◌, ℕ, zero, suc, ◌+◌, ◌-◌, ◌<◌, ◌≤◌, List, [], ◌∷◌, ◌++◌, length, take, drop, get_or, refl, sym, ◌∙◌, ap, arith, append_assoc, length-drop, take-append-drop}
+use Rattle.ptflow.proofs.Common.{append-nil, take_all, drop_all, drop_more, drop-drop, drop-take, drop-append-le, length-take-le, join_with_byte, is_selected, AreApart, Interval, fields, led}
+use Rattle.ptflow.proofs.Common.{StartsAt}
 use Rattle.ptflow.proofs.OfBytes.Chosen.{chosen, not_selected, chosen_none, chosen_first, chosen_slice, chosen_skip}
 use Rattle.ptflow.proofs.OfCut.FieldPlaces.{led-append, led_fields, join_led}
 

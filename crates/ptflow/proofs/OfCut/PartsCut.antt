@@ -1,7 +1,5 @@
 -- `cut` of a text that is cut behind a line.
-use Rattle.ptlines.specs.Text.{lines}
-use Rattle.ptlines.proofs.PartLaws.{the_lines_of_parts}
-use Rattle.ptflow.specs.Parts.{CutOfParts}
+use Rattle.ptflow.proofs.Common.{lines, the_lines_of_parts, CutOfParts}
 use Rattle.ptflow.proofs.OfCut.FieldLines.{cut_lines-append}
 
 pub cut_of_parts : CutOfParts

@@ -1,22 +1,11 @@
 -- The places that are selected of a short line, place by place, and the bytes that a row of them puts in front.
-use Rattle.std.proofs.Common.{◌≡◌, ◌⊎◌, inl, inr, ℕ, zero, suc, ◌+◌, ◌-◌, ◌<◌, ◌≤◌, Bool, true, false, cond, List, [], ◌∷◌, ◌++◌, map, length, take, drop, set, min, ⊎_elim, ◌&&◌}
-use Rattle.std.proofs.Common.{get_or, get_or-set_same, get_or-set_other, length-set, length-append, append_assoc, refl, sym, ◌∙◌, ap, arith, w8}
-use Rattle.std.specs.Prelude.{All, nat_le}
-use Rattle.std.proofs.lemmas.Bool.{cases_order, false≢true}
-use Rattle.std.specs.List.{range_with_len, list_all}
-use Rattle.std.proofs.lemmas.Bool.Decides.{nat_tests}
-use Rattle.std.proofs.Math.Seq.{take-add}
+use Rattle.ptflow.proofs.Common.{◌≡◌, ◌⊎◌, inl, inr, ℕ, zero, suc, ◌+◌, ◌-◌, ◌<◌, ◌≤◌, Bool, true, false, cond, List, [], ◌∷◌, ◌++◌, map, length, take, drop, set, min, ⊎_elim, ◌&&◌, get_or}
+use Rattle.ptflow.proofs.Common.{length-append, append_assoc, refl, sym, ◌∙◌, ap, arith, w8, All, nat_le, cases_order, false≢true, range_with_len, list_all, nat_tests, take-add, pick_l, Each1}
+use Rattle.ptflow.proofs.Common.{Each1-from_get_or, swz_l, pick_l-range_with_len, take_more, take_at, drop_at, take-map, take-take, take-append-le, take_all, take_more_set, length-take-le, append-nil}
+use Rattle.ptflow.proofs.Common.{All-set, length-range_with_len, chosen_from, is_selected, Interval, chosen_piece}
+use Rattle.std.proofs.Common.{get_or-set_same, get_or-set_other, length-set}
 use Rattle.ptflow.proofs.OfBytes.Chosen.{above, chosen_none}
-use Rattle.std.specs.Simd.Lanes.{pick_l, Each1}
-use Rattle.std.proofs.lemmas.Simd.{Each1-from_get_or, swz_l, pick_l-range_with_len}
-use Rattle.std.proofs.lemmas.List.{take_more, take_at, drop_at, take-map, take-take, take-append-le, take_all, take_more_set, length-take-le, append-nil}
-use Rattle.std.proofs.lemmas.List.Elements.{All-set}
-use Rattle.std.proofs.lemmas.List.FromFn.{length-range_with_len}
 use mir.Val.{bool_byte}
-use Rattle.ptflow.specs.Cuts.{chosen_from}
-use Rattle.ptlangs.specs.CutLists.{is_selected}
-use Rattle.ptlangs.specs.declared.ranges.Interval.{Interval}
-use Rattle.ptflow.specs.Workings.Cut.CutRests.{chosen_piece}
 use Rattle.ptflow.specs.Workings.Cut.Picks.{picked, IsPick}
 use Rattle.ptflow.specs.declared.tools.cut.picking.Pick.{Pick}
 use Rattle.ptflow.proofs.OfBytes.ChosenLanes.{shuffled, written_more}

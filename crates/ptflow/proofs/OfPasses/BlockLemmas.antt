@@ -1,21 +1,10 @@
 -- A tool that works block by block, over its turns. Each block is passed on before the next is read, so what came and
 -- was not passed on is what the reader holds.
-use Rattle.std.proofs.Common.{◌≡◌, ℕ, ◌+◌, ◌-◌, ◌≤◌, ◌<◌, ◌^◌, true, false, List, [], ◌++◌, None, Ok, Err, length, drop, refl, sym, ◌∙◌, ap, subst, arith, append_assoc, length-drop}
-use Rattle.std.proofs.lemmas.Bool.{false≢true}
-use Rattle.std.proofs.lemmas.List.{append-nil, take_all}
-use Rattle.ptlines.specs.Readers.{Reader, Reads, Goes, IsDone, IsSound, HasReadCause}
-use Rattle.ptlines.specs.Inputs.{Begins}
-use Rattle.ptlines.specs.Outputs.{Output, Wrote}
-use Rattle.ptlines.specs.Slots.{Slots}
-use Rattle.ptlines.proofs.Filling.{goes_trans}
-use Rattle.ptlines.proofs.Pushed.{wrote_trans}
-use Rattle.ptflow.specs.Tools.{Tool}
-use Rattle.ptflow.specs.Passes.{IsReady, IsPass}
-use Rattle.ptflow.specs.declared.faults.FlowFault.TheVariants.{Read, Write}
+use Rattle.ptflow.proofs.Common.{◌≡◌, ℕ, ◌+◌, ◌-◌, ◌≤◌, ◌<◌, ◌^◌, true, false, List, [], ◌++◌, None, Ok, Err, length, drop, refl, sym, ◌∙◌, ap, subst, arith, append_assoc, length-drop, false≢true}
+use Rattle.ptflow.proofs.Common.{append-nil, take_all, Reader, Reads, Goes, IsDone, IsSound, HasReadCause, Begins, Output, Wrote, Slots, goes_trans, wrote_trans, Tool, IsReady, IsPass, Read, Write}
+use Rattle.ptflow.proofs.Common.{Continues, Halts, given_of}
 use Rattle.ptflow.specs.Workings.Passes.Blocks.{IsBlockTool}
-use Rattle.ptflow.specs.Workings.Passes.Continuations.{Continues, Halts}
 use Rattle.ptflow.proofs.OfPasses.Continuations.{halts_before}
-use Rattle.ptlines.proofs.Coming.{given_of}
 use Rattle.ptflow.proofs.OfPasses.ReaderFacts.{may_come, goes_past}
 use Rattle.ptflow.proofs.OfPasses.PassLemmas.{Midway, Works, Stored, stored_nothing, reached_nothing, pass_read, pass_write, pass_done, pass_unended}
 

@@ -1,9 +1,6 @@
 -- Amid some items, bytes of a block or lines of it: what was pushed stands in front of what is written of the rest,
 -- whatever comes.
-use Rattle.std.proofs.Common.{◌≡◌, ℕ, true, false, List, [], ◌++◌, Result, Ok, Err, OnErr, refl, append_assoc}
-use Rattle.ptlines.specs.Outputs.{Output, Wrote}
-use Rattle.ptlines.proofs.Pushed.{wrote_nothing, wrote_trans}
-use Rattle.ptflow.specs.Workings.Passes.Continuations.{Continues, Halts}
+use Rattle.ptflow.proofs.Common.{◌≡◌, ℕ, true, false, List, [], ◌++◌, Result, Ok, Err, OnErr, refl, append_assoc, Output, Wrote, wrote_nothing, wrote_trans, Continues, Halts}
 
 pub on_err : {T E : Type 0} (r : Result T E) {P : Type 0} → P → OnErr r P
 on_err (Ok u) p = tt

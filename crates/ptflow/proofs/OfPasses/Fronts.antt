@@ -1,7 +1,5 @@
 -- Bytes that are pushed piece by piece: a front of them was, and the rest is to come.
-use Rattle.std.proofs.Common.{◌≡◌, ℕ, false, true, List, [], ◌++◌, sym, subst, append_assoc}
-use Rattle.ptlines.specs.Outputs.{Output, Wrote}
-use Rattle.ptlines.proofs.Pushed.{wrote_nothing, wrote_trans, wrote_past}
+use Rattle.ptflow.proofs.Common.{◌≡◌, ℕ, false, true, List, [], ◌++◌, sym, subst, append_assoc, Output, Wrote, wrote_nothing, wrote_trans, wrote_past}
 
 pub record Front (whole rest : List ℕ) (was is : Output) : Type 0 where
   pub pushed : List ℕ

@@ -1,14 +1,8 @@
 -- Laws of the lines of a text: whole lines and the piece behind them, the longest line, and the lines of a block one by
 -- one. All of them go by the first end in some bytes, in front of which no other stands.
-use Rattle.std.proofs.Common.{◌≡◌, ℕ, ◌+◌, ◌≤◌, ◌==◌, Bool, true, false, cond, List, [], ◌∷◌, ◌++◌, length, max, refl, ap, arith, take-append-drop}
-use Rattle.std.proofs.Common.{◌-◌, Some, take, drop, append_assoc, length-append}
-use Rattle.std.specs.List.{onto_first}
-use Rattle.std.proofs.lemmas.Bool.{eqb-true, eqb-false}
-use Rattle.ptlines.specs.Text.{text, lines, ended_lines, onto_line, IsLine, AreLines, longest}
-use Rattle.ptlines.proofs.TextLaws.{other_byte, lines_of_text, ended_none, ended_first}
-use Rattle.std.proofs.lemmas.List.{append-nil, take_at, take-append-le, drop-append-le, take_all, drop_all, length-take-le}
-use Rattle.memchr.specs.Find.{IsFirstByte, is_byte}
-use Rattle.ptlines.proofs.Scanned.{before_end, take_end, drop_end}
+use Rattle.ptflow.proofs.Common.{◌≡◌, ℕ, ◌+◌, ◌≤◌, ◌==◌, Bool, true, false, cond, List, [], ◌∷◌, ◌++◌, length, max, refl, ap, arith, take-append-drop, ◌-◌, Some, take, drop, append_assoc}
+use Rattle.ptflow.proofs.Common.{length-append, onto_first, eqb-true, eqb-false, text, lines, ended_lines, onto_line, IsLine, AreLines, longest, other_byte, lines_of_text, ended_none, ended_first}
+use Rattle.ptflow.proofs.Common.{append-nil, take_at, take-append-le, drop-append-le, take_all, drop_all, length-take-le, IsFirstByte, is_byte, before_end, take_end, drop_end}
 
 -- the whole lines of a text, and the piece behind them
 pub record Parts (end : ℕ) (bytes : List ℕ) : Type 0 where

@@ -1,26 +1,12 @@
 -- A tool that works line by line, whatever it carries. What was passed on of the lines that came, and what is made of
 -- the lines to come, is the whole, whatever comes; so midway it is what PassLemmas asks for.
-use Rattle.std.proofs.Common.{◌≡◌, Bool, ℕ, ◌+◌, ◌-◌, ◌*◌, ◌≤◌, ◌^◌, true, false, List, [], ◌∷◌, ◌++◌, Ok, Err, length, drop, max, refl, ◌∙◌, ap, subst, arith, append_assoc, length-append}
-use Rattle.std.proofs.Math.Nat.{mul-le-mul_left}
-use Rattle.std.proofs.lemmas.Bool.{false≢true}
-use Rattle.std.proofs.lemmas.List.{nil_from_length, get_or-set_same}
-use Rattle.ptlines.specs.Text.{lines, ended_lines, IsLine, longest, longest_line}
-use Rattle.ptlines.specs.Inputs.{Given, whole_lines, Begins, Agrees}
-use Rattle.ptlines.specs.Outputs.{Output, Wrote}
-use Rattle.ptlines.specs.Readers.{Reader, Reads, Goes, IsDone, IsSound, HasReadCause}
-use Rattle.ptlines.specs.Slots.{Slots, line, with_line, with_denied}
-use Rattle.ptlines.specs.Fills.{Fills, GivesLine}
-use Rattle.ptlines.proofs.Filling.{goes_trans}
-use Rattle.ptlines.proofs.Pushed.{wrote_trans}
-use Rattle.ptflow.specs.Tools.{Tool}
-use Rattle.ptflow.specs.Passes.{IsReady, IsPass, Adds}
-use Rattle.ptflow.specs.Workings.Paste.TakenLines.{LinesCame}
-use Rattle.ptflow.specs.Workings.Passes.Lines.{LinesOn, LinesHalt, PassesLines, IsSwapped, Empties, IsLineTool}
-use Rattle.ptflow.specs.declared.faults.FlowFault.TheVariants.{Read, Write, Memory}
+use Rattle.ptflow.proofs.Common.{◌≡◌, Bool, ℕ, ◌+◌, ◌-◌, ◌*◌, ◌≤◌, ◌^◌, true, false, List, [], ◌∷◌, ◌++◌, Ok, Err, length, drop, max, refl, ◌∙◌, ap, subst, arith, append_assoc, length-append}
+use Rattle.ptflow.proofs.Common.{mul-le-mul_left, false≢true, nil_from_length, get_or-set_same, lines, ended_lines, IsLine, longest, longest_line, Given, whole_lines, Begins, Agrees, Output, Wrote}
+use Rattle.ptflow.proofs.Common.{Reader, Reads, Goes, IsDone, IsSound, HasReadCause, Slots, line, with_line, with_denied, Fills, GivesLine, goes_trans, wrote_trans, Tool, IsReady, IsPass, Adds}
+use Rattle.ptflow.proofs.Common.{LinesCame, LinesOn, LinesHalt, PassesLines, IsSwapped, Empties, IsLineTool, Read, Write, Memory, given_of}
 use Rattle.ptflow.proofs.OfPasses.LineLaws.{parts_of, ended_front, longest-append}
 use Rattle.ptflow.proofs.OfPasses.LinesCame.{lines_none, lines_few, lines_on, lines_more, lines_block, line_front, came_longest, piece_longest, whole_before, before_line, behind_line}
 use Rattle.ptflow.proofs.OfPasses.PassLemmas.{Reached, reached_nothing, reached_sent, Midway, Works, Stored, pass_unslotted, pass_read, pass_memory, pass_write, pass_done, pass_unended}
-use Rattle.ptlines.proofs.Coming.{given_of}
 use Rattle.ptflow.proofs.OfPasses.ReaderFacts.{goes_nothing, goes_past}
 use Rattle.ptflow.proofs.OfPasses.SlotFacts.{Keeps, keeps_more, keeps_line, keeps_swapped, emptied}
 

@@ -1,18 +1,9 @@
 -- The lines that came of a reader.
-use Rattle.std.proofs.Common.{◌≡◌, ◌⊎◌, ⊎_elim, inl, inr, ℕ, zero, suc, ◌-◌, ◌<◌, ◌≤◌, true, false, List, [], ◌∷◌, ◌++◌, length, take, drop}
-use Rattle.std.proofs.Common.{max, refl, ◌∙◌, ap, arith, append_assoc, length-append, length-drop, take-append-drop}
-use Rattle.std.proofs.lemmas.Bool.{false≢true}
-use Rattle.std.proofs.lemmas.List.{append-nil}
-use Rattle.ptlines.specs.Text.{text, lines, ended_lines, IsLine, AreLines, longest, longest_line}
-use Rattle.ptlines.specs.Inputs.{Given, Agrees, whole_lines}
-use Rattle.ptlines.specs.KeepingUp.{Before}
-use Rattle.ptlines.specs.Readers.{Reader, Reads, Goes, IsDone, IsSound}
-use Rattle.ptlines.specs.Slots.{Slots}
-use Rattle.ptlines.specs.Fills.{GivesLine}
-use Rattle.ptlines.proofs.TextLaws.{lines_of_text, lines_last, lines_first, lines-text, text-append, text_push, AreLines_push, ended_of_text}
-use Rattle.ptflow.specs.Workings.Paste.TakenLines.{LinesCame}
+use Rattle.ptflow.proofs.Common.{◌≡◌, ◌⊎◌, ⊎_elim, inl, inr, ℕ, zero, suc, ◌-◌, ◌<◌, ◌≤◌, true, false, List, [], ◌∷◌, ◌++◌, length, take, drop, max, refl, ◌∙◌, ap, arith, append_assoc, length-append}
+use Rattle.ptflow.proofs.Common.{length-drop, take-append-drop, false≢true, append-nil, text, lines, ended_lines, IsLine, AreLines, longest, longest_line, Given, Agrees, whole_lines, Before, Reader}
+use Rattle.ptflow.proofs.Common.{Reads, Goes, IsDone, IsSound, Slots, GivesLine, lines_of_text, lines_last, lines_first, lines-text, text-append, text_push, AreLines_push, ended_of_text, LinesCame}
+use Rattle.ptflow.proofs.Common.{given_of}
 use Rattle.ptflow.proofs.OfPasses.LineLaws.{longest_piece, longest-append}
-use Rattle.ptlines.proofs.Coming.{given_of}
 use Rattle.ptflow.proofs.OfPasses.ReaderFacts.{done_gives_nothing, stays_done}
 
 longest_front : (end : ℕ) (ls : List (List ℕ)) (piece rest : List ℕ) → AreLines end ls → IsLine end piece → max (longest ls) (length piece) ≤ longest (lines end (text end ls ++ (piece ++ rest)))

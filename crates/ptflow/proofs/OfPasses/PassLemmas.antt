@@ -1,22 +1,8 @@
 -- How a pass of any tool over one input ends. Midway, what was pushed stands in front of what is written of the rest,
 -- whatever comes; exactness, the beginning for each agreeing input, and what is decided are three readings of that.
-use Rattle.std.proofs.Common.{◌≡◌, ⊎_elim, inl, inr, ℕ, ◌≤◌, ◌<◌, ◌^◌, true, false, List, [], ◌++◌, length, None, Result, Ok, Err, max, refl, sym, ◌∙◌, arith, append_assoc}
-use Rattle.std.proofs.lemmas.Grind.{common_steps}
-use Rattle.std.proofs.lemmas.List.{append-nil}
-use Rattle.std.proofs.lemmas.Bool.{false≢true}
-use Rattle.ptlines.specs.Readers.{Reader, Reads, Goes, IsDone, IsSound, HasReadCause}
-use Rattle.ptlines.specs.Inputs.{Given, Begins, Agrees}
-use Rattle.ptlines.specs.Outputs.{Output, Wrote}
-use Rattle.ptlines.specs.Slots.{Slots, total}
-use Rattle.ptlines.proofs.Coming.{given_of, came_of, came_set}
-use Rattle.ptlines.proofs.Filling.{reads_trans}
-use Rattle.ptlines.proofs.Pushed.{wrote_nothing, wrote_trans}
-use Rattle.ptflow.specs.Tools.{Tool}
-use Rattle.ptflow.specs.Passes.{IsReady, Ends, Adds, IsPass, IsBarePass}
-use Rattle.ptlines.specs.KeepingUp.{WorksOff, KeepsUp}
-use Rattle.ptlines.proofs.Sending.{keeps_still, keeps_more}
-use Rattle.ptflow.specs.declared.faults.FlowFault.{FlowFault}
-use Rattle.ptflow.specs.declared.faults.FlowFault.TheVariants.{Read, Write, Memory}
+use Rattle.ptflow.proofs.Common.{◌≡◌, ⊎_elim, inl, inr, ℕ, ◌≤◌, ◌<◌, ◌^◌, true, false, List, [], ◌++◌, length, None, Result, Ok, Err, max, refl, sym, ◌∙◌, arith, append_assoc, common_steps}
+use Rattle.ptflow.proofs.Common.{append-nil, false≢true, Reader, Reads, Goes, IsDone, IsSound, HasReadCause, Given, Begins, Agrees, Output, Wrote, Slots, total, given_of, came_of, came_set}
+use Rattle.ptflow.proofs.Common.{reads_trans, wrote_nothing, wrote_trans, Tool, IsReady, Ends, Adds, IsPass, IsBarePass, WorksOff, KeepsUp, keeps_still, keeps_more, FlowFault, Read, Write, Memory}
 use Rattle.ptflow.proofs.OfPasses.ReaderFacts.{goes_nothing, never_failed}
 
 -- these bytes were given, and those pushed

@@ -1,12 +1,6 @@
 -- Facts about readers and outputs that each engine starts from.
-use Rattle.std.proofs.Common.{◌≡◌, ℕ, ◌+◌, ◌<◌, ◌≤◌, ◌^◌, false, true, List, [], ◌++◌, None, length, take, drop, refl, sym, ap, arith, length-drop}
-use Rattle.std.proofs.lemmas.List.{nil_from_length}
-use Rattle.ptlines.specs.Readers.{Reader, Reads, Goes, IsDone, IsSound, unread, budget}
-use Rattle.ptlines.specs.Slots.{Slots}
-use Rattle.ptlines.proofs.Filling.{goes_trans}
-use Rattle.ptlines.proofs.Known.{prepend_known-nil}
-use Rattle.ptlines.proofs.Scanned.{goes_front}
-use Rattle.ptflow.specs.Passes.{IsReady}
+use Rattle.ptflow.proofs.Common.{◌≡◌, ℕ, ◌+◌, ◌<◌, ◌≤◌, ◌^◌, false, true, List, [], ◌++◌, None, length, take, drop, refl, sym, ap, arith, length-drop, nil_from_length, Reader, Reads, Goes, IsDone}
+use Rattle.ptflow.proofs.Common.{IsSound, unread, budget, Slots, goes_trans, prepend_known-nil, goes_front, IsReady}
 
 -- nothing was given yet
 pub goes_nothing : (r : Reader) → r.fault ≡ None → Goes r r []

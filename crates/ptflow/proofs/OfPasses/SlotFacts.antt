@@ -1,15 +1,9 @@
 -- What a tool that works line by line keeps in the store: a line at most in each of its slots, and nothing in the
 -- others. So the store holds no more than so many times the longest of these lines.
-use Rattle.std.proofs.Common.{◌≡◌, ℕ, zero, suc, ◌+◌, ◌-◌, ◌*◌, ◌<◌, ◌≤◌, false, List, [], ◌∷◌, length, take, drop, set, get_or, max, refl, sym, ◌∙◌, ap, subst, arith, ⊎_elim, take-append-drop}
-use Rattle.std.proofs.lemmas.Grind.{common_steps}
-use Rattle.std.specs.Prelude.{swap}
-use Rattle.std.proofs.Math.Nat.{mul-le-mul_left}
-use Rattle.std.proofs.lemmas.List.{drop_more, length-set, drop-set-lt}
+use Rattle.ptflow.proofs.Common.{◌≡◌, ℕ, zero, suc, ◌+◌, ◌-◌, ◌*◌, ◌<◌, ◌≤◌, false, List, [], ◌∷◌, length, take, drop, set, get_or, max, refl, sym, ◌∙◌, ap, subst, arith, ⊎_elim, take-append-drop}
+use Rattle.ptflow.proofs.Common.{common_steps, swap, mul-le-mul_left, drop_more, length-set, drop-set-lt, sum_by-cons, sum_by-append, get_or-le-sum_by, Slots, total, with_line, Adds, IsSwapped}
+use Rattle.ptflow.proofs.Common.{Empties}
 use Rattle.std.proofs.lemmas.List.Edits.{swap_is}
-use Rattle.std.proofs.lemmas.List.Sums.{sum_by-cons, sum_by-append, get_or-le-sum_by}
-use Rattle.ptlines.specs.Slots.{Slots, total, with_line}
-use Rattle.ptflow.specs.Passes.{Adds}
-use Rattle.ptflow.specs.Workings.Passes.Lines.{IsSwapped, Empties}
 
 -- each of the first `width` slots holds at most `most` bytes, and the others hold nothing
 pub record Keeps (width most : ℕ) (before store : Slots) : Type 0 where

@@ -1,12 +1,6 @@
 -- What the slots of the cells of a row hold.
-use Rattle.std.proofs.Common.{◌≡◌, ℕ, suc, ◌+◌, ◌<◌, ◌≤◌, false, List, [], ◌∷◌, length, take, drop, set, get_or, refl, sym, ◌∙◌, ap, arith, ⊎_elim, take-append-drop}
-use Rattle.std.specs.Prelude.{sum_by}
-use Rattle.std.proofs.lemmas.Bool.{cases_eq}
-use Rattle.std.proofs.lemmas.List.{length-set, drop-set-lt, get_or-set_same, get_or-set_other}
-use Rattle.std.proofs.lemmas.List.Sums.{sum_by-cons, sum_by-append, get_or-le-sum_by}
-use Rattle.ptlines.specs.Slots.{Slots, total, with_line}
-use Rattle.ptflow.specs.Passes.{Adds}
-use Rattle.ptflow.specs.Workings.Paste.RowTurns.{KeepsCells}
+use Rattle.ptflow.proofs.Common.{◌≡◌, ℕ, suc, ◌+◌, ◌<◌, ◌≤◌, false, List, [], ◌∷◌, length, take, drop, set, get_or, refl, sym, ◌∙◌, ap, arith, ⊎_elim, take-append-drop, sum_by, cases_eq, length-set}
+use Rattle.ptflow.proofs.Common.{drop-set-lt, get_or-set_same, get_or-set_other, sum_by-cons, sum_by-append, get_or-le-sum_by, Slots, total, with_line, Adds, KeepsCells}
 
 module _ (top : ℕ → ℕ) where
   front_total : (cells : List ℕ) (ls : List (List ℕ)) → ((c : ℕ) → c < length cells → length (get_or ls c []) ≤ top (get_or cells c 0)) → total (take (length cells) ls) ≤ sum_by top cells

@@ -1,16 +1,9 @@
 -- Rows that are the first ones of what readers give, and whose lines were taken.
-use Rattle.std.proofs.Common.{◌≡◌, ⊎_elim, inl, inr, ℕ, ◌*◌, ◌<◌, ◌≤◌, true, List, [], ◌∷◌, ◌++◌, Option, length, take, map}
-use Rattle.std.proofs.Common.{false, refl, sym, ◌∙◌, ap, subst, arith, append_assoc, length-append}
+use Rattle.ptflow.proofs.Common.{◌≡◌, ⊎_elim, inl, inr, ℕ, ◌*◌, ◌<◌, ◌≤◌, true, List, [], ◌∷◌, ◌++◌, Option, length, take, map, false, refl, sym, ◌∙◌, ap, subst, arith, append_assoc, length-append}
+use Rattle.ptflow.proofs.Common.{cases_lt, append-nil, nil_from_length, take_all, length-take-le, length-map, Reader, Slots, reader_at, glued_from, times, columns, rows, RowTaken, RowFilled, Took}
+use Rattle.ptflow.proofs.Common.{GivesRows, HeldRows}
 use Rattle.std.specs.Prelude.{slice_index_or}
-use Rattle.std.proofs.lemmas.Bool.{cases_lt}
-use Rattle.std.proofs.lemmas.List.{append-nil, nil_from_length, take_all, length-take-le, get_or-take, length-map}
-use Rattle.ptlines.specs.Readers.{Reader}
-use Rattle.ptlines.specs.Slots.{Slots}
-use Rattle.ptflow.specs.PastePasses.{reader_at}
-use Rattle.ptflow.specs.Pastes.{glued_from, times, columns, rows}
-use Rattle.ptflow.specs.Workings.Paste.RowTurns.{RowTaken, RowFilled}
-use Rattle.ptflow.specs.Workings.Paste.TakenLines.{Took}
-use Rattle.ptflow.specs.Workings.Paste.WholeRows.{GivesRows, HeldRows}
+use Rattle.std.proofs.lemmas.List.{get_or-take}
 use Rattle.ptflow.proofs.OfPaste.Grids.{Column, each, each_is, times_front, grid_step, sheet-append}
 use Rattle.ptflow.proofs.OfPasses.ReaderFacts.{stays_done}
 use Rattle.ptflow.proofs.OfPaste.Takes.{took_nothing, took_more, at_most, none_of_done}

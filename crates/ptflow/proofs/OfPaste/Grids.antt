@@ -1,21 +1,10 @@
 -- The columns and rows of a grid, one row after another.
-use Rattle.std.proofs.Common.{◌≡◌, ◌≢◌, ◌⊎◌, ⊎_elim, inl, inr, ℕ, zero, suc, ◌+◌, ◌-◌, ◌*◌, ◌%◌, ◌<◌, ◌≤◌, ◌==◌, ◌||◌, Bool, true, false, cond, List, []}
-use Rattle.std.proofs.Common.{◌∷◌, ◌++◌, Option, length, take, drop, get_or, map, max, refl, sym, ◌∙◌, ap, arith, length-append, length-drop}
-use Rattle.std.specs.Prelude.{fold, slice_index_or, nat_lt}
-use Rattle.std.specs.List.{enumerate_from, range_with_len}
-use Rattle.std.proofs.lemmas.Bool.{cases_eq, cases_lt, eq-eqb, ne_eqb, le-ltb, and_right}
-use Rattle.std.proofs.lemmas.Bool.Decides.{nat_tests}
-use Rattle.std.proofs.Math.Nat.{add-mod_left, mod-eq_of_lt}
-use Rattle.std.proofs.lemmas.List.{append-nil, drop_at, drop_all, get_or_past, get_or_append_left, ext_get_or, get_or-map, length-map, map-append}
-use Rattle.std.proofs.lemmas.List.FromFn.{length-enumerate_from, get_or-enumerate_from}
-use Rattle.std.proofs.lemmas.List.Sums.{sum_by-cons, count_by_more_yes, count_by_more_no, sum_by-take-le}
-use Rattle.std.proofs.lemmas.Grind.{get_or_after_one}
-use Rattle.std.proofs.lemmas.Simd.{map-map}
-use Rattle.ptlines.specs.Text.{text}
-use Rattle.ptlines.proofs.TextLaws.{text-append}
-use Rattle.ptflow.specs.Cuts.{chosen_from}
-use Rattle.ptflow.specs.PastePasses.{put_at}
-use Rattle.ptflow.specs.Pastes.{glued_from, every, times, columns, height, row, rows, is_row_known}
+use Rattle.ptflow.proofs.Common.{◌≡◌, ◌≢◌, ◌⊎◌, ⊎_elim, inl, inr, ℕ, zero, suc, ◌+◌, ◌-◌, ◌*◌, ◌%◌, ◌<◌, ◌≤◌, ◌==◌, ◌||◌, Bool, true, false, cond, List, [], ◌∷◌, ◌++◌, Option, length, take, drop}
+use Rattle.ptflow.proofs.Common.{get_or, map, max, refl, sym, ◌∙◌, ap, arith, length-append, length-drop, fold, nat_lt, enumerate_from, range_with_len, cases_eq, cases_lt, eq-eqb, ne_eqb, le-ltb}
+use Rattle.ptflow.proofs.Common.{and_right, nat_tests, add-mod_left, mod-eq_of_lt, append-nil, drop_at, drop_all, get_or_past, get_or_append_left, ext_get_or, get_or-map, length-map, map-append}
+use Rattle.ptflow.proofs.Common.{length-enumerate_from, get_or-enumerate_from, sum_by-cons, count_by_more_yes, count_by_more_no, sum_by-take-le, get_or_after_one, map-map, text, text-append}
+use Rattle.ptflow.proofs.Common.{chosen_from, put_at, glued_from, every, times, columns, height, row, rows, is_row_known}
+use Rattle.std.specs.Prelude.{slice_index_or}
 
 abbrev pub Column : Type 0
 Column = List (List ℕ)

@@ -1,10 +1,6 @@
 -- Items that pass a test are counted up to the last of them.
-use Rattle.std.proofs.Common.{◌≡◌, ℕ, zero, suc, ◌+◌, ◌-◌, ◌<◌, ◌≤◌, Bool, true, List, None, Some, length, take, get_or, sym, ◌∙◌, ap, arith, get_or-take}
-use Rattle.std.specs.List.{count_by}
-use Rattle.std.proofs.lemmas.Bool.{false_from_ne_true}
-use Rattle.std.proofs.lemmas.List.{length-take-le}
-use Rattle.std.proofs.lemmas.List.Sums.{count_by_more_no, count_by_more_yes}
-use Rattle.memchr.specs.Find.{IsLastByte}
+use Rattle.ptflow.proofs.Common.{◌≡◌, ℕ, zero, suc, ◌+◌, ◌-◌, ◌<◌, ◌≤◌, Bool, true, List, None, Some, length, take, get_or, sym, ◌∙◌, ap, arith, get_or-take, count_by, false_from_ne_true}
+use Rattle.ptflow.proofs.Common.{length-take-le, count_by_more_no, count_by_more_yes, IsLastByte}
 
 module _ (test : ℕ → Bool) (xs : List ℕ) where
   -- none of the next n items passes

@@ -1,26 +1,12 @@
 -- Rows whose cells all name one reader: the ends in what it holds are replaced in turn.
-use Rattle.std.proofs.Common.{◌≡◌, ◌≢◌, ℕ, zero, suc, ◌+◌, ◌-◌, ◌*◌, ◌%◌, ◌<◌, ◌≤◌, Bool, cond, List, [], ◌∷◌, ◌++◌, Option, None, Some, All, length}
-use Rattle.std.proofs.Common.{map, take, drop, set, get_or, refl, sym, ◌∙◌, ap, subst, arith, append_assoc, length-append, length-drop, take-append-drop, ⊎_elim, inl}
-use Rattle.std.specs.Prelude.{unwrap_or, slice_index_or, option_to_list}
-use Rattle.std.specs.List.{count_by}
-use Rattle.std.proofs.lemmas.Bool.{cases_eq, cases_lt, eq-eqb, ne_eqb}
-use Rattle.std.proofs.lemmas.Nat.{mod-mul-add}
-use Rattle.std.proofs.lemmas.List.{take_more, take_all, nil_from_length, length-take-le, length-set, get_or_append_left, get_or_push, take_at}
-use Rattle.std.proofs.lemmas.List.Elements.{All-get_or, All-take, All-drop, All-from_recursion, recursion_from_All}
-use Rattle.std.proofs.lemmas.List.Sums.{sum_by-cons, sum_by-append, sum_by-set}
-use Rattle.memchr.specs.Find.{is_byte}
-use Rattle.ptlines.specs.Text.{text, lines, IsLine, AreLines, EndsWithByte}
-use Rattle.ptlines.specs.Outputs.{Output, Wrote}
-use Rattle.ptlines.specs.Readers.{Reader, IsSound, budget}
-use Rattle.ptlines.proofs.Scanned.{goes_front}
-use Rattle.ptlines.proofs.TextLaws.{same_byte, other_byte, text-append, lines_are, the_lines}
-use Rattle.ptlangs.specs.DelimLists.{delim_at}
-use Rattle.ptflow.specs.PastePasses.{no_reader, reader_at, put_at}
-use Rattle.ptflow.specs.Pastes.{delimiter, glued_from, times, columns, rows}
-use Rattle.ptflow.specs.Workings.Paste.OneReader.{AreTurns, AreTurnsOfOne, AreRows}
-use Rattle.ptflow.specs.Workings.Paste.SerialRests.{with_turns}
-use Rattle.ptflow.specs.Workings.Paste.TakenLines.{Took}
-use Rattle.ptflow.specs.Workings.Paste.WholeRows.{AreReadable, HeldRows, PushedRows}
+use Rattle.ptflow.proofs.Common.{◌≡◌, ◌≢◌, ℕ, zero, suc, ◌+◌, ◌-◌, ◌*◌, ◌%◌, ◌<◌, ◌≤◌, Bool, cond, List, [], ◌∷◌, ◌++◌, Option, None, Some, length, map, take, drop, set, get_or, refl, sym, ◌∙◌, ap}
+use Rattle.ptflow.proofs.Common.{subst, arith, append_assoc, length-append, length-drop, take-append-drop, ⊎_elim, inl, unwrap_or, option_to_list, count_by, cases_eq, cases_lt, eq-eqb, ne_eqb}
+use Rattle.ptflow.proofs.Common.{mod-mul-add, take_more, take_all, nil_from_length, length-take-le, length-set, get_or_append_left, get_or_push, take_at, All-get_or, All-take, All-drop}
+use Rattle.ptflow.proofs.Common.{All-from_recursion, recursion_from_All, sum_by-cons, sum_by-append, sum_by-set, is_byte, text, lines, IsLine, AreLines, EndsWithByte, Output, Wrote, Reader, IsSound}
+use Rattle.ptflow.proofs.Common.{budget, goes_front, same_byte, other_byte, text-append, lines_are, the_lines, delim_at, no_reader, reader_at, put_at, delimiter, glued_from, times, columns, rows}
+use Rattle.ptflow.proofs.Common.{AreTurns, AreTurnsOfOne, AreRows, with_turns, Took, AreReadable, HeldRows, PushedRows}
+use Rattle.std.proofs.Common.{All}
+use Rattle.std.specs.Prelude.{slice_index_or}
 use Rattle.ptflow.proofs.OfBytes.Nths.{none_counted}
 use Rattle.ptflow.proofs.OfPaste.Grids.{Column, each_is, top_of, grid_step, times_here, times_below, last_named, put_here, put_there}
 use Rattle.ptflow.proofs.OfPaste.RowTurns.{at_same, at_other, at_index}

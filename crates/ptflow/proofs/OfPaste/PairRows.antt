@@ -1,13 +1,7 @@
 -- Rows of two cells of two readers, of which so many bytes are taken.
-use Rattle.std.proofs.Common.{◌≡◌, ◌≢◌, ⊎_elim, ℕ, ◌+◌, ◌<◌, ◌≤◌, List, [], ◌∷◌, ◌++◌, Option, All, length}
-use Rattle.std.proofs.Common.{take, drop, set, get_or, refl, sym, ◌∙◌, ap, arith}
-use Rattle.std.proofs.lemmas.Bool.{cases_eq}
-use Rattle.std.proofs.lemmas.List.{length-set, get_or-set_same, get_or-set_other, ext_get_or}
-use Rattle.std.proofs.lemmas.List.Elements.{All-get_or}
-use Rattle.ptlines.specs.Readers.{Reader, IsSound}
-use Rattle.ptflow.specs.PastePasses.{reader_at}
-use Rattle.ptflow.specs.Workings.Paste.SerialRests.{lead}
-use Rattle.ptflow.specs.Workings.Paste.WholeRows.{in_front, AreReadable, Holds, PutsPair, PutsRow, PutsRows}
+use Rattle.ptflow.proofs.Common.{◌≡◌, ◌≢◌, ⊎_elim, ℕ, ◌+◌, ◌<◌, ◌≤◌, List, [], ◌∷◌, ◌++◌, Option, length, take, drop, set, get_or, refl, sym, ◌∙◌, ap, arith, cases_eq, length-set, get_or-set_same}
+use Rattle.ptflow.proofs.Common.{get_or-set_other, ext_get_or, All-get_or, Reader, IsSound, reader_at, lead, in_front, AreReadable, Holds, PutsPair, PutsRow, PutsRows}
+use Rattle.std.proofs.Common.{All}
 use Rattle.ptflow.proofs.OfPaste.Grids.{times_below}
 use Rattle.ptflow.proofs.OfPaste.WholeRows.{HasLine, taken_with, putting_starts, putting_more, putting_done, holds_more, nothing, zeros, rows_none, holds_none, rows_more}
 

@@ -1,12 +1,7 @@
 -- `paste` of texts that are cut behind the same row.
-use Rattle.std.proofs.Common.{◌≡◌, ◌⊎◌, inl, inr, ⊎_elim, ℕ, zero, suc, ◌+◌, ◌*◌, ◌<◌, ◌≤◌, List, [], ◌∷◌, ◌++◌, length, take, drop, get_or, refl, sym}
-use Rattle.std.proofs.Common.{◌∙◌, ap, arith, append_assoc, take-append-drop, length-drop}
-use Rattle.std.proofs.lemmas.Bool.{cases_lt}
-use Rattle.std.proofs.lemmas.List.{append-nil, nil_from_length, length-take-le, take_all, drop_all}
-use Rattle.ptlines.specs.Text.{lines}
-use Rattle.ptlines.proofs.PartLaws.{the_lines_of_parts}
-use Rattle.ptflow.specs.Pastes.{times, every, columns, rows, sheet}
-use Rattle.ptflow.specs.Parts.{HasRows, PasteOfParts}
+use Rattle.ptflow.proofs.Common.{◌≡◌, ◌⊎◌, inl, inr, ⊎_elim, ℕ, zero, suc, ◌+◌, ◌*◌, ◌<◌, ◌≤◌, List, [], ◌∷◌, ◌++◌, length, take, drop, get_or, refl, sym, ◌∙◌, ap, arith, append_assoc}
+use Rattle.ptflow.proofs.Common.{take-append-drop, length-drop, cases_lt, append-nil, nil_from_length, length-take-le, take_all, drop_all, lines, the_lines_of_parts, times, every, columns, rows}
+use Rattle.ptflow.proofs.Common.{sheet, HasRows, PasteOfParts}
 use Rattle.ptflow.proofs.OfPaste.Grids.{Column, Taken, each, each_same, column_of, top_of, column_at, length-columns, times_below, grid_step, rows_none, every_short, sheet-append}
 
 module _ (cells : List ℕ) where

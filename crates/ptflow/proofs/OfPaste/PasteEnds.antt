@@ -1,28 +1,10 @@
 -- How a call of `paste` ends: all was read, or a read, a write or a growth of a slot failed, amid a row or after one.
-use Rattle.std.proofs.Common.{◌≡◌, ◌≢◌, ◌⊎◌, ⊎_elim, inl, inr, ℕ, ◌+◌, ◌*◌, ◌<◌, ◌≤◌, true, false, List, [], ◌∷◌, ◌++◌, Result, Ok, Err}
-use Rattle.std.proofs.Common.{length, take, get_or, max, refl, sym, ◌∙◌, ap, subst, arith, append_assoc, length-append}
+use Rattle.ptflow.proofs.Common.{◌≡◌, ◌≢◌, ◌⊎◌, ⊎_elim, inl, inr, ℕ, ◌+◌, ◌*◌, ◌<◌, ◌≤◌, true, false, List, [], ◌∷◌, ◌++◌, Result, Ok, Err, length, take, get_or, max, refl, sym, ◌∙◌, ap, subst, arith}
+use Rattle.ptflow.proofs.Common.{append_assoc, length-append, cases_eq, append-nil, All-from_get_or, lines, IsLine, longest, longest_line, Given, Begins, Agrees, whole_lines, Output, Wrote, Reader}
+use Rattle.ptflow.proofs.Common.{Reads, IsDone, HasReadCause, Slots, with_line, with_denied, given_of, came_of, reads_trans, wrote_nothing, wrote_trans, keeps_still, keeps_more, Paste, Adds}
+use Rattle.ptflow.proofs.Common.{reader_at, put_at, AreReady, ReadAll, RowsEnd, IsPastePass, times, columns, rows, sheet, paste, paste_decided, paste_size, KeepsCells, RowFilled, RowBroken, FillsRow}
+use Rattle.ptflow.proofs.Common.{is_write, LinesCame, Took, GivesRows, PushedRows, FlowFault, Read, Write, Memory}
 use Rattle.std.specs.Prelude.{slice_index_or}
-use Rattle.std.proofs.lemmas.Bool.{cases_eq}
-use Rattle.std.proofs.lemmas.List.{append-nil}
-use Rattle.std.proofs.lemmas.List.Elements.{All-from_get_or}
-use Rattle.ptlines.specs.Text.{lines, IsLine, longest, longest_line}
-use Rattle.ptlines.specs.Inputs.{Given, Begins, Agrees, whole_lines}
-use Rattle.ptlines.specs.Outputs.{Output, Wrote}
-use Rattle.ptlines.specs.Readers.{Reader, Reads, IsDone, HasReadCause}
-use Rattle.ptlines.specs.Slots.{Slots, with_line, with_denied}
-use Rattle.ptlines.proofs.Coming.{given_of, came_of}
-use Rattle.ptlines.proofs.Filling.{reads_trans}
-use Rattle.ptlines.proofs.Pushed.{wrote_nothing, wrote_trans}
-use Rattle.ptlines.proofs.Sending.{keeps_still, keeps_more}
-use Rattle.ptlangs.specs.Jobs.{Paste}
-use Rattle.ptflow.specs.Passes.{Adds}
-use Rattle.ptflow.specs.PastePasses.{reader_at, put_at, AreReady, ReadAll, RowsEnd, IsPastePass}
-use Rattle.ptflow.specs.Pastes.{times, columns, rows, sheet, paste, paste_decided, paste_size}
-use Rattle.ptflow.specs.Workings.Paste.RowTurns.{KeepsCells, RowFilled, RowBroken, FillsRow, is_write}
-use Rattle.ptflow.specs.Workings.Paste.TakenLines.{LinesCame, Took}
-use Rattle.ptflow.specs.Workings.Paste.WholeRows.{GivesRows, PushedRows}
-use Rattle.ptflow.specs.declared.faults.FlowFault.{FlowFault}
-use Rattle.ptflow.specs.declared.faults.FlowFault.TheVariants.{Read, Write, Memory}
 use Rattle.ptflow.proofs.OfPaste.CellSlots.{cells_line, cells_total, none_in}
 use Rattle.ptflow.proofs.OfPaste.GivenRows.{gives_trans, cells_took, whole_took}
 use Rattle.ptflow.proofs.OfPaste.Grids.{Column, times_below, times_front, grid_none, sheet-append}

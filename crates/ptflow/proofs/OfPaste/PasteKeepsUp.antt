@@ -1,24 +1,10 @@
 -- `paste` keeps up with its inputs: of what was decided two blocks earlier, all was pushed.
-use Rattle.std.proofs.Common.{◌≡◌, ⊎_elim, ℕ, zero, suc, ◌+◌, ◌-◌, ◌*◌, ◌%◌, ◌<◌, ◌≤◌, ◌==◌, Bool, true, false, cond, List, [], ◌∷◌, ◌++◌, length}
-use Rattle.std.proofs.Common.{take, drop, get_or, map, refl, sym, ◌∙◌, ap, subst, arith, append_assoc, take-append-drop, length-append, length-drop}
-use Rattle.std.specs.Prelude.{filter, slice_index_or}
-use Rattle.std.specs.List.{range_with_len, enumerate_from, onto_first}
-use Rattle.std.proofs.lemmas.Bool.{cases_eq, cases_lt, cases_Bool}
-use Rattle.std.proofs.lemmas.Bool.Decides.{nat_tests}
-use Rattle.std.proofs.lemmas.List.{append-nil, append_cancel_right, take-append-le, length-take-le, take_all, take_more, get_or-map, get_or_append_left, length-map}
-use Rattle.std.proofs.lemmas.List.FromFn.{take-map-range_with_len, length-map-range_with_len}
-use Rattle.std.proofs.lemmas.Simd.{map-map}
-use Rattle.ptlines.specs.Text.{text, lines, ended_lines, onto_line, IsLine, AreLines}
-use Rattle.ptlines.specs.Inputs.{Given, Begins, whole_lines}
-use Rattle.ptlines.specs.KeepingUp.{WorksOff}
-use Rattle.ptlines.specs.Readers.{Reader, Reads, IsDone}
-use Rattle.ptlines.proofs.Coming.{given_of}
-use Rattle.ptlines.proofs.TextLaws.{text_push, ended_of_text, the_lines}
-use Rattle.ptlangs.specs.Jobs.{Paste}
-use Rattle.ptflow.specs.Cuts.{chosen_from}
-use Rattle.ptflow.specs.PastePasses.{put_at}
-use Rattle.ptflow.specs.Pastes.{every, times, columns, height, row, rows, sheet, is_row_known, known_rows, paste_decided}
-use Rattle.ptflow.specs.Workings.Paste.TakenLines.{LinesCame}
+use Rattle.ptflow.proofs.Common.{◌≡◌, ⊎_elim, ℕ, zero, suc, ◌+◌, ◌-◌, ◌*◌, ◌%◌, ◌<◌, ◌≤◌, ◌==◌, Bool, true, false, cond, List, [], ◌∷◌, ◌++◌, length, take, drop, get_or, map, refl, sym, ◌∙◌, ap}
+use Rattle.ptflow.proofs.Common.{subst, arith, append_assoc, take-append-drop, length-append, length-drop, filter, range_with_len, enumerate_from, onto_first, cases_eq, cases_lt, cases_Bool}
+use Rattle.ptflow.proofs.Common.{nat_tests, append-nil, append_cancel_right, take-append-le, length-take-le, take_all, take_more, get_or-map, get_or_append_left, length-map, take-map-range_with_len}
+use Rattle.ptflow.proofs.Common.{length-map-range_with_len, map-map, text, lines, ended_lines, onto_line, IsLine, AreLines, Given, Begins, whole_lines, WorksOff, Reader, Reads, IsDone, given_of}
+use Rattle.ptflow.proofs.Common.{text_push, ended_of_text, the_lines, Paste, chosen_from, put_at, every, times, columns, height, row, rows, sheet, is_row_known, known_rows, paste_decided, LinesCame}
+use Rattle.std.specs.Prelude.{slice_index_or}
 use Rattle.ptflow.proofs.OfCut.PickLemmas.{chosen_append}
 use Rattle.ptflow.proofs.OfPaste.Grids.{Column, each, each_same, column_of, times_below, column_at, length-columns, every_short, known_false, put_here, put_there, last_named, sheet-append}
 use Rattle.ptflow.proofs.OfPasses.LinesCame.{line_take, lines_are_given}

@@ -1,26 +1,9 @@
 -- Rows of `paste` that were passed: what was pushed and what the slots hold, whatever comes; and once readers were read
 -- on, what is then known of the texts, of the rows that are decided, and of the lines.
-use Rattle.std.proofs.Common.{◌≡◌, ⊎_elim, ℕ, ◌+◌, ◌*◌, ◌<◌, ◌≤◌, ◌^◌, Bool, true, false, List, [], ◌∷◌, ◌++◌, None}
-use Rattle.std.proofs.Common.{length, take, get_or, refl, sym, ◌∙◌, ap, subst, arith, append_assoc}
-use Rattle.std.specs.Prelude.{All}
-use Rattle.std.proofs.lemmas.Bool.{cases_lt}
-use Rattle.std.proofs.lemmas.List.{append-nil}
-use Rattle.std.proofs.lemmas.List.Elements.{All-get_or}
-use Rattle.ptlines.specs.Text.{text, lines, ended_lines, AreLines, longest, longest_line}
-use Rattle.ptlines.specs.Inputs.{Given, Begins, Agrees, Came, whole_lines}
-use Rattle.ptlines.specs.Outputs.{Output, Wrote}
-use Rattle.ptlines.specs.Readers.{Reader, Reads, IsDone}
-use Rattle.ptlines.specs.Slots.{Slots, total}
-use Rattle.ptlines.proofs.Coming.{given_of, came_of, came_of_set}
-use Rattle.ptlines.proofs.Pushed.{wrote_nothing, wrote_trans}
-use Rattle.ptlines.proofs.TextLaws.{ended_first}
-use Rattle.ptlangs.specs.Jobs.{Paste}
-use Rattle.ptflow.specs.Passes.{Adds}
-use Rattle.ptflow.specs.PastePasses.{reader_at, IsReadable, AreReady}
-use Rattle.ptflow.specs.Pastes.{glued_from, times, columns, rows, sheet, paste, paste_decided}
-use Rattle.ptflow.specs.Workings.Paste.RowTurns.{AreSet, KeepsCells, RowTaken, RowFilled}
-use Rattle.ptflow.specs.Workings.Paste.TakenLines.{LinesCame}
-use Rattle.ptflow.specs.Workings.Paste.WholeRows.{GivesRows, PushedRows}
+use Rattle.ptflow.proofs.Common.{◌≡◌, ⊎_elim, ℕ, ◌+◌, ◌*◌, ◌<◌, ◌≤◌, ◌^◌, Bool, true, false, List, [], ◌∷◌, ◌++◌, None, length, take, get_or, refl, sym, ◌∙◌, ap, subst, arith, append_assoc, All}
+use Rattle.ptflow.proofs.Common.{cases_lt, append-nil, All-get_or, text, lines, ended_lines, AreLines, longest, longest_line, Given, Begins, Agrees, Came, whole_lines, Output, Wrote, Reader, Reads}
+use Rattle.ptflow.proofs.Common.{IsDone, Slots, total, given_of, came_of, came_of_set, wrote_nothing, wrote_trans, ended_first, Paste, Adds, reader_at, IsReadable, AreReady, glued_from, times}
+use Rattle.ptflow.proofs.Common.{columns, rows, sheet, paste, paste_decided, AreSet, KeepsCells, RowTaken, RowFilled, LinesCame, GivesRows, PushedRows}
 use Rattle.ptflow.proofs.OfPaste.CellSlots.{cells_start}
 use Rattle.ptflow.proofs.OfPaste.GivenRows.{gives_trans, gives_row}
 use Rattle.ptflow.proofs.OfPaste.Grids.{Column, last_named, sheet-append}

@@ -1,18 +1,9 @@
 -- The readers and slots of the cells of a row, one cell after another.
-use Rattle.std.proofs.Common.{◌≡◌, ◌≢◌, ⊎_elim, ℕ, ◌+◌, ◌<◌, ◌≤◌, ◌==◌, ◌||◌, Bool, true, false, cond, List, [], ◌∷◌, ◌++◌, None, Ok, length, take}
-use Rattle.std.proofs.Common.{get_or, set, refl, sym, ◌∙◌, ap, subst, arith, length-append}
-use Rattle.std.specs.Prelude.{sum_by, slice_index_or}
-use Rattle.std.proofs.lemmas.Bool.{cases_eq, cases_lt, eq-eqb, ne_eqb}
-use Rattle.std.proofs.lemmas.List.{append-nil, take-take, length-set, get_or-set_same, get_or-set_other, get_or_past, get_or_append_left, get_or_at, get_or_default}
-use Rattle.std.proofs.lemmas.List.Sums.{sum_by-set}
-use Rattle.ptlines.specs.Text.{longest}
-use Rattle.ptlines.specs.Readers.{Reader, Goes, IsDone, IsSound, budget}
-use Rattle.ptlines.specs.Slots.{Slots, with_line}
-use Rattle.ptlines.specs.Fills.{GivesLine, Fills}
-use Rattle.ptflow.specs.PastePasses.{no_reader, reader_at}
-use Rattle.ptflow.specs.Pastes.{times}
-use Rattle.ptflow.specs.Workings.Paste.RowTurns.{AreSet, RowTaken, Filling, RowBroken}
-use Rattle.ptflow.specs.Workings.Paste.TakenLines.{Took}
+use Rattle.ptflow.proofs.Common.{◌≡◌, ◌≢◌, ⊎_elim, ℕ, ◌+◌, ◌<◌, ◌≤◌, ◌==◌, ◌||◌, Bool, true, false, cond, List, [], ◌∷◌, ◌++◌, None, Ok, length, take, get_or, set, refl, sym, ◌∙◌, ap, subst, arith}
+use Rattle.ptflow.proofs.Common.{length-append, sum_by, cases_eq, cases_lt, eq-eqb, ne_eqb, append-nil, take-take, length-set, get_or-set_same, get_or-set_other, get_or_past, get_or_append_left}
+use Rattle.ptflow.proofs.Common.{get_or_at, get_or_default, sum_by-set, longest, Reader, Goes, IsDone, IsSound, budget, Slots, with_line, GivesLine, Fills, no_reader, reader_at, times, AreSet}
+use Rattle.ptflow.proofs.Common.{RowTaken, Filling, RowBroken, Took}
+use Rattle.std.specs.Prelude.{slice_index_or}
 use Rattle.ptflow.proofs.OfPaste.CellSlots.{cells_line}
 use Rattle.ptflow.proofs.OfPaste.Grids.{times_here, times_other, times_front}
 use Rattle.ptflow.proofs.OfPasses.LineLaws.{longest-append}

@@ -1,22 +1,8 @@
 -- What `paste` in series writes of the rest of a text, byte by byte and block by block.
-use Rattle.std.proofs.Common.{◌≡◌, ◌≢◌, ⊎_elim, ℕ, ◌+◌, ◌==◌, ◌<◌, ◌≤◌, Bool, true, false, cond, List, [], ◌∷◌, ◌++◌, Option, Some, length, map, take, drop}
-use Rattle.std.proofs.Common.{length-append, refl, sym, ◌∙◌, ap, arith, append_assoc}
-use Rattle.std.specs.Prelude.{option_to_list, unwrap_or}
-use Rattle.std.specs.List.{onto_first, count_by}
-use Rattle.std.proofs.lemmas.Bool.{cases_Bool}
-use Rattle.std.proofs.lemmas.List.{append-nil, append_cancel_right}
-use Rattle.std.proofs.lemmas.List.Sums.{sum_by-cons}
-use Rattle.memchr.specs.Find.{IsFirstByte, is_byte}
-use Rattle.ptlines.specs.Text.{lines, ended_lines, IsLine}
-use Rattle.ptlines.specs.Inputs.{Begins}
-use Rattle.ptlines.specs.Outputs.{Output, Wrote}
-use Rattle.ptlines.proofs.Scanned.{before_end}
-use Rattle.ptlines.proofs.TextLaws.{lines_first, lines_of_text, other_byte}
-use Rattle.ptlangs.specs.DelimLists.{delim_at}
-use Rattle.ptlangs.specs.Jobs.{Paste}
-use Rattle.ptflow.specs.Pastes.{delimiter, glued_from, serial_decided}
-use Rattle.ptflow.specs.Workings.Paste.SerialRests.{row_rest, row_from, serial_rest, begun, lead, Puts, PutsBlock, IsAlways, with_delimiter, with_turns}
-use Rattle.ptflow.specs.declared.tools.paste.serial.Cell.{Cell}
+use Rattle.ptflow.proofs.Common.{◌≡◌, ◌≢◌, ⊎_elim, ℕ, ◌+◌, ◌==◌, ◌<◌, ◌≤◌, Bool, true, false, cond, List, [], ◌∷◌, ◌++◌, Option, Some, length, map, take, drop, length-append, refl, sym, ◌∙◌, ap}
+use Rattle.ptflow.proofs.Common.{arith, append_assoc, option_to_list, unwrap_or, onto_first, count_by, cases_Bool, append-nil, append_cancel_right, sum_by-cons, IsFirstByte, is_byte, lines}
+use Rattle.ptflow.proofs.Common.{ended_lines, IsLine, Begins, Output, Wrote, before_end, lines_first, lines_of_text, other_byte, delim_at, Paste, delimiter, glued_from, serial_decided, row_rest}
+use Rattle.ptflow.proofs.Common.{row_from, serial_rest, begun, lead, Puts, PutsBlock, IsAlways, with_delimiter, with_turns, Cell}
 use Rattle.ptflow.proofs.OfPasses.Continuations.{Amid, amid_more}
 use Rattle.ptflow.proofs.OfPasses.LineLaws.{parts_of, split_of}
 

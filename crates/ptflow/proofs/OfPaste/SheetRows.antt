@@ -1,12 +1,6 @@
 -- A row of a sheet, cell by cell.
-use Rattle.std.proofs.Common.{◌≡◌, ℕ, true, false, List, [], ◌∷◌, ◌++◌, Option, sym, ◌∙◌, ap, subst}
-use Rattle.std.proofs.lemmas.List.{append-nil}
-use Rattle.ptlines.specs.Outputs.{Output, Wrote}
-use Rattle.ptlines.proofs.Pushed.{wrote_trans, wrote_past}
-use Rattle.ptflow.specs.Pastes.{glued_from}
-use Rattle.ptflow.specs.Workings.Passes.Continuations.{Halts}
-use Rattle.ptflow.specs.Workings.Paste.SerialRests.{row_rest, row_from, begun, lead}
-use Rattle.ptflow.specs.declared.tools.paste.serial.Cell.{Cell}
+use Rattle.ptflow.proofs.Common.{◌≡◌, ℕ, true, false, List, [], ◌∷◌, ◌++◌, Option, sym, ◌∙◌, ap, subst, append-nil, Output, Wrote, wrote_trans, wrote_past, glued_from, Halts, row_rest, row_from}
+use Rattle.ptflow.proofs.Common.{begun, lead, Cell}
 use Rattle.ptflow.proofs.OfPasses.Continuations.{Amid, amid_more, amid_halts}
 use Rattle.ptflow.proofs.OfPaste.SerialRests.{row_line, row_begun, row_end}
 

@@ -1,14 +1,6 @@
 -- The lines that were taken of a reader, at most so many.
-use Rattle.std.proofs.Common.{◌≡◌, ◌⊎◌, ⊎_elim, inl, inr, ℕ, ◌+◌, ◌≤◌, List, [], ◌∷◌, ◌++◌, None, length, refl, sym, ◌∙◌, ap, arith, length-append}
-use Rattle.std.proofs.lemmas.List.{append-nil}
-use Rattle.ptlines.specs.Text.{lines, AreLines}
-use Rattle.ptlines.specs.Readers.{Reader, Reads, Goes, IsDone, IsSound, unread}
-use Rattle.ptlines.specs.Slots.{Slots}
-use Rattle.ptlines.specs.Fills.{GivesLine}
-use Rattle.ptlines.proofs.Filling.{reads_trans}
-use Rattle.ptlines.proofs.Known.{prepend_known-nil}
-use Rattle.ptlines.proofs.TextLaws.{text-append, lines_of_text}
-use Rattle.ptflow.specs.Workings.Paste.TakenLines.{LinesCame, Took}
+use Rattle.ptflow.proofs.Common.{◌≡◌, ◌⊎◌, ⊎_elim, inl, inr, ℕ, ◌+◌, ◌≤◌, List, [], ◌∷◌, ◌++◌, None, length, refl, sym, ◌∙◌, ap, arith, length-append, append-nil, lines, AreLines, Reader, Reads, Goes}
+use Rattle.ptflow.proofs.Common.{IsDone, IsSound, unread, Slots, GivesLine, reads_trans, prepend_known-nil, text-append, lines_of_text, LinesCame, Took}
 use Rattle.ptflow.proofs.OfPasses.LinesCame.{lines_none, lines_are_given, lines_more}
 use Rattle.ptflow.proofs.OfPasses.ReaderFacts.{done_gives_nothing, stays_done}
 

@@ -1,21 +1,7 @@
 -- Delimiters in turn: what bytes become where their ends of lines are replaced, one end after another.
-use Rattle.std.proofs.Common.{◌≡◌, ⊎_elim, ℕ, zero, suc, ◌+◌, ◌-◌, ◌%◌, ◌==◌, ◌<◌, ◌≤◌, eqb, Bool, true, false, cond, List, [], ◌∷◌, ◌++◌, Option, None, Some, length}
-use Rattle.std.proofs.Common.{take, drop, get_or, slice_set, refl, sym, ◌∙◌, ap, arith}
-use Rattle.std.specs.Prelude.{unwrap_or}
-use Rattle.std.specs.List.{list_any, count_by}
-use Rattle.std.specs.Option.{option_eq}
-use Rattle.std.proofs.Math.Nat.{mod-lt, mod-add-mod, mod-eq_of_lt}
-use Rattle.std.proofs.Math.Seq.{take-add, take-set-lt}
-use Rattle.std.proofs.lemmas.Bool.{cases_Bool, eq-eqb}
-use Rattle.std.proofs.lemmas.List.{set-append_right, drop_more, take_more_set, take-set, length-set}
-use Rattle.std.proofs.lemmas.List.Folds.{list_any_at}
-use Rattle.std.proofs.lemmas.List.Sums.{sum_by-cons, sum_by-append}
-use Rattle.memchr.specs.Find.{is_byte}
-use Rattle.ptlines.proofs.TextLaws.{other_byte}
-use Rattle.ptlangs.specs.DelimLists.{delim_at}
-use Rattle.ptflow.specs.Pastes.{delimiter}
-use Rattle.ptflow.specs.Workings.Bytes.Nths.{IsBehind}
-use Rattle.ptflow.specs.Workings.Paste.SerialRests.{with_turns, IsTurnedTo}
+use Rattle.ptflow.proofs.Common.{◌≡◌, ⊎_elim, ℕ, zero, suc, ◌+◌, ◌-◌, ◌%◌, ◌==◌, ◌<◌, ◌≤◌, eqb, Bool, true, false, cond, List, [], ◌∷◌, ◌++◌, Option, None, Some, length, take, drop, get_or, slice_set}
+use Rattle.ptflow.proofs.Common.{refl, sym, ◌∙◌, ap, arith, unwrap_or, list_any, count_by, option_eq, mod-lt, mod-add-mod, mod-eq_of_lt, take-add, take-set-lt, cases_Bool, eq-eqb, set-append_right}
+use Rattle.ptflow.proofs.Common.{drop_more, take_more_set, take-set, length-set, list_any_at, sum_by-cons, sum_by-append, is_byte, other_byte, delim_at, delimiter, IsBehind, with_turns, IsTurnedTo}
 use Rattle.ptflow.specs.declared.kernels.replacing.Turn.{Turn}
 
 -- the place in a list of this length that is next, in front of its end

@@ -1,23 +1,12 @@
 -- Rows of `paste` whose cells lie whole in what the readers hold: they are told by the slots that filling them would
 -- fill.
-use Rattle.std.proofs.Common.{◌≡◌, ⊎_elim, inl, inr, ℕ, zero, suc, ◌+◌, ◌-◌, ◌<◌, ◌≤◌, ◌^◌, Bool, true, false, cond, List, [], ◌∷◌, ◌++◌, Option, None, Some, length}
-use Rattle.std.proofs.Common.{take, drop, set, get_or, refl, sym, ◌∙◌, ap, subst, arith, append_assoc, length-append, length-drop, replicate}
-use Rattle.std.specs.Prelude.{nat_lt, Result, Err}
-use Rattle.std.proofs.lemmas.Bool.{cases_eq, cases_lt}
-use Rattle.std.proofs.lemmas.Bool.Decides.{nat_tests}
-use Rattle.std.proofs.lemmas.List.{append-nil, take-take, take-append-le, length-take-le, length-set, drop-drop}
-use Rattle.std.proofs.lemmas.List.{take_more_set, get_or-set_same, get_or-set_other, get_or-replicate, get_or_past, ext_get_or}
-use Rattle.memchr.specs.Find.{IsFirstByte, is_byte}
-use Rattle.ptlines.specs.Readers.{Reader, Goes, IsSound}
-use Rattle.ptlines.specs.Outputs.{Output}
+use Rattle.ptflow.proofs.Common.{◌≡◌, ⊎_elim, inl, inr, ℕ, zero, suc, ◌+◌, ◌-◌, ◌<◌, ◌≤◌, ◌^◌, Bool, true, false, cond, List, [], ◌∷◌, ◌++◌, Option, None, Some, length, take, drop, set, get_or, refl}
+use Rattle.ptflow.proofs.Common.{sym, ◌∙◌, ap, subst, arith, append_assoc, length-append, length-drop, replicate, nat_lt, cases_eq, cases_lt, nat_tests, append-nil, take-take, take-append-le}
+use Rattle.ptflow.proofs.Common.{length-take-le, length-set, drop-drop, take_more_set, get_or-set_same, get_or-set_other, get_or-replicate, get_or_past, ext_get_or, IsFirstByte, is_byte, Reader, Goes}
+use Rattle.ptflow.proofs.Common.{IsSound, Output, Slots, with_line, GivesLine, before_end, take_end, goes_front, no_reader, reader_at, Filling, row_rest, row_from, begun, lead, in_front, AreReadable}
+use Rattle.ptflow.proofs.Common.{AreTaken, Holds, HeldRows, HoldsTo, PassesRows, PushedRows, PutsRow, PutsRows}
+use Rattle.std.specs.Prelude.{Result, Err}
 use Rattle.ptlines.specs.declared.out.WriteFault.{WriteFault}
-use Rattle.ptlines.specs.Slots.{Slots, with_line}
-use Rattle.ptlines.specs.Fills.{GivesLine}
-use Rattle.ptlines.proofs.Scanned.{before_end, take_end, goes_front}
-use Rattle.ptflow.specs.PastePasses.{no_reader, reader_at}
-use Rattle.ptflow.specs.Workings.Paste.RowTurns.{Filling}
-use Rattle.ptflow.specs.Workings.Paste.SerialRests.{row_rest, row_from, begun, lead}
-use Rattle.ptflow.specs.Workings.Paste.WholeRows.{in_front, AreReadable, AreTaken, Holds, HeldRows, HoldsTo, PassesRows, PushedRows, PutsRow, PutsRows}
 use Rattle.ptflow.proofs.OfPaste.GivenRows.{blank, length_blank, held_row, held_trans}
 use Rattle.ptflow.proofs.OfPaste.RowTurns.{at_same, at_other, filling_starts, filling_line}
 use Rattle.ptflow.proofs.OfPaste.SerialRests.{row_begun, row_line, row_end}

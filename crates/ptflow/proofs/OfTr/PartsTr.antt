@@ -1,12 +1,7 @@
 -- `tr` of a text that is cut anywhere.
-use Rattle.std.proofs.Common.{◌≡◌, ⊎_elim, ℕ, ◌==◌, ◌&&◌, not, eqb, Bool, true, false, cond, List, [], ◌∷◌, ◌++◌, Option, None, Some, refl, sym, ap}
-use Rattle.std.specs.List.{last_or}
-use Rattle.std.specs.Option.{option_eq}
-use Rattle.std.proofs.lemmas.Bool.{cases_Bool, eq-eqb, eqb-true}
-use Rattle.ptlangs.specs.TrTables.{Tables, deletes, image, squeezes}
-use Rattle.ptflow.specs.Translations.{stays, squeeze_behind, squeeze, translated, tr}
-use Rattle.ptflow.specs.Workings.Tr.TrRests.{squeeze_from, tr_rest}
-use Rattle.ptflow.specs.Parts.{BeginsWith, EndsWith, TrOfAnyParts, TrOfParts, TrBehindByte, TrMeetsTwice}
+use Rattle.ptflow.proofs.Common.{◌≡◌, ⊎_elim, ℕ, ◌==◌, ◌&&◌, not, eqb, Bool, true, false, cond, List, [], ◌∷◌, ◌++◌, Option, None, Some, refl, sym, ap, last_or, option_eq, cases_Bool, eq-eqb}
+use Rattle.ptflow.proofs.Common.{eqb-true, Tables, deletes, image, squeezes, stays, squeeze_behind, squeeze, translated, tr, squeeze_from, tr_rest, BeginsWith, EndsWith, TrOfAnyParts, TrOfParts}
+use Rattle.ptflow.proofs.Common.{TrBehindByte, TrMeetsTwice}
 use Rattle.ptflow.proofs.OfTr.TrRests.{behind_one, from_one, front_on}
 
 -- the last of some items, where there is one

@@ -1,18 +1,11 @@
 -- Bytes that stay where repeats are squeezed. Whether one stays is told by it and the byte in front of it, so a text is
 -- worked in pieces, each of them with the byte in front of it.
-use Rattle.std.proofs.Common.{◌≡◌, ℕ, zero, suc, ◌%◌, ◌^◌, map, bit_and, negsuc, pos, ◌+◌, ◌-◌, ◌<◌, ◌≤◌, ◌&&◌, not, eqb, Bool, true, false, cond, List}
-use Rattle.std.proofs.Common.{[], ◌∷◌, ◌++◌, Option, Some, length, take, drop, set, get_or, refl, sym, ◌∙◌, ap, arith, append_assoc, add-one, drop-cons, w8}
-use Rattle.std.specs.Option.{option_eq}
-use Rattle.std.specs.Int.{bit_not, cast_unsigned}
-use Rattle.std.specs.Simd.Lanes.{zip2, chunk, Each1, mask_l, top}
+use Rattle.ptflow.proofs.Common.{◌≡◌, ℕ, zero, suc, ◌%◌, ◌^◌, map, bit_and, negsuc, pos, ◌+◌, ◌-◌, ◌<◌, ◌≤◌, ◌&&◌, not, eqb, Bool, true, false, cond, List, [], ◌∷◌, ◌++◌, Option, Some, length, take}
+use Rattle.ptflow.proofs.Common.{drop, set, get_or, refl, sym, ◌∙◌, ap, arith, append_assoc, add-one, drop-cons, w8, option_eq, bit_not, cast_unsigned, zip2, chunk, Each1, mask_l, top, append-nil}
+use Rattle.ptflow.proofs.Common.{drop-drop, drop_all, take-set, take_more_set, take-take, get_or-chunk, length-chunk, length-zip2, mask_l-mod, squeeze_behind, mask_of, chosen_by, squeeze_from}
 use mir.Val.{bool_byte, Fits}
 use Rattle.std.proofs.Math.Facts.{Fits-lt-pow}
-use Rattle.std.proofs.lemmas.List.{append-nil, take-append-drop, drop-drop, drop_all, take-set, take_more_set, take-take}
-use Rattle.std.proofs.lemmas.Simd.{get_or-chunk, length-chunk, length-zip2, mask_l-mod}
-use Rattle.ptflow.specs.Translations.{squeeze_behind}
-use Rattle.ptflow.specs.Workings.Bytes.ByteSets.{mask_of}
-use Rattle.ptflow.specs.Workings.Bytes.Packings.{chosen_by}
-use Rattle.ptflow.specs.Workings.Tr.TrRests.{squeeze_from}
+use Rattle.std.proofs.lemmas.List.{take-append-drop}
 use Rattle.ptflow.proofs.OfBytes.FourLanes.{lanes_of, chunk_parts, chunk_in_four}
 use Rattle.ptflow.proofs.OfTr.TrRests.{behind_one, from_one}
 

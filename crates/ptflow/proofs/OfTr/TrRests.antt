@@ -1,15 +1,8 @@
 -- What `tr` writes of the rest of a text. A byte stays or goes by the byte that was written last alone, so that byte is
 -- all that is carried from block to block, and within a block from byte to byte.
-use Rattle.std.proofs.Common.{◌≡◌, ℕ, ◌-◌, ◌==◌, ◌&&◌, not, eqb, Bool, true, false, cond, List, [], ◌∷◌, ◌++◌, Option, None, Some, map, length, refl, ap, arith}
-use Rattle.std.specs.Prelude.{filter, slice_get}
-use Rattle.std.specs.List.{last_or}
-use Rattle.std.specs.Option.{option_eq, option_or}
-use Rattle.std.proofs.lemmas.List.{append-nil, map-append}
-use Rattle.std.proofs.lemmas.List.Elements.{filter-append}
-use Rattle.ptlines.specs.Inputs.{Begins}
-use Rattle.ptlangs.specs.TrTables.{Tables, deletes, image, squeezes}
-use Rattle.ptflow.specs.Translations.{stays, squeeze_behind, translated, tr, tr_decided}
-use Rattle.ptflow.specs.Workings.Tr.TrRests.{squeeze_from, tr_rest}
+use Rattle.ptflow.proofs.Common.{◌≡◌, ℕ, ◌-◌, ◌==◌, ◌&&◌, not, eqb, Bool, true, false, cond, List, [], ◌∷◌, ◌++◌, Option, None, Some, map, length, refl, ap, arith, filter, slice_get, last_or}
+use Rattle.ptflow.proofs.Common.{option_eq, option_or, append-nil, map-append, filter-append, Begins, Tables, deletes, image, squeezes, stays, squeeze_behind, translated, tr, tr_decided, squeeze_from}
+use Rattle.ptflow.proofs.Common.{tr_rest}
 
 module _ (squeezed : ℕ → Bool) where
   pub behind_one : (last b : ℕ) (bytes : List ℕ) → squeeze_behind squeezed last (b ∷ bytes) ≡ cond (stays squeezed (last, b)) (b ∷ squeeze_behind squeezed b bytes) (squeeze_behind squeezed b bytes)

@@ -1,21 +1,11 @@
 -- The runs of the lines of a block, line by line.
-use Rattle.std.proofs.Common.{◌≡◌, ℕ, ◌+◌, ◌-◌, ◌<◌, ◌≤◌, ◌&&◌, Bool, true, false, List, [], ◌∷◌, ◌++◌, Some, length, take, drop, refl, sym, ◌∙◌, ap, subst, arith, append_assoc, length-append}
-use Rattle.std.proofs.lemmas.Grind.{common_steps}
-use Rattle.std.specs.Prelude.{bytes_eq, nat_lt, slice_range}
-use Rattle.std.proofs.lemmas.Bool.Decides.{nat_tests}
-use Rattle.std.proofs.lemmas.List.Folds.{drop_split}
-use Rattle.std.proofs.lemmas.List.{append-nil, take-take, take_at, drop_at}
-use Rattle.memchr.specs.Find.{IsFirstByte, is_byte}
-use Rattle.ptlines.specs.Outputs.{Output, Wrote}
-use Rattle.ptlines.specs.Text.{text, ended_lines, IsLine}
+use Rattle.ptflow.proofs.Common.{◌≡◌, ℕ, ◌+◌, ◌-◌, ◌<◌, ◌≤◌, ◌&&◌, Bool, true, false, List, [], ◌∷◌, ◌++◌, Some, length, take, drop, refl, sym, ◌∙◌, ap, subst, arith, append_assoc, length-append}
+use Rattle.ptflow.proofs.Common.{common_steps, bytes_eq, nat_lt, slice_range, nat_tests, drop_split, append-nil, take-take, take_at, drop_at, IsFirstByte, is_byte, Output, Wrote, text, ended_lines}
+use Rattle.ptflow.proofs.Common.{IsLine, wrote_nothing, wrote_trans, text_push, ended_none, Uniq, Run, key, is_same, entries, run_of, open_run, runs_behind, is_shown, run_text, RunsOn, RunsHalt}
+use Rattle.ptflow.proofs.Common.{GoesOnWith, span_of, IsSpan, Waits}
 use Rattle.ptlines.proofs.Given.{length_range}
-use Rattle.ptlines.proofs.Pushed.{wrote_nothing, wrote_trans}
-use Rattle.ptlines.proofs.TextLaws.{text_push, ended_none}
-use Rattle.ptlangs.specs.Jobs.{Uniq}
 use Rattle.ptlangs.specs.declared.jobs.Show.{Show}
-use Rattle.ptflow.specs.Uniqs.{Run, key, is_same, entries}
-use Rattle.ptflow.specs.Workings.Uniq.OpenRuns.{run_of, open_run, runs_behind, is_shown, lead, run_text}
-use Rattle.ptflow.specs.Workings.Uniq.BlockRuns.{RunsOn, RunsHalt, GoesOnWith, span_of, IsSpan, Waits}
+use Rattle.ptflow.specs.Workings.Uniq.OpenRuns.{lead}
 use Rattle.ptflow.specs.declared.tools.uniq.runs.Span.{Span}
 use Rattle.ptflow.proofs.OfPasses.LineLaws.{split_of, ended_next}
 use Rattle.ptflow.proofs.OfUniq.OpenRuns.{behind_more, behind_turn, entries-append, open_is}

@@ -1,27 +1,9 @@
 -- The run that is open, with the lines that are taken one by one and block by block.
-use Rattle.std.proofs.Common.{◌≡◌, ℕ, ◌+◌, ◌<◌, ◌&&◌, Bool, true, false, List, [], ◌∷◌, ◌++◌, Option, None, Some, length, take, drop, refl, sym, ◌∙◌}
-use Rattle.std.proofs.lemmas.Grind.{common_steps}
-use Rattle.std.proofs.Common.{ap, subst, arith, append_assoc, length-append, take-append-drop}
-use Rattle.std.specs.Prelude.{nat_lt, swap}
-use Rattle.std.specs.Option.{is_some}
-use Rattle.std.proofs.Math.Seq.{take-append-add}
-use Rattle.std.proofs.lemmas.List.{append-nil, length-take-le, get_or-set_other}
-use Rattle.std.proofs.lemmas.List.Sums.{sum_by-cons}
-use Rattle.memchr.specs.Find.{IsFirstByte, is_byte}
-use Rattle.ptlines.specs.Outputs.{Output, Wrote}
-use Rattle.ptlines.specs.Inputs.{whole_lines}
-use Rattle.ptlines.specs.Slots.{Slots, line, total, with_line}
-use Rattle.ptlines.specs.Text.{text, ended_lines, IsLine}
-use Rattle.ptlines.proofs.Pushed.{wrote_nothing, wrote_trans}
-use Rattle.ptlines.proofs.Scanned.{no_end}
-use Rattle.ptlines.proofs.TextLaws.{text-append, ended_none}
-use Rattle.ptlangs.specs.Jobs.{Uniq}
-use Rattle.ptflow.specs.Uniqs.{Run, is_same, runs, entries, uniq_tool}
-use Rattle.ptflow.specs.Workings.Passes.Lines.{Empties, IsLineTool}
-use Rattle.ptflow.specs.Workings.Uniq.OpenLines.{first_line, open_run_of}
+use Rattle.ptflow.proofs.Common.{◌≡◌, ℕ, ◌+◌, ◌<◌, ◌&&◌, Bool, true, false, List, [], ◌∷◌, ◌++◌, Option, None, Some, length, take, drop, refl, sym, ◌∙◌, common_steps, ap, subst, arith, append_assoc}
+use Rattle.ptflow.proofs.Common.{length-append, take-append-drop, nat_lt, swap, is_some, take-append-add, append-nil, length-take-le, get_or-set_other, sum_by-cons, IsFirstByte, is_byte, Output}
+use Rattle.ptflow.proofs.Common.{Wrote, whole_lines, Slots, line, total, with_line, text, ended_lines, IsLine, wrote_nothing, wrote_trans, no_end, text-append, ended_none, Uniq, Run, is_same, runs}
+use Rattle.ptflow.proofs.Common.{entries, uniq_tool, Empties, IsLineTool, first_line, open_run_of, RunsOn, RunsHalt, GoesOnWith, run_of, count_of, open_run, runs_behind, run_text}
 use Rattle.ptflow.specs.declared.tools.uniq.Open.{Open}
-use Rattle.ptflow.specs.Workings.Uniq.BlockRuns.{RunsOn, RunsHalt, GoesOnWith}
-use Rattle.ptflow.specs.Workings.Uniq.OpenRuns.{run_of, count_of, open_run, runs_behind, run_text}
 use Rattle.ptflow.specs.declared.tools.uniq.runs.Same.{Same}
 use Rattle.ptflow.proofs.OfUniq.BlockRuns.{other_count}
 use Rattle.ptflow.proofs.OfPasses.LineLaws.{ended_next}

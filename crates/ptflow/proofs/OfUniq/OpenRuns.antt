@@ -1,17 +1,7 @@
 -- The runs of lines, from the first line on.
-use Rattle.std.proofs.Common.{◌≡◌, ℕ, ◌+◌, ◌&&◌, Bool, true, false, cond, List, [], ◌∷◌, ◌++◌, refl, sym, ◌∙◌, ap, arith}
-use Rattle.std.proofs.lemmas.Grind.{common_steps}
-use Rattle.std.specs.Prelude.{bytes_eq, nat_lt}
-use Rattle.std.specs.List.{flat_map}
-use Rattle.std.proofs.lemmas.Bool.Decides.{nat_tests}
-use Rattle.std.proofs.lemmas.List.{append-nil}
-use Rattle.std.proofs.lemmas.List.Concat.{flat_map-append}
-use Rattle.std.proofs.lemmas.Slice.Eq.{bytes_eq-Decides}
-use Rattle.ptlines.specs.Inputs.{Begins}
-use Rattle.ptlines.proofs.TextLaws.{text-append}
-use Rattle.ptlangs.specs.Jobs.{Uniq}
-use Rattle.ptflow.specs.Uniqs.{Run, key, is_same, onto_runs, runs, shown, entries, all_but_last}
-use Rattle.ptflow.specs.Workings.Uniq.OpenRuns.{run_of, open_run, runs_from, runs_behind, run_text}
+use Rattle.ptflow.proofs.Common.{◌≡◌, ℕ, ◌+◌, ◌&&◌, Bool, true, false, cond, List, [], ◌∷◌, ◌++◌, refl, sym, ◌∙◌, ap, arith, common_steps, bytes_eq, nat_lt, flat_map, nat_tests, append-nil}
+use Rattle.ptflow.proofs.Common.{flat_map-append, bytes_eq-Decides, Begins, text-append, Uniq, Run, key, is_same, onto_runs, runs, shown, entries, all_but_last, run_of, open_run, runs_from}
+use Rattle.ptflow.proofs.Common.{runs_behind, run_text}
 
 some_lines : (n : ℕ) → nat_lt 0 (n + 1) ≡ true
 some_lines n = grind (arith, nat_tests)

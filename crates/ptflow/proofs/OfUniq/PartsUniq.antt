@@ -1,16 +1,7 @@
 -- `uniq` of a text that is cut between two runs.
-use Rattle.std.proofs.Common.{◌≡◌, ◌⊎◌, inl, inr, ⊎_elim, ℕ, ◌+◌, Bool, true, false, cond, List, [], ◌∷◌, ◌++◌, refl, sym, ◌∙◌, ap}
-use Rattle.std.specs.Prelude.{◌≢◌, filter}
-use Rattle.std.specs.List.{AllByRecursion}
-use Rattle.std.proofs.lemmas.Bool.{cases_Bool}
-use Rattle.std.proofs.lemmas.Slice.Eq.{bytes_eq-Decides}
-use Rattle.ptlines.specs.Text.{lines, IsLine}
-use Rattle.ptlines.proofs.PartLaws.{the_lines_of_parts}
-use Rattle.ptlines.proofs.TextLaws.{lines-text, the_lines}
-use Rattle.ptlangs.specs.Jobs.{Uniq}
-use Rattle.ptflow.specs.Uniqs.{Run, key, is_same, onto_runs, runs}
-use Rattle.ptflow.specs.Parts.{BeginsWith, EndsWith, AreGrouped, UniqOfParts, UniqByKey}
-use Rattle.ptflow.specs.Workings.Uniq.OpenRuns.{run_of}
+use Rattle.ptflow.proofs.Common.{◌≡◌, ◌⊎◌, inl, inr, ⊎_elim, ℕ, ◌+◌, Bool, true, false, cond, List, [], ◌∷◌, ◌++◌, refl, sym, ◌∙◌, ap, filter, AllByRecursion, cases_Bool, bytes_eq-Decides, lines}
+use Rattle.ptflow.proofs.Common.{IsLine, the_lines_of_parts, lines-text, the_lines, Uniq, Run, key, is_same, onto_runs, runs, BeginsWith, EndsWith, AreGrouped, UniqOfParts, UniqByKey, run_of}
+use Rattle.std.specs.Prelude.{◌≢◌}
 use Rattle.ptflow.proofs.OfUniq.OpenRuns.{entries-append}
 
 module _ (job : Uniq) where

@@ -1,13 +1,7 @@
 -- The key of a line, by one walk.
-use Rattle.std.proofs.Common.{◌≡◌, ℕ, zero, suc, ◌+◌, ◌<◌, ◌≤◌, Bool, true, false, cond, min, ltb, List, [], ◌∷◌, None, Some, length, drop, get_or, refl, sym, ◌∙◌, arith}
-use Rattle.std.proofs.lemmas.Grind.{common_steps}
-use Rattle.std.specs.Prelude.{slice_get, ◌==◌}
-use Rattle.std.specs.Option.{option_map_or}
-use Rattle.std.proofs.lemmas.List.{drop-drop}
-use Rattle.std.proofs.lemmas.Bool.Decides.{nat_tests}
-use Rattle.memchr.specs.Find.{IsFirstByte, Nowhere, Passes, is_byte, is_byte2}
-use Rattle.ptflow.specs.Uniqs.{is_blank, ends_word, word_ends, after_fields}
-use Rattle.ptflow.specs.Workings.Uniq.UniqWords.{after_bytes}
+use Rattle.ptflow.proofs.Common.{◌≡◌, ℕ, zero, suc, ◌+◌, ◌<◌, ◌≤◌, Bool, true, false, cond, min, ltb, List, [], ◌∷◌, None, Some, length, drop, get_or, refl, sym, ◌∙◌, arith, common_steps, slice_get}
+use Rattle.ptflow.proofs.Common.{option_map_or, drop-drop, nat_tests, IsFirstByte, Nowhere, Passes, is_byte, is_byte2, is_blank, ends_word, word_ends, after_fields, after_bytes}
+use Rattle.std.specs.Prelude.{◌==◌}
 
 -- what stands behind so many more word ends of these bytes
 abbrev pub behind : ℕ → List ℕ → List ℕ

@@ -1,17 +1,7 @@
 -- One line more in one input or in both is one entry more of `comm`.
-use Rattle.std.proofs.Common.{◌≡◌, ℕ, suc, ◌-◌, List, [], ◌∷◌, ◌++◌, Bool, length, min, refl, ap, ◌∙◌, arith, append_assoc}
-use Rattle.std.proofs.lemmas.List.{append-nil}
-use Rattle.std.specs.Cmp.Lexicographic.{bytes_decides}
-use Rattle.std.proofs.lemmas.Cmp.{tied_itself}
-use Rattle.ptlangs.specs.Jobs.{Comm}
-use Rattle.ptmerge.specs.declared.order.Side.{Side}
-use Rattle.ptmerge.specs.declared.order.Side.TheVariants.{First, Second}
-use Rattle.ptmerge.specs.Comm.{comm_by, entries, entries_in, tab_unless}
-use Rattle.std.specs.Prelude.{filter}
+use Rattle.ptmerge.proofs.Common.{◌≡◌, ℕ, suc, ◌-◌, List, [], ◌∷◌, ◌++◌, Bool, length, min, refl, ap, ◌∙◌, arith, append_assoc, append-nil, bytes_decides, tied_itself, Comm, Side, First, Second}
+use Rattle.ptmerge.proofs.Common.{comm_by, entries, entries_in, tab_unless, filter, Lines, by_keys, insert_key, with_key, Cmp, Key, both}
 use Rattle.std.specs.List.{flat_map}
-use Rattle.ptmerge.specs.Keyed.{Lines, by_keys, insert_key, with_key}
-use Rattle.ptmerge.specs.Orders.{Cmp, Key}
-use Rattle.ptmerge.specs.Sides.{both}
 use Rattle.ptmerge.proofs.OfMerges.Orders.{IsKeyOrder}
 use Rattle.ptmerge.proofs.OfMerges.Splitting.{all_keys}
 use Rattle.ptmerge.proofs.OfMerges.Turning.{IsLineByLine, alone}

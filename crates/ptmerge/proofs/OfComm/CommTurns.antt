@@ -1,25 +1,7 @@
 -- Where two inputs stand between the turns of a tool, and how a turn ends or cannot be ended.
-use Rattle.std.proofs.Common.{◌≡◌, ◌⊎◌, ⊎_elim, inl, inr, ℕ, ◌+◌, ◌*◌, ◌≤◌, false, List, [], Some, None, Err, length, max, refl, sym, ◌∙◌, ap, arith}
-use Rattle.std.proofs.lemmas.Bool.{false≢true}
-use Rattle.std.proofs.lemmas.List.{length-set}
-use Rattle.ptlines.specs.Outputs.{Output, Wrote}
-use Rattle.ptlines.specs.Readers.{Reader, Reads, IsSound}
-use Rattle.ptlines.specs.Slots.{Slots, line, total, with_line}
-use Rattle.ptlines.specs.Text.{text, IsLine, longest}
-use Rattle.ptmerge.specs.declared.faults.MergeFault.{MergeFault}
-use Rattle.ptmerge.specs.declared.faults.MergeFault.TheVariants.{Read, Write, Memory}
-use Rattle.ptmerge.specs.declared.order.Side.{Side}
-use Rattle.ptmerge.specs.declared.order.Side.TheVariants.{First, Second}
-use Rattle.ptmerge.specs.declared.merging.sorted.Sorted.{Sorted}
-use Rattle.ptmerge.specs.declared.merging.sorted.Stand.TheVariants.{Head}
-use Rattle.ptmerge.specs.Keyed.{Lines, Tool}
-use Rattle.ptmerge.specs.Merges.{State, IsMerge, IsReady}
-use Rattle.ptmerge.specs.LinePasses.{IsUnwritten, PassesLine}
-use Rattle.ptmerge.specs.Orders.{Cmp, Key}
-use Rattle.ptmerge.specs.Places.{CannotRead, Comes, HasSlots}
-use Rattle.ptmerge.specs.Sides.{both, put, other}
-use Rattle.ptmerge.specs.Steps.{IsPlaced}
-use Rattle.ptmerge.specs.Stores.{Adds}
+use Rattle.ptmerge.proofs.Common.{◌≡◌, ◌⊎◌, ⊎_elim, inl, inr, ℕ, ◌+◌, ◌*◌, ◌≤◌, false, List, [], Some, None, Err, length, max, refl, sym, ◌∙◌, ap, arith, false≢true, length-set, Output, Wrote, Reader}
+use Rattle.ptmerge.proofs.Common.{Reads, IsSound, Slots, line, total, with_line, text, IsLine, longest, MergeFault, Read, Write, Memory, Side, First, Second, Sorted, Head, Lines, Tool, State, IsMerge}
+use Rattle.ptmerge.proofs.Common.{IsReady, IsUnwritten, PassesLine, Cmp, Key, CannotRead, Comes, HasSlots, both, put, other, IsPlaced, Adds}
 use Rattle.ptmerge.proofs.OfMerges.Bounds.{Bound}
 use Rattle.ptmerge.proofs.OfMerges.Got.{reads_nothing}
 use Rattle.ptmerge.proofs.OfMerges.Orders.{IsKeyOrder}

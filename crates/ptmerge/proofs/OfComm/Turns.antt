@@ -1,27 +1,9 @@
 -- What is known at each turn of `comm`, and what comes of the turn.
-use Rattle.std.proofs.Common.{◌≡◌, ℕ, ◌<◌, Bool, false, List, [], ◌∷◌, ◌++◌, Result, Ok, Err, length, refl, sym, ◌∙◌, ap, subst, arith}
-use Rattle.std.proofs.lemmas.Bool.{false≢true}
-use Rattle.std.proofs.lemmas.List.{append-nil}
-use Rattle.ptlangs.specs.Jobs.{Comm}
-use Rattle.ptlines.specs.Outputs.{Output, Wrote}
-use Rattle.ptlines.specs.Readers.{Reader, IsSound}
-use Rattle.ptlines.specs.Slots.{Slots, line, total}
-use Rattle.ptlines.specs.Text.{text, longest}
-use Rattle.ptlines.proofs.Pushed.{wrote_nothing}
-use Rattle.ptmerge.specs.declared.faults.MergeFault.{MergeFault}
+use Rattle.ptmerge.proofs.Common.{◌≡◌, ℕ, ◌<◌, Bool, false, List, [], ◌∷◌, ◌++◌, Result, Ok, Err, length, refl, sym, ◌∙◌, ap, subst, arith, false≢true, append-nil, Comm, Output, Wrote, Reader}
+use Rattle.ptmerge.proofs.Common.{IsSound, Slots, line, total, text, longest, wrote_nothing, MergeFault, Side, First, Second, Sorted, Head, Ended, comm_by, entries_in, tab_unless, Lines, Tool}
+use Rattle.ptmerge.proofs.Common.{by_keys, with_key, HasPassed, StandsAt, State, IsMerge, IsReady, IsUnread, Ends, seen, Cmp, Key, both, put, other, AreEqual, CannotStart, IsAlone, IsDecided, IsLent}
+use Rattle.ptmerge.proofs.Common.{IsPlaced, Starts, inputs, Adds, IsCleared}
 use Rattle.ptmerge.specs.declared.faults.MergeFault.TheVariants as faults
-use Rattle.ptmerge.specs.declared.order.Side.{Side}
-use Rattle.ptmerge.specs.declared.order.Side.TheVariants.{First, Second}
-use Rattle.ptmerge.specs.declared.merging.sorted.Sorted.{Sorted}
-use Rattle.ptmerge.specs.declared.merging.sorted.Stand.TheVariants.{Head, Ended}
-use Rattle.ptmerge.specs.Comm.{comm_by, entries_in, tab_unless}
-use Rattle.ptmerge.specs.Keyed.{Lines, Tool, by_keys, with_key}
-use Rattle.ptmerge.specs.LinePasses.{HasPassed, StandsAt}
-use Rattle.ptmerge.specs.Merges.{State, IsMerge, IsReady, IsUnread, Ends, seen}
-use Rattle.ptmerge.specs.Orders.{Cmp, Key}
-use Rattle.ptmerge.specs.Sides.{both, put, other}
-use Rattle.ptmerge.specs.Steps.{AreEqual, CannotStart, IsAlone, IsDecided, IsLent, IsPlaced, Starts, inputs}
-use Rattle.ptmerge.specs.Stores.{Adds, IsCleared}
 use Rattle.ptmerge.proofs.OfComm.CommEntries.{entries_both, entries_none, line_by_line, written_first, written_second, written_both}
 use Rattle.ptmerge.proofs.OfComm.CommTurns.{CannotPass, IsOpened, Placed, Running, adds_of, comes_slots, goes, goes_merging, passes_slots, passing_now, readable_of}
 use Rattle.ptmerge.proofs.OfComm.CommTurns.{runs_on, slots_of, standing, turn_stops, unfailed_of, went}

@@ -1,9 +1,6 @@
 -- What was pushed of some bytes, and what is still to be pushed.
-use Rattle.std.proofs.Common.{◌≡◌, true, false, ℕ, List, [], ◌∷◌, ◌++◌, refl, sym, ◌∙◌, append_assoc}
+use Rattle.ptmerge.proofs.Common.{◌≡◌, true, false, ℕ, List, [], ◌∷◌, ◌++◌, refl, sym, ◌∙◌, append_assoc, append-nil, Output, Wrote, wrote_trans, wrote_past, wrote_nothing}
 use Rattle.std.specs.List.{flat_map}
-use Rattle.std.proofs.lemmas.List.{append-nil}
-use Rattle.ptlines.specs.Outputs.{Output, Wrote}
-use Rattle.ptlines.proofs.Pushed.{wrote_trans, wrote_past, wrote_nothing}
 
 -- of all these bytes those are left
 pub record Amid (was is : Output) (all left : List ℕ) : Type 0 where

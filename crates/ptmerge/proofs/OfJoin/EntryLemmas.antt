@@ -1,18 +1,10 @@
 -- What is written of lines, field by field.
-use Rattle.std.proofs.Common.{◌≡◌, ℕ, zero, suc, ◌+◌, ◌-◌, ◌<◌, ◌≤◌, ◌==◌, Bool, true, false, cond, ◌||◌, ◌&&◌, List, [], ◌∷◌, ◌++◌, Option, None, Some, length, take, drop}
-use Rattle.std.proofs.Common.{get_or, map, append_assoc, refl, sym, ◌∙◌, ap, arith}
-use Rattle.std.specs.Prelude.{filter, remove, unwrap_or}
-use Rattle.std.specs.List.{slice_split, onto_first, join_with_byte}
-use Rattle.std.proofs.lemmas.Bool.{eqb-true}
-use Rattle.std.proofs.Math.Seq.{drop-append_seam}
-use Rattle.std.proofs.lemmas.List.{append-nil, length-append, take_all}
-use Rattle.std.proofs.lemmas.List.Concat.{flat_map-append}
-use Rattle.ptlangs.specs.Jobs.{Join}
+use Rattle.ptmerge.proofs.Common.{◌≡◌, ℕ, zero, suc, ◌+◌, ◌-◌, ◌<◌, ◌≤◌, ◌==◌, Bool, true, false, cond, ◌||◌, ◌&&◌, List, [], ◌∷◌, ◌++◌, Option, None, Some, length, take, drop, get_or, map}
+use Rattle.ptmerge.proofs.Common.{append_assoc, refl, sym, ◌∙◌, ap, arith, filter, remove, unwrap_or, slice_split, onto_first, join_with_byte, eqb-true, drop-append_seam, append-nil, take_all}
+use Rattle.ptmerge.proofs.Common.{flat_map-append, Join, Output, Wrote, between, entry, fields, filled, has_bytes, is_blank, named, nth_field, others, written, IsAsWritten, fields_left, is_tidy, led}
+use Rattle.ptmerge.proofs.Common.{Lines}
+use Rattle.std.proofs.lemmas.List.{length-append}
 use Rattle.ptlangs.specs.declared.outlist.OutField.{OutField}
-use Rattle.ptlines.specs.Outputs.{Output, Wrote}
-use Rattle.ptmerge.specs.Join.{between, entry, fields, filled, has_bytes, is_blank, named, nth_field, others, written}
-use Rattle.ptmerge.specs.JoinFields.{IsAsWritten, fields_left, is_tidy, led}
-use Rattle.ptmerge.specs.Keyed.{Lines}
 use Rattle.ptmerge.proofs.OfJoin.Amid.{Amid, amid_ends, amid_fails, amid_more, first_fails}
 
 -- with a separator in front, a line is its fields with a separator in front of each

@@ -1,20 +1,10 @@
 -- The fields of a line, one after another, and where they stand in it.
-use Rattle.std.proofs.Common.{◌≡◌, ℕ, suc, ◌+◌, ◌-◌, ◌≤◌, Bool, true, false, ltb, List, [], ◌∷◌, Option, None, Some, length, drop, get_or, refl, sym, ◌∙◌, ap, arith, zero}
-use Rattle.std.proofs.Common.{◌<◌, ◌==◌, cond, ◌++◌, take, append_assoc}
-use Rattle.std.specs.Prelude.{position, IfSome, MatchOption, filter, is_some}
-use Rattle.std.specs.List.{position_or_len, slice_split}
-use Rattle.std.proofs.lemmas.Bool.Decides.{nat_tests}
-use Rattle.std.proofs.lemmas.List.{drop-drop, drop_all, get_or_past, length-drop, take-append-drop, take_all}
-use Rattle.std.proofs.lemmas.List.Sums.{position_or_len_is}
-use Rattle.memchr.specs.Find.{IsFirstByte}
-use Rattle.ptmerge.specs.Join.{nth_field, has_bytes, is_blank}
-use Rattle.ptmerge.specs.Keyed.{Lines}
-use Rattle.std.proofs.Math.Seq.{drop-cons}
-use Rattle.std.proofs.lemmas.Bool.{false≢true}
+use Rattle.ptmerge.proofs.Common.{◌≡◌, ℕ, suc, ◌+◌, ◌-◌, ◌≤◌, Bool, true, false, ltb, List, [], ◌∷◌, Option, None, Some, length, drop, get_or, refl, sym, ◌∙◌, ap, arith, zero, ◌<◌, ◌==◌, cond, ◌++◌}
+use Rattle.ptmerge.proofs.Common.{take, append_assoc, position, IfSome, MatchOption, filter, is_some, position_or_len, slice_split, nat_tests, drop-drop, drop_all, get_or_past, take-append-drop}
+use Rattle.ptmerge.proofs.Common.{take_all, position_or_len_is, IsFirstByte, nth_field, has_bytes, is_blank, Lines, drop-cons, false≢true, split_around, split_whole, EndsFirst, IsFieldIn, IsPiece}
+use Rattle.ptmerge.proofs.Common.{ends_field, fields_left, IsSpan}
+use Rattle.std.proofs.lemmas.List.{length-drop}
 use Rattle.std.proofs.lemmas.List.Quantifiers.{position-Some}
-use Rattle.ptlangs.proofs.Elements.{split_around, split_whole}
-use Rattle.ptmerge.specs.JoinFields.{EndsFirst, IsFieldIn, IsPiece, ends_field, fields_left}
-use Rattle.ptmerge.specs.Spans.{IsSpan}
 
 -- ---- where a field ends
 

@@ -1,26 +1,7 @@
 -- What each turn of `join` does in which a line of a group is gathered, and each way out of it.
-use Rattle.std.proofs.Common.{◌≡◌, ⊎_elim, inl, inr, ℕ, ◌+◌, ◌≤◌, ◌<◌, false, true, List, [], ◌∷◌, ◌++◌, Err, length, refl, sym, ◌∙◌, subst, arith, append_assoc}
-use Rattle.std.proofs.lemmas.Bool.{false≢true}
-use Rattle.std.proofs.lemmas.List.{append-nil, length_push, nil_from_length}
-use Rattle.ptlines.specs.Outputs.{Output, Wrote}
-use Rattle.ptlines.specs.Readers.{Reader}
-use Rattle.ptlines.specs.Slots.{Slots, line}
-use Rattle.ptlines.specs.Text.{text}
-use Rattle.ptlines.proofs.Pushed.{wrote_nothing}
-use Rattle.ptmerge.specs.declared.faults.MergeFault.{MergeFault}
-use Rattle.ptmerge.specs.declared.faults.MergeFault.TheVariants.{Write}
-use Rattle.ptmerge.specs.declared.order.Side.{Side}
-use Rattle.ptmerge.specs.declared.order.Side.TheVariants.{First, Second}
-use Rattle.ptmerge.specs.declared.merging.sorted.Sorted.{Sorted}
-use Rattle.ptmerge.specs.declared.merging.sorted.Stand.TheVariants.{Head}
-use Rattle.ptmerge.specs.Groups.{Gathered, IsKept, NotGathered}
-use Rattle.ptmerge.specs.Join.{most_lines}
-use Rattle.ptmerge.specs.Keyed.{Lines}
-use Rattle.ptmerge.specs.Merges.{State, IsMerge}
-use Rattle.ptmerge.specs.Orders.{Cmp, Key}
-use Rattle.ptmerge.specs.Places.{Comes}
-use Rattle.ptmerge.specs.Sides.{both, put}
-use Rattle.ptmerge.specs.Steps.{AreEqual}
+use Rattle.ptmerge.proofs.Common.{◌≡◌, ⊎_elim, inl, inr, ℕ, ◌+◌, ◌≤◌, ◌<◌, false, true, List, [], ◌∷◌, ◌++◌, Err, length, refl, sym, ◌∙◌, subst, arith, append_assoc, false≢true, append-nil}
+use Rattle.ptmerge.proofs.Common.{length_push, nil_from_length, Output, Wrote, Reader, Slots, line, text, wrote_nothing, MergeFault, Write, Side, First, Second, Sorted, Head, Gathered, IsKept}
+use Rattle.ptmerge.proofs.Common.{NotGathered, most_lines, Lines, State, IsMerge, Cmp, Key, Comes, both, put, AreEqual}
 use Rattle.ptmerge.proofs.OfMerges.Bounds.{Bound, From}
 use Rattle.ptmerge.proofs.OfComm.CommTurns.{breaks_slots, comes_slots}
 use Rattle.ptmerge.proofs.OfJoin.GroupStops.{halts}

@@ -1,27 +1,11 @@
 -- What the store of `join` holds: two lines of each input, and behind them the slots of the group.
-use Rattle.std.proofs.Common.{◌≡◌, ◌⊎◌, ⊎_elim, inl, inr, ℕ, ◌+◌, ◌-◌, ◌≤◌, ◌<◌, true, false, length-drop, List, [], ◌∷◌, ◌++◌, length, map, take, drop, get_or, set}
-use Rattle.std.proofs.Common.{max, refl, sym, ap, ◌∙◌, subst, arith, ◌*◌, cond, Option, append_assoc, length-append}
-use Rattle.std.proofs.lemmas.List.{append-nil, length-set, length-take-le, drop_more, get_or-take, get_or-drop, drop-set-add, take_more, length_push, drop_all}
-use Rattle.std.proofs.lemmas.List.{drop-append-le, drop-set-lt, set_at, take_at}
-use Rattle.std.specs.Prelude.{bytes_eq}
-use Rattle.std.proofs.lemmas.List.Sums.{sum_by_push, sum_by-append, sum_by-cons}
-use Rattle.ptlines.specs.Slots.{Slots, line, total, with_line, with_added, with_denied}
-use Rattle.ptlines.specs.Text.{text, longest}
-use Rattle.ptlines.proofs.Counted.{total_set}
-use Rattle.ptlangs.specs.Jobs.{Join}
-use Rattle.ptmerge.specs.Groups.{IsGroupCleared, IsGrown, IsRefused, group, IsKept}
-use Rattle.ptmerge.specs.Join.{entry, fields, pairs_of, greatest_of, largest_group, most_lines}
-use Rattle.ptmerge.specs.Keyed.{Lines, with_key}
+use Rattle.ptmerge.proofs.Common.{◌≡◌, ◌⊎◌, ⊎_elim, inl, inr, ℕ, ◌+◌, ◌-◌, ◌≤◌, ◌<◌, true, false, length-drop, List, [], ◌∷◌, ◌++◌, length, map, take, drop, get_or, set, max, refl, sym, ap, ◌∙◌}
+use Rattle.ptmerge.proofs.Common.{subst, arith, ◌*◌, cond, Option, append_assoc, length-append, append-nil, length-set, length-take-le, drop_more, get_or-take, get_or-drop, drop-set-add, take_more}
+use Rattle.ptmerge.proofs.Common.{length_push, drop_all, drop-append-le, drop-set-lt, set_at, take_at, bytes_eq, sum_by_push, sum_by-append, sum_by-cons, Slots, line, total, with_line, with_added}
+use Rattle.ptmerge.proofs.Common.{with_denied, text, longest, total_set, Join, IsGroupCleared, IsGrown, IsRefused, group, IsKept, entry, fields, pairs_of, greatest_of, largest_group, most_lines}
+use Rattle.ptmerge.proofs.Common.{Lines, with_key, bytes_decides, Reader, Side, First, Second, Sorted, Cmp, Key, HasSlots, put}
 use Rattle.ptmerge.proofs.OfMerges.Slotted.{line_other, HasLines, Keeps, has_lines_total, line_added, set_line}
-use Rattle.std.specs.Cmp.Lexicographic.{bytes_decides}
 use Rattle.std.proofs.Math.ListN.{get_or-append}
-use Rattle.ptlines.specs.Readers.{Reader}
-use Rattle.ptmerge.specs.declared.order.Side.{Side}
-use Rattle.ptmerge.specs.declared.order.Side.TheVariants.{First, Second}
-use Rattle.ptmerge.specs.declared.merging.sorted.Sorted.{Sorted}
-use Rattle.ptmerge.specs.Orders.{Cmp, Key}
-use Rattle.ptmerge.specs.Places.{HasSlots}
-use Rattle.ptmerge.specs.Sides.{put}
 use Rattle.ptmerge.proofs.OfMerges.Least.{EachKey}
 use Rattle.ptmerge.proofs.OfMerges.Pairs.{put_each, put_same}
 use Rattle.ptmerge.proofs.OfMerges.Standing.{Next}

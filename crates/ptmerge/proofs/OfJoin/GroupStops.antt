@@ -1,29 +1,9 @@
 -- A tool over two inputs that stops within a group of lines with one key: the keys below the group's are passed, and a
 -- beginning of the group's entries was pushed.
-use Rattle.std.proofs.Common.{◌≡◌, ℕ, ◌≤◌, ◌||◌, Bool, true, false, cond, List, [], ◌++◌, Some, None, Err, length, map, max, refl, sym, ◌∙◌, ap, subst, append_assoc}
-use Rattle.std.specs.Prelude.{is_some}
-use Rattle.std.specs.List.{last_or}
-use Rattle.std.specs.Ordering.{is_lt}
-use Rattle.std.proofs.lemmas.List.{append-nil}
-use Rattle.ptlines.specs.Inputs.{Given, Begins, whole_lines}
-use Rattle.ptlines.specs.KeepingUp.{Before, KeepsUp}
-use Rattle.ptlines.specs.Outputs.{Output, Wrote}
-use Rattle.ptlines.specs.Readers.{Reader}
-use Rattle.ptlines.specs.Slots.{Slots}
-use Rattle.ptlines.specs.Text.{text, lines, IsLine, longest}
-use Rattle.ptlines.proofs.Coming.{given_of, came_of}
-use Rattle.ptlines.proofs.Filling.{reads_trans}
-use Rattle.ptlines.proofs.Pushed.{wrote_trans}
-use Rattle.ptlines.proofs.Sending.{keeps_more}
-use Rattle.ptlines.proofs.TextLaws.{text-append}
-use Rattle.ptmerge.specs.declared.faults.MergeFault.{MergeFault}
-use Rattle.ptmerge.specs.declared.order.Side.{Side}
-use Rattle.ptmerge.specs.declared.order.Side.TheVariants.{First, Second}
-use Rattle.ptmerge.specs.Keyed.{Lines, Tool, by_keys, decided, decided_entries, disorder, fall, is_below, is_decided, is_past, lines_of, merged_entries, ordered}
-use Rattle.ptmerge.specs.Keyed.{ordered_part, settled, up_to}
-use Rattle.ptmerge.specs.Merges.{State, Agree, Ends, IsMerge, IsWhole}
-use Rattle.ptmerge.specs.Orders.{Cmp, Key}
-use Rattle.ptmerge.specs.Sides.{other, put}
+use Rattle.ptmerge.proofs.Common.{◌≡◌, ℕ, ◌≤◌, ◌||◌, Bool, true, false, cond, List, [], ◌++◌, Some, None, Err, length, map, max, refl, sym, ◌∙◌, ap, subst, append_assoc, is_some, last_or, is_lt}
+use Rattle.ptmerge.proofs.Common.{append-nil, Given, Begins, whole_lines, Before, KeepsUp, Output, Wrote, Reader, Slots, text, lines, IsLine, longest, given_of, came_of, reads_trans, wrote_trans}
+use Rattle.ptmerge.proofs.Common.{keeps_more, text-append, MergeFault, Side, First, Second, Lines, Tool, by_keys, decided, decided_entries, disorder, fall, is_below, is_decided, is_past, lines_of}
+use Rattle.ptmerge.proofs.Common.{merged_entries, ordered, ordered_part, settled, up_to, State, Agree, Ends, IsMerge, IsWhole, Cmp, Key, other, put}
 use Rattle.ptmerge.proofs.OfMerges.Backing.{Back, back}
 use Rattle.ptmerge.proofs.OfMerges.Bounds.{Bound, Free, From, Fallen, Over, Coming, FallFrom, Falling, Under}
 use Rattle.ptmerge.proofs.OfMerges.Got.{More, got_known, got_lines}

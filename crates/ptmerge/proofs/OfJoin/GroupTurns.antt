@@ -1,34 +1,8 @@
 -- A group of lines of one key: its lines are gathered, paired and closed.
-use Rattle.std.proofs.Common.{◌≡◌, ◌⊎◌, ⊎_elim, inl, inr, ℕ, ◌+◌, ◌*◌, ◌≤◌, ◌<◌, ◌&&◌, Bool, true, false, cond, List, [], ◌∷◌, ◌++◌, Option, Some, None, Err, length, map}
-use Rattle.std.proofs.Common.{max, refl, sym, ◌∙◌, ap, subst, arith, append_assoc}
-use Rattle.std.specs.List.{last_or}
-use Rattle.std.specs.Prelude.{bytes_eq}
-use Rattle.std.specs.Cmp.Lexicographic.{bytes_decides}
-use Rattle.std.specs.Ordering.{is_gt}
-use Rattle.std.proofs.lemmas.Bool.{false≢true}
-use Rattle.std.proofs.lemmas.List.{append-nil}
-use Rattle.ptlines.specs.Outputs.{Output, Wrote}
-use Rattle.ptlines.specs.Readers.{Reader, Reads, IsSound}
-use Rattle.ptlines.specs.Slots.{Slots, line, total, with_line}
-use Rattle.ptlines.specs.Text.{text, IsLine, longest}
-use Rattle.ptlines.proofs.Pushed.{wrote_trans}
-use Rattle.ptlines.proofs.TextLaws.{text-append}
-use Rattle.ptmerge.specs.declared.faults.MergeFault.{MergeFault}
-use Rattle.ptmerge.specs.declared.faults.MergeFault.TheVariants.{Read, Write, Memory}
-use Rattle.ptmerge.specs.declared.order.Side.{Side}
-use Rattle.ptmerge.specs.declared.order.Side.TheVariants.{First, Second}
-use Rattle.ptmerge.specs.declared.merging.sorted.Sorted.{Sorted}
-use Rattle.ptmerge.specs.declared.merging.sorted.Stand.{Stand}
-use Rattle.ptmerge.specs.declared.merging.sorted.Stand.TheVariants.{Head, Ended, Disorder}
-use Rattle.ptmerge.specs.Groups.{is_head}
-use Rattle.ptmerge.specs.Join.{largest_group, most_lines}
-use Rattle.ptmerge.specs.Keyed.{Lines, Tool, by_keys, entries_of, fall, with_key}
-use Rattle.ptmerge.specs.LinePasses.{IsUnwritten}
-use Rattle.ptmerge.specs.Merges.{State, IsMerge}
-use Rattle.ptmerge.specs.Orders.{Cmp, Key}
-use Rattle.ptmerge.specs.Places.{CannotRead, Comes, HasSlots}
-use Rattle.ptmerge.specs.Sides.{put, other}
-use Rattle.ptmerge.specs.Steps.{GoesBefore}
+use Rattle.ptmerge.proofs.Common.{◌≡◌, ◌⊎◌, ⊎_elim, inl, inr, ℕ, ◌+◌, ◌*◌, ◌≤◌, ◌<◌, ◌&&◌, Bool, true, false, cond, List, [], ◌∷◌, ◌++◌, Option, Some, None, Err, length, map, max, refl, sym, ◌∙◌, ap}
+use Rattle.ptmerge.proofs.Common.{subst, arith, append_assoc, last_or, bytes_eq, bytes_decides, is_gt, false≢true, append-nil, Output, Wrote, Reader, Reads, IsSound, Slots, line, total, with_line}
+use Rattle.ptmerge.proofs.Common.{text, IsLine, longest, wrote_trans, text-append, MergeFault, Read, Write, Memory, Side, First, Second, Sorted, Stand, Head, Ended, Disorder, is_head, largest_group}
+use Rattle.ptmerge.proofs.Common.{most_lines, Lines, Tool, by_keys, entries_of, fall, with_key, IsUnwritten, State, IsMerge, Cmp, Key, CannotRead, Comes, HasSlots, put, other, GoesBefore}
 use Rattle.ptmerge.proofs.OfMerges.Bounds.{Bound, From, Coming, Under}
 use Rattle.ptmerge.proofs.OfJoin.GroupStops.{EachComes, FailsIn, Fits, StartsWith, Within, halts, own_keys, under_down}
 use Rattle.ptmerge.proofs.OfJoin.GroupSlots.{AllSlots, Keeping, keeping_line, keeping_next, low_slot, put_more}

@@ -1,13 +1,9 @@
 -- Which of some lanes are blanks, and which make words untidy.
-use Rattle.std.proofs.Common.{◌≡◌, ⊎_elim, ℕ, zero, suc, ◌+◌, ◌-◌, ◌%◌, ◌^◌, ◌<◌, ◌≤◌, ◌==◌, ◌||◌, ◌&&◌, eqb, not, Bool, true, false, cond, List, [], ◌∷◌, length, map}
-use Rattle.std.proofs.Common.{replicate, get_or, bit_and, bit_or, refl, sym, ◌∙◌, ap, subst, arith}
-use Rattle.std.proofs.lemmas.Bool.{eqb-true, false≢true, or_cases, or_left, or_parts, or_right}
-use Rattle.std.proofs.lemmas.List.{get_or_past, length-map}
+use Rattle.ptmerge.proofs.Common.{◌≡◌, ⊎_elim, ℕ, zero, suc, ◌+◌, ◌-◌, ◌%◌, ◌^◌, ◌<◌, ◌≤◌, ◌==◌, ◌||◌, ◌&&◌, eqb, not, Bool, true, false, cond, List, [], ◌∷◌, length, map, replicate, get_or, bit_and}
+use Rattle.ptmerge.proofs.Common.{bit_or, refl, sym, ◌∙◌, ap, subst, arith, eqb-true, false≢true, or_cases, or_left, or_parts, or_right, get_or_past, length-map, Nowhere, is_blank, IsEven, UnevenAt}
+use Rattle.ptmerge.proofs.Common.{is_tidy, is_uneven}
 use Rattle.std.proofs.lemmas.Simd.{get_or-chunk, get_or-zip2, length-chunk, length-zip2, mask_l-mod}
 use Rattle.std.specs.Simd.Lanes.{chunk, mask_l, top, zip2}
-use Rattle.memchr.specs.Find.{Nowhere}
-use Rattle.ptmerge.specs.Join.{is_blank}
-use Rattle.ptmerge.specs.JoinFields.{IsEven, UnevenAt, is_tidy, is_uneven}
 
 -- the lanes that are a byte
 abbrev same : List ℕ → ℕ → ℕ → List ℕ

@@ -1,23 +1,8 @@
 -- What each turn of `join` does between two groups, and while a line is paired with its group, and each way out of it.
-use Rattle.std.proofs.Common.{◌≡◌, inl, inr, ℕ, false, List, [], Some, None, Result, Ok, Err, refl, sym, ◌∙◌, subst, arith, ◌⊎◌, ⊎_elim, ◌+◌, ◌-◌, ◌==◌, ◌≤◌, ◌<◌, true, ◌∷◌}
-use Rattle.std.proofs.Common.{◌++◌, length, ap}
-use Rattle.ptlines.specs.Outputs.{Output, Wrote}
-use Rattle.ptlines.specs.Readers.{Reader, Reads, IsSound}
-use Rattle.ptlines.specs.Slots.{Slots, line, total}
-use Rattle.ptlines.specs.Text.{text, IsLine, longest}
-use Rattle.ptlines.proofs.Pushed.{wrote_nothing, wrote_trans}
-use Rattle.ptmerge.specs.declared.faults.MergeFault.{MergeFault}
-use Rattle.ptmerge.specs.declared.faults.MergeFault.TheVariants.{Write}
-use Rattle.ptmerge.specs.declared.order.Side.{Side}
-use Rattle.ptmerge.specs.declared.order.Side.TheVariants.{Second, First}
-use Rattle.ptmerge.specs.declared.merging.sorted.Sorted.{Sorted}
-use Rattle.ptmerge.specs.declared.merging.sorted.Stand.TheVariants.{Ended, Head}
-use Rattle.ptmerge.specs.Keyed.{Lines, by_keys}
-use Rattle.ptmerge.specs.Merges.{State, Ends, IsMerge}
-use Rattle.ptmerge.specs.Places.{Comes}
-use Rattle.ptmerge.specs.Sides.{put, other}
-use Rattle.ptmerge.specs.Steps.{IsAlone, IsDecided}
-use Rattle.ptmerge.specs.Stores.{IsCleared}
+use Rattle.ptmerge.proofs.Common.{◌≡◌, inl, inr, ℕ, false, List, [], Some, None, Result, Ok, Err, refl, sym, ◌∙◌, subst, arith, ◌⊎◌, ⊎_elim, ◌+◌, ◌-◌, ◌==◌, ◌≤◌, ◌<◌, true, ◌∷◌, ◌++◌, length, ap}
+use Rattle.ptmerge.proofs.Common.{Output, Wrote, Reader, Reads, IsSound, Slots, line, total, text, IsLine, longest, wrote_nothing, wrote_trans, MergeFault, Write, Side, Second, First, Sorted, Ended}
+use Rattle.ptmerge.proofs.Common.{Head, Lines, by_keys, State, Ends, IsMerge, Comes, put, other, IsAlone, IsDecided, IsCleared, nat_tests, length_push, text-append, IsGroupCleared, end_slot}
+use Rattle.ptmerge.proofs.Common.{first_slot, group}
 use Rattle.ptmerge.proofs.OfMerges.Bounds.{Bound}
 use Rattle.ptmerge.proofs.OfComm.CommTurns.{same_state, Running}
 use Rattle.ptmerge.proofs.OfMerges.Got.{reads_nothing}
@@ -31,10 +16,6 @@ use Rattle.ptmerge.proofs.OfMerges.Splitting.{all_keys}
 use Rattle.ptmerge.proofs.OfMerges.Standing.{Passed}
 use Rattle.ptmerge.proofs.OfMerges.Stopping.{Concludes, gone_passed, gone_standing, stops}
 use Rattle.ptmerge.proofs.OfMerges.Turning.{BothStand, ahead, all_ended, alone, breaks, merging_on, next_at, pass_one, passed_at, sides_on, stops_at, IsAbove}
-use Rattle.std.proofs.lemmas.Bool.Decides.{nat_tests}
-use Rattle.std.proofs.lemmas.List.{length_push}
-use Rattle.ptlines.proofs.TextLaws.{text-append}
-use Rattle.ptmerge.specs.Groups.{IsGroupCleared, end_slot, first_slot, group}
 use Rattle.ptmerge.proofs.OfJoin.GroupStops.{StartsWith, halts}
 use Rattle.ptmerge.proofs.OfMerges.Least.{EachKey, EachKey-at}
 use Rattle.ptmerge.specs.declared.faults.MergeFault.TheVariants as faults

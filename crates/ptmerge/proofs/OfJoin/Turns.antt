@@ -1,34 +1,14 @@
 -- What is known at each turn of `join`, and what comes of the turn.
-use Rattle.std.proofs.Common.{◌≡◌, ℕ, Bool, true, false, cond, List, [], ◌∷◌, ◌++◌, map, refl, ap, sym, ◌∙◌, inl, inr, ◌+◌, ◌*◌, ◌≤◌, ◌<◌, None, Result, Ok, Err, length}
-use Rattle.std.proofs.Common.{subst, arith}
+use Rattle.ptmerge.proofs.Common.{◌≡◌, ℕ, Bool, true, false, cond, List, [], ◌∷◌, ◌++◌, map, refl, ap, sym, ◌∙◌, inl, inr, ◌+◌, ◌*◌, ◌≤◌, ◌<◌, None, Result, Ok, Err, length, subst, arith, append-nil}
+use Rattle.ptmerge.proofs.Common.{flat_map-append, bytes_decides, Join, Side, First, Second, alone1, alone2, alone_entry, entry, fields, join_by, join_entries, join_key, pairs_of, Lines, by_keys, Cmp}
+use Rattle.ptmerge.proofs.Common.{Key, Output, Wrote, Reader, IsSound, Slots, line, total, text, MergeFault, Sorted, Head, Ended, AddsLeast, Gathered, Gathers, IsGroup, IsGroupCleared, end_slot}
+use Rattle.ptmerge.proofs.Common.{first_slot, group, CanGoOn, HasPassed, StandsAt, State, IsMerge, IsReady, IsUnread, seen, HasSlots, both, put, AreEqual, CannotStart, IsAlone, IsDecided, IsLent}
+use Rattle.ptmerge.proofs.Common.{IsPlaced, Starts, inputs, IsCleared}
 use Rattle.std.specs.List.{flat_map}
-use Rattle.std.proofs.lemmas.List.{append-nil}
-use Rattle.std.proofs.lemmas.List.Concat.{flat_map-append}
-use Rattle.std.specs.Cmp.Lexicographic.{bytes_decides}
-use Rattle.ptlangs.specs.Jobs.{Join}
-use Rattle.ptmerge.specs.declared.order.Side.{Side}
-use Rattle.ptmerge.specs.declared.order.Side.TheVariants.{First, Second}
-use Rattle.ptmerge.specs.Join.{alone1, alone2, alone_entry, entry, fields, join_by, join_entries, join_key, pairs_of}
-use Rattle.ptmerge.specs.Keyed.{Lines, by_keys}
-use Rattle.ptmerge.specs.Orders.{Cmp, Key}
 use Rattle.ptmerge.proofs.OfJoin.GroupTurns.{IsPairing, head_of, Call, NotPassed, moved}
 use Rattle.ptmerge.proofs.OfMerges.Splitting.{all_keys}
 use Rattle.ptmerge.proofs.OfMerges.Turning.{IsLineByLine, alone}
-use Rattle.ptlines.specs.Outputs.{Output, Wrote}
-use Rattle.ptlines.specs.Readers.{Reader, IsSound}
-use Rattle.ptlines.specs.Slots.{Slots, line, total}
-use Rattle.ptlines.specs.Text.{text}
-use Rattle.ptmerge.specs.declared.faults.MergeFault.{MergeFault}
 use Rattle.ptmerge.specs.declared.tools.join.Phase.{Phase}
-use Rattle.ptmerge.specs.declared.merging.sorted.Sorted.{Sorted}
-use Rattle.ptmerge.specs.declared.merging.sorted.Stand.TheVariants.{Head, Ended}
-use Rattle.ptmerge.specs.Groups.{AddsLeast, Gathered, Gathers, IsGroup, IsGroupCleared, end_slot, first_slot, group}
-use Rattle.ptmerge.specs.LinePasses.{CanGoOn, HasPassed, StandsAt}
-use Rattle.ptmerge.specs.Merges.{State, IsMerge, IsReady, IsUnread, seen}
-use Rattle.ptmerge.specs.Places.{HasSlots}
-use Rattle.ptmerge.specs.Sides.{both, put}
-use Rattle.ptmerge.specs.Steps.{AreEqual, CannotStart, IsAlone, IsDecided, IsLent, IsPlaced, Starts, inputs}
-use Rattle.ptmerge.specs.Stores.{IsCleared}
 use Rattle.ptmerge.proofs.OfComm.CommTurns.{comes_slots, passes_slots, readable_of, same_state, slots_of, unfailed_of, wrote_as}
 use Rattle.ptmerge.proofs.OfJoin.GatherTurns.{Gathering, gather_slots}
 use Rattle.ptmerge.proofs.OfJoin.GroupSlots.{end_within, pair_of}

@@ -1,16 +1,7 @@
 -- What had come of an input two blocks earlier: only lines that are passed.
-use Rattle.std.proofs.Common.{◌≡◌, ◌⊎◌, ⊎_elim, inl, inr, ℕ, ◌+◌, ◌≤◌, false, List, [], ◌∷◌, ◌++◌, Option, Some, None, length, map, refl, sym}
-use Rattle.std.proofs.Common.{◌∙◌, ap, arith, append_assoc, length-append}
-use Rattle.std.specs.List.{last_or}
-use Rattle.std.proofs.lemmas.List.{append-nil, append_cancel_right}
-use Rattle.ptlines.specs.Inputs.{Given, whole_lines}
-use Rattle.ptlines.specs.KeepingUp.{Before}
-use Rattle.ptlines.specs.Readers.{Reader}
-use Rattle.ptlines.specs.Text.{text, ended_lines, IsLine, AreLines}
-use Rattle.ptlines.proofs.Coming.{given_of}
-use Rattle.ptlines.proofs.TextLaws.{ended_of_text, text_push, the_lines}
-use Rattle.ptmerge.specs.Keyed.{Lines, fall, is_below, ordered_part}
-use Rattle.ptmerge.specs.Orders.{Cmp, Key}
+use Rattle.ptmerge.proofs.Common.{◌≡◌, ◌⊎◌, ⊎_elim, inl, inr, ℕ, ◌+◌, ◌≤◌, false, List, [], ◌∷◌, ◌++◌, Option, Some, None, length, map, refl, sym, ◌∙◌, ap, arith, append_assoc, length-append, last_or}
+use Rattle.ptmerge.proofs.Common.{append-nil, append_cancel_right, Given, whole_lines, Before, Reader, text, ended_lines, IsLine, AreLines, given_of, ended_of_text, text_push, the_lines, Lines, fall}
+use Rattle.ptmerge.proofs.Common.{is_below, ordered_part, Cmp, Key}
 use Rattle.ptmerge.proofs.OfMerges.Bounds.{fall_after, fall_is, falls, ordered_after, ordered_is}
 use Rattle.ptmerge.proofs.OfMerges.Got.{Far}
 use Rattle.ptmerge.proofs.OfMerges.Least.{EachKey, EachKey-all, EachKey-weaker}

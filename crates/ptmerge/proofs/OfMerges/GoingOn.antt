@@ -1,15 +1,5 @@
 -- What holds of both inputs of a merge once one of them went on.
-use Rattle.std.proofs.Common.{◌≡◌, ℕ, ◌+◌, ◌<◌, Result, Err, sym, ◌∙◌, ap, arith}
-use Rattle.ptlines.specs.Readers.{Reader, budget}
-use Rattle.ptlines.specs.Slots.{Slots}
-use Rattle.ptmerge.specs.declared.order.Side.{Side}
-use Rattle.ptmerge.specs.declared.order.Side.TheVariants.{First, Second}
-use Rattle.ptmerge.specs.declared.merging.sorted.Sorted.{Sorted}
-use Rattle.ptmerge.specs.declared.merging.sorted.Stand.TheVariants.{Head}
-use Rattle.ptmerge.specs.Orders.{Cmp, Key}
-use Rattle.ptmerge.specs.Places.{Comes}
-use Rattle.ptmerge.specs.Sides.{both, put, other}
-use Rattle.ptmerge.specs.Steps.{IsLent}
+use Rattle.ptmerge.proofs.Common.{◌≡◌, ℕ, ◌+◌, ◌<◌, Result, Err, sym, ◌∙◌, ap, arith, Reader, budget, Slots, Side, First, Second, Sorted, Head, Cmp, Key, Comes, both, put, other, IsLent}
 use Rattle.ptmerge.proofs.OfMerges.Standing.{alive, comes_less}
 
 -- a fault that is handed on

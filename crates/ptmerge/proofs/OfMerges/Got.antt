@@ -1,16 +1,8 @@
 -- The lines that came of a reader, and the inputs that agree with that.
-use Rattle.std.proofs.Common.{◌≡◌, ◌⊎◌, ⊎_elim, inl, inr, ℕ, ◌+◌, ◌<◌, ◌≤◌, Bool, true, false, List, [], ◌∷◌, ◌++◌, None, length, max, refl, sym, ◌∙◌, ap, arith, append_assoc, length-append}
-use Rattle.std.proofs.lemmas.List.{append-nil, nil_from_length}
-use Rattle.std.proofs.lemmas.Bool.{false≢true}
-use Rattle.ptlines.specs.Fills.{GivesLine}
-use Rattle.ptlines.specs.Inputs.{Given, Agrees, whole_lines}
-use Rattle.ptlines.specs.Readers.{Reader, Reads, Goes, IsDone, unread}
-use Rattle.ptlines.specs.Slots.{Slots}
-use Rattle.ptlines.specs.Text.{text, lines, ended_lines, IsLine, AreLines, longest}
-use Rattle.ptlines.proofs.Coming.{given_of}
-use Rattle.ptlines.proofs.Filling.{goes_trans}
+use Rattle.ptmerge.proofs.Common.{◌≡◌, ◌⊎◌, ⊎_elim, inl, inr, ℕ, ◌+◌, ◌<◌, ◌≤◌, Bool, true, false, List, [], ◌∷◌, ◌++◌, None, length, max, refl, sym, ◌∙◌, ap, arith, append_assoc, length-append}
+use Rattle.ptmerge.proofs.Common.{append-nil, nil_from_length, false≢true, GivesLine, Given, Agrees, whole_lines, Reader, Reads, Goes, IsDone, unread, Slots, text, lines, ended_lines, IsLine}
+use Rattle.ptmerge.proofs.Common.{AreLines, longest, given_of, goes_trans, lines_of_text, lines_last, text_push, AreLines_push, ended_none}
 use Rattle.ptlines.proofs.Known.{prepend_known-nil}
-use Rattle.ptlines.proofs.TextLaws.{lines_of_text, lines_last, text_push, AreLines_push, ended_none}
 use Rattle.ptmerge.proofs.OfMerges.LineLaws.{ended_more, longest-append, piece_longest}
 
 -- these are the lines of what came: all whole so far, or the last one at the end of the source

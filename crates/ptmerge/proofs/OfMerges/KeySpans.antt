@@ -1,20 +1,6 @@
 -- Where the keys of lines stand in them.
-use Rattle.std.proofs.Common.{◌≡◌, ◌⊎◌, inl, inr, ℕ, ◌+◌, ◌≤◌, ◌<◌, ◌&&◌, true, cond, List, [], length, sym, ◌∙◌, arith}
-use Rattle.std.specs.Prelude.{nat_lt}
-use Rattle.std.specs.declared.cmp.Ordering.{Ordering}
-use Rattle.std.specs.Ordering.{is_eq, is_gt}
-use Rattle.std.proofs.lemmas.Bool.Decides.{nat_tests}
-use Rattle.std.proofs.lemmas.List.{length-set, length_push}
-use Rattle.ptlines.specs.Slots.{Slots, line, with_added}
-use Rattle.ptmerge.specs.declared.order.Side.{Side}
-use Rattle.ptmerge.specs.declared.order.Side.TheVariants.{First, Second}
-use Rattle.ptmerge.specs.declared.merging.sorted.Sorted.{Sorted}
-use Rattle.ptmerge.specs.Groups.{IsKept}
-use Rattle.ptmerge.specs.Orders.{Cmp, Key}
-use Rattle.ptmerge.specs.declared.merging.sorted.Stand.TheVariants.{Head, Disorder}
-use Rattle.ptmerge.specs.Places.{same_at, stand_at}
-use Rattle.ptmerge.specs.Spans.{IsNoted}
-use Rattle.ptmerge.specs.Steps.{IsPlaced}
+use Rattle.ptmerge.proofs.Common.{◌≡◌, ◌⊎◌, inl, inr, ℕ, ◌+◌, ◌≤◌, ◌<◌, ◌&&◌, true, cond, List, [], length, sym, ◌∙◌, arith, nat_lt, Ordering, is_eq, is_gt, nat_tests, length-set, length_push, Slots}
+use Rattle.ptmerge.proofs.Common.{line, with_added, Side, First, Second, Sorted, IsKept, Cmp, Key, Head, Disorder, same_at, stand_at, IsNoted, IsPlaced}
 use Rattle.ptmerge.proofs.OfMerges.Slotted.{line_added, line_other}
 use Rattle.ptmerge.proofs.OfMerges.Turning.{own_slots}
 

@@ -1,15 +1,7 @@
 -- The entries of a least key come first, and then those of the lines of other keys.
-use Rattle.std.proofs.Common.{◌≡◌, ◌⊎◌, inl, inr, ℕ, ◌<◌, arith, length, get_or, suc, zero, List, [], ◌∷◌, ◌++◌, Bool, true, false, cond, refl, ap, sym, ◌∙◌, map, append_assoc}
-use Rattle.std.proofs.lemmas.List.{append-nil}
-use Rattle.std.specs.Prelude.{filter, bytes_eq, flat_map}
-use Rattle.std.specs.declared.cmp.Ordering.TheVariants.{Greater}
-use Rattle.std.specs.Cmp.Lexicographic.{bytes_decides}
-use Rattle.ptmerge.specs.declared.order.Side.{Side}
-use Rattle.ptmerge.specs.declared.order.Side.TheVariants.{First, Second}
-use Rattle.ptmerge.specs.Keyed.{Lines, Tool, insert_key, distinct, keys, with_key, entries_of, by_keys}
-use Rattle.ptmerge.specs.Orders.{Cmp, Key}
+use Rattle.ptmerge.proofs.Common.{◌≡◌, ◌⊎◌, inl, inr, ℕ, ◌<◌, arith, length, get_or, suc, zero, List, [], ◌∷◌, ◌++◌, Bool, true, false, cond, refl, ap, sym, ◌∙◌, map, append_assoc, append-nil, filter}
+use Rattle.ptmerge.proofs.Common.{bytes_eq, flat_map, Greater, bytes_decides, Side, First, Second, Lines, Tool, insert_key, distinct, keys, with_key, entries_of, by_keys, Cmp, Key, tied_itself}
 use Rattle.ptmerge.proofs.OfMerges.Orders.{IsKeyOrder, AtMost, Above, least_or_above, above_not_same, greater_flips, not_same, self_at_most}
-use Rattle.std.proofs.lemmas.Cmp.{tied_itself}
 
 -- each of the keys, or of the lines by their keys, passes
 abbrev pub Each : (List ℕ → Type 0) → Lines → Type 0

@@ -1,8 +1,6 @@
 -- Laws of the lines of a text, and of their lengths.
-use Rattle.std.proofs.Common.{◌≡◌, ℕ, ◌+◌, ◌≤◌, List, [], ◌∷◌, ◌++◌, length, max, refl, ◌∙◌, ap, arith, append_assoc}
-use Rattle.std.specs.List.{onto_first}
-use Rattle.ptlines.specs.Text.{text, lines, ended_lines, IsLine, AreLines, longest}
-use Rattle.ptlines.proofs.TextLaws.{other_byte, ended_first}
+use Rattle.ptmerge.proofs.Common.{◌≡◌, ℕ, ◌+◌, ◌≤◌, List, [], ◌∷◌, ◌++◌, length, max, refl, ◌∙◌, ap, arith, append_assoc, onto_first, text, lines, ended_lines, IsLine, AreLines, longest, other_byte}
+use Rattle.ptmerge.proofs.Common.{ended_first}
 
 -- whole lines, and then those of the rest whose end is there
 pub ended_more : (end : ℕ) (ls : List (List ℕ)) (bytes : List ℕ) → AreLines end ls → ended_lines end (text end ls ++ bytes) ≡ ls ++ ended_lines end bytes

@@ -1,14 +1,8 @@
 -- What follows from the laws of an order of keys.
-use Rattle.std.proofs.Common.{◌≡◌, ◌⊎◌, ⊎_elim, inl, inr, ℕ, List, Bool, true, false, refl, sym, ◌∙◌, ap, arith}
-use Rattle.std.specs.Prelude.{bytes_eq}
+use Rattle.ptmerge.proofs.Common.{◌≡◌, ◌⊎◌, ⊎_elim, inl, inr, ℕ, List, Bool, true, false, refl, sym, ◌∙◌, ap, arith, bytes_eq, Ordering, Less, Equal, Greater, is_eq, is_gt, is_le, ordering_reverse}
+use Rattle.ptmerge.proofs.Common.{bytes_decides, back_total, nat_list_cmp_total, tied_itself, upto, Cmp, byte_cmp, line_cmp}
 use Rattle.std.specs.Cmp.{IsTotalOrder}
-use Rattle.std.specs.declared.cmp.Ordering.{Ordering}
-use Rattle.std.specs.declared.cmp.Ordering.TheVariants.{Less, Equal, Greater}
-use Rattle.std.specs.Ordering.{is_eq, is_gt, is_le, ordering_reverse}
-use Rattle.std.specs.Cmp.Lexicographic.{bytes_decides}
-use Rattle.std.proofs.lemmas.Cmp.{back_total, nat_list_cmp_total, tied_itself, upto}
 use Rattle.ptmerge.specs.Exact.{same_back, same_bytes}
-use Rattle.ptmerge.specs.Orders.{Cmp, byte_cmp, line_cmp}
 
 pub record IsKeyOrder (cmp : Cmp) : Type 0 where
   pub total : IsTotalOrder cmp

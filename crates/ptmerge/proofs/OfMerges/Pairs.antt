@@ -1,8 +1,5 @@
 -- What holds of each of two inputs.
-use Rattle.std.proofs.Common.{◌≡◌, arith}
-use Rattle.ptmerge.specs.declared.order.Side.{Side}
-use Rattle.ptmerge.specs.declared.order.Side.TheVariants.{First, Second}
-use Rattle.ptmerge.specs.Sides.{both, put, other}
+use Rattle.ptmerge.proofs.Common.{◌≡◌, arith, Side, First, Second, both, put, other}
 
 module _ {X : Type 0} (P : Side → X → Type 0) where
   pub both_each : (x y : X) → P First x → P Second y → (side : Side) → P side (both x y side)

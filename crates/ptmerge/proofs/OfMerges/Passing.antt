@@ -1,19 +1,8 @@
 -- What was pushed of two inputs: the entries of the lines that are passed, which come first whatever is still to come.
-use Rattle.std.proofs.Common.{◌≡◌, ◌⊎◌, inl, inr, ℕ, ◌&&◌, Bool, true, false, List, [], ◌∷◌, ◌++◌, Option, Some, None, map, refl, sym, ◌∙◌, ap, subst, arith}
-use Rattle.std.specs.List.{last_or}
-use Rattle.std.specs.declared.cmp.Ordering.TheVariants.{Greater}
-use Rattle.std.specs.Ordering.{is_lt, is_le, is_gt}
-use Rattle.std.proofs.lemmas.List.{append-nil}
-use Rattle.ptlines.specs.Outputs.{Output, Wrote}
-use Rattle.ptlines.specs.Text.{text}
-use Rattle.ptlines.proofs.Pushed.{wrote_trans, wrote_nothing}
-use Rattle.ptlines.proofs.TextLaws.{text-append}
-use Rattle.ptmerge.specs.declared.order.Side.{Side}
-use Rattle.ptmerge.specs.declared.order.Side.TheVariants.{First, Second}
-use Rattle.ptmerge.specs.Keyed.{Lines, Tool, Disorder, by_keys, disorder, entries_of, fall, is_below, is_decided, is_past, merged_entries, ordered_part, up_to, with_key}
-use Rattle.ptmerge.specs.Merges.{Names}
-use Rattle.ptmerge.specs.Orders.{Cmp, Key}
-use Rattle.ptmerge.specs.Sides.{put}
+use Rattle.ptmerge.proofs.Common.{◌≡◌, ◌⊎◌, inl, inr, ℕ, ◌&&◌, Bool, true, false, List, [], ◌∷◌, ◌++◌, Option, Some, None, map, refl, sym, ◌∙◌, ap, subst, arith, last_or, Greater, is_lt, is_le, is_gt}
+use Rattle.ptmerge.proofs.Common.{append-nil, Output, Wrote, text, wrote_trans, wrote_nothing, text-append, Side, First, Second, Lines, Tool, by_keys, disorder, entries_of, fall, is_below, is_decided}
+use Rattle.ptmerge.proofs.Common.{is_past, merged_entries, ordered_part, up_to, with_key, Names, Cmp, Key, put}
+use Rattle.ptmerge.specs.Keyed.{Disorder}
 use Rattle.ptmerge.proofs.OfMerges.Bounds.{Bound, Free, From, Fallen, Over, Coming, Falling, Follows, Under, coming_none}
 use Rattle.ptmerge.proofs.OfMerges.Least.{EachKey, EachKey-all, EachKey-append, EachKey-weaker, front_first}
 use Rattle.ptmerge.proofs.OfMerges.Orders.{IsKeyOrder, AtMost, at_most_trans, at_most_is_le, above_trans, greater_flips, is_le_at_most, less_flips, self_at_most}

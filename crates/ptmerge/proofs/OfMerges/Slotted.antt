@@ -1,14 +1,6 @@
 -- The lines in the slots of a store.
-use Rattle.std.proofs.Common.{◌≡◌, ◌≢◌, inl, inr, ℕ, zero, suc, ◌+◌, ◌*◌, ◌≤◌, ◌<◌, false, List, [], ◌∷◌, ◌++◌, length, max, refl, sym, ap, ◌∙◌, arith, get_or, set}
-use Rattle.std.proofs.lemmas.List.{length-set, get_or-set_other}
-use Rattle.std.proofs.lemmas.List.Sums.{sum_by-cons}
-use Rattle.ptlines.specs.Slots.{Slots, line, total, with_added, with_line}
-use Rattle.ptlines.proofs.Counted.{total_set}
-use Rattle.ptmerge.specs.declared.order.Side.{Side}
-use Rattle.ptmerge.specs.declared.order.Side.TheVariants.{First, Second}
-use Rattle.ptmerge.specs.declared.merging.sorted.Sorted.{Sorted}
-use Rattle.ptmerge.specs.Places.{HasSlots}
-use Rattle.ptmerge.specs.Stores.{HasFour, IsCleared}
+use Rattle.ptmerge.proofs.Common.{◌≡◌, ◌≢◌, inl, inr, ℕ, zero, suc, ◌+◌, ◌*◌, ◌≤◌, ◌<◌, false, List, [], ◌∷◌, ◌++◌, length, max, refl, sym, ap, ◌∙◌, arith, get_or, set, length-set, get_or-set_other}
+use Rattle.ptmerge.proofs.Common.{sum_by-cons, Slots, line, total, with_added, with_line, total_set, Side, First, Second, Sorted, HasSlots, HasFour, IsCleared}
 
 pub line_other : (s : Slots) (a b : ℕ) (bytes : List ℕ) → a ≢ b → line (with_line s a bytes) b ≡ line s b
 line_other s a b bytes n = get_or-set_other s.lines a b bytes [] (λ e. n (sym e))

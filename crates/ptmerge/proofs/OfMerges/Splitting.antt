@@ -1,14 +1,6 @@
 -- What is written of the lines that are passed, and what is written of all that may come.
-use Rattle.std.proofs.Common.{◌≡◌, ℕ, List, [], ◌∷◌, ◌++◌, Bool, true, false, cond, Option, refl, ap, sym, ◌∙◌, append_assoc, arith}
-use Rattle.std.proofs.lemmas.List.{append-nil}
-use Rattle.std.proofs.lemmas.List.Concat.{flat_map-append}
-use Rattle.std.specs.Prelude.{filter, flat_map}
-use Rattle.std.specs.declared.cmp.Ordering.TheVariants.{Less, Equal, Greater}
-use Rattle.std.specs.Ordering.{is_gt, match_ordering}
-use Rattle.ptmerge.specs.declared.order.Side.{Side}
-use Rattle.ptmerge.specs.declared.order.Side.TheVariants.{First, Second}
-use Rattle.ptmerge.specs.Keyed.{Lines, Tool, insert_key, distinct, keys, entries_of, by_keys, Fall, disorder_of, up_to}
-use Rattle.ptmerge.specs.Orders.{Cmp}
+use Rattle.ptmerge.proofs.Common.{◌≡◌, ℕ, List, [], ◌∷◌, ◌++◌, Bool, true, false, cond, Option, refl, ap, sym, ◌∙◌, append_assoc, arith, append-nil, flat_map-append, filter, flat_map, Less, Equal}
+use Rattle.ptmerge.proofs.Common.{Greater, is_gt, match_ordering, Side, First, Second, Lines, Tool, insert_key, distinct, keys, entries_of, by_keys, Fall, disorder_of, up_to, Cmp}
 use Rattle.ptmerge.proofs.OfMerges.Orders.{IsKeyOrder, Above, at_most_trans, at_most_is_le, above_trans, less_flips}
 use Rattle.ptmerge.proofs.OfMerges.Least.{Each, EachKey, Each-weaker, Each-insert, Each-distinct, Each-keys}
 use Rattle.ptmerge.proofs.OfMerges.Bounds.{Bound, Coming, Falling, Under, FallFrom, coming_none}

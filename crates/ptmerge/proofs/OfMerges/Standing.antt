@@ -1,23 +1,7 @@
 -- Where an input of a merge stands, and what is still to come of it.
-use Rattle.std.proofs.Common.{◌≡◌, ◌≢◌, inl, inr, ℕ, ◌+◌, ◌<◌, ◌≤◌, ◌&&◌, Bool, true, false, cond, List, [], ◌∷◌, ◌++◌, Option, Some, None, length, refl, sym, ◌∙◌, ap, subst, arith}
-use Rattle.std.specs.Prelude.{nat_lt, bytes_eq}
-use Rattle.std.specs.declared.cmp.Ordering.{Ordering}
-use Rattle.std.specs.Ordering.{is_eq, is_gt}
-use Rattle.std.proofs.lemmas.Bool.{false≢true}
-use Rattle.std.proofs.lemmas.Bool.Decides.{nat_tests}
-use Rattle.std.proofs.lemmas.List.{append-nil, length_push}
-use Rattle.ptlines.specs.Fills.{GivesLine}
-use Rattle.ptlines.specs.Readers.{Reader, IsDone, IsSound, budget}
-use Rattle.ptlines.specs.Slots.{Slots, line, with_line}
-use Rattle.ptlines.specs.Text.{longest}
-use Rattle.ptlines.proofs.Filling.{line_of}
-use Rattle.ptmerge.specs.declared.merging.sorted.Sorted.{Sorted}
-use Rattle.ptmerge.specs.declared.merging.sorted.Stand.{Stand}
-use Rattle.ptmerge.specs.declared.merging.sorted.Stand.TheVariants.{Head, Ended, Disorder}
-use Rattle.ptmerge.specs.Keyed.{Lines}
-use Rattle.ptmerge.specs.Orders.{Cmp, Key}
-use Rattle.ptmerge.specs.Groups.{is_head}
-use Rattle.ptmerge.specs.Places.{stand_at, same_at, Comes, Closes}
+use Rattle.ptmerge.proofs.Common.{◌≡◌, ◌≢◌, inl, inr, ℕ, ◌+◌, ◌<◌, ◌≤◌, ◌&&◌, Bool, true, false, cond, List, [], ◌∷◌, ◌++◌, Option, Some, None, length, refl, sym, ◌∙◌, ap, subst, arith, nat_lt}
+use Rattle.ptmerge.proofs.Common.{bytes_eq, Ordering, is_eq, is_gt, false≢true, nat_tests, append-nil, length_push, GivesLine, Reader, IsDone, IsSound, budget, Slots, line, with_line, longest}
+use Rattle.ptmerge.proofs.Common.{line_of, Sorted, Stand, Head, Ended, Disorder, Lines, Cmp, Key, is_head, stand_at, same_at, Comes, Closes}
 use Rattle.ptmerge.proofs.OfMerges.Backing.{Near}
 use Rattle.ptmerge.proofs.OfMerges.Bounds.{Bound, Free, From, Fallen, Over, Coming, Under, Begun, begun_more, falls, Reaches, reaches_head, reaches_over, reaches_fallen}
 use Rattle.ptmerge.proofs.OfMerges.Got.{Got, got_more, got_end}

@@ -1,22 +1,7 @@
 -- How a tool over two inputs starts.
-use Rattle.std.proofs.Common.{◌≡◌, inl, inr, ℕ, ◌≤◌, ◌<◌, Bool, false, cond, List, [], None, Err, length, refl, sym, ◌∙◌, arith}
-use Rattle.std.proofs.lemmas.Bool.{false≢true}
-use Rattle.ptlangs.specs.Jobs.{ending}
-use Rattle.ptlines.specs.Readers.{Reader, Reads, IsSound}
-use Rattle.ptlines.specs.Slots.{Slots, line, total}
-use Rattle.ptlines.specs.Text.{IsLine, longest}
-use Rattle.ptlines.proofs.Pushed.{wrote_nothing}
-use Rattle.ptmerge.specs.declared.faults.MergeFault.{MergeFault}
-use Rattle.ptmerge.specs.declared.faults.MergeFault.TheVariants.{Memory}
-use Rattle.ptmerge.specs.declared.order.Side.{Side}
-use Rattle.ptmerge.specs.declared.order.Side.TheVariants.{First, Second}
-use Rattle.ptmerge.specs.declared.merging.sorted.Sorted.{Sorted}
-use Rattle.ptmerge.specs.Keyed.{Lines, Tool}
-use Rattle.ptmerge.specs.Merges.{State, IsMerge, IsUnread}
-use Rattle.ptmerge.specs.Places.{CannotRead, Comes, HasSlots, fresh, slot_of}
-use Rattle.ptmerge.specs.Sides.{both}
-use Rattle.ptmerge.specs.Steps.{Inputs, CannotStart, Starts, IsUnslotted}
-use Rattle.ptmerge.specs.Stores.{Adds, HasFour}
+use Rattle.ptmerge.proofs.Common.{◌≡◌, inl, inr, ℕ, ◌≤◌, ◌<◌, Bool, false, cond, List, [], None, Err, length, refl, sym, ◌∙◌, arith, false≢true, ending, Reader, Reads, IsSound, Slots, line, total}
+use Rattle.ptmerge.proofs.Common.{IsLine, longest, wrote_nothing, MergeFault, Memory, Side, First, Second, Sorted, Lines, Tool, State, IsMerge, IsUnread, CannotRead, Comes, HasSlots, fresh, slot_of}
+use Rattle.ptmerge.proofs.Common.{both, Inputs, CannotStart, Starts, IsUnslotted, Adds, HasFour}
 use Rattle.ptmerge.proofs.OfMerges.Bounds.{Free, begun_none}
 use Rattle.ptmerge.proofs.OfComm.CommTurns.{KeepsTwo, Running, adds_of, breaks_slots, within_size}
 use Rattle.ptmerge.proofs.OfMerges.Got.{got_none, reads_nothing}

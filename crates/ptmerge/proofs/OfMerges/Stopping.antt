@@ -1,29 +1,9 @@
 -- What a tool over two inputs has done when it stops.
-use Rattle.std.proofs.Common.{arith, inl, refl, ◌≡◌, ℕ, ◌≤◌, true, false, List, [], ◌++◌, Option, Some, None, Result, Ok, Err, length, max, sym, ◌∙◌, ap, subst}
-use Rattle.std.proofs.lemmas.Bool.{false≢true}
-use Rattle.std.proofs.lemmas.List.{append-nil}
-use Rattle.ptlines.specs.Inputs.{Given, whole_lines}
-use Rattle.ptlines.specs.KeepingUp.{Before, KeepsUp}
-use Rattle.ptlines.specs.Outputs.{Output}
-use Rattle.ptlines.specs.Readers.{Reader, Reads, IsDone, IsSound}
-use Rattle.ptlines.specs.Slots.{Slots}
-use Rattle.ptlines.specs.Text.{text, lines, IsLine, longest}
-use Rattle.ptlines.proofs.Coming.{given_of, came_of, came_set, cause_set}
-use Rattle.ptlines.proofs.Filling.{reads_trans}
-use Rattle.ptlines.proofs.Pushed.{wrote_nothing}
-use Rattle.ptlines.proofs.Sending.{keeps_more}
-use Rattle.ptlines.proofs.TextLaws.{text-append}
-use Rattle.ptmerge.specs.declared.faults.MergeFault.{MergeFault}
-use Rattle.ptmerge.specs.declared.faults.MergeFault.TheVariants.{Read, Write}
+use Rattle.ptmerge.proofs.Common.{arith, inl, refl, ◌≡◌, ℕ, ◌≤◌, true, false, List, [], ◌++◌, Option, Some, None, Result, Ok, Err, length, max, sym, ◌∙◌, ap, subst, false≢true, append-nil, Given}
+use Rattle.ptmerge.proofs.Common.{whole_lines, Before, KeepsUp, Output, Reader, Reads, IsDone, IsSound, Slots, text, lines, IsLine, longest, given_of, came_of, came_set, cause_set, reads_trans}
+use Rattle.ptmerge.proofs.Common.{wrote_nothing, keeps_more, text-append, MergeFault, Read, Write, Side, First, Second, Sorted, Head, Ended, Disorder, Lines, Tool, by_keys, decided, disorder}
+use Rattle.ptmerge.proofs.Common.{disorder_of, fall, lines_of, merged, merged_entries, ordered_part, settled, up_to, State, Agree, Ends, IsMerge, IsUnread, IsWhole, ended_by, Cmp, Key, other, put}
 use Rattle.ptmerge.specs.declared.faults.MergeFault.TheVariants as faults
-use Rattle.ptmerge.specs.declared.order.Side.{Side}
-use Rattle.ptmerge.specs.declared.order.Side.TheVariants.{First, Second}
-use Rattle.ptmerge.specs.declared.merging.sorted.Sorted.{Sorted}
-use Rattle.ptmerge.specs.declared.merging.sorted.Stand.TheVariants.{Head, Ended, Disorder}
-use Rattle.ptmerge.specs.Keyed.{Lines, Tool, by_keys, decided, disorder, disorder_of, fall, lines_of, merged, merged_entries, ordered_part, settled, up_to}
-use Rattle.ptmerge.specs.Merges.{State, Agree, Ends, IsMerge, IsUnread, IsWhole, ended_by}
-use Rattle.ptmerge.specs.Orders.{Cmp, Key}
-use Rattle.ptmerge.specs.Sides.{other, put}
 use Rattle.ptmerge.proofs.OfMerges.Backing.{Back, Near, back}
 use Rattle.ptmerge.proofs.OfMerges.Bounds.{Bound, Free, From, Over, Coming, Begun, Reaches, reaches_free, reaches_passed}
 use Rattle.ptmerge.proofs.OfMerges.Deciding.{decided_begins}

@@ -1,26 +1,8 @@
 -- How a merge goes on from a line that was passed, and how it stops there.
-use Rattle.std.proofs.Common.{◌≡◌, ◌≢◌, ⊎_elim, inl, inr, ℕ, ◌+◌, ◌≤◌, true, false, List, [], ◌∷◌, ◌++◌, Option, Some, None, Err, length, max, refl, sym, ◌∙◌, arith}
-use Rattle.std.specs.Ordering.{is_lt, is_le}
-use Rattle.std.proofs.lemmas.Bool.{false≢true}
-use Rattle.std.proofs.lemmas.List.{append-nil}
-use Rattle.ptlines.specs.Outputs.{Output, Wrote}
-use Rattle.ptlines.specs.Readers.{Reader, Reads, IsDone, IsSound}
-use Rattle.ptlines.specs.Slots.{Slots, line, with_line}
-use Rattle.ptlines.specs.Text.{text, IsLine, longest}
-use Rattle.ptlines.proofs.Pushed.{wrote_nothing}
-use Rattle.ptmerge.specs.declared.faults.MergeFault.{MergeFault}
-use Rattle.ptmerge.specs.declared.faults.MergeFault.TheVariants.{Read, Memory}
-use Rattle.ptmerge.specs.declared.order.Side.{Side}
-use Rattle.ptmerge.specs.declared.order.Side.TheVariants.{First, Second}
-use Rattle.ptmerge.specs.declared.merging.sorted.Sorted.{Sorted}
-use Rattle.ptmerge.specs.declared.merging.sorted.Stand.{Stand}
-use Rattle.ptmerge.specs.declared.merging.sorted.Stand.TheVariants.{Head, Ended, Disorder}
-use Rattle.ptmerge.specs.Keyed.{Lines, Tool, Fall, by_keys, disorder_of, fall, with_key}
-use Rattle.ptmerge.specs.Merges.{State, IsMerge}
-use Rattle.ptmerge.specs.Orders.{Cmp, Key}
-use Rattle.ptmerge.specs.Places.{CannotRead, Comes, HasSlots, slot_of}
-use Rattle.ptmerge.specs.Sides.{put, other}
-use Rattle.ptmerge.specs.Steps.{GoesBefore, IsDecided, IsNamed, last_key}
+use Rattle.ptmerge.proofs.Common.{◌≡◌, ◌≢◌, ⊎_elim, inl, inr, ℕ, ◌+◌, ◌≤◌, true, false, List, [], ◌∷◌, ◌++◌, Option, Some, None, Err, length, max, refl, sym, ◌∙◌, arith, is_lt, is_le, false≢true}
+use Rattle.ptmerge.proofs.Common.{append-nil, Output, Wrote, Reader, Reads, IsDone, IsSound, Slots, line, with_line, text, IsLine, longest, wrote_nothing, MergeFault, Read, Memory, Side, First}
+use Rattle.ptmerge.proofs.Common.{Second, Sorted, Stand, Head, Ended, Disorder, Lines, Tool, Fall, by_keys, disorder_of, fall, with_key, State, IsMerge, Cmp, Key, CannotRead, Comes, HasSlots, slot_of}
+use Rattle.ptmerge.proofs.Common.{put, other, GoesBefore, IsDecided, IsNamed, last_key}
 use Rattle.ptmerge.proofs.OfMerges.Bounds.{Bound, From, Fallen, Over, Coming, Falling, FallFrom, Under, Begun}
 use Rattle.ptmerge.proofs.OfMerges.Got.{More}
 use Rattle.ptmerge.proofs.OfMerges.Least.{EachKey, EachKey-weaker, with_key-above}

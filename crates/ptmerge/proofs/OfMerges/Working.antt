@@ -1,15 +1,7 @@
 -- Reading does not run ahead of writing: what was decided two blocks earlier of one input was pushed, whatever came of
 -- the other.
-use Rattle.std.proofs.Common.{◌≡◌, ℕ, false, List, [], ◌∷◌, ◌++◌, Option, None, map, sym, ◌∙◌, ap, append_assoc}
-use Rattle.std.proofs.lemmas.List.{append-nil}
-use Rattle.std.specs.List.{last_or}
-use Rattle.ptlines.specs.Inputs.{Given, whole_lines}
-use Rattle.ptlines.specs.KeepingUp.{Before, WorksOff}
-use Rattle.ptlines.specs.Text.{text}
-use Rattle.ptmerge.specs.declared.order.Side.{Side}
-use Rattle.ptmerge.specs.Keyed.{Lines, Tool, by_keys, decided, fall, is_below, ordered_part, settled}
-use Rattle.ptmerge.specs.Orders.{Key}
-use Rattle.ptmerge.specs.Sides.{put, other}
+use Rattle.ptmerge.proofs.Common.{◌≡◌, ℕ, false, List, [], ◌∷◌, ◌++◌, Option, None, map, sym, ◌∙◌, ap, append_assoc, append-nil, last_or, Given, whole_lines, Before, WorksOff, text, Side, Lines, Tool}
+use Rattle.ptmerge.proofs.Common.{by_keys, decided, fall, is_below, ordered_part, settled, Key, put, other}
 use Rattle.ptmerge.proofs.OfMerges.Backing.{Back, Rises, none_below, rises_front, rises_in_order, rises_ordered}
 use Rattle.ptmerge.proofs.OfMerges.Bounds.{Bound, Coming, FallFrom, Under}
 use Rattle.ptmerge.proofs.OfMerges.Deciding.{Differ, decided_of_passed, not_settled}

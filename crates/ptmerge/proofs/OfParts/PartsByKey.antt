@@ -1,28 +1,10 @@
 -- What is written of lines that are dealt out by their keys.
-use Rattle.std.proofs.lemmas.Bool.{eqb-true}
-use Rattle.std.proofs.Common.{◌≡◌, ℕ, zero, suc, ◌+◌, ◌<◌, ◌≤◌, ◌==◌, List, [], ◌∷◌, ◌++◌, Bool, true, false, cond, None, refl, ap, sym, ◌∙◌, subst, map, append_assoc, inr, arith}
-use Rattle.std.proofs.lemmas.Bool.Decides.{nat_tests}
-use Rattle.std.proofs.lemmas.List.{append-nil}
-use Rattle.std.proofs.lemmas.List.Concat.{flat_map-append}
-use Rattle.std.proofs.lemmas.List.Elements.{filter-append}
+use Rattle.ptmerge.proofs.Common.{eqb-true, ◌≡◌, ℕ, zero, suc, ◌+◌, ◌<◌, ◌≤◌, ◌==◌, List, [], ◌∷◌, ◌++◌, Bool, true, false, cond, None, refl, ap, sym, ◌∙◌, subst, map, append_assoc, inr, arith}
+use Rattle.ptmerge.proofs.Common.{nat_tests, append-nil, flat_map-append, filter-append, filter, bytes_eq, flat_map, range_with_len, Ordering, Less, Equal, Greater, is_gt, match_ordering}
+use Rattle.ptmerge.proofs.Common.{bytes_decides, AreLines, lines, text, the_lines_of_parts, lines_of_text, the_lines, Side, First, Second, comm_tool, join_tool, Lines, Tool, insert_key, distinct}
+use Rattle.ptmerge.proofs.Common.{disorder, keys, with_key, entries_of, by_keys, lines_of, merged_entries, Cmp, Key, CommByKey, IsByKey, JoinByKey, dealt, written_lines}
 use Rattle.std.proofs.lemmas.List.Sorted.{IsPermutation-refl, IsPermutation-trans, IsPermutation-append_left, IsPermutation-append_right, IsPermutation-append_comm}
-use Rattle.std.specs.Prelude.{filter, bytes_eq, flat_map}
-use Rattle.std.specs.List.{range_with_len}
 use Rattle.std.specs.List.Sorted.{IsPermutation}
-use Rattle.std.specs.declared.cmp.Ordering.{Ordering}
-use Rattle.std.specs.declared.cmp.Ordering.TheVariants.{Less, Equal, Greater}
-use Rattle.std.specs.Ordering.{is_gt, match_ordering}
-use Rattle.std.specs.Cmp.Lexicographic.{bytes_decides}
-use Rattle.ptlines.specs.Text.{AreLines, lines, text}
-use Rattle.ptlines.proofs.PartLaws.{the_lines_of_parts}
-use Rattle.ptlines.proofs.TextLaws.{lines_of_text, the_lines}
-use Rattle.ptmerge.specs.declared.order.Side.{Side}
-use Rattle.ptmerge.specs.declared.order.Side.TheVariants.{First, Second}
-use Rattle.ptmerge.specs.Comm.{comm_tool}
-use Rattle.ptmerge.specs.Join.{join_tool}
-use Rattle.ptmerge.specs.Keyed.{Lines, Tool, insert_key, distinct, disorder, keys, with_key, entries_of, by_keys, lines_of, merged_entries}
-use Rattle.ptmerge.specs.Orders.{Cmp, Key}
-use Rattle.ptmerge.specs.Parts.{CommByKey, IsByKey, JoinByKey, dealt, written_lines}
 use Rattle.ptmerge.proofs.OfMerges.Orders.{IsKeyOrder, Above, above_trans, line_order}
 use Rattle.ptmerge.proofs.OfMerges.Least.{Each, Each-weaker, insert_least}
 use Rattle.ptmerge.proofs.OfParts.PartsInOrder.{in_order_kept, merged_in_order, no_disorder, none_falls}

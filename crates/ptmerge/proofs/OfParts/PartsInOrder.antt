@@ -1,23 +1,13 @@
 -- Lists in order: put behind one another, and some of their lines; and texts in parts.
-use Rattle.std.proofs.Common.{◌≡◌, ℕ, ◌+◌, List, [], ◌∷◌, ◌++◌, Bool, true, false, cond, Option, Some, None, refl, ap, sym, ◌∙◌, subst}
-use Rattle.std.specs.Prelude.{filter}
-use Rattle.std.specs.Ordering.{is_le, is_lt}
-use Rattle.std.specs.declared.cmp.Ordering.TheVariants.{Less}
-use Rattle.ptmerge.specs.declared.order.Side.{Side}
-use Rattle.ptmerge.specs.declared.order.Side.TheVariants.{First, Second}
-use Rattle.ptmerge.specs.Keyed.{Lines, Tool, Disorder, Fall, by_keys, disorder, disorder_of, fall, keys, merged_entries, ordered, ordered_part, up_to, lines_of}
-use Rattle.ptmerge.specs.Orders.{Cmp, Key}
+use Rattle.ptmerge.proofs.Common.{◌≡◌, ℕ, ◌+◌, List, [], ◌∷◌, ◌++◌, Bool, true, false, cond, Option, Some, None, refl, ap, sym, ◌∙◌, subst, filter, is_le, is_lt, Less, Side, First, Second, Lines}
+use Rattle.ptmerge.proofs.Common.{Tool, Fall, by_keys, disorder, disorder_of, fall, keys, merged_entries, ordered, ordered_part, up_to, lines_of, Cmp, Key, text, the_lines_of_parts, text-append}
+use Rattle.ptmerge.proofs.Common.{comm_tool, join_tool, IsOfParts, PartsOfComm, PartsOfJoin}
+use Rattle.ptmerge.specs.Keyed.{Disorder}
 use Rattle.ptmerge.proofs.OfMerges.Bounds.{Bound, FallFrom, Falling, From, Over, Under, after_from, fall_after, fall_at, fall_is, falls, ordered_after, ordered_is}
 use Rattle.ptmerge.proofs.OfMerges.Least.{Each, EachKey, Each-keys, Each-weaker}
 use Rattle.ptmerge.proofs.OfMerges.Orders.{IsKeyOrder, at_most_trans, less_at_most, line_order}
 use Rattle.ptmerge.proofs.OfParts.PartsOfKeys.{EachBelow, IsBelow, by_keys_of_parts, of_keys}
 use Rattle.ptmerge.proofs.OfMerges.Splitting.{all_keys, all_wanted, passed_is_wanted}
-use Rattle.ptlines.specs.Text.{text}
-use Rattle.ptlines.proofs.PartLaws.{the_lines_of_parts}
-use Rattle.ptlines.proofs.TextLaws.{text-append}
-use Rattle.ptmerge.specs.Comm.{comm_tool}
-use Rattle.ptmerge.specs.Join.{join_tool}
-use Rattle.ptmerge.specs.Parts.{IsOfParts, PartsOfComm, PartsOfJoin}
 
 -- no fall
 no_fall_first : (cmp : Cmp) (f g : Option Fall) → disorder_of cmp f g ≡ None → (f ≡ None) × (g ≡ None)

@@ -1,17 +1,7 @@
 -- Where keys are below others, the distinct keys of both are those of the ones, and then those of the others.
-use Rattle.std.proofs.Common.{◌≡◌, ℕ, List, [], ◌∷◌, ◌++◌, Bool, true, false, cond, refl, ap, sym, ◌∙◌, map, append_assoc}
-use Rattle.std.proofs.lemmas.List.{append-nil, map-append}
-use Rattle.std.proofs.lemmas.List.Concat.{flat_map-append}
-use Rattle.std.proofs.lemmas.List.Elements.{filter-append}
-use Rattle.std.proofs.lemmas.Cmp.{tied_itself}
-use Rattle.std.specs.Prelude.{filter, bytes_eq, flat_map}
-use Rattle.std.specs.declared.cmp.Ordering.TheVariants.{Less, Equal, Greater}
-use Rattle.std.specs.Ordering.{match_ordering}
-use Rattle.std.specs.Cmp.Lexicographic.{bytes_decides}
-use Rattle.ptmerge.specs.declared.order.Side.{Side}
-use Rattle.ptmerge.specs.declared.order.Side.TheVariants.{First, Second}
-use Rattle.ptmerge.specs.Keyed.{Lines, Tool, insert_key, distinct, keys, with_key, entries_of, by_keys}
-use Rattle.ptmerge.specs.Orders.{Cmp, Key}
+use Rattle.ptmerge.proofs.Common.{◌≡◌, ℕ, List, [], ◌∷◌, ◌++◌, Bool, true, false, cond, refl, ap, sym, ◌∙◌, map, append_assoc, append-nil, map-append, flat_map-append, filter-append, tied_itself}
+use Rattle.ptmerge.proofs.Common.{filter, bytes_eq, flat_map, Less, Equal, Greater, match_ordering, bytes_decides, Side, First, Second, Lines, Tool, insert_key, distinct, keys, with_key, entries_of}
+use Rattle.ptmerge.proofs.Common.{by_keys, Cmp, Key}
 use Rattle.ptmerge.proofs.OfMerges.Orders.{IsKeyOrder, Above, above_not_same, less_flips}
 use Rattle.ptmerge.proofs.OfMerges.Least.{Each, EachKey, Each-weaker, Each-distinct, insert_least}
 

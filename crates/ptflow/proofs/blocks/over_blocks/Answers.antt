@@ -1,9 +1,6 @@
 -- A turn takes one block, and what the tool says of that block carries the invariant on. Each way out is a lemma of
 -- `PassLemmas` or of `BlockLemmas`. The budget falls, since a block that is not empty was consumed.
-use Rattle.std.proofs.Common.{◌≡◌, [], ◌++◌, length, refl, sym, ◌∙◌, ap, append_assoc, arith}
-use Rattle.std.proofs.lemmas.Bool.{eqb-true, eqb-false}
-use Rattle.std.proofs.lemmas.List.{nil_from_length}
-use Rattle.std.proofs.lemmas.Result.{err_from_is_err_and}
+use Rattle.ptflow.proofs.Common.{◌≡◌, [], ◌++◌, length, refl, sym, ◌∙◌, ap, append_assoc, arith, eqb-true, eqb-false, nil_from_length, err_from_is_err_and}
 use Rattle.ptflow.proofs.OfPasses.BlockLemmas.{midway_starts, midway_more, counted_block, counted_more, block_read, block_write, block_unsent, block_done, block_unended}
 use Rattle.ptflow.proofs.OfPasses.PassLemmas.{midway_sent}
 use Rattle.ptflow.proofs.OfPasses.ReaderFacts.{goes_nothing, block_less}

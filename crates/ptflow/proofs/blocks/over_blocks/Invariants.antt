@@ -1,7 +1,6 @@
 -- Whatever comes next, what was pushed and then what is written of the rest in the state that was reached is what is
 -- written of the whole. What a tool counts grows by no more than the bytes that it was handed.
-use Rattle.std.proofs.Common.{◌≡◌, ◌≤◌, ◌-◌, ℕ, List, ◌++◌, length}
-use Rattle.ptlines.specs.Readers.{budget}
+use Rattle.ptflow.proofs.Common.{◌≡◌, ◌≤◌, ◌-◌, ℕ, List, ◌++◌, length, budget}
 use Rattle.ptflow.proofs.OfPasses.PassLemmas.{Midway}
 use Rattle.ptflow.proofs.blocks.over_blocks.Given as goal
 

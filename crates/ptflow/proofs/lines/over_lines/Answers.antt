@@ -1,9 +1,7 @@
 -- What was staged is sent before each read, so each answer first passes over that. Behind the line that came by way of
 -- the last slot what is staged is sent again, and the lines of the block follow. Each exit is one of the ends of a
 -- pass.
-use Rattle.std.proofs.Common.{refl, subst, arith}
-use Rattle.std.proofs.lemmas.Result.{err_from_is_err_and}
-use Rattle.ptlines.specs.Text.{IsLine}
+use Rattle.ptflow.proofs.Common.{refl, subst, arith, err_from_is_err_and, IsLine}
 use Rattle.ptflow.proofs.OfPasses.LineLemmas.{came_line, run_starts, run_unslotted, run_sent, run_count, run_room, run_unsent, run_line, run_line_halts, filled_count}
 use Rattle.ptflow.proofs.OfPasses.LineLemmas.{run_broken, run_memory, run_no_block, run_done, run_unended, run_block, run_block_halts}
 use Rattle.ptflow.proofs.OfPasses.ReaderFacts.{budget_less}

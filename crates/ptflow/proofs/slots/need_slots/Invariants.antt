@@ -1,7 +1,6 @@
 -- Slots are added one by one while there are too few, and each is empty. So what is held stays, and none is added in
 -- excess.
-use Rattle.std.proofs.Common.{◌≡◌, ◌≤◌, ◌-◌, false, length, max}
-use Rattle.ptlines.specs.Slots.{total}
+use Rattle.ptflow.proofs.Common.{◌≡◌, ◌≤◌, ◌-◌, false, length, max, total}
 use Rattle.ptflow.proofs.slots.need_slots.Given as goal
 
 abbrev pub invariant-loop-store : goal.invariant-loop-store

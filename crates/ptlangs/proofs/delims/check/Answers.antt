@@ -1,5 +1,4 @@
-use Rattle.std.proofs.Common.{◌<◌, length, arith, rules}
-use Rattle.std.proofs.lemmas.Bool.Decides.{nat_tests}
+use Rattle.ptlangs.proofs.Common.{◌<◌, length, arith, rules, nat_tests}
 use Rattle.ptlangs.proofs.DelimJudging.{judged_fault, judged_more}
 use Rattle.ptlangs.proofs.delims.check.Goals as goal
 

@@ -1,7 +1,5 @@
 -- What was read has no fault, so the first fault is that of the rest.
-use Rattle.std.proofs.Common.{◌≡◌, length}
-use Rattle.std.specs.Result.{result_err}
-use Rattle.ptlangs.specs.DelimLists.{delim_list}
+use Rattle.ptlangs.proofs.Common.{◌≡◌, length, result_err, delim_list}
 use Rattle.ptlangs.proofs.delims.check.Given as goal
 
 abbrev pub invariant-loop-behind : goal.invariant-loop-behind

@@ -1,5 +1,4 @@
-use Rattle.std.proofs.Common.{◌∙◌, min, ap, Ok}
-use Rattle.ptlangs.specs.TrPlan.{array}
+use Rattle.ptlangs.proofs.Common.{◌∙◌, min, ap, Ok, array}
 use Rattle.ptlangs.proofs.TrAnswers.{same_answer}
 use Rattle.ptlangs.proofs.TrImages.{image-found}
 use Rattle.ptlangs.proofs.images.image.Goals as goal

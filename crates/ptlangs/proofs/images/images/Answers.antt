@@ -1,5 +1,4 @@
-use Rattle.std.proofs.Common.{ap, arith, Ok}
-use Rattle.ptlangs.specs.TrPlan.{array}
+use Rattle.ptlangs.proofs.Common.{ap, arith, Ok, array}
 use Rattle.ptlangs.proofs.TrAnswers.{no_answer}
 use Rattle.ptlangs.proofs.TrImages.{image-table}
 use Rattle.ptlangs.proofs.images.images.Goals as goal

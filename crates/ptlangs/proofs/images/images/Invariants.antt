@@ -1,9 +1,6 @@
 -- Below this byte the table has the images that the two strings give.
-use Rattle.std.proofs.Common.{◌≡◌, ◌<◌, ℕ, List, length, get_or, Ok}
-use Rattle.ptlangs.specs.declared.pieces.Piece.{Piece}
-use Rattle.ptlangs.specs.TrPlan.{array, collected, image_by, pieces_of}
+use Rattle.ptlangs.proofs.Common.{◌≡◌, ◌<◌, ℕ, List, length, get_or, Ok, Piece, array, collected, image_by, pieces_of, places_of}
 use Rattle.ptlangs.proofs.images.images.Given as goal
-use Rattle.ptlangs.specs.TrReading.{places_of}
 
 abbrev pub invariant-loop-byte : goal.invariant-loop-byte
 invariant-loop-byte l =

@@ -1,6 +1,4 @@
-use Rattle.std.proofs.Common.{◌≡◌, ◌-◌, ◌∙◌, sym, get_or, arith}
-use Rattle.std.specs.Char.{digit_value}
-use Rattle.std.proofs.lemmas.Bool.Decides.{nat_tests}
+use Rattle.ptlangs.proofs.Common.{◌≡◌, ◌-◌, ◌∙◌, sym, get_or, arith, digit_value, nat_tests}
 use Rattle.ptlangs.proofs.Decimals.{too_large_at, is_its_value, is_empty_by_length, digit_is}
 use Rattle.ptlangs.proofs.numbers.decimal.Goals as goal
 

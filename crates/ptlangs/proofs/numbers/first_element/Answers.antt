@@ -1,7 +1,4 @@
-use Rattle.std.proofs.Common.{rules, tests, ◌∙◌, sym}
-use Rattle.std.proofs.lemmas.Iterator.{YieldsList-from_slice}
-use Rattle.std.proofs.lemmas.Iterator.Search.{position_from_yields_List}
-use Rattle.ptlangs.specs.Numbers.{is_separator}
+use Rattle.ptlangs.proofs.Common.{rules, tests, ◌∙◌, sym, YieldsList-from_slice, position_from_yields_List, is_separator}
 use Rattle.ptlangs.proofs.Elements.{split_whole, split_around}
 use Rattle.ptlangs.proofs.numbers.first_element.Goals as goal
 

@@ -1,8 +1,4 @@
-use Rattle.std.proofs.Common.{rules, tests, ◌≡◌, ◌∙◌, sym, false}
-use Rattle.std.specs.Char.{is_ascii_digit}
-use Rattle.std.proofs.lemmas.Iterator.{YieldsList-from_slice}
-use Rattle.std.proofs.lemmas.Iterator.Search.{all_from_yields_List}
-use Rattle.ptlangs.specs.Numbers.{is_empty}
+use Rattle.ptlangs.proofs.Common.{rules, tests, ◌≡◌, ◌∙◌, sym, false, is_ascii_digit, YieldsList-from_slice, all_from_yields_List, is_empty}
 use Rattle.ptlangs.proofs.Decimals.{is_empty_by_length}
 use Rattle.ptlangs.proofs.numbers.is_decimal.Goals as goal
 

@@ -1,8 +1,6 @@
 -- The elements that were read have no fault, so the first fault is that of the others.
-use Rattle.std.proofs.Common.{◌≡◌, length}
-use Rattle.std.specs.Result.{result_err}
-use Rattle.ptlangs.specs.Numbers.{elements, each}
-use Rattle.ptlangs.specs.OutLists.{element, out_list}
+use Rattle.ptlangs.proofs.Common.{◌≡◌, length, result_err, elements, each, out_list}
+use Rattle.ptlangs.specs.OutLists.{element}
 use Rattle.ptlangs.proofs.outlist.check.Given as goal
 
 abbrev pub invariant-loop-behind : goal.invariant-loop-behind

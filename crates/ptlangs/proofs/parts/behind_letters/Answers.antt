@@ -1,5 +1,4 @@
-use Rattle.std.proofs.Common.{refl}
-use Rattle.std.specs.Char.{is_ascii_lowercase}
+use Rattle.ptlangs.proofs.Common.{refl, is_ascii_lowercase}
 use Rattle.ptlangs.proofs.TrBehind.{run_range, run_rest}
 use Rattle.ptlangs.proofs.parts.behind_letters.Goals as goal
 

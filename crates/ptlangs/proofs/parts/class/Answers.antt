@@ -1,6 +1,4 @@
-use Rattle.std.proofs.Common.{arith, drop, ℕ}
-use Rattle.std.proofs.lemmas.List.{length-take, length-drop}
-use Rattle.ptlangs.specs.TrUnits.{units}
+use Rattle.ptlangs.proofs.Common.{arith, drop, ℕ, length-take, length-drop, units}
 use Rattle.ptlangs.proofs.TrForms.{class_at-found}
 use Rattle.ptlangs.proofs.parts.class.Goals as goal
 

@@ -1,6 +1,4 @@
-use Rattle.std.proofs.Common.{Some, rules, sym, ◌∙◌, get_or}
-use Rattle.std.proofs.lemmas.List.Sums.{AllPass-from_list_all}
-use Rattle.ptlangs.specs.TrUnits.{is_octal_digit}
+use Rattle.ptlangs.proofs.Common.{Some, rules, sym, ◌∙◌, get_or, AllPass-from_list_all, is_octal_digit}
 use Rattle.ptlangs.proofs.TrNumbers.{octal_value}
 use Rattle.ptlangs.proofs.TrCounts.{repeat_count-octal}
 use Rattle.ptlangs.proofs.parts.count_of.Goals as goal

@@ -1,5 +1,4 @@
-use Rattle.std.proofs.Common.{drop}
-use Rattle.ptlangs.specs.TrUnits.{units}
+use Rattle.ptlangs.proofs.Common.{drop, units}
 use Rattle.ptlangs.proofs.TrForms.{first_part-range, units-some}
 use Rattle.ptlangs.proofs.parts.part_at.Goals as goal
 

@@ -1,6 +1,4 @@
-use Rattle.std.proofs.Common.{drop}
-use Rattle.std.specs.Char.{is_ascii_digit}
-use Rattle.ptlangs.specs.TrUnits.{units}
+use Rattle.ptlangs.proofs.Common.{drop, is_ascii_digit, units}
 use Rattle.ptlangs.proofs.TrBehind.{AllPass-run}
 use Rattle.ptlangs.proofs.parts.repeat.Goals as goal
 

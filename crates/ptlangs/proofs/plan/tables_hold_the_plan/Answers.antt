@@ -1,5 +1,4 @@
-use Rattle.std.proofs.Common.{false}
-use Rattle.ptlangs.specs.TrPlan.{is_deleted, image_of, is_squeezed}
+use Rattle.ptlangs.proofs.Common.{false, is_deleted, image_of, is_squeezed}
 use Rattle.ptlangs.proofs.TrPlaces.{get_or-table}
 use Rattle.ptlangs.proofs.plan.tables_hold_the_plan.Goals as goal
 

@@ -1,8 +1,4 @@
-use Rattle.std.proofs.Common.{rules, tests, ◌≡◌, ◌∙◌, sym, false}
-use Rattle.ptlangs.specs.CutLists.{is_dash}
-use Rattle.ptlangs.specs.Numbers.{is_empty}
-use Rattle.std.proofs.lemmas.Iterator.{YieldsList-from_slice}
-use Rattle.std.proofs.lemmas.Iterator.Search.{position_from_yields_List}
+use Rattle.ptlangs.proofs.Common.{rules, tests, ◌≡◌, ◌∙◌, sym, false, is_dash, is_empty, YieldsList-from_slice, position_from_yields_List}
 use Rattle.ptlangs.proofs.CutElements.{said_whole, said_around}
 use Rattle.ptlangs.proofs.Decimals.{is_empty_by_length}
 use Rattle.ptlangs.proofs.ranges.read_element.Goals as goal

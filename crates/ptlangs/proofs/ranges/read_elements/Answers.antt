@@ -1,6 +1,4 @@
-use Rattle.std.proofs.Common.{sym, ◌∙◌}
-use Rattle.ptlangs.specs.Numbers.{elements}
-use Rattle.ptlangs.specs.CutLists.{element}
+use Rattle.ptlangs.proofs.Common.{sym, ◌∙◌, elements, element}
 use Rattle.ptlangs.proofs.Elements.{each_more}
 use Rattle.ptlangs.proofs.ranges.read_elements.Goals as goal
 

@@ -1,7 +1,5 @@
 -- What was kept stands in front of what the other elements say; so a fault of theirs is that of the whole list.
-use Rattle.std.proofs.Common.{◌≡◌, length}
-use Rattle.ptlangs.specs.CutLists.{element, cut_list}
-use Rattle.ptlangs.specs.Numbers.{elements, each}
+use Rattle.ptlangs.proofs.Common.{◌≡◌, length, element, cut_list, elements, each}
 use Rattle.ptlangs.proofs.Elements.{behind}
 use Rattle.ptlangs.proofs.ranges.read_elements.Given as goal
 

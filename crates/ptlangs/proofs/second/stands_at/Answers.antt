@@ -1,12 +1,7 @@
-use Rattle.std.proofs.Common.{◌∷◌, ◌∙◌, ap, sym, arith, Result, Ok}
-use Rattle.ptlangs.specs.declared.faults.SetFaultKind.{SetFaultKind}
-use Rattle.ptlangs.specs.declared.pieces.Piece.{Piece}
-use Rattle.ptlangs.specs.declared.pieces.Place.TheVariants.{First}
-use Rattle.ptlangs.specs.TrPlan.{pieces_of}
+use Rattle.ptlangs.proofs.Common.{◌∷◌, ◌∙◌, ap, sym, arith, Result, Ok, SetFaultKind, Piece, First, pieces_of, pieces_left}
 use Rattle.ptlangs.proofs.TrWalks.{walk_never, array-bound}
 use Rattle.ptlangs.proofs.TrPairs.{NotYet, stands-found, stands-more, stands-end}
 use Rattle.ptlangs.proofs.second.stands_at.Goals as goal
-use Rattle.ptlangs.specs.TrReading.{pieces_left}
 
 pub returns-in_err-piece : goal.returns-in_err-piece
 returns-in_err-piece c = λ fs e.

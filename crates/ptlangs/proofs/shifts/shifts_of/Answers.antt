@@ -1,9 +1,6 @@
 -- From the end of the table on, a byte whose image is as far away as that of the next one belongs to the same stretch;
 -- any other begins a stretch, or belongs to none.
-use Rattle.std.proofs.Common.{◌≡◌, ◌+◌, ◌<◌, ◌-◌, List, drop, length, get_or, sym, ◌∙◌, ap, arith}
-use Rattle.std.proofs.lemmas.List.{drop_all}
-use Rattle.ptlangs.specs.declared.shifts.Stretch.{Stretch}
-use Rattle.ptlangs.specs.TrShifts.{stretches_from, in_front, shift_of, shifted}
+use Rattle.ptlangs.proofs.Common.{◌≡◌, ◌+◌, ◌<◌, ◌-◌, List, drop, length, get_or, sym, ◌∙◌, ap, arith, drop_all, Stretch, stretches_from, in_front, shift_of, shifted}
 use Rattle.ptlangs.proofs.TrShifts.{moves_all, moved_one, same_one, no_more_behind}
 use Rattle.ptlangs.proofs.shifts.shifts_of.Goals as goal
 use Rattle.ptlangs.proofs.shifts.shifts_of.Goals.{else-by-ne0-via-then-by-ne0+else-not-put_in_front, else-by-ne0-via-else-by-ne0}

@@ -1,6 +1,5 @@
 -- The table is walked from its end. What was found are the stretches of the images from this byte on.
-use Rattle.std.proofs.Common.{◌≡◌, ◌≤◌, drop}
-use Rattle.ptlangs.specs.TrShifts.{stretches_from}
+use Rattle.ptlangs.proofs.Common.{◌≡◌, ◌≤◌, drop, stretches_from}
 use Rattle.ptlangs.proofs.shifts.shifts_of.Given as goal
 
 abbrev pub invariant-loop-behind : goal.invariant-loop-behind

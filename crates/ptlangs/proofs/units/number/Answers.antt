@@ -1,6 +1,4 @@
-use Rattle.std.proofs.Common.{arith, ◌≡◌, ◌<◌, ◌+◌, get_or, false, nat_le}
-use Rattle.std.specs.Char.{digit_value}
-use Rattle.std.specs.Str.Parse.{digits_value}
+use Rattle.ptlangs.proofs.Common.{arith, ◌≡◌, ◌<◌, ◌+◌, get_or, false, nat_le, digit_value, digits_value}
 use Rattle.ptlangs.proofs.TrNumbers.{too_large, number_step}
 use Rattle.ptlangs.proofs.units.number.Goals as goal
 

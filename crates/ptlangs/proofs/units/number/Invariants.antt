@@ -1,6 +1,5 @@
 -- The value is that of the digits so far, and is within the limit.
-use Rattle.std.proofs.Common.{◌≡◌, ◌≤◌, take}
-use Rattle.std.specs.Str.Parse.{digits_value}
+use Rattle.ptlangs.proofs.Common.{◌≡◌, ◌≤◌, take, digits_value}
 use Rattle.ptlangs.proofs.units.number.Given as goal
 
 abbrev pub invariant-loop-digit : goal.invariant-loop-digit

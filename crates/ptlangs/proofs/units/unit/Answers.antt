@@ -1,5 +1,4 @@
-use Rattle.std.proofs.Common.{◌≡◌, ◌+◌, ◌-◌, length, take, drop, refl}
-use Rattle.std.proofs.lemmas.List.{take_rest}
+use Rattle.ptlangs.proofs.Common.{◌≡◌, ◌+◌, ◌-◌, length, take, drop, refl, take_rest}
 use Rattle.ptlangs.proofs.TrNumbers.{units_escape}
 use Rattle.ptlangs.proofs.units.unit.Goals as goal
 

@@ -1,6 +1,4 @@
-use Rattle.std.proofs.Common.{◌+◌, arith}
-use Rattle.std.proofs.lemmas.Simd.{take_more_put_chunk, length-chunk}
-use Rattle.std.specs.Simd.Lanes.{chunk}
+use Rattle.ptlines.proofs.Common.{◌+◌, arith, take_more_put_chunk, length-chunk, chunk}
 use Rattle.ptlines.proofs.near.copy_lanes.Goals as goal
 
 pub returns-clause-copied : goal.returns-clause-copied

@@ -1,7 +1,4 @@
-use Rattle.std.proofs.Common.{◌≡◌, ◌<◌, ℕ, List, ◌++◌, take, drop, sym, ◌∙◌, ap, arith, append_assoc, take-append-drop}
-use Rattle.std.proofs.lemmas.List.{take_rest}
-use Rattle.std.specs.Io.KnownBytes.{append_known}
-use Rattle.ptlines.specs.Sinks.{SinkState, Takes, Took, waits}
+use Rattle.ptlines.proofs.Common.{◌≡◌, ◌<◌, ℕ, List, ◌++◌, take, drop, sym, ◌∙◌, ap, arith, append_assoc, take-append-drop, take_rest, append_known, SinkState, Takes, Took, waits}
 use Rattle.ptlines.proofs.Known.{append_known-append, waits-append}
 use Rattle.ptlines.proofs.out.send.Goals as goal
 

@@ -1,7 +1,5 @@
-use Rattle.std.proofs.Common.{◌≡◌, ◌≤◌, ℕ, List, ◌++◌, Result, Ok, Err, IfOk, length, take, drop, sym, ◌∙◌, subst, arith, length-take}
-use Rattle.std.proofs.lemmas.List.{take-append-le, take_all}
+use Rattle.ptlines.proofs.Common.{◌≡◌, ◌≤◌, ℕ, List, ◌++◌, Result, Ok, Err, IfOk, length, take, drop, sym, ◌∙◌, subst, arith, length-take, take-append-le, take_all, SourceState, Pulls}
 use Rattle.ptlines.specs.declared.sink.Failed.{Failed}
-use Rattle.ptlines.specs.Sources.{SourceState, Pulls}
 use Rattle.ptlines.specs.Origins.{origin_state}
 use Rattle.ptlines.proofs.reader.pull_front.Goals as goal
 

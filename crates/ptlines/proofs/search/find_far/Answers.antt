@@ -1,5 +1,4 @@
-use Rattle.std.proofs.Common.{◌≡◌, ◌+◌, ◌-◌, ℕ, length, subst, arith}
-use Rattle.memchr.specs.Find.{IsFirst, Passes, is_byte}
+use Rattle.ptlines.proofs.Common.{◌≡◌, ◌+◌, ◌-◌, ℕ, length, subst, arith, IsFirst, Passes, is_byte}
 use Rattle.ptlines.proofs.Masks.{first_behind}
 use Rattle.ptlines.proofs.search.find_far.Goals as goal
 

@@ -1,6 +1,5 @@
 -- The byte is at no place that was looked at.
-use Rattle.std.proofs.Common.{◌-◌, ◌≤◌, length}
-use Rattle.memchr.specs.Find.{Nowhere, Passes, is_byte}
+use Rattle.ptlines.proofs.Common.{◌-◌, ◌≤◌, length, Nowhere, Passes, is_byte}
 use Rattle.ptlines.proofs.search.find_far.Given as goal
 
 abbrev pub invariant-loop-at : goal.invariant-loop-at

@@ -1,5 +1,4 @@
-use Rattle.std.proofs.Common.{arith}
-use Rattle.memchr.specs.Find.{is_byte}
+use Rattle.ptlines.proofs.Common.{arith, is_byte}
 use Rattle.ptlines.proofs.Masks.{nowhere_marked, first_marked}
 use Rattle.ptlines.proofs.search.find_in_48.Goals as goal
 

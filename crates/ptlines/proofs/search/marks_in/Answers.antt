@@ -1,6 +1,4 @@
-use Rattle.std.proofs.Common.{eqb, w8}
-use Rattle.std.proofs.lemmas.Simd.{bitmask_splat, length-chunk}
-use Rattle.std.specs.Simd.Lanes.{chunk}
+use Rattle.ptlines.proofs.Common.{eqb, w8, bitmask_splat, length-chunk, chunk}
 use Rattle.ptlines.proofs.search.marks_in.Goals as goal
 
 pub returns : goal.returns

@@ -1,11 +1,6 @@
 -- The combinations before this one are kept, so the first fault of all is the first of this one and of the others.
-use Rattle.std.proofs.Common.{◌≡◌, ◌<◌, ◌+◌, ℕ, List, Option, None, Some, length, drop, map, get_or, sym, ap, ◌∙◌, refl}
-use Rattle.std.specs.Prelude.{IsSome}
-use Rattle.std.specs.Option.{option_or}
-use Rattle.std.proofs.lemmas.List.{drop_more}
-use Rattle.std.proofs.lemmas.Result.{err_from_is_err_and}
-use Rattle.ptopts.specs.Faults.{Fault, first_of, combined_fault}
-use Rattle.ptopts.specs.Steps.{options_seen}
+use Rattle.ptopts.proofs.Common.{◌≡◌, ◌<◌, ◌+◌, ℕ, List, Option, None, Some, length, drop, map, get_or, sym, ap, ◌∙◌, refl, IsSome, option_or, drop_more, err_from_is_err_and, Fault, first_of}
+use Rattle.ptopts.proofs.Common.{combined_fault, options_seen}
 use Rattle.ptopts.proofs.combinations.check_combinations.Goals as goal
 
 -- the first there is from a place on: that of the element there, or else that of the next ones

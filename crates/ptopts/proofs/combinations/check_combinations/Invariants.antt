@@ -1,7 +1,5 @@
 -- The combinations so far are not broken, so the first that is broken is among the others.
-use Rattle.std.proofs.Common.{◌≡◌, drop, map}
-use Rattle.ptopts.specs.Faults.{first_of, combined_fault, combination_fault}
-use Rattle.ptopts.specs.Steps.{options_seen}
+use Rattle.ptopts.proofs.Common.{◌≡◌, drop, map, first_of, combined_fault, combination_fault, options_seen}
 use Rattle.ptopts.proofs.combinations.check_combinations.Given as goal
 
 abbrev pub invariant-loop-combination : goal.invariant-loop-combination

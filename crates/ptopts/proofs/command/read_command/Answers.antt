@@ -1,7 +1,4 @@
-use Rattle.std.proofs.Common.{refl, ap, sym}
-use Rattle.ptopts.specs.Commands.{RunCut, RunPaste, RunUniq, RunComm, RunJoin, RunTr}
-use Rattle.ptopts.specs.Meant.{words_seen}
-use Rattle.ptopts.specs.Steps.{options_seen}
+use Rattle.ptopts.proofs.Common.{refl, ap, sym, RunCut, RunPaste, RunUniq, RunComm, RunJoin, RunTr, words_seen, options_seen}
 use Rattle.ptopts.proofs.Judged.{judged_ok}
 use Rattle.ptopts.proofs.command.read_command.Goals as goal
 

@@ -1,9 +1,5 @@
-use Rattle.std.proofs.Common.{rules, ◌∙◌, tests, List, ℕ, sym}
-use Rattle.std.specs.Borrow.{Bor}
-use Rattle.std.proofs.lemmas.Iterator.{YieldsList-from_slice}
-use Rattle.std.proofs.lemmas.Iterator.Search.{all_from_yields_List}
+use Rattle.ptopts.proofs.Common.{rules, ◌∙◌, tests, List, ℕ, sym, Bor, YieldsList-from_slice, all_from_yields_List, is_standard}
 use Rattle.std.proofs.lemmas.List.Folds.{list_all-map}
-use Rattle.ptopts.specs.Faults.{is_standard}
 use Rattle.ptopts.proofs.operands.all_standard.Goals as goal
 
 pub returns : goal.returns

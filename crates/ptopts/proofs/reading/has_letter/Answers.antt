@@ -1,6 +1,4 @@
-use Rattle.std.proofs.Common.{rules, ◌==◌, ◌∙◌, tests}
-use Rattle.std.proofs.lemmas.Iterator.{YieldsList-from_slice}
-use Rattle.std.proofs.lemmas.Iterator.Search.{any_from_yields_List}
+use Rattle.ptopts.proofs.Common.{rules, ◌==◌, ◌∙◌, tests, YieldsList-from_slice, any_from_yields_List}
 use Rattle.ptopts.specs.declared.reading.GivenOption.{GivenOption}
 use Rattle.ptopts.proofs.Seen.{has-seen}
 use Rattle.ptopts.proofs.reading.has_letter.Goals as goal

@@ -1,7 +1,4 @@
-use Rattle.std.proofs.Common.{◌≡◌, ◌<◌, ◌∙◌, ℕ, List, true, false, slice_index, length, refl, subst, sym}
-use Rattle.std.proofs.lemmas.Result.{err_from_is_err_and}
-use Rattle.ptopts.specs.Words.{is_flag}
-use Rattle.ptopts.specs.Meant.{meant}
+use Rattle.ptopts.proofs.Common.{◌≡◌, ◌<◌, ◌∙◌, ℕ, List, true, false, slice_index, length, refl, subst, sym, err_from_is_err_and, is_flag, meant}
 use Rattle.ptopts.proofs.Groups.{flag_read, value_read, fault_read}
 use Rattle.ptopts.proofs.reading.read_group.Goals as goal
 

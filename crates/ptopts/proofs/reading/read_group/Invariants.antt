@@ -1,6 +1,5 @@
 -- The letters so far are options of the group; the rest of the word says what it is.
-use Rattle.std.proofs.Common.{drop, option_map}
-use Rattle.ptopts.specs.Steps.{options_seen}
+use Rattle.ptopts.proofs.Common.{drop, option_map, options_seen}
 use Rattle.ptopts.proofs.Groups.{Ahead}
 use Rattle.ptopts.proofs.reading.read_group.Given as goal
 

@@ -1,10 +1,5 @@
-use Rattle.std.proofs.Common.{◌≡◌, true, false, ap, ◌∙◌, sym, option_map, List, ℕ}
-use Rattle.std.specs.Borrow.{Bor}
+use Rattle.ptopts.proofs.Common.{◌≡◌, true, false, ap, ◌∙◌, sym, option_map, List, ℕ, Bor, err_from_is_err_and, is_dashed, is_end_of_options, words_seen, meant, options_seen}
 use Rattle.std.proofs.lemmas.Option.{slice_get-map}
-use Rattle.std.proofs.lemmas.Result.{err_from_is_err_and}
-use Rattle.ptopts.specs.Words.{is_dashed, is_end_of_options}
-use Rattle.ptopts.specs.Meant.{words_seen, meant}
-use Rattle.ptopts.specs.Steps.{options_seen}
 use Rattle.ptopts.proofs.Readings.{reads_group, group_fails, left_smaller}
 use Rattle.ptopts.proofs.reading.read_words.Goals as goal
 

@@ -1,7 +1,5 @@
 -- The words so far were read as the grammar has it; the rest is still to be read.
-use Rattle.std.proofs.Common.{length}
-use Rattle.ptopts.specs.Meant.{words_seen}
-use Rattle.ptopts.specs.Steps.{options_seen}
+use Rattle.ptopts.proofs.Common.{length, words_seen, options_seen}
 use Rattle.ptopts.proofs.Readings.{Reads}
 use Rattle.ptopts.proofs.reading.read_words.Given as goal
 

@@ -1,6 +1,5 @@
-use Rattle.std.proofs.Common.{◌≡◌, ◌<◌, slice_index, true}
+use Rattle.ptopts.proofs.Common.{◌≡◌, ◌<◌, slice_index, true, takes_value}
 use Rattle.std.proofs.lemmas.Str.{IsCharBoundary-after_ascii}
-use Rattle.ptopts.specs.Words.{takes_value}
 use Rattle.ptopts.proofs.Spelled.{valued_is_ascii}
 use Rattle.ptopts.proofs.reading.valued_option.Goals as goal
 

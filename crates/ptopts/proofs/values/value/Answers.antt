@@ -1,8 +1,4 @@
-use Rattle.std.proofs.Common.{◌==◌, rules, ◌∙◌, tests, sym, option_map, rules, List, ℕ, ap}
-use Rattle.std.specs.Prelude.{option_and_then}
-use Rattle.std.specs.Borrow.{Bor}
-use Rattle.std.proofs.lemmas.Iterator.{YieldsList-from_slice}
-use Rattle.std.proofs.lemmas.Iterator.Search.{find_from_yields_List}
+use Rattle.ptopts.proofs.Common.{◌==◌, rules, ◌∙◌, tests, sym, option_map, List, ℕ, ap, option_and_then, Bor, YieldsList-from_slice, find_from_yields_List}
 use Rattle.ptopts.specs.declared.reading.GivenOption.{GivenOption}
 use Rattle.ptopts.proofs.Seen.{value_of-seen}
 use Rattle.ptopts.proofs.values.value.Goals as goal

@@ -1,9 +1,6 @@
 -- An input that a tool needs at once may be lacking, and then nothing is read; otherwise the engine goes, and the end
 -- of the run follows from how it ended.
-use Rattle.std.proofs.Common.{ℕ, refl, sym, ◌∙◌, subst}
-use Rattle.std.proofs.lemmas.Bool.{false≢true}
-use Rattle.ptrun.specs.Engines.{IsWithin}
-use Rattle.ptrun.specs.Runs.{outcome}
+use Rattle.ptrun.proofs.Common.{ℕ, refl, sym, ◌∙◌, subst, false≢true, IsWithin, outcome}
 use Rattle.ptrun.proofs.Runs.{run_of, lacking, named_of}
 use Rattle.ptrun.proofs.engine.run_engine.Goals as goal
 

@@ -1,6 +1,4 @@
-use Rattle.std.proofs.Common.{length, ap, arith}
-use Rattle.std.proofs.lemmas.List.{length-take-le, length-map}
-use Rattle.ptrun.specs.Operands.{place, places}
+use Rattle.ptrun.proofs.Common.{length, ap, arith, length-take-le, length-map, place, places}
 use Rattle.ptrun.proofs.joint.cells_of.Goals as goal
 
 pub push-requires : goal.push-requires

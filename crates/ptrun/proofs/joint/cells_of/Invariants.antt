@@ -1,6 +1,5 @@
 -- The cells so far name the places of the inputs so far, in order.
-use Rattle.std.proofs.Common.{◌≡◌, take}
-use Rattle.ptrun.specs.Operands.{places}
+use Rattle.ptrun.proofs.Common.{◌≡◌, take, places}
 use Rattle.ptrun.proofs.joint.cells_of.Given as goal
 
 abbrev pub invariant-loop-input : goal.invariant-loop-input

@@ -1,15 +1,8 @@
 -- Each turn passes one more operand. One that stops the pass stops the run there, and the others are left alone.
-use Rattle.std.proofs.Common.{subst, ◌≡◌, ◌<◌, ℕ, Bool, true, List, ◌+◌, length, drop, sym, ◌∙◌, ap, arith}
-use Rattle.std.proofs.lemmas.List.{get_or_default, set-get_or}
+use Rattle.ptrun.proofs.Common.{subst, ◌≡◌, ◌<◌, ℕ, Bool, true, List, ◌+◌, length, drop, sym, ◌∙◌, ap, arith, get_or_default, set-get_or, Reader, Given, Tool, no_reader, places, Standard}
 use borrow.Author.Rules.{scaled_Fits}
-use Rattle.ptlines.specs.Readers.{Reader}
-use Rattle.ptlines.specs.Inputs.{Given}
-use Rattle.ptflow.specs.Tools.{Tool}
-use Rattle.ptrun.specs.Worlds.{no_reader}
-use Rattle.ptrun.specs.Operands.{places}
 use Rattle.ptrun.proofs.InTurn.{pass_nothing, ready_here, pass_all, pass_unopened, pass_done, pass_stopped}
 use Rattle.ptrun.proofs.Order.{fresh_all, places_next, places_split, places_end, pass_here, place_low}
-use Rattle.ptopts.specs.declared.inputs.Input.TheVariants.{Standard}
 use Rattle.ptrun.proofs.operands.go_over_each.Goals as goal
 use Rattle.ptrun.proofs.operands.go_over_each.Goals.{then-is_refused, else-is_refused+in-Ok}
 

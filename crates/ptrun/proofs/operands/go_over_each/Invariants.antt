@@ -1,8 +1,6 @@
 -- The operands so far were passed, or named where they could not be opened, and the output is in the state that the
 -- tool has reached behind them.
-use Rattle.std.proofs.Common.{take}
-use Rattle.ptopts.specs.Meant.{words_seen}
-use Rattle.ptrun.specs.Operands.{places}
+use Rattle.ptrun.proofs.Common.{take, words_seen, places}
 use Rattle.ptrun.proofs.InTurn.{Pass}
 use Rattle.ptrun.proofs.operands.go_over_each.Given as goal
 

@@ -1,6 +1,4 @@
-use Rattle.std.proofs.Common.{sym, ◌∙◌}
-use Rattle.std.proofs.lemmas.Bool.{false≢true}
-use Rattle.ptmerge.specs.declared.order.Side.TheVariants.{First, Second}
+use Rattle.ptrun.proofs.Common.{sym, ◌∙◌, false≢true, First, Second}
 use Rattle.ptrun.proofs.paired.merge_two.Goals as goal
 
 pub prove-unreachable-requires-2 : goal.prove-unreachable-requires-2

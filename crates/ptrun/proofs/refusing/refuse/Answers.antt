@@ -1,5 +1,4 @@
-use Rattle.std.proofs.Common.{◌∙◌, ap}
-use Rattle.std.specs.Prelude.{encode_utf8}
+use Rattle.ptrun.proofs.Common.{◌∙◌, ap, encode_utf8}
 use Rattle.ptrun.proofs.refusing.refuse.Goals as goal
 
 pub returns-in-Together-clause-said : goal.returns-in-Together-clause-said

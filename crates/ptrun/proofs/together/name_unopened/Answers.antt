@@ -1,18 +1,9 @@
 -- Each turn names one more input, if it could not be opened.
-use Rattle.std.proofs.Common.{◌<◌, ℕ, List, length, take, refl, sym, ◌∙◌, ap, subst, arith}
-use Rattle.std.proofs.lemmas.List.{get_or_default}
+use Rattle.ptrun.proofs.Common.{◌<◌, ℕ, List, length, take, refl, sym, ◌∙◌, ap, subst, arith, get_or_default, Reader, words_seen, places, no_reader, shut, Tells, unopened, Standard, list_any}
 use borrow.Author.Rules.{scaled_Fits}
-use Rattle.ptlines.specs.Readers.{Reader}
-use Rattle.ptopts.specs.Meant.{words_seen}
-use Rattle.ptrun.specs.Operands.{places}
-use Rattle.ptrun.specs.Worlds.{no_reader, shut}
-use Rattle.ptrun.specs.Sayings.{Tells}
 use Rattle.ptrun.proofs.Sayings.{tells_nothing}
-use Rattle.ptrun.specs.Meanings.{unopened}
 use Rattle.ptrun.proofs.Order.{places_next, places_end}
 use Rattle.ptrun.proofs.Sources.{tells_more, any_now, any_before}
-use Rattle.ptopts.specs.declared.inputs.Input.TheVariants.{Standard}
-use Rattle.std.specs.List.{list_any}
 use Rattle.ptrun.proofs.together.name_unopened.Goals as goal
 use Rattle.ptrun.proofs.together.name_unopened.Goals.{then-is_refused, else-is_refused}
 

@@ -1,11 +1,5 @@
 -- Of the inputs so far, each that could not be opened was named, in order.
-use Rattle.std.proofs.Common.{◌≡◌, take}
-use Rattle.std.specs.List.{list_any}
-use Rattle.ptopts.specs.Meant.{words_seen}
-use Rattle.ptrun.specs.Worlds.{shut}
-use Rattle.ptrun.specs.Meanings.{unopened}
-use Rattle.ptrun.specs.Sayings.{Tells}
-use Rattle.ptrun.specs.Operands.{places}
+use Rattle.ptrun.proofs.Common.{◌≡◌, take, list_any, words_seen, shut, unopened, Tells, places}
 use Rattle.ptrun.proofs.together.name_unopened.Given as goal
 
 abbrev pub invariant-loop-input : goal.invariant-loop-input

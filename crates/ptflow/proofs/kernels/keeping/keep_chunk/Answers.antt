@@ -1,9 +1,4 @@
-use Rattle.std.proofs.Common.{ℕ, ◌≡◌, ◌≤◌, ◌+◌, ◌∙◌, Bool, List, not, length, take, map, arith}
-use Rattle.std.specs.Prelude.{filter}
-use Rattle.std.specs.Simd.Lanes.{chunk}
-use Rattle.std.proofs.lemmas.Simd.{length-chunk}
-use Rattle.std.proofs.lemmas.List.{length-map}
-use Rattle.ptflow.specs.Workings.Bytes.ByteSets.{holds}
+use Rattle.ptflow.proofs.Common.{ℕ, ◌≡◌, ◌≤◌, ◌+◌, ◌∙◌, Bool, List, not, length, take, map, arith, filter, chunk, length-chunk, length-map, holds}
 use Rattle.ptflow.proofs.OfBytes.FourLanes.{lanes_of_mask, none_of_four, all_kept_in_four, chunk_in_four, kept_in_four}
 use Rattle.ptflow.proofs.kernels.keeping.keep_chunk.Goals as goal
 

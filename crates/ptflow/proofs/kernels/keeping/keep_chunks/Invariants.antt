@@ -1,6 +1,5 @@
 -- Of the bytes so far, those that are not in the set were put, in order.
-use Rattle.std.proofs.Common.{not, length, ◌-◌}
-use Rattle.ptflow.specs.Workings.Bytes.ByteSets.{Keeps, holds}
+use Rattle.ptflow.proofs.Common.{not, length, ◌-◌, Keeps, holds}
 use Rattle.ptflow.proofs.kernels.keeping.keep_chunks.Given as goal
 
 abbrev pub invariant-loop-at : goal.invariant-loop-at

@@ -1,6 +1,4 @@
-use Rattle.std.proofs.Common.{ℕ, Bool, not, map}
-use Rattle.std.proofs.lemmas.List.{length-map}
-use Rattle.ptflow.specs.Workings.Bytes.ByteSets.{holds}
+use Rattle.ptflow.proofs.Common.{ℕ, Bool, not, map, length-map, holds}
 use Rattle.ptflow.proofs.OfBytes.ChosenLanes.{chosen_by_test}
 use Rattle.ptflow.proofs.OfBytes.KeptBytes.{keep_bits}
 use Rattle.ptflow.proofs.kernels.keeping.keep_lanes.Goals as goal

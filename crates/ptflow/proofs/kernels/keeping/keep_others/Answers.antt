@@ -1,5 +1,4 @@
-use Rattle.std.proofs.Common.{ℕ, ◌+◌, Bool, not, false, get_or, refl, ap, arith}
-use Rattle.ptflow.specs.Workings.Bytes.ByteSets.{holds}
+use Rattle.ptflow.proofs.Common.{ℕ, ◌+◌, Bool, not, false, get_or, refl, ap, arith, holds}
 use Rattle.ptflow.proofs.OfBytes.KeptBytes.{keeps_same, keeps_byte, keeps_all}
 use Rattle.ptflow.proofs.kernels.keeping.keep_others.Goals as goal
 

@@ -1,6 +1,4 @@
-use Rattle.std.proofs.Common.{◌≡◌, ◌+◌, ◌++◌, length, take, ap, ◌∙◌, arith}
-use Rattle.std.proofs.lemmas.Simd.{take_more_put_chunk, length-chunk}
-use Rattle.std.proofs.lemmas.List.{length-map}
+use Rattle.ptflow.proofs.Common.{◌≡◌, ◌+◌, ◌++◌, length, take, ap, ◌∙◌, arith, take_more_put_chunk, length-chunk, length-map}
 use Rattle.ptflow.proofs.kernels.lanes.move_lanes.Goals as goal
 
 pub returns-clause-begun : goal.returns-clause-begun

@@ -1,6 +1,5 @@
 -- Each byte so far was put, as this way moves it.
-use Rattle.std.proofs.Common.{length, ◌-◌}
-use Rattle.ptflow.specs.Workings.Bytes.Lanes.{IsMovedTo}
+use Rattle.ptflow.proofs.Common.{length, ◌-◌, IsMovedTo}
 use Rattle.ptflow.proofs.kernels.lanes.move_most.Given as goal
 
 abbrev pub invariant-loop-at : goal.invariant-loop-at

@@ -1,7 +1,5 @@
 -- Each byte so far was put, as the stretches move it.
-use Rattle.std.proofs.Common.{length, ◌-◌}
-use Rattle.ptlangs.specs.TrShifts.{shifted}
-use Rattle.ptflow.specs.Workings.Bytes.Lanes.{IsMovedTo}
+use Rattle.ptflow.proofs.Common.{length, ◌-◌, shifted, IsMovedTo}
 use Rattle.ptflow.proofs.kernels.lanes.translate.Given as goal
 
 abbrev pub invariant-loop-at : goal.invariant-loop-at

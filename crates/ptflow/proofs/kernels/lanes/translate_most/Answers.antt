@@ -1,7 +1,5 @@
-use Rattle.std.proofs.Common.{ℕ, Option, not, sym, ap, ◌∙◌}
+use Rattle.ptflow.proofs.Common.{ℕ, Option, not, sym, ap, ◌∙◌, shifted, told_adds, by_reach, by_two, by_four}
 use Rattle.std.specs.Prelude.{is_some}
-use Rattle.ptlangs.specs.TrShifts.{shifted}
-use Rattle.ptflow.specs.Workings.Bytes.Lanes.{told_adds, by_reach, by_two, by_four}
 use Rattle.ptflow.proofs.OfBytes.LaneLemmas.{moved_same, one_moves, two_move, four_move}
 use Rattle.ptflow.proofs.kernels.lanes.translate_most.Goals as goal
 

@@ -1,10 +1,7 @@
-use Rattle.std.proofs.Common.{◌≡◌, ◌++◌, ◌/◌, ◌∙◌, ℕ, List, Bool, length, take, drop, sym, ap, length-drop, length-append, get_or, arith}
+use Rattle.ptflow.proofs.Common.{◌≡◌, ◌++◌, ◌/◌, ◌∙◌, ℕ, List, Bool, length, take, drop, sym, ap, length-drop, length-append, get_or, arith, range_with_len, mask_l, pick_l, length-take-le, take-map}
+use Rattle.ptflow.proofs.Common.{pick_l-range_with_len, chosen_by}
 use Rattle.std.specs.Prelude.{bit_and}
-use Rattle.std.specs.List.{range_with_len}
-use Rattle.std.specs.Simd.Lanes.{mask_l, pick_l}
-use Rattle.std.proofs.lemmas.List.{take-append-drop, length-take-le, take-map}
-use Rattle.std.proofs.lemmas.Simd.{pick_l-range_with_len}
-use Rattle.ptflow.specs.Workings.Bytes.Packings.{chosen_by}
+use Rattle.std.proofs.lemmas.List.{take-append-drop}
 use Rattle.ptflow.proofs.OfBytes.ChosenLanes.{low_half, high_half, chosen_by_halves}
 use Rattle.ptflow.proofs.kernels.packing.pack.Goals as goal
 

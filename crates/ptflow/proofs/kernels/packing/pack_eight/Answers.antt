@@ -1,8 +1,5 @@
-use Rattle.std.proofs.Common.{◌∙◌, [], refl, sym, subst, slice_index_or, arith, w8}
+use Rattle.ptflow.proofs.Common.{◌∙◌, [], refl, sym, subst, slice_index_or, arith, w8, swz_l, length-swz_l, SwzOk-from_below, ones-le, IsRow}
 use Rattle.std.specs.Prelude.{count_ones}
-use Rattle.std.proofs.lemmas.Simd.{swz_l, length-swz_l, SwzOk-from_below}
-use Rattle.std.proofs.lemmas.Nat.{ones-le}
-use Rattle.ptflow.specs.Workings.Bytes.Packings.{IsRow}
 use Rattle.ptflow.proofs.OfBytes.ChosenLanes.{flags_of, row_lanes, row_of_mask, row_chooses, chosen_stored}
 use Rattle.ptflow.proofs.kernels.packing.pack_eight.Goals as goal
 

@@ -1,6 +1,4 @@
-use Rattle.std.proofs.Common.{◌+◌, arith}
-use Rattle.std.specs.Simd.Lanes.{chunk}
-use Rattle.std.proofs.lemmas.Simd.{take_more_put_chunk, length-chunk}
+use Rattle.ptflow.proofs.Common.{◌+◌, arith, chunk, take_more_put_chunk, length-chunk}
 use Rattle.ptflow.proofs.kernels.packing.put_chunk.Goals as goal
 
 pub returns-clause-put : goal.returns-clause-put

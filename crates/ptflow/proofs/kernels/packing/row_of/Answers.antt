@@ -1,5 +1,4 @@
-use Rattle.std.proofs.Common.{◌/◌, ◌^◌, ◌≡◌, refl, arith}
-use Rattle.std.proofs.lemmas.Grind.{and_numeral}
+use Rattle.ptflow.proofs.Common.{◌/◌, ◌^◌, ◌≡◌, refl, arith, and_numeral}
 use Rattle.ptflow.proofs.OfBytes.ChosenLanes.{row_more, row_whole}
 use Rattle.ptflow.proofs.kernels.packing.row_of.Goals as goal
 

@@ -1,6 +1,5 @@
 -- Each turn cleared the lowest bit that was set.
-use Rattle.std.proofs.Common.{◌≡◌, Bool, List}
-use Rattle.std.specs.Simd.Lanes.{mask_l}
+use Rattle.ptflow.proofs.Common.{◌≡◌, Bool, List, mask_l}
 use Rattle.ptflow.proofs.OfBytes.Nths.{without}
 use Rattle.ptflow.proofs.kernels.places.bit_behind.Given as goal
 

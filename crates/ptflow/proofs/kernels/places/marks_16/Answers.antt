@@ -1,6 +1,4 @@
-use Rattle.std.proofs.Common.{eqb, arith, w8}
-use Rattle.std.proofs.lemmas.Simd.{bitmask_splat, length-chunk}
-use Rattle.std.specs.Simd.Lanes.{chunk}
+use Rattle.ptflow.proofs.Common.{eqb, arith, w8, bitmask_splat, length-chunk, chunk}
 use Rattle.ptflow.proofs.kernels.places.marks_16.Goals as goal
 
 pub returns : goal.returns

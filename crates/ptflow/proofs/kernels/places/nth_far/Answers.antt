@@ -1,10 +1,5 @@
 -- A chunk with fewer places than are wanted is passed whole; otherwise the place is found by its bit.
-use Rattle.std.proofs.Common.{◌≡◌, ◌+◌, ◌-◌, take, ◌∙◌, ap, arith}
-use Rattle.std.specs.Int.RustNames.{count_ones}
-use Rattle.std.specs.List.{count_by}
-use Rattle.std.specs.Simd.Lanes.{chunk}
-use Rattle.std.proofs.lemmas.Simd.{ones-mask_l}
-use Rattle.memchr.specs.Find.{is_byte}
+use Rattle.ptflow.proofs.Common.{◌≡◌, ◌+◌, ◌-◌, take, ◌∙◌, ap, arith, count_ones, count_by, chunk, ones-mask_l, is_byte}
 use Rattle.ptflow.proofs.OfBytes.Nths.{count_up_to, count_chunk, count_front, behind_front, behind_in_chunk, near}
 use Rattle.ptflow.proofs.kernels.places.nth_far.Goals as goal
 

@@ -1,8 +1,6 @@
 -- The places that were passed and those still to be found are together as many as were asked for, and one at least is
 -- to be found.
-use Rattle.std.proofs.Common.{◌≡◌, ◌<◌, ◌≤◌, ◌+◌, ◌-◌, length, take}
-use Rattle.std.specs.List.{count_by}
-use Rattle.memchr.specs.Find.{is_byte}
+use Rattle.ptflow.proofs.Common.{◌≡◌, ◌<◌, ◌≤◌, ◌+◌, ◌-◌, length, take, count_by, is_byte}
 use Rattle.ptflow.proofs.kernels.places.nth_far.Given as goal
 
 abbrev pub invariant-loop-at : goal.invariant-loop-at

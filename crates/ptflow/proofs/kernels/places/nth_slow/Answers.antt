@@ -1,5 +1,4 @@
-use Rattle.std.proofs.Common.{◌≤◌, arith}
-use Rattle.memchr.specs.Find.{is_byte}
+use Rattle.ptflow.proofs.Common.{◌≤◌, arith, is_byte}
 use Rattle.ptflow.proofs.OfBytes.Nths.{count_up_to}
 use Rattle.ptflow.proofs.kernels.places.nth_slow.Goals as goal
 

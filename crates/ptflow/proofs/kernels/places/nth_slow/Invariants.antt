@@ -1,7 +1,5 @@
 -- The places that were passed and those still to be found are together as many as were asked for.
-use Rattle.std.proofs.Common.{◌≡◌, ◌<◌, ◌+◌, take}
-use Rattle.std.specs.List.{count_by}
-use Rattle.memchr.specs.Find.{is_byte}
+use Rattle.ptflow.proofs.Common.{◌≡◌, ◌<◌, ◌+◌, take, count_by, is_byte}
 use Rattle.ptflow.proofs.kernels.places.nth_slow.Given as goal
 
 abbrev pub invariant-loop-at : goal.invariant-loop-at

@@ -1,7 +1,5 @@
 -- The mask has the ends that are still to be replaced, and as many delimiters were taken as ends were replaced.
-use Rattle.std.proofs.Common.{◌≡◌, ◌+◌, ◌%◌, ◌++◌, length, map, take}
-use Rattle.std.specs.Simd.Lanes.{mask_l, chunk}
-use Rattle.memchr.specs.Find.{is_byte}
+use Rattle.ptflow.proofs.Common.{◌≡◌, ◌+◌, ◌%◌, ◌++◌, length, map, take, mask_l, chunk, is_byte}
 use Rattle.ptflow.proofs.OfBytes.Nths.{without}
 use Rattle.ptflow.proofs.OfPaste.Turns.{first_turns}
 use Rattle.ptflow.proofs.kernels.replacing.replace_chunk.Given as goal

@@ -1,7 +1,5 @@
 -- Each byte so far was put, and each line end as the delimiter.
-use Rattle.std.proofs.Common.{length, ◌-◌}
-use Rattle.ptflow.specs.Workings.Bytes.Lanes.{IsMovedTo}
-use Rattle.ptflow.specs.Workings.Paste.SerialRests.{with_delimiter}
+use Rattle.ptflow.proofs.Common.{length, ◌-◌, IsMovedTo, with_delimiter}
 use Rattle.ptflow.proofs.kernels.replacing.replace_ends.Given as goal
 
 abbrev pub invariant-loop-at : goal.invariant-loop-at

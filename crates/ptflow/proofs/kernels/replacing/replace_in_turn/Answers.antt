@@ -1,6 +1,5 @@
 -- Whole chunks come first, and then the bytes behind them, one by one; the turn goes on from one to the other.
-use Rattle.std.proofs.Common.{◌%◌, length, refl, sym, ◌∙◌, ap, arith}
-use Rattle.std.proofs.lemmas.List.{length-set}
+use Rattle.ptflow.proofs.Common.{◌%◌, length, refl, sym, ◌∙◌, ap, arith, length-set}
 use Rattle.ptflow.proofs.OfPaste.Turns.{end_more, other_more}
 use Rattle.ptflow.proofs.kernels.replacing.replace_in_turn.Goals as goal
 use Rattle.ptflow.proofs.kernels.replacing.replace_in_turn.Goals.{then-from-at, else-from-at}

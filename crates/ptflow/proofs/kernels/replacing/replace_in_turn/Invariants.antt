@@ -1,6 +1,5 @@
 -- Each byte so far was put, each line end as the delimiter whose turn it was; the turn is that of the next end.
-use Rattle.std.proofs.Common.{◌-◌, length}
-use Rattle.ptflow.specs.Workings.Paste.SerialRests.{IsTurnedTo}
+use Rattle.ptflow.proofs.Common.{◌-◌, length, IsTurnedTo}
 use Rattle.ptflow.proofs.kernels.replacing.replace_in_turn.Given as goal
 
 abbrev pub invariant-loop-at : goal.invariant-loop-at

@@ -1,6 +1,5 @@
 -- The table has the flags of the bytes so far, and no others.
-use Rattle.std.proofs.Common.{◌≡◌, ℕ, ◌<◌, ◌&&◌, false, length, ltb, get_or}
-use Rattle.ptflow.specs.Workings.Bytes.ByteSets.{marks}
+use Rattle.ptflow.proofs.Common.{◌≡◌, ℕ, ◌<◌, ◌&&◌, false, length, ltb, get_or, marks}
 use Rattle.ptflow.proofs.kernels.sets.table_of.Given as goal
 
 abbrev pub invariant-loop-byte : goal.invariant-loop-byte

@@ -1,10 +1,6 @@
 -- Whole chunks come first, and then the bytes behind them.
-use Rattle.std.proofs.Common.{◌≡◌, ◌+◌, ◌-◌, ◌++◌, [], cond, length, take, drop, sym, ◌∙◌, ap, arith, length-drop, take-append-drop}
-use Rattle.std.specs.List.{count_by}
-use Rattle.std.proofs.lemmas.List.{append-nil, drop_all, take_rest}
-use Rattle.std.proofs.lemmas.List.Sums.{sum_by-append}
-use Rattle.memchr.specs.Find.{is_byte}
-use Rattle.ptflow.specs.Workings.Paste.SerialRests.{with_turns}
+use Rattle.ptflow.proofs.Common.{◌≡◌, ◌+◌, ◌-◌, ◌++◌, [], cond, length, take, drop, sym, ◌∙◌, ap, arith, length-drop, take-append-drop, count_by, append-nil, drop_all, take_rest, sum_by-append}
+use Rattle.ptflow.proofs.Common.{is_byte, with_turns}
 use Rattle.ptflow.proofs.OfPaste.Turns.{turns-append}
 use Rattle.ptflow.proofs.kernels.spreading.replace_by_spread.Goals as goal
 

@@ -1,15 +1,7 @@
 -- The ends of a chunk are the bits of its mask, in order; each turn sets the lowest one to the byte whose turn it is.
-use Rattle.std.proofs.Common.{◌≡◌, ◌+◌, ◌<◌, suc, map, length, take, slice_index_or, ◌∙◌, ap, arith}
-use Rattle.std.specs.Prelude.{unwrap_or}
-use Rattle.std.specs.Int.RustNames.{count_ones}
-use Rattle.std.specs.Simd.Lanes.{chunk}
-use Rattle.std.proofs.Math.Nat.{mod-lt, mod-add-mod}
-use Rattle.std.proofs.lemmas.List.{length-take-le, length-set}
-use Rattle.std.proofs.lemmas.List.Sums.{count_by-le-length}
-use Rattle.std.proofs.lemmas.Simd.{ones-mask_l, take_more_put_chunk, length-put_chunk, length-chunk}
+use Rattle.ptflow.proofs.Common.{◌≡◌, ◌+◌, ◌<◌, suc, map, length, take, slice_index_or, ◌∙◌, ap, arith, unwrap_or, count_ones, chunk, mod-lt, mod-add-mod, length-take-le, length-set}
+use Rattle.ptflow.proofs.Common.{count_by-le-length, ones-mask_l, take_more_put_chunk, length-put_chunk, length-chunk, is_byte, delim_at}
 use lib.Count.{count_trailing_zeros}
-use Rattle.memchr.specs.Find.{is_byte}
-use Rattle.ptlangs.specs.DelimLists.{delim_at}
 use Rattle.ptflow.proofs.OfBytes.Nths.{cleared, behind_set}
 use Rattle.ptflow.proofs.OfPaste.Turns.{first_turns, turn_on, all_turned, set_in_chunk}
 use Rattle.ptflow.proofs.kernels.spreading.spread_chunk.Goals as goal

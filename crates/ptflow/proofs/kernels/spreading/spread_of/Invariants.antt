@@ -1,7 +1,6 @@
 -- What ends become at the turns so far.
-use Rattle.std.proofs.Common.{◌≡◌, ◌<◌, ℕ, length}
-use Rattle.std.specs.Prelude.{slice_index_or, unwrap_or}
-use Rattle.ptlangs.specs.DelimLists.{delim_at}
+use Rattle.ptflow.proofs.Common.{◌≡◌, ◌<◌, ℕ, length, unwrap_or, delim_at}
+use Rattle.std.specs.Prelude.{slice_index_or}
 use Rattle.ptflow.proofs.kernels.spreading.spread_of.Given as goal
 
 abbrev pub invariant-loop-number : goal.invariant-loop-number

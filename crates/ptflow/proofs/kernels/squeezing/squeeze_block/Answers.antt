@@ -1,9 +1,6 @@
 -- The first byte stays or goes by the byte that was written before the block; each other one by the byte in front of
 -- it.
-use Rattle.std.proofs.Common.{◌≡◌, ◌≤◌, ◌<◌, zero, suc, ◌+◌, ◌-◌, drop, ℕ, ◌&&◌, eqb, Some, false, length, take, get_or, arith, ap, ◌∙◌, slice_index_or, w8}
-use Rattle.std.specs.Option.{option_eq}
-use Rattle.std.proofs.lemmas.Simd.{chunk-fits}
-use Rattle.ptflow.specs.Workings.Bytes.ByteSets.{holds}
+use Rattle.ptflow.proofs.Common.{◌≡◌, ◌≤◌, ◌<◌, zero, suc, ◌+◌, ◌-◌, drop, ℕ, ◌&&◌, eqb, Some, false, length, take, get_or, arith, ap, ◌∙◌, slice_index_or, w8, option_eq, chunk-fits, holds}
 use Rattle.ptflow.proofs.OfTr.SqueezeLemmas.{squeezing_starts, squeezing_piece, same_behind}
 use Rattle.ptflow.proofs.kernels.squeezing.squeeze_block.Goals as goal
 

@@ -1,7 +1,6 @@
 -- What was put stands in front of what is left of the bytes that are still to be squeezed, each with the byte in front
 -- of it.
-use Rattle.std.proofs.Common.{◌-◌, false, length, slice_index_or}
-use Rattle.ptflow.specs.Workings.Tr.TrRests.{squeeze_from}
+use Rattle.ptflow.proofs.Common.{◌-◌, false, length, slice_index_or, squeeze_from}
 use Rattle.ptflow.proofs.OfTr.SqueezeLemmas.{Squeezing}
 use Rattle.ptflow.proofs.kernels.squeezing.squeeze_block.Given as goal
 

@@ -1,8 +1,5 @@
-use Rattle.std.proofs.Common.{ℕ, ◌≡◌, ◌≤◌, ◌<◌, ◌+◌, ◌-◌, ◌++◌, ◌∙◌, ◌&&◌, Bool, ℤ, List, cond, map, bit_and, eqb, length, take, sym, ap, arith, w8, append_assoc}
-use Rattle.std.specs.Int.{cast_unsigned}
-use Rattle.std.specs.Simd.Lanes.{zip2, chunk}
-use Rattle.std.proofs.lemmas.Simd.{length-chunk, length-zip2}
-use Rattle.ptflow.specs.Workings.Bytes.ByteSets.{holds}
+use Rattle.ptflow.proofs.Common.{ℕ, ◌≡◌, ◌≤◌, ◌<◌, ◌+◌, ◌-◌, ◌++◌, ◌∙◌, ◌&&◌, Bool, ℤ, List, cond, map, bit_and, eqb, length, take, sym, ap, arith, w8, append_assoc, cast_unsigned, zip2, chunk}
+use Rattle.ptflow.proofs.Common.{length-chunk, length-zip2, holds}
 use Rattle.ptflow.proofs.OfBytes.FourLanes.{none_of_four}
 use Rattle.ptflow.proofs.OfTr.SqueezeLemmas.{same_flags, gone_flags, same_lanes, gone_lanes, none_same, stays_at, stays_in_four, all_stay_in_four}
 use Rattle.ptflow.proofs.kernels.squeezing.squeeze_chunk.Goals as goal

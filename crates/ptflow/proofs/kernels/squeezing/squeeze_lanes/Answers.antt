@@ -1,7 +1,4 @@
-use Rattle.std.proofs.Common.{ℕ, ◌≡◌, ◌&&◌, Bool, eqb, not, length, arith}
-use Rattle.std.specs.Simd.Lanes.{zip2}
-use Rattle.std.proofs.lemmas.Simd.{length-zip2}
-use Rattle.ptflow.specs.Workings.Bytes.ByteSets.{holds}
+use Rattle.ptflow.proofs.Common.{ℕ, ◌≡◌, ◌&&◌, Bool, eqb, not, length, arith, zip2, length-zip2, holds}
 use Rattle.ptflow.proofs.OfTr.SqueezeLemmas.{stays_mask}
 use Rattle.ptflow.proofs.kernels.squeezing.squeeze_lanes.Goals as goal
 

@@ -1,6 +1,4 @@
-use Rattle.std.proofs.Common.{◌≤◌, ◌+◌, ◌-◌, ◌++◌, ◌∙◌, ℕ, false, length, take, drop, get_or, slice_index_or, ap, arith, w8}
-use Rattle.std.proofs.lemmas.Simd.{chunk-fits}
-use Rattle.ptflow.specs.Workings.Bytes.ByteSets.{holds}
+use Rattle.ptflow.proofs.Common.{◌≤◌, ◌+◌, ◌-◌, ◌++◌, ◌∙◌, ℕ, false, length, take, drop, get_or, slice_index_or, ap, arith, w8, chunk-fits, holds}
 use Rattle.ptflow.proofs.OfTr.SqueezeLemmas.{squeezing_piece, same_behind, stays_piece}
 use Rattle.ptflow.proofs.kernels.squeezing.squeeze_tail.Goals as goal
 

@@ -1,6 +1,4 @@
-use Rattle.std.proofs.Common.{cond, sym, ◌∙◌}
-use Rattle.ptlangs.specs.Jobs.{cut_job}
-use Rattle.ptflow.specs.Cuts.{cut_tool}
+use Rattle.ptflow.proofs.Common.{cond, sym, ◌∙◌, cut_job, cut_tool}
 use Rattle.ptflow.proofs.OfPasses.PassLemmas.{pass_halted, pass_set, bare_set}
 use Rattle.ptflow.proofs.tools.cut.cut.Goals as goal
 

@@ -1,15 +1,8 @@
 -- Each turn fills one more cell, or leaves it empty where its reader has ended. A read or a growth that fails stops
 -- the row, of which nothing was pushed.
-use Rattle.std.proofs.Common.{◌≡◌, ◌<◌, ℕ, Bool, true, false, [], None, length, get_or, refl, ◌∙◌, ap, arith}
+use Rattle.ptflow.proofs.Common.{◌≡◌, ◌<◌, ℕ, Bool, true, false, [], None, length, get_or, refl, ◌∙◌, ap, arith, All-get_or, err_from_is_err_and, Output, Wrote, Reader, BreaksRead, BreaksMemory}
+use Rattle.ptflow.proofs.Common.{wrote_nothing, wrote_trans, reader_at, NotAsked}
 use borrow.Author.Rules.{scaled_Fits}
-use Rattle.std.proofs.lemmas.List.Elements.{All-get_or}
-use Rattle.std.proofs.lemmas.Result.{err_from_is_err_and}
-use Rattle.ptlines.specs.Outputs.{Output, Wrote}
-use Rattle.ptlines.specs.Readers.{Reader}
-use Rattle.ptlines.specs.Fills.{BreaksRead, BreaksMemory}
-use Rattle.ptlines.proofs.Pushed.{wrote_nothing, wrote_trans}
-use Rattle.ptflow.specs.PastePasses.{reader_at}
-use Rattle.ptflow.specs.Workings.Paste.RowTurns.{NotAsked}
 use Rattle.ptflow.proofs.OfPaste.Grids.{times_below}
 use Rattle.ptflow.proofs.OfPaste.RowTurns.{filling_starts, filling_next, filling_breaks, at_index}
 use Rattle.ptflow.proofs.tools.paste.fill_row.Given as given

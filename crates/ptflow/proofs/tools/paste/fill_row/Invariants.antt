@@ -1,7 +1,5 @@
 -- The cells so far stand in their slots; nothing was pushed, but what was staged may have been sent.
-use Rattle.std.proofs.Common.{◌≡◌, false, []}
-use Rattle.ptlines.specs.Outputs.{Wrote}
-use Rattle.ptflow.specs.Workings.Paste.RowTurns.{Filling}
+use Rattle.ptflow.proofs.Common.{◌≡◌, false, [], Wrote, Filling}
 use Rattle.ptflow.proofs.tools.paste.fill_row.Given as goal
 
 abbrev pub invariant-loop-column : goal.invariant-loop-column

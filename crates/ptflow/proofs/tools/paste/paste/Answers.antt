@@ -1,10 +1,6 @@
 -- Each row was passed, by one way or the other, and then the invariant holds again; where none was passed, nothing
 -- happened or the readers are done.
-use Rattle.std.proofs.Common.{◌<◌, List, sym, ◌∙◌, ap, subst, arith}
-use Rattle.std.proofs.lemmas.Result.{err_from_is_err_and}
-use Rattle.std.specs.Prelude.{sum_by}
-use Rattle.ptlines.specs.Readers.{Reader, budget}
-use Rattle.ptlangs.specs.Jobs.{ending}
+use Rattle.ptflow.proofs.Common.{◌<◌, List, sym, ◌∙◌, ap, subst, arith, err_from_is_err_and, sum_by, Reader, budget, ending}
 use Rattle.ptflow.proofs.OfPaste.PasteEnds.{paste_held_write, paste_halted, paste_unslotted, paste_broke, paste_done, paste_row_write}
 use Rattle.ptflow.proofs.OfPaste.Pastings.{pasting_still, pasting_held, pasting_starts, pasting_sent, pasting_room, pasting_more, row_wrote, now_end, now_fault}
 use Rattle.ptflow.proofs.tools.paste.paste.Goals as goal

@@ -1,8 +1,5 @@
 -- The rows so far were pushed, and the grid of the lines to come has the others, whatever comes.
-use Rattle.std.proofs.Common.{◌≡◌}
-use Rattle.std.specs.Prelude.{sum_by}
-use Rattle.ptlines.specs.Readers.{budget}
-use Rattle.ptlangs.specs.Jobs.{paste_job, ending}
+use Rattle.ptflow.proofs.Common.{◌≡◌, sum_by, budget, paste_job, ending}
 use Rattle.ptflow.proofs.OfPaste.Pastings.{Pasting}
 use Rattle.ptflow.proofs.tools.paste.paste.Given as goal
 

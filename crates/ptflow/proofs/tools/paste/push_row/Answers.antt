@@ -1,8 +1,6 @@
 -- Each turn pushes one more cell. A push that fails leaves a beginning of the row.
-use Rattle.std.proofs.Common.{◌≡◌, ℕ, ◌+◌, ◌<◌, ◌≤◌, List, [], ◌∷◌, length, take, drop, get_or, ◌∙◌, ap, arith}
-use Rattle.std.proofs.lemmas.List.{length-take-le, drop_more, drop_all, get_or-take}
-use Rattle.ptflow.specs.Workings.Paste.SerialRests.{row_from}
-use Rattle.ptflow.specs.declared.tools.paste.serial.Cell.{Cell}
+use Rattle.ptflow.proofs.Common.{◌≡◌, ℕ, ◌+◌, ◌<◌, ◌≤◌, List, [], ◌∷◌, length, take, drop, get_or, ◌∙◌, ap, arith, length-take-le, drop_more, drop_all, row_from, Cell}
+use Rattle.std.proofs.lemmas.List.{get_or-take}
 use Rattle.ptflow.proofs.OfPasses.Continuations.{amid_starts}
 use Rattle.ptflow.proofs.OfPaste.SerialRests.{begun_number}
 use Rattle.ptflow.proofs.OfPaste.SheetRows.{first_cell, row_unled, row_cut, row_more, row_done}

@@ -1,6 +1,5 @@
 -- The cells so far were pushed, each behind its delimiter; the others are to come.
-use Rattle.std.proofs.Common.{◌≤◌, take, drop}
-use Rattle.ptflow.specs.Workings.Paste.SerialRests.{row_from}
+use Rattle.ptflow.proofs.Common.{◌≤◌, take, drop, row_from}
 use Rattle.ptflow.proofs.OfPasses.Continuations.{Amid}
 use Rattle.ptflow.proofs.OfPaste.SheetRows.{first_cell}
 use Rattle.ptflow.proofs.tools.paste.push_row.Given as goal

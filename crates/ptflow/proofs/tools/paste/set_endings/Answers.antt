@@ -1,8 +1,4 @@
-use Rattle.std.proofs.Common.{◌≡◌, ◌<◌, ℕ, List, subst, Bool, true, false, cond, length, get_or, refl, ◌∙◌, arith}
-use Rattle.std.proofs.lemmas.List.{take_all}
-use Rattle.std.proofs.lemmas.List.Elements.{All-get_or}
-use Rattle.ptlangs.specs.Jobs.{ending}
-use Rattle.ptflow.specs.Workings.Paste.RowTurns.{AreSet}
+use Rattle.ptflow.proofs.Common.{◌≡◌, ◌<◌, ℕ, List, subst, Bool, true, false, cond, length, get_or, refl, ◌∙◌, arith, take_all, All-get_or, ending, AreSet}
 use borrow.Author.Rules.{scaled_Fits}
 use Rattle.ptflow.proofs.OfPaste.RowTurns.{at_index, set_more}
 use Rattle.ptflow.proofs.tools.paste.set_endings.Goals as goal

@@ -1,7 +1,5 @@
 -- The readers of the cells so far end lines with the byte of the job; nothing else has changed.
-use Rattle.std.proofs.Common.{take}
-use Rattle.ptlangs.specs.Jobs.{ending}
-use Rattle.ptflow.specs.Workings.Paste.RowTurns.{AreSet}
+use Rattle.ptflow.proofs.Common.{take, ending, AreSet}
 use Rattle.ptflow.proofs.tools.paste.set_endings.Given as goal
 
 abbrev pub invariant-loop-place : goal.invariant-loop-place

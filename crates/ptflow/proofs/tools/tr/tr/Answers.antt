@@ -1,7 +1,4 @@
-use Rattle.std.proofs.Common.{◌++◌, None, refl, sym, ◌∙◌, ap}
-use Rattle.ptflow.specs.Passes.{no_slots}
-use Rattle.ptflow.specs.Translations.{tr_tool}
-use Rattle.ptflow.specs.Workings.Tr.TrRests.{tr_rest}
+use Rattle.ptflow.proofs.Common.{◌++◌, None, refl, sym, ◌∙◌, ap, no_slots, tr_tool, tr_rest}
 use Rattle.ptflow.proofs.OfPasses.PassLemmas.{pass_halted, never_memory}
 use Rattle.ptflow.proofs.OfTr.TrRests.{rest_decided}
 use Rattle.ptflow.proofs.tools.tr.tr.Goals as goal

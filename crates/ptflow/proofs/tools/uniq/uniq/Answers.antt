@@ -1,6 +1,4 @@
-use Rattle.std.proofs.Common.{◌≡◌, Bool, true, false, cond, refl, sym, ◌∙◌}
-use Rattle.ptlangs.specs.Jobs.{ending, uniq_job}
-use Rattle.ptflow.specs.Uniqs.{uniq_tool}
+use Rattle.ptflow.proofs.Common.{◌≡◌, Bool, true, false, cond, refl, sym, ◌∙◌, ending, uniq_job, uniq_tool}
 use Rattle.ptflow.proofs.OfPasses.PassLemmas.{pass_halted, pass_set}
 use Rattle.ptflow.proofs.OfUniq.OpenLines.{uniq_line_tool}
 use Rattle.ptflow.proofs.tools.uniq.uniq.Goals as goal

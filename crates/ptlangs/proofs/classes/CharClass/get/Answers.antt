@@ -1,5 +1,4 @@
-use Rattle.std.proofs.Common.{◌∙◌, ap, arith}
-use Rattle.std.specs.List.{slice_get}
+use Rattle.ptlangs.proofs.Common.{◌∙◌, ap, arith, slice_get}
 use Rattle.ptlangs.proofs.TrSpans.{ranges_found, ranges_next}
 use Rattle.ptlangs.proofs.classes.CharClass.get.Goals as goal
 

@@ -1,7 +1,5 @@
 -- The byte that is asked for stands so far behind the beginning of the ranges that are left.
-use Rattle.std.proofs.Common.{◌≡◌, drop}
-use Rattle.std.specs.List.{flat_map, slice_get}
-use Rattle.ptlangs.specs.TrClasses.{range_bytes}
+use Rattle.ptlangs.proofs.Common.{◌≡◌, drop, flat_map, slice_get, range_bytes}
 use Rattle.ptlangs.proofs.classes.CharClass.get.Given as goal
 
 abbrev pub invariant-loop-first : goal.invariant-loop-first

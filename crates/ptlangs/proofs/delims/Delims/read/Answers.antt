@@ -1,8 +1,6 @@
-use Rattle.std.proofs.Common.{◌<◌, ◌∙◌, ap, sym, length, arith}
-use Rattle.std.proofs.lemmas.Bool.Decides.{nat_tests}
+use Rattle.ptlangs.proofs.Common.{◌<◌, ◌∙◌, ap, sym, length, arith, nat_tests, delims, delim_list}
 use Rattle.ptlangs.proofs.DelimGrammar.{delims_of_some}
 use Rattle.ptlangs.proofs.Elements.{behind, behind_nothing, behind-put_first}
-use Rattle.ptlangs.specs.DelimLists.{delims, delim_list}
 use Rattle.ptlangs.proofs.delims.Delims.read.Goals as goal
 
 pub loop-kept-preserved : goal.loop-kept-preserved

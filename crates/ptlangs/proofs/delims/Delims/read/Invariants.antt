@@ -1,6 +1,5 @@
 -- What was kept stands in front of what the rest of the list says; so a fault of the rest is that of the whole.
-use Rattle.std.proofs.Common.{◌≡◌, length}
-use Rattle.ptlangs.specs.DelimLists.{delim_list}
+use Rattle.ptlangs.proofs.Common.{◌≡◌, length, delim_list}
 use Rattle.ptlangs.proofs.Elements.{behind}
 use Rattle.ptlangs.proofs.delims.Delims.read.Given as goal
 

@@ -1,5 +1,4 @@
-use Rattle.std.proofs.Common.{sym, ◌∙◌}
-use Rattle.ptlangs.specs.Numbers.{elements}
+use Rattle.ptlangs.proofs.Common.{sym, ◌∙◌, elements}
 use Rattle.ptlangs.specs.OutLists.{element}
 use Rattle.ptlangs.proofs.Elements.{each_more}
 use Rattle.ptlangs.proofs.outlist.OutList.read.Goals as goal

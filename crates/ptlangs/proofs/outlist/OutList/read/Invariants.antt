@@ -1,7 +1,6 @@
 -- What was kept stands in front of what the other elements say; so a fault of theirs is that of the whole list.
-use Rattle.std.proofs.Common.{◌≡◌, length}
-use Rattle.ptlangs.specs.Numbers.{elements, each}
-use Rattle.ptlangs.specs.OutLists.{element, out_list}
+use Rattle.ptlangs.proofs.Common.{◌≡◌, length, elements, each, out_list}
+use Rattle.ptlangs.specs.OutLists.{element}
 use Rattle.ptlangs.proofs.Elements.{behind}
 use Rattle.ptlangs.proofs.outlist.OutList.read.Given as goal
 

@@ -1,10 +1,7 @@
-use Rattle.std.proofs.Common.{◌≡◌, ◌∷◌, ◌||◌, length, arith, refl, ap, drop, Err}
-use Rattle.ptlangs.specs.TrUnits.{units}
-use Rattle.ptlangs.specs.TrPlan.{is_fill}
+use Rattle.ptlangs.proofs.Common.{◌≡◌, ◌∷◌, ◌||◌, length, arith, refl, ap, drop, Err, units, is_fill, pieces_left}
 use Rattle.ptlangs.proofs.TrPieces.{pieces-part, pieces-fault}
 use Rattle.ptlangs.proofs.pieces.PiecesIterator.next.Goals as goal
 use Rattle.ptlangs.proofs.pieces.PiecesIterator.next.Goals.{then-self-2, else-self-2}
-use Rattle.ptlangs.specs.TrReading.{pieces_left}
 
 filled_is : (c : goal.After-self-in-Ok-1) → c.if-self-2.self ≡ (c.args.self.now.filled || is_fill c.new-piece.result)
 filled_is c = elim c.if-self-2.branch [ then-self-2 w ↦ rw (w.self-is, w.if-self-2.true) refl | else-self-2 w ↦ rw (w.self-is, w.is_fill_read-self.ensures, w.if-self-2.false) refl ]

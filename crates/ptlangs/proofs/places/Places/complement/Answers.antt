@@ -1,9 +1,7 @@
-use Rattle.std.proofs.Common.{◌≡◌, ◌+◌, ℕ, List, arith, ap, ◌∙◌}
-use Rattle.ptlangs.specs.declared.places.Places.{Places}
+use Rattle.ptlangs.proofs.Common.{◌≡◌, ◌+◌, ℕ, List, arith, ap, ◌∙◌, Places, places_of}
 use Rattle.ptlangs.proofs.TrComplement.{others_below, others_below-all, complement-more, complement-same}
 use Rattle.ptlangs.proofs.places.Places.complement.Goals as goal
 use Rattle.ptlangs.proofs.places.Places.complement.Goals.{then-is_none, else-is_none}
-use Rattle.ptlangs.specs.TrReading.{places_of}
 
 pub loop-byte-preserved : goal.loop-byte-preserved
 loop-byte-preserved c = record {

@@ -1,8 +1,7 @@
 -- The complement has the bytes below this one that are not in the set, in their order. At most so many were put.
-use Rattle.std.proofs.Common.{◌≡◌, ◌≤◌, ℕ, List}
+use Rattle.ptlangs.proofs.Common.{◌≡◌, ◌≤◌, ℕ, List, places_of}
 use Rattle.ptlangs.proofs.TrComplement.{others_below}
 use Rattle.ptlangs.proofs.places.Places.complement.Given as goal
-use Rattle.ptlangs.specs.TrReading.{places_of}
 
 abbrev pub invariant-loop-byte : goal.invariant-loop-byte
 invariant-loop-byte l = record {

@@ -1,6 +1,5 @@
 -- Below this place the answer says which bytes are in the set.
-use Rattle.std.proofs.Common.{◌≡◌, ◌<◌, ℕ, false, get_or, None}
-use Rattle.std.specs.Prelude.{is_some}
+use Rattle.ptlangs.proofs.Common.{◌≡◌, ◌<◌, ℕ, false, get_or, None, is_some}
 use Rattle.ptlangs.proofs.places.Places.contained.Given as goal
 
 abbrev pub invariant-loop-place : goal.invariant-loop-place

@@ -1,5 +1,4 @@
-use Rattle.std.proofs.Common.{length, ap, arith}
-use Rattle.ptlangs.specs.TrClasses.{range_bytes}
+use Rattle.ptlangs.proofs.Common.{length, ap, arith, range_bytes}
 use Rattle.ptlangs.proofs.TrPlaces.{length-flat_map-take}
 use Rattle.ptlangs.proofs.TrSpans.{class_bytes-short}
 use Rattle.ptlangs.proofs.places.Places.push_class.Goals as goal

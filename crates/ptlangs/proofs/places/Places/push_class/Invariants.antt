@@ -1,9 +1,6 @@
 -- The bytes of the class's ranges so far were put.
-use Rattle.std.proofs.Common.{◌≡◌, ◌+◌, length, take}
-use Rattle.std.specs.List.{flat_map}
-use Rattle.ptlangs.specs.TrClasses.{range_bytes}
+use Rattle.ptlangs.proofs.Common.{◌≡◌, ◌+◌, length, take, flat_map, range_bytes, Puts}
 use Rattle.ptlangs.proofs.places.Places.push_class.Given as goal
-use Rattle.ptlangs.specs.TrReading.{Puts}
 
 abbrev pub invariant-loop-first : goal.invariant-loop-first
 invariant-loop-first l = record {

@@ -1,8 +1,6 @@
 -- The bytes of the range below this one were put. An empty range puts none.
-use Rattle.std.proofs.Common.{◌≡◌, ◌<◌, ◌+◌, ◌-◌}
-use Rattle.std.specs.List.{range_with_len}
+use Rattle.ptlangs.proofs.Common.{◌≡◌, ◌<◌, ◌+◌, ◌-◌, range_with_len, Puts}
 use Rattle.ptlangs.proofs.places.Places.push_range.Given as goal
-use Rattle.ptlangs.specs.TrReading.{Puts}
 
 abbrev pub invariant-loop-byte : goal.invariant-loop-byte
 invariant-loop-byte l = record {

@@ -1,14 +1,10 @@
 -- A walk over the pieces: a piece with a fault is the fault of the string, and the places of the pieces so far are at
 -- most as many as the bound on all of them.
-use Rattle.std.proofs.Common.{◌≡◌, ◌∷◌, ◌∙◌, length, refl, ap, arith, Result, Err}
+use Rattle.ptlangs.proofs.Common.{◌≡◌, ◌∷◌, ◌∙◌, length, refl, ap, arith, Result, Err, SetFaultKind, Piece, pieces_of, array, collected, pieces_left}
 use Rattle.std.proofs.lemmas.Result.{err_from_is_err_and}
-use Rattle.ptlangs.specs.declared.faults.SetFaultKind.{SetFaultKind}
-use Rattle.ptlangs.specs.declared.pieces.Piece.{Piece}
-use Rattle.ptlangs.specs.TrPlan.{pieces_of, array, collected}
 use Rattle.ptlangs.proofs.TrWalks.{walk_more, walk_end, walk_fault, array-bound}
 use Rattle.ptlangs.proofs.TrPlaces.{HasPlaces, HasPlaces-more}
 use Rattle.ptlangs.proofs.places.Places.read.Goals as goal
-use Rattle.ptlangs.specs.TrReading.{pieces_left}
 
 pub returns-in_err-piece-clause-places : goal.returns-in_err-piece-clause-places
 returns-in_err-piece-clause-places c =

@@ -1,9 +1,4 @@
-use Rattle.std.proofs.Common.{ap, sym, ◌∙◌, Ok}
-use Rattle.ptlangs.specs.declared.places.Places.{Places}
-use Rattle.ptlangs.specs.declared.plan.Form.{Form}
-use Rattle.ptlangs.specs.declared.plan.Form.TheVariants.{Translate, TranslateSqueeze, DeleteSqueeze}
-use Rattle.ptlangs.specs.TrPlan.{array, plan_of}
-use Rattle.ptlangs.specs.TrTables.{tables}
+use Rattle.ptlangs.proofs.Common.{ap, sym, ◌∙◌, Ok, Places, Form, Translate, TranslateSqueeze, DeleteSqueeze, array, plan_of, tables}
 use Rattle.ptlangs.proofs.TrAnswers.{same_answer}
 use Rattle.ptlangs.proofs.TrTables.{tables_are, is_translate}
 use Rattle.ptlangs.proofs.plan.CharPlan.of_arrays.Goals as goal

@@ -1,8 +1,4 @@
-use Rattle.std.proofs.Common.{[], ap, sym, ◌∙◌}
-use Rattle.ptlangs.specs.declared.plan.Form.{Form}
-use Rattle.ptlangs.specs.declared.plan.Form.TheVariants.{Squeeze, Delete}
-use Rattle.ptlangs.specs.TrPlan.{plan_of}
-use Rattle.ptlangs.specs.TrTables.{tables}
+use Rattle.ptlangs.proofs.Common.{[], ap, sym, ◌∙◌, Form, Squeeze, Delete, plan_of, tables}
 use Rattle.ptlangs.proofs.TrTables.{tables_are, is_squeeze}
 use Rattle.ptlangs.proofs.plan.CharPlan.of_one.Goals as goal
 

@@ -1,15 +1,10 @@
 -- The second string is read twice: bare, to learn how long the first repeat without a count has to be, and then with
 -- it. Both readings are of the same pieces, so the plan is that of the definition.
-use Rattle.std.proofs.Common.{◌≡◌, ◌-◌, arith, cond, ap, sym, ◌∙◌, Result, Ok, Err}
-use Rattle.std.specs.Result.{result_map_both}
-use Rattle.ptlangs.specs.declared.faults.SetFaultKind.{SetFaultKind}
-use Rattle.ptlangs.specs.declared.faults.SetFaultKind.TheVariants.{ClassPlace}
-use Rattle.ptlangs.specs.TrPlan.{Plan, array, collected, first_array, pieces_of, plan_of}
-use Rattle.ptlangs.specs.TrTables.{Tables, tables}
+use Rattle.ptlangs.proofs.Common.{◌≡◌, ◌-◌, arith, cond, ap, sym, ◌∙◌, Result, Ok, Err, result_map_both, SetFaultKind, ClassPlace, Plan, array, collected, first_array, pieces_of, plan_of, Tables}
+use Rattle.ptlangs.proofs.Common.{tables, places_of}
 use Rattle.ptlangs.proofs.TrAnswers.{same_answer, no_answer}
 use Rattle.ptlangs.proofs.TrPlans.{mapped_ok, mapped_at, string_pieces-read, fill_is, second_plan-pairs}
 use Rattle.ptlangs.proofs.plan.CharPlan.of_two.Goals as goal
-use Rattle.ptlangs.specs.TrReading.{places_of}
 
 abbrev answer_of : Result Plan SetFaultKind → Result Tables SetFaultKind
 answer_of r = result_map_both tables (λ (k : SetFaultKind). k) r

@@ -1,13 +1,6 @@
-use Rattle.std.proofs.Common.{ap, sym, ◌∙◌}
-use Rattle.std.specs.Option.{option_copied}
-use Rattle.std.specs.Result.{result_map_both}
-use Rattle.ptlangs.specs.declared.faults.SetFault.{SetFault}
-use Rattle.ptlangs.specs.declared.pieces.Place.TheVariants.{First}
-use Rattle.ptlangs.specs.TrPlan.{first_array, plan, string_pieces}
-use Rattle.ptlangs.specs.TrTables.{tables}
+use Rattle.ptlangs.proofs.Common.{ap, sym, ◌∙◌, option_copied, result_map_both, SetFault, First, first_array, plan, string_pieces, tables, places_of}
 use Rattle.ptlangs.proofs.TrPlans.{mapped_ok, plan_two}
 use Rattle.ptlangs.proofs.plan.CharPlan.read.Goals as goal
-use Rattle.ptlangs.specs.TrReading.{places_of}
 
 pub returns-in-Err-of_two : goal.returns-in-Err-of_two
 returns-in-Err-of_two c =

@@ -1,6 +1,4 @@
-use Rattle.std.proofs.Common.{[], ap, sym, refl, ◌∙◌, Ok}
-use Rattle.ptlangs.specs.declared.pieces.Place.TheVariants.{First}
-use Rattle.ptlangs.specs.TrPlan.{class_places, may_pair}
+use Rattle.ptlangs.proofs.Common.{[], ap, sym, refl, ◌∙◌, Ok, First, class_places, may_pair}
 use Rattle.ptlangs.proofs.TrPlans.{collected-string, may_pair-complement, may_pair-faced}
 use Rattle.ptlangs.proofs.plan.Form.may_pair.Goals as goal
 

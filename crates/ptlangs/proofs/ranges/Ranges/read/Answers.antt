@@ -1,7 +1,4 @@
-use Rattle.std.proofs.Common.{rules, tests}
-use Rattle.std.proofs.lemmas.List.Sorted.{All-permutation, IsNonDecreasingBy-from_sort_by_key}
-use Rattle.ptlangs.specs.CutLists.{IsProper}
-use Rattle.ptlangs.specs.declared.ranges.Interval.{Interval}
+use Rattle.ptlangs.proofs.Common.{rules, tests, All-permutation, IsNonDecreasingBy-from_sort_by_key, IsProper, Interval}
 use Rattle.ptlangs.proofs.Reading.{cut_list_proper, in_order, selection_is}
 use Rattle.ptlangs.proofs.ranges.Ranges.read.Goals as goal
 

@@ -1,11 +1,7 @@
-use Rattle.std.proofs.Common.{◌∷◌, ◌∙◌, ap, arith, Result, Ok}
-use Rattle.ptlangs.specs.declared.faults.SetFaultKind.{SetFaultKind}
-use Rattle.ptlangs.specs.declared.pieces.Piece.{Piece}
-use Rattle.ptlangs.specs.TrPlan.{pieces_of, members}
+use Rattle.ptlangs.proofs.Common.{◌∷◌, ◌∙◌, ap, arith, Result, Ok, SetFaultKind, Piece, pieces_of, members, pieces_left}
 use Rattle.ptlangs.proofs.TrWalks.{walk_never}
 use Rattle.ptlangs.proofs.TrSecond.{IsBehind, slice_get-none, get-found, get-more, get-end}
 use Rattle.ptlangs.proofs.second.Second.get.Goals as goal
-use Rattle.ptlangs.specs.TrReading.{pieces_left}
 
 pub returns-in_err-piece : goal.returns-in_err-piece
 returns-in_err-piece c = λ ps e.

@@ -1,14 +1,9 @@
 -- A walk over the pieces of the second string: the first class without one that it faces refuses the pair, and a fault
 -- in a piece is told by another reading.
-use Rattle.std.proofs.Common.{◌≡◌, ◌∷◌, ◌∙◌, [], Bool, false, ap, sym, arith, Result, Ok, Err}
-use Rattle.ptlangs.specs.declared.faults.SetFaultKind.{SetFaultKind}
-use Rattle.ptlangs.specs.declared.pieces.Piece.{Piece}
-use Rattle.ptlangs.specs.declared.pieces.Place.TheVariants.{First}
-use Rattle.ptlangs.specs.TrPlan.{collected, pieces_of, class_places, is_paired}
+use Rattle.ptlangs.proofs.Common.{◌≡◌, ◌∷◌, ◌∙◌, [], Bool, false, ap, sym, arith, Result, Ok, Err, SetFaultKind, Piece, First, collected, pieces_of, class_places, is_paired, pieces_left}
 use Rattle.ptlangs.proofs.TrWalks.{walk_never, array-bound}
 use Rattle.ptlangs.proofs.TrPairs.{Faced, paired-unfaced, paired-more, paired-end, length-members}
 use Rattle.ptlangs.proofs.second.Second.is_paired.Goals as goal
-use Rattle.ptlangs.specs.TrReading.{pieces_left}
 
 never : {A : Type 0} (k : SetFaultKind) (b : Bool) → Err k ≡ Ok b → A
 never k b e = absurd (let no : ⊥ = cc in no)

@@ -1,10 +1,8 @@
 -- Each class in the pieces so far faces one of the first string.
-use Rattle.ptlangs.specs.declared.pieces.Place.TheVariants.{First}
-use Rattle.ptlangs.specs.TrPlan.{collected, pieces_of}
+use Rattle.ptlangs.proofs.Common.{First, collected, pieces_of, pieces_left}
 use Rattle.ptlangs.proofs.TrWalks.{Walked}
 use Rattle.ptlangs.proofs.TrPairs.{Faced}
 use Rattle.ptlangs.proofs.second.Second.is_paired.Given as goal
-use Rattle.ptlangs.specs.TrReading.{pieces_left}
 
 abbrev pub invariant-loop-piece : goal.invariant-loop-piece
 invariant-loop-piece l =

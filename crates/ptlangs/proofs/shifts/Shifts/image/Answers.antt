@@ -1,6 +1,4 @@
-use Rattle.std.proofs.Common.{ℕ, ◌+◌, ◌%◌, List, take, sym, ◌∙◌, ap, arith}
-use Rattle.std.proofs.lemmas.List.{take_all}
-use Rattle.ptlangs.specs.declared.shifts.Stretch.{Stretch}
+use Rattle.ptlangs.proofs.Common.{ℕ, ◌+◌, ◌%◌, List, take, sym, ◌∙◌, ap, arith, take_all, Stretch}
 use Rattle.ptlangs.proofs.TrShifts.{moved, moved_reversed}
 use Rattle.ptlangs.proofs.shifts.Shifts.image.Goals as goal
 

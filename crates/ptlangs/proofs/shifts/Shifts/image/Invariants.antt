@@ -1,7 +1,5 @@
 -- The stretches so far have added what they add to this byte, modulo 256.
-use Rattle.std.proofs.Common.{◌≡◌, ◌+◌, ◌%◌, take}
-use Rattle.std.specs.Prelude.{sum_by}
-use Rattle.ptlangs.specs.TrShifts.{added}
+use Rattle.ptlangs.proofs.Common.{◌≡◌, ◌+◌, ◌%◌, take, sum_by, added}
 use Rattle.ptlangs.proofs.shifts.Shifts.image.Given as goal
 
 abbrev pub invariant-loop-stretch : goal.invariant-loop-stretch

@@ -1,5 +1,4 @@
-use Rattle.std.proofs.Common.{List, ℕ, ◌++◌, append_assoc, sym, subst}
-use Rattle.ptlines.specs.Outputs.{Wrote}
+use Rattle.ptlines.proofs.Common.{List, ℕ, ◌++◌, append_assoc, sym, subst, Wrote}
 use Rattle.ptlines.proofs.Pushed.{wrote_trans, wrote_past}
 use Rattle.ptlines.proofs.out.Out.push_apart.Goals as goal
 

@@ -1,5 +1,4 @@
-use Rattle.std.proofs.Common.{ap, arith}
-use Rattle.ptlines.specs.Readers.{Reader}
+use Rattle.ptlines.proofs.Common.{ap, arith, Reader}
 use Rattle.ptlines.proofs.Given.{rest_is}
 use Rattle.ptlines.proofs.reader.LineReader.consume.Goals as goal
 

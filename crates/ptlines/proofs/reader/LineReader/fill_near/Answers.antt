@@ -1,8 +1,4 @@
-use Rattle.std.proofs.Common.{ℕ, ◌≡◌, ◌+◌, ◌-◌, Some, subst, ◌<◌, ◌≤◌, ◌^◌, length, take, drop, ◌∙◌, ap, arith}
-use Rattle.std.proofs.lemmas.List.{take-take}
-use Rattle.std.specs.Prelude.{slice_range}
-use Rattle.memchr.specs.Find.{IsFirst, Passes, is_byte}
-use Rattle.ptlines.specs.Readers.{Reader, IsSound}
+use Rattle.ptlines.proofs.Common.{ℕ, ◌≡◌, ◌+◌, ◌-◌, Some, subst, ◌<◌, ◌≤◌, ◌^◌, length, take, drop, ◌∙◌, ap, arith, take-take, slice_range, IsFirst, Passes, is_byte, Reader, IsSound}
 use Rattle.ptlines.proofs.Filling.{near_done}
 use Rattle.ptlines.proofs.Given.{length_range, sound_less}
 use Rattle.ptlines.proofs.reader.LineReader.fill_near.Goals as goal

@@ -1,5 +1,4 @@
-use Rattle.std.proofs.Common.{◌≡◌, ℕ, List, Option, Some, None, subst, length, ap}
-use Rattle.memchr.specs.Find.{IsFirstByte, is_byte}
+use Rattle.ptlines.proofs.Common.{◌≡◌, ℕ, List, Option, Some, None, subst, length, ap, IsFirstByte, is_byte}
 use Rattle.ptlines.proofs.Scanned.{gives_end, gives_piece}
 use Rattle.ptlines.proofs.reader.LineReader.scan.Goals as goal
 

@@ -1,7 +1,4 @@
-use Rattle.std.proofs.Common.{◌≡◌, ◌≤◌, length, take, ◌∙◌, ap, arith}
-use Rattle.std.proofs.lemmas.List.{with_items_is}
-use Rattle.std.proofs.lemmas.Simd.{length-put_chunk}
-use Rattle.std.specs.Simd.Lanes.{put_chunk}
+use Rattle.ptlines.proofs.Common.{◌≡◌, ◌≤◌, length, take, ◌∙◌, ap, arith, with_items_is, length-put_chunk, put_chunk}
 use Rattle.ptlines.proofs.Copied.{first_copied}
 use Rattle.ptlines.proofs.slot.Slot.put_lanes.Goals as goal
 

@@ -1,5 +1,4 @@
-use Rattle.std.proofs.Common.{sym, ◌∙◌, ap, subst}
-use Rattle.ptlines.specs.Slots.{AreShort, total}
+use Rattle.ptlines.proofs.Common.{sym, ◌∙◌, ap, subst, AreShort, total}
 use Rattle.ptlines.proofs.Counted.{counted_added}
 use Rattle.ptlines.proofs.store.Store.add.Goals as goal
 

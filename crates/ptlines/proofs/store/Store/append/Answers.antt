@@ -1,5 +1,4 @@
-use Rattle.std.proofs.Common.{◌<◌, length, sym, ap, subst, arith, length-append}
-use Rattle.ptlines.specs.Slots.{Slots}
+use Rattle.ptlines.proofs.Common.{◌<◌, length, sym, ap, subst, arith, length-append, Slots}
 use Rattle.ptlines.proofs.Counted.{counted_set, fits}
 use Rattle.ptlines.proofs.store.Store.append.Goals as goal
 

@@ -1,5 +1,4 @@
-use Rattle.std.proofs.Common.{◌<◌, length, sym, ap, subst, arith}
-use Rattle.ptlines.specs.Slots.{Slots}
+use Rattle.ptlines.proofs.Common.{◌<◌, length, sym, ap, subst, arith, Slots}
 use Rattle.ptlines.proofs.Counted.{counted_in, counted_set, written}
 use Rattle.ptlines.proofs.store.Store.clear.Goals as goal
 

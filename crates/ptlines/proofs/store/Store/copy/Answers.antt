@@ -1,9 +1,7 @@
 -- The slot that is copied from lies in front of the cut or behind it; either way one slot is set, and the sum of all
 -- lengths grows by its line. Where the growth is refused the slots are those from before.
-use Rattle.std.proofs.Common.{◌≡◌, true, [], get_or, set, max, sym, ◌∙◌, ap, subst, arith}
-use Rattle.std.proofs.lemmas.List.{with_items_is}
+use Rattle.ptlines.proofs.Common.{◌≡◌, true, [], get_or, set, max, sym, ◌∙◌, ap, subst, arith, with_items_is, Slots, AreShort, total}
 use Rattle.std.specs.Vec.{with_items}
-use Rattle.ptlines.specs.Slots.{Slots, AreShort, total}
 use Rattle.ptlines.proofs.Counted.{fits, copy_lines, copy_total}
 use Rattle.ptlines.proofs.store.Store.copy.Goals as goal
 

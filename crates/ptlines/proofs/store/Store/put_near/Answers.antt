@@ -1,7 +1,5 @@
 -- The line of a slot is replaced, so what is held changes by the difference of two lengths. The peak is then what is held, or stays.
-use Rattle.std.proofs.Common.{◌≡◌, ◌≤◌, ◌<◌, ◌+◌, ◌-◌, ℕ, List, length, take, get_or, set, sym, ◌∙◌, ap, subst, arith}
-use Rattle.std.proofs.lemmas.List.{length-take-le}
-use Rattle.ptlines.specs.Slots.{Slots, AreShort, total}
+use Rattle.ptlines.proofs.Common.{◌≡◌, ◌≤◌, ◌<◌, ◌+◌, ◌-◌, ℕ, List, length, take, get_or, set, sym, ◌∙◌, ap, subst, arith, length-take-le, Slots, AreShort, total}
 use Rattle.ptlines.proofs.Counted.{counted_in, counted_set, fits, written}
 use Rattle.ptlines.proofs.store.Store.put_near.Goals as goal
 

@@ -1,5 +1,4 @@
-use Rattle.std.proofs.Common.{◌<◌, length, sym, ◌∙◌, subst}
-use Rattle.ptlines.specs.Slots.{Slots}
+use Rattle.ptlines.proofs.Common.{◌<◌, length, sym, ◌∙◌, subst, Slots}
 use Rattle.ptlines.proofs.Counted.{total_swap, short_swap}
 use Rattle.ptlines.proofs.store.Store.swap.Goals as goal
 

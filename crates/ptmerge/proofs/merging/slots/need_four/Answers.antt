@@ -1,5 +1,4 @@
-use Rattle.std.proofs.Common.{refl, arith}
-use Rattle.std.proofs.lemmas.Result.{err_from_is_err_and}
+use Rattle.ptmerge.proofs.Common.{refl, arith, err_from_is_err_and}
 use Rattle.ptmerge.proofs.merging.slots.need_four.Goals as goal
 
 pub returns-in_err-add-clause-err : goal.returns-in_err-add-clause-err

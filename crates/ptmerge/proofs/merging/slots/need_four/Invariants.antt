@@ -1,6 +1,5 @@
 -- Slots were only added, and they are empty, so each slot has the line that it had, and the store holds what it held.
-use Rattle.std.proofs.Common.{◌≡◌, ◌-◌, ◌≤◌, ℕ, length, max}
-use Rattle.ptlines.specs.Slots.{line, total}
+use Rattle.ptmerge.proofs.Common.{◌≡◌, ◌-◌, ◌≤◌, ℕ, length, max, line, total}
 use Rattle.ptmerge.proofs.merging.slots.need_four.Given as goal
 
 abbrev pub invariant-loop-store : goal.invariant-loop-store

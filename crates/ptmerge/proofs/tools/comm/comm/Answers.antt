@@ -1,10 +1,5 @@
 -- An output that has failed is left alone; otherwise both orders are one proof, over the order that the job names.
-use Rattle.std.proofs.Common.{◌≡◌, sym, ◌∙◌}
-use Rattle.ptlangs.specs.Jobs.{comm_job}
-use Rattle.ptmerge.specs.declared.order.Side.{Side}
-use Rattle.ptmerge.specs.Comm.{comm_tool}
-use Rattle.ptmerge.specs.Merges.{seen}
-use Rattle.ptmerge.specs.Sides.{both}
+use Rattle.ptmerge.proofs.Common.{◌≡◌, sym, ◌∙◌, comm_job, Side, comm_tool, seen, both}
 use Rattle.ptmerge.proofs.OfMerges.Starting.{set_is}
 use Rattle.ptmerge.proofs.OfMerges.Stopping.{merge_halted, merge_set, unread_set}
 use Rattle.ptmerge.proofs.tools.comm.comm.Given as given

@@ -1,11 +1,6 @@
 -- Each turn goes on to the next by one lemma of `Turns`, and each way out of it leaves what the clauses say.
-use Rattle.std.proofs.Common.{◌≡◌, Result, Err, IsErrAnd, refl, ◌∙◌}
-use Rattle.std.proofs.lemmas.Result.{err_from_is_err_and}
-use Rattle.ptlangs.specs.Jobs.{comm_job}
-use Rattle.ptmerge.specs.declared.faults.MergeFault.{MergeFault}
+use Rattle.ptmerge.proofs.Common.{◌≡◌, Result, Err, IsErrAnd, refl, ◌∙◌, err_from_is_err_and, comm_job, MergeFault, comm_by, seen}
 use Rattle.ptmerge.specs.declared.order.Side.TheVariants as sides
-use Rattle.ptmerge.specs.Comm.{comm_by}
-use Rattle.ptmerge.specs.Merges.{seen}
 use Rattle.ptmerge.proofs.OfComm.CommTurns.{IsOpened}
 use Rattle.ptmerge.proofs.OfComm.Turns.{alone_less, alone_on, alone_stops, ended, fallen, is_opened, pair_less, pair_on, pair_stops}
 use Rattle.ptmerge.proofs.OfComm.Turns.{second_stands, second_stops, stands_at, start_stops, starts}

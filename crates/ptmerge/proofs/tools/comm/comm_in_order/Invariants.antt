@@ -1,9 +1,6 @@
 -- The entries of the lines that are passed were pushed, and they come first, whatever is still to come. Each turn
 -- passes a line.
-use Rattle.std.proofs.Common.{◌≡◌}
-use Rattle.ptlangs.specs.Jobs.{comm_job}
-use Rattle.ptmerge.specs.Merges.{seen}
-use Rattle.ptmerge.specs.Sides.{both}
+use Rattle.ptmerge.proofs.Common.{◌≡◌, comm_job, seen, both}
 use Rattle.ptmerge.proofs.OfComm.Turns.{IsTurn}
 use Rattle.ptmerge.proofs.OfMerges.GoingOn.{left}
 use Rattle.ptmerge.proofs.tools.comm.comm_in_order.Given as goal

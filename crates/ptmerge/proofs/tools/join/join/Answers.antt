@@ -1,9 +1,5 @@
 -- An output that has failed is left alone; otherwise both orders are one proof, over the order that the job names.
-use Rattle.std.proofs.Common.{sym, ◌∙◌}
-use Rattle.ptlangs.specs.Jobs.{join_job}
-use Rattle.ptmerge.specs.Join.{join_tool}
-use Rattle.ptmerge.specs.Merges.{seen}
-use Rattle.ptmerge.specs.Sides.{both}
+use Rattle.ptmerge.proofs.Common.{sym, ◌∙◌, join_job, join_tool, seen, both}
 use Rattle.ptmerge.proofs.OfMerges.Starting.{set_is}
 use Rattle.ptmerge.proofs.OfMerges.Stopping.{merge_halted, merge_set, unread_set}
 use Rattle.ptmerge.proofs.tools.join.join.Goals as goal

@@ -1,7 +1,5 @@
 -- Each turn goes on to the next by one lemma of `Turns`, and each way out of it leaves what the clauses say.
-use Rattle.std.proofs.Common.{sym, ◌∙◌}
-use Rattle.std.proofs.lemmas.Result.{err_from_is_err_and}
-use Rattle.ptlangs.specs.Jobs.{join_job}
+use Rattle.ptmerge.proofs.Common.{sym, ◌∙◌, err_from_is_err_and, join_job}
 use Rattle.ptmerge.proofs.OfJoin.Turns.{alone_less, alone_on, alone_stops, begins, ended, fallen, falls, gather_less, gather_stands, gather_stops, gathers_on, group_closed}
 use Rattle.ptmerge.proofs.OfJoin.Turns.{group_there, opened, opens, opens_less, pair_group, pair_less, pair_stands, pair_stops, pairs_next, pairs_on, stands_at, start_stops}
 use Rattle.ptmerge.proofs.OfMerges.GoingOn.{told}

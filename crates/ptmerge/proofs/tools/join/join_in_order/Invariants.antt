@@ -1,10 +1,7 @@
 -- Between keys, the entries of the lines that are passed were pushed. While a group is gathered or paired, the entries
 -- of its key so far were pushed too, and the rest of them come next, whatever else comes. Each turn passes a line, or
 -- goes on to the next phase of the group.
-use Rattle.std.proofs.Common.{◌≡◌, ◌+◌, ◌*◌}
-use Rattle.ptlangs.specs.Jobs.{join_job}
-use Rattle.ptmerge.specs.Merges.{seen}
-use Rattle.ptmerge.specs.Sides.{both}
+use Rattle.ptmerge.proofs.Common.{◌≡◌, ◌+◌, ◌*◌, join_job, seen, both}
 use Rattle.ptmerge.proofs.OfJoin.Turns.{IsTurn, rank}
 use Rattle.ptmerge.proofs.OfMerges.GoingOn.{left}
 use Rattle.ptmerge.proofs.tools.join.join_in_order.Given as goal

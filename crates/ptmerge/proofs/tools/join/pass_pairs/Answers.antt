@@ -1,9 +1,4 @@
-use Rattle.std.proofs.Common.{List, ℕ, [], ◌∷◌, subst}
-use Rattle.ptlangs.specs.Jobs.{join_job}
-use Rattle.ptlines.specs.Outputs.{Wrote}
-use Rattle.ptlines.specs.Text.{text}
-use Rattle.ptmerge.specs.Groups.{group}
-use Rattle.ptmerge.specs.Join.{pairs_of}
+use Rattle.ptmerge.proofs.Common.{List, ℕ, [], ◌∷◌, subst, join_job, Wrote, text, group, pairs_of}
 use Rattle.ptmerge.proofs.OfMerges.Sending.{wrote_and_sent}
 use Rattle.ptmerge.proofs.tools.join.pass_pairs.Goals as goal
 

@@ -1,9 +1,5 @@
 -- The pairs with the lines of the group so far were pushed; those with the others are to come.
-use Rattle.std.proofs.Common.{◌≤◌, ◌-◌, [], ◌∷◌, map, drop}
-use Rattle.ptlangs.specs.Jobs.{join_job}
-use Rattle.ptlines.specs.Text.{text}
-use Rattle.ptmerge.specs.Groups.{group}
-use Rattle.ptmerge.specs.Join.{pairs_of}
+use Rattle.ptmerge.proofs.Common.{◌≤◌, ◌-◌, [], ◌∷◌, map, drop, join_job, text, group, pairs_of}
 use Rattle.ptmerge.proofs.OfJoin.Amid.{Amid}
 use Rattle.ptmerge.proofs.OfJoin.GroupSlots.{pair_of}
 use Rattle.ptmerge.proofs.tools.join.push_pairs.Given as goal

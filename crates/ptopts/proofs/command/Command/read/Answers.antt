@@ -1,12 +1,4 @@
-use Rattle.std.proofs.Common.{List, ℕ, Option, Result, sym, ◌∙◌, ap, subst}
-use Rattle.std.specs.Borrow.{Bor}
-use Rattle.std.proofs.lemmas.Result.{err_from_is_err_and}
-use Rattle.ptlangs.specs.Answers.{IsFault}
-use Rattle.ptopts.specs.declared.tool.Tool.{Tool}
-use Rattle.ptopts.specs.Faults.{Fault}
-use Rattle.ptopts.specs.Commands.{Command, meaning, meaning_for}
-use Rattle.ptopts.specs.Meant.{words_seen, meant, IsMeant}
-use Rattle.ptopts.specs.Steps.{options_seen}
+use Rattle.ptopts.proofs.Common.{List, ℕ, Option, Result, sym, ◌∙◌, ap, subst, Bor, err_from_is_err_and, IsFault, Tool, Fault, Command, meaning, meaning_for, words_seen, meant, IsMeant, options_seen}
 use Rattle.ptopts.proofs.Judged.{meaning_read, meaning_refused}
 use Rattle.ptopts.proofs.command.Command.read.Goals as goal
 

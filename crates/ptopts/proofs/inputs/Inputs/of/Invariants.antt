@@ -1,7 +1,5 @@
 -- The order and the names of the operands so far stand in front of those of the others.
-use Rattle.std.proofs.Common.{◌≡◌, ◌++◌, drop, vec_len}
-use Rattle.ptopts.specs.Meant.{words_seen}
-use Rattle.ptopts.specs.Commands.{order_from, file_names}
+use Rattle.ptopts.proofs.Common.{◌≡◌, ◌++◌, drop, vec_len, words_seen, order_from, file_names}
 use Rattle.ptopts.proofs.inputs.Inputs.of.Given as goal
 
 abbrev pub invariant-loop-operand : goal.invariant-loop-operand

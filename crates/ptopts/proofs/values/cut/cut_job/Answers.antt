@@ -1,6 +1,5 @@
-use Rattle.std.proofs.Common.{false, ◌∙◌, sym, refl, ℕ, Bool}
+use Rattle.ptopts.proofs.Common.{false, ◌∙◌, sym, refl, ℕ, Bool, set_of}
 use Rattle.ptlangs.specs.CutLists.{is_selected}
-use Rattle.ptopts.specs.Commands.{set_of}
 use Rattle.ptopts.proofs.Chosen.{first_chosen}
 use Rattle.ptopts.proofs.values.cut.cut_job.Goals as goal
 

@@ -1,8 +1,5 @@
 -- The options so far have no fault and name these files; the whole is told by them and by the options that are left.
-use Rattle.std.proofs.Common.{◌≡◌, ◌||◌, drop, codes}
-use Rattle.ptopts.specs.Faults.{each_value_fault, is_file_number}
-use Rattle.ptopts.specs.Commands.{names_file}
-use Rattle.ptopts.specs.Steps.{options_seen}
+use Rattle.ptopts.proofs.Common.{◌≡◌, ◌||◌, drop, codes, each_value_fault, is_file_number, names_file, options_seen}
 use Rattle.ptopts.proofs.values.join.files_named.Given as goal
 
 abbrev pub invariant-loop-option : goal.invariant-loop-option

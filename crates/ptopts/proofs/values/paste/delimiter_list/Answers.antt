@@ -1,7 +1,5 @@
-use Rattle.std.proofs.Common.{◌≡◌, ℕ, ◌∙◌, List, Option, Some, None, Result, Ok, Err, Bool, true, false, cond, refl, sym, ap, option_map}
-use Rattle.std.specs.Borrow.{Bor}
-use Rattle.std.specs.Prelude.{is_ok}
-use Rattle.std.specs.Result.{result_err}
+use Rattle.ptopts.proofs.Common.{◌≡◌, ℕ, ◌∙◌, List, Option, Some, None, Result, Ok, Err, Bool, true, false, cond, refl, sym, ap, option_map, Bor, is_ok, result_err, Fault, value_fault}
+use Rattle.ptopts.proofs.Common.{is_delimiter_list, meant}
 use Rattle.ptlangs.specs.declared.delims.DelimFault.{DelimFault}
 use Rattle.ptlangs.specs.declared.delims.DelimFault.TheVariants.{Empty, Escape, Memory}
 use Rattle.ptlangs.specs.DelimLists.{fault_of, delim_list}
@@ -9,8 +7,6 @@ use denote.Enum.Bare.{sameb}
 use Rattle.ptlangs.specs.contracts.delims.DelimFault.{the_type}
 use Rattle.ptopts.specs.declared.fault.UseFault.TheVariants as fault
 use Rattle.ptopts.specs.Faults as faults
-use Rattle.ptopts.specs.Faults.{Fault, value_fault, is_delimiter_list}
-use Rattle.ptopts.specs.Meant.{meant}
 use Rattle.ptopts.proofs.values.paste.delimiter_list.Goals as goal
 
 module _ (letter : ℕ) (text : Bor (List ℕ)) (is_memory : DelimFault → Bool) (never : is_memory Memory ≡ true) (empty : is_memory Empty ≡ false) (escape : is_memory Escape ≡ false) where

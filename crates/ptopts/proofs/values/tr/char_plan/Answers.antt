@@ -1,21 +1,14 @@
 -- The words that are there are the strings; what `CharPlan::read` says of them is what the definition says of the
 -- words.
-use Rattle.std.proofs.Common.{◌≡◌, ℕ, List, [], ◌∷◌, Bool, Option, Some, None, Result, Ok, Err, refl, ap, ◌∙◌, option_map, slice_get}
-use Rattle.std.specs.Prelude.{slice_index_or}
-use Rattle.std.specs.Borrow.{Bor}
-use Rattle.std.specs.Result.{result_err, result_unwrap_or}
-use Rattle.std.proofs.lemmas.Result.{err_from_is_err_and}
+use Rattle.ptopts.proofs.Common.{◌≡◌, ℕ, List, [], ◌∷◌, Bool, Option, Some, None, Result, Ok, Err, refl, ap, ◌∙◌, option_map, slice_index_or, Bor, result_err, result_unwrap_or, err_from_is_err_and}
+use Rattle.ptopts.proofs.Common.{GivenOption, InString, form_given, is_complemented, plan_given, plan_of_nothing, words_seen, options_seen}
+use Rattle.std.proofs.Common.{slice_get}
 use Rattle.std.proofs.Math.ListN.{get_or}
 use Rattle.ptlangs.specs.declared.faults.SetFault.{SetFault}
 use Rattle.ptlangs.specs.declared.plan.Form.{Form}
 use Rattle.ptlangs.specs.TrPlan.{Plan, plan}
 use Rattle.ptlangs.specs.TrTables.{Tables, tables}
 use Rattle.ptlangs.specs.TrReading.{ok_map}
-use Rattle.ptopts.specs.Words.{GivenOption}
-use Rattle.ptopts.specs.Faults.{InString, form_given, is_complemented, plan_given}
-use Rattle.ptopts.specs.Commands.{plan_of_nothing}
-use Rattle.ptopts.specs.Meant.{words_seen}
-use Rattle.ptopts.specs.Steps.{options_seen}
 use Rattle.ptopts.proofs.values.tr.char_plan.Goals as goal
 
 first_word : (words : List (Bor (List ℕ))) (d : Bor (List ℕ)) → d.now ≡ [] → (get_or words 0 d).now ≡ slice_index_or (words_seen words) 0 []

@@ -1,12 +1,6 @@
 -- Its cells name the places of its operands, so what `paste` says of places is what the run says of operands.
-use Rattle.std.proofs.Common.{◌≡◌, ◌≤◌, true, List, length, ◌∙◌, arith}
-use Rattle.std.specs.Prelude.{nat_le}
-use Rattle.std.proofs.lemmas.Bool.{leb-true}
-use Rattle.std.proofs.lemmas.List.{length-map}
+use Rattle.ptrun.proofs.Common.{◌≡◌, ◌≤◌, true, List, length, ◌∙◌, arith, nat_le, leb-true, length-map, paste_job, Input, place, places}
 use Rattle.std.proofs.lemmas.Result.{err_from_is_err_and}
-use Rattle.ptlangs.specs.Jobs.{paste_job}
-use Rattle.ptopts.specs.declared.inputs.Input.{Input}
-use Rattle.ptrun.specs.Operands.{place, places}
 use Rattle.ptrun.proofs.Order.{place_fits}
 use Rattle.ptrun.proofs.PasteJoint.{cells_ready, rows_went}
 use Rattle.ptrun.proofs.joint.PasteJobTogether.go_over.Goals as goal

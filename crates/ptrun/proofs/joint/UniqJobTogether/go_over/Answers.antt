@@ -1,11 +1,6 @@
-use Rattle.std.proofs.Common.{length, sym, ◌∙◌, ap, arith}
-use Rattle.std.proofs.lemmas.List.{get_or_default}
+use Rattle.ptrun.proofs.Common.{length, sym, ◌∙◌, ap, arith, get_or_default, no_reader, Standard, false≢true, Reader}
 use borrow.Author.Rules.{scaled_Fits}
-use Rattle.ptrun.specs.Worlds.{no_reader}
 use Rattle.ptrun.proofs.JointPasses.{sole_of, sole_within, lone_went, sole_there, sole_open}
-use Rattle.ptopts.specs.declared.inputs.Input.TheVariants.{Standard}
-use Rattle.std.proofs.lemmas.Bool.{false≢true}
-use Rattle.ptlines.specs.Readers.{Reader}
 use Rattle.ptrun.proofs.Order.{place_fits}
 use Rattle.ptrun.proofs.joint.UniqJobTogether.go_over.Goals as goal
 

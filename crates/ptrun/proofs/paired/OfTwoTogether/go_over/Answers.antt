@@ -1,7 +1,5 @@
-use Rattle.std.proofs.Common.{length, arith}
+use Rattle.ptrun.proofs.Common.{length, arith, First, Second, Standard}
 use Rattle.ptrun.proofs.PairedPasses.{two_of, ready_at, within_at, two_went, two_there}
-use Rattle.ptmerge.specs.declared.order.Side.TheVariants.{First, Second}
-use Rattle.ptopts.specs.declared.inputs.Input.TheVariants.{Standard}
 use Rattle.ptrun.proofs.Order.{place_fits}
 use Rattle.ptrun.proofs.paired.OfTwoTogether.go_over.Goals as goal
 

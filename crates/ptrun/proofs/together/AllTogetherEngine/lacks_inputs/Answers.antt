@@ -1,9 +1,4 @@
-use Rattle.std.proofs.Common.{ℕ, List, length, subst}
-use Rattle.ptopts.specs.Meant.{words_seen}
-use Rattle.ptrun.specs.Meanings.{unopened}
-use Rattle.ptrun.specs.Operands.{places}
-use Rattle.ptrun.specs.Sayings.{Tells}
-use Rattle.ptrun.specs.Worlds.{shut}
+use Rattle.ptrun.proofs.Common.{ℕ, List, length, subst, words_seen, unopened, places, Tells, shut}
 use Rattle.ptrun.proofs.Order.{place_fits, names_counted}
 use Rattle.ptrun.proofs.JointPasses.{checks_of}
 use Rattle.ptrun.proofs.together.AllTogetherEngine.lacks_inputs.Goals as goal

@@ -1,5 +1,4 @@
-use Rattle.std.proofs.Common.{bit_and}
-use Rattle.std.proofs.lemmas.Simd.{zip2_of_maps}
+use Rattle.ptflow.proofs.Common.{bit_and, zip2_of_maps}
 use Rattle.ptflow.proofs.kernels.halves.Row.additions.Goals as goal
 
 pub returns : goal.returns

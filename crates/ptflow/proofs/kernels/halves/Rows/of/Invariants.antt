@@ -1,7 +1,6 @@
 -- The rows move each byte so far to its image. They were built without a proof, so this is asked of each of the 256
 -- bytes.
-use Rattle.std.proofs.Common.{◌≡◌, ◌<◌, ℕ, get_or}
-use Rattle.ptflow.specs.Workings.Bytes.Rowings.{by_rows}
+use Rattle.ptflow.proofs.Common.{◌≡◌, ◌<◌, ℕ, get_or, by_rows}
 use Rattle.ptflow.proofs.kernels.halves.Rows.of.Given as goal
 
 abbrev pub invariant-loop-byte : goal.invariant-loop-byte

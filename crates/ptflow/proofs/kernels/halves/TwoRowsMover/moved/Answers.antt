@@ -1,5 +1,4 @@
-use Rattle.std.proofs.Common.{ℕ, ◌+◌, ◌%◌, sym}
-use Rattle.ptflow.specs.Workings.Bytes.Rowings.{row_adds}
+use Rattle.ptflow.proofs.Common.{ℕ, ◌+◌, ◌%◌, sym, row_adds}
 use Rattle.ptflow.proofs.OfBytes.LaneLemmas.{map_self, added_lanes}
 use Rattle.ptflow.proofs.kernels.halves.TwoRowsMover.moved.Goals as goal
 

@@ -1,5 +1,4 @@
-use Rattle.std.proofs.Common.{ℕ, ◌+◌, ◌%◌, sym}
-use Rattle.ptflow.specs.Workings.Bytes.Lanes.{by_reach, reach_adds}
+use Rattle.ptflow.proofs.Common.{ℕ, ◌+◌, ◌%◌, sym, by_reach, reach_adds}
 use Rattle.ptflow.proofs.OfBytes.LaneLemmas.{map_self, added_lanes}
 use Rattle.ptflow.proofs.kernels.lanes.FourMover.moved.Goals as goal
 

@@ -1,5 +1,4 @@
-use Rattle.std.proofs.Common.{sym}
-use Rattle.ptflow.specs.Workings.Bytes.Lanes.{reach_adds}
+use Rattle.ptflow.proofs.Common.{sym, reach_adds}
 use Rattle.ptflow.proofs.OfBytes.LaneLemmas.{map_self, added_lanes}
 use Rattle.ptflow.proofs.kernels.lanes.ReachMover.moved.Goals as goal
 

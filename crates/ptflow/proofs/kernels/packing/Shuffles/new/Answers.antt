@@ -1,5 +1,4 @@
-use Rattle.std.proofs.Common.{[], refl}
-use Rattle.std.specs.Simd.Lanes.{mask_l}
+use Rattle.ptflow.proofs.Common.{[], refl, mask_l}
 use Rattle.ptflow.proofs.OfBytes.ChosenLanes.{mask_below}
 use Rattle.ptflow.proofs.kernels.packing.Shuffles.new.Goals as goal
 

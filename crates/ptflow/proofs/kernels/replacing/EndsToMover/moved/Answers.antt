@@ -1,5 +1,4 @@
-use Rattle.std.proofs.Common.{sym, eqb}
-use Rattle.std.proofs.lemmas.Simd.{splat_is_map}
+use Rattle.ptflow.proofs.Common.{sym, eqb, splat_is_map}
 use Rattle.ptflow.proofs.OfBytes.LaneLemmas.{sel_maps, mask_right, map_self}
 use Rattle.ptflow.proofs.kernels.replacing.EndsToMover.moved.Goals as goal
 

@@ -1,5 +1,4 @@
-use Rattle.std.proofs.Common.{length}
-use Rattle.std.proofs.Math.Nat.{mod-add-mod, mod-eq_of_lt}
+use Rattle.ptflow.proofs.Common.{length, mod-add-mod, mod-eq_of_lt}
 use Rattle.ptflow.proofs.kernels.replacing.Turn.behind.Goals as goal
 
 pub returns-then-place-delims-clause-place : goal.returns-then-place-delims-clause-place

@@ -1,5 +1,4 @@
-use Rattle.std.proofs.Common.{◌≡◌, take, arith}
-use Rattle.ptlangs.specs.CutLists.{is_selected}
+use Rattle.ptflow.proofs.Common.{◌≡◌, take, arith, is_selected}
 use Rattle.ptflow.proofs.OfCut.PickLemmas.{line_put}
 use Rattle.ptflow.proofs.tools.cut.bytes.copy_line.Goals as goal
 

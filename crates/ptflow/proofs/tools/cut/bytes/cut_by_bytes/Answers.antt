@@ -1,7 +1,4 @@
-use Rattle.std.proofs.Common.{◌++◌, sym, ◌∙◌, ap, cond}
-use Rattle.ptlangs.specs.Jobs.{cut_job}
-use Rattle.ptflow.specs.Cuts.{cut_tool}
-use Rattle.ptflow.specs.Workings.Cut.CutRests.{rest_by}
+use Rattle.ptflow.proofs.Common.{◌++◌, sym, ◌∙◌, ap, cond, cut_job, cut_tool, rest_by}
 use Rattle.ptflow.proofs.OfCut.ByteRests.{rest_is_cut, rest_is_decided}
 use Rattle.ptflow.proofs.tools.cut.bytes.cut_by_bytes.Goals as goal
 

@@ -1,14 +1,7 @@
 -- The lowest bit that is left is the next end. The line up to it is cut, and the next line begins behind it; then that
 -- bit is taken away. As many turns are made as the mask has bits, so at the end no bit is left.
-use Rattle.std.proofs.Common.{◌≡◌, ◌+◌, ◌-◌, suc, map, take, drop, ◌∙◌, ap, arith}
-use Rattle.std.specs.Int.RustNames.{count_ones}
-use Rattle.std.specs.Simd.Lanes.{chunk}
-use Rattle.std.proofs.lemmas.List.{take_rest, drop-drop}
-use Rattle.std.proofs.lemmas.Simd.{ones-mask_l}
+use Rattle.ptflow.proofs.Common.{◌≡◌, ◌+◌, ◌-◌, suc, map, take, drop, ◌∙◌, ap, arith, count_ones, chunk, take_rest, drop-drop, ones-mask_l, is_byte, is_selected, chosen_piece}
 use lib.Count.{count_trailing_zeros}
-use Rattle.memchr.specs.Find.{is_byte}
-use Rattle.ptlangs.specs.CutLists.{is_selected}
-use Rattle.ptflow.specs.Workings.Cut.CutRests.{chosen_piece}
 use Rattle.ptflow.proofs.OfCut.ByteRests.{line_on, ends_on, cut_on}
 use Rattle.ptflow.proofs.OfBytes.Nths.{cleared, next_end, some_counted}
 use Rattle.ptflow.proofs.tools.cut.bytes.cut_chunk.Goals as goal

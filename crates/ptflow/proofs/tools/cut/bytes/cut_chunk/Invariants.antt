@@ -1,10 +1,6 @@
 -- The bits that are left are the ends that were not come to. What was written goes on to the line at which the loop
 -- stands, which after the first turn starts in this chunk.
-use Rattle.std.proofs.Common.{◌≡◌, ◌+◌, ◌<◌, ◌≤◌, map, take}
-use Rattle.std.specs.List.{count_by}
-use Rattle.std.specs.Simd.Lanes.{mask_l, chunk}
-use Rattle.memchr.specs.Find.{is_byte}
-use Rattle.ptflow.specs.Workings.Cut.CutRests.{GoesOn}
+use Rattle.ptflow.proofs.Common.{◌≡◌, ◌+◌, ◌<◌, ◌≤◌, map, take, count_by, mask_l, chunk, is_byte, GoesOn}
 use Rattle.ptflow.proofs.OfBytes.Nths.{without}
 use Rattle.ptflow.proofs.tools.cut.bytes.cut_chunk.Given as goal
 

@@ -1,9 +1,5 @@
 -- A chunk without an end is passed, and the line goes on.
-use Rattle.std.proofs.Common.{[], ap, arith, ◌∙◌}
-use Rattle.std.specs.Int.RustNames.{count_ones}
-use Rattle.std.specs.Simd.Lanes.{chunk}
-use Rattle.std.proofs.lemmas.Simd.{ones-mask_l}
-use Rattle.memchr.specs.Find.{is_byte}
+use Rattle.ptflow.proofs.Common.{[], ap, arith, ◌∙◌, count_ones, chunk, ones-mask_l, is_byte}
 use Rattle.ptflow.proofs.OfBytes.Nths.{count_chunk}
 use Rattle.ptflow.proofs.tools.cut.bytes.cut_pieces.Goals as goal
 

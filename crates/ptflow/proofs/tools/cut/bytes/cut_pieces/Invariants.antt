@@ -1,7 +1,6 @@
 -- What was written is the cut of the block up to the start of a line, and between that start and this chunk stands no
 -- end.
-use Rattle.std.proofs.Common.{◌-◌, ◌≤◌, length, take, drop}
-use Rattle.ptflow.specs.Workings.Cut.CutRests.{IsCutTo, IsLineAt}
+use Rattle.ptflow.proofs.Common.{◌-◌, ◌≤◌, length, take, drop, IsCutTo, IsLineAt}
 use Rattle.ptflow.proofs.tools.cut.bytes.cut_pieces.Given as goal
 
 abbrev pub invariant-loop-from : goal.invariant-loop-from

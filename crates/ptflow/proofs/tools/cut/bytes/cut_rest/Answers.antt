@@ -1,8 +1,4 @@
-use Rattle.std.proofs.Common.{◌+◌, [], length, take, drop, arith, length-drop}
-use Rattle.std.proofs.lemmas.List.{take_rest, take_all}
-use Rattle.ptlangs.specs.CutLists.{is_selected}
-use Rattle.ptlines.proofs.Scanned.{no_end}
-use Rattle.ptflow.specs.Workings.Cut.CutRests.{chosen_piece}
+use Rattle.ptflow.proofs.Common.{◌+◌, [], length, take, drop, arith, length-drop, take_rest, take_all, is_selected, no_end, chosen_piece}
 use Rattle.ptflow.proofs.OfCut.ByteRests.{line_on, piece_on, cut_on}
 use Rattle.ptflow.proofs.tools.cut.bytes.cut_rest.Goals as goal
 

@@ -1,6 +1,5 @@
 -- What was written is the cut of the bytes that were passed, and is no longer than they are.
-use Rattle.std.proofs.Common.{◌+◌, ◌≤◌, length, take}
-use Rattle.ptflow.specs.Workings.Cut.CutRests.{CutsOn}
+use Rattle.ptflow.proofs.Common.{◌+◌, ◌≤◌, length, take, CutsOn}
 use Rattle.ptflow.proofs.tools.cut.bytes.cut_rest.Given as goal
 
 abbrev pub invariant-lines : goal.invariant-lines

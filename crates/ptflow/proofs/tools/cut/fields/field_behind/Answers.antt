@@ -1,8 +1,6 @@
 -- The first delimiter is known. So a walk from in front of it may begin behind it, with one field less to pass; any
 -- other walk begins where it is.
-use Rattle.std.proofs.Common.{◌≡◌, ◌+◌, ◌-◌, ◌≤◌, MatchOption, inl, inr, take, drop, length, arith}
-use Rattle.std.proofs.lemmas.List.{take_rest, length-take-le}
-use Rattle.ptflow.specs.Workings.Cut.FieldPlaces.{fields, StartsAt}
+use Rattle.ptflow.proofs.Common.{◌≡◌, ◌+◌, ◌-◌, ◌≤◌, MatchOption, inl, inr, take, drop, length, arith, take_rest, length-take-le, fields, StartsAt}
 use Rattle.ptflow.proofs.OfCut.FieldPlaces.{start_kept, rest_of}
 use Rattle.ptflow.proofs.OfBytes.Nths.{few_behind_first, starts_past_first}
 use Rattle.ptflow.proofs.tools.cut.fields.field_behind.Goals as goal

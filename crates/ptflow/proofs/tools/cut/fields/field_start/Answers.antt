@@ -1,7 +1,4 @@
-use Rattle.std.proofs.Common.{take, arith}
-use Rattle.std.proofs.lemmas.List.{length-take-le}
-use Rattle.std.proofs.lemmas.List.Sums.{count_by-le-length}
-use Rattle.memchr.specs.Find.{is_byte}
+use Rattle.ptflow.proofs.Common.{take, arith, length-take-le, count_by-le-length, is_byte}
 use Rattle.ptflow.proofs.OfCut.FieldPlaces.{starts_first}
 use Rattle.ptflow.proofs.OfBytes.Nths.{few_fields, starts_behind_nth}
 use Rattle.ptflow.proofs.tools.cut.fields.field_start.Goals as goal

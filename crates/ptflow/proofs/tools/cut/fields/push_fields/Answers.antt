@@ -1,14 +1,7 @@
 -- As in `put_fields`, an interval is walked in two steps, to its first field and behind its last one. But its slice is
 -- pushed, and a push may fail: then what was pushed is a beginning of the selected fields.
-use Rattle.std.proofs.Common.{Some, ◌+◌, ◌-◌, ◌≤◌, ◌++◌, ℕ, List, [], take, drop, get_or, length, refl, sym, ◌∙◌, ap, subst, arith}
-use Rattle.std.proofs.lemmas.List.{take_all, take_rest, drop_all, append-nil}
-use Rattle.std.specs.List.{join_with_byte}
-use Rattle.memchr.specs.Find.{IsFirstByte, is_byte}
-use Rattle.ptlines.proofs.Pushed.{wrote_nothing}
-use Rattle.ptlangs.specs.CutLists.{is_selected}
-use Rattle.ptlangs.specs.Jobs.{cut_job}
-use Rattle.ptflow.specs.Cuts.{cut_fields}
-use Rattle.ptflow.specs.Workings.Cut.FieldPlaces.{fields, StartsAt}
+use Rattle.ptflow.proofs.Common.{Some, ◌+◌, ◌-◌, ◌≤◌, ◌++◌, ℕ, List, [], take, drop, get_or, length, refl, sym, ◌∙◌, ap, subst, arith, take_all, take_rest, drop_all, append-nil, join_with_byte}
+use Rattle.ptflow.proofs.Common.{IsFirstByte, is_byte, wrote_nothing, is_selected, cut_job, cut_fields, fields, StartsAt}
 use Rattle.ptflow.proofs.OfBytes.Chosen.{chosen}
 use Rattle.ptflow.proofs.OfPasses.Fronts.{front_starts, front_more, front_fails, front_ends}
 use Rattle.ptflow.proofs.OfCut.FieldWalks.{not_past, step_fits, slice_fits, coming, all_coming, walking_starts, walking_done, walking_short, walking_ends, walking_slice, walking_more}

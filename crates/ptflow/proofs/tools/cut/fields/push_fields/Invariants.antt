@@ -1,7 +1,5 @@
 -- What was pushed, and what comes of the intervals that are left, from here on, are the selected fields of the line.
-use Rattle.std.proofs.Common.{◌≡◌, ◌≤◌, [], drop}
-use Rattle.ptlangs.specs.Jobs.{cut_job}
-use Rattle.ptflow.specs.Cuts.{cut_fields}
+use Rattle.ptflow.proofs.Common.{◌≡◌, ◌≤◌, [], drop, cut_job, cut_fields}
 use Rattle.ptflow.proofs.OfCut.FieldWalks.{Walking, coming}
 use Rattle.ptflow.proofs.OfPasses.Fronts.{Front}
 use Rattle.ptflow.proofs.tools.cut.fields.push_fields.Given as goal

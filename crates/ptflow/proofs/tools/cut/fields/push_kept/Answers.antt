@@ -1,10 +1,6 @@
 -- A line with a delimiter gives its selected fields, and any other itself, or nothing with `-s`. Behind it stands its
 -- end.
-use Rattle.std.proofs.Common.{◌≡◌, ℕ, false, List, [], ◌∷◌, None, Some}
-use Rattle.ptlines.specs.Outputs.{Output, Wrote}
-use Rattle.ptlines.proofs.Pushed.{wrote_nothing, wrote_trans, wrote_past}
-use Rattle.ptlangs.specs.Jobs.{Cut, cut_job}
-use Rattle.ptflow.specs.Cuts.{cut_fields, cut_line, cut_lines}
+use Rattle.ptflow.proofs.Common.{◌≡◌, ℕ, false, List, [], ◌∷◌, None, Some, Output, Wrote, wrote_nothing, wrote_trans, wrote_past, Cut, cut_job, cut_fields, cut_line, cut_lines}
 use Rattle.ptflow.proofs.OfCut.FieldLines.{found, of_fields, of_line, of_none, line_written, line_dropped}
 use Rattle.ptflow.proofs.tools.cut.fields.push_kept.Goals as goal
 use Rattle.ptflow.proofs.tools.cut.fields.push_kept.Goals.{in-Some+in_ok-push_fields-in-Some, in-None+else-job+in_ok-push-in-None}

@@ -1,11 +1,7 @@
 -- An interval is walked in two steps: to the start of its first field, and to the end of its last one (`FieldWalks`).
 -- What lies between is one slice, with a delimiter in front of it if it is not the first. A walk that meets the end of
 -- the line leaves no field to come.
-use Rattle.std.proofs.Common.{◌≡◌, ◌+◌, ◌-◌, ◌≤◌, ◌++◌, take, drop, get_or, refl, sym, ◌∙◌, ap, arith, append_assoc, length-drop}
-use Rattle.std.proofs.lemmas.List.{take-take, length-take-le}
-use Rattle.std.specs.List.{join_with_byte}
-use Rattle.ptlangs.specs.CutLists.{is_selected}
-use Rattle.ptflow.specs.Workings.Cut.FieldPlaces.{fields}
+use Rattle.ptflow.proofs.Common.{◌≡◌, ◌+◌, ◌-◌, ◌≤◌, ◌++◌, take, drop, get_or, refl, sym, ◌∙◌, ap, arith, append_assoc, length-drop, take-take, length-take-le, join_with_byte, is_selected, fields}
 use Rattle.ptflow.proofs.OfBytes.Chosen.{chosen}
 use Rattle.ptflow.proofs.OfCut.FieldPlaces.{rest_of, slice_of, line_with_end, put_byte}
 use Rattle.ptflow.proofs.OfCut.FieldWalks.{not_past, step_fits, slice_fits, coming, all_coming, walking_starts, walking_done, walking_short, walking_ends, walking_slice, walking_more}

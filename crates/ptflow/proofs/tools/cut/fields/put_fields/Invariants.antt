@@ -1,8 +1,6 @@
 -- What was put, and what comes of the intervals that are left, from here on, are the selected fields of the line. No
 -- more was put than was passed, so there is room for the rest.
-use Rattle.std.proofs.Common.{◌≡◌, ◌+◌, ◌≤◌, ◌++◌, length, take, drop}
-use Rattle.ptlangs.specs.Jobs.{cut_job}
-use Rattle.ptflow.specs.Cuts.{cut_fields}
+use Rattle.ptflow.proofs.Common.{◌≡◌, ◌+◌, ◌≤◌, ◌++◌, length, take, drop, cut_job, cut_fields}
 use Rattle.ptflow.proofs.OfCut.FieldWalks.{Walking, coming}
 use Rattle.ptflow.proofs.tools.cut.fields.put_fields.Given as goal
 

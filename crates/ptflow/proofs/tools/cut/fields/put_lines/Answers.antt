@@ -1,9 +1,6 @@
 -- A line with the delimiter gives its fields. Lines without one are put as they are, as many as stand behind one
 -- another, or passed over.
-use Rattle.std.proofs.Common.{◌≡◌, ◌-◌, Some, take, length, arith}
-use Rattle.std.specs.Prelude.{unwrap_or}
-use Rattle.ptlangs.specs.Jobs.{cut_job}
-use Rattle.ptflow.specs.Cuts.{cut_fields}
+use Rattle.ptflow.proofs.Common.{◌≡◌, ◌-◌, Some, take, length, arith, unwrap_or, cut_job, cut_fields}
 use Rattle.ptflow.proofs.OfCut.FieldLines.{found, of_fields}
 use Rattle.ptflow.proofs.OfCut.FieldBlocks.{puts_line, puts_kept, puts_dropped, free_before, first_within}
 use Rattle.ptflow.proofs.tools.cut.fields.put_lines.Goals as goal

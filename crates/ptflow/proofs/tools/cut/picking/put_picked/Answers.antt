@@ -1,8 +1,4 @@
-use Rattle.std.proofs.Common.{◌≤◌, ◌+◌, ◌++◌, take, get_or, refl, ◌∙◌, ap, arith, w8}
-use Rattle.std.proofs.lemmas.Simd.{swz_l, length-swz_l, SwzOk-from_below}
-use Rattle.std.specs.Simd.Lanes.{put_chunk}
-use Rattle.std.proofs.lemmas.List.{take-take, length-take-le}
-use Rattle.ptflow.specs.Cuts.{chosen_from}
+use Rattle.ptflow.proofs.Common.{◌≤◌, ◌+◌, ◌++◌, take, get_or, refl, ◌∙◌, ap, arith, w8, swz_l, length-swz_l, SwzOk-from_below, put_chunk, take-take, length-take-le, chosen_from}
 use Rattle.ptflow.proofs.OfBytes.ChosenLanes.{chosen_stored}
 use Rattle.ptflow.proofs.OfCut.PickLemmas.{pick_line, pick_few, pick_lanes, few_enough}
 use Rattle.ptflow.proofs.tools.cut.picking.put_picked.Goals as goal

@@ -1,7 +1,5 @@
 -- Each search goes back over the last end that is left, or there is none.
-use Rattle.std.proofs.Common.{◌≡◌, ℕ, ◌+◌, ◌-◌, ◌∙◌, ap, get_or, arith}
-use Rattle.std.proofs.lemmas.Bool.{eqb-true}
-use Rattle.memchr.specs.Find.{is_byte}
+use Rattle.ptflow.proofs.Common.{◌≡◌, ℕ, ◌+◌, ◌-◌, ◌∙◌, ap, get_or, arith, eqb-true, is_byte}
 use Rattle.ptflow.proofs.OfPaste.LastEnds.{last_low, last_passes, last_ends, last_counted, none_passes}
 use Rattle.ptflow.proofs.tools.paste.one_reader.end_before.Goals as goal
 

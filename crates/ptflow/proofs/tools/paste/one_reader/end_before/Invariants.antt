@@ -1,7 +1,5 @@
 -- As many ends as were passed come after this place.
-use Rattle.std.proofs.Common.{◌≡◌, ◌+◌, ◌≤◌, length, take}
-use Rattle.std.specs.List.{count_by}
-use Rattle.memchr.specs.Find.{is_byte}
+use Rattle.ptflow.proofs.Common.{◌≡◌, ◌+◌, ◌≤◌, length, take, count_by, is_byte}
 use Rattle.ptflow.proofs.tools.paste.one_reader.end_before.Given as goal
 
 abbrev pub invariant-loop-passed : goal.invariant-loop-passed

@@ -1,8 +1,6 @@
 -- Each turn but the last is the byte of a delimiter, since an empty one was answered by none; the last is the end's
 -- own.
-use Rattle.std.proofs.Common.{◌≡◌, ℕ, length, get_or, sym, ◌∙◌, ap, arith, ⊎_elim}
-use Rattle.std.proofs.lemmas.Bool.{cases_lt, eqb-false}
-use Rattle.std.proofs.lemmas.List.Elements.{All-from_get_or}
+use Rattle.ptflow.proofs.Common.{◌≡◌, ℕ, length, get_or, sym, ◌∙◌, ap, arith, ⊎_elim, cases_lt, eqb-false, All-from_get_or}
 use Rattle.ptflow.proofs.OfPaste.OneReader.{turns_more, turns_done}
 use Rattle.ptflow.proofs.tools.paste.one_reader.list_of_one.Goals as goal
 

@@ -1,11 +1,6 @@
 -- What the reader at the place of the first cell holds begins with whole rows, and what was put of them is pushed.
-use Rattle.std.proofs.Common.{ℕ, ◌<◌, length, set, get_or, sym, ◌∙◌, ap, subst, arith}
-use Rattle.std.proofs.lemmas.List.Elements.{All-get_or}
-use Rattle.std.proofs.lemmas.Result.{err_from_is_err_and}
+use Rattle.ptflow.proofs.Common.{ℕ, ◌<◌, length, set, get_or, sym, ◌∙◌, ap, subst, arith, All-get_or, err_from_is_err_and, Reader, AreTurnsOfOne, PushedRows}
 use borrow.Author.Rules.{scaled_Fits}
-use Rattle.ptlines.specs.Readers.{Reader}
-use Rattle.ptflow.specs.Workings.Paste.OneReader.{AreTurnsOfOne}
-use Rattle.ptflow.specs.Workings.Paste.WholeRows.{PushedRows}
 use Rattle.ptflow.proofs.OfPaste.OneReader.{held_put}
 use Rattle.ptflow.proofs.OfPaste.RowTurns.{at_index}
 use Rattle.ptflow.proofs.OfPaste.WholeRows.{pushed_breaks}

@@ -1,5 +1,4 @@
-use Rattle.std.proofs.Common.{◌≡◌, ◌/◌, ◌-◌, length, take, get_or, ◌∙◌, ap, arith, get_or-take}
-use Rattle.std.proofs.lemmas.List.{take-append-le, length-take-le}
+use Rattle.ptflow.proofs.Common.{◌≡◌, ◌/◌, ◌-◌, length, take, get_or, ◌∙◌, ap, arith, get_or-take, take-append-le, length-take-le}
 use Rattle.ptflow.proofs.OfPaste.OneReader.{rows_known, turns-take}
 use Rattle.ptflow.proofs.OfPaste.Turns.{length-turns}
 use Rattle.ptflow.proofs.tools.paste.one_reader.put_held_rows.Goals as goal

@@ -1,7 +1,4 @@
-use Rattle.std.proofs.Common.{ℕ, false, ◌++◌, refl, sym, ◌∙◌, ap}
-use Rattle.ptlangs.specs.Jobs.{paste_job}
-use Rattle.ptflow.specs.Pastes.{serial_tool}
-use Rattle.ptflow.specs.Workings.Paste.SerialRests.{serial_rest}
+use Rattle.ptflow.proofs.Common.{ℕ, false, ◌++◌, refl, sym, ◌∙◌, ap, paste_job, serial_tool, serial_rest}
 use Rattle.ptflow.proofs.OfPaste.SerialRests.{serial_is_decided}
 use Rattle.ptflow.proofs.tools.paste.serial.over_row.Goals as goal
 

@@ -1,6 +1,4 @@
-use Rattle.std.proofs.Common.{cond, sym, ◌∙◌}
-use Rattle.ptlangs.specs.Jobs.{paste_job}
-use Rattle.ptflow.specs.Pastes.{serial_tool}
+use Rattle.ptflow.proofs.Common.{cond, sym, ◌∙◌, paste_job, serial_tool}
 use Rattle.ptflow.proofs.OfPasses.PassLemmas.{pass_halted, bare_set}
 use Rattle.ptflow.proofs.tools.paste.serial.paste_serial.Goals as goal
 

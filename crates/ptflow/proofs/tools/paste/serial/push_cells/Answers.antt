@@ -1,10 +1,6 @@
 -- What stands in front of the cell is pushed, and then what is written of the block: both are what is written of the
 -- block in this cell, whatever comes. Where a push fails, what was pushed is a beginning of that.
-use Rattle.std.proofs.Common.{◌<◌, ◌≤◌, [], length, take, refl, ap, arith}
-use Rattle.std.proofs.lemmas.Bool.Decides.{nat_tests}
-use Rattle.std.proofs.lemmas.List.{drop_all}
-use Rattle.ptflow.specs.Workings.Paste.SerialRests.{serial_rest, begun, lead, PutsBlock}
-use Rattle.ptflow.specs.declared.tools.paste.serial.Cell.{Cell}
+use Rattle.ptflow.proofs.Common.{◌<◌, ◌≤◌, [], length, take, refl, ap, arith, nat_tests, drop_all, serial_rest, begun, lead, PutsBlock, Cell}
 use Rattle.ptflow.proofs.OfPasses.Continuations.{Amid, on_err, amid_starts, amid_more, amid_halts, amid_over}
 use Rattle.ptflow.proofs.OfPaste.SerialRests.{begun_on, begins, begun_number}
 use Rattle.ptflow.proofs.tools.paste.serial.push_cells.Given as given

@@ -1,8 +1,7 @@
 -- The last byte of a block that goes on with its line is put behind what was put of the others.
-use Rattle.std.proofs.Common.{◌≡◌, ◌+◌, ◌-◌, ◌<◌, ◌≤◌, ◌++◌, ℕ, List, [], ◌∷◌, Option, length, take, get_or, sym, ◌∙◌, subst, arith}
+use Rattle.ptflow.proofs.Common.{◌≡◌, ◌+◌, ◌-◌, ◌<◌, ◌≤◌, ◌++◌, ℕ, List, [], ◌∷◌, Option, length, take, get_or, sym, ◌∙◌, subst, arith, take_more, take_more_set, take_all, length-take-le, Puts}
+use Rattle.ptflow.proofs.Common.{PutsBlock}
 use Rattle.std.specs.Prelude.{slice_set, false}
-use Rattle.std.proofs.lemmas.List.{take_more, take_more_set, take_all, length-take-le}
-use Rattle.ptflow.specs.Workings.Paste.SerialRests.{Puts, PutsBlock}
 use Rattle.ptflow.proofs.OfPaste.SerialRests.{puts_last}
 use Rattle.ptflow.proofs.tools.paste.serial.put_block.Goals as goal
 

@@ -1,8 +1,4 @@
-use Rattle.std.proofs.Common.{◌≡◌, ◌<◌, ℕ, false, eqb, Option, None, List, length, sym, ◌∙◌, ap, arith}
-use Rattle.std.specs.List.{list_any}
-use Rattle.std.specs.Option.{option_eq}
-use Rattle.std.proofs.lemmas.List.{take-append-le, take_all, length-map}
-use Rattle.ptflow.specs.Workings.Paste.SerialRests.{with_turns}
+use Rattle.ptflow.proofs.Common.{◌≡◌, ◌<◌, ℕ, false, eqb, Option, None, List, length, sym, ◌∙◌, ap, arith, list_any, option_eq, take-append-le, take_all, length-map, with_turns}
 use Rattle.ptflow.proofs.OfPaste.SerialRests.{puts_always, puts_turns}
 use Rattle.ptflow.proofs.OfPaste.Turns.{byte_in_turn, length-turns}
 use Rattle.ptflow.proofs.tools.paste.serial.put_cells.Goals as goal

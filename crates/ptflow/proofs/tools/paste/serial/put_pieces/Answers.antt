@@ -1,7 +1,4 @@
-use Rattle.std.proofs.Common.{◌≡◌, ◌+◌, ◌-◌, ◌++◌, List, ℕ, length, take, refl, ◌∙◌, ap, arith, length-drop}
-use Rattle.std.proofs.lemmas.List.{take_rest, take_all}
-use Rattle.ptlines.proofs.Scanned.{no_end}
-use Rattle.ptflow.specs.Pastes.{delimiter}
+use Rattle.ptflow.proofs.Common.{◌≡◌, ◌+◌, ◌-◌, ◌++◌, List, ℕ, length, take, refl, ◌∙◌, ap, arith, length-drop, take_rest, take_all, no_end, delimiter}
 use Rattle.ptflow.proofs.OfPaste.SerialRests.{puts_line, puts_piece}
 use Rattle.ptflow.proofs.tools.paste.serial.put_pieces.Goals as goal
 

@@ -1,7 +1,6 @@
 -- What was put is what is written of the bytes that were taken, whatever comes behind them. It is no longer than they
 -- are, and the number of the cell grows by no more than that.
-use Rattle.std.proofs.Common.{◌+◌, ◌≤◌, length, take}
-use Rattle.ptflow.specs.Workings.Paste.SerialRests.{Puts}
+use Rattle.ptflow.proofs.Common.{◌+◌, ◌≤◌, length, take, Puts}
 use Rattle.ptflow.proofs.tools.paste.serial.put_pieces.Given as goal
 
 abbrev pub invariant-pieces : goal.invariant-pieces

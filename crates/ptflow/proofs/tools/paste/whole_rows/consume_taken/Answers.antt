@@ -1,6 +1,5 @@
-use Rattle.std.proofs.Common.{◌<◌, length, get_or, ◌∙◌, ap, arith}
+use Rattle.ptflow.proofs.Common.{◌<◌, length, get_or, ◌∙◌, ap, arith, Reader}
 use borrow.Author.Rules.{scaled_Fits}
-use Rattle.ptlines.specs.Readers.{Reader}
 use Rattle.ptflow.proofs.OfPaste.RowTurns.{at_index}
 use Rattle.ptflow.proofs.OfPaste.WholeRows.{taking_front, taking_rest, taking_done}
 use Rattle.ptflow.proofs.tools.paste.whole_rows.consume_taken.Goals as goal

@@ -1,6 +1,5 @@
 -- Of the readers in front, so many bytes were taken, and the others are as they were.
-use Rattle.std.proofs.Common.{◌≡◌, ℕ, ◌<◌, ◌≤◌, drop, get_or}
-use Rattle.ptflow.specs.PastePasses.{reader_at}
+use Rattle.ptflow.proofs.Common.{◌≡◌, ℕ, ◌<◌, ◌≤◌, drop, get_or, reader_at}
 use Rattle.ptflow.proofs.tools.paste.whole_rows.consume_taken.Given as goal
 
 abbrev pub invariant-loop-place : goal.invariant-loop-place

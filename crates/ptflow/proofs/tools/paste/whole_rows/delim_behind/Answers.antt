@@ -1,5 +1,4 @@
-use Rattle.std.proofs.Common.{◌<◌, ℕ, List, Option, None, length, slice_index_or, sym, ◌∙◌, ap, arith}
-use Rattle.std.proofs.Math.Nat.{mod-eq_of_lt}
+use Rattle.ptflow.proofs.Common.{◌<◌, ℕ, List, Option, None, length, slice_index_or, sym, ◌∙◌, ap, arith, mod-eq_of_lt}
 use Rattle.ptflow.proofs.tools.paste.whole_rows.delim_behind.Goals as goal
 
 pub returns-then-column-list : goal.returns-then-column-list

@@ -1,7 +1,4 @@
-use Rattle.std.proofs.Common.{take, arith}
-use Rattle.std.proofs.lemmas.List.{length-take-le}
-use Rattle.std.proofs.lemmas.Result.{err_from_is_err_and}
-use Rattle.ptflow.specs.Workings.Paste.WholeRows.{PushedRows}
+use Rattle.ptflow.proofs.Common.{take, arith, length-take-le, err_from_is_err_and, PushedRows}
 use Rattle.ptflow.proofs.OfPaste.WholeRows.{pushed_breaks, rows_taken}
 use Rattle.ptflow.proofs.tools.paste.whole_rows.pass_rows.Given as given
 use Rattle.ptflow.proofs.tools.paste.whole_rows.pass_rows.Goals as goal

@@ -1,9 +1,5 @@
 -- Each turn puts one more row, and what is taken of both readers is counted.
-use Rattle.std.proofs.Common.{◌≡◌, ℕ, List, Option, length, take, drop, get_or, subst, ◌∙◌, ap, arith, length-drop}
-use Rattle.std.proofs.lemmas.List.{take_rest}
-use Rattle.ptlines.specs.Readers.{Reader, IsSound}
-use Rattle.ptflow.specs.PastePasses.{reader_at}
-use Rattle.ptflow.specs.Workings.Paste.WholeRows.{PutsPair, Holds, PutsRows}
+use Rattle.ptflow.proofs.Common.{◌≡◌, ℕ, List, Option, length, take, drop, get_or, subst, ◌∙◌, ap, arith, length-drop, take_rest, Reader, IsSound, reader_at, PutsPair, Holds, PutsRows}
 use Rattle.ptflow.proofs.OfPaste.PairRows.{pairs_start, pairs_more, pairs_taken, within_one, within_two}
 use Rattle.ptflow.proofs.OfPaste.RowTurns.{at_index}
 use Rattle.ptflow.proofs.tools.paste.whole_rows.put_pairs.Goals as goal

@@ -1,13 +1,7 @@
 -- Each turn puts one more cell behind its delimiter, if it is whole in what its reader holds; what was taken of each
 -- reader is counted.
-use Rattle.std.proofs.Common.{refl, sym, [], ◌∷◌, ◌≡◌, ◌+◌, ◌<◌, ◌≤◌, ◌++◌, ℕ, List, Some, length, take, drop, get_or, ◌∙◌, ap, subst, arith}
-use Rattle.std.proofs.lemmas.List.{append-nil, take_rest, take_more_set, length-set}
-use Rattle.std.proofs.lemmas.List.Elements.{All-get_or}
-use Rattle.memchr.specs.Find.{IsFirstByte, is_byte}
-use Rattle.ptlines.specs.Readers.{Reader, IsSound}
-use Rattle.ptflow.specs.PastePasses.{reader_at}
-use Rattle.ptflow.specs.Workings.Paste.SerialRests.{lead}
-use Rattle.ptflow.specs.Workings.Paste.WholeRows.{in_front}
+use Rattle.ptflow.proofs.Common.{refl, sym, [], ◌∷◌, ◌≡◌, ◌+◌, ◌<◌, ◌≤◌, ◌++◌, ℕ, List, Some, length, take, drop, get_or, ◌∙◌, ap, subst, arith, append-nil, take_rest, take_more_set, length-set}
+use Rattle.ptflow.proofs.Common.{All-get_or, IsFirstByte, is_byte, Reader, IsSound, reader_at, lead, in_front}
 use Rattle.ptflow.proofs.OfPaste.Grids.{times_below}
 use Rattle.ptflow.proofs.OfPaste.RowTurns.{at_index}
 use Rattle.ptflow.proofs.OfPaste.WholeRows.{HasLine, putting_starts, putting_more, putting_done, holds_more, front_kept, line_put, end_put}

@@ -1,7 +1,5 @@
 -- The cells in front were put, and what stands in the room is written of them.
-use Rattle.std.proofs.Common.{◌≡◌, ◌<◌, ◌≤◌, ◌++◌, ℕ, List, length, take}
-use Rattle.ptlines.specs.Readers.{Reader}
-use Rattle.ptflow.specs.Workings.Paste.WholeRows.{AreTaken, Holds}
+use Rattle.ptflow.proofs.Common.{◌≡◌, ◌<◌, ◌≤◌, ◌++◌, ℕ, List, length, take, Reader, AreTaken, Holds}
 use Rattle.ptflow.proofs.OfPaste.WholeRows.{Putting}
 use Rattle.ptflow.proofs.tools.paste.whole_rows.put_row.Given as goal
 

@@ -1,6 +1,5 @@
 -- The rows so far were put, and what was taken of the readers is still held.
-use Rattle.std.proofs.Common.{◌≤◌, ◌-◌, take}
-use Rattle.ptflow.specs.Workings.Paste.WholeRows.{Holds, PutsRows}
+use Rattle.ptflow.proofs.Common.{◌≤◌, ◌-◌, take, Holds, PutsRows}
 use Rattle.ptflow.proofs.tools.paste.whole_rows.put_rows.Given as goal
 
 abbrev pub invariant-rows : goal.invariant-rows

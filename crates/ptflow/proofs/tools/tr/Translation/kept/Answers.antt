@@ -1,5 +1,4 @@
-use Rattle.std.proofs.Common.{sym}
-use Rattle.ptlangs.specs.TrTables.{deletes}
+use Rattle.ptflow.proofs.Common.{sym, deletes}
 use Rattle.ptflow.proofs.OfTr.TrRests.{filter_all}
 use Rattle.ptflow.proofs.tools.tr.Translation.kept.Goals as goal
 

@@ -1,5 +1,4 @@
-use Rattle.std.proofs.Common.{sym, ◌∙◌}
-use Rattle.ptlangs.specs.TrTables.{image}
+use Rattle.ptflow.proofs.Common.{sym, ◌∙◌, image}
 use Rattle.ptflow.proofs.OfBytes.LaneLemmas.{map_self, bytes_same, bytes_fit}
 use Rattle.ptflow.proofs.tools.tr.Translation.mapped.Goals as goal
 

@@ -1,6 +1,4 @@
-use Rattle.std.proofs.Common.{false, sym, ap, ◌∙◌, slice_index_or}
-use Rattle.ptlangs.specs.TrTables.{squeezes}
-use Rattle.ptflow.specs.Workings.Tr.TrRests.{squeeze_from}
+use Rattle.ptflow.proofs.Common.{false, sym, ap, ◌∙◌, slice_index_or, squeezes, squeeze_from}
 use Rattle.ptflow.proofs.OfTr.TrRests.{from_all}
 use Rattle.ptflow.proofs.tools.tr.Translation.squeezed.Goals as goal
 

@@ -1,5 +1,4 @@
-use Rattle.std.proofs.Common.{◌∙◌, ap}
-use Rattle.std.specs.Option.{option_or}
+use Rattle.ptflow.proofs.Common.{◌∙◌, ap, option_or}
 use Rattle.ptflow.proofs.OfPasses.Continuations.{on_err}
 use Rattle.ptflow.proofs.OfTr.TrRests.{passes_make, block_on, block_begins}
 use Rattle.ptflow.proofs.tools.tr.TranslatorBlockTool.push_block.Goals as goal

@@ -1,6 +1,4 @@
-use Rattle.std.proofs.Common.{◌∙◌}
-use Rattle.ptlangs.specs.TrTables.{image}
-use Rattle.ptflow.specs.Workings.Bytes.Rowings.{by_rows, by_two_rows}
+use Rattle.ptflow.proofs.Common.{◌∙◌, image, by_rows, by_two_rows}
 use Rattle.ptflow.proofs.OfBytes.LaneLemmas.{moved_same}
 use Rattle.ptflow.proofs.tools.tr.mapping.add_rows.Goals as goal
 use Rattle.ptflow.proofs.tools.tr.mapping.add_rows.Goals.{in-Some, in-None}

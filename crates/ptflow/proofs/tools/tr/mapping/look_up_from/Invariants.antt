@@ -1,7 +1,5 @@
 -- The bytes in front of this place were replaced by their images.
-use Rattle.std.proofs.Common.{length, ◌-◌}
-use Rattle.ptlangs.specs.TrTables.{image}
-use Rattle.ptflow.specs.Workings.Bytes.Lanes.{IsMovedTo}
+use Rattle.ptflow.proofs.Common.{length, ◌-◌, image, IsMovedTo}
 use Rattle.ptflow.proofs.tools.tr.mapping.look_up_from.Given as goal
 
 abbrev pub invariant-loop-at : goal.invariant-loop-at

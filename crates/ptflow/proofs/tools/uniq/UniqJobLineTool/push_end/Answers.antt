@@ -1,5 +1,4 @@
-use Rattle.std.proofs.Common.{[], ◌∷◌, ap, arith}
-use Rattle.ptlangs.specs.Jobs.{uniq_job}
+use Rattle.ptflow.proofs.Common.{[], ◌∷◌, ap, arith, uniq_job}
 use Rattle.ptflow.proofs.OfUniq.OpenLines.{first_emptied, run_wrote}
 use Rattle.ptflow.proofs.tools.uniq.UniqJobLineTool.push_end.Goals as goal
 

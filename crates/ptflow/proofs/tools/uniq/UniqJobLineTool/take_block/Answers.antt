@@ -1,14 +1,8 @@
 -- The first lines of the block may go on with the open run. Where one does not, that run is pushed, and with it the
 -- runs that end in the block. The last run stays open, whatever comes (`BlockRuns`). What is taken are the lines whose
 -- end is there.
-use Rattle.std.proofs.Common.{◌+◌, ◌∷◌, [], length, drop, sym, ap, subst, arith, length-drop}
-use Rattle.std.proofs.lemmas.List.{take_rest, length-take-le}
-use Rattle.ptlines.specs.Text.{text, ended_lines}
-use Rattle.ptlines.proofs.Scanned.{no_end}
-use Rattle.ptlines.proofs.TextLaws.{ended_none}
-use Rattle.ptlangs.specs.Jobs.{uniq_job}
-use Rattle.ptflow.specs.Workings.Uniq.BlockRuns.{RunsOn, GoesOnWith}
-use Rattle.ptflow.specs.Workings.Uniq.OpenLines.{open_run_of}
+use Rattle.ptflow.proofs.Common.{◌+◌, ◌∷◌, [], length, drop, sym, ap, subst, arith, length-drop, take_rest, length-take-le, text, ended_lines, no_end, ended_none, uniq_job, RunsOn, GoesOnWith}
+use Rattle.ptflow.proofs.Common.{open_run_of}
 use Rattle.ptflow.proofs.OfPasses.Continuations.{on_err}
 use Rattle.ptflow.proofs.OfUniq.OpenLines.{not_found, run_wrote, block_none, block_on, block_on_passed, block_run_halts, block_turns, block_halts, block_passed}
 use Rattle.ptflow.proofs.OfUniq.BlockRuns.{text_long}

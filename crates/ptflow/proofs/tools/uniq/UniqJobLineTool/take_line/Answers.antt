@@ -1,9 +1,4 @@
-use Rattle.std.proofs.Common.{◌∷◌, [], sym, ap, subst}
-use Rattle.ptlines.specs.Slots.{line}
-use Rattle.ptlangs.specs.Jobs.{uniq_job}
-use Rattle.ptflow.specs.Workings.Uniq.BlockRuns.{RunsOn}
-use Rattle.ptflow.specs.Workings.Uniq.OpenLines.{open_run_of}
-use Rattle.ptflow.specs.Workings.Uniq.OpenRuns.{run_of}
+use Rattle.ptflow.proofs.Common.{◌∷◌, [], sym, ap, subst, line, uniq_job, RunsOn, open_run_of, run_of}
 use Rattle.ptflow.proofs.OfPasses.Continuations.{on_err}
 use Rattle.ptflow.proofs.OfUniq.OpenLines.{swapped_first, run_wrote, line_tested, line_more, line_turns, line_halts}
 use Rattle.ptflow.proofs.tools.uniq.UniqJobLineTool.take_line.Goals as goal

@@ -1,5 +1,4 @@
-use Rattle.std.proofs.Common.{length, sym, ◌∙◌, arith}
-use Rattle.std.proofs.lemmas.List.{take_rest, drop_all}
+use Rattle.ptflow.proofs.Common.{length, sym, ◌∙◌, arith, take_rest, drop_all}
 use Rattle.ptflow.proofs.OfUniq.UniqKeys.{after_found, after_not_found}
 use Rattle.ptflow.proofs.tools.uniq.keys.behind_far.Goals as goal
 

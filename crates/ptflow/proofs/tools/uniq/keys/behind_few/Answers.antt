@@ -1,5 +1,4 @@
-use Rattle.std.proofs.Common.{◌≡◌, ◌+◌, suc, sym, ◌∙◌, arith}
-use Rattle.std.proofs.lemmas.List.{take_rest}
+use Rattle.ptflow.proofs.Common.{◌≡◌, ◌+◌, suc, sym, ◌∙◌, arith, take_rest}
 use Rattle.ptflow.proofs.OfUniq.UniqKeys.{blank_front, other_front}
 use Rattle.ptflow.proofs.tools.uniq.keys.behind_few.Goals as goal
 

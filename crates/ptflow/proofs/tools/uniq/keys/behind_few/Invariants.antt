@@ -1,6 +1,5 @@
 -- No byte so far is a blank, so what stands behind such bytes is the same without them.
-use Rattle.std.proofs.Common.{◌≡◌, drop}
-use Rattle.ptflow.specs.Workings.Uniq.UniqWords.{after_bytes}
+use Rattle.ptflow.proofs.Common.{◌≡◌, drop, after_bytes}
 use Rattle.ptflow.proofs.tools.uniq.keys.behind_few.Given as goal
 
 abbrev pub invariant-loop-at : goal.invariant-loop-at

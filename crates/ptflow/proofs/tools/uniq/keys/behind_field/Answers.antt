@@ -1,5 +1,4 @@
-use Rattle.std.proofs.Common.{◌≡◌, [], sym, ◌∙◌, ap, arith}
-use Rattle.std.proofs.lemmas.List.{take_rest, nil_from_length}
+use Rattle.ptflow.proofs.Common.{◌≡◌, [], sym, ◌∙◌, ap, arith, take_rest, nil_from_length}
 use Rattle.ptflow.proofs.OfUniq.UniqKeys.{behind, behind_none, after_one, blank_first, other_first}
 use Rattle.ptflow.proofs.tools.uniq.keys.behind_field.Goals as goal
 

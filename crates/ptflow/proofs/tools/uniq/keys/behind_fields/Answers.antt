@@ -1,6 +1,4 @@
-use Rattle.std.proofs.Common.{◌≡◌, ◌-◌, ◌+◌, [], length, sym, ◌∙◌, ap, arith}
-use Rattle.std.proofs.lemmas.Bool.{eqb-true}
-use Rattle.std.proofs.lemmas.List.{nil_from_length}
+use Rattle.ptflow.proofs.Common.{◌≡◌, ◌-◌, ◌+◌, [], length, sym, ◌∙◌, ap, arith, eqb-true, nil_from_length}
 use Rattle.ptflow.proofs.OfUniq.UniqKeys.{behind, behind_none, behind_zero, behind_is, behind_step}
 use Rattle.ptflow.proofs.tools.uniq.keys.behind_fields.Goals as goal
 

@@ -1,6 +1,4 @@
-use Rattle.std.proofs.Common.{◌≡◌, ◌<◌, drop, min, sym, ◌∙◌, ap, arith}
-use Rattle.std.proofs.lemmas.List.{take_rest}
-use Rattle.ptflow.specs.Workings.Uniq.UniqWords.{after_bytes}
+use Rattle.ptflow.proofs.Common.{◌≡◌, ◌<◌, drop, min, sym, ◌∙◌, ap, arith, take_rest, after_bytes}
 use Rattle.ptflow.proofs.OfUniq.UniqKeys.{both_later, both_near}
 use Rattle.ptflow.proofs.tools.uniq.keys.behind_near.Goals as goal
 

@@ -1,9 +1,5 @@
 -- Each turn takes a line with the key of the run; the first line with another key ends the count.
-use Rattle.std.proofs.Common.{◌≡◌, refl, true, false, Bool, not, take, ◌∙◌, arith}
-use Rattle.std.specs.Prelude.{bytes_eq}
-use Rattle.std.proofs.lemmas.List.{take_rest}
-use Rattle.ptlines.proofs.Scanned.{no_end}
-use Rattle.ptlangs.specs.Jobs.{uniq_job}
+use Rattle.ptflow.proofs.Common.{◌≡◌, refl, true, false, Bool, not, take, ◌∙◌, arith, bytes_eq, take_rest, no_end, uniq_job}
 use Rattle.ptflow.proofs.OfUniq.BlockRuns.{front_size, same_by_keys, counting_few, counting_more, counting_turns, counting_done}
 use Rattle.ptflow.proofs.tools.uniq.runs.count_same.Goals as goal
 

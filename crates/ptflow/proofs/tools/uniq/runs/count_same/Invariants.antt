@@ -1,7 +1,5 @@
 -- The lines that were passed all have the key of the first line, which was computed once.
-use Rattle.std.proofs.Common.{◌≡◌, length}
-use Rattle.ptlangs.specs.Jobs.{uniq_job}
-use Rattle.ptflow.specs.Uniqs.{key}
+use Rattle.ptflow.proofs.Common.{◌≡◌, length, uniq_job, key}
 use Rattle.ptflow.proofs.OfUniq.BlockRuns.{Counting}
 use Rattle.ptflow.proofs.tools.uniq.runs.count_same.Given as goal
 

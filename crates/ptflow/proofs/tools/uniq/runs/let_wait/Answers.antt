@@ -1,9 +1,5 @@
-use Rattle.std.proofs.Common.{◌++◌, sym, ◌∙◌, ap, subst}
-use Rattle.ptlines.specs.Outputs.{Wrote}
-use Rattle.ptlines.proofs.Pushed.{wrote_past}
-use Rattle.std.proofs.Common.{append_assoc}
+use Rattle.ptflow.proofs.Common.{◌++◌, sym, ◌∙◌, ap, subst, Wrote, wrote_past, append_assoc, span_of}
 use Rattle.ptflow.specs.Workings.Uniq.OpenRuns.{lead}
-use Rattle.ptflow.specs.Workings.Uniq.BlockRuns.{span_of}
 use Rattle.ptflow.proofs.OfPasses.Continuations.{on_err}
 use Rattle.ptflow.proofs.OfUniq.BlockRuns.{waits_joined, run_text_shown}
 use Rattle.ptflow.proofs.tools.uniq.runs.let_wait.Goals as goal

@@ -1,7 +1,4 @@
-use Rattle.std.proofs.Common.{◌≡◌, [], ◌∷◌, ◌∙◌, subst}
-use Rattle.std.specs.Prelude.{decimal}
-use Rattle.ptlines.specs.Outputs.{Wrote}
-use Rattle.ptlines.proofs.Pushed.{wrote_trans, wrote_past}
+use Rattle.ptflow.proofs.Common.{◌≡◌, [], ◌∷◌, ◌∙◌, subst, decimal, Wrote, wrote_trans, wrote_past}
 use Rattle.ptflow.proofs.tools.uniq.runs.push_lead.Goals as goal
 
 pub returns-in_err-push-in-Counts-clause-wrote : goal.returns-in_err-push-in-Counts-clause-wrote

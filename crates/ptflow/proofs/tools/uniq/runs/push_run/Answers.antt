@@ -1,6 +1,4 @@
-use Rattle.std.proofs.Common.{◌≡◌, ◌++◌, true, arith}
-use Rattle.ptlines.proofs.Pushed.{wrote_trans, wrote_past}
-use Rattle.ptflow.specs.Workings.Uniq.OpenRuns.{is_shown}
+use Rattle.ptflow.proofs.Common.{◌≡◌, ◌++◌, true, arith, wrote_trans, wrote_past, is_shown}
 use Rattle.ptflow.proofs.tools.uniq.runs.push_run.Goals as goal
 
 pub returns-in_err-push_lead-clause-wrote : goal.returns-in_err-push_lead-clause-wrote

@@ -1,13 +1,7 @@
 -- A line with the key of the open run makes it longer by one. Any other line ends it and begins the next one, and what
 -- is written of the run that ended is pushed, or waits. Each case carries `Running` on.
-use Rattle.std.proofs.Common.{◌≡◌, ◌+◌, ◌-◌, Option, Some, List, [], ℕ, length, take, refl, sym, ◌∙◌, subst, arith}
-use Rattle.std.proofs.lemmas.List.{take_rest}
-use Rattle.memchr.specs.Find.{IsFirstByte, is_byte}
-use Rattle.ptlines.specs.Text.{text, ended_lines, IsLine}
-use Rattle.ptlines.proofs.Scanned.{no_end}
-use Rattle.ptlangs.specs.Jobs.{uniq_job}
-use Rattle.ptflow.specs.Workings.Uniq.BlockRuns.{RunsHalt}
-use Rattle.ptflow.specs.Workings.Uniq.OpenRuns.{run_of}
+use Rattle.ptflow.proofs.Common.{◌≡◌, ◌+◌, ◌-◌, Option, Some, List, [], ℕ, length, take, refl, sym, ◌∙◌, subst, arith, take_rest, IsFirstByte, is_byte, text, ended_lines, IsLine, no_end, uniq_job}
+use Rattle.ptflow.proofs.Common.{RunsHalt, run_of}
 use Rattle.ptflow.proofs.OfPasses.Continuations.{on_err}
 use Rattle.ptflow.proofs.OfUniq.BlockRuns.{front_size, same_by_keys, running_starts, running_few, running_more, running_turn, running_halts, running_done, running_unended, running_passed}
 use Rattle.ptflow.proofs.tools.uniq.runs.push_runs.Goals as goal

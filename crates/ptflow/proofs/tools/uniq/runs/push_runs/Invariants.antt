@@ -1,7 +1,6 @@
 -- Of the lines that were passed, the runs that ended were pushed, but for what waits; the others are one run, which
 -- began with `line` and has the key `own`.
-use Rattle.std.proofs.Common.{length}
-use Rattle.ptlangs.specs.Jobs.{uniq_job}
+use Rattle.ptflow.proofs.Common.{length, uniq_job}
 use Rattle.ptflow.proofs.OfUniq.BlockRuns.{Running}
 use Rattle.ptflow.proofs.tools.uniq.runs.push_runs.Given as goal
 

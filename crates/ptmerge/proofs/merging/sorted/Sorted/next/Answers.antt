@@ -1,11 +1,6 @@
 -- The span of the line at which the input stood is that of the line before now, since its slot keeps its line. So the
 -- two keys that are compared are the keys of both lines.
-use Rattle.std.proofs.Common.{◌≡◌, ◌<◌, ◌+◌, sym, ap, ◌∙◌, inl, arith}
-use Rattle.std.specs.Prelude.{if◌then◌else◌}
-use Rattle.std.proofs.lemmas.Bool.Decides.{nat_tests}
-use Rattle.ptlines.specs.Slots.{line}
-use Rattle.ptlines.proofs.Filling.{line_of}
-use Rattle.ptmerge.specs.declared.merging.sorted.Stand.TheVariants.{Head, Disorder}
+use Rattle.ptmerge.proofs.Common.{◌≡◌, ◌<◌, ◌+◌, sym, ap, ◌∙◌, inl, arith, if◌then◌else◌, nat_tests, line, line_of, Head, Disorder}
 use Rattle.ptmerge.proofs.OfMerges.KeySpans.{later_stands}
 use Rattle.ptmerge.proofs.OfMerges.Slotted.{line_other}
 use Rattle.ptmerge.proofs.merging.sorted.Sorted.next.Goals as goal

@@ -1,7 +1,4 @@
-use Rattle.std.proofs.Common.{◌≡◌, ◌+◌, ◌-◌, length, arith}
-use Rattle.memchr.specs.Find.{Passes}
-use Rattle.ptlines.proofs.Masks.{first_behind}
-use Rattle.ptmerge.specs.Join.{is_blank}
+use Rattle.ptmerge.proofs.Common.{◌≡◌, ◌+◌, ◌-◌, length, arith, Passes, first_behind, is_blank}
 use Rattle.ptmerge.proofs.tools.join.blanks.find_blank_far.Goals as goal
 
 pub returns : goal.returns

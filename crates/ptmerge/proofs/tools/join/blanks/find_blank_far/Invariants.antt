@@ -1,7 +1,5 @@
 -- No blank is at a place that was looked at.
-use Rattle.std.proofs.Common.{◌-◌, ◌≤◌, length}
-use Rattle.memchr.specs.Find.{Nowhere, Passes}
-use Rattle.ptmerge.specs.Join.{is_blank}
+use Rattle.ptmerge.proofs.Common.{◌-◌, ◌≤◌, length, Nowhere, Passes, is_blank}
 use Rattle.ptmerge.proofs.tools.join.blanks.find_blank_far.Given as goal
 
 abbrev pub invariant-loop-at : goal.invariant-loop-at

@@ -1,5 +1,4 @@
-use Rattle.ptlines.proofs.Masks.{nowhere_marked, first_marked}
-use Rattle.ptmerge.specs.Join.{is_blank}
+use Rattle.ptmerge.proofs.Common.{nowhere_marked, first_marked, is_blank}
 use Rattle.ptmerge.proofs.OfJoin.Lanes.{blank_mask}
 use Rattle.ptmerge.proofs.tools.join.blanks.find_blank_in.Goals as goal
 

@@ -1,7 +1,5 @@
 -- No tab and no second space is at a place that was looked at.
-use Rattle.std.proofs.Common.{◌-◌, ◌≤◌, length}
-use Rattle.memchr.specs.Find.{Nowhere}
-use Rattle.ptmerge.specs.JoinFields.{UnevenAt}
+use Rattle.ptmerge.proofs.Common.{◌-◌, ◌≤◌, length, Nowhere, UnevenAt}
 use Rattle.ptmerge.proofs.tools.join.blanks.is_even_far.Given as goal
 
 abbrev pub invariant-loop-at : goal.invariant-loop-at

@@ -1,5 +1,4 @@
-use Rattle.std.proofs.lemmas.List.{append-nil}
-use Rattle.ptlangs.specs.Jobs.{join_job}
+use Rattle.ptmerge.proofs.Common.{append-nil, join_job}
 use Rattle.ptmerge.proofs.OfJoin.EntryLemmas.{first_is}
 use Rattle.ptmerge.proofs.tools.join.entries.push_first.Goals as goal
 

@@ -1,8 +1,5 @@
 -- The fields so far were pushed, but for the key, which is left out where its place comes.
-use Rattle.std.proofs.Common.{◌-◌, option_copied}
-use Rattle.std.specs.Prelude.{remove}
-use Rattle.ptmerge.specs.Join.{between, others}
-use Rattle.ptmerge.specs.JoinFields.{fields_left, led}
+use Rattle.ptmerge.proofs.Common.{◌-◌, option_copied, remove, between, others, fields_left, led}
 use Rattle.ptmerge.proofs.OfJoin.Amid.{Amid}
 use Rattle.ptmerge.proofs.tools.join.entries.push_others.Given as goal
 

@@ -1,6 +1,5 @@
 -- The words so far were pushed, each behind a space; the others are to come.
-use Rattle.std.proofs.Common.{None, Some, option_copied, length}
-use Rattle.ptmerge.specs.JoinFields.{fields_left, led}
+use Rattle.ptmerge.proofs.Common.{None, Some, option_copied, length, fields_left, led}
 use Rattle.ptmerge.proofs.OfJoin.Amid.{Amid}
 use Rattle.ptmerge.proofs.tools.join.entries.push_words.Given as goal
 

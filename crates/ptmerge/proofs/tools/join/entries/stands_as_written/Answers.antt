@@ -1,6 +1,4 @@
-use Rattle.std.proofs.Common.{◌≤◌, ℕ, Option, subst, sym, ◌∙◌, arith}
-use Rattle.std.proofs.lemmas.Bool.Decides.{nat_tests}
-use Rattle.ptmerge.specs.JoinFields.{IsAsWritten}
+use Rattle.ptmerge.proofs.Common.{◌≤◌, ℕ, Option, subst, sym, ◌∙◌, arith, nat_tests, IsAsWritten}
 use Rattle.ptmerge.proofs.OfJoin.EntryLemmas.{led_fields, tidy_words}
 use Rattle.ptmerge.proofs.tools.join.entries.stands_as_written.Goals as goal
 

@@ -1,5 +1,4 @@
-use Rattle.std.proofs.Common.{None, Some}
-use Rattle.ptmerge.specs.JoinFields.{ends_field}
+use Rattle.ptmerge.proofs.Common.{None, Some, ends_field}
 use Rattle.ptmerge.proofs.OfJoin.FieldSpans.{found_at}
 use Rattle.ptmerge.proofs.tools.join.fields.field_end.Goals as goal
 

@@ -1,6 +1,4 @@
-use Rattle.std.proofs.Common.{sym, ◌∙◌}
-use Rattle.ptlangs.proofs.Elements.{split_whole, split_around}
-use Rattle.ptmerge.specs.JoinFields.{ends_field}
+use Rattle.ptmerge.proofs.Common.{sym, ◌∙◌, split_whole, split_around, ends_field}
 use Rattle.ptmerge.proofs.OfJoin.FieldSpans.{piece_at}
 use Rattle.ptmerge.proofs.tools.join.fields.first_piece.Goals as goal
 

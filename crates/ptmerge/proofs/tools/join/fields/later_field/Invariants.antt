@@ -1,6 +1,5 @@
 -- What is left are the fields behind those that were passed.
-use Rattle.std.proofs.Common.{◌≡◌, drop, option_copied}
-use Rattle.ptmerge.specs.JoinFields.{fields_left}
+use Rattle.ptmerge.proofs.Common.{◌≡◌, drop, option_copied, fields_left}
 use Rattle.ptmerge.proofs.tools.join.fields.later_field.Given as goal
 
 abbrev pub invariant-loop-passed : goal.invariant-loop-passed

@@ -1,6 +1,5 @@
 -- So many fields were passed, and what is left is an end of the line.
-use Rattle.std.proofs.Common.{◌≡◌, drop, Some, option_copied}
-use Rattle.ptmerge.specs.JoinFields.{fields_left}
+use Rattle.ptmerge.proofs.Common.{◌≡◌, drop, Some, option_copied, fields_left}
 use Rattle.ptmerge.proofs.OfJoin.FieldSpans.{LeftOf}
 use Rattle.ptmerge.proofs.tools.join.fields.later_span.Given as goal
 

@@ -1,7 +1,4 @@
-use Rattle.std.proofs.Common.{◌≡◌, ◌∷◌, [], None, Some, ap, option_copied, subst, sym, ◌∙◌}
-use Rattle.std.specs.Prelude.{MatchOption}
-use Rattle.std.specs.List.{slice_split}
-use Rattle.ptmerge.specs.JoinFields.{ends_field, fields_left}
+use Rattle.ptmerge.proofs.Common.{◌≡◌, ◌∷◌, [], None, Some, ap, option_copied, subst, sym, ◌∙◌, MatchOption, slice_split, ends_field, fields_left}
 use Rattle.ptmerge.proofs.OfJoin.FieldSpans.{LeftOf, field_in, left_behind, word_passed}
 use Rattle.ptmerge.proofs.tools.join.fields.next_field.Goals as goal
 

@@ -1,6 +1,5 @@
 -- Only blanks in front of a field were taken away, so the fields that are left are the same.
-use Rattle.std.proofs.Common.{◌≡◌, option_copied}
-use Rattle.ptmerge.specs.JoinFields.{fields_left}
+use Rattle.ptmerge.proofs.Common.{◌≡◌, option_copied, fields_left}
 use Rattle.ptmerge.proofs.OfJoin.FieldSpans.{left_length, LeftOf}
 use Rattle.ptmerge.proofs.tools.join.fields.next_field.Given as goal
 

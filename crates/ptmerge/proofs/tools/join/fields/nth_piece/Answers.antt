@@ -1,6 +1,5 @@
-use Rattle.std.proofs.Common.{◌+◌, ◌-◌, [], Some, sym, ◌∙◌, arith}
+use Rattle.ptmerge.proofs.Common.{◌+◌, ◌-◌, [], Some, sym, ◌∙◌, arith, fields_left}
 use Rattle.std.proofs.lemmas.Option.{MatchOption-at_none, MatchOption-at_some}
-use Rattle.ptmerge.specs.JoinFields.{fields_left}
 use Rattle.ptmerge.proofs.OfJoin.FieldSpans.{dropped_more, dropped_none, nth_none}
 use Rattle.ptmerge.proofs.tools.join.fields.nth_piece.Goals as goal
 

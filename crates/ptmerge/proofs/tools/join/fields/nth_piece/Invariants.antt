@@ -1,6 +1,5 @@
 -- What is left are the fields behind those that were passed.
-use Rattle.std.proofs.Common.{◌≡◌, drop, Some}
-use Rattle.ptmerge.specs.JoinFields.{fields_left}
+use Rattle.ptmerge.proofs.Common.{◌≡◌, drop, Some, fields_left}
 use Rattle.ptmerge.proofs.tools.join.fields.nth_piece.Given as goal
 
 abbrev pub invariant-loop-passed : goal.invariant-loop-passed

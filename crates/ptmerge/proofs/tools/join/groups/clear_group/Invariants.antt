@@ -1,6 +1,5 @@
 -- The slots of the group below this one are empty, and all others are as they were.
-use Rattle.std.proofs.Common.{◌≤◌}
-use Rattle.ptmerge.specs.Groups.{IsGroupCleared}
+use Rattle.ptmerge.proofs.Common.{◌≤◌, IsGroupCleared}
 use Rattle.ptmerge.proofs.tools.join.groups.clear_group.Given as goal
 
 abbrev pub invariant-loop-slot : goal.invariant-loop-slot

@@ -1,7 +1,4 @@
-use Rattle.std.proofs.Common.{sym, subst}
-use Rattle.std.proofs.lemmas.Result.{err_from_is_err_and}
-use Rattle.ptlines.specs.Slots.{Slots}
-use Rattle.ptmerge.specs.Groups.{IsRefused}
+use Rattle.ptmerge.proofs.Common.{sym, subst, err_from_is_err_and, Slots, IsRefused}
 use Rattle.ptmerge.proofs.OfJoin.GroupSlots.{refused_copy}
 use Rattle.ptmerge.proofs.tools.join.groups.keep_line.Goals as goal
 

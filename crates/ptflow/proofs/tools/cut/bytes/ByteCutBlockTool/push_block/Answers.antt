@@ -1,5 +1,4 @@
-use Rattle.std.proofs.Common.{take}
-use Rattle.ptflow.specs.Workings.Cut.CutRests.{rest_by}
+use Rattle.ptflow.proofs.Common.{take, rest_by}
 use Rattle.ptflow.proofs.OfPasses.Continuations.{on_err}
 use Rattle.ptflow.proofs.tools.cut.bytes.ByteCutBlockTool.push_block.Goals as goal
 

@@ -1,11 +1,5 @@
 -- Each turn puts what is written of the first lines of the rest into the room, which is pushed at the end.
-use Rattle.std.proofs.Common.{◌++◌, take, ◌∙◌, ap, arith, length-drop}
-use Rattle.std.proofs.lemmas.List.{take_rest}
-use Rattle.ptlines.specs.Text.{ended_lines}
-use Rattle.ptlines.proofs.Scanned.{no_end}
-use Rattle.ptlines.proofs.TextLaws.{ended_none}
-use Rattle.ptlangs.specs.Jobs.{cut_job}
-use Rattle.ptflow.specs.Cuts.{cut_lines}
+use Rattle.ptflow.proofs.Common.{◌++◌, take, ◌∙◌, ap, arith, length-drop, take_rest, ended_lines, no_end, ended_none, cut_job, cut_lines}
 use Rattle.ptflow.proofs.OfPasses.Continuations.{on_err}
 use Rattle.ptflow.proofs.OfPasses.LineLaws.{taken_more, taken_all}
 use Rattle.ptflow.proofs.tools.cut.fields.CutJobLineTool.take_block.Goals as goal

@@ -1,9 +1,6 @@
 -- The room has what is written of the lines that were taken off the block, whatever comes, and is no fuller than they
 -- are long.
-use Rattle.std.proofs.Common.{◌≡◌, ◌+◌, ◌≤◌, ◌++◌, ℕ, List, length, take}
-use Rattle.ptlines.specs.Text.{ended_lines}
-use Rattle.ptlangs.specs.Jobs.{cut_job}
-use Rattle.ptflow.specs.Cuts.{cut_lines}
+use Rattle.ptflow.proofs.Common.{◌≡◌, ◌+◌, ◌≤◌, ◌++◌, ℕ, List, length, take, ended_lines, cut_job, cut_lines}
 use Rattle.ptflow.proofs.OfPasses.LineLaws.{Taken}
 use Rattle.ptflow.proofs.tools.cut.fields.CutJobLineTool.take_block.Given as goal
 

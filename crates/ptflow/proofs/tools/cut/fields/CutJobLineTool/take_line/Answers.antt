@@ -1,7 +1,4 @@
-use Rattle.std.proofs.Common.{◌∷◌, [], arith}
-use Rattle.ptlines.specs.Slots.{line}
-use Rattle.ptlangs.specs.Jobs.{cut_job}
-use Rattle.ptflow.specs.Cuts.{cut_lines}
+use Rattle.ptflow.proofs.Common.{◌∷◌, [], arith, line, cut_job, cut_lines}
 use Rattle.ptflow.proofs.OfCut.FieldLines.{cut_lines-append}
 use Rattle.ptflow.proofs.OfPasses.Continuations.{on_err}
 use Rattle.ptflow.proofs.tools.cut.fields.CutJobLineTool.take_line.Goals as goal

@@ -1,6 +1,5 @@
-use Rattle.std.proofs.Common.{◌+◌, set, ◌∙◌, ap, subst, arith}
+use Rattle.ptflow.proofs.Common.{◌+◌, set, ◌∙◌, ap, subst, arith, is_selected}
 use mir.Val.{bool_byte}
-use Rattle.ptlangs.specs.CutLists.{is_selected}
 use Rattle.ptflow.proofs.OfCut.PickLemmas.{PickBegun, pick_more, pick_whole}
 use Rattle.ptflow.proofs.tools.cut.picking.Pick.of.Goals as goal
 

@@ -1,6 +1,5 @@
 -- Of each byte that was tried the blend makes its image.
-use Rattle.std.proofs.Common.{◌≡◌, ◌<◌, ℕ, false, get_or}
-use Rattle.std.specs.Prelude.{if◌then◌else◌}
+use Rattle.ptflow.proofs.Common.{◌≡◌, ◌<◌, ℕ, false, get_or, if◌then◌else◌}
 use Rattle.ptflow.proofs.tools.tr.mapping.Blend.of.Given as goal
 
 abbrev pub invariant-loop-byte : goal.invariant-loop-byte

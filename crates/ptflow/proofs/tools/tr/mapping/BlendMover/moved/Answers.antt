@@ -1,6 +1,4 @@
-use Rattle.std.proofs.Common.{sym}
-use Rattle.std.proofs.lemmas.Simd.{splat_is_map}
-use Rattle.ptflow.specs.Workings.Bytes.ByteSets.{holds}
+use Rattle.ptflow.proofs.Common.{sym, splat_is_map, holds}
 use Rattle.ptflow.proofs.OfBytes.LaneLemmas.{sel_maps, map_self}
 use Rattle.ptflow.proofs.OfBytes.ByteSetLemmas.{tops_of_mask}
 use Rattle.ptflow.proofs.tools.tr.mapping.BlendMover.moved.Goals as goal

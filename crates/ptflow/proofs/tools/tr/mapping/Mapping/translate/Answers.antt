@@ -1,5 +1,4 @@
-use Rattle.ptlangs.specs.TrShifts.{shifted}
-use Rattle.ptlangs.specs.TrTables.{image}
+use Rattle.ptflow.proofs.Common.{shifted, image}
 use Rattle.ptflow.proofs.OfBytes.LaneLemmas.{bytes_same, bytes_fit}
 use Rattle.ptflow.proofs.tools.tr.mapping.Mapping.translate.Goals as goal
 

@@ -1,0 +1,26 @@
+-- Names of other crates and of this one's definitions that many of its proofs take from here.
+pub use Rattle.std.proofs.Common.{Bool, Err, Fits, IfOk, List, None, Ok, OnErr, OnOk, Option, Result, Some, [], ap, append_assoc, arith, cond, drop, eqb, false, get_or, inl, inr, length}
+pub use Rattle.std.proofs.Common.{length-append, length-drop, length-take, map, max, min, not, refl, set, subst, suc, sym, take, take-append-drop, true, w8, zero, ℕ, ⊎_elim, ◌%◌, ◌*◌, ◌++◌, ◌+◌, ◌-◌}
+pub use Rattle.std.proofs.Common.{◌<◌, ◌==◌, ◌^◌, ◌∙◌, ◌∷◌, ◌≡◌, ◌≢◌, ◌≤◌, ◌⊎◌}
+pub use Rattle.std.proofs.Math.Seq.{take-add, take-append-add}
+pub use Rattle.std.proofs.lemmas.Bool.{cases_Bool, cases_order, eq-eqb, eqb-false, eqb-true, false≢true}
+pub use Rattle.std.proofs.lemmas.Bool.Decides.{nat_tests}
+pub use Rattle.std.proofs.lemmas.List.{append-nil, drop-drop, drop-take, drop_all, drop_more, get_or-drop, get_or-set_other, get_or-set_same, get_or-take, length-map, length-set, length-take-le}
+pub use Rattle.std.proofs.lemmas.List.{map-append, set-get_or, set-set, take-append-le, take-take, take_all, take_more, take_rest, with_items_is}
+pub use Rattle.std.proofs.lemmas.Simd.{bitmask_splat, chunk-fits, length-chunk, length-put_chunk, mask_l-lt, none_from_empty_mask, run_in_chunk_fails, run_in_chunk_stops, take_more_put_chunk}
+pub use Rattle.std.proofs.lemmas.Simd.{trailing_mask_l}
+pub use Rattle.std.specs.Io.KnownBytes.{IsAtEnd, append_known, prepend_known}
+pub use Rattle.std.specs.List.{onto_first, prefix_len}
+pub use Rattle.std.specs.Prelude.{bit_or, slice_range, swap}
+pub use Rattle.std.specs.Simd.Lanes.{Each1, chunk, mask_l, put_chunk}
+pub use Rattle.memchr.specs.Find.{IsFirst, IsFirstByte, NoneBefore, Nowhere, Passes, is_byte}
+pub use Rattle.ptlines.specs.Fills.{Fills, GivesEnd, GivesLine, GivesPiece, Grows, Stops}
+pub use Rattle.ptlines.specs.Inputs.{Begins, Came, Given}
+pub use Rattle.ptlines.specs.Outputs.{Breaks, Extends, Output, Wrote, with_passed, with_sent, with_staged}
+pub use Rattle.ptlines.specs.Readers.{Goes, HasReadCause, IsDone, IsSound, Reader, Reads, Refills, budget, reader_of, unread}
+pub use Rattle.ptlines.specs.Sinks.{SinkState, Takes, Took, waits}
+pub use Rattle.ptlines.specs.Slots.{AreShort, Slots, line, total, with_denied, with_line}
+pub use Rattle.ptlines.specs.Sources.{Gives, Pulls, SourceState}
+pub use Rattle.ptlines.specs.Text.{AreLines, AreLinesOf, EndedLinesAreLines, EndsWithByte, IsLine, LinesAreUnique, ended_lines, lines, onto_line, text}
+pub use Rattle.ptlines.specs.declared.store.LineFault.{LineFault}
+pub use Rattle.ptlines.specs.declared.store.LineFault.TheVariants.{Memory, Read}
