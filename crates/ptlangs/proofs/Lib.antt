@@ -10,13 +10,9 @@ pub mod Merging
 pub mod OutGrammar
 pub mod Reading
 pub mod TrBehind
-pub mod TrCounts
 pub mod TrNumbers
-pub mod TrForms
 pub mod TrGrammar
-pub mod TrPieces
 pub mod TrUnitGrammar
-pub mod TrFaults
 pub mod TrPlaces
 pub mod TrWalks
 pub mod TrComplement
