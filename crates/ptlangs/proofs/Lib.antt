@@ -17,8 +17,6 @@ pub mod TrPlaces
 pub mod TrWalks
 pub mod TrComplement
 pub mod TrSpans
-pub mod TrSecond
-pub mod TrPairs
 pub mod TrImages
 pub mod TrShifts
 pub mod TrAnswers

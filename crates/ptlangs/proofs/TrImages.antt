@@ -4,8 +4,7 @@ use Rattle.ptlangs.proofs.Common.{Option, Some, None, unwrap_or, slice_get, flat
 use Rattle.ptlangs.proofs.Common.{later_or, image_by}
 use Rattle.std.proofs.Math.ListN.{get_or}
 use Rattle.ptlangs.specs.TrClasses.{all_bytes}
-use Rattle.ptlangs.proofs.TrSpans.{slice_get-left, slice_get-right, slice_get-replicate}
-use Rattle.ptlangs.proofs.TrSecond.{slice_get-none}
+use Rattle.ptlangs.proofs.TrSpans.{slice_get-left, slice_get-right, slice_get-none, slice_get-replicate}
 use Rattle.ptlangs.proofs.TrPlaces.{same_table}
 
 -- the last place is within

@@ -1,8 +1,8 @@
 -- The last places of bytes in an array.
-use Rattle.ptlangs.proofs.Common.{◌≡◌, ◌≢◌, ◌⊎◌, inl, inr, ◌<◌, ◌≤◌, ◌+◌, ◌-◌, ◌*◌, ℕ, zero, suc, Bool, true, false, cond, eqb, List, [], ◌∷◌, ◌++◌, length, take, map, replicate, arith, refl, sym, ap}
-use Rattle.ptlangs.proofs.Common.{◌∙◌, Option, Some, None, range_with_len, flat_map, set, cases_eq, eq-eqb, ne_eqb, append_assoc, append-nil, map-id, same_lists, length-set, length_push}
-use Rattle.ptlangs.proofs.Common.{get_or-set_same, get_or-set_other, length-replicate, get_or-replicate, length-append, replicate_more, length-map-range_with_len, get_or-map-range_with_len}
-use Rattle.ptlangs.proofs.Common.{length-range_with_len, map-range_with_len_more, Piece, Places, has_byte, last_place, later_or, members, array, places_of, Puts}
+use Rattle.ptlangs.proofs.Common.{◌≡◌, ◌≢◌, ◌⊎◌, inl, inr, ◌<◌, ◌≤◌, ◌+◌, ◌-◌, ℕ, zero, suc, Bool, true, false, cond, eqb, List, [], ◌∷◌, ◌++◌, length, take, map, replicate, arith, refl, sym, ap, ◌∙◌}
+use Rattle.ptlangs.proofs.Common.{Option, Some, None, range_with_len, flat_map, set, cases_eq, eq-eqb, ne_eqb, append_assoc, append-nil, map-id, same_lists, length-set, length_push, get_or-set_same}
+use Rattle.ptlangs.proofs.Common.{get_or-set_other, length-replicate, get_or-replicate, length-append, replicate_more, length-map-range_with_len, get_or-map-range_with_len, length-range_with_len}
+use Rattle.ptlangs.proofs.Common.{map-range_with_len_more, Places, has_byte, last_place, later_or, places_of, Puts}
 use Rattle.std.proofs.Math.ListN.{get_or}
 use Rattle.ptlangs.specs.TrClasses.{all_bytes}
 use Rattle.ptlangs.proofs.TrSpans.{class_bytes-short}
@@ -127,23 +127,4 @@ length-flat_map-take f [] (suc i) = omega arith
 length-flat_map-take f (x ∷ xs) zero = omega arith
 length-flat_map-take f (x ∷ xs) (suc i) = omega (arith, length-flat_map-take f xs i, length-append (f x) (flat_map f (take i xs)), length-append (f x) (flat_map f xs))
 
--- the places are those of the pieces so far, each of which is short
-pub record HasPlaces (fill : ℕ) (places : Places) (done : List Piece) : Type 0 where
-  pub places_is : places ≡ places_of (array fill done)
-  pub short : length (array 0 done) ≤ 65535 * length done
-
 pub ruleset piece_steps = (length-range_with_len, class_bytes-short, length-replicate)
-
-pub HasPlaces-start : (fill : ℕ) (places : Places) → places ≡ places_of [] → HasPlaces fill places []
-HasPlaces-start fill places e = record { places_is = e; short = omega arith }
-
-pub array-push : (n : ℕ) (ps : List Piece) (x : Piece) → array n (ps ++ x ∷ []) ≡ array n ps ++ members n x
-array-push n [] x = append-nil (members n x)
-array-push n (p ∷ ps) x = ap (λ xs. members n p ++ xs) (array-push n ps x) ∙ sym (append_assoc (members n p) (array n ps) (members n x))
-
-pub HasPlaces-more : (fill : ℕ) (old new : Places) (done : List Piece) (x : Piece) → Puts old new (members fill x) → length (members 0 x) ≤ 65535 → HasPlaces fill old done
-    → HasPlaces fill new (done ++ x ∷ [])
-HasPlaces-more fill old new done x p s h = record {
-  places_is = p (array fill done) h.places_is ∙ ap places_of (sym (array-push fill done x));
-  short = omega (arith, h.short, ap length (array-push 0 done x), length-append (array 0 done) (members 0 x), length_push done x);
-}

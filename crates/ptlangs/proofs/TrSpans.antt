@@ -24,6 +24,16 @@ slice_get-right [] ys i j e = ap (slice_get ys) (omega arith)
 slice_get-right (x ∷ xs) ys zero j e = absurd (omega arith)
 slice_get-right (x ∷ xs) ys (suc i) j e = slice_get-right xs ys i j (omega arith)
 
+pub slice_get-none : {X : Type 0} (xs : List X) (i : ℕ) → None ≡ slice_get xs i → length xs ≤ i
+slice_get-none [] i e = omega arith
+slice_get-none (x ∷ xs) zero e = absurd (let no : ⊥ = cc in no)
+slice_get-none (x ∷ xs) (suc i) e = omega (arith, slice_get-none xs i e)
+
+pub slice_get-some : {X : Type 0} (xs : List X) (i : ℕ) (x : X) → Some x ≡ slice_get xs i → i < length xs
+slice_get-some [] i x e = absurd (let no : ⊥ = cc in no)
+slice_get-some (y ∷ xs) zero x e = omega arith
+slice_get-some (y ∷ xs) (suc i) x e = omega (arith, slice_get-some xs i x e)
+
 pub span_there : (first last place : ℕ) → place < length (span first last) → Some (first + place) ≡ slice_get (span first last) place
 span_there first last place h = sym (slice_get-range first (last + 1 - first) place (omega (arith, length-range_with_len first (last + 1 - first))))
 
