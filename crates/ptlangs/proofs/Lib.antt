@@ -15,9 +15,7 @@ pub mod TrGrammar
 pub mod TrUnitGrammar
 pub mod TrPlaces
 pub mod TrWalks
-pub mod TrComplement
 pub mod TrSpans
-pub mod TrImages
 pub mod TrShifts
 pub mod TrAnswers
 pub mod TrTables

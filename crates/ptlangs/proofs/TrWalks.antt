@@ -5,10 +5,11 @@ use Rattle.ptlangs.proofs.Common.{list_any-append, slice_get, put_first, are_cas
 use Rattle.ptlangs.proofs.Common.{pieces, pieces_of, stands_at, Puts, places_of, unit_at, units, units_behind, CharClass, SetFaultKind, Part, Piece, Fill, Repeat, Place, First, Images, Squeezed}
 use Rattle.ptlangs.proofs.Common.{Places, SetUnit}
 use Rattle.std.proofs.lemmas.Bool.{or_left, or_right}
+use Rattle.std.proofs.lemmas.Option.{slice_get_past, slice_get_within}
 use Rattle.ptlangs.specs.declared.parts.Part.TheVariants as part
 use Rattle.ptlangs.specs.declared.pieces.Piece.TheVariants.{Range, Class}
 use Rattle.ptlangs.proofs.Elements.{behind as onto, behind_nothing, put_first-behind}
-use Rattle.ptlangs.proofs.TrSpans.{slice_get-left, slice_get-right, slice_get-past, slice_get-none, slice_get-some}
+use Rattle.ptlangs.proofs.TrSpans.{slice_get-left, slice_get-right, slice_get-none}
 
 pub array-append : (n : ℕ) (ps qs : List Piece) → array n (ps ++ qs) ≡ array n ps ++ array n qs
 array-append n [] qs = refl
@@ -180,7 +181,7 @@ pub get-found : {all rest after : Readings} {r : Result Piece SetFaultKind} {x :
     → rest ≡ r ∷ after → r ≡ Ok x → Some b ≡ slice_get (members fill x) left → collected all ≡ Ok ps → Some b ≡ slice_get (array fill ps) at
 get-found {x = x} {fill = fill} {at = at} {left = left} {b = b} w s o f c =
     let (more, all_is) = walk_at w s o c in
-    f ∙ sym (slice_get-left (members fill x) (array fill more) left (slice_get-some (members fill x) left b f))
+    f ∙ sym (slice_get-left (members fill x) (array fill more) left (slice_get_within (members fill x) left b (sym f)))
     ∙ sym (slice_get-right (array fill w.done) (members fill x ++ array fill more) at left w.holds.is)
     ∙ ap (λ xs. slice_get xs at) (sym (array-append fill w.done (x ∷ more)))
     ∙ ap (λ qs. slice_get (array fill qs) at) (sym all_is)
@@ -192,7 +193,7 @@ get-more {x = x} {fill = fill} {at = at} {left = left} count w s o f n short =
 
 pub get-end : {all rest : Readings} {ps : List Piece} {fill at left : ℕ} → Walked all rest (IsBehind fill at left) → rest ≡ [] → collected all ≡ Ok ps → None ≡ slice_get (array fill ps) at
 get-end {ps = ps} {fill = fill} {at = at} w e c =
-    sym (slice_get-past (array fill ps) at (omega (arith, w.holds.is, ap (λ qs. length (array fill qs)) (walk_whole w e c))))
+    sym (slice_get_past (array fill ps) at (omega (arith, w.holds.is, ap (λ qs. length (array fill qs)) (walk_whole w e c))))
 
 -- ---- where classes stand
 
