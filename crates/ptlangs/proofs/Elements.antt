@@ -1,9 +1,7 @@
 -- The parts of a list, and reading them in turn.
-use Rattle.ptlangs.proofs.Common.{◌≡◌, ℕ, ◌+◌, ◌-◌, ◌≤◌, Bool, true, false, ltb, cond, List, [], ◌∷◌, ◌++◌, length, take, drop, Option, Some, None, Result, Ok, Err, refl, sym, ◌∙◌, ap, arith}
-use Rattle.ptlangs.proofs.Common.{slice_split, position, position_or_len, ltb-false, ltb-true, take_all, length-drop, slice_split_none, slice_split_first, fails_before_first, and_then, put_first}
-use Rattle.ptlangs.proofs.Common.{each}
+use Rattle.ptlangs.proofs.Common.{◌≡◌, ℕ, ◌+◌, ◌-◌, ◌≤◌, Bool, true, false, ltb, cond, List, [], ◌∷◌, ◌++◌, length, take, drop, Some, None, Result, Ok, Err, refl, sym, ◌∙◌, ap, arith, slice_split}
+use Rattle.ptlangs.proofs.Common.{position, position_or_len, ltb-false, ltb-true, take_all, length-drop, slice_split_none, slice_split_first, fails_before_first, and_then, put_first, each}
 use Rattle.std.proofs.Common.{append_assoc, append-nil}
-use Rattle.ptlangs.specs.Answers.{IsFault}
 
 -- ---- the parts between bytes
 
@@ -46,24 +44,12 @@ pub behind-put_first : {A E : Type 0} (xs : List A) (y : A) (r : Result (List A)
 behind-put_first xs y (Ok ys) = ap Ok (sym (append_assoc xs (y ∷ []) ys))
 behind-put_first xs y (Err e) = refl
 
--- at first nothing is read
-pub each_starts : {A B E : Type 0} (read : A → Result B E) (all : List A) → each read all ≡ behind [] (each read all)
-each_starts read all = sym (behind_nothing (each read all))
+pub put_first-behind : {A E : Type 0} (x : A) (xs : List A) (r : Result (List A) E) → put_first x (behind xs r) ≡ behind (x ∷ xs) r
+put_first-behind x xs (Ok ys) = refl
+put_first-behind x xs (Err e) = refl
 
 -- one more element is read
 pub each_more : {A B E : Type 0} (read : A → Result B E) (x : A) (y : B) (all rest : List A) (xs : List B) (r : Result (List B) E) → r
     ≡ behind xs (each read all) → all ≡ x ∷ rest → read x ≡ Ok y → r ≡ behind (xs ++ y ∷ []) (each read rest)
 each_more read x y all rest xs r e at ok =
     e ∙ ap (λ l. behind xs (each read l)) at ∙ ap (λ v. behind xs (and_then v (λ y'. put_first y' (each read rest)))) ok ∙ behind-put_first xs y (each read rest)
-
--- the last element is read
-pub each_ends : {A B E : Type 0} (read : A → Result B E) (x : A) (y : B) (all : List A) (xs : List B) (r : Result (List B) E) → r ≡ behind xs (each read all)
-    → all ≡ x ∷ [] → read x ≡ Ok y → r ≡ Ok (xs ++ y ∷ [])
-each_ends read x y all xs r e at ok = each_more read x y all [] xs r e at ok ∙ ap Ok (append-nil (xs ++ y ∷ []))
-
--- an element is refused
-pub each_fails : {A B E : Type 0} (read : A → Result B E) (x : A) (fault : Option E) (all rest : List A) (xs : List B) (r : Result (List B) E) → r
-    ≡ behind xs (each read all) → all ≡ x ∷ rest → IsFault fault (read x) → IsFault fault r
-each_fails read x None all rest xs r e at h = tt
-each_fails read x (Some f) all rest xs r e at h =
-    e ∙ ap (λ l. behind xs (each read l)) at ∙ ap (λ v. behind xs (and_then v (λ y'. put_first y' (each read rest)))) h

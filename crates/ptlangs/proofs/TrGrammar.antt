@@ -1,10 +1,12 @@
 -- What is computed of parts is the grammar.
-use Rattle.ptlangs.proofs.Common.{◌≡◌, ◌<◌, ◌-◌, ℕ, zero, suc, Bool, true, false, ◌&&◌, cond, eqb, List, [], ◌∷◌, ◌++◌, length, drop, map, arith, refl, sym, ap, subst, ◌∙◌, Option, Some, None, Result}
-use Rattle.ptlangs.proofs.Common.{Ok, Err, nat_lt, list_all, option_and_then, option_or, is_ascii_digit, is_ascii_lowercase, false≢true, ltb-false, le-ltb, eqb-true, ne_eqb, length-map, length-append}
-use Rattle.ptlangs.proofs.Common.{append_assoc, drop_at, drop_all, SetFaultKind, Descending, SetUnit, Plain, Escaped, Faulty, Part, Single, Range, Class, Equivalence, byte_of, class_named, Means}
-use Rattle.ptlangs.proofs.Common.{ByItself, ByEscape, Opens, ARepeat, AClass, AnEquivalence, OpensForm, DashFollows, Begins, InBrackets, ARange, Alone, AreParts, is_plain, behind, behind_two}
-use Rattle.ptlangs.proofs.Common.{plain_run, behind_run, with_rest, repeat_count, repeat_digits, repeat_of, repeat_at, class_of, class_name, class_at, equivalence_of, equivalence_unit, equivalence_at}
-use Rattle.ptlangs.proofs.Common.{form_inside, form_at, range_to, from_byte, from_unit, or_unit, first_part, parts_from, parts_behind, parts}
+use Rattle.ptlangs.proofs.Common.{◌≡◌, ◌<◌, ◌-◌, ℕ, zero, suc, Bool, true, false, cond, eqb, List, [], ◌∷◌, ◌++◌, length, drop, map, arith, refl, sym, ap, subst, ◌∙◌, Option, Some, None, Result, Ok}
+use Rattle.ptlangs.proofs.Common.{Err, nat_lt, list_all, option_and_then, option_or, is_ascii_digit, is_ascii_lowercase, ltb-false, le-ltb, eqb-true, ne_eqb, length-map, length-append, append_assoc}
+use Rattle.ptlangs.proofs.Common.{drop_at, drop_all, SetFaultKind, Descending, SetUnit, Plain, Escaped, Faulty, Part, Single, Range, Class, Equivalence, byte_of, class_named, Means, ByItself}
+use Rattle.ptlangs.proofs.Common.{ByEscape, Opens, ARepeat, AClass, AnEquivalence, OpensForm, Begins, InBrackets, ARange, Alone, AreParts, is_plain, behind, behind_two, plain_run, behind_run}
+use Rattle.ptlangs.proofs.Common.{with_rest, repeat_count, repeat_digits, repeat_at, class_of, class_name, class_at, equivalence_of, equivalence_unit, equivalence_at, form_inside, form_at, range_to}
+use Rattle.ptlangs.proofs.Common.{from_byte, from_unit, or_unit, first_part, parts_from, parts_behind, parts, get_or, ◌||◌, ◌≤◌, and_parts, eq-eqb, ltb-true, nat_tests, drop_more, result_map_both}
+use Rattle.ptlangs.proofs.Common.{ADescendingRange, AFaultyEnd, AFaultyUnit, BeginsFaulty, count_in, FaultsAreFirst, FirstFault, Later, NoPart, NoPiece, collected, is_fill, piece, pieces}
+use Rattle.ptlangs.proofs.Common.{is_octal_digit, units, CharClass, Piece, Place}
 use Rattle.ptlangs.specs.declared.parts.Part.TheVariants.{Repeat}
 use Rattle.ptlangs.proofs.TrBehind.{list_all-plain_run}
 
@@ -31,105 +33,84 @@ run_split test (Plain b ∷ us) = choose (test b) refl (run_split test us)
 run_split test (Escaped b ∷ us) = refl
 run_split test (Faulty k ∷ us) = refl
 
-pub Means-byte_of : (u : SetUnit) (v : ℕ) → byte_of u ≡ Ok v → Means u v
-Means-byte_of (Plain b) v e = let same : b ≡ v = cc in subst (λ (w : ℕ). Means (Plain b) w) same (ByItself b)
-Means-byte_of (Escaped b) v e = let same : b ≡ v = cc in subst (λ (w : ℕ). Means (Escaped b) w) same (ByEscape b)
-Means-byte_of (Faulty k) v e = absurd (let no : ⊥ = cc in no)
-
 pub with_rest_is : (p q : Part) (o : Option (List SetUnit)) (rest : List SetUnit) → with_rest p o ≡ Some (q, rest) → (p ≡ q) × (o ≡ Some rest)
 with_rest_is p q None rest e = absurd (let no : ⊥ = cc in no)
 with_rest_is p q (Some us) rest e =
     let both : (p, us) ≡ (q, rest) = cc in
     (ap (λ (x : Part × List SetUnit). x.0) both, ap (λ (x : Part × List SetUnit). Some x.1) both)
 
-pub Opens-repeat_digits : (u : SetUnit) (v : ℕ) (us : List SetUnit) (p : Part) (rest : List SetUnit) → Means u v → repeat_digits v us ≡ Some (p, rest)
-    → Opens (Plain 91 ∷ u ∷ Plain 42 ∷ us) p rest
+-- what two readings in turn find, each of them finds
+some_then : {A B : Type 0} (f : A → Option B) (o : Option A) (y : B) → option_and_then f o ≡ Some y → (x : A) × (o ≡ Some x) × (f x ≡ Some y)
+some_then f None y e = absurd (let no : ⊥ = cc in no)
+some_then f (Some x) y e = (x, refl, e)
+
+opened : {us vs : List SetUnit} {p q : Part} {rest : List SetUnit} → us ≡ vs → q ≡ p → Opens vs q rest → Opens us p rest
+opened {us = us} {vs = vs} {p = p} {q = q} {rest = rest} e f o = subst (λ (r : Part). Opens us r rest) f (subst (λ (xs : List SetUnit). Opens xs q rest) (sym e) o)
+
+Opens-repeat_digits : (u : SetUnit) (v : ℕ) (us : List SetUnit) (p : Part) (rest : List SetUnit) → Means u v → option_and_then (repeat_digits v) (behind 42 us) ≡ Some (p, rest)
+    → Opens (Plain 91 ∷ u ∷ us) p rest
 Opens-repeat_digits u v us p rest m e =
-    let digits = plain_run is_ascii_digit us in
-    let found = with_rest_is (Repeat v (repeat_count digits)) p (behind 93 (behind_run is_ascii_digit us)) rest e in
-    let last : behind_run is_ascii_digit us ≡ Plain 93 ∷ rest = behind_is 93 (behind_run is_ascii_digit us) rest found.1 in
-    let all : us ≡ map Plain digits ++ Plain 93 ∷ rest = run_split is_ascii_digit us ∙ ap (λ more. map Plain digits ++ more) last in
-    subst (λ (q : Part). Opens (Plain 91 ∷ u ∷ Plain 42 ∷ us) q rest) found.0
-    (subst (λ (more : List SetUnit). Opens (Plain 91 ∷ u ∷ Plain 42 ∷ more) (Repeat v (repeat_count digits)) rest) (sym all)
-    (ARepeat u v digits rest m (list_all-plain_run is_ascii_digit us)))
+    let (more, b, e') = some_then (repeat_digits v) (behind 42 us) (p, rest) e in
+    let digits = plain_run is_ascii_digit more in
+    let found = with_rest_is (Repeat v (repeat_count digits)) p (behind 93 (behind_run is_ascii_digit more)) rest e' in
+    let last : behind_run is_ascii_digit more ≡ Plain 93 ∷ rest = behind_is 93 (behind_run is_ascii_digit more) rest found.1 in
+    let all : more ≡ map Plain digits ++ Plain 93 ∷ rest = run_split is_ascii_digit more ∙ ap (λ xs. map Plain digits ++ xs) last in
+    opened (ap (λ xs. Plain 91 ∷ u ∷ xs) (behind_is 42 us more b) ∙ ap (λ xs. Plain 91 ∷ u ∷ Plain 42 ∷ xs) all) found.0
+    (ARepeat u v digits rest m (list_all-plain_run is_ascii_digit more))
 
 pub Opens-repeat : (us : List SetUnit) (p : Part) (rest : List SetUnit) → repeat_at us ≡ Some (p, rest) → Opens (Plain 91 ∷ us) p rest
 Opens-repeat [] p rest e = absurd (let no : ⊥ = cc in no)
-Opens-repeat (u ∷ us) p rest e = by_byte (byte_of u) refl e
-  where
-    by_star : (v : ℕ) (o : Option (List SetUnit)) → Means u v → behind 42 us ≡ o → option_and_then (repeat_digits v) o ≡ Some (p, rest) → Opens (Plain 91 ∷ u ∷ us) p rest
-    by_star v None m b e = absurd (let no : ⊥ = cc in no)
-    by_star v (Some more) m b e =
-        subst (λ (all : List SetUnit). Opens (Plain 91 ∷ u ∷ all) p rest) (sym (behind_is 42 us more b)) (Opens-repeat_digits u v more p rest m e)
+Opens-repeat (Plain b ∷ us) p rest e = Opens-repeat_digits (Plain b) b us p rest (ByItself b) e
+Opens-repeat (Escaped b ∷ us) p rest e = Opens-repeat_digits (Escaped b) b us p rest (ByEscape b) e
+Opens-repeat (Faulty k ∷ us) p rest e = absurd (let no : ⊥ = cc in no)
 
-    by_byte : (r : Result ℕ SetFaultKind) → byte_of u ≡ r → repeat_of r us ≡ Some (p, rest) → Opens (Plain 91 ∷ u ∷ us) p rest
-    by_byte (Err k) b e = absurd (let no : ⊥ = cc in no)
-    by_byte (Ok v) b e = by_star v (behind 42 us) (Means-byte_of u v b) refl e
+behind_two_is : (c d : ℕ) (us rest : List SetUnit) → behind_two c d us ≡ Some rest → us ≡ Plain c ∷ Plain d ∷ rest
+behind_two_is c d us rest e =
+    let (more, b, e') = some_then (behind d) (behind c us) rest e in
+    behind_is c us more b ∙ ap (λ xs. Plain c ∷ xs) (behind_is d more rest e')
 
-pub behind_two_is : (c d : ℕ) (us rest : List SetUnit) → behind_two c d us ≡ Some rest → us ≡ Plain c ∷ Plain d ∷ rest
-behind_two_is c d us rest e = by_first (behind c us) refl e
-  where
-    by_first : (o : Option (List SetUnit)) → behind c us ≡ o → option_and_then (behind d) o ≡ Some rest → us ≡ Plain c ∷ Plain d ∷ rest
-    by_first None b e = absurd (let no : ⊥ = cc in no)
-    by_first (Some more) b e = behind_is c us more b ∙ ap (λ xs. Plain c ∷ xs) (behind_is d more rest e)
-
-pub Opens-class_of : (name : List ℕ) (us : List SetUnit) (p : Part) (rest : List SetUnit) → list_all is_ascii_lowercase name ≡ true → class_of name us ≡ Some (p, rest)
+Opens-class_of : (name : List ℕ) (us : List SetUnit) (p : Part) (rest : List SetUnit) → list_all is_ascii_lowercase name ≡ true → class_of name us ≡ Some (p, rest)
     → Opens (Plain 91 ∷ Plain 58 ∷ map Plain name ++ us) p rest
 Opens-class_of [] us p rest t e = absurd (let no : ⊥ = cc in no)
 Opens-class_of (c ∷ name) us p rest t e =
     let found = with_rest_is (Class (class_named (c ∷ name))) p (behind_two 58 93 us) rest e in
-    let last : us ≡ Plain 58 ∷ Plain 93 ∷ rest = behind_two_is 58 93 us rest found.1 in
-    subst (λ (q : Part). Opens (Plain 91 ∷ Plain 58 ∷ map Plain (c ∷ name) ++ us) q rest) found.0
-    (subst (λ (more : List SetUnit). Opens (Plain 91 ∷ Plain 58 ∷ map Plain (c ∷ name) ++ more) (Class (class_named (c ∷ name))) rest) (sym last)
-    (AClass c name rest t))
+    opened (ap (λ xs. Plain 91 ∷ Plain 58 ∷ map Plain (c ∷ name) ++ xs) (behind_two_is 58 93 us rest found.1)) found.0 (AClass c name rest t)
 
 pub Opens-class : (us : List SetUnit) (p : Part) (rest : List SetUnit) → class_at us ≡ Some (p, rest) → Opens (Plain 91 ∷ us) p rest
-Opens-class us p rest e = by_colon (behind 58 us) refl e
-  where
-    by_colon : (o : Option (List SetUnit)) → behind 58 us ≡ o → option_and_then class_name o ≡ Some (p, rest) → Opens (Plain 91 ∷ us) p rest
-    by_colon None b e = absurd (let no : ⊥ = cc in no)
-    by_colon (Some more) b e =
-        let split : us ≡ Plain 58 ∷ map Plain (plain_run is_ascii_lowercase more) ++ behind_run is_ascii_lowercase more =
-        behind_is 58 us more b ∙ ap (λ xs. Plain 58 ∷ xs) (run_split is_ascii_lowercase more) in
-        subst (λ (all : List SetUnit). Opens (Plain 91 ∷ all) p rest) (sym split)
-        (Opens-class_of (plain_run is_ascii_lowercase more) (behind_run is_ascii_lowercase more) p rest (list_all-plain_run is_ascii_lowercase more) e)
+Opens-class us p rest e =
+    let (more, b, e') = some_then class_name (behind 58 us) (p, rest) e in
+    opened (ap (λ xs. Plain 91 ∷ xs) (behind_is 58 us more b) ∙ ap (λ xs. Plain 91 ∷ Plain 58 ∷ xs) (run_split is_ascii_lowercase more)) refl
+    (Opens-class_of (plain_run is_ascii_lowercase more) (behind_run is_ascii_lowercase more) p rest (list_all-plain_run is_ascii_lowercase more) e')
+
+equivalence_opens : (u : SetUnit) (v : ℕ) (us : List SetUnit) (p : Part) (rest : List SetUnit) → Means u v → with_rest (Equivalence v) (behind_two 61 93 us) ≡ Some (p, rest)
+    → Opens (Plain 91 ∷ Plain 61 ∷ u ∷ us) p rest
+equivalence_opens u v us p rest m e =
+    let found = with_rest_is (Equivalence v) p (behind_two 61 93 us) rest e in
+    opened (ap (λ xs. Plain 91 ∷ Plain 61 ∷ u ∷ xs) (behind_two_is 61 93 us rest found.1)) found.0 (AnEquivalence u v rest m)
 
 pub Opens-equivalence : (us : List SetUnit) (p : Part) (rest : List SetUnit) → equivalence_at us ≡ Some (p, rest) → Opens (Plain 91 ∷ us) p rest
-Opens-equivalence us p rest e = by_equals (behind 61 us) refl e
+Opens-equivalence us p rest e =
+    let (more, b, e') = some_then equivalence_unit (behind 61 us) (p, rest) e in
+    opened (ap (λ xs. Plain 91 ∷ xs) (behind_is 61 us more b)) refl (by_unit more e')
   where
-    by_byte : (u : SetUnit) (more : List SetUnit) (r : Result ℕ SetFaultKind) → byte_of u ≡ r → equivalence_of r more ≡ Some (p, rest) → Opens (Plain 91 ∷ Plain 61 ∷ u ∷ more) p rest
-    by_byte u more (Err k) b e = absurd (let no : ⊥ = cc in no)
-    by_byte u more (Ok v) b e =
-        let found = with_rest_is (Equivalence v) p (behind_two 61 93 more) rest e in
-        subst (λ (q : Part). Opens (Plain 91 ∷ Plain 61 ∷ u ∷ more) q rest) found.0
-        (subst (λ (xs : List SetUnit). Opens (Plain 91 ∷ Plain 61 ∷ u ∷ xs) (Equivalence v) rest) (sym (behind_two_is 61 93 more rest found.1))
-        (AnEquivalence u v rest (Means-byte_of u v b)))
-
     by_unit : (more : List SetUnit) → equivalence_unit more ≡ Some (p, rest) → Opens (Plain 91 ∷ Plain 61 ∷ more) p rest
     by_unit [] e = absurd (let no : ⊥ = cc in no)
-    by_unit (u ∷ more) e = by_byte u more (byte_of u) refl e
+    by_unit (Plain b ∷ more) e = equivalence_opens (Plain b) b more p rest (ByItself b) e
+    by_unit (Escaped b ∷ more) e = equivalence_opens (Escaped b) b more p rest (ByEscape b) e
+    by_unit (Faulty k ∷ more) e = absurd (let no : ⊥ = cc in no)
 
-    by_equals : (o : Option (List SetUnit)) → behind 61 us ≡ o → option_and_then equivalence_unit o ≡ Some (p, rest) → Opens (Plain 91 ∷ us) p rest
-    by_equals None b e = absurd (let no : ⊥ = cc in no)
-    by_equals (Some more) b e = subst (λ (all : List SetUnit). Opens (Plain 91 ∷ all) p rest) (sym (behind_is 61 us more b)) (by_unit more e)
+-- one of two readings finds it
+either : {A P : Type 0} (o q : Option A) (y : A) → option_or o q ≡ Some y → (o ≡ Some y → P) → (q ≡ Some y → P) → P
+either None q y e here there = there e
+either (Some x) q y e here there = here e
 
 pub Opens-form_inside : (us : List SetUnit) (p : Part) (rest : List SetUnit) → form_inside us ≡ Some (p, rest) → Opens (Plain 91 ∷ us) p rest
-Opens-form_inside us p rest e = by_repeat (repeat_at us) refl e
-  where
-    by_class : (o : Option (Part × List SetUnit)) → class_at us ≡ o → option_or o (equivalence_at us) ≡ Some (p, rest) → Opens (Plain 91 ∷ us) p rest
-    by_class None b e = Opens-equivalence us p rest e
-    by_class (Some found) b e = Opens-class us p rest (b ∙ e)
-
-    by_repeat : (o : Option (Part × List SetUnit)) → repeat_at us ≡ o → option_or o (option_or (class_at us) (equivalence_at us)) ≡ Some (p, rest) → Opens (Plain 91 ∷ us) p rest
-    by_repeat None b e = by_class (class_at us) refl e
-    by_repeat (Some found) b e = Opens-repeat us p rest (b ∙ e)
+Opens-form_inside us p rest e =
+    either (repeat_at us) (option_or (class_at us) (equivalence_at us)) (p, rest) e (Opens-repeat us p rest)
+    (λ later. either (class_at us) (equivalence_at us) (p, rest) later (Opens-class us p rest) (Opens-equivalence us p rest))
 
 pub Opens-form_at : (us : List SetUnit) (p : Part) (rest : List SetUnit) → form_at us ≡ Some (p, rest) → Opens us p rest
-Opens-form_at us p rest e = by_bracket (behind 91 us) refl e
-  where
-    by_bracket : (o : Option (List SetUnit)) → behind 91 us ≡ o → option_and_then form_inside o ≡ Some (p, rest) → Opens us p rest
-    by_bracket None b e = absurd (let no : ⊥ = cc in no)
-    by_bracket (Some more) b e = subst (λ (all : List SetUnit). Opens all p rest) (sym (behind_is 91 us more b)) (Opens-form_inside more p rest e)
+Opens-form_at us p rest e = let (more, b, e') = some_then form_inside (behind 91 us) (p, rest) e in opened (behind_is 91 us more b) refl (Opens-form_inside more p rest e')
 
 -- ---- from the grammar to what is computed
 
@@ -137,17 +118,9 @@ pub byte_of-Means : (u : SetUnit) (v : ℕ) → Means u v → byte_of u ≡ Ok v
 byte_of-Means u v (ByItself b) = refl
 byte_of-Means u v (ByEscape b) = refl
 
-both_left : (x y : Bool) → (x && y) ≡ true → x ≡ true
-both_left true y e = refl
-both_left false y e = absurd (false≢true e)
-
-both_right : (x y : Bool) → (x && y) ≡ true → y ≡ true
-both_right true y e = e
-both_right false y e = absurd (false≢true e)
-
 pub plain_run-map : (test : ℕ → Bool) (bs : List ℕ) (c : ℕ) (rest : List SetUnit) → list_all test bs ≡ true → test c ≡ false → plain_run test (map Plain bs ++ Plain c ∷ rest) ≡ bs
 plain_run-map test [] c rest t n = rw n refl
-plain_run-map test (b ∷ bs) c rest t n = rw (both_left (test b) (list_all test bs) t, plain_run-map test bs c rest (both_right (test b) (list_all test bs) t) n) refl
+plain_run-map test (b ∷ bs) c rest t n = rw ((and_parts (test b) (list_all test bs) t).0, plain_run-map test bs c rest (and_parts (test b) (list_all test bs) t).1 n) refl
 
 pub behind_run-map : (test : ℕ → Bool) (bs : List ℕ) (c : ℕ) (rest : List SetUnit) → list_all test bs ≡ true → test c ≡ false → behind_run test (map Plain bs ++ Plain c ∷ rest) ≡ Plain c ∷ rest
 behind_run-map test bs c rest t n = rw (plain_run-map test bs c rest t n) (drop_at (map Plain bs) (Plain c ∷ rest) (length bs) (length-map bs Plain))
@@ -156,7 +129,7 @@ pub form_at-Opens : (us : List SetUnit) (p : Part) (rest : List SetUnit) → Ope
 form_at-Opens us p rest (ARepeat u v digits more m t) =
     rw (byte_of-Means u v m, behind_run-map is_ascii_digit digits 93 more t refl, plain_run-map is_ascii_digit digits 93 more t refl) refl
 form_at-Opens us p rest (AClass c name more t) =
-    let lower : is_ascii_lowercase c ≡ true = both_left (is_ascii_lowercase c) (list_all is_ascii_lowercase name) t in
+    let lower : is_ascii_lowercase c ≡ true = (and_parts (is_ascii_lowercase c) (list_all is_ascii_lowercase name) t).0 in
     let no_star : eqb c 42 ≡ false = ne_eqb c 42 (λ e. cc (ap is_ascii_lowercase e)) in
     rw (no_star, behind_run-map is_ascii_lowercase (c ∷ name) 58 (Plain 93 ∷ more) t refl, plain_run-map is_ascii_lowercase (c ∷ name) 58 (Plain 93 ∷ more) t refl) refl
 form_at-Opens us p rest (AnEquivalence u v more m) = by_star (is_plain 42 u)
@@ -178,48 +151,45 @@ form_at-unless us n = by_form (form_at us) refl
 
 -- ---- the part in front
 
-abbrev found_part : Part → List SetUnit → Result (Part × List SetUnit) SetFaultKind
-found_part p us = Ok (p, us)
+-- the units begin with the part that is found, or with none for the fault that is told
+abbrev Judged : List SetUnit → Result (Part × List SetUnit) SetFaultKind → Type 0
+Judged us (Ok found) = Begins us found.0 found.1
+Judged us (Err k) = BeginsFaulty us k
 
-same_part : {p q : Part} {us vs : List SetUnit} (P : Part → List SetUnit → Type 0) → found_part p us ≡ found_part q vs → P p us → P q vs
-same_part {p = p} {q = q} {us = us} {vs = vs} P e h = let both : (p, us) ≡ (q, vs) = cc in subst (λ (x : Part × List SetUnit). P x.0 x.1) both h
-
-pub Begins-first_part : (us : List SetUnit) (p : Part) (rest : List SetUnit) → first_part us ≡ Ok (p, rest) → Begins us p rest
-Begins-first_part [] p rest e = absurd (let no : ⊥ = cc in no)
-Begins-first_part (u ∷ us) p rest e = by_form (form_at (u ∷ us)) refl e
+range_judged : (u v : SetUnit) (a b : ℕ) (more : List SetUnit) → ¬ OpensForm (u ∷ Plain 45 ∷ v ∷ more) → Means u a → Means v b → Judged (u ∷ Plain 45 ∷ v ∷ more) (range_to a (Ok b) more)
+range_judged u v a b more n m w = by_order (nat_lt b a) refl
   where
-    no_dash : behind 45 us ≡ None → ¬ DashFollows us
-    no_dash e (v, more, d) = let no : behind 45 (Plain 45 ∷ v ∷ more) ≡ None = subst (λ (xs : List SetUnit). behind 45 xs ≡ None) d e in cc
+    by_order : (t : Bool) → nat_lt b a ≡ t → Judged (u ∷ Plain 45 ∷ v ∷ more) (cond t (Err Descending) (Ok (Range a b, more)))
+    by_order true t = ADescendingRange u v a b more n m w (ltb-true b a t)
+    by_order false t = ARange u v a b more n m w (ltb-false b a t)
 
-    dash_last : behind 45 us ≡ Some [] → ¬ DashFollows us
-    dash_last e (v, more, d) = let no : behind 45 (Plain 45 ∷ v ∷ more) ≡ Some [] = subst (λ (xs : List SetUnit). behind 45 xs ≡ Some []) d e in cc
+end_judged : (u v : SetUnit) (a : ℕ) (more : List SetUnit) → ¬ OpensForm (u ∷ Plain 45 ∷ v ∷ more) → Means u a → Judged (u ∷ Plain 45 ∷ v ∷ more) (range_to a (byte_of v) more)
+end_judged u (Plain b) a more n m = range_judged u (Plain b) a b more n m (ByItself b)
+end_judged u (Escaped b) a more n m = range_judged u (Escaped b) a b more n m (ByEscape b)
+end_judged u (Faulty k) a more n m = AFaultyEnd u a k more n m
 
-    in_order : (n : ¬ OpensForm (u ∷ us)) (v : SetUnit) (more : List SetUnit) (a b : ℕ) → Means u a → us ≡ Plain 45 ∷ v ∷ more → Means v b → (t : Bool) → nat_lt b a ≡ t
-        → cond {A = Result (Part × List SetUnit) SetFaultKind} t (Err Descending) (Ok (Range a b, more)) ≡ Ok (p, rest) → Begins (u ∷ us) p rest
-    in_order n v more a b m d w true t e = absurd (let no : ⊥ = cc in no)
-    in_order n v more a b m d w false t e =
-        let open_not : ¬ OpensForm (u ∷ Plain 45 ∷ v ∷ more) = subst (λ (xs : List SetUnit). ¬ OpensForm (u ∷ xs)) d n in
-        same_part (λ (q : Part) (xs : List SetUnit). Begins (u ∷ us) q xs) e
-        (subst (λ (xs : List SetUnit). Begins (u ∷ xs) (Range a b) more) (sym d) (ARange u v a b more open_not m w (ltb-false b a t)))
+byte_judged : (u : SetUnit) (a : ℕ) (us : List SetUnit) → ¬ OpensForm (u ∷ us) → Means u a → Judged (u ∷ us) (from_byte a us (behind 45 us))
+byte_judged u a us n m = by_dash (behind 45 us) refl
+  where
+    by_dash : (o : Option (List SetUnit)) → behind 45 us ≡ o → Judged (u ∷ us) (from_byte a us o)
+    by_dash None d = Alone u a us n (λ follows. let unlike : None ≡ Some (follows.0 ∷ follows.1) = sym d ∙ ap (behind 45) follows.2 in cc) m
+    by_dash (Some []) d = Alone u a us n (λ follows. let unlike : Some [] ≡ Some (follows.0 ∷ follows.1) = sym d ∙ ap (behind 45) follows.2 in cc) m
+    by_dash (Some (v ∷ more)) d =
+        let all : us ≡ Plain 45 ∷ v ∷ more = behind_is 45 us (v ∷ more) d in
+        let closed : ¬ OpensForm (u ∷ Plain 45 ∷ v ∷ more) = subst (λ (xs : List SetUnit). ¬ OpensForm (u ∷ xs)) all n in
+        subst (λ (xs : List SetUnit). Judged (u ∷ xs) (range_to a (byte_of v) more)) (sym all) (end_judged u v a more closed m)
 
-    by_upper : ¬ OpensForm (u ∷ us) → (v : SetUnit) (more : List SetUnit) (a : ℕ) → Means u a → us ≡ Plain 45 ∷ v ∷ more → (r : Result ℕ SetFaultKind) → byte_of v ≡ r
-        → range_to a r more ≡ Ok (p, rest) → Begins (u ∷ us) p rest
-    by_upper n v more a m d (Err k) b e = absurd (let no : ⊥ = cc in no)
-    by_upper n v more a m d (Ok w) b e = in_order n v more a w m d (Means-byte_of v w b) (nat_lt w a) refl e
+unit_judged : (u : SetUnit) (us : List SetUnit) → ¬ OpensForm (u ∷ us) → Judged (u ∷ us) (from_unit (byte_of u) us)
+unit_judged (Plain b) us n = byte_judged (Plain b) b us n (ByItself b)
+unit_judged (Escaped b) us n = byte_judged (Escaped b) b us n (ByEscape b)
+unit_judged (Faulty k) us n = AFaultyUnit k us
 
-    by_dash : ¬ OpensForm (u ∷ us) → (a : ℕ) → Means u a → (o : Option (List SetUnit)) → behind 45 us ≡ o → from_byte a us o ≡ Ok (p, rest) → Begins (u ∷ us) p rest
-    by_dash n a m None d e = same_part (λ (q : Part) (xs : List SetUnit). Begins (u ∷ us) q xs) e (Alone u a us n (no_dash d) m)
-    by_dash n a m (Some []) d e = same_part (λ (q : Part) (xs : List SetUnit). Begins (u ∷ us) q xs) e (Alone u a us n (dash_last d) m)
-    by_dash n a m (Some (v ∷ more)) d e = by_upper n v more a m (behind_is 45 us (v ∷ more) d) (byte_of v) refl e
-
-    by_unit : ¬ OpensForm (u ∷ us) → (r : Result ℕ SetFaultKind) → byte_of u ≡ r → from_unit r us ≡ Ok (p, rest) → Begins (u ∷ us) p rest
-    by_unit n (Err k) b e = absurd (let no : ⊥ = cc in no)
-    by_unit n (Ok a) b e = by_dash n a (Means-byte_of u a b) (behind 45 us) refl e
-
-    by_form : (o : Option (Part × List SetUnit)) → form_at (u ∷ us) ≡ o → or_unit o u us ≡ Ok (p, rest) → Begins (u ∷ us) p rest
-    by_form None f e = by_unit (form_at-none (u ∷ us) f) (byte_of u) refl e
-    by_form (Some found) f e =
-        same_part (λ (q : Part) (xs : List SetUnit). Begins (u ∷ us) q xs) e (InBrackets (u ∷ us) found.0 found.1 (Opens-form_at (u ∷ us) found.0 found.1 f))
+judged : (u : SetUnit) (us : List SetUnit) (r : Result (Part × List SetUnit) SetFaultKind) → first_part (u ∷ us) ≡ r → Judged (u ∷ us) r
+judged u us r e = subst (Judged (u ∷ us)) e (by_form (form_at (u ∷ us)) refl)
+  where
+    by_form : (o : Option (Part × List SetUnit)) → form_at (u ∷ us) ≡ o → Judged (u ∷ us) (or_unit o u us)
+    by_form None f = unit_judged u us (form_at-none (u ∷ us) f)
+    by_form (Some found) f = InBrackets (u ∷ us) found.0 found.1 (Opens-form_at (u ∷ us) found.0 found.1 f)
 
 first_part-found : (us : List SetUnit) (p : Part) (rest : List SetUnit) → form_at us ≡ Some (p, rest) → first_part us ≡ Ok (p, rest)
 first_part-found [] p rest e = absurd (let no : ⊥ = cc in no)
@@ -277,7 +247,7 @@ drop_front u us rest (f ∷ front) e h =
 pub parts-part : (us : List SetUnit) (p : Part) (rest : List SetUnit) → first_part us ≡ Ok (p, rest) → parts us ≡ Ok p ∷ parts rest
 parts-part [] p rest e = absurd (let no : ⊥ = cc in no)
 parts-part (u ∷ us) p rest e =
-    let (front, all, some) = Begins-front (u ∷ us) p rest (Begins-first_part (u ∷ us) p rest e) in
+    let (front, all, some) = Begins-front (u ∷ us) p rest (judged u us (Ok (p, rest)) e) in
     rw (e, parts_behind_is us (length us - length rest), drop_front u us rest front all some) refl
 
 pub parts-fault : (us : List SetUnit) (k : SetFaultKind) → 0 < length us → first_part us ≡ Err k → parts us ≡ Err k ∷ []
@@ -303,8 +273,106 @@ AreParts-parts (p ∷ ps) (u ∷ us) e = by_first (first_part (u ∷ us)) refl (
     by_first (Ok found) f more =
         let all : Ok found.0 ∷ parts found.1 ≡ Ok p ∷ map Ok ps = sym (parts-part (u ∷ us) found.0 found.1 f) ∙ e in
         let same : found.0 ≡ p = cc in
-        let begins : Begins (u ∷ us) p found.1 = subst (λ (q : Part). Begins (u ∷ us) q found.1) same (Begins-first_part (u ∷ us) found.0 found.1 f) in
+        let begins : Begins (u ∷ us) p found.1 = subst (λ (q : Part). Begins (u ∷ us) q found.1) same (judged u us (Ok found) f) in
         (found.1, begins, more found.1 (cc))
     by_first (Err k) f more =
         let all : Err k ∷ [] ≡ Ok p ∷ map Ok ps = sym (parts-fault (u ∷ us) k (omega arith) f) ∙ e in
         absurd (let no : ⊥ = cc in no)
+
+-- ---- the forms in brackets, and the part in front of some units, as code finds them
+
+pub repeat_count-octal : (ds : List ℕ) (o : Option ℕ) → 0 < length ds → get_or ds 0 0 ≡ 48 → list_all is_octal_digit ds ≡ true → o ≡ count_in 8 ds → o ≡ repeat_count ds
+repeat_count-octal [] o h e t n = absurd (omega arith)
+repeat_count-octal (d ∷ ds) o h e t n = rw (eq-eqb d 48 e, t) n
+
+-- a class that has a name
+pub class_of-name : (name : List ℕ) (us : List SetUnit) → 0 < length name → class_of name us ≡ with_rest (Class (class_named name)) (behind_two 58 93 us)
+class_of-name [] us h = absurd (omega arith)
+class_of-name (c ∷ name) us h = refl
+
+pub class_at-found : (us inside after rest : List SetUnit) (name : List ℕ) (found : Option CharClass) → Some inside ≡ behind 58 us
+    → name ≡ plain_run is_ascii_lowercase inside → after ≡ behind_run is_ascii_lowercase inside → 0 < length name
+    → Some rest ≡ behind_two 58 93 after → found ≡ class_named name → Some (Class found, rest) ≡ class_at us
+class_at-found us inside after rest name found e n a h r f =
+    let named = class_of-name name after h in
+    rw (← e, ← a, ← n, named, ← r, f) refl
+
+pub units-some : (bs : List ℕ) (i : ℕ) → i < length bs → 0 < length (units (drop i bs))
+units-some bs i h = rw (drop_more bs i 0 h) (omega arith)
+
+pub first_part-range : (us next more : List SetUnit) (u : SetUnit) (a : ℕ) (r : Result (Part × List SetUnit) SetFaultKind)
+    → us ≡ u ∷ next → None ≡ form_at us → Ok a ≡ byte_of u → Some more ≡ behind 45 next → 0 < length more
+    → r ≡ from_byte a [] (Some more) → r ≡ first_part us
+first_part-range us next [] u a r e f b d h g = absurd (omega arith)
+first_part-range us next (v ∷ more) u a r e f b d h g =
+    let none : None ≡ form_at (u ∷ next) = rw e at f in
+    rw (e, ← none, ← b, ← d) g
+
+-- ---- a reading of pieces, one after another
+
+pub pieces-part : (place : Place) (filled : Bool) (us rest : List SetUnit) (p : Part) (x : Result Piece SetFaultKind) → Ok (p, rest) ≡ first_part us → x ≡ piece place filled p
+    → pieces place filled (parts us) ≡ x ∷ pieces place (filled || is_fill x) (parts rest)
+pieces-part place filled us rest p x e h = rw (parts-part us p rest (sym e), h) refl
+
+pub pieces-fault : (place : Place) (filled : Bool) (bs : List ℕ) (i end : ℕ) (k : SetFaultKind) → i < length bs → length bs ≤ end → Err k ≡ first_part (units (drop i bs))
+    → pieces place filled (parts (units (drop i bs))) ≡ Err k ∷ pieces place filled (parts (units (drop end bs)))
+pieces-fault place filled bs i end k h n e =
+    rw (parts-fault (units (drop i bs)) k (units-some bs i h) (sym e), drop_all end bs n) refl
+
+-- ---- a string is refused for the fault of its first faulty part
+
+first_part-faulty : (us : List SetUnit) (k : SetFaultKind) → BeginsFaulty us k → (first_part us ≡ Err k) × (0 < length us)
+first_part-faulty us k (AFaultyUnit j rest) = (refl, omega arith)
+first_part-faulty us k (AFaultyEnd u a j rest n m) =
+    (rw (form_at-unless (u ∷ Plain 45 ∷ Faulty j ∷ rest) n, byte_of-Means u a m) refl, omega arith)
+first_part-faulty us k (ADescendingRange u v a b rest n m w h) =
+    let falls : nat_lt b a ≡ true = grind (arith, nat_tests) in
+    (rw (form_at-unless (u ∷ Plain 45 ∷ v ∷ rest) n, byte_of-Means u a m, byte_of-Means v b w, falls) refl, omega arith)
+
+rest_fails : (x : Piece) (r : Result (List Piece) SetFaultKind) (k : SetFaultKind) → result_map_both (λ (xs : List Piece). x ∷ xs) (λ (e : SetFaultKind). e) r ≡ Err k → r ≡ Err k
+rest_fails x (Ok xs) k e = cc
+rest_fails x (Err j) k e = e
+
+module _ (place : Place) where
+  fault_is : (filled : Bool) (us : List SetUnit) (k : SetFaultKind) → FirstFault place filled us k → collected (pieces place filled (parts us)) ≡ Err k
+  fault_is filled us k (NoPart f vs j b) =
+      let first = first_part-faulty vs j b in
+      rw (parts-fault vs j first.1 first.0) refl
+  fault_is filled us k (NoPiece f vs rest p j b e) = rw (parts-part vs p rest (first_part-Begins vs p rest b), e) refl
+  fault_is filled us k (Later f vs rest p x j b e later) =
+      rw (parts-part vs p rest (first_part-Begins vs p rest b), e, fault_is (f || is_fill (Ok x)) rest j later) refl
+
+  is_fault : (xs : List (Result Part SetFaultKind)) (filled : Bool) (us : List SetUnit) (k : SetFaultKind) → parts us ≡ xs
+      → collected (pieces place filled xs) ≡ Err k → FirstFault place filled us k
+  is_fault [] filled us k all e = cc
+  is_fault (y ∷ ys) filled [] k all e = cc
+  is_fault (y ∷ ys) filled (u ∷ us) k all e = by_first (first_part (u ∷ us)) refl (λ after rest more fails. is_fault ys after rest k more fails)
+    where
+      by_piece : (p : Part) (rest : List SetUnit) → Begins (u ∷ us) p rest → parts rest ≡ ys → (r : Result Piece SetFaultKind) → piece place filled p ≡ r
+          → collected (r ∷ pieces place (filled || is_fill r) ys) ≡ Err k
+          → ((after : Bool) (rest : List SetUnit) → parts rest ≡ ys → collected (pieces place after ys) ≡ Err k → FirstFault place after rest k)
+          → FirstFault place filled (u ∷ us) k
+      by_piece p rest b more (Err j) is fails later =
+          let same : Err j ≡ Err k = cc in
+          NoPiece filled (u ∷ us) rest p k b (is ∙ same)
+      by_piece p rest b more (Ok x) is fails later =
+          let fails' : collected (pieces place (filled || is_fill (Ok x)) ys) ≡ Err k = rest_fails x (collected (pieces place (filled || is_fill (Ok x)) ys)) k fails in
+          Later filled (u ∷ us) rest p x k b is (later (filled || is_fill (Ok x)) rest more fails')
+
+      by_first : (r : Result (Part × List SetUnit) SetFaultKind) → first_part (u ∷ us) ≡ r
+          → ((after : Bool) (rest : List SetUnit) → parts rest ≡ ys → collected (pieces place after ys) ≡ Err k → FirstFault place after rest k)
+          → FirstFault place filled (u ∷ us) k
+      by_first (Err j) f later =
+          let one : Err j ∷ [] ≡ y ∷ ys = sym (parts-fault (u ∷ us) j (omega arith) f) ∙ all in
+          let is : Err j ≡ y = cc in
+          let fails : collected (pieces place filled (Err j ∷ ys)) ≡ Err k = subst (λ (r : Result Part SetFaultKind). collected (pieces place filled (r ∷ ys)) ≡ Err k) (sym is) e in
+          let same : j ≡ k = cc in
+          NoPart filled (u ∷ us) k (subst (λ (i : SetFaultKind). BeginsFaulty (u ∷ us) i) same (judged u us (Err j) f))
+      by_first (Ok found) f later =
+          let more : Ok found.0 ∷ parts found.1 ≡ y ∷ ys = sym (parts-part (u ∷ us) found.0 found.1 f) ∙ all in
+          let is : Ok found.0 ≡ y = cc in
+          let fails : collected (pieces place filled (Ok found.0 ∷ ys)) ≡ Err k = subst (λ (r : Result Part SetFaultKind). collected (pieces place filled (r ∷ ys)) ≡ Err k) (sym is) e in
+          by_piece found.0 found.1 (judged u us (Ok found) f) (cc) (piece place filled found.0) refl fails later
+
+pub faults_are_first : FaultsAreFirst
+faults_are_first place b text k = (fault_is place false (units (b ∷ text)) k, is_fault place (parts (units (b ∷ text))) false (units (b ∷ text)) k refl)

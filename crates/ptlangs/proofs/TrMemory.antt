@@ -7,7 +7,7 @@ use Rattle.ptlangs.proofs.Common.{plan_with, second_plan, plan_from, NeverMemory
 use Rattle.ptlangs.specs.declared.faults.SetString.{SetString}
 use Rattle.ptlangs.specs.declared.parts.Part.TheVariants as part
 use Rattle.ptlangs.proofs.TrUnitGrammar.{units_are_spelled}
-use Rattle.ptlangs.proofs.TrFaults.{faults_are_first}
+use Rattle.ptlangs.proofs.TrGrammar.{faults_are_first}
 
 -- ---- units, and what follows a part
 

@@ -1,11 +1,13 @@
 -- The last places of bytes in an array.
-use Rattle.ptlangs.proofs.Common.{◌≡◌, ◌≢◌, ◌⊎◌, inl, inr, ◌<◌, ◌≤◌, ◌+◌, ◌-◌, ◌*◌, ℕ, zero, suc, Bool, true, false, cond, eqb, List, [], ◌∷◌, ◌++◌, length, take, map, replicate, arith, refl, sym, ap}
-use Rattle.ptlangs.proofs.Common.{◌∙◌, Option, Some, None, range_with_len, flat_map, set, cases_eq, eq-eqb, ne_eqb, append_assoc, append-nil, map-id, same_lists, length-set, length_push}
-use Rattle.ptlangs.proofs.Common.{get_or-set_same, get_or-set_other, length-replicate, get_or-replicate, length-append, replicate_more, length-map-range_with_len, get_or-map-range_with_len}
-use Rattle.ptlangs.proofs.Common.{length-range_with_len, map-range_with_len_more, Piece, Places, has_byte, last_place, later_or, members, array, places_of, Puts}
+use Rattle.ptlangs.proofs.Common.{◌≡◌, ◌≢◌, ◌⊎◌, inl, inr, ◌<◌, ◌≤◌, ◌+◌, ◌-◌, ℕ, zero, suc, Bool, true, false, cond, eqb, List, [], ◌∷◌, ◌++◌, length, take, map, replicate, arith, refl, sym, ap, ◌∙◌}
+use Rattle.ptlangs.proofs.Common.{Option, Some, None, range_with_len, flat_map, set, cases_eq, eq-eqb, ne_eqb, append_assoc, append-nil, map-id, same_lists, length-set, get_or-set_same}
+use Rattle.ptlangs.proofs.Common.{get_or-set_other, length-replicate, get_or-replicate, length-append, length-map-range_with_len, get_or-map-range_with_len, length-range_with_len}
+use Rattle.ptlangs.proofs.Common.{map-range_with_len_more, Places, has_byte, last_place, later_or, places_of, Puts, min, not, ◌||◌, cases_lt, get_or_default, last_or, slice_get, option_and_then}
+use Rattle.ptlangs.proofs.Common.{option_to_list, filter, is_some, unwrap_or, complement_of, fitted, image_by}
 use Rattle.std.proofs.Math.ListN.{get_or}
+use Rattle.std.proofs.lemmas.List.Elements.{filter-append}
 use Rattle.ptlangs.specs.TrClasses.{all_bytes}
-use Rattle.ptlangs.proofs.TrSpans.{class_bytes-short}
+use Rattle.ptlangs.proofs.TrSpans.{slice_get-left, slice_get-right, slice_get-none, repeat_there, class_bytes-short}
 
 -- a table of all bytes, entry by entry
 pub length-table : {X : Type 0} (f : ℕ → X) → length (map f all_bytes) ≡ 256
@@ -17,49 +19,69 @@ unfolding all_bytes
 get_or-table f i d h = get_or-map-range_with_len f 0 256 i i d h (omega arith)
 
 -- what has 256 entries and agrees at each byte is the table
-pub same_table : {X : Type 0} (xs : List X) (f : ℕ → X) → length xs ≡ 256 → ((i : ℕ) (d : X) → i < 256 → get_or xs i d ≡ f i) → xs ≡ map f all_bytes
-same_table xs f n h =
+pub same_table : {X : Type 0} (xs : List X) (f : ℕ → X) (d : X) → length xs ≡ 256 → ((i : ℕ) → i < 256 → get_or xs i d ≡ f i) → xs ≡ map f all_bytes
+same_table xs f d n h =
     same_lists xs (map f all_bytes) (n ∙ sym (length-table f))
-    (λ k d below. let under : k < 256 = omega arith in h k d under ∙ sym (get_or-table f k d under))
+    (λ k e below. let under : k < 256 = omega arith in get_or_default xs k e d below ∙ h k under ∙ sym (get_or-table f k e under))
 
 -- one entry that holds of all
-pub replicate-table : {X : Type 0} (x : X) → replicate 256 x ≡ map (λ (b : ℕ). x) all_bytes
-replicate-table x = same_table (replicate 256 x) (λ b. x) (length-replicate 256 x) (λ i d h. get_or-replicate 256 i x d h)
+replicate-table : {X : Type 0} (x : X) → replicate 256 x ≡ map (λ (b : ℕ). x) all_bytes
+replicate-table x = same_table (replicate 256 x) (λ b. x) x (length-replicate 256 x) (λ i h. get_or-replicate 256 i x x h)
 
 -- no byte stands in an empty array
 pub none_contained : replicate 256 false ≡ map (λ b. has_byte b []) all_bytes
 none_contained = replicate-table false
 
 -- a write into a table
-pub set-table : {X : Type 0} (f g : ℕ → X) (i : ℕ) (v : X) → i < 256 → g i ≡ v → ((k : ℕ) → k ≢ i → g k ≡ f k) → set (map f all_bytes) i v ≡ map g all_bytes
+set-table : {X : Type 0} (f g : ℕ → X) (i : ℕ) (v : X) → i < 256 → g i ≡ v → ((k : ℕ) → k ≢ i → g k ≡ f k) → set (map f all_bytes) i v ≡ map g all_bytes
 set-table {X} f g i v h e others =
-    same_table (set (map f all_bytes) i v) g (length-set (map f all_bytes) i v ∙ length-table f) (λ k d under. by_cases k d under (cases_eq k i))
+    same_table (set (map f all_bytes) i v) g v (length-set (map f all_bytes) i v ∙ length-table f) (λ k under. by_cases k under (cases_eq k i))
   where
-    by_cases : (k : ℕ) (d : X) → k < 256 → ((k ≡ i) ⊎ (k ≡ i → ⊥)) → get_or (set (map f all_bytes) i v) k d ≡ g k
-    by_cases k d under (inl same) =
+    by_cases : (k : ℕ) → k < 256 → ((k ≡ i) ⊎ (k ≡ i → ⊥)) → get_or (set (map f all_bytes) i v) k v ≡ g k
+    by_cases k under (inl same) =
         let room : i < length (map f all_bytes) = omega (arith, length-table f) in
-        rw (same, get_or-set_same (map f all_bytes) i v d room) (sym e)
-    by_cases k d under (inr other) =
-        rw (get_or-set_other (map f all_bytes) i k v d other, get_or-table f k d under) (sym (others k other))
+        rw (same, get_or-set_same (map f all_bytes) i v v room) (sym e)
+    by_cases k under (inr other) =
+        rw (get_or-set_other (map f all_bytes) i k v v other, get_or-table f k v under) (sym (others k other))
 
-pub last_place-push : (c : ℕ) (bytes : List ℕ) (b : ℕ) → last_place c (bytes ++ b ∷ []) ≡ cond (eqb b c) (Some (length bytes)) (last_place c bytes)
-last_place-push c [] b = refl
-last_place-push c (x ∷ bytes) b = rw (last_place-push c bytes b) (choose (eqb b c))
+-- ---- a byte, so many times
+
+last_place-only : (c b n : ℕ) → last_place c (replicate (suc n) b) ≡ cond (eqb b c) (Some n) None
+last_place-only c b zero = refl
+last_place-only c b (suc n) = ap (λ o. later_or o (eqb b c)) (last_place-only c b n) ∙ choose (eqb b c)
   where
-    choose : (t : Bool) → later_or (cond t (Some (length bytes)) (last_place c bytes)) (eqb x c) ≡ cond t (Some (suc (length bytes))) (later_or (last_place c bytes) (eqb x c))
+    choose : (t : Bool) → later_or (cond t (Some n) None) t ≡ cond t (Some (suc n)) None
     choose true = ap Some (omega arith)
     choose false = refl
 
--- one more byte
-pub last-push : (bytes : List ℕ) (b : ℕ) → b < 256 → set (map (λ c. last_place c bytes) all_bytes) b (Some (length bytes)) ≡ map (λ c. last_place c (bytes ++ b ∷ [])) all_bytes
-last-push bytes b h =
-    set-table (λ c. last_place c bytes) (λ c. last_place c (bytes ++ b ∷ [])) b (Some (length bytes)) h
-    (rw (last_place-push b bytes b, eq-eqb b b refl) refl)
-    (λ k n. rw (last_place-push k bytes b, ne_eqb b k (λ e. n (sym e))) refl)
+last_place-replicate : (c b n : ℕ) (bytes : List ℕ) → last_place c (bytes ++ replicate (suc n) b) ≡ cond (eqb b c) (Some (length bytes + n)) (last_place c bytes)
+last_place-replicate c b n [] = last_place-only c b n ∙ ap (λ m. cond (eqb b c) (Some m) None) (omega arith)
+last_place-replicate c b n (x ∷ bytes) = ap (λ o. later_or o (eqb x c)) (last_place-replicate c b n bytes) ∙ choose (eqb b c)
+  where
+    choose : (t : Bool) → later_or (cond t (Some (length bytes + n)) (last_place c bytes)) (eqb x c) ≡ cond t (Some (length (x ∷ bytes) + n)) (later_or (last_place c bytes) (eqb x c))
+    choose true = ap Some (omega arith)
+    choose false = refl
 
-pub places-push : (old : Places) (bytes : List ℕ) (b : ℕ) → b < 256 → old ≡ places_of bytes
-    → record { last = set old.last b (Some old.length); length = old.length + 1 } ≡ places_of (bytes ++ b ∷ [])
-places-push old bytes b h e = rw (e, last-push bytes b h, length_push bytes b) refl
+pub Puts-replicate : (old : Places) (b count : ℕ) → b < 256 → 0 < count → Puts old (record { last = set old.last b (Some (old.length + (count - 1))); length = old.length + count }) (replicate count b)
+Puts-replicate old b zero h some bytes e = absurd (omega (arith, some))
+Puts-replicate old b (suc n) h some bytes e =
+    let place : length bytes + n ≡ length bytes + (suc n - 1) = omega arith in
+    let table : set (map (λ c. last_place c bytes) all_bytes) b (Some (length bytes + (suc n - 1))) ≡ map (λ c. last_place c (bytes ++ replicate (suc n) b)) all_bytes =
+    set-table (λ c. last_place c bytes) (λ c. last_place c (bytes ++ replicate (suc n) b)) b (Some (length bytes + (suc n - 1))) h
+    (rw (last_place-replicate b b n bytes, eq-eqb b b refl) (ap Some place)) (λ k m. rw (last_place-replicate k b n bytes, ne_eqb b k (λ e. m (sym e))) refl) in
+    let counted : length bytes + suc n ≡ length (bytes ++ replicate (suc n) b) = omega (arith, length-append bytes (replicate (suc n) b), length-replicate (suc n) b) in
+    rw (e, table, counted) refl
+
+pub Puts-none : (old : Places) → Puts old old []
+Puts-none old bytes e = e ∙ ap places_of (sym (append-nil bytes))
+
+pub ruleset repeat_steps = (Puts-replicate, Puts-none, length-replicate)
+
+-- one more byte
+pub places-push : (old : Places) (bytes : List ℕ) (b : ℕ) → b < 256 → old ≡ places_of bytes → record { last = set old.last b (Some old.length); length = old.length + 1 } ≡ places_of (bytes ++ b ∷ [])
+places-push old bytes b h e =
+    let last : old.length ≡ old.length + (1 - 1) = omega arith in
+    ap (λ n. record { last = set old.last b (Some n); length = old.length + 1 }) last ∙ Puts-replicate old b 1 h (omega arith) bytes e
 
 pub places-new : record { last = replicate 256 None; length = 0 } ≡ places_of []
 places-new = rw (replicate-table {X = Option ℕ} None) refl
@@ -81,69 +103,101 @@ Puts-range old mid new first byte h p q =
     let count : byte + 1 - first ≡ byte - first + 1 = omega arith in
     rw (count, range-more first (byte - first) byte (omega arith)) (Puts-append old mid new (range_with_len first (byte - first)) (byte ∷ []) p q)
 
--- ---- a byte, so many times
-
-pub last_place-replicate : (c b n : ℕ) (bytes : List ℕ) → last_place c (bytes ++ replicate (n + 1) b) ≡ cond (eqb b c) (Some (length bytes + n)) (last_place c bytes)
-last_place-replicate c b zero bytes = rw (last_place-push c bytes b) (choose (eqb b c))
-  where
-    choose : (t : Bool) → cond t (Some (length bytes)) (last_place c bytes) ≡ cond t (Some (length bytes + 0)) (last_place c bytes)
-    choose true = ap Some (omega arith)
-    choose false = refl
-last_place-replicate c b (suc n) bytes =
-    let split : bytes ++ replicate (suc n + 1) b ≡ (bytes ++ replicate (n + 1) b) ++ b ∷ [] =
-    let count : suc n + 1 ≡ n + 1 + 1 = omega arith in
-    ap (λ m. bytes ++ replicate m b) count ∙ ap (λ xs. bytes ++ xs) (sym (replicate_more (n + 1) b)) ∙ sym (append_assoc bytes (replicate (n + 1) b) (b ∷ [])) in
-    rw (split, last_place-push c (bytes ++ replicate (n + 1) b) b, last_place-replicate c b n bytes) (choose (eqb b c))
-  where
-    choose : (t : Bool) → cond t (Some (length (bytes ++ replicate (n + 1) b))) (cond t (Some (length bytes + n)) (last_place c bytes)) ≡ cond t (Some (length bytes + suc n)) (last_place c bytes)
-    choose true = ap Some (omega (arith, length-append bytes (replicate (n + 1) b), length-replicate (n + 1) b))
-    choose false = refl
-
-last-replicate : (bytes : List ℕ) (b n : ℕ) → b < 256 → set (map (λ c. last_place c bytes) all_bytes) b (Some (length bytes + n)) ≡ map (λ c. last_place c (bytes ++ replicate (n + 1) b)) all_bytes
-last-replicate bytes b n h =
-    set-table (λ c. last_place c bytes) (λ c. last_place c (bytes ++ replicate (n + 1) b)) b (Some (length bytes + n)) h
-    (rw (last_place-replicate b b n bytes, eq-eqb b b refl) refl)
-    (λ k m. rw (last_place-replicate k b n bytes, ne_eqb b k (λ e. m (sym e))) refl)
-
-pub Puts-replicate : (old : Places) (b count : ℕ) → b < 256 → 0 < count → Puts old (record { last = set old.last b (Some (old.length + (count - 1))); length = old.length + count }) (replicate count b)
-Puts-replicate old b count h some bytes e =
-    let more : count ≡ count - 1 + 1 = omega arith in
-    let total : length (bytes ++ replicate (count - 1 + 1) b) ≡ length bytes + count = omega (arith, length-append bytes (replicate (count - 1 + 1) b), length-replicate (count - 1 + 1) b) in
-    let table : set (map (λ c. last_place c bytes) all_bytes) b (Some (length bytes + (count - 1))) ≡ map (λ c. last_place c (bytes ++ replicate count b)) all_bytes =
-    last-replicate bytes b (count - 1) h ∙ ap (λ m. map (λ c. last_place c (bytes ++ replicate m b)) all_bytes) (sym more) in
-    let counted : length bytes + count ≡ length (bytes ++ replicate count b) = omega (arith, length-append bytes (replicate count b), length-replicate count b) in
-    rw (e, table, counted) refl
-
-pub Puts-none : (old : Places) → Puts old old []
-Puts-none old bytes e = e ∙ ap places_of (sym (append-nil bytes))
-
-pub ruleset repeat_steps = (Puts-replicate, Puts-none, length-replicate)
-
--- ---- a class
-
-pub length-flat_map-take : {X : Type 0} (f : X → List ℕ) (xs : List X) (i : ℕ) → length (flat_map f (take i xs)) ≤ length (flat_map f xs)
-length-flat_map-take f [] zero = omega arith
-length-flat_map-take f [] (suc i) = omega arith
-length-flat_map-take f (x ∷ xs) zero = omega arith
-length-flat_map-take f (x ∷ xs) (suc i) = omega (arith, length-flat_map-take f xs i, length-append (f x) (flat_map f (take i xs)), length-append (f x) (flat_map f xs))
-
--- the places are those of the pieces so far, each of which is short
-pub record HasPlaces (fill : ℕ) (places : Places) (done : List Piece) : Type 0 where
-  pub places_is : places ≡ places_of (array fill done)
-  pub short : length (array 0 done) ≤ 65535 * length done
+-- ---- a piece
 
 pub ruleset piece_steps = (length-range_with_len, class_bytes-short, length-replicate)
 
-pub HasPlaces-start : (fill : ℕ) (places : Places) → places ≡ places_of [] → HasPlaces fill places []
-HasPlaces-start fill places e = record { places_is = e; short = omega arith }
+-- ---- the bytes that stand in an array, and those that do not
 
-pub array-push : (n : ℕ) (ps : List Piece) (x : Piece) → array n (ps ++ x ∷ []) ≡ array n ps ++ members n x
-array-push n [] x = append-nil (members n x)
-array-push n (p ∷ ps) x = ap (λ xs. members n p ++ xs) (array-push n ps x) ∙ sym (append_assoc (members n p) (array n ps) (members n x))
+is_some-last_place : (c : ℕ) (bytes : List ℕ) → is_some (last_place c bytes) ≡ has_byte c bytes
+is_some-last_place c [] = refl
+is_some-last_place c (b ∷ bytes) = choose (last_place c bytes) (eqb b c) (is_some-last_place c bytes)
+  where
+    choose : (o : Option ℕ) (t : Bool) → is_some o ≡ has_byte c bytes → is_some (later_or o t) ≡ (t || has_byte c bytes)
+    choose None true e = refl
+    choose None false e = e
+    choose (Some i) true e = refl
+    choose (Some i) false e = e
 
-pub HasPlaces-more : (fill : ℕ) (old new : Places) (done : List Piece) (x : Piece) → Puts old new (members fill x) → length (members 0 x) ≤ 65535 → HasPlaces fill old done
-    → HasPlaces fill new (done ++ x ∷ [])
-HasPlaces-more fill old new done x p s h = record {
-  places_is = p (array fill done) h.places_is ∙ ap places_of (sym (array-push fill done x));
-  short = omega (arith, h.short, ap length (array-push 0 done x), length-append (array 0 done) (members 0 x), length_push done x);
-}
+pub get_or-last : (places : Places) (bytes : List ℕ) (b : ℕ) (d : Option ℕ) → b < 256 → places ≡ places_of bytes → get_or places.last b d ≡ last_place b bytes
+get_or-last places bytes b d h e = rw e (get_or-table (λ c. last_place c bytes) b d h)
+
+pub is_some-last : (places : Places) (bytes : List ℕ) (b : ℕ) (d : Option ℕ) → b < 256 → places ≡ places_of bytes → is_some (get_or places.last b d) ≡ has_byte b bytes
+is_some-last places bytes b d h e = ap is_some (get_or-last places bytes b d h e) ∙ is_some-last_place b bytes
+
+-- the bytes below one that do not stand in an array
+
+abbrev pub others_below : List ℕ → ℕ → List ℕ
+others_below bytes n = filter (λ b. not (has_byte b bytes)) (range_with_len 0 n)
+
+others_below-more : (bytes : List ℕ) (n : ℕ) (t : Bool) → has_byte n bytes ≡ t → others_below bytes (n + 1) ≡ others_below bytes n ++ cond t [] (n ∷ [])
+others_below-more bytes n t e =
+    ap (filter (λ b. not (has_byte b bytes))) (range-more 0 n n (omega arith)) ∙ filter-append (λ b. not (has_byte b bytes)) (range_with_len 0 n) (n ∷ [])
+    ∙ ap (λ xs. others_below bytes n ++ xs) (rw e (choose t))
+  where
+    choose : (t : Bool) → cond (not t) (n ∷ []) [] ≡ cond t [] (n ∷ [])
+    choose true = refl
+    choose false = refl
+
+pub others_below-all : (bytes : List ℕ) (n : ℕ) → n ≡ 256 → others_below bytes n ≡ complement_of bytes
+unfolding all_bytes
+others_below-all bytes n e = ap (others_below bytes) e
+
+-- one more byte, by whether it stands in the array
+pub complement-step : (start old new : Places) (b i : ℕ) (t : Bool) → b < 256 → i ≡ b → is_some (get_or start.last i None) ≡ t
+    → ((bytes : List ℕ) → start ≡ places_of bytes → old ≡ places_of (others_below bytes b)) → Puts old new (cond t [] (b ∷ []))
+    → (bytes : List ℕ) → start ≡ places_of bytes → new ≡ places_of (others_below bytes (b + 1))
+complement-step start old new b i t h j s old_is puts bytes e =
+    let stands : has_byte b bytes ≡ t = sym (is_some-last start bytes b None h e) ∙ ap (λ k. is_some (get_or start.last k None)) (sym j) ∙ s in
+    puts (others_below bytes b) (old_is bytes e) ∙ ap places_of (sym (others_below-more bytes b t stands))
+
+-- ---- what a byte becomes
+
+-- the last place is within
+last_place-lt : (c i : ℕ) (bytes : List ℕ) → last_place c bytes ≡ Some i → i < length bytes
+last_place-lt c i [] e = absurd (let no : ⊥ = cc in no)
+last_place-lt c i (b ∷ bytes) e = by_later (last_place c bytes) refl (eqb b c) e (λ j h. last_place-lt c j bytes h)
+  where
+    by_later : (o : Option ℕ) → last_place c bytes ≡ o → (t : Bool) → later_or o t ≡ Some i → ((j : ℕ) → last_place c bytes ≡ Some j → j < length bytes) → i < suc (length bytes)
+    by_later (Some j) l t e h = let same : j + 1 ≡ i = cc in omega (arith, h j l)
+    by_later None l true e h = let same : 0 ≡ i = cc in omega arith
+    by_later None l false e h = absurd (let no : ⊥ = cc in no)
+
+slice_get-take : (n : ℕ) (xs : List ℕ) (i : ℕ) → i < n → slice_get (take n xs) i ≡ slice_get xs i
+slice_get-take zero xs i h = absurd (omega arith)
+slice_get-take (suc n) [] i h = refl
+slice_get-take (suc n) (x ∷ xs) zero h = refl
+slice_get-take (suc n) (x ∷ xs) (suc i) h = slice_get-take n xs i (omega arith)
+
+last_or-is : (o : Option ℕ) (b : ℕ) (bytes : List ℕ) → last_or o (b ∷ bytes) ≡ slice_get (b ∷ bytes) (length bytes)
+last_or-is o b [] = refl
+last_or-is o b (x ∷ bytes) = last_or-is (Some b) x bytes
+
+-- the byte at a place of the fitted array: the last one counts for all places behind it
+fitted-get : (n i : ℕ) (bytes : List ℕ) → i < n → slice_get (fitted n bytes) i ≡ slice_get bytes (min i (length bytes - 1))
+fitted-get n i [] h = slice_get-take n [] i h
+fitted-get n i (b ∷ bytes) h = by_last (last_or None (b ∷ bytes)) refl
+  where
+    behind : (z : ℕ) → last_or None (b ∷ bytes) ≡ Some z → ((i < length (b ∷ bytes)) ⊎ (length (b ∷ bytes) ≤ i))
+        → slice_get ((b ∷ bytes) ++ (replicate n z ++ [])) i ≡ slice_get (b ∷ bytes) (min i (length (b ∷ bytes) - 1))
+    behind z l (inl within) =
+        let place : min i (length (b ∷ bytes) - 1) ≡ i = omega arith in
+        slice_get-left (b ∷ bytes) (replicate n z ++ []) i within ∙ ap (slice_get (b ∷ bytes)) (sym place)
+    behind z l (inr past) =
+        let place : length bytes ≡ min i (length (b ∷ bytes) - 1) = omega arith in
+        slice_get-right (b ∷ bytes) (replicate n z ++ []) i (i - length (b ∷ bytes)) (omega arith)
+        ∙ slice_get-left (replicate n z) [] (i - length (b ∷ bytes)) (omega (arith, length-replicate n z))
+        ∙ sym (repeat_there n z (i - length (b ∷ bytes)) (omega arith))
+        ∙ sym l ∙ last_or-is None b bytes ∙ ap (slice_get (b ∷ bytes)) place
+
+    by_last : (o : Option ℕ) → last_or None (b ∷ bytes) ≡ o
+        → slice_get (take n ((b ∷ bytes) ++ flat_map (λ (z : ℕ). replicate n z) (option_to_list o))) i ≡ slice_get (b ∷ bytes) (min i (length (b ∷ bytes) - 1))
+    by_last None l = absurd (omega (arith, slice_get-none (b ∷ bytes) (length bytes) (sym l ∙ last_or-is None b bytes)))
+    by_last (Some z) l = slice_get-take n ((b ∷ bytes) ++ (replicate n z ++ [])) i h ∙ behind z l (cases_lt i (length (b ∷ bytes)))
+
+pub image-found : (from to : List ℕ) (byte place at len r : ℕ) (found : Option ℕ) → r ≡ unwrap_or found byte → found ≡ slice_get to at → at ≡ min place (len - 1) → len ≡ length to
+    → Some place ≡ last_place byte from → r ≡ image_by from to byte
+image-found from to byte place at len r found e f g n l =
+    let there : at ≡ min place (length to - 1) = g ∙ ap (λ m. min place (m - 1)) n in
+    let fits = fitted-get (length from) place to (last_place-lt byte place from (sym l)) in
+    e ∙ ap (λ o. unwrap_or o byte) (f ∙ ap (slice_get to) there ∙ sym fits) ∙ ap (λ o. unwrap_or (option_and_then (slice_get (fitted (length from) to)) o) byte) l

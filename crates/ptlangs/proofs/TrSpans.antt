@@ -1,18 +1,10 @@
 -- Places in joined lists and in runs of bytes.
-use Rattle.ptlangs.proofs.Common.{◌≡◌, ◌<◌, ◌≤◌, ◌+◌, ◌-◌, ℕ, zero, suc, List, [], ◌∷◌, ◌++◌, length, take, drop, replicate, lit≤, arith, refl, sym, ap, ◌∙◌, Option, Some, None, range_with_len}
-use Rattle.ptlangs.proofs.Common.{slice_get, flat_map, drop_more, length-append, length-replicate, length-range_with_len, CharClass, span, range_bytes, class_bytes}
+use Rattle.ptlangs.proofs.Common.{◌≡◌, ◌<◌, ◌≤◌, ◌+◌, ◌-◌, ℕ, zero, suc, List, [], ◌∷◌, ◌++◌, length, take, drop, replicate, lit≤, arith, refl, sym, ap, ◌∙◌, Option, Some, None, slice_get, flat_map}
+use Rattle.ptlangs.proofs.Common.{drop_more, length-append, length-replicate, length-range_with_len, CharClass, span, range_bytes, class_bytes, get_or-replicate}
 use Rattle.std.proofs.Math.ListN.{get_or}
+use Rattle.std.proofs.lemmas.List.FromFn.{get_or-range_with_len}
+use Rattle.std.proofs.lemmas.Option.{slice_get-get_or, slice_get_past}
 use Rattle.ptlangs.specs.declared.classes.CharClass.TheVariants.{Alnum, Alpha, Blank, Cntrl, Digit, Graph, Lower, Print, Punct, Space, Upper, Xdigit}
-
-pub slice_get-range : (a n i : ℕ) → i < n → slice_get (range_with_len a n) i ≡ Some (a + i)
-slice_get-range a zero i h = absurd (omega arith)
-slice_get-range a (suc n) zero h = ap Some (omega arith)
-slice_get-range a (suc n) (suc i) h = slice_get-range (a + 1) n i (omega arith) ∙ ap Some (omega arith)
-
-pub slice_get-past : {X : Type 0} (xs : List X) (i : ℕ) → length xs ≤ i → slice_get xs i ≡ None
-slice_get-past [] i h = refl
-slice_get-past (x ∷ xs) zero h = absurd (omega arith)
-slice_get-past (x ∷ xs) (suc i) h = slice_get-past xs i (omega arith)
 
 pub slice_get-left : {X : Type 0} (xs ys : List X) (i : ℕ) → i < length xs → slice_get (xs ++ ys) i ≡ slice_get xs i
 slice_get-left [] ys i h = absurd (omega arith)
@@ -24,11 +16,18 @@ slice_get-right [] ys i j e = ap (slice_get ys) (omega arith)
 slice_get-right (x ∷ xs) ys zero j e = absurd (omega arith)
 slice_get-right (x ∷ xs) ys (suc i) j e = slice_get-right xs ys i j (omega arith)
 
+pub slice_get-none : {X : Type 0} (xs : List X) (i : ℕ) → None ≡ slice_get xs i → length xs ≤ i
+slice_get-none [] i e = omega arith
+slice_get-none (x ∷ xs) zero e = absurd (let no : ⊥ = cc in no)
+slice_get-none (x ∷ xs) (suc i) e = omega (arith, slice_get-none xs i e)
+
 pub span_there : (first last place : ℕ) → place < length (span first last) → Some (first + place) ≡ slice_get (span first last) place
-span_there first last place h = sym (slice_get-range first (last + 1 - first) place (omega (arith, length-range_with_len first (last + 1 - first))))
+span_there first last place h =
+    let within : place < last + 1 - first = omega (arith, length-range_with_len first (last + 1 - first)) in
+    sym (slice_get-get_or (span first last) place 0 h ∙ ap Some (get_or-range_with_len first (last + 1 - first) place 0 within))
 
 pub span_past : (first last place : ℕ) → length (span first last) ≤ place → None ≡ slice_get (span first last) place
-span_past first last place h = sym (slice_get-past (span first last) place h)
+span_past first last place h = sym (slice_get_past (span first last) place h)
 
 pub length-span : (first last : ℕ) → length (span first last) ≡ last + 1 - first
 length-span first last = length-range_with_len first (last + 1 - first)
@@ -72,15 +71,10 @@ class_bytes-short Xdigit = lit≤ tt
 
 -- ---- a byte, so many times
 
-pub slice_get-replicate : (n b i : ℕ) → i < n → slice_get (replicate n b) i ≡ Some b
-slice_get-replicate zero b i h = absurd (omega arith)
-slice_get-replicate (suc n) b zero h = refl
-slice_get-replicate (suc n) b (suc i) h = slice_get-replicate n b i (omega arith)
-
 pub repeat_there : (n b i : ℕ) → i < n → Some b ≡ slice_get (replicate n b) i
-repeat_there n b i h = sym (slice_get-replicate n b i h)
+repeat_there n b i h = sym (slice_get-get_or (replicate n b) i 0 (omega (arith, length-replicate n b)) ∙ ap Some (get_or-replicate n i b 0 h))
 
 pub repeat_past : (n b i : ℕ) → n ≤ i → None ≡ slice_get (replicate n b) i
-repeat_past n b i h = sym (slice_get-past (replicate n b) i (omega (arith, length-replicate n b)))
+repeat_past n b i h = sym (slice_get_past (replicate n b) i (omega (arith, length-replicate n b)))
 
 pub ruleset member_steps = (length-replicate, length-span, class_bytes-short, repeat_there, repeat_past)

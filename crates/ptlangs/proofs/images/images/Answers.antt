@@ -1,6 +1,6 @@
-use Rattle.ptlangs.proofs.Common.{ap, arith, Ok, array}
+use Rattle.ptlangs.proofs.Common.{ap, arith, Ok, array, image_by}
 use Rattle.ptlangs.proofs.TrAnswers.{no_answer}
-use Rattle.ptlangs.proofs.TrImages.{image-table}
+use Rattle.ptlangs.proofs.TrPlaces.{same_table}
 use Rattle.ptlangs.proofs.images.images.Goals as goal
 
 pub returns-in_err-entry : goal.returns-in_err-entry
@@ -8,4 +8,4 @@ returns-in_err-entry c = λ from ps f e n. no_answer c.image.result c.in_err-ent
 
 pub returns : goal.returns
 returns c = λ from ps f e n.
-    ap Ok (image-table c.loop-byte.entry-items from (array c.args.second.now.fill ps) c.loop-byte-test.array_long (λ k h. c.loop-byte.invariant from ps f e n k (omega arith)))
+    ap Ok (same_table c.loop-byte.entry-items (image_by from (array c.args.second.now.fill ps)) 0 c.loop-byte-test.array_long (λ k h. c.loop-byte.invariant from ps f e n k (omega arith)))

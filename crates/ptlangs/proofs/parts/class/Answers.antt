@@ -1,5 +1,5 @@
 use Rattle.ptlangs.proofs.Common.{arith, drop, ℕ, length-take, length-drop, units}
-use Rattle.ptlangs.proofs.TrForms.{class_at-found}
+use Rattle.ptlangs.proofs.TrGrammar.{class_at-found}
 use Rattle.ptlangs.proofs.parts.class.Goals as goal
 
 pub returns-clause-reads : goal.returns-clause-reads

@@ -1,6 +1,6 @@
 use Rattle.ptlangs.proofs.Common.{Some, rules, sym, ◌∙◌, get_or, AllPass-from_list_all, is_octal_digit}
 use Rattle.ptlangs.proofs.TrNumbers.{octal_value}
-use Rattle.ptlangs.proofs.TrCounts.{repeat_count-octal}
+use Rattle.ptlangs.proofs.TrGrammar.{repeat_count-octal}
 use Rattle.ptlangs.proofs.parts.count_of.Goals as goal
 
 pub returns : goal.returns

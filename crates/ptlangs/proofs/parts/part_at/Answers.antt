@@ -1,5 +1,5 @@
 use Rattle.ptlangs.proofs.Common.{drop, units}
-use Rattle.ptlangs.proofs.TrForms.{first_part-range, units-some}
+use Rattle.ptlangs.proofs.TrGrammar.{first_part-range, units-some}
 use Rattle.ptlangs.proofs.parts.part_at.Goals as goal
 
 pub returns-in-Some-behind_byte-clause-reads : goal.returns-in-Some-behind_byte-clause-reads

@@ -1,5 +1,5 @@
 use Rattle.ptlangs.proofs.Common.{◌≡◌, ◌∷◌, ◌||◌, length, arith, refl, ap, drop, Err, units, is_fill, pieces_left}
-use Rattle.ptlangs.proofs.TrPieces.{pieces-part, pieces-fault}
+use Rattle.ptlangs.proofs.TrGrammar.{pieces-part, pieces-fault}
 use Rattle.ptlangs.proofs.pieces.PiecesIterator.next.Goals as goal
 use Rattle.ptlangs.proofs.pieces.PiecesIterator.next.Goals.{then-self-2, else-self-2}
 

@@ -1,6 +1,6 @@
 -- The complement has the bytes below this one that are not in the set, in their order. At most so many were put.
 use Rattle.ptlangs.proofs.Common.{◌≡◌, ◌≤◌, ℕ, List, places_of}
-use Rattle.ptlangs.proofs.TrComplement.{others_below}
+use Rattle.ptlangs.proofs.TrPlaces.{others_below}
 use Rattle.ptlangs.proofs.places.Places.complement.Given as goal
 
 abbrev pub invariant-loop-byte : goal.invariant-loop-byte

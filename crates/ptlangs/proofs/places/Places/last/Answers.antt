@@ -1,5 +1,5 @@
 use Rattle.std.proofs.Common.{◌<◌, None, arith, ap, ◌∙◌, get_or}
-use Rattle.ptlangs.proofs.TrComplement.{get_or-last}
+use Rattle.ptlangs.proofs.TrPlaces.{get_or-last}
 use Rattle.ptlangs.proofs.places.Places.last.Goals as goal
 
 pub returns : goal.returns

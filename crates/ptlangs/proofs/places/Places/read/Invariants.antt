@@ -1,7 +1,6 @@
 -- The pieces that were walked have their places; the others are still to be walked.
 use Rattle.ptlangs.proofs.Common.{pieces_of, pieces_left}
-use Rattle.ptlangs.proofs.TrWalks.{Walked}
-use Rattle.ptlangs.proofs.TrPlaces.{HasPlaces}
+use Rattle.ptlangs.proofs.TrWalks.{Walked, HasPlaces}
 use Rattle.ptlangs.proofs.places.Places.read.Given as goal
 
 abbrev pub invariant-loop-piece : goal.invariant-loop-piece

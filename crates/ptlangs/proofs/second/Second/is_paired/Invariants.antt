@@ -1,7 +1,6 @@
 -- Each class in the pieces so far faces one of the first string.
 use Rattle.ptlangs.proofs.Common.{First, collected, pieces_of, pieces_left}
-use Rattle.ptlangs.proofs.TrWalks.{Walked}
-use Rattle.ptlangs.proofs.TrPairs.{Faced}
+use Rattle.ptlangs.proofs.TrWalks.{Walked, Faced}
 use Rattle.ptlangs.proofs.second.Second.is_paired.Given as goal
 
 abbrev pub invariant-loop-piece : goal.invariant-loop-piece
