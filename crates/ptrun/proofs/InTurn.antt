@@ -6,12 +6,11 @@ use Rattle.ptrun.proofs.Common.{wrote_trans, wrote_nothing, Given, nothing_left,
 use Rattle.ptrun.proofs.Common.{AllowsAt, Allows, is_in, found, founds, opened, sources, reader_at, no_reader, shut, CameAt, IsReceived, IsFresh, HasFailed, IsTooLong, Tells, unopened, not_opened}
 use Rattle.ptrun.proofs.Common.{name_of, KeepsUp, PassedOn, LastEarlier, decided_of, largest, up_to_open, each_out, each_bound, each_decided, one_by_one, Done, Whole, Unopened, Cause, blame}
 use Rattle.ptrun.proofs.Common.{last_words, status_after, IsWithin, Went}
-use Rattle.ptrun.proofs.KeepingUp.{all_earlier, last_earlier, sends_now, sends_behind}
+use Rattle.ptrun.proofs.OnePlace.{all_earlier, last_earlier, sends_now, sends_behind, IsSpent, nothing_yet, done_with, received_of, received_at, nothing_read, never_long, not_long, opened_came}
+use Rattle.ptrun.proofs.OnePlace.{still_refused, came_trans, ended_gives_nothing, refused_same, none_of, agreed, agrees_before, agrees_whole, agrees_some, agrees_least, ended_at, nth_here}
 use Rattle.ptrun.proofs.Sayings.{tells_nothing}
-use Rattle.ptrun.proofs.Sources.{is_in-other, not_more, named_or_not, same_or_other, by_place, sources_opened, sources_refused, unopened_same}
-use Rattle.ptrun.proofs.Sources.{any_same, any_now, any_before, tells_more, largest-append, take_with, EndedAt, least, decided_founds}
-use Rattle.ptrun.proofs.OnePlace.{IsSpent, nothing_yet, done_with, received_of, received_at, nothing_read, never_long, not_long, opened_came, still_refused, came_trans, ended_gives_nothing}
-use Rattle.ptrun.proofs.OnePlace.{refused_same, none_of, agreed, agrees_before, agrees_whole, agrees_some, agrees_least, ended_at, nth_here}
+use Rattle.ptrun.proofs.Sources.{is_in-other, not_more, named_or_not, same_or_other, by_place, sources_opened, sources_refused, unopened_same, any_same, any_now, any_before, tells_more}
+use Rattle.ptrun.proofs.Sources.{largest-append, take_with, EndedAt, least, decided_founds}
 
 -- the operands that are done
 pub record Pass (word : List ℕ) (t : Tool) (names : List (List ℕ)) (old now : List Reader) (was is : Output) (told heard : SinkState) (before store : Slots)

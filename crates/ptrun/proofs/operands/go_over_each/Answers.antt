@@ -2,7 +2,7 @@
 use Rattle.ptrun.proofs.Common.{subst, ◌≡◌, ◌<◌, ℕ, Bool, true, List, ◌+◌, length, drop, sym, ◌∙◌, ap, arith, get_or_default, set-get_or, Reader, Given, Tool, no_reader, places, Standard}
 use borrow.Author.Rules.{scaled_Fits}
 use Rattle.ptrun.proofs.InTurn.{pass_nothing, ready_here, pass_all, pass_unopened, pass_done, pass_stopped}
-use Rattle.ptrun.proofs.Order.{fresh_all, places_next, places_split, places_end, pass_here, place_low}
+use Rattle.ptrun.proofs.Sources.{fresh_all, places_next, places_split, places_end, pass_here, place_low}
 use Rattle.ptrun.proofs.operands.go_over_each.Goals as goal
 use Rattle.ptrun.proofs.operands.go_over_each.Goals.{then-is_refused, else-is_refused+in-Ok}
 

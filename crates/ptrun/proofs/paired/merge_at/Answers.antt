@@ -1,7 +1,7 @@
 -- Two places of the list of readers are lent out, whichever comes first, and both orders of the places are one merge.
 use Rattle.std.proofs.Common.{◌≡◌, ℕ, ◌+◌, ◌<◌, ◌≤◌, sym, subst, arith}
 use borrow.Author.Rules.{scaled_Fits}
-use Rattle.ptrun.proofs.TwoReaders.{was_low, was_high, are_lent}
+use Rattle.ptrun.proofs.PairedPasses.{was_low, was_high, are_lent}
 use Rattle.ptrun.proofs.paired.merge_at.Goals as goal
 
 -- the second of two parts is not empty

@@ -1,8 +1,7 @@
 -- Words that are refused are answered by their message alone. Otherwise the run is that of the command, and the
 -- headline is a reading of it in the world that the readers tell.
 use Rattle.ptrun.proofs.Common.{ℕ, List, subst, words_seen, meant, SinkState, tool_word, said_of, Tells}
-use Rattle.ptrun.proofs.Asked.{asked_ok, asked_refused, operands_given, headline_asked}
-use Rattle.ptrun.proofs.Runs.{only_said}
+use Rattle.ptrun.proofs.Runs.{asked_ok, asked_refused, operands_given, headline_asked, only_said}
 use Rattle.ptrun.proofs.running.run_with_store.Goals as goal
 
 pub run_command-requires-clause-given : goal.run_command-requires-clause-given

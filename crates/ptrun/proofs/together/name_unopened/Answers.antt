@@ -2,8 +2,7 @@
 use Rattle.ptrun.proofs.Common.{◌<◌, ℕ, List, length, take, refl, sym, ◌∙◌, ap, subst, arith, get_or_default, Reader, words_seen, places, no_reader, shut, Tells, unopened, Standard, list_any}
 use borrow.Author.Rules.{scaled_Fits}
 use Rattle.ptrun.proofs.Sayings.{tells_nothing}
-use Rattle.ptrun.proofs.Order.{places_next, places_end}
-use Rattle.ptrun.proofs.Sources.{tells_more, any_now, any_before}
+use Rattle.ptrun.proofs.Sources.{places_next, places_end, tells_more, any_now, any_before}
 use Rattle.ptrun.proofs.together.name_unopened.Goals as goal
 use Rattle.ptrun.proofs.together.name_unopened.Goals.{then-is_refused, else-is_refused}
 

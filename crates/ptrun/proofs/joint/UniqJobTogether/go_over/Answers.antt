@@ -1,7 +1,7 @@
 use Rattle.ptrun.proofs.Common.{length, sym, ◌∙◌, ap, arith, get_or_default, no_reader, Standard, false≢true, Reader}
 use borrow.Author.Rules.{scaled_Fits}
 use Rattle.ptrun.proofs.JointPasses.{sole_of, sole_within, lone_went, sole_there, sole_open}
-use Rattle.ptrun.proofs.Order.{place_fits}
+use Rattle.ptrun.proofs.Sources.{place_fits}
 use Rattle.ptrun.proofs.joint.UniqJobTogether.go_over.Goals as goal
 
 pub returns-in-Ok : goal.returns-in-Ok
