@@ -2,13 +2,13 @@
 --
 -- Where one could not be opened, nothing is to be done. Else what the tool did is the run but its last words, and a
 -- tool with one input did what its one pass did.
-use Rattle.ptrun.proofs.Common.{◌≡◌, ◌⊎◌, ⊎_elim, inl, inr, ℕ, zero, suc, ◌+◌, ◌<◌, ◌≤◌, ◌^◌, ◌||◌, ◌==◌, Bool, true, false, cond, List, [], ◌∷◌, ◌++◌, Option, Some, None, Result, Ok, Err, length}
-use Rattle.ptrun.proofs.Common.{take, drop, get_or, set, refl, sym, ◌∙◌, ap, subst, arith, take-append-drop, All, slice_get, list_any, get_or-set_same, get_or-set_other, All-nil, All-cons}
-use Rattle.ptrun.proofs.Common.{list_any-append, false≢true, eqb-true, eqb_tells, Reader, IsSound, Output, Slots, SinkState, Given, Begins, Came, Before, Ends, IsPass, put_at, Tool, FlowFault, Read}
-use Rattle.ptrun.proofs.Common.{Write, Memory, Input, Done, Whole, World, Received, at, is_unopened, Allows, is_in, reader_at, no_reader, shut, IsReceived, IsFresh, HasFailed, IsTooLong, unopened}
-use Rattle.ptrun.proofs.Common.{Tells, not_opened, name_of, PassedOn, place, places, JointTool, of_one, text_in, given_in, lacks, disorder_text, disorder_status, together, Checks, IsStart, AreReady}
-use Rattle.ptrun.proofs.Common.{IsWithin, blame, last_words, status_after, WentTo, Went, done_of, AgreeAt, NoneFailed, JointEnds, IsJointPass, map, max, sum_by, append-nil, All-from_get_or}
-use Rattle.ptrun.proofs.Common.{list_any_at, whole_lines, Agrees, Paste, IsReadable, ReadAll, RowsEnd, IsPastePass, of_rows}
+use Rattle.ptrun.proofs.Common.{cases_eq, cases_Bool, ◌≡◌, ◌⊎◌, ⊎_elim, inl, inr, ℕ, zero, suc, ◌+◌, ◌<◌, ◌≤◌, ◌^◌, ◌||◌, ◌==◌, Bool, true, false, cond, List, [], ◌∷◌, ◌++◌, Option, Some, None}
+use Rattle.ptrun.proofs.Common.{Result, Ok, Err, length, take, drop, get_or, set, refl, sym, ◌∙◌, ap, subst, arith, take-append-drop, All, slice_get, list_any, get_or-set_same, get_or-set_other}
+use Rattle.ptrun.proofs.Common.{All-nil, All-cons, list_any-append, false≢true, eqb-true, eqb_tells, Reader, IsSound, Output, Slots, SinkState, Given, Begins, Came, Before, Ends, IsPass, put_at}
+use Rattle.ptrun.proofs.Common.{Tool, FlowFault, Read, Write, Memory, Input, Done, Whole, World, Received, at, is_unopened, Allows, is_in, reader_at, no_reader, shut, IsReceived, IsFresh, HasFailed}
+use Rattle.ptrun.proofs.Common.{IsTooLong, unopened, Tells, not_opened, name_of, PassedOn, place, places, JointTool, of_one, text_in, given_in, lacks, disorder_text, disorder_status, together}
+use Rattle.ptrun.proofs.Common.{Checks, IsStart, AreReady, IsWithin, blame, last_words, status_after, WentTo, Went, done_of, AgreeAt, NoneFailed, JointEnds, IsJointPass, map, max, sum_by, append-nil}
+use Rattle.ptrun.proofs.Common.{All-from_get_or, list_any_at, whole_lines, Agrees, Paste, IsReadable, ReadAll, RowsEnd, IsPastePass, of_rows}
 use Rattle.std.proofs.lemmas.List.Sums.{sum_by-cons}
 use Rattle.ptlines.specs.Text.{lines, longest_line}
 use Rattle.ptflow.specs.Pastes.{times, every, columns, rows, known_rows, sheet, paste, paste_decided, paste_size}
@@ -17,7 +17,7 @@ use Rattle.ptflow.proofs.OfPaste.Pastings.{named_at}
 use Rattle.ptflow.specs.PastePasses as pass
 use Rattle.ptrun.proofs.OnePlace.{at_set, opened_set, passed_on, nothing_yet, received_of, came_unread, never_long, not_long, agreed, agrees_whole, refused_same, refused_received}
 use Rattle.ptrun.proofs.Sayings.{tells_nothing}
-use Rattle.ptrun.proofs.Sources.{any_same, is_in-same, same_or_other, by_place, neither, named_or_not, each_named, none_passes, put_here, put_other, fresh_all, same_here}
+use Rattle.ptrun.proofs.Sources.{some_same, any_same, is_in-same, by_place, neither, each_named, none_passes, put_here, put_other, fresh_all, same_here}
 
 -- ---- an operand could not be opened
 
@@ -100,7 +100,7 @@ module _ (word : List ℕ) {t : JointTool} (names : List (List ℕ)) {places : L
   came : IsReceived old new received
   came q = ⊎_elim
       (λ named. rw (at_named q named) (open_at q named, k.came q named))
-      (λ other. rw (k.untouched q other, at_other q other) (came_unread (reader_at old q) (fresh q))) (named_or_not places q)
+      (λ other. rw (k.untouched q other, at_other q other) (came_unread (reader_at old q) (fresh q))) (cases_Bool (is_in places q))
 
   complete : (w : World) → Allows received w → lacks places w ≡ false
   complete w agrees = sym (any_same (shut old) (is_unopened w) places (refused_same old new received w came agrees)) ∙ start.complete
@@ -126,7 +126,7 @@ module _ (word : List ℕ) {t : JointTool} (names : List (List ℕ)) {places : L
   -- ---- how it ended
 
   named_failed : (q : ℕ) → HasFailed old new q → is_in places q ≡ true
-  named_failed q failed = ⊎_elim (λ named. named) (λ other. absurd (false≢true (sym failed.1 ∙ sym (ap (λ (r : Reader). r.failed) (k.untouched q other)) ∙ failed.2))) (named_or_not places q)
+  named_failed q failed = ⊎_elim (λ named. named) (λ other. absurd (false≢true (sym failed.1 ∙ sym (ap (λ (r : Reader). r.failed) (k.untouched q other)) ∙ failed.2))) (cases_Bool (is_in places q))
 
   none_failed : NoneFailed places old new → (q : ℕ) → HasFailed old new q → ⊥
   none_failed none q failed = false≢true (sym failed.1 ∙ sym (none q (named_failed q failed)) ∙ failed.2)
@@ -134,7 +134,7 @@ module _ (word : List ℕ) {t : JointTool} (names : List (List ℕ)) {places : L
   none_long : ((q : ℕ) → is_in places q ≡ true → (reader_at new q).pulled < 2 ^ 63) → (q : ℕ) → IsTooLong (at received q) → ⊥
   none_long short q long = ⊎_elim (λ named. not_long (reader_at old q) (reader_at new q) (at received q) (fresh q) (came q) (λ _. short q named) long)
       (λ other. never_long (reader_at old q) (rw (at_other q other) at long))
-      (named_or_not places q)
+      (cases_Bool (is_in places q))
 
   record Ending (r : Result Done FlowFault) : Type 0 where
     behind : ℕ
@@ -171,7 +171,7 @@ module _ (word : List ℕ) {t : JointTool} (names : List (List ℕ)) {places : L
         ends = (f.2, f.3, cause, e.written, e.roomy);
         place = each_named (λ q. q < length old) places start.given.fits p e.named;
         told_read = λ q failed clean. ⊎_elim (λ same. ap (λ (n : ℕ). Err (Read n)) same)
-            (λ other. absurd (false≢true (sym failed.1 ∙ sym (e.others q (named_failed q failed) other) ∙ failed.2))) (same_or_other p q);
+            (λ other. absurd (false≢true (sym failed.1 ∙ sym (e.others q (named_failed q failed) other) ∙ failed.2))) (cases_eq p q);
       }
   ending (Err Write) e = record { behind = 0; within = omega arith; ends = e; place = tt; told_read = λ q failed clean. absurd (false≢true (sym clean ∙ e)) }
   ending (Err Memory) e = record { behind = 0; within = omega arith; ends = (e.0, e.1); place = tt; told_read = λ q failed clean. absurd (none_failed e.2 q failed) }
@@ -200,9 +200,6 @@ module _ (word : List ℕ) {t : JointTool} (names : List (List ℕ)) {places : L
       none_before : (test : ℕ → Bool) (n : ℕ) → list_any test places ≡ false → list_any test (take n places) ≡ false
       none_before test n none = (neither (list_any test (take n places)) (list_any test (drop n places))
           (sym (list_any-append test (take n places) (drop n places)) ∙ ap (list_any test) (take-append-drop n places) ∙ none)).0
-
-      some_same : {a b : Given} → Some a ≡ Some b → a ≡ b
-      some_same same = cc
 
       keeps_at : (q : ℕ) (g : Given) → is_in places q ≡ true → at received q ≡ Some g → k.given q ≡ g
           → (cut : Before g) × PassedOn ((together word t names places).decided (set received q (Some cut.earlier))) was is k.pushed
@@ -378,7 +375,7 @@ module _ (job : Paste) {places : List ℕ} {old : List Reader} {was : Output} {b
 
     agree_at : (texts : ℕ → List ℕ) → AgreeAt places k.given texts → (q : ℕ) → Agrees (k.given q) (filled texts q)
     agree_at texts agrees q = ⊎_elim (λ named. rw named (agrees q named))
-        (λ other. rw other (record { rest = []; is = sym (append-nil (k.given q).bytes); whole = λ _. refl })) (named_or_not places q)
+        (λ other. rw other (record { rest = []; is = sym (append-nil (k.given q).bytes); whole = λ _. refl })) (cases_Bool (is_in places q))
 
     ends : (r : Result (Unit {0}) FlowFault) → RowsEnd places old new is store r → (r ≡ Ok tt → k.pushed ≡ paste job places (λ q. (k.given q).bytes))
         → JointEnds (of_rows job) places k.given old new k.pushed is.faulted store.denied (told_rows r)

@@ -22,7 +22,7 @@ use Rattle.ptopts.proofs.EachTool.{AreTaken, are_taken}
 use Rattle.ptopts.specs.declared.command.Command as code
 use Rattle.ptrun.proofs.OnePlace.{kept_up, earlier_map, nothing_decided, nothing_read, nothing_long, received_of, refused_same, refused_received}
 use Rattle.ptrun.proofs.Sayings.{tells_trans}
-use Rattle.ptrun.proofs.Sources.{fresh_all, unopened_same, places_within}
+use Rattle.ptrun.proofs.Sources.{some_same, fresh_all, unopened_same, places_within}
 
 -- ---- what reached the sink
 
@@ -59,9 +59,6 @@ reached_of was new pushed empty w = by_known was.taken refl
       unknown = λ none. absurd (some_known (sym is ∙ none));
     }
       where
-        some_same : {a b : List ℕ} → Some a ≡ Some b → a ≡ b
-        some_same same = cc
-
         some_known : Some t ≡ None → ⊥
         some_known same = cc
 
