@@ -2,13 +2,13 @@
 --
 -- Where one could not be opened, nothing is to be done. Else what the tool did is the run but its last words, and a
 -- tool with one input did what its one pass did.
-use Rattle.ptrun.proofs.Common.{cases_eq, cases_Bool, ◌≡◌, ◌⊎◌, ⊎_elim, inl, inr, ℕ, zero, suc, ◌+◌, ◌<◌, ◌≤◌, ◌^◌, ◌||◌, ◌==◌, Bool, true, false, cond, List, [], ◌∷◌, ◌++◌, Option, Some, None}
-use Rattle.ptrun.proofs.Common.{Result, Ok, Err, length, take, drop, get_or, set, refl, sym, ◌∙◌, ap, subst, arith, take-append-drop, All, slice_get, list_any, get_or-set_same, get_or-set_other}
-use Rattle.ptrun.proofs.Common.{All-nil, All-cons, list_any-append, false≢true, eqb-true, eqb_tells, Reader, IsSound, Output, Slots, SinkState, Given, Begins, Came, Before, Ends, IsPass, put_at}
-use Rattle.ptrun.proofs.Common.{Tool, FlowFault, Read, Write, Memory, Input, Done, Whole, World, Received, at, is_unopened, Allows, is_in, reader_at, no_reader, shut, IsReceived, IsFresh, HasFailed}
-use Rattle.ptrun.proofs.Common.{IsTooLong, unopened, Tells, not_opened, name_of, PassedOn, place, places, JointTool, of_one, text_in, given_in, lacks, disorder_text, disorder_status, together}
-use Rattle.ptrun.proofs.Common.{Checks, IsStart, AreReady, IsWithin, blame, last_words, status_after, WentTo, Went, done_of, AgreeAt, NoneFailed, JointEnds, IsJointPass, map, max, sum_by, append-nil}
-use Rattle.ptrun.proofs.Common.{All-from_get_or, list_any_at, whole_lines, Agrees, Paste, IsReadable, ReadAll, RowsEnd, IsPastePass, of_rows}
+use Rattle.ptrun.proofs.Common.{get_or_default, no_reader, length-map, cases_eq, cases_Bool, ◌≡◌, ◌⊎◌, ⊎_elim, inl, inr, ℕ, zero, suc, ◌+◌, ◌<◌, ◌≤◌, ◌^◌, ◌||◌, ◌==◌, Bool, true, false, cond, List}
+use Rattle.ptrun.proofs.Common.{[], ◌∷◌, ◌++◌, Option, Some, None, Result, Ok, Err, length, take, drop, get_or, set, refl, sym, ◌∙◌, ap, subst, arith, take-append-drop, All, slice_get, list_any}
+use Rattle.ptrun.proofs.Common.{get_or-set_same, get_or-set_other, All-nil, All-cons, list_any-append, false≢true, eqb-true, eqb_tells, Reader, IsSound, Output, Slots, SinkState, Given, Begins, Came}
+use Rattle.ptrun.proofs.Common.{Before, Ends, IsPass, put_at, Tool, FlowFault, Read, Write, Memory, Input, Done, Whole, World, Received, at, is_unopened, Allows, is_in, reader_at, shut, IsReceived}
+use Rattle.ptrun.proofs.Common.{IsFresh, HasFailed, IsTooLong, unopened, Tells, not_opened, name_of, PassedOn, place, places, JointTool, of_one, text_in, given_in, lacks, disorder_text}
+use Rattle.ptrun.proofs.Common.{disorder_status, together, Checks, IsStart, AreReady, IsWithin, blame, last_words, status_after, WentTo, Went, done_of, AgreeAt, NoneFailed, JointEnds, IsJointPass}
+use Rattle.ptrun.proofs.Common.{map, max, sum_by, append-nil, All-from_get_or, list_any_at, whole_lines, Agrees, Paste, IsReadable, ReadAll, RowsEnd, IsPastePass, of_rows}
 use Rattle.std.proofs.lemmas.List.Sums.{sum_by-cons}
 use Rattle.ptlines.specs.Text.{lines, longest_line}
 use Rattle.ptflow.specs.Pastes.{times, every, columns, rows, known_rows, sheet, paste, paste_decided, paste_size}
@@ -276,24 +276,27 @@ sole_of [] d one is = absurd (false≢true one)
 sole_of (o ∷ []) d one is = ap (λ (n : ℕ). n ∷ []) (sym is)
 sole_of (o ∷ u ∷ order) d one is = absurd (omega (arith, eqb-true (length (places (o ∷ u ∷ order))) 1 one))
 
-pub sole_there : (order : List Input) → (length (places order) == 1) ≡ true → 0 < length order
-sole_there [] one = absurd (false≢true one)
-sole_there (o ∷ order) one = omega arith
-
-pub sole_within : {places : List ℕ} {p : ℕ} (n : ℕ) → places ≡ p ∷ [] → All (λ q. q < n) places → p < n
-sole_within n only fits = (rw only at fits) 0 0 (omega arith)
-
-pub sole_open : {places : List ℕ} {p : ℕ} (old : List Reader) → places ≡ p ∷ [] → list_any (shut old) places ≡ false → (reader_at old p).refused ≡ false
-sole_open {p = p} old only opened = (neither (shut old p) false (rw only at opened)).0
-
 -- what an engine did with the reader of the one operand
-pub lone_went : {t : Tool} {places : List ℕ} {old : List Reader} {was is : Output} {before store : Slots} {p : ℕ} {r new : Reader} {result : Result (Unit {0}) FlowFault}
-    → AreReady (of_one t) places old was before → places ≡ p ∷ [] → r ≡ reader_at old p → IsSound r → IsPass t r new was is before store result
-    → IsJointPass (of_one t) places old (set old p new) was is before store (told_one p result)
-lone_went {t} {places} {old} {was} {is} {before} {store} {p} {r} {new} {result} ready only here sound e =
-    let open_here = sole_open old only ready.opened in
-    let calm = sound.unfailed (rw here open_here) (rw here (fresh_all old ready.fresh p open_here).fault) in
-    rw only (one_went t old was is before store p new result ready.writable (sole_within (length old) only ready.fits) (rw (sym here) calm) (rw here at e))
+module _ {j : JointTool} (order : List Input) {old : List Reader} {was : Output} {before : Slots} (ready : AreReady j (places order) old was before) (one : (length (places order) == 1) ≡ true) where
+  pub sole_there : 0 < length order
+  sole_there = omega (arith, eqb-true (length (places order)) 1 one, length-map order place)
+
+  module _ (d : Input) {p : ℕ} (is : p ≡ place (get_or order 0 d)) where
+    only : places order ≡ p ∷ []
+    only = sole_of order d one is
+
+    pub sole_within : p < length old
+    sole_within = (rw only at ready.fits) 0 0 (omega arith)
+
+    pub sole_open : (e : Reader) → (get_or old p e).refused ≡ false
+    sole_open e = rw (get_or_default old p e no_reader sole_within) (neither (shut old p) false (rw only at ready.opened)).0
+
+    pub lone_went : (e : Reader) {t : Tool} {is : Output} {store : Slots} {new : Reader} {result : Result (Unit {0}) FlowFault} → IsSound (get_or old p e)
+        → IsPass t (get_or old p e) new was is before store result → IsJointPass (of_one t) (places order) old (set old p new) was is before store (told_one p result)
+    lone_went e {t} {is} {store} {new} {result} sound pass =
+        let here = get_or_default old p e no_reader sole_within in
+        let calm = sound.unfailed (sole_open e) (rw here (fresh_all old ready.fresh p (rw here at (sole_open e))).fault) in
+        rw only (one_went t old was is before store p new result ready.writable sole_within (rw here at calm) (rw here at pass))
 
 -- ---- `paste` over its operands together: what its pass says of places, as what is said of inputs
 
