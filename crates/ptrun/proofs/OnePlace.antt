@@ -243,20 +243,7 @@ sends_behind was mid is pushed bytes wrote clean s = by_known was.taken refl
     by_known (Some known) is_known = record {
       sent = wrote.kept.front ++ s.sent;
       taken = rw (s.taken, wrote.kept.is) (append_known-append was.taken wrote.kept.front s.sent);
-      most = omega (
-        arith,
-        s.most,
-        wrote.staged,
-        length-append wrote.kept.front s.sent,
-        length-append pushed bytes,
-        ap known_length (sym (ap (λ (k : Option (List ℕ)). append_known (append_known k wrote.kept.front) mid.staged) is_known)
-            ∙ sym (ap (λ (k : Option (List ℕ)). append_known k mid.staged) wrote.kept.is) ∙ wrote.whole clean
-            ∙ ap (λ (k : Option (List ℕ)). append_known (append_known k was.staged) pushed) is_known),
-        length-append (known ++ wrote.kept.front) mid.staged,
-        length-append known wrote.kept.front,
-        length-append (known ++ was.staged) pushed,
-        length-append known was.staged,
-      );
+      most = grind (arith, s.most, wrote.staged, rw (wrote.kept.is, is_known) at (ap known_length (wrote.whole clean)), length-append);
     }
 
 -- ---- what was written in the end
@@ -277,17 +264,9 @@ module _ (bytes : List ℕ) (was is is' : Output) (pushed front rest : List ℕ)
     where
       by_known : (known : Option (List ℕ)) → was.taken ≡ known → length (drop (length front) bytes) ≤ 8192
       by_known None none = omega (arith, all_lengths, ap length (unknown none), length-drop (length front) bytes)
-      by_known (Some known) is_known = omega (
-        arith,
-        k.sends.most,
-        ap length empty,
-        length-drop (length front) bytes,
-        ap known_length (sym (ap (λ (o : Option (List ℕ)). append_known o front) is_known) ∙ sym taken ∙ kept.is
-            ∙ ap (λ (o : Option (List ℕ)). append_known o kept.front) (k.sends.taken ∙ ap (λ (o : Option (List ℕ)). append_known o k.sends.sent) is_known)),
-        length-append known front,
-        length-append (known ++ k.sends.sent) kept.front,
-        length-append known k.sends.sent,
-      )
+      by_known (Some known) is_known =
+          let all = rw (taken, k.sends.taken, is_known) at (ap known_length kept.is) in
+          grind (arith, k.sends.most, ap length empty, length-drop (length front) bytes, all, length-append)
 
   pub kept_up : (failed : Bool) → (failed ≡ false → rest ≡ []) → KeptUp bytes front failed
   kept_up failed whole =

@@ -52,16 +52,11 @@ reached_of was new pushed empty w = by_known was.taken refl
       split = split;
       taken = w.kept.is;
       whole = λ clean none.
-          let same : t ++ w.kept.front ≡ t ++ pushed = some_same (sym (after_is ∙ ap (λ (l : List ℕ). Some ((t ++ w.kept.front) ++ l)) none
-          ∙ ap (λ (l : List ℕ). Some l) (append-nil (t ++ w.kept.front))) ∙ w.whole clean ∙ before_is) in
-          let all : w.kept.front ≡ pushed = append_cancel_left t w.kept.front pushed same in
-          nil_from_length (new.staged ++ w.beginning.front) (omega (arith, ap length all, ap length split, length-append w.kept.front (new.staged ++ w.beginning.front)));
-      unknown = λ none. absurd (some_known (sym is ∙ none));
+          let same = ap length (some_same (sym after_is ∙ w.whole clean ∙ before_is)) in
+          nil_from_length (new.staged ++ w.beginning.front) (grind (arith, ap length none, same, ap length split, length-append));
+      unknown = λ none. cc;
     }
       where
-        some_known : Some t ≡ None → ⊥
-        some_known same = cc
-
         before_is : append_known (text was) pushed ≡ Some (t ++ pushed)
         before_is = rw (is, empty, append-nil t) refl
 
