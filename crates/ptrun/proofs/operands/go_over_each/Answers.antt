@@ -1,5 +1,5 @@
 -- Each turn passes one more operand. One that stops the pass stops the run there, and the others are left alone.
-use Rattle.ptrun.proofs.Common.{◌<◌, true, ◌+◌, length, drop, sym, ◌∙◌, arith, set-get_or, places, Standard}
+use Rattle.ptrun.proofs.Common.{◌<◌, ◌+◌, length, drop, sym, ◌∙◌, arith, set-get_or, places, Standard}
 use borrow.Author.Rules.{scaled_Fits}
 use Rattle.ptrun.proofs.operands.go_over_each.Goals as goal
 use Rattle.ptrun.proofs.Sources.{turn_of, places_end}

@@ -1,6 +1,6 @@
 -- Words that are refused are answered by their message alone. Otherwise the run is that of the command, and the
 -- headline is a reading of it in the world that the readers tell.
-use Rattle.ptrun.proofs.Common.{words_seen, meant}
+use Rattle.ptrun.proofs.Common.{words_seen}
 use Rattle.ptrun.proofs.running.run_with_store.Goals as goal
 use Rattle.ptrun.proofs.Runs.{asked_ok, asked_refused, operands_given, headline_asked, only_said}
 
