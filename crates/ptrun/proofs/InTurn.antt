@@ -1,17 +1,16 @@
 -- A tool that goes over its operands, one after another.
-use Rattle.ptrun.proofs.Common.{◌≡◌, ◌≢◌, ◌⊎◌, ⊎_elim, inl, inr, ℕ, ◌<◌, ◌≤◌, Bool, true, false, cond, List, [], ◌∷◌, ◌++◌, Option, Some, None, Result, Ok, Err, ◌+◌, length, take, map, set, max, refl}
-use Rattle.ptrun.proofs.Common.{sym, ◌∙◌, ap, subst, arith, append_assoc, length-append, length-set, flat_map, option_map, list_any, append-nil, take_all, map-append, get_or-set_same}
-use Rattle.ptrun.proofs.Common.{get_or-set_other, length-map, take-append_seam, take-length, flat_map-append, false≢true, Reader, IsSound, HasReadCause, Output, Wrote, Slots, total, SinkState}
-use Rattle.ptrun.proofs.Common.{wrote_trans, wrote_nothing, Given, nothing_left, Agrees, Begins, Came, Finished, Ends, IsPass, Tool, FlowFault, Read, Write, Memory, World, Received, at, is_unopened}
-use Rattle.ptrun.proofs.Common.{AllowsAt, Allows, is_in, found, founds, opened, sources, reader_at, no_reader, shut, CameAt, IsReceived, IsFresh, HasFailed, IsTooLong, Tells, unopened, not_opened}
-use Rattle.ptrun.proofs.Common.{name_of, KeepsUp, PassedOn, LastEarlier, decided_of, largest, up_to_open, each_out, each_bound, each_decided, one_by_one, Done, Whole, Unopened, Cause, blame}
-use Rattle.ptrun.proofs.Common.{last_words, status_after, IsWithin, Went}
-use Rattle.ptrun.proofs.KeepingUp.{all_earlier, last_earlier, sends_now, sends_behind}
+use Rattle.ptrun.proofs.Common.{cases_eq, cases_Bool, ◌≡◌, ◌≢◌, ◌⊎◌, ⊎_elim, inl, inr, ℕ, ◌<◌, ◌≤◌, Bool, true, false, cond, List, [], ◌∷◌, ◌++◌, Option, Some, None, Result, Ok, Err, ◌+◌, length}
+use Rattle.ptrun.proofs.Common.{take, map, set, max, refl, sym, ◌∙◌, ap, subst, arith, append_assoc, length-append, length-set, flat_map, option_map, list_any, append-nil, take_all, map-append}
+use Rattle.ptrun.proofs.Common.{get_or-set_same, get_or-set_other, length-map, take-append_seam, take-length, flat_map-append, false≢true, Reader, IsSound, HasReadCause, Output, Wrote, Slots, total}
+use Rattle.ptrun.proofs.Common.{SinkState, wrote_trans, wrote_nothing, Given, nothing_left, Agrees, Begins, Came, Finished, Ends, IsPass, Tool, FlowFault, Read, Write, Memory, World, Received, at}
+use Rattle.ptrun.proofs.Common.{is_unopened, AllowsAt, Allows, is_in, found, founds, opened, sources, reader_at, no_reader, shut, CameAt, IsReceived, IsFresh, HasFailed, IsTooLong, Tells, unopened}
+use Rattle.ptrun.proofs.Common.{not_opened, name_of, KeepsUp, PassedOn, LastEarlier, decided_of, largest, up_to_open, each_out, each_bound, each_decided, one_by_one, Done, Whole, Unopened, Cause}
+use Rattle.ptrun.proofs.Common.{blame, last_words, status_after, IsWithin, Went, get_or, get_or_default, All}
+use Rattle.ptrun.proofs.OnePlace.{all_earlier, last_earlier, sends_now, sends_behind, IsSpent, nothing_yet, done_with, received_of, received_at, nothing_read, never_long, not_long, opened_came}
+use Rattle.ptrun.proofs.OnePlace.{still_refused, came_trans, ended_gives_nothing, refused_same, none_of, agreed, agrees_before, agrees_whole, agrees_some, agrees_least, ended_at, nth_here}
 use Rattle.ptrun.proofs.Sayings.{tells_nothing}
-use Rattle.ptrun.proofs.Sources.{is_in-other, not_more, named_or_not, same_or_other, by_place, sources_opened, sources_refused, unopened_same}
-use Rattle.ptrun.proofs.Sources.{any_same, any_now, any_before, tells_more, largest-append, take_with, EndedAt, least, decided_founds}
-use Rattle.ptrun.proofs.OnePlace.{IsSpent, nothing_yet, done_with, received_of, received_at, nothing_read, never_long, not_long, opened_came, still_refused, came_trans, ended_gives_nothing}
-use Rattle.ptrun.proofs.OnePlace.{refused_same, none_of, agreed, agrees_before, agrees_whole, agrees_some, agrees_least, ended_at, nth_here}
+use Rattle.ptrun.proofs.Sources.{some_same, is_in-other, not_more, by_place, sources_opened, sources_refused, unopened_same, any_same, any_now, any_before, tells_more, largest-append, take_with}
+use Rattle.ptrun.proofs.Sources.{EndedAt, least, decided_founds, Decides, fresh_all}
 
 -- the operands that are done
 pub record Pass (word : List ℕ) (t : Tool) (names : List (List ℕ)) (old now : List Reader) (was is : Output) (told heard : SinkState) (before store : Slots)
@@ -32,13 +31,13 @@ pub record Pass (word : List ℕ) (t : Tool) (names : List (List ℕ)) (old now 
   pub empty : total store.lines ≡ 0
   pub peak : (w : World) → Allows gave w → store.peak ≤ max before.peak (each_bound t w done)
 
-module _ {word : List ℕ} {t : Tool} {names : List (List ℕ)} {old : List Reader} {was : Output} {told : SinkState} {before : Slots} (fresh : (q : ℕ) → IsFresh (reader_at old q)) where
+module _ {word : List ℕ} {t : Tool} {names : List (List ℕ)} {old : List Reader} {was : Output} {told : SinkState} {before : Slots} (fresh : All IsFresh old) where
   pub pass_nothing : was.faulted ≡ false → before.denied ≡ false → total before.lines ≡ 0 → Pass word t names old old was was told told before before [] Whole
   pass_nothing clean roomy empty = record {
     gave = map received_of old;
     same_length = refl;
     long = length-map old received_of;
-    came = nothing_read old fresh;
+    came = nothing_read old (fresh_all old fresh);
     spent = λ q seen. absurd (false≢true seen);
     unread = λ q unseen. (refl, received_at old q);
     pushed = [];
@@ -57,25 +56,18 @@ module _ {word : List ℕ} {t : Tool} {names : List (List ℕ)} {old : List Read
     was_refused q = sym (still_refused (reader_at old q) (reader_at now q) (at k.gave q) (k.came q))
 
     calm_now : (q : ℕ) → shut old q ≡ false → (reader_at old q).failed ≡ false → (reader_at now q).failed ≡ false
-    calm_now q opened calm = ⊎_elim (λ seen. (k.spent q seen opened).failed) (λ unseen. ap (λ (r : Reader). r.failed) (k.unread q unseen).0 ∙ calm) (named_or_not done q)
+    calm_now q opened calm = ⊎_elim (λ seen. (k.spent q seen opened).failed) (λ unseen. ap (λ (r : Reader). r.failed) (k.unread q unseen).0 ∙ calm) (cases_Bool (is_in done q))
 
     ended_now : (q : ℕ) → is_in done q ≡ true → EndedAt (at k.gave q)
     ended_now q seen = ended_at (reader_at old q) (reader_at now q) (at k.gave q) (k.came q) (k.spent q seen)
 
     asked_now : (q : ℕ) → shut old q ≡ false → ((reader_at now q).held ≡ []) × ((reader_at now q).fault ≡ None)
     asked_now q opened = ⊎_elim (λ seen. let s = k.spent q seen opened in (s.done.held, s.fault))
-        (λ unseen. let new = fresh q opened in rw (k.unread q unseen).0 (new.held, new.fault)) (named_or_not done q)
-
-    -- a reader that was opened can be asked
-    pub ready_here : (p : ℕ) {r : Reader} → r ≡ reader_at now p → r.refused ≡ false → IsSound r → ((reader_at now p).refused ≡ false) × (r.fault ≡ None) × ((reader_at now p).failed ≡ false)
-    ready_here p here opened sound =
-        let is_open = ap (λ (r : Reader). r.refused) (sym here) ∙ opened in
-        let fault = ap (λ (r : Reader). r.fault) here ∙ (asked_now p (was_refused p ∙ is_open)).1 in
-        (is_open, fault, rw here at (sound.unfailed opened fault))
+        (λ unseen. let new = fresh_all old fresh q opened in rw (k.unread q unseen).0 (new.held, new.fault)) (cases_Bool (is_in done q))
 
     -- ---- all operands are done
 
-    pub pass_all : ((g : Given) → g.ended ≡ true → t.decided g ≡ t.text g.bytes) → Went (one_by_one word t names done) old now was is told heard before store (Ok so_far)
+    pub pass_all : Decides t → Went (one_by_one word t names done) old now was is told heard before store (Ok so_far)
     pass_all law = record {
       received = k.gave;
       came = k.came;
@@ -114,8 +106,8 @@ module _ {word : List ℕ} {t : Tool} {names : List (List ℕ)} {old : List Read
         none q failed = false≢true (sym (calm_now q failed.0 failed.1) ∙ failed.2)
 
         short : (q : ℕ) → IsTooLong (at k.gave q) → ⊥
-        short q long = ⊎_elim (λ seen. not_long (reader_at old q) (reader_at now q) (at k.gave q) (fresh q) (k.came q) (λ opened. (k.spent q seen opened).short) long)
-            (λ unseen. never_long (reader_at old q) (rw (k.unread q unseen).1 at long)) (named_or_not done q)
+        short q long = ⊎_elim (λ seen. not_long (reader_at old q) (reader_at now q) (at k.gave q) (fresh_all old fresh q) (k.came q) (λ opened. (k.spent q seen opened).short) long)
+            (λ unseen. never_long (reader_at old q) (rw (k.unread q unseen).1 at long)) (cases_Bool (is_in done q))
 
         ends_with : (done : Done) (any closed : Bool) → done ≡ done_with any → any ≡ closed → (last_words word names (Ok done) ≡ []) × (status_after (Ok done) ≡ cond closed 1 0)
         ends_with done true closed is same = rw (is, sym same) (refl, refl)
@@ -134,41 +126,59 @@ module _ {word : List ℕ} {t : Tool} {names : List (List ℕ)} {old : List Read
         works : Begins (each_decided t k.gave done) k.pushed
         works = record { rest = []; is = sym all_decided ∙ sym (append-nil (each_decided t k.gave done)) }
 
-    -- ---- an operand that could not be opened
+    -- ---- the next operand
 
-    pub pass_unopened : {heard' : SinkState} (p : ℕ) → (reader_at now p).refused ≡ true → Tells heard heard' (not_opened word (name_of names p))
-        → Pass word t names old now was is told heard' before store (done ++ p ∷ []) Unopened
-    pass_unopened p refused says = record {
-      gave = k.gave;
-      same_length = k.same_length;
-      long = k.long;
-      came = k.came;
-      spent = λ q seen opened. ⊎_elim (λ same. absurd (false≢true (sym opened ∙ ap (shut old) (sym same) ∙ old_refused)))
-          (λ other. k.spent q (sym (is_in-other done p q other) ∙ seen) opened) (same_or_other p q);
-      unread = λ q unseen. k.unread q (not_more done p q unseen).1;
-      pushed = k.pushed;
-      wrote = k.wrote;
-      out = λ w agrees. rw (nothing w agrees) (k.out w agrees);
-      tells = tells_more word names (shut old) done p k.tells (rw old_refused says);
-      so_far_is = sym (ap done_with (any_now (shut old) done p old_refused));
-      clean = k.clean;
-      roomy = k.roomy;
-      empty = k.empty;
-      peak = λ w agrees. rw (nothing w agrees) (k.peak w agrees);
-    }
-      where
-        old_refused : (reader_at old p).refused ≡ true
-        old_refused = was_refused p ∙ refused
+    module _ {p : ℕ} (within : p < length old) (d : Reader) where
+      here : get_or now p d ≡ reader_at now p
+      here = get_or_default now p d no_reader (omega (arith, within, k.same_length))
 
-        nothing : (w : World) → Allows k.gave w → sources [] w (done ++ p ∷ []) ≡ sources [] w done
-        nothing w agrees =
-            let none = none_of (at w p) (sym (refused_same old now k.gave w k.came agrees p) ∙ old_refused) in
-            sources_refused [] w done p (rw none refl)
+      -- a reader that was opened can be asked
+      pub ready_here : (get_or now p d).refused ≡ false → (get_or now p d).fault ≡ None
+      ready_here opened = rw here (asked_now p (was_refused p ∙ ap (λ (r : Reader). r.refused) (sym here) ∙ opened)).1
+
+      -- it could not be opened
+      pub pass_unopened : {heard' : SinkState} → (get_or now p d).refused ≡ true → Tells heard heard' (not_opened word (name_of names p))
+          → Pass word t names old now was is told heard' before store (done ++ p ∷ []) Unopened
+      pass_unopened refused says = record {
+        gave = k.gave;
+        same_length = k.same_length;
+        long = k.long;
+        came = k.came;
+        spent = λ q seen opened. ⊎_elim (λ same. absurd (false≢true (sym opened ∙ ap (shut old) (sym same) ∙ old_refused)))
+            (λ other. k.spent q (sym (is_in-other done p q other) ∙ seen) opened) (cases_eq p q);
+        unread = λ q unseen. k.unread q (not_more done p q unseen).1;
+        pushed = k.pushed;
+        wrote = k.wrote;
+        out = λ w agrees. rw (nothing w agrees) (k.out w agrees);
+        tells = tells_more word names (shut old) done p k.tells (rw old_refused says);
+        so_far_is = sym (ap done_with (any_now (shut old) done p old_refused));
+        clean = k.clean;
+        roomy = k.roomy;
+        empty = k.empty;
+        peak = λ w agrees. rw (nothing w agrees) (k.peak w agrees);
+      }
+        where
+          old_refused : (reader_at old p).refused ≡ true
+          old_refused = was_refused p ∙ ap (λ (r : Reader). r.refused) (sym here) ∙ refused
+
+          nothing : (w : World) → Allows k.gave w → sources [] w (done ++ p ∷ []) ≡ sources [] w done
+          nothing w agrees =
+              let none = none_of (at w p) (sym (refused_same old now k.gave w k.came agrees p) ∙ old_refused) in
+              sources_refused [] w done p (rw none refl)
 
     -- ---- an operand that was opened
 
-    module _ {is' : Output} {store' : Slots} (p : ℕ) {new : Reader} {result : Result (Unit {0}) FlowFault} (within : p < length old) (is_open : (reader_at now p).refused ≡ false)
-        (calm : (reader_at now p).failed ≡ false) (e : IsPass t (reader_at now p) new is is' store store' result) where
+    module _ {is' : Output} {store' : Slots} {p : ℕ} {new : Reader} {result : Result (Unit {0}) FlowFault} (within : p < length old) (d : Reader) (open_here : (get_or now p d).refused ≡ false)
+        (sound : IsSound (get_or now p d)) (pass : IsPass t (get_or now p d) new is is' store store' result) where
+      e : IsPass t (reader_at now p) new is is' store store' result
+      e = rw (here within d) at pass
+
+      is_open : (reader_at now p).refused ≡ false
+      is_open = rw (here within d) at open_here
+
+      calm : (reader_at now p).failed ≡ false
+      calm = rw (here within d) at (sound.unfailed open_here (ready_here within d open_here))
+
       old_open : shut old p ≡ false
       old_open = was_refused p ∙ is_open
 
@@ -217,10 +227,7 @@ module _ {word : List ℕ} {t : Tool} {names : List (List ℕ)} {old : List Read
           let s = k.spent p seen old_open in
           let none = still (y.2.ended ∙ s.done.ended) in
           inl (seen, (λ i. record { bytes = none.0 i; ended = none.1 i }), s))
-          (λ unseen. inr (unseen, some_same (sym y.1 ∙ (k.unread p unseen).1 ∙ ap (λ (b : Bool). cond b None (Some nothing_yet)) old_open))) (named_or_not done p)
-        where
-          some_same : {a b : Given} → Some a ≡ Some b → a ≡ b
-          some_same same = cc
+          (λ unseen. inr (unseen, some_same (sym y.1 ∙ (k.unread p unseen).1 ∙ ap (λ (b : Bool). cond b None (Some nothing_yet)) old_open))) (cases_Bool (is_in done p))
 
       unseen : HasReadCause (reader_at now p) new → is_in done p ≡ false
       unseen cause = ⊎_elim
@@ -276,7 +283,7 @@ module _ {word : List ℕ} {t : Tool} {names : List (List ℕ)} {old : List Read
         long = length-set k.gave p (Some (given_now y.0)) ∙ k.long;
         came = received';
         spent = λ q seen opened. ⊎_elim (λ same. subst (λ (n : ℕ). IsSpent (reader_at now' n)) same (rw reader_here spent))
-            (λ other. rw (reader_other q other) (k.spent q (sym (is_in-other done p q other) ∙ seen) opened)) (same_or_other p q);
+            (λ other. rw (reader_other q other) (k.spent q (sym (is_in-other done p q other) ∙ seen) opened)) (cases_eq p q);
         unread = λ q unseen. let other = not_more done p q unseen in let was = k.unread q other.1 in (reader_other q other.0 ∙ was.0, gave_other q other.0 ∙ was.1);
         pushed = k.pushed ++ e.pushed;
         wrote = wrote_here;
@@ -305,7 +312,7 @@ module _ {word : List ℕ} {t : Tool} {names : List (List ℕ)} {old : List Read
         nth_here done more p,
         rw (take-append_seam done (p ∷ more)) (unseen r.cause),
         ⊎_elim (λ f. inl (old_open, ap (λ (r : Reader). r.failed) (sym (k.unread p (unseen r.cause)).0) ∙ calm, ap (λ (n : Reader). n.failed) reader_here ∙ f.0))
-            (λ l. inr (rw gave_here (let first = fresh p old_open in omega (arith, l.0, came_here.count, ap length first.held, first.pulled)))) r.cause,
+            (λ l. inr (rw gave_here (let first = fresh_all old fresh p old_open in omega (arith, l.0, came_here.count, ap length first.held, first.pulled)))) r.cause,
         r.clean,
         r.denied,
       )
@@ -322,7 +329,7 @@ module _ {word : List ℕ} {t : Tool} {names : List (List ℕ)} {old : List Read
           (λ seen. rw gave_here (⊎_elim (λ s. ap (λ (g : Given). g.ended) s.1) (λ u. absurd (false≢true (sym u.0 ∙ seen))) turn))
           (λ q differs seen. rw (gave_other q differs) (ended_now q seen))
 
-      module _ (law : (g : Given) → g.ended ≡ true → t.decided g ≡ t.text g.bytes) where
+      module _ (law : Decides t) where
         -- the operands that are done decided all of what they give
         decided_all : (came : List Given) → flat_map t.decided (up_to_open (sources nothing_left gave' done ++ came)) ≡ k.pushed ++ flat_map t.decided (up_to_open came)
         decided_all came = decided_founds t law gave' [] done came ended_before
@@ -402,7 +409,7 @@ module _ {word : List ℕ} {t : Tool} {names : List (List ℕ)} {old : List Read
 
             place_of : (q : ℕ) → HasFailed old now' q → p ≡ q
             place_of q failed = ⊎_elim (λ same. same)
-                (λ other. absurd (false≢true (sym (calm_now q failed.0 failed.1) ∙ ap (λ (r : Reader). r.failed) (sym (reader_other q other)) ∙ failed.2))) (same_or_other p q)
+                (λ other. absurd (false≢true (sym (calm_now q failed.0 failed.1) ∙ ap (λ (r : Reader). r.failed) (sym (reader_other q other)) ∙ failed.2))) (cases_eq p q)
 
             blamed : (q : ℕ) → HasFailed old now' q → new.failed ≡ true
             blamed q failed = ap (λ (r : Reader). r.failed) (sym reader_here) ∙ ap (λ (n : ℕ). (reader_at now' n).failed) (place_of q failed) ∙ failed.2

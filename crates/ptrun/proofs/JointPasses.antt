@@ -2,17 +2,22 @@
 --
 -- Where one could not be opened, nothing is to be done. Else what the tool did is the run but its last words, and a
 -- tool with one input did what its one pass did.
-use Rattle.ptrun.proofs.Common.{◌≡◌, ◌⊎◌, ⊎_elim, inl, inr, ℕ, zero, suc, ◌+◌, ◌<◌, ◌≤◌, ◌^◌, ◌||◌, ◌==◌, Bool, true, false, cond, List, [], ◌∷◌, ◌++◌, Option, Some, None, Result, Ok, Err, length}
-use Rattle.ptrun.proofs.Common.{take, drop, get_or, set, refl, sym, ◌∙◌, ap, subst, arith, take-append-drop, All, slice_get, list_any, get_or-set_same, get_or-set_other, All-nil, All-cons}
-use Rattle.ptrun.proofs.Common.{list_any-append, false≢true, eqb-true, eqb_tells, Reader, IsSound, Output, Slots, SinkState, Given, Begins, Came, Before, Ends, IsPass, put_at, Tool, FlowFault, Read}
-use Rattle.ptrun.proofs.Common.{Write, Memory, Input, Done, Whole, World, Received, at, is_unopened, Allows, is_in, reader_at, no_reader, shut, IsReceived, IsFresh, HasFailed, IsTooLong, unopened}
-use Rattle.ptrun.proofs.Common.{Tells, not_opened, name_of, PassedOn, place, places, JointTool, of_one, text_in, given_in, lacks, disorder_text, disorder_status, together, Checks, IsStart, AreReady}
-use Rattle.ptrun.proofs.Common.{IsWithin, blame, last_words, status_after, WentTo, Went, done_of, AgreeAt, NoneFailed, JointEnds, IsJointPass}
-use Rattle.ptrun.proofs.KeepingUp.{at_set, opened_set, passed_on}
+use Rattle.ptrun.proofs.Common.{get_or_default, no_reader, length-map, cases_eq, cases_Bool, ◌≡◌, ◌⊎◌, ⊎_elim, inl, inr, ℕ, zero, suc, ◌+◌, ◌<◌, ◌≤◌, ◌^◌, ◌||◌, ◌==◌, Bool, true, false, cond, List}
+use Rattle.ptrun.proofs.Common.{[], ◌∷◌, ◌++◌, Option, Some, None, Result, Ok, Err, length, take, drop, get_or, set, refl, sym, ◌∙◌, ap, subst, arith, take-append-drop, All, slice_get, list_any}
+use Rattle.ptrun.proofs.Common.{get_or-set_same, get_or-set_other, All-nil, All-cons, list_any-append, false≢true, eqb-true, eqb_tells, Reader, IsSound, Output, Slots, SinkState, Given, Begins, Came}
+use Rattle.ptrun.proofs.Common.{Before, Ends, IsPass, put_at, Tool, FlowFault, Read, Write, Memory, Input, Done, Whole, World, Received, at, is_unopened, Allows, is_in, reader_at, shut, IsReceived}
+use Rattle.ptrun.proofs.Common.{IsFresh, HasFailed, IsTooLong, unopened, Tells, not_opened, name_of, PassedOn, place, places, JointTool, of_one, text_in, given_in, lacks, disorder_text}
+use Rattle.ptrun.proofs.Common.{disorder_status, together, Checks, IsStart, AreReady, IsWithin, blame, last_words, status_after, WentTo, Went, done_of, AgreeAt, NoneFailed, JointEnds, IsJointPass}
+use Rattle.ptrun.proofs.Common.{map, max, sum_by, append-nil, All-from_get_or, list_any_at, whole_lines, Agrees, Paste, IsReadable, ReadAll, RowsEnd, IsPastePass, of_rows}
+use Rattle.std.proofs.lemmas.List.Sums.{sum_by-cons}
+use Rattle.ptlines.specs.Text.{lines, longest_line}
+use Rattle.ptflow.specs.Pastes.{times, every, columns, rows, known_rows, sheet, paste, paste_decided, paste_size}
+use Rattle.ptflow.proofs.OfPaste.Grids.{each_same, times_below}
+use Rattle.ptflow.proofs.OfPaste.Pastings.{named_at}
+use Rattle.ptflow.specs.PastePasses as pass
+use Rattle.ptrun.proofs.OnePlace.{at_set, opened_set, passed_on, nothing_yet, received_of, came_unread, never_long, not_long, agreed, agrees_whole, refused_same, refused_received}
 use Rattle.ptrun.proofs.Sayings.{tells_nothing}
-use Rattle.ptrun.proofs.Sources.{any_same, is_in-same, same_or_other, by_place, neither, named_or_not, each_named, none_passes, put_here, put_other}
-use Rattle.ptrun.proofs.Order.{fresh_all}
-use Rattle.ptrun.proofs.OnePlace.{nothing_yet, received_of, came_unread, never_long, not_long, agreed, agrees_whole, refused_same, refused_received}
+use Rattle.ptrun.proofs.Sources.{some_same, any_same, is_in-same, by_place, neither, each_named, none_passes, put_here, put_other, fresh_all, same_here}
 
 -- ---- an operand could not be opened
 
@@ -95,7 +100,7 @@ module _ (word : List ℕ) {t : JointTool} (names : List (List ℕ)) {places : L
   came : IsReceived old new received
   came q = ⊎_elim
       (λ named. rw (at_named q named) (open_at q named, k.came q named))
-      (λ other. rw (k.untouched q other, at_other q other) (came_unread (reader_at old q) (fresh q))) (named_or_not places q)
+      (λ other. rw (k.untouched q other, at_other q other) (came_unread (reader_at old q) (fresh q))) (cases_Bool (is_in places q))
 
   complete : (w : World) → Allows received w → lacks places w ≡ false
   complete w agrees = sym (any_same (shut old) (is_unopened w) places (refused_same old new received w came agrees)) ∙ start.complete
@@ -121,7 +126,7 @@ module _ (word : List ℕ) {t : JointTool} (names : List (List ℕ)) {places : L
   -- ---- how it ended
 
   named_failed : (q : ℕ) → HasFailed old new q → is_in places q ≡ true
-  named_failed q failed = ⊎_elim (λ named. named) (λ other. absurd (false≢true (sym failed.1 ∙ sym (ap (λ (r : Reader). r.failed) (k.untouched q other)) ∙ failed.2))) (named_or_not places q)
+  named_failed q failed = ⊎_elim (λ named. named) (λ other. absurd (false≢true (sym failed.1 ∙ sym (ap (λ (r : Reader). r.failed) (k.untouched q other)) ∙ failed.2))) (cases_Bool (is_in places q))
 
   none_failed : NoneFailed places old new → (q : ℕ) → HasFailed old new q → ⊥
   none_failed none q failed = false≢true (sym failed.1 ∙ sym (none q (named_failed q failed)) ∙ failed.2)
@@ -129,7 +134,7 @@ module _ (word : List ℕ) {t : JointTool} (names : List (List ℕ)) {places : L
   none_long : ((q : ℕ) → is_in places q ≡ true → (reader_at new q).pulled < 2 ^ 63) → (q : ℕ) → IsTooLong (at received q) → ⊥
   none_long short q long = ⊎_elim (λ named. not_long (reader_at old q) (reader_at new q) (at received q) (fresh q) (came q) (λ _. short q named) long)
       (λ other. never_long (reader_at old q) (rw (at_other q other) at long))
-      (named_or_not places q)
+      (cases_Bool (is_in places q))
 
   record Ending (r : Result Done FlowFault) : Type 0 where
     behind : ℕ
@@ -166,7 +171,7 @@ module _ (word : List ℕ) {t : JointTool} (names : List (List ℕ)) {places : L
         ends = (f.2, f.3, cause, e.written, e.roomy);
         place = each_named (λ q. q < length old) places start.given.fits p e.named;
         told_read = λ q failed clean. ⊎_elim (λ same. ap (λ (n : ℕ). Err (Read n)) same)
-            (λ other. absurd (false≢true (sym failed.1 ∙ sym (e.others q (named_failed q failed) other) ∙ failed.2))) (same_or_other p q);
+            (λ other. absurd (false≢true (sym failed.1 ∙ sym (e.others q (named_failed q failed) other) ∙ failed.2))) (cases_eq p q);
       }
   ending (Err Write) e = record { behind = 0; within = omega arith; ends = e; place = tt; told_read = λ q failed clean. absurd (false≢true (sym clean ∙ e)) }
   ending (Err Memory) e = record { behind = 0; within = omega arith; ends = (e.0, e.1); place = tt; told_read = λ q failed clean. absurd (none_failed e.2 q failed) }
@@ -195,9 +200,6 @@ module _ (word : List ℕ) {t : JointTool} (names : List (List ℕ)) {places : L
       none_before : (test : ℕ → Bool) (n : ℕ) → list_any test places ≡ false → list_any test (take n places) ≡ false
       none_before test n none = (neither (list_any test (take n places)) (list_any test (drop n places))
           (sym (list_any-append test (take n places) (drop n places)) ∙ ap (list_any test) (take-append-drop n places) ∙ none)).0
-
-      some_same : {a b : Given} → Some a ≡ Some b → a ≡ b
-      some_same same = cc
 
       keeps_at : (q : ℕ) (g : Given) → is_in places q ≡ true → at received q ≡ Some g → k.given q ≡ g
           → (cut : Before g) × PassedOn ((together word t names places).decided (set received q (Some cut.earlier))) was is k.pushed
@@ -274,21 +276,148 @@ sole_of [] d one is = absurd (false≢true one)
 sole_of (o ∷ []) d one is = ap (λ (n : ℕ). n ∷ []) (sym is)
 sole_of (o ∷ u ∷ order) d one is = absurd (omega (arith, eqb-true (length (places (o ∷ u ∷ order))) 1 one))
 
-pub sole_there : (order : List Input) → (length (places order) == 1) ≡ true → 0 < length order
-sole_there [] one = absurd (false≢true one)
-sole_there (o ∷ order) one = omega arith
-
-pub sole_within : {places : List ℕ} {p : ℕ} (n : ℕ) → places ≡ p ∷ [] → All (λ q. q < n) places → p < n
-sole_within n only fits = (rw only at fits) 0 0 (omega arith)
-
-pub sole_open : {places : List ℕ} {p : ℕ} (old : List Reader) → places ≡ p ∷ [] → list_any (shut old) places ≡ false → (reader_at old p).refused ≡ false
-sole_open {p = p} old only opened = (neither (shut old p) false (rw only at opened)).0
-
 -- what an engine did with the reader of the one operand
-pub lone_went : {t : Tool} {places : List ℕ} {old : List Reader} {was is : Output} {before store : Slots} {p : ℕ} {r new : Reader} {result : Result (Unit {0}) FlowFault}
-    → AreReady (of_one t) places old was before → places ≡ p ∷ [] → r ≡ reader_at old p → IsSound r → IsPass t r new was is before store result
-    → IsJointPass (of_one t) places old (set old p new) was is before store (told_one p result)
-lone_went {t} {places} {old} {was} {is} {before} {store} {p} {r} {new} {result} ready only here sound e =
-    let open_here = sole_open old only ready.opened in
-    let calm = sound.unfailed (rw here open_here) (rw here (fresh_all old ready.fresh p open_here).fault) in
-    rw only (one_went t old was is before store p new result ready.writable (sole_within (length old) only ready.fits) (rw (sym here) calm) (rw here at e))
+module _ {j : JointTool} (order : List Input) {old : List Reader} {was : Output} {before : Slots} (ready : AreReady j (places order) old was before) (one : (length (places order) == 1) ≡ true) where
+  pub sole_there : 0 < length order
+  sole_there = omega (arith, eqb-true (length (places order)) 1 one, length-map order place)
+
+  module _ (d : Input) {p : ℕ} (is : p ≡ place (get_or order 0 d)) where
+    only : places order ≡ p ∷ []
+    only = sole_of order d one is
+
+    pub sole_within : p < length old
+    sole_within = (rw only at ready.fits) 0 0 (omega arith)
+
+    pub sole_open : (e : Reader) → (get_or old p e).refused ≡ false
+    sole_open e = rw (get_or_default old p e no_reader sole_within) (neither (shut old p) false (rw only at ready.opened)).0
+
+    pub lone_went : (e : Reader) {t : Tool} {is : Output} {store : Slots} {new : Reader} {result : Result (Unit {0}) FlowFault} → IsSound (get_or old p e)
+        → IsPass t (get_or old p e) new was is before store result → IsJointPass (of_one t) (places order) old (set old p new) was is before store (told_one p result)
+    lone_went e {t} {is} {store} {new} {result} sound pass =
+        let here = get_or_default old p e no_reader sole_within in
+        let calm = sound.unfailed (sole_open e) (rw here (fresh_all old ready.fresh p (rw here at (sole_open e))).fault) in
+        rw only (one_went t old was is before store p new result ready.writable sole_within (rw here at calm) (rw here at pass))
+
+-- ---- `paste` over its operands together: what its pass says of places, as what is said of inputs
+
+-- ---- what is said of the places that cells name
+
+module _ (cells : List ℕ) where
+  cell_in : (c : ℕ) → c < length cells → is_in cells (get_or cells c 0) ≡ true
+  cell_in c low = list_any_at (λ q. q == get_or cells c 0) cells c 0 low (same_here (get_or cells c 0))
+
+  named_is_in : (p : ℕ) → 0 < times cells p → is_in cells p ≡ true
+  named_is_in p some = let n = named_at cells p some in subst (λ (q : ℕ). is_in cells q ≡ true) n.2 (cell_in n.0 n.1)
+
+  in_named : (p : ℕ) → is_in cells p ≡ true → 0 < times cells p
+  in_named = each_named (λ p. 0 < times cells p) cells (All-from_get_or (λ (p : ℕ). 0 < times cells p) cells 0 (λ c low. omega (arith, times_below cells c low)))
+
+  not_in : (p : ℕ) → is_in cells p ≡ false → times cells p ≡ 0
+  not_in p none = by_count (times cells p) refl
+    where
+      by_count : (n : ℕ) → times cells p ≡ n → n ≡ 0
+      by_count zero is = refl
+      by_count (suc n) is = absurd (false≢true (sym none ∙ named_is_in p (omega (arith, is))))
+
+  all_cells : {X : Type 0} (f g : ℕ → X) → ((p : ℕ) → is_in cells p ≡ true → f p ≡ g p) → All (λ p. f p ≡ g p) cells
+  all_cells f g same = All-from_get_or (λ (p : ℕ). f p ≡ g p) cells 0 (λ c low. same (get_or cells c 0) (cell_in c low))
+
+-- of each cell the same
+columns_same : (cells : List ℕ) (f g : ℕ → List (List ℕ)) → ((p : ℕ) → is_in cells p ≡ true → f p ≡ g p) → columns cells f ≡ columns cells g
+columns_same cells f g same =
+    each_same (λ c p. every (times cells p) (times (take c cells) p) (f p)) (λ c p. every (times cells p) (times (take c cells) p) (g p)) cells
+    (λ c low. let p = get_or cells c 0 in ap (every (times cells p) (times (take c cells) p)) (same p (cell_in cells c low)))
+
+map_same : {X : Type 0} (f g : ℕ → X) (cells : List ℕ) → All (λ p. f p ≡ g p) cells → map f cells ≡ map g cells
+map_same f g [] same = refl
+map_same f g (c ∷ cells) same = λ i. same 0 c (omega arith) i ∷ map_same f g cells (λ k d low. same (suc k) d (omega (arith, low))) i
+
+sum_same : (f g : ℕ → ℕ) (cells : List ℕ) → All (λ p. f p ≡ g p) cells → sum_by f cells ≡ sum_by g cells
+sum_same f g [] same = refl
+sum_same f g (c ∷ cells) same = sum_by-cons f c cells ∙ (λ i. same 0 c (omega arith) i + sum_same f g cells (λ k d low. same (suc k) d (omega (arith, low))) i) ∙ sym (sum_by-cons g c cells)
+
+module _ (job : Paste) (cells : List ℕ) where
+  paste_same : (f g : ℕ → List ℕ) → ((p : ℕ) → is_in cells p ≡ true → f p ≡ g p) → paste job cells f ≡ paste job cells g
+  paste_same f g same = ap (λ (cols : List (List (List ℕ))). sheet job (rows cols))
+      (columns_same cells (λ p. lines job.end (f p)) (λ p. lines job.end (g p)) (λ p named. ap (lines job.end) (same p named)))
+
+  decided_same : (f g : ℕ → Given) → ((p : ℕ) → is_in cells p ≡ true → f p ≡ g p) → paste_decided job cells f ≡ paste_decided job cells g
+  decided_same f g same = λ i.
+      sheet job (known_rows
+      (columns_same cells (λ p. whole_lines job.end (f p)) (λ p. whole_lines job.end (g p)) (λ p named. ap (whole_lines job.end) (same p named)) i)
+      (map_same (λ p. (f p).ended) (λ p. (g p).ended) cells (all_cells cells _ _ (λ p named. ap (λ (h : Given). h.ended) (same p named))) i))
+
+  size_same : (f g : ℕ → List ℕ) → ((p : ℕ) → is_in cells p ≡ true → f p ≡ g p) → paste_size job cells f ≡ paste_size job cells g
+  size_same f g same = sum_same (λ p. longest_line job.end (f p)) (λ p. longest_line job.end (g p)) cells (all_cells cells _ _ (λ p named. ap (longest_line job.end) (same p named)))
+
+-- ---- a pass over operands that were all opened
+
+abbrev pub told_rows : Result (Unit {0}) FlowFault → Result Done FlowFault
+told_rows (Ok u) = Ok Whole
+told_rows (Err fault) = Err fault
+
+module _ (job : Paste) {places : List ℕ} {old : List Reader} {was : Output} {before : Slots} (ready : AreReady (of_rows job) places old was before) where
+  pub cells_ready : pass.AreReady places old before
+  cells_ready = record {
+    within = ready.fits;
+    readable = All-from_get_or (λ (p : ℕ). IsReadable (reader_at old p)) places 0 (λ i low.
+        let p = get_or places i 0 in
+        let open_here = none_passes (shut old) places ready.opened p (cell_in places i low) in
+        record { opened = open_here; readable = (fresh_all old ready.fresh p open_here).fault });
+    roomy = ready.roomy;
+    empty = ready.empty;
+  }
+
+  module _ {new : List Reader} {is : Output} {store : Slots} {result : Result (Unit {0}) FlowFault} (k : IsPastePass job places old new was is before store result) where
+    -- the texts at the places, and elsewhere what came
+    abbrev filled : (ℕ → List ℕ) → ℕ → List ℕ
+    filled texts q = cond (is_in places q) (texts q) (k.given q).bytes
+
+    filled_is : (texts : ℕ → List ℕ) (q : ℕ) → is_in places q ≡ true → filled texts q ≡ texts q
+    filled_is texts q named = ap (λ (b : Bool). cond b (texts q) (k.given q).bytes) named
+
+    agree_at : (texts : ℕ → List ℕ) → AgreeAt places k.given texts → (q : ℕ) → Agrees (k.given q) (filled texts q)
+    agree_at texts agrees q = ⊎_elim (λ named. rw named (agrees q named))
+        (λ other. rw other (record { rest = []; is = sym (append-nil (k.given q).bytes); whole = λ _. refl })) (cases_Bool (is_in places q))
+
+    ends : (r : Result (Unit {0}) FlowFault) → RowsEnd places old new is store r → (r ≡ Ok tt → k.pushed ≡ paste job places (λ q. (k.given q).bytes))
+        → JointEnds (of_rows job) places k.given old new k.pushed is.faulted store.denied (told_rows r)
+    ends (Ok u) e whole = record {
+      out = λ texts agrees. whole refl ∙ paste_same job places (λ q. (k.given q).bytes) texts
+          (λ q named. sym (agrees_whole (k.given q) (texts q) ((k.came q).ended ∙ (read q named).done.ended) (agrees q named)));
+      is_done = λ texts agrees. refl;
+      place = tt;
+      unfailed = λ q named. e.failed q;
+      short = λ q named. (read q named).short;
+      written = e.clean;
+      roomy = e.denied;
+    }
+      where
+        read : (q : ℕ) → is_in places q ≡ true → ReadAll (reader_at old q) (reader_at new q)
+        read = each_named (λ (q : ℕ). ReadAll (reader_at old q) (reader_at new q)) places e.read
+    ends (Err (Read p)) e whole = record {
+      named = named_is_in places p e.named;
+      calm = e.unfailed;
+      cause = e.cause;
+      others = λ q named differs. e.others q (λ same. differs (sym same));
+      written = e.clean;
+      roomy = e.denied;
+    }
+    ends (Err Write) e whole = e.faulted
+    ends (Err Memory) e whole = (e.denied, e.clean, λ q named. e.failed q)
+
+    pub rows_went : IsJointPass (of_rows job) places old new was is before store (told_rows result)
+    rows_went = record {
+      given = k.given;
+      came = λ q named. k.came q;
+      untouched = λ q other. k.untouched q (not_in places q other);
+      pushed = k.pushed;
+      wrote = k.wrote;
+      ends = ends result k.ends k.whole;
+      true_so_far = λ texts agrees. subst (λ (l : List ℕ). Begins k.pushed l) (paste_same job places (filled texts) texts (filled_is texts)) (k.true_so_far (filled texts) (agree_at texts agrees));
+      sure = λ q named. k.sure q (in_named places q named);
+      keeps_up = λ q named. passed_on (λ g. paste_decided job places (put_at q g k.given)) (λ g. paste_decided job places (put_at q g k.given)) (λ g. refl)
+          (k.keeps_up q (in_named places q named) ready.writable);
+      same = decided_same job places;
+      peak = λ texts agrees. subst (λ (n : ℕ). store.peak ≤ max before.peak n) (size_same job places (filled texts) texts (filled_is texts)) (k.peak (filled texts) (agree_at texts agrees));
+    }

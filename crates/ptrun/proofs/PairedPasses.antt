@@ -1,20 +1,20 @@
--- A tool with two inputs did what its one merge did.
-use Rattle.ptrun.proofs.Common.{◌≡◌, ◌≢◌, ℕ, ◌<◌, ◌^◌, ◌||◌, ◌&&◌, ◌==◌, Bool, true, false, List, [], ◌∷◌, Option, Some, None, Result, Ok, Err, length, get_or, refl, sym, ◌∙◌, ap, subst, arith}
-use Rattle.ptrun.proofs.Common.{option_map, not, list_any, All-nil, All-cons, false≢true, nat_tests, Reader, Output, Slots, Given, Begins, Came, Before, put_at, First, Second, disorder, lines_of}
-use Rattle.ptrun.proofs.Common.{decided, Input, Disorder, is_in, reader_at, shut, IsNew, PassedOn, place, of_two, operand, of_operands, AreReady, AreSound, told_at, done_of, AgreeAt, NoneFailed}
-use Rattle.ptrun.proofs.Common.{JointEnds, IsJointPass}
+-- A tool with two inputs did what its one merge did, with two readers of a list that was split between them.
+use Rattle.ptrun.proofs.Common.{length-append, length-map, ◌≡◌, ◌≢◌, ℕ, ◌<◌, ◌^◌, ◌||◌, ◌&&◌, ◌==◌, Bool, true, false, List, [], ◌∷◌, Option, Some, None, Result, Ok, Err, length, get_or, refl, sym}
+use Rattle.ptrun.proofs.Common.{◌∙◌, ap, subst, arith, option_map, not, list_any, All-nil, All-cons, false≢true, nat_tests, Reader, Output, Slots, Given, Begins, Came, Before, put_at, First, Second}
+use Rattle.ptrun.proofs.Common.{disorder, lines_of, decided, Input, Disorder, is_in, reader_at, shut, IsNew, PassedOn, place, of_two, operand, of_operands, AreReady, AreSound, told_at, done_of}
+use Rattle.ptrun.proofs.Common.{AgreeAt, NoneFailed, JointEnds, IsJointPass, ◌-◌, ◌++◌, set, length-set, set-append_left, set-append_right, get_or_append_left, get_or-append_right, get_or_default}
+use Rattle.ptrun.proofs.Common.{get_or-set_same, get_or-set_other, no_reader}
 use Rattle.ptmerge.specs.declared.faults.MergeFault.{MergeFault}
-use Rattle.ptmerge.specs.declared.faults.MergeFault.TheVariants as faults
 use Rattle.ptmerge.specs.declared.order.Side.{Side}
 use Rattle.ptmerge.specs.Keyed.{Disorder as Disordered}
-use Rattle.ptmerge.specs.Keyed as keyed
 use Rattle.ptmerge.specs.Merges.{IsReady, IsMerge, Ends, Agree, IsWhole, Names, State, seen}
-use Rattle.ptmerge.specs.Merges as merges
 use Rattle.ptmerge.specs.Sides.{both, put}
+use Rattle.ptmerge.specs.declared.faults.MergeFault.TheVariants as faults
+use Rattle.ptmerge.specs.Keyed as keyed
+use Rattle.ptmerge.specs.Merges as merges
 use Rattle.ptrun.specs.Operands.{places as places_of}
-use Rattle.ptrun.proofs.KeepingUp.{passed_on}
-use Rattle.ptrun.proofs.Sources.{same_here, is_in-same, neither, each_named, put_here, put_other}
-use Rattle.ptrun.proofs.Order.{fresh_all}
+use Rattle.ptrun.proofs.OnePlace.{passed_on}
+use Rattle.ptrun.proofs.Sources.{same_here, is_in-same, neither, each_named, put_here, put_other, fresh_all}
 
 -- ---- two operands
 
@@ -22,6 +22,10 @@ use Rattle.ptrun.proofs.Order.{fresh_all}
 pub record TwoPlaces (places : List ℕ) (p q : ℕ) : Type 0 where
   pub are : places ≡ p ∷ q ∷ []
   pub apart : p ≡ q → ⊥
+
+stands : (p q : ℕ) (side : Side) → both p q side ≡ operand (p ∷ q ∷ []) side
+stands p q First = refl
+stands p q Second = refl
 
 pub two_of : (order : List Input) (d e : Input) {p q : ℕ} → ((length (places_of order) == 2) && not (operand (places_of order) First == operand (places_of order) Second)) ≡ true
     → p ≡ place (get_or order 0 d) → q ≡ place (get_or order 1 e) → TwoPlaces (places_of order) p q
@@ -31,9 +35,7 @@ two_of (a ∷ b ∷ []) d e taken is_p is_q = record { are = λ i. sym is_p i �
 two_of (a ∷ b ∷ c ∷ more) d e taken is_p is_q = absurd (grind (arith, nat_tests, taken))
 
 pub two_there : (order : List Input) → ((length (places_of order) == 2) && not (operand (places_of order) First == operand (places_of order) Second)) ≡ true → 1 < length order
-two_there [] taken = absurd (false≢true taken)
-two_there (a ∷ []) taken = absurd (false≢true taken)
-two_there (a ∷ b ∷ order) taken = omega arith
+two_there order taken = grind (arith, nat_tests, taken, length-map order place)
 
 module _ (t : keyed.Tool) {old : List Reader} {was : Output} {before : Slots} {p q : ℕ} (apart : p ≡ q → ⊥) (ready : AreReady (of_two t) (p ∷ q ∷ []) old was before) where
   abbrev two : List ℕ
@@ -86,11 +88,7 @@ module _ (t : keyed.Tool) {old : List Reader} {was : Output} {before : Slots} {p
     given_at Second = put_other p q (e.given First) (λ k. e.given Second) apart
 
     given_is : of_operands two given ≡ e.given
-    given_is = λ i side. at_side side i
-      where
-        at_side : (side : Side) → given (operand two side) ≡ e.given side
-        at_side First = given_at First
-        at_side Second = given_at Second
+    given_is = λ i side. (ap given (sym (stands p q side)) ∙ given_at side) i
 
     agree : (texts : ℕ → List ℕ) → AgreeAt two given texts → Agree e.given (of_operands two texts)
     agree texts agrees First = rw (given_at First) at (agrees p (named First))
@@ -113,11 +111,7 @@ module _ (t : keyed.Tool) {old : List Reader} {was : Output} {before : Slots} {p
 
     is_named : (d : Option Disordered) (side : Side) (line : ℕ) → Names d side line → Disorder (both p q side) line ≡ done_of (option_map (λ d. (operand two d.file, d.fall.line)) d)
     is_named None side line k = absurd k
-    is_named (Some d) side line k = λ i. Disorder (at_side side d.file (sym k.0) i) (sym k.1 i)
-      where
-        at_side : (side file : Side) → side ≡ file → both p q side ≡ operand two file
-        at_side First file same = ap (operand two) same
-        at_side Second file same = ap (operand two) same
+    is_named (Some d) side line k = λ i. Disorder ((stands p q side ∙ ap (operand two) (sym k.0)) i) (sym k.1 i)
 
     ends : (r : Result (Unit {0}) MergeFault) → Ends old_state new_state r → ((texts : ℕ → List ℕ) → AgreeAt two given texts → IsWhole t (of_operands two texts) e.pushed r)
         → JointEnds (of_two t) two given old new e.pushed is.faulted store.denied (told_at (both p q) r)
@@ -161,9 +155,7 @@ module _ (t : keyed.Tool) {old : List Reader} {was : Output} {before : Slots} {p
     pub two_went : IsJointPass (of_two t) (p ∷ q ∷ []) old new was is before store (told_at (both p q) result)
     two_went = record {
       given = given;
-      came = each (λ k. Came (reader_at old k) (reader_at new k) (given k))
-          (rw (given_at First) (e.came First))
-          (rw (given_at Second) (e.came Second));
+      came = each (λ k. Came (reader_at old k) (reader_at new k) (given k)) (rw (given_at First) (e.came First)) (rw (given_at Second) (e.came Second));
       untouched = λ k other. others k (λ same. unnamed k other (ap (is_in two) (sym same) ∙ named First)) (λ same. unnamed k other (ap (is_in two) (sym same) ∙ named Second));
       pushed = e.pushed;
       wrote = e.wrote;
@@ -173,18 +165,59 @@ module _ (t : keyed.Tool) {old : List Reader} {was : Output} {before : Slots} {p
           (λ failed clean. subst (λ g. Begins (decided t g) e.pushed) (sym given_is) (e.sure First failed clean))
           (λ failed clean. subst (λ g. Begins (decided t g) e.pushed) (sym given_is) (e.sure Second failed clean));
       keeps_up = each (λ k. (cut : Before (given k)) × PassedOn (decided t (of_operands two (put_at k cut.earlier given))) was is e.pushed) (keeps First) (keeps Second);
-      same = λ f g same. ap (decided t) (λ i side. at_side f g same side i);
+      same = λ f g same. ap (decided t) (λ i side. rw (stands p q side) at (same (both p q side) (named side)) i);
       peak = λ texts agrees. e.peak (of_operands two texts) (agree texts agrees);
     }
       where
         unnamed : (k : ℕ) → is_in two k ≡ false → is_in two k ≡ true → ⊥
         unnamed k other is = false≢true (sym other ∙ is)
 
-        at_side : (f g : ℕ → Given) → ((k : ℕ) → is_in two k ≡ true → f k ≡ g k) → (side : Side) → f (operand two side) ≡ g (operand two side)
-        at_side f g same First = same p (named First)
-        at_side f g same Second = same q (named Second)
-
         keeps : (side : Side) → (cut : Before (given (both p q side))) × PassedOn (decided t (of_operands two (put_at (both p q side) cut.earlier given))) was is e.pushed
         keeps side = subst (λ (g : Given). (cut : Before g) × PassedOn (decided t (of_operands two (put_at (both p q side) cut.earlier given))) was is e.pushed) (sym (given_at side))
             (passed_on (λ g. decided t (put side g e.given)) (λ g. decided t (of_operands two (put_at (both p q side) g given)))
             (λ g. ap (decided t) (put_is side g)) (e.keeps_up side ready.writable))
+
+-- ---- two readers of a list that was split between them
+
+-- the readers that two parts lent, and the list with what they were left as
+pub record AreLent (inputs new : List Reader) (low high : ℕ) (a b x y : Reader) : Type 0 where
+  pub was_low : a ≡ reader_at inputs low
+  pub was_high : b ≡ reader_at inputs high
+  pub is_low : reader_at new low ≡ x
+  pub is_high : reader_at new high ≡ y
+  pub others : (k : ℕ) → (low ≡ k → ⊥) → (high ≡ k → ⊥) → reader_at new k ≡ reader_at inputs k
+
+module _ {inputs : List Reader} (front back : List Reader) {low high : ℕ} (split : inputs ≡ front ++ back) (size : length front ≡ high) (below : low < high) (within : high < length inputs) where
+  none_left : high - high ≡ 0
+  none_left = omega arith
+
+  pub were : (d e : Reader) → (get_or front low d ≡ reader_at inputs low) × (get_or back 0 e ≡ reader_at inputs high)
+  were d e = (
+    get_or_default front low d no_reader (omega (arith, size, below))
+        ∙ sym (ap (λ l. get_or l low no_reader) split ∙ get_or_append_left front back no_reader low (omega (arith, size, below))),
+    get_or_default back 0 e no_reader (omega (arith, ap length split, length-append front back, size, within))
+        ∙ sym (ap (λ l. get_or l high no_reader) split ∙ get_or-append_right front back high high no_reader size (omega arith) ∙ ap (λ n. get_or back n no_reader) none_left),
+  )
+
+  module _ (x y : Reader) where
+    set_both : set front low x ++ set back 0 y ≡ set (set inputs low x) high y
+    set_both = sym (
+        ap (λ l. set (set l low x) high y) split ∙ ap (λ l. set l high y) (set-append_left front back low x (omega (arith, size, below)))
+        ∙ set-append_right (set front low x) back high high y (length-set front low x ∙ size) (omega arith) ∙ ap (λ n. set front low x ++ set back n y) none_left
+        )
+
+    is_low : reader_at (set front low x ++ set back 0 y) low ≡ x
+    is_low =
+        ap (λ l. reader_at l low) set_both ∙ get_or-set_other (set inputs low x) high low y no_reader (λ same. omega (arith, same, below))
+        ∙ get_or-set_same inputs low x no_reader (omega (arith, below, within))
+
+    is_high : reader_at (set front low x ++ set back 0 y) high ≡ y
+    is_high = ap (λ l. reader_at l high) set_both ∙ get_or-set_same (set inputs low x) high y no_reader (omega (arith, within, length-set inputs low x))
+
+    is_other : (k : ℕ) → (low ≡ k → ⊥) → (high ≡ k → ⊥) → reader_at (set front low x ++ set back 0 y) k ≡ reader_at inputs k
+    is_other k first second =
+        ap (λ l. reader_at l k) set_both ∙ get_or-set_other (set inputs low x) high k y no_reader (λ same. second (sym same))
+        ∙ get_or-set_other inputs low k x no_reader (λ same. first (sym same))
+
+    pub are_lent : (d e : Reader) → AreLent inputs (set front low x ++ set back 0 y) low high (get_or front low d) (get_or back 0 e) x y
+    are_lent d e = let k = were d e in record { was_low = k.0; was_high = k.1; is_low = is_low; is_high = is_high; others = is_other }

@@ -1,11 +1,16 @@
--- What the operands find, one more operand at a time.
-use Rattle.ptrun.proofs.Common.{◌≡◌, ◌≢◌, ◌⊎◌, ⊎_elim, inl, inr, ℕ, zero, suc, ◌==◌, ◌||◌, Bool, true, false, cond, List, [], ◌∷◌, ◌++◌, Option, Some, None, ◌+◌, length, take, map, max, refl, sym}
-use Rattle.ptrun.proofs.Common.{◌∙◌, ap, subst, arith, append_assoc, add-one, All, flat_map, option_map, list_any, append-nil, flat_map-append, filter_map-append, list_any-append, false≢true}
-use Rattle.ptrun.proofs.Common.{nat_tests, eqb_tells, Given, nothing_left, World, Received, at, is_in, found, founds, opened, sources, Tool, largest, up_to_open, unopened, not_opened, name_of, Tells}
-use Rattle.ptrun.proofs.Common.{SinkState, put_at}
+-- What the operands of a command find, one more operand at a time, and their order, as places.
+use Rattle.ptrun.proofs.Common.{cases_eq, ◌≡◌, ◌≢◌, ⊎_elim, ℕ, zero, suc, ◌==◌, ◌||◌, Bool, true, false, cond, List, [], ◌∷◌, ◌++◌, Option, Some, None, ◌+◌, length, take, map, max, refl, sym, ◌∙◌}
+use Rattle.ptrun.proofs.Common.{ap, subst, arith, append_assoc, add-one, All, flat_map, option_map, list_any, append-nil, flat_map-append, filter_map-append, list_any-append, false≢true, nat_tests}
+use Rattle.ptrun.proofs.Common.{eqb_tells, Given, nothing_left, World, Received, at, is_in, found, founds, opened, sources, Tool, largest, up_to_open, unopened, not_opened, name_of, Tells, SinkState}
+use Rattle.ptrun.proofs.Common.{put_at, ◌<◌, ◌≤◌, drop, get_or, take-append-drop, take_more, get_or-map, length-map, take_all, Reader, reader_at, no_reader, IsFresh, place, places, not, All-nil}
+use Rattle.ptrun.proofs.Common.{All-cons, Bor, words_seen, is_standard, file_names, order_from, Input, Standard, File}
+use Rattle.std.proofs.Math.ListN.{get_or-map as get_or-map_any}
 use Rattle.ptrun.proofs.Sayings.{tells_trans}
 
 -- ---- membership
+
+pub some_same : {X : Type 0} {a b : X} → Some a ≡ Some b → a ≡ b
+some_same same = cc
 
 pub same_here : (p : ℕ) → (p == p) ≡ true
 same_here p = grind (arith, nat_tests)
@@ -30,20 +35,9 @@ take_with done p more = ap (λ (n : ℕ). take n (done ++ p ∷ more)) (add-one 
     by_parts [] = refl
     by_parts (q ∷ ps) = ap (λ (l : List ℕ). q ∷ l) (by_parts ps)
 
--- a place is this one, or another
-pub same_or_other : (p q : ℕ) → (p ≡ q) ⊎ (p ≢ q)
-same_or_other p q = ⊎_elim (λ k. inl k.1) (λ k. inr k.1) (eqb_tells p q)
-
 -- what holds of this one and of each other holds of each
 pub by_place : (P : ℕ → Type 0) (p : ℕ) → P p → ((q : ℕ) → p ≢ q → P q) → (q : ℕ) → P q
-by_place P p here others q = ⊎_elim (λ same. subst P same here) (others q) (same_or_other p q)
-
-pub named_or_not : (ps : List ℕ) (q : ℕ) → (is_in ps q ≡ true) ⊎ (is_in ps q ≡ false)
-named_or_not ps q = by_test (is_in ps q)
-  where
-    by_test : (b : Bool) → (b ≡ true) ⊎ (b ≡ false)
-    by_test true = inl refl
-    by_test false = inr refl
+by_place P p here others q = ⊎_elim (λ same. subst P same here) (others q) (cases_eq p q)
 
 -- what holds of each operand holds of each place that is named
 pub each_named : (P : ℕ → Type 0) (ps : List ℕ) → All P ps → (q : ℕ) → is_in ps q ≡ true → P q
@@ -95,12 +89,10 @@ unopened_more tool names test done p =
     ∙ ap (λ (l : List ℕ). unopened tool names test done ++ l) (append-nil (cond (test p) (not_opened tool (name_of names p)) []))
 
 pub unopened_same : (tool : List ℕ) (names : List (List ℕ)) (f g : ℕ → Bool) (ps : List ℕ) → ((p : ℕ) → f p ≡ g p) → unopened tool names f ps ≡ unopened tool names g ps
-unopened_same tool names f g [] same = refl
-unopened_same tool names f g (p ∷ ps) same = λ i. cond (same p i) (not_opened tool (name_of names p)) [] ++ unopened_same tool names f g ps same i
+unopened_same tool names f g ps same = λ i. unopened tool names (λ q. same q i) ps
 
 pub any_same : (f g : ℕ → Bool) (ps : List ℕ) → ((p : ℕ) → f p ≡ g p) → list_any f ps ≡ list_any g ps
-any_same f g [] same = refl
-any_same f g (p ∷ ps) same = λ i. same p i || any_same f g ps same i
+any_same f g ps same = λ i. list_any (λ q. same q i) ps
 
 -- one more operand, which is named if it could not be opened
 pub tells_more : (word : List ℕ) (names : List (List ℕ)) (is_shut : ℕ → Bool) (done : List ℕ) (p : ℕ) {told heard heard' : SinkState} → Tells told heard (unopened word names is_shut done)
@@ -148,11 +140,13 @@ abbrev pub least : Received → World
 least r = map bytes_at r
 
 pub at-least : (r : Received) (p : ℕ) → at (least r) p ≡ bytes_at (at r p)
-at-least [] p = refl
-at-least (o ∷ r) zero = refl
-at-least (o ∷ r) (suc p) = at-least r p
+at-least r p = get_or-map_any bytes_at r p None
 
-module _ (t : Tool) (law : (g : Given) → g.ended ≡ true → t.decided g ≡ t.text g.bytes) (r : Received) where
+-- where the end of an input was said, all of it is decided
+abbrev pub Decides : Tool → Type 0
+Decides t = (bytes : List ℕ) → t.decided (record { bytes = bytes; ended = true }) ≡ t.text bytes
+
+module _ (t : Tool) (law : Decides t) (r : Received) where
   -- operands whose inputs have ended decide all of what they give, and leave the next open
   pub decided_founds : (before ps : List ℕ) (later : List Given) → ((q : ℕ) → is_in ps q ≡ true → EndedAt (at r q))
       → flat_map t.decided (up_to_open (opened (founds nothing_left r before ps) ++ later)) ≡ flat_map t.text (opened (founds [] (least r) before ps)) ++ flat_map t.decided (up_to_open later)
@@ -177,7 +171,7 @@ module _ (t : Tool) (law : (g : Given) → g.ended ≡ true → t.decided g ≡ 
           → flat_map t.decided (up_to_open (g ∷ opened came ++ later)) ≡ (t.text g.bytes ++ flat_map t.text (opened texts)) ++ rest
       one g is further =
           ap (λ (b : Bool). t.decided g ++ flat_map t.decided (cond b (up_to_open (opened came ++ later)) [])) is
-          ∙ (λ i. law g is i ++ further i) ∙ sym (append_assoc (t.text g.bytes) (flat_map t.text (opened texts)) rest)
+          ∙ (λ i. (ap (λ (b : Bool). t.decided (record { bytes = g.bytes; ended = b })) is ∙ law g.bytes) i ++ further i) ∙ sym (append_assoc (t.text g.bytes) (flat_map t.text (opened texts)) rest)
 
       by_input : (o : Option Given) → EndedAt o → (seen : Bool) → flat_map t.decided (up_to_open (opened came ++ later)) ≡ flat_map t.text (opened texts) ++ rest
           → flat_map t.decided (up_to_open (opened (option_map (λ (g : Given). cond seen nothing_left g) o ∷ came) ++ later))
@@ -185,3 +179,52 @@ module _ (t : Tool) (law : (g : Given) → g.ended ≡ true → t.decided g ≡ 
       by_input None e seen further = further
       by_input (Some g) e true further = one nothing_left refl further
       by_input (Some g) e false further = one g e further
+
+-- ---- the operands in their order, as places
+
+-- each place has a fresh reader, or none
+pub fresh_all : (readers : List Reader) → ((k : ℕ) (d : Reader) → k < length readers → IsFresh (get_or readers k d)) → (q : ℕ) → IsFresh (reader_at readers q)
+fresh_all [] h q = λ opened. absurd (false≢true (sym opened))
+fresh_all (r ∷ readers) h zero = h zero no_reader (omega arith)
+fresh_all (r ∷ readers) h (suc q) = fresh_all readers (λ k d within. h (suc k) d (omega (arith, within))) q
+
+pub place_fits : (order : List Input) (n : ℕ) → All (λ p. p < n) (places order) → All (λ o. place o < n) order
+place_fits order n fits i d within = rw (get_or-map place order i d 0 within) at (fits i 0 (omega (arith, within, length-map order place)))
+
+-- a name is seen as its text, so there are as many
+pub names_counted : (names : List (Bor (List ℕ))) (n : ℕ) → n ≡ length (words_seen names) + 1 → n ≡ length names + 1
+names_counted names n is = is ∙ ap (λ (k : ℕ). k + 1) (length-map names (λ (w : Bor (List ℕ)). w.now))
+
+-- the place of the i-th operand has a reader, and the operands are those before it, it, and those behind
+pub record IsTurn (order : List Input) (i p n : ℕ) : Type 0 where
+  pub low : p < n
+  pub next : take (i + 1) (places order) ≡ take i (places order) ++ p ∷ []
+  pub split : take i (places order) ++ p ∷ drop (i + 1) (places order) ≡ places order
+
+pub turn_of : {p n : ℕ} (order : List Input) (i : ℕ) (d : Input) → All (λ o. place o < n) order → i < length order → p ≡ place (get_or order i d) → IsTurn order i p n
+turn_of {p} {n} order i d fits within is = record {
+  low = rw is (fits i d within);
+  next = next;
+  split = sym (append_assoc (take i (places order)) (p ∷ []) (drop (i + 1) (places order))) ∙ ap (λ (l : List ℕ). l ++ drop (i + 1) (places order)) (sym next)
+      ∙ take-append-drop (i + 1) (places order);
+}
+  where
+    next : take (i + 1) (places order) ≡ take i (places order) ++ p ∷ []
+    next = take_more (places order) i 0 (omega (arith, within, length-map order place)) ∙ ap (λ (n : ℕ). take i (places order) ++ n ∷ []) (get_or-map place order i d 0 within ∙ sym is)
+
+pub places_end : (order : List Input) (i : ℕ) → length order ≤ i → take i (places order) ≡ places order
+places_end order i all = take_all i (places order) (omega (arith, all, length-map order place))
+
+-- ---- the operands of words
+
+-- each operand has a reader
+pub places_within : (n : ℕ) (operands : List (List ℕ)) → All (λ o. place o < n + length (file_names operands) + 1) (order_from n operands)
+places_within n [] = All-nil (λ (o : Input). place o < n + 0 + 1)
+places_within n (operand ∷ operands) = by_test (is_standard operand) (places_within n operands) (places_within (n + 1) operands)
+  where
+    by_test : (t : Bool) → All (λ o. place o < n + length (file_names operands) + 1) (order_from n operands)
+        → All (λ o. place o < n + 1 + length (file_names operands) + 1) (order_from (n + 1) operands)
+        → All (λ o. place o < n + length (cond (not t) (operand ∷ file_names operands) (file_names operands)) + 1) (cond t (Standard ∷ order_from n operands) (File n ∷ order_from (n + 1) operands))
+    by_test true here later = All-cons (λ (o : Input). place o < n + length (file_names operands) + 1) Standard (order_from n operands) (omega arith) here
+    by_test false here later = All-cons (λ (o : Input). place o < n + length (operand ∷ file_names operands) + 1) (File n) (order_from (n + 1) operands)
+        (omega arith) (λ k d within. omega (arith, later k d within))

@@ -3,14 +3,6 @@ use Rattle.ptrun.proofs.joint.cells_of.Goals as goal
 
 pub push-requires : goal.push-requires
 push-requires c =
-    let i = c.loop-input.input-index in (
-      omega arith,
-      omega (
-        arith,
-        ap length c.loop-input.invariant,
-        length-take-le i (places c.args.order.now)
-            (omega (arith, length-map c.args.order.now place, c.loop-input-test.true)),
-        c.loop-input-test.true,
-        c.requires.few,
-      ),
-    )
+    let order = c.args.order.now in
+    let taken = length-take-le c.loop-input.input-index (places order) (omega (arith, length-map order place, c.loop-input-test.true)) in
+    (omega arith, omega (arith, ap length c.loop-input.invariant, taken, c.loop-input-test.true, c.requires.few))

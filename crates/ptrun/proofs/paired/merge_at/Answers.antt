@@ -1,12 +1,8 @@
 -- Two places of the list of readers are lent out, whichever comes first, and both orders of the places are one merge.
-use Rattle.std.proofs.Common.{◌≡◌, ℕ, ◌+◌, ◌<◌, ◌≤◌, sym, subst, arith}
+use Rattle.std.proofs.Common.{◌≡◌, ℕ, ◌<◌, ◌≤◌, sym, subst, arith}
 use borrow.Author.Rules.{scaled_Fits}
-use Rattle.ptrun.proofs.TwoReaders.{was_low, was_high, are_lent}
 use Rattle.ptrun.proofs.paired.merge_at.Goals as goal
-
--- the second of two parts is not empty
-some_left : (rest high all : ℕ) → rest + high ≡ all → high < all → 0 < rest
-some_left rest high all is within = omega (arith, is, within)
+use Rattle.ptrun.proofs.PairedPasses.{were, are_lent}
 
 -- the other place is the lower one
 below : (first second : ℕ) → second ≤ first → (first ≡ second → ⊥) → second < first
@@ -15,32 +11,24 @@ below first second least apart = omega (arith, least, apart)
 pub merge_two-requires-clause-readers : goal.merge_two-requires-clause-readers
 merge_two-requires-clause-readers g c =
     let s = c.split_at_mut-front in
-    let e = s.ensures in
     let r = c.requires in
-    rw (
-      was_low s.result.0.now s.result.1.now e.value e.front_len c.if-first-second.true r.within.1 c.index-front-first.result,
-      was_high s.result.0.now s.result.1.now e.value e.front_len c.if-first-second.true r.within.1 c.index-back-0.result (some_left _ _ _ e.back_len r.within.1),
-    )
-    (r.ready.opened1, r.ready.opened2, r.ready.readable1, r.ready.readable2)
+    let k = were s.result.0.now s.result.1.now s.ensures.value s.ensures.front_len c.if-first-second.true r.within.1 c.index-front-first.result c.index-back-0.result in
+    rw (k.0, k.1) (r.ready.opened1, r.ready.opened2, r.ready.readable1, r.ready.readable2)
 
 pub merge_two-requires-else-first-second-clause-readers : goal.merge_two-requires-else-first-second-clause-readers
 merge_two-requires-else-first-second-clause-readers g c =
     let s = c.split_at_mut-front-else-first-second in
-    let e = s.ensures in
     let r = c.requires in
     let lower = below c.args.first c.args.second c.if-first-second.false r.apart in
-    rw (
-      was_low s.result.0.now s.result.1.now e.value e.front_len lower r.within.0 c.index-front-second.result,
-      was_high s.result.0.now s.result.1.now e.value e.front_len lower r.within.0 c.index-back-0-else-first-second.result (some_left _ _ _ e.back_len r.within.0),
-    )
-    (r.ready.opened1, r.ready.opened2, r.ready.readable1, r.ready.readable2)
+    let k = were s.result.0.now s.result.1.now s.ensures.value s.ensures.front_len lower r.within.0 c.index-front-second.result c.index-back-0-else-first-second.result in
+    rw (k.0, k.1) (r.ready.opened1, r.ready.opened2, r.ready.readable1, r.ready.readable2)
 
 pub returns-then-first-second : goal.returns-then-first-second
 returns-then-first-second g c =
     let s = c.split_at_mut-front in
     let w = c.merge_two in
     let k = are_lent s.result.0.now s.result.1.now s.ensures.value s.ensures.front_len c.if-first-second.true c.requires.within.1 w.new.first w.new.second
-    c.index-front-first.result c.index-back-0.result (some_left _ _ _ s.ensures.back_len c.requires.within.1) in
+    c.index-front-first.result c.index-back-0.result in
     record {
       merged = rw (sym k.was_low, sym k.was_high, k.is_low, k.is_high) w.ensures.merged;
       others = k.others;
@@ -53,7 +41,7 @@ returns-else-first-second g c =
     let w = c.merge_two-else-first-second in
     let lower = below c.args.first c.args.second c.if-first-second.false c.requires.apart in
     let k = are_lent s.result.0.now s.result.1.now s.ensures.value s.ensures.front_len lower c.requires.within.0 w.new.second w.new.first
-    c.index-front-second.result c.index-back-0-else-first-second.result (some_left _ _ _ s.ensures.back_len c.requires.within.0) in
+    c.index-front-second.result c.index-back-0-else-first-second.result in
     record {
       merged = rw (sym k.was_low, sym k.was_high, k.is_low, k.is_high) w.ensures.merged;
       others = λ place first second. k.others place second first;

@@ -1,9 +1,8 @@
 -- Words that are refused are answered by their message alone. Otherwise the run is that of the command, and the
 -- headline is a reading of it in the world that the readers tell.
-use Rattle.ptrun.proofs.Common.{ℕ, List, subst, words_seen, meant, SinkState, tool_word, said_of, Tells}
-use Rattle.ptrun.proofs.Asked.{asked_ok, asked_refused, operands_given, headline_asked}
-use Rattle.ptrun.proofs.Runs.{only_said}
+use Rattle.ptrun.proofs.Common.{words_seen}
 use Rattle.ptrun.proofs.running.run_with_store.Goals as goal
+use Rattle.ptrun.proofs.Runs.{asked_ok, asked_refused, operands_given, headline_asked, only_said}
 
 pub run_command-requires-clause-given : goal.run_command-requires-clause-given
 run_command-requires-clause-given g c =
@@ -11,12 +10,8 @@ run_command-requires-clause-given g c =
 
 pub returns-in-Err-clause-run : goal.returns-in-Err-clause-run
 returns-in-Err-clause-run g c =
-    let words = words_seen c.args.words.now in
-    let told = g.E.Sink.state c.args.messages in
-    let tells : Tells told c.refuse-status.new.voice (said_of (tool_word words) (meant c.in-Err.fault)) =
-    subst (λ (t : SinkState). Tells t c.refuse-status.new.voice (said_of (tool_word words) (meant c.in-Err.fault))) c.new-voice.ensures
-    (subst (λ (l : List ℕ). Tells c.new-voice.result c.refuse-status.new.voice (said_of l (meant c.in-Err.fault))) c.first_word.ensures c.refuse-status.ensures.said) in
-    rw (c.quiet_report.ensures, asked_refused c.args.command words c.in-Err.fault c.in-Err.is c.requires.meant)
+    let tells = rw (c.new-voice.ensures, c.first_word.ensures) at c.refuse-status.ensures.said in
+    rw (c.quiet_report.ensures, asked_refused c.args.command (words_seen c.args.words.now) c.in-Err.fault c.in-Err.is c.requires.meant)
     (only_said c.requires.fresh.1 c.requires.unused.writable tells c.refuse-status.ensures.status)
 
 pub returns-in-Ok-clause-run : goal.returns-in-Ok-clause-run

@@ -1,10 +1,9 @@
 -- Each turn names one more input, if it could not be opened.
-use Rattle.ptrun.proofs.Common.{◌<◌, ℕ, List, length, take, refl, sym, ◌∙◌, ap, subst, arith, get_or_default, Reader, words_seen, places, no_reader, shut, Tells, unopened, Standard, list_any}
+use Rattle.ptrun.proofs.Common.{◌<◌, length, take, refl, sym, ◌∙◌, ap, arith, get_or_default, Reader, words_seen, places, no_reader, shut, Standard}
 use borrow.Author.Rules.{scaled_Fits}
-use Rattle.ptrun.proofs.Sayings.{tells_nothing}
-use Rattle.ptrun.proofs.Order.{places_next, places_end}
-use Rattle.ptrun.proofs.Sources.{tells_more, any_now, any_before}
 use Rattle.ptrun.proofs.together.name_unopened.Goals as goal
+use Rattle.ptrun.proofs.Sources.{turn_of, places_end, tells_more, any_now, any_before}
+use Rattle.ptrun.proofs.Sayings.{tells_nothing}
 use Rattle.ptrun.proofs.together.name_unopened.Goals.{then-is_refused, else-is_refused}
 
 pub loop-input-init : goal.loop-input-init
@@ -19,17 +18,14 @@ loop-input-preserved g c =
     let i = c.loop-input.input-index in
     let done = take i (places c.args.order.now) in
     let k = c.loop-input.invariant in
-    let low = c.requires.fits i Standard c.loop-input-test.true in
-    let here = get_or_default inputs p c.index-inputs-place.result no_reader (omega (arith, low, c.place_of-place.ensures)) in
-    let refused = ap (λ (r : Reader). r.refused) (sym here) ∙ ap (λ (r : Reader). r.refused) (sym c.index-inputs-place.is) ∙ sym c.is_refused.ensures.refused in
-    let next = places_next c.args.order.now i _ p c.loop-input-test.true c.place_of-place.ensures in
+    let turn = turn_of c.args.order.now i _ c.requires.fits c.loop-input-test.true c.place_of-place.ensures in
+    let refused = ap (λ (r : Reader). r.refused) (sym (c.index-inputs-place.is ∙ get_or_default inputs p _ no_reader turn.low)) ∙ sym c.is_refused.ensures.refused in
     elim c.if-is_refused.branch [
-      | then-is_refused w ↦ rw (w.voice-is, w.any-is, next) (record {
-        said = tells_more tool names (shut inputs) done p k.said (rw (refused ∙ w.if-is_refused.true)
-            (rw w.name_at.ensures at w.say.ensures));
+      | then-is_refused w ↦ rw (w.voice-is, w.any-is, turn.next) (record {
+        said = tells_more tool names (shut inputs) done p k.said (rw (refused ∙ w.if-is_refused.true) (rw w.name_at.ensures at w.say.ensures));
         any_is = sym (any_now (shut inputs) done p (refused ∙ w.if-is_refused.true));
       })
-      | else-is_refused w ↦ rw (w.voice-is, w.any-is, next) (record {
+      | else-is_refused w ↦ rw (w.voice-is, w.any-is, turn.next) (record {
         said = tells_more tool names (shut inputs) done p k.said (rw (refused ∙ w.if-is_refused.false) (tells_nothing c.loop-input.voice));
         any_is = k.any_is ∙ sym (any_before (shut inputs) done p (refused ∙ w.if-is_refused.false));
       })
@@ -44,19 +40,13 @@ pub name_at-requires : goal.name_at-requires
 name_at-requires g c = omega (arith, c.requires.fits c.loop-input.input-index Standard c.loop-input-test.true, c.place_of-place.ensures, c.requires.count)
 
 pub place_of-place-requires : goal.place_of-place-requires
-place_of-place-requires g c =
-    let low = c.requires.fits c.loop-input.input-index Standard c.loop-input-test.true in
-    omega (arith, low)
+place_of-place-requires g c = omega (arith, c.requires.fits c.loop-input.input-index Standard c.loop-input-test.true)
 
 pub returns-clause-any : goal.returns-clause-any
-returns-clause-any g c =
-    c.loop-input.invariant.any_is
-    ∙ ap (λ (l : List ℕ). list_any (shut c.args.inputs.now) l) (places_end c.args.order.now c.loop-input.input-index c.loop-input-test.false)
+returns-clause-any g c = rw (places_end c.args.order.now c.loop-input.input-index c.loop-input-test.false) at c.loop-input.invariant.any_is
 
 pub bounds-inputs-place : goal.bounds-inputs-place
 bounds-inputs-place g c = omega (arith, c.requires.fits c.loop-input.input-index Standard c.loop-input-test.true, c.place_of-place.ensures)
 
 pub returns-clause-said : goal.returns-clause-said
-returns-clause-said g c =
-    subst (λ (l : List ℕ). Tells c.args.voice.now c.loop-input.voice (unopened c.args.tool.now (words_seen c.args.names.now) (shut c.args.inputs.now) l))
-    (places_end c.args.order.now c.loop-input.input-index c.loop-input-test.false) c.loop-input.invariant.said
+returns-clause-said g c = rw (places_end c.args.order.now c.loop-input.input-index c.loop-input-test.false) at c.loop-input.invariant.said

@@ -1,8 +1,8 @@
 -- Its cells name the places of its operands, so what `paste` says of places is what the run says of operands.
 use Rattle.ptrun.proofs.Common.{◌≡◌, ◌≤◌, true, List, length, ◌∙◌, arith, nat_le, leb-true, length-map, paste_job, Input, place, places}
 use Rattle.std.proofs.lemmas.Result.{err_from_is_err_and}
-use Rattle.ptrun.proofs.Order.{place_fits}
-use Rattle.ptrun.proofs.PasteJoint.{cells_ready, rows_went}
+use Rattle.ptrun.proofs.Sources.{place_fits}
+use Rattle.ptrun.proofs.JointPasses.{cells_ready, rows_went}
 use Rattle.ptrun.proofs.joint.PasteJobTogether.go_over.Goals as goal
 
 pub cells_of-requires-clause-fits : goal.cells_of-requires-clause-fits

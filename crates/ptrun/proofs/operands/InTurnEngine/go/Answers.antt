@@ -1,5 +1,5 @@
 use Rattle.std.proofs.Common.{length}
-use Rattle.ptrun.proofs.Order.{place_fits, names_counted}
+use Rattle.ptrun.proofs.Sources.{place_fits, names_counted}
 use Rattle.ptrun.proofs.operands.InTurnEngine.go.Goals as goal
 
 pub go_over_each-requires-clause-fits : goal.go_over_each-requires-clause-fits

@@ -7,7 +7,6 @@ returns g c = record {
   is = refl;
   tells = tells_nothing c.args._voice.now;
   nothing = λ lacking. absurd (false≢true lacking);
-  at_once = λ lacking. absurd
-      (false≢true lacking);
+  at_once = λ lacking. absurd (false≢true lacking);
   undecided = λ lacking. absurd (false≢true lacking);
 }

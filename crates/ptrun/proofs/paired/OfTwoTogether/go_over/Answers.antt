@@ -1,6 +1,6 @@
 use Rattle.ptrun.proofs.Common.{length, arith, First, Second, Standard}
 use Rattle.ptrun.proofs.PairedPasses.{two_of, ready_at, within_at, two_went, two_there}
-use Rattle.ptrun.proofs.Order.{place_fits}
+use Rattle.ptrun.proofs.Sources.{place_fits}
 use Rattle.ptrun.proofs.paired.OfTwoTogether.go_over.Goals as goal
 
 pub merge_at-ended-requires-clause-ready : goal.merge_at-ended-requires-clause-ready

@@ -1,5 +1,5 @@
 use Rattle.ptrun.proofs.Common.{ℕ, List, length, subst, words_seen, unopened, places, Tells, shut}
-use Rattle.ptrun.proofs.Order.{place_fits, names_counted}
+use Rattle.ptrun.proofs.Sources.{place_fits, names_counted}
 use Rattle.ptrun.proofs.JointPasses.{checks_of}
 use Rattle.ptrun.proofs.together.AllTogetherEngine.lacks_inputs.Goals as goal
 
