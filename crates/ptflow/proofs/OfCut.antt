@@ -1,6 +1,5 @@
 -- `cut`.
 pub mod ByteRests
-pub mod FieldBlocks
 pub mod FieldLines
 pub mod FieldPlaces
 pub mod FieldWalks

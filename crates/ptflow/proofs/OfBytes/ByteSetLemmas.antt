@@ -2,7 +2,7 @@
 use Rattle.ptflow.proofs.Common.{◌≡◌, ℕ, suc, ◌+◌, ◌*◌, ◌/◌, ◌%◌, ◌<◌, ◌≤◌, ◌^◌, ◌&&◌, ◌||◌, Bool, true, false, List, [], ◌∷◌, length, map, cond, leb, ltb, eqb, zero, ◌≢◌, ⊎_elim, get_or, get_or-take}
 use Rattle.ptflow.proofs.Common.{get_or-drop, take, drop, ◌-◌, set, bit_or, replicate, negsuc, pos, bit_and, refl, ap, ◌∙◌, arith, w8, Fits, top, zip2, sel_l, Each1, cast_unsigned, cast_signed}
 use Rattle.ptflow.proofs.Common.{bit_at, from_bool, swz_l, SwzOk, SwzOk-from_below, zip2_splat, zip2_of_maps, map-map, and_mask, lt-leb, lt-ltb, le-ltb, cases_eq, cases_lt, eq-eqb, nat_tests}
-use Rattle.ptflow.proofs.Common.{get_or-map-range_with_len, pow_pos, length-map, set-get_or, get_or-set_same, get_or-set_other, marks, holds, IsTableOf, IsSetOf, mask_of}
+use Rattle.ptflow.proofs.Common.{get_or-map-range_with_len, pow_pos, length-map, set-get_or, get_or-set_same, get_or-set_other, marks, holds, IsTableOf, IsSetOf, mask_of, ne_eqb}
 use Rattle.std.proofs.lemmas.Nat.Bits.{and_pow, bit_at-lt, bit_at_set_same, bit_at_set_other}
 use Rattle.std.specs.Int.Bits.{or_zero_r}
 use Rattle.ptflow.specs.declared.kernels.sets.ByteSet.{ByteSet}
@@ -139,27 +139,8 @@ module _ (table : List ℕ) {n : ℕ} (long : length table ≡ 16) (within : n <
       elsewhere row = cc (get_or-set_other table (n % 16) (b % 16) put 0 row)
 
   filled_is : (flag : Bool) {b : ℕ} → b < 128 → marks (filled table n (from_bool flag)) b ≡ cond (eqb b n) (flag || marks table n) (marks table b)
-  filled_is flag {b} byte = ⊎_elim here there (cases_eq b n)
-    where
-      here : b ≡ n → marks (filled table n (from_bool flag)) b ≡ cond (eqb b n) (flag || marks table n) (marks table b)
-      here same = by_flag flag
-        where
-          chosen : (f : Bool) → marks (filled table n (from_bool f)) b ≡ (f || marks table n) → marks (filled table n (from_bool f)) b ≡ cond (eqb b n) (f || marks table n) (marks table b)
-          chosen f is = cc (eq-eqb b n same)
-
-          by_flag : (f : Bool) → marks (filled table n (from_bool f)) b ≡ cond (eqb b n) (f || marks table n) (marks table b)
-          by_flag true = chosen true (cc (set_here))
-          by_flag false = chosen false (cc (unset))
-
-      there : (b ≡ n → ⊥) → marks (filled table n (from_bool flag)) b ≡ cond (eqb b n) (flag || marks table n) (marks table b)
-      there other = cc (by_flag flag, not_same)
-        where
-          not_same : false ≡ eqb b n
-          not_same = grind (arith, nat_tests)
-
-          by_flag : (f : Bool) → marks (filled table n (from_bool f)) b ≡ marks table b
-          by_flag true = set_there byte other
-          by_flag false = cc (unset)
+  filled_is true {b} byte = ⊎_elim (λ same. cc (eq-eqb b n same, set_here)) (λ other. cc (ne_eqb b n other, set_there byte other)) (cases_eq b n)
+  filled_is false {b} byte = ⊎_elim (λ same. cc (eq-eqb b n same, unset)) (λ other. cc (ne_eqb b n other, unset)) (cases_eq b n)
 
 -- the flags of one byte more are marked
 pub one_more_flag : (table : List ℕ) (flags : List Bool) (n : ℕ) {x : ℕ} → length table ≡ 16 → n < 128 → x ≡ from_bool (get_or flags n false)

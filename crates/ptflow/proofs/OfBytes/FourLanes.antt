@@ -1,6 +1,6 @@
 -- The 64 bytes of four vectors: where no lane of four masks is set, and what is kept of them one after another.
 use Rattle.ptflow.proofs.Common.{◌≡◌, ℕ, ◌+◌, ◌^◌, ◌%◌, ◌||◌, Bool, not, cond, List, [], ◌∷◌, ◌++◌, length, drop, map, pos, negsuc, bit_or, refl, sym, ◌∙◌, arith, append_assoc, w8, filter}
-use Rattle.ptflow.proofs.Common.{cast_unsigned, mask_l, top, zip2, chunk, mask_l-mod, length-zip2, drop-drop, filter-append, take-add, mask_of}
+use Rattle.ptflow.proofs.Common.{cast_unsigned, mask_l, top, zip2, chunk, mask_l-mod, length-zip2, drop-drop, filter-append, take-add, mask_of, ◌≤◌}
 
 -- ---- masks of lanes
 
@@ -36,32 +36,30 @@ none_of_two [] (g ∷ gs) same none = absurd (omega arith)
 none_of_two (f ∷ fs) [] same none = absurd (omega arith)
 none_of_two (f ∷ fs) (g ∷ gs) same none = grind (arith, none_of_two fs gs)
 
-module _ (fa fb fc fd : List Bool) (la : length fa ≡ 16) (lb : length fb ≡ 16) (lc : length fc ≡ 16) (ld : length fd ≡ 16) where
-  abbrev two : List Bool
-  two = zip2 ◌||◌ fa fb
+-- what holds of the four vectors from a place on
+abbrev pub InFour : (ℕ → Type 0) → ℕ → Type 0
+InFour holds at = holds at × holds (at + 16) × holds (at + 32) × holds (at + 48)
 
-  abbrev three : List Bool
-  three = zip2 ◌||◌ two fc
-
-  length_two : length two ≡ 16
-  length_two = length-zip2 ◌||◌ fa fb (la ∙ sym lb) ∙ la
-
-  length_three : length three ≡ 16
-  length_three = length-zip2 ◌||◌ two fc (length_two ∙ sym lc) ∙ length_two
+module _ (flags : ℕ → List Bool) (at : ℕ) (long : (k : ℕ) → at ≤ k → k ≤ at + 48 → length (flags k) ≡ 16) where
+  long_or : (fs : List Bool) (k : ℕ) → length fs ≡ 16 → at ≤ k → k ≤ at + 48 → length (zip2 ◌||◌ fs (flags k)) ≡ 16
+  long_or fs k same low high = length-zip2 ◌||◌ fs (flags k) (same ∙ sym (long k low high)) ∙ same
 
   -- where no lane of four masks is set, none is of each
-  pub none_of_four : {xa xb xc xd : List ℕ} → xa ≡ lanes_of fa → xb ≡ lanes_of fb → xc ≡ lanes_of fc → xd ≡ lanes_of fd
-      → mask_l (map (top 7) (zip2 bit_or (zip2 bit_or (zip2 bit_or xa xb) xc) xd)) % 2 ^ 64 ≡ 0
-      → (mask_l fa ≡ 0) × (mask_l fb ≡ 0) × (mask_l fc ≡ 0) × (mask_l fd ≡ 0)
-  none_of_four {xa} {xb} {xc} {xd} ea eb ec ed none =
-      let all = zip2 ◌||◌ three fd in
-      let long : length all ≡ 16 = length-zip2 ◌||◌ three fd (length_three ∙ sym ld) ∙ length_three in
-      let lanes : zip2 bit_or (zip2 bit_or (zip2 bit_or xa xb) xc) xd ≡ lanes_of all =
-      cc (or_lanes fa fb, or_lanes two fc, or_lanes three fd) in
-      let nothing : mask_l all ≡ 0 = cc (mask_l-mod all 64 (omega arith), tops_of_lanes all) in
-      let last = none_of_two three fd (length_three ∙ sym ld) nothing in
-      let third = none_of_two two fc (length_two ∙ sym lc) last.0 in
-      let first = none_of_two fa fb (cc) third.0 in
+  pub none_of_four : {xa xb xc xd : List ℕ} → xa ≡ lanes_of (flags at) → xb ≡ lanes_of (flags (at + 16)) → xc ≡ lanes_of (flags (at + 32)) → xd ≡ lanes_of (flags (at + 48))
+      → mask_l (map (top 7) (zip2 bit_or (zip2 bit_or (zip2 bit_or xa xb) xc) xd)) % 2 ^ 64 ≡ 0 → InFour (λ k. mask_l (flags k) ≡ 0) at
+  none_of_four ea eb ec ed none =
+      let two = zip2 ◌||◌ (flags at) (flags (at + 16)) in
+      let three = zip2 ◌||◌ two (flags (at + 32)) in
+      let all = zip2 ◌||◌ three (flags (at + 48)) in
+      let long_a = long at (omega arith) (omega arith) in
+      let long_two = long_or (flags at) (at + 16) long_a (omega arith) (omega arith) in
+      let long_three = long_or two (at + 32) long_two (omega arith) (omega arith) in
+      let long_all = long_or three (at + 48) long_three (omega arith) (omega arith) in
+      let nothing : mask_l all ≡ 0 =
+      cc (or_lanes (flags at) (flags (at + 16)), or_lanes two (flags (at + 32)), or_lanes three (flags (at + 48)), mask_l-mod all 64 (omega arith), tops_of_lanes all) in
+      let last = none_of_two three (flags (at + 48)) (long_three ∙ sym (long (at + 48) (omega arith) (omega arith))) nothing in
+      let third = none_of_two two (flags (at + 32)) (long_two ∙ sym (long (at + 32) (omega arith) (omega arith))) last.0 in
+      let first = none_of_two (flags at) (flags (at + 16)) (long_a ∙ sym (long (at + 16) (omega arith) (omega arith))) third.0 in
       (first.0, first.1, third.1, last.1)
 
 -- ---- pieces of 64 bytes
@@ -81,16 +79,16 @@ module _ (test : ℕ → Bool) where
   kept_on : (t xs ys : List ℕ) → (t ++ filter test xs) ++ filter test ys ≡ t ++ filter test (xs ++ ys)
   kept_on t xs ys = cc (append_assoc t (filter test xs) (filter test ys), filter-append test xs ys)
 
-  pub kept_in_four : (t a b c d : List ℕ) → (((t ++ filter test a) ++ filter test b) ++ filter test c) ++ filter test d ≡ t ++ filter test (((a ++ b) ++ c) ++ d)
-  kept_in_four t a b c d = cc (kept_on t a b, kept_on t (a ++ b) c, kept_on t ((a ++ b) ++ c) d)
+  pub kept_in_four : (t : List ℕ) (at : ℕ) (from : List ℕ)
+      → (((t ++ filter test (chunk at 16 from)) ++ filter test (chunk (at + 16) 16 from)) ++ filter test (chunk (at + 32) 16 from)) ++ filter test (chunk (at + 48) 16 from)
+      ≡ t ++ filter test (chunk at 64 from)
+  kept_in_four t at from =
+      let a = chunk at 16 from in
+      let b = chunk (at + 16) 16 from in
+      let c = chunk (at + 32) 16 from in
+      cc (kept_on t a b, kept_on t (a ++ b) c, kept_on t ((a ++ b) ++ c) (chunk (at + 48) 16 from), chunk_in_four at from)
 
 -- where no flag is set in four vectors, all of their 64 bytes are kept
-pub all_kept_in_four : (test : ℕ → Bool) (at : ℕ) (from : List ℕ)
-    → (mask_l (map test (chunk at 16 from)) ≡ 0) × (mask_l (map test (chunk (at + 16) 16 from)) ≡ 0) × (mask_l (map test (chunk (at + 32) 16 from)) ≡ 0)
-    × (mask_l (map test (chunk (at + 48) 16 from)) ≡ 0) → filter (λ b. not (test b)) (chunk at 64 from) ≡ chunk at 64 from
+pub all_kept_in_four : (test : ℕ → Bool) (at : ℕ) (from : List ℕ) → InFour (λ k. mask_l (map test (chunk k 16 from)) ≡ 0) at → filter (λ b. not (test b)) (chunk at 64 from) ≡ chunk at 64 from
 all_kept_in_four test at from none =
-    let a = chunk at 16 from in
-    let b = chunk (at + 16) 16 from in
-    let c = chunk (at + 32) 16 from in
-    let d = chunk (at + 48) 16 from in
-    cc (chunk_in_four at from, kept_in_four (λ b. not (test b)) [] a b c d, all_kept test a none.0, all_kept test b none.1, all_kept test c none.2, all_kept test d none.3)
+    cc (kept_in_four (λ b. not (test b)) [] at from, all_kept test _ none.0, all_kept test _ none.1, all_kept test _ none.2, all_kept test _ none.3, chunk_in_four at from)

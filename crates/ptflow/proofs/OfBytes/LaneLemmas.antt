@@ -1,7 +1,7 @@
 -- What lanes do, byte by byte.
 use Rattle.ptflow.proofs.Common.{◌≡◌, ℕ, ◌+◌, ◌<◌, ◌≤◌, ◌%◌, Bool, false, List, [], ◌∷◌, ◌++◌, Option, map, take, drop, length, get_or, replicate, cond, refl, sym, ◌∙◌, ap, arith, w8, Fits, sum_by}
-use Rattle.ptflow.proofs.Common.{slice_get, option_map, sel_l, zip2, top, Each1, take-add, false≢true, map-append, tops_compared, zip2_splat, zip2_of_maps, splat_is_map, chunk-fits, Each1-from_get_or}
-use Rattle.ptflow.proofs.Common.{added, shifted, IsMovedTo, told_adds}
+use Rattle.ptflow.proofs.Common.{zero, suc, slice_get, option_map, sel_l, zip2, top, Each1, take-add, false≢true, map-append, tops_compared, zip2_splat, zip2_of_maps, splat_is_map, chunk-fits}
+use Rattle.ptflow.proofs.Common.{Each1-from_get_or, added, shifted, IsMovedTo, told_adds}
 use Rattle.std.specs.Prelude.{is_some}
 use Rattle.ptlangs.specs.declared.shifts.Stretch.{Stretch}
 
@@ -64,29 +64,26 @@ sum_is (s ∷ t ∷ u ∷ []) b few = omega arith
 sum_is (s ∷ t ∷ u ∷ v ∷ []) b few = omega arith
 sum_is (s ∷ t ∷ u ∷ v ∷ w ∷ more) b few = absurd (omega arith)
 
-none_at_one : (ss : List Stretch) (b : ℕ) → is_some (told_at ss 1) ≡ false → (adds_at ss 1 b ≡ 0) × (adds_at ss 2 b ≡ 0) × (adds_at ss 3 b ≡ 0)
-none_at_one [] b is = (refl, refl, refl)
-none_at_one (s ∷ []) b is = (refl, refl, refl)
-none_at_one (s ∷ t ∷ more) b is = absurd (false≢true (sym is))
-
-none_at_two : (ss : List Stretch) (b : ℕ) → is_some (told_at ss 2) ≡ false → (adds_at ss 2 b ≡ 0) × (adds_at ss 3 b ≡ 0)
-none_at_two [] b is = (refl, refl)
-none_at_two (s ∷ []) b is = (refl, refl)
-none_at_two (s ∷ t ∷ []) b is = (refl, refl)
-none_at_two (s ∷ t ∷ u ∷ more) b is = absurd (false≢true (sym is))
+none_from : (n k : ℕ) (ss : List Stretch) (b : ℕ) → n ≤ k → is_some (told_at ss n) ≡ false → adds_at ss k b ≡ 0
+none_from n k [] b le is = refl
+none_from zero k (s ∷ ss) b le is = absurd (false≢true (sym is))
+none_from (suc n) zero (s ∷ ss) b le is = absurd (omega arith)
+none_from (suc n) (suc k) (s ∷ ss) b le is = none_from n k ss b (omega arith) is
 
 module _ (ss : List Stretch) (few : length ss ≤ 4) (b : ℕ) where
   to_shifted : (n : ℕ) → n ≡ b + (adds_at ss 0 b + (adds_at ss 1 b + (adds_at ss 2 b + adds_at ss 3 b))) → n % 256 ≡ shifted ss b
   to_shifted n is = ap (λ k. k % 256) (cc (sum_is ss b few))
 
   pub one_moves : {x : ℕ} → x ≡ adds_at ss 0 b → is_some (told_at ss 1) ≡ false → (b + x) % 256 ≡ shifted ss b
-  one_moves {x} ex is = let none = none_at_one ss b is in to_shifted (b + x) (omega arith)
+  one_moves {x} ex is =
+      let none = λ (k : ℕ) (le : 1 ≤ k). none_from 1 k ss b le is in
+      to_shifted (b + x) (omega (arith, none 1 (omega arith), none 2 (omega arith), none 3 (omega arith)))
 
   pub two_move : {x y : ℕ} → x ≡ adds_at ss 0 b → y ≡ adds_at ss 1 b → is_some (told_at ss 2) ≡ false → ((b + x) % 256 + y) % 256 ≡ shifted ss b
   two_move {x} {y} ex ey is =
-      let none = none_at_two ss b is in
+      let none = λ (k : ℕ) (le : 2 ≤ k). none_from 2 k ss b le is in
       let flat : ((b + x) % 256 + y) % 256 ≡ (b + (x + y)) % 256 = omega arith in
-      flat ∙ to_shifted (b + (x + y)) (omega arith)
+      flat ∙ to_shifted (b + (x + y)) (omega (arith, none 2 (omega arith), none 3 (omega arith)))
 
   pub four_move : {x y z w : ℕ} → x ≡ adds_at ss 0 b → y ≡ adds_at ss 1 b → z ≡ adds_at ss 2 b → w ≡ adds_at ss 3 b → ((((b + x) % 256 + y) % 256 + z) % 256 + w) % 256 ≡ shifted ss b
   four_move {x} {y} {z} {w} ex ey ez ew =

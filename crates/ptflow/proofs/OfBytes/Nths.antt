@@ -1,14 +1,15 @@
 -- The n-th item of a list that passes a test, by the bits of a mask, of which the lowest are cleared; and that the
 -- fields behind the n-th delimiter start there.
-use Rattle.ptflow.proofs.Common.{◌≡◌, ⊎_elim, ℕ, zero, suc, ◌+◌, ◌-◌, ◌*◌, ◌/◌, ◌%◌, ◌^◌, ◌<◌, ◌≤◌, min, Bool, true, false, cond, not, Option, None, Some, List, [], ◌∷◌, ◌++◌, length, map, take, drop}
+use Rattle.ptflow.proofs.Common.{◌≡◌, ⊎_elim, ℕ, zero, suc, ◌+◌, ◌-◌, ◌*◌, ◌/◌, ◌%◌, ◌^◌, ◌<◌, ◌≤◌, min, Bool, true, false, cond, not, Option, Some, List, [], ◌∷◌, ◌++◌, length, map, take, drop}
 use Rattle.ptflow.proofs.Common.{get_or, refl, sym, ◌∙◌, ap, subst, arith, get_or-take, take-append-drop, length-drop, count_ones, count_by, prefix_len, mask_l, chunk, take-add, eqb-true, cases_order}
 use Rattle.ptflow.proofs.Common.{take_more, take-take, take_all, drop_more, take_at, drop_at, length-take-le, length-slice_split, get_or-le-sum_by, sum_by-cons, sum_by-append, sum_by-take-le}
-use Rattle.ptflow.proofs.Common.{count_by-le-length, trailing_mask_l, ones-mask_l, get_or-chunk, length-chunk, IsFirstByte, NoneBefore, Passes, is_byte, IsLine, before_end, no_end, other_byte}
-use Rattle.ptflow.proofs.Common.{IsBehind, IsNth, HasEnds, fields, StartsAt}
+use Rattle.ptflow.proofs.Common.{count_by-le-length, trailing_mask_l, ones-mask_l, get_or-chunk, length-chunk, IsFirstByte, NoneBefore, Passes, is_byte, IsLine, before_end, other_byte, IsBehind}
+use Rattle.ptflow.proofs.Common.{HasEnds, fields, StartsAt, put_chunk, take_more_put_chunk, length-put_chunk, length-set, unwrap_or, delim_at, with_turns, slice_set}
 use Rattle.std.proofs.lemmas.List.{get_or-drop}
 use lib.Bits.{bit_and, and_step, and_self, and_zero_l}
 use lib.Count.{count_trailing_zeros}
 use Rattle.ptflow.proofs.OfCut.FieldPlaces.{fields-append, led_fields, starts_more, few_left}
+use Rattle.ptflow.proofs.OfPaste.Turns.{first_turns, turn_on, all_turned, set_in_chunk}
 
 -- ---- bits of a mask
 
@@ -131,13 +132,6 @@ module _ (p : ℕ → Bool) (bytes : List ℕ) where
       cc (get_or-take to bytes (at + k) 0 lt, get_or-chunk at size bytes k 0 near),
       cc (take-take (at + k) to bytes (omega arith), count_front),
     )
-
-  -- the place that the mask of a chunk gives
-  pub behind_in_chunk : (at : ℕ) {left marked count : ℕ} (k : ℕ) → at + 64 ≤ length bytes → marked ≡ mask_l (map p (chunk at 64 bytes)) → count ≡ count_ones marked → 0 < left → left ≤ count
-      → ((test : ℕ → Bool) (xs : List ℕ) → length xs ≤ 64 → marked ≡ mask_l (map test xs) → left - 1 < count_by test xs → IsBehind test 0 (left - 1) xs k)
-      → IsBehind p 0 (left - 1) (chunk at 64 bytes) k
-  behind_in_chunk at k room is counted some le found =
-      found p (chunk at 64 bytes) (omega (arith, length-chunk at 64 bytes room)) is (omega (arith, counted, ap count_ones is ∙ ones-mask_l p (chunk at 64 bytes)))
 
   -- none in front of the first one passes
   pub first_is : (at : ℕ) → IsBehind p 0 0 bytes at → NoneBefore (Passes p bytes) 0 (length bytes) at × Passes p bytes at
@@ -312,3 +306,63 @@ module _ {d : ℕ} {block : List ℕ} {from all marked : ℕ} (n start : ℕ) (h
     first = next_is p block start _ fits is as_many;
     counted = omega (arith, one_behind p block start _ fits is as_many, as_many, ends);
   }
+
+-- ---- the ends of a chunk, replaced one after another
+
+-- so many ends of the 64 bytes at a place were replaced, and the mask has the others
+pub record Replacing (end : ℕ) (delims : List (Option ℕ)) (first at : ℕ) (from was : List ℕ) (n marked : ℕ) (to : List ℕ) : Type 0 where
+  pub room : at + 64 ≤ length from
+  pub same : length was ≡ length from
+  pub bits : marked ≡ mask_l (without n (map (is_byte end) (chunk at 64 from)))
+  pub long : length to ≡ length from
+  pub replaced : take (at + 64) to ≡ take at was ++ first_turns end delims n first (chunk at 64 from)
+
+pub replacing_starts : (end : ℕ) (delims : List (Option ℕ)) (first at : ℕ) (from was : List ℕ) {marked : ℕ} → at + 64 ≤ length from → length was ≡ length from
+    → marked ≡ mask_l (map (is_byte end) (chunk at 64 from)) → Replacing end delims first at from was 0 marked (put_chunk at was (chunk at 64 from))
+replacing_starts end delims first at from was room same is =
+    let ends = chunk at 64 from in
+    let long : length ends ≡ 64 = length-chunk at 64 from room in
+    record {
+      room = room;
+      same = same;
+      bits = is;
+      long = cc (length-put_chunk at was ends);
+      replaced = take_more_put_chunk at was ends (at + 64) (omega arith) (omega arith);
+    }
+
+module _ {end : ℕ} {delims : List (Option ℕ)} {first at : ℕ} {from was : List ℕ} {n marked : ℕ} {to : List ℕ} (r : Replacing end delims first at from was n marked to)
+    {all : ℕ} (is : all ≡ mask_l (map (is_byte end) (chunk at 64 from))) where
+  abbrev ends : List ℕ
+  ends = chunk at 64 from
+
+  ends_counted : count_ones all ≡ count_by (is_byte end) ends
+  ends_counted = ap count_ones is ∙ ones-mask_l (is_byte end) ends
+
+  module _ (some : n < count_ones all) where
+    abbrev bit_at : ℕ
+    bit_at = count_trailing_zeros 64 marked
+
+    bit_stands : IsBehind (is_byte end) 0 n ends bit_at
+    bit_stands = behind_set (is_byte end) ends n (omega (arith, length-chunk at 64 from r.room)) (omega (arith, ends_counted)) r.bits
+
+    pub end_within : at + bit_at < length to
+    end_within = omega (arith, bit_stands.0, length-chunk at 64 from r.room, r.room, r.long)
+
+    -- the lowest one is set to what it becomes
+    pub replacing_more : {rest put : ℕ} {to' : List ℕ} → marked < 2 ^ 64 → put ≡ unwrap_or (delim_at delims (first + n)) end → rest ≡ bit_and marked ((marked + (2 ^ 64 - 1)) % 2 ^ 64)
+        → to' ≡ slice_set to (at + bit_at) put → Replacing end delims first at from was (n + 1) rest to'
+    replacing_more {rest} {put} {to'} small put_is rest_is to_is =
+        let next : suc n ≡ n + 1 = omega arith in
+        let front : length (take at was) ≡ at = length-take-le at was (omega (arith, r.room, r.same)) in
+        let near : bit_at < 64 = omega (arith, bit_stands.0, length-chunk at 64 from r.room) in
+        record {
+          room = r.room;
+          same = r.same;
+          bits = cc (cleared n (map (is_byte end) ends) small r.bits);
+          long = cc (length-set to (at + bit_at) put, r.long);
+          replaced =
+              cc (set_in_chunk to (take at was) (first_turns end delims n first ends) at 64 bit_at put r.replaced front near, turn_on end delims n first ends bit_at bit_stands);
+        }
+
+  pub replacing_ends : n ≡ count_ones all → (n ≡ count_by (is_byte end) ends) × (take (at + 64) to ≡ take at was ++ with_turns end delims first ends)
+  replacing_ends over = (over ∙ ends_counted, cc (all_turned end delims first ends n (over ∙ ends_counted), r.replaced))

@@ -1,8 +1,13 @@
 -- What `cut` by fields writes of a line, by whether the delimiter is in it; and that it is a tool that works line by
 -- line. It carries nothing, so what is written of some lines and of others is what is written of both.
-use Rattle.ptflow.proofs.Common.{◌≡◌, ℕ, ◌==◌, true, false, arith, List, [], ◌∷◌, ◌++◌, refl, ◌∙◌, ap, Option, None, Some, is_some, flat_map, list_any, list_any_at, IsFirstByte, is_byte, no_end}
-use Rattle.ptflow.proofs.Common.{append-nil, flat_map-append, text, IsLine, other_byte, text-append, Cut, is_delimiter, cut_fields, cut_line, cut_lines, cut_tool, cut_from, Begins, whole_lines}
-use Rattle.ptflow.proofs.Common.{IsLineTool}
+-- After that what it writes of the first lines of a block: of a line with the delimiter its fields, and lines without
+-- it as they are, or nothing.
+use Rattle.ptflow.proofs.Common.{◌≡◌, ℕ, ◌==◌, true, false, arith, List, [], ◌∷◌, ◌++◌, refl, ◌∙◌, ap, Option, None, Some, is_some, flat_map, list_any, list_any_at, IsFirstByte, is_byte}
+use Rattle.ptflow.proofs.Common.{no_end, append-nil, flat_map-append, text, IsLine, other_byte, text-append, Cut, is_delimiter, cut_fields, cut_line, cut_lines, cut_tool, cut_from, Begins}
+use Rattle.ptflow.proofs.Common.{whole_lines, IsLineTool, zero, suc, ◌+◌, ◌-◌, ◌<◌, ◌≤◌, ◌⊎◌, inl, inr, length, take, drop, common_steps, get_or, sym, ap₂, subst, append_assoc, get_or-take}
+use Rattle.ptflow.proofs.Common.{take-append-drop, unwrap_or, take-take, take_more, take_all, length-take-le, ended_lines, AreLines, before_end, take_end, drop_end, ended_first, the_lines}
+use Rattle.ptflow.proofs.Common.{the_ended_lines, PutsLines}
+use Rattle.ptflow.proofs.OfPasses.LineLaws.{ended_next, parts_of}
 
 pub none_of : (d : ℕ) (line : List ℕ) → IsLine d line → list_any (λ b. b == d) line ≡ false
 none_of d [] free = refl
@@ -52,3 +57,111 @@ module _ (job : Cut) where
     ends = refl;
     some = omega arith;
   }
+
+-- ---- lines in front of others
+
+ended-append : (end : ℕ) (ls : List (List ℕ)) (bytes : List ℕ) → AreLines end ls → ended_lines end (text end ls ++ bytes) ≡ ls ++ ended_lines end bytes
+ended-append end [] bytes whole = refl
+ended-append end (l ∷ ls) bytes whole =
+    cc (append_assoc l (end ∷ []) (text end ls), append_assoc l (end ∷ text end ls) bytes, ended_first end l (text end ls ++ bytes) whole.0, ended-append end ls bytes whole.1)
+
+-- bytes that end with the end are the text of their lines
+text_of_ended : (end : ℕ) (front : List ℕ) → text end (ended_lines end (front ++ end ∷ [])) ≡ front ++ end ∷ []
+text_of_ended end front = grind (arith, the_ended_lines end [] tt, the_lines end (front ++ end ∷ []))
+
+-- ---- lines without the delimiter
+
+free_front : (d : ℕ) (n : ℕ) (bytes : List ℕ) → IsLine d bytes → IsLine d (take n bytes)
+free_front d n [] free = grind (arith, common_steps)
+free_front d zero (b ∷ bytes) free = tt
+free_front d (suc n) (b ∷ bytes) free = (free.0, free_front d n bytes free.1)
+
+free_lines : (d end : ℕ) (bytes : List ℕ) → IsLine d bytes → AreLines d (ended_lines end bytes)
+free_lines d end [] free = tt
+free_lines d end (b ∷ bytes) free = grind (arith, free_lines d end bytes free.1)
+
+module _ (job : Cut) (by_fields : job.fields ≡ true) where
+  lines_kept : job.only ≡ false → (ls : List (List ℕ)) → AreLines job.delimiter ls → flat_map (cut_line job) ls ≡ ls
+  lines_kept keeps [] free = refl
+  lines_kept keeps (l ∷ ls) free = ap₂ (λ (a b : List (List ℕ)). a ++ b) (of_line job by_fields l (none_of job.delimiter l free.0) keeps) (lines_kept keeps ls free.1)
+
+  lines_dropped : job.only ≡ true → (ls : List (List ℕ)) → AreLines job.delimiter ls → flat_map (cut_line job) ls ≡ []
+  lines_dropped only [] free = refl
+  lines_dropped only (l ∷ ls) free = ap₂ (λ (a b : List (List ℕ)). a ++ b) (of_none job by_fields l (none_of job.delimiter l free.0) only) (lines_dropped only ls free.1)
+
+-- ---- the first lines of a block
+
+module _ {job : Cut} {end : ℕ} {bytes : List ℕ} {size : ℕ} (some : 0 < size) (fits : size ≤ length bytes) (front : List (List ℕ)) (texts : text end front ≡ take size bytes)
+    (lines_are : ended_lines end bytes ≡ front ++ ended_lines end (drop size bytes)) where
+  puts : {old new : List ℕ} → new ≡ old ++ cut_lines job front → PutsLines job end bytes size old new
+  puts {old} is = record {
+    some = some;
+    fits = fits;
+    taken = cc (lines_are, text-append end front (ended_lines end (drop size bytes)), texts);
+    on = λ more.
+        let rest = ended_lines end (drop size bytes) ++ more in
+        cc (lines_are, append_assoc front (ended_lines end (drop size bytes)) more, cut_lines-append job front rest, append_assoc old (cut_lines job front) (cut_lines job rest));
+  }
+
+module _ (job : Cut) (by_fields : job.fields ≡ true) {end : ℕ} (same : end ≡ job.end) (bytes : List ℕ) (to : ℕ) (first : IsFirstByte (is_byte end) bytes (Some to)) where
+  -- one line, of which these bytes are written
+  pub puts_line : (out : List ℕ) {old new : List ℕ} → cut_line job (take to bytes) ≡ out ∷ [] → new ≡ old ++ (out ++ take 1 (drop to bytes)) → PutsLines job end bytes (to + 1) old new
+  puts_line out is put =
+      puts (omega arith) (omega arith) (take to bytes ∷ [])
+      (append-nil (take to bytes ++ end ∷ []) ∙ sym (take_end end bytes to first)) (ended_next end bytes to first)
+      (cc (drop_end end bytes to first, line_written job (take to bytes) out is))
+
+  -- all whole lines up to a place; the delimiter is not in them
+  module _ {size up_to : ℕ} (high : to < size) (fits : size ≤ length bytes) (ended : get_or bytes (size - 1) 0 ≡ end) (near : (size ≡ to + 1) ⊎ (size ≤ up_to)) (past : to ≤ up_to)
+      (free : IsLine job.delimiter (take up_to bytes)) where
+    abbrev front : List (List ℕ)
+    front = ended_lines end (take size bytes)
+
+    is_ended : take size bytes ≡ take (size - 1) bytes ++ end ∷ []
+    is_ended =
+        let whole : size - 1 + 1 ≡ size = omega arith in
+        cc (take_more bytes (size - 1) 0 (omega arith))
+
+    texts : text end front ≡ take size bytes
+    texts = cc (is_ended, text_of_ended end (take (size - 1) bytes))
+
+    lines_are : ended_lines end bytes ≡ front ++ ended_lines end (drop size bytes)
+    lines_are =
+        cc (take-append-drop size bytes, texts, ended-append end front (drop size bytes) (parts_of end (take size bytes)).whole)
+
+    free_up_to : {n : ℕ} → n ≤ up_to → IsLine job.delimiter (take n bytes)
+    free_up_to {n} le = rw (take-take n up_to bytes le) at (free_front job.delimiter n (take up_to bytes) free)
+
+    are_free : ((size ≡ to + 1) ⊎ (size ≤ up_to)) → AreLines job.delimiter front
+    are_free (inl one) =
+        let is : front ≡ take to bytes ∷ [] =
+        cc (take_end end bytes to first, ended_first end (take to bytes) [] (before_end end bytes to first)) in
+        subst (AreLines job.delimiter) (sym is) (free_up_to past, tt)
+    are_free (inr le) = free_lines job.delimiter end (take size bytes) (free_up_to le)
+
+    pub puts_kept : {old new : List ℕ} → job.only ≡ false → new ≡ old ++ take size bytes → PutsLines job end bytes size old new
+    puts_kept keeps put =
+        puts (omega arith) fits front texts lines_are (cc (texts, lines_kept job by_fields keeps front (are_free near)))
+
+    pub puts_dropped : {old : List ℕ} → job.only ≡ true → PutsLines job end bytes size old old
+    puts_dropped {old} only =
+        puts (omega arith) fits front texts lines_are
+        (sym (cc (lines_dropped job by_fields only front (are_free near), append-nil old)))
+
+-- in front of the first delimiter there is none
+pub free_before : (d : ℕ) (bytes : List ℕ) (r : Option ℕ) → IsFirstByte (is_byte d) bytes r → IsLine d (take (unwrap_or r (length bytes)) bytes)
+free_before d bytes None none = subst (IsLine d) (sym (take_all (length bytes) bytes (omega arith))) (no_end d bytes none)
+free_before d bytes (Some at) first = before_end d bytes at first
+
+-- the first delimiter of some bytes is the first one of the line in front that it stands in
+pub first_within : (d : ℕ) (bytes : List ℕ) (r : Option ℕ) (to : ℕ) → IsFirstByte (is_byte d) bytes r → unwrap_or r (length bytes) < to → to ≤ length bytes
+    → IsFirstByte (is_byte d) (take to bytes) (Some (unwrap_or r (length bytes)))
+first_within d bytes None to none lt le = absurd (omega arith)
+first_within d bytes (Some at) to first lt le = (
+  record {
+    low = omega arith;
+    high = omega (arith, length-take-le to bytes le);
+    before = λ k low high is. first.0.before k low high (cc (get_or-take to bytes k 0 (omega arith)));
+  },
+  cc (get_or-take to bytes at 0 lt),
+)

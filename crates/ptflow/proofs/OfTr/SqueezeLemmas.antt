@@ -6,7 +6,7 @@ use Rattle.ptflow.proofs.Common.{drop-drop, drop_all, take-set, take_more_set, t
 use mir.Val.{bool_byte, Fits}
 use Rattle.std.proofs.Math.Facts.{Fits-lt-pow}
 use Rattle.std.proofs.lemmas.List.{take-append-drop}
-use Rattle.ptflow.proofs.OfBytes.FourLanes.{lanes_of, chunk_parts, chunk_in_four}
+use Rattle.ptflow.proofs.OfBytes.FourLanes.{InFour, lanes_of, chunk_parts, chunk_in_four}
 use Rattle.ptflow.proofs.OfTr.TrRests.{behind_one, from_one}
 
 -- the last byte of a piece
@@ -180,36 +180,39 @@ module _ (test : ℕ → Bool) (from : List ℕ) where
       let last = get_or from (at - 1) 0 in
       cc (chunk_parts at n m from, behind_on test last (chunk at n from) (chunk (at + n) m from), piece_ends from at n some room)
 
-  -- what stays of 64 bytes, 16 after 16
-  pub stays_in_four : {at : ℕ} → 0 < at → at + 64 ≤ length from
-      → ((stays_at at ++ stays_at (at + 16)) ++ stays_at (at + 32)) ++ stays_at (at + 48) ≡ squeeze_behind test (get_or from (at - 1) 0) (chunk at 64 from)
-  stays_in_four {at} behind room =
-      let s = λ (k : ℕ). squeeze_behind test (get_or from (k - 1) 0) (chunk k 16 from) in
-      cc (
-        stays_piece _ behind (omega arith),
-        stays_piece (at + 16) (omega arith) (omega arith),
-        stays_piece (at + 32) (omega arith) (omega arith),
-        stays_piece (at + 48) (omega arith) (omega arith),
-        behind_parts at 16 16 (omega arith) (omega arith),
-        behind_parts at 32 16 (omega arith) (omega arith),
-        behind_parts at 48 16 (omega arith) (omega arith),
-      )
+  module _ {at : ℕ} (behind : 0 < at) (room : at + 64 ≤ length from) where
+    -- what stays of 64 bytes, 16 after 16
+    pub stays_in_four : ((stays_at at ++ stays_at (at + 16)) ++ stays_at (at + 32)) ++ stays_at (at + 48) ≡ squeeze_behind test (get_or from (at - 1) 0) (chunk at 64 from)
+    stays_in_four =
+        let s = λ (k : ℕ). squeeze_behind test (get_or from (k - 1) 0) (chunk k 16 from) in
+        cc (
+          stays_piece _ behind (omega arith),
+          stays_piece (at + 16) (omega arith) (omega arith),
+          stays_piece (at + 32) (omega arith) (omega arith),
+          stays_piece (at + 48) (omega arith) (omega arith),
+          behind_parts at 16 16 (omega arith) (omega arith),
+          behind_parts at 32 16 (omega arith) (omega arith),
+          behind_parts at 48 16 (omega arith) (omega arith),
+        )
 
-  -- where no byte goes, all of them stay
-  pub all_stay_in_four : {at : ℕ} → 0 < at → at + 64 ≤ length from
-      → (mask_l (gone_flags test at from) ≡ 0) × (mask_l (gone_flags test (at + 16) from) ≡ 0) × (mask_l (gone_flags test (at + 32) from) ≡ 0)
-      × (mask_l (gone_flags test (at + 48) from) ≡ 0) → squeeze_behind test (get_or from (at - 1) 0) (chunk at 64 from) ≡ chunk at 64 from
-  all_stay_in_four {at} behind room none =
-      let stay = λ (k : ℕ) (some : 0 < k) (there : k + 16 ≤ length from). none_goes test (chunk (k - 1) 16 from) (chunk k 16 from)
-      (length-chunk (k - 1) 16 from (omega arith) ∙ sym (length-chunk k 16 from there)) in
-      cc (
-        stays_in_four behind room,
-        stay at behind (omega arith) none.0,
-        stay (at + 16) (omega arith) (omega arith) none.1,
-        stay (at + 32) (omega arith) (omega arith) none.2,
-        stay (at + 48) (omega arith) (omega arith) none.3,
-        chunk_in_four at from,
-      )
+    long_fronts : (k : ℕ) → at ≤ k → k ≤ at + 48 → length (chunk (k - 1) 16 from) ≡ length (chunk k 16 from)
+    long_fronts k low high = length-chunk (k - 1) 16 from (omega arith) ∙ sym (length-chunk k 16 from (omega arith))
+
+    pub long_flags : (f : ℕ → ℕ → Bool) (k : ℕ) → at ≤ k → k ≤ at + 48 → length (zip2 f (chunk (k - 1) 16 from) (chunk k 16 from)) ≡ 16
+    long_flags f k low high = length-zip2 f (chunk (k - 1) 16 from) (chunk k 16 from) (long_fronts k low high) ∙ length-chunk (k - 1) 16 from (omega arith)
+
+    -- where no byte goes, all of them stay
+    pub all_stay_in_four : InFour (λ k. mask_l (gone_flags test k from) ≡ 0) at → squeeze_behind test (get_or from (at - 1) 0) (chunk at 64 from) ≡ chunk at 64 from
+    all_stay_in_four none =
+        let stay = λ (k : ℕ) (low : at ≤ k) (high : k ≤ at + 48). none_goes test (chunk (k - 1) 16 from) (chunk k 16 from) (long_fronts k low high) in
+        cc (
+          stays_in_four,
+          stay at (omega arith) (omega arith) none.0,
+          stay (at + 16) (omega arith) (omega arith) none.1,
+          stay (at + 32) (omega arith) (omega arith) none.2,
+          stay (at + 48) (omega arith) (omega arith) none.3,
+          chunk_in_four at from,
+        )
 
 -- tests that agree on bytes squeeze the same repeats
 pub same_behind : (p q : ℕ → Bool) → ((b : ℕ) → b < 256 → p b ≡ q b) → (last : ℕ) (bytes : List ℕ) → Each1 (Fits w8) bytes → squeeze_behind p last bytes ≡ squeeze_behind q last bytes

@@ -1,20 +1,20 @@
 -- As in `put_fields`, an interval is walked in two steps, to its first field and behind its last one. But its slice is
 -- pushed, and a push may fail: then what was pushed is a beginning of the selected fields.
-use Rattle.ptflow.proofs.Common.{Some, ◌+◌, ◌-◌, ◌≤◌, ◌++◌, ℕ, List, [], take, drop, get_or, length, refl, sym, ◌∙◌, ap, subst, arith, take_all, take_rest, drop_all, append-nil, join_with_byte}
-use Rattle.ptflow.proofs.Common.{IsFirstByte, is_byte, wrote_nothing, is_selected, cut_job, cut_fields, fields, StartsAt}
-use Rattle.ptflow.proofs.OfBytes.Chosen.{chosen}
+use Rattle.ptflow.proofs.Common.{Some, ◌-◌, ◌≤◌, ℕ, List, [], take, drop, length, refl, sym, subst, arith, take_all, take_rest, drop_all, append-nil, IsFirstByte, is_byte, wrote_nothing, cut_job}
+use Rattle.ptflow.proofs.Common.{cut_fields, fields, StartsAt, ap, join_with_byte, is_selected, ◌+◌}
 use Rattle.ptflow.proofs.OfPasses.Fronts.{front_starts, front_more, front_fails, front_ends}
-use Rattle.ptflow.proofs.OfCut.FieldWalks.{not_past, step_fits, slice_fits, coming, all_coming, walking_starts, walking_done, walking_short, walking_ends, walking_slice, walking_more}
+use Rattle.ptflow.proofs.OfCut.FieldWalks.{not_past, step_fits, slice_fits, all_coming, walking_starts, walking_done, walking_short, walking_ends, walking_slice, walking_more}
+use Rattle.ptflow.proofs.OfBytes.Chosen.{chosen}
+use Rattle.ptflow.proofs.tools.cut.fields.push_fields.Given as given
 use Rattle.ptflow.proofs.tools.cut.fields.push_fields.Goals as goal
+use Rattle.ptflow.proofs.tools.cut.fields.push_fields.Goals.{In-Some-field_behind}
 
 pub loop-interval-init : goal.loop-interval-init
 loop-interval-init g c =
     let d = c.args.job.now.delim in
     let line = c.args.line.now in
-    let all = c.intervals-selected.result.now in record {
-      front = front_starts (sym (append-nil (cut_fields (cut_job c.args.job.now) line)) ∙ ap
-          (λ l. join_with_byte d (chosen (is_selected l) 1 (fields d line)) ++ []) (sym c.intervals-selected.ensures.kept) ∙ all_coming d all line [])
-          c.requires.clean;
+    let kept = ap (λ l. join_with_byte d (chosen (is_selected l) 1 (fields d line))) c.intervals-selected.ensures.kept in record {
+      front = front_starts (cc (append-nil (cut_fields (cut_job c.args.job.now) line), kept, all_coming d c.intervals-selected.result.now line [])) c.requires.clean;
       walk = walking_starts c.intervals-selected.ensures.apart;
       known = λ le. refl;
     }
@@ -28,122 +28,86 @@ few d line at le = rw (take_all (length line) line (omega arith)) at le
 
 pub returns-in_default-clause-wrote : goal.returns-in_default-clause-wrote
 returns-in_default-clause-wrote g c =
-    let d = c.args.job.now.delim in
-    let line = c.args.line.now in
-    let all = c.intervals-selected.result.now in
     let l = c.loop-interval in
-    front_ends l.invariant.front (walking_short all [] _ l.invariant.walk c.loop-interval-test.true
-    (few d line l.at c.in_default.ensures.found)) (wrote_nothing l.out)
+    front_ends l.invariant.front (walking_short c.intervals-selected.result.now [] _ l.invariant.walk c.loop-interval-test.true
+    (few c.args.job.now.delim c.args.line.now l.at c.in_default.ensures.found)) (wrote_nothing l.out)
 
 pub returns-in_default-field_behind-clause-wrote : goal.returns-in_default-field_behind-clause-wrote
 returns-in_default-field_behind-clause-wrote g c =
-    let d = c.args.job.now.delim in
     let line = c.args.line.now in
-    let all = c.intervals-selected.result.now in
     let l = c.loop-interval in
-    let from = l.at + c.in-Some.skipped in
     let s = found line l.at c.in-Some.ensures.found in
-    front_ends l.invariant.front (walking_ends all _ _ l.invariant.walk c.loop-interval-test.true s (length line) line
+    front_ends l.invariant.front (walking_ends c.intervals-selected.result.now _ _ l.invariant.walk c.loop-interval-test.true s (length line) line
     (sym (take_all (length line) line (omega arith))) (sym (drop_all (length line) line (omega arith)))
-    (few d line from c.in_default-field_behind.ensures.found)) (rw take_rest at c.push.ensures.wrote)
+    (few c.args.job.now.delim line (l.at + c.in-Some.skipped) c.in_default-field_behind.ensures.found)) (rw take_rest at c.push.ensures.wrote)
 
 pub returns-in_err-push-clause-wrote : goal.returns-in_err-push-clause-wrote
 returns-in_err-push-clause-wrote g c =
-    let d = c.args.job.now.delim in
-    let line = c.args.line.now in
-    let all = c.intervals-selected.result.now in
     let l = c.loop-interval in
-    let i = l.interval-index in
-    let r = get_or all i (record { first = 0; last = 0 }) in
-    let from = l.at + c.in-Some.skipped in
-    let next = from + c.in-Some-field_behind.passed in
-    let s = found line l.at c.in-Some.ensures.found in
-    let p = found line from c.in-Some-field_behind.ensures.found in
-    front_fails l.invariant.front (coming d (drop (i + 1) all) line [] (r.last + 1) next 1)
-    (walking_slice all [] i l.invariant.walk c.loop-interval-test.true s p)
+    let s = found c.args.line.now c.loop-interval.at c.in-Some.ensures.found in
+    let p = found c.args.line.now (c.loop-interval.at + c.in-Some.skipped) c.in-Some-field_behind.ensures.found in
+    front_fails l.invariant.front _ (walking_slice c.intervals-selected.result.now [] l.interval-index l.invariant.walk c.loop-interval-test.true s p)
     c.in_err-push.ensures.wrote c.in_err-push.ensures.fault
 
 pub loop-interval-preserved : goal.loop-interval-preserved
 loop-interval-preserved g c =
-    let d = c.args.job.now.delim in
-    let line = c.args.line.now in
     let all = c.intervals-selected.result.now in
     let l = c.loop-interval in
-    let i = l.interval-index in
-    let r = get_or all i (record { first = 0; last = 0 }) in
-    let from = l.at + c.in-Some.skipped in
-    let next = from + c.in-Some-field_behind.passed in
-    let s = found line l.at c.in-Some.ensures.found in
-    let p = found line from c.in-Some-field_behind.ensures.found in record {
-      front = front_more l.invariant.front (coming d (drop (i + 1) all) line [] (r.last + 1) next 1)
-          (walking_slice all [] i l.invariant.walk c.loop-interval-test.true s p)
+    let s = found c.args.line.now c.loop-interval.at c.in-Some.ensures.found in
+    let p = found c.args.line.now (c.loop-interval.at + c.in-Some.skipped) c.in-Some-field_behind.ensures.found in record {
+      front = front_more l.invariant.front _ (walking_slice all [] l.interval-index l.invariant.walk c.loop-interval-test.true s p)
           c.in_ok-push.ensures.wrote c.in_ok-push.ensures.clean;
-      walk = walking_more all [] i l.invariant.walk c.loop-interval-test.true s p;
+      walk = walking_more all [] l.interval-index l.invariant.walk c.loop-interval-test.true s p;
       known = c.in-Some-field_behind.ensures.start;
     }
 
 pub returns-clause-wrote : goal.returns-clause-wrote
 returns-clause-wrote g c =
-    let all = c.intervals-selected.result.now in
     let l = c.loop-interval in
-    front_ends l.invariant.front (walking_done all [] _ l.invariant.walk c.loop-interval-test.false) (wrote_nothing l.out)
+    front_ends l.invariant.front (walking_done c.intervals-selected.result.now [] _ l.invariant.walk c.loop-interval-test.false) (wrote_nothing l.out)
+
+-- both steps end within the line
+far : (g : given.Over) (c : In-Some-field_behind g) → c.loop-interval.at + c.in-Some.skipped + c.in-Some-field_behind.passed ≤ length c.args.line.now
+far g c =
+    slice_fits c.loop-interval.invariant.walk (found c.args.line.now c.loop-interval.at c.in-Some.ensures.found)
+    (found c.args.line.now (c.loop-interval.at + c.in-Some.skipped) c.in-Some-field_behind.ensures.found)
 
 pub overflow_add-number : goal.overflow_add-number
 overflow_add-number g c =
-    let l = c.loop-interval in
-    let line = c.args.line.now in
-    let far = slice_fits l.invariant.walk (found line l.at c.in-Some.ensures.found) (found line (l.at + c.in-Some.skipped) c.in-Some-field_behind.ensures.found) in
-    omega (arith, c.in-Some-field_behind.ensures.found.count, c.in-Some.ensures.found.count, l.invariant.walk.count, c.requires.short)
+    let near = far g (goal.at.overflow_add-number g c).In-Some-field_behind in
+    omega (arith, c.in-Some-field_behind.ensures.found.count, c.in-Some.ensures.found.count, c.loop-interval.invariant.walk.count, c.requires.short)
 
 pub overflow_add-at : goal.overflow_add-at
-overflow_add-at g c =
-    let l = c.loop-interval in
-    let line = c.args.line.now in
-    let far = slice_fits l.invariant.walk (found line l.at c.in-Some.ensures.found) (found line (l.at + c.in-Some.skipped) c.in-Some-field_behind.ensures.found) in
-    omega arith
+overflow_add-at g c = omega (arith, far g (goal.at.overflow_add-at g c).In-Some-field_behind)
 
 pub overflow_add-from : goal.overflow_add-from
-overflow_add-from g c =
-    let l = c.loop-interval in
-    let line = c.args.line.now in
-    let near = step_fits l.invariant.walk (found line l.at c.in-Some.ensures.found) in
-    omega arith
+overflow_add-from g c = omega (arith, step_fits c.loop-interval.invariant.walk (found c.args.line.now c.loop-interval.at c.in-Some.ensures.found))
 
 pub field_behind-requires-clause-first : goal.field_behind-requires-clause-first
-field_behind-requires-clause-first g c =
-    let line = c.args.line.now in
-    rw (take_all (length line) line (omega arith)) c.requires.first
+field_behind-requires-clause-first g c = rw (take_all (length c.args.line.now) c.args.line.now (omega arith)) c.requires.first
 
 pub field_behind-requires-in-loop-interval-clause-first : goal.field_behind-requires-in-loop-interval-clause-first
 field_behind-requires-in-loop-interval-clause-first g c =
-    let line = c.args.line.now in
     subst (λ l. IsFirstByte (is_byte c.args.job.now.delim) l (Some c.args.first))
-    (sym (take_all (length line) line (omega arith))) c.requires.first
+    (sym (take_all (length c.args.line.now) c.args.line.now (omega arith))) c.requires.first
 
 pub overflow_add-last : goal.overflow_add-last
 overflow_add-last g c =
-    let l = c.loop-interval in
-    let w = l.invariant.walk in
-    omega (arith, not_past c.intervals-selected.result.now [] _ w c.loop-interval-test.true)
+    omega (arith, not_past c.intervals-selected.result.now [] _ c.loop-interval.invariant.walk c.loop-interval-test.true)
 
 -- a place in the line, less the delimiter in front of it, lies in the line too
 back : {from : ℕ} (lead : ℕ) {size : ℕ} → from ≤ size → from - lead ≤ size
 back lead near = omega arith
 
 pub slice_bounds-push-start : goal.slice_bounds-push-start
-slice_bounds-push-start g c =
-    let l = c.loop-interval in
-    back l.lead (step_fits l.invariant.walk (found c.args.line.now l.at c.in-Some.ensures.found))
+slice_bounds-push-start g c = back c.loop-interval.lead (step_fits c.loop-interval.invariant.walk (found c.args.line.now c.loop-interval.at c.in-Some.ensures.found))
 
 pub slice_bounds-push-count : goal.slice_bounds-push-count
-slice_bounds-push-count g c =
-    let l = c.loop-interval in
-    back l.lead (step_fits l.invariant.walk (found c.args.line.now l.at c.in-Some.ensures.found))
+slice_bounds-push-count g c = back c.loop-interval.lead (step_fits c.loop-interval.invariant.walk (found c.args.line.now c.loop-interval.at c.in-Some.ensures.found))
 
 itself : (size : ℕ) → size ≤ size
 itself size = omega arith
 
 pub field_behind-requires-in-loop-interval-clause-within : goal.field_behind-requires-in-loop-interval-clause-within
 field_behind-requires-in-loop-interval-clause-within g c =
-    let l = c.loop-interval in
-    (step_fits l.invariant.walk (found c.args.line.now l.at c.in-Some.ensures.found), itself (length c.args.line.now))
+    (step_fits c.loop-interval.invariant.walk (found c.args.line.now c.loop-interval.at c.in-Some.ensures.found), itself (length c.args.line.now))

@@ -1,21 +1,20 @@
 -- An interval is walked in two steps: to the start of its first field, and to the end of its last one (`FieldWalks`).
 -- What lies between is one slice, with a delimiter in front of it if it is not the first. A walk that meets the end of
 -- the line leaves no field to come.
-use Rattle.ptflow.proofs.Common.{◌≡◌, ◌+◌, ◌-◌, ◌≤◌, ◌++◌, take, drop, get_or, refl, sym, ◌∙◌, ap, arith, append_assoc, length-drop, take-take, length-take-le, join_with_byte, is_selected, fields}
-use Rattle.ptflow.proofs.OfBytes.Chosen.{chosen}
+use Rattle.ptflow.proofs.Common.{◌+◌, ◌-◌, ◌≤◌, take, drop, get_or, refl, sym, ◌∙◌, arith, append_assoc, length-drop, take-take, length-take-le, ◌<◌, length, ap, join_with_byte, is_selected, fields}
 use Rattle.ptflow.proofs.OfCut.FieldPlaces.{rest_of, slice_of, line_with_end, put_byte}
 use Rattle.ptflow.proofs.OfCut.FieldWalks.{not_past, step_fits, slice_fits, coming, all_coming, walking_starts, walking_done, walking_short, walking_ends, walking_slice, walking_more}
+use Rattle.ptflow.proofs.OfBytes.Chosen.{chosen}
 use Rattle.ptflow.proofs.tools.cut.fields.put_fields.Goals as goal
 
 pub loop-interval-init : goal.loop-interval-init
 loop-interval-init g c =
     let d = c.args.job.now.delim in
-    let bytes = c.args.bytes.now in
-    let line = take c.args.to bytes in
-    let tail = take 1 (drop c.args.to bytes) in
-    let all = c.intervals-selected.result.now in record {
-      put = ap (◌++◌ (take c.args.start c.args.room.now))
-          (ap (λ l. join_with_byte d (chosen (is_selected l) 1 (fields d line)) ++ tail) (sym c.intervals-selected.ensures.kept) ∙ all_coming d all line tail);
+    let line = take c.args.to c.args.bytes.now in
+    let tail = take 1 (drop c.args.to c.args.bytes.now) in
+    let kept = ap (λ l. join_with_byte d (chosen (is_selected l) 1 (fields d line))) c.intervals-selected.ensures.kept in
+    record {
+      put = cc (kept, all_coming d c.intervals-selected.result.now line tail);
       walk = walking_starts c.intervals-selected.ensures.apart;
       known = λ le. refl;
       low = omega arith;
@@ -28,10 +27,9 @@ returns-in_default-clause-put g c =
     let bytes = c.args.bytes.now in
     let to = c.args.to in
     let l = c.loop-interval in
-    let same = walking_short c.intervals-selected.result.now
-    (take 1 (drop to bytes)) _ l.invariant.walk c.loop-interval-test.true c.in_default.ensures.found in
-    put_byte l.room bytes l.end (omega (arith, l.invariant.high, l.invariant.long, l.invariant.walk.fits, length-take-le to bytes (omega arith))) c.requires.within
-    ∙ ap (◌++◌ (take l.end l.room)) (sym same) ∙ sym l.invariant.put
+    let room : l.end < length l.room = omega (arith, l.invariant.high, l.invariant.long, l.invariant.walk.fits, length-take-le to bytes (omega arith)) in
+    let none = walking_short c.intervals-selected.result.now (take 1 (drop to bytes)) _ l.invariant.walk c.loop-interval-test.true c.in_default.ensures.found in
+    cc (put_byte l.room bytes l.end room c.requires.within, none, l.invariant.put)
 
 pub returns-in_default-field_behind-clause-put : goal.returns-in_default-field_behind-clause-put
 returns-in_default-field_behind-clause-put g c =
@@ -47,7 +45,6 @@ returns-in_default-field_behind-clause-put g c =
 
 pub loop-interval-preserved : goal.loop-interval-preserved
 loop-interval-preserved g c =
-    let d = c.args.job.now.delim in
     let all = c.intervals-selected.result.now in
     let bytes = c.args.bytes.now in
     let to = c.args.to in
@@ -60,15 +57,19 @@ loop-interval-preserved g c =
     let from = l.at + c.in-Some.skipped in
     let next = from + c.in-Some-field_behind.passed in
     let size = (next - 1) - (from - l.lead) in
-    let more = coming d (drop (i + 1) all) line tail ((get_or all i (record { first = 0; last = 0 })).last + 1) next 1 in
-    let ends : next ≤ to =
-    omega (arith, p.fits, length-drop from line, s.fits, length-drop l.at line, l.invariant.walk.fits, length-take-le to bytes (omega arith)) in
+    let more = coming c.args.job.now.delim (drop (i + 1) all) line tail ((get_or all i (record { first = 0; last = 0 })).last + 1) next 1 in
     let some : 1 ≤ c.in-Some-field_behind.passed = omega (arith, p.count) in
-    let within : (from - l.lead) + size ≤ to = omega (arith, ends, some, l.invariant.walk.begun, l.invariant.walk.passed) in
-    let copied : take l.end l.room ++ take size (drop (from - l.lead) line) ≡ take (l.end + size) c.copy_near-in-loop-interval.new.into =
-    cc (slice_of (from - l.lead) size bytes within) in record {
-      put = l.invariant.put ∙ ap (◌++◌ (take l.end l.room)) (walking_slice all tail i l.invariant.walk c.loop-interval-test.true s p)
-          ∙ sym (append_assoc (take l.end l.room) (take size (drop (from - l.lead) line)) more) ∙ ap (λ b. b ++ more) copied;
+    let within : (from - l.lead) + size ≤ to =
+    omega (arith, slice_fits l.invariant.walk s p, some, l.invariant.walk.begun, l.invariant.walk.passed, length-take-le to bytes (omega arith)) in
+    record {
+      put =
+          cc (
+            l.invariant.put,
+            walking_slice all tail i l.invariant.walk c.loop-interval-test.true s p,
+            append_assoc (take l.end l.room) (take size (drop (from - l.lead) line)) more,
+            slice_of (from - l.lead) size bytes within,
+            c.copy_near-in-loop-interval.ensures.copied,
+          );
       walk = walking_more all tail i l.invariant.walk c.loop-interval-test.true s p;
       known = c.in-Some-field_behind.ensures.start;
       low = omega (arith, l.invariant.low);
@@ -81,58 +82,39 @@ returns-clause-put g c =
     let bytes = c.args.bytes.now in
     let to = c.args.to in
     let l = c.loop-interval in
-    let same = walking_done c.intervals-selected.result.now
-    (take 1 (drop to bytes)) _ l.invariant.walk c.loop-interval-test.false in
-    put_byte l.room bytes l.end (omega (arith, l.invariant.high, l.invariant.long, l.invariant.walk.fits, length-take-le to bytes (omega arith))) c.requires.within
-    ∙ ap (◌++◌ (take l.end l.room)) (sym same) ∙ sym l.invariant.put
+    let room : l.end < length l.room = omega (arith, l.invariant.high, l.invariant.long, l.invariant.walk.fits, length-take-le to bytes (omega arith)) in
+    let none = walking_done c.intervals-selected.result.now (take 1 (drop to bytes)) _ l.invariant.walk c.loop-interval-test.false in
+    cc (put_byte l.room bytes l.end room c.requires.within, none, l.invariant.put)
 
 pub overflow_add-number : goal.overflow_add-number
 overflow_add-number g c =
-    let l = c.loop-interval in
-    let far = slice_fits l.invariant.walk c.in-Some.ensures.found c.in-Some-field_behind.ensures.found in
-    let s = c.in-Some.ensures.found in
-    let p = c.in-Some-field_behind.ensures.found in
-    omega (arith, length-take-le c.args.to c.args.bytes.now (omega arith))
+    let far = slice_fits c.loop-interval.invariant.walk c.in-Some.ensures.found c.in-Some-field_behind.ensures.found in
+    omega (arith, length-take-le c.args.to c.args.bytes.now (omega arith), c.in-Some.ensures.found.count, c.in-Some-field_behind.ensures.found.count)
 
 pub overflow_add-end : goal.overflow_add-end
 overflow_add-end g c =
-    let l = c.loop-interval in
-    let far = slice_fits l.invariant.walk c.in-Some.ensures.found c.in-Some-field_behind.ensures.found in
-    omega (arith, length-take-le c.args.to c.args.bytes.now (omega arith))
+    omega (arith, slice_fits c.loop-interval.invariant.walk c.in-Some.ensures.found c.in-Some-field_behind.ensures.found, length-take-le c.args.to c.args.bytes.now (omega arith))
 
 pub overflow_add-at : goal.overflow_add-at
 overflow_add-at g c =
-    let l = c.loop-interval in
-    let far = slice_fits l.invariant.walk c.in-Some.ensures.found c.in-Some-field_behind.ensures.found in
-    omega (arith, length-take-le c.args.to c.args.bytes.now (omega arith))
+    omega (arith, slice_fits c.loop-interval.invariant.walk c.in-Some.ensures.found c.in-Some-field_behind.ensures.found, length-take-le c.args.to c.args.bytes.now (omega arith))
 
 pub overflow_add-from : goal.overflow_add-from
-overflow_add-from g c =
-    let l = c.loop-interval in
-    let near = step_fits l.invariant.walk c.in-Some.ensures.found in
-    omega (arith, length-take-le c.args.to c.args.bytes.now (omega arith))
+overflow_add-from g c = omega (arith, step_fits c.loop-interval.invariant.walk c.in-Some.ensures.found, length-take-le c.args.to c.args.bytes.now (omega arith))
 
 pub copy_near-requires-in-loop-interval-clause-within : goal.copy_near-requires-in-loop-interval-clause-within
 copy_near-requires-in-loop-interval-clause-within g c =
-    let l = c.loop-interval in
-    let far = slice_fits l.invariant.walk c.in-Some.ensures.found c.in-Some-field_behind.ensures.found in
+    let far = slice_fits c.loop-interval.invariant.walk c.in-Some.ensures.found c.in-Some-field_behind.ensures.found in
     (omega (arith, c.in-Some-field_behind.ensures.found.count), omega (arith, length-take-le c.args.to c.args.bytes.now (omega arith), c.requires.within))
 
 pub copy_near-requires-clause-within : goal.copy_near-requires-clause-within
 copy_near-requires-clause-within g c =
-    let l = c.loop-interval in
-    let near = step_fits l.invariant.walk c.in-Some.ensures.found in
-    (omega (arith, length-take-le c.args.to c.args.bytes.now (omega arith)), omega arith)
+    (omega (arith, step_fits c.loop-interval.invariant.walk c.in-Some.ensures.found, length-take-le c.args.to c.args.bytes.now (omega arith)), omega arith)
 
 pub overflow_add-last : goal.overflow_add-last
 overflow_add-last g c =
-    let l = c.loop-interval in
-    let w = l.invariant.walk in
-    let all = c.intervals-selected.result.now in
-    omega (arith, not_past all (take 1 (drop c.args.to c.args.bytes.now)) _ w c.loop-interval-test.true)
+    omega (arith, not_past c.intervals-selected.result.now (take 1 (drop c.args.to c.args.bytes.now)) _ c.loop-interval.invariant.walk c.loop-interval-test.true)
 
 pub copy_near-requires-in-loop-interval-clause-room : goal.copy_near-requires-in-loop-interval-clause-room
 copy_near-requires-in-loop-interval-clause-room g c =
-    let l = c.loop-interval in
-    let far = slice_fits l.invariant.walk c.in-Some.ensures.found c.in-Some-field_behind.ensures.found in
-    omega (arith, length-take-le c.args.to c.args.bytes.now (omega arith))
+    omega (arith, slice_fits c.loop-interval.invariant.walk c.in-Some.ensures.found c.in-Some-field_behind.ensures.found, length-take-le c.args.to c.args.bytes.now (omega arith))

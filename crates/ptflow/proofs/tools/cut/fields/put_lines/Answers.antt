@@ -1,8 +1,7 @@
 -- A line with the delimiter gives its fields. Lines without one are put as they are, as many as stand behind one
 -- another, or passed over.
 use Rattle.ptflow.proofs.Common.{◌≡◌, ◌-◌, Some, take, length, arith, unwrap_or, cut_job, cut_fields}
-use Rattle.ptflow.proofs.OfCut.FieldLines.{found, of_fields}
-use Rattle.ptflow.proofs.OfCut.FieldBlocks.{puts_line, puts_kept, puts_dropped, free_before, first_within}
+use Rattle.ptflow.proofs.OfCut.FieldLines.{found, of_fields, puts_line, puts_kept, puts_dropped, free_before, first_within}
 use Rattle.ptflow.proofs.tools.cut.fields.put_lines.Goals as goal
 
 pub returns-then-first-to-clause-put : goal.returns-then-first-to-clause-put
