@@ -1,7 +1,5 @@
 -- Two inputs in order, whichever tool takes them.
-pub mod Backing
 pub mod Bounds
-pub mod Deciding
 pub mod GoingOn
 pub mod Got
 pub mod KeySpans

@@ -2,7 +2,7 @@
 use Rattle.ptmerge.proofs.Common.{◌≡◌, ◌≢◌, inl, inr, ℕ, ◌+◌, ◌<◌, ◌≤◌, ◌&&◌, Bool, true, false, cond, List, [], ◌∷◌, ◌++◌, Option, Some, None, length, refl, sym, ◌∙◌, ap, subst, arith, nat_lt}
 use Rattle.ptmerge.proofs.Common.{bytes_eq, Ordering, is_eq, is_gt, false≢true, nat_tests, append-nil, length_push, GivesLine, Reader, IsDone, IsSound, budget, Slots, line, with_line, longest}
 use Rattle.ptmerge.proofs.Common.{line_of, Sorted, Stand, Head, Ended, Disorder, Lines, Cmp, Key, is_head, stand_at, same_at, Comes, Closes}
-use Rattle.ptmerge.proofs.OfMerges.Backing.{Near}
+use Rattle.ptmerge.proofs.OfMerges.Working.{Near}
 use Rattle.ptmerge.proofs.OfMerges.Bounds.{Bound, Free, From, Fallen, Over, Coming, Under, Begun, begun_more, falls, Reaches, reaches_head, reaches_over, reaches_fallen}
 use Rattle.ptmerge.proofs.OfMerges.Got.{Got, got_more, got_end}
 use Rattle.ptmerge.proofs.OfMerges.Least.{EachKey, EachKey-weaker}

@@ -4,16 +4,14 @@ use Rattle.ptmerge.proofs.Common.{whole_lines, Before, KeepsUp, Output, Reader, 
 use Rattle.ptmerge.proofs.Common.{wrote_nothing, keeps_more, text-append, MergeFault, Read, Write, Side, First, Second, Sorted, Head, Ended, Disorder, Lines, Tool, by_keys, decided, disorder}
 use Rattle.ptmerge.proofs.Common.{disorder_of, fall, lines_of, merged, merged_entries, ordered_part, settled, up_to, State, Agree, Ends, IsMerge, IsUnread, IsWhole, ended_by, Cmp, Key, other, put}
 use Rattle.ptmerge.specs.declared.faults.MergeFault.TheVariants as faults
-use Rattle.ptmerge.proofs.OfMerges.Backing.{Back, Near, back}
 use Rattle.ptmerge.proofs.OfMerges.Bounds.{Bound, Free, From, Over, Coming, Begun, Reaches, reaches_free, reaches_passed}
-use Rattle.ptmerge.proofs.OfMerges.Deciding.{decided_begins}
 use Rattle.ptmerge.proofs.OfMerges.Got.{Got, More, Known, got_known, got_lines, got_none, reads_nothing}
 use Rattle.ptmerge.proofs.OfMerges.Least.{EachKey-weaker}
 use Rattle.ptmerge.proofs.OfMerges.Orders.{IsKeyOrder}
 use Rattle.ptmerge.proofs.OfMerges.Passing.{Late, Merging, Seen, StopsAt, follows, seen_all}
 use Rattle.ptmerge.proofs.OfMerges.Splitting.{all_keys, under_fall}
 use Rattle.ptmerge.proofs.OfMerges.Standing.{Sided, Stands}
-use Rattle.ptmerge.proofs.OfMerges.Working.{unsettled, works_off}
+use Rattle.ptmerge.proofs.OfMerges.Working.{Back, Near, back, decided_begins, unsettled, works_off}
 
 abbrev pub state : (Side → Reader) → Output → Slots → State
 state reader out store = record { reader = reader; out = out; store = store }
