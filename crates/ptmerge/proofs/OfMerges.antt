@@ -2,13 +2,10 @@
 pub mod Bounds
 pub mod GoingOn
 pub mod Got
-pub mod KeySpans
 pub mod Least
-pub mod LineLaws
 pub mod Orders
 pub mod Pairs
 pub mod Passing
-pub mod Sending
 pub mod Slotted
 pub mod Splitting
 pub mod Standing

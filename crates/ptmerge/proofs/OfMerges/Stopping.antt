@@ -27,9 +27,9 @@ pub record Gone (end : ℕ) (cmp : Cmp) (key : Key) (old now new : Reader) (piec
   pub over : b ≡ Over → IsDone now
 
 -- an input at which a merge stands
-pub gone_standing : (end : ℕ) (cmp : Cmp) (key : Key) (old now : Reader) (place : Sorted) (store : Slots) (ls p : Lines) (b : Bound)
-    → Sided end cmp key old now place store ls p b → Gone end cmp key old now now [] ls p b
-gone_standing end cmp key old now place store ls p b s = record {
+pub gone_standing : {end : ℕ} {cmp : Cmp} {key : Key} {old now : Reader} {place : Sorted} {store : Slots} {ls p : Lines} {b : Bound} → Sided end cmp key old now place store ls p b
+    → Gone end cmp key old now now [] ls p b
+gone_standing {cmp = cmp} {key} {now = now} {place} {store} {ls} {p} {b} s = record {
   got = s.got;
   reads = reads_nothing now;
   line = tt;
@@ -44,10 +44,9 @@ gone_standing end cmp key old now place store ls p b s = record {
 }
 
 -- an input all whose lines are passed, and what came of one more
-pub gone_passed : (end : ℕ) (cmp : Cmp) (o : IsKeyOrder cmp) (key : Key) (old now new : Reader) (piece : List ℕ) (ls : Lines) (k : List ℕ) → Got end old now ls
-    → Reads now new piece → IsLine now.ending piece → IsSound new → Begun cmp key ls (Some k)
-    → Gone end cmp key old now new piece ls ls (From k)
-gone_passed end cmp o key old now new piece ls k got reads line sound begun = record
+pub gone_passed : {end : ℕ} {cmp : Cmp} (o : IsKeyOrder cmp) {key : Key} {old now new : Reader} {piece : List ℕ} {ls : Lines} {k : List ℕ} → Got end old now ls
+    → Reads now new piece → IsLine now.ending piece → IsSound new → Begun cmp key ls (Some k) → Gone end cmp key old now new piece ls ls (From k)
+gone_passed o got reads line sound begun = record
     { got = got; reads = reads; line = line; sound = sound; near = inl refl; reaches = reaches_passed o begun; over = λ e. cc }
 
 -- an input of which no line came
