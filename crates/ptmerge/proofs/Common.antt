@@ -50,7 +50,7 @@ pub use Rattle.ptmerge.specs.Parts.{CommByKey, IsByKey, IsOfParts, JoinByKey, Pa
 pub use Rattle.ptmerge.specs.Places.{CannotRead, Closes, Comes, HasSlots, fresh, same_at, slot_of, stand_at}
 pub use Rattle.ptmerge.specs.Sides.{both, other, put}
 pub use Rattle.ptmerge.specs.Spans.{IsNoted, IsSpan}
-pub use Rattle.ptmerge.specs.Steps.{AreEqual, CannotStart, GoesBefore, Inputs, IsAlone, IsDecided, IsLent, IsNamed, IsPlaced, IsUnslotted, Starts, inputs, last_key}
+pub use Rattle.ptmerge.specs.Steps.{AreEqual, CannotStart, FirstCame, GoesBefore, Inputs, IsAlone, IsDecided, IsLent, IsNamed, IsPlaced, IsUnslotted, Starts, inputs, last_key}
 pub use Rattle.ptmerge.specs.Stores.{Adds, HasFour, IsCleared}
 pub use Rattle.ptmerge.specs.declared.faults.MergeFault.{MergeFault}
 pub use Rattle.ptmerge.specs.declared.faults.MergeFault.TheVariants.{Memory, Read, Write}

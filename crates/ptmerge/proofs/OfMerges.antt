@@ -1,16 +1,11 @@
 -- Two inputs in order, whichever tool takes them.
-pub mod Backing
 pub mod Bounds
-pub mod Deciding
 pub mod GoingOn
 pub mod Got
-pub mod KeySpans
 pub mod Least
-pub mod LineLaws
 pub mod Orders
 pub mod Pairs
 pub mod Passing
-pub mod Sending
 pub mod Slotted
 pub mod Splitting
 pub mod Standing

@@ -1,8 +1,9 @@
 -- Laws of the lines of a text: whole lines and the piece behind them, the longest line, and the lines of a block one by
 -- one. All of them go by the first end in some bytes, in front of which no other stands.
-use Rattle.ptflow.proofs.Common.{◌≡◌, ℕ, ◌+◌, ◌≤◌, ◌==◌, Bool, true, false, cond, List, [], ◌∷◌, ◌++◌, length, max, refl, ap, arith, take-append-drop, ◌-◌, Some, take, drop, append_assoc}
-use Rattle.ptflow.proofs.Common.{length-append, onto_first, eqb-true, eqb-false, text, lines, ended_lines, onto_line, IsLine, AreLines, longest, other_byte, lines_of_text, ended_none, ended_first}
-use Rattle.ptflow.proofs.Common.{append-nil, take_at, take-append-le, drop-append-le, take_all, drop_all, length-take-le, IsFirstByte, is_byte, before_end, take_end, drop_end}
+use Rattle.ptflow.proofs.Common.{◌≡◌, ℕ, ◌+◌, ◌==◌, Bool, true, false, cond, List, [], ◌∷◌, ◌++◌, length, refl, ap, arith, take-append-drop, ◌-◌, Some, take, drop, append_assoc, length-append}
+use Rattle.ptflow.proofs.Common.{eqb-true, eqb-false, text, lines, ended_lines, onto_line, IsLine, AreLines, lines_of_text, ended_none, ended_first, append-nil, take_at, take-append-le}
+use Rattle.ptflow.proofs.Common.{drop-append-le, take_all, drop_all, length-take-le, IsFirstByte, is_byte, before_end, take_end, drop_end}
+pub use Rattle.ptlines.proofs.Longest.{longest-append, longest_piece}
 
 -- the whole lines of a text, and the piece behind them
 pub record Parts (end : ℕ) (bytes : List ℕ) : Type 0 where
@@ -30,34 +31,6 @@ pub ended_front : (end : ℕ) (bytes rest : List ℕ) → lines end (bytes ++ re
 ended_front end bytes rest =
     let p = parts_of end bytes in
     cc (append_assoc (text end (ended_lines end bytes)) p.piece rest, lines_of_text end (ended_lines end bytes) (p.piece ++ rest) p.whole)
-
--- ---- the longest line
-
-pub longest-append : (xs ys : List (List ℕ)) → longest (xs ++ ys) ≡ max (longest xs) (longest ys)
-longest-append [] ys = omega arith
-longest-append (x ∷ xs) ys = omega (arith, longest-append xs ys)
-
-first_length : List (List ℕ) → ℕ
-first_length [] = 0
-first_length (line ∷ ls) = length line
-
-first_onto : (b : ℕ) (ls : List (List ℕ)) → first_length (onto_first b ls) ≡ first_length ls + 1
-unfolding first_length
-first_onto b [] = refl
-first_onto b (line ∷ ls) = omega arith
-
-first_longest : (ls : List (List ℕ)) → first_length ls ≤ longest ls
-unfolding first_length
-first_longest [] = omega arith
-first_longest (line ∷ ls) = omega arith
-
-first_piece : (end : ℕ) (piece rest : List ℕ) → IsLine end piece → length piece ≤ first_length (lines end (piece ++ rest))
-first_piece end [] rest free = omega arith
-first_piece end (b ∷ piece) rest free = rw (other_byte end b free.0) (omega (arith, first_onto b (lines end (piece ++ rest)), first_piece end piece rest free.1))
-
--- the beginning of a line is no longer than the longest line
-pub longest_piece : (end : ℕ) (piece rest : List ℕ) → IsLine end piece → length piece ≤ longest (lines end (piece ++ rest))
-longest_piece end piece rest free = omega (arith, first_piece end piece rest free, first_longest (lines end (piece ++ rest)))
 
 -- what stands in front of the first end in these bytes, and what behind it
 module _ (end : ℕ) (bytes : List ℕ) (at : ℕ) (first : IsFirstByte (is_byte end) bytes (Some at)) where

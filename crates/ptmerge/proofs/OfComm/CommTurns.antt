@@ -121,13 +121,13 @@ module _ {tool : Tool} {old : State} (w : IsOpened tool old) {reader : Side → 
 
   -- an input that stands, and one whose standing line is passed
   pub standing : (side : Side) → GoneBy side (p side)
-  standing side = gone_standing _ _ _ _ _ _ _ _ _ _ (a.sides side)
+  standing side = gone_standing (a.sides side)
 
   passing : (s : Side) → (place s).stand ≡ Head → (new : Reader) (piece : List ℕ) → Reads (reader s) new piece → IsLine (reader s).ending piece → IsSound new
       → Gone tool.end tool.cmp (tool.key s) (old.reader s) (reader s) new piece (ls s) (ls s) (b s)
   passing s head new piece reads free sound =
       let h = passed head (a.sides s) in
-      rw h.bound (gone_passed _ _ w.o _ _ _ _ _ _ _ (a.sides s).got reads free sound h.begun)
+      rw h.bound (gone_passed w.o (a.sides s).got reads free sound h.begun)
 
   pub passing_now : (s : Side) → (place s).stand ≡ Head → GoneBy s (ls s)
   passing_now s head = passing s head (reader s) [] (reads_nothing (reader s)) tt (a.sides s).sound

@@ -7,11 +7,10 @@ use Rattle.ptmerge.specs.declared.faults.MergeFault.TheVariants as faults
 use Rattle.ptmerge.proofs.OfComm.CommEntries.{entries_both, entries_none, line_by_line, written_first, written_second, written_both}
 use Rattle.ptmerge.proofs.OfComm.CommTurns.{CannotPass, IsOpened, Placed, Running, adds_of, comes_slots, goes, goes_merging, passes_slots, passing_now, readable_of}
 use Rattle.ptmerge.proofs.OfComm.CommTurns.{runs_on, slots_of, standing, turn_stops, unfailed_of, went}
-use Rattle.ptmerge.proofs.OfMerges.GoingOn.{left, less, lent_on, place_is}
+use Rattle.ptmerge.proofs.OfMerges.GoingOn.{left, less, lent_on, place_is, wrote_and_sent}
 use Rattle.ptmerge.proofs.OfMerges.Orders.{IsKeyOrder}
 use Rattle.ptmerge.proofs.OfMerges.Pairs.{both_each, put_other, put_same}
 use Rattle.ptmerge.proofs.OfMerges.Passing.{Late, Merging, front_line, late_none, pass_front}
-use Rattle.ptmerge.proofs.OfMerges.Sending.{wrote_and_sent}
 use Rattle.ptmerge.proofs.OfMerges.Slotted.{has_lines_total}
 use Rattle.ptmerge.proofs.OfMerges.Splitting.{all_keys}
 use Rattle.ptmerge.proofs.OfMerges.Standing.{passed}
@@ -53,9 +52,9 @@ module _ (job : Comm) {cmp : Cmp} {key : Side → Key} {old : State} (w : IsOpen
       → CannotStart key cmp (record { reader = old.reader; store = old.store }) (record { reader = both new1 new2; store = after }) fault
       → Leaves (comm_by job cmp key) old (seen new1 new2 old.out after) r
   start_stops {new1} {new2} {after} {fault} is h = rw is (record {
-    merged = starts_badly (comm_by job cmp key) w.o w.fits old w.readable w.ending w.unfailed w.sound w.writable w.allowed w.empty new1 new2 after fault h;
-    refused = start_refused (comm_by job cmp key) w.o w.fits old w.readable w.ending w.unfailed w.sound w.writable w.allowed w.empty new1 new2 after fault h;
-    slots = start_slots (comm_by job cmp key) w.o w.fits old w.readable w.ending w.unfailed w.sound w.writable w.allowed w.empty new1 new2 after fault h;
+    merged = starts_badly w h;
+    refused = start_refused w h;
+    slots = start_slots w h;
   })
 
   pub starts : ((side : Side) (x : List ℕ) → key side x ≡ x) → {first second : Reader} {store : Slots} {one two : Sorted}
@@ -64,7 +63,7 @@ module _ (job : Comm) {cmp : Cmp} {key : Side → Key} {old : State} (w : IsOpen
   starts whole {first} {second} {store} {one} {two} h placed lent = record {
     opened = w;
     whole = whole;
-    running = starts_well (comm_by job cmp key) w.o w.fits old w.readable w.ending w.unfailed w.sound w.writable w.allowed w.empty (inputs first second store) (both one two) placed.first h;
+    running = starts_well w (inputs first second store) (both one two) placed.first h;
     placed = placed;
     lent = elim [ First ↦ lent.0 | Second ↦ lent.1 ];
     clean = w.writable;

@@ -10,7 +10,7 @@ use Rattle.ptmerge.proofs.OfJoin.GroupTurns.{moved, next_slots, not_failed, othe
 use Rattle.ptmerge.proofs.OfJoin.GroupSlots.{AllSlots, InGroup, Kept, group_in, keeping_kept, low_slot}
 use Rattle.ptmerge.proofs.OfMerges.Orders.{self_at_most}
 use Rattle.ptmerge.proofs.OfMerges.Passing.{Merging}
-use Rattle.ptmerge.proofs.OfMerges.Sending.{wrote_and_sent}
+use Rattle.ptmerge.proofs.OfMerges.GoingOn.{wrote_and_sent}
 use Rattle.ptmerge.proofs.OfMerges.Turning.{BothStand, passed_at}
 use Rattle.ptmerge.proofs.OfJoin.PairTurns.{Between, Held, Pairing}
 

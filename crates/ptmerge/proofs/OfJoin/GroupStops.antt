@@ -4,7 +4,6 @@ use Rattle.ptmerge.proofs.Common.{◌≡◌, ℕ, ◌≤◌, ◌||◌, Bool, tru
 use Rattle.ptmerge.proofs.Common.{append-nil, Given, Begins, whole_lines, Before, KeepsUp, Output, Wrote, Reader, Slots, text, lines, IsLine, longest, given_of, came_of, reads_trans, wrote_trans}
 use Rattle.ptmerge.proofs.Common.{keeps_more, text-append, MergeFault, Side, First, Second, Lines, Tool, by_keys, decided, decided_entries, disorder, fall, is_below, is_decided, is_past, lines_of}
 use Rattle.ptmerge.proofs.Common.{merged_entries, ordered, ordered_part, settled, up_to, State, Agree, Ends, IsMerge, IsWhole, Cmp, Key, other, put}
-use Rattle.ptmerge.proofs.OfMerges.Backing.{Back, back}
 use Rattle.ptmerge.proofs.OfMerges.Bounds.{Bound, Free, From, Fallen, Over, Coming, FallFrom, Falling, Under}
 use Rattle.ptmerge.proofs.OfMerges.Got.{More, got_known, got_lines}
 use Rattle.ptmerge.proofs.OfMerges.Least.{EachKey, EachKey-append, EachKey-weaker, at_most-same}
@@ -12,7 +11,7 @@ use Rattle.ptmerge.proofs.OfMerges.Orders.{IsKeyOrder, AtMost, at_most_trans, se
 use Rattle.ptmerge.proofs.OfMerges.Passing.{Merging, down_decided, follows, not_below, not_decided}
 use Rattle.ptmerge.proofs.OfMerges.Splitting.{all_keys, all_wanted, down_begins, none_wanted, passed_is_wanted, under_fall}
 use Rattle.ptmerge.proofs.OfMerges.Stopping.{FitsIn, Gone}
-use Rattle.ptmerge.proofs.OfMerges.Working.{unsettled, works_off}
+use Rattle.ptmerge.proofs.OfMerges.Working.{Back, back, unsettled, works_off}
 
 -- what goes before k goes before all that may come, if k does
 pub under_down : {cmp : Cmp} (o : IsKeyOrder cmp) (b : Bound) (x k : List ℕ) → AtMost cmp x k → Under cmp b k → Under cmp b x

@@ -94,8 +94,7 @@ pub stand_still : (tool : Tool) {old now : Side → Reader} {place : Side → So
     → AllSlots place → ((i : ℕ) → i < 4 → line after i ≡ line before i) → BothStand tool old now place after ls p b
 stand_still tool {old} {now} {place} {before} {after} {ls} {p} {b} sides slots same side =
     let low = low_slot side (place side) (slots side) in
-    sided_keeps _ _ _ _ _ _ _ _ _ _ _
-    (same (place side).standing low.0) (same (place side).previous low.1) (sides side)
+    sided_keeps (sides side) (same (place side).standing low.0) (same (place side).previous low.1)
 
 -- ---- what is written of a group
 
@@ -237,7 +236,7 @@ module _ {call : Call} {now : State} {place : Side → Sorted} {end : ℕ} {k : 
   went side = (q.sides side).got.goes.failed
 
   pub standing : (side : Side) → GoneOf call now side (now.reader side) [] (q.ls side) (q.p side ++ g side) (q.d side)
-  standing side = gone_standing _ _ _ _ _ _ _ _ _ _ (q.sides side)
+  standing side = gone_standing (q.sides side)
 
   -- the store holds other lines of the group
   pub grouped_keeps : AllSlots place → {after : Slots} → ((i : ℕ) → i < 4 → line after i ≡ line now.store i) → {lines : Lines}
@@ -283,7 +282,7 @@ module _ {call : Call} {now : State} {place : Side → Sorted} {end : ℕ} {k : 
       → (side : Side) → GoneOf call now side (put s new now.reader side) (put s piece (λ t. []) side) (q.ls side) (q.p side ++ grown now place s g side) (q.d side)
   passing new piece reads free sound = put_three (λ side r t m. GoneOf call now side r t (q.ls side) (q.p side ++ m) (q.d side)) s new piece (g s ++ x ∷ []) now.reader (λ t. []) g
       (subst (λ (l : Lines). GoneOf call now s new piece (q.ls s) l (q.d s)) with_head
-      (rw at_head.bound (gone_passed _ _ o _ _ _ _ _ _ _ (q.sides s).got reads free sound at_head.begun))) (standing q)
+      (rw at_head.bound (gone_passed o (q.sides s).got reads free sound at_head.begun))) (standing q)
 
   -- the next line could not be read, where what was pushed is a beginning of the group's entries
   module _ {out : Output} (clean : out.faulted ≡ false) {extra : Lines} (begins : StartsWith tool (grown now place s g) q.d k extra)

@@ -39,7 +39,7 @@ module _ {call : Call} {now : State} {place : Side → Sorted} (r : Between call
   went_on side = (r.sides side).got.goes.failed
 
   stand : (side : Side) → GoneOf call now side (now.reader side) [] (r.ls side) (r.p side) (r.b side)
-  stand side = gone_standing _ _ _ _ _ _ _ _ _ _ (r.sides side)
+  stand side = gone_standing (r.sides side)
 
   -- a line that one input alone has
   module _ (slots : AllSlots place) {s : Side} (step : IsAlone cmp key place now.store s) {new : Output}
@@ -73,7 +73,7 @@ module _ {call : Call} {now : State} {place : Side → Sorted} (r : Between call
 
     passing_one : (reader : Reader) (piece : List ℕ) → Reads (now.reader s) reader piece → IsLine (now.reader s).ending piece → IsSound reader
         → GoneOf call now s reader piece (r.ls s) (r.ls s) (r.b s)
-    passing_one reader piece reads free sound = rw at_head.bound (gone_passed _ _ o _ _ _ _ _ _ _ (r.sides s).got reads free sound at_head.begun)
+    passing_one reader piece reads free sound = rw at_head.bound (gone_passed o (r.sides s).got reads free sound at_head.begun)
 
     pub alone_stops : {reader : Reader} {after : Slots} {fault : MergeFault} → NotPassed now s (place s) reader after new fault → IsMerge tool old (moved now s reader new after) (Err fault)
     alone_stops {reader} (inl e) = same_state _ _ s now _ reader _ _ e.0 e.1

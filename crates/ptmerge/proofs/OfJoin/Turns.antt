@@ -13,13 +13,13 @@ use Rattle.ptmerge.proofs.OfComm.CommTurns.{comes_slots, passes_slots, readable_
 use Rattle.ptmerge.proofs.OfJoin.GatherTurns.{Gathering, gather_slots}
 use Rattle.ptmerge.proofs.OfJoin.GroupSlots.{end_within, pair_of}
 use Rattle.ptmerge.proofs.OfJoin.PairTurns.{Between, starts_between, Pairing}
-use Rattle.ptmerge.proofs.OfMerges.GoingOn.{left, less, lent_on, place_is}
-use Rattle.ptmerge.proofs.OfMerges.KeySpans.{placed_keeps}
+use Rattle.ptmerge.proofs.OfMerges.GoingOn.{left, less, lent_on, place_is, placed_keeps}
 use Rattle.ptmerge.proofs.OfMerges.Orders.{IsKeyOrder}
 use Rattle.ptmerge.proofs.OfMerges.Pairs.{both_each}
 use Rattle.ptmerge.proofs.OfMerges.Starting.{starts_badly, starts_well, start_refused, start_slots}
 use Rattle.ptmerge.specs.declared.faults.MergeFault.TheVariants as faults
 use Rattle.ptmerge.specs.declared.tools.join.Phase.TheVariants as phases
+use Rattle.ptmerge.proofs.OfComm.CommTurns as comm_turns
 use Rattle.ptmerge.proofs.OfJoin.GatherTurns as gather_turns
 use Rattle.ptmerge.proofs.OfJoin.PairTurns as pair_turns
 
@@ -150,12 +150,15 @@ Leaves job cmp key old new result = record { merged : IsMerge (join_by job cmp k
 -- ---- the start
 
 module _ {job : Join} {cmp : Cmp} {key : Side → Key} {old : State} (a : IsOpened job cmp key old) where
+  fresh : comm_turns.IsOpened (join_by job cmp key) old
+  fresh = record
+      { o = a.o; fits = λ ls. (omega arith, omega arith); ending = a.ending; sound = a.sound; readable = a.readable; unfailed = a.unfailed; writable = a.writable; allowed = a.allowed; empty = a.empty }
+
   pub begins : {first second : Reader} {store : Slots} {one two : Sorted} → Starts key cmp (both one two) (record { reader = old.reader; store = old.store }) (inputs first second store)
       → IsPlaced key one two store → IsLent one first × IsLent two second → IsTurn job cmp key old phases.Between (seen first second old.out store) one two 4
   begins {first} {second} {store} {one} {two} starts placed lent = record {
     opened = a;
-    phased = in_between refl (starts_between (starts_well _ a.o (λ ls. (omega arith, omega arith)) _ a.readable a.ending a.unfailed a.sound a.writable a.allowed a.empty
-        (inputs first second store) (both one two) placed.first starts)) refl;
+    phased = in_between refl (starts_between (starts_well fresh (inputs first second store) (both one two) placed.first starts)) refl;
     placed = placed;
     lent = elim [ First ↦ lent.0 | Second ↦ lent.1 ];
     clean = a.writable;
@@ -165,10 +168,10 @@ module _ {job : Join} {cmp : Cmp} {key : Side → Key} {old : State} (a : IsOpen
       → CannotStart key cmp (record { reader = old.reader; store = old.store }) (record { reader = both first second; store = store }) fault
       → {r : Result (Unit {0}) MergeFault} → r ≡ Err fault → Leaves job cmp key old (seen first second old.out store) r
   start_stops {first} {second} {store} {fault} cannot is_fault =
-      let adds = start_slots (join_by job cmp key) a.o (λ ls. (omega arith, omega arith)) old a.readable a.ending a.unfailed a.sound a.writable a.allowed a.empty first second store fault cannot in
+      let adds = start_slots fresh cannot in
       rw is_fault (record {
-        merged = starts_badly _ a.o (λ ls. (omega arith, omega arith)) _ a.readable a.ending a.unfailed a.sound a.writable a.allowed a.empty first second store fault cannot;
-        refused = start_refused (join_by job cmp key) a.o (λ ls. (omega arith, omega arith)) _ a.readable a.ending a.unfailed a.sound a.writable a.allowed a.empty first second store fault cannot;
+        merged = starts_badly fresh cannot;
+        refused = start_refused fresh cannot;
         slots = record { least = adds.least; all = λ allowed. omega (arith, adds.all allowed) };
       })
 

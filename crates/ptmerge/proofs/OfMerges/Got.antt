@@ -1,9 +1,16 @@
 -- The lines that came of a reader, and the inputs that agree with that.
 use Rattle.ptmerge.proofs.Common.{◌≡◌, ◌⊎◌, ⊎_elim, inl, inr, ℕ, ◌+◌, ◌<◌, ◌≤◌, Bool, true, false, List, [], ◌∷◌, ◌++◌, None, length, max, refl, sym, ◌∙◌, ap, arith, append_assoc, length-append}
 use Rattle.ptmerge.proofs.Common.{append-nil, nil_from_length, false≢true, GivesLine, Given, Agrees, whole_lines, Reader, Reads, Goes, IsDone, unread, Slots, text, lines, ended_lines, IsLine}
-use Rattle.ptmerge.proofs.Common.{AreLines, longest, given_of, goes_trans, lines_of_text, lines_last, text_push, AreLines_push, ended_none}
+use Rattle.ptmerge.proofs.Common.{AreLines, longest, given_of, goes_trans, lines_of_text, lines_last, text_push, AreLines_push, ended_none, ended_first}
 use Rattle.ptlines.proofs.Known.{prepend_known-nil}
-use Rattle.ptmerge.proofs.OfMerges.LineLaws.{ended_more, longest-append, piece_longest}
+use Rattle.ptlines.proofs.Longest.{longest-append, longest_piece}
+
+-- whole lines, and then those of the rest whose end is there
+ended_more : (end : ℕ) (ls : List (List ℕ)) (bytes : List ℕ) → AreLines end ls → ended_lines end (text end ls ++ bytes) ≡ ls ++ ended_lines end bytes
+ended_more end [] bytes w = refl
+ended_more end (line ∷ ls) bytes w =
+    ap (ended_lines end) (append_assoc (line ++ end ∷ []) (text end ls) bytes ∙ append_assoc line (end ∷ []) (text end ls ++ bytes)) ∙ ended_first end line (text end ls ++ bytes) w.0
+    ∙ ap (λ (l : List (List ℕ)). line ∷ l) (ended_more end ls bytes w.1)
 
 -- these are the lines of what came: all whole so far, or the last one at the end of the source
 abbrev pub Far : ℕ → List ℕ → List (List ℕ) → Reader → Type 0
@@ -103,7 +110,7 @@ module _ (end : ℕ) (old now new : Reader) (ls : List (List ℕ)) (piece : List
           let more = lines end (piece ++ (new.held ++ a.rest)) in
           let all : lines end input ≡ ls ++ more = rw a.is (opened_is o a.rest) in (
             record { more = more; is = all; done = λ d. (let none = done_gives_nothing d reads in rw (none.0, none.1, a.whole none.2)) },
-            omega (arith, ap longest all, longest-append ls more, piece_longest end piece (new.held ++ a.rest) free),
+            omega (arith, ap longest all, longest-append ls more, longest_piece end piece (new.held ++ a.rest) free),
           )
 
       closed : (lines end c.given ≡ ls) × IsDone now → More now ls (lines end input) × (max (longest ls) (length piece) ≤ longest (lines end input))

@@ -1,6 +1,6 @@
 -- The lines in the slots of a store.
-use Rattle.ptmerge.proofs.Common.{◌≡◌, ◌≢◌, inl, inr, ℕ, zero, suc, ◌+◌, ◌*◌, ◌≤◌, ◌<◌, false, List, [], ◌∷◌, ◌++◌, length, max, refl, sym, ap, ◌∙◌, arith, get_or, set, length-set, get_or-set_other}
-use Rattle.ptmerge.proofs.Common.{sum_by-cons, Slots, line, total, with_added, with_line, total_set, Side, First, Second, Sorted, HasSlots, HasFour, IsCleared}
+use Rattle.ptmerge.proofs.Common.{◌≡◌, ◌≢◌, inl, inr, ℕ, zero, suc, ◌+◌, ◌*◌, ◌≤◌, false, List, [], ◌∷◌, ◌++◌, length, max, refl, sym, ◌∙◌, arith, get_or, set, length-set, get_or-set_other}
+use Rattle.ptmerge.proofs.Common.{sum_by-cons, Slots, line, total, with_added, with_line, Side, First, Second, Sorted, HasSlots, HasFour, IsCleared, Bool}
 
 pub line_other : (s : Slots) (a b : ℕ) (bytes : List ℕ) → a ≢ b → line (with_line s a bytes) b ≡ line s b
 line_other s a b bytes n = get_or-set_other s.lines a b bytes [] (λ e. n (sym e))
@@ -18,23 +18,17 @@ abbrev pub HasLines : (Side → ℕ) → ℕ → List (List ℕ) → Type 0
 HasLines m more (a ∷ b ∷ c ∷ d ∷ rest) = (length a ≤ m First) × (length b ≤ m First) × (length c ≤ m Second) × (length d ≤ m Second) × (total rest ≡ more)
 HasLines m more few = ⊥
 
+four_total : (a b c d : List ℕ) (rest : List (List ℕ)) → total (a ∷ b ∷ c ∷ d ∷ rest) ≡ ((length a + length b) + length c) + length d + total rest
+four_total a b c d rest =
+    omega (arith, sum_by-cons length a (b ∷ c ∷ d ∷ rest), sum_by-cons length b (c ∷ d ∷ rest), sum_by-cons length c (d ∷ rest), sum_by-cons length d rest)
+
 pub has_lines_none : (xs : List (List ℕ)) → 4 ≤ length xs → total xs ≡ 0 → HasLines (λ side. 0) 0 xs
-has_lines_none (a ∷ b ∷ c ∷ d ∷ rest) four none =
-    let s0 = sum_by-cons length a (b ∷ c ∷ d ∷ rest) in
-    let s1 = sum_by-cons length b (c ∷ d ∷ rest) in
-    let s2 = sum_by-cons length c (d ∷ rest) in
-    let s3 = sum_by-cons length d rest in
-    omega (arith, s0, s1, s2, s3)
+has_lines_none (a ∷ b ∷ c ∷ d ∷ rest) four none = omega (arith, four_total a b c d rest)
 has_lines_none few four none = absurd (omega arith)
 
 pub has_lines_total : (xs : List (List ℕ)) (m : Side → ℕ) (more : ℕ) → HasLines m more xs
     → (4 ≤ length xs) × (total xs ≤ 2 * m First + 2 * m Second + more) × (total xs ≡ ((length (get_or xs 0 []) + length (get_or xs 1 [])) + length (get_or xs 2 [])) + length (get_or xs 3 []) + more)
-has_lines_total (a ∷ b ∷ c ∷ d ∷ rest) m more h =
-    let s0 = sum_by-cons length a (b ∷ c ∷ d ∷ rest) in
-    let s1 = sum_by-cons length b (c ∷ d ∷ rest) in
-    let s2 = sum_by-cons length c (d ∷ rest) in
-    let s3 = sum_by-cons length d rest in
-    omega (arith, s0, s1, s2, s3)
+has_lines_total (a ∷ b ∷ c ∷ d ∷ rest) m more h = omega (arith, four_total a b c d rest)
 has_lines_total few m more h = absurd h
 
 -- a line of an input goes into the slot of the line before
@@ -81,45 +75,16 @@ keeps_line {store = store} s place {m} k x slots kept up fits is =
       denied = kept.denied;
     })
 
--- what emptying a slot does
-record Emptied (s t : Slots) (slot : ℕ) : Type 0 where
-  pub slots : length t.lines ≡ length s.lines
-  pub less : total t.lines + length (line s slot) ≡ total s.lines
-  pub peak : t.peak ≤ max s.peak (total s.lines)
-  pub denied : t.denied ≡ s.denied
-  pub others : (i : ℕ) → slot ≢ i → length (line t i) ≡ length (line s i)
-
-emptied : (s t : Slots) (slot : ℕ) → slot < length s.lines → t ≡ with_line s slot [] → Emptied s t slot
-emptied s t slot within is = rw is (record {
-  slots = length-set s.lines slot [];
-  less = omega (arith, total_set s.lines slot [] within);
-  peak = omega (arith, total_set s.lines slot [] within);
-  denied = refl;
-  others = λ i n. ap length (line_other s slot i [] n);
-})
-
 -- the first four slots were emptied, one after another
+cleared : (lines : List (List ℕ)) (peak : ℕ) (denied : Bool) → 4 ≤ length lines
+    → let s : Slots = record { lines = lines; peak = peak; denied = denied } in IsCleared s (with_line (with_line (with_line (with_line s 0 []) 1 []) 2 []) 3 [])
+cleared (a ∷ b ∷ c ∷ d ∷ rest) peak denied four = record {
+  slots = refl;
+  emptied = omega (arith, four_total a b c d rest, four_total [] [] [] [] rest);
+  peak = omega (arith, four_total a b c d rest, four_total [] b c d rest, four_total [] [] c d rest, four_total [] [] [] d rest, four_total [] [] [] [] rest);
+  denied = refl;
+}
+cleared few peak denied four = absurd (omega arith)
+
 pub four_cleared : (s a b c d : Slots) → 4 ≤ length s.lines → a ≡ with_line s 0 [] → b ≡ with_line a 1 [] → c ≡ with_line b 2 [] → d ≡ with_line c 3 [] → IsCleared s d
-four_cleared s a b c d four is0 is1 is2 is3 =
-    let e0 = emptied s a 0 (omega arith) is0 in
-    let e1 = emptied a b 1 (omega (arith, e0.slots)) is1 in
-    let e2 = emptied b c 2 (omega (arith, e0.slots, e1.slots)) is2 in
-    let e3 = emptied c d 3 (omega (arith, e0.slots, e1.slots, e2.slots)) is3 in
-    record {
-      slots = e3.slots ∙ e2.slots ∙ e1.slots ∙ e0.slots;
-      emptied = omega (
-        arith,
-        e0.less,
-        e1.less,
-        e2.less,
-        e3.less,
-        e0.others 1 (λ e. cc),
-        e0.others 2 (λ e. cc),
-        e0.others 3 (λ e. cc),
-        e1.others 2 (λ e. cc),
-        e1.others 3 (λ e. cc),
-        e2.others 3 (λ e. cc),
-      );
-      peak = omega (arith, e0.peak, e1.peak, e2.peak, e3.peak, e0.less, e1.less, e2.less);
-      denied = e3.denied ∙ e2.denied ∙ e1.denied ∙ e0.denied;
-    }
+four_cleared s a b c d four is0 is1 is2 is3 = rw (is3, is2, is1, is0) (cleared s.lines s.peak s.denied four)

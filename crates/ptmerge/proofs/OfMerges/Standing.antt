@@ -1,12 +1,12 @@
 -- Where an input of a merge stands, and what is still to come of it.
 use Rattle.ptmerge.proofs.Common.{◌≡◌, ◌≢◌, inl, inr, ℕ, ◌+◌, ◌<◌, ◌≤◌, ◌&&◌, Bool, true, false, cond, List, [], ◌∷◌, ◌++◌, Option, Some, None, length, refl, sym, ◌∙◌, ap, subst, arith, nat_lt}
 use Rattle.ptmerge.proofs.Common.{bytes_eq, Ordering, is_eq, is_gt, false≢true, nat_tests, append-nil, length_push, GivesLine, Reader, IsDone, IsSound, budget, Slots, line, with_line, longest}
-use Rattle.ptmerge.proofs.Common.{line_of, Sorted, Stand, Head, Ended, Disorder, Lines, Cmp, Key, is_head, stand_at, same_at, Comes, Closes}
-use Rattle.ptmerge.proofs.OfMerges.Backing.{Near}
+use Rattle.ptmerge.proofs.Common.{line_of, Sorted, Stand, Head, Ended, Disorder, Lines, Cmp, Key, is_head, stand_at, same_at, Comes}
+use Rattle.ptmerge.proofs.OfMerges.Working.{Near}
 use Rattle.ptmerge.proofs.OfMerges.Bounds.{Bound, Free, From, Fallen, Over, Coming, Under, Begun, begun_more, falls, Reaches, reaches_head, reaches_over, reaches_fallen}
 use Rattle.ptmerge.proofs.OfMerges.Got.{Got, got_more, got_end}
 use Rattle.ptmerge.proofs.OfMerges.Least.{EachKey, EachKey-weaker}
-use Rattle.ptmerge.proofs.OfMerges.LineLaws.{longest-append}
+use Rattle.ptlines.proofs.Longest.{longest-append}
 use Rattle.ptmerge.proofs.OfMerges.Orders.{IsKeyOrder, AtMost, at_most_trans, equal_is}
 use Rattle.ptmerge.proofs.OfMerges.Slotted.{line_other}
 
@@ -26,10 +26,9 @@ pub record Sided (end : ℕ) (cmp : Cmp) (key : Key) (old now : Reader) (place :
   pub stands : Stands cmp key place.stand place store now ls p b
 
 -- other slots may change
-pub sided_keeps : (end : ℕ) (cmp : Cmp) (key : Key) (old now : Reader) (place : Sorted) (before after : Slots) (ls p : Lines) (b : Bound)
-    → line after place.standing ≡ line before place.standing → line after place.previous ≡ line before place.previous
-    → Sided end cmp key old now place before ls p b → Sided end cmp key old now place after ls p b
-sided_keeps end cmp key old now place before after ls p b same1 same2 s = record
+pub sided_keeps : {end : ℕ} {cmp : Cmp} {key : Key} {old now : Reader} {place : Sorted} {before after : Slots} {ls p : Lines} {b : Bound} → Sided end cmp key old now place before ls p b
+    → line after place.standing ≡ line before place.standing → line after place.previous ≡ line before place.previous → Sided end cmp key old now place after ls p b
+sided_keeps {cmp = cmp} {key} {now = now} {place} {before} {after} {ls} {p} {b} s same1 same2 = record
     { got = s.got; sound = s.sound; near = s.near; number = s.number; reaches = s.reaches; stands = by place.stand s.stands }
   where
     by : (t : Stand) → Stands cmp key t place before now ls p b → Stands cmp key t place after now ls p b
@@ -104,31 +103,32 @@ module _ (end : ℕ) (cmp : Cmp) (o : IsKeyOrder cmp) (key : Key) (old now new :
   abbrev Goal : Option (List ℕ) → Sorted → Type 0
   Goal last q = Next end cmp key old new q place.previous before after ls last
 
+  -- these lines more came, one or none, and so the input stands
+  at_next : (last : Option (List ℕ)) (more : Lines) (bytes : List ℕ) (q : Sorted) (b : Bound) → Got end old new (ls ++ more) → IsSound new → Near (ls ++ more) ls [] → q.number ≡ length (ls ++ more)
+      → Reaches cmp key (ls ++ more) ls b → Stands cmp key q.stand q after new (ls ++ more) ls b → ((r : Lines) → Coming cmp key b r → Coming cmp key (behind last) r)
+      → ((k : List ℕ) → Under cmp (behind last) k → Under cmp b k) → after ≡ with_line before place.previous bytes → length bytes ≤ longest (ls ++ more) → Goal last q
+  at_next last more bytes q b got sound near number reaches stands coming under stored fits = record {
+    now_ls = ls ++ more;
+    bound = b;
+    sided = record { got = got; sound = sound; near = near; number = number; reaches = reaches; stands = stands };
+    coming = coming;
+    under = under;
+    bytes = bytes;
+    stored = stored;
+    longer = omega (arith, longest-append ls more);
+    more = more;
+    goes_on = refl;
+    fits = fits;
+  }
+
   -- a line came
   module _ (e : GivesLine now new before after place.previous) (sound : IsSound new) (got : Got end old now ls) (number : place.number ≡ length ls) (same : Bool) where
     at_line : (last : Option (List ℕ)) (stand : Stand) (b : Bound) → Reaches cmp key (ls ++ e.line ∷ []) ls b
         → Stands cmp key stand (turned stand (place.number + 1) same) after new (ls ++ e.line ∷ []) ls b → ((r : Lines) → Coming cmp key b r → Coming cmp key (behind last) r)
         → ((k : List ℕ) → Under cmp (behind last) k → Under cmp b k) → Goal last (turned stand (place.number + 1) same)
-    at_line last stand b reaches stands coming under = record {
-      now_ls = ls ++ e.line ∷ [];
-      bound = b;
-      sided = record {
-        got = got_more got e;
-        sound = sound;
-        near = inr (e.line, refl, refl);
-        number = omega (arith, number, length_push ls e.line);
-        reaches = reaches;
-        stands = stands;
-      };
-      coming = coming;
-      under = under;
-      bytes = e.line;
-      stored = e.stored;
-      longer = omega (arith, longest-append ls (e.line ∷ []));
-      more = e.line ∷ [];
-      goes_on = refl;
-      fits = omega (arith, longest-append ls (e.line ∷ []));
-    }
+    at_line last stand b reaches stands coming under =
+        at_next last (e.line ∷ []) e.line (turned stand (place.number + 1) same) b (got_more got e) sound (inr (e.line, refl, refl)) (omega (arith, number, length_push ls e.line))
+        reaches stands coming under e.stored (omega (arith, longest-append ls (e.line ∷ [])))
 
     at_head : (last : Option (List ℕ)) → place.previous < length before.lines → Begun cmp key ls last → falls cmp last (key e.line) ≡ false → Goal last (turned Head (place.number + 1) same)
     at_head last within begun rises =
@@ -146,38 +146,19 @@ module _ (end : ℕ) (cmp : Cmp) (o : IsKeyOrder cmp) (key : Key) (old now new :
         at_line (Some k) (Disorder (place.number + 1)) (Fallen (record { last_key = k; line = length ls + 1 })) (reaches_fallen e.line begun falls_now)
         (rw (← key_is, number) refl) (over cmp key (Some k)) (λ j u. u)
 
-  at_end : (last : Option (List ℕ)) → Closes place next now new before after → Got end old now ls → place.number ≡ length ls → Begun cmp key ls last → Goal last (turned Ended place.number false)
-  at_end last e got number begun = record {
-    now_ls = ls;
-    bound = Over;
-    sided = record {
-      got = got_end got e.goes e.done;
-      sound = e.sound;
-      near = inl refl;
-      number = number;
-      reaches = reaches_over begun;
-      stands = (refl, e.done);
-    };
-    coming = over cmp key last;
-    under = λ k u. tt;
-    bytes = [];
-    stored = e.empty;
-    longer = omega arith;
-    more = [];
-    goes_on = sym (append-nil ls);
-    fits = omega arith;
-  }
-
-  pub goes_next : (last : Option (List ℕ)) → place.previous < length before.lines → place.standing ≢ place.previous → Got end old now ls → place.number ≡ length ls
+  pub goes_next : {last : Option (List ℕ)} → place.previous < length before.lines → place.standing ≢ place.previous → Got end old now ls → place.number ≡ length ls
       → Begun cmp key ls last → LastIs key last place before → Comes key cmp place next now new before after → Goal last next
-  goes_next last within apart got number begun is (inl e) =
+  goes_next {last} within apart got number begun is (inl e) =
       let same = same_at key cmp place.number (line before place.standing) e.gives.line in
       subst (Goal last) (sym (e.place ∙ (λ i. turned (stand_is cmp key last place before e.gives.line is i) (place.number + 1) same)))
       (elim (falls cmp last (key e.gives.line)) as (λ t. falls cmp last (key e.gives.line) ≡ t → Goal last (turned (cond t (Disorder (place.number + 1)) Head) (place.number + 1) same)) [
         | true ↦ λ h. at_fall e.gives e.sound got number same last apart begun is h
         | false ↦ λ h. at_head e.gives e.sound got number same last within begun h
       ] refl)
-  goes_next last within apart got number begun is (inr e) = subst (Goal last) (sym e.place) (at_end last e got number begun)
+  goes_next {last} within apart got number begun is (inr e) =
+      let all = append-nil ls in
+      subst (Goal last) (sym e.place) (at_next last [] [] (turned Ended place.number false) Over (rw all (got_end got e.goes e.done)) e.sound (inl all) (rw all number) (rw all (reaches_over begun))
+      (refl, e.done) (over cmp key last) (λ k u. tt) e.empty (omega arith))
 
 -- each step leaves less to do
 pub comes_less : {key : Key} {cmp : Cmp} {place next : Sorted} {now new : Reader} {before after : Slots} → place.stand ≡ Head

@@ -4,16 +4,14 @@ use Rattle.ptmerge.proofs.Common.{whole_lines, Before, KeepsUp, Output, Reader, 
 use Rattle.ptmerge.proofs.Common.{wrote_nothing, keeps_more, text-append, MergeFault, Read, Write, Side, First, Second, Sorted, Head, Ended, Disorder, Lines, Tool, by_keys, decided, disorder}
 use Rattle.ptmerge.proofs.Common.{disorder_of, fall, lines_of, merged, merged_entries, ordered_part, settled, up_to, State, Agree, Ends, IsMerge, IsUnread, IsWhole, ended_by, Cmp, Key, other, put}
 use Rattle.ptmerge.specs.declared.faults.MergeFault.TheVariants as faults
-use Rattle.ptmerge.proofs.OfMerges.Backing.{Back, Near, back}
 use Rattle.ptmerge.proofs.OfMerges.Bounds.{Bound, Free, From, Over, Coming, Begun, Reaches, reaches_free, reaches_passed}
-use Rattle.ptmerge.proofs.OfMerges.Deciding.{decided_begins}
 use Rattle.ptmerge.proofs.OfMerges.Got.{Got, More, Known, got_known, got_lines, got_none, reads_nothing}
 use Rattle.ptmerge.proofs.OfMerges.Least.{EachKey-weaker}
 use Rattle.ptmerge.proofs.OfMerges.Orders.{IsKeyOrder}
 use Rattle.ptmerge.proofs.OfMerges.Passing.{Late, Merging, Seen, StopsAt, follows, seen_all}
 use Rattle.ptmerge.proofs.OfMerges.Splitting.{all_keys, under_fall}
 use Rattle.ptmerge.proofs.OfMerges.Standing.{Sided, Stands}
-use Rattle.ptmerge.proofs.OfMerges.Working.{unsettled, works_off}
+use Rattle.ptmerge.proofs.OfMerges.Working.{Back, Near, back, decided_begins, unsettled, works_off}
 
 abbrev pub state : (Side → Reader) → Output → Slots → State
 state reader out store = record { reader = reader; out = out; store = store }
@@ -29,9 +27,9 @@ pub record Gone (end : ℕ) (cmp : Cmp) (key : Key) (old now new : Reader) (piec
   pub over : b ≡ Over → IsDone now
 
 -- an input at which a merge stands
-pub gone_standing : (end : ℕ) (cmp : Cmp) (key : Key) (old now : Reader) (place : Sorted) (store : Slots) (ls p : Lines) (b : Bound)
-    → Sided end cmp key old now place store ls p b → Gone end cmp key old now now [] ls p b
-gone_standing end cmp key old now place store ls p b s = record {
+pub gone_standing : {end : ℕ} {cmp : Cmp} {key : Key} {old now : Reader} {place : Sorted} {store : Slots} {ls p : Lines} {b : Bound} → Sided end cmp key old now place store ls p b
+    → Gone end cmp key old now now [] ls p b
+gone_standing {cmp = cmp} {key} {now = now} {place} {store} {ls} {p} {b} s = record {
   got = s.got;
   reads = reads_nothing now;
   line = tt;
@@ -46,10 +44,9 @@ gone_standing end cmp key old now place store ls p b s = record {
 }
 
 -- an input all whose lines are passed, and what came of one more
-pub gone_passed : (end : ℕ) (cmp : Cmp) (o : IsKeyOrder cmp) (key : Key) (old now new : Reader) (piece : List ℕ) (ls : Lines) (k : List ℕ) → Got end old now ls
-    → Reads now new piece → IsLine now.ending piece → IsSound new → Begun cmp key ls (Some k)
-    → Gone end cmp key old now new piece ls ls (From k)
-gone_passed end cmp o key old now new piece ls k got reads line sound begun = record
+pub gone_passed : {end : ℕ} {cmp : Cmp} (o : IsKeyOrder cmp) {key : Key} {old now new : Reader} {piece : List ℕ} {ls : Lines} {k : List ℕ} → Got end old now ls
+    → Reads now new piece → IsLine now.ending piece → IsSound new → Begun cmp key ls (Some k) → Gone end cmp key old now new piece ls ls (From k)
+gone_passed o got reads line sound begun = record
     { got = got; reads = reads; line = line; sound = sound; near = inl refl; reaches = reaches_passed o begun; over = λ e. cc }
 
 -- an input of which no line came

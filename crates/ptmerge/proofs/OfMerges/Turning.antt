@@ -99,16 +99,15 @@ module _ (tool : Tool) (o : IsKeyOrder tool.cmp) (old now : Side → Reader) (pl
   pub next_at : (new : Reader) (next : Sorted) (after : Slots) → Comes (tool.key s) tool.cmp (place s) next (now s) new store after → NextOf new next after
   next_at new next after comes =
       let own = own_slots s (place s) (slots s) in
-      goes_next _ _ o _ _ _ _ _ _ _ _ _ _
-      (omega (arith, own.1, slot_low s)) own.0 (sides s).got (sides s).number passed_at.begun (passed_at.some, refl) comes
+      goes_next _ _ o _ _ _ _ _ _ _ _ _ (omega (arith, own.1, slot_low s)) own.0 (sides s).got (sides s).number passed_at.begun (passed_at.some, refl) comes
 
   module _ (new : Reader) (next : Sorted) (after : Slots) (n : NextOf new next after) where
     -- the other input stands as it did
     other_stays : Sided tool.end tool.cmp (tool.key (other s)) (old (other s)) (now (other s)) (place (other s)) after (ls (other s)) (p (other s)) (b (other s))
     other_stays =
         let apart = slots_apart s (place s) (place (other s)) (slots s) (slots (other s)) in
-        sided_keeps _ _ _ _ _ _ store after _ _ _ (rw n.stored (line_other store (place s).previous (place (other s)).standing n.bytes apart.0))
-        (rw n.stored (line_other store (place s).previous (place (other s)).previous n.bytes apart.1)) (sides (other s))
+        sided_keeps (sides (other s)) (rw n.stored (line_other store (place s).previous (place (other s)).standing n.bytes apart.0))
+        (rw n.stored (line_other store (place s).previous (place (other s)).previous n.bytes apart.1))
 
     pub sides_on : BothStand tool old (put s new now) (put s next place) after (put s n.now_ls ls) (put s (ls s) p) (put s n.bound b)
     sides_on = elim s as (λ t. Sided tool.end tool.cmp (tool.key t) (old t) new next after n.now_ls (ls t) n.bound

@@ -1,15 +1,221 @@
 -- Reading does not run ahead of writing: what was decided two blocks earlier of one input was pushed, whatever came of
 -- the other.
-use Rattle.ptmerge.proofs.Common.{◌≡◌, ℕ, false, List, [], ◌∷◌, ◌++◌, Option, None, map, sym, ◌∙◌, ap, append_assoc, append-nil, last_or, Given, whole_lines, Before, WorksOff, text, Side, Lines, Tool}
-use Rattle.ptmerge.proofs.Common.{by_keys, decided, fall, is_below, ordered_part, settled, Key, put, other}
-use Rattle.ptmerge.proofs.OfMerges.Backing.{Back, Rises, none_below, rises_front, rises_in_order, rises_ordered}
-use Rattle.ptmerge.proofs.OfMerges.Bounds.{Bound, Coming, FallFrom, Under}
-use Rattle.ptmerge.proofs.OfMerges.Deciding.{Differ, decided_of_passed, not_settled}
-use Rattle.ptmerge.proofs.OfMerges.Least.{EachKey}
-use Rattle.ptmerge.proofs.OfMerges.Orders.{IsKeyOrder}
+use Rattle.ptmerge.proofs.Common.{◌≡◌, ◌⊎◌, ⊎_elim, inl, inr, ℕ, ◌+◌, ◌≤◌, false, List, [], ◌∷◌, ◌++◌, Option, Some, None, length, map, refl, sym, ◌∙◌, ap, arith, append_assoc, length-append, last_or}
+use Rattle.ptmerge.proofs.Common.{append-nil, append_cancel_right, Given, whole_lines, Before, Reader, text, ended_lines, IsLine, AreLines, given_of, ended_of_text, text_push, the_lines, Lines, fall}
+use Rattle.ptmerge.proofs.Common.{is_below, ordered_part, Cmp, Key, Bool, filter-append, filter, Begins, text-append, Side, First, Second, Tool, by_keys, decided_entries, disorder, disorder_of}
+use Rattle.ptmerge.proofs.Common.{is_decided, is_settled, other, WorksOff, decided, settled, put, take, length_push, Fall}
+use Rattle.ptmerge.proofs.OfMerges.Bounds.{fall_after, fall_is, falls, ordered_after, ordered_is, Begun, Bound, FallFrom, Under, Coming}
+use Rattle.ptmerge.proofs.OfMerges.Got.{Far}
+use Rattle.ptmerge.proofs.OfMerges.Least.{EachKey, EachKey-all, EachKey-weaker}
+use Rattle.ptmerge.proofs.OfMerges.Orders.{IsKeyOrder, AtMost, at_most_trans}
+use Rattle.ptmerge.proofs.OfMerges.Passing.{not_below, Seen, down_decided, last_has, not_decided, past_none}
+use Rattle.ptmerge.proofs.OfParts.PartsByKey.{by_keys_kept}
+use Rattle.ptmerge.proofs.OfMerges.Splitting.{all_keys, down_begins}
 use Rattle.ptmerge.proofs.OfMerges.Pairs.{put_each, put_other, put_same}
-use Rattle.ptmerge.proofs.OfMerges.Passing.{past_none}
-use Rattle.ptmerge.proofs.OfMerges.Splitting.{all_keys}
+use Rattle.ptlines.proofs.Scanned.{IsLine-append}
+use Rattle.std.proofs.Math.Seq.{take-append_seam}
+use Rattle.ptmerge.specs.Keyed.{Disorder}
+
+-- ---- lines in order
+
+-- no key falls, behind this one
+abbrev pub Rises : Cmp → Key → Option (List ℕ) → Lines → Type 0
+Rises cmp key last [] = Unit {0}
+Rises cmp key last (x ∷ xs) = (falls cmp last (key x) ≡ false) × Rises cmp key (Some (key x)) xs
+
+rises_after : (cmp : Cmp) (key : Key) (last : Option (List ℕ)) (ls : Lines) → Rises cmp key last (ordered_after cmp key last ls)
+rises_after cmp key last [] = tt
+rises_after cmp key last (x ∷ ls) = let ih = rises_after cmp key (Some (key x)) ls in grind (arith, ih)
+
+pub rises_ordered : (cmp : Cmp) (key : Key) (ls : Lines) → Rises cmp key None (ordered_part cmp key ls)
+rises_ordered cmp key ls = rw (ordered_is cmp key ls) (rises_after cmp key None ls)
+
+pub rises_front : (cmp : Cmp) (key : Key) (last : Option (List ℕ)) (xs ys : Lines) → Rises cmp key last (xs ++ ys) → Rises cmp key last xs
+rises_front cmp key last [] ys r = tt
+rises_front cmp key last (x ∷ xs) ys r = (r.0, rises_front cmp key (Some (key x)) xs ys r.1)
+
+rises_rest : (cmp : Cmp) (key : Key) (last : Option (List ℕ)) (xs ys : Lines) → Rises cmp key last (xs ++ ys) → Rises cmp key (last_or last (map key xs)) ys
+rises_rest cmp key last [] ys r = r
+rises_rest cmp key last (x ∷ xs) ys r = rises_rest cmp key (Some (key x)) xs ys r.1
+
+ordered_whole : (cmp : Cmp) (key : Key) (last : Option (List ℕ)) (ls : Lines) → Rises cmp key last ls → ordered_after cmp key last ls ≡ ls
+ordered_whole cmp key last [] r = refl
+ordered_whole cmp key last (x ∷ ls) r = rw r.0 (ap (λ (l : Lines). x ∷ l) (ordered_whole cmp key (Some (key x)) ls r.1))
+
+never_falls : (cmp : Cmp) (key : Key) (last : Option (List ℕ)) (n : ℕ) (ls : Lines) → Rises cmp key last ls → fall_after cmp key last n ls ≡ None
+never_falls cmp key last n [] r = refl
+never_falls cmp key last n (x ∷ ls) r = rw r.0 (never_falls cmp key (Some (key x)) (n + 1) ls r.1)
+
+pub rises_in_order : (cmp : Cmp) (key : Key) (ls : Lines) → Rises cmp key None ls → (ordered_part cmp key ls ≡ ls) × (fall cmp key ls ≡ None)
+rises_in_order cmp key ls r = (ordered_is cmp key ls ∙ ordered_whole cmp key None ls r, fall_is cmp key ls ∙ never_falls cmp key None 0 ls r)
+
+module _ (cmp : Cmp) (o : IsKeyOrder cmp) (key : Key) where
+  from_key : (k : List ℕ) (ls : Lines) → Rises cmp key (Some k) ls → EachKey (AtMost cmp k) key ls
+  from_key k [] r = tt
+  from_key k (x ∷ ls) r = (r.0, EachKey-weaker _ _ (λ y h. at_most_trans cmp o k (key x) y r.0 h) _ _ (from_key (key x) ls r.1))
+
+  -- no later key is below the last one
+  pub none_below : (xs ys : Lines) → Rises cmp key None (xs ++ ys) → EachKey (λ k. is_below cmp k (last_or None (map key xs)) ≡ false) key ys
+  none_below xs ys r = elim (last_or None (map key xs)) as (λ l. Rises cmp key l ys → EachKey (λ k. is_below cmp k l ≡ false) key ys) [
+    | None ↦ λ h. EachKey-all (λ k. false ≡ false) key (λ k. refl) ys
+    | Some x ↦ λ h. EachKey-weaker _ _ (λ k a. not_below cmp o k x a) _ _ (from_key x ys h)
+  ] (rises_rest cmp key None xs ys r)
+
+-- ---- what came
+
+-- all lines have their end, or the last one lacks it
+abbrev Shape : ℕ → List ℕ → Lines → Type 0
+Shape end given ls = ((given ≡ text end ls) × AreLines end ls) ⊎ ((whole : Lines) × (x : List ℕ) × (ls ≡ whole ++ x ∷ []) × (given ≡ text end whole ++ x) × AreLines end whole × IsLine end x)
+
+last_of : {A : Type 0} (xs : List A) → (xs ≡ []) ⊎ ((front : List A) × (x : A) × (xs ≡ front ++ x ∷ []))
+last_of [] = inl refl
+last_of (x ∷ xs) = ⊎_elim (λ e. inr ([], x, ap (λ l. x ∷ l) e)) (λ e. inr (x ∷ e.0, e.1, ap (λ l. x ∷ l) e.2)) (last_of xs)
+
+are_split : (end : ℕ) (xs : Lines) (x : List ℕ) → AreLines end (xs ++ x ∷ []) → AreLines end xs × IsLine end x
+are_split end [] x a = (tt, a.0)
+are_split end (y ∷ xs) x a = let t = are_split end xs x a.1 in ((a.0, t.0), t.1)
+
+shape_of : (end : ℕ) (given : List ℕ) (ls : Lines) (now : Reader) → Far end given ls now → Shape end given ls
+shape_of end given ls now (inl o) = inl o
+shape_of end given ls now (inr c) =
+    let a = rw c.0 at (the_lines end given).0 in
+    ⊎_elim (λ e. inl (sym e, a.0)) (λ e. ⊎_elim
+    (λ none. (let bad : [] ≡ given ++ end ∷ [] = rw none at e.2 in absurd (omega (arith, ap length bad, length-append given (end ∷ [])))))
+    (λ l.
+    let s = are_split end l.0 l.1 (rw l.2 at a.0) in
+    let same : given ++ end ∷ [] ≡ (text end l.0 ++ l.1) ++ end ∷ [] = sym e.2 ∙ (rw (l.2, text_push end l.0 l.1, append_assoc (text end l.0) l.1 (end ∷ []))) in
+    inr (l.0, l.1, l.2, append_cancel_right given (text end l.0 ++ l.1) (end ∷ []) same, s.0, s.1))
+    (last_of ls)) a.1
+
+-- what had come two blocks earlier, or less: its whole lines are passed, and more may come
+pub record Back (end : ℕ) (given : Given) (p : Lines) : Type 0 where
+  pub before : Before given
+  pub going : before.earlier.ended ≡ false
+  pub whole : Lines
+  pub whole_is : whole_lines end before.earlier ≡ whole
+  pub rest : Lines
+  pub split : p ≡ whole ++ rest
+
+-- at most one line that came is not passed, and nothing is behind it
+abbrev pub Near : Lines → Lines → List ℕ → Type 0
+Near ls p piece = (ls ≡ p) ⊎ ((x : List ℕ) × (ls ≡ p ++ x ∷ []) × (piece ≡ []))
+
+module _ (end : ℕ) (given piece : List ℕ) (ls p : Lines) (now new : Reader) (far : Far end given ls now) (free : IsLine end piece) (few : length new.held ≤ 8192) where
+  -- where what is held is left out
+  unheld : (whole : Lines) (tail : List ℕ) → given ++ piece ≡ text end whole ++ tail → AreLines end whole → IsLine end tail → (rest : Lines) → p ≡ whole
+      ++ rest → Back end (given_of (given ++ piece) new) p
+  unheld whole tail is all line rest split = record {
+    before = record { earlier = record { bytes = given ++ piece; ended = false }; last = new.held; split = refl; short = omega (arith, few); ended = λ e. cc };
+    going = refl;
+    whole = whole;
+    whole_is = ap (ended_lines end) is ∙ ended_of_text end whole tail all line;
+    rest = rest;
+    split = split;
+  }
+
+  pub back : Near ls p piece → Back end (given_of (given ++ piece) new) p
+  back near = by near (shape_of end given ls now far)
+    where
+      by : Near ls p piece → Shape end given ls → Back end (given_of (given ++ piece) new) p
+      by (inl e) (inl o) = unheld ls piece (rw o.0) o.1 free [] (sym e ∙ sym (append-nil ls))
+      by (inl e) (inr c) = unheld c.0 (c.1 ++ piece) (rw (c.3, append_assoc (text end c.0) c.1 piece)) c.4 (IsLine-append end c.1 piece c.5 free) (c.1 ∷ []) (sym e ∙ c.2)
+      by (inr e) (inr c) =
+          let is : c.0 ++ c.1 ∷ [] ≡ p ++ e.0 ∷ [] = sym c.2 ∙ e.1 in
+          let long : length c.0 ≡ length p = omega (arith, ap length is, length_push c.0 c.1, length_push p e.0) in
+          let same : c.0 ≡ p = sym (take-append_seam c.0 (c.1 ∷ [])) ∙ (λ i. take (long i) (is i)) ∙ take-append_seam p (e.0 ∷ []) in
+          unheld c.0 (c.1 ++ piece) (rw (c.3, append_assoc (text end c.0) c.1 piece)) c.4 (IsLine-append end c.1 piece c.5 free) [] (sym same ∙ sym (append-nil c.0))
+      by (inr e) (inl o) =
+          let s = are_split end p e.0 (rw e.1 at o.1) in
+          record {
+            before = record {
+              earlier = record { bytes = text end p ++ e.0; ended = false };
+              last = end ∷ new.held;
+              split = rw (e.2, append-nil given, o.0, e.1, text_push end p e.0) (simp append_assoc);
+              short = omega (arith, few);
+              ended = λ e. cc;
+            };
+            going = refl;
+            whole = p;
+            whole_is = ended_of_text end p e.0 s.0 s.1;
+            rest = [];
+            split = sym (append-nil p);
+          }
+
+-- ---- what is decided of two inputs is a beginning of what was pushed, where it is decided by passed lines
+
+kept_none : (w : List ℕ → Bool) (key : Key) (ls : Lines) → EachKey (λ k. w k ≡ false) key ls → filter (λ line. w (key line)) ls ≡ []
+kept_none w key [] e = refl
+kept_none w key (x ∷ ls) e = rw e.0 (kept_none w key ls e.1)
+
+-- two lists that differ in lines that are left out
+kept_same : (w : List ℕ → Bool) (key : Key) (xs ys rest tail : Lines) → xs ++ rest ≡ ys ++ tail → EachKey (λ k. w k ≡ false) key rest
+    → EachKey (λ k. w k ≡ false) key tail → filter (λ line. w (key line)) xs ≡ filter (λ line. w (key line)) ys
+kept_same w key xs ys rest tail same none1 none2 =
+    simp (filter-append, kept_none w key rest none1, kept_none w key tail none2, append-nil) at (ap (filter (λ line. w (key line))) same)
+
+-- these lines are those, but for lines whose keys are not below this one
+pub record Differ (tool : Tool) (last : Option (List ℕ)) (key : Key) (xs ys : Lines) : Type 0 where
+  pub rest : Lines
+  pub tail : Lines
+  pub same : xs ++ rest ≡ ys ++ tail
+  pub none_rest : EachKey (λ k. is_below tool.cmp k last ≡ false) key rest
+  pub none_tail : EachKey (λ k. is_below tool.cmp k last ≡ false) key tail
+
+-- what is at least each key is not below the last one
+below_last : (cmp : Cmp) → IsKeyOrder cmp → (key : Key) (xs : Lines) (e : List ℕ) → EachKey (λ k. AtMost cmp k e) key xs → is_below cmp e (last_or None (map key xs)) ≡ false
+below_last cmp o key xs e up = elim (last_or None (map key xs)) as (λ l. last_or None (map key xs) ≡ l → is_below cmp e l ≡ false) [
+  | None ↦ λ h. refl
+  | Some x ↦ λ h. not_below cmp o e x (last_has key (λ k. AtMost cmp k e) None xs x h (λ y bad. cc) up)
+] refl
+
+-- where one list does not fall, a test of the disorder is one of the fall of the other
+of_other : (cmp : Cmp) (s : Side) (f : Side → Option Fall) (test : Option Disorder → Bool) → f s ≡ None → test None ≡ false
+    → ((d : Fall) → f (other s) ≡ Some d → test (Some (record { file = other s; fall = d })) ≡ false) → test (disorder_of cmp (f First) (f Second)) ≡ false
+of_other cmp First f test none calm some = rw none (elim (f Second) as (λ g. f Second ≡ g → test (disorder_of cmp None g) ≡ false) [ None ↦ λ e. calm | Some d ↦ λ e. some d e ] refl)
+of_other cmp Second f test none calm some = rw none (elim (f First) as (λ g. f First ≡ g → test (disorder_of cmp g None) ≡ false) [ None ↦ λ e. calm | Some d ↦ λ e. some d e ] refl)
+
+-- one input is in order and goes on
+module _ (tool : Tool) (o : IsKeyOrder tool.cmp) (ended : Side → Bool) (ls : Side → Lines) (of : Side) (going : ended of ≡ false) (rises : fall tool.cmp (tool.key of) (ls of) ≡ None) where
+  -- what is not below its last key is not decided
+  undecided : (k : List ℕ) → is_below tool.cmp k (last_or None (map (tool.key of) (ls of))) ≡ false → is_decided tool ended ls k ≡ false
+  undecided k h = not_decided tool o ended ls of k (rw (going, rises) h)
+
+  -- only passed lines came of it; of the other, whatever came
+  decided_of_passed : (p : Side → Lines) → ((side : Side) → Differ tool (last_or None (map (tool.key of) (ls of))) (tool.key side) (ordered_part tool.cmp (tool.key side) (ls side)) (p side))
+      → Begins (text tool.end (decided_entries tool ended ls)) (text tool.end (by_keys tool all_keys p))
+  decided_of_passed p differ =
+      let dec = is_decided tool ended ls in
+      let first = down_begins tool o dec (down_decided tool o ended ls) p in
+      let known : decided_entries tool ended ls ≡ by_keys tool dec p =
+      sym (by_keys_kept dec tool o (λ side. ordered_part tool.cmp (tool.key side) (ls side))) ∙ (λ i. by_keys tool all_keys (λ side. kept side i)) ∙ by_keys_kept dec tool o p in
+      record { rest = text tool.end first.0; is = ap (text tool.end) (first.1 ∙ ap (λ (l : Lines). l ++ first.0) (sym known)) ∙ text-append tool.end (decided_entries tool ended ls) first.0 }
+    where
+      kept : (side : Side) → filter (λ line. is_decided tool ended ls (tool.key side line)) (ordered_part tool.cmp (tool.key side) (ls side))
+          ≡ filter (λ line. is_decided tool ended ls (tool.key side line)) (p side)
+      kept side =
+          let d = differ side in
+          kept_same (is_decided tool ended ls) (tool.key side) _ _ d.rest d.tail d.same (EachKey-weaker _ _ undecided _ _ d.none_rest) (EachKey-weaker _ _ undecided _ _ d.none_tail)
+
+  -- no key of it is behind the fall of the other: no disorder is settled
+  not_settled : EachKey (λ k. FallFrom tool.cmp k (fall tool.cmp (tool.key (other of)) (ls (other of)))) (tool.key of) (ls of) → is_settled tool ended ls (disorder tool ls) ≡ false
+  not_settled up =
+      of_other tool.cmp of (λ side. fall tool.cmp (tool.key side) (ls side)) (is_settled tool ended ls) rises refl
+      (λ d is. undecided d.last_key (below_last tool.cmp o (tool.key of) (ls of) d.last_key (rw is at up)))
+
+-- all lines that came of this input are passed, and more may come
+pub decided_begins : {tool : Tool} (o : IsKeyOrder tool.cmp) {b : Side → Bound} {p ls : Side → Lines} → ((of side : Side) → EachKey (Under tool.cmp (b of)) (tool.key side) (p side))
+    → Seen tool b p ls → (ended : Side → Bool) (of : Side) (last : Option (List ℕ)) → ended of ≡ false → ls of ≡ p of → Begun tool.cmp (tool.key of) (p of) last
+    → Begins (text tool.end (decided_entries tool ended ls)) (text tool.end (by_keys tool all_keys p))
+decided_begins {tool} o {b} {p} {ls} under s ended of last going all begun =
+    decided_of_passed tool o ended ls of going (ap (fall tool.cmp (tool.key of)) (all ∙ sym (append-nil (p of))) ∙ begun.falling []) p (λ side. record {
+      rest = [];
+      tail = s.r side;
+      same = append-nil (ordered_part tool.cmp (tool.key side) (ls side)) ∙ s.parts side;
+      none_rest = tt;
+      none_tail = rw all (past_none tool.cmp o (tool.key of) (tool.key side) (b side) (p of) (s.r side) (under side of) (s.coming side));
+    })
+
+-- ---- what was decided two blocks earlier
 
 front_has : (P : List ℕ → Type 0) (key : Key) (xs ys : Lines) → EachKey P key (xs ++ ys) → EachKey P key xs
 front_has P key [] ys e = tt
@@ -76,7 +282,7 @@ module _ (tool : Tool) (o : IsKeyOrder tool.cmp) (given : Side → Given) (p q t
     pub works_off : WorksOff {I = Unit {0}} (λ came. decided tool (put of (came tt) given)) (λ u. given of) (text tool.end (by_keys tool all_keys p))
     works_off = record {
       before = λ u. (backs of).before;
-      begins = decided_of_passed tool o (λ side. (mix side).ended) (λ side. whole_lines tool.end (mix side)) p of going (rw whole_now ordered.1)
+      begins = decided_of_passed tool o (λ side. (mix side).ended) (λ side. whole_lines tool.end (mix side)) of going (rw whole_now ordered.1) p
           (rw whole_now (put_each Differs of (backs of).before.earlier given mine others));
     }
 
