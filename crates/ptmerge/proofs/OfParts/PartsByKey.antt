@@ -1,6 +1,6 @@
 -- What is written of lines that are dealt out by their keys.
-use Rattle.ptmerge.proofs.Common.{eqb-true, ◌≡◌, ℕ, zero, suc, ◌+◌, ◌<◌, ◌≤◌, ◌==◌, List, [], ◌∷◌, ◌++◌, Bool, true, false, cond, None, refl, ap, sym, ◌∙◌, subst, map, append_assoc, inr, arith}
-use Rattle.ptmerge.proofs.Common.{nat_tests, append-nil, flat_map-append, filter-append, filter, bytes_eq, flat_map, range_with_len, Ordering, Less, Equal, Greater, is_gt, match_ordering}
+use Rattle.ptmerge.proofs.Common.{◌≡◌, ℕ, zero, suc, ◌+◌, ◌<◌, ◌==◌, ◌&&◌, ◌||◌, List, [], ◌∷◌, ◌++◌, Bool, true, false, cond, not, nat_lt, None, refl, ap, sym, ◌∙◌, subst, map, append_assoc, inr}
+use Rattle.ptmerge.proofs.Common.{arith, nat_tests, append-nil, flat_map-append, filter-append, filter, bytes_eq, flat_map, range_with_len, Ordering, Less, Equal, Greater, is_gt, match_ordering}
 use Rattle.ptmerge.proofs.Common.{bytes_decides, AreLines, lines, text, the_lines_of_parts, lines_of_text, the_lines, Side, First, Second, comm_tool, join_tool, Lines, Tool, insert_key, distinct}
 use Rattle.ptmerge.proofs.Common.{disorder, keys, with_key, entries_of, by_keys, lines_of, merged_entries, Cmp, Key, CommByKey, IsByKey, JoinByKey, dealt, written_lines}
 use Rattle.std.proofs.lemmas.List.Sorted.{IsPermutation-refl, IsPermutation-trans, IsPermutation-append_left, IsPermutation-append_right, IsPermutation-append_comm}
@@ -104,53 +104,30 @@ module _ {A : Type 0} where
   changed u v w = subst (λ l. IsPermutation l (v ++ (u ++ w))) (append_assoc u v w)
       (subst (λ l. IsPermutation ((u ++ v) ++ w) l) (append_assoc v u w) (IsPermutation-append_left w (u ++ v) (v ++ u) (IsPermutation-append_comm u v)))
 
-  -- with u at the number j
-  abbrev with_at : ℕ → List A → (ℕ → List A) → ℕ → List A
-  with_at j u g i = cond (j == i) (u ++ g i) (g i)
-
-  none_at : (j : ℕ) (u : List A) (g : ℕ → List A) (a n : ℕ) → j < a → flat_map (with_at j u g) (range_with_len a n) ≡ flat_map g (range_with_len a n)
-  none_at j u g a zero low = refl
-  none_at j u g a (suc n) low =
-      let other : (j == a) ≡ false = grind (arith, nat_tests) in
-      rw other (ap (λ l. g a ++ l) (none_at j u g (a + 1) n (omega arith)))
-
-  -- wherever it stands, it may come first
-  one_at : (j : ℕ) (u : List A) (g : ℕ → List A) (a n : ℕ) → a ≤ j → j < a + n → IsPermutation (u ++ flat_map g (range_with_len a n)) (flat_map (with_at j u g) (range_with_len a n))
-  one_at j u g a zero low high = absurd (omega arith)
-  one_at j u g a (suc n) low high = by (j == a) refl (λ apart. one_at j u g (a + 1) n apart (omega arith))
+  -- keys of two tests that exclude each other
+  of_either : (f : List ℕ → List A) (p q r : List ℕ → Bool) → ((k : List ℕ) → (p k ≡ (q k || r k)) × ((q k && r k) ≡ false)) → (ks : Lines)
+      → IsPermutation (flat_map f (filter p ks)) (flat_map f (filter q ks) ++ flat_map f (filter r ks))
+  of_either f p q r apart [] = IsPermutation-refl []
+  of_either f p q r apart (k ∷ ks) = by (p k) (q k) (r k) (apart k) (of_either f p q r apart ks)
     where
-      rest : List A
-      rest = flat_map g (range_with_len (a + 1) n)
+      by : (b c d : Bool) → (b ≡ (c || d)) × ((c && d) ≡ false) → IsPermutation (flat_map f (filter p ks)) (flat_map f (filter q ks) ++ flat_map f (filter r ks))
+          → IsPermutation (flat_map f (cond b (k ∷ filter p ks) (filter p ks))) (flat_map f (cond c (k ∷ filter q ks) (filter q ks)) ++ flat_map f (cond d (k ∷ filter r ks) (filter r ks)))
+      by b true true h ih = cc
+      by b true false h ih = rw (h.0, append_assoc (f k) (flat_map f (filter q ks)) (flat_map f (filter r ks))) (IsPermutation-append_right (f k) _ _ ih)
+      by b false true h ih = rw h.0 (IsPermutation-trans _ _ _ (IsPermutation-append_right (f k) _ _ ih) (changed (f k) (flat_map f (filter q ks)) (flat_map f (filter r ks))))
+      by b false false h ih = rw h.0 ih
 
-      by : (b : Bool) → (j == a) ≡ b → (a + 1 ≤ j → IsPermutation (u ++ rest) (flat_map (with_at j u g) (range_with_len (a + 1) n)))
-          → IsPermutation (u ++ (g a ++ rest)) (cond b (u ++ g a) (g a) ++ flat_map (with_at j u g) (range_with_len (a + 1) n))
-      by true e ih =
-          let same : j ≡ a = eqb-true j a e in
-          subst (λ l. IsPermutation (u ++ (g a ++ rest)) l) (sym (append_assoc u (g a) rest)
-          ∙ ap (λ l. (u ++ g a) ++ l) (sym (none_at j u g (a + 1) n (omega (arith, same))))) (IsPermutation-refl (u ++ (g a ++ rest)))
-      by false e ih =
-          let apart : a + 1 ≤ j = grind (arith, nat_tests, e, low) in
-          IsPermutation-trans _ _ _ (changed u (g a) rest)
-          (IsPermutation-append_right (g a) _ _ (ih apart))
-
-  -- Of some keys, those that go to each part.
-  of_each : (f : List ℕ → List A) (part_of : List ℕ → ℕ) (parts : ℕ) → ((k : List ℕ) → part_of k < parts) → (ks : Lines)
-      → IsPermutation (flat_map f ks) (flat_map (λ i. flat_map f (filter (λ k. part_of k == i) ks)) (range_with_len 0 parts))
-  of_each f part_of parts below [] = subst (λ l. IsPermutation [] l) (sym (nothing (range_with_len 0 parts))) (IsPermutation-refl [])
-    where
-      nothing : (is : List ℕ) → flat_map {A = A} (λ i. []) is ≡ []
-      nothing [] = refl
-      nothing (i ∷ is) = nothing is
-  of_each f part_of parts below (k ∷ ks) =
-      let g : ℕ → List A = λ i. flat_map f (filter (λ k. part_of k == i) ks) in
-      let all : List A = flat_map g (range_with_len 0 parts) in
-      subst (λ (h : ℕ → List A). IsPermutation (f k ++ flat_map f ks) (flat_map h (range_with_len 0 parts))) (λ t i. at (part_of k == i) i t)
-      (IsPermutation-trans _ _ _ (IsPermutation-append_right (f k) _ _ (of_each f part_of parts below ks)) (one_at (part_of k) (f k) g 0 parts (omega arith) (omega (arith, below k))))
-    where
-      at : (b : Bool) (i : ℕ) → cond b (f k ++ flat_map f (filter (λ k. part_of k == i) ks)) (flat_map f (filter (λ k. part_of k == i) ks))
-          ≡ flat_map f (cond b (k ∷ filter (λ k. part_of k == i) ks) (filter (λ k. part_of k == i) ks))
-      at true i = refl
-      at false i = refl
+  -- Of some keys, those that go to each part from a on.
+  of_each : (f : List ℕ → List A) (part_of : List ℕ → ℕ) (w : List ℕ → Bool) (a n : ℕ) → ((k : List ℕ) → (w k ≡ not (nat_lt (part_of k) a)) × part_of k < a + n) → (ks : Lines)
+      → IsPermutation (flat_map f (filter w ks)) (flat_map (λ i. flat_map f (filter (λ k. part_of k == i) ks)) (range_with_len a n))
+  of_each f part_of w a zero h [] = IsPermutation-refl []
+  of_each f part_of w a zero h (k ∷ ks) =
+      let out : w k ≡ false = grind (arith, nat_tests, h k) in
+      rw out (of_each f part_of w a zero h ks)
+  of_each f part_of w a (suc n) h ks =
+      let from : List ℕ → Bool = λ k. not (nat_lt (part_of k) (a + 1)) in
+      IsPermutation-trans _ _ _ (of_either f w (λ k. part_of k == a) from (λ k. (grind (arith, nat_tests, h k), grind (arith, nat_tests))) ks)
+      (IsPermutation-append_right _ _ _ (of_each f part_of from (a + 1) n (λ k. (refl, omega (arith, h k))) ks))
 
 -- ---- texts
 
@@ -176,7 +153,8 @@ lines_dealt end q bytes =
 pub of_keys : (tool : Tool) → IsKeyOrder tool.cmp → IsByKey tool
 of_keys tool o inputs part_of parts in_order below =
     subst (λ (l : Lines). IsPermutation l (flat_map (λ i. written_lines tool (dealt tool part_of inputs i)) (range_with_len 0 parts))) (sym whole)
-    (subst (λ (h : ℕ → Lines). IsPermutation (flat_map each ds) (flat_map h (range_with_len 0 parts))) (λ t i. sym (of_part i) t) (of_each each part_of parts below ds))
+    (subst (λ (h : ℕ → Lines). IsPermutation (flat_map each (filter all_keys ds)) (flat_map h (range_with_len 0 parts))) (λ t i. sym (of_part i) t)
+    (of_each each part_of all_keys 0 parts (λ k. (grind (arith, nat_tests), omega (arith, below k))) ds))
   where
     ls : Side → Lines
     ls = lines_of tool inputs
@@ -208,10 +186,10 @@ of_keys tool o inputs part_of parts in_order below =
         ∙ ap (λ es. lines tool.end (text tool.end es)) (merged_in_order tool o (part_lines i) (part_order i)) ∙ written (by_keys tool all_keys (part_lines i))
         ∙ ap (flat_map entry_lines) (by_keys_kept (goes_to i) tool o ls) ∙ nested entry_lines (entries_of tool ls) (filter (goes_to i) ds)
 
-    whole : written_lines tool inputs ≡ flat_map each ds
+    whole : written_lines tool inputs ≡ flat_map each (filter all_keys ds)
     whole =
         ap (λ es. lines tool.end (text tool.end es)) (merged_in_order tool o ls in_order) ∙ written (by_keys tool all_keys ls)
-        ∙ ap (λ ks. flat_map entry_lines (flat_map (entries_of tool ls) ks)) (filter_true ds) ∙ nested entry_lines (entries_of tool ls) ds
+        ∙ nested entry_lines (entries_of tool ls) (filter all_keys ds)
 
 pub comm_of_keys : CommByKey
 comm_of_keys job = of_keys (comm_tool job) (line_order job.descending)
