@@ -4,7 +4,7 @@ use Rattle.ptmerge.proofs.Common.{First, Second, Lines, Tool, by_keys, decided_e
 use Rattle.ptmerge.proofs.OfMerges.Bounds.{Begun, Bound, FallFrom, Under}
 use Rattle.ptmerge.proofs.OfMerges.Least.{EachKey, EachKey-weaker}
 use Rattle.ptmerge.proofs.OfMerges.Orders.{IsKeyOrder, AtMost}
-use Rattle.ptmerge.proofs.OfParts.PartsByKey.{by_keys_kept}
+use Rattle.ptmerge.proofs.OfParts.PartsOfKeys.{by_keys_kept}
 use Rattle.ptmerge.proofs.OfMerges.Passing.{Seen, down_decided, last_has, not_below, not_decided, past_none}
 use Rattle.ptmerge.proofs.OfMerges.Splitting.{all_keys, down_begins}
 
@@ -38,7 +38,7 @@ decided_of_passed tool o ended ls p of going rises differ =
     let dec = is_decided tool ended ls in
     let first = down_begins tool o dec (down_decided tool o ended ls) p in
     let known : decided_entries tool ended ls ≡ by_keys tool dec p =
-    sym (by_keys_kept dec tool o (λ side. ordered_part tool.cmp (tool.key side) (ls side))) ∙ (λ i. by_keys tool all_keys (λ side. kept side i)) ∙ by_keys_kept dec tool o p in
+    sym (by_keys_kept dec tool o (λ side. ordered_part tool.cmp (tool.key side) (ls side)) all_keys) ∙ (λ i. by_keys tool all_keys (λ side. kept side i)) ∙ by_keys_kept dec tool o p all_keys in
     record { rest = text tool.end first.0; is = ap (text tool.end) (first.1 ∙ ap (λ (l : Lines). l ++ first.0) (sym known)) ∙ text-append tool.end (decided_entries tool ended ls) first.0 }
   where
     unwanted : (side : Side) (xs : Lines) → EachKey (λ k. is_below tool.cmp k (last_or None (map (tool.key of) (ls of))) ≡ false) (tool.key side) xs
