@@ -1,10 +1,10 @@
 -- What is known at each turn of `comm`, and what comes of the turn.
-use Rattle.ptmerge.proofs.Common.{◌≡◌, ℕ, ◌<◌, Bool, false, List, [], ◌∷◌, ◌++◌, Result, Ok, Err, length, refl, sym, ◌∙◌, ap, subst, arith, false≢true, append-nil, Comm, Output, Wrote, Reader}
-use Rattle.ptmerge.proofs.Common.{IsSound, Slots, line, total, text, longest, wrote_nothing, MergeFault, Side, First, Second, Sorted, Head, Ended, comm_by, entries_in, tab_unless, Lines, Tool}
-use Rattle.ptmerge.proofs.Common.{by_keys, with_key, HasPassed, StandsAt, State, IsMerge, IsReady, IsUnread, Ends, seen, Cmp, Key, both, put, other, AreEqual, CannotStart, IsAlone, IsDecided, IsLent}
-use Rattle.ptmerge.proofs.Common.{IsPlaced, Starts, inputs, Adds, IsCleared}
+use Rattle.ptmerge.proofs.Common.{◌≡◌, ℕ, ◌<◌, false, List, [], ◌∷◌, ◌++◌, Result, Ok, Err, length, refl, sym, ◌∙◌, ap, subst, arith, false≢true, Comm, Output, Wrote, Reader, IsSound, Slots, line}
+use Rattle.ptmerge.proofs.Common.{total, text, longest, wrote_nothing, MergeFault, Side, First, Second, Sorted, Head, Ended, comm_by, entries_in, tab_unless, Lines, Tool, by_keys, with_key, HasPassed}
+use Rattle.ptmerge.proofs.Common.{StandsAt, State, IsMerge, IsReady, IsUnread, Ends, seen, Cmp, Key, both, put, other, AreEqual, CannotStart, IsAlone, IsDecided, IsLent, IsPlaced, Starts, inputs}
+use Rattle.ptmerge.proofs.Common.{Adds, IsCleared}
 use Rattle.ptmerge.specs.declared.faults.MergeFault.TheVariants as faults
-use Rattle.ptmerge.proofs.OfComm.CommEntries.{entries_both, entries_none, line_by_line, written_first, written_second, written_both}
+use Rattle.ptmerge.proofs.OfComm.CommEntries.{entries_both, entries_none, hidden_of, lead_of, line_by_line, written_alone, written_both}
 use Rattle.ptmerge.proofs.OfComm.CommTurns.{CannotPass, IsOpened, Placed, Running, adds_of, comes_slots, goes, goes_merging, passes_slots, passing_now, readable_of}
 use Rattle.ptmerge.proofs.OfComm.CommTurns.{runs_on, slots_of, standing, turn_stops, unfailed_of, went}
 use Rattle.ptmerge.proofs.OfMerges.GoingOn.{left, less, lent_on, place_is, wrote_and_sent}
@@ -16,7 +16,7 @@ use Rattle.ptmerge.proofs.OfMerges.Splitting.{all_keys}
 use Rattle.ptmerge.proofs.OfMerges.Standing.{passed}
 use Rattle.ptmerge.proofs.OfMerges.Starting.{starts_well, starts_badly, start_slots, start_refused}
 use Rattle.ptmerge.proofs.OfMerges.Stopping.{Concludes, state, stops}
-use Rattle.ptmerge.proofs.OfMerges.Turning.{ahead, all_ended, alone, pass_one, stops_at}
+use Rattle.ptmerge.proofs.OfMerges.Turning.{ahead, all_ended, pass_one, stops_at}
 
 pub is_opened : (job : Comm) {cmp : Cmp} {key : Side → Key} {first second : Reader} {out : Output} {store : Slots} → IsKeyOrder cmp → IsReady first second store
     → IsSound first × IsSound second → (first.ending ≡ job.end) × (second.ending ≡ job.end) → out.faulted ≡ false → IsOpened (comm_by job cmp key) (seen first second out store)
@@ -70,20 +70,6 @@ module _ (job : Comm) {cmp : Cmp} {key : Side → Key} {old : State} (w : IsOpen
   }
 
 -- ---- a turn
-
--- the column of a line that one input alone has
-abbrev pub hidden_of : Comm → Side → Bool
-hidden_of job First = job.hide1
-hidden_of job Second = job.hide2
-
-abbrev pub lead_of : Comm → Side → List ℕ
-lead_of job First = []
-lead_of job Second = tab_unless job.hide1 ++ []
-
-written_alone : (job : Comm) (cmp : Cmp) (key : Side → Key) (s : Side) (x : List ℕ) → key s x ≡ x
-    → by_keys (comm_by job cmp key) all_keys (alone s x) ≡ entries_in (hidden_of job s) (lead_of job s) 1 x
-written_alone job cmp key First x whole = written_first job cmp key x whole
-written_alone job cmp key Second x whole = rw (append-nil (tab_unless job.hide1)) (written_second job cmp key x whole)
 
 module _ {job : Comm} {cmp : Cmp} {key : Side → Key} {old now : State} {one two : Sorted} (t : IsTurn job cmp key old now one two) where
   open t use {opened as w, whole, running.{ls, p, b, sides, merging, keeps}, placed, lent, clean}

@@ -42,7 +42,7 @@ Each-keys P key1 key2 [] [] e f = tt
 Each-keys P key1 key2 [] (y ∷ ys) e f = (f.0, Each-keys P key1 key2 [] ys tt f.1)
 Each-keys P key1 key2 (x ∷ xs) ys e f = (e.0, Each-keys P key1 key2 xs ys e.1 f)
 
-keys-Each : (P : List ℕ → Type 0) (key1 key2 : Key) (xs ys : Lines) → Each P (map key1 xs ++ map key2 ys) → EachKey P key1 xs × EachKey P key2 ys
+pub keys-Each : (P : List ℕ → Type 0) (key1 key2 : Key) (xs ys : Lines) → Each P (map key1 xs ++ map key2 ys) → EachKey P key1 xs × EachKey P key2 ys
 keys-Each P key1 key2 [] [] e = (tt, tt)
 keys-Each P key1 key2 [] (y ∷ ys) e = (tt, (e.0, (keys-Each P key1 key2 [] ys e.1).1))
 keys-Each P key1 key2 (x ∷ xs) ys e = let r = keys-Each P key1 key2 xs ys e.1 in ((e.0, r.0), r.1)

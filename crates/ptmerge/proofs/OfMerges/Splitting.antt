@@ -1,6 +1,6 @@
 -- What is written of the lines that are passed, and what is written of all that may come.
-use Rattle.ptmerge.proofs.Common.{◌≡◌, ℕ, List, [], ◌∷◌, ◌++◌, Bool, true, false, cond, Option, refl, ap, sym, ◌∙◌, append_assoc, arith, append-nil, flat_map-append, filter, flat_map, Less, Equal}
-use Rattle.ptmerge.proofs.Common.{Greater, is_gt, match_ordering, Side, First, Second, Lines, Tool, insert_key, distinct, keys, entries_of, by_keys, Fall, disorder_of, up_to, Cmp}
+use Rattle.ptmerge.proofs.Common.{◌≡◌, ℕ, List, [], ◌∷◌, ◌++◌, ◌&&◌, Bool, true, false, not, Option, refl, ap, sym, ◌∙◌, append_assoc, arith, append-nil, flat_map-append, filter, flat_map, Less}
+use Rattle.ptmerge.proofs.Common.{Equal, Greater, is_gt, match_ordering, Side, First, Second, Lines, Tool, insert_key, distinct, keys, entries_of, by_keys, Fall, disorder_of, up_to, Cmp}
 use Rattle.ptmerge.proofs.OfMerges.Orders.{IsKeyOrder, Above, at_most_trans, at_most_is_le, above_trans, less_flips}
 use Rattle.ptmerge.proofs.OfMerges.Least.{Each, EachKey, Each-weaker, Each-insert, Each-distinct, Each-keys}
 use Rattle.ptmerge.proofs.OfMerges.Bounds.{Bound, Coming, Falling, Under, FallFrom, coming_none}
@@ -42,23 +42,22 @@ module _ (cmp : Cmp) (o : IsKeyOrder cmp) where
   ascends_distinct [] = tt
   ascends_distinct (k ∷ ks) = ascends_insert k (distinct cmp ks) (ascends_distinct ks)
 
-  -- the keys that pass are the first ones
-  down_first : (w : List ℕ → Bool) → IsDown cmp w → (ks : Lines) → Ascends cmp ks → (rest : Lines) × (ks ≡ filter w ks ++ rest)
-  down_first w down [] a = ([], refl)
-  down_first w down (k ∷ ks) a = by (w k) refl (down_first w down ks a.1)
+  -- the keys that pass come first
+  down_first : (w p : List ℕ → Bool) → IsDown cmp p → (ks : Lines) → Ascends cmp ks → filter w ks ≡ filter (λ k. w k && p k) ks ++ filter (λ k. w k && not (p k)) ks
+  down_first w p down [] a = refl
+  down_first w p down (k ∷ ks) a =
+      let ih = down_first w p down ks a.1 in
+      let none : p k ≡ false → filter (λ y. w y && p y) ks ≡ [] = λ h. filter_none _ ks (Each-weaker _ _ (not_above h) _ a.0) in
+      grind (arith, ih, none)
     where
-      not_above : w k ≡ false → (y : List ℕ) → cmp y k ≡ Greater → w y ≡ false
+      not_above : p k ≡ false → (y : List ℕ) → cmp y k ≡ Greater → (w y && p y) ≡ false
       not_above h y g = grind (arith, down k y g)
-
-      by : (b : Bool) → w k ≡ b → (rest : Lines) × (ks ≡ filter w ks ++ rest) → (rest : Lines) × (k ∷ ks ≡ cond b (k ∷ filter w ks) (filter w ks) ++ rest)
-      by true h ih = (ih.0, ap (λ l. k ∷ l) ih.1)
-      by false h ih = (k ∷ ks, rw (filter_none w ks (Each-weaker _ _ (not_above h) _ a.0)) refl)
 
   -- what the lists fall behind is at least k
   pub under_fall : (b : Bound) (k : List ℕ) (f : Option Fall) → Under cmp b k → Falling cmp b f → FallFrom cmp k f
   under_fall b k f u h = grind (arith, at_most_trans)
 
-  up_to_from : (k : List ℕ) (f1 f2 : Option Fall) → FallFrom cmp k f1 → FallFrom cmp k f2 → up_to cmp (disorder_of cmp f1 f2) k ≡ true
+  pub up_to_from : (k : List ℕ) (f1 f2 : Option Fall) → FallFrom cmp k f1 → FallFrom cmp k f2 → up_to cmp (disorder_of cmp f1 f2) k ≡ true
   up_to_from k f1 f2 h1 h2 = grind (arith, at_most_is_le)
 
   pub passed_is_wanted : (b1 b2 : Bound) (f1 f2 : Option Fall) (k : List ℕ) → Falling cmp b1 f1 → Falling cmp b2 f2 → Under cmp b1 k → Under cmp b2 k → up_to cmp (disorder_of cmp f1 f2) k ≡ true
@@ -76,12 +75,15 @@ module _ (tool : Tool) where
       ap (flat_map (entries_of tool r)) (filter_none w (distinct tool.cmp (keys tool r)) (Each-distinct _ _ _ (Each-keys _ _ _ _ _ (e First) (e Second))))
 
   -- the entries of the keys below one are the first
+  pub down_splits : IsKeyOrder tool.cmp → (w p : List ℕ → Bool) → IsDown tool.cmp p → (ls : Side → Lines)
+      → by_keys tool w ls ≡ by_keys tool (λ k. w k && p k) ls ++ by_keys tool (λ k. w k && not (p k)) ls
+  down_splits o w p down ls =
+      let ks = distinct tool.cmp (keys tool ls) in
+      ap (flat_map (entries_of tool ls)) (down_first tool.cmp o w p down ks (ascends_distinct tool.cmp o (keys tool ls)))
+      ∙ flat_map-append (entries_of tool ls) (filter (λ k. w k && p k) ks) (filter (λ k. w k && not (p k)) ks)
+
   pub down_begins : IsKeyOrder tool.cmp → (w : List ℕ → Bool) → IsDown tool.cmp w → (p : Side → Lines) → (rest : Lines) × (by_keys tool all_keys p ≡ by_keys tool w p ++ rest)
-  down_begins o w down p =
-      let ks = distinct tool.cmp (keys tool p) in
-      let f : List ℕ → Lines = entries_of tool p in
-      let first = down_first tool.cmp o w down ks (ascends_distinct tool.cmp o (keys tool p)) in
-      (flat_map f first.0, ap (flat_map f) (filter_all all_keys ks (each_true ks) ∙ first.1) ∙ flat_map-append f (filter w ks) first.0)
+  down_begins o w down p = (by_keys tool (λ k. not (w k)) p, down_splits o all_keys w down p)
 
   -- what may come of both inputs
   abbrev pub MayCome : (Side → Bound) → (Side → Lines) → Type 0

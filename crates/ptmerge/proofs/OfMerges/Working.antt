@@ -9,7 +9,7 @@ use Rattle.ptmerge.proofs.OfMerges.Got.{Far}
 use Rattle.ptmerge.proofs.OfMerges.Least.{EachKey, EachKey-all, EachKey-weaker}
 use Rattle.ptmerge.proofs.OfMerges.Orders.{IsKeyOrder, AtMost, at_most_trans}
 use Rattle.ptmerge.proofs.OfMerges.Passing.{not_below, Seen, down_decided, last_has, not_decided, past_none}
-use Rattle.ptmerge.proofs.OfParts.PartsByKey.{by_keys_kept}
+use Rattle.ptmerge.proofs.OfParts.PartsOfKeys.{by_keys_kept}
 use Rattle.ptmerge.proofs.OfMerges.Splitting.{all_keys, down_begins}
 use Rattle.ptmerge.proofs.OfMerges.Pairs.{put_each, put_other, put_same}
 use Rattle.ptlines.proofs.Scanned.{IsLine-append}
@@ -187,7 +187,7 @@ module _ (tool : Tool) (o : IsKeyOrder tool.cmp) (ended : Side → Bool) (ls : S
       let dec = is_decided tool ended ls in
       let first = down_begins tool o dec (down_decided tool o ended ls) p in
       let known : decided_entries tool ended ls ≡ by_keys tool dec p =
-      sym (by_keys_kept dec tool o (λ side. ordered_part tool.cmp (tool.key side) (ls side))) ∙ (λ i. by_keys tool all_keys (λ side. kept side i)) ∙ by_keys_kept dec tool o p in
+      sym (by_keys_kept dec tool o (λ side. ordered_part tool.cmp (tool.key side) (ls side)) all_keys) ∙ (λ i. by_keys tool all_keys (λ side. kept side i)) ∙ by_keys_kept dec tool o p all_keys in
       record { rest = text tool.end first.0; is = ap (text tool.end) (first.1 ∙ ap (λ (l : Lines). l ++ first.0) (sym known)) ∙ text-append tool.end (decided_entries tool ended ls) first.0 }
     where
       kept : (side : Side) → filter (λ line. is_decided tool ended ls (tool.key side line)) (ordered_part tool.cmp (tool.key side) (ls side))

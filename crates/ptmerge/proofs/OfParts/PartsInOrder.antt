@@ -1,42 +1,25 @@
 -- Lists in order: put behind one another, and some of their lines; and texts in parts.
-use Rattle.ptmerge.proofs.Common.{◌≡◌, ℕ, ◌+◌, List, [], ◌∷◌, ◌++◌, Bool, true, false, cond, Option, Some, None, refl, ap, sym, ◌∙◌, subst, filter, is_le, is_lt, Less, Side, First, Second, Lines}
+use Rattle.ptmerge.proofs.Common.{arith, append-nil, ◌≡◌, ℕ, ◌+◌, List, [], ◌∷◌, ◌++◌, Bool, true, false, cond, Option, Some, None, refl, ap, sym, ◌∙◌, subst, filter, Less, Side, First, Second, Lines}
 use Rattle.ptmerge.proofs.Common.{Tool, Fall, by_keys, disorder, disorder_of, fall, keys, merged_entries, ordered, ordered_part, up_to, lines_of, Cmp, Key, text, the_lines_of_parts, text-append}
 use Rattle.ptmerge.proofs.Common.{comm_tool, join_tool, IsOfParts, PartsOfComm, PartsOfJoin}
-use Rattle.ptmerge.specs.Keyed.{Disorder}
-use Rattle.ptmerge.proofs.OfMerges.Bounds.{Bound, FallFrom, Falling, From, Over, Under, after_from, fall_after, fall_at, fall_is, falls, ordered_after, ordered_is}
-use Rattle.ptmerge.proofs.OfMerges.Least.{Each, EachKey, Each-keys, Each-weaker}
+use Rattle.ptmerge.proofs.OfMerges.Bounds.{FallFrom, after_from, fall_after, fall_at, fall_is, falls, ordered_after, ordered_is}
+use Rattle.ptmerge.proofs.OfMerges.Least.{EachKey, EachKey-all, EachKey-weaker, Each-weaker}
 use Rattle.ptmerge.proofs.OfMerges.Orders.{IsKeyOrder, at_most_trans, less_at_most, line_order}
-use Rattle.ptmerge.proofs.OfParts.PartsOfKeys.{EachBelow, IsBelow, by_keys_of_parts, of_keys}
-use Rattle.ptmerge.proofs.OfMerges.Splitting.{all_keys, all_wanted, passed_is_wanted}
+use Rattle.ptmerge.proofs.OfParts.PartsOfKeys.{EachBelow, IsBelow, below_under, by_keys_of_parts, down_under, is_under, none_under, of_keys}
+use Rattle.ptmerge.proofs.OfMerges.Splitting.{all_keys, all_wanted, up_to_from}
 
 -- no fall
 no_fall_first : (cmp : Cmp) (f g : Option Fall) → disorder_of cmp f g ≡ None → (f ≡ None) × (g ≡ None)
-no_fall_first cmp None None e = (refl, refl)
-no_fall_first cmp None (Some d) e = cc
-no_fall_first cmp (Some d) None e = cc
-no_fall_first cmp (Some d) (Some g) e = elim (is_lt (cmp g.last_key d.last_key)) as (λ b.
-    cond {A = Option Disorder} b (Some (record { file = Second; fall = g })) (Some (record { file = First; fall = d })) ≡ None → (Some d ≡ None) × (Some g ≡ None))
-    [ true ↦ λ e. cc | false ↦ λ e. cc ] e
+no_fall_first cmp f g e = grind arith
 
--- behind which key it falls
-abbrev pub behind : Option Fall → Option (List ℕ)
+-- behind which key it falls, wherever that is
+abbrev pub behind : Option Fall → Option Fall
 behind None = None
-behind (Some d) = Some d.last_key
+behind (Some d) = Some (record { last_key = d.last_key; line = 0 })
 
--- a key is at most the lesser of two last keys
-abbrev is_within : Cmp → Option (List ℕ) → Option (List ℕ) → List ℕ → Bool
-is_within cmp None None k = true
-is_within cmp None (Some b) k = is_le (cmp k b)
-is_within cmp (Some a) None k = is_le (cmp k a)
-is_within cmp (Some a) (Some b) k = cond (is_lt (cmp b a)) (is_le (cmp k b)) (is_le (cmp k a))
-
-by_limits : (cmp : Cmp) (f g : Option Fall) (k : List ℕ) → up_to cmp (disorder_of cmp f g) k ≡ is_within cmp (behind f) (behind g) k
-by_limits cmp None None k = refl
-by_limits cmp None (Some g) k = refl
-by_limits cmp (Some f) None k = refl
-by_limits cmp (Some f) (Some g) k = elim (is_lt (cmp g.last_key f.last_key)) as (λ b.
-    up_to cmp (cond {A = Option Disorder} b (Some (record { file = Second; fall = g })) (Some (record { file = First; fall = f }))) k
-    ≡ cond b (is_le (cmp k g.last_key)) (is_le (cmp k f.last_key))) [ true ↦ refl | false ↦ refl ]
+-- which keys are wanted does not depend on the lines
+by_limits : (cmp : Cmp) (f g : Option Fall) (k : List ℕ) → up_to cmp (disorder_of cmp f g) k ≡ up_to cmp (disorder_of cmp (behind f) (behind g)) k
+by_limits cmp f g k = grind arith
 
 -- the first line does not fall, nor do those behind it
 rises : (b : Bool) (d : Fall) (f : Option Fall) → cond b (Some d) f ≡ None → (b ≡ false) × (f ≡ None)
@@ -44,51 +27,31 @@ rises true d f e = cc
 rises false d f e = (refl, e)
 
 module _ (cmp : Cmp) (o : IsKeyOrder cmp) (key : Key) where
-  all_ordered : (last : Option (List ℕ)) (n : ℕ) (xs : Lines) → fall_after cmp key last n xs ≡ None → ordered_after cmp key last xs ≡ xs
-  all_ordered last n [] e = refl
-  all_ordered last n (x ∷ xs) e =
-      let r = rises (falls cmp last (key x)) (fall_at last n) (fall_after cmp key (Some (key x)) (n + 1) xs) e in
-      rw r.0 (ap (λ l. x ∷ l) (all_ordered (Some (key x)) (n + 1) xs r.1))
-
-  -- a list that does not fall is in order as a whole
-  pub ordered_whole : (xs : Lines) → fall cmp key xs ≡ None → ordered_part cmp key xs ≡ xs
-  ordered_whole xs e = ordered_is cmp key xs ∙ all_ordered None 0 xs (sym (fall_is cmp key xs) ∙ e)
-
   -- the last key in order does not depend on how many lines came before
   uncounted : (last : Option (List ℕ)) (n m : ℕ) (ys : Lines) → behind (fall_after cmp key last n ys) ≡ behind (fall_after cmp key last m ys)
   uncounted last n m [] = refl
-  uncounted last n m (y ∷ ys) = elim (falls cmp last (key y)) as (λ b. behind (cond b (Some (fall_at last n)) (fall_after cmp key (Some (key y)) (n + 1) ys))
-      ≡ behind (cond b (Some (fall_at last m)) (fall_after cmp key (Some (key y)) (m + 1) ys))) [ true ↦ refl | false ↦ uncounted (Some (key y)) (n + 1) (m + 1) ys ]
-
-  -- lines behind a key at most theirs
-  goes_on : (last : Option (List ℕ)) (n m : ℕ) (ys : Lines) → EachKey (λ k. falls cmp last k ≡ false) key ys
-      → (ordered_after cmp key last ys ≡ ordered_after cmp key None ys) × (behind (fall_after cmp key last n ys) ≡ behind (fall_after cmp key None m ys))
-  goes_on last n m [] h = (refl, refl)
-  goes_on last n m (y ∷ ys) h = rw h.0 (refl, uncounted (Some (key y)) (n + 1) (m + 1) ys)
+  uncounted last n m (y ∷ ys) = let ih = uncounted (Some (key y)) (n + 1) (m + 1) ys in grind (arith, ih)
 
   appended : (last : Option (List ℕ)) (n : ℕ) (xs ys : Lines) → fall_after cmp key last n xs ≡ None → EachKey (λ k. falls cmp last k ≡ false) key ys
       → EachKey (λ k. EachKey (λ l. cmp k l ≡ Less) key ys) key xs
       → (ordered_after cmp key last (xs ++ ys) ≡ xs ++ ordered_after cmp key None ys) × (behind (fall_after cmp key last n (xs ++ ys)) ≡ behind (fall_after cmp key None 0 ys))
-  appended last n [] ys e h b = goes_on last n 0 ys h
+  appended last n [] [] e h b = (refl, refl)
+  appended last n [] (y ∷ ys) e h b = rw h.0 (refl, uncounted (Some (key y)) (n + 1) 1 ys)
   appended last n (x ∷ xs) ys e h b =
       let r = rises (falls cmp last (key x)) (fall_at last n) (fall_after cmp key (Some (key x)) (n + 1) xs) e in
-      let more = appended (Some (key x)) (n + 1) xs ys r.1 (not_less ys b.0) b.1 in
+      let more = appended (Some (key x)) (n + 1) xs ys r.1 (EachKey-weaker _ _ (less_at_most cmp o (key x)) key ys b.0) b.1 in
       rw r.0 (ap (λ l. x ∷ l) more.0, more.1)
-    where
-      not_less : (ys : Lines) → EachKey (λ l. cmp (key x) l ≡ Less) key ys → EachKey (λ k. falls cmp (Some (key x)) k ≡ false) key ys
-      not_less [] e = tt
-      not_less (y ∷ ys) e = (less_at_most cmp o (key x) (key y) e.0, not_less ys e.1)
 
   -- Behind a list in order whose keys are below its own, a list goes on as it does alone.
   pub together : (xs ys : Lines) → fall cmp key xs ≡ None → EachKey (λ k. EachKey (λ l. cmp k l ≡ Less) key ys) key xs
       → (ordered_part cmp key (xs ++ ys) ≡ xs ++ ordered_part cmp key ys) × (behind (fall cmp key (xs ++ ys)) ≡ behind (fall cmp key ys))
   together xs ys e b =
-      let all = appended None 0 xs ys (sym (fall_is cmp key xs) ∙ e) (free ys) b in
-      (ordered_is cmp key (xs ++ ys) ∙ all.0 ∙ ap (λ l. xs ++ l) (sym (ordered_is cmp key ys)), ap behind (fall_is cmp key (xs ++ ys)) ∙ all.1 ∙ ap behind (sym (fall_is cmp key ys)))
-    where
-      free : (ys : Lines) → EachKey (λ k. falls cmp None k ≡ false) key ys
-      free [] = tt
-      free (y ∷ ys) = (refl, free ys)
+      let all = appended None 0 xs ys (sym (fall_is cmp key xs) ∙ e) (EachKey-all (λ k. falls cmp None k ≡ false) key (λ k. refl) ys) b in
+      rw (fall_is cmp key (xs ++ ys), fall_is cmp key ys, ordered_is cmp key (xs ++ ys), ordered_is cmp key ys) all
+
+  -- a list that does not fall is in order as a whole
+  pub ordered_whole : (xs : Lines) → fall cmp key xs ≡ None → ordered_part cmp key xs ≡ xs
+  ordered_whole xs e = simp append-nil at (together xs [] e (EachKey-all (λ k. Unit {0}) key (λ k. tt) xs)).0
 
   -- what each line has, each line in order has
   pub each_ordered : (P : List ℕ → Type 0) (ys : Lines) → EachKey P key ys → EachKey P key (ordered_part cmp key ys)
@@ -99,32 +62,24 @@ module _ (cmp : Cmp) (o : IsKeyOrder cmp) (key : Key) where
       each_after last (y ∷ ys) e =
           elim (falls cmp last (key y)) as (λ b. EachKey P key (cond b [] (y ∷ ordered_after cmp key (Some (key y)) ys))) [ true ↦ tt | false ↦ (e.0, each_after (Some (key y)) ys e.1) ]
 
-  -- what is known of a list by its first key
-  abbrev pub begins_at : Lines → Bound
-  begins_at [] = Over
-  begins_at (y ∷ ys) = From (key y)
+  -- what a list falls behind is at least what is below its keys
+  pub from_below : (k : List ℕ) (ys : Lines) → EachKey (λ l. cmp k l ≡ Less) key ys → FallFrom cmp k (fall cmp key ys)
+  from_below k [] e = tt
+  from_below k (y ∷ ys) e = rw (fall_is cmp key (y ∷ ys)) (rw e.0 at (after_from cmp o key k 0 (y ∷ ys)).1)
 
-  pub falls_behind : (ys : Lines) → Falling cmp (begins_at ys) (fall cmp key ys)
-  falls_behind [] = refl
-  falls_behind (y ∷ ys) = subst (FallFrom cmp (key y)) (sym (fall_is cmp key (y ∷ ys))) (after_from cmp o key (key y) 1 ys).1
-
-  pub under_first : (k : List ℕ) (ys : Lines) → EachKey (λ l. cmp k l ≡ Less) key ys → Under cmp (begins_at ys) k
-  under_first k [] e = tt
-  under_first k (y ∷ ys) e = less_at_most cmp o k (key y) e.0
+  falls_later : (last : Option (List ℕ)) (x k : List ℕ) → falls cmp last x ≡ false → falls cmp (Some x) k ≡ false → falls cmp last k ≡ false
+  falls_later None x k h g = refl
+  falls_later (Some l) x k h g = at_most_trans cmp o l x k h g
 
   kept_after : (p : List ℕ → Bool) (last from : Option (List ℕ)) (n m : ℕ) (xs : Lines) → ((k : List ℕ) → falls cmp last k ≡ false → falls cmp from k ≡ false) → fall_after cmp key last n xs ≡ None
       → fall_after cmp key from m (filter p xs) ≡ None
   kept_after p last from n m [] up e = refl
   kept_after p last from n m (x ∷ xs) up e =
       let r = rises (falls cmp last (key x)) (fall_at last n) (fall_after cmp key (Some (key x)) (n + 1) xs) e in
-      elim (p x) as (λ b. fall_after cmp key from m (cond b (x ∷ filter p xs) (filter p xs)) ≡ None) [
-        | true ↦ rw (up (key x) r.0) (kept_after p (Some (key x)) (Some (key x)) (n + 1) (m + 1) xs (λ k h. h) r.1)
-        | false ↦ kept_after p (Some (key x)) from (n + 1) m xs (later from (up (key x) r.0)) r.1
-      ]
-    where
-      later : (from : Option (List ℕ)) → falls cmp from (key x) ≡ false → (k : List ℕ) → falls cmp (Some (key x)) k ≡ false → falls cmp from k ≡ false
-      later None h k g = refl
-      later (Some l) h k g = at_most_trans cmp o l (key x) k h g
+      let rise = up (key x) r.0 in
+      let kept = kept_after p (Some (key x)) (Some (key x)) (n + 1) (m + 1) xs (λ k g. g) r.1 in
+      let left_out = kept_after p (Some (key x)) from (n + 1) m xs (λ k g. falls_later from (key x) k rise g) r.1 in
+      grind (arith, rise, kept, left_out)
 
   -- some lines of a list in order are in order
   pub in_order_kept : (p : List ℕ → Bool) (xs : Lines) → fall cmp key xs ≡ None → fall cmp key (filter p xs) ≡ None
@@ -144,11 +99,6 @@ module _ (tool : Tool) (o : IsKeyOrder tool.cmp) where
   pub merged_in_order : (ls : Side → Lines) → disorder tool ls ≡ None → merged_entries tool ls ≡ by_keys tool all_keys ls
   merged_in_order ls e = λ i. by_keys tool (up_to cmp (e i)) (λ side. ordered_whole cmp o (key side) (ls side) (none_falls ls e side) i)
 
-  keys_in_order : (P : List ℕ → Type 0) (ls : Side → Lines) → Each P (keys tool ls) → Each P (keys tool (ordered tool ls))
-  keys_in_order P ls e =
-      let in_order = λ (side : Side). each_ordered cmp o (key side) P (ls side) (of_keys tool side P ls e) in
-      Each-keys P (key First) (key Second) (ordered tool ls First) (ordered tool ls Second) (in_order First) (in_order Second)
-
   module _ (a b : Side → Lines) (in_order : disorder tool a ≡ None) (below : EachBelow cmp (keys tool a) (keys tool b)) where
     side_below : (side : Side) → EachKey (λ k. EachKey (λ l. cmp k l ≡ Less) (key side) (b side)) (key side) (a side)
     side_below side =
@@ -164,7 +114,7 @@ module _ (tool : Tool) (o : IsKeyOrder tool.cmp) where
     same_wanted : (k : List ℕ) → up_to cmp (disorder tool (λ side. a side ++ b side)) k ≡ up_to cmp (disorder tool b) k
     same_wanted k =
         by_limits cmp _ _ k
-        ∙ (λ i. is_within cmp ((both_go_on First).1 i) ((both_go_on Second).1 i) k)
+        ∙ (λ i. up_to cmp (disorder_of cmp ((both_go_on First).1 i) ((both_go_on Second).1 i)) k)
         ∙ sym (by_limits cmp _ _ k)
 
     -- of the first lists all keys are wanted
@@ -175,18 +125,17 @@ module _ (tool : Tool) (o : IsKeyOrder tool.cmp) where
       where
         wanted : (k : List ℕ) → IsBelow cmp (keys tool b) k → up_to cmp (disorder tool b) k ≡ true
         wanted k h =
-            let falls = λ (side : Side). falls_behind cmp o (key side) (b side) in
-            let under = λ (side : Side). under_first cmp o (key side) k (b side) (of_keys tool side (λ l. cmp k l ≡ Less) b h) in
-            passed_is_wanted _ o (begins_at cmp o (key First) (b First)) (begins_at cmp o (key Second) (b Second)) _ _ k
-            (falls First) (falls Second) (under First) (under Second)
+            let from = λ (side : Side). from_below cmp o (key side) k (b side) (of_keys tool side (λ l. cmp k l ≡ Less) b h) in
+            up_to_from cmp o k _ _ (from First) (from Second)
 
     -- The entries of lists that are put together are those of the first ones, and then those of the others.
     pub entries_together : merged_entries tool (λ side. a side ++ b side) ≡ merged_entries tool a ++ merged_entries tool b
     entries_together =
         let w = up_to cmp (disorder tool b) in
-        let low = Each-weaker (IsBelow cmp (keys tool b)) (IsBelow cmp (keys tool (ordered tool b)))
-        (λ k h. keys_in_order (λ l. cmp k l ≡ Less) b h) (keys tool a) below in
-        (λ i. by_keys tool (λ k. same_wanted k i) (λ side. (both_go_on side).0 i)) ∙ by_keys_of_parts tool o a (ordered tool b) low w
+        let p = is_under cmp (keys tool b) in
+        let low = λ (side : Side). of_keys tool side (λ k. p k ≡ true) a (Each-weaker (IsBelow cmp (keys tool b)) (λ k. p k ≡ true) (below_under cmp o (keys tool b)) (keys tool a) below) in
+        let high = λ (side : Side). each_ordered cmp o (key side) (λ k. p k ≡ false) (b side) (of_keys tool side (λ k. p k ≡ false) b (none_under cmp o (keys tool b))) in
+        (λ i. by_keys tool (λ k. same_wanted k i) (λ side. (both_go_on side).0 i)) ∙ by_keys_of_parts tool o p (down_under cmp o (keys tool b)) a (ordered tool b) low high w
         ∙ ap (λ l. l ++ merged_entries tool b) (all_wanted tool w a first_wanted ∙ sym (merged_in_order a in_order))
 
 -- ---- texts in parts

@@ -1,9 +1,75 @@
--- Where keys are below others, the distinct keys of both are those of the ones, and then those of the others.
-use Rattle.ptmerge.proofs.Common.{◌≡◌, ℕ, List, [], ◌∷◌, ◌++◌, Bool, true, false, cond, refl, ap, sym, ◌∙◌, map, append_assoc, append-nil, map-append, flat_map-append, filter-append, tied_itself}
-use Rattle.ptmerge.proofs.Common.{filter, bytes_eq, flat_map, Less, Equal, Greater, match_ordering, bytes_decides, Side, First, Second, Lines, Tool, insert_key, distinct, keys, with_key, entries_of}
-use Rattle.ptmerge.proofs.Common.{by_keys, Cmp, Key}
-use Rattle.ptmerge.proofs.OfMerges.Orders.{IsKeyOrder, Above, above_not_same, less_flips}
-use Rattle.ptmerge.proofs.OfMerges.Least.{Each, EachKey, Each-weaker, Each-distinct, insert_least}
+-- Lines of some keys alone, and lists that are put together where the keys of the ones are below those of the others.
+use Rattle.ptmerge.proofs.Common.{◌≡◌, ℕ, List, [], ◌∷◌, ◌++◌, ◌&&◌, Bool, true, false, cond, not, refl, ap, sym, ◌∙◌, map, arith, filter-append, tied_itself, filter, bytes_eq, flat_map, is_gt, is_lt}
+use Rattle.ptmerge.proofs.Common.{Less, Equal, bytes_decides, Side, First, Second, Lines, Tool, insert_key, distinct, keys, with_key, entries_of, by_keys, Cmp, Key}
+use Rattle.ptmerge.proofs.OfMerges.Orders.{IsKeyOrder, Above, above_trans, greater_flips}
+use Rattle.ptmerge.proofs.OfMerges.Least.{Each, EachKey, Each-weaker, insert_least, keys-Each}
+use Rattle.ptmerge.proofs.OfMerges.Splitting.{Ascends, IsDown, ascends_distinct, down_splits}
+
+-- ---- lines of some keys
+
+module _ (p : List ℕ → Bool) where
+  each_kept : (P : List ℕ → Type 0) (ks : Lines) → Each P ks → Each P (filter p ks)
+  each_kept P [] e = tt
+  each_kept P (k ∷ ks) e = let ih = each_kept P ks e.1 in grind (arith, ih)
+
+  module _ (cmp : Cmp) (o : IsKeyOrder cmp) where
+    insert_kept : (k : List ℕ) (xs : Lines) → Ascends cmp xs → filter p (insert_key cmp k xs) ≡ cond (p k) (insert_key cmp k (filter p xs)) (filter p xs)
+    insert_kept k [] a = refl
+    insert_kept k (x ∷ xs) a =
+        let ih = insert_kept k xs a.1 in
+        let least : cmp k x ≡ Less → insert_key cmp k (filter p xs) ≡ k ∷ filter p xs =
+        λ e. insert_least cmp o k (filter p xs) (each_kept (Above cmp k) xs (Each-weaker (Above cmp x) (Above cmp k) (λ y g. above_trans cmp o k x y (ap is_gt e) g) xs a.0)) in
+        let same : cmp k x ≡ Equal → p k ≡ p x = λ e. ap p (o.exact k x e) in
+        grind (arith, ih, least, same)
+
+    -- the distinct keys of a part are those of the whole that go to it
+    distinct_kept : (ks : Lines) → filter p (distinct cmp ks) ≡ distinct cmp (filter p ks)
+    distinct_kept [] = refl
+    distinct_kept (k ∷ ks) =
+        let ih = distinct_kept ks in
+        let more = insert_kept k (distinct cmp ks) (ascends_distinct cmp o ks) in
+        grind (arith, ih, more)
+
+  -- the lines whose keys go to it
+  abbrev kept : Key → Lines → Lines
+  kept key ls = filter (λ line. p (key line)) ls
+
+  keys_kept : (key : Key) (ls : Lines) → map key (kept key ls) ≡ filter p (map key ls)
+  keys_kept key [] = refl
+  keys_kept key (x ∷ ls) = let ih = keys_kept key ls in grind (arith, ih)
+
+  -- all lines of a key go where the key goes
+  with_key_kept : (key : Key) (k : List ℕ) (ls : Lines) → p k ≡ true → with_key key (kept key ls) k ≡ with_key key ls k
+  with_key_kept key k [] h = refl
+  with_key_kept key k (x ∷ ls) h =
+      let ih = with_key_kept key k ls h in
+      let same : bytes_eq (key x) k ≡ true → p (key x) ≡ true = λ e. ap p ((bytes_decides (key x) k).0 e) ∙ h in
+      grind (arith, ih, same)
+
+  module _ (tool : Tool) (o : IsKeyOrder tool.cmp) (ls : Side → Lines) where
+    open tool use {cmp, entries, key}
+
+    abbrev part : Side → Lines
+    part side = kept (key side) (ls side)
+
+    keys_of_part : keys tool part ≡ filter p (keys tool ls)
+    keys_of_part =
+        (λ i. keys_kept (key First) (ls First) i ++ keys_kept (key Second) (ls Second) i)
+        ∙ sym (filter-append p (map (key First) (ls First)) (map (key Second) (ls Second)))
+
+    -- what is written of a part is what is written of the keys of the whole that go to it
+    pub by_keys_kept : (w : List ℕ → Bool) → by_keys tool w (λ side. filter (λ line. p (key side line)) (ls side)) ≡ by_keys tool (λ k. w k && p k) ls
+    by_keys_kept w = (λ i. flat_map (entries_of tool part) (filter w ((ap (distinct cmp) keys_of_part ∙ sym (distinct_kept cmp o (keys tool ls))) i))) ∙ each_of (distinct cmp (keys tool ls))
+      where
+        each_of : (ds : Lines) → flat_map (entries_of tool part) (filter w (filter p ds)) ≡ flat_map (entries_of tool ls) (filter (λ k. w k && p k) ds)
+        each_of [] = refl
+        each_of (d ∷ ds) =
+            let ih = each_of ds in
+            let same : p d ≡ true → entries_of tool part d ≡ entries_of tool ls d =
+            λ h i. entries d (with_key_kept (key First) d (ls First) h i) (with_key_kept (key Second) d (ls Second) h i) in
+            grind (arith, ih, same)
+
+-- ---- lists that are put together
 
 -- a key is below each of others
 abbrev pub IsBelow : Cmp → Lines → List ℕ → Type 0
@@ -13,143 +79,45 @@ IsBelow cmp ls k = Each (λ l. cmp k l ≡ Less) ls
 abbrev pub EachBelow : Cmp → Lines → Lines → Type 0
 EachBelow cmp ks ls = Each (IsBelow cmp ls) ks
 
-each_left : (P : List ℕ → Type 0) (xs ys : Lines) → Each P (xs ++ ys) → Each P xs
-each_left P [] ys e = tt
-each_left P (x ∷ xs) ys e = (e.0, each_left P xs ys e.1)
-
-each_right : (P : List ℕ → Type 0) (xs ys : Lines) → Each P (xs ++ ys) → Each P ys
-each_right P [] ys e = e
-each_right P (x ∷ xs) ys e = each_right P xs ys e.1
-
--- keys are the keys of lines
-each_key : (P : List ℕ → Type 0) (key : Key) (xs : Lines) → Each P (map key xs) → EachKey P key xs
-each_key P key [] e = tt
-each_key P key (x ∷ xs) e = (e.0, each_key P key xs e.1)
-
 -- what holds of the keys of two lists holds of each list's
 pub of_keys : (tool : Tool) (side : Side) (P : List ℕ → Type 0) (ls : Side → Lines) → Each P (keys tool ls) → EachKey P (tool.key side) (ls side)
-of_keys tool First P ls e = each_key P (tool.key First) (ls First) (each_left P (map (tool.key First) (ls First)) (map (tool.key Second) (ls Second)) e)
-of_keys tool Second P ls e = each_key P (tool.key Second) (ls Second) (each_right P (map (tool.key First) (ls First)) (map (tool.key Second) (ls Second)) e)
+of_keys tool First P ls e = (keys-Each P (tool.key First) (tool.key Second) (ls First) (ls Second) e).0
+of_keys tool Second P ls e = (keys-Each P (tool.key First) (tool.key Second) (ls First) (ls Second) e).1
 
--- keys in the other order
-turned : (P : List ℕ → List ℕ → Type 0) (ks ls : Lines) → Each (λ k. Each (P k) ls) ks → Each (λ l. Each (λ k. P k l) ks) ls
-turned P ks [] e = tt
-turned P ks (l ∷ ls) e = (Each-weaker (λ k. Each (P k) (l ∷ ls)) (λ k. P k l) (λ k h. h.0) ks e, turned P ks ls (Each-weaker (λ k. Each (P k) (l ∷ ls)) (λ k. Each (P k) ls) (λ k h. h.1) ks e))
+-- the keys below all of these
+abbrev pub is_under : Cmp → Lines → List ℕ → Bool
+is_under cmp [] k = true
+is_under cmp (x ∷ ls) k = is_lt (cmp k x) && is_under cmp ls k
 
 module _ (cmp : Cmp) (o : IsKeyOrder cmp) where
-  -- keys with others
-  abbrev onto : Lines → Lines → Lines
-  onto [] ds = ds
-  onto (k ∷ ks) ds = insert_key cmp k (onto ks ds)
+  pub below_under : (ls : Lines) (k : List ℕ) → IsBelow cmp ls k → is_under cmp ls k ≡ true
+  below_under [] k e = refl
+  below_under (x ∷ ls) k e = rw e.0 (below_under ls k e.1)
 
-  distinct_onto : (ks ls : Lines) → distinct cmp (ks ++ ls) ≡ onto ks (distinct cmp ls)
-  distinct_onto [] ls = refl
-  distinct_onto (k ∷ ks) ls = ap (insert_key cmp k) (distinct_onto ks ls)
+  pub down_under : (ls : Lines) → IsDown cmp (is_under cmp ls)
+  down_under [] a b g h = refl
+  down_under (x ∷ ls) a b g h =
+      let ih = down_under ls a b g in
+      let less : cmp b x ≡ Less → cmp a x ≡ Less = λ l. o.total.trans a b x (greater_flips cmp o b a g) l in
+      grind (arith, ih, less)
 
-  insert_low : (k : List ℕ) (xs ys : Lines) → Each (Above cmp k) ys → insert_key cmp k (xs ++ ys) ≡ insert_key cmp k xs ++ ys
-  insert_low k [] ys a = insert_least cmp o k ys a
-  insert_low k (x ∷ xs) ys a = elim (cmp k x) as (λ r. match_ordering r (k ∷ x ∷ (xs ++ ys)) (x ∷ (xs ++ ys)) (x ∷ insert_key cmp k (xs ++ ys))
-      ≡ match_ordering r (k ∷ x ∷ xs) (x ∷ xs) (x ∷ insert_key cmp k xs) ++ ys) [ Less ↦ refl | Equal ↦ refl | Greater ↦ ap (λ l. x ∷ l) (insert_low k xs ys a) ]
+  pub none_under : (ls : Lines) → Each (λ l. is_under cmp ls l ≡ false) ls
+  none_under [] = tt
+  none_under (x ∷ ls) = (rw (tied_itself o.total x) refl, Each-weaker (λ l. is_under cmp ls l ≡ false) (λ l. is_under cmp (x ∷ ls) l ≡ false) (λ l h. grind (arith, h)) ls (none_under ls))
 
-  insert_high : (k : List ℕ) (xs ys : Lines) → Each (λ x. cmp k x ≡ Greater) xs → insert_key cmp k (xs ++ ys) ≡ xs ++ insert_key cmp k ys
-  insert_high k [] ys e = refl
-  insert_high k (x ∷ xs) ys e = rw e.0 (ap (λ l. x ∷ l) (insert_high k xs ys e.1))
-
-  onto_low : (ks xs ys : Lines) → Each (λ k. Each (Above cmp k) ys) ks → onto ks (xs ++ ys) ≡ onto ks xs ++ ys
-  onto_low [] xs ys e = refl
-  onto_low (k ∷ ks) xs ys e = ap (insert_key cmp k) (onto_low ks xs ys e.1) ∙ insert_low k (onto ks xs) ys e.0
-
-  onto_high : (ks xs ys : Lines) → Each (λ k. Each (λ x. cmp k x ≡ Greater) xs) ks → onto ks (xs ++ ys) ≡ xs ++ onto ks ys
-  onto_high [] xs ys e = refl
-  onto_high (k ∷ ks) xs ys e = ap (insert_key cmp k) (onto_high ks xs ys e.1) ∙ insert_high k xs (onto ks ys) e.0
-
-  -- below the distinct ones too
-  below_distinct : (ks ls : Lines) → EachBelow cmp ks ls → Each (λ k. Each (Above cmp k) (distinct cmp ls)) ks
-  below_distinct ks ls e =
-      Each-weaker (IsBelow cmp ls) (λ k. Each (Above cmp k) (distinct cmp ls))
-      (λ k h. Each-distinct cmp (Above cmp k) ls (Each-weaker (λ l. cmp k l ≡ Less) (Above cmp k) (λ l less. less_flips cmp o k l less) ls h)) ks e
-
-  above_distinct : (ks ls : Lines) → EachBelow cmp ks ls → Each (λ l. Each (λ x. cmp l x ≡ Greater) (distinct cmp ks)) ls
-  above_distinct ks ls e =
-      Each-weaker (λ l. Each (λ k. cmp k l ≡ Less) ks) (λ l. Each (λ x. cmp l x ≡ Greater) (distinct cmp ks))
-      (λ l h. Each-distinct cmp (λ x. cmp l x ≡ Greater) ks (Each-weaker (λ k. cmp k l ≡ Less) (λ x. cmp l x ≡ Greater)
-      (λ k less. less_flips cmp o k l less) ks h)) ls (turned (λ k l. cmp k l ≡ Less) ks ls e)
-
-  -- The distinct keys of two lists of keys, each with a part below all of both other parts.
-  distinct_of_parts : (k1 k2 m1 m2 : Lines) → EachBelow cmp (k1 ++ m1) (k2 ++ m2) → distinct cmp ((k1 ++ k2) ++ (m1 ++ m2)) ≡ distinct cmp (k1 ++ m1) ++ distinct cmp (k2 ++ m2)
-  distinct_of_parts k1 k2 m1 m2 e =
-      let of_both = Each-weaker (IsBelow cmp (k2 ++ m2)) (IsBelow cmp m2) (λ k h. each_right (λ l. cmp k l ≡ Less) k2 m2 h) (k1 ++ m1) e in
-      let of_first = Each-weaker (IsBelow cmp (k2 ++ m2)) (IsBelow cmp k2) (λ k h. each_left (λ l. cmp k l ≡ Less) k2 m2 h) (k1 ++ m1) e in
-      let m1_m2 = below_distinct m1 m2 (each_right (IsBelow cmp m2) k1 m1 of_both) in
-      let k2_m1 = above_distinct m1 k2 (each_right (IsBelow cmp k2) k1 m1 of_first) in
-      let k1_both = below_distinct k1 (k2 ++ m2) (each_left (IsBelow cmp (k2 ++ m2)) k1 m1 e) in
-      ap (distinct cmp) (append_assoc k1 k2 (m1 ++ m2)) ∙ distinct_onto k1 (k2 ++ (m1 ++ m2)) ∙ ap (onto k1) (
-      distinct_onto k2 (m1 ++ m2) ∙ ap (onto k2) (distinct_onto m1 m2 ∙ onto_low m1 [] (distinct cmp m2) m1_m2
-      ∙ ap (λ l. l ++ distinct cmp m2) (sym (distinct_onto m1 []) ∙ ap (distinct cmp) (append-nil m1)))
-      ∙ onto_high k2 (distinct cmp m1) (distinct cmp m2) k2_m1 ∙ ap (λ l. distinct cmp m1 ++ l) (sym (distinct_onto k2 m2))
-      ) ∙ onto_low k1 (distinct cmp m1) (distinct cmp (k2 ++ m2)) k1_both ∙ ap (λ l. l ++ distinct cmp (k2 ++ m2)) (sym (distinct_onto k1 m1))
-
-  less_not_same : (k y : List ℕ) → cmp y k ≡ Less → bytes_eq y k ≡ false
-  less_not_same k y l = elim (bytes_eq y k) as (λ b. (b ≡ true → y ≡ k) → b ≡ false) [
-    | true ↦ λ f. (let bad : Less ≡ Equal = sym l ∙ ap (λ z. cmp z k) (f refl) ∙ tied_itself o.total k in cc)
-    | false ↦ λ f. refl
-  ] (bytes_decides y k).0
-
--- no line has the key
-with_no_key : (key : Key) (k : List ℕ) (xs : Lines) → EachKey (λ y. bytes_eq y k ≡ false) key xs → with_key key xs k ≡ []
-with_no_key key k [] e = refl
-with_no_key key k (x ∷ xs) e = rw e.0 (with_no_key key k xs e.1)
-
--- the lines of a key are in the one part or in the other
-with_key_of_first : (key : Key) (k : List ℕ) (xs ys : Lines) → EachKey (λ y. bytes_eq y k ≡ false) key ys → with_key key (xs ++ ys) k ≡ with_key key xs k
-with_key_of_first key k xs ys e = filter-append (λ line. bytes_eq (key line) k) xs ys ∙ ap (λ l. with_key key xs k ++ l) (with_no_key key k ys e) ∙ append-nil (with_key key xs k)
-
-with_key_of_second : (key : Key) (k : List ℕ) (xs ys : Lines) → EachKey (λ y. bytes_eq y k ≡ false) key xs → with_key key (xs ++ ys) k ≡ with_key key ys k
-with_key_of_second key k xs ys e = filter-append (λ line. bytes_eq (key line) k) xs ys ∙ ap (λ l. l ++ with_key key ys k) (with_no_key key k xs e)
-
-same_entries : (f g : List ℕ → Lines) (w : List ℕ → Bool) (ks : Lines) → Each (λ k. f k ≡ g k) ks → flat_map f (filter w ks) ≡ flat_map g (filter w ks)
-same_entries f g w [] e = refl
-same_entries f g w (k ∷ ks) e = elim (w k) as (λ b. flat_map f (cond b (k ∷ filter w ks) (filter w ks)) ≡ flat_map g (cond b (k ∷ filter w ks) (filter w ks)))
-    [ true ↦ λ i. e.0 i ++ same_entries f g w ks e.1 i | false ↦ same_entries f g w ks e.1 ]
-
-module _ (tool : Tool) (o : IsKeyOrder tool.cmp) (a b : Side → Lines) (below : EachBelow tool.cmp (keys tool a) (keys tool b)) where
-  open tool use {cmp, entries, key}
-
-  abbrev both_parts : Side → Lines
-  both_parts side = a side ++ b side
-
-  keys_of_parts : distinct cmp (keys tool both_parts) ≡ distinct cmp (keys tool a) ++ distinct cmp (keys tool b)
-  keys_of_parts =
-      let key1 = key First in
-      let key2 = key Second in
-      (λ i. distinct cmp (map-append key1 (a First) (b First) i ++ map-append key2 (a Second) (b Second) i))
-      ∙ distinct_of_parts cmp o (map key1 (a First)) (map key1 (b First)) (map key2 (a Second)) (map key2 (b Second)) below
-
-  -- the entries of a key are those of the part that has it
-  of_first : (k : List ℕ) → IsBelow cmp (keys tool b) k → entries_of tool both_parts k ≡ entries_of tool a k
-  of_first k e =
-      let none = λ (side : Side). of_keys tool side (λ y. bytes_eq y k ≡ false) b
-      (Each-weaker (λ l. cmp k l ≡ Less) (λ y. bytes_eq y k ≡ false) (λ y less. above_not_same cmp o k y (less_flips cmp o k y less)) (keys tool b) e) in
-      let part = λ (side : Side). with_key_of_first (key side) k (a side) (b side) (none side) in
-      λ i. entries k (part First i) (part Second i)
-
-  of_second : (k : List ℕ) → Each (λ l. cmp l k ≡ Less) (keys tool a) → entries_of tool both_parts k ≡ entries_of tool b k
-  of_second k e =
-      let none = λ (side : Side). of_keys tool side (λ y. bytes_eq y k ≡ false) a
-      (Each-weaker (λ l. cmp l k ≡ Less) (λ y. bytes_eq y k ≡ false) (λ y less. less_not_same cmp o k y less) (keys tool a) e) in
-      let part = λ (side : Side). with_key_of_second (key side) k (a side) (b side) (none side) in
-      λ i. entries k (part First i) (part Second i)
+module _ (tool : Tool) (o : IsKeyOrder tool.cmp) (p : List ℕ → Bool) (down : IsDown tool.cmp p) (a b : Side → Lines)
+    (low : (side : Side) → EachKey (λ k. p k ≡ true) (tool.key side) (a side)) (high : (side : Side) → EachKey (λ k. p k ≡ false) (tool.key side) (b side)) where
+  kept_parts : (key : Key) (xs ys : Lines) → EachKey (λ k. p k ≡ true) key xs → EachKey (λ k. p k ≡ false) key ys
+      → (kept p key (xs ++ ys) ≡ xs) × (kept (λ k. not (p k)) key (xs ++ ys) ≡ ys)
+  kept_parts key [] [] e f = (refl, refl)
+  kept_parts key [] (y ∷ ys) e f = let ih = kept_parts key [] ys tt f.1 in rw f.0 (ih.0, ap (λ l. y ∷ l) ih.1)
+  kept_parts key (x ∷ xs) ys e f = let ih = kept_parts key xs ys e.1 f in rw e.0 (ap (λ l. x ∷ l) ih.0, ih.1)
 
   -- The entries of lists that are put together are those of the lists with the lesser keys, and then those of the
   -- others.
-  pub by_keys_of_parts : (w : List ℕ → Bool) → by_keys tool w both_parts ≡ by_keys tool w a ++ by_keys tool w b
+  pub by_keys_of_parts : (w : List ℕ → Bool) → by_keys tool w (λ side. a side ++ b side) ≡ by_keys tool w a ++ by_keys tool w b
   by_keys_of_parts w =
-      let ks = distinct cmp (keys tool a) in
-      let ls = distinct cmp (keys tool b) in
-      let f : List ℕ → Lines = entries_of tool both_parts in
-      let is_first = Each-weaker (IsBelow cmp (keys tool b)) (λ k. f k ≡ entries_of tool a k) of_first ks
-      (Each-distinct cmp (IsBelow cmp (keys tool b)) (keys tool a) below) in
-      let is_second = Each-weaker (λ l. Each (λ k. cmp k l ≡ Less) (keys tool a)) (λ l. f l ≡ entries_of tool b l) of_second ls
-      (Each-distinct cmp (λ l. Each (λ k. cmp k l ≡ Less) (keys tool a)) (keys tool b) (turned (λ k l. cmp k l ≡ Less) (keys tool a) (keys tool b) below)) in
-      ap (λ l. flat_map f (filter w l)) keys_of_parts ∙ ap (flat_map f) (filter-append w ks ls) ∙ flat_map-append f (filter w ks) (filter w ls)
-      ∙ (λ i. same_entries f (entries_of tool a) w ks is_first i ++ same_entries f (entries_of tool b) w ls is_second i)
+      let all : Side → Lines = λ side. a side ++ b side in
+      let parts = λ (side : Side). kept_parts (tool.key side) (a side) (b side) (low side) (high side) in
+      down_splits tool o w p down all ∙ (λ i. sym (by_keys_kept p tool o all w) i ++ sym (by_keys_kept (λ k. not (p k)) tool o all w) i)
+      ∙ (λ i. by_keys tool w (λ side. (parts side).0 i) ++ by_keys tool w (λ side. (parts side).1 i))

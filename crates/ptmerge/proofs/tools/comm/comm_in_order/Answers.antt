@@ -47,15 +47,13 @@ pub steps-preserved-in-Continue-branch-2 : goal.steps-preserved-in-Continue-bran
 steps-preserved-in-Continue-branch-2 g c =
     let i = c.steps.invariant in
     let p = c.pass.ensures in
-    let turn = alone_on i.turn c.in-First.ensures (cc) refl p.wrote c.in_ok-pass-in-First.ensures.passes in
-    record { turn = rw p.order turn; order = p.order ∙ i.order }
+    record { turn = rw p.order (alone_on i.turn c.in-First.ensures (cc) refl p.wrote c.in_ok-pass-in-First.ensures.passes); order = p.order ∙ i.order }
 
 pub steps-preserved-in-Continue-branch-3 : goal.steps-preserved-in-Continue-branch-3
 steps-preserved-in-Continue-branch-3 g c =
     let i = c.steps.invariant in
     let p = c.pass-in-Second.ensures in
-    let turn = alone_on i.turn c.in-Second.ensures (cc) c.lead-lead2.ensures p.wrote c.in_ok-pass-in-Second.ensures.passes in
-    record { turn = rw p.order turn; order = p.order ∙ i.order }
+    record { turn = rw p.order (alone_on i.turn c.in-Second.ensures (cc) c.lead-lead2.ensures p.wrote c.in_ok-pass-in-Second.ensures.passes); order = p.order ∙ i.order }
 
 pub steps-preserved : goal.steps-preserved
 steps-preserved g c =
@@ -104,9 +102,7 @@ returns-in_err-go_on-in-Both g c =
     (is_told c.from_residual-in_err-go_on-in-Both.ensures.1) c.in_err-go_on-in-Both.ensures.passes)
 
 pub returns-in-End : goal.returns-in-End
-returns-in-End g c =
-    rw c.steps.invariant.order at (ended c.steps.invariant.turn c.clear_four.ensures c.in-End.ensures)
+returns-in-End g c = rw c.steps.invariant.order at (ended c.steps.invariant.turn c.clear_four.ensures c.in-End.ensures)
 
 pub returns-in-Stop : goal.returns-in-Stop
-returns-in-Stop g c =
-    rw c.steps.invariant.order at (fallen c.steps.invariant.turn c.clear_four-in-Stop.ensures c.in-Stop.ensures)
+returns-in-Stop g c = rw c.steps.invariant.order at (fallen c.steps.invariant.turn c.clear_four-in-Stop.ensures c.in-Stop.ensures)
