@@ -1,6 +1,6 @@
 -- A tool over two inputs that stops within a group of lines with one key: the keys below the group's are passed, and a
 -- beginning of the group's entries was pushed.
-use Rattle.ptmerge.proofs.Common.{◌≡◌, ℕ, ◌≤◌, ◌||◌, Bool, true, false, cond, List, [], ◌++◌, Some, None, Err, length, map, max, refl, sym, ◌∙◌, ap, subst, append_assoc, is_some, last_or, is_lt}
+use Rattle.ptmerge.proofs.Common.{arith, ◌≡◌, ℕ, ◌≤◌, ◌||◌, Bool, true, false, cond, List, [], ◌++◌, Some, None, Err, length, map, max, refl, sym, ◌∙◌, ap, subst, append_assoc, is_some, last_or, is_lt}
 use Rattle.ptmerge.proofs.Common.{append-nil, Given, Begins, whole_lines, Before, KeepsUp, Output, Wrote, Reader, Slots, text, lines, IsLine, longest, given_of, came_of, reads_trans, wrote_trans}
 use Rattle.ptmerge.proofs.Common.{keeps_more, text-append, MergeFault, Side, First, Second, Lines, Tool, by_keys, decided, decided_entries, disorder, fall, is_below, is_decided, is_past, lines_of}
 use Rattle.ptmerge.proofs.Common.{merged_entries, ordered, ordered_part, settled, up_to, State, Agree, Ends, IsMerge, IsWhole, Cmp, Key, other, put}
@@ -10,16 +10,13 @@ use Rattle.ptmerge.proofs.OfMerges.Got.{More, got_known, got_lines}
 use Rattle.ptmerge.proofs.OfMerges.Least.{EachKey, EachKey-append, EachKey-weaker, at_most-same}
 use Rattle.ptmerge.proofs.OfMerges.Orders.{IsKeyOrder, AtMost, at_most_trans, self_at_most}
 use Rattle.ptmerge.proofs.OfMerges.Passing.{Merging, down_decided, follows, not_below, not_decided}
-use Rattle.ptmerge.proofs.OfMerges.Splitting.{all_keys, all_wanted, down_begins, none_wanted, passed_is_wanted, under_fall}
+use Rattle.ptmerge.proofs.OfMerges.Splitting.{MayCome, all_keys, all_wanted, down_begins, none_wanted, passed_is_wanted, under_fall}
 use Rattle.ptmerge.proofs.OfMerges.Stopping.{FitsIn, Gone}
 use Rattle.ptmerge.proofs.OfMerges.Working.{unsettled, works_off}
 
 -- what goes before k goes before all that may come, if k does
 pub under_down : {cmp : Cmp} (o : IsKeyOrder cmp) (b : Bound) (x k : List ℕ) → AtMost cmp x k → Under cmp b k → Under cmp b x
-under_down o Free x k h u = u
-under_down o (From l) x k h u = at_most_trans _ o x k l h u
-under_down o (Fallen d) x k h u = at_most_trans _ o x k d.last_key h u
-under_down o Over x k h u = tt
+under_down o b x k h u = grind (arith, at_most_trans)
 
 -- what holds of k holds of the keys of its lines
 pub own_keys : (P : List ℕ → Type 0) (key : Key) (k : List ℕ) (g : Lines) → P k → EachKey (λ x. x ≡ k) key g → EachKey P key g
@@ -40,12 +37,9 @@ pub record Within (tool : Tool) (was mid : Output) (p g : Side → Lines) (d : S
   pub beyond : (side : Side) (r : Lines) → Coming tool.cmp (tool.key side) (d side) r → EachKey (AtMost tool.cmp k) (tool.key side) r
   pub under : (side : Side) → Under tool.cmp (d side) k
 
-abbrev pub EachComes : Tool → (Side → Bound) → (Side → Lines) → Type 0
-EachComes tool d r = (side : Side) → Coming tool.cmp (tool.key side) (d side) (r side)
-
 -- these entries are a beginning of the group's, whatever comes
 pub record StartsWith (tool : Tool) (g : Side → Lines) (d : Side → Bound) (k : List ℕ) (extra : Lines) : Type 0 where
-  pub rest : (w : List ℕ → Bool) (r : Side → Lines) → EachComes tool d r → w k ≡ true → (rest : Lines) × (by_keys tool w (λ side. g side ++ r side) ≡ extra ++ rest)
+  pub rest : (w : List ℕ → Bool) (r : Side → Lines) → MayCome tool d r → w k ≡ true → (rest : Lines) × (by_keys tool w (λ side. g side ++ r side) ≡ extra ++ rest)
 
 -- the store held no more than the measure of any lists that go on with these lines and pieces of lines, and has no more slots
 abbrev pub Fits : Tool → Slots → (Side → Reader) → (Side → Lines) → (Side → List ℕ) → Slots → Type 0
@@ -66,9 +60,6 @@ module _ {tool : Tool} (o : IsKeyOrder tool.cmp) (old new : State) {now : Side �
   abbrev front : Lines
   front = by_keys tool all_keys p
 
-  behind : (r : Side → Lines) → EachComes tool d r → (side : Side) → EachKey (AtMost cmp k) (key side) (g side ++ r side)
-  behind r c side = at_most-same tool o (key side) k (g side) (r side) (m.own side) (m.beyond side (r side) (c side))
-
   under_k : (side : Side) (x : List ℕ) → AtMost cmp x k → Under cmp (d side) x
   under_k side x h = under_down o (d side) x k h (m.under side)
 
@@ -82,7 +73,7 @@ module _ {tool : Tool} (o : IsKeyOrder tool.cmp) (old new : State) {now : Side �
     later side = (future side).0
 
     later_behind : (side : Side) → EachKey (AtMost cmp k) (key side) (g side ++ later side)
-    later_behind = behind later (λ side. (future side).2)
+    later_behind side = at_most-same tool o (key side) k (g side) (later side) (m.own side) (m.beyond side (later side) (future side).2)
 
     parts : (w : List ℕ → Bool) → by_keys tool w (ordered tool all) ≡ by_keys tool w p ++ by_keys tool w (λ side. g side ++ later side)
     parts w = (λ i. by_keys tool w (λ side. ((future side).1 ∙ append_assoc (p side) (g side) (later side)) i)) ∙ m.merging.splits.split w (λ side. g side ++ later side) later_behind
@@ -103,6 +94,7 @@ module _ {tool : Tool} (o : IsKeyOrder tool.cmp) (old new : State) {now : Side �
         → Begins (text end (decided_entries tool ended all)) (text end (front ++ extra))
     sure_is ended of going rises last =
         let dec = is_decided tool ended all in
+        let past : (x : List ℕ) → is_past cmp (key of) (ended of) (all of) x ≡ is_lt (cmp x k) = λ x i. cond (going i || is_some (rises i)) true (is_below cmp x (last i)) in
         let rest = down_begins tool o dec (down_decided tool o ended all) p in
         let none : by_keys tool dec (λ side. g side ++ later side) ≡ [] = none_wanted tool dec (λ side. g side ++ later side) (λ side.
         EachKey-weaker (AtMost cmp k) (λ x. dec x ≡ false) (λ x h. not_decided tool o ended all of x (past x ∙ not_below cmp o x k h))
@@ -113,9 +105,6 @@ module _ {tool : Tool} (o : IsKeyOrder tool.cmp) (old new : State) {now : Side �
           is = ap (text end) (ap (λ l. l ++ extra) rest.1 ∙ append_assoc (by_keys tool dec p) rest.0 extra ∙ ap (λ l. l ++ (rest.0 ++ extra)) (sym known))
               ∙ text-append end (decided_entries tool ended all) (rest.0 ++ extra);
         }
-      where
-        past : (x : List ℕ) → is_past cmp (key of) (ended of) (all of) x ≡ is_lt (cmp x k)
-        past x = λ i. cond (going i || is_some (rises i)) true (is_below cmp x (last i))
 
   known : (side : Side) → More (now side) (ls side) (whole side)
   known side = (got_known _ _ _ _ _ _ (gone side).got (gone side).reads (gone side).line).known
