@@ -1,11 +1,11 @@
 -- A tool over two inputs that stops within a group of lines with one key: the keys below the group's are passed, and a
 -- beginning of the group's entries was pushed.
-use Rattle.ptmerge.proofs.Common.{arith, ◌≡◌, ℕ, ◌≤◌, ◌||◌, Bool, true, false, cond, List, [], ◌++◌, Some, None, Err, length, map, max, refl, sym, ◌∙◌, ap, subst, append_assoc, is_some, last_or, is_lt}
-use Rattle.ptmerge.proofs.Common.{append-nil, Given, Begins, whole_lines, Before, KeepsUp, Output, Wrote, Reader, Slots, text, lines, IsLine, longest, given_of, came_of, reads_trans, wrote_trans}
+use Rattle.ptmerge.proofs.Common.{◌≡◌, ℕ, ◌≤◌, ◌||◌, Bool, true, false, cond, List, [], ◌++◌, Some, None, Err, length, map, max, refl, sym, ◌∙◌, ap, subst, append_assoc, is_some, last_or, is_lt}
+use Rattle.ptmerge.proofs.Common.{arith, append-nil, Given, Begins, whole_lines, Before, KeepsUp, Output, Wrote, Reader, Slots, text, lines, IsLine, longest, given_of, came_of, reads_trans, wrote_trans}
 use Rattle.ptmerge.proofs.Common.{keeps_more, text-append, MergeFault, Side, First, Second, Lines, Tool, by_keys, decided, decided_entries, disorder, fall, is_below, is_decided, is_past, lines_of}
 use Rattle.ptmerge.proofs.Common.{merged_entries, ordered, ordered_part, settled, up_to, State, Agree, Ends, IsMerge, IsWhole, Cmp, Key, other, put}
 use Rattle.ptmerge.proofs.OfMerges.Backing.{Back, back}
-use Rattle.ptmerge.proofs.OfMerges.Bounds.{Bound, Free, From, Fallen, Over, Coming, FallFrom, Falling, Under}
+use Rattle.ptmerge.proofs.OfMerges.Bounds.{Bound, From, Coming, FallFrom, Falling, Under}
 use Rattle.ptmerge.proofs.OfMerges.Got.{More, got_known, got_lines}
 use Rattle.ptmerge.proofs.OfMerges.Least.{EachKey, EachKey-append, EachKey-weaker, at_most-same}
 use Rattle.ptmerge.proofs.OfMerges.Orders.{IsKeyOrder, AtMost, at_most_trans, self_at_most}

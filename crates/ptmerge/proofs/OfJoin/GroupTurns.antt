@@ -7,7 +7,7 @@ use Rattle.ptmerge.proofs.OfComm.CommTurns.{slots_on}
 use Rattle.ptmerge.proofs.OfMerges.Bounds.{Bound, From, Coming, Under}
 use Rattle.ptmerge.proofs.OfJoin.GroupStops.{FailsIn, Fits, StartsWith, Within, halts, own_keys, under_down}
 use Rattle.ptmerge.proofs.OfJoin.GroupSlots.{AllSlots, Keeping, keeping_line, keeping_next, low_slot, put_more}
-use Rattle.ptmerge.proofs.OfMerges.Least.{EachKey, EachKey-append, EachKey-weaker, at_most-same, front_first, least_first, others_of, with_key-above, with_key-front}
+use Rattle.ptmerge.proofs.OfMerges.Least.{EachKey, EachKey-append, EachKey-weaker, at_most-same, front_first, front_is, others_of, with_key-above}
 use Rattle.ptmerge.proofs.OfMerges.Orders.{IsKeyOrder, AtMost, least_or_above, self_at_most}
 use Rattle.ptmerge.proofs.OfMerges.Pairs.{put_both, put_each, put_other, put_same}
 use Rattle.ptmerge.proofs.OfMerges.Passing.{Merging}
@@ -98,15 +98,6 @@ stand_still tool {old} {now} {place} {before} {after} {ls} {p} {b} sides slots s
 module _ (call : Call) {was mid : Output} {p g : Side → Lines} {d : Side → Bound} {k : List ℕ} (m : Within call.tool was mid p g d k) where
   open call use {cmp, entries, key, laws, o, pairs, tool}
 
-  -- a group in front of lines of no lesser keys
-  front : (w : List ℕ → Bool) (r : Side → Lines) → ((side : Side) → EachKey (AtMost cmp k) (key side) (r side))
-      → by_keys tool w (λ side. g side ++ r side) ≡ cond (w k) (entries k (g First ++ with_key (key First) (r First) k)
-      (g Second ++ with_key (key Second) (r Second) k)) [] ++ by_keys tool w (others_of tool o k r)
-  front w r beyond =
-      let in_front = λ (side : Side). with_key-front tool o (key side) k (g side) (r side) (m.own side) in
-      least_first tool o w k (λ side. g side ++ r side) (λ side. at_most-same tool o (key side) k (g side) (r side) (m.own side) (beyond side)) (laws.alone.none k)
-      ∙ (λ i. cond (w k) (entries k ((in_front First).0 i) ((in_front Second).0 i)) [] ++ by_keys tool w (λ side. (in_front side).1 i))
-
   -- the pairs of a group come first, whichever lines of its key the first input still has
   starts_pairs : (f c s : Lines) → 0 < length s → (rest : Lines) × (entries k (f ++ c) s ≡ pairs k f s ++ rest)
   starts_pairs [] c s some = (entries k c s, rw (laws.none k s) refl)
@@ -122,7 +113,7 @@ module _ (call : Call) {was mid : Output} {p g : Side → Lines} {d : Side → B
         let none : with_key (key Second) (r Second) k ≡ [] = with_key-above tool o (key Second) k (r Second) (above (r Second) (c Second)) in
         let s = starts_pairs (g First) (with_key (key First) (r First) k) (g Second) some in (
           s.0 ++ by_keys tool w (others_of tool o k r),
-          front w r (λ side. m.beyond side (r side) (c side))
+          front_is tool o w k g r m.own (λ side. m.beyond side (r side) (c side)) (laws.alone.none k)
               ∙ (rw (wanted, none, append-nil (g Second), s.1) (append_assoc (pairs k (g First) (g Second)) s.0 (by_keys tool w (others_of tool o k r)))),
         );
   }
@@ -149,7 +140,7 @@ module _ (call : Call) {was mid : Output} {p g : Side → Lines} {d : Side → B
 
       -- what is written of the group alone
       alone_is : by_keys tool all_keys g ≡ entries k (g First) (g Second)
-      alone_is = (λ i. by_keys tool all_keys (λ side. sym (append-nil (g side)) i)) ∙ front all_keys (λ side. []) (λ side. tt) ∙ (rw (append-nil (g First), append-nil (g Second), append-nil) refl)
+      alone_is = (λ i. by_keys tool all_keys (λ side. sym (append-nil (g side)) i)) ∙ front_is tool o all_keys k g (λ side. []) m.own (λ side. tt) (laws.alone.none k) ∙ (rw (append-nil (g First), append-nil (g Second), append-nil) refl)
 
       splits_off : (w : List ℕ → Bool) (r : Side → Lines) → MayCome tool d r → by_keys tool w (λ side. g side ++ r side) ≡ by_keys tool w g ++ by_keys tool w r
       splits_off w r c =
@@ -165,9 +156,7 @@ module _ (call : Call) {was mid : Output} {p g : Side → Lines} {d : Side → B
 -- ---- where a group stands
 
 pub has_key : (s : Stand) (a b : List ℕ) → (is_head s && bytes_eq a b) ≡ true → (s ≡ Head) × (b ≡ a)
-has_key Head a b h = (refl, sym ((bytes_decides a b).0 h))
-has_key Ended a b h = cc
-has_key (Disorder n) a b h = cc
+has_key s a b h = grind (arith, bytes_decides a b)
 
 pub lacks_key : (s : Stand) (a b : List ℕ) → (is_head s && bytes_eq a b) ≡ false → s ≡ Head → ¬ (b ≡ a)
 lacks_key s a b h e same = false≢true (sym h ∙ (rw (e, same, (bytes_decides a a).1 refl) refl))
