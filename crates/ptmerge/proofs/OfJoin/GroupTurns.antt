@@ -1,11 +1,11 @@
 -- A group of lines of one key: its lines are gathered, paired and closed.
-use Rattle.ptmerge.proofs.Common.{◌≡◌, ◌⊎◌, ⊎_elim, inl, inr, ℕ, ◌+◌, ◌*◌, ◌≤◌, ◌<◌, ◌&&◌, Bool, true, false, cond, List, [], ◌∷◌, ◌++◌, Option, Some, None, Err, length, map, max, refl, sym, ◌∙◌, ap}
+use Rattle.ptmerge.proofs.Common.{◌≡◌, ◌⊎◌, ⊎_elim, inl, inr, ℕ, ◌+◌, ◌*◌, ◌≤◌, ◌<◌, ◌&&◌, Bool, true, false, List, [], ◌∷◌, ◌++◌, Option, Some, None, Err, length, map, max, refl, sym, ◌∙◌, ap}
 use Rattle.ptmerge.proofs.Common.{subst, arith, append_assoc, last_or, bytes_eq, bytes_decides, is_gt, false≢true, append-nil, Output, Wrote, Reader, Reads, IsSound, Slots, line, total, with_line}
 use Rattle.ptmerge.proofs.Common.{text, IsLine, longest, wrote_trans, text-append, MergeFault, Read, Write, Memory, Side, First, Second, Sorted, Stand, Head, Ended, Disorder, is_head, largest_group}
-use Rattle.ptmerge.proofs.Common.{most_lines, Lines, Tool, by_keys, entries_of, fall, with_key, IsUnwritten, State, IsMerge, Cmp, Key, CannotRead, Comes, HasSlots, put, other, GoesBefore}
+use Rattle.ptmerge.proofs.Common.{most_lines, Lines, Tool, by_keys, entries_of, fall, with_key, IsUnwritten, State, IsMerge, Key, CannotRead, Comes, HasSlots, put, other, GoesBefore}
 use Rattle.ptmerge.proofs.OfComm.CommTurns.{slots_on}
 use Rattle.ptmerge.proofs.OfMerges.Bounds.{Bound, From, Coming, Under}
-use Rattle.ptmerge.proofs.OfJoin.GroupStops.{FailsIn, Fits, StartsWith, Within, halts, own_keys, under_down}
+use Rattle.ptmerge.proofs.OfJoin.GroupStops.{FailsIn, StartsWith, Within, halts, own_keys, under_down}
 use Rattle.ptmerge.proofs.OfJoin.GroupSlots.{AllSlots, Keeping, keeping_line, keeping_next, low_slot, put_more}
 use Rattle.ptmerge.proofs.OfMerges.Least.{EachKey, EachKey-append, EachKey-weaker, at_most-same, front_first, front_is, others_of, with_key-above}
 use Rattle.ptmerge.proofs.OfMerges.Orders.{IsKeyOrder, AtMost, least_or_above, self_at_most}
@@ -14,7 +14,7 @@ use Rattle.ptmerge.proofs.OfMerges.Passing.{Merging}
 use Rattle.ptmerge.proofs.OfMerges.Slotted.{has_lines_total, line_other}
 use Rattle.ptmerge.proofs.OfMerges.Splitting.{MayCome, all_keys, splits_step}
 use Rattle.ptmerge.proofs.OfMerges.Standing.{Next, Passed, Stands, comes_repeats, sided_keeps}
-use Rattle.ptmerge.proofs.OfMerges.Stopping.{Gone, gone_passed, gone_standing}
+use Rattle.ptmerge.proofs.OfMerges.Stopping.{Fits, Gone, gone_passed, gone_standing}
 use Rattle.ptmerge.proofs.OfMerges.Turning.{BothStand, IsAbove, IsLineByLine, ahead, next_at, own_slots, passed_at, sides_on, slots_apart}
 use Rattle.ptmerge.specs.declared.faults.MergeFault.TheVariants as faults
 
