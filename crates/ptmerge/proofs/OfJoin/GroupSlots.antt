@@ -1,9 +1,9 @@
 -- What the store of `join` holds: two lines of each input, and behind them the slots of the group.
 use Rattle.ptmerge.proofs.Common.{◌≡◌, ◌⊎◌, ⊎_elim, inl, inr, ℕ, ◌+◌, ◌-◌, ◌≤◌, ◌<◌, true, false, length-drop, List, [], ◌∷◌, ◌++◌, length, map, take, drop, get_or, set, max, refl, sym, ap, ◌∙◌}
 use Rattle.ptmerge.proofs.Common.{subst, arith, ◌*◌, cond, Option, append_assoc, length-append, append-nil, length-set, length-take-le, drop_more, get_or-take, get_or-drop, drop-set-add, take_more}
-use Rattle.ptmerge.proofs.Common.{length_push, drop_all, drop-append-le, drop-set-lt, set_at, take_at, bytes_eq, sum_by_push, sum_by-append, sum_by-cons, Slots, line, total, with_line}
-use Rattle.ptmerge.proofs.Common.{with_denied, text, longest, total_set, Join, IsGroupCleared, IsGrown, IsRefused, group, IsKept, entry, fields, pairs_of, greatest_of, largest_group, most_lines}
-use Rattle.ptmerge.proofs.Common.{Lines, with_key, bytes_decides, Reader, Side, First, Second, Sorted, Cmp, Key, HasSlots, put}
+use Rattle.ptmerge.proofs.Common.{length_push, drop_all, drop-append-le, drop-set-lt, set_at, take_at, bytes_eq, sum_by_push, sum_by-append, sum_by-cons, Slots, line, total, with_line, with_denied}
+use Rattle.ptmerge.proofs.Common.{text, longest, total_set, Join, IsGroupCleared, IsGrown, IsRefused, group, IsKept, entry, fields, pairs_of, greatest_of, largest_group, most_lines, Lines, with_key}
+use Rattle.ptmerge.proofs.Common.{bytes_decides, Reader, Side, First, Second, Sorted, Cmp, Key, HasSlots, put}
 use Rattle.ptmerge.proofs.OfMerges.Slotted.{line_other, HasLines, Keeps, has_lines_total, set_line}
 use Rattle.std.proofs.Math.ListN.{get_or-append}
 use Rattle.ptmerge.proofs.OfMerges.Least.{EachKey}

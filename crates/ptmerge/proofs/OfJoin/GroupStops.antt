@@ -1,16 +1,14 @@
 -- A tool over two inputs that stops within a group of lines with one key: the keys below the group's are passed, and a
 -- beginning of the group's entries was pushed.
-use Rattle.ptmerge.proofs.Common.{◌≡◌, ℕ, ◌||◌, Bool, true, false, cond, List, [], ◌++◌, Some, None, Err, map, refl, sym, ◌∙◌, ap, subst, append_assoc, is_some, last_or, is_lt}
-use Rattle.ptmerge.proofs.Common.{arith, append-nil, Begins, Output, Wrote, Reader, text}
-use Rattle.ptmerge.proofs.Common.{text-append, MergeFault, Side, First, Second, Lines, Tool, by_keys, decided_entries, disorder, fall, is_below, is_decided, is_past}
-use Rattle.ptmerge.proofs.Common.{merged_entries, ordered, up_to, State, Ends, IsMerge, IsWhole, Cmp, Key}
+use Rattle.ptmerge.proofs.Common.{◌≡◌, ℕ, Bool, true, false, List, ◌++◌, Err, refl, sym, ◌∙◌, subst, append_assoc, arith, Output, Wrote, Reader, text, text-append, MergeFault, Side, First, Second}
+use Rattle.ptmerge.proofs.Common.{Lines, Tool, by_keys, disorder, merged_entries, ordered, up_to, State, Ends, IsMerge, IsWhole, Cmp, Key}
 use Rattle.ptmerge.proofs.OfMerges.Bounds.{Bound, From, Coming, Under}
 use Rattle.ptmerge.proofs.OfMerges.Got.{More}
 use Rattle.ptmerge.proofs.OfMerges.Least.{EachKey, EachKey-append, EachKey-weaker, at_most-same}
 use Rattle.ptmerge.proofs.OfMerges.Orders.{IsKeyOrder, AtMost, at_most_trans, self_at_most}
-use Rattle.ptmerge.proofs.OfMerges.Passing.{Merging, Seen, down_decided, not_below, not_decided}
-use Rattle.ptmerge.proofs.OfMerges.Splitting.{MayCome, all_keys, all_wanted, down_begins, none_wanted, passed_is_wanted}
-use Rattle.ptmerge.proofs.OfMerges.Stopping.{Fits, Gone, halted, known, seen_of}
+use Rattle.ptmerge.proofs.OfMerges.Passing.{Merging, Seen}
+use Rattle.ptmerge.proofs.OfMerges.Splitting.{MayCome, all_keys, all_wanted, passed_is_wanted}
+use Rattle.ptmerge.proofs.OfMerges.Stopping.{Fails, Fits, Gone, halted, seen_of}
 
 -- what goes before k goes before all that may come, if k does
 pub under_down : {cmp : Cmp} (o : IsKeyOrder cmp) (b : Bound) (x k : List ℕ) → AtMost cmp x k → Under cmp b k → Under cmp b x
@@ -19,13 +17,6 @@ under_down o b x k h u = grind (arith, at_most_trans)
 -- what holds of k holds of the keys of its lines
 pub own_keys : (P : List ℕ → Type 0) (key : Key) (k : List ℕ) (g : Lines) → P k → EachKey (λ x. x ≡ k) key g → EachKey P key g
 own_keys P key k g h = EachKey-weaker (λ x. x ≡ k) P (λ x same. subst P (sym same) h) key g
-
--- a read of an input failed whose last line is of the group
-pub record FailsIn (cmp : Cmp) (key : Key) (k : List ℕ) (new : Reader) (ls : Lines) : Type 0 where
-  pub held : new.held ≡ []
-  pub ended : new.ended ≡ false
-  pub rises : fall cmp key ls ≡ None
-  pub last : last_or None (map key ls) ≡ Some k
 
 -- p are passed, g are of the group of the key k, and of d is what may come
 pub record Within (tool : Tool) (was mid : Output) (p g : Side → Lines) (d : Side → Bound) (k : List ℕ) : Type 0 where
@@ -50,16 +41,16 @@ module _ {tool : Tool} (o : IsKeyOrder tool.cmp) (old new : State) {now : Side �
   under_k : (side : Side) (x : List ℕ) → AtMost cmp x k → Under cmp (d side) x
   under_k side x h = under_down o (d side) x k h (m.under side)
 
+  behind : (side : Side) (r : Lines) → Coming cmp (key side) (d side) r → EachKey (AtMost cmp k) (key side) (g side ++ r)
+  behind side r c = at_most-same tool o (key side) k (g side) r (m.own side) (m.beyond side r c)
+
   -- of two lists that go on so: what is in order, and what falls
   module _ (all : Side → Lines) (more : (side : Side) → More (now side) (ls side) (all side)) where
     seen : Seen tool d (λ side. p side ++ g side) all
     seen = seen_of tool o old new now piece ls (λ side. p side ++ g side) d gone all more
 
-    later_behind : (side : Side) → EachKey (AtMost cmp k) (key side) (g side ++ seen.r side)
-    later_behind side = at_most-same tool o (key side) k (g side) (seen.r side) (m.own side) (m.beyond side (seen.r side) (seen.coming side))
-
     parts : (w : List ℕ → Bool) → by_keys tool w (ordered tool all) ≡ by_keys tool w p ++ by_keys tool w (λ side. g side ++ seen.r side)
-    parts w = (λ i. by_keys tool w (λ side. (seen.parts side ∙ append_assoc (p side) (g side) (seen.r side)) i)) ∙ m.merging.splits.split w (λ side. g side ++ seen.r side) later_behind
+    parts w = (λ i. by_keys tool w (λ side. (seen.parts side ∙ append_assoc (p side) (g side) (seen.r side)) i)) ∙ m.merging.splits.split w (λ side. g side ++ seen.r side) (λ side. behind side (seen.r side) (seen.coming side))
 
     wanted : (x : List ℕ) → AtMost cmp x k → up_to cmp (disorder tool all) x ≡ true
     wanted x h = passed_is_wanted _ o (d First) (d Second) _ _ x
@@ -72,37 +63,13 @@ module _ {tool : Tool} (o : IsKeyOrder tool.cmp) (old new : State) {now : Side �
         let passed = all_wanted tool w p (λ side. EachKey-weaker (λ x. AtMost cmp x k) (λ x. w x ≡ true) wanted (key side) (p side) (m.merging.under First side)) in
         (s.0, parts w ∙ (λ i. passed i ++ s.1 i) ∙ sym (append_assoc front extra s.0))
 
-    -- nothing of the group or behind it is decided where a line of the group came last and more may come
-    sure_is : (ended : Side → Bool) (of : Side) → ended of ≡ false → fall cmp (key of) (all of) ≡ None → last_or None (map (key of) (all of)) ≡ Some k
-        → Begins (text end (decided_entries tool ended all)) (text end (front ++ extra))
-    sure_is ended of going rises last =
-        let dec = is_decided tool ended all in
-        let past : (x : List ℕ) → is_past cmp (key of) (ended of) (all of) x ≡ is_lt (cmp x k) = λ x i. cond (going i || is_some (rises i)) true (is_below cmp x (last i)) in
-        let rest = down_begins tool o dec (down_decided tool o ended all) p in
-        let none : by_keys tool dec (λ side. g side ++ seen.r side) ≡ [] = none_wanted tool dec (λ side. g side ++ seen.r side) (λ side.
-        EachKey-weaker (AtMost cmp k) (λ x. dec x ≡ false) (λ x h. not_decided tool o ended all of x (past x ∙ not_below cmp o x k h))
-        (key side) (g side ++ seen.r side) (later_behind side)) in
-        let known : decided_entries tool ended all ≡ by_keys tool dec p = parts dec ∙ ap (λ l. by_keys tool dec p ++ l) none ∙ append-nil (by_keys tool dec p) in
-        record {
-          rest = text end (rest.0 ++ extra);
-          is = ap (text end) (ap (λ l. l ++ extra) rest.1 ∙ append_assoc (by_keys tool dec p) rest.0 extra ∙ ap (λ l. l ++ (rest.0 ++ extra)) (sym known))
-              ∙ text-append end (decided_entries tool ended all) (rest.0 ++ extra);
-        }
-
   -- the keys of what is passed, and of the group
   passed_keys : (of side : Side) → EachKey (λ x. AtMost cmp x k) (key side) (p side ++ g side)
   passed_keys of side = EachKey-append (λ x. AtMost cmp x k) (key side) (p side) (g side) (m.merging.under of side)
       (own_keys (λ x. AtMost cmp x k) (key side) k (g side) (self_at_most cmp o k) (m.own side))
 
-  pub halts : {fault : MergeFault} → Ends old new (Err fault) → ((side : Side) → (new.reader side).failed ≡ true → FailsIn cmp (key side) k (new.reader side) (ls side))
+  pub halts : {fault : MergeFault} → Ends old new (Err fault) → ((side : Side) → (new.reader side).failed ≡ true → Fails cmp (key side) (new.reader side) (ls side) (p side ++ g side))
       → ((input : Side → List ℕ) (pushed : List ℕ) → IsWhole tool input pushed (Err fault)) → Fits tool old.store now ls piece new.store → IsMerge tool old new (Err fault)
   halts ends failed is_whole fits = halted tool o old new now piece ls (λ side. p side ++ g side) d gone p g (λ side. From k) (λ side. refl) passed_keys
       (λ of side. EachKey-weaker (λ x. AtMost cmp x k) (Under cmp (d of)) (under_k of) (key side) (p side ++ g side) (passed_keys of side))
-      (λ side r c. at_most-same tool o (key side) k (g side) r (m.own side) (m.beyond side r c)) m.clean m.merging.wrote wrote _ (sym (text-append end front extra)) ends all_is
-      (λ side fail.
-      let f = failed side fail in
-      let whole = λ (s : Side). known tool o old new now piece ls (λ side. p side ++ g side) d gone s in
-      let exact = (whole side).exact f.held f.ended in
-      sure_is _ (λ s. (whole s).known) (λ s. (new.reader s).ended) side f.ended
-      (ap (fall cmp (key side)) exact ∙ f.rises) (ap (λ (l : Lines). last_or None (map (key side) l)) exact ∙ f.last))
-      (λ input a. is_whole input (text end (front ++ extra))) fits
+      behind m.clean m.merging.wrote wrote _ (sym (text-append end front extra)) ends all_is failed (λ input a. is_whole input (text end (front ++ extra))) fits

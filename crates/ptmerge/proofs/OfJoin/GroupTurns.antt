@@ -1,11 +1,11 @@
 -- A group of lines of one key: its lines are gathered, paired and closed.
-use Rattle.ptmerge.proofs.Common.{◌≡◌, ◌⊎◌, ⊎_elim, inl, inr, ℕ, ◌+◌, ◌*◌, ◌≤◌, ◌<◌, ◌&&◌, Bool, true, false, List, [], ◌∷◌, ◌++◌, Option, Some, None, Err, length, map, max, refl, sym, ◌∙◌, ap}
-use Rattle.ptmerge.proofs.Common.{subst, arith, append_assoc, last_or, bytes_eq, bytes_decides, is_gt, false≢true, append-nil, Output, Wrote, Reader, Reads, IsSound, Slots, line, total, with_line}
-use Rattle.ptmerge.proofs.Common.{text, IsLine, longest, wrote_trans, text-append, MergeFault, Read, Write, Memory, Side, First, Second, Sorted, Stand, Head, Ended, Disorder, is_head, largest_group}
-use Rattle.ptmerge.proofs.Common.{most_lines, Lines, Tool, by_keys, entries_of, fall, with_key, IsUnwritten, State, IsMerge, Key, CannotRead, Comes, HasSlots, put, other, GoesBefore}
+use Rattle.ptmerge.proofs.Common.{◌≡◌, ◌⊎◌, ⊎_elim, inl, inr, ℕ, ◌+◌, ◌*◌, ◌≤◌, ◌<◌, ◌&&◌, Bool, true, false, List, [], ◌∷◌, ◌++◌, Some, Err, length, max, refl, sym, ◌∙◌, ap, subst, arith}
+use Rattle.ptmerge.proofs.Common.{append_assoc, bytes_eq, bytes_decides, is_gt, false≢true, append-nil, Output, Wrote, Reader, Reads, IsSound, Slots, line, total, with_line, text, IsLine, longest}
+use Rattle.ptmerge.proofs.Common.{wrote_trans, text-append, MergeFault, Read, Write, Memory, Side, First, Second, Sorted, Stand, Head, Ended, Disorder, is_head, largest_group, most_lines, Lines, Tool}
+use Rattle.ptmerge.proofs.Common.{by_keys, entries_of, with_key, IsUnwritten, State, IsMerge, CannotRead, Comes, HasSlots, put, other, GoesBefore}
 use Rattle.ptmerge.proofs.OfComm.CommTurns.{slots_on}
 use Rattle.ptmerge.proofs.OfMerges.Bounds.{Bound, From, Coming, Under}
-use Rattle.ptmerge.proofs.OfJoin.GroupStops.{FailsIn, StartsWith, Within, halts, own_keys, under_down}
+use Rattle.ptmerge.proofs.OfJoin.GroupStops.{StartsWith, Within, halts, own_keys, under_down}
 use Rattle.ptmerge.proofs.OfJoin.GroupSlots.{AllSlots, Keeping, keeping_line, keeping_next, low_slot, put_more}
 use Rattle.ptmerge.proofs.OfMerges.Least.{EachKey, EachKey-append, EachKey-weaker, at_most-same, front_first, front_is, others_of, with_key-above}
 use Rattle.ptmerge.proofs.OfMerges.Orders.{IsKeyOrder, AtMost, least_or_above, self_at_most}
@@ -14,7 +14,7 @@ use Rattle.ptmerge.proofs.OfMerges.Passing.{Merging}
 use Rattle.ptmerge.proofs.OfMerges.Slotted.{has_lines_total, line_other}
 use Rattle.ptmerge.proofs.OfMerges.Splitting.{MayCome, all_keys, splits_step}
 use Rattle.ptmerge.proofs.OfMerges.Standing.{Next, Passed, Stands, comes_repeats, sided_keeps}
-use Rattle.ptmerge.proofs.OfMerges.Stopping.{Fits, Gone, gone_passed, gone_standing}
+use Rattle.ptmerge.proofs.OfMerges.Stopping.{Fails, Fits, Gone, gone_passed, gone_standing}
 use Rattle.ptmerge.proofs.OfMerges.Turning.{BothStand, IsAbove, IsLineByLine, ahead, next_at, own_slots, passed_at, sides_on, slots_apart}
 use Rattle.ptmerge.specs.declared.faults.MergeFault.TheVariants as faults
 
@@ -57,10 +57,6 @@ NotPassed now s place reader after new fault =
 -- no read has failed, so nothing needs to be shown for one that has
 pub not_failed : (call : Call) (side : Side) {b : Bool} {X : Type 0} → b ≡ (call.old.reader side).failed → b ≡ true → X
 not_failed call side same fail = absurd (false≢true (sym (same ∙ call.unfailed side) ∙ fail))
-
-last_push : (key : Key) (q : Lines) (x : List ℕ) (d : Option (List ℕ)) → last_or d (map key (q ++ x ∷ [])) ≡ Some (key x)
-last_push key [] x d = refl
-last_push key (y ∷ q) x d = last_push key q x (Some (key y))
 
 -- ---- what the store holds
 
@@ -140,7 +136,8 @@ module _ (call : Call) {was mid : Output} {p g : Side → Lines} {d : Side → B
 
       -- what is written of the group alone
       alone_is : by_keys tool all_keys g ≡ entries k (g First) (g Second)
-      alone_is = (λ i. by_keys tool all_keys (λ side. sym (append-nil (g side)) i)) ∙ front_is tool o all_keys k g (λ side. []) m.own (λ side. tt) (laws.alone.none k) ∙ (rw (append-nil (g First), append-nil (g Second), append-nil) refl)
+      alone_is = (λ i. by_keys tool all_keys (λ side. sym (append-nil (g side)) i))
+          ∙ front_is tool o all_keys k g (λ side. []) m.own (λ side. tt) (laws.alone.none k) ∙ (rw (append-nil (g First), append-nil (g Second), append-nil) refl)
 
       splits_off : (w : List ℕ → Bool) (r : Side → Lines) → MayCome tool d r → by_keys tool w (λ side. g side ++ r side) ≡ by_keys tool w g ++ by_keys tool w r
       splits_off w r c =
@@ -239,13 +236,8 @@ module _ {call : Call} {now : State} {place : Side → Sorted} {end : ℕ} {k : 
   pub within_more : Within tool old.out q.mid q.p (grown now place s g) q.d k
   within_more = record { merging = q.within.merging; clean = q.within.clean; own = own_more; beyond = q.within.beyond; under = q.within.under }
 
-  fails_in : (new : Reader) → new.held ≡ [] → new.ended ≡ false → FailsIn cmp (key s) k new (q.ls s)
-  fails_in new held ended = record {
-    held = held;
-    ended = ended;
-    rises = ap (fall cmp (key s)) (sym (append-nil (q.ls s))) ∙ at_head.begun.falling [];
-    last = ap (λ (l : Lines). last_or None (map (key s) l)) at_head.all ∙ last_push (key s) (q.p s ++ g s) x None ∙ ap (λ (l : List ℕ). Some l) l.is;
-  }
+  fails_in : (new : Reader) → new.held ≡ [] → new.ended ≡ false → Fails cmp (key s) new (q.ls s) (q.p s ++ grown now place s g s)
+  fails_in new held ended = record { held = held; ended = ended; all = with_head ∙ sym (ap (λ (l : Lines). q.p s ++ l) (put_same s (g s ++ x ∷ []) g)); last = Some (key s x); begun = rw put_same (rw with_head at at_head.begun) }
 
   pub passing : (new : Reader) (piece : List ℕ) → Reads (now.reader s) new piece → IsLine (now.reader s).ending piece → IsSound new
       → (side : Side) → GoneOf call now side (put s new now.reader side) (put s piece (λ t. []) side) (q.ls side) (q.p side ++ grown now place s g side) (q.d side)
@@ -264,7 +256,7 @@ module _ {call : Call} {now : State} {place : Side → Sorted} {end : ℕ} {k : 
           others = rw (put_other s new now.reader) (went q (other s));
           clean = clean;
           denied = rw e.stored q.keeps.denied;
-        }) (put_each (λ side (r : Reader). r.failed ≡ true → FailsIn cmp (key side) k r (q.ls side)) s new now.reader
+        }) (put_each (λ side (r : Reader). r.failed ≡ true → Fails cmp (key side) r (q.ls side) (q.p side ++ grown now place s g side)) s new now.reader
         (λ fail. ⊎_elim (λ h. fails_in new h.1 h.2) (λ h. not_failed call s (h.1 ∙ went q s) fail) e.cause) (λ side. not_failed call side (went q side)))
         (λ input pushed. tt) (rw e.stored (peak_line call q.keeps s (place s) (l.slots s) e.piece)))
     group_breaks Write moves = absurd moves

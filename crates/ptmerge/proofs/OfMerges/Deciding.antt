@@ -1,11 +1,11 @@
 -- What is decided of two inputs is a beginning of what was pushed, where it is decided by passed lines.
 use Rattle.ptmerge.proofs.Common.{◌≡◌, ℕ, Bool, false, List, [], ◌∷◌, ◌++◌, Option, Some, None, map, refl, sym, ◌∙◌, ap, append-nil, filter-append, last_or, filter, Begins, text, text-append, Side}
 use Rattle.ptmerge.proofs.Common.{First, Second, Lines, Tool, by_keys, decided_entries, disorder, disorder_of, fall, is_below, is_decided, is_past, is_settled, ordered_part, Cmp, Key, other}
-use Rattle.ptmerge.proofs.OfMerges.Bounds.{Begun, Bound, FallFrom, Under}
+use Rattle.ptmerge.proofs.OfMerges.Bounds.{FallFrom}
 use Rattle.ptmerge.proofs.OfMerges.Least.{EachKey, EachKey-weaker}
 use Rattle.ptmerge.proofs.OfMerges.Orders.{IsKeyOrder, AtMost}
 use Rattle.ptmerge.proofs.OfParts.PartsByKey.{by_keys_kept}
-use Rattle.ptmerge.proofs.OfMerges.Passing.{Seen, down_decided, last_has, not_below, not_decided, past_none}
+use Rattle.ptmerge.proofs.OfMerges.Passing.{down_decided, last_has, not_below, not_decided}
 use Rattle.ptmerge.proofs.OfMerges.Splitting.{all_keys, down_begins}
 
 kept_none : (w : List ℕ → Bool) (key : Key) (ls : Lines) → EachKey (λ k. w k ≡ false) key ls → filter (λ line. w (key line)) ls ≡ []
@@ -51,19 +51,6 @@ decided_of_passed tool o ended ls p of going rises differ =
         let d = differ side in
         kept_same (is_decided tool ended ls) (tool.key side) (ordered_part tool.cmp (tool.key side) (ls side)) (p side) d.rest d.tail d.same
         (unwanted side d.rest d.none_rest) (unwanted side d.tail d.none_tail)
-
--- all lines that came of this input are passed, and more may come
-pub decided_begins : {tool : Tool} (o : IsKeyOrder tool.cmp) {b : Side → Bound} {p ls : Side → Lines} → ((of side : Side) → EachKey (Under tool.cmp (b of)) (tool.key side) (p side))
-    → Seen tool b p ls → (ended : Side → Bool) (of : Side) (last : Option (List ℕ)) → ended of ≡ false → ls of ≡ p of → Begun tool.cmp (tool.key of) (p of) last
-    → Begins (text tool.end (decided_entries tool ended ls)) (text tool.end (by_keys tool all_keys p))
-decided_begins {tool} o {b} {p} {ls} under s ended of last going all begun =
-    decided_of_passed tool o ended ls p of going (ap (fall tool.cmp (tool.key of)) (all ∙ sym (append-nil (p of))) ∙ begun.falling []) (λ side. record {
-      rest = [];
-      tail = s.r side;
-      same = append-nil (ordered_part tool.cmp (tool.key side) (ls side)) ∙ s.parts side;
-      none_rest = tt;
-      none_tail = rw all (past_none tool.cmp o (tool.key of) (tool.key side) (b side) (p of) (s.r side) (under side of) (s.coming side));
-    })
 
 -- ---- a disorder
 

@@ -1,16 +1,16 @@
 -- What a tool over two inputs has done when it stops.
 use Rattle.ptmerge.proofs.Common.{arith, inl, refl, ◌≡◌, ℕ, ◌≤◌, true, false, List, [], ◌++◌, Option, Some, None, Result, Ok, Err, length, max, sym, ◌∙◌, ap, subst, false≢true, append-nil, Given}
-use Rattle.ptmerge.proofs.Common.{whole_lines, Output, Reader, Reads, IsDone, IsSound, Slots, text, lines, IsLine, longest, given_of, came_of, came_set, cause_set, reads_trans}
-use Rattle.ptmerge.proofs.Common.{Begins, Wrote, wrote_trans, wrote_nothing, keeps_more, text-append, MergeFault, Read, Write, Side, First, Second, Sorted, Head, Ended, Disorder, Lines, Tool, by_keys, decided, disorder}
-use Rattle.ptmerge.proofs.Common.{disorder_of, fall, lines_of, merged, merged_entries, ordered_part, up_to, State, Agree, Ends, IsMerge, IsUnread, IsWhole, ended_by, Cmp, Key, other, put}
+use Rattle.ptmerge.proofs.Common.{whole_lines, Output, Reader, Reads, IsDone, IsSound, Slots, text, lines, IsLine, longest, given_of, came_of, came_set, cause_set, reads_trans, append_assoc, Wrote}
+use Rattle.ptmerge.proofs.Common.{wrote_trans, wrote_nothing, keeps_more, text-append, MergeFault, Read, Write, Side, First, Second, Sorted, Head, Ended, Disorder, Lines, Tool, by_keys, decided}
+use Rattle.ptmerge.proofs.Common.{disorder, disorder_of, fall, lines_of, merged, merged_entries, ordered_part, up_to, State, Agree, Ends, IsMerge, IsUnread, IsWhole, ended_by, Cmp, Key, other, put}
 use Rattle.ptmerge.specs.declared.faults.MergeFault.TheVariants as faults
 use Rattle.ptmerge.proofs.OfMerges.Backing.{Back, Near, back}
 use Rattle.ptmerge.proofs.OfMerges.Bounds.{Bound, Free, From, Over, Coming, Under, Begun, Reaches, reaches_free, reaches_passed}
-use Rattle.ptmerge.proofs.OfMerges.Deciding.{decided_begins}
+use Rattle.ptmerge.proofs.OfMerges.Deciding.{decided_of_passed}
 use Rattle.ptmerge.proofs.OfMerges.Got.{Got, More, Known, got_known, got_lines, got_none, reads_nothing}
 use Rattle.ptmerge.proofs.OfMerges.Least.{EachKey, EachKey-weaker}
 use Rattle.ptmerge.proofs.OfMerges.Orders.{IsKeyOrder}
-use Rattle.ptmerge.proofs.OfMerges.Passing.{Late, Merging, Seen, StopsAt, follows, seen_all}
+use Rattle.ptmerge.proofs.OfMerges.Passing.{Late, Merging, Seen, StopsAt, follows, past_none, seen_all}
 use Rattle.ptmerge.proofs.OfMerges.Splitting.{all_keys, under_fall}
 use Rattle.ptmerge.proofs.OfMerges.Standing.{Sided, Stands}
 use Rattle.ptmerge.proofs.OfMerges.Working.{unsettled, works_off}
@@ -100,7 +100,7 @@ module _ (tool : Tool) (o : IsKeyOrder tool.cmp) (old new : State) (now : Side �
       × (max (longest (ls side)) (length (piece side)) ≤ longest (lines tool.end (input side)))
   input_lines input a side = got_lines _ _ _ _ _ _ (g side).got (g side).reads (g side).line (input side) (a side)
 
-  pub known : (side : Side) → Known tool.end (old.reader side) (now side) (new.reader side) (ls side) (piece side) (g side).got (g side).reads (g side).line (whole_lines tool.end (given side))
+  known : (side : Side) → Known tool.end (old.reader side) (now side) (new.reader side) (ls side) (piece side) (g side).got (g side).reads (g side).line (whole_lines tool.end (given side))
   known side = got_known _ _ _ _ _ _ (g side).got (g side).reads (g side).line
 
   whole_seen : Seen tool b p (λ side. whole_lines tool.end (given side))
@@ -120,9 +120,9 @@ module _ (tool : Tool) (o : IsKeyOrder tool.cmp) (old new : State) (now : Side �
 
     pub halted : (done : Lines) → text tool.end (by_keys tool all_keys front) ++ bytes ≡ text tool.end done → {result : Result (Unit {0}) MergeFault} → Ends old new result
         → ((all : Side → Lines) → ((side : Side) → More (now side) (ls side) (all side)) → (rest : Lines) × (merged_entries tool all ≡ done ++ rest))
-        → ((side : Side) → (new.reader side).failed ≡ true → Begins (decided tool given) (text tool.end done))
+        → ((side : Side) → (new.reader side).failed ≡ true → Fails tool.cmp (tool.key side) (new.reader side) (ls side) (p side))
         → ((input : Side → List ℕ) → Agree given input → IsWhole tool input (text tool.end done) result) → Fits tool old.store now ls piece new.store → IsMerge tool old new result
-    halted done is ends all sure whole fits = record {
+    halted done is ends all failed whole fits = record {
       given = given;
       came = λ side. came_of (old.reader side) (new.reader side) ((g side).got.given ++ piece side)
           (reads_trans _ _ _ _ _ (g side).got.goes.reads (g side).reads);
@@ -132,7 +132,20 @@ module _ (tool : Tool) (o : IsKeyOrder tool.cmp) (old new : State) (now : Side �
       true_so_far = λ input a.
           let e = all (lines_of tool input) (λ side. (input_lines input a side).0) in
           record { rest = text tool.end e.0; is = ap (text tool.end) e.1 ∙ text-append tool.end done e.0 };
-      sure = λ side fail clean. sure side fail;
+      -- so was what is decided where the last line of an input is passed
+      sure = λ side fail clean_now.
+          let f = failed side fail in
+          let e = (known side).exact f.held f.ended ∙ f.all in
+          let b = decided_of_passed tool o (λ s. (new.reader s).ended) (λ s. whole_lines tool.end (given s)) front side f.ended
+          (ap (fall tool.cmp (tool.key side)) (e ∙ sym (append-nil (p side))) ∙ f.begun.falling []) (λ s. record {
+            rest = [];
+            tail = tail s ++ (future s).0;
+            same = append-nil (ordered_part tool.cmp (tool.key s) (whole_lines tool.end (given s))) ∙ (future s).1
+                ∙ ap (λ (l : Lines). l ++ (future s).0) (split s) ∙ append_assoc (front s) (tail s) (future s).0;
+            none_rest = tt;
+            none_tail = rw e (past_none tool.cmp o (tool.key side) (tool.key s) (bound s) (p side) (tail s ++ (future s).0) (under s side) (future s).2);
+          }) in
+          record { rest = b.rest ++ bytes; is = sym is ∙ ap (λ (l : List ℕ). l ++ bytes) b.is ∙ append_assoc (decided tool given) b.rest bytes };
       -- what was decided two blocks earlier of one input was pushed
       keeps_up = λ of clean_then. rw is at (keeps_more (λ came. decided tool (put of (came tt) given)) (λ u. given of) old.out mid (text tool.end (by_keys tool all_keys front))
           (works_off tool o given front _ tail _ backs split under future of) wrote clean new.out bytes more);
@@ -151,11 +164,7 @@ module _ (tool : Tool) (o : IsKeyOrder tool.cmp) (old new : State) (now : Side �
       → Fits tool old.store now ls piece new.store → IsMerge tool old new result
   stops m late result ends failed concludes fits = halted late.front late.tail b late.split m.under m.under late.coming late.clean late.wrote late.more _ late.all ends
       (λ all w. let s = seen_of all w in (by_keys tool (up_to tool.cmp (disorder tool all)) s.r, seen_all o m s))
-      (λ side fail.
-      let f = failed side fail in
-      decided_begins o m.under whole_seen (λ s. (new.reader s).ended) side f.last f.ended
-      ((known side).exact f.held f.ended ∙ f.all) f.begun)
-      (by result concludes) fits
+      failed (by result concludes) fits
     where
       done : Lines
       done = by_keys tool all_keys p
