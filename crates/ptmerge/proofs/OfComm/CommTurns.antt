@@ -103,7 +103,7 @@ pub record Placed (tool : Tool) (old : State) (reader : Side → Reader) (place 
   pub keeps : Keeps old.store store (λ side. longest (ls side))
   pub slots : (side : Side) → HasSlots side (place side)
 
-slots_on : {key : Key} {cmp : Cmp} {place next : Sorted} {was is : Reader} {before after : Slots} (s : Side) → HasSlots s place → Comes key cmp place next was is before after → HasSlots s next
+pub slots_on : {key : Key} {cmp : Cmp} {place next : Sorted} {was is : Reader} {before after : Slots} (s : Side) → HasSlots s place → Comes key cmp place next was is before after → HasSlots s next
 slots_on s h (inl e) = rw e.place (⊎_elim (λ k. inr (k.1, k.0)) (λ k. inl (k.1, k.0)) h)
 slots_on s h (inr e) = rw e.place (⊎_elim (λ k. inr (k.1, k.0)) (λ k. inl (k.1, k.0)) h)
 

@@ -163,8 +163,8 @@ module _ {call : Call} {now : State} {place : Side → Sorted} {end : ℕ} (r : 
         (record { denied = e.refused.denied; failed = went q; clean = clean }) (λ side. not_failed call side (went q side)) (λ input pushed. tt) (λ all w.
         let size = size_of call q.keeps all (λ side. omega (arith, (w side).1)) ((w Second).0.more, (w Second).0.is) in
         let many : length (r.g ++ y ∷ []) ≤ most_lines (key Second) (all Second) = rw (w Second).0.is (inside e.came (w Second).0.more).1 in (
-          omega (arith, e.refused.peak, q.keeps.peak, size),
-          omega (arith, e.refused.most, q.at, q.keeps.slots, size, many, laws.slots all, length_push r.g y),
+          omega (arith, e.refused.peak, size),
+          omega (arith, e.refused.most, q.at, size, many, laws.slots all, length_push r.g y),
         )))
     not_gathered clean fault (inr e) = group_breaks at_line clean (starts_none call (within_more at_line)) wrote_none reader fault e
 

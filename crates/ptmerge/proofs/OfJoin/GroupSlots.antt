@@ -1,15 +1,15 @@
 -- What the store of `join` holds: two lines of each input, and behind them the slots of the group.
 use Rattle.ptmerge.proofs.Common.{◌≡◌, ◌⊎◌, ⊎_elim, inl, inr, ℕ, ◌+◌, ◌-◌, ◌≤◌, ◌<◌, true, false, length-drop, List, [], ◌∷◌, ◌++◌, length, map, take, drop, get_or, set, max, refl, sym, ap, ◌∙◌}
 use Rattle.ptmerge.proofs.Common.{subst, arith, ◌*◌, cond, Option, append_assoc, length-append, append-nil, length-set, length-take-le, drop_more, get_or-take, get_or-drop, drop-set-add, take_more}
-use Rattle.ptmerge.proofs.Common.{length_push, drop_all, drop-append-le, drop-set-lt, set_at, take_at, bytes_eq, sum_by_push, sum_by-append, sum_by-cons, Slots, line, total, with_line, with_added}
-use Rattle.ptmerge.proofs.Common.{with_denied, text, longest, total_set, Join, IsGroupCleared, IsGrown, IsRefused, group, IsKept, entry, fields, pairs_of, greatest_of, largest_group, most_lines}
-use Rattle.ptmerge.proofs.Common.{Lines, with_key, bytes_decides, Reader, Side, First, Second, Sorted, Cmp, Key, HasSlots, put}
-use Rattle.ptmerge.proofs.OfMerges.Slotted.{line_other, HasLines, Keeps, has_lines_total, line_added, set_line}
+use Rattle.ptmerge.proofs.Common.{length_push, drop_all, drop-append-le, drop-set-lt, set_at, take_at, bytes_eq, sum_by_push, sum_by-append, sum_by-cons, Slots, line, total, with_line, with_denied}
+use Rattle.ptmerge.proofs.Common.{text, longest, total_set, Join, IsGroupCleared, IsGrown, IsRefused, group, IsKept, entry, fields, pairs_of, greatest_of, largest_group, most_lines, Lines, with_key}
+use Rattle.ptmerge.proofs.Common.{bytes_decides, Reader, Side, First, Second, Sorted, Cmp, Key, HasSlots, put}
+use Rattle.ptmerge.proofs.OfMerges.Slotted.{line_other, HasLines, Keeps, has_lines_total, set_line}
 use Rattle.std.proofs.Math.ListN.{get_or-append}
 use Rattle.ptmerge.proofs.OfMerges.Least.{EachKey}
 use Rattle.ptmerge.proofs.OfMerges.Pairs.{put_each, put_same}
 use Rattle.ptmerge.proofs.OfMerges.Standing.{Next}
-use Rattle.ptmerge.proofs.OfMerges.Turning.{own_slots}
+use Rattle.ptmerge.proofs.OfMerges.Turning.{own_slots, slot_low}
 
 -- the lines of the group from a slot on
 pub group_from : (store : Slots) (from end slot : ℕ) → end ≤ length store.lines → from ≤ slot → slot < end
@@ -57,95 +57,78 @@ pub clears_none : (s : Slots) → IsGroupCleared s s 4
 clears_none s = record { slots = refl; others = λ i _. refl; emptied = omega arith; less = omega arith; peak = omega arith; denied = refl }
 
 pub clears_more : (a s t : Slots) (slot : ℕ) → 4 ≤ slot → slot < length a.lines → IsGroupCleared a s slot → t ≡ with_line s slot [] → IsGroupCleared a t (slot + 1)
-clears_more a s t slot from within c is = rw is (record {
-  slots = length-set s.lines slot [] ∙ c.slots;
-  others = others;
-  emptied = omega (arith, here, c.emptied, grows);
-  less = omega (arith, all, c.less);
-  peak = omega (arith, all, c.less, c.peak);
-  denied = c.denied;
-})
-  where
-    low : slot < length s.lines
-    low = omega (arith, c.slots)
-
-    same : line s slot ≡ line a slot
-    same = c.others slot (inr (omega arith))
-
-    all : total (set s.lines slot []) + length (line s slot) ≡ total s.lines
-    all = omega (arith, total_set s.lines slot [] low)
-
-    back : 4 + (slot - 4) ≡ slot
-    back = omega arith
-
-    here : total (drop 4 (set s.lines slot [])) + length (line a slot) ≡ total (drop 4 s.lines)
-    here =
-        let rest = drop 4 s.lines in
-        let at : get_or rest (slot - 4) [] ≡ line a slot = get_or-drop 4 s.lines (slot - 4) [] ∙ ap (λ i. get_or s.lines i []) back ∙ same in
-        let d : drop 4 (set s.lines slot []) ≡ set rest (slot - 4) [] = ap (λ i. drop 4 (set s.lines i [])) (sym back) ∙ drop-set-add 4 s.lines (slot - 4) [] in
-        omega (arith, ap total d, ap length at, total_set rest (slot - 4) [] (omega (arith, length-drop 4 s.lines)))
-
-    grows : total (group a 4 (slot + 1)) ≡ total (group a 4 slot) + length (line a slot)
-    grows = ap total (group_more a 4 slot from within) ∙ sum_by_push length (group a 4 slot) (line a slot)
-
-    others : (i : ℕ) → (i < 4) ⊎ (slot + 1 ≤ i) → line (with_line s slot []) i ≡ line a i
-    others i (inl h) = line_other s slot i [] (λ e. absurd (omega (arith, e))) ∙ c.others i (inl h)
-    others i (inr h) = line_other s slot i [] (λ e. absurd (omega (arith, e))) ∙ c.others i (inr (omega arith))
+clears_more a s t slot from within c is =
+    let rest = drop 4 s.lines in
+    let all = total_set s.lines slot [] (omega (arith, c.slots)) in
+    let back : 4 + (slot - 4) ≡ slot = omega arith in
+    let at : get_or rest (slot - 4) [] ≡ line a slot = get_or-drop 4 s.lines (slot - 4) [] ∙ ap (λ i. get_or s.lines i []) back ∙ c.others slot (inr (omega arith)) in
+    let d : drop 4 (set s.lines slot []) ≡ set rest (slot - 4) [] = ap (λ i. drop 4 (set s.lines i [])) (sym back) ∙ drop-set-add 4 s.lines (slot - 4) [] in
+    let here = total_set rest (slot - 4) [] (omega (arith, c.slots, length-drop 4 s.lines)) in
+    let grows = ap total (group_more a 4 slot from within) ∙ sum_by_push length (group a 4 slot) (line a slot) in
+    rw is (record {
+      slots = length-set s.lines slot [] ∙ c.slots;
+      others = λ i far. line_other s slot i [] (λ e. absurd (omega (arith, e, far))) ∙ c.others i (⊎_elim (λ h. inl h) (λ h. inr (omega (arith, h))) far);
+      emptied = omega (arith, here, ap total d, ap length at, c.emptied, grows);
+      less = omega (arith, all, c.less);
+      peak = omega (arith, all, c.less, c.peak);
+      denied = c.denied;
+    })
 
 -- ---- keeping
 
-added_total : (s : Slots) → total (s.lines ++ [] ∷ []) ≡ total s.lines
-added_total s = omega (arith, sum_by_push length s.lines [])
+-- where a slot was made if it was missing: nothing but empty slots was added
+record Made (before made : Slots) (slot : ℕ) : Type 0 where
+  more : Lines
+  lines : made.lines ≡ before.lines ++ more
+  empty : total more ≡ 0
+  slots : (length before.lines ≤ length made.lines) × (length made.lines ≤ max (length before.lines) (slot + 1))
+  peak : made.peak ≡ before.peak
+  denied : made.denied ≡ before.denied
 
--- how many slots there are where one was made
-pub grown_slots : (before made : Slots) (slot : ℕ) → IsGrown before made slot → (length before.lines ≤ length made.lines) × (length made.lines ≤ max (length before.lines) (slot + 1))
-grown_slots before made slot g =
+made_so : (before made : Slots) (slot : ℕ) → IsGrown before made slot → Made before made slot
+made_so before made slot g =
     let kept : slot < length before.lines → length made.lines ≡ length before.lines = λ low. ap (λ (s : Slots). length s.lines) (g.there low) in
-    ⊎_elim (λ e. let same = ap (λ (s : Slots). length s.lines) e in (omega (arith, same), omega (arith, same)))
-    (λ e. let more = ap (λ (s : Slots). length s.lines) e ∙ length_push before.lines [] in (omega (arith, more), grind (arith, more, kept))) g.grown
+    ⊎_elim (λ e.
+    let same = ap (λ (s : Slots). length s.lines) e in
+    record { more = []; lines = ap (λ (s : Slots). s.lines) e ∙ sym (append-nil before.lines); empty = refl; slots = omega (arith, same); peak = rw e refl; denied = rw e refl })
+    (λ e.
+    let more = ap (λ (s : Slots). length s.lines) e ∙ length_push before.lines [] in
+    record { more = [] ∷ []; lines = rw e refl; empty = refl; slots = (omega (arith, more), grind (arith, more, kept)); peak = rw e refl; denied = rw e refl }) g.grown
 
 pub refused_copy : (before made : Slots) (to : ℕ) → IsGrown before made to → IsRefused before (with_denied (with_line made to [])) to
-refused_copy before made to g = record {
-  denied = refl;
-  most = omega (arith, length-set made.lines to [], grown_slots before made to g);
-  slots = omega
-      (arith, length-set made.lines to [], (facts g.grown).0);
-  peak = omega (arith, (facts g.grown).1, (facts g.grown).2, total_set made.lines to [] g.within);
-}
-  where
-    facts : (made ≡ before) ⊎ (made ≡ with_added before) → (length before.lines ≤ length made.lines) × (total made.lines ≡ total before.lines) × (made.peak ≡ before.peak)
-    facts (inl e) = rw e (omega arith, refl, refl)
-    facts (inr e) = rw e (omega (arith, length_push before.lines []), added_total before, refl)
+refused_copy before made to g =
+    let w = made_so before made to g in
+    let size = length-set made.lines to [] in
+    record {
+      denied = refl;
+      most = omega (arith, size, w.slots);
+      slots = omega (arith, size, w.slots);
+      peak = omega (arith, w.peak, w.empty, ap total w.lines, sum_by-append length before.lines w.more, total_set made.lines to [] g.within);
+    }
 
 -- ---- the largest group
 
--- a measure of lines that more lines do not make less
+-- a measure of lines that adds what each weighs
 record IsMeasure (m : Lines → ℕ) : Type 0 where
+  weight : List ℕ → ℕ
   none : m [] ≡ 0
-  grows : (x : List ℕ) (xs : Lines) → m xs ≤ m (x ∷ xs)
-  both_grow : (x : List ℕ) (xs ys : Lines) → m xs ≤ m ys → m (x ∷ xs) ≤ m (x ∷ ys)
+  more : (x : List ℕ) (xs : Lines) → m (x ∷ xs) ≡ weight x + m xs
 
 by_bytes : IsMeasure total
-by_bytes = record {
-  none = refl;
-  grows = λ x xs. omega (arith, sum_by-cons length x xs);
-  both_grow = λ x xs ys h. omega (arith, h, sum_by-cons length x xs, sum_by-cons length x ys);
-}
+by_bytes = record { weight = length; none = refl; more = λ x xs. sum_by-cons length x xs }
 
 by_lines : IsMeasure length
-by_lines = record { none = refl; grows = λ x xs. omega arith; both_grow = λ x xs ys h. omega (arith, h) }
+by_lines = record { weight = λ x. 1; none = refl; more = λ x xs. omega arith }
 
 module _ (m : Lines → ℕ) (laws : IsMeasure m) (key : Key) where
-  with_key-own : (k : List ℕ) (g c : Lines) → EachKey (λ x. x ≡ k) key g → m g ≤ m (with_key key (g ++ c) k)
-  with_key-own k [] c e = omega (arith, laws.none)
-  with_key-own k (x ∷ g) c e = rw ((bytes_decides (key x) k).1 e.0) (laws.both_grow x g (with_key key (g ++ c) k) (with_key-own k g c e.1))
-
-  with_key-behind : (k : List ℕ) (p r : Lines) → m (with_key key r k) ≤ m (with_key key (p ++ r) k)
-  with_key-behind k [] r = omega arith
-  with_key-behind k (x ∷ p) r =
-      let ih = with_key-behind k p r in
-      elim (bytes_eq (key x) k) as (λ t. m (with_key key r k) ≤ m (cond t (x ∷ with_key key (p ++ r) k) (with_key key (p ++ r) k)))
-      [ true ↦ omega (arith, ih, laws.grows x (with_key key (p ++ r) k)) | false ↦ ih ]
+  -- a list that has lines of one key has no fewer of it
+  own_in : (k : List ℕ) (p g c : Lines) → EachKey (λ x. x ≡ k) key g → m g ≤ m (with_key key (p ++ (g ++ c)) k)
+  own_in k [] [] c e = omega (arith, laws.none)
+  own_in k [] (x ∷ g) c e = rw ((bytes_decides (key x) k).1 e.0) (omega (arith, laws.more x g, laws.more x (with_key key (g ++ c) k), own_in k [] g c e.1))
+  own_in k (x ∷ p) g c e =
+      let ih = own_in k p g c e in
+      let ls : Lines = with_key key (p ++ (g ++ c)) k in
+      elim (bytes_eq (key x) k) as (λ t. m g ≤ m (cond t (x ∷ ls) ls)) [ true ↦ omega (arith, ih, laws.more x ls) | false ↦ ih ]
 
   greatest_has : (ls p : Lines) (y : List ℕ) (w : Lines) → m (with_key key ls (key y)) ≤ greatest_of m key ls (p ++ y ∷ w)
   greatest_has ls [] y w = omega arith
@@ -155,8 +138,7 @@ module _ (m : Lines → ℕ) (laws : IsMeasure m) (key : Key) where
   measure_in : (k : List ℕ) (p g : Lines) (y : List ℕ) (w : Lines) → EachKey (λ x. x ≡ k) key (g ++ y ∷ []) → key y ≡ k → m (g ++ y ∷ [])
       ≤ greatest_of m key (((p ++ g) ++ y ∷ []) ++ w) (((p ++ g) ++ y ∷ []) ++ w)
   measure_in k p g y w own is =
-      let in_group : m (g ++ y ∷ []) ≤ m (with_key key ((p ++ g) ++ y ∷ w) (key y)) = rw (is, append_assoc p g (y ∷ w), ← append_assoc g (y ∷ []) w)
-      (omega (arith, with_key-own k (g ++ y ∷ []) w own, with_key-behind k p ((g ++ y ∷ []) ++ w))) in
+      let in_group : m (g ++ y ∷ []) ≤ m (with_key key ((p ++ g) ++ y ∷ w) (key y)) = rw (is, append_assoc p g (y ∷ w), ← append_assoc g (y ∷ []) w) (own_in k p (g ++ y ∷ []) w own) in
       rw (append_assoc (p ++ g) (y ∷ []) w) (omega (arith, in_group, greatest_has ((p ++ g) ++ y ∷ w) (p ++ g) y w))
 
 -- these lines are no more, in bytes and in number, than those of some key
@@ -186,12 +168,10 @@ pub record Keeping (key : Key) (before store : Slots) (ls : Side → Lines) (g :
   pub split : drop 4 store.lines ≡ g ++ tail
   pub empty : total tail ≡ 0
   pub lines : HasLines (λ side. longest (ls side)) (total g) store.lines
-  pub most : ℕ
-  pub fits : total g ≤ most
-  pub peak : store.peak ≤ max before.peak (2 * longest (ls First) + 2 * longest (ls Second) + most)
-  pub count : ℕ
-  pub known : (w : Lines) → (most ≤ largest_group key (ls Second ++ w)) × (count ≤ most_lines key (ls Second ++ w))
-  pub slots : length store.lines ≤ max (length before.lines) (4 + count)
+  -- whatever the second input goes on with
+  pub bounds : (all more : Lines) → all ≡ ls Second ++ more
+      → InGroup key g all × (store.peak ≤ max before.peak (2 * longest (ls First) + 2 * longest (ls Second) + largest_group key all))
+      × (length store.lines ≤ max (length before.lines) (4 + most_lines key all))
   pub least : length before.lines ≤ length store.lines
   pub four : 4 ≤ length store.lines
   pub denied : store.denied ≡ false
@@ -202,12 +182,7 @@ keeping_starts {key} {before} {store} {ls} k = record {
   split = refl;
   empty = drop_total store.lines (λ side. longest (ls side)) 0 k.lines;
   lines = k.lines;
-  most = 0;
-  fits = omega arith;
-  peak = omega (arith, k.peak);
-  count = 0;
-  known = λ w. (omega arith, omega arith);
-  slots = omega (arith, k.slots);
+  bounds = λ all more e. omega (arith, k.peak, k.slots);
   least = omega (arith, k.slots);
   four = omega (arith, k.slots);
   denied = k.denied;
@@ -219,34 +194,28 @@ AllSlots place = (side : Side) → HasSlots side (place side)
 
 -- the slots of an input are among the first four
 pub low_slot : (s : Side) (place : Sorted) → HasSlots s place → (place.standing < 4) × (place.previous < 4)
-low_slot First place h = let w = own_slots First place h in (omega (arith, w), omega (arith, w))
-low_slot Second place h = let w = own_slots Second place h in (omega (arith, w), omega (arith, w))
+low_slot s place h = omega (arith, own_slots s place h, slot_low s)
 
 -- a line of an input goes into the slot of the line before
 pub keeping_line : {key : Key} {before store after : Slots} {ls now : Side → Lines} {g : Lines} (s : Side) (place : Sorted) → HasSlots s place → (x : List ℕ) → Keeping key before store ls g
     → ((side : Side) → longest (ls side) ≤ longest (now side)) → length x ≤ longest (now s) → (more : Lines) × (now Second ≡ ls Second ++ more) → after ≡ with_line store place.previous x
     → Keeping key before after now g
-keeping_line {key} {before} {store} {after} {ls} {now} {g} s place slots x k up fit goes_on is = rw is (record {
-  tail = k.tail;
-  split = drop-set-lt 4 store.lines place.previous x (low_slot s place slots).1 ∙ k.split;
-  empty = k.empty;
-  lines = inside;
-  most = k.most;
-  fits = k.fits;
-  peak = omega (arith, k.peak, k.fits, up First, up Second, (has_lines_total (set store.lines place.previous x) (λ side. longest (now side)) (total g) inside).1);
-  count = k.count;
-  known = λ w. rw (goes_on.1, append_assoc (ls Second) goes_on.0 w) (k.known (goes_on.0 ++ w));
-  slots = omega (arith, k.slots, size);
-  least = omega (arith, k.least, size);
-  four = omega (arith, k.four, size);
-  denied = k.denied;
-})
-  where
-    inside : HasLines (λ side. longest (now side)) (total g) (set store.lines place.previous x)
-    inside = set_line s place store.lines (λ side. longest (ls side)) (λ side. longest (now side)) (total g) x slots k.lines up fit
-
-    size : length (set store.lines place.previous x) ≡ length store.lines
-    size = length-set store.lines place.previous x
+keeping_line {key} {before} {store} {after} {ls} {now} {g} s place slots x k up fit goes_on is =
+    let inside = set_line s place store.lines (λ side. longest (ls side)) (λ side. longest (now side)) (total g) x slots k.lines up fit in
+    let sum = has_lines_total (set store.lines place.previous x) (λ side. longest (now side)) (total g) inside in
+    let size = length-set store.lines place.previous x in
+    rw is (record {
+      tail = k.tail;
+      split = drop-set-lt 4 store.lines place.previous x (low_slot s place slots).1 ∙ k.split;
+      empty = k.empty;
+      lines = inside;
+      bounds = λ all more e.
+          let bounds = k.bounds all (goes_on.0 ++ more) (e ∙ ap (λ (l : Lines). l ++ more) goes_on.1 ∙ append_assoc (ls Second) goes_on.0 more) in
+          omega (arith, bounds, up First, up Second, sum, size);
+      least = omega (arith, k.least, size);
+      four = omega (arith, k.four, size);
+      denied = k.denied;
+    })
 
 -- what an input's lines go on with, where one input went on
 pub put_more : (s : Side) (ls : Side → Lines) (now more : Lines) → now ≡ ls s ++ more → (m : Lines) × (put s now ls Second ≡ ls Second ++ m)
@@ -261,78 +230,59 @@ keeping_next {key} {own} {before} {store} {after} {ls} s place slots k n = keepi
     (put_each (λ side (l : Lines). longest (ls side) ≤ longest l) s n.now_ls ls n.longer (λ side. omega arith))
     (subst (λ (l : Lines). length n.bytes ≤ longest l) (sym (put_same s n.now_ls ls)) n.fits) (put_more s ls n.now_ls n.more n.goes_on) n.stored
 
--- where the slots were made that were missing
-record Grown (store made : Slots) (g : Lines) (to : ℕ) : Type 0 where
-  tail : Lines
-  split : drop 4 made.lines ≡ g ++ tail
-  empty : total tail ≡ 0
-  same : (i : ℕ) → i < 4 → line made i ≡ line store i
-  slots : (length store.lines ≤ length made.lines) × (length made.lines ≤ max (length store.lines) (to + 1))
-  peak : made.peak ≡ store.peak
-  denied : made.denied ≡ store.denied
-
 module _ {key : Key} {before store : Slots} {ls : Side → Lines} {g : Lines} (k : Keeping key before store ls g) where
-  grown : (made : Slots) (to : ℕ) → IsGrown store made to → Grown store made g to
-  grown made to made_so =
-      let slots = grown_slots store made to made_so in
-      ⊎_elim (λ e. rw e (record { tail = k.tail; split = k.split; empty = k.empty; same = λ i low. refl; slots = rw e at slots; peak = refl; denied = refl }))
-      (λ e. rw e (record {
-        tail = k.tail ++ [] ∷ [];
-        split = drop-append-le 4 store.lines ([] ∷ []) k.four ∙ ap (λ (l : Lines). l ++ [] ∷ []) k.split ∙ append_assoc g k.tail ([] ∷ []);
-        empty = omega (arith, sum_by_push length k.tail [], k.empty);
-        same = λ i low. line_added store i;
-        slots = rw e at slots;
-        peak = refl;
-        denied = refl;
-      })) made_so.grown
-
   -- what keeping a line behind the group leaves
   pub record Kept (after : Slots) (y : List ℕ) : Type 0 where
     pub keeping : Keeping key before after ls (g ++ y ∷ [])
     pub same : (i : ℕ) → i < 4 → line after i ≡ line store i
 
-  module _ (made : Slots) (to : ℕ) (y : List ℕ) (at : to ≡ 4 + length g) (w : Grown store made g to) (within : to < length made.lines)
-      (largest : (l : Lines) → InGroup key (g ++ y ∷ []) (ls Second ++ l)) where
-    first_same : (i : ℕ) → i < 4 → get_or (set made.lines to y) i [] ≡ get_or store.lines i []
-    first_same i low = line_other made to i y (λ e. absurd (omega (arith, at, e))) ∙ w.same i low
+  module _ {made : Slots} {to : ℕ} (w : Made store made to) where
+    made_same : (i : ℕ) → i < 4 → line made i ≡ line store i
+    made_same i low = ap (λ (l : Lines). get_or l i []) w.lines ∙ get_or-append store.lines w.more [] i (omega (arith, k.four, low))
 
-    by_tail : (t : Lines) → total t ≡ 0 → length g + 1 ≤ length (g ++ t) → drop 4 (set made.lines to y) ≡ set (g ++ t) (length g) y → Keeping key before (with_line made to y) ls (g ++ y ∷ [])
-    by_tail [] none some is = absurd (omega (arith, some, length-append g []))
-    by_tail (z ∷ t) none some is =
-        let split : drop 4 (set made.lines to y) ≡ (g ++ y ∷ []) ++ t = is ∙ set_at g z t y (length g) refl ∙ sym (append_assoc g (y ∷ []) t) in
-        let empty : total t ≡ 0 = omega (arith, none, sum_by-cons length z t) in
-        let sum : total (drop 4 (set made.lines to y)) ≡ total (g ++ y ∷ []) = omega (arith, ap total split, sum_by-append length (g ++ y ∷ []) t, empty) in
-        let size = length-set made.lines to y in
-        let four : 4 ≤ length (set made.lines to y) = omega (arith, k.four, w.slots, size) in
-        let inside = same_lines store.lines (set made.lines to y) (λ side. longest (ls side)) (total g) (total (g ++ y ∷ [])) k.lines four first_same sum in
-        record {
-          tail = t;
-          split = split;
-          empty = empty;
-          lines = inside;
-          most = max k.most (total (g ++ y ∷ []));
-          fits = omega arith;
-          peak = omega (arith, k.peak, w.peak, (has_lines_total (set made.lines to y) (λ side. longest (ls side)) (total (g ++ y ∷ [])) inside).1);
-          count = max k.count (length (g ++ y ∷ []));
-          known = λ l. (omega (arith, k.known l, largest l), omega (arith, k.known l, largest l));
-          slots = omega (arith, at, k.slots, w.slots, size, length_push g y);
-          least = omega (arith, k.least, w.slots, size);
-          four = four;
-          denied = w.denied ∙ k.denied;
-        }
+    module _ (y : List ℕ) (at : to ≡ 4 + length g) (within : to < length made.lines) (largest : (l : Lines) → InGroup key (g ++ y ∷ []) (ls Second ++ l)) where
+      first_same : (i : ℕ) → i < 4 → get_or (set made.lines to y) i [] ≡ get_or store.lines i []
+      first_same i low = line_other made to i y (λ e. absurd (omega (arith, at, e))) ∙ made_same i low
 
-    kept : Kept (with_line made to y) y
-    kept = record {
-      keeping = by_tail w.tail w.empty (omega (arith, within, at, ap length w.split, length-drop 4 made.lines))
-          (rw at (drop-set-add 4 made.lines (length g) y) ∙ ap (λ (l : Lines). set l (length g) y) w.split);
-      same = first_same;
-    }
+      by_tail : (t : Lines) → total t ≡ 0 → length g + 1 ≤ length (g ++ t) → drop 4 (set made.lines to y) ≡ set (g ++ t) (length g) y → Keeping key before (with_line made to y) ls (g ++ y ∷ [])
+      by_tail [] none some is = absurd (omega (arith, some, length-append g []))
+      by_tail (z ∷ t) none some is =
+          let split : drop 4 (set made.lines to y) ≡ (g ++ y ∷ []) ++ t = is ∙ set_at g z t y (length g) refl ∙ sym (append_assoc g (y ∷ []) t) in
+          let empty : total t ≡ 0 = omega (arith, none, sum_by-cons length z t) in
+          let sum : total (drop 4 (set made.lines to y)) ≡ total (g ++ y ∷ []) = omega (arith, ap total split, sum_by-append length (g ++ y ∷ []) t, empty) in
+          let size = length-set made.lines to y in
+          let four : 4 ≤ length (set made.lines to y) = omega (arith, k.four, w.slots, size) in
+          let inside = same_lines store.lines (set made.lines to y) (λ side. longest (ls side)) (total g) (total (g ++ y ∷ [])) k.lines four first_same sum in
+          record {
+            tail = t;
+            split = split;
+            empty = empty;
+            lines = inside;
+            bounds = λ all more e.
+                let within : InGroup key (g ++ y ∷ []) all = rw e (largest more) in
+                let all_lines = has_lines_total (set made.lines to y) (λ side. longest (ls side)) (total (g ++ y ∷ [])) inside in
+                omega (arith, within, at, k.bounds all more e, w.peak, w.slots, all_lines.1, size, length_push g y);
+            least = omega (arith, k.least, w.slots, size);
+            four = four;
+            denied = w.denied ∙ k.denied;
+          }
+
+      kept : Kept (with_line made to y) y
+      kept =
+          let split : drop 4 made.lines ≡ g ++ (k.tail ++ w.more)
+          = ap (λ (l : Lines). drop 4 l) w.lines ∙ drop-append-le 4 store.lines w.more k.four ∙ ap (λ (l : Lines). l ++ w.more) k.split ∙ append_assoc g k.tail w.more in
+          record {
+            keeping = by_tail (k.tail ++ w.more) (omega (arith, sum_by-append length k.tail w.more, k.empty, w.empty))
+                (omega (arith, within, at, ap length split, length-drop 4 made.lines))
+                (rw at (drop-set-add 4 made.lines (length g) y) ∙ ap (λ (l : Lines). set l (length g) y) split);
+            same = first_same;
+          }
 
   pub keeping_kept : {after : Slots} {from to : ℕ} → to ≡ 4 + length g → from < 4 → IsKept store after from to → {y : List ℕ} → line store from ≡ y
       → ((l : Lines) → InGroup key (g ++ y ∷ []) (ls Second ++ l)) → Kept after y
   keeping_kept {after} {from} {to} at low e {y} is largest =
-      let w = grown e.made to e.grown in
-      rw (e.copied, w.same from low, is) (kept e.made to y at w e.grown.within largest)
+      let w = made_so store e.made to e.grown in
+      rw (e.copied, made_same w from low, is) (kept w y at e.grown.within largest)
 
   -- the lines of the group stand in its slots
   pub kept_line : (slot : ℕ) → 4 ≤ slot → slot < 4 + length g → line store slot ≡ get_or g (slot - 4) []
@@ -357,12 +307,7 @@ module _ {key : Key} {before store : Slots} {ls : Side → Lines} {g : Lines} (k
         split = refl;
         empty = none;
         lines = same_lines store.lines after.lines (λ side. longest (ls side)) (total g) 0 k.lines four (λ i low. c.others i (inl low)) none;
-        most = k.most;
-        fits = omega arith;
-        peak = omega (arith, c.peak, k.peak, k.fits, (has_lines_total store.lines (λ side. longest (ls side)) (total g) k.lines).1);
-        count = k.count;
-        known = k.known;
-        slots = omega (arith, k.slots, c.slots);
+        bounds = λ all more e. omega (arith, c.peak, c.slots, k.bounds all more e, (has_lines_total store.lines (λ side. longest (ls side)) (total g) k.lines).1);
         least = omega (arith, k.least, c.slots);
         four = four;
         denied = c.denied ∙ k.denied;

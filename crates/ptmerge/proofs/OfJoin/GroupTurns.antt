@@ -1,19 +1,20 @@
 -- A group of lines of one key: its lines are gathered, paired and closed.
-use Rattle.ptmerge.proofs.Common.{◌≡◌, ◌⊎◌, ⊎_elim, inl, inr, ℕ, ◌+◌, ◌*◌, ◌≤◌, ◌<◌, ◌&&◌, Bool, true, false, cond, List, [], ◌∷◌, ◌++◌, Option, Some, None, Err, length, map, max, refl, sym, ◌∙◌, ap}
-use Rattle.ptmerge.proofs.Common.{subst, arith, append_assoc, last_or, bytes_eq, bytes_decides, is_gt, false≢true, append-nil, Output, Wrote, Reader, Reads, IsSound, Slots, line, total, with_line}
-use Rattle.ptmerge.proofs.Common.{text, IsLine, longest, wrote_trans, text-append, MergeFault, Read, Write, Memory, Side, First, Second, Sorted, Stand, Head, Ended, Disorder, is_head, largest_group}
-use Rattle.ptmerge.proofs.Common.{most_lines, Lines, Tool, by_keys, entries_of, fall, with_key, IsUnwritten, State, IsMerge, Cmp, Key, CannotRead, Comes, HasSlots, put, other, GoesBefore}
+use Rattle.ptmerge.proofs.Common.{◌≡◌, ◌⊎◌, ⊎_elim, inl, inr, ℕ, ◌+◌, ◌*◌, ◌≤◌, ◌<◌, ◌&&◌, Bool, true, false, List, [], ◌∷◌, ◌++◌, Some, Err, length, max, refl, sym, ◌∙◌, ap, subst, arith}
+use Rattle.ptmerge.proofs.Common.{append_assoc, bytes_eq, bytes_decides, is_gt, false≢true, append-nil, Output, Wrote, Reader, Reads, IsSound, Slots, line, total, with_line, text, IsLine, longest}
+use Rattle.ptmerge.proofs.Common.{wrote_trans, text-append, MergeFault, Read, Write, Memory, Side, First, Second, Sorted, Stand, Head, Ended, Disorder, is_head, largest_group, most_lines, Lines, Tool}
+use Rattle.ptmerge.proofs.Common.{by_keys, entries_of, with_key, IsUnwritten, State, IsMerge, CannotRead, Comes, HasSlots, put, other, GoesBefore}
+use Rattle.ptmerge.proofs.OfComm.CommTurns.{slots_on}
 use Rattle.ptmerge.proofs.OfMerges.Bounds.{Bound, From, Coming, Under}
-use Rattle.ptmerge.proofs.OfJoin.GroupStops.{EachComes, FailsIn, Fits, StartsWith, Within, halts, own_keys, under_down}
+use Rattle.ptmerge.proofs.OfJoin.GroupStops.{StartsWith, Within, halts, own_keys, under_down}
 use Rattle.ptmerge.proofs.OfJoin.GroupSlots.{AllSlots, Keeping, keeping_line, keeping_next, low_slot, put_more}
-use Rattle.ptmerge.proofs.OfMerges.Least.{EachKey, EachKey-append, EachKey-weaker, at_most-same, front_first, least_first, others_of, with_key-above, with_key-front}
+use Rattle.ptmerge.proofs.OfMerges.Least.{EachKey, EachKey-append, EachKey-weaker, at_most-same, front_first, front_is, others_of, with_key-above}
 use Rattle.ptmerge.proofs.OfMerges.Orders.{IsKeyOrder, AtMost, least_or_above, self_at_most}
-use Rattle.ptmerge.proofs.OfMerges.Pairs.{put_each, put_other, put_same}
+use Rattle.ptmerge.proofs.OfMerges.Pairs.{put_both, put_each, put_other, put_same}
 use Rattle.ptmerge.proofs.OfMerges.Passing.{Merging}
 use Rattle.ptmerge.proofs.OfMerges.Slotted.{has_lines_total, line_other}
-use Rattle.ptmerge.proofs.OfMerges.Splitting.{all_keys, splits_step}
+use Rattle.ptmerge.proofs.OfMerges.Splitting.{MayCome, all_keys, splits_step}
 use Rattle.ptmerge.proofs.OfMerges.Standing.{Next, Passed, Stands, comes_repeats, sided_keeps}
-use Rattle.ptmerge.proofs.OfMerges.Stopping.{Gone, gone_passed, gone_standing}
+use Rattle.ptmerge.proofs.OfMerges.Stopping.{Fails, Fits, Gone, gone_passed, gone_standing}
 use Rattle.ptmerge.proofs.OfMerges.Turning.{BothStand, IsAbove, IsLineByLine, ahead, next_at, own_slots, passed_at, sides_on, slots_apart}
 use Rattle.ptmerge.specs.declared.faults.MergeFault.TheVariants as faults
 
@@ -57,22 +58,15 @@ NotPassed now s place reader after new fault =
 pub not_failed : (call : Call) (side : Side) {b : Bool} {X : Type 0} → b ≡ (call.old.reader side).failed → b ≡ true → X
 not_failed call side same fail = absurd (false≢true (sym (same ∙ call.unfailed side) ∙ fail))
 
-last_push : (key : Key) (q : Lines) (x : List ℕ) (d : Option (List ℕ)) → last_or d (map key (q ++ x ∷ [])) ≡ Some (key x)
-last_push key [] x d = refl
-last_push key (y ∷ q) x d = last_push key q x (Some (key y))
-
 -- ---- what the store holds
 
 -- what `join` may keep of inputs that begin with these lines
 pub size_of : (call : Call) {store : Slots} {ls : Side → Lines} {g : Lines} (h : Keeping (call.key Second) call.old.store store ls g) (all : Side → Lines)
     → ((side : Side) → longest (ls side) ≤ longest (all side)) → (more : Lines) × (all Second ≡ ls Second ++ more)
-    → (2 * longest (ls First) + 2 * longest (ls Second) + h.most ≤ call.size all) × (4 + h.count ≤ call.slots all) × (total store.lines ≤ 2 * longest (ls First) + 2 * longest (ls Second) + h.most)
+    → (store.peak ≤ max call.old.store.peak (call.size all)) × (length store.lines ≤ max (length call.old.store.lines) (call.slots all)) × (total store.lines ≤ call.size all)
 size_of call {store} {ls} {g} h all up more =
-    let known : (h.most ≤ largest_group (call.key Second) (all Second)) × (h.count ≤ most_lines (call.key Second) (all Second)) = rw more.1 (h.known more.0) in (
-      omega (arith, known, call.laws.size all, up First, up Second),
-      omega (arith, known, call.laws.slots all),
-      omega (arith, (has_lines_total store.lines (λ side. longest (ls side)) (total g) h.lines).1, h.fits),
-    )
+    let bounds = h.bounds (all Second) more.0 more.1 in
+    omega (arith, bounds, call.laws.size all, call.laws.slots all, up First, up Second, (has_lines_total store.lines (λ side. longest (ls side)) (total g) h.lines).1)
 
 module _ (call : Call) {store : Slots} {ls : Side → Lines} {g : Lines} (h : Keeping (call.key Second) call.old.store store ls g) {now : Side → Reader} where
   -- a piece of one more line is no more than the measure
@@ -81,13 +75,11 @@ module _ (call : Call) {store : Slots} {ls : Side → Lines} {g : Lines} (h : Ke
       let k : Keeping (call.key Second) call.old.store (with_line store place.previous piece) all g = keeping_line s place slots piece h (λ side. omega (arith, (w side).1))
       (omega (arith, (w s).1, ap length (put_same s piece (λ t. [])))) ((w Second).0.more, (w Second).0.is) refl in
       let size = size_of call k all (λ side. omega arith) ([], sym (append-nil (all Second))) in
-      (omega (arith, k.peak, size.0), omega (arith, k.slots, size.1))
+      (size.0, size.1)
 
   -- a store that holds no more, and has no more slots
   pub fits_kept : (after : Slots) → after.peak ≤ max store.peak (total store.lines) → length after.lines ≡ length store.lines → Fits call.tool call.old.store now ls (λ side. []) after
-  fits_kept after peak same all w =
-      let size = size_of call h all (λ side. omega (arith, (w side).1)) ((w Second).0.more, (w Second).0.is) in
-      (omega (arith, peak, h.peak, size), omega (arith, same, h.slots, size))
+  fits_kept after peak same all w = omega (arith, peak, same, size_of call h all (λ side. omega (arith, (w side).1)) ((w Second).0.more, (w Second).0.is))
 
 -- both inputs stand as they did where the first four slots are the same
 pub stand_still : (tool : Tool) {old now : Side → Reader} {place : Side → Sorted} {before after : Slots} {ls p : Side → Lines} {b : Side → Bound} → BothStand tool old now place before ls p b
@@ -100,15 +92,6 @@ stand_still tool {old} {now} {place} {before} {after} {ls} {p} {b} sides slots s
 
 module _ (call : Call) {was mid : Output} {p g : Side → Lines} {d : Side → Bound} {k : List ℕ} (m : Within call.tool was mid p g d k) where
   open call use {cmp, entries, key, laws, o, pairs, tool}
-
-  -- a group in front of lines of no lesser keys
-  front : (w : List ℕ → Bool) (r : Side → Lines) → ((side : Side) → EachKey (AtMost cmp k) (key side) (r side))
-      → by_keys tool w (λ side. g side ++ r side) ≡ cond (w k) (entries k (g First ++ with_key (key First) (r First) k)
-      (g Second ++ with_key (key Second) (r Second) k)) [] ++ by_keys tool w (others_of tool o k r)
-  front w r beyond =
-      let in_front = λ (side : Side). with_key-front tool o (key side) k (g side) (r side) (m.own side) in
-      least_first tool o w k (λ side. g side ++ r side) (λ side. at_most-same tool o (key side) k (g side) (r side) (m.own side) (beyond side)) (laws.alone.none k)
-      ∙ (λ i. cond (w k) (entries k ((in_front First).0 i) ((in_front Second).0 i)) [] ++ by_keys tool w (λ side. (in_front side).1 i))
 
   -- the pairs of a group come first, whichever lines of its key the first input still has
   starts_pairs : (f c s : Lines) → 0 < length s → (rest : Lines) × (entries k (f ++ c) s ≡ pairs k f s ++ rest)
@@ -125,7 +108,7 @@ module _ (call : Call) {was mid : Output} {p g : Side → Lines} {d : Side → B
         let none : with_key (key Second) (r Second) k ≡ [] = with_key-above tool o (key Second) k (r Second) (above (r Second) (c Second)) in
         let s = starts_pairs (g First) (with_key (key First) (r First) k) (g Second) some in (
           s.0 ++ by_keys tool w (others_of tool o k r),
-          front w r (λ side. m.beyond side (r side) (c side))
+          front_is tool o w k g r m.own (λ side. m.beyond side (r side) (c side)) (laws.alone.none k)
               ∙ (rw (wanted, none, append-nil (g Second), s.1) (append_assoc (pairs k (g First) (g Second)) s.0 (by_keys tool w (others_of tool o k r)))),
         );
   }
@@ -147,14 +130,15 @@ module _ (call : Call) {was mid : Output} {p g : Side → Lines} {d : Side → B
       }
     where
       -- no more lines of the key come
-      none : (r : Side → Lines) → EachComes tool d r → (side : Side) → with_key (key side) (r side) k ≡ []
+      none : (r : Side → Lines) → MayCome tool d r → (side : Side) → with_key (key side) (r side) k ≡ []
       none r c side = with_key-above tool o (key side) k (r side) (above side (r side) (c side))
 
       -- what is written of the group alone
       alone_is : by_keys tool all_keys g ≡ entries k (g First) (g Second)
-      alone_is = (λ i. by_keys tool all_keys (λ side. sym (append-nil (g side)) i)) ∙ front all_keys (λ side. []) (λ side. tt) ∙ (rw (append-nil (g First), append-nil (g Second), append-nil) refl)
+      alone_is = (λ i. by_keys tool all_keys (λ side. sym (append-nil (g side)) i))
+          ∙ front_is tool o all_keys k g (λ side. []) m.own (λ side. tt) (laws.alone.none k) ∙ (rw (append-nil (g First), append-nil (g Second), append-nil) refl)
 
-      splits_off : (w : List ℕ → Bool) (r : Side → Lines) → EachComes tool d r → by_keys tool w (λ side. g side ++ r side) ≡ by_keys tool w g ++ by_keys tool w r
+      splits_off : (w : List ℕ → Bool) (r : Side → Lines) → MayCome tool d r → by_keys tool w (λ side. g side ++ r side) ≡ by_keys tool w g ++ by_keys tool w r
       splits_off w r c =
           let nothing : entries_of tool r k ≡ [] = (λ i. entries k (none r c First i) (none r c Second i)) ∙ laws.alone.none k in
           front_first tool o w k g r m.own (λ side. m.beyond side (r side) (c side)) (laws.alone.none k)
@@ -168,22 +152,10 @@ module _ (call : Call) {was mid : Output} {p g : Side → Lines} {d : Side → B
 -- ---- where a group stands
 
 pub has_key : (s : Stand) (a b : List ℕ) → (is_head s && bytes_eq a b) ≡ true → (s ≡ Head) × (b ≡ a)
-has_key Head a b h = (refl, sym ((bytes_decides a b).0 h))
-has_key Ended a b h = cc
-has_key (Disorder n) a b h = cc
+has_key s a b h = grind (arith, bytes_decides a b)
 
 pub lacks_key : (s : Stand) (a b : List ℕ) → (is_head s && bytes_eq a b) ≡ false → s ≡ Head → ¬ (b ≡ a)
 lacks_key s a b h e same = false≢true (sym h ∙ (rw (e, same, (bytes_decides a a).1 refl) refl))
-
--- an input that goes on has its slots exchanged
-pub comes_places : {key : Key} {cmp : Cmp} {old new : Sorted} {was is : Reader} {before after : Slots} → Comes key cmp old new was is before after
-    → (new.standing ≡ old.previous) × (new.previous ≡ old.standing)
-comes_places (inl e) = rw e.place (refl, refl)
-comes_places (inr e) = rw e.place (refl, refl)
-
-exchanged : (s : Side) (old new : Sorted) → (new.standing ≡ old.previous) × (new.previous ≡ old.standing) → HasSlots s old → HasSlots s new
-exchanged s old new e (inl h) = inr (e.0 ∙ h.1, e.1 ∙ h.0)
-exchanged s old new e (inr h) = inl (e.0 ∙ h.1, e.1 ∙ h.0)
 
 -- a group with the line at which this input stands
 abbrev pub grown : State → (Side → Sorted) → Side → (Side → Lines) → Side → Lines
@@ -196,13 +168,6 @@ put_three P First x y z f g h a b First = a
 put_three P First x y z f g h a b Second = b Second
 put_three P Second x y z f g h a b First = b First
 put_three P Second x y z f g h a b Second = a
-
--- what is put behind one of two lists
-put_behind : (s : Side) (p g : Side → Lines) (l m : Lines) → l ≡ p s ++ m → (side : Side) → put s l (λ side. p side ++ g side) side ≡ p side ++ put s m g side
-put_behind First p g l m e First = e
-put_behind First p g l m e Second = refl
-put_behind Second p g l m e First = refl
-put_behind Second p g l m e Second = e
 
 -- the group g of the key k, whose entries so far were pushed; the lines that are kept end in front of this slot
 pub record Grouped (call : Call) (now : State) (place : Side → Sorted) (end : ℕ) (k : List ℕ) (g : Side → Lines) (kept : Lines) : Type 0 where
@@ -270,13 +235,8 @@ module _ {call : Call} {now : State} {place : Side → Sorted} {end : ℕ} {k : 
   pub within_more : Within tool old.out q.mid q.p (grown now place s g) q.d k
   within_more = record { merging = q.within.merging; clean = q.within.clean; own = own_more; beyond = q.within.beyond; under = q.within.under }
 
-  fails_in : (new : Reader) → new.held ≡ [] → new.ended ≡ false → FailsIn cmp (key s) k new (q.ls s)
-  fails_in new held ended = record {
-    held = held;
-    ended = ended;
-    rises = ap (fall cmp (key s)) (sym (append-nil (q.ls s))) ∙ at_head.begun.falling [];
-    last = ap (λ (l : Lines). last_or None (map (key s) l)) at_head.all ∙ last_push (key s) (q.p s ++ g s) x None ∙ ap (λ (l : List ℕ). Some l) l.is;
-  }
+  fails_in : (new : Reader) → new.held ≡ [] → new.ended ≡ false → Fails cmp (key s) new (q.ls s) (q.p s ++ grown now place s g s)
+  fails_in new held ended = record { held = held; ended = ended; all = with_head ∙ sym (ap (λ (l : Lines). q.p s ++ l) (put_same s (g s ++ x ∷ []) g)); last = Some (key s x); begun = rw put_same (rw with_head at at_head.begun) }
 
   pub passing : (new : Reader) (piece : List ℕ) → Reads (now.reader s) new piece → IsLine (now.reader s).ending piece → IsSound new
       → (side : Side) → GoneOf call now side (put s new now.reader side) (put s piece (λ t. []) side) (q.ls side) (q.p side ++ grown now place s g side) (q.d side)
@@ -295,7 +255,7 @@ module _ {call : Call} {now : State} {place : Side → Sorted} {end : ℕ} {k : 
           others = rw (put_other s new now.reader) (went q (other s));
           clean = clean;
           denied = rw e.stored q.keeps.denied;
-        }) (put_each (λ side (r : Reader). r.failed ≡ true → FailsIn cmp (key side) k r (q.ls side)) s new now.reader
+        }) (put_each (λ side (r : Reader). r.failed ≡ true → Fails cmp (key side) r (q.ls side) (q.p side ++ grown now place s g side)) s new now.reader
         (λ fail. ⊎_elim (λ h. fails_in new h.1 h.2) (λ h. not_failed call s (h.1 ∙ went q s) fail) e.cause) (λ side. not_failed call side (went q side)))
         (λ input pushed. tt) (rw e.stored (peak_line call q.keeps s (place s) (l.slots s) e.piece)))
     group_breaks Write moves = absurd moves
@@ -313,7 +273,7 @@ module _ {call : Call} {now : State} {place : Side → Sorted} {end : ℕ} {k : 
     gone_to = next_at tool o _ _ _ _ _ _ _ q.sides l.slots q.keeps.four s l.head reader next after comes
 
     pub next_slots : AllSlots (put s next place)
-    next_slots = put_each HasSlots s next place (exchanged s (place s) next (comes_places comes) (l.slots s)) l.slots
+    next_slots = put_each HasSlots s next place (slots_on s (l.slots s) comes) l.slots
 
     -- the lines of the other input, and the one before, stay where they are
     pub others_stay : (line after (place (other s)).standing ≡ line now.store (place (other s)).standing) × (line after (place (other s)).previous ≡ line now.store (place (other s)).previous)
@@ -327,7 +287,8 @@ module _ {call : Call} {now : State} {place : Side → Sorted} {end : ℕ} {k : 
     pub last_stays : line after next.previous ≡ head_of now place s
     last_stays =
         let n = gone_to in
-        rw ((comes_places comes).1, n.stored) (line_other now.store (place s).previous (place s).standing n.bytes (λ e. (own_slots s (place s) (l.slots s)).0 (sym e)))
+        let at : next.previous ≡ (place s).standing = ⊎_elim (λ e. ap (λ (p : Sorted). p.previous) e.place) (λ e. ap (λ (p : Sorted). p.previous) e.place) comes in
+        rw (at, n.stored) (line_other now.store (place s).previous (place s).standing n.bytes (λ e. (own_slots s (place s) (l.slots s)).0 (sym e)))
 
     says : next.same ≡ (is_head next.stand && bytes_eq k (key s (line after next.standing)))
     says =
@@ -358,7 +319,7 @@ module _ {call : Call} {now : State} {place : Side → Sorted} {end : ℕ} {k : 
             d = put s n.bound q.d;
             mid = q.mid;
             sides = subst (λ (f : Side → Lines). BothStand tool old.reader (put s reader now.reader) (put s next place) after (put s n.now_ls q.ls) f (put s n.bound q.d))
-                (λ i side. put_behind s q.p g (q.ls s) (g s ++ x ∷ []) with_head side i)
+                (λ i side. put_both (λ side (l m : Lines). l ≡ q.p side ++ m) s (q.ls s) (λ side. q.p side ++ g side) (g s ++ x ∷ []) g with_head refl side i)
                 (sides_on tool o _ _ _ _ _ _ _ q.sides l.slots q.keeps.four s l.head reader next after n);
             within = record {
               merging = q.within.merging;

@@ -158,22 +158,27 @@ module _ (tool : Tool) (o : IsKeyOrder tool.cmp) where
   at_most-same key k [] r e h = h
   at_most-same key k (x ∷ f) r e h = (rw e.0 (self_at_most tool.cmp o k), at_most-same key k f r e.1 h)
 
-  glued : (t : Bool) (all a b rest : Lines) → all ≡ a ++ b → cond t all [] ++ rest ≡ (cond t a [] ++ []) ++ (cond t b [] ++ rest)
-  glued t all a b rest e = grind (arith, append_assoc a b rest, append-nil a)
+  glued : (t : Bool) (all a b rest : Lines) → all ≡ a ++ b → cond t all [] ++ rest ≡ cond t a [] ++ (cond t b [] ++ rest)
+  glued t all a b rest e = grind (arith, append_assoc a b rest)
 
   -- Lines of the least key, and then lines of no lesser keys.
+  module _ (w : List ℕ → Bool) (k : List ℕ) (f r : Side → Lines) (s : (side : Side) → EachKey (λ x. x ≡ k) (tool.key side) (f side))
+      (a : (side : Side) → EachKey (AtMost tool.cmp k) (tool.key side) (r side)) (none : tool.entries k [] [] ≡ []) where
+    pub front_is : by_keys tool w (λ side. f side ++ r side)
+        ≡ cond (w k) (tool.entries k (f First ++ with_key (tool.key First) (r First) k) (f Second ++ with_key (tool.key Second) (r Second) k)) [] ++ by_keys tool w (others_of k r)
+    front_is =
+        let in_front = λ (side : Side). with_key-front (tool.key side) k (f side) (r side) (s side) in
+        least_first w k (λ side. f side ++ r side) (λ side. at_most-same (tool.key side) k (f side) (r side) (s side) (a side)) none
+        ∙ (λ i. cond (w k) (tool.entries k ((in_front First).0 i) ((in_front Second).0 i)) [] ++ by_keys tool w (λ side. (in_front side).1 i))
+
   pub front_first : (w : List ℕ → Bool) (k : List ℕ) (f r : Side → Lines) → ((side : Side) → EachKey (λ x. x ≡ k) (tool.key side) (f side))
       → ((side : Side) → EachKey (AtMost tool.cmp k) (tool.key side) (r side)) → tool.entries k [] [] ≡ []
       → tool.entries k (f First ++ with_key (tool.key First) (r First) k) (f Second ++ with_key (tool.key Second) (r Second) k) ≡ tool.entries k (f First) (f Second) ++ entries_of tool r k
       → by_keys tool w (λ side. f side ++ r side) ≡ by_keys tool w f ++ by_keys tool w r
   front_first w k f r s a none law =
-      let in_front = λ (side : Side). with_key-front (tool.key side) k (f side) (r side) (s side) in
-      let alone_in = λ (side : Side). simp append-nil at (with_key-front (tool.key side) k (f side) [] (s side)) in
-      let whole = least_first w k (λ side. f side ++ r side) (λ side. at_most-same (tool.key side) k (f side) (r side) (s side) (a side)) none in
-      let alone = least_first w k f (λ side. simp append-nil at (at_most-same (tool.key side) k (f side) [] (s side) tt)) none in
-      let first = alone ∙ (λ i. cond (w k) (tool.entries k ((alone_in First).0 i) ((alone_in Second).0 i)) [] ++ by_keys tool w (λ side. (alone_in side).1 i)) in
-      whole ∙ (λ i. cond (w k) (tool.entries k ((in_front First).0 i) ((in_front Second).0 i)) [] ++ by_keys tool w (λ side. (in_front side).1 i))
-      ∙ glued (w k) _ (tool.entries k (f First) (f Second)) (entries_of tool r k) (by_keys tool w (others_of k r)) law ∙ (λ i. sym first i ++ sym (least_first w k r a none) i)
+      let first = simp append-nil at (front_is w k f (λ side. []) s (λ side. tt) none) in
+      front_is w k f r s a none ∙ glued (w k) _ (tool.entries k (f First) (f Second)) (entries_of tool r k) (by_keys tool w (others_of k r)) law
+      ∙ (λ i. sym first i ++ sym (least_first w k r a none) i)
 
   -- no line above the key has it
   pub with_key-above : (key : Key) (k : List ℕ) (r : Lines) → EachKey (Above tool.cmp k) key r → with_key key r k ≡ []

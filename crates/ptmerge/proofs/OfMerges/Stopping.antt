@@ -1,17 +1,17 @@
 -- What a tool over two inputs has done when it stops.
 use Rattle.ptmerge.proofs.Common.{arith, inl, refl, ◌≡◌, ℕ, ◌≤◌, true, false, List, [], ◌++◌, Option, Some, None, Result, Ok, Err, length, max, sym, ◌∙◌, ap, subst, false≢true, append-nil, Given}
-use Rattle.ptmerge.proofs.Common.{whole_lines, Before, KeepsUp, Output, Reader, Reads, IsDone, IsSound, Slots, text, lines, IsLine, longest, given_of, came_of, came_set, cause_set, reads_trans}
-use Rattle.ptmerge.proofs.Common.{wrote_nothing, keeps_more, text-append, MergeFault, Read, Write, Side, First, Second, Sorted, Head, Ended, Disorder, Lines, Tool, by_keys, decided, disorder}
-use Rattle.ptmerge.proofs.Common.{disorder_of, fall, lines_of, merged, merged_entries, ordered_part, settled, up_to, State, Agree, Ends, IsMerge, IsUnread, IsWhole, ended_by, Cmp, Key, other, put}
-use Rattle.ptmerge.specs.declared.faults.MergeFault.TheVariants as faults
-use Rattle.ptmerge.proofs.OfMerges.Bounds.{Bound, Free, From, Over, Coming, Begun, Reaches, reaches_free, reaches_passed}
+use Rattle.ptmerge.proofs.Common.{whole_lines, Output, Reader, Reads, IsDone, IsSound, Slots, text, lines, IsLine, longest, given_of, came_of, came_set, cause_set, reads_trans, append_assoc, Wrote}
+use Rattle.ptmerge.proofs.Common.{wrote_trans, wrote_nothing, keeps_more, text-append, MergeFault, Read, Write, Side, First, Second, Sorted, Head, Ended, Disorder, Lines, Tool, by_keys, decided}
+use Rattle.ptmerge.proofs.Common.{disorder, disorder_of, fall, lines_of, merged, merged_entries, ordered_part, up_to, State, Agree, Ends, IsMerge, IsUnread, IsWhole, ended_by, Cmp, Key, other, put}
+use Rattle.ptmerge.proofs.OfMerges.Bounds.{Bound, Free, From, Over, Coming, Begun, Reaches, reaches_free, reaches_passed, Under}
+use Rattle.ptmerge.proofs.OfMerges.Working.{Back, Near, back, decided_of_passed, unsettled, works_off}
 use Rattle.ptmerge.proofs.OfMerges.Got.{Got, More, Known, got_known, got_lines, got_none, reads_nothing}
-use Rattle.ptmerge.proofs.OfMerges.Least.{EachKey-weaker}
+use Rattle.ptmerge.proofs.OfMerges.Least.{EachKey, EachKey-weaker}
 use Rattle.ptmerge.proofs.OfMerges.Orders.{IsKeyOrder}
-use Rattle.ptmerge.proofs.OfMerges.Passing.{Late, Merging, Seen, StopsAt, follows, seen_all}
+use Rattle.ptmerge.proofs.OfMerges.Passing.{Late, Merging, Seen, StopsAt, follows, past_none, seen_all}
 use Rattle.ptmerge.proofs.OfMerges.Splitting.{all_keys, under_fall}
 use Rattle.ptmerge.proofs.OfMerges.Standing.{Sided, Stands}
-use Rattle.ptmerge.proofs.OfMerges.Working.{Back, Near, back, decided_begins, unsettled, works_off}
+use Rattle.ptmerge.specs.declared.faults.MergeFault.TheVariants as faults
 
 abbrev pub state : (Side → Reader) → Output → Slots → State
 state reader out store = record { reader = reader; out = out; store = store }
@@ -67,6 +67,11 @@ pub record Fails (cmp : Cmp) (key : Key) (new : Reader) (ls p : Lines) : Type 0 
 abbrev pub FitsIn : Tool → Slots → Slots → (Side → Lines) → Type 0
 FitsIn tool before after ls = (after.peak ≤ max before.peak (tool.size ls)) × (length after.lines ≤ max (length before.lines) (tool.slots ls))
 
+-- it is so of all lists that go on with these lines and pieces of lines
+abbrev pub Fits : Tool → Slots → (Side → Reader) → (Side → Lines) → (Side → List ℕ) → Slots → Type 0
+Fits tool before now ls piece after = (all : Side → Lines)
+    → ((side : Side) → More (now side) (ls side) (all side) × (max (longest (ls side)) (length (piece side)) ≤ longest (all side))) → FitsIn tool before after all
+
 -- what a merge that stops so knows of what is to come
 abbrev pub Concludes : Tool → (Side → Bound) → Result (Unit {0}) MergeFault → Type 0
 Concludes tool b (Ok u) = (side : Side) → b side ≡ Over
@@ -74,12 +79,11 @@ Concludes tool b (Err (faults.Disorder side number)) = StopsAt tool b side numbe
 Concludes tool b other = Unit {0}
 
 module _ (tool : Tool) (o : IsKeyOrder tool.cmp) (old new : State) (now : Side → Reader) (piece : Side → List ℕ) (ls p : Side → Lines) (b : Side → Bound)
-    (g : (side : Side) → Gone tool.end tool.cmp (tool.key side) (old.reader side) (now side) (new.reader side) (piece side) (ls side) (p side) (b side))
-    (m : Merging tool b p old.out new.out) (late : Late tool b p old.out new.out) where
-  abbrev given : Side → Given
+    (g : (side : Side) → Gone tool.end tool.cmp (tool.key side) (old.reader side) (now side) (new.reader side) (piece side) (ls side) (p side) (b side)) where
+  abbrev pub given : Side → Given
   given side = given_of ((g side).got.given ++ piece side) (new.reader side)
 
-  seen_of : (all : Side → Lines) → ((side : Side) → More (now side) (ls side) (all side)) → Seen tool b p all
+  pub seen_of : (all : Side → Lines) → ((side : Side) → More (now side) (ls side) (all side)) → Seen tool b p all
   seen_of all w =
       let ahead = λ (side : Side). (g side).reaches.future (w side).more (follows (b side) (w side).more (λ e. (w side).done ((g side).over e))) in
       record {
@@ -102,43 +106,62 @@ module _ (tool : Tool) (o : IsKeyOrder tool.cmp) (old new : State) (now : Side �
   backs : (side : Side) → Back tool.end (given side) (p side)
   backs side = back _ _ _ _ _ _ (new.reader side) (g side).got.so_far (rw (g side).got.ending at (g side).line) (g side).sound.held (g side).near
 
-  future : (side : Side) → (r : Lines) × (ordered_part tool.cmp (tool.key side) (whole_lines tool.end (given side)) ≡ p side ++ r) × Coming tool.cmp (tool.key side) (b side) (late.tail side ++ r)
-  future side = (whole_seen.r side, whole_seen.parts side, late.coming side (whole_seen.r side) (whole_seen.coming side))
+  -- The entries of the lines front were pushed by a time at which no write had failed, and then these bytes; of those
+  -- that are passed, the lines tail come behind them.
+  module _ (front tail : Side → Lines) (bound : Side → Bound) (split : (side : Side) → p side ≡ front side ++ tail side)
+      (under : (of side : Side) → EachKey (Under tool.cmp (bound of)) (tool.key side) (p side)) (before : (of side : Side) → EachKey (Under tool.cmp (b of)) (tool.key side) (p side))
+      (coming : (side : Side) (r : Lines) → Coming tool.cmp (tool.key side) (b side) r → Coming tool.cmp (tool.key side) (bound side) (tail side ++ r))
+      {mid : Output} (clean : mid.faulted ≡ false) (wrote : Wrote old.out mid (text tool.end (by_keys tool all_keys front))) {bytes : List ℕ} (more : Wrote mid new.out bytes) where
+    future : (side : Side) → (r : Lines) × (ordered_part tool.cmp (tool.key side) (whole_lines tool.end (given side)) ≡ p side ++ r) × Coming tool.cmp (tool.key side) (bound side) (tail side ++ r)
+    future side = (whole_seen.r side, whole_seen.parts side, coming side (whole_seen.r side) (whole_seen.coming side))
 
-  -- what was decided two blocks earlier of one input was pushed
-  keeps : (of : Side) → KeepsUp {I = Unit {0}} (λ came. decided tool (put of (came tt) given)) (λ u. given of) old.out new.out (text tool.end (by_keys tool all_keys p))
-  keeps of = rw late.all at (keeps_more (λ came. decided tool (put of (came tt) given)) (λ u. given of) old.out late.mid (text tool.end (by_keys tool all_keys late.front))
-      (works_off tool o given late.front _ late.tail _ backs late.split m.under future of) late.wrote late.clean new.out late.bytes late.more)
+    pub halted : (done : Lines) → text tool.end (by_keys tool all_keys front) ++ bytes ≡ text tool.end done → {result : Result (Unit {0}) MergeFault} → Ends old new result
+        → ((all : Side → Lines) → ((side : Side) → More (now side) (ls side) (all side)) → (rest : Lines) × (merged_entries tool all ≡ done ++ rest))
+        → ((side : Side) → (new.reader side).failed ≡ true → Fails tool.cmp (tool.key side) (new.reader side) (ls side) (p side))
+        → ((input : Side → List ℕ) → Agree given input → IsWhole tool input (text tool.end done) result) → Fits tool old.store now ls piece new.store → IsMerge tool old new result
+    halted done is ends all failed whole fits = record {
+      given = given;
+      came = λ side. came_of (old.reader side) (new.reader side) ((g side).got.given ++ piece side)
+          (reads_trans _ _ _ _ _ (g side).got.goes.reads (g side).reads);
+      pushed = text tool.end done;
+      wrote = rw is at (wrote_trans _ _ _ _ _ clean wrote more);
+      ends = ends;
+      true_so_far = λ input a.
+          let e = all (lines_of tool input) (λ side. (input_lines input a side).0) in
+          record { rest = text tool.end e.0; is = ap (text tool.end) e.1 ∙ text-append tool.end done e.0 };
+      -- so was what is decided where the last line of an input is passed
+      sure = λ side fail clean_now.
+          let f = failed side fail in
+          let e = (known side).exact f.held f.ended ∙ f.all in
+          let b = decided_of_passed tool o (λ s. (new.reader s).ended) (λ s. whole_lines tool.end (given s)) side f.ended
+          (ap (fall tool.cmp (tool.key side)) (e ∙ sym (append-nil (p side))) ∙ f.begun.falling []) front (λ s. record {
+            rest = [];
+            tail = tail s ++ (future s).0;
+            same = append-nil (ordered_part tool.cmp (tool.key s) (whole_lines tool.end (given s))) ∙ (future s).1
+                ∙ ap (λ (l : Lines). l ++ (future s).0) (split s) ∙ append_assoc (front s) (tail s) (future s).0;
+            none_rest = tt;
+            none_tail = rw e (past_none tool.cmp o (tool.key side) (tool.key s) (bound s) (p side) (tail s ++ (future s).0) (under s side) (future s).2);
+          }) in
+          record { rest = b.rest ++ bytes; is = sym is ∙ ap (λ (l : List ℕ). l ++ bytes) b.is ∙ append_assoc (decided tool given) b.rest bytes };
+      -- what was decided two blocks earlier of one input was pushed
+      keeps_up = λ of clean_then. rw is at (keeps_more (λ came. decided tool (put of (came tt) given)) (λ u. given of) old.out mid (text tool.end (by_keys tool all_keys front))
+          (works_off tool o given front _ tail _ backs split under future of) wrote clean new.out bytes more);
+      -- nor was a disorder settled
+      ends_at_once = λ of clean_then.
+          let f = fall tool.cmp (tool.key (other of)) (whole_lines tool.end (given (other of))) in
+          unsettled tool o given front _ tail _ backs split under future of
+          (EachKey-weaker _ _ (λ k u. under_fall tool.cmp o (b (other of)) k f u (whole_seen.falling (other of))) _ _ (before (other of) of));
+      peak = λ input a. (fits (lines_of tool input) (input_lines input a)).0;
+      slots = λ input a. (fits (lines_of tool input) (input_lines input a)).1;
+      whole = whole;
+    }
 
-  -- nor was a disorder settled
-  ends_by : (of : Side) → (before : Before (given of)) × (settled tool (put of before.earlier given) ≡ false)
-  ends_by of =
-      let f = fall tool.cmp (tool.key (other of)) (whole_lines tool.end (given (other of))) in
-      unsettled tool o given late.front _ late.tail _ backs late.split m.under future of
-      (EachKey-weaker _ _ (λ k u. under_fall tool.cmp o (b (other of)) k f u (whole_seen.falling (other of))) _ _ (m.under (other of) of))
-
-  pub stops : (result : Result (Unit {0}) MergeFault) → Ends old new result
+  pub stops : Merging tool b p old.out new.out → Late tool b p old.out new.out → (result : Result (Unit {0}) MergeFault) → Ends old new result
       → ((side : Side) → (new.reader side).failed ≡ true → Fails tool.cmp (tool.key side) (new.reader side) (ls side) (p side)) → Concludes tool b result
-      → ((all : Side → Lines) → ((side : Side) → More (now side) (ls side) (all side) × (max (longest (ls side)) (length (piece side)) ≤ longest (all side)))
-      → FitsIn tool old.store new.store all) → IsMerge tool old new result
-  stops result ends failed concludes fits = record {
-    given = given;
-    came = λ side. came_of (old.reader side) (new.reader side) ((g side).got.given ++ piece side)
-        (reads_trans _ _ _ _ _ (g side).got.goes.reads (g side).reads);
-    pushed = text tool.end done;
-    wrote = m.wrote;
-    ends = ends;
-    true_so_far = λ input a. record { rest = text tool.end (later input a); is = all_of input a ∙ text-append tool.end done (later input a) };
-    sure = λ side fail clean.
-        let f = failed side fail in
-        decided_begins o m.under whole_seen (λ s. (new.reader s).ended) side f.last f.ended
-        ((known side).exact f.held f.ended ∙ f.all) f.begun;
-    keeps_up = λ side clean. keeps side;
-    ends_at_once = λ side clean. ends_by side;
-    peak = λ input a. (fits (lines_of tool input) (input_lines input a)).0;
-    slots = λ input a. (fits (lines_of tool input) (input_lines input a)).1;
-    whole = λ input a. by result concludes input a;
-  }
+      → Fits tool old.store now ls piece new.store → IsMerge tool old new result
+  stops m late result ends failed concludes fits = halted late.front late.tail b late.split m.under m.under late.coming late.clean late.wrote late.more _ late.all ends
+      (λ all w. let s = seen_of all w in (by_keys tool (up_to tool.cmp (disorder tool all)) s.r, seen_all o m s))
+      failed (by result concludes) fits
     where
       done : Lines
       done = by_keys tool all_keys p

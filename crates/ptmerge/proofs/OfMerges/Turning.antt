@@ -1,10 +1,9 @@
 -- How a merge goes on from a line that was passed, and how it stops there.
-use Rattle.ptmerge.proofs.Common.{◌≡◌, ◌≢◌, ⊎_elim, inl, inr, ℕ, ◌+◌, ◌≤◌, true, false, List, [], ◌∷◌, ◌++◌, Option, Some, None, Err, length, max, refl, sym, ◌∙◌, arith, is_lt, is_le, false≢true}
-use Rattle.ptmerge.proofs.Common.{append-nil, Output, Wrote, Reader, Reads, IsDone, IsSound, Slots, line, with_line, text, IsLine, longest, wrote_nothing, MergeFault, Read, Memory, Side, First}
+use Rattle.ptmerge.proofs.Common.{◌≡◌, ◌≢◌, ⊎_elim, inl, inr, ℕ, ◌+◌, ◌≤◌, true, false, List, [], ◌∷◌, ◌++◌, Option, Some, None, Err, length, refl, sym, ◌∙◌, arith, is_lt, is_le, false≢true}
+use Rattle.ptmerge.proofs.Common.{append-nil, Output, Wrote, Reader, Reads, IsDone, IsSound, Slots, line, with_line, text, IsLine, wrote_nothing, MergeFault, Read, Memory, Side, First}
 use Rattle.ptmerge.proofs.Common.{Second, Sorted, Stand, Head, Ended, Disorder, Lines, Tool, Fall, by_keys, disorder_of, fall, with_key, State, IsMerge, Cmp, Key, CannotRead, Comes, HasSlots, slot_of}
 use Rattle.ptmerge.proofs.Common.{put, other, GoesBefore, IsDecided, IsNamed, last_key}
 use Rattle.ptmerge.proofs.OfMerges.Bounds.{Bound, From, Fallen, Over, Coming, Falling, FallFrom, Under, Begun}
-use Rattle.ptmerge.proofs.OfMerges.Got.{More}
 use Rattle.ptmerge.proofs.OfMerges.Least.{EachKey, EachKey-weaker, with_key-above}
 use Rattle.ptmerge.proofs.OfMerges.Orders.{IsKeyOrder, Above, above_at_most, above_not_le, above_up, greater_flips, is_greater}
 use Rattle.ptmerge.proofs.OfMerges.Pairs.{put_both, put_each, put_other, put_same, side_case}
@@ -12,7 +11,7 @@ use Rattle.ptmerge.proofs.OfMerges.Passing.{IsFront, Late, Merging, StopsAt, fro
 use Rattle.ptmerge.proofs.OfMerges.Slotted.{line_other}
 use Rattle.ptmerge.proofs.OfMerges.Splitting.{all_keys, none_wanted}
 use Rattle.ptmerge.proofs.OfMerges.Standing.{Sided, Stands, Next, Passed, goes_next, passed, sided_keeps}
-use Rattle.ptmerge.proofs.OfMerges.Stopping.{FitsIn, Fails, Gone, state, stops}
+use Rattle.ptmerge.proofs.OfMerges.Stopping.{Fails, Fits, Gone, state, stops}
 
 -- ---- slots
 
@@ -186,11 +185,6 @@ module _ (tool : Tool) (o : IsKeyOrder tool.cmp) (old now : State) (ls q : Side 
   abbrev pub GoneOf : Side → Reader → List ℕ → Type 0
   GoneOf side new piece = Gone tool.end tool.cmp (tool.key side) (old.reader side) (now.reader side) new piece (ls side) (q side) (b side)
 
-  -- what the store held, for all lists that go on with these lines and pieces of lines
-  abbrev pub Holds : Slots → (Side → List ℕ) → Type 0
-  Holds after piece = (all : Side → Lines) → ((side : Side) → More (now.reader side) (ls side) (all side)
-      × (max (longest (ls side)) (length (piece side)) ≤ longest (all side))) → FitsIn tool old.store after all
-
   fails_not : (side : Side) (r : Reader) → r.failed ≡ (old.reader side).failed → r.failed ≡ true → Fails tool.cmp (tool.key side) r (ls side) (q side)
   fails_not side r same fail = absurd (false≢true (sym (same ∙ unfailed side) ∙ fail))
 
@@ -202,7 +196,7 @@ module _ (tool : Tool) (o : IsKeyOrder tool.cmp) (old now : State) (ls q : Side 
       → ((r : Reader) (piece : List ℕ) → Reads (now.reader s) r piece → IsLine (now.reader s).ending piece → IsSound r → GoneOf s r piece) → ls s ≡ q s
       → (last : Option (List ℕ)) → Begun tool.cmp (tool.key s) (q s) last
       → GoneOf (other s) (now.reader (other s)) [] → now.store.denied ≡ false
-      → ((piece : List ℕ) → Holds (with_line now.store place.previous piece) (put s piece (λ side. []))) → CannotRead s place (now.reader s) new now.store after fault
+      → ((piece : List ℕ) → Fits tool old.store now.reader ls (put s piece (λ side. [])) (with_line now.store place.previous piece)) → CannotRead s place (now.reader s) new now.store after fault
       → IsMerge tool old (record { reader = put s new now.reader; out = now.out; store = after }) (Err fault)
   breaks s place new after (Read file) gone all last begun rest roomy fits moves =
       let e = moves.0 in

@@ -4,11 +4,11 @@ use Rattle.ptmerge.proofs.Common.{◌≡◌, ◌⊎◌, ⊎_elim, inl, inr, ℕ,
 use Rattle.ptmerge.proofs.Common.{append-nil, append_cancel_right, Given, whole_lines, Before, Reader, text, ended_lines, IsLine, AreLines, given_of, ended_of_text, text_push, the_lines, Lines, fall}
 use Rattle.ptmerge.proofs.Common.{is_below, ordered_part, Cmp, Key, Bool, filter-append, filter, Begins, text-append, Side, First, Second, Tool, by_keys, decided_entries, disorder, disorder_of}
 use Rattle.ptmerge.proofs.Common.{is_decided, is_settled, other, WorksOff, decided, settled, put, take, length_push, Fall}
-use Rattle.ptmerge.proofs.OfMerges.Bounds.{fall_after, fall_is, falls, ordered_after, ordered_is, Begun, Bound, FallFrom, Under, Coming}
+use Rattle.ptmerge.proofs.OfMerges.Bounds.{fall_after, fall_is, falls, ordered_after, ordered_is, Bound, FallFrom, Under, Coming}
 use Rattle.ptmerge.proofs.OfMerges.Got.{Far}
 use Rattle.ptmerge.proofs.OfMerges.Least.{EachKey, EachKey-all, EachKey-weaker}
 use Rattle.ptmerge.proofs.OfMerges.Orders.{IsKeyOrder, AtMost, at_most_trans}
-use Rattle.ptmerge.proofs.OfMerges.Passing.{not_below, Seen, down_decided, last_has, not_decided, past_none}
+use Rattle.ptmerge.proofs.OfMerges.Passing.{not_below, down_decided, last_has, not_decided, past_none}
 use Rattle.ptmerge.proofs.OfParts.PartsOfKeys.{by_keys_kept}
 use Rattle.ptmerge.proofs.OfMerges.Splitting.{all_keys, down_begins}
 use Rattle.ptmerge.proofs.OfMerges.Pairs.{put_each, put_other, put_same}
@@ -201,19 +201,6 @@ module _ (tool : Tool) (o : IsKeyOrder tool.cmp) (ended : Side → Bool) (ls : S
   not_settled up =
       of_other tool.cmp of (λ side. fall tool.cmp (tool.key side) (ls side)) (is_settled tool ended ls) rises refl
       (λ d is. undecided d.last_key (below_last tool.cmp o (tool.key of) (ls of) d.last_key (rw is at up)))
-
--- all lines that came of this input are passed, and more may come
-pub decided_begins : {tool : Tool} (o : IsKeyOrder tool.cmp) {b : Side → Bound} {p ls : Side → Lines} → ((of side : Side) → EachKey (Under tool.cmp (b of)) (tool.key side) (p side))
-    → Seen tool b p ls → (ended : Side → Bool) (of : Side) (last : Option (List ℕ)) → ended of ≡ false → ls of ≡ p of → Begun tool.cmp (tool.key of) (p of) last
-    → Begins (text tool.end (decided_entries tool ended ls)) (text tool.end (by_keys tool all_keys p))
-decided_begins {tool} o {b} {p} {ls} under s ended of last going all begun =
-    decided_of_passed tool o ended ls of going (ap (fall tool.cmp (tool.key of)) (all ∙ sym (append-nil (p of))) ∙ begun.falling []) p (λ side. record {
-      rest = [];
-      tail = s.r side;
-      same = append-nil (ordered_part tool.cmp (tool.key side) (ls side)) ∙ s.parts side;
-      none_rest = tt;
-      none_tail = rw all (past_none tool.cmp o (tool.key of) (tool.key side) (b side) (p of) (s.r side) (under side of) (s.coming side));
-    })
 
 -- ---- what was decided two blocks earlier
 
