@@ -2,10 +2,9 @@
 pub mod Amid
 pub mod EntryLemmas
 pub mod FieldSpans
-pub mod GatherTurns
 pub mod GroupSlots
 pub mod GroupStops
 pub mod GroupTurns
 pub mod Lanes
-pub mod PairTurns
+pub mod PhaseTurns
 pub mod Turns
