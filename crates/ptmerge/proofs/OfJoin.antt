@@ -1,11 +1,8 @@
 -- `join`.
 pub mod Amid
-pub mod EntryLemmas
 pub mod FieldSpans
-pub mod GatherTurns
 pub mod GroupSlots
 pub mod GroupStops
 pub mod GroupTurns
-pub mod Lanes
-pub mod PairTurns
+pub mod PhaseTurns
 pub mod Turns

@@ -1,27 +1,24 @@
 -- What is known at each turn of `join`, and what comes of the turn.
-use Rattle.ptmerge.proofs.Common.{◌≡◌, ℕ, Bool, true, false, cond, List, [], ◌∷◌, ◌++◌, map, refl, ap, sym, ◌∙◌, inl, inr, ◌+◌, ◌*◌, ◌≤◌, ◌<◌, None, Result, Ok, Err, length, subst, arith, append-nil}
+use Rattle.ptmerge.proofs.Common.{Comes, ◌≡◌, ℕ, Bool, true, false, cond, List, [], ◌∷◌, ◌++◌, map, refl, ap, sym, ◌∙◌, inl, inr, ◌+◌, ◌*◌, ◌≤◌, ◌<◌, Result, Ok, Err, length, subst, arith, append-nil}
 use Rattle.ptmerge.proofs.Common.{flat_map-append, bytes_decides, Join, Side, First, Second, alone1, alone2, alone_entry, entry, fields, join_by, join_entries, join_key, pairs_of, Lines, by_keys, Cmp}
-use Rattle.ptmerge.proofs.Common.{Key, Output, Wrote, Reader, IsSound, Slots, line, total, text, MergeFault, Sorted, Head, Ended, AddsLeast, Gathered, Gathers, IsGroup, IsGroupCleared, end_slot}
-use Rattle.ptmerge.proofs.Common.{first_slot, group, CanGoOn, HasPassed, StandsAt, State, IsMerge, IsReady, IsUnread, seen, HasSlots, both, put, AreEqual, CannotStart, IsAlone, IsDecided, IsLent}
-use Rattle.ptmerge.proofs.Common.{IsPlaced, Starts, inputs, IsCleared}
+use Rattle.ptmerge.proofs.Common.{Key, Output, Wrote, Reader, IsSound, Slots, line, text, MergeFault, Sorted, Head, Ended, AddsLeast, Gathered, Gathers, IsGroup, IsGroupCleared, end_slot, first_slot}
+use Rattle.ptmerge.proofs.Common.{group, CanGoOn, HasPassed, StandsAt, State, IsMerge, IsReady, IsUnread, seen, HasSlots, both, put, AreEqual, CannotStart, IsAlone, IsDecided, IsLent, IsPlaced}
+use Rattle.ptmerge.proofs.Common.{Starts, inputs, IsCleared}
+use Rattle.ptmerge.proofs.OfComm.CommTurns.{IsOpened as Opened, comes_slots, passes_slots, readable_of, same_state, slots_of, unfailed_of, wrote_as}
+use Rattle.ptmerge.proofs.OfJoin.PhaseTurns.{Between, Gathering, Pairing, starts_between, gather_slots}
 use Rattle.std.specs.List.{flat_map}
 use Rattle.ptmerge.proofs.OfJoin.GroupTurns.{IsPairing, head_of, Call, NotPassed, moved}
 use Rattle.ptmerge.proofs.OfMerges.Splitting.{all_keys}
 use Rattle.ptmerge.proofs.OfMerges.Turning.{IsLineByLine, alone}
 use Rattle.ptmerge.specs.declared.tools.join.Phase.{Phase}
-use Rattle.ptmerge.proofs.OfComm.CommTurns.{comes_slots, passes_slots, readable_of, same_state, slots_of, unfailed_of, wrote_as}
-use Rattle.ptmerge.proofs.OfJoin.GatherTurns.{Gathering, gather_slots}
 use Rattle.ptmerge.proofs.OfJoin.GroupSlots.{end_within, pair_of}
-use Rattle.ptmerge.proofs.OfJoin.PairTurns.{Between, starts_between, Pairing}
 use Rattle.ptmerge.proofs.OfMerges.GoingOn.{left, less, lent_on, place_is, placed_keeps}
 use Rattle.ptmerge.proofs.OfMerges.Orders.{IsKeyOrder}
 use Rattle.ptmerge.proofs.OfMerges.Pairs.{both_each}
 use Rattle.ptmerge.proofs.OfMerges.Starting.{starts_badly, starts_well, start_refused, start_slots}
+use Rattle.ptmerge.proofs.OfJoin.PhaseTurns as phase_turns
 use Rattle.ptmerge.specs.declared.faults.MergeFault.TheVariants as faults
 use Rattle.ptmerge.specs.declared.tools.join.Phase.TheVariants as phases
-use Rattle.ptmerge.proofs.OfComm.CommTurns as comm_turns
-use Rattle.ptmerge.proofs.OfJoin.GatherTurns as gather_turns
-use Rattle.ptmerge.proofs.OfJoin.PairTurns as pair_turns
 
 -- ---- the entries, line by line and pair by pair
 
@@ -67,73 +64,47 @@ module _ (job : Join) (cmp : Cmp) (key : Side → Key) where
 -- ---- the phases
 
 -- what is known in a phase
-pub record Phased (call : Call) (phase : Phase) (now : State) (place : Side → Sorted) (end : ℕ) : Type 0 where
-  pub between : phase ≡ phases.Between → Between call now place × (end ≡ 4)
-  pub gathering : phase ≡ phases.Gathering → Gathering call now place end
-  pub pairing : phase ≡ phases.Pairing → Pairing call now place end
-  -- the slots of the group are there
-  pub end_in : (4 ≤ end) × (end ≤ length now.store.lines)
-  pub least : length call.old.store.lines ≤ length now.store.lines
-
-module _ {call : Call} {phase : Phase} {now : State} {place : Side → Sorted} {end : ℕ} where
-  in_between : phase ≡ phases.Between → Between call now place → end ≡ 4 → Phased call phase now place end
-  in_between is r at = record { between = λ e. (r, at); gathering = λ e. cc; pairing = λ e. cc; end_in = (omega (arith, at), omega (arith, at, r.keeps.four)); least = r.keeps.least }
-
-  in_gathering : phase ≡ phases.Gathering → Gathering call now place end → Phased call phase now place end
-  in_gathering is r = record { between = λ e. cc; gathering = λ e. r; pairing = λ e. cc; end_in = (omega (arith, r.q.at), end_within r.q.keeps r.q.at); least = r.q.keeps.least }
-
-  in_pairing : phase ≡ phases.Pairing → Pairing call now place end → Phased call phase now place end
-  in_pairing is r = record { between = λ e. cc; gathering = λ e. cc; pairing = λ e. r; end_in = (omega (arith, r.q.at), end_within r.q.keeps r.q.at); least = r.q.keeps.least }
+abbrev pub Phased : Call → Phase → State → (Side → Sorted) → ℕ → Type 0
+Phased call phases.Between now place end = Between call now place × (end ≡ 4)
+Phased call phases.Gathering now place end = Gathering call now place end
+Phased call phases.Pairing now place end = Pairing call now place end
 
 abbrev pub rank : Phase → ℕ
 rank phases.Between = 1
-rank phases.Gathering = 0
-rank phases.Pairing = 0
+rank p = 0
 
 rank_few : (p : Phase) → rank p ≤ 1
 rank_few phases.Between = omega arith
 rank_few p = omega arith
 
--- less is left to do, whatever the phases
-pub falls : (p q : Phase) {a b : ℕ} → a < b → 3 * a + rank p < 3 * b + rank q
-falls p q less = omega (arith, less, rank_few p)
-
--- a group is gathered next
-pub opens_less : {q : Phase} (n : ℕ) → q ≡ phases.Between → 3 * n + rank phases.Gathering < 3 * n + rank q
-opens_less n is = omega (arith, ap rank is)
-
 -- ---- a turn
 
 -- what is known before the start
 pub record IsOpened (job : Join) (cmp : Cmp) (key : Side → Key) (old : State) : Type 0 where
-  pub o : IsKeyOrder cmp
+  pub w : Opened (join_by job cmp key) old
   pub keys : (side : Side) (x : List ℕ) → key side x ≡ join_key job side x
-  pub sound : (side : Side) → IsSound (old.reader side)
-  pub readable : (side : Side) → (old.reader side).fault ≡ None
-  pub unfailed : (side : Side) → (old.reader side).failed ≡ false
-  pub ending : (side : Side) → (old.reader side).ending ≡ job.end
-  pub writable : old.out.faulted ≡ false
-  pub allowed : old.store.denied ≡ false
-  pub empty : total old.store.lines ≡ 0
 
-pub opened : (job : Join) (cmp : Cmp) (key : Side → Key) (first second : Reader) (out : Output) (store : Slots) → IsKeyOrder cmp
+pub opened : (job : Join) (cmp : Cmp) (key : Side → Key) {first second : Reader} (out : Output) {store : Slots} → IsKeyOrder cmp
     → ((side : Side) (x : List ℕ) → key side x ≡ join_key job side x) → IsReady first second store → IsSound first × IsSound second
     → (first.ending ≡ job.end) × (second.ending ≡ job.end) → out.faulted ≡ false → IsOpened job cmp key (seen first second out store)
-opened job cmp key first second out store o keys ready sound ending writable = record {
-  o = o;
+opened job cmp key {first} {second} out {store} o keys ready sound ending writable = record {
+  w = record {
+    o = o;
+    fits = λ ls. (omega arith, omega arith);
+    ending = both_each (λ (side : Side) (r : Reader). r.ending ≡ job.end) first second ending.0 ending.1;
+    sound = both_each (λ (side : Side) (r : Reader). IsSound r) first second sound.0 sound.1;
+    readable = readable_of first second store ready;
+    unfailed = unfailed_of first second store ready sound;
+    writable = writable;
+    allowed = ready.allowed;
+    empty = ready.empty;
+  };
   keys = keys;
-  sound = both_each (λ (side : Side) (r : Reader). IsSound r) first second sound.0 sound.1;
-  readable = readable_of first second store ready;
-  unfailed = unfailed_of first second store ready sound;
-  ending = both_each (λ (side : Side) (r : Reader). r.ending ≡ job.end) first second ending.0 ending.1;
-  writable = writable;
-  allowed = ready.allowed;
-  empty = ready.empty;
 }
 
 -- the call
 abbrev pub call_of : {job : Join} {cmp : Cmp} {key : Side → Key} {old : State} → IsOpened job cmp key old → Call
-call_of {job} {cmp} {key} {old} a = record { tool = join_by job cmp key; o = a.o; pairs = pairs_of job; laws = join_pairs job cmp key; old = old; unfailed = a.unfailed }
+call_of {job} {cmp} {key} {old} a = record { tool = join_by job cmp key; o = a.w.o; pairs = pairs_of job; laws = join_pairs job cmp key; old = old; unfailed = a.w.unfailed }
 
 -- what is known at a turn
 pub record IsTurn (job : Join) (cmp : Cmp) (key : Side → Key) (old : State) (phase : Phase) (now : State) (one two : Sorted) (end : ℕ) : Type 0 where
@@ -150,29 +121,27 @@ Leaves job cmp key old new result = record { merged : IsMerge (join_by job cmp k
 -- ---- the start
 
 module _ {job : Join} {cmp : Cmp} {key : Side → Key} {old : State} (a : IsOpened job cmp key old) where
-  fresh : comm_turns.IsOpened (join_by job cmp key) old
-  fresh = record
-      { o = a.o; fits = λ ls. (omega arith, omega arith); ending = a.ending; sound = a.sound; readable = a.readable; unfailed = a.unfailed; writable = a.writable; allowed = a.allowed; empty = a.empty }
+  open a.w use {o, fits, ending, sound, readable, unfailed, writable, allowed, empty}
 
   pub begins : {first second : Reader} {store : Slots} {one two : Sorted} → Starts key cmp (both one two) (record { reader = old.reader; store = old.store }) (inputs first second store)
       → IsPlaced key one two store → IsLent one first × IsLent two second → IsTurn job cmp key old phases.Between (seen first second old.out store) one two 4
   begins {first} {second} {store} {one} {two} starts placed lent = record {
     opened = a;
-    phased = in_between refl (starts_between (starts_well fresh (inputs first second store) (both one two) placed.first starts)) refl;
+      phased = (starts_between (starts_well a.w (inputs first second store) (both one two) placed.first starts), refl);
     placed = placed;
     lent = elim [ First ↦ lent.0 | Second ↦ lent.1 ];
-    clean = a.writable;
+    clean = writable;
   }
 
   pub start_stops : {first second : Reader} {store : Slots} {fault : MergeFault}
       → CannotStart key cmp (record { reader = old.reader; store = old.store }) (record { reader = both first second; store = store }) fault
       → {r : Result (Unit {0}) MergeFault} → r ≡ Err fault → Leaves job cmp key old (seen first second old.out store) r
   start_stops {first} {second} {store} {fault} cannot is_fault =
-      let adds = start_slots fresh cannot in
+      let adds = start_slots a.w cannot in
       rw is_fault (record {
-        merged = starts_badly fresh cannot;
-        refused = start_refused fresh cannot;
-        slots = record { least = adds.least; all = λ allowed. omega (arith, adds.all allowed) };
+        merged = starts_badly a.w cannot;
+        refused = start_refused a.w cannot;
+        slots = record { least = adds.least; all = λ fine. omega (arith, adds.all fine) };
       })
 
 module _ {job : Join} {cmp : Cmp} {key : Side → Key} {old : State} {phase : Phase} {now : State} {one two : Sorted} {end : ℕ}
@@ -180,12 +149,21 @@ module _ {job : Join} {cmp : Cmp} {key : Side → Key} {old : State} {phase : Ph
   slots : (side : Side) → HasSlots side (both one two side)
   slots = slots_of one two now.store t.placed
 
+  -- the slots of the group are there, and none went
+  bounds : (p : Phase) → Phased (call_of t.opened) p now (both one two) end → ((4 ≤ end) × (end ≤ length now.store.lines)) × (length old.store.lines ≤ length now.store.lines)
+  bounds phases.Between r = ((omega (arith, r.1), omega (arith, r.1, r.0.keeps.four)), r.0.keeps.least)
+  bounds phases.Gathering r = ((omega (arith, r.q.at), end_within r.q.keeps r.q.at), r.q.keeps.least)
+  bounds phases.Pairing r = ((omega (arith, r.q.at), end_within r.q.keeps r.q.at), r.q.keeps.least)
+
+  pub end_in : (4 ≤ end) × (end ≤ length now.store.lines)
+  end_in = (bounds phase t.phased).0
+
   leaves : {new : State} {fault : Result (Unit {0}) MergeFault} {r : Result (Unit {0}) MergeFault} → r ≡ fault → length now.store.lines ≤ length new.store.lines
       → IsMerge (join_by job cmp key) old new fault → Leaves job cmp key old new r
   leaves is more merged = record {
     merged = rw is merged;
     refused = λ few. absurd (omega (arith, few, more, t.placed.slots));
-    slots = record { least = omega (arith, more, t.phased.least); all = λ allowed. omega (arith, more, t.placed.slots) };
+    slots = record { least = omega (arith, more, (bounds phase t.phased).1); all = λ allowed. omega (arith, more, t.placed.slots) };
   }
 
   went_on : {next : Phase} (s : Side) {one2 two2 : Sorted} {reader : Reader} {after : Slots} {new : Output} {to : ℕ} → CanGoOn key s one two one2 two2 reader after new
@@ -198,15 +176,20 @@ module _ {job : Join} {cmp : Cmp} {key : Side → Key} {old : State} {phase : Ph
     clean = on.clean;
   }
 
+  -- less is left to do, whatever the phases
+  pub falls : (s : Side) (next : Phase) {one2 two2 : Sorted} {reader : Reader} {made after : Slots} {out : Output} → (both one two s).stand ≡ Head
+      → Comes (key s) cmp (both one two s) (both one2 two2 s) (now.reader s) reader now.store made → CanGoOn key s one two one2 two2 reader after out
+      → 3 * left (put s reader now.reader) one2 two2 + rank next < 3 * left now.reader one two + rank phase
+  falls s next {one2} {two2} {reader} {made} head came on = omega (arith, less (key s) cmp s one two one2 two2 now.reader reader now.store made head on.others came, rank_few next)
+
   pub stands_at : (s : Side) → (both one two s).stand ≡ Head → StandsAt key s one two (now.reader s) now.store
   stands_at s head = record { placed = t.placed; head = head; lent = t.lent s }
 
   -- ---- between groups
 
   module _ (is : phase ≡ phases.Between) where
-    pub alone_less : {s : Side} {one2 two2 : Sorted} {reader : Reader} {after : Slots} {new : Output} → (both one two s).stand ≡ Head
-        → HasPassed key cmp s one two one2 two2 (now.reader s) reader now.store after new → left (put s reader now.reader) one2 two2 < left now.reader one two
-    alone_less {s} {one2} {two2} {reader} {after} head h = less _ _ s one two one2 two2 _ _ _ _ head h.on.others h.came
+    between : Between (call_of t.opened) now (both one two) × (end ≡ 4)
+    between = rw is at t.phased
 
     module _ {s : Side} (step : IsAlone cmp key (both one two) now.store s) {new : Output} {e : ℕ} (ends : e ≡ job.end)
         (pushed : Wrote now.out new (text e (alone_entry job s (head_of now (both one two) s)))) where
@@ -215,99 +198,86 @@ module _ {job : Join} {cmp : Cmp} {key : Side → Key} {old : State} {phase : Ph
 
       pub alone_on : {one2 two2 : Sorted} {reader : Reader} {after : Slots} → HasPassed key cmp s one two one2 two2 (now.reader s) reader now.store after new
           → IsTurn job cmp key old phase (moved now s reader new after) one2 two2 end
-      alone_on h = went_on s h.on (in_between is (pair_turns.alone_on (t.phased.between is).0 t.clean slots step wrote h.came) (t.phased.between is).1)
+      alone_on h = went_on {next = phase} s h.on (rw is (phase_turns.alone_on between.0 t.clean slots step wrote h.came, between.1))
 
       pub alone_stops : {reader : Reader} {after : Slots} {fault : MergeFault} {r : Result (Unit {0}) MergeFault} → r ≡ Err fault
           → NotPassed now s (both one two s) reader after new fault → Leaves job cmp key old (moved now s reader new after) r
       alone_stops {fault = fault} is_fault h = leaves is_fault (omega (arith, passes_slots (key s) cmp s (both one two s) (both one two s) _ _ _ _ _ fault h))
-          (pair_turns.alone_stops (t.phased.between is).0 t.clean slots step wrote h)
+          (phase_turns.alone_stops between.0 t.clean slots step wrote h)
 
     pub opens : AreEqual cmp key (both one two) now.store → IsTurn job cmp key old phases.Gathering now one two end
-    opens step = record {
-      opened = t.opened;
-      phased = in_gathering refl (rw (t.phased.between is).1 (gather_turns.opens (t.phased.between is).0 slots t.clean step));
-      placed = t.placed;
-      lent = t.lent;
-      clean = t.clean;
-    }
+    opens step = record { opened = t.opened; phased = rw between.1 (phase_turns.opens between.0 t.clean step); placed = t.placed; lent = t.lent; clean = t.clean }
+
+    -- the lines of a key are gathered next
+    pub opens_less : 3 * left now.reader one two + rank phases.Gathering < 3 * left now.reader one two + rank phase
+    opens_less = omega (arith, ap rank is)
 
     pub ended : {after : Slots} → IsCleared now.store after → ((side : Side) → (both one two side).stand ≡ Ended) → Leaves job cmp key old (record now { store = after }) (Ok tt)
-    ended clear step = leaves refl (omega (arith, clear.slots)) (pair_turns.ended (t.phased.between is).0 t.clean clear t.opened.sound t.opened.readable step)
+    ended clear step = leaves refl (omega (arith, clear.slots)) (phase_turns.ended between.0 t.clean clear t.opened.w.sound t.opened.w.readable step)
 
     pub fallen : {after : Slots} → IsCleared now.store after → {s : Side} {n : ℕ} → IsDecided cmp key (both one two) now.store s n
         → Leaves job cmp key old (record now { store = after }) (Err (faults.Disorder s n))
-    fallen clear step = leaves refl (omega (arith, clear.slots)) (pair_turns.fallen (t.phased.between is).0 t.clean clear step)
+    fallen clear step = leaves refl (omega (arith, clear.slots)) (phase_turns.fallen between.0 t.clean clear step)
 
   -- ---- while a group is gathered
 
   module _ (is : phase ≡ phases.Gathering) where
-    pub gather_stands : StandsAt key Second one two (now.reader Second) now.store
-    gather_stands = stands_at Second (t.phased.gathering is).head2
+    gathering : Gathering (call_of t.opened) now (both one two) end
+    gathering = rw is at t.phased
 
-    pub gather_less : {one2 two2 : Sorted} {reader : Reader} {after : Slots} {out : Output} {to : ℕ}
-        → Gathered (key Second) cmp two two2 (now.reader Second) reader now.store after end to → CanGoOn key Second one two one2 two2 reader after out
-        → left (put Second reader now.reader) one2 two2 < left now.reader one two
-    gather_less {one2} {two2} {reader} h on = less _ _ Second one two one2 two2 now.reader _ _ _ (t.phased.gathering is).head2 on.others h.came
+    pub gather_stands : StandsAt key Second one two (now.reader Second) now.store
+    gather_stands = stands_at Second (gathering.heads Second).0
 
     module _ {out : Output} (sent : Wrote now.out out []) where
-      gathering_sent : Gathering (call_of t.opened) (record now { out = out }) (both one two) end
-      gathering_sent = gather_turns.gathering_sent (t.phased.gathering is) slots t.clean sent
-
       pub gather_stops : {two2 : Sorted} {reader : Reader} {after : Slots} {fault : MergeFault} {r : Result (Unit {0}) MergeFault} → r ≡ Err fault
           → Gathers (key Second) cmp two two2 (now.reader Second) reader now.store after out end (Err fault) → Leaves job cmp key old (moved now Second reader out after) r
       gather_stops {reader = reader} is_fault (inl e) = leaves is_fault (omega (arith, ap (λ (z : Slots). length z.lines) e.1.store))
-          (same_state _ _ Second now _ reader _ _ e.0 e.1 (gather_turns.not_sent (t.phased.gathering is) slots t.clean sent e.1.faulted))
-      gather_stops {fault = fault} is_fault (inr e) = leaves is_fault (gather_slots fault e.1) (gather_turns.not_gathered gathering_sent slots e.0 fault e.1)
+          (same_state _ _ Second now _ reader _ _ e.0 e.1 (phase_turns.not_sent gathering slots t.clean sent e.1.faulted))
+      gather_stops {fault = fault} is_fault (inr e) = leaves is_fault (gather_slots fault e.1) (phase_turns.not_gathered gathering slots t.clean sent e.0 fault e.1)
 
       module _ {one2 two2 : Sorted} {reader : Reader} {after : Slots} {to : ℕ}
           (h : Gathered (key Second) cmp two two2 (now.reader Second) reader now.store after end to) (on : CanGoOn key Second one two one2 two2 reader after out) where
         pub gathers_on : two2.same ≡ true → IsTurn job cmp key old phase (moved now Second reader out after) one2 two2 to
-        gathers_on same = went_on Second on (in_gathering is (gather_turns.gathers_on gathering_sent slots h same))
+        gathers_on same = went_on {next = phase} Second on (rw is (phase_turns.gathers_on gathering slots t.clean sent h same))
 
         pub pairs_next : two2.same ≡ false → IsTurn job cmp key old phases.Pairing (moved now Second reader out after) one2 two2 to
-        pairs_next same = went_on Second on (in_pairing refl (gather_turns.pairs_next gathering_sent slots h same))
+        pairs_next same = went_on {next = phases.Pairing} Second on (phase_turns.pairs_next gathering slots t.clean sent h same)
 
   -- ---- while it is paired
 
   module _ (is : phase ≡ phases.Pairing) where
     pairing : Pairing (call_of t.opened) now (both one two) end
-    pairing = t.phased.pairing is
+    pairing = rw is at t.phased
 
     pub pair_stands : StandsAt key First one two (now.reader First) now.store
-    pair_stands = stands_at First pairing.head1
+    pair_stands = stands_at First pairing.head.0
 
     pub pair_group : IsGroup (join_key job Second) two now.store end (key First (line now.store one.standing))
     pair_group = record {
-      within = t.phased.end_in;
-      keyed = λ slot from low. sym (t.opened.keys Second (line now.store slot)) ∙ pair_turns.keyed_slot pairing slot from low ∙ sym pairing.key1;
+      within = end_in;
+      keyed = λ slot from low. sym (t.opened.keys Second (line now.store slot)) ∙ phase_turns.keyed_slot pairing slot from low ∙ sym pairing.head.1;
     }
-
-    pub pair_less : {one2 two2 : Sorted} {reader : Reader} {after : Slots} {new : Output}
-        → HasPassed key cmp First one two one2 two2 (now.reader First) reader now.store after new → left (put First reader now.reader) one2 two2 < left now.reader one two
-    pair_less {one2} {two2} {reader} {after} h = less _ _ First one two one2 two2 now.reader _ _ _ pairing.head1 h.on.others h.came
 
     module _ {new : Output} {e : ℕ} (ends : e ≡ job.end)
         (pushed : Wrote now.out new (text e (pairs_of job (key First (line now.store one.standing)) (line now.store one.standing ∷ [])
         (group now.store (first_slot two end) (end_slot two end))))) where
       wrote_pairs : Wrote now.out new (text job.end (pairs_of job pairing.k (line now.store one.standing ∷ []) (pairing.g Second)))
-      wrote_pairs = wrote_as _ _ _ _ _ _ ends (λ j. pairs_of job (sym pairing.key1 j) (line now.store one.standing ∷ []) (sym (pair_turns.group_stands pairing slots) j)) pushed
+      wrote_pairs = wrote_as _ _ _ _ _ _ ends (λ j. pairs_of job (sym pairing.head.1 j) (line now.store one.standing ∷ []) (sym (phase_turns.group_stands pairing slots) j)) pushed
 
       pub pair_stops : {reader : Reader} {after : Slots} {fault : MergeFault} {r : Result (Unit {0}) MergeFault} → r ≡ Err fault
           → NotPassed now First one reader after new fault → Leaves job cmp key old (moved now First reader new after) r
-      pair_stops {fault = fault} is_fault h = leaves is_fault (omega (arith, passes_slots (key First) cmp First one one _ _ _ _ _ fault h)) (pair_turns.pair_stops pairing slots wrote_pairs t.clean h)
+      pair_stops {fault = fault} is_fault h = leaves is_fault (omega (arith, passes_slots (key First) cmp First one one _ _ _ _ _ fault h))
+          (phase_turns.pair_stops pairing slots wrote_pairs t.clean h)
 
       module _ {one2 two2 : Sorted} {reader : Reader} {after : Slots} (h : HasPassed key cmp First one two one2 two2 (now.reader First) reader now.store after new) where
         pub group_there : (4 ≤ end) × (end ≤ length after.lines)
-        group_there = (t.phased.end_in.0, omega (arith, t.phased.end_in.1, comes_slots _ _ _ _ _ _ _ _ h.came))
+        group_there = (end_in.0, omega (arith, end_in.1, comes_slots _ _ _ _ _ _ _ _ h.came))
 
         pub pairs_on : one2.same ≡ true → IsTurn job cmp key old phase (moved now First reader new after) one2 two2 end
-        pairs_on same = went_on First h.on (in_pairing is (pair_turns.pairs_on pairing slots wrote_pairs t.clean h.came same))
+        pairs_on same = went_on {next = phase} First h.on (rw is (phase_turns.pairs_on pairing slots wrote_pairs t.clean h.came same))
 
         pub group_closed : {cleared : Slots} → IsGroupCleared after cleared end → one2.same ≡ false → IsTurn job cmp key old phases.Between (moved now First reader new cleared) one2 two2 4
-        group_closed {cleared} clear same = went_on First
-            (record {
-              clean = h.on.clean;
-              others = h.on.others;
-              placed = placed_keeps _ _ _ _ _ h.on.placed (omega (arith, clear.slots)) (λ slot low. clear.others slot (inl low));
-              lent = h.on.lent;
-            }) (in_between refl (pair_turns.group_closed pairing slots wrote_pairs t.clean h.came same clear) refl)
+        group_closed {cleared} clear same =
+            let placed = placed_keeps _ _ _ _ _ h.on.placed (omega (arith, clear.slots)) (λ slot low. clear.others slot (inl low)) in
+            went_on {next = phases.Between} First (record { clean = h.on.clean; others = h.on.others; placed = placed; lent = h.on.lent })
+            (phase_turns.group_closed pairing slots wrote_pairs t.clean h.came same clear, refl)

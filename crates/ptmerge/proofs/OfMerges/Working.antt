@@ -181,7 +181,7 @@ module _ (tool : Tool) (o : IsKeyOrder tool.cmp) (ended : Side → Bool) (ls : S
   undecided k h = not_decided tool o ended ls of k (rw (going, rises) h)
 
   -- only passed lines came of it; of the other, whatever came
-  decided_of_passed : (p : Side → Lines) → ((side : Side) → Differ tool (last_or None (map (tool.key of) (ls of))) (tool.key side) (ordered_part tool.cmp (tool.key side) (ls side)) (p side))
+  pub decided_of_passed : (p : Side → Lines) → ((side : Side) → Differ tool (last_or None (map (tool.key of) (ls of))) (tool.key side) (ordered_part tool.cmp (tool.key side) (ls side)) (p side))
       → Begins (text tool.end (decided_entries tool ended ls)) (text tool.end (by_keys tool all_keys p))
   decided_of_passed p differ =
       let dec = is_decided tool ended ls in

@@ -1,7 +1,7 @@
 -- Each turn goes on to the next by one lemma of `Turns`, and each way out of it leaves what the clauses say.
 use Rattle.ptmerge.proofs.Common.{sym, ◌∙◌, err_from_is_err_and, join_job}
-use Rattle.ptmerge.proofs.OfJoin.Turns.{alone_less, alone_on, alone_stops, begins, ended, fallen, falls, gather_less, gather_stands, gather_stops, gathers_on, group_closed}
-use Rattle.ptmerge.proofs.OfJoin.Turns.{group_there, opened, opens, opens_less, pair_group, pair_less, pair_stands, pair_stops, pairs_next, pairs_on, stands_at, start_stops}
+use Rattle.ptmerge.proofs.OfJoin.Turns.{alone_on, alone_stops, begins, end_in, ended, fallen, falls, gather_stands, gather_stops, gathers_on, group_closed, group_there, opened, opens, opens_less}
+use Rattle.ptmerge.proofs.OfJoin.Turns.{pair_group, pair_stands, pair_stops, pairs_next, pairs_on, stands_at, start_stops}
 use Rattle.ptmerge.proofs.OfMerges.GoingOn.{told}
 use Rattle.ptmerge.specs.declared.order.Side.TheVariants as sides
 use Rattle.ptmerge.specs.declared.tools.join.Phase.TheVariants as phases
@@ -9,21 +9,16 @@ use Rattle.ptmerge.proofs.tools.join.join_in_order.Goals as goal
 
 pub returns-in_err-merge : goal.returns-in_err-merge
 returns-in_err-merge g c =
-    let a = opened (join_job c.args.job.now) (g.K.KeyOrder.order c.args.order) (g.K.KeyOrder.key_of c.args.order) _ _ c.args.out.now _
+    let a = opened (join_job c.args.job.now) (g.K.KeyOrder.order c.args.order) (g.K.KeyOrder.key_of c.args.order) c.args.out.now
     (record { total = g.met.K.KeyOrder.total c.args.order; exact = g.met.K.KeyOrder.exact c.args.order }) c.requires.keys c.requires.ready c.requires.sound c.requires.ending c.requires.writable in
-    start_stops a c.in_err-merge.ensures.breaks
-    (told (err_from_is_err_and _ c.from_residual.ensures.1))
+    start_stops a c.in_err-merge.ensures.breaks (told (err_from_is_err_and _ c.from_residual.ensures.1))
 
 pub turns-init : goal.turns-init
 turns-init g c =
-    let a = opened (join_job c.args.job.now) (g.K.KeyOrder.order c.args.order) (g.K.KeyOrder.key_of c.args.order) _ _ c.args.out.now _
+    let a = opened (join_job c.args.job.now) (g.K.KeyOrder.order c.args.order) (g.K.KeyOrder.key_of c.args.order) c.args.out.now
     (record { total = g.met.K.KeyOrder.total c.args.order; exact = g.met.K.KeyOrder.exact c.args.order }) c.requires.keys c.requires.ready c.requires.sound c.requires.ending c.requires.writable in
     let e = c.in_ok-merge.ensures in
-    let placed = rw e.order at e.placed in
-    record {
-      turn = rw e.order (begins a e.starts placed e.lent);
-      order = e.order;
-    }
+    record { order = e.order; turn = let placed = rw e.order at e.placed in rw e.order (begins a e.starts placed e.lent) }
 
 pub pass_alone-requires-clause-stands : goal.pass_alone-requires-clause-stands
 pass_alone-requires-clause-stands g c = stands_at c.turns.invariant.turn sides.First c.in-First.ensures.stands
@@ -35,25 +30,21 @@ pub turns-preserved-in-Continue-branch-2 : goal.turns-preserved-in-Continue-bran
 turns-preserved-in-Continue-branch-2 g c =
     let i = c.turns.invariant in
     let p = c.pass_alone.ensures in
-    record {
-      turn = rw p.order (alone_on i.turn c.in-Between.is c.in-First.ensures (c.ending-ending.ensures ∙ c.requires.ending.0) p.wrote c.in_ok-pass_alone-in-First.ensures.passes);
-      order = p.order ∙ i.order;
-    }
+    let end = c.ending-ending.ensures ∙ c.requires.ending.0 in
+    record { order = p.order ∙ i.order; turn = rw p.order (alone_on i.turn c.in-Between.is c.in-First.ensures end p.wrote c.in_ok-pass_alone-in-First.ensures.passes) }
 
 pub turns-preserved-in-Continue-branch-3 : goal.turns-preserved-in-Continue-branch-3
 turns-preserved-in-Continue-branch-3 g c =
     let i = c.turns.invariant in
     let p = c.pass_alone-in-Second.ensures in
-    record {
-      turn = rw p.order (alone_on i.turn c.in-Between.is c.in-Second.ensures (c.ending-ending.ensures ∙ c.requires.ending.0) p.wrote c.in_ok-pass_alone-in-Second.ensures.passes);
-      order = p.order ∙ i.order;
-    }
+    let end = c.ending-ending.ensures ∙ c.requires.ending.0 in
+    record { order = p.order ∙ i.order; turn = rw p.order (alone_on i.turn c.in-Between.is c.in-Second.ensures end p.wrote c.in_ok-pass_alone-in-Second.ensures.passes) }
 
 pub turns-smaller-in-Continue-branch-2 : goal.turns-smaller-in-Continue-branch-2
-turns-smaller-in-Continue-branch-2 g c = falls c.turns.phase c.turns.phase (alone_less c.turns.invariant.turn c.in-Between.is c.in-First.ensures.stands c.in_ok-pass_alone-in-First.ensures.passes)
+turns-smaller-in-Continue-branch-2 g c = let h = c.in_ok-pass_alone-in-First.ensures.passes in falls c.turns.invariant.turn sides.First c.turns.phase c.in-First.ensures.stands h.came h.on
 
 pub turns-smaller-in-Continue-branch-3 : goal.turns-smaller-in-Continue-branch-3
-turns-smaller-in-Continue-branch-3 g c = falls c.turns.phase c.turns.phase (alone_less c.turns.invariant.turn c.in-Between.is c.in-Second.ensures.stands c.in_ok-pass_alone-in-Second.ensures.passes)
+turns-smaller-in-Continue-branch-3 g c = let h = c.in_ok-pass_alone-in-Second.ensures.passes in falls c.turns.invariant.turn sides.Second c.turns.phase c.in-Second.ensures.stands h.came h.on
 
 pub returns-in_err-pass_alone-in-First : goal.returns-in_err-pass_alone-in-First
 returns-in_err-pass_alone-in-First g c =
@@ -71,17 +62,16 @@ pub turns-preserved-in-Both : goal.turns-preserved-in-Both
 turns-preserved-in-Both g c = record { turn = opens c.turns.invariant.turn c.in-Between.is c.in-Both.ensures; order = c.turns.invariant.order }
 
 pub turns-smaller-in-Both : goal.turns-smaller-in-Both
-turns-smaller-in-Both g c = opens_less _ c.in-Between.is
+turns-smaller-in-Both g c = opens_less c.turns.invariant.turn c.in-Between.is
 
 pub returns-in-End : goal.returns-in-End
-returns-in-End g c =
-    let i = c.turns.invariant in
-    rw (← i.order) (ended i.turn c.in-Between.is c.clear_four.ensures c.in-End.ensures)
+returns-in-End g c = let i = c.turns.invariant in rw (← i.order) (ended i.turn c.in-Between.is c.clear_four.ensures c.in-End.ensures)
 
 pub returns-in-Stop : goal.returns-in-Stop
-returns-in-Stop g c =
-    let i = c.turns.invariant in
-    rw (← i.order) (fallen i.turn c.in-Between.is c.clear_four-in-Stop.ensures c.in-Stop.ensures)
+returns-in-Stop g c = let i = c.turns.invariant in rw (← i.order) (fallen i.turn c.in-Between.is c.clear_four-in-Stop.ensures c.in-Stop.ensures)
+
+pub gather-requires-clause-group : goal.gather-requires-clause-group
+gather-requires-clause-group g c = end_in c.turns.invariant.turn
 
 pub gather-requires-clause-stands : goal.gather-requires-clause-stands
 gather-requires-clause-stands g c = gather_stands c.turns.invariant.turn c.in-Gathering.is
@@ -97,34 +87,34 @@ turns-preserved-then-not-repeats g c =
     let i = c.turns.invariant in
     let p = c.gather.ensures in
     let ok = c.in_ok-end-in-Gathering.ensures in
-    record {
-      turn = rw p.order (pairs_next i.turn c.in-Gathering.is p.sent ok.gathers ok.on (sym c.repeats.ensures ∙ c.if-not-repeats.true));
-      order = p.order ∙ i.order;
-    }
+    record { order = p.order ∙ i.order; turn = rw p.order (pairs_next i.turn c.in-Gathering.is p.sent ok.gathers ok.on (sym c.repeats.ensures ∙ c.if-not-repeats.true)) }
 
 pub turns-preserved-else-not-repeats : goal.turns-preserved-else-not-repeats
 turns-preserved-else-not-repeats g c =
     let i = c.turns.invariant in
     let p = c.gather.ensures in
     let ok = c.in_ok-end-in-Gathering.ensures in
-    record {
-      turn = rw p.order (gathers_on i.turn c.in-Gathering.is p.sent ok.gathers ok.on (sym c.repeats.ensures ∙ c.if-not-repeats.false));
-      order = p.order ∙ i.order;
-    }
+    record { order = p.order ∙ i.order; turn = rw p.order (gathers_on i.turn c.in-Gathering.is p.sent ok.gathers ok.on (sym c.repeats.ensures ∙ c.if-not-repeats.false)) }
 
 pub turns-smaller-else-not-repeats : goal.turns-smaller-else-not-repeats
 turns-smaller-else-not-repeats g c =
-    falls c.turns.phase c.turns.phase (gather_less c.turns.invariant.turn c.in-Gathering.is c.in_ok-end-in-Gathering.ensures.gathers c.in_ok-end-in-Gathering.ensures.on)
+    let ok = c.in_ok-end-in-Gathering.ensures in
+    falls c.turns.invariant.turn sides.Second c.turns.phase (gather_stands c.turns.invariant.turn c.in-Gathering.is).head ok.gathers.came ok.on
 
 pub turns-smaller-then-not-repeats : goal.turns-smaller-then-not-repeats
 turns-smaller-then-not-repeats g c =
-    falls phases.Pairing c.turns.phase (gather_less c.turns.invariant.turn c.in-Gathering.is c.in_ok-end-in-Gathering.ensures.gathers c.in_ok-end-in-Gathering.ensures.on)
+    let ok = c.in_ok-end-in-Gathering.ensures in
+    falls c.turns.invariant.turn sides.Second phases.Pairing (gather_stands c.turns.invariant.turn c.in-Gathering.is).head ok.gathers.came ok.on
 
 pub turns-smaller-then-not-repeats-2 : goal.turns-smaller-then-not-repeats-2
-turns-smaller-then-not-repeats-2 g c = falls phases.Between c.turns.phase (pair_less c.turns.invariant.turn c.in-Pairing.is c.in_ok-pass_pairs-in-Pairing.ensures.passes)
+turns-smaller-then-not-repeats-2 g c =
+    let h = c.in_ok-pass_pairs-in-Pairing.ensures.passes in
+    falls c.turns.invariant.turn sides.First phases.Between (pair_stands c.turns.invariant.turn c.in-Pairing.is).head h.came h.on
 
 pub turns-smaller : goal.turns-smaller
-turns-smaller g c = falls c.turns.phase c.turns.phase (pair_less c.turns.invariant.turn c.in-Pairing.is c.in_ok-pass_pairs-in-Pairing.ensures.passes)
+turns-smaller g c =
+    let h = c.in_ok-pass_pairs-in-Pairing.ensures.passes in
+    falls c.turns.invariant.turn sides.First c.turns.phase (pair_stands c.turns.invariant.turn c.in-Pairing.is).head h.came h.on
 
 pub pass_pairs-requires-clause-stands : goal.pass_pairs-requires-clause-stands
 pass_pairs-requires-clause-stands g c = pair_stands c.turns.invariant.turn c.in-Pairing.is
@@ -146,18 +136,12 @@ pub turns-preserved-then-not-repeats-2 : goal.turns-preserved-then-not-repeats-2
 turns-preserved-then-not-repeats-2 g c =
     let i = c.turns.invariant in
     let p = c.pass_pairs.ensures in
-    record {
-      turn = rw p.order (group_closed i.turn c.in-Pairing.is (c.ending-ending.ensures ∙ c.requires.ending.0) p.wrote
-          c.in_ok-pass_pairs-in-Pairing.ensures.passes c.clear_group.ensures (sym c.repeats-in-Pairing.ensures ∙ c.if-not-repeats-2.true));
-      order = p.order ∙ i.order;
-    }
+    let on = group_closed i.turn c.in-Pairing.is (c.ending-ending.ensures ∙ c.requires.ending.0) p.wrote c.in_ok-pass_pairs-in-Pairing.ensures.passes in
+    record { order = p.order ∙ i.order; turn = rw p.order (on c.clear_group.ensures (sym c.repeats-in-Pairing.ensures ∙ c.if-not-repeats-2.true)) }
 
 pub turns-preserved : goal.turns-preserved
 turns-preserved g c =
     let i = c.turns.invariant in
     let p = c.pass_pairs.ensures in
-    record {
-      turn = rw p.order (pairs_on i.turn c.in-Pairing.is (c.ending-ending.ensures ∙ c.requires.ending.0) p.wrote
-          c.in_ok-pass_pairs-in-Pairing.ensures.passes (sym c.repeats-in-Pairing.ensures ∙ c.if-not-repeats-2.false));
-      order = p.order ∙ i.order;
-    }
+    let on = pairs_on i.turn c.in-Pairing.is (c.ending-ending.ensures ∙ c.requires.ending.0) p.wrote c.in_ok-pass_pairs-in-Pairing.ensures.passes in
+    record { order = p.order ∙ i.order; turn = rw p.order (on (sym c.repeats-in-Pairing.ensures ∙ c.if-not-repeats-2.false)) }

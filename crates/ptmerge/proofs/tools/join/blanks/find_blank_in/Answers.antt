@@ -1,5 +1,5 @@
 use Rattle.ptmerge.proofs.Common.{nowhere_marked, first_marked, is_blank}
-use Rattle.ptmerge.proofs.OfJoin.Lanes.{blank_mask}
+use Rattle.ptmerge.proofs.OfJoin.FieldSpans.{blank_mask}
 use Rattle.ptmerge.proofs.tools.join.blanks.find_blank_in.Goals as goal
 
 pub returns-then-marked-eq0 : goal.returns-then-marked-eq0

@@ -1,5 +1,5 @@
 use Rattle.std.proofs.Common.{length, arith}
-use Rattle.ptmerge.proofs.OfJoin.Lanes.{part_uneven}
+use Rattle.ptmerge.proofs.OfJoin.FieldSpans.{part_uneven}
 use Rattle.ptmerge.proofs.tools.join.blanks.is_even_at_ends.Goals as goal
 
 pub returns-else-is_even_in : goal.returns-else-is_even_in

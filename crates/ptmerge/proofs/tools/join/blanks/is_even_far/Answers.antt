@@ -1,5 +1,5 @@
 use Rattle.std.proofs.Common.{length, refl, arith}
-use Rattle.ptmerge.proofs.OfJoin.Lanes.{part_uneven}
+use Rattle.ptmerge.proofs.OfJoin.FieldSpans.{part_uneven}
 use Rattle.ptmerge.proofs.tools.join.blanks.is_even_far.Goals as goal
 
 pub returns-then-not-is_even_in : goal.returns-then-not-is_even_in

@@ -1,4 +1,4 @@
-use Rattle.ptmerge.proofs.OfJoin.Lanes.{even_lanes}
+use Rattle.ptmerge.proofs.OfJoin.FieldSpans.{even_lanes}
 use Rattle.ptmerge.proofs.tools.join.blanks.is_even_in.Goals as goal
 
 pub returns : goal.returns

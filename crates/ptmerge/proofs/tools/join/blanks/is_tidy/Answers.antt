@@ -1,5 +1,5 @@
 use Rattle.std.proofs.Common.{sym, ◌∙◌}
-use Rattle.ptmerge.proofs.OfJoin.Lanes.{blank_first, empty_untidy, some_bytes, space_last, tidy_is}
+use Rattle.ptmerge.proofs.OfJoin.FieldSpans.{blank_first, empty_untidy, some_bytes, space_last, tidy_is}
 use Rattle.ptmerge.proofs.tools.join.blanks.is_tidy.Goals.{then-is_empty-via-then-is_empty, then-is_empty-via-else-is_empty+then-is_blank}
 use Rattle.ptmerge.proofs.tools.join.blanks.is_tidy.Goals.{then-is_empty-via-else-is_empty+else-is_blank+then-bytes-eq32}
 use Rattle.ptmerge.proofs.tools.join.blanks.is_tidy.Goals as goal

@@ -1,7 +1,7 @@
 -- Without a list of fields the key comes first, then the other fields of the first line, then those of the second; a
 -- push that fails leaves a beginning of these.
 use Rattle.ptmerge.proofs.Common.{option_copied, join_job}
-use Rattle.ptmerge.proofs.OfJoin.EntryLemmas.{key_fails, others_end, others_fail}
+use Rattle.ptmerge.proofs.OfJoin.FieldSpans.{key_fails, others_end, others_fail}
 use Rattle.ptmerge.proofs.tools.join.entries.push_fields.Goals as goal
 
 pub returns-in_err-push-in-None-clause-wrote : goal.returns-in_err-push-in-None-clause-wrote

@@ -1,4 +1,4 @@
-use Rattle.ptmerge.proofs.OfJoin.EntryLemmas.{led_fields}
+use Rattle.ptmerge.proofs.OfJoin.FieldSpans.{led_fields}
 use Rattle.ptmerge.proofs.tools.join.entries.push_left.Goals as goal
 
 pub returns-in-Some-Some-clause-wrote : goal.returns-in-Some-Some-clause-wrote

@@ -1,7 +1,7 @@
 -- The first field of a list has nothing in front of it, so it is pushed before the loop; each turn pushes one more.
 use Rattle.ptmerge.proofs.Common.{◌-◌, ◌∷◌, ℕ, List, sym, take, drop, map, length, option_copied, ◌∙◌, join_job, between, led}
 use Rattle.ptmerge.proofs.OfJoin.Amid.{each_fails, each_more, first_fails}
-use Rattle.ptmerge.proofs.OfJoin.EntryLemmas.{between_is, entry_listed, item_of, listed}
+use Rattle.ptmerge.proofs.OfJoin.FieldSpans.{between_is, entry_listed, item_of, listed}
 use Rattle.ptmerge.proofs.tools.join.entries.push_listed.Goals as goal
 
 pub returns-in_err-push-clause-wrote : goal.returns-in_err-push-clause-wrote

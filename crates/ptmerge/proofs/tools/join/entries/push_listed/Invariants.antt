@@ -1,7 +1,7 @@
 -- The fields of the list so far were pushed, each with what stands between fields; the others are to come.
 use Rattle.ptmerge.proofs.Common.{option_copied, map, length, join_job, between, entry, fields_left, led}
 use Rattle.ptmerge.proofs.OfJoin.Amid.{Amid}
-use Rattle.ptmerge.proofs.OfJoin.EntryLemmas.{item_of}
+use Rattle.ptmerge.proofs.OfJoin.FieldSpans.{item_of}
 use Rattle.ptmerge.proofs.tools.join.entries.push_listed.Given as goal
 
 abbrev pub invariant-items : goal.invariant-items

@@ -1,7 +1,7 @@
 -- A push that fails leaves a beginning of the fields; one that succeeds takes a field from those to come.
 use Rattle.ptmerge.proofs.Common.{◌-◌, ◌∷◌, ℕ, List, ap, sym, arith, ◌∙◌, between, led}
 use Rattle.ptmerge.proofs.OfJoin.Amid.{amid_ends, each_fails, each_more}
-use Rattle.ptmerge.proofs.OfJoin.EntryLemmas.{others_more, others_rest, between_is}
+use Rattle.ptmerge.proofs.OfJoin.FieldSpans.{others_more, others_rest, between_is}
 use Rattle.ptmerge.proofs.tools.join.entries.push_others.Goals as goal
 
 pub returns-in_err-push_led-clause-wrote : goal.returns-in_err-push_led-clause-wrote

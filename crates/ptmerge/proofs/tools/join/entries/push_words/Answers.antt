@@ -1,6 +1,6 @@
 use Rattle.std.proofs.Common.{◌∷◌, ◌∙◌, ℕ, List, refl, sym}
 use Rattle.ptmerge.proofs.OfJoin.Amid.{amid_starts, each_fails, each_more}
-use Rattle.ptmerge.proofs.OfJoin.EntryLemmas.{tidy_words}
+use Rattle.ptmerge.proofs.OfJoin.FieldSpans.{tidy_words}
 use Rattle.ptmerge.proofs.tools.join.entries.push_words.Goals as goal
 
 pub returns-in_err-push_led-clause-wrote : goal.returns-in_err-push_led-clause-wrote

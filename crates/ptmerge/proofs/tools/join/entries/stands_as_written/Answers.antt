@@ -1,5 +1,5 @@
 use Rattle.ptmerge.proofs.Common.{◌≤◌, ℕ, Option, subst, sym, ◌∙◌, arith, nat_tests, IsAsWritten}
-use Rattle.ptmerge.proofs.OfJoin.EntryLemmas.{led_fields, tidy_words}
+use Rattle.ptmerge.proofs.OfJoin.FieldSpans.{led_fields, tidy_words}
 use Rattle.ptmerge.proofs.tools.join.entries.stands_as_written.Goals as goal
 
 pub returns-in-Some : goal.returns-in-Some

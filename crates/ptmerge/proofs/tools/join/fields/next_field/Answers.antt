@@ -5,7 +5,7 @@ use Rattle.ptmerge.proofs.tools.join.fields.next_field.Goals as goal
 pub returns-then-is_some-clause-placed : goal.returns-then-is_some-clause-placed
 returns-then-is_some-clause-placed c =
     let ends = subst (λ o. LeftOf (option_copied c.args.line) (option_copied o)) c.in-Some.is c.pieces.invariant.ends in
-    field_in (option_copied c.args.line) ends c.first_piece.ensures.placed
+    field_in (option_copied c.args.line) (Some c.in-Some.bytes.now) c.first_piece.result.0.now (option_copied c.first_piece.result.1) ends c.first_piece.ensures.placed
 
 pub pieces-preserved : goal.pieces-preserved
 pieces-preserved c =
@@ -21,5 +21,5 @@ pieces-preserved c =
     ] in
     record {
       same = word c.first_piece.ensures.first ∙ ap (λ o. fields_left c.args.separator (option_copied o)) (sym c.in-Some.is) ∙ c.pieces.invariant.same;
-      ends = left_behind (option_copied c.args.line) (option_copied c.first_piece.result.1) ends c.first_piece.ensures.placed;
+      ends = left_behind (option_copied c.args.line) (Some c.in-Some.bytes.now) field (option_copied c.first_piece.result.1) ends c.first_piece.ensures.placed;
     }
