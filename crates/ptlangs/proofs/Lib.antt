@@ -12,12 +12,8 @@ pub mod Reading
 pub mod TrBehind
 pub mod TrNumbers
 pub mod TrGrammar
-pub mod TrUnitGrammar
 pub mod TrPlaces
 pub mod TrWalks
 pub mod TrSpans
 pub mod TrShifts
-pub mod TrAnswers
-pub mod TrTables
 pub mod TrPlans
-pub mod TrMemory

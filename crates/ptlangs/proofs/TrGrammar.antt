@@ -1,35 +1,29 @@
 -- What is computed of parts is the grammar.
-use Rattle.ptlangs.proofs.Common.{◌≡◌, ◌<◌, ◌-◌, ℕ, zero, suc, Bool, true, false, cond, eqb, List, [], ◌∷◌, ◌++◌, length, drop, map, arith, refl, sym, ap, subst, ◌∙◌, Option, Some, None, Result, Ok}
-use Rattle.ptlangs.proofs.Common.{Err, nat_lt, list_all, option_and_then, option_or, is_ascii_digit, is_ascii_lowercase, ltb-false, le-ltb, eqb-true, ne_eqb, length-map, length-append, append_assoc}
-use Rattle.ptlangs.proofs.Common.{drop_at, drop_all, SetFaultKind, Descending, SetUnit, Plain, Escaped, Faulty, Part, Single, Range, Class, Equivalence, byte_of, class_named, Means, ByItself}
-use Rattle.ptlangs.proofs.Common.{ByEscape, Opens, ARepeat, AClass, AnEquivalence, OpensForm, Begins, InBrackets, ARange, Alone, AreParts, is_plain, behind, behind_two, plain_run, behind_run}
-use Rattle.ptlangs.proofs.Common.{with_rest, repeat_count, repeat_digits, repeat_at, class_of, class_name, class_at, equivalence_of, equivalence_unit, equivalence_at, form_inside, form_at, range_to}
-use Rattle.ptlangs.proofs.Common.{from_byte, from_unit, or_unit, first_part, parts_from, parts_behind, parts, get_or, ◌||◌, ◌≤◌, and_parts, eq-eqb, ltb-true, nat_tests, drop_more, result_map_both}
-use Rattle.ptlangs.proofs.Common.{ADescendingRange, AFaultyEnd, AFaultyUnit, BeginsFaulty, count_in, FaultsAreFirst, FirstFault, Later, NoPart, NoPiece, collected, is_fill, piece, pieces}
-use Rattle.ptlangs.proofs.Common.{is_octal_digit, units, CharClass, Piece, Place}
+use Rattle.ptlangs.proofs.Common.{◌≡◌, ◌<◌, ◌-◌, ℕ, zero, suc, Bool, true, false, eqb, List, [], ◌∷◌, ◌++◌, length, drop, map, arith, refl, sym, ap, subst, ◌∙◌, Option, Some, None, Result, Ok, Err}
+use Rattle.ptlangs.proofs.Common.{nat_lt, list_all, option_and_then, option_or, is_ascii_digit, is_ascii_lowercase, ltb-false, le-ltb, eqb-true, ne_eqb, length-map, length-append, append_assoc}
+use Rattle.ptlangs.proofs.Common.{drop_at, drop_all, SetFaultKind, SetUnit, Plain, Escaped, Faulty, Part, Single, Class, Equivalence, byte_of, class_named, Means, ByItself, ByEscape, Opens, ARepeat}
+use Rattle.ptlangs.proofs.Common.{AClass, AnEquivalence, OpensForm, Begins, InBrackets, ARange, Alone, AreParts, is_plain, behind, behind_two, plain_run, behind_run, with_rest, repeat_count}
+use Rattle.ptlangs.proofs.Common.{repeat_digits, repeat_at, class_of, class_name, class_at, equivalence_of, equivalence_unit, equivalence_at, form_inside, form_at, range_to, from_byte, from_unit}
+use Rattle.ptlangs.proofs.Common.{or_unit, first_part, parts_from, parts_behind, parts, get_or, ◌||◌, ◌≤◌, and_parts, eq-eqb, ltb-true, nat_tests, drop_more, result_map_both, ADescendingRange}
+use Rattle.ptlangs.proofs.Common.{AFaultyEnd, AFaultyUnit, BeginsFaulty, count_in, FaultsAreFirst, FirstFault, Later, NoPart, NoPiece, collected, is_fill, piece, pieces, is_octal_digit, units}
+use Rattle.ptlangs.proofs.Common.{CharClass, Piece, Place}
 use Rattle.ptlangs.specs.declared.parts.Part.TheVariants.{Repeat}
+use Rattle.std.proofs.lemmas.Bool.{cond_both}
 use Rattle.ptlangs.proofs.TrBehind.{list_all-plain_run}
 
 -- ---- from what is computed to the grammar
 
 pub behind_is : (c : ℕ) (us rest : List SetUnit) → behind c us ≡ Some rest → us ≡ Plain c ∷ rest
 behind_is c [] rest e = cc
-behind_is c (Plain b ∷ us) rest e = choose (eqb b c) refl e
-  where
-    choose : (t : Bool) → eqb b c ≡ t → cond t (Some us) None ≡ Some rest → Plain b ∷ us ≡ Plain c ∷ rest
-    choose true t e = let same : b ≡ c = eqb-true b c t in cc
-    choose false t e = cc
+behind_is c (Plain b ∷ us) rest e =
+    cond_both (eqb b c) _ _ (λ (o : Option (List SetUnit)). o ≡ Some rest → Plain b ∷ us ≡ Plain c ∷ rest) (λ t e. let same : b ≡ c = eqb-true b c t in cc) (λ t e. cc) e
 behind_is c (Escaped b ∷ us) rest e = cc
 behind_is c (Faulty k ∷ us) rest e = cc
 
 pub run_split : (test : ℕ → Bool) (us : List SetUnit) → us ≡ map Plain (plain_run test us) ++ behind_run test us
 run_split test [] = refl
-run_split test (Plain b ∷ us) = choose (test b) refl (run_split test us)
-  where
-    choose : (t : Bool) → test b ≡ t → us ≡ map Plain (plain_run test us) ++ behind_run test us
-        → Plain b ∷ us ≡ map Plain (cond t (b ∷ plain_run test us) []) ++ drop (length (cond t (b ∷ plain_run test us) [])) (Plain b ∷ us)
-    choose true t e = ap (λ more. Plain b ∷ more) e
-    choose false t e = refl
+run_split test (Plain b ∷ us) =
+    cond_both (test b) _ _ (λ (run : List ℕ). Plain b ∷ us ≡ map Plain run ++ drop (length run) (Plain b ∷ us)) (λ t. ap (λ more. Plain b ∷ more) (run_split test us)) (λ t. refl)
 run_split test (Escaped b ∷ us) = refl
 run_split test (Faulty k ∷ us) = refl
 
@@ -132,12 +126,9 @@ form_at-Opens us p rest (AClass c name more t) =
     let lower : is_ascii_lowercase c ≡ true = (and_parts (is_ascii_lowercase c) (list_all is_ascii_lowercase name) t).0 in
     let no_star : eqb c 42 ≡ false = ne_eqb c 42 (λ e. cc (ap is_ascii_lowercase e)) in
     rw (no_star, behind_run-map is_ascii_lowercase (c ∷ name) 58 (Plain 93 ∷ more) t refl, plain_run-map is_ascii_lowercase (c ∷ name) 58 (Plain 93 ∷ more) t refl) refl
-form_at-Opens us p rest (AnEquivalence u v more m) = by_star (is_plain 42 u)
-  where
-    by_star : (t : Bool) → option_or (option_and_then (repeat_digits 61) (cond t (Some (Plain 61 ∷ Plain 93 ∷ more)) None))
-        (option_or None (equivalence_of (byte_of u) (Plain 61 ∷ Plain 93 ∷ more))) ≡ Some (Equivalence v, more)
-    by_star true = rw (byte_of-Means u v m) refl
-    by_star false = rw (byte_of-Means u v m) refl
+form_at-Opens us p rest (AnEquivalence u v more m) =
+    cond_both (is_plain 42 u) _ _ (λ (o : Option (List SetUnit)). option_or (option_and_then (repeat_digits 61) o)
+    (option_or None (equivalence_of (byte_of u) (Plain 61 ∷ Plain 93 ∷ more))) ≡ Some (Equivalence v, more)) (λ t. rw (byte_of-Means u v m) refl) (λ t. rw (byte_of-Means u v m) refl)
 
 pub form_at-none : (us : List SetUnit) → form_at us ≡ None → ¬ OpensForm us
 form_at-none us e (p, rest, f) = cc (form_at-Opens us p rest f)
@@ -157,11 +148,8 @@ Judged us (Ok found) = Begins us found.0 found.1
 Judged us (Err k) = BeginsFaulty us k
 
 range_judged : (u v : SetUnit) (a b : ℕ) (more : List SetUnit) → ¬ OpensForm (u ∷ Plain 45 ∷ v ∷ more) → Means u a → Means v b → Judged (u ∷ Plain 45 ∷ v ∷ more) (range_to a (Ok b) more)
-range_judged u v a b more n m w = by_order (nat_lt b a) refl
-  where
-    by_order : (t : Bool) → nat_lt b a ≡ t → Judged (u ∷ Plain 45 ∷ v ∷ more) (cond t (Err Descending) (Ok (Range a b, more)))
-    by_order true t = ADescendingRange u v a b more n m w (ltb-true b a t)
-    by_order false t = ARange u v a b more n m w (ltb-false b a t)
+range_judged u v a b more n m w = cond_both (nat_lt b a) _ _ (Judged (u ∷ Plain 45 ∷ v ∷ more))
+    (λ t. ADescendingRange u v a b more n m w (ltb-true b a t)) (λ t. ARange u v a b more n m w (ltb-false b a t))
 
 end_judged : (u v : SetUnit) (a : ℕ) (more : List SetUnit) → ¬ OpensForm (u ∷ Plain 45 ∷ v ∷ more) → Means u a → Judged (u ∷ Plain 45 ∷ v ∷ more) (range_to a (byte_of v) more)
 end_judged u (Plain b) a more n m = range_judged u (Plain b) a b more n m (ByItself b)

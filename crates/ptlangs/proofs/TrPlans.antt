@@ -1,13 +1,29 @@
--- The plan of two strings, step by step.
-use Rattle.ptlangs.proofs.Common.{◌≡◌, ◌<◌, ◌-◌, ℕ, Bool, true, false, cond, eqb, List, [], ◌∷◌, length, arith, refl, sym, ap, ◌∙◌, Some, Result, Ok, Err, result_map_both, eqb-false, SetFaultKind}
-use Rattle.ptlangs.proofs.Common.{ClassPlace, SetFault, Piece, Place, First, Places, Form, Translate, TranslateSqueeze, Squeeze, Delete, DeleteSqueeze, CharClass, tables, Plan, array, class_places}
-use Rattle.ptlangs.proofs.Common.{collected, fill_count, first_array, in_string, is_paired, may_pair, pieces_of, plan, plan_of, second_plan, second_place, string_pieces, places_of}
+-- The plan of two strings, step by step; its tables; and that no strings are refused for want of memory.
+use Rattle.ptlangs.proofs.Common.{◌≡◌, Bool, Err, List, None, Ok, Option, Result, Some, [], ap, arith, cond, eqb, false, length, map, refl, suc, sym, true, zero, ℕ, ◌++◌, ◌-◌, ◌∙◌, ◌∷◌, ◌≢◌}
+use Rattle.ptlangs.proofs.Common.{result_map_both, and_then, AClass, ADescendingRange, AFaultyEnd, AFaultyUnit, ARange, ARepeat, Alone, AnEquivalence, Begins, BeginsFaulty, InBrackets, Opens}
+use Rattle.ptlangs.proofs.Common.{FirstFault, Later, NeverMemory, NoPart, NoPiece, Plan, array, class_piece, class_places, collected, fill_count, first_array, image_of, in_string, is_deleted}
+use Rattle.ptlangs.proofs.Common.{is_paired, is_squeezed, may_pair, piece, pieces_of, plan, plan_from, plan_of, plan_with, repeat_piece, repeated, second_place, second_plan, string_pieces}
+use Rattle.ptlangs.proofs.Common.{takes_second, places_of, tables, ALargeOctal, ALoneBackslash, APlainByte, AUnit, AnEscape, AnOctal, NoUnit, SpellsUnit, SpellsUnits, units, CharClass, SetFault}
+use Rattle.ptlangs.proofs.Common.{SetFaultKind, ClassPlace, Memory, Part, Piece, Place, First, Images, Squeezed, Places, Form, Delete, DeleteSqueeze, Squeeze, Translate, TranslateSqueeze, SetUnit}
+use Rattle.ptlangs.proofs.Common.{Escaped, Faulty, Plain}
+use Rattle.ptlangs.specs.TrClasses.{all_bytes}
 use Rattle.ptlangs.specs.declared.faults.SetString.TheVariants as string
+use Rattle.ptlangs.specs.declared.faults.SetString.{SetString}
+use Rattle.ptlangs.specs.declared.parts.Part.TheVariants as part
+use Rattle.ptlangs.proofs.TrGrammar.{faults_are_first}
+use Rattle.ptlangs.proofs.TrNumbers.{units_are_spelled}
 
--- a string that is not empty has the pieces that are read
-pub string_pieces-some : (place : Place) (text : List ℕ) → 0 < length text → string_pieces place text ≡ collected (pieces_of place text)
-string_pieces-some place [] h = absurd (omega arith)
-string_pieces-some place (b ∷ text) h = refl
+-- ---- two facts on one answer
+
+-- two values of one answer
+pub same_answer : {A E : Type 0} (r : Result A E) (x y : A) → r ≡ Ok x → r ≡ Ok y → x ≡ y
+same_answer r x y e f = cc
+
+-- an answer is not both a fault and a value
+pub no_answer : {A E B : Type 0} (r : Result A E) (k : E) (x : A) → r ≡ Err k → r ≡ Ok x → B
+no_answer r k x e f = absurd (let no : ⊥ = cc in no)
+
+-- ---- the strings that were read
 
 -- a string that was read is not empty
 pub collected-string : (place : Place) (text : List ℕ) (ps : List Piece) → string_pieces place text ≡ Ok ps → collected (pieces_of place text) ≡ Ok ps
@@ -19,44 +35,37 @@ pub mapped_ok : (r : Result (List Piece) SetFaultKind) (f : List Piece → Place
 mapped_ok (Ok ps) f y e = (ps, refl, cc)
 mapped_ok (Err k) f y e = absurd (let no : ⊥ = cc in no)
 
-pub fill_is : (fill : ℕ) (first bare : Places) (bytes : List ℕ) (ps : List Piece) → fill ≡ first.length - bare.length → first ≡ places_of bytes → bare
-    ≡ places_of (array 0 ps) → fill ≡ fill_count (length bytes) ps
-fill_is fill first bare bytes ps e f b =
-    let n : first.length ≡ length bytes = ap (λ (p : Places). p.length) f in
-    let m : bare.length ≡ length (array 0 ps) = ap (λ (p : Places). p.length) b in
-    omega (arith, e, n, m)
-
--- the plan of two strings, by whether the classes may stand where they do
-pub second_plan-pairs : (form : Form) (complement : Bool) (firsts ps : List Piece) (text : List ℕ) (fill : ℕ) (pairs : Bool)
-    → string_pieces (second_place form) text ≡ Ok ps → fill ≡ fill_count (length (first_array complement firsts)) ps
-    → pairs ≡ may_pair form complement (class_places 0 0 firsts) (class_places fill 0 ps)
-    → second_plan form complement firsts text ≡ cond {A = Result Plan SetFaultKind} pairs (Ok (plan_of form (first_array complement firsts) (array fill ps))) (Err ClassPlace)
-second_plan-pairs form complement firsts ps text fill pairs s n p = rw (s, ← n, ← p) refl
-
 -- where bytes are not squeezed alone, each class faces its other case, and a complement has none
+unless_alone : (P : Form → Type 0) (form : Form) → (form ≡ DeleteSqueeze → ⊥) → P Translate → P TranslateSqueeze → P Squeeze → P Delete → P form
+unless_alone P Translate n t ts s d = t
+unless_alone P TranslateSqueeze n t ts s d = ts
+unless_alone P Squeeze n t ts s d = s
+unless_alone P Delete n t ts s d = d
+unless_alone P DeleteSqueeze n t ts s d = absurd (n refl)
+
 pub may_pair-complement : (form : Form) (firsts seconds : List (ℕ × CharClass)) → (form ≡ DeleteSqueeze → ⊥) → may_pair form true firsts seconds ≡ is_paired [] seconds
-may_pair-complement Translate firsts seconds n = refl
-may_pair-complement TranslateSqueeze firsts seconds n = refl
-may_pair-complement Squeeze firsts seconds n = refl
-may_pair-complement Delete firsts seconds n = refl
-may_pair-complement DeleteSqueeze firsts seconds n = absurd (n refl)
+may_pair-complement form firsts seconds n = unless_alone (λ f. may_pair f true firsts seconds ≡ is_paired [] seconds) form n refl refl refl refl
 
 pub may_pair-faced : (form : Form) (firsts seconds : List (ℕ × CharClass)) → (form ≡ DeleteSqueeze → ⊥) → may_pair form false firsts seconds ≡ is_paired firsts seconds
-may_pair-faced Translate firsts seconds n = refl
-may_pair-faced TranslateSqueeze firsts seconds n = refl
-may_pair-faced Squeeze firsts seconds n = refl
-may_pair-faced Delete firsts seconds n = refl
-may_pair-faced DeleteSqueeze firsts seconds n = absurd (n refl)
+may_pair-faced form firsts seconds n = unless_alone (λ f. may_pair f false firsts seconds ≡ is_paired firsts seconds) form n refl refl refl refl
 
 pub mapped_at : (r : Result (List Piece) SetFaultKind) (f : List Piece → Places) (y : Places) (ps : List Piece) → Ok y ≡ result_map_both f (λ (k : SetFaultKind). k) r → r ≡ Ok ps → y ≡ f ps
 mapped_at (Ok qs) f y ps e h = let same : qs ≡ ps = cc in let value : y ≡ f qs = cc in value ∙ ap f same
 mapped_at (Err k) f y ps e h = absurd (let no : ⊥ = cc in no)
 
-pub string_pieces-read : (form : Form) (place : Place) (text : List ℕ) (ps : List Piece) → place ≡ second_place form → false ≡ eqb (length text) 0 → collected (pieces_of place text) ≡ Ok ps
-    → string_pieces (second_place form) text ≡ Ok ps
-string_pieces-read form place text ps p n r =
-    let some = eqb-false (length text) 0 (sym n) in
-    ap (λ q. string_pieces q text) (sym p) ∙ string_pieces-some place text (omega (arith, some)) ∙ r
+-- the plan of two strings, the second of which was read bare, by whether the classes may stand where they do
+pub second_plan-read : (form : Form) (complement : Bool) (firsts : List Piece) (text : List ℕ) (place : Place) (fill : ℕ) (first bare : Places) (pairs : Bool) → place ≡ second_place form
+    → false ≡ eqb (length text) 0 → Ok bare ≡ result_map_both (λ ps. places_of (array 0 ps)) (λ (k : SetFaultKind). k) (collected (pieces_of place text)) → fill ≡ first.length - bare.length
+    → first ≡ places_of (first_array complement firsts)
+    → ((ps : List Piece) → collected (pieces_of place text) ≡ Ok ps → pairs ≡ may_pair form complement (class_places 0 0 firsts) (class_places fill 0 ps))
+    → (ps : List Piece) × (collected (pieces_of place text) ≡ Ok ps)
+    × (second_plan form complement firsts text ≡ cond {A = Result Plan SetFaultKind} pairs (Ok (plan_of form (first_array complement firsts) (array fill ps))) (Err ClassPlace))
+second_plan-read form complement firsts [] place fill first bare pairs at some was e f p = cc
+second_plan-read form complement firsts (b ∷ text) place fill first bare pairs at some was e f p =
+    let (ps, read, is) = mapped_ok (collected (pieces_of place (b ∷ text))) (λ ps. places_of (array 0 ps)) bare was in
+    let whole : string_pieces (second_place form) (b ∷ text) ≡ Ok ps = ap (λ q. string_pieces q (b ∷ text)) (sym at) ∙ read in
+    let filled : fill ≡ fill_count (length (first_array complement firsts)) ps = omega (arith, e, ap (λ (q : Places). q.length) f, ap (λ (q : Places). q.length) is) in
+    (ps, read, rw (whole, ← filled, ← p ps read) refl)
 
 -- the plan of two strings, the first of which was read
 pub plan_two : (form : Form) (complement : Bool) (s1 s2 : List ℕ) (firsts : List Piece) (k : SetFaultKind) → string_pieces First s1 ≡ Ok firsts
@@ -68,3 +77,144 @@ plan_two form complement s1 s2 firsts k s e = rw s (choose (second_plan form com
         → result_map_both tables (λ (f : SetFault). f) (in_string string.Second r) ≡ Err (record { string = string.Second; kind = k })
     choose (Ok p) e = absurd (let no : ⊥ = cc in no)
     choose (Err j) e = let same : k ≡ j = cc in ap (λ (kind : SetFaultKind). Err (record { string = string.Second; kind = kind })) (sym same)
+
+-- ---- the tables of a plan, field by field
+
+pub tables_are : (p : Plan) (deleted : List Bool) (images : List ℕ) (squeezed : List Bool)
+    → deleted ≡ map (is_deleted p) all_bytes → images ≡ map (image_of p) all_bytes → squeezed ≡ map (is_squeezed p) all_bytes
+    → record { deleted = deleted; images = images; squeezed = squeezed } ≡ tables p
+tables_are p deleted images squeezed d i s = rw (d, i, s) refl
+
+-- ---- the forms that an arm for all others stands for
+
+pub is_squeeze : (form : Form) → takes_second form ≡ false → (form ≡ Delete → ⊥) → form ≡ Squeeze
+is_squeeze Translate e n = cc
+is_squeeze TranslateSqueeze e n = cc
+is_squeeze Squeeze e n = refl
+is_squeeze Delete e n = absurd (n refl)
+is_squeeze DeleteSqueeze e n = cc
+
+pub is_translate : (form : Form) → takes_second form ≡ true → (form ≡ DeleteSqueeze → ⊥) → (form ≡ TranslateSqueeze → ⊥) → form ≡ Translate
+is_translate Translate e n m = refl
+is_translate TranslateSqueeze e n m = absurd (m refl)
+is_translate Squeeze e n m = cc
+is_translate Delete e n m = cc
+is_translate DeleteSqueeze e n m = absurd (n refl)
+
+-- ---- no string wants memory: units, and what follows a part
+
+abbrev Fine : SetUnit → Type 0
+Fine (Plain b) = Unit {0}
+Fine (Escaped b) = Unit {0}
+Fine (Faulty k) = k ≢ Memory
+
+abbrev AreFine : List SetUnit → Type 0
+AreFine [] = Unit {0}
+AreFine (u ∷ us) = Fine u × AreFine us
+
+spelled_fine : (bs rest : List ℕ) (u : SetUnit) → SpellsUnit bs u rest → Fine u
+spelled_fine bs rest u (APlainByte b r n) = tt
+spelled_fine bs rest u (AnOctal digits r run h) = tt
+spelled_fine bs rest u (ALargeOctal digits r run h) = λ e. cc
+spelled_fine bs rest u (AnEscape b r n) = tt
+spelled_fine bs rest u ALoneBackslash = λ e. cc
+
+all_fine : (bs : List ℕ) (us : List SetUnit) → SpellsUnits bs us → AreFine us
+all_fine bs us NoUnit = tt
+all_fine bs us (AUnit all rest u more first later) = (spelled_fine all rest u first, all_fine rest more later)
+
+units_fine : (bs : List ℕ) → AreFine (units bs)
+units_fine bs = all_fine bs (units bs) ((units_are_spelled bs (units bs)).1 refl)
+
+fine_behind : (us rest : List SetUnit) → AreFine (us ++ rest) → AreFine rest
+fine_behind [] rest fine = fine
+fine_behind (u ∷ us) rest fine = fine_behind us rest fine.1
+
+form_fine : (us : List SetUnit) (p : Part) (rest : List SetUnit) → Opens us p rest → AreFine us → AreFine rest
+form_fine us p rest (ARepeat u v digits r m d) fine = (fine_behind (map Plain digits) _ fine.1.1.1).1
+form_fine us p rest (AClass c name r l) fine = (fine_behind (map Plain (c ∷ name)) _ fine.1.1).1.1
+form_fine us p rest (AnEquivalence u v r m) fine = fine.1.1.1.1.1
+
+part_fine : (us : List SetUnit) (p : Part) (rest : List SetUnit) → Begins us p rest → AreFine us → AreFine rest
+part_fine us p rest (InBrackets all q r o) fine = form_fine all q r o fine
+part_fine us p rest (ARange u v a b r n m w h) fine = fine.1.1.1
+part_fine us p rest (Alone u a r n d m) fine = fine.1
+
+-- ---- the faults of units and of pieces
+
+part_fault : (us : List SetUnit) (k : SetFaultKind) → BeginsFaulty us k → AreFine us → k ≢ Memory
+part_fault us k (AFaultyUnit j rest) fine = fine.0
+part_fault us k (AFaultyEnd u a j rest n m) fine = fine.1.1.0
+part_fault us k (ADescendingRange u v a b rest n m w h) fine = λ e. cc
+
+-- the fault of a reading is not want of memory
+abbrev Speaks : {A : Type 0} → Result A SetFaultKind → Type 0
+Speaks (Ok x) = Unit {0}
+Speaks (Err k) = k ≢ Memory
+
+counted : (filled : Bool) (b : ℕ) (n : ℕ) → Speaks (repeated filled b n)
+counted true b zero = λ e. cc
+counted false b zero = tt
+counted filled b (suc n) = tt
+
+repeat_speaks : (filled : Bool) (b : ℕ) (count : Option ℕ) → Speaks (repeat_piece filled b count)
+repeat_speaks filled b None = λ e. cc
+repeat_speaks filled b (Some n) = counted filled b n
+
+class_speaks : (class : Option CharClass) → Speaks (class_piece class)
+class_speaks None = λ e. cc
+class_speaks (Some class) = tt
+
+piece_speaks : (place : Place) (filled : Bool) (p : Part) → Speaks (piece place filled p)
+piece_speaks place filled (part.Single b) = tt
+piece_speaks place filled (part.Range a b) = tt
+piece_speaks place filled (part.Class class) = class_speaks class
+piece_speaks Images filled (part.Equivalence b) = λ e. cc
+piece_speaks First filled (part.Equivalence b) = tt
+piece_speaks Squeezed filled (part.Equivalence b) = tt
+piece_speaks First filled (part.Repeat b count) = λ e. cc
+piece_speaks Images filled (part.Repeat b count) = repeat_speaks filled b count
+piece_speaks Squeezed filled (part.Repeat b count) = repeat_speaks filled b count
+
+said : {A : Type 0} (r : Result A SetFaultKind) (k : SetFaultKind) → Speaks r → r ≡ Err k → k ≢ Memory
+said (Ok x) k speaks e = cc
+said (Err j) k speaks e = let same : j ≡ k = cc in λ memory. speaks (cc)
+
+first_speaks : (place : Place) (filled : Bool) (us : List SetUnit) (k : SetFaultKind) → FirstFault place filled us k → AreFine us → k ≢ Memory
+first_speaks place filled us k (NoPart f vs j b) fine = part_fault vs j b fine
+first_speaks place filled us k (NoPiece f vs rest p j b e) fine = said (piece place f p) j (piece_speaks place f p) e
+first_speaks place filled us k (Later f vs rest p x j b e later) fine = first_speaks place _ rest j later (part_fine vs p rest b fine)
+
+-- ---- the strings
+
+string_said : (place : Place) (text : List ℕ) (r : Result (List Piece) SetFaultKind) → string_pieces place text ≡ r → Speaks r
+string_said place text (Ok ps) e = tt
+string_said place [] (Err k) e = said (string_pieces place []) k (λ memory. cc) e
+string_said place (b ∷ text) (Err k) e = first_speaks place false (units (b ∷ text)) k ((faults_are_first place b text k).1 e) (units_fine (b ∷ text))
+
+paired : (may : Bool) (p : Plan) → Speaks (cond may (Ok p) (Err ClassPlace))
+paired true p = tt
+paired false p = λ e. cc
+
+second_speaks : (form : Form) (complement : Bool) (firsts : List Piece) (r : Result (List Piece) SetFaultKind) → Speaks r
+    → Speaks (and_then r (λ seconds. plan_with form complement firsts (first_array complement firsts) seconds))
+second_speaks form complement firsts (Ok seconds) speaks = paired (may_pair form complement _ _) _
+second_speaks form complement firsts (Err k) speaks = speaks
+
+of_string : {A : Type 0} (string : SetString) (r : Result A SetFaultKind) (fault : SetFault) → Speaks r → in_string string r ≡ Err fault → fault.kind ≢ Memory
+of_string string (Ok x) fault speaks e = cc
+of_string string (Err k) fault speaks e = let same : k ≡ fault.kind = cc in λ memory. speaks (cc)
+
+from_speaks : (form : Form) (complement : Bool) (firsts : List Piece) (s2 : Option (List ℕ)) (fault : SetFault) → plan_from form complement firsts s2 ≡ Err fault → fault.kind ≢ Memory
+from_speaks form complement firsts None fault e = cc
+from_speaks form complement firsts (Some text) fault e =
+    of_string _ (second_plan form complement firsts text) fault
+    (second_speaks form complement firsts (string_pieces (second_place form) text) (string_said (second_place form) text (string_pieces (second_place form) text) refl)) e
+
+plan_speaks : (string : SetString) (form : Form) (complement : Bool) (s2 : Option (List ℕ)) (r : Result (List Piece) SetFaultKind) (fault : SetFault) → Speaks r
+    → and_then (in_string string r) (λ firsts. plan_from form complement firsts s2) ≡ Err fault → fault.kind ≢ Memory
+plan_speaks string form complement s2 (Ok firsts) fault speaks e = from_speaks form complement firsts s2 fault e
+plan_speaks string form complement s2 (Err k) fault speaks e = let same : k ≡ fault.kind = cc in λ memory. speaks (cc)
+
+pub never_memory : NeverMemory
+never_memory form complement s1 s2 fault e = plan_speaks _ form complement s2 (string_pieces First s1) fault (string_said First s1 (string_pieces First s1) refl) e

@@ -1,8 +1,9 @@
 -- The stretches of a table move each byte to its image: below the first byte of the first one nothing is moved, and a
 -- byte in front of them is in no other.
-use Rattle.ptlangs.proofs.Common.{◌≡◌, ℕ, zero, suc, ◌+◌, ◌<◌, ◌≤◌, ◌%◌, ◌==◌, ◌&&◌, Bool, true, false, cond, List, [], ◌∷◌, length, drop, reverse, get_or, refl, sym, ◌∙◌, ap, arith, sum_by}
-use Rattle.ptlangs.proofs.Common.{nat_tests, sum_by-cons, sum_by-IsPermutation, IsPermutation-reverse, Stretch, shift_of, in_front, stretches_from, added, shifted}
-use Rattle.std.proofs.Math.Seq.{drop-cons}
+use Rattle.ptlangs.proofs.Common.{◌≡◌, ℕ, zero, suc, ◌+◌, ◌<◌, ◌≤◌, ◌%◌, ◌==◌, ◌&&◌, Bool, true, cond, List, [], ◌∷◌, length, drop, reverse, get_or, refl, sym, ◌∙◌, ap, arith, sum_by, nat_tests}
+use Rattle.ptlangs.proofs.Common.{sum_by-cons, sum_by-IsPermutation, IsPermutation-reverse, Stretch, shift_of, in_front, stretches_from, added, shifted, cond-false, cond-true, eq-eqb, eqb-true}
+use Rattle.ptlangs.proofs.Common.{ne_eqb, drop_more}
+use Rattle.std.proofs.lemmas.Bool.{cond_both}
 
 -- what stretches add to a byte
 abbrev pub moved : List Stretch → ℕ → ℕ
@@ -38,84 +39,63 @@ module _ (b by : ℕ) where
 
   front_from : (ss : List Stretch) → AreFrom (b + 1) ss → AreFrom b (in_front b by ss)
   front_from [] from = ((omega arith, omega arith), tt)
-  front_from (s ∷ ss) from = by_test (goes_on s) refl
-    where
-      by_test : (t : Bool) → goes_on s ≡ t → AreFrom b (cond t (record { first = b; last = s.last; by = by } ∷ ss) (record { first = b; last = b; by = by } ∷ s ∷ ss))
-      by_test true is = ((omega arith, omega (arith, from.0.0, from.0.1)), weaker b ss from.1)
-      by_test false is = ((omega arith, omega arith), weaker b (s ∷ ss) from)
+  front_from (s ∷ ss) from =
+      cond_both (goes_on s) _ _ (AreFrom b) (λ is. ((omega arith, omega (arith, from.0.0, from.0.1)), weaker b ss from.1)) (λ is. ((omega arith, omega arith), weaker b (s ∷ ss) from))
+
+  alone : (last : ℕ) (more : List Stretch) → b ≤ last → AreFrom (b + 1) more → moved (record { first = b; last = last; by = by } ∷ more) b ≡ by
+  alone last more low behind =
+      sum_by-cons (λ s. added s b) (record { first = b; last = last; by = by }) more
+      ∙ ap (λ (n : ℕ). added (record { first = b; last = last; by = by }) b + n) (none_below (b + 1) b more behind (omega arith)) ∙ grind (arith, nat_tests, low)
 
   -- it adds its shift to the byte, and nothing else does
   at_front : (ss : List Stretch) → AreFrom (b + 1) ss → moved (in_front b by ss) b ≡ by
-  at_front [] from = only
-    where
-      only : moved (record { first = b; last = b; by = by } ∷ []) b ≡ by
-      only = sum_by-cons (λ s. added s b) (record { first = b; last = b; by = by }) [] ∙ grind (arith, nat_tests)
-  at_front (s ∷ ss) from = by_test (goes_on s) refl
-    where
-      one : (last : ℕ) (more : List Stretch) → b ≤ last → AreFrom (b + 1) more → moved (record { first = b; last = last; by = by } ∷ more) b ≡ by
-      one last more low behind =
-          sum_by-cons (λ s. added s b) (record { first = b; last = last; by = by }) more
-          ∙ ap (λ (n : ℕ). added (record { first = b; last = last; by = by }) b + n) (none_below (b + 1) b more behind (omega arith)) ∙ grind (arith, nat_tests, low)
+  at_front [] from = alone b [] (omega arith) tt
+  at_front (s ∷ ss) from =
+      cond_both (goes_on s) _ _ (λ (all : List Stretch). moved all b ≡ by) (λ is. alone s.last ss (omega (arith, from.0.0, from.0.1)) from.1) (λ is. alone b (s ∷ ss) (omega arith) from)
 
-      by_test : (t : Bool) → goes_on s ≡ t → moved (cond t (record { first = b; last = s.last; by = by } ∷ ss) (record { first = b; last = b; by = by } ∷ s ∷ ss)) b ≡ by
-      by_test true is = one s.last ss (omega (arith, from.0.0, from.0.1)) from.1
-      by_test false is = one b (s ∷ ss) (omega arith) from
+  past : (x : ℕ) → b < x → added (record { first = b; last = b; by = by }) x ≡ 0
+  past x high = grind (arith, nat_tests, high)
+
+  grown : (s : Stretch) (x : ℕ) → b < x → goes_on s ≡ true → added (record { first = b; last = s.last; by = by }) x ≡ added s x
+  grown s x high is = grind (arith, nat_tests, high, joined s is)
 
   -- and nothing to those behind it
   past_front : (ss : List Stretch) (x : ℕ) → b < x → moved (in_front b by ss) x ≡ moved ss x
-  past_front [] x high = sum_by-cons (λ s. added s x) (record { first = b; last = b; by = by }) [] ∙ grind (arith, nat_tests, high)
-  past_front (s ∷ ss) x high = by_test (goes_on s) refl
-    where
-      by_test : (t : Bool) → goes_on s ≡ t → moved (cond t (record { first = b; last = s.last; by = by } ∷ ss) (record { first = b; last = b; by = by } ∷ s ∷ ss)) x ≡ moved (s ∷ ss) x
-      by_test true is =
-          sum_by-cons (λ s. added s x) (record { first = b; last = s.last; by = by }) ss
-          ∙ ap (λ (n : ℕ). n + moved ss x) grown ∙ sym (sum_by-cons (λ s. added s x) s ss)
-        where
-          grown : added (record { first = b; last = s.last; by = by }) x ≡ added s x
-          grown = grind (arith, nat_tests, high, joined s is)
-      by_test false is =
-          omega (arith, sum_by-cons (λ s. added s x) (record { first = b; last = b; by = by }) (s ∷ ss), out)
-        where
-          out : added (record { first = b; last = b; by = by }) x ≡ 0
-          out = grind (arith, nat_tests, high)
+  past_front [] x high = sum_by-cons (λ s. added s x) (record { first = b; last = b; by = by }) [] ∙ ap (λ (n : ℕ). n + 0) (past x high)
+  past_front (s ∷ ss) x high = cond_both (goes_on s) _ _ (λ (all : List Stretch). moved all x ≡ moved (s ∷ ss) x)
+      (λ is. sum_by-cons (λ s. added s x) (record { first = b; last = s.last; by = by }) ss
+      ∙ ap (λ (n : ℕ). n + moved ss x) (grown s x high is) ∙ sym (sum_by-cons (λ s. added s x) s ss))
+      (λ is. omega (arith, sum_by-cons (λ s. added s x) (record { first = b; last = b; by = by }) (s ∷ ss), past x high))
 
   -- there are no fewer
   front_longer : (ss : List Stretch) → length ss ≤ length (in_front b by ss)
   front_longer [] = omega arith
-  front_longer (s ∷ ss) = by_test (goes_on s)
-    where
-      by_test : (t : Bool) → length (s ∷ ss) ≤ length (cond t (record { first = b; last = s.last; by = by } ∷ ss) (record { first = b; last = b; by = by } ∷ s ∷ ss))
-      by_test true = omega arith
-      by_test false = omega arith
+  front_longer (s ∷ ss) = cond_both (goes_on s) _ _ (λ (all : List Stretch). length (s ∷ ss) ≤ length all) (λ is. omega arith) (λ is. omega arith)
 
 -- ---- the stretches of images
 
 are_from : (b : ℕ) (images : List ℕ) → AreFrom b (stretches_from b images)
 are_from b [] = tt
-are_from b (image ∷ images) = by_test (are_from (b + 1) images) (shift_of b image == 0)
-  where
-    by_test : AreFrom (b + 1) (stretches_from (b + 1) images) → (t : Bool) → AreFrom b (cond t (stretches_from (b + 1) images) (in_front b (shift_of b image) (stretches_from (b + 1) images)))
-    by_test from true = weaker b (stretches_from (b + 1) images) from
-    by_test from false = front_from b (shift_of b image) (stretches_from (b + 1) images) from
+are_from b (image ∷ images) =
+    let behind = stretches_from (b + 1) images in
+    cond_both (shift_of b image == 0) _ _ (AreFrom b) (λ is. weaker b behind (are_from (b + 1) images)) (λ is. front_from b (shift_of b image) behind (are_from (b + 1) images))
 
 moves_by : (b k : ℕ) (images : List ℕ) → k < length images → moved (stretches_from b images) (b + k) ≡ shift_of (b + k) (get_or images k 0)
 moves_by b k [] low = absurd (omega (arith, low))
 moves_by b zero (image ∷ images) low =
     let same : b + 0 ≡ b = omega arith in
-    ap (moved (stretches_from b (image ∷ images))) same ∙ by_test (shift_of b image == 0) refl ∙ ap (λ (n : ℕ). shift_of n image) (sym same)
-  where
-    by_test : (t : Bool) → (shift_of b image == 0) ≡ t → moved (cond t (stretches_from (b + 1) images) (in_front b (shift_of b image) (stretches_from (b + 1) images))) b ≡ shift_of b image
-    by_test true is = none_below (b + 1) b (stretches_from (b + 1) images) (are_from (b + 1) images) (omega arith) ∙ grind (arith, nat_tests, is)
-    by_test false is = at_front b (shift_of b image) (stretches_from (b + 1) images) (are_from (b + 1) images)
+    let behind = stretches_from (b + 1) images in
+    let here : moved (stretches_from b (image ∷ images)) b ≡ shift_of b image =
+    cond_both (shift_of b image == 0) _ _ (λ (ss : List Stretch). moved ss b ≡ shift_of b image)
+    (λ is. none_below (b + 1) b behind (are_from (b + 1) images) (omega arith) ∙ sym (eqb-true (shift_of b image) 0 is)) (λ is. at_front b (shift_of b image) behind (are_from (b + 1) images)) in
+    rw same here
 moves_by b (suc k) (image ∷ images) low =
     let same : b + suc k ≡ (b + 1) + k = omega arith in
-    ap (moved (stretches_from b (image ∷ images))) same ∙ by_test (shift_of b image == 0)
-    ∙ moves_by (b + 1) k images (omega (arith, low)) ∙ ap (λ (n : ℕ). shift_of n (get_or images k 0)) (sym same)
-  where
-    by_test : (t : Bool) → moved (cond t (stretches_from (b + 1) images) (in_front b (shift_of b image) (stretches_from (b + 1) images))) ((b + 1) + k)
-        ≡ moved (stretches_from (b + 1) images) ((b + 1) + k)
-    by_test true = refl
-    by_test false = past_front b (shift_of b image) (stretches_from (b + 1) images) ((b + 1) + k) (omega arith)
+    let behind = stretches_from (b + 1) images in
+    let later : moved (stretches_from b (image ∷ images)) ((b + 1) + k) ≡ moved behind ((b + 1) + k) =
+    cond_both (shift_of b image == 0) _ _ (λ (ss : List Stretch). moved ss ((b + 1) + k) ≡ moved behind ((b + 1) + k))
+    (λ is. refl) (λ is. past_front b (shift_of b image) behind ((b + 1) + k) (omega arith)) in
+    rw same (later ∙ moves_by (b + 1) k images (omega (arith, low)))
 
 back : (b image : ℕ) → b < 256 → image < 256 → (b + shift_of b image) % 256 ≡ image
 back b image low small = omega (arith, low, small)
@@ -130,16 +110,7 @@ moves_all images long small b low =
 -- one byte more in front
 from_one : (n m : ℕ) (images : List ℕ) → n < length images → m ≡ n + 1
     → stretches_from n (drop n images) ≡ cond (shift_of n (get_or images n 0) == 0) (stretches_from m (drop m images)) (in_front n (shift_of n (get_or images n 0)) (stretches_from m (drop m images)))
-from_one n m images low is = ap (stretches_from n) (drop-cons images n 0 low) ∙ (λ i. with_behind (next i) (behind i))
-  where
-    with_behind : ℕ → ℕ → List Stretch
-    with_behind a b = cond (shift_of n (get_or images n 0) == 0) (stretches_from a (drop b images)) (in_front n (shift_of n (get_or images n 0)) (stretches_from a (drop b images)))
-
-    next : n + 1 ≡ m
-    next = sym is
-
-    behind : suc n ≡ m
-    behind = omega (arith, is)
+from_one n m images low is = rw is (ap (stretches_from n) (drop_more images n 0 low))
 
 -- those behind a byte are no more than all
 no_more : (b n : ℕ) (images : List ℕ) → length (stretches_from (b + n) (drop n images)) ≤ length (stretches_from b images)
@@ -149,25 +120,19 @@ no_more b zero images =
 no_more b (suc n) [] = omega arith
 no_more b (suc n) (image ∷ images) =
     let same : b + suc n ≡ (b + 1) + n = omega arith in
-    omega (arith, no_more (b + 1) n images, by_test (shift_of b image == 0), ap (λ (m : ℕ). length (stretches_from m (drop n images))) same)
-  where
-    by_test : (t : Bool) → length (stretches_from (b + 1) images) ≤ length (cond t (stretches_from (b + 1) images) (in_front b (shift_of b image) (stretches_from (b + 1) images)))
-    by_test true = omega arith
-    by_test false = front_longer b (shift_of b image) (stretches_from (b + 1) images)
+    let behind = stretches_from (b + 1) images in
+    let fewer : length behind ≤ length (stretches_from b (image ∷ images)) =
+    cond_both (shift_of b image == 0) _ _ (λ (ss : List Stretch). length behind ≤ length ss) (λ is. omega arith) (λ is. front_longer b (shift_of b image) behind) in
+    omega (arith, no_more (b + 1) n images, fewer, ap (λ (m : ℕ). length (stretches_from m (drop n images))) same)
 
 -- a byte that is moved stands in front of the stretches behind it, and one that is not leaves them as they are
 pub moved_one : (n m : ℕ) (images : List ℕ) → n < length images → m ≡ n + 1 → (shift_of n (get_or images n 0) ≡ 0 → ⊥)
     → stretches_from n (drop n images) ≡ in_front n (shift_of n (get_or images n 0)) (stretches_from m (drop m images))
-moved_one n m images low is moves =
-    from_one n m images low is ∙ ap (λ (t : Bool). cond t (stretches_from m (drop m images)) (in_front n (shift_of n (get_or images n 0)) (stretches_from m (drop m images)))) unlike
-  where
-    unlike : (shift_of n (get_or images n 0) == 0) ≡ false
-    unlike = grind (arith, nat_tests, moves)
+moved_one n m images low is moves = from_one n m images low is ∙ cond-false _ _ _ (ne_eqb (shift_of n (get_or images n 0)) 0 moves)
 
 pub same_one : (n m : ℕ) (images : List ℕ) → n < length images → m ≡ n + 1 → shift_of n (get_or images n 0) ≡ 0
     → stretches_from n (drop n images) ≡ stretches_from m (drop m images)
-same_one n m images low is stays =
-    from_one n m images low is ∙ ap (λ (k : ℕ). cond (k == 0) (stretches_from m (drop m images)) (in_front n (shift_of n (get_or images n 0)) (stretches_from m (drop m images)))) stays
+same_one n m images low is stays = from_one n m images low is ∙ cond-true _ _ _ (eq-eqb (shift_of n (get_or images n 0)) 0 stays)
 
 pub no_more_behind : (n : ℕ) (images : List ℕ) → length (stretches_from n (drop n images)) ≤ length (stretches_from 0 images)
 no_more_behind n images =

@@ -1,5 +1,5 @@
 use Rattle.ptlangs.proofs.Common.{◌∙◌, min, ap, Ok, array}
-use Rattle.ptlangs.proofs.TrAnswers.{same_answer}
+use Rattle.ptlangs.proofs.TrPlans.{same_answer}
 use Rattle.ptlangs.proofs.TrPlaces.{image-found}
 use Rattle.ptlangs.proofs.images.image.Goals as goal
 

@@ -1,5 +1,5 @@
 use Rattle.ptlangs.proofs.Common.{ap, arith, Ok, array, image_by}
-use Rattle.ptlangs.proofs.TrAnswers.{no_answer}
+use Rattle.ptlangs.proofs.TrPlans.{no_answer}
 use Rattle.ptlangs.proofs.TrPlaces.{same_table}
 use Rattle.ptlangs.proofs.images.images.Goals as goal
 

@@ -1,5 +1,5 @@
 use Rattle.ptlangs.proofs.TrGrammar.{parts-AreParts, AreParts-parts, faults_are_first}
-use Rattle.ptlangs.proofs.TrUnitGrammar.{units_are_spelled}
+use Rattle.ptlangs.proofs.TrNumbers.{units_are_spelled}
 use Rattle.ptlangs.proofs.parts.parts_are_of_the_grammar.Goals as goal
 
 pub returns : goal.returns

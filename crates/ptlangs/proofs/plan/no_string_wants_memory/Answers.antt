@@ -1,4 +1,4 @@
-use Rattle.ptlangs.proofs.TrMemory.{never_memory}
+use Rattle.ptlangs.proofs.TrPlans.{never_memory}
 use Rattle.ptlangs.proofs.plan.no_string_wants_memory.Goals as goal
 
 pub returns : goal.returns

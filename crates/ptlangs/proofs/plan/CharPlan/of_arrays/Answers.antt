@@ -1,6 +1,5 @@
 use Rattle.ptlangs.proofs.Common.{ap, sym, ◌∙◌, Ok, Places, Form, Translate, TranslateSqueeze, DeleteSqueeze, array, plan_of, tables}
-use Rattle.ptlangs.proofs.TrAnswers.{same_answer}
-use Rattle.ptlangs.proofs.TrTables.{tables_are, is_translate}
+use Rattle.ptlangs.proofs.TrPlans.{same_answer, tables_are, is_translate}
 use Rattle.ptlangs.proofs.plan.CharPlan.of_arrays.Goals as goal
 
 pub returns-in-DeleteSqueeze : goal.returns-in-DeleteSqueeze

@@ -1,5 +1,5 @@
 use Rattle.ptlangs.proofs.Common.{[], ap, sym, ◌∙◌, Form, Squeeze, Delete, plan_of, tables}
-use Rattle.ptlangs.proofs.TrTables.{tables_are, is_squeeze}
+use Rattle.ptlangs.proofs.TrPlans.{tables_are, is_squeeze}
 use Rattle.ptlangs.proofs.plan.CharPlan.of_one.Goals as goal
 
 pub returns-in-Delete : goal.returns-in-Delete

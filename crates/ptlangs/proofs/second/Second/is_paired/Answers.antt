@@ -1,7 +1,7 @@
 -- A walk over the pieces of the second string: the first class without one that it faces refuses the pair, and a fault
 -- in a piece is told by another reading.
 use Rattle.ptlangs.proofs.Common.{◌∙◌, ap, sym, arith, Ok}
-use Rattle.ptlangs.proofs.TrAnswers.{same_answer, no_answer}
+use Rattle.ptlangs.proofs.TrPlans.{same_answer, no_answer}
 use Rattle.ptlangs.proofs.TrWalks.{walk_never, array-bound, paired-unfaced, paired-more, paired-end, length-members}
 use Rattle.ptlangs.proofs.second.Second.is_paired.Goals as goal
 
