@@ -1,16 +1,16 @@
 -- A tool that goes over its operands, one after another.
-use Rattle.ptrun.proofs.Common.{cases_eq, cases_Bool, ◌≡◌, ◌≢◌, ◌⊎◌, ⊎_elim, inl, inr, ℕ, ◌<◌, ◌≤◌, Bool, true, false, cond, List, [], ◌∷◌, ◌++◌, Option, Some, None, Result, Ok, Err, ◌+◌, length}
-use Rattle.ptrun.proofs.Common.{take, map, set, max, refl, sym, ◌∙◌, ap, subst, arith, append_assoc, length-append, length-set, flat_map, option_map, list_any, append-nil, take_all, map-append}
-use Rattle.ptrun.proofs.Common.{get_or-set_same, get_or-set_other, length-map, take-append_seam, take-length, flat_map-append, false≢true, Reader, IsSound, HasReadCause, Output, Wrote, Slots, total}
-use Rattle.ptrun.proofs.Common.{SinkState, wrote_trans, wrote_nothing, Given, nothing_left, Agrees, Begins, Came, Finished, Ends, IsPass, Tool, FlowFault, Read, Write, Memory, World, Received, at}
-use Rattle.ptrun.proofs.Common.{is_unopened, AllowsAt, Allows, is_in, found, founds, opened, sources, reader_at, no_reader, shut, CameAt, IsReceived, IsFresh, HasFailed, IsTooLong, Tells, unopened}
-use Rattle.ptrun.proofs.Common.{not_opened, name_of, KeepsUp, PassedOn, LastEarlier, decided_of, largest, up_to_open, each_out, each_bound, each_decided, one_by_one, Done, Whole, Unopened, Cause}
-use Rattle.ptrun.proofs.Common.{blame, last_words, status_after, IsWithin, Went, get_or, get_or_default, All}
+use Rattle.ptrun.proofs.Common.{take-append-add, cases_eq, cases_Bool, ◌≡◌, ◌≢◌, ◌⊎◌, ⊎_elim, inl, inr, ℕ, ◌<◌, ◌≤◌, Bool, true, false, cond, List, [], ◌∷◌, ◌++◌, Option, Some, None, Result, Ok, Err}
+use Rattle.ptrun.proofs.Common.{◌+◌, length, take, map, set, max, refl, sym, ◌∙◌, ap, subst, arith, append_assoc, length-append, length-set, flat_map, option_map, list_any, append-nil, take_all}
+use Rattle.ptrun.proofs.Common.{map-append, get_or-set_same, get_or-set_other, length-map, take-append_seam, take-length, flat_map-append, false≢true, Reader, IsSound, HasReadCause, Output, Wrote}
+use Rattle.ptrun.proofs.Common.{Slots, total, SinkState, wrote_trans, wrote_nothing, Given, nothing_left, Agrees, Begins, Came, Finished, Ends, IsPass, Tool, FlowFault, Read, Write, Memory, World}
+use Rattle.ptrun.proofs.Common.{Received, at, is_unopened, AllowsAt, Allows, is_in, found, founds, opened, sources, reader_at, no_reader, shut, CameAt, IsReceived, IsFresh, HasFailed, IsTooLong}
+use Rattle.ptrun.proofs.Common.{Tells, unopened, not_opened, name_of, KeepsUp, PassedOn, LastEarlier, decided_of, largest, up_to_open, each_out, each_bound, each_decided, one_by_one, Done, Whole}
+use Rattle.ptrun.proofs.Common.{Unopened, Cause, blame, last_words, status_after, IsWithin, Went, get_or, get_or_default, All}
 use Rattle.ptrun.proofs.OnePlace.{all_earlier, last_earlier, sends_now, sends_behind, IsSpent, nothing_yet, done_with, received_of, received_at, nothing_read, never_long, not_long, opened_came}
 use Rattle.ptrun.proofs.OnePlace.{still_refused, came_trans, ended_gives_nothing, refused_same, none_of, agreed, agrees_before, agrees_whole, agrees_some, agrees_least, ended_at, nth_here}
 use Rattle.ptrun.proofs.Sayings.{tells_nothing}
-use Rattle.ptrun.proofs.Sources.{some_same, is_in-other, not_more, by_place, sources_opened, sources_refused, unopened_same, any_same, any_now, any_before, tells_more, largest-append, take_with}
-use Rattle.ptrun.proofs.Sources.{EndedAt, least, decided_founds, Decides, fresh_all}
+use Rattle.ptrun.proofs.Sources.{some_same, is_in-other, not_more, by_place, sources_opened, sources_refused, unopened_same, any_same, any_now, any_before, tells_more, largest-append, EndedAt, least}
+use Rattle.ptrun.proofs.Sources.{decided_founds, Decides, fresh_all}
 
 -- the operands that are done
 pub record Pass (word : List ℕ) (t : Tool) (names : List (List ℕ)) (old now : List Reader) (was is : Output) (told heard : SinkState) (before store : Slots)
@@ -86,9 +86,10 @@ module _ {word : List ℕ} {t : Tool} {names : List (List ℕ)} {old : List Read
           roomy = k.roomy;
           read = λ q. ⊎_elim (none q) (short q);
         },
-        λ w agrees. ends_with so_far (list_any (shut old) done) (list_any (is_unopened w) done) k.so_far_is (any_same (shut old) (is_unopened w) done (refused_same old now k.gave w k.came agrees)),
+        λ w agrees. let same = any_same (shut old) (is_unopened w) done (refused_same old now k.gave w k.came agrees) in
+            let told = ends_with (list_any (is_unopened w) done) in rw (k.so_far_is, same) (told.0, told.1),
       );
-      place = within_any so_far (list_any (shut old) done) k.so_far_is;
+      place = rw k.so_far_is (ends_with (list_any (shut old) done)).2;
       untouched = λ q other. (k.unread q (rw all_taken at other)).0;
       true_so_far = λ w agrees. record { rest = []; is = sym (k.out w agrees) ∙ sym (append-nil k.pushed) };
       told_read = λ q failed clean. absurd (none q failed);
@@ -109,13 +110,9 @@ module _ {word : List ℕ} {t : Tool} {names : List (List ℕ)} {old : List Read
         short q long = ⊎_elim (λ seen. not_long (reader_at old q) (reader_at now q) (at k.gave q) (fresh_all old fresh q) (k.came q) (λ opened. (k.spent q seen opened).short) long)
             (λ unseen. never_long (reader_at old q) (rw (k.unread q unseen).1 at long)) (cases_Bool (is_in done q))
 
-        ends_with : (done : Done) (any closed : Bool) → done ≡ done_with any → any ≡ closed → (last_words word names (Ok done) ≡ []) × (status_after (Ok done) ≡ cond closed 1 0)
-        ends_with done true closed is same = rw (is, sym same) (refl, refl)
-        ends_with done false closed is same = rw (is, sym same) (refl, refl)
-
-        within_any : (done : Done) (any : Bool) → done ≡ done_with any → IsWithin (length old) (Ok done)
-        within_any done true is = rw is tt
-        within_any done false is = rw is tt
+        ends_with : (b : Bool) → (last_words word names (Ok (done_with b)) ≡ []) × (status_after (Ok (done_with b)) ≡ cond b 1 0) × IsWithin (length old) (Ok (done_with b))
+        ends_with true = (refl, refl, tt)
+        ends_with false = (refl, refl, tt)
 
         -- all that they decided was pushed
         all_decided : each_decided t k.gave done ≡ k.pushed
@@ -392,14 +389,14 @@ module _ {word : List ℕ} {t : Tool} {names : List (List ℕ)} {old : List Read
           names = λ w agrees. rw (take-append_seam done (p ∷ more)) (unopened_same word names (shut old) (is_unopened w) done (refused_same old now' gave' w received' agrees));
           ends = cause_of more fault end;
           place = named_within fault;
-          untouched = λ q other. let n = not_more done p q (rw (take_with done p more) at other) in reader_other q n.0 ∙ (k.unread q n.1).0;
+          untouched = λ q other. let n = not_more done p q (rw (take-append-add done (p ∷ more) 1) at other) in reader_other q n.0 ∙ (k.unread q n.1).0;
           true_so_far = λ w agrees. let f = finds w agrees in let b = e.true_so_far f.0 f.2 in let rest = flat_map t.text (later w more) in record {
             rest = b.rest ++ rest;
             is = out_here w more f ∙ (λ i. sym (k.out w (back w agrees)) i ++ (b.is i ++ rest)) ∙ ap (λ (l : List ℕ). k.pushed ++ l) (append_assoc e.pushed b.rest rest)
                 ∙ sym (append_assoc k.pushed e.pushed (b.rest ++ rest));
           };
           sure = λ q failed clean. let here = blamed q failed in sure_here more here clean (failing fault end here).0;
-          keeps_up = rw (take_with done p more) keeps_here;
+          keeps_up = rw (take-append-add done (p ∷ more) 1) keeps_here;
           told_read = λ q failed clean. ap (λ (f : FlowFault). Err f) ((failing fault end (blamed q failed)).1 ∙ ap (λ (n : ℕ). Read n) (place_of q failed));
           peak = λ w agrees. peak_here w more agrees;
         }

@@ -31,16 +31,12 @@ pub checks_of : (word : List ℕ) (t : JointTool) (names : List (List ℕ)) (pla
     → Tells told heard (unopened word names (shut inputs) places) → Checks (together word t names places) inputs told heard lacking
 checks_of word t names places inputs {told} {heard} {lacking} is tells = record {
   is = is;
-  tells = named lacking (sym is);
+  tells = ⊎_elim (λ some. rw some tells) (λ none. rw none (rw (none_named word names (shut inputs) places (sym is ∙ none)) at tells)) (cases_Bool lacking);
   nothing = λ some w same. rw (lacks_as (is_unopened w) same some) (refl, refl, refl);
   at_once = λ _. refl;
   undecided = λ some r same. rw (lacks_as (is_unopened r) same some) refl;
 }
   where
-    named : (b : Bool) → list_any (shut inputs) places ≡ b → Tells told heard (cond b (unopened word names (shut inputs) places) [])
-    named true any = tells
-    named false none = rw (none_named word names (shut inputs) places none) at tells
-
     lacks_as : (test : ℕ → Bool) → ((q : ℕ) → shut inputs q ≡ test q) → lacking ≡ true → list_any test places ≡ true
     lacks_as test same some = sym (any_same (shut inputs) test places same) ∙ sym is ∙ some
 
@@ -313,11 +309,7 @@ module _ (cells : List ℕ) where
   in_named = each_named (λ p. 0 < times cells p) cells (All-from_get_or (λ (p : ℕ). 0 < times cells p) cells 0 (λ c low. omega (arith, times_below cells c low)))
 
   not_in : (p : ℕ) → is_in cells p ≡ false → times cells p ≡ 0
-  not_in p none = by_count (times cells p) refl
-    where
-      by_count : (n : ℕ) → times cells p ≡ n → n ≡ 0
-      by_count zero is = refl
-      by_count (suc n) is = absurd (false≢true (sym none ∙ named_is_in p (omega (arith, is))))
+  not_in p none = ⊎_elim (λ is. is) (λ some. absurd (false≢true (sym none ∙ named_is_in p (omega (arith, some))))) (cases_eq (times cells p) 0)
 
   all_cells : {X : Type 0} (f g : ℕ → X) → ((p : ℕ) → is_in cells p ≡ true → f p ≡ g p) → All (λ p. f p ≡ g p) cells
   all_cells f g same = All-from_get_or (λ (p : ℕ). f p ≡ g p) cells 0 (λ c low. same (get_or cells c 0) (cell_in c low))

@@ -1,10 +1,10 @@
 -- One place of a tool that goes over its operands, what came of its input, what had been decided two blocks earlier
 -- of it, and what of that reached the sink.
-use Rattle.ptrun.proofs.Common.{◌≡◌, ℕ, ◌<◌, ◌^◌, Bool, true, false, cond, List, [], ◌∷◌, ◌++◌, Option, Some, None, length, map, refl, sym, ◌∙◌, ap, arith, append_assoc, length-append, is_none}
-use Rattle.ptrun.proofs.Common.{slice_get, prepend_known, append-nil, nil_from_length, false≢true, Reader, IsDone, prepend_known-append, Given, Agrees, Came, World, Received, at, is_unopened}
-use Rattle.ptrun.proofs.Common.{AllowsAt, Allows, opened, reader_at, no_reader, CameAt, IsReceived, IsNew, IsFresh, IsTooLong, Done, Whole, Unopened, zero, suc, ◌+◌, ◌≤◌, set, take, drop, subst}
-use Rattle.ptrun.proofs.Common.{length-drop, take-append-drop, append_known, get_or-set_other, take-append_seam, Begins, nothing_left, Before, WorksOff, SendsOn, KeepsUp, Output, Extends, Wrote}
-use Rattle.ptrun.proofs.Common.{append_known-append, Tool, decided_of, Meaning, PassedOn, KeptUp, LastEarlier, AnyEarlier, EarlierAs, Earlier}
+use Rattle.ptrun.proofs.Common.{cases_Bool, ⊎_elim, ◌≡◌, ℕ, ◌<◌, ◌^◌, Bool, true, false, cond, List, [], ◌∷◌, ◌++◌, Option, Some, None, length, map, refl, sym, ◌∙◌, ap, arith, append_assoc}
+use Rattle.ptrun.proofs.Common.{length-append, is_none, slice_get, prepend_known, append-nil, nil_from_length, false≢true, Reader, IsDone, prepend_known-append, Given, Agrees, Came, World, Received}
+use Rattle.ptrun.proofs.Common.{at, is_unopened, AllowsAt, Allows, opened, reader_at, no_reader, CameAt, IsReceived, IsNew, IsFresh, IsTooLong, Done, Whole, Unopened, zero, suc, ◌+◌, ◌≤◌, set, take}
+use Rattle.ptrun.proofs.Common.{drop, subst, length-drop, take-append-drop, append_known, get_or-set_other, take-append_seam, Begins, nothing_left, Before, WorksOff, SendsOn, KeepsUp, Output}
+use Rattle.ptrun.proofs.Common.{Extends, Wrote, append_known-append, Tool, decided_of, Meaning, PassedOn, KeptUp, LastEarlier, AnyEarlier, EarlierAs, Earlier}
 use Rattle.std.proofs.Math.ListN.{get_or-map}
 use Rattle.ptlines.proofs.Refilled.{unread_empty}
 use Rattle.std.proofs.Common.{is_none}
@@ -57,18 +57,11 @@ abbrev pub received_of : Reader → Option Given
 received_of r = cond r.refused None (Some nothing_yet)
 
 pub came_unread : (r : Reader) → IsFresh r → CameAt r r (received_of r)
-came_unread r fresh = by_refused r.refused refl
-  where
-    by_refused : (b : Bool) → r.refused ≡ b → CameAt r r (cond b None (Some nothing_yet))
-    by_refused true is = (is, refl)
-    by_refused false is = (is, came_nothing r (fresh is))
+came_unread r fresh = ⊎_elim (λ is. subst (λ (b : Bool). CameAt r r (cond b None (Some nothing_yet))) (sym is) (is, refl))
+    (λ is. subst (λ (b : Bool). CameAt r r (cond b None (Some nothing_yet))) (sym is) (is, came_nothing r (fresh is))) (cases_Bool r.refused)
 
 pub never_long : (r : Reader) → IsTooLong (received_of r) → ⊥
-never_long r = by_refused r.refused
-  where
-    by_refused : (b : Bool) → IsTooLong (cond b None (Some nothing_yet)) → ⊥
-    by_refused true long = long
-    by_refused false long = omega (arith, long)
+never_long r long = ⊎_elim (λ is. rw is at long) (λ is. omega (arith, rw is at long)) (cases_Bool r.refused)
 
 -- of a reader that was opened something came
 pub opened_came : (old now : Reader) (o : Option Given) → old.refused ≡ false → CameAt old now o → (g : Given) × (o ≡ Some g) × Came old now g

@@ -3,7 +3,7 @@
 -- What a tool pushed reaches the sink as far as no write failed, and its last words are said behind what it said. The
 -- headline is a reading of the run in the world that the readers tell: it is allowed by what was received, and each
 -- cause of a failure contradicts a premise.
-use Rattle.ptrun.proofs.Common.{◌≡◌, ⊎_elim, ℕ, Bool, true, false, cond, List, [], ◌++◌, Option, Some, None, Result, Ok, Err, length, map, refl, sym, ◌∙◌, ap, subst, arith, append_assoc}
+use Rattle.ptrun.proofs.Common.{cases_Bool, ◌≡◌, ⊎_elim, ℕ, Bool, true, false, cond, List, [], ◌++◌, Option, Some, None, Result, Ok, Err, length, map, refl, sym, ◌∙◌, ap, subst, arith, append_assoc}
 use Rattle.ptrun.proofs.Common.{length-append, All, append_known, prepend_known, IsAtEnd, append-nil, append_cancel_left, nil_from_length, false≢true, take-length, Reader, Output, text, Wrote, Slots}
 use Rattle.ptrun.proofs.Common.{SinkState, append_known-nil, wrote_trans, Given, Agrees, Begins, FlowFault, Read, Write, Memory, Done, World, Received, at, AllowsAt, Allows, reader_at, shut}
 use Rattle.ptrun.proofs.Common.{is_unopened, CameAt, IsReceived, IsFresh, HasFailed, IsTooLong, TellsAt, TellsWorld, Tells, Meaning, named, messages, unopened, Sinks, sinks, Outcome, Cause, EndsAs}
@@ -52,21 +52,14 @@ reached_of was new pushed empty w = by_known was.taken refl
       split = split;
       taken = w.kept.is;
       whole = λ clean none.
-          let same = ap length (some_same (sym after_is ∙ w.whole clean ∙ before_is)) in
+          let same = ap length (some_same (rw (w.kept.is, is, empty) at (w.whole clean))) in
           nil_from_length (new.staged ++ w.beginning.front) (grind (arith, ap length none, same, ap length split, length-append));
       unknown = λ none. cc;
     }
       where
-        before_is : append_known (text was) pushed ≡ Some (t ++ pushed)
-        before_is = rw (is, empty, append-nil t) refl
-
-        after_is : text new ≡ Some ((t ++ w.kept.front) ++ new.staged)
-        after_is = rw (w.kept.is, is) refl
-
         split : pushed ≡ w.kept.front ++ (new.staged ++ w.beginning.front)
         split = append_cancel_left t pushed (w.kept.front ++ (new.staged ++ w.beginning.front))
-            (some_same (sym before_is ∙ w.beginning.is ∙ ap (λ (k : Option (List ℕ)). append_known k w.beginning.front) after_is)
-            ∙ append_assoc (t ++ w.kept.front) new.staged w.beginning.front ∙ append_assoc t w.kept.front (new.staged ++ w.beginning.front))
+            (some_same (rw (w.kept.is, is, empty, append-nil t) at w.beginning.is) ∙ append_assoc (t ++ w.kept.front) new.staged w.beginning.front ∙ append_assoc t w.kept.front (new.staged ++ w.beginning.front))
 
 -- ---- the world that the readers tell agrees with every reading
 
@@ -185,11 +178,7 @@ fault_of (Err fault) = Some fault
 -- what is to be named has a name
 pub named_of : {m : Meaning} {old new : List Reader} {was is is' : Output} {told heard : SinkState} {before store : Slots} {went ended : Result Done FlowFault}
     → Went m old new was is told heard before store went → Finishes is is' went ended → IsWithin (length old) ended
-named_of {old = old} {is' = is'} {ended = ended} k f = by_fault is'.faulted refl
-  where
-    by_fault : (b : Bool) → is'.faulted ≡ b → IsWithin (length old) ended
-    by_fault true faulted = rw (f.broken faulted) tt
-    by_fault false clean = rw (f.clean clean).0 k.place
+named_of {is' = is'} k f = ⊎_elim (λ faulted. rw (f.broken faulted) tt) (λ clean. rw (f.clean clean).0 k.place) (cases_Bool is'.faulted)
 
 module _ {m : Meaning} {old new : List Reader} {was is is' : Output} {at_first told heard : SinkState} {before store : Slots} {went ended : Result Done FlowFault} (out : SinkState) (o : Outcome)
     (none_said : Tells at_first told []) (k : Went m old new was is told heard before store went) (f : Finishes is is' went ended)
@@ -197,12 +186,8 @@ module _ {m : Meaning} {old new : List Reader} {was is is' : Output} {at_first t
     (made : was ≡ record { taken = out.taken; staged = []; faulted = false; pending = out.pending }) (last_taken : o.out.taken ≡ is'.taken)
     (last_failed : o.out.failed ≡ is'.faulted) (last_pending : o.out.pending ≡ is'.pending)
     (low : before.peak ≡ 0) (peak_is : o.peak ≡ store.peak) (denied_is : o.denied ≡ store.denied) where
-  wrote_all : (b : Bool) → is.faulted ≡ b → Wrote was is' k.pushed
-  wrote_all true faulted = rw (f.wrote.stays faulted) k.wrote
-  wrote_all false clean = rw (append-nil k.pushed) at (wrote_trans was is is' k.pushed [] clean k.wrote f.wrote)
-
   wrote : Wrote was is' k.pushed
-  wrote = wrote_all is.faulted refl
+  wrote = ⊎_elim (λ faulted. rw (f.wrote.stays faulted) k.wrote) (λ clean. rw (append-nil k.pushed) at (wrote_trans was is is' k.pushed [] clean k.wrote f.wrote)) (cases_Bool is.faulted)
 
   reached : Reached was is' k.pushed
   reached = reached_of was is' k.pushed (ap (λ (o : Output). o.staged) made) wrote
@@ -220,11 +205,7 @@ module _ {m : Meaning} {old new : List Reader} {was is is' : Output} {at_first t
   last = last_words m.tool m.names ended
 
   went_to : WentTo m k.received old new k.pushed is'.faulted store.denied k.behind ended
-  went_to = by_fault is'.faulted refl
-    where
-      by_fault : (b : Bool) → is'.faulted ≡ b → WentTo m k.received old new k.pushed is'.faulted store.denied k.behind ended
-      by_fault true faulted = rw (f.broken faulted) faulted
-      by_fault false clean = rw (clean, (f.clean clean).0) (rw (f.clean clean).2 at k.ends)
+  went_to = ⊎_elim (λ faulted. rw (f.broken faulted) faulted) (λ (clean : is'.faulted ≡ false). rw (clean, (f.clean clean).0) (rw (f.clean clean).2 at k.ends)) (cases_Bool is'.faulted)
 
   ends_as : (r : Result Done FlowFault) → ended ≡ r → WentTo m k.received old new k.pushed is'.faulted store.denied k.behind r
       → EndsAs m k.received old new reached.front (k.said ++ last) o k.behind (fault_of r)

@@ -1,9 +1,9 @@
 -- What the operands of a command find, one more operand at a time, and their order, as places.
-use Rattle.ptrun.proofs.Common.{cases_eq, ◌≡◌, ◌≢◌, ⊎_elim, ℕ, zero, suc, ◌==◌, ◌||◌, Bool, true, false, cond, List, [], ◌∷◌, ◌++◌, Option, Some, None, ◌+◌, length, take, map, max, refl, sym, ◌∙◌}
-use Rattle.ptrun.proofs.Common.{ap, subst, arith, append_assoc, add-one, All, flat_map, option_map, list_any, append-nil, flat_map-append, filter_map-append, list_any-append, false≢true, nat_tests}
-use Rattle.ptrun.proofs.Common.{eqb_tells, Given, nothing_left, World, Received, at, is_in, found, founds, opened, sources, Tool, largest, up_to_open, unopened, not_opened, name_of, Tells, SinkState}
-use Rattle.ptrun.proofs.Common.{put_at, ◌<◌, ◌≤◌, drop, get_or, take-append-drop, take_more, get_or-map, length-map, take_all, Reader, reader_at, no_reader, IsFresh, place, places, not, All-nil}
-use Rattle.ptrun.proofs.Common.{All-cons, Bor, words_seen, is_standard, file_names, order_from, Input, Standard, File}
+use Rattle.ptrun.proofs.Common.{or_left, or_right, or-false, cases_Bool, cases_eq, ◌≡◌, ◌≢◌, ⊎_elim, ℕ, zero, suc, ◌==◌, ◌||◌, Bool, true, false, cond, List, [], ◌∷◌, ◌++◌, Option, Some, None, ◌+◌}
+use Rattle.ptrun.proofs.Common.{length, take, map, max, refl, sym, ◌∙◌, ap, subst, arith, append_assoc, All, flat_map, option_map, list_any, append-nil, flat_map-append, filter_map-append}
+use Rattle.ptrun.proofs.Common.{list_any-append, false≢true, nat_tests, eqb_tells, Given, nothing_left, World, Received, at, is_in, found, founds, opened, sources, Tool, largest, up_to_open}
+use Rattle.ptrun.proofs.Common.{unopened, not_opened, name_of, Tells, SinkState, put_at, ◌<◌, ◌≤◌, drop, get_or, take-append-drop, take_more, get_or-map, length-map, take_all, Reader, reader_at}
+use Rattle.ptrun.proofs.Common.{no_reader, IsFresh, place, places, All-nil, All-cons, Bor, words_seen, is_standard, file_names, order_from, Input, Standard, File}
 use Rattle.std.proofs.Math.ListN.{get_or-map as get_or-map_any}
 use Rattle.ptrun.proofs.Sayings.{tells_trans}
 
@@ -15,25 +15,9 @@ some_same same = cc
 pub same_here : (p : ℕ) → (p == p) ≡ true
 same_here p = grind (arith, nat_tests)
 
-pub or_true : (b : Bool) → (b || true) ≡ true
-or_true true = refl
-or_true false = refl
-
-pub or_false : (b : Bool) → (b || false) ≡ b
-or_false true = refl
-or_false false = refl
-
 pub neither : (a b : Bool) → (a || b) ≡ false → (a ≡ false) × (b ≡ false)
 neither true b is = absurd (false≢true (sym is))
 neither false b is = (refl, is)
-
--- the places up to one and with it
-pub take_with : (done : List ℕ) (p : ℕ) (more : List ℕ) → take (length done + 1) (done ++ p ∷ more) ≡ done ++ p ∷ []
-take_with done p more = ap (λ (n : ℕ). take n (done ++ p ∷ more)) (add-one (length done)) ∙ by_parts done
-  where
-    by_parts : (ps : List ℕ) → take (suc (length ps)) (ps ++ p ∷ more) ≡ ps ++ p ∷ []
-    by_parts [] = refl
-    by_parts (q ∷ ps) = ap (λ (l : List ℕ). q ∷ l) (by_parts ps)
 
 -- what holds of this one and of each other holds of each
 pub by_place : (P : ℕ → Type 0) (p : ℕ) → P p → ((q : ℕ) → p ≢ q → P q) → (q : ℕ) → P q
@@ -101,10 +85,10 @@ tells_more word names is_shut done p k says = rw (unopened_more word names is_sh
 
 module _ (test : ℕ → Bool) (done : List ℕ) (p : ℕ) where
   pub any_now : test p ≡ true → list_any test (done ++ p ∷ []) ≡ true
-  any_now is = list_any-append test done (p ∷ []) ∙ ap (λ (b : Bool). list_any test done || (b || false)) is ∙ or_true (list_any test done)
+  any_now is = list_any-append test done (p ∷ []) ∙ or_right (list_any test done) (test p || false) (or_left (test p) false is)
 
   pub any_before : test p ≡ false → list_any test (done ++ p ∷ []) ≡ list_any test done
-  any_before is = list_any-append test done (p ∷ []) ∙ ap (λ (b : Bool). list_any test done || (b || false)) is ∙ or_false (list_any test done)
+  any_before is = list_any-append test done (p ∷ []) ∙ ap (λ (b : Bool). list_any test done || (b || false)) is ∙ or-false (list_any test done)
 
 pub is_in-same : (done : List ℕ) (p : ℕ) → is_in (done ++ p ∷ []) p ≡ true
 is_in-same done p = any_now (λ q. q == p) done p (same_here p)
@@ -152,12 +136,10 @@ module _ (t : Tool) (law : Decides t) (r : Received) where
       → flat_map t.decided (up_to_open (opened (founds nothing_left r before ps) ++ later)) ≡ flat_map t.text (opened (founds [] (least r) before ps)) ++ flat_map t.decided (up_to_open later)
   decided_founds before [] later ended = refl
   decided_founds before (p ∷ ps) later ended =
-      by_input (at r p) (ended p (ap (λ (b : Bool). b || is_in ps p) (same_here p))) (is_in before p) (decided_founds (before ++ p ∷ []) ps later others)
+      by_input (at r p) (ended p (or_left (p == p) (is_in ps p) (same_here p))) (is_in before p)
+      (decided_founds (before ++ p ∷ []) ps later (λ q is. ended q (or_right (p == q) (is_in ps q) is)))
       ∙ ap (λ (v : Option (List ℕ)). flat_map t.text (opened (option_map (λ (b : List ℕ). cond (is_in before p) [] b) v ∷ texts)) ++ rest) (sym (at-least r p))
     where
-      others : (q : ℕ) → is_in ps q ≡ true → EndedAt (at r q)
-      others q is = ended q (ap (λ (b : Bool). (p == q) || b) is ∙ or_true (p == q))
-
       came : List (Option Given)
       came = founds nothing_left r (before ++ p ∷ []) ps
 
@@ -220,11 +202,7 @@ places_end order i all = take_all i (places order) (omega (arith, all, length-ma
 -- each operand has a reader
 pub places_within : (n : ℕ) (operands : List (List ℕ)) → All (λ o. place o < n + length (file_names operands) + 1) (order_from n operands)
 places_within n [] = All-nil (λ (o : Input). place o < n + 0 + 1)
-places_within n (operand ∷ operands) = by_test (is_standard operand) (places_within n operands) (places_within (n + 1) operands)
-  where
-    by_test : (t : Bool) → All (λ o. place o < n + length (file_names operands) + 1) (order_from n operands)
-        → All (λ o. place o < n + 1 + length (file_names operands) + 1) (order_from (n + 1) operands)
-        → All (λ o. place o < n + length (cond (not t) (operand ∷ file_names operands) (file_names operands)) + 1) (cond t (Standard ∷ order_from n operands) (File n ∷ order_from (n + 1) operands))
-    by_test true here later = All-cons (λ (o : Input). place o < n + length (file_names operands) + 1) Standard (order_from n operands) (omega arith) here
-    by_test false here later = All-cons (λ (o : Input). place o < n + length (operand ∷ file_names operands) + 1) (File n) (order_from (n + 1) operands)
-        (omega arith) (λ k d within. omega (arith, later k d within))
+places_within n (operand ∷ operands) = ⊎_elim
+    (λ is. rw is (All-cons (λ (o : Input). place o < n + length (file_names operands) + 1) Standard (order_from n operands) (omega arith) (places_within n operands)))
+    (λ is. rw is (All-cons (λ (o : Input). place o < n + length (operand ∷ file_names operands) + 1) (File n) (order_from (n + 1) operands)
+    (omega arith) (λ k d within. omega (arith, places_within (n + 1) operands k d within)))) (cases_Bool (is_standard operand))
