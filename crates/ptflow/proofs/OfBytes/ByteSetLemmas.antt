@@ -1,21 +1,12 @@
 -- What lanes say of a set of bytes.
 use Rattle.ptflow.proofs.Common.{◌≡◌, ℕ, suc, ◌+◌, ◌*◌, ◌/◌, ◌%◌, ◌<◌, ◌≤◌, ◌^◌, ◌&&◌, ◌||◌, Bool, true, false, List, [], ◌∷◌, length, map, cond, leb, ltb, eqb, zero, ◌≢◌, ⊎_elim, get_or, get_or-take}
-use Rattle.ptflow.proofs.Common.{get_or-drop, take, drop, ◌-◌, set, bit_or, replicate, negsuc, pos, bit_and, refl, ap, ◌∙◌, arith, w8, Fits, top, zip2, sel_l, Each1, cast_unsigned, cast_signed}
-use Rattle.ptflow.proofs.Common.{bit_at, from_bool, swz_l, SwzOk, SwzOk-from_below, zip2_splat, zip2_of_maps, map-map, and_mask, lt-leb, lt-ltb, le-ltb, cases_eq, cases_lt, eq-eqb, nat_tests}
-use Rattle.ptflow.proofs.Common.{get_or-map-range_with_len, pow_pos, length-map, set-get_or, get_or-set_same, get_or-set_other, marks, holds, IsTableOf, IsSetOf, mask_of, ne_eqb}
+use Rattle.ptflow.proofs.Common.{get_or-drop, take, drop, ◌-◌, set, bit_or, replicate, negsuc, pos, bit_and, refl, ap, ◌∙◌, arith, w8, Fits, top, zip2, sel_l, Each1, cast_signed, bit_at, from_bool}
+use Rattle.ptflow.proofs.Common.{swz_l, SwzOk, SwzOk-from_below, zip2_splat, zip2_of_maps, map-map, and_mask, lt-leb, lt-ltb, le-ltb, cases_eq, cases_lt, eq-eqb, nat_tests, get_or-map-range_with_len}
+use Rattle.ptflow.proofs.Common.{pow_pos, length-map, set-get_or, get_or-set_same, get_or-set_other, marks, holds, IsTableOf, IsSetOf, mask_of, ne_eqb}
 use Rattle.std.proofs.lemmas.Nat.Bits.{and_pow, bit_at-lt, bit_at_set_same, bit_at_set_other}
 use Rattle.std.specs.Int.Bits.{or_zero_r}
 use Rattle.ptflow.specs.declared.kernels.sets.ByteSet.{ByteSet}
 use Rattle.ptflow.proofs.OfBytes.LaneLemmas.{sel_maps, mask_right, bytes_same}
-
--- ---- what `select`, `&` and `to_bitmask` read of a mask
-
-pub tops_of_mask : (test : ℕ → Bool) (v : List ℕ) → map (top 7) (map (cast_unsigned w8) (mask_of test v)) ≡ map test v
-tops_of_mask test [] = refl
-tops_of_mask test (b ∷ v) = λ i. lane (test b) i ∷ tops_of_mask test v i
-  where
-    lane : (t : Bool) → top 7 (cast_unsigned w8 (cond t (negsuc 0) (pos 0))) ≡ t
-    lane t = grind arith
 
 -- ---- a table of 16 entries, looked up by a half of each byte
 

@@ -1,9 +1,10 @@
 -- The items of a list that intervals choose. Intervals that lie apart choose one behind another, and each chooses a
 -- slice; so what all choose is the slices in a row.
 use Rattle.ptflow.proofs.Common.{◌≡◌, ⊎_elim, ℕ, zero, suc, ◌+◌, ◌-◌, ◌<◌, ◌≤◌, Bool, true, false, cond, ◌&&◌, ◌||◌, List, [], ◌∷◌, ◌++◌, length, take, drop, get_or, min, append_assoc, length-drop}
-use Rattle.ptflow.proofs.Common.{subst, refl, sym, ◌∙◌, ap, arith, nat_le, cases_order, false≢true, nat_tests, take_all, drop_all, take-take, drop-take, drop_more, length-take-le, drop-append-le}
-use Rattle.ptflow.proofs.Common.{is_selected, AreApart, Interval, chosen_from}
+use Rattle.ptflow.proofs.Common.{subst, refl, sym, ◌∙◌, ap, arith, nat_le, cases_order, false≢true, nat_tests, take_all, drop_all, take-take, drop_more, length-take-le, drop-append-le, is_selected}
+use Rattle.ptflow.proofs.Common.{AreApart, Interval, chosen_from}
 use Rattle.std.proofs.lemmas.List.{take-append-drop}
+use Rattle.ptflow.proofs.OfCut.FieldPlaces.{rest_of}
 
 -- the number lies in the interval
 abbrev pub lies_in : Interval → ℕ → Bool
@@ -147,18 +148,12 @@ slice_is r before count bytes within short =
     let i = r.first - (before + 1) in
     let j = r.last - before in
     let j_is : j ≡ r.last + 1 - (before + 1) = omega arith in
-    sym (chosen_slice r (before + 1) (take count bytes) i j refl j_is ∙ in_piece i j (omega arith))
-  where
-    in_piece : (i j : ℕ) → j ≤ count → take (j - i) (drop i (take count bytes)) ≡ take (j - i) (drop i bytes)
-    in_piece i j fits = ⊎_elim (λ is. same (omega arith)) (⊎_elim (λ low. same (omega (arith, low))) past) (cases_order i j)
-      where
-        same : i ≤ j → take (j - i) (drop i (take count bytes)) ≡ take (j - i) (drop i bytes)
-        same low =
-            let all : i + (count - i) ≡ count = omega arith in
-            cc (drop-take i (count - i) bytes, take-take (j - i) (count - i) (drop i bytes) (omega arith))
+    cc (chosen_slice r (before + 1) (take count bytes) i j refl j_is, rest_of i count bytes, take-take (j - i) (count - i) (drop i bytes) (omega arith))
 
-        past : j < i → take (j - i) (drop i (take count bytes)) ≡ take (j - i) (drop i bytes)
-        past high = let none : j - i ≡ 0 = omega arith in rw none refl
+drop_min : (i : ℕ) (xs : List ℕ) → drop (min i (length xs)) xs ≡ drop i xs
+drop_min zero xs = let least : min 0 (length xs) ≡ 0 = omega arith in cc
+drop_min (suc i) [] = let least : min (suc i) 0 ≡ 0 = omega arith in cc
+drop_min (suc i) (x ∷ xs) = let least : min (suc i) (suc (length xs)) ≡ suc (min i (length xs)) = omega arith in cc (drop_min i xs)
 
 -- the rest of the bytes, where the interval reaches the end of the piece in front of them
 pub rest_is : (r : Interval) (before count : ℕ) (bytes : List ℕ) → count ≤ length bytes → before + count ≤ r.last
@@ -166,28 +161,12 @@ pub rest_is : (r : Interval) (before count : ℕ) (bytes : List ℕ) → count �
 rest_is r before count bytes within reaches =
     let i = r.first - (before + 1) in
     let long : length (take count bytes) ≡ count = length-take-le count bytes within in
-    let piece : chosen (lies_in r) (before + 1) (take count bytes) ≡ drop (min i count) (take count bytes) =
-    chosen_slice r (before + 1) (take count bytes) i (r.last + 1 - (before + 1)) refl refl ∙ all_of i (omega (arith, long)) in
-    cc (take-append-drop count bytes, drop-append-le (min i count) (take count bytes) (drop count bytes) (omega (arith, long)), piece)
-  where
-    all_of : (i : ℕ) → length (take count bytes) ≤ r.last + 1 - (before + 1) → take ((r.last + 1 - (before + 1)) - i) (drop i (take count bytes)) ≡ drop (min i count) (take count bytes)
-    all_of i fits = ⊎_elim (λ is. near (omega arith)) (⊎_elim (λ low. near (omega (arith, low))) far) (cases_order i count)
-      where
-        near : i ≤ count → take ((r.last + 1 - (before + 1)) - i) (drop i (take count bytes)) ≡ drop (min i count) (take count bytes)
-        near low = let least : min i count ≡ i = omega arith in cc (take_all ((r.last + 1 - (before + 1)) - i) (drop i (take count bytes)) (omega (arith, length-drop i (take count bytes))))
-
-        far : count < i → take ((r.last + 1 - (before + 1)) - i) (drop i (take count bytes)) ≡ drop (min i count) (take count bytes)
-        far high =
-            let long : length (take count bytes) ≡ count = length-take-le count bytes within in
-            let none : drop i (take count bytes) ≡ [] = drop_all i (take count bytes) (omega (arith, long)) in
-            cc (take-nil ((r.last + 1 - (before + 1)) - i), drop_all (min i count) (take count bytes) (omega (arith, long)))
+    let piece : chosen (lies_in r) (before + 1) (take count bytes) ≡ drop i (take count bytes) =
+    chosen_slice r (before + 1) (take count bytes) i (r.last + 1 - (before + 1)) refl refl
+    ∙ take_all (r.last + 1 - (before + 1) - i) (drop i (take count bytes)) (omega (arith, long, length-drop i (take count bytes))) in
+    cc (take-append-drop count bytes, drop-append-le (min i count) (take count bytes) (drop count bytes) (omega (arith, long)), piece, drop_min i (take count bytes))
 
 -- ---- a copy of bytes that were chosen, out of the first `end`
-
-cut_off : (from end : ℕ) (bytes : List ℕ) → from ≤ end → take (end - from) (drop from bytes) ≡ drop from (take end bytes)
-cut_off from end bytes order =
-    let whole : from + (end - from) ≡ end = omega arith in
-    cc (drop-take from (end - from) bytes)
 
 module _ {all : List Interval} {before count end : ℕ} (bytes : List ℕ) {was : List ℕ} {start : ℕ} (in_piece : count ≤ end) (in_bytes : end ≤ length bytes)
     {i : ℕ} {is : List ℕ} {at : ℕ} (k : Choosing all i before (take count (take end bytes)) (drop count (take end bytes)) was is start at) where
@@ -204,7 +183,7 @@ module _ {all : List Interval} {before count end : ℕ} (bytes : List ℕ) {was 
   piece_long = length-take-le count (take end bytes) (omega (arith, long, in_piece))
 
   pub copied_done : {is' : List ℕ} → length all ≤ i → is' ≡ is ++ take (end - count) (drop count bytes) → is' ≡ was ++ (chosen (is_selected all) (before + 1) piece ++ tail)
-  copied_done past copied = cc (cut_off _ _ bytes in_piece, choosing_done k past)
+  copied_done past copied = cc (rest_of count end bytes, choosing_done k past)
 
   module _ (within : i < length all) (is' : List ℕ) where
     abbrev at_i : Interval
@@ -213,7 +192,7 @@ module _ {all : List Interval} {before count end : ℕ} (bytes : List ℕ) {was 
     pub copied_ends : {from : ℕ} → from ≡ min (at_i.first - (before + 1)) count → before + count ≤ at_i.last → is' ≡ is ++ take (end - from) (drop from bytes)
         → is' ≡ was ++ (chosen (is_selected all) (before + 1) piece ++ tail)
     copied_ends {from} from_is reaches copied =
-        cc (cut_off from end bytes (omega (arith, in_piece)), rest_is at_i before count (take end bytes) (omega (arith, long, in_piece)) reaches, choosing_ends k within (omega (arith, piece_long)))
+        cc (rest_of from end bytes, rest_is at_i before count (take end bytes) (omega (arith, long, in_piece)) reaches, choosing_ends k within (omega (arith, piece_long)))
 
     pub copied_more : {from to : ℕ} → from ≡ at_i.first - (before + 1) → to ≡ at_i.last - before → at_i.last < before + count → is' ≡ is ++ take (to - from) (drop from bytes)
         → Choosing all (i + 1) before piece tail was is' start (at + (to - from))

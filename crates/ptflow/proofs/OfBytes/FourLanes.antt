@@ -23,7 +23,7 @@ or_lanes (f ∷ fs) (g ∷ gs) = λ i. lane f g i ∷ or_lanes fs gs i
     lane : (f g : Bool) → bit_or (cond f 255 0) (cond g 255 0) ≡ cond (f || g) 255 0
     lane f g = grind arith
 
-tops_of_lanes : (fs : List Bool) → map (top 7) (lanes_of fs) ≡ fs
+pub tops_of_lanes : (fs : List Bool) → map (top 7) (lanes_of fs) ≡ fs
 tops_of_lanes [] = refl
 tops_of_lanes (f ∷ fs) = λ i. lane f i ∷ tops_of_lanes fs i
   where

@@ -1,8 +1,8 @@
 -- The fields of a line, and where they start. In front of each delimiter one field ends, so the place behind the n-th
 -- is where the fields behind the first n start.
 use Rattle.ptflow.proofs.Common.{◌≡◌, ℕ, ◌+◌, ◌<◌, ◌==◌, ◌-◌, ◌≤◌, Bool, true, false, cond, Option, None, Some, MatchOption, ◌⊎◌, inl, inr, List, [], ◌∷◌, ◌++◌, length, take, drop, get_or, slice_set}
-use Rattle.ptflow.proofs.Common.{refl, sym, ap, arith, length-drop, IfSome, onto_first, join_with_byte, take-add, append-nil, drop-drop, drop-take, drop_more, take-take, take_more_set, length-take-le}
-use Rattle.ptflow.proofs.Common.{flat_map-append, length-slice_split, same_byte, fields, led, StartsAt}
+use Rattle.ptflow.proofs.Common.{refl, sym, ap, arith, length-drop, IfSome, onto_first, join_with_byte, take-add, append-nil, drop-drop, drop_more, take-take, take_more_set, length-take-le}
+use Rattle.ptflow.proofs.Common.{flat_map-append, length-slice_split, same_byte, fields, led, StartsAt, zero, suc}
 
 module _ (d : ℕ) where
   -- the fields in front of a delimiter, and those behind it
@@ -64,21 +64,26 @@ module _ (d : ℕ) where
       omega (arith, start (omega (arith, zero, le)))
   start_kept few line (Some passed) from first count start (inr past) found = λ le. absurd (omega arith)
 
+take_nil : (k : ℕ) → (let none : List ℕ = [] in take k none ≡ none)
+take_nil zero = refl
+take_nil (suc k) = refl
+
 -- what stands in a line from a place on
-pub rest_of : (from to : ℕ) (bytes : List ℕ) → from ≤ to → drop from (take to bytes) ≡ take (to - from) (drop from bytes)
-rest_of from to bytes le =
-    let whole : from + (to - from) ≡ to = omega arith in
-    cc (drop-take from (to - from) bytes)
+pub rest_of : (from to : ℕ) (bytes : List ℕ) → drop from (take to bytes) ≡ take (to - from) (drop from bytes)
+rest_of zero to bytes = let whole : to - 0 ≡ to = omega arith in cc
+rest_of (suc n) zero bytes = let none : 0 - suc n ≡ 0 = omega arith in cc
+rest_of (suc n) (suc to) [] = sym (take_nil (suc to - suc n))
+rest_of (suc n) (suc to) (b ∷ bytes) = let less : suc to - suc n ≡ to - n = omega arith in cc (rest_of n to bytes)
 
 -- a slice of a line
 pub slice_of : (from size : ℕ) {to : ℕ} (bytes : List ℕ) → from + size ≤ to → take size (drop from (take to bytes)) ≡ take size (drop from bytes)
-slice_of from size {to} bytes le = cc (rest_of from to bytes (omega arith), take-take size (to - from) (drop from bytes) (omega arith))
+slice_of from size {to} bytes le = cc (rest_of from to bytes, take-take size (to - from) (drop from bytes) (omega arith))
 
 -- a line and the byte behind it
 pub line_with_end : (to : ℕ) (bytes : List ℕ) → drop to (take (to + 1) bytes) ≡ take 1 (drop to bytes)
 line_with_end to bytes =
     let one : to + 1 - to ≡ 1 = omega arith in
-    cc (rest_of to (to + 1) bytes (omega arith))
+    cc (rest_of to (to + 1) bytes)
 
 -- one byte more is put behind what was put
 pub put_byte : (room bytes : List ℕ) (end : ℕ) {to : ℕ} → end < length room → to < length bytes → take (end + 1) (slice_set room end (get_or bytes to 0)) ≡ take end room ++ take 1 (drop to bytes)

@@ -65,31 +65,24 @@ module _ (selected : ℕ → Bool) where
       → after ≡ set counts (place + 1) (count + one) → PickBegun (place + 1) (count + one) (set row count place) after
   pick_more {place} {count} {row} {counts} {after} {one} low begun told after_is = record {
     is = whole;
-    few = omega (arith, small);
+    few = omega (arith, told, b.2);
     lanes = All-set (λ p. p < 16) row count place (omega arith) begun.lanes;
     long = cc (length-set row count place);
     all_counts = cc (length-set counts (place + 1) (count + one));
-    places = cc (is, written_more (selected (place + 1)) row count place (omega arith), one_place place);
+    places = cc (b.0, written_more (selected (place + 1)) row count place (omega arith), one_place place);
     counted = λ k upto. by_cases k (cases_order k (place + 1)) upto;
   }
     where
-      bit : (t : Bool) → bool_byte t ≡ cond t 1 0
-      bit t = grind arith
+      bit : (t : Bool) → (bool_byte t ≡ cond t 1 0) × (length (cond t (place ∷ []) []) ≡ bool_byte t) × (bool_byte t ≤ 1)
+      bit true = (refl, refl, omega arith)
+      bit false = (refl, refl, omega arith)
 
-      is : one ≡ cond (selected (place + 1)) 1 0
-      is = told ∙ bit (selected (place + 1))
-
-      one_long : (t : Bool) → length (cond t (place ∷ []) []) ≡ cond t 1 0
-      one_long t = grind arith
-
-      one_few : (t : Bool) → cond t 1 0 ≤ 1
-      one_few t = grind arith
-
-      small : one ≤ 1
-      small = omega (arith, is, one_few (selected (place + 1)))
+      b : (bool_byte (selected (place + 1)) ≡ cond (selected (place + 1)) 1 0) × (length (cond (selected (place + 1)) (place ∷ []) []) ≡ bool_byte (selected (place + 1)))
+          × (bool_byte (selected (place + 1)) ≤ 1)
+      b = bit (selected (place + 1))
 
       whole : count + one ≡ length (picked selected (place + 1))
-      whole = omega (arith, is, ap length (one_place place), length-append (picked selected place) (cond (selected (place + 1)) (place ∷ []) []), one_long (selected (place + 1)))
+      whole = omega (arith, told, ap length (one_place place), length-append (picked selected place) (cond (selected (place + 1)) (place ∷ []) []), b.1)
 
       by_cases : (k : ℕ) → (k ≡ place + 1) ⊎ ((k < place + 1) ⊎ (place + 1 < k)) → k ≤ place + 1 → get_or after k 0 ≡ length (picked selected k)
       by_cases k (inl same) upto = cc (get_or-set_same counts (place + 1) (count + one) 0 (omega arith), whole)

@@ -3,8 +3,9 @@
 use Rattle.ptflow.proofs.Common.{◌≡◌, ◌+◌, ◌-◌, suc, map, take, drop, ◌∙◌, ap, arith, count_ones, chunk, take_rest, drop-drop, ones-mask_l, is_byte, is_selected, chosen_piece}
 use lib.Count.{count_trailing_zeros}
 use Rattle.ptflow.proofs.OfCut.ByteRests.{line_on, ends_on, cut_on}
-use Rattle.ptflow.proofs.OfBytes.Nths.{cleared, next_end, some_counted}
+use Rattle.ptflow.proofs.OfBytes.Nths.{NextEnd, cleared, next_end, some_counted}
 use Rattle.ptflow.proofs.tools.cut.bytes.cut_chunk.Goals as goal
+use Rattle.ptflow.proofs.tools.cut.bytes.cut_chunk.Goals.{In-loop-end}
 
 pub returns-then-step-eq0-clause-on : goal.returns-then-step-eq0-clause-on
 returns-then-step-eq0-clause-on c =
@@ -22,21 +23,18 @@ returns-then-step-eq0-clause-on c =
       near = omega arith;
     })
 
+next : (c : In-loop-end) → NextEnd c.args.ending c.args.block.now c.args.from c.loop-end._end (count_trailing_zeros 64 c.loop-end.marked) c.loop-end.step.start
+next c = next_end c.loop-end._end c.loop-end.step.start c.requires.ends (omega arith) c.loop-end.invariant.bits c.loop-end.invariant.ends
+
 pub overflow_sub-end : goal.overflow_sub-end
-overflow_sub-end c =
-    let l = c.loop-end in
-    (next_end l._end l.step.start c.requires.ends (omega arith) l.invariant.bits l.invariant.ends).order
+overflow_sub-end c = (next (goal.at.overflow_sub-end c).In-loop-end).order
 
 pub copy_line-at-requires-clause-within : goal.copy_line-at-requires-clause-within
-copy_line-at-requires-clause-within c =
-    let l = c.loop-end in
-    rw take_rest ((next_end l._end l.step.start c.requires.ends (omega arith) l.invariant.bits l.invariant.ends).first.0.high)
+copy_line-at-requires-clause-within c = rw take_rest ((next (goal.at.copy_line-at-requires-clause-within c).In-loop-end).first.0.high)
 
 pub copy_line-at-requires-clause-room : goal.copy_line-at-requires-clause-room
 copy_line-at-requires-clause-room c =
-    let l = c.loop-end in
-    let e = next_end l._end l.step.start c.requires.ends (omega arith) l.invariant.bits l.invariant.ends in
-    omega arith
+    let e = next (goal.at.copy_line-at-requires-clause-room c).In-loop-end in omega arith
 
 pub loop-end-preserved : goal.loop-end-preserved
 loop-end-preserved c =
@@ -44,13 +42,13 @@ loop-end-preserved c =
     let l = c.loop-end in
     let s = l.step.start in
     let list = c.args.by.now.selected.now in
-    let e = next_end l._end s c.requires.ends (omega arith) l.invariant.bits l.invariant.ends in
+    let e = next (goal.at.loop-end-preserved c).In-loop-end in
     let at = c.args.from + count_trailing_zeros 64 l.marked in
-    let next : suc l._end ≡ l._end + 1 = omega arith in
+    let turn : suc l._end ≡ l._end + 1 = omega arith in
     let behind : s + (at - s + 1) ≡ at + 1 = omega arith in
     let left : drop (at - s + 1) (drop s block) ≡ drop (at + 1) block = cc (drop-drop (at - s + 1) s block) in
     record {
-      bits = rw (← next) (cleared l._end (map (is_byte c.args.ending) (chunk c.args.from 64 block)) l.auto.marked-fits.fits l.invariant.bits);
+      bits = rw (← turn) (cleared l._end (map (is_byte c.args.ending) (chunk c.args.from 64 block)) l.auto.marked-fits.fits l.invariant.bits);
       within = omega arith;
       ends = e.counted;
       on = record {
@@ -67,9 +65,7 @@ loop-end-preserved c =
 
 pub returns-clause-passed : goal.returns-clause-passed
 returns-clause-passed c =
-    let p = is_byte c.args.ending in
-    let loop = c.loop-end in
     let bytes = chunk c.args.from 64 c.args.block.now in
-    let counted = ap count_ones c.requires.ends.is ∙ ones-mask_l p bytes in
-    let some = some_counted p bytes bytes (rw c.requires.ends.is at c.requires.ends.some) in
-    (loop.invariant.passed (omega arith), loop.invariant.within)
+    let counted = ap count_ones c.requires.ends.is ∙ ones-mask_l (is_byte c.args.ending) bytes in
+    let some = some_counted (is_byte c.args.ending) bytes bytes (rw c.requires.ends.is at c.requires.ends.some) in
+    (c.loop-end.invariant.passed (omega arith), c.loop-end.invariant.within)

@@ -1,6 +1,6 @@
 -- The first delimiter is known. So a walk from in front of it may begin behind it, with one field less to pass; any
 -- other walk begins where it is.
-use Rattle.ptflow.proofs.Common.{◌≡◌, ◌+◌, ◌-◌, ◌≤◌, MatchOption, inl, inr, take, drop, length, arith, take_rest, length-take-le, fields, StartsAt}
+use Rattle.ptflow.proofs.Common.{◌≡◌, ◌+◌, ◌-◌, ◌≤◌, MatchOption, inl, inr, take, drop, length, arith, take_rest, fields, StartsAt}
 use Rattle.ptflow.proofs.OfCut.FieldPlaces.{start_kept, rest_of}
 use Rattle.ptflow.proofs.OfBytes.Nths.{few_behind_first, starts_past_first}
 use Rattle.ptflow.proofs.tools.cut.fields.field_behind.Goals as goal
@@ -8,7 +8,7 @@ use Rattle.ptflow.proofs.tools.cut.fields.field_behind.Goals.{then-count-eq0-via
 
 pub returns-then-count-eq0-clause-found : goal.returns-then-count-eq0-clause-found
 returns-then-count-eq0-clause-found c =
-    rw (rest_of c.args.from c.args.to c.args.bytes.now (omega arith)) (rw take_rest at c.field_start.ensures)
+    rw (rest_of c.args.from c.args.to c.args.bytes.now) (rw take_rest at c.field_start.ensures)
 
 pub returns-then-count-eq0-clause-start : goal.returns-then-count-eq0-clause-start
 returns-then-count-eq0-clause-start c =
@@ -29,8 +29,7 @@ returns-in_err-passed-clause-found c =
     let bytes = c.args.bytes.now in
     let line = take c.args.to bytes in
     let zero : c.args.from ≡ 0 = c.requires.start c.if-from-first.false in
-    let within : behind ≤ c.args.to = omega (arith, length-take-le c.args.to bytes c.requires.within.1) in
-    let left = rw (← (rest_of _ _ bytes within)) at (rw take_rest at c.in_err-passed.ensures) in
+    let left = rw (← (rest_of behind c.args.to bytes)) at (rw take_rest at c.in_err-passed.ensures) in
     let few : length (fields d (drop c.args.from line)) ≤ c.args.count =
     rw zero (few_behind_first d line c.args.first c.args.count c.requires.first (omega arith) left) in
     rw c.from_residual.ensures few
@@ -42,6 +41,5 @@ returns-clause-found c =
     let bytes = c.args.bytes.now in
     let line = take c.args.to bytes in
     let zero : c.args.from ≡ 0 = c.requires.start c.if-from-first.false in
-    let within : behind ≤ c.args.to = omega (arith, length-take-le c.args.to bytes c.requires.within.1) in
-    let s = rw (← (rest_of _ _ bytes within)) at (rw take_rest at c.in_ok-passed.ensures) in
+    let s = rw (← (rest_of behind c.args.to bytes)) at (rw take_rest at c.in_ok-passed.ensures) in
     rw zero (starts_past_first d line c.args.first c.args.count c.requires.first (omega arith) s)

@@ -1,7 +1,7 @@
 -- An interval is walked in two steps: to the start of its first field, and to the end of its last one (`FieldWalks`).
 -- What lies between is one slice, with a delimiter in front of it if it is not the first. A walk that meets the end of
 -- the line leaves no field to come.
-use Rattle.ptflow.proofs.Common.{◌+◌, ◌-◌, ◌≤◌, take, drop, get_or, refl, sym, ◌∙◌, arith, append_assoc, length-drop, take-take, length-take-le, ◌<◌, length, ap, join_with_byte, is_selected, fields}
+use Rattle.ptflow.proofs.Common.{◌+◌, ◌-◌, ◌≤◌, take, drop, get_or, refl, sym, ◌∙◌, arith, append_assoc, take-take, length-take-le, ◌<◌, length, ap, join_with_byte, is_selected, fields}
 use Rattle.ptflow.proofs.OfCut.FieldPlaces.{rest_of, slice_of, line_with_end, put_byte}
 use Rattle.ptflow.proofs.OfCut.FieldWalks.{not_past, step_fits, slice_fits, coming, all_coming, walking_starts, walking_done, walking_short, walking_ends, walking_slice, walking_more}
 use Rattle.ptflow.proofs.OfBytes.Chosen.{chosen}
@@ -38,10 +38,9 @@ returns-in_default-field_behind-clause-put g c =
     let line = take to bytes in
     let l = c.loop-interval in
     let from = l.at + c.in-Some.skipped in
-    let before : from - l.lead ≤ to + 1 = omega (arith, c.in-Some.ensures.found.fits, length-drop l.at line, l.invariant.walk.fits, length-take-le to bytes (omega arith)) in
     let same = walking_ends c.intervals-selected.result.now _ _ l.invariant.walk c.loop-interval-test.true
     c.in-Some.ensures.found to (take (to + 1) bytes) (sym (take-take to (to + 1) bytes (omega arith))) (sym (line_with_end to bytes)) c.in_default-field_behind.ensures.found in
-    cc (c.copy_near.ensures.copied, same, rest_of _ _ bytes before, l.invariant.put)
+    cc (c.copy_near.ensures.copied, same, rest_of (from - l.lead) (to + 1) bytes, l.invariant.put)
 
 pub loop-interval-preserved : goal.loop-interval-preserved
 loop-interval-preserved g c =
