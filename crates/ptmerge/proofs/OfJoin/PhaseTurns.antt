@@ -21,7 +21,7 @@ use Rattle.ptmerge.proofs.OfMerges.Turning.{BothStand, ahead, all_ended, alone, 
 use Rattle.ptmerge.proofs.OfJoin.GroupStops.{StartsWith, halts}
 use Rattle.ptmerge.proofs.OfMerges.Least.{EachKey, EachKey-at}
 use Rattle.ptmerge.proofs.OfMerges.Orders.{self_at_most}
-use Rattle.ptmerge.proofs.OfMerges.Sending.{wrote_and_sent}
+use Rattle.ptmerge.proofs.OfMerges.GoingOn.{wrote_and_sent}
 use Rattle.ptmerge.specs.declared.faults.MergeFault.TheVariants as faults
 
 -- ---- between groups

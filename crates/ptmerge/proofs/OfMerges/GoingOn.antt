@@ -5,6 +5,7 @@ use Rattle.ptmerge.proofs.Common.{line, with_added, IsKept, Disorder, same_at, s
 use Rattle.ptmerge.proofs.OfMerges.Standing.{alive, comes_less}
 use Rattle.ptmerge.proofs.OfMerges.Slotted.{line_added, line_other}
 use Rattle.ptmerge.proofs.OfMerges.Turning.{own_slots}
+use Rattle.ptmerge.proofs.OfMerges.Pairs.{put_other, put_same, side_case}
 
 -- a fault that is handed on
 pub told : {T E : Type 0} {r : Result T E} {fault : E} → (y : E) × (r ≡ Err y) × (y ≡ fault) → r ≡ Err fault
@@ -26,10 +27,8 @@ place_is Second one two one2 two2 same = λ i. both (sym same i) two2
 
 pub lent_on : (s : Side) (one two one2 two2 : Sorted) (f : Side → Reader) (reader : Reader) → both one2 two2 (other s) ≡ both one two (other s)
     → IsLent (both one2 two2 s) reader → ((side : Side) → IsLent (both one two side) (f side)) → (side : Side) → IsLent (both one2 two2 side) (put s reader f side)
-lent_on First one two one2 two2 f reader same h all First = h
-lent_on First one two one2 two2 f reader same h all Second = rw same (all Second)
-lent_on Second one two one2 two2 f reader same h all First = rw same (all First)
-lent_on Second one two one2 two2 f reader same h all Second = h
+lent_on s one two one2 two2 f reader same h all =
+    side_case (λ side. IsLent (both one2 two2 side) (put s reader f side)) s (rw (put_same s reader f) h) (rw (put_other s reader f, same) (all (other s)))
 
 -- what was pushed may be sent before a read, and is then still what was pushed
 pub wrote_and_sent : (was mid is : Output) (pushed : List ℕ) → mid.faulted ≡ false → Wrote was mid pushed → Wrote mid is [] → Wrote was is pushed

@@ -45,7 +45,7 @@ pub got_more : {end : ℕ} {old now new : Reader} {ls : List (List ℕ)} {before
     → (e : GivesLine now new before after slot) → Got end old new (ls ++ e.line ∷ [])
 got_more {end} {old} {now} {new} {ls} c e = record {
   given = c.given ++ (e.line ++ e.ending);
-  so_far = ⊎_elim opened closed c.so_far;
+  so_far = ⊎_elim opened (λ k. absurd (omega (arith, some_came, ap length (done_gives_nothing k.1 e.goes.reads).0))) c.so_far;
   goes = goes_trans old now new c.given (e.line ++ e.ending) c.goes e.goes;
   ending = e.goes.reads.ending ∙ c.ending;
 }
@@ -61,9 +61,6 @@ got_more {end} {old} {now} {new} {ls} c e = record {
 
     some_came : 0 < length (e.line ++ e.ending)
     some_came = grind (arith, length-append e.line e.ending)
-
-    closed : (lines end c.given ≡ ls) × IsDone now → Far end (c.given ++ (e.line ++ e.ending)) (ls ++ e.line ∷ []) new
-    closed k = let none = (done_gives_nothing k.1 e.goes.reads).0 in absurd (omega (arith, some_came, ap length none))
 
 pub got_end : {end : ℕ} {old now new : Reader} {ls : List (List ℕ)} → Got end old now ls → Goes now new [] → IsDone new → Got end old new ls
 got_end {end} {old} {now} {new} c g done = record {
@@ -87,37 +84,20 @@ module _ (end : ℕ) (old now new : Reader) (ls : List (List ℕ)) (piece : List
   free = rw c.ending at line
 
   -- what comes behind the lines
-  module _ (o : (c.given ≡ text end ls) × AreLines end ls) where
-    front_of : (rest : List ℕ) → ((c.given ++ piece) ++ new.held) ++ rest ≡ text end ls ++ (piece ++ (new.held ++ rest))
-    front_of rest = rw o.0 (simp append_assoc)
-
-    opened_is : (rest : List ℕ) → lines end (((c.given ++ piece) ++ new.held) ++ rest) ≡ ls ++ lines end (piece ++ (new.held ++ rest))
-    opened_is rest = ap (lines end) (front_of rest) ∙ lines_of_text end ls (piece ++ (new.held ++ rest)) o.1
-
-  module _ (k : (lines end c.given ≡ ls) × IsDone now) where
-    nothing : (piece ≡ []) × (new.held ≡ []) × (new.ended ≡ true)
-    nothing = done_gives_nothing k.1 reads
-
-    closed_is : (rest : List ℕ) → rest ≡ [] → lines end (((c.given ++ piece) ++ new.held) ++ rest) ≡ ls
-    closed_is rest none = rw (nothing.0, nothing.1, none) (simp append-nil k.0)
+  front_of : c.given ≡ text end ls → (rest : List ℕ) → ((c.given ++ piece) ++ new.held) ++ rest ≡ text end ls ++ (piece ++ (new.held ++ rest))
+  front_of is rest = rw is (simp append_assoc)
 
   -- the lines of an input that agrees
   pub got_lines : (input : List ℕ) → Agrees (given_of (c.given ++ piece) new) input → More now ls (lines end input) × (max (longest ls) (length piece) ≤ longest (lines end input))
-  got_lines input a = ⊎_elim opened closed c.so_far
-    where
-      opened : (c.given ≡ text end ls) × AreLines end ls → More now ls (lines end input) × (max (longest ls) (length piece) ≤ longest (lines end input))
-      opened o =
-          let more = lines end (piece ++ (new.held ++ a.rest)) in
-          let all : lines end input ≡ ls ++ more = rw a.is (opened_is o a.rest) in (
-            record { more = more; is = all; done = λ d. (let none = done_gives_nothing d reads in rw (none.0, none.1, a.whole none.2)) },
-            omega (arith, ap longest all, longest-append ls more, longest_piece end piece (new.held ++ a.rest) free),
-          )
-
-      closed : (lines end c.given ≡ ls) × IsDone now → More now ls (lines end input) × (max (longest ls) (length piece) ≤ longest (lines end input))
-      closed k =
-          let none = nothing k in
-          let same : lines end input ≡ ls = rw a.is (closed_is k a.rest (a.whole none.2)) in
-          (record { more = []; is = same ∙ sym (append-nil ls); done = λ _. refl }, omega (arith, ap longest same, ap length none.0))
+  got_lines input a = ⊎_elim (λ o.
+      let more = lines end (piece ++ (new.held ++ a.rest)) in
+      let all : lines end input ≡ ls ++ more = ap (lines end) (a.is ∙ front_of o.0 a.rest) ∙ lines_of_text end ls (piece ++ (new.held ++ a.rest)) o.1 in (
+        record { more = more; is = all; done = λ d. (let none = done_gives_nothing d reads in rw (none.0, none.1, a.whole none.2)) },
+        omega (arith, ap longest all, longest-append ls more, longest_piece end piece (new.held ++ a.rest) free),
+      )) (λ k.
+      let none = done_gives_nothing k.1 reads in
+      let same : lines end input ≡ ls = rw (a.is, none.0, none.1, a.whole none.2) (simp append-nil k.0) in
+      (record { more = []; is = same ∙ sym (append-nil ls); done = λ _. refl }, omega (arith, ap longest same, ap length none.0))) c.so_far
 
   -- the lines that are known whole: these, and no more where a read failed
   pub record Known (ws : List (List ℕ)) : Type 0 where
@@ -132,13 +112,10 @@ module _ (end : ℕ) (old now new : Reader) (ls : List (List ℕ)) (piece : List
           let all : whole_lines end (given_of (c.given ++ piece) new) ≡ lines end ((c.given ++ piece) ++ new.held) = rw e in
           let w = (got_lines ((c.given ++ piece) ++ new.held) (record { rest = []; is = sym (append-nil ((c.given ++ piece) ++ new.held)); whole = λ _. refl })).0 in
           record { known = record { more = w.more; is = all ∙ w.is; done = w.done }; exact = λ _ going. absurd (false≢true (sym going ∙ e)) }
-      by_end false e = ⊎_elim opened (λ k. absurd (false≢true (sym e ∙ (nothing k).2))) c.so_far
-        where
-          opened : (c.given ≡ text end ls) × AreLines end ls → Known (whole_lines end (given_of (c.given ++ piece) new))
-          opened o =
-              let is : whole_lines end (given_of (c.given ++ piece) new) ≡ ls ++ ended_lines end (piece ++ (new.held ++ [])) =
-              rw e (ap (ended_lines end) (sym (append-nil ((c.given ++ piece) ++ new.held)) ∙ front_of o []) ∙ ended_more end ls (piece ++ (new.held ++ [])) o.1) in
-              record {
-                known = record { more = ended_lines end (piece ++ (new.held ++ [])); is = is; done = λ d. absurd (false≢true (sym e ∙ (done_gives_nothing d reads).2)) };
-                exact = λ empty _. is ∙ (rw (empty, append-nil piece, ended_none end piece free) (append-nil ls));
-              }
+      by_end false e = ⊎_elim (λ o.
+          let is : whole_lines end (given_of (c.given ++ piece) new) ≡ ls ++ ended_lines end (piece ++ (new.held ++ [])) =
+          rw e (ap (ended_lines end) (sym (append-nil ((c.given ++ piece) ++ new.held)) ∙ front_of o.0 []) ∙ ended_more end ls (piece ++ (new.held ++ [])) o.1) in
+          record {
+            known = record { more = ended_lines end (piece ++ (new.held ++ [])); is = is; done = λ d. absurd (false≢true (sym e ∙ (done_gives_nothing d reads).2)) };
+            exact = λ empty _. is ∙ (rw (empty, append-nil piece, ended_none end piece free) (append-nil ls));
+          }) (λ k. absurd (false≢true (sym e ∙ (done_gives_nothing k.1 reads).2))) c.so_far

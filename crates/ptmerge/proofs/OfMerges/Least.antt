@@ -1,6 +1,7 @@
 -- The entries of a least key come first, and then those of the lines of other keys.
 use Rattle.ptmerge.proofs.Common.{◌≡◌, ◌⊎◌, inl, inr, ℕ, ◌<◌, arith, length, get_or, suc, zero, List, [], ◌∷◌, ◌++◌, Bool, true, false, cond, refl, ap, sym, ◌∙◌, map, append_assoc, append-nil, filter}
 use Rattle.ptmerge.proofs.Common.{bytes_eq, flat_map, Greater, bytes_decides, Side, First, Second, Lines, Tool, insert_key, distinct, keys, with_key, entries_of, by_keys, Cmp, Key, tied_itself}
+use Rattle.ptmerge.proofs.Common.{map-append}
 use Rattle.ptmerge.proofs.OfMerges.Orders.{IsKeyOrder, AtMost, Above, least_or_above, above_not_same, greater_flips, not_same, self_at_most}
 
 -- each of the keys, or of the lines by their keys, passes
@@ -9,8 +10,7 @@ Each P [] = Unit {0}
 Each P (x ∷ xs) = P x × Each P xs
 
 abbrev pub EachKey : (List ℕ → Type 0) → Key → Lines → Type 0
-EachKey P key [] = Unit {0}
-EachKey P key (x ∷ xs) = P (key x) × EachKey P key xs
+EachKey P key xs = Each P (map key xs)
 
 pub Each-weaker : (P Q : List ℕ → Type 0) → ((x : List ℕ) → P x → Q x) → (xs : Lines) → Each P xs → Each Q xs
 Each-weaker P Q f [] e = tt
@@ -22,30 +22,28 @@ EachKey-at P key (x ∷ xs) zero low e = e.0
 EachKey-at P key (x ∷ xs) (suc i) low e = EachKey-at P key xs i (omega (arith, low)) e.1
 
 pub EachKey-weaker : (P Q : List ℕ → Type 0) → ((x : List ℕ) → P x → Q x) → (key : Key) (xs : Lines) → EachKey P key xs → EachKey Q key xs
-EachKey-weaker P Q f key [] e = tt
-EachKey-weaker P Q f key (x ∷ xs) e = (f (key x) e.0, EachKey-weaker P Q f key xs e.1)
+EachKey-weaker P Q f key xs e = Each-weaker P Q f (map key xs) e
 
 pub EachKey-all : (P : List ℕ → Type 0) (key : Key) → ((x : List ℕ) → P x) → (xs : Lines) → EachKey P key xs
 EachKey-all P key f [] = tt
 EachKey-all P key f (x ∷ xs) = (f (key x), EachKey-all P key f xs)
 
-pub EachKey-push : (P : List ℕ → Type 0) (key : Key) (xs : Lines) (x : List ℕ) → EachKey P key xs → P (key x) → EachKey P key (xs ++ x ∷ [])
-EachKey-push P key [] x e h = (h, tt)
-EachKey-push P key (y ∷ xs) x e h = (e.0, EachKey-push P key xs x e.1 h)
+pub Each-append : (P : List ℕ → Type 0) (xs ys : Lines) → Each P xs → Each P ys → Each P (xs ++ ys)
+Each-append P [] ys e h = h
+Each-append P (x ∷ xs) ys e h = (e.0, Each-append P xs ys e.1 h)
+
+pub Each-parts : (P : List ℕ → Type 0) (xs ys : Lines) → Each P (xs ++ ys) → Each P xs × Each P ys
+Each-parts P [] ys e = (tt, e)
+Each-parts P (x ∷ xs) ys e = let r = Each-parts P xs ys e.1 in ((e.0, r.0), r.1)
 
 pub EachKey-append : (P : List ℕ → Type 0) (key : Key) (xs ys : Lines) → EachKey P key xs → EachKey P key ys → EachKey P key (xs ++ ys)
-EachKey-append P key [] ys e h = h
-EachKey-append P key (x ∷ xs) ys e h = (e.0, EachKey-append P key xs ys e.1 h)
+EachKey-append P key xs ys e h = rw (map-append key xs ys) (Each-append P (map key xs) (map key ys) e h)
 
 pub Each-keys : (P : List ℕ → Type 0) (key1 key2 : Key) (xs ys : Lines) → EachKey P key1 xs → EachKey P key2 ys → Each P (map key1 xs ++ map key2 ys)
-Each-keys P key1 key2 [] [] e f = tt
-Each-keys P key1 key2 [] (y ∷ ys) e f = (f.0, Each-keys P key1 key2 [] ys tt f.1)
-Each-keys P key1 key2 (x ∷ xs) ys e f = (e.0, Each-keys P key1 key2 xs ys e.1 f)
+Each-keys P key1 key2 xs ys e f = Each-append P (map key1 xs) (map key2 ys) e f
 
 pub keys-Each : (P : List ℕ → Type 0) (key1 key2 : Key) (xs ys : Lines) → Each P (map key1 xs ++ map key2 ys) → EachKey P key1 xs × EachKey P key2 ys
-keys-Each P key1 key2 [] [] e = (tt, tt)
-keys-Each P key1 key2 [] (y ∷ ys) e = (tt, (e.0, (keys-Each P key1 key2 [] ys e.1).1))
-keys-Each P key1 key2 (x ∷ xs) ys e = let r = keys-Each P key1 key2 xs ys e.1 in ((e.0, r.0), r.1)
+keys-Each P key1 key2 xs ys e = Each-parts P (map key1 xs) (map key2 ys) e
 
 pub Each-insert : (cmp : Cmp) (P : List ℕ → Type 0) (k : List ℕ) (xs : Lines) → P k → Each P xs → Each P (insert_key cmp k xs)
 Each-insert cmp P k [] h e = (h, tt)
@@ -97,10 +95,10 @@ others-keys key1 key2 k [] [] = refl
 others-keys key1 key2 k [] (y ∷ ys) = let ih = others-keys key1 key2 k [] ys in grind (arith, ih)
 others-keys key1 key2 k (x ∷ xs) ys = let ih = others-keys key1 key2 k xs ys in grind (arith, ih)
 
--- a key that is not there has no lines
-with_key-none : (key : Key) (k : List ℕ) (r : Lines) → EachKey (λ y. bytes_eq y k ≡ false) key r → with_key key r k ≡ []
-with_key-none key k [] a = refl
-with_key-none key k (x ∷ r) a = rw a.0 (with_key-none key k r a.1)
+-- no line is kept whose key does not pass
+pub kept_none : (w : List ℕ → Bool) (key : Key) (ls : Lines) → EachKey (λ k. w k ≡ false) key ls → filter (λ line. w (key line)) ls ≡ []
+kept_none w key [] e = refl
+kept_none w key (x ∷ ls) e = rw e.0 (kept_none w key ls e.1)
 
 -- the lines of another key
 with_key_without : (key : Key) (k q : List ℕ) (xs : Lines) → bytes_eq q k ≡ false → with_key key (without key k xs) q ≡ with_key key xs q
@@ -144,8 +142,8 @@ module _ (tool : Tool) (o : IsKeyOrder tool.cmp) where
           → by_keys tool w ls ≡ cond (w k) (entries_of tool ls k) [] ++ by_keys tool w (others_of k ls)
       by (inl d) = rw (d, ← rest) (grind arith)
       by (inr d) =
-          let n = keys-Each (λ y. bytes_eq y k ≡ false) (tool.key First) (tool.key Second) (ls First) (ls Second) d.1 in
-          rw (d.0, ← rest) (grind (arith, none, with_key-none (tool.key First) k (ls First) n.0, with_key-none (tool.key Second) k (ls Second) n.1))
+          let n = Each-parts (λ y. bytes_eq y k ≡ false) (map (tool.key First) (ls First)) (map (tool.key Second) (ls Second)) d.1 in
+          rw (d.0, ← rest) (grind (arith, none, kept_none (λ y. bytes_eq y k) (tool.key First) (ls First) n.0, kept_none (λ y. bytes_eq y k) (tool.key Second) (ls Second) n.1))
 
   -- lines of one key, in front of lines of no lesser keys
   pub with_key-front : (key : Key) (k : List ℕ) (f r : Lines) → EachKey (λ x. x ≡ k) key f → (with_key key (f ++ r) k ≡ f ++ with_key key r k) × (without key k (f ++ r) ≡ without key k r)
@@ -155,8 +153,7 @@ module _ (tool : Tool) (o : IsKeyOrder tool.cmp) where
       rw ((bytes_decides (key x) k).1 e.0) (ap (λ l. x ∷ l) ih.0, ih.1)
 
   pub at_most-same : (key : Key) (k : List ℕ) (f r : Lines) → EachKey (λ x. x ≡ k) key f → EachKey (AtMost tool.cmp k) key r → EachKey (AtMost tool.cmp k) key (f ++ r)
-  at_most-same key k [] r e h = h
-  at_most-same key k (x ∷ f) r e h = (rw e.0 (self_at_most tool.cmp o k), at_most-same key k f r e.1 h)
+  at_most-same key k f r e h = EachKey-append _ key f r (EachKey-weaker _ _ (λ x is. rw is (self_at_most tool.cmp o k)) key f e) h
 
   glued : (t : Bool) (all a b rest : Lines) → all ≡ a ++ b → cond t all [] ++ rest ≡ cond t a [] ++ (cond t b [] ++ rest)
   glued t all a b rest e = grind (arith, append_assoc a b rest)
@@ -182,4 +179,4 @@ module _ (tool : Tool) (o : IsKeyOrder tool.cmp) where
 
   -- no line above the key has it
   pub with_key-above : (key : Key) (k : List ℕ) (r : Lines) → EachKey (Above tool.cmp k) key r → with_key key r k ≡ []
-  with_key-above key k r a = with_key-none key k r (EachKey-weaker _ _ (λ y g. above_not_same tool.cmp o k y g) _ _ a)
+  with_key-above key k r a = kept_none (λ y. bytes_eq y k) key r (EachKey-weaker _ _ (λ y g. above_not_same tool.cmp o k y g) _ _ a)

@@ -147,7 +147,7 @@ module _ (cmp : Cmp) (o : IsKeyOrder cmp) where
 
   -- the tests hold of each key below one of which they hold
   down_le : (l a b : List ℕ) → cmp b a ≡ Greater → is_le (cmp b l) ≡ true → is_le (cmp a l) ≡ true
-  down_le l a b g h = at_most_is_le cmp o a l (at_most_trans cmp o a b l (ap is_gt (greater_flips cmp o b a g)) (is_le_at_most cmp o b l h))
+  down_le l a b g h = grind (arith, at_most_trans cmp o a b l, greater_flips cmp o b a g)
 
   down_lt : (l a b : List ℕ) → cmp b a ≡ Greater → is_lt (cmp b l) ≡ true → is_lt (cmp a l) ≡ true
   down_lt l a b g h = grind (arith, greater_flips, less_flips, above_trans)

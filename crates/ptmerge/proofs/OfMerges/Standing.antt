@@ -123,19 +123,13 @@ module _ (end : ℕ) (cmp : Cmp) (o : IsKeyOrder cmp) (key : Key) (old now new :
 
   -- a line came
   module _ (e : GivesLine now new before after place.previous) (sound : IsSound new) (got : Got end old now ls) (number : place.number ≡ length ls) (same : Bool) where
-    at_line : (last : Option (List ℕ)) (stand : Stand) (b : Bound) → Reaches cmp key (ls ++ e.line ∷ []) ls b
-        → Stands cmp key stand (turned stand (place.number + 1) same) after new (ls ++ e.line ∷ []) ls b → ((r : Lines) → Coming cmp key b r → Coming cmp key (behind last) r)
-        → ((k : List ℕ) → Under cmp (behind last) k → Under cmp b k) → Goal last (turned stand (place.number + 1) same)
-    at_line last stand b reaches stands coming under =
-        at_next last (e.line ∷ []) e.line (turned stand (place.number + 1) same) b (got_more got e) sound (inr (e.line, refl, refl)) (omega (arith, number, length_push ls e.line))
-        reaches stands coming under e.stored (omega (arith, longest-append ls (e.line ∷ [])))
-
     at_head : (last : Option (List ℕ)) → place.previous < length before.lines → Begun cmp key ls last → falls cmp last (key e.line) ≡ false → Goal last (turned Head (place.number + 1) same)
     at_head last within begun rises =
         let now_is : line after place.previous ≡ e.line = rw e.stored (line_of before place.previous e.line within) in
         let more = begun_more e.line begun rises in
         let f = from_next o key last e.line rises in
-        at_line last Head (From (key e.line)) (reaches_head o more) (rw now_is (refl, more, refl)) f.0 f.1
+        at_next last (e.line ∷ []) e.line (turned Head (place.number + 1) same) (From (key e.line)) (got_more got e) sound (inr (e.line, refl, refl)) (omega (arith, number, length_push ls e.line))
+        (reaches_head o more) (rw now_is (refl, more, refl)) f.0 f.1 e.stored (omega (arith, longest-append ls (e.line ∷ [])))
 
     at_fall : (last : Option (List ℕ)) → place.standing ≢ place.previous → Begun cmp key ls last → LastIs key last place before → falls cmp last (key e.line) ≡ true
         → Goal last (turned (Disorder (place.number + 1)) (place.number + 1) same)
@@ -143,8 +137,9 @@ module _ (end : ℕ) (cmp : Cmp) (o : IsKeyOrder cmp) (key : Key) (old now new :
     at_fall (Some k) apart begun is falls_now =
         let kept : line after place.standing ≡ line before place.standing = rw e.stored (line_other before place.previous place.standing e.line (λ i. apart (sym i))) in
         let key_is : k ≡ key (line after place.standing) = is.1 ∙ ap key (sym kept) in
-        at_line (Some k) (Disorder (place.number + 1)) (Fallen (record { last_key = k; line = length ls + 1 })) (reaches_fallen e.line begun falls_now)
-        (rw (← key_is, number) refl) (over cmp key (Some k)) (λ j u. u)
+        at_next (Some k) (e.line ∷ []) e.line (turned (Disorder (place.number + 1)) (place.number + 1) same) (Fallen (record { last_key = k; line = length ls + 1 })) (got_more got e) sound
+        (inr (e.line, refl, refl)) (omega (arith, number, length_push ls e.line)) (reaches_fallen e.line begun falls_now)
+        (rw (← key_is, number) refl) (over cmp key (Some k)) (λ j u. u) e.stored (omega (arith, longest-append ls (e.line ∷ [])))
 
   pub goes_next : {last : Option (List ℕ)} → place.previous < length before.lines → place.standing ≢ place.previous → Got end old now ls → place.number ≡ length ls
       → Begun cmp key ls last → LastIs key last place before → Comes key cmp place next now new before after → Goal last next

@@ -3,10 +3,10 @@
 use Rattle.ptmerge.proofs.Common.{◌≡◌, ◌⊎◌, ⊎_elim, inl, inr, ℕ, ◌+◌, ◌≤◌, false, List, [], ◌∷◌, ◌++◌, Option, Some, None, length, map, refl, sym, ◌∙◌, ap, arith, append_assoc, length-append, last_or}
 use Rattle.ptmerge.proofs.Common.{append-nil, append_cancel_right, Given, whole_lines, Before, Reader, text, ended_lines, IsLine, AreLines, given_of, ended_of_text, text_push, the_lines, Lines, fall}
 use Rattle.ptmerge.proofs.Common.{is_below, ordered_part, Cmp, Key, Bool, filter-append, filter, Begins, text-append, Side, First, Second, Tool, by_keys, decided_entries, disorder, disorder_of}
-use Rattle.ptmerge.proofs.Common.{is_decided, is_settled, other, WorksOff, decided, settled, put, take, length_push, Fall}
+use Rattle.ptmerge.proofs.Common.{is_decided, is_settled, other, WorksOff, decided, settled, put, take, length_push, Fall, map-append}
 use Rattle.ptmerge.proofs.OfMerges.Bounds.{fall_after, fall_is, falls, ordered_after, ordered_is, Bound, FallFrom, Under, Coming}
 use Rattle.ptmerge.proofs.OfMerges.Got.{Far}
-use Rattle.ptmerge.proofs.OfMerges.Least.{EachKey, EachKey-all, EachKey-weaker}
+use Rattle.ptmerge.proofs.OfMerges.Least.{EachKey, EachKey-all, EachKey-weaker, Each-parts, kept_none}
 use Rattle.ptmerge.proofs.OfMerges.Orders.{IsKeyOrder, AtMost, at_most_trans}
 use Rattle.ptmerge.proofs.OfMerges.Passing.{not_below, down_decided, last_has, not_decided, past_none}
 use Rattle.ptmerge.proofs.OfParts.PartsOfKeys.{by_keys_kept}
@@ -143,10 +143,6 @@ module _ (end : ℕ) (given piece : List ℕ) (ls p : Lines) (now new : Reader) 
 
 -- ---- what is decided of two inputs is a beginning of what was pushed, where it is decided by passed lines
 
-kept_none : (w : List ℕ → Bool) (key : Key) (ls : Lines) → EachKey (λ k. w k ≡ false) key ls → filter (λ line. w (key line)) ls ≡ []
-kept_none w key [] e = refl
-kept_none w key (x ∷ ls) e = rw e.0 (kept_none w key ls e.1)
-
 -- two lists that differ in lines that are left out
 kept_same : (w : List ℕ → Bool) (key : Key) (xs ys rest tail : Lines) → xs ++ rest ≡ ys ++ tail → EachKey (λ k. w k ≡ false) key rest
     → EachKey (λ k. w k ≡ false) key tail → filter (λ line. w (key line)) xs ≡ filter (λ line. w (key line)) ys
@@ -205,8 +201,7 @@ module _ (tool : Tool) (o : IsKeyOrder tool.cmp) (ended : Side → Bool) (ls : S
 -- ---- what was decided two blocks earlier
 
 front_has : (P : List ℕ → Type 0) (key : Key) (xs ys : Lines) → EachKey P key (xs ++ ys) → EachKey P key xs
-front_has P key [] ys e = tt
-front_has P key (x ∷ xs) ys e = (e.0, front_has P key xs ys e.1)
+front_has P key xs ys e = (Each-parts P (map key xs) (map key ys) (rw map-append at e)).0
 
 -- q are the passed lines; of p all entries were pushed, and behind them come the others of q
 module _ (tool : Tool) (o : IsKeyOrder tool.cmp) (given : Side → Given) (p q tail : Side → Lines) (bound : Side → Bound)
