@@ -6,7 +6,7 @@ use Rattle.ptmerge.proofs.Common.{ap, arith, zero, ◌<◌, ◌==◌, cond, ◌+
 use Rattle.ptmerge.proofs.Common.{drop_all, get_or_past, take-append-drop, take_all, position_or_len_is, IsFirstByte, nth_field, has_bytes, is_blank, Lines, false≢true, split_around, split_whole}
 use Rattle.ptmerge.proofs.Common.{EndsFirst, IsFieldIn, IsPiece, ends_field, fields_left, IsSpan, ◌||◌, ◌&&◌, map, remove, unwrap_or, onto_first, join_with_byte, eqb-true, drop-append_seam}
 use Rattle.ptmerge.proofs.Common.{append-nil, flat_map-append, Join, Output, Wrote, between, entry, fields, filled, named, others, written, IsAsWritten, is_tidy, led, ⊎_elim, ◌%◌, ◌^◌, eqb, not}
-use Rattle.ptmerge.proofs.Common.{replicate, bit_and, bit_or, subst, or_cases, or_left, or_parts, or_right, length-map, Nowhere, IsEven, UnevenAt, is_uneven}
+use Rattle.ptmerge.proofs.Common.{replicate, bit_and, bit_or, or_cases, or_left, or_parts, or_right, length-map, Nowhere, IsEven, UnevenAt, is_uneven}
 use Rattle.std.proofs.lemmas.List.Quantifiers.{position-Some}
 use Rattle.ptlangs.specs.declared.outlist.OutField.{OutField}
 use Rattle.ptmerge.proofs.OfJoin.Amid.{Amid, amid_ends, amid_fails, amid_more, first_fails}
@@ -222,41 +222,36 @@ module _ (job : Join) (one two : Option (List ℕ)) (none : job.list ≡ None) {
 
 -- ---- words with one space between each two are written as they stand
 
-abbrev pieces : List ℕ → Lines
-pieces bytes = slice_split is_blank bytes
+abbrev pub words_of : Lines → List ℕ
+words_of split = led 32 (filter has_bytes split)
 
--- these pieces of some bytes are a word that goes on, and then others
-record GoesOnBy (split : Lines) (bytes : List ℕ) : Type 0 where
-  word : List ℕ
-  more : Lines
-  is_split : split ≡ word ∷ more
-  is : word ++ led 32 (filter has_bytes more) ≡ bytes
+-- behind a blank, and behind a byte of a word
+abbrev pub Says : Bool → List ℕ → Type 0
+Says true bytes = words_of (slice_split is_blank bytes) ≡ 32 ∷ bytes
+Says false bytes = (c : ℕ) → words_of (onto_first c (slice_split is_blank bytes)) ≡ 32 ∷ c ∷ bytes
 
-abbrev Says : Bool → List ℕ → Type 0
-Says true bytes = led 32 (filter has_bytes (pieces bytes)) ≡ 32 ∷ bytes
-Says false bytes = GoesOnBy (pieces bytes) bytes
+word_more : (c b : ℕ) (split : Lines) {l : List ℕ} → words_of (onto_first b split) ≡ 32 ∷ b ∷ l → words_of (onto_first c (onto_first b split)) ≡ 32 ∷ c ∷ b ∷ l
+word_more c b [] is = ap (λ (l : List ℕ). 32 ∷ c ∷ drop 1 l) is
+word_more c b (f ∷ split) is = ap (λ (l : List ℕ). 32 ∷ c ∷ drop 1 l) is
 
-tidy_says : (blank : Bool) (bytes : List ℕ) → is_tidy blank bytes ≡ true → Says blank bytes
+pub tidy_says : (blank : Bool) (bytes : List ℕ) → is_tidy blank bytes ≡ true → Says blank bytes
 tidy_says true [] tidy = cc
 tidy_says true (b ∷ bytes) tidy = by (b == 9) (b == 32) tidy (tidy_says false bytes)
   where
-    by : (tab space : Bool) → cond (tab || (true && space)) false (is_tidy space bytes) ≡ true → (is_tidy false bytes ≡ true → GoesOnBy (pieces bytes) bytes)
-        → led 32 (filter has_bytes (cond (space || tab) ([] ∷ pieces bytes) (onto_first b (pieces bytes)))) ≡ 32 ∷ b ∷ bytes
+    by : (tab space : Bool) → cond (tab || (true && space)) false (is_tidy space bytes) ≡ true → (is_tidy false bytes ≡ true → Says false bytes)
+        → words_of (cond (space || tab) ([] ∷ slice_split is_blank bytes) (onto_first b (slice_split is_blank bytes))) ≡ 32 ∷ b ∷ bytes
     by true space h more = cc
     by false true h more = cc
-    by false false h more = let m = more h in (λ i. led 32 (filter has_bytes (onto_first b (m.is_split i)))) ∙ ap (λ (l : List ℕ). 32 ∷ b ∷ l) m.is
-tidy_says false [] tidy = record { word = []; more = []; is_split = refl; is = refl }
-tidy_says false (b ∷ bytes) tidy = by (b == 9) (b == 32) refl tidy (tidy_says false bytes) (tidy_says true bytes)
+    by false false h more = more h b
+tidy_says false [] tidy = λ c. refl
+tidy_says false (b ∷ bytes) tidy = λ c. by c (b == 9) (b == 32) refl tidy (tidy_says false bytes) (tidy_says true bytes)
   where
-    by : (tab space : Bool) → (b == 32) ≡ space → cond (tab || (false && space)) false (is_tidy space bytes) ≡ true → (is_tidy false bytes ≡ true → GoesOnBy (pieces bytes) bytes)
-        → (is_tidy true bytes ≡ true → led 32 (filter has_bytes (pieces bytes)) ≡ 32 ∷ bytes)
-        → GoesOnBy (cond (space || tab) ([] ∷ pieces bytes) (onto_first b (pieces bytes))) (b ∷ bytes)
-    by true space e h more words = cc
-    by false true e h more words = record { word = []; more = pieces bytes; is_split = refl; is = words h ∙ ap (λ (x : ℕ). x ∷ bytes) (sym (eqb-true b 32 e)) }
-    by false false e h more words = let m = more h in record { word = b ∷ m.word; more = m.more; is_split = ap (onto_first b) m.is_split; is = ap (λ (l : List ℕ). b ∷ l) m.is }
-
-pub tidy_words : (bytes : List ℕ) → is_tidy true bytes ≡ true → led 32 (filter has_bytes (slice_split is_blank bytes)) ≡ 32 ∷ bytes
-tidy_words bytes tidy = tidy_says true bytes tidy
+    by : (c : ℕ) (tab space : Bool) → (b == 32) ≡ space → cond (tab || (false && space)) false (is_tidy space bytes) ≡ true
+        → (is_tidy false bytes ≡ true → Says false bytes) → (is_tidy true bytes ≡ true → Says true bytes)
+        → words_of (onto_first c (cond (space || tab) ([] ∷ slice_split is_blank bytes) (onto_first b (slice_split is_blank bytes)))) ≡ 32 ∷ c ∷ b ∷ bytes
+    by c true space e h more words = cc
+    by c false true e h more words = ap (λ (l : List ℕ). 32 ∷ c ∷ l) (words h ∙ ap (λ (x : ℕ). x ∷ bytes) (sym (eqb-true b 32 e)))
+    by c false false e h more words = word_more c b (slice_split is_blank bytes) (more h b)
 
 -- ---- lines that stand as they are written
 
@@ -281,8 +276,8 @@ module _ (job : Join) (key : List ℕ) (none : job.list ≡ None) where
   stands_is {n} {line} w keyed = line_is lead n (of line) line key w.is w.first keyed
 
   -- the entry of a pair of such lines
-  pub pair_is : {one two : List ℕ} (end : ℕ) → IsAsWritten job.separator job.field1 one → IsAsWritten job.separator job.field2 two → nth_field job.field1 (of one) ≡ key → nth_field job.field2 (of two) ≡ key
-      → one ++ take (length two - length key) (drop (length key) two) ++ end ∷ [] ≡ entry job key (of one) (of two) ++ end ∷ []
+  pub pair_is : {one two : List ℕ} (end : ℕ) → IsAsWritten job.separator job.field1 one → IsAsWritten job.separator job.field2 two → nth_field job.field1 (of one) ≡ key
+      → nth_field job.field2 (of two) ≡ key → one ++ take (length two - length key) (drop (length key) two) ++ end ∷ [] ≡ entry job key (of one) (of two) ++ end ∷ []
   pair_is {one} {two} end w1 w2 keyed1 keyed2 =
       let ys = led lead (others job.field2 (of two)) in
       ap (λ (l : List ℕ). one ++ l ++ end ∷ []) (behind_key key ys two (stands_is w2 keyed2))
@@ -394,16 +389,15 @@ module _ (bytes : List ℕ) (at n : ℕ) (behind : 0 < at) (room : at + n ≤ le
 
 -- ---- words with one space between each two
 
-next_place : (b x : ℕ) (xs : List ℕ) (k : ℕ) → 1 ≤ k → UnevenAt (x ∷ xs) k ≡ UnevenAt (b ∷ x ∷ xs) (suc k)
-next_place b x xs k low =
-    let before : suc k - 1 ≡ suc (k - 1) = omega (arith, low) in
-    ap (λ (i : ℕ). is_uneven (get_or (b ∷ x ∷ xs) i 0) (get_or (x ∷ xs) k 0) ≡ true) (sym before)
+even_tail : (b x : ℕ) (xs : List ℕ) → Nowhere (UnevenAt (b ∷ x ∷ xs)) 1 (length (b ∷ x ∷ xs)) → Nowhere (UnevenAt (x ∷ xs)) 1 (length (x ∷ xs))
+even_tail b x xs none zero low high uneven = absurd (omega (arith, low))
+even_tail b x xs none (suc k) low high uneven = let e : suc (suc k) - 1 ≡ suc (suc k - 1) = omega arith in none (suc (suc k)) (omega arith) (omega (arith, high)) (rw e uneven)
 
 tidy_rest : (b : ℕ) (xs : List ℕ) → Nowhere (UnevenAt (b ∷ xs)) 1 (length (b ∷ xs)) → (get_or (b ∷ xs) (length xs) 0 == 32) ≡ false → is_tidy (b == 32) xs ≡ true
 tidy_rest b [] none last = ap not last
 tidy_rest b (x ∷ xs) none last =
     ap (λ (t : Bool). cond t false (is_tidy (x == 32) xs)) (false_from_ne_true (is_uneven b x) (none 1 (omega arith) (omega arith)))
-    ∙ tidy_rest x xs (λ k low high uneven. none (suc k) (omega arith) (omega (arith, high)) (subst (λ (T : Type 0). T) (next_place b x xs k low) uneven)) last
+    ∙ tidy_rest x xs (even_tail b x xs none) last
 
 rest_tidy : (b : ℕ) (xs : List ℕ) → is_tidy (b == 32) xs ≡ true → Nowhere (UnevenAt (b ∷ xs)) 1 (length (b ∷ xs)) × ((get_or (b ∷ xs) (length xs) 0 == 32) ≡ false)
 rest_tidy b [] is = (λ k low high uneven. absurd (omega (arith, low, high)), elim (b == 32) as (λ t. not t ≡ true → t ≡ false) [ true ↦ λ h. sym h | false ↦ λ h. refl ] is)
@@ -412,8 +406,7 @@ rest_tidy b (x ∷ xs) is = by (is_uneven b x) refl is (rest_tidy x xs)
     at_each : is_uneven b x ≡ false → Nowhere (UnevenAt (x ∷ xs)) 1 (length (x ∷ xs)) → (k : ℕ) → 1 ≤ k → k < length (b ∷ x ∷ xs) → ¬ UnevenAt (b ∷ x ∷ xs) k
     at_each here more zero low high uneven = absurd (omega (arith, low))
     at_each here more (suc zero) low high uneven = false≢true (sym here ∙ uneven)
-    at_each here more (suc (suc k)) low high uneven =
-        more (suc k) (omega arith) (omega (arith, high)) (subst (λ (T : Type 0). T) (sym (next_place b x xs (suc k) (omega arith))) uneven)
+    at_each here more (suc (suc k)) low high uneven = let e : suc (suc k) - 1 ≡ suc (suc k - 1) = omega arith in more (suc k) (omega arith) (omega (arith, high)) (rw e at uneven)
 
     by : (t : Bool) → is_uneven b x ≡ t → cond t false (is_tidy (x == 32) xs) ≡ true
         → (is_tidy (x == 32) xs ≡ true → Nowhere (UnevenAt (x ∷ xs)) 1 (length (x ∷ xs)) × ((get_or (x ∷ xs) (length xs) 0 == 32) ≡ false))

@@ -191,10 +191,10 @@ module _ {job : Join} {cmp : Cmp} {key : Side → Key} {old : State} {phase : Ph
     between : Between (call_of t.opened) now (both one two) × (end ≡ 4)
     between = rw is at t.phased
 
-    module _ {s : Side} (step : IsAlone cmp key (both one two) now.store s) {new : Output} {e : ℕ} (ends : e ≡ job.end)
+    module _ {s : Side} (step : IsAlone cmp key (both one two) now.store s) {new : Output} {e : ℕ} (ends : e ≡ (old.reader First).ending)
         (pushed : Wrote now.out new (text e (alone_entry job s (head_of now (both one two) s)))) where
       wrote : Wrote now.out new (text job.end (by_keys (join_by job cmp key) all_keys (alone s (head_of now (both one two) s))))
-      wrote = let x = head_of now (both one two) s in wrote_as _ _ _ _ _ _ ends (written_alone job cmp key s x (t.opened.keys s x)) pushed
+      wrote = let x = head_of now (both one two) s in wrote_as _ _ _ _ _ _ (ends ∙ t.opened.w.ending First) (written_alone job cmp key s x (t.opened.keys s x)) pushed
 
       pub alone_on : {one2 two2 : Sorted} {reader : Reader} {after : Slots} → HasPassed key cmp s one two one2 two2 (now.reader s) reader now.store after new
           → IsTurn job cmp key old phase (moved now s reader new after) one2 two2 end
@@ -258,11 +258,12 @@ module _ {job : Join} {cmp : Cmp} {key : Side → Key} {old : State} {phase : Ph
       keyed = λ slot from low. sym (t.opened.keys Second (line now.store slot)) ∙ phase_turns.keyed_slot pairing slot from low ∙ sym pairing.head.1;
     }
 
-    module _ {new : Output} {e : ℕ} (ends : e ≡ job.end)
+    module _ {new : Output} {e : ℕ} (ends : e ≡ (old.reader First).ending)
         (pushed : Wrote now.out new (text e (pairs_of job (key First (line now.store one.standing)) (line now.store one.standing ∷ [])
         (group now.store (first_slot two end) (end_slot two end))))) where
       wrote_pairs : Wrote now.out new (text job.end (pairs_of job pairing.k (line now.store one.standing ∷ []) (pairing.g Second)))
-      wrote_pairs = wrote_as _ _ _ _ _ _ ends (λ j. pairs_of job (sym pairing.head.1 j) (line now.store one.standing ∷ []) (sym (phase_turns.group_stands pairing slots) j)) pushed
+      wrote_pairs = wrote_as _ _ _ _ _ _ (ends ∙ t.opened.w.ending First)
+          (λ j. pairs_of job (sym pairing.head.1 j) (line now.store one.standing ∷ []) (sym (phase_turns.group_stands pairing slots) j)) pushed
 
       pub pair_stops : {reader : Reader} {after : Slots} {fault : MergeFault} {r : Result (Unit {0}) MergeFault} → r ≡ Err fault
           → NotPassed now First one reader after new fault → Leaves job cmp key old (moved now First reader new after) r

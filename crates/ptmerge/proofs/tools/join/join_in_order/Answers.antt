@@ -17,8 +17,7 @@ pub turns-init : goal.turns-init
 turns-init g c =
     let a = opened (join_job c.args.job.now) (g.K.KeyOrder.order c.args.order) (g.K.KeyOrder.key_of c.args.order) c.args.out.now
     (record { total = g.met.K.KeyOrder.total c.args.order; exact = g.met.K.KeyOrder.exact c.args.order }) c.requires.keys c.requires.ready c.requires.sound c.requires.ending c.requires.writable in
-    let e = c.in_ok-merge.ensures in
-    record { order = e.order; turn = let placed = rw e.order at e.placed in rw e.order (begins a e.starts placed e.lent) }
+    record { order = c.in_ok-merge.ensures.order; turn = let e = c.in_ok-merge.ensures in let placed = rw e.order at e.placed in rw e.order (begins a e.starts placed e.lent) }
 
 pub pass_alone-requires-clause-stands : goal.pass_alone-requires-clause-stands
 pass_alone-requires-clause-stands g c = stands_at c.turns.invariant.turn sides.First c.in-First.ensures.stands
@@ -30,15 +29,13 @@ pub turns-preserved-in-Continue-branch-2 : goal.turns-preserved-in-Continue-bran
 turns-preserved-in-Continue-branch-2 g c =
     let i = c.turns.invariant in
     let p = c.pass_alone.ensures in
-    let end = c.ending-ending.ensures ∙ c.requires.ending.0 in
-    record { order = p.order ∙ i.order; turn = rw p.order (alone_on i.turn c.in-Between.is c.in-First.ensures end p.wrote c.in_ok-pass_alone-in-First.ensures.passes) }
+    record { order = p.order ∙ i.order; turn = rw p.order (alone_on i.turn c.in-Between.is c.in-First.ensures c.ending-ending.ensures p.wrote c.in_ok-pass_alone-in-First.ensures.passes) }
 
 pub turns-preserved-in-Continue-branch-3 : goal.turns-preserved-in-Continue-branch-3
 turns-preserved-in-Continue-branch-3 g c =
     let i = c.turns.invariant in
     let p = c.pass_alone-in-Second.ensures in
-    let end = c.ending-ending.ensures ∙ c.requires.ending.0 in
-    record { order = p.order ∙ i.order; turn = rw p.order (alone_on i.turn c.in-Between.is c.in-Second.ensures end p.wrote c.in_ok-pass_alone-in-Second.ensures.passes) }
+    record { order = p.order ∙ i.order; turn = rw p.order (alone_on i.turn c.in-Between.is c.in-Second.ensures c.ending-ending.ensures p.wrote c.in_ok-pass_alone-in-Second.ensures.passes) }
 
 pub turns-smaller-in-Continue-branch-2 : goal.turns-smaller-in-Continue-branch-2
 turns-smaller-in-Continue-branch-2 g c = let h = c.in_ok-pass_alone-in-First.ensures.passes in falls c.turns.invariant.turn sides.First c.turns.phase c.in-First.ensures.stands h.came h.on
@@ -48,14 +45,12 @@ turns-smaller-in-Continue-branch-3 g c = let h = c.in_ok-pass_alone-in-Second.en
 
 pub returns-in_err-pass_alone-in-First : goal.returns-in_err-pass_alone-in-First
 returns-in_err-pass_alone-in-First g c =
-    let i = c.turns.invariant in
-    rw (← i.order) (alone_stops i.turn c.in-Between.is c.in-First.ensures (c.ending-ending.ensures ∙ c.requires.ending.0) c.pass_alone.ensures.wrote
+    rw (← c.turns.invariant.order) (alone_stops c.turns.invariant.turn c.in-Between.is c.in-First.ensures c.ending-ending.ensures c.pass_alone.ensures.wrote
     (told (err_from_is_err_and _ c.from_residual-in_err-pass_alone-in-First.ensures.1)) c.in_err-pass_alone-in-First.ensures.passes)
 
 pub returns-in_err-pass_alone-in-Second : goal.returns-in_err-pass_alone-in-Second
 returns-in_err-pass_alone-in-Second g c =
-    let i = c.turns.invariant in
-    rw (← i.order) (alone_stops i.turn c.in-Between.is c.in-Second.ensures (c.ending-ending.ensures ∙ c.requires.ending.0) c.pass_alone-in-Second.ensures.wrote
+    rw (← c.turns.invariant.order) (alone_stops c.turns.invariant.turn c.in-Between.is c.in-Second.ensures c.ending-ending.ensures c.pass_alone-in-Second.ensures.wrote
     (told (err_from_is_err_and _ c.from_residual-in_err-pass_alone-in-Second.ensures.1)) c.in_err-pass_alone-in-Second.ensures.passes)
 
 pub turns-preserved-in-Both : goal.turns-preserved-in-Both
@@ -78,8 +73,7 @@ gather-requires-clause-stands g c = gather_stands c.turns.invariant.turn c.in-Ga
 
 pub returns-in_err-end-in-Gathering : goal.returns-in_err-end-in-Gathering
 returns-in_err-end-in-Gathering g c =
-    let i = c.turns.invariant in
-    rw (← i.order) (gather_stops i.turn c.in-Gathering.is c.gather.ensures.sent
+    rw (← c.turns.invariant.order) (gather_stops c.turns.invariant.turn c.in-Gathering.is c.gather.ensures.sent
     (told (err_from_is_err_and _ c.from_residual-in_err-end-in-Gathering.ensures.1)) c.in_err-end-in-Gathering.ensures.gathers)
 
 pub turns-preserved-then-not-repeats : goal.turns-preserved-then-not-repeats
@@ -124,24 +118,23 @@ pass_pairs-requires-clause-group g c = pair_group c.turns.invariant.turn c.in-Pa
 
 pub returns-in_err-pass_pairs-in-Pairing : goal.returns-in_err-pass_pairs-in-Pairing
 returns-in_err-pass_pairs-in-Pairing g c =
-    let i = c.turns.invariant in
-    rw (← i.order) (pair_stops i.turn c.in-Pairing.is (c.ending-ending.ensures ∙ c.requires.ending.0) c.pass_pairs.ensures.wrote
+    rw (← c.turns.invariant.order) (pair_stops c.turns.invariant.turn c.in-Pairing.is c.ending-ending.ensures c.pass_pairs.ensures.wrote
     (told (err_from_is_err_and _ c.from_residual-in_err-pass_pairs-in-Pairing.ensures.1)) c.in_err-pass_pairs-in-Pairing.ensures.passes)
 
 pub clear_group-requires : goal.clear_group-requires
 clear_group-requires g c =
-    group_there c.turns.invariant.turn c.in-Pairing.is (c.ending-ending.ensures ∙ c.requires.ending.0) c.pass_pairs.ensures.wrote c.in_ok-pass_pairs-in-Pairing.ensures.passes
+    group_there c.turns.invariant.turn c.in-Pairing.is c.ending-ending.ensures c.pass_pairs.ensures.wrote c.in_ok-pass_pairs-in-Pairing.ensures.passes
 
 pub turns-preserved-then-not-repeats-2 : goal.turns-preserved-then-not-repeats-2
 turns-preserved-then-not-repeats-2 g c =
     let i = c.turns.invariant in
     let p = c.pass_pairs.ensures in
-    let on = group_closed i.turn c.in-Pairing.is (c.ending-ending.ensures ∙ c.requires.ending.0) p.wrote c.in_ok-pass_pairs-in-Pairing.ensures.passes in
+    let on = group_closed i.turn c.in-Pairing.is c.ending-ending.ensures p.wrote c.in_ok-pass_pairs-in-Pairing.ensures.passes in
     record { order = p.order ∙ i.order; turn = rw p.order (on c.clear_group.ensures (sym c.repeats-in-Pairing.ensures ∙ c.if-not-repeats-2.true)) }
 
 pub turns-preserved : goal.turns-preserved
 turns-preserved g c =
     let i = c.turns.invariant in
     let p = c.pass_pairs.ensures in
-    let on = pairs_on i.turn c.in-Pairing.is (c.ending-ending.ensures ∙ c.requires.ending.0) p.wrote c.in_ok-pass_pairs-in-Pairing.ensures.passes in
+    let on = pairs_on i.turn c.in-Pairing.is c.ending-ending.ensures p.wrote c.in_ok-pass_pairs-in-Pairing.ensures.passes in
     record { order = p.order ∙ i.order; turn = rw p.order (on (sym c.repeats-in-Pairing.ensures ∙ c.if-not-repeats-2.false)) }

@@ -1,6 +1,6 @@
-use Rattle.std.proofs.Common.{◌∷◌, ◌∙◌, ℕ, List, refl, sym}
+use Rattle.std.proofs.Common.{◌∷◌, ◌∙◌, ℕ, List, refl, sym, true}
 use Rattle.ptmerge.proofs.OfJoin.Amid.{amid_starts, each_fails, each_more}
-use Rattle.ptmerge.proofs.OfJoin.FieldSpans.{tidy_words}
+use Rattle.ptmerge.proofs.OfJoin.FieldSpans.{tidy_says}
 use Rattle.ptmerge.proofs.tools.join.entries.push_words.Goals as goal
 
 pub returns-in_err-push_led-clause-wrote : goal.returns-in_err-push_led-clause-wrote
@@ -13,4 +13,4 @@ pub words-init : goal.words-init
 words-init g c = amid_starts refl c.requires
 
 pub returns-then-is_tidy-clause-wrote : goal.returns-then-is_tidy-clause-wrote
-returns-then-is_tidy-clause-wrote g c = rw (tidy_words c.args.bytes.now (sym c.is_tidy.ensures ∙ c.if-is_tidy.true)) c.push_led.ensures.wrote
+returns-then-is_tidy-clause-wrote g c = rw (tidy_says true c.args.bytes.now (sym c.is_tidy.ensures ∙ c.if-is_tidy.true)) c.push_led.ensures.wrote

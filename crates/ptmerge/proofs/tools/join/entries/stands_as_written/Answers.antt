@@ -1,5 +1,5 @@
-use Rattle.ptmerge.proofs.Common.{◌≤◌, ℕ, Option, subst, sym, ◌∙◌, arith, nat_tests, IsAsWritten}
-use Rattle.ptmerge.proofs.OfJoin.FieldSpans.{led_fields, tidy_words}
+use Rattle.ptmerge.proofs.Common.{◌≤◌, ℕ, Option, true, subst, sym, ◌∙◌, arith, nat_tests, IsAsWritten}
+use Rattle.ptmerge.proofs.OfJoin.FieldSpans.{led_fields, tidy_says}
 use Rattle.ptmerge.proofs.tools.join.entries.stands_as_written.Goals as goal
 
 pub returns-in-Some : goal.returns-in-Some
@@ -11,4 +11,4 @@ returns-in-Some c = λ is.
 pub returns-then-number-le1 : goal.returns-then-number-le1
 returns-then-number-le1 c = λ is.
     subst (λ (o : Option ℕ). IsAsWritten o c.args.number c.args.line.now) (sym c.in-None.is)
-    (record { first = omega (arith, c.if-number-le1.true); is = tidy_words c.args.line.now (sym c.is_tidy.ensures ∙ is) })
+    (record { first = omega (arith, c.if-number-le1.true); is = tidy_says true c.args.line.now (sym c.is_tidy.ensures ∙ is) })
