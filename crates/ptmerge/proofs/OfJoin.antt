@@ -4,7 +4,6 @@ pub mod EntryLemmas
 pub mod FieldSpans
 pub mod GatherTurns
 pub mod GroupSlots
-pub mod GroupStops
 pub mod GroupTurns
 pub mod Lanes
 pub mod PairTurns

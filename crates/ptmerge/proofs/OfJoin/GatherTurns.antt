@@ -4,9 +4,8 @@ use Rattle.ptmerge.proofs.Common.{length_push, nil_from_length, Output, Wrote, R
 use Rattle.ptmerge.proofs.Common.{NotGathered, most_lines, Lines, State, IsMerge, Cmp, Key, Comes, both, put, AreEqual}
 use Rattle.ptmerge.proofs.OfMerges.Bounds.{Bound, From}
 use Rattle.ptmerge.proofs.OfComm.CommTurns.{breaks_slots, comes_slots}
-use Rattle.ptmerge.proofs.OfJoin.GroupStops.{halts}
-use Rattle.ptmerge.proofs.OfJoin.GroupTurns.{head_of, AtLine, Call, GoneOn, Grouped, fits_kept, goes_on, goes_past, gone_on, group_breaks, grouped_keeps, is_past, last_stays}
-use Rattle.ptmerge.proofs.OfJoin.GroupTurns.{moved, next_slots, not_failed, others_stay, own_more, size_of, standing, starts_none, went, with_head, within_more}
+use Rattle.ptmerge.proofs.OfJoin.GroupTurns.{halts, head_of, AtLine, Call, GoneOn, Grouped, fits_kept, goes_on, goes_past, gone_on, group_breaks, grouped_keeps, is_past, last_stays, moved, next_slots}
+use Rattle.ptmerge.proofs.OfJoin.GroupTurns.{not_failed, others_stay, own_more, size_of, standing, starts_none, went, with_head, within_more}
 use Rattle.ptmerge.proofs.OfJoin.GroupSlots.{AllSlots, InGroup, Kept, group_in, keeping_kept, low_slot}
 use Rattle.ptmerge.proofs.OfMerges.Orders.{self_at_most}
 use Rattle.ptmerge.proofs.OfMerges.Passing.{Merging}

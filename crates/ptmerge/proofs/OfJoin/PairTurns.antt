@@ -6,8 +6,8 @@ use Rattle.ptmerge.proofs.Common.{first_slot, group}
 use Rattle.ptmerge.proofs.OfMerges.Bounds.{Bound}
 use Rattle.ptmerge.proofs.OfComm.CommTurns.{same_state, Running}
 use Rattle.ptmerge.proofs.OfMerges.Got.{reads_nothing}
-use Rattle.ptmerge.proofs.OfJoin.GroupTurns.{head_of, Call, GoneOf, NotPassed, fits_kept, moved, not_failed, peak_line, AtLine, GoneOn, Grouped, closes, goes_on, goes_past}
-use Rattle.ptmerge.proofs.OfJoin.GroupTurns.{gone_on, group_breaks, grown, is_past, next_slots, others_stay, passing, stand_still, standing, starts, went, within_more}
+use Rattle.ptmerge.proofs.OfJoin.GroupTurns.{head_of, Call, GoneOf, NotPassed, fits_kept, moved, not_failed, peak_line, AtLine, GoneOn, Grouped, closes, goes_on, goes_past, gone_on, group_breaks}
+use Rattle.ptmerge.proofs.OfJoin.GroupTurns.{grown, is_past, next_slots, others_stay, passing, stand_still, standing, starts, went, within_more, StartsWith, halts}
 use Rattle.ptmerge.proofs.OfJoin.GroupSlots.{AllSlots, Keeping, keeping_next, keeping_starts, group_is, kept_line, keeping_cleared, low_slot, group_one}
 use Rattle.ptmerge.proofs.OfMerges.Pairs.{put_each, put_other, put_same}
 use Rattle.ptmerge.proofs.OfMerges.Passing.{Late, Merging, late_none}
@@ -16,7 +16,6 @@ use Rattle.ptmerge.proofs.OfMerges.Splitting.{all_keys}
 use Rattle.ptmerge.proofs.OfMerges.Standing.{Passed}
 use Rattle.ptmerge.proofs.OfMerges.Stopping.{Concludes, gone_passed, gone_standing, stops}
 use Rattle.ptmerge.proofs.OfMerges.Turning.{BothStand, ahead, all_ended, alone, breaks, merging_on, next_at, pass_one, passed_at, sides_on, stops_at, IsAbove}
-use Rattle.ptmerge.proofs.OfJoin.GroupStops.{StartsWith, halts}
 use Rattle.ptmerge.proofs.OfMerges.Least.{EachKey, EachKey-at}
 use Rattle.ptmerge.specs.declared.faults.MergeFault.TheVariants as faults
 
