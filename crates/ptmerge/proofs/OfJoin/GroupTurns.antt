@@ -9,7 +9,7 @@ use Rattle.ptmerge.proofs.OfMerges.Bounds.{Bound, From, Coming, Under}
 use Rattle.ptmerge.proofs.OfJoin.GroupSlots.{AllSlots, Keeping, keeping_line, keeping_next, low_slot, put_more}
 use Rattle.ptmerge.proofs.OfMerges.Least.{EachKey, EachKey-append, EachKey-weaker, at_most-same, front_first, front_is, others_of, with_key-above}
 use Rattle.ptmerge.proofs.OfMerges.Orders.{IsKeyOrder, AtMost, least_or_above, self_at_most, at_most_trans}
-use Rattle.ptmerge.proofs.OfMerges.Pairs.{put_both, put_each, put_other, put_same}
+use Rattle.ptmerge.proofs.OfMerges.Pairs.{put_both, put_each, put_other, put_same, side_case}
 use Rattle.ptmerge.proofs.OfMerges.Passing.{Merging, Seen}
 use Rattle.ptmerge.proofs.OfMerges.Slotted.{has_lines_total, line_other}
 use Rattle.ptmerge.proofs.OfMerges.Splitting.{MayCome, all_keys, splits_step, all_wanted, passed_is_wanted}
@@ -52,9 +52,6 @@ module _ {tool : Tool} (o : IsKeyOrder tool.cmp) (old new : State) {now : Side �
   abbrev front : Lines
   front = by_keys tool all_keys p
 
-  under_k : (side : Side) (x : List ℕ) → AtMost cmp x k → Under cmp (d side) x
-  under_k side x h = under_down o (d side) x k h (m.under side)
-
   behind : (side : Side) (r : Lines) → Coming cmp (key side) (d side) r → EachKey (AtMost cmp k) (key side) (g side ++ r)
   behind side r c = at_most-same tool o (key side) k (g side) r (m.own side) (m.beyond side r c)
 
@@ -69,7 +66,7 @@ module _ {tool : Tool} (o : IsKeyOrder tool.cmp) (old new : State) {now : Side �
 
     wanted : (x : List ℕ) → AtMost cmp x k → up_to cmp (disorder tool all) x ≡ true
     wanted x h = passed_is_wanted _ o (d First) (d Second) _ _ x
-        (seen.falling First) (seen.falling Second) (under_k First x h) (under_k Second x h)
+        (seen.falling First) (seen.falling Second) (under_down o (d First) x k h (m.under First)) (under_down o (d Second) x k h (m.under Second))
 
     all_is : (rest : Lines) × (merged_entries tool all ≡ (front ++ extra) ++ rest)
     all_is =
@@ -86,7 +83,7 @@ module _ {tool : Tool} (o : IsKeyOrder tool.cmp) (old new : State) {now : Side �
   pub halts : {fault : MergeFault} → Ends old new (Err fault) → ((side : Side) → (new.reader side).failed ≡ true → Fails cmp (key side) (new.reader side) (ls side) (p side ++ g side))
       → ((input : Side → List ℕ) (pushed : List ℕ) → IsWhole tool input pushed (Err fault)) → Fits tool old.store now ls piece new.store → IsMerge tool old new (Err fault)
   halts ends failed is_whole fits = halted tool o old new now piece ls (λ side. p side ++ g side) d gone p g (λ side. From k) (λ side. refl) passed_keys
-      (λ of side. EachKey-weaker (λ x. AtMost cmp x k) (Under cmp (d of)) (under_k of) (key side) (p side ++ g side) (passed_keys of side))
+      (λ of side. EachKey-weaker (λ x. AtMost cmp x k) (Under cmp (d of)) (λ x h. under_down o (d of) x k h (m.under of)) (key side) (p side ++ g side) (passed_keys of side))
       behind m.clean m.merging.wrote wrote _ (sym (text-append end front extra)) ends all_is failed (λ input a. is_whole input (text end (front ++ extra))) fits
 
 -- ---- a tool that pairs lines
@@ -203,20 +200,16 @@ module _ (call : Call) {was mid : Output} {p g : Side → Lines} {d : Side → B
         wrote = rw (all, text-append call.end (by_keys tool all_keys p) (pairs k (g First) (g Second))) (wrote_trans _ _ _ _ _ m.clean m.merging.wrote wrote);
       }
     where
-      -- no more lines of the key come
-      none : (r : Side → Lines) → MayCome tool d r → (side : Side) → with_key (key side) (r side) k ≡ []
-      none r c side = with_key-above tool o (key side) k (r side) (above side (r side) (c side))
-
       -- what is written of the group alone
       alone_is : by_keys tool all_keys g ≡ entries k (g First) (g Second)
-      alone_is = (λ i. by_keys tool all_keys (λ side. sym (append-nil (g side)) i))
-          ∙ front_is tool o all_keys k g (λ side. []) m.own (λ side. tt) (laws.alone.none k) ∙ (rw (append-nil (g First), append-nil (g Second), append-nil) refl)
+      alone_is = simp append-nil at (front_is tool o all_keys k g (λ side. []) m.own (λ side. tt) (laws.alone.none k))
 
       splits_off : (w : List ℕ → Bool) (r : Side → Lines) → MayCome tool d r → by_keys tool w (λ side. g side ++ r side) ≡ by_keys tool w g ++ by_keys tool w r
       splits_off w r c =
-          let nothing : entries_of tool r k ≡ [] = (λ i. entries k (none r c First i) (none r c Second i)) ∙ laws.alone.none k in
+          let none = λ (side : Side). with_key-above tool o (key side) k (r side) (above side (r side) (c side)) in
+          let nothing : entries_of tool r k ≡ [] = (λ i. entries k (none First i) (none Second i)) ∙ laws.alone.none k in
           front_first tool o w k g r m.own (λ side. m.beyond side (r side) (c side)) (laws.alone.none k)
-          (rw (none r c First, none r c Second, append-nil (g First), append-nil (g Second), nothing, append-nil) refl)
+          (simp (none First, none Second, nothing, append-nil))
 
       all : by_keys tool all_keys (λ side. p side ++ g side) ≡ by_keys tool all_keys p ++ pairs k (g First) (g Second)
       all =
@@ -225,23 +218,12 @@ module _ (call : Call) {was mid : Output} {p g : Side → Lines} {d : Side → B
 
 -- ---- where a group stands
 
-pub has_key : (s : Stand) (a b : List ℕ) → (is_head s && bytes_eq a b) ≡ true → (s ≡ Head) × (b ≡ a)
+has_key : (s : Stand) (a b : List ℕ) → (is_head s && bytes_eq a b) ≡ true → (s ≡ Head) × (b ≡ a)
 has_key s a b h = grind (arith, bytes_decides a b)
-
-pub lacks_key : (s : Stand) (a b : List ℕ) → (is_head s && bytes_eq a b) ≡ false → s ≡ Head → ¬ (b ≡ a)
-lacks_key s a b h e same = false≢true (sym h ∙ (rw (e, same, (bytes_decides a a).1 refl) refl))
 
 -- a group with the line at which this input stands
 abbrev pub grown : State → (Side → Sorted) → Side → (Side → Lines) → Side → Lines
 grown now place s g = put s (g s ++ head_of now place s ∷ []) g
-
--- three things of an input were changed
-put_three : (P : Side → Reader → List ℕ → Lines → Type 0) (s : Side) (x : Reader) (y : List ℕ) (z : Lines) (f : Side → Reader) (g : Side → List ℕ) (h : Side → Lines) → P s x y z
-    → ((side : Side) → P side (f side) (g side) (h side)) → (side : Side) → P side (put s x f side) (put s y g side) (put s z h side)
-put_three P First x y z f g h a b First = a
-put_three P First x y z f g h a b Second = b Second
-put_three P Second x y z f g h a b First = b First
-put_three P Second x y z f g h a b Second = a
 
 -- the group g of the key k, whose entries so far were pushed; the lines that are kept end in front of this slot
 pub record Grouped (call : Call) (now : State) (place : Side → Sorted) (end : ℕ) (k : List ℕ) (g : Side → Lines) (kept : Lines) : Type 0 where
@@ -320,9 +302,10 @@ module _ {call : Call} {now : State} {place : Side → Sorted} {end : ℕ} {k : 
 
   pub passing : (new : Reader) (piece : List ℕ) → Reads (now.reader s) new piece → IsLine (now.reader s).ending piece → IsSound new
       → (side : Side) → GoneOf call now side (put s new now.reader side) (put s piece (λ t. []) side) (q.ls side) (q.p side ++ grown now place s g side) (q.d side)
-  passing new piece reads free sound = put_three (λ side r t m. GoneOf call now side r t (q.ls side) (q.p side ++ m) (q.d side)) s new piece (g s ++ x ∷ []) now.reader (λ t. []) g
-      (subst (λ (l : Lines). GoneOf call now s new piece (q.ls s) l (q.d s)) with_head
-      (rw at_head.bound (gone_passed _ _ o _ _ _ _ _ _ _ (q.sides s).got reads free sound at_head.begun))) (standing q)
+  passing new piece reads free sound = side_case
+      (λ side. GoneOf call now side (put s new now.reader side) (put s piece (λ t. []) side) (q.ls side) (q.p side ++ grown now place s g side) (q.d side)) s
+      (simp put_same (subst (λ (l : Lines). GoneOf call now s new piece (q.ls s) l (q.d s)) with_head
+      (rw at_head.bound (gone_passed _ _ o _ _ _ _ _ _ _ (q.sides s).got reads free sound at_head.begun)))) (simp put_other (standing q (other s)))
 
   -- the next line could not be read, where what was pushed is a beginning of the group's entries
   module _ {out : Output} (clean : out.faulted ≡ false) {extra : Lines} (begins : StartsWith tool (grown now place s g) q.d k extra)
@@ -381,7 +364,7 @@ module _ {call : Call} {now : State} {place : Side → Sorted} {end : ℕ} {k : 
     goes_on same = has_key next.stand k (key s (line after next.standing)) (sym says ∙ same)
 
     pub goes_past : next.same ≡ false → next.stand ≡ Head → ¬ (key s (line after next.standing) ≡ k)
-    goes_past same = lacks_key next.stand k (key s (line after next.standing)) (sym says ∙ same)
+    goes_past same head is = false≢true (sym same ∙ says ∙ (rw (head, is, (bytes_decides k k).1 refl) refl))
 
     -- the line before is of the group
     pub record GoneOn (new : Output) : Type 0 where
